@@ -1,0 +1,5 @@
+pub mod Decimals
+pub mod Depth
+pub mod Examples
+pub mod Fitting
+pub mod Names

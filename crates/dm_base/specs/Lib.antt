@@ -1,0 +1,5 @@
+pub mod Codes
+pub mod Fits
+pub mod Name
+pub mod Pattern
+pub mod Trace
