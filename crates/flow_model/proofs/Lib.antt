@@ -1,0 +1,12 @@
+pub mod BuilderLemmas
+pub mod CandidatesLemmas
+pub mod GroupsLemmas
+pub mod Histories
+pub mod ModelLemmas
+pub mod OneOrder
+pub mod OrderLemmas
+pub mod Rebuilt
+pub mod RulesLemmas
+pub mod SortingLemmas
+pub mod Verdicts
+pub mod Walks

@@ -1,0 +1,11 @@
+pub mod Built
+pub mod Call
+pub mod Checked
+pub mod Graph
+pub mod Groups
+pub mod Inside
+pub mod Language
+pub mod Order
+pub mod Rules
+pub mod Starts
+pub mod Verdict
