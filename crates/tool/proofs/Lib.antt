@@ -1,0 +1,10 @@
+pub mod Files
+pub mod FlatLemmas
+pub mod JudgedFiles
+pub mod LinesLemmas
+pub mod ModelLemmas
+pub mod NodeSetLemmas
+pub mod OrderLemmas
+pub mod ReadingLemmas
+pub mod TraceLemmas
+pub mod ValidLemmas

@@ -1,0 +1,10 @@
+-- What a command of the program stands for.
+use Rattle.tool.specs.declared.command.Command.{Command as ReadCommand}
+use Rattle.tool.specs.declared.command.Command.TheVariants as read
+use Rattle.tool.specs.Command.{Command}
+use Rattle.tool.specs.Command.Command.{Version, Help, Judge}
+
+abbrev pub asked_by : ReadCommand → Command
+asked_by read.Version = Version
+asked_by read.Help = Help
+asked_by (read.Judge model trace) = Judge model.now trace.now

@@ -1,0 +1,14 @@
+pub mod Asked
+pub mod Command
+pub mod Commands
+pub mod EventText
+pub mod Frame
+pub mod Judge
+pub mod ModelReading
+pub mod ModelText
+pub mod NodeSet
+pub mod Reading
+pub mod Stop
+pub mod TraceReading
+pub mod TraceText
+pub mod VerdictLine

@@ -1,0 +1,110 @@
+ghost use Rattle.std.specs.Prelude.{◌≡◌, ◌⊎◌, ℕ, List, Some, map, string_bytes, IsSome, IfOk, IfErr};
+ghost use Rattle.dm_base.specs.declared.verdict.Status.{Status as AnyStatus};
+ghost use Rattle.dm_io.specs.Memory.{told};
+ghost use Rattle.tool.specs.Commands.{IsFinished};
+ghost use Rattle.tool.specs.Frame.{call_of, HasCause, Writes, Reports, IsAsked, IsLacking, IsRefused, IsSound, IsUndisturbed, TakesLine};
+ghost use Rattle.tool.specs.Stop.{line_of, status_of_stop, HasStop, IsWorked};
+
+use crate::command::{Command, command_of};
+use crate::judge::judge;
+use crate::stop::Stop;
+use dm_base::{OutOfMemory, Status};
+use dm_io::{HonestSink, HonestStore, Sink, Store, write_whole};
+use std::alloc::Global;
+
+/// A text that was made whole, and the status with which the tool ends once it is written.
+#[derive(Drop)]
+pub struct Finished {
+    pub status: Status,
+    pub text: Vec<u8>,
+}
+
+const VERSION_TEXT: &[u8] = b"dyckmon 1\n";
+
+const HELP_TEXT: &[u8] =
+    b"dyckmon, --version: the version\n--help: this text\njudge MODEL TRACE callgraph: the verdict of the callgraph model in the file MODEL on the trace in the file TRACE\n";
+
+// A text that no file decides.
+fn done(alloc: Global, text: &[u8]) -> Result<Finished, OutOfMemory>
+    ensures status { IfOk result (λ done. done.status ≡ Status.Done) }
+    ensures text { IfOk result (λ done. done.text.items ≡ text.now) }
+{
+    Ok(Finished {
+        status: Status::Done,
+        text: text.to_vec(alloc)?,
+    })
+}
+
+// Makes the text of the command of the words.
+fn work<S: Store>(alloc: Global, words: &[String], store: &mut S) -> Result<Finished, Stop>
+    ensures made { IfOk result (λ done. IsFinished done.status × IsWorked (map string_bytes words.now) (S.files store.old) done.status done.text.items) }
+    ensures stop { IfErr result (λ stop. HasStop stop (map string_bytes words.now) (S.files store.old) (S.faults store.old) (S.faults store.new)) }
+{
+    match command_of(words) {
+        None => Err(Stop::Usage),
+        Some(Command::Version) => Ok(done(alloc, VERSION_TEXT)?),
+        Some(Command::Help) => Ok(done(alloc, HELP_TEXT)?),
+        Some(Command::Judge { model, trace }) => judge(alloc, store, model, trace),
+    }
+}
+
+// Writes the line of a stop on err, and gives the status. A failed write changes no status.
+fn refuse<E: Sink>(err: &mut E, stop: Stop) -> Status
+    ensures status { result ≡ status_of_stop stop }
+    ensures line { TakesLine (E.faults err.old) (E.faults err.new) (E.taken err.old) (E.taken err.new) (line_of stop) }
+{
+    let _ = write_whole(err, stop.line());
+    stop.status()
+}
+
+/// Runs the tool: reads the words and the files that they name, does the work, writes its text on
+/// out, and a line on err where that was not possible.
+pub fn run_tool<S: Store, O: Sink, E: Sink>(
+    alloc: Global,
+    words: &[String],
+    store: &mut S,
+    out: &mut O,
+    err: &mut E,
+) -> Status
+    // When each status comes.
+    ensures cause { HasCause result (call_of (map string_bytes words.now) (S.files store.old) (S.faults store.old) (S.faults store.new) (O.faults out.old) (O.faults out.new)) }
+    ensures usage { (IsAsked (call_of (map string_bytes words.now) (S.files store.old) (S.faults store.old) (S.faults store.new) (O.faults out.old) (O.faults out.new)) → ⊥) → result ≡ Status.Usage }
+
+    // What is written.
+    ensures written { Writes result (call_of (map string_bytes words.now) (S.files store.old) (S.faults store.old) (S.faults store.new) (O.faults out.old) (O.faults out.new)) (O.taken out.old) (O.taken out.new) }
+    ensures reported { Reports result (call_of (map string_bytes words.now) (S.files store.old) (S.faults store.old) (S.faults store.new) (O.faults out.old) (O.faults out.new)) (E.faults err.old) (E.faults err.new) (E.taken err.old) (E.taken err.new) }
+
+    // Where nothing is disturbed, the work is done or the refusal that is due is given, unless
+    // memory is refused.
+    ensures complete { IsSound (call_of (map string_bytes words.now) (S.files store.old) (S.faults store.old) (S.faults store.new) (O.faults out.old) (O.faults out.new)) → IsUndisturbed (call_of (map string_bytes words.now) (S.files store.old) (S.faults store.old) (S.faults store.new) (O.faults out.old) (O.faults out.new)) → IsFinished result ⊎ (result ≡ Status.OutOfMemory) }
+    ensures refused { (status : AnyStatus) (line : List ℕ) → IsSome (S.files store.old) → IsRefused (call_of (map string_bytes words.now) (S.files store.old) (S.faults store.old) (S.faults store.new) (O.faults out.old) (O.faults out.new)) status line → IsUndisturbed (call_of (map string_bytes words.now) (S.files store.old) (S.faults store.old) (S.faults store.new) (O.faults out.old) (O.faults out.new)) → (result ≡ status) ⊎ (result ≡ Status.OutOfMemory) }
+{
+    let finished = match work(alloc, words, store) {
+        Ok(finished) => finished,
+        Err(stop) => return refuse(err, stop),
+    };
+    if write_whole(out, &finished.text).is_err() {
+        return refuse(err, Stop::Write);
+    }
+    finished.status
+}
+
+/// Runs the tool over files and sinks in memory that never fail, so no count of faults can rise:
+/// where the words are a command, its files are there and it refuses none, the work is done unless
+/// memory is refused.
+pub fn run_in_memory(
+    alloc: Global,
+    words: &[String],
+    store: &mut HonestStore,
+    out: &mut HonestSink,
+    err: &mut HonestSink,
+) -> Status
+    ensures cause { HasCause result (call_of (map string_bytes words.now) (Some store.old) 0 0 0 0) }
+    ensures usage { (IsAsked (call_of (map string_bytes words.now) (Some store.old) 0 0 0 0) → ⊥) → result ≡ Status.Usage }
+    ensures written { Writes result (call_of (map string_bytes words.now) (Some store.old) 0 0 0 0) (told out.old) (told out.new) }
+    ensures reported { Reports result (call_of (map string_bytes words.now) (Some store.old) 0 0 0 0) 0 0 (told err.old) (told err.new) }
+    ensures complete { IsSound (call_of (map string_bytes words.now) (Some store.old) 0 0 0 0) → (IsLacking (call_of (map string_bytes words.now) (Some store.old) 0 0 0 0) → ⊥) → IsFinished result ⊎ (result ≡ Status.OutOfMemory) }
+    ensures refused { (status : AnyStatus) (line : List ℕ) → IsRefused (call_of (map string_bytes words.now) (Some store.old) 0 0 0 0) status line → (IsLacking (call_of (map string_bytes words.now) (Some store.old) 0 0 0 0) → ⊥) → (result ≡ status) ⊎ (result ≡ Status.OutOfMemory) }
+{
+    run_tool(alloc, words, store, out, err)
+}

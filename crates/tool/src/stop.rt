@@ -1,0 +1,71 @@
+ghost use Rattle.std.specs.Prelude.{◌≡◌};
+ghost use Rattle.tool.specs.Stop.{line_of, status_of_stop, stop_of_read, no_memory};
+
+use dm_base::{OutOfMemory, Status};
+use dm_io::ReadError;
+
+/// Why nothing was written.
+#[derive(Clone, Copy, Debug, PartialEq, Eq)]
+pub enum Stop {
+    /// The words are no command line.
+    Usage,
+    /// The model's bytes are not of the thin form.
+    Model,
+    /// The trace's bytes are not of the thin form.
+    Trace,
+    /// A file could not be read.
+    Read,
+    /// The text could not be written whole.
+    Write,
+    /// Memory was refused.
+    OutOfMemory,
+}
+
+impl Stop {
+    /// The status with which the tool ends then.
+    pub fn status(self) -> Status
+        ensures { result ≡ status_of_stop self }
+    {
+        match self {
+            Stop::Usage => Status::Usage,
+            Stop::Model => Status::ModelRefused,
+            Stop::Trace => Status::RecordRefused,
+            Stop::Read => Status::ReadFault,
+            Stop::Write => Status::WriteFault,
+            Stop::OutOfMemory => Status::OutOfMemory,
+        }
+    }
+
+    /// The line that is written on err then.
+    pub fn line(self) -> &'static [u8]
+        ensures { result.now ≡ line_of self }
+    {
+        match self {
+            Stop::Usage => b"usage\n",
+            Stop::Model => b"model refused M0\n",
+            Stop::Trace => b"record refused X0\n",
+            Stop::Read => b"read fault\n",
+            Stop::Write => b"write fault\n",
+            Stop::OutOfMemory => b"out of memory\n",
+        }
+    }
+}
+
+impl From<OutOfMemory> for Stop {
+    ghost from_gives = { λ _ stop. stop ≡ no_memory };
+
+    fn from(_: OutOfMemory) -> Self {
+        Stop::OutOfMemory
+    }
+}
+
+impl From<ReadError> for Stop {
+    ghost from_gives = { λ error stop. stop ≡ stop_of_read error };
+
+    fn from(error: ReadError) -> Self {
+        match error {
+            ReadError::OutOfMemory => Stop::OutOfMemory,
+            ReadError::Fault => Stop::Read,
+        }
+    }
+}
