@@ -55,4 +55,4 @@ depth (Post site ∷ t) = depth t - 1
 -- the number is the greatest excess of Pre over Post in a first part: no first part has more, and one has as many
 pub record IsGreatestExcess (t : List Event) (n : ℕ) : Type 0 where
   pub most : (k : ℕ) → opened (take k t) ≤ closed (take k t) + n
-  pub reached : (k : ℕ) × (opened (take k t) - closed (take k t) ≡ n)
+  pub reached : (k : ℕ) × (opened (take k t) ≡ closed (take k t) + n)
