@@ -1,9 +1,11 @@
-//! Models of the system calls that a program can make, and the languages that they stand for.
+//! Models of the system calls that a program can make, the languages that they stand for, and what
+//! a monitor of one is.
 #![tactic(auto)]
 
 mod builder;
 mod groups;
 mod model;
+mod monitor;
 mod records;
 mod rules;
 mod sorting;
@@ -11,5 +13,6 @@ mod which;
 
 pub use builder::{FinishError, ModelBuilder};
 pub use model::Model;
+pub use monitor::Monitor;
 pub use records::{CallEdge, ModelFunction, SilentEdge, SysEdge};
 pub use which::Which;
