@@ -1,0 +1,5 @@
+pub mod Files
+pub mod Hexadecimal
+pub mod Numbers
+pub mod Reading
+pub mod Words
