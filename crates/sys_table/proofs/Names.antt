@@ -1,7 +1,9 @@
--- No two system calls have one name.
-use Rattle.std.proofs.Common.{◌≡◌, ℕ, zero, suc, ◌<◌, Bool, true, false, not, ◌&&◌, List, [], ◌∷◌, length, slice_index_or, refl, ap, sym, ◌∙◌, arith}
+-- No two system calls have one name, and each name is a word.
+use Rattle.std.proofs.Common.{◌≡◌, inl, inr, nat_eq, ℕ, zero, suc, ◌<◌, Bool, true, false, not, ◌&&◌, List, [], ◌∷◌, length, slice_index_or, refl, ap, sym, ◌∙◌, arith}
 use Rattle.std.specs.Str.{bytes_eq}
 use Rattle.std.proofs.lemmas.Slice.Eq.{bytes_eq-Decides}
+use Rattle.std.proofs.lemmas.Bool.{not-true, eq-eqb, both_ways}
+use Rattle.line_text.specs.Words.{IsEnd, IsPlain}
 use Rattle.sys_table.specs.Table.{Row, table, name_of}
 
 -- whether no row of the list has the name
@@ -40,3 +42,32 @@ distinct_at (r ∷ rows) (suc i) (suc j) d h i_within j_within same = ap suc (di
 pub same_call : (x y : ℕ) → x < 24 → y < 24 → name_of x ≡ name_of y → x ≡ y
 unfolding table
 same_call x y x_within y_within same = distinct_at table x y _ refl x_within y_within same
+
+-- whether no byte of the text is a space or a line feed
+abbrev is_plain : List ℕ → Bool
+is_plain [] = true
+is_plain (b ∷ text) = not (nat_eq b 32) && (not (nat_eq b 10) && is_plain text)
+
+-- whether each name of the list is a word
+abbrev are_plain : List Row → Bool
+are_plain [] = true
+are_plain (r ∷ rows) = is_plain r.name && are_plain rows
+
+no_end : (b : ℕ) → not (nat_eq b 32) ≡ true → not (nat_eq b 10) ≡ true → IsEnd b → ⊥
+no_end b no_space no_feed (inl is) = both_ways (nat_eq b 32) (not-true (nat_eq b 32) no_space) (eq-eqb b 32 is)
+no_end b no_space no_feed (inr is) = both_ways (nat_eq b 10) (not-true (nat_eq b 10) no_feed) (eq-eqb b 10 is)
+
+plain_from_test : (text : List ℕ) → is_plain text ≡ true → IsPlain text
+plain_from_test [] h = tt
+plain_from_test (b ∷ text) h =
+    let later = and_right _ _ h in
+    (no_end b (and_left _ _ h) (and_left _ _ later), plain_from_test text (and_right _ _ later))
+
+plain_at : (rows : List Row) (i : ℕ) (d : Row) → are_plain rows ≡ true → i < length rows → IsPlain (slice_index_or rows i d).name
+plain_at [] i d h within = absurd (omega arith)
+plain_at (r ∷ rows) zero d h within = plain_from_test r.name (and_left _ _ h)
+plain_at (r ∷ rows) (suc i) d h within = plain_at rows i d (and_right _ _ h) (omega arith)
+
+pub name_of-IsPlain : (x : ℕ) → x < 24 → IsPlain (name_of x)
+unfolding table
+name_of-IsPlain x within = plain_at table x _ refl within

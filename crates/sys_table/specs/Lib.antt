@@ -1,1 +1,4 @@
+pub mod Answering
+pub mod ResultsLines
+pub mod ResultsText
 pub mod Table

@@ -1,5 +1,5 @@
 -- The system calls of the C profile. A call's number is its place in the table, counted from 0.
-use Rattle.std.specs.Prelude.{◌≡◌, ℕ, ℤ, pos, List, [], ◌∷◌, Option, None, Some, codes, slice_index_or, FitsSigned}
+use Rattle.std.specs.Prelude.{◌≡◌, ℕ, ℤ, pos, List, [], ◌∷◌, ◌++◌, Option, None, Some, codes, slice_index_or, FitsSigned}
 use Rattle.std.specs.Int.{FitsUnsigned, w32}
 use Rattle.std.specs.List.{AllZip}
 use Rattle.dm_base.specs.declared.event.Arg.{Arg}
@@ -58,6 +58,10 @@ row_of x = slice_index_or table x (row [] [] Void)
 -- the name of the call with this number
 abbrev pub name_of : ℕ → List ℕ
 name_of x = (row_of x).name
+
+-- the name of the call with this number, and the space after it
+abbrev pub name_word : ℕ → List ℕ
+name_word x = name_of x ++ 32 ∷ []
 
 -- the kinds of its recorded arguments, in order
 abbrev pub recorded_of : ℕ → List ArgKind

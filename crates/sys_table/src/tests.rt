@@ -1,5 +1,6 @@
 use crate::{
-    ArgKind, ResultKind, argument_kinds, find, is_right, name_text, recorded, result_kind,
+    ArgKind, ResultKind, ResultsError, SysResult, answers, argument_kinds, find, is_right,
+    name_text, read_results, recorded, result_kind, write_results,
 };
 use dm_base::{Arg, ArgList, Bytes, Event, OutOfMemory, Pattern, SysName};
 use std::alloc::Global;
@@ -134,6 +135,112 @@ fn patterns_of_the_table_are_right_alone(rt: HostRuntime) -> Result<(), Fail> {
         let name = find(text).ok_or("a name of the table")?;
         let pattern = pattern_of(entries).ok_or("at most three entries")?;
         assert_eq!(rt; is_right(&pattern, name), want);
+    }
+    Ok(())
+}
+
+#[test]
+fn a_file_of_results_is_read_back(rt: HostRuntime) -> Result<(), Fail> {
+    let alloc = rt.alloc();
+    let text: &[u8] = b"dyckmon-results 1\nR 5 68656c6c6f\nR -1\nR 4294967295\nend\n";
+    match read_results(alloc, text) {
+        Ok(records) => {
+            assert_eq!(rt; records.len(), 3);
+            assert_eq!(rt; records[0].value, 5);
+            assert_eq!(rt; records[0].bytes.as_slice(), b"hello".as_slice());
+            assert_eq!(rt; records[1].value, -1);
+            assert!(rt; records[1].bytes.as_slice().is_empty());
+        }
+        Err(_) => panic!(rt; "refused"),
+    }
+    Ok(())
+}
+
+#[test]
+fn other_texts_are_refused_by_their_first_fault(rt: HostRuntime) {
+    let table: [(&[u8], ResultsError); 16] = [
+        (b"", ResultsError::NoEnd),
+        (b"dyckmon-results 1", ResultsError::NoEnd),
+        (b"dyckmon-results 2", ResultsError::Version),
+        (b"dyckmon-results 0\nx", ResultsError::Version),
+        (b"dyckmon-results 01\n", ResultsError::BadLine(1)),
+        (b"dyckmon-results 4294967296\n", ResultsError::BadLine(1)),
+        (b"dyckmon-trace 1\n", ResultsError::BadLine(1)),
+        (b"dyckmon-results 1\n", ResultsError::NoEnd),
+        (b"dyckmon-results 1\nR 5", ResultsError::NoEnd),
+        (b"dyckmon-results 1\nR 5 6", ResultsError::NoEnd),
+        (b"dyckmon-results 1\nR 5 \n", ResultsError::BadLine(2)),
+        (b"dyckmon-results 1\nR 4294967296", ResultsError::BadLine(2)),
+        (
+            b"dyckmon-results 1\nR 1\nR -2147483649\n",
+            ResultsError::BadLine(3),
+        ),
+        (b"dyckmon-results 1\nR 1\n\n", ResultsError::BadLine(3)),
+        (b"dyckmon-results 1\nR 1\nend", ResultsError::NoEnd),
+        (b"dyckmon-results 1\nend\nx", ResultsError::BadLine(3)),
+    ];
+    for (text, wanted) in table {
+        match read_results(rt.alloc(), text) {
+            Ok(_) => panic!(rt; "no refusal"),
+            Err(error) => assert_eq!(rt; error, wanted),
+        }
+    }
+}
+
+// A record with this value and these bytes.
+fn record_of(alloc: Global, value: i64, bytes: &[u8]) -> Result<SysResult, OutOfMemory> {
+    Ok(SysResult {
+        value,
+        bytes: Bytes::of(alloc, bytes)?,
+    })
+}
+
+#[test]
+fn records_are_written_as_they_are_read(rt: HostRuntime) -> Result<(), Fail> {
+    let alloc = rt.alloc();
+    let records = [
+        SysResult {
+            value: -2_147_483_648,
+            bytes: Bytes::of(alloc, b"")?,
+        },
+        SysResult {
+            value: 2,
+            bytes: Bytes::of(alloc, b"\x00\xfa")?,
+        },
+    ];
+    let text = write_results(alloc, &records)?;
+    assert_eq!(rt;
+        text.as_slice(),
+        b"dyckmon-results 1\nR -2147483648\nR 2 00fa\nend\n".as_slice()
+    );
+    Ok(())
+}
+
+#[test]
+fn a_record_answers_the_calls_that_it_fits(rt: HostRuntime) -> Result<(), Fail> {
+    let cases: [(&[u8], u32, i64, &[u8], bool); 17] = [
+        (b"read", 5, 2, b"ab", true),
+        (b"read", 2, 2, b"ab", true),
+        (b"read", 1, 2, b"ab", false),
+        (b"read", 5, 1, b"ab", false),
+        (b"read", 5, 0, b"", true),
+        (b"read", 5, -1, b"", true),
+        (b"read", 5, -1, b"a", false),
+        (b"write", 5, 5, b"", true),
+        (b"write", 5, -1, b"", true),
+        (b"write", 5, 6, b"", false),
+        (b"write", 5, -2, b"", false),
+        (b"write", 5, 1, b"a", false),
+        (b"write", 4_294_967_295, 2_147_483_648, b"", false),
+        (b"getuid", 0, 4_294_967_295, b"", true),
+        (b"getpid", 0, 4_294_967_295, b"", false),
+        (b"getpid", 0, 1, b"a", false),
+        (b"_exit", 0, 0, b"", true),
+    ];
+    for (text, asked, value, bytes, want) in cases {
+        let name = find(text).ok_or("a name of the table")?;
+        let given = record_of(rt.alloc(), value, bytes)?;
+        assert_eq!(rt; answers(name, asked, &given), want);
     }
     Ok(())
 }
