@@ -1,10 +1,14 @@
 pub mod BuilderLemmas
 pub mod CandidatesLemmas
+pub mod Counting
+pub mod FoundLemmas
 pub mod GroupsLemmas
 pub mod Histories
 pub mod ModelLemmas
+pub mod Nested
 pub mod OneOrder
 pub mod OrderLemmas
+pub mod OwnersLemmas
 pub mod Rebuilt
 pub mod RulesLemmas
 pub mod SortingLemmas

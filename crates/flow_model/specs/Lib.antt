@@ -1,6 +1,8 @@
 pub mod Built
 pub mod Call
 pub mod Checked
+pub mod Cost
+pub mod Found
 pub mod Graph
 pub mod Groups
 pub mod Inside

@@ -4,15 +4,21 @@
 
 mod builder;
 mod groups;
+mod laws;
 mod model;
 mod monitor;
 mod records;
 mod rules;
+mod scratch;
 mod sorting;
+mod steps;
 mod which;
 
 pub use builder::{FinishError, ModelBuilder};
+pub use laws::languages_are_nested;
 pub use model::Model;
 pub use monitor::Monitor;
 pub use records::{CallEdge, ModelFunction, SilentEdge, SysEdge};
+pub use scratch::Scratch;
+pub use steps::Steps;
 pub use which::Which;

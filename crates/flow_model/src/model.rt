@@ -1,17 +1,19 @@
-ghost use Rattle.std.specs.Prelude.{◌≡◌, ◌<◌, nat_eq, filter, find, length, IfOk};
+ghost use Rattle.std.specs.Prelude.{◌≡◌, ◌<◌, ℕ, nat_eq, filter, find, length, IfOk, IfSome, Some};
 ghost use Rattle.std.specs.Option.{option_copied};
+ghost use Rattle.flow_model.specs.Graph.{HasFunction};
 ghost use Rattle.flow_model.specs.Groups.{sites_from, sites_of};
 ghost use Rattle.flow_model.specs.Rules.{IsValid};
 
 use crate::groups::{silent_starts, sites_by_function, sites_by_node, sys_starts};
+use crate::rules::function_ending_at;
 use crate::{CallEdge, ModelFunction, SilentEdge, SysEdge};
 use dm_base::OutOfMemory;
 use std::alloc::Global;
 
 /// A valid model, seen as the number of its nodes, its start function and its four lists: the
 /// functions, and in increasing order the silent edges, the system-call edges and the call edges.
-/// What the accessors give is found in a time that does not grow with the model, but for `call`,
-/// which takes a binary search. None takes memory.
+/// What the accessors give is found in a time that does not grow with the model, but for `call` and
+/// `function_that_ends_at`, which take a binary search. None takes memory.
 #[derive(Drop)]
 pub struct Model {
     node_count: u32,
@@ -166,6 +168,16 @@ impl Model {
         Some(&self.calls[place])
     }
 
+    /// The function whose exit the node is, by its place among the functions, or None exactly where
+    /// there is none. No two functions of a valid model have one exit.
+    pub fn function_that_ends_at(&self, node: u32) -> Option<u32>
+        ensures some { IfSome result (λ f. (entry : ℕ) × HasFunction self.now f entry node) }
+        ensures known { IfSome result (λ f. f < length self.now.functions) }
+        ensures only { (f entry : ℕ) → HasFunction self.now f entry node → result ≡ Some f }
+    {
+        function_ending_at(&self.functions, self.node_count, node)
+    }
+
     /// An equal model, in memory of the allocator that this one keeps.
     pub fn copy(&self) -> Result<Model, OutOfMemory>
         ensures { IfOk result (λ copied. copied ≡ self.now) }
@@ -278,6 +290,14 @@ mod tests {
         }
         assert!(rt; model.returns_of(0) == [5].as_slice());
         assert!(rt; model.returns_of(1) == [5, 9].as_slice());
+        let ends: [Option<u32>; 5] = [None, None, Some(0), None, Some(1)];
+        for (node, function) in ends.iter().enumerate() {
+            assert_eq!(rt;
+                model.function_that_ends_at(node as u32),
+                *function,
+                "at {node}"
+            );
+        }
         assert!(rt; model.call(9).is_some_and(|call| call.from() == 1));
         assert!(rt; model.call(7).is_none());
         Ok(())

@@ -1,8 +1,8 @@
-ghost use Rattle.std.specs.Prelude.{◌≡◌, ℕ, ◌<◌, ◌≤◌, ◌↔◌, All, AllPairs, length, slice_get, slice_index_or, IsTrue, Some};
+ghost use Rattle.std.specs.Prelude.{◌≡◌, ℕ, ◌<◌, ◌≤◌, ◌↔◌, All, AllPairs, length, slice_get, slice_index_or, IsTrue, IfSome, Some};
 ghost use Rattle.dm_base.specs.Name.{IsName};
 ghost use Rattle.sys_table.specs.Table.{IsRight};
 ghost use Rattle.flow_model.specs.declared.records.ModelFunction.{ModelFunction};
-ghost use Rattle.flow_model.specs.Graph.{Owns, HaveOneOwner, end_of};
+ghost use Rattle.flow_model.specs.Graph.{Owns, HaveOneOwner, EndsAt, end_of};
 ghost use Rattle.flow_model.specs.Rules.{HasRightEntries, HasOwnExits};
 
 use crate::{CallEdge, ModelFunction, SilentEdge, SysEdge};
@@ -94,6 +94,20 @@ fn count_begun(functions: &[ModelFunction], node: u32) -> usize
     ensures after { (k : ℕ) (d : ModelFunction) → result ≤ k → k < length functions.now → node < (slice_index_or functions.now k d).entry }
 {
     functions.partition_point(|one| one.entry <= node)
+}
+
+/// The function that ends at the node, or None where there is none, in log n steps.
+pub fn function_ending_at(functions: &[ModelFunction], nodes: u32, node: u32) -> Option<u32>
+    requires entries { HasRightEntries functions.now nodes }
+    requires exits { HasOwnExits functions.now nodes }
+    ensures some { IfSome result (λ f. EndsAt functions.now f node) }
+    ensures only { (f : ℕ) → EndsAt functions.now f node → result ≡ Some f }
+{
+    let begun = count_begun(functions, node);
+    if begun > 0 && functions[begun - 1].exit == node {
+        return Some((begun - 1) as u32);
+    }
+    None
 }
 
 /// Whether both nodes are owned by one function, in log n steps.
