@@ -1,0 +1,50 @@
+use Rattle.std.proofs.Common.{◌≡◌, sum_by, Contains, refl, sym, ap, ◌∙◌, subst, Some, arith}
+use Rattle.std.specs.Prelude.{slice_get}
+use Rattle.std.proofs.lemmas.List.{take_all}
+use Rattle.flow_model.specs.Language.Walk.{over}
+use Rattle.callgraph_monitor.specs.Visits.{visit_cost}
+use Rattle.callgraph_monitor.proofs.Closed.{none_from, closed_walk, turn_long, turn_reached, turn_closed, turn_cost}
+use Rattle.callgraph_monitor.proofs.Grown.{adds-still}
+use Rattle.callgraph_monitor.proofs.visiting.saturate.Goals as goal
+
+pub loop-node-init : goal.loop-node-init
+loop-node-init g c = record {
+  size = c.requires;
+  within = omega arith;
+  kept = λ b has. has;
+  reached = λ b has. (b, has, over);
+  closed = λ b d has step. absurd (omega (arith, has.1));
+  cost = omega arith;
+}
+
+pub loop-node-preserved : goal.loop-node-preserved
+loop-node-preserved g c =
+    let model = c.args.model.now in
+    let old = c.loop-node.pool in
+    let new = c.visit.new.pool in
+    let i = c.loop-node.i in
+    let node = c.in-Some.node in
+    let is : slice_get old.nodes i ≡ Some node = sym c.get.ensures.get ∙ c.in-Some.is in
+    let before = c.loop-node.invariant in
+    let adds = c.visit.ensures.added in
+    record {
+      size = adds.size ∙ before.size;
+      within = turn_long model old new i node is adds;
+      kept = λ b has. adds-still old new adds b (before.kept b has);
+      reached = turn_reached model old new i node is adds c.args.pool.now.nodes before.reached;
+      closed = turn_closed model old new i node is adds before.closed;
+      cost = omega (arith, before.cost, c.visit.ensures.cost, turn_cost model old new i node is adds);
+    }
+
+pub returns-clause-closed : goal.returns-clause-closed
+returns-clause-closed g c =
+    let nodes = c.loop-node.pool.nodes in
+    let over = none_from nodes c.loop-node.i (sym c.get.ensures.get ∙ c.in_default.is) in
+    let all = take_all c.loop-node.i nodes over in
+    λ b d has walk. closed_walk c.args.model.now nodes (λ x y there step. c.loop-node.invariant.closed x y (subst (λ xs. Contains xs x) (sym all) there) step) (c.loop-node.invariant.kept b has) walk refl
+
+pub returns-clause-cost : goal.returns-clause-cost
+returns-clause-cost g c =
+    let nodes = c.loop-node.pool.nodes in
+    let over = none_from nodes c.loop-node.i (sym c.get.ensures.get ∙ c.in_default.is) in
+    omega (arith, c.loop-node.invariant.cost, ap (sum_by (visit_cost c.args.model.now)) (take_all c.loop-node.i nodes over))

@@ -1,0 +1,4 @@
+pub mod Growth
+pub mod Ahead
+pub mod Visits
+pub mod Standing

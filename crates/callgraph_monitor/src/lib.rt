@@ -1,0 +1,11 @@
+//! The monitor of the callgraph model (Wagner and Dean 2001).
+#![tactic(auto)]
+
+mod monitor;
+mod reading;
+mod visiting;
+
+pub use monitor::CallgraphMonitor;
+
+#[cfg(test)]
+mod tests;
