@@ -1,0 +1,10 @@
+pub mod Adding
+pub mod Counting
+pub mod Depths
+pub mod DyckRuns
+pub mod Edges
+pub mod Examples
+pub mod Following
+pub mod Going
+pub mod Standings
+pub mod Storing

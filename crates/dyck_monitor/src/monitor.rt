@@ -1,0 +1,224 @@
+ghost use Rattle.std.specs.Prelude.{◌≡◌, ◌<◌, ◌≤◌, ◌-◌, ◌+◌, ◌^◌, ◌↔◌, ℕ, List, [], ◌∷◌, ◌++◌, length, false, IsTrue, IfOk, OnOk, OnErr};
+ghost use Rattle.dm_base.specs.declared.event.Event.{Event};
+ghost use Rattle.dm_base.specs.declared.verdict.Step.TheVariants.{Kept};
+ghost use Rattle.dm_sets.specs.Entries.{Entries};
+ghost use Rattle.flow_model.specs.declared.which.Which.TheVariants.{Dyck};
+ghost use Rattle.flow_model.specs.Graph.{Graph};
+ghost use Rattle.flow_model.specs.Rules.{IsValid};
+ghost use Rattle.flow_model.specs.Verdict.{IsStep};
+ghost use Rattle.dyck_monitor.specs.Standing.{Stands, StandsFor, SitesGoOn, OpensSite};
+ghost use Rattle.flow_model.specs.Cost.{most_steps};
+
+use crate::moves::{add_entry, follow, look_ahead, store};
+use dm_base::{Event, OutOfMemory, Step};
+use dm_sets::{BoundedStack, NodeSet};
+use flow_model::{Model, Monitor, Scratch, Steps, Which};
+use std::alloc::Global;
+use std::marker::Brand;
+use std::sync::ledger::{Blank, Ledger};
+
+/// A monitor of the Dyck model of one process (after Giffin, Jha and Miller 2004). The null calls of
+/// a history tell which calls are open after it, so all runs that read it end with the same open
+/// sites: the monitor keeps those, the newest first, and the set of the nodes at which the runs end.
+/// All its memory is taken when it is opened or copied. It needs of its pool only the space to list
+/// nodes, and monitors of different processes may share one.
+#[derive(Drop)]
+pub struct DyckMonitor {
+    nodes: NodeSet,
+    sites: BoundedStack,
+    last: Step,
+}
+
+// Whether the open sites let the event be the next one: a return is to the newest of them.
+fn is_next(sites: &BoundedStack, event: &Event) -> bool
+    ensures { IsTrue result ↔ ((z : List ℕ) × SitesGoOn event.now sites.now.items z) }
+{
+    match event {
+        Event::Sys { .. } => true,
+        Event::Pre(_) => true,
+        Event::Post(site) => sites.top() == Some(*site),
+    }
+}
+
+// Opens or closes the site of the event. False where no more sites can be open.
+fn turn(sites: &mut BoundedStack, event: &Event) -> bool
+    requires { (z : List ℕ) × SitesGoOn event.now sites.old.items z }
+    ensures bound { sites.new.bound ≡ sites.old.bound }
+    ensures went { IsTrue result → SitesGoOn event.now sites.old.items sites.new.items }
+    ensures opened { IsTrue result → OpensSite event.now → length sites.new.items ≤ sites.old.bound }
+    ensures full { (IsTrue result → ⊥) → OpensSite event.now × (sites.old.bound ≤ length sites.old.items) }
+{
+    match event {
+        Event::Sys { .. } => true,
+        Event::Pre(site) => sites.push(*site),
+        Event::Post(_) => sites.pop().is_some(),
+    }
+}
+
+// Takes the next event after an accepted history. That a call can't be entered goes before that it
+// opens one call too many.
+fn go_on<L: Ledger>(
+    nodes: &mut NodeSet,
+    sites: &mut BoundedStack,
+    pool: &mut Scratch,
+    model: &Model,
+    event: &Event,
+    steps: &mut Steps<L>,
+) -> Step
+    requires valid { IsValid model.now }
+    requires pool { pool.old.size ≡ model.now.nodes }
+    requires nodes { nodes.old.size ≡ model.now.nodes }
+    ensures pool { pool.new.size ≡ model.now.nodes }
+    ensures stands { (k : ℕ) (h : List Event) → Stands model.now k nodes.old sites.old Kept h → Stands model.now k nodes.new sites.new result (h ++ event.now ∷ []) }
+    ensures cost { steps.new - steps.old ≤ most_steps model.now }
+{
+    if !is_next(sites, event) {
+        return Step::Rejected;
+    }
+    pool.clear();
+    look_ahead(pool, nodes, model, event, steps);
+    if pool.len() == 0 {
+        return Step::Rejected;
+    }
+    follow(pool, model, steps);
+    store(nodes, pool);
+    if turn(sites, event) {
+        Step::Kept
+    } else {
+        Step::Bound
+    }
+}
+
+// Makes the empty set that of the nodes with which every run begins.
+fn begin<L: Ledger>(nodes: &mut NodeSet, pool: &mut Scratch, model: &Model, blank: Blank)
+    requires valid { IsValid model.now }
+    requires name { blank.name ≡ L.name }
+    requires parts { blank.parts ≡ L.parts }
+    requires some { 0 < blank.parts }
+    requires pool { pool.old.size ≡ model.now.nodes }
+    requires nodes { nodes.old.size ≡ model.now.nodes }
+    ensures pool { pool.new.size ≡ model.now.nodes }
+    ensures stands { (k : ℕ) (sites : Entries) → sites ≡ record { bound = k; items = [] } → Stands model.now k nodes.new sites Kept [] }
+{
+    let mut steps = Steps::<L>::new(blank);
+    pool.clear();
+    add_entry(pool, model, model.start());
+    follow(pool, model, &mut steps);
+    store(nodes, pool);
+}
+
+impl DyckMonitor {
+    /// Takes the next event of the process and answers as `feed` does, without taking memory. A step
+    /// is an edge or a candidate entry that is read; an event takes no more of them than the model has
+    /// nodes, edges and, counted twice, candidate entries.
+    pub fn feed_counted<L: Ledger>(
+        &mut self,
+        pool: &mut Scratch,
+        model: &Model,
+        event: &Event,
+        steps: &mut Steps<L>,
+    ) -> Step
+        requires pool { pool.old.size ≡ model.now.nodes }
+        requires stands { (k : ℕ) × (h : List Event) × StandsFor self.old model.now k h }
+        ensures pool { pool.new.size ≡ model.now.nodes }
+        ensures stands { (k : ℕ) (h : List Event) → StandsFor self.old model.now k h → StandsFor self.new model.now k (h ++ event.now ∷ []) }
+        ensures exact { (k : ℕ) (h : List Event) → StandsFor self.old model.now k h → IsStep Dyck model.now k (h ++ event.now ∷ []) result }
+        ensures cost { steps.new - steps.old ≤ most_steps model.now }
+    {
+        // It tells that the model is valid.
+        let _nodes = model.nodes();
+        if self.last != Step::Kept {
+            return self.last;
+        }
+        let DyckMonitor { nodes, sites, last } = self;
+        *last = go_on(nodes, sites, pool, model, event, steps);
+        *last
+    }
+
+    // The same, with a counter of its own.
+    fn feed_blank<L: Ledger>(
+        &mut self,
+        pool: &mut Scratch,
+        model: &Model,
+        event: &Event,
+        blank: Blank,
+    ) -> Step
+        requires name { blank.name ≡ L.name }
+        requires parts { blank.parts ≡ L.parts }
+        requires some { 0 < blank.parts }
+        requires pool { pool.old.size ≡ model.now.nodes }
+        requires stands { (k : ℕ) × (h : List Event) × StandsFor self.old model.now k h }
+        ensures pool { pool.new.size ≡ model.now.nodes }
+        ensures stands { (k : ℕ) (h : List Event) → StandsFor self.old model.now k h → StandsFor self.new model.now k (h ++ event.now ∷ []) }
+        ensures exact { (k : ℕ) (h : List Event) → StandsFor self.old model.now k h → IsStep Dyck model.now k (h ++ event.now ∷ []) result }
+    {
+        let mut steps = Steps::<L>::new(blank);
+        self.feed_counted(pool, model, event, &mut steps)
+    }
+
+    /// Takes the next event of the process and answers as `feed` does, without taking memory.
+    pub fn feed_now(&mut self, pool: &mut Scratch, model: &Model, event: &Event) -> Step
+        requires pool { pool.old.size ≡ model.now.nodes }
+        requires stands { (k : ℕ) × (h : List Event) × StandsFor self.old model.now k h }
+        ensures pool { pool.new.size ≡ model.now.nodes }
+        ensures stands { (k : ℕ) (h : List Event) → StandsFor self.old model.now k h → StandsFor self.new model.now k (h ++ event.now ∷ []) }
+        ensures exact { (k : ℕ) (h : List Event) → StandsFor self.old model.now k h → IsStep Dyck model.now k (h ++ event.now ∷ []) result }
+    {
+        self.feed_blank::<Brand>(pool, model, event, Blank::new(1))
+    }
+}
+
+impl Monitor for DyckMonitor {
+    const WHICH: Which = Which::Dyck;
+
+    type Pool = Scratch;
+
+    ghost WHICH = { Dyck };
+
+    ghost is_pool = { λ p g. p.size ≡ g.nodes };
+
+    ghost stands = { λ m _ g k h. StandsFor m g k h };
+
+    ghost noted = { λ _ _ _. Unit {0} };
+
+    ghost needed = { λ _ _ _. Unit {0} };
+
+    fn pool(alloc: Global, model: &Model) -> Result<Scratch, OutOfMemory> {
+        Scratch::new(alloc, model)
+    }
+
+    fn open(pool: &mut Scratch, model: &Model, bound: u32) -> Result<Self, OutOfMemory> {
+        let alloc = pool.allocator();
+        let mut nodes = NodeSet::new(alloc, model.nodes())?;
+        let sites = BoundedStack::new(alloc, bound)?;
+        begin::<Brand>(&mut nodes, pool, model, Blank::new(1));
+        Ok(DyckMonitor {
+            nodes,
+            sites,
+            last: Step::Kept,
+        })
+    }
+
+    fn feed(
+        &mut self,
+        pool: &mut Scratch,
+        model: &Model,
+        event: &Event,
+    ) -> Result<Step, OutOfMemory> {
+        Ok(self.feed_now(pool, model, event))
+    }
+
+    fn copy(&self, _pool: &mut Scratch) -> Result<Self, OutOfMemory> {
+        Ok(DyckMonitor {
+            nodes: self.nodes.copy()?,
+            sites: self.sites.copy()?,
+            last: self.last,
+        })
+    }
+
+    fn mark(&self, _pool: &mut Scratch) -> Result<(), OutOfMemory> {
+        Ok(())
+    }
+
+    fn sweep(_pool: &mut Scratch) {}
+}
