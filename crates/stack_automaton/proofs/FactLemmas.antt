@@ -1,0 +1,125 @@
+-- Sets of facts and of functions, in the order of their making.
+use Rattle.std.proofs.Common.{◌≡◌, ◌⊎◌, ◌↔◌, ℕ, suc, Bool, true, false, cond, ◌&&◌, ◌||◌, List, [], ◌∷◌, ◌++◌, Contains, refl, sym, ◌∙◌, ap, subst, inl, inr, arith, nat_eq, append-nil, ◌≤◌, length, Some, None}
+use Rattle.std.specs.List.{list_any, position, position_or_len}
+use Rattle.std.specs.Map.{keys_of}
+use Rattle.std.specs.Prelude.{not, nat_lt}
+use Rattle.std.proofs.lemmas.List.Sums.{prefix_len-le-length}
+use Rattle.std.proofs.lemmas.Bool.{eq-eqb, eqb-true, ltb-false}
+use Rattle.std.proofs.lemmas.List.Elements.{Contains-append_left, Contains-push, Contains-push_cases}
+use Rattle.slab.proofs.SlabLemmas.{Contains-cons, Contains-cons_cases}
+use Rattle.indexmap.specs.IndexSet.{insert_key}
+use Rattle.stack_automaton.specs.declared.place.Place.{Place}
+use Rattle.stack_automaton.specs.declared.place.Place.TheVariants.{Held, Entered}
+use Rattle.stack_automaton.specs.declared.place.Fact.{Fact}
+use Rattle.std.specs.Cmp.Lexicographic.{pointwise}
+use Rattle.stack_automaton.specs.declared.place.Edge.{Edge}
+use Rattle.stack_automaton.specs.contracts.place.EdgePartialEq.TheImpl.{eq-value as edge_eq}
+use Rattle.stack_automaton.specs.contracts.place.PlacePartialEq.TheImpl.{eq-value as place_eq}
+use Rattle.stack_automaton.specs.contracts.place.FactPartialEq.TheImpl.{eq-value as fact_eq}
+use Rattle.stack_automaton.specs.Adding.{Adds}
+
+place_exact : (p q : Place) → place_eq.it p q ≡ true → p ≡ q
+place_exact (Held a) (Held b) e = ap Held (eqb-true a b e)
+place_exact (Held a) (Entered b) e = absurd cc
+place_exact (Entered a) (Held b) e = absurd cc
+place_exact (Entered a) (Entered b) e = ap Entered (eqb-true a b e)
+
+place_same : (p : Place) → place_eq.it p p ≡ true
+place_same (Held a) = eq-eqb a a refl
+place_same (Entered a) = eq-eqb a a refl
+
+both_true : (a b : Bool) → (a && b) ≡ true → (a ≡ true) × (b ≡ true)
+both_true true b e = (refl, e)
+both_true false b e = absurd cc
+
+both_hold : (a b : Bool) → a ≡ true → b ≡ true → (a && b) ≡ true
+both_hold true b p q = q
+both_hold false b p q = absurd cc
+
+pub fact_exact : (x y : Fact) → fact_eq.it x y ≡ true → x ≡ y
+fact_exact x y e =
+    let (node, place) = both_true (nat_eq x.node y.node) (place_eq.it x.place y.place) e in
+    λ i. record { node = eqb-true x.node y.node node i; place = place_exact x.place y.place place i }
+
+pub fact_same : (x : Fact) → fact_eq.it x x ≡ true
+fact_same x = both_hold (nat_eq x.node x.node) (place_eq.it x.place x.place) (eq-eqb x.node x.node refl) (place_same x.place)
+
+-- A test that tells just equal keys.
+module _ {K : Type 0} (eq : K → K → Bool) (exact : (x y : K) → eq x y ≡ true → x ≡ y) (same : (x : K) → eq x x ≡ true) where
+  any_cons : (b c : Bool) → (b ≡ true) ⊎ (c ≡ true) → (b || c) ≡ true
+  any_cons true c s = refl
+  any_cons false c (inl e) = absurd cc
+  any_cons false c (inr e) = e
+
+  any_split : (b c : Bool) → (b || c) ≡ true → (b ≡ true) ⊎ (c ≡ true)
+  any_split true c e = inl refl
+  any_split false c e = inr e
+
+  pub any_contains : (xs : List K) (x : K) → (list_any (eq x) xs ≡ true) ↔ Contains xs x
+  any_contains [] x = (λ e. absurd cc, λ has. absurd (omega (arith, has.1)))
+  any_contains (y ∷ ys) x = (
+    λ e. elim (any_split (eq x y) (list_any (eq x) ys) e) as (λ _. Contains (y ∷ ys) x) [
+      | inl here ↦ (0, omega arith, sym (exact x y here))
+      | inr more ↦ Contains-cons y x ys ((any_contains ys x).0 more)
+    ],
+    λ has. elim (Contains-cons_cases y x ys has) as (λ _. list_any (eq x) (y ∷ ys) ≡ true) [
+      | inl e ↦ any_cons (eq x y) (list_any (eq x) ys) (inl (ap (eq x) e ∙ same x))
+      | inr more ↦ any_cons (eq x y) (list_any (eq x) ys) (inr ((any_contains ys x).1 more))
+    ],
+  )
+
+  add_by : (b : Bool) (old : List K) (x : K) → list_any (eq x) old ≡ b → Adds old (cond b old (old ++ x ∷ [])) (λ y. y ≡ x)
+  add_by true old x is = record {
+    grows = ([], sym (append-nil old));
+    is = λ y. (
+      λ has. inl has,
+      λ s. elim s as (λ _. Contains old y) [ inl has ↦ has | inr e ↦ subst (Contains old) (sym e) ((any_contains old x).0 is) ],
+    );
+  }
+  add_by false old x is = record {
+    grows = (x ∷ [], refl);
+    is = λ y. (
+      λ has. elim (Contains-push_cases old x y has) as (λ _. Contains old y ⊎ (y ≡ x)) [ inl was ↦ inl was | inr e ↦ inr (sym e) ],
+      λ s. elim s as (λ _. Contains (old ++ x ∷ []) y) [ inl was ↦ Contains-append_left old (x ∷ []) y was | inr e ↦ subst (Contains (old ++ x ∷ [])) (sym e) (Contains-push old x) ],
+    );
+  }
+
+  -- a key that is inserted
+  pub key_added : (old new : List K) (x : K) → new ≡ insert_key eq old x → Adds old new (λ y. y ≡ x)
+  key_added old new x is = subst (λ ks. Adds old ks (λ y. y ≡ x)) (sym is) (add_by (list_any (eq x) old) old x refl)
+
+-- the same at numbers
+pub number_contains : (xs : List ℕ) (x : ℕ) → (list_any (nat_eq x) xs ≡ true) ↔ Contains xs x
+number_contains = any_contains nat_eq (λ x y. eqb-true x y) (λ x. eq-eqb x x refl)
+
+pub number_added : (old new : List ℕ) (x : ℕ) → new ≡ insert_key nat_eq old x → Adds old new (λ y. y ≡ x)
+number_added = key_added nat_eq (λ x y. eqb-true x y) (λ x. eq-eqb x x refl)
+
+-- where a search finds nothing
+not_found : (b : Bool) (n i : ℕ) → nat_lt i n ≡ b → None ≡ cond b (Some i) None → n ≤ i
+not_found true n i is none = absurd cc
+not_found false n i is none = ltb-false i n is
+
+pub not_among : {X : Type 0} (p : X → Bool) (xs : List X) → None ≡ position p xs → length xs ≡ position_or_len p xs
+not_among p xs none =
+    let past : length xs ≤ position_or_len p xs = not_found (nat_lt (position_or_len p xs) (length xs)) (length xs) (position_or_len p xs) refl none in
+    let most : position_or_len p xs ≤ length xs = prefix_len-le-length (λ x. not (p x)) xs in
+    omega (arith, past, most)
+
+pub length_keys : {K X : Type 0} (es : List (K × X)) → length es ≡ length (keys_of es)
+length_keys [] = refl
+length_keys (e ∷ es) = ap suc (length_keys es)
+
+-- Lists of edges that a test finds equal.
+edge_exact : (x y : Edge) → edge_eq.it x y ≡ true → x ≡ y
+edge_exact x y e =
+    let (label, to) = both_true (nat_eq x.label y.label) (nat_eq x.to y.to) e in
+    λ i. record { label = eqb-true x.label y.label label i; to = eqb-true x.to y.to to i }
+
+pub edges_exact : (xs ys : List Edge) → pointwise edge_eq.it xs ys ≡ true → xs ≡ ys
+edges_exact [] [] e = refl
+edges_exact [] (y ∷ ys) e = absurd cc
+edges_exact (x ∷ xs) [] e = absurd cc
+edges_exact (x ∷ xs) (y ∷ ys) e =
+    let (first, rest) = both_true (edge_eq.it x y) (pointwise edge_eq.it xs ys) e in
+    λ i. edge_exact x y first i ∷ edges_exact xs ys rest i

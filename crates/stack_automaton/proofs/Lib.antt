@@ -1,0 +1,13 @@
+pub mod AddingLemmas
+pub mod EventLemmas
+pub mod FactLemmas
+pub mod FollowingLemmas
+pub mod GrowingLemmas
+pub mod LinksLemmas
+pub mod MonitorLemmas
+pub mod NotingLemmas
+pub mod PathLemmas
+pub mod ReadingLemmas
+pub mod SaturationLemmas
+pub mod SeenLemmas
+pub mod StandingLemmas

@@ -1,0 +1,13 @@
+use Rattle.std.proofs.Common.{subst}
+use Rattle.slab.specs.Slab.{get}
+use Rattle.stack_automaton.specs.Adding.{Adds}
+use Rattle.stack_automaton.specs.Following.{IsEnd, IsAfterEnd}
+use Rattle.stack_automaton.proofs.FollowingLemmas.{step_added}
+use Rattle.stack_automaton.proofs.follow.follow_fact.Goals as goal
+
+pub returns-clause-ended : goal.returns-clause-ended
+returns-clause-ended c = subst (λ fs. Adds c.args.ended.now.keys c.note_end.new.ended.keys (λ f. IsEnd fs f c.args.fact)) c.functions-functions.ensures c.in_ok-note_end.ensures
+
+pub returns-clause-facts : goal.returns-clause-facts
+returns-clause-facts c = step_added c.args.model.now (get c.args.states.now) c.follow_calls.new.links c.note_end.new.ended.keys c.args.fact c.args.facts.now.keys c.follow_calls.new.facts.keys c.follow_end.new.facts.keys c.follow_silent.new.facts.keys c.follow_back.new.facts.keys
+    c.in_ok-follow_calls.ensures.facts (subst (λ fs. Adds c.follow_calls.new.facts.keys c.follow_end.new.facts.keys (IsAfterEnd fs c.follow_calls.new.links c.args.fact)) c.functions-functions.ensures c.in_ok-follow_end.ensures) c.in_ok-follow_silent.ensures c.in_ok-follow_back.ensures

@@ -1,0 +1,10 @@
+pub mod Adding
+pub mod Event
+pub mod Following
+pub mod Held
+pub mod Links
+pub mod Moving
+pub mod Noting
+pub mod Seen
+pub mod Standing
+pub mod Storing

@@ -1,0 +1,22 @@
+//! The monitor of the abstract-stack model (Wagner and Dean 2001): the stacks that may be open are held
+//! as an automaton, in a pool that the monitors of one model share.
+#![tactic(auto)]
+
+mod event;
+mod follow;
+mod links;
+mod monitor;
+mod notes;
+mod place;
+mod pool;
+mod reading;
+mod saturate;
+mod shared;
+mod store;
+
+pub use monitor::StackMonitor;
+pub use place::Edge;
+pub use pool::Pool;
+
+#[cfg(test)]
+mod tests;

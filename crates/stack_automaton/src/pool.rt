@@ -1,0 +1,158 @@
+ghost use Rattle.std.specs.Prelude.{◌≡◌, ◌≢◌, ◌⊎◌, ◌↔◌, ℕ, List, [], Contains, IfOk, OnOk, OnErr, IfSome, IfNone, Some, None};
+ghost use Rattle.std.specs.FinMap as map;
+ghost use Rattle.stack_automaton.specs.declared.place.Edge.{Edge as Edge'};
+ghost use Rattle.stack_automaton.specs.Event.{IsNext};
+ghost use Rattle.stack_automaton.specs.Following.{AreHeld, IsFirst};
+ghost use Rattle.stack_automaton.specs.Held.{IsThere, HasEdge, Leads};
+ghost use Rattle.stack_automaton.specs.Moving.{IsMoved};
+ghost use Rattle.stack_automaton.specs.Seen.{edges_at};
+ghost use Rattle.stack_automaton.specs.Standing.{IsPool};
+ghost use Rattle.stack_automaton.specs.Storing.{Grows, IsStored};
+
+use crate::event::{move_on, settle};
+use crate::notes::{note_from, sweep_states};
+use crate::place::{Fact, State};
+use crate::shared::Shared;
+use dm_base::{Event, OutOfMemory};
+use flow_model::Model;
+use indexmap::IndexSet;
+use slab::Slab;
+use std::alloc::Global;
+
+/// The states of all monitors of a model. Seen as a finite map from keys to lists of edges, with the
+/// final key, at which every stack ends, and the keys that are noted for a sweep. The configuration of
+/// a node v with the open sites s1 to sk is held from a key where edges labelled v, s1, .., sk lead
+/// from it to the final key.
+#[derive(Drop)]
+pub struct Pool {
+    alloc: Global,
+    states: Slab<State>,
+    shared: Shared,
+    last: usize,
+    notes: IndexSet<usize>,
+}
+
+impl std::marker::Model for Pool {
+    ghost use Rattle.stack_automaton.specs.Seen.{Contents, contents_code};
+
+    ghost Value = { Contents };
+
+    ghost coded = { contents_code };
+
+    ghost use Rattle.std.specs.FinMap.{from_sorted};
+    ghost use Rattle.slab.specs.Slab.{entries};
+
+    ghost view = { λ p. record { entries = from_sorted (entries p.states); final = p.last; noted = p.notes.keys } };
+}
+
+impl Pool {
+    // A pool with the final key alone.
+    pub(crate) fn new(alloc: Global) -> Result<Pool, OutOfMemory>
+        ensures pool { IfOk result IsPool }
+        ensures notes { IfOk result (λ p. p.noted ≡ []) }
+    {
+        let mut states = Slab::new(alloc);
+        let last = states.insert(State::empty(alloc))?;
+        let notes = IndexSet::new(alloc);
+        Ok(Pool {
+            alloc,
+            states,
+            shared: Shared::new(alloc),
+            last,
+            notes,
+        })
+    }
+
+    /// How many keys are held, the final key included. It takes no memory.
+    pub fn live(&self) -> usize
+        ensures { result ≡ map.len self.now.entries }
+    {
+        self.states.len()
+    }
+
+    // Where the pool takes its memory.
+    pub(crate) fn memory(&self) -> Global {
+        self.alloc
+    }
+
+    // The final key.
+    pub(crate) fn last(&self) -> usize
+        ensures { result ≡ self.now.final }
+    {
+        self.last
+    }
+
+    // Stores the states of the event that begins with these facts, and gives the key of its own.
+    pub(crate) fn settle(
+        &mut self,
+        model: &Model,
+        begin: IndexSet<Fact>,
+    ) -> Result<usize, OutOfMemory>
+        requires pool { IsPool self.old }
+        requires held { AreHeld begin.keys }
+        requires there { (b q : ℕ) → IsFirst begin.keys b q → IsThere (edges_at self.old) q }
+        ensures grows { Grows (edges_at self.old) (edges_at self.new) }
+        ensures last { self.new.final ≡ self.old.final }
+        ensures notes { self.new.noted ≡ self.old.noted }
+        ensures stored { IfOk result (λ key. IsStored model.now (edges_at self.old) (edges_at self.new) begin.keys key) }
+        ensures there { IfOk result (λ key. IsThere (edges_at self.new) key) }
+    {
+        let key = settle(self.alloc, &mut self.states, &mut self.shared, model, begin)?;
+        Ok(key)
+    }
+
+    // The key after the event, or None where it leads nowhere.
+    pub(crate) fn move_on(
+        &mut self,
+        model: &Model,
+        key: usize,
+        event: &Event,
+    ) -> Result<Option<usize>, OutOfMemory>
+        requires pool { IsPool self.old }
+        requires there { IsThere (edges_at self.old) key }
+        ensures grows { Grows (edges_at self.old) (edges_at self.new) }
+        ensures last { self.new.final ≡ self.old.final }
+        ensures notes { self.new.noted ≡ self.old.noted }
+        ensures moved { IfOk result (λ next. IfSome next (λ next. IsMoved model.now (edges_at self.old) (edges_at self.new) key event.now next)) }
+        ensures none { IfOk result (λ next. IfNone next ((b q : ℕ) → IsNext model.now (HasEdge (edges_at self.old)) key event.now b q → ⊥)) }
+    {
+        let next = move_on(
+            self.alloc,
+            &mut self.states,
+            &mut self.shared,
+            model,
+            key,
+            event,
+        )?;
+        Ok(next)
+    }
+
+    // Notes the key, and all keys to which edges lead from it. Where memory is refused nothing is noted.
+    pub(crate) fn note(&mut self, key: usize) -> Result<(), OutOfMemory>
+        ensures entries { self.new.entries ≡ self.old.entries }
+        ensures last { self.new.final ≡ self.old.final }
+        ensures ok { OnOk result ((k : ℕ) → Contains self.new.noted k ↔ ((j : ℕ) × (Contains self.old.noted j ⊎ (j ≡ key)) × Leads (HasEdge (edges_at self.old)) j k)) }
+        ensures err { OnErr result (self.new.noted ≡ []) }
+    {
+        match note_from(&mut self.notes, &self.states, key) {
+            Ok(()) => Ok(()),
+            Err(error) => {
+                self.notes.clear();
+                Err(error)
+            }
+        }
+    }
+
+    // Frees the states that aren't noted, but for the final key, and the notes.
+    pub(crate) fn sweep(&mut self)
+        ensures last { self.new.final ≡ self.old.final }
+        ensures notes { self.new.noted ≡ [] }
+        ensures kept { (k : ℕ) → Contains self.old.noted k ⊎ (k ≡ self.old.final) → edges_at self.new k ≡ edges_at self.old k }
+        ensures gone { (k : ℕ) → (Contains self.old.noted k → ⊥) → k ≢ self.old.final → edges_at self.new k ≡ None }
+        ensures fewer { (k : ℕ) (edges : List Edge') → edges_at self.new k ≡ Some edges → edges_at self.old k ≡ Some edges }
+    {
+        sweep_states(&mut self.states, &self.notes, self.last);
+        self.shared.sweep(&self.states);
+        self.notes.clear();
+    }
+}

@@ -1,0 +1,44 @@
+ghost use Rattle.std.specs.Prelude.{◌≡◌, IfOk};
+ghost use Rattle.slab.specs.Slab.{get};
+ghost use Rattle.stack_automaton.specs.Following.{AreHeld, IsClosure};
+
+use crate::follow::follow_fact;
+use crate::links::Links;
+use crate::place::{Fact, State};
+use dm_base::OutOfMemory;
+use flow_model::Model;
+use indexmap::IndexSet;
+use slab::Slab;
+use std::alloc::Global;
+
+// All facts of an event, and the calls that are made at it.
+#[derive(Drop)]
+pub struct Closure {
+    pub facts: IndexSet<Fact>,
+    pub links: Links,
+}
+
+// All facts of the event that begins with these. Each fact is followed once.
+pub fn saturate(
+    alloc: Global,
+    model: &Model,
+    states: &Slab<State>,
+    begin: IndexSet<Fact>,
+) -> Result<Closure, OutOfMemory>
+    requires { AreHeld begin.keys }
+    ensures { IfOk result (λ done. IsClosure model.now (get states.now) begin.keys done) }
+{
+    let mut facts = begin;
+    let mut links = Links::new(alloc);
+    let mut ended = IndexSet::new(alloc);
+    // It tells that the model is valid.
+    let _nodes = model.nodes();
+    for i in 0..usize::MAX {
+        let Some(&fact) = facts.get_index(i) else {
+            return Ok(Closure { facts, links });
+        };
+        follow_fact(&mut facts, &mut links, &mut ended, model, states, fact)?;
+    }
+    // So many facts find no memory.
+    Err(OutOfMemory)
+}

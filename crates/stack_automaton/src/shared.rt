@@ -1,0 +1,76 @@
+ghost use Rattle.std.specs.Prelude.{◌≡◌, Some, IsTrue, IfSome};
+ghost use Rattle.slab.specs.Slab.{get};
+
+use crate::place::{Edge, State};
+use dm_base::OutOfMemory;
+use indexmap::IndexMap;
+use slab::Slab;
+use std::alloc::Global;
+
+// Keys of states, by a digest of their edges, so that equal states are stored once. A key counts only
+// where the states have just the edges under it, so a key that is out of date does no harm.
+#[derive(Drop)]
+pub struct Shared {
+    keys: IndexMap<u64, usize>,
+}
+
+impl Shared {
+    // No key is known.
+    pub fn new(alloc: Global) -> Shared {
+        Shared {
+            keys: IndexMap::new(alloc),
+        }
+    }
+
+    // A key under which the states have these edges, where it is known.
+    pub fn find(&self, states: &Slab<State>, edges: &[Edge]) -> Option<usize>
+        ensures { IfSome result (λ key. get states.now key ≡ Some edges.now) }
+    {
+        let key = self.known(edges)?;
+        match states.get(key) {
+            Some(state) => {
+                if are_equal(state.edges(), edges) {
+                    Some(key)
+                } else {
+                    None
+                }
+            }
+            None => None,
+        }
+    }
+
+    // The key that was noted last for such edges, or for others with the same digest.
+    fn known(&self, edges: &[Edge]) -> Option<usize> {
+        match self.keys.get(&digest(edges)) {
+            Some(key) => Some(*key),
+            None => None,
+        }
+    }
+
+    // Notes the key of a state with this digest.
+    pub fn note(&mut self, digest: u64, key: usize) -> Result<(), OutOfMemory> {
+        self.keys.insert(digest, key)?;
+        Ok(())
+    }
+
+    // Forgets the keys that are gone.
+    pub fn sweep(&mut self, states: &Slab<State>) {
+        self.keys.retain(|_, key| states.contains(*key));
+    }
+}
+
+fn are_equal(a: &[Edge], b: &[Edge]) -> bool
+    ensures { IsTrue result → a.now ≡ b.now }
+{
+    a == b
+}
+
+// The digest of the edges (the hash FNV-1a over whole numbers).
+pub fn digest(edges: &[Edge]) -> u64 {
+    let mut hash: u64 = 0xcbf2_9ce4_8422_2325;
+    for edge in edges {
+        hash = (hash ^ u64::from(edge.label)).wrapping_mul(0x100_0000_01b3);
+        hash = (hash ^ edge.to as u64).wrapping_mul(0x100_0000_01b3);
+    }
+    hash
+}
