@@ -1,0 +1,16 @@
+pub mod Parts
+pub mod Ranges
+pub mod ArgumentLemmas
+pub mod PlainWords
+pub mod CallLemmas
+pub mod EventLemmas
+pub mod EndLemmas
+pub mod WholeLines
+pub mod OneReading
+pub mod PiecesLemmas
+pub mod PrefixFree
+pub mod ProcessesLemmas
+pub mod ReachedLemmas
+pub mod TraceLemmas
+pub mod TracesLemmas
+pub mod HeadLemmas

@@ -1,0 +1,51 @@
+-- How a file is read on from one line to the next.
+use Rattle.std.proofs.Common.{◌≡◌, ◌≢◌, ◌≤◌, ℕ, ◌+◌, List, [], ◌∷◌, ◌++◌, length, Contains, refl, sym, ◌∙◌, ap, subst, append_assoc, arith}
+use Rattle.std.proofs.lemmas.List.{append-nil}
+use Rattle.line_text.specs.Files.{IsLine, IsFirstLine, IsBadLine, IsProperPrefix}
+use Rattle.line_text.specs.Files.IsFirstLine.{ended, unended}
+use Rattle.line_text.proofs.FilesLemmas.{HasRead, bad_line, proper_prefix, one_more}
+use Rattle.trace_file.specs.Pieces.{IsWhole}
+use Rattle.trace_file.specs.Reached.{IsReached}
+
+-- a whole line is the first of each text that begins with it
+pub whole_first : (line rest : List ℕ) → IsWhole line → IsFirstLine (line ++ rest) line rest
+whole_first line rest whole = ended whole.front whole.plain whole.ends refl
+
+-- a line is not empty
+pub whole_some : (line rest : List ℕ) → IsWhole line → line ++ rest ≡ [] → ⊥
+whole_some line rest whole none = not_nil whole.front rest (sym (ap (λ (t : List ℕ). t ++ rest) whole.ends) ∙ none)
+  where
+    not_nil : (front rest : List ℕ) → (front ++ 10 ∷ []) ++ rest ≡ [] → ⊥
+    not_nil [] rest is = cc
+    not_nil (b ∷ front) rest is = cc
+
+-- a line without its line feed is the first of its text
+pub unfinished_first : (line : List ℕ) → (Contains line 10 → ⊥) → IsFirstLine line line []
+unfinished_first line plain = unended plain refl refl
+
+module _ (Formed TooMuch Other Follow FollowTooMuch : List ℕ → Type 0) (k : ℕ) (lines : List ℕ) (here : IsReached Formed TooMuch Other Follow FollowTooMuch k lines) where
+  -- a line that nothing may follow is bad
+  pub bad_next : (text line rest : List ℕ) → IsFirstLine text line rest → ((w : List ℕ) → Follow (line ++ w) → ⊥) → (FollowTooMuch text → ⊥) → (Other (lines ++ text) → ⊥) × (TooMuch (lines ++ text) → ⊥) × IsBadLine Formed (lines ++ text) (k + 1)
+  bad_next text line rest first none no_much =
+      (here.own text, (λ much. no_much (here.too_much text much)), bad_line Formed Follow k lines text line rest here.read first none)
+
+  -- a text that may go on is a proper prefix
+  pub prefix_next : (text : List ℕ) → (w : List ℕ) × (w ≢ []) × Follow (text ++ w) → (FollowTooMuch text → ⊥) → (TooMuch (lines ++ text) → ⊥) × IsProperPrefix Formed (lines ++ text)
+  prefix_next text more no_much =
+      ((λ much. no_much (here.too_much text much)), proper_prefix Formed Follow k lines text more.0 here.read more.1 more.2)
+
+  -- one line more is read
+  pub line_next : (Later LaterTooMuch : List ℕ → Type 0) (line : List ℕ) → IsWhole line → ((w : List ℕ) → Follow (line ++ w) → Later w) → ((w : List ℕ) → Later w → Follow (line ++ w)) → (w : List ℕ) × Later w → ((w : List ℕ) → FollowTooMuch (line ++ w) → LaterTooMuch w) → IsReached Formed TooMuch Other Later LaterTooMuch (k + 1) (lines ++ line)
+  line_next Later LaterTooMuch line whole onward back some much =
+      record {
+        read = one_more Formed Follow Later k lines line whole.front here.read whole.ends whole.plain onward back some;
+        too_much = λ rest has. much rest (here.too_much (line ++ rest) (subst TooMuch (append_assoc lines line rest) has));
+        own = λ rest has. here.own (line ++ rest) (subst Other (append_assoc lines line rest) has);
+      }
+
+-- what a line's reader asks of it
+pub whole_is_line : (line : List ℕ) → IsWhole line → IsLine line
+whole_is_line line whole = ([], whole_first line [] whole)
+
+pub unfinished_is_line : (line : List ℕ) → (Contains line 10 → ⊥) → IsLine line
+unfinished_is_line line plain = ([], unended plain refl (append-nil line))

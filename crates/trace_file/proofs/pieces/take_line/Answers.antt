@@ -1,0 +1,17 @@
+use Rattle.std.proofs.Common.{List, [], ◌∷◌, sym, subst}
+use Rattle.std.specs.Prelude.{Option}
+use Rattle.std.specs.Option.{option_to_list}
+use Rattle.std.proofs.lemmas.List.{append-nil}
+use Rattle.trace_file.specs.Pieces.{Takes}
+use Rattle.trace_file.proofs.PiecesLemmas.{one_taken}
+use Rattle.trace_file.proofs.pieces.take_line.Goals as goal
+
+pub returns-in_ok-push-in-Some-clause-takes : goal.returns-in_ok-push-in-Some-clause-takes
+returns-in_ok-push-in-Some-clause-takes g c =
+    let takes = subst (λ (o : Option g.row.P-Item.Denot). Takes g.P.Place.reaches c.args.place.now c.args.line.now (option_to_list o) c.read.new.self) c.in-Some.is c.in_ok-item.ensures.takes in
+    one_taken g.P.Place.reaches c.args.place.now c.read.new.self c.args.line.now (c.in-Some.item ∷ []) c.args.items.now.items c.push.new.self.items takes c.in_ok-push-in-Some.ensures.items
+
+pub returns-in-None-clause-takes : goal.returns-in-None-clause-takes
+returns-in-None-clause-takes g c =
+    let takes = subst (λ (o : Option g.row.P-Item.Denot). Takes g.P.Place.reaches c.args.place.now c.args.line.now (option_to_list o) c.read.new.self) c.in-None.is c.in_ok-item.ensures.takes in
+    one_taken g.P.Place.reaches c.args.place.now c.read.new.self c.args.line.now [] c.args.items.now.items c.args.items.now.items takes (sym (append-nil c.args.items.now.items))

@@ -1,0 +1,11 @@
+pub mod EventText
+pub mod Known
+pub mod LineParts
+pub mod Lines
+pub mod Pieces
+pub mod Processes
+pub mod Reached
+pub mod Trace
+pub mod TraceReading
+pub mod Traces
+pub mod TracesReading
