@@ -1,0 +1,229 @@
+-- Versions, and what a model's text is read as.
+use Rattle.std.proofs.Common.{◌≡◌, ◌≢◌, ℕ, zero, suc, ◌<◌, ◌≤◌, ◌^◌, List, [], ◌∷◌, ◌++◌, length, Bool, true, false, not, ◌||◌, nat_eq, decimal, refl, sym, ◌∙◌, ap, subst, inl, inr, append_assoc, Contains, arith}
+use Rattle.std.specs.Prelude.{◌⊎◌, ◌↔◌, IsTrue, Result, Ok, Err, IfOk, IfErr, codes}
+use Rattle.std.specs.List.{list_any}
+use Rattle.std.specs.declared.cmp.Ordering.{Ordering}
+use Rattle.std.specs.declared.cmp.Ordering.TheVariants.{Less, Equal}
+use Rattle.std.specs.Cmp.{IsTotalOrder}
+use Rattle.std.proofs.lemmas.Bool.{true≢false, false≢true}
+use Rattle.std.proofs.lemmas.Bool.Decides.{eqb_tells}
+use Rattle.std.proofs.lemmas.Cmp.{tied_itself, nat_cmp_total}
+use Rattle.std.proofs.lemmas.Fmt.{decimal_injective, decimal_digit}
+use Rattle.std.proofs.lemmas.List.{append_cancel_left, append_cancel_right}
+use Rattle.std.proofs.lemmas.List.Elements.{Contains-append_right}
+use Rattle.line_text.specs.Files.{IsFirstLine, IsVersionLine}
+use Rattle.line_text.specs.Files.IsFirstLine.{ended}
+use Rattle.line_text.proofs.FilesLemmas.{through_first}
+use Rattle.line_text.proofs.VersionLemmas.{decimal-no_feed}
+use Rattle.flow_model.specs.Graph.{Graph}
+use Rattle.flow_model.specs.Rules.{IsInOrder, HasNoRepeats, HasRightPatterns, IsValid, IsLeastBroken}
+use Rattle.flow_model.specs.Rules.IsLeastBroken.{entries as broken_entries, exits as broken_exits, names as broken_names, edges as broken_edges, functions as broken_functions, repeats as broken_repeats, patterns as broken_patterns}
+use Rattle.flow_model.proofs.OrderLemmas.{silent_order_total, sys_order_total}
+use Rattle.model_file.specs.declared.error.ModelError.{ModelError}
+use Rattle.model_file.specs.declared.error.ModelError.TheVariants.{OutOfMemory, BadLine, Invalid, Truncated, TooLarge, Version}
+use Rattle.model_file.specs.declared.version.ModelVersion.{ModelVersion}
+use Rattle.model_file.specs.declared.version.ModelVersion.TheVariants.{One, Two}
+use Rattle.model_file.specs.ModelText.{head_line, IsSpelled, IsModelText, IsFormedModel}
+use Rattle.model_file.specs.Progress.{Spelling, IsStop}
+use Rattle.model_file.specs.Refusal.{IsModel, IsModelRefusal, HasOtherModelVersion, IsBroken, longest}
+use Rattle.model_file.specs.States.{IsReadAs}
+use Rattle.model_file.proofs.HeadLemmas.{after_head, text_is}
+
+-- versions
+
+has_last : (front : List ℕ) → Contains (front ++ 10 ∷ []) 10
+has_last front = Contains-append_right front (10 ∷ []) 10 (0, omega arith, refl)
+
+-- of two decimals one is not the other with a line feed
+no_feed_after : (m n : ℕ) → m < 2 ^ 32 → decimal m ≡ decimal n ++ 10 ∷ [] → ⊥
+no_feed_after m n small is = decimal-no_feed m (omega (arith, small)) (subst (λ (t : List ℕ). Contains t 10) (sym is) (has_last (decimal n)))
+
+-- a line has one version
+pub one_version : (word line : List ℕ) (m n : ℕ) → m < 2 ^ 32 → n < 2 ^ 32 → IsVersionLine word m line → IsVersionLine word n line → m ≡ n
+one_version word line m n small_m small_n (inl is_m) (inl is_n) =
+    decimal_injective m n (omega (arith, small_m)) (omega (arith, small_n)) (append_cancel_left word (decimal m) (decimal n) (sym is_m ∙ is_n))
+one_version word line m n small_m small_n (inl is_m) (inr is_n) =
+    absurd (no_feed_after m n small_m (append_cancel_left word (decimal m) (decimal n ++ 10 ∷ []) (sym is_m ∙ is_n ∙ append_assoc word (decimal n) (10 ∷ []))))
+one_version word line m n small_m small_n (inr is_m) (inl is_n) =
+    absurd (no_feed_after n m small_n (append_cancel_left word (decimal n) (decimal m ++ 10 ∷ []) (sym is_n ∙ is_m ∙ append_assoc word (decimal m) (10 ∷ []))))
+one_version word line m n small_m small_n (inr is_m) (inr is_n) =
+    decimal_injective m n (omega (arith, small_m)) (omega (arith, small_n)) (append_cancel_left word (decimal m) (decimal n) (append_cancel_right (word ++ decimal m) (word ++ decimal n) (10 ∷ []) (sym is_m ∙ is_n)))
+
+same_line : (text line rest line' rest' : List ℕ) → IsFirstLine text line rest → IsFirstLine text line' rest' → line ≡ line'
+same_line text line rest line' rest' first first' = sym (through_first text line rest first) ∙ through_first text line' rest' first'
+
+abbrev word : List ℕ
+word = codes "dyckmon-model "
+
+abbrev pub IsOurs : ℕ → Type 0
+IsOurs n = (n ≡ 1) ⊎ (n ≡ 2)
+
+-- whether the version that the first line has is another
+pub tells_other : (text line rest : List ℕ) (n : ℕ) (answer : Bool) → IsFirstLine text line rest → n < 2 ^ 32 → IsVersionLine word n line → ((answer ≡ true) × (IsOurs n → ⊥)) ⊎ ((answer ≡ false) × IsOurs n) → IsTrue answer ↔ HasOtherModelVersion text
+tells_other text line rest n answer first small stands (inl other) = (
+  λ holds. record { line = line; rest = rest; first = first; number = n; small = small; other = other.1; stands = stands },
+  λ has. other.0,
+)
+tells_other text line rest n answer first small stands (inr ours) = (
+  λ holds. absurd (false≢true (sym ours.0 ∙ holds)),
+  λ has.
+      let stands' : IsVersionLine word has.number line = subst (IsVersionLine word has.number) (same_line text has.line has.rest line rest has.first first) has.stands in
+      let same : n ≡ has.number = one_version word line n has.number small has.small stands stands' in
+      absurd (has.other (subst IsOurs same ours.1)),
+)
+
+pub tells_none : (text line rest : List ℕ) → IsFirstLine text line rest → ((n : ℕ) → n < 2 ^ 32 → IsVersionLine word n line → ⊥) → IsTrue false ↔ HasOtherModelVersion text
+tells_none text line rest first none = (
+  λ holds. absurd (false≢true holds),
+  λ has. absurd (none has.number has.small (subst (IsVersionLine word has.number) (same_line text has.line has.rest line rest has.first first) has.stands)),
+)
+
+pub not_two : (n : ℕ) → n ≢ 1 → ((not (nat_eq n 2) ≡ true) × (IsOurs n → ⊥)) ⊎ ((not (nat_eq n 2) ≡ false) × IsOurs n)
+not_two n not_one = elim (eqb_tells n 2) [
+  | inl two ↦ inr (ap not two.0, inr two.1)
+  | inr other ↦ inl (ap not other.0, λ ours. elim ours [ inl one ↦ not_one one | inr two ↦ other.1 two ])
+]
+
+pub not_one : (n : ℕ) → n ≡ 1 → ((not (nat_eq n 1) ≡ true) × (IsOurs n → ⊥)) ⊎ ((not (nat_eq n 1) ≡ false) × IsOurs n)
+not_one n one = inr (ap (λ (k : ℕ). not (nat_eq k 1)) one, inl one)
+
+-- a model's text has one of the versions
+
+head_version : (v : ModelVersion) → (n : ℕ) × IsOurs n × (n < 2 ^ 32) × IsVersionLine word n (head_line v)
+head_version One = (1, inl refl, omega arith, inr (ap (λ (t : List ℕ). word ++ t ++ 10 ∷ []) (sym (decimal_digit 1 (omega arith)))))
+head_version Two = (2, inr refl, omega arith, inr (ap (λ (t : List ℕ). word ++ t ++ 10 ∷ []) (sym (decimal_digit 2 (omega arith)))))
+
+-- no byte of the list is a line feed
+none_among : (xs : List ℕ) → list_any (λ b. nat_eq b 10) xs ≡ false → Contains xs 10 → ⊥
+none_among [] none has = absurd (omega (arith, has.1))
+none_among (b ∷ xs) none (zero, within, is) = true≢false (sym (ap (λ (k : ℕ). nat_eq k 10 || list_any (λ c. nat_eq c 10) xs) is) ∙ none)
+none_among (b ∷ xs) none (suc k, within, is) = none_among xs (later (nat_eq b 10) (list_any (λ c. nat_eq c 10) xs) none) (k, omega (arith, within), is)
+  where
+    later : (a c : Bool) → (a || c) ≡ false → c ≡ false
+    later false c is = is
+    later true c is = absurd (true≢false is)
+
+head_first : (v : ModelVersion) (rest : List ℕ) → IsFirstLine (head_line v ++ rest) (head_line v) rest
+head_first One rest = ended (codes "dyckmon-model 1") (none_among (codes "dyckmon-model 1") refl) refl refl
+head_first Two rest = ended (codes "dyckmon-model 2") (none_among (codes "dyckmon-model 2") refl) refl refl
+
+pub has_our_version : (v : ModelVersion) (text : List ℕ) (g : Graph) → IsModelText v text g → HasOtherModelVersion text → ⊥
+has_our_version v text g is has =
+    let whole : text ≡ head_line v ++ after_head v g = is.is ∙ text_is v g in
+    let first : IsFirstLine text (head_line v) (after_head v g) = subst (λ (t : List ℕ). IsFirstLine t (head_line v) (after_head v g)) (sym whole) (head_first v (after_head v g)) in
+    let same : has.line ≡ head_line v = same_line text has.line has.rest (head_line v) (after_head v g) has.first first in
+    let ours = head_version v in
+    let n : has.number ≡ ours.0 = one_version word (head_line v) has.number ours.0 has.small ours.2 (subst (IsVersionLine word has.number) same has.stands) ours.3 in
+    has.other (subst IsOurs (sym n) ours.1)
+
+-- rules
+
+rises_apart : {X : Type 0} {order : X → X → Ordering} → IsTotalOrder order → (x y : X) → order x y ≡ Less → x ≡ y → ⊥
+rises_apart {order = order} total x y less same = less≢equal (sym less ∙ ap (λ z. order z y) same ∙ tied_itself total y)
+  where
+    less≢equal : Less ≡ Equal → ⊥
+    less≢equal e = absurd (cc)
+
+pub no_repeats : (g : Graph) → IsInOrder g → HasNoRepeats g
+no_repeats g order =
+    record {
+      silent = λ i j d before within same. rises_apart silent_order_total _ _ (order.silent i j d before within) same;
+      sys = λ i j d before within same. rises_apart sys_order_total _ _ (order.sys i j d before within) same;
+      sites = λ i j d before within same. rises_apart nat_cmp_total _ _ (order.calls i j d before within) same;
+      candidates = λ k d within i j e before inside same. rises_apart nat_cmp_total _ _ (order.candidates k d within i j e before inside) same;
+    }
+
+-- lists that are in order and have right patterns break one of the first five rules, if any
+pub one_of_five : (g : Graph) (k : ℕ) → IsInOrder g → HasRightPatterns g → IsLeastBroken g k → k ≤ 5
+one_of_five g k order patterns (broken_entries is not_so) = omega (arith, is)
+one_of_five g k order patterns (broken_exits is entries not_so) = omega (arith, is)
+one_of_five g k order patterns (broken_names is entries exits not_so) = omega (arith, is)
+one_of_five g k order patterns (broken_edges is entries exits names not_so) = omega (arith, is)
+one_of_five g k order patterns (broken_functions is entries exits names edges not_so) = omega (arith, is)
+one_of_five g k order patterns (broken_repeats is entries exits names edges functions not_so) = absurd (not_so (no_repeats g order))
+one_of_five g k order patterns (broken_patterns is entries exits names edges functions repeats not_so) = absurd (not_so patterns)
+
+pub none_broken : (g : Graph) (k : ℕ) → IsValid g → IsLeastBroken g k → ⊥
+none_broken g k valid (broken_entries is not_so) = not_so valid.entries
+none_broken g k valid (broken_exits is entries not_so) = not_so valid.exits
+none_broken g k valid (broken_names is entries exits not_so) = not_so valid.names
+none_broken g k valid (broken_edges is entries exits names not_so) = not_so valid.edges
+none_broken g k valid (broken_functions is entries exits names edges not_so) = not_so valid.functions
+none_broken g k valid (broken_repeats is entries exits names edges functions not_so) = not_so (no_repeats g valid.order)
+none_broken g k valid (broken_patterns is entries exits names edges functions repeats not_so) = not_so valid.patterns
+
+pub right_patterns : (v : ModelVersion) (g : Graph) → IsSpelled v g → HasRightPatterns g
+right_patterns v g spelled k d within = (spelled.sys k d within).right
+
+-- what read_model answers
+
+-- a text that is stopped at is refused, and is no model's
+pub stop_refused : (text : List ℕ) (error : ModelError) → length text ≤ longest → (HasOtherModelVersion text → ⊥) → IsStop error text → IsModelRefusal error text
+stop_refused text OutOfMemory short ours stop = tt
+stop_refused text (BadLine k) short ours stop = (short, ours, stop.0)
+stop_refused text Truncated short ours stop = (short, stop.0)
+stop_refused text TooLarge short ours stop = absurd stop
+stop_refused text Version short ours stop = absurd stop
+stop_refused text (Invalid rule) short ours stop = absurd stop
+
+pub stop_no_rule : (text : List ℕ) (error : ModelError) (k : ℕ) → IsStop error text → error ≡ Invalid k → k ≤ 5
+stop_no_rule text OutOfMemory k stop is = absurd (cc)
+stop_no_rule text (BadLine j) k stop is = absurd (cc)
+stop_no_rule text Truncated k stop is = absurd (cc)
+stop_no_rule text TooLarge k stop is = absurd stop
+stop_no_rule text Version k stop is = absurd stop
+stop_no_rule text (Invalid rule) k stop is = absurd stop
+
+formed_model : (text : List ℕ) (g : Graph) → IsModel text g → IsFormedModel text
+formed_model text g is = (is.version, g, is.is)
+
+pub stop_no_model : (text : List ℕ) (error : ModelError) (g : Graph) → IsStop error text → IsModel text g → error ≡ OutOfMemory
+stop_no_model text OutOfMemory g stop is = refl
+stop_no_model text (BadLine k) g stop is = absurd (stop.1 (formed_model text g is))
+stop_no_model text Truncated g stop is = absurd (stop.1 (formed_model text g is))
+stop_no_model text TooLarge g stop is = absurd stop
+stop_no_model text Version g stop is = absurd stop
+stop_no_model text (Invalid rule) g stop is = absurd stop
+
+-- the lists of the text are read
+module _ (text : List ℕ) (v : ModelVersion) (read : Graph) (is_read : IsReadAs text v read) where
+  only_model : (g : Graph) → IsModel text g → read ≡ g
+  only_model g is = let m : Spelling = record { version = is.version; graph = g } in sym (is_read.only m is.is)
+
+  pub model_read : (m : Graph) → length text ≤ longest → IsValid m → m ≡ read → IsModel text m
+  model_read m short valid is = record { version = v; is = subst (IsModelText v text) (sym is) is_read.spells; valid = valid; short = short }
+
+  pub broken_refused : (error : ModelError) → length text ≤ longest → IsBroken read error → IsModelRefusal error text
+  broken_refused OutOfMemory short broken = tt
+  broken_refused (Invalid rule) short broken = (short, (v, read, is_read.spells, broken.0))
+  broken_refused TooLarge short broken = absurd broken
+  broken_refused Version short broken = absurd broken
+  broken_refused (BadLine k) short broken = absurd broken
+  broken_refused Truncated short broken = absurd broken
+
+  pub broken_rule : (error : ModelError) (k : ℕ) → IsBroken read error → error ≡ Invalid k → k ≤ 5
+  broken_rule OutOfMemory k broken is = absurd (cc)
+  broken_rule (Invalid rule) k broken is = let same : rule ≡ k = cc in subst (λ (n : ℕ). n ≤ 5) same broken.1
+  broken_rule TooLarge k broken is = absurd broken
+  broken_rule Version k broken is = absurd broken
+  broken_rule (BadLine j) k broken is = absurd broken
+  broken_rule Truncated k broken is = absurd broken
+
+  pub broken_no_model : (error : ModelError) (g : Graph) → IsBroken read error → IsModel text g → error ≡ OutOfMemory
+  broken_no_model OutOfMemory g broken is = refl
+  broken_no_model (Invalid rule) g broken is = absurd (none_broken read rule (subst IsValid (sym (only_model g is)) is.valid) broken.0)
+  broken_no_model TooLarge g broken is = absurd broken
+  broken_no_model Version g broken is = absurd broken
+  broken_no_model (BadLine k) g broken is = absurd broken
+  broken_no_model Truncated g broken is = absurd broken
+
+  pub same_model : (m g : Graph) → m ≡ read → IsModel text g → m ≡ g
+  same_model m g same is = same ∙ only_model g is
+
+  pub model_complete : (made : Result Graph ModelError) (g : Graph) → IfErr made (λ error. IsBroken read error) → IsModel text g → IfErr made (λ error. error ≡ OutOfMemory)
+  model_complete (Ok m) g broken is = tt
+  model_complete (Err error) g broken is = broken_no_model error g broken is
+
+  pub model_same : (made : Result Graph ModelError) (g : Graph) → IfOk made (λ m. m ≡ read) → IsModel text g → IfOk made (λ m. m ≡ g)
+  model_same (Ok m) g same is = same_model m g same is
+  model_same (Err error) g same is = tt

@@ -1,0 +1,9 @@
+pub mod Bounds
+pub mod Kinds
+pub mod Lines
+pub mod ModelText
+pub mod Progress
+pub mod Refusal
+pub mod States
+pub mod SysBounds
+pub mod Words

@@ -1,0 +1,30 @@
+ghost use Rattle.std.specs.Prelude.{◌≡◌, ◌++◌, decimal, OnOk};
+ghost use Rattle.std.specs.Fmt.{signed_decimal};
+
+use dm_base::OutOfMemory;
+use std::alloc::Global;
+
+/// Adds the bytes at the end of the text. The error is that memory was refused.
+pub fn push_bytes(text: &mut Vec<u8>, bytes: &[u8]) -> Result<(), OutOfMemory>
+    ensures { OnOk result (text.new.items ≡ text.old.items ++ bytes.now) }
+{
+    text.extend_from_slice(bytes)?;
+    Ok(())
+}
+
+/// Adds the number in decimal at the end of the text. The error is that memory was refused.
+pub fn push_decimal(alloc: Global, text: &mut Vec<u8>, number: u64) -> Result<(), OutOfMemory>
+    ensures { OnOk result (text.new.items ≡ text.old.items ++ decimal number) }
+{
+    let digits = format!(in alloc; "{number}")?;
+    push_bytes(text, digits.as_bytes())
+}
+
+/// Adds the number in decimal at the end of the text, with a minus sign where it is below 0. The
+/// error is that memory was refused.
+pub fn push_signed(alloc: Global, text: &mut Vec<u8>, number: i64) -> Result<(), OutOfMemory>
+    ensures { OnOk result (text.new.items ≡ text.old.items ++ signed_decimal number) }
+{
+    let digits = format!(in alloc; "{number}")?;
+    push_bytes(text, digits.as_bytes())
+}
