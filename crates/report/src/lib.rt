@@ -1,0 +1,6 @@
+//! The lines in which verdicts are told.
+#![tactic(auto)]
+
+mod lines;
+
+pub use lines::{name_of, verdict_line};
