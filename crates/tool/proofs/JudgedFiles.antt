@@ -1,30 +1,81 @@
 -- What `judge` makes of two files that were read.
-use Rattle.std.proofs.Common.{◌≡◌, ℕ, List, Option, Some, None, IfSome, inl, inr, refl}
+use Rattle.std.proofs.Common.{◌≡◌, ℕ, ◌<◌, ◌≤◌, List, [], ◌∷◌, arith, Option, Some, None, IfSome, inl, inr, refl, sym, ◌∙◌, ap, subst}
+use Rattle.std.specs.Prelude.{◌⊎◌}
 use Rattle.dm_base.specs.declared.event.Event.{Event}
+use Rattle.dm_base.specs.declared.outcome.TraceEnd.{TraceEnd}
 use Rattle.dm_base.specs.declared.verdict.Status.{Status}
+use Rattle.dm_base.specs.declared.verdict.Status.TheVariants.{Done, Rejected, Bound}
 use Rattle.dm_base.specs.declared.verdict.Verdict.{Verdict}
-use Rattle.dm_base.specs.declared.verdict.Verdict.TheVariants.{Accepted, Rejected, Bound}
+use Rattle.dm_base.specs.declared.verdict.Verdict.TheVariants as verdicts
 use Rattle.dm_io.specs.Store.{Files, file_at}
-use Rattle.flow_model.specs.declared.which.Which.TheVariants.{Callgraph}
+use Rattle.flow_model.specs.declared.which.Which.{Which}
 use Rattle.flow_model.specs.Graph.{Graph}
-use Rattle.flow_model.specs.Verdict.{IsVerdict}
+use Rattle.model_file.specs.Refusal.{IsModel}
+use Rattle.trace_file.specs.Trace.{IsTraceWithin, IsTraceRefusal}
 use Rattle.tool.specs.Commands.{IsFinished}
-use Rattle.tool.specs.Judge.{Judges}
-use Rattle.tool.specs.ModelText.{IsThinModel}
-use Rattle.tool.specs.TraceText.{IsThinTrace}
-use Rattle.tool.specs.VerdictLine.{IsVerdictLine, status_of}
-
-pub judges : (told : Option Files) (model trace text : List ℕ) (g : Graph) (t : List Event) (v : Verdict) (status : Status)
-    → IfSome told (λ files. IsThinModel (file_at files model) g)
-    → IfSome told (λ files. IsThinTrace (file_at files trace) t)
-    → IsVerdict Callgraph g 1000 t v → IsVerdictLine Callgraph t v text → status ≡ status_of v
-    → IfSome told (λ files. Judges files model trace status text)
-judges None model trace text g t v status is_model is_trace judged writes ends = tt
-judges (Some files) model trace text g t v status is_model is_trace judged writes ends =
-    record { graph = g; events = t; verdict = v; is_model = is_model; is_trace = is_trace; judged = judged; ends = ends; writes = writes }
+use Rattle.tool.specs.declared.stop.Stop.{Stop}
+use Rattle.tool.specs.declared.stop.Stop.TheVariants as stops
+use Rattle.tool.specs.Judge.{Judges, IsAModel}
+use Rattle.tool.specs.Reading.{StopsModel, StopsTrace}
+use Rattle.tool.specs.Stop.{StopsJudging}
+use Rattle.tool.specs.Judged.{AreJudged, status_of, status_of_all, worse}
 
 -- each verdict ends the work
-pub is_finished-status_of : (v : Verdict) → IsFinished (status_of v)
-is_finished-status_of (Accepted n) = inl refl
-is_finished-status_of (Rejected k) = inr (inl refl)
-is_finished-status_of (Bound k) = inr (inr refl)
+
+worse_finished : (s t : Status) → IsFinished s → IsFinished t → IsFinished (worse s t)
+worse_finished s t (inl p) finished = subst (λ (x : Status). IsFinished (worse x t)) (sym p) finished
+worse_finished s t (inr (inl p)) finished = subst (λ (x : Status). IsFinished (worse x t)) (sym p) (inr (inl refl))
+worse_finished s t (inr (inr p)) (inl q) = inr (inr (ap (λ (x : Status). worse x t) p ∙ ap (worse Bound) q))
+worse_finished s t (inr (inr p)) (inr (inl q)) = inr (inl (ap (λ (x : Status). worse x t) p ∙ ap (worse Bound) q))
+worse_finished s t (inr (inr p)) (inr (inr q)) = inr (inr (ap (λ (x : Status). worse x t) p ∙ ap (worse Bound) q))
+
+status_finished : (v : Verdict) → IsFinished (status_of v)
+status_finished (verdicts.Accepted n) = inl refl
+status_finished (verdicts.Rejected k) = inr (inl refl)
+status_finished (verdicts.Bound k) = inr (inr refl)
+
+statuses_finished : (vs : List Verdict) → IsFinished (status_of_all vs)
+statuses_finished [] = inl refl
+statuses_finished (v ∷ vs) = worse_finished (status_of v) (status_of_all vs) (status_finished v) (statuses_finished vs)
+
+pub judged_finished : (monitors : List Which) (g : Graph) (bound : ℕ) (t : List Event) (status : Status) (text : List ℕ) → AreJudged monitors g bound t status text → IsFinished status
+judged_finished monitors g bound t status text judged = subst IsFinished (sym judged.ends) (statuses_finished judged.verdicts)
+
+-- the model and the trace of the files
+pub judges : (told : Option Files) (model trace text : List ℕ) (g : Graph) (monitors : List Which) (bound : ℕ) (status : Status) (events : List Event)
+    → IfSome told (λ files. IsModel (file_at files model) g)
+    → IfSome told (λ files. (end : TraceEnd) × IsTraceWithin (file_at files trace) events end)
+    → AreJudged monitors g bound events status text
+    → IfSome told (λ files. Judges files model trace monitors bound status text)
+judges None model trace text g monitors bound status events is_model is_trace judged = tt
+judges (Some files) model trace text g monitors bound status events is_model is_trace judged =
+    record { graph = g; events = events; end = is_trace.0; is_model = is_model; is_trace = is_trace.1; judged = judged }
+
+-- why judging stopped, once the model was read
+pub stops_judging : (told : Option Files) (model trace : List ℕ) (g : Graph) (stop : Stop) (before middle after : ℕ) → before ≤ middle → IfSome told (λ files. IsModel (file_at files model) g) → StopsTrace stop told trace middle after → StopsJudging stop told model trace before after
+stops_judging told model trace g stops.Usage before middle after le is why = why
+stops_judging told model trace g (stops.Model line) before middle after le is why = absurd why
+stops_judging told model trace g (stops.Record line) before middle after le is why = inr (why.0, why.1, refl, why.2, with_model told is why.3)
+  where
+    with_model : (t : Option Files) → IfSome t (λ files. IsModel (file_at files model) g) → IfSome t (λ files. IsTraceRefusal why.0 (file_at files trace)) → IfSome t (λ files. IsAModel files model × IsTraceRefusal why.0 (file_at files trace))
+    with_model None is refusal = tt
+    with_model (Some files) is refusal = ((g, is), refusal)
+stops_judging told model trace g stops.Read before middle after le is (inl (inl rose)) = inl (inl (omega (arith, rose, le)))
+stops_judging told model trace g stops.Read before middle after le is (inl (inr most)) = inl (inr most)
+stops_judging told model trace g stops.Read before middle after le is (inr missing) = inr (inr (missing, with_model told is))
+  where
+    with_model : (t : Option Files) → IfSome t (λ files. IsModel (file_at files model) g) → IfSome t (λ files. IsAModel files model)
+    with_model None is = tt
+    with_model (Some files) is = (g, is)
+stops_judging told model trace g stops.Write before middle after le is why = why
+stops_judging told model trace g stops.OutOfMemory before middle after le is why = tt
+
+-- why judging stopped before the model was read
+pub stops_reading : (told : Option Files) (model trace : List ℕ) (stop : Stop) (before after : ℕ) → StopsModel stop told model before after → StopsJudging stop told model trace before after
+stops_reading told model trace stops.Usage before after why = why
+stops_reading told model trace (stops.Model line) before after why = inl why
+stops_reading told model trace (stops.Record line) before after why = absurd why
+stops_reading told model trace stops.Read before after (inl rose) = inl rose
+stops_reading told model trace stops.Read before after (inr missing) = inr (inl missing)
+stops_reading told model trace stops.Write before after why = why
+stops_reading told model trace stops.OutOfMemory before after why = tt

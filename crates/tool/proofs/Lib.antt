@@ -1,10 +1,8 @@
-pub mod Files
-pub mod FlatLemmas
+pub mod CommandLemmas
+pub mod FrameLemmas
 pub mod JudgedFiles
-pub mod LinesLemmas
-pub mod ModelLemmas
-pub mod NodeSetLemmas
-pub mod OrderLemmas
+pub mod Judgements
+pub mod ModelFiles
+pub mod Nesting
+pub mod PairLemmas
 pub mod ReadingLemmas
-pub mod TraceLemmas
-pub mod ValidLemmas

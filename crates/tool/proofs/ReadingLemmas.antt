@@ -1,154 +1,153 @@
--- What stands first in a text: a word, the bytes before a byte, a number.
-use Rattle.std.proofs.Common.{◌≡◌, ◌≢◌, ℕ, zero, suc, ◌+◌, ◌<◌, ◌≤◌, ◌^◌, ℤ, pos, negsuc, List, [], ◌∷◌, ◌++◌, length, take, drop, get_or, true, false, nat_eq, Option, Some, None, slice_get, decimal, refl, sym, ◌∙◌, ap, subst, inl, inr, append_assoc, arith}
-use Rattle.std.specs.Prelude.{◌⊎◌, Contains, IsSome, IfSome, IfNone, FitsSigned}
-use Rattle.std.specs.Int.{w32}
-use Rattle.std.specs.Fmt.{signed_decimal}
-use Rattle.std.specs.List.{starts_with}
-use Rattle.std.specs.Str.Parse.{AllDigits, digits_value}
-use Rattle.std.specs.Cmp.Lexicographic.{same_text, other_text}
-use Rattle.std.proofs.lemmas.Bool.{true_from_ne_false, true≢false}
-use Rattle.std.proofs.lemmas.Fmt.{digits_decimal, decimal_injective, signed_decimal_injective, decimal_nonempty}
-use Rattle.std.proofs.lemmas.List.{take-append-drop, take_at, take_more, get_or_default, append_cancel_left}
-use Rattle.std.proofs.lemmas.Option.{slice_get_within, get_or_from_slice_get}
-use Rattle.std.proofs.lemmas.Str.Parse.{IsNumeralModel, numerals_by_value, tells_digits, not_in_digits}
-use lib.Pointwise.{pointwise}
-use Rattle.dm_base.specs.Name.{IsDigit}
-use Rattle.sys_table.specs.Table.{table, name_of}
-use Rattle.tool.specs.Reading.{Begins, StandsFirst, Reads}
+-- A trace file that is read in pieces.
+use Rattle.std.proofs.Common.{◌≡◌, ◌≢◌, ℕ, ◌+◌, ◌<◌, ◌≤◌, List, [], ◌∷◌, ◌++◌, length, take, Option, None, Some, IfSome, refl, sym, ◌∙◌, ap, subst, inl, inr, append-nil, append_assoc, arith, length-append}
+use Rattle.std.specs.Prelude.{◌⊎◌, All, slice_index_or}
+use Rattle.std.proofs.lemmas.List.{take_all, length-take, get_or-append-add}
+use Rattle.dm_base.specs.declared.event.Event.{Event}
+use Rattle.dm_base.specs.declared.event.Event.TheVariants as events
+use Rattle.dm_base.specs.declared.outcome.TraceEnd.{TraceEnd}
+use Rattle.dm_io.specs.Front.{ReadsFront}
+use Rattle.dm_io.specs.Store.{Files, ReadsPart, file_at}
+use Rattle.dm_io.proofs.Parts.{ReadsFront-append}
+use Rattle.trace_file.specs.declared.error.TraceError.{TraceError}
+use Rattle.trace_file.specs.declared.error.TraceError.TheVariants as traces
+use Rattle.trace_file.specs.declared.trace_reader.TraceReader.{TraceReader}
+use Rattle.trace_file.specs.declared.trace_place.TracePlace.{TracePlace}
+use Rattle.trace_file.specs.declared.trace_place.TracePlace.TheVariants as places
+use Rattle.trace_file.specs.EventText.{IsWritten}
+use Rattle.trace_file.specs.TraceReading.{StandsForTrace, ReachesTrace}
+use Rattle.sys_table.specs.Table.{IsRecorded}
+use Rattle.trace_file.specs.Trace.{longest, most, IsTraceWithin, IsTraceRefusal}
+use Rattle.tool.specs.declared.stop.Stop.{Stop}
+use Rattle.tool.specs.declared.stop.Stop.TheVariants as stops
+use Rattle.tool.specs.Judge.{trace_refusal}
+use Rattle.tool.specs.Reading.{IsAt, IsOpen, IsShut, IsReadWhole, IsTraceJudged, IsConcluded, StopsTrace}
 
--- a word
+-- a read that gives no byte is at the end of the file
+pub whole_text : (told : Option Files) (name text into : List ℕ) (at : ℕ) → length text ≡ at → ReadsFront told name text → ReadsPart told name at 0 into → IfSome told (λ files. text ≡ file_at files name)
+whole_text None name text into at is front part = tt
+whole_text (Some files) name text into at is front part =
+    let past : length (file_at files name) ≤ at = part.end.0 refl in
+    front ∙ take_all (length text) (file_at files name) (omega (arith, past, is))
 
-pub Begins-from_test : (word text : List ℕ) → starts_with nat_eq text word ≡ true → Begins word text
-Begins-from_test word text same =
-    (drop (length word) text, sym (take-append-drop (length word) text) ∙ ap (λ w. w ++ drop (length word) text) (sym (same_text word (take (length word) text) (sym same))))
+-- one byte too many was read
+pub too_long : (told : Option Files) (name text : List ℕ) → length text ≡ 67108865 → ReadsFront told name text → IfSome told (λ files. IsTraceRefusal traces.TooLong (file_at files name))
+too_long None name text is front = tt
+too_long (Some files) name text is front =
+    inl (omega (arith, is, ap length front, length-take (length text) (file_at files name)))
 
-pub test-from_Begins : (word text : List ℕ) → Begins word text → starts_with nat_eq text word ≡ true
-test-from_Begins word text begins =
-    let front : take (length word) text ≡ word = ap (take (length word)) begins.1 ∙ take_at word begins.0 _ refl in
-    true_from_ne_false _ (λ other. other_text word (take (length word) text) (sym other) (sym front))
+-- what was judged of a text that is the file's
+pub trace_judged : (told : Option Files) (name : List ℕ) (refused : Option TraceError) (reader : TraceReader) (Judged : List Event → Type 0) → IsReadWhole told name refused reader Judged → refused ≡ None → ((text : List ℕ) (h : List Event) → StandsForTrace reader text h → (end : TraceEnd) × IsTraceWithin text h end) → IsTraceJudged told name Judged
+trace_judged told name refused reader Judged read unrefused ended =
+    let at : IsOpen reader Judged read.text = subst (λ (r : Option TraceError). IsAt r reader Judged read.text) unrefused read.at in
+    record { events = at.events; judged = at.judged; is = found told read.is (ended read.text at.events at.stands) }
+  where
+    found : (t : Option Files) → IfSome t (λ files. read.text ≡ file_at files name) → {events : List Event} → ((end : TraceEnd) × IsTraceWithin read.text events end) → IfSome t (λ files. (end : TraceEnd) × IsTraceWithin (file_at files name) events end)
+    found None is within = tt
+    found (Some files) is {events} within = (within.0, subst (λ (w : List ℕ). IsTraceWithin w events within.0) is within.1)
 
-pub word_taken : (word text : List ℕ) → pointwise nat_eq (take (length word) text) word ≡ true → StandsFirst (λ w rest. Unit {0}) (λ w. word) text (drop (length word) text) (tt {0})
-word_taken word text same =
-    let front : take (length word) text ≡ word = same_text _ _ (sym same) in
-    let stands : text ≡ word ++ drop (length word) text = sym (take-append-drop (length word) text) ∙ ap (λ w. w ++ drop (length word) text) front in
-    record { fits = tt; stands = stands; only = λ w rest fits is. (refl, append_cancel_left word rest (drop (length word) text) (sym is ∙ stands)) }
+-- why a text that is the file's is refused
+pub trace_refused : (told : Option Files) (name : List ℕ) (refused : Option TraceError) (reader : TraceReader) (Judged : List Event → Type 0) (stop : Stop) (before after : ℕ) → IsReadWhole told name refused reader Judged → IsConcluded stop refused reader → StopsTrace stop told name before after
+trace_refused told name refused reader Judged stops.Usage before after read why = why
+trace_refused told name refused reader Judged (stops.Model line) before after read why = why
+trace_refused told name refused reader Judged (stops.Record line) before after read why =
+    (why.0, why.1, why.2, of_file told read.is)
+  where
+    here : IsTraceRefusal why.0 read.text
+    here = elim why.3 [
+      | inl is ↦
+          let shut : IsShut why.0 read.text = subst (λ (r : Option TraceError). IsAt r reader Judged read.text) is read.at in
+          let nothing : read.text ++ [] ≡ read.text = append-nil read.text in
+          subst (IsTraceRefusal why.0) nothing (shut.shown [] (subst (λ (w : List ℕ). length w ≤ longest) (sym nothing) read.short))
+      | inr is ↦
+          let at : IsOpen reader Judged read.text = subst (λ (r : Option TraceError). IsAt r reader Judged read.text) is.0 read.at in
+          is.1 read.text at.events at.stands
+    ]
 
-pub no_word : (word text rest : List ℕ) → pointwise nat_eq (take (length word) text) word ≡ false → text ≡ word ++ rest → ⊥
-no_word word text rest other is = other_text _ _ (sym other) (ap (take (length word)) is ∙ take_at word rest _ refl)
+    of_file : (t : Option Files) → IfSome t (λ files. read.text ≡ file_at files name) → IfSome t (λ files. IsTraceRefusal why.0 (file_at files name))
+    of_file None is = tt
+    of_file (Some files) is = subst (IsTraceRefusal why.0) is here
+trace_refused told name refused reader Judged stops.Read before after read why = absurd why
+trace_refused told name refused reader Judged stops.Write before after read why = why
+trace_refused told name refused reader Judged stops.OutOfMemory before after read why = tt
 
--- the bytes before a byte
+-- one piece more of the file
+pub piece_more : (told here : Option Files) (name text into : List ℕ) (given count next : ℕ) (refused : Option TraceError) (reader : TraceReader) (Judged : List Event → Type 0)
+    → here ≡ told → length text ≡ given → ReadsFront told name text → next ≡ given + count → count ≤ length into → ReadsPart here name given count into
+    → (length (text ++ take count into) ≤ longest → IsAt refused reader Judged (text ++ take count into))
+    → (t : List ℕ) × (length t ≡ next) × ReadsFront told name t × (length t ≤ longest → IsAt refused reader Judged t)
+piece_more told here name text into given count next refused reader Judged same long front is within part at = (
+  text ++ take count into,
+  omega (arith, long, is, within, length-append text (take count into), length-take count into),
+  ReadsFront-append told name text into given count (sym long) within front (subst (λ (f : Option Files). ReadsPart f name given count into) same part),
+  at,
+)
 
-Contains-first : (x : ℕ) (xs : List ℕ) (y : ℕ) → x ≡ y → Contains (x ∷ xs) y
-Contains-first x xs y same = (0, omega arith, same)
-
-Contains-later : (x : ℕ) (xs : List ℕ) (y : ℕ) → Contains xs y → Contains (x ∷ xs) y
-Contains-later x xs y has = (suc has.0, omega (arith, has.1), has.2)
-
-pub same_parts : (a b : List ℕ) (end : ℕ) (r s : List ℕ) → (Contains a end → ⊥) → (Contains b end → ⊥) → a ++ end ∷ r ≡ b ++ end ∷ s → (a ≡ b) × (r ≡ s)
-same_parts [] [] end r s in_a in_b is = (refl, cc)
-same_parts [] (y ∷ b) end r s in_a in_b is = absurd (in_b (Contains-first y b end cc))
-same_parts (x ∷ a) [] end r s in_a in_b is = absurd (in_a (Contains-first x a end cc))
-same_parts (x ∷ a) (y ∷ b) end r s in_a in_b is =
-    let tails : a ++ end ∷ r ≡ b ++ end ∷ s = cc in
-    let heads : x ≡ y = cc in
-    let more = same_parts a b end r s (λ has. in_a (Contains-later x a end has)) (λ has. in_b (Contains-later y b end has)) tails in
-    let first = more.0 in
-    (cc, more.1)
-
-pub before_taken : (text : List ℕ) (end i : ℕ) → slice_get text i ≡ Some end → (Contains (take i text) end → ⊥) → StandsFirst (λ word rest. Contains word end → ⊥) (λ word. word ++ end ∷ []) text (drop (i + 1) text) (take i text)
-before_taken text end i there lacks =
-    let within : i < length text = slice_get_within text i end there in
-    let front : take (i + 1) text ≡ take i text ++ end ∷ [] = take_more text i end within ∙ ap (λ x. take i text ++ x ∷ []) (get_or_from_slice_get text i end end there) in
-    let stands : text ≡ (take i text ++ end ∷ []) ++ drop (i + 1) text = sym (take-append-drop (i + 1) text) ∙ ap (λ w. w ++ drop (i + 1) text) front in
+-- no piece more of the file
+pub no_piece_more : (told here : Option Files) (name text into : List ℕ) (given count : ℕ) (refused : Option TraceError) (reader : TraceReader) (Judged : List Event → Type 0)
+    → here ≡ told → given ≤ longest → count ≡ 0 → length text ≡ given → ReadsFront told name text → ReadsPart here name given count into
+    → (length (text ++ take count into) ≤ longest → IsAt refused reader Judged (text ++ take count into))
+    → IsReadWhole told name refused reader Judged
+no_piece_more told here name text into given count refused reader Judged same few none long front part at =
+    let part' : ReadsPart told name given 0 into = subst (λ (n : ℕ). ReadsPart told name given n into) none (subst (λ (f : Option Files). ReadsPart f name given count into) same part) in
+    let nothing : text ++ take count into ≡ text = ap (λ (n : ℕ). text ++ take n into) none ∙ append-nil text in
+    let short : length text ≤ longest = omega (arith, long, few) in
+    let short' : length (text ++ take count into) ≤ longest = subst (λ (w : List ℕ). length w ≤ longest) (sym nothing) short in
     record {
-      fits = lacks;
-      stands = stands;
-      only = λ w rest in_w is.
-          same_parts w (take i text) end rest (drop (i + 1) text) in_w lacks (sym (append_assoc w (end ∷ []) rest) ∙ sym is ∙ stands ∙ append_assoc (take i text) (end ∷ []) (drop (i + 1) text));
+      text = text;
+      short = short;
+      is = whole_text told name text into given long front part';
+      at = subst (IsAt refused reader Judged) nothing (at short');
     }
 
--- numbers
+-- the events that a reader has given
 
-own : IsNumeralModel (AllDigits 10) (digits_value 10)
-own = numerals_by_value (AllDigits 10) tells_digits
+-- the number of the events, and that a file may hold them
+standing : (reader : TraceReader) (text : List ℕ) (events : List Event) → StandsForTrace reader text events → (length events ≤ most) × All IsWritten events
+standing reader text events stands = at_place reader.place stands.done stands.reached
+  where
+    at_place : (place : TracePlace) (done : List ℕ) → ReachesTrace place done events → (length events ≤ most) × All IsWritten events
+    at_place places.Start done at = (subst (λ (t : List Event). length t ≤ most) (sym at.1) (omega arith), subst (λ (t : List Event). All IsWritten t) (sym at.1) (λ k d less. absurd (omega (arith, less))))
+    at_place (places.Events n) done at = (at.few, at.written)
+    at_place (places.End n end) done at = (at.few, at.trace.written)
 
-decimal-lacks : (n end : ℕ) → n < 2 ^ 64 → (IsDigit end → ⊥) → Contains (decimal n) end → ⊥
-decimal-lacks n end small no_digit has =
-    not_in_digits own (decimal n) end (digits_decimal own n small) no_digit has.0 has.1 (get_or_default (decimal n) has.0 0 end has.1 ∙ has.2)
+pub standing_few : (reader : TraceReader) (text : List ℕ) (events : List Event) → StandsForTrace reader text events → length events ≤ most
+standing_few reader text events stands = (standing reader text events stands).0
 
-pub no_number : (text new : List ℕ) (end : ℕ) → (IsDigit end → ⊥) → Reads (λ word rest. Contains word end → ⊥) (λ word. word ++ end ∷ []) text new None → Reads (λ n rest. n < 2 ^ 32) (λ n. decimal n ++ end ∷ []) text new None
-no_number text new end no_digit none n rest small is = none (decimal n) rest (decimal-lacks n end (omega (arith, small)) no_digit) is
+written_recorded : (event : Event) → IsWritten event → IsRecorded event
+written_recorded (events.Sys name arguments outcome) written = written.1
+written_recorded (events.Pre site) written = tt
+written_recorded (events.Post site) written = tt
 
-pub number_taken : (text new word : List ℕ) (end : ℕ) (found : Option ℕ) → (IsDigit end → ⊥) → StandsFirst (λ word rest. Contains word end → ⊥) (λ word. word ++ end ∷ []) text new word → IfSome found (λ n. n < 2 ^ 32) → IfSome found (λ n. word ≡ decimal n) → IfNone found ((n : ℕ) → n < 2 ^ 32 → word ≡ decimal n → ⊥) → Reads (λ n rest. n < 2 ^ 32) (λ n. decimal n ++ end ∷ []) text new found
-number_taken text new word end None no_digit first small some none = λ n rest fits is.
-    let same = first.only (decimal n) rest (decimal-lacks n end (omega (arith, fits)) no_digit) is in
-    none n fits (sym same.0)
-number_taken text new word end (Some m) no_digit first small some none =
+pub given_recorded : (reader : TraceReader) (text : List ℕ) (before given : List Event) → StandsForTrace reader text (before ++ given) → All IsRecorded given
+given_recorded reader text before given stands = λ k d less.
+    let all = (standing reader text (before ++ given) stands).1 in
+    let here : slice_index_or (before ++ given) (length before + k) d ≡ slice_index_or given k d = get_or-append-add before given k d in
+    written_recorded (slice_index_or given k d) (subst IsWritten here (all (length before + k) d (omega (arith, less, length-append before given))))
+
+-- the next piece
+
+pub at_open : (refused : Option TraceError) (reader : TraceReader) (Judged : List Event → Type 0) (text : List ℕ) → refused ≡ None → IsAt refused reader Judged text → IsOpen reader Judged text
+at_open refused reader Judged text is at = subst (λ (r : Option TraceError). IsAt r reader Judged text) is at
+
+shut_more : (error : TraceError) (text piece : List ℕ) → IsShut error text → IsShut error (text ++ piece)
+shut_more error text piece shut =
     record {
-      fits = small;
-      stands = first.stands ∙ ap (λ w. (w ++ end ∷ []) ++ new) some;
-      only = λ n rest fits is.
-          let same = first.only (decimal n) rest (decimal-lacks n end (omega (arith, fits)) no_digit) is in
-          (decimal_injective n m (omega (arith, fits)) (omega (arith, small)) (same.0 ∙ some), same.1);
+      named = shut.named;
+      shown = λ more short.
+          let same : text ++ (piece ++ more) ≡ (text ++ piece) ++ more = sym (append_assoc text piece more) in
+          subst (IsTraceRefusal error) same (shut.shown (piece ++ more) (subst (λ (w : List ℕ). length w ≤ longest) (sym same) short));
     }
 
-signed-lacks : (z : ℤ) (end : ℕ) → FitsSigned w32 z → (IsDigit end → ⊥) → end ≢ 45 → Contains (signed_decimal z) end → ⊥
-signed-lacks (pos n) end fits no_digit no_minus has = decimal-lacks n end (omega (arith, fits.sfits)) no_digit has
-signed-lacks (negsuc n) end fits no_digit no_minus (zero, within, is) = no_minus (sym is)
-signed-lacks (negsuc n) end fits no_digit no_minus (suc k, within, is) = decimal-lacks (suc n) end (omega (arith, fits.sfits)) no_digit (k, omega (arith, within), is)
+pub at_more : (refused : Option TraceError) (error : TraceError) (reader : TraceReader) (Judged Later : List Event → Type 0) (text piece : List ℕ) → refused ≡ Some error → IsAt refused reader Judged text → IsAt refused reader Later (text ++ piece)
+at_more refused error reader Judged Later text piece is at =
+    subst (λ (r : Option TraceError). IsAt r reader Later (text ++ piece)) (sym is) (shut_more error text piece (subst (λ (r : Option TraceError). IsAt r reader Judged text) is at))
 
-pub no_int : (text new : List ℕ) (end : ℕ) → (IsDigit end → ⊥) → end ≢ 45 → Reads (λ word rest. Contains word end → ⊥) (λ word. word ++ end ∷ []) text new None → Reads (λ z rest. FitsSigned w32 z) (λ z. signed_decimal z ++ end ∷ []) text new None
-no_int text new end no_digit no_minus none z rest fits is = none (signed_decimal z) rest (signed-lacks z end fits no_digit no_minus) is
+-- nothing was read
 
-pub int_taken : (text new word : List ℕ) (end : ℕ) (found : Option ℤ) → (IsDigit end → ⊥) → end ≢ 45 → StandsFirst (λ word rest. Contains word end → ⊥) (λ word. word ++ end ∷ []) text new word → IfSome found (λ z. FitsSigned w32 z) → IfSome found (λ z. word ≡ signed_decimal z) → IfNone found ((z : ℤ) → FitsSigned w32 z → word ≡ signed_decimal z → ⊥) → Reads (λ z rest. FitsSigned w32 z) (λ z. signed_decimal z ++ end ∷ []) text new found
-int_taken text new word end None no_digit no_minus first range some none = λ z rest fits is.
-    let same = first.only (signed_decimal z) rest (signed-lacks z end fits no_digit no_minus) is in
-    none z fits (sym same.0)
-int_taken text new word end (Some y) no_digit no_minus first range some none =
-    record {
-      fits = range;
-      stands = first.stands ∙ ap (λ w. (w ++ end ∷ []) ++ new) some;
-      only = λ z rest fits is.
-          let same = first.only (signed_decimal z) rest (signed-lacks z end fits no_digit no_minus) is in
-          (signed_decimal_injective z y (omega (arith, fits.sfits)) (omega (arith, range.sfits)) (same.0 ∙ some), same.1);
-    }
+pub front_nil : (told : Option Files) (name : List ℕ) → ReadsFront told name []
+front_nil None name = tt
+front_nil (Some files) name = refl
 
--- the sign
-
-decimal-no_minus : (n : ℕ) (digits : List ℕ) → n < 2 ^ 64 → 45 ∷ digits ≡ decimal n → ⊥
-decimal-no_minus n digits small is =
-    let first : get_or (decimal n) 0 0 ≡ 45 = ap (λ w. get_or w 0 0) (sym is) in
-    not_in_digits own (decimal n) 45 (digits_decimal own n small) (λ within. omega arith) 0 (decimal_nonempty n small) first
-
-pub digits_after_minus : (z : ℤ) (digits : List ℕ) → FitsSigned w32 z → 45 ∷ digits ≡ signed_decimal z → (n : ℕ) × (0 < n) × (n ≤ 2 ^ 31) × (digits ≡ decimal n)
-digits_after_minus (pos n) digits fits is = absurd (decimal-no_minus n digits (omega (arith, fits.sfits)) is)
-digits_after_minus (negsuc n) digits fits is = (suc n, omega arith, omega (arith, fits.sfits), cc)
-
-pub digits_without_minus : (z : ℤ) (text : List ℕ) → FitsSigned w32 z → (get_or text 0 0 ≡ 45 → ⊥) → text ≡ signed_decimal z → (n : ℕ) × (n < 2 ^ 31) × (text ≡ decimal n)
-digits_without_minus (pos n) text fits plain is = (n, fits.sfits, is)
-digits_without_minus (negsuc n) text fits plain is = absurd (plain (ap (λ w. get_or w 0 0) is))
-
--- names of calls
-
--- the value that was found is the one whose text stands first
-pub reads_from : {V : Type 0} {Fits : V → List ℕ → Type 0} {text : V → List ℕ} {old new : List ℕ} (found : Option V) (v : V) → IsSome found → IfSome found (λ w. w ≡ v) → StandsFirst Fits text old new v → Reads Fits text old new found
-reads_from None v some is first = cc
-reads_from {Fits = Fits} {text = text} {old = old} {new = new} (Some w) v some is first = subst (StandsFirst Fits text old new) (sym is) first
-
-abbrev pub IsCall : ℕ → Type 0
-IsCall x = (x ≡ 14) ⊎ (x ≡ 15)
-
-same_call_text : (x y : ℕ) (r s : List ℕ) → IsCall x → IsCall y → (name_of x ++ 32 ∷ []) ++ r ≡ (name_of y ++ 32 ∷ []) ++ s → (x ≡ y) × (r ≡ s)
-unfolding table
-same_call_text x y r s (inl p) (inl q) is = (p ∙ sym q, ap (drop 7) (rw (p, q) at is))
-same_call_text x y r s (inl p) (inr q) is = absurd (true≢false (ap (λ w. nat_eq (get_or w 4 0) 105) (rw (p, q) at is)))
-same_call_text x y r s (inr p) (inl q) is = absurd (true≢false (ap (λ w. nat_eq (get_or w 4 0) 112) (rw (p, q) at is)))
-same_call_text x y r s (inr p) (inr q) is = (p ∙ sym q, ap (drop 8) (rw (p, q) at is))
-
-pub call_stands : (x : ℕ) (text new : List ℕ) → IsCall x → text ≡ (name_of x ++ 32 ∷ []) ++ new → StandsFirst (λ x rest. IsCall x) (λ x. name_of x ++ 32 ∷ []) text new x
-call_stands x text new fits stands =
-    record { fits = fits; stands = stands; only = λ y rest fits' is. same_call_text y x rest new fits' fits (sym is ∙ stands) }
-
-pub no_call : (text new : List ℕ) → ((rest : List ℕ) → text ≡ (name_of 14 ++ 32 ∷ []) ++ rest → ⊥) → ((rest : List ℕ) → text ≡ (name_of 15 ++ 32 ∷ []) ++ rest → ⊥) → Reads (λ x rest. IsCall x) (λ x. name_of x ++ 32 ∷ []) text new None
-no_call text new no_14 no_15 y rest (inl p) is = no_14 rest (rw p at is)
-no_call text new no_14 no_15 y rest (inr p) is = no_15 rest (rw p at is)
+pub begun : (told : Option Files) (name : List ℕ) (given : ℕ) (refused : Option TraceError) (reader : TraceReader) (Judged : List Event → Type 0) → given ≡ 0 → refused ≡ None → StandsForTrace reader [] [] → Judged [] → (text : List ℕ) × (length text ≡ given) × ReadsFront told name text × (length text ≤ longest → IsAt refused reader Judged text)
+begun told name given refused reader Judged none unrefused stands judged =
+    ([], sym none, front_nil told name, λ short. subst (λ (r : Option TraceError). IsAt r reader Judged []) (sym unrefused) (record { events = []; stands = stands; judged = judged }))

@@ -7,4 +7,4 @@ use Rattle.tool.specs.Command.Command.{Version, Help, Judge}
 abbrev pub asked_by : ReadCommand → Command
 asked_by read.Version = Version
 asked_by read.Help = Help
-asked_by (read.Judge model trace) = Judge model.now trace.now
+asked_by (read.Judge model trace which bound) = Judge model.now trace.now which bound

@@ -1,14 +1,9 @@
 pub mod Asked
 pub mod Command
 pub mod Commands
-pub mod EventText
 pub mod Frame
 pub mod Judge
-pub mod ModelReading
-pub mod ModelText
-pub mod NodeSet
+pub mod Judged
 pub mod Reading
+pub mod Refused
 pub mod Stop
-pub mod TraceReading
-pub mod TraceText
-pub mod VerdictLine

@@ -1,6 +1,19 @@
-ghost use Rattle.std.specs.Prelude.{[], ◌∷◌, map, string_bytes, IfSome, IfNone};
-ghost use Rattle.tool.specs.Command.{Command as AskedCommand, IsCommandLine};
+ghost use Rattle.std.specs.Prelude.{◌≡◌, ◌≤◌, ◌⊎◌, ℕ, List, [], ◌∷◌, map, string_bytes, decimal, IfSome, IfNone};
+ghost use Rattle.tool.specs.Command.{Command as AskedCommand, IsCommandLine, IsAskedBy, asked_word};
+ghost use Rattle.tool.specs.declared.command.Asked.{Asked as AnyAsked};
 ghost use Rattle.tool.specs.Asked.{asked_by};
+
+use dm_base::read_u32;
+
+/// The monitors that a command line asks for.
+#[derive(Clone, Copy, Debug, PartialEq, Eq)]
+pub enum Asked {
+    Callgraph,
+    Stack,
+    Dyck,
+    /// All three, in this order.
+    All,
+}
 
 /// What the words ask for.
 #[derive(Clone, Copy, Debug, PartialEq, Eq)]
@@ -9,9 +22,21 @@ pub enum Command<'a> {
     Version,
     /// The text on the commands.
     Help,
-    /// The verdict of the callgraph model in a file on the trace in another.
-    Judge { model: &'a str, trace: &'a str },
+    /// The verdicts of monitors of the model in a file on the trace in another, where at most so many
+    /// calls may be open at once in the Dyck model.
+    Judge {
+        model: &'a str,
+        trace: &'a str,
+        asked: Asked,
+        bound: u32,
+    },
 }
+
+// The bound of the Dyck model where none is given.
+const USUAL_BOUND: u32 = 1_000;
+
+// The greatest bound.
+const GREATEST_BOUND: u32 = 65_535;
 
 /// The command of these words, or None where they are no command line.
 pub fn command_of(words: &[String]) -> Option<Command<'_>>
@@ -21,7 +46,7 @@ pub fn command_of(words: &[String]) -> Option<Command<'_>>
     match words {
         [] => Some(Command::Version),
         [word] => option_of(word),
-        [word, model, trace, which] => judge_of(word, model, trace, which),
+        [word, model, trace, asked @ ..] => judge_of(word, model, trace, asked),
         _ => None,
     }
 }
@@ -40,14 +65,74 @@ fn option_of<'a>(word: &str) -> Option<Command<'a>>
     None
 }
 
-// A command of four words.
-fn judge_of<'a>(word: &str, model: &'a str, trace: &'a str, which: &str) -> Option<Command<'a>>
-    ensures some { IfSome result (λ command. IsCommandLine (asked_by command) (word.now ∷ model.now ∷ trace.now ∷ which.now ∷ [])) }
-    ensures none { IfNone result ((c : AskedCommand) → IsCommandLine c (word.now ∷ model.now ∷ trace.now ∷ which.now ∷ []) → ⊥) }
+// The monitors that the word asks for.
+fn asked_of(word: &str) -> Option<Asked>
+    ensures some { IfSome result (λ asked. word.now ≡ asked_word asked) }
+    ensures none { IfNone result ((asked : AnyAsked) → word.now ≡ asked_word asked → ⊥) }
 {
-    if word == "judge" && which == "callgraph" {
-        Some(Command::Judge { model, trace })
+    if word == "callgraph" {
+        return Some(Asked::Callgraph);
+    }
+    if word == "stack" {
+        return Some(Asked::Stack);
+    }
+    if word == "dyck" {
+        return Some(Asked::Dyck);
+    }
+    if word == "all" {
+        return Some(Asked::All);
+    }
+    None
+}
+
+// The bound that the word is.
+fn bound_of(word: &str) -> Option<u32>
+    ensures some { IfSome result (λ bound. (word.now ≡ decimal bound) × (1 ≤ bound) × (bound ≤ 65535)) }
+    ensures none { IfNone result ((bound : ℕ) → word.now ≡ decimal bound → 1 ≤ bound → bound ≤ 65535 → ⊥) }
+{
+    let bound = read_u32(word.as_bytes())?;
+    if 1 <= bound && bound <= GREATEST_BOUND {
+        Some(bound)
     } else {
         None
     }
+}
+
+// What is asked for: which monitors, and up to which bound.
+fn asked_for(words: &[String]) -> Option<(Asked, u32)>
+    ensures some { IfSome result (λ found. IsAskedBy found.0 found.1 (map string_bytes words.now)) }
+    ensures none { IfNone result ((asked : AnyAsked) (bound : ℕ) → IsAskedBy asked bound (map string_bytes words.now) → ⊥) }
+{
+    match words {
+        [which] => Some((asked_of(which)?, USUAL_BOUND)),
+        [which, bound] => bounded(which, bound),
+        _ => None,
+    }
+}
+
+// Which monitors are asked for, up to the bound that the second word is.
+fn bounded(which: &str, bound: &str) -> Option<(Asked, u32)>
+    ensures some { IfSome result (λ found. IsAskedBy found.0 found.1 (which.now ∷ bound.now ∷ [])) }
+    ensures none { IfNone result ((asked : AnyAsked) (number : ℕ) → IsAskedBy asked number (which.now ∷ bound.now ∷ []) → ⊥) }
+{
+    let asked = asked_of(which)?;
+    let number = bound_of(bound)?;
+    Some((asked, number))
+}
+
+// A command of a word, two files, and what is asked for.
+fn judge_of<'a>(word: &str, model: &'a str, trace: &'a str, words: &[String]) -> Option<Command<'a>>
+    ensures some { IfSome result (λ command. IsCommandLine (asked_by command) (word.now ∷ model.now ∷ trace.now ∷ map string_bytes words.now)) }
+    ensures none { IfNone result ((c : AskedCommand) → IsCommandLine c (word.now ∷ model.now ∷ trace.now ∷ map string_bytes words.now) → ⊥) }
+{
+    if word != "judge" {
+        return None;
+    }
+    let (asked, bound) = asked_for(words)?;
+    Some(Command::Judge {
+        model,
+        trace,
+        asked,
+        bound,
+    })
 }

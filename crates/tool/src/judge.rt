@@ -1,85 +1,121 @@
-ghost use Rattle.std.specs.Prelude.{◌≡◌, ◌≤◌, [], All, IfOk, IfErr, IfSome};
-ghost use Rattle.dm_io.specs.Store.{IsMissing, file_at};
-ghost use Rattle.sys_table.specs.Table.{IsRecorded};
+ghost use Rattle.std.specs.Prelude.{◌≡◌, ◌≤◌, ◌<◌, ◌^◌, ℕ, List, IfOk, IfErr, IfSome};
+ghost use Rattle.dm_io.specs.Store.{file_at};
+ghost use Rattle.model_file.specs.Refusal.{IsModel};
+ghost use Rattle.tool.specs.Command.{monitors_of};
 ghost use Rattle.tool.specs.Commands.{IsFinished};
-ghost use Rattle.tool.specs.Judge.{Judges, IsAModel, IsATrace};
-ghost use Rattle.tool.specs.ModelText.{IsThinModel};
-ghost use Rattle.tool.specs.TraceText.{IsThinTrace, IsThinEvent};
-ghost use Rattle.tool.specs.Stop.{StopsJudging, StopsReading};
-ghost use Rattle.tool.specs.VerdictLine.{status_of};
+ghost use Rattle.tool.specs.Judge.{Judges};
+ghost use Rattle.tool.specs.Reading.{AreTraceJudged, IsStopOfModel, StopsTrace, StopsModel};
+ghost use Rattle.tool.specs.Stop.{StopsJudging};
 
-use crate::judging::judge_callgraph;
-use crate::model_text::read_thin_model;
-use crate::run::Finished;
+use crate::command::Asked;
+use crate::finished::Finished;
+use crate::judging::Judging;
+use crate::pair::Pair;
+use crate::panel::Panel;
+use crate::reading::judge_trace;
+use crate::refusals::model_line;
 use crate::stop::Stop;
-use crate::trace_text::read_thin_trace;
-use crate::verdict_line::verdict_line;
-use dm_base::{Event, Status, Verdict};
+use callgraph_monitor::CallgraphMonitor;
 use dm_io::{Store, read_whole};
-use flow_model::{Model, Which};
+use dyck_monitor::DyckMonitor;
+use flow_model::Model;
+use model_file::{ModelError, read_model};
+use stack_automaton::StackMonitor;
 use std::alloc::Global;
 
-// One byte more than a file of the thin forms may have.
-const MOST: usize = 65_537;
+// The three monitors, in the order of their lines.
+type All = Pair<Judging<CallgraphMonitor>, Pair<Judging<StackMonitor>, Judging<DyckMonitor>>>;
+
+// One byte more than a model may have.
+const MOST: usize = 16_777_217;
 
 // The model in a file.
 fn model_in<S: Store>(alloc: Global, store: &mut S, name: &str) -> Result<Model, Stop>
-    ensures model { IfOk result (λ m. IfSome (S.files store.old) (λ told. IsThinModel (file_at told name.now) m)) }
-    ensures calls { IfOk result (λ m. m.calls ≡ []) }
-    ensures stop { IfErr result (λ stop. StopsReading Stop.Model stop (IsMissing (S.files store.old) name.now) (IfSome (S.files store.old) (λ told. IsAModel told name.now → ⊥)) (S.faults store.old) (S.faults store.new)) }
+    ensures model { IfOk result (λ m. IfSome (S.files store.old) (λ told. IsModel (file_at told name.now) m)) }
+    ensures stop { IfErr result (λ stop. StopsModel stop (S.files store.old) name.now (S.faults store.old) (S.faults store.new)) }
     ensures same { S.files store.new ≡ S.files store.old }
     ensures never_falls { S.faults store.old ≤ S.faults store.new }
 {
     let text = read_whole(alloc, store, name, MOST)?;
-    match read_thin_model(alloc, &text)? {
-        Some(model) => Ok(model),
-        None => Err(Stop::Model),
+    match read_model(alloc, &text) {
+        Ok(model) => Ok(model),
+        Err(error) => Err(refused_with(alloc, error)),
     }
 }
 
-// The events in a file.
-fn trace_in<S: Store>(alloc: Global, store: &mut S, name: &str) -> Result<Vec<Event>, Stop>
-    ensures trace { IfOk result (λ t. IfSome (S.files store.old) (λ told. IsThinTrace (file_at told name.now) t.items)) }
-    ensures recorded { IfOk result (λ t. All IsRecorded t.items) }
-    ensures calls { IfOk result (λ t. All IsThinEvent t.items) }
-    ensures stop { IfErr result (λ stop. StopsReading Stop.Trace stop (IsMissing (S.files store.old) name.now) (IfSome (S.files store.old) (λ told. IsATrace told name.now → ⊥)) (S.faults store.old) (S.faults store.new)) }
-    ensures same { S.files store.new ≡ S.files store.old }
+// The stop of a refused model.
+fn refused_with(alloc: Global, error: ModelError) -> Stop
+    ensures { IsStopOfModel result error }
+{
+    if error == ModelError::OutOfMemory {
+        return Stop::OutOfMemory;
+    }
+    match model_line(alloc, error) {
+        Ok(line) => Stop::Model(line),
+        Err(_) => Stop::OutOfMemory,
+    }
+}
+
+// Has the monitors of a panel judge the trace in a file.
+fn judge_by<S: Store, P: Panel>(
+    alloc: Global,
+    store: &mut S,
+    model: &Model,
+    trace: &str,
+    bound: u32,
+) -> Result<Finished, Stop>
+    requires { (1 ≤ bound) × (bound < 2 ^ 16) }
+    ensures judged { IfOk result (λ done. AreTraceJudged (S.files store.old) trace.now P.monitors model.now bound done.status done.text.items) }
+    ensures stop { IfErr result (λ stop. StopsTrace stop (S.files store.old) trace.now (S.faults store.old) (S.faults store.new)) }
     ensures never_falls { S.faults store.old ≤ S.faults store.new }
 {
-    let text = read_whole(alloc, store, name, MOST)?;
-    match read_thin_trace(alloc, &text)? {
-        Some(events) => Ok(events),
-        None => Err(Stop::Trace),
-    }
+    let mut panel = P::open(alloc, model, bound)?;
+    judge_trace(alloc, store, trace, &mut panel, model)?;
+    let finished = panel.finish(alloc)?;
+    Ok(finished)
 }
 
-fn status_of_verdict(verdict: Verdict) -> Status
-    ensures { result ≡ status_of verdict }
+// Has the monitors that are asked for judge the trace in a file.
+fn judge_asked<S: Store>(
+    alloc: Global,
+    store: &mut S,
+    model: &Model,
+    trace: &str,
+    asked: Asked,
+    bound: u32,
+) -> Result<Finished, Stop>
+    requires { (1 ≤ bound) × (bound < 2 ^ 16) }
+    ensures judged { IfOk result (λ done. AreTraceJudged (S.files store.old) trace.now (monitors_of asked) model.now bound done.status done.text.items) }
+    ensures stop { IfErr result (λ stop. StopsTrace stop (S.files store.old) trace.now (S.faults store.old) (S.faults store.new)) }
+    ensures never_falls { S.faults store.old ≤ S.faults store.new }
 {
-    match verdict {
-        Verdict::Accepted { .. } => Status::Done,
-        Verdict::Rejected { .. } => Status::Rejected,
-        Verdict::Bound { .. } => Status::Bound,
+    match asked {
+        Asked::Callgraph => {
+            judge_by::<S, Judging<CallgraphMonitor>>(alloc, store, model, trace, bound)
+        }
+        Asked::Stack => judge_by::<S, Judging<StackMonitor>>(alloc, store, model, trace, bound),
+        Asked::Dyck => judge_by::<S, Judging<DyckMonitor>>(alloc, store, model, trace, bound),
+        Asked::All => judge_by::<S, All>(alloc, store, model, trace, bound),
     }
 }
 
-/// Judges the trace in a file by the callgraph model in another.
+/// Judges the trace in a file by the monitors that are asked for, of the model in another.
 pub fn judge<S: Store>(
     alloc: Global,
     store: &mut S,
     model: &str,
     trace: &str,
+    asked: Asked,
+    bound: u32,
 ) -> Result<Finished, Stop>
-    ensures judged { IfOk result (λ done. IfSome (S.files store.old) (λ told. Judges told model.now trace.now done.status done.text.items)) }
+    requires { (1 ≤ bound) × (bound < 2 ^ 16) }
+    ensures judged { IfOk result (λ done. IfSome (S.files store.old) (λ told. Judges told model.now trace.now (monitors_of asked) bound done.status done.text.items)) }
     ensures finished { IfOk result (λ done. IsFinished done.status) }
     ensures stop { IfErr result (λ stop. StopsJudging stop (S.files store.old) model.now trace.now (S.faults store.old) (S.faults store.new)) }
 {
     let graph = model_in(alloc, store, model)?;
-    let events = trace_in(alloc, store, trace)?;
-    let verdict = judge_callgraph(alloc, &graph, &events)?;
-    let text = verdict_line(alloc, Which::Callgraph, verdict, &events)?;
-    Ok(Finished {
-        status: status_of_verdict(verdict),
-        text,
-    })
+    match judge_asked(alloc, store, &graph, trace, asked, bound) {
+        Ok(finished) => Ok(finished),
+        Err(stop) => Err(stop),
+    }
 }

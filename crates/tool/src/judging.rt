@@ -1,190 +1,162 @@
-ghost use Rattle.std.specs.Prelude.{◌≡◌, ◌<◌, ◌↔◌, ℕ, [], length, IfOk};
-ghost use Rattle.flow_model.specs.declared.which.Which.TheVariants.{Callgraph};
+ghost use Rattle.std.specs.Prelude.{◌≡◌, ◌≤◌, ◌<◌, ◌^◌, ℕ, List, [], ◌∷◌, ◌++◌, length, Option, None, Some, IfOk, OnOk, IfSome};
+ghost use Rattle.std.specs.Option.{option_copied};
+ghost use Rattle.dm_base.specs.declared.event.Event.{Event};
 ghost use Rattle.flow_model.specs.Graph.{Graph};
-ghost use Rattle.flow_model.specs.Verdict.{IsVerdict};
-ghost use Rattle.tool.specs.NodeSet.{IsIn, IsFlat, AreSilentBelow, AreSysBelow};
-ghost use Rattle.tool.specs.VerdictLine.{IsPlaced, IsWithin};
+ghost use Rattle.flow_model.specs.Verdict.{IsAccepted, IsStep, IsVerdict};
+ghost use Rattle.report.specs.VerdictLine.{verdict_text, IsGiven, event_at};
+ghost use Rattle.sys_table.specs.Table.{IsRecorded};
+ghost use Rattle.tool.specs.Judged.{status_of};
+ghost use Rattle.tool.specs.Refused.{IsRefusedAt, IsKeptWhole, HasComeTo};
+ghost use Rattle.trace_file.specs.Trace.{most};
 
-use crate::node_set::{begin, go_on, is_any};
-use dm_base::{Event, OutOfMemory, Verdict};
-use flow_model::{Model, SilentEdge, SysEdge};
+use crate::finished::Finished;
+use crate::panel::Panel;
+use dm_base::{Event, OutOfMemory, Status, Step, Verdict};
+use flow_model::{Model, Monitor, Which};
+use report::verdict_line;
 use std::alloc::Global;
 
-/// The verdict of the callgraph model (Wagner and Dean 2001) on the events, for a model without
-/// call edges. Events are counted from 1, null calls among them. It keeps two flags for each node;
-/// an event takes at most as many rounds over the silent edges as there are nodes. The error is
-/// that memory was refused.
-pub fn judge_callgraph(
-    alloc: Global,
+// After so many events the pool is swept.
+const SWEPT_AFTER: u64 = 1_024;
+
+/// A verdict that is not Accepted, and the event at which it came.
+#[derive(Drop)]
+pub struct Refused {
+    pub verdict: Verdict,
+    pub event: Event,
+}
+
+/// One monitor with a pool of its own, how many events it has kept, and where it refused the trace.
+#[derive(Drop)]
+pub struct Judging<M: Monitor> {
+    pool: M::Pool,
+    monitor: M,
+    kept: u64,
+    refused: Option<Refused>,
+}
+
+// Marks the monitor and sweeps its pool. Where memory is refused the pool stays unswept.
+fn sweep<M: Monitor>(monitor: &M, pool: &mut M::Pool)
+    requires { (g : Graph) × (k : ℕ) × (h : List Event) × M.is_pool pool.old g × M.stands monitor.now pool.old g k h × M.noted pool.old g [] }
+    ensures pool { (g : Graph) → M.is_pool pool.old g → M.is_pool pool.new g }
+    ensures stands { (g : Graph) (k : ℕ) (h : List Event) → M.is_pool pool.old g → M.noted pool.old g [] → M.stands monitor.now pool.old g k h → M.stands monitor.now pool.new g k h }
+    ensures notes { (g : Graph) → M.is_pool pool.old g → M.noted pool.old g [] → M.noted pool.new g [] }
+{
+    match monitor.mark(pool) {
+        Ok(()) => M::sweep(pool),
+        Err(_) => {}
+    }
+}
+
+// Feeds the event that follows so many kept ones, and sweeps the pool after each 1,024th.
+fn feed_next<M: Monitor>(
+    monitor: &mut M,
+    pool: &mut M::Pool,
     model: &Model,
-    events: &[Event],
-) -> Result<Verdict, OutOfMemory>
-    requires { model.now.calls ≡ [] }
-    ensures exact { IfOk result (λ v. (bound : ℕ) → IsVerdict Callgraph model.now bound events.now v) }
-    ensures placed { IfOk result (λ v. IsPlaced v) }
-    ensures within { IfOk result (λ v. IsWithin (length events.now) v) }
+    event: &Event,
+    kept: u64,
+) -> Result<Step, OutOfMemory>
+    requires pool { M.is_pool pool.old model.now }
+    requires stands { (k : ℕ) × (h : List Event) × M.stands monitor.old pool.old model.now k h }
+    requires notes { M.noted pool.old model.now [] }
+    requires few { kept < most }
+    ensures pool { M.is_pool pool.new model.now }
+    ensures notes { OnOk result (M.noted pool.new model.now []) }
+    ensures stands { OnOk result ((k : ℕ) (h : List Event) → M.stands monitor.old pool.old model.now k h → M.stands monitor.new pool.new model.now k (h ++ event.now ∷ [])) }
+    ensures exact { IfOk result (λ step. (k : ℕ) (h : List Event) → M.stands monitor.old pool.old model.now k h → IsStep M.WHICH model.now k (h ++ event.now ∷ []) step) }
 {
-    let start = &model.functions()[model.start() as usize];
-    judge_edges(
-        alloc,
-        model.nodes(),
-        start.entry,
-        model.silent(),
-        model.sys(),
-        events,
-    )
+    let step = monitor.feed(pool, model, event)?;
+    if (kept + 1) % SWEPT_AFTER == 0 {
+        sweep(monitor, pool);
+    }
+    Ok(step)
 }
 
-// The verdict of the callgraph model on the events, for a model with so many nodes and with these
-// edges, without call edges, whose start function begins at this node.
-fn judge_edges(
+// The line of the verdict, and its status.
+fn told(
     alloc: Global,
-    nodes: u32,
-    entry: u32,
-    silent: &[SilentEdge],
-    sys: &[SysEdge],
-    events: &[Event],
-) -> Result<Verdict, OutOfMemory>
-    requires entry { entry < nodes }
-    requires silent { AreSilentBelow nodes silent.now }
-    requires sys { AreSysBelow nodes sys.now }
-    ensures exact { IfOk result (λ v. (g : Graph) (bound : ℕ) → IsFlat g entry silent.now sys.now → IsVerdict Callgraph g bound events.now v) }
-    ensures placed { IfOk result (λ v. IsPlaced v) }
-    ensures within { IfOk result (λ v. IsWithin (length events.now) v) }
+    which: Which,
+    verdict: Verdict,
+    event: Option<&Event>,
+) -> Result<Finished, OutOfMemory>
+    requires given { IsGiven verdict (option_copied event) }
+    requires recorded { IfSome event (λ e. IsRecorded e.now) }
+    ensures status { IfOk result (λ done. done.status ≡ status_of verdict) }
+    ensures text { IfOk result (λ done. done.text.items ≡ verdict_text which verdict (option_copied event.entry)) }
 {
-    let mut set = no_nodes(alloc, nodes)?;
-    let mut next = no_nodes(alloc, nodes)?;
-    Ok(judge_from(&mut set, &mut next, entry, silent, sys, events))
+    let text = verdict_line(alloc, which, &verdict, event)?;
+    Ok(Finished {
+        status: status_of(verdict),
+        text,
+    })
 }
 
-// The empty set of so many nodes.
-fn no_nodes(alloc: Global, nodes: u32) -> Result<Vec<bool>, OutOfMemory>
-    ensures len { IfOk result (λ set. length set.items ≡ nodes) }
-    ensures empty { IfOk result (λ set. (a : ℕ) → IsIn set.items a → ⊥) }
+// The status of the verdict alone.
+fn status_of(verdict: Verdict) -> Status
+    ensures { result ≡ status_of verdict }
 {
-    Ok(vec![in alloc; false; nodes as usize]?)
+    match verdict {
+        Verdict::Accepted { .. } => Status::Done,
+        Verdict::Rejected { .. } => Status::Rejected,
+        Verdict::Bound { .. } => Status::Bound,
+    }
 }
 
-// The verdict, with room for two sets of nodes, the first of them empty.
-fn judge_from(
-    set: &mut [bool],
-    next: &mut [bool],
-    entry: u32,
-    silent: &[SilentEdge],
-    sys: &[SysEdge],
-    events: &[Event],
-) -> Verdict
-    requires empty { (a : ℕ) → IsIn set.old a → ⊥ }
-    requires long { length set.old ≡ length next.old }
-    requires entry { entry < length set.old }
-    requires silent { AreSilentBelow (length set.old) silent.now }
-    requires sys { AreSysBelow (length set.old) sys.now }
-    ensures exact { (g : Graph) (bound : ℕ) → IsFlat g entry silent.now sys.now → IsVerdict Callgraph g bound events.now result }
-    ensures placed { IsPlaced result }
-    ensures within { IsWithin (length events.now) result }
+// What is kept of a refusal: its verdict, and a copy of the event.
+fn refusal(alloc: Global, verdict: Verdict, event: &Event) -> Result<Refused, OutOfMemory>
+    ensures { IfOk result (λ r. r ≡ record { verdict = verdict; event = event.now }) }
 {
-    begin(set, entry, silent);
-    let mut count = 0;
-    for event in events {
-        go_on(set, next, silent, sys, event);
-        count += 1;
-        if !is_any(set) {
-            return Verdict::Rejected { at: count };
+    Ok(Refused {
+        verdict,
+        event: event.copy(alloc)?,
+    })
+}
+
+impl<M: Monitor> Panel for Judging<M> {
+    ghost monitors = { M.WHICH ∷ [] };
+
+    ghost judged = { λ j g k h. M.is_pool j.pool g × M.noted j.pool g [] × HasComeTo (M.stands j.monitor j.pool g k h) M.WHICH g k h j.kept j.refused };
+
+    fn open(alloc: Global, model: &Model, bound: u32) -> Result<Self, OutOfMemory> {
+        let mut pool = M::pool(alloc, model)?;
+        let monitor = M::open(&mut pool, model, bound)?;
+        Ok(Judging {
+            pool,
+            monitor,
+            kept: 0,
+            refused: None,
+        })
+    }
+
+    fn take(&mut self, alloc: Global, model: &Model, event: &Event) -> Result<(), OutOfMemory> {
+        match &self.refused {
+            Some(_) => return Ok(()),
+            None => {}
         }
-    }
-    Verdict::Accepted { events: count }
-}
-
-#[cfg(test)]
-mod tests {
-    use super::*;
-    use dm_base::{Arg, ArgList, Pattern, SysName};
-    use std::test::Fail;
-
-    // The number of `close`, which has one recorded argument, a descriptor.
-    const CLOSE: u8 = 3;
-
-    // The number of `getpid`, which has none.
-    const GETPID: u8 = 14;
-
-    fn getpid() -> Option<Event> {
-        Some(Event::Sys {
-            name: SysName::from_index(GETPID)?,
-            args: ArgList::new(),
-            result: 100,
-        })
-    }
-
-    fn close(descriptor: i64) -> Option<Event> {
-        let mut args = ArgList::new();
-        args.push(Arg::Int(descriptor));
-        Some(Event::Sys {
-            name: SysName::from_index(CLOSE)?,
-            args,
-            result: 0,
-        })
-    }
-
-    #[test]
-    fn accepts_one_call_and_rejects_a_second(rt: HostRuntime) -> Result<(), Fail> {
-        let alloc = rt.alloc();
-        let name = SysName::from_index(GETPID).ok_or("a name")?;
-        let edge = SysEdge {
-            from: 0,
-            name,
-            to: 1,
-            args: Pattern::any(0),
-        };
-        let events = [getpid().ok_or("an event")?, getpid().ok_or("an event")?];
-        let none = judge_edges(alloc, 2, 0, &[], &[edge], &events[..0])?;
-        assert_eq!(rt; none, Verdict::Accepted { events: 0 });
-        let one = judge_edges(alloc, 2, 0, &[], &[edge], &events[..1])?;
-        assert_eq!(rt; one, Verdict::Accepted { events: 1 });
-        let two = judge_edges(alloc, 2, 0, &[], &[edge], &events)?;
-        assert_eq!(rt; two, Verdict::Rejected { at: 2 });
+        let step = feed_next(&mut self.monitor, &mut self.pool, model, event, self.kept)?;
+        match step {
+            Step::Kept => self.kept += 1,
+            Step::Rejected => {
+                let at = self.kept + 1;
+                self.refused = Some(refusal(alloc, Verdict::Rejected { at }, event)?);
+            }
+            Step::Bound => {
+                let at = self.kept + 1;
+                self.refused = Some(refusal(alloc, Verdict::Bound { at }, event)?);
+            }
+        }
         Ok(())
     }
 
-    #[test]
-    fn goes_along_silent_edges_and_passes_over_null_calls(rt: HostRuntime) -> Result<(), Fail> {
-        let alloc = rt.alloc();
-        let name = SysName::from_index(GETPID).ok_or("a name")?;
-        let silent = [SilentEdge { from: 2, to: 1 }, SilentEdge { from: 0, to: 2 }];
-        let edge = SysEdge {
-            from: 1,
-            name,
-            to: 3,
-            args: Pattern::any(0),
-        };
-        let events = [
-            Event::Pre(7),
-            getpid().ok_or("an event")?,
-            Event::Post(7),
-            getpid().ok_or("an event")?,
-        ];
-        let kept = judge_edges(alloc, 4, 0, &silent, &[edge], &events[..3])?;
-        assert_eq!(rt; kept, Verdict::Accepted { events: 3 });
-        let left = judge_edges(alloc, 4, 0, &silent, &[edge], &events)?;
-        assert_eq!(rt; left, Verdict::Rejected { at: 4 });
-        Ok(())
-    }
-
-    #[test]
-    fn looks_at_the_arguments(rt: HostRuntime) -> Result<(), Fail> {
-        let alloc = rt.alloc();
-        let name = SysName::from_index(CLOSE).ok_or("a name")?;
-        let mut args = Pattern::any(1);
-        args.set(0, 3);
-        let edge = SysEdge {
-            from: 0,
-            name,
-            to: 1,
-            args,
-        };
-        let three = judge_edges(alloc, 2, 0, &[], &[edge], &[close(3).ok_or("an event")?])?;
-        assert_eq!(rt; three, Verdict::Accepted { events: 1 });
-        let four = judge_edges(alloc, 2, 0, &[], &[edge], &[close(4).ok_or("an event")?])?;
-        assert_eq!(rt; four, Verdict::Rejected { at: 1 });
-        Ok(())
+    fn finish(self, alloc: Global) -> Result<Finished, OutOfMemory> {
+        match &self.refused {
+            None => told(
+                alloc,
+                M::WHICH,
+                Verdict::Accepted { events: self.kept },
+                None,
+            ),
+            Some(refused) => told(alloc, M::WHICH, refused.verdict, Some(&refused.event)),
+        }
     }
 }

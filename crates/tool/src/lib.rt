@@ -2,18 +2,15 @@
 #![tactic(auto)]
 
 mod command;
-mod cursor;
-mod event_text;
+mod finished;
 mod judge;
 mod judging;
-mod model_text;
-mod node_set;
-mod number;
+mod pair;
+mod panel;
+mod reading;
+mod refusals;
 mod run;
 mod stop;
-mod trace_text;
-mod verdict_line;
-mod writing;
 
 pub use run::{run_in_memory, run_tool};
 

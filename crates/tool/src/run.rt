@@ -6,23 +6,17 @@ ghost use Rattle.tool.specs.Frame.{call_of, HasCause, Writes, Reports, IsAsked, 
 ghost use Rattle.tool.specs.Stop.{line_of, status_of_stop, HasStop, IsWorked};
 
 use crate::command::{Command, command_of};
+use crate::finished::Finished;
 use crate::judge::judge;
 use crate::stop::Stop;
 use dm_base::{OutOfMemory, Status};
 use dm_io::{HonestSink, HonestStore, Sink, Store, write_whole};
 use std::alloc::Global;
 
-/// A text that was made whole, and the status with which the tool ends once it is written.
-#[derive(Drop)]
-pub struct Finished {
-    pub status: Status,
-    pub text: Vec<u8>,
-}
-
 const VERSION_TEXT: &[u8] = b"dyckmon 1\n";
 
 const HELP_TEXT: &[u8] =
-    b"dyckmon, --version: the version\n--help: this text\njudge MODEL TRACE callgraph: the verdict of the callgraph model in the file MODEL on the trace in the file TRACE\n";
+    b"dyckmon, --version: the version\n--help: this text\njudge MODEL TRACE WHICH [K]: the verdict of the model WHICH (callgraph, stack, dyck, or all three by all) in the file MODEL on the trace in the file TRACE; in the Dyck model at most K calls may be open at once, 1 to 65535, or 1000 without K\n";
 
 // A text that no file decides.
 fn done(alloc: Global, text: &[u8]) -> Result<Finished, OutOfMemory>
@@ -44,14 +38,21 @@ fn work<S: Store>(alloc: Global, words: &[String], store: &mut S) -> Result<Fini
         None => Err(Stop::Usage),
         Some(Command::Version) => Ok(done(alloc, VERSION_TEXT)?),
         Some(Command::Help) => Ok(done(alloc, HELP_TEXT)?),
-        Some(Command::Judge { model, trace }) => judge(alloc, store, model, trace),
+        Some(
+            Command::Judge {
+                model,
+                trace,
+                asked,
+                bound,
+            },
+        ) => judge(alloc, store, model, trace, asked, bound),
     }
 }
 
 // Writes the line of a stop on err, and gives the status. A failed write changes no status.
-fn refuse<E: Sink>(err: &mut E, stop: Stop) -> Status
-    ensures status { result ≡ status_of_stop stop }
-    ensures line { TakesLine (E.faults err.old) (E.faults err.new) (E.taken err.old) (E.taken err.new) (line_of stop) }
+fn refuse<E: Sink>(err: &mut E, stop: &Stop) -> Status
+    ensures status { result ≡ status_of_stop stop.now }
+    ensures line { TakesLine (E.faults err.old) (E.faults err.new) (E.taken err.old) (E.taken err.new) (line_of stop.now) }
 {
     let _ = write_whole(err, stop.line());
     stop.status()
@@ -81,10 +82,10 @@ pub fn run_tool<S: Store, O: Sink, E: Sink>(
 {
     let finished = match work(alloc, words, store) {
         Ok(finished) => finished,
-        Err(stop) => return refuse(err, stop),
+        Err(stop) => return refuse(err, &stop),
     };
     if write_whole(out, &finished.text).is_err() {
-        return refuse(err, Stop::Write);
+        return refuse(err, &Stop::Write);
     }
     finished.status
 }

@@ -2,17 +2,17 @@ ghost use Rattle.std.specs.Prelude.{◌≡◌};
 ghost use Rattle.tool.specs.Stop.{line_of, status_of_stop, stop_of_read, no_memory};
 
 use dm_base::{OutOfMemory, Status};
-use dm_io::ReadError;
+use dm_io::{ReadError, ReadFail};
 
 /// Why nothing was written.
-#[derive(Clone, Copy, Debug, PartialEq, Eq)]
+#[derive(Debug, Drop)]
 pub enum Stop {
     /// The words are no command line.
     Usage,
-    /// The model's bytes are not of the thin form.
-    Model,
-    /// The trace's bytes are not of the thin form.
-    Trace,
+    /// The model is refused with this line.
+    Model(Vec<u8>),
+    /// The trace is refused with this line.
+    Record(Vec<u8>),
     /// A file could not be read.
     Read,
     /// The text could not be written whole.
@@ -23,13 +23,13 @@ pub enum Stop {
 
 impl Stop {
     /// The status with which the tool ends then.
-    pub fn status(self) -> Status
-        ensures { result ≡ status_of_stop self }
+    pub fn status(&self) -> Status
+        ensures { result ≡ status_of_stop self.now }
     {
         match self {
             Stop::Usage => Status::Usage,
-            Stop::Model => Status::ModelRefused,
-            Stop::Trace => Status::RecordRefused,
+            Stop::Model(_) => Status::ModelRefused,
+            Stop::Record(_) => Status::RecordRefused,
             Stop::Read => Status::ReadFault,
             Stop::Write => Status::WriteFault,
             Stop::OutOfMemory => Status::OutOfMemory,
@@ -37,13 +37,13 @@ impl Stop {
     }
 
     /// The line that is written on err then.
-    pub fn line(self) -> &'static [u8]
-        ensures { result.now ≡ line_of self }
+    pub fn line(&self) -> &[u8]
+        ensures { result.now ≡ line_of self.now }
     {
         match self {
             Stop::Usage => b"usage\n",
-            Stop::Model => b"model refused M0\n",
-            Stop::Trace => b"record refused X0\n",
+            Stop::Model(line) => line,
+            Stop::Record(line) => line,
             Stop::Read => b"read fault\n",
             Stop::Write => b"write fault\n",
             Stop::OutOfMemory => b"out of memory\n",
@@ -56,6 +56,16 @@ impl From<OutOfMemory> for Stop {
 
     fn from(_: OutOfMemory) -> Self {
         Stop::OutOfMemory
+    }
+}
+
+impl From<ReadFail> for Stop {
+    ghost use Rattle.tool.specs.declared.stop.Stop.TheVariants.{Read as failed};
+
+    ghost from_gives = { λ _ stop. stop ≡ failed };
+
+    fn from(_: ReadFail) -> Self {
+        Stop::Read
     }
 }
 

@@ -1,13 +1,12 @@
-use Rattle.std.proofs.Common.{refl, inl, subst}
-use Rattle.tool.specs.ModelText.{IsThinModel}
-use Rattle.tool.proofs.Files.{form_of_file, no_form_of_file}
+use Rattle.std.proofs.Common.{ℕ, List, subst}
+use Rattle.model_file.specs.Refusal.{IsModel, IsModelRefusal}
+use Rattle.tool.proofs.ModelFiles.{model_of_file, stops_model}
 use Rattle.tool.proofs.judge.model_in.Goals as goal
 
-pub returns-in-Some-clause-model : goal.returns-in-Some-clause-model
-returns-in-Some-clause-model g c =
-    let form : IsThinModel c.in_ok-text.text.items c.in-Some.model = subst (λ bytes. IsThinModel bytes c.in-Some.model) c.deref.ensures.value (rw c.in-Some.is at c.in_ok-model.ensures.some) in
-    form_of_file IsThinModel (λ bytes m thin. thin.short) _ _ _ _ c.in_ok-text.ensures.whole form
+pub returns-in-Ok-clause-model : goal.returns-in-Ok-clause-model
+returns-in-Ok-clause-model g c =
+    model_of_file (g.S.Store.files c.args.store.now) c.args.name.now c.in_ok-text.text.items c.in-Ok.model c.in_ok-text.ensures.whole (subst (λ (w : List ℕ). IsModel w c.in-Ok.model) c.deref.ensures.value c.in-Ok.ensures.read)
 
 pub returns-clause-stop : goal.returns-clause-stop
 returns-clause-stop g c =
-    inl (refl, no_form_of_file IsThinModel (λ bytes m thin. thin.short) _ _ _ c.in_ok-text.ensures.whole (rw (c.in-None.is, c.deref.ensures.value) at c.in_ok-model.ensures.none))
+    stops_model (g.S.Store.files c.args.store.now) c.args.name.now c.in_ok-text.text.items c.in-Err.error c.refused_with.result _ _ c.in_ok-text.ensures.whole (subst (IsModelRefusal c.in-Err.error) c.deref.ensures.value c.in-Err.ensures.refused) c.refused_with.ensures
