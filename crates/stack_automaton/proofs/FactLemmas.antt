@@ -3,6 +3,13 @@ use Rattle.std.proofs.Common.{◌≡◌, ◌⊎◌, ◌↔◌, ℕ, suc, Bool, t
 use Rattle.std.specs.List.{list_any, position, position_or_len}
 use Rattle.std.specs.Map.{keys_of}
 use Rattle.std.specs.Prelude.{not, nat_lt}
+use Rattle.std.specs.Cmp.{IsEquivalence}
+use Rattle.std.specs.List.Retain.{IsFiltered, DiffersFromLast}
+use Rattle.std.specs.List.Sorted.{IsPermutation}
+use Rattle.std.proofs.lemmas.Cmp.{nat_eq_equiv}
+use Rattle.std.proofs.lemmas.List.Filters.{dedup_is}
+use Rattle.std.proofs.lemmas.List.Kept.{Contains-dedup, Contains-from_dedup}
+use Rattle.std.proofs.lemmas.List.Sorted.{Contains-permutation, IsPermutation-sym}
 use Rattle.std.proofs.lemmas.List.Sums.{prefix_len-le-length}
 use Rattle.std.proofs.lemmas.Bool.{eq-eqb, eqb-true, ltb-false}
 use Rattle.std.proofs.lemmas.List.Elements.{Contains-append_left, Contains-push, Contains-push_cases}
@@ -123,3 +130,18 @@ edges_exact (x ∷ xs) [] e = absurd cc
 edges_exact (x ∷ xs) (y ∷ ys) e =
     let (first, rest) = both_true (edge_eq.it x y) (pointwise edge_eq.it xs ys) e in
     λ i. edge_exact x y first i ∷ edges_exact xs ys rest i
+
+edge_laws : IsEquivalence edge_eq.it
+edge_laws = record {
+  refl = λ x. both_hold (nat_eq x.label x.label) (nat_eq x.to x.to) (eq-eqb x.label x.label refl) (eq-eqb x.to x.to refl);
+  symm = λ x y. λ i. nat_eq_equiv.symm x.label y.label i && nat_eq_equiv.symm x.to y.to i;
+  congr = λ x y z e. ap (λ w. edge_eq.it w z) (edge_exact x y e);
+}
+
+-- edges that are put in order, and of which each is left once
+pub edges_in_order : (xs ys zs : List Edge) → IsPermutation xs ys → IsFiltered (DiffersFromLast edge_eq.it) [] ys zs → (e : Edge) → Contains zs e ↔ Contains xs e
+edges_in_order xs ys zs sorted left e =
+    let is = dedup_is edge_eq.it ys zs left in (
+      λ has. Contains-permutation ys xs e (IsPermutation-sym xs ys sorted) (Contains-from_dedup edge_eq.it ys e (subst (λ es. Contains es e) is has)),
+      λ has. subst (λ es. Contains es e) (sym is) (Contains-dedup edge_laws edge_exact ys e (Contains-permutation xs ys e sorted has)),
+    )

@@ -21,6 +21,7 @@ use Rattle.stack_automaton.specs.Links.{HasLink, functions_of}
 use Rattle.stack_automaton.specs.Event.{IsFact, IsLink, key_of}
 use Rattle.stack_automaton.specs.Following.{IsFirst, link_of}
 use Rattle.stack_automaton.specs.Storing.{IsClosed, Grows, IsPut, key_at, IsLinkEdge, AreLinkEdges, AreTops, Planned, IsFilled, Rewrites, Filled, AreTargets, IsEvent, AreStored, IsStored}
+use Rattle.stack_automaton.specs.Resolving.{IsKnown, AreResolved, IsChosen}
 use Rattle.stack_automaton.proofs.EventLemmas.{there, IsThereAt, linked, IsLinked}
 
 pub grows_same : (old new : States) → ((k : ℕ) → new k ≡ old k) → Grows old new
@@ -62,10 +63,12 @@ grows_put old new key edges vacant puts targets = record {
 }
 
 -- nothing is planned yet
-pub planned_none : (old : States) (keys : List ℕ) → length keys ≡ 0 → Planned old old keys 0
-planned_none old keys none = record {
+pub planned_none : (old : States) (before known keys : List ℕ) → length keys ≡ 0 → Planned old old before known keys 0
+planned_none old before known keys none = record {
   grown = grows_same old old (λ k. refl);
   long = none;
+  there = λ i lt. absurd (omega (arith, lt));
+  same = λ i lt. absurd (omega (arith, lt));
   fresh = λ i lt. absurd (omega (arith, lt));
   apart = λ i j less lt. absurd (omega (arith, lt));
 }
@@ -74,74 +77,115 @@ none_before : (old mid : States) (key : ℕ) → Grows old mid → mid key ≡ N
 none_before old mid key grows none None is = is
 none_before old mid key grows none (Some edges) is = let both : None ≡ Some edges = sym none ∙ grows.kept key edges is in absurd cc
 
-pub planned_more : (old mid new : States) (keys : List ℕ) (n key : ℕ) → Planned old mid keys n → mid key ≡ None → IsPut mid new key (Some []) → Planned old new (keys ++ key ∷ []) (n + 1)
-planned_more old mid new keys n key planned vacant puts =
-    let grows : Grows mid new = grows_put mid new key [] vacant puts (λ e has. absurd (omega (arith, has.1))) in
-    let earlier : (i : ℕ) → i < n → get_or (keys ++ key ∷ []) i 0 ≡ get_or keys i 0 = λ i lt. let less : i < length keys = omega (arith, planned.long) in get_or_append_left keys (key ∷ []) 0 i less in
-    let last : get_or (keys ++ key ∷ []) n 0 ≡ key = get_or_push keys key 0 n planned.long in
-    record {
-      grown = grows_trans old mid new planned.grown grows;
-      long = omega (arith, length-append keys (key ∷ []), planned.long);
-      fresh = λ i lt. elim (cases_eq i n) as (λ _. (old (get_or (keys ++ key ∷ []) i 0) ≡ None) × IsThere new (get_or (keys ++ key ∷ []) i 0)) [
-        | inl e ↦
-            let at : get_or (keys ++ key ∷ []) i 0 ≡ key = ap (λ j. get_or (keys ++ key ∷ []) j 0) e ∙ last in
-            subst (λ k. (old k ≡ None) × IsThere new k) (sym at) (none_before old mid key planned.grown vacant (old key) refl, ([], puts.changed))
-        | inr ne ↦
-            let less : i < n = omega (arith, ne) in
-            let (none, (edges, is)) = planned.fresh i less in
-            subst (λ k. (old k ≡ None) × IsThere new k) (sym (earlier i less)) (none, (edges, grows.kept (get_or keys i 0) edges is))
-      ];
-      apart = λ i j less lt. elim (cases_eq j n) as (λ _. get_or (keys ++ key ∷ []) i 0 ≢ get_or (keys ++ key ∷ []) j 0) [
-        | inl e ↦ λ same.
-            let i_less : i < n = omega (arith, e) in
-            let at : get_or (keys ++ key ∷ []) j 0 ≡ key = ap (λ m. get_or (keys ++ key ∷ []) m 0) e ∙ last in
-            let (none, (edges, is)) = planned.fresh i i_less in
-            let here : mid key ≡ Some edges = ap mid (sym at ∙ sym same ∙ earlier i i_less) ∙ is in
-            let both : None ≡ Some edges = sym vacant ∙ here in
-            absurd cc
-        | inr ne ↦ λ same.
-            let j_less : j < n = omega (arith, ne) in
-            let i_less : i < n = omega arith in
-            planned.apart i j less j_less (sym (earlier i i_less) ∙ same ∙ earlier j j_less)
-      ];
-    }
+-- keys of which one is there and the other isn't
+there_apart : (s : States) (k q : ℕ) → IsThere s k → s q ≡ None → k ≢ q
+there_apart s k q (edges, is) none same = let both : None ≡ Some edges = sym none ∙ ap s (sym same) ∙ is in absurd cc
+
+-- one key more
+module _ (old mid new : States) (before known keys : List ℕ) (n key : ℕ) (planned : Planned old mid before known keys n)
+    (there_before : (i : ℕ) → Contains known i → IsThere old (get_or before i 0)) (grows : Grows mid new) (is_there : IsThere new key) (chosen : IsChosen mid before known n key) where
+  abbrev more : List ℕ
+  more = keys ++ key ∷ []
+
+  earlier : (i : ℕ) → i < n → get_or more i 0 ≡ get_or keys i 0
+  earlier i lt = let less : i < length keys = omega (arith, planned.long) in get_or_append_left keys (key ∷ []) 0 i less
+
+  last : (i : ℕ) → i ≡ n → get_or more i 0 ≡ key
+  last i e = ap (λ j. get_or more j 0) e ∙ get_or_push keys key 0 n planned.long
+
+  key_new : (Contains known n → ⊥) → mid key ≡ None
+  key_new unknown = elim chosen as (λ _. mid key ≡ None) [ inl p ↦ absurd (unknown p.0) | inr p ↦ p.1 ]
+
+  key_same : Contains known n → key ≡ get_or before n 0
+  key_same has = elim chosen as (λ _. key ≡ get_or before n 0) [ inl p ↦ p.1 | inr p ↦ absurd (p.0 has) ]
+
+  -- the new key is none of the fresh ones before it
+  key_apart : (j : ℕ) → j < n → (Contains known j → ⊥) → key ≢ get_or keys j 0
+  key_apart j lt unknown = elim chosen as (λ _. key ≢ get_or keys j 0) [
+    | inl p ↦ there_apart old key (get_or keys j 0) (subst (IsThere old) (sym p.1) (there_before n p.0)) (planned.fresh j lt unknown)
+    | inr p ↦ λ same. there_apart mid (get_or keys j 0) key (planned.there j lt) p.1 (sym same)
+  ]
+
+  pub planned_more : Planned old new before known more (n + 1)
+  planned_more = record {
+    grown = grows_trans old mid new planned.grown grows;
+    long = omega (arith, length-append keys (key ∷ []), planned.long);
+    there = λ i lt. elim (cases_eq i n) as (λ _. IsThere new (get_or more i 0)) [
+      | inl e ↦ subst (IsThere new) (sym (last i e)) is_there
+      | inr ne ↦
+          let less : i < n = omega (arith, ne) in
+          let (edges, is) = planned.there i less in
+          subst (IsThere new) (sym (earlier i less)) (edges, grows.kept (get_or keys i 0) edges is)
+    ];
+    same = λ i lt has. elim (cases_eq i n) as (λ _. get_or more i 0 ≡ get_or before i 0) [
+      | inl e ↦ last i e ∙ key_same (subst (Contains known) e has) ∙ ap (λ j. get_or before j 0) (sym e)
+      | inr ne ↦ let less : i < n = omega (arith, ne) in earlier i less ∙ planned.same i less has
+    ];
+    fresh = λ i lt unknown. elim (cases_eq i n) as (λ _. old (get_or more i 0) ≡ None) [
+      | inl e ↦ ap old (last i e) ∙ none_before old mid key planned.grown (key_new (λ has. unknown (subst (Contains known) (sym e) has))) (old key) refl
+      | inr ne ↦ let less : i < n = omega (arith, ne) in ap old (earlier i less) ∙ planned.fresh i less unknown
+    ];
+    apart = λ i j i_lt j_lt differ unknown. elim (cases_eq j n) as (λ _. get_or more i 0 ≢ get_or more j 0) [
+      | inl e ↦ λ same.
+          let less : i < n = omega (arith, differ, e) in
+          there_apart mid (get_or keys i 0) key (planned.there i less) (key_new (λ has. unknown (subst (Contains known) (sym e) has))) (sym (earlier i less) ∙ same ∙ last j e)
+      | inr ne ↦ λ same.
+          let j_less : j < n = omega (arith, ne) in
+          elim (cases_eq i n) as (λ _. ⊥) [
+            | inl e ↦ key_apart j j_less unknown (sym (last i e) ∙ same ∙ earlier j j_less)
+            | inr other ↦
+                let i_less : i < n = omega (arith, other) in
+                planned.apart i j i_less j_less differ unknown (sym (earlier i i_less) ∙ same ∙ earlier j j_less)
+          ]
+    ];
+  }
 
 -- nothing is filled yet
-pub filled_none : (old : States) (keys : List ℕ) (links : Links) → Filled old old keys links 0
-filled_none old keys links = record {
+pub filled_none : (old : States) (keys known : List ℕ) (links : Links) → Filled old old keys known links 0
+filled_none old keys known links = record {
   rewrites = record { others = λ k apart. refl; there = λ k is. is; closed = λ closed. closed };
   filled = λ i lt. absurd (omega (arith, lt));
 }
 
+-- a state that is the same at another time
+pub filled_kept : (old new : States) (keys : List ℕ) (links : Links) (i : ℕ) → new (get_or keys i 0) ≡ old (get_or keys i 0) → IsFilled old keys links i → IsFilled new keys links i
+filled_kept old new keys links i same filled f at = let (edges, is, list) = filled f at in (edges, same ∙ is, list)
+
+-- a state at a known key stays as it was
+pub filled_known : (old mid : States) (keys known : List ℕ) (links : Links) (n : ℕ) → n < length keys
+    → ((i j : ℕ) → i < length keys → j < length keys → i ≢ j → (Contains known j → ⊥) → get_or keys i 0 ≢ get_or keys j 0) → Rewrites old mid keys known
+    → Contains known n → IsFilled old keys links n → IsFilled mid keys links n
+filled_known old mid keys known links n within apart rewrites has =
+    filled_kept old mid keys links n (rewrites.others (get_or keys n 0) (λ i lt unknown same. apart n i within lt (λ e. unknown (subst (Contains known) e has)) unknown (sym same)))
+
 -- one state more, whether it has got its edges or not
-module _ (old mid new : States) (keys : List ℕ) (links : Links) (n : ℕ) (within : n < length keys)
-    (others : (k : ℕ) → get_or keys n 0 ≢ k → new k ≡ mid k) (there_still : (k : ℕ) → IsThere mid k → IsThere new k) (closed : IsClosed mid → IsClosed new) where
-  pub rewrites_more : Rewrites old mid keys → Rewrites old new keys
+module _ (old mid new : States) (keys known : List ℕ) (links : Links) (n : ℕ) (within : n < length keys)
+    (others : (k : ℕ) → ((Contains known n → ⊥) → get_or keys n 0 ≢ k) → new k ≡ mid k) (there_still : (k : ℕ) → IsThere mid k → IsThere new k) (closed : IsClosed mid → IsClosed new) where
+  pub rewrites_more : Rewrites old mid keys known → Rewrites old new keys known
   rewrites_more before = record {
     others = λ k apart. others k (apart n within) ∙ before.others k apart;
     there = λ k is. there_still k (before.there k is);
     closed = λ was. closed (before.closed was);
   }
 
-  pub filled_more : ((i j : ℕ) → i < j → j < length keys → get_or keys i 0 ≢ get_or keys j 0) → IsFilled new keys links n → Filled old mid keys links n → Filled old new keys links (n + 1)
+  pub filled_more : ((i j : ℕ) → i < length keys → j < length keys → i ≢ j → (Contains known j → ⊥) → get_or keys i 0 ≢ get_or keys j 0) → IsFilled new keys links n → Filled old mid keys known links n → Filled old new keys known links (n + 1)
   filled_more apart one before = record {
     rewrites = rewrites_more before.rewrites;
     filled = λ i lt. elim (cases_eq i n) as (λ _. IsFilled new keys links i) [
       | inl e ↦ subst (IsFilled new keys links) (sym e) one
-      | inr ne ↦ λ f at.
+      | inr ne ↦
           let less : i < n = omega (arith, ne) in
-          let (edges, is, list) = before.filled i less f at in
-          (edges, others (get_or keys i 0) (λ same. apart i n less within (sym same)) ∙ is, list)
+          let in_keys : i < length keys = omega arith in
+          filled_kept mid new keys links i (others (get_or keys i 0) (λ unknown same. apart i n in_keys within ne unknown (sym same))) (before.filled i less)
     ];
   }
 
 -- what is written over the new keys leaves the old ones
-pub grows_rewritten : (old mid new : States) (keys : List ℕ) (n : ℕ) → Planned old mid keys n → Rewrites mid new keys → Grows old new
-grows_rewritten old mid new keys n planned rewrites = record {
-  kept = λ k edges has. rewrites.others k (λ i lt same.
+pub grows_rewritten : (old mid new : States) (before known keys : List ℕ) (n : ℕ) → Planned old mid before known keys n → Rewrites mid new keys known → Grows old new
+grows_rewritten old mid new before known keys n planned rewrites = record {
+  kept = λ k edges has. rewrites.others k (λ i lt unknown same.
       let less : i < n = omega (arith, planned.long) in
-      let both : None ≡ Some edges = sym (planned.fresh i less).0 ∙ ap old same ∙ has in
-      absurd cc) ∙ planned.grown.kept k edges has;
+      there_apart old k (get_or keys i 0) (edges, has) (planned.fresh i less unknown) (sym same)) ∙ planned.grown.kept k edges has;
   closed = λ closed. rewrites.closed (planned.grown.closed closed);
 }
 
@@ -166,7 +210,7 @@ same_key : (functions keys : List ℕ) (p : Place) → key_of (λ f. key_at func
 same_key functions keys (Held q) = refl
 same_key functions keys (Entered f) = refl
 
-both_edge : (l k s t : ℕ) → l ≡ s → k ≡ t → ◌≡◌ {A = Edge} (record { label = l; to = k }) (record { label = s; to = t })
+pub both_edge : (l k s t : ℕ) → l ≡ s → k ≡ t → ◌≡◌ {A = Edge} (record { label = l; to = k }) (record { label = s; to = t })
 both_edge l k s t one two = λ i. record { label = one i; to = two i }
 
 -- The states of an event.
@@ -186,38 +230,41 @@ module _ (g : Graph) (old : States) (begin : List Fact) (done : Closure) (event 
   entered_place : (f s : ℕ) (p : Place) → IsLink g (HasEdge old) (IsFirst begin) f s p → slice_get fs (position_or_len (nat_eq f) fs) ≡ Some f
   entered_place f s p is = let (l, has, site, place) = has_link f s p is in function_place done.links f l has
 
-  target : (mid : States) (keys : List ℕ) (p : Place) → IsThereAt g (HasEdge old) (IsFirst begin) (IsThere old) (edge_there old closed) event.there p → IsLinked g (HasEdge old) (IsFirst begin) p
-      → Planned old mid keys (length fs) → IsThere mid (key_at fs keys p)
-  target mid keys (Held q) (edges, is) linked planned = (edges, planned.grown.kept q edges is)
-  target mid keys (Entered f) is (s, p, link) planned =
-      let at = entered_place f s p link in
-      (planned.fresh (position_or_len (nat_eq f) fs) (slice_get_within fs (position_or_len (nat_eq f) fs) f at)).1
+  -- below each fact and each call of the event is a key that is there, once each function has one
+  module _ (mid : States) (keys : List ℕ) (grown : Grows old mid) (has_key : (i : ℕ) → i < length fs → IsThere mid (get_or keys i 0)) where
+    target : (p : Place) → IsThereAt g (HasEdge old) (IsFirst begin) (IsThere old) (edge_there old closed) event.there p → IsLinked g (HasEdge old) (IsFirst begin) p → IsThere mid (key_at fs keys p)
+    target (Held q) (edges, is) linked = (edges, grown.kept q edges is)
+    target (Entered f) is (s, p, link) =
+        let at = entered_place f s p link in
+        has_key (position_or_len (nat_eq f) fs) (slice_get_within fs (position_or_len (nat_eq f) fs) f at)
 
-  pub targets : (mid : States) (keys : List ℕ) → Planned old mid keys (length fs) → AreTargets mid keys done
-  targets mid keys planned =
-      let facts : (x : Fact) → Contains done.facts.keys x → IsThere mid (key_at fs keys x.place) =
-      λ x has. target mid keys x.place (place_there x has) (linked g (HasEdge old) (IsFirst begin) ((event.closure.facts x).0 has)) planned in
-      record {
-        facts = facts;
-        links = λ f l has.
-            let (z, in_facts, (c, in_calls, (from, (candidate, is)))) = (event.closure.links f l).0 has in
-            let place : l.place ≡ z.place = ap (λ k. k.place) is in
-            subst (λ p. IsThere mid (key_at fs keys p)) (sym place) (facts z in_facts);
-      }
+    pub targets : AreTargets mid keys done
+    targets =
+        let facts : (x : Fact) → Contains done.facts.keys x → IsThere mid (key_at fs keys x.place) =
+        λ x has. target x.place (place_there x has) (linked g (HasEdge old) (IsFirst begin) ((event.closure.facts x).0 has)) in
+        record {
+          facts = facts;
+          links = λ f l has.
+              let (z, in_facts, (c, in_calls, (from, (candidate, is)))) = (event.closure.links f l).0 has in
+              let place : l.place ≡ z.place = ap (λ k. k.place) is in
+              subst (λ p. IsThere mid (key_at fs keys p)) (sym place) (facts z in_facts);
+        }
 
-  pub entered_stored : (mid new : States) (keys ks : List ℕ) (n : ℕ) → n ≡ length fs → ks ≡ keys → Planned old mid keys n → Filled mid new ks done.links (length ks) → AreStored new done keys
-  entered_stored mid new keys ks n count same planned filled =
-      let now : Planned old mid keys (length fs) = subst (Planned old mid keys) count planned in
-      let full : Filled mid new keys done.links (length keys) = subst (λ xs. Filled mid new xs done.links (length xs)) same filled in
-      let long = now.long in
-      let ends = targets mid keys now in
-      record {
-        filled = λ i lt. let within : i < length keys = omega (arith, lt, long) in full.filled i within;
-        targets = record {
-          facts = λ x has. full.rewrites.there (key_at fs keys x.place) (ends.facts x has);
-          links = λ f l has. full.rewrites.there (key_at fs keys l.place) (ends.links f l has);
-        };
-      }
+    pub entered_stored : (new : States) (known : List ℕ) → length keys ≡ length fs → Filled mid new keys known done.links (length keys) → AreStored new done keys
+    entered_stored new known long full = record {
+      filled = λ i lt. let within : i < length keys = omega (arith, lt, long) in full.filled i within;
+      targets = record {
+        facts = λ x has. full.rewrites.there (key_at fs keys x.place) (targets.facts x has);
+        links = λ f l has. full.rewrites.there (key_at fs keys l.place) (targets.links f l has);
+      };
+    }
+
+  -- the keys of earlier events to which calls lead
+  pub held_there : (f q : ℕ) (l : Link) → HasLink done.links f l → l.place ≡ Held q → IsThere old q
+  held_there f q l has is =
+      let (z, in_facts, (c, in_calls, (from, (candidate, same)))) = (event.closure.links f l).0 has in
+      let place : z.place ≡ Held q = sym (ap (λ k. k.place) same) ∙ is in
+      subst (IsThereAt g (HasEdge old) (IsFirst begin) (IsThere old) (edge_there old closed) event.there) place (place_there z in_facts)
 
   -- the edges of an entered function
   module _ (new : States) (keys : List ℕ) (grown : Grows old new) (stored : AreStored new done keys) where
@@ -271,8 +318,8 @@ module _ (g : Graph) (old : States) (begin : List Fact) (done : Closure) (event 
     )
 
 -- where the edges of the calls and of the facts lead to
-pub links_there : (s : States) (keys : List ℕ) (links : Links) (f : ℕ) (edges : List Edge) → AreLinkEdges links keys f edges → ((h : ℕ) (l : Link) → HasLink links h l → IsThere s (key_at (functions_of links) keys l.place)) → (e : Edge) → Contains edges e → IsThere s e.to
-links_there s keys links f edges list ends e has = let (l, is, same) = (list e).0 has in subst (IsThere s) (sym (ap (λ d. d.to) same)) (ends f l is)
+pub links_there : (s : States) (keys : List ℕ) (links : Links) (f : ℕ) (edges : List Edge) → AreLinkEdges links keys f edges → ((l : Link) → HasLink links f l → IsThere s (key_at (functions_of links) keys l.place)) → (e : Edge) → Contains edges e → IsThere s e.to
+links_there s keys links f edges list ends e has = let (l, is, same) = (list e).0 has in subst (IsThere s) (sym (ap (λ d. d.to) same)) (ends l is)
 
 pub tops_there : (s : States) (functions keys : List ℕ) (facts : List Fact) (edges : List Edge) → AreTops functions keys facts edges → ((x : Fact) → Contains facts x → IsThere s (key_at functions keys x.place)) → (e : Edge) → Contains edges e → IsThere s e.to
 tops_there s functions keys facts edges tops ends e has = let (x, in_facts, same) = (tops e).0 has in subst (IsThere s) (sym (ap (λ d. d.to) same)) (ends x in_facts)
@@ -314,7 +361,3 @@ module _ (old mid new : States) (done : Closure) (keys ks : List ℕ) (facts : L
 
   pub top_stored : (g : Graph) (begin : List Fact) (key : ℕ) → IsClosed old → new key ≡ Some state → IsEvent g old begin done → IsStored g old new begin key
   top_stored g begin key closed found event = stores g old begin done event closed new keys top_grows (stored_kept mid new done keys top_put stored) key state found top_edges
-
--- a plan, for keys and a number that are equal to those of another
-pub planned_as : (old mid : States) (keys ks : List ℕ) (n m : ℕ) → ks ≡ keys → n ≡ m → Planned old mid keys n → Planned old mid ks m
-planned_as old mid keys ks n m same count planned = subst (Planned old mid ks) count (subst (λ xs. Planned old mid xs n) (sym same) planned)

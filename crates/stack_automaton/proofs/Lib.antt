@@ -8,6 +8,7 @@ pub mod MonitorLemmas
 pub mod NotingLemmas
 pub mod PathLemmas
 pub mod ReadingLemmas
+pub mod ResolvingLemmas
 pub mod SaturationLemmas
 pub mod SeenLemmas
 pub mod StandingLemmas

@@ -5,6 +5,7 @@ pub mod Held
 pub mod Links
 pub mod Moving
 pub mod Noting
+pub mod Resolving
 pub mod Seen
 pub mod Standing
 pub mod Storing

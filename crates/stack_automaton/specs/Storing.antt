@@ -49,26 +49,28 @@ IsTopEdge functions keys x e = e ≡ record { label = x.node; to = key_at functi
 abbrev pub AreTops : List ℕ → List ℕ → List Fact → List Edge → Type 0
 AreTops functions keys facts edges = (e : Edge) → Contains edges e ↔ ((x : Fact) × Contains facts x × IsTopEdge functions keys x e)
 
--- each of the first n functions that were entered has a key of its own, which the old pool did not have
-pub record Planned (old new : States) (keys : List ℕ) (n : ℕ) : Type 0 where
+-- each of the first n functions that were entered has its known key, or a key of its own which the old pool did not have
+pub record Planned (old new : States) (before known keys : List ℕ) (n : ℕ) : Type 0 where
   pub grown : Grows old new
   pub long : length keys ≡ n
-  pub fresh : (i : ℕ) → i < n → (old (slice_index_or keys i 0) ≡ None) × IsThere new (slice_index_or keys i 0)
-  pub apart : (i j : ℕ) → i < j → j < n → slice_index_or keys i 0 ≢ slice_index_or keys j 0
+  pub there : (i : ℕ) → i < n → IsThere new (slice_index_or keys i 0)
+  pub same : (i : ℕ) → i < n → Contains known i → slice_index_or keys i 0 ≡ slice_index_or before i 0
+  pub fresh : (i : ℕ) → i < n → (Contains known i → ⊥) → old (slice_index_or keys i 0) ≡ None
+  pub apart : (i j : ℕ) → i < n → j < n → i ≢ j → (Contains known j → ⊥) → slice_index_or keys i 0 ≢ slice_index_or keys j 0
 
 -- the new state of the function at the place has the edges of its calls
 abbrev pub IsFilled : States → List ℕ → Links → ℕ → Type 0
 IsFilled s keys links i = (f : ℕ) → slice_get (functions_of links) i ≡ Some f → (edges : List Edge) × (s (slice_index_or keys i 0) ≡ Some edges) × AreLinkEdges links keys f edges
 
--- only the states at the keys are changed
-pub record Rewrites (old new : States) (keys : List ℕ) : Type 0 where
-  pub others : (k : ℕ) → ((i : ℕ) → i < length keys → slice_index_or keys i 0 ≢ k) → new k ≡ old k
+-- only the states at keys that are not known are changed
+pub record Rewrites (old new : States) (keys known : List ℕ) : Type 0 where
+  pub others : (k : ℕ) → ((i : ℕ) → i < length keys → (Contains known i → ⊥) → slice_index_or keys i 0 ≢ k) → new k ≡ old k
   pub there : (k : ℕ) → IsThere old k → IsThere new k
   pub closed : IsClosed old → IsClosed new
 
 -- and the first n have the edges of their calls
-pub record Filled (old new : States) (keys : List ℕ) (links : Links) (n : ℕ) : Type 0 where
-  pub rewrites : Rewrites old new keys
+pub record Filled (old new : States) (keys known : List ℕ) (links : Links) (n : ℕ) : Type 0 where
+  pub rewrites : Rewrites old new keys known
   pub filled : (i : ℕ) → i < n → IsFilled new keys links i
 
 -- below each fact of the event and each call is a key that is there

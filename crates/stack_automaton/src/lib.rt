@@ -2,14 +2,17 @@
 //! as an automaton, in a pool that the monitors of one model share.
 #![tactic(auto)]
 
+mod edges;
 mod event;
 mod follow;
 mod links;
 mod monitor;
 mod notes;
+mod order;
 mod place;
 mod pool;
 mod reading;
+mod resolve;
 mod saturate;
 mod shared;
 mod store;

@@ -1,5 +1,8 @@
-ghost use Rattle.std.specs.Prelude.{◌≡◌, Some, IsTrue, IfSome};
+ghost use Rattle.std.specs.Prelude.{◌≡◌, Contains, IfOk, Some, None, IsTrue, IfSome};
 ghost use Rattle.slab.specs.Slab.{get};
+ghost use Rattle.stack_automaton.specs.declared.place.Edge.{Edge as Edge'};
+ghost use Rattle.stack_automaton.specs.Held.{IsThere};
+ghost use Rattle.stack_automaton.specs.Storing.{Grows, IsPut};
 
 use crate::place::{Edge, State};
 use dm_base::OutOfMemory;
@@ -66,11 +69,40 @@ fn are_equal(a: &[Edge], b: &[Edge]) -> bool
 }
 
 // The digest of the edges (the hash FNV-1a over whole numbers).
-pub fn digest(edges: &[Edge]) -> u64 {
+fn digest(edges: &[Edge]) -> u64 {
     let mut hash: u64 = 0xcbf2_9ce4_8422_2325;
     for edge in edges {
         hash = (hash ^ u64::from(edge.label)).wrapping_mul(0x100_0000_01b3);
         hash = (hash ^ edge.to as u64).wrapping_mul(0x100_0000_01b3);
     }
     hash
+}
+
+// Puts the state under a new key.
+pub fn insert(states: &mut Slab<State>, state: State) -> Result<usize, OutOfMemory>
+    ensures vacant { IfOk result (λ key. get states.old key ≡ None) }
+    ensures put { IfOk result (λ key. IsPut (get states.old) (get states.new) key (Some state)) }
+    ensures grows { ((e : Edge') → Contains state e → IsThere (get states.old) e.to) → Grows (get states.old) (get states.new) }
+{
+    let key = states.insert(state)?;
+    Ok(key)
+}
+
+// The key of the state with these edges: that of an equal state, where one is known, or else a new key.
+pub fn share(
+    states: &mut Slab<State>,
+    shared: &mut Shared,
+    edges: Vec<Edge>,
+) -> Result<usize, OutOfMemory>
+    ensures grows { ((e : Edge') → Contains edges.items e → IsThere (get states.old) e.to) → Grows (get states.old) (get states.new) }
+    ensures found { IfOk result (λ key. get states.new key ≡ Some edges.items) }
+{
+    let slice: &[Edge] = &edges;
+    if let Some(key) = shared.find(states, slice) {
+        return Ok(key);
+    }
+    let digest = digest(slice);
+    let key = insert(states, State::new(edges))?;
+    shared.note(digest, key)?;
+    Ok(key)
 }

@@ -1,99 +1,23 @@
-ghost use Rattle.std.specs.Prelude.{◌≡◌, ◌≢◌, ◌↔◌, ◌<◌, ℕ, List, Contains, IfOk, OnOk, Some, None, length, slice_index_or, slice_get};
+ghost use Rattle.std.specs.Prelude.{◌≡◌, ◌≢◌, ◌<◌, ℕ, List, Contains, IfOk, OnOk, Some, length, slice_index_or};
 ghost use Rattle.slab.specs.Slab.{ContainsKey, get};
-ghost use Rattle.stack_automaton.specs.declared.place.Edge.{Edge as Edge'};
 ghost use Rattle.stack_automaton.specs.declared.place.Fact.{Fact as Fact'};
 ghost use Rattle.stack_automaton.specs.declared.place.Link.{Link as Linked};
-ghost use Rattle.stack_automaton.specs.Adding.{Has, Adds};
-ghost use Rattle.stack_automaton.specs.Held.{IsThere};
+ghost use Rattle.stack_automaton.specs.Held.{States, IsThere};
 ghost use Rattle.stack_automaton.specs.Links.{HasLink, functions_of};
-ghost use Rattle.stack_automaton.specs.Storing.{IsClosed, Grows, IsPut, key_at, IsLinkEdge, AreLinkEdges, IsTopEdge, AreTops, Planned, IsFilled, Rewrites, Filled, AreTargets, IsEvent, AreStored, IsStored};
+ghost use Rattle.stack_automaton.specs.Resolving.{AreResolved, IsChosen};
+ghost use Rattle.stack_automaton.specs.Storing.{IsClosed, Grows, IsPut, key_at, Planned, IsFilled, Rewrites, Filled, IsEvent, AreStored, IsStored};
 
+use crate::edges::{link_edges, tops};
 use crate::links::Links;
-use crate::place::{Edge, Fact, Link, Place, State};
+use crate::place::State;
+use crate::resolve::{is_among, resolve};
 use crate::saturate::Closure;
-use crate::shared::{Shared, digest};
+use crate::shared::{Shared, insert, share};
 use dm_base::OutOfMemory;
 use flow_model::Model;
+use indexmap::IndexSet;
 use slab::Slab;
 use std::alloc::Global;
-
-// The key of a place, where the new states of the entered functions have these keys.
-fn key_of(links: &Links, keys: &[usize], place: Place) -> usize
-    ensures { result ≡ key_at (functions_of links.now) keys.now place }
-{
-    match place {
-        Place::Held(key) => key,
-        Place::Entered(function) => match keys.get(links.place(function)) {
-            Some(key) => *key,
-            None => 0,
-        },
-    }
-}
-
-fn push_link(
-    edges: &mut Vec<Edge>,
-    links: &Links,
-    keys: &[usize],
-    link: Link,
-) -> Result<(), OutOfMemory>
-    ensures { OnOk result (Adds edges.old.items edges.new.items (IsLinkEdge (functions_of links.now) keys.now link)) }
-{
-    let to = key_of(links, keys, link.place);
-    edges.push(Edge {
-        label: link.site,
-        to,
-    })?;
-    Ok(())
-}
-
-// The edges of some calls.
-fn link_edges(
-    alloc: Global,
-    links: &Links,
-    keys: &[usize],
-    list: &[Link],
-) -> Result<Vec<Edge>, OutOfMemory>
-    ensures { IfOk result (λ edges. (e : Edge') → Contains edges.items e ↔ Has (λ l. IsLinkEdge (functions_of links.now) keys.now l e) list.now) }
-{
-    let mut edges = Vec::new(alloc);
-    for link in list {
-        push_link(&mut edges, links, keys, *link)?;
-    }
-    Ok(edges)
-}
-
-fn push_top(
-    edges: &mut Vec<Edge>,
-    links: &Links,
-    keys: &[usize],
-    fact: Fact,
-) -> Result<(), OutOfMemory>
-    ensures { OnOk result (Adds edges.old.items edges.new.items (IsTopEdge (functions_of links.now) keys.now fact)) }
-{
-    let to = key_of(links, keys, fact.place);
-    edges.push(Edge {
-        label: fact.node,
-        to,
-    })?;
-    Ok(())
-}
-
-// The edges of the event's own state, in order.
-fn tops(
-    alloc: Global,
-    links: &Links,
-    keys: &[usize],
-    facts: &[Fact],
-) -> Result<Vec<Edge>, OutOfMemory>
-    ensures { IfOk result (λ edges. AreTops (functions_of links.now) keys.now facts.now edges.items) }
-{
-    let mut edges = Vec::new(alloc);
-    for fact in facts {
-        push_top(&mut edges, links, keys, *fact)?;
-    }
-    edges.sort_unstable();
-    Ok(edges)
-}
 
 // Puts another state under the key.
 fn put(states: &mut Slab<State>, key: usize, state: State)
@@ -104,64 +28,68 @@ fn put(states: &mut Slab<State>, key: usize, state: State)
     states.insert_reserved(state);
 }
 
-// Puts the state under a new key.
-fn insert(states: &mut Slab<State>, state: State) -> Result<usize, OutOfMemory>
-    ensures vacant { IfOk result (λ key. get states.old key ≡ None) }
-    ensures put { IfOk result (λ key. IsPut (get states.old) (get states.new) key (Some state)) }
-    ensures grows { ((e : Edge') → Contains state e → IsThere (get states.old) e.to) → Grows (get states.old) (get states.new) }
-{
-    let key = states.insert(state)?;
-    Ok(key)
-}
-
-// The key of the state with these edges: that of an equal state, where one is known, or else a new key.
-fn share(
+// The key of the state of the function at the place: the known one, or else a new one, at which there are
+// no edges yet.
+fn plan_one(
+    alloc: Global,
     states: &mut Slab<State>,
-    shared: &mut Shared,
-    edges: Vec<Edge>,
+    found: &[usize],
+    known: &IndexSet<usize>,
+    place: usize,
 ) -> Result<usize, OutOfMemory>
-    ensures grows { ((e : Edge') → Contains edges.items e → IsThere (get states.old) e.to) → Grows (get states.old) (get states.new) }
-    ensures found { IfOk result (λ key. get states.new key ≡ Some edges.items) }
+    requires within { place < length found.now }
+    requires there { Contains known.now.keys place → IsThere (get states.old) (slice_index_or found.now place 0) }
+    ensures grows { Grows (get states.old) (get states.new) }
+    ensures there { IfOk result (λ key. IsThere (get states.new) key) }
+    ensures chosen { IfOk result (λ key. IsChosen (get states.old) found.now known.now.keys place key) }
 {
-    let slice: &[Edge] = &edges;
-    if let Some(key) = shared.find(states, slice) {
-        return Ok(key);
+    if is_among(known, place) {
+        return Ok(found[place]);
     }
-    let digest = digest(slice);
-    let key = insert(states, State::new(edges))?;
-    shared.note(digest, key)?;
+    let key = insert(states, State::empty(alloc))?;
     Ok(key)
 }
 
-// A key for the new state of each function that is entered. The states have no edges yet.
-fn plan(alloc: Global, states: &mut Slab<State>, count: usize) -> Result<Vec<usize>, OutOfMemory>
+// A key for the state of each function that is entered. The new states have no edges yet.
+fn plan(
+    alloc: Global,
+    states: &mut Slab<State>,
+    found: &[usize],
+    known: &IndexSet<usize>,
+) -> Result<Vec<usize>, OutOfMemory>
+    requires there { (i : ℕ) → Contains known.now.keys i → IsThere (get states.old) (slice_index_or found.now i 0) }
     ensures grows { Grows (get states.old) (get states.new) }
-    ensures planned { IfOk result (λ keys. Planned (get states.old) (get states.new) keys.items count) }
+    ensures planned { IfOk result (λ keys. Planned (get states.old) (get states.new) found.now known.now.keys keys.items (length found.now)) }
 {
     let mut keys = Vec::new(alloc);
-    for _ in 0..count {
-        let key = insert(states, State::empty(alloc))?;
+    for place in 0..found.len() {
+        let key = plan_one(alloc, states, found, known, place)?;
         keys.push(key)?;
     }
     Ok(keys)
 }
 
-// Gives the new state at the place the edges of its calls.
+// Gives the state at the place the edges of its calls, unless it has them.
 fn fill_one(
     alloc: Global,
     states: &mut Slab<State>,
     keys: &[usize],
+    known: &IndexSet<usize>,
     links: &Links,
     place: usize,
 ) -> Result<(), OutOfMemory>
     requires within { place < length keys.now }
     requires own { IsThere (get states.old) (slice_index_or keys.now place 0) }
     requires targets { (f : ℕ) (l : Linked) → HasLink links.now f l → IsThere (get states.old) (key_at (functions_of links.now) keys.now l.place) }
+    requires known { Contains known.now.keys place → IsFilled (get states.old) keys.now links.now place }
     ensures filled { OnOk result (IsFilled (get states.new) keys.now links.now place) }
-    ensures others { (k : ℕ) → slice_index_or keys.now place 0 ≢ k → get states.new k ≡ get states.old k }
+    ensures others { (k : ℕ) → ((Contains known.now.keys place → ⊥) → slice_index_or keys.now place 0 ≢ k) → get states.new k ≡ get states.old k }
     ensures there { (k : ℕ) → IsThere (get states.old) k → IsThere (get states.new) k }
     ensures closed { IsClosed (get states.old) → IsClosed (get states.new) }
 {
+    if is_among(known, place) {
+        return Ok(());
+    }
     if let Some(function) = links.function(place) {
         let edges = link_edges(alloc, links, keys, links.of(function))?;
         put(states, keys[place], State::new(edges));
@@ -169,29 +97,54 @@ fn fill_one(
     Ok(())
 }
 
-// Gives each new state the edges of its calls.
+// Gives each state the edges of its calls.
 fn fill(
     alloc: Global,
     states: &mut Slab<State>,
     keys: &[usize],
+    known: &IndexSet<usize>,
     links: &Links,
 ) -> Result<(), OutOfMemory>
     requires own { (i : ℕ) → i < length keys.now → IsThere (get states.old) (slice_index_or keys.now i 0) }
     requires targets { (f : ℕ) (l : Linked) → HasLink links.now f l → IsThere (get states.old) (key_at (functions_of links.now) keys.now l.place) }
-    requires apart { (i j : ℕ) → i < j → j < length keys.now → slice_index_or keys.now i 0 ≢ slice_index_or keys.now j 0 }
-    ensures rewrites { Rewrites (get states.old) (get states.new) keys.now }
-    ensures filled { OnOk result (Filled (get states.old) (get states.new) keys.now links.now (length keys.now)) }
+    requires apart { (i j : ℕ) → i < length keys.now → j < length keys.now → i ≢ j → (Contains known.now.keys j → ⊥) → slice_index_or keys.now i 0 ≢ slice_index_or keys.now j 0 }
+    requires known { (i : ℕ) → i < length keys.now → Contains known.now.keys i → IsFilled (get states.old) keys.now links.now i }
+    ensures rewrites { Rewrites (get states.old) (get states.new) keys.now known.now.keys }
+    ensures filled { OnOk result (Filled (get states.old) (get states.new) keys.now known.now.keys links.now (length keys.now)) }
 {
     for place in 0..keys.len() {
-        fill_one(alloc, states, keys, links, place)?;
+        fill_one(alloc, states, keys, known, links, place)?;
     }
     Ok(())
 }
 
-// The keys of the functions that were entered, with the edges of their calls.
+// Stores the states of the entered functions under the keys that are known, and new keys for the others.
+fn store_others(
+    alloc: Global,
+    states: &mut Slab<State>,
+    model: &Model,
+    done: &Closure,
+    found: &[usize],
+    known: &IndexSet<usize>,
+) -> Result<Vec<usize>, OutOfMemory>
+    requires event { (begin : List Fact') × (s : States) × IsEvent model.now s begin done.now × IsClosed s × Grows s (get states.old) }
+    requires resolved { AreResolved (get states.old) found.now known.now.keys done.now.links }
+    ensures grows { Grows (get states.old) (get states.new) }
+    ensures entered { IfOk result (λ keys. AreStored (get states.new) done.now keys.items) }
+{
+    let links = &done.links;
+    let vec = plan(alloc, states, found, known)?;
+    let keys: &[usize] = &vec;
+    fill(alloc, states, keys, known, links)?;
+    Ok(vec)
+}
+
+// The keys of the functions that were entered, with the edges of their calls. A function has a new key
+// only where a cycle of calls is reached from it.
 fn store_entered(
     alloc: Global,
     states: &mut Slab<State>,
+    shared: &mut Shared,
     model: &Model,
     done: &Closure,
 ) -> Result<Vec<usize>, OutOfMemory>
@@ -200,11 +153,9 @@ fn store_entered(
     ensures grows { Grows (get states.old) (get states.new) }
     ensures entered { IfOk result (λ keys. AreStored (get states.new) done.now keys.items) }
 {
-    let links = &done.links;
-    let vec = plan(alloc, states, links.len())?;
-    let keys: &[usize] = &vec;
-    fill(alloc, states, keys, links)?;
-    Ok(vec)
+    let found = resolve(alloc, states, shared, &done.links)?;
+    let keys = store_others(alloc, states, model, done, &found.keys, &found.known)?;
+    Ok(keys)
 }
 
 // Stores the states of an event, and gives the key of its own.
@@ -221,7 +172,7 @@ pub fn store(
     ensures stored { IfOk result (λ key. (begin : List Fact') → IsEvent model.now (get states.old) begin done.now → IsStored model.now (get states.old) (get states.new) begin key) }
     ensures there { IfOk result (λ key. IsThere (get states.new) key) }
 {
-    let keys = store_entered(alloc, states, model, done)?;
+    let keys = store_entered(alloc, states, shared, model, done)?;
     let edges = tops(alloc, &done.links, &keys, done.facts.as_slice())?;
     let key = share(states, shared, edges)?;
     Ok(key)

@@ -1,4 +1,4 @@
-ghost use Rattle.std.specs.Prelude.{ℕ, List, [], IfOk};
+ghost use Rattle.std.specs.Prelude.{◌<◌, ℕ, List, [], IfOk, OnOk};
 ghost use Rattle.dm_base.specs.declared.event.Event.{Event as Event'};
 ghost use Rattle.stack_automaton.specs.Seen.{Position};
 ghost use Rattle.stack_automaton.specs.Standing.{AreNoted, IsPool, StandsFor};
@@ -98,6 +98,12 @@ const E: Case = Case {
         (4, CLOSE, Entry::Any, 2),
     ],
     calls: &[(3, 1, 4, &[0]), (5, 4, 7, &[0])],
+};
+
+// The same, where main calls it again and again.
+const E_IN_A_LOOP: Case = Case {
+    silent: &[(2, 1), (7, 5), (7, 6)],
+    ..E
 };
 
 const SILENT_CYCLES: Case = Case {
@@ -459,15 +465,165 @@ fn live_after(
 
 #[test]
 fn stores_equal_states_once(rt: HostRuntime) -> Result<(), Fail> {
-    let model = model(rt.alloc(), A)?;
-    let cases: [(&[Made], &[Made], usize); 3] = [
-        (&[PID], &[PID], 2),
-        (&[PID], &[PID, PID], 2),
-        (&[PID], &[], 3),
+    let cases: [(Case, &[Made], &[Made], usize); 8] = [
+        (A, &[PID], &[PID], 2),
+        (A, &[PID], &[PID, PID], 2),
+        (A, &[PID], &[], 3),
+        (B, &[PID], &[PID], 3),
+        (B, &[PID, UID], &[PID, UID], 3),
+        (B, &[], &[], 3),
+        (E_IN_A_LOOP, &[PID], &[PID, PID], 3),
+        (
+            E_IN_A_LOOP,
+            &[dup(1), dup(2), PID, close(2)],
+            &[PID, dup(2), dup(1), PID, close(1)],
+            4,
+        ),
     ];
-    for (i, (first, second, live)) in cases.iter().enumerate() {
+    for (i, (case, first, second, live)) in cases.iter().enumerate() {
+        let model = model(rt.alloc(), *case)?;
         assert_eq!(rt;
             live_after(rt.alloc(), &model, first, second)?,
+            *live,
+            "case {i}"
+        );
+    }
+    Ok(())
+}
+
+// How many functions of ten nodes each the long chain has.
+const CHAIN: u32 = 1000;
+
+// Functions that each call the next one, and then read getpid seven times. The first begins again and
+// again.
+fn chain(alloc: Global) -> Result<Model, Fail> {
+    let mut builder = ModelBuilder::new(alloc)?;
+    let name = SysName::from_index(GETPID).ok_or("a name")?;
+    for i in 0..CHAIN {
+        let entry = 10 * i;
+        let exit = entry + 1;
+        let text = format!(in alloc; "f{i}")?;
+        let function = Bytes::of(alloc, text.as_bytes())?;
+        builder.function(ModelFunction {
+            name: function,
+            entry,
+            exit,
+        })?;
+        for from in entry + 2..entry + 9 {
+            builder.sys(SysEdge {
+                from,
+                name,
+                to: from + 1,
+                args: Pattern::any(0),
+            })?;
+        }
+        if i == 0 {
+            builder.silent(SilentEdge {
+                from: entry + 9,
+                to: entry,
+            })?;
+        }
+        builder.silent(SilentEdge {
+            from: entry + 9,
+            to: exit,
+        })?;
+        if i + 1 < CHAIN {
+            let candidates = vec![in alloc; i + 1]?;
+            builder.call(CallEdge::new(entry, i, entry + 2, candidates))?;
+        } else {
+            builder.silent(SilentEdge {
+                from: entry,
+                to: entry + 2,
+            })?;
+        }
+    }
+    let model = builder
+        .finish(10 * CHAIN, 0)
+        .map_err(|_| "a model")?;
+    Ok(model)
+}
+
+// The event at the place of a trace that goes down so many times, and then up again, over and over.
+fn nested(place: usize, depth: usize) -> Made
+    requires { depth < 10000 }
+{
+    let step = place % (2 * depth + 1);
+    if step < depth {
+        dup(1)
+    } else if step == depth {
+        PID
+    } else {
+        close(1)
+    }
+}
+
+// How many events there are between two sweeps.
+const SWEPT: usize = 1024;
+
+// How many sweeps there are in a million events.
+const SWEEPS: usize = 977;
+
+fn sweep_for(monitor: &StackMonitor, pool: &mut Pool, model: &Model) -> Result<(), Fail>
+    requires pool { IsPool pool.old }
+    requires stands { (k : ℕ) × (h : List Event') × StandsFor monitor.now pool.old model.now k h }
+    requires notes { AreNoted pool.old [] }
+    ensures pool { OnOk result (IsPool pool.new) }
+    ensures stands { OnOk result ((k : ℕ) × (h : List Event') × StandsFor monitor.now pool.new model.now k h) }
+    ensures notes { OnOk result (AreNoted pool.new []) }
+{
+    let _nodes = model.nodes();
+    monitor.mark(pool)?;
+    StackMonitor::sweep(pool);
+    Ok(())
+}
+
+// Feeds the events of one stretch of such a trace.
+fn feed_stretch(
+    monitor: &mut StackMonitor,
+    pool: &mut Pool,
+    model: &Model,
+    stretch: usize,
+    depth: usize,
+) -> Result<(), Fail>
+    requires pool { IsPool pool.old }
+    requires stands { (k : ℕ) × (h : List Event') × StandsFor monitor.old pool.old model.now k h }
+    requires notes { AreNoted pool.old [] }
+    requires stretch { stretch < 1000 }
+    requires depth { depth < 10000 }
+    ensures pool { OnOk result (IsPool pool.new) }
+    ensures stands { OnOk result ((k : ℕ) × (h : List Event') × StandsFor monitor.new pool.new model.now k h) }
+    ensures notes { OnOk result (AreNoted pool.new []) }
+{
+    for i in 0..SWEPT {
+        let event = event(nested(stretch * SWEPT + i, depth))?;
+        monitor.feed(pool, model, &event)?;
+    }
+    Ok(())
+}
+
+// How many keys are held after a million events of such a trace, swept after each 1,024th. It is only the
+// final key where one of the events is refused.
+fn live_after_a_million(alloc: Global, model: &Model, depth: usize) -> Result<usize, Fail>
+    requires depth { depth < 10000 }
+{
+    let mut pool = StackMonitor::pool(alloc, model)?;
+    let mut monitor = StackMonitor::open(&mut pool, model, 1)?;
+    for stretch in 0..SWEEPS {
+        feed_stretch(&mut monitor, &mut pool, model, stretch, depth)?;
+        sweep_for(&monitor, &mut pool, model)?;
+    }
+    Ok(pool.live())
+}
+
+#[test]
+fn holds_few_keys_over_a_million_events(rt: HostRuntime) -> Result<(), Fail> {
+    let looping = model(rt.alloc(), E_IN_A_LOOP)?;
+    let chain = chain(rt.alloc())?;
+    // After 1,000,448 events the first is 348 calls down, the second one, and the third is in function 78.
+    let cases: [(&Model, usize, usize); 3] = [(&looping, 5000, 351), (&looping, 3, 4), (&chain, 0, 80)];
+    for (i, (model, depth, live)) in cases.iter().enumerate() {
+        assert_eq!(rt;
+            live_after_a_million(rt.alloc(), model, *depth)?,
             *live,
             "case {i}"
         );

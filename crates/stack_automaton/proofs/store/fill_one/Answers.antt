@@ -21,4 +21,4 @@ pub returns-in_ok-edges-clause-closed : goal.returns-in_ok-edges-clause-closed
 returns-in_ok-edges-clause-closed c =
     put_closed (get c.args.states.now) (get c.put.new.states) (get_or c.args.keys.now c.args.place 0) c.in_ok-edges.edges.items
     (subst (λ es. IsPut (get c.args.states.now) (get c.put.new.states) (get_or c.args.keys.now c.args.place 0) (Some es)) c.new.ensures c.put.ensures)
-    (links_there (get c.args.states.now) c.args.keys.now c.args.links.now c.in-Some.function c.in_ok-edges.edges.items (edges_at c) c.requires.targets)
+    (links_there (get c.args.states.now) c.args.keys.now c.args.links.now c.in-Some.function c.in_ok-edges.edges.items (edges_at c) (c.requires.targets c.in-Some.function))

@@ -1,7 +1,7 @@
 use Rattle.std.proofs.Common.{ap}
 use Rattle.slab.specs.Slab.{get}
 use Rattle.stack_automaton.proofs.GrowingLemmas.{grows_same, grows_put}
-use Rattle.stack_automaton.proofs.store.insert.Goals as goal
+use Rattle.stack_automaton.proofs.shared.insert.Goals as goal
 
 pub returns-in_err-key-clause-grows : goal.returns-in_err-key-clause-grows
 returns-in_err-key-clause-grows c = λ targets. grows_same (get c.args.states.now) (get c.insert.new.self) (λ k. ap (λ s. get s k) c.in_err-key.ensures.err)

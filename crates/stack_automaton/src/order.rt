@@ -1,0 +1,86 @@
+use crate::links::Links;
+use crate::place::Place;
+use dm_base::OutOfMemory;
+use std::alloc::Global;
+
+// Notes that the function at the place waits for that at the other.
+fn wait(
+    open: &mut [usize],
+    above: &mut [Vec<usize>],
+    place: usize,
+    other: usize,
+) -> Result<(), OutOfMemory> {
+    if let Some(list) = above.get_mut(other) {
+        list.push(place)?;
+        if let Some(count) = open.get_mut(place) {
+            *count = count.saturating_add(1);
+        }
+    }
+    Ok(())
+}
+
+// Notes that the function at the place waits for those to which its calls lead.
+fn wait_for_all(
+    open: &mut [usize],
+    above: &mut [Vec<usize>],
+    links: &Links,
+    place: usize,
+) -> Result<(), OutOfMemory> {
+    if let Some(function) = links.function(place) {
+        for link in links.of(function) {
+            if let Place::Entered(below) = link.place {
+                wait(open, above, place, links.place(below))?;
+            }
+        }
+    }
+    Ok(())
+}
+
+// The function at the place is in order: adds those that wait for nothing else.
+fn release(
+    order: &mut Vec<usize>,
+    open: &mut [usize],
+    above: &[Vec<usize>],
+    place: usize,
+) -> Result<(), OutOfMemory> {
+    if let Some(list) = above.get(place) {
+        for other in list {
+            if let Some(count) = open.get_mut(*other) {
+                *count = count.saturating_sub(1);
+                if *count == 0 {
+                    order.push(*other)?;
+                }
+            }
+        }
+    }
+    Ok(())
+}
+
+// The places of the entered functions from which no cycle of calls is reached, each after those of the
+// functions to which its calls lead. Each call is gone along twice.
+pub fn order(alloc: Global, links: &Links) -> Result<Vec<usize>, OutOfMemory> {
+    // For each place how many calls lead from it to functions that are not in order yet, and the places
+    // from which calls lead to it.
+    let mut open = vec![in alloc; 0; links.len()]?;
+    let mut above = Vec::new(alloc);
+    for _ in 0..links.len() {
+        above.push(Vec::new(alloc))?;
+    }
+    for place in 0..links.len() {
+        wait_for_all(&mut open, &mut above, links, place)?;
+    }
+    let mut order = Vec::new(alloc);
+    for (place, count) in open.iter().enumerate() {
+        if *count == 0 {
+            order.push(place)?;
+        }
+    }
+    for i in 0..usize::MAX {
+        let Some(&place) = order.get(i) else {
+            return Ok(order);
+        };
+        release(&mut order, &mut open, &above, place)?;
+    }
+    // So many functions find no memory.
+    Err(OutOfMemory)
+}
