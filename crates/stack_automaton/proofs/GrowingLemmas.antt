@@ -21,7 +21,7 @@ use Rattle.stack_automaton.specs.Links.{HasLink, functions_of}
 use Rattle.stack_automaton.specs.Event.{IsFact, IsLink, key_of}
 use Rattle.stack_automaton.specs.Following.{IsFirst, link_of}
 use Rattle.stack_automaton.specs.Storing.{IsClosed, Grows, IsPut, key_at, IsLinkEdge, AreLinkEdges, AreTops, Planned, IsFilled, Rewrites, Filled, AreTargets, IsEvent, AreStored, IsStored}
-use Rattle.stack_automaton.specs.Resolving.{IsKnown, AreResolved, IsChosen}
+use Rattle.stack_automaton.specs.Resolving.{IsChosen}
 use Rattle.stack_automaton.proofs.EventLemmas.{there, IsThereAt, linked, IsLinked}
 
 pub grows_same : (old new : States) → ((k : ℕ) → new k ≡ old k) → Grows old new

@@ -104,16 +104,16 @@ module _ (old new : States) (keys ks known more : List ℕ) (links : Links) (pla
     long = long ∙ resolved.long;
     within = at_each (λ i. i < length ks) (λ i has. let lt = resolved.within i has in omega (arith, lt, long)) (let lt = slice_get_within (functions_of links) place f at in omega (arith, lt, long, resolved.long));
     there = at_each (λ i. IsThere new (get_or ks i 0))
-    (λ i has. let (es, is) = resolved.there i has in (es, subst (λ k. new k ≡ Some es) (sym (same_before i has)) (grows.kept (get_or keys i 0) es is)))
-    (edges, subst (λ k. new k ≡ Some edges) (sym here) found);
+        (λ i has. let (es, is) = resolved.there i has in (es, subst (λ k. new k ≡ Some es) (sym (same_before i has)) (grows.kept (get_or keys i 0) es is)))
+        (edges, subst (λ k. new k ≡ Some edges) (sym here) found);
     filled = at_each (λ i. IsFilled new ks links i) (filled_among links keys ks known same_before old new grows resolved) filled_here;
     below = λ i h l has is in_links.
         at_each (λ j. (h : ℕ) (l : Link) → slice_get (functions_of links) j ≡ Some h → HasLink links h l → IsKnown (functions_of links) more l.place)
         (λ j was h l is in_links. known_more l.place (resolved.below j h l was is in_links))
         (λ h l is in_links.
-            let both : Some f ≡ Some h = sym at ∙ is in
-            let equal : f ≡ h = cc in
-            known_more l.place (below l (subst (λ j. HasLink links j l) (sym equal) in_links)))
+        let both : Some f ≡ Some h = sym at ∙ is in
+        let equal : f ≡ h = cc in
+        known_more l.place (below l (subst (λ j. HasLink links j l) (sym equal) in_links)))
         i has h l is in_links;
   }
 

@@ -119,9 +119,7 @@ pub fn resolve(
     let mut known = IndexSet::new(alloc);
     let order = order(alloc, links)?;
     for place in &order {
-        resolve_one(
-            alloc, states, shared, &mut keys, &mut known, links, *place,
-        )?;
+        resolve_one(alloc, states, shared, &mut keys, &mut known, links, *place)?;
     }
     Ok(Resolved { keys, known })
 }

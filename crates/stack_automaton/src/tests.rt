@@ -537,9 +537,7 @@ fn chain(alloc: Global) -> Result<Model, Fail> {
             })?;
         }
     }
-    let model = builder
-        .finish(10 * CHAIN, 0)
-        .map_err(|_| "a model")?;
+    let model = builder.finish(10 * CHAIN, 0).map_err(|_| "a model")?;
     Ok(model)
 }
 
@@ -620,7 +618,11 @@ fn holds_few_keys_over_a_million_events(rt: HostRuntime) -> Result<(), Fail> {
     let looping = model(rt.alloc(), E_IN_A_LOOP)?;
     let chain = chain(rt.alloc())?;
     // After 1,000,448 events the first is 348 calls down, the second one, and the third is in function 78.
-    let cases: [(&Model, usize, usize); 3] = [(&looping, 5000, 351), (&looping, 3, 4), (&chain, 0, 80)];
+    let cases: [(&Model, usize, usize); 3] = [
+        (&looping, 5000, 351),
+        (&looping, 3, 4),
+        (&chain, 0, 80),
+    ];
     for (i, (model, depth, live)) in cases.iter().enumerate() {
         assert_eq!(rt;
             live_after_a_million(rt.alloc(), model, *depth)?,

@@ -1,4 +1,4 @@
-use Rattle.std.proofs.Common.{◌≡◌, ◌<◌, ◌∙◌, length, true, false, rules, arith, subst, sym, Contains}
+use Rattle.std.proofs.Common.{◌≡◌, true, rules, arith, subst, sym}
 use Rattle.std.proofs.lemmas.Option.{slice_get_within}
 use Rattle.slab.specs.Slab.{get}
 use Rattle.stack_automaton.specs.declared.place.Link.{Link}
