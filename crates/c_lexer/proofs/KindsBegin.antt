@@ -1,0 +1,204 @@
+-- With which byte the text of a token begins, and what stands at the front of a text.
+use Rattle.std.proofs.Common.{◌≡◌, ◌⊎◌, ◌≤◌, ◌<◌, ℕ, Bool, true, false, List, [], ◌∷◌, ◌++◌, length, take, All, Contains, refl, ap, sym, ◌∙◌, subst, inl, inr, ⊎_elim, arith}
+use Rattle.std.specs.Char.{digit_value}
+use Rattle.std.specs.Str.Parse.{AllDigits}
+use Rattle.std.proofs.lemmas.Str.Parse.{digit_from_value}
+use Rattle.std.proofs.lemmas.Bool.{cases_lt}
+use Rattle.std.proofs.lemmas.Bool.Decides.{nat_tests}
+use Rattle.std.proofs.lemmas.List.{take_at}
+use Rattle.std.proofs.lemmas.List.Elements.{All-nil, All-cons, All-append, All-tail}
+use Rattle.dm_base.specs.Name.{IsName, IsLetter, IsDigit}
+use Rattle.c_lexer.specs.declared.token.TokenKind.{TokenKind}
+use Rattle.c_lexer.specs.declared.token.TokenKind.TheVariants.{Name, Keyword, Int, Char, Str, Punct}
+use Rattle.c_lexer.specs.Words.{keywords, punctuators, IsWord, IsNumber, IsRun, IsWordByte, IsNumberByte}
+use Rattle.c_lexer.specs.Literals.{IsConstant, IsDecimal, IsOctal, IsHexadecimal, HasNumber, IsSuffix, IsCharacter, IsString, IsLongest}
+use Rattle.c_lexer.specs.Kinds.{Spells, IsLexeme}
+use Rattle.c_lexer.specs.Spelling.{IsToken}
+use Rattle.c_lexer.specs.Parts.{BeginsWith, IsOther}
+use Rattle.c_lexer.proofs.WordTables.{keyword_is_fixed, punctuator_begins, number_Contains}
+
+-- the bytes of the digits
+pub digit_is_word_byte : (c : ℕ) → digit_value c < 36 → IsWordByte c
+digit_is_word_byte c h =
+    ⊎_elim (λ low. absurd (let bad : 36 ≤ digit_value c = grind (arith, nat_tests) in omega arith))
+    (λ from_0.
+    ⊎_elim (λ digit. inr (from_0, omega arith))
+    (λ past.
+    ⊎_elim (λ mid. absurd (let bad : 36 ≤ digit_value c = grind (arith, nat_tests) in omega arith))
+    (λ from_a.
+    ⊎_elim (λ big. inl (inl (from_a, omega arith)))
+    (λ past_z.
+    ⊎_elim (λ mid. absurd (let bad : 36 ≤ digit_value c = grind (arith, nat_tests) in omega arith))
+    (λ from_b.
+    ⊎_elim (λ small. inl (inr (inl (from_b, omega arith))))
+    (λ high. absurd (let bad : 36 ≤ digit_value c = grind (arith, nat_tests) in omega arith))
+    (cases_lt c 123))
+    (cases_lt c 97))
+    (cases_lt c 91))
+    (cases_lt c 65))
+    (cases_lt c 58))
+    (cases_lt c 48)
+
+all_digits_bytes : (radix : ℕ) (w : List ℕ) → radix ≤ 36 → AllDigits radix w → All IsNumberByte w
+all_digits_bytes radix [] small h = All-nil IsNumberByte
+all_digits_bytes radix (c ∷ w) small h = All-cons IsNumberByte c w (inl (digit_is_word_byte c (omega (arith, h.0)))) (all_digits_bytes radix w small h.1)
+
+x_is_number_byte : (x : ℕ) → (x ≡ 120) ⊎ (x ≡ 88) → IsNumberByte x
+x_is_number_byte x (inl is) = inl (inl (inr (inl (omega arith, omega arith))))
+x_is_number_byte x (inr is) = inl (inl (inl (omega arith, omega arith)))
+
+decimal_is_number : (w : List ℕ) (n : ℕ) → IsDecimal w n → IsNumber w
+decimal_is_number [] n h = absurd h
+decimal_is_number (d ∷ w) n h = (digit_from_value d h.1.0, all_digits_bytes 10 w (omega arith) h.1.1)
+
+octal_is_number : (w : List ℕ) (n : ℕ) → IsOctal w n → IsNumber w
+octal_is_number w n (digits, is, each, _) = subst IsNumber (sym is) ((omega arith, omega arith), all_digits_bytes 8 digits (omega arith) each)
+
+hexadecimal_is_number : (w : List ℕ) (n : ℕ) → IsHexadecimal w n → IsNumber w
+hexadecimal_is_number w n (x, digits, is, marks, _, each, _) =
+    subst IsNumber (sym is) ((omega arith, omega arith), All-cons IsNumberByte x digits (x_is_number_byte x marks) (all_digits_bytes 16 digits (omega arith) each))
+
+has_number_is_number : (w : List ℕ) (n : ℕ) (decimal : Bool) → HasNumber w n decimal → IsNumber w
+has_number_is_number w n true h = decimal_is_number w n h
+has_number_is_number w n false (inl h) = octal_is_number w n h
+has_number_is_number w n false (inr h) = hexadecimal_is_number w n h
+
+number_append : (w v : List ℕ) → IsNumber w → All IsNumberByte v → IsNumber (w ++ v)
+number_append [] v h each = absurd h
+number_append (b ∷ w) v h each = (h.0, All-append IsNumberByte w v h.1 each)
+
+suffix_bytes : (v : List ℕ) (suffixed : Bool) → IsSuffix suffixed v → All IsNumberByte v
+suffix_bytes v true (inl is) = subst (All IsNumberByte) (sym is) (All-cons IsNumberByte 117 [] (inl (inl (inr (inl (omega arith, omega arith))))) (All-nil IsNumberByte))
+suffix_bytes v true (inr is) = subst (All IsNumberByte) (sym is) (All-cons IsNumberByte 85 [] (inl (inl (inl (omega arith, omega arith)))) (All-nil IsNumberByte))
+suffix_bytes v false is = subst (All IsNumberByte) (sym is) (All-nil IsNumberByte)
+
+pub constant_is_number : (w : List ℕ) (n : ℕ) (decimal suffixed : Bool) → IsConstant w n decimal suffixed → IsNumber w
+constant_is_number w n decimal suffixed c =
+    subst IsNumber (sym c.is) (number_append c.digits c.suffix (has_number_is_number c.digits n decimal c.number) (suffix_bytes c.suffix suffixed c.ended))
+
+name_is_word : (w : List ℕ) → IsName w → IsWord w
+name_is_word [] name = absurd (omega (arith, name.some))
+name_is_word (b ∷ w) name = (name.begins b w refl, All-tail IsWordByte b w name.bytes)
+
+-- each text of a token is one that is taken whole
+pub spelled_is_lexeme : (kind : TokenKind) (w : List ℕ) → Spells kind w → IsLexeme w
+spelled_is_lexeme (Name name) w h = inl (name_is_word w h.1)
+spelled_is_lexeme (Keyword k) w h = inl (keyword_is_fixed w (number_Contains keywords k w h)).word
+spelled_is_lexeme (Int value unsigned) w h = inr (inl (constant_is_number w value h.0 h.1 h.2))
+spelled_is_lexeme (Char c) w h = inr (inr (inl (h.0, h.1)))
+spelled_is_lexeme (Str bytes) w h = inr (inr (inr (inl (bytes, h.0))))
+spelled_is_lexeme (Punct p) w h = inr (inr (inr (inr (number_Contains punctuators p w h))))
+
+-- the four first bytes, and what else there is
+pub run_begins : (First Later : ℕ → Type 0) (w : List ℕ) → IsRun First Later w → BeginsWith First w
+run_begins First Later [] h = absurd h
+run_begins First Later (b ∷ w) h = (b, w, refl, h.0)
+
+pub same_first : (P : ℕ → Type 0) (i : List ℕ) (b : ℕ) (rest : List ℕ) → BeginsWith P i → i ≡ b ∷ rest → P b
+same_first P i b rest (c, more, is, h) e = let same : c ≡ b = cc in subst P same h
+
+-- first bytes that differ
+pub first_apart : (P Q : ℕ → Type 0) (i : List ℕ) → ((b : ℕ) → P b → Q b → ⊥) → BeginsWith P i → BeginsWith Q i → ⊥
+first_apart P Q i apart p (b, rest, is, q) = apart b (same_first P i b rest p is) q
+
+pub letter_no_digit : (b : ℕ) → IsLetter b → IsDigit b → ⊥
+letter_no_digit b (inl x) d = omega arith
+letter_no_digit b (inr (inl x)) d = omega arith
+letter_no_digit b (inr (inr x)) d = omega arith
+
+pub letter_no_mark : (b n : ℕ) → n < 65 → IsLetter b → b ≡ n → ⊥
+letter_no_mark b n low (inl x) e = omega arith
+letter_no_mark b n low (inr (inl x)) e = omega arith
+letter_no_mark b n low (inr (inr x)) e = omega arith
+
+pub digit_no_mark : (b n : ℕ) → n < 48 → IsDigit b → b ≡ n → ⊥
+digit_no_mark b n low d e = omega arith
+
+character_begins : (w : List ℕ) (v : ℕ) → IsCharacter w v → BeginsWith (λ b. b ≡ 39) w
+character_begins w v (i, is, _) = (39, i, is, refl)
+
+string_begins : (w vs : List ℕ) → IsString w vs → BeginsWith (λ b. b ≡ 34) w
+string_begins w vs (i, is, _) = (34, i, is, refl)
+
+pub letter_lexeme : (w : List ℕ) → IsLexeme w → BeginsWith IsLetter w → IsWord w
+letter_lexeme w (inl h) first = h
+letter_lexeme w (inr (inl h)) first = absurd (first_apart IsLetter IsDigit w letter_no_digit first (run_begins IsDigit IsNumberByte w h))
+letter_lexeme w (inr (inr (inl (v, h)))) first = absurd (first_apart IsLetter (λ b. b ≡ 39) w (λ b. letter_no_mark b 39 (omega arith)) first (character_begins w v h))
+letter_lexeme w (inr (inr (inr (inl (vs, h))))) first = absurd (first_apart IsLetter (λ b. b ≡ 34) w (λ b. letter_no_mark b 34 (omega arith)) first (string_begins w vs h))
+letter_lexeme w (inr (inr (inr (inr h)))) first = absurd (first_apart IsLetter IsOther w (λ b letter other. other.no_letter letter) first (punctuator_begins w h))
+
+pub digit_lexeme : (w : List ℕ) → IsLexeme w → BeginsWith IsDigit w → IsNumber w
+digit_lexeme w (inl h) first = absurd (first_apart IsLetter IsDigit w letter_no_digit (run_begins IsLetter IsWordByte w h) first)
+digit_lexeme w (inr (inl h)) first = h
+digit_lexeme w (inr (inr (inl (v, h)))) first = absurd (first_apart IsDigit (λ b. b ≡ 39) w (λ b. digit_no_mark b 39 (omega arith)) first (character_begins w v h))
+digit_lexeme w (inr (inr (inr (inl (vs, h))))) first = absurd (first_apart IsDigit (λ b. b ≡ 34) w (λ b. digit_no_mark b 34 (omega arith)) first (string_begins w vs h))
+digit_lexeme w (inr (inr (inr (inr h)))) first = absurd (first_apart IsDigit IsOther w (λ b digit other. other.no_digit digit) first (punctuator_begins w h))
+
+pub other_lexeme : (w : List ℕ) → IsLexeme w → BeginsWith IsOther w → Contains punctuators w
+other_lexeme w (inl h) first = absurd (first_apart IsLetter IsOther w (λ b letter other. other.no_letter letter) (run_begins IsLetter IsWordByte w h) first)
+other_lexeme w (inr (inl h)) first = absurd (first_apart IsDigit IsOther w (λ b digit other. other.no_digit digit) (run_begins IsDigit IsNumberByte w h) first)
+other_lexeme w (inr (inr (inl (v, h)))) first = absurd (first_apart IsOther (λ b. b ≡ 39) w (λ b other is. other.no_single is) first (character_begins w v h))
+other_lexeme w (inr (inr (inr (inl (vs, h))))) first = absurd (first_apart IsOther (λ b. b ≡ 34) w (λ b other is. other.no_double is) first (string_begins w vs h))
+other_lexeme w (inr (inr (inr (inr h)))) first = h
+
+begins_some : (P : ℕ → Type 0) (w : List ℕ) → BeginsWith P w → (b : ℕ) × (rest : List ℕ) × (w ≡ b ∷ rest)
+begins_some P w (b, rest, is, _) = (b, rest, is)
+
+pub lexeme_some : (w : List ℕ) → IsLexeme w → (b : ℕ) × (rest : List ℕ) × (w ≡ b ∷ rest)
+lexeme_some w (inl h) = begins_some _ w (run_begins IsLetter IsWordByte w h)
+lexeme_some w (inr (inl h)) = begins_some _ w (run_begins IsDigit IsNumberByte w h)
+lexeme_some w (inr (inr (inl (v, h)))) = begins_some _ w (character_begins w v h)
+lexeme_some w (inr (inr (inr (inl (vs, h))))) = begins_some _ w (string_begins w vs h)
+lexeme_some w (inr (inr (inr (inr h)))) = begins_some _ w (punctuator_begins w h)
+
+-- the first byte of a front is that of the text
+pub front_begins : (P : ℕ → Type 0) (i w j : List ℕ) (b : ℕ) (rest : List ℕ) → i ≡ w ++ j → w ≡ b ∷ rest → BeginsWith P i → BeginsWith P w
+front_begins P i w j b rest stands is first =
+    (b, rest, is, same_first P i b (rest ++ j) first (stands ∙ ap (λ v. v ++ j) is))
+
+pub whole_begins : (P : ℕ → Type 0) (i w j : List ℕ) → i ≡ w ++ j → BeginsWith P w → BeginsWith P i
+whole_begins P i w j stands (b, rest, is, h) = (b, rest ++ j, stands ∙ ap (λ v. v ++ j) is, h)
+
+-- two fronts of one length are one
+pub same_front : (i w j v k : List ℕ) → i ≡ w ++ j → i ≡ v ++ k → length w ≡ length v → w ≡ v
+same_front i w j v k one other long = sym (take_at w j (length v) long) ∙ ap (take (length v)) (sym one ∙ other) ∙ take_at v k (length v) refl
+
+-- A kind of text that is taken whole: what is taken whole and begins with such a byte is of this kind, and no comment begins so.
+pub record IsClass (First : ℕ → Type 0) (P : List ℕ → Type 0) : Type 0 where
+  pub only : (w : List ℕ) → IsLexeme w → BeginsWith First w → P w
+  pub starts : (w : List ℕ) → P w → BeginsWith First w
+  pub whole : (w : List ℕ) → P w → IsLexeme w
+  pub no_slash : First 47 → ⊥
+
+module _ {First : ℕ → Type 0} {P : List ℕ → Type 0} (class : IsClass First P) {w i j : List ℕ} (taken : IsLongest P w i j) where
+  begins : BeginsWith First i
+  begins = whole_begins First i w j taken.stands (class.starts w taken.is)
+
+  least : (x y : List ℕ) → i ≡ x ++ y → IsLexeme x → length x ≤ length w
+  least x y stands lexeme =
+      let some = lexeme_some x lexeme in
+      taken.longest x y stands (class.only x lexeme (front_begins First i x y some.0 some.1 stands some.2 begins))
+
+  pub class_token : (kind : TokenKind) → Spells kind w → IsToken kind w j
+  class_token kind spells = record {
+    spells = spells;
+    longest = λ x y stands lexeme. least x y (taken.stands ∙ stands) lexeme;
+    no_line_comment = λ (rest, is). class.no_slash (same_first First i 47 (47 ∷ rest) begins (taken.stands ∙ is));
+    no_block_comment = λ (rest, is). class.no_slash (same_first First i 47 (42 ∷ rest) begins (taken.stands ∙ is));
+  }
+
+  pub class_no_token : ((kind : TokenKind) → Spells kind w → ⊥) → (kind : TokenKind) (v rest : List ℕ) → i ≡ v ++ rest → IsToken kind v rest → ⊥
+  class_no_token none kind v rest stands token =
+      let short : length v ≤ length w = least v rest stands (spelled_is_lexeme kind v token.spells) in
+      let long : length w ≤ length v = token.longest w j (sym stands ∙ taken.stands) (class.whole w taken.is) in
+      let same : w ≡ v = same_front i w j v rest taken.stands stands (omega arith) in
+      none kind (subst (Spells kind) (sym same) token.spells)
+
+pub one_longest : (P : List ℕ → Type 0) (i w j v k : List ℕ) → IsLongest P w i j → IsLongest P v i k → w ≡ v
+one_longest P i w j v k one other =
+    let short : length w ≤ length v = other.longest w j one.stands one.is in
+    let long : length v ≤ length w = one.longest v k other.stands other.is in
+    same_front i w j v k one.stands other.stands (omega arith)
+
+pub zero_spelled : Spells (Int 0 false) (48 ∷ [])
+zero_spelled = (false, false, record { digits = 48 ∷ []; suffix = []; is = refl; number = inl ([], refl, tt, refl); ended = refl }, refl)

@@ -1,0 +1,148 @@
+-- Runs of bytes that are taken whole, and the causes that may hold by the first byte of a text.
+use Rattle.std.proofs.Common.{◌≡◌, ◌⊎◌, ◌≤◌, ◌<◌, ◌+◌, ◌^◌, ℕ, zero, suc, true, false, cond, Some, None, List, [], ◌∷◌, ◌++◌, length, get_or, take, drop, All, refl, ap, sym, ◌∙◌, subst, inl, inr, ⊎_elim, arith}
+use Rattle.std.specs.Char.{digit_value}
+use Rattle.std.specs.Str.Parse.{digits_value}
+use Rattle.std.proofs.lemmas.Bool.{cases_lt, lt-ltb}
+use Rattle.std.proofs.lemmas.Bool.Decides.{nat_tests}
+use Rattle.std.proofs.lemmas.Int.Digits.{digits_value-lt}
+use Rattle.std.proofs.lemmas.List.{drop_all, take_all, drop_more, length-take-le, take-append-drop, get_or_append_left, length-append}
+use Rattle.std.proofs.lemmas.List.Elements.{All-nil, All-cons, All-same, All-tail}
+use Rattle.dm_base.specs.Name.{IsName, IsLetter, IsDigit}
+use Rattle.c_lexer.specs.declared.token.TokenKind.TheVariants.{Name, Int}
+use Rattle.c_lexer.specs.declared.error.Cause.TheVariants.{ForeignByte, OpenComment, Malformed, TooLarge, NoLineMarker}
+use Rattle.c_lexer.specs.Words.{IsWord, IsNumber, IsRun, IsWordByte, IsNumberByte}
+use Rattle.c_lexer.specs.Literals.{IsLongest}
+use Rattle.c_lexer.specs.Kinds.{Spells}
+use Rattle.c_lexer.specs.Refusals.{Holds, IsWhole, IsMalformedNumber, IsLongWord, HasLargeElement}
+use Rattle.c_lexer.specs.Parts.{BeginsWith, IsFront}
+use Rattle.c_lexer.proofs.KindsBegin.{zero_spelled, run_begins, same_first, first_apart, whole_begins, letter_no_digit, letter_no_mark, digit_no_mark}
+use Rattle.c_lexer.proofs.WordTables.{c99_is_fixed}
+
+-- the front of a text with a first byte is a run
+module _ (First Later : ℕ → Type 0) (sub : (b : ℕ) → First b → Later b) where
+  front_is_run : (b : ℕ) (rest : List ℕ) (n : ℕ) → First b → IsFront Later (b ∷ rest) n → IsRun First Later (take n (b ∷ rest))
+  front_is_run b rest zero first front = absurd (front.ends b rest refl (sub b first))
+  front_is_run b rest (suc n) first front = (first, All-tail Later b (take n rest) front.each)
+
+  run_is_all : (w : List ℕ) → IsRun First Later w → All Later w
+  run_is_all [] h = absurd h
+  run_is_all (b ∷ w) h = All-cons Later b w (sub b h.0) h.1
+
+  no_more : (i x y : List ℕ) (n : ℕ) → IsFront Later i n → i ≡ x ++ y → All Later x → n < length x → ⊥
+  no_more i x y n front stands each more =
+      let all : length i ≡ length (x ++ y) = ap length stands in
+      let sum : length (x ++ y) ≡ length x + length y = length-append x y in
+      let within : n < length i = omega arith in
+      let here : get_or i n 0 ≡ get_or x n 0 = ap (λ v. get_or v n 0) stands ∙ get_or_append_left x y 0 n more in
+      front.ends (get_or i n 0) (drop (n + 1) i) (drop_more i n 0 within) (subst Later (sym here) (each n 0 more))
+
+  run_longer : (i x y : List ℕ) (n : ℕ) → IsFront Later i n → i ≡ x ++ y → IsRun First Later x → length x ≤ n
+  run_longer i x y n front stands run =
+      ⊎_elim (λ more. absurd (no_more i x y n front stands (run_is_all x run) more)) (λ less. less) (cases_lt n (length x))
+
+  pub front_longest : (i : List ℕ) (n : ℕ) → BeginsWith First i → IsFront Later i n → IsLongest (IsRun First Later) (take n i) i (drop n i)
+  front_longest i n (b, rest, is, first) front = record {
+    is = subst (λ v. IsRun First Later (take n v)) (sym is) (front_is_run b rest n first (subst (λ v. IsFront Later v n) is front));
+    stands = sym (take-append-drop n i);
+    longest = λ x y stands run. subst (λ m. length x ≤ m) (sym (length-take-le n i front.within)) (run_longer i x y n front stands run);
+  }
+
+pub word_longest : (i : List ℕ) (n : ℕ) → BeginsWith IsLetter i → IsFront IsWordByte i n → IsLongest IsWord (take n i) i (drop n i)
+word_longest = front_longest IsLetter IsWordByte (λ b h. inl h)
+
+pub number_longest : (i : List ℕ) (n : ℕ) → BeginsWith IsDigit i → IsFront IsNumberByte i n → IsLongest IsNumber (take n i) i (drop n i)
+number_longest = front_longest IsDigit IsNumberByte (λ b h. inl (inr h))
+
+-- a letter is a name by itself
+letter_is_name : (b : ℕ) → IsLetter b → IsName (b ∷ [])
+letter_is_name b h = record {
+  some = omega arith;
+  short = omega arith;
+  begins = λ c rest e. let same : b ≡ c = cc in subst IsLetter same h;
+  bytes = All-cons IsWordByte b [] (inl h) (All-nil IsWordByte);
+  free = λ among. let fixed = c99_is_fixed (b ∷ []) among in omega (arith, fixed.long);
+}
+
+pub letter_no_foreign : (i : List ℕ) → BeginsWith IsLetter i → Holds ForeignByte i → ⊥
+letter_no_foreign i first (b, rest, is, _, none) = none (Name (b ∷ [])) [] (refl, letter_is_name b (same_first IsLetter i b rest first is))
+
+-- a digit is a constant by itself
+digit_value_of : (b : ℕ) → IsDigit b → digit_value b < 10
+digit_value_of b h = grind (arith, nat_tests)
+
+digit_below : (b : ℕ) → IsDigit b → digits_value 10 (b ∷ []) < 2 ^ 31
+digit_below b h = let small : digits_value 10 (b ∷ []) < 10 ^ 1 = digits_value-lt 10 (b ∷ []) (digit_value_of b h, tt) in omega arith
+
+digit_is_spelled : (b : ℕ) → IsDigit b → (n : ℕ) × Spells (Int n false) (b ∷ [])
+digit_is_spelled b h =
+    ⊎_elim (λ low. let P : ℕ → Type 0 = λ c. (n : ℕ) × Spells (Int n false) (c ∷ []) in let is : 48 ≡ b = omega arith in subst P is (0, zero_spelled))
+    (λ high. (
+      digits_value 10 (b ∷ []),
+      (
+        true,
+        false,
+        record {
+          digits = b ∷ [];
+          suffix = [];
+          is = refl;
+          number = (λ e. omega arith, (digit_value_of b h, tt), refl);
+          ended = refl;
+        },
+        ap (λ t. cond t (Some false) None) (lt-ltb (digits_value 10 (b ∷ [])) (2 ^ 31) (digit_below b h)),
+      ),
+    ))
+    (cases_lt b 49)
+
+pub digit_no_foreign : (i : List ℕ) → BeginsWith IsDigit i → Holds ForeignByte i → ⊥
+digit_no_foreign i first (b, rest, is, _, none) =
+    let spelled = digit_is_spelled b (same_first IsDigit i b rest first is) in none (Int spelled.0 false) [] spelled.1
+
+pub no_comment : (P : ℕ → Type 0) (i : List ℕ) → (P 47 → ⊥) → BeginsWith P i → Holds OpenComment i → ⊥
+no_comment P i slash first ((rest, is), _) = slash (same_first P i 47 (42 ∷ rest) first is)
+
+pub no_marker : (P : ℕ → Type 0) (i : List ℕ) → (P 35 → ⊥) → BeginsWith P i → Holds NoLineMarker i → ⊥
+no_marker P i sharp first (rest, is) = sharp (same_first P i 35 rest first is)
+
+whole_first : (First Later : ℕ → Type 0) (w i : List ℕ) → IsWhole (IsRun First Later) w i → BeginsWith First i
+whole_first First Later w i (rest, taken) = whole_begins First i w rest taken.stands (run_begins First Later w taken.is)
+
+-- a quote
+abbrev pub IsQuote : ℕ → Type 0
+IsQuote b = (b ≡ 39) ⊎ (b ≡ 34)
+
+pub large_element_begins : (i : List ℕ) → HasLargeElement i → BeginsWith IsQuote i
+large_element_begins i (w, after, vs, stands, inl string, _) = whole_begins IsQuote i w after stands (34, string.0, string.1, inr refl)
+large_element_begins i (w, after, vs, stands, inr character, _) = let c = character.2 in whole_begins IsQuote i w after stands (39, c.0, c.1, inl refl)
+
+letter_no_quote : (b : ℕ) → IsLetter b → IsQuote b → ⊥
+letter_no_quote b h (inl is) = letter_no_mark b 39 (omega arith) h is
+letter_no_quote b h (inr is) = letter_no_mark b 34 (omega arith) h is
+
+digit_no_quote : (b : ℕ) → IsDigit b → IsQuote b → ⊥
+digit_no_quote b h (inl is) = digit_no_mark b 39 (omega arith) h is
+digit_no_quote b h (inr is) = digit_no_mark b 34 (omega arith) h is
+
+-- where a letter stands first no literal is malformed, and none is too large
+pub letter_malformed : (i : List ℕ) → BeginsWith IsLetter i → Holds Malformed i → IsLongWord i
+letter_malformed i first (inl (w, whole, _)) = absurd (first_apart IsLetter IsDigit i letter_no_digit first (whole_first IsDigit IsNumberByte w i whole))
+letter_malformed i first (inr (inl (rest, is, _))) = absurd (first_apart IsLetter IsQuote i letter_no_quote first (39, rest, is, inl refl))
+letter_malformed i first (inr (inr (inl (rest, is, _)))) = absurd (first_apart IsLetter IsQuote i letter_no_quote first (34, rest, is, inr refl))
+letter_malformed i first (inr (inr (inr long))) = long
+
+pub letter_no_large : (i : List ℕ) → BeginsWith IsLetter i → Holds TooLarge i → ⊥
+letter_no_large i first (inl (w, n, d, s, whole, _, _)) = first_apart IsLetter IsDigit i letter_no_digit first (whole_first IsDigit IsNumberByte w i whole)
+letter_no_large i first (inr large) = first_apart IsLetter IsQuote i letter_no_quote first (large_element_begins i large)
+
+-- where a digit stands first what is malformed is a number
+pub digit_malformed : (i : List ℕ) → BeginsWith IsDigit i → Holds Malformed i → IsMalformedNumber i
+digit_malformed i first (inl number) = number
+digit_malformed i first (inr (inl (rest, is, _))) = absurd (first_apart IsDigit IsQuote i digit_no_quote first (39, rest, is, inl refl))
+digit_malformed i first (inr (inr (inl (rest, is, _)))) = absurd (first_apart IsDigit IsQuote i digit_no_quote first (34, rest, is, inr refl))
+digit_malformed i first (inr (inr (inr (w, whole, _)))) = absurd (first_apart IsLetter IsDigit i letter_no_digit (whole_first IsLetter IsWordByte w i whole) first)
+
+pub front_whole : (Later : ℕ → Type 0) (i : List ℕ) (n : ℕ) → length i ≤ n → All Later (take n i) → IsFront Later i (length i)
+front_whole Later i n long each = record {
+  within = omega arith;
+  each = All-same Later (take (length i) i) (take n i) (take_all (length i) i (omega arith) ∙ sym (take_all n i long)) each;
+  ends = λ b rest is. let none : drop (length i) i ≡ [] = drop_all (length i) i (omega arith) in absurd (let e : [] ≡ b ∷ rest = sym none ∙ is in cc);
+}

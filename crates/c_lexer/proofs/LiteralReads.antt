@@ -1,0 +1,248 @@
+-- What the readers of a literal answer.
+use Rattle.std.proofs.Common.{◌≡◌, ℕ, pos, suc, ◌+◌, ◌-◌, ◌<◌, ◌≤◌, List, [], ◌∷◌, ◌++◌, length, get_or, take, drop, refl, sym, ◌∙◌, ap, subst, inl, inr, arith}
+use Rattle.std.specs.Prelude.{All, Any}
+use Rattle.std.proofs.Math.Seq.{drop-cons, take-append_seam, drop-append_seam}
+use Rattle.std.proofs.lemmas.List.{length-append, length-drop, get_or-drop}
+use Rattle.std.proofs.lemmas.List.Elements.{All-nil}
+use Rattle.c_lexer.specs.declared.token.TokenKind.{TokenKind}
+use Rattle.c_lexer.specs.declared.token.TokenKind.TheVariants.{Char, Str}
+use Rattle.c_lexer.specs.declared.error.Cause.{Cause}
+use Rattle.c_lexer.specs.declared.error.Cause.TheVariants.{ForeignByte, OpenComment, Malformed, TooLarge, NoLineMarker, ExcludedKeyword}
+use Rattle.c_lexer.specs.Codes.{code_of}
+use Rattle.c_lexer.specs.Literals.{IsPlain, HasElement, HasElements, IsCharacter, IsString, char_value}
+use Rattle.c_lexer.specs.Literals.HasElements.{none}
+use Rattle.c_lexer.specs.Elements.{IsQuote, HasNoElement}
+use Rattle.c_lexer.specs.Kinds.{IsByte, Spells}
+use Rattle.c_lexer.specs.Spelling.{IsToken}
+use Rattle.c_lexer.specs.Refusals.{BeginsNoToken, Holds}
+use Rattle.c_lexer.specs.Reading.{IsMisfit}
+use Rattle.c_lexer.proofs.EscapeFronts.{has_element}
+use Rattle.c_lexer.proofs.EscapeFronts.Front.{a_plain}
+use Rattle.c_lexer.proofs.LiteralOne.{one_element, one_chain, one_ended, quote_no_element}
+use Rattle.c_lexer.proofs.LiteralParts.{character_parts, string_parts, character_from, string_from}
+use Rattle.c_lexer.proofs.LiteralFirst.{otherwise_apart, word_otherwise, number_otherwise, single_quoted, double_quoted, single_lexeme, double_lexeme}
+
+-- a byte stands at a place
+abbrev pub At : List ℕ → ℕ → ℕ → Type 0
+At text n b = (n < length text) × (get_or text n 0 ≡ b)
+
+at_from : (first b n : ℕ) (text rest after : List ℕ) → text ≡ first ∷ rest → drop n rest ≡ b ∷ after → At text (n + 1) b
+at_from first b n text rest after is e =
+    let size : length (drop n rest) ≡ length rest - n = length-drop n rest in
+    let some : length (drop n rest) ≡ suc (length after) = ap length e in
+    let here : get_or rest n 0 ≡ b = sym (ap (λ (x : ℕ). get_or rest x 0) (let z : n + 0 ≡ n = omega arith in z)) ∙ sym (get_or-drop n rest 0 0) ∙ ap (λ (x : List ℕ). get_or x 0 0) e in
+    let found : At (first ∷ rest) (suc n) b = (omega arith, here) in
+    let next : suc n ≡ n + 1 = omega arith in
+    subst (λ (x : List ℕ). At x (n + 1) b) (sym is) (subst (λ (x : ℕ). At (first ∷ rest) x b) next found)
+
+from_at : (first b n : ℕ) (text rest : List ℕ) → text ≡ first ∷ rest → At text (n + 1) b → drop n rest ≡ b ∷ drop (suc n) rest
+from_at first b n text rest is here =
+    let next : n + 1 ≡ suc n = omega arith in
+    let found : At (first ∷ rest) (suc n) b = subst (λ (x : ℕ). At (first ∷ rest) x b) next (subst (λ (x : List ℕ). At x (n + 1) b) is here) in
+    let within : n < length rest = omega (arith, found.0) in
+    drop-cons rest n 0 within ∙ ap (λ (x : ℕ). x ∷ drop (suc n) rest) found.1
+
+-- two literals at the front of one text
+same_string : (w x y z vs us : List ℕ) → w ++ y ≡ x ++ z → IsString w vs → IsString x us → (y ≡ z) × (vs ≡ us)
+same_string w x y z vs us e s t =
+    let (i, begins, found) = string_parts y s in
+    let (k, begins_too, found_too) = string_parts z t in
+    let same : i ≡ k = cc in
+    one_ended 34 (inr refl) found (subst (λ (p : List ℕ). HasElements 34 p (34 ∷ z) us) (sym same) found_too)
+
+same_character : (w x y z : List ℕ) (v u : ℕ) → w ++ y ≡ x ++ z → IsCharacter w v → IsCharacter x u → (y ≡ z) × (v ≡ u)
+same_character w x y z v u e s t =
+    let (i, begins, found) = character_parts y s in
+    let (k, begins_too, found_too) = character_parts z t in
+    let same : i ≡ k = cc in
+    let both = one_element found (subst (λ (p : List ℕ). HasElement 39 p (39 ∷ z) u) (sym same) found_too) in
+    let rests : 39 ∷ y ≡ 39 ∷ z = both.0 in
+    (cc, both.1)
+
+same_length : (w x y z : List ℕ) → w ++ y ≡ x ++ z → y ≡ z → length x ≤ length w
+same_length w x y z e f =
+    let one = ap length e in
+    let two = ap length f in
+    omega (arith, one, two, length-append w y, length-append x z)
+
+-- a quote begins some token
+empty_spelled : Spells (Str []) (34 ∷ 34 ∷ [])
+empty_spelled = ((34 ∷ [], refl, none), All-nil IsByte)
+
+plain_letter : IsPlain 39 97
+plain_letter = record { from = omega arith; below = omega arith; no_control = omega arith; no_quote = omega arith; no_backslash = omega arith }
+
+letter_spelled : Spells (Char (pos 97)) (39 ∷ 97 ∷ 39 ∷ [])
+letter_spelled = (97, (97 ∷ 39 ∷ [], refl, has_element (a_plain plain_letter)), omega arith, refl)
+
+quote_begins : (q : ℕ) → IsQuote q → BeginsNoToken q → ⊥
+quote_begins q (inl e) foreign = (subst BeginsNoToken e foreign) (Char (pos 97)) (97 ∷ 39 ∷ []) letter_spelled
+quote_begins q (inr e) foreign = (subst BeginsNoToken e foreign) (Str []) (34 ∷ []) empty_spelled
+
+head_of : (a b : ℕ) (text x y : List ℕ) → text ≡ a ∷ x → text ≡ b ∷ y → a ≡ b
+head_of a b text x y e f = cc
+
+no_slash : (q : ℕ) (text rest x : List ℕ) → IsQuote q → text ≡ q ∷ rest → text ≡ 47 ∷ x → ⊥
+no_slash q text rest x (inl e) is f = omega (arith, head_of q 47 text rest x is f)
+no_slash q text rest x (inr e) is f = omega (arith, head_of q 47 text rest x is f)
+
+-- where a quote stands no cause below 3 holds
+not_foreign : (q : ℕ) (text rest : List ℕ) → IsQuote q → text ≡ q ∷ rest → Holds ForeignByte text → ⊥
+not_foreign q text rest quote is (b, later, e, other, foreign) =
+    quote_begins q quote (subst BeginsNoToken (head_of b q text later rest e is) foreign)
+
+not_comment : (q : ℕ) (text rest : List ℕ) → IsQuote q → text ≡ q ∷ rest → Holds OpenComment text → ⊥
+not_comment q text rest quote is ((later, e), endless) = no_slash q text rest (42 ∷ later) quote is e
+
+least_malformed : (q : ℕ) (text rest : List ℕ) → IsQuote q → text ≡ q ∷ rest → (other : Cause) → code_of other < 3 → Holds other text → ⊥
+least_malformed q text rest quote is ForeignByte low h = not_foreign q text rest quote is h
+least_malformed q text rest quote is OpenComment low h = not_comment q text rest quote is h
+least_malformed q text rest quote is Malformed low h = omega arith
+least_malformed q text rest quote is TooLarge low h = omega arith
+least_malformed q text rest quote is NoLineMarker low h = omega arith
+least_malformed q text rest quote is ExcludedKeyword low h = omega arith
+
+-- a quote that begins no literal
+pub malformed_string : (text rest : List ℕ) → text ≡ 34 ∷ rest → ((w after vs : List ℕ) → text ≡ w ++ after → IsString w vs → ⊥) → IsMisfit Malformed text
+malformed_string text rest is odd = record {
+  holds = inr (inr (inl (rest, is, odd)));
+  least = least_malformed 34 text rest (inr refl) is;
+  no_token = λ kind w after e token.
+      (let (bytes, kinds, s, all) = double_quoted kind w after rest token.spells (sym e ∙ is) in odd w after bytes e s);
+}
+
+pub malformed_character : (text rest : List ℕ) → text ≡ 39 ∷ rest → ((w after : List ℕ) (v : ℕ) → text ≡ w ++ after → IsCharacter w v → ⊥) → IsMisfit Malformed text
+malformed_character text rest is odd = record {
+  holds = inr (inl (rest, is, odd));
+  least = least_malformed 39 text rest (inl refl) is;
+  no_token = λ kind w after e token.
+      (let (c, v, kinds, s, byte, value) = single_quoted kind w after rest token.spells (sym e ∙ is) in odd w after v e s);
+}
+
+-- where a literal stands nothing is malformed
+not_malformed_string : (text rest w after vs : List ℕ) → text ≡ 34 ∷ rest → text ≡ w ++ after → IsString w vs → Holds Malformed text → ⊥
+not_malformed_string text rest w after vs is e s (inl (x, (y, whole), odd)) =
+    otherwise_apart 34 x y rest (inr refl) (number_otherwise x whole.is) (sym whole.stands ∙ is)
+not_malformed_string text rest w after vs is e s (inr (inl (x, f, odd))) = omega (arith, head_of 34 39 text rest x is f)
+not_malformed_string text rest w after vs is e s (inr (inr (inl (x, f, odd)))) = odd w after vs e s
+not_malformed_string text rest w after vs is e s (inr (inr (inr (x, (y, whole), long)))) =
+    otherwise_apart 34 x y rest (inr refl) (word_otherwise x whole.is) (sym whole.stands ∙ is)
+
+not_malformed_character : (text rest w after : List ℕ) (v : ℕ) → text ≡ 39 ∷ rest → text ≡ w ++ after → IsCharacter w v → Holds Malformed text → ⊥
+not_malformed_character text rest w after v is e s (inl (x, (y, whole), odd)) =
+    otherwise_apart 39 x y rest (inl refl) (number_otherwise x whole.is) (sym whole.stands ∙ is)
+not_malformed_character text rest w after v is e s (inr (inl (x, f, odd))) = odd w after v e s
+not_malformed_character text rest w after v is e s (inr (inr (inl (x, f, odd)))) = omega (arith, head_of 39 34 text rest x is f)
+not_malformed_character text rest w after v is e s (inr (inr (inr (x, (y, whole), long)))) =
+    otherwise_apart 39 x y rest (inl refl) (word_otherwise x whole.is) (sym whole.stands ∙ is)
+
+least_large : (q : ℕ) (text rest : List ℕ) → IsQuote q → text ≡ q ∷ rest → (Holds Malformed text → ⊥) → (other : Cause) → code_of other < 4 → Holds other text → ⊥
+least_large q text rest quote is formed ForeignByte low h = not_foreign q text rest quote is h
+least_large q text rest quote is formed OpenComment low h = not_comment q text rest quote is h
+least_large q text rest quote is formed Malformed low h = formed h
+least_large q text rest quote is formed TooLarge low h = omega arith
+least_large q text rest quote is formed NoLineMarker low h = omega arith
+least_large q text rest quote is formed ExcludedKeyword low h = omega arith
+
+-- a literal with a value above 255
+not_bytes : (vs bytes : List ℕ) → vs ≡ bytes → Any (λ v. 255 < v) vs → All IsByte bytes → ⊥
+not_bytes vs bytes e (k, x, within, is, large) all =
+    let size = ap length e in
+    let low : get_or bytes k x ≤ 255 = all k x (omega (arith, size, within)) in
+    let same : get_or vs k x ≡ get_or bytes k x = ap (λ (y : List ℕ). get_or y k x) e in
+    omega (arith, same, is, large)
+
+pub large_string : (text rest w after vs : List ℕ) → text ≡ 34 ∷ rest → text ≡ w ++ after → IsString w vs → Any (λ v. 255 < v) vs → IsMisfit TooLarge text
+large_string text rest w after vs is e s any = record {
+  holds = inr (w, after, vs, e, inl s, any);
+  least = least_large 34 text rest (inr refl) is (not_malformed_string text rest w after vs is e s);
+  no_token = λ kind x y f token.
+      (let (bytes, kinds, t, all) = double_quoted kind x y rest token.spells (sym f ∙ is) in
+      not_bytes vs bytes (same_string w x after y vs bytes (sym e ∙ f) s t).1 any all);
+}
+
+pub large_character : (text rest w after : List ℕ) (v : ℕ) → text ≡ 39 ∷ rest → text ≡ w ++ after → IsCharacter w v → 255 < v → IsMisfit TooLarge text
+large_character text rest w after v is e s large = record {
+  holds = inr (w, after, v ∷ [], e, inr (v, refl, s), (0, v, omega arith, refl, large));
+  least = least_large 39 text rest (inl refl) is (not_malformed_character text rest w after v is e s);
+  no_token = λ kind x y f token.
+      (let (c, u, kinds, t, byte, value) = single_quoted kind x y rest token.spells (sym f ∙ is) in
+      let same = (same_character w x after y v u (sym e ∙ f) s t).1 in
+      omega (arith, same, byte, large));
+}
+
+-- a literal with bytes
+pub string_token : (text rest w after vs : List ℕ) → text ≡ 34 ∷ rest → text ≡ w ++ after → IsString w vs → All IsByte vs → IsToken (Str vs) w after
+string_token text rest w after vs is e s all = record {
+  spells = (s, all);
+  longest = λ x y f lexeme.
+      (let (us, t) = double_lexeme x y rest lexeme (sym f ∙ sym e ∙ is) in
+      same_length w x after y f (same_string w x after y vs us f s t).0);
+  no_line_comment = λ (later, f). no_slash 34 text rest (47 ∷ later) (inr refl) is (e ∙ f);
+  no_block_comment = λ (later, f). no_slash 34 text rest (42 ∷ later) (inr refl) is (e ∙ f);
+}
+
+pub character_token : (text rest w after : List ℕ) (v : ℕ) → text ≡ 39 ∷ rest → text ≡ w ++ after → IsCharacter w v → v ≤ 255 → IsToken (Char (char_value v)) w after
+character_token text rest w after v is e s byte = record {
+  spells = (v, s, byte, refl);
+  longest = λ x y f lexeme.
+      (let (u, t) = single_lexeme x y rest lexeme (sym f ∙ sym e ∙ is) in
+      same_length w x after y f (same_character w x after y v u f s t).0);
+  no_line_comment = λ (later, f). no_slash 39 text rest (47 ∷ later) (inl refl) is (e ∙ f);
+  no_block_comment = λ (later, f). no_slash 39 text rest (42 ∷ later) (inl refl) is (e ∙ f);
+}
+
+-- elements up to a place where a quote stands, and where none does
+sized : (first n : ℕ) (text rest w : List ℕ) → text ≡ first ∷ rest → text ≡ w ++ drop (suc n) rest → suc n ≤ length rest → length w ≡ n + 1 + 1
+sized first n text rest w is e within =
+    let one = ap length is in
+    let two = ap length e in
+    omega (arith, one, two, length-append w (drop (suc n) rest), length-drop (suc n) rest)
+
+-- a part of the text that is a literal
+abbrev pub Parts : (List ℕ → Type 0) → List ℕ → ℕ → Type 0
+Parts Is text n = (w : List ℕ) × (after : List ℕ) × (text ≡ w ++ after) × Is w × (length w ≡ n + 1 + 1)
+
+pub string_found : (n : ℕ) (text rest vs : List ℕ) → text ≡ 34 ∷ rest → HasElements 34 rest (drop n rest) vs → At text (n + 1) 34 → Parts (λ w. IsString w vs) text n
+string_found n text rest vs is h here =
+    let end = from_at 34 34 n text rest is here in
+    let (w, e, s) = string_from (drop (suc n) rest) (subst (λ (x : List ℕ). HasElements 34 rest x vs) end h) in
+    let size : length (drop n rest) ≡ length rest - n = length-drop n rest in
+    let some : length (drop n rest) ≡ suc (length (drop (suc n) rest)) = ap length end in
+    (w, drop (suc n) rest, is ∙ e, s, sized 34 n text rest w is (is ∙ e) (omega arith))
+
+pub character_found : (n v : ℕ) (text rest : List ℕ) → text ≡ 39 ∷ rest → HasElement 39 rest (drop n rest) v → At text (n + 1) 39 → Parts (λ w. IsCharacter w v) text n
+character_found n v text rest is h here =
+    let end = from_at 39 39 n text rest is here in
+    let (w, e, s) = character_from (drop (suc n) rest) (subst (λ (x : List ℕ). HasElement 39 rest x v) end h) in
+    let size : length (drop n rest) ≡ length rest - n = length-drop n rest in
+    let some : length (drop n rest) ≡ suc (length (drop (suc n) rest)) = ap length end in
+    (w, drop (suc n) rest, is ∙ e, s, sized 39 n text rest w is (is ∙ e) (omega arith))
+
+pub no_string : (n : ℕ) (text rest vs : List ℕ) → text ≡ 34 ∷ rest → HasElements 34 rest (drop n rest) vs → HasNoElement 34 (drop n rest) → (At text (n + 1) 34 → ⊥) → (w after us : List ℕ) → text ≡ w ++ after → IsString w us → ⊥
+no_string n text rest vs is h ended open_end w after us e s =
+    let (i, begins, found) = string_parts after s in
+    let same : i ≡ rest = cc in
+    let both = one_chain h ended (subst (λ (x : List ℕ). HasElements 34 x (34 ∷ after) us) same found) (quote_no_element 34 after (inr refl)) in
+    open_end (at_from 34 34 n text rest after is both.0)
+
+pub no_character : (n v : ℕ) (text rest : List ℕ) → text ≡ 39 ∷ rest → HasElement 39 rest (drop n rest) v → (At text (n + 1) 39 → ⊥) → (w after : List ℕ) (u : ℕ) → text ≡ w ++ after → IsCharacter w u → ⊥
+no_character n v text rest is h open_end w after u e s =
+    let (i, begins, found) = character_parts after s in
+    let same : i ≡ rest = cc in
+    let both = one_element h (subst (λ (x : List ℕ). HasElement 39 x (39 ∷ after) u) same found) in
+    open_end (at_from 39 39 n text rest after is both.0)
+
+pub no_first : (text rest : List ℕ) → text ≡ 39 ∷ rest → HasNoElement 39 rest → (w after : List ℕ) (u : ℕ) → text ≡ w ++ after → IsCharacter w u → ⊥
+no_first text rest is stop w after u e s =
+    let (i, begins, found) = character_parts after s in
+    let same : i ≡ rest = cc in
+    stop (39 ∷ after) u (subst (λ (x : List ℕ). HasElement 39 x (39 ∷ after) u) same found)
+
+-- a token that is a part of the text
+pub token_at : (kind : TokenKind) (n : ℕ) (text w after : List ℕ) → text ≡ w ++ after → length w ≡ n → IsToken kind w after → (n ≤ length text) × IsToken kind (take n text) (drop n text)
+token_at kind n text w after e size token =
+    let all = ap length e in
+    let front : take n text ≡ w = ap (λ (x : List ℕ). take n x) e ∙ sym (ap (λ (x : ℕ). take x (w ++ after)) size) ∙ take-append_seam w after in
+    let rest : drop n text ≡ after = ap (λ (x : List ℕ). drop n x) e ∙ sym (ap (λ (x : ℕ). drop x (w ++ after)) size) ∙ drop-append_seam w after in
+    (omega (arith, all, length-append w after), rw (front, rest) token)

@@ -1,0 +1,12 @@
+pub mod Codes
+pub mod Elements
+pub mod KindProp
+pub mod Kinds
+pub mod LexerParts
+pub mod Literals
+pub mod Parts
+pub mod Reading
+pub mod Refusals
+pub mod Spelling
+pub mod WhiteParts
+pub mod Words

@@ -1,0 +1,26 @@
+//! The tokens of a text of the C profile (C99 6.4), or the first place at which no token goes on.
+#![tactic(auto)]
+
+mod error;
+mod escape;
+pub mod keyword;
+mod laws;
+mod lexer;
+mod literal;
+mod mark;
+mod misfit;
+mod number;
+pub mod punctuator;
+mod reading;
+#[cfg(test)]
+mod tests;
+mod token;
+mod white;
+mod word;
+mod words;
+
+pub use error::LexError;
+pub use laws::{a_text_has_one_list_of_tokens, a_token_has_a_kind_that_is_spelled};
+pub use lexer::tokens;
+pub use token::{Token, TokenKind};
+pub use words::{keyword_text, punctuator_text};
