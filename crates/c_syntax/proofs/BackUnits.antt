@@ -1,0 +1,251 @@
+-- The tokens that a unit is printed with are read back as the same unit, apart from places.
+use Rattle.std.proofs.Common.{◌≡◌, ℕ, ◌≤◌, List, [], ◌∷◌, refl, ap, sym, subst, arith}
+use Rattle.c_lexer.specs.declared.token.Token.{Token}
+use Rattle.c_lexer.specs.declared.token.TokenKind.{TokenKind}
+use Rattle.c_lexer.specs.declared.token.TokenKind.TheVariants.{Name, Keyword, Punct}
+use Rattle.c_lexer.specs.declared.punctuator.TheConstants as p
+use Rattle.c_lexer.specs.declared.keyword.TheConstants as w
+use Rattle.c_syntax.specs.Tree.{Ident, Storage, Spec, Maybe, absent, there, Declarator, block, empty, evaluate, only_if, if_else, while_loop, do_loop, for_loop, switch_on, break_off, continue_on, return_from, Items}
+use Rattle.c_syntax.specs.Tree.{Declarators, no_declarators, more_declarators, Members, no_members, more_members, Enumerators, no_enumerators, more_enumerators, Tag, no_tag, tag, Outer, struct_outer, enum_outer, tag_outer, decl_outer, function_outer, Outers, no_outers, more_outers}
+use Rattle.c_syntax.specs.Tokens.{Is, place}
+use Rattle.c_syntax.specs.Specifiers.{Names, ReadsSpec}
+use Rattle.c_syntax.specs.Grammar.{Declares, HasName}
+use Rattle.c_syntax.specs.Statements.{ReadsItems, ReadsDeclarators, last_declarator, next_declarator, ReadsMembers, last_member, next_member, ReadsNumber, no_number, a_number, ReadsEnumerators, last_enumerator, next_enumerator, ReadsTag, no_name, a_tag}
+use Rattle.c_syntax.specs.Statements.{ReadsOuter, a_struct, an_enum, a_tag_alone, an_outer_declaration, a_definition, ReadsOuters, last_outer, next_outer}
+use Rattle.c_syntax.specs.Limits.{height_of_maybe, height_of_declarators, height_of_members, height_of_enumerators, height_of_outer, height_of_unit}
+use Rattle.c_syntax.specs.Same.{unplaced_maybe, unplaced_declarators, unplaced_members, unplaced_enumerators, unplaced_tag, unplaced_outer, unplaced_unit, AreSame}
+use Rattle.c_syntax.specs.Print.{is_direct, spec_kinds, declarator_kinds, operand_kinds, stmt_kinds, items_kinds, next_declarators, declarators_kinds, members_kinds, number_kinds, next_enumerators, enumerators_kinds, tag_kinds, outer_kinds, unit_kinds}
+use Rattle.c_syntax.proofs.Fine.{IsFineMaybe}
+use Rattle.c_syntax.proofs.FineUnits.{AreFineDeclarators, AreFineMembers, AreSomeMembers, AreFineEnumerators, IsFineOuter, AreFineOuters, AreSomeOuters}
+use Rattle.c_syntax.proofs.BackTokens.{kinds, headed, mark, word, as_choosing, as_casting}
+use Rattle.c_syntax.proofs.BackParts.{back_name, back_storage, back_spec, has_name, declares_of}
+use Rattle.c_syntax.proofs.BackExpressions.{back_declarator}
+use Rattle.c_syntax.proofs.BackDeclarations.{BackOf, ends_at, begins_at, two, operand_of, back_decl}
+use Rattle.c_syntax.proofs.BackStatements.{back_items}
+
+same_declarators : {e x : Declarator} {es xs : Declarators} → x ≡ e → xs ≡ es → more_declarators x xs ≡ more_declarators e es
+same_declarators q r = cc
+
+-- the declarators after the one that is read
+record BackDeclarators (d : ℕ) (e : Declarator) (es : Declarators) (i : List Token) (k : List TokenKind) : Type 0 where
+  trees : Declarators
+  rest : List Token
+  reads : ReadsDeclarators d (more_declarators e trees) i rest
+  same : unplaced_declarators trees ≡ unplaced_declarators es
+  left : kinds rest ≡ k
+
+back_declarators : (es : Declarators) → AreFineDeclarators es → (d : ℕ) → height_of_declarators es ≤ d → (e : Declarator) (i after : List Token) (k : List TokenKind) → Declares d e i after → HasName e → kinds after ≡ next_declarators es k → BackDeclarators d e es i k
+back_declarators no_declarators f d v e i after k r h q = record { trees = no_declarators; rest = after; reads = last_declarator r h; same = refl; left = q }
+back_declarators (more_declarators e' es) f d v e i after k r h q =
+    let c = headed (Punct p.COMMA) after (declarator_kinds e' (next_declarators es k)) q in
+    let a = back_declarator e' f.0 d (omega arith) c.rest (next_declarators es k) c.left in
+    let z = back_declarators es f.2 d (omega arith) a.tree c.rest a.after k (declares_of (is_direct e') a.reads) (has_name e' a.tree a.same f.1) a.left in
+    record { trees = more_declarators a.tree z.trees; rest = z.rest; reads = next_declarator (ends_at (Declares d e) c.is r) h (mark c) z.reads; same = same_declarators a.same z.same; left = z.left }
+
+-- members, or none
+abbrev MembersOrNone : ℕ → Members → List Token → List Token → Type 0
+MembersOrNone d no_members i j = i ≡ j
+MembersOrNone d (more_members at s es rest) i j = ReadsMembers d (more_members at s es rest) i j
+
+member_before : {d at : ℕ} {s : Spec} {es : Declarators} {t : Token} {i j k m : List Token} (rest : Members) → at ≡ place i → ReadsSpec s i j → ReadsDeclarators d es j (t ∷ k) → Is p.SEMICOLON t → MembersOrNone d rest k m → ReadsMembers d (more_members at s es rest) i m
+member_before {d} {at} {s} {es} {t} {i} {j} {k} {m} no_members g r x h q = subst (λ (y : List Token). ReadsMembers d (more_members at s es no_members) i y) q (last_member g r x h)
+member_before (more_members at' s' es' rest) g r x h f = next_member g r x h f
+
+same_members : {s z : Spec} {es xs : Declarators} {ms ns : Members} → z ≡ s → xs ≡ es → ns ≡ ms → more_members 0 z xs ns ≡ more_members 0 s es ms
+same_members q r t = cc
+
+back_members : (ms : Members) → AreFineMembers ms → (d : ℕ) → height_of_members ms ≤ d → (ts : List Token) (k : List TokenKind) → kinds ts ≡ members_kinds ms k → BackOf (MembersOrNone d) unplaced_members ms ts k
+back_members no_members f d v ts k q = record { tree = no_members; after = ts; reads = refl; same = refl; left = q }
+back_members (more_members at s no_declarators ms) f d v ts k q = absurd f.0
+back_members (more_members at s (more_declarators e es) ms) f d v ts k q =
+    let k2 : List TokenKind = Punct p.SEMICOLON ∷ members_kinds ms k in
+    let b = back_spec s ts (declarators_kinds (more_declarators e es) k2) q in
+    let a = back_declarator e f.0.0 d (omega arith) b.after (next_declarators es k2) b.left in
+    let x = back_declarators es f.0.2 d (omega arith) a.tree b.after a.after k2 (declares_of (is_direct e) a.reads) (has_name e a.tree a.same f.0.1) a.left in
+    let c = headed (Punct p.SEMICOLON) x.rest (members_kinds ms k) x.left in
+    let z = back_members ms f.1 d (omega arith) c.rest k c.left in
+    record {
+      tree = more_members (place ts) b.spec (more_declarators a.tree x.trees) z.tree;
+      after = z.after;
+      reads = member_before z.tree refl b.reads (ends_at (ReadsDeclarators d (more_declarators a.tree x.trees)) c.is x.reads) (mark c) z.reads;
+      same = same_members b.same (same_declarators a.same x.same) z.same;
+      left = z.left;
+    }
+
+abbrev HasMember : Members → Type 0
+HasMember no_members = ⊥
+HasMember (more_members at s es rest) = Unit {0}
+
+has_member : (ms : Members) → AreSomeMembers ms → HasMember (unplaced_members ms)
+has_member no_members f = f
+has_member (more_members at s es rest) f = tt
+
+some_members : (ms : Members) → AreSomeMembers ms → AreFineMembers ms
+some_members no_members f = absurd f
+some_members (more_members at s es rest) f = f
+
+members_stand : {d : ℕ} {i j : List Token} (ms : Members) → HasMember (unplaced_members ms) → MembersOrNone d ms i j → ReadsMembers d ms i j
+members_stand no_members h r = absurd h
+members_stand (more_members at s es rest) h r = r
+
+back_number : (e : Maybe) → IsFineMaybe e → (d : ℕ) → height_of_maybe e ≤ d → (ts : List Token) (k : List TokenKind) → kinds ts ≡ number_kinds e k → BackOf (ReadsNumber d) unplaced_maybe e ts k
+back_number absent f d v ts k q = record { tree = absent; after = ts; reads = no_number; same = refl; left = q }
+back_number (there e) f d v ts k q =
+    let h = headed (Punct p.ASSIGN) ts (operand_kinds e k) q in
+    let x = operand_of e f d v h.rest k h.left in
+    record { tree = there x.tree; after = x.after; reads = begins_at (ReadsNumber d (there x.tree)) h.is (a_number (mark h) (as_choosing (as_casting x.reads))); same = ap there x.same; left = x.left }
+
+same_enumerators : {x y : Ident} {e f : Maybe} {es fs : Enumerators} → y ≡ x → f ≡ e → fs ≡ es → more_enumerators y f fs ≡ more_enumerators x e es
+same_enumerators q r t = cc
+
+-- the enumerators after the one that is read
+record BackEnumerators (d : ℕ) (x : Ident) (e : Maybe) (es : Enumerators) (i : List Token) (k : List TokenKind) : Type 0 where
+  trees : Enumerators
+  rest : List Token
+  reads : ReadsEnumerators d (more_enumerators x e trees) i rest
+  same : unplaced_enumerators trees ≡ unplaced_enumerators es
+  left : kinds rest ≡ k
+
+back_enumerators : (es : Enumerators) → AreFineEnumerators es → (d : ℕ) → height_of_enumerators es ≤ d → (x : Ident) (e : Maybe) (t : Token) (i after : List Token) (k : List TokenKind) → Names x t → ReadsNumber d e i after → kinds after ≡ next_enumerators es k → BackEnumerators d x e es (t ∷ i) k
+back_enumerators no_enumerators f d v x e t i after k n r q = record { trees = no_enumerators; rest = after; reads = last_enumerator n r; same = refl; left = q }
+back_enumerators (more_enumerators x' e' es) f d v x e t i after k n r q =
+    let c = headed (Punct p.COMMA) after (Name x'.name ∷ number_kinds e' (next_enumerators es k)) q in
+    let g = back_name x' c.rest (number_kinds e' (next_enumerators es k)) c.left in
+    let a = back_number e' f.0 d (omega arith) g.heads.rest (next_enumerators es k) g.heads.left in
+    let z = back_enumerators es f.1 d (omega arith) g.ident a.tree g.heads.token g.heads.rest a.after k g.names a.reads a.left in
+    record {
+      trees = more_enumerators g.ident a.tree z.trees;
+      rest = z.rest;
+      reads = next_enumerator n (ends_at (ReadsNumber d e) c.is r) (mark c) (begins_at (λ (i : List Token) (j : List Token). ReadsEnumerators d (more_enumerators g.ident a.tree z.trees) i j) g.heads.is z.reads);
+      same = same_enumerators g.same a.same z.same;
+      left = z.left;
+    }
+
+back_tag : (g : Tag) (ts : List Token) (k : List TokenKind) → kinds ts ≡ tag_kinds g k → BackOf ReadsTag unplaced_tag g ts k
+back_tag no_tag ts k q = record { tree = no_tag; after = ts; reads = no_name; same = refl; left = q }
+back_tag (tag x) ts k q =
+    let g = back_name x ts k q in
+    record { tree = tag g.ident; after = g.heads.rest; reads = begins_at (ReadsTag (tag g.ident)) g.heads.is (a_tag g.names); same = ap tag g.same; left = g.heads.left }
+
+same_struct : {x y : Ident} {ms ns : Members} → y ≡ x → ns ≡ ms → struct_outer 0 y ns ≡ struct_outer 0 x ms
+same_struct q r = cc
+
+same_enum : {g h : Tag} {es fs : Enumerators} → h ≡ g → fs ≡ es → enum_outer 0 h fs ≡ enum_outer 0 g es
+same_enum q r = cc
+
+same_function : (st : Storage) {s z : Spec} {e f : Declarator} {is js : Items} → z ≡ s → f ≡ e → js ≡ is → function_outer 0 st z f (block 0 js) ≡ function_outer 0 st s e (block 0 is)
+same_function st q r t = cc
+
+three : {ts a b c : List Token} {t u v : Token} → ts ≡ t ∷ a → a ≡ u ∷ b → b ≡ v ∷ c → ts ≡ t ∷ u ∷ v ∷ c
+three q r s = cc
+
+back_outer : (a : Outer) → IsFineOuter a → (d : ℕ) → height_of_outer a ≤ d → (ts : List Token) (k : List TokenKind) → kinds ts ≡ outer_kinds a k → BackOf (ReadsOuter d) unplaced_outer a ts k
+back_outer (struct_outer at x ms) f d v ts k q =
+    let k2 : List TokenKind = Punct p.RIGHT_BRACE ∷ Punct p.SEMICOLON ∷ k in
+    let h = headed (Keyword w.STRUCT) ts (Name x.name ∷ Punct p.LEFT_BRACE ∷ members_kinds ms k2) q in
+    let g = back_name x h.rest (Punct p.LEFT_BRACE ∷ members_kinds ms k2) h.left in
+    let l = headed (Punct p.LEFT_BRACE) g.heads.rest (members_kinds ms k2) g.heads.left in
+    let y = back_members ms (some_members ms f) d v l.rest k2 l.left in
+    let r = headed (Punct p.RIGHT_BRACE) y.after (Punct p.SEMICOLON ∷ k) y.left in
+    let u = headed (Punct p.SEMICOLON) r.rest k r.left in
+    let tree : Outer = struct_outer h.token.from g.ident y.tree in
+    record {
+      tree = tree;
+      after = u.rest;
+      reads = begins_at (ReadsOuter d tree) (three h.is g.heads.is l.is) (a_struct (word h) g.names (mark l) (ends_at (ReadsMembers d y.tree) (two r.is u.is) (members_stand y.tree (subst HasMember (sym y.same) (has_member ms f)) y.reads)) (mark r) (mark u));
+      same = same_struct g.same y.same;
+      left = u.left;
+    }
+back_outer (enum_outer at g no_enumerators) f d v ts k q = absurd f
+back_outer (enum_outer at g (more_enumerators x e es)) f d v ts k q =
+    let k2 : List TokenKind = Punct p.RIGHT_BRACE ∷ Punct p.SEMICOLON ∷ k in
+    let h = headed (Keyword w.ENUM) ts (tag_kinds g (Punct p.LEFT_BRACE ∷ enumerators_kinds (more_enumerators x e es) k2)) q in
+    let b = back_tag g h.rest (Punct p.LEFT_BRACE ∷ enumerators_kinds (more_enumerators x e es) k2) h.left in
+    let l = headed (Punct p.LEFT_BRACE) b.after (enumerators_kinds (more_enumerators x e es) k2) b.left in
+    let n = back_name x l.rest (number_kinds e (next_enumerators es k2)) l.left in
+    let a = back_number e f.0 d (omega arith) n.heads.rest (next_enumerators es k2) n.heads.left in
+    let z = back_enumerators es f.1 d (omega arith) n.ident a.tree n.heads.token n.heads.rest a.after k2 n.names a.reads a.left in
+    let r = headed (Punct p.RIGHT_BRACE) z.rest (Punct p.SEMICOLON ∷ k) z.left in
+    let u = headed (Punct p.SEMICOLON) r.rest k r.left in
+    let trees : Enumerators = more_enumerators n.ident a.tree z.trees in
+    let tree : Outer = enum_outer h.token.from b.tree trees in
+    record {
+      tree = tree;
+      after = u.rest;
+      reads = begins_at (ReadsOuter d tree) h.is (an_enum (word h) (ends_at (ReadsTag b.tree) l.is b.reads) (mark l) (ends_at (ReadsEnumerators d trees) (two r.is u.is) (begins_at (ReadsEnumerators d trees) n.heads.is z.reads)) (mark r) (mark u));
+      same = same_enum b.same (same_enumerators n.same a.same z.same);
+      left = u.left;
+    }
+back_outer (tag_outer at x) f d v ts k q =
+    let h = headed (Keyword w.STRUCT) ts (Name x.name ∷ Punct p.SEMICOLON ∷ k) q in
+    let g = back_name x h.rest (Punct p.SEMICOLON ∷ k) h.left in
+    let u = headed (Punct p.SEMICOLON) g.heads.rest k g.heads.left in
+    let tree : Outer = tag_outer h.token.from g.ident in
+    record { tree = tree; after = u.rest; reads = begins_at (ReadsOuter d tree) (three h.is g.heads.is u.is) (a_tag_alone (word h) g.names (mark u)); same = ap (tag_outer 0) g.same; left = u.left }
+back_outer (decl_outer at x) f d v ts k q =
+    let y = back_decl x f d v ts k q in record { tree = decl_outer (place ts) y.tree; after = y.after; reads = an_outer_declaration refl y.reads; same = ap (decl_outer 0) y.same; left = y.left }
+back_outer (function_outer at st s e (block at' is)) f d v ts k q =
+    let g = back_storage st ts (spec_kinds s (declarator_kinds e (stmt_kinds (block at' is) k))) q in
+    let b = back_spec s g.after (declarator_kinds e (stmt_kinds (block at' is) k)) g.left in
+    let y = back_declarator e f.0 d (omega arith) b.after (stmt_kinds (block at' is) k) b.left in
+    let h = headed (Punct p.LEFT_BRACE) y.after (items_kinds is (Punct p.RIGHT_BRACE ∷ k)) y.left in
+    let x = back_items is f.2 d (omega arith) h.rest (Punct p.RIGHT_BRACE ∷ k) h.left in
+    let c = headed (Punct p.RIGHT_BRACE) x.after k x.left in
+    record {
+      tree = function_outer (place ts) st b.spec y.tree (block h.token.from x.tree);
+      after = c.rest;
+      reads = a_definition refl g.reads b.reads (ends_at (Declares d y.tree) h.is (declares_of (is_direct e) y.reads)) (has_name e y.tree y.same f.1) (mark h) (ends_at (ReadsItems d x.tree) c.is x.reads) (mark c);
+      same = same_function st b.same y.same x.same;
+      left = c.left;
+    }
+back_outer (function_outer at st s e (empty at')) f d v ts k q = absurd f.2
+back_outer (function_outer at st s e (evaluate at' x)) f d v ts k q = absurd f.2
+back_outer (function_outer at st s e (only_if at' x y)) f d v ts k q = absurd f.2
+back_outer (function_outer at st s e (if_else at' x y z)) f d v ts k q = absurd f.2
+back_outer (function_outer at st s e (while_loop at' x y)) f d v ts k q = absurd f.2
+back_outer (function_outer at st s e (do_loop at' x y)) f d v ts k q = absurd f.2
+back_outer (function_outer at st s e (for_loop at' x y z u)) f d v ts k q = absurd f.2
+back_outer (function_outer at st s e (switch_on at' x y)) f d v ts k q = absurd f.2
+back_outer (function_outer at st s e (break_off at')) f d v ts k q = absurd f.2
+back_outer (function_outer at st s e (continue_on at')) f d v ts k q = absurd f.2
+back_outer (function_outer at st s e (return_from at' x)) f d v ts k q = absurd f.2
+
+-- items of a unit, or none
+abbrev OutersOrNone : ℕ → Outers → List Token → List Token → Type 0
+OutersOrNone d no_outers i j = i ≡ j
+OutersOrNone d (more_outers a rest) i j = ReadsOuters d (more_outers a rest) i j
+
+outer_before : {d : ℕ} {a : Outer} {i j k : List Token} (rest : Outers) → ReadsOuter d a i j → OutersOrNone d rest j k → ReadsOuters d (more_outers a rest) i k
+outer_before {d} {a} {i} {j} {k} no_outers r q = subst (λ (x : List Token). ReadsOuters d (more_outers a no_outers) i x) q (last_outer r)
+outer_before (more_outers b rest) r f = next_outer r f
+
+same_outers : {a x : Outer} {u v : Outers} → x ≡ a → v ≡ u → more_outers x v ≡ more_outers a u
+same_outers q r = cc
+
+back_outers : (u : Outers) → AreFineOuters u → (d : ℕ) → height_of_unit u ≤ d → (ts : List Token) (k : List TokenKind) → kinds ts ≡ unit_kinds u k → BackOf (OutersOrNone d) unplaced_unit u ts k
+back_outers no_outers f d v ts k q = record { tree = no_outers; after = ts; reads = refl; same = refl; left = q }
+back_outers (more_outers a u) f d v ts k q =
+    let x = back_outer a f.0 d (omega arith) ts (unit_kinds u k) q in
+    let z = back_outers u f.1 d (omega arith) x.after k x.left in
+    record { tree = more_outers x.tree z.tree; after = z.after; reads = outer_before z.tree x.reads z.reads; same = same_outers x.same z.same; left = z.left }
+
+-- what is read back of a whole unit
+pub record BackUnit (d : ℕ) (u : Outers) (ts : List Token) : Type 0 where
+  pub other : Outers
+  pub reads : ReadsOuters d other ts []
+  pub same : AreSame other u
+
+no_kinds : (ts : List Token) → kinds ts ≡ [] → ts ≡ []
+no_kinds [] q = refl
+no_kinds (t ∷ ts) q = absurd (cc)
+
+pub back_unit : (u : Outers) → AreSomeOuters u → (d : ℕ) → height_of_unit u ≤ d → (ts : List Token) → kinds ts ≡ unit_kinds u [] → BackUnit d u ts
+back_unit no_outers f d v ts q = absurd f
+back_unit (more_outers a u) f d v ts q =
+    let x = back_outer a f.0 d (omega arith) ts (unit_kinds u []) q in
+    let z = back_outers u f.1 d (omega arith) x.after [] x.left in
+    record {
+      other = more_outers x.tree z.tree;
+      reads = ends_at (ReadsOuters d (more_outers x.tree z.tree)) (no_kinds z.after z.left) (outer_before z.tree x.reads z.reads);
+      same = same_outers x.same z.same;
+    }

@@ -1,0 +1,15 @@
+pub mod Fronts
+pub mod Grammar
+pub mod Limits
+pub mod Print
+pub mod Same
+pub mod Specifiers
+pub mod Spelling
+pub mod Statements
+pub mod Text
+pub mod Tokens
+pub mod Tree
+pub mod UnitView
+pub mod View
+pub mod Writes
+pub mod WritesUnit

@@ -1,0 +1,387 @@
+use dm_base::Bytes;
+
+/// A name that is declared or used, and its place.
+#[derive(Drop)]
+pub struct Ident {
+    /// The name.
+    pub name: Bytes,
+    /// The place of its first byte.
+    pub at: u32,
+}
+
+/// A storage-class specifier (C99 6.7.1).
+#[derive(Clone, Copy, Debug, PartialEq, Eq)]
+pub enum Storage {
+    /// None stands there.
+    Absent,
+    /// `static`
+    Static,
+    /// `extern`
+    Extern,
+}
+
+/// The type specifiers of a declaration (C99 6.7.2); `const` isn't kept.
+#[derive(Drop)]
+pub enum Spec {
+    /// `void`
+    Void,
+    /// `char`
+    Char,
+    /// `unsigned char`
+    Uchar,
+    /// `int`, `signed` or `signed int`
+    Int,
+    /// `unsigned` or `unsigned int`
+    Uint,
+    /// `struct` and a tag
+    Struct(Ident),
+    /// `enum` and a tag
+    Enum(Ident),
+}
+
+/// An expression (C99 6.5). Parentheses round it make no node.
+#[derive(Drop)]
+#[cycle(tree)]
+pub struct Expr {
+    /// The place of its first byte.
+    pub at: u32,
+    /// Its form.
+    pub kind: ExprKind,
+}
+
+/// The forms of an expression. Operators are numbers of punctuators.
+#[derive(Drop)]
+#[cycle(tree)]
+pub enum ExprKind {
+    /// A name (6.5.1).
+    Name(Bytes),
+    /// An integer constant (6.4.4.1).
+    Int {
+        /// The value.
+        value: u32,
+        /// Whether its type is unsigned int.
+        unsigned: bool,
+    },
+    /// A character constant (6.4.4.4).
+    Char(i32),
+    /// String literals that stand side by side, joined (6.4.5).
+    Str(Bytes),
+    /// Two or more expressions with commas between them (6.5.17).
+    Comma(Vec<Expr>),
+    /// `sizeof` of a type (6.5.3.4).
+    SizeofType(TypeName),
+    /// A cast (6.5.4).
+    Cast(TypeName, Box<Expr>),
+    /// A call (6.5.2.2).
+    Call(Box<Expr>, Vec<Expr>),
+    /// `.` and a member (6.5.2.3).
+    Member(Box<Expr>, Ident),
+    /// `->` and a member (6.5.2.3).
+    Arrow(Box<Expr>, Ident),
+    /// `++` after its operand (6.5.2.4).
+    PostInc(Box<Expr>),
+    /// `--` after its operand (6.5.2.4).
+    PostDec(Box<Expr>),
+    /// `++` before its operand (6.5.3.1).
+    PreInc(Box<Expr>),
+    /// `--` before its operand (6.5.3.1).
+    PreDec(Box<Expr>),
+    /// `sizeof` of an expression (6.5.3.4).
+    SizeofExpr(Box<Expr>),
+    /// One of the unary operators `&`, `*`, `+`, `-`, `~` and `!` (6.5.3.2, 6.5.3.3).
+    Unary(u8, Box<Expr>),
+    /// An index (6.5.2.1).
+    Index(Box<Expr>, Box<Expr>),
+    /// `&&` (6.5.13).
+    And(Box<Expr>, Box<Expr>),
+    /// `||` (6.5.14).
+    Or(Box<Expr>, Box<Expr>),
+    /// A binary operator of 6.5.5 to 6.5.12.
+    Binary(u8, Box<Expr>, Box<Expr>),
+    /// An assignment (6.5.16).
+    Assign(u8, Box<Expr>, Box<Expr>),
+    /// `?` and `:` (6.5.15).
+    Cond(Box<Expr>, Box<Expr>, Box<Expr>),
+}
+
+/// The name of a type (C99 6.7.6).
+#[derive(Drop)]
+#[cycle(tree)]
+pub struct TypeName {
+    /// Its specifiers.
+    pub spec: Spec,
+    /// A declarator without a name, or None where the specifiers stand alone.
+    pub declarator: Option<Declarator>,
+    /// The place of its first byte.
+    pub at: u32,
+}
+
+/// A parameter (C99 6.7.5.3).
+#[derive(Drop)]
+#[cycle(tree)]
+pub struct Param {
+    /// Its specifiers.
+    pub spec: Spec,
+    /// A declarator, with or without a name, or None where the specifiers stand alone.
+    pub declarator: Option<Declarator>,
+    /// The place of its first byte.
+    pub at: u32,
+}
+
+/// A declarator (C99 6.7.5), or the rest of one whose name is left out (6.7.6). Parentheses round it make no
+/// node.
+#[derive(Drop)]
+#[cycle(tree)]
+pub struct Declarator {
+    /// The place of its first byte.
+    pub at: u32,
+    /// Its form.
+    pub kind: DeclaratorKind,
+}
+
+/// The forms of a declarator. An inner declarator is None where no name stands.
+#[derive(Drop)]
+#[cycle(tree)]
+pub enum DeclaratorKind {
+    /// The declared name.
+    Name(Ident),
+    /// `*` (6.7.5.1).
+    Pointer(Option<Box<Declarator>>),
+    /// An array (6.7.5.2).
+    Array {
+        /// What is an array.
+        inner: Option<Box<Declarator>>,
+        /// Its size, where one stands.
+        size: Option<Box<Expr>>,
+    },
+    /// A function (6.7.5.3).
+    Function {
+        /// What is a function.
+        inner: Option<Box<Declarator>>,
+        /// Its parameters; none where `void` stands there.
+        params: Vec<Param>,
+    },
+}
+
+/// An initialiser (C99 6.7.8).
+#[derive(Drop)]
+#[cycle(init)]
+pub struct Init {
+    /// The place of its first byte; that of its expression where that stands in parentheses.
+    pub at: u32,
+    /// Its form.
+    pub kind: InitKind,
+}
+
+/// The forms of an initialiser.
+#[derive(Drop)]
+#[cycle(init)]
+pub enum InitKind {
+    /// An expression.
+    One(Expr),
+    /// A list in braces, of one or more; a comma at its end isn't kept.
+    List(Vec<Init>),
+}
+
+/// A declarator, perhaps with an initialiser.
+#[derive(Drop)]
+pub struct DeclPart {
+    /// The declarator, which has a name.
+    pub declarator: Declarator,
+    /// Its initialiser.
+    pub init: Option<Init>,
+}
+
+/// A declaration (C99 6.7).
+#[derive(Drop)]
+pub struct Decl {
+    /// Its storage class; absent in a block.
+    pub storage: Storage,
+    /// Its specifiers.
+    pub spec: Spec,
+    /// One or more declarators.
+    pub parts: Vec<DeclPart>,
+    /// The place of its first byte.
+    pub at: u32,
+}
+
+/// What stands first in the head of a `for` (C99 6.8.5).
+#[derive(Drop)]
+pub enum ForFirst {
+    /// Nothing.
+    Absent,
+    /// An expression.
+    Expr(Expr),
+    /// A declaration.
+    Declaration(Decl),
+}
+
+/// A label of a switch (C99 6.8.1).
+#[derive(Drop)]
+pub struct Label {
+    /// The place of its first byte.
+    pub at: u32,
+    /// Its form.
+    pub kind: LabelKind,
+}
+
+/// The forms of a label.
+#[derive(Drop)]
+pub enum LabelKind {
+    /// `case` and a value.
+    Case(Expr),
+    /// `default`
+    Default,
+}
+
+/// A statement (C99 6.8).
+#[derive(Drop)]
+#[cycle(statement)]
+pub struct Stmt {
+    /// The place of its first byte.
+    pub at: u32,
+    /// Its form.
+    pub kind: StmtKind,
+}
+
+/// The forms of a statement.
+#[derive(Drop)]
+#[cycle(statement)]
+pub enum StmtKind {
+    /// A block (6.8.2).
+    Block(Vec<BlockItem>),
+    /// `;` alone (6.8.3).
+    Empty,
+    /// An expression (6.8.3).
+    Expr(Expr),
+    /// `if`, perhaps with `else` (6.8.4.1).
+    If {
+        /// The condition.
+        test: Expr,
+        /// What is done where it holds.
+        yes: Box<Stmt>,
+        /// What is done where it doesn't.
+        no: Option<Box<Stmt>>,
+    },
+    /// `while` (6.8.5.1).
+    While {
+        /// The condition.
+        test: Expr,
+        /// The body.
+        body: Box<Stmt>,
+    },
+    /// `do` (6.8.5.2).
+    Do {
+        /// The body.
+        body: Box<Stmt>,
+        /// The condition.
+        test: Expr,
+    },
+    /// `for` (6.8.5.3).
+    For {
+        /// What is done first.
+        first: ForFirst,
+        /// The condition.
+        test: Option<Expr>,
+        /// What is done after each turn.
+        step: Option<Expr>,
+        /// The body.
+        body: Box<Stmt>,
+    },
+    /// `switch` (6.8.4.2).
+    Switch {
+        /// What is compared with the labels.
+        on: Expr,
+        /// Labels and the statements after them.
+        groups: Vec<Group>,
+    },
+    /// `break` (6.8.6.3).
+    Break,
+    /// `continue` (6.8.6.2).
+    Continue,
+    /// `return` (6.8.6.4).
+    Return(Option<Expr>),
+}
+
+/// What stands in a block.
+#[derive(Drop)]
+#[cycle(statement)]
+pub enum BlockItem {
+    /// A declaration, without a storage class.
+    Declaration(Decl),
+    /// A statement.
+    Statement(Stmt),
+}
+
+/// One or more labels of a switch, and one or more statements after them.
+#[derive(Drop)]
+#[cycle(statement)]
+pub struct Group {
+    /// The labels.
+    pub labels: Vec<Label>,
+    /// The statements.
+    pub body: Vec<Stmt>,
+}
+
+/// Members of a struct (C99 6.7.2.1).
+#[derive(Drop)]
+pub struct Member {
+    /// Their specifiers.
+    pub spec: Spec,
+    /// One or more declarators, which have names.
+    pub declarators: Vec<Declarator>,
+    /// The place of the first byte.
+    pub at: u32,
+}
+
+/// An enumerator (C99 6.7.2.2).
+#[derive(Drop)]
+pub struct Enumerator {
+    /// Its name.
+    pub name: Ident,
+    /// Its value, where one stands.
+    pub value: Option<Expr>,
+}
+
+/// What stands at file scope (C99 6.9).
+#[derive(Drop)]
+pub struct Item {
+    /// The place of its first byte.
+    pub at: u32,
+    /// Its form.
+    pub kind: ItemKind,
+}
+
+/// The forms of what stands at file scope.
+#[derive(Drop)]
+pub enum ItemKind {
+    /// A struct with its members.
+    Struct {
+        /// Its tag.
+        tag: Ident,
+        /// One or more members.
+        members: Vec<Member>,
+    },
+    /// An enum with its enumerators.
+    Enum {
+        /// Its tag, where one stands.
+        tag: Option<Ident>,
+        /// One or more enumerators; a comma after the last isn't kept.
+        list: Vec<Enumerator>,
+    },
+    /// `struct` and a tag alone.
+    Tag(Ident),
+    /// A declaration.
+    Declaration(Decl),
+    /// The definition of a function.
+    Function {
+        /// Its storage class.
+        storage: Storage,
+        /// Its specifiers.
+        spec: Spec,
+        /// Its declarator, which has a name.
+        declarator: Declarator,
+        /// Its body, a block.
+        body: Stmt,
+    },
+}
