@@ -109,6 +109,12 @@ equal h s g = each_level h g 4 5 (refl, omega arith) s
 bits : {a b : List ℕ} {t u v : Token} → IsName a t → Is 10 u → IsName b v → Reads 0 (chained 10) (binary t.from (operator 10) (a_name t.from a) (a_name v.from b)) (t ∷ u ∷ v ∷ []) []
 bits h s g = each_level h g 5 4 (refl, omega arith) s
 
+differ : {a b : List ℕ} {t u v : Token} → IsName a t → Is 26 u → IsName b v → Reads 0 (chained 10) (binary t.from (operator 26) (a_name t.from a) (a_name v.from b)) (t ∷ u ∷ v ∷ []) []
+differ h s g = each_level h g 6 3 (refl, omega arith) s
+
+any_bit : {a b : List ℕ} {t u v : Token} → IsName a t → Is 27 u → IsName b v → Reads 0 (chained 10) (binary t.from (operator 27) (a_name t.from a) (a_name v.from b)) (t ∷ u ∷ v ∷ []) []
+any_bit h s g = each_level h g 7 2 (refl, omega arith) s
+
 both : {a b : List ℕ} {t u v : Token} → IsName a t → Is 28 u → IsName b v → Reads 0 (chained 10) (binary t.from and (a_name t.from a) (a_name v.from b)) (t ∷ u ∷ v ∷ []) []
 both h s g = each_level h g 8 1 refl s
 

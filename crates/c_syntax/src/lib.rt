@@ -4,6 +4,8 @@
 
 mod laws;
 mod printing;
+#[cfg(test)]
+mod tests;
 mod tree;
 mod unit;
 
