@@ -149,9 +149,9 @@ three_members h s g q f = a_comma refl (assigned (is_name h)) s (next_expr (assi
 unsigned_char_with_consts : {a t b u c : Token} → IsWord w.CONST a → IsWord w.UNSIGNED t → IsWord w.CONST b → IsWord w.CHAR u → IsWord w.CONST c → ReadsSpec unsigned_char (a ∷ t ∷ b ∷ u ∷ c ∷ []) []
 unsigned_char_with_consts a t b u c = is_unsigned_char (a_const a no_const) t (a_const b no_const) u (a_const c no_const)
 
--- ( * const ops [ 2 ] ) ( struct session * , int )
-table_of_functions : {ops session : List ℕ} {o s k n l m r c q x y v z e f : Token} → Is 2 o → Is 11 s → IsWord w.CONST k → IsName ops n → Is 0 l → IsInt 2 false m → Is 1 r → Is 3 c → Is 2 q → IsWord w.STRUCT x → IsName session y → Is 11 v → Is 44 z → IsWord w.INT e → Is 3 f →
-    Declares 1 (function o.from (pointer s.from (array n.from (named n.from (record { name = ops; at = n.from })) (there (an_int m.from 2 false)))) (more_params x.from (struct (record { name = session; at = y.from })) (pointer v.from nothing) (more_params e.from int nothing no_params)))
+-- ( * const ops [ 2 ] ) ( struct request * , int )
+table_of_functions : {ops request : List ℕ} {o s k n l m r c q x y v z e f : Token} → Is 2 o → Is 11 s → IsWord w.CONST k → IsName ops n → Is 0 l → IsInt 2 false m → Is 1 r → Is 3 c → Is 2 q → IsWord w.STRUCT x → IsName request y → Is 11 v → Is 44 z → IsWord w.INT e → Is 3 f →
+    Declares 1 (function o.from (pointer s.from (array n.from (named n.from (record { name = ops; at = n.from })) (there (an_int m.from 2 false)))) (more_params x.from (struct (record { name = request; at = y.from })) (pointer v.from nothing) (more_params e.from int nothing no_params)))
     (o ∷ s ∷ k ∷ n ∷ l ∷ m ∷ r ∷ c ∷ q ∷ x ∷ y ∷ v ∷ z ∷ e ∷ f ∷ []) []
 table_of_functions o s k n l m r c q x y v z e f =
     a_direct refl

@@ -23,12 +23,16 @@ struct Trees {
 
 impl Trees {
     fn one<T: Drop>(self, x: Made<T>) -> Made<Vec<T>> {
-        Ok(vec![in self.alloc; x?]?)
+        let x = x?;
+        let mut all = Vec::new(self.alloc);
+        all.push(x)?;
+        Ok(all)
     }
 
     fn two<T: Drop>(self, x: Made<T>, y: Made<T>) -> Made<Vec<T>> {
-        let x = x?;
-        Ok(vec![in self.alloc; x, y?]?)
+        let mut all = self.one(x)?;
+        all.push(y?)?;
+        Ok(all)
     }
 
     fn ident(self, name: &[u8]) -> Made<Ident> {
