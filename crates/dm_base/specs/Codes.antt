@@ -1,3 +1,4 @@
+-- How a run of the program ends.
 use Rattle.std.specs.Prelude.{ℕ}
 use Rattle.dm_base.specs.declared.verdict.Status.{Status}
 use Rattle.dm_base.specs.declared.verdict.Status.TheVariants.{Done, Rejected, Usage, SourceRefused, ModelRefused, RecordRefused, ReadFault, WriteFault, OutOfMemory, Bound}

@@ -6,6 +6,18 @@ pub fn read_u32(text: &[u8]) -> Option<u32>
     ensures some { IfSome result (λ n. text.now ≡ decimal n) }
     ensures none { IfNone result ((n : ℕ) → n < 2 ^ 32 → text.now ≡ decimal n → ⊥) }
 {
+    let number = read_u64(text)?;
+    if number > u32::MAX as u64 {
+        return None;
+    }
+    Some(number as u32)
+}
+
+/// The number below 2^64 that a canonical decimal stands for. None for every other text.
+pub fn read_u64(text: &[u8]) -> Option<u64>
+    ensures some { IfSome result (λ n. text.now ≡ decimal n) }
+    ensures none { IfNone result ((n : ℕ) → n < 2 ^ 64 → text.now ≡ decimal n → ⊥) }
+{
     if !begins_plainly(text) {
         return None;
     }

@@ -20,7 +20,7 @@ pub struct Pattern {
 impl Model for Pattern {
     ghost use Rattle.std.specs.Prelude.{List, Option, ℤ, length};
     ghost use Rattle.std.proofs.Common.{ap₂};
-    ghost use Rattle.dm_base.specs.Pattern.{entries_of, IsPadded, padded, length-entries_of, padded-entries_of};
+    ghost use Rattle.dm_base.specs.PatternRow.{entries_of, IsPadded, padded, length-entries_of, padded-entries_of};
 
     ghost Value = { List (Option ℤ) };
 

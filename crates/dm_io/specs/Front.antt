@@ -1,4 +1,4 @@
--- A file that is being read, from its start, where the files are told.
+-- For private contracts and proofs alone: a file that is being read, from its start, where the files are told.
 use Rattle.std.specs.Prelude.{◌≡◌, ℕ, ◌≤◌, List, length, take, Option, Some, None}
 use Rattle.dm_io.specs.Store.{Files, file_at}
 

@@ -19,6 +19,3 @@ pub use sink::{Sink, WriteFail};
 pub use std_sink::StdSink;
 pub use store::{ReadFail, Store};
 pub use whole::{ReadError, read_whole, write_whole};
-
-#[cfg(test)]
-mod tests;

@@ -1,4 +1,4 @@
--- A set of numbers as the bits of 64-bit words.
+-- For private contracts and proofs alone: a set of numbers as the bits of 64-bit words.
 use Prim.Native.Nat.{zero, suc}
 use Rattle.std.specs.Prelude.{ℕ, ◌/◌, ◌%◌, List, slice_index, nat_eq, if◌then◌else◌}
 use Rattle.std.specs.Int.{bit_at}

@@ -8,7 +8,7 @@ use Rattle.std.proofs.lemmas.Fmt.{digits_decimal, decimal_nonempty, signed_decim
 use Rattle.std.proofs.lemmas.Str.Parse.{not_in_digits}
 use Rattle.line_text.specs.Reading.{Agree, StandsFirst, BeginsOne}
 use Rattle.line_text.specs.Words.{IsEnd, IsPlain, ended_word, integer_word}
-use Rattle.line_text.proofs.DecimalLemmas.{own}
+use Rattle.dm_base.proofs.Decimals.{own}
 use Rattle.line_text.proofs.NumberLemmas.{decimal-IsPlain}
 use Rattle.line_text.proofs.WordLemmas.{value_stands, no_value_stands}
 

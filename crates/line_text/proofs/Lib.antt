@@ -1,4 +1,3 @@
-pub mod DecimalLemmas
 pub mod FilesLemmas
 pub mod HexadecimalLemmas
 pub mod IntegerLemmas

@@ -11,7 +11,7 @@ use Rattle.std.proofs.lemmas.Bool.{cases_lt}
 use Rattle.line_text.specs.Numbers.{IsFrontOf}
 use Rattle.line_text.specs.Reading.{Agree, StandsFirst, BeginsOne}
 use Rattle.line_text.specs.Words.{IsEnd, IsPlain, ended_word, number_word}
-use Rattle.line_text.proofs.DecimalLemmas.{own}
+use Rattle.dm_base.proofs.Decimals.{own}
 use Rattle.line_text.proofs.WordLemmas.{value_stands, no_value_stands}
 
 pub front_same : (m n : ℕ) → n ≡ m → IsFrontOf m n

@@ -1,6 +1,8 @@
-ghost use Rattle.std.specs.Prelude.{◌≡◌, ◌≢◌, ◌↔◌, ◌^◌, ◌<◌, ◌≤◌, ◌/◌, ℕ, length, slice_index, decimal, IfSome, IfNone, IsTrue};
+ghost use Rattle.std.specs.Prelude.{◌≡◌, ◌↔◌, ◌<◌, ◌≤◌, ◌/◌, ℕ, decimal, IfSome, IfNone, IsTrue};
 ghost use Rattle.line_text.specs.Numbers.{IsFrontOf};
 ghost use Rattle.line_text.specs.Reading.{BeginsOne};
+
+use dm_base::read_u64;
 
 /// The number of the range whose canonical decimal the text is: no sign, and no zero before other
 /// digits. None where there is none.
@@ -41,30 +43,4 @@ fn is_front_in(front: u64, least: u64, most: u64) -> bool
         return false;
     }
     least <= front || is_front_in(front, least / 10, most / 10)
-}
-
-// The number below 2^64 whose canonical decimal the text is. None where there is none.
-fn read_u64(text: &[u8]) -> Option<u64>
-    ensures some { IfSome result (λ n. text.now ≡ decimal n) }
-    ensures none { IfNone result ((n : ℕ) → n < 2 ^ 64 → text.now ≡ decimal n → ⊥) }
-{
-    if !begins_plainly(text) {
-        return None;
-    }
-    match str::from_utf8(text) {
-        Ok(digits) => digits.parse().ok(),
-        Err(_) => None,
-    }
-}
-
-// Whether the text begins with no plus sign, and with no zero before other bytes.
-fn begins_plainly(text: &[u8]) -> bool
-    ensures { IsTrue result
-        ↔ ((slice_index text.now 0 ≢ 43) × (slice_index text.now 0 ≡ 48 → length text.now ≡ 1)) }
-{
-    match text {
-        [b'+', ..] => false,
-        [b'0', _, ..] => false,
-        _ => true,
-    }
 }

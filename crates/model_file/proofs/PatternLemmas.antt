@@ -16,7 +16,7 @@ use Rattle.std.proofs.lemmas.Str.Parse.{not_in_digits}
 use Rattle.flow_model.specs.declared.records.SysEdge.{SysEdge}
 use Rattle.line_text.specs.Reading.{Agree, StandsFirst, IsCutShort, Reads}
 use Rattle.line_text.specs.Words.{integer_word}
-use Rattle.line_text.proofs.DecimalLemmas.{own}
+use Rattle.dm_base.proofs.Decimals.{own}
 use Rattle.line_text.proofs.Splits.{IsCase, agree_head, nothing_left}
 use Rattle.sys_table.specs.declared.kinds.ArgKind.TheVariants.{Signed, Unsigned, Bytes}
 use Rattle.model_file.proofs.Narrowing.{IsWhole}

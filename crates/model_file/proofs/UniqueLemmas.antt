@@ -9,7 +9,7 @@ use Rattle.std.proofs.lemmas.Int.{ints}
 use Rattle.std.proofs.lemmas.List.{append-nil, append_cancel_left}
 use Rattle.std.proofs.lemmas.Str.Parse.{not_in_digits}
 use Rattle.line_text.specs.Words.{IsEnd, IsPlain}
-use Rattle.line_text.proofs.DecimalLemmas.{own}
+use Rattle.dm_base.proofs.Decimals.{own}
 use Rattle.line_text.proofs.IntegerLemmas.{signed-IsPlain, signed_injective}
 use Rattle.line_text.proofs.NumberLemmas.{decimal-IsPlain}
 use Rattle.line_text.proofs.WordLemmas.{same_word}

@@ -11,7 +11,7 @@ use Rattle.line_text.specs.declared.miss.Miss.{Miss}
 use Rattle.line_text.specs.declared.miss.Miss.TheVariants.{OutOfMemory, Short, Wrong}
 use Rattle.line_text.specs.Files.{IsLine}
 use Rattle.line_text.specs.Reading.{Agree, StandsFirst, IsCutShort, Reads}
-use Rattle.line_text.proofs.DecimalLemmas.{own}
+use Rattle.dm_base.proofs.Decimals.{own}
 use Rattle.line_text.proofs.FilesLemmas.{ends_line}
 use Rattle.line_text.proofs.Splits.{IsCase}
 use Rattle.trace_file.specs.declared.lines.TraceLine.{TraceLine}

@@ -1,7 +1,7 @@
 use Rattle.std.proofs.Common.{sym, ◌∙◌}
 use Rattle.std.proofs.lemmas.Bool.{false≢true}
-use Rattle.line_text.proofs.DecimalLemmas.{decimal-plain, decimal-text, decimal-read, decimal-unread}
-use Rattle.line_text.proofs.decimal.read_u64.Goals as goal
+use Rattle.dm_base.proofs.Decimals.{decimal-plain, decimal-text, decimal-read, decimal-unread}
+use Rattle.dm_base.proofs.decimal.read_u64.Goals as goal
 
 pub returns-then-not-begins_plainly-clause-none : goal.returns-then-not-begins_plainly-clause-none
 returns-then-not-begins_plainly-clause-none c = λ n small is.

@@ -1,6 +1,9 @@
 ghost use Rattle.std.specs.Prelude.{◌<◌, length};
 
-use super::*;
+use dm_io::{
+    FolderStore, MemorySink, MemoryStore, ReadError, StdSink, Store, WriteFail, read_whole,
+    write_whole,
+};
 use std::alloc::{AllocError, Global};
 use std::io::{self, Write};
 use std::test::Fail;

@@ -1,0 +1,11 @@
+//! Tests of the crates at the bottom, over their public calls. Each call that can want memory is run
+//! once with ample memory: `Bytes::of`, `Event::copy` in `shared_types`; `NodeSet::new` and `copy`,
+//! `BoundedStack::new` and `copy` in `sets`; `read_whole`, `MemorySink::reserved` in `outside`.
+#![tactic(auto)]
+
+#[cfg(test)]
+mod outside;
+#[cfg(test)]
+mod sets;
+#[cfg(test)]
+mod shared_types;
