@@ -1,0 +1,4 @@
+pub mod Functions
+pub mod Layout
+pub mod Tree
+pub mod View

@@ -1,0 +1,9 @@
+//! Typed trees of the C profile (C99 6.2.5, 6.5, 6.7, 6.8): types, values, expressions, statements and programs, which
+//! of them are well-typed, and what operators give.
+#![tactic(auto)]
+
+mod tree;
+mod value;
+
+pub use tree::{CType, Function, Static, TExpr, TExprKind, TGroup, TInit, TLabel, TStmt};
+pub use value::{BinOp, IntType, ObjectName, Pointer, UnOp, Value};
