@@ -1,4 +1,10 @@
 pub mod Functions
+pub mod Inside
+pub mod Kinds
 pub mod Layout
+pub mod Operands
+pub mod Program
+pub mod Sites
 pub mod Tree
+pub mod Typed
 pub mod View

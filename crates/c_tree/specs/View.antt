@@ -1,5 +1,5 @@
 -- The terms that typed trees of Rust are seen as.
-use Rattle.std.specs.Prelude.{List, [], ◌∷◌, map, Option, Some, None}
+use Rattle.std.specs.Prelude.{ℕ, List, [], ◌∷◌, map, Option, Some, None}
 use Rattle.c_tree.specs.declared.tree.CType.{CType as TypeTree, Void, Int, Pointer', Array', Struct, Function', Row_of-CType, end_of-CType, more_of-CType}
 use Rattle.c_tree.specs.declared.tree.TExpr.{TExpr}
 use Rattle.c_tree.specs.declared.tree.TExprKind.{TExprKind, Const, StringPlace, Variable, Deref', Load', AddressOf', Decay', Discard', Field', Unary', Convert', Arith', Compare', PointerAdd', PointerDiff', And', Or', Assign', Update', Cond', Comma', Call', CallThrough', Row_of-TExpr, end_of-TExpr, more_of-TExpr}
@@ -9,11 +9,13 @@ use Rattle.c_tree.specs.declared.tree.TStmt.{TStmt, Block', Empty, Declare, If',
 use Rattle.c_tree.specs.declared.tree.TStmt.{Expr as Evaluated}
 use Rattle.c_tree.specs.declared.tree.Function.{Function as FunctionTree}
 use Rattle.c_tree.specs.declared.tree.Static.{Static as StaticTree}
+use Rattle.c_tree.specs.declared.tree.StructMembers.{StructMembers}
+use Rattle.c_tree.specs.declared.tree.StructMembers.TheVariants.{Undefined, Defined}
 use Rattle.c_tree.specs.Tree.{CType, void, integer, pointer, array, struct, function, CTypes, no_types, more_types}
 use Rattle.c_tree.specs.Tree.{Expr, constant, function_name, string_place, variable, dereference, load, address_of, decay, discard, field, unary_operation, conversion, arithmetic, comparison, pointer_add, pointer_diff, and, or, assign, update, conditional, comma, call, call_through}
 use Rattle.c_tree.specs.Tree.{Exprs, no_exprs, more_exprs, Maybe, absent, there, Inits, no_inits, more_inits}
 use Rattle.c_tree.specs.Tree.{Stmt, block, empty, evaluate, declare, if_else, while_loop, do_loop, for_loop, switch_on, break_off, continue_on, return_void, return_value, Stmts, no_stmts, more_stmts, Groups, no_groups, more_groups}
-use Rattle.c_tree.specs.Tree.{Function, Static}
+use Rattle.c_tree.specs.Tree.{Function, Static, Program}
 
 abbrev mutual
   pub ctype_of : TypeTree → CType
@@ -111,3 +113,20 @@ function_of f = record { name = f.name; ctype = ctype_of f.ctype; variables = ct
 
 abbrev pub static_of : StaticTree → Static
 static_of s = record { ctype = ctype_of s.ctype; cells = s.cells.items; string = s.string }
+
+-- the members' types of a struct, where it has a definition
+abbrev pub members_in : StructMembers → Option (List CType)
+members_in Undefined = None
+members_in (Defined ts) = Some (ctypes_of ts.items)
+
+-- the parts of a program of Rust
+pub record Parts : Type 0 where
+  pub structs : List StructMembers
+  pub functions : List FunctionTree
+  pub main : ℕ
+  pub statics : List StaticTree
+
+-- the term that a program of Rust is seen as
+abbrev pub program_of : Parts → Program
+program_of p =
+    record { structs = map members_in p.structs; functions = map function_of p.functions; main = p.main; statics = map static_of p.statics }

@@ -2,8 +2,12 @@
 //! of them are well-typed, and what operators give.
 #![tactic(auto)]
 
+mod program;
 mod tree;
 mod value;
 
-pub use tree::{CType, Function, Static, TExpr, TExprKind, TGroup, TInit, TLabel, TStmt};
+pub use program::Program;
+pub use tree::{
+    CType, Function, Static, StructMembers, TExpr, TExprKind, TGroup, TInit, TLabel, TStmt,
+};
 pub use value::{BinOp, IntType, ObjectName, Pointer, UnOp, Value};

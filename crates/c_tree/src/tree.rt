@@ -214,6 +214,15 @@ pub struct TGroup {
     pub body: Vec<TStmt>,
 }
 
+/// The members of a struct (C99 6.7.2.1).
+#[derive(Drop)]
+pub enum StructMembers {
+    /// The struct has no definition.
+    Undefined,
+    /// The types of its members, in order.
+    Defined(Vec<CType>),
+}
+
 /// A defined function (C99 6.9.1).
 #[derive(Drop)]
 pub struct Function {
