@@ -1,1 +1,3 @@
 pub mod LayoutTrials
+pub mod TrialNames
+pub mod TypedTrials
