@@ -1,3 +1,4 @@
 pub mod LayoutTrials
+pub mod SpoiltTrials
 pub mod TrialNames
 pub mod TypedTrials

@@ -18,10 +18,10 @@ use Rattle.c_tree.specs.Program.{IsProgram, IsFunction, IsStatic, HaveNames, Are
 use Rattle.c_tree.proofs.TrialNames.{apart, named, no_twin}
 
 -- a block of two statements
-abbrev two : Stmt → Stmt → Stmt
+abbrev pub two : Stmt → Stmt → Stmt
 two a b = block (more_stmts a (more_stmts b no_stmts))
 
-abbrev zero_of_int : Expr
+abbrev pub zero_of_int : Expr
 zero_of_int = constant int (v.Int (pos 0))
 
 no_structs : AreStructs []
@@ -47,7 +47,7 @@ all_three P x y z h k l = All-cons P x (y ∷ z ∷ []) h (both P y z k l)
 all_four : {A : Type 0} (P : A → Type 0) (w x y z : A) → P w → P x → P y → P z → All P (w ∷ x ∷ y ∷ z ∷ [])
 all_four P w x y z h k l m = All-cons P w (x ∷ y ∷ z ∷ []) h (all_three P x y z k l m)
 
-abbrev function_with : List ℕ → CType → List CType → Stmt → Function
+abbrev pub function_with : List ℕ → CType → List CType → Stmt → Function
 function_with name ctype variables body = record { name = name; ctype = ctype; variables = variables; body = body }
 
 -- a function without variables whose body is right
@@ -83,21 +83,21 @@ one_parameter p name t body scalar object few h = record {
 }
 
 -- int getpid(void); unsigned getuid(void); int f(void) { return getpid(); } int main(void) { f(); getuid(); f(); return 0; }
-abbrev f_of_b : Stmt
+abbrev pub f_of_b : Stmt
 f_of_b = block (more_stmts (return_value (call int 0 16 no_exprs)) no_stmts)
 
-abbrev main_of_b : Stmt
+abbrev pub main_of_b : Stmt
 main_of_b =
     block (more_stmts (evaluate (call int 1 0 no_exprs)) (more_stmts (evaluate (call unsigned_int 2 18 no_exprs)) (more_stmts (evaluate (call int 3 0 no_exprs)) (more_stmts (return_value zero_of_int) no_stmts))))
 
 -- f and main, without parameters
-abbrev f_with : Stmt → Function
+abbrev pub f_with : Stmt → Function
 f_with body = function_with (codes "f") (of_none int) [] body
 
-abbrev main_with : Stmt → Function
+abbrev pub main_with : Stmt → Function
 main_with body = function_with (codes "main") (of_none int) [] body
 
-abbrev of_f_and_main : Stmt → Stmt → List Static → Program
+abbrev pub of_f_and_main : Stmt → Stmt → List Static → Program
 of_f_and_main f m statics =
     record { structs = []; functions = f_with f ∷ main_with m ∷ []; main = 1; statics = statics }
 
@@ -135,14 +135,14 @@ source_b_fits = record {
 }
 
 -- int g; int getpid(void); int f(void) { if (g) f(); getpid(); return 0; } int main(void) { f(); return 0; }
-abbrev f_of_d : Stmt
+abbrev pub f_of_d : Stmt
 f_of_d =
     block (more_stmts (if_else (load int (variable int true 0)) (evaluate (call int 0 0 no_exprs)) empty) (more_stmts (evaluate (call int 1 16 no_exprs)) (more_stmts (return_value zero_of_int) no_stmts)))
 
-abbrev main_of_d : Stmt
+abbrev pub main_of_d : Stmt
 main_of_d = two (evaluate (call int 2 0 no_exprs)) (return_value zero_of_int)
 
-abbrev g_of_d : Static
+abbrev pub g_of_d : Static
 g_of_d = record { ctype = int; cells = v.Int (pos 0) ∷ []; string = false }
 
 abbrev source_d : Program
