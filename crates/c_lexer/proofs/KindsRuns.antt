@@ -14,13 +14,13 @@ use Rattle.c_lexer.specs.Words.{IsWord, IsNumber, IsRun, IsWordByte, IsNumberByt
 use Rattle.c_lexer.specs.Literals.{IsLongest}
 use Rattle.c_lexer.specs.Kinds.{Spells}
 use Rattle.c_lexer.specs.Refusals.{Holds, IsWhole, IsMalformedNumber, IsLongWord, HasLargeElement}
-use Rattle.c_lexer.specs.Parts.{BeginsWith, IsFront}
+use Rattle.c_lexer.specs.Parts.{BeginsWith, IsRunLength}
 use Rattle.c_lexer.proofs.KindsBegin.{zero_spelled, run_begins, same_first, first_apart, whole_begins, letter_no_digit, letter_no_mark, digit_no_mark}
 use Rattle.c_lexer.proofs.WordTables.{c99_is_fixed}
 
 -- the front of a text with a first byte is a run
 module _ (First Later : ℕ → Type 0) (sub : (b : ℕ) → First b → Later b) where
-  front_is_run : (b : ℕ) (rest : List ℕ) (n : ℕ) → First b → IsFront Later (b ∷ rest) n → IsRun First Later (take n (b ∷ rest))
+  front_is_run : (b : ℕ) (rest : List ℕ) (n : ℕ) → First b → IsRunLength Later (b ∷ rest) n → IsRun First Later (take n (b ∷ rest))
   front_is_run b rest zero first front = absurd (front.ends b rest refl (sub b first))
   front_is_run b rest (suc n) first front = (first, All-tail Later b (take n rest) front.each)
 
@@ -28,7 +28,7 @@ module _ (First Later : ℕ → Type 0) (sub : (b : ℕ) → First b → Later b
   run_is_all [] h = absurd h
   run_is_all (b ∷ w) h = All-cons Later b w (sub b h.0) h.1
 
-  no_more : (i x y : List ℕ) (n : ℕ) → IsFront Later i n → i ≡ x ++ y → All Later x → n < length x → ⊥
+  no_more : (i x y : List ℕ) (n : ℕ) → IsRunLength Later i n → i ≡ x ++ y → All Later x → n < length x → ⊥
   no_more i x y n front stands each more =
       let all : length i ≡ length (x ++ y) = ap length stands in
       let sum : length (x ++ y) ≡ length x + length y = length-append x y in
@@ -36,21 +36,21 @@ module _ (First Later : ℕ → Type 0) (sub : (b : ℕ) → First b → Later b
       let here : get_or i n 0 ≡ get_or x n 0 = ap (λ v. get_or v n 0) stands ∙ get_or_append_left x y 0 n more in
       front.ends (get_or i n 0) (drop (n + 1) i) (drop_more i n 0 within) (subst Later (sym here) (each n 0 more))
 
-  run_longer : (i x y : List ℕ) (n : ℕ) → IsFront Later i n → i ≡ x ++ y → IsRun First Later x → length x ≤ n
+  run_longer : (i x y : List ℕ) (n : ℕ) → IsRunLength Later i n → i ≡ x ++ y → IsRun First Later x → length x ≤ n
   run_longer i x y n front stands run =
       ⊎_elim (λ more. absurd (no_more i x y n front stands (run_is_all x run) more)) (λ less. less) (cases_lt n (length x))
 
-  pub front_longest : (i : List ℕ) (n : ℕ) → BeginsWith First i → IsFront Later i n → IsLongest (IsRun First Later) (take n i) i (drop n i)
+  pub front_longest : (i : List ℕ) (n : ℕ) → BeginsWith First i → IsRunLength Later i n → IsLongest (IsRun First Later) (take n i) i (drop n i)
   front_longest i n (b, rest, is, first) front = record {
-    is = subst (λ v. IsRun First Later (take n v)) (sym is) (front_is_run b rest n first (subst (λ v. IsFront Later v n) is front));
+    is = subst (λ v. IsRun First Later (take n v)) (sym is) (front_is_run b rest n first (subst (λ v. IsRunLength Later v n) is front));
     stands = sym (take-append-drop n i);
     longest = λ x y stands run. subst (λ m. length x ≤ m) (sym (length-take-le n i front.within)) (run_longer i x y n front stands run);
   }
 
-pub word_longest : (i : List ℕ) (n : ℕ) → BeginsWith IsLetter i → IsFront IsWordByte i n → IsLongest IsWord (take n i) i (drop n i)
+pub word_longest : (i : List ℕ) (n : ℕ) → BeginsWith IsLetter i → IsRunLength IsWordByte i n → IsLongest IsWord (take n i) i (drop n i)
 word_longest = front_longest IsLetter IsWordByte (λ b h. inl h)
 
-pub number_longest : (i : List ℕ) (n : ℕ) → BeginsWith IsDigit i → IsFront IsNumberByte i n → IsLongest IsNumber (take n i) i (drop n i)
+pub number_longest : (i : List ℕ) (n : ℕ) → BeginsWith IsDigit i → IsRunLength IsNumberByte i n → IsLongest IsNumber (take n i) i (drop n i)
 number_longest = front_longest IsDigit IsNumberByte (λ b h. inl (inr h))
 
 -- a letter is a name by itself
@@ -140,7 +140,7 @@ digit_malformed i first (inr (inl (rest, is, _))) = absurd (first_apart IsDigit 
 digit_malformed i first (inr (inr (inl (rest, is, _)))) = absurd (first_apart IsDigit IsQuote i digit_no_quote first (34, rest, is, inr refl))
 digit_malformed i first (inr (inr (inr (w, whole, _)))) = absurd (first_apart IsLetter IsDigit i letter_no_digit (whole_first IsLetter IsWordByte w i whole) first)
 
-pub front_whole : (Later : ℕ → Type 0) (i : List ℕ) (n : ℕ) → length i ≤ n → All Later (take n i) → IsFront Later i (length i)
+pub front_whole : (Later : ℕ → Type 0) (i : List ℕ) (n : ℕ) → length i ≤ n → All Later (take n i) → IsRunLength Later i (length i)
 front_whole Later i n long each = record {
   within = omega arith;
   each = All-same Later (take (length i) i) (take n i) (take_all (length i) i (omega arith) ∙ sym (take_all n i long)) each;

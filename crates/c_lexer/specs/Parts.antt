@@ -16,7 +16,7 @@ abbrev pub BeginsWith : (ℕ → Type 0) → List ℕ → Type 0
 BeginsWith P i = (b : ℕ) × (rest : List ℕ) × (i ≡ b ∷ rest) × P b
 
 -- the first n bytes of the text are those at its front that P has
-pub record IsFront (P : ℕ → Type 0) (i : List ℕ) (n : ℕ) : Type 0 where
+pub record IsRunLength (P : ℕ → Type 0) (i : List ℕ) (n : ℕ) : Type 0 where
   pub within : n ≤ length i
   pub each : All P (take n i)
   pub ends : (b : ℕ) (rest : List ℕ) → drop n i ≡ b ∷ rest → P b → ⊥

@@ -12,8 +12,6 @@ mod misfit;
 mod number;
 pub mod punctuator;
 mod reading;
-#[cfg(test)]
-mod tests;
 mod token;
 mod white;
 mod word;

@@ -5,7 +5,7 @@ ghost use Rattle.dm_base.specs.Name.{IsDigit};
 ghost use Rattle.c_lexer.specs.Words.{IsNumberByte};
 ghost use Rattle.c_lexer.specs.Literals.{type_of};
 ghost use Rattle.c_lexer.specs.Reading.{ReadsToken};
-ghost use Rattle.c_lexer.specs.Parts.{BeginsWith, IsFront, ReadsNumber, IsUnsuffixed, IsBased};
+ghost use Rattle.c_lexer.specs.Parts.{BeginsWith, IsRunLength, ReadsNumber, IsUnsuffixed, IsBased};
 
 use crate::error::Cause;
 use crate::misfit::{Lexeme, Misfit};
@@ -24,7 +24,7 @@ pub fn read_number(text: &[u8]) -> Result<Lexeme, Misfit>
 
 // How many bytes at the front may stand in a number.
 fn number_length(text: &[u8]) -> usize
-    ensures { IsFront IsNumberByte text.now result }
+    ensures { IsRunLength IsNumberByte text.now result }
 {
     for (place, byte) in text.iter().enumerate() {
         if !is_number_byte(*byte) {

@@ -2,7 +2,7 @@ ghost use Rattle.std.specs.Prelude.{◌↔◌, IsTrue};
 ghost use Rattle.dm_base.specs.Name.{IsLetter};
 ghost use Rattle.c_lexer.specs.Words.{IsWord, IsWordByte};
 ghost use Rattle.c_lexer.specs.Reading.{ReadsToken};
-ghost use Rattle.c_lexer.specs.Parts.{BeginsWith, IsFront, ReadsWord};
+ghost use Rattle.c_lexer.specs.Parts.{BeginsWith, IsRunLength, ReadsWord};
 
 use crate::error::Cause;
 use crate::misfit::{Lexeme, Misfit};
@@ -27,7 +27,7 @@ pub fn read_word(alloc: Global, text: &[u8]) -> Result<Lexeme, Misfit>
 
 // How many bytes at the front may stand in a word.
 fn word_length(text: &[u8]) -> usize
-    ensures { IsFront IsWordByte text.now result }
+    ensures { IsRunLength IsWordByte text.now result }
 {
     for (place, byte) in text.iter().enumerate() {
         if !is_word_byte(*byte) {

@@ -5,18 +5,18 @@ use Rattle.c_lexer.specs.declared.token.TokenKind.{TokenKind}
 use Rattle.c_lexer.specs.declared.token.TokenKind.TheVariants.{Punct}
 use Rattle.c_lexer.specs.declared.punctuator.TheConstants as p
 use Rattle.c_syntax.specs.Tree.{Storage, Spec, Expr, Maybe, absent, there, Declarator}
-use Rattle.c_syntax.specs.Tree.{Init, one, list, Inits, no_inits, more_inits, Value, no_value, value, Parts, no_parts, more_parts, Decl, decl}
+use Rattle.c_syntax.specs.Tree.{Init, one, list, Inits, no_inits, more_inits, MaybeInit, no_init, an_init, Parts, no_parts, more_parts, Decl, decl}
 use Rattle.c_syntax.specs.Tree.{First, first_absent, first_expr, first_decl}
 use Rattle.c_syntax.specs.Tokens.{Is, place}
-use Rattle.c_syntax.specs.Grammar.{suffixed, expression, Reads, Declares, HasName}
+use Rattle.c_syntax.specs.Grammar.{postfix_level, expression_level, Reads, Declares, HasName}
 use Rattle.c_syntax.specs.Statements.{place_of, IsPlainDecl}
-use Rattle.c_syntax.specs.Statements.{ReadsInit, an_expression, a_list, ReadsInits, last_init, next_init, ReadsValue, no_initialiser, an_initialiser, ReadsParts, last_part, next_part, ReadsDecl, a_declaration}
-use Rattle.c_syntax.specs.Statements.{ReadsMaybe, none_stands, one_stands, ReadsFirst, first_nothing, first_expression, first_declaration}
-use Rattle.c_syntax.specs.Limits.{height, height_of_maybe, height_of_init, height_of_inits, height_of_value, height_of_parts, height_of_decl, height_of_first}
-use Rattle.c_syntax.specs.Same.{unplaced, unplaced_maybe, unplaced_init, unplaced_inits, unplaced_value, unplaced_parts, unplaced_decl, unplaced_first}
-use Rattle.c_syntax.specs.Print.{is_bare, is_direct, expr_kinds, spec_kinds, declarator_kinds, operand_kinds, maybe_kinds, init_kinds, inits_kinds, next_inits, value_kinds, next_parts, parts_kinds, decl_kinds, first_kinds, head_kinds}
+use Rattle.c_syntax.specs.Statements.{ReadsInit, an_expression, a_list, ReadsInits, last_init, next_init, ReadsMaybeInit, no_initialiser, an_initialiser, ReadsParts, last_part, next_part, ReadsDecl, a_declaration}
+use Rattle.c_syntax.specs.Statements.{ReadsMaybe, no_expression_stands, an_expression_stands, ReadsFirst, first_nothing, first_expression, first_declaration}
+use Rattle.c_syntax.specs.Limits.{height, height_of_maybe, height_of_init, height_of_inits, height_of_maybe_init, height_of_parts, height_of_decl, height_of_first}
+use Rattle.c_syntax.specs.Same.{unplaced, unplaced_maybe, unplaced_init, unplaced_inits, unplaced_maybe_init, unplaced_parts, unplaced_decl, unplaced_first}
+use Rattle.c_syntax.specs.Print.{is_bare, is_direct, expr_kinds, spec_kinds, declarator_kinds, operand_kinds, maybe_kinds, init_kinds, inits_kinds, next_inits, maybe_init_kinds, next_parts, parts_kinds, decl_kinds, first_kinds, head_kinds}
 use Rattle.c_syntax.proofs.Fine.{IsFine, IsFineMaybe}
-use Rattle.c_syntax.proofs.FineUnits.{IsFineInit, AreFineInits, IsFineValue, AreFineParts, IsFineDecl, IsFineFirst}
+use Rattle.c_syntax.proofs.FineUnits.{IsFineInit, AreFineInits, IsFineMaybeInit, AreFineParts, IsFineDecl, IsFineFirst}
 use Rattle.c_syntax.proofs.BackTokens.{kinds, headed, mark, ends, as_assigning}
 use Rattle.c_syntax.proofs.BackParts.{Back, back_storage, back_spec, has_name, declares_of}
 use Rattle.c_syntax.proofs.BackExpressions.{back, operand_back, back_declarator, to_expression}
@@ -39,15 +39,15 @@ begins_at R {j = j} q r = subst (λ (x : List Token). R x j) (sym q) r
 pub two : {ts a b : List Token} {t u : Token} → ts ≡ t ∷ a → a ≡ u ∷ b → ts ≡ t ∷ u ∷ b
 two q r = cc
 
-pub expr_back : (e : Expr) → IsFine e → (d : ℕ) → height e ≤ d → (ts : List Token) (k : List TokenKind) → kinds ts ≡ expr_kinds e k → Back expression d e ts k
+pub expr_back : (e : Expr) → IsFine e → (d : ℕ) → height e ≤ d → (ts : List Token) (k : List TokenKind) → kinds ts ≡ expr_kinds e k → Back expression_level d e ts k
 expr_back e f d v ts k q = let x = back e f d (omega arith) ts k q in record { tree = x.tree; after = x.after; reads = to_expression (is_bare e) x.reads; same = x.same; left = x.left }
 
-pub operand_of : (e : Expr) → IsFine e → (d : ℕ) → height e ≤ d → (ts : List Token) (k : List TokenKind) → kinds ts ≡ operand_kinds e k → Back suffixed d e ts k
+pub operand_of : (e : Expr) → IsFine e → (d : ℕ) → height e ≤ d → (ts : List Token) (k : List TokenKind) → kinds ts ≡ operand_kinds e k → Back postfix_level d e ts k
 operand_of e f d v ts k q = operand_back (is_bare e) d e (expr_kinds e) (back e f) v ts k q
 
 pub maybe_back : (e : Maybe) → IsFineMaybe e → (d : ℕ) → height_of_maybe e ≤ d → (ts : List Token) (k : List TokenKind) → kinds ts ≡ maybe_kinds e k → BackOf (ReadsMaybe d) unplaced_maybe e ts k
-maybe_back absent f d v ts k q = record { tree = absent; after = ts; reads = none_stands; same = refl; left = q }
-maybe_back (there e) f d v ts k q = let x = expr_back e f d v ts k q in record { tree = there x.tree; after = x.after; reads = one_stands x.reads; same = ap there x.same; left = x.left }
+maybe_back absent f d v ts k q = record { tree = absent; after = ts; reads = no_expression_stands; same = refl; left = q }
+maybe_back (there e) f d v ts k q = let x = expr_back e f d v ts k q in record { tree = there x.tree; after = x.after; reads = an_expression_stands x.reads; same = ap there x.same; left = x.left }
 
 -- an expression in the head of a statement
 pub record BackHead (d : ℕ) (e : Expr) (ts : List Token) (k : List TokenKind) : Type 0 where
@@ -58,7 +58,7 @@ pub record BackHead (d : ℕ) (e : Expr) (ts : List Token) (k : List TokenKind) 
   pub rest : List Token
   pub is : ts ≡ first ∷ inner
   pub opens : Is p.LEFT_PARENTHESIS first
-  pub reads : Reads d expression tree inner (final ∷ rest)
+  pub reads : Reads d expression_level tree inner (final ∷ rest)
   pub closes : Is p.RIGHT_PARENTHESIS final
   pub same : unplaced tree ≡ unplaced e
   pub left : kinds rest ≡ k
@@ -108,35 +108,35 @@ mutual
       let z = back_inits is f.1 d (omega arith) x.tree h.rest x.after k x.reads x.left in
       record { trees = more_inits x.tree z.trees; rest = z.rest; reads = next_init (ends_at (ReadsInit d a) h.is r) (mark h) z.reads; same = same_inits x.same z.same; left = z.left }
 
-back_value : (v : Value) → IsFineValue v → (d : ℕ) → height_of_value v ≤ d → (ts : List Token) (k : List TokenKind) → kinds ts ≡ value_kinds v k → BackOf (ReadsValue d) unplaced_value v ts k
-back_value no_value f d v ts k q = record { tree = no_value; after = ts; reads = no_initialiser; same = refl; left = q }
-back_value (value a) f d v ts k q =
+back_maybe_init : (v : MaybeInit) → IsFineMaybeInit v → (d : ℕ) → height_of_maybe_init v ≤ d → (ts : List Token) (k : List TokenKind) → kinds ts ≡ maybe_init_kinds v k → BackOf (ReadsMaybeInit d) unplaced_maybe_init v ts k
+back_maybe_init no_init f d v ts k q = record { tree = no_init; after = ts; reads = no_initialiser; same = refl; left = q }
+back_maybe_init (an_init a) f d v ts k q =
     let h = headed (Punct p.ASSIGN) ts (init_kinds a k) q in
     let x = back_init a f d v h.rest k h.left in
-    record { tree = value x.tree; after = x.after; reads = begins_at (ReadsValue d (value x.tree)) h.is (an_initialiser (mark h) x.reads); same = ap value x.same; left = x.left }
+    record { tree = an_init x.tree; after = x.after; reads = begins_at (ReadsMaybeInit d (an_init x.tree)) h.is (an_initialiser (mark h) x.reads); same = ap an_init x.same; left = x.left }
 
-pub same_parts : {e y : Declarator} {a x : Value} {ps qs : Parts} → y ≡ e → x ≡ a → qs ≡ ps → more_parts y x qs ≡ more_parts e a ps
+pub same_parts : {e y : Declarator} {a x : MaybeInit} {ps qs : Parts} → y ≡ e → x ≡ a → qs ≡ ps → more_parts y x qs ≡ more_parts e a ps
 same_parts q r s = cc
 
 -- the declarators after the one that is read
-record BackParts (d : ℕ) (e : Declarator) (v : Value) (ps : Parts) (i : List Token) (k : List TokenKind) : Type 0 where
+record BackParts (d : ℕ) (e : Declarator) (v : MaybeInit) (ps : Parts) (i : List Token) (k : List TokenKind) : Type 0 where
   trees : Parts
   rest : List Token
   reads : ReadsParts d (more_parts e v trees) i rest
   same : unplaced_parts trees ≡ unplaced_parts ps
   left : kinds rest ≡ k
 
-back_parts : (ps : Parts) → AreFineParts ps → (d : ℕ) → height_of_parts ps ≤ d → (e : Declarator) (x : Value) (i j after : List Token) (k : List TokenKind) → Declares d e i j → HasName e → ReadsValue d x j after → kinds after ≡ next_parts ps k → BackParts d e x ps i k
+back_parts : (ps : Parts) → AreFineParts ps → (d : ℕ) → height_of_parts ps ≤ d → (e : Declarator) (x : MaybeInit) (i j after : List Token) (k : List TokenKind) → Declares d e i j → HasName e → ReadsMaybeInit d x j after → kinds after ≡ next_parts ps k → BackParts d e x ps i k
 back_parts no_parts f d v e x i j after k r h y q = record { trees = no_parts; rest = after; reads = last_part r h y; same = refl; left = q }
 back_parts (more_parts e' v' ps) f d v e x i j after k r h y q =
-    let c = headed (Punct p.COMMA) after (declarator_kinds e' (value_kinds v' (next_parts ps k))) q in
-    let a = back_declarator e' f.0 d (omega arith) c.rest (value_kinds v' (next_parts ps k)) c.left in
-    let b = back_value v' f.2 d (omega arith) a.after (next_parts ps k) a.left in
+    let c = headed (Punct p.COMMA) after (declarator_kinds e' (maybe_init_kinds v' (next_parts ps k))) q in
+    let a = back_declarator e' f.0 d (omega arith) c.rest (maybe_init_kinds v' (next_parts ps k)) c.left in
+    let b = back_maybe_init v' f.2 d (omega arith) a.after (next_parts ps k) a.left in
     let z = back_parts ps f.3 d (omega arith) a.tree b.tree c.rest a.after b.after k (declares_of (is_direct e') a.reads) (has_name e' a.tree a.same f.1) b.reads b.left in
     record {
       trees = more_parts a.tree b.tree z.trees;
       rest = z.rest;
-      reads = next_part r h (ends_at (ReadsValue d x) c.is y) (mark c) z.reads;
+      reads = next_part r h (ends_at (ReadsMaybeInit d x) c.is y) (mark c) z.reads;
       same = same_parts a.same b.same z.same;
       left = z.left;
     }
@@ -149,8 +149,8 @@ back_decl (decl at st s no_parts) f d v ts k q = absurd f
 back_decl (decl at st s (more_parts e x ps)) f d v ts k q =
     let g = back_storage st ts (spec_kinds s (parts_kinds (more_parts e x ps) (Punct p.SEMICOLON ∷ k))) q in
     let b = back_spec s g.after (parts_kinds (more_parts e x ps) (Punct p.SEMICOLON ∷ k)) g.left in
-    let y = back_declarator e f.0 d (omega arith) b.after (value_kinds x (next_parts ps (Punct p.SEMICOLON ∷ k))) b.left in
-    let u = back_value x f.2 d (omega arith) y.after (next_parts ps (Punct p.SEMICOLON ∷ k)) y.left in
+    let y = back_declarator e f.0 d (omega arith) b.after (maybe_init_kinds x (next_parts ps (Punct p.SEMICOLON ∷ k))) b.left in
+    let u = back_maybe_init x f.2 d (omega arith) y.after (next_parts ps (Punct p.SEMICOLON ∷ k)) y.left in
     let z = back_parts ps f.3 d (omega arith) y.tree u.tree b.after y.after u.after (Punct p.SEMICOLON ∷ k) (declares_of (is_direct e) y.reads) (has_name e y.tree y.same f.1) u.reads u.left in
     let c = headed (Punct p.SEMICOLON) z.rest k z.left in
     record {

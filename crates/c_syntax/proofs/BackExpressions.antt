@@ -10,10 +10,10 @@ use Rattle.c_syntax.specs.Tree.{Expr, a_name, an_int, a_char, a_str, comma, size
 use Rattle.c_syntax.specs.Tree.{Exprs, no_exprs, more_exprs, Maybe, absent, there, TypeName, type_name, Declarator, nothing, named, pointer, array, function, Params, no_params, more_params}
 use Rattle.c_syntax.specs.Tokens.{IsPostfix, IsPrefix, IsAccess, place, code_of_infix}
 use Rattle.c_syntax.specs.Specifiers.{no_const, ReadsSpec, is_void}
-use Rattle.c_syntax.specs.Grammar.{Level, suffixed, assigning, expression, last_string, IsThere}
+use Rattle.c_syntax.specs.Grammar.{Level, postfix_level, assignment_level, expression_level, last_string, IsThere}
 use Rattle.c_syntax.specs.Grammar.{Reads, is_name, is_int, is_char, are_strings, in_parentheses, with_suffixes, no_prefix, a_prefix, a_unary, a_sizeof_type, no_cast, a_cast, a_chain, a_choice, no_assignment, an_assignment, no_comma, a_comma}
 use Rattle.c_syntax.specs.Grammar.{ReadsList, last_expr, next_expr, no_suffix, an_index, an_empty_call, a_call, a_member, a_postfix, no_operator, an_operator}
-use Rattle.c_syntax.specs.Grammar.{ReadsSize, no_size, a_size, ReadsType, a_type, Declares, a_pointer, a_declared, in_brackets, no_core, no_more, an_array, a_function, ReadsParams, are_none, are_some, ReadsEach, last_param, next_param}
+use Rattle.c_syntax.specs.Grammar.{ReadsSize, no_size, a_size, ReadsType, a_type, Declares, a_pointer, a_declared, declarator_in_parentheses, no_core, no_more, an_array, a_function, ReadsParams, are_none, are_some, ReadsEach, last_param, next_param}
 use Rattle.c_syntax.specs.Limits.{height, height_of_exprs, height_of_maybe, height_of_type, height_of_declarator, height_of_params}
 use Rattle.c_syntax.specs.Same.{unplaced_exprs, unplaced_params}
 use Rattle.c_syntax.specs.Print.{spec_kinds, prefix_kind, postfix_kind, access_kind, is_bare, wrapped, is_direct, expr_kinds, list_kinds, next_kinds, size_kinds, type_kinds, declarator_kinds, params_kinds, next_params}
@@ -23,11 +23,11 @@ use Rattle.c_syntax.proofs.BackParts.{back_name, back_spec, has_no_name, is_ther
 use Rattle.c_syntax.proofs.BackParts.{same_comma, same_cast, same_call, same_member, same_index, same_binary, same_assign, same_conditional, same_more, same_type, same_array, same_function, same_params}
 
 abbrev pub own : Bool → Level
-own true = suffixed
-own false = expression
+own true = postfix_level
+own false = expression_level
 
 -- an expression of either kind is one of the weakest level
-pub to_expression : (b : Bool) {d : ℕ} {e : Expr} {i j : List Token} → Reads d (own b) e i j → Reads d expression e i j
+pub to_expression : (b : Bool) {d : ℕ} {e : Expr} {i j : List Token} → Reads d (own b) e i j → Reads d expression_level e i j
 to_expression true r = as_expression (as_casting r)
 to_expression false r = r
 
@@ -98,7 +98,7 @@ some_declarator_height (function at e ps) h = omega arith
 
 -- in parentheses where it isn't bare
 pub operand_back : (b : Bool) (d : ℕ) (e : Expr) (f : List TokenKind → List TokenKind) → ((x : ℕ) → height e ≤ suc x → (ts : List Token) (k : List TokenKind) → kinds ts ≡ f k → Back (own b) x e ts k) → height e ≤ d →
-    (ts : List Token) (k : List TokenKind) → kinds ts ≡ wrapped b f k → Back suffixed d e ts k
+    (ts : List Token) (k : List TokenKind) → kinds ts ≡ wrapped b f k → Back postfix_level d e ts k
 operand_back true d e f rec v ts k q = rec d (omega arith) ts k q
 operand_back false zero e f rec v ts k q = absurd (omega (arith, some_height e))
 operand_back false (suc d) e f rec v ts k q =
@@ -127,7 +127,7 @@ inner_back false (suc d) e f rec g v ts k q =
       after = c.rest;
       same = x.same;
       left = c.left;
-      reads = begins_direct h.is (record { at = _; core = x.tree; middle = c.rest; is = refl; reads = in_brackets (mark h) (ends_declares c.is x.reads) (is_there e x.tree x.same (g refl)) (mark c); longer = no_more });
+      reads = begins_direct h.is (record { at = _; core = x.tree; middle = c.rest; is = refl; reads = declarator_in_parentheses (mark h) (ends_declares c.is x.reads) (is_there e x.tree x.same (g refl)) (mark c); longer = no_more });
     }
 
 -- the members after the one that is read
@@ -271,7 +271,7 @@ mutual
         reads = no_comma (no_assignment (a_choice refl (chained_up 10 (as_casting (ends h.is x.reads))) (mark h) (ends o.is (as_expression (as_casting y.reads))) (mark o) (as_choosing (as_casting z.reads))));
       }
 
-  back_rest : (es : Exprs) → AreFine es → (d : ℕ) → height_of_exprs es ≤ d → (a : Expr) (i after : List Token) (k : List TokenKind) → Reads d assigning a i after → kinds after ≡ next_kinds es k → BackRest d a es i k
+  back_rest : (es : Exprs) → AreFine es → (d : ℕ) → height_of_exprs es ≤ d → (a : Expr) (i after : List Token) (k : List TokenKind) → Reads d assignment_level a i after → kinds after ≡ next_kinds es k → BackRest d a es i k
   back_rest no_exprs f d v a i after k r q = record { trees = no_exprs; rest = after; reads = last_expr r; same = refl; left = q }
   back_rest (more_exprs b es) f d v a i after k r q =
       let h = headed (Punct p.COMMA) after (wrapped (is_bare b) (expr_kinds b) (next_kinds es k)) q in

@@ -8,7 +8,7 @@ use Rattle.c_syntax.specs.Tree.{Ident, Storage, no_storage, static, extern, Spec
 use Rattle.c_syntax.specs.Tree.{Access, Infix, Expr, comma, cast, call, member, index, binary, assign, conditional}
 use Rattle.c_syntax.specs.Tree.{Exprs, more_exprs, Maybe, TypeName, type_name, Declarator, nothing, named, pointer, array, function, Params, no_params, more_params}
 use Rattle.c_syntax.specs.Tokens.{place}
-use Rattle.c_syntax.specs.Specifiers.{Names, no_const, ReadsStorage, none_stands, static_stands, extern_stands, ReadsSpec, is_void, is_char, is_unsigned_char, is_int, is_unsigned_int, is_struct, is_enum}
+use Rattle.c_syntax.specs.Specifiers.{Names, no_const, ReadsStorage, no_storage_stands, static_stands, extern_stands, ReadsSpec, is_void, is_char, is_unsigned_char, is_int, is_unsigned_int, is_struct, is_enum}
 use Rattle.c_syntax.specs.Grammar.{Level, Reads, ReadsList, ReadsSize, ReadsType, Declares, a_direct, ReadsCore, Lengthens, ReadsParams, ReadsEach, IsThere, HasName, HasNoName, AreSome}
 use Rattle.c_syntax.specs.Same.{unplaced_ident, unplaced_spec, unplaced, unplaced_exprs, unplaced_maybe, unplaced_type, unplaced_declarator, unplaced_params}
 use Rattle.c_syntax.specs.Print.{storage_kinds, spec_kinds, is_direct}
@@ -33,7 +33,7 @@ begins_storage : {s : Storage} {i j k : List Token} → i ≡ k → ReadsStorage
 begins_storage {s} {i} {j} q r = subst (λ (x : List Token). ReadsStorage s x j) (sym q) r
 
 pub back_storage : (s : Storage) (ts : List Token) (k : List TokenKind) → kinds ts ≡ storage_kinds s k → BackStorage s ts k
-back_storage no_storage ts k q = record { after = ts; reads = none_stands; left = q }
+back_storage no_storage ts k q = record { after = ts; reads = no_storage_stands; left = q }
 back_storage static ts k q = let h = headed (Keyword w.STATIC) ts k q in record { after = h.rest; reads = begins_storage h.is (static_stands (word h)); left = h.left }
 back_storage extern ts k q = let h = headed (Keyword w.EXTERN) ts k q in record { after = h.rest; reads = begins_storage h.is (extern_stands (word h)); left = h.left }
 

@@ -6,16 +6,16 @@ use Rattle.c_lexer.specs.declared.token.TokenKind.TheVariants.{Keyword, Punct}
 use Rattle.c_lexer.specs.declared.punctuator.TheConstants as p
 use Rattle.c_lexer.specs.declared.keyword.TheConstants as w
 use Rattle.c_syntax.specs.Tree.{Expr, Maybe, Decl, First, Labels, no_labels, case_label, default_label}
-use Rattle.c_syntax.specs.Tree.{Stmt, block, empty, evaluate, only_if, if_else, while_loop, do_loop, for_loop, switch_on, break_off, continue_on, return_from, Items, no_items, decl_item, stmt_item, Stmts, no_stmts, more_stmts, Groups, no_groups, more_groups}
-use Rattle.c_syntax.specs.Tokens.{Is, IsWord, place}
-use Rattle.c_syntax.specs.Grammar.{choosing, Reads}
+use Rattle.c_syntax.specs.Tree.{Stmt, block, empty, evaluate, only_if, if_else, while_loop, do_loop, for_loop, switch_on, break_off, continue_on, return_from, BlockItems, no_block_items, block_decl, block_stmt, Stmts, no_stmts, more_stmts, Groups, no_groups, more_groups}
+use Rattle.c_syntax.specs.Tokens.{Is, IsKeyword, place}
+use Rattle.c_syntax.specs.Grammar.{conditional_level, Reads}
 use Rattle.c_syntax.specs.Statements.{IsClosed, ReadsMaybe, ReadsLabels, last_case, last_default, next_case, next_default}
 use Rattle.c_syntax.specs.Statements.{ReadsStmt, a_block, an_empty, an_evaluation, an_if, an_if_else, a_while, a_do, a_for, a_switch, a_break, a_continue, a_return}
-use Rattle.c_syntax.specs.Statements.{ReadsItems, no_item, a_decl_item, a_stmt_item, ReadsStmts, last_stmt, next_stmt, ReadsGroups, no_group, a_group}
-use Rattle.c_syntax.specs.Limits.{height_of_labels, height_of_stmt, height_of_items, height_of_stmts, height_of_groups}
-use Rattle.c_syntax.specs.Same.{unplaced_labels, unplaced_stmt, unplaced_items, unplaced_stmts, unplaced_groups}
-use Rattle.c_syntax.specs.Print.{operand_kinds, maybe_kinds, first_kinds, labels_kinds, head_kinds, stmt_kinds, items_kinds, stmts_kinds, groups_kinds}
-use Rattle.c_syntax.proofs.FineUnits.{AreFineLabels, AreSomeLabels, IsFineStmt, AreFineItems, AreFineStmts, AreSomeStmts, AreFineGroups}
+use Rattle.c_syntax.specs.Statements.{ReadsBlockItems, no_block_item, a_block_decl, a_block_stmt, ReadsStmts, last_stmt, next_stmt, ReadsGroups, no_group, a_group}
+use Rattle.c_syntax.specs.Limits.{height_of_labels, height_of_stmt, height_of_block_items, height_of_stmts, height_of_groups}
+use Rattle.c_syntax.specs.Same.{unplaced_labels, unplaced_stmt, unplaced_block_items, unplaced_stmts, unplaced_groups}
+use Rattle.c_syntax.specs.Print.{operand_kinds, maybe_kinds, first_kinds, labels_kinds, head_kinds, stmt_kinds, block_items_kinds, stmts_kinds, groups_kinds}
+use Rattle.c_syntax.proofs.FineUnits.{AreFineLabels, AreSomeLabels, IsFineStmt, AreFineBlockItems, AreFineStmts, AreSomeStmts, AreFineGroups}
 use Rattle.c_syntax.proofs.BackTokens.{kinds, headed, mark, word, ends, as_choosing, as_casting}
 use Rattle.c_syntax.proofs.BackDeclarations.{BackOf, ends_at, begins_at, two, expr_back, operand_of, maybe_back, head_back, back_decl, is_plain, first_back}
 
@@ -26,12 +26,12 @@ LabelsOrNone d (case_label at e rest) i j = ReadsLabels d (case_label at e rest)
 LabelsOrNone d (default_label at rest) i j = ReadsLabels d (default_label at rest) i j
 
 -- a label before labels, or before none
-case_before : {d : ℕ} {e : Expr} {t u : Token} {i j k : List Token} (rest : Labels) → IsWord w.CASE t → Reads d choosing e i (u ∷ j) → Is p.COLON u → LabelsOrNone d rest j k → ReadsLabels d (case_label t.from e rest) (t ∷ i) k
+case_before : {d : ℕ} {e : Expr} {t u : Token} {i j k : List Token} (rest : Labels) → IsKeyword w.CASE t → Reads d conditional_level e i (u ∷ j) → Is p.COLON u → LabelsOrNone d rest j k → ReadsLabels d (case_label t.from e rest) (t ∷ i) k
 case_before {d} {e} {t} {u} {i} {j} {k} no_labels h r c q = subst (λ (x : List Token). ReadsLabels d (case_label t.from e no_labels) (t ∷ i) x) q (last_case h r c)
 case_before (case_label at e' rest) h r c f = next_case h r c f
 case_before (default_label at rest) h r c f = next_case h r c f
 
-default_before : {d : ℕ} {t u : Token} {i k : List Token} (rest : Labels) → IsWord w.DEFAULT t → Is p.COLON u → LabelsOrNone d rest i k → ReadsLabels d (default_label t.from rest) (t ∷ u ∷ i) k
+default_before : {d : ℕ} {t u : Token} {i k : List Token} (rest : Labels) → IsKeyword w.DEFAULT t → Is p.COLON u → LabelsOrNone d rest i k → ReadsLabels d (default_label t.from rest) (t ∷ u ∷ i) k
 default_before {d} {t} {u} {i} {k} no_labels h c q = subst (λ (x : List Token). ReadsLabels d (default_label t.from no_labels) (t ∷ u ∷ i) x) q (last_default h c)
 default_before (case_label at e rest) h c f = next_default h c f
 default_before (default_label at rest) h c f = next_default h c f
@@ -163,11 +163,11 @@ same_for q r s t = cc
 same_switch : {e x : Expr} {gs hs : Groups} → x ≡ e → hs ≡ gs → switch_on 0 x hs ≡ switch_on 0 e gs
 same_switch q r = cc
 
-same_decl_item : {x y : Decl} {is js : Items} → y ≡ x → js ≡ is → decl_item y js ≡ decl_item x is
-same_decl_item q r = cc
+same_block_decl : {x y : Decl} {is js : BlockItems} → y ≡ x → js ≡ is → block_decl y js ≡ block_decl x is
+same_block_decl q r = cc
 
-same_stmt_item : {s y : Stmt} {is js : Items} → y ≡ s → js ≡ is → stmt_item y js ≡ stmt_item s is
-same_stmt_item q r = cc
+same_block_stmt : {s y : Stmt} {is js : BlockItems} → y ≡ s → js ≡ is → block_stmt y js ≡ block_stmt s is
+same_block_stmt q r = cc
 
 same_stmts : {s y : Stmt} {ss zs : Stmts} → y ≡ s → zs ≡ ss → more_stmts y zs ≡ more_stmts s ss
 same_stmts q r = cc
@@ -178,13 +178,13 @@ same_groups q r s = cc
 mutual
   pub back_stmt : (s : Stmt) → IsFineStmt s → (d : ℕ) → height_of_stmt s ≤ d → (ts : List Token) (k : List TokenKind) → kinds ts ≡ stmt_kinds s k → BackOf (ReadsStmt d) unplaced_stmt s ts k
   back_stmt (block at is) f d v ts k q =
-      let h = headed (Punct p.LEFT_BRACE) ts (items_kinds is (Punct p.RIGHT_BRACE ∷ k)) q in
-      let x = back_items is f d (omega arith) h.rest (Punct p.RIGHT_BRACE ∷ k) h.left in
+      let h = headed (Punct p.LEFT_BRACE) ts (block_items_kinds is (Punct p.RIGHT_BRACE ∷ k)) q in
+      let x = back_block_items is f d (omega arith) h.rest (Punct p.RIGHT_BRACE ∷ k) h.left in
       let c = headed (Punct p.RIGHT_BRACE) x.after k x.left in
       record {
         tree = block h.token.from x.tree;
         after = c.rest;
-        reads = begins_at (ReadsStmt d (block h.token.from x.tree)) h.is (a_block (mark h) (ends_at (ReadsItems d x.tree) c.is x.reads) (mark c));
+        reads = begins_at (ReadsStmt d (block h.token.from x.tree)) h.is (a_block (mark h) (ends_at (ReadsBlockItems d x.tree) c.is x.reads) (mark c));
         same = ap (block 0) x.same;
         left = c.left;
       }
@@ -283,16 +283,16 @@ mutual
       let tree : Stmt = return_from h.token.from x.tree in
       record { tree = tree; after = c.rest; reads = begins_at (ReadsStmt d tree) h.is (a_return (word h) (ends_at (ReadsMaybe d x.tree) c.is x.reads) (mark c)); same = ap (return_from 0) x.same; left = c.left }
 
-  pub back_items : (is : Items) → AreFineItems is → (d : ℕ) → height_of_items is ≤ d → (ts : List Token) (k : List TokenKind) → kinds ts ≡ items_kinds is k → BackOf (ReadsItems d) unplaced_items is ts k
-  back_items no_items f d v ts k q = record { tree = no_items; after = ts; reads = no_item; same = refl; left = q }
-  back_items (decl_item x is) f d v ts k q =
-      let y = back_decl x f.0 d (omega arith) ts (items_kinds is k) q in
-      let z = back_items is f.2 d (omega arith) y.after k y.left in
-      record { tree = decl_item y.tree z.tree; after = z.after; reads = a_decl_item y.reads (is_plain x y.tree y.same f.1) z.reads; same = same_decl_item y.same z.same; left = z.left }
-  back_items (stmt_item s is) f d v ts k q =
-      let y = back_stmt s f.0 d (omega arith) ts (items_kinds is k) q in
-      let z = back_items is f.1 d (omega arith) y.after k y.left in
-      record { tree = stmt_item y.tree z.tree; after = z.after; reads = a_stmt_item y.reads z.reads; same = same_stmt_item y.same z.same; left = z.left }
+  pub back_block_items : (is : BlockItems) → AreFineBlockItems is → (d : ℕ) → height_of_block_items is ≤ d → (ts : List Token) (k : List TokenKind) → kinds ts ≡ block_items_kinds is k → BackOf (ReadsBlockItems d) unplaced_block_items is ts k
+  back_block_items no_block_items f d v ts k q = record { tree = no_block_items; after = ts; reads = no_block_item; same = refl; left = q }
+  back_block_items (block_decl x is) f d v ts k q =
+      let y = back_decl x f.0 d (omega arith) ts (block_items_kinds is k) q in
+      let z = back_block_items is f.2 d (omega arith) y.after k y.left in
+      record { tree = block_decl y.tree z.tree; after = z.after; reads = a_block_decl y.reads (is_plain x y.tree y.same f.1) z.reads; same = same_block_decl y.same z.same; left = z.left }
+  back_block_items (block_stmt s is) f d v ts k q =
+      let y = back_stmt s f.0 d (omega arith) ts (block_items_kinds is k) q in
+      let z = back_block_items is f.1 d (omega arith) y.after k y.left in
+      record { tree = block_stmt y.tree z.tree; after = z.after; reads = a_block_stmt y.reads z.reads; same = same_block_stmt y.same z.same; left = z.left }
 
   back_stmts : (ss : Stmts) → AreFineStmts ss → (d : ℕ) → height_of_stmts ss ≤ d → (ts : List Token) (k : List TokenKind) → kinds ts ≡ stmts_kinds ss k → BackOf (StmtsOrNone d) unplaced_stmts ss ts k
   back_stmts no_stmts f d v ts k q = record { tree = no_stmts; after = ts; reads = refl; same = refl; left = q }

@@ -4,8 +4,8 @@ use Rattle.c_lexer.specs.declared.token.Token.{Token}
 use Rattle.c_lexer.specs.declared.token.TokenKind.{TokenKind}
 use Rattle.c_lexer.specs.declared.token.TokenKind.TheVariants.{Keyword, Punct}
 use Rattle.c_syntax.specs.Tree.{Expr, Declarator}
-use Rattle.c_syntax.specs.Tokens.{Is, IsWord, place}
-use Rattle.c_syntax.specs.Grammar.{Level, suffixed, casting, chained, choosing, assigning, expression, Reads, with_suffixes, no_prefix, no_cast, no_chain, a_chain, no_choice, no_assignment, no_comma, no_operator}
+use Rattle.c_syntax.specs.Tokens.{Is, IsKeyword, place}
+use Rattle.c_syntax.specs.Grammar.{Level, postfix_level, cast_level, binary_level, conditional_level, assignment_level, expression_level, Reads, with_suffixes, no_prefix, no_cast, no_chain, a_chain, no_choice, no_assignment, no_comma, no_operator}
 use Rattle.c_syntax.specs.Grammar.{Suffixes, no_suffix, an_index, an_empty_call, a_call, a_member, a_postfix, Lengthens, no_more, an_array, a_function}
 
 abbrev pub kinds : List Token → List TokenKind
@@ -27,7 +27,7 @@ headed x (t ∷ ts) k e = record { token = t; rest = ts; is = refl; kind = cc; l
 pub mark : {code : ℕ} {ts : List Token} {k : List TokenKind} (h : Heads (Punct code) ts k) → Is code h.token
 mark h = record { kind = h.kind }
 
-pub word : {code : ℕ} {ts : List Token} {k : List TokenKind} (h : Heads (Keyword code) ts k) → IsWord code h.token
+pub word : {code : ℕ} {ts : List Token} {k : List TokenKind} (h : Heads (Keyword code) ts k) → IsKeyword code h.token
 word h = record { kind = h.kind }
 
 pub ends : {d : ℕ} {l : Level} {e : Expr} {i j k : List Token} → j ≡ k → Reads d l e i j → Reads d l e i k
@@ -41,30 +41,30 @@ pub placed_at : {ts rest : List Token} {t : Token} → ts ≡ t ∷ rest → pla
 placed_at q = rw q refl
 
 -- a phrase of postfix operators is one of each level
-pub as_casting : {d : ℕ} {e : Expr} {i j : List Token} → Reads d suffixed e i j → Reads d casting e i j
+pub as_casting : {d : ℕ} {e : Expr} {i j : List Token} → Reads d postfix_level e i j → Reads d cast_level e i j
 as_casting r = no_cast (no_prefix r)
 
-pub chained_up : (n : ℕ) {d : ℕ} {e : Expr} {i j : List Token} → Reads d casting e i j → Reads d (chained n) e i j
+pub chained_up : (n : ℕ) {d : ℕ} {e : Expr} {i j : List Token} → Reads d cast_level e i j → Reads d (binary_level n) e i j
 chained_up zero r = no_chain r
 chained_up (suc n) r = a_chain refl (chained_up n r) no_operator
 
-pub raised : (m n : ℕ) {d : ℕ} {e : Expr} {i j : List Token} → Reads d (chained n) e i j → Reads d (chained (m + n)) e i j
-raised zero n {d} {e} {i} {j} r = subst (λ (m : ℕ). Reads d (chained m) e i j) (sym (zero-add n)) r
+pub raised : (m n : ℕ) {d : ℕ} {e : Expr} {i j : List Token} → Reads d (binary_level n) e i j → Reads d (binary_level (m + n)) e i j
+raised zero n {d} {e} {i} {j} r = subst (λ (m : ℕ). Reads d (binary_level m) e i j) (sym (zero-add n)) r
 raised (suc m) n {d} {e} {i} {j} r =
-    let q : suc (m + n) ≡ suc m + n = omega arith in subst (λ (x : ℕ). Reads d (chained x) e i j) q (a_chain refl (raised m n r) no_operator)
+    let q : suc (m + n) ≡ suc m + n = omega arith in subst (λ (x : ℕ). Reads d (binary_level x) e i j) q (a_chain refl (raised m n r) no_operator)
 
-pub from_level : (n : ℕ) → n ≤ 9 → {d : ℕ} {e : Expr} {i j : List Token} → Reads d (chained (suc n)) e i j → Reads d expression e i j
+pub from_level : (n : ℕ) → n ≤ 9 → {d : ℕ} {e : Expr} {i j : List Token} → Reads d (binary_level (suc n)) e i j → Reads d expression_level e i j
 from_level n w {d} {e} {i} {j} r =
     let q : 9 - n + suc n ≡ 10 = omega arith in
-    no_comma (no_assignment (no_choice (subst (λ (x : ℕ). Reads d (chained x) e i j) q (raised (9 - n) (suc n) r))))
+    no_comma (no_assignment (no_choice (subst (λ (x : ℕ). Reads d (binary_level x) e i j) q (raised (9 - n) (suc n) r))))
 
-pub as_choosing : {d : ℕ} {e : Expr} {i j : List Token} → Reads d casting e i j → Reads d choosing e i j
+pub as_choosing : {d : ℕ} {e : Expr} {i j : List Token} → Reads d cast_level e i j → Reads d conditional_level e i j
 as_choosing r = no_choice (chained_up 10 r)
 
-pub as_assigning : {d : ℕ} {e : Expr} {i j : List Token} → Reads d suffixed e i j → Reads d assigning e i j
+pub as_assigning : {d : ℕ} {e : Expr} {i j : List Token} → Reads d postfix_level e i j → Reads d assignment_level e i j
 as_assigning r = no_assignment (as_choosing (as_casting r))
 
-pub as_expression : {d : ℕ} {e : Expr} {i j : List Token} → Reads d casting e i j → Reads d expression e i j
+pub as_expression : {d : ℕ} {e : Expr} {i j : List Token} → Reads d cast_level e i j → Reads d expression_level e i j
 as_expression r = no_comma (no_assignment (as_choosing r))
 
 -- suffixes after suffixes
@@ -77,7 +77,7 @@ joined_suffixes (a_member h n f) g = a_member h n (joined_suffixes f g)
 joined_suffixes (a_postfix h f) g = a_postfix h (joined_suffixes f g)
 
 -- one more suffix, whose node has the place of its operand
-pub suffixed_by : {F : ℕ → Expr} {d : ℕ} {a : Expr} {i j k : List Token} → Reads d suffixed a i j → ((at : ℕ) → Suffixes d at a (F at) j k) → (at : ℕ) × Reads d suffixed (F at) i k
+pub suffixed_by : {F : ℕ → Expr} {d : ℕ} {a : Expr} {i j k : List Token} → Reads d postfix_level a i j → ((at : ℕ) → Suffixes d at a (F at) j k) → (at : ℕ) × Reads d postfix_level (F at) i k
 suffixed_by (with_suffixes {at = at} p r s) f = (at, with_suffixes p r (joined_suffixes s (f at)))
 
 pub begins_suffixes : {d at : ℕ} {a e : Expr} {i j k : List Token} → i ≡ k → Suffixes d at a e k j → Suffixes d at a e i j

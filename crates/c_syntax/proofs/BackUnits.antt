@@ -5,23 +5,23 @@ use Rattle.c_lexer.specs.declared.token.TokenKind.{TokenKind}
 use Rattle.c_lexer.specs.declared.token.TokenKind.TheVariants.{Name, Keyword, Punct}
 use Rattle.c_lexer.specs.declared.punctuator.TheConstants as p
 use Rattle.c_lexer.specs.declared.keyword.TheConstants as w
-use Rattle.c_syntax.specs.Tree.{Ident, Storage, Spec, Maybe, absent, there, Declarator, block, empty, evaluate, only_if, if_else, while_loop, do_loop, for_loop, switch_on, break_off, continue_on, return_from, Items}
-use Rattle.c_syntax.specs.Tree.{Declarators, no_declarators, more_declarators, Members, no_members, more_members, Enumerators, no_enumerators, more_enumerators, Tag, no_tag, tag, Outer, struct_outer, enum_outer, tag_outer, decl_outer, function_outer, Outers, no_outers, more_outers}
+use Rattle.c_syntax.specs.Tree.{Ident, Storage, Spec, Maybe, absent, there, Declarator, block, empty, evaluate, only_if, if_else, while_loop, do_loop, for_loop, switch_on, break_off, continue_on, return_from, BlockItems}
+use Rattle.c_syntax.specs.Tree.{Declarators, no_declarators, more_declarators, Members, no_members, more_members, Enumerators, no_enumerators, more_enumerators, Tag, no_tag, tag, Item, struct_item, enum_item, tag_item, decl_item, function_item, Items, no_items, more_items}
 use Rattle.c_syntax.specs.Tokens.{Is, place}
 use Rattle.c_syntax.specs.Specifiers.{Names, ReadsSpec}
 use Rattle.c_syntax.specs.Grammar.{Declares, HasName}
-use Rattle.c_syntax.specs.Statements.{ReadsItems, ReadsDeclarators, last_declarator, next_declarator, ReadsMembers, last_member, next_member, ReadsNumber, no_number, a_number, ReadsEnumerators, last_enumerator, next_enumerator, ReadsTag, no_name, a_tag}
-use Rattle.c_syntax.specs.Statements.{ReadsOuter, a_struct, an_enum, a_tag_alone, an_outer_declaration, a_definition, ReadsOuters, last_outer, next_outer}
-use Rattle.c_syntax.specs.Limits.{height_of_maybe, height_of_declarators, height_of_members, height_of_enumerators, height_of_outer, height_of_unit}
-use Rattle.c_syntax.specs.Same.{unplaced_maybe, unplaced_declarators, unplaced_members, unplaced_enumerators, unplaced_tag, unplaced_outer, unplaced_unit, AreSame}
-use Rattle.c_syntax.specs.Print.{is_direct, spec_kinds, declarator_kinds, operand_kinds, stmt_kinds, items_kinds, next_declarators, declarators_kinds, members_kinds, number_kinds, next_enumerators, enumerators_kinds, tag_kinds, outer_kinds, unit_kinds}
+use Rattle.c_syntax.specs.Statements.{ReadsBlockItems, ReadsDeclarators, last_declarator, next_declarator, ReadsMembers, last_member, next_member, ReadsEnumeratorValue, no_enumerator_value, an_enumerator_value, ReadsEnumerators, last_enumerator, next_enumerator, ReadsTag, no_name, a_tag}
+use Rattle.c_syntax.specs.Statements.{ReadsItem, a_struct, an_enum, a_tag_alone, an_item_declaration, a_definition, ReadsItems, last_item, next_item}
+use Rattle.c_syntax.specs.Limits.{height_of_maybe, height_of_declarators, height_of_members, height_of_enumerators, height_of_item, height_of_unit}
+use Rattle.c_syntax.specs.Same.{unplaced_maybe, unplaced_declarators, unplaced_members, unplaced_enumerators, unplaced_tag, unplaced_item, unplaced_unit, AreSame}
+use Rattle.c_syntax.specs.Print.{is_direct, spec_kinds, declarator_kinds, operand_kinds, stmt_kinds, block_items_kinds, next_declarators, declarators_kinds, members_kinds, enumerator_value_kinds, next_enumerators, enumerators_kinds, tag_kinds, item_kinds, unit_kinds}
 use Rattle.c_syntax.proofs.Fine.{IsFineMaybe}
-use Rattle.c_syntax.proofs.FineUnits.{AreFineDeclarators, AreFineMembers, AreSomeMembers, AreFineEnumerators, IsFineOuter, AreFineOuters, AreSomeOuters}
+use Rattle.c_syntax.proofs.FineUnits.{AreFineDeclarators, AreFineMembers, AreSomeMembers, AreFineEnumerators, IsFineItem, AreFineItems, AreSomeItems}
 use Rattle.c_syntax.proofs.BackTokens.{kinds, headed, mark, word, as_choosing, as_casting}
 use Rattle.c_syntax.proofs.BackParts.{back_name, back_storage, back_spec, has_name, declares_of}
 use Rattle.c_syntax.proofs.BackExpressions.{back_declarator}
 use Rattle.c_syntax.proofs.BackDeclarations.{BackOf, ends_at, begins_at, two, operand_of, back_decl}
-use Rattle.c_syntax.proofs.BackStatements.{back_items}
+use Rattle.c_syntax.proofs.BackStatements.{back_block_items}
 
 same_declarators : {e x : Declarator} {es xs : Declarators} → x ≡ e → xs ≡ es → more_declarators x xs ≡ more_declarators e es
 same_declarators q r = cc
@@ -88,12 +88,12 @@ members_stand : {d : ℕ} {i j : List Token} (ms : Members) → HasMember (unpla
 members_stand no_members h r = absurd h
 members_stand (more_members at s es rest) h r = r
 
-back_number : (e : Maybe) → IsFineMaybe e → (d : ℕ) → height_of_maybe e ≤ d → (ts : List Token) (k : List TokenKind) → kinds ts ≡ number_kinds e k → BackOf (ReadsNumber d) unplaced_maybe e ts k
-back_number absent f d v ts k q = record { tree = absent; after = ts; reads = no_number; same = refl; left = q }
-back_number (there e) f d v ts k q =
+back_enumerator_value : (e : Maybe) → IsFineMaybe e → (d : ℕ) → height_of_maybe e ≤ d → (ts : List Token) (k : List TokenKind) → kinds ts ≡ enumerator_value_kinds e k → BackOf (ReadsEnumeratorValue d) unplaced_maybe e ts k
+back_enumerator_value absent f d v ts k q = record { tree = absent; after = ts; reads = no_enumerator_value; same = refl; left = q }
+back_enumerator_value (there e) f d v ts k q =
     let h = headed (Punct p.ASSIGN) ts (operand_kinds e k) q in
     let x = operand_of e f d v h.rest k h.left in
-    record { tree = there x.tree; after = x.after; reads = begins_at (ReadsNumber d (there x.tree)) h.is (a_number (mark h) (as_choosing (as_casting x.reads))); same = ap there x.same; left = x.left }
+    record { tree = there x.tree; after = x.after; reads = begins_at (ReadsEnumeratorValue d (there x.tree)) h.is (an_enumerator_value (mark h) (as_choosing (as_casting x.reads))); same = ap there x.same; left = x.left }
 
 same_enumerators : {x y : Ident} {e f : Maybe} {es fs : Enumerators} → y ≡ x → f ≡ e → fs ≡ es → more_enumerators y f fs ≡ more_enumerators x e es
 same_enumerators q r t = cc
@@ -106,17 +106,17 @@ record BackEnumerators (d : ℕ) (x : Ident) (e : Maybe) (es : Enumerators) (i :
   same : unplaced_enumerators trees ≡ unplaced_enumerators es
   left : kinds rest ≡ k
 
-back_enumerators : (es : Enumerators) → AreFineEnumerators es → (d : ℕ) → height_of_enumerators es ≤ d → (x : Ident) (e : Maybe) (t : Token) (i after : List Token) (k : List TokenKind) → Names x t → ReadsNumber d e i after → kinds after ≡ next_enumerators es k → BackEnumerators d x e es (t ∷ i) k
+back_enumerators : (es : Enumerators) → AreFineEnumerators es → (d : ℕ) → height_of_enumerators es ≤ d → (x : Ident) (e : Maybe) (t : Token) (i after : List Token) (k : List TokenKind) → Names x t → ReadsEnumeratorValue d e i after → kinds after ≡ next_enumerators es k → BackEnumerators d x e es (t ∷ i) k
 back_enumerators no_enumerators f d v x e t i after k n r q = record { trees = no_enumerators; rest = after; reads = last_enumerator n r; same = refl; left = q }
 back_enumerators (more_enumerators x' e' es) f d v x e t i after k n r q =
-    let c = headed (Punct p.COMMA) after (Name x'.name ∷ number_kinds e' (next_enumerators es k)) q in
-    let g = back_name x' c.rest (number_kinds e' (next_enumerators es k)) c.left in
-    let a = back_number e' f.0 d (omega arith) g.heads.rest (next_enumerators es k) g.heads.left in
+    let c = headed (Punct p.COMMA) after (Name x'.name ∷ enumerator_value_kinds e' (next_enumerators es k)) q in
+    let g = back_name x' c.rest (enumerator_value_kinds e' (next_enumerators es k)) c.left in
+    let a = back_enumerator_value e' f.0 d (omega arith) g.heads.rest (next_enumerators es k) g.heads.left in
     let z = back_enumerators es f.1 d (omega arith) g.ident a.tree g.heads.token g.heads.rest a.after k g.names a.reads a.left in
     record {
       trees = more_enumerators g.ident a.tree z.trees;
       rest = z.rest;
-      reads = next_enumerator n (ends_at (ReadsNumber d e) c.is r) (mark c) (begins_at (λ (i : List Token) (j : List Token). ReadsEnumerators d (more_enumerators g.ident a.tree z.trees) i j) g.heads.is z.reads);
+      reads = next_enumerator n (ends_at (ReadsEnumeratorValue d e) c.is r) (mark c) (begins_at (λ (i : List Token) (j : List Token). ReadsEnumerators d (more_enumerators g.ident a.tree z.trees) i j) g.heads.is z.reads);
       same = same_enumerators g.same a.same z.same;
       left = z.left;
     }
@@ -127,20 +127,20 @@ back_tag (tag x) ts k q =
     let g = back_name x ts k q in
     record { tree = tag g.ident; after = g.heads.rest; reads = begins_at (ReadsTag (tag g.ident)) g.heads.is (a_tag g.names); same = ap tag g.same; left = g.heads.left }
 
-same_struct : {x y : Ident} {ms ns : Members} → y ≡ x → ns ≡ ms → struct_outer 0 y ns ≡ struct_outer 0 x ms
+same_struct : {x y : Ident} {ms ns : Members} → y ≡ x → ns ≡ ms → struct_item 0 y ns ≡ struct_item 0 x ms
 same_struct q r = cc
 
-same_enum : {g h : Tag} {es fs : Enumerators} → h ≡ g → fs ≡ es → enum_outer 0 h fs ≡ enum_outer 0 g es
+same_enum : {g h : Tag} {es fs : Enumerators} → h ≡ g → fs ≡ es → enum_item 0 h fs ≡ enum_item 0 g es
 same_enum q r = cc
 
-same_function : (st : Storage) {s z : Spec} {e f : Declarator} {is js : Items} → z ≡ s → f ≡ e → js ≡ is → function_outer 0 st z f (block 0 js) ≡ function_outer 0 st s e (block 0 is)
+same_function : (st : Storage) {s z : Spec} {e f : Declarator} {is js : BlockItems} → z ≡ s → f ≡ e → js ≡ is → function_item 0 st z f (block 0 js) ≡ function_item 0 st s e (block 0 is)
 same_function st q r t = cc
 
 three : {ts a b c : List Token} {t u v : Token} → ts ≡ t ∷ a → a ≡ u ∷ b → b ≡ v ∷ c → ts ≡ t ∷ u ∷ v ∷ c
 three q r s = cc
 
-back_outer : (a : Outer) → IsFineOuter a → (d : ℕ) → height_of_outer a ≤ d → (ts : List Token) (k : List TokenKind) → kinds ts ≡ outer_kinds a k → BackOf (ReadsOuter d) unplaced_outer a ts k
-back_outer (struct_outer at x ms) f d v ts k q =
+back_item : (a : Item) → IsFineItem a → (d : ℕ) → height_of_item a ≤ d → (ts : List Token) (k : List TokenKind) → kinds ts ≡ item_kinds a k → BackOf (ReadsItem d) unplaced_item a ts k
+back_item (struct_item at x ms) f d v ts k q =
     let k2 : List TokenKind = Punct p.RIGHT_BRACE ∷ Punct p.SEMICOLON ∷ k in
     let h = headed (Keyword w.STRUCT) ts (Name x.name ∷ Punct p.LEFT_BRACE ∷ members_kinds ms k2) q in
     let g = back_name x h.rest (Punct p.LEFT_BRACE ∷ members_kinds ms k2) h.left in
@@ -148,104 +148,104 @@ back_outer (struct_outer at x ms) f d v ts k q =
     let y = back_members ms (some_members ms f) d v l.rest k2 l.left in
     let r = headed (Punct p.RIGHT_BRACE) y.after (Punct p.SEMICOLON ∷ k) y.left in
     let u = headed (Punct p.SEMICOLON) r.rest k r.left in
-    let tree : Outer = struct_outer h.token.from g.ident y.tree in
+    let tree : Item = struct_item h.token.from g.ident y.tree in
     record {
       tree = tree;
       after = u.rest;
-      reads = begins_at (ReadsOuter d tree) (three h.is g.heads.is l.is) (a_struct (word h) g.names (mark l) (ends_at (ReadsMembers d y.tree) (two r.is u.is) (members_stand y.tree (subst HasMember (sym y.same) (has_member ms f)) y.reads)) (mark r) (mark u));
+      reads = begins_at (ReadsItem d tree) (three h.is g.heads.is l.is) (a_struct (word h) g.names (mark l) (ends_at (ReadsMembers d y.tree) (two r.is u.is) (members_stand y.tree (subst HasMember (sym y.same) (has_member ms f)) y.reads)) (mark r) (mark u));
       same = same_struct g.same y.same;
       left = u.left;
     }
-back_outer (enum_outer at g no_enumerators) f d v ts k q = absurd f
-back_outer (enum_outer at g (more_enumerators x e es)) f d v ts k q =
+back_item (enum_item at g no_enumerators) f d v ts k q = absurd f
+back_item (enum_item at g (more_enumerators x e es)) f d v ts k q =
     let k2 : List TokenKind = Punct p.RIGHT_BRACE ∷ Punct p.SEMICOLON ∷ k in
     let h = headed (Keyword w.ENUM) ts (tag_kinds g (Punct p.LEFT_BRACE ∷ enumerators_kinds (more_enumerators x e es) k2)) q in
     let b = back_tag g h.rest (Punct p.LEFT_BRACE ∷ enumerators_kinds (more_enumerators x e es) k2) h.left in
     let l = headed (Punct p.LEFT_BRACE) b.after (enumerators_kinds (more_enumerators x e es) k2) b.left in
-    let n = back_name x l.rest (number_kinds e (next_enumerators es k2)) l.left in
-    let a = back_number e f.0 d (omega arith) n.heads.rest (next_enumerators es k2) n.heads.left in
+    let n = back_name x l.rest (enumerator_value_kinds e (next_enumerators es k2)) l.left in
+    let a = back_enumerator_value e f.0 d (omega arith) n.heads.rest (next_enumerators es k2) n.heads.left in
     let z = back_enumerators es f.1 d (omega arith) n.ident a.tree n.heads.token n.heads.rest a.after k2 n.names a.reads a.left in
     let r = headed (Punct p.RIGHT_BRACE) z.rest (Punct p.SEMICOLON ∷ k) z.left in
     let u = headed (Punct p.SEMICOLON) r.rest k r.left in
     let trees : Enumerators = more_enumerators n.ident a.tree z.trees in
-    let tree : Outer = enum_outer h.token.from b.tree trees in
+    let tree : Item = enum_item h.token.from b.tree trees in
     record {
       tree = tree;
       after = u.rest;
-      reads = begins_at (ReadsOuter d tree) h.is (an_enum (word h) (ends_at (ReadsTag b.tree) l.is b.reads) (mark l) (ends_at (ReadsEnumerators d trees) (two r.is u.is) (begins_at (ReadsEnumerators d trees) n.heads.is z.reads)) (mark r) (mark u));
+      reads = begins_at (ReadsItem d tree) h.is (an_enum (word h) (ends_at (ReadsTag b.tree) l.is b.reads) (mark l) (ends_at (ReadsEnumerators d trees) (two r.is u.is) (begins_at (ReadsEnumerators d trees) n.heads.is z.reads)) (mark r) (mark u));
       same = same_enum b.same (same_enumerators n.same a.same z.same);
       left = u.left;
     }
-back_outer (tag_outer at x) f d v ts k q =
+back_item (tag_item at x) f d v ts k q =
     let h = headed (Keyword w.STRUCT) ts (Name x.name ∷ Punct p.SEMICOLON ∷ k) q in
     let g = back_name x h.rest (Punct p.SEMICOLON ∷ k) h.left in
     let u = headed (Punct p.SEMICOLON) g.heads.rest k g.heads.left in
-    let tree : Outer = tag_outer h.token.from g.ident in
-    record { tree = tree; after = u.rest; reads = begins_at (ReadsOuter d tree) (three h.is g.heads.is u.is) (a_tag_alone (word h) g.names (mark u)); same = ap (tag_outer 0) g.same; left = u.left }
-back_outer (decl_outer at x) f d v ts k q =
-    let y = back_decl x f d v ts k q in record { tree = decl_outer (place ts) y.tree; after = y.after; reads = an_outer_declaration refl y.reads; same = ap (decl_outer 0) y.same; left = y.left }
-back_outer (function_outer at st s e (block at' is)) f d v ts k q =
+    let tree : Item = tag_item h.token.from g.ident in
+    record { tree = tree; after = u.rest; reads = begins_at (ReadsItem d tree) (three h.is g.heads.is u.is) (a_tag_alone (word h) g.names (mark u)); same = ap (tag_item 0) g.same; left = u.left }
+back_item (decl_item at x) f d v ts k q =
+    let y = back_decl x f d v ts k q in record { tree = decl_item (place ts) y.tree; after = y.after; reads = an_item_declaration refl y.reads; same = ap (decl_item 0) y.same; left = y.left }
+back_item (function_item at st s e (block at' is)) f d v ts k q =
     let g = back_storage st ts (spec_kinds s (declarator_kinds e (stmt_kinds (block at' is) k))) q in
     let b = back_spec s g.after (declarator_kinds e (stmt_kinds (block at' is) k)) g.left in
     let y = back_declarator e f.0 d (omega arith) b.after (stmt_kinds (block at' is) k) b.left in
-    let h = headed (Punct p.LEFT_BRACE) y.after (items_kinds is (Punct p.RIGHT_BRACE ∷ k)) y.left in
-    let x = back_items is f.2 d (omega arith) h.rest (Punct p.RIGHT_BRACE ∷ k) h.left in
+    let h = headed (Punct p.LEFT_BRACE) y.after (block_items_kinds is (Punct p.RIGHT_BRACE ∷ k)) y.left in
+    let x = back_block_items is f.2 d (omega arith) h.rest (Punct p.RIGHT_BRACE ∷ k) h.left in
     let c = headed (Punct p.RIGHT_BRACE) x.after k x.left in
     record {
-      tree = function_outer (place ts) st b.spec y.tree (block h.token.from x.tree);
+      tree = function_item (place ts) st b.spec y.tree (block h.token.from x.tree);
       after = c.rest;
-      reads = a_definition refl g.reads b.reads (ends_at (Declares d y.tree) h.is (declares_of (is_direct e) y.reads)) (has_name e y.tree y.same f.1) (mark h) (ends_at (ReadsItems d x.tree) c.is x.reads) (mark c);
+      reads = a_definition refl g.reads b.reads (ends_at (Declares d y.tree) h.is (declares_of (is_direct e) y.reads)) (has_name e y.tree y.same f.1) (mark h) (ends_at (ReadsBlockItems d x.tree) c.is x.reads) (mark c);
       same = same_function st b.same y.same x.same;
       left = c.left;
     }
-back_outer (function_outer at st s e (empty at')) f d v ts k q = absurd f.2
-back_outer (function_outer at st s e (evaluate at' x)) f d v ts k q = absurd f.2
-back_outer (function_outer at st s e (only_if at' x y)) f d v ts k q = absurd f.2
-back_outer (function_outer at st s e (if_else at' x y z)) f d v ts k q = absurd f.2
-back_outer (function_outer at st s e (while_loop at' x y)) f d v ts k q = absurd f.2
-back_outer (function_outer at st s e (do_loop at' x y)) f d v ts k q = absurd f.2
-back_outer (function_outer at st s e (for_loop at' x y z u)) f d v ts k q = absurd f.2
-back_outer (function_outer at st s e (switch_on at' x y)) f d v ts k q = absurd f.2
-back_outer (function_outer at st s e (break_off at')) f d v ts k q = absurd f.2
-back_outer (function_outer at st s e (continue_on at')) f d v ts k q = absurd f.2
-back_outer (function_outer at st s e (return_from at' x)) f d v ts k q = absurd f.2
+back_item (function_item at st s e (empty at')) f d v ts k q = absurd f.2
+back_item (function_item at st s e (evaluate at' x)) f d v ts k q = absurd f.2
+back_item (function_item at st s e (only_if at' x y)) f d v ts k q = absurd f.2
+back_item (function_item at st s e (if_else at' x y z)) f d v ts k q = absurd f.2
+back_item (function_item at st s e (while_loop at' x y)) f d v ts k q = absurd f.2
+back_item (function_item at st s e (do_loop at' x y)) f d v ts k q = absurd f.2
+back_item (function_item at st s e (for_loop at' x y z u)) f d v ts k q = absurd f.2
+back_item (function_item at st s e (switch_on at' x y)) f d v ts k q = absurd f.2
+back_item (function_item at st s e (break_off at')) f d v ts k q = absurd f.2
+back_item (function_item at st s e (continue_on at')) f d v ts k q = absurd f.2
+back_item (function_item at st s e (return_from at' x)) f d v ts k q = absurd f.2
 
 -- items of a unit, or none
-abbrev OutersOrNone : ℕ → Outers → List Token → List Token → Type 0
-OutersOrNone d no_outers i j = i ≡ j
-OutersOrNone d (more_outers a rest) i j = ReadsOuters d (more_outers a rest) i j
+abbrev ItemsOrNone : ℕ → Items → List Token → List Token → Type 0
+ItemsOrNone d no_items i j = i ≡ j
+ItemsOrNone d (more_items a rest) i j = ReadsItems d (more_items a rest) i j
 
-outer_before : {d : ℕ} {a : Outer} {i j k : List Token} (rest : Outers) → ReadsOuter d a i j → OutersOrNone d rest j k → ReadsOuters d (more_outers a rest) i k
-outer_before {d} {a} {i} {j} {k} no_outers r q = subst (λ (x : List Token). ReadsOuters d (more_outers a no_outers) i x) q (last_outer r)
-outer_before (more_outers b rest) r f = next_outer r f
+item_before : {d : ℕ} {a : Item} {i j k : List Token} (rest : Items) → ReadsItem d a i j → ItemsOrNone d rest j k → ReadsItems d (more_items a rest) i k
+item_before {d} {a} {i} {j} {k} no_items r q = subst (λ (x : List Token). ReadsItems d (more_items a no_items) i x) q (last_item r)
+item_before (more_items b rest) r f = next_item r f
 
-same_outers : {a x : Outer} {u v : Outers} → x ≡ a → v ≡ u → more_outers x v ≡ more_outers a u
-same_outers q r = cc
+same_items : {a x : Item} {u v : Items} → x ≡ a → v ≡ u → more_items x v ≡ more_items a u
+same_items q r = cc
 
-back_outers : (u : Outers) → AreFineOuters u → (d : ℕ) → height_of_unit u ≤ d → (ts : List Token) (k : List TokenKind) → kinds ts ≡ unit_kinds u k → BackOf (OutersOrNone d) unplaced_unit u ts k
-back_outers no_outers f d v ts k q = record { tree = no_outers; after = ts; reads = refl; same = refl; left = q }
-back_outers (more_outers a u) f d v ts k q =
-    let x = back_outer a f.0 d (omega arith) ts (unit_kinds u k) q in
-    let z = back_outers u f.1 d (omega arith) x.after k x.left in
-    record { tree = more_outers x.tree z.tree; after = z.after; reads = outer_before z.tree x.reads z.reads; same = same_outers x.same z.same; left = z.left }
+back_items : (u : Items) → AreFineItems u → (d : ℕ) → height_of_unit u ≤ d → (ts : List Token) (k : List TokenKind) → kinds ts ≡ unit_kinds u k → BackOf (ItemsOrNone d) unplaced_unit u ts k
+back_items no_items f d v ts k q = record { tree = no_items; after = ts; reads = refl; same = refl; left = q }
+back_items (more_items a u) f d v ts k q =
+    let x = back_item a f.0 d (omega arith) ts (unit_kinds u k) q in
+    let z = back_items u f.1 d (omega arith) x.after k x.left in
+    record { tree = more_items x.tree z.tree; after = z.after; reads = item_before z.tree x.reads z.reads; same = same_items x.same z.same; left = z.left }
 
 -- what is read back of a whole unit
-pub record BackUnit (d : ℕ) (u : Outers) (ts : List Token) : Type 0 where
-  pub other : Outers
-  pub reads : ReadsOuters d other ts []
+pub record BackUnit (d : ℕ) (u : Items) (ts : List Token) : Type 0 where
+  pub other : Items
+  pub reads : ReadsItems d other ts []
   pub same : AreSame other u
 
 no_kinds : (ts : List Token) → kinds ts ≡ [] → ts ≡ []
 no_kinds [] q = refl
 no_kinds (t ∷ ts) q = absurd (cc)
 
-pub back_unit : (u : Outers) → AreSomeOuters u → (d : ℕ) → height_of_unit u ≤ d → (ts : List Token) → kinds ts ≡ unit_kinds u [] → BackUnit d u ts
-back_unit no_outers f d v ts q = absurd f
-back_unit (more_outers a u) f d v ts q =
-    let x = back_outer a f.0 d (omega arith) ts (unit_kinds u []) q in
-    let z = back_outers u f.1 d (omega arith) x.after [] x.left in
+pub back_unit : (u : Items) → AreSomeItems u → (d : ℕ) → height_of_unit u ≤ d → (ts : List Token) → kinds ts ≡ unit_kinds u [] → BackUnit d u ts
+back_unit no_items f d v ts q = absurd f
+back_unit (more_items a u) f d v ts q =
+    let x = back_item a f.0 d (omega arith) ts (unit_kinds u []) q in
+    let z = back_items u f.1 d (omega arith) x.after [] x.left in
     record {
-      other = more_outers x.tree z.tree;
-      reads = ends_at (ReadsOuters d (more_outers x.tree z.tree)) (no_kinds z.after z.left) (outer_before z.tree x.reads z.reads);
-      same = same_outers x.same z.same;
+      other = more_items x.tree z.tree;
+      reads = ends_at (ReadsItems d (more_items x.tree z.tree)) (no_kinds z.after z.left) (item_before z.tree x.reads z.reads);
+      same = same_items x.same z.same;
     }

@@ -4,10 +4,10 @@ use Rattle.c_lexer.specs.declared.token.Token.{Token}
 use Rattle.c_lexer.specs.declared.punctuator.TheConstants.{LEFT_PARENTHESIS}
 use Rattle.c_syntax.specs.Tree.{Expr, Exprs, TypeName, Declarator, nothing, Params}
 use Rattle.c_syntax.specs.Tokens.{Is, rank}
-use Rattle.c_syntax.specs.Grammar.{primary, suffixed, prefixed, casting, chained, choosing, assigning, expression, IsThere, HasName}
+use Rattle.c_syntax.specs.Grammar.{primary_level, postfix_level, unary_level, cast_level, binary_level, conditional_level, assignment_level, expression_level, IsThere, HasName}
 use Rattle.c_syntax.specs.Grammar.{ReadsStrings, last_string, next_string, Reads, is_name, is_int, is_char, are_strings, in_parentheses, with_suffixes, no_prefix, a_prefix, a_unary, a_sizeof_type, no_cast, a_cast, no_chain, a_chain}
 use Rattle.c_syntax.specs.Grammar.{no_choice, a_choice, no_assignment, an_assignment, no_comma, a_comma, ReadsList, last_expr, next_expr, ReadsType, a_type}
-use Rattle.c_syntax.specs.Grammar.{Declares, a_pointer, a_direct, ReadsCore, a_declared, in_brackets, no_core, Lengthens, no_more, an_array, a_function, ReadsParams, are_none, are_some, ReadsEach, last_param, next_param}
+use Rattle.c_syntax.specs.Grammar.{Declares, a_pointer, a_direct, ReadsCore, a_declared, declarator_in_parentheses, no_core, Lengthens, no_more, an_array, a_function, ReadsParams, are_none, are_some, ReadsEach, last_param, next_param}
 use Rattle.c_syntax.proofs.Ranks.{ranked_str}
 use Rattle.c_syntax.proofs.Ends.{start, started, started_word, started_name, started_int, started_char, started_str, started_unary, started_prefix, EndsDeclarator, EndsSpec}
 use Rattle.c_syntax.proofs.OneSpecifier.{spec_begins}
@@ -22,40 +22,40 @@ strings_rank (last_string h) = ranked_str h
 strings_rank (next_string h r e) = ranked_str h
 
 -- an operand begins with a name, a constant, a string or a parenthesis
-pub primary_begins : {d : ℕ} {e : Expr} {i j : List Token} → Reads d primary e i j → (3 ≤ start i) × (start i ≤ 5)
+pub primary_begins : {d : ℕ} {e : Expr} {i j : List Token} → Reads d primary_level e i j → (3 ≤ start i) × (start i ≤ 5)
 primary_begins (is_name h) = (omega (arith, started_name h), omega (arith, started_name h))
 primary_begins (is_int h) = (omega (arith, started_int h), omega (arith, started_int h))
 primary_begins (is_char h) = (omega (arith, started_char h), omega (arith, started_char h))
 primary_begins (are_strings p r) = (omega (arith, strings_begin r), omega (arith, strings_begin r))
 primary_begins (in_parentheses o r c) = (omega (arith, started o), omega (arith, started o))
 
-pub suffixed_begins : {d : ℕ} {e : Expr} {i j : List Token} → Reads d suffixed e i j → (3 ≤ start i) × (start i ≤ 5)
+pub suffixed_begins : {d : ℕ} {e : Expr} {i j : List Token} → Reads d postfix_level e i j → (3 ≤ start i) × (start i ≤ 5)
 suffixed_begins (with_suffixes p r c) = primary_begins r
 
 -- an expression begins with that or a prefix operator
-pub prefixed_begins : {d : ℕ} {e : Expr} {i j : List Token} → Reads d prefixed e i j → (1 ≤ start i) × (start i ≤ 5)
+pub prefixed_begins : {d : ℕ} {e : Expr} {i j : List Token} → Reads d unary_level e i j → (1 ≤ start i) × (start i ≤ 5)
 prefixed_begins (no_prefix r) = let v = suffixed_begins r in (omega (arith, v.0), v.1)
 prefixed_begins (a_prefix {p = p} h r) = (omega (arith, started_prefix _ p h), omega (arith, started_prefix _ p h))
 prefixed_begins (a_unary h u r) = let v = started_unary h u in (v.0, omega (arith, v.1))
 prefixed_begins (a_sizeof_type h o r c) = (omega (arith, started_word h), omega (arith, started_word h))
 
-pub casting_begins : {d : ℕ} {e : Expr} {i j : List Token} → Reads d casting e i j → (1 ≤ start i) × (start i ≤ 5)
+pub casting_begins : {d : ℕ} {e : Expr} {i j : List Token} → Reads d cast_level e i j → (1 ≤ start i) × (start i ≤ 5)
 casting_begins (no_cast r) = prefixed_begins r
 casting_begins (a_cast o n c r) = (omega (arith, started o), omega (arith, started o))
 
-pub chained_begins : {d : ℕ} {n : ℕ} {e : Expr} {i j : List Token} → Reads d (chained n) e i j → (1 ≤ start i) × (start i ≤ 5)
+pub chained_begins : {d : ℕ} {n : ℕ} {e : Expr} {i j : List Token} → Reads d (binary_level n) e i j → (1 ≤ start i) × (start i ≤ 5)
 chained_begins (no_chain r) = casting_begins r
 chained_begins (a_chain p r c) = chained_begins r
 
-pub choosing_begins : {d : ℕ} {e : Expr} {i j : List Token} → Reads d choosing e i j → (1 ≤ start i) × (start i ≤ 5)
+pub choosing_begins : {d : ℕ} {e : Expr} {i j : List Token} → Reads d conditional_level e i j → (1 ≤ start i) × (start i ≤ 5)
 choosing_begins (no_choice r) = chained_begins r
 choosing_begins (a_choice p r q b c e) = chained_begins r
 
-pub assigning_begins : {d : ℕ} {e : Expr} {i j : List Token} → Reads d assigning e i j → (1 ≤ start i) × (start i ≤ 5)
+pub assigning_begins : {d : ℕ} {e : Expr} {i j : List Token} → Reads d assignment_level e i j → (1 ≤ start i) × (start i ≤ 5)
 assigning_begins (no_assignment r) = choosing_begins r
 assigning_begins (an_assignment p r h q b) = prefixed_begins r
 
-pub expression_begins : {d : ℕ} {e : Expr} {i j : List Token} → Reads d expression e i j → (1 ≤ start i) × (start i ≤ 5)
+pub expression_begins : {d : ℕ} {e : Expr} {i j : List Token} → Reads d expression_level e i j → (1 ≤ start i) × (start i ≤ 5)
 expression_begins (no_comma r) = assigning_begins r
 expression_begins (a_comma p r h b) = assigning_begins r
 
@@ -64,18 +64,18 @@ list_begins (last_expr r) = assigning_begins r
 list_begins (next_expr r h b) = assigning_begins r
 
 -- so no expression begins where the number is 0
-pub no_expression_begins : {d : ℕ} {e : Expr} {i j : List Token} → Reads d expression e i j → start i ≡ 0 → ⊥
+pub no_expression_begins : {d : ℕ} {e : Expr} {i j : List Token} → Reads d expression_level e i j → start i ≡ 0 → ⊥
 no_expression_begins r z = omega (arith, (expression_begins r).0)
 
 -- what stands in parentheses at the front of an operand begins with no word of specifiers
-pub primary_inside : {d : ℕ} {e : Expr} {t : Token} {i j : List Token} → Reads d primary e (t ∷ i) j → Is LEFT_PARENTHESIS t → start i ≤ 5
+pub primary_inside : {d : ℕ} {e : Expr} {t : Token} {i j : List Token} → Reads d primary_level e (t ∷ i) j → Is LEFT_PARENTHESIS t → start i ≤ 5
 primary_inside (is_name h) o = absurd (omega (arith, started_name h, started o))
 primary_inside (is_int h) o = absurd (omega (arith, started_int h, started o))
 primary_inside (is_char h) o = absurd (omega (arith, started_char h, started o))
 primary_inside (are_strings p r) o = absurd (omega (arith, strings_begin r, started o))
 primary_inside (in_parentheses h r c) o = (expression_begins r).1
 
-pub prefixed_inside : {d : ℕ} {e : Expr} {t : Token} {i j : List Token} → Reads d prefixed e (t ∷ i) j → Is LEFT_PARENTHESIS t → start i ≤ 5
+pub prefixed_inside : {d : ℕ} {e : Expr} {t : Token} {i j : List Token} → Reads d unary_level e (t ∷ i) j → Is LEFT_PARENTHESIS t → start i ≤ 5
 prefixed_inside (no_prefix (with_suffixes p r c)) o = primary_inside r o
 prefixed_inside (a_prefix {p = p} h r) o = absurd (omega (arith, started_prefix _ p h, started o))
 prefixed_inside (a_unary h u r) o = absurd (omega (arith, (started_unary h u).1, started o))
@@ -108,7 +108,7 @@ lengthens_inside (a_function o s c l) z h = (params_begin s).0
 -- a declarator without a pointer at its front begins with no word of specifiers and no *
 pub direct_begins : {d at : ℕ} {a e : Declarator} {i j k : List Token} → ReadsCore d a i j → Lengthens d at a e j k → EndsDeclarator k → (start i ≤ 6) × (start i ≡ 2 → ⊥)
 direct_begins (a_declared n) l z = (omega (arith, started_name n.name), λ q. omega (arith, started_name n.name))
-direct_begins (in_brackets o r h c) l z = (omega (arith, started o), λ q. omega (arith, started o))
+direct_begins (declarator_in_parentheses o r h c) l z = (omega (arith, started o), λ q. omega (arith, started o))
 direct_begins no_core l z = let v = lengthens_begin l z in (v.0, v.2)
 
 -- a declarator ends specifiers, if what follows it ends it
@@ -126,7 +126,7 @@ lengthens_there (a_function o s c l) n h = omega (arith, started o)
 pub there_begins : {d : ℕ} {e : Declarator} {i j : List Token} → Declares d e i j → IsThere e → start i ≤ 6
 there_begins (a_pointer h c r) n = omega (arith, started h)
 there_begins (a_direct p (a_declared m) l) n = omega (arith, started_name m.name)
-there_begins (a_direct p (in_brackets o r h c) l) n = omega (arith, started o)
+there_begins (a_direct p (declarator_in_parentheses o r h c) l) n = omega (arith, started o)
 there_begins (a_direct p no_core l) n = lengthens_there l (λ h. h) n
 
 -- what is made of a declarator without a name has none
@@ -139,14 +139,14 @@ lengthens_named (a_function o s c l) h = lengthens_named l h
 pub named_ends_spec : {d : ℕ} {e : Declarator} {i j : List Token} → Declares d e i j → HasName e → EndsSpec i
 named_ends_spec (a_pointer h c r) n = omega (arith, started h)
 named_ends_spec (a_direct p (a_declared m) l) n = omega (arith, started_name m.name)
-named_ends_spec (a_direct p (in_brackets o r h c) l) n = omega (arith, started o)
+named_ends_spec (a_direct p (declarator_in_parentheses o r h c) l) n = omega (arith, started o)
 named_ends_spec (a_direct p no_core l) n = absurd (lengthens_named l n)
 
 -- where a declarator ends, nothing is declared
 pub nothing_stands : {d : ℕ} {e : Declarator} {i j : List Token} → Declares d e i j → EndsDeclarator i → (e ≡ nothing) × (i ≡ j)
 nothing_stands (a_pointer h c r) z = absurd (omega (arith, started h))
 nothing_stands (a_direct p (a_declared m) l) z = absurd (omega (arith, started_name m.name))
-nothing_stands (a_direct p (in_brackets o r h c) l) z = absurd (omega (arith, started o))
+nothing_stands (a_direct p (declarator_in_parentheses o r h c) l) z = absurd (omega (arith, started o))
 nothing_stands (a_direct p no_core no_more) z = (refl, refl)
 nothing_stands (a_direct p no_core (an_array o s c l)) z = absurd (omega (arith, started o))
 nothing_stands (a_direct p no_core (a_function o s c l)) z = absurd (omega (arith, started o))

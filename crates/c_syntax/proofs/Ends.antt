@@ -5,7 +5,7 @@ use Rattle.c_lexer.specs.declared.token.TokenKind.{TokenKind}
 use Rattle.c_lexer.specs.declared.token.TokenKind.TheVariants.{Name, Keyword, Int, Char, Str, Punct}
 use Rattle.c_lexer.specs.declared.punctuator.TheConstants.{COMMA, SEMICOLON, ASSIGN, RIGHT_PARENTHESIS, LEFT_BRACE}
 use Rattle.c_syntax.specs.Tree.{Prefix, pre_increment, pre_decrement, sizeof}
-use Rattle.c_syntax.specs.Tokens.{Is, IsWord, IsName, IsInt, IsChar, IsStr, IsUnary, IsPrefix}
+use Rattle.c_syntax.specs.Tokens.{Is, IsKeyword, IsNameToken, IsInt, IsChar, IsStr, IsUnary, IsPrefix}
 
 -- 1 a prefix operator other than *, 2 *, 4 (, 6 [, 0 for what begins no expression and no declarator
 abbrev pub start_of_code : ℕ → ℕ
@@ -47,11 +47,11 @@ pub started : {code : ℕ} {t : Token} → Is code t → start_of_kind t.kind �
 unfolding start_of_kind
 started h = ap start_of_kind h.kind
 
-pub started_word : {code : ℕ} {t : Token} → IsWord code t → start_of_kind t.kind ≡ start_of_word code
+pub started_word : {code : ℕ} {t : Token} → IsKeyword code t → start_of_kind t.kind ≡ start_of_word code
 unfolding start_of_kind
 started_word h = ap start_of_kind h.kind
 
-pub started_name : {name : List ℕ} {t : Token} → IsName name t → start_of_kind t.kind ≡ 5
+pub started_name : {name : List ℕ} {t : Token} → IsNameToken name t → start_of_kind t.kind ≡ 5
 unfolding start_of_kind
 started_name h = ap start_of_kind h.kind
 
@@ -128,7 +128,7 @@ punctuator_ends_spec {code} h = omega (arith, started h, code_starts code)
 pub punctuator_ends_storage : {code : ℕ} {t : Token} → Is code t → start_of_kind t.kind ≤ 14
 punctuator_ends_storage {code} h = omega (arith, started h, code_starts code)
 
-pub name_ends_spec : {name : List ℕ} {t : Token} → IsName name t → start_of_kind t.kind ≤ 6
+pub name_ends_spec : {name : List ℕ} {t : Token} → IsNameToken name t → start_of_kind t.kind ≤ 6
 name_ends_spec h = omega (arith, started_name h)
 
 -- what a declarator ends at: EndsDeclarator of a list that begins so

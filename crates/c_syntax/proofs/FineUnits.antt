@@ -1,18 +1,18 @@
 -- Statements and units that tokens spell: lists that stand have members, declared names are there, an else has its if.
 use Rattle.std.proofs.Common.{ℕ, List}
 use Rattle.c_lexer.specs.declared.token.Token.{Token}
-use Rattle.c_syntax.specs.Tree.{Maybe, Init, one, list, Inits, no_inits, more_inits, Value, no_value, value, Parts, no_parts, more_parts, Decl, decl}
+use Rattle.c_syntax.specs.Tree.{Maybe, Init, one, list, Inits, no_inits, more_inits, MaybeInit, no_init, an_init, Parts, no_parts, more_parts, Decl, decl}
 use Rattle.c_syntax.specs.Tree.{First, first_absent, first_expr, first_decl, Labels, no_labels, case_label, default_label}
-use Rattle.c_syntax.specs.Tree.{Stmt, block, empty, evaluate, only_if, if_else, while_loop, do_loop, for_loop, switch_on, break_off, continue_on, return_from, Items, no_items, decl_item, stmt_item, Stmts, no_stmts, more_stmts, Groups, no_groups, more_groups}
-use Rattle.c_syntax.specs.Tree.{Declarators, no_declarators, more_declarators, Members, no_members, more_members, Enumerators, no_enumerators, more_enumerators, Outer, struct_outer, enum_outer, tag_outer, decl_outer, function_outer, Outers, no_outers, more_outers}
+use Rattle.c_syntax.specs.Tree.{Stmt, block, empty, evaluate, only_if, if_else, while_loop, do_loop, for_loop, switch_on, break_off, continue_on, return_from, BlockItems, no_block_items, block_decl, block_stmt, Stmts, no_stmts, more_stmts, Groups, no_groups, more_groups}
+use Rattle.c_syntax.specs.Tree.{Declarators, no_declarators, more_declarators, Members, no_members, more_members, Enumerators, no_enumerators, more_enumerators, Item, struct_item, enum_item, tag_item, decl_item, function_item, Items, no_items, more_items}
 use Rattle.c_syntax.specs.Grammar.{HasName}
 use Rattle.c_syntax.specs.Statements.{IsPlainDecl, IsClosed}
-use Rattle.c_syntax.specs.Statements.{ReadsInit, an_expression, a_list, a_list_with_comma, ReadsInits, last_init, next_init, ReadsValue, no_initialiser, an_initialiser, ReadsParts, last_part, next_part, ReadsDecl, a_declaration}
-use Rattle.c_syntax.specs.Statements.{ReadsMaybe, none_stands, one_stands, ReadsFirst, first_nothing, first_expression, first_declaration, ReadsLabels, last_case, last_default, next_case, next_default}
+use Rattle.c_syntax.specs.Statements.{ReadsInit, an_expression, a_list, a_list_with_comma, ReadsInits, last_init, next_init, ReadsMaybeInit, no_initialiser, an_initialiser, ReadsParts, last_part, next_part, ReadsDecl, a_declaration}
+use Rattle.c_syntax.specs.Statements.{ReadsMaybe, no_expression_stands, an_expression_stands, ReadsFirst, first_nothing, first_expression, first_declaration, ReadsLabels, last_case, last_default, next_case, next_default}
 use Rattle.c_syntax.specs.Statements.{ReadsStmt, a_block, an_empty, an_evaluation, an_if, an_if_else, a_while, a_do, a_for, a_switch, a_break, a_continue, a_return}
-use Rattle.c_syntax.specs.Statements.{ReadsItems, no_item, a_decl_item, a_stmt_item, ReadsStmts, last_stmt, next_stmt, ReadsGroups, no_group, a_group}
-use Rattle.c_syntax.specs.Statements.{ReadsDeclarators, last_declarator, next_declarator, ReadsMembers, last_member, next_member, ReadsNumber, no_number, a_number, ReadsEnumerators, last_enumerator, next_enumerator}
-use Rattle.c_syntax.specs.Statements.{ReadsOuter, a_struct, an_enum, an_enum_with_comma, a_tag_alone, an_outer_declaration, a_definition, ReadsOuters, last_outer, next_outer}
+use Rattle.c_syntax.specs.Statements.{ReadsBlockItems, no_block_item, a_block_decl, a_block_stmt, ReadsStmts, last_stmt, next_stmt, ReadsGroups, no_group, a_group}
+use Rattle.c_syntax.specs.Statements.{ReadsDeclarators, last_declarator, next_declarator, ReadsMembers, last_member, next_member, ReadsEnumeratorValue, no_enumerator_value, an_enumerator_value, ReadsEnumerators, last_enumerator, next_enumerator}
+use Rattle.c_syntax.specs.Statements.{ReadsItem, a_struct, an_enum, an_enum_with_comma, a_tag_alone, an_item_declaration, a_definition, ReadsItems, last_item, next_item}
 use Rattle.c_syntax.proofs.Fine.{IsFine, IsFineMaybe, IsFineDeclarator}
 use Rattle.c_syntax.proofs.FineLemmas.{fine, fine_declarator}
 
@@ -30,13 +30,13 @@ abbrev mutual
   AreFineInits no_inits = Unit {0}
   AreFineInits (more_inits a rest) = IsFineInit a × AreFineInits rest
 
-abbrev pub IsFineValue : Value → Type 0
-IsFineValue no_value = Unit {0}
-IsFineValue (value a) = IsFineInit a
+abbrev pub IsFineMaybeInit : MaybeInit → Type 0
+IsFineMaybeInit no_init = Unit {0}
+IsFineMaybeInit (an_init a) = IsFineInit a
 
 abbrev pub AreFineParts : Parts → Type 0
 AreFineParts no_parts = Unit {0}
-AreFineParts (more_parts e v rest) = IsFineDeclarator e × HasName e × IsFineValue v × AreFineParts rest
+AreFineParts (more_parts e v rest) = IsFineDeclarator e × HasName e × IsFineMaybeInit v × AreFineParts rest
 
 abbrev pub AreSomeParts : Parts → Type 0
 AreSomeParts no_parts = ⊥
@@ -62,7 +62,7 @@ AreSomeLabels (default_label at rest) = AreFineLabels rest
 
 abbrev mutual
   pub IsFineStmt : Stmt → Type 0
-  IsFineStmt (block at items) = AreFineItems items
+  IsFineStmt (block at items) = AreFineBlockItems items
   IsFineStmt (empty at) = Unit {0}
   IsFineStmt (evaluate at e) = IsFine e
   IsFineStmt (only_if at e s) = IsFine e × IsFineStmt s
@@ -75,10 +75,10 @@ abbrev mutual
   IsFineStmt (continue_on at) = Unit {0}
   IsFineStmt (return_from at e) = IsFineMaybe e
 
-  pub AreFineItems : Items → Type 0
-  AreFineItems no_items = Unit {0}
-  AreFineItems (decl_item x rest) = IsFineDecl x × IsPlainDecl x × AreFineItems rest
-  AreFineItems (stmt_item s rest) = IsFineStmt s × AreFineItems rest
+  pub AreFineBlockItems : BlockItems → Type 0
+  AreFineBlockItems no_block_items = Unit {0}
+  AreFineBlockItems (block_decl x rest) = IsFineDecl x × IsPlainDecl x × AreFineBlockItems rest
+  AreFineBlockItems (block_stmt s rest) = IsFineStmt s × AreFineBlockItems rest
 
   pub AreFineStmts : Stmts → Type 0
   AreFineStmts no_stmts = Unit {0}
@@ -119,7 +119,7 @@ AreSomeEnumerators (more_enumerators x e rest) = IsFineMaybe e × AreFineEnumera
 
 -- a block
 abbrev pub IsFineBody : Stmt → Type 0
-IsFineBody (block at items) = AreFineItems items
+IsFineBody (block at items) = AreFineBlockItems items
 IsFineBody (empty at) = ⊥
 IsFineBody (evaluate at e) = ⊥
 IsFineBody (only_if at e s) = ⊥
@@ -132,20 +132,20 @@ IsFineBody (break_off at) = ⊥
 IsFineBody (continue_on at) = ⊥
 IsFineBody (return_from at e) = ⊥
 
-abbrev pub IsFineOuter : Outer → Type 0
-IsFineOuter (struct_outer at x ms) = AreSomeMembers ms
-IsFineOuter (enum_outer at g es) = AreSomeEnumerators es
-IsFineOuter (tag_outer at x) = Unit {0}
-IsFineOuter (decl_outer at x) = IsFineDecl x
-IsFineOuter (function_outer at st s e b) = IsFineDeclarator e × HasName e × IsFineBody b
+abbrev pub IsFineItem : Item → Type 0
+IsFineItem (struct_item at x ms) = AreSomeMembers ms
+IsFineItem (enum_item at g es) = AreSomeEnumerators es
+IsFineItem (tag_item at x) = Unit {0}
+IsFineItem (decl_item at x) = IsFineDecl x
+IsFineItem (function_item at st s e b) = IsFineDeclarator e × HasName e × IsFineBody b
 
-abbrev pub AreFineOuters : Outers → Type 0
-AreFineOuters no_outers = Unit {0}
-AreFineOuters (more_outers a rest) = IsFineOuter a × AreFineOuters rest
+abbrev pub AreFineItems : Items → Type 0
+AreFineItems no_items = Unit {0}
+AreFineItems (more_items a rest) = IsFineItem a × AreFineItems rest
 
-abbrev pub AreSomeOuters : Outers → Type 0
-AreSomeOuters no_outers = ⊥
-AreSomeOuters (more_outers a rest) = IsFineOuter a × AreFineOuters rest
+abbrev pub AreSomeItems : Items → Type 0
+AreSomeItems no_items = ⊥
+AreSomeItems (more_items a rest) = IsFineItem a × AreFineItems rest
 
 mutual
   fine_init : {d : ℕ} {a : Init} {i j : List Token} → ReadsInit d a i j → IsFineInit a
@@ -161,24 +161,24 @@ mutual
   fine_inits (last_init r) = (fine_init r, tt)
   fine_inits (next_init r h f) = (fine_init r, fine_inits f)
 
-fine_value : {d : ℕ} {v : Value} {i j : List Token} → ReadsValue d v i j → IsFineValue v
-fine_value no_initialiser = tt
-fine_value (an_initialiser h r) = fine_init r
+fine_maybe_init : {d : ℕ} {v : MaybeInit} {i j : List Token} → ReadsMaybeInit d v i j → IsFineMaybeInit v
+fine_maybe_init no_initialiser = tt
+fine_maybe_init (an_initialiser h r) = fine_init r
 
 fine_parts : {d : ℕ} {ps : Parts} {i j : List Token} → ReadsParts d ps i j → AreFineParts ps
-fine_parts (last_part e h v) = (fine_declarator e, h, fine_value v, tt)
-fine_parts (next_part e h v c f) = (fine_declarator e, h, fine_value v, fine_parts f)
+fine_parts (last_part e h v) = (fine_declarator e, h, fine_maybe_init v, tt)
+fine_parts (next_part e h v c f) = (fine_declarator e, h, fine_maybe_init v, fine_parts f)
 
 some_parts : {d : ℕ} {ps : Parts} {i j : List Token} → ReadsParts d ps i j → AreSomeParts ps
-some_parts (last_part e h v) = (fine_declarator e, h, fine_value v, tt)
-some_parts (next_part e h v c f) = (fine_declarator e, h, fine_value v, fine_parts f)
+some_parts (last_part e h v) = (fine_declarator e, h, fine_maybe_init v, tt)
+some_parts (next_part e h v c f) = (fine_declarator e, h, fine_maybe_init v, fine_parts f)
 
 fine_decl : {d : ℕ} {x : Decl} {i j : List Token} → ReadsDecl d x i j → IsFineDecl x
 fine_decl (a_declaration p g s r h) = some_parts r
 
 fine_maybe : {d : ℕ} {e : Maybe} {i j : List Token} → ReadsMaybe d e i j → IsFineMaybe e
-fine_maybe none_stands = tt
-fine_maybe (one_stands r) = fine r tt
+fine_maybe no_expression_stands = tt
+fine_maybe (an_expression_stands r) = fine r tt
 
 fine_first : {d : ℕ} {f : First} {i j : List Token} → ReadsFirst d f i j → IsFineFirst f
 fine_first (first_nothing h) = tt
@@ -199,7 +199,7 @@ some_labels (next_default h c f) = fine_labels f
 
 mutual
   fine_stmt : {d : ℕ} {s : Stmt} {i j : List Token} → ReadsStmt d s i j → IsFineStmt s
-  fine_stmt (a_block o r c) = fine_items r
+  fine_stmt (a_block o r c) = fine_block_items r
   fine_stmt (an_empty h) = tt
   fine_stmt (an_evaluation p r h) = fine r tt
   fine_stmt (an_if h g r q f) = (fine r tt, fine_stmt f)
@@ -212,10 +212,10 @@ mutual
   fine_stmt (a_continue h g) = tt
   fine_stmt (a_return h r g) = fine_maybe r
 
-  fine_items : {d : ℕ} {s : Items} {i j : List Token} → ReadsItems d s i j → AreFineItems s
-  fine_items no_item = tt
-  fine_items (a_decl_item r h f) = (fine_decl r, h, fine_items f)
-  fine_items (a_stmt_item r f) = (fine_stmt r, fine_items f)
+  fine_block_items : {d : ℕ} {s : BlockItems} {i j : List Token} → ReadsBlockItems d s i j → AreFineBlockItems s
+  fine_block_items no_block_item = tt
+  fine_block_items (a_block_decl r h f) = (fine_decl r, h, fine_block_items f)
+  fine_block_items (a_block_stmt r f) = (fine_stmt r, fine_block_items f)
 
   fine_stmts : {d : ℕ} {s : Stmts} {i j : List Token} → ReadsStmts d s i j → AreFineStmts s
   fine_stmts (last_stmt r) = (fine_stmt r, tt)
@@ -245,30 +245,30 @@ some_members : {d : ℕ} {ms : Members} {i j : List Token} → ReadsMembers d ms
 some_members (last_member p s e h) = (some_declarators e, tt)
 some_members (next_member p s e h f) = (some_declarators e, fine_members f)
 
-fine_number : {d : ℕ} {e : Maybe} {i j : List Token} → ReadsNumber d e i j → IsFineMaybe e
-fine_number no_number = tt
-fine_number (a_number h r) = fine r tt
+fine_enumerator_value : {d : ℕ} {e : Maybe} {i j : List Token} → ReadsEnumeratorValue d e i j → IsFineMaybe e
+fine_enumerator_value no_enumerator_value = tt
+fine_enumerator_value (an_enumerator_value h r) = fine r tt
 
 fine_enumerators : {d : ℕ} {es : Enumerators} {i j : List Token} → ReadsEnumerators d es i j → AreFineEnumerators es
-fine_enumerators (last_enumerator n r) = (fine_number r, tt)
-fine_enumerators (next_enumerator n r c f) = (fine_number r, fine_enumerators f)
+fine_enumerators (last_enumerator n r) = (fine_enumerator_value r, tt)
+fine_enumerators (next_enumerator n r c f) = (fine_enumerator_value r, fine_enumerators f)
 
 some_enumerators : {d : ℕ} {es : Enumerators} {i j : List Token} → ReadsEnumerators d es i j → AreSomeEnumerators es
-some_enumerators (last_enumerator n r) = (fine_number r, tt)
-some_enumerators (next_enumerator n r c f) = (fine_number r, fine_enumerators f)
+some_enumerators (last_enumerator n r) = (fine_enumerator_value r, tt)
+some_enumerators (next_enumerator n r c f) = (fine_enumerator_value r, fine_enumerators f)
 
-fine_outer : {d : ℕ} {a : Outer} {i j : List Token} → ReadsOuter d a i j → IsFineOuter a
-fine_outer (a_struct h m o f c e) = some_members f
-fine_outer (an_enum h g o f c e) = some_enumerators f
-fine_outer (an_enum_with_comma h g o f q c e) = some_enumerators f
-fine_outer (a_tag_alone h m e) = tt
-fine_outer (an_outer_declaration p r) = fine_decl r
-fine_outer (a_definition p g s e h o f c) = (fine_declarator e, h, fine_items f)
+fine_item : {d : ℕ} {a : Item} {i j : List Token} → ReadsItem d a i j → IsFineItem a
+fine_item (a_struct h m o f c e) = some_members f
+fine_item (an_enum h g o f c e) = some_enumerators f
+fine_item (an_enum_with_comma h g o f q c e) = some_enumerators f
+fine_item (a_tag_alone h m e) = tt
+fine_item (an_item_declaration p r) = fine_decl r
+fine_item (a_definition p g s e h o f c) = (fine_declarator e, h, fine_block_items f)
 
-fine_outers : {d : ℕ} {u : Outers} {i j : List Token} → ReadsOuters d u i j → AreFineOuters u
-fine_outers (last_outer r) = (fine_outer r, tt)
-fine_outers (next_outer r f) = (fine_outer r, fine_outers f)
+fine_items : {d : ℕ} {u : Items} {i j : List Token} → ReadsItems d u i j → AreFineItems u
+fine_items (last_item r) = (fine_item r, tt)
+fine_items (next_item r f) = (fine_item r, fine_items f)
 
-pub fine_unit : {d : ℕ} {u : Outers} {i j : List Token} → ReadsOuters d u i j → AreSomeOuters u
-fine_unit (last_outer r) = (fine_outer r, tt)
-fine_unit (next_outer r f) = (fine_outer r, fine_outers f)
+pub fine_unit : {d : ℕ} {u : Items} {i j : List Token} → ReadsItems d u i j → AreSomeItems u
+fine_unit (last_item r) = (fine_item r, tt)
+fine_unit (next_item r f) = (fine_item r, fine_items f)

@@ -5,7 +5,7 @@ use Rattle.c_syntax.specs.Tree.{Expr, Exprs, Maybe, TypeName, Declarator, Params
 use Rattle.c_syntax.specs.Grammar.{Level, ReadsStrings, last_string, next_string}
 use Rattle.c_syntax.specs.Grammar.{Reads, is_name, is_int, is_char, are_strings, in_parentheses, with_suffixes, no_prefix, a_prefix, a_unary, a_sizeof_type, no_cast, a_cast, no_chain, a_chain, no_choice, a_choice, no_assignment, an_assignment, no_comma, a_comma}
 use Rattle.c_syntax.specs.Grammar.{ReadsList, last_expr, next_expr, Suffixes, no_suffix, an_index, an_empty_call, a_call, a_member, a_postfix, Chain, no_operator, an_operator}
-use Rattle.c_syntax.specs.Grammar.{ReadsSize, no_size, a_size, ReadsType, a_type, Declares, a_pointer, a_direct, a_declared, in_brackets, no_core, Lengthens, no_more, an_array, a_function, ReadsParams, are_none, are_some, ReadsEach, last_param, next_param}
+use Rattle.c_syntax.specs.Grammar.{ReadsSize, no_size, a_size, ReadsType, a_type, Declares, a_pointer, a_direct, a_declared, declarator_in_parentheses, no_core, Lengthens, no_more, an_array, a_function, ReadsParams, are_none, are_some, ReadsEach, last_param, next_param}
 use Rattle.c_syntax.proofs.Twins.{here, along, glue, after, On, OnAt}
 use Rattle.c_syntax.proofs.FrameSpecifiers.{consts_on, spec_on}
 
@@ -92,9 +92,9 @@ mutual
       record { tokens = t ∷ x.tokens; twin = along (glue y.twin x.twin); reads = a_pointer h x.reads y.reads }
   declares_on (a_direct p (a_declared {t = t} n) f) k =
       let y = lengthens_on f k in record { tokens = t ∷ y.tokens; twin = along y.twin; reads = a_direct p (a_declared n) y.reads }
-  declares_on (a_direct p (in_brackets {t = t} {u = u} o r q c) f) k =
+  declares_on (a_direct p (declarator_in_parentheses {t = t} {u = u} o r q c) f) k =
       let y = lengthens_on f k in let x = declares_on r (u ∷ y.tokens) in
-      record { tokens = t ∷ x.tokens; twin = along (glue y.twin (after x.twin)); reads = a_direct p (in_brackets o x.reads q c) y.reads }
+      record { tokens = t ∷ x.tokens; twin = along (glue y.twin (after x.twin)); reads = a_direct p (declarator_in_parentheses o x.reads q c) y.reads }
   declares_on (a_direct p no_core no_more) k = record { tokens = k; twin = here; reads = a_direct refl no_core no_more }
   declares_on (a_direct p no_core (an_array {t = t} {u = u} h r c f)) k =
       let y = lengthens_on f k in let x = size_on r (u ∷ y.tokens) in

@@ -3,7 +3,7 @@ use Rattle.std.proofs.Common.{◌≡◌, List, ◌∷◌, refl}
 use Rattle.c_lexer.specs.declared.token.Token.{Token}
 use Rattle.c_syntax.specs.Tree.{Storage, Spec}
 use Rattle.c_syntax.specs.Tokens.{place}
-use Rattle.c_syntax.specs.Specifiers.{Consts, no_const, a_const, ReadsStorage, none_stands, static_stands, extern_stands, ReadsSpec, is_void, is_char, is_unsigned_char, is_int, is_signed, is_signed_int, is_unsigned, is_unsigned_int, is_struct, is_enum}
+use Rattle.c_syntax.specs.Specifiers.{Consts, no_const, a_const, ReadsStorage, no_storage_stands, static_stands, extern_stands, ReadsSpec, is_void, is_char, is_unsigned_char, is_int, is_signed, is_signed_int, is_unsigned, is_unsigned_int, is_struct, is_enum}
 use Rattle.c_syntax.proofs.Twins.{Twin, here, along, glue, after, after_two, On, OnAt}
 
 pub consts_on : {i j : List Token} → Consts i j → (k : List Token) → On Consts i j k
@@ -12,7 +12,7 @@ consts_on (a_const {t = t} h c) k =
     let x = consts_on c k in record { tokens = t ∷ x.tokens; twin = along x.twin; reads = a_const h x.reads }
 
 pub storage_on : {s : Storage} {i j : List Token} → ReadsStorage s i j → (k : List Token) → On (ReadsStorage s) i j k
-storage_on none_stands k = record { tokens = k; twin = here; reads = none_stands }
+storage_on no_storage_stands k = record { tokens = k; twin = here; reads = no_storage_stands }
 storage_on (static_stands {t = t} h) k = record { tokens = t ∷ k; twin = along here; reads = static_stands h }
 storage_on (extern_stands {t = t} h) k = record { tokens = t ∷ k; twin = along here; reads = extern_stands h }
 

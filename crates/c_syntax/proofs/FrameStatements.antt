@@ -1,15 +1,15 @@
 -- Initialisers, declarations, statements and units are read whatever follows them.
 use Rattle.std.proofs.Common.{ℕ, List, ◌∷◌, refl, ◌∙◌}
 use Rattle.c_lexer.specs.declared.token.Token.{Token}
-use Rattle.c_syntax.specs.Tree.{Maybe, Init, Inits, Value, Parts, Decl, First, Labels, Stmt, Items, Stmts, Groups, Declarators, Members, Enumerators, Tag, Outer}
-use Rattle.c_syntax.specs.Statements.{ReadsInit, an_expression, a_list, a_list_with_comma, ReadsInits, last_init, next_init, ReadsValue, no_initialiser, an_initialiser, ReadsParts, last_part, next_part, ReadsDecl, a_declaration}
-use Rattle.c_syntax.specs.Statements.{ReadsMaybe, none_stands, one_stands, ReadsFirst, first_nothing, first_expression, first_declaration, ReadsLabels, last_case, last_default, next_case, next_default}
+use Rattle.c_syntax.specs.Tree.{Maybe, Init, Inits, MaybeInit, Parts, Decl, First, Labels, Stmt, BlockItems, Stmts, Groups, Declarators, Members, Enumerators, Tag, Item}
+use Rattle.c_syntax.specs.Statements.{ReadsInit, an_expression, a_list, a_list_with_comma, ReadsInits, last_init, next_init, ReadsMaybeInit, no_initialiser, an_initialiser, ReadsParts, last_part, next_part, ReadsDecl, a_declaration}
+use Rattle.c_syntax.specs.Statements.{ReadsMaybe, no_expression_stands, an_expression_stands, ReadsFirst, first_nothing, first_expression, first_declaration, ReadsLabels, last_case, last_default, next_case, next_default}
 use Rattle.c_syntax.specs.Statements.{ReadsStmt, a_block, an_empty, an_evaluation, an_if, an_if_else, a_while, a_do, a_for, a_switch, a_break, a_continue, a_return}
-use Rattle.c_syntax.specs.Statements.{ReadsItems, no_item, a_decl_item, a_stmt_item, ReadsStmts, last_stmt, next_stmt, ReadsGroups, no_group, a_group}
-use Rattle.c_syntax.specs.Statements.{ReadsDeclarators, last_declarator, next_declarator, ReadsMembers, last_member, next_member, ReadsNumber, no_number, a_number, ReadsEnumerators, last_enumerator, next_enumerator, ReadsTag, no_name, a_tag}
-use Rattle.c_syntax.specs.Statements.{ReadsOuter, a_struct, an_enum, an_enum_with_comma, a_tag_alone, an_outer_declaration, a_definition}
+use Rattle.c_syntax.specs.Statements.{ReadsBlockItems, no_block_item, a_block_decl, a_block_stmt, ReadsStmts, last_stmt, next_stmt, ReadsGroups, no_group, a_group}
+use Rattle.c_syntax.specs.Statements.{ReadsDeclarators, last_declarator, next_declarator, ReadsMembers, last_member, next_member, ReadsEnumeratorValue, no_enumerator_value, an_enumerator_value, ReadsEnumerators, last_enumerator, next_enumerator, ReadsTag, no_name, a_tag}
+use Rattle.c_syntax.specs.Statements.{ReadsItem, a_struct, an_enum, an_enum_with_comma, a_tag_alone, an_item_declaration, a_definition}
 use Rattle.c_syntax.specs.Specifiers.{static_stands, extern_stands}
-use Rattle.c_syntax.specs.Specifiers.{none_stands as no_storage_stands}
+use Rattle.c_syntax.specs.Specifiers.{no_storage_stands}
 use Rattle.c_syntax.proofs.Twins.{here, along, glue, after, after_two, after_three, On, OnAt}
 use Rattle.c_syntax.proofs.FrameSpecifiers.{spec_on}
 use Rattle.c_syntax.proofs.FrameGrammar.{reads_on, declares_on}
@@ -27,15 +27,15 @@ mutual
   inits_on (next_init {t = t} r h f) k =
       let y = inits_on f k in let x = init_on r (t ∷ y.tokens) in record { tokens = x.tokens; twin = glue y.twin (after x.twin); reads = next_init x.reads h y.reads }
 
-pub value_on : {d : ℕ} {v : Value} {i j : List Token} → ReadsValue d v i j → (k : List Token) → On (ReadsValue d v) i j k
-value_on no_initialiser k = record { tokens = k; twin = here; reads = no_initialiser }
-value_on (an_initialiser {t = t} h r) k = let x = init_on r k in record { tokens = t ∷ x.tokens; twin = along x.twin; reads = an_initialiser h x.reads }
+pub maybe_init_on : {d : ℕ} {v : MaybeInit} {i j : List Token} → ReadsMaybeInit d v i j → (k : List Token) → On (ReadsMaybeInit d v) i j k
+maybe_init_on no_initialiser k = record { tokens = k; twin = here; reads = no_initialiser }
+maybe_init_on (an_initialiser {t = t} h r) k = let x = init_on r k in record { tokens = t ∷ x.tokens; twin = along x.twin; reads = an_initialiser h x.reads }
 
 pub parts_on : {d : ℕ} {ps : Parts} {i j : List Token} → ReadsParts d ps i j → (k : List Token) → On (ReadsParts d ps) i j k
 parts_on (last_part e h v) k =
-    let y = value_on v k in let x = declares_on e y.tokens in record { tokens = x.tokens; twin = glue y.twin x.twin; reads = last_part x.reads h y.reads }
+    let y = maybe_init_on v k in let x = declares_on e y.tokens in record { tokens = x.tokens; twin = glue y.twin x.twin; reads = last_part x.reads h y.reads }
 parts_on (next_part {t = t} e h v c f) k =
-    let z = parts_on f k in let y = value_on v (t ∷ z.tokens) in let x = declares_on e y.tokens in
+    let z = parts_on f k in let y = maybe_init_on v (t ∷ z.tokens) in let x = declares_on e y.tokens in
     record { tokens = x.tokens; twin = glue z.twin (glue (after y.twin) x.twin); reads = next_part x.reads h y.reads c z.reads }
 
 pub decl_on : {d : ℕ} {x : Decl} {i j : List Token} → ReadsDecl d x i j → (k : List Token) → OnAt (ReadsDecl d x) i j k
@@ -50,8 +50,8 @@ decl_on (a_declaration {t = t} p (extern_stands {t = w} g) s r h) k =
     record { tokens = w ∷ x.tokens; twin = along (glue (after y.twin) x.twin); reads = a_declaration p (extern_stands g) x.reads y.reads h; same = refl }
 
 pub maybe_on : {d : ℕ} {e : Maybe} {i j : List Token} → ReadsMaybe d e i j → (k : List Token) → On (ReadsMaybe d e) i j k
-maybe_on none_stands k = record { tokens = k; twin = here; reads = none_stands }
-maybe_on (one_stands r) k = let x = reads_on r k in record { tokens = x.tokens; twin = x.twin; reads = one_stands x.reads }
+maybe_on no_expression_stands k = record { tokens = k; twin = here; reads = no_expression_stands }
+maybe_on (an_expression_stands r) k = let x = reads_on r k in record { tokens = x.tokens; twin = x.twin; reads = an_expression_stands x.reads }
 
 pub first_on : {d : ℕ} {f : First} {i j : List Token} → ReadsFirst d f i j → (k : List Token) → On (ReadsFirst d f) i j k
 first_on (first_nothing {t = t} h) k = record { tokens = t ∷ k; twin = along here; reads = first_nothing h }
@@ -72,7 +72,7 @@ labels_on (next_default {t = t} {u = u} h c f) k =
 mutual
   pub stmt_on : {d : ℕ} {s : Stmt} {i j : List Token} → ReadsStmt d s i j → (k : List Token) → On (ReadsStmt d s) i j k
   stmt_on (a_block {t = t} {u = u} o r c) k =
-      let x = items_on r (u ∷ k) in record { tokens = t ∷ x.tokens; twin = along (after x.twin); reads = a_block o x.reads c }
+      let x = block_items_on r (u ∷ k) in record { tokens = t ∷ x.tokens; twin = along (after x.twin); reads = a_block o x.reads c }
   stmt_on (an_empty {t = t} h) k = record { tokens = t ∷ k; twin = along here; reads = an_empty h }
   stmt_on (an_evaluation {t = t} p r h) k =
       let x = reads_on r (t ∷ k) in record { tokens = x.tokens; twin = after x.twin; reads = an_evaluation (p ∙ x.same) x.reads h }
@@ -99,12 +99,12 @@ mutual
   stmt_on (a_return {t = t} {u = u} h r g) k =
       let x = maybe_on r (u ∷ k) in record { tokens = t ∷ x.tokens; twin = along (after x.twin); reads = a_return h x.reads g }
 
-  pub items_on : {d : ℕ} {s : Items} {i j : List Token} → ReadsItems d s i j → (k : List Token) → On (ReadsItems d s) i j k
-  items_on no_item k = record { tokens = k; twin = here; reads = no_item }
-  items_on (a_decl_item r h f) k =
-      let y = items_on f k in let x = decl_on r y.tokens in record { tokens = x.tokens; twin = glue y.twin x.twin; reads = a_decl_item x.reads h y.reads }
-  items_on (a_stmt_item r f) k =
-      let y = items_on f k in let x = stmt_on r y.tokens in record { tokens = x.tokens; twin = glue y.twin x.twin; reads = a_stmt_item x.reads y.reads }
+  pub block_items_on : {d : ℕ} {s : BlockItems} {i j : List Token} → ReadsBlockItems d s i j → (k : List Token) → On (ReadsBlockItems d s) i j k
+  block_items_on no_block_item k = record { tokens = k; twin = here; reads = no_block_item }
+  block_items_on (a_block_decl r h f) k =
+      let y = block_items_on f k in let x = decl_on r y.tokens in record { tokens = x.tokens; twin = glue y.twin x.twin; reads = a_block_decl x.reads h y.reads }
+  block_items_on (a_block_stmt r f) k =
+      let y = block_items_on f k in let x = stmt_on r y.tokens in record { tokens = x.tokens; twin = glue y.twin x.twin; reads = a_block_stmt x.reads y.reads }
 
   pub stmts_on : {d : ℕ} {s : Stmts} {i j : List Token} → ReadsStmts d s i j → (k : List Token) → On (ReadsStmts d s) i j k
   stmts_on (last_stmt r) k = let x = stmt_on r k in record { tokens = x.tokens; twin = x.twin; reads = last_stmt x.reads }
@@ -131,38 +131,38 @@ members_on (next_member {t = t} p s e h f) k =
     let z = members_on f k in let y = declarators_on e (t ∷ z.tokens) in let x = spec_on s y.tokens in
     record { tokens = x.tokens; twin = glue z.twin (glue (after y.twin) x.twin); reads = next_member (p ∙ x.same) x.reads y.reads h z.reads }
 
-pub number_on : {d : ℕ} {e : Maybe} {i j : List Token} → ReadsNumber d e i j → (k : List Token) → On (ReadsNumber d e) i j k
-number_on no_number k = record { tokens = k; twin = here; reads = no_number }
-number_on (a_number {t = t} h r) k = let x = reads_on r k in record { tokens = t ∷ x.tokens; twin = along x.twin; reads = a_number h x.reads }
+pub enumerator_value_on : {d : ℕ} {e : Maybe} {i j : List Token} → ReadsEnumeratorValue d e i j → (k : List Token) → On (ReadsEnumeratorValue d e) i j k
+enumerator_value_on no_enumerator_value k = record { tokens = k; twin = here; reads = no_enumerator_value }
+enumerator_value_on (an_enumerator_value {t = t} h r) k = let x = reads_on r k in record { tokens = t ∷ x.tokens; twin = along x.twin; reads = an_enumerator_value h x.reads }
 
 pub enumerators_on : {d : ℕ} {es : Enumerators} {i j : List Token} → ReadsEnumerators d es i j → (k : List Token) → On (ReadsEnumerators d es) i j k
 enumerators_on (last_enumerator {t = t} n r) k =
-    let x = number_on r k in record { tokens = t ∷ x.tokens; twin = along x.twin; reads = last_enumerator n x.reads }
+    let x = enumerator_value_on r k in record { tokens = t ∷ x.tokens; twin = along x.twin; reads = last_enumerator n x.reads }
 enumerators_on (next_enumerator {t = t} {u = u} n r c f) k =
-    let y = enumerators_on f k in let x = number_on r (u ∷ y.tokens) in
+    let y = enumerators_on f k in let x = enumerator_value_on r (u ∷ y.tokens) in
     record { tokens = t ∷ x.tokens; twin = along (glue y.twin (after x.twin)); reads = next_enumerator n x.reads c y.reads }
 
 pub tag_on : {g : Tag} {i j : List Token} → ReadsTag g i j → (k : List Token) → On (ReadsTag g) i j k
 tag_on no_name k = record { tokens = k; twin = here; reads = no_name }
 tag_on (a_tag {t = t} n) k = record { tokens = t ∷ k; twin = along here; reads = a_tag n }
 
-pub outer_on : {d : ℕ} {a : Outer} {i j : List Token} → ReadsOuter d a i j → (k : List Token) → On (ReadsOuter d a) i j k
-outer_on (a_struct {t = t} {n = n} {l = l} {r = r} {u = u} h m o f c e) k =
+pub item_on : {d : ℕ} {a : Item} {i j : List Token} → ReadsItem d a i j → (k : List Token) → On (ReadsItem d a) i j k
+item_on (a_struct {t = t} {n = n} {l = l} {r = r} {u = u} h m o f c e) k =
     let x = members_on f (r ∷ u ∷ k) in record { tokens = t ∷ n ∷ l ∷ x.tokens; twin = along (along (along (after_two x.twin))); reads = a_struct h m o x.reads c e }
-outer_on (an_enum {t = t} {l = l} {r = r} {u = u} h g o f c e) k =
+item_on (an_enum {t = t} {l = l} {r = r} {u = u} h g o f c e) k =
     let y = enumerators_on f (r ∷ u ∷ k) in let x = tag_on g (l ∷ y.tokens) in
     record { tokens = t ∷ x.tokens; twin = along (glue (after_two y.twin) (after x.twin)); reads = an_enum h x.reads o y.reads c e }
-outer_on (an_enum_with_comma {t = t} {l = l} {c = m} {r = r} {u = u} h g o f q c e) k =
+item_on (an_enum_with_comma {t = t} {l = l} {c = m} {r = r} {u = u} h g o f q c e) k =
     let y = enumerators_on f (m ∷ r ∷ u ∷ k) in let x = tag_on g (l ∷ y.tokens) in
     record { tokens = t ∷ x.tokens; twin = along (glue (after_three y.twin) (after x.twin)); reads = an_enum_with_comma h x.reads o y.reads q c e }
-outer_on (a_tag_alone {t = t} {n = n} {u = u} h m e) k = record { tokens = t ∷ n ∷ u ∷ k; twin = along (along (along here)); reads = a_tag_alone h m e }
-outer_on (an_outer_declaration p r) k = let x = decl_on r k in record { tokens = x.tokens; twin = x.twin; reads = an_outer_declaration (p ∙ x.same) x.reads }
-outer_on (a_definition {t = t} {u = u} p no_storage_stands s e h o f c) k =
-    let z = items_on f (u ∷ k) in let y = declares_on e (t ∷ z.tokens) in let x = spec_on s y.tokens in
+item_on (a_tag_alone {t = t} {n = n} {u = u} h m e) k = record { tokens = t ∷ n ∷ u ∷ k; twin = along (along (along here)); reads = a_tag_alone h m e }
+item_on (an_item_declaration p r) k = let x = decl_on r k in record { tokens = x.tokens; twin = x.twin; reads = an_item_declaration (p ∙ x.same) x.reads }
+item_on (a_definition {t = t} {u = u} p no_storage_stands s e h o f c) k =
+    let z = block_items_on f (u ∷ k) in let y = declares_on e (t ∷ z.tokens) in let x = spec_on s y.tokens in
     record { tokens = x.tokens; twin = glue (glue (after z.twin) (after y.twin)) x.twin; reads = a_definition (p ∙ x.same) no_storage_stands x.reads y.reads h o z.reads c }
-outer_on (a_definition {t = t} {u = u} p (static_stands {t = w} g) s e h o f c) k =
-    let z = items_on f (u ∷ k) in let y = declares_on e (t ∷ z.tokens) in let x = spec_on s y.tokens in
+item_on (a_definition {t = t} {u = u} p (static_stands {t = w} g) s e h o f c) k =
+    let z = block_items_on f (u ∷ k) in let y = declares_on e (t ∷ z.tokens) in let x = spec_on s y.tokens in
     record { tokens = w ∷ x.tokens; twin = along (glue (glue (after z.twin) (after y.twin)) x.twin); reads = a_definition p (static_stands g) x.reads y.reads h o z.reads c }
-outer_on (a_definition {t = t} {u = u} p (extern_stands {t = w} g) s e h o f c) k =
-    let z = items_on f (u ∷ k) in let y = declares_on e (t ∷ z.tokens) in let x = spec_on s y.tokens in
+item_on (a_definition {t = t} {u = u} p (extern_stands {t = w} g) s e h o f c) k =
+    let z = block_items_on f (u ∷ k) in let y = declares_on e (t ∷ z.tokens) in let x = spec_on s y.tokens in
     record { tokens = w ∷ x.tokens; twin = along (glue (glue (after z.twin) (after y.twin)) x.twin); reads = a_definition p (extern_stands g) x.reads y.reads h o z.reads c }

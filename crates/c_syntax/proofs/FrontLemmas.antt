@@ -2,7 +2,7 @@
 use Rattle.std.proofs.Common.{◌≡◌, List, [], ◌∷◌, ◌++◌, refl, ap, sym, ◌∙◌, subst}
 use Rattle.std.proofs.lemmas.List.{append_cancel_right}
 use Rattle.c_lexer.specs.declared.token.Token.{Token}
-use Rattle.c_syntax.specs.Fronts.{IsFront}
+use Rattle.c_syntax.specs.Fronts.{IsFrontPhrase}
 use Rattle.c_syntax.proofs.Twins.{Twin, here, along, On, OnAt}
 
 -- the front that two lists have in common
@@ -24,7 +24,7 @@ other_is (along {t = t} q) = ap (λ x. t ∷ x) (other_is q)
 same_front : {j k l i m n : List Token} (q : Twin j k i m) (r : Twin j l i n) → front_of r ≡ front_of q
 same_front {j = j} q r = append_cancel_right (front_of r) (front_of q) j (sym (first_is r) ∙ first_is q)
 
-pub front_of_all : {R : List Token → List Token → Type 0} {i j : List Token} → ((k : List Token) → On R i j k) → IsFront R i j
+pub front_of_all : {R : List Token → List Token → Type 0} {i j : List Token} → ((k : List Token) → On R i j k) → IsFrontPhrase R i j
 front_of_all {R} {i} {j} f =
     let a : On R i j j = f j in
     record {
@@ -33,5 +33,5 @@ front_of_all {R} {i} {j} f =
       again = λ k. let b : On R i j k = f k in subst (λ (x : List Token). R x k) (other_is b.twin ∙ ap (λ (x : List Token). x ++ k) (same_front a.twin b.twin)) b.reads;
     }
 
-pub front_of_each : {R : List Token → List Token → Type 0} {i j : List Token} → ((k : List Token) → OnAt R i j k) → IsFront R i j
+pub front_of_each : {R : List Token → List Token → Type 0} {i j : List Token} → ((k : List Token) → OnAt R i j k) → IsFrontPhrase R i j
 front_of_each {R} {i} {j} f = front_of_all (λ k. let b : OnAt R i j k = f k in record { tokens = b.tokens; twin = b.twin; reads = b.reads })

@@ -7,12 +7,12 @@ use Rattle.c_lexer.specs.declared.token.TokenKind.TheVariants.{Name, Keyword, In
 use Rattle.c_lexer.specs.declared.keyword.TheConstants.{ENUM}
 use Rattle.c_lexer.specs.declared.punctuator.TheConstants.{LEFT_BRACE}
 use Rattle.c_syntax.specs.Tree.{Ident, Storage, Spec, Expr, Declarator, Prefix, pre_increment, pre_decrement, sizeof}
-use Rattle.c_syntax.specs.Tokens.{Is, IsWord, IsName, IsInt, IsChar, IsStr, IsUnary, IsPrefix}
-use Rattle.c_syntax.specs.Specifiers.{Names, Consts, no_const, a_const, ReadsStorage, none_stands, static_stands, extern_stands}
+use Rattle.c_syntax.specs.Tokens.{Is, IsKeyword, IsNameToken, IsInt, IsChar, IsStr, IsUnary, IsPrefix}
+use Rattle.c_syntax.specs.Specifiers.{Names, Consts, no_const, a_const, ReadsStorage, no_storage_stands, static_stands, extern_stands}
 use Rattle.c_syntax.specs.Specifiers.{ReadsSpec, is_void, is_char, is_unsigned_char, is_int, is_signed, is_signed_int, is_unsigned, is_unsigned_int, is_struct, is_enum}
 use Rattle.c_syntax.specs.Grammar.{Level, HasName, ReadsStrings, last_string, next_string, Reads, is_name, are_strings, in_parentheses, with_suffixes, no_prefix, a_prefix, a_unary, a_sizeof_type, no_cast, a_cast, no_chain, a_chain, no_choice, a_choice, no_assignment, an_assignment, no_comma, a_comma}
 use Rattle.c_syntax.specs.Grammar.Reads.{is_int as int_stands, is_char as char_stands}
-use Rattle.c_syntax.specs.Grammar.{Declares, a_pointer, a_direct, ReadsCore, a_declared, in_brackets, no_core, Lengthens, no_more, an_array, a_function}
+use Rattle.c_syntax.specs.Grammar.{Declares, a_pointer, a_direct, ReadsCore, a_declared, declarator_in_parentheses, no_core, Lengthens, no_more, an_array, a_function}
 use Rattle.c_syntax.proofs.Ranks.{words_apart}
 
 -- 20 begins an expression, 2 is a word of a type, 3 one of storage, 11 and 12 begin labels, 21 to 30 the other statements
@@ -51,11 +51,11 @@ pub headed : {code : ℕ} {t : Token} → Is code t → head_of_kind t.kind ≡ 
 unfolding head_of_kind
 headed h = ap head_of_kind h.kind
 
-pub worded : {word : ℕ} {t : Token} → IsWord word t → head_of_kind t.kind ≡ head_of_word word
+pub worded : {word : ℕ} {t : Token} → IsKeyword word t → head_of_kind t.kind ≡ head_of_word word
 unfolding head_of_kind
 worded h = ap head_of_kind h.kind
 
-pub named : {name : List ℕ} {t : Token} → IsName name t → head_of_kind t.kind ≡ 20
+pub named : {name : List ℕ} {t : Token} → IsNameToken name t → head_of_kind t.kind ≡ 20
 unfolding head_of_kind
 named h = ap head_of_kind h.kind
 
@@ -144,7 +144,7 @@ declarator_head (a_direct p c r) h = core_head c (lengthened_name r h)
   where
     core_head : {d : ℕ} {e : Declarator} {i j : List Token} → ReadsCore d e i j → HasName e → head i ≡ 20
     core_head (a_declared n) h = named n.name
-    core_head (in_brackets o r f c) h = headed o
+    core_head (declarator_in_parentheses o r f c) h = headed o
     core_head no_core h = absurd h
 
 pub name_head : {ident : Ident} {t : Token} → Names ident t → head_of_kind t.kind ≡ 20
@@ -152,14 +152,14 @@ name_head n = named n.name
 
 -- a storage class where none stands
 pub no_storage_at : {st : Storage} {i j : List Token} → ReadsStorage st i j → head i ≡ 2 → i ≡ j
-no_storage_at none_stands h = refl
+no_storage_at no_storage_stands h = refl
 no_storage_at (static_stands w) h = absurd (omega (arith, worded w))
 no_storage_at (extern_stands w) h = absurd (omega (arith, worded w))
 
-other_word : {a b : ℕ} {t v : Token} → v ≡ t → IsWord a t → IsWord b v → a ≡ b
-other_word {b = b} {t = t} q h k = let w : IsWord b t = rw q at k in words_apart h w
+other_word : {a b : ℕ} {t v : Token} → v ≡ t → IsKeyword a t → IsKeyword b v → a ≡ b
+other_word {b = b} {t = t} q h k = let w : IsKeyword b t = rw q at k in words_apart h w
 
-consts_enum : {t v : Token} {i j : List Token} → Consts (t ∷ i) (v ∷ j) → IsWord ENUM t → v ∷ j ≡ t ∷ i
+consts_enum : {t v : Token} {i j : List Token} → Consts (t ∷ i) (v ∷ j) → IsKeyword ENUM t → v ∷ j ≡ t ∷ i
 consts_enum no_const h = refl
 consts_enum (a_const w c) h = absurd (omega (arith, words_apart h w))
 
@@ -170,7 +170,7 @@ name_second : {t v u o : Token} {i j : List Token} → v ∷ u ∷ j ≡ t ∷ o
 name_second q = ap second q
 
 -- the word enum with a brace after it is no type
-pub no_bare_enum : {s : Spec} {t u : Token} {i j : List Token} → ReadsSpec s (t ∷ u ∷ i) j → IsWord ENUM t → Is LEFT_BRACE u → ⊥
+pub no_bare_enum : {s : Spec} {t u : Token} {i j : List Token} → ReadsSpec s (t ∷ u ∷ i) j → IsKeyword ENUM t → Is LEFT_BRACE u → ⊥
 no_bare_enum (is_void c w a) h o = omega (arith, other_word (first_equal (consts_enum c h)) h w)
 no_bare_enum (is_char c w a) h o = omega (arith, other_word (first_equal (consts_enum c h)) h w)
 no_bare_enum (is_unsigned_char c w a v b) h o = omega (arith, other_word (first_equal (consts_enum c h)) h w)

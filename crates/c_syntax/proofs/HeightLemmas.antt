@@ -2,12 +2,12 @@
 use Rattle.std.proofs.Common.{◌≡◌, ℕ, suc, max, refl, ap, sym, ◌∙◌}
 use Rattle.c_syntax.specs.Tree.{Expr, a_name, an_int, a_char, a_str, comma, sizeof_type, cast, call, member, postfix, prefix, unary, index, binary, assign, conditional}
 use Rattle.c_syntax.specs.Tree.{Exprs, no_exprs, more_exprs, Maybe, absent, there, TypeName, type_name, Declarator, nothing, named, pointer, array, function, Params, no_params, more_params}
-use Rattle.c_syntax.specs.Tree.{Init, one, list, Inits, no_inits, more_inits, Value, no_value, value, Parts, no_parts, more_parts, Decl, decl}
+use Rattle.c_syntax.specs.Tree.{Init, one, list, Inits, no_inits, more_inits, MaybeInit, no_init, an_init, Parts, no_parts, more_parts, Decl, decl}
 use Rattle.c_syntax.specs.Tree.{First, first_absent, first_expr, first_decl, Labels, no_labels, case_label, default_label}
-use Rattle.c_syntax.specs.Tree.{Stmt, block, empty, evaluate, only_if, if_else, while_loop, do_loop, for_loop, switch_on, break_off, continue_on, return_from, Items, no_items, decl_item, stmt_item, Stmts, no_stmts, more_stmts, Groups, no_groups, more_groups}
-use Rattle.c_syntax.specs.Tree.{Declarators, no_declarators, more_declarators, Members, no_members, more_members, Enumerators, no_enumerators, more_enumerators, Outer, struct_outer, enum_outer, tag_outer, decl_outer, function_outer, Outers, no_outers, more_outers}
-use Rattle.c_syntax.specs.Limits.{height, height_of_exprs, height_of_maybe, height_of_type, height_of_declarator, height_of_params, height_of_init, height_of_inits, height_of_value, height_of_parts, height_of_decl, height_of_first, height_of_labels, height_of_stmt, height_of_items, height_of_stmts, height_of_groups, height_of_declarators, height_of_members, height_of_enumerators, height_of_outer, height_of_unit}
-use Rattle.c_syntax.specs.Same.{unplaced, unplaced_exprs, unplaced_maybe, unplaced_type, unplaced_declarator, unplaced_params, unplaced_init, unplaced_inits, unplaced_value, unplaced_parts, unplaced_decl, unplaced_first, unplaced_labels, unplaced_stmt, unplaced_items, unplaced_stmts, unplaced_groups, unplaced_declarators, unplaced_members, unplaced_enumerators, unplaced_outer, unplaced_unit, AreSame}
+use Rattle.c_syntax.specs.Tree.{Stmt, block, empty, evaluate, only_if, if_else, while_loop, do_loop, for_loop, switch_on, break_off, continue_on, return_from, BlockItems, no_block_items, block_decl, block_stmt, Stmts, no_stmts, more_stmts, Groups, no_groups, more_groups}
+use Rattle.c_syntax.specs.Tree.{Declarators, no_declarators, more_declarators, Members, no_members, more_members, Enumerators, no_enumerators, more_enumerators, Item, struct_item, enum_item, tag_item, decl_item, function_item, Items, no_items, more_items}
+use Rattle.c_syntax.specs.Limits.{height, height_of_exprs, height_of_maybe, height_of_type, height_of_declarator, height_of_params, height_of_init, height_of_inits, height_of_maybe_init, height_of_parts, height_of_decl, height_of_first, height_of_labels, height_of_stmt, height_of_block_items, height_of_stmts, height_of_groups, height_of_declarators, height_of_members, height_of_enumerators, height_of_item, height_of_unit}
+use Rattle.c_syntax.specs.Same.{unplaced, unplaced_exprs, unplaced_maybe, unplaced_type, unplaced_declarator, unplaced_params, unplaced_init, unplaced_inits, unplaced_maybe_init, unplaced_parts, unplaced_decl, unplaced_first, unplaced_labels, unplaced_stmt, unplaced_block_items, unplaced_stmts, unplaced_groups, unplaced_declarators, unplaced_members, unplaced_enumerators, unplaced_item, unplaced_unit, AreSame}
 
 both : {a b x y : ℕ} → a ≡ x → b ≡ y → max a b ≡ max x y
 both p q = cc
@@ -62,13 +62,13 @@ mutual
   inits_height no_inits = refl
   inits_height (more_inits a is) = both (init_height a) (inits_height is)
 
-value_height : (v : Value) → height_of_value (unplaced_value v) ≡ height_of_value v
-value_height no_value = refl
-value_height (value a) = init_height a
+maybe_init_height : (v : MaybeInit) → height_of_maybe_init (unplaced_maybe_init v) ≡ height_of_maybe_init v
+maybe_init_height no_init = refl
+maybe_init_height (an_init a) = init_height a
 
 parts_height : (ps : Parts) → height_of_parts (unplaced_parts ps) ≡ height_of_parts ps
 parts_height no_parts = refl
-parts_height (more_parts e v ps) = both (declarator_height e) (both (value_height v) (parts_height ps))
+parts_height (more_parts e v ps) = both (declarator_height e) (both (maybe_init_height v) (parts_height ps))
 
 decl_height : (x : Decl) → height_of_decl (unplaced_decl x) ≡ height_of_decl x
 decl_height (decl at st s ps) = parts_height ps
@@ -85,7 +85,7 @@ labels_height (default_label at ls) = labels_height ls
 
 mutual
   stmt_height : (s : Stmt) → height_of_stmt (unplaced_stmt s) ≡ height_of_stmt s
-  stmt_height (block at is) = ap suc (items_height is)
+  stmt_height (block at is) = ap suc (block_items_height is)
   stmt_height (empty at) = refl
   stmt_height (evaluate at e) = ap suc (expr_height e)
   stmt_height (only_if at e s) = ap suc (both (expr_height e) (stmt_height s))
@@ -98,10 +98,10 @@ mutual
   stmt_height (continue_on at) = refl
   stmt_height (return_from at e) = ap suc (maybe_height e)
 
-  items_height : (is : Items) → height_of_items (unplaced_items is) ≡ height_of_items is
-  items_height no_items = refl
-  items_height (decl_item x is) = both (decl_height x) (items_height is)
-  items_height (stmt_item s is) = both (stmt_height s) (items_height is)
+  block_items_height : (is : BlockItems) → height_of_block_items (unplaced_block_items is) ≡ height_of_block_items is
+  block_items_height no_block_items = refl
+  block_items_height (block_decl x is) = both (decl_height x) (block_items_height is)
+  block_items_height (block_stmt s is) = both (stmt_height s) (block_items_height is)
 
   stmts_height : (ss : Stmts) → height_of_stmts (unplaced_stmts ss) ≡ height_of_stmts ss
   stmts_height no_stmts = refl
@@ -123,17 +123,17 @@ enumerators_height : (es : Enumerators) → height_of_enumerators (unplaced_enum
 enumerators_height no_enumerators = refl
 enumerators_height (more_enumerators x e es) = both (maybe_height e) (enumerators_height es)
 
-outer_height : (a : Outer) → height_of_outer (unplaced_outer a) ≡ height_of_outer a
-outer_height (struct_outer at x ms) = members_height ms
-outer_height (enum_outer at g es) = enumerators_height es
-outer_height (tag_outer at x) = refl
-outer_height (decl_outer at x) = decl_height x
-outer_height (function_outer at st s e b) = both (declarator_height e) (stmt_height b)
+item_height : (a : Item) → height_of_item (unplaced_item a) ≡ height_of_item a
+item_height (struct_item at x ms) = members_height ms
+item_height (enum_item at g es) = enumerators_height es
+item_height (tag_item at x) = refl
+item_height (decl_item at x) = decl_height x
+item_height (function_item at st s e b) = both (declarator_height e) (stmt_height b)
 
-unit_height : (u : Outers) → height_of_unit (unplaced_unit u) ≡ height_of_unit u
-unit_height no_outers = refl
-unit_height (more_outers a u) = both (outer_height a) (unit_height u)
+unit_height : (u : Items) → height_of_unit (unplaced_unit u) ≡ height_of_unit u
+unit_height no_items = refl
+unit_height (more_items a u) = both (item_height a) (unit_height u)
 
 -- units that are the same have nodes of the same depth
-pub same_height : (u v : Outers) → AreSame u v → height_of_unit u ≡ height_of_unit v
+pub same_height : (u v : Items) → AreSame u v → height_of_unit u ≡ height_of_unit v
 same_height u v q = sym (unit_height u) ∙ (ap height_of_unit q ∙ unit_height v)

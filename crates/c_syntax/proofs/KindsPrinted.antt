@@ -6,12 +6,12 @@ use Rattle.c_lexer.specs.declared.token.TokenKind.{TokenKind}
 use Rattle.c_lexer.specs.declared.token.TokenKind.TheVariants.{Name, Int, Char, Str, Punct}
 use Rattle.c_lexer.specs.Kinds.{IsKind, IsByte}
 use Rattle.c_syntax.specs.Tree.{Ident, Storage, Spec, Postfix, post_increment, post_decrement, Prefix, pre_increment, pre_decrement, sizeof, Access, dot, arrow, Expr, Exprs, Maybe, TypeName, Declarator, Params}
-use Rattle.c_syntax.specs.Tokens.{Is, IsName, IsInt, IsChar, IsStr}
-use Rattle.c_syntax.specs.Specifiers.{Names, ReadsStorage, none_stands, static_stands, extern_stands, ReadsSpec, is_void, is_char, is_unsigned_char, is_int, is_signed, is_signed_int, is_unsigned, is_unsigned_int, is_struct, is_enum}
+use Rattle.c_syntax.specs.Tokens.{Is, IsNameToken, IsInt, IsChar, IsStr}
+use Rattle.c_syntax.specs.Specifiers.{Names, ReadsStorage, no_storage_stands, static_stands, extern_stands, ReadsSpec, is_void, is_char, is_unsigned_char, is_int, is_signed, is_signed_int, is_unsigned, is_unsigned_int, is_struct, is_enum}
 use Rattle.c_syntax.specs.Grammar.{Level, ReadsStrings, last_string, next_string}
 use Rattle.c_syntax.specs.Grammar.{Reads, is_name, is_int, is_char, are_strings, in_parentheses, with_suffixes, no_prefix, a_prefix, a_unary, a_sizeof_type, no_cast, a_cast, no_chain, a_chain, no_choice, a_choice, no_assignment, an_assignment, no_comma, a_comma}
 use Rattle.c_syntax.specs.Grammar.{ReadsList, last_expr, next_expr, Suffixes, no_suffix, an_index, an_empty_call, a_call, a_member, a_postfix, Chain, no_operator, an_operator}
-use Rattle.c_syntax.specs.Grammar.{ReadsSize, no_size, a_size, ReadsType, a_type, Declares, a_pointer, a_direct, ReadsCore, a_declared, in_brackets, no_core, Lengthens, no_more, an_array, a_function, ReadsParams, are_none, are_some, ReadsEach, last_param, next_param}
+use Rattle.c_syntax.specs.Grammar.{ReadsSize, no_size, a_size, ReadsType, a_type, Declares, a_pointer, a_direct, ReadsCore, a_declared, declarator_in_parentheses, no_core, Lengthens, no_more, an_array, a_function, ReadsParams, are_none, are_some, ReadsEach, last_param, next_param}
 use Rattle.c_syntax.specs.Print.{storage_kinds, spec_kinds, prefix_kind, postfix_kind, access_kind, is_bare, wrapped, is_direct, expr_kinds, list_kinds, next_kinds, size_kinds, type_kinds, declarator_kinds, params_kinds, next_params}
 
 -- some text spells each of the kinds
@@ -27,7 +27,7 @@ pub record Prints (f : List TokenKind → List TokenKind) : Type 0 where
 pub mark_kind : {op : ℕ} {t : Token} → Is op t → IsKind (Punct op)
 mark_kind {op} {t} g = subst IsKind g.kind t.given
 
-named_kind : {n : List ℕ} {t : Token} → IsName n t → IsKind (Name n)
+named_kind : {n : List ℕ} {t : Token} → IsNameToken n t → IsKind (Name n)
 named_kind {n} {t} g = subst IsKind g.kind t.given
 
 int_kind : {n : ℕ} {u : Bool} {t : Token} → IsInt n u t → IsKind (Int n u)
@@ -51,7 +51,7 @@ strings_kind (last_string h) = str_kind h
 strings_kind (next_string {front = a} {rest = b} h r q) = subst (λ (x : List ℕ). IsKind (Str x)) (sym q) (All-append IsByte a b (str_kind h) (strings_kind r))
 
 pub storage_prints : {s : Storage} {i j : List Token} → ReadsStorage s i j → Prints (storage_kinds s)
-storage_prints none_stands = record { put = λ k h. h }
+storage_prints no_storage_stands = record { put = λ k h. h }
 storage_prints (static_stands g) = record { put = λ k h. (lit< tt, h) }
 storage_prints (extern_stands g) = record { put = λ k h. (lit< tt, h) }
 
@@ -137,7 +137,7 @@ mutual
 
   core_prints : {d : ℕ} {e : Declarator} {i j : List Token} → ReadsCore d e i j → Prints (declarator_kinds e)
   core_prints (a_declared n) = record { put = λ k h. (name_kind n, h) }
-  core_prints (in_brackets o r g c) = declarator_prints r
+  core_prints (declarator_in_parentheses o r g c) = declarator_prints r
   core_prints no_core = record { put = λ k h. h }
 
   lengthens_print : {d at : ℕ} {a e : Declarator} {i j : List Token} → Lengthens d at a e i j → Prints (declarator_kinds a) → Prints (declarator_kinds e)

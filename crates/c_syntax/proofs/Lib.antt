@@ -40,7 +40,6 @@ pub mod ReadBack
 pub mod Rows
 pub mod StmtCases
 pub mod TokenTexts
-pub mod TagUnit
 pub mod Trials
 pub mod TrialsRefused
 pub mod Twins

@@ -5,7 +5,7 @@ use Rattle.c_syntax.specs.Tree.{Expr, Exprs, Maybe, TypeName, Declarator, Params
 use Rattle.c_syntax.specs.Grammar.{Level}
 use Rattle.c_syntax.specs.Grammar.{Reads, is_name, is_int, is_char, are_strings, in_parentheses, with_suffixes, no_prefix, a_prefix, a_unary, a_sizeof_type, no_cast, a_cast, no_chain, a_chain, no_choice, a_choice, no_assignment, an_assignment, no_comma, a_comma}
 use Rattle.c_syntax.specs.Grammar.{ReadsList, last_expr, next_expr, Suffixes, no_suffix, an_index, an_empty_call, a_call, a_member, a_postfix, Chain, no_operator, an_operator}
-use Rattle.c_syntax.specs.Grammar.{ReadsSize, no_size, a_size, ReadsType, a_type, Declares, a_pointer, a_direct, ReadsCore, a_declared, in_brackets, no_core, Lengthens, no_more, an_array, a_function, ReadsParams, are_none, are_some, ReadsEach, last_param, next_param}
+use Rattle.c_syntax.specs.Grammar.{ReadsSize, no_size, a_size, ReadsType, a_type, Declares, a_pointer, a_direct, ReadsCore, a_declared, declarator_in_parentheses, no_core, Lengthens, no_more, an_array, a_function, ReadsParams, are_none, are_some, ReadsEach, last_param, next_param}
 
 mutual
   pub wide : {d x : ℕ} {l : Level} {e : Expr} {i j : List Token} → Reads d l e i j → d ≤ x → Reads x l e i j
@@ -60,8 +60,8 @@ mutual
 
   pub wide_core : {d x : ℕ} {e : Declarator} {i j : List Token} → ReadsCore d e i j → d ≤ x → ReadsCore x e i j
   wide_core (a_declared n) w = a_declared n
-  wide_core {x = zero} (in_brackets o r h c) w = absurd (omega arith)
-  wide_core {x = suc x} (in_brackets o r h c) w = in_brackets o (wide_declarator r (omega arith)) h c
+  wide_core {x = zero} (declarator_in_parentheses o r h c) w = absurd (omega arith)
+  wide_core {x = suc x} (declarator_in_parentheses o r h c) w = declarator_in_parentheses o (wide_declarator r (omega arith)) h c
   wide_core no_core w = no_core
 
   pub wide_lengthens : {d x at : ℕ} {a e : Declarator} {i j : List Token} → Lengthens d at a e i j → d ≤ x → Lengthens x at a e i j

@@ -2,11 +2,11 @@
 use Rattle.std.proofs.Common.{◌≡◌, ℕ, suc, List, arith}
 use Rattle.c_lexer.specs.declared.token.Token.{Token}
 use Rattle.c_syntax.specs.Tree.{Expr, Exprs, Maybe, TypeName, Declarator, Params}
-use Rattle.c_syntax.specs.Grammar.{Level, suffixed, chained, expression, Stops}
+use Rattle.c_syntax.specs.Grammar.{Level, postfix_level, binary_level, expression_level, Stops}
 use Rattle.c_syntax.specs.Grammar.{Reads, is_name, is_int, is_char, are_strings, in_parentheses, with_suffixes, no_prefix, a_prefix, a_unary, a_sizeof_type, no_cast, a_cast, no_chain, a_chain}
 use Rattle.c_syntax.specs.Grammar.{no_choice, a_choice, no_assignment, an_assignment, no_comma, a_comma, ReadsList, last_expr, next_expr}
 use Rattle.c_syntax.specs.Grammar.{Suffixes, no_suffix, an_index, an_empty_call, a_call, a_member, a_postfix, Chain, no_operator, an_operator, ReadsSize, no_size, a_size, ReadsType, a_type}
-use Rattle.c_syntax.specs.Grammar.{Declares, a_pointer, a_direct, ReadsCore, a_declared, in_brackets, no_core, Lengthens, no_more, an_array, a_function, ReadsParams, are_none, are_some, ReadsEach, last_param, next_param}
+use Rattle.c_syntax.specs.Grammar.{Declares, a_pointer, a_direct, ReadsCore, a_declared, declarator_in_parentheses, no_core, Lengthens, no_more, an_array, a_function, ReadsParams, are_none, are_some, ReadsEach, last_param, next_param}
 use Rattle.c_syntax.proofs.Ranks.{ranked}
 use Rattle.c_syntax.proofs.Ends.{EndsDeclarator, parenthesis_ends_declarator, comma_ends_declarator}
 use Rattle.c_syntax.proofs.Only.{Closes, Only, OnlyList, OnlySuffixes, OnlyChain, OnlySize, OnlyType, OnlyDeclarator, OnlyCore, OnlyLengthens, OnlyParams, OnlyEach}
@@ -40,11 +40,11 @@ mutual
   only (no_comma r) s = only_no_comma s (only r (omega arith))
   only (a_comma p r o b) s = only_comma p o (only r (omega (arith, ranked o))) (only_list b s)
 
-  pub only_list : {d : ℕ} {es : Exprs} {i j : List Token} → ReadsList d es i j → Stops expression j → OnlyList es i j
+  pub only_list : {d : ℕ} {es : Exprs} {i j : List Token} → ReadsList d es i j → Stops expression_level j → OnlyList es i j
   only_list (last_expr r) s = only_last s (only r (omega arith))
   only_list (next_expr r o b) s = only_next o (only r (omega (arith, ranked o))) (only_list b s)
 
-  pub only_suffixes : {d at : ℕ} {a e : Expr} {j k : List Token} → Suffixes d at a e j k → Stops suffixed k → OnlySuffixes at a e j k
+  pub only_suffixes : {d at : ℕ} {a e : Expr} {j k : List Token} → Suffixes d at a e j k → Stops postfix_level k → OnlySuffixes at a e j k
   only_suffixes no_suffix s = only_no_suffix s
   only_suffixes (an_index o r c w) s = only_index o (only r (omega (arith, ranked c))) (only_suffixes w s)
   only_suffixes (an_empty_call o c w) s = only_empty_call o c (only_suffixes w s)
@@ -52,7 +52,7 @@ mutual
   only_suffixes (a_member h n w) s = only_member h n (only_suffixes w s)
   only_suffixes (a_postfix h w) s = only_postfix h (only_suffixes w s)
 
-  pub only_operators : {d n at : ℕ} {a e : Expr} {j k : List Token} → Chain d n at a e j k → Stops (chained (suc n)) k → OnlyChain n at a e j k
+  pub only_operators : {d n at : ℕ} {a e : Expr} {j k : List Token} → Chain d n at a e j k → Stops (binary_level (suc n)) k → OnlyChain n at a e j k
   only_operators no_operator s = only_no_operator s
   only_operators (an_operator l h r c) s = only_operator l h (only r (chain_stops c s)) (only_operators c s)
 
@@ -69,7 +69,7 @@ mutual
 
   pub only_core : {d at : ℕ} {a e : Declarator} {i j k : List Token} → ReadsCore d a i j → Lengthens d at a e j k → EndsDeclarator k → OnlyCore a i j
   only_core (a_declared n) l s = only_declared n
-  only_core (in_brackets o r h c) l s = only_brackets o r h (only_declarator r (parenthesis_ends_declarator c))
+  only_core (declarator_in_parentheses o r h c) l s = only_brackets o r h (only_declarator r (parenthesis_ends_declarator c))
   only_core no_core l s = only_no_core l s
 
   pub only_lengthens : {d at : ℕ} {a e : Declarator} {j k : List Token} → Lengthens d at a e j k → EndsDeclarator k → OnlyLengthens at a e j k

@@ -5,7 +5,7 @@ use Rattle.c_lexer.specs.declared.token.Token.{Token}
 use Rattle.c_lexer.specs.declared.punctuator.TheConstants.{QUESTION, COMMA}
 use Rattle.c_syntax.specs.Tree.{Infix, Expr, comma, binary, assign, conditional, Exprs, no_exprs, more_exprs}
 use Rattle.c_syntax.specs.Tokens.{Is, place, rank, IsInfix, code_of_infix, IsAssignment}
-use Rattle.c_syntax.specs.Grammar.{prefixed, casting, chained, choosing, assigning, expression, Stops}
+use Rattle.c_syntax.specs.Grammar.{unary_level, cast_level, binary_level, conditional_level, assignment_level, expression_level, Stops}
 use Rattle.c_syntax.specs.Grammar.{Reads, no_cast, a_cast, no_chain, a_chain, no_choice, a_choice, no_assignment, an_assignment, no_comma, a_comma, ReadsList, last_expr, next_expr, Chain, no_operator, an_operator}
 use Rattle.c_syntax.proofs.Ranks.{ranked, ranks, apart, heads, ranked_infix, one_infix}
 use Rattle.c_syntax.proofs.Begins.{prefixed_inside, type_begins}
@@ -13,7 +13,7 @@ use Rattle.c_syntax.proofs.OnePrefix.{moved}
 use Rattle.c_syntax.proofs.Only.{Only, OnlyList, OnlyChain}
 
 -- what stands after an operand goes on with it
-pub chain_stops : {d n at : ℕ} {a e : Expr} {j k : List Token} → Chain d n at a e j k → Stops (chained (suc n)) k → Stops (chained n) j
+pub chain_stops : {d n at : ℕ} {a e : Expr} {j k : List Token} → Chain d n at a e j k → Stops (binary_level (suc n)) k → Stops (binary_level n) j
 chain_stops no_operator s = omega arith
 chain_stops {n = n} (an_operator {o = o} l h r c) s = omega (arith, ranked_infix n o l h)
 
@@ -25,14 +25,14 @@ moved_chain : {d n at it : ℕ} {a b e : Expr} {i j k : List Token} → at ≡ i
 moved_chain o p q r = rw (o, p, q) r
 
 -- chains
-at_no_operator : {x n at : ℕ} {a f : Expr} {j k : List Token} → Stops (chained (suc n)) j → Chain x n at a f j k → (a ≡ f) × (j ≡ k)
+at_no_operator : {x n at : ℕ} {a f : Expr} {j k : List Token} → Stops (binary_level (suc n)) j → Chain x n at a f j k → (a ≡ f) × (j ≡ k)
 at_no_operator s no_operator = (refl, refl)
 at_no_operator {n = n} s (an_operator {o = o} l h r c) = absurd (omega (arith, ranked_infix n o l h))
 
-pub only_no_operator : {n at : ℕ} {a : Expr} {j : List Token} → Stops (chained (suc n)) j → OnlyChain n at a a j j
+pub only_no_operator : {n at : ℕ} {a : Expr} {j : List Token} → Stops (binary_level (suc n)) j → OnlyChain n at a a j j
 only_no_operator s = record { is = λ x f k r z. at_no_operator s r }
 
-at_operator : {x n at : ℕ} {o : Infix} {a b e f : Expr} {t : Token} {i j k m : List Token} → IsInfix o (suc n) → Is (code_of_infix o) t → Only (chained n) b i j → OnlyChain n at (binary at o a b) e j k → Chain x n at a f (t ∷ i) m → Stops (chained (suc n)) m → (e ≡ f) × (k ≡ m)
+at_operator : {x n at : ℕ} {o : Infix} {a b e f : Expr} {t : Token} {i j k m : List Token} → IsInfix o (suc n) → Is (code_of_infix o) t → Only (binary_level n) b i j → OnlyChain n at (binary at o a b) e j k → Chain x n at a f (t ∷ i) m → Stops (binary_level (suc n)) m → (e ≡ f) × (k ≡ m)
 at_operator {n = n} {o = o} l h g c no_operator z = absurd (omega (arith, ranked_infix n o l h))
 at_operator {n = n} {at = at} {o = o} {a = a} l h g c (an_operator {o = q} p k r w) z =
     let v = g.is _ _ _ r (chain_stops w z) in c.is _ _ _ (moved_chain refl (alike (one_infix n o q l p h k) v.0) v.1 w) z
@@ -40,31 +40,31 @@ at_operator {n = n} {at = at} {o = o} {a = a} l h g c (an_operator {o = q} p k r
     alike : {o q : Infix} {b f : Expr} → o ≡ q → b ≡ f → binary at o a b ≡ binary at q a f
     alike p q = cc
 
-pub only_operator : {n at : ℕ} {o : Infix} {a b e : Expr} {t : Token} {i j k : List Token} → IsInfix o (suc n) → Is (code_of_infix o) t → Only (chained n) b i j → OnlyChain n at (binary at o a b) e j k → OnlyChain n at a e (t ∷ i) k
+pub only_operator : {n at : ℕ} {o : Infix} {a b e : Expr} {t : Token} {i j k : List Token} → IsInfix o (suc n) → Is (code_of_infix o) t → Only (binary_level n) b i j → OnlyChain n at (binary at o a b) e j k → OnlyChain n at a e (t ∷ i) k
 only_operator l h g c = record { is = λ x f m r z. at_operator l h g c r z }
 
 -- binary expressions
-at_no_chain : {x : ℕ} {e f : Expr} {i j k : List Token} → Only casting e i j → Reads x (chained zero) f i k → Stops (chained zero) k → (e ≡ f) × (j ≡ k)
+at_no_chain : {x : ℕ} {e f : Expr} {i j k : List Token} → Only cast_level e i j → Reads x (binary_level zero) f i k → Stops (binary_level zero) k → (e ≡ f) × (j ≡ k)
 at_no_chain h (no_chain r) z = h.is _ _ _ r z
 
-pub only_no_chain : {e : Expr} {i j : List Token} → Only casting e i j → Only (chained zero) e i j
+pub only_no_chain : {e : Expr} {i j : List Token} → Only cast_level e i j → Only (binary_level zero) e i j
 only_no_chain h = record { is = λ x f k r z. at_no_chain h r z }
 
-at_chain : {x n at : ℕ} {a e f : Expr} {i j k m : List Token} → at ≡ place i → Only (chained n) a i j → OnlyChain n at a e j k → Reads x (chained (suc n)) f i m → Stops (chained (suc n)) m → (e ≡ f) × (k ≡ m)
+at_chain : {x n at : ℕ} {a e f : Expr} {i j k m : List Token} → at ≡ place i → Only (binary_level n) a i j → OnlyChain n at a e j k → Reads x (binary_level (suc n)) f i m → Stops (binary_level (suc n)) m → (e ≡ f) × (k ≡ m)
 at_chain p h c (a_chain q r w) z = let u = h.is _ _ _ r (chain_stops w z) in c.is _ _ _ (moved_chain (p ∙ sym q) u.0 u.1 w) z
 
-pub only_chain : {n at : ℕ} {a e : Expr} {i j k : List Token} → at ≡ place i → Only (chained n) a i j → OnlyChain n at a e j k → Only (chained (suc n)) e i k
+pub only_chain : {n at : ℕ} {a e : Expr} {i j k : List Token} → at ≡ place i → Only (binary_level n) a i j → OnlyChain n at a e j k → Only (binary_level (suc n)) e i k
 only_chain p h c = record { is = λ x f m r z. at_chain p h c r z }
 
 -- conditional expressions
-at_no_choice : {x : ℕ} {e f : Expr} {i j k : List Token} → Stops choosing j → Only (chained 10) e i j → Reads x choosing f i k → Stops choosing k → (e ≡ f) × (j ≡ k)
+at_no_choice : {x : ℕ} {e f : Expr} {i j k : List Token} → Stops conditional_level j → Only (binary_level 10) e i j → Reads x conditional_level f i k → Stops conditional_level k → (e ≡ f) × (j ≡ k)
 at_no_choice s h (no_choice r) z = h.is _ _ _ r (omega arith)
 at_no_choice s h (a_choice p r q b c g) z = absurd (let v = h.is _ _ _ r (omega (arith, ranked q)) in omega (arith, ranked q, ranks v.1))
 
-pub only_no_choice : {e : Expr} {i j : List Token} → Stops choosing j → Only (chained 10) e i j → Only choosing e i j
+pub only_no_choice : {e : Expr} {i j : List Token} → Stops conditional_level j → Only (binary_level 10) e i j → Only conditional_level e i j
 only_no_choice s h = record { is = λ x f k r z. at_no_choice s h r z }
 
-at_choice : {x at : ℕ} {a b c f : Expr} {t u : Token} {i j k m n : List Token} → at ≡ place i → Is QUESTION t → Only (chained 10) a i (t ∷ j) → Only expression b j (u ∷ k) → Only choosing c k m → Reads x choosing f i n → Stops choosing n → (conditional at a b c ≡ f) × (m ≡ n)
+at_choice : {x at : ℕ} {a b c f : Expr} {t u : Token} {i j k m n : List Token} → at ≡ place i → Is QUESTION t → Only (binary_level 10) a i (t ∷ j) → Only expression_level b j (u ∷ k) → Only conditional_level c k m → Reads x conditional_level f i n → Stops conditional_level n → (conditional at a b c ≡ f) × (m ≡ n)
 at_choice p o h g e (no_choice r) z = absurd (let v = h.is _ _ _ r (omega arith) in omega (arith, ranked o, ranks v.1))
 at_choice p o h g e (a_choice q r y b l c) z =
     let v = h.is _ _ _ r (omega (arith, ranked y)) in
@@ -74,32 +74,32 @@ at_choice p o h g e (a_choice q r y b l c) z =
     alike : {at it : ℕ} {a b c x y z : Expr} → at ≡ it → a ≡ x → b ≡ y → c ≡ z → conditional at a b c ≡ conditional it x y z
     alike p q r s = cc
 
-pub only_choice : {at : ℕ} {a b c : Expr} {t u : Token} {i j k m : List Token} → at ≡ place i → Is QUESTION t → Only (chained 10) a i (t ∷ j) → Only expression b j (u ∷ k) → Only choosing c k m → Only choosing (conditional at a b c) i m
+pub only_choice : {at : ℕ} {a b c : Expr} {t u : Token} {i j k m : List Token} → at ≡ place i → Is QUESTION t → Only (binary_level 10) a i (t ∷ j) → Only expression_level b j (u ∷ k) → Only conditional_level c k m → Only conditional_level (conditional at a b c) i m
 only_choice p o h g e = record { is = λ x f n r z. at_choice p o h g e r z }
 
 -- an expression of prefix operators is one of each level up to a choice
-lifted : {d : ℕ} {e : Expr} {i j : List Token} → Reads d prefixed e i j → Reads d choosing e i j
+lifted : {d : ℕ} {e : Expr} {i j : List Token} → Reads d unary_level e i j → Reads d conditional_level e i j
 lifted r = no_choice (up (up (up (up (up (up (up (up (up (up (no_chain (no_cast r))))))))))))
   where
-    up : {d n : ℕ} {e : Expr} {i j : List Token} → Reads d (chained n) e i j → Reads d (chained (suc n)) e i j
+    up : {d n : ℕ} {e : Expr} {i j : List Token} → Reads d (binary_level n) e i j → Reads d (binary_level (suc n)) e i j
     up r = a_chain refl r no_operator
 
 -- the operand at the front of a chain or a choice, and what stands after it
 record Leads (d high : ℕ) (i j : List Token) : Type 0 where
   pub operand : Expr
   pub after : List Token
-  pub reads : Reads d casting operand i after
+  pub reads : Reads d cast_level operand i after
   pub rest : (after ≡ j) ⊎ ((2 ≤ rank after) × (rank after ≤ high))
 
 lead_on : {d n at : ℕ} {a e : Expr} {i j k : List Token} → Chain d n at a e j k → Leads d (suc n) i j → Leads d (suc (suc n)) i k
 lead_on no_operator l = record { operand = l.operand; after = l.after; reads = l.reads; rest = elim l.rest [ inl e ↦ inl e | inr h ↦ inr (h.0, omega (arith, h.1)) ] }
 lead_on {n = n} (an_operator {o = o} {t = t} {i = j} p h r c) l = record { operand = l.operand; after = l.after; reads = l.reads; rest = inr (elim l.rest [ inl e ↦ (omega (arith, ranks e, ranked_infix n o p h), omega (arith, ranks e, ranked_infix n o p h)) | inr h ↦ (h.0, omega (arith, h.1)) ]) }
 
-leads : {d n : ℕ} {e : Expr} {i j : List Token} → Reads d (chained n) e i j → Leads d (suc n) i j
+leads : {d n : ℕ} {e : Expr} {i j : List Token} → Reads d (binary_level n) e i j → Leads d (suc n) i j
 leads (no_chain r) = record { operand = _; after = _; reads = r; rest = inl refl }
 leads (a_chain p r c) = lead_on c (leads r)
 
-front : {d : ℕ} {e : Expr} {i j : List Token} → Reads d choosing e i j → Leads d 12 i j
+front : {d : ℕ} {e : Expr} {i j : List Token} → Reads d conditional_level e i j → Leads d 12 i j
 front (no_choice r) = let l = leads r in record { operand = l.operand; after = l.after; reads = l.reads; rest = elim l.rest [ inl e ↦ inl e | inr h ↦ inr (h.0, omega (arith, h.1)) ] }
 front (a_choice p r q b c g) = let l = leads r in record { operand = l.operand; after = l.after; reads = l.reads; rest = inr (elim l.rest [ inl e ↦ (omega (arith, ranks e, ranked q), omega (arith, ranks e, ranked q)) | inr h ↦ (h.0, omega (arith, h.1)) ]) }
 
@@ -109,20 +109,20 @@ lead_stops l (inl e) z = (omega (arith, ranks e), λ q. omega (arith, ranks e))
 lead_stops l (inr h) z = (h.0, λ q. omega (arith, h.1))
 
 -- assignment expressions
-at_no_assignment : {x : ℕ} {e f : Expr} {i j k : List Token} → Stops assigning j → Only choosing e i j → Reads x assigning f i k → Stops assigning k → (e ≡ f) × (j ≡ k)
+at_no_assignment : {x : ℕ} {e f : Expr} {i j k : List Token} → Stops assignment_level j → Only conditional_level e i j → Reads x assignment_level f i k → Stops assignment_level k → (e ≡ f) × (j ≡ k)
 at_no_assignment s h (no_assignment r) z = h.is _ _ _ r (omega arith)
 at_no_assignment s h (an_assignment p r o u b) z =
     absurd (let v = h.is _ _ _ (lifted r) (omega (arith, ranked o, u.is)) in omega (arith, ranked o, u.is, ranks v.1))
 
-pub only_no_assignment : {e : Expr} {i j : List Token} → Stops assigning j → Only choosing e i j → Only assigning e i j
+pub only_no_assignment : {e : Expr} {i j : List Token} → Stops assignment_level j → Only conditional_level e i j → Only assignment_level e i j
 only_no_assignment s h = record { is = λ x f k r z. at_no_assignment s h r z }
 
 -- a prefix expression before an assignment operator begins no conditional expression
-at_operand : {d x : ℕ} {a f : Expr} {i j m : List Token} → Reads d prefixed a i j → Only prefixed a i j → Reads x casting f i m → 2 ≤ rank m → j ≡ m
+at_operand : {d x : ℕ} {a f : Expr} {i j m : List Token} → Reads d unary_level a i j → Only unary_level a i j → Reads x cast_level f i m → 2 ≤ rank m → j ≡ m
 at_operand b h (no_cast r) z = (h.is _ _ _ r z).1
 at_operand b h (a_cast o n c r) z = absurd (omega (arith, prefixed_inside b o, (type_begins n).0))
 
-at_assignment : {d x at op : ℕ} {a b f : Expr} {t : Token} {i j k m : List Token} → at ≡ place i → Reads d prefixed a i (t ∷ j) → Is op t → IsAssignment op → Only prefixed a i (t ∷ j) → Only assigning b j k → Reads x assigning f i m → Stops assigning m → (assign at op a b ≡ f) × (k ≡ m)
+at_assignment : {d x at op : ℕ} {a b f : Expr} {t : Token} {i j k m : List Token} → at ≡ place i → Reads d unary_level a i (t ∷ j) → Is op t → IsAssignment op → Only unary_level a i (t ∷ j) → Only assignment_level b j k → Reads x assignment_level f i m → Stops assignment_level m → (assign at op a b ≡ f) × (k ≡ m)
 at_assignment p y o u h g (no_assignment r) z =
     absurd (let l = front r in let s = lead_stops (omega arith) l.rest z in s.1 (sym (ranks (at_operand y h l.reads s.0)) ∙ ranked o ∙ u.is))
 at_assignment p y o u h g (an_assignment q r l w b) z =
@@ -135,18 +135,18 @@ at_assignment p y o u h g (an_assignment q r l w b) z =
     alike : {at it o q : ℕ} {a b x y : Expr} → at ≡ it → o ≡ q → a ≡ x → b ≡ y → assign at o a b ≡ assign it q x y
     alike p q r s = cc
 
-pub only_assignment : {d at op : ℕ} {a b : Expr} {t : Token} {i j k : List Token} → at ≡ place i → Reads d prefixed a i (t ∷ j) → Is op t → IsAssignment op → Only prefixed a i (t ∷ j) → Only assigning b j k → Only assigning (assign at op a b) i k
+pub only_assignment : {d at op : ℕ} {a b : Expr} {t : Token} {i j k : List Token} → at ≡ place i → Reads d unary_level a i (t ∷ j) → Is op t → IsAssignment op → Only unary_level a i (t ∷ j) → Only assignment_level b j k → Only assignment_level (assign at op a b) i k
 only_assignment p y o u h g = record { is = λ x f m r z. at_assignment p y o u h g r z }
 
 -- expressions with commas
-at_no_comma : {x : ℕ} {e f : Expr} {i j k : List Token} → Stops expression j → Only assigning e i j → Reads x expression f i k → Stops expression k → (e ≡ f) × (j ≡ k)
+at_no_comma : {x : ℕ} {e f : Expr} {i j k : List Token} → Stops expression_level j → Only assignment_level e i j → Reads x expression_level f i k → Stops expression_level k → (e ≡ f) × (j ≡ k)
 at_no_comma s h (no_comma r) z = h.is _ _ _ r (omega arith)
 at_no_comma s h (a_comma p r o b) z = absurd (let v = h.is _ _ _ r (omega (arith, ranked o)) in omega (arith, ranked o, ranks v.1))
 
-pub only_no_comma : {e : Expr} {i j : List Token} → Stops expression j → Only assigning e i j → Only expression e i j
+pub only_no_comma : {e : Expr} {i j : List Token} → Stops expression_level j → Only assignment_level e i j → Only expression_level e i j
 only_no_comma s h = record { is = λ x f k r z. at_no_comma s h r z }
 
-at_comma : {x at : ℕ} {a f : Expr} {rest : Exprs} {t : Token} {i j k m : List Token} → at ≡ place i → Is COMMA t → Only assigning a i (t ∷ j) → OnlyList rest j k → Reads x expression f i m → Stops expression m → (comma at (more_exprs a rest) ≡ f) × (k ≡ m)
+at_comma : {x at : ℕ} {a f : Expr} {rest : Exprs} {t : Token} {i j k m : List Token} → at ≡ place i → Is COMMA t → Only assignment_level a i (t ∷ j) → OnlyList rest j k → Reads x expression_level f i m → Stops expression_level m → (comma at (more_exprs a rest) ≡ f) × (k ≡ m)
 at_comma p o h g (no_comma r) z = absurd (let v = h.is _ _ _ r (omega arith) in omega (arith, ranked o, ranks v.1))
 at_comma p o h g (a_comma q r l b) z =
     let v = h.is _ _ _ r (omega (arith, ranked l)) in
@@ -155,18 +155,18 @@ at_comma p o h g (a_comma q r l b) z =
     alike : {at it : ℕ} {a x : Expr} {b y : Exprs} → at ≡ it → a ≡ x → b ≡ y → comma at (more_exprs a b) ≡ comma it (more_exprs x y)
     alike p q r = cc
 
-pub only_comma : {at : ℕ} {a : Expr} {rest : Exprs} {t : Token} {i j k : List Token} → at ≡ place i → Is COMMA t → Only assigning a i (t ∷ j) → OnlyList rest j k → Only expression (comma at (more_exprs a rest)) i k
+pub only_comma : {at : ℕ} {a : Expr} {rest : Exprs} {t : Token} {i j k : List Token} → at ≡ place i → Is COMMA t → Only assignment_level a i (t ∷ j) → OnlyList rest j k → Only expression_level (comma at (more_exprs a rest)) i k
 only_comma p o h g = record { is = λ x f m r z. at_comma p o h g r z }
 
 -- lists of expressions
-at_last : {x : ℕ} {a : Expr} {fs : Exprs} {i j k : List Token} → Stops expression j → Only assigning a i j → ReadsList x fs i k → Stops expression k → (more_exprs a no_exprs ≡ fs) × (j ≡ k)
+at_last : {x : ℕ} {a : Expr} {fs : Exprs} {i j k : List Token} → Stops expression_level j → Only assignment_level a i j → ReadsList x fs i k → Stops expression_level k → (more_exprs a no_exprs ≡ fs) × (j ≡ k)
 at_last s h (last_expr r) z = let v = h.is _ _ _ r (omega arith) in (ap (λ e. more_exprs e no_exprs) v.0, v.1)
 at_last s h (next_expr r o b) z = absurd (let v = h.is _ _ _ r (omega (arith, ranked o)) in omega (arith, ranked o, ranks v.1))
 
-pub only_last : {a : Expr} {i j : List Token} → Stops expression j → Only assigning a i j → OnlyList (more_exprs a no_exprs) i j
+pub only_last : {a : Expr} {i j : List Token} → Stops expression_level j → Only assignment_level a i j → OnlyList (more_exprs a no_exprs) i j
 only_last s h = record { is = λ x f k r z. at_last s h r z }
 
-at_next : {x : ℕ} {a : Expr} {rest fs : Exprs} {t : Token} {i j k m : List Token} → Is COMMA t → Only assigning a i (t ∷ j) → OnlyList rest j k → ReadsList x fs i m → Stops expression m → (more_exprs a rest ≡ fs) × (k ≡ m)
+at_next : {x : ℕ} {a : Expr} {rest fs : Exprs} {t : Token} {i j k m : List Token} → Is COMMA t → Only assignment_level a i (t ∷ j) → OnlyList rest j k → ReadsList x fs i m → Stops expression_level m → (more_exprs a rest ≡ fs) × (k ≡ m)
 at_next o h g (last_expr r) z = absurd (let v = h.is _ _ _ r (omega arith) in omega (arith, ranked o, ranks v.1))
 at_next o h g (next_expr r l b) z =
     let v = h.is _ _ _ r (omega (arith, ranked l)) in
@@ -175,5 +175,5 @@ at_next o h g (next_expr r l b) z =
     alike : {a x : Expr} {b y : Exprs} → a ≡ x → b ≡ y → more_exprs a b ≡ more_exprs x y
     alike p q = cc
 
-pub only_next : {a : Expr} {rest : Exprs} {t : Token} {i j k : List Token} → Is COMMA t → Only assigning a i (t ∷ j) → OnlyList rest j k → OnlyList (more_exprs a rest) i k
+pub only_next : {a : Expr} {rest : Exprs} {t : Token} {i j k : List Token} → Is COMMA t → Only assignment_level a i (t ∷ j) → OnlyList rest j k → OnlyList (more_exprs a rest) i k
 only_next o h g = record { is = λ x f m r z. at_next o h g r z }

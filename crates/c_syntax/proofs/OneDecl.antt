@@ -2,13 +2,13 @@
 use Rattle.std.proofs.Common.{◌≡◌, ℕ, ◌≤◌, List, ◌∷◌, refl, ap, sym, ◌∙◌, arith}
 use Rattle.c_lexer.specs.declared.token.Token.{Token}
 use Rattle.c_lexer.specs.declared.punctuator.TheConstants.{RIGHT_BRACE, SEMICOLON, COMMA}
-use Rattle.c_syntax.specs.Tree.{Storage, no_storage, Spec, Maybe, Declarator, Init, Inits, Value, Parts, Decl, First, Labels}
+use Rattle.c_syntax.specs.Tree.{Storage, no_storage, Spec, Maybe, Declarator, Init, Inits, MaybeInit, Parts, Decl, First, Labels}
 use Rattle.c_syntax.specs.Tokens.{Is, rank}
 use Rattle.c_syntax.specs.Specifiers.{ReadsStorage, static_stands, extern_stands, ReadsSpec}
-use Rattle.c_syntax.specs.Specifiers.ReadsStorage.{none_stands as no_class}
+use Rattle.c_syntax.specs.Specifiers.ReadsStorage.{no_storage_stands}
 use Rattle.c_syntax.specs.Grammar.{Declares, HasName}
-use Rattle.c_syntax.specs.Statements.{ReadsInit, an_expression, a_list, a_list_with_comma, ReadsInits, last_init, next_init, ReadsValue, no_initialiser, an_initialiser, ReadsParts, last_part, next_part, ReadsDecl, a_declaration, IsPlainDecl}
-use Rattle.c_syntax.specs.Statements.{ReadsMaybe, none_stands, one_stands, ReadsFirst, first_nothing, first_expression, first_declaration, ReadsLabels, last_case, last_default, next_case, next_default}
+use Rattle.c_syntax.specs.Statements.{ReadsInit, an_expression, a_list, a_list_with_comma, ReadsInits, last_init, next_init, ReadsMaybeInit, no_initialiser, an_initialiser, ReadsParts, last_part, next_part, ReadsDecl, a_declaration, IsPlainDecl}
+use Rattle.c_syntax.specs.Statements.{ReadsMaybe, no_expression_stands, an_expression_stands, ReadsFirst, first_nothing, first_expression, first_declaration, ReadsLabels, last_case, last_default, next_case, next_default}
 use Rattle.c_syntax.proofs.Ranks.{ranked, heads}
 use Rattle.c_syntax.proofs.Ends.{EndsDeclarator, EndsSpec, started}
 use Rattle.c_syntax.proofs.Heads.{head, second, headed, worded, expression_head, spec_head}
@@ -18,8 +18,8 @@ use Rattle.c_syntax.proofs.One.{same, same_declarator, same_spec, same_storage, 
 moved_inits : {d : ℕ} {a : Inits} {i m j : List Token} → i ≡ m → ReadsInits d a m j → ReadsInits d a i j
 moved_inits q r = rw q r
 
-pub moved_value : {d : ℕ} {v : Value} {i m j : List Token} → i ≡ m → ReadsValue d v m j → ReadsValue d v i j
-moved_value q r = rw q r
+pub moved_maybe_init : {d : ℕ} {v : MaybeInit} {i m j : List Token} → i ≡ m → ReadsMaybeInit d v m j → ReadsMaybeInit d v i j
+moved_maybe_init q r = rw q r
 
 moved_parts : {d : ℕ} {ps : Parts} {i m j : List Token} → i ≡ m → ReadsParts d ps m j → ReadsParts d ps i j
 moved_parts q r = rw q r
@@ -80,23 +80,23 @@ mutual
       let y = same_init r v (omega (arith, ranked c)) (omega (arith, ranked b)) in
       let w = same_inits f (moved_inits (heads y.1).1 l) s z in (cc, w.1)
 
-same_value : {d x : ℕ} {a b : Value} {i j k : List Token} → ReadsValue d a i j → ReadsValue x b i k → 14 ≤ rank j → 14 ≤ rank k → (a ≡ b) × (j ≡ k)
-same_value no_initialiser no_initialiser s z = (refl, refl)
-same_value no_initialiser (an_initialiser h r) s z = absurd (omega (arith, ranked h))
-same_value (an_initialiser h r) no_initialiser s z = absurd (omega (arith, ranked h))
-same_value (an_initialiser h r) (an_initialiser o v) s z = let y = same_init r v s z in (cc, y.1)
+same_maybe_init : {d x : ℕ} {a b : MaybeInit} {i j k : List Token} → ReadsMaybeInit d a i j → ReadsMaybeInit x b i k → 14 ≤ rank j → 14 ≤ rank k → (a ≡ b) × (j ≡ k)
+same_maybe_init no_initialiser no_initialiser s z = (refl, refl)
+same_maybe_init no_initialiser (an_initialiser h r) s z = absurd (omega (arith, ranked h))
+same_maybe_init (an_initialiser h r) no_initialiser s z = absurd (omega (arith, ranked h))
+same_maybe_init (an_initialiser h r) (an_initialiser o v) s z = let y = same_init r v s z in (cc, y.1)
 
 -- a declarator ends where its initialiser, if any, begins
-pub value_ends : {d : ℕ} {a : Value} {i j : List Token} → ReadsValue d a i j → EndsDeclarator j → EndsDeclarator i
-value_ends no_initialiser s = s
-value_ends (an_initialiser h r) s = omega (arith, started h)
+pub maybe_init_ends : {d : ℕ} {a : MaybeInit} {i j : List Token} → ReadsMaybeInit d a i j → EndsDeclarator j → EndsDeclarator i
+maybe_init_ends no_initialiser s = s
+maybe_init_ends (an_initialiser h r) s = omega (arith, started h)
 
-pub value_head : {d : ℕ} {a : Value} {i j : List Token} → ReadsValue d a i j → (head j ≡ 21 → ⊥) → head i ≡ 21 → ⊥
-value_head no_initialiser f = f
-value_head (an_initialiser h r) f = λ k. omega (arith, headed h)
+pub maybe_init_head : {d : ℕ} {a : MaybeInit} {i j : List Token} → ReadsMaybeInit d a i j → (head j ≡ 21 → ⊥) → head i ≡ 21 → ⊥
+maybe_init_head no_initialiser f = f
+maybe_init_head (an_initialiser h r) f = λ k. omega (arith, headed h)
 
-pub value_at : {d : ℕ} {a : Value} {t : Token} {i j : List Token} → ReadsValue d a i (t ∷ j) → Is COMMA t → EndsDeclarator i
-value_at r c = value_ends r (omega (arith, started c))
+pub maybe_init_at : {d : ℕ} {a : MaybeInit} {t : Token} {i j : List Token} → ReadsMaybeInit d a i (t ∷ j) → Is COMMA t → EndsDeclarator i
+maybe_init_at r c = maybe_init_ends r (omega (arith, started c))
 
 -- the parts of a declaration end at a semicolon
 record EndsParts (j : List Token) : Type 0 where
@@ -109,17 +109,17 @@ semicolon_ends h = record { semicolon = headed h; stops = omega (arith, ranked h
 
 same_parts : {d x : ℕ} {a b : Parts} {i j k : List Token} → ReadsParts d a i j → ReadsParts x b i k → EndsParts j → EndsParts k → (a ≡ b) × (j ≡ k)
 same_parts (last_part r n f) (last_part v m b) s z =
-    let y = same_declarator r v (value_ends f s.ends) (value_ends b z.ends) in
-    let w = same_value f (moved_value y.1 b) s.stops z.stops in (cc, w.1)
+    let y = same_declarator r v (maybe_init_ends f s.ends) (maybe_init_ends b z.ends) in
+    let w = same_maybe_init f (moved_maybe_init y.1 b) s.stops z.stops in (cc, w.1)
 same_parts (last_part r n f) (next_part v m b c l) s z =
-    let y = same_declarator r v (value_ends f s.ends) (value_at b c) in
-    let w = same_value f (moved_value y.1 b) s.stops (omega (arith, ranked c)) in absurd (omega (arith, ap head w.1, headed c, s.semicolon))
+    let y = same_declarator r v (maybe_init_ends f s.ends) (maybe_init_at b c) in
+    let w = same_maybe_init f (moved_maybe_init y.1 b) s.stops (omega (arith, ranked c)) in absurd (omega (arith, ap head w.1, headed c, s.semicolon))
 same_parts (next_part r n f h g) (last_part v m b) s z =
-    let y = same_declarator r v (value_at f h) (value_ends b z.ends) in
-    let w = same_value f (moved_value y.1 b) (omega (arith, ranked h)) z.stops in absurd (omega (arith, ap head w.1, headed h, z.semicolon))
+    let y = same_declarator r v (maybe_init_at f h) (maybe_init_ends b z.ends) in
+    let w = same_maybe_init f (moved_maybe_init y.1 b) (omega (arith, ranked h)) z.stops in absurd (omega (arith, ap head w.1, headed h, z.semicolon))
 same_parts (next_part r n f h g) (next_part v m b c l) s z =
-    let y = same_declarator r v (value_at f h) (value_at b c) in
-    let w = same_value f (moved_value y.1 b) (omega (arith, ranked h)) (omega (arith, ranked c)) in
+    let y = same_declarator r v (maybe_init_at f h) (maybe_init_at b c) in
+    let w = same_maybe_init f (moved_maybe_init y.1 b) (omega (arith, ranked h)) (omega (arith, ranked c)) in
     let u = same_parts g (moved_parts (heads w.1).1 l) s z in (cc, u.1)
 
 parts_end_spec : {d : ℕ} {a : Parts} {i j : List Token} → ReadsParts d a i j → EndsSpec i
@@ -158,12 +158,12 @@ pub record LeadsDecl (i : List Token) : Type 0 where
 
 pub decl_leads : {d : ℕ} {a : Decl} {i j : List Token} → ReadsDecl d a i j → LeadsDecl i
 decl_leads {d} (a_declaration p r s (last_part e n v) h) = record {
-  lead = record { depth = d; storage = _; spec = _; declarator = _; types = _; names = _; after = _; stands = r; specifies = s; declares = e; named = n; ends = value_ends v (omega (arith, started h)) };
-  no_brace = value_head v (λ k. omega (arith, headed h));
+  lead = record { depth = d; storage = _; spec = _; declarator = _; types = _; names = _; after = _; stands = r; specifies = s; declares = e; named = n; ends = maybe_init_ends v (omega (arith, started h)) };
+  no_brace = maybe_init_head v (λ k. omega (arith, headed h));
 }
 decl_leads {d} (a_declaration p r s (next_part e n v c f) h) = record {
-  lead = record { depth = d; storage = _; spec = _; declarator = _; types = _; names = _; after = _; stands = r; specifies = s; declares = e; named = n; ends = value_at v c };
-  no_brace = value_head v (λ k. omega (arith, headed c));
+  lead = record { depth = d; storage = _; spec = _; declarator = _; types = _; names = _; after = _; stands = r; specifies = s; declares = e; named = n; ends = maybe_init_at v c };
+  no_brace = maybe_init_head v (λ k. omega (arith, headed c));
 }
 
 pub same_decl : {d x : ℕ} {a b : Decl} {i j k : List Token} → ReadsDecl d a i j → ReadsDecl x b i k → (a ≡ b) × (j ≡ k)
@@ -174,7 +174,7 @@ same_decl (a_declaration p r s f h) (a_declaration q v z b c) =
     (cc, (heads u.1).1)
 
 pub storage_head : {s : Storage} {i j : List Token} → ReadsStorage s i j → head j ≡ 2 → (2 ≤ head i) × (head i ≤ 3)
-storage_head no_class h = (omega arith, omega arith)
+storage_head no_storage_stands h = (omega arith, omega arith)
 storage_head (static_stands w) h = (omega (arith, worded w), omega (arith, worded w))
 storage_head (extern_stands w) h = (omega (arith, worded w), omega (arith, worded w))
 
@@ -182,7 +182,7 @@ pub decl_head : {d : ℕ} {a : Decl} {i j : List Token} → ReadsDecl d a i j �
 decl_head (a_declaration p r s f h) = storage_head r (spec_head s)
 
 bare_storage : {s : Storage} {i j : List Token} → ReadsStorage s i j → s ≡ no_storage → i ≡ j
-bare_storage no_class h = refl
+bare_storage no_storage_stands h = refl
 bare_storage (static_stands w) h = absurd (cc)
 bare_storage (extern_stands w) h = absurd (cc)
 
@@ -195,10 +195,10 @@ pub record Closes (j : List Token) : Type 0 where
   pub ends : head j ≡ 20 → ⊥
 
 pub same_maybe : {d x : ℕ} {a b : Maybe} {i j k : List Token} → ReadsMaybe d a i j → ReadsMaybe x b i k → Closes j → Closes k → (a ≡ b) × (j ≡ k)
-same_maybe none_stands none_stands s z = (refl, refl)
-same_maybe none_stands (one_stands v) s z = absurd (s.ends (expression_head v))
-same_maybe (one_stands r) none_stands s z = absurd (z.ends (expression_head r))
-same_maybe (one_stands r) (one_stands v) s z = let y = same r v s.stops z.stops in (cc, y.1)
+same_maybe no_expression_stands no_expression_stands s z = (refl, refl)
+same_maybe no_expression_stands (an_expression_stands v) s z = absurd (s.ends (expression_head v))
+same_maybe (an_expression_stands r) no_expression_stands s z = absurd (z.ends (expression_head r))
+same_maybe (an_expression_stands r) (an_expression_stands v) s z = let y = same r v s.stops z.stops in (cc, y.1)
 
 pub same_first : {d x : ℕ} {a b : First} {i j k : List Token} → ReadsFirst d a i j → ReadsFirst x b i k → (a ≡ b) × (j ≡ k)
 same_first (first_nothing h) (first_nothing o) = (refl, refl)

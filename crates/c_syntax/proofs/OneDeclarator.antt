@@ -6,8 +6,8 @@ use Rattle.c_lexer.specs.declared.punctuator.TheConstants.{LEFT_BRACKET, RIGHT_B
 use Rattle.c_syntax.specs.Tree.{Ident, Spec, void, Expr, Maybe, absent, there, TypeName, type_name, Declarator, nothing, named, pointer, array, function, Params, no_params, more_params}
 use Rattle.c_syntax.specs.Tokens.{Is, place}
 use Rattle.c_syntax.specs.Specifiers.{Names, Consts, ReadsSpec}
-use Rattle.c_syntax.specs.Grammar.{choosing, IsThere, AreSome, Reads, ReadsSize, no_size, a_size, ReadsType, a_type}
-use Rattle.c_syntax.specs.Grammar.{Declares, a_pointer, a_direct, ReadsCore, a_declared, in_brackets, no_core, Lengthens, no_more, an_array, a_function, ReadsParams, are_none, are_some, ReadsEach, last_param, next_param}
+use Rattle.c_syntax.specs.Grammar.{conditional_level, IsThere, AreSome, Reads, ReadsSize, no_size, a_size, ReadsType, a_type}
+use Rattle.c_syntax.specs.Grammar.{Declares, a_pointer, a_direct, ReadsCore, a_declared, declarator_in_parentheses, no_core, Lengthens, no_more, an_array, a_function, ReadsParams, are_none, are_some, ReadsEach, last_param, next_param}
 use Rattle.c_syntax.proofs.Ranks.{ranked, ranks, apart, one_ident, heads}
 use Rattle.c_syntax.proofs.Ends.{start, starts, started, started_name, EndsDeclarator, EndsSpec, parenthesis_ends_declarator, comma_ends_declarator}
 use Rattle.c_syntax.proofs.OneSpecifier.{same_consts, same_spec}
@@ -42,11 +42,11 @@ at_no_size s (a_size r) = absurd (omega (arith, (choosing_begins r).0, s.none))
 pub only_no_size : {i : List Token} → Closes i → OnlySize absent i i
 only_no_size s = record { is = λ x n k r z. at_no_size s r }
 
-at_size : {d x : ℕ} {e : Expr} {n : Maybe} {i j k : List Token} → Reads d choosing e i j → Only choosing e i j → ReadsSize x n i k → Closes k → (there e ≡ n) × (j ≡ k)
+at_size : {d x : ℕ} {e : Expr} {n : Maybe} {i j k : List Token} → Reads d conditional_level e i j → Only conditional_level e i j → ReadsSize x n i k → Closes k → (there e ≡ n) × (j ≡ k)
 at_size b h no_size z = absurd (omega (arith, (choosing_begins b).0, z.none))
 at_size b h (a_size r) z = let v = h.is _ _ _ r (omega (arith, z.high)) in (ap there v.0, v.1)
 
-pub only_size : {d : ℕ} {e : Expr} {i j : List Token} → Reads d choosing e i j → Only choosing e i j → OnlySize (there e) i j
+pub only_size : {d : ℕ} {e : Expr} {i j : List Token} → Reads d conditional_level e i j → Only conditional_level e i j → OnlySize (there e) i j
 only_size b h = record { is = λ x n k r z. at_size b h r z }
 
 -- type names
@@ -81,7 +81,7 @@ only_direct p c l s h g = record { is = λ x f m r z. at_direct p (direct_begins
 -- what stands before array sizes and parameters
 at_declared : {x at : ℕ} {ident : Ident} {b f : Declarator} {t : Token} {i k m : List Token} → Names ident t → ReadsCore x b (t ∷ i) k → Lengthens x at b f k m → EndsDeclarator m → (named t.from ident ≡ b) × (i ≡ k)
 at_declared {t = t} n (a_declared o) l z = (ap (λ a. named t.from a) (one_ident n o), refl)
-at_declared n (in_brackets o r h c) l z = absurd (omega (arith, started o, started_name n.name))
+at_declared n (declarator_in_parentheses o r h c) l z = absurd (omega (arith, started o, started_name n.name))
 at_declared n no_core l z = absurd ((lengthens_begin l z).1 (started_name n.name))
 
 pub only_declared : {ident : Ident} {t : Token} {i : List Token} → Names ident t → OnlyCore (named t.from ident) (t ∷ i) i
@@ -89,7 +89,7 @@ only_declared n = record { is = λ x at b f k m r l z. at_declared n r l z }
 
 at_brackets : {x at : ℕ} {e b f : Declarator} {t u : Token} {i j k m : List Token} → Is LEFT_PARENTHESIS t → start i ≤ 6 → OnlyDeclarator e i (u ∷ j) → ReadsCore x b (t ∷ i) k → Lengthens x at b f k m → EndsDeclarator m → (e ≡ b) × (j ≡ k)
 at_brackets o s h (a_declared n) l z = absurd (omega (arith, started o, started_name n.name))
-at_brackets o s h (in_brackets q r n c) l z = let v = h.is _ _ _ r (parenthesis_ends_declarator c) in (v.0, (heads v.1).1)
+at_brackets o s h (declarator_in_parentheses q r n c) l z = let v = h.is _ _ _ r (parenthesis_ends_declarator c) in (v.0, (heads v.1).1)
 at_brackets o s h no_core l z = absurd (omega (arith, lengthens_inside l z o))
 
 pub only_brackets : {d : ℕ} {e : Declarator} {t u : Token} {i j : List Token} → Is LEFT_PARENTHESIS t → Declares d e i (u ∷ j) → IsThere e → OnlyDeclarator e i (u ∷ j) → OnlyCore e (t ∷ i) j
@@ -97,7 +97,7 @@ only_brackets o b n h = record { is = λ x at c f k m r l z. at_brackets o (ther
 
 at_no_core : {d x it : ℕ} {e b : Declarator} {i j k : List Token} → Lengthens d it nothing e i j → EndsDeclarator j → ReadsCore x b i k → (nothing ≡ b) × (i ≡ k)
 at_no_core l s (a_declared n) = absurd ((lengthens_begin l s).1 (started_name n.name))
-at_no_core l s (in_brackets o r h c) = absurd (omega (arith, lengthens_inside l s o, there_begins r h))
+at_no_core l s (declarator_in_parentheses o r h c) = absurd (omega (arith, lengthens_inside l s o, there_begins r h))
 at_no_core l s no_core = (refl, refl)
 
 pub only_no_core : {d at : ℕ} {e : Declarator} {i j : List Token} → Lengthens d at nothing e i j → EndsDeclarator j → OnlyCore nothing i i

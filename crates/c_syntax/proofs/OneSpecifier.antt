@@ -2,21 +2,21 @@
 use Rattle.std.proofs.Common.{◌≡◌, ◌≤◌, ℕ, ◌+◌, ◌-◌, List, [], ◌∷◌, refl, sym, ◌∙◌, arith, slice_index_or}
 use Rattle.c_lexer.specs.declared.token.Token.{Token}
 use Rattle.c_syntax.specs.Tree.{Ident, Storage, Spec, void, char, unsigned_char, int, unsigned_int, struct, enum}
-use Rattle.c_syntax.specs.Tokens.{IsWord}
-use Rattle.c_syntax.specs.Specifiers.{Names, ReadsStorage, none_stands, static_stands, extern_stands, Consts, no_const, a_const}
+use Rattle.c_syntax.specs.Tokens.{IsKeyword}
+use Rattle.c_syntax.specs.Specifiers.{Names, ReadsStorage, no_storage_stands, static_stands, extern_stands, Consts, no_const, a_const}
 use Rattle.c_syntax.specs.Specifiers.{ReadsSpec, is_void, is_char, is_unsigned_char, is_int, is_signed, is_signed_int, is_unsigned, is_unsigned_int, is_struct, is_enum}
 use Rattle.c_syntax.proofs.Ranks.{words_apart, one_ident, heads}
 use Rattle.c_syntax.proofs.Ends.{start, start_of_kind, start_of_word, starts, started_word, EndsSpec, EndsStorage}
 
 -- no tokens spell two storage classes
 pub same_storage : {s z : Storage} {i j k : List Token} → ReadsStorage s i j → ReadsStorage z i k → EndsStorage j → EndsStorage k → (s ≡ z) × (j ≡ k)
-same_storage none_stands none_stands s z = (refl, refl)
-same_storage none_stands (static_stands h) s z = absurd (omega (arith, started_word h))
-same_storage none_stands (extern_stands h) s z = absurd (omega (arith, started_word h))
-same_storage (static_stands h) none_stands s z = absurd (omega (arith, started_word h))
+same_storage no_storage_stands no_storage_stands s z = (refl, refl)
+same_storage no_storage_stands (static_stands h) s z = absurd (omega (arith, started_word h))
+same_storage no_storage_stands (extern_stands h) s z = absurd (omega (arith, started_word h))
+same_storage (static_stands h) no_storage_stands s z = absurd (omega (arith, started_word h))
 same_storage (static_stands h) (static_stands k) s z = (refl, refl)
 same_storage (static_stands h) (extern_stands k) s z = absurd (omega (arith, words_apart h k))
-same_storage (extern_stands h) none_stands s z = absurd (omega (arith, started_word h))
+same_storage (extern_stands h) no_storage_stands s z = absurd (omega (arith, started_word h))
 same_storage (extern_stands h) (static_stands k) s z = absurd (omega (arith, words_apart h k))
 same_storage (extern_stands h) (extern_stands k) s z = (refl, refl)
 
@@ -78,7 +78,7 @@ record Parted (s : Spec) (i k : List Token) : Type 0 where
 by_number : {s : Spec} (p n : ℕ) → p ≡ n → s ≡ alone_by n → s ≡ alone_by p
 by_number p n e h = rw e h
 
-one_word : {code : ℕ} {s : Spec} {t : Token} {i j k : List Token} → Consts i (t ∷ j) → IsWord code t → 7 ≤ start_of_word code → start_of_word code ≤ 12 → (start_of_word code ≡ 9 → ⊥) → s ≡ alone_by (start_of_word code) → Consts j k → Parted s i k
+one_word : {code : ℕ} {s : Spec} {t : Token} {i j k : List Token} → Consts i (t ∷ j) → IsKeyword code t → 7 ≤ start_of_word code → start_of_word code ≤ 12 → (start_of_word code ≡ 9 → ⊥) → s ≡ alone_by (start_of_word code) → Consts j k → Parted s i k
 one_word {t = t} {j = j} c h l u o e b = record {
   first = t;
   after = j;
@@ -89,7 +89,7 @@ one_word {t = t} {j = j} c h l u o e b = record {
   tail = alone (rw (started_word h) e) (omega (arith, started_word h)) b;
 }
 
-two_words : {code other : ℕ} {s : Spec} {t u : Token} {i j k m : List Token} → Consts i (t ∷ j) → IsWord code t → Consts j (u ∷ k) → IsWord other u → 10 ≤ start_of_word code → start_of_word code ≤ 12 → 7 ≤ start_of_word other → start_of_word other ≤ 8 → s ≡ double_by (start_of_word code) (start_of_word other) → Consts k m → Parted s i m
+two_words : {code other : ℕ} {s : Spec} {t u : Token} {i j k m : List Token} → Consts i (t ∷ j) → IsKeyword code t → Consts j (u ∷ k) → IsKeyword other u → 10 ≤ start_of_word code → start_of_word code ≤ 12 → 7 ≤ start_of_word other → start_of_word other ≤ 8 → s ≡ double_by (start_of_word code) (start_of_word other) → Consts k m → Parted s i m
 two_words {t = t} {j = j} c h b k l u m v e a = record {
   first = t;
   after = j;
@@ -100,7 +100,7 @@ two_words {t = t} {j = j} c h b k l u m v e a = record {
   tail = double (rw (started_word h, started_word k) e) (omega (arith, started_word h)) (omega (arith, started_word k)) (omega (arith, started_word k)) b a;
 }
 
-a_tag : {code : ℕ} {s : Spec} {ident : Ident} {t u : Token} {i j k : List Token} → Consts i (t ∷ u ∷ j) → IsWord code t → Names ident u → 13 ≤ start_of_word code → start_of_word code ≤ 14 → s ≡ tagged_by (start_of_word code) ident → Consts j k → Parted s i k
+a_tag : {code : ℕ} {s : Spec} {ident : Ident} {t u : Token} {i j k : List Token} → Consts i (t ∷ u ∷ j) → IsKeyword code t → Names ident u → 13 ≤ start_of_word code → start_of_word code ≤ 14 → s ≡ tagged_by (start_of_word code) ident → Consts j k → Parted s i k
 a_tag {t = t} {u = u} {j = j} c h n l o e b = record {
   first = t;
   after = u ∷ j;

@@ -1,23 +1,23 @@
 -- No tokens spell two statements, or two blocks: an else belongs to one if.
 use Rattle.std.proofs.Common.{◌≡◌, ℕ, ◌≤◌, List, refl, ap, sym, arith}
 use Rattle.c_lexer.specs.declared.token.Token.{Token}
-use Rattle.c_syntax.specs.Tree.{Stmt, Items, Stmts, Groups}
+use Rattle.c_syntax.specs.Tree.{Stmt, BlockItems, Stmts, Groups}
 use Rattle.c_syntax.specs.Statements.{ReadsStmt, a_block, an_empty, an_evaluation, an_if, an_if_else, a_while, a_do, a_for, a_switch, a_break, a_continue, a_return}
-use Rattle.c_syntax.specs.Statements.{ReadsItems, no_item, a_decl_item, a_stmt_item, ReadsStmts, last_stmt, next_stmt, ReadsGroups, no_group, a_group}
+use Rattle.c_syntax.specs.Statements.{ReadsBlockItems, no_block_item, a_block_decl, a_block_stmt, ReadsStmts, last_stmt, next_stmt, ReadsGroups, no_group, a_group}
 use Rattle.c_syntax.proofs.Heads.{head}
 use Rattle.c_syntax.proofs.OneDecl.{plain_head, labels_head, same_decl, same_labels}
-use Rattle.c_syntax.proofs.StmtCases.{stmt_head, items_head, stmts_head, groups_head, Fits, moved_groups}
+use Rattle.c_syntax.proofs.StmtCases.{stmt_head, block_items_head, stmts_head, groups_head, Fits, moved_groups}
 use Rattle.c_syntax.proofs.StmtCases.{block_case, empty_case, evaluation_case, if_case, if_else_case, while_case, do_case, for_case, switch_case, break_case, continue_case, return_case}
 
-pub moved_items : {d : ℕ} {a : Items} {i m j : List Token} → i ≡ m → ReadsItems d a m j → ReadsItems d a i j
-moved_items q r = rw q r
+pub moved_block_items : {d : ℕ} {a : BlockItems} {i m j : List Token} → i ≡ m → ReadsBlockItems d a m j → ReadsBlockItems d a i j
+moved_block_items q r = rw q r
 
 moved_stmts : {d : ℕ} {a : Stmts} {i m j : List Token} → i ≡ m → ReadsStmts d a m j → ReadsStmts d a i j
 moved_stmts q r = rw q r
 
 -- a statement that another one follows, or the end of a block
-fits_items : {d : ℕ} (s : Stmt) {a : Items} {i j : List Token} → ReadsItems d a i j → head j ≡ 5 → Fits s i
-fits_items s r h k = absurd (items_head r h k)
+fits_block_items : {d : ℕ} (s : Stmt) {a : BlockItems} {i j : List Token} → ReadsBlockItems d a i j → head j ≡ 5 → Fits s i
+fits_block_items s r h k = absurd (block_items_head r h k)
 
 fits_stmts : {d : ℕ} (s : Stmt) {a : Stmts} {i j : List Token} → ReadsStmts d a i j → Fits s i
 fits_stmts s r k = absurd (omega (arith, stmts_head r))
@@ -30,7 +30,7 @@ no_stmt_at q h r = omega (arith, ap head q, stmts_head r)
 
 mutual
   pub same_stmt : {d x : ℕ} {s z : Stmt} {i j k : List Token} → ReadsStmt d s i j → ReadsStmt x z i k → Fits s j → Fits z k → (s ≡ z) × (j ≡ k)
-  same_stmt (a_block h r c) v f g = block_case h (record { same = λ x b k w a e. same_items r w a e }) c v
+  same_stmt (a_block h r c) v f g = block_case h (record { same = λ x b k w a e. same_block_items r w a e }) c v
   same_stmt (an_empty h) v f g = empty_case h v
   same_stmt (an_evaluation p r h) v f g = evaluation_case p r h v
   same_stmt (an_if w o r c s) v f g = if_case w r c (record { same = λ x b k n a e. same_stmt s n a e }) f v g
@@ -44,18 +44,18 @@ mutual
   same_stmt (a_continue w h) v f g = continue_case w v
   same_stmt (a_return w m h) v f g = return_case w m h v
 
-  pub same_items : {d x : ℕ} {a b : Items} {i j k : List Token} → ReadsItems d a i j → ReadsItems x b i k → head j ≡ 5 → head k ≡ 5 → (a ≡ b) × (j ≡ k)
-  same_items no_item no_item s z = (refl, refl)
-  same_items no_item (a_decl_item v p b) s z = absurd (omega (arith, plain_head v p))
-  same_items no_item (a_stmt_item v b) s z = absurd (omega (arith, stmt_head v))
-  same_items (a_decl_item r p f) no_item s z = absurd (omega (arith, plain_head r p))
-  same_items (a_stmt_item r f) no_item s z = absurd (omega (arith, stmt_head r))
-  same_items (a_decl_item r p f) (a_stmt_item v b) s z = absurd (omega (arith, plain_head r p, stmt_head v))
-  same_items (a_stmt_item r f) (a_decl_item v p b) s z = absurd (omega (arith, plain_head v p, stmt_head r))
-  same_items (a_decl_item r p f) (a_decl_item v q b) s z =
-      let y = same_decl r v in let w = same_items f (moved_items y.1 b) s z in (cc, w.1)
-  same_items (a_stmt_item {s = p} r f) (a_stmt_item {s = q} v b) s z =
-      let y = same_stmt r v (fits_items p f s) (fits_items q b z) in let w = same_items f (moved_items y.1 b) s z in (cc, w.1)
+  pub same_block_items : {d x : ℕ} {a b : BlockItems} {i j k : List Token} → ReadsBlockItems d a i j → ReadsBlockItems x b i k → head j ≡ 5 → head k ≡ 5 → (a ≡ b) × (j ≡ k)
+  same_block_items no_block_item no_block_item s z = (refl, refl)
+  same_block_items no_block_item (a_block_decl v p b) s z = absurd (omega (arith, plain_head v p))
+  same_block_items no_block_item (a_block_stmt v b) s z = absurd (omega (arith, stmt_head v))
+  same_block_items (a_block_decl r p f) no_block_item s z = absurd (omega (arith, plain_head r p))
+  same_block_items (a_block_stmt r f) no_block_item s z = absurd (omega (arith, stmt_head r))
+  same_block_items (a_block_decl r p f) (a_block_stmt v b) s z = absurd (omega (arith, plain_head r p, stmt_head v))
+  same_block_items (a_block_stmt r f) (a_block_decl v p b) s z = absurd (omega (arith, plain_head v p, stmt_head r))
+  same_block_items (a_block_decl r p f) (a_block_decl v q b) s z =
+      let y = same_decl r v in let w = same_block_items f (moved_block_items y.1 b) s z in (cc, w.1)
+  same_block_items (a_block_stmt {s = p} r f) (a_block_stmt {s = q} v b) s z =
+      let y = same_stmt r v (fits_block_items p f s) (fits_block_items q b z) in let w = same_block_items f (moved_block_items y.1 b) s z in (cc, w.1)
 
   same_stmts : {d x : ℕ} {a b : Stmts} {i j k : List Token} → ReadsStmts d a i j → ReadsStmts x b i k → head j ≤ 12 → head k ≤ 12 → (a ≡ b) × (j ≡ k)
   same_stmts (last_stmt {s = p} {j = j} r) (last_stmt {s = q} {j = k} v) s z = let y = same_stmt r v (fits_end p j s) (fits_end q k z) in (cc, y.1)

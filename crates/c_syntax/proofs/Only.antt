@@ -4,7 +4,7 @@ use Rattle.std.proofs.Common.{◌≡◌, ◌≤◌, ℕ, suc, List}
 use Rattle.c_lexer.specs.declared.token.Token.{Token}
 use Rattle.c_syntax.specs.Tree.{Expr, Exprs, Maybe, TypeName, Declarator, Params}
 use Rattle.c_syntax.specs.Tokens.{rank}
-use Rattle.c_syntax.specs.Grammar.{Level, suffixed, chained, expression, Stops, Reads, ReadsList, Suffixes, Chain, ReadsSize, ReadsType, Declares, ReadsCore, Lengthens, ReadsParams, ReadsEach}
+use Rattle.c_syntax.specs.Grammar.{Level, postfix_level, binary_level, expression_level, Stops, Reads, ReadsList, Suffixes, Chain, ReadsSize, ReadsType, Declares, ReadsCore, Lengthens, ReadsParams, ReadsEach}
 use Rattle.c_syntax.proofs.Ends.{start, EndsDeclarator}
 
 -- a bracket, a brace or a semicolon that closes: nothing goes on with it and nothing begins with it
@@ -16,13 +16,13 @@ pub record Only (l : Level) (e : Expr) (i j : List Token) : Type 0 where
   pub is : (x : ℕ) (f : Expr) (k : List Token) → Reads x l f i k → Stops l k → (e ≡ f) × (j ≡ k)
 
 pub record OnlyList (es : Exprs) (i j : List Token) : Type 0 where
-  pub is : (x : ℕ) (fs : Exprs) (k : List Token) → ReadsList x fs i k → Stops expression k → (es ≡ fs) × (j ≡ k)
+  pub is : (x : ℕ) (fs : Exprs) (k : List Token) → ReadsList x fs i k → Stops expression_level k → (es ≡ fs) × (j ≡ k)
 
 pub record OnlySuffixes (at : ℕ) (a e : Expr) (i j : List Token) : Type 0 where
-  pub is : (x : ℕ) (f : Expr) (k : List Token) → Suffixes x at a f i k → Stops suffixed k → (e ≡ f) × (j ≡ k)
+  pub is : (x : ℕ) (f : Expr) (k : List Token) → Suffixes x at a f i k → Stops postfix_level k → (e ≡ f) × (j ≡ k)
 
 pub record OnlyChain (n at : ℕ) (a e : Expr) (i j : List Token) : Type 0 where
-  pub is : (x : ℕ) (f : Expr) (k : List Token) → Chain x n at a f i k → Stops (chained (suc n)) k → (e ≡ f) × (j ≡ k)
+  pub is : (x : ℕ) (f : Expr) (k : List Token) → Chain x n at a f i k → Stops (binary_level (suc n)) k → (e ≡ f) × (j ≡ k)
 
 pub record OnlySize (m : Maybe) (i j : List Token) : Type 0 where
   pub is : (x : ℕ) (n : Maybe) (k : List Token) → ReadsSize x n i k → Closes k → (m ≡ n) × (j ≡ k)

@@ -3,7 +3,7 @@ use Rattle.std.proofs.Common.{◌≡◌, ◌≤◌, ℕ, ℤ, Bool, suc, ◌+◌
 use Rattle.c_lexer.specs.declared.token.Token.{Token}
 use Rattle.c_lexer.specs.declared.token.TokenKind.TheVariants.{Name, Keyword, Int, Char, Str, Punct}
 use Rattle.c_syntax.specs.Tree.{Ident, Infix, and, or, operator}
-use Rattle.c_syntax.specs.Tokens.{Is, IsWord, IsName, IsInt, IsChar, IsStr, rank_of_code, rank_of_kind, rank, IsInfix, code_of_infix, IsPostfix, IsAccess}
+use Rattle.c_syntax.specs.Tokens.{Is, IsKeyword, IsNameToken, IsInt, IsChar, IsStr, rank_of_code, rank_of_kind, rank, IsInfix, code_of_infix, IsPostfix, IsAccess}
 use Rattle.c_syntax.specs.Tree.{Postfix, post_increment, post_decrement, Access, dot, arrow}
 use Rattle.c_syntax.specs.Specifiers.{Names}
 
@@ -13,7 +13,7 @@ unfolding rank_of_kind
 ranked h = ap rank_of_kind h.kind
 
 -- the rank of a name
-pub ranked_name : {name : List ℕ} {t : Token} → IsName name t → rank_of_kind t.kind ≡ 100
+pub ranked_name : {name : List ℕ} {t : Token} → IsNameToken name t → rank_of_kind t.kind ≡ 100
 unfolding rank_of_kind
 ranked_name h = ap rank_of_kind h.kind
 
@@ -33,7 +33,7 @@ unfolding rank_of_kind
 ranked_str h = ap rank_of_kind h.kind
 
 -- the rank of a keyword
-pub ranked_word : {code : ℕ} {t : Token} → IsWord code t → rank_of_kind t.kind ≡ 100
+pub ranked_word : {code : ℕ} {t : Token} → IsKeyword code t → rank_of_kind t.kind ≡ 100
 unfolding rank_of_kind
 ranked_word h = ap rank_of_kind h.kind
 
@@ -46,11 +46,11 @@ pub apart : {code other : ℕ} {t : Token} → Is code t → Is other t → code
 apart {code} {other} h k = let e : Punct code ≡ Punct other = sym h.kind ∙ k.kind in cc
 
 -- no token is two keywords
-pub words_apart : {code other : ℕ} {t : Token} → IsWord code t → IsWord other t → code ≡ other
+pub words_apart : {code other : ℕ} {t : Token} → IsKeyword code t → IsKeyword other t → code ≡ other
 words_apart {code} {other} h k = let e : Keyword code ≡ Keyword other = sym h.kind ∙ k.kind in cc
 
 -- no token is two names
-pub one_name : {name other : List ℕ} {t : Token} → IsName name t → IsName other t → name ≡ other
+pub one_name : {name other : List ℕ} {t : Token} → IsNameToken name t → IsNameToken other t → name ≡ other
 one_name {name} {other} h k = let e : Name name ≡ Name other = sym h.kind ∙ k.kind in cc
 
 -- no token is two integers
@@ -66,11 +66,11 @@ pub one_str : {a b : List ℕ} {t : Token} → IsStr a t → IsStr b t → a ≡
 one_str {a} {b} h k = let e : Str a ≡ Str b = sym h.kind ∙ k.kind in cc
 
 -- a punctuator is no keyword
-pub not_word : {code word : ℕ} {t : Token} → Is code t → IsWord word t → ⊥
+pub not_word : {code word : ℕ} {t : Token} → Is code t → IsKeyword word t → ⊥
 not_word {code} {word} h k = let e : Punct code ≡ Keyword word = sym h.kind ∙ k.kind in cc
 
 -- a punctuator is no name
-pub not_name : {code : ℕ} {name : List ℕ} {t : Token} → Is code t → IsName name t → ⊥
+pub not_name : {code : ℕ} {name : List ℕ} {t : Token} → Is code t → IsNameToken name t → ⊥
 not_name {code} {name} h k = let e : Punct code ≡ Name name = sym h.kind ∙ k.kind in cc
 
 -- no token is two names with their places

@@ -4,7 +4,7 @@ use Rattle.std.proofs.Math.Logic.{∥∥₁_map}
 use Rattle.std.proofs.lemmas.List.Elements.{All-cons}
 use Rattle.c_lexer.specs.declared.token.TokenKind.{TokenKind}
 use Rattle.c_lexer.specs.Kinds.{IsKind}
-use Rattle.c_syntax.specs.Tree.{Outers}
+use Rattle.c_syntax.specs.Tree.{Items}
 use Rattle.c_syntax.specs.Print.{unit_kinds}
 use Rattle.c_syntax.specs.Text.{unit_text}
 use Rattle.c_syntax.specs.Spelling.{IsUnit, IsReadAs}
@@ -19,7 +19,7 @@ all_kinds : (ks : List TokenKind) → AreKinds ks → All IsKind ks
 all_kinds [] h = λ i d below. absurd (omega arith)
 all_kinds (kind ∷ ks) h = All-cons IsKind kind ks h.0 (all_kinds ks h.1)
 
-read_as : (u : Outers) → IsUnit u → length (unit_text u) ≤ 16777216 → IsReadAs (unit_text u) u
+read_as : (u : Items) → IsUnit u → length (unit_text u) ≤ 16777216 → IsReadAs (unit_text u) u
 read_as u unit short =
     let x : LexedBack (unit_kinds u []) = lexed_back (unit_kinds u []) (all_kinds (unit_kinds u []) (unit_has_kinds unit.1.reads)) short in
     let y : BackUnit 500 u x.tokens = back_unit u (fine_unit unit.1.reads) 500 unit.1.nested x.tokens x.are in
@@ -32,6 +32,6 @@ read_as u unit short =
     }
 
 -- a text that is the unit's is read back
-pub read_back : (u : Outers) (text : List ℕ) → text ≡ unit_text u → ∥ IsUnit u ∥₁ → length text ≤ 16777216 → ∥ IsReadAs text u ∥₁
+pub read_back : (u : Items) (text : List ℕ) → text ≡ unit_text u → ∥ IsUnit u ∥₁ → length text ≤ 16777216 → ∥ IsReadAs text u ∥₁
 read_back u text q unit short =
     ∥∥₁_map unit (λ (here : IsUnit u). subst (λ (t : List ℕ). IsReadAs t u) (sym q) (read_as u here (subst (λ (t : List ℕ). length t ≤ 16777216) q short)))

@@ -3,12 +3,12 @@ use Rattle.std.proofs.Common.{ℕ, List, [], ◌∷◌, arith}
 use Rattle.c_lexer.specs.declared.token.Token.{Token}
 use Rattle.c_lexer.specs.declared.punctuator.TheConstants as p
 use Rattle.c_lexer.specs.declared.keyword.TheConstants as w
-use Rattle.c_syntax.specs.Tree.{Spec, Expr, Exprs, TypeName, Declarator, Params, Inits, Decl, Parts, Outer, Stmt, only_if, if_else, Stmts, Members, Enumerators, Outers, static, decl}
-use Rattle.c_syntax.specs.Tokens.{Is, IsWord}
-use Rattle.c_syntax.specs.Specifiers.{none_stands, static_stands, extern_stands}
+use Rattle.c_syntax.specs.Tree.{Spec, Expr, Exprs, TypeName, Declarator, Params, Inits, Decl, Parts, Item, Stmt, only_if, if_else, Stmts, Members, Enumerators, Items, static, decl}
+use Rattle.c_syntax.specs.Tokens.{Is, IsKeyword}
+use Rattle.c_syntax.specs.Specifiers.{no_storage_stands, static_stands, extern_stands}
 use Rattle.c_syntax.specs.Grammar.{ReadsList, ReadsType, ReadsParams, Declares, HasName}
 use Rattle.c_syntax.specs.Statements.{an_expression, a_list, a_list_with_comma, ReadsInits, last_init, next_init, ReadsDecl, a_declaration, IsPlainDecl}
-use Rattle.c_syntax.specs.Statements.{ReadsStmt, an_if_else, ReadsStmts, ReadsMembers, last_member, next_member, ReadsEnumerators, last_enumerator, next_enumerator, ReadsOuters, last_outer, next_outer, ReadsOuter, an_outer_declaration, a_definition}
+use Rattle.c_syntax.specs.Statements.{ReadsStmt, an_if_else, ReadsStmts, ReadsMembers, last_member, next_member, ReadsEnumerators, last_enumerator, next_enumerator, ReadsItems, last_item, next_item, ReadsItem, an_item_declaration, a_definition}
 use Rattle.c_syntax.proofs.Heads.{headed, worded, expression_head, spec_head, declarator_head, name_head}
 use Rattle.c_syntax.proofs.Ends.{started}
 use Rattle.c_syntax.proofs.Begins.{type_begins, params_begin, list_begins}
@@ -36,7 +36,7 @@ no_empty_list (next_init (a_list o r c) m f) h = omega (arith, headed o, headed 
 no_empty_list (next_init (a_list_with_comma o r e c) m f) h = omega (arith, headed o, headed h)
 
 -- switch ( a ) { case 1 : int x ; }: no declaration stands in the body of a switch
-no_declaration_in_switch : {d : ℕ} {ss : Stmts} {t : Token} {i j : List Token} → ReadsStmts d ss (t ∷ i) j → IsWord w.INT t → ⊥
+no_declaration_in_switch : {d : ℕ} {ss : Stmts} {t : Token} {i j : List Token} → ReadsStmts d ss (t ∷ i) j → IsKeyword w.INT t → ⊥
 no_declaration_in_switch r h = omega (arith, stmts_head r, worded h)
 
 -- switch ( a ) { case 1 : }: a statement follows each label
@@ -44,12 +44,12 @@ no_label_alone : {d : ℕ} {ss : Stmts} {t : Token} {i j : List Token} → Reads
 no_label_alone r h = omega (arith, stmts_head r, headed h)
 
 -- if ( a ) case 1 : ;: no label stands inside another statement
-no_label_inside : {d : ℕ} {s : Stmt} {t : Token} {i j : List Token} → ReadsStmt d s (t ∷ i) j → IsWord w.CASE t → ⊥
+no_label_inside : {d : ℕ} {s : Stmt} {t : Token} {i j : List Token} → ReadsStmt d s (t ∷ i) j → IsKeyword w.CASE t → ⊥
 no_label_inside r h = omega (arith, stmt_head r, worded h)
 
 -- static extern int x ;: one storage class stands at most
-no_two_classes : {d : ℕ} {x : Decl} {t u : Token} {i j : List Token} → ReadsDecl d x (t ∷ u ∷ i) j → IsWord w.STATIC t → IsWord w.EXTERN u → ⊥
-no_two_classes (a_declaration q none_stands s r c) h g = omega (arith, spec_head s, worded h)
+no_two_classes : {d : ℕ} {x : Decl} {t u : Token} {i j : List Token} → ReadsDecl d x (t ∷ u ∷ i) j → IsKeyword w.STATIC t → IsKeyword w.EXTERN u → ⊥
+no_two_classes (a_declaration q no_storage_stands s r c) h g = omega (arith, spec_head s, worded h)
 no_two_classes (a_declaration q (static_stands f) s r c) h g = omega (arith, spec_head s, worded g)
 no_two_classes (a_declaration q (extern_stands f) s r c) h g = omega (arith, spec_head s, worded g)
 
@@ -72,14 +72,14 @@ no_empty_enum (last_enumerator n r) h = omega (arith, name_head n, headed h)
 no_empty_enum (next_enumerator n r c f) h = omega (arith, name_head n, headed h)
 
 -- char unsigned x ;: after the words of a specifier stands what is declared
-no_word_after : {d : ℕ} {e : Declarator} {t : Token} {i j : List Token} → Declares d e (t ∷ i) j → HasName e → IsWord w.UNSIGNED t → ⊥
+no_word_after : {d : ℕ} {e : Declarator} {t : Token} {i j : List Token} → Declares d e (t ∷ i) j → HasName e → IsKeyword w.UNSIGNED t → ⊥
 no_word_after r n h = omega (arith, declarator_head r n, worded h)
 
 -- the empty text: a unit has items
-no_empty_item : {d : ℕ} {a : Outer} {j : List Token} → ReadsOuter d a [] j → ⊥
-no_empty_item (an_outer_declaration q (a_declaration g none_stands s r c)) = omega (arith, spec_head s)
-no_empty_item (a_definition q none_stands s e n o f c) = omega (arith, spec_head s)
+no_empty_item : {d : ℕ} {a : Item} {j : List Token} → ReadsItem d a [] j → ⊥
+no_empty_item (an_item_declaration q (a_declaration g no_storage_stands s r c)) = omega (arith, spec_head s)
+no_empty_item (a_definition q no_storage_stands s e n o f c) = omega (arith, spec_head s)
 
-no_empty_unit : {d : ℕ} {u : Outers} {j : List Token} → ReadsOuters d u [] j → ⊥
-no_empty_unit (last_outer r) = no_empty_item r
-no_empty_unit (next_outer r f) = no_empty_item r
+no_empty_unit : {d : ℕ} {u : Items} {j : List Token} → ReadsItems d u [] j → ⊥
+no_empty_unit (last_item r) = no_empty_item r
+no_empty_unit (next_item r f) = no_empty_item r

@@ -15,12 +15,12 @@ use Rattle.c_syntax.specs.declared.tree.Stmt.{Stmt as StmtTree}
 use Rattle.c_syntax.specs.declared.tree.StmtKind.{StmtKind, Block', Switch', Row_of-BlockItem, end_of-BlockItem, more_of-BlockItem, items-the_row-BlockItem, items_hidden-the_row-BlockItem-0, Row_of-Group, end_of-Group, more_of-Group, items-the_row-Group, items_hidden-the_row-Group-1}
 use Rattle.c_syntax.specs.declared.tree.StmtKind.TheVariants.{Block, Switch}
 use Rattle.c_syntax.specs.declared.tree.Group.{Group, Group', out-Group, Row_of-Stmt, end_of-Stmt, more_of-Stmt, items-the_row-Stmt, items_shown-the_row-Stmt-2}
-use Rattle.c_syntax.specs.Tree.{more_inits, more_stmts, no_groups, no_items}
+use Rattle.c_syntax.specs.Tree.{more_inits, more_stmts, no_groups, no_block_items}
 use Rattle.c_syntax.specs.View.{expr_of}
-use Rattle.c_syntax.specs.UnitView.{init_at, inits_of_row, stmt_at, items_of_row, item_before, groups_of_row, group_before, stmts_of_row, labels_of}
-use Rattle.c_syntax.specs.Print.{Kinds, init_kinds, inits_kinds, stmt_kinds, items_kinds, groups_kinds, stmts_kinds, labels_kinds}
+use Rattle.c_syntax.specs.UnitView.{init_at, inits_of_row, stmt_at, block_items_of_row, block_item_before, groups_of_row, group_before, stmts_of_row, labels_of}
+use Rattle.c_syntax.specs.Print.{Kinds, init_kinds, inits_kinds, stmt_kinds, block_items_kinds, groups_kinds, stmts_kinds, labels_kinds}
 use Rattle.c_syntax.specs.Writes.{Writes}
-use Rattle.c_syntax.specs.WritesUnit.{inits_of, items_of, stmts_of, groups_of, worded_kinds}
+use Rattle.c_syntax.specs.WritesUnit.{inits_of, block_items_of, stmts_of, groups_of, worded_kinds}
 use Rattle.c_syntax.proofs.Writing.{on_ok_as}
 
 inits_row : (n : _) (row : Row_of-Init n) → inits_of_row row ≡ inits_of (items-the_row-Init n row)
@@ -45,27 +45,27 @@ list_last r a b at v xs is =
     (init_kinds (init_at at (listed v)))
     (λ k. ap (λ x. Punct LEFT_BRACE ∷ inits_kinds x (Punct RIGHT_BRACE ∷ k)) (ap inits_of is ∙ sym (inits_in v)))
 
-items_row : (n : _) (row : Row_of-BlockItem n) → items_of_row row ≡ items_of (items-the_row-BlockItem n row)
-items_row n end_of-BlockItem = refl
-items_row n (more_of-BlockItem x rest) = ap (item_before x) (items_row _ rest)
+block_items_row : (n : _) (row : Row_of-BlockItem n) → block_items_of_row row ≡ block_items_of (items-the_row-BlockItem n row)
+block_items_row n end_of-BlockItem = refl
+block_items_row n (more_of-BlockItem x rest) = ap (block_item_before x) (block_items_row _ rest)
 
-abbrev items_row_in : StmtKind → (n : Count) × Row_of-BlockItem n
-items_row_in (Block' shape row) = (_, row)
-items_row_in _ = (_, end_of-BlockItem)
+abbrev block_items_row_in : StmtKind → (n : Count) × Row_of-BlockItem n
+block_items_row_in (Block' shape row) = (_, row)
+block_items_row_in _ = (_, end_of-BlockItem)
 
-items_in : (v : Vec BlockItem Global) → items_of_row (items_row_in (Block v)).1 ≡ items_of v.items
-items_in v = items_row (items_row_in (Block v)).0 (items_row_in (Block v)).1 ∙ ap items_of (items_hidden-the_row-BlockItem-0 v)
+block_items_in : (v : Vec BlockItem Global) → block_items_of_row (block_items_row_in (Block v)).1 ≡ block_items_of v.items
+block_items_in v = block_items_row (block_items_row_in (Block v)).0 (block_items_row_in (Block v)).1 ∙ ap block_items_of (items_hidden-the_row-BlockItem-0 v)
 
 -- a block is what stands in it, in braces
 pub block_last :
     {T E : Type 0} (r : Result T E) (a b : List ℕ) (at : ℕ) (v : Vec BlockItem Global) (xs : List BlockItem) → xs ≡ v.items
-    → OnOk r (Writes a b (λ k. Punct LEFT_BRACE ∷ items_kinds (items_of xs) (Punct RIGHT_BRACE ∷ k)))
+    → OnOk r (Writes a b (λ k. Punct LEFT_BRACE ∷ block_items_kinds (block_items_of xs) (Punct RIGHT_BRACE ∷ k)))
     → OnOk r (Writes a b (stmt_kinds (stmt_at at (Block v))))
 block_last r a b at v xs is =
     on_ok_as r a b
-    (λ k. Punct LEFT_BRACE ∷ items_kinds (items_of xs) (Punct RIGHT_BRACE ∷ k))
+    (λ k. Punct LEFT_BRACE ∷ block_items_kinds (block_items_of xs) (Punct RIGHT_BRACE ∷ k))
     (stmt_kinds (stmt_at at (Block v)))
-    (λ k. ap (λ x. Punct LEFT_BRACE ∷ items_kinds x (Punct RIGHT_BRACE ∷ k)) (ap items_of is ∙ sym (items_in v)))
+    (λ k. ap (λ x. Punct LEFT_BRACE ∷ block_items_kinds x (Punct RIGHT_BRACE ∷ k)) (ap block_items_of is ∙ sym (block_items_in v)))
 
 groups_row : (n : _) (row : Row_of-Group n) → groups_of_row row ≡ groups_of (items-the_row-Group n row)
 groups_row n end_of-Group = refl
@@ -100,9 +100,9 @@ group_is (Group' labels shape row) k =
     ap (λ x. labels_kinds (labels_of labels.items) (stmts_kinds x k)) (ap stmts_of (items_shown-the_row-Stmt-2 shape row) ∙ sym (stmts_row _ row))
 
 -- one item of a block before others
-pub item_first : (x : BlockItem) (xs : List BlockItem) (k : Kinds) → items_kinds (items_of (x ∷ xs)) k ≡ items_kinds (item_before x no_items) (items_kinds (items_of xs) k)
-item_first (Declaration d) xs k = refl
-item_first (Statement' at kind) xs k = refl
+pub block_item_first : (x : BlockItem) (xs : List BlockItem) (k : Kinds) → block_items_kinds (block_items_of (x ∷ xs)) k ≡ block_items_kinds (block_item_before x no_block_items) (block_items_kinds (block_items_of xs) k)
+block_item_first (Declaration d) xs k = refl
+block_item_first (Statement' at kind) xs k = refl
 
 -- one group before others
 pub group_first : (x : Group) (xs : List Group) (k : Kinds) → groups_kinds (groups_of (x ∷ xs)) k ≡ groups_kinds (group_before x no_groups) (groups_kinds (groups_of xs) k)

@@ -9,26 +9,26 @@ use Rattle.c_syntax.specs.Tree.{Ident, Spec, void, Postfix, Prefix, Access, Infi
 use Rattle.c_syntax.specs.Tree.{Expr, a_name, an_int, a_char, a_str, comma, sizeof_type, cast, call, member, postfix, prefix, unary, index, binary, assign, conditional}
 use Rattle.c_syntax.specs.Tree.{Exprs, no_exprs, more_exprs, Maybe, absent, there, TypeName, type_name}
 use Rattle.c_syntax.specs.Tree.{Declarator, nothing, named, pointer, array, function, Params, no_params, more_params}
-use Rattle.c_syntax.specs.Tokens.{Is, IsWord, IsName, IsInt, IsChar, IsStr, place, rank, IsInfix, code_of_infix, IsAssignment, IsUnary, IsPostfix, IsPrefix, IsAccess}
+use Rattle.c_syntax.specs.Tokens.{Is, IsKeyword, IsNameToken, IsInt, IsChar, IsStr, place, rank, IsInfix, code_of_infix, IsAssignment, IsUnary, IsPostfix, IsPrefix, IsAccess}
 use Rattle.c_syntax.specs.Specifiers.{Names, Consts, ReadsSpec}
 
--- The levels of precedence: primary, postfix, unary and cast expressions; chained n has the binary operators of the levels
+-- The levels of precedence: primary, postfix, unary and cast expressions; binary_level n has the binary operators of the levels
 -- 1 to n; then conditional and assignment expressions, and those with commas.
 pub data Level : Type 0 where
-  primary suffixed prefixed casting : Level
-  chained : ℕ → Level
-  choosing assigning expression : Level
+  primary_level postfix_level unary_level cast_level : Level
+  binary_level : ℕ → Level
+  conditional_level assignment_level expression_level : Level
 
 -- an expression of the level goes on only with tokens of a lower rank
 abbrev pub bound : Level → ℕ
-bound primary = 1
-bound suffixed = 2
-bound prefixed = 2
-bound casting = 2
-bound (chained n) = n + 2
-bound choosing = 13
-bound assigning = 14
-bound expression = 15
+bound primary_level = 1
+bound postfix_level = 2
+bound unary_level = 2
+bound cast_level = 2
+bound (binary_level n) = n + 2
+bound conditional_level = 13
+bound assignment_level = 14
+bound expression_level = 15
 
 -- what follows does not continue an expression of the level
 abbrev pub Stops : Level → List Token → Type 0
@@ -73,43 +73,43 @@ mutual
   -- at the level, the tokens from i to j spell the expression
   pub data Reads : ℕ → Level → Expr → List Token → List Token → Type 0 where
     -- primary expressions (6.5.1)
-    is_name : {d : ℕ} {name : List ℕ} {t : Token} {i : List Token} → IsName name t → Reads d primary (a_name t.from name) (t ∷ i) i
-    is_int : {d value : ℕ} {unsigned : Bool} {t : Token} {i : List Token} → IsInt value unsigned t → Reads d primary (an_int t.from value unsigned) (t ∷ i) i
-    is_char : {d : ℕ} {c : ℤ} {t : Token} {i : List Token} → IsChar c t → Reads d primary (a_char t.from c) (t ∷ i) i
-    are_strings : {d at : ℕ} {bytes : List ℕ} {i j : List Token} → at ≡ place i → ReadsStrings bytes i j → Reads d primary (a_str at bytes) i j
-    in_parentheses : {d : ℕ} {e : Expr} {t u : Token} {i j : List Token} → Is LEFT_PARENTHESIS t → Reads d expression e i (u ∷ j) → Is RIGHT_PARENTHESIS u → Reads (suc d) primary e (t ∷ i) j
+    is_name : {d : ℕ} {name : List ℕ} {t : Token} {i : List Token} → IsNameToken name t → Reads d primary_level (a_name t.from name) (t ∷ i) i
+    is_int : {d value : ℕ} {unsigned : Bool} {t : Token} {i : List Token} → IsInt value unsigned t → Reads d primary_level (an_int t.from value unsigned) (t ∷ i) i
+    is_char : {d : ℕ} {c : ℤ} {t : Token} {i : List Token} → IsChar c t → Reads d primary_level (a_char t.from c) (t ∷ i) i
+    are_strings : {d at : ℕ} {bytes : List ℕ} {i j : List Token} → at ≡ place i → ReadsStrings bytes i j → Reads d primary_level (a_str at bytes) i j
+    in_parentheses : {d : ℕ} {e : Expr} {t u : Token} {i j : List Token} → Is LEFT_PARENTHESIS t → Reads d expression_level e i (u ∷ j) → Is RIGHT_PARENTHESIS u → Reads (suc d) primary_level e (t ∷ i) j
     -- postfix expressions (6.5.2)
-    with_suffixes : {d at : ℕ} {a e : Expr} {i j k : List Token} → at ≡ place i → Reads d primary a i j → Suffixes d at a e j k → Reads d suffixed e i k
+    with_suffixes : {d at : ℕ} {a e : Expr} {i j k : List Token} → at ≡ place i → Reads d primary_level a i j → Suffixes d at a e j k → Reads d postfix_level e i k
     -- unary expressions (6.5.3)
-    no_prefix : {d : ℕ} {e : Expr} {i j : List Token} → Reads d suffixed e i j → Reads d prefixed e i j
-    a_prefix : {d : ℕ} {p : Prefix} {e : Expr} {t : Token} {i j : List Token} → IsPrefix p t → Reads d prefixed e i j → Reads d prefixed (prefix t.from p e) (t ∷ i) j
-    a_unary : {d op : ℕ} {e : Expr} {t : Token} {i j : List Token} → Is op t → IsUnary op → Reads d casting e i j → Reads d prefixed (unary t.from op e) (t ∷ i) j
-    a_sizeof_type : {d : ℕ} {n : TypeName} {t o c : Token} {i j : List Token} → IsWord SIZEOF t → Is LEFT_PARENTHESIS o → ReadsType d n i (c ∷ j) → Is RIGHT_PARENTHESIS c → Reads d prefixed (sizeof_type t.from n) (t ∷ o ∷ i) j
+    no_prefix : {d : ℕ} {e : Expr} {i j : List Token} → Reads d postfix_level e i j → Reads d unary_level e i j
+    a_prefix : {d : ℕ} {p : Prefix} {e : Expr} {t : Token} {i j : List Token} → IsPrefix p t → Reads d unary_level e i j → Reads d unary_level (prefix t.from p e) (t ∷ i) j
+    a_unary : {d op : ℕ} {e : Expr} {t : Token} {i j : List Token} → Is op t → IsUnary op → Reads d cast_level e i j → Reads d unary_level (unary t.from op e) (t ∷ i) j
+    a_sizeof_type : {d : ℕ} {n : TypeName} {t o c : Token} {i j : List Token} → IsKeyword SIZEOF t → Is LEFT_PARENTHESIS o → ReadsType d n i (c ∷ j) → Is RIGHT_PARENTHESIS c → Reads d unary_level (sizeof_type t.from n) (t ∷ o ∷ i) j
     -- cast expressions (6.5.4)
-    no_cast : {d : ℕ} {e : Expr} {i j : List Token} → Reads d prefixed e i j → Reads d casting e i j
-    a_cast : {d : ℕ} {n : TypeName} {e : Expr} {t u : Token} {i j k : List Token} → Is LEFT_PARENTHESIS t → ReadsType d n i (u ∷ j) → Is RIGHT_PARENTHESIS u → Reads d casting e j k → Reads d casting (cast t.from n e) (t ∷ i) k
+    no_cast : {d : ℕ} {e : Expr} {i j : List Token} → Reads d unary_level e i j → Reads d cast_level e i j
+    a_cast : {d : ℕ} {n : TypeName} {e : Expr} {t u : Token} {i j k : List Token} → Is LEFT_PARENTHESIS t → ReadsType d n i (u ∷ j) → Is RIGHT_PARENTHESIS u → Reads d cast_level e j k → Reads d cast_level (cast t.from n e) (t ∷ i) k
     -- binary operators (6.5.5 to 6.5.14)
-    no_chain : {d : ℕ} {e : Expr} {i j : List Token} → Reads d casting e i j → Reads d (chained zero) e i j
-    a_chain : {d n at : ℕ} {a e : Expr} {i j k : List Token} → at ≡ place i → Reads d (chained n) a i j → Chain d n at a e j k → Reads d (chained (suc n)) e i k
+    no_chain : {d : ℕ} {e : Expr} {i j : List Token} → Reads d cast_level e i j → Reads d (binary_level zero) e i j
+    a_chain : {d n at : ℕ} {a e : Expr} {i j k : List Token} → at ≡ place i → Reads d (binary_level n) a i j → Chain d n at a e j k → Reads d (binary_level (suc n)) e i k
     -- conditional expressions (6.5.15)
-    no_choice : {d : ℕ} {e : Expr} {i j : List Token} → Reads d (chained 10) e i j → Reads d choosing e i j
-    a_choice : {d at : ℕ} {a b c : Expr} {t u : Token} {i j k m : List Token} → at ≡ place i → Reads d (chained 10) a i (t ∷ j) → Is QUESTION t → Reads d expression b j (u ∷ k) → Is COLON u → Reads d choosing c k m → Reads d choosing (conditional at a b c) i m
+    no_choice : {d : ℕ} {e : Expr} {i j : List Token} → Reads d (binary_level 10) e i j → Reads d conditional_level e i j
+    a_choice : {d at : ℕ} {a b c : Expr} {t u : Token} {i j k m : List Token} → at ≡ place i → Reads d (binary_level 10) a i (t ∷ j) → Is QUESTION t → Reads d expression_level b j (u ∷ k) → Is COLON u → Reads d conditional_level c k m → Reads d conditional_level (conditional at a b c) i m
     -- assignment expressions (6.5.16)
-    no_assignment : {d : ℕ} {e : Expr} {i j : List Token} → Reads d choosing e i j → Reads d assigning e i j
-    an_assignment : {d at op : ℕ} {a b : Expr} {t : Token} {i j k : List Token} → at ≡ place i → Reads d prefixed a i (t ∷ j) → Is op t → IsAssignment op → Reads d assigning b j k → Reads d assigning (assign at op a b) i k
+    no_assignment : {d : ℕ} {e : Expr} {i j : List Token} → Reads d conditional_level e i j → Reads d assignment_level e i j
+    an_assignment : {d at op : ℕ} {a b : Expr} {t : Token} {i j k : List Token} → at ≡ place i → Reads d unary_level a i (t ∷ j) → Is op t → IsAssignment op → Reads d assignment_level b j k → Reads d assignment_level (assign at op a b) i k
     -- expressions with commas (6.5.17)
-    no_comma : {d : ℕ} {e : Expr} {i j : List Token} → Reads d assigning e i j → Reads d expression e i j
-    a_comma : {d at : ℕ} {a : Expr} {rest : Exprs} {t : Token} {i j k : List Token} → at ≡ place i → Reads d assigning a i (t ∷ j) → Is COMMA t → ReadsList d rest j k → Reads d expression (comma at (more_exprs a rest)) i k
+    no_comma : {d : ℕ} {e : Expr} {i j : List Token} → Reads d assignment_level e i j → Reads d expression_level e i j
+    a_comma : {d at : ℕ} {a : Expr} {rest : Exprs} {t : Token} {i j k : List Token} → at ≡ place i → Reads d assignment_level a i (t ∷ j) → Is COMMA t → ReadsList d rest j k → Reads d expression_level (comma at (more_exprs a rest)) i k
 
   -- one or more, with commas between
   pub data ReadsList : ℕ → Exprs → List Token → List Token → Type 0 where
-    last_expr : {d : ℕ} {a : Expr} {i j : List Token} → Reads d assigning a i j → ReadsList d (more_exprs a no_exprs) i j
-    next_expr : {d : ℕ} {a : Expr} {rest : Exprs} {t : Token} {i j k : List Token} → Reads d assigning a i (t ∷ j) → Is COMMA t → ReadsList d rest j k → ReadsList d (more_exprs a rest) i k
+    last_expr : {d : ℕ} {a : Expr} {i j : List Token} → Reads d assignment_level a i j → ReadsList d (more_exprs a no_exprs) i j
+    next_expr : {d : ℕ} {a : Expr} {rest : Exprs} {t : Token} {i j k : List Token} → Reads d assignment_level a i (t ∷ j) → Is COMMA t → ReadsList d rest j k → ReadsList d (more_exprs a rest) i k
 
   -- the indices, calls, members and steps from j to k make e of a, which begins at the place
   pub data Suffixes : ℕ → ℕ → Expr → Expr → List Token → List Token → Type 0 where
     no_suffix : {d at : ℕ} {a : Expr} {j : List Token} → Suffixes d at a a j j
-    an_index : {d at : ℕ} {a b e : Expr} {t u : Token} {i j k : List Token} → Is LEFT_BRACKET t → Reads d expression b i (u ∷ j) → Is RIGHT_BRACKET u → Suffixes d at (index at a b) e j k → Suffixes d at a e (t ∷ i) k
+    an_index : {d at : ℕ} {a b e : Expr} {t u : Token} {i j k : List Token} → Is LEFT_BRACKET t → Reads d expression_level b i (u ∷ j) → Is RIGHT_BRACKET u → Suffixes d at (index at a b) e j k → Suffixes d at a e (t ∷ i) k
     an_empty_call : {d at : ℕ} {a e : Expr} {t u : Token} {i k : List Token} → Is LEFT_PARENTHESIS t → Is RIGHT_PARENTHESIS u → Suffixes d at (call at a no_exprs) e i k → Suffixes d at a e (t ∷ u ∷ i) k
     a_call : {d at : ℕ} {a e : Expr} {bs : Exprs} {t u : Token} {i j k : List Token} → Is LEFT_PARENTHESIS t → ReadsList d bs i (u ∷ j) → Is RIGHT_PARENTHESIS u → Suffixes d at (call at a bs) e j k → Suffixes d at a e (t ∷ i) k
     a_member : {d at : ℕ} {access : Access} {ident : Ident} {a e : Expr} {t u : Token} {i k : List Token} → IsAccess access t → Names ident u → Suffixes d at (member at access a ident) e i k → Suffixes d at a e (t ∷ u ∷ i) k
@@ -118,12 +118,12 @@ mutual
   -- the operators of the level n + 1 and their right operands from j to k make e of a, which begins at the place
   pub data Chain : ℕ → ℕ → ℕ → Expr → Expr → List Token → List Token → Type 0 where
     no_operator : {d n at : ℕ} {a : Expr} {j : List Token} → Chain d n at a a j j
-    an_operator : {d n at : ℕ} {o : Infix} {a b e : Expr} {t : Token} {i j k : List Token} → IsInfix o (suc n) → Is (code_of_infix o) t → Reads d (chained n) b i j → Chain d n at (binary at o a b) e j k → Chain d n at a e (t ∷ i) k
+    an_operator : {d n at : ℕ} {o : Infix} {a b e : Expr} {t : Token} {i j k : List Token} → IsInfix o (suc n) → Is (code_of_infix o) t → Reads d (binary_level n) b i j → Chain d n at (binary at o a b) e j k → Chain d n at a e (t ∷ i) k
 
   -- an expression, or nothing
   pub data ReadsSize : ℕ → Maybe → List Token → List Token → Type 0 where
     no_size : {d : ℕ} {i : List Token} → ReadsSize d absent i i
-    a_size : {d : ℕ} {e : Expr} {i j : List Token} → Reads d choosing e i j → ReadsSize d (there e) i j
+    a_size : {d : ℕ} {e : Expr} {i j : List Token} → Reads d conditional_level e i j → ReadsSize d (there e) i j
 
   -- the tokens from i to j are the name of a type (6.7.6)
   pub data ReadsType : ℕ → TypeName → List Token → List Token → Type 0 where
@@ -137,7 +137,7 @@ mutual
   -- a name, a declarator in parentheses, or nothing
   pub data ReadsCore : ℕ → Declarator → List Token → List Token → Type 0 where
     a_declared : {d : ℕ} {ident : Ident} {t : Token} {i : List Token} → Names ident t → ReadsCore d (named t.from ident) (t ∷ i) i
-    in_brackets : {d : ℕ} {e : Declarator} {t u : Token} {i j : List Token} → Is LEFT_PARENTHESIS t → Declares d e i (u ∷ j) → IsThere e → Is RIGHT_PARENTHESIS u → ReadsCore (suc d) e (t ∷ i) j
+    declarator_in_parentheses : {d : ℕ} {e : Declarator} {t u : Token} {i j : List Token} → Is LEFT_PARENTHESIS t → Declares d e i (u ∷ j) → IsThere e → Is RIGHT_PARENTHESIS u → ReadsCore (suc d) e (t ∷ i) j
     no_core : {d : ℕ} {i : List Token} → ReadsCore d nothing i i
 
   -- the array sizes and parameters from j to k make e of a, which begins at the place

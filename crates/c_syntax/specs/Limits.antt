@@ -5,10 +5,10 @@ use Rattle.dm_base.specs.declared.mode.Mode.{Mode}
 use Rattle.dm_base.specs.declared.mode.Mode.TheVariants.{Plain, Instrumented}
 use Rattle.c_syntax.specs.Tree.{Expr, a_name, an_int, a_char, a_str, comma, sizeof_type, cast, call, member, postfix, prefix, unary, index, binary, assign, conditional}
 use Rattle.c_syntax.specs.Tree.{Exprs, no_exprs, more_exprs, Maybe, absent, there, TypeName, type_name, Declarator, nothing, named, pointer, array, function, Params, no_params, more_params}
-use Rattle.c_syntax.specs.Tree.{Init, one, list, Inits, no_inits, more_inits, Value, no_value, value, Parts, no_parts, more_parts, Decl, decl}
+use Rattle.c_syntax.specs.Tree.{Init, one, list, Inits, no_inits, more_inits, MaybeInit, no_init, an_init, Parts, no_parts, more_parts, Decl, decl}
 use Rattle.c_syntax.specs.Tree.{First, first_absent, first_expr, first_decl, Labels, no_labels, case_label, default_label}
-use Rattle.c_syntax.specs.Tree.{Stmt, block, empty, evaluate, only_if, if_else, while_loop, do_loop, for_loop, switch_on, break_off, continue_on, return_from, Items, no_items, decl_item, stmt_item, Stmts, no_stmts, more_stmts, Groups, no_groups, more_groups}
-use Rattle.c_syntax.specs.Tree.{Declarators, no_declarators, more_declarators, Members, no_members, more_members, Enumerators, no_enumerators, more_enumerators, Outer, struct_outer, enum_outer, tag_outer, decl_outer, function_outer, Outers, no_outers, more_outers}
+use Rattle.c_syntax.specs.Tree.{Stmt, block, empty, evaluate, only_if, if_else, while_loop, do_loop, for_loop, switch_on, break_off, continue_on, return_from, BlockItems, no_block_items, block_decl, block_stmt, Stmts, no_stmts, more_stmts, Groups, no_groups, more_groups}
+use Rattle.c_syntax.specs.Tree.{Declarators, no_declarators, more_declarators, Members, no_members, more_members, Enumerators, no_enumerators, more_enumerators, Item, struct_item, enum_item, tag_item, decl_item, function_item, Items, no_items, more_items}
 
 -- the greatest depth of a counted node
 abbrev pub deepest : Mode → ℕ
@@ -69,13 +69,13 @@ abbrev mutual
   height_of_inits no_inits = 0
   height_of_inits (more_inits a rest) = max (height_of_init a) (height_of_inits rest)
 
-abbrev pub height_of_value : Value → ℕ
-height_of_value no_value = 0
-height_of_value (value a) = height_of_init a
+abbrev pub height_of_maybe_init : MaybeInit → ℕ
+height_of_maybe_init no_init = 0
+height_of_maybe_init (an_init a) = height_of_init a
 
 abbrev pub height_of_parts : Parts → ℕ
 height_of_parts no_parts = 0
-height_of_parts (more_parts e v rest) = max (height_of_declarator e) (max (height_of_value v) (height_of_parts rest))
+height_of_parts (more_parts e v rest) = max (height_of_declarator e) (max (height_of_maybe_init v) (height_of_parts rest))
 
 abbrev pub height_of_decl : Decl → ℕ
 height_of_decl (decl at st s ps) = height_of_parts ps
@@ -92,7 +92,7 @@ height_of_labels (default_label at rest) = height_of_labels rest
 
 abbrev mutual
   pub height_of_stmt : Stmt → ℕ
-  height_of_stmt (block at items) = suc (height_of_items items)
+  height_of_stmt (block at items) = suc (height_of_block_items items)
   height_of_stmt (empty at) = 1
   height_of_stmt (evaluate at e) = suc (height e)
   height_of_stmt (only_if at e s) = suc (max (height e) (height_of_stmt s))
@@ -105,10 +105,10 @@ abbrev mutual
   height_of_stmt (continue_on at) = 1
   height_of_stmt (return_from at e) = suc (height_of_maybe e)
 
-  pub height_of_items : Items → ℕ
-  height_of_items no_items = 0
-  height_of_items (decl_item x rest) = max (height_of_decl x) (height_of_items rest)
-  height_of_items (stmt_item s rest) = max (height_of_stmt s) (height_of_items rest)
+  pub height_of_block_items : BlockItems → ℕ
+  height_of_block_items no_block_items = 0
+  height_of_block_items (block_decl x rest) = max (height_of_decl x) (height_of_block_items rest)
+  height_of_block_items (block_stmt s rest) = max (height_of_stmt s) (height_of_block_items rest)
 
   pub height_of_stmts : Stmts → ℕ
   height_of_stmts no_stmts = 0
@@ -130,13 +130,13 @@ abbrev pub height_of_enumerators : Enumerators → ℕ
 height_of_enumerators no_enumerators = 0
 height_of_enumerators (more_enumerators ident e rest) = max (height_of_maybe e) (height_of_enumerators rest)
 
-abbrev pub height_of_outer : Outer → ℕ
-height_of_outer (struct_outer at ident ms) = height_of_members ms
-height_of_outer (enum_outer at g es) = height_of_enumerators es
-height_of_outer (tag_outer at ident) = 0
-height_of_outer (decl_outer at x) = height_of_decl x
-height_of_outer (function_outer at st s e b) = max (height_of_declarator e) (height_of_stmt b)
+abbrev pub height_of_item : Item → ℕ
+height_of_item (struct_item at ident ms) = height_of_members ms
+height_of_item (enum_item at g es) = height_of_enumerators es
+height_of_item (tag_item at ident) = 0
+height_of_item (decl_item at x) = height_of_decl x
+height_of_item (function_item at st s e b) = max (height_of_declarator e) (height_of_stmt b)
 
-abbrev pub height_of_unit : Outers → ℕ
-height_of_unit no_outers = 0
-height_of_unit (more_outers a rest) = max (height_of_outer a) (height_of_unit rest)
+abbrev pub height_of_unit : Items → ℕ
+height_of_unit no_items = 0
+height_of_unit (more_items a rest) = max (height_of_item a) (height_of_unit rest)

@@ -8,10 +8,10 @@ use Rattle.c_syntax.specs.Tree.{Storage, no_storage, static, extern, Spec, void,
 use Rattle.c_syntax.specs.Tree.{Postfix, post_increment, post_decrement, Prefix, pre_increment, pre_decrement, sizeof, Access, dot, arrow}
 use Rattle.c_syntax.specs.Tree.{Expr, a_name, an_int, a_char, a_str, comma, sizeof_type, cast, call, member, postfix, prefix, unary, index, binary, assign, conditional}
 use Rattle.c_syntax.specs.Tree.{Exprs, no_exprs, more_exprs, Maybe, absent, there, TypeName, type_name, Declarator, nothing, named, pointer, array, function, Params, no_params, more_params}
-use Rattle.c_syntax.specs.Tree.{Init, one, list, Inits, no_inits, more_inits, Value, no_value, value, Parts, no_parts, more_parts, Decl, decl}
+use Rattle.c_syntax.specs.Tree.{Init, one, list, Inits, no_inits, more_inits, MaybeInit, no_init, an_init, Parts, no_parts, more_parts, Decl, decl}
 use Rattle.c_syntax.specs.Tree.{First, first_absent, first_expr, first_decl, Labels, no_labels, case_label, default_label}
-use Rattle.c_syntax.specs.Tree.{Stmt, block, empty, evaluate, only_if, if_else, while_loop, do_loop, for_loop, switch_on, break_off, continue_on, return_from, Items, no_items, decl_item, stmt_item, Stmts, no_stmts, more_stmts, Groups, no_groups, more_groups}
-use Rattle.c_syntax.specs.Tree.{Declarators, no_declarators, more_declarators, Members, no_members, more_members, Enumerators, no_enumerators, more_enumerators, Tag, no_tag, tag, Outer, struct_outer, enum_outer, tag_outer, decl_outer, function_outer, Outers, no_outers, more_outers}
+use Rattle.c_syntax.specs.Tree.{Stmt, block, empty, evaluate, only_if, if_else, while_loop, do_loop, for_loop, switch_on, break_off, continue_on, return_from, BlockItems, no_block_items, block_decl, block_stmt, Stmts, no_stmts, more_stmts, Groups, no_groups, more_groups}
+use Rattle.c_syntax.specs.Tree.{Declarators, no_declarators, more_declarators, Members, no_members, more_members, Enumerators, no_enumerators, more_enumerators, Tag, no_tag, tag, Item, struct_item, enum_item, tag_item, decl_item, function_item, Items, no_items, more_items}
 use Rattle.c_syntax.specs.Tokens.{code_of_infix}
 
 -- kinds, and then others
@@ -150,12 +150,12 @@ abbrev mutual
   next_inits no_inits k = k
   next_inits (more_inits a rest) k = Punct p.COMMA ∷ init_kinds a (next_inits rest k)
 
-abbrev pub value_kinds : Value → Kinds → Kinds
-value_kinds no_value k = k
-value_kinds (value a) k = Punct p.ASSIGN ∷ init_kinds a k
+abbrev pub maybe_init_kinds : MaybeInit → Kinds → Kinds
+maybe_init_kinds no_init k = k
+maybe_init_kinds (an_init a) k = Punct p.ASSIGN ∷ init_kinds a k
 
-abbrev pub part_kinds : Declarator → Value → Kinds → Kinds
-part_kinds e v k = declarator_kinds e (value_kinds v k)
+abbrev pub part_kinds : Declarator → MaybeInit → Kinds → Kinds
+part_kinds e v k = declarator_kinds e (maybe_init_kinds v k)
 
 abbrev pub next_parts : Parts → Kinds → Kinds
 next_parts no_parts k = k
@@ -185,7 +185,7 @@ head_kinds e k = Punct p.LEFT_PARENTHESIS ∷ expr_kinds e (Punct p.RIGHT_PARENT
 
 abbrev mutual
   pub stmt_kinds : Stmt → Kinds → Kinds
-  stmt_kinds (block at items) k = Punct p.LEFT_BRACE ∷ items_kinds items (Punct p.RIGHT_BRACE ∷ k)
+  stmt_kinds (block at items) k = Punct p.LEFT_BRACE ∷ block_items_kinds items (Punct p.RIGHT_BRACE ∷ k)
   stmt_kinds (empty at) k = Punct p.SEMICOLON ∷ k
   stmt_kinds (evaluate at e) k = expr_kinds e (Punct p.SEMICOLON ∷ k)
   stmt_kinds (only_if at e s) k = Keyword w.IF ∷ head_kinds e (stmt_kinds s k)
@@ -198,10 +198,10 @@ abbrev mutual
   stmt_kinds (continue_on at) k = Keyword w.CONTINUE ∷ Punct p.SEMICOLON ∷ k
   stmt_kinds (return_from at e) k = Keyword w.RETURN ∷ maybe_kinds e (Punct p.SEMICOLON ∷ k)
 
-  pub items_kinds : Items → Kinds → Kinds
-  items_kinds no_items k = k
-  items_kinds (decl_item x rest) k = decl_kinds x (items_kinds rest k)
-  items_kinds (stmt_item s rest) k = stmt_kinds s (items_kinds rest k)
+  pub block_items_kinds : BlockItems → Kinds → Kinds
+  block_items_kinds no_block_items k = k
+  block_items_kinds (block_decl x rest) k = decl_kinds x (block_items_kinds rest k)
+  block_items_kinds (block_stmt s rest) k = stmt_kinds s (block_items_kinds rest k)
 
   pub stmts_kinds : Stmts → Kinds → Kinds
   stmts_kinds no_stmts k = k
@@ -224,29 +224,29 @@ members_kinds no_members k = k
 members_kinds (more_members at s es rest) k = spec_kinds s (declarators_kinds es (Punct p.SEMICOLON ∷ members_kinds rest k))
 
 -- the value of an enumerator, where one stands
-abbrev pub number_kinds : Maybe → Kinds → Kinds
-number_kinds absent k = k
-number_kinds (there e) k = Punct p.ASSIGN ∷ operand_kinds e k
+abbrev pub enumerator_value_kinds : Maybe → Kinds → Kinds
+enumerator_value_kinds absent k = k
+enumerator_value_kinds (there e) k = Punct p.ASSIGN ∷ operand_kinds e k
 
 abbrev pub next_enumerators : Enumerators → Kinds → Kinds
 next_enumerators no_enumerators k = k
-next_enumerators (more_enumerators x e rest) k = Punct p.COMMA ∷ Name x.name ∷ number_kinds e (next_enumerators rest k)
+next_enumerators (more_enumerators x e rest) k = Punct p.COMMA ∷ Name x.name ∷ enumerator_value_kinds e (next_enumerators rest k)
 
 abbrev pub enumerators_kinds : Enumerators → Kinds → Kinds
 enumerators_kinds no_enumerators k = k
-enumerators_kinds (more_enumerators x e rest) k = Name x.name ∷ number_kinds e (next_enumerators rest k)
+enumerators_kinds (more_enumerators x e rest) k = Name x.name ∷ enumerator_value_kinds e (next_enumerators rest k)
 
 abbrev pub tag_kinds : Tag → Kinds → Kinds
 tag_kinds no_tag k = k
 tag_kinds (tag x) k = Name x.name ∷ k
 
-abbrev pub outer_kinds : Outer → Kinds → Kinds
-outer_kinds (struct_outer at x ms) k = Keyword w.STRUCT ∷ Name x.name ∷ Punct p.LEFT_BRACE ∷ members_kinds ms (Punct p.RIGHT_BRACE ∷ Punct p.SEMICOLON ∷ k)
-outer_kinds (enum_outer at g es) k = Keyword w.ENUM ∷ tag_kinds g (Punct p.LEFT_BRACE ∷ enumerators_kinds es (Punct p.RIGHT_BRACE ∷ Punct p.SEMICOLON ∷ k))
-outer_kinds (tag_outer at x) k = Keyword w.STRUCT ∷ Name x.name ∷ Punct p.SEMICOLON ∷ k
-outer_kinds (decl_outer at x) k = decl_kinds x k
-outer_kinds (function_outer at st s e b) k = storage_kinds st (spec_kinds s (declarator_kinds e (stmt_kinds b k)))
+abbrev pub item_kinds : Item → Kinds → Kinds
+item_kinds (struct_item at x ms) k = Keyword w.STRUCT ∷ Name x.name ∷ Punct p.LEFT_BRACE ∷ members_kinds ms (Punct p.RIGHT_BRACE ∷ Punct p.SEMICOLON ∷ k)
+item_kinds (enum_item at g es) k = Keyword w.ENUM ∷ tag_kinds g (Punct p.LEFT_BRACE ∷ enumerators_kinds es (Punct p.RIGHT_BRACE ∷ Punct p.SEMICOLON ∷ k))
+item_kinds (tag_item at x) k = Keyword w.STRUCT ∷ Name x.name ∷ Punct p.SEMICOLON ∷ k
+item_kinds (decl_item at x) k = decl_kinds x k
+item_kinds (function_item at st s e b) k = storage_kinds st (spec_kinds s (declarator_kinds e (stmt_kinds b k)))
 
-abbrev pub unit_kinds : Outers → Kinds → Kinds
-unit_kinds no_outers k = k
-unit_kinds (more_outers a rest) k = outer_kinds a (unit_kinds rest k)
+abbrev pub unit_kinds : Items → Kinds → Kinds
+unit_kinds no_items k = k
+unit_kinds (more_items a rest) k = item_kinds a (unit_kinds rest k)

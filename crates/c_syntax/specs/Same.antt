@@ -3,10 +3,10 @@ use Rattle.std.specs.Prelude.{◌≡◌}
 use Rattle.c_syntax.specs.Tree.{Ident, Spec, void, char, unsigned_char, int, unsigned_int, struct, enum}
 use Rattle.c_syntax.specs.Tree.{Expr, a_name, an_int, a_char, a_str, comma, sizeof_type, cast, call, member, postfix, prefix, unary, index, binary, assign, conditional}
 use Rattle.c_syntax.specs.Tree.{Exprs, no_exprs, more_exprs, Maybe, absent, there, TypeName, type_name, Declarator, nothing, named, pointer, array, function, Params, no_params, more_params}
-use Rattle.c_syntax.specs.Tree.{Init, one, list, Inits, no_inits, more_inits, Value, no_value, value, Parts, no_parts, more_parts, Decl, decl}
+use Rattle.c_syntax.specs.Tree.{Init, one, list, Inits, no_inits, more_inits, MaybeInit, no_init, an_init, Parts, no_parts, more_parts, Decl, decl}
 use Rattle.c_syntax.specs.Tree.{First, first_absent, first_expr, first_decl, Labels, no_labels, case_label, default_label}
-use Rattle.c_syntax.specs.Tree.{Stmt, block, empty, evaluate, only_if, if_else, while_loop, do_loop, for_loop, switch_on, break_off, continue_on, return_from, Items, no_items, decl_item, stmt_item, Stmts, no_stmts, more_stmts, Groups, no_groups, more_groups}
-use Rattle.c_syntax.specs.Tree.{Declarators, no_declarators, more_declarators, Members, no_members, more_members, Enumerators, no_enumerators, more_enumerators, Tag, no_tag, tag, Outer, struct_outer, enum_outer, tag_outer, decl_outer, function_outer, Outers, no_outers, more_outers}
+use Rattle.c_syntax.specs.Tree.{Stmt, block, empty, evaluate, only_if, if_else, while_loop, do_loop, for_loop, switch_on, break_off, continue_on, return_from, BlockItems, no_block_items, block_decl, block_stmt, Stmts, no_stmts, more_stmts, Groups, no_groups, more_groups}
+use Rattle.c_syntax.specs.Tree.{Declarators, no_declarators, more_declarators, Members, no_members, more_members, Enumerators, no_enumerators, more_enumerators, Tag, no_tag, tag, Item, struct_item, enum_item, tag_item, decl_item, function_item, Items, no_items, more_items}
 
 -- in each of them every place is 0
 abbrev pub unplaced_ident : Ident → Ident
@@ -71,13 +71,13 @@ abbrev mutual
   unplaced_inits no_inits = no_inits
   unplaced_inits (more_inits a rest) = more_inits (unplaced_init a) (unplaced_inits rest)
 
-abbrev pub unplaced_value : Value → Value
-unplaced_value no_value = no_value
-unplaced_value (value a) = value (unplaced_init a)
+abbrev pub unplaced_maybe_init : MaybeInit → MaybeInit
+unplaced_maybe_init no_init = no_init
+unplaced_maybe_init (an_init a) = an_init (unplaced_init a)
 
 abbrev pub unplaced_parts : Parts → Parts
 unplaced_parts no_parts = no_parts
-unplaced_parts (more_parts e v rest) = more_parts (unplaced_declarator e) (unplaced_value v) (unplaced_parts rest)
+unplaced_parts (more_parts e v rest) = more_parts (unplaced_declarator e) (unplaced_maybe_init v) (unplaced_parts rest)
 
 abbrev pub unplaced_decl : Decl → Decl
 unplaced_decl (decl at st s ps) = decl 0 st (unplaced_spec s) (unplaced_parts ps)
@@ -94,7 +94,7 @@ unplaced_labels (default_label at rest) = default_label 0 (unplaced_labels rest)
 
 abbrev mutual
   pub unplaced_stmt : Stmt → Stmt
-  unplaced_stmt (block at items) = block 0 (unplaced_items items)
+  unplaced_stmt (block at items) = block 0 (unplaced_block_items items)
   unplaced_stmt (empty at) = empty 0
   unplaced_stmt (evaluate at e) = evaluate 0 (unplaced e)
   unplaced_stmt (only_if at e s) = only_if 0 (unplaced e) (unplaced_stmt s)
@@ -107,10 +107,10 @@ abbrev mutual
   unplaced_stmt (continue_on at) = continue_on 0
   unplaced_stmt (return_from at e) = return_from 0 (unplaced_maybe e)
 
-  pub unplaced_items : Items → Items
-  unplaced_items no_items = no_items
-  unplaced_items (decl_item x rest) = decl_item (unplaced_decl x) (unplaced_items rest)
-  unplaced_items (stmt_item s rest) = stmt_item (unplaced_stmt s) (unplaced_items rest)
+  pub unplaced_block_items : BlockItems → BlockItems
+  unplaced_block_items no_block_items = no_block_items
+  unplaced_block_items (block_decl x rest) = block_decl (unplaced_decl x) (unplaced_block_items rest)
+  unplaced_block_items (block_stmt s rest) = block_stmt (unplaced_stmt s) (unplaced_block_items rest)
 
   pub unplaced_stmts : Stmts → Stmts
   unplaced_stmts no_stmts = no_stmts
@@ -136,17 +136,17 @@ abbrev pub unplaced_tag : Tag → Tag
 unplaced_tag no_tag = no_tag
 unplaced_tag (tag x) = tag (unplaced_ident x)
 
-abbrev pub unplaced_outer : Outer → Outer
-unplaced_outer (struct_outer at x ms) = struct_outer 0 (unplaced_ident x) (unplaced_members ms)
-unplaced_outer (enum_outer at g es) = enum_outer 0 (unplaced_tag g) (unplaced_enumerators es)
-unplaced_outer (tag_outer at x) = tag_outer 0 (unplaced_ident x)
-unplaced_outer (decl_outer at x) = decl_outer 0 (unplaced_decl x)
-unplaced_outer (function_outer at st s e b) = function_outer 0 st (unplaced_spec s) (unplaced_declarator e) (unplaced_stmt b)
+abbrev pub unplaced_item : Item → Item
+unplaced_item (struct_item at x ms) = struct_item 0 (unplaced_ident x) (unplaced_members ms)
+unplaced_item (enum_item at g es) = enum_item 0 (unplaced_tag g) (unplaced_enumerators es)
+unplaced_item (tag_item at x) = tag_item 0 (unplaced_ident x)
+unplaced_item (decl_item at x) = decl_item 0 (unplaced_decl x)
+unplaced_item (function_item at st s e b) = function_item 0 st (unplaced_spec s) (unplaced_declarator e) (unplaced_stmt b)
 
-abbrev pub unplaced_unit : Outers → Outers
-unplaced_unit no_outers = no_outers
-unplaced_unit (more_outers a rest) = more_outers (unplaced_outer a) (unplaced_unit rest)
+abbrev pub unplaced_unit : Items → Items
+unplaced_unit no_items = no_items
+unplaced_unit (more_items a rest) = more_items (unplaced_item a) (unplaced_unit rest)
 
 -- the units are equal apart from places
-abbrev pub AreSame : Outers → Outers → Type 0
+abbrev pub AreSame : Items → Items → Type 0
 AreSame u v = unplaced_unit u ≡ unplaced_unit v

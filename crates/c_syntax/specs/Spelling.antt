@@ -5,28 +5,28 @@ use Rattle.dm_base.specs.declared.mode.Mode.TheVariants.{Instrumented}
 use Rattle.c_lexer.specs.Spelling.{SpellsTokens}
 use Rattle.c_syntax.specs.Same.{AreSame}
 use Rattle.c_lexer.specs.declared.token.Token.{Token}
-use Rattle.c_syntax.specs.Tree.{Outers}
-use Rattle.c_syntax.specs.Statements.{ReadsOuters}
+use Rattle.c_syntax.specs.Tree.{Items}
+use Rattle.c_syntax.specs.Statements.{ReadsItems}
 use Rattle.c_syntax.specs.Limits.{deepest, most_pairs, height_of_unit}
 
 -- the tokens spell the unit, whatever the depth of its nodes and the number of parentheses
-abbrev pub SpellsAnyDepth : Outers → List Token → Type 0
-SpellsAnyDepth unit tokens = (d : ℕ) × ReadsOuters d unit tokens []
+abbrev pub SpellsAnyDepth : Items → List Token → Type 0
+SpellsAnyDepth unit tokens = (d : ℕ) × ReadsItems d unit tokens []
 
 -- the tokens spell the unit within the limits of the mode: no node is too deep, and no token stands in too many pairs of
 -- parentheses that make no node
-pub record SpellsUnit (unit : Outers) (tokens : List Token) (mode : Mode) : Type 0 where
-  pub reads : ReadsOuters most_pairs unit tokens []
+pub record SpellsUnit (unit : Items) (tokens : List Token) (mode : Mode) : Type 0 where
+  pub reads : ReadsItems most_pairs unit tokens []
   pub nested : height_of_unit unit ≤ deepest mode
 
 -- some tokens spell the unit within the widest limits
-abbrev pub IsUnit : Outers → Type 0
+abbrev pub IsUnit : Items → Type 0
 IsUnit unit = (tokens : List Token) × SpellsUnit unit tokens Instrumented
 
 -- the tokens of the text spell a unit that is the same apart from places
-pub record IsReadAs (text : List ℕ) (unit : Outers) : Type 0 where
+pub record IsReadAs (text : List ℕ) (unit : Items) : Type 0 where
   pub tokens : List Token
-  pub other : Outers
+  pub other : Items
   pub lexed : SpellsTokens text Instrumented tokens
   pub spelled : SpellsUnit other tokens Instrumented
   pub same : AreSame other unit

@@ -4,7 +4,7 @@ use Rattle.c_lexer.specs.declared.token.TokenKind.{TokenKind}
 use Rattle.c_lexer.specs.declared.token.TokenKind.TheVariants.{Name, Keyword, Int, Char, Str, Punct}
 use Rattle.c_lexer.specs.declared.punctuator.TheConstants.{LEFT_BRACE, RIGHT_BRACE, SEMICOLON}
 use Rattle.c_lexer.specs.Words.{keywords, punctuators}
-use Rattle.c_syntax.specs.Tree.{Outers}
+use Rattle.c_syntax.specs.Tree.{Items}
 use Rattle.c_syntax.specs.Print.{unit_kinds}
 
 -- the byte that a character from -128 to 127 is
@@ -53,5 +53,5 @@ kinds_text [] = []
 kinds_text (kind ∷ kinds) = kind_text kind ++ space_after kind ∷ kinds_text kinds
 
 -- the printed text of a unit; its last token ends a line
-abbrev pub unit_text : Outers → List ℕ
+abbrev pub unit_text : Items → List ℕ
 unit_text unit = kinds_text (unit_kinds unit [])

@@ -12,10 +12,10 @@ pub record Is (code : ℕ) (t : Token) : Type 0 where
   pub kind : t.kind ≡ Punct code
 
 -- the token is the keyword with the number
-pub record IsWord (code : ℕ) (t : Token) : Type 0 where
+pub record IsKeyword (code : ℕ) (t : Token) : Type 0 where
   pub kind : t.kind ≡ Keyword code
 
-pub record IsName (name : List ℕ) (t : Token) : Type 0 where
+pub record IsNameToken (name : List ℕ) (t : Token) : Type 0 where
   pub kind : t.kind ≡ Name name
 
 pub record IsInt (value : ℕ) (unsigned : Bool) (t : Token) : Type 0 where
@@ -85,7 +85,7 @@ IsPostfix post_decrement t = Is DECREMENT t
 abbrev pub IsPrefix : Prefix → Token → Type 0
 IsPrefix pre_increment t = Is INCREMENT t
 IsPrefix pre_decrement t = Is DECREMENT t
-IsPrefix sizeof t = IsWord SIZEOF t
+IsPrefix sizeof t = IsKeyword SIZEOF t
 
 abbrev pub IsAccess : Access → Token → Type 0
 IsAccess dot t = Is DOT t

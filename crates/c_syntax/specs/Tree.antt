@@ -88,14 +88,14 @@ mutual
     more_inits : Init → Inits → Inits
 
 -- the initialiser of a declarator, where one stands
-pub data Value : Type 0 where
-  no_value : Value
-  value : Init → Value
+pub data MaybeInit : Type 0 where
+  no_init : MaybeInit
+  an_init : Init → MaybeInit
 
 -- declarators, each perhaps with an initialiser
 pub data Parts : Type 0 where
   no_parts : Parts
-  more_parts : Declarator → Value → Parts → Parts
+  more_parts : Declarator → MaybeInit → Parts → Parts
 
 -- a declaration
 pub data Decl : Type 0 where
@@ -115,7 +115,7 @@ pub data Labels : Type 0 where
 mutual
   -- a statement
   pub data Stmt : Type 0 where
-    block : (at : ℕ) → Items → Stmt
+    block : (at : ℕ) → BlockItems → Stmt
     empty : (at : ℕ) → Stmt
     evaluate : (at : ℕ) → Expr → Stmt
     only_if : (at : ℕ) → Expr → Stmt → Stmt
@@ -129,10 +129,10 @@ mutual
     return_from : (at : ℕ) → Maybe → Stmt
 
   -- declarations and statements of a block
-  pub data Items : Type 0 where
-    no_items : Items
-    decl_item : Decl → Items → Items
-    stmt_item : Stmt → Items → Items
+  pub data BlockItems : Type 0 where
+    no_block_items : BlockItems
+    block_decl : Decl → BlockItems → BlockItems
+    block_stmt : Stmt → BlockItems → BlockItems
 
   pub data Stmts : Type 0 where
     no_stmts : Stmts
@@ -161,14 +161,14 @@ pub data Tag : Type 0 where
   tag : Ident → Tag
 
 -- what stands at file scope
-pub data Outer : Type 0 where
-  struct_outer : (at : ℕ) → Ident → Members → Outer
-  enum_outer : (at : ℕ) → Tag → Enumerators → Outer
-  tag_outer : (at : ℕ) → Ident → Outer
-  decl_outer : (at : ℕ) → Decl → Outer
-  function_outer : (at : ℕ) → Storage → Spec → Declarator → Stmt → Outer
+pub data Item : Type 0 where
+  struct_item : (at : ℕ) → Ident → Members → Item
+  enum_item : (at : ℕ) → Tag → Enumerators → Item
+  tag_item : (at : ℕ) → Ident → Item
+  decl_item : (at : ℕ) → Decl → Item
+  function_item : (at : ℕ) → Storage → Spec → Declarator → Stmt → Item
 
 -- a unit
-pub data Outers : Type 0 where
-  no_outers : Outers
-  more_outers : Outer → Outers → Outers
+pub data Items : Type 0 where
+  no_items : Items
+  more_items : Item → Items → Items

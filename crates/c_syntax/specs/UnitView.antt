@@ -21,15 +21,15 @@ use Rattle.c_syntax.specs.declared.tree.BlockItem.{BlockItem, Declaration, State
 use Rattle.c_syntax.specs.declared.tree.Group.{Group, Group', Row_of-Stmt, end_of-Stmt, more_of-Stmt}
 use Rattle.c_syntax.specs.declared.tree.Member.{Member}
 use Rattle.c_syntax.specs.declared.tree.Enumerator.{Enumerator}
-use Rattle.c_syntax.specs.declared.tree.Item.{Item}
+use Rattle.c_syntax.specs.declared.tree.Item.{Item as ItemTree}
 use Rattle.c_syntax.specs.declared.tree.ItemKind.{ItemKind}
 use Rattle.c_syntax.specs.declared.tree.ItemKind.TheVariants as o
 use Rattle.c_syntax.specs.View.{ident_of, spec_of, expr_of, declarator_of}
 use Rattle.c_syntax.specs.Tree.{Storage, no_storage, static, extern, Maybe, absent, there}
-use Rattle.c_syntax.specs.Tree.{Init, one, list, Inits, no_inits, more_inits, Value, no_value, value, Parts, no_parts, more_parts, Decl, decl}
+use Rattle.c_syntax.specs.Tree.{Init, one, list, Inits, no_inits, more_inits, MaybeInit, no_init, an_init, Parts, no_parts, more_parts, Decl, decl}
 use Rattle.c_syntax.specs.Tree.{First, first_absent, first_expr, first_decl, Labels, no_labels, case_label, default_label}
-use Rattle.c_syntax.specs.Tree.{Stmt, block, empty, evaluate, only_if, if_else, while_loop, do_loop, for_loop, switch_on, break_off, continue_on, return_from, Items, no_items, decl_item, stmt_item, Stmts, no_stmts, more_stmts, Groups, no_groups, more_groups}
-use Rattle.c_syntax.specs.Tree.{Declarators, no_declarators, more_declarators, Members, no_members, more_members, Enumerators, no_enumerators, more_enumerators, Tag, no_tag, tag, Outer, struct_outer, enum_outer, tag_outer, decl_outer, function_outer, Outers, no_outers, more_outers}
+use Rattle.c_syntax.specs.Tree.{Stmt, block, empty, evaluate, only_if, if_else, while_loop, do_loop, for_loop, switch_on, break_off, continue_on, return_from, BlockItems, no_block_items, block_decl, block_stmt, Stmts, no_stmts, more_stmts, Groups, no_groups, more_groups}
+use Rattle.c_syntax.specs.Tree.{Declarators, no_declarators, more_declarators, Members, no_members, more_members, Enumerators, no_enumerators, more_enumerators, Tag, no_tag, tag, Item, struct_item, enum_item, tag_item, decl_item, function_item, Items, no_items, more_items}
 
 abbrev pub storage_of : Stored → Storage
 storage_of st.Absent = no_storage
@@ -52,13 +52,13 @@ abbrev mutual
 abbrev pub init_of : InitTree → Init
 init_of x = init_at x.at x.kind
 
-abbrev pub value_of : Option InitTree → Value
-value_of None = no_value
-value_of (Some x) = value (init_of x)
+abbrev pub maybe_init_of : Option InitTree → MaybeInit
+maybe_init_of None = no_init
+maybe_init_of (Some x) = an_init (init_of x)
 
 abbrev pub parts_of : List DeclPart → Parts
 parts_of [] = no_parts
-parts_of (p ∷ ps) = more_parts (declarator_of p.declarator) (value_of p.init) (parts_of ps)
+parts_of (p ∷ ps) = more_parts (declarator_of p.declarator) (maybe_init_of p.init) (parts_of ps)
 
 abbrev pub decl_of : DeclTree → Decl
 decl_of x = decl x.at (storage_of x.storage) (spec_of x.spec) (parts_of x.parts.items)
@@ -82,7 +82,7 @@ if_with at e s (Some r) = if_else at (expr_of e) s r
 
 abbrev mutual
   pub stmt_at : ℕ → StmtKind → Stmt
-  stmt_at at (Block' shape row) = block at (items_of_row row)
+  stmt_at at (Block' shape row) = block at (block_items_of_row row)
   stmt_at at Empty = empty at
   stmt_at at (Evaluated e) = evaluate at (expr_of e)
   stmt_at at (If' e p a1 k1 held) = if_with at e (stmt_at a1 k1) (else_of held)
@@ -98,13 +98,13 @@ abbrev mutual
   else_of None' = None
   else_of (Some' p at kind) = Some (stmt_at at kind)
 
-  pub items_of_row : {m : _} → Row_of-BlockItem m → Items
-  items_of_row end_of-BlockItem = no_items
-  items_of_row (more_of-BlockItem x rest) = item_before x (items_of_row rest)
+  pub block_items_of_row : {m : _} → Row_of-BlockItem m → BlockItems
+  block_items_of_row end_of-BlockItem = no_block_items
+  block_items_of_row (more_of-BlockItem x rest) = block_item_before x (block_items_of_row rest)
 
-  pub item_before : BlockItem → Items → Items
-  item_before (Declaration x) rest = decl_item (decl_of x) rest
-  item_before (Statement' at kind) rest = stmt_item (stmt_at at kind) rest
+  pub block_item_before : BlockItem → BlockItems → BlockItems
+  block_item_before (Declaration x) rest = block_decl (decl_of x) rest
+  block_item_before (Statement' at kind) rest = block_stmt (stmt_at at kind) rest
 
   pub groups_of_row : {m : _} → Row_of-Group m → Groups
   groups_of_row end_of-Group = no_groups
@@ -136,13 +136,13 @@ abbrev pub tag_of : Option Named → Tag
 tag_of None = no_tag
 tag_of (Some x) = tag (ident_of x)
 
-abbrev pub outer_at : ℕ → ItemKind → Outer
-outer_at at (o.Struct x ms) = struct_outer at (ident_of x) (members_of ms.items)
-outer_at at (o.Enum x es) = enum_outer at (tag_of x) (enumerators_of es.items)
-outer_at at (o.Tag x) = tag_outer at (ident_of x)
-outer_at at (o.Declaration x) = decl_outer at (decl_of x)
-outer_at at (o.Function s p e b) = function_outer at (storage_of s) (spec_of p) (declarator_of e) (stmt_of b)
+abbrev pub item_at : ℕ → ItemKind → Item
+item_at at (o.Struct x ms) = struct_item at (ident_of x) (members_of ms.items)
+item_at at (o.Enum x es) = enum_item at (tag_of x) (enumerators_of es.items)
+item_at at (o.Tag x) = tag_item at (ident_of x)
+item_at at (o.Declaration x) = decl_item at (decl_of x)
+item_at at (o.Function s p e b) = function_item at (storage_of s) (spec_of p) (declarator_of e) (stmt_of b)
 
-abbrev pub outers_of : List Item → Outers
-outers_of [] = no_outers
-outers_of (x ∷ xs) = more_outers (outer_at x.at x.kind) (outers_of xs)
+abbrev pub items_of : List ItemTree → Items
+items_of [] = no_items
+items_of (x ∷ xs) = more_items (item_at x.at x.kind) (items_of xs)

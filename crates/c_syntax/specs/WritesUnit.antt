@@ -9,17 +9,17 @@ use Rattle.c_syntax.specs.declared.tree.LabelKind.{LabelKind}
 use Rattle.c_syntax.specs.declared.tree.Stmt.{Stmt as StmtTree}
 use Rattle.c_syntax.specs.declared.tree.BlockItem.{BlockItem}
 use Rattle.c_syntax.specs.declared.tree.Group.{Group}
-use Rattle.c_syntax.specs.Tree.{Ident, Spec, Expr, Maybe, Inits, no_inits, more_inits, Parts, First, no_labels, Stmt, Items, no_items, Stmts, no_stmts, more_stmts, Groups, no_groups, Declarators, Enumerators}
-use Rattle.c_syntax.specs.UnitView.{init_of, label_before, stmt_of, item_before, group_before}
-use Rattle.c_syntax.specs.Print.{Kinds, inits_kinds, next_inits, parts_kinds, next_parts, first_kinds, maybe_kinds, head_kinds, labels_kinds, stmt_kinds, spec_kinds, declarators_kinds, next_declarators, number_kinds, enumerators_kinds, next_enumerators}
+use Rattle.c_syntax.specs.Tree.{Ident, Spec, Expr, Maybe, Inits, no_inits, more_inits, Parts, First, no_labels, Stmt, BlockItems, no_block_items, Stmts, no_stmts, more_stmts, Groups, no_groups, Declarators, Enumerators}
+use Rattle.c_syntax.specs.UnitView.{init_of, label_before, stmt_of, block_item_before, group_before}
+use Rattle.c_syntax.specs.Print.{Kinds, inits_kinds, next_inits, parts_kinds, next_parts, first_kinds, maybe_kinds, head_kinds, labels_kinds, stmt_kinds, spec_kinds, declarators_kinds, next_declarators, enumerator_value_kinds, enumerators_kinds, next_enumerators}
 
 abbrev pub inits_of : List InitTree → Inits
 inits_of [] = no_inits
 inits_of (x ∷ xs) = more_inits (init_of x) (inits_of xs)
 
-abbrev pub items_of : List BlockItem → Items
-items_of [] = no_items
-items_of (x ∷ xs) = item_before x (items_of xs)
+abbrev pub block_items_of : List BlockItem → BlockItems
+block_items_of [] = no_block_items
+block_items_of (x ∷ xs) = block_item_before x (block_items_of xs)
 
 abbrev pub stmts_of : List StmtTree → Stmts
 stmts_of [] = no_stmts
@@ -58,7 +58,7 @@ abbrev pub member_kinds : Spec → Declarators → Kinds → Kinds
 member_kinds s es k = spec_kinds s (declarators_kinds es (Punct p.SEMICOLON ∷ k))
 
 abbrev pub enumerator_kinds : Ident → Maybe → Kinds → Kinds
-enumerator_kinds x e k = Name x.name ∷ number_kinds e k
+enumerator_kinds x e k = Name x.name ∷ enumerator_value_kinds e k
 
 -- what is left of a list, at its beginning or after others
 abbrev pub left_inits : Bool → Inits → Kinds → Kinds

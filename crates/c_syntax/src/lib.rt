@@ -4,8 +4,6 @@
 
 mod laws;
 mod printing;
-#[cfg(test)]
-mod tests;
 mod tree;
 mod unit;
 

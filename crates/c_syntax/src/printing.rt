@@ -1,5 +1,5 @@
 ghost use Rattle.std.specs.Prelude.{◌≡◌, ◌≤◌, IfOk, length};
-ghost use Rattle.c_syntax.specs.UnitView.{outers_of};
+ghost use Rattle.c_syntax.specs.UnitView.{items_of};
 ghost use Rattle.c_syntax.specs.Text.{unit_text};
 ghost use Rattle.c_syntax.specs.Spelling.{IsReadAs};
 
@@ -7,8 +7,6 @@ mod declarations;
 mod expressions;
 mod items;
 mod statements;
-#[cfg(test)]
-mod tests;
 mod tokens;
 
 use crate::Unit;
@@ -21,8 +19,8 @@ use std::alloc::Global;
 /// stands bare, any other in parentheses. Where the text has at most 16 MiB, its tokens spell, in
 /// the mode Instrumented, a unit that is the same apart from places.
 pub fn print(alloc: Global, unit: &Unit) -> Result<Vec<u8>, OutOfMemory>
-    ensures text { IfOk result (λ text. text.items ≡ unit_text (outers_of unit.now.items.items)) }
-    ensures back { IfOk result (λ text. length text.items ≤ 16777216 → ∥ IsReadAs text.items (outers_of unit.now.items.items) ∥₁) }
+    ensures text { IfOk result (λ text. text.items ≡ unit_text (items_of unit.now.items.items)) }
+    ensures back { IfOk result (λ text. length text.items ≤ 16777216 → ∥ IsReadAs text.items (items_of unit.now.items.items) ∥₁) }
 {
     let text = write_unit(alloc, unit)?;
     Ok(text)
@@ -30,7 +28,7 @@ pub fn print(alloc: Global, unit: &Unit) -> Result<Vec<u8>, OutOfMemory>
 
 // The text of a unit.
 fn write_unit(alloc: Global, unit: &Unit) -> Result<Vec<u8>, OutOfMemory>
-    ensures { IfOk result (λ text. text.items ≡ unit_text (outers_of unit.now.items.items)) }
+    ensures { IfOk result (λ text. text.items ≡ unit_text (items_of unit.now.items.items)) }
 {
     let mut out = Vec::new(alloc);
     write_items(&mut out, &unit.items)?;

@@ -1,4 +1,4 @@
-ghost use Rattle.c_syntax.specs.UnitView.{outers_of};
+ghost use Rattle.c_syntax.specs.UnitView.{items_of};
 ghost use Rattle.c_syntax.specs.Spelling.{IsUnit};
 
 use crate::tree::Item;
@@ -8,5 +8,5 @@ use crate::tree::Item;
 pub struct Unit {
     /// What stands at file scope, in order.
     pub items: Vec<Item>,
-    pub ghost spelled: { ∥ IsUnit (outers_of items.items) ∥₁ },
+    pub ghost spelled: { ∥ IsUnit (items_of items.items) ∥₁ },
 }

@@ -1,5 +1,5 @@
 ghost use Rattle.std.specs.Prelude.{OnOk};
-ghost use Rattle.c_syntax.specs.UnitView.{storage_of, init_of, parts_of, value_of, decl_of, maybe_of};
+ghost use Rattle.c_syntax.specs.UnitView.{storage_of, init_of, parts_of, maybe_init_of, decl_of, maybe_of};
 ghost use Rattle.c_syntax.specs.View.{declarator_of};
 ghost use Rattle.c_syntax.specs.Print.{storage_kinds, init_kinds, inits_kinds, part_kinds, parts_kinds, decl_kinds, maybe_kinds};
 ghost use Rattle.c_syntax.specs.Writes.{Writes};
@@ -64,7 +64,7 @@ fn write_inits(out: &mut Vec<u8>, all: &[Init]) -> Result<(), OutOfMemory>
 
 // Writes the declarator with its initialiser.
 fn write_part(out: &mut Vec<u8>, part: &DeclPart) -> Result<(), OutOfMemory>
-    ensures { OnOk result (Writes out.old.items out.new.items (part_kinds (declarator_of part.now.declarator) (value_of part.now.init))) }
+    ensures { OnOk result (Writes out.old.items out.new.items (part_kinds (declarator_of part.now.declarator) (maybe_init_of part.now.init))) }
 {
     write_declarator(out, &part.declarator)?;
     match &part.init {

@@ -1,7 +1,7 @@
 ghost use Rattle.std.specs.Prelude.{OnOk};
 ghost use Rattle.c_syntax.specs.View.{ident_of, spec_of};
-ghost use Rattle.c_syntax.specs.UnitView.{declarators_of, members_of, enumerators_of, tag_of, outer_at, outers_of, maybe_of};
-ghost use Rattle.c_syntax.specs.Print.{declarators_kinds, members_kinds, number_kinds, enumerators_kinds, tag_kinds, outer_kinds, unit_kinds};
+ghost use Rattle.c_syntax.specs.UnitView.{declarators_of, members_of, enumerators_of, tag_of, item_at, items_of, maybe_of};
+ghost use Rattle.c_syntax.specs.Print.{declarators_kinds, members_kinds, enumerator_value_kinds, enumerators_kinds, tag_kinds, item_kinds, unit_kinds};
 ghost use Rattle.c_syntax.specs.Writes.{Writes};
 ghost use Rattle.c_syntax.specs.WritesUnit.{member_kinds, enumerator_kinds};
 
@@ -16,7 +16,7 @@ use dm_base::OutOfMemory;
 
 // Writes what stands at file scope, in order.
 pub fn write_items(out: &mut Vec<u8>, items: &[Item]) -> Result<(), OutOfMemory>
-    ensures { OnOk result (Writes out.old.items out.new.items (unit_kinds (outers_of items.now))) }
+    ensures { OnOk result (Writes out.old.items out.new.items (unit_kinds (items_of items.now))) }
 {
     for item in items {
         write_item(out, item)?;
@@ -26,7 +26,7 @@ pub fn write_items(out: &mut Vec<u8>, items: &[Item]) -> Result<(), OutOfMemory>
 
 // Writes what stands at file scope.
 pub fn write_item(out: &mut Vec<u8>, item: &Item) -> Result<(), OutOfMemory>
-    ensures { OnOk result (Writes out.old.items out.new.items (outer_kinds (outer_at item.now.at item.now.kind))) }
+    ensures { OnOk result (Writes out.old.items out.new.items (item_kinds (item_at item.now.at item.now.kind))) }
 {
     match &item.kind {
         ItemKind::Struct { tag, members } => {
@@ -125,12 +125,12 @@ fn write_enumerator(out: &mut Vec<u8>, enumerator: &Enumerator) -> Result<(), Ou
     ensures { OnOk result (Writes out.old.items out.new.items (enumerator_kinds (ident_of enumerator.now.name) (maybe_of enumerator.now.value))) }
 {
     push_name(out, enumerator.name.name.as_slice())?;
-    write_number(out, &enumerator.value)
+    write_enumerator_value(out, &enumerator.value)
 }
 
 // Writes the value of an enumerator, where one stands.
-fn write_number(out: &mut Vec<u8>, number: &Option<Expr>) -> Result<(), OutOfMemory>
-    ensures { OnOk result (Writes out.old.items out.new.items (number_kinds (maybe_of number.now))) }
+fn write_enumerator_value(out: &mut Vec<u8>, number: &Option<Expr>) -> Result<(), OutOfMemory>
+    ensures { OnOk result (Writes out.old.items out.new.items (enumerator_value_kinds (maybe_of number.now))) }
 {
     match number {
         None => Ok(()),

@@ -1,10 +1,10 @@
 ghost use Rattle.std.specs.Prelude.{OnOk};
-ghost use Rattle.c_syntax.specs.UnitView.{first_of_head, maybe_of, labels_of, stmt_of, item_before, group_before};
-ghost use Rattle.c_syntax.specs.Tree.{no_items, no_groups};
+ghost use Rattle.c_syntax.specs.UnitView.{first_of_head, maybe_of, labels_of, stmt_of, block_item_before, group_before};
+ghost use Rattle.c_syntax.specs.Tree.{no_block_items, no_groups};
 ghost use Rattle.c_syntax.specs.View.{expr_of};
-ghost use Rattle.c_syntax.specs.Print.{first_kinds, labels_kinds, stmt_kinds, items_kinds, stmts_kinds, groups_kinds};
+ghost use Rattle.c_syntax.specs.Print.{first_kinds, labels_kinds, stmt_kinds, block_items_kinds, stmts_kinds, groups_kinds};
 ghost use Rattle.c_syntax.specs.Writes.{Writes};
-ghost use Rattle.c_syntax.specs.WritesUnit.{items_of, stmts_of, groups_of, else_behind, else_kinds, for_kinds, worded_kinds, jump_kinds, return_kinds, label_kinds};
+ghost use Rattle.c_syntax.specs.WritesUnit.{block_items_of, stmts_of, groups_of, else_behind, else_kinds, for_kinds, worded_kinds, jump_kinds, return_kinds, label_kinds};
 
 use crate::printing::declarations::{write_decl, write_maybe};
 use crate::printing::expressions::{write_expr, write_operand};
@@ -110,7 +110,7 @@ pub fn write_stmt(out: &mut Vec<u8>, stmt: &Stmt) -> Result<(), OutOfMemory>
     match &stmt.kind {
         StmtKind::Block(items) => {
             push_punctuator(out, LEFT_BRACE)?;
-            write_items(out, items)?;
+            write_block_items(out, items)?;
             push_punctuator(out, RIGHT_BRACE)
         }
         StmtKind::Empty => push_punctuator(out, SEMICOLON),
@@ -170,19 +170,19 @@ fn write_else(out: &mut Vec<u8>, no: &Option<Box<Stmt>>) -> Result<(), OutOfMemo
 
 // Writes what stands in a block.
 #[cycle(printed_statement)]
-fn write_items(out: &mut Vec<u8>, items: &[BlockItem]) -> Result<(), OutOfMemory>
-    ensures { OnOk result (Writes out.old.items out.new.items (items_kinds (items_of items.now))) }
+fn write_block_items(out: &mut Vec<u8>, items: &[BlockItem]) -> Result<(), OutOfMemory>
+    ensures { OnOk result (Writes out.old.items out.new.items (block_items_kinds (block_items_of items.now))) }
 {
     for item in items {
-        write_item(out, item)?;
+        write_block_item(out, item)?;
     }
     Ok(())
 }
 
 // Writes a declaration or a statement of a block.
 #[cycle(printed_statement)]
-fn write_item(out: &mut Vec<u8>, item: &BlockItem) -> Result<(), OutOfMemory>
-    ensures { OnOk result (Writes out.old.items out.new.items (items_kinds (item_before item.now no_items))) }
+fn write_block_item(out: &mut Vec<u8>, item: &BlockItem) -> Result<(), OutOfMemory>
+    ensures { OnOk result (Writes out.old.items out.new.items (block_items_kinds (block_item_before item.now no_block_items))) }
 {
     match item {
         BlockItem::Declaration(decl) => write_decl(out, decl),

@@ -1,7 +1,7 @@
 use Rattle.c_syntax.proofs.FrontLemmas.{front_of_all, front_of_each}
 use Rattle.c_syntax.proofs.FrameSpecifiers.{spec_on}
 use Rattle.c_syntax.proofs.FrameGrammar.{reads_on, declares_on}
-use Rattle.c_syntax.proofs.FrameStatements.{decl_on, stmt_on, outer_on}
+use Rattle.c_syntax.proofs.FrameStatements.{decl_on, stmt_on, item_on}
 use Rattle.c_syntax.proofs.laws.a_phrase_is_a_front.Goals as goal
 
 pub returns-clause-specifiers : goal.returns-clause-specifiers
@@ -20,4 +20,4 @@ pub returns-clause-statements : goal.returns-clause-statements
 returns-clause-statements c = λ d s i j r. front_of_all (stmt_on r)
 
 pub returns-clause-items : goal.returns-clause-items
-returns-clause-items c = λ d a i j r. front_of_all (outer_on r)
+returns-clause-items c = λ d a i j r. front_of_all (item_on r)

@@ -1,5 +1,0 @@
-use Rattle.c_syntax.proofs.TagUnit.{tag_items}
-use Rattle.c_syntax.proofs.tests.unit_of_a_tag.Goals as goal
-
-pub invariant_of-result : goal.invariant_of-result
-invariant_of-result c = record { spelled = tag_items _ _ _ c.in_ok-push.ensures.items c.new-items.ensures.items c.in_ok-name.ensures }
