@@ -1,5 +1,5 @@
 -- The digits that stand first in a text, and which bytes are digits.
-use Rattle.std.proofs.Common.{◌≡◌, ◌≢◌, ◌⊎◌, ℕ, zero, suc, ◌+◌, ◌*◌, ◌<◌, ◌≤◌, List, [], ◌∷◌, ◌++◌, length, get_or, drop, refl, subst, inl, inr, min, arith}
+use Rattle.std.proofs.Common.{◌≡◌, ◌≢◌, ◌⊎◌, ℕ, zero, suc, ◌+◌, ◌*◌, ◌<◌, ◌≤◌, List, [], ◌∷◌, ◌++◌, length, get_or, drop, refl, subst, inl, inr, arith}
 use Rattle.std.specs.Char.{digit_value}
 use Rattle.std.specs.Str.Parse.{AllDigits}
 use Rattle.std.proofs.Math.Nat.{mul-le-mul_left}
@@ -75,14 +75,8 @@ pub no_digit_end : (radix : ℕ) (i : List ℕ) → HasNoDigit radix (drop (leng
 no_digit_end radix [] = tt
 no_digit_end radix (b ∷ i) = no_digit_end radix i
 
--- a value that stops at 256 goes on as the value itself does
-pub capped_step : (v r d c : ℕ) → 1 ≤ r → c ≡ min v 256 → min (c * r + d) 256 ≡ min (v * r + d) 256
-capped_step v r d c one is =
-    elim (cases_lt v 256) [
-      | inl low ↦ (let same : c ≡ v = omega arith in rw same)
-      | inr high ↦
-          let same : c ≡ 256 = omega arith in
-          let more : 256 * 1 ≤ 256 * r = mul-le-mul_left 256 one in
-          let most : v * 1 ≤ v * r = mul-le-mul_left v one in
-          (rw same (omega arith))
-    ]
+-- a value above 255 stays so with more digits
+pub large_step : (v r d : ℕ) → 1 ≤ r → 255 < v → 255 < v * r + d
+large_step v r d one large =
+    let most : v * 1 ≤ v * r = mul-le-mul_left v one in
+    omega arith

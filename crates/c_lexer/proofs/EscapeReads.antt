@@ -1,19 +1,20 @@
 -- What the readers of an escape answer.
 use Rattle.std.proofs.Common.{◌≡◌, ◌≢◌, ◌⊎◌, ℕ, suc, ◌+◌, ◌<◌, ◌≤◌, min, List, [], ◌∷◌, ◌++◌, length, get_or, take, drop, refl, sym, ◌∙◌, ap, subst, inl, inr, append_assoc, arith}
+use Rattle.std.specs.Prelude.{Option, Some, None, is_some, true}
 use Rattle.std.specs.Char.{digit_value}
 use Rattle.std.specs.Str.Parse.{AllDigits, digits_value}
 use Rattle.std.proofs.lemmas.Bool.{cases_lt}
 use Rattle.std.proofs.lemmas.List.{length-drop, length-take-le, take-append-drop, drop-append-le, nil_from_length}
 use Rattle.c_lexer.specs.declared.escape.Digits.{Digits}
-use Rattle.c_lexer.specs.Elements.{HasNoDigit, ReadsDigits, HasNoElement}
+use Rattle.c_lexer.specs.Elements.{HasNoDigit, KeepsByte, ReadsDigits, ReadsSimple, HasNoElement}
 use Rattle.c_lexer.specs.Literals.{IsPlain, IsSimple, HasElement}
 use Rattle.c_lexer.proofs.EscapeDigits.{octal_no_x, simple_no_x}
 use Rattle.c_lexer.proofs.EscapeFronts.{Front, front, has_element}
 use Rattle.c_lexer.proofs.EscapeFronts.Front.{a_plain, a_simple, an_octal, a_hexadecimal}
 
 -- the element that stands first, as n bytes
-abbrev pub Stands : ℕ → List ℕ → ℕ → ℕ → Type 0
-Stands q i n value = (n ≤ length i) × ((v : ℕ) × HasElement q i (drop n i) v × (value ≡ min v 256))
+abbrev pub Stands : ℕ → List ℕ → ℕ → Option ℕ → Type 0
+Stands q i n value = (n ≤ length i) × ((v : ℕ) × HasElement q i (drop n i) v × KeepsByte v value)
 
 no_digits : (radix : ℕ) (i ds j : List ℕ) → HasNoDigit radix i → i ≡ ds ++ j → 1 ≤ length ds → AllDigits radix ds → ⊥
 no_digits radix i [] j ended e one all = omega arith
@@ -104,16 +105,20 @@ octal_some q i d reads some =
     let is : suc d.count ≡ d.count + 1 = omega arith in
     (omega arith, (digits_value 8 (take d.count (take m i)), subst (λ (n : ℕ). HasElement q (92 ∷ i) (drop n (92 ∷ i)) (digits_value 8 (take d.count (take m i)))) is found, reads.value))
 
-pub simple_some : (q c v value : ℕ) (i later : List ℕ) → i ≡ c ∷ later → IsSimple c v → v ≤ 255 → value ≡ v → Stands q (92 ∷ i) 2 value
-simple_some q c v value i later is s small same =
-    let found : Stands q (92 ∷ c ∷ later) 2 value = (omega arith, (v, has_element (a_simple s), omega arith)) in
-    subst (λ (x : List ℕ). Stands q (92 ∷ x) 2 value) (sym is) found
+simple_some : (q c v : ℕ) (i later : List ℕ) → i ≡ c ∷ later → IsSimple c v → v ≤ 255 → Stands q (92 ∷ i) 2 (Some v)
+simple_some q c v i later is s small =
+    let found : Stands q (92 ∷ c ∷ later) 2 (Some v) = (omega arith, (v, has_element (a_simple s), (refl, small))) in
+    subst (λ (x : List ℕ). Stands q (92 ∷ x) 2 (Some v)) (sym is) found
 
-pub plain_some : (q b value : ℕ) (i later : List ℕ) → i ≡ b ∷ later → 32 ≤ b → b < 256 → b ≢ 127 → b ≢ q → b ≢ 92 → value ≡ b → Stands q i 1 value
-plain_some q b value i later is from below control quote escape same =
+pub simple_read : (q c : ℕ) (i later : List ℕ) (found : Option ℕ) → i ≡ c ∷ later → ReadsSimple c found → is_some found ≡ true → Stands q (92 ∷ i) 2 found
+simple_read q c i later (Some v) is (s, small) some = simple_some q c v i later is s small
+simple_read q c i later None is s some = cc
+
+pub plain_some : (q b : ℕ) (i later : List ℕ) → i ≡ b ∷ later → 32 ≤ b → b < 256 → b ≢ 127 → b ≢ q → b ≢ 92 → Stands q i 1 (Some b)
+plain_some q b i later is from below control quote escape =
     let plain : IsPlain q b = record { from = from; below = below; no_control = control; no_quote = quote; no_backslash = escape } in
-    let found : Stands q (b ∷ later) 1 value = (omega arith, (b, has_element (a_plain plain), omega arith)) in
-    subst (λ (x : List ℕ). Stands q x 1 value) (sym is) found
+    let found : Stands q (b ∷ later) 1 (Some b) = (omega arith, (b, has_element (a_plain plain), (refl, omega arith))) in
+    subst (λ (x : List ℕ). Stands q x 1 (Some b)) (sym is) found
 
 no_front : {q v : ℕ} {i j : List ℕ} (b : ℕ) (later : List ℕ) → i ≡ b ∷ later → b ≢ 92 → (IsPlain q b → ⊥) → Front q i j v → ⊥
 no_front {q} b later is escape odd (a_plain {b = x} p) =

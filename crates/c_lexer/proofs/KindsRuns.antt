@@ -14,7 +14,8 @@ use Rattle.c_lexer.specs.Words.{IsWord, IsNumber, IsRun, IsWordByte, IsNumberByt
 use Rattle.c_lexer.specs.Literals.{IsLongest}
 use Rattle.c_lexer.specs.Kinds.{Spells}
 use Rattle.c_lexer.specs.Refusals.{Holds, IsWhole, IsMalformedNumber, IsLongWord, HasLargeElement}
-use Rattle.c_lexer.specs.Parts.{BeginsWith, IsRunLength}
+use Rattle.c_lexer.specs.Parts.{BeginsWith}
+use Rattle.c_lexer.specs.Runs.{IsRunLength}
 use Rattle.c_lexer.proofs.KindsBegin.{zero_spelled, run_begins, same_first, first_apart, whole_begins, letter_no_digit, letter_no_mark, digit_no_mark}
 use Rattle.c_lexer.proofs.WordTables.{c99_is_fixed}
 

@@ -15,6 +15,7 @@ pub mod LiteralReads
 pub mod LiteralValues
 pub mod MarkLemmas
 pub mod MarkTokens
+pub mod NamedNumbers
 pub mod NumberLemmas
 pub mod NumberParts
 pub mod OneTokenBegins

@@ -1,12 +1,12 @@
 -- The token or the cause where a quote stands, by the elements that were read.
-use Rattle.std.proofs.Common.{◌≡◌, ℕ, ℤ, ◌+◌, ◌<◌, ◌≤◌, Bool, true, false, List, ◌∷◌, length, take, drop, sym, ◌∙◌, ap, subst, arith}
-use Rattle.std.specs.Prelude.{Some}
+use Rattle.std.proofs.Common.{◌≡◌, ℕ, ℤ, ◌+◌, ◌<◌, ◌≤◌, Bool, true, false, List, ◌∷◌, length, take, drop, sym, ◌∙◌, ap, subst}
+use Rattle.std.specs.Prelude.{Some, None}
 use Rattle.c_lexer.specs.declared.escape.Element.{Element}
 use Rattle.c_lexer.specs.declared.literal.Elements.{Elements}
 use Rattle.c_lexer.specs.declared.token.TokenKind.TheVariants.{Char, Str}
 use Rattle.c_lexer.specs.declared.error.Cause.TheVariants.{Malformed, TooLarge}
 use Rattle.c_lexer.specs.Literals.{char_value}
-use Rattle.c_lexer.specs.Elements.{HasNoElement, HasValues, ReadsElement, ReadsElements}
+use Rattle.c_lexer.specs.Elements.{KeepsByte, HasNoElement, HasValues, ReadsElement, ReadsElements}
 use Rattle.c_lexer.specs.Spelling.{IsToken}
 use Rattle.c_lexer.specs.Reading.{IsMisfit}
 use Rattle.c_lexer.proofs.LiteralReads.{At, malformed_string, malformed_character, large_string, large_character, string_token, character_token, string_found, character_found, no_string, no_character, no_first, token_at}
@@ -34,15 +34,16 @@ pub character_open : (text rest : List ℕ) (e : Element) → text ≡ 39 ∷ re
 character_open text rest e is (within, (v, h, value)) ended =
     malformed_character text rest is (no_character e.length v text rest is h ended)
 
-pub character_large : (text rest : List ℕ) (e : Element) → text ≡ 39 ∷ rest → ReadsElement 39 rest (Some e) → At text (e.length + 1) 39 → 255 < e.value → IsMisfit TooLarge text
-character_large text rest e is (within, (v, h, value)) here large =
+pub character_large : (text rest : List ℕ) (e : Element) → text ≡ 39 ∷ rest → ReadsElement 39 rest (Some e) → At text (e.length + 1) 39 → e.value ≡ None → IsMisfit TooLarge text
+character_large text rest e is (within, (v, h, keeps)) here none =
+    let large : 255 < v = subst (KeepsByte v) none keeps in
     let (w, after, begins, s, size) = character_found e.length v text rest is h here in
-    large_character text rest w after v is begins s (omega arith)
+    large_character text rest w after v is begins s large
 
-pub character_fits : (text rest : List ℕ) (e : Element) (c : ℤ) → text ≡ 39 ∷ rest → ReadsElement 39 rest (Some e) → At text (e.length + 1) 39 → e.value ≤ 255 → c ≡ char_value e.value → (e.length + 1 + 1 ≤ length text) × IsToken (Char c) (take (e.length + 1 + 1) text) (drop (e.length + 1 + 1) text)
-character_fits text rest e c is (within, (v, h, value)) here small same =
+pub character_fits : (text rest : List ℕ) (e : Element) (byte : ℕ) (c : ℤ) → text ≡ 39 ∷ rest → ReadsElement 39 rest (Some e) → At text (e.length + 1) 39 → e.value ≡ Some byte → c ≡ char_value byte → (e.length + 1 + 1 ≤ length text) × IsToken (Char c) (take (e.length + 1 + 1) text) (drop (e.length + 1 + 1) text)
+character_fits text rest e byte c is (within, (v, h, keeps)) here held same =
+    let (known, small) : KeepsByte v (Some byte) = subst (KeepsByte v) held keeps in
     let (w, after, begins, s, size) = character_found e.length v text rest is h here in
-    let known : v ≡ e.value = omega arith in
-    let token = character_token text rest w after v is begins s (omega arith) in
+    let token = character_token text rest w after v is begins s small in
     let value_is : char_value v ≡ c = ap char_value known ∙ sym same in
     token_at (Char c) (e.length + 1 + 1) text w after begins size (subst (λ (x : ℤ). IsToken (Char x) w after) value_is token)

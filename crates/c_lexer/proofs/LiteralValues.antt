@@ -1,5 +1,5 @@
 -- The values of a literal's elements, one after the other.
-use Rattle.std.proofs.Common.{◌≡◌, ℕ, ◌+◌, ◌-◌, ◌<◌, ◌≤◌, min, Bool, true, false, List, [], ◌∷◌, ◌++◌, length, take, drop, ◌∙◌, ap, subst, arith}
+use Rattle.std.proofs.Common.{◌≡◌, ℕ, ◌+◌, ◌-◌, ◌<◌, ◌≤◌, Bool, true, false, List, [], ◌∷◌, ◌++◌, length, take, drop, ◌∙◌, ap, subst, arith}
 use Rattle.std.specs.Prelude.{Any, Some}
 use Rattle.std.proofs.lemmas.List.{length-append, length-drop, get_or_append_left, drop-drop}
 use Rattle.std.proofs.Math.Seq.{take-length}
@@ -9,19 +9,18 @@ use Rattle.c_lexer.specs.Kinds.{IsByte}
 use Rattle.c_lexer.specs.Literals.{HasElement}
 use Rattle.c_lexer.specs.declared.escape.Element.{Element}
 use Rattle.c_lexer.specs.declared.literal.Elements.{Elements}
-use Rattle.c_lexer.specs.Elements.{HasValues, HasRead, ReadsElement, AddsValue}
+use Rattle.c_lexer.specs.Elements.{KeepsByte, HasValues, HasRead, ReadsElement, AddsValue}
 use Rattle.c_lexer.proofs.EscapeFronts.{Front, front}
 use Rattle.c_lexer.proofs.LiteralParts.{elements_push}
 use Rattle.c_lexer.proofs.EscapeFronts.Front.{a_plain, a_simple, an_octal, a_hexadecimal}
 
-pub large_value : (vs : List ℕ) (v value : ℕ) → 255 < value → value ≡ min v 256 → Any (λ x. 255 < x) (vs ++ v ∷ [])
-large_value vs v value large is = Any-push (λ x. 255 < x) vs v (omega arith)
+pub large_value : (vs : List ℕ) (v : ℕ) → 255 < v → Any (λ x. 255 < x) (vs ++ v ∷ [])
+large_value vs v large = Any-push (λ x. 255 < x) vs v large
 
-pub byte_value : (large : Bool) (bytes vs : List ℕ) (v value : ℕ) → value ≤ 255 → value ≡ min v 256 → HasValues large bytes vs → HasValues large (bytes ++ value ∷ []) (vs ++ v ∷ [])
-byte_value false bytes vs v value small is (e, all) =
-    let same : v ≡ value = omega arith in
-    (ap (λ (x : List ℕ). x ++ v ∷ []) e ∙ ap (λ (x : ℕ). bytes ++ x ∷ []) same, All-push IsByte vs v all (omega arith))
-byte_value true bytes vs v value small is (k, x, within, at, large) =
+pub byte_value : (large : Bool) (bytes vs : List ℕ) (v value : ℕ) → KeepsByte v (Some value) → HasValues large bytes vs → HasValues large (bytes ++ value ∷ []) (vs ++ v ∷ [])
+byte_value false bytes vs v value (same, small) (e, all) =
+    (ap (λ (x : List ℕ). x ++ v ∷ []) e ∙ ap (λ (x : ℕ). bytes ++ x ∷ []) same, All-push IsByte vs v all small)
+byte_value true bytes vs v value keeps (k, x, within, at, large) =
     (k, x, omega (arith, within, length-append vs (v ∷ [])), get_or_append_left vs (v ∷ []) x k within ∙ at, large)
 
 -- an element has a byte at least

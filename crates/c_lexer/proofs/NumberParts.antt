@@ -1,5 +1,5 @@
 -- What a number that was taken whole makes of the text.
-use Rattle.std.proofs.Common.{◌≡◌, ◌⊎◌, ◌≤◌, ◌<◌, ◌+◌, ◌-◌, ◌^◌, ◌==◌, ℕ, Bool, true, false, List, [], ◌∷◌, ◌++◌, length, get_or, take, All, Some, None, Err, refl, ap, sym, ◌∙◌, subst, inl, inr, ⊎_elim, arith, append-nil}
+use Rattle.std.proofs.Common.{◌≡◌, ◌⊎◌, ◌≤◌, ◌<◌, ◌+◌, ◌-◌, ◌^◌, ◌==◌, ℕ, Bool, true, false, List, [], ◌∷◌, ◌++◌, length, get_or, take, All, Some, None, refl, ap, sym, ◌∙◌, subst, inl, inr, ⊎_elim, arith, append-nil}
 use Rattle.std.specs.Char.{digit_value}
 use Rattle.std.specs.Str.Parse.{AllDigits, IsNumeral, digits_value}
 use Rattle.std.proofs.lemmas.Bool.Decides.{nat_tests}
@@ -10,15 +10,13 @@ use Rattle.c_lexer.specs.declared.token.TokenKind.{TokenKind}
 use Rattle.c_lexer.specs.declared.token.TokenKind.TheVariants.{Name, Keyword, Int, Char, Str, Punct}
 use Rattle.c_lexer.specs.declared.error.Cause.{Cause}
 use Rattle.c_lexer.specs.declared.error.Cause.TheVariants.{ForeignByte, OpenComment, Malformed, TooLarge, NoLineMarker, ExcludedKeyword}
-use Rattle.c_lexer.specs.declared.misfit.Misfit.{Misfit}
-use Rattle.c_lexer.specs.declared.misfit.Misfit.TheVariants.{OutOfMemory, By}
 use Rattle.c_lexer.specs.Codes.{code_of}
 use Rattle.c_lexer.specs.Words.{keywords, punctuators, IsNumber, IsWordByte, IsNumberByte}
 use Rattle.c_lexer.specs.Literals.{IsLongest, IsConstant, IsDecimal, HasNumber, IsSuffix, type_of}
 use Rattle.c_lexer.specs.Kinds.{Spells}
 use Rattle.c_lexer.specs.Refusals.{Holds, IsMalformedNumber}
-use Rattle.c_lexer.specs.Reading.{IsMisfit, ReadsToken}
-use Rattle.c_lexer.specs.Parts.{BeginsWith, IsOther, IsNumberMisfit, ReadsNumber, IsUnsuffixed, IsBased}
+use Rattle.c_lexer.specs.Reading.{IsMisfit}
+use Rattle.c_lexer.specs.Parts.{BeginsWith, IsOther, IsNumberMisfit, IsUnsuffixed, IsBased}
 use Rattle.c_lexer.proofs.KindsBegin.{IsClass, class_no_token, one_longest, digit_lexeme, digit_no_mark, run_begins, whole_begins, first_apart, letter_no_digit}
 use Rattle.c_lexer.proofs.WordTables.{keyword_is_fixed, number_Contains, punctuator_begins}
 use Rattle.c_lexer.proofs.KindsRuns.{digit_no_foreign, digit_malformed, no_comment}
@@ -180,7 +178,7 @@ large_least i w j n decimal suffixed taken c TooLarge low h = omega arith
 large_least i w j n decimal suffixed taken c NoLineMarker low h = omega arith
 large_least i w j n decimal suffixed taken c ExcludedKeyword low h = omega arith
 
-number_misfit : (cause : Cause) (i w j : List ℕ) → IsLongest IsNumber w i j → IsNumberMisfit cause w → IsMisfit cause i
+pub number_misfit : (cause : Cause) (i w j : List ℕ) → IsLongest IsNumber w i j → IsNumberMisfit cause w → IsMisfit cause i
 number_misfit ForeignByte i w j taken h = absurd h
 number_misfit OpenComment i w j taken h = absurd h
 number_misfit Malformed i w j taken h = record {
@@ -197,7 +195,3 @@ number_misfit TooLarge i w j taken ((n, decimal, suffixed, c, none), each) = rec
 }
 number_misfit NoLineMarker i w j taken h = absurd h
 number_misfit ExcludedKeyword i w j taken h = absurd h
-
-pub number_refused : (e : Misfit) (i w j : List ℕ) → IsLongest IsNumber w i j → ReadsNumber w (Err e) → ReadsToken i (Err e)
-number_refused OutOfMemory i w j taken h = tt
-number_refused (By cause) i w j taken h = number_misfit cause i w j taken h

@@ -1,51 +1,22 @@
 -- What a loop over a text's bytes shows.
-use Rattle.std.proofs.Common.{◌≡◌, ℕ, ◌+◌, ◌<◌, ◌≤◌, List, [], ◌∷◌, ◌++◌, length, get_or, take, drop, refl, sym, ap, ◌∙◌, subst, inl, inr, ⊎_elim, arith, append_assoc, length-append}
-use Rattle.std.specs.Prelude.{All, ◌⊎◌, ◌==◌, false}
-use Rattle.std.proofs.lemmas.Bool.{cases_lt}
-use Rattle.std.proofs.lemmas.List.{drop_more, drop_all, get_or_default, get_or-take, length-take-le, take-append-drop, get_or_at}
-use Rattle.dm_base.specs.Name.{IsDigit}
-use Rattle.c_lexer.specs.Spelling.{IsInLine, IsLineEnd, HasEndAfter}
-use Rattle.c_lexer.specs.WhiteParts.{IsLine, IsDigits, IsCommentEnd}
+use Rattle.std.proofs.Common.{◌≡◌, ◌≢◌, ℕ, ◌+◌, ◌<◌, ◌≤◌, List, [], ◌∷◌, ◌++◌, length, get_or, take, drop, refl, sym, ap, ◌∙◌, ⊎_elim, arith, append_assoc, length-append}
+use Rattle.std.specs.Prelude.{◌==◌, false}
+use Rattle.std.proofs.lemmas.Bool.{cases_order}
+use Rattle.std.proofs.lemmas.List.{drop_more, take-append-drop, get_or_at}
+use Rattle.c_lexer.specs.Spelling.{IsLineEnd, HasEndAfter}
+use Rattle.c_lexer.specs.Runs.{IsRunLength}
+use Rattle.c_lexer.specs.WhiteParts.{IsLine, IsCommentEnd}
 
--- no byte before the place is a line feed
-in_line_below : (i : List ℕ) (n : ℕ) → n ≤ length i → ((k : ℕ) → k < n → get_or i k 0 ≡ 10 → ⊥) → IsInLine (take n i)
-in_line_below i n within before (k, below, is) =
-    let long : length (take n i) ≡ n = length-take-le n i within in
-    let low : k < n = omega arith in
-    before k low (get_or_default i k 0 10 (omega arith) ∙ sym (get_or-take n i k 10 low) ∙ is)
+line_end_of : (l : List ℕ) → ((b : ℕ) (rest : List ℕ) → l ≡ b ∷ rest → b ≢ 10 → ⊥) → IsLineEnd l
+line_end_of [] ends = tt
+line_end_of (b ∷ rest) ends = ⊎_elim (λ same. same) (λ apart. absurd (ends b rest refl (λ e. ⊎_elim (λ low. omega arith) (λ high. omega arith) apart))) (cases_order b 10)
 
-line_end_at : (i : List ℕ) (n : ℕ) → n ≤ length i → (n < length i → get_or i n 0 ≡ 10) → IsLineEnd (drop n i)
-line_end_at i n within at =
-    ⊎_elim (λ low. subst IsLineEnd (sym (drop_more i n 0 low)) (at low))
-    (λ past. subst IsLineEnd (sym (drop_all n i past)) tt)
-    (cases_lt n (length i))
-
-pub IsLine-from_reads : (i : List ℕ) (n : ℕ) → n ≤ length i → ((k : ℕ) → k < n → get_or i k 0 ≡ 10 → ⊥) → (n < length i → get_or i n 0 ≡ 10) → IsLine i n
-IsLine-from_reads i n within before at = record {
-  within = within;
-  in_line = in_line_below i n within before;
-  ended = line_end_at i n within at;
-}
-
-digits_below : (i : List ℕ) (n : ℕ) → n ≤ length i → ((k : ℕ) → k < n → IsDigit (get_or i k 0)) → All IsDigit (take n i)
-digits_below i n within before k d below =
-    let long : length (take n i) ≡ n = length-take-le n i within in
-    let low : k < n = omega arith in
-    subst IsDigit (get_or_default i k 0 d (omega arith) ∙ sym (get_or-take n i k d low)) (before k low)
-
-no_digit_at : (i : List ℕ) (n : ℕ) → (n < length i → IsDigit (get_or i n 0) → ⊥) → (b : ℕ) (rest : List ℕ) → drop n i ≡ b ∷ rest → IsDigit b → ⊥
-no_digit_at i n at b rest is digit =
-    ⊎_elim (λ low.
-    let same : get_or i n 0 ≡ b = let e = drop_more i n 0 low in cc in
-    at low (subst IsDigit (sym same) digit))
-    (λ past. let none = drop_all n i past in cc)
-    (cases_lt n (length i))
-
-pub IsDigits-from_reads : (i : List ℕ) (n : ℕ) → n ≤ length i → ((k : ℕ) → k < n → IsDigit (get_or i k 0)) → (n < length i → IsDigit (get_or i n 0) → ⊥) → IsDigits i n
-IsDigits-from_reads i n within before at = record {
-  within = within;
-  are_digits = digits_below i n within before;
-  ended = no_digit_at i n at;
+-- the bytes before a line's end, as a run of those that are no line feed
+pub line_of_run : (i : List ℕ) (n : ℕ) → IsRunLength (λ b. b ≢ 10) i n → IsLine i n
+line_of_run i n run = record {
+  within = run.within;
+  in_line = λ (k, below, is). run.each k 10 below is;
+  ended = line_end_of (drop n i) run.ends;
 }
 
 -- where */ stands, by its bytes
@@ -78,10 +49,6 @@ IsCommentEnd-from_reads i n at before = record {
   is = end_from_EndsAt i n at;
   first = before;
 }
-
-pub not_digit : (b : ℕ) → (b < 48) ⊎ (57 < b) → IsDigit b → ⊥
-not_digit b (inl low) digit = omega arith
-not_digit b (inr high) digit = omega arith
 
 pub some_from_test : (i : List ℕ) → false ≡ (length i == 0) → 0 < length i
 some_from_test [] test = cc

@@ -1,4 +1,4 @@
--- What the parts of the lexer answer.
+-- For private contracts and proofs alone: what the parts of the lexer answer.
 use Rattle.std.specs.Prelude.{◌≡◌, ◌≤◌, ◌<◌, ℕ, List, ◌++◌, length, take, drop}
 use Rattle.c_lexer.specs.declared.token.Token.{Token}
 use Rattle.c_lexer.specs.declared.error.Cause.{Cause}

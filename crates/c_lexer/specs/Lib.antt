@@ -4,9 +4,11 @@ pub mod KindProp
 pub mod Kinds
 pub mod LexerParts
 pub mod Literals
+pub mod Names
 pub mod Parts
 pub mod Reading
 pub mod Refusals
+pub mod Runs
 pub mod Spelling
 pub mod WhiteParts
 pub mod Words

@@ -1,5 +1,5 @@
--- What the readers of words, numbers and marks answer.
-use Rattle.std.specs.Prelude.{◌≡◌, ◌≢◌, ◌≤◌, ◌<◌, ◌==◌, ℕ, Bool, List, ◌∷◌, ◌++◌, All, Contains, length, take, drop, Result, Ok, Err, Option, Some, None, slice_get}
+-- For private contracts and proofs alone: what the readers of words, numbers and marks answer.
+use Rattle.std.specs.Prelude.{◌≡◌, ◌≢◌, ◌≤◌, ◌<◌, ◌==◌, ℕ, Bool, List, ◌∷◌, ◌++◌, Contains, length, Result, Ok, Err, Option, Some, None, slice_get}
 use Rattle.std.specs.Str.Parse.{IsNumeral, digits_value}
 use Rattle.dm_base.specs.Name.{IsLetter, IsDigit}
 use Rattle.c_lexer.specs.declared.token.TokenKind.{TokenKind}
@@ -14,12 +14,6 @@ use Rattle.c_lexer.specs.Kinds.{Spells}
 -- a byte that P has stands first
 abbrev pub BeginsWith : (ℕ → Type 0) → List ℕ → Type 0
 BeginsWith P i = (b : ℕ) × (rest : List ℕ) × (i ≡ b ∷ rest) × P b
-
--- the first n bytes of the text are those at its front that P has
-pub record IsRunLength (P : ℕ → Type 0) (i : List ℕ) (n : ℕ) : Type 0 where
-  pub within : n ≤ length i
-  pub each : All P (take n i)
-  pub ends : (b : ℕ) (rest : List ℕ) → drop n i ≡ b ∷ rest → P b → ⊥
 
 -- neither letter, digit nor quote
 pub record IsOther (b : ℕ) : Type 0 where
@@ -69,10 +63,9 @@ IsNumberMisfit NoLineMarker w = ⊥
 IsNumberMisfit ExcludedKeyword w = ⊥
 
 -- what a number that was taken whole spells
-abbrev pub ReadsNumber : List ℕ → Result TokenKind Misfit → Type 0
+abbrev pub ReadsNumber : List ℕ → Result TokenKind Cause → Type 0
 ReadsNumber w (Ok kind) = Spells kind w
-ReadsNumber w (Err OutOfMemory) = ⊥
-ReadsNumber w (Err (By cause)) = IsNumberMisfit cause w
+ReadsNumber w (Err cause) = IsNumberMisfit cause w
 
 -- the constant w without its suffix is body
 pub record IsUnsuffixed (w body : List ℕ) (suffixed : Bool) : Type 0 where

@@ -1,4 +1,4 @@
--- What the parts of the reader answer.
+-- For private contracts and proofs alone: what the parts of the reader answer.
 use Rattle.std.specs.Prelude.{◌≡◌, ◌≢◌, ◌≤◌, ◌<◌, ℕ, List, [], ◌∷◌, ◌++◌, length, take, drop, Result, Ok, Err, Option, Some, None}
 use Rattle.c_lexer.specs.declared.token.TokenKind.{TokenKind}
 use Rattle.c_lexer.specs.declared.error.Cause.{Cause}
@@ -28,6 +28,11 @@ abbrev pub ReadsToken : List ℕ → Result Lexeme Misfit → Type 0
 ReadsToken i (Ok found) = (found.length ≤ length i) × IsToken found.kind (take found.length i) (drop found.length i)
 ReadsToken i (Err OutOfMemory) = Unit {0}
 ReadsToken i (Err (By cause)) = IsMisfit cause i
+
+-- the same of a reader that takes no memory
+abbrev pub ReadsTokenOrCause : List ℕ → Result Lexeme Cause → Type 0
+ReadsTokenOrCause i (Ok found) = ReadsToken i (Ok found)
+ReadsTokenOrCause i (Err cause) = IsMisfit cause i
 
 -- no piece of white space stands between the front and i
 abbrev pub HasNoWhite : List ℕ → List ℕ → Type 0

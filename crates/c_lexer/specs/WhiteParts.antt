@@ -1,4 +1,4 @@
--- What the parts of the reader of white space answer.
+-- For private contracts and proofs alone: what the parts of the reader of white space answer.
 use Rattle.std.specs.Prelude.{◌≡◌, ◌≢◌, ◌≤◌, ◌+◌, ℕ, List, [], ◌∷◌, ◌++◌, All, length, take, drop}
 use Rattle.dm_base.specs.Name.{IsDigit}
 use Rattle.c_lexer.specs.Spelling.{IsBlank, IsInLine, IsLineEnd, HasEndAfter}
@@ -8,12 +8,6 @@ pub record IsLine (i : List ℕ) (n : ℕ) : Type 0 where
   pub within : n ≤ length i
   pub in_line : IsInLine (take n i)
   pub ended : IsLineEnd (drop n i)
-
--- so many digits stand first, and then none
-pub record IsDigits (i : List ℕ) (n : ℕ) : Type 0 where
-  pub within : n ≤ length i
-  pub are_digits : All IsDigit (take n i)
-  pub ended : (b : ℕ) (rest : List ℕ) → drop n i ≡ b ∷ rest → IsDigit b → ⊥
 
 -- so many bytes stand before the first */
 pub record IsCommentEnd (i : List ℕ) (n : ℕ) : Type 0 where

@@ -1,19 +1,19 @@
-ghost use Rattle.std.specs.Prelude.{◌≡◌, ◌≢◌, ◌≤◌, ◌⊎◌, ◌↔◌, ◌∷◌, ℕ, IsTrue, slice_index};
+ghost use Rattle.std.specs.Prelude.{◌≡◌, ◌≢◌, ◌≤◌, ◌<◌, ◌+◌, ◌*◌, ◌⊎◌, ◌↔◌, ◌∷◌, ℕ, IsTrue, slice_index};
 ghost use Rattle.c_lexer.specs.Literals.{IsSimple};
-ghost use Rattle.c_lexer.specs.Elements.{IsQuote, ReadsDigits, ReadsSimple, ReadsElement};
+ghost use Rattle.c_lexer.specs.Elements.{IsQuote, KeepsByte, ReadsDigits, ReadsSimple, ReadsElement};
 
-// The digits that stand first in a text: how many, and the number that they write, or 256 where it is
+// The digits that stand first in a text: how many, and the number that they write, or None where it is
 // above 255.
 #[derive(Clone, Copy)]
 pub struct Digits {
     pub count: usize,
-    pub value: u32,
+    pub value: Option<u8>,
 }
 
-// One element of a literal: its value, or 256 where it is above 255, and how many bytes it has.
+// One element of a literal: its value, or None where it is above 255, and how many bytes it has.
 #[derive(Clone, Copy)]
 pub struct Element {
-    pub value: u32,
+    pub value: Option<u8>,
     pub length: usize,
 }
 
@@ -30,7 +30,7 @@ pub fn read_element(text: &[u8], quote: u8) -> Option<Element>
         return None;
     }
     Some(Element {
-        value: u32::from(first),
+        value: Some(first),
         length: 1,
     })
 }
@@ -50,9 +50,10 @@ fn read_escape(rest: &[u8]) -> Option<Element>
     if first == b'x' {
         return read_hexadecimal(later);
     }
-    if let Some(value) = simple_value(first) {
+    let simple = simple_value(first);
+    if simple.is_some() {
         return Some(Element {
-            value: u32::from(value),
+            value: simple,
             length: 2,
         });
     }
@@ -115,15 +116,25 @@ fn leading_digits(text: &[u8], radix: u32) -> Digits
     requires { (radix ≡ 8) ⊎ (radix ≡ 16) }
     ensures { ReadsDigits radix text.now result }
 {
-    let mut value = 0;
+    let mut value = Some(0);
     for (count, byte) in text.iter().enumerate() {
         let Some(digit) = char::from(*byte).to_digit(radix) else {
             return Digits { count, value };
         };
-        value = (value * radix + digit).min(256);
+        value = with_digit(value, radix, digit);
     }
     Digits {
         count: text.len(),
         value,
     }
+}
+
+// The number with one more digit, or None where that is above 255.
+fn with_digit(number: Option<u8>, radix: u32, digit: u32) -> Option<u8>
+    requires some { 1 ≤ radix }
+    requires radix { radix ≤ 16 }
+    requires digit { digit < radix }
+    ensures { (v : ℕ) → KeepsByte v number → KeepsByte (v * radix + digit) result }
+{
+    u8::try_from(u32::from(number?) * radix + digit).ok()
 }

@@ -1,7 +1,7 @@
 ghost use Rattle.std.specs.Prelude.{◌≡◌, ◌≤◌, ◌<◌, ◌↔◌, ◌∷◌, ℕ, List, length, slice_index, IsTrue, IfOk, OnOk};
 ghost use Rattle.c_lexer.specs.Elements.{IsQuote, ReadsElements, AddsValue};
 ghost use Rattle.c_lexer.specs.Literals.{char_value};
-ghost use Rattle.c_lexer.specs.Reading.{ReadsToken};
+ghost use Rattle.c_lexer.specs.Reading.{ReadsToken, ReadsTokenOrCause};
 
 use crate::error::Cause;
 use crate::escape::read_element;
@@ -20,50 +20,49 @@ pub struct Elements {
 }
 
 impl Elements {
-    // Adds the value of one more element, 256 where it is above 255.
-    fn push(&mut self, value: u32) -> Result<(), OutOfMemory>
+    // Adds the value of one more element, None where it is above 255.
+    fn push(&mut self, value: Option<u8>) -> Result<(), OutOfMemory>
         ensures length { self.new.length ≡ self.old.length }
         ensures values { OnOk result (AddsValue self.old self.new value) }
     {
-        if value > 255 {
+        let Some(byte) = value else {
             self.large = true;
             return Ok(());
-        }
-        self.bytes.push(value as u8)?;
+        };
+        self.bytes.push(byte)?;
         Ok(())
     }
 }
 
 // Reads the character constant that stands first in the text, where a single quote does.
-pub fn read_character(text: &[u8]) -> Result<Lexeme, Misfit>
+pub fn read_character(text: &[u8]) -> Result<Lexeme, Cause>
     requires { (rest : List ℕ) × (text.now ≡ 39 ∷ rest) }
-    ensures { ReadsToken text.now result }
+    ensures { ReadsTokenOrCause text.now result }
 {
     let Some(element) = read_element(&text[1..], b'\'') else {
-        return Err(Misfit::By(Cause::Malformed));
+        return Err(Cause::Malformed);
     };
     let end = element.length + 1;
     if !has_byte(text, end, b'\'') {
-        return Err(Misfit::By(Cause::Malformed));
+        return Err(Cause::Malformed);
     }
-    if element.value > 255 {
-        return Err(Misfit::By(Cause::TooLarge));
-    }
+    let Some(value) = element.value else {
+        return Err(Cause::TooLarge);
+    };
     Ok(Lexeme {
-        kind: TokenKind::Char(char_value(element.value)),
+        kind: TokenKind::Char(char_value(value)),
         length: end + 1,
     })
 }
 
 // The value of a character constant whose element has the value: char is signed (C99 6.4.4.4).
-fn char_value(value: u32) -> i32
-    requires { value ≤ 255 }
+fn char_value(value: u8) -> i32
     ensures { result ≡ char_value value }
 {
     if value < 128 {
-        value as i32
+        i32::from(value)
     } else {
-        value as i32 - 256
+        i32::from(value) - 256
     }
 }
 

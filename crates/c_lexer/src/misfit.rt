@@ -28,3 +28,14 @@ impl From<OutOfMemory> for Misfit {
         Misfit::OutOfMemory
     }
 }
+
+impl From<Cause> for Misfit {
+    ghost use Rattle.std.specs.Prelude.{◌≡◌};
+    ghost use Rattle.c_lexer.specs.declared.misfit.Misfit.TheVariants.{By as by_cause};
+
+    ghost from_gives = { λ cause misfit. misfit ≡ by_cause cause };
+
+    fn from(cause: Cause) -> Misfit {
+        Misfit::By(cause)
+    }
+}

@@ -2,59 +2,40 @@ ghost use Rattle.std.specs.Prelude.{◌≡◌, ◌↔◌, ◌≤◌, ◌<◌, �
 ghost use Rattle.std.specs.Char.{digit_value};
 ghost use Rattle.std.specs.Str.Parse.{IsNumeral, digits_value};
 ghost use Rattle.dm_base.specs.Name.{IsDigit};
-ghost use Rattle.c_lexer.specs.Words.{IsNumberByte};
 ghost use Rattle.c_lexer.specs.Literals.{type_of};
-ghost use Rattle.c_lexer.specs.Reading.{ReadsToken};
-ghost use Rattle.c_lexer.specs.Parts.{BeginsWith, IsRunLength, ReadsNumber, IsUnsuffixed, IsBased};
+ghost use Rattle.c_lexer.specs.Reading.{ReadsTokenOrCause};
+ghost use Rattle.c_lexer.specs.Parts.{BeginsWith, ReadsNumber, IsUnsuffixed, IsBased};
 
 use crate::error::Cause;
-use crate::misfit::{Lexeme, Misfit};
+use crate::misfit::Lexeme;
+use crate::run::{ByteClass, run_length};
 use crate::token::TokenKind;
 
 // Reads the integer constant that stands first in the text. What is taken is the whole run of letters,
 // digits, `_` and `.`.
-pub fn read_number(text: &[u8]) -> Result<Lexeme, Misfit>
+pub fn read_number(text: &[u8]) -> Result<Lexeme, Cause>
     requires { BeginsWith IsDigit text.now }
-    ensures { ReadsToken text.now result }
+    ensures { ReadsTokenOrCause text.now result }
 {
-    let length = number_length(text);
+    let length = run_length(text, ByteClass::Number);
     let kind = number_kind(&text[..length])?;
     Ok(Lexeme { kind, length })
 }
 
-// How many bytes at the front may stand in a number.
-fn number_length(text: &[u8]) -> usize
-    ensures { IsRunLength IsNumberByte text.now result }
-{
-    for (place, byte) in text.iter().enumerate() {
-        if !is_number_byte(*byte) {
-            return place;
-        }
-    }
-    text.len()
-}
-
-// Whether the byte may stand in a number.
-fn is_number_byte(byte: u8) -> bool
-    ensures { IsTrue result ↔ IsNumberByte byte }
-{
-    byte.is_ascii_alphanumeric() || byte == b'_' || byte == b'.'
-}
-
 // What the number spells.
-fn number_kind(number: &[u8]) -> Result<TokenKind, Misfit>
+fn number_kind(number: &[u8]) -> Result<TokenKind, Cause>
     ensures { ReadsNumber number.now result }
 {
     let (body, suffixed) = without_suffix(number);
     let (base, digits) = based(body);
     if !is_numeral(digits, base) {
-        return Err(Misfit::By(Cause::Malformed));
+        return Err(Cause::Malformed);
     }
     let Some(value) = number_of(digits, base) else {
-        return Err(Misfit::By(Cause::TooLarge));
+        return Err(Cause::TooLarge);
     };
     let Some(unsigned) = type_of(base == 10, suffixed, value) else {
-        return Err(Misfit::By(Cause::TooLarge));
+        return Err(Cause::TooLarge);
     };
     Ok(TokenKind::Int { value, unsigned })
 }

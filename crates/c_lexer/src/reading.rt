@@ -17,13 +17,13 @@ pub fn read_token(alloc: Global, text: &[u8]) -> Result<Lexeme, Misfit>
         return read_word(alloc, text);
     }
     if first.is_ascii_digit() {
-        return read_number(text);
+        return Ok(read_number(text)?);
     }
     if first == b'\'' {
-        return read_character(text);
+        return Ok(read_character(text)?);
     }
     if first == b'"' {
         return read_string(alloc, text);
     }
-    read_mark(text)
+    Ok(read_mark(text)?)
 }

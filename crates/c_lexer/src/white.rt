@@ -1,9 +1,10 @@
 ghost use Rattle.std.specs.Prelude.{◌≡◌, ◌≤◌, ◌<◌, ◌^◌, ◌↔◌, ℕ, List, ◌∷◌, IsTrue, MatchOption, length, take, drop};
 ghost use Rattle.c_lexer.specs.Spelling.{IsBlank, EndsInMargin, HasEndAfter};
 ghost use Rattle.c_lexer.specs.Reading.{ReadsWhite};
-ghost use Rattle.c_lexer.specs.WhiteParts.{IsLine, IsDigits, IsCommentEnd, IsMarkerHead, BeginsMarker, IsInk};
+ghost use Rattle.c_lexer.specs.WhiteParts.{IsCommentEnd, IsMarkerHead, BeginsMarker, IsInk};
 
 use crate::error::Cause;
+use crate::run::{ByteClass, run_length};
 
 // The length of the piece of white space at the place, or None where there is none.
 pub fn white_length(text: &[u8], at: usize) -> Result<Option<usize>, Cause>
@@ -30,18 +31,6 @@ fn is_blank(byte: u8) -> bool
     matches!(byte, 9..=13 | b' ')
 }
 
-// The number of bytes before the line's end.
-fn line_length(text: &[u8]) -> usize
-    ensures { IsLine text.now result }
-{
-    for (i, byte) in text.iter().enumerate() {
-        if *byte == b'\n' {
-            return i;
-        }
-    }
-    text.len()
-}
-
 // The length of the comment that begins the text. The text begins with no blank and no `#`.
 fn comment_length(text: &[u8]) -> Result<Option<usize>, Cause>
     requires { IsInk text.now }
@@ -52,7 +41,7 @@ fn comment_length(text: &[u8]) -> Result<Option<usize>, Cause>
     }
     let inner = &text[2..];
     if text[1] == b'/' {
-        return Ok(Some(2 + line_length(inner)));
+        return Ok(Some(2 + run_length(inner, ByteClass::Line)));
     }
     if text[1] != b'*' {
         return Ok(None);
@@ -84,7 +73,7 @@ fn marker_length(front: &[u8], text: &[u8]) -> Result<Option<usize>, Cause>
         return Err(Cause::NoLineMarker);
     }
     match marker_head(text) {
-        Some(head) => Ok(Some(head + line_length(&text[head..]))),
+        Some(head) => Ok(Some(head + run_length(&text[head..], ByteClass::Line))),
         None => Err(Cause::NoLineMarker),
     }
 }
@@ -97,7 +86,7 @@ fn marker_head(text: &[u8]) -> Option<usize>
         return None;
     }
     let after = &text[2..];
-    let digits = digits_length(after);
+    let digits = run_length(after, ByteClass::Digit);
     if digits == 0 || after.len() < digits + 2 {
         return None;
     }
@@ -105,18 +94,6 @@ fn marker_head(text: &[u8]) -> Option<usize>
         return None;
     }
     Some(digits + 4)
-}
-
-// The number of digits that stand first.
-fn digits_length(text: &[u8]) -> usize
-    ensures { IsDigits text.now result }
-{
-    for (i, byte) in text.iter().enumerate() {
-        if !byte.is_ascii_digit() {
-            return i;
-        }
-    }
-    text.len()
 }
 
 // Whether only spaces and tabs stand on the line that the text ends in.

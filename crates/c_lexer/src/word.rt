@@ -1,11 +1,11 @@
-ghost use Rattle.std.specs.Prelude.{◌↔◌, IsTrue};
 ghost use Rattle.dm_base.specs.Name.{IsLetter};
-ghost use Rattle.c_lexer.specs.Words.{IsWord, IsWordByte};
+ghost use Rattle.c_lexer.specs.Words.{IsWord};
 ghost use Rattle.c_lexer.specs.Reading.{ReadsToken};
-ghost use Rattle.c_lexer.specs.Parts.{BeginsWith, IsRunLength, ReadsWord};
+ghost use Rattle.c_lexer.specs.Parts.{BeginsWith, ReadsWord};
 
 use crate::error::Cause;
 use crate::misfit::{Lexeme, Misfit};
+use crate::run::{ByteClass, run_length};
 use crate::token::TokenKind;
 use crate::words::{is_excluded_keyword, keyword_number};
 use dm_base::Bytes;
@@ -20,28 +20,9 @@ pub fn read_word(alloc: Global, text: &[u8]) -> Result<Lexeme, Misfit>
     requires { BeginsWith IsLetter text.now }
     ensures { ReadsToken text.now result }
 {
-    let length = word_length(text);
+    let length = run_length(text, ByteClass::Word);
     let kind = word_kind(alloc, &text[..length])?;
     Ok(Lexeme { kind, length })
-}
-
-// How many bytes at the front may stand in a word.
-fn word_length(text: &[u8]) -> usize
-    ensures { IsRunLength IsWordByte text.now result }
-{
-    for (place, byte) in text.iter().enumerate() {
-        if !is_word_byte(*byte) {
-            return place;
-        }
-    }
-    text.len()
-}
-
-// Whether the byte may stand in a word.
-fn is_word_byte(byte: u8) -> bool
-    ensures { IsTrue result ↔ IsWordByte byte }
-{
-    byte.is_ascii_alphanumeric() || byte == b'_'
 }
 
 // What the word spells.

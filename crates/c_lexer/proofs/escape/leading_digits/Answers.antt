@@ -1,8 +1,8 @@
-use Rattle.std.proofs.Common.{◌≡◌, ◌+◌, ◌*◌, ◌<◌, ◌∙◌, ℕ, min, take, get_or, length, rules, arith}
+use Rattle.std.proofs.Common.{◌≡◌, ◌+◌, ◌*◌, ◌<◌, ◌∙◌, ℕ, take, get_or, length, subst, sym, ap, rules}
 use Rattle.std.specs.Char.{digit_value}
 use Rattle.std.specs.Str.Parse.{digits_value}
 use Rattle.std.proofs.lemmas.Int.Digits.{digits_more, digits_value_more}
-use Rattle.c_lexer.proofs.EscapeDigits.{capped_step}
+use Rattle.c_lexer.specs.Elements.{KeepsByte}
 use Rattle.c_lexer.proofs.escape.leading_digits.Goals as goal
 
 pub loop-count-preserved : goal.loop-count-preserved
@@ -13,8 +13,8 @@ loop-count-preserved c =
     let low : digit < c.args.radix = search rules in
     let same : c.in-Some.digit ≡ digit = search rules in
     let step = digits_value_more c.args.radix c.args.text.now c.loop-count.count within in
-    let next : min (c.loop-count.value * c.args.radix + c.in-Some.digit) 256 ≡ min (value * c.args.radix + c.in-Some.digit) 256 = capped_step value c.args.radix c.in-Some.digit c.loop-count.value (omega arith) c.loop-count.invariant.value in
+    let next : value * c.args.radix + c.in-Some.digit ≡ digits_value c.args.radix (take (c.loop-count.count + 1) c.args.text.now) = ap (λ (d : ℕ). value * c.args.radix + d) same ∙ sym step in
     record {
       are = digits_more c.args.radix c.args.text.now c.loop-count.count within c.loop-count.invariant.are low;
-      value = c.min-value.ensures ∙ next ∙ rw (step, same);
+      value = subst (λ (n : ℕ). KeepsByte n c.with_digit-value.result) next (c.with_digit-value.ensures value c.loop-count.invariant.value);
     }

@@ -18,4 +18,4 @@ returns c =
     let holds = c.is_plain.ensures.0 c.if-not-is_plain.false in
     let fits : Fits w8 c.in_ok-first.field-0-0.now = subst (λ (i : List ℕ). Fits w8 (get_or i 0 0)) c.in_ok-first.ensures.cases.0 (c.type_inv.text 0) in
     let below : c.in_ok-first.field-0-0.now < 256 = search rules in
-    plain_some c.args.quote c.in_ok-first.field-0-0.now c.from.result c.args.text.now c.in_ok-first.rest.now c.in_ok-first.ensures.cases.0 holds.0 below holds.1 holds.2 c.if-first-eq92.false c.from.ensures
+    plain_some c.args.quote c.in_ok-first.field-0-0.now c.args.text.now c.in_ok-first.rest.now c.in_ok-first.ensures.cases.0 holds.0 below holds.1 holds.2 c.if-first-eq92.false

@@ -17,13 +17,13 @@ returns-then-not-has_byte c =
     let reads = subst (λ (i : List ℕ). ReadsElement 39 i (Some c.in-Some.element)) (slice_later 39 c.args.text.now c.requires.0 c.requires.1) c.in-Some.ensures in
     character_open c.args.text.now c.requires.0 c.in-Some.element c.requires.1 reads (iff_false c.has_byte.ensures c.if-not-has_byte.true)
 
-pub returns-then-element-gt255 : goal.returns-then-element-gt255
-returns-then-element-gt255 c =
+pub returns-in_default-value : goal.returns-in_default-value
+returns-in_default-value c =
     let reads = subst (λ (i : List ℕ). ReadsElement 39 i (Some c.in-Some.element)) (slice_later 39 c.args.text.now c.requires.0 c.requires.1) c.in-Some.ensures in
-    character_large c.args.text.now c.requires.0 c.in-Some.element c.requires.1 reads (c.has_byte.ensures.0 c.if-not-has_byte.false) c.if-element-gt255.true
+    character_large c.args.text.now c.requires.0 c.in-Some.element c.requires.1 reads (c.has_byte.ensures.0 c.if-not-has_byte.false) c.in_default-value.is
 
 pub returns : goal.returns
 returns c =
     let reads = subst (λ (i : List ℕ). ReadsElement 39 i (Some c.in-Some.element)) (slice_later 39 c.args.text.now c.requires.0 c.requires.1) c.in-Some.ensures in
     let fits : FitsSigned w32 c.char_value.result = search rules in
-    character_fits c.args.text.now c.requires.0 c.in-Some.element _ c.requires.1 reads (c.has_byte.ensures.0 c.if-not-has_byte.false) c.if-element-gt255.false (to_z-of_z w32 c.char_value.result fits ∙ c.char_value.ensures)
+    character_fits c.args.text.now c.requires.0 c.in-Some.element c.in-Some-value.value _ c.requires.1 reads (c.has_byte.ensures.0 c.if-not-has_byte.false) c.in-Some-value.is (to_z-of_z w32 c.char_value.result fits ∙ c.char_value.ensures)
