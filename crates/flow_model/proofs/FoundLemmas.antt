@@ -13,7 +13,8 @@ use Rattle.std.proofs.lemmas.List.Quantifiers.{all_pairs_push}
 use Rattle.std.proofs.lemmas.Map.Made.{IsDistinct-from_AllPairs}
 use Rattle.std.proofs.lemmas.Map.Steps.{length-le_from_distinct_below}
 use Rattle.dm_sets.specs.Nodes.{Nodes, Has}
-use Rattle.flow_model.specs.Found.{Found, AreFound, IsSetOf}
+use Rattle.flow_model.specs.Found.{AreFound}
+use Rattle.flow_model.specs.Members.{IsSetOf}
 
 -- the members of a set with one number more
 pub has_insert : (s : Nodes) (k q : ℕ) → Has (record s { members = insert s.members k }) q → (q ≡ k) ⊎ Has s q

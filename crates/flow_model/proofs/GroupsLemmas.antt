@@ -15,7 +15,7 @@ use Rattle.std.proofs.lemmas.List.Elements.{All-head, All-tail, filter-append, f
 use Rattle.std.proofs.lemmas.List.Folds.{list_any_none}
 use Rattle.flow_model.specs.declared.groups.Member.{Member}
 use Rattle.flow_model.specs.Call.{Call}
-use Rattle.flow_model.specs.Groups.{AreGrouped}
+use Rattle.flow_model.specs.Grouped.{AreGrouped}
 use Rattle.flow_model.specs.Order.{StrictlyRise}
 use Rattle.flow_model.proofs.OrderLemmas.{lt_from_less}
 use Rattle.flow_model.specs.Starts.{IsStart, AreStarts, members_of}

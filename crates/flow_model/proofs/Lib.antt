@@ -1,6 +1,8 @@
+pub mod Begun
 pub mod BuilderLemmas
 pub mod CandidatesLemmas
 pub mod Counting
+pub mod Filled
 pub mod FoundLemmas
 pub mod GroupsLemmas
 pub mod Histories

@@ -4,7 +4,8 @@ use Rattle.std.specs.Prelude.{unwrap_or, option_map}
 use Rattle.std.proofs.lemmas.Bool.{cases_lt}
 use Rattle.std.proofs.lemmas.Option.{slice_get_within, get_or_from_slice_get, slice_get-get_or}
 use Rattle.flow_model.specs.declared.records.ModelFunction.{ModelFunction}
-use Rattle.flow_model.specs.Graph.{Owns, EndsAt, end_of, Graph, HasFunction}
+use Rattle.flow_model.specs.Ends.{EndsAt}
+use Rattle.flow_model.specs.Graph.{Owns, end_of, Graph, HasFunction}
 use Rattle.flow_model.specs.Rules.{HasOwnExits}
 
 module _ (functions : List ModelFunction) (nodes node begun : ℕ) (fits : begun ≤ length functions)

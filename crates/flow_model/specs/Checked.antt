@@ -1,4 +1,4 @@
--- The parts in which the rules of a model are checked.
+-- For private contracts and proofs alone: the parts in which the rules of a model are checked.
 use Rattle.flow_model.specs.declared.builder.FinishError.{FinishError}
 use Rattle.flow_model.specs.declared.builder.FinishError.TheVariants.{OutOfMemory, Invalid}
 use Rattle.flow_model.specs.Graph.{Graph}

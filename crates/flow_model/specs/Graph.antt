@@ -54,9 +54,3 @@ pub record HaveOneOwner (functions : List ModelFunction) (nodes a b : ℕ) : Typ
   pub owner : ℕ
   pub first : Owns functions nodes owner a
   pub second : Owns functions nodes owner b
-
--- the function f ends at the node
-pub record EndsAt (functions : List ModelFunction) (f node : ℕ) : Type 0 where
-  pub one : ModelFunction
-  pub has : slice_get functions f ≡ Some one
-  pub ends : one.exit ≡ node

@@ -1,8 +1,9 @@
--- What the fields of a model stand for, and what they keep.
+-- For private contracts and proofs alone: what the fields of a model stand for, and what they keep.
 use Rattle.std.specs.Prelude.{length, filter, nat_eq}
 use Rattle.flow_model.specs.declared.model.Model.TheInside.{Inside}
 use Rattle.flow_model.specs.Graph.{Graph}
-use Rattle.flow_model.specs.Groups.{AreGrouped, sites_from, sites_of}
+use Rattle.flow_model.specs.Grouped.{AreGrouped}
+use Rattle.flow_model.specs.Groups.{sites_from, sites_of}
 use Rattle.flow_model.specs.Rules.{IsValid}
 
 abbrev pub graph_of : Inside → Graph

@@ -2,11 +2,14 @@ pub mod Built
 pub mod Call
 pub mod Checked
 pub mod Cost
+pub mod Ends
 pub mod Found
 pub mod Graph
+pub mod Grouped
 pub mod Groups
 pub mod Inside
 pub mod Language
+pub mod Members
 pub mod Order
 pub mod Rules
 pub mod Starts

@@ -1,4 +1,4 @@
--- Where the items with a number begin in a list whose numbers rise.
+-- For private contracts and proofs alone: where the items with a number begin in a list whose numbers rise.
 use Rattle.std.specs.Prelude.{◌≡◌, ℕ, ◌<◌, ◌≤◌, List, length, slice_index, slice_index_or, map}
 use Rattle.flow_model.specs.declared.groups.Member.{Member}
 use Rattle.flow_model.specs.Call.{Call}

@@ -2,7 +2,7 @@ ghost use Rattle.std.specs.Prelude.{◌≡◌, ℕ, ◌+◌, ◌++◌, All, filt
 ghost use Rattle.std.specs.List.{list_any};
 ghost use Rattle.std.specs.List.Sorted.{IsNonDecreasingBy};
 ghost use Rattle.std.specs.Ordering.{nat_cmp};
-ghost use Rattle.flow_model.specs.Groups.{AreGrouped};
+ghost use Rattle.flow_model.specs.Grouped.{AreGrouped};
 ghost use Rattle.flow_model.specs.Order.{silent_order, sys_order, StrictlyRise};
 ghost use Rattle.flow_model.specs.Starts.{IsStart, AreStarts, members_of};
 

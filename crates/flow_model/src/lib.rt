@@ -3,6 +3,7 @@
 #![tactic(auto)]
 
 mod builder;
+mod counted;
 mod groups;
 mod laws;
 mod model;
@@ -15,6 +16,7 @@ mod steps;
 mod which;
 
 pub use builder::{FinishError, ModelBuilder};
+pub use counted::{CountedMonitor, begin_uncounted, feed_uncounted};
 pub use laws::languages_are_nested;
 pub use model::Model;
 pub use monitor::Monitor;

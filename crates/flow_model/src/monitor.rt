@@ -98,4 +98,7 @@ pub trait Monitor: Sized + Drop {
         ensures exact { (g : Graph) (ms : List Self) → is_pool pool.old g → noted pool.old g ms → needed pool.new g ms }
         ensures over { (m : Self) (g : Graph) (k : ℕ) (h : List Event) → (IsAccepted WHICH g k h → ⊥) → stands m pool.old g k h → stands m pool.new g k h }
         ensures kept { (g : Graph) (ms : List Self) (m : Self) (k : ℕ) (h : List Event) → noted pool.old g ms → Contains ms m → stands m pool.old g k h → stands m pool.new g k h };
+
+    /// The number of keys that the pool holds; it takes no memory.
+    fn held(pool: &Self::Pool) -> usize;
 }

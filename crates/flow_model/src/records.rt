@@ -125,20 +125,3 @@ impl CallEdge {
         })
     }
 }
-
-#[cfg(test)]
-mod tests {
-    use super::*;
-    use std::test::Fail;
-
-    #[test]
-    fn copies_a_call_edge(rt: HostRuntime) -> Result<(), Fail> {
-        let call = CallEdge::new(3, 7, 4, [1, 0].to_vec(rt.alloc())?);
-        let copied = call.copy()?;
-        assert_eq!(rt; copied.from(), 3);
-        assert_eq!(rt; copied.site(), 7);
-        assert_eq!(rt; copied.to(), 4);
-        assert!(rt; copied.candidates() == [1, 0].as_slice());
-        Ok(())
-    }
-}

@@ -2,7 +2,8 @@ ghost use Rattle.std.specs.Prelude.{◌≡◌, ℕ, ◌<◌, ◌≤◌, ◌↔�
 ghost use Rattle.dm_base.specs.Name.{IsName};
 ghost use Rattle.sys_table.specs.Table.{IsRight};
 ghost use Rattle.flow_model.specs.declared.records.ModelFunction.{ModelFunction};
-ghost use Rattle.flow_model.specs.Graph.{Owns, HaveOneOwner, EndsAt, end_of};
+ghost use Rattle.flow_model.specs.Ends.{EndsAt};
+ghost use Rattle.flow_model.specs.Graph.{Owns, HaveOneOwner, end_of};
 ghost use Rattle.flow_model.specs.Rules.{HasRightEntries, HasOwnExits};
 
 use crate::{CallEdge, ModelFunction, SilentEdge, SysEdge};

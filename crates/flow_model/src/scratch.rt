@@ -1,4 +1,5 @@
-ghost use Rattle.std.specs.Prelude.{◌≡◌, ◌<◌, ◌≤◌, ◌↔◌, [], ◌∷◌, ◌++◌, length, slice_get, Contains, IsTrue, IfOk, IfSome};
+ghost use Rattle.std.specs.Prelude.{◌≡◌, ◌<◌, ◌≤◌, ◌↔◌, ℕ, [], ◌∷◌, ◌++◌, length, slice_get, Contains, IsTrue, IfOk, IfSome};
+ghost use Rattle.dm_sets.specs.Nodes.{Has};
 ghost use Rattle.flow_model.specs.Found.{AreFound};
 
 use crate::Model;
@@ -17,7 +18,8 @@ pub struct Scratch {
 
 impl std::marker::Model for Scratch {
     ghost use Rattle.std.specs.Prelude.{◌≤◌, vec_capacity};
-    ghost use Rattle.flow_model.specs.Found.{Found, IsSetOf};
+    ghost use Rattle.flow_model.specs.Found.{Found};
+    ghost use Rattle.flow_model.specs.Members.{IsSetOf};
 
     ghost Value = { Found };
 
@@ -89,43 +91,25 @@ impl Scratch {
         self.found.push(node).is_ok()
     }
 
+    /// Makes the set that of the nodes that were found.
+    pub fn fill(&self, set: &mut NodeSet)
+        requires { set.old.size ≡ self.now.size }
+        ensures size { set.new.size ≡ set.old.size }
+        ensures has { (a : ℕ) → Has set.new a ↔ Contains self.now.nodes a }
+    {
+        // It tells that the nodes are below the size.
+        let _size = self.size();
+        set.clear();
+        for node in self.nodes() {
+            set.insert(*node);
+        }
+    }
+
     /// Takes all nodes away. It costs no more than one step for each 64 nodes of the model.
     pub fn clear(&mut self)
         ensures { self.new ≡ record self.old { nodes = [] } }
     {
         self.members.clear();
         self.found.clear();
-    }
-}
-
-#[cfg(test)]
-mod tests {
-    use super::*;
-    use crate::{ModelBuilder, ModelFunction};
-    use dm_base::Bytes;
-    use std::test::Fail;
-
-    #[test]
-    fn lists_the_nodes_in_the_order_in_which_they_are_added(rt: HostRuntime) -> Result<(), Fail> {
-        let alloc = rt.alloc();
-        let mut builder = ModelBuilder::new(alloc)?;
-        builder.function(ModelFunction {
-            name: Bytes::of(alloc, b"main")?,
-            entry: 0,
-            exit: 1,
-        })?;
-        let model = builder.finish(3, 0).map_err(|_| "a model")?;
-        let mut scratch = Scratch::new(alloc, &model)?;
-        assert_eq!(rt; scratch.size(), 3);
-        assert!(rt; scratch.add(2));
-        assert!(rt; scratch.add(0));
-        assert!(rt; !scratch.add(2));
-        assert!(rt; scratch.nodes() == [2, 0].as_slice());
-        assert_eq!(rt; scratch.get(1), Some(0));
-        assert_eq!(rt; scratch.get(2), None);
-        scratch.clear();
-        assert_eq!(rt; scratch.len(), 0);
-        assert!(rt; scratch.add(2));
-        Ok(())
     }
 }

@@ -78,31 +78,3 @@ fn names_of<'a>(alloc: Global, functions: &'a [ModelFunction]) -> Result<Vec<&'a
     }
     Ok(names)
 }
-
-#[cfg(test)]
-mod tests {
-    use super::*;
-    use dm_base::Bytes;
-    use std::test::Fail;
-
-    #[test]
-    fn tells_whether_names_differ(rt: HostRuntime) -> Result<(), Fail> {
-        let alloc = rt.alloc();
-        for (names, want) in [
-            ([b"g".as_slice(), b"f", b"h"], true),
-            ([b"f", b"g", b"f"], false),
-            ([b"f", b"ff", b"fg"], true),
-        ] {
-            let mut functions = Vec::new(alloc);
-            for name in names {
-                functions.push(ModelFunction {
-                    name: Bytes::of(alloc, name)?,
-                    entry: 0,
-                    exit: 0,
-                })?;
-            }
-            assert_eq!(rt; do_names_differ(alloc, &functions)?, want);
-        }
-        Ok(())
-    }
-}

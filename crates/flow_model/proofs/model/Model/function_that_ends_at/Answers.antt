@@ -1,6 +1,7 @@
 use Rattle.std.proofs.Common.{◌≡◌, ap, sym, ◌∙◌, subst}
 use Rattle.std.proofs.lemmas.Option.{IfSome_then, slice_get_within}
-use Rattle.flow_model.specs.Graph.{Graph, EndsAt}
+use Rattle.flow_model.specs.Ends.{EndsAt}
+use Rattle.flow_model.specs.Graph.{Graph}
 use Rattle.flow_model.proofs.OwnersLemmas.{function_of_end, end_of_function}
 use Rattle.flow_model.proofs.model.Model.function_that_ends_at.Goals as goal
 use Rattle.flow_model.proofs.model.Model.function_that_ends_at.Goals.{After-function_ending_at}

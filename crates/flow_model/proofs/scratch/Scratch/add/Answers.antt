@@ -2,7 +2,8 @@ use Rattle.std.proofs.Common.{◌≡◌, ◌<◌, ◌++◌, ◌∷◌, [], true,
 use Rattle.std.specs.Prelude.{is_ok}
 use Rattle.std.proofs.lemmas.Bool.{false≢true}
 use Rattle.dm_sets.specs.Nodes.{Nodes, Has}
-use Rattle.flow_model.specs.Found.{Found, IsSetOf}
+use Rattle.flow_model.specs.Found.{Found}
+use Rattle.flow_model.specs.Members.{IsSetOf}
 use Rattle.flow_model.proofs.FoundLemmas.{set_of_more, set_of_same, has_unless_new, room_for}
 use Rattle.flow_model.proofs.scratch.Scratch.add.Goals as goal
 use Rattle.flow_model.proofs.scratch.Scratch.add.Goals.{Then-not-insert, After-is_ok}

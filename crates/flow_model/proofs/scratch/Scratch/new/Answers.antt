@@ -1,6 +1,6 @@
 use Rattle.std.proofs.Common.{ap, sym, subst, arith}
 use Rattle.dm_sets.specs.Nodes.{Nodes}
-use Rattle.flow_model.specs.Found.{IsSetOf}
+use Rattle.flow_model.specs.Members.{IsSetOf}
 use Rattle.flow_model.proofs.FoundLemmas.{set_of_none}
 use Rattle.flow_model.proofs.scratch.Scratch.new.Goals as goal
 
