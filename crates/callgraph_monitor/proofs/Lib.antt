@@ -2,7 +2,6 @@ pub mod Bounds
 pub mod Closed
 pub mod Costs
 pub mod Edges
-pub mod Filled
 pub mod Grown
 pub mod Items
 pub mod Sites

@@ -1,16 +1,16 @@
 -- What a callgraph monitor stands for after one event more.
-use Rattle.std.proofs.Common.{◌≡◌, ℕ, ℤ, ◌+◌, ◌↔◌, List, [], ◌∷◌, ◌++◌, length, Contains, refl, sym, subst}
+use Rattle.std.proofs.Common.{◌≡◌, ℕ, ℤ, ◌+◌, ◌↔◌, List, [], ◌∷◌, ◌++◌, length, refl, sym, subst}
 use Rattle.dm_base.specs.declared.event.Arg.{Arg}
 use Rattle.dm_base.specs.declared.event.Event.{Event}
 use Rattle.dm_base.specs.declared.event.Event.TheVariants.{Sys, Pre, Post}
 use Rattle.dm_base.specs.Trace.{erase}
 use Rattle.dm_sets.specs.Nodes.{Nodes, Has}
 use Rattle.flow_model.specs.declared.which.Which.TheVariants.{Callgraph}
-use Rattle.flow_model.specs.Graph.{Graph, HasFunction}
+use Rattle.flow_model.specs.Graph.{Graph}
 use Rattle.flow_model.specs.Language.{Walk, Reads}
 use Rattle.flow_model.specs.Language.Walk.{calls}
 use Rattle.flow_model.proofs.Histories.{erase-append, erase-null, accepted_nothing, accepted_more, rejected_more, rejected_stays}
-use Rattle.flow_model.proofs.Walks.{walk-append, last_call, same_entry}
+use Rattle.flow_model.proofs.Walks.{walk-append, last_call}
 use Rattle.callgraph_monitor.specs.Ahead.{GoesTo}
 use Rattle.callgraph_monitor.specs.Standing.{IsAfter, StandsFor}
 
@@ -94,11 +94,3 @@ stands_first g bound set size after a is = record {
   accepted = λ b has. accepted_nothing Callgraph g bound (reads_of_after g [] b ((after b).0 has));
   over = λ none. absurd (none a ((after a).1 is));
 }
-
--- The walks that read nothing begin at the start's entry.
-module _ (g : Graph) (entry exit : ℕ) (start : HasFunction g g.start entry exit) (found : List ℕ) where
-  pub first_after : ((c : ℕ) → Contains found c → Walk g entry [] c) → (c : ℕ) → Contains found c → IsAfter g [] c
-  first_after reached c has = (entry, exit, start, reached c has)
-
-  pub after_first : ((c : ℕ) → Walk g entry [] c → Contains found c) → (c : ℕ) → IsAfter g [] c → Contains found c
-  after_first closed c (other, end, function, walk) = closed c (subst (λ n. Walk g n [] c) (same_entry function start) walk)

@@ -1,4 +1,4 @@
--- The nodes to which a step leads.
+-- For private contracts and proofs alone: the nodes to which a step leads.
 use Rattle.std.specs.Prelude.{◌≡◌, ℕ, ℤ, List, [], Option, Contains}
 use Rattle.dm_base.specs.declared.event.Event.{Event}
 use Rattle.dm_base.specs.Fits.{Fits}

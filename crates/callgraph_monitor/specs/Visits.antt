@@ -1,4 +1,4 @@
--- How many edges and candidate entries are read at a node.
+-- For private contracts and proofs alone: how many edges and candidate entries are read at a node.
 use Rattle.std.specs.Prelude.{ℕ, ◌+◌, Bool, false, List, length, filter, sum_by, count_by, nat_eq, slice_get}
 use Rattle.std.specs.List.{list_any}
 use Rattle.std.specs.Option.{option_map_or}

@@ -6,6 +6,3 @@ mod reading;
 mod visiting;
 
 pub use monitor::CallgraphMonitor;
-
-#[cfg(test)]
-mod tests;

@@ -1,20 +1,22 @@
-ghost use Rattle.std.specs.Prelude.{◌≡◌, ◌-◌, ◌<◌, ◌≤◌, ◌↔◌, ℕ, List, [], ◌∷◌, ◌++◌, Contains};
+ghost use Rattle.std.specs.Prelude.{◌≡◌, ◌+◌, ◌≤◌, ◌↔◌, ℕ, List, [], ◌∷◌, ◌++◌, IsOk, IfOk, OnOk, OnErr};
 ghost use Rattle.dm_base.specs.declared.event.Event.{Event};
 ghost use Rattle.dm_sets.specs.Nodes.{Has};
 ghost use Rattle.flow_model.specs.declared.which.Which.TheVariants.{Callgraph};
 ghost use Rattle.flow_model.specs.Cost.{most_steps};
+ghost use Rattle.flow_model.specs.Language.{Walk};
 ghost use Rattle.flow_model.specs.Verdict.{IsStep};
 ghost use Rattle.callgraph_monitor.specs.Ahead.{GoesTo};
-ghost use Rattle.callgraph_monitor.specs.Standing.{IsAfter, StandsFor};
+ghost use Rattle.callgraph_monitor.specs.Standing.{StandsFor};
 
-use crate::reading::{fill, is_empty, read};
+use crate::reading::{is_empty, read};
 use crate::visiting::saturate;
 use dm_base::{Event, OutOfMemory, Step};
 use dm_sets::NodeSet;
-use flow_model::{Model, Monitor, Scratch, Steps, Which};
+use flow_model::{
+    CountedMonitor, Model, Monitor, Scratch, Steps, Which, begin_uncounted, feed_uncounted,
+};
 use std::alloc::Global;
-use std::marker::Brand;
-use std::sync::ledger::{Blank, Ledger};
+use std::sync::ledger::Ledger;
 
 /// A monitor of the callgraph model, seen as the set of the nodes where a walk may end that reads the
 /// system calls of the history. The set is empty exactly where the history was rejected. All memory
@@ -47,31 +49,33 @@ fn go_on<L: Ledger>(
     ensures pool { pool.new.size ≡ model.now.nodes }
     ensures size { set.new.size ≡ model.now.nodes }
     ensures moved { (c : ℕ) → Has set.new c ↔ GoesTo model.now event.now set.old c }
-    ensures cost { steps.new - steps.old ≤ most_steps model.now }
+    ensures cost { steps.new ≤ steps.old + most_steps model.now }
+    ensures rise { steps.old ≤ steps.new }
 {
     read(set, pool, model, event, steps);
     saturate(pool, model, steps);
     let _size = pool.size();
-    fill(set, pool);
+    pool.fill(set);
 }
 
-impl CallgraphMonitor {
-    /// Takes the next event, and counts each edge and each candidate entry that it reads as a step.
-    /// It takes no memory.
-    pub fn feed_counted<L: Ledger>(
+impl CountedMonitor for CallgraphMonitor {
+    ghost LANGUAGE = { Callgraph };
+
+    ghost is_for = { StandsFor };
+
+    ghost leads = { λ g a c. Walk g a [] c };
+
+    fn close<L: Ledger>(pool: &mut Scratch, model: &Model, steps: &mut Steps<L>) {
+        saturate(pool, model, steps);
+    }
+
+    fn feed_counted<L: Ledger>(
         &mut self,
         pool: &mut Scratch,
         model: &Model,
         event: &Event,
         steps: &mut Steps<L>,
-    ) -> Step
-        requires pool { pool.old.size ≡ model.now.nodes }
-        requires stands { (k : ℕ) × (h : List Event) × StandsFor self.old model.now k h }
-        ensures pool { pool.new.size ≡ model.now.nodes }
-        ensures stands { (k : ℕ) (h : List Event) → StandsFor self.old model.now k h → StandsFor self.new model.now k (h ++ event.now ∷ []) }
-        ensures exact { (k : ℕ) (h : List Event) → StandsFor self.old model.now k h → IsStep Callgraph model.now k (h ++ event.now ∷ []) result }
-        ensures cost { steps.new - steps.old ≤ most_steps model.now }
-    {
+    ) -> Step {
         if is_empty(&self.standing) {
             return Step::Rejected;
         }
@@ -87,28 +91,9 @@ impl CallgraphMonitor {
             Event::Post(_) => Step::Kept,
         }
     }
+}
 
-    // Takes the next event, and counts its steps where nobody sees them.
-    fn feed_uncounted<L: Ledger>(
-        &mut self,
-        pool: &mut Scratch,
-        model: &Model,
-        event: &Event,
-        blank: Blank,
-    ) -> Step
-        requires name { blank.name ≡ L.name }
-        requires parts { blank.parts ≡ L.parts }
-        requires some { 0 < blank.parts }
-        requires pool { pool.old.size ≡ model.now.nodes }
-        requires stands { (k : ℕ) × (h : List Event) × StandsFor self.old model.now k h }
-        ensures pool { pool.new.size ≡ model.now.nodes }
-        ensures stands { (k : ℕ) (h : List Event) → StandsFor self.old model.now k h → StandsFor self.new model.now k (h ++ event.now ∷ []) }
-        ensures exact { (k : ℕ) (h : List Event) → StandsFor self.old model.now k h → IsStep Callgraph model.now k (h ++ event.now ∷ []) result }
-    {
-        let mut steps = Steps::<L>::new(blank);
-        self.feed_counted(pool, model, event, &mut steps)
-    }
-
+impl CallgraphMonitor {
     /// Takes the next event. It takes no memory.
     pub fn feed_now(&mut self, pool: &mut Scratch, model: &Model, event: &Event) -> Step
         requires pool { pool.old.size ≡ model.now.nodes }
@@ -117,35 +102,8 @@ impl CallgraphMonitor {
         ensures stands { (k : ℕ) (h : List Event) → StandsFor self.old model.now k h → StandsFor self.new model.now k (h ++ event.now ∷ []) }
         ensures exact { (k : ℕ) (h : List Event) → StandsFor self.old model.now k h → IsStep Callgraph model.now k (h ++ event.now ∷ []) result }
     {
-        self.feed_uncounted::<Brand>(pool, model, event, Blank::new(1))
+        feed_uncounted(self, pool, model, event)
     }
-}
-
-// Finds the nodes where a walk may end that reads nothing.
-fn begin<L: Ledger>(pool: &mut Scratch, model: &Model, blank: Blank)
-    requires name { blank.name ≡ L.name }
-    requires parts { blank.parts ≡ L.parts }
-    requires some { 0 < blank.parts }
-    requires pool { pool.old.size ≡ model.now.nodes }
-    ensures pool { pool.new.size ≡ model.now.nodes }
-    ensures after { (a : ℕ) → Contains pool.new.nodes a ↔ IsAfter model.now [] a }
-    ensures start { (a : ℕ) × IsAfter model.now [] a }
-{
-    let _nodes = model.nodes();
-    let mut steps = Steps::<L>::new(blank);
-    pool.clear();
-    pool.add(model.functions()[model.start() as usize].entry);
-    saturate(pool, model, &mut steps);
-}
-
-// Finds these nodes without counting.
-fn begin_uncounted(pool: &mut Scratch, model: &Model)
-    requires { pool.old.size ≡ model.now.nodes }
-    ensures pool { pool.new.size ≡ model.now.nodes }
-    ensures after { (a : ℕ) → Contains pool.new.nodes a ↔ IsAfter model.now [] a }
-    ensures start { (a : ℕ) × IsAfter model.now [] a }
-{
-    begin::<Brand>(pool, model, Blank::new(1));
 }
 
 impl Monitor for CallgraphMonitor {
@@ -169,8 +127,7 @@ impl Monitor for CallgraphMonitor {
 
     fn open(pool: &mut Scratch, model: &Model, _bound: u32) -> Result<Self, OutOfMemory> {
         let mut standing = NodeSet::new(pool.allocator(), model.nodes())?;
-        begin_uncounted(pool, model);
-        fill(&mut standing, pool);
+        begin_uncounted::<CallgraphMonitor>(&mut standing, pool, model);
         Ok(CallgraphMonitor { standing })
     }
 
@@ -179,19 +136,45 @@ impl Monitor for CallgraphMonitor {
         pool: &mut Scratch,
         model: &Model,
         event: &Event,
-    ) -> Result<Step, OutOfMemory> {
+    ) -> Result<Step, OutOfMemory>
+        requires pool { pool.old.size ≡ model.now.nodes }
+        requires stands { (k : ℕ) × (h : List Event) × StandsFor self.old model.now k h }
+        ensures memory { IsOk result }
+        ensures pool { pool.new.size ≡ model.now.nodes }
+        ensures stands { OnOk result ((k : ℕ) (h : List Event) → StandsFor self.old model.now k h → StandsFor self.new model.now k (h ++ event.now ∷ [])) }
+        ensures err { OnErr result ((k : ℕ) (h : List Event) → StandsFor self.old model.now k h → StandsFor self.new model.now k h) }
+        ensures exact { IfOk result (λ step. (k : ℕ) (h : List Event) → StandsFor self.old model.now k h → IsStep Callgraph model.now k (h ++ event.now ∷ []) step) }
+    {
         Ok(self.feed_now(pool, model, event))
     }
 
-    fn copy(&self, _pool: &mut Scratch) -> Result<Self, OutOfMemory> {
+    fn copy(&self, pool: &mut Scratch) -> Result<Self, OutOfMemory>
+        ensures copy { IfOk result (λ m. m ≡ self.now) }
+        ensures same { pool.new ≡ pool.old }
+    {
+        let _pool = pool;
         Ok(CallgraphMonitor {
             standing: self.standing.copy()?,
         })
     }
 
-    fn mark(&self, _pool: &mut Scratch) -> Result<(), OutOfMemory> {
+    fn mark(&self, pool: &mut Scratch) -> Result<(), OutOfMemory>
+        ensures memory { IsOk result }
+        ensures same { pool.new ≡ pool.old }
+    {
+        let _pool = pool;
         Ok(())
     }
 
-    fn sweep(_pool: &mut Scratch) {}
+    fn sweep(pool: &mut Scratch)
+        ensures { pool.new ≡ pool.old }
+    {
+        let _unchanged = pool;
+    }
+
+    fn held(_pool: &Scratch) -> usize
+        ensures { result ≡ 0 }
+    {
+        0
+    }
 }

@@ -1,4 +1,4 @@
-ghost use Rattle.std.specs.Prelude.{◌≡◌, ◌+◌, ◌<◌, ◌≤◌, ◌↔◌, ℕ, length, filter, nat_eq, Contains, IsTrue};
+ghost use Rattle.std.specs.Prelude.{◌≡◌, ◌+◌, ◌<◌, ◌≤◌, ℕ, length, filter, nat_eq, Contains, IsTrue};
 ghost use Rattle.dm_base.specs.Fits.{Fits};
 ghost use Rattle.dm_sets.specs.Nodes.{Has};
 ghost use Rattle.callgraph_monitor.specs.Growth.{Adds};
@@ -53,6 +53,7 @@ pub fn read<L: Ledger>(
     ensures only { (b : ℕ) → Contains pool.new.nodes b → (a : ℕ) × Has set.now a × IsAhead model.now event.now a b }
     ensures all { (a b : ℕ) → Has set.now a → IsAhead model.now event.now a b → Contains pool.new.nodes b }
     ensures cost { steps.new ≤ steps.old + length model.now.sys }
+    ensures rise { steps.old ≤ steps.new }
 {
     let _nodes = model.nodes();
     pool.clear();
@@ -60,19 +61,6 @@ pub fn read<L: Ledger>(
     while let Some(node) = set.next(from) {
         read_from(pool, model, node, event, steps);
         from = node + 1;
-    }
-}
-
-/// Makes the set that of the nodes of the list.
-pub fn fill(set: &mut NodeSet, pool: &Scratch)
-    requires { set.old.size ≡ pool.now.size }
-    ensures size { set.new.size ≡ set.old.size }
-    ensures has { (a : ℕ) → Has set.new a ↔ Contains pool.now.nodes a }
-{
-    let _size = pool.size();
-    set.clear();
-    for node in pool.nodes() {
-        set.insert(*node);
     }
 }
 

@@ -88,6 +88,7 @@ fn follow_returns<L: Ledger>(pool: &mut Scratch, model: &Model, node: u32, steps
     requires pool { pool.old.size ≡ model.now.nodes }
     ensures added { Adds pool.old pool.new (LeavesTo model.now node) }
     ensures cost { steps.new ≤ steps.old + leave_cost model.now node }
+    ensures rise { steps.old ≤ steps.new }
 {
     if let Some(function) = model.function_that_ends_at(node) {
         return_from(pool, model, function, steps);
@@ -100,6 +101,7 @@ fn visit<L: Ledger>(pool: &mut Scratch, model: &Model, node: u32, steps: &mut St
     requires node { node < model.now.nodes }
     ensures added { Adds pool.old pool.new (Quiet model.now node) }
     ensures cost { steps.new ≤ steps.old + visit_cost model.now node }
+    ensures rise { steps.old ≤ steps.new }
 {
     follow_silent(pool, model, node, steps);
     follow_calls(pool, model, node, steps);
@@ -114,6 +116,7 @@ pub fn saturate<L: Ledger>(pool: &mut Scratch, model: &Model, steps: &mut Steps<
     ensures reached { (c : ℕ) → Contains pool.new.nodes c → (b : ℕ) × Contains pool.old.nodes b × Walk model.now b [] c }
     ensures closed { (b c : ℕ) → Contains pool.old.nodes b → Walk model.now b [] c → Contains pool.new.nodes c }
     ensures cost { steps.new ≤ steps.old + sum_by (visit_cost model.now) pool.new.nodes }
+    ensures rise { steps.old ≤ steps.new }
 {
     let _nodes = model.nodes();
     let mut i = 0;

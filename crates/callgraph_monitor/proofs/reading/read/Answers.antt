@@ -14,6 +14,7 @@ loop-node-init g c = record {
   only = λ b has. absurd (let there = subst (λ xs. Contains xs b) (ap (λ (f : Found). f.nodes) c.clear.ensures) has in omega (arith, there.1));
   all = λ a b lt has ahead. absurd (omega (arith, lt));
   cost = omega arith;
+  rise = omega arith;
 }
 
 pub loop-node-preserved : goal.loop-node-preserved
@@ -39,6 +40,7 @@ loop-node-preserved g c =
             adds.all b (subst (λ n. IsAhead c.args.model.now c.args.event.now n b) same ahead)
       ];
       cost = omega (arith, before.cost, c.read_from.ensures.cost, below_and_at (λ (e : SysEdge). e.from) c.loop-node.from node some.0 c.args.model.now.sys);
+      rise = omega (arith, before.rise, c.read_from.ensures.cost);
     }
 
 pub returns-clause-all : goal.returns-clause-all

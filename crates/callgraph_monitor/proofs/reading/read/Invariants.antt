@@ -10,6 +10,7 @@ invariant-loop-node g l = record {
   only : (b : ℕ) → Contains l.pool.nodes b → (a : ℕ) × Has l.set a × IsAhead l.model l.event a b;
   all : (a b : ℕ) → a < l.from → Has l.set a → IsAhead l.model l.event a b → Contains l.pool.nodes b;
   cost : l.steps ≤ l.fn.steps + length (filter (λ e. nat_lt e.from l.from) l.model.sys);
+  rise : l.fn.steps ≤ l.steps;
 }
 
 abbrev pub decreases-loop-node : goal.decreases-loop-node

@@ -15,6 +15,7 @@ loop-node-init g c = record {
   reached = λ b has. (b, has, over);
   closed = λ b d has step. absurd (omega (arith, has.1));
   cost = omega arith;
+  rise = omega arith;
 }
 
 pub loop-node-preserved : goal.loop-node-preserved
@@ -34,6 +35,7 @@ loop-node-preserved g c =
       reached = turn_reached model old new i node is adds c.args.pool.now.nodes before.reached;
       closed = turn_closed model old new i node is adds before.closed;
       cost = omega (arith, before.cost, c.visit.ensures.cost, turn_cost model old new i node is adds);
+      rise = omega (arith, before.rise, c.visit.ensures.rise);
     }
 
 pub returns-clause-closed : goal.returns-clause-closed

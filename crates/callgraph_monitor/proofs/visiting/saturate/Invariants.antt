@@ -11,6 +11,7 @@ invariant-loop-node g l = record {
   reached : (c : ℕ) → Contains l.pool.nodes c → (b : ℕ) × Contains l.fn.pool.nodes b × Walk l.model b [] c;
   closed : (b c : ℕ) → Contains (take l.i l.pool.nodes) b → Quiet l.model b c → Contains l.pool.nodes c;
   cost : l.steps ≤ l.fn.steps + sum_by (visit_cost l.model) (take l.i l.pool.nodes);
+  rise : l.fn.steps ≤ l.steps;
 }
 
 abbrev pub decreases-loop-node : goal.decreases-loop-node

@@ -6,9 +6,9 @@ use Rattle.dm_sets.specs.Nodes.{Nodes, Has}
 use Rattle.callgraph_monitor.specs.Ahead.{GoesTo}
 use Rattle.callgraph_monitor.specs.Standing.{StandsFor}
 use Rattle.callgraph_monitor.proofs.Stands.{stands_call, stands_still, stands_null}
-use Rattle.callgraph_monitor.proofs.monitor.CallgraphMonitor.feed_counted.Given.{Over}
-use Rattle.callgraph_monitor.proofs.monitor.CallgraphMonitor.feed_counted.Goals as goal
-use Rattle.callgraph_monitor.proofs.monitor.CallgraphMonitor.feed_counted.Goals.{Then-is_empty, After-go_on, In-Pre, In-Post}
+use Rattle.callgraph_monitor.proofs.monitor.CallgraphMonitorCountedMonitor.feed_counted.Given.{Over}
+use Rattle.callgraph_monitor.proofs.monitor.CallgraphMonitorCountedMonitor.feed_counted.Goals as goal
+use Rattle.callgraph_monitor.proofs.monitor.CallgraphMonitorCountedMonitor.feed_counted.Goals.{Then-is_empty, After-go_on, In-Pre, In-Post}
 
 -- a monitor whose set has no node
 still : (g : Over) (c : Then-is_empty g) (k : ℕ) (h : List Event) → StandsFor c.args.self.now c.args.model.now k h → StandsFor c.args.self.now c.args.model.now k (h ++ c.args.event.now ∷ [])
