@@ -8,8 +8,8 @@ use Rattle.flow_model.specs.Graph.{Graph, HasSys}
 use Rattle.flow_model.specs.Language.{Inside, Calls, Enters, Leaves, Steps, DyckRun}
 use Rattle.flow_model.specs.Language.Steps.{silent, sys, enter, leave}
 use Rattle.flow_model.specs.Language.DyckRun.{over, inside, calls, enters, leaves}
-use Rattle.dyck_monitor.specs.Moves.{LeadsTo}
-use Rattle.dyck_monitor.specs.Moves.LeadsTo.{here, on}
+use Rattle.dyck_monitor.specs.Silence.{LeadsTo}
+use Rattle.dyck_monitor.specs.Silence.LeadsTo.{here, on}
 
 -- a run, and another one from where it ends
 pub run-append : {g : Graph} {a b c : ℕ} {y z w : List ℕ} {t u : List Event} → DyckRun g a y t b z → DyckRun g b z u c w → DyckRun g a y (t ++ u) c w

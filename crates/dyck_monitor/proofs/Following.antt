@@ -11,8 +11,8 @@ use Rattle.std.proofs.lemmas.Map.Views.{Contains-from_any, list_any-from_Contain
 use Rattle.flow_model.specs.declared.records.SilentEdge.{SilentEdge}
 use Rattle.flow_model.specs.Graph.{Graph, HasSilent}
 use Rattle.dyck_monitor.specs.Adding.{Adds}
-use Rattle.dyck_monitor.specs.Moves.{LeadsTo}
-use Rattle.dyck_monitor.specs.Moves.LeadsTo.{here, on}
+use Rattle.dyck_monitor.specs.Silence.{LeadsTo}
+use Rattle.dyck_monitor.specs.Silence.LeadsTo.{here, on}
 use Rattle.flow_model.specs.Found.{Found, AreFound}
 use Rattle.dyck_monitor.proofs.Counting.{filters_apart}
 

@@ -1,5 +1,5 @@
 -- What a monitor stands for after one event more.
-use Rattle.std.proofs.Common.{◌≡◌, ◌↔◌, ℕ, ◌+◌, ◌<◌, ◌≤◌, List, [], ◌∷◌, ◌++◌, length, Contains, refl, sym, ◌∙◌, ap, subst, arith}
+use Rattle.std.proofs.Common.{◌≡◌, ◌↔◌, ℕ, ◌+◌, ◌≤◌, List, [], ◌∷◌, ◌++◌, length, Contains, refl, sym, ◌∙◌, ap, subst, arith}
 use Rattle.dm_base.specs.declared.event.Event.{Event}
 use Rattle.dm_base.specs.declared.event.Event.TheVariants.{Sys, Pre, Post}
 use Rattle.dm_base.specs.declared.verdict.Step.{Step}
@@ -11,10 +11,11 @@ use Rattle.flow_model.specs.declared.which.Which.TheVariants.{Dyck}
 use Rattle.flow_model.specs.Graph.{Graph, HasFunction}
 use Rattle.flow_model.specs.Language.{Reads}
 use Rattle.flow_model.proofs.Histories.{accepted_nothing, accepted_more, rejected_more, rejected_stays, bound_more, bound_stays}
-use Rattle.dyck_monitor.specs.Moves.{LeadsTo, IsAhead, IsAfter}
-use Rattle.dyck_monitor.specs.Moves.LeadsTo.{here}
-use Rattle.dyck_monitor.specs.Standing.{HoldsRuns, Stands, SitesGoOn, OpensSite}
-use Rattle.dyck_monitor.proofs.Edges.{function_there, same_function}
+use Rattle.dyck_monitor.specs.Moves.{IsAhead, IsAfter}
+use Rattle.dyck_monitor.specs.Silence.{LeadsTo}
+use Rattle.dyck_monitor.specs.Silence.LeadsTo.{here}
+use Rattle.dyck_monitor.specs.Sites.{SitesGoOn, OpensSite}
+use Rattle.dyck_monitor.specs.Standing.{HoldsRuns, Stands}
 use Rattle.dyck_monitor.proofs.Standings.{holds_more, holds_nothing, refused_without_ahead, refused_by_sites, reads_by_ahead, sites_few, within_more, deep_more}
 
 -- before the first event
@@ -28,20 +29,6 @@ stands_nothing g bound nodes sites entry exit start size empty leads =
       told = accepted_nothing Dyck g bound ((first, last, entry, [], has, run), omega arith);
       holds = λ _. subst (λ s. HoldsRuns g (Has nodes) s.items []) (sym empty) holds;
     }
-
--- the same, from the start function's entry on
-pub stands_begun : (g : Graph) (bound : ℕ) (nodes : Nodes) (sites : Entries) (f : ℕ) (first found : List ℕ) → f ≡ g.start → f < length g.functions → nodes.size ≡ g.nodes → sites ≡ record { bound = bound; items = [] }
-    → ((b : ℕ) → Contains first b ↔ ((exit : ℕ) × HasFunction g f b exit)) → ((c : ℕ) → Contains found c ↔ ((b : ℕ) × Contains first b × LeadsTo g b c)) → ((c : ℕ) → Has nodes c ↔ Contains found c)
-    → Stands g bound nodes sites Kept []
-stands_begun g bound nodes sites f first found is_start lt size empty begins leads stored =
-    let (entry, exit, function) = function_there g f lt in
-    stands_nothing g bound nodes sites entry exit (subst (λ n. HasFunction g n entry exit) is_start function) size empty (λ c. (
-      λ is.
-          let (b, has, rest) = (leads c).0 ((stored c).0 is) in
-          let (end, one) = (begins b).0 has in
-          subst (λ n. LeadsTo g n c) (same_function one function).0 rest,
-      λ rest. (stored c).1 ((leads c).1 (entry, (begins entry).1 (exit, function), rest)),
-    ))
 
 module _ (g : Graph) (bound : ℕ) (nodes : Nodes) (sites : Entries) (h : List Event) where
   -- what was refused, or passed the bound, stays so

@@ -7,4 +7,3 @@ pub mod Examples
 pub mod Following
 pub mod Going
 pub mod Standings
-pub mod Storing

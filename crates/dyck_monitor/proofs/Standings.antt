@@ -10,9 +10,11 @@ use Rattle.flow_model.specs.Language.Steps.{sys, enter, leave}
 use Rattle.flow_model.specs.Verdict.{IsAccepted}
 use Rattle.flow_model.proofs.Histories.{accepted_whole}
 use Rattle.flow_model.proofs.Walks.{same_entry}
-use Rattle.dyck_monitor.specs.Moves.{LeadsTo, IsEntered, IsReturned, IsAhead, IsAfter}
-use Rattle.dyck_monitor.specs.Moves.LeadsTo.{here}
-use Rattle.dyck_monitor.specs.Standing.{IsReached, HoldsRuns, SitesGoOn}
+use Rattle.dyck_monitor.specs.Moves.{IsEntered, IsReturned, IsAhead, IsAfter}
+use Rattle.dyck_monitor.specs.Silence.{LeadsTo}
+use Rattle.dyck_monitor.specs.Silence.LeadsTo.{here}
+use Rattle.dyck_monitor.specs.Sites.{SitesGoOn}
+use Rattle.dyck_monitor.specs.Standing.{IsReached, HoldsRuns}
 use Rattle.dyck_monitor.proofs.Depths.{depth-same, depth-few, depth-many, depth-open}
 use Rattle.dyck_monitor.proofs.DyckRuns.{OneStep, last_event, run_from_last, run_from_leads, leads_from_run, calls_edge, calls_same, open_sites}
 

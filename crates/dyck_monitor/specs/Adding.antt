@@ -1,4 +1,4 @@
--- How a list of different nodes grows.
+-- For private contracts and proofs alone: how a list of different nodes grows.
 use Rattle.std.specs.Prelude.{◌≡◌, ◌↔◌, ◌⊎◌, ℕ, List, ◌++◌, Contains}
 use Rattle.flow_model.specs.Found.{Found, AreFound}
 

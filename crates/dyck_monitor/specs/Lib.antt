@@ -1,3 +1,5 @@
 pub mod Adding
 pub mod Moves
+pub mod Silence
+pub mod Sites
 pub mod Standing

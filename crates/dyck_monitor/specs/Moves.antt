@@ -1,15 +1,11 @@
--- Where one event leads in the Dyck model.
+-- For private contracts and proofs alone: where one event leads in the Dyck model.
 use Rattle.std.specs.Prelude.{◌≡◌, ℕ, Contains}
 use Rattle.dm_base.specs.declared.event.Event.{Event}
 use Rattle.dm_base.specs.declared.event.Event.TheVariants.{Sys, Pre, Post}
 use Rattle.dm_base.specs.Fits.{Fits}
 use Rattle.flow_model.specs.declared.records.SysEdge.{SysEdge}
-use Rattle.flow_model.specs.Graph.{Graph, HasSilent, HasCall, HasFunction}
-
--- silent edges alone lead from the first node to the second
-pub data LeadsTo (g : Graph) : ℕ → ℕ → Type 0 where
-  here : {a : ℕ} → LeadsTo g a a
-  on : {a b c : ℕ} → HasSilent g a b → LeadsTo g b c → LeadsTo g a c
+use Rattle.flow_model.specs.Graph.{Graph, HasCall, HasFunction}
+use Rattle.dyck_monitor.specs.Silence.{LeadsTo}
 
 -- an edge that reads the event leads from one of the nodes to b
 pub record IsRead (g : Graph) (Is : ℕ → Type 0) (e : Event) (b : ℕ) : Type 0 where

@@ -1,7 +1,6 @@
 -- What a monitor of the Dyck model keeps of a history.
-use Rattle.std.specs.Prelude.{◌≡◌, ◌↔◌, ℕ, List, [], ◌∷◌}
+use Rattle.std.specs.Prelude.{◌≡◌, ◌↔◌, ℕ, List, []}
 use Rattle.dm_base.specs.declared.event.Event.{Event}
-use Rattle.dm_base.specs.declared.event.Event.TheVariants.{Sys, Pre, Post}
 use Rattle.dm_base.specs.declared.verdict.Step.{Step}
 use Rattle.dm_base.specs.declared.verdict.Step.TheVariants.{Kept}
 use Rattle.flow_model.specs.declared.which.Which.TheVariants.{Dyck}
@@ -31,15 +30,3 @@ pub record Stands (g : Graph) (bound : ℕ) (nodes : Nodes) (sites : Entries) (l
 -- the same, of a monitor with these fields
 abbrev pub StandsFor : DyckMonitor → Graph → ℕ → List Event → Type 0
 StandsFor m g bound h = Stands g bound m.nodes m.sites m.last h
-
--- how the open sites go on at an event
-abbrev pub SitesGoOn : Event → List ℕ → List ℕ → Type 0
-SitesGoOn (Sys name arguments outcome) y z = y ≡ z
-SitesGoOn (Pre s) y z = s ∷ y ≡ z
-SitesGoOn (Post s) y z = s ∷ z ≡ y
-
--- the event opens a site
-abbrev pub OpensSite : Event → Type 0
-OpensSite (Sys name arguments outcome) = ⊥
-OpensSite (Pre s) = Unit {0}
-OpensSite (Post s) = ⊥

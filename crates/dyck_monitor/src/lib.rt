@@ -4,7 +4,5 @@
 
 mod monitor;
 mod moves;
-#[cfg(test)]
-mod tests;
 
 pub use monitor::DyckMonitor;

@@ -1,21 +1,23 @@
-ghost use Rattle.std.specs.Prelude.{◌≡◌, ◌<◌, ◌≤◌, ◌-◌, ◌+◌, ◌^◌, ◌↔◌, ℕ, List, [], ◌∷◌, ◌++◌, length, false, IsTrue, IfOk, OnOk, OnErr};
+ghost use Rattle.std.specs.Prelude.{◌≡◌, ◌≤◌, ◌+◌, ◌↔◌, ℕ, List, ◌∷◌, ◌++◌, [], length, IsTrue, IsOk, IfOk, OnOk, OnErr};
 ghost use Rattle.dm_base.specs.declared.event.Event.{Event};
 ghost use Rattle.dm_base.specs.declared.verdict.Step.TheVariants.{Kept};
-ghost use Rattle.dm_sets.specs.Entries.{Entries};
 ghost use Rattle.flow_model.specs.declared.which.Which.TheVariants.{Dyck};
 ghost use Rattle.flow_model.specs.Graph.{Graph};
 ghost use Rattle.flow_model.specs.Rules.{IsValid};
 ghost use Rattle.flow_model.specs.Verdict.{IsStep};
-ghost use Rattle.dyck_monitor.specs.Standing.{Stands, StandsFor, SitesGoOn, OpensSite};
+ghost use Rattle.dyck_monitor.specs.Silence.{LeadsTo};
+ghost use Rattle.dyck_monitor.specs.Sites.{SitesGoOn, OpensSite};
+ghost use Rattle.dyck_monitor.specs.Standing.{Stands, StandsFor};
 ghost use Rattle.flow_model.specs.Cost.{most_steps};
 
-use crate::moves::{add_entry, follow, look_ahead, store};
+use crate::moves::{follow, look_ahead};
 use dm_base::{Event, OutOfMemory, Step};
 use dm_sets::{BoundedStack, NodeSet};
-use flow_model::{Model, Monitor, Scratch, Steps, Which};
+use flow_model::{
+    CountedMonitor, Model, Monitor, Scratch, Steps, Which, begin_uncounted, feed_uncounted,
+};
 use std::alloc::Global;
-use std::marker::Brand;
-use std::sync::ledger::{Blank, Ledger};
+use std::sync::ledger::Ledger;
 
 /// A monitor of the Dyck model of one process (after Giffin, Jha and Miller 2004). The null calls of
 /// a history tell which calls are open after it, so all runs that read it end with the same open
@@ -70,7 +72,8 @@ fn go_on<L: Ledger>(
     requires nodes { nodes.old.size ≡ model.now.nodes }
     ensures pool { pool.new.size ≡ model.now.nodes }
     ensures stands { (k : ℕ) (h : List Event) → Stands model.now k nodes.old sites.old Kept h → Stands model.now k nodes.new sites.new result (h ++ event.now ∷ []) }
-    ensures cost { steps.new - steps.old ≤ most_steps model.now }
+    ensures cost { steps.new ≤ steps.old + most_steps model.now }
+    ensures rise { steps.old ≤ steps.new }
 {
     if !is_next(sites, event) {
         return Step::Rejected;
@@ -81,7 +84,7 @@ fn go_on<L: Ledger>(
         return Step::Rejected;
     }
     follow(pool, model, steps);
-    store(nodes, pool);
+    pool.fill(nodes);
     if turn(sites, event) {
         Step::Kept
     } else {
@@ -89,42 +92,27 @@ fn go_on<L: Ledger>(
     }
 }
 
-// Makes the empty set that of the nodes with which every run begins.
-fn begin<L: Ledger>(nodes: &mut NodeSet, pool: &mut Scratch, model: &Model, blank: Blank)
-    requires valid { IsValid model.now }
-    requires name { blank.name ≡ L.name }
-    requires parts { blank.parts ≡ L.parts }
-    requires some { 0 < blank.parts }
-    requires pool { pool.old.size ≡ model.now.nodes }
-    requires nodes { nodes.old.size ≡ model.now.nodes }
-    ensures pool { pool.new.size ≡ model.now.nodes }
-    ensures stands { (k : ℕ) (sites : Entries) → sites ≡ record { bound = k; items = [] } → Stands model.now k nodes.new sites Kept [] }
-{
-    let mut steps = Steps::<L>::new(blank);
-    pool.clear();
-    add_entry(pool, model, model.start());
-    follow(pool, model, &mut steps);
-    store(nodes, pool);
-}
+impl CountedMonitor for DyckMonitor {
+    ghost LANGUAGE = { Dyck };
 
-impl DyckMonitor {
-    /// Takes the next event of the process and answers as `feed` does, without taking memory. A step
-    /// is an edge or a candidate entry that is read; an event takes no more of them than the model has
-    /// nodes, edges and, counted twice, candidate entries.
-    pub fn feed_counted<L: Ledger>(
+    ghost is_for = { StandsFor };
+
+    ghost leads = { LeadsTo };
+
+    fn close<L: Ledger>(pool: &mut Scratch, model: &Model, steps: &mut Steps<L>) {
+        // They tell that the model is valid, and that the nodes differ.
+        let _nodes = model.nodes();
+        let _size = pool.size();
+        follow(pool, model, steps);
+    }
+
+    fn feed_counted<L: Ledger>(
         &mut self,
         pool: &mut Scratch,
         model: &Model,
         event: &Event,
         steps: &mut Steps<L>,
-    ) -> Step
-        requires pool { pool.old.size ≡ model.now.nodes }
-        requires stands { (k : ℕ) × (h : List Event) × StandsFor self.old model.now k h }
-        ensures pool { pool.new.size ≡ model.now.nodes }
-        ensures stands { (k : ℕ) (h : List Event) → StandsFor self.old model.now k h → StandsFor self.new model.now k (h ++ event.now ∷ []) }
-        ensures exact { (k : ℕ) (h : List Event) → StandsFor self.old model.now k h → IsStep Dyck model.now k (h ++ event.now ∷ []) result }
-        ensures cost { steps.new - steps.old ≤ most_steps model.now }
-    {
+    ) -> Step {
         // It tells that the model is valid.
         let _nodes = model.nodes();
         if self.last != Step::Kept {
@@ -134,28 +122,9 @@ impl DyckMonitor {
         *last = go_on(nodes, sites, pool, model, event, steps);
         *last
     }
+}
 
-    // The same, with a counter of its own.
-    fn feed_blank<L: Ledger>(
-        &mut self,
-        pool: &mut Scratch,
-        model: &Model,
-        event: &Event,
-        blank: Blank,
-    ) -> Step
-        requires name { blank.name ≡ L.name }
-        requires parts { blank.parts ≡ L.parts }
-        requires some { 0 < blank.parts }
-        requires pool { pool.old.size ≡ model.now.nodes }
-        requires stands { (k : ℕ) × (h : List Event) × StandsFor self.old model.now k h }
-        ensures pool { pool.new.size ≡ model.now.nodes }
-        ensures stands { (k : ℕ) (h : List Event) → StandsFor self.old model.now k h → StandsFor self.new model.now k (h ++ event.now ∷ []) }
-        ensures exact { (k : ℕ) (h : List Event) → StandsFor self.old model.now k h → IsStep Dyck model.now k (h ++ event.now ∷ []) result }
-    {
-        let mut steps = Steps::<L>::new(blank);
-        self.feed_counted(pool, model, event, &mut steps)
-    }
-
+impl DyckMonitor {
     /// Takes the next event of the process and answers as `feed` does, without taking memory.
     pub fn feed_now(&mut self, pool: &mut Scratch, model: &Model, event: &Event) -> Step
         requires pool { pool.old.size ≡ model.now.nodes }
@@ -164,7 +133,7 @@ impl DyckMonitor {
         ensures stands { (k : ℕ) (h : List Event) → StandsFor self.old model.now k h → StandsFor self.new model.now k (h ++ event.now ∷ []) }
         ensures exact { (k : ℕ) (h : List Event) → StandsFor self.old model.now k h → IsStep Dyck model.now k (h ++ event.now ∷ []) result }
     {
-        self.feed_blank::<Brand>(pool, model, event, Blank::new(1))
+        feed_uncounted(self, pool, model, event)
     }
 }
 
@@ -191,7 +160,7 @@ impl Monitor for DyckMonitor {
         let alloc = pool.allocator();
         let mut nodes = NodeSet::new(alloc, model.nodes())?;
         let sites = BoundedStack::new(alloc, bound)?;
-        begin::<Brand>(&mut nodes, pool, model, Blank::new(1));
+        begin_uncounted::<DyckMonitor>(&mut nodes, pool, model);
         Ok(DyckMonitor {
             nodes,
             sites,
@@ -204,11 +173,23 @@ impl Monitor for DyckMonitor {
         pool: &mut Scratch,
         model: &Model,
         event: &Event,
-    ) -> Result<Step, OutOfMemory> {
+    ) -> Result<Step, OutOfMemory>
+        requires pool { pool.old.size ≡ model.now.nodes }
+        requires stands { (k : ℕ) × (h : List Event) × StandsFor self.old model.now k h }
+        ensures memory { IsOk result }
+        ensures pool { pool.new.size ≡ model.now.nodes }
+        ensures stands { OnOk result ((k : ℕ) (h : List Event) → StandsFor self.old model.now k h → StandsFor self.new model.now k (h ++ event.now ∷ [])) }
+        ensures err { OnErr result ((k : ℕ) (h : List Event) → StandsFor self.old model.now k h → StandsFor self.new model.now k h) }
+        ensures exact { IfOk result (λ step. (k : ℕ) (h : List Event) → StandsFor self.old model.now k h → IsStep Dyck model.now k (h ++ event.now ∷ []) step) }
+    {
         Ok(self.feed_now(pool, model, event))
     }
 
-    fn copy(&self, _pool: &mut Scratch) -> Result<Self, OutOfMemory> {
+    fn copy(&self, pool: &mut Scratch) -> Result<Self, OutOfMemory>
+        ensures copy { IfOk result (λ m. (g : Graph) (k : ℕ) (h : List Event) → StandsFor self.now g k h → StandsFor m g k h) }
+        ensures same { pool.new ≡ pool.old }
+    {
+        let _pool = pool;
         Ok(DyckMonitor {
             nodes: self.nodes.copy()?,
             sites: self.sites.copy()?,
@@ -216,9 +197,23 @@ impl Monitor for DyckMonitor {
         })
     }
 
-    fn mark(&self, _pool: &mut Scratch) -> Result<(), OutOfMemory> {
+    fn mark(&self, pool: &mut Scratch) -> Result<(), OutOfMemory>
+        ensures memory { IsOk result }
+        ensures same { pool.new ≡ pool.old }
+    {
+        let _pool = pool;
         Ok(())
     }
 
-    fn sweep(_pool: &mut Scratch) {}
+    fn sweep(pool: &mut Scratch)
+        ensures { pool.new ≡ pool.old }
+    {
+        let _unchanged = pool;
+    }
+
+    fn held(_pool: &Scratch) -> usize
+        ensures { result ≡ 0 }
+    {
+        0
+    }
 }

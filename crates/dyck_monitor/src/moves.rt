@@ -4,7 +4,8 @@ ghost use Rattle.flow_model.specs.Graph.{HasSilent, HasFunction};
 ghost use Rattle.flow_model.specs.Rules.{IsValid};
 ghost use Rattle.dyck_monitor.specs.Adding.{Adds, IsOfOne};
 ghost use Rattle.flow_model.specs.Found.{AreFound};
-ghost use Rattle.dyck_monitor.specs.Moves.{LeadsTo, IsRead, IsEntered, IsReturned, IsAhead};
+ghost use Rattle.dyck_monitor.specs.Moves.{IsRead, IsEntered, IsReturned, IsAhead};
+ghost use Rattle.dyck_monitor.specs.Silence.{LeadsTo};
 ghost use Rattle.dm_sets.specs.Nodes.{Has};
 
 use dm_base::{Event, fits};
@@ -63,6 +64,7 @@ fn read<L: Ledger>(
     requires size { pool.old.size ≡ model.now.nodes }
     ensures ends { Adds (IsRead model.now (Has nodes.now) event.now) pool.old pool.new }
     ensures cost { steps.new ≤ steps.old + length model.now.sys }
+    ensures rise { steps.old ≤ steps.new }
 {
     let mut from = 0;
     while let Some(node) = nodes.next(from) {
@@ -72,7 +74,7 @@ fn read<L: Ledger>(
 }
 
 // Adds the entry of the function.
-pub fn add_entry(pool: &mut Scratch, model: &Model, function: u32)
+fn add_entry(pool: &mut Scratch, model: &Model, function: u32)
     requires valid { IsValid model.now }
     requires function { function < length model.now.functions }
     requires size { pool.old.size ≡ model.now.nodes }
@@ -135,6 +137,7 @@ fn enter<L: Ledger>(
     requires size { pool.old.size ≡ model.now.nodes }
     ensures entries { Adds (IsEntered model.now (Has nodes.now) site) pool.old pool.new }
     ensures cost { steps.new ≤ steps.old + sum_by (λ c. length c.candidates) model.now.calls }
+    ensures rise { steps.old ≤ steps.new }
 {
     let Some(call) = model.call(site) else {
         return;
@@ -156,6 +159,7 @@ fn leave<L: Ledger>(
     requires size { pool.old.size ≡ model.now.nodes }
     ensures ends { Adds (IsReturned model.now (Has nodes.now) site) pool.old pool.new }
     ensures cost { steps.new ≤ steps.old + sum_by (λ c. length c.candidates) model.now.calls }
+    ensures rise { steps.old ≤ steps.new }
 {
     let Some(call) = model.call(site) else {
         return;
@@ -178,6 +182,7 @@ pub fn look_ahead<L: Ledger>(
     requires size { pool.old.size ≡ model.now.nodes }
     ensures ahead { Adds (IsAhead model.now (Has nodes.now) event.now) pool.old pool.new }
     ensures cost { steps.new ≤ steps.old + (length model.now.sys + sum_by (λ c. length c.candidates) model.now.calls) }
+    ensures rise { steps.old ≤ steps.new }
 {
     match event {
         Event::Sys { .. } => read(pool, nodes, model, event, steps),
@@ -209,23 +214,11 @@ pub fn follow<L: Ledger>(pool: &mut Scratch, model: &Model, steps: &mut Steps<L>
     ensures found { AreFound pool.new }
     ensures reached { (c : ℕ) → Contains pool.new.nodes c ↔ ((b : ℕ) × Contains pool.old.nodes b × LeadsTo model.now b c) }
     ensures cost { steps.new ≤ steps.old + length model.now.silent }
+    ensures rise { steps.old ≤ steps.new }
 {
     let mut done = 0;
     while let Some(node) = pool.get(done) {
         add_next(pool, model, node, steps);
         done += 1;
-    }
-}
-
-// Makes the set that of the listed nodes.
-pub fn store(nodes: &mut NodeSet, pool: &Scratch)
-    requires size { nodes.old.size ≡ pool.now.size }
-    requires found { AreFound pool.now }
-    ensures size { nodes.new.size ≡ nodes.old.size }
-    ensures members { (c : ℕ) → Has nodes.new c ↔ Contains pool.now.nodes c }
-{
-    nodes.clear();
-    for node in pool.nodes() {
-        nodes.insert(*node);
     }
 }

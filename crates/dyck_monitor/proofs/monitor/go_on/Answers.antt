@@ -23,8 +23,8 @@ returns-then-turn-clause-stands g c = λ k h stands.
     let model = c.args.model.now in
     let first = adds_to_none (IsAhead model (Has c.args.nodes.now) c.args.event.now) c.clear.new.self c.look_ahead.new.pool (ap (λ (w : Found). w.nodes) c.clear.ensures) c.look_ahead.ensures.ahead in
     let (b, has) = some_found c.look_ahead.new.pool.nodes (λ none. c.if-len-eq0.false (c.len.ensures.len ∙ none)) in
-    stands_kept model k c.args.nodes.now c.args.sites.now h c.args.event.now c.store.new.nodes c.turn.new.sites stands c.store.ensures.size c.turn.ensures.bound b ((first b).0 has)
-    (after_found model (Has c.args.nodes.now) (Has c.store.new.nodes) c.args.event.now c.look_ahead.new.pool.nodes c.follow.new.pool.nodes first c.follow.ensures.reached c.store.ensures.members)
+    stands_kept model k c.args.nodes.now c.args.sites.now h c.args.event.now c.fill.new.set c.turn.new.sites stands c.fill.ensures.size c.turn.ensures.bound b ((first b).0 has)
+    (after_found model (Has c.args.nodes.now) (Has c.fill.new.set) c.args.event.now c.look_ahead.new.pool.nodes c.follow.new.pool.nodes first c.follow.ensures.reached c.fill.ensures.has)
     (c.turn.ensures.went c.if-turn.true) (c.turn.ensures.opened c.if-turn.true)
 
 pub returns-else-turn-clause-stands : goal.returns-else-turn-clause-stands
@@ -33,4 +33,4 @@ returns-else-turn-clause-stands g c = λ k h stands.
     let first = adds_to_none (IsAhead model (Has c.args.nodes.now) c.args.event.now) c.clear.new.self c.look_ahead.new.pool (ap (λ (w : Found). w.nodes) c.clear.ensures) c.look_ahead.ensures.ahead in
     let (b, has) = some_found c.look_ahead.new.pool.nodes (λ none. c.if-len-eq0.false (c.len.ensures.len ∙ none)) in
     let full = c.turn.ensures.full (λ went. false≢true (sym c.if-turn.false ∙ went)) in
-    stands_bound model k c.args.nodes.now c.args.sites.now h c.args.event.now c.store.new.nodes c.turn.new.sites stands c.store.ensures.size c.turn.ensures.bound b ((first b).0 has) full.0 full.1
+    stands_bound model k c.args.nodes.now c.args.sites.now h c.args.event.now c.fill.new.set c.turn.new.sites stands c.fill.ensures.size c.turn.ensures.bound b ((first b).0 has) full.0 full.1

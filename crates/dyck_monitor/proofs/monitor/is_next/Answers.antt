@@ -1,6 +1,6 @@
 use Rattle.std.proofs.Common.{◌≡◌, List, ℕ, ◌∷◌, refl, sym, subst}
 use Rattle.dm_base.specs.declared.event.Event.{Event}
-use Rattle.dyck_monitor.specs.Standing.{SitesGoOn}
+use Rattle.dyck_monitor.specs.Sites.{SitesGoOn}
 use Rattle.dyck_monitor.proofs.monitor.is_next.Goals as goal
 
 pub returns-in-Sys : goal.returns-in-Sys

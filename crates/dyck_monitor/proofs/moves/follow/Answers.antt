@@ -12,6 +12,7 @@ pub loop-node-init : goal.loop-node-init
 loop-node-init g c = record {
   followed = followed_start c.args.model.now c.args.pool.now c.requires.found;
   counted = omega arith;
+  rise = omega arith;
 }
 
 pub add_next-requires-clause-node : goal.add_next-requires-clause-node
@@ -42,6 +43,7 @@ loop-node-preserved g c =
     record {
       followed = followed_more model c.args.pool.now now c.add_next.new.pool done c.loop-node.invariant.followed lt adds;
       counted = omega (arith, c.loop-node.invariant.counted, cost, followed_cost model c.args.pool.now now c.add_next.new.pool done c.loop-node.invariant.followed lt adds);
+      rise = omega (arith, c.loop-node.invariant.rise, c.add_next.ensures.cost);
     }
 
 pub returns-clause-size : goal.returns-clause-size

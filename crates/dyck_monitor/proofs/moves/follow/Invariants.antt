@@ -8,6 +8,7 @@ abbrev pub invariant-loop-node : goal.invariant-loop-node
 invariant-loop-node g l = record {
   followed : IsFollowed l.model l.fn.pool l.pool l.done;
   counted : l.steps ≤ l.fn.steps + length (filter (λ e. list_any (eqb e.from) (take l.done l.pool.nodes)) l.model.silent);
+  rise : l.fn.steps ≤ l.steps;
 }
 
 abbrev pub decreases-loop-node : goal.decreases-loop-node

@@ -11,6 +11,7 @@ loop-node-init g c = record {
   adds = adds_nothing (IsRead c.args.model.now (λ a. Has c.args.nodes.now a × (a < 0)) c.args.event.now) c.args.pool.now (λ b read. absurd (read_none c.args.model.now (Has c.args.nodes.now) c.args.event.now b read));
   within = omega arith;
   counted = omega arith;
+  rise = omega arith;
 }
 
 pub add_ends-requires-clause-size : goal.add_ends-requires-clause-size
@@ -30,6 +31,7 @@ loop-node-preserved g c =
           c.args.pool.now c.loop-node.pool c.add_ends.new.pool (read_more model (Has c.args.nodes.now) c.args.event.now from node some.0 some.2 c.in-Some.ensures.least) c.loop-node.invariant.adds c.add_ends.ensures.ends;
       within = omega (arith, some.1);
       counted = omega (arith, c.loop-node.invariant.counted, c.add_ends.ensures.cost, below_more_few (λ e. e.from) from node some.0 model.sys);
+      rise = omega (arith, c.loop-node.invariant.rise, c.add_ends.ensures.cost);
     }
 
 pub returns-clause-ends : goal.returns-clause-ends

@@ -10,6 +10,7 @@ invariant-loop-node g l = record {
   adds : Adds (IsRead l.model (λ a. Has l.nodes a × (a < l.from)) l.event) l.fn.pool l.pool;
   within : l.from ≤ l.nodes.size;
   counted : l.steps ≤ l.fn.steps + length (filter (λ e. ltb e.from l.from) l.model.sys);
+  rise : l.fn.steps ≤ l.steps;
 }
 
 abbrev pub decreases-loop-node : goal.decreases-loop-node

@@ -2,7 +2,7 @@
 use Rattle.std.proofs.Common.{◌≡◌, rules}
 use Rattle.dm_base.specs.declared.verdict.Step.TheVariants.{Kept}
 use Rattle.dyck_monitor.proofs.Going.{stands_over}
-use Rattle.dyck_monitor.proofs.monitor.DyckMonitor.feed_counted.Goals as goal
+use Rattle.dyck_monitor.proofs.monitor.DyckMonitorCountedMonitor.feed_counted.Goals as goal
 
 pub returns-then-ne-clause-stands : goal.returns-then-ne-clause-stands
 returns-then-ne-clause-stands g c = λ k h stands.

@@ -1,9 +1,0 @@
-use Rattle.std.proofs.Common.{ℕ, List}
-use Rattle.dm_base.specs.declared.event.Event.{Event}
-use Rattle.dyck_monitor.proofs.tests.judge_copy.Given as goal
-
-abbrev pub invariant-loop-told : goal.invariant-loop-told
-invariant-loop-told g l = record {
-  pool : g.M.Monitor.is_pool l.pool l.model;
-  stands : (k : ℕ) × (h : List Event) × g.M.Monitor.stands l.monitor l.pool l.model k h;
-}
