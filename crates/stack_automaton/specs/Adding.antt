@@ -1,4 +1,4 @@
--- Lists that grow.
+-- For private contracts and proofs alone: lists that grow.
 use Rattle.std.specs.Prelude.{◌≡◌, ◌⊎◌, ◌↔◌, List, ◌++◌, Contains}
 
 -- one of the items has P

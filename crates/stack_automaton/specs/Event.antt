@@ -1,4 +1,4 @@
--- What the automaton gets at one event.
+-- For private contracts and proofs alone: what the automaton gets at one event.
 use Rattle.std.specs.Prelude.{◌≡◌, ◌↔◌, ℕ, ℤ, List, [], ◌∷◌, Option}
 use Rattle.dm_base.specs.declared.event.Event.{Event}
 use Rattle.dm_base.specs.Fits.{Fits}

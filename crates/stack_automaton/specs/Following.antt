@@ -1,4 +1,4 @@
--- What is added to the facts of an event, step by step.
+-- For private contracts and proofs alone: what is added to the facts of an event, step by step.
 use Rattle.std.specs.Prelude.{◌<◌, ◌≤◌, length, slice_index_or, ◌≡◌, ◌⊎◌, ◌↔◌, ℕ, List, Contains, Some, slice_get, ◌++◌, take}
 use Rattle.flow_model.specs.declared.records.ModelFunction.{ModelFunction}
 use Rattle.flow_model.specs.declared.records.SilentEdge.{SilentEdge}

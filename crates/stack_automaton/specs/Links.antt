@@ -1,4 +1,4 @@
--- The calls that are made at an event.
+-- For private contracts and proofs alone: the calls that are made at an event.
 use Rattle.std.specs.Prelude.{◌⊎◌, ◌↔◌, ℕ, List, Contains, IsSomeAnd, nat_eq}
 use Rattle.indexmap.specs.IndexMap.{get, keys}
 use Rattle.stack_automaton.specs.declared.place.Link.{Link}

@@ -1,4 +1,4 @@
--- How a system call moves a monitor from key to key.
+-- For private contracts and proofs alone: how a system call moves a monitor from key to key.
 use Rattle.std.specs.Prelude.{◌≡◌, ◌↔◌, ℕ, List}
 use Rattle.dm_base.specs.declared.event.Event.{Event}
 use Rattle.dm_base.specs.Fits.{Fits}

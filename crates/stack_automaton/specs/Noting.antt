@@ -1,4 +1,4 @@
--- The keys that are noted, one after another, and what a sweep leaves.
+-- For private contracts and proofs alone: the keys that are noted, one after another, and what a sweep leaves.
 use Rattle.std.specs.Prelude.{◌≡◌, ◌≢◌, ◌⊎◌, ◌<◌, ℕ, List, ◌++◌, take, Contains, Some, None}
 use Rattle.stack_automaton.specs.declared.place.Edge.{Edge}
 use Rattle.stack_automaton.specs.Held.{States, HasEdge, Leads}

@@ -1,4 +1,4 @@
--- The states of entered functions whose calls lead to known keys alone.
+-- For private contracts and proofs alone: the states of entered functions whose calls lead to known keys alone.
 use Rattle.std.specs.Prelude.{◌≡◌, ◌⊎◌, ◌<◌, ℕ, List, Contains, Some, None, length, slice_index_or, slice_get, nat_eq, ⊤}
 use Rattle.std.specs.List.{position_or_len}
 use Rattle.stack_automaton.specs.Held.{States, IsThere}

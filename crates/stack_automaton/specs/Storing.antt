@@ -1,4 +1,4 @@
--- How the states of an event are put into a pool.
+-- For private contracts and proofs alone: how the states of an event are put into a pool.
 use Rattle.std.specs.Prelude.{◌≡◌, ◌≢◌, ◌↔◌, ◌<◌, ℕ, List, Contains, Option, Some, None, length, slice_index_or, slice_get, nat_eq}
 use Rattle.std.specs.List.{position_or_len}
 use Rattle.flow_model.specs.Graph.{Graph}

@@ -20,6 +20,3 @@ mod store;
 pub use monitor::StackMonitor;
 pub use place::Edge;
 pub use pool::Pool;
-
-#[cfg(test)]
-mod tests;

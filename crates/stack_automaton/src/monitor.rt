@@ -1,4 +1,5 @@
-ghost use Rattle.std.specs.Prelude.{◌≡◌, ◌<◌, ◌≤◌, ◌↔◌, ◌^◌, ℕ, List, [], ◌∷◌, ◌++◌, Contains, IfOk, OnOk, OnErr};
+ghost use Rattle.std.specs.Prelude.{◌≡◌, ◌<◌, ◌≤◌, ◌↔◌, ◌^◌, ℕ, List, [], ◌∷◌, ◌++◌, Contains, IsOk, IfOk, OnOk, OnErr};
+ghost use Rattle.std.specs.FinMap as map;
 ghost use Rattle.dm_base.specs.declared.event.Event.{Event as Event'};
 ghost use Rattle.dm_base.specs.declared.verdict.Step.TheVariants.{Kept as Kept'};
 ghost use Rattle.flow_model.specs.declared.which.Which.TheVariants.{Stack as Stack'};
@@ -169,6 +170,7 @@ impl Monitor for StackMonitor {
         requires stands { (g : Graph) × (k : ℕ) × (h : List Event') × IsPool pool.old × StandsFor self.now pool.old g k h }
         ensures pool { (g : Graph) → IsPool pool.old → IsPool pool.new }
         ensures copy { IfOk result (λ m. (g : Graph) (k : ℕ) (h : List Event') → StandsFor self.now pool.old g k h → StandsFor m pool.new g k h) }
+        ensures memory { IsOk result }
         ensures same { IfOk result (λ m. m ≡ self.now) }
         ensures others { (m : Position) (g : Graph) (k : ℕ) (h : List Event') → StandsFor m pool.old g k h → StandsFor m pool.new g k h }
         ensures notes { (g : Graph) → AreNoted pool.old [] → AreNoted pool.new [] }
@@ -210,5 +212,11 @@ impl Monitor for StackMonitor {
         ensures entries { Extends pool.new pool.old }
     {
         pool.sweep();
+    }
+
+    fn held(pool: &Pool) -> usize
+        ensures { result ≡ map.len pool.now.entries }
+    {
+        pool.live()
     }
 }
