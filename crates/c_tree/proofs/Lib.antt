@@ -1,4 +1,5 @@
 pub mod LayoutTrials
+pub mod OperatorTrials
 pub mod SpoiltTrials
 pub mod TrialNames
 pub mod TypedTrials

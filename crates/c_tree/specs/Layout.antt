@@ -1,5 +1,5 @@
 -- The layout of objects: the cells of a type, its size and its alignment (6.2.6.1, 6.5.3.4, 6.7.2.1).
-use Rattle.std.specs.Prelude.{ℕ, zero, suc, ◌+◌, ◌-◌, ◌*◌, ◌/◌, List, [], ◌∷◌, ◌++◌, length, nat_lt, if◌then◌else◌, Option, Some, None, slice_get}
+use Rattle.std.specs.Prelude.{ℕ, zero, suc, ◌+◌, ◌-◌, ◌*◌, ◌/◌, List, [], ◌∷◌, ◌++◌, length, max, Option, Some, None, slice_get}
 use Rattle.c_tree.specs.declared.value.IntType.{IntType}
 use Rattle.c_tree.specs.declared.value.IntType.TheVariants.{Char, Uchar, Int, Uint}
 use Rattle.c_tree.specs.Tree.{CType, void, integer, pointer, array, struct, function}
@@ -82,14 +82,10 @@ extent_of_integer Uchar = record { size = 1; alignment = 1 }
 extent_of_integer Int = record { size = 4; alignment = 4 }
 extent_of_integer Uint = record { size = 4; alignment = 4 }
 
--- the greater of two numbers
-abbrev pub greater : ℕ → ℕ → ℕ
-greater a b = if nat_lt a b then b else a
-
 -- a member after others: at the next multiple of its alignment
 abbrev pub put_after : Extent → Extent → Extent
 put_after before m =
-    record { size = round_up before.size m.alignment + m.size; alignment = greater before.alignment m.alignment }
+    record { size = round_up before.size m.alignment + m.size; alignment = max before.alignment m.alignment }
 
 -- void and functions have no size
 abbrev pub extent_with : (ℕ → Extent) → CType → Extent
