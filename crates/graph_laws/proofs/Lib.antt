@@ -1,0 +1,10 @@
+pub mod Laid
+pub mod Positions
+pub mod Edges
+pub mod Owns
+pub mod Forth
+pub mod Back
+pub mod Functions
+pub mod SortedLemmas
+pub mod ModelLemmas
+pub mod Runs

@@ -1,0 +1,5 @@
+pub mod Layout
+pub mod Sorted
+pub mod GraphOf
+pub mod Premises
+pub mod Equal

@@ -1,0 +1,18 @@
+ghost use Rattle.std.specs.Prelude.{◌≡◌, List, length};
+ghost use Rattle.std.specs.Prelude.{ℕ};
+ghost use Rattle.dm_base.specs.declared.event.Event.{Event};
+ghost use Rattle.c_shapes.specs.Shape.{Shapes};
+ghost use Rattle.c_shapes.specs.Languages as shapes;
+ghost use Rattle.flow_model.specs.declared.which.Which.TheVariants.{Callgraph, Stack, Dyck};
+ghost use Rattle.flow_model.specs.Language.{Reads};
+ghost use Rattle.flow_model.specs.Rules.{IsValid};
+ghost use Rattle.graph_laws.specs.GraphOf.{graph_of};
+ghost use Rattle.graph_laws.specs.Premises.{AreClosed, AreNamed};
+ghost use Rattle.graph_laws.specs.Equal.{AreEqual};
+
+/// The law that the graph of shapes has the three languages of the shapes. The function does nothing.
+pub fn graph_has_the_words()
+    ensures dyck { (names : List (List ℕ)) (env : Shapes) → AreClosed env → length names ≡ length env.functions → AreEqual (shapes.Dyck env) (Reads Dyck (graph_of names env)) }
+    ensures stack { (names : List (List ℕ)) (env : Shapes) → AreClosed env → length names ≡ length env.functions → AreEqual (shapes.Stack env) (Reads Stack (graph_of names env)) }
+    ensures callgraph { (names : List (List ℕ)) (env : Shapes) → AreClosed env → length names ≡ length env.functions → AreEqual (shapes.Callgraph env) (Reads Callgraph (graph_of names env)) }
+{}

@@ -1,0 +1,6 @@
+//! The graph of a program's shapes, whose languages are those of the shapes.
+#![tactic(auto)]
+
+mod laws;
+
+pub use laws::graph_has_the_words;
