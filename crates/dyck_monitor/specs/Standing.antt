@@ -9,7 +9,12 @@ use Rattle.flow_model.specs.Language.{DyckRun}
 use Rattle.flow_model.specs.Verdict.{IsStep}
 use Rattle.dm_sets.specs.Entries.{Entries}
 use Rattle.dm_sets.specs.Nodes.{Nodes, Has}
-use Rattle.dyck_monitor.specs.declared.monitor.DyckMonitor.{DyckMonitor}
+
+-- a monitor: the nodes and the open sites, the newest first, that the runs lead to which read its history, and its last answer
+pub record Position : Type 0 where
+  pub nodes : Nodes
+  pub sites : Entries
+  pub last : Step
 
 -- a run that reads the history leads from the start function's entry, with no open sites, to this node with these
 abbrev pub IsReached : Graph → List Event → ℕ → List ℕ → Type 0
@@ -27,6 +32,6 @@ pub record Stands (g : Graph) (bound : ℕ) (nodes : Nodes) (sites : Entries) (l
   pub told : IsStep Dyck g bound h last
   pub holds : last ≡ Kept → HoldsRuns g (Has nodes) sites.items h
 
--- the same, of a monitor with these fields
-abbrev pub StandsFor : DyckMonitor → Graph → ℕ → List Event → Type 0
+-- the same, of a monitor that is seen so
+abbrev pub StandsFor : Position → Graph → ℕ → List Event → Type 0
 StandsFor m g bound h = Stands g bound m.nodes m.sites m.last h

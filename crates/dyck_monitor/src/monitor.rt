@@ -2,7 +2,6 @@ ghost use Rattle.std.specs.Prelude.{◌≡◌, ◌≤◌, ◌+◌, ◌↔◌, �
 ghost use Rattle.dm_base.specs.declared.event.Event.{Event};
 ghost use Rattle.dm_base.specs.declared.verdict.Step.TheVariants.{Kept};
 ghost use Rattle.flow_model.specs.declared.which.Which.TheVariants.{Dyck};
-ghost use Rattle.flow_model.specs.Graph.{Graph};
 ghost use Rattle.flow_model.specs.Rules.{IsValid};
 ghost use Rattle.flow_model.specs.Verdict.{IsStep};
 ghost use Rattle.dyck_monitor.specs.Silence.{LeadsTo};
@@ -21,7 +20,7 @@ use std::sync::ledger::Ledger;
 
 /// A monitor of the Dyck model of one process (after Giffin, Jha and Miller 2004). The null calls of
 /// a history tell which calls are open after it, so all runs that read it end with the same open
-/// sites: the monitor keeps those, the newest first, and the set of the nodes at which the runs end.
+/// sites: the monitor keeps those, the newest first, and the set of the nodes at which the runs end. Seen as these, with its last answer.
 /// All its memory is taken when it is opened or copied. It needs of its pool only the space to list
 /// nodes, and monitors of different processes may share one.
 #[derive(Drop)]
@@ -29,6 +28,18 @@ pub struct DyckMonitor {
     nodes: NodeSet,
     sites: BoundedStack,
     last: Step,
+}
+
+impl std::marker::Model for DyckMonitor {
+    ghost use Rattle.dyck_monitor.specs.Standing.{Position};
+    ghost use Rattle.std.specs.Coded.{codes};
+    ghost use Rattle.dm_sets.specs.Nodes.{nodes_code};
+
+    ghost Value = { Position };
+
+    ghost coded = { Prim.hlevel (codes, nodes_code) };
+
+    ghost view = { λ m. record { nodes = m.nodes; sites = m.sites; last = m.last } };
 }
 
 // Whether the open sites let the event be the next one: a return is to the newest of them.
@@ -186,7 +197,7 @@ impl Monitor for DyckMonitor {
     }
 
     fn copy(&self, pool: &mut Scratch) -> Result<Self, OutOfMemory>
-        ensures copy { IfOk result (λ m. (g : Graph) (k : ℕ) (h : List Event) → StandsFor self.now g k h → StandsFor m g k h) }
+        ensures copy { IfOk result (λ m. m ≡ self.now) }
         ensures same { pool.new ≡ pool.old }
     {
         let _pool = pool;
