@@ -1,4 +1,5 @@
 pub mod LayoutTrials
+pub mod OperatorLemmas
 pub mod OperatorTrials
 pub mod SpoiltTrials
 pub mod TrialNames

@@ -1,5 +1,5 @@
 -- What operators give at each boundary, after C99 6.3.1.3 and 6.5.3.3 to 6.5.12.
-use Rattle.std.proofs.Common.{◌≡◌, ℤ, pos, negsuc, List, [], ◌∷◌, map, refl}
+use Rattle.std.proofs.Common.{◌≡◌, pos, negsuc, List, [], ◌∷◌, map, refl}
 use Rattle.std.specs.Int.{int_wrap}
 use Rattle.c_tree.specs.declared.value.IntType.{IntType}
 use Rattle.c_tree.specs.declared.value.IntType.TheVariants as t

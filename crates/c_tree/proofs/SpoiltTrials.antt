@@ -1,17 +1,13 @@
 -- Small programs that are not well-typed.
-use Rattle.std.proofs.Common.{◌≡◌, pos, ℕ, zero, suc, Bool, true, false, List, [], ◌∷◌, get_or, refl, ap, sym, subst, ◌∙◌, arith, ◌≤◌, Option, Some, None}
-use Rattle.std.specs.List.{range_with_len}
+use Rattle.std.proofs.Common.{◌≡◌, ℕ, zero, suc, false, List, [], ◌∷◌, get_or, ap, sym, subst, ◌∙◌, arith, ◌≤◌, Option, Some, None}
 use Rattle.std.proofs.lemmas.Bool.{false≢true}
 use Rattle.std.proofs.lemmas.Option.{none-some}
-use Rattle.c_tree.specs.declared.value.IntType.{IntType}
 use Rattle.c_tree.specs.declared.value.IntType.TheVariants as i
-use Rattle.c_tree.specs.declared.value.ObjectName.{ObjectName}
-use Rattle.c_tree.specs.declared.value.Pointer.{Pointer}
 use Rattle.c_tree.specs.declared.value.Value.TheVariants as v
 use Rattle.c_tree.specs.Tree.{CType, void, integer, pointer, array, struct, function, CTypes, no_types, more_types, Static, Program}
-use Rattle.c_tree.specs.Tree.{constant, function_name, variable, load, decay, call, no_exprs, more_exprs}
-use Rattle.c_tree.specs.Tree.{Stmt, block, evaluate, break_off, return_value, no_stmts, more_stmts}
-use Rattle.c_tree.specs.Functions.{int, unsigned_int, of_none, sys_types}
+use Rattle.c_tree.specs.Tree.{function_name, variable, load, decay, call, no_exprs, more_exprs}
+use Rattle.c_tree.specs.Tree.{Stmt, evaluate, break_off, return_value}
+use Rattle.c_tree.specs.Functions.{int, unsigned_int, sys_types}
 use Rattle.c_tree.specs.Typed.{IsStmt, AreArguments}
 use Rattle.c_tree.specs.Program.{IsProgram, IsFunction}
 use Rattle.c_tree.proofs.TypedTrials.{two, zero_of_int, f_with, of_f_and_main, f_of_b, main_of_b, main_of_d}

@@ -1,14 +1,14 @@
 -- Small programs, written by hand as terms, that are well-typed.
-use Rattle.std.proofs.Common.{◌≡◌, pos, ℕ, Bool, true, false, List, [], ◌∷◌, codes, length, All, AllPairs, refl, ap, sym, subst, ◌∙◌, arith, inl, Some, ◌≤◌, ◌<◌, ◌≢◌}
+use Rattle.std.proofs.Common.{◌≡◌, pos, ℕ, true, false, List, [], ◌∷◌, codes, length, All, AllPairs, refl, ap, sym, subst, ◌∙◌, arith, Some, ◌≤◌, ◌<◌, ◌≢◌}
 use Rattle.std.proofs.lemmas.Option.{none-some}
 use Rattle.std.proofs.lemmas.List.Elements.{All-nil, All-cons}
 use Rattle.std.proofs.lemmas.List.Kept.{AllPairs-cons}
-use Rattle.c_tree.specs.declared.value.IntType.TheVariants.{Char, Int}
+use Rattle.c_tree.specs.declared.value.IntType.TheVariants.{Int}
 use Rattle.c_tree.specs.declared.value.Value.TheVariants as v
-use Rattle.c_tree.specs.Tree.{CType, integer, pointer, array, function, no_types, more_types, Function, Static, Program}
-use Rattle.c_tree.specs.Tree.{Expr, constant, variable, dereference, load, decay, pointer_add, call, call_through, Exprs, no_exprs, more_exprs}
-use Rattle.c_tree.specs.Tree.{Stmt, block, empty, evaluate, if_else, return_value, Stmts, no_stmts, more_stmts}
-use Rattle.c_tree.specs.Functions.{int, unsigned_int, char_pointer, of_none, of_one, called_type, value_type, sys_types}
+use Rattle.c_tree.specs.Tree.{CType, pointer, array, no_types, more_types, Function, Static, Program}
+use Rattle.c_tree.specs.Tree.{Expr, constant, variable, dereference, load, decay, pointer_add, call, call_through, no_exprs, more_exprs}
+use Rattle.c_tree.specs.Tree.{Stmt, block, empty, evaluate, if_else, return_value, no_stmts, more_stmts}
+use Rattle.c_tree.specs.Functions.{int, unsigned_int, char_pointer, of_none, of_one, sys_types}
 use Rattle.dm_base.specs.Name.{IsName}
 use Rattle.sys_table.specs.Table.{table, name_of}
 use Rattle.c_tree.specs.Layout.{Structs, cells_of_all}

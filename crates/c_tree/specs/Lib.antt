@@ -3,6 +3,7 @@ pub mod Inside
 pub mod Kinds
 pub mod Layout
 pub mod Operands
+pub mod OperatorTypes
 pub mod Operators
 pub mod Program
 pub mod Sites

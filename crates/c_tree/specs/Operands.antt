@@ -1,5 +1,5 @@
 -- Which types the operands and the result of an operator have.
-use Rattle.std.specs.Prelude.{◌≡◌, ◌⊎◌, ℕ, ◌≤◌, Bool, true, false, List, Option, Some, slice_get}
+use Rattle.std.specs.Prelude.{◌≡◌, ◌⊎◌, ◌≤◌, Bool, true, false, List, Some, slice_get}
 use Rattle.c_tree.specs.declared.value.IntType.{IntType}
 use Rattle.c_tree.specs.declared.value.IntType.TheVariants.{Char, Uchar, Int, Uint}
 use Rattle.c_tree.specs.declared.value.UnOp.{UnOp}

@@ -1,5 +1,5 @@
 -- What operators on integers give, as tables over whole numbers (6.3.1, 6.5.3.3, 6.5.5 to 6.5.12).
-use Rattle.std.specs.Prelude.{ℕ, ◌^◌, ◌+◌, ℤ, pos, negsuc, ◌+ℤ◌, ◌-ℤ◌, ◌*ℤ◌, neg_ℤ, Bool, true, false, not, ◌&&◌, if◌then◌else◌, int_lt, int_le, int_div, int_rem, unsigned_abs, bit_and, bit_or, bit_xor}
+use Rattle.std.specs.Prelude.{ℕ, ◌^◌, ℤ, pos, negsuc, ◌+ℤ◌, ◌-ℤ◌, ◌*ℤ◌, neg_ℤ, Bool, true, false, not, ◌&&◌, int_lt, int_le, int_div, int_rem, unsigned_abs, bit_and, bit_or, bit_xor}
 use Rattle.std.specs.Int.{w8, w32, int_wrap, int_rem_euclid, int_shr}
 use Rattle.std.specs.Ordering.{int_eq}
 use Rattle.c_tree.specs.declared.value.IntType.{IntType}

@@ -2,10 +2,12 @@
 //! of them are well-typed, and what operators give.
 #![tactic(auto)]
 
+mod laws;
 mod program;
 mod tree;
 mod value;
 
+pub use laws::operators_keep_types;
 pub use program::Program;
 pub use tree::{
     CType, Function, Static, StructMembers, TExpr, TExprKind, TGroup, TInit, TLabel, TStmt,
