@@ -24,12 +24,12 @@ abbrev pub Here : List Shape → ℕ → ℕ → ℕ → Label → ℕ → Type 
 Here fs n f x l y = Lays (at fs f) (entry_at fs n f) (entry_at fs n f + 2) (ends (entry_at fs n f + 1)) x l y
 
 -- an edge of one of the functions
-record One (fs : List Shape) (n x : ℕ) (l : Label) (y : ℕ) : Type 0 where
-  f : ℕ
-  below : f < length fs
-  here : Here fs n f x l y
+pub record One (fs : List Shape) (n x : ℕ) (l : Label) (y : ℕ) : Type 0 where
+  pub f : ℕ
+  pub below : f < length fs
+  pub here : Here fs n f x l y
 
-abbrev OneOf : List Shape → ℕ → Edge → Type 0
+abbrev pub OneOf : List Shape → ℕ → Edge → Type 0
 OneOf fs n (edge x l y) = One fs n x l y
 
 first_one : (S : Shape) (fs : List Shape) (n : ℕ) (e : Edge) → Contains (edges S n (n + 2) (ends (n + 1))) e → OneOf (S ∷ fs) n e
@@ -38,7 +38,7 @@ first_one S fs n (edge x l y) h = record { f = 0; below = omega arith; here = la
 later_one : (S : Shape) (fs : List Shape) (n : ℕ) (e : Edge) → OneOf fs (n + 2 + width S) e → OneOf (S ∷ fs) n e
 later_one S fs n (edge x l y) h = record { f = suc (h.f); below = let k = h.below in omega (arith, k); here = h.here }
 
-one_from : (fs : List Shape) (n : ℕ) (e : Edge) → Contains (edges_from n fs) e → OneOf fs n e
+pub one_from : (fs : List Shape) (n : ℕ) (e : Edge) → Contains (edges_from n fs) e → OneOf fs n e
 one_from [] n e h = none_of (OneOf [] n) e h
 one_from (S ∷ fs) n e h = either (OneOf (S ∷ fs) n) (edges S n (n + 2) (ends (n + 1))) (edges_from (n + 2 + width S) fs) e h (λ k. first_one S fs n e k) (λ k. later_one S fs n e (one_from fs (n + 2 + width S) e k))
 

@@ -8,3 +8,6 @@ pub mod Functions
 pub mod SortedLemmas
 pub mod ModelLemmas
 pub mod Runs
+pub mod Points
+pub mod Stray
+pub mod Nodes

@@ -25,6 +25,8 @@ use Rattle.graph_laws.proofs.Laid as G
 use Rattle.graph_laws.proofs.Functions.{g, entry_at, laid_from}
 use Rattle.graph_laws.proofs.Forth.{fronts}
 use Rattle.graph_laws.proofs.Back.{reads_front}
+use Rattle.graph_laws.proofs.Points.{to_nodes}
+use Rattle.graph_laws.proofs.Nodes.{nodes_to_points}
 use Rattle.graph_laws.proofs.ModelLemmas.{silent_edge, has_silent, sys_edge, has_sys, call_edge, has_call, function, has_function}
 
 module _ (names : List (List ℕ)) (env : Shapes) (closed : AreClosed env) (many : length names ≡ length env.functions) where
@@ -94,4 +96,27 @@ module _ (names : List (List ℕ)) (env : Shapes) (closed : AreClosed env) (many
   stack = record {
     into = λ t h. let r = forth no_brackets env.main closed.main (erase t) h in (entry_at env.functions 0 env.main, entry_at env.functions 0 env.main + 1, r.0, r.1, has_function names env closed many env.main closed.main, to_stack r.2 refl);
     back = λ t (entry, exit, a, z, k, r). let e = function names env closed many env.main entry exit k in back no_brackets env.main closed.main (erase t) a z (run_at (sym (e.begins)) (from_stack r));
+  }
+
+  to_walk : {a : ℕ} {t : List Event} → NodeWalk env (g env) a t → (c : ℕ) × Walk M a t c
+  to_walk {a = a} G.over = (a, w_over)
+  to_walk {a = a} (G.silent {b = b} h k) = let r = to_walk k in (r.0, w_quiet (q_silent (has_silent names env closed many a b h)) r.1)
+  to_walk {a = a} (G.system {b = b} {n = n} {q = q} h fits k) = let r = to_walk k in (r.0, w_calls (has_sys names env closed many a n q b h) fits r.1)
+  to_walk {a = a} (G.enter {b = b} {s = s} {f = f} h among k) = let r = to_walk k in (r.0, w_quiet (q_enter (has_call names env closed many a s b f h among) (has_function names env closed many f (closed.known s f among))) r.1)
+  to_walk {a = a} {t = t} (G.leave {b = b} {c = c} {s = s} {f = f} lt at h among k) = let r = to_walk k in (r.0, subst (λ a. Walk M a t (r.0)) (sym at) (w_quiet (q_leave (has_call names env closed many c s b f h among) (has_function names env closed many f lt)) r.1))
+
+  node_at : {a b : ℕ} {t : List Event} → a ≡ b → NodeWalk env (g env) b t → NodeWalk env (g env) a t
+  node_at {t = t} e k = subst (λ a. NodeWalk env (g env) a t) (sym e) k
+
+  from_walk : {a c : ℕ} {t : List Event} → Walk M a t c → NodeWalk env (g env) a t
+  from_walk w_over = G.over
+  from_walk (w_quiet (q_silent {a = a} {b = b} h) k) = G.silent (silent_edge names env closed many a b h) (from_walk k)
+  from_walk (w_quiet (q_enter {a = a} {s = s} {b = b} {f = f} {entry = entry} {exit = exit} h i) k) = let d = call_edge names env closed many a s b f h in G.enter (d.has) (d.among) (node_at (sym ((function names env closed many f entry exit i).begins)) (from_walk k))
+  from_walk (w_quiet (q_leave {a = a} {s = s} {b = b} {f = f} {entry = entry} {exit = exit} h i) k) = let d = call_edge names env closed many a s b f h in let e = function names env closed many f entry exit i in G.leave (e.below) (e.ends) (d.has) (d.among) (from_walk k)
+  from_walk (w_calls {a = a} {b = b} {x = x} {p = p} h fits k) = G.system (sys_edge names env closed many a x p b h) fits (from_walk k)
+
+  pub callgraph : AreEqual (shapes.Callgraph env) (Reads Callgraph M)
+  callgraph = record {
+    into = λ t h. let r = to_walk (to_nodes env (g env) (λ f. entry_at env.functions 0 f + 2) (laid_from env closed) h closed.main) in (entry_at env.functions 0 env.main, entry_at env.functions 0 env.main + 1, r.0, has_function names env closed many env.main closed.main, r.1);
+    back = λ t (entry, exit, a, k, r). let e = function names env closed many env.main entry exit k in nodes_to_points env closed env.main closed.main (erase t) (node_at (sym (e.begins)) (from_walk r));
   }
