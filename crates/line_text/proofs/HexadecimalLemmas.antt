@@ -6,7 +6,7 @@ use Rattle.std.proofs.lemmas.List.Elements.{All-cons, All-head, All-nil, All-tai
 use Rattle.hex.specs.Hex.{IsBytes, decode_of, encode_lower, encode_with, lower_digits}
 use Rattle.hex.proofs.HexLemmas.{decode_of-encode_lower, decode_of-same, length-encode_with}
 use Rattle.line_text.specs.Hexadecimal.{IsLowerDigit}
-use Rattle.line_text.specs.Reading.{BeginsOne, Spells}
+use Rattle.line_text.specs.Spelling.{BeginsOne, Spells}
 use Rattle.line_text.specs.declared.miss.Miss.{Miss}
 use Rattle.line_text.specs.declared.miss.Miss.TheVariants.{OutOfMemory, Short, Wrong}
 use Rattle.line_text.specs.Words.{IsEnd, IsPlain, bytes_text}

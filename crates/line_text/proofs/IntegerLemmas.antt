@@ -6,7 +6,8 @@ use Rattle.std.specs.Fmt.{signed_decimal}
 use Rattle.std.proofs.lemmas.Int.{ints}
 use Rattle.std.proofs.lemmas.Fmt.{digits_decimal, decimal_nonempty, signed_decimal_injective}
 use Rattle.std.proofs.lemmas.Str.Parse.{not_in_digits}
-use Rattle.line_text.specs.Reading.{Agree, StandsFirst, BeginsOne}
+use Rattle.line_text.specs.Reading.{Agree, StandsFirst}
+use Rattle.line_text.specs.Spelling.{BeginsOne}
 use Rattle.line_text.specs.Words.{IsEnd, IsPlain, ended_word, integer_word}
 use Rattle.dm_base.proofs.Decimals.{own}
 use Rattle.line_text.proofs.NumberLemmas.{decimal-IsPlain}

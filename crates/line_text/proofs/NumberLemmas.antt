@@ -9,7 +9,8 @@ use Rattle.std.specs.Str.Parse.{AllDigits}
 use Rattle.std.proofs.lemmas.Str.Parse.{digit_from_value}
 use Rattle.std.proofs.lemmas.Bool.{cases_lt}
 use Rattle.line_text.specs.Numbers.{IsFrontOf}
-use Rattle.line_text.specs.Reading.{Agree, StandsFirst, BeginsOne}
+use Rattle.line_text.specs.Reading.{Agree, StandsFirst}
+use Rattle.line_text.specs.Spelling.{BeginsOne}
 use Rattle.line_text.specs.Words.{IsEnd, IsPlain, ended_word, number_word}
 use Rattle.dm_base.proofs.Decimals.{own}
 use Rattle.line_text.proofs.WordLemmas.{value_stands, no_value_stands}

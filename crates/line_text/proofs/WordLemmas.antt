@@ -7,7 +7,8 @@ use Rattle.std.specs.Cmp.Lexicographic.{same_text, other_text}
 use Rattle.std.proofs.lemmas.Bool.{and_parts, true≢false}
 use Rattle.std.proofs.lemmas.List.{append-nil, take-append-drop, take_at, take_more, drop_more}
 use lib.Pointwise.{pointwise}
-use Rattle.line_text.specs.Reading.{Agree, StandsFirst, IsCutShort, Reads, BeginsOne, Spells}
+use Rattle.line_text.specs.Reading.{Agree, StandsFirst, IsCutShort, Reads}
+use Rattle.line_text.specs.Spelling.{BeginsOne, Spells}
 use Rattle.line_text.specs.declared.miss.Miss.{Miss}
 use Rattle.line_text.specs.declared.miss.Miss.TheVariants.{OutOfMemory, Short, Wrong}
 use Rattle.line_text.specs.Words.{IsEnd, IsPlain, ended_word, is_in_line}

@@ -12,10 +12,6 @@ pub data IsFirstLine (text : List ℕ) (line rest : List ℕ) : Type 0 where
   ended : (front : List ℕ) → (Contains front 10 → ⊥) → line ≡ front ++ 10 ∷ [] → text ≡ line ++ rest → IsFirstLine text line rest
   unended : (Contains line 10 → ⊥) → rest ≡ [] → text ≡ line → IsFirstLine text line rest
 
--- one line: it has no line feed but at its end
-abbrev pub IsLine : List ℕ → Type 0
-IsLine line = (rest : List ℕ) × IsFirstLine (line ++ rest) line rest
-
 -- the text begins a formed text, or is one
 abbrev pub BeginsFormed : (List ℕ → Type 0) → List ℕ → Type 0
 BeginsFormed Formed text = (rest : List ℕ) × Formed (text ++ rest)

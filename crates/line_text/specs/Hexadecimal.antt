@@ -1,4 +1,4 @@
--- Lower-case hexadecimal digits.
+-- For private contracts and proofs alone: lower-case hexadecimal digits.
 use Rattle.std.specs.Prelude.{ℕ, ◌≤◌, ◌⊎◌}
 
 -- 0 to 9 or a to f

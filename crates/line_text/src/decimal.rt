@@ -1,6 +1,6 @@
 ghost use Rattle.std.specs.Prelude.{◌≡◌, ◌↔◌, ◌<◌, ◌≤◌, ◌/◌, ℕ, decimal, IfSome, IfNone, IsTrue};
 ghost use Rattle.line_text.specs.Numbers.{IsFrontOf};
-ghost use Rattle.line_text.specs.Reading.{BeginsOne};
+ghost use Rattle.line_text.specs.Spelling.{BeginsOne};
 
 use dm_base::read_u64;
 

@@ -1,7 +1,7 @@
 ghost use Rattle.std.specs.Prelude.{◌≡◌, ◌≢◌, ◌↔◌, [], IsTrue, All};
 ghost use Rattle.hex.specs.Hex.{IsBytes, encode_lower};
 ghost use Rattle.line_text.specs.Hexadecimal.{IsLowerDigit};
-ghost use Rattle.line_text.specs.Reading.{BeginsOne, Spells};
+ghost use Rattle.line_text.specs.Spelling.{BeginsOne, Spells};
 ghost use Rattle.line_text.specs.Words.{bytes_text};
 
 use crate::Miss;

@@ -1,7 +1,7 @@
 ghost use Rattle.std.specs.Prelude.{◌≡◌, ◌↔◌, ◌∷◌, ◌++◌, ◌≤ℤ◌, ℕ, ℤ, negsuc, pos, suc, List, decimal, FitsSigned, IfSome, IfNone, IsTrue};
 ghost use Rattle.std.specs.Fmt.{signed_decimal};
 ghost use Rattle.std.specs.Int.{w64};
-ghost use Rattle.line_text.specs.Reading.{BeginsOne};
+ghost use Rattle.line_text.specs.Spelling.{BeginsOne};
 
 use crate::decimal::{begins_number, number_in};
 

@@ -9,12 +9,11 @@ mod hexadecimal;
 mod integer;
 mod line;
 mod miss;
+mod push;
 mod version;
 
 pub use cursor::Cursor;
 pub use line::first_line;
 pub use miss::Miss;
+pub use push::{push_bytes, push_decimal, push_hexadecimal, push_signed};
 pub use version::version_of;
-
-#[cfg(test)]
-mod tests;

@@ -9,7 +9,8 @@ use Rattle.std.proofs.lemmas.List.Elements.{Contains-append_cases, Contains-appe
 use Rattle.hex.specs.Hex.{IsBytes, encode_lower}
 use Rattle.line_text.specs.declared.miss.Miss.{Miss}
 use Rattle.line_text.specs.declared.miss.Miss.TheVariants.{OutOfMemory as NoMemory, Short, Wrong}
-use Rattle.line_text.specs.Files.{through, IsFirstLine, IsLine, IsProperPrefix, IsBadLine, IsVersionLine}
+use Rattle.line_text.specs.Files.{through, IsFirstLine, IsProperPrefix, IsBadLine, IsVersionLine}
+use Rattle.line_text.specs.OneLine.{IsLine}
 use Rattle.line_text.specs.Files.IsFirstLine.{ended, unended}
 use Rattle.line_text.specs.Reading.{Agree, StandsFirst, IsCutShort, Reads}
 use Rattle.line_text.specs.Words.{IsEnd}

@@ -8,7 +8,7 @@ use Rattle.std.proofs.lemmas.List.Elements.{Contains-append_cases}
 use Rattle.hex.specs.Hex.{IsBytes, encode_lower}
 use Rattle.line_text.specs.declared.miss.Miss.{Miss}
 use Rattle.line_text.specs.declared.miss.Miss.TheVariants.{OutOfMemory, Short, Wrong}
-use Rattle.line_text.specs.Files.{IsLine}
+use Rattle.line_text.specs.OneLine.{IsLine}
 use Rattle.line_text.specs.Reading.{Agree, StandsFirst, IsCutShort, Reads}
 use Rattle.line_text.specs.Words.{IsEnd, IsPlain, EndsWith, integer_word, hexadecimal_word}
 use Rattle.line_text.proofs.Splits.{IsSplit, IsCase, agree_front, agree_head, ok_case, err_case, ok_both, err_first, err_next, nothing_left}
@@ -18,8 +18,8 @@ use Rattle.line_text.proofs.IntegerLemmas.{signed-IsPlain}
 use Rattle.sys_table.specs.declared.sys_result.SysResult.{SysResult}
 use Rattle.sys_table.specs.declared.results_line.ResultsLine.{ResultsLine}
 use Rattle.sys_table.specs.declared.results_line.ResultsLine.TheVariants.{Record, End}
-use Rattle.sys_table.specs.ResultsLines.{IsResultsLine, results_line}
-use Rattle.sys_table.specs.ResultsText.{HasData, HasNoData, IsRightResult, data_text, result_text, result_line}
+use Rattle.sys_table.specs.ResultsLines.{HasData, HasNoData, IsResultsLine, results_line}
+use Rattle.sys_table.specs.ResultsText.{IsRightResult, data_text, result_text, result_line}
 
 -- the values of records
 abbrev pub IsValue : ℤ → Type 0

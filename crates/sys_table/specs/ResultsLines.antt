@@ -1,5 +1,6 @@
--- The lines of a file of results, and how each part of it is refused.
-use Rattle.std.specs.Prelude.{◌≡◌, ℕ, ◌+◌, ◌<◌, ◌^◌, List, codes}
+-- For private contracts and proofs alone: the lines of a file of results, and how each part of it is refused.
+use Rattle.std.specs.Prelude.{◌≡◌, ◌≢◌, ℕ, ◌+◌, ◌<◌, ◌^◌, List, [], codes}
+use Rattle.sys_table.specs.declared.sys_result.SysResult.{SysResult}
 use Rattle.line_text.specs.declared.miss.Miss.{Miss}
 use Rattle.line_text.specs.declared.miss.Miss.TheVariants as misses
 use Rattle.line_text.specs.Files.{IsProperPrefix, IsBadLine, IsVersionLine}
@@ -9,6 +10,14 @@ use Rattle.sys_table.specs.declared.results_error.ResultsError.TheVariants.{OutO
 use Rattle.sys_table.specs.declared.results_line.ResultsLine.{ResultsLine}
 use Rattle.sys_table.specs.declared.results_line.ResultsLine.TheVariants.{Record, End}
 use Rattle.sys_table.specs.ResultsText.{result_line, results_head, IsRightResult, AreFormedResults, HasTooManyResults}
+
+-- a right record with data
+abbrev pub HasData : SysResult → Type 0
+HasData r = IsRightResult r × (r.bytes ≢ [])
+
+-- a right record without data
+abbrev pub HasNoData : SysResult → Type 0
+HasNoData r = IsRightResult r × (r.bytes ≡ [])
 
 -- a line after the first
 abbrev pub results_line : ResultsLine → List ℕ

@@ -1,5 +1,5 @@
 -- The file of recorded results, and why a text is none.
-use Rattle.std.specs.Prelude.{◌≡◌, ◌≢◌, ◌⊎◌, ℕ, ◌<◌, ◌≤◌, pos, negsuc, ◌≤ℤ◌, List, [], ◌∷◌, ◌++◌, All, length, flat_map, codes}
+use Rattle.std.specs.Prelude.{◌≡◌, ◌⊎◌, ℕ, ◌<◌, ◌≤◌, pos, negsuc, ◌≤ℤ◌, List, [], ◌∷◌, ◌++◌, All, length, flat_map, codes}
 use Rattle.std.specs.Fmt.{signed_decimal}
 use Rattle.hex.specs.Hex.{IsBytes, encode_lower}
 use Rattle.line_text.specs.Files.{IsProperPrefix, IsBadLine, HasOtherVersion}
@@ -24,14 +24,6 @@ pub record IsRightResult (r : SysResult) : Type 0 where
   pub low : negsuc 2147483647 ≤ℤ r.value
   pub high : r.value ≤ℤ pos 4294967295
   pub are_bytes : IsBytes r.bytes
-
--- a right record with data
-abbrev pub HasData : SysResult → Type 0
-HasData r = IsRightResult r × (r.bytes ≢ [])
-
--- a right record without data
-abbrev pub HasNoData : SysResult → Type 0
-HasNoData r = IsRightResult r × (r.bytes ≡ [])
 
 -- a space and the data in hexadecimal, or nothing for none
 abbrev pub data_text : List ℕ → List ℕ

@@ -5,6 +5,7 @@
 mod answering;
 mod event;
 mod kinds;
+mod laws;
 mod name_reading;
 mod pattern;
 mod results;
@@ -17,6 +18,7 @@ mod table;
 pub use answering::answers;
 pub use event::recorded;
 pub use kinds::{ArgKind, ResultKind};
+pub use laws::one_list_of_results;
 pub use name_reading::take_call_name;
 pub use pattern::is_right;
 pub use results::read_results;
@@ -24,6 +26,3 @@ pub use results_error::ResultsError;
 pub use results_writing::write_results;
 pub use sys_result::SysResult;
 pub use table::{argument_kinds, find, name_text, result_kind};
-
-#[cfg(test)]
-mod tests;

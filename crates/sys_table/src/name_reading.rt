@@ -1,5 +1,6 @@
 ghost use Rattle.std.specs.Prelude.{◌≡◌, ◌≤◌, ◌<◌, ◌↔◌, Err, IsTrue};
-ghost use Rattle.line_text.specs.Reading.{BeginsOne, Reads, Spells};
+ghost use Rattle.line_text.specs.Reading.{Reads};
+ghost use Rattle.line_text.specs.Spelling.{BeginsOne, Spells};
 ghost use Rattle.line_text.specs.declared.miss.Miss.TheVariants.{OutOfMemory as NoMemory};
 ghost use Rattle.sys_table.specs.Table.{name_of, name_word};
 

@@ -1,5 +1,5 @@
 ghost use Rattle.std.specs.Prelude.{◌≡◌, ◌≤◌, ◌++◌, ◌↔◌, IfOk, IfErr, IsTrue, List, MatchResult, length};
-ghost use Rattle.line_text.specs.Files.{IsLine};
+ghost use Rattle.line_text.specs.OneLine.{IsLine};
 ghost use Rattle.sys_table.specs.ResultsLines.{HasOtherNumber, IsHeadRefusal, IsLinesRefusal, head_refusal_of, refusal_of};
 ghost use Rattle.sys_table.specs.ResultsText.{AreResults, AreResultsWithin, IsResultsRefusal, most, results_head};
 ghost use Rattle.sys_table.specs.declared.results_error.ResultsError.TheVariants.{OutOfMemory as NoMemory};

@@ -1,9 +1,9 @@
 ghost use Rattle.std.specs.Prelude.{◌⊎◌, [], MatchBool};
-ghost use Rattle.line_text.specs.Files.{IsLine};
+ghost use Rattle.line_text.specs.OneLine.{IsLine};
 ghost use Rattle.line_text.specs.Reading.{Reads};
 ghost use Rattle.line_text.specs.Words.{EndsWith, IsPlain};
-ghost use Rattle.sys_table.specs.ResultsLines.{IsResultsLine, results_line};
-ghost use Rattle.sys_table.specs.ResultsText.{HasData, HasNoData, IsRightResult, result_line, result_text};
+ghost use Rattle.sys_table.specs.ResultsLines.{HasData, HasNoData, IsResultsLine, results_line};
+ghost use Rattle.sys_table.specs.ResultsText.{IsRightResult, result_line, result_text};
 
 use crate::SysResult;
 use dm_base::Bytes;

@@ -4,6 +4,7 @@ ghost use Rattle.sys_table.specs.ResultsText.{AreResults, IsValueInRange, data_t
 
 use crate::SysResult;
 use dm_base::OutOfMemory;
+use line_text::push_signed;
 use std::alloc::Global;
 
 /// The text of a file with these records.
@@ -27,8 +28,7 @@ fn write_record(alloc: Global, text: &mut Vec<u8>, record: &SysResult) -> Result
 {
     let bytes = record.bytes.as_slice();
     text.extend_from_slice(b"R ")?;
-    let value = format!(in alloc; "{}", record.value)?;
-    text.extend_from_slice(value.as_bytes())?;
+    push_signed(alloc, text, record.value)?;
     write_data(alloc, text, bytes)?;
     text.push(b'\n')?;
     Ok(())
