@@ -22,7 +22,8 @@ use Rattle.trace_file.specs.declared.record.Record.{Record}
 use Rattle.trace_file.specs.declared.version.TracesVersion.{TracesVersion}
 use Rattle.trace_file.specs.EventText.{IsWritten, IsRightEnd}
 use Rattle.trace_file.specs.Known.{made_known, known_count}
-use Rattle.trace_file.specs.Lines.{event_line, end_line, trace_line, record_line, IsWrittenRecord, traces_line}
+use Rattle.trace_file.specs.Lines.{event_line, end_line, record_line, IsWrittenRecord}
+use Rattle.trace_file.specs.LineParts.{trace_line, traces_line}
 use Rattle.trace_file.specs.Trace.{trace_head, IsTrace, IsFormedTrace, IsTraceWithin, HasOtherTraceVersion, IsTraceRefusal}
 use Rattle.trace_file.specs.Traces.{most_processes, traces_head, records_text, AreTraces, AreFormedTraces, AreTracesWithin, PassesALimit, HasOtherTracesVersion, IsTracesRefusal}
 use Rattle.trace_file.proofs.PrefixFree.{trace_line_free, traces_line_free}

@@ -33,7 +33,8 @@ use Rattle.trace_file.specs.declared.lines.TracesLine.TheVariants as traces
 use Rattle.trace_file.specs.declared.record.Record.{Record}
 use Rattle.trace_file.specs.EventText.{argument_word, IsWritten, IsRightEnd}
 use Rattle.trace_file.specs.LineParts.{IsWrittenCall, IsWrittenArgument, GoOn, words_after, result_line, ending_line}
-use Rattle.trace_file.specs.Lines.{event_line, end_line, record_line, IsWrittenRecord, trace_line, IsTraceLine, traces_line, IsTracesLine}
+use Rattle.trace_file.specs.Lines.{event_line, end_line, record_line, IsWrittenRecord}
+use Rattle.trace_file.specs.LineParts.{trace_line, IsTraceLine, traces_line, IsTracesLine}
 use Rattle.trace_file.proofs.ArgumentLemmas.{result_split, wide_result, arguments_split}
 use Rattle.trace_file.proofs.CallLemmas.{named, given, IsCallOf, letter_split, name_split, arguments_result_split}
 use Rattle.trace_file.proofs.EndLemmas.{end_split, exit_split, open_case, exit_case, undefined_case, turns_case, results_case, bad_result_case}

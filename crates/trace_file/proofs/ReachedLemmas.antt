@@ -1,7 +1,8 @@
 -- How a file is read on from one line to the next.
 use Rattle.std.proofs.Common.{◌≡◌, ◌≢◌, ◌≤◌, ℕ, ◌+◌, List, [], ◌∷◌, ◌++◌, length, Contains, refl, sym, ◌∙◌, ap, subst, append_assoc, arith}
 use Rattle.std.proofs.lemmas.List.{append-nil}
-use Rattle.line_text.specs.Files.{IsLine, IsFirstLine, IsBadLine, IsProperPrefix}
+use Rattle.line_text.specs.Files.{IsFirstLine, IsBadLine, IsProperPrefix}
+use Rattle.line_text.specs.OneLine.{IsLine}
 use Rattle.line_text.specs.Files.IsFirstLine.{ended, unended}
 use Rattle.line_text.proofs.FilesLemmas.{HasRead, bad_line, proper_prefix, one_more}
 use Rattle.trace_file.specs.Pieces.{IsWhole}

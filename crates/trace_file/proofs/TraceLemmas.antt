@@ -19,13 +19,15 @@ use Rattle.trace_file.specs.declared.error.TraceError.TheVariants.{OutOfMemory, 
 use Rattle.trace_file.specs.declared.lines.TraceLine.{TraceLine}
 use Rattle.trace_file.specs.declared.lines.TraceLine.TheVariants as trace
 use Rattle.trace_file.specs.EventText.{event_text, end_text, IsWritten, IsRightEnd}
-use Rattle.trace_file.specs.Lines.{event_line, end_line, trace_line, IsTraceLine}
+use Rattle.trace_file.specs.Lines.{event_line, end_line}
+use Rattle.trace_file.specs.LineParts.{trace_line, IsTraceLine}
 use Rattle.trace_file.specs.declared.trace_place.TracePlace.{TracePlace}
 use Rattle.trace_file.specs.declared.trace_place.TracePlace.TheVariants as place
 use Rattle.trace_file.specs.Pieces.{IsWhole, IsShown, Takes, Shows}
 use Rattle.trace_file.specs.Reached.{IsReached}
 use Rattle.trace_file.specs.Trace.{most, longest, trace_head, trace_text, IsTrace, IsFormedTrace, IsTraceWithin, HasTooManyEvents, HasOtherTraceVersion, IsTraceRefusal}
-use Rattle.trace_file.specs.TraceReading.{ReachesTrace, HasRoom, IsLineRefusal, AreEventsAndEnd, BeginsTooManyEvents, AreEventsRead, IsEndRead, IsHeadRefusal}
+use Rattle.trace_file.specs.TraceReading.{ReachesTrace, AreEventsAndEnd, BeginsTooManyEvents, AreEventsRead, IsEndRead}
+use Rattle.trace_file.specs.Refusals.{HasRoom, IsLineRefusal, IsHeadRefusal}
 use Rattle.trace_file.proofs.HeadLemmas.{one_first, no_other, none_other}
 use Rattle.trace_file.proofs.PiecesLemmas.{lacks_feed}
 use Rattle.trace_file.proofs.ReachedLemmas.{whole_first, whole_some, unfinished_first, bad_next, prefix_next, line_next}

@@ -1,7 +1,7 @@
 -- How interleaved traces are read line by line.
 use Rattle.std.proofs.Common.{◌≡◌, ◌≢◌, ◌≤◌, ◌<◌, ◌^◌, ℕ, true, false, nat_eq, ◌+◌, List, [], ◌∷◌, ◌++◌, length, get_or, Contains, All, decimal, refl, sym, ◌∙◌, ap, subst, append_assoc, arith, length-append, inl, inr}
-use Rattle.std.specs.Prelude.{◌⊎◌, codes, flat_map, Option, None, Some, Ok, Err}
-use Rattle.std.proofs.lemmas.Bool.{true≢false}
+use Rattle.std.specs.Prelude.{◌⊎◌, codes, flat_map, Option, None, Some, Result, Ok, Err, IfOk, IfErr}
+use Rattle.std.proofs.lemmas.Bool.{true≢false, cases_lt}
 use Rattle.std.proofs.lemmas.Fmt.{decimal_digit}
 use Rattle.std.proofs.lemmas.List.{append-nil, append_cancel_left}
 use Rattle.std.proofs.lemmas.List.Concat.{flat_map-append}
@@ -24,14 +24,17 @@ use Rattle.trace_file.specs.EventText.{event_text}
 use Rattle.trace_file.specs.declared.traces_place.TracesStage.{TracesStage}
 use Rattle.trace_file.specs.declared.traces_place.TracesStage.TheVariants as stage
 use Rattle.trace_file.specs.Known.{made_known, known_count}
-use Rattle.trace_file.specs.Lines.{event_line, record_line, IsWrittenRecord, traces_line, IsTracesLine}
+use Rattle.trace_file.specs.Lines.{event_line, record_line, IsWrittenRecord}
+use Rattle.trace_file.specs.LineParts.{traces_line, IsTracesLine}
 use Rattle.trace_file.specs.declared.traces_place.TracesPlace.{TracesPlace}
-use Rattle.trace_file.specs.Pieces.{IsWhole, IsShown, Held}
+use Rattle.trace_file.specs.Pieces.{IsWhole, IsShown}
+use Rattle.trace_file.specs.Held.{Held}
 use Rattle.trace_file.specs.Processes.{AreKnown}
 use Rattle.trace_file.specs.Reached.{IsReached}
 use Rattle.trace_file.specs.Trace.{most, longest}
-use Rattle.trace_file.specs.Traces.{most_processes, traces_head, records_text, traces_text, AreTraces, AreTracesWithin, AreFormedTraces, PassesALimit, HasTooMuch, HasTooManyRecords, HasTooManyProcesses, HasOtherTracesVersion, IsTracesRefusal}
-use Rattle.trace_file.specs.TracesReading.{ReachesStage, ReachesTraces, EndsIn, stage_version, traces_version, AreTracesOf, BeginsWith, StandForTraces, HasRecordRoom, AreRecordsAndEnd, PassesHere, BeginsTooMuch, AreRecordsRead, AreTracesRead, IsTracesHeadRefusal, IsRecordRefusal}
+use Rattle.trace_file.specs.Traces.{most_processes, traces_head, records_text, traces_text, AreTraces, AreTracesWithin, AreFormedTraces, PassesALimit, HasTooMuch, HasTooManyRecords, HasTooManyProcesses, HasOtherTracesVersion, IsTracesRefusal, AreTracesOf, BeginsWith}
+use Rattle.trace_file.specs.TracesReading.{ReachesStage, ReachesTraces, stage_version, traces_version, StandForTraces, AreRecordsAndEnd, PassesHere, BeginsTooMuch, AreRecordsRead, AreTracesRead}
+use Rattle.trace_file.specs.Refusals.{EndsIn, HasRecordRoom, IsTracesHeadRefusal, IsRecordRefusal, IsRefusedAt}
 use Rattle.trace_file.proofs.HeadLemmas.{one_first, no_other, none_other}
 use Rattle.trace_file.proofs.PiecesLemmas.{lacks_feed}
 use Rattle.trace_file.proofs.ProcessesLemmas.{known_length, made_push}
@@ -399,12 +402,44 @@ end_within v n lines tail records read short none =
     let same : lines ≡ lines ++ tail = sym (append-nil lines) ∙ ap (λ (t : List ℕ). lines ++ t) (sym none) in
     record { traces = subst (λ (t : List ℕ). AreTraces t v records) same read.traces; few = read.few; known = read.known; short = short }
 
+-- what a refusal tells of the version
+
+head_tells : (error : TraceError) (line more : List ℕ) → IsWhole line → IsTracesHeadRefusal error line → error ≢ OutOfMemory → (v : TracesVersion) → BeginsWith (Some v) (line ++ more) → ⊥
+head_tells OutOfMemory line more whole refused other v begins = other refl
+head_tells Version line more whole refused other v (rest, is) =
+    (head_reached v).own rest (subst HasOtherTracesVersion is (head_version (line ++ more) line more (whole_first line more whole) refused))
+head_tells (BadLine k) line more whole refused other v (rest, is) = refused.1 v (prefixes_agree (traces_head v) line rest more (sym is))
+head_tells NoEnd line more whole cut other v begins = absurd (ended_not_short {V = Unit {0}} (λ _. Unit {0}) (λ _. traces_head cut.0) line whole.front whole.ends cut.1)
+head_tells TooLong line more whole refused other v begins = refused
+head_tells (TooManyProcesses k) line more whole refused other v begins = refused
+
+stage_tells : (at : TracesStage) (ks lines more : List ℕ) (records : List Record) (w v : TracesVersion) → ReachesStage at ks lines records → stage_version at ≡ Some w → BeginsWith (Some v) (lines ++ more) → stage_version at ≡ Some v
+stage_tells stage.Start ks lines more records w v reached is begins = absurd (none_not_some w is)
+  where
+    none_not_some : (w : TracesVersion) → ◌≡◌ {A = Option TracesVersion} None (Some w) → ⊥
+    none_not_some w is = cc
+stage_tells (stage.Records u n) ks lines more records w v reached is (rest, begins) =
+    ap Some (head_same v u rest (flat_map record_line records ++ more) (sym begins ∙ ap (λ (t : List ℕ). t ++ more) reached.1.is ∙ append_assoc (traces_head u) (flat_map record_line records) more)).0
+stage_tells (stage.End u n) ks lines more records w v reached is (rest, begins) =
+    ap Some (head_same v u rest (flat_map record_line records ++ codes "end\n" ++ more) (sym begins ∙ ap (λ (t : List ℕ). t ++ more) (reached.traces.is ∙ append_assoc (traces_head u) (flat_map record_line records) (codes "end\n")) ∙ append_assoc (traces_head u) (flat_map record_line records ++ codes "end\n") more)).0
+
+start_refused_at : (at : TracesStage) (error : TraceError) (line : List ℕ) → IsWhole line → IsTracesHeadRefusal error line → IsShown (IsRefusedAt at) error line
+start_refused_at at error line whole refused more short =
+    record { refusal = head_shown error line whole refused more short; tells = λ other v begins. absurd (head_tells error line more whole refused other v begins) }
+
+later_refused_at : (at : TracesStage) (ks lines line : List ℕ) (records : List Record) (error : TraceError) (w : TracesVersion) → ReachesStage at ks lines records → stage_version at ≡ Some w → IsShown IsTracesRefusal error (lines ++ line) → IsShown (IsRefusedAt at) error (lines ++ line)
+later_refused_at at ks lines line records error w reached is shown more short =
+    record {
+      refusal = shown more short;
+      tells = λ other v begins. stage_tells at ks lines (line ++ more) records w v reached is (subst (BeginsWith (Some v)) (append_assoc lines line more) begins);
+    }
+
 -- from one place to the next
 
-pub start_shows : (at : TracesStage) (ks : List ℕ) (error : TraceError) (line : List ℕ) → at ≡ stage.Start → IsWhole line → IsTracesHeadRefusal error line → (lines : List ℕ) (records : List Record) → ReachesStage at ks lines records → IsShown IsTracesRefusal error (lines ++ line)
+pub start_shows : (at : TracesStage) (ks : List ℕ) (error : TraceError) (line : List ℕ) → at ≡ stage.Start → IsWhole line → IsTracesHeadRefusal error line → (lines : List ℕ) (records : List Record) → ReachesStage at ks lines records → IsShown (IsRefusedAt at) error (lines ++ line)
 start_shows at ks error line is whole refused lines records reached =
     let start = subst (λ (s : TracesStage). ReachesStage s ks lines records) is reached in
-    subst (λ (t : List ℕ). IsShown IsTracesRefusal error (t ++ line)) (sym start.1) (head_shown error line whole refused)
+    subst (λ (t : List ℕ). IsShown (IsRefusedAt at) error (t ++ line)) (sym start.1) (start_refused_at at error line whole refused)
 
 none_known : AreKnown [] []
 none_known = record { same = refl; apart = len-empty nat_cmp }
@@ -416,9 +451,10 @@ start_takes at ks v line rest is whole head lines records reached =
     (subst (λ (t : List ℕ). ReachesStage (stage.Records v 0) [] (t ++ line) (records ++ [])) (sym start.1)
     (subst (λ (t : List Record). ReachesStage (stage.Records v 0) [] line (t ++ [])) (sym start.2) (none_known, start_read v line rest whole head)))
 
-pub line_shows : (at : TracesStage) (ks : List ℕ) (v : TracesVersion) (n : ℕ) (error : TraceError) (line : List ℕ) → at ≡ stage.Records v n → IsWhole line → IsRecordRefusal n error line → (lines : List ℕ) (records : List Record) → ReachesStage at ks lines records → IsShown IsTracesRefusal error (lines ++ line)
+pub line_shows : (at : TracesStage) (ks : List ℕ) (v : TracesVersion) (n : ℕ) (error : TraceError) (line : List ℕ) → at ≡ stage.Records v n → IsWhole line → IsRecordRefusal n error line → (lines : List ℕ) (records : List Record) → ReachesStage at ks lines records → IsShown (IsRefusedAt at) error (lines ++ line)
 line_shows at ks v n error line is whole refused lines records reached =
-    line_shown v n error lines line records (subst (λ (s : TracesStage). ReachesStage s ks lines records) is reached).1 whole refused
+    later_refused_at at ks lines line records error v reached (ap stage_version is)
+    (line_shown v n error lines line records (subst (λ (s : TracesStage). ReachesStage s ks lines records) is reached).1 whole refused)
 
 pub record_takes : (at : TracesStage) (ks later : List ℕ) (v : TracesVersion) (n : ℕ) (line : List ℕ) (found : TracesLine) (r : Record) → at ≡ stage.Records v n → IsWhole line → HasRecordRoom n found → StandsFirst IsTracesLine traces_line line [] found → found ≡ traces.Record r → ((numbers : List ℕ) → AreKnown ks numbers → AreKnown later (numbers ++ made_known v r)) → length later ≤ most_processes → (lines : List ℕ) (records : List Record) → ReachesStage at ks lines records → ReachesStage (stage.Records v (n + 1)) later (lines ++ line) (records ++ r ∷ [])
 record_takes at ks later v n line found r is whole room first one grows few lines records reached =
@@ -427,21 +463,23 @@ record_takes at ks later v n line found r is whole room first one grows few line
     let count = known_length v later (records ++ r ∷ []) now in
     (now, record_read v n lines line records r here.1 whole (subst (HasRecordRoom n) one room) (omega (arith, count, few)) (subst (λ (x : TracesLine). StandsFirst IsTracesLine traces_line line [] x) one first))
 
-pub record_shows : (at : TracesStage) (ks later : List ℕ) (v : TracesVersion) (n k : ℕ) (line : List ℕ) (found : TracesLine) (r : Record) → at ≡ stage.Records v n → IsWhole line → HasRecordRoom n found → StandsFirst IsTracesLine traces_line line [] found → found ≡ traces.Record r → ((numbers : List ℕ) → AreKnown ks numbers → AreKnown later (numbers ++ made_known v r)) → most_processes < length later → k ≡ n + 2 → (lines : List ℕ) (records : List Record) → ReachesStage at ks lines records → IsShown IsTracesRefusal (TooManyProcesses k) (lines ++ line)
+pub record_shows : (at : TracesStage) (ks later : List ℕ) (v : TracesVersion) (n k : ℕ) (line : List ℕ) (found : TracesLine) (r : Record) → at ≡ stage.Records v n → IsWhole line → HasRecordRoom n found → StandsFirst IsTracesLine traces_line line [] found → found ≡ traces.Record r → ((numbers : List ℕ) → AreKnown ks numbers → AreKnown later (numbers ++ made_known v r)) → most_processes < length later → k ≡ n + 2 → (lines : List ℕ) (records : List Record) → ReachesStage at ks lines records → IsShown (IsRefusedAt at) (TooManyProcesses k) (lines ++ line)
 record_shows at ks later v n k line found r is whole room first one grows much number lines records reached =
     let here = subst (λ (s : TracesStage). ReachesStage s ks lines records) is reached in
     let now : AreKnown later (flat_map (made_known v) (records ++ r ∷ [])) = subst (AreKnown later) (made_push v records r) (grows (flat_map (made_known v) records) here.0) in
     let count = known_length v later (records ++ r ∷ []) now in
-    too_many_processes_shown v n k lines line records r here.1 (subst (HasRecordRoom n) one room) (omega (arith, count, much)) number (subst (λ (x : TracesLine). StandsFirst IsTracesLine traces_line line [] x) one first)
+    later_refused_at at ks lines line records (TooManyProcesses k) v reached (ap stage_version is)
+    (too_many_processes_shown v n k lines line records r here.1 (subst (HasRecordRoom n) one room) (omega (arith, count, much)) number (subst (λ (x : TracesLine). StandsFirst IsTracesLine traces_line line [] x) one first))
 
 pub end_takes : (at : TracesStage) (ks : List ℕ) (v : TracesVersion) (n : ℕ) (line : List ℕ) (found : TracesLine) → at ≡ stage.Records v n → IsWhole line → StandsFirst IsTracesLine traces_line line [] found → found ≡ traces.End → (lines : List ℕ) (records : List Record) → ReachesStage at ks lines records → ReachesStage (stage.End v n) ks (lines ++ line) (records ++ [])
 end_takes at ks v n line found is whole first one lines records reached =
     subst (λ (t : List Record). AreTracesRead v n (lines ++ line) t) (sym (append-nil records))
     (end_read v n lines line records (subst (λ (s : TracesStage). ReachesStage s ks lines records) is reached).1 whole (subst (λ (x : TracesLine). StandsFirst IsTracesLine traces_line line [] x) one first))
 
-pub after_end_shows : (at : TracesStage) (ks : List ℕ) (v : TracesVersion) (n k : ℕ) (line : List ℕ) → at ≡ stage.End v n → IsWhole line → k ≡ n + 3 → (lines : List ℕ) (records : List Record) → ReachesStage at ks lines records → IsShown IsTracesRefusal (BadLine k) (lines ++ line)
+pub after_end_shows : (at : TracesStage) (ks : List ℕ) (v : TracesVersion) (n k : ℕ) (line : List ℕ) → at ≡ stage.End v n → IsWhole line → k ≡ n + 3 → (lines : List ℕ) (records : List Record) → ReachesStage at ks lines records → IsShown (IsRefusedAt at) (BadLine k) (lines ++ line)
 after_end_shows at ks v n k line is whole number lines records reached =
-    after_end_shown v n k lines line records (subst (λ (s : TracesStage). ReachesStage s ks lines records) is reached) whole number
+    later_refused_at at ks lines line records (BadLine k) v reached (ap stage_version is)
+    (after_end_shown v n k lines line records (subst (λ (s : TracesStage). ReachesStage s ks lines records) is reached) whole number)
 
 -- why the text with this tail is refused, at this place
 abbrev pub EndsRefused : TracesStage → List ℕ → TraceError → List ℕ → Type 0
@@ -493,6 +531,48 @@ pub version_kept : (old new : Held TracesPlace) (text piece : List ℕ) (records
 version_kept old new text piece records later v before after is =
     let begun = subst (λ (o : Option TracesVersion). BeginsWith o text) is (begins_with old text records before) in
     same_version (traces_version new) v text piece begun.0 begun.1 (begins_with new (text ++ piece) later after)
+
+-- a text whose version was told goes on with it
+pub still_begins : (old : Held TracesPlace) (text piece : List ℕ) (records : List Record) (v : TracesVersion) → StandForTraces old text records → traces_version old ≡ Some v → BeginsWith (Some v) (text ++ piece)
+still_begins old text piece records v stands is =
+    let begun = subst (λ (o : Option TracesVersion). BeginsWith o text) is (begins_with old text records stands) in
+    (begun.0 ++ piece, ap (λ (t : List ℕ). t ++ piece) begun.1 ∙ append_assoc (traces_head v) begun.0 piece)
+
+-- where a text that is not too long is refused, and its first line stands whole, its version is told
+pub told_at : (new : Held TracesPlace) (error : TraceError) (text : List ℕ) → IsShown (IsRefusedAt new.place.stage) error text → length text ≤ longest → error ≢ OutOfMemory → (v : TracesVersion) → BeginsWith (Some v) text → traces_version new ≡ Some v
+told_at new error text shown short other v begins =
+    let same = append-nil text in
+    (subst (IsRefusedAt new.place.stage error) same (shown [] (subst (λ (t : List ℕ). length t ≤ longest) (sym same) short))).tells other v begins
+
+memory_or_other : (error : TraceError) → (error ≡ OutOfMemory) ⊎ (error ≢ OutOfMemory)
+memory_or_other OutOfMemory = inl refl
+memory_or_other (BadLine k) = inr (λ same. cc)
+memory_or_other NoEnd = inr (λ same. cc)
+memory_or_other TooLong = inr (λ same. cc)
+memory_or_other (TooManyProcesses k) = inr (λ same. cc)
+memory_or_other Version = inr (λ same. cc)
+
+-- at a refusal a version that was told stays
+pub kept_refused : (old new : Held TracesPlace) (error : TraceError) (text piece : List ℕ) (records : List Record) (v : TracesVersion) → (error ≡ OutOfMemory → new ≡ old) → (longest < length (text ++ piece) → new.place ≡ old.place) → IsShown (IsRefusedAt new.place.stage) error (text ++ piece) → StandForTraces old text records → traces_version old ≡ Some v → traces_version new ≡ Some v
+kept_refused old new error text piece records v memory long shown stands is =
+    elim (memory_or_other error) [
+      | inl none ↦ ap traces_version (memory none) ∙ is
+      | inr other ↦
+          elim (cases_lt longest (length (text ++ piece))) [
+            | inl over ↦ ap (λ (p : TracesPlace). stage_version p.stage) (long over) ∙ is
+            | inr short ↦ told_at new error (text ++ piece) shown short other v (still_begins old text piece records v stands is)
+          ]
+    ]
+
+-- the facts of a piece that was fed
+module _ {W : Type 0} (items : W → List Record) (old new : Held TracesPlace) (piece : List ℕ) where
+  pub feed_kept : (result : Result W TraceError) → IfOk result (λ given. (text : List ℕ) (records : List Record) → StandForTraces old text records → StandForTraces new (text ++ piece) (records ++ items given)) → (result ≡ Err OutOfMemory → new ≡ old) → ((text : List ℕ) (records : List Record) → StandForTraces old text records → longest < length (text ++ piece) → (result ≡ Err TooLong) × (new.place ≡ old.place)) → IfErr result (λ error. (text : List ℕ) (records : List Record) → StandForTraces old text records → IsShown (IsRefusedAt new.place.stage) error (text ++ piece)) → (text : List ℕ) (records : List Record) (v : TracesVersion) → StandForTraces old text records → traces_version old ≡ Some v → traces_version new ≡ Some v
+  feed_kept (Ok given) stands memory long shown text records v before is = version_kept old new text piece records (records ++ items given) v before (stands text records before) is
+  feed_kept (Err error) stands memory long shown text records v before is =
+      kept_refused old new error text piece records v (λ none. memory (ap Err none)) (λ over. (long text records before over).1) (shown text records before) before is
+
+  pub feed_told : (error : TraceError) → ((text : List ℕ) (records : List Record) → StandForTraces old text records → IsShown (IsRefusedAt new.place.stage) error (text ++ piece)) → error ≢ OutOfMemory → (text : List ℕ) (records : List Record) (v : TracesVersion) → StandForTraces old text records → length (text ++ piece) ≤ longest → BeginsWith (Some v) (text ++ piece) → traces_version new ≡ Some v
+  feed_told error shown other text records v before short begins = told_at new error (text ++ piece) (shown text records before) short other v begins
 
 -- the text of a reader ends
 

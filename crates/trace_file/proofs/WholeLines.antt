@@ -9,7 +9,7 @@ use Rattle.dm_base.specs.declared.outcome.TraceEnd.{TraceEnd}
 use Rattle.dm_base.specs.declared.outcome.TraceEnd.TheVariants.{Open, Ended}
 use Rattle.line_text.specs.declared.miss.Miss.{Miss}
 use Rattle.line_text.specs.declared.miss.Miss.TheVariants.{OutOfMemory, Short, Wrong}
-use Rattle.line_text.specs.Files.{IsLine}
+use Rattle.line_text.specs.OneLine.{IsLine}
 use Rattle.line_text.specs.Reading.{Agree, StandsFirst, IsCutShort, Reads}
 use Rattle.dm_base.proofs.Decimals.{own}
 use Rattle.line_text.proofs.FilesLemmas.{ends_line}
@@ -20,7 +20,8 @@ use Rattle.trace_file.specs.declared.lines.TracesLine.{TracesLine}
 use Rattle.trace_file.specs.declared.lines.TracesLine.TheVariants as traces
 use Rattle.trace_file.specs.declared.record.Record.{Record}
 use Rattle.trace_file.specs.EventText.{event_text, end_text, IsWritten, IsRightEnd}
-use Rattle.trace_file.specs.Lines.{event_line, end_line, trace_line, IsTraceLine, record_line, IsWrittenRecord, traces_line, IsTracesLine}
+use Rattle.trace_file.specs.Lines.{event_line, end_line, record_line, IsWrittenRecord}
+use Rattle.trace_file.specs.LineParts.{trace_line, IsTraceLine, traces_line, IsTracesLine}
 use Rattle.trace_file.proofs.EventLemmas.{event_letter}
 use Rattle.trace_file.proofs.Parts.{first_agrees, cut_at_start}
 

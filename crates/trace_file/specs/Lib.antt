@@ -1,10 +1,12 @@
 pub mod EventText
+pub mod Held
 pub mod Known
 pub mod LineParts
 pub mod Lines
 pub mod Pieces
 pub mod Processes
 pub mod Reached
+pub mod Refusals
 pub mod Trace
 pub mod TraceReading
 pub mod Traces

@@ -1,4 +1,4 @@
--- The parts of lines, for readers that take a line part by part.
+-- For private contracts and proofs alone: the lines of traces as values, and their parts, for readers that take a line part by part.
 use Rattle.std.specs.Prelude.{◌≡◌, ℕ, ℤ, Bool, true, not, ◌&&◌, nat_eq, List, [], ◌∷◌, ◌++◌, drop, flat_map, codes}
 use Rattle.std.specs.List.{AllZip}
 use Rattle.dm_base.specs.declared.event.Arg.{Arg}
@@ -7,9 +7,14 @@ use Rattle.dm_base.specs.declared.event.Event.TheVariants.{Sys, Pre, Post}
 use Rattle.dm_base.specs.declared.outcome.TraceEnd.{TraceEnd}
 use Rattle.dm_base.specs.declared.outcome.TraceEnd.TheVariants.{Open, Ended}
 use Rattle.line_text.specs.Words.{integer_word}
+use Rattle.trace_file.specs.declared.lines.TraceLine.{TraceLine}
+use Rattle.trace_file.specs.declared.lines.TraceLine.TheVariants as trace
+use Rattle.trace_file.specs.declared.lines.TracesLine.{TracesLine}
+use Rattle.trace_file.specs.declared.lines.TracesLine.TheVariants as traces
 use Rattle.sys_table.specs.declared.kinds.ArgKind.{ArgKind}
 use Rattle.sys_table.specs.Table.{FitsArgument}
-use Rattle.trace_file.specs.EventText.{argument_word, outcome_text, HasBytes, IsWritten}
+use Rattle.trace_file.specs.EventText.{argument_word, outcome_text, HasBytes, IsWritten, IsRightEnd}
+use Rattle.trace_file.specs.Lines.{event_line, end_line, record_line, IsWrittenRecord}
 
 -- whether the word has no line feed
 abbrev pub has_no_feed : List ℕ → Bool
@@ -42,3 +47,21 @@ result_line outcome = codes "= " ++ integer_word 10 outcome
 abbrev pub ending_line : TraceEnd → List ℕ
 ending_line Open = codes "open\n"
 ending_line (Ended outcome) = outcome_text outcome ++ 10 ∷ []
+
+-- a line of a trace after the first
+abbrev pub trace_line : TraceLine → List ℕ
+trace_line (trace.Event event) = event_line event
+trace_line (trace.End end) = end_line end
+
+abbrev pub IsTraceLine : TraceLine → Type 0
+IsTraceLine (trace.Event event) = IsWritten event
+IsTraceLine (trace.End end) = IsRightEnd end
+
+-- a line of interleaved traces after the first
+abbrev pub traces_line : TracesLine → List ℕ
+traces_line (traces.Record r) = record_line r
+traces_line traces.End = codes "end\n"
+
+abbrev pub IsTracesLine : TracesLine → Type 0
+IsTracesLine (traces.Record r) = IsWrittenRecord r
+IsTracesLine traces.End = Unit {0}

@@ -1,7 +1,8 @@
--- The known processes as a list without repeats.
+-- For private contracts and proofs alone: the known processes as a list without repeats.
 use Rattle.std.specs.Prelude.{◌≡◌, ℕ, List, length}
 use Rattle.std.specs.Ordering.{nat_cmp}
-use Rattle.std.specs.FinSet.{FinSet, from_list, len}
+use Rattle.std.specs.FinSet.{from_list, len}
+use Rattle.trace_file.specs.Known.{known}
 
 -- the list has exactly the numbers of the other, each once
 pub record AreKnown (known numbers : List ℕ) : Type 0 where

@@ -1,4 +1,4 @@
--- What is known of a file once some of its lines were read.
+-- For private contracts and proofs alone: what is known of a file once some of its lines were read.
 use Rattle.std.specs.Prelude.{ℕ, List, ◌++◌}
 use Rattle.line_text.proofs.FilesLemmas.{HasRead}
 

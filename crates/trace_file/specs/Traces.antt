@@ -1,5 +1,5 @@
 -- The file of interleaved traces, and why a text is none.
-use Rattle.std.specs.Prelude.{◌≡◌, ◌⊎◌, ℕ, ◌+◌, ◌<◌, ◌≤◌, List, [], ◌∷◌, ◌++◌, All, length, flat_map, codes}
+use Rattle.std.specs.Prelude.{◌≡◌, ◌⊎◌, ℕ, ◌+◌, ◌<◌, ◌≤◌, List, [], ◌∷◌, ◌++◌, All, Contains, Option, None, Some, length, flat_map, codes}
 use Rattle.line_text.specs.Files.{IsProperPrefix, IsBadLine, HasOtherVersion}
 use Rattle.trace_file.specs.declared.error.TraceError.{TraceError}
 use Rattle.trace_file.specs.declared.error.TraceError.TheVariants.{OutOfMemory, BadLine, NoEnd, TooLong, TooManyProcesses, Version}
@@ -76,3 +76,13 @@ IsTracesRefusal NoEnd text = (length text ≤ longest) × (HasTooMuch text → �
 -- however the text goes on within the longest length, this is why it is refused
 abbrev pub AreTracesShown : TraceError → List ℕ → Type 0
 AreTracesShown error text = (more : List ℕ) → length (text ++ more) ≤ longest → IsTracesRefusal error (text ++ more)
+
+-- the text is that of the records, in this version
+abbrev pub AreTracesOf : Option TracesVersion → List ℕ → List Record → Type 0
+AreTracesOf None text records = ⊥
+AreTracesOf (Some version) text records = AreTracesWithin text version records
+
+-- the first line is that of the version; with None the text has no line feed yet
+abbrev pub BeginsWith : Option TracesVersion → List ℕ → Type 0
+BeginsWith None text = Contains text 10 → ⊥
+BeginsWith (Some version) text = (rest : List ℕ) × (text ≡ traces_head version ++ rest)

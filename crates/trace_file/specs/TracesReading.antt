@@ -1,25 +1,17 @@
--- How far interleaved traces were read.
-use Rattle.std.specs.Prelude.{◌≡◌, ◌≢◌, ◌⊎◌, ℕ, ◌+◌, ◌<◌, ◌≤◌, ◌^◌, List, [], ◌∷◌, ◌++◌, All, Contains, Option, None, Some, length, flat_map, codes}
-use Rattle.std.specs.Ordering.{nat_cmp}
-use Rattle.std.specs.FinSet.{from_list, len}
-use Rattle.line_text.specs.Files.{IsVersionLine}
-use Rattle.line_text.specs.Reading.{Agree, StandsFirst, IsCutShort}
-use Rattle.trace_file.specs.declared.error.TraceError.{TraceError}
-use Rattle.trace_file.specs.declared.error.TraceError.TheVariants.{OutOfMemory, BadLine, NoEnd, TooLong, TooManyProcesses, Version}
-use Rattle.trace_file.specs.declared.lines.TracesLine.{TracesLine}
-use Rattle.trace_file.specs.declared.lines.TracesLine.TheVariants as lines
+-- What a reader of interleaved traces stands for. Of `StandForTraces` no more has to be known than the clauses of `TracesReader` say.
+use Rattle.std.specs.Prelude.{◌≡◌, ◌⊎◌, ℕ, ◌+◌, ◌<◌, ◌≤◌, List, [], ◌∷◌, ◌++◌, All, Option, None, Some, length, flat_map, codes}
 use Rattle.trace_file.specs.declared.record.Record.{Record}
 use Rattle.trace_file.specs.declared.traces_place.TracesPlace.{TracesPlace}
 use Rattle.trace_file.specs.declared.traces_place.TracesStage.{TracesStage}
 use Rattle.trace_file.specs.declared.traces_place.TracesStage.TheVariants as stage
 use Rattle.trace_file.specs.declared.version.TracesVersion.{TracesVersion}
 use Rattle.trace_file.specs.Known.{made_known, known_count}
-use Rattle.trace_file.specs.Lines.{record_line, IsWrittenRecord, traces_line, IsTracesLine}
-use Rattle.trace_file.specs.Pieces.{Held, StandsFor}
+use Rattle.trace_file.specs.Lines.{record_line, IsWrittenRecord}
+use Rattle.trace_file.specs.Held.{Held, StandsFor}
 use Rattle.trace_file.specs.Processes.{AreKnown}
 use Rattle.trace_file.specs.Reached.{IsReached}
-use Rattle.trace_file.specs.Trace.{most, longest}
-use Rattle.trace_file.specs.Traces.{most_processes, traces_head, records_text, AreTraces, AreTracesWithin, AreFormedTraces, HasTooMuch, HasOtherTracesVersion}
+use Rattle.trace_file.specs.Trace.{most}
+use Rattle.trace_file.specs.Traces.{most_processes, records_text, AreTraces, AreFormedTraces, HasTooMuch, HasOtherTracesVersion}
 
 -- the lines of some records, and the end line
 abbrev pub AreRecordsAndEnd : List ℕ → Type 0
@@ -64,43 +56,6 @@ abbrev pub stage_version : TracesStage → Option TracesVersion
 stage_version stage.Start = None
 stage_version (stage.Records version n) = Some version
 stage_version (stage.End version n) = Some version
-
--- why the first line is refused, which may be unfinished: it is another version, or bad, or cut short
-abbrev pub IsTracesHeadRefusal : TraceError → List ℕ → Type 0
-IsTracesHeadRefusal Version line = (n : ℕ) × (n < 2 ^ 32) × ((n ≡ 1) ⊎ (n ≡ 2) → ⊥) × IsVersionLine (codes "dyckmon-traces ") n line
-IsTracesHeadRefusal (BadLine k) line = (k ≡ 1) × ((version : TracesVersion) → Agree (traces_head version) line → ⊥) × ((n : ℕ) → n < 2 ^ 32 → IsVersionLine (codes "dyckmon-traces ") n line → ⊥)
-IsTracesHeadRefusal NoEnd line = (version : TracesVersion) × IsCutShort {V = Unit {0}} (λ _. Unit {0}) (λ _. traces_head version) line
-IsTracesHeadRefusal OutOfMemory line = Unit {0}
-IsTracesHeadRefusal TooLong line = ⊥
-IsTracesHeadRefusal (TooManyProcesses k) line = ⊥
-
--- a record's line is read only where fewer records than the most came before it
-abbrev pub HasRecordRoom : ℕ → TracesLine → Type 0
-HasRecordRoom n (lines.Record r) = n < most
-HasRecordRoom n lines.End = Unit {0}
-
--- why a line after those of n records is refused, which may be unfinished
-abbrev pub IsRecordRefusal : ℕ → TraceError → List ℕ → Type 0
-IsRecordRefusal n OutOfMemory line = Unit {0}
-IsRecordRefusal n (BadLine k) line = (k ≡ n + 2) × ((v : TracesLine) → IsTracesLine v → Agree (traces_line v) line → ⊥)
-IsRecordRefusal n NoEnd line = IsCutShort IsTracesLine traces_line line
-IsRecordRefusal n TooLong line = (r : Record) × (most ≤ n) × StandsFirst IsTracesLine traces_line line [] (lines.Record r)
-IsRecordRefusal n (TooManyProcesses k) line = ⊥
-IsRecordRefusal n Version line = ⊥
-
--- the text is that of the records, in this version
-abbrev pub AreTracesOf : Option TracesVersion → List ℕ → List Record → Type 0
-AreTracesOf None text records = ⊥
-AreTracesOf (Some version) text records = AreTracesWithin text version records
-
--- the text with this tail ends here
-abbrev pub EndsIn : TracesPlace → List ℕ → Type 0
-EndsIn at tail = (lines : List ℕ) (records : List Record) → ReachesTraces at lines records → length (lines ++ tail) ≤ longest → AreTracesOf (stage_version at.stage) (lines ++ tail) records
-
--- the first line is that of the version; with None the text has no line feed yet
-abbrev pub BeginsWith : Option TracesVersion → List ℕ → Type 0
-BeginsWith None text = Contains text 10 → ⊥
-BeginsWith (Some version) text = (rest : List ℕ) × (text ≡ traces_head version ++ rest)
 
 -- the reader was given this text, whose lines so far are of these records, and didn't refuse it
 abbrev pub StandForTraces : Held TracesPlace → List ℕ → List Record → Type 0

@@ -1,16 +1,20 @@
-ghost use Rattle.std.specs.Prelude.{◌≡◌, ◌++◌, codes, decimal, flat_map, OnOk};
+ghost use Rattle.std.specs.Prelude.{◌≡◌, ◌<◌, ◌++◌, All, codes, decimal, flat_map, OnOk};
 ghost use Rattle.std.specs.Fmt.{signed_decimal};
-ghost use Rattle.sys_table.specs.Table.{name_of};
-ghost use Rattle.trace_file.specs.EventText.{argument_text, argument_word, event_text};
+ghost use Rattle.hex.specs.Hex.{IsBytes};
+ghost use Rattle.line_text.specs.Words.{bytes_text};
+ghost use Rattle.sys_table.specs.Table.{name_of, IsRecorded};
+ghost use Rattle.trace_file.specs.EventText.{argument_text, argument_word, event_text, HasBytes, IsWritten};
 
-use crate::push::{push_bytes, push_decimal, push_hexadecimal, push_signed};
 use dm_base::{Arg, ArgList, Event, OutOfMemory, SysName};
+use line_text::{push_bytes, push_decimal, push_hexadecimal, push_signed};
 use std::alloc::Global;
 use sys_table::name_text;
 
 /// Adds the text of the event at the end of the text. The error is that memory was refused.
 pub fn push_event(alloc: Global, text: &mut Vec<u8>, event: &Event) -> Result<(), OutOfMemory>
-    ensures { OnOk result (text.new.items ≡ text.old.items ++ event_text event.now) }
+    requires { IsRecorded event.now }
+    ensures text { OnOk result (text.new.items ≡ text.old.items ++ event_text event.now) }
+    ensures written { OnOk result (IsWritten event.now) }
 {
     match event {
         Event::Sys { name, args, result } => push_call(alloc, text, *name, args, *result),
@@ -27,8 +31,10 @@ fn push_call(
     arguments: &ArgList,
     outcome: i64,
 ) -> Result<(), OutOfMemory>
-    ensures { OnOk result (text.new.items ≡ text.old.items
+    ensures text { OnOk result (text.new.items ≡ text.old.items
         ++ (codes "S " ++ name_of name ++ codes " " ++ flat_map argument_word arguments.now ++ codes "= " ++ signed_decimal outcome)) }
+    ensures name { name < 24 }
+    ensures are_bytes { OnOk result (All HasBytes arguments.now) }
 {
     push_bytes(text, b"S ")?;
     push_bytes(text, name_text(name))?;
@@ -53,7 +59,8 @@ fn push_null_call(
 
 // Adds each argument and a space after it.
 fn push_arguments(alloc: Global, text: &mut Vec<u8>, arguments: &ArgList) -> Result<(), OutOfMemory>
-    ensures { OnOk result (text.new.items ≡ text.old.items ++ flat_map argument_word arguments.now) }
+    ensures text { OnOk result (text.new.items ≡ text.old.items ++ flat_map argument_word arguments.now) }
+    ensures are_bytes { OnOk result (All HasBytes arguments.now) }
 {
     for i in 0..arguments.len() {
         let Some(argument) = arguments.get(i) else {
@@ -67,10 +74,19 @@ fn push_arguments(alloc: Global, text: &mut Vec<u8>, arguments: &ArgList) -> Res
 
 // Adds the argument.
 fn push_argument(alloc: Global, text: &mut Vec<u8>, argument: &Arg) -> Result<(), OutOfMemory>
-    ensures { OnOk result (text.new.items ≡ text.old.items ++ argument_text argument.now) }
+    ensures text { OnOk result (text.new.items ≡ text.old.items ++ argument_text argument.now) }
+    ensures are_bytes { HasBytes argument.now }
 {
     match argument {
         Arg::Int(number) => push_signed(alloc, text, *number),
-        Arg::Bytes(bytes) => push_hexadecimal(alloc, text, bytes.as_slice()),
+        Arg::Bytes(bytes) => push_held(alloc, text, bytes.as_slice()),
     }
+}
+
+// Adds the bytes in hexadecimal, or `-` for none.
+fn push_held(alloc: Global, text: &mut Vec<u8>, bytes: &[u8]) -> Result<(), OutOfMemory>
+    ensures text { OnOk result (text.new.items ≡ text.old.items ++ bytes_text bytes.now) }
+    ensures are_bytes { IsBytes bytes.now }
+{
+    push_hexadecimal(alloc, text, bytes)
 }

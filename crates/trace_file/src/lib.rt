@@ -7,12 +7,9 @@ mod ending;
 mod error;
 mod event_writing;
 mod laws;
-#[cfg(test)]
-mod line_tests;
 mod lines;
 mod pieces;
 mod processes;
-mod push;
 mod record;
 mod trace_place;
 mod trace_reader;
@@ -28,6 +25,3 @@ pub use trace_reader::TraceReader;
 pub use traces_reader::TracesReader;
 pub use version::TracesVersion;
 pub use writing::{event_text, outcome_text, write_trace, write_traces};
-
-#[cfg(test)]
-mod tests;

@@ -1,10 +1,11 @@
 ghost use Rattle.std.specs.Prelude.{◌≤◌, ◌<◌, ◌^◌, [], ◌++◌, codes, IsTrue};
-ghost use Rattle.line_text.specs.Files.{IsLine};
+ghost use Rattle.line_text.specs.OneLine.{IsLine};
 ghost use Rattle.line_text.specs.Reading.{Reads};
 ghost use Rattle.line_text.specs.Words.{number_word};
 ghost use Rattle.trace_file.specs.EventText.{IsWritten};
 ghost use Rattle.trace_file.specs.LineParts.{has_no_feed};
-ghost use Rattle.trace_file.specs.Lines.{event_line, record_line, trace_line, IsTraceLine, traces_line, IsTracesLine, IsWrittenRecord};
+ghost use Rattle.trace_file.specs.Lines.{event_line, record_line, IsWrittenRecord};
+ghost use Rattle.trace_file.specs.LineParts.{trace_line, IsTraceLine, traces_line, IsTracesLine};
 
 use crate::Record;
 use crate::call::{take_call, take_labelled};

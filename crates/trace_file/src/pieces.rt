@@ -1,6 +1,7 @@
 ghost use Rattle.std.specs.Prelude.{◌≡◌, ◌≢◌, ◌<◌, ◌≤◌, ℕ, List, [], ◌++◌, Contains, MatchOption, IfSome, IfNone, IfOk, IfErr, OnOk, Some, None, length, take, slice_get};
 ghost use Rattle.std.specs.Option.{option_to_list};
-ghost use Rattle.trace_file.specs.Pieces.{IsWhole, IsCut, IsShown, Takes, Shows, HasTaken, StandsFor};
+ghost use Rattle.trace_file.specs.Pieces.{IsWhole, IsCut, IsShown, Takes, Shows, HasTaken};
+ghost use Rattle.trace_file.specs.Held.{StandsFor};
 ghost use Rattle.trace_file.specs.Trace.{longest};
 ghost use Rattle.trace_file.specs.declared.error.TraceError.TheVariants.{OutOfMemory as NoMemory, TooLong as Long};
 
@@ -29,8 +30,8 @@ pub trait Place: Drop {
     /// The lines before this place are these, and they gave these items.
     ghost reaches: { Self → List ℕ → List Self.Item → Type 0 };
 
-    /// Why a text is refused.
-    ghost refuses: { TraceError → List ℕ → Type 0 };
+    /// Why a text is refused, and what this place then tells of it.
+    ghost refuses: { Self → TraceError → List ℕ → Type 0 };
 
     /// By the mark the new place goes back to the old one.
     ghost marks: { Self.Mark → Self → Self → Type 0 };
@@ -39,7 +40,7 @@ pub trait Place: Drop {
     fn read(&mut self, alloc: Global, line: &[u8]) -> Result<Option<Self::Item>, TraceError>
         requires { IsWhole line.now }
         ensures takes { IfOk result (λ given. Takes reaches self.old line.now (option_to_list given) self.new) }
-        ensures shows { IfErr result (λ error. Shows reaches refuses self.old error line.now) }
+        ensures shows { IfErr result (λ error. Shows reaches (refuses self.new) self.old error line.now) }
         ensures marks { (mark : Self.Mark) (first : Self) → marks mark first self.old → marks mark first self.new };
 
     /// A mark of this place.
@@ -51,7 +52,7 @@ pub trait Place: Drop {
         ensures { (first : Self) → marks mark first self.old → self.new ≡ first };
 
     /// Want of memory is told of every text.
-    ghost memory: { (text : List ℕ) → refuses OutOfMemory text };
+    ghost memory: { (place : Self) (text : List ℕ) → refuses place OutOfMemory text };
 }
 
 /// The first line of a text and what follows it, where the text has a line feed.
@@ -82,7 +83,7 @@ fn take_line<P: Place>(
 ) -> Result<(), TraceError>
     requires { IsWhole line.now }
     ensures takes { OnOk result (HasTaken P.reaches place.old line.now [] items.old.items items.new.items place.new) }
-    ensures shows { IfErr result (λ error. Shows P.reaches P.refuses place.old error line.now) }
+    ensures shows { IfErr result (λ error. Shows P.reaches (P.refuses place.new) place.old error line.now) }
     ensures marks { (mark : P.Mark) (first : P) → P.marks mark first place.old → P.marks mark first place.new }
 {
     match place.read(alloc, line)? {
@@ -103,7 +104,7 @@ fn take_lines<'a, P: Place>(
 ) -> Result<&'a [u8], TraceError>
     ensures takes { IfOk result (λ rest. HasTaken P.reaches place.old text.now rest.now items.old.items items.new.items place.new) }
     ensures plain { IfOk result (λ rest. Contains rest.now 10 → ⊥) }
-    ensures shows { IfErr result (λ error. Shows P.reaches P.refuses place.old error text.now) }
+    ensures shows { IfErr result (λ error. Shows P.reaches (P.refuses place.new) place.old error text.now) }
     ensures marks { (mark : P.Mark) (first : P) → P.marks mark first place.old → P.marks mark first place.new }
 {
     let mut rest = text;
@@ -134,7 +135,7 @@ fn take_first<P: Place>(
     requires plain { Contains tail.now 10 → ⊥ }
     requires first { IsWhole first.now }
     ensures takes { OnOk result (HasTaken P.reaches place.old (tail.now ++ first.now) [] items.old.items items.new.items place.new) }
-    ensures shows { IfErr result (λ error. Shows P.reaches P.refuses place.old error (tail.now ++ first.now)) }
+    ensures shows { IfErr result (λ error. Shows P.reaches (P.refuses place.new) place.old error (tail.now ++ first.now)) }
     ensures marks { (mark : P.Mark) (first : P) → P.marks mark first place.old → P.marks mark first place.new }
 {
     if tail.is_empty() {
@@ -157,7 +158,7 @@ fn take_from<P: Place>(
     requires first { IsWhole first.now }
     ensures takes { IfOk result (λ taken. HasTaken P.reaches place.old (tail.now ++ first.now ++ after.now) taken.1.items [] taken.0.items place.new) }
     ensures plain { IfOk result (λ taken. Contains taken.1.items 10 → ⊥) }
-    ensures shows { IfErr result (λ error. Shows P.reaches P.refuses place.old error (tail.now ++ first.now ++ after.now)) }
+    ensures shows { IfErr result (λ error. Shows P.reaches (P.refuses place.new) place.old error (tail.now ++ first.now ++ after.now)) }
     ensures marks { (mark : P.Mark) (first : P) → P.marks mark first place.old → P.marks mark first place.new }
 {
     let mut items = Vec::new(alloc);
@@ -178,7 +179,7 @@ fn take_piece<P: Place>(
     requires { Contains tail.old.items 10 → ⊥ }
     ensures takes { IfOk result (λ given. HasTaken P.reaches place.old (tail.old.items ++ piece.now) tail.new.items [] given.items place.new) }
     ensures plain { Contains tail.new.items 10 → ⊥ }
-    ensures shows { IfErr result (λ error. Shows P.reaches P.refuses place.old error (tail.old.items ++ piece.now)) }
+    ensures shows { IfErr result (λ error. Shows P.reaches (P.refuses place.new) place.old error (tail.old.items ++ piece.now)) }
     ensures memory { result ≡ Err NoMemory → (place.new ≡ place.old) × (tail.new.items ≡ tail.old.items) }
 {
     match whole_line(piece) {
@@ -215,7 +216,7 @@ pub struct Pieces<P> {
 
 impl<P> Model for Pieces<P> {
     ghost use Rattle.std.specs.Prelude.{◌≤◌, Contains};
-    ghost use Rattle.trace_file.specs.Pieces.{Held};
+    ghost use Rattle.trace_file.specs.Held.{Held};
 
     ghost Value = { Held P };
 
@@ -245,8 +246,8 @@ impl<P: Place> Pieces<P> {
         ensures memory { result ≡ Err NoMemory → self.new ≡ self.old }
         ensures refused { IfErr result (λ error. error ≢ NoMemory → self.new.refused ≡ Some error) }
         ensures again { (error : TraceError) → self.old.refused ≡ Some error → (result ≡ Err error) × (self.new ≡ self.old) }
-        ensures long { (text : List ℕ) (items : List P.Item) → StandsFor P.reaches self.old text items → longest < length (text ++ piece.now) → result ≡ Err Long }
-        ensures shown { IfErr result (λ error. (text : List ℕ) (items : List P.Item) → StandsFor P.reaches self.old text items → IsShown P.refuses error (text ++ piece.now)) }
+        ensures long { (text : List ℕ) (items : List P.Item) → StandsFor P.reaches self.old text items → longest < length (text ++ piece.now) → (result ≡ Err Long) × (self.new.place ≡ self.old.place) }
+        ensures shown { IfErr result (λ error. (text : List ℕ) (items : List P.Item) → StandsFor P.reaches self.old text items → IsShown (P.refuses self.new.place) error (text ++ piece.now)) }
     {
         if let Some(error) = self.refused {
             return Err(error);

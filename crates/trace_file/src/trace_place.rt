@@ -1,10 +1,11 @@
 ghost use Rattle.std.specs.Prelude.{◌≡◌, ◌≤◌, ℕ, List, [], ◌++◌, Contains, length, IfOk, IfErr, OnOk};
 ghost use Rattle.dm_base.specs.declared.event.Event.{Event};
-ghost use Rattle.line_text.specs.Files.{IsLine};
+ghost use Rattle.line_text.specs.OneLine.{IsLine};
 ghost use Rattle.line_text.specs.Reading.{StandsFirst};
-ghost use Rattle.trace_file.specs.Lines.{trace_line, IsTraceLine};
+ghost use Rattle.trace_file.specs.LineParts.{trace_line, IsTraceLine};
 ghost use Rattle.trace_file.specs.Trace.{longest, trace_head, IsTraceWithin, IsTraceRefusal};
-ghost use Rattle.trace_file.specs.TraceReading.{IsHeadRefusal, HasRoom, IsLineRefusal, ReachesTrace};
+ghost use Rattle.trace_file.specs.TraceReading.{ReachesTrace};
+ghost use Rattle.trace_file.specs.Refusals.{IsHeadRefusal, HasRoom, IsLineRefusal};
 
 use crate::TraceError;
 use crate::lines::{TraceLine, read_trace_line};
@@ -77,7 +78,7 @@ impl Place for TracePlace {
 
     ghost reaches = { ReachesTrace };
 
-    ghost refuses = { IsTraceRefusal };
+    ghost refuses = { λ place error text. IsTraceRefusal error text };
 
     ghost marks = { λ mark first now. mark ≡ first };
 
@@ -110,7 +111,7 @@ impl Place for TracePlace {
         *self = mark;
     }
 
-    ghost memory = { λ text. tt };
+    ghost memory = { λ place text. tt };
 }
 
 impl TracePlace {

@@ -21,7 +21,7 @@ pub struct TraceReader {
 
 impl Model for TraceReader {
     ghost use Rattle.trace_file.specs.declared.trace_place.TracePlace.{TracePlace};
-    ghost use Rattle.trace_file.specs.Pieces.{Held};
+    ghost use Rattle.trace_file.specs.Held.{Held};
 
     ghost Value = { Held TracePlace };
 

@@ -1,11 +1,12 @@
 ghost use Rattle.std.specs.Prelude.{◌≡◌, ◌≤◌, ℕ, List, [], ◌++◌, Contains, length, IfOk, IfErr, OnOk};
-ghost use Rattle.line_text.specs.Files.{IsLine};
+ghost use Rattle.line_text.specs.OneLine.{IsLine};
 ghost use Rattle.line_text.specs.Reading.{StandsFirst};
 ghost use Rattle.trace_file.specs.declared.record.Record.{Record};
-ghost use Rattle.trace_file.specs.Lines.{traces_line, IsTracesLine};
+ghost use Rattle.trace_file.specs.LineParts.{traces_line, IsTracesLine};
 ghost use Rattle.trace_file.specs.Trace.{longest};
 ghost use Rattle.trace_file.specs.Traces.{traces_head, AreTracesWithin, IsTracesRefusal};
-ghost use Rattle.trace_file.specs.TracesReading.{IsTracesHeadRefusal, HasRecordRoom, IsRecordRefusal, ReachesTraces, EndsIn, stage_version};
+ghost use Rattle.trace_file.specs.TracesReading.{ReachesTraces, stage_version};
+ghost use Rattle.trace_file.specs.Refusals.{IsTracesHeadRefusal, HasRecordRoom, IsRecordRefusal, EndsIn};
 
 use crate::lines::{TracesLine, read_traces_line};
 use crate::pieces::Place;
@@ -94,12 +95,13 @@ impl Place for TracesPlace {
     type Mark = TracesMark;
 
     ghost use Rattle.std.specs.Prelude.{◌≡◌, ℕ, List, ◌++◌, length};
-    ghost use Rattle.trace_file.specs.Traces.{IsTracesRefusal};
+    ghost use Rattle.std.proofs.Common.{refl};
     ghost use Rattle.trace_file.specs.TracesReading.{ReachesTraces};
+    ghost use Rattle.trace_file.specs.Refusals.{IsRefusedAt};
 
     ghost reaches = { ReachesTraces };
 
-    ghost refuses = { IsTracesRefusal };
+    ghost refuses = { λ place error text. IsRefusedAt place.stage error text };
 
     ghost marks = { λ mark first now. (mark.stage ≡ first.stage) × (mark.known ≡ length first.known) × ((more : List ℕ) × (now.known ≡ first.known ++ more)) };
 
@@ -140,7 +142,7 @@ impl Place for TracesPlace {
         self.known.truncate(mark.known);
     }
 
-    ghost memory = { λ text. tt };
+    ghost memory = { λ place text. record { refusal = tt; tells = λ other. absurd (other refl) } };
 }
 
 impl TracesPlace {

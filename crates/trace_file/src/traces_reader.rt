@@ -1,10 +1,11 @@
-ghost use Rattle.std.specs.Prelude.{◌≡◌, ◌≢◌, ◌<◌, ℕ, List, [], ◌++◌, Some, IfOk, IfErr, OnOk, length};
+ghost use Rattle.std.specs.Prelude.{◌≡◌, ◌≢◌, ◌<◌, ◌≤◌, ℕ, List, [], ◌++◌, Some, IfOk, IfErr, OnOk, length};
 ghost use Rattle.trace_file.specs.declared.error.TraceError.TheVariants.{OutOfMemory as NoMemory, TooLong as Long};
 ghost use Rattle.trace_file.specs.declared.record.Record.{Record};
 ghost use Rattle.trace_file.specs.Trace.{longest};
 ghost use Rattle.trace_file.specs.declared.version.TracesVersion.{TracesVersion};
 ghost use Rattle.trace_file.specs.Traces.{IsTracesRefusal, AreTracesShown};
-ghost use Rattle.trace_file.specs.TracesReading.{StandForTraces, traces_version, BeginsWith, AreTracesOf};
+ghost use Rattle.trace_file.specs.TracesReading.{StandForTraces, traces_version};
+ghost use Rattle.trace_file.specs.Traces.{BeginsWith, AreTracesOf};
 
 use crate::pieces::Pieces;
 use crate::traces_place::TracesPlace;
@@ -23,7 +24,7 @@ pub struct TracesReader {
 
 impl Model for TracesReader {
     ghost use Rattle.trace_file.specs.declared.traces_place.TracesPlace.{TracesPlace};
-    ghost use Rattle.trace_file.specs.Pieces.{Held};
+    ghost use Rattle.trace_file.specs.Held.{Held};
 
     ghost Value = { Held TracesPlace };
 
@@ -43,10 +44,12 @@ impl TracesReader {
 
     /// Takes the next piece of the text, and gives the records of the lines that it completes. Want
     /// of memory changes nothing; after another refusal each call answers it again. A text that gets
-    /// longer than 64 MiB is refused at this piece.
+    /// longer than 64 MiB is refused at this piece. A version that was told stays, and after another
+    /// refusal than these two it is told where the first line stands whole.
     pub fn feed(&mut self, piece: &[u8]) -> Result<Vec<Record>, TraceError>
         ensures stands { IfOk result (λ given. (text : List ℕ) (records : List Record) → StandForTraces self.old text records → StandForTraces self.new (text ++ piece.now) (records ++ given.items)) }
-        ensures version { OnOk result ((text : List ℕ) (records : List Record) (version : TracesVersion) → StandForTraces self.old text records → traces_version self.old ≡ Some version → traces_version self.new ≡ Some version) }
+        ensures kept { (text : List ℕ) (records : List Record) (version : TracesVersion) → StandForTraces self.old text records → traces_version self.old ≡ Some version → traces_version self.new ≡ Some version }
+        ensures told { IfErr result (λ error. error ≢ NoMemory → (text : List ℕ) (records : List Record) (version : TracesVersion) → StandForTraces self.old text records → length (text ++ piece.now) ≤ longest → BeginsWith (Some version) (text ++ piece.now) → traces_version self.new ≡ Some version) }
         ensures memory { result ≡ Err NoMemory → self.new ≡ self.old }
         ensures refused { IfErr result (λ error. error ≢ NoMemory → self.new.refused ≡ Some error) }
         ensures again { (error : TraceError) → self.old.refused ≡ Some error → (result ≡ Err error) × (self.new ≡ self.old) }
@@ -56,7 +59,8 @@ impl TracesReader {
         self.pieces.feed(self.alloc, piece)
     }
 
-    /// The version, once the first line was read whole without a refusal.
+    /// The version, once the first line was read whole without a refusal, also after a refusal of what
+    /// follows it.
     pub fn version(&self) -> Option<TracesVersion>
         ensures version { result ≡ traces_version self.now }
         ensures begins { (text : List ℕ) (records : List Record) → StandForTraces self.now text records → BeginsWith result text }

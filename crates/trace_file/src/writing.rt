@@ -1,14 +1,14 @@
 ghost use Rattle.std.specs.Prelude.{◌≡◌, ◌≤◌, ◌++◌, All, IfOk, OnOk, flat_map};
 ghost use Rattle.sys_table.specs.Table.{IsRecorded};
-ghost use Rattle.trace_file.specs.EventText.{event_text, outcome_text, IsCountedEnd, IsCountedOutcome};
-ghost use Rattle.trace_file.specs.Lines.{event_line, end_line, record_line};
-ghost use Rattle.trace_file.specs.Trace.{trace_text};
-ghost use Rattle.trace_file.specs.Traces.{traces_text};
+ghost use Rattle.trace_file.specs.EventText.{event_text, outcome_text, IsCountedEnd, IsCountedOutcome, IsRightEnd, IsRightOutcome, IsWritten};
+ghost use Rattle.trace_file.specs.Lines.{event_line, end_line, record_line, IsWrittenRecord};
+ghost use Rattle.trace_file.specs.Trace.{trace_text, IsTrace};
+ghost use Rattle.trace_file.specs.Traces.{traces_text, AreTraces};
 
 use crate::event_writing::push_event;
-use crate::push::{push_bytes, push_decimal, push_signed};
 use crate::{Record, TracesVersion};
 use dm_base::{Event, OutOfMemory, Outcome, TraceEnd};
+use line_text::{push_bytes, push_decimal, push_signed};
 use std::alloc::Global;
 
 /// The text of an event, as in a trace file: `S NAME args = RESULT`, `B n` or `E n`.
@@ -36,7 +36,8 @@ pub fn outcome_text(alloc: Global, outcome: &Outcome) -> Result<Vec<u8>, OutOfMe
 pub fn write_trace(alloc: Global, events: &[Event], end: &TraceEnd) -> Result<Vec<u8>, OutOfMemory>
     requires events { All IsRecorded events.now }
     requires end { IsCountedEnd end.now }
-    ensures { IfOk result (λ text. text.items ≡ trace_text events.now end.now) }
+    ensures text { IfOk result (λ text. text.items ≡ trace_text events.now end.now) }
+    ensures formed { IfOk result (λ text. IsTrace text.items events.now end.now) }
 {
     let mut text = Vec::new(alloc);
     push_bytes(&mut text, b"dyckmon-trace 1\n")?;
@@ -53,7 +54,8 @@ pub fn write_traces(
     records: &[Record],
 ) -> Result<Vec<u8>, OutOfMemory>
     requires { All (λ r. IsRecorded r.event) records.now }
-    ensures { IfOk result (λ text. text.items ≡ traces_text version records.now) }
+    ensures text { IfOk result (λ text. text.items ≡ traces_text version records.now) }
+    ensures formed { IfOk result (λ text. AreTraces text.items version records.now) }
 {
     let head = match version {
         TracesVersion::One => b"dyckmon-traces 1\n",
@@ -68,7 +70,9 @@ pub fn write_traces(
 
 // Adds a line for each event.
 fn push_events(alloc: Global, text: &mut Vec<u8>, events: &[Event]) -> Result<(), OutOfMemory>
-    ensures { OnOk result (text.new.items ≡ text.old.items ++ flat_map event_line events.now) }
+    requires { All IsRecorded events.now }
+    ensures text { OnOk result (text.new.items ≡ text.old.items ++ flat_map event_line events.now) }
+    ensures written { OnOk result (All IsWritten events.now) }
 {
     for event in events {
         push_event(alloc, text, event)?;
@@ -79,7 +83,9 @@ fn push_events(alloc: Global, text: &mut Vec<u8>, events: &[Event]) -> Result<()
 
 // Adds a line for each record.
 fn push_records(alloc: Global, text: &mut Vec<u8>, records: &[Record]) -> Result<(), OutOfMemory>
-    ensures { OnOk result (text.new.items ≡ text.old.items ++ flat_map record_line records.now) }
+    requires { All (λ r. IsRecorded r.event) records.now }
+    ensures text { OnOk result (text.new.items ≡ text.old.items ++ flat_map record_line records.now) }
+    ensures written { OnOk result (All IsWrittenRecord records.now) }
 {
     for one in records {
         push_record(alloc, text, one)?;
@@ -89,7 +95,9 @@ fn push_records(alloc: Global, text: &mut Vec<u8>, records: &[Record]) -> Result
 
 // Adds the line of a record.
 fn push_record(alloc: Global, text: &mut Vec<u8>, one: &Record) -> Result<(), OutOfMemory>
-    ensures { OnOk result (text.new.items ≡ text.old.items ++ record_line one.now) }
+    requires { IsRecorded one.now.event }
+    ensures text { OnOk result (text.new.items ≡ text.old.items ++ record_line one.now) }
+    ensures written { OnOk result (IsWrittenRecord one.now) }
 {
     push_decimal(alloc, text, u64::from(one.pid))?;
     push_bytes(text, b" ")?;
@@ -99,7 +107,9 @@ fn push_record(alloc: Global, text: &mut Vec<u8>, one: &Record) -> Result<(), Ou
 
 // Adds the end line of a trace.
 fn push_end(alloc: Global, text: &mut Vec<u8>, end: &TraceEnd) -> Result<(), OutOfMemory>
-    ensures { OnOk result (text.new.items ≡ text.old.items ++ end_line end.now) }
+    requires { IsCountedEnd end.now }
+    ensures text { OnOk result (text.new.items ≡ text.old.items ++ end_line end.now) }
+    ensures right { OnOk result (IsRightEnd end.now) }
 {
     match end {
         TraceEnd::Open => push_bytes(text, b"end open\n"),
@@ -113,7 +123,9 @@ fn push_end(alloc: Global, text: &mut Vec<u8>, end: &TraceEnd) -> Result<(), Out
 
 // Adds the text of an outcome.
 fn push_outcome(alloc: Global, text: &mut Vec<u8>, outcome: &Outcome) -> Result<(), OutOfMemory>
-    ensures { OnOk result (text.new.items ≡ text.old.items ++ outcome_text outcome.now) }
+    requires { IsCountedOutcome outcome.now }
+    ensures text { OnOk result (text.new.items ≡ text.old.items ++ outcome_text outcome.now) }
+    ensures right { OnOk result (IsRightOutcome outcome.now) }
 {
     match outcome {
         Outcome::Exit(value) => {

@@ -11,3 +11,6 @@ returns-clause-one c = λ text version other records others first then.
 
 pub returns-clause-unrefused : goal.returns-clause-unrefused
 returns-clause-unrefused c = reading.traces_unrefused
+
+pub returns-clause-written : goal.returns-clause-written
+returns-clause-written c text version records are few known short = record { traces = are; few = few; known = known; short = short }

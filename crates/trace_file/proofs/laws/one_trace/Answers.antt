@@ -11,3 +11,6 @@ returns-clause-one c = λ text events others end other first then.
 
 pub returns-clause-unrefused : goal.returns-clause-unrefused
 returns-clause-unrefused c = reading.trace_unrefused
+
+pub returns-clause-written : goal.returns-clause-written
+returns-clause-written c text events end is few short = record { trace = is; few = few; short = short }

@@ -1,4 +1,4 @@
-use Rattle.trace_file.specs.Lines.{trace_line, IsTraceLine}
+use Rattle.trace_file.specs.LineParts.{trace_line, IsTraceLine}
 use Rattle.trace_file.proofs.WholeLines.{whole_line, trace_line_ends}
 use Rattle.trace_file.proofs.lines.read_trace_line.Goals as goal
 

@@ -1,4 +1,4 @@
-use Rattle.trace_file.specs.Lines.{traces_line, IsTracesLine}
+use Rattle.trace_file.specs.LineParts.{traces_line, IsTracesLine}
 use Rattle.trace_file.proofs.WholeLines.{whole_line, traces_line_ends}
 use Rattle.trace_file.proofs.lines.read_traces_line.Goals as goal
 

@@ -10,4 +10,4 @@ take_line-requires-2 g c =
 
 pub returns-clause-shows : goal.returns-clause-shows
 returns-clause-shows g c =
-    subst (λ (t : List ℕ). IfErr c.take_line-2.result (λ error. Shows g.P.Place.reaches g.P.Place.refuses c.args.place.now error t)) (c.deref.ensures.value ∙ c.in_ok-line.ensures) c.take_line-2.ensures.shows
+    subst (λ (t : List ℕ). IfErr c.take_line-2.result (λ error. Shows g.P.Place.reaches (g.P.Place.refuses c.take_line-2.new.place) c.args.place.now error t)) (c.deref.ensures.value ∙ c.in_ok-line.ensures) c.take_line-2.ensures.shows

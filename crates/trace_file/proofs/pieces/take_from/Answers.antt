@@ -7,17 +7,17 @@ use Rattle.trace_file.proofs.pieces.take_from.Goals as goal
 pub returns-in_err-take_first-clause-shows : goal.returns-in_err-take_first-clause-shows
 returns-in_err-take_first-clause-shows g c =
     let p = err_from_is_err_and c.from_residual.result c.from_residual.ensures.1 in
-    rw (p.1, p.2) (shows_on g.P.Place.reaches g.P.Place.refuses c.args.place.now (c.args.tail.now ++ c.args.first.now) c.args.after.now c.in_err-take_first.field-0.0 c.in_err-take_first.ensures.shows)
+    rw (p.1, p.2) (shows_on g.P.Place.reaches (g.P.Place.refuses c.take_first.new.place) c.args.place.now (c.args.tail.now ++ c.args.first.now) c.args.after.now c.in_err-take_first.field-0.0 c.in_err-take_first.ensures.shows)
 
 pub returns-in_err-left-clause-shows : goal.returns-in_err-left-clause-shows
 returns-in_err-left-clause-shows g c =
     let p = err_from_is_err_and c.from_residual-in_err-left.result c.from_residual-in_err-left.ensures.1 in
-    rw (p.1, p.2) (shows_next g.P.Place.reaches g.P.Place.refuses c.args.place.now c.take_first.new.place (c.args.tail.now ++ c.args.first.now) c.args.after.now c.new-items.result.items c.take_first.new.items.items c.in_err-left.field-0.0 c.in_ok-take_first.ensures.takes c.in_err-left.ensures.shows)
+    rw (p.1, p.2) (shows_next g.P.Place.reaches (g.P.Place.refuses c.take_lines.new.place) c.args.place.now c.take_first.new.place (c.args.tail.now ++ c.args.first.now) c.args.after.now c.new-items.result.items c.take_first.new.items.items c.in_err-left.field-0.0 c.in_ok-take_first.ensures.takes c.in_err-left.ensures.shows)
 
 pub returns-in_err-tail-clause-shows : goal.returns-in_err-tail-clause-shows
 returns-in_err-tail-clause-shows g c =
     let p = err_from_is_err_and c.from_residual-in_err-tail.result c.from_residual-in_err-tail.ensures.1 in
-    rw (p.1, p.2) (shows_always g.P.Place.reaches g.P.Place.refuses c.args.place.now (c.args.tail.now ++ c.args.first.now ++ c.args.after.now) OutOfMemory g.met.P.Place.memory)
+    rw (p.1, p.2) (shows_always g.P.Place.reaches (g.P.Place.refuses c.take_lines.new.place) c.args.place.now (c.args.tail.now ++ c.args.first.now ++ c.args.after.now) OutOfMemory (g.met.P.Place.memory c.take_lines.new.place))
 
 pub returns-clause-takes : goal.returns-clause-takes
 returns-clause-takes g c =

@@ -10,7 +10,7 @@ undefined_text : (old mid : List ℕ) (number kind : ℕ) (outcome : Outcome) �
 undefined_text old mid number kind outcome pushed same is =
     rw (pushed, same, is) (append_assoc old (codes "undefined U") (decimal kind))
 
-pub returns-in_ok-push_bytes-in-Undefined : goal.returns-in_ok-push_bytes-in-Undefined
-returns-in_ok-push_bytes-in-Undefined c =
+pub returns-in_ok-push_bytes-in-Undefined-clause-text : goal.returns-in_ok-push_bytes-in-Undefined-clause-text
+returns-in_ok-push_bytes-in-Undefined-clause-text c =
     IfOk-equal _ _ _ _ c.push_decimal.ensures
     (undefined_text _ _ _ _ _ c.in_ok-push_bytes-in-Undefined.ensures (c.from-in-Undefined.ensures ∙ c.number.ensures.number) c.in-Undefined.is)

@@ -1,7 +1,7 @@
 use Rattle.std.proofs.Common.{◌∙◌, ap}
 use Rattle.std.proofs.lemmas.Result.{on_ok_weaker, IfErr-weaker}
 use Rattle.trace_file.specs.declared.traces_place.TracesPlace.{TracesPlace}
-use Rattle.trace_file.specs.Pieces.{Held}
+use Rattle.trace_file.specs.Held.{Held}
 use Rattle.trace_file.proofs.TracesLemmas.{finish_within, finish_refused}
 use Rattle.trace_file.proofs.traces_reader.TracesReader.finish.Goals as goal
 

@@ -2,8 +2,9 @@ use Rattle.std.proofs.Common.{List, ℕ, sym, ◌∙◌, ap, subst}
 use Rattle.std.specs.Prelude.{Option}
 use Rattle.trace_file.specs.declared.traces_place.TracesPlace.{TracesPlace}
 use Rattle.trace_file.specs.declared.version.TracesVersion.{TracesVersion}
-use Rattle.trace_file.specs.Pieces.{Held}
-use Rattle.trace_file.specs.TracesReading.{stage_version, traces_version, BeginsWith}
+use Rattle.trace_file.specs.Held.{Held}
+use Rattle.trace_file.specs.TracesReading.{stage_version, traces_version}
+use Rattle.trace_file.specs.Traces.{BeginsWith}
 use Rattle.trace_file.proofs.TracesLemmas.{begins_with}
 use Rattle.trace_file.proofs.traces_reader.TracesReader.version.Goals as goal
 
