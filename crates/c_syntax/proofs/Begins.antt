@@ -2,8 +2,9 @@
 use Rattle.std.proofs.Common.{◌≡◌, ◌≤◌, ℕ, List, ◌∷◌, refl, arith}
 use Rattle.c_lexer.specs.declared.token.Token.{Token}
 use Rattle.c_lexer.specs.declared.punctuator.TheConstants.{LEFT_PARENTHESIS}
+use Rattle.c_syntax.proofs.Precedence.{rank}
 use Rattle.c_syntax.specs.Tree.{Expr, Exprs, TypeName, Declarator, nothing, Params}
-use Rattle.c_syntax.specs.Tokens.{Is, rank}
+use Rattle.c_syntax.specs.Tokens.{Is}
 use Rattle.c_syntax.specs.Grammar.{primary_level, postfix_level, unary_level, cast_level, binary_level, conditional_level, assignment_level, expression_level, IsThere, HasName}
 use Rattle.c_syntax.specs.Grammar.{ReadsStrings, last_string, next_string, Reads, is_name, is_int, is_char, are_strings, in_parentheses, with_suffixes, no_prefix, a_prefix, a_unary, a_sizeof_type, no_cast, a_cast, no_chain, a_chain}
 use Rattle.c_syntax.specs.Grammar.{no_choice, a_choice, no_assignment, an_assignment, no_comma, a_comma, ReadsList, last_expr, next_expr, ReadsType, a_type}

@@ -5,7 +5,7 @@ use Rattle.c_lexer.specs.declared.token.TokenKind.{TokenKind}
 use Rattle.c_lexer.specs.declared.token.TokenKind.TheVariants.{Name, Keyword, Int, Char, Str, Punct}
 use Rattle.c_lexer.specs.declared.punctuator.TheConstants.{COMMA, SEMICOLON, ASSIGN, RIGHT_PARENTHESIS, LEFT_BRACE}
 use Rattle.c_syntax.specs.Tree.{Prefix, pre_increment, pre_decrement, sizeof}
-use Rattle.c_syntax.specs.Tokens.{Is, IsKeyword, IsNameToken, IsInt, IsChar, IsStr, IsUnary, IsPrefix}
+use Rattle.c_syntax.specs.Tokens.{Is, IsKeyword, IsNameToken, IsInt, IsChar, IsStr, IsUnary, takes_address, indirects, keeps_sign, changes_sign, complements, negates, IsPrefix}
 
 -- 1 a prefix operator other than *, 2 *, 4 (, 6 [, 0 for what begins no expression and no declarator
 abbrev pub start_of_code : ℕ → ℕ
@@ -71,22 +71,17 @@ started_str h = ap start_of_kind h.kind
 pub starts : {i j : List Token} → i ≡ j → start i ≡ start j
 starts e = ap start e
 
--- a sign of 10 to 15 begins an operand of casts
-unary_codes : (k : ℕ) → k ≤ 5 → (1 ≤ start_of_code (k + 10)) × (start_of_code (k + 10) ≤ 2)
-unary_codes zero h = (omega arith, omega arith)
-unary_codes (suc zero) h = (omega arith, omega arith)
-unary_codes (suc (suc zero)) h = (omega arith, omega arith)
-unary_codes (suc (suc (suc zero))) h = (omega arith, omega arith)
-unary_codes (suc (suc (suc (suc zero)))) h = (omega arith, omega arith)
-unary_codes (suc (suc (suc (suc (suc zero))))) h = (omega arith, omega arith)
-unary_codes (suc (suc (suc (suc (suc (suc k)))))) h = absurd (omega arith)
+unary_code : {op : ℕ} → IsUnary op → (1 ≤ start_of_code op) × (start_of_code op ≤ 2)
+unary_code takes_address = (omega arith, omega arith)
+unary_code indirects = (omega arith, omega arith)
+unary_code keeps_sign = (omega arith, omega arith)
+unary_code changes_sign = (omega arith, omega arith)
+unary_code complements = (omega arith, omega arith)
+unary_code negates = (omega arith, omega arith)
 
 -- a unary operator has the number 1 or 2
 pub started_unary : {op : ℕ} {t : Token} → Is op t → IsUnary op → (1 ≤ start_of_kind t.kind) × (start_of_kind t.kind ≤ 2)
-started_unary {op} {t} h u = rw (started h, sym whole) (unary_codes (op - 10) (omega (arith, u.from, u.to)))
-  where
-    whole : op - 10 + 10 ≡ op
-    whole = omega (arith, u.from)
+started_unary h u = rw (started h) (unary_code u)
 
 -- ++, -- and sizeof have the number 1
 pub started_prefix : (t : Token) (p : Prefix) → IsPrefix p t → start_of_kind t.kind ≡ 1

@@ -7,7 +7,7 @@ use Rattle.c_lexer.specs.declared.token.TokenKind.TheVariants.{Name, Keyword, In
 use Rattle.c_lexer.specs.declared.keyword.TheConstants.{ENUM}
 use Rattle.c_lexer.specs.declared.punctuator.TheConstants.{LEFT_BRACE}
 use Rattle.c_syntax.specs.Tree.{Ident, Storage, Spec, Expr, Declarator, Prefix, pre_increment, pre_decrement, sizeof}
-use Rattle.c_syntax.specs.Tokens.{Is, IsKeyword, IsNameToken, IsInt, IsChar, IsStr, IsUnary, IsPrefix}
+use Rattle.c_syntax.specs.Tokens.{Is, IsKeyword, IsNameToken, IsInt, IsChar, IsStr, IsUnary, takes_address, indirects, keeps_sign, changes_sign, complements, negates, IsPrefix}
 use Rattle.c_syntax.specs.Specifiers.{Names, Consts, no_const, a_const, ReadsStorage, no_storage_stands, static_stands, extern_stands}
 use Rattle.c_syntax.specs.Specifiers.{ReadsSpec, is_void, is_char, is_unsigned_char, is_int, is_signed, is_signed_int, is_unsigned, is_unsigned_int, is_struct, is_enum}
 use Rattle.c_syntax.specs.Grammar.{Level, HasName, ReadsStrings, last_string, next_string, Reads, is_name, are_strings, in_parentheses, with_suffixes, no_prefix, a_prefix, a_unary, a_sizeof_type, no_cast, a_cast, no_chain, a_chain, no_choice, a_choice, no_assignment, an_assignment, no_comma, a_comma}
@@ -71,17 +71,13 @@ string_heads : {bytes : List ℕ} {t : Token} → IsStr bytes t → head_of_kind
 unfolding head_of_kind
 string_heads h = ap head_of_kind h.kind
 
-unary_from : (n : ℕ) → n ≤ 5 → head_of_code (10 + n) ≡ 20
-unary_from zero h = refl
-unary_from (suc zero) h = refl
-unary_from (suc (suc zero)) h = refl
-unary_from (suc (suc (suc zero))) h = refl
-unary_from (suc (suc (suc (suc zero)))) h = refl
-unary_from (suc (suc (suc (suc (suc zero))))) h = refl
-unary_from (suc (suc (suc (suc (suc (suc n)))))) h = absurd (omega arith)
-
 unary_code : {op : ℕ} → IsUnary op → head_of_code op ≡ 20
-unary_code {op} p = let e : op ≡ 10 + (op - 10) = omega (arith, p.from) in ap head_of_code e ∙ unary_from (op - 10) (omega (arith, p.to))
+unary_code takes_address = refl
+unary_code indirects = refl
+unary_code keeps_sign = refl
+unary_code changes_sign = refl
+unary_code complements = refl
+unary_code negates = refl
 
 prefix_heads : (p : Prefix) (t : Token) → IsPrefix p t → head_of_kind t.kind ≡ 20
 prefix_heads pre_increment t h = headed h

@@ -35,12 +35,15 @@ pub mod OneSpecifier
 pub mod OneStmt
 pub mod OneUnit
 pub mod Only
+pub mod Precedence
 pub mod Ranks
 pub mod ReadBack
 pub mod Rows
 pub mod StmtCases
 pub mod TokenTexts
 pub mod Trials
+pub mod TrialsLimits
+pub mod TrialsPrinted
 pub mod TrialsRefused
 pub mod Twins
 pub mod UnitRows

@@ -1,8 +1,9 @@
 -- No tokens spell two expressions, type names, declarators or lists of parameters.
 use Rattle.std.proofs.Common.{◌≡◌, ℕ, suc, List, arith}
 use Rattle.c_lexer.specs.declared.token.Token.{Token}
+use Rattle.c_syntax.proofs.Precedence.{assignment_rank, Stops}
 use Rattle.c_syntax.specs.Tree.{Expr, Exprs, Maybe, TypeName, Declarator, Params}
-use Rattle.c_syntax.specs.Grammar.{Level, postfix_level, binary_level, expression_level, Stops}
+use Rattle.c_syntax.specs.Grammar.{Level, postfix_level, binary_level, expression_level}
 use Rattle.c_syntax.specs.Grammar.{Reads, is_name, is_int, is_char, are_strings, in_parentheses, with_suffixes, no_prefix, a_prefix, a_unary, a_sizeof_type, no_cast, a_cast, no_chain, a_chain}
 use Rattle.c_syntax.specs.Grammar.{no_choice, a_choice, no_assignment, an_assignment, no_comma, a_comma, ReadsList, last_expr, next_expr}
 use Rattle.c_syntax.specs.Grammar.{Suffixes, no_suffix, an_index, an_empty_call, a_call, a_member, a_postfix, Chain, no_operator, an_operator, ReadsSize, no_size, a_size, ReadsType, a_type}
@@ -36,7 +37,7 @@ mutual
   only (no_choice r) s = only_no_choice s (only r (omega arith))
   only (a_choice p r q b c g) s = only_choice p q (only r (omega (arith, ranked q))) (only b (omega (arith, ranked c))) (only g s)
   only (no_assignment r) s = only_no_assignment s (only r (omega arith))
-  only (an_assignment p r o u b) s = only_assignment p r o u (only r (omega (arith, ranked o, u.is))) (only b s)
+  only (an_assignment p r o u b) s = only_assignment p r o u (only r (omega (arith, ranked o, assignment_rank u))) (only b s)
   only (no_comma r) s = only_no_comma s (only r (omega arith))
   only (a_comma p r o b) s = only_comma p o (only r (omega (arith, ranked o))) (only_list b s)
 

@@ -3,9 +3,10 @@
 use Rattle.std.proofs.Common.{◌≡◌, ◌≤◌, ◌⊎◌, inl, inr, ℕ, zero, suc, List, ◌∷◌, refl, sym, ap, ◌∙◌, arith}
 use Rattle.c_lexer.specs.declared.token.Token.{Token}
 use Rattle.c_lexer.specs.declared.punctuator.TheConstants.{QUESTION, COMMA}
+use Rattle.c_syntax.proofs.Precedence.{assignment_rank, rank, Stops}
 use Rattle.c_syntax.specs.Tree.{Infix, Expr, comma, binary, assign, conditional, Exprs, no_exprs, more_exprs}
-use Rattle.c_syntax.specs.Tokens.{Is, place, rank, IsInfix, code_of_infix, IsAssignment}
-use Rattle.c_syntax.specs.Grammar.{unary_level, cast_level, binary_level, conditional_level, assignment_level, expression_level, Stops}
+use Rattle.c_syntax.specs.Tokens.{Is, place, IsInfix, code_of_infix, IsAssignment}
+use Rattle.c_syntax.specs.Grammar.{unary_level, cast_level, binary_level, conditional_level, assignment_level, expression_level}
 use Rattle.c_syntax.specs.Grammar.{Reads, no_cast, a_cast, no_chain, a_chain, no_choice, a_choice, no_assignment, an_assignment, no_comma, a_comma, ReadsList, last_expr, next_expr, Chain, no_operator, an_operator}
 use Rattle.c_syntax.proofs.Ranks.{ranked, ranks, apart, heads, ranked_infix, one_infix}
 use Rattle.c_syntax.proofs.Begins.{prefixed_inside, type_begins}
@@ -112,7 +113,7 @@ lead_stops l (inr h) z = (h.0, λ q. omega (arith, h.1))
 at_no_assignment : {x : ℕ} {e f : Expr} {i j k : List Token} → Stops assignment_level j → Only conditional_level e i j → Reads x assignment_level f i k → Stops assignment_level k → (e ≡ f) × (j ≡ k)
 at_no_assignment s h (no_assignment r) z = h.is _ _ _ r (omega arith)
 at_no_assignment s h (an_assignment p r o u b) z =
-    absurd (let v = h.is _ _ _ (lifted r) (omega (arith, ranked o, u.is)) in omega (arith, ranked o, u.is, ranks v.1))
+    absurd (let v = h.is _ _ _ (lifted r) (omega (arith, ranked o, assignment_rank u)) in omega (arith, ranked o, assignment_rank u, ranks v.1))
 
 pub only_no_assignment : {e : Expr} {i j : List Token} → Stops assignment_level j → Only conditional_level e i j → Only assignment_level e i j
 only_no_assignment s h = record { is = λ x f k r z. at_no_assignment s h r z }
@@ -124,9 +125,9 @@ at_operand b h (a_cast o n c r) z = absurd (omega (arith, prefixed_inside b o, (
 
 at_assignment : {d x at op : ℕ} {a b f : Expr} {t : Token} {i j k m : List Token} → at ≡ place i → Reads d unary_level a i (t ∷ j) → Is op t → IsAssignment op → Only unary_level a i (t ∷ j) → Only assignment_level b j k → Reads x assignment_level f i m → Stops assignment_level m → (assign at op a b ≡ f) × (k ≡ m)
 at_assignment p y o u h g (no_assignment r) z =
-    absurd (let l = front r in let s = lead_stops (omega arith) l.rest z in s.1 (sym (ranks (at_operand y h l.reads s.0)) ∙ ranked o ∙ u.is))
+    absurd (let l = front r in let s = lead_stops (omega arith) l.rest z in s.1 (sym (ranks (at_operand y h l.reads s.0)) ∙ ranked o ∙ assignment_rank u))
 at_assignment p y o u h g (an_assignment q r l w b) z =
-    let v = h.is _ _ _ r (omega (arith, ranked l, w.is)) in
+    let v = h.is _ _ _ r (omega (arith, ranked l, assignment_rank w)) in
     let s = g.is _ _ _ (moved (heads v.1).1 b) z in (alike (p ∙ sym q) (one_code o l (heads v.1).0) v.0 s.0, s.1)
   where
     one_code : {c d : ℕ} {t u : Token} → Is c t → Is d u → t ≡ u → c ≡ d

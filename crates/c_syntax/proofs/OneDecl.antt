@@ -2,8 +2,9 @@
 use Rattle.std.proofs.Common.{◌≡◌, ℕ, ◌≤◌, List, ◌∷◌, refl, ap, sym, ◌∙◌, arith}
 use Rattle.c_lexer.specs.declared.token.Token.{Token}
 use Rattle.c_lexer.specs.declared.punctuator.TheConstants.{RIGHT_BRACE, SEMICOLON, COMMA}
+use Rattle.c_syntax.proofs.Precedence.{rank}
 use Rattle.c_syntax.specs.Tree.{Storage, no_storage, Spec, Maybe, Declarator, Init, Inits, MaybeInit, Parts, Decl, First, Labels}
-use Rattle.c_syntax.specs.Tokens.{Is, rank}
+use Rattle.c_syntax.specs.Tokens.{Is}
 use Rattle.c_syntax.specs.Specifiers.{ReadsStorage, static_stands, extern_stands, ReadsSpec}
 use Rattle.c_syntax.specs.Specifiers.ReadsStorage.{no_storage_stands}
 use Rattle.c_syntax.specs.Grammar.{Declares, HasName}

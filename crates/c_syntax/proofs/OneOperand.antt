@@ -3,11 +3,12 @@
 use Rattle.std.proofs.Common.{◌≡◌, ◌≤◌, ℕ, ℤ, Bool, List, ◌∷◌, ◌++◌, refl, sym, ap, ◌∙◌, arith}
 use Rattle.c_lexer.specs.declared.token.Token.{Token}
 use Rattle.c_lexer.specs.declared.punctuator.TheConstants.{LEFT_BRACKET, LEFT_PARENTHESIS, RIGHT_PARENTHESIS}
+use Rattle.c_syntax.proofs.Precedence.{rank, Stops}
 use Rattle.c_syntax.specs.Tree.{Ident, Postfix, Access}
 use Rattle.c_syntax.specs.Tree.{Expr, a_name, an_int, a_char, a_str, call, member, postfix, index, Exprs, no_exprs}
-use Rattle.c_syntax.specs.Tokens.{Is, IsNameToken, IsInt, IsChar, place, rank, IsPostfix, IsAccess}
+use Rattle.c_syntax.specs.Tokens.{Is, IsNameToken, IsInt, IsChar, place, IsPostfix, IsAccess}
 use Rattle.c_syntax.specs.Specifiers.{Names}
-use Rattle.c_syntax.specs.Grammar.{primary_level, postfix_level, expression_level, Stops}
+use Rattle.c_syntax.specs.Grammar.{primary_level, postfix_level, expression_level}
 use Rattle.c_syntax.specs.Grammar.{ReadsStrings, last_string, next_string, Reads, is_name, is_int, is_char, are_strings, in_parentheses, with_suffixes}
 use Rattle.c_syntax.specs.Grammar.{ReadsList, Suffixes, no_suffix, an_index, an_empty_call, a_call, a_member, a_postfix}
 use Rattle.c_syntax.proofs.Ranks.{ranked, ranked_name, ranked_int, ranked_char, apart, one_name, one_int, one_char, one_str, not_name, one_ident, heads, ranked_postfix, ranked_access, one_postfix, one_access, postfix_apart, access_apart, step_apart}

@@ -4,9 +4,10 @@ use Rattle.std.proofs.Common.{◌≡◌, ◌≤◌, ℕ, List, ◌∷◌, refl, 
 use Rattle.c_lexer.specs.declared.token.Token.{Token}
 use Rattle.c_lexer.specs.declared.punctuator.TheConstants.{LEFT_PARENTHESIS}
 use Rattle.c_lexer.specs.declared.keyword.TheConstants.{SIZEOF}
+use Rattle.c_syntax.proofs.Precedence.{unary_low, Stops}
 use Rattle.c_syntax.specs.Tree.{Prefix, pre_increment, pre_decrement, sizeof, Expr, sizeof_type, cast, prefix, unary, TypeName}
 use Rattle.c_syntax.specs.Tokens.{Is, IsKeyword, IsUnary, IsPrefix}
-use Rattle.c_syntax.specs.Grammar.{Level, postfix_level, unary_level, cast_level, Stops}
+use Rattle.c_syntax.specs.Grammar.{Level, postfix_level, unary_level, cast_level}
 use Rattle.c_syntax.specs.Grammar.{Reads, no_prefix, a_prefix, a_unary, a_sizeof_type, no_cast, a_cast, ReadsType}
 use Rattle.c_syntax.proofs.Ranks.{apart, not_word, heads}
 use Rattle.c_syntax.proofs.Ends.{start, started_word, started_unary, started_prefix, parenthesis_ends_declarator}
@@ -27,8 +28,8 @@ one_prefix t sizeof sizeof h k = refl
 
 -- ++, -- and sizeof are no unary operators
 prefix_apart : {op : ℕ} {t : Token} (p : Prefix) → IsPrefix p t → Is op t → IsUnary op → ⊥
-prefix_apart pre_increment h k u = omega (arith, apart h k, u.from)
-prefix_apart pre_decrement h k u = omega (arith, apart h k, u.from)
+prefix_apart pre_increment h k u = omega (arith, apart h k, unary_low u)
+prefix_apart pre_decrement h k u = omega (arith, apart h k, unary_low u)
 prefix_apart sizeof h k u = not_word k h
 
 -- sizeof before a parenthesis with a type in it is no prefix operator

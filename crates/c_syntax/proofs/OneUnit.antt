@@ -3,9 +3,10 @@ use Rattle.std.proofs.Common.{◌≡◌, ℕ, ◌≤◌, List, ◌∷◌, refl, 
 use Rattle.c_lexer.specs.declared.token.Token.{Token}
 use Rattle.c_lexer.specs.declared.punctuator.TheConstants.{LEFT_BRACE, RIGHT_BRACE, SEMICOLON, COMMA}
 use Rattle.c_lexer.specs.declared.keyword.TheConstants.{ENUM, STRUCT}
+use Rattle.c_syntax.proofs.Precedence.{rank}
 use Rattle.c_syntax.specs.Tree.{Ident, Storage, Spec, Maybe, Declarator, Declarators, Members, Enumerators, Tag, Item, Items, BlockItems, Decl}
 use Rattle.c_syntax.specs.Tree.{block, struct_item, enum_item, tag_item, decl_item, function_item}
-use Rattle.c_syntax.specs.Tokens.{Is, IsKeyword, place, rank}
+use Rattle.c_syntax.specs.Tokens.{Is, IsKeyword, place}
 use Rattle.c_syntax.specs.Specifiers.{Names, no_const, ReadsStorage, ReadsSpec, is_struct, is_enum}
 use Rattle.c_syntax.specs.Grammar.{Declares, HasName}
 use Rattle.c_syntax.specs.Statements.{ReadsDecl, ReadsBlockItems}

@@ -2,9 +2,9 @@
 -- and leaves the same tokens.
 use Rattle.std.proofs.Common.{◌≡◌, ◌≤◌, ℕ, suc, List}
 use Rattle.c_lexer.specs.declared.token.Token.{Token}
+use Rattle.c_syntax.proofs.Precedence.{rank, Stops}
 use Rattle.c_syntax.specs.Tree.{Expr, Exprs, Maybe, TypeName, Declarator, Params}
-use Rattle.c_syntax.specs.Tokens.{rank}
-use Rattle.c_syntax.specs.Grammar.{Level, postfix_level, binary_level, expression_level, Stops, Reads, ReadsList, Suffixes, Chain, ReadsSize, ReadsType, Declares, ReadsCore, Lengthens, ReadsParams, ReadsEach}
+use Rattle.c_syntax.specs.Grammar.{Level, postfix_level, binary_level, expression_level, Reads, ReadsList, Suffixes, Chain, ReadsSize, ReadsType, Declares, ReadsCore, Lengthens, ReadsParams, ReadsEach}
 use Rattle.c_syntax.proofs.Ends.{start, EndsDeclarator}
 
 -- a bracket, a brace or a semicolon that closes: nothing goes on with it and nothing begins with it

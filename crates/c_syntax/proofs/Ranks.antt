@@ -2,8 +2,9 @@
 use Rattle.std.proofs.Common.{◌≡◌, ◌≤◌, ℕ, ℤ, Bool, suc, ◌+◌, List, ◌∷◌, refl, sym, ap, ◌∙◌, arith}
 use Rattle.c_lexer.specs.declared.token.Token.{Token}
 use Rattle.c_lexer.specs.declared.token.TokenKind.TheVariants.{Name, Keyword, Int, Char, Str, Punct}
+use Rattle.c_syntax.proofs.Precedence.{infix_rank, operator_low, and_level, or_level, rank_of_code, rank_of_kind, rank}
 use Rattle.c_syntax.specs.Tree.{Ident, Infix, and, or, operator}
-use Rattle.c_syntax.specs.Tokens.{Is, IsKeyword, IsNameToken, IsInt, IsChar, IsStr, rank_of_code, rank_of_kind, rank, IsInfix, code_of_infix, IsPostfix, IsAccess}
+use Rattle.c_syntax.specs.Tokens.{Is, IsKeyword, IsNameToken, IsInt, IsChar, IsStr, IsInfix, code_of_infix, IsPostfix, IsAccess}
 use Rattle.c_syntax.specs.Tree.{Postfix, post_increment, post_decrement, Access, dot, arrow}
 use Rattle.c_syntax.specs.Specifiers.{Names}
 
@@ -83,20 +84,20 @@ heads e = (cc, cc)
 
 -- an operator of the level n + 1 has the rank n + 2
 pub ranked_infix : {t : Token} (n : ℕ) (o : Infix) → IsInfix o (suc n) → Is (code_of_infix o) t → rank_of_kind t.kind ≡ n + 2
-ranked_infix n and h k = omega (arith, ranked k)
-ranked_infix n or h k = omega (arith, ranked k)
-ranked_infix n (operator code) h k = omega (arith, ranked k, h.0)
+ranked_infix n and h k = omega (arith, ranked k, infix_rank h)
+ranked_infix n or h k = omega (arith, ranked k, infix_rank h)
+ranked_infix n (operator code) h k = omega (arith, ranked k, infix_rank h)
 
 -- the operator of a level is fixed by its token
 pub one_infix : {t : Token} (n : ℕ) (o p : Infix) → IsInfix o (suc n) → IsInfix p (suc n) → Is (code_of_infix o) t → Is (code_of_infix p) t → o ≡ p
 one_infix n and and h k l m = refl
-one_infix n and or h k l m = absurd (omega arith)
-one_infix n and (operator code) h k l m = absurd (omega (arith, k.1))
-one_infix n or and h k l m = absurd (omega arith)
+one_infix n and or h k l m = absurd (omega (arith, and_level h, or_level k))
+one_infix n and (operator code) h k l m = absurd (omega (arith, and_level h, operator_low k))
+one_infix n or and h k l m = absurd (omega (arith, or_level h, and_level k))
 one_infix n or or h k l m = refl
-one_infix n or (operator code) h k l m = absurd (omega (arith, k.1))
-one_infix n (operator code) and h k l m = absurd (omega (arith, h.1))
-one_infix n (operator code) or h k l m = absurd (omega (arith, h.1))
+one_infix n or (operator code) h k l m = absurd (omega (arith, or_level h, operator_low k))
+one_infix n (operator code) and h k l m = absurd (omega (arith, operator_low h, and_level k))
+one_infix n (operator code) or h k l m = absurd (omega (arith, operator_low h, or_level k))
 one_infix n (operator code) (operator other) h k l m = ap operator (apart l m)
 
 -- a step after an operand has the rank 1

@@ -9,7 +9,7 @@ use Rattle.c_syntax.specs.Tree.{no_exprs, more_exprs, absent, there, type_name, 
 use Rattle.c_syntax.specs.Tree.{one, list, no_inits, more_inits, an_init, no_parts, more_parts, decl, first_decl, no_labels, case_label, default_label}
 use Rattle.c_syntax.specs.Tree.{block, empty, only_if, if_else, for_loop, switch_on, break_off, no_block_items, no_stmts, more_stmts, no_groups, more_groups}
 use Rattle.c_syntax.specs.Tree.{no_enumerators, more_enumerators, tag, enum_item, function_item, return_from, block_stmt}
-use Rattle.c_syntax.specs.Tokens.{Is, IsKeyword, IsNameToken, IsInt, IsStr, place, IsInfix, code_of_infix}
+use Rattle.c_syntax.specs.Tokens.{Is, IsKeyword, IsNameToken, IsInt, IsStr, place, changes_sign, assigns, assigns_sum, IsInfix, multiplies, adds, subtracts, shifts_left, is_less, is_equal, ands_bits, xors_bits, ors_bits, ands, ors, code_of_infix}
 use Rattle.c_syntax.specs.Specifiers.{no_const, a_const, no_storage_stands, static_stands, ReadsSpec, is_void, is_unsigned_char, is_int, is_struct}
 use Rattle.c_syntax.specs.Grammar.{primary_level, unary_level, cast_level, binary_level, conditional_level, assignment_level, expression_level, last_string, next_string}
 use Rattle.c_syntax.specs.Grammar.{Reads, is_name, is_int, are_strings, in_parentheses, with_suffixes, no_prefix, a_unary, a_sizeof_type, no_cast, a_cast, no_chain, a_chain, no_choice, a_choice, no_assignment, an_assignment, no_comma, a_comma}
@@ -45,7 +45,7 @@ from_primary r = from_casting (no_cast (as_prefixed r))
 assigned : {d : ℕ} {e : Expr} {i j : List Token} → Reads d primary_level e i j → Reads d assignment_level e i j
 assigned r = no_assignment (from_primary r)
 
-whole : {d : ℕ} {e : Expr} {i j : List Token} → Reads d primary_level e i j → Reads d expression_level e i j
+pub whole : {d : ℕ} {e : Expr} {i j : List Token} → Reads d primary_level e i j → Reads d expression_level e i j
 whole r = from_choosing (from_primary r)
 
 infix_of : (n : ℕ) {d : ℕ} {o : Infix} {a b : Expr} {t : Token} {i j k : List Token} → IsInfix o (suc n) → Reads d primary_level a i (t ∷ j) → Is (code_of_infix o) t → Reads d primary_level b j k → Reads d (binary_level (suc n)) (binary (place i) o a b) i k
@@ -81,7 +81,7 @@ minus_of_cast h o w c g =
     from_choosing
     (from_casting
     (no_cast
-    (a_unary h (record { from = omega arith; to = omega arith }) (a_cast o (a_type refl (is_int no_const w no_const) (a_direct refl no_core no_more) tt) c (no_cast (as_prefixed (is_name g)))))))
+    (a_unary h changes_sign (a_cast o (a_type refl (is_int no_const w no_const) (a_direct refl no_core no_more) tt) c (no_cast (as_prefixed (is_name g)))))))
 
 -- sizeof ( int * )
 size_of_pointer : {t o g s c : Token} → IsKeyword w.SIZEOF t → Is 2 o → IsKeyword w.INT g → Is 11 s → Is 3 c → Reads 0 expression_level (sizeof_type t.from (type_name g.from int (pointer s.from nothing))) (t ∷ o ∷ g ∷ s ∷ c ∷ []) []
@@ -92,44 +92,44 @@ each_level : {a b : List ℕ} {t u v : Token} → IsNameToken a t → IsNameToke
 each_level h g n m q s = weaker m (suc n) (infix_of n q (is_name h) s (is_name g))
 
 product : {a b : List ℕ} {t u v : Token} → IsNameToken a t → Is 11 u → IsNameToken b v → Reads 0 (binary_level 10) (binary t.from (operator 11) (a_name t.from a) (a_name v.from b)) (t ∷ u ∷ v ∷ []) []
-product h s g = each_level h g 0 9 (refl, omega arith) s
+product h s g = each_level h g 0 9 multiplies s
 
 sum : {a b : List ℕ} {t u v : Token} → IsNameToken a t → Is 12 u → IsNameToken b v → Reads 0 (binary_level 10) (binary t.from (operator 12) (a_name t.from a) (a_name v.from b)) (t ∷ u ∷ v ∷ []) []
-sum h s g = each_level h g 1 8 (refl, omega arith) s
+sum h s g = each_level h g 1 8 adds s
 
 shift : {a b : List ℕ} {t u v : Token} → IsNameToken a t → Is 18 u → IsNameToken b v → Reads 0 (binary_level 10) (binary t.from (operator 18) (a_name t.from a) (a_name v.from b)) (t ∷ u ∷ v ∷ []) []
-shift h s g = each_level h g 2 7 (refl, omega arith) s
+shift h s g = each_level h g 2 7 shifts_left s
 
 less : {a b : List ℕ} {t u v : Token} → IsNameToken a t → Is 20 u → IsNameToken b v → Reads 0 (binary_level 10) (binary t.from (operator 20) (a_name t.from a) (a_name v.from b)) (t ∷ u ∷ v ∷ []) []
-less h s g = each_level h g 3 6 (refl, omega arith) s
+less h s g = each_level h g 3 6 is_less s
 
 equal : {a b : List ℕ} {t u v : Token} → IsNameToken a t → Is 24 u → IsNameToken b v → Reads 0 (binary_level 10) (binary t.from (operator 24) (a_name t.from a) (a_name v.from b)) (t ∷ u ∷ v ∷ []) []
-equal h s g = each_level h g 4 5 (refl, omega arith) s
+equal h s g = each_level h g 4 5 is_equal s
 
 bits : {a b : List ℕ} {t u v : Token} → IsNameToken a t → Is 10 u → IsNameToken b v → Reads 0 (binary_level 10) (binary t.from (operator 10) (a_name t.from a) (a_name v.from b)) (t ∷ u ∷ v ∷ []) []
-bits h s g = each_level h g 5 4 (refl, omega arith) s
+bits h s g = each_level h g 5 4 ands_bits s
 
 differ : {a b : List ℕ} {t u v : Token} → IsNameToken a t → Is 26 u → IsNameToken b v → Reads 0 (binary_level 10) (binary t.from (operator 26) (a_name t.from a) (a_name v.from b)) (t ∷ u ∷ v ∷ []) []
-differ h s g = each_level h g 6 3 (refl, omega arith) s
+differ h s g = each_level h g 6 3 xors_bits s
 
 any_bit : {a b : List ℕ} {t u v : Token} → IsNameToken a t → Is 27 u → IsNameToken b v → Reads 0 (binary_level 10) (binary t.from (operator 27) (a_name t.from a) (a_name v.from b)) (t ∷ u ∷ v ∷ []) []
-any_bit h s g = each_level h g 7 2 (refl, omega arith) s
+any_bit h s g = each_level h g 7 2 ors_bits s
 
 both : {a b : List ℕ} {t u v : Token} → IsNameToken a t → Is 28 u → IsNameToken b v → Reads 0 (binary_level 10) (binary t.from and (a_name t.from a) (a_name v.from b)) (t ∷ u ∷ v ∷ []) []
-both h s g = each_level h g 8 1 refl s
+both h s g = each_level h g 8 1 ands s
 
 either : {a b : List ℕ} {t u v : Token} → IsNameToken a t → Is 29 u → IsNameToken b v → Reads 0 (binary_level 10) (binary t.from or (a_name t.from a) (a_name v.from b)) (t ∷ u ∷ v ∷ []) []
-either h s g = each_level h g 9 0 refl s
+either h s g = each_level h g 9 0 ors s
 
 -- a + b * c: the product is the right operand
 sum_of_product : {a b c : List ℕ} {t u v x y : Token} → IsNameToken a t → Is 12 u → IsNameToken b v → Is 11 x → IsNameToken c y → Reads 0 (binary_level 2) (binary t.from (operator 12) (a_name t.from a) (binary v.from (operator 11) (a_name v.from b) (a_name y.from c))) (t ∷ u ∷ v ∷ x ∷ y ∷ []) []
-sum_of_product h s g q f = a_chain refl (as_chain 1 (no_cast (as_prefixed (is_name h)))) (an_operator (refl, omega arith) s (infix_of 0 (refl, omega arith) (is_name g) q (is_name f)) no_operator)
+sum_of_product h s g q f = a_chain refl (as_chain 1 (no_cast (as_prefixed (is_name h)))) (an_operator adds s (infix_of 0 multiplies (is_name g) q (is_name f)) no_operator)
 
 -- a - b - c: the left difference is the left operand
 two_differences : {a b c : List ℕ} {t u v x y : Token} → IsNameToken a t → Is 13 u → IsNameToken b v → Is 13 x → IsNameToken c y → Reads 0 (binary_level 2) (binary t.from (operator 13) (binary t.from (operator 13) (a_name t.from a) (a_name v.from b)) (a_name y.from c)) (t ∷ u ∷ v ∷ x ∷ y ∷ []) []
 two_differences h s g q f =
     a_chain refl (as_chain 1 (no_cast (as_prefixed (is_name h))))
-    (an_operator (refl, omega arith) s (as_chain 1 (no_cast (as_prefixed (is_name g)))) (an_operator (refl, omega arith) q (as_chain 1 (no_cast (as_prefixed (is_name f)))) no_operator))
+    (an_operator subtracts s (as_chain 1 (no_cast (as_prefixed (is_name g)))) (an_operator subtracts q (as_chain 1 (no_cast (as_prefixed (is_name f)))) no_operator))
 
 -- a ? b : c
 choice : {a b c : List ℕ} {t u v x y : Token} → IsNameToken a t → Is 30 u → IsNameToken b v → Is 31 x → IsNameToken c y → Reads 0 expression_level (conditional t.from (a_name t.from a) (a_name v.from b) (a_name y.from c)) (t ∷ u ∷ v ∷ x ∷ y ∷ []) []
@@ -139,7 +139,7 @@ choice h s g q f = from_choosing (a_choice refl (as_chain 10 (no_cast (as_prefix
 two_assignments : {a b c : List ℕ} {t u v x y : Token} → IsNameToken a t → Is 33 u → IsNameToken b v → Is 37 x → IsNameToken c y → Reads 0 expression_level (assign t.from 33 (a_name t.from a) (assign v.from 37 (a_name v.from b) (a_name y.from c))) (t ∷ u ∷ v ∷ x ∷ y ∷ []) []
 two_assignments h s g q f =
     no_comma
-    (an_assignment refl (as_prefixed (is_name h)) s (record { is = refl }) (an_assignment refl (as_prefixed (is_name g)) q (record { is = refl }) (assigned (is_name f))))
+    (an_assignment refl (as_prefixed (is_name h)) s assigns (an_assignment refl (as_prefixed (is_name g)) q assigns_sum (assigned (is_name f))))
 
 -- a , b , c: one node with three members
 three_members : {a b c : List ℕ} {t u v x y : Token} → IsNameToken a t → Is 44 u → IsNameToken b v → Is 44 x → IsNameToken c y → Reads 0 expression_level (comma t.from (more_exprs (a_name t.from a) (more_exprs (a_name v.from b) (more_exprs (a_name y.from c) no_exprs)))) (t ∷ u ∷ v ∷ x ∷ y ∷ []) []

@@ -1,7 +1,7 @@
 -- Expressions, type names and declarators (C99 6.5, 6.7.5, 6.7.6), by one case for each form. A phrase is a part of the list of
 -- tokens: from i, where it begins, to j, which follows it. The number d says in how many pairs of parentheses that make no
 -- node a token of the phrase may stand.
-use Rattle.std.specs.Prelude.{◌≡◌, ℕ, ℤ, Bool, zero, suc, ◌+◌, ◌≤◌, List, ◌∷◌, ◌++◌}
+use Rattle.std.specs.Prelude.{◌≡◌, ℕ, ℤ, Bool, zero, suc, List, ◌∷◌, ◌++◌}
 use Rattle.c_lexer.specs.declared.token.Token.{Token}
 use Rattle.c_lexer.specs.declared.punctuator.TheConstants.{LEFT_BRACKET, RIGHT_BRACKET, LEFT_PARENTHESIS, RIGHT_PARENTHESIS, ASTERISK, QUESTION, COLON, COMMA}
 use Rattle.c_lexer.specs.declared.keyword.TheConstants.{SIZEOF}
@@ -9,7 +9,7 @@ use Rattle.c_syntax.specs.Tree.{Ident, Spec, void, Postfix, Prefix, Access, Infi
 use Rattle.c_syntax.specs.Tree.{Expr, a_name, an_int, a_char, a_str, comma, sizeof_type, cast, call, member, postfix, prefix, unary, index, binary, assign, conditional}
 use Rattle.c_syntax.specs.Tree.{Exprs, no_exprs, more_exprs, Maybe, absent, there, TypeName, type_name}
 use Rattle.c_syntax.specs.Tree.{Declarator, nothing, named, pointer, array, function, Params, no_params, more_params}
-use Rattle.c_syntax.specs.Tokens.{Is, IsKeyword, IsNameToken, IsInt, IsChar, IsStr, place, rank, IsInfix, code_of_infix, IsAssignment, IsUnary, IsPostfix, IsPrefix, IsAccess}
+use Rattle.c_syntax.specs.Tokens.{Is, IsKeyword, IsNameToken, IsInt, IsChar, IsStr, place, IsInfix, code_of_infix, IsAssignment, IsUnary, IsPostfix, IsPrefix, IsAccess}
 use Rattle.c_syntax.specs.Specifiers.{Names, Consts, ReadsSpec}
 
 -- The levels of precedence: primary, postfix, unary and cast expressions; binary_level n has the binary operators of the levels
@@ -18,21 +18,6 @@ pub data Level : Type 0 where
   primary_level postfix_level unary_level cast_level : Level
   binary_level : ℕ → Level
   conditional_level assignment_level expression_level : Level
-
--- an expression of the level goes on only with tokens of a lower rank
-abbrev pub bound : Level → ℕ
-bound primary_level = 1
-bound postfix_level = 2
-bound unary_level = 2
-bound cast_level = 2
-bound (binary_level n) = n + 2
-bound conditional_level = 13
-bound assignment_level = 14
-bound expression_level = 15
-
--- what follows does not continue an expression of the level
-abbrev pub Stops : Level → List Token → Type 0
-Stops l ts = bound l ≤ rank ts
 
 -- a name, or what is made of one, stands in the declarator
 abbrev pub IsThere : Declarator → Type 0

@@ -1,4 +1,4 @@
--- How the text grows while it is written.
+-- For private contracts and proofs alone: how the text grows while it is written.
 use Rattle.std.specs.Prelude.{◌≡◌, ℕ, ◌+◌, ◌/◌, ◌%◌, Bool, true, false, Option, Some, None, List, [], ◌∷◌, ◌++◌, Box}
 use Rattle.std.specs.Global.{Global}
 use Rattle.c_lexer.specs.declared.token.TokenKind.{TokenKind}

@@ -1,4 +1,4 @@
--- Statements and units while they are written: lists of trees of Rust as terms, and the tokens of single parts.
+-- For private contracts and proofs alone: statements and units while they are written: lists of trees of Rust as terms, and the tokens of single parts.
 use Rattle.std.specs.Prelude.{ℕ, Bool, true, false, Option, Some, None, List, [], ◌∷◌, Box}
 use Rattle.std.specs.Global.{Global}
 use Rattle.c_lexer.specs.declared.token.TokenKind.TheVariants.{Name, Keyword, Punct}
