@@ -48,7 +48,7 @@ no_pointer Uint u q = let e : 4 ≡ 5 = ap form q in omega (arith, e)
 fits : (z : ℤ) → fits_int z ≡ true → FitsSigned w32 z
 fits z h = grind (arith, ints, h)
 
-below_32 : (z : ℤ) → low_bits 32 z < 4294967296
+pub below_32 : (z : ℤ) → low_bits 32 z < 4294967296
 below_32 (pos a) = omega arith
 below_32 (negsuc a) = omega arith
 

@@ -1,3 +1,4 @@
+pub mod Constants
 pub mod Functions
 pub mod Inside
 pub mod Kinds
@@ -5,6 +6,7 @@ pub mod Layout
 pub mod Operands
 pub mod OperatorTypes
 pub mod Operators
+pub mod PatternsRight
 pub mod Program
 pub mod Sites
 pub mod Tree

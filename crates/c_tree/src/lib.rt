@@ -7,7 +7,7 @@ mod program;
 mod tree;
 mod value;
 
-pub use laws::operators_keep_types;
+pub use laws::{operators_keep_types, patterns_are_right};
 pub use program::Program;
 pub use tree::{
     CType, Function, Static, StructMembers, TExpr, TExprKind, TGroup, TInit, TLabel, TStmt,
