@@ -1,3 +1,4 @@
+pub mod CountLemmas
 pub mod LayoutTrials
 pub mod OperatorLemmas
 pub mod OperatorTrials

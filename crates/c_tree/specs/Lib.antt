@@ -1,4 +1,5 @@
 pub mod Constants
+pub mod Counts
 pub mod Functions
 pub mod Inside
 pub mod Kinds

@@ -3,11 +3,13 @@
 #![tactic(auto)]
 
 mod laws;
+mod layout;
 mod program;
 mod tree;
 mod value;
 
 pub use laws::{operators_keep_types, patterns_are_right};
+pub use layout::cells_of;
 pub use program::Program;
 pub use tree::{
     CType, Function, Static, StructMembers, TExpr, TExprKind, TGroup, TInit, TLabel, TStmt,

@@ -1,9 +1,12 @@
-ghost use Rattle.std.specs.Prelude.{◌≡◌, ℕ, ◌+◌, ◌<◌, Some, slice_get};
+ghost use Rattle.std.specs.Prelude.{◌≡◌, ℕ, ◌+◌, ◌<◌, Some, map, slice_get};
 ghost use Rattle.c_tree.specs.Functions.{defined, name_of_function};
 ghost use Rattle.c_tree.specs.Program.{IsProgram};
-ghost use Rattle.c_tree.specs.View.{program_of};
+ghost use Rattle.c_tree.specs.Counts.{AreCounts};
+ghost use Rattle.c_tree.specs.Layout.{cells};
+ghost use Rattle.c_tree.specs.Operands.{IsObject};
+ghost use Rattle.c_tree.specs.View.{members_in, ctype_of, program_of};
 
-use crate::{Function, Static, StructMembers};
+use crate::{CType, Function, Static, StructMembers, cells_of};
 use dm_base::SysName;
 use sys_table::name_text;
 
@@ -18,6 +21,7 @@ pub struct Program {
     main: u32,
     statics: Vec<Static>,
     sites: u32,
+    struct_cells: Vec<u32>,
 }
 
 impl std::marker::Model for Program {
@@ -43,15 +47,18 @@ impl std::marker::Model for Program {
 }
 
 impl Program {
-    /// The program with these parts and so many call expressions.
+    /// The program with these parts and so many call expressions; `struct_cells` holds the number of cells of
+    /// each struct that has a definition, at its number.
     pub fn of(
         structs: Vec<StructMembers>,
         functions: Vec<Function>,
         main: u32,
         statics: Vec<Static>,
         sites: u32,
+        struct_cells: Vec<u32>,
     ) -> Program
-        requires { IsProgram (program_of (record { structs = structs.items; functions = functions.items; main = main; statics = statics.items })) sites }
+        requires typed { IsProgram (program_of (record { structs = structs.items; functions = functions.items; main = main; statics = statics.items })) sites }
+        requires counts { AreCounts (map members_in structs.items) struct_cells.items }
         ensures { result ≡ record { structs = structs.items; functions = functions.items; main = main; statics = statics.items } }
     {
         Program {
@@ -60,6 +67,7 @@ impl Program {
             main,
             statics,
             sites,
+            struct_cells,
         }
     }
 
@@ -121,5 +129,13 @@ impl Program {
         ensures { result.now ≡ self.now.structs }
     {
         &self.structs
+    }
+
+    /// How many cells an object of this type has.
+    pub fn cells_of(&self, t: &CType) -> u32
+        requires { IsObject (program_of self.now).structs (ctype_of t.now) }
+        ensures { result ≡ cells (program_of self.now).structs (ctype_of t.now) }
+    {
+        cells_of(&self.struct_cells, t)
     }
 }
