@@ -11,3 +11,5 @@ pub mod Runs
 pub mod Points
 pub mod Stray
 pub mod Nodes
+pub mod Rising
+pub mod Valid

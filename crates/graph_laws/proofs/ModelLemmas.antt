@@ -20,14 +20,14 @@ use Rattle.graph_laws.proofs.Edges.{is_first, is_later}
 use Rattle.graph_laws.proofs.SortedLemmas.{sorted_from, sorted_has}
 use Rattle.graph_laws.proofs.Functions.{entry_at, one_call}
 
-silent_from : (es : List Edge) (a b : ℕ) → Contains (silent_edges es) (record { from = a; to = b }) → Contains es (edge a Silent b)
+pub silent_from : (es : List Edge) (a b : ℕ) → Contains (silent_edges es) (record { from = a; to = b }) → Contains es (edge a Silent b)
 silent_from [] a b h = absurd (omega (arith, h.1))
 silent_from (edge x Silent y ∷ es) a b (zero, lt, is) = (0, omega arith, ap (λ (e : SilentEdge). edge e.from Silent e.to) is)
 silent_from (edge x Silent y ∷ es) a b (suc k, lt, is) = is_later (edge x Silent y) es (edge a Silent b) (silent_from es a b (k, omega arith, is))
 silent_from (edge x (System n q) y ∷ es) a b h = is_later (edge x (System n q) y) es (edge a Silent b) (silent_from es a b h)
 silent_from (edge x (Site s) y ∷ es) a b h = is_later (edge x (Site s) y) es (edge a Silent b) (silent_from es a b h)
 
-sys_from : (es : List Edge) (a n : ℕ) (q : List (Option ℤ)) (b : ℕ) → Contains (sys_edges es) (record { from = a; name = n; to = b; args = q }) → Contains es (edge a (System n q) b)
+pub sys_from : (es : List Edge) (a n : ℕ) (q : List (Option ℤ)) (b : ℕ) → Contains (sys_edges es) (record { from = a; name = n; to = b; args = q }) → Contains es (edge a (System n q) b)
 sys_from [] a n q b h = absurd (omega (arith, h.1))
 sys_from (edge x Silent y ∷ es) a n q b h = is_later (edge x Silent y) es (edge a (System n q) b) (sys_from es a n q b h)
 sys_from (edge x (System m p) y ∷ es) a n q b (zero, lt, is) = (0, omega arith, ap (λ (e : SysEdge). edge e.from (System e.name e.args) e.to) is)
@@ -38,14 +38,14 @@ sys_from (edge x (Site s) y ∷ es) a n q b h = is_later (edge x (Site s) y) es 
 abbrev call_at : (ℕ → List ℕ) → ℕ → ℕ → ℕ → Call
 call_at candidates a s b = record { from = a; site = s; to = b; candidates = sorted nat_cmp (candidates s) }
 
-record Called (candidates : ℕ → List ℕ) (es : List Edge) (c : Call) : Type 0 where
-  has : Contains es (edge c.from (Site c.site) c.to)
-  are : c.candidates ≡ sorted nat_cmp (candidates c.site)
+pub record Called (candidates : ℕ → List ℕ) (es : List Edge) (c : Call) : Type 0 where
+  pub has : Contains es (edge c.from (Site c.site) c.to)
+  pub are : c.candidates ≡ sorted nat_cmp (candidates c.site)
 
 later_call : (candidates : ℕ → List ℕ) (e : Edge) (es : List Edge) (c : Call) → Called candidates es c → Called candidates (e ∷ es) c
 later_call candidates e es c h = record { has = is_later e es (edge c.from (Site c.site) c.to) (h.has); are = h.are }
 
-call_from : (candidates : ℕ → List ℕ) (es : List Edge) (c : Call) → Contains (calls candidates es) c → Called candidates es c
+pub call_from : (candidates : ℕ → List ℕ) (es : List Edge) (c : Call) → Contains (calls candidates es) c → Called candidates es c
 call_from candidates [] c h = absurd (omega (arith, h.1))
 call_from candidates (edge x Silent y ∷ es) c h = later_call candidates (edge x Silent y) es c (call_from candidates es c h)
 call_from candidates (edge x (System n q) y ∷ es) c h = later_call candidates (edge x (System n q) y) es c (call_from candidates es c h)
@@ -80,29 +80,29 @@ puts candidates (d ∷ es) e (zero, lt, is) = subst (λ e. Puts candidates (d �
 puts candidates (d ∷ es) e (suc k, lt, is) = put_later candidates d es e (puts candidates es e (k, omega arith, is))
 
 -- the function f of those from the node n on
-record Made (n : ℕ) (fs : List Shape) (made : List ModelFunction) (f : ℕ) : Type 0 where
-  one : ModelFunction
-  has : slice_get made f ≡ Some one
-  begins : one.entry ≡ entry_at fs n f
-  ends : one.exit ≡ entry_at fs n f + 1
+pub record Made (n : ℕ) (fs : List Shape) (made : List ModelFunction) (f : ℕ) : Type 0 where
+  pub one : ModelFunction
+  pub has : slice_get made f ≡ Some one
+  pub begins : one.entry ≡ entry_at fs n f
+  pub ends : one.exit ≡ entry_at fs n f + 1
 
-made : (n : ℕ) (names : List (List ℕ)) (fs : List Shape) (f : ℕ) → length names ≡ length fs → f < length fs → Made n fs (functions_from n names fs) f
+pub made : (n : ℕ) (names : List (List ℕ)) (fs : List Shape) (f : ℕ) → length names ≡ length fs → f < length fs → Made n fs (functions_from n names fs) f
 made n [] [] f e lt = absurd (omega (arith, lt))
 made n [] (S ∷ fs) f e lt = absurd (omega (arith, e))
 made n (name ∷ names) [] f e lt = absurd (omega (arith, e))
 made n (name ∷ names) (S ∷ fs) zero e lt = record { one = record { name = name; entry = n; exit = n + 1 }; has = refl; begins = refl; ends = refl }
 made n (name ∷ names) (S ∷ fs) (suc f) e lt = let r = made (n + 2 + width S) names fs f (omega (arith, e)) (omega (arith, lt)) in record { one = r.one; has = r.has; begins = r.begins; ends = r.ends }
 
-record Known (n : ℕ) (fs : List Shape) (f : ℕ) (one : ModelFunction) : Type 0 where
-  below : f < length fs
-  begins : one.entry ≡ entry_at fs n f
-  ends : one.exit ≡ entry_at fs n f + 1
+pub record Known (n : ℕ) (fs : List Shape) (f : ℕ) (one : ModelFunction) : Type 0 where
+  pub below : f < length fs
+  pub begins : one.entry ≡ entry_at fs n f
+  pub ends : one.exit ≡ entry_at fs n f + 1
 
 abbrev KnownOf : ℕ → List Shape → ℕ → Option ModelFunction → Type 0
 KnownOf n fs f None = ⊥
 KnownOf n fs f (Some one) = Known n fs f one
 
-known : (n : ℕ) (names : List (List ℕ)) (fs : List Shape) (f : ℕ) (one : ModelFunction) → slice_get (functions_from n names fs) f ≡ Some one → Known n fs f one
+pub known : (n : ℕ) (names : List (List ℕ)) (fs : List Shape) (f : ℕ) (one : ModelFunction) → slice_get (functions_from n names fs) f ≡ Some one → Known n fs f one
 known n [] fs f one h = absurd (cc)
 known n (name ∷ names) [] f one h = absurd (cc)
 known n (name ∷ names) (S ∷ fs) zero one h = subst (λ o. KnownOf n (S ∷ fs) 0 o) h (record { below = omega arith; begins = refl; ends = refl })

@@ -41,7 +41,7 @@ module _ {X : Type 0} (order : X → X → Ordering) where
   insert_keeps x [] z h = none_of (λ z. Contains (insert order x []) z) z h
   insert_keeps x (y ∷ ys) z h = place_keeps (order x y) x y ys (insert order x ys) z h (λ k. insert_keeps x ys z k)
 
-  insert_from : (x : X) (ys : List X) (z : X) → Contains (insert order x ys) z → (x ≡ z) ⊎ Contains ys z
+  pub insert_from : (x : X) (ys : List X) (z : X) → Contains (insert order x ys) z → (x ≡ z) ⊎ Contains ys z
   insert_from x [] z h = cases x [] z h
   insert_from x (y ∷ ys) z h = place_from (order x y) x y ys (insert order x ys) z h (λ k. insert_from x ys z k)
 

@@ -32,14 +32,14 @@ calls candidates [] = []
 calls candidates (edge a Silent b ∷ es) = calls candidates es
 calls candidates (edge a (System x q) b ∷ es) = calls candidates es
 calls candidates (edge a (Site s) b ∷ es) =
-  record { from = a; site = s; to = b; candidates = sorted nat_cmp (candidates s) } ∷ calls candidates es
+    record { from = a; site = s; to = b; candidates = sorted nat_cmp (candidates s) } ∷ calls candidates es
 
 -- the functions with these names, whose nodes begin with n: each makes its entry, then its exit, then its shape's fresh nodes
 abbrev pub functions_from : ℕ → List (List ℕ) → List Shape → List ModelFunction
 functions_from n [] shapes = []
 functions_from n (name ∷ names) [] = []
 functions_from n (name ∷ names) (S ∷ shapes) =
-  record { name = name; entry = n; exit = n + 1 } ∷ functions_from (n + 2 + width S) names shapes
+    record { name = name; entry = n; exit = n + 1 } ∷ functions_from (n + 2 + width S) names shapes
 
 -- their edges: each shape is laid from the function's entry to its exit, where returns lead too
 abbrev pub edges_from : ℕ → List Shape → List Edge

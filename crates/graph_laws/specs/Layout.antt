@@ -78,20 +78,20 @@ abbrev mutual
   edges (Exit q) a n p = edge a (System exit_call q) n ∷ []
   edges (Call s) a n p = edge a (Site s) (p.to) ∷ []
   edges (Seq S ps) a n p =
-    edges S a (n + count ps) (group p ps n)
-    ++ edges_of_parts ps n (n + count ps + width S) p
+      edges S a (n + count ps) (group p ps n)
+      ++ edges_of_parts ps n (n + count ps + width S) p
   edges (Alt S T) a n p = edges S a n p ++ edges T a (n + width S) p
   edges (Loop C B P) a n p =
-    edge a Silent n ∷ edge (n + 1) Silent (p.to)
-    ∷ edges C n (n + 3) (record p { to = n + 1 })
-    ++ (edges B (n + 1) (n + 3 + width C) (body p (n + 2) (p.to) (n + 2))
-    ++ edges P (n + 2) (n + 3 + width C + width B) (record p { to = n }))
+      edge a Silent n ∷ edge (n + 1) Silent (p.to)
+      ∷ edges C n (n + 3) (record p { to = n + 1 })
+      ++ (edges B (n + 1) (n + 3 + width C) (body p (n + 2) (p.to) (n + 2))
+      ++ edges P (n + 2) (n + 3 + width C + width B) (record p { to = n }))
   edges (Do B C) a n p =
-    edge a Silent n ∷ edge (n + 2) Silent n ∷ edge (n + 2) Silent (p.to)
-    ∷ edges B n (n + 3) (body p (n + 1) (p.to) (n + 1))
-    ++ edges C (n + 1) (n + 3 + width B) (record p { to = n + 2 })
+      edge a Silent n ∷ edge (n + 2) Silent n ∷ edge (n + 2) Silent (p.to)
+      ∷ edges B n (n + 3) (body p (n + 1) (p.to) (n + 1))
+      ++ edges C (n + 1) (n + 3 + width B) (record p { to = n + 2 })
   edges (Cases ps d) a n p =
-    to_each a ps n ++ (past_all d a (p.to) ++ edges_of_parts ps n (n + count ps) (switch p))
+      to_each a ps n ++ (past_all d a (p.to) ++ edges_of_parts ps n (n + count ps) (switch p))
   edges Break a n p = edge a Silent (p.brk) ∷ []
   edges Continue a n p = edge a Silent (p.con) ∷ []
   edges Return a n p = edge a Silent (p.ret) ∷ []
@@ -100,4 +100,4 @@ abbrev mutual
   pub edges_of_parts : Parts → ℕ → ℕ → Places → List Edge
   edges_of_parts End i n p = []
   edges_of_parts (Part S ps) i n p =
-    edges S i n (group p ps (i + 1)) ++ edges_of_parts ps (i + 1) (n + width S) p
+      edges S i n (group p ps (i + 1)) ++ edges_of_parts ps (i + 1) (n + width S) p

@@ -16,3 +16,9 @@ pub fn graph_has_the_words()
     ensures stack { (names : List (List ℕ)) (env : Shapes) → AreClosed env → length names ≡ length env.functions → AreEqual (shapes.Stack env) (Reads Stack (graph_of names env)) }
     ensures callgraph { (names : List (List ℕ)) (env : Shapes) → AreClosed env → length names ≡ length env.functions → AreEqual (shapes.Callgraph env) (Reads Callgraph (graph_of names env)) }
 {}
+
+/// The law that the graph of shapes is a valid model where the shapes are closed, the functions have
+/// names and there are at most 200,000 nodes. The function does nothing.
+pub fn graph_is_valid()
+    ensures { (names : List (List ℕ)) (env : Shapes) → AreClosed env → AreNamed names env → IsValid (graph_of names env) }
+{}

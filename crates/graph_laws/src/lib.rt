@@ -3,4 +3,4 @@
 
 mod laws;
 
-pub use laws::graph_has_the_words;
+pub use laws::{graph_has_the_words, graph_is_valid};
