@@ -1,9 +1,9 @@
 -- The edges of a shape, one rule for each.
-use Rattle.std.proofs.Common.{◌≡◌, ℕ, ℤ, ◌+◌, ◌<◌, Bool, true, false, List, [], ◌∷◌, ◌++◌, Option, length, Contains, ◌⊎◌, inl, inr, zero, suc, subst, sym, refl, arith}
+use Rattle.std.proofs.Common.{◌≡◌, ℕ, ℤ, ◌+◌, Bool, true, false, List, [], ◌∷◌, ◌++◌, Option, Contains, inl, inr, zero, suc, subst, sym, refl, arith}
 use Rattle.std.proofs.lemmas.List.Elements.{Contains-append_left, Contains-append_right, Contains-append_cases}
 use Rattle.c_shapes.specs.Shape.{Shape, Skip, Sys, Exit, Call, Seq, Alt, Loop, Do, Cases, Parts, End, Part, Break, Continue, Return, exit_call}
 use Rattle.c_shapes.specs.Walks.{Label, Silent, System, Site}
-use Rattle.graph_laws.specs.Layout.{Edge, edge, Places, ends, body, width, count, group, switch, to_each, past_all, edges, edges_of_parts}
+use Rattle.graph_laws.specs.Layout.{Edge, edge, Places, body, width, count, group, switch, to_each, past_all, edges, edges_of_parts}
 use Rattle.graph_laws.proofs.Laid.{Heads}
 use Rattle.graph_laws.proofs.Laid as G
 

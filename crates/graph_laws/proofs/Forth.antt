@@ -1,11 +1,11 @@
 -- Each word of a shape is read by a run of the graph that is laid from it.
-use Rattle.std.proofs.Common.{◌≡◌, ℕ, ◌+◌, List, [], ◌∷◌, inl, inr, sym, ap, subst, refl}
+use Rattle.std.proofs.Common.{◌≡◌, ℕ, ◌+◌, List, ◌∷◌, sym, subst, refl}
 use Rattle.dm_base.specs.declared.event.Event.{Event}
-use Rattle.c_shapes.specs.Shape.{Shape, Skip, Sys, Exit, Call, Seq, Alt, Loop, Do, Cases, Parts, End, Part, Break, Continue, Return, Shapes, shape_of, exit_call, Leave, goes_on, breaks, continues, returns, IsDone, IsNext, IsAway}
+use Rattle.c_shapes.specs.Shape.{Shape, Parts, Shapes, Leave, goes_on, breaks, continues, returns, IsDone, IsNext, IsAway}
 use Rattle.c_shapes.specs.Words.{Marks, Whole, Rounds, Again, Falls, Picks, Front, FrontFalls, FrontPicks}
 use Rattle.c_shapes.specs.Words as F
-use Rattle.c_shapes.specs.Walks.{Label, Silent, System, Site}
-use Rattle.graph_laws.specs.Layout.{Places, ends, body, width, count, group, switch, head}
+use Rattle.c_shapes.specs.Walks.{Silent}
+use Rattle.graph_laws.specs.Layout.{Places, ends, body, head}
 use Rattle.graph_laws.proofs.Laid.{Graph, Step, Run, Via, along, leave, over, then, silent, system, enter, LaidFrom, Only, leads, Laid, LaidParts, no_part, one_part, Heads}
 use Rattle.graph_laws.proofs.Laid as G
 

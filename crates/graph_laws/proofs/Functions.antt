@@ -1,14 +1,13 @@
 -- The graph of a program's shapes is laid from them.
 use Rattle.std.proofs.Common.{◌≡◌, ◌≢◌, ℕ, zero, suc, Bool, true, false, ◌+◌, ◌<◌, ◌≤◌, List, [], ◌∷◌, ◌++◌, length, Contains, AllPairs, flat_map, slice_index_or, ◌⊎◌, inl, inr, sym, ap, ap₂, ◌∙◌, subst, refl, arith}
-use Rattle.std.proofs.lemmas.List.{append_assoc}
 use Rattle.std.proofs.lemmas.List.Elements.{Contains-append_left, Contains-append_right}
-use Rattle.c_shapes.specs.Shape.{Shape, Skip, Sys, Exit, Call, Seq, Alt, Loop, Do, Cases, Break, Continue, Return, Parts, End, Part, Shapes, shape_of}
+use Rattle.c_shapes.specs.Shape.{Shape, Skip, Sys, Exit, Call, Seq, Alt, Loop, Do, Cases, Break, Continue, Return, Parts, End, Part, Shapes}
 use Rattle.c_shapes.specs.Walks.{Label, Silent, System, Site}
 use Rattle.graph_laws.specs.Layout.{Edge, edge, Places, ends, body, switch, group, count, width, edges, edges_of_parts, to_each, past_all}
-use Rattle.graph_laws.specs.GraphOf.{edges_from, nodes_from}
+use Rattle.graph_laws.specs.GraphOf.{edges_from}
 use Rattle.graph_laws.specs.Premises.{sites, sites_of_parts, AreClosed}
-use Rattle.graph_laws.proofs.Laid.{Graph, LaidFrom, Only, First}
-use Rattle.graph_laws.proofs.Edges.{Lays, either, none_of, is_first, is_later, lays_from, lays_to}
+use Rattle.graph_laws.proofs.Laid.{Graph, LaidFrom}
+use Rattle.graph_laws.proofs.Edges.{Lays, either, none_of, is_later, lays_from, lays_to}
 use Rattle.graph_laws.proofs.Owns.{At, start, fresh, sources, begin, laid, Owns}
 
 -- the shape and the entry of the function f of those from the node n on

@@ -1,12 +1,12 @@
 -- Graphs over shapes, their runs, and when a graph is laid from shapes.
-use Rattle.std.specs.Prelude.{◌≡◌, ◌≢◌, ℕ, ℤ, zero, suc, ◌+◌, ◌<◌, Bool, true, false, List, [], ◌∷◌, ◌++◌, ◌⊎◌, Option, length, Contains}
+use Rattle.std.specs.Prelude.{◌≡◌, ◌≢◌, ℕ, ℤ, ◌+◌, ◌<◌, Bool, false, List, [], ◌∷◌, ◌++◌, Option, length, Contains}
 use Rattle.dm_base.specs.declared.event.Event.{Event}
 use Rattle.dm_base.specs.Fits.{Fits}
 use Rattle.c_shapes.specs.Shape.{Shape, Skip, Sys, Exit, Call, Seq, Alt, Loop, Do, Cases, Parts, End, Part, Break, Continue, Return, Shapes, shape_of, exit_call, Leave, goes_on, breaks, continues, returns}
 use Rattle.c_shapes.specs.Bodies.{IsExpression}
 use Rattle.c_shapes.specs.Words.{Marks}
 use Rattle.c_shapes.specs.Walks.{Label, Silent, System, Site}
-use Rattle.graph_laws.specs.Layout.{Places, ends, body, width, widths, count, group, switch}
+use Rattle.graph_laws.specs.Layout.{Places, ends, body, width, count, group, switch}
 
 -- the edges, and the entry and the exit of each function
 pub record Graph : Type 1 where

@@ -13,3 +13,4 @@ pub mod Stray
 pub mod Nodes
 pub mod Rising
 pub mod Valid
+pub mod Trials

@@ -1,10 +1,9 @@
 -- The model that is the graph of shapes has the edges and the functions of the shapes.
-use Rattle.std.proofs.Common.{◌≡◌, ◌↔◌, ℕ, ℤ, zero, suc, ◌+◌, ◌<◌, List, [], ◌∷◌, Option, Some, None, length, Contains, slice_get, sym, ap, ◌∙◌, subst, refl, arith}
+use Rattle.std.proofs.Common.{◌≡◌, ℕ, ℤ, zero, suc, ◌+◌, ◌<◌, List, [], ◌∷◌, Option, Some, None, length, Contains, slice_get, sym, ap, ◌∙◌, subst, refl, arith}
 use Rattle.std.specs.Ordering.{nat_cmp}
-use Rattle.std.specs.declared.cmp.Ordering.{Ordering}
 use Rattle.std.specs.declared.cmp.Ordering.TheVariants.{Equal}
 use Rattle.c_shapes.specs.Shape.{Shape, Shapes}
-use Rattle.c_shapes.specs.Walks.{Label, Silent, System, Site}
+use Rattle.c_shapes.specs.Walks.{Silent, System, Site}
 use Rattle.flow_model.specs.declared.records.ModelFunction.{ModelFunction}
 use Rattle.flow_model.specs.declared.records.SilentEdge.{SilentEdge}
 use Rattle.flow_model.specs.declared.records.SysEdge.{SysEdge}

@@ -1,11 +1,11 @@
 -- A walk over nodes is a walk over points.
-use Rattle.std.proofs.Common.{◌≡◌, ℕ, ℤ, Bool, true, false, true≢false, ◌+◌, ◌<◌, List, [], ◌∷◌, Option, length, Contains, sym, ap, subst, refl, arith}
+use Rattle.std.proofs.Common.{◌≡◌, ℕ, ℤ, Bool, true, false, true≢false, ◌+◌, ◌<◌, List, [], ◌∷◌, Option, length, Contains, sym, subst, refl}
 use Rattle.dm_base.specs.declared.event.Event.{Event}
 use Rattle.dm_base.specs.Fits.{Fits}
-use Rattle.c_shapes.specs.Shape.{Shape, Skip, Sys, Exit, Call, Seq, Alt, Loop, Do, Cases, Parts, End, Part, Break, Continue, Return, Shapes, shape_of, exit_call, Leave, goes_on, breaks, continues, returns, IsDone, IsNext, IsAway}
+use Rattle.c_shapes.specs.Shape.{Shape, Skip, Seq, Alt, Loop, Do, Cases, Parts, End, Part, Shapes, shape_of, Leave, goes_on, breaks, continues, returns}
 use Rattle.c_shapes.specs.Walks.{Point, PartPoint, before, after, left, right, test, inner, step, do_inner, do_test, parts, case, this, later, Target, at, by_break, by_continue, by_return, past, stopped, Map, apply, plain, of_body, of_do, of_seq, of_cases, Starts, starts_this, starts_later, Label, Silent, System, Site, Hop, PartHop, skip, sys, exit, call, to_left, to_right, left_out, right_out, in_left, in_right, loop_in, loop_on, loop_out, loop_next, loop_again, in_test, in_inner, in_step, do_in, do_on, do_again, do_out, in_do, in_until, seq_in, in_seq, case_in, no_case, in_case, break_out, continue_on, return_now, in_this, in_later, case_on, case_out, Walks}
 use Rattle.c_shapes.specs.Walks as W
-use Rattle.graph_laws.specs.Layout.{edge, Places, ends, body, width, count, group, switch, head}
+use Rattle.graph_laws.specs.Layout.{edge, Places, ends, body, width, count, group, switch}
 use Rattle.graph_laws.specs.Premises.{AreClosed}
 use Rattle.graph_laws.proofs.Laid.{Graph, Laid, LaidParts, no_part, one_part, LaidFrom, First, Heads, Only, OrSilent, out, into, TwoSilent, to_a, to_b, leads, NodeWalk}
 use Rattle.graph_laws.proofs.Laid as G

@@ -1,9 +1,9 @@
 -- The graph of the layout is laid: each fresh node has the edges of the parts that begin there, and no others.
-use Rattle.std.proofs.Common.{◌≡◌, ◌≢◌, ℕ, ℤ, Bool, true, false, zero, suc, ◌+◌, ◌<◌, ◌≤◌, List, [], ◌∷◌, Option, length, ◌⊎◌, inl, inr, sym, ap, ◌∙◌, subst, refl, arith}
-use Rattle.c_shapes.specs.Shape.{Shape, Skip, Sys, Exit, Call, Seq, Alt, Loop, Do, Cases, Parts, End, Part, Break, Continue, Return, Shapes, shape_of, exit_call, Leave, goes_on, breaks, continues, returns, IsDone, IsNext, IsAway}
+use Rattle.std.proofs.Common.{◌≡◌, ◌≢◌, ℕ, ℤ, Bool, true, false, ◌+◌, ◌<◌, ◌≤◌, List, Option, length, ◌⊎◌, inl, inr, sym, subst, refl, arith}
+use Rattle.c_shapes.specs.Shape.{Shape, Skip, Sys, Exit, Call, Seq, Alt, Loop, Do, Cases, Parts, End, Part, Break, Continue, Return, Shapes, exit_call}
 use Rattle.c_shapes.specs.Bodies.{IsExpression, AreExpressions, IsStatement, AreStatements}
 use Rattle.c_shapes.specs.Walks.{Label, Silent, System, Site}
-use Rattle.graph_laws.specs.Layout.{Places, ends, body, width, widths, count, group, switch, head}
+use Rattle.graph_laws.specs.Layout.{Places, body, width, widths, count, group, switch}
 use Rattle.graph_laws.proofs.Laid.{Graph, Laid, Only, First, OrSilent, out, into, TwoSilent, to_a, to_b, Heads, LaidParts, no_part, one_part}
 use Rattle.graph_laws.proofs.Laid as G
 use Rattle.graph_laws.proofs.Edges.{Lays, skip, sys, exit, call, in_left, in_right, to_loop, loop_ends, in_test, in_body, in_step, to_do, do_again, do_ends, in_do, in_until, break_out, continue_on, return_now, in_cases, in_seq, in_rest, to_case, no_default, LaysParts, in_part, in_later}

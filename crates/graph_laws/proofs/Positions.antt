@@ -1,8 +1,8 @@
 -- Where a run stands in a shape: the position at a fresh node, with what has been read up to there.
-use Rattle.std.specs.Prelude.{◌≡◌, ℕ, ℤ, Bool, ◌+◌, List, [], ◌∷◌, ◌++◌, Option, Contains}
+use Rattle.std.specs.Prelude.{◌≡◌, ℕ, ℤ, Bool, ◌+◌, List, ◌∷◌, ◌++◌, Option, Contains}
 use Rattle.dm_base.specs.declared.event.Event.{Event}
 use Rattle.dm_base.specs.Fits.{Fits}
-use Rattle.c_shapes.specs.Shape.{Shape, Exit, Call, Seq, Alt, Loop, Do, Cases, Parts, End, Part, Shapes, shape_of, exit_call, Leave, goes_on, IsDone, IsNext}
+use Rattle.c_shapes.specs.Shape.{Shape, Exit, Call, Seq, Alt, Loop, Do, Cases, Parts, Part, Shapes, shape_of, exit_call, Leave, goes_on, IsDone, IsNext}
 use Rattle.c_shapes.specs.Words.{Marks, Whole, Rounds, Again, Falls, Picks}
 use Rattle.graph_laws.specs.Layout.{Places, ends, body, width, count, group, switch}
 use Rattle.graph_laws.proofs.Laid.{Graph, leads}

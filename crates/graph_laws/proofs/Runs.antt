@@ -1,17 +1,14 @@
 -- The runs of the model are those of the laid graph.
-use Rattle.std.proofs.Common.{◌≡◌, ℕ, ℤ, ◌+◌, ◌<◌, List, [], ◌∷◌, ◌++◌, Option, length, Contains, sym, ap, ◌∙◌, subst, refl}
+use Rattle.std.proofs.Common.{◌≡◌, ℕ, ◌+◌, ◌<◌, List, [], length, sym, subst, refl}
 use Rattle.dm_base.specs.declared.event.Event.{Event}
-use Rattle.dm_base.specs.declared.event.Event.TheVariants.{Pre, Post}
-use Rattle.dm_base.specs.Fits.{Fits}
 use Rattle.dm_base.specs.Trace.{erase}
 use Rattle.c_shapes.specs.Shape.{Shapes, shape_of, Skip}
-use Rattle.c_shapes.specs.Words.{Marks, brackets, no_brackets, Whole, Front}
-use Rattle.c_shapes.specs.Walks.{Label, Silent, System, Site}
+use Rattle.c_shapes.specs.Words.{Marks, brackets, no_brackets, Front}
 use Rattle.c_shapes.specs.Languages as shapes
 use Rattle.c_shapes.proofs.Leaving.{done}
 use Rattle.flow_model.specs.declared.which.Which.TheVariants.{Callgraph, Stack, Dyck}
 use Rattle.flow_model.specs.Graph as model
-use Rattle.flow_model.specs.Language.{Steps, DyckRun, StackRun, Reads, Quiet, Walk}
+use Rattle.flow_model.specs.Language.{DyckRun, StackRun, Reads, Walk}
 use Rattle.flow_model.specs.Language.Steps.{silent as s_silent, sys as s_sys, enter as s_enter, leave as s_leave}
 use Rattle.flow_model.specs.Language.DyckRun.{over as d_over, inside as d_inside, calls as d_calls, enters as d_enters, leaves as d_leaves}
 use Rattle.flow_model.specs.Language.StackRun.{over as t_over, inside as t_inside, calls as t_calls, enters as t_enters, leaves as t_leaves}

@@ -1,21 +1,21 @@
 -- The graph of shapes is a valid model.
-use Rattle.std.proofs.Common.{◌≡◌, ◌≢◌, ℕ, ℤ, zero, suc, Bool, false, ◌+◌, ◌<◌, ◌≤◌, List, [], ◌∷◌, Option, Some, None, length, Contains, All, AllPairs, slice_get, sym, ap, ◌∙◌, subst, refl, arith}
+use Rattle.std.proofs.Common.{◌≡◌, ◌≢◌, ℕ, zero, suc, ◌+◌, ◌<◌, ◌≤◌, List, [], ◌∷◌, Some, length, Contains, All, AllPairs, slice_get, sym, ap, ◌∙◌, subst, refl, arith}
 use Rattle.std.specs.Prelude.{unwrap_or, option_map}
 use Rattle.std.specs.Ordering.{nat_cmp}
 use Rattle.std.specs.Cmp.{nat_cmp_total}
 use Rattle.dm_base.specs.Name.{IsName}
 use Rattle.sys_table.specs.Table.{IsRight}
-use Rattle.c_shapes.specs.Shape.{Shape, Skip, Sys, Exit, Call, Seq, Alt, Loop, Do, Cases, Break, Continue, Return, Parts, End, Part, Shapes, exit_call}
+use Rattle.c_shapes.specs.Shape.{Shape, Skip, Parts, End, Part, Shapes}
 use Rattle.c_shapes.specs.Walks.{Label, Silent, System, Site}
 use Rattle.flow_model.specs.declared.records.ModelFunction.{ModelFunction}
 use Rattle.flow_model.specs.declared.records.SilentEdge.{SilentEdge}
 use Rattle.flow_model.specs.declared.records.SysEdge.{SysEdge}
 use Rattle.flow_model.specs.Call as model
-use Rattle.flow_model.specs.Graph.{Graph, Owns, HaveOneOwner, end_of}
+use Rattle.flow_model.specs.Graph.{Owns, HaveOneOwner, end_of}
 use Rattle.flow_model.specs.Order.{silent_order, sys_order, site_order, StrictlyRise}
 use Rattle.flow_model.specs.Rules.{HasRightEntries, HasOwnExits, HasRightNames, HasInnerEdges, HasKnownFunctions, HasRightPatterns, IsInOrder, IsValid}
 use Rattle.flow_model.proofs.OrderLemmas.{silent_order_total, sys_order_total, site_order_total}
-use Rattle.graph_laws.specs.Layout.{Edge, edge, Places, ends, body, switch, group, head, count, width, widths}
+use Rattle.graph_laws.specs.Layout.{Edge, edge, Places, head, count, width, widths}
 use Rattle.graph_laws.specs.Sorted.{sorted}
 use Rattle.graph_laws.specs.GraphOf.{graph_of, silent_edges, sys_edges, calls, functions_from, edges_from, nodes_from}
 use Rattle.graph_laws.specs.Premises.{AreClosed, AreNamed, HasRightCalls, HaveRightCalls}
@@ -25,8 +25,8 @@ use Rattle.graph_laws.proofs.Edges.{Lays, LaysParts, skip, sys, exit, call, in_l
 use Rattle.graph_laws.proofs.Owns.{At, start, fresh, sources}
 use Rattle.graph_laws.proofs.SortedLemmas.{sorted_from}
 use Rattle.graph_laws.proofs.Rising.{all_from, of_all, pairs_cons, pairs_head, pairs_tail, pairs_nil, sorted_rises}
-use Rattle.graph_laws.proofs.Functions.{at, entry_at, One, one_from}
-use Rattle.graph_laws.proofs.ModelLemmas.{known, Known, Made, made as made_of, call_from, silent_from, sys_from}
+use Rattle.graph_laws.proofs.Functions.{at, entry_at, one_from}
+use Rattle.graph_laws.proofs.ModelLemmas.{known, Made, made as made_of, call_from, silent_from, sys_from}
 
 -- the node is from lo to below hi
 abbrev In : ℕ → ℕ → ℕ → Type 0

@@ -2,7 +2,7 @@
 use Rattle.std.specs.Prelude.{ℕ, ◌+◌, List, [], ◌∷◌, ◌++◌}
 use Rattle.std.specs.Ordering.{nat_cmp}
 use Rattle.c_shapes.specs.Shape.{Shape, Shapes}
-use Rattle.c_shapes.specs.Walks.{Label, Silent, System, Site}
+use Rattle.c_shapes.specs.Walks.{Silent, System, Site}
 use Rattle.flow_model.specs.declared.records.ModelFunction.{ModelFunction}
 use Rattle.flow_model.specs.declared.records.SilentEdge.{SilentEdge}
 use Rattle.flow_model.specs.declared.records.SysEdge.{SysEdge}

@@ -1,5 +1,5 @@
 -- What the shapes of programs meet: a site stands at one place, breaks and continues stay in functions, and the functions are known.
-use Rattle.std.specs.Prelude.{◌≡◌, ℕ, ℤ, ◌<◌, ◌≤◌, Bool, List, Option, [], ◌∷◌, ◌++◌, length, flat_map, All, AllPairs, ◌≢◌, Contains}
+use Rattle.std.specs.Prelude.{◌≡◌, ℕ, ◌<◌, ◌≤◌, List, [], ◌∷◌, ◌++◌, length, flat_map, All, AllPairs, ◌≢◌, Contains}
 use Rattle.c_shapes.specs.Shape.{Shape, Skip, Sys, Exit, Call, Seq, Alt, Loop, Do, Cases, Break, Continue, Return, Parts, End, Part, Shapes, exit_call}
 use Rattle.c_shapes.specs.Bodies.{IsBody}
 use Rattle.dm_base.specs.Name.{IsName}
