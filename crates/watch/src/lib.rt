@@ -1,0 +1,10 @@
+//! Many processes, judged by one model: which verdict each one's own history has, and what of it is
+//! still at hand.
+#![tactic(auto)]
+
+mod child;
+mod past;
+mod process;
+mod watch;
+
+pub use watch::Watch;
