@@ -1,1 +1,4 @@
+pub mod KeyLemmas
+pub mod OwnLemmas
 pub mod PastLemmas
+pub mod StepLemmas

@@ -19,6 +19,10 @@ is_known version records p = list_any (λ r. is_among (made_known version r) p) 
 abbrev pub has_record : List Record → ℕ → Bool
 has_record records p = list_any (λ r. nat_eq p r.pid) records
 
+-- the record of an event of a process
+abbrev pub record_of : ℕ → Event → Record
+record_of p e = record { pid = p; event = e }
+
 -- in version 2 the record makes the process, which isn't known after the records before it
 abbrev pub is_born : List Record → Record → ℕ → Bool
 is_born older r p = is_among (child_of r.event) p && not (is_known Two older p)
@@ -27,12 +31,12 @@ is_born older r p = is_among (child_of r.event) p && not (is_known Two older p)
 unfoldable pub own_forked : ℕ → List Record → List Event
 own_forked p [] = []
 own_forked p (r ∷ older) =
-    if nat_eq p r.pid then own_forked p older ++ r.event ∷ []
+    if nat_eq r.pid p then own_forked p older ++ r.event ∷ []
     else (if is_born older r p then own_forked r.pid older ++ r.event ∷ [] else own_forked p older)
 
 -- the own history of a process: in version 1 the events of its records in order, in version 2 after those that it has from its parent
 abbrev pub own : TracesVersion → ℕ → List Record → List Event
-own One p records = map (λ r. r.event) (filter (λ r. nat_eq p r.pid) records)
+own One p records = map (λ r. r.event) (filter (λ r. nat_eq r.pid p) records)
 own Two p records = own_forked p (reverse records)
 
 -- the processes that have a record, each once, in the order of their first records

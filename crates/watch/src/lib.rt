@@ -5,6 +5,8 @@
 mod child;
 mod past;
 mod process;
+mod sweeping;
+mod table;
 mod watch;
 
 pub use watch::Watch;

@@ -6,6 +6,7 @@ ghost use Rattle.dm_base.specs.declared.verdict.Verdict.{Verdict as Verdict'};
 ghost use Rattle.flow_model.specs.declared.which.Which.{Which};
 ghost use Rattle.flow_model.specs.Graph.{Graph};
 ghost use Rattle.flow_model.specs.Verdict.{IsAccepted, IsStep, IsVerdict};
+ghost use Rattle.watch.specs.Keeping.{verdict_of};
 ghost use Rattle.watch.specs.Pasts.{IsPast, last_kept, refused_event};
 
 use circular_buffer::HeapCircularBuffer;
@@ -88,7 +89,8 @@ impl Past {
 
     /// The verdict on the history.
     pub fn verdict(&self) -> Verdict
-        ensures { (which : Which) (g : Graph) (k : ℕ) (h : List Event') → IsPast which g k h self.now → IsVerdict which g k h result }
+        ensures told { result ≡ verdict_of self.now }
+        ensures exact { (which : Which) (g : Graph) (k : ℕ) (h : List Event') → IsPast which g k h self.now → IsVerdict which g k h result }
     {
         match &self.refusal {
             None => Verdict::Accepted { events: self.kept },

@@ -2,7 +2,8 @@ ghost use Rattle.std.specs.Prelude.{◌≡◌, ◌+◌, ◌<◌, ◌≤◌, ◌^
 ghost use Rattle.dm_base.specs.declared.event.Event.{Event as Event'};
 ghost use Rattle.flow_model.specs.Graph.{Graph};
 ghost use Rattle.flow_model.specs.Verdict.{IsStep};
-ghost use Rattle.watch.specs.Standing.{IsBound, KeepsPool, IsAt};
+ghost use Rattle.watch.specs.Keeping.{KeepsPool};
+ghost use Rattle.watch.specs.Standing.{IsBound, IsAt};
 
 use crate::past::Past;
 use dm_base::{Event, OutOfMemory, Step};
