@@ -6,7 +6,7 @@ use Rattle.std.proofs.lemmas.Bool.{cases_lt}
 use Rattle.std.proofs.lemmas.List.{append-nil}
 use Rattle.std.proofs.lemmas.List.Elements.{All-cons, All-head, All-tail, All-push, All-nil}
 use Rattle.dm_base.specs.Name.{IsName, IsLetter, IsDigit, keywords}
-use Rattle.line_text.specs.Reading.{BeginsOne}
+use Rattle.line_text.specs.Spelling.{BeginsOne}
 use Rattle.line_text.specs.Words.{IsPlain, IsEnd}
 use Rattle.model_file.specs.Words.{IsNameFront}
 

@@ -5,7 +5,7 @@ use Rattle.std.proofs.lemmas.List.{append-nil}
 use Rattle.std.proofs.lemmas.List.Elements.{Contains-append_cases}
 use Rattle.line_text.specs.declared.miss.Miss.{Miss}
 use Rattle.line_text.specs.declared.miss.Miss.TheVariants.{OutOfMemory, Short, Wrong}
-use Rattle.line_text.specs.Files.{IsLine}
+use Rattle.line_text.specs.OneLine.{IsLine}
 use Rattle.line_text.specs.Reading.{Agree, StandsFirst, IsCutShort, Reads}
 use Rattle.line_text.proofs.FilesLemmas.{ends_line}
 use Rattle.line_text.proofs.Splits.{IsSplit, IsCase, err_first, err_next, ok_both, err_case, ok_case, agree_front, agree_next}

@@ -25,7 +25,8 @@ use Rattle.model_file.specs.declared.version.ModelVersion.{ModelVersion}
 use Rattle.model_file.specs.declared.version.ModelVersion.TheVariants.{One, Two}
 use Rattle.model_file.specs.ModelText.{head_line, IsSpelled, IsModelText, IsFormedModel}
 use Rattle.model_file.specs.Progress.{Spelling, IsStop}
-use Rattle.model_file.specs.Refusal.{IsModel, IsModelRefusal, HasOtherModelVersion, IsBroken, longest}
+use Rattle.model_file.specs.Refusal.{IsModel, IsModelRefusal, HasOtherModelVersion, longest}
+use Rattle.model_file.specs.Writing.{IsBroken}
 use Rattle.model_file.specs.States.{IsReadAs}
 use Rattle.model_file.proofs.HeadLemmas.{after_head, text_is}
 

@@ -6,7 +6,8 @@ use Rattle.std.proofs.lemmas.List.{append-nil, length-append, length-drop, drop_
 use Rattle.std.proofs.lemmas.Bool.{eqb-true}
 use Rattle.line_text.specs.declared.miss.Miss.{Miss}
 use Rattle.line_text.specs.declared.miss.Miss.TheVariants.{OutOfMemory as no_memory, Short, Wrong}
-use Rattle.line_text.specs.Files.{IsFirstLine, IsLine}
+use Rattle.line_text.specs.Files.{IsFirstLine}
+use Rattle.line_text.specs.OneLine.{IsLine}
 use Rattle.line_text.specs.Files.IsFirstLine.{ended, unended}
 use Rattle.line_text.specs.Reading.{Agree, StandsFirst, Reads}
 use Rattle.line_text.proofs.FilesLemmas.{first_line_whole, ends_line}

@@ -1,4 +1,4 @@
--- Which numbers may stand first where a line has to go after the last one, and the least of them.
+-- For private contracts and proofs alone: which numbers may stand first where a line has to go after the last one, and the least of them.
 use Rattle.std.specs.Prelude.{◌≡◌, ℕ, ◌≤◌, Option}
 use Rattle.flow_model.specs.declared.records.SilentEdge.{SilentEdge}
 use Rattle.flow_model.specs.declared.records.SysEdge.{SysEdge}

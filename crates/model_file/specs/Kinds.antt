@@ -1,4 +1,4 @@
--- Which kind a line has, by its first bytes.
+-- For private contracts and proofs alone: which kind a line has, by its first bytes.
 use Rattle.std.specs.Prelude.{◌≡◌, ◌≢◌, ◌⊎◌, ℕ, List, [], ◌∷◌, Option, Some, None}
 use Rattle.model_file.specs.declared.lines.Kind.{Kind}
 use Rattle.model_file.specs.declared.lines.Kind.TheVariants as kinds

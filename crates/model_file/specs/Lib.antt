@@ -7,3 +7,4 @@ pub mod Refusal
 pub mod States
 pub mod SysBounds
 pub mod Words
+pub mod Writing

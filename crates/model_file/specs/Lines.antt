@@ -1,4 +1,4 @@
--- The lines of a model after that of the nodes, and which may follow which.
+-- For private contracts and proofs alone: the lines of a model after that of the nodes, and which may follow which.
 use Rattle.std.specs.Prelude.{◌≡◌, ℕ, List, Option, IfSome}
 use Rattle.std.specs.declared.cmp.Ordering.TheVariants.{Less}
 use Rattle.std.specs.Ordering.{nat_cmp}

@@ -1,4 +1,4 @@
--- How far a text was read, and what the reader of a line answers.
+-- For private contracts and proofs alone: how far a text was read, and what the reader of a line answers.
 use Rattle.std.specs.Prelude.{◌≡◌, ◌⊎◌, ℕ, ◌+◌, ◌<◌, ◌≤◌, List, [], ◌++◌, ◌∷◌, length, take, drop, Bool, false, nat_eq, Result, Ok, Err}
 use Rattle.line_text.specs.declared.miss.Miss.{Miss}
 use Rattle.line_text.specs.declared.miss.Miss.TheVariants.{OutOfMemory as no_memory, Short, Wrong}

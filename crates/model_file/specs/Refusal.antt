@@ -30,12 +30,3 @@ IsModelRefusal Version text = (length text ≤ longest) × HasOtherModelVersion 
 IsModelRefusal (BadLine k) text = (length text ≤ longest) × (HasOtherModelVersion text → ⊥) × IsBadLine IsFormedModel text k
 IsModelRefusal Truncated text = (length text ≤ longest) × IsProperPrefix IsFormedModel text
 IsModelRefusal (Invalid rule) text = (length text ≤ longest) × ((version : ModelVersion) × (g : Graph) × IsModelText version text g × IsLeastBroken g rule)
-
--- why no model is made of lists that are in order and have right patterns: want of memory, or the least rule that they break, 1 to 5
-abbrev pub IsBroken : Graph → ModelError → Type 0
-IsBroken g OutOfMemory = Unit {0}
-IsBroken g (Invalid rule) = IsLeastBroken g rule × (rule ≤ 5)
-IsBroken g TooLarge = ⊥
-IsBroken g Version = ⊥
-IsBroken g (BadLine k) = ⊥
-IsBroken g Truncated = ⊥

@@ -1,4 +1,4 @@
--- What may follow the lines of a model that were read.
+-- For private contracts and proofs alone: what may follow the lines of a model that were read.
 use Rattle.std.specs.Prelude.{◌≡◌, ℕ, List, [], ◌∷◌, ◌++◌, Option, None, Some, length, flat_map, codes}
 use Rattle.flow_model.specs.declared.records.ModelFunction.{ModelFunction}
 use Rattle.flow_model.specs.declared.records.SilentEdge.{SilentEdge}

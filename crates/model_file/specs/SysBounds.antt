@@ -1,4 +1,4 @@
--- Which system-call edges may follow the last one, part by part.
+-- For private contracts and proofs alone: which system-call edges may follow the last one, part by part.
 use Rattle.std.specs.Prelude.{◌≡◌, ℕ, ℤ, ◌<◌, ◌≤◌, ◌≤ℤ◌, List, [], ◌∷◌, ◌++◌, Option, None, Some, IfSome, drop}
 use Rattle.std.specs.declared.cmp.Ordering.{Ordering}
 use Rattle.std.specs.declared.cmp.Ordering.TheVariants.{Less}

@@ -1,4 +1,4 @@
--- The words of names, and of several numbers.
+-- For private contracts and proofs alone: the words of names, and of several numbers.
 use Rattle.std.specs.Prelude.{◌≡◌, ◌≢◌, ◌⊎◌, ℕ, ◌≤◌, List, [], ◌∷◌, ◌++◌, length, All}
 use Rattle.std.specs.Ordering.{nat_cmp}
 use Rattle.dm_base.specs.Name.{IsLetter, IsDigit}

@@ -10,7 +10,6 @@ mod line_writing;
 mod lines;
 mod pattern_words;
 mod place;
-mod push;
 mod reading;
 mod silent_line;
 mod single;
@@ -24,8 +23,3 @@ pub use laws::a_text_has_one_model;
 pub use reading::read_model;
 pub use version::ModelVersion;
 pub use writing::write_model;
-
-#[cfg(test)]
-mod line_tests;
-#[cfg(test)]
-mod tests;

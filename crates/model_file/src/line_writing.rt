@@ -1,10 +1,12 @@
-ghost use Rattle.std.specs.Prelude.{◌≡◌, ◌++◌, ◌∷◌, codes, decimal, flat_map, OnOk};
-ghost use Rattle.model_file.specs.ModelText.{function_line, silent_line, sys_line, call_line, entry_text, entries_text};
+ghost use Rattle.std.specs.Prelude.{◌≡◌, ◌<◌, ◌++◌, ◌∷◌, All, codes, decimal, flat_map, OnOk};
+ghost use Rattle.sys_table.specs.Table.{name_of};
+ghost use Rattle.model_file.specs.ModelText.{function_line, silent_line, sys_line, call_line, entry_text, entries_text, IsSmall, IsSpelledSilent};
+ghost use Rattle.model_file.specs.Writing.{HasSmallNodes, IsSmallSys, IsSmallCall};
 ghost use Rattle.model_file.specs.declared.version.ModelVersion.TheVariants.{Two};
 
-use crate::push::{push_bytes, push_decimal, push_signed};
-use dm_base::{OutOfMemory, Pattern};
+use dm_base::{OutOfMemory, Pattern, SysName};
 use flow_model::{CallEdge, ModelFunction, SilentEdge, SysEdge};
+use line_text::{push_bytes, push_decimal, push_signed};
 use std::alloc::Global;
 use sys_table::name_text;
 
@@ -16,7 +18,8 @@ pub fn push_function(
     text: &mut Vec<u8>,
     one: &ModelFunction,
 ) -> Result<(), OutOfMemory>
-    ensures { OnOk result (text.new.items ≡ text.old.items ++ function_line one.now) }
+    ensures text { OnOk result (text.new.items ≡ text.old.items ++ function_line one.now) }
+    ensures small { OnOk result (HasSmallNodes one.now) }
 {
     push_bytes(text, b"f ")?;
     push_bytes(text, one.name.as_slice())?;
@@ -27,7 +30,8 @@ pub fn push_function(
 
 /// The line of a silent edge.
 pub fn push_silent(alloc: Global, text: &mut Vec<u8>, edge: &SilentEdge) -> Result<(), OutOfMemory>
-    ensures { OnOk result (text.new.items ≡ text.old.items ++ silent_line edge.now) }
+    ensures text { OnOk result (text.new.items ≡ text.old.items ++ silent_line edge.now) }
+    ensures small { OnOk result (IsSpelledSilent edge.now) }
 {
     push_bytes(text, b"e ")?;
     push_decimal(alloc, text, u64::from(edge.from))?;
@@ -37,12 +41,13 @@ pub fn push_silent(alloc: Global, text: &mut Vec<u8>, edge: &SilentEdge) -> Resu
 
 /// The line of a system-call edge, with its pattern.
 pub fn push_sys(alloc: Global, text: &mut Vec<u8>, edge: &SysEdge) -> Result<(), OutOfMemory>
-    ensures { OnOk result (text.new.items ≡ text.old.items ++ sys_line Two edge.now) }
+    ensures text { OnOk result (text.new.items ≡ text.old.items ++ sys_line Two edge.now) }
+    ensures small { OnOk result (IsSmallSys edge.now) }
 {
     push_bytes(text, b"s ")?;
     push_decimal(alloc, text, u64::from(edge.from))?;
     push_bytes(text, b" ")?;
-    push_bytes(text, name_text(edge.name))?;
+    push_name(text, edge.name)?;
     push_number(alloc, text, edge.to)?;
     push_entries(alloc, text, &edge.args)?;
     push_bytes(text, b"\n")
@@ -50,7 +55,8 @@ pub fn push_sys(alloc: Global, text: &mut Vec<u8>, edge: &SysEdge) -> Result<(),
 
 /// The line of a call edge.
 pub fn push_call(alloc: Global, text: &mut Vec<u8>, call: &CallEdge) -> Result<(), OutOfMemory>
-    ensures { OnOk result (text.new.items ≡ text.old.items ++ call_line call.now) }
+    ensures text { OnOk result (text.new.items ≡ text.old.items ++ call_line call.now) }
+    ensures small { OnOk result (IsSmallCall call.now) }
 {
     push_bytes(text, b"c ")?;
     push_decimal(alloc, text, u64::from(call.from()))?;
@@ -60,9 +66,18 @@ pub fn push_call(alloc: Global, text: &mut Vec<u8>, call: &CallEdge) -> Result<(
     push_bytes(text, b"\n")
 }
 
+// The name of a system call.
+fn push_name(text: &mut Vec<u8>, name: SysName) -> Result<(), OutOfMemory>
+    ensures text { OnOk result (text.new.items ≡ text.old.items ++ name_of name) }
+    ensures known { name < 24 }
+{
+    push_bytes(text, name_text(name))
+}
+
 // A space and each number.
 fn push_numbers(alloc: Global, text: &mut Vec<u8>, numbers: &[u32]) -> Result<(), OutOfMemory>
-    ensures { OnOk result (text.new.items ≡ text.old.items ++ flat_map (λ n. 32 ∷ decimal n) numbers.now) }
+    ensures text { OnOk result (text.new.items ≡ text.old.items ++ flat_map (λ n. 32 ∷ decimal n) numbers.now) }
+    ensures small { OnOk result (All IsSmall numbers.now) }
 {
     for number in numbers {
         push_number(alloc, text, *number)?;

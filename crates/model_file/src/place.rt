@@ -1,5 +1,5 @@
 ghost use Rattle.std.specs.Prelude.{◌≡◌, [], IfSome, IfNone, drop};
-ghost use Rattle.line_text.specs.Files.{IsLine};
+ghost use Rattle.line_text.specs.OneLine.{IsLine};
 ghost use Rattle.model_file.specs.Progress.{IsPlace, IsNext};
 
 use line_text::first_line;

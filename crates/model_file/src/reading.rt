@@ -2,7 +2,8 @@ ghost use Rattle.std.specs.Prelude.{◌≡◌, ◌↔◌, ◌≤◌, ℕ, IsTrue
 ghost use Rattle.flow_model.specs.Built.{graph_of_records};
 ghost use Rattle.flow_model.specs.Graph.{Graph};
 ghost use Rattle.flow_model.specs.Rules.{IsInOrder, HasRightPatterns, IsValid};
-ghost use Rattle.model_file.specs.Refusal.{IsBroken, IsModel, IsModelRefusal, HasOtherModelVersion};
+ghost use Rattle.model_file.specs.Refusal.{IsModel, IsModelRefusal, HasOtherModelVersion};
+ghost use Rattle.model_file.specs.Writing.{IsBroken};
 
 use crate::ModelError;
 use crate::draft::{Draft, read_draft};

@@ -1,5 +1,5 @@
 ghost use Rattle.std.specs.Prelude.{◌≡◌, ◌++◌, [], ◌∷◌, decimal, codes, IsTrue};
-ghost use Rattle.line_text.specs.Files.{IsLine};
+ghost use Rattle.line_text.specs.OneLine.{IsLine};
 ghost use Rattle.line_text.specs.Reading.{Reads};
 ghost use Rattle.line_text.specs.Words.{is_in_line};
 ghost use Rattle.model_file.specs.Lines.{model_line, MayFollow};

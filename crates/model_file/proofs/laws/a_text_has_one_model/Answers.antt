@@ -7,3 +7,6 @@ returns-clause-one c text g h is_g is_h = one_graph text is_g.version is_h.versi
 
 pub returns-clause-accepted : goal.returns-clause-accepted
 returns-clause-accepted c text g error is refusal = not_refused text g error is refusal
+
+pub returns-clause-written : goal.returns-clause-written
+returns-clause-written c version text g is valid short = record { version = version; is = is; valid = valid; short = short }
