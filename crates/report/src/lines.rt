@@ -1,4 +1,4 @@
-ghost use Rattle.std.specs.Prelude.{◌≡◌, ◌++◌, codes, decimal, IfOk, IfSome, OnOk};
+ghost use Rattle.std.specs.Prelude.{◌≡◌, ◌++◌, codes, decimal, IfOk, IfSome};
 ghost use Rattle.std.specs.Option.{option_copied};
 ghost use Rattle.sys_table.specs.Table.{IsRecorded};
 ghost use Rattle.trace_file.specs.EventText.{event_text};
@@ -6,6 +6,7 @@ ghost use Rattle.report.specs.VerdictLine.{word_of, place_line, verdict_text, Is
 
 use dm_base::{Event, OutOfMemory, Verdict};
 use flow_model::Which;
+use line_text::{push_bytes, push_decimal};
 use std::alloc::Global;
 use trace_file::event_text;
 
@@ -76,20 +77,4 @@ fn line_at(
     push_bytes(&mut line, &text)?;
     push_bytes(&mut line, b"\n")?;
     Ok(line)
-}
-
-// Adds the bytes at the end of the text.
-fn push_bytes(text: &mut Vec<u8>, bytes: &[u8]) -> Result<(), OutOfMemory>
-    ensures { OnOk result (text.new.items ≡ text.old.items ++ bytes.now) }
-{
-    text.extend_from_slice(bytes)?;
-    Ok(())
-}
-
-// Adds the number in decimal at the end of the text.
-fn push_decimal(alloc: Global, text: &mut Vec<u8>, number: u64) -> Result<(), OutOfMemory>
-    ensures { OnOk result (text.new.items ≡ text.old.items ++ decimal number) }
-{
-    let digits = format!(in alloc; "{number}")?;
-    push_bytes(text, digits.as_bytes())
 }
