@@ -1,0 +1,66 @@
+-- What the check of a part of a text finds: the part is fine, with what it gives, or it is faulty, with all the demands
+-- on it that fail, in the order of the text.
+use Rattle.std.specs.Prelude.{ℕ, Bool, true, false, List, [], ◌∷◌, ◌++◌}
+
+-- a demand that fails: the number of its code and its place
+pub record Fault : Type 0 where
+  pub code : ℕ
+  pub at : ℕ
+
+pub data Checked (A : Type 0) : Type 0 where
+  fine : A → Checked A
+  faulty : List Fault → Checked A
+
+-- the demands that fail
+abbrev pub faults : {A : Type 0} → Checked A → List Fault
+faults (fine a) = []
+faults (faulty fs) = fs
+
+-- A part, and the demands on its node: they stand only where the part meets its own.
+abbrev pub on : {A B : Type 0} → Checked A → (A → Checked B) → Checked B
+on (fine a) node = node a
+on (faulty fs) node = faulty fs
+
+-- Two parts, and the demands on their node. Neither part waits for the other.
+abbrev pub both : {A B C : Type 0} → Checked A → Checked B → (A → B → Checked C) → Checked C
+both (fine a) (fine b) node = node a b
+both (fine a) (faulty gs) node = faulty gs
+both (faulty fs) second node = faulty (fs ++ faults second)
+
+-- what two parts give
+pub record Two (A B : Type 0) : Type 0 where
+  pub first : A
+  pub second : B
+
+-- two parts without a demand on both
+abbrev pub beside : {A B : Type 0} → Checked A → Checked B → Checked (Two A B)
+beside p q = both p q (λ a b. fine (record { first = a; second = b }))
+
+-- three parts, and the demands on their node
+abbrev pub all_three : {A B C D : Type 0} → Checked A → Checked B → Checked C → (A → B → C → Checked D) → Checked D
+all_three p q r node = both p (beside q r) (λ a t. node a t.first t.second)
+
+-- a part that gives something else where it is fine
+abbrev pub gives : {A B : Type 0} → Checked A → (A → B) → Checked B
+gives p f = on p (λ a. fine (f a))
+
+-- one demand that fails
+abbrev pub fault : {A : Type 0} → (code at : ℕ) → Checked A
+fault code at = faulty (record { code = code; at = at } ∷ [])
+
+-- one demand, and what stands where it is met
+abbrev pub demand : {A : Type 0} → Bool → (code at : ℕ) → A → Checked A
+demand true code at a = fine a
+demand false code at a = fault code at
+
+-- what a demand gives that gives nothing else
+pub data Met : Type 0 where
+  met : Met
+
+-- demands alone, one beside the other
+abbrev pub and_also : Checked Met → Checked Met → Checked Met
+and_also p q = both p q (λ _ _. fine met)
+
+-- a part of which only its demands are wanted
+abbrev pub demands_of : {A : Type 0} → Checked A → Checked Met
+demands_of p = gives p (λ _. met)
