@@ -10,7 +10,7 @@ use Rattle.c_tree.specs.Tree.{CType, void, integer, Expr, Exprs, no_exprs, more_
 use Rattle.c_tree.specs.Functions.{int}
 use Rattle.c_tree.specs.Operands.{promoted, common, OperatorKind, shift}
 use Rattle.c_tree.specs.Operands.{kind_of as kind_of_operator}
-use Rattle.c_rules.specs.Operators.{convert}
+use Rattle.c_tree.specs.Operators.{value_of}
 use Rattle.c_rules.specs.Checked.{Checked, fine, fault, demand, on, gives, met}
 use Rattle.c_rules.specs.Codes.{C3, C4}
 use Rattle.c_rules.specs.Scopes.{Env}
@@ -78,7 +78,7 @@ assignment_by env at op p v =
 -- the constant 1 in the type of the operator
 abbrev pub one_for : Kind → Given
 one_for (an_integer i) =
-    value_given (integer (common i widths.Int)) (constant (integer (common i widths.Int)) (convert (common i widths.Int) (Int (pos 1)))) not_constant
+    value_given (integer (common i widths.Int)) (constant (integer (common i widths.Int)) (value_of (common i widths.Int) (pos 1))) not_constant
 one_for k = value_given int (constant int (Int (pos 1))) not_constant
 
 -- whether the value is the old one

@@ -1,54 +1,67 @@
 -- Constants (6.6): what operators give of constant operands. An operand that isn't evaluated needn't be defined.
-use Rattle.std.specs.Prelude.{ℕ, ◌+◌, ◌-◌, ◌*◌, ◌/◌, ℤ, pos, negsuc, suc, true, false, if◌then◌else◌, Option, Some, None, nat_le, nat_lt}
+use Rattle.std.specs.Prelude.{ℕ, ◌+◌, ◌-◌, ◌*◌, ◌/◌, ℤ, pos, negsuc, suc, true, false, not, if◌then◌else◌, nat_le, nat_lt}
 use Rattle.c_tree.specs.declared.value.IntType.{IntType}
 use Rattle.c_tree.specs.declared.value.UnOp.{UnOp}
 use Rattle.c_tree.specs.declared.value.BinOp.{BinOp}
 use Rattle.c_tree.specs.declared.value.Pointer.{Pointer}
 use Rattle.c_tree.specs.declared.value.Value.{Value}
-use Rattle.c_tree.specs.declared.value.Value.TheVariants.{At}
-use Rattle.c_rules.specs.Operators.{convert, unary_value, binary_value, number_of, truth}
+use Rattle.c_tree.specs.declared.value.Value.TheVariants.{Indeterminate, Int, Uint, Char, Uchar, Null, Func, At}
+use Rattle.c_tree.specs.Operators.{Answer, convert, unary, binary, truth}
+use Rattle.c_tree.specs.Operators as operators
 use Rattle.c_rules.specs.Given.{Constant, not_constant, undefined, known, is_zero}
 
-abbrev pub defined_or_not : Option Value → Constant
-defined_or_not None = undefined
-defined_or_not (Some v) = known v
+-- the number that an integer is
+abbrev pub number_of : Value → ℤ
+number_of Indeterminate = pos 0
+number_of (Int z) = z
+number_of (Uint n) = pos n
+number_of (Char z) = z
+number_of (Uchar n) = pos n
+number_of Null = pos 0
+number_of (Func f) = pos 0
+number_of (At q) = pos 0
+
+-- an operator gives a value, or is undefined for these operands
+abbrev pub answered : Answer Value → Constant
+answered (operators.gives v) = known v
+answered (operators.undefined kind) = undefined
 
 abbrev pub constant_converted : IntType → Constant → Constant
 constant_converted i not_constant = not_constant
 constant_converted i undefined = undefined
-constant_converted i (known v) = known (convert i v)
+constant_converted i (known v) = answered (convert i v)
 
 abbrev pub constant_unary : UnOp → Constant → Constant
 constant_unary op not_constant = not_constant
 constant_unary op undefined = undefined
-constant_unary op (known v) = defined_or_not (unary_value op v)
+constant_unary op (known v) = answered (unary op v)
 
 abbrev pub constant_binary : BinOp → Constant → Constant → Constant
 constant_binary op not_constant b = not_constant
 constant_binary op a not_constant = not_constant
 constant_binary op undefined b = undefined
 constant_binary op a undefined = undefined
-constant_binary op (known v) (known w) = defined_or_not (binary_value op v w)
+constant_binary op (known v) (known w) = answered (binary op v w)
 
 -- 1 where the value isn't zero, else 0
 abbrev pub constant_truth : Constant → Constant
 constant_truth not_constant = not_constant
 constant_truth undefined = undefined
-constant_truth (known v) = known (truth (if is_zero v then false else true))
+constant_truth (known v) = answered (truth (not (is_zero v)))
 
 -- the second operand of && decides where the first is not zero (6.5.13)
 abbrev pub constant_and : Constant → Constant → Constant
 constant_and not_constant b = not_constant
 constant_and a not_constant = not_constant
 constant_and undefined b = undefined
-constant_and (known v) b = if is_zero v then known (truth false) else constant_truth b
+constant_and (known v) b = if is_zero v then answered (truth false) else constant_truth b
 
 -- the second operand of || decides where the first is zero (6.5.14)
 abbrev pub constant_or : Constant → Constant → Constant
 constant_or not_constant b = not_constant
 constant_or a not_constant = not_constant
 constant_or undefined b = undefined
-constant_or (known v) b = if is_zero v then constant_truth b else known (truth true)
+constant_or (known v) b = if is_zero v then constant_truth b else answered (truth true)
 
 -- one arm of ?: is evaluated (6.5.15)
 abbrev pub constant_conditional : Constant → Constant → Constant → Constant

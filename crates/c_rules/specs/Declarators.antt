@@ -5,7 +5,7 @@ use Rattle.c_tree.specs.declared.value.Value.{Value}
 use Rattle.c_tree.specs.Tree.{CType, void, integer, pointer, array, struct, function, CTypes}
 use Rattle.c_syntax.specs.Tree.{Ident, Spec, Declarator, Params, TypeName, type_name}
 use Rattle.c_syntax.specs.Tree as syntax
-use Rattle.c_rules.specs.Operators.{number_of}
+use Rattle.c_rules.specs.Constants.{number_of}
 use Rattle.c_rules.specs.Checked.{Checked, fine, fault, demand, on, both, and_also, Met, met}
 use Rattle.c_rules.specs.Codes.{C1, C2, C3, C6, C11, C12, C13}
 use Rattle.c_rules.specs.Limits.{most_parameters}

@@ -8,7 +8,7 @@ use Rattle.c_tree.specs.Tree as typed
 use Rattle.c_tree.specs.Layout.{Structs, flat, flat_all, repeat}
 use Rattle.c_syntax.specs.Tree.{Expr, a_str, Init, one, list, MaybeInit, no_init, an_init}
 use Rattle.c_syntax.specs.Tree as syntax
-use Rattle.c_rules.specs.Operators.{convert}
+use Rattle.c_tree.specs.Operators.{value_of}
 use Rattle.c_rules.specs.Checked.{Checked, fine, fault, demand, on, both, met}
 use Rattle.c_rules.specs.Codes.{C6, C14}
 use Rattle.c_rules.specs.Scopes.{Env, Struct, incomplete, unknown_struct, defined_struct, struct_of, layout_of, type_of_member, Before}
@@ -63,12 +63,12 @@ constant_given t v = value_given t (constant t v) (known v)
 
 -- zero of an integer type, or the null pointer (paragraph 10)
 abbrev pub zero_given : CType → Given
-zero_given (integer i) = constant_given (integer i) (convert i (Int (pos 0)))
+zero_given (integer i) = constant_given (integer i) (value_of i (pos 0))
 zero_given t = null_of t
 
 -- a byte of a string as a char
 abbrev pub char_given : ℕ → Given
-char_given b = constant_given (integer Char) (convert Char (Uchar b))
+char_given b = constant_given (integer Char) (value_of Char (pos b))
 
 -- the cells of elements or members without an initialiser (paragraph 21)
 abbrev pub zeros : Structs → Slots → List Given

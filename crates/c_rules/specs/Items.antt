@@ -5,7 +5,8 @@ use Rattle.c_tree.specs.Layout.{cells, cells_of_all}
 use Rattle.c_syntax.specs.Tree.{Ident, Storage, extern, Spec, Declarator, MaybeInit, no_init, an_init, one, list, Parts, no_parts, more_parts, Decl, decl}
 use Rattle.c_syntax.specs.Tree.{Maybe, absent, there, Declarators, no_declarators, more_declarators, Members, no_members, more_members, Enumerators, no_enumerators, more_enumerators}
 use Rattle.c_syntax.specs.Tree.{Tag, no_tag, tag, Stmt, BlockItems, Item, struct_item, enum_item, tag_item, decl_item, function_item, Items, no_items, more_items}
-use Rattle.c_rules.specs.Operators.{number_of, fits_int}
+use Rattle.c_tree.specs.Operators.{fits_int}
+use Rattle.c_rules.specs.Constants.{number_of}
 use Rattle.c_rules.specs.Checked.{Checked, fine, faulty, fault, demand, on, both, gives, and_also, Met, met}
 use Rattle.c_rules.specs.Codes.{C2, C3, C6, C11, C12, C13, C14}
 use Rattle.c_rules.specs.Limits.{most_cells, most_members, most_static_cells}

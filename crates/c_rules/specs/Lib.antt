@@ -15,7 +15,6 @@ pub mod Items
 pub mod Limits
 pub mod Names
 pub mod Objects
-pub mod Operators
 pub mod PostfixExpressions
 pub mod PrimaryExpressions
 pub mod Scopes

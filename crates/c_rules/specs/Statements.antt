@@ -11,7 +11,8 @@ use Rattle.c_tree.specs.Operands.{promoted}
 use Rattle.c_syntax.specs.Tree.{Maybe, absent, there, First, first_absent, first_expr, first_decl, Labels, no_labels, case_label, default_label}
 use Rattle.c_syntax.specs.Tree.{Stmt, block, empty, evaluate, only_if, if_else, while_loop, do_loop, for_loop, switch_on, break_off, continue_on, return_from}
 use Rattle.c_syntax.specs.Tree.{BlockItems, no_block_items, block_decl, block_stmt, Stmts, no_stmts, more_stmts, Groups, no_groups, more_groups}
-use Rattle.c_rules.specs.Operators.{convert, number_of}
+use Rattle.c_tree.specs.Operators.{value_of}
+use Rattle.c_rules.specs.Constants.{number_of}
 use Rattle.c_rules.specs.Checked.{Checked, fine, faulty, fault, demand, on, both, all_three, beside, Two, gives}
 use Rattle.c_rules.specs.Codes.{C3, C7, C8}
 use Rattle.c_rules.specs.Types.{is_void}
@@ -86,7 +87,7 @@ label_type (faulty fs) = Int
 abbrev pub labels_of : Env → IntType → Labels → Checked (List TLabel)
 labels_of env i no_labels = fine []
 labels_of env i (case_label at e ls) =
-    both (on (folded_value env e) (constant_value (place_of e))) (labels_of env i ls) (λ v vs. fine (Case (convert i v) ∷ vs))
+    both (on (folded_value env e) (constant_value (place_of e))) (labels_of env i ls) (λ v vs. fine (Case (value_of i (number_of v)) ∷ vs))
 labels_of env i (default_label at ls) = gives (labels_of env i ls) (λ vs. Default ∷ vs)
 
 -- groups of a switch and all labels in them
