@@ -1,3 +1,4 @@
+pub mod Accepted
 pub mod Assignments
 pub mod BinaryExpressions
 pub mod Blocks

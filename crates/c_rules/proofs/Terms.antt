@@ -1,0 +1,68 @@
+-- Short words for units written as terms, for trials.
+use Rattle.std.proofs.Common.{ℕ, ℤ, pos, Bool, true, false, List, [], ◌∷◌, codes}
+use Rattle.c_syntax.specs.Tree.{Ident, Storage, no_storage, static, extern, Spec, Expr, a_name, an_int, call, Exprs, no_exprs, more_exprs, Maybe, absent, there, Declarator, named, function, Params, no_params, more_params}
+use Rattle.c_syntax.specs.Tree.{MaybeInit, no_init, an_init, Parts, no_parts, more_parts, Decl, decl, Stmt, block, evaluate, return_from, BlockItems, no_block_items, block_decl, block_stmt, Item, decl_item, function_item, Items, no_items, more_items}
+use Rattle.c_syntax.specs.Tree as syntax
+use Rattle.c_rules.specs.Checked.{Fault}
+
+abbrev pub ident : ℕ → List ℕ → Ident
+ident at x = record { name = x; at = at }
+
+abbrev pub as_declared : ℕ → List ℕ → Declarator
+as_declared at x = named at (ident at x)
+
+-- a function of no parameters
+abbrev pub of_void : ℕ → List ℕ → Declarator
+of_void at x = function at (as_declared at x) no_params
+
+-- one declarator without an initialiser
+abbrev pub alone : Declarator → Parts
+alone d = more_parts d no_init no_parts
+
+abbrev pub one_init : Declarator → syntax.Init → Parts
+one_init d i = more_parts d (an_init i) no_parts
+
+abbrev pub plain : ℕ → Spec → Parts → Decl
+plain at s ps = decl at no_storage s ps
+
+abbrev pub file : ℕ → Spec → Parts → Item
+file at s ps = decl_item at (plain at s ps)
+
+-- a definition of a function with this body
+abbrev pub define : ℕ → Spec → Declarator → BlockItems → Item
+define at s d is = function_item at no_storage s d (block at is)
+
+abbrev pub name : ℕ → List ℕ → Expr
+name at x = a_name at x
+
+abbrev pub int : ℕ → ℕ → Expr
+int at n = an_int at n false
+
+abbrev pub call_none : ℕ → List ℕ → Expr
+call_none at x = call at (a_name at x) no_exprs
+
+abbrev pub call_one : ℕ → List ℕ → Expr → Expr
+call_one at x e = call at (a_name at x) (more_exprs e no_exprs)
+
+abbrev pub returns : ℕ → Expr → Stmt
+returns at e = return_from at (there e)
+
+-- blocks
+abbrev pub end : BlockItems
+end = no_block_items
+
+abbrev pub and_do : Expr → ℕ → BlockItems → BlockItems
+and_do e at is = block_stmt (evaluate at e) is
+
+abbrev pub main_of : ℕ → BlockItems → Item
+main_of at is = define at syntax.int (of_void at (codes "main")) is
+
+-- `int main(void) { .. return 0; }`
+abbrev pub main_doing : Stmt → Item
+main_doing s = main_of 0 (block_stmt s end)
+
+abbrev pub unit_of : Item → Items
+unit_of i = more_items i no_items
+
+abbrev pub one_fault : ℕ → ℕ → List Fault
+one_fault code at = record { code = code; at = at } ∷ []

@@ -1,0 +1,17 @@
+-- Texts that the profile accepts.
+use Rattle.std.specs.Prelude.{ℕ, List}
+use Rattle.dm_base.specs.declared.mode.Mode.{Mode}
+use Rattle.c_lexer.specs.declared.token.Token.{Token}
+use Rattle.c_lexer.specs.Spelling.{SpellsTokens}
+use Rattle.c_syntax.specs.Tree.{Items}
+use Rattle.c_syntax.specs.Spelling.{SpellsUnit}
+use Rattle.c_tree.specs.Tree.{Program}
+use Rattle.c_rules.specs.Units.{IsTyped}
+
+-- the bytes are spelled by tokens that spell a unit which is typed as the program
+pub record IsAccepted (bytes : List ℕ) (mode : Mode) (p : Program) : Type 0 where
+  pub tokens : List Token
+  pub unit : Items
+  pub lexed : SpellsTokens bytes mode tokens
+  pub spelled : SpellsUnit unit tokens mode
+  pub typed : IsTyped unit mode p
