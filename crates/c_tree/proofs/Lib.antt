@@ -4,6 +4,7 @@ pub mod OperatorLemmas
 pub mod OperatorTrials
 pub mod PatternLemmas
 pub mod PatternTrials
+pub mod Rows
 pub mod SpoiltTrials
 pub mod TrialNames
 pub mod TypedTrials

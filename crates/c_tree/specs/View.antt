@@ -7,6 +7,7 @@ use Rattle.c_tree.specs.declared.tree.TExprKind.{Function as FunctionNamed}
 use Rattle.c_tree.specs.declared.tree.TInit.{TInit}
 use Rattle.c_tree.specs.declared.tree.TStmt.{TStmt, Block', Empty, Declare, If', While', Do', For', Switch', Break, Continue, Return, Row_of-TStmt, end_of-TStmt, more_of-TStmt, Held-TStmt-If-2, None', Some', Row_of-TGroup, end_of-TGroup, more_of-TGroup}
 use Rattle.c_tree.specs.declared.tree.TStmt.{Expr as Evaluated}
+use Rattle.c_tree.specs.declared.tree.TGroup.{TGroup}
 use Rattle.c_tree.specs.declared.tree.Function.{Function as FunctionTree}
 use Rattle.c_tree.specs.declared.tree.Static.{Static as StaticTree}
 use Rattle.c_tree.specs.declared.tree.StructMembers.{StructMembers}
@@ -104,6 +105,23 @@ abbrev mutual
   pub groups_of_row : {m : _} → Row_of-TGroup m → Groups
   groups_of_row end_of-TGroup = no_groups
   groups_of_row (more_of-TGroup labels shape row rest) = more_groups labels.items (stmts_of_row row) (groups_of_row rest)
+
+-- lists of trees as terms
+abbrev pub types_of : List TypeTree → CTypes
+types_of [] = no_types
+types_of (t ∷ ts) = more_types (ctype_of t) (types_of ts)
+
+abbrev pub exprs_of : List TExpr → Exprs
+exprs_of [] = no_exprs
+exprs_of (e ∷ es) = more_exprs (expr_of e) (exprs_of es)
+
+abbrev pub stmts_of : List TStmt → Stmts
+stmts_of [] = no_stmts
+stmts_of (s ∷ ss) = more_stmts (stmt_of s) (stmts_of ss)
+
+abbrev pub groups_of : List TGroup → Groups
+groups_of [] = no_groups
+groups_of (g ∷ gs) = more_groups g.labels.items (stmts_of g.body.items) (groups_of gs)
 
 abbrev pub ctypes_of : List TypeTree → List CType
 ctypes_of ts = map ctype_of ts
