@@ -5,6 +5,8 @@ pub mod OperatorTrials
 pub mod PatternLemmas
 pub mod PatternTrials
 pub mod Rows
+pub mod SameBelow
+pub mod SameLemmas
 pub mod SpoiltTrials
 pub mod TrialNames
 pub mod TypedTrials

@@ -2,15 +2,19 @@
 //! of them are well-typed, and what operators give.
 #![tactic(auto)]
 
+mod copying;
 mod laws;
 mod layout;
 mod program;
+mod same;
 mod tree;
 mod value;
 
+pub use copying::{copy_type, copy_types};
 pub use laws::{operators_keep_types, patterns_are_right};
 pub use layout::cells_of;
 pub use program::Program;
+pub use same::is_same;
 pub use tree::{
     CType, Function, Static, StructMembers, TExpr, TExprKind, TGroup, TInit, TLabel, TStmt,
 };
