@@ -4,3 +4,4 @@ pub mod Walking
 pub mod Leaving
 pub mod Cutting
 pub mod Fronts
+pub mod ProgramTrials

@@ -4,3 +4,7 @@ pub mod Words
 pub mod Table
 pub mod Walks
 pub mod Languages
+pub mod Mentions
+pub mod CallGraph
+pub mod ShapeOf
+pub mod ProgramLanguages

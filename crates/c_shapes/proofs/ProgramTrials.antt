@@ -1,0 +1,102 @@
+-- Call graphs and shapes of small programs.
+use Rattle.std.proofs.Common.{◌≡◌, ℕ, ◌+◌, pos, Bool, true, false, List, [], ◌∷◌, Option, None, Some, codes, refl}
+use Rattle.sys_table.specs.Table.{table}
+use Rattle.c_tree.specs.declared.value.IntType.TheVariants.{Int}
+use Rattle.c_tree.specs.declared.value.Value.TheVariants as v
+use Rattle.c_tree.specs.Tree.{CType, pointer, array, function, no_types, more_types, Function, Static, Program}
+use Rattle.c_tree.specs.Tree.{Expr, constant, function_name, variable, dereference, load, address_of, decay, pointer_add, call, call_through, Exprs, no_exprs, more_exprs, discard}
+use Rattle.c_tree.specs.Tree.{Stmt, block, empty, evaluate, if_else, return_value, no_stmts, more_stmts}
+use Rattle.c_tree.specs.Functions.{int, char_pointer, of_none, of_one, sys_types, defined}
+use Rattle.c_tree.proofs.TypedTrials.{f_of_b, main_of_b, f_of_d, main_of_d, g_of_d, of_f_and_main, function_with, main_with, zero_of_int, two}
+use Rattle.c_shapes.specs.Shape.{Shape, Skip, Sys, Call, Seq, Alt, Return, Parts, End, Part, Shapes}
+use Rattle.c_shapes.specs.CallGraph.{is_taken, candidates, reaching, reaches, marked}
+use Rattle.c_shapes.specs.ShapeOf.{shapes_of, shapes_of_functions, names_of_functions, taken_calls, candidate_places}
+
+-- int f(void) { return getpid(); } int main(void) { f(); getuid(); f(); return 0; }
+abbrev pub source_b : Program
+source_b = of_f_and_main f_of_b main_of_b []
+
+b_takes_nothing : is_taken source_b 0 ≡ false
+b_takes_nothing = refl
+
+b_candidates : candidates source_b 0 ∷ candidates source_b 1 ∷ candidates source_b 2 ∷ candidates source_b 3 ∷ [] ≡ (16 ∷ []) ∷ (0 ∷ []) ∷ (18 ∷ []) ∷ (0 ∷ []) ∷ []
+b_candidates = refl
+
+b_reaches : reaches source_b 0 ∷ reaches source_b 1 ∷ [] ≡ true ∷ true ∷ []
+b_reaches = refl
+
+b_marks : marked source_b 0 ∷ marked source_b 1 ∷ marked source_b 2 ∷ marked source_b 3 ∷ [] ≡ false ∷ true ∷ false ∷ true ∷ []
+b_marks = refl
+
+b_shapes : shapes_of_functions source_b ≡ Seq (Sys 14 []) (Part Return End) ∷ Seq (Call 1) (Part (Sys 16 []) (Part (Call 3) (Part Return End))) ∷ []
+unfolding table
+b_shapes = refl
+
+b_places : candidate_places source_b 0 ∷ candidate_places source_b 1 ∷ candidate_places source_b 2 ∷ candidate_places source_b 3 ∷ candidate_places source_b 4 ∷ [] ≡ [] ∷ (0 ∷ []) ∷ [] ∷ (0 ∷ []) ∷ [] ∷ []
+b_places = refl
+
+-- int g; int f(void) { if (g) f(); getpid(); return 0; } int main(void) { f(); return 0; }
+abbrev source_d : Program
+source_d = of_f_and_main f_of_d main_of_d (g_of_d ∷ [])
+
+d_marks : marked source_d 0 ∷ marked source_d 1 ∷ marked source_d 2 ∷ [] ≡ true ∷ false ∷ true ∷ []
+d_marks = refl
+
+d_shapes : shapes_of_functions source_d ≡ Seq (Alt (Call 0) Skip) (Part (Sys 14 []) (Part Return End)) ∷ Seq (Call 2) (Part Return End) ∷ []
+unfolding table
+d_shapes = refl
+
+-- int a(int x) { getpid(); return x; } int b(int x) { return x; } int c(char *s) { getpid(); return 0; }
+-- int (*t[3])(int) = { a, b, close }; int (*u)(char *) = c; int main(void) { return t[1](5); }
+abbrev x_of_parameter : Stmt
+x_of_parameter = return_value (load int (variable int false 0))
+
+abbrev int_of_int : CType
+int_of_int = pointer (of_one int int)
+
+abbrev t_of_one : Expr
+t_of_one =
+    load int_of_int (dereference int_of_int (pointer_add (pointer int_of_int) true false (decay (pointer int_of_int) (variable (array int_of_int 3) true 0)) (constant int (v.Int (pos 1)))))
+
+abbrev indirect : Program
+indirect = record {
+  structs = [];
+  functions =
+      function_with (codes "a") (of_one int int) (int ∷ []) (two (evaluate (call int 0 18 no_exprs)) x_of_parameter)
+      ∷ function_with (codes "b") (of_one int int) (int ∷ []) x_of_parameter
+      ∷ function_with (codes "c") (of_one int char_pointer) (char_pointer ∷ []) (two (evaluate (call int 1 18 no_exprs)) (return_value zero_of_int))
+      ∷ main_with (return_value (call_through int 2 t_of_one (more_exprs (constant int (v.Int (pos 5))) no_exprs)))
+      ∷ [];
+  main = 3;
+  statics =
+      record { ctype = array int_of_int 3; cells = v.Func 0 ∷ v.Func 1 ∷ v.Func 7 ∷ []; string = false }
+      ∷ record { ctype = pointer (of_one int char_pointer); cells = v.Func 2 ∷ []; string = false }
+      ∷ [];
+}
+
+indirect_takes : is_taken indirect 0 ∷ is_taken indirect 1 ∷ is_taken indirect 2 ∷ is_taken indirect 3 ∷ is_taken indirect 7 ∷ is_taken indirect 18 ∷ [] ≡ true ∷ true ∷ true ∷ false ∷ true ∷ false ∷ []
+indirect_takes = refl
+
+indirect_candidates : candidates indirect 2 ≡ 0 ∷ 1 ∷ 7 ∷ []
+unfolding sys_types
+indirect_candidates = refl
+
+indirect_reaches : reaches indirect 0 ∷ reaches indirect 1 ∷ reaches indirect 2 ∷ reaches indirect 3 ∷ [] ≡ true ∷ false ∷ true ∷ true ∷ []
+unfolding sys_types
+indirect_reaches = refl
+
+indirect_marks : marked indirect 0 ∷ marked indirect 1 ∷ marked indirect 2 ∷ [] ≡ false ∷ false ∷ true ∷ []
+unfolding sys_types
+indirect_marks = refl
+
+indirect_places : candidate_places indirect 2 ≡ 0 ∷ 1 ∷ 4 ∷ []
+unfolding sys_types
+indirect_places = refl
+
+indirect_shapes : shapes_of_functions indirect ≡ Seq (Sys 14 []) (Part Return End) ∷ Return ∷ Seq (Sys 14 []) (Part Return End) ∷ Seq (Call 2) (Part Return End) ∷ Sys 3 (None ∷ []) ∷ []
+unfolding table sys_types
+indirect_shapes = refl
+
+indirect_names : names_of_functions indirect ≡ codes "a" ∷ codes "b" ∷ codes "c" ∷ codes "main" ∷ codes "close" ∷ []
+unfolding table
+indirect_names = refl
