@@ -5,16 +5,12 @@ use Rattle.std.proofs.lemmas.Option.{slice_get_past}
 use Rattle.std.proofs.lemmas.Result.{on_ok_weaker}
 use Rattle.std.proofs.lemmas.Bool.Decides.{nat_tests}
 use Rattle.c_lexer.specs.declared.token.TokenKind.TheVariants.{Char, Punct}
-use Rattle.c_lexer.specs.Words.{keywords, punctuators}
+use Rattle.c_lexer.specs.Words.{punctuators}
 use Rattle.c_syntax.specs.Text.{byte_of, element_text, space_after}
 use Rattle.c_syntax.specs.Writes.{WritesToken}
 use Rattle.c_syntax.proofs.Writing.{token_written}
 
--- a number past the last keyword has no text
-pub no_keyword : (k : ℕ) → 22 ≤ k → unwrap_or (slice_get keywords k) [] ≡ []
-unfolding keywords
-no_keyword k past = ap (λ o. unwrap_or o []) (slice_get_past keywords k past)
-
+-- a number past the last punctuator has no text
 pub no_punctuator : (k : ℕ) → 45 ≤ k → unwrap_or (slice_get punctuators k) [] ≡ []
 unfolding punctuators
 no_punctuator k past = ap (λ o. unwrap_or o []) (slice_get_past punctuators k past)

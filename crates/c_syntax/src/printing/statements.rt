@@ -1,4 +1,4 @@
-ghost use Rattle.std.specs.Prelude.{OnOk};
+ghost use Rattle.std.specs.Prelude.{◌<◌, OnOk};
 ghost use Rattle.c_syntax.specs.UnitView.{first_of_head, maybe_of, labels_of, stmt_of, block_item_before, group_before};
 ghost use Rattle.c_syntax.specs.Tree.{no_block_items, no_groups};
 ghost use Rattle.c_syntax.specs.View.{expr_of};
@@ -50,6 +50,7 @@ fn write_for_head(
 
 // Writes a keyword and an expression in parentheses.
 fn write_head(out: &mut Vec<u8>, keyword: u8, test: &Expr) -> Result<(), OutOfMemory>
+    requires { keyword < 22 }
     ensures { OnOk result (Writes out.old.items out.new.items (worded_kinds keyword (expr_of test.now))) }
 {
     push_keyword(out, keyword)?;
@@ -60,6 +61,7 @@ fn write_head(out: &mut Vec<u8>, keyword: u8, test: &Expr) -> Result<(), OutOfMe
 
 // Writes a keyword and a semicolon.
 fn write_jump(out: &mut Vec<u8>, keyword: u8) -> Result<(), OutOfMemory>
+    requires { keyword < 22 }
     ensures { OnOk result (Writes out.old.items out.new.items (jump_kinds keyword)) }
 {
     push_keyword(out, keyword)?;

@@ -1,4 +1,4 @@
-ghost use Rattle.std.specs.Prelude.{◌≡◌, ◌++◌, ◌∷◌, [], IfSome, OnOk};
+ghost use Rattle.std.specs.Prelude.{◌≡◌, ◌++◌, ◌∷◌, [], ◌<◌, IfSome, OnOk};
 ghost use Rattle.c_syntax.specs.Text.{byte_of as byte_of_char, element_text, elements_text};
 ghost use Rattle.c_syntax.specs.Writes.{Writes, WritesToken, octal_text, separator};
 
@@ -7,14 +7,12 @@ use c_lexer::{TokenKind, keyword_text, punctuator_text};
 use dm_base::OutOfMemory;
 use itoa::Buffer;
 
-// Writes the keyword with the number; nothing but a space where the number is no keyword's.
+// Writes the keyword with the number.
 pub fn push_keyword(out: &mut Vec<u8>, number: u8) -> Result<(), OutOfMemory>
+    requires { number < 22 }
     ensures { OnOk result (WritesToken out.old.items out.new.items (TokenKind.Keyword number)) }
 {
-    if number < 22 {
-        return push_word(out, keyword_text(number), b' ');
-    }
-    push_word(out, b"", b' ')
+    push_word(out, keyword_text(number), b' ')
 }
 
 // Writes the punctuator with the number; nothing but a space where the number is no punctuator's.
