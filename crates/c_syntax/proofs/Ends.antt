@@ -1,5 +1,5 @@
 -- What a phrase begins with, by a number for each token, and what a phrase of which more could be read does not end at.
-use Rattle.std.proofs.Common.{◌≡◌, ◌≤◌, ℕ, ℤ, Bool, zero, suc, ◌+◌, ◌-◌, List, [], ◌∷◌, sym, ap, arith, slice_index_or}
+use Rattle.std.proofs.Common.{◌≡◌, ◌≤◌, ℕ, ℤ, Bool, zero, suc, List, [], ◌∷◌, ap, arith, slice_index_or}
 use Rattle.c_lexer.specs.declared.token.Token.{Token}
 use Rattle.c_lexer.specs.declared.token.TokenKind.{TokenKind}
 use Rattle.c_lexer.specs.declared.token.TokenKind.TheVariants.{Name, Keyword, Int, Char, Str, Punct}

@@ -4,12 +4,12 @@ use Rattle.dm_base.specs.declared.mode.Mode.TheVariants.{Plain, Instrumented}
 use Rattle.c_lexer.specs.declared.token.Token.{Token}
 use Rattle.c_lexer.specs.declared.punctuator.TheConstants as p
 use Rattle.c_lexer.specs.declared.keyword.TheConstants as w
-use Rattle.c_syntax.specs.Tree.{Expr, a_name, Declarator, named, function, no_params, no_storage, int, Stmt, block, no_block_items, block_stmt, Item, function_item, Items, no_items, more_items}
+use Rattle.c_syntax.specs.Tree.{Expr, a_name, named, function, no_params, no_storage, int, Stmt, block, no_block_items, block_stmt, function_item, Items, no_items, more_items}
 use Rattle.c_syntax.specs.Tokens.{Is, IsKeyword, IsNameToken}
 use Rattle.c_syntax.specs.Specifiers.{no_const, no_storage_stands, is_int, is_void}
 use Rattle.c_syntax.specs.Grammar.{Level, expression_level, Reads, is_name, is_int as int_stands, is_char, are_strings, in_parentheses, with_suffixes, no_prefix, a_prefix, a_unary, a_sizeof_type, no_cast, a_cast, no_chain, a_chain}
 use Rattle.c_syntax.specs.Grammar.{no_choice, a_choice, no_assignment, an_assignment, no_comma, a_comma, a_direct, a_declared, no_more, a_function, are_none}
-use Rattle.c_syntax.specs.Statements.{ReadsStmt, a_block, no_block_item, a_block_stmt, ReadsItem, a_definition, last_item}
+use Rattle.c_syntax.specs.Statements.{ReadsStmt, a_block, no_block_item, a_block_stmt, a_definition, last_item}
 use Rattle.c_syntax.specs.Limits.{height_of_stmt, most_pairs}
 use Rattle.c_syntax.specs.Spelling.{SpellsUnit}
 use Rattle.c_syntax.proofs.Ends.{start, started, started_word, started_name, started_int, started_char, started_unary, started_prefix}

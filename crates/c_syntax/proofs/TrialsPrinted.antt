@@ -1,5 +1,5 @@
 -- The definition of printed text tried on examples, whose texts are written out.
-use Rattle.std.proofs.Common.{◌≡◌, List, [], ◌∷◌, ◌++◌, refl}
+use Rattle.std.proofs.Common.{◌≡◌, [], ◌∷◌, ◌++◌, refl}
 use Rattle.std.specs.Prelude.{codes, pos, negsuc}
 use Rattle.c_lexer.specs.declared.token.TokenKind.TheVariants.{Char, Str}
 use Rattle.c_lexer.specs.declared.punctuator.TheConstants as p

@@ -1,7 +1,6 @@
 -- Which tokens stand where, and the operators by their names.
 use Rattle.std.specs.Prelude.{◌≡◌, ℕ, ℤ, Bool, List, [], ◌∷◌}
 use Rattle.c_lexer.specs.declared.token.Token.{Token}
-use Rattle.c_lexer.specs.declared.token.TokenKind.{TokenKind}
 use Rattle.c_lexer.specs.declared.token.TokenKind.TheVariants.{Name, Keyword, Int, Char, Str, Punct}
 use Rattle.c_lexer.specs.declared.punctuator.TheConstants.{DOT, ARROW, INCREMENT, DECREMENT, AMPERSAND, ASTERISK, PLUS, MINUS, TILDE, EXCLAMATION, SLASH, PERCENT, LEFT_SHIFT, RIGHT_SHIFT, LESS, GREATER, LESS_EQUAL, GREATER_EQUAL, EQUAL_EQUAL, NOT_EQUAL, CARET, BAR, AND, OR}
 use Rattle.c_lexer.specs.declared.punctuator.TheConstants.{ASSIGN, ASSIGN_MULTIPLY, ASSIGN_DIVIDE, ASSIGN_REMAINDER, ASSIGN_ADD, ASSIGN_SUBTRACT, ASSIGN_LEFT_SHIFT, ASSIGN_RIGHT_SHIFT, ASSIGN_AND, ASSIGN_XOR, ASSIGN_OR}
