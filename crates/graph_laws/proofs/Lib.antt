@@ -14,3 +14,7 @@ pub mod Nodes
 pub mod Rising
 pub mod Valid
 pub mod Trials
+pub mod ShapesOfTrees
+pub mod SitesOfTrees
+pub mod SystemNames
+pub mod ProgramsClosed

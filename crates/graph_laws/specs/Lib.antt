@@ -3,3 +3,4 @@ pub mod Sorted
 pub mod GraphOf
 pub mod Premises
 pub mod Equal
+pub mod GraphOfProgram

@@ -3,4 +3,6 @@
 
 mod laws;
 
-pub use laws::{graph_has_the_words, graph_is_valid};
+pub use laws::{
+    graph_has_the_words, graph_is_valid, program_graph_has_the_words, program_graph_is_valid,
+};
