@@ -1,5 +1,5 @@
 -- What the trees of Rust that hold lists are seen as.
-use Rattle.std.proofs.Common.{◌≡◌, ℕ, Bool, List, [], ◌∷◌, Option, Vec, Global, refl, ap, sym, ◌∙◌}
+use Rattle.std.proofs.Common.{◌≡◌, ℕ, List, Option, Vec, Global, refl, ap, sym, ◌∙◌}
 use Rattle.std.specs.Prelude.{Box}
 use mathlib.Core.Former.{Count}
 use Rattle.c_tree.specs.declared.tree.CType.{CType as TypeTree, Function', Row_of-CType, end_of-CType, more_of-CType, items-the_row-CType, items_hidden-the_row-CType-0}
@@ -11,7 +11,7 @@ use Rattle.c_tree.specs.declared.tree.TStmt.{TStmt, Block', Switch', Row_of-TStm
 use Rattle.c_tree.specs.declared.tree.TStmt.TheVariants.{Block, For, Switch}
 use Rattle.c_tree.specs.declared.tree.TGroup.{TGroup}
 use Rattle.c_tree.specs.declared.tree.TLabel.{TLabel}
-use Rattle.c_tree.specs.Tree.{CType, function, more_types, Expr, comma, call, call_through, more_exprs, Stmt, block, for_loop, switch_on, Stmts, more_stmts, Groups, more_groups}
+use Rattle.c_tree.specs.Tree.{CType, function, more_types, comma, call, call_through, more_exprs, block, for_loop, switch_on, Stmts, more_stmts, Groups, more_groups}
 use Rattle.c_tree.specs.View.{ctype_of, ctypes_of_row, types_of, expr_of, expr_with, exprs_of_row, exprs_of, maybe_of, stmt_of, stmts_of_row, stmts_of, groups_of_row, groups_of}
 
 types_row : (n : _) (row : Row_of-CType n) → ctypes_of_row row ≡ types_of (items-the_row-CType n row)

@@ -1,5 +1,5 @@
 ghost use Rattle.std.specs.Prelude.{◌≡◌, IfOk};
-ghost use Rattle.c_tree.specs.View.{ctype_of, types_of};
+ghost use Rattle.c_tree.specs.View.{ctype_of, ctypes_of};
 
 use crate::CType;
 use dm_base::OutOfMemory;
@@ -33,9 +33,9 @@ pub fn copy_type(alloc: Global, t: &CType) -> Result<CType, OutOfMemory>
 /// A copy of the types.
 #[cycle(copying)]
 pub fn copy_types(alloc: Global, ts: &[CType]) -> Result<Vec<CType>, OutOfMemory>
-    ensures { IfOk result (λ copied. types_of copied.items ≡ types_of ts.now) }
+    ensures { IfOk result (λ copied. ctypes_of copied.items ≡ ctypes_of ts.now) }
 {
-    let mut copied = Vec::new_in(alloc);
+    let mut copied = Vec::new(alloc);
     for i in 0..ts.len() {
         let one = copy_type(alloc, &ts[i])?;
         copied.push(one)?;
