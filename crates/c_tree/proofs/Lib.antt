@@ -9,5 +9,6 @@ pub mod Rows
 pub mod SameBelow
 pub mod SameLemmas
 pub mod SpoiltTrials
+pub mod SysTypesTrials
 pub mod TrialNames
 pub mod TypedTrials

@@ -1,9 +1,10 @@
-ghost use Rattle.std.specs.Prelude.{◌≡◌, ℕ, ◌+◌, ◌<◌, Some, map, slice_get};
+ghost use Rattle.std.specs.Prelude.{◌≡◌, ℕ, ◌+◌, ◌<◌, Some, length, map, slice_get};
 ghost use Rattle.c_tree.specs.Functions.{defined, name_of_function};
 ghost use Rattle.c_tree.specs.Program.{IsProgram};
 ghost use Rattle.c_tree.specs.Counts.{AreCounts};
 ghost use Rattle.c_tree.specs.Layout.{cells};
 ghost use Rattle.c_tree.specs.Operands.{IsObject};
+ghost use Rattle.c_tree.specs.Sites.{sites_of_program};
 ghost use Rattle.c_tree.specs.View.{members_in, ctype_of, program_of};
 
 use crate::{CType, Function, Static, StructMembers, cells_of};
@@ -81,7 +82,8 @@ impl Program {
     /// How many call expressions there are, at most 30,000. Their sites are the numbers below, in the order of
     /// their opening parentheses.
     pub fn sites(&self) -> u32
-        ensures { IsProgram (program_of self.now) result }
+        ensures typed { IsProgram (program_of self.now) result }
+        ensures count { result ≡ length (sites_of_program (program_of self.now)) }
     {
         self.sites
     }
