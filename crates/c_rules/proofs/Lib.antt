@@ -1,2 +1,6 @@
 pub mod Terms
+mod TrialConstants
+mod TrialDeclared
 mod TrialPrograms
+mod TrialStatics
+mod TrialTypes

@@ -1,5 +1,5 @@
 -- Short words for units written as terms, for trials.
-use Rattle.std.proofs.Common.{ℕ, ℤ, pos, Bool, true, false, List, [], ◌∷◌, codes}
+use Rattle.std.proofs.Common.{ℕ, ◌+◌, ℤ, pos, Bool, true, false, List, [], ◌∷◌, codes}
 use Rattle.c_syntax.specs.Tree.{Ident, Storage, no_storage, static, extern, Spec, Expr, a_name, an_int, call, Exprs, no_exprs, more_exprs, Maybe, absent, there, Declarator, named, function, Params, no_params, more_params}
 use Rattle.c_syntax.specs.Tree.{MaybeInit, no_init, an_init, Parts, no_parts, more_parts, Decl, decl, Stmt, block, evaluate, return_from, BlockItems, no_block_items, block_decl, block_stmt, Item, decl_item, function_item, Items, no_items, more_items}
 use Rattle.c_syntax.specs.Tree as syntax
@@ -66,3 +66,12 @@ unit_of i = more_items i no_items
 
 abbrev pub one_fault : ℕ → ℕ → List Fault
 one_fault code at = record { code = code; at = at } ∷ []
+
+-- `int main(void) { return 0; }` at this place
+abbrev pub main_that_returns : ℕ → Item
+main_that_returns at =
+    function_item at no_storage syntax.int (function (◌+◌ at 4) (named (◌+◌ at 4) (ident (◌+◌ at 4) (codes "main"))) no_params)
+    (block (◌+◌ at 15) (block_stmt (return_from (◌+◌ at 17) (there (an_int (◌+◌ at 24) 0 false))) no_block_items))
+
+abbrev pub failing : (code at : ℕ) → List Fault → List Fault
+failing code at fs = record { code = code; at = at } ∷ fs
