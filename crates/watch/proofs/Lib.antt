@@ -1,4 +1,6 @@
 pub mod KeyLemmas
+pub mod MarkLemmas
 pub mod OwnLemmas
 pub mod PastLemmas
 pub mod StepLemmas
+pub mod WatchLemmas

@@ -20,6 +20,7 @@ use Rattle.flow_model.proofs.Histories.{rejected_stays, bound_stays}
 use Rattle.flow_model.proofs.Verdicts.{rejected_next, bound_next, rejected_after, bound_after, kept-reads, kept-within}
 use Rattle.watch.specs.declared.past.Past.{Past}
 use Rattle.watch.specs.declared.past.Refusal.{Refusal}
+use Rattle.watch.specs.Keeping.{verdict_of, told}
 use Rattle.watch.specs.Pasts.{kept_events, last_kept, refused_event, IsRefusalAt, IsKeptWhole, IsRefused, HasCome, IsPast}
 
 -- windows
@@ -251,3 +252,31 @@ module _ (which : Which) (g : Graph) (bound : ℕ) (h : List Event) where
 pub last_told : {E : Type 0} (past : Past) (r : Result (Vec Event Global) E) → IfOk r (λ events. events.items ≡ past.window.items) → IfOk r (λ events. (which : Which) (g : Graph) (k : ℕ) (h : List Event) (v : Verdict) → IsPast which g k h past → IsVerdict which g k h v → events.items ≡ last_kept v h)
 last_told past (Ok events) copied = λ which g k h v at told. copied ∙ window_told which g k h past v at told
 last_told past (Err e) copied = tt
+
+-- a refused history isn't accepted, and an accepted one wasn't refused
+
+module _ (which : Which) (g : Graph) (bound : ℕ) (h : List Event) (past : Past) where
+  pub refused_is_not : (r : Refusal) → past.refusal ≡ Some r → IsPast which g bound h past → IsAccepted which g bound h → ⊥
+  refused_is_not r is at accepted =
+      let come : IsRefused which g bound h past.kept r = subst (HasCome which g bound h past.kept) is at.come in
+      let lt : past.kept < length h = slice_get_within h past.kept r.event come.event in
+      let cuts = refused_cuts which g bound h r.verdict past.kept come.place come.verdict in
+      cuts.stops lt (accepted.kept (past.kept + 1) (omega arith))
+
+  pub accepted_is_kept : IsPast which g bound h past → IsAccepted which g bound h → past.refusal ≡ None
+  accepted_is_kept at accepted = by past.refusal refl
+    where
+      by : (r : Option Refusal) → past.refusal ≡ r → past.refusal ≡ None
+      by None is = is
+      by (Some r) is = absurd (refused_is_not r is at accepted)
+
+  pub kept_is_accepted : past.refusal ≡ None → IsPast which g bound h past → IsAccepted which g bound h
+  kept_is_accepted none at = let was : IsKeptWhole which g bound h past.kept = subst (HasCome which g bound h past.kept) none at.come in was.accepted
+
+  -- what is told is the verdict
+  pub verdict_told : IsPast which g bound h past → IsVerdict which g bound h (verdict_of past)
+  verdict_told at = by past.refusal at.come
+    where
+      by : (r : Option Refusal) → HasCome which g bound h past.kept r → IsVerdict which g bound h (told past.kept r)
+      by None was = (was.count, was.accepted)
+      by (Some r) was = was.verdict

@@ -50,7 +50,7 @@ keeps_both laws g old mid new first second = record {
 }
 
 -- a record that makes no process known beside its own
-known_alone : (version : TracesVersion) (pid : ℕ) (e : Event) (old new numbers : List ℕ) → new ≡ insert_key nat_eq old pid → ((c : ℕ) → version ≡ Two → is_among (child_of e) c ≡ true → is_among new c ≡ true) → AreKnown old numbers → AreKnown new (numbers ++ made_known version (record_of pid e))
+pub known_alone : (version : TracesVersion) (pid : ℕ) (e : Event) (old new numbers : List ℕ) → new ≡ insert_key nat_eq old pid → ((c : ℕ) → version ≡ Two → is_among (child_of e) c ≡ true → is_among new c ≡ true) → AreKnown old numbers → AreKnown new (numbers ++ made_known version (record_of pid e))
 known_alone One pid e old new numbers is there are = one_known One (record_of pid e) old new refl is numbers are
 known_alone Two pid e old new numbers is there are =
     elim (one_child e) as (λ _. AreKnown new (numbers ++ made_known Two (record_of pid e))) [

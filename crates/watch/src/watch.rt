@@ -37,6 +37,13 @@ pub struct Watch<M: Monitor> {
     left: usize,
 }
 
+// One where it is so, and else nothing.
+fn one_if(yes: bool) -> usize
+    ensures { result ≡ (if yes then 1 else 0) }
+{
+    if yes { 1 } else { 0 }
+}
+
 impl<M: Monitor> Watch<M> {
     ghost use Rattle.watch.specs.Own.{own, firsts, has_record, is_known, record_of};
     ghost use Rattle.watch.specs.Pasts.{last_kept, refused_event};
@@ -73,8 +80,8 @@ impl<M: Monitor> Watch<M> {
     pub fn room(&self, pid: u32, event: &Event) -> bool
         ensures { (g : Graph) (k : ℕ) (version : TracesVersion') (records : List Record) → StandsFor M.Monitor g k version self.now records → IsTrue result ↔ (known_count version (records ++ record_of pid event.now ∷ []) ≤ most_processes) }
     {
-        let own = usize::from(!self.table.contains_key(&pid));
-        let child = usize::from(newborn(&self.setting, &self.table, pid, event).is_some());
+        let own = one_if(!self.table.contains_key(&pid));
+        let child = one_if(newborn(&self.setting, &self.table, pid, event).is_some());
         self.table.len() + own + child <= MOST
     }
 

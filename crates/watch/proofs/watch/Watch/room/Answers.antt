@@ -1,0 +1,4 @@
+use Rattle.watch.proofs.watch.Watch.room.Goals as goal
+
+pub returns : goal.returns
+returns g c = ?
