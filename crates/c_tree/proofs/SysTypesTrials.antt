@@ -5,8 +5,8 @@ use Rattle.sys_table.specs.declared.kinds.ArgKind.TheVariants.{Signed, Unsigned,
 use Rattle.sys_table.specs.declared.kinds.ResultKind.{ResultKind}
 use Rattle.sys_table.specs.declared.kinds.ResultKind.TheVariants as r
 use Rattle.sys_table.specs.Table.{Row, table}
-use Rattle.c_tree.specs.declared.value.IntType.TheVariants.{Char, Uchar, Int, Uint}
-use Rattle.c_tree.specs.Tree.{CType, void, integer, pointer, array, struct, function, CTypes, no_types, more_types}
+use Rattle.c_tree.specs.declared.value.IntType.TheVariants.{Int, Uint}
+use Rattle.c_tree.specs.Tree.{CType, integer, pointer, function, CTypes, no_types, more_types}
 use Rattle.c_tree.specs.Functions.{sys_types}
 
 -- an argument of this type, before others
