@@ -5,3 +5,6 @@ pub mod Leaving
 pub mod Cutting
 pub mod Fronts
 pub mod ProgramTrials
+pub mod WordTrials
+pub mod Rounds
+pub mod SameTypes

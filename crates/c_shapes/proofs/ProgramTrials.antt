@@ -1,16 +1,15 @@
 -- Call graphs and shapes of small programs.
-use Rattle.std.proofs.Common.{◌≡◌, ℕ, ◌+◌, pos, Bool, true, false, List, [], ◌∷◌, Option, None, Some, codes, refl}
+use Rattle.std.proofs.Common.{◌≡◌, pos, true, false, [], ◌∷◌, None, codes, refl}
 use Rattle.sys_table.specs.Table.{table}
-use Rattle.c_tree.specs.declared.value.IntType.TheVariants.{Int}
 use Rattle.c_tree.specs.declared.value.Value.TheVariants as v
-use Rattle.c_tree.specs.Tree.{CType, pointer, array, function, no_types, more_types, Function, Static, Program}
-use Rattle.c_tree.specs.Tree.{Expr, constant, function_name, variable, dereference, load, address_of, decay, pointer_add, call, call_through, Exprs, no_exprs, more_exprs, discard}
+use Rattle.c_tree.specs.Tree.{CType, pointer, array, Program}
+use Rattle.c_tree.specs.Tree.{Expr, constant, function_name, variable, dereference, load, address_of, decay, pointer_add, call, call_through, no_exprs, more_exprs}
 use Rattle.c_tree.specs.Tree.{Stmt, block, empty, evaluate, if_else, return_value, no_stmts, more_stmts}
-use Rattle.c_tree.specs.Functions.{int, char_pointer, of_none, of_one, sys_types, defined}
+use Rattle.c_tree.specs.Functions.{int, char_pointer, of_none, of_one, sys_types}
 use Rattle.c_tree.proofs.TypedTrials.{f_of_b, main_of_b, f_of_d, main_of_d, g_of_d, of_f_and_main, function_with, main_with, zero_of_int, two}
-use Rattle.c_shapes.specs.Shape.{Shape, Skip, Sys, Call, Seq, Alt, Return, Parts, End, Part, Shapes}
-use Rattle.c_shapes.specs.CallGraph.{is_taken, candidates, reaching, reaches, marked}
-use Rattle.c_shapes.specs.ShapeOf.{shapes_of, shapes_of_functions, names_of_functions, taken_calls, candidate_places}
+use Rattle.c_shapes.specs.Shape.{Skip, Sys, Call, Seq, Alt, Return, End, Part}
+use Rattle.c_shapes.specs.CallGraph.{is_taken, candidates, reaches, marked}
+use Rattle.c_shapes.specs.ShapeOf.{shapes_of_functions, names_of_functions, candidate_places}
 
 -- int f(void) { return getpid(); } int main(void) { f(); getuid(); f(); return 0; }
 abbrev pub source_b : Program
@@ -100,3 +99,10 @@ indirect_shapes = refl
 indirect_names : names_of_functions indirect ≡ codes "a" ∷ codes "b" ∷ codes "c" ∷ codes "main" ∷ codes "close" ∷ []
 unfolding table
 indirect_names = refl
+
+-- int f(void); .. int main(void) { if (f) ; &g; *h; k(); return sizeof m; }: the names f, g and h are taken, k and m are not
+abbrev names_of_kinds : Program
+names_of_kinds = of_f_and_main f_of_b (block (more_stmts (if_else (decay (pointer (of_none int)) (function_name (of_none int) 2)) empty empty) (more_stmts (evaluate (address_of (pointer (of_none int)) (function_name (of_none int) 3))) (more_stmts (evaluate (decay (pointer (of_none int)) (dereference (of_none int) (decay (pointer (of_none int)) (function_name (of_none int) 4))))) (more_stmts (evaluate (call int 0 0 no_exprs)) (more_stmts (return_value zero_of_int) no_stmts)))))) []
+
+kinds_taken : is_taken names_of_kinds 0 ∷ is_taken names_of_kinds 2 ∷ is_taken names_of_kinds 3 ∷ is_taken names_of_kinds 4 ∷ [] ≡ false ∷ true ∷ true ∷ true ∷ []
+kinds_taken = refl

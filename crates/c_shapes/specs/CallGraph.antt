@@ -1,5 +1,5 @@
 -- The call graph of a program: which functions may be called at each site, and which may come to a system call.
-use Rattle.std.specs.Prelude.{ℕ, zero, suc, ◌+◌, ◌-◌, Bool, true, false, ◌&&◌, ◌||◌, not, nat_eq, nat_lt, List, [], ◌∷◌, Option, None, Some, filter, slice_get, if◌then◌else◌}
+use Rattle.std.specs.Prelude.{ℕ, zero, suc, ◌+◌, Bool, true, false, ◌&&◌, ◌||◌, nat_eq, nat_lt, List, [], ◌∷◌, Option, None, Some, filter, slice_get, if◌then◌else◌}
 use Rattle.std.specs.List.{range_with_len}
 use Rattle.c_tree.specs.declared.value.IntType.{IntType}
 use Rattle.c_tree.specs.declared.value.IntType.TheVariants.{Char, Uchar, Int, Uint}
@@ -72,13 +72,17 @@ abbrev pub said_by : Option Function → List Mention
 said_by None = []
 said_by (Some f) = mentions_of_function f
 
--- the functions that may come to a system call in so many rounds: the system calls, and in each further round also the functions whose body has a call that may call one of those before
+-- these functions, and those whose body has a call that may call one of them
+abbrev pub one_round : Program → List ℕ → List ℕ
+one_round p fs =
+    filter (λ f. is_in f fs || has_one (enters p fs) (said_by (slice_get p.functions f))) (functions_of p)
+
+-- the functions that may come to a system call, found in so many rounds from the system calls on
 abbrev pub reaching : Program → ℕ → List ℕ
 reaching p zero = range_with_len (defined p) 24
-reaching p (suc n) =
-    filter (λ f. is_in f (reaching p n) || has_one (enters p (reaching p n)) (said_by (slice_get p.functions f))) (functions_of p)
+reaching p (suc n) = one_round p (reaching p n)
 
--- the function may come to a system call; as many rounds as there are functions are enough
+-- the function may come to a system call; as many rounds as there are defined functions are enough
 abbrev pub reaches : Program → ℕ → Bool
 reaches p f = is_in f (reaching p (defined p))
 

@@ -1,4 +1,4 @@
-ghost use Rattle.std.specs.Prelude.{◌≡◌, ◌++◌, List, []};
+ghost use Rattle.std.specs.Prelude.{◌≡◌, ◌↔◌, ◌++◌, ℕ, true, List, []};
 ghost use Rattle.dm_base.specs.declared.event.Event.{Event};
 ghost use Rattle.c_shapes.specs.Shape.{Shape, Shapes, Leave, goes_on, IsDone};
 ghost use Rattle.c_shapes.specs.Bodies.{IsExpression, IsBody};
@@ -6,6 +6,8 @@ ghost use Rattle.c_shapes.specs.Words as words;
 ghost use Rattle.c_shapes.specs.Words.{Marks};
 ghost use Rattle.c_shapes.specs.Table as table;
 ghost use Rattle.c_shapes.specs.Languages.{Dyck, Stack, Callgraph};
+ghost use Rattle.c_shapes.specs.CallGraph.{is_in, same_type, reaching, reaches};
+ghost use Rattle.c_tree.specs.Tree.{CType, Program};
 
 /// The law that the words of a shape are those that the table joins from the words of its parts. The
 /// function does nothing.
@@ -38,4 +40,12 @@ pub fn exits_stay_inside()
 pub fn languages_are_nested()
     ensures dyck { (env : Shapes) (t : List Event) → Dyck env t → Stack env t }
     ensures stack { (env : Shapes) (t : List Event) → Stack env t → Callgraph env t }
+{}
+
+/// The law on the call graph of a program: as many rounds as there are defined functions find each
+/// function that some number of rounds finds, and the test of types tells whether they are the same. The
+/// function does nothing.
+pub fn rounds_are_enough()
+    ensures rounds { (p : Program) (n f : ℕ) → is_in f (reaching p n) ≡ true → reaches p f ≡ true }
+    ensures types { (t u : CType) → same_type t u ≡ true ↔ t ≡ u }
 {}

@@ -3,4 +3,6 @@
 
 mod laws;
 
-pub use laws::{exits_stay_inside, languages_are_nested, words_are_joined, words_have_fronts};
+pub use laws::{
+    exits_stay_inside, languages_are_nested, rounds_are_enough, words_are_joined, words_have_fronts,
+};
