@@ -35,7 +35,7 @@ b_places : candidate_places source_b 0 ∷ candidate_places source_b 1 ∷ candi
 b_places = refl
 
 -- int g; int f(void) { if (g) f(); getpid(); return 0; } int main(void) { f(); return 0; }
-abbrev source_d : Program
+abbrev pub source_d : Program
 source_d = of_f_and_main f_of_d main_of_d (g_of_d ∷ [])
 
 d_marks : marked source_d 0 ∷ marked source_d 1 ∷ marked source_d 2 ∷ [] ≡ true ∷ false ∷ true ∷ []
@@ -57,7 +57,7 @@ abbrev t_of_one : Expr
 t_of_one =
     load int_of_int (dereference int_of_int (pointer_add (pointer int_of_int) true false (decay (pointer int_of_int) (variable (array int_of_int 3) true 0)) (constant int (v.Int (pos 1)))))
 
-abbrev indirect : Program
+abbrev pub indirect : Program
 indirect = record {
   structs = [];
   functions =

@@ -18,3 +18,4 @@ pub mod ShapesOfTrees
 pub mod SitesOfTrees
 pub mod SystemNames
 pub mod ProgramsClosed
+pub mod ProgramGraphs
