@@ -50,7 +50,7 @@ module _ {M : Type 0} where
           let this : e.1 ≡ process = cc in
           let kept : is_none e.1.past.refusal ≡ true = ap (λ (q : Process M). is_none q.past.refusal) this ∙ ap is_none none in
           subst (λ (b : Bool). Contains (cond b (e.1.monitor ∷ accepted_of (values_of es)) (accepted_of (values_of es))) process.monitor) (sym kept)
-            (subst (λ (q : Process M). Contains (q.monitor ∷ accepted_of (values_of es)) process.monitor) (sym this) (Contains-head process.monitor (accepted_of (values_of es))))
+          (subst (λ (q : Process M). Contains (q.monitor ∷ accepted_of (values_of es)) process.monitor) (sym this) (Contains-head process.monitor (accepted_of (values_of es))))
       by later false is = accepted_more (is_none e.1.past.refusal) process.monitor e.1 (values_of es) (later (ap (λ b. cond b (Some e.1) (lookup (nat_eq p) es)) (sym is) ∙ there))
 
   -- a marked monitor is that of a process that was not refused
@@ -69,9 +69,9 @@ module _ {M : Type 0} where
           let here : Contains ((process.monitor ∷ []) ++ accepted_of processes) m = subst (λ (b : Bool). Contains (cond b (process.monitor ∷ accepted_of processes) (accepted_of processes)) m) is has in
           elim (Contains-append_cases (process.monitor ∷ []) (accepted_of processes) m here) as (λ _. From (process ∷ processes) m) [
             | inl first ↦ elim (Contains-push_cases [] process.monitor m first) as (λ _. From (process ∷ processes) m) [
-                | inl none ↦ absurd (omega (arith, none.1))
-                | inr this ↦ (process, Contains-head process processes, none_is process.past.refusal is, this)
-              ]
+              | inl none ↦ absurd (omega (arith, none.1))
+              | inr this ↦ (process, Contains-head process processes, none_is process.past.refusal is, this)
+            ]
             | inr more ↦ later (rest more)
           ]
       by rest false is = later (rest (subst (λ (b : Bool). Contains (cond b (process.monitor ∷ accepted_of processes) (accepted_of processes)) m) is has))
@@ -81,9 +81,9 @@ module _ {M : Type 0} where
   numbered [] process has = absurd (omega (arith, has.1))
   numbered (e ∷ es) process has = elim (Contains-append_cases (e.1 ∷ []) (values_of es) process has) as (λ _. (p : ℕ) × Contains (e ∷ es) (p, process)) [
     | inl first ↦ elim (Contains-push_cases [] e.1 process first) as (λ _. (p : ℕ) × Contains (e ∷ es) (p, process)) [
-        | inl none ↦ absurd (omega (arith, none.1))
-        | inr this ↦ (e.0, subst (λ (q : Process M). Contains (e ∷ es) (e.0, q)) this (Contains-head e es))
-      ]
+      | inl none ↦ absurd (omega (arith, none.1))
+      | inr this ↦ (e.0, subst (λ (q : Process M). Contains (e ∷ es) (e.0, q)) this (Contains-head e es))
+    ]
     | inr more ↦ let found = numbered es process more in (found.0, Contains-append_right (e ∷ []) es (found.0, process) found.1)
   ]
 

@@ -79,9 +79,9 @@ shorter (r ∷ older) p =
     elim (nat_eq r.pid p) as (λ b. length (if b then own_forked p older ++ r.event ∷ [] else (if is_born older r p then own_forked r.pid older ++ r.event ∷ [] else own_forked p older)) ≤ length (r ∷ older)) [
       | true ↦ let le = shorter older p in omega (arith, length-append (own_forked p older) (r.event ∷ []))
       | false ↦ elim (is_born older r p) as (λ b. length (if b then own_forked r.pid older ++ r.event ∷ [] else own_forked p older) ≤ length (r ∷ older)) [
-          | true ↦ let le = shorter older r.pid in omega (arith, length-append (own_forked r.pid older) (r.event ∷ []))
-          | false ↦ let le = shorter older p in omega arith
-        ]
+        | true ↦ let le = shorter older r.pid in omega (arith, length-append (own_forked r.pid older) (r.event ∷ []))
+        | false ↦ let le = shorter older p in omega arith
+      ]
     ]
 
 length_reverse : (xs : List Record) → length (reverse xs) ≡ length xs

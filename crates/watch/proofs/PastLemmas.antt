@@ -168,9 +168,9 @@ module _ (which : Which) (g : Graph) (bound : ℕ) (h : List Event) where
       elim (cases_lt a b) as (λ _. a ≡ b) [
         | inl lt ↦ absurd (ca.stops (omega (arith, cb.le)) (cb.kept (a + 1) (omega arith)))
         | inr ge ↦ elim (cases_lt b a) as (λ _. a ≡ b) [
-            | inl lt ↦ absurd (cb.stops (omega (arith, ca.le)) (ca.kept (b + 1) (omega arith)))
-            | inr ge' ↦ omega arith
-          ]
+          | inl lt ↦ absurd (cb.stops (omega (arith, ca.le)) (ca.kept (b + 1) (omega arith)))
+          | inr ge' ↦ omega arith
+        ]
       ]
 
   rejected_cuts : (n k : ℕ) → k ≡ n + 1 → IsRejectedAt which g bound h k → Cuts which g bound h n

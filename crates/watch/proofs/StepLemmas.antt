@@ -94,8 +94,8 @@ module _ {M P S : Type 0} (laws : monitor.Ghosts M P) (setting : Setting) (pid :
       other_next : (p : ℕ) → nat_eq pid p ≡ false → (setting.version ≡ Two → is_among (child_of e) p ≡ true → is_known Two records p ≡ true) → HasHistory laws setting.model setting.bound new (own setting.version p (records ++ record_of pid e ∷ [])) (get nat_eq t1 p)
       other_next p other known =
           history_is laws setting.model setting.bound new (own setting.version p records) (own setting.version p (records ++ record_of pid e ∷ [])) (get nat_eq t0 p) (get nat_eq t1 p)
-            (sym (own_other records (record_of pid e) p setting.version other known)) (sym (others p other))
-            (history_kept laws setting.model setting.bound old new (own setting.version p records) (get nat_eq t0 p) keeps (are.each p))
+          (sym (own_other records (record_of pid e) p setting.version other known)) (sym (others p other))
+          (history_kept laws setting.model setting.bound old new (own setting.version p records) (get nat_eq t0 p) keeps (are.each p))
 
       each_or_old : (p : ℕ) → (setting.version ≡ Two → nat_eq pid p ≡ false → is_among (child_of e) p ≡ true → is_known Two records p ≡ true) → HasHistory laws setting.model setting.bound new (own setting.version p (records ++ record_of pid e ∷ [])) (get nat_eq t1 p)
       each_or_old p known = elim (cases_Bool (nat_eq pid p)) as (λ _. HasHistory laws setting.model setting.bound new (own setting.version p (records ++ record_of pid e ∷ [])) (get nat_eq t1 p)) [

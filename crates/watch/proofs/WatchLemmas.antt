@@ -1,16 +1,18 @@
 -- What a watch answers of the records that it stands for.
 use Rattle.std.proofs.Common.{◌≡◌, ◌||◌, not, ℕ, ◌+◌, ◌<◌, ◌≤◌, Bool, true, false, cond, nat_eq, List, [], ◌∷◌, ◌++◌, map, filter, Option, Some, None, is_some, Contains, length, Vec, Global, drop, get_or, append_assoc, refl, sym, ◌∙◌, ap, subst, true≢false, arith, length-append, append-nil, inl, inr}
-use Rattle.std.specs.Prelude.{if◌then◌else◌, flat_map, All, IfSome, Result, Ok, Err, IfOk, OnOk, IsOk}
+use Rattle.std.specs.Prelude.{◌⊎◌, ◌↔◌, if◌then◌else◌, flat_map, All, IfSome, IsSome, IsTrue, Result, Ok, Err, IfOk, OnOk, IsOk}
 use Rattle.std.specs.Cmp.{nat_eq_equiv}
 use Rattle.std.specs.List.{list_any}
 use Rattle.std.specs.Map.{keys_of, values_of, lookup}
 use Rattle.std.specs.FinSet.{len-empty}
 use Rattle.std.specs.Option.{option_map, option_map_or}
 use Rattle.std.specs.Ordering.{nat_cmp}
-use Rattle.std.proofs.lemmas.Bool.{cases_Bool, eqb-true, eq-eqb}
+use Rattle.std.proofs.lemmas.Bool.{cases_Bool, eqb-true, eq-eqb, leb-true, le-leb}
+use Rattle.std.proofs.Math.Dec.{leb}
 use Rattle.std.proofs.lemmas.List.{drop_more, drop_all}
 use Rattle.std.proofs.lemmas.List.Elements.{All-nil, All-cons, filter-append}
 use Rattle.std.proofs.lemmas.List.Folds.{list_any-append}
+use Rattle.std.proofs.lemmas.Map.Entries.{length-keys_of}
 use Rattle.std.proofs.lemmas.Map.Views.{lookup-from_Contains}
 use Rattle.dm_base.specs.declared.event.Event.{Event}
 use Rattle.dm_base.specs.declared.verdict.Verdict.{Verdict}
@@ -22,18 +24,21 @@ use Rattle.indexmap.specs.IndexSet.{insert_key}
 use Rattle.trace_file.specs.declared.record.Record.{Record}
 use Rattle.trace_file.specs.declared.version.TracesVersion.{TracesVersion}
 use Rattle.trace_file.specs.declared.version.TracesVersion.TheVariants.{One, Two}
-use Rattle.trace_file.specs.Known.{child_of, made_known}
+use Rattle.trace_file.specs.Known.{child_of, made_known, known_count}
 use Rattle.trace_file.specs.Processes.{AreKnown}
+use Rattle.trace_file.specs.Traces.{most_processes}
+use Rattle.trace_file.proofs.ProcessesLemmas.{two_known, known_length, made_push}
 use Rattle.watch.specs.declared.process.Process.{Process}
 use Rattle.watch.specs.declared.process.Setting.{Setting}
 use Rattle.watch.specs.declared.watch.Watch.{Watch}
-use Rattle.watch.specs.Keeping.{accepted_of, verdicts_told, verdict_of}
+use Rattle.watch.specs.Keeping.{IsNewborn, accepted_of, verdicts_told, verdict_of}
 use Rattle.watch.specs.Own.{is_among, is_known, has_record, own_forked, own, firsts, record_of}
 use Rattle.watch.specs.Standing.{IsBound, IsAt, HasHistory, AreWatched}
 use Rattle.watch.specs.Watching.{StandsFor, AreAccepted, HoldsNeeded, monitor_of}
-use Rattle.watch.proofs.KeyLemmas.{among_keys, keys_known}
+use Rattle.watch.proofs.KeyLemmas.{among_keys, among_self, among_kept, keys_known}
 use Rattle.watch.proofs.MarkLemmas.{marked_there, marked_from, numbered}
 use Rattle.watch.proofs.PastLemmas.{accepted_is_kept, kept_is_accepted, verdict_told}
+use Rattle.watch.proofs.StepLemmas.{known_alone}
 
 -- what holds of the watch's own model, bound and version holds of those that it stands for
 pub moved : (Q : Graph → ℕ → TracesVersion → Type 0) (setting : Setting) (g : Graph) (k : ℕ) (version : TracesVersion) → setting.model ≡ g → setting.bound ≡ k → setting.version ≡ version → Q setting.model setting.bound setting.version → Q g k version
@@ -162,7 +167,7 @@ module _ {M P : Type 0} (laws : monitor.Ghosts M P) (g : Graph) (k : ℕ) (versi
   pub history_of : (p : ℕ) (process : Process M) → Some process ≡ get nat_eq w.table p → IsAt laws g k w.pool (own version p records) process
   history_of p process there =
       moved (λ g k v. IsAt laws g k w.pool (own v p records) process) w.setting g k version s.model s.limit s.form
-        (subst (λ (o : Option (Process M)). HasHistory laws w.setting.model w.setting.bound w.pool (own w.setting.version p records) o) (sym there) (s.watched.each p))
+      (subst (λ (o : Option (Process M)). HasHistory laws w.setting.model w.setting.bound w.pool (own w.setting.version p records) o) (sym there) (s.watched.each p))
 
   -- a process with a record is in the table
   pub in_table : (p : ℕ) → is_among w.firsts.keys p ≡ true → is_some (get nat_eq w.table p) ≡ true
@@ -267,3 +272,68 @@ module _ {M P : Type 0} (laws : monitor.Ghosts M P) (g : Graph) (k : ℕ) (versi
     order = first ∙ ap (λ (ks : List ℕ). insert_key nat_eq ks pid) s.order ∙ sym (firsts_push records (record_of pid e));
     count = steps ∙ ap (λ (n : ℕ). n + 1) s.count ∙ sym (length-append records (record_of pid e ∷ []));
   }
+
+-- how many processes are known after one record more
+
+length_inserted : (ks : List ℕ) (k : ℕ) (b : Bool) → is_among ks k ≡ b → length (insert_key nat_eq ks k) ≡ length ks + (if b then 0 else 1)
+length_inserted ks k true is =
+    let same : length (insert_key nat_eq ks k) ≡ length ks = ap (λ (b : Bool). length (if b then ks else ks ++ k ∷ [])) is in
+    omega (arith, same)
+length_inserted ks k false is =
+    let grown : length (insert_key nat_eq ks k) ≡ length (ks ++ k ∷ []) = ap (λ (b : Bool). length (if b then ks else ks ++ k ∷ [])) is in
+    omega (arith, grown, length-append ks (k ∷ []))
+
+module _ {X S : Type 0} (version : TracesVersion) (table : IndexMap ℕ X S) (pid : ℕ) (e : Event) (records : List Record) (known : AreKnown (keys table) (flat_map (made_known version) records)) where
+  own_keys : length (insert_key nat_eq (keys table) pid) ≡ length (keys table) + (if is_some (get nat_eq table pid) then 0 else 1)
+  own_keys = length_inserted (keys table) pid (is_some (get nat_eq table pid)) (among_keys table pid)
+
+  in_new : (c : ℕ) → (nat_eq pid c ≡ true) ⊎ IsSome (get nat_eq table c) → is_among (insert_key nat_eq (keys table) pid) c ≡ true
+  in_new c (inl is) = subst (λ (q : ℕ). is_among (insert_key nat_eq (keys table) pid) q ≡ true) (eqb-true pid c is) (among_self (keys table) pid)
+  in_new c (inr was) = among_kept (keys table) pid c (among_keys table c ∙ was)
+
+  new_one : (c : ℕ) → nat_eq pid c ≡ false → get nat_eq table c ≡ None → is_among (insert_key nat_eq (keys table) pid) c ≡ false
+  new_one c other none = by (is_among (keys table) pid) refl
+    where
+      absent : is_among (keys table) c ≡ false
+      absent = among_keys table c ∙ ap is_some none
+
+      by : (b : Bool) → is_among (keys table) pid ≡ b → is_among (insert_key nat_eq (keys table) pid) c ≡ false
+      by true is = ap (λ (b : Bool). is_among (if b then keys table else keys table ++ pid ∷ []) c) is ∙ absent
+      by false is = ap (λ (b : Bool). is_among (if b then keys table else keys table ++ pid ∷ []) c) is ∙ list_any-append (nat_eq c) (keys table) (pid ∷ []) ∙ (λ i. absent i || ((nat_eq_equiv.symm c pid ∙ other) i || false))
+
+  count_alone : IsNewborn version table pid e None → known_count version (records ++ record_of pid e ∷ []) ≡ length (keys table) + (if is_some (get nat_eq table pid) then 0 else 1)
+  count_alone unborn =
+      known_length version (insert_key nat_eq (keys table) pid) (records ++ record_of pid e ∷ [])
+      (subst (AreKnown (insert_key nat_eq (keys table) pid)) (made_push version records (record_of pid e))
+      (known_alone version pid e (keys table) (insert_key nat_eq (keys table) pid) (flat_map (made_known version) records) refl (λ c two among. in_new c (unborn c two among)) known))
+      ∙ own_keys
+
+  count_both : (c : ℕ) → IsNewborn version table pid e (Some c) → known_count version (records ++ record_of pid e ∷ []) ≡ length (keys table) + (if is_some (get nat_eq table pid) then 0 else 1) + 1
+  count_both c born =
+      let ks : List ℕ = insert_key nat_eq (keys table) pid in
+      let made : made_known version (record_of pid e) ≡ pid ∷ c ∷ [] = ap (λ (v : TracesVersion). made_known v (record_of pid e)) born.0 ∙ ap (λ (cs : List ℕ). pid ∷ cs) born.1 in
+      known_length version (insert_key nat_eq ks c) (records ++ record_of pid e ∷ [])
+      (subst (AreKnown (insert_key nat_eq ks c)) (made_push version records (record_of pid e))
+      (two_known version (record_of pid e) (keys table) ks (insert_key nat_eq ks c) c made refl refl (flat_map (made_known version) records) known))
+      ∙ length_inserted ks c false (new_one c born.2 born.3)
+      ∙ ap (λ (n : ℕ). n + 1) own_keys
+
+  record_count : (child : Option ℕ) → IsNewborn version table pid e child → known_count version (records ++ record_of pid e ∷ []) ≡ length (keys table) + (if is_some (get nat_eq table pid) then 0 else 1) + (if is_some child then 1 else 0)
+  record_count None unborn = let alone = count_alone unborn in omega (arith, alone)
+  record_count (Some c) born = count_both c born
+
+-- there is room exactly where no more than the most are known
+pub room_told : {M P : Type 0} (laws : monitor.Ghosts M P) (g : Graph) (k : ℕ) (version : TracesVersion) (w : Watch M P) (records : List Record) → StandsFor laws g k version w records → (pid : ℕ) (e : Event) (child : Option ℕ) → IsNewborn w.setting.version w.table pid e child
+    → (n : ℕ) → n ≡ length w.table.entries + (if not (is_some (get nat_eq w.table pid)) then 1 else 0) + (if is_some child then 1 else 0) → IsTrue (leb n 4096) ↔ (known_count version (records ++ record_of pid e ∷ []) ≤ most_processes)
+room_told laws g k version w records s pid e child newborn n is =
+    (λ le. let few = leb-true n 4096 le in omega (arith, same, few), λ le. le-leb n 4096 (omega (arith, same, le)))
+  where
+    flip : (b : Bool) → ◌≡◌ {A = ℕ} (if b then 0 else 1) (if not b then 1 else 0)
+    flip true = refl
+    flip false = refl
+
+    counted : known_count version (records ++ record_of pid e ∷ []) ≡ length (keys w.table) + (if is_some (get nat_eq w.table pid) then 0 else 1) + (if is_some child then 1 else 0)
+    counted = ap (λ (v : TracesVersion). known_count v (records ++ record_of pid e ∷ [])) (sym s.form) ∙ record_count w.setting.version w.table pid e records s.watched.known child newborn
+
+    same : known_count version (records ++ record_of pid e ∷ []) ≡ n
+    same = counted ∙ (λ i. length-keys_of w.table.entries i + flip (is_some (get nat_eq w.table pid)) i + (if is_some child then 1 else 0)) ∙ sym is

@@ -117,10 +117,7 @@ impl Past {
 }
 
 // An equal refusal, if there is one.
-fn copy_of_refusal(
-    alloc: Global,
-    refusal: &Option<Refusal>,
-) -> Result<Option<Refusal>, OutOfMemory>
+fn copy_of_refusal(alloc: Global, refusal: &Option<Refusal>) -> Result<Option<Refusal>, OutOfMemory>
     ensures { IfOk result (λ copied. copied ≡ refusal.now) }
 {
     match refusal {

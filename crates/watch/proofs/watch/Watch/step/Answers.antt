@@ -22,7 +22,7 @@ pub returns-then-self-held-clause-exact : goal.returns-then-self-held-clause-exa
 returns-then-self-held-clause-exact g c = λ a k version records s.
     let w = c.args.self.now in
     moved (λ b n v. IsStep g.M.Monitor.WHICH b n (own v c.args.pid (records ++ record_of c.args.pid c.args.event.now ∷ [])) c.in_ok-step.step) w.setting a k version s.model s.limit s.form
-      (c.in_ok-step.ensures.exact records (watched_entries g.M.Monitor w.setting w.table c.reserve.new.self w.pool records c.in_ok-reserve.ensures.entries s.watched))
+    (c.in_ok-step.ensures.exact records (watched_entries g.M.Monitor w.setting w.table c.reserve.new.self w.pool records c.in_ok-reserve.ensures.entries s.watched))
 
 pub returns-else-self-eq0-clause-stands : goal.returns-else-self-eq0-clause-stands
 returns-else-self-eq0-clause-stands g c = λ a k version records s.
@@ -34,4 +34,4 @@ pub returns-else-self-eq0-clause-exact : goal.returns-else-self-eq0-clause-exact
 returns-else-self-eq0-clause-exact g c = λ a k version records s.
     let w = c.args.self.now in
     moved (λ b n v. IsStep g.M.Monitor.WHICH b n (own v c.args.pid (records ++ record_of c.args.pid c.args.event.now ∷ [])) c.in_ok-step.step) w.setting a k version s.model s.limit s.form
-      (c.in_ok-step.ensures.exact records (watched_entries g.M.Monitor w.setting w.table c.reserve.new.self w.pool records c.in_ok-reserve.ensures.entries s.watched))
+    (c.in_ok-step.ensures.exact records (watched_entries g.M.Monitor w.setting w.table c.reserve.new.self w.pool records c.in_ok-reserve.ensures.entries s.watched))

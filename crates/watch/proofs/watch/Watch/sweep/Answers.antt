@@ -41,4 +41,4 @@ returns-clause-exact g c = λ a k version records s.
     let mid = c.mark_accepted.ensures.pool model s.watched.pool in
     let noted = c.in_ok-mark_accepted.ensures.ok model s.watched.notes in
     holds_needed g.M.Monitor a k version _ records (returns-clause-stands g c a k version records s) c.in_ok-mark_accepted.ensures.unique
-      (subst (λ (x : Graph). g.M.Monitor.needed c.sweep.new.pool x (accepted_of (values w.table))) s.model (c.sweep.ensures.exact model (accepted_of (values w.table)) mid noted))
+    (subst (λ (x : Graph). g.M.Monitor.needed c.sweep.new.pool x (accepted_of (values w.table))) s.model (c.sweep.ensures.exact model (accepted_of (values w.table)) mid noted))
