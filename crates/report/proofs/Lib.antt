@@ -1,0 +1,3 @@
+pub mod LastCalls
+pub mod NextLemmas
+pub mod TrialLemmas

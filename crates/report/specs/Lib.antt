@@ -1,1 +1,3 @@
+pub mod Precision
+pub mod Trials
 pub mod VerdictLine

@@ -1,6 +1,11 @@
-//! The lines in which verdicts are told.
+//! The lines in which verdicts and the precision of a model are told, and how precise it is.
 #![tactic(auto)]
 
 mod lines;
+mod next;
+mod precision;
+mod trials;
 
-pub use lines::{name_of, verdict_line};
+pub use lines::{name_of, next_line, precision_line, verdict_line};
+pub use next::next_names;
+pub use precision::Precision;

@@ -2,8 +2,10 @@ ghost use Rattle.std.specs.Prelude.{◌≡◌, ◌++◌, codes, decimal, IfOk, I
 ghost use Rattle.std.specs.Option.{option_copied};
 ghost use Rattle.sys_table.specs.Table.{IsRecorded};
 ghost use Rattle.trace_file.specs.EventText.{event_text};
+ghost use Rattle.report.specs.Precision.{precision_text, next_text};
 ghost use Rattle.report.specs.VerdictLine.{word_of, place_line, verdict_text, IsGiven};
 
+use crate::Precision;
 use dm_base::{Event, OutOfMemory, Verdict};
 use flow_model::Which;
 use line_text::{push_bytes, push_decimal};
@@ -43,6 +45,46 @@ pub fn verdict_line(
         (Verdict::Bound { at }, Some(event)) => line_at(alloc, which, b" bound ", *at, event),
         (_, None) => Ok(Vec::new(alloc)),
     }
+}
+
+/// The line of a model's precision with its line feed: `NAME prefixes N branching S`. The error is
+/// that memory was refused.
+pub fn precision_line(
+    alloc: Global,
+    which: Which,
+    precision: &Precision,
+) -> Result<Vec<u8>, OutOfMemory>
+    ensures { IfOk result (λ line. line.items ≡ precision_text which precision.now) }
+{
+    let mut line = Vec::new(alloc);
+    push_bytes(&mut line, name_of(which))?;
+    push_bytes(&mut line, b" prefixes ")?;
+    push_decimal(alloc, &mut line, precision.prefixes)?;
+    push_bytes(&mut line, b" branching ")?;
+    push_decimal(alloc, &mut line, precision.sum)?;
+    push_bytes(&mut line, b"\n")?;
+    Ok(line)
+}
+
+/// The line of the numbers of names that may come next in the three models, with its line feed:
+/// `next C S D`. The error is that memory was refused.
+pub fn next_line(
+    alloc: Global,
+    callgraph: u32,
+    stack: u32,
+    dyck: u32,
+) -> Result<Vec<u8>, OutOfMemory>
+    ensures { IfOk result (λ line. line.items ≡ next_text callgraph stack dyck) }
+{
+    let mut line = Vec::new(alloc);
+    push_bytes(&mut line, b"next ")?;
+    push_decimal(alloc, &mut line, u64::from(callgraph))?;
+    push_bytes(&mut line, b" ")?;
+    push_decimal(alloc, &mut line, u64::from(stack))?;
+    push_bytes(&mut line, b" ")?;
+    push_decimal(alloc, &mut line, u64::from(dyck))?;
+    push_bytes(&mut line, b"\n")?;
+    Ok(line)
 }
 
 // The line of a monitor that kept so many events.
