@@ -4,3 +4,4 @@ mod TrialDeclared
 mod TrialPrograms
 mod TrialStatics
 mod TrialTypes
+mod CheckedLemmas

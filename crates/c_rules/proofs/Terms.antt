@@ -1,5 +1,5 @@
 -- Short words for units written as terms, for trials.
-use Rattle.std.proofs.Common.{ℕ, ◌+◌, ℤ, pos, Bool, true, false, List, [], ◌∷◌, codes}
+use Rattle.std.proofs.Common.{ℕ, ◌+◌, false, List, [], ◌∷◌, codes}
 use Rattle.c_syntax.specs.Tree.{Ident, Storage, no_storage, static, extern, Spec, Expr, a_name, an_int, call, Exprs, no_exprs, more_exprs, Maybe, absent, there, Declarator, named, function, Params, no_params, more_params}
 use Rattle.c_syntax.specs.Tree.{MaybeInit, no_init, an_init, Parts, no_parts, more_parts, Decl, decl, Stmt, block, evaluate, return_from, BlockItems, no_block_items, block_decl, block_stmt, Item, decl_item, function_item, Items, no_items, more_items}
 use Rattle.c_syntax.specs.Tree as syntax

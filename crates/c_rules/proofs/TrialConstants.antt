@@ -1,13 +1,13 @@
 -- Constants, switches and initialisers (C6, C7, C14): each unit beside its text, and the demands on it that fail.
-use Rattle.std.proofs.Common.{◌≡◌, ℕ, ℤ, pos, negsuc, Bool, true, false, List, [], ◌∷◌, codes, refl}
+use Rattle.std.proofs.Common.{◌≡◌, true, false, [], ◌∷◌, codes, refl}
 use Rattle.std.specs.Int.{int_wrap}
-use Rattle.dm_base.specs.declared.mode.Mode.TheVariants.{Plain, Instrumented}
+use Rattle.dm_base.specs.declared.mode.Mode.TheVariants.{Plain}
 use Rattle.sys_table.specs.Table.{table}
 use Rattle.c_tree.specs.Functions.{sys_types}
 use Rattle.c_syntax.specs.Tree.{Items}
 use Rattle.c_syntax.specs.Tree as s
 use Rattle.c_rules.specs.Checked.{faults}
-use Rattle.c_rules.specs.Codes.{C1, C2, C3, C4, C5, C6, C7, C8, C9, C10, C11, C12, C13, C14}
+use Rattle.c_rules.specs.Codes.{C1, C3, C6, C7, C14}
 use Rattle.c_rules.specs.Units.{checked}
 use Rattle.c_rules.proofs.Terms.{ident, main_that_returns, failing}
 
@@ -127,6 +127,6 @@ unfolding table sys_types int_wrap
 incomplete_in_its_own_initialiser = refl
 
 -- int a[0]; int main(void) { return a[1] + b; }
-unknown_name : faults (checked (s.more_items (s.decl_item 0 (s.decl 0 s.no_storage s.int (s.more_parts (s.array 4 (s.named 4 (ident 4 (codes "a"))) (s.there (s.an_int 6 0 false))) s.no_init s.no_parts))) (s.more_items (s.function_item 10 s.no_storage s.int (s.function 14 (s.named 14 (ident 14 (codes "main"))) s.no_params) (s.block 25 (s.block_stmt (s.return_from 27 (s.there (s.binary 34 (s.operator 12) (s.index 34 (s.a_name 34 (codes "a")) (s.an_int 36 1 false)) (s.a_name 41 (codes "b"))))) s.no_block_items))) s.no_items)) Plain) ≡ failing C6 6 (failing C1 41 ([]))
+use_fails_with_its_declaration : faults (checked (s.more_items (s.decl_item 0 (s.decl 0 s.no_storage s.int (s.more_parts (s.array 4 (s.named 4 (ident 4 (codes "a"))) (s.there (s.an_int 6 0 false))) s.no_init s.no_parts))) (s.more_items (s.function_item 10 s.no_storage s.int (s.function 14 (s.named 14 (ident 14 (codes "main"))) s.no_params) (s.block 25 (s.block_stmt (s.return_from 27 (s.there (s.binary 34 (s.operator 12) (s.index 34 (s.a_name 34 (codes "a")) (s.an_int 36 1 false)) (s.a_name 41 (codes "b"))))) s.no_block_items))) s.no_items)) Plain) ≡ failing C6 6 (failing C6 6 (failing C1 41 ([])))
 unfolding table sys_types int_wrap
-unknown_name = refl
+use_fails_with_its_declaration = refl

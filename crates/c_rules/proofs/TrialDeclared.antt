@@ -1,5 +1,5 @@
 -- Names that are not declared, or twice, or not defined (C1, C2, C9 to C12): each unit beside its text, and the demands on it that fail.
-use Rattle.std.proofs.Common.{◌≡◌, ℕ, ℤ, pos, negsuc, Bool, true, false, List, [], ◌∷◌, codes, refl}
+use Rattle.std.proofs.Common.{◌≡◌, true, false, [], codes, refl}
 use Rattle.std.specs.Int.{int_wrap}
 use Rattle.dm_base.specs.declared.mode.Mode.TheVariants.{Plain, Instrumented}
 use Rattle.sys_table.specs.Table.{table}
@@ -7,7 +7,7 @@ use Rattle.c_tree.specs.Functions.{sys_types}
 use Rattle.c_syntax.specs.Tree.{Items}
 use Rattle.c_syntax.specs.Tree as s
 use Rattle.c_rules.specs.Checked.{faults}
-use Rattle.c_rules.specs.Codes.{C1, C2, C3, C4, C5, C6, C7, C8, C9, C10, C11, C12, C13, C14}
+use Rattle.c_rules.specs.Codes.{C1, C2, C9, C10, C11, C12}
 use Rattle.c_rules.specs.Units.{checked}
 use Rattle.c_rules.proofs.Terms.{ident, main_that_returns, failing}
 

@@ -1,5 +1,5 @@
 -- Small units that are typed, with their typed programs.
-use Rattle.std.proofs.Common.{◌≡◌, ℕ, ℤ, pos, Bool, true, false, List, [], ◌∷◌, codes, refl}
+use Rattle.std.proofs.Common.{ℕ, pos, true, false, List, [], ◌∷◌, codes, refl}
 use Rattle.dm_base.specs.declared.mode.Mode.TheVariants.{Plain, Instrumented}
 use Rattle.std.specs.Int.{int_wrap}
 use Rattle.sys_table.specs.Table.{table}
@@ -10,9 +10,8 @@ use Rattle.c_tree.specs.Tree.{CType, Program, Function, Static}
 use Rattle.c_tree.specs.Tree as typed
 use Rattle.c_syntax.specs.Tree.{Items, no_items, more_items, only_if, block_stmt, evaluate}
 use Rattle.c_syntax.specs.Tree as syntax
-use Rattle.c_rules.specs.Checked.{fine}
-use Rattle.c_rules.specs.Units.{checked, IsTyped}
-use Rattle.c_rules.proofs.Terms.{ident, as_declared, of_void, alone, file, define, name, int, call_none, returns, end, and_do, main_of}
+use Rattle.c_rules.specs.Units.{IsTyped}
+use Rattle.c_rules.proofs.Terms.{as_declared, of_void, alone, file, define, name, int, call_none, returns, end, and_do, main_of}
 
 -- int getpid(void); unsigned getuid(void); int f(void) { return getpid(); } int main(void) { f(); getuid(); f(); return 0; }
 abbrev source_b : Items

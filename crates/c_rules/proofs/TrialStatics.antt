@@ -1,5 +1,5 @@
 -- Units with structs, static objects, strings and the variables of the instrumenter, with their typed programs.
-use Rattle.std.proofs.Common.{◌≡◌, ℕ, ◌+◌, ℤ, pos, Bool, true, false, List, [], ◌∷◌, codes, Option, Some, None, refl}
+use Rattle.std.proofs.Common.{ℕ, ◌+◌, pos, true, false, List, [], ◌∷◌, codes, Some, None, refl}
 use Rattle.std.specs.Int.{int_wrap}
 use Rattle.dm_base.specs.declared.mode.Mode.TheVariants.{Plain, Instrumented}
 use Rattle.sys_table.specs.Table.{table}
@@ -107,7 +107,7 @@ instrumented_program = record {
       function_with (codes "g") (of_one int int) (int ∷ []) (returns first_variable)
       ∷ function_with (codes "f") (of_one int int) (int ∷ []) (typed.more_stmts (typed.evaluate (typed.call int 0 17 typed.no_exprs)) (returns first_variable))
       ∷ function_with (codes "main") (of_none int) (int ∷ int ∷ int ∷ int ∷ [])
-          (declarations (returns (typed.arithmetic int Add (marked_call 0 1 2 1 (typed.call int 1 0 (one (number 1)))) (marked_call 2 3 5 3 (number 2)))))
+      (declarations (returns (typed.arithmetic int Add (marked_call 0 1 2 1 (typed.call int 1 0 (one (number 1)))) (marked_call 2 3 5 3 (number 2)))))
       ∷ [];
   main = 2;
   statics = [];

@@ -62,7 +62,7 @@ behind_first env next (first_decl d) = behind_decl env next d
 
 abbrev pub held_by_object : Env → MaybeInit → Checked Object → List (List ℕ)
 held_by_object env m (fine o) = held_by env o.whole m
-held_by_object env m (faulty fs) = []
+held_by_object env m (faulty f fs) = []
 
 abbrev pub held_by_named : Env → (at : ℕ) → Spec → Declarator → MaybeInit → Option Ident → List (List ℕ)
 held_by_named env at s d m None = []

@@ -1,5 +1,5 @@
 -- What the check of a part of a text finds: the part is fine, with what it gives, or it is faulty, with all the demands
--- on it that fail, in the order of the text.
+-- on it that fail, in the order of the text. There is one at least, by the form of what is faulty.
 use Rattle.std.specs.Prelude.{ℕ, Bool, true, false, List, [], ◌∷◌, ◌++◌}
 
 -- a demand that fails: the number of its code and its place
@@ -9,23 +9,23 @@ pub record Fault : Type 0 where
 
 pub data Checked (A : Type 0) : Type 0 where
   fine : A → Checked A
-  faulty : List Fault → Checked A
+  faulty : (first : Fault) (others : List Fault) → Checked A
 
 -- the demands that fail
 abbrev pub faults : {A : Type 0} → Checked A → List Fault
 faults (fine a) = []
-faults (faulty fs) = fs
+faults (faulty f fs) = f ∷ fs
 
 -- A part, and the demands on its node: they stand only where the part meets its own.
 abbrev pub on : {A B : Type 0} → Checked A → (A → Checked B) → Checked B
 on (fine a) node = node a
-on (faulty fs) node = faulty fs
+on (faulty f fs) node = faulty f fs
 
 -- Two parts, and the demands on their node. Neither part waits for the other.
 abbrev pub both : {A B C : Type 0} → Checked A → Checked B → (A → B → Checked C) → Checked C
 both (fine a) (fine b) node = node a b
-both (fine a) (faulty gs) node = faulty gs
-both (faulty fs) second node = faulty (fs ++ faults second)
+both (fine a) (faulty g gs) node = faulty g gs
+both (faulty f fs) second node = faulty f (fs ++ faults second)
 
 -- what two parts give
 pub record Two (A B : Type 0) : Type 0 where
@@ -46,7 +46,7 @@ gives p f = on p (λ a. fine (f a))
 
 -- one demand that fails
 abbrev pub fault : {A : Type 0} → (code at : ℕ) → Checked A
-fault code at = faulty (record { code = code; at = at } ∷ [])
+fault code at = faulty (record { code = code; at = at }) []
 
 -- one demand, and what stands where it is met
 abbrev pub demand : {A : Type 0} → Bool → (code at : ℕ) → A → Checked A

@@ -1,5 +1,5 @@
 -- Conversions (6.3): of places to values, of integers, and as if by assignment.
-use Rattle.std.specs.Prelude.{ℕ, Bool, false, ◌||◌, [], if◌then◌else◌, nat_le, nat_lt}
+use Rattle.std.specs.Prelude.{ℕ, Bool, false, ◌||◌, if◌then◌else◌, nat_le, nat_lt}
 use Rattle.c_tree.specs.declared.value.IntType.{IntType}
 use Rattle.c_tree.specs.declared.value.Value.TheVariants.{Null}
 use Rattle.c_tree.specs.Tree.{CType, void, integer, pointer, array, struct, function, Expr, constant, load, decay, conversion}
@@ -27,10 +27,10 @@ kind_of t = neither
 abbrev pub few_parts : CType → Bool
 few_parts t = nat_le (parts t) most_parts
 
--- a struct whose definition stands before; where that fails, nothing is demanded
+-- a struct whose definition stands before; where that fails, this fails with it
 abbrev pub is_defined : (at : ℕ) → Struct → Checked Met
 is_defined at incomplete = fault C3 at
-is_defined at unknown_struct = faulty []
+is_defined at (unknown_struct f fs) = faulty f fs
 is_defined at (defined_struct ms) = fine met
 
 -- the type of an object of known size (6.2.5 paragraph 1)

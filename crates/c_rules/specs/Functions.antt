@@ -75,7 +75,7 @@ is_as_given env defined x t = given_as env defined t (number_among (given_names 
 abbrev pub may_follow_function : (defined : Bool) → CType → Option Meaning → Bool
 may_follow_function defined t None = true
 may_follow_function defined t (Some (a_function u was)) = same_type t u && not (defined && was)
-may_follow_function defined t (Some unknown) = true
+may_follow_function defined t (Some (unknown f fs)) = true
 may_follow_function defined t (Some m) = false
 
 -- a definition stands before, or is this one

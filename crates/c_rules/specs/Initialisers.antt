@@ -2,7 +2,7 @@
 use Rattle.std.specs.Prelude.{ℕ, zero, suc, ◌+◌, ◌-◌, Bool, true, false, ◌&&◌, List, [], ◌∷◌, ◌++◌, map, length, replicate, if◌then◌else◌, Option, Some, None, is_some, nat_le, pos}
 use Rattle.c_tree.specs.declared.value.IntType.TheVariants.{Char}
 use Rattle.c_tree.specs.declared.value.Value.{Value}
-use Rattle.c_tree.specs.declared.value.Value.TheVariants.{Int, Uchar, Null}
+use Rattle.c_tree.specs.declared.value.Value.TheVariants.{Null}
 use Rattle.c_tree.specs.Tree.{CType, void, integer, pointer, array, struct, function, Inits, constant}
 use Rattle.c_tree.specs.Tree as typed
 use Rattle.c_tree.specs.Layout.{Structs, flat, flat_all, repeat}
@@ -26,7 +26,7 @@ pub data Slots : Type 0 where
 
 abbrev pub members_of_struct : Struct → Slots
 members_of_struct incomplete = each []
-members_of_struct unknown_struct = each []
+members_of_struct (unknown_struct f fs) = each []
 members_of_struct (defined_struct ms) = each (map type_of_member ms)
 
 -- the elements or members of a type

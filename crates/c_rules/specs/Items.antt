@@ -101,7 +101,7 @@ struct_definition env x ms = both (new_struct env x) (on (members env [] ms) (st
 
 abbrev pub struct_or_unknown : Checked Struct → Struct
 struct_or_unknown (fine s) = s
-struct_or_unknown (faulty fs) = unknown_struct
+struct_or_unknown (faulty f fs) = unknown_struct f fs
 
 -- a declaration of a tag alone (6.7.2.3 paragraph 7)
 abbrev pub tag_declaration : Env → Ident → Checked Met
@@ -122,7 +122,7 @@ enumerator_value env before x (there e) =
 -- what stands for the next value
 abbrev pub one_more_than : Checked ℤ → Checked ℤ
 one_more_than (fine z) = fine (z +ℤ pos 1)
-one_more_than (faulty fs) = faulty []
+one_more_than (faulty f fs) = faulty f fs
 
 abbrev pub enumerator_meaning : Env → Ident → Checked ℤ → Checked Meaning
 enumerator_meaning env x r = both (new_name env x) r (λ _ z. fine (an_enumerator z))
@@ -164,7 +164,7 @@ defines class m = true
 abbrev pub may_follow_object : (defined : Bool) → CType → Option Meaning → Bool
 may_follow_object defined t None = true
 may_follow_object defined t (Some (a_static seen whole was)) = same_type t whole && not (defined && was)
-may_follow_object defined t (Some unknown) = true
+may_follow_object defined t (Some (unknown f fs)) = true
 may_follow_object defined t (Some m) = false
 
 abbrev pub object_name : Env → (defined : Bool) → Ident → CType → Checked Met
@@ -247,7 +247,7 @@ behind_file_part env b at class s d m = behind_named_part env b at class s d m (
 -- so much stands before what follows an object; a function and an extern declaration count nothing
 abbrev pub after_global : Env → Before → MaybeInit → Checked Object → Before
 after_global env b m (fine o) = past (after_object env b o.whole) (calls_of_maybe_init m) (held_by env o.whole m)
-after_global env b m (faulty fs) = b
+after_global env b m (faulty f fs) = b
 
 abbrev pub after_declared : Env → Before → (at : ℕ) → Spec → Declarator → MaybeInit → (defines_object : Bool) → Option Ident → Before
 after_declared env b at s d m false x = b

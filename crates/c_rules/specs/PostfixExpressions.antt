@@ -35,12 +35,12 @@ pub record Callee : Type 0 where
   pub parameters : CTypes
 
 -- a function of a type, by its name
-abbrev pub callee_of_type : CType → ℕ → Checked Callee
-callee_of_type (function t ts) f = fine (record { designator = direct f; returns = t; parameters = ts })
-callee_of_type t f = faulty []
+abbrev pub callee_of_type : (at : ℕ) → CType → ℕ → Checked Callee
+callee_of_type at (function t ts) f = fine (record { designator = direct f; returns = t; parameters = ts })
+callee_of_type at t f = fault C3 at
 
 abbrev pub callee_by_name : Env → (at : ℕ) → Name → CType → Checked Callee
-callee_by_name env at x t = on (used env.context at (function_number env x)) (callee_of_type t)
+callee_by_name env at x t = on (used env.context at (function_number env x)) (callee_of_type at t)
 
 -- a value; it is a pointer to a function (6.5.2.2 paragraph 1)
 abbrev pub callee_through : (at : ℕ) → Expr → CType → Checked Callee
@@ -94,7 +94,7 @@ member_or_undeclared env at ms g (Some k) = fine (member_given env ms g k)
 -- a member of a struct that has its definition
 abbrev pub member_of_struct : Env → (at : ℕ) → Name → Given → Struct → Checked Given
 member_of_struct env at x g incomplete = fault C1 at
-member_of_struct env at x g unknown_struct = faulty []
+member_of_struct env at x g (unknown_struct f fs) = faulty f fs
 member_of_struct env at x g (defined_struct ms) =
     member_or_undeclared env at ms g (number_among (map name_of_member ms) x)
 

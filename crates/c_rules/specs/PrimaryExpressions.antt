@@ -1,5 +1,5 @@
 -- Names, constants and strings (6.5.1, 6.4.4, 6.4.5).
-use Rattle.std.specs.Prelude.{ℕ, suc, ◌+◌, ℤ, pos, Bool, true, false, List, [], length, if◌then◌else◌, Option, Some, None, nat_le}
+use Rattle.std.specs.Prelude.{ℕ, suc, ◌+◌, ℤ, pos, Bool, true, false, List, length, if◌then◌else◌, Option, Some, None, nat_le}
 use Rattle.c_tree.specs.declared.value.IntType.TheVariants.{Char}
 use Rattle.c_tree.specs.declared.value.Value.TheVariants.{Int, Uint, Func}
 use Rattle.c_tree.specs.Tree.{CType, integer, array, constant, function_name, string_place, variable}
@@ -64,7 +64,7 @@ meant env at x (a_static seen whole d) = gives (used env.context at (object_numb
 meant env at x (a_local n seen whole) = fine (local_given seen whole n)
 meant env at x (a_function t d) = gives (function_value_number env at x) (function_given t)
 meant env at x (an_enumerator z) = fine (int_given z)
-meant env at x unknown = faulty []
+meant env at x (unknown f fs) = faulty f fs
 
 abbrev pub bound : Env → (at : ℕ) → Name → Option Binding → Checked Given
 bound env at x None = fault C1 at

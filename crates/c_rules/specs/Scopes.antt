@@ -3,7 +3,7 @@ use Rattle.std.specs.Prelude.{ℕ, suc, ℤ, Bool, List, [], ◌∷◌, map, len
 use Rattle.dm_base.specs.declared.mode.Mode.{Mode}
 use Rattle.c_tree.specs.Tree.{CType}
 use Rattle.c_tree.specs.Layout.{Structs}
-use Rattle.c_rules.specs.Checked.{Checked, fine, faulty}
+use Rattle.c_rules.specs.Checked.{Fault, Checked, fine, faulty}
 use Rattle.c_rules.specs.Names.{Name, number_among}
 
 -- What an ordinary name means. An object has two types, which differ within its own initialiser alone: an array without a
@@ -16,8 +16,8 @@ pub data Meaning : Type 0 where
   -- a function, and whether its definition stands before
   a_function : CType → (defined : Bool) → Meaning
   an_enumerator : ℤ → Meaning
-  -- a name whose declaration fails
-  unknown : Meaning
+  -- a name whose declaration fails, with its demands that fail: each use fails with them
+  unknown : (first : Fault) (others : List Fault) → Meaning
 
 -- a name, how many blocks enclose its declaration, and what it means
 pub record Binding : Type 0 where
@@ -33,8 +33,8 @@ pub record Member : Type 0 where
 pub data Struct : Type 0 where
   -- its definition doesn't stand before (6.7.2.3 paragraph 3)
   incomplete : Struct
-  -- its definition fails
-  unknown_struct : Struct
+  -- its definition fails, with its demands that fail
+  unknown_struct : (first : Fault) (others : List Fault) → Struct
   defined_struct : List Member → Struct
 
 -- whether what stands here is evaluated when the program runs
@@ -102,7 +102,7 @@ with_name env x m = record env { names = record { name = x; depth = env.depth; m
 -- the meaning that a declaration gives: a name whose declaration fails is unknown
 abbrev pub meaning_or_unknown : Checked Meaning → Meaning
 meaning_or_unknown (fine m) = m
-meaning_or_unknown (faulty fs) = unknown
+meaning_or_unknown (faulty f fs) = unknown f fs
 
 -- inside a block
 abbrev pub inside : Env → Env
@@ -128,7 +128,7 @@ type_of_member m = m.ctype
 -- the types of its members, where it has a definition
 abbrev pub types_of_struct : Struct → Option (List CType)
 types_of_struct incomplete = None
-types_of_struct unknown_struct = None
+types_of_struct (unknown_struct f fs) = None
 types_of_struct (defined_struct ms) = Some (map type_of_member ms)
 
 -- the structs as the layout of objects has them

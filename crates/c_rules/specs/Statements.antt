@@ -81,7 +81,7 @@ label_kind k = Int
 
 abbrev pub label_type : Checked Given → IntType
 label_type (fine g) = label_kind (kind_of g.ctype)
-label_type (faulty fs) = Int
+label_type (faulty f fs) = Int
 
 -- labels; a case value is a constant integer expression (paragraph 3)
 abbrev pub labels_of : Env → IntType → Labels → Checked (List TLabel)

@@ -1,0 +1,20 @@
+ghost use Rattle.std.specs.Prelude.{◌≡◌, ◌⊎◌, ℕ};
+ghost use Rattle.dm_base.specs.declared.mode.Mode.{Mode};
+ghost use Rattle.c_syntax.specs.Tree.{Items};
+ghost use Rattle.c_tree.specs.Tree.{Program};
+ghost use Rattle.c_rules.specs.Units.{IsTyped, IsViolated};
+
+/// A law on the rules: each unit is typed as some program, or violates some rule at some place.
+pub fn a_unit_is_typed_or_violates_a_rule()
+    ensures { (u : Items) (m : Mode) → ((p : Program) × IsTyped u m p) ⊎ ((code at : ℕ) × IsViolated u m code at) }
+{}
+
+/// A law on the rules: a unit that is typed violates no rule.
+pub fn a_typed_unit_violates_no_rule()
+    ensures { (u : Items) (m : Mode) (p : Program) (code at : ℕ) → IsTyped u m p → IsViolated u m code at → ⊥ }
+{}
+
+/// A law on the rules: a unit is typed as one program at most.
+pub fn a_unit_types_one_program()
+    ensures { (u : Items) (m : Mode) (p q : Program) → IsTyped u m p → IsTyped u m q → p ≡ q }
+{}
