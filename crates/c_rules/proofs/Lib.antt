@@ -5,3 +5,6 @@ mod TrialPrograms
 mod TrialStatics
 mod TrialTypes
 mod CheckedLemmas
+mod Modes
+mod ModeNames
+mod ModeExpressions
