@@ -8,3 +8,4 @@ mod CheckedLemmas
 mod Modes
 mod ModeNames
 mod ModeExpressions
+mod ModeBlocks
