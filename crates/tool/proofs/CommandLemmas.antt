@@ -1,25 +1,30 @@
 -- What one command line asks for, and what its files are, once and for all.
-use Rattle.std.proofs.Common.{◌≡◌, ◌≢◌, ℕ, List, [], ◌∷◌, Option, Some, None, IfSome, inl, inr, refl, sym, ◌∙◌, subst}
-use Rattle.std.specs.Prelude.{◌⊎◌, IsSome, IsSomeAnd}
-use Rattle.dm_base.specs.declared.event.Event.{Event}
-use Rattle.dm_base.specs.declared.outcome.TraceEnd.{TraceEnd}
+use Rattle.std.proofs.Common.{◌≡◌, ◌≢◌, ℕ, ◌<◌, List, length, get_or, nat_eq, if◌then◌else◌, Option, Some, None, inl, inr, refl, sym, ◌∙◌, ap, subst, arith}
+use Rattle.std.proofs.lemmas.Fmt.{decimal_injective}
+use Rattle.std.specs.Prelude.{IsSome}
 use Rattle.dm_base.specs.declared.verdict.Status.{Status}
 use Rattle.dm_base.specs.declared.verdict.Status.TheVariants as statuses
 use Rattle.dm_io.specs.Store.{Files, file_at}
-use Rattle.flow_model.specs.Graph.{Graph}
 use Rattle.model_file.specs.declared.error.ModelError.{ModelError}
 use Rattle.model_file.specs.declared.error.ModelError.TheVariants as models
-use Rattle.model_file.specs.Refusal.{IsModel, IsModelRefusal}
+use Rattle.model_file.specs.declared.version.ModelVersion.TheVariants.{Two}
+use Rattle.model_file.specs.ModelText.{model_text}
+use Rattle.model_file.specs.Refusal.{longest, IsModelRefusal}
 use Rattle.model_file.proofs.LawLemmas.{not_refused}
+use Rattle.model_file.proofs.UniqueLemmas.{one_graph}
 use Rattle.trace_file.specs.declared.error.TraceError.{TraceError}
 use Rattle.trace_file.specs.declared.error.TraceError.TheVariants as traces
-use Rattle.trace_file.specs.Trace.{IsTraceWithin, IsTraceRefusal}
+use Rattle.trace_file.specs.Trace.{IsTraceRefusal}
 use Rattle.trace_file.proofs.OneReading.{trace_unrefused}
 use Rattle.tool.specs.declared.command.Asked.{Asked}
+use Rattle.tool.specs.declared.command.Asked.TheVariants as asked
 use Rattle.tool.specs.Command.{Command, IsCommandLine, IsAskedBy}
-use Rattle.tool.specs.Command.Command.{Version, Help, Judge}
+use Rattle.tool.specs.Command.{FileCommand, file_word, asked_word}
+use Rattle.tool.specs.Command.FileCommand.{Upgrade}
+use Rattle.tool.specs.Command.Command.{Version, Help, OfFile, Judge}
 use Rattle.tool.specs.Commands.{Makes, Refuses, IsReady}
-use Rattle.tool.specs.Judge.{Judges, IsAModel, IsATrace, RefusesToJudge, IsReadyToJudge}
+use Rattle.tool.specs.Judge.{IsAModel, IsATrace, RefusesToJudge}
+use Rattle.tool.specs.Upgrade.{Upgrades, RefusesToUpgrade, IsReadyToUpgrade}
 
 -- files
 
@@ -41,41 +46,112 @@ one_status told model trace line other status later (inl a) (inr b) = absurd (mo
 one_status told model trace line other status later (inr a) (inl b) = absurd (model_or_refused told model b.0 (a.4).0 b.1 b.4)
 one_status told model trace line other status later (inr a) (inr b) = a.2 ∙ sym b.2
 
+-- no model is refused and made too, and one file is refused with one status
+upgrade_or_refused : (told : Files) (name text line : List ℕ) (status : Status) → Upgrades told name text → RefusesToUpgrade (Some told) name status line → ⊥
+upgrade_or_refused told name text line status makes (inl refuses) = model_or_refused told name refuses.0 (makes.0, makes.1) refuses.1 refuses.4
+upgrade_or_refused told name text line status makes (inr refuses) =
+    let same : (refuses.2).0 ≡ makes.0 = one_graph (file_at told name) ((refuses.2).1).version (makes.1).version (refuses.2).0 makes.0 ((refuses.2).1).is (makes.1).is in
+    let long : longest < length text = subst (λ (w : List ℕ). longest < length w) (ap (model_text Two) same ∙ sym makes.2) (refuses.2).2 in
+    omega (arith, long, makes.3)
+
+upgrade_ready : (told : Option Files) (name line : List ℕ) (status : Status) → IsReadyToUpgrade told name → RefusesToUpgrade told name status line → ⊥
+upgrade_ready None name line status ready refuses = ready
+upgrade_ready (Some told) name line status ready refuses = upgrade_or_refused told name (model_text Two ready.0) line status (ready.0, ready.1, refl, ready.2) refuses
+
+upgrade_status : (told : Option Files) (name line : List ℕ) (status : Status) → RefusesToUpgrade told name status line → status ≡ statuses.ModelRefused
+upgrade_status told name line status (inl refuses) = refuses.2
+upgrade_status told name line status (inr refuses) = refuses.0
+
 -- command lines
 
--- the two commands ask for the same files
-same_files : (model trace other later : List ℕ) (asked again : Asked) (bound most : ℕ) (words : List (List ℕ)) → IsCommandLine (Judge model trace asked bound) words → IsCommandLine (Judge other later again most) words → (other ≡ model) × (later ≡ trace)
-same_files model trace other later asked again bound most words line next = (cc (line.1, next.1), cc (line.1, next.1))
+-- the monitors that a word asks for, told by its first byte
+abbrev asked_of : ℕ → Asked
+asked_of byte =
+    if nat_eq byte 99 then asked.Callgraph else (if nat_eq byte 115 then asked.Stack else (if nat_eq byte 100 then asked.Dyck else asked.All))
+
+of_asked : (which : Asked) → asked_of (get_or (asked_word which) 0 0) ≡ which
+of_asked asked.Callgraph = refl
+of_asked asked.Stack = refl
+of_asked asked.Dyck = refl
+of_asked asked.All = refl
+
+one_asked : (which other : Asked) → asked_word which ≡ asked_word other → which ≡ other
+one_asked which other same = sym (of_asked which) ∙ ap (λ (w : List ℕ). asked_of (get_or w 0 0)) same ∙ of_asked other
+
+one_asked_for : (which other : Asked) (bound most : ℕ) (words : List (List ℕ)) → IsAskedBy which bound words → IsAskedBy other most words → (which ≡ other) × (bound ≡ most)
+one_asked_for which other bound most words (inl a) (inl b) = (one_asked which other (cc (a.0, b.0)), a.1 ∙ sym b.1)
+one_asked_for which other bound most words (inl a) (inr b) = cc (a.0, b.0)
+one_asked_for which other bound most words (inr a) (inl b) = cc (a.0, b.0)
+one_asked_for which other bound most words (inr a) (inr b) =
+    (one_asked which other (cc (a.0, b.0)), decimal_injective bound most (omega (arith, a.2)) (omega (arith, b.2)) (cc (a.0, b.0)))
+
+one_file_command : (which other : FileCommand) → file_word which ≡ file_word other → which ≡ other
+one_file_command Upgrade Upgrade same = refl
+
+-- words ask for one command
+one_command : (c d : Command) (words : List (List ℕ)) → IsCommandLine c words → IsCommandLine d words → c ≡ d
+one_command Version Version words line next = refl
+one_command Version Help words line next = elim line [ inl is ↦ cc (is, next) | inr is ↦ cc (is, next) ]
+one_command Version (OfFile other file) words line next = elim line [ inl is ↦ cc (is, next) | inr is ↦ cc (is, next) ]
+one_command Version (Judge m t again most) words line next = elim line [ inl is ↦ cc (is, next.1) | inr is ↦ cc (is, next.1) ]
+one_command Help Version words line next = elim next [ inl is ↦ cc (is, line) | inr is ↦ cc (is, line) ]
+one_command Help Help words line next = refl
+one_command Help (OfFile other file) words line next = cc (line, next)
+one_command Help (Judge m t again most) words line next = cc (line, next.1)
+one_command (OfFile which name) Version words line next = elim next [ inl is ↦ cc (is, line) | inr is ↦ cc (is, line) ]
+one_command (OfFile which name) Help words line next = cc (line, next)
+one_command (OfFile which name) (OfFile other file) words line next =
+    let command : which ≡ other = one_file_command which other (cc (line, next)) in
+    let same : name ≡ file = cc (line, next) in
+    cc (command, same)
+one_command (OfFile which name) (Judge m t again most) words line next = cc (line, next.1)
+one_command (Judge model trace which bound) Version words line next = elim next [ inl is ↦ cc (is, line.1) | inr is ↦ cc (is, line.1) ]
+one_command (Judge model trace which bound) Help words line next = cc (line.1, next)
+one_command (Judge model trace which bound) (OfFile other file) words line next = cc (line.1, next)
+one_command (Judge model trace which bound) (Judge m t again most) words line next =
+    let rest : line.0 ≡ next.0 = cc (line.1, next.1) in
+    let parts = one_asked_for which again bound most next.0 (subst (IsAskedBy which bound) rest line.2) next.2 in
+    let models : model ≡ m = cc (line.1, next.1) in
+    let traces : trace ≡ t = cc (line.1, next.1) in
+    cc (models, traces, parts.0, parts.1)
+
+-- a command that is ready refuses nothing
+ready_apart : (c : Command) (files : Option Files) (status : Status) (line : List ℕ) → IsReady c files → Refuses c files status line → ⊥
+ready_apart Version files status line ready refuses = refuses
+ready_apart Help files status line ready refuses = refuses
+ready_apart (OfFile Upgrade name) files status line ready refuses = upgrade_ready files name line status ready refuses
+ready_apart (Judge model trace which bound) None status line ready refuses = ready
+ready_apart (Judge model trace which bound) (Some told) status line ready refuses = good_files told model trace line status ready.0 ready.1 refuses
+
+-- a command that makes a text refuses nothing
+made_apart : (c : Command) (files : Option Files) (status later : Status) (text line : List ℕ) → IsSome files → Makes c files status text → Refuses c files later line → ⊥
+made_apart Version files status later text line told makes refuses = refuses
+made_apart Help files status later text line told makes refuses = refuses
+made_apart (OfFile which name) None status later text line told makes refuses = absurd (cc told)
+made_apart (OfFile Upgrade name) (Some files) status later text line told makes refuses = upgrade_or_refused files name text line later makes.1 refuses
+made_apart (Judge model trace which bound) None status later text line told makes refuses = absurd (cc told)
+made_apart (Judge model trace which bound) (Some files) status later text line told makes refuses =
+    good_files files model trace line later (makes.graph, makes.is_model) (makes.events, makes.end, makes.is_trace) refuses
+
+-- two refusals of one command have one status
+same_refusal : (c : Command) (files : Option Files) (status later : Status) (line other : List ℕ) → IsSome files → Refuses c files status line → Refuses c files later other → status ≡ later
+same_refusal Version files status later line other told refuses too = absurd refuses
+same_refusal Help files status later line other told refuses too = absurd refuses
+same_refusal (OfFile Upgrade name) files status later line other told refuses too = upgrade_status files name line status refuses ∙ sym (upgrade_status files name other later too)
+same_refusal (Judge model trace which bound) None status later line other told refuses too = absurd (cc told)
+same_refusal (Judge model trace which bound) (Some files) status later line other told refuses too = one_status files model trace line other status later refuses too
 
 -- the command of the words refuses nothing where it is ready
 pub ready_not_refused : (c d : Command) (words : List (List ℕ)) (files : Option Files) (status : Status) (line : List ℕ) → IsCommandLine c words → IsCommandLine d words → IsReady c files → Refuses d files status line → ⊥
-ready_not_refused c Version words files status line asked again ready refuses = refuses
-ready_not_refused c Help words files status line asked again ready refuses = refuses
-ready_not_refused Version (Judge other later which most) words files status line asked again ready refuses = elim asked [ inl is ↦ cc (is, again.1) | inr is ↦ cc (is, again.1) ]
-ready_not_refused Help (Judge other later which most) words files status line asked again ready refuses = cc (asked, again.1)
-ready_not_refused (Judge model trace which bound) (Judge other later again-which most) words None status line asked again ready refuses = ready
-ready_not_refused (Judge model trace which bound) (Judge other later again-which most) words (Some told) status line asked again ready refuses =
-    let same = same_files model trace other later which again-which bound most words asked again in
-    good_files told model trace line status ready.0 ready.1 (subst (λ (m : List ℕ). RefusesToJudge (Some told) m trace status line) same.0 (subst (λ (t : List ℕ). RefusesToJudge (Some told) other t status line) same.1 refuses))
+ready_not_refused c d words files status line asked again ready refuses =
+    ready_apart d files status line (subst (λ (x : Command). IsReady x files) (one_command c d words asked again) ready) refuses
 
 -- the command of the words makes nothing where it refuses a file
 pub made_not_refused : (c d : Command) (words : List (List ℕ)) (files : Option Files) (status later : Status) (text line : List ℕ) → IsSome files → IsCommandLine c words → IsCommandLine d words → Makes c files status text → Refuses d files later line → ⊥
-made_not_refused c Version words files status later text line told asked again makes refuses = refuses
-made_not_refused c Help words files status later text line told asked again makes refuses = refuses
-made_not_refused Version (Judge other later' which most) words files status later text line told asked again makes refuses = elim asked [ inl is ↦ cc (is, again.1) | inr is ↦ cc (is, again.1) ]
-made_not_refused Help (Judge other later' which most) words files status later text line told asked again makes refuses = cc (asked, again.1)
-made_not_refused (Judge model trace which bound) (Judge other later' again-which most) words None status later text line told asked again makes refuses = absurd (cc told)
-made_not_refused (Judge model trace which bound) (Judge other later' again-which most) words (Some files) status later text line told asked again makes refuses =
-    let same = same_files model trace other later' which again-which bound most words asked again in
-    good_files files model trace line later (makes.graph, makes.is_model) (makes.events, makes.end, makes.is_trace) (subst (λ (m : List ℕ). RefusesToJudge (Some files) m trace later line) same.0 (subst (λ (t : List ℕ). RefusesToJudge (Some files) other t later line) same.1 refuses))
+made_not_refused c d words files status later text line told asked again makes refuses =
+    made_apart d files status later text line told (subst (λ (x : Command). Makes x files status text) (one_command c d words asked again) makes) refuses
 
 -- a file is refused with one status
 pub refused_once : (c d : Command) (words : List (List ℕ)) (files : Option Files) (status later : Status) (line other : List ℕ) → IsSome files → IsCommandLine c words → IsCommandLine d words → Refuses c files status line → Refuses d files later other → status ≡ later
-refused_once Version d words files status later line other told asked again refuses too = absurd refuses
-refused_once Help d words files status later line other told asked again refuses too = absurd refuses
-refused_once (Judge model trace which bound) Version words files status later line other told asked again refuses too = absurd too
-refused_once (Judge model trace which bound) Help words files status later line other told asked again refuses too = absurd too
-refused_once (Judge model trace which bound) (Judge m t again-which most) words None status later line other told asked again refuses too = absurd (cc told)
-refused_once (Judge model trace which bound) (Judge m t again-which most) words (Some files) status later line other told asked again refuses too =
-    let same = same_files model trace m t which again-which bound most words asked again in
-    one_status files model trace line other status later refuses (subst (λ (x : List ℕ). RefusesToJudge (Some files) x trace later other) same.0 (subst (λ (x : List ℕ). RefusesToJudge (Some files) m x later other) same.1 too))
+refused_once c d words files status later line other told asked again refuses too =
+    same_refusal d files status later line other told (subst (λ (x : Command). Refuses x files status line) (one_command c d words asked again) refuses) too

@@ -1,10 +1,9 @@
 -- What `judge` makes of two files that were read.
-use Rattle.std.proofs.Common.{◌≡◌, ℕ, ◌<◌, ◌≤◌, List, [], ◌∷◌, arith, Option, Some, None, IfSome, inl, inr, refl, sym, ◌∙◌, ap, subst}
-use Rattle.std.specs.Prelude.{◌⊎◌}
+use Rattle.std.proofs.Common.{ℕ, ◌≤◌, List, [], ◌∷◌, arith, Option, Some, None, IfSome, inl, inr, refl, sym, ◌∙◌, ap, subst}
 use Rattle.dm_base.specs.declared.event.Event.{Event}
 use Rattle.dm_base.specs.declared.outcome.TraceEnd.{TraceEnd}
 use Rattle.dm_base.specs.declared.verdict.Status.{Status}
-use Rattle.dm_base.specs.declared.verdict.Status.TheVariants.{Done, Rejected, Bound}
+use Rattle.dm_base.specs.declared.verdict.Status.TheVariants.{Bound}
 use Rattle.dm_base.specs.declared.verdict.Verdict.{Verdict}
 use Rattle.dm_base.specs.declared.verdict.Verdict.TheVariants as verdicts
 use Rattle.dm_io.specs.Store.{Files, file_at}
@@ -15,9 +14,9 @@ use Rattle.trace_file.specs.Trace.{IsTraceWithin, IsTraceRefusal}
 use Rattle.tool.specs.Commands.{IsFinished}
 use Rattle.tool.specs.declared.stop.Stop.{Stop}
 use Rattle.tool.specs.declared.stop.Stop.TheVariants as stops
-use Rattle.tool.specs.Judge.{Judges, IsAModel}
+use Rattle.tool.specs.Judge.{Judges, IsAModel, RefusesToJudge, LacksToJudge}
 use Rattle.tool.specs.Reading.{StopsModel, StopsTrace}
-use Rattle.tool.specs.Stop.{StopsJudging}
+use Rattle.tool.specs.Stop.{Stops}
 use Rattle.tool.specs.Judged.{AreJudged, status_of, status_of_all, worse}
 
 -- each verdict ends the work
@@ -52,7 +51,7 @@ judges (Some files) model trace text g monitors bound status events is_model is_
     record { graph = g; events = events; end = is_trace.0; is_model = is_model; is_trace = is_trace.1; judged = judged }
 
 -- why judging stopped, once the model was read
-pub stops_judging : (told : Option Files) (model trace : List ℕ) (g : Graph) (stop : Stop) (before middle after : ℕ) → before ≤ middle → IfSome told (λ files. IsModel (file_at files model) g) → StopsTrace stop told trace middle after → StopsJudging stop told model trace before after
+pub stops_judging : (told : Option Files) (model trace : List ℕ) (g : Graph) (stop : Stop) (before middle after : ℕ) → before ≤ middle → IfSome told (λ files. IsModel (file_at files model) g) → StopsTrace stop told trace middle after → Stops stop (RefusesToJudge told model trace) (LacksToJudge told model trace) before after
 stops_judging told model trace g stops.Usage before middle after le is why = why
 stops_judging told model trace g (stops.Model line) before middle after le is why = absurd why
 stops_judging told model trace g (stops.Record line) before middle after le is why = inr (why.0, why.1, refl, why.2, with_model told is why.3)
@@ -71,7 +70,7 @@ stops_judging told model trace g stops.Write before middle after le is why = why
 stops_judging told model trace g stops.OutOfMemory before middle after le is why = tt
 
 -- why judging stopped before the model was read
-pub stops_reading : (told : Option Files) (model trace : List ℕ) (stop : Stop) (before after : ℕ) → StopsModel stop told model before after → StopsJudging stop told model trace before after
+pub stops_reading : (told : Option Files) (model trace : List ℕ) (stop : Stop) (before after : ℕ) → StopsModel stop told model before after → Stops stop (RefusesToJudge told model trace) (LacksToJudge told model trace) before after
 stops_reading told model trace stops.Usage before after why = why
 stops_reading told model trace (stops.Model line) before after why = inl why
 stops_reading told model trace (stops.Record line) before after why = absurd why

@@ -1,13 +1,11 @@
 -- What one monitor of a panel comes to at the next event, and what is told of it in the end.
-use Rattle.std.proofs.Common.{◌≡◌, ◌≢◌, ℕ, ◌+◌, ◌-◌, ◌<◌, ◌≤◌, List, [], ◌∷◌, ◌++◌, length, take, get_or, Option, Some, None, slice_get, refl, sym, ◌∙◌, ap, subst, inl, inr, append-nil, arith, length-append}
+use Rattle.std.proofs.Common.{◌≡◌, ℕ, ◌+◌, ◌-◌, ◌<◌, ◌≤◌, List, [], ◌∷◌, ◌++◌, length, take, Option, Some, None, slice_get, refl, sym, ◌∙◌, ap, subst, append-nil, arith, length-append}
 use Rattle.std.specs.Prelude.{IfOk, Result, Ok, Err}
-use Rattle.std.specs.List.{AllZip}
 use Rattle.std.proofs.lemmas.List.{take-append-le, take_all, get_or_append_left}
 use Rattle.std.proofs.lemmas.Option.{slice_get_within, get_or_from_slice_get, slice_get_read}
 use Rattle.std.proofs.Math.Seq.{get_or-append_seam, take-append_seam}
 use Rattle.dm_base.specs.declared.event.Event.{Event}
-use Rattle.dm_base.specs.declared.verdict.Step.{Step}
-use Rattle.dm_base.specs.declared.verdict.Step.TheVariants.{Kept, Rejected, Bound}
+use Rattle.dm_base.specs.declared.verdict.Step.TheVariants.{Rejected, Bound}
 use Rattle.dm_base.specs.declared.verdict.Status.{Status}
 use Rattle.dm_base.specs.declared.verdict.Status.TheVariants.{Done}
 use Rattle.dm_base.specs.Trace.{depth}
@@ -22,7 +20,7 @@ use Rattle.report.specs.VerdictLine.{verdict_text, IsGiven, event_at}
 use Rattle.sys_table.specs.Table.{IsRecorded}
 use Rattle.tool.specs.declared.finished.Finished.{Finished}
 use Rattle.tool.specs.declared.judging.Refused.{Refused}
-use Rattle.tool.specs.Judged.{AreJudged, verdict_lines, status_of, status_of_all, worse}
+use Rattle.tool.specs.Judged.{AreJudged, status_of, worse}
 use Rattle.tool.proofs.Nesting.{verdicts_nested}
 use Rattle.tool.specs.Refused.{IsRefusedAt, IsKeptWhole, HasComeTo}
 

@@ -6,3 +6,4 @@ pub mod ModelFiles
 pub mod Nesting
 pub mod PairLemmas
 pub mod ReadingLemmas
+mod UpgradeLemmas

@@ -1,13 +1,11 @@
 -- What one monitor accepts, the monitor of a larger language accepts.
-use Rattle.std.proofs.Common.{◌≡◌, ◌≢◌, ℕ, zero, suc, ◌+◌, ◌<◌, ◌≤◌, List, [], ◌∷◌, ◌++◌, length, take, get_or, Option, Some, None, slice_get, refl, sym, ◌∙◌, ap, subst, arith}
-use Rattle.std.specs.Prelude.{slice_index_or}
+use Rattle.std.proofs.Common.{◌≡◌, ℕ, zero, suc, List, [], ◌∷◌, length, take, Some, slice_get, refl, sym, ◌∙◌, ap, subst, arith}
 use Rattle.std.specs.List.{AllZip}
-use Rattle.std.proofs.lemmas.Option.{slice_get_within, get_or_from_slice_get, slice_get-get_or}
+use Rattle.std.proofs.lemmas.Option.{slice_get_within}
 use Rattle.dm_base.specs.declared.event.Event.{Event}
 use Rattle.dm_base.specs.declared.verdict.Verdict.{Verdict}
 use Rattle.dm_base.specs.declared.verdict.Verdict.TheVariants.{Accepted, Rejected, Bound}
 use Rattle.flow_model.specs.declared.which.Which.{Which}
-use Rattle.flow_model.specs.declared.which.Which.TheVariants as whichs
 use Rattle.flow_model.specs.Graph.{Graph}
 use Rattle.flow_model.specs.Verdict.{IsAccepted, IsVerdict}
 use Rattle.flow_model.proofs.Nested.{dyck_accepted_by_stack, stack_accepted_by_callgraph}

@@ -1,10 +1,9 @@
 -- What two panels tell together.
 use Rattle.std.proofs.Common.{◌≡◌, ℕ, List, [], ◌∷◌, ◌++◌, refl, sym, ◌∙◌, ap, append_assoc}
-use Rattle.std.specs.Prelude.{IfOk, Result, Ok, Err}
 use Rattle.std.specs.List.{AllZip}
 use Rattle.dm_base.specs.declared.event.Event.{Event}
 use Rattle.dm_base.specs.declared.verdict.Status.{Status}
-use Rattle.dm_base.specs.declared.verdict.Status.TheVariants.{Done, Rejected, Usage, SourceRefused, ModelRefused, RecordRefused, ReadFault, WriteFault, OutOfMemory, Bound}
+use Rattle.dm_base.specs.declared.verdict.Status.TheVariants.{Rejected, Bound}
 use Rattle.dm_base.specs.declared.verdict.Verdict.{Verdict}
 use Rattle.flow_model.specs.declared.which.Which.{Which}
 use Rattle.flow_model.specs.Graph.{Graph}

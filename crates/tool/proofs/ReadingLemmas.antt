@@ -1,6 +1,6 @@
 -- A trace file that is read in pieces.
-use Rattle.std.proofs.Common.{◌≡◌, ◌≢◌, ℕ, ◌+◌, ◌<◌, ◌≤◌, List, [], ◌∷◌, ◌++◌, length, take, Option, None, Some, IfSome, refl, sym, ◌∙◌, ap, subst, inl, inr, append-nil, append_assoc, arith, length-append}
-use Rattle.std.specs.Prelude.{◌⊎◌, All, slice_index_or}
+use Rattle.std.proofs.Common.{◌≡◌, ℕ, ◌+◌, ◌≤◌, List, [], ◌++◌, length, take, Option, None, Some, IfSome, refl, sym, ◌∙◌, ap, subst, inl, inr, append-nil, append_assoc, arith, length-append}
+use Rattle.std.specs.Prelude.{All, slice_index_or}
 use Rattle.std.proofs.lemmas.List.{take_all, length-take, get_or-append-add}
 use Rattle.dm_base.specs.declared.event.Event.{Event}
 use Rattle.dm_base.specs.declared.event.Event.TheVariants as events
@@ -19,7 +19,6 @@ use Rattle.sys_table.specs.Table.{IsRecorded}
 use Rattle.trace_file.specs.Trace.{longest, most, IsTraceWithin, IsTraceRefusal}
 use Rattle.tool.specs.declared.stop.Stop.{Stop}
 use Rattle.tool.specs.declared.stop.Stop.TheVariants as stops
-use Rattle.tool.specs.Judge.{trace_refusal}
 use Rattle.tool.specs.Reading.{IsAt, IsOpen, IsShut, IsReadWhole, IsTraceJudged, IsConcluded, StopsTrace}
 
 -- a read that gives no byte is at the end of the file

@@ -26,15 +26,25 @@ IsAskedBy which bound words =
     ((words ≡ asked_word which ∷ []) × (bound ≡ 1000))
     ⊎ ((words ≡ asked_word which ∷ decimal bound ∷ []) × (1 ≤ bound) × (bound ≤ 65535))
 
+-- The commands that read one file and write one text.
+pub data FileCommand : Type 0 where
+  Upgrade : FileCommand
+
+-- the word of such a command
+abbrev pub file_word : FileCommand → List ℕ
+file_word Upgrade = codes "upgrade"
+
 -- What the words ask for. File names are bytes.
 pub data Command : Type 0 where
   Version : Command
   Help : Command
+  OfFile : FileCommand → List ℕ → Command
   Judge : List ℕ → List ℕ → Asked → ℕ → Command
 
 -- the words of each command
 abbrev pub IsCommandLine : Command → List (List ℕ) → Type 0
 IsCommandLine Version words = (words ≡ []) ⊎ (words ≡ codes "--version" ∷ [])
 IsCommandLine Help words = words ≡ codes "--help" ∷ []
+IsCommandLine (OfFile which file) words = words ≡ file_word which ∷ file ∷ []
 IsCommandLine (Judge model trace which bound) words =
     (rest : List (List ℕ)) × (words ≡ codes "judge" ∷ model ∷ trace ∷ rest) × IsAskedBy which bound rest

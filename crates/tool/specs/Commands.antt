@@ -2,19 +2,25 @@
 use Rattle.std.specs.Prelude.{◌≡◌, ◌⊎◌, ℕ, List, ◌++◌, Option, Some, None, codes}
 use Rattle.dm_base.specs.declared.verdict.Status.{Status}
 use Rattle.dm_base.specs.declared.verdict.Status.TheVariants.{Done, Rejected, Bound}
-use Rattle.dm_io.specs.Store.{Files}
+use Rattle.dm_io.specs.Store.{Files, IsMissing}
 use Rattle.tool.specs.Command.{Command, monitors_of}
-use Rattle.tool.specs.Command.Command.{Version, Help, Judge}
+use Rattle.tool.specs.Command.FileCommand.{Upgrade}
+use Rattle.tool.specs.Command.Command.{Version, Help, OfFile, Judge}
 use Rattle.tool.specs.Judge.{Judges, RefusesToJudge, LacksToJudge, IsReadyToJudge}
+use Rattle.tool.specs.Upgrade.{Upgrades, RefusesToUpgrade, IsReadyToUpgrade}
 
 abbrev pub version_text : List ℕ
 version_text = codes "dyckmon 1\n"
 
 abbrev pub help_text : List ℕ
 help_text =
-    codes "dyckmon, --version: the version\n"
-    ++ codes "--help: this text\n"
-    ++ codes "judge MODEL TRACE WHICH [K]: the verdict of the model WHICH (callgraph, stack, dyck, or all three by all) in the file MODEL on the trace in the file TRACE; in the Dyck model at most K calls may be open at once, 1 to 65535, or 1000 without K\n"
+    codes "dyckmon, dyckmon --version            the version\n"
+    ++ codes "dyckmon --help                        this text\n"
+    ++ codes "dyckmon judge MODEL TRACE WHICH [K]   the verdict lines of the model on the trace\n"
+    ++ codes "dyckmon upgrade MODEL                 the file of the model in the newest version\n"
+    ++ codes "MODEL and TRACE are names of files. WHICH is callgraph, stack, dyck, or all for the three in this\n"
+    ++ codes "order. K is how many calls may be open at once in the Dyck model, 1 to 65535; it is 1000 where\n"
+    ++ codes "none is given.\n"
 
 -- the work was done: some text was written whole
 abbrev pub IsFinished : Status → Type 0
@@ -24,6 +30,8 @@ IsFinished status = (status ≡ Done) ⊎ ((status ≡ Rejected) ⊎ (status ≡
 abbrev pub Makes : Command → Option Files → Status → List ℕ → Type 0
 Makes Version files status text = (status ≡ Done) × (text ≡ version_text)
 Makes Help files status text = (status ≡ Done) × (text ≡ help_text)
+Makes (OfFile which file) None status text = IsFinished status
+Makes (OfFile Upgrade file) (Some files) status text = (status ≡ Done) × Upgrades files file text
 Makes (Judge model trace which bound) None status text = IsFinished status
 Makes (Judge model trace which bound) (Some files) status text = Judges files model trace (monitors_of which) bound status text
 
@@ -31,16 +39,19 @@ Makes (Judge model trace which bound) (Some files) status text = Judges files mo
 abbrev pub Refuses : Command → Option Files → Status → List ℕ → Type 0
 Refuses Version files status line = ⊥
 Refuses Help files status line = ⊥
+Refuses (OfFile Upgrade file) files status line = RefusesToUpgrade files file status line
 Refuses (Judge model trace which bound) files status line = RefusesToJudge files model trace status line
 
 -- a file that the command asks for isn't there
 abbrev pub Lacks : Command → Option Files → Type 0
 Lacks Version files = ⊥
 Lacks Help files = ⊥
+Lacks (OfFile which file) files = IsMissing files file
 Lacks (Judge model trace which bound) files = LacksToJudge files model trace
 
 -- the command's files are told, and are such that it refuses none
 abbrev pub IsReady : Command → Option Files → Type 0
 IsReady Version files = Unit {0}
 IsReady Help files = Unit {0}
+IsReady (OfFile Upgrade file) files = IsReadyToUpgrade files file
 IsReady (Judge model trace which bound) files = IsReadyToJudge files model trace

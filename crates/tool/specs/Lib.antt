@@ -7,3 +7,4 @@ pub mod Judged
 pub mod Reading
 pub mod Refused
 pub mod Stop
+pub mod Upgrade

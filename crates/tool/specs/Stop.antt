@@ -1,5 +1,5 @@
 -- Why nothing was written: the status, the line on err, and the cause.
-use Rattle.std.specs.Prelude.{◌≡◌, ◌⊎◌, ℕ, List, Option, codes}
+use Rattle.std.specs.Prelude.{◌⊎◌, ℕ, List, Option, codes}
 use Rattle.dm_base.specs.declared.verdict.Status.{Status}
 use Rattle.dm_base.specs.declared.verdict.Status.TheVariants as statuses
 use Rattle.dm_io.specs.Faults.{Rose}
@@ -10,8 +10,8 @@ use Rattle.tool.specs.declared.stop.Stop.{Stop}
 use Rattle.tool.specs.declared.stop.Stop.TheVariants as stops
 use Rattle.tool.specs.Command.{Command, IsCommandLine}
 use Rattle.tool.specs.Commands.{Makes, Refuses, Lacks}
-use Rattle.tool.specs.Judge.{RefusesToJudge, LacksToJudge}
 
+-- the status with which the tool ends then
 abbrev pub status_of_stop : Stop → Status
 status_of_stop stops.Usage = statuses.Usage
 status_of_stop (stops.Model line) = statuses.ModelRefused
@@ -20,6 +20,7 @@ status_of_stop stops.Read = statuses.ReadFault
 status_of_stop stops.Write = statuses.WriteFault
 status_of_stop stops.OutOfMemory = statuses.OutOfMemory
 
+-- the line that is written on err then
 abbrev pub line_of : Stop → List ℕ
 line_of stops.Usage = codes "usage\n"
 line_of (stops.Model line) = line.items
@@ -28,21 +29,24 @@ line_of stops.Read = codes "read fault\n"
 line_of stops.Write = codes "write fault\n"
 line_of stops.OutOfMemory = codes "out of memory\n"
 
+-- memory was refused
 abbrev pub no_memory : Stop
 no_memory = stops.OutOfMemory
 
+-- the stop of a file that was not read
 abbrev pub stop_of_read : ReadError → Stop
 stop_of_read errors.OutOfMemory = stops.OutOfMemory
 stop_of_read errors.Fault = stops.Read
 
--- why `judge` stopped before it wrote, by the told files and the store's count before and after
-abbrev pub StopsJudging : Stop → Option Files → List ℕ → List ℕ → ℕ → ℕ → Type 0
-StopsJudging stops.Usage files model trace before after = ⊥
-StopsJudging (stops.Model line) files model trace before after = RefusesToJudge files model trace statuses.ModelRefused line.items
-StopsJudging (stops.Record line) files model trace before after = RefusesToJudge files model trace statuses.RecordRefused line.items
-StopsJudging stops.Read files model trace before after = Rose before after ⊎ LacksToJudge files model trace
-StopsJudging stops.Write files model trace before after = ⊥
-StopsJudging stops.OutOfMemory files model trace before after = Unit {0}
+-- why the work of a command stopped before anything was written, by which files it refuses, whether one is lacking, and the
+-- store's count before and after
+abbrev pub Stops : Stop → (Status → List ℕ → Type 0) → Type 0 → ℕ → ℕ → Type 0
+Stops stops.Usage Refused Lacking before after = ⊥
+Stops (stops.Model line) Refused Lacking before after = Refused statuses.ModelRefused line.items
+Stops (stops.Record line) Refused Lacking before after = Refused statuses.RecordRefused line.items
+Stops stops.Read Refused Lacking before after = Rose before after ⊎ Lacking
+Stops stops.Write Refused Lacking before after = ⊥
+Stops stops.OutOfMemory Refused Lacking before after = Unit {0}
 
 -- some command of the words makes this text with this status
 abbrev pub IsWorked : List (List ℕ) → Option Files → Status → List ℕ → Type 0

@@ -22,6 +22,10 @@ pub enum Command<'a> {
     Version,
     /// The text on the commands.
     Help,
+    /// The text of the model in a file in the newest version.
+    Upgrade {
+        model: &'a str,
+    },
     /// The verdicts of monitors of the model in a file on the trace in another, where at most so many
     /// calls may be open at once in the Dyck model.
     Judge {
@@ -46,8 +50,8 @@ pub fn command_of(words: &[String]) -> Option<Command<'_>>
     match words {
         [] => Some(Command::Version),
         [word] => option_of(word),
+        [word, file] => file_command_of(word, file),
         [word, model, trace, asked @ ..] => judge_of(word, model, trace, asked),
-        _ => None,
     }
 }
 
@@ -61,6 +65,17 @@ fn option_of<'a>(word: &str) -> Option<Command<'a>>
     }
     if word == "--help" {
         return Some(Command::Help);
+    }
+    None
+}
+
+// A command of a word and a file.
+fn file_command_of<'a>(word: &str, file: &'a str) -> Option<Command<'a>>
+    ensures some { IfSome result (λ command. IsCommandLine (asked_by command) (word.now ∷ file.now ∷ [])) }
+    ensures none { IfNone result ((c : AskedCommand) → IsCommandLine c (word.now ∷ file.now ∷ []) → ⊥) }
+{
+    if word == "upgrade" {
+        return Some(Command::Upgrade { model: file });
     }
     None
 }

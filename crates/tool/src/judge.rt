@@ -3,9 +3,9 @@ ghost use Rattle.dm_io.specs.Store.{file_at};
 ghost use Rattle.model_file.specs.Refusal.{IsModel};
 ghost use Rattle.tool.specs.Command.{monitors_of};
 ghost use Rattle.tool.specs.Commands.{IsFinished};
-ghost use Rattle.tool.specs.Judge.{Judges};
+ghost use Rattle.tool.specs.Judge.{Judges, RefusesToJudge, LacksToJudge};
 ghost use Rattle.tool.specs.Reading.{AreTraceJudged, IsStopOfModel, StopsTrace, StopsModel};
-ghost use Rattle.tool.specs.Stop.{StopsJudging};
+ghost use Rattle.tool.specs.Stop.{Stops};
 
 use crate::command::Asked;
 use crate::finished::Finished;
@@ -29,8 +29,8 @@ type All = Pair<Judging<CallgraphMonitor>, Pair<Judging<StackMonitor>, Judging<D
 // One byte more than a model may have.
 const MOST: usize = 16_777_217;
 
-// The model in a file.
-fn model_in<S: Store>(alloc: Global, store: &mut S, name: &str) -> Result<Model, Stop>
+/// The model in a file.
+pub fn model_in<S: Store>(alloc: Global, store: &mut S, name: &str) -> Result<Model, Stop>
     ensures model { IfOk result (λ m. IfSome (S.files store.old) (λ told. IsModel (file_at told name.now) m)) }
     ensures stop { IfErr result (λ stop. StopsModel stop (S.files store.old) name.now (S.faults store.old) (S.faults store.new)) }
     ensures same { S.files store.new ≡ S.files store.old }
@@ -66,6 +66,7 @@ fn judge_by<S: Store, P: Panel>(
 ) -> Result<Finished, Stop>
     requires { (1 ≤ bound) × (bound < 2 ^ 16) }
     ensures judged { IfOk result (λ done. AreTraceJudged (S.files store.old) trace.now P.monitors model.now bound done.status done.text.items) }
+    ensures same { S.files store.new ≡ S.files store.old }
     ensures stop { IfErr result (λ stop. StopsTrace stop (S.files store.old) trace.now (S.faults store.old) (S.faults store.new)) }
     ensures never_falls { S.faults store.old ≤ S.faults store.new }
 {
@@ -86,6 +87,7 @@ fn judge_asked<S: Store>(
 ) -> Result<Finished, Stop>
     requires { (1 ≤ bound) × (bound < 2 ^ 16) }
     ensures judged { IfOk result (λ done. AreTraceJudged (S.files store.old) trace.now (monitors_of asked) model.now bound done.status done.text.items) }
+    ensures same { S.files store.new ≡ S.files store.old }
     ensures stop { IfErr result (λ stop. StopsTrace stop (S.files store.old) trace.now (S.faults store.old) (S.faults store.new)) }
     ensures never_falls { S.faults store.old ≤ S.faults store.new }
 {
@@ -111,7 +113,9 @@ pub fn judge<S: Store>(
     requires { (1 ≤ bound) × (bound < 2 ^ 16) }
     ensures judged { IfOk result (λ done. IfSome (S.files store.old) (λ told. Judges told model.now trace.now (monitors_of asked) bound done.status done.text.items)) }
     ensures finished { IfOk result (λ done. IsFinished done.status) }
-    ensures stop { IfErr result (λ stop. StopsJudging stop (S.files store.old) model.now trace.now (S.faults store.old) (S.faults store.new)) }
+    ensures same { S.files store.new ≡ S.files store.old }
+    ensures never_falls { S.faults store.old ≤ S.faults store.new }
+    ensures stop { IfErr result (λ stop. Stops stop (RefusesToJudge (S.files store.old) model.now trace.now) (LacksToJudge (S.files store.old) model.now trace.now) (S.faults store.old) (S.faults store.new)) }
 {
     let graph = model_in(alloc, store, model)?;
     match judge_asked(alloc, store, &graph, trace, asked, bound) {

@@ -16,8 +16,8 @@ use flow_model::{Model, Monitor, Which};
 use report::verdict_line;
 use std::alloc::Global;
 
-// After so many events the pool is swept.
-const SWEPT_AFTER: u64 = 1_024;
+// After so many events the pool is looked at, and swept where it has grown to twice what was needed.
+const LOOKED_AT_AFTER: u64 = 1_024;
 
 /// A verdict that is not Accepted, and the event at which it came.
 #[derive(Drop)]
@@ -26,11 +26,13 @@ pub struct Refused {
     pub event: Event,
 }
 
-/// One monitor with a pool of its own, how many events it has kept, and where it refused the trace.
+/// One monitor with a pool of its own, how many keys the last sweep left in it, how many events the
+/// monitor has kept, and where it refused the trace.
 #[derive(Drop)]
 pub struct Judging<M: Monitor> {
     pool: M::Pool,
     monitor: M,
+    left: usize,
     kept: u64,
     refused: Option<Refused>,
 }
@@ -48,10 +50,26 @@ fn sweep<M: Monitor>(monitor: &M, pool: &mut M::Pool)
     }
 }
 
-// Feeds the event that follows so many kept ones, and sweeps the pool after each 1,024th.
+// Sweeps a pool that holds at least twice the keys that the last sweep left. Answers how many keys the
+// last sweep left now.
+fn sweep_if_grown<M: Monitor>(monitor: &M, pool: &mut M::Pool, left: usize) -> usize
+    requires { (g : Graph) × (k : ℕ) × (h : List Event) × M.is_pool pool.old g × M.stands monitor.now pool.old g k h × M.noted pool.old g [] }
+    ensures pool { (g : Graph) → M.is_pool pool.old g → M.is_pool pool.new g }
+    ensures stands { (g : Graph) (k : ℕ) (h : List Event) → M.is_pool pool.old g → M.noted pool.old g [] → M.stands monitor.now pool.old g k h → M.stands monitor.now pool.new g k h }
+    ensures notes { (g : Graph) → M.is_pool pool.old g → M.noted pool.old g [] → M.noted pool.new g [] }
+{
+    if M::held(pool) / 2 < left {
+        return left;
+    }
+    sweep(monitor, pool);
+    M::held(pool)
+}
+
+// Feeds the event that follows so many kept ones, and looks after each 1,024th whether to sweep.
 fn feed_next<M: Monitor>(
     monitor: &mut M,
     pool: &mut M::Pool,
+    left: &mut usize,
     model: &Model,
     event: &Event,
     kept: u64,
@@ -66,8 +84,8 @@ fn feed_next<M: Monitor>(
     ensures exact { IfOk result (λ step. (k : ℕ) (h : List Event) → M.stands monitor.old pool.old model.now k h → IsStep M.WHICH model.now k (h ++ event.now ∷ []) step) }
 {
     let step = monitor.feed(pool, model, event)?;
-    if (kept + 1) % SWEPT_AFTER == 0 {
-        sweep(monitor, pool);
+    if (kept + 1) % LOOKED_AT_AFTER == 0 {
+        *left = sweep_if_grown(monitor, pool, *left);
     }
     Ok(step)
 }
@@ -123,6 +141,7 @@ impl<M: Monitor> Panel for Judging<M> {
         Ok(Judging {
             pool,
             monitor,
+            left: 0,
             kept: 0,
             refused: None,
         })
@@ -133,7 +152,14 @@ impl<M: Monitor> Panel for Judging<M> {
             Some(_) => return Ok(()),
             None => {}
         }
-        let step = feed_next(&mut self.monitor, &mut self.pool, model, event, self.kept)?;
+        let step = feed_next(
+            &mut self.monitor,
+            &mut self.pool,
+            &mut self.left,
+            model,
+            event,
+            self.kept,
+        )?;
         match step {
             Step::Kept => self.kept += 1,
             Step::Rejected => {

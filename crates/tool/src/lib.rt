@@ -11,8 +11,6 @@ mod reading;
 mod refusals;
 mod run;
 mod stop;
+mod upgrade;
 
 pub use run::{run_in_memory, run_tool};
-
-#[cfg(test)]
-mod tests;

@@ -1,4 +1,4 @@
-ghost use Rattle.std.specs.Prelude.{◌≡◌, ◌⊎◌, ℕ, List, Some, map, string_bytes, IsSome, IfOk, IfErr};
+ghost use Rattle.std.specs.Prelude.{◌≡◌, ◌≤◌, ◌⊎◌, ℕ, List, Some, map, string_bytes, IsSome, IfOk, IfErr};
 ghost use Rattle.dm_base.specs.declared.verdict.Status.{Status as AnyStatus};
 ghost use Rattle.dm_io.specs.Memory.{told};
 ghost use Rattle.tool.specs.Commands.{IsFinished};
@@ -9,14 +9,22 @@ use crate::command::{Command, command_of};
 use crate::finished::Finished;
 use crate::judge::judge;
 use crate::stop::Stop;
+use crate::upgrade::upgrade;
 use dm_base::{OutOfMemory, Status};
 use dm_io::{HonestSink, HonestStore, Sink, Store, write_whole};
 use std::alloc::Global;
 
 const VERSION_TEXT: &[u8] = b"dyckmon 1\n";
 
-const HELP_TEXT: &[u8] =
-    b"dyckmon, --version: the version\n--help: this text\njudge MODEL TRACE WHICH [K]: the verdict of the model WHICH (callgraph, stack, dyck, or all three by all) in the file MODEL on the trace in the file TRACE; in the Dyck model at most K calls may be open at once, 1 to 65535, or 1000 without K\n";
+const HELP_TEXT: &[u8] = b"\
+dyckmon, dyckmon --version            the version
+dyckmon --help                        this text
+dyckmon judge MODEL TRACE WHICH [K]   the verdict lines of the model on the trace
+dyckmon upgrade MODEL                 the file of the model in the newest version
+MODEL and TRACE are names of files. WHICH is callgraph, stack, dyck, or all for the three in this
+order. K is how many calls may be open at once in the Dyck model, 1 to 65535; it is 1000 where
+none is given.
+";
 
 // A text that no file decides.
 fn done(alloc: Global, text: &[u8]) -> Result<Finished, OutOfMemory>
@@ -31,6 +39,8 @@ fn done(alloc: Global, text: &[u8]) -> Result<Finished, OutOfMemory>
 
 // Makes the text of the command of the words.
 fn work<S: Store>(alloc: Global, words: &[String], store: &mut S) -> Result<Finished, Stop>
+    ensures same { S.files store.new ≡ S.files store.old }
+    ensures never_falls { S.faults store.old ≤ S.faults store.new }
     ensures made { IfOk result (λ done. IsFinished done.status × IsWorked (map string_bytes words.now) (S.files store.old) done.status done.text.items) }
     ensures stop { IfErr result (λ stop. HasStop stop (map string_bytes words.now) (S.files store.old) (S.faults store.old) (S.faults store.new)) }
 {
@@ -38,6 +48,7 @@ fn work<S: Store>(alloc: Global, words: &[String], store: &mut S) -> Result<Fini
         None => Err(Stop::Usage),
         Some(Command::Version) => Ok(done(alloc, VERSION_TEXT)?),
         Some(Command::Help) => Ok(done(alloc, HELP_TEXT)?),
+        Some(Command::Upgrade { model }) => upgrade(alloc, store, model),
         Some(
             Command::Judge {
                 model,
@@ -52,6 +63,7 @@ fn work<S: Store>(alloc: Global, words: &[String], store: &mut S) -> Result<Fini
 // Writes the line of a stop on err, and gives the status. A failed write changes no status.
 fn refuse<E: Sink>(err: &mut E, stop: &Stop) -> Status
     ensures status { result ≡ status_of_stop stop.now }
+    ensures never_falls { E.faults err.old ≤ E.faults err.new }
     ensures line { TakesLine (E.faults err.old) (E.faults err.new) (E.taken err.old) (E.taken err.new) (line_of stop.now) }
 {
     let _ = write_whole(err, stop.line());
@@ -79,6 +91,13 @@ pub fn run_tool<S: Store, O: Sink, E: Sink>(
     // memory is refused.
     ensures complete { IsSound (call_of (map string_bytes words.now) (S.files store.old) (S.faults store.old) (S.faults store.new) (O.faults out.old) (O.faults out.new)) → IsUndisturbed (call_of (map string_bytes words.now) (S.files store.old) (S.faults store.old) (S.faults store.new) (O.faults out.old) (O.faults out.new)) → IsFinished result ⊎ (result ≡ Status.OutOfMemory) }
     ensures refused { (status : AnyStatus) (line : List ℕ) → IsSome (S.files store.old) → IsRefused (call_of (map string_bytes words.now) (S.files store.old) (S.faults store.old) (S.faults store.new) (O.faults out.old) (O.faults out.new)) status line → IsUndisturbed (call_of (map string_bytes words.now) (S.files store.old) (S.faults store.old) (S.faults store.new) (O.faults out.old) (O.faults out.new)) → (result ≡ status) ⊎ (result ≡ Status.OutOfMemory) }
+
+    // The store's files stay as they are told, and no count falls, so a later call over the same
+    // store and sinks finds what the contracts of both say.
+    ensures same { S.files store.new ≡ S.files store.old }
+    ensures store_count { S.faults store.old ≤ S.faults store.new }
+    ensures out_count { O.faults out.old ≤ O.faults out.new }
+    ensures err_count { E.faults err.old ≤ E.faults err.new }
 {
     let finished = match work(alloc, words, store) {
         Ok(finished) => finished,
@@ -106,6 +125,7 @@ pub fn run_in_memory(
     ensures reported { Reports result (call_of (map string_bytes words.now) (Some store.old) 0 0 0 0) 0 0 (told err.old) (told err.new) }
     ensures complete { IsSound (call_of (map string_bytes words.now) (Some store.old) 0 0 0 0) → (IsLacking (call_of (map string_bytes words.now) (Some store.old) 0 0 0 0) → ⊥) → IsFinished result ⊎ (result ≡ Status.OutOfMemory) }
     ensures refused { (status : AnyStatus) (line : List ℕ) → IsRefused (call_of (map string_bytes words.now) (Some store.old) 0 0 0 0) status line → (IsLacking (call_of (map string_bytes words.now) (Some store.old) 0 0 0 0) → ⊥) → (result ≡ status) ⊎ (result ≡ Status.OutOfMemory) }
+    ensures same { store.new ≡ store.old }
 {
     run_tool(alloc, words, store, out, err)
 }

@@ -1,4 +1,4 @@
-use Rattle.std.proofs.Common.{ℕ, ◌≡◌, ◌<◌, ◌^◌, sym, ◌∙◌, arith, decimal}
+use Rattle.std.proofs.Common.{◌≡◌, sym, ◌∙◌, arith, decimal}
 use Rattle.std.proofs.lemmas.Fmt.{decimal_injective}
 use Rattle.tool.proofs.command.bound_of.Goals as goal
 

@@ -1,4 +1,4 @@
-use Rattle.std.proofs.Common.{rules, ◌≡◌, ℕ, ◌≤◌, List, ◌++◌, length, sym, subst}
+use Rattle.std.proofs.Common.{rules, ◌≤◌, List, ◌++◌, length, sym, subst}
 use Rattle.std.specs.Prelude.{All}
 use Rattle.dm_base.specs.declared.event.Event.{Event}
 use Rattle.sys_table.specs.Table.{IsRecorded}

@@ -1,4 +1,4 @@
-use Rattle.std.proofs.Common.{ℕ, []}
+use Rattle.std.proofs.Common.{ℕ}
 use Rattle.std.proofs.Common.{List}
 use Rattle.dm_base.specs.declared.event.Event.{Event}
 use Rattle.tool.proofs.ReadingLemmas.{trace_judged, trace_refused}

@@ -1,4 +1,4 @@
-use Rattle.std.proofs.Common.{rules, ℕ, ◌≡◌, ◌<◌, ◌≤◌, List, [], length, sym, ◌∙◌, arith}
+use Rattle.std.proofs.Common.{rules, ◌≡◌, ◌≤◌, List, length, arith}
 use Rattle.std.proofs.lemmas.List.{length-take}
 use Rattle.dm_base.specs.declared.event.Event.{Event}
 use Rattle.trace_file.specs.Trace.{longest}

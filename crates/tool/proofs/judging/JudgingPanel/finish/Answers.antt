@@ -1,4 +1,4 @@
-use Rattle.std.proofs.Common.{◌≡◌, ℕ, List, [], Option, Some, None, refl, sym}
+use Rattle.std.proofs.Common.{ℕ, List, [], Some, None, refl}
 use Rattle.dm_base.specs.declared.event.Event.{Event}
 use Rattle.dm_base.specs.declared.verdict.Verdict.TheVariants as verdicts
 use Rattle.flow_model.specs.Graph.{Graph}

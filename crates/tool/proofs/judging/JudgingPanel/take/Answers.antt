@@ -1,4 +1,4 @@
-use Rattle.std.proofs.Common.{[], ◌∷◌, ◌++◌, refl}
+use Rattle.std.proofs.Common.{[], ◌∷◌, ◌++◌}
 use Rattle.tool.proofs.Judgements.{refusal_stays, rejected_now, bound_now, come_refused, come_kept, refused_come}
 use Rattle.tool.proofs.judging.JudgingPanel.take.Goals as goal
 

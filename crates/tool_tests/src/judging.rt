@@ -1,9 +1,9 @@
-use crate::{run_in_memory, run_tool};
 use dm_base::Status;
 use dm_io::{MemorySink, MemoryStore};
 use std::alloc::{AllocError, Global};
 use std::process::Abort;
 use std::test::Fail;
+use tool::{run_in_memory, run_tool};
 
 // One call of getpid.
 const A: &[u8] = b"dyckmon-model 1\nfunctions 1\nf main 0 1\nnodes 2\ns 0 getpid 1\nstart 0\nend\n";
@@ -446,11 +446,56 @@ fn takes_the_command_lines_and_no_other_words(rt: HostRuntime) -> Result<(), Fai
     }
     let help = run_on(alloc, &["--help"], A, ONE)?;
     assert_eq!(rt; help.status, Status::Done);
-    assert!(rt;
-        help.out
-            .as_slice()
-            .starts_with(b"dyckmon, --version: the version\n")
+    for line in help.out.as_slice().split(|byte| *byte == b'\n') {
+        assert!(rt; line.len() <= 100);
+    }
+    Ok(())
+}
+
+// A trace of so many calls of getpid.
+fn long_trace(alloc: Global, count: usize) -> Result<Vec<u8>, AllocError> {
+    let mut text = b"dyckmon-trace 1\n".to_vec(alloc)?;
+    for _ in 0..count {
+        text.extend_from_slice(b"S getpid = 1\n")?;
+    }
+    text.extend_from_slice(b"end open\n")?;
+    Ok(text)
+}
+
+// After each 1,024th event the pool is looked at, and swept where it has grown.
+#[test]
+fn judges_a_trace_that_is_swept_on_the_way(rt: HostRuntime) -> Result<(), Fail> {
+    let alloc = rt.alloc();
+    let trace = long_trace(alloc, 3_100)?;
+    let judge: &[&str] = &["judge", "a", "t", "all"];
+    let got = run_on(alloc, judge, D, &trace)?;
+    expect(
+        &rt,
+        &got,
+        Status::Rejected,
+        b"callgraph accepted 3100\nstack accepted 3100\ndyck rejected 1 S getpid = 1\n",
+        b"",
     );
+    Ok(())
+}
+
+#[test]
+fn a_model_is_written_in_the_newest_version(rt: HostRuntime) -> Result<(), Fail> {
+    let alloc = rt.alloc();
+    let older: &[u8] =
+        b"dyckmon-model 1\nfunctions 1\nf main 0 1\nnodes 4\ne 3 1\ns 0 close 2\ns 2 close 3\nstart 0\nend\n";
+    let newer: &[u8] =
+        b"dyckmon-model 2\nfunctions 1\nf main 0 1\nnodes 4\ne 3 1\ns 0 close 2 *\ns 2 close 3 *\nstart 0\nend\n";
+    let rows: [(&[u8], Status, &[u8], &[u8]); 4] = [
+        (older, Status::Done, newer, b""),
+        (newer, Status::Done, newer, b""),
+        (CLOSES, Status::Done, CLOSES, b""),
+        (ONE, Status::ModelRefused, b"", b"model refused M1 line 1\n"),
+    ];
+    for (model, status, out, err) in rows.iter() {
+        let got = run_on(alloc, &["upgrade", "a"], model, ONE)?;
+        expect(&rt, &got, *status, out, err);
+    }
     Ok(())
 }
 
