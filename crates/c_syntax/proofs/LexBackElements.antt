@@ -1,5 +1,5 @@
 -- The printed text of an element is the element, and the longest there.
-use Rattle.std.proofs.Common.{◌≡◌, ◌≢◌, ◌≤◌, ◌<◌, ◌+◌, ◌-◌, ◌/◌, ◌%◌, ℕ, ℤ, pos, negsuc, Bool, true, false, ◌&&◌, ◌||◌, nat_eq, nat_le, List, [], ◌∷◌, ◌++◌, length, All, refl, sym, ◌∙◌, subst, inl, inr, ⊎_elim, append_assoc, arith}
+use Rattle.std.proofs.Common.{◌≡◌, ◌≢◌, ◌≤◌, ◌<◌, ◌+◌, ◌-◌, ◌/◌, ◌%◌, ℕ, ℤ, pos, negsuc, Bool, true, false, ◌&&◌, ◌||◌, nat_eq, nat_le, List, [], ◌∷◌, ◌++◌, length, All, refl, sym, ap, ◌∙◌, subst, inl, inr, ⊎_elim, append_assoc, arith}
 use Rattle.std.specs.Prelude.{◌≤ℤ◌, ◌-ℤ◌, if◌then◌else◌}
 use Rattle.std.specs.Char.{digit_value}
 use Rattle.std.specs.Str.Parse.{AllDigits, digits_value}
@@ -153,14 +153,16 @@ pub record IsByteOf (c : ℤ) : Type 0 where
 char_byte : (c : ℤ) → (negsuc 127 ≤ℤ c) × (c ≤ℤ pos 127) → IsByteOf c
 char_byte (pos n) fits =
     let low : n < 128 = omega (arith, ints) in
+    let whole : n % 256 ≡ n = omega arith in
     let is : char_value n ≡ pos n = rw (lt-ltb n 128 low) refl in
-    record { byte = omega arith; value = sym is }
+    record { byte = omega (arith, whole); value = sym (ap char_value whole ∙ is) }
 char_byte (negsuc n) fits =
     let low : n ≤ 127 = omega (arith, ints) in
+    let whole : 255 - n % 256 ≡ 255 - n = omega arith in
     let high : 128 ≤ 255 - n = omega arith in
     let is : char_value (255 - n) ≡ pos (255 - n) -ℤ pos 256 = rw (le-ltb (255 - n) 128 high) refl in
     let same : negsuc n ≡ pos (255 - n) -ℤ pos 256 = omega (arith, ints) in
-    record { byte = omega arith; value = same ∙ sym is }
+    record { byte = omega (arith, whole); value = same ∙ sym (ap char_value whole ∙ is) }
 
 -- a printed character or string spells its kind
 pub char_spelled : (c : ℤ) → IsKind (Char c) → Spells (Char c) (kind_text (Char c))

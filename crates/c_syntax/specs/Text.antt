@@ -1,5 +1,6 @@
 -- The text of tokens: one space between two tokens of a line, and a line ends after each `;`, `{` and `}`.
-use Rattle.std.specs.Prelude.{ℕ, ◌+◌, ◌-◌, ◌/◌, ◌%◌, ◌&&◌, ◌||◌, ℤ, pos, negsuc, Bool, true, false, List, [], ◌∷◌, ◌++◌, nat_eq, nat_le, slice_get, unwrap_or, if◌then◌else◌, decimal}
+use Rattle.std.specs.Prelude.{ℕ, ◌+◌, ◌/◌, ◌%◌, ◌&&◌, ◌||◌, ℤ, pos, unsigned_abs, Bool, true, false, List, [], ◌∷◌, ◌++◌, nat_eq, nat_le, slice_get, unwrap_or, if◌then◌else◌, decimal}
+use Rattle.std.specs.Int.{int_rem_euclid}
 use Rattle.c_lexer.specs.declared.token.TokenKind.{TokenKind}
 use Rattle.c_lexer.specs.declared.token.TokenKind.TheVariants.{Name, Keyword, Int, Char, Str, Punct}
 use Rattle.c_lexer.specs.declared.punctuator.TheConstants.{LEFT_BRACE, RIGHT_BRACE, SEMICOLON}
@@ -7,10 +8,9 @@ use Rattle.c_lexer.specs.Words.{keywords, punctuators}
 use Rattle.c_syntax.specs.Tree.{Items}
 use Rattle.c_syntax.specs.Print.{unit_kinds}
 
--- the byte that a character from -128 to 127 is
+-- the byte that a character is: its value modulo 256 (6.2.6.2, 6.4.4.4)
 abbrev pub byte_of : ℤ → ℕ
-byte_of (pos n) = n
-byte_of (negsuc n) = 255 - n
+byte_of c = unsigned_abs (int_rem_euclid c (pos 256))
 
 -- a byte from 32 to 126 stands for itself, the quote and the backslash after a backslash, and each other byte as three octal digits
 abbrev pub element_text : ℕ → ℕ → List ℕ

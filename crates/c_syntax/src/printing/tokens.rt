@@ -1,4 +1,4 @@
-ghost use Rattle.std.specs.Prelude.{◌≡◌, ◌++◌, ◌∷◌, [], ◌<◌, IfSome, OnOk};
+ghost use Rattle.std.specs.Prelude.{◌≡◌, ◌++◌, ◌∷◌, [], ◌<◌, OnOk};
 ghost use Rattle.c_syntax.specs.Text.{byte_of as byte_of_char, element_text, elements_text};
 ghost use Rattle.c_syntax.specs.Writes.{Writes, WritesToken, octal_text, separator};
 
@@ -62,9 +62,7 @@ pub fn push_int(out: &mut Vec<u8>, value: u32, unsigned: bool) -> Result<(), Out
 pub fn push_char(out: &mut Vec<u8>, c: i32) -> Result<(), OutOfMemory>
     ensures { OnOk result (WritesToken out.old.items out.new.items (TokenKind.Char c)) }
 {
-    let Some(byte) = byte_of(c) else {
-        return Err(OutOfMemory);
-    };
+    let byte = byte_of(c);
     push_bytes(out, b"'")?;
     push_element(out, b'\'', byte)?;
     push_word(out, b"'", b' ')
@@ -80,11 +78,10 @@ pub fn push_str(out: &mut Vec<u8>, bytes: &[u8]) -> Result<(), OutOfMemory>
 }
 
 // The byte that a character is, or None where it is none.
-fn byte_of(c: i32) -> Option<u8>
-    ensures { IfSome result (λ byte. byte ≡ byte_of_char c) }
+fn byte_of(c: i32) -> u8
+    ensures { result ≡ byte_of_char c }
 {
-    let value = if c < 0 { c + 256 } else { c };
-    u8::try_from(value).ok()
+    c.rem_euclid(256) as u8
 }
 
 // Writes the elements of a literal.

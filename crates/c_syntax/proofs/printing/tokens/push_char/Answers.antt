@@ -5,5 +5,5 @@ use Rattle.c_syntax.proofs.printing.tokens.push_char.Goals as goal
 
 pub returns : goal.returns
 returns c =
-    let is : c.in-Some.byte ≡ byte_of c.args.c = search rules in
+    let is : c.byte_of-byte.result ≡ byte_of c.args.c = search rules in
     char_written _ _ _ _ _ _ c.args.c is (c.in_ok-push_bytes.ensures) (c.in_ok-push_element.ensures) c.push_word.ensures
