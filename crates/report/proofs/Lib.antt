@@ -1,3 +1,4 @@
 pub mod LastCalls
+pub mod MeasureLemmas
 pub mod NextLemmas
 pub mod TrialLemmas

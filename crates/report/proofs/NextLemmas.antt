@@ -105,7 +105,7 @@ number_none Has limit n none number = number.count ∙ no_members number.those (
 
 -- what an answer says
 
-accepted_part : (which : Which) (g : Graph) (bound : ℕ) (h : List Event) (e : Event) → IsAccepted which g bound (h ++ e ∷ []) → IsAccepted which g bound h
+pub accepted_part : (which : Which) (g : Graph) (bound : ℕ) (h : List Event) (e : Event) → IsAccepted which g bound (h ++ e ∷ []) → IsAccepted which g bound h
 accepted_part which g bound h e accepted = record {
   kept = λ j le. subst (IsKept which g bound) (take-append-le j h (e ∷ []) le) (accepted.kept j (omega (arith, le, length-append h (e ∷ []))));
 }

@@ -1,3 +1,4 @@
+pub mod Measuring
 pub mod Precision
 pub mod Trials
 pub mod VerdictLine

@@ -8,4 +8,4 @@ mod trials;
 
 pub use lines::{name_of, next_line, precision_line, verdict_line};
 pub use next::next_names;
-pub use precision::Precision;
+pub use precision::{Meter, Precision, measure};
