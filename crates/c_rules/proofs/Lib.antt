@@ -9,3 +9,4 @@ mod Modes
 mod ModeNames
 mod ModeExpressions
 mod ModeBlocks
+mod ModeStatements
