@@ -10,3 +10,5 @@ mod ModeNames
 mod ModeExpressions
 mod ModeBlocks
 mod ModeStatements
+mod ModeFunctions
+mod ModeItems

@@ -69,7 +69,7 @@ with_name_leads env None r s h = h
 with_name_leads env (Some x) r s h = both_leads r s (new_name (left env) x) (new_name (right env) x) (λ t _. fine t) (λ t _. fine t) h (λ _ _. new_name_leads env x) (λ t _. same_leads (fine t))
 
 -- behind a parameter whose declaration is fine
-behind_twin : (env : Env) → ArePlain env.names → (k : ℕ) (n : Option Ident) (r s : Checked CType) (t : CType) → Leads r s → with_name_demands (left env) n r ≡ fine t → Twin (behind_parameter (left env) k n r) (behind_parameter (right env) k n s)
+pub behind_twin : (env : Env) → ArePlain env.names → (k : ℕ) (n : Option Ident) (r s : Checked CType) (t : CType) → Leads r s → with_name_demands (left env) n r ≡ fine t → Twin (behind_parameter (left env) k n r) (behind_parameter (right env) k n s)
 behind_twin env p k None r s t h e = twin env p
 behind_twin env p k (Some x) r s t h e =
     let f = first_fine r (new_name (left env) x) (λ u _. fine u) t e in

@@ -122,7 +122,7 @@ name_leads x at q r h =
     both_leads (demand (may_be_declared Plain x) C12 at met) (demand (may_be_declared Instrumented x) C12 at met) q r (λ _ _. fine met) (λ _ _. fine met)
     (demand_leads _ _ 12 at met (may_more x)) (λ a e. h (unreserved x (demand_met (may_be_declared Plain x) 12 at met a e))) (λ _ _. (refl, tt))
 
-given_leads : (x : Ident) → is_reserved x.name ≡ false → Leads (demand (not (is_among (given_names Plain) x.name)) C11 x.at met) (demand (not (is_among (given_names Instrumented) x.name)) C11 x.at met)
+pub given_leads : (x : Ident) → is_reserved x.name ≡ false → Leads (demand (not (is_among (given_names Plain) x.name)) C11 x.at met) (demand (not (is_among (given_names Instrumented) x.name)) C11 x.at met)
 given_leads x u = subst (λ o. Leads (demand (not (is_among (given_names Plain) x.name)) C11 x.at met) (demand (not (is_some o)) C11 x.at met)) (sym (given_same x.name u)) (same_leads _)
 
 pub free_name_leads : (env : Env) (x : Ident) → Leads (free_name (left env) x) (free_name (right env) x)

@@ -24,10 +24,10 @@ use Rattle.c_rules.proofs.Modes.{Leads, LeadsTo, same_leads, fine_leads, on_lead
 use Rattle.c_rules.proofs.ModeExpressions.{value_leads}
 use Rattle.c_rules.proofs.ModeBlocks.{PartFacts, both_to, gives_to, weaken, always, moved, both_lists, decl_leads, first_leads}
 
-inside_twin : (e f : Env) → Twin e f → Twin (inside e) (inside f)
+pub inside_twin : (e f : Env) → Twin e f → Twin (inside e) (inside f)
 inside_twin e f (twin env p) = twin (inside env) p
 
-folded_leads : (e f : Env) → Twin e f → (x : Expr) → Leads (folded_value e x) (folded_value f x)
+pub folded_leads : (e f : Env) → Twin e f → (x : Expr) → Leads (folded_value e x) (folded_value f x)
 folded_leads e f (twin env p) x = value_leads _ _ (twin (in_context env folded) p) nothing_before x
 
 condition_leads : (e f : Env) → Twin e f → (b : Before) (at : ℕ) (x : Expr) → Leads (condition_at at (value e b x)) (condition_at at (value f b x))

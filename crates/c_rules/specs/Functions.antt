@@ -1,20 +1,20 @@
 -- Functions (6.9.1): what their names mean, and what their definitions give.
-use Rattle.std.specs.Prelude.{ℕ, suc, Bool, true, false, not, ◌&&◌, ◌||◌, List, ◌++◌, length, Option, Some, None, slice_get, nat_le, nat_lt}
-use Rattle.c_tree.specs.Tree.{CType, void, function, CTypes, list_of, Function}
+use Rattle.std.specs.Prelude.{ℕ, suc, Bool, true, false, not, ◌&&◌, ◌||◌, List, [], ◌++◌, length, Option, Some, None, slice_get, nat_le, nat_lt}
+use Rattle.c_tree.specs.Tree.{CType, void, function, CTypes, no_types, more_types, list_of, Function}
 use Rattle.c_tree.specs.Tree as typed
 use Rattle.c_tree.specs.Layout.{cells_of_all}
 use Rattle.c_syntax.specs.Tree.{Ident, Spec, Declarator, Params, no_params, more_params, Stmt, block, BlockItems, no_block_items, block_stmt}
 use Rattle.c_syntax.specs.Tree as syntax
-use Rattle.c_rules.specs.Checked.{Checked, fine, fault, demand, on, both, and_also, met}
+use Rattle.c_rules.specs.Checked.{Checked, fine, faulty, fault, demand, on, both, and_also, met}
 use Rattle.c_rules.specs.Codes.{C2, C3, C11, C12, C13}
 use Rattle.c_rules.specs.Limits.{most_functions, most_local_cells}
 use Rattle.c_rules.specs.Names.{Name, number_among, is_among, with_new, may_be_declared, given_names, given_types}
 use Rattle.c_rules.specs.Types.{same_type}
-use Rattle.c_rules.specs.Scopes.{Env, Meaning, a_static, a_function, unknown, declared_here, with_name, meaning_or_unknown, inside, layout_of, Before}
+use Rattle.c_rules.specs.Scopes.{Env, Meaning, a_static, a_local, a_function, unknown, declared_here, with_name, meaning_or_unknown, inside, layout_of, Before}
 use Rattle.c_rules.specs.Declarators.{name_of, behind_parameter}
-use Rattle.c_rules.specs.Expressions.{type_declared, type_of_parameter}
-use Rattle.c_rules.specs.Variables.{first_numbers}
-use Rattle.c_rules.specs.Blocks.{Laid}
+use Rattle.c_rules.specs.Expressions.{type_declared}
+use Rattle.c_rules.specs.Variables.{Next, first_numbers}
+use Rattle.c_rules.specs.Blocks.{Laid, held_by_block}
 use Rattle.c_rules.specs.Statements.{items_of_block}
 
 -- ## Declarators of functions
@@ -50,11 +50,16 @@ abbrev pub count_params : Params → ℕ
 count_params no_params = 0
 count_params (more_params at s d ps) = suc (count_params ps)
 
--- the scope of the body: parameters are the first variables (6.2.1 paragraph 4)
-abbrev pub behind_parameters : Env → (number : ℕ) → Params → Env
-behind_parameters env k no_params = env
-behind_parameters env k (more_params at s d ps) =
-    behind_parameters (behind_parameter env k (name_of d) (type_of_parameter env at s d)) (suc k) ps
+-- behind a parameter of this type, where it has a name
+abbrev pub with_parameter : Env → (number : ℕ) → Option Ident → CType → Env
+with_parameter env k None t = env
+with_parameter env k (Some x) t = with_name env x.name (a_local k t t)
+
+-- the scope of the body: parameters of these types are the first variables (6.2.1 paragraph 4)
+abbrev pub with_parameters : Env → (number : ℕ) → Params → CTypes → Env
+with_parameters env k no_params ts = env
+with_parameters env k (more_params at s d ps) no_types = env
+with_parameters env k (more_params at s d ps) (more_types t ts) = with_parameters (with_parameter env k (name_of d) t) (suc k) ps ts
 
 -- ## Names of functions
 
@@ -120,13 +125,30 @@ function_laid env x t ts p =
     demand (nat_le (cells_of_all (layout_of env) (variables_of ts p)) (most_local_cells env.whole.mode)) C13 x.at
     (record { name = x.name; ctype = function t ts; variables = variables_of ts p; body = typed.block p.tree })
 
--- the body of a function that returns this, whose parameters and body stand in one scope
-abbrev pub body_of : Env → Before → (returns : CType) → Params → BlockItems → Checked (Laid typed.Stmts)
-body_of env b t ps is =
-    items_of_block (behind_parameters (inside env) 0 ps) (record { breaks = false; continues = false; returns = t }) b (first_numbers (count_params ps) is) is
+-- the scope of the body of a function with these types of parameters; body and parameters stand in one scope
+abbrev pub body_env : Env → Declarator → CTypes → Env
+body_env env d ts = with_parameters (inside env) 0 (parameters_of d) ts
+
+-- the next numbers of variables where the body begins
+abbrev pub body_numbers : Declarator → BlockItems → Next
+body_numbers d is = first_numbers (count_params (parameters_of d)) is
+
+-- the body of a function that returns this
+abbrev pub body_of : Env → Before → (returns : CType) → Declarator → CTypes → BlockItems → Checked (Laid typed.Stmts)
+body_of env b t d ts is =
+    items_of_block (body_env env d ts) (record { breaks = false; continues = false; returns = t }) b (body_numbers d is) is
+
+-- the strings in the body of a function of this type
+abbrev pub held_by_type : Env → Declarator → BlockItems → CType → List (List ℕ)
+held_by_type env d is (function t ts) = held_by_block (body_env env d ts) (body_numbers d is) is
+held_by_type env d is t = []
+
+abbrev pub held_by_typed : Env → Declarator → BlockItems → Checked CType → List (List ℕ)
+held_by_typed env d is (fine t) = held_by_type env d is t
+held_by_typed env d is (faulty f fs) = []
 
 -- a definition of a function of this type; its name is known in its body
 abbrev pub defined_as : Env → Before → (place : ℕ) → Declarator → Ident → BlockItems → CType → Checked Function
 defined_as env b place d x is (function t ts) =
-    both (demand (are_named (parameters_of d)) C3 place met) (body_of env b t (parameters_of d) is) (λ _ p. function_laid env x t ts p)
+    both (demand (are_named (parameters_of d)) C3 place met) (body_of env b t d ts is) (λ _ p. function_laid env x t ts p)
 defined_as env b place d x is t = fault C3 place

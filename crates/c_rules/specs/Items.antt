@@ -23,7 +23,7 @@ use Rattle.c_rules.specs.Objects.{Object, object_declared, with_size}
 use Rattle.c_rules.specs.Tags.{tags_of_item}
 use Rattle.c_rules.specs.Variables.{calls_of_block, first_numbers}
 use Rattle.c_rules.specs.Blocks.{held_by_block}
-use Rattle.c_rules.specs.Functions.{declares_function, parameters_of, count_params, behind_parameters, is_defined_by, behind_function, function_declared, items_of_body, defined_as}
+use Rattle.c_rules.specs.Functions.{declares_function, held_by_typed, is_defined_by, behind_function, function_declared, items_of_body, defined_as}
 use Rattle.c_rules.specs.Scopes.{inside}
 
 -- the functions and the static objects that an item defines
@@ -305,12 +305,10 @@ abbrev pub behind_function_named : Env → (at : ℕ) → Spec → Declarator �
 behind_function_named env at s d None = env
 behind_function_named env at s d (Some x) = behind_defined env at s d x
 
--- so much stands before what follows a function: the calls and strings of its body, in the scope of its parameters
+-- so much stands before what follows a function: the calls and strings of its body
 abbrev pub after_function : Env → Before → (at : ℕ) → Spec → Declarator → Stmt → Before
 after_function env b at s d body =
-    let is : BlockItems = items_of_body body in
-    let inner : Env = behind_parameters (inside (behind_function_named env at s d (name_of d))) 0 (parameters_of d) in
-    past b (calls_of_block is) (held_by_block inner (first_numbers (count_params (parameters_of d)) is) is)
+    past b (calls_of_block (items_of_body body)) (held_by_typed (behind_function_named env at s d (name_of d)) d (items_of_body body) (type_declared env at s d))
 
 -- ## Items
 

@@ -1,5 +1,6 @@
 ghost use Rattle.std.specs.Prelude.{◌≡◌, ◌⊎◌, ℕ};
 ghost use Rattle.dm_base.specs.declared.mode.Mode.{Mode};
+ghost use Rattle.dm_base.specs.declared.mode.Mode.TheVariants.{Plain, Instrumented};
 ghost use Rattle.c_syntax.specs.Tree.{Items};
 ghost use Rattle.c_tree.specs.Tree.{Program};
 ghost use Rattle.c_rules.specs.Units.{IsTyped, IsViolated};
@@ -17,4 +18,10 @@ pub fn a_typed_unit_violates_no_rule()
 /// A law on the rules: a unit is typed as one program at most.
 pub fn a_unit_types_one_program()
     ensures { (u : Items) (m : Mode) (p q : Program) → IsTyped u m p → IsTyped u m q → p ≡ q }
+{}
+
+/// A law on the rules: a unit that is typed in the mode Plain is typed in the mode Instrumented, as the same
+/// program.
+pub fn a_plain_unit_is_typed_alike_in_both_modes()
+    ensures { (u : Items) (p : Program) → IsTyped u Plain p → IsTyped u Instrumented p }
 {}
