@@ -1,5 +1,5 @@
 -- Names that are not declared, or twice, or not defined (C1, C2, C9 to C12): each unit beside its text, and the demands on it that fail.
-use Rattle.std.proofs.Common.{◌≡◌, true, false, [], codes, refl}
+use Rattle.std.proofs.Common.{◌≡◌, ℕ, ℤ, pos, negsuc, Bool, true, false, List, [], ◌∷◌, codes, refl}
 use Rattle.std.specs.Int.{int_wrap}
 use Rattle.dm_base.specs.declared.mode.Mode.TheVariants.{Plain, Instrumented}
 use Rattle.sys_table.specs.Table.{table}
@@ -7,57 +7,56 @@ use Rattle.c_tree.specs.Functions.{sys_types}
 use Rattle.c_syntax.specs.Tree.{Items}
 use Rattle.c_syntax.specs.Tree as s
 use Rattle.c_rules.specs.Checked.{faults}
-use Rattle.c_rules.specs.Codes.{C1, C2, C9, C10, C11, C12}
 use Rattle.c_rules.specs.Units.{checked}
 use Rattle.c_rules.proofs.Terms.{ident, main_that_returns, failing}
 
 -- int main(void) { return x; }
-undeclared_name : faults (checked (s.more_items (s.function_item 0 s.no_storage s.int (s.function 4 (s.named 4 (ident 4 (codes "main"))) s.no_params) (s.block 15 (s.block_stmt (s.return_from 17 (s.there (s.a_name 24 (codes "x")))) s.no_block_items))) s.no_items) Plain) ≡ failing C1 24 ([])
+undeclared_name : faults (checked (s.more_items (s.function_item 0 s.no_storage s.int (s.function 4 (s.named 4 (ident 4 (codes "main"))) s.no_params) (s.block 15 (s.block_stmt (s.return_from 17 (s.there (s.a_name 24 (codes "x")))) s.no_block_items))) s.no_items) Plain) ≡ failing 1 24 ([])
 unfolding table sys_types int_wrap
 undeclared_name = refl
 
 -- struct s; int f(struct s *p) { return p->m; } int main(void) { return 0; }
-undeclared_tag : faults (checked (s.more_items (s.tag_item 0 (ident 7 (codes "s"))) (s.more_items (s.function_item 10 s.no_storage s.int (s.function 14 (s.named 14 (ident 14 (codes "f"))) (s.more_params 16 (s.struct (ident 23 (codes "s"))) (s.pointer 25 (s.named 26 (ident 26 (codes "p")))) s.no_params)) (s.block 29 (s.block_stmt (s.return_from 31 (s.there (s.member 38 s.arrow (s.a_name 38 (codes "p")) (ident 41 (codes "m"))))) s.no_block_items))) (s.more_items (main_that_returns 46) s.no_items))) Plain) ≡ failing C1 38 ([])
+undeclared_tag : faults (checked (s.more_items (s.tag_item 0 (ident 7 (codes "s"))) (s.more_items (s.function_item 10 s.no_storage s.int (s.function 14 (s.named 14 (ident 14 (codes "f"))) (s.more_params 16 (s.struct (ident 23 (codes "s"))) (s.pointer 25 (s.named 26 (ident 26 (codes "p")))) s.no_params)) (s.block 29 (s.block_stmt (s.return_from 31 (s.there (s.member 38 s.arrow (s.a_name 38 (codes "p")) (ident 41 (codes "m"))))) s.no_block_items))) (s.more_items (main_that_returns 46) s.no_items))) Plain) ≡ failing 1 38 ([])
 unfolding table sys_types int_wrap
 undeclared_tag = refl
 
 -- struct s { int a; }; struct s x; int main(void) { return x.b; }
-undeclared_member : faults (checked (s.more_items (s.struct_item 0 (ident 7 (codes "s")) (s.more_members 11 s.int (s.more_declarators (s.named 15 (ident 15 (codes "a"))) s.no_declarators) s.no_members)) (s.more_items (s.decl_item 21 (s.decl 21 s.no_storage (s.struct (ident 28 (codes "s"))) (s.more_parts (s.named 30 (ident 30 (codes "x"))) s.no_init s.no_parts))) (s.more_items (s.function_item 33 s.no_storage s.int (s.function 37 (s.named 37 (ident 37 (codes "main"))) s.no_params) (s.block 48 (s.block_stmt (s.return_from 50 (s.there (s.member 57 s.dot (s.a_name 57 (codes "x")) (ident 59 (codes "b"))))) s.no_block_items))) s.no_items))) Plain) ≡ failing C1 57 ([])
+undeclared_member : faults (checked (s.more_items (s.struct_item 0 (ident 7 (codes "s")) (s.more_members 11 s.int (s.more_declarators (s.named 15 (ident 15 (codes "a"))) s.no_declarators) s.no_members)) (s.more_items (s.decl_item 21 (s.decl 21 s.no_storage (s.struct (ident 28 (codes "s"))) (s.more_parts (s.named 30 (ident 30 (codes "x"))) s.no_init s.no_parts))) (s.more_items (s.function_item 33 s.no_storage s.int (s.function 37 (s.named 37 (ident 37 (codes "main"))) s.no_params) (s.block 48 (s.block_stmt (s.return_from 50 (s.there (s.member 57 s.dot (s.a_name 57 (codes "x")) (ident 59 (codes "b"))))) s.no_block_items))) s.no_items))) Plain) ≡ failing 1 57 ([])
 unfolding table sys_types int_wrap
 undeclared_member = refl
 
 -- enum e x; int main(void) { return 0; }
-undeclared_enum : faults (checked (s.more_items (s.decl_item 0 (s.decl 0 s.no_storage (s.enum (ident 5 (codes "e"))) (s.more_parts (s.named 7 (ident 7 (codes "x"))) s.no_init s.no_parts))) (s.more_items (main_that_returns 10) s.no_items)) Plain) ≡ failing C1 0 ([])
+undeclared_enum : faults (checked (s.more_items (s.decl_item 0 (s.decl 0 s.no_storage (s.enum (ident 5 (codes "e"))) (s.more_parts (s.named 7 (ident 7 (codes "x"))) s.no_init s.no_parts))) (s.more_items (main_that_returns 10) s.no_items)) Plain) ≡ failing 1 0 ([])
 unfolding table sys_types int_wrap
 undeclared_enum = refl
 
 -- int main(void) { { int x; } return x; }
-local_is_gone : faults (checked (s.more_items (s.function_item 0 s.no_storage s.int (s.function 4 (s.named 4 (ident 4 (codes "main"))) s.no_params) (s.block 15 (s.block_stmt (s.block 17 (s.block_decl (s.decl 19 s.no_storage s.int (s.more_parts (s.named 23 (ident 23 (codes "x"))) s.no_init s.no_parts)) s.no_block_items)) (s.block_stmt (s.return_from 28 (s.there (s.a_name 35 (codes "x")))) s.no_block_items)))) s.no_items) Plain) ≡ failing C1 35 ([])
+local_is_gone : faults (checked (s.more_items (s.function_item 0 s.no_storage s.int (s.function 4 (s.named 4 (ident 4 (codes "main"))) s.no_params) (s.block 15 (s.block_stmt (s.block 17 (s.block_decl (s.decl 19 s.no_storage s.int (s.more_parts (s.named 23 (ident 23 (codes "x"))) s.no_init s.no_parts)) s.no_block_items)) (s.block_stmt (s.return_from 28 (s.there (s.a_name 35 (codes "x")))) s.no_block_items)))) s.no_items) Plain) ≡ failing 1 35 ([])
 unfolding table sys_types int_wrap
 local_is_gone = refl
 
 -- int x; int x; int main(void) { return 0; }
-declared_twice : faults (checked (s.more_items (s.decl_item 0 (s.decl 0 s.no_storage s.int (s.more_parts (s.named 4 (ident 4 (codes "x"))) s.no_init s.no_parts))) (s.more_items (s.decl_item 7 (s.decl 7 s.no_storage s.int (s.more_parts (s.named 11 (ident 11 (codes "x"))) s.no_init s.no_parts))) (s.more_items (main_that_returns 14) s.no_items))) Plain) ≡ failing C2 11 ([])
+declared_twice : faults (checked (s.more_items (s.decl_item 0 (s.decl 0 s.no_storage s.int (s.more_parts (s.named 4 (ident 4 (codes "x"))) s.no_init s.no_parts))) (s.more_items (s.decl_item 7 (s.decl 7 s.no_storage s.int (s.more_parts (s.named 11 (ident 11 (codes "x"))) s.no_init s.no_parts))) (s.more_items (main_that_returns 14) s.no_items))) Plain) ≡ failing 2 11 ([])
 unfolding table sys_types int_wrap
 declared_twice = refl
 
 -- int f(int a, int a); int main(void) { return 0; }
-parameter_twice : faults (checked (s.more_items (s.decl_item 0 (s.decl 0 s.no_storage s.int (s.more_parts (s.function 4 (s.named 4 (ident 4 (codes "f"))) (s.more_params 6 s.int (s.named 10 (ident 10 (codes "a"))) (s.more_params 13 s.int (s.named 17 (ident 17 (codes "a"))) s.no_params))) s.no_init s.no_parts))) (s.more_items (main_that_returns 21) s.no_items)) Plain) ≡ failing C2 17 ([])
+parameter_twice : faults (checked (s.more_items (s.decl_item 0 (s.decl 0 s.no_storage s.int (s.more_parts (s.function 4 (s.named 4 (ident 4 (codes "f"))) (s.more_params 6 s.int (s.named 10 (ident 10 (codes "a"))) (s.more_params 13 s.int (s.named 17 (ident 17 (codes "a"))) s.no_params))) s.no_init s.no_parts))) (s.more_items (main_that_returns 21) s.no_items)) Plain) ≡ failing 2 17 ([])
 unfolding table sys_types int_wrap
 parameter_twice = refl
 
 -- int f(int a) { int a; return 0; } int main(void) { return 0; }
-local_like_parameter : faults (checked (s.more_items (s.function_item 0 s.no_storage s.int (s.function 4 (s.named 4 (ident 4 (codes "f"))) (s.more_params 6 s.int (s.named 10 (ident 10 (codes "a"))) s.no_params)) (s.block 13 (s.block_decl (s.decl 15 s.no_storage s.int (s.more_parts (s.named 19 (ident 19 (codes "a"))) s.no_init s.no_parts)) (s.block_stmt (s.return_from 22 (s.there (s.an_int 29 0 false))) s.no_block_items)))) (s.more_items (main_that_returns 34) s.no_items)) Plain) ≡ failing C2 19 ([])
+local_like_parameter : faults (checked (s.more_items (s.function_item 0 s.no_storage s.int (s.function 4 (s.named 4 (ident 4 (codes "f"))) (s.more_params 6 s.int (s.named 10 (ident 10 (codes "a"))) s.no_params)) (s.block 13 (s.block_decl (s.decl 15 s.no_storage s.int (s.more_parts (s.named 19 (ident 19 (codes "a"))) s.no_init s.no_parts)) (s.block_stmt (s.return_from 22 (s.there (s.an_int 29 0 false))) s.no_block_items)))) (s.more_items (main_that_returns 34) s.no_items)) Plain) ≡ failing 2 19 ([])
 unfolding table sys_types int_wrap
 local_like_parameter = refl
 
 -- int f(void); int f(int); int main(void) { return 0; }
-other_prototype : faults (checked (s.more_items (s.decl_item 0 (s.decl 0 s.no_storage s.int (s.more_parts (s.function 4 (s.named 4 (ident 4 (codes "f"))) s.no_params) s.no_init s.no_parts))) (s.more_items (s.decl_item 13 (s.decl 13 s.no_storage s.int (s.more_parts (s.function 17 (s.named 17 (ident 17 (codes "f"))) (s.more_params 19 s.int s.nothing s.no_params)) s.no_init s.no_parts))) (s.more_items (main_that_returns 25) s.no_items))) Plain) ≡ failing C2 17 ([])
+other_prototype : faults (checked (s.more_items (s.decl_item 0 (s.decl 0 s.no_storage s.int (s.more_parts (s.function 4 (s.named 4 (ident 4 (codes "f"))) s.no_params) s.no_init s.no_parts))) (s.more_items (s.decl_item 13 (s.decl 13 s.no_storage s.int (s.more_parts (s.function 17 (s.named 17 (ident 17 (codes "f"))) (s.more_params 19 s.int s.nothing s.no_params)) s.no_init s.no_parts))) (s.more_items (main_that_returns 25) s.no_items))) Plain) ≡ failing 2 17 ([])
 unfolding table sys_types int_wrap
 other_prototype = refl
 
 -- int f(void) { return 0; } int f(void) { return 0; } int main(void) { return 0; }
-defined_twice : faults (checked (s.more_items (s.function_item 0 s.no_storage s.int (s.function 4 (s.named 4 (ident 4 (codes "f"))) s.no_params) (s.block 12 (s.block_stmt (s.return_from 14 (s.there (s.an_int 21 0 false))) s.no_block_items))) (s.more_items (s.function_item 26 s.no_storage s.int (s.function 30 (s.named 30 (ident 30 (codes "f"))) s.no_params) (s.block 38 (s.block_stmt (s.return_from 40 (s.there (s.an_int 47 0 false))) s.no_block_items))) (s.more_items (main_that_returns 52) s.no_items))) Plain) ≡ failing C2 30 ([])
+defined_twice : faults (checked (s.more_items (s.function_item 0 s.no_storage s.int (s.function 4 (s.named 4 (ident 4 (codes "f"))) s.no_params) (s.block 12 (s.block_stmt (s.return_from 14 (s.there (s.an_int 21 0 false))) s.no_block_items))) (s.more_items (s.function_item 26 s.no_storage s.int (s.function 30 (s.named 30 (ident 30 (codes "f"))) s.no_params) (s.block 38 (s.block_stmt (s.return_from 40 (s.there (s.an_int 47 0 false))) s.no_block_items))) (s.more_items (main_that_returns 52) s.no_items))) Plain) ≡ failing 2 30 ([])
 unfolding table sys_types int_wrap
 defined_twice = refl
 
@@ -72,17 +71,17 @@ unfolding table sys_types int_wrap
 repeated = refl
 
 -- int x;
-no_main : faults (checked (s.more_items (s.decl_item 0 (s.decl 0 s.no_storage s.int (s.more_parts (s.named 4 (ident 4 (codes "x"))) s.no_init s.no_parts))) s.no_items) Plain) ≡ failing C9 0 ([])
+no_main : faults (checked (s.more_items (s.decl_item 0 (s.decl 0 s.no_storage s.int (s.more_parts (s.named 4 (ident 4 (codes "x"))) s.no_init s.no_parts))) s.no_items) Plain) ≡ failing 9 0 ([])
 unfolding table sys_types int_wrap
 no_main = refl
 
 -- int main(int x) { return x; }
-other_main : faults (checked (s.more_items (s.function_item 0 s.no_storage s.int (s.function 4 (s.named 4 (ident 4 (codes "main"))) (s.more_params 9 s.int (s.named 13 (ident 13 (codes "x"))) s.no_params)) (s.block 16 (s.block_stmt (s.return_from 18 (s.there (s.a_name 25 (codes "x")))) s.no_block_items))) s.no_items) Plain) ≡ failing C9 0 ([])
+other_main : faults (checked (s.more_items (s.function_item 0 s.no_storage s.int (s.function 4 (s.named 4 (ident 4 (codes "main"))) (s.more_params 9 s.int (s.named 13 (ident 13 (codes "x"))) s.no_params)) (s.block 16 (s.block_stmt (s.return_from 18 (s.there (s.a_name 25 (codes "x")))) s.no_block_items))) s.no_items) Plain) ≡ failing 9 0 ([])
 unfolding table sys_types int_wrap
 other_main = refl
 
 -- int h(void); int main(void) { return h(); }
-not_defined : faults (checked (s.more_items (s.decl_item 0 (s.decl 0 s.no_storage s.int (s.more_parts (s.function 4 (s.named 4 (ident 4 (codes "h"))) s.no_params) s.no_init s.no_parts))) (s.more_items (s.function_item 13 s.no_storage s.int (s.function 17 (s.named 17 (ident 17 (codes "main"))) s.no_params) (s.block 28 (s.block_stmt (s.return_from 30 (s.there (s.call 37 (s.a_name 37 (codes "h")) s.no_exprs))) s.no_block_items))) s.no_items)) Plain) ≡ failing C10 37 ([])
+not_defined : faults (checked (s.more_items (s.decl_item 0 (s.decl 0 s.no_storage s.int (s.more_parts (s.function 4 (s.named 4 (ident 4 (codes "h"))) s.no_params) s.no_init s.no_parts))) (s.more_items (s.function_item 13 s.no_storage s.int (s.function 17 (s.named 17 (ident 17 (codes "main"))) s.no_params) (s.block 28 (s.block_stmt (s.return_from 30 (s.there (s.call 37 (s.a_name 37 (codes "h")) s.no_exprs))) s.no_block_items))) s.no_items)) Plain) ≡ failing 10 37 ([])
 unfolding table sys_types int_wrap
 not_defined = refl
 
@@ -92,27 +91,27 @@ unfolding table sys_types int_wrap
 not_defined_but_sized = refl
 
 -- int read(void); int main(void) { return 0; }
-other_read : faults (checked (s.more_items (s.decl_item 0 (s.decl 0 s.no_storage s.int (s.more_parts (s.function 4 (s.named 4 (ident 4 (codes "read"))) s.no_params) s.no_init s.no_parts))) (s.more_items (main_that_returns 16) s.no_items)) Plain) ≡ failing C11 4 ([])
+other_read : faults (checked (s.more_items (s.decl_item 0 (s.decl 0 s.no_storage s.int (s.more_parts (s.function 4 (s.named 4 (ident 4 (codes "read"))) s.no_params) s.no_init s.no_parts))) (s.more_items (main_that_returns 16) s.no_items)) Plain) ≡ failing 11 4 ([])
 unfolding table sys_types int_wrap
 other_read = refl
 
 -- int main(void) { int read; return 0; }
-local_read : faults (checked (s.more_items (s.function_item 0 s.no_storage s.int (s.function 4 (s.named 4 (ident 4 (codes "main"))) s.no_params) (s.block 15 (s.block_decl (s.decl 17 s.no_storage s.int (s.more_parts (s.named 21 (ident 21 (codes "read"))) s.no_init s.no_parts)) (s.block_stmt (s.return_from 27 (s.there (s.an_int 34 0 false))) s.no_block_items)))) s.no_items) Plain) ≡ failing C11 21 ([])
+local_read : faults (checked (s.more_items (s.function_item 0 s.no_storage s.int (s.function 4 (s.named 4 (ident 4 (codes "main"))) s.no_params) (s.block 15 (s.block_decl (s.decl 17 s.no_storage s.int (s.more_parts (s.named 21 (ident 21 (codes "read"))) s.no_init s.no_parts)) (s.block_stmt (s.return_from 27 (s.there (s.an_int 34 0 false))) s.no_block_items)))) s.no_items) Plain) ≡ failing 11 21 ([])
 unfolding table sys_types int_wrap
 local_read = refl
 
 -- int getpid(void) { return 0; } int main(void) { return 0; }
-defined_getpid : faults (checked (s.more_items (s.function_item 0 s.no_storage s.int (s.function 4 (s.named 4 (ident 4 (codes "getpid"))) s.no_params) (s.block 17 (s.block_stmt (s.return_from 19 (s.there (s.an_int 26 0 false))) s.no_block_items))) (s.more_items (main_that_returns 31) s.no_items)) Plain) ≡ failing C11 4 ([])
+defined_getpid : faults (checked (s.more_items (s.function_item 0 s.no_storage s.int (s.function 4 (s.named 4 (ident 4 (codes "getpid"))) s.no_params) (s.block 17 (s.block_stmt (s.return_from 19 (s.there (s.an_int 26 0 false))) s.no_block_items))) (s.more_items (main_that_returns 31) s.no_items)) Plain) ≡ failing 11 4 ([])
 unfolding table sys_types int_wrap
 defined_getpid = refl
 
 -- int __dyck_x; int main(void) { return 0; }
-reserved_name : faults (checked (s.more_items (s.decl_item 0 (s.decl 0 s.no_storage s.int (s.more_parts (s.named 4 (ident 4 (codes "__dyck_x"))) s.no_init s.no_parts))) (s.more_items (main_that_returns 14) s.no_items)) Plain) ≡ failing C12 4 ([])
+reserved_name : faults (checked (s.more_items (s.decl_item 0 (s.decl 0 s.no_storage s.int (s.more_parts (s.named 4 (ident 4 (codes "__dyck_x"))) s.no_init s.no_parts))) (s.more_items (main_that_returns 14) s.no_items)) Plain) ≡ failing 12 4 ([])
 unfolding table sys_types int_wrap
 reserved_name = refl
 
 -- void __dyck_pre(unsigned int); int main(void) { return 0; }
-null_call_in_a_plain_unit : faults (checked (s.more_items (s.decl_item 0 (s.decl 0 s.no_storage s.void (s.more_parts (s.function 5 (s.named 5 (ident 5 (codes "__dyck_pre"))) (s.more_params 16 s.unsigned_int s.nothing s.no_params)) s.no_init s.no_parts))) (s.more_items (main_that_returns 31) s.no_items)) Plain) ≡ failing C12 5 ([])
+null_call_in_a_plain_unit : faults (checked (s.more_items (s.decl_item 0 (s.decl 0 s.no_storage s.void (s.more_parts (s.function 5 (s.named 5 (ident 5 (codes "__dyck_pre"))) (s.more_params 16 s.unsigned_int s.nothing s.no_params)) s.no_init s.no_parts))) (s.more_items (main_that_returns 31) s.no_items)) Plain) ≡ failing 12 5 ([])
 unfolding table sys_types int_wrap
 null_call_in_a_plain_unit = refl
 
@@ -122,12 +121,12 @@ unfolding table sys_types int_wrap
 null_call = refl
 
 -- void __dyck_pre(unsigned int); int main(void) { *__dyck_pre; return 0; }
-null_call_as_a_value : faults (checked (s.more_items (s.decl_item 0 (s.decl 0 s.no_storage s.void (s.more_parts (s.function 5 (s.named 5 (ident 5 (codes "__dyck_pre"))) (s.more_params 16 s.unsigned_int s.nothing s.no_params)) s.no_init s.no_parts))) (s.more_items (s.function_item 31 s.no_storage s.int (s.function 35 (s.named 35 (ident 35 (codes "main"))) s.no_params) (s.block 46 (s.block_stmt (s.evaluate 48 (s.unary 48 11 (s.a_name 49 (codes "__dyck_pre")))) (s.block_stmt (s.return_from 61 (s.there (s.an_int 68 0 false))) s.no_block_items)))) s.no_items)) Instrumented) ≡ failing C12 49 ([])
+null_call_as_a_value : faults (checked (s.more_items (s.decl_item 0 (s.decl 0 s.no_storage s.void (s.more_parts (s.function 5 (s.named 5 (ident 5 (codes "__dyck_pre"))) (s.more_params 16 s.unsigned_int s.nothing s.no_params)) s.no_init s.no_parts))) (s.more_items (s.function_item 31 s.no_storage s.int (s.function 35 (s.named 35 (ident 35 (codes "main"))) s.no_params) (s.block 46 (s.block_stmt (s.evaluate 48 (s.unary 48 11 (s.a_name 49 (codes "__dyck_pre")))) (s.block_stmt (s.return_from 61 (s.there (s.an_int 68 0 false))) s.no_block_items)))) s.no_items)) Instrumented) ≡ failing 12 49 ([])
 unfolding table sys_types int_wrap
 null_call_as_a_value = refl
 
 -- int __dyck_pre(unsigned int); int main(void) { return 0; }
-other_null_call : faults (checked (s.more_items (s.decl_item 0 (s.decl 0 s.no_storage s.int (s.more_parts (s.function 4 (s.named 4 (ident 4 (codes "__dyck_pre"))) (s.more_params 15 s.unsigned_int s.nothing s.no_params)) s.no_init s.no_parts))) (s.more_items (main_that_returns 30) s.no_items)) Instrumented) ≡ failing C11 4 ([])
+other_null_call : faults (checked (s.more_items (s.decl_item 0 (s.decl 0 s.no_storage s.int (s.more_parts (s.function 4 (s.named 4 (ident 4 (codes "__dyck_pre"))) (s.more_params 15 s.unsigned_int s.nothing s.no_params)) s.no_init s.no_parts))) (s.more_items (main_that_returns 30) s.no_items)) Instrumented) ≡ failing 11 4 ([])
 unfolding table sys_types int_wrap
 other_null_call = refl
 
@@ -137,6 +136,6 @@ unfolding table sys_types int_wrap
 temporaries = refl
 
 -- int main(void) { int __dyck_a1; return 0; }
-no_temporary : faults (checked (s.more_items (s.function_item 0 s.no_storage s.int (s.function 4 (s.named 4 (ident 4 (codes "main"))) s.no_params) (s.block 15 (s.block_decl (s.decl 17 s.no_storage s.int (s.more_parts (s.named 21 (ident 21 (codes "__dyck_a1"))) s.no_init s.no_parts)) (s.block_stmt (s.return_from 32 (s.there (s.an_int 39 0 false))) s.no_block_items)))) s.no_items) Instrumented) ≡ failing C12 21 ([])
+no_temporary : faults (checked (s.more_items (s.function_item 0 s.no_storage s.int (s.function 4 (s.named 4 (ident 4 (codes "main"))) s.no_params) (s.block 15 (s.block_decl (s.decl 17 s.no_storage s.int (s.more_parts (s.named 21 (ident 21 (codes "__dyck_a1"))) s.no_init s.no_parts)) (s.block_stmt (s.return_from 32 (s.there (s.an_int 39 0 false))) s.no_block_items)))) s.no_items) Instrumented) ≡ failing 12 21 ([])
 unfolding table sys_types int_wrap
 no_temporary = refl
