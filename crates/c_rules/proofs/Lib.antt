@@ -12,3 +12,4 @@ mod ModeBlocks
 mod ModeStatements
 mod ModeFunctions
 mod ModeItems
+mod Below

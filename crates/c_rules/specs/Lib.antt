@@ -15,6 +15,7 @@ pub mod Initialisers
 pub mod Items
 pub mod Limits
 pub mod Names
+pub mod NullCalls
 pub mod Objects
 pub mod PostfixExpressions
 pub mod PrimaryExpressions
