@@ -13,3 +13,4 @@ mod ModeStatements
 mod ModeFunctions
 mod ModeItems
 mod Below
+mod BelowExpressions
