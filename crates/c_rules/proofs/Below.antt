@@ -1,14 +1,14 @@
 -- What the rules on expressions give calls no other function than their parts do.
-use Rattle.std.proofs.Common.{◌≡◌, ℕ, suc, ◌+◌, ◌<◌, Bool, true, false, if◌then◌else◌, not, ◌&&◌, ◌||◌, List, [], ◌∷◌, ◌++◌, map, length, Option, Some, None, nat_eq, nat_le, nat_lt, refl, ap, sym, subst, arith}
+use Rattle.std.proofs.Common.{◌≡◌, ℕ, ◌<◌, Bool, true, false, if◌then◌else◌, ◌||◌, List, [], ◌∷◌, map, Option, Some, None, nat_eq, subst}
 use Rattle.c_tree.specs.declared.value.IntType.{IntType}
 use Rattle.c_tree.specs.declared.value.UnOp.{UnOp}
 use Rattle.c_tree.specs.declared.value.BinOp.{BinOp}
 use Rattle.c_tree.specs.declared.value.BinOp.TheVariants as op
-use Rattle.c_lexer.specs.declared.punctuator.TheConstants.{AMPERSAND, ASTERISK, PLUS, MINUS, TILDE, ASSIGN}
-use Rattle.c_tree.specs.Tree.{CType, void, integer, pointer, array, struct, function, CTypes, no_types, more_types, Expr}
+use Rattle.c_lexer.specs.declared.punctuator.TheConstants.{ASTERISK, PLUS, MINUS, TILDE, ASSIGN}
+use Rattle.c_tree.specs.Tree.{CType, void, integer, pointer, array, struct, function, CTypes, no_types, more_types}
 use Rattle.c_tree.specs.Operands.{promoted, common, OperatorKind, balanced, shift, ordering, equality}
 use Rattle.c_tree.specs.Operands.{kind_of as kind_of_operator}
-use Rattle.c_rules.specs.Checked.{Checked, fine, faulty, on, both, beside, Two, all_three, gives, demand, Met, met}
+use Rattle.c_rules.specs.Checked.{Checked, fine, faulty, on, both, all_three, gives, demand, met}
 use Rattle.c_rules.specs.Names.{Name, number_among}
 use Rattle.c_rules.specs.Scopes.{Env, Struct, incomplete, unknown_struct, defined_struct, Member, struct_of}
 use Rattle.c_tree.specs.Tree.{assign}
@@ -16,10 +16,10 @@ use Rattle.c_rules.specs.Assignments.{moves}
 use Rattle.c_rules.specs.Given.{not_constant}
 use Rattle.c_rules.specs.Given.{Form, a_value, a_place, behind, Given, tree_of_form, tree_of, is_place, is_null}
 use Rattle.c_rules.specs.Conversions.{Kind, an_integer, a_pointer, neither, kind_of, complete, few_parts, loaded, valued_as, valued, cast_to, has_integer, converted_to, null_of, fits, assigned_as, assigned, as_if_assigned, condition}
-use Rattle.c_rules.specs.PostfixExpressions.{Designator, direct, through, Callee, call_of, passed, as_many_as, all_fit, called, name_of_member, member_given, member_or_undeclared, member_of_struct, member_of_type, member_of}
-use Rattle.c_rules.specs.UnaryExpressions.{address_of_form, address_of_type, address, led_to, indirection, plus_of, operated, operator_of, negation, unary_of_value, size_of, size_of_given, size_of_type, cast_of, null_cast}
-use Rattle.c_rules.specs.BinaryExpressions.{calculated, sum_of, sum, minus_of, balanced_of, shift_of, ordered_of, Alike, alike_integers, alike_pointers, unlike, pointers_alike, alike_of, alike, equality_of, arithmetic_of, operation_of, operation, conjunction, disjunction, chosen, arms_of, choice}
-use Rattle.c_rules.specs.Assignments.{assignable, assignment, operator_of_assignment, updated, update_of, compound_assignment, assignment_by, one_for, step, trees_of, last_type, comma_of}
+use Rattle.c_rules.specs.PostfixExpressions.{Designator, direct, through, Callee, call_of, passed, as_many_as, all_fit, called, name_of_member, member_or_undeclared, member_of_struct, member_of_type, member_of}
+use Rattle.c_rules.specs.UnaryExpressions.{address_of_form, address_of_type, address, led_to, indirection, plus_of, operator_of, unary_of_value, size_of, size_of_type, cast_of, null_cast}
+use Rattle.c_rules.specs.BinaryExpressions.{sum_of, sum, minus_of, balanced_of, shift_of, ordered_of, Alike, alike_integers, alike_pointers, unlike, alike_of, alike, equality_of, arithmetic_of, operation_of, operation, conjunction, disjunction, chosen, arms_of, choice}
+use Rattle.c_rules.specs.Assignments.{assignable, assignment, operator_of_assignment, updated, update_of, assignment_by, one_for, step, trees_of}
 use Rattle.c_rules.specs.NullCalls.{CallsBelow, AllBelow}
 use Rattle.c_tree.specs.declared.value.UnOp.TheVariants.{Not}
 use Rattle.c_rules.specs.BinaryExpressions.{both_scalars, compared_pointers, difference}
@@ -222,8 +222,8 @@ module _ (n : ℕ) where
   unary_below at o g h =
       if_holds (nat_eq o ASTERISK) _ _ (indirection_below at g h)
       (if_holds (nat_eq o PLUS) _ _ (plus_below at g (kind_of g.ctype) h)
-        (if_holds (nat_eq o MINUS) _ _ (operator_below at _ g (kind_of g.ctype) h)
-          (if_holds (nat_eq o TILDE) _ _ (operator_below at _ g (kind_of g.ctype) h) (demand_holds GivenBelow (is_scalar g.ctype) 3 at (value_given int (unary_operation int Not (tree_of g)) (constant_unary Not (integer_constant g))) (tree_below g h)))))
+      (if_holds (nat_eq o MINUS) _ _ (operator_below at _ g (kind_of g.ctype) h)
+      (if_holds (nat_eq o TILDE) _ _ (operator_below at _ g (kind_of g.ctype) h) (demand_holds GivenBelow (is_scalar g.ctype) 3 at (value_given int (unary_operation int Not (tree_of g)) (constant_unary Not (integer_constant g))) (tree_below g h)))))
 
   pub size_below : (env : Env) (at : ℕ) (t : CType) → Holds GivenBelow (size_of env at t)
   size_below env at t = after_demands GivenBelow (complete env at t) _ (λ _. tt)

@@ -1,5 +1,5 @@
 -- What expressions, initialisers and statements give calls functions of the unit and system calls alone.
-use Rattle.std.proofs.Common.{◌≡◌, ℕ, zero, suc, ◌+◌, ◌<◌, Bool, true, false, if◌then◌else◌, List, [], ◌∷◌, ◌++◌, map, length, replicate, Option, Some, None, nat_eq, nat_le, refl, arith}
+use Rattle.std.proofs.Common.{◌≡◌, ℕ, zero, suc, ◌+◌, ◌<◌, Bool, true, false, if◌then◌else◌, List, [], ◌∷◌, ◌++◌, map, length, replicate, Option, Some, None, nat_eq, nat_le, refl}
 use Rattle.c_lexer.specs.declared.punctuator.TheConstants.{AMPERSAND}
 use Rattle.c_tree.specs.declared.value.IntType.TheVariants.{Char}
 use Rattle.c_tree.specs.declared.value.BinOp.TheVariants.{Add, Sub}
@@ -8,22 +8,22 @@ use Rattle.c_tree.specs.Layout.{flat, flat_all, repeat}
 use Rattle.c_syntax.specs.Tree.{Ident, Expr, a_name, an_int, a_char, a_str, comma, sizeof_type, cast, call, member, postfix, prefix, unary, index, binary, assign, conditional, Exprs, no_exprs, more_exprs}
 use Rattle.c_syntax.specs.Tree.{Postfix, post_increment, post_decrement, Prefix, pre_increment, pre_decrement, sizeof, Access, dot, arrow, Infix, and, or, operator, Init, one, list, MaybeInit, no_init, an_init}
 use Rattle.c_syntax.specs.Tree as syntax
-use Rattle.c_rules.specs.Checked.{Checked, fine, faulty, on, both, beside, Two, all_three, gives, demand, Met, met}
+use Rattle.c_rules.specs.Checked.{Checked, fine, on, both, demand, met}
 use Rattle.c_rules.specs.Names.{Name}
 use Rattle.c_rules.specs.Scopes.{Env, Binding, Meaning, a_static, a_local, a_function, an_enumerator, unknown, Context, evaluated, sized, folded, Before, nothing_before, in_context, layout_of, binding_of}
 use Rattle.c_rules.specs.Counts.{place_of, calls, after, after_designator}
 use Rattle.c_rules.specs.Given.{Given, Constant, not_constant, undefined, known}
 use Rattle.c_rules.specs.Conversions.{valued, as_if_assigned}
-use Rattle.c_rules.specs.PrimaryExpressions.{used, object_number, function_number, function_value_number, static_given, function_given, meant, bound, named_expression, integer_expression, string_fits, string_expression}
-use Rattle.c_rules.specs.PostfixExpressions.{Callee, site_of, callee_of_type, callee_through, callee_by_name, callee_by_value, called, member_of}
+use Rattle.c_rules.specs.PrimaryExpressions.{used, object_number, function_number, function_value_number, static_given, function_given, meant, bound, integer_expression, string_fits}
+use Rattle.c_rules.specs.PostfixExpressions.{site_of, callee_of_type, callee_through, callee_by_value, called, member_of}
 use Rattle.c_rules.specs.UnaryExpressions.{address, indirection, unary_of_value, size_of_given, size_of_type, cast_of, null_cast}
 use Rattle.c_rules.specs.BinaryExpressions.{operator_of_code, sum, choice}
 use Rattle.c_rules.specs.Assignments.{assignable, assignment_by, step, comma_of}
 use Rattle.c_rules.specs.Declarators.{place_of_type, is_void_pointer}
 use Rattle.c_rules.specs.Expressions.{value_at, place_at, callee_meant, callee_bound, callee, access, after_operand, before_operand, unary_rule, infix_rule, cast_rule, tree, trees, type_named, value}
 use Rattle.c_rules.specs.Initialisers.{Slots, copies, each, slots, capacity, takes_list, count_inits, text_of, zero_given, char_given, zeros, chars, defined_cell, cell_of, scalar_cell, array_cells, cells_of_one, cells_of_list, after_init, initialised, in_turn, initialised_local}
-use Rattle.c_rules.specs.NullCalls.{CallsBelow, AllBelow}
-use Rattle.c_rules.proofs.Below.{Holds, on_holds, both_hold, all_three_hold, Any, anything, demand_holds, after_demands, FormBelow, GivenBelow, GivensBelow, tree_below, valued_below, as_if_below, CalleeBelow, called_below, member_below, address_below, indirection_below, unary_below, size_below, size_type_below, cast_below, null_cast_below, sum_below, operation_below, conjunction_below, disjunction_below, choice_below, assignment_by_below, step_below, assignable_below, trees_below}
+use Rattle.c_rules.specs.NullCalls.{CallsBelow}
+use Rattle.c_rules.proofs.Below.{Holds, on_holds, both_hold, all_three_hold, Any, anything, demand_holds, after_demands, GivenBelow, GivensBelow, tree_below, valued_below, as_if_below, CalleeBelow, called_below, member_below, address_below, indirection_below, unary_below, size_below, size_type_below, cast_below, null_cast_below, sum_below, operation_below, conjunction_below, disjunction_below, choice_below, assignment_by_below, step_below, assignable_below, trees_below}
 
 -- every function that may be named has a number below n
 abbrev pub Within : ℕ → Env → Type 0
@@ -197,10 +197,10 @@ module _ (n : ℕ) where
   cell_below false at g h = (h, tt)
   cell_below true at g h = by_constant g.constant
     where
-    by_constant : (c : Constant) → Holds (GivensBelow n) (defined_cell at g c)
-    by_constant not_constant = tt
-    by_constant undefined = tt
-    by_constant (known v) = (h, tt)
+      by_constant : (c : Constant) → Holds (GivensBelow n) (defined_cell at g c)
+      by_constant not_constant = tt
+      by_constant undefined = tt
+      by_constant (known v) = (h, tt)
 
   scalar_below : (k : Bool) (at : ℕ) (t : CType) (r : Checked Given) → Holds (GivenBelow n) r → Holds (GivensBelow n) (scalar_cell k at t r)
   scalar_below k at t r h =

@@ -14,3 +14,4 @@ mod ModeFunctions
 mod ModeItems
 mod Below
 mod BelowExpressions
+mod BelowUnits

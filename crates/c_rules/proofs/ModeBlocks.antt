@@ -1,22 +1,22 @@
 -- Initialisers and declarations in blocks in the two modes.
-use Rattle.std.proofs.Common.{◌≡◌, ℕ, zero, suc, Bool, true, false, List, [], ◌∷◌, ◌++◌, Option, Some, None, nat_le, refl, ap, sym, subst, ◌∙◌, arith}
+use Rattle.std.proofs.Common.{◌≡◌, ℕ, zero, suc, Bool, true, false, List, [], ◌∷◌, ◌++◌, Option, Some, None, nat_le, refl, ap, sym, subst, ◌∙◌}
 use Rattle.c_tree.specs.Tree.{CType, void, integer, pointer, array, struct, function}
 use Rattle.c_tree.specs.Tree as typed
 use Rattle.c_syntax.specs.Tree.{Ident, Spec, Declarator, Init, one, list, MaybeInit, no_init, an_init, Parts, no_parts, more_parts, Decl, decl, First, first_absent, first_expr, first_decl}
 use Rattle.c_syntax.specs.Tree as syntax
 use Rattle.c_rules.specs.Checked.{Checked, fine, faulty, on, both, gives, demand, Met, met}
-use Rattle.c_rules.specs.Scopes.{Env, Meaning, a_local, Before, layout_of}
-use Rattle.c_rules.specs.Counts.{past, strings}
+use Rattle.c_rules.specs.Scopes.{Env, a_local, Before, layout_of}
+use Rattle.c_rules.specs.Counts.{past}
 use Rattle.c_rules.specs.Given.{Given, tree_of}
 use Rattle.c_rules.specs.Conversions.{as_if_assigned}
 use Rattle.c_rules.specs.Declarators.{name_of, place_or, new_name}
 use Rattle.c_rules.specs.Expressions.{value, type_declared}
 use Rattle.c_rules.specs.Initialisers.{Slots, copies, each, slots, capacity, takes_list, count_inits, text_of, zeros, cell_of, scalar_cell, array_cells, cells_of_one, cells_of_list, held, held_in_turn, held_by, calls_of_init, calls_of_maybe_init, after_init, initialised, in_turn, initialised_local, initialised_static}
 use Rattle.c_rules.specs.Objects.{Object, object_of, object_declared}
-use Rattle.c_rules.specs.Variables.{Next, number_in, past_name, past_names, names_of_decl, calls_of_decl, calls_of_first}
+use Rattle.c_rules.specs.Variables.{Next, number_in}
 use Rattle.c_rules.specs.Blocks.{seen_meaning, whole_meaning, within_local, behind_local, behind_named, behind_part, past_part, behind_parts, behind_decl, behind_first, held_by_object, held_by_named, held_by_part, held_by_parts, held_by_decl, held_by_first, after_part, Laid, bare, alone, one_more, laid_variable, local_of, local, local_named, local_part, local_parts, local_decl}
 use Rattle.c_rules.specs.Statements.{first_of}
-use Rattle.c_rules.proofs.Modes.{Leads, LeadsTo, same_leads, fine_leads, with_fact, on_leads, both_leads, gives_leads, first_fine, on_fine, ArePlain, in_mode, Twin, twin, named_twin}
+use Rattle.c_rules.proofs.Modes.{Leads, LeadsTo, same_leads, fine_leads, with_fact, on_leads, both_leads, gives_leads, first_fine, on_fine, ArePlain, Twin, twin, named_twin}
 use Rattle.c_rules.proofs.ModeNames.{left, right, new_name_leads, new_name_plain}
 use Rattle.c_rules.proofs.ModeExpressions.{value_leads, type_declared_leads}
 
@@ -165,11 +165,11 @@ local_facts env p b next x m r s h c e =
 pub part_leads : (e f : Env) → Twin e f → (b : Before) (next : Next) (at : ℕ) (s : Spec) (d : Declarator) (m : MaybeInit) → LeadsTo (PartFacts (behind_part e next at s d m) (behind_part f next at s d m) (held_by_part e at s d m) (held_by_part f at s d m)) (local_part e b next at s d m) (local_part f b next at s d m)
 part_leads e f (twin env p) b next at s d m = by_name (name_of d)
   where
-  by_name : (n : Option Ident) → LeadsTo (PartFacts (behind_named (left env) next at s d m n) (behind_named (right env) next at s d m n) (held_by_named (left env) at s d m n) (held_by_named (right env) at s d m n)) (local_named (left env) b next at s d m n) (local_named (right env) b next at s d m n)
-  by_name None = tt
-  by_name (Some x) =
-      with_fact _ _ _ (local_leads env p b next x m (object_declared (left env) at s d x m) (object_declared (right env) at s d x m) (object_leads _ _ (twin env p) at s d x m))
-      (λ c e. local_facts env p b next x m (object_declared (left env) at s d x m) (object_declared (right env) at s d x m) (object_leads _ _ (twin env p) at s d x m) c e)
+    by_name : (n : Option Ident) → LeadsTo (PartFacts (behind_named (left env) next at s d m n) (behind_named (right env) next at s d m n) (held_by_named (left env) at s d m n) (held_by_named (right env) at s d m n)) (local_named (left env) b next at s d m n) (local_named (right env) b next at s d m n)
+    by_name None = tt
+    by_name (Some x) =
+        with_fact _ _ _ (local_leads env p b next x m (object_declared (left env) at s d x m) (object_declared (right env) at s d x m) (object_leads _ _ (twin env p) at s d x m))
+        (λ c e. local_facts env p b next x m (object_declared (left env) at s d x m) (object_declared (right env) at s d x m) (object_leads _ _ (twin env p) at s d x m) c e)
 
 pub parts_lead : (e f : Env) → Twin e f → (b : Before) (next : Next) (at : ℕ) (s : Spec) (ps : Parts) → LeadsTo (PartFacts (behind_parts e next at s ps) (behind_parts f next at s ps) (held_by_parts e next at s ps) (held_by_parts f next at s ps)) (local_parts e b next at s ps) (local_parts f b next at s ps)
 parts_lead e f w b next at s no_parts = (refl, (w, refl))
@@ -180,9 +180,9 @@ parts_lead e f w b next at s (more_parts d m ps) =
     let Q : Type 0 = PartFacts (behind_parts e' (past_part next d) at s ps) (behind_parts f' (past_part next d) at s ps) (held_by_parts e' (past_part next d) at s ps) (held_by_parts f' (past_part next d) at s ps) in
     weaken (P × Q) _ _ _ (λ h. (h.1.0, both_lists _ _ _ _ h.0.1 h.1.1))
     (both_to P Q (local_part e b next at s d m) (local_part f b next at s d m) (local_parts e' (after_part e b at s d m) (past_part next d) at s ps) (local_parts f' (after_part f b at s d m) (past_part next d) at s ps) (λ q r. fine (one_more q r)) (λ q r. fine (one_more q r))
-      (part_leads e f w b next at s d m)
-      (λ a _ h. moved Q (local_parts e' (after_part e b at s d m) (past_part next d) at s ps) (λ y. local_parts f' y (past_part next d) at s ps) (after_part e b at s d m) (after_part f b at s d m) (ap (past b (calls_of_maybe_init m)) h.1) (parts_lead e' f' h.0 (after_part e b at s d m) (past_part next d) at s ps))
-      (λ q r. (refl, tt)))
+    (part_leads e f w b next at s d m)
+    (λ a _ h. moved Q (local_parts e' (after_part e b at s d m) (past_part next d) at s ps) (λ y. local_parts f' y (past_part next d) at s ps) (after_part e b at s d m) (after_part f b at s d m) (ap (past b (calls_of_maybe_init m)) h.1) (parts_lead e' f' h.0 (after_part e b at s d m) (past_part next d) at s ps))
+    (λ q r. (refl, tt)))
 
 pub decl_leads : (e f : Env) → Twin e f → (b : Before) (next : Next) (d : Decl) → LeadsTo (PartFacts (behind_decl e next d) (behind_decl f next d) (held_by_decl e next d) (held_by_decl f next d)) (local_decl e b next d) (local_decl f b next d)
 decl_leads e f w b next (decl at class s ps) = parts_lead e f w b next at s ps

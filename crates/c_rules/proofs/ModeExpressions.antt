@@ -1,25 +1,24 @@
 -- Expressions and declarators in the two modes.
-use Rattle.std.proofs.Common.{◌≡◌, ℕ, suc, ◌+◌, Bool, true, false, if◌then◌else◌, List, [], ◌∷◌, Option, Some, None, nat_eq, refl, ap, sym, subst, ◌∙◌, arith}
-use Rattle.dm_base.specs.declared.mode.Mode.TheVariants.{Plain, Instrumented}
+use Rattle.std.proofs.Common.{◌≡◌, ℕ, suc, ◌+◌, Bool, true, false, if◌then◌else◌, ◌∷◌, Option, Some, None, nat_eq, refl, sym, subst}
 use Rattle.c_lexer.specs.declared.punctuator.TheConstants.{AMPERSAND}
 use Rattle.c_tree.specs.declared.value.BinOp.TheVariants.{Add, Sub}
-use Rattle.c_tree.specs.Tree.{CType, CTypes, no_types, more_types}
+use Rattle.c_tree.specs.Tree.{CType, more_types}
 use Rattle.c_syntax.specs.Tree.{Ident, Spec, Expr, a_name, an_int, a_char, a_str, comma, sizeof_type, cast, call, member, postfix, prefix, unary, index, binary, assign, conditional, Exprs, no_exprs, more_exprs, Maybe, absent, there}
 use Rattle.c_syntax.specs.Tree.{Postfix, post_increment, post_decrement, Prefix, pre_increment, pre_decrement, sizeof, Access, dot, arrow, Infix, and, or, operator}
 use Rattle.c_syntax.specs.Tree.{TypeName, type_name, Declarator, nothing, named, pointer, array, function, Params, no_params, more_params}
-use Rattle.c_rules.specs.Checked.{Checked, fine, on, both, all_three, gives, Met}
-use Rattle.c_rules.specs.Names.{Name, is_reserved}
-use Rattle.c_rules.specs.Scopes.{Env, Meaning, a_local, Before, nothing_before, sized, folded, in_context, inside, binding_of, lookup}
+use Rattle.c_rules.specs.Checked.{Checked, fine, on, both}
+use Rattle.c_rules.specs.Names.{Name}
+use Rattle.c_rules.specs.Scopes.{Env, a_local, Before, nothing_before, sized, folded, in_context, inside, lookup}
 use Rattle.c_rules.specs.Counts.{place_of, calls, after, after_designator}
 use Rattle.c_rules.specs.Given.{Given}
 use Rattle.c_rules.specs.PrimaryExpressions.{string_expression}
-use Rattle.c_rules.specs.PostfixExpressions.{Callee, site_of, callee_by_value, called, member_of}
+use Rattle.c_rules.specs.PostfixExpressions.{site_of, callee_by_value, called, member_of}
 use Rattle.c_rules.specs.UnaryExpressions.{address, indirection, unary_of_value, size_of_given, size_of_type, cast_of, null_cast}
 use Rattle.c_rules.specs.BinaryExpressions.{sum, choice}
 use Rattle.c_rules.specs.Assignments.{assignable, assignment_by, step, comma_of}
 use Rattle.c_rules.specs.Declarators.{name_of, place_or, place_of_type, is_void_pointer, type_of_spec, pointer_to, array_of, function_of, parameter_of, array_size, new_name, variable_meaning, with_name_demands, behind_parameter}
 use Rattle.c_rules.specs.Expressions.{value_at, place_at, callee, access, after_operand, before_operand, unary_rule, infix_rule, cast_rule, tree, trees, type_named, declared, size_in, parameters, value, type_declared, type_of_parameter}
-use Rattle.c_rules.proofs.Modes.{Leads, same_leads, fine_leads, on_leads, both_leads, gives_leads, all_three_lead, first_fine, ArePlain, in_mode, Twin, twin, named_twin}
+use Rattle.c_rules.proofs.Modes.{Leads, same_leads, fine_leads, on_leads, both_leads, gives_leads, all_three_lead, first_fine, ArePlain, Twin, twin, named_twin}
 use Rattle.c_rules.proofs.ModeNames.{left, right, found_plain, named_leads, site_leads, callee_bound_leads, value_at_leads, new_name_leads, new_name_plain}
 
 place_at_leads : (place : ℕ) (r s : Checked Given) → Leads r s → Leads (place_at place r) (place_at place s)

@@ -1,32 +1,28 @@
 -- Functions in the two modes.
-use Rattle.std.proofs.Common.{◌≡◌, ℕ, suc, ◌+◌, ◌≤◌, Bool, true, false, not, ◌&&◌, ◌||◌, List, [], ◌∷◌, ◌++◌, length, Option, Some, None, nat_lt, nat_le, ◌<◌, length-append, refl, ap, sym, subst, ◌∙◌, arith}
+use Rattle.std.proofs.Common.{◌≡◌, ℕ, suc, ◌≤◌, Bool, true, false, not, ◌&&◌, ◌||◌, List, ◌++◌, length, Option, Some, None, nat_lt, nat_le, ◌<◌, length-append, refl, ap, sym, subst, ◌∙◌, arith}
 use Rattle.std.proofs.lemmas.Bool.{le-leb, leb-true}
 use Rattle.std.proofs.lemmas.Option.{slice_get_within, slice_get-get_or, get_or_from_slice_get}
 use Rattle.std.proofs.lemmas.List.{get_or_append_left}
 use Rattle.std.specs.Prelude.{slice_get}
-use Rattle.dm_base.specs.declared.mode.Mode.TheVariants.{Plain, Instrumented}
+use Rattle.dm_base.specs.declared.mode.Mode.TheVariants.{Plain}
 use Rattle.c_tree.specs.Functions.{sys_types, null_types}
 use Rattle.c_tree.specs.Layout.{cells_of_all}
 use Rattle.c_tree.specs.Tree.{CType, void, integer, pointer, array, struct, function, CTypes, Function}
 use Rattle.c_tree.specs.Tree as typed
 use Rattle.c_syntax.specs.Tree.{Ident, Spec, Declarator, Params, no_params, more_params, Stmt, BlockItems}
 use Rattle.c_syntax.specs.Tree as syntax
-use Rattle.c_rules.specs.Checked.{Checked, fine, faulty, on, both, demand, and_also, Met, met}
+use Rattle.c_rules.specs.Checked.{Checked, fine, faulty, on, demand, and_also, Met, met}
 use Rattle.c_rules.specs.Codes.{C2, C3, C11, C12, C13}
-use Rattle.c_rules.specs.Limits.{most_functions}
-use Rattle.c_rules.specs.Names.{Name, number_among, is_among, is_reserved, system_calls, given_names, given_types, may_be_declared, with_new}
-use Rattle.c_rules.specs.Types.{same_type}
-use Rattle.c_rules.specs.Scopes.{Env, Meaning, a_function, inside, Before, layout_of, declared_here, with_name, meaning_or_unknown}
-use Rattle.c_rules.specs.Declarators.{name_of, place_or, type_of_spec, pointer_to, array_of, function_of, parameter_of, new_name, with_name_demands, behind_parameter}
+use Rattle.c_rules.specs.Names.{Name, number_among, is_among, is_reserved, given_names, may_be_declared, with_new}
+use Rattle.c_rules.specs.Scopes.{Env, Meaning, a_function, inside, Before, layout_of, declared_here}
+use Rattle.c_rules.specs.Declarators.{name_of, place_or, type_of_spec, pointer_to, array_of, function_of, new_name, with_name_demands, behind_parameter}
 use Rattle.c_rules.specs.Expressions.{declared, size_in, parameters, type_declared, type_of_parameter}
-use Rattle.c_rules.specs.Variables.{first_numbers}
-use Rattle.c_rules.specs.Blocks.{Laid, held_by_block}
-use Rattle.c_rules.specs.Statements.{items_of_block}
+use Rattle.c_rules.specs.Blocks.{Laid}
 use Rattle.c_rules.specs.Functions.{declares_function, parameters_of, are_named, with_parameter, with_parameters, body_env, body_numbers, held_by_type, held_by_typed, is_given_type, given_as, is_as_given, may_follow_function, is_defined_by, is_few, function_meaning, behind_function, function_declared, variables_of, function_laid, body_of, defined_as}
-use Rattle.c_rules.proofs.Modes.{Leads, LeadsTo, same_leads, fine_leads, on_leads, both_leads, demand_leads, and_also_leads, first_fine, on_fine, demand_met, below_more, ArePlain, in_mode, Twin, twin, named_twin}
-use Rattle.c_rules.proofs.ModeNames.{left, right, given_same, unreserved, may_more, name_leads, new_name_plain}
+use Rattle.c_rules.proofs.Modes.{Leads, LeadsTo, same_leads, fine_leads, on_leads, demand_leads, and_also_leads, first_fine, on_fine, demand_met, below_more, ArePlain, Twin, twin, named_twin}
+use Rattle.c_rules.proofs.ModeNames.{left, right, given_same, unreserved, name_leads, new_name_plain}
 use Rattle.c_rules.proofs.ModeExpressions.{type_declared_leads, parameter_leads, behind_twin}
-use Rattle.c_rules.proofs.ModeBlocks.{both_to, on_to, weaken, always}
+use Rattle.c_rules.proofs.ModeBlocks.{both_to, weaken}
 use Rattle.c_rules.proofs.ModeStatements.{inside_twin, block_leads}
 
 -- ## The scope of a body
@@ -111,7 +107,7 @@ function_leads : (env : Env) (d : Bool) (x : Ident) (t : CType) → Leads (funct
 function_leads env d x t =
     on_leads _ _ (λ _. fine (a_function t (is_defined_by d (declared_here env x.name)))) (λ _. fine (a_function t (is_defined_by d (declared_here env x.name))))
     (name_leads x.name x.at (and_also (demand (is_as_given (left env) d x.name t) C11 x.at met) (and_also (demand (may_follow_function d t (declared_here env x.name)) C2 x.at met) (demand (is_few (left env) x.name) C13 x.at met))) (and_also (demand (is_as_given (right env) d x.name t) C11 x.at met) (and_also (demand (may_follow_function d t (declared_here env x.name)) C2 x.at met) (demand (is_few (right env) x.name) C13 x.at met)))
-      (λ u. and_also_leads _ _ _ _ (demand_leads _ _ 11 x.at met (given_more env d x.name t u)) (and_also_leads _ _ _ _ (same_leads (demand (may_follow_function d t (declared_here env x.name)) C2 x.at met)) (demand_leads _ _ 13 x.at met (few_more env x.name)))))
+    (λ u. and_also_leads _ _ _ _ (demand_leads _ _ 11 x.at met (given_more env d x.name t u)) (and_also_leads _ _ _ _ (same_leads (demand (may_follow_function d t (declared_here env x.name)) C2 x.at met)) (demand_leads _ _ 13 x.at met (few_more env x.name)))))
     (λ _ _. (refl, tt))
 
 function_plain : (env : Env) (d : Bool) (x : Ident) (t : CType) (m : Meaning) → function_meaning (left env) d x t ≡ fine m → is_reserved x.name ≡ false
@@ -135,8 +131,8 @@ function_twin e f (twin env w) d at s p x m g =
 laid_leads : (e f : Env) → Twin e f → (x : Ident) (t : CType) (ts : CTypes) (p : Laid typed.Stmts) → Leads (function_laid e x t ts p) (function_laid f x t ts p)
 laid_leads e f (twin env w) x t ts p = demand_leads _ _ 13 x.at _ (cells_more (cells_of_all (layout_of env) (variables_of ts p)))
   where
-  cells_more : (n : ℕ) → nat_le n 65536 ≡ true → nat_le n 262144 ≡ true
-  cells_more n e = le-leb n 262144 (let k : n ≤ 65536 = leb-true n 65536 e in omega (arith, k))
+    cells_more : (n : ℕ) → nat_le n 65536 ≡ true → nat_le n 262144 ≡ true
+    cells_more n e = le-leb n 262144 (let k : n ≤ 65536 = leb-true n 65536 e in omega (arith, k))
 
 -- a body, where the names of its parameters are unreserved
 body_leads : (e f : Env) → Twin e f → (b : Before) (t : CType) (d : Declarator) (ts : CTypes) (is : BlockItems) → PlainNames (parameters_of d) → LeadsTo (held_by_type e d is (function t ts) ≡ held_by_type f d is (function t ts)) (body_of e b t d ts is) (body_of f b t d ts is)
@@ -152,7 +148,7 @@ defined_leads e f w b place d x is (struct s) h = tt
 defined_leads e f w b place d x is (function t us) h =
     weaken (Unit {0} × (held_by_type e d is (function t us) ≡ held_by_type f d is (function t us))) _ _ _ (λ y. y.1)
     (both_to (Unit {0}) (held_by_type e d is (function t us) ≡ held_by_type f d is (function t us)) (demand (are_named (parameters_of d)) C3 place met) (demand (are_named (parameters_of d)) C3 place met) (body_of e b t d us is) (body_of f b t d us is) (λ _ p. function_laid e x t us p) (λ _ p. function_laid f x t us p)
-      (same_leads _) (λ _ _ _. body_leads e f w b t d us is h) (λ _ p. laid_leads e f w x t us p))
+    (same_leads _) (λ _ _ _. body_leads e f w b t d us is h) (λ _ p. laid_leads e f w x t us p))
 
 declared_names : (e f : Env) → Twin e f → (at : ℕ) (s : Spec) (d : Declarator) (u : CType) → declares_function d ≡ true → type_declared e at s d ≡ fine u → PlainNames (parameters_of d)
 declared_names e f w at s d u h g =
@@ -162,10 +158,10 @@ declared_names e f w at s d u h g =
 
 -- a definition, behind the name of its function
 pub definition_leads : (e f : Env) → Twin e f → (at : ℕ) (s : Spec) (d : Declarator) → declares_function d ≡ true → (g h : Env) → Twin g h → (b : Before) (x : Ident) (is : BlockItems) →
-  LeadsTo (held_by_typed g d is (type_declared e at s d) ≡ held_by_typed h d is (type_declared f at s d)) (on (type_declared e at s d) (defined_as g b (place_or at d) d x is)) (on (type_declared f at s d) (defined_as h b (place_or at d) d x is))
+    LeadsTo (held_by_typed g d is (type_declared e at s d) ≡ held_by_typed h d is (type_declared f at s d)) (on (type_declared e at s d) (defined_as g b (place_or at d) d x is)) (on (type_declared f at s d) (defined_as h b (place_or at d) d x is))
 definition_leads e f w at s d n g h v b x is = by_result (type_declared e at s d) (type_declared f at s d) (type_declared_leads e f w at s d) (λ u k. declared_names e f w at s d u n k)
   where
-  by_result : (r q : Checked CType) → Leads r q → ((u : CType) → r ≡ fine u → PlainNames (parameters_of d)) → LeadsTo (held_by_typed g d is r ≡ held_by_typed h d is q) (on r (defined_as g b (place_or at d) d x is)) (on q (defined_as h b (place_or at d) d x is))
-  by_result (faulty y ys) q l k = tt
-  by_result (fine u) q l k =
-      subst (λ z. LeadsTo (held_by_typed g d is (fine u) ≡ held_by_typed h d is z) (defined_as g b (place_or at d) d x is u) (on z (defined_as h b (place_or at d) d x is))) (sym l.0) (defined_leads g h v b (place_or at d) d x is u (k u refl))
+    by_result : (r q : Checked CType) → Leads r q → ((u : CType) → r ≡ fine u → PlainNames (parameters_of d)) → LeadsTo (held_by_typed g d is r ≡ held_by_typed h d is q) (on r (defined_as g b (place_or at d) d x is)) (on q (defined_as h b (place_or at d) d x is))
+    by_result (faulty y ys) q l k = tt
+    by_result (fine u) q l k =
+        subst (λ z. LeadsTo (held_by_typed g d is (fine u) ≡ held_by_typed h d is z) (defined_as g b (place_or at d) d x is u) (on z (defined_as h b (place_or at d) d x is))) (sym l.0) (defined_leads g h v b (place_or at d) d x is u (k u refl))

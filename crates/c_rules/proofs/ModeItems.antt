@@ -1,33 +1,32 @@
 -- Items and units in the two modes.
-use Rattle.std.proofs.Common.{◌≡◌, ℕ, suc, ◌+◌, ℤ, pos, Bool, true, false, not, ◌&&◌, List, [], ◌∷◌, ◌++◌, length, map, Option, Some, None, nat_le, refl, ap, sym, subst, ◌∙◌, codes}
+use Rattle.std.proofs.Common.{◌≡◌, ℕ, ℤ, pos, Bool, true, false, not, ◌&&◌, List, [], ◌∷◌, ◌++◌, map, Option, Some, None, refl, ap, sym, subst, ◌∙◌, codes}
 use Rattle.dm_base.specs.declared.mode.Mode.TheVariants.{Plain, Instrumented}
-use Rattle.c_tree.specs.Tree.{CType, Function, Program}
-use Rattle.c_syntax.specs.Tree.{Ident, Storage, Spec, Declarator, MaybeInit, no_init, an_init, Parts, no_parts, more_parts, Decl, decl, Maybe, absent, there}
+use Rattle.c_tree.specs.Tree.{CType, Program}
+use Rattle.c_syntax.specs.Tree.{Ident, Storage, Spec, Declarator, MaybeInit, Parts, no_parts, more_parts, Decl, decl, Maybe, absent, there}
 use Rattle.c_syntax.specs.Tree.{Declarators, no_declarators, more_declarators, Members, no_members, more_members, Enumerators, no_enumerators, more_enumerators}
 use Rattle.c_syntax.specs.Tree.{Tag, no_tag, tag, Stmt, BlockItems, Item, struct_item, enum_item, tag_item, decl_item, function_item, Items, no_items, more_items}
-use Rattle.c_rules.specs.Checked.{Checked, fine, faulty, on, both, gives, demand, and_also, Met, met}
-use Rattle.c_rules.specs.Codes.{C2, C11, C12, C13}
+use Rattle.c_rules.specs.Checked.{Checked, fine, faulty, on, gives, demand, and_also, met}
+use Rattle.c_rules.specs.Codes.{C2, C11, C12}
 use Rattle.c_rules.specs.Names.{Name, is_among, is_reserved, given_names, may_be_declared}
-use Rattle.c_rules.specs.Scopes.{Env, Meaning, a_static, an_enumerator, Struct, Member, inside, Before, layout_of, struct_of, tag_number, declared_here, with_struct}
+use Rattle.c_rules.specs.Scopes.{Env, a_static, an_enumerator, Struct, Before, layout_of, struct_of, tag_number, declared_here, with_struct}
 use Rattle.c_rules.specs.Counts.{place_of, past}
 use Rattle.c_rules.specs.Declarators.{name_of, place_or, constant_value, new_name}
 use Rattle.c_rules.specs.Expressions.{type_declared, folded_value}
 use Rattle.c_rules.specs.Initialisers.{calls_of_maybe_init, held_by, initialised_static}
 use Rattle.c_rules.specs.Objects.{Object, object_declared}
-use Rattle.c_rules.specs.Variables.{calls_of_block, first_numbers}
-use Rattle.c_rules.specs.Blocks.{held_by_block}
+use Rattle.c_rules.specs.Variables.{calls_of_block}
 use Rattle.c_rules.specs.Functions.{declares_function, held_by_typed, is_defined_by, function_declared, items_of_body, defined_as}
-use Rattle.c_rules.specs.Items.{Output, no_output, with_output, free_tag, member_typed, new_member, member_named, member_declared, with_option, names_behind, members_declared, members, struct_laid, is_incomplete, new_struct, struct_definition, struct_or_unknown, tag_declaration, int_value, enumerator_value, one_more_than, enumerator_meaning, behind_enumerator, enumerators, behind_enumerators, new_enum, behind_enum_tag, defines, may_follow_object, object_name, few_static, global_object, global_declared, meaning_of_global, seen_of_global, behind_global, within_global, static_of, after_object, definition_of, global, without_init, prototype, declared_part, named_part, behind_declared, behind_named_part, behind_file_part, after_global, after_declared, after_file_part, file_parts, behind_file_parts, after_file_parts, file_decl, behind_file_decl, after_file_decl, output_of_function, behind_defined, function_named, behind_function_named, after_function, item, behind_by_form, with_tags, behind_item, after_item, items, behind_items, after_items}
+use Rattle.c_rules.specs.Items.{Output, no_output, with_output, free_tag, member_typed, new_member, member_named, member_declared, with_option, names_behind, members_declared, members, struct_laid, is_incomplete, new_struct, struct_definition, struct_or_unknown, tag_declaration, int_value, enumerator_value, one_more_than, enumerator_meaning, behind_enumerator, enumerators, behind_enumerators, new_enum, behind_enum_tag, defines, may_follow_object, object_name, few_static, global_object, global_declared, meaning_of_global, seen_of_global, behind_global, within_global, static_of, after_object, definition_of, global, without_init, declared_part, named_part, behind_declared, behind_named_part, behind_file_part, after_global, after_declared, after_file_part, file_parts, behind_file_parts, after_file_parts, file_decl, behind_file_decl, after_file_decl, output_of_function, behind_defined, function_named, behind_function_named, item, with_tags, behind_item, after_item, items, behind_items, after_items}
 use Rattle.c_rules.specs.Scopes.{nothing_before, binding_of}
 use Rattle.c_rules.specs.Codes.{C9}
 use Rattle.c_rules.specs.Names.{number_among}
 use Rattle.std.specs.Prelude.{unwrap_or}
 use Rattle.c_tree.specs.Layout.{Structs}
-use Rattle.c_rules.specs.Units.{env_before, env_behind, is_main_bound, has_main, strings_of, static_string, functions_of, program_of, checked, IsTyped}
-use Rattle.c_rules.proofs.Modes.{fact, Leads, LeadsTo, same_leads, fine_leads, with_fact, without, on_leads, both_leads, gives_leads, demand_leads, and_also_leads, first_fine, on_fine, demand_met, ArePlain, in_mode, Twin, twin, named_twin}
-use Rattle.c_rules.proofs.ModeNames.{left, right, given_same, unreserved, may_more, name_leads, given_leads, new_name_leads, new_name_plain}
+use Rattle.c_rules.specs.Units.{env_before, env_behind, is_main_bound, has_main, strings_of, static_string, functions_of, program_of, IsTyped}
+use Rattle.c_rules.proofs.Modes.{fact, Leads, LeadsTo, same_leads, fine_leads, with_fact, without, on_leads, both_leads, gives_leads, demand_leads, and_also_leads, first_fine, on_fine, demand_met, ArePlain, Twin, twin, named_twin}
+use Rattle.c_rules.proofs.ModeNames.{left, right, unreserved, may_more, name_leads, given_leads, new_name_leads, new_name_plain}
 use Rattle.c_rules.proofs.ModeExpressions.{type_declared_leads}
-use Rattle.c_rules.proofs.ModeBlocks.{both_to, on_to, gives_to, weaken, always, moved, both_gives, static_init_leads, object_leads, held_same}
+use Rattle.c_rules.proofs.ModeBlocks.{both_to, weaken, always, moved, static_init_leads, object_leads, held_same}
 use Rattle.c_rules.proofs.ModeStatements.{folded_leads}
 use Rattle.c_rules.proofs.ModeFunctions.{function_declared_leads, function_twin, definition_leads}
 
@@ -39,11 +38,11 @@ tag_leads env x = demand_leads _ _ 12 x.at met (may_more x.name)
 member_leads : (e f : Env) → Twin e f → (earlier : List Name) (at : ℕ) (s : Spec) (d : Declarator) → Leads (member_declared e earlier at s d) (member_declared f earlier at s d)
 member_leads e f (twin env p) earlier at s d = by_name (name_of d)
   where
-  by_name : (n : Option Ident) → Leads (member_named (left env) earlier at s d n) (member_named (right env) earlier at s d n)
-  by_name None = tt
-  by_name (Some x) =
-      both_leads (new_member (left env) earlier x) (new_member (right env) earlier x) (on (type_declared (left env) at s d) (member_typed (left env) (place_or at d) x.at)) (on (type_declared (right env) at s d) (member_typed (right env) (place_or at d) x.at)) (λ _ t. fine (record { name = x.name; ctype = t })) (λ _ t. fine (record { name = x.name; ctype = t }))
-      (and_also_leads _ _ _ _ (tag_leads env x) (same_leads (demand (not (is_among earlier x.name)) C2 x.at met))) (λ _ _. on_leads (type_declared (left env) at s d) (type_declared (right env) at s d) (member_typed (left env) (place_or at d) x.at) (member_typed (right env) (place_or at d) x.at) (type_declared_leads _ _ (twin env p) at s d) (λ t _. same_leads (member_typed (left env) (place_or at d) x.at t))) (λ _ t. (refl, tt))
+    by_name : (n : Option Ident) → Leads (member_named (left env) earlier at s d n) (member_named (right env) earlier at s d n)
+    by_name None = tt
+    by_name (Some x) =
+        both_leads (new_member (left env) earlier x) (new_member (right env) earlier x) (on (type_declared (left env) at s d) (member_typed (left env) (place_or at d) x.at)) (on (type_declared (right env) at s d) (member_typed (right env) (place_or at d) x.at)) (λ _ t. fine (record { name = x.name; ctype = t })) (λ _ t. fine (record { name = x.name; ctype = t }))
+        (and_also_leads _ _ _ _ (tag_leads env x) (same_leads (demand (not (is_among earlier x.name)) C2 x.at met))) (λ _ _. on_leads (type_declared (left env) at s d) (type_declared (right env) at s d) (member_typed (left env) (place_or at d) x.at) (member_typed (right env) (place_or at d) x.at) (type_declared_leads _ _ (twin env p) at s d) (λ t _. same_leads (member_typed (left env) (place_or at d) x.at t))) (λ _ t. (refl, tt))
 
 declarators_lead : (e f : Env) → Twin e f → (earlier : List Name) (at : ℕ) (s : Spec) (ds : Declarators) → Leads (members_declared e earlier at s ds) (members_declared f earlier at s ds)
 declarators_lead e f w earlier at s no_declarators = (refl, tt)
@@ -101,8 +100,8 @@ enumerators_lead e f (twin env p) r s h (more_enumerators x m es) =
     let Q : Type 0 = Twin (behind_enumerators (behind_enumerator (left env) x q) (one_more_than q) es) (behind_enumerators (behind_enumerator (right env) x t) (one_more_than t) es) in
     weaken (P × Q) _ _ _ (λ y. y.1)
     (both_to P Q (enumerator_meaning (left env) x q) (enumerator_meaning (right env) x t) (enumerators (behind_enumerator (left env) x q) (one_more_than q) es) (enumerators (behind_enumerator (right env) x t) (one_more_than t) es) (λ _ _. fine met) (λ _ _. fine met)
-      (with_fact P _ _ k (λ a g. named_twin env x.name (enumerator_meaning (left env) x q) (enumerator_meaning (right env) x t) a p (let u = first_fine (new_name (left env) x) q (λ _ z. fine (an_enumerator z)) a g in new_name_plain env x u.0 u.2) g (fine_leads _ _ a k g)))
-      (λ _ _ y. enumerators_lead (behind_enumerator (left env) x q) (behind_enumerator (right env) x t) y (one_more_than q) (one_more_than t) (one_more_leads q t l) es) (λ _ _. (refl, tt)))
+    (with_fact P _ _ k (λ a g. named_twin env x.name (enumerator_meaning (left env) x q) (enumerator_meaning (right env) x t) a p (let u = first_fine (new_name (left env) x) q (λ _ z. fine (an_enumerator z)) a g in new_name_plain env x u.0 u.2) g (fine_leads _ _ a k g)))
+    (λ _ _ y. enumerators_lead (behind_enumerator (left env) x q) (behind_enumerator (right env) x t) y (one_more_than q) (one_more_than t) (one_more_leads q t l) es) (λ _ _. (refl, tt)))
 
 -- ## Static objects
 
@@ -186,7 +185,7 @@ declared_part_leads e f w b at class s d m x true =
 declared_part_leads e f w b at class s d m x false =
     with_fact _ _ _ (global_leads e f w (defines class m) b at s d x m)
     (λ c g. let k = global_fine e (defines class m) b x m (global_declared e (defines class m) b at s d x m) c g in
-      (global_behind e f w (defines class m) b at s d x m k.0 k.1, object_after e f w b at s d m x (defines class m) k.0 (same_object e (defines class m) b at s d x m k.0 k.1)))
+    (global_behind e f w (defines class m) b at s d x m k.0 k.1, object_after e f w b at s d m x (defines class m) k.0 (same_object e (defines class m) b at s d x m k.0 k.1)))
 
 part_leads : (e f : Env) → Twin e f → (b : Before) (at : ℕ) (class : Storage) (s : Spec) (d : Declarator) (m : MaybeInit) (n : Option Ident) → LeadsTo (FileFacts (behind_named_part e b at class s d m n) (behind_named_part f b at class s d m n) (after_declared e b at s d m (not (declares_function d) && defines class m) n) (after_declared f b at s d m (not (declares_function d) && defines class m) n)) (named_part e b at class s d m n) (named_part f b at class s d m n)
 part_leads e f w b at class s d m None = tt
@@ -202,9 +201,9 @@ parts_lead e f w b at class s (more_parts d m ps) =
     let Q : Type 0 = FileFacts (behind_file_parts e' b' at class s ps) (behind_file_parts f' c' at class s ps) (after_file_parts e' b' at class s ps) (after_file_parts f' c' at class s ps) in
     weaken (FileFacts e' f' b' c' × Q) _ _ _ (λ h. h.1)
     (both_to (FileFacts e' f' b' c') Q (named_part e b at class s d m (name_of d)) (named_part f b at class s d m (name_of d)) (file_parts e' b' at class s ps) (file_parts f' c' at class s ps) (λ p q. fine (with_output p q)) (λ p q. fine (with_output p q))
-      (part_leads e f w b at class s d m (name_of d))
-      (λ _ _ h. subst (λ y. LeadsTo (FileFacts (behind_file_parts e' b' at class s ps) (behind_file_parts f' y at class s ps) (after_file_parts e' b' at class s ps) (after_file_parts f' y at class s ps)) (file_parts e' b' at class s ps) (file_parts f' y at class s ps)) h.1 (parts_lead e' f' h.0 b' at class s ps))
-      (λ p q. (refl, tt)))
+    (part_leads e f w b at class s d m (name_of d))
+    (λ _ _ h. subst (λ y. LeadsTo (FileFacts (behind_file_parts e' b' at class s ps) (behind_file_parts f' y at class s ps) (after_file_parts e' b' at class s ps) (after_file_parts f' y at class s ps)) (file_parts e' b' at class s ps) (file_parts f' y at class s ps)) h.1 (parts_lead e' f' h.0 b' at class s ps))
+    (λ p q. (refl, tt)))
 
 decl_leads : (e f : Env) → Twin e f → (b : Before) (d : Decl) → LeadsTo (FileFacts (behind_file_decl e b d) (behind_file_decl f b d) (after_file_decl e b d) (after_file_decl f b d)) (file_decl e b d) (file_decl f b d)
 decl_leads e f w b (decl at class s ps) = parts_lead e f w b at class s ps
@@ -219,9 +218,9 @@ function_item_leads e f w b at s d body true (Some x) h =
     let f' : Env = behind_defined f at s d x in
     let is : BlockItems = items_of_body body in
     both_to (Twin e' f') (held_by_typed e' d is (type_declared e at s d) ≡ held_by_typed f' d is (type_declared f at s d)) (function_declared e true at s d x) (function_declared f true at s d x) (on (type_declared e at s d) (defined_as e' b (place_or at d) d x is)) (on (type_declared f at s d) (defined_as f' b (place_or at d) d x is)) (λ _ p. fine (output_of_function p)) (λ _ p. fine (output_of_function p))
-      (with_fact (Twin e' f') _ _ (function_declared_leads e f w true at s d x) (λ m g. function_twin e f w true at s d x m g))
-      (λ _ _ v. definition_leads e f w at s d h e' f' v b x is)
-      (λ _ p. (refl, tt))
+    (with_fact (Twin e' f') _ _ (function_declared_leads e f w true at s d x) (λ m g. function_twin e f w true at s d x m g))
+    (λ _ _ v. definition_leads e f w at s d h e' f' v b x is)
+    (λ _ p. (refl, tt))
 
 -- ## Items
 
@@ -241,7 +240,7 @@ item_leads e f w b (enum_item at x es) =
     let Q : Type 0 = Twin (behind_enumerators e' (fine (pos 0)) es) (behind_enumerators f' (fine (pos 0)) es) in
     weaken (Unit {0} × Q) _ _ _ (λ h. (tags_twin _ _ h.1 (enum_item at x es), refl))
     (both_to (Unit {0}) Q (new_enum e x) (new_enum f x) (enumerators e' (fine (pos 0)) es) (enumerators f' (fine (pos 0)) es) (λ _ _. fine no_output) (λ _ _. fine no_output)
-      (new_enum_leads e f w x) (λ _ _ _. enumerators_lead e' f' (enum_tag_twin e f w x) (fine (pos 0)) (fine (pos 0)) (refl, tt) es) (λ _ _. (refl, tt)))
+    (new_enum_leads e f w x) (λ _ _ _. enumerators_lead e' f' (enum_tag_twin e f w x) (fine (pos 0)) (fine (pos 0)) (refl, tt) es) (λ _ _. (refl, tt)))
 item_leads e f w b (tag_item at x) = always _ _ _ (tags_twin _ _ w (tag_item at x), refl) (gives_leads (tag_declaration e x) (tag_declaration f x) (λ _. no_output) (tag_declaration_leads e f w x))
 item_leads e f w b (decl_item at d) = weaken _ _ _ _ (λ h. (tags_twin _ _ h.0 (decl_item at d), h.1)) (decl_leads e f w b d)
 item_leads e f w b (function_item at class s d body) = weaken _ _ _ _ (λ h. (tags_twin _ _ h.0 (function_item at class s d body), ap (past b (calls_of_block (items_of_body body))) h.1)) (function_item_leads e f w b at s d body (declares_function d) (name_of d) refl)
@@ -256,9 +255,9 @@ items_lead e f w b (more_items i is) =
     let Q : Type 0 = FileFacts (behind_items e' b' is) (behind_items f' c' is) (after_items e' b' is) (after_items f' c' is) in
     weaken (FileFacts e' f' b' c' × Q) _ _ _ (λ h. h.1)
     (both_to (FileFacts e' f' b' c') Q (item e b i) (item f b i) (items e' b' is) (items f' c' is) (λ p q. fine (with_output p q)) (λ p q. fine (with_output p q))
-      (item_leads e f w b i)
-      (λ _ _ h. subst (λ y. LeadsTo (FileFacts (behind_items e' b' is) (behind_items f' y is) (after_items e' b' is) (after_items f' y is)) (items e' b' is) (items f' y is)) h.1 (items_lead e' f' h.0 b' is))
-      (λ p q. (refl, tt)))
+    (item_leads e f w b i)
+    (λ _ _ h. subst (λ y. LeadsTo (FileFacts (behind_items e' b' is) (behind_items f' y is) (after_items e' b' is) (after_items f' y is)) (items e' b' is) (items f' y is)) h.1 (items_lead e' f' h.0 b' is))
+    (λ p q. (refl, tt)))
 
 -- ## Units
 
@@ -272,13 +271,13 @@ program_same : (u : Items) (p : Output) → FileFacts (env_behind Plain u) (env_
 program_same u p h =
     ap (λ s. program_with s (strings_of Plain u)) (structs_same _ _ h.0) ∙ ap (λ y. program_with (layout_of (env_behind Instrumented u)) y.strings) h.1
   where
-  program_with : Structs → List (List ℕ) → Program
-  program_with s ws = record {
-    structs = s;
-    functions = p.functions;
-    main = unwrap_or (number_among (functions_of u) (codes "main")) 0;
-    statics = p.statics ++ map static_string ws;
-  }
+    program_with : Structs → List (List ℕ) → Program
+    program_with s ws = record {
+      structs = s;
+      functions = p.functions;
+      main = unwrap_or (number_among (functions_of u) (codes "main")) 0;
+      statics = p.statics ++ map static_string ws;
+    }
 
 -- what is typed in a plain unit is typed in an instrumented one
 pub typed_leads : (u : Items) (p : Program) → IsTyped u Plain p → IsTyped u Instrumented p

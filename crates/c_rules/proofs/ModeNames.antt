@@ -1,21 +1,20 @@
 -- Names in the two modes.
-use Rattle.std.proofs.Common.{◌≡◌, ◌⊎◌, inl, inr, ℕ, suc, Bool, true, false, not, ◌&&◌, ◌||◌, cond, if◌then◌else◌, List, [], ◌∷◌, ◌++◌, Option, Some, None, refl, ap, sym, subst, ◌∙◌, arith, codes, length}
+use Rattle.std.proofs.Common.{◌≡◌, ℕ, suc, Bool, true, false, not, ◌||◌, cond, if◌then◌else◌, List, [], ◌∷◌, ◌++◌, Option, Some, None, refl, ap, sym, subst, ◌∙◌, arith, codes}
 use Rattle.std.specs.Prelude.{is_some, is_none, option_map, bytes_eq}
 use Rattle.std.proofs.lemmas.Slice.Eq.{bytes_eq-Decides}
 use Rattle.dm_base.specs.declared.mode.Mode.TheVariants.{Plain, Instrumented}
 use Rattle.c_syntax.specs.Tree.{Ident}
-use Rattle.c_tree.specs.Tree.{CType}
-use Rattle.c_rules.specs.Checked.{Checked, fine, faulty, fault, on, gives, demand, and_also, Met, met}
-use Rattle.c_rules.specs.Codes.{C2, C10, C11, C12}
+use Rattle.c_rules.specs.Checked.{Checked, fine, demand, and_also, Met, met}
+use Rattle.c_rules.specs.Codes.{C2, C11, C12}
 use Rattle.c_rules.specs.Names.{Name, number_among, is_among, is_reserved, null_calls, system_calls, given_names, may_be_declared}
-use Rattle.c_rules.specs.Scopes.{Env, Binding, Meaning, a_static, a_local, a_function, an_enumerator, unknown, Context, evaluated, sized, folded, lookup, binding_of, declared_here}
+use Rattle.c_rules.specs.Scopes.{Env, Binding, Meaning, a_static, a_local, a_function, an_enumerator, unknown, Context, evaluated, sized, folded, lookup, declared_here}
 use Rattle.c_rules.specs.Given.{Given}
 use Rattle.c_rules.specs.Conversions.{valued}
 use Rattle.c_rules.specs.PrimaryExpressions.{used, given_number, number_or, function_number, function_value_number, function_given, meant, bound, named_expression}
-use Rattle.c_rules.specs.PostfixExpressions.{Callee, site_in, site_of, callee_of_type, callee_by_name, callee_by_value}
+use Rattle.c_rules.specs.PostfixExpressions.{site_in, site_of, callee_of_type, callee_by_value}
 use Rattle.c_rules.specs.Declarators.{free_name, new_name}
 use Rattle.c_rules.specs.Expressions.{value_at, callee_meant, callee_bound}
-use Rattle.c_rules.proofs.Modes.{Leads, LeadsTo, same_leads, on_leads, both_leads, gives_leads, demand_leads, and_also_leads, first_fine, demand_met, below_more, ArePlain, in_mode}
+use Rattle.c_rules.proofs.Modes.{Leads, same_leads, on_leads, both_leads, gives_leads, demand_leads, and_also_leads, first_fine, demand_met, below_more, ArePlain, in_mode}
 
 abbrev pub left : Env → Env
 left env = in_mode Plain env
@@ -83,10 +82,10 @@ named_leads env p at x = bound_leads env at x (lookup env.names x) (found_plain 
 pub site_leads : (env : Env) (n at : ℕ) → Leads (site_of (left env) n at) (site_of (right env) n at)
 site_leads env n at = by_context env.context n at
   where
-  by_context : (c : Context) (n at : ℕ) → Leads (site_in c 10000 n at) (site_in c 30000 n at)
-  by_context evaluated n at = demand_leads _ _ 13 at n (below_more n 10000 30000 (omega arith))
-  by_context sized n at = tt
-  by_context folded n at = (refl, tt)
+    by_context : (c : Context) (n at : ℕ) → Leads (site_in c 10000 n at) (site_in c 30000 n at)
+    by_context evaluated n at = demand_leads _ _ 13 at n (below_more n 10000 30000 (omega arith))
+    by_context sized n at = tt
+    by_context folded n at = (refl, tt)
 
 callee_meant_leads : (env : Env) (at place : ℕ) (x : Name) (r s : Checked Given) (m : Meaning) → is_reserved x ≡ false → Leads r s → Leads (callee_meant (left env) at place x r m) (callee_meant (right env) at place x s m)
 callee_meant_leads env at place x r s (a_function t d) u h =
@@ -109,9 +108,9 @@ value_at_leads env place r s h = on_leads r s (valued (left env) place) (valued 
 pub unreserved : (x : Name) → may_be_declared Plain x ≡ true → is_reserved x ≡ false
 unreserved x h = by_reserved (is_reserved x) h
   where
-  by_reserved : (t : Bool) → (not t || false) ≡ true → t ≡ false
-  by_reserved true e = cc
-  by_reserved false e = refl
+    by_reserved : (t : Bool) → (not t || false) ≡ true → t ≡ false
+    by_reserved true e = cc
+    by_reserved false e = refl
 
 pub may_more : (x : Name) → may_be_declared Plain x ≡ true → may_be_declared Instrumented x ≡ true
 may_more x h = rw (unreserved x h) refl

@@ -1,9 +1,9 @@
 -- The two modes side by side: what is fine in a plain unit is fine in an instrumented one and gives the same.
-use Rattle.std.proofs.Common.{◌≡◌, ℕ, ◌<◌, ◌≤◌, Bool, true, false, List, [], ◌∷◌, ◌++◌, refl, ap, sym, subst, ◌∙◌, arith, nat_lt, nat_le}
+use Rattle.std.proofs.Common.{◌≡◌, ℕ, ◌<◌, ◌≤◌, Bool, true, false, List, [], ◌∷◌, refl, sym, subst, arith, nat_lt}
 use Rattle.std.proofs.lemmas.Bool.Decides.{Decides-ltb}
 use Rattle.dm_base.specs.declared.mode.Mode.{Mode}
 use Rattle.dm_base.specs.declared.mode.Mode.TheVariants.{Plain, Instrumented}
-use Rattle.c_rules.specs.Checked.{Fault, Checked, fine, faulty, faults, on, both, beside, Two, all_three, gives, demand, and_also, Met, met}
+use Rattle.c_rules.specs.Checked.{Checked, fine, faulty, on, both, beside, all_three, gives, demand, and_also, Met, met}
 use Rattle.c_rules.specs.Names.{Name, is_reserved}
 use Rattle.c_rules.specs.Scopes.{Env, Binding, Meaning, with_name, meaning_or_unknown}
 

@@ -11,7 +11,7 @@ use Rattle.c_rules.specs.Limits.{most_functions, most_local_cells}
 use Rattle.c_rules.specs.Names.{Name, number_among, is_among, with_new, may_be_declared, given_names, given_types}
 use Rattle.c_rules.specs.Types.{same_type}
 use Rattle.c_rules.specs.Scopes.{Env, Meaning, a_static, a_local, a_function, unknown, declared_here, with_name, meaning_or_unknown, inside, layout_of, Before}
-use Rattle.c_rules.specs.Declarators.{name_of, behind_parameter}
+use Rattle.c_rules.specs.Declarators.{name_of}
 use Rattle.c_rules.specs.Expressions.{type_declared}
 use Rattle.c_rules.specs.Variables.{Next, first_numbers}
 use Rattle.c_rules.specs.Blocks.{Laid, held_by_block}

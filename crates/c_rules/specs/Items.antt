@@ -4,7 +4,7 @@ use Rattle.c_tree.specs.Tree.{CType, Function, Static}
 use Rattle.c_tree.specs.Layout.{cells, cells_of_all}
 use Rattle.c_syntax.specs.Tree.{Ident, Storage, extern, Spec, Declarator, MaybeInit, no_init, an_init, one, list, Parts, no_parts, more_parts, Decl, decl}
 use Rattle.c_syntax.specs.Tree.{Maybe, absent, there, Declarators, no_declarators, more_declarators, Members, no_members, more_members, Enumerators, no_enumerators, more_enumerators}
-use Rattle.c_syntax.specs.Tree.{Tag, no_tag, tag, Stmt, BlockItems, Item, struct_item, enum_item, tag_item, decl_item, function_item, Items, no_items, more_items}
+use Rattle.c_syntax.specs.Tree.{Tag, no_tag, tag, Stmt, Item, struct_item, enum_item, tag_item, decl_item, function_item, Items, no_items, more_items}
 use Rattle.c_tree.specs.Operators.{fits_int}
 use Rattle.c_rules.specs.Constants.{number_of}
 use Rattle.c_rules.specs.Checked.{Checked, fine, faulty, fault, demand, on, both, gives, and_also, Met, met}
@@ -21,10 +21,8 @@ use Rattle.c_rules.specs.Expressions.{type_declared, folded_value}
 use Rattle.c_rules.specs.Initialisers.{initialised_static, value_of_cell, held_by, calls_of_maybe_init}
 use Rattle.c_rules.specs.Objects.{Object, object_declared, with_size}
 use Rattle.c_rules.specs.Tags.{tags_of_item}
-use Rattle.c_rules.specs.Variables.{calls_of_block, first_numbers}
-use Rattle.c_rules.specs.Blocks.{held_by_block}
+use Rattle.c_rules.specs.Variables.{calls_of_block}
 use Rattle.c_rules.specs.Functions.{declares_function, held_by_typed, is_defined_by, behind_function, function_declared, items_of_body, defined_as}
-use Rattle.c_rules.specs.Scopes.{inside}
 
 -- the functions and the static objects that an item defines
 pub record Output : Type 0 where

@@ -4,6 +4,7 @@ ghost use Rattle.dm_base.specs.declared.mode.Mode.TheVariants.{Plain, Instrument
 ghost use Rattle.c_syntax.specs.Tree.{Items};
 ghost use Rattle.c_tree.specs.Tree.{Program};
 ghost use Rattle.c_rules.specs.Units.{IsTyped, IsViolated};
+ghost use Rattle.c_rules.specs.NullCalls.{CallsNoNullCall};
 
 /// A law on the rules: each unit is typed as some program, or violates some rule at some place.
 pub fn a_unit_is_typed_or_violates_a_rule()
@@ -24,4 +25,9 @@ pub fn a_unit_types_one_program()
 /// program.
 pub fn a_plain_unit_is_typed_alike_in_both_modes()
     ensures { (u : Items) (p : Program) → IsTyped u Plain p → IsTyped u Instrumented p }
+{}
+
+/// A law on the rules: a program that is typed in the mode Plain calls neither null call.
+pub fn a_plain_program_calls_no_null_call()
+    ensures { (u : Items) (p : Program) → IsTyped u Plain p → CallsNoNullCall p }
 {}
