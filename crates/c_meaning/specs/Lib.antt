@@ -1,0 +1,6 @@
+pub mod Meaning
+pub mod Operations
+pub mod Pointers
+pub mod Results
+pub mod Runs
+pub mod SystemCalls
