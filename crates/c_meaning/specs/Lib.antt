@@ -1,5 +1,4 @@
 pub mod Meaning
-pub mod Operations
 pub mod Pointers
 pub mod Results
 pub mod Runs

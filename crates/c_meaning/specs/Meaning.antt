@@ -1,13 +1,12 @@
 -- What the parts of a program do (C99 5.1.2.3, 6.5, 6.8), evaluated from left to right. The events of a part are its own.
-use Rattle.std.specs.Prelude.{ℕ, zero, suc, ◌+◌, ◌-◌, nat_lt, nat_eq, if◌then◌else◌, Bool, true, false, not, ℤ, pos, List, [], ◌∷◌, ◌++◌, Option, Some, None, slice_get}
+use Rattle.std.specs.Prelude.{ℕ, zero, suc, ◌-◌, nat_lt, nat_eq, if◌then◌else◌, Bool, true, false, not, List, [], ◌∷◌, ◌++◌, Option, Some, None, slice_get}
 use Rattle.std.specs.List.{list_any}
 use Rattle.std.specs.Option.{option_map}
 use Rattle.std.specs.Ordering.{int_eq}
 use Rattle.dm_base.specs.declared.event.Event.{Event}
 use Rattle.dm_base.specs.declared.event.Event.TheVariants.{Pre, Post}
-use Rattle.dm_base.specs.declared.outcome.Outcome.TheVariants.{Undefined, Turns}
+use Rattle.dm_base.specs.declared.outcome.Outcome.TheVariants.{Undefined}
 use Rattle.c_tree.specs.declared.value.IntType.{IntType}
-use Rattle.c_tree.specs.declared.value.IntType.TheVariants as types
 use Rattle.c_tree.specs.declared.value.UnOp.{UnOp}
 use Rattle.c_tree.specs.declared.value.UnOp.TheVariants.{Minus, Complement, Not}
 use Rattle.c_tree.specs.declared.value.BinOp.{BinOp}
@@ -17,18 +16,19 @@ use Rattle.c_tree.specs.declared.value.Value.{Value}
 use Rattle.c_tree.specs.declared.value.Value.TheVariants.{Indeterminate, Int, Uint, Func}
 use Rattle.c_tree.specs.declared.tree.TLabel.{TLabel}
 use Rattle.c_tree.specs.declared.tree.TLabel.TheVariants.{Case, Default}
-use Rattle.c_tree.specs.Tree.{CType, void, integer, pointer, array, struct, function}
+use Rattle.c_tree.specs.Tree.{CType, void, integer, pointer, array, function}
 use Rattle.c_tree.specs.Tree.{Expr, constant, function_name, string_place, variable, dereference, load, address_of, decay, discard, field, unary_operation, conversion, arithmetic, comparison, pointer_add, pointer_diff, and, or, assign, update, conditional, comma, call, call_through}
 use Rattle.c_tree.specs.Tree.{Exprs, no_exprs, more_exprs, Maybe, absent, there, Inits, no_inits, more_inits}
 use Rattle.c_tree.specs.Tree.{Stmt, block, empty, evaluate, declare, if_else, while_loop, do_loop, for_loop, switch_on, break_off, continue_on, return_void, return_value, Stmts, no_stmts, more_stmts, Groups, no_groups, more_groups}
-use Rattle.c_tree.specs.Tree.{Function, Program, type_of}
+use Rattle.c_tree.specs.Tree.{Program, type_of}
 use Rattle.c_tree.specs.Layout.{Structs, cells}
 use Rattle.c_tree.specs.Functions.{defined}
-use Rattle.c_values.specs.Answers.{Answer, gives, undefined, and_then, no_result, wrong_kind}
+use Rattle.c_values.specs.Answers.{Answer, gives, undefined, and_then, U13}
 use Rattle.c_values.specs.Memory.{Objects, declared, ended}
-use Rattle.c_meaning.specs.Operations.{convert, unary, binary}
-use Rattle.c_meaning.specs.Pointers.{callee, truth, place, behind, function_behind, load_place, store_place, member, to_first, moved, difference, compared, test}
-use Rattle.c_meaning.specs.Results.{State, with_memory, Result, Go, Stop, after, then_do, answered, remembered, spend, Exit, on, broken, continued, returned, on_exit, on_round, out_of_switch}
+use Rattle.c_tree.specs.Operands.{promoted}
+use Rattle.c_tree.specs.Operators.{convert, unary, binary}
+use Rattle.c_meaning.specs.Pointers.{callee, truth_value, place, behind, function_behind, load_place, store_place, member, to_first, moved, difference, compared, test}
+use Rattle.c_meaning.specs.Results.{State, with_memory, Result, Go, Stop, after, then_do, answered, remembered, Exit, on, broken, continued, returned, on_exit, on_round, out_of_switch}
 use Rattle.c_meaning.specs.SystemCalls.{system_call}
 
 -- the events before and after a call at each site
@@ -72,11 +72,11 @@ behind_of t m v = behind m v
 abbrev pub decayed : Structs → CType → Value → Answer Value
 decayed structs (array t n) v = to_first (cells structs t) n v
 decayed structs (function r ts) v = gives v
-decayed structs t v = undefined wrong_kind
+decayed structs t v = undefined U13
 
 -- a unary operator on a scalar (6.5.3.3)
 abbrev pub operated : UnOp → Objects → Value → Answer Value
-operated Not m v = and_then (test m v) (λ holds. gives (truth (not holds)))
+operated Not m v = and_then (test m v) (λ holds. gives (truth_value (not holds)))
 operated Minus m v = unary Minus v
 operated Complement m v = unary Complement v
 
@@ -90,13 +90,6 @@ comparing op m v w = compared m op v w
 abbrev pub moving : Bool → Bool → Objects → Value → Value → Answer Value
 moving true subtracted m v w = moved m subtracted v w
 moving false subtracted m v w = moved m subtracted w v
-
--- the promoted type (6.3.1.1 paragraph 2)
-abbrev pub promoted : IntType → IntType
-promoted types.Char = types.Int
-promoted types.Uchar = types.Int
-promoted types.Int = types.Int
-promoted types.Uint = types.Uint
 
 -- the type in which the operator computes, from those of the place and of the right side (6.3.1.8, 6.5.7 paragraph 3)
 abbrev pub computing : BinOp → IntType → IntType → IntType
@@ -113,7 +106,7 @@ abbrev pub updated : BinOp → CType → CType → Objects → Value → Value �
 updated op (integer i) (integer k) m before v =
     and_then (convert (computing op i k) before) (λ x. and_then (binary op x v) (λ y. convert i y))
 updated op (pointer t) u m before v = moved m (is_subtraction op) before v
-updated op t u m before v = undefined wrong_kind
+updated op t u m before v = undefined U13
 
 -- a call, with the events that stand before and after it
 abbrev pub bracketed : Marks → ℕ → Result Value → Result Value
@@ -127,14 +120,14 @@ wants wanted t = wanted
 -- a null call is the event that it names
 abbrev pub null_call : (ℕ → Event) → List Value → State → Result Value
 null_call event (Uint site ∷ []) st = Go Indeterminate st (event site ∷ [])
-null_call event vs st = Stop (Undefined wrong_kind) []
+null_call event vs st = Stop (Undefined U13) []
 
 -- a call of a function that has no definition: a system call, or one of the two null calls
 abbrev pub call_undefined : ℕ → List Value → State → Result Value
 call_undefined x vs st =
     if nat_lt x 24
     then system_call x vs st
-    else (if nat_eq x 24 then null_call Pre vs st else (if nat_eq x 25 then null_call Post vs st else Stop (Undefined wrong_kind) []))
+    else (if nat_eq x 24 then null_call Pre vs st else (if nat_eq x 25 then null_call Post vs st else Stop (Undefined U13) []))
 
 -- a call of the function with this number (6.5.2.2)
 abbrev pub called : Program → World → Bool → ℕ → List Value → State → Result Value
@@ -170,26 +163,26 @@ module _ (p : Program) (w : World) (marks : Marks) (fr : Frame) where
     eval wanted (pointer_diff t a b) st =
         then_do (eval true a st) (λ v st. then_do (eval true b st) (λ u st. answered (difference st.memory v u) st))
     eval wanted (and t a b) st =
-        then_do (tested (eval true a st)) (λ holds st. either holds (then_do (tested (eval true b st)) (λ holds st. Go (truth holds) st [])) (Go (truth false) st []))
+        then_do (tested (eval true a st)) (λ holds st. either holds (then_do (tested (eval true b st)) (λ holds st. Go (truth_value holds) st [])) (Go (truth_value false) st []))
     eval wanted (or t a b) st =
-        then_do (tested (eval true a st)) (λ holds st. either holds (Go (truth true) st []) (then_do (tested (eval true b st)) (λ holds st. Go (truth holds) st [])))
+        then_do (tested (eval true a st)) (λ holds st. either holds (Go (truth_value true) st []) (then_do (tested (eval true b st)) (λ holds st. Go (truth_value holds) st [])))
     eval wanted (assign t a b) st =
         then_do (eval true a st) (λ q st. then_do (eval true b st) (λ v st. remembered (store_place st.memory q v) v st))
     eval wanted (update t op old a b) st =
         then_do (eval true a st) (λ q st. then_do (answered (load_place st.memory q) st) (λ before st.
-            then_do (eval true b st) (λ v st. then_do (answered (updated op t (type_of b) st.memory before v) st) (λ new st.
-                remembered (store_place st.memory q new) (either old before new) st))))
+        then_do (eval true b st) (λ v st. then_do (answered (updated op t (type_of b) st.memory before v) st) (λ new st.
+        remembered (store_place st.memory q new) (either old before new) st))))
     eval wanted (conditional t c a b) st = then_do (tested (eval true c st)) (λ holds st. either holds (eval true a st) (eval true b st))
     eval wanted (comma t es) st = eval_each wanted es st
     eval wanted (call t site f args) st =
         then_do (eval_all args st) (λ vs st. bracketed marks site (called p w (wants wanted t) f vs st))
     eval wanted (call_through t site designator args) st =
         then_do (eval true designator st) (λ v st. then_do (eval_all args st) (λ vs st.
-            bracketed marks site (then_do (answered (callee v) st) (λ f st. called p w (wants wanted t) f vs st))))
+        bracketed marks site (then_do (answered (callee v) st) (λ f st. called p w (wants wanted t) f vs st))))
 
     -- the members of a comma expression; the last gives the value (6.5.17)
     pub eval_each : Bool → Exprs → State → Result Value
-    eval_each wanted no_exprs st = Stop (Undefined wrong_kind) []
+    eval_each wanted no_exprs st = Stop (Undefined U13) []
     eval_each wanted (more_exprs e no_exprs) st = eval wanted e st
     eval_each wanted (more_exprs e (more_exprs f es)) st = then_do (eval false e st) (λ v st. eval_each wanted (more_exprs f es) st)
 
@@ -216,7 +209,7 @@ initialise p w marks fr x (more_inits cell e is) st =
 
 -- a variable has new cells, which are indeterminate (6.2.4 paragraph 5)
 abbrev pub fresh : Structs → Frame → ℕ → Option CType → State → Result Exit
-fresh structs fr x None st = Stop (Undefined wrong_kind) []
+fresh structs fr x None st = Stop (Undefined U13) []
 fresh structs fr x (Some t) st = Go on (with_memory st (declared st.memory (name_in fr false x) (cells structs t))) []
 
 -- the variables that statements declare directly

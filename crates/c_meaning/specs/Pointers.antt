@@ -1,35 +1,35 @@
 -- Steps on values: places, pointers, tests (C99 6.3.2, 6.5.2, 6.5.3, 6.5.6, 6.5.8, 6.5.9).
-use Rattle.std.specs.Prelude.{ℕ, zero, suc, ◌+◌, ◌*◌, nat_lt, nat_eq, nat_le, if◌then◌else◌, Bool, true, false, not, ℤ, pos, negsuc, ◌+ℤ◌, ◌-ℤ◌, neg_ℤ, Option, Some, None}
+use Rattle.std.specs.Prelude.{ℕ, zero, suc, ◌+◌, ◌*◌, nat_lt, nat_eq, nat_le, if◌then◌else◌, Bool, true, false, not, ℤ, pos, negsuc, ◌+ℤ◌, ◌-ℤ◌, neg_ℤ}
 use Rattle.c_tree.specs.declared.value.ObjectName.{ObjectName}
 use Rattle.c_tree.specs.declared.value.Pointer.{Pointer}
 use Rattle.c_tree.specs.declared.value.Value.{Value}
 use Rattle.c_tree.specs.declared.value.Value.TheVariants.{Indeterminate, Int, Uint, Char, Uchar, Null, Func, At}
 use Rattle.c_tree.specs.declared.value.BinOp.{BinOp}
 use Rattle.c_tree.specs.declared.value.BinOp.TheVariants.{Mul, Div, Rem, Add, Sub, ShiftLeft, ShiftRight, BitAnd, BitXor, BitOr, Less, Greater, LessEqual, GreaterEqual, Equal, NotEqual}
-use Rattle.c_values.specs.Answers.{Answer, gives, undefined, and_then, null_pointer, out_of_array, other_array, wrong_kind}
+use Rattle.c_values.specs.Answers.{Answer, gives, undefined, and_then, U5, U7, U9, U13}
 use Rattle.c_values.specs.Memory.{Objects, object, element, load, store}
 
 -- a pointer to an object, which is not null
 abbrev pub pointer : Value → Answer Pointer
 pointer (At q) = gives q
-pointer Null = undefined null_pointer
-pointer Indeterminate = undefined wrong_kind
-pointer (Int n) = undefined wrong_kind
-pointer (Uint n) = undefined wrong_kind
-pointer (Char n) = undefined wrong_kind
-pointer (Uchar n) = undefined wrong_kind
-pointer (Func f) = undefined wrong_kind
+pointer Null = undefined U5
+pointer Indeterminate = undefined U13
+pointer (Int n) = undefined U13
+pointer (Uint n) = undefined U13
+pointer (Char n) = undefined U13
+pointer (Uchar n) = undefined U13
+pointer (Func f) = undefined U13
 
 -- a function, which is not null (6.5.2.2)
 abbrev pub callee : Value → Answer ℕ
 callee (Func f) = gives f
-callee Null = undefined null_pointer
-callee Indeterminate = undefined wrong_kind
-callee (Int n) = undefined wrong_kind
-callee (Uint n) = undefined wrong_kind
-callee (Char n) = undefined wrong_kind
-callee (Uchar n) = undefined wrong_kind
-callee (At q) = undefined wrong_kind
+callee Null = undefined U5
+callee Indeterminate = undefined U13
+callee (Int n) = undefined U13
+callee (Uint n) = undefined U13
+callee (Char n) = undefined U13
+callee (Uchar n) = undefined U13
+callee (At q) = undefined U13
 
 -- the number that an integer is
 abbrev pub number : Value → Answer ℤ
@@ -37,15 +37,15 @@ number (Int n) = gives n
 number (Uint n) = gives (pos n)
 number (Char n) = gives n
 number (Uchar n) = gives (pos n)
-number Indeterminate = undefined wrong_kind
-number Null = undefined wrong_kind
-number (Func f) = undefined wrong_kind
-number (At q) = undefined wrong_kind
+number Indeterminate = undefined U13
+number Null = undefined U13
+number (Func f) = undefined U13
+number (At q) = undefined U13
 
 -- 1 or 0 as an int (6.5.8 paragraph 6)
-abbrev pub truth : Bool → Value
-truth true = Int (pos 1)
-truth false = Int (pos 0)
+abbrev pub truth_value : Bool → Value
+truth_value true = Int (pos 1)
+truth_value false = Int (pos 0)
 
 -- A place is a pointer to the one element of an array of one.
 
@@ -84,8 +84,8 @@ abbrev pub at_index : Pointer → ℤ → Answer Value
 at_index q (pos i) =
     if nat_le i q.elements
     then gives (At (record { name = q.name; first = q.first; width = q.width; elements = q.elements; index = i }))
-    else undefined out_of_array
-at_index q (negsuc i) = undefined out_of_array
+    else undefined U7
+at_index q (negsuc i) = undefined U7
 
 -- so many elements on, or back (6.5.6 paragraph 8)
 abbrev pub offset : Bool → ℤ → ℤ
@@ -110,7 +110,7 @@ same_array a b =
 abbrev pub in_one_array : {A : Type 0} → Objects → Value → Value → (Pointer → Pointer → Answer A) → Answer A
 in_one_array m v w f =
     and_then (pointer v) (λ a. and_then (pointer w) (λ b.
-        and_then (object m a.name) (λ o. and_then (object m b.name) (λ o. if same_array a b then f a b else undefined other_array))))
+    and_then (object m a.name) (λ o. and_then (object m b.name) (λ o. if same_array a b then f a b else undefined U9))))
 
 -- how many elements the second is before the first (6.5.6 paragraph 9)
 abbrev pub difference : Objects → Value → Value → Answer Value
@@ -128,47 +128,47 @@ same_cell a b = if same_name a.name b.name then nat_eq (a.first + a.index * a.wi
 abbrev pub equal_to_at : Pointer → Value → Answer Bool
 equal_to_at a (At b) = gives (same_cell a b)
 equal_to_at a Null = gives false
-equal_to_at a w = undefined wrong_kind
+equal_to_at a w = undefined U13
 
 abbrev pub equal_to_function : ℕ → Value → Answer Bool
 equal_to_function f (Func g) = gives (nat_eq f g)
 equal_to_function f Null = gives false
-equal_to_function f w = undefined wrong_kind
+equal_to_function f w = undefined U13
 
 abbrev pub equal_to_null : Value → Answer Bool
 equal_to_null Null = gives true
 equal_to_null (At b) = gives false
 equal_to_null (Func g) = gives false
-equal_to_null w = undefined wrong_kind
+equal_to_null w = undefined U13
 
 -- whether two pointers are equal (6.5.9 paragraph 6)
 abbrev pub equal_pointers : Value → Value → Answer Bool
 equal_pointers (At a) w = equal_to_at a w
 equal_pointers (Func f) w = equal_to_function f w
 equal_pointers Null w = equal_to_null w
-equal_pointers v w = undefined wrong_kind
+equal_pointers v w = undefined U13
 
 abbrev pub equality : Objects → Value → Value → Answer Bool
 equality m v w = and_then (alive m v) (λ v. and_then (alive m w) (λ w. equal_pointers v w))
 
 -- a comparison of two pointers (6.5.8 paragraph 5, 6.5.9)
 abbrev pub compared : Objects → BinOp → Value → Value → Answer Value
-compared m Less v w = in_one_array m v w (λ a b. gives (truth (nat_lt a.index b.index)))
-compared m Greater v w = in_one_array m v w (λ a b. gives (truth (nat_lt b.index a.index)))
-compared m LessEqual v w = in_one_array m v w (λ a b. gives (truth (nat_le a.index b.index)))
-compared m GreaterEqual v w = in_one_array m v w (λ a b. gives (truth (nat_le b.index a.index)))
-compared m Equal v w = and_then (equality m v w) (λ same. gives (truth same))
-compared m NotEqual v w = and_then (equality m v w) (λ same. gives (truth (not same)))
-compared m Mul v w = undefined wrong_kind
-compared m Div v w = undefined wrong_kind
-compared m Rem v w = undefined wrong_kind
-compared m Add v w = undefined wrong_kind
-compared m Sub v w = undefined wrong_kind
-compared m ShiftLeft v w = undefined wrong_kind
-compared m ShiftRight v w = undefined wrong_kind
-compared m BitAnd v w = undefined wrong_kind
-compared m BitXor v w = undefined wrong_kind
-compared m BitOr v w = undefined wrong_kind
+compared m Less v w = in_one_array m v w (λ a b. gives (truth_value (nat_lt a.index b.index)))
+compared m Greater v w = in_one_array m v w (λ a b. gives (truth_value (nat_lt b.index a.index)))
+compared m LessEqual v w = in_one_array m v w (λ a b. gives (truth_value (nat_le a.index b.index)))
+compared m GreaterEqual v w = in_one_array m v w (λ a b. gives (truth_value (nat_le b.index a.index)))
+compared m Equal v w = and_then (equality m v w) (λ same. gives (truth_value same))
+compared m NotEqual v w = and_then (equality m v w) (λ same. gives (truth_value (not same)))
+compared m Mul v w = undefined U13
+compared m Div v w = undefined U13
+compared m Rem v w = undefined U13
+compared m Add v w = undefined U13
+compared m Sub v w = undefined U13
+compared m ShiftLeft v w = undefined U13
+compared m ShiftRight v w = undefined U13
+compared m BitAnd v w = undefined U13
+compared m BitXor v w = undefined U13
+compared m BitOr v w = undefined U13
 
 -- whether a whole number is not 0
 abbrev pub is_not_zero : ℤ → Bool
@@ -185,4 +185,4 @@ test m (Uchar n) = gives (is_not_zero (pos n))
 test m Null = gives false
 test m (Func f) = gives true
 test m (At q) = and_then (object m q.name) (λ o. gives true)
-test m Indeterminate = undefined wrong_kind
+test m Indeterminate = undefined U13

@@ -1,5 +1,5 @@
 -- Runs of a program: it enters main with its static objects as they begin (C99 5.1.2.2.3, 6.7.8 paragraph 10).
-use Rattle.std.specs.Prelude.{ℕ, zero, suc, nat_eq, Bool, true, ℤ, pos, List, [], ◌∷◌, length, Option, Some, None, slice_get}
+use Rattle.std.specs.Prelude.{ℕ, zero, suc, nat_eq, Bool, true, pos, List, [], ◌∷◌, Option, Some, None, slice_get}
 use Rattle.std.specs.FinMap.{insert, empty as no_objects}
 use Rattle.dm_base.specs.declared.event.Event.{Event}
 use Rattle.dm_base.specs.declared.outcome.Outcome.{Outcome}
@@ -8,10 +8,10 @@ use Rattle.sys_table.specs.declared.sys_result.SysResult.{SysResult}
 use Rattle.c_tree.specs.declared.value.Value.{Value}
 use Rattle.c_tree.specs.declared.value.Value.TheVariants.{Indeterminate, Int}
 use Rattle.c_tree.specs.Tree.{Function, Static, Program}
-use Rattle.c_values.specs.Answers.{no_result, wrong_kind}
+use Rattle.c_values.specs.Answers.{U11, U13}
 use Rattle.c_values.specs.Memory.{Objects}
 use Rattle.c_meaning.specs.Meaning.{Marks, Frame, Loop, World, either, condition, perhaps, exec, without}
-use Rattle.c_meaning.specs.Results.{State, with_memory, Result, Go, Stop, then_do, spend, Exit, on, broken, continued, returned, on_exit, on_round}
+use Rattle.c_meaning.specs.Results.{State, with_memory, Result, Go, Stop, then_do, spend, Exit, on, broken, continued, returned, on_round}
 
 -- the parameters of an activation, each an object of one cell (6.9.1 paragraph 9)
 abbrev pub with_parameters : ℕ → ℕ → List Value → Objects → Objects
@@ -30,19 +30,19 @@ entered vs st =
 
 -- a function that ends without a value: main gives 0 (5.1.2.2.3), and another whose value is wanted owes one (6.9.1 paragraph 12)
 abbrev pub without_value : Bool → Bool → State → Result Value
-without_value is_main wanted st = either is_main (Go (Int (pos 0)) st []) (either wanted (Stop (Undefined no_result) []) (Go Indeterminate st []))
+without_value is_main wanted st = either is_main (Go (Int (pos 0)) st []) (either wanted (Stop (Undefined U11) []) (Go Indeterminate st []))
 
 -- what a call gives, by how the function's body is left
 abbrev pub result_of : Bool → Bool → Exit → State → Result Value
 result_of is_main wanted (returned (Some v)) st = Go v st []
 result_of is_main wanted (returned None) st = without_value is_main wanted st
 result_of is_main wanted on st = without_value is_main wanted st
-result_of is_main wanted broken st = Stop (Undefined wrong_kind) []
-result_of is_main wanted continued st = Stop (Undefined wrong_kind) []
+result_of is_main wanted broken st = Stop (Undefined U13) []
+result_of is_main wanted continued st = Stop (Undefined U13) []
 
 -- the body of a function in a new activation; its parameters end with it
 abbrev pub run_body : Program → World → Marks → Bool → Bool → Option Function → List Value → State → Result Value
-run_body p w marks is_main wanted None vs st = Stop (Undefined wrong_kind) []
+run_body p w marks is_main wanted None vs st = Stop (Undefined U13) []
 run_body p w marks is_main wanted (Some g) vs st =
     then_do (exec p w marks (record { activation = suc st.entries; types = g.variables }) g.body (entered vs st))
     (λ x after. result_of is_main wanted x (with_memory after (without (suc st.entries) (parameters 0 vs) after.memory)))
@@ -55,9 +55,9 @@ enter p w marks wanted f vs st = spend st (λ st. run_body p w marks (nat_eq f p
 abbrev pub loop : Program → World → Marks → Frame → Loop → State → Result Exit
 loop p w marks fr l st =
     spend st (λ st. then_do (condition p w marks fr l.test st) (λ holds st.
-        either holds
-        (then_do (exec p w marks fr l.body st) (λ x st. on_round x st (λ st. then_do (perhaps p w marks fr l.step st) (λ y st. w.again fr l st))))
-        (Go on st [])))
+    either holds
+    (then_do (exec p w marks fr l.body st) (λ x st. on_round x st (λ st. then_do (perhaps p w marks fr l.step st) (λ y st. w.again fr l st))))
+    (Go on st [])))
 
 -- what so many turns are enough for
 abbrev pub world : Program → Marks → ℕ → World
@@ -83,7 +83,7 @@ pub record Run : Type 0 where
 
 abbrev pub exit_of : Value → Outcome
 exit_of (Int z) = ended_by z
-exit_of v = Undefined wrong_kind
+exit_of v = Undefined U13
 
 abbrev pub ending : Result Value → Run
 ending (Go v st t) = record { outcome = exit_of v; trace = t }

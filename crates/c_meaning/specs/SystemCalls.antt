@@ -4,9 +4,7 @@ use Rattle.std.specs.Prelude.{ℕ, zero, suc, ◌+◌, ◌-◌, ◌*◌, ◌^◌
 use Rattle.std.specs.Ordering.{int_eq}
 use Rattle.dm_base.specs.declared.event.Arg.{Arg}
 use Rattle.dm_base.specs.declared.event.Arg.TheVariants as args
-use Rattle.dm_base.specs.declared.event.Event.{Event}
 use Rattle.dm_base.specs.declared.event.Event.TheVariants.{Sys}
-use Rattle.dm_base.specs.declared.outcome.Outcome.{Outcome}
 use Rattle.dm_base.specs.declared.outcome.Outcome.TheVariants.{Exit as ended_by, Results, BadResult}
 use Rattle.sys_table.specs.declared.kinds.ResultKind.{ResultKind}
 use Rattle.sys_table.specs.declared.kinds.ResultKind.TheVariants as kinds
@@ -14,11 +12,12 @@ use Rattle.sys_table.specs.declared.sys_result.SysResult.{SysResult}
 use Rattle.sys_table.specs.Table.{result_of}
 use Rattle.c_tree.specs.declared.value.Pointer.{Pointer}
 use Rattle.c_tree.specs.declared.value.Value.{Value}
-use Rattle.c_tree.specs.declared.value.Value.TheVariants.{Indeterminate, Int, Uint, Char, Uchar, Null, Func, At}
-use Rattle.c_values.specs.Answers.{Answer, gives, undefined, and_then, indeterminate_cell, null_pointer, short_buffer, wrong_kind}
+use Rattle.c_tree.specs.declared.value.Value.TheVariants.{Indeterminate, Int, Uint, Char, Null, At}
+use Rattle.c_tree.specs.Operators.{fits_int}
+use Rattle.c_values.specs.Answers.{Answer, gives, undefined, and_then, U4, U5, U12, U13}
 use Rattle.c_values.specs.Memory.{Objects, Object, object, writable, store}
 use Rattle.c_meaning.specs.Pointers.{pointer, number}
-use Rattle.c_meaning.specs.Results.{State, with_memory, Result, Go, Stop, after, then_do, answered, remembered}
+use Rattle.c_meaning.specs.Results.{State, Result, Stop, after, then_do, answered, remembered}
 
 -- the byte that a char stands for, and back (6.2.5 paragraph 15: char is signed here)
 abbrev pub byte_of : ℤ → ℕ
@@ -32,8 +31,8 @@ char_of b = if nat_lt b 128 then pos b else negsuc (255 - b)
 abbrev pub bytes_in : List Value → Answer (List ℕ)
 bytes_in [] = gives []
 bytes_in (Char c ∷ vs) = and_then (bytes_in vs) (λ bytes. gives (byte_of c ∷ bytes))
-bytes_in (Indeterminate ∷ vs) = undefined indeterminate_cell
-bytes_in (v ∷ vs) = undefined wrong_kind
+bytes_in (Indeterminate ∷ vs) = undefined U4
+bytes_in (v ∷ vs) = undefined U13
 
 -- the cells of so many elements of an array of chars, from the one that is pointed to
 abbrev pub cells_from : Pointer → ℕ → Object → List Value
@@ -53,7 +52,7 @@ before_zero [] = None
 before_zero (v ∷ vs) = if is_zero v then Some [] else put_first v (before_zero vs)
 
 abbrev pub bytes_where : Option (List Value) → Answer (List ℕ)
-bytes_where None = undefined short_buffer
+bytes_where None = undefined U12
 bytes_where (Some vs) = bytes_in vs
 
 -- the bytes of a string argument before its zero, which has to stand in its array
@@ -62,7 +61,7 @@ string m q = and_then (object m q.name) (λ o. bytes_where (before_zero (cells_f
 
 -- the array has so many elements from the one that is pointed to
 abbrev pub has_room : {A : Type 0} → Pointer → ℕ → Answer A → Answer A
-has_room q n rest = if nat_le (q.index + n) q.elements then rest else undefined short_buffer
+has_room q n rest = if nat_le (q.index + n) q.elements then rest else undefined U12
 
 -- the bytes of a buffer that write is given; a buffer of no bytes isn't looked at
 abbrev pub bytes_of_buffer : Objects → Value → ℕ → Answer (List ℕ)
@@ -79,7 +78,7 @@ room_for m v (suc n) =
 -- a size in bytes
 abbrev pub size : Value → Answer ℕ
 size (Uint n) = gives n
-size v = undefined wrong_kind
+size v = undefined U13
 
 -- what a system call asks for: the arguments that are recorded, how many bytes, and where read's data goes
 pub record Request : Type 0 where
@@ -95,8 +94,8 @@ abbrev pub argument : Objects → Value → Answer Arg
 argument m (Int n) = gives (args.Int n)
 argument m (Uint n) = gives (args.Int (pos n))
 argument m (At q) = and_then (string m q) (λ bytes. gives (args.Bytes bytes))
-argument m Null = undefined null_pointer
-argument m v = undefined wrong_kind
+argument m Null = undefined U5
+argument m v = undefined U13
 
 abbrev pub arguments : Objects → List Value → Answer (List Arg)
 arguments m [] = gives []
@@ -106,27 +105,23 @@ arguments m (v ∷ vs) = and_then (argument m v) (λ a. and_then (arguments m vs
 abbrev pub read_request : Objects → Value → Value → Value → Answer Request
 read_request m fd buffer n =
     and_then (number fd) (λ fd. and_then (size n) (λ n. and_then (room_for m buffer n) (λ room.
-        gives (record { arguments = args.Int fd ∷ args.Int (pos n) ∷ []; asked = n; buffer = room }))))
+    gives (record { arguments = args.Int fd ∷ args.Int (pos n) ∷ []; asked = n; buffer = room }))))
 
 -- write(fd, buffer, size)
 abbrev pub write_request : Objects → Value → Value → Value → Answer Request
 write_request m fd buffer n =
     and_then (number fd) (λ fd. and_then (size n) (λ n. and_then (bytes_of_buffer m buffer n) (λ bytes.
-        gives (record { arguments = args.Int fd ∷ args.Bytes bytes ∷ []; asked = n; buffer = None }))))
+    gives (record { arguments = args.Int fd ∷ args.Bytes bytes ∷ []; asked = n; buffer = None }))))
 
 -- what the system call with this number asks for, with these arguments
 abbrev pub request : ℕ → Objects → List Value → Answer Request
 request zero m (fd ∷ buffer ∷ n ∷ []) = read_request m fd buffer n
-request zero m vs = undefined wrong_kind
+request zero m vs = undefined U13
 request (suc zero) m (fd ∷ buffer ∷ n ∷ []) = write_request m fd buffer n
-request (suc zero) m vs = undefined wrong_kind
+request (suc zero) m vs = undefined U13
 request (suc (suc x)) m vs = and_then (arguments m vs) (λ recorded. gives (request_of recorded))
 
--- whether a whole number fits an int, or an unsigned int
-abbrev pub fits_int : ℤ → Bool
-fits_int (pos n) = nat_lt n (2 ^ 31)
-fits_int (negsuc n) = nat_lt n (2 ^ 31)
-
+-- whether a whole number fits an unsigned int
 abbrev pub fits_unsigned : ℤ → Bool
 fits_unsigned (pos n) = nat_lt n (2 ^ 32)
 fits_unsigned (negsuc n) = false

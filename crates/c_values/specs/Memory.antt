@@ -7,7 +7,7 @@ use Rattle.c_tree.specs.declared.value.ObjectName.{ObjectName}
 use Rattle.c_tree.specs.declared.value.Pointer.{Pointer}
 use Rattle.c_tree.specs.declared.value.Value.{Value}
 use Rattle.c_tree.specs.declared.value.Value.TheVariants.{Indeterminate, Int, Uint, Char, Uchar, Null, Func, At}
-use Rattle.c_values.specs.Answers.{Answer, gives, undefined, and_then, indeterminate_cell, ended_object, one_past, string_literal, wrong_kind}
+use Rattle.c_values.specs.Answers.{Answer, gives, undefined, and_then, U4, U6, U8, U10, U13}
 
 -- names are ordered by activation, and then by variable
 abbrev pub name_cmp : ObjectName → ObjectName → Ordering
@@ -36,7 +36,7 @@ ended m x = remove m x
 
 -- the object; a name without one is that of an object that has ended
 abbrev pub there : Option Object → Answer Object
-there None = undefined ended_object
+there None = undefined U6
 there (Some o) = gives o
 
 abbrev pub object : Objects → ObjectName → Answer Object
@@ -44,12 +44,12 @@ object m x = there (get m x)
 
 -- the first cell of the element that is pointed to
 abbrev pub element : Pointer → Answer ℕ
-element q = if nat_lt q.index q.elements then gives (q.first + q.index * q.width) else undefined one_past
+element q = if nat_lt q.index q.elements then gives (q.first + q.index * q.width) else undefined U8
 
 -- the value of a cell
 abbrev pub cell_value : Option Value → Answer Value
-cell_value None = undefined wrong_kind
-cell_value (Some Indeterminate) = undefined indeterminate_cell
+cell_value None = undefined U13
+cell_value (Some Indeterminate) = undefined U4
 cell_value (Some (Int n)) = gives (Int n)
 cell_value (Some (Uint n)) = gives (Uint n)
 cell_value (Some (Char n)) = gives (Char n)
@@ -65,15 +65,15 @@ load m q cell =
 
 -- the cells of an object that may be stored to
 abbrev pub writable : Object → Answer (List Value)
-writable o = if o.string then undefined string_literal else gives o.cells
+writable o = if o.string then undefined U10 else gives o.cells
 
 -- an object with one cell changed
 abbrev pub set_cell : List Value → ℕ → Value → Option Value → Answer Object
-set_cell cells i v None = undefined wrong_kind
+set_cell cells i v None = undefined U13
 set_cell cells i v (Some old) = gives (record { cells = slice_set cells i v; string = false })
 
 -- a cell of the element that is pointed to has the value from now on
 abbrev pub store : Objects → Pointer → ℕ → Value → Answer Objects
 store m q cell v =
     and_then (object m q.name) (λ o. and_then (element q) (λ first. and_then (writable o) (λ cells.
-        and_then (set_cell cells (first + cell) v (slice_get cells (first + cell))) (λ new. gives (insert m q.name new)))))
+    and_then (set_cell cells (first + cell) v (slice_get cells (first + cell))) (λ new. gives (insert m q.name new)))))
