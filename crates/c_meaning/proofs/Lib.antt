@@ -1,1 +1,3 @@
+pub mod ErasedParts
+pub mod Erasing
 pub mod RunTrials

@@ -55,13 +55,14 @@ abbrev pub either : {A : Type 0} → Bool → A → A → A
 either true a b = a
 either false a b = b
 
--- the object of a variable: of the running activation, or static
-abbrev pub name_in : Frame → Bool → ℕ → ObjectName
-name_in fr true n = record { activation = 0; variable = n }
-name_in fr false n = record { activation = fr.activation; variable = n }
-
+-- the name of a static object or a string
 abbrev pub static_name : ℕ → ObjectName
 static_name n = record { activation = 0; variable = n }
+
+-- the name of a variable: a static one, or one of the activation that runs
+abbrev pub name_in : Frame → Bool → ℕ → ObjectName
+name_in fr true n = static_name n
+name_in fr false n = record { activation = fr.activation; variable = n }
 
 -- what is behind a pointer to this type (6.5.3.2 paragraph 4)
 abbrev pub behind_of : CType → Objects → Value → Answer Value

@@ -5,7 +5,7 @@ use Rattle.std.specs.Ordering.{int_eq}
 use Rattle.dm_base.specs.declared.event.Arg.{Arg}
 use Rattle.dm_base.specs.declared.event.Arg.TheVariants as args
 use Rattle.dm_base.specs.declared.event.Event.TheVariants.{Sys}
-use Rattle.dm_base.specs.declared.outcome.Outcome.TheVariants.{Exit as ended_by, Results, BadResult}
+use Rattle.dm_base.specs.declared.outcome.Outcome.TheVariants.{Exit as ended_by, Undefined, Results, BadResult}
 use Rattle.sys_table.specs.declared.kinds.ResultKind.{ResultKind}
 use Rattle.sys_table.specs.declared.kinds.ResultKind.TheVariants as kinds
 use Rattle.sys_table.specs.declared.sys_result.SysResult.{SysResult}
@@ -192,7 +192,7 @@ exit_call = 23
 -- _exit ends the run with its argument
 abbrev pub exit_with : List Arg → Result Value
 exit_with (args.Int status ∷ []) = Stop (ended_by status) (Sys exit_call (args.Int status ∷ []) (pos 0) ∷ [])
-exit_with others = Stop (ended_by (pos 0)) []
+exit_with others = Stop (Undefined U13) []
 
 -- the system call with this number and these arguments
 abbrev pub system_call : ℕ → List Value → State → Result Value

@@ -25,11 +25,6 @@ Objects = FinMap name_cmp Object
 abbrev pub declared : Objects → ObjectName → ℕ → Objects
 declared m x n = insert m x (record { cells = replicate n Indeterminate; string = false })
 
--- the object is a string literal from now on
-abbrev pub sealed : Objects → ObjectName → Option Object → Objects
-sealed m x None = m
-sealed m x (Some o) = insert m x (record { cells = o.cells; string = true })
-
 -- the object has ended
 abbrev pub ended : Objects → ObjectName → Objects
 ended m x = remove m x
