@@ -1,4 +1,5 @@
 pub mod Meaning
+pub mod More
 pub mod NullCalls
 pub mod Pointers
 pub mod Results

@@ -7,7 +7,7 @@ use Rattle.c_tree.specs.declared.value.Value.TheVariants.{Indeterminate, Int, Ui
 use Rattle.c_tree.specs.declared.value.BinOp.{BinOp}
 use Rattle.c_tree.specs.declared.value.BinOp.TheVariants.{Mul, Div, Rem, Add, Sub, ShiftLeft, ShiftRight, BitAnd, BitXor, BitOr, Less, Greater, LessEqual, GreaterEqual, Equal, NotEqual}
 use Rattle.c_values.specs.Answers.{Answer, gives, undefined, and_then, U5, U7, U9, U13}
-use Rattle.c_values.specs.Memory.{Objects, object, element, load, store}
+use Rattle.c_values.specs.Memory.{Objects, same_name, object, element, load, store}
 
 -- a pointer to an object, which is not null
 abbrev pub pointer : Value → Answer Pointer
@@ -95,9 +95,6 @@ offset false n = n
 abbrev pub moved : Objects → Bool → Value → Value → Answer Value
 moved m subtracted v n =
     and_then (pointer v) (λ q. and_then (object m q.name) (λ o. and_then (number n) (λ n. at_index q (pos q.index +ℤ offset subtracted n))))
-
-abbrev pub same_name : ObjectName → ObjectName → Bool
-same_name a b = if nat_eq a.activation b.activation then nat_eq a.variable b.variable else false
 
 -- whether both point into one array
 abbrev pub same_array : Pointer → Pointer → Bool

@@ -1,6 +1,5 @@
 -- Runs of a program: it enters main with its static objects as they begin (C99 5.1.2.2.3, 6.7.8 paragraph 10).
-use Rattle.std.specs.Prelude.{ℕ, zero, suc, nat_eq, Bool, true, pos, List, [], ◌∷◌, Option, Some, None, slice_get}
-use Rattle.std.specs.FinMap.{insert, empty as no_objects}
+use Rattle.std.specs.Prelude.{ℕ, zero, suc, nat_eq, Bool, true, false, pos, List, [], ◌∷◌, Option, Some, None, slice_get}
 use Rattle.dm_base.specs.declared.event.Event.{Event}
 use Rattle.dm_base.specs.declared.outcome.Outcome.{Outcome}
 use Rattle.dm_base.specs.declared.outcome.Outcome.TheVariants.{Exit as ended_by, Undefined, Turns}
@@ -9,15 +8,15 @@ use Rattle.c_tree.specs.declared.value.Value.{Value}
 use Rattle.c_tree.specs.declared.value.Value.TheVariants.{Indeterminate, Int}
 use Rattle.c_tree.specs.Tree.{Function, Static, Program}
 use Rattle.c_values.specs.Answers.{U11, U13}
-use Rattle.c_values.specs.Memory.{Objects}
-use Rattle.c_meaning.specs.Meaning.{Marks, Frame, Loop, World, either, condition, perhaps, exec, without}
+use Rattle.c_values.specs.Memory.{Objects, no_objects, changed}
+use Rattle.c_meaning.specs.Meaning.{Marks, Frame, Loop, World, either, static_name, condition, perhaps, exec, without}
 use Rattle.c_meaning.specs.Results.{State, with_memory, Result, Go, Stop, then_do, spend, Exit, on, broken, continued, returned, on_round}
 
 -- the parameters of an activation, each an object of one cell (6.9.1 paragraph 9)
 abbrev pub with_parameters : ℕ → ℕ → List Value → Objects → Objects
 with_parameters activation x [] m = m
 with_parameters activation x (v ∷ vs) m =
-    with_parameters activation (suc x) vs (insert m (record { activation = activation; variable = x }) (record { cells = v ∷ []; string = Bool.false }))
+    with_parameters activation (suc x) vs (changed m (record { activation = activation; variable = x }) (Some (record { cells = v ∷ []; string = false })))
 
 -- the numbers of so many parameters
 abbrev pub parameters : ℕ → List Value → List ℕ
@@ -70,7 +69,7 @@ world p marks (suc n) = record {
 -- the static objects and strings before the run
 abbrev pub first_objects : ℕ → List Static → Objects
 first_objects x [] = no_objects
-first_objects x (s ∷ rest) = insert (first_objects (suc x) rest) (record { activation = 0; variable = x }) (record { cells = s.cells; string = s.string })
+first_objects x (s ∷ rest) = changed (first_objects (suc x) rest) (static_name x) (Some (record { cells = s.cells; string = s.string }))
 
 -- the state in which a run begins
 abbrev pub beginning : Program → List SysResult → ℕ → State

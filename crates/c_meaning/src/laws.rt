@@ -1,8 +1,16 @@
+ghost use Rattle.c_meaning.specs.More.{MoreRecordsChangeNothing, MoreTurnsChangeNothing};
 ghost use Rattle.c_meaning.specs.NullCalls.{NullCallsChangeNothing};
 
 /// Null calls round the calls of a program change nothing of its runs: they have the same outcome, make the same
 /// system calls with the same results, and write the same bytes. This holds for every program, also one that makes
-/// null calls itself.
+/// null calls itself. The function does nothing.
 pub fn null_calls_change_nothing()
     ensures { NullCallsChangeNothing }
+{}
+
+/// A run that did not end for want of a recorded result is the same with more of them, and one that did not end for
+/// want of turns is the same with more of those. The function does nothing.
+pub fn more_changes_nothing()
+    ensures records { MoreRecordsChangeNothing }
+    ensures turns { MoreTurnsChangeNothing }
 {}

@@ -3,4 +3,4 @@
 
 mod laws;
 
-pub use laws::null_calls_change_nothing;
+pub use laws::{more_changes_nothing, null_calls_change_nothing};

@@ -1,33 +1,38 @@
 -- Memory: the objects that there are, by their names (C99 3.14, 6.2.4). Each scalar is one cell.
-use Rattle.std.specs.Prelude.{ℕ, ◌+◌, ◌*◌, nat_lt, if◌then◌else◌, Bool, true, false, List, replicate, Option, Some, None, slice_get, slice_set}
-use Rattle.std.specs.FinMap.{FinMap, get, insert, remove}
-use Rattle.std.specs.Ordering.{nat_cmp, ordering_then}
-use Rattle.std.specs.declared.cmp.Ordering.{Ordering}
+use Rattle.std.specs.Prelude.{ℕ, ◌+◌, ◌*◌, nat_lt, nat_eq, if◌then◌else◌, Bool, true, false, List, replicate, Option, Some, None, slice_get, slice_set}
 use Rattle.c_tree.specs.declared.value.ObjectName.{ObjectName}
 use Rattle.c_tree.specs.declared.value.Pointer.{Pointer}
 use Rattle.c_tree.specs.declared.value.Value.{Value}
 use Rattle.c_tree.specs.declared.value.Value.TheVariants.{Indeterminate, Int, Uint, Char, Uchar, Null, Func, At}
 use Rattle.c_values.specs.Answers.{Answer, gives, undefined, and_then, U4, U6, U8, U10, U13}
 
--- names are ordered by activation, and then by variable
-abbrev pub name_cmp : ObjectName → ObjectName → Ordering
-name_cmp a b = ordering_then (nat_cmp a.activation b.activation) (nat_cmp a.variable b.variable)
+-- whether two names are the same
+abbrev pub same_name : ObjectName → ObjectName → Bool
+same_name a b = if nat_eq a.activation b.activation then nat_eq a.variable b.variable else false
 
 -- the values of an object's cells, and whether it is a string literal
 pub record Object : Type 0 where
   pub cells : List Value
   pub string : Bool
 
+-- the object that has a name, where there is one
 abbrev pub Objects : Type 0
-Objects = FinMap name_cmp Object
+Objects = ObjectName → Option Object
+
+abbrev pub no_objects : Objects
+no_objects x = None
+
+-- the name has this object, or none, from now on; the others are as before
+abbrev pub changed : Objects → ObjectName → Option Object → Objects
+changed m x o y = if same_name x y then o else m y
 
 -- the name has so many indeterminate cells from now on
 abbrev pub declared : Objects → ObjectName → ℕ → Objects
-declared m x n = insert m x (record { cells = replicate n Indeterminate; string = false })
+declared m x n = changed m x (Some (record { cells = replicate n Indeterminate; string = false }))
 
 -- the object has ended
 abbrev pub ended : Objects → ObjectName → Objects
-ended m x = remove m x
+ended m x = changed m x None
 
 -- the object; a name without one is that of an object that has ended
 abbrev pub there : Option Object → Answer Object
@@ -35,7 +40,7 @@ there None = undefined U6
 there (Some o) = gives o
 
 abbrev pub object : Objects → ObjectName → Answer Object
-object m x = there (get m x)
+object m x = there (m x)
 
 -- the first cell of the element that is pointed to
 abbrev pub element : Pointer → Answer ℕ
@@ -71,4 +76,4 @@ set_cell cells i v (Some old) = gives (record { cells = slice_set cells i v; str
 abbrev pub store : Objects → Pointer → ℕ → Value → Answer Objects
 store m q cell v =
     and_then (object m q.name) (λ o. and_then (element q) (λ first. and_then (writable o) (λ cells.
-    and_then (set_cell cells (first + cell) v (slice_get cells (first + cell))) (λ new. gives (insert m q.name new)))))
+    and_then (set_cell cells (first + cell) v (slice_get cells (first + cell))) (λ new. gives (changed m q.name (Some new))))))
