@@ -1,5 +1,8 @@
+pub mod Answering
+pub mod BadResultLemmas
 pub mod ErasedParts
 pub mod Erasing
+pub mod Kept
 pub mod Longer
 pub mod LongerParts
 pub mod OrderTrials

@@ -1,7 +1,9 @@
+pub mod BadResults
 pub mod Meaning
 pub mod More
 pub mod NullCalls
 pub mod Pointers
+pub mod Records
 pub mod Results
 pub mod Runs
 pub mod SystemCalls

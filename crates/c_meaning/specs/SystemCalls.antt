@@ -1,6 +1,6 @@
 -- What a system call does: its buffers and strings are tested, it takes the next recorded result, its event is made, and read
 -- stores its data.
-use Rattle.std.specs.Prelude.{ℕ, zero, suc, ◌+◌, ◌-◌, ◌*◌, ◌^◌, nat_lt, nat_le, nat_eq, if◌then◌else◌, Bool, true, false, ℤ, pos, negsuc, nat_abs, List, [], ◌∷◌, length, take, drop, Option, Some, None}
+use Rattle.std.specs.Prelude.{ℕ, zero, suc, ◌+◌, ◌-◌, ◌*◌, ◌^◌, nat_lt, nat_le, nat_eq, if◌then◌else◌, Bool, true, false, ◌&&◌, ℤ, pos, negsuc, nat_abs, List, [], ◌∷◌, length, take, drop, Option, Some, None}
 use Rattle.std.specs.Ordering.{int_eq}
 use Rattle.dm_base.specs.declared.event.Arg.{Arg}
 use Rattle.dm_base.specs.declared.event.Arg.TheVariants as args
@@ -139,20 +139,19 @@ is_empty (b ∷ bytes) = false
 abbrev pub answers_read : ℕ → List ℕ → ℤ → Bool
 answers_read asked bytes (negsuc zero) = is_empty bytes
 answers_read asked bytes (negsuc (suc n)) = false
-answers_read asked bytes (pos n) =
-    if nat_eq n (length bytes) then (if nat_le n asked then fits_int (pos n) else false) else false
+answers_read asked bytes (pos n) = nat_eq n (length bytes) && (nat_le n asked && fits_int (pos n))
 
 -- whether it answers write of so many bytes: −1 to as many, without data
 abbrev pub answers_write : ℕ → List ℕ → ℤ → Bool
 answers_write asked bytes (negsuc zero) = is_empty bytes
 answers_write asked bytes (negsuc (suc n)) = false
-answers_write asked bytes (pos n) = if is_empty bytes then (if nat_le n asked then fits_int (pos n) else false) else false
+answers_write asked bytes (pos n) = is_empty bytes && (nat_le n asked && fits_int (pos n))
 
 -- whether the recorded result answers the system call with this number
 abbrev pub does_answer : ℕ → ℕ → SysResult → Bool
 does_answer zero asked r = answers_read asked r.bytes r.value
 does_answer (suc zero) asked r = answers_write asked r.bytes r.value
-does_answer (suc (suc x)) asked r = if is_empty r.bytes then fits_result (result_of (suc (suc x))) r.value else false
+does_answer (suc (suc x)) asked r = is_empty r.bytes && fits_result (result_of (suc (suc x))) r.value
 
 -- what a system call gives
 abbrev pub result_value : ResultKind → ℤ → Value

@@ -1,5 +1,7 @@
+ghost use Rattle.c_meaning.specs.BadResults.{BadResultsAreRecorded};
 ghost use Rattle.c_meaning.specs.More.{MoreRecordsChangeNothing, MoreTurnsChangeNothing};
 ghost use Rattle.c_meaning.specs.NullCalls.{NullCallsChangeNothing};
+ghost use Rattle.c_meaning.specs.Records.{RecordsAreJudged};
 
 /// Null calls round the calls of a program change nothing of its runs: they have the same outcome, make the same
 /// system calls with the same results, and write the same bytes. This holds for every program, also one that makes
@@ -13,4 +15,12 @@ pub fn null_calls_change_nothing()
 pub fn more_changes_nothing()
     ensures records { MoreRecordsChangeNothing }
     ensures turns { MoreTurnsChangeNothing }
+{}
+
+/// A run takes a recorded result for a system call exactly where the result answers the call by the rules of
+/// `sys_table`, and the number of a bad result, counted from 1, is that of one of the recorded results. The
+/// function does nothing.
+pub fn records_are_judged()
+    ensures answers { RecordsAreJudged }
+    ensures bad_result { BadResultsAreRecorded }
 {}

@@ -3,4 +3,4 @@
 
 mod laws;
 
-pub use laws::{more_changes_nothing, null_calls_change_nothing};
+pub use laws::{more_changes_nothing, null_calls_change_nothing, records_are_judged};
