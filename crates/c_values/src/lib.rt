@@ -1,5 +1,6 @@
-//! Values and memory of a C program as its run uses them.
+//! Values and memory of a C program as its run uses them: definitions, and laws on them.
 #![tactic(auto)]
 
-/// The definitions of this crate stand in its specifications.
-pub fn definitions_stand() {}
+mod laws;
+
+pub use laws::memory_keeps_values;
