@@ -8,7 +8,7 @@ use Rattle.c_tree.specs.Tree.{Expr, constant, function_name, string_place, varia
 use Rattle.c_tree.specs.Tree.{Exprs, no_exprs, more_exprs, Maybe, absent, there, Inits, no_inits, more_inits}
 use Rattle.c_tree.specs.Tree.{Stmt, block, empty, evaluate, declare, if_else, while_loop, do_loop, for_loop, switch_on, break_off, continue_on, return_void, return_value, Stmts, no_stmts, more_stmts, Groups, no_groups, more_groups}
 use Rattle.c_tree.specs.Functions.{defined}
-use Rattle.c_meaning.specs.Meaning.{Marks, Frame, Loop, World, either, bracketed, tested, called, call_undefined, wants, eval, eval_each, eval_all, condition, perhaps, initialise, fresh, leaving, declared_in, exec, exec_all, exec_from, selected}
+use Rattle.c_meaning.specs.Meaning.{Marks, Frame, Loop, World, either, bracketed, tested, called, call_undefined, called_through, system_call_alone, wants, eval, eval_each, eval_all, condition, perhaps, initialise, fresh, leaving, declared_in, exec, exec_all, exec_from, selected}
 use Rattle.c_meaning.specs.Pointers.{callee}
 use Rattle.c_meaning.specs.Results.{State, Result, Go, Stop, then_do, answered, Exit}
 use Rattle.c_meaning.specs.Runs.{Run, run, run_with, no_marks, ending, enter, loop, world, run_body, beginning}
@@ -25,6 +25,10 @@ module _ (p : Program) (m n : Marks) (hm : AreNullCalls m) (hn : AreNullCalls n)
     called_alike : (wanted : Bool) (f : ℕ) (vs : List Value) (st : State) → Alike (called p w wanted f vs st) (called p v wanted f vs st)
     called_alike wanted f vs st =
         if_alike {A = Value} (nat_lt f (defined p)) (w.enter wanted f vs st) (call_undefined (f - defined p) vs st) (v.enter wanted f vs st) (call_undefined (f - defined p) vs st) (alike.enter wanted f vs st) refl
+
+    through_alike : (wanted : Bool) (f : ℕ) (vs : List Value) (st : State) → Alike (called_through p w wanted f vs st) (called_through p v wanted f vs st)
+    through_alike wanted f vs st =
+        if_alike {A = Value} (nat_lt f (defined p)) (w.enter wanted f vs st) (system_call_alone (f - defined p) vs st) (v.enter wanted f vs st) (system_call_alone (f - defined p) vs st) (alike.enter wanted f vs st) refl
 
     module _ (fr : Frame) where
       -- one operand, and what is done with its value
@@ -71,7 +75,7 @@ module _ (p : Program) (m n : Marks) (hm : AreNullCalls m) (hn : AreNullCalls n)
         eval_alike wanted (call t site f args) st =
             then_alike {A = List Value} {B = Value} (eval_all p w m fr args st) (eval_all p v n fr args st) _ _ (all_alike args st) (λ vs st. bracketed_alike m n hm hn site (called p w (wants wanted t) f vs st) (called p v (wants wanted t) f vs st) (called_alike (wants wanted t) f vs st))
         eval_alike wanted (call_through t site designator args) st =
-            then_alike {A = Value} {B = Value} (eval p w m fr true designator st) (eval p v n fr true designator st) _ _ (eval_alike true designator st) (λ x st. then_alike {A = List Value} {B = Value} (eval_all p w m fr args st) (eval_all p v n fr args st) _ _ (all_alike args st) (λ vs st. bracketed_alike m n hm hn site _ _ (then_alike {A = ℕ} {B = Value} (answered (callee x) st) (answered (callee x) st) _ _ refl (λ f st. called_alike (wants wanted t) f vs st))))
+            then_alike {A = Value} {B = Value} (eval p w m fr true designator st) (eval p v n fr true designator st) _ _ (eval_alike true designator st) (λ x st. then_alike {A = List Value} {B = Value} (eval_all p w m fr args st) (eval_all p v n fr args st) _ _ (all_alike args st) (λ vs st. bracketed_alike m n hm hn site _ _ (then_alike {A = ℕ} {B = Value} (answered (callee x) st) (answered (callee x) st) _ _ refl (λ f st. through_alike (wants wanted t) f vs st))))
 
         each_alike : (wanted : Bool) (es : Exprs) (st : State) → Alike (eval_each p w m fr wanted es st) (eval_each p v n fr wanted es st)
         each_alike wanted no_exprs st = refl

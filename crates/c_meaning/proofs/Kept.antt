@@ -16,7 +16,7 @@ use Rattle.c_values.specs.Answers.{Answer, gives, undefined, U11, U13}
 use Rattle.c_values.specs.Memory.{Objects, declared}
 use Rattle.c_tree.specs.Operators.{convert, binary}
 use Rattle.c_tree.specs.Layout.{cells}
-use Rattle.c_meaning.specs.Meaning.{Marks, Frame, Loop, World, either, bracketed, tested, called, call_undefined, null_call, wants, eval, eval_each, eval_all, condition, perhaps, initialise, fresh, leaving, declared_in, exec, exec_all, exec_from, selected, behind_of, decayed, operated, comparing, moving, updated, name_in}
+use Rattle.c_meaning.specs.Meaning.{Marks, Frame, Loop, World, either, bracketed, tested, called, call_undefined, called_through, system_call_alone, null_call, wants, eval, eval_each, eval_all, condition, perhaps, initialise, fresh, leaving, declared_in, exec, exec_all, exec_from, selected, behind_of, decayed, operated, comparing, moving, updated, name_in}
 use Rattle.c_meaning.specs.Pointers.{test, callee, truth_value, place, load_place, store_place, member, difference}
 use Rattle.c_meaning.specs.Results.{State, with_memory, Result, Go, Stop, after, then_do, spend_at, answered, remembered, Exit, on, broken, continued, returned, on_exit, on_round}
 use Rattle.c_meaning.specs.Runs.{entered, without_value, result_of, enter, loop, world, run_body, beginning}
@@ -122,6 +122,10 @@ module _ (p : Program) (marks : Marks) (I : State → Type 0) (O : Outcome → T
     called_holds wanted f vs st i =
         if_holds {A = Value} (nat_lt f (defined p)) _ _ (goes.enter wanted f vs st i) (undefined_holds (f - defined p) vs st i)
 
+    through_holds : (wanted : Bool) (f : ℕ) (vs : List Value) (st : State) → I st → Holds (called_through p w wanted f vs st)
+    through_holds wanted f vs st i =
+        if_holds {A = Value} (nat_lt f (defined p)) _ _ (goes.enter wanted f vs st i) (if_holds {A = Value} (nat_lt (f - defined p) 24) _ _ (calls (f - defined p) vs st i) (kept.undefined U13))
+
     module _ (fr : Frame) where
       -- one operand, and a step with its value
       one : (a : Expr) (st : State) (f : State → Value → Answer Value) → Holds (eval p w marks fr true a st) → Holds (then_do (eval p w marks fr true a st) (λ x st. answered (f st x) st))
@@ -166,7 +170,7 @@ module _ (p : Program) (marks : Marks) (I : State → Type 0) (O : Outcome → T
         eval_holds wanted (call t site f args) st i =
             then_holds {A = List Value} {B = Value} (eval_all p w marks fr args st) _ (all_hold args st i) (λ vs st i. bracketed_holds site (called p w (wants wanted t) f vs st) (called_holds (wants wanted t) f vs st i))
         eval_holds wanted (call_through t site designator args) st i =
-            then_holds {A = Value} {B = Value} (eval p w marks fr true designator st) _ (eval_holds true designator st i) (λ x st i. then_holds {A = List Value} {B = Value} (eval_all p w marks fr args st) _ (all_hold args st i) (λ vs st i. bracketed_holds site _ (then_holds {A = ℕ} {B = Value} (answered (callee x) st) (λ f st. called p w (wants wanted t) f vs st) (answered_holds {A = ℕ} (callee x) st i) (λ f st i. called_holds (wants wanted t) f vs st i))))
+            then_holds {A = Value} {B = Value} (eval p w marks fr true designator st) _ (eval_holds true designator st i) (λ x st i. then_holds {A = List Value} {B = Value} (eval_all p w marks fr args st) _ (all_hold args st i) (λ vs st i. bracketed_holds site _ (then_holds {A = ℕ} {B = Value} (answered (callee x) st) (λ f st. called_through p w (wants wanted t) f vs st) (answered_holds {A = ℕ} (callee x) st i) (λ f st i. through_holds (wants wanted t) f vs st i))))
 
         each_holds : (wanted : Bool) (es : Exprs) (st : State) → I st → Holds (eval_each p w marks fr wanted es st)
         each_holds wanted no_exprs st i = kept.undefined U13

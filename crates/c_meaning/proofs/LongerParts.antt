@@ -14,7 +14,7 @@ use Rattle.c_values.specs.Answers.{Answer, U13}
 use Rattle.c_values.specs.Memory.{Objects, declared}
 use Rattle.c_tree.specs.Operators.{convert, binary}
 use Rattle.c_tree.specs.Layout.{cells}
-use Rattle.c_meaning.specs.Meaning.{Marks, Frame, Loop, World, either, bracketed, tested, called, call_undefined, null_call, wants, eval, eval_each, eval_all, condition, perhaps, initialise, fresh, leaving, declared_in, exec, exec_all, exec_from, selected, behind_of, decayed, operated, comparing, moving, updated, name_in}
+use Rattle.c_meaning.specs.Meaning.{Marks, Frame, Loop, World, either, bracketed, tested, called, call_undefined, called_through, system_call_alone, null_call, wants, eval, eval_each, eval_all, condition, perhaps, initialise, fresh, leaving, declared_in, exec, exec_all, exec_from, selected, behind_of, decayed, operated, comparing, moving, updated, name_in}
 use Rattle.c_meaning.specs.Pointers.{callee, truth_value, place, load_place, store_place, member, difference}
 use Rattle.c_meaning.specs.Results.{State, Result, Go, Stop, then_do, spend_at, answered, Exit}
 use Rattle.c_meaning.specs.Runs.{Run, run_with, ending, enter, loop, world, run_body, beginning}
@@ -48,6 +48,10 @@ module _ (p : Program) (marks : Marks) (records : List SysResult) (turns : ℕ) 
     called_goes : (wanted : Bool) (f : ℕ) (vs : List Value) (st : State) → Goes (called p w wanted f vs st) (called p v wanted f vs (further st))
     called_goes wanted f vs st =
         if_follows records turns Lack lack {A = Value} (nat_lt f (defined p)) _ _ _ _ (goes.enter wanted f vs st) (undefined_goes (f - defined p) vs st)
+
+    through_goes : (wanted : Bool) (f : ℕ) (vs : List Value) (st : State) → Goes (called_through p w wanted f vs st) (called_through p v wanted f vs (further st))
+    through_goes wanted f vs st =
+        if_follows records turns Lack lack {A = Value} (nat_lt f (defined p)) _ _ _ _ (goes.enter wanted f vs st) (if_follows records turns Lack lack {A = Value} (nat_lt (f - defined p) 24) _ _ _ _ (call_follows records turns Lack lack (f - defined p) vs st) (inr refl))
 
     module _ (fr : Frame) where
       -- an operand, on both sides
@@ -100,7 +104,7 @@ module _ (p : Program) (marks : Marks) (records : List SysResult) (turns : ℕ) 
         eval_goes wanted (call t site f args) st =
             goes_then {A = List Value} {B = Value} (eval_all p w marks fr args st) (eval_all p v marks fr args (further st)) _ _ (all_goes args st) (λ vs st. bracketed_follows records turns Lack lack marks site (called p w (wants wanted t) f vs st) (called p v (wants wanted t) f vs (further st)) (called_goes (wants wanted t) f vs st))
         eval_goes wanted (call_through t site designator args) st =
-            goes_then {A = Value} {B = Value} (eval p w marks fr true designator st) (eval p v marks fr true designator (further st)) _ _ (eval_goes true designator st) (λ x st. goes_then {A = List Value} {B = Value} (eval_all p w marks fr args st) (eval_all p v marks fr args (further st)) _ _ (all_goes args st) (λ vs st. bracketed_follows records turns Lack lack marks site _ _ (goes_then {A = ℕ} {B = Value} (answered (callee x) st) (answered (callee x) (further st)) _ _ (goes_answered {A = ℕ} (callee x) st) (λ f st. called_goes (wants wanted t) f vs st))))
+            goes_then {A = Value} {B = Value} (eval p w marks fr true designator st) (eval p v marks fr true designator (further st)) _ _ (eval_goes true designator st) (λ x st. goes_then {A = List Value} {B = Value} (eval_all p w marks fr args st) (eval_all p v marks fr args (further st)) _ _ (all_goes args st) (λ vs st. bracketed_follows records turns Lack lack marks site _ _ (goes_then {A = ℕ} {B = Value} (answered (callee x) st) (answered (callee x) (further st)) _ _ (goes_answered {A = ℕ} (callee x) st) (λ f st. through_goes (wants wanted t) f vs st))))
 
         each_goes : (wanted : Bool) (es : Exprs) (st : State) → Goes (eval_each p w marks fr wanted es st) (eval_each p v marks fr wanted es (further st))
         each_goes wanted no_exprs st = inr refl

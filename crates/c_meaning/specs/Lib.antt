@@ -7,3 +7,4 @@ pub mod Records
 pub mod Results
 pub mod Runs
 pub mod SystemCalls
+pub mod WithoutNullCalls

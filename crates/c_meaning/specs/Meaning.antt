@@ -135,6 +135,15 @@ abbrev pub called : Program → World → Bool → ℕ → List Value → State 
 called p w wanted f vs st =
     if nat_lt f (defined p) then w.enter wanted f vs st else call_undefined (f - defined p) vs st
 
+-- a call of a system call through a pointer; the null calls have no address
+abbrev pub system_call_alone : ℕ → List Value → State → Result Value
+system_call_alone x vs st = if nat_lt x 24 then system_call x vs st else Stop (Undefined U13) []
+
+-- a call through a pointer to the function with this number
+abbrev pub called_through : Program → World → Bool → ℕ → List Value → State → Result Value
+called_through p w wanted f vs st =
+    if nat_lt f (defined p) then w.enter wanted f vs st else system_call_alone (f - defined p) vs st
+
 -- whether a scalar is not 0
 abbrev pub tested : Result Value → Result Bool
 tested r = then_do r (λ v st. answered (test st.memory v) st)
@@ -179,7 +188,7 @@ module _ (p : Program) (w : World) (marks : Marks) (fr : Frame) where
         then_do (eval_all args st) (λ vs st. bracketed marks site (called p w (wants wanted t) f vs st))
     eval wanted (call_through t site designator args) st =
         then_do (eval true designator st) (λ v st. then_do (eval_all args st) (λ vs st.
-        bracketed marks site (then_do (answered (callee v) st) (λ f st. called p w (wants wanted t) f vs st))))
+        bracketed marks site (then_do (answered (callee v) st) (λ f st. called_through p w (wants wanted t) f vs st))))
 
     -- the members of a comma expression; the last gives the value (6.5.17)
     pub eval_each : Bool → Exprs → State → Result Value
