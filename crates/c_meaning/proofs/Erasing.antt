@@ -10,7 +10,7 @@ use Rattle.c_meaning.specs.NullCalls.{AreNullCalls}
 use Rattle.c_values.specs.Answers.{Answer}
 use Rattle.c_meaning.specs.Pointers.{test}
 
-erase_append : (w u : List Event) → erase (w ++ u) ≡ erase w ++ erase u
+pub erase_append : (w u : List Event) → erase (w ++ u) ≡ erase w ++ erase u
 erase_append [] u = refl
 erase_append (Sys name arguments outcome ∷ w) u = ap (λ z. Sys name arguments outcome ∷ z) (erase_append w u)
 erase_append (Pre s ∷ w) u = erase_append w u

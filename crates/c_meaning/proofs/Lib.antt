@@ -6,6 +6,7 @@ pub mod Kept
 pub mod Longer
 pub mod LongerParts
 pub mod OrderTrials
+pub mod Plain
 pub mod RunTrials
 pub mod TrialTerms
 pub mod UndefinedTrials

@@ -5,6 +5,7 @@ use Rattle.sys_table.specs.declared.sys_result.SysResult.{SysResult}
 use Rattle.c_tree.specs.Tree.{Program}
 use Rattle.c_meaning.specs.Meaning.{Marks}
 use Rattle.c_meaning.specs.Runs.{Run, run, run_with}
+use Rattle.c_meaning.specs.WithoutNullCalls.{MakesNoNullCall}
 
 -- no event before or after a call is a system call
 abbrev pub AreNullCalls : Marks → Type 0
@@ -20,3 +21,8 @@ pub record DifferInNullCalls (a b : Run) : Type 0 where
 abbrev pub NullCallsChangeNothing : Type 0
 NullCallsChangeNothing =
     (p : Program) (marks : Marks) → AreNullCalls marks → (records : List SysResult) (turns : ℕ) → DifferInNullCalls (run_with p marks records turns) (run p records turns)
+
+-- a program that makes no null calls has none in its runs
+abbrev pub NullCallsAreMade : Type 0
+NullCallsAreMade =
+    (p : Program) → MakesNoNullCall p → (records : List SysResult) (turns : ℕ) → erase (run p records turns).trace ≡ (run p records turns).trace
