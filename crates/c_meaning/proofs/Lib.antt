@@ -5,6 +5,7 @@ pub mod Erasing
 pub mod Kept
 pub mod Longer
 pub mod LongerParts
+pub mod NullCallTrials
 pub mod OrderTrials
 pub mod Plain
 pub mod RunTrials
