@@ -1,17 +1,15 @@
 -- That the test of a recorded result says what the table says.
-use Rattle.std.proofs.Common.{◌≡◌, ◌⊎◌, inl, inr, ℕ, zero, suc, ◌≤◌, ◌<◌, ◌^◌, Bool, true, false, ◌&&◌, ℤ, pos, negsuc, ◌≤ℤ◌, ◌<ℤ◌, List, [], ◌∷◌, length, nat_eq, nat_le, nat_lt, ap, refl, arith, FitsSigned}
+use Rattle.std.proofs.Common.{◌≡◌, ◌⊎◌, inl, inr, ℕ, zero, suc, ◌≤◌, true, false, ◌&&◌, ℤ, pos, negsuc, List, [], ◌∷◌, length, nat_eq, nat_le, ap, refl, arith, FitsSigned}
 use Rattle.std.proofs.lemmas.Int.{ints}
 use Rattle.std.specs.Bool.{Decides}
 use Rattle.std.specs.Int.{w32, FitsUnsigned}
-use Rattle.std.specs.Ordering.{int_eq}
 use Rattle.std.proofs.lemmas.Bool.Decides.{Decides-and, Decides-like, Decides-int_eq, Decides-eqb, nat_tests}
 use Rattle.sys_table.specs.declared.kinds.ResultKind.{ResultKind}
 use Rattle.sys_table.specs.declared.kinds.ResultKind.TheVariants as kinds
-use Rattle.sys_table.specs.declared.sys_result.SysResult.{SysResult}
 use Rattle.sys_table.specs.Table.{result_of, FitsResult}
-use Rattle.sys_table.specs.Answering.{Answers, AnswersRead, AnswersWrite, AnswersOther}
+use Rattle.sys_table.specs.Answering.{AnswersWrite}
 use Rattle.c_tree.specs.Operators.{fits_int}
-use Rattle.c_meaning.specs.SystemCalls.{is_empty, fits_unsigned, fits_result, answers_read, answers_write, does_answer}
+use Rattle.c_meaning.specs.SystemCalls.{is_empty, fits_unsigned, fits_result, answers_read, answers_write}
 use Rattle.c_meaning.specs.Records.{RecordsAreJudged}
 
 -- 0 for a number from 0 up, and 1 for one below

@@ -1,5 +1,5 @@
 -- What a program does with null calls round its calls, and without: by recursion on its parts, and on turns.
-use Rattle.std.proofs.Common.{◌≡◌, ℕ, zero, suc, Bool, true, false, ◌-◌, nat_lt, nat_eq, List, [], ◌∷◌, Option, Some, None, slice_get, sym, ap, ◌∙◌, refl}
+use Rattle.std.proofs.Common.{◌≡◌, ℕ, zero, suc, Bool, true, false, ◌-◌, nat_lt, nat_eq, List, [], Option, Some, None, slice_get, sym, ap, ◌∙◌, refl}
 use Rattle.dm_base.specs.Trace.{erase, output}
 use Rattle.sys_table.specs.declared.sys_result.SysResult.{SysResult}
 use Rattle.c_tree.specs.declared.value.Value.{Value}
@@ -8,10 +8,10 @@ use Rattle.c_tree.specs.Tree.{Expr, constant, function_name, string_place, varia
 use Rattle.c_tree.specs.Tree.{Exprs, no_exprs, more_exprs, Maybe, absent, there, Inits, no_inits, more_inits}
 use Rattle.c_tree.specs.Tree.{Stmt, block, empty, evaluate, declare, if_else, while_loop, do_loop, for_loop, switch_on, break_off, continue_on, return_void, return_value, Stmts, no_stmts, more_stmts, Groups, no_groups, more_groups}
 use Rattle.c_tree.specs.Functions.{defined}
-use Rattle.c_meaning.specs.Meaning.{Marks, Frame, Loop, World, either, bracketed, tested, called, call_undefined, called_through, system_call_alone, wants, eval, eval_each, eval_all, condition, perhaps, initialise, fresh, leaving, declared_in, exec, exec_all, exec_from, selected}
+use Rattle.c_meaning.specs.Meaning.{Marks, Frame, Loop, World, tested, called, call_undefined, called_through, system_call_alone, wants, eval, eval_each, eval_all, condition, perhaps, initialise, fresh, leaving, declared_in, exec, exec_all, exec_from, selected}
 use Rattle.c_meaning.specs.Pointers.{callee}
 use Rattle.c_meaning.specs.Results.{State, Result, Go, Stop, then_do, answered, Exit}
-use Rattle.c_meaning.specs.Runs.{Run, run, run_with, no_marks, ending, enter, loop, world, run_body, beginning}
+use Rattle.c_meaning.specs.Runs.{run_with, no_marks, ending, enter, loop, world, run_body, beginning}
 use Rattle.c_meaning.specs.NullCalls.{AreNullCalls, DifferInNullCalls, NullCallsChangeNothing}
 use Rattle.c_meaning.proofs.Erasing.{output_erase, bare, Alike, then_alike, bracketed_alike, either_alike, if_alike, tested_alike, spend_alike, exit_alike, round_alike}
 

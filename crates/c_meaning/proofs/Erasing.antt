@@ -1,14 +1,12 @@
 -- Parts of a program that differ in null calls alone.
-use Rattle.std.proofs.Common.{◌≡◌, ℕ, zero, suc, Bool, true, false, if◌then◌else◌, List, [], ◌∷◌, ◌++◌, Option, sym, ap, ◌∙◌, refl}
+use Rattle.std.proofs.Common.{◌≡◌, ℕ, zero, suc, Bool, true, false, if◌then◌else◌, List, [], ◌∷◌, ◌++◌, sym, ap, ◌∙◌, refl}
 use Rattle.dm_base.specs.declared.event.Event.{Event}
 use Rattle.dm_base.specs.declared.event.Event.TheVariants.{Pre, Post, Sys}
 use Rattle.dm_base.specs.Trace.{erase, output, written_by}
 use Rattle.c_tree.specs.declared.value.Value.{Value}
 use Rattle.c_meaning.specs.Meaning.{Marks, either, bracketed, tested}
-use Rattle.c_meaning.specs.Results.{State, Result, Go, Stop, after, then_do, spend_at, answered, Exit, on, broken, continued, returned, on_exit, on_round}
+use Rattle.c_meaning.specs.Results.{State, Result, Go, Stop, after, then_do, spend_at, Exit, on, broken, continued, returned, on_exit, on_round}
 use Rattle.c_meaning.specs.NullCalls.{AreNullCalls}
-use Rattle.c_values.specs.Answers.{Answer}
-use Rattle.c_meaning.specs.Pointers.{test}
 
 pub erase_append : (w u : List Event) → erase (w ++ u) ≡ erase w ++ erase u
 erase_append [] u = refl

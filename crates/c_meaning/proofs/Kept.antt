@@ -1,23 +1,23 @@
 -- What is so of the state in which a run begins, and is kept by each of its parts: by recursion on the parts, and on turns.
-use Rattle.std.proofs.Common.{◌≡◌, ◌≢◌, ◌⊎◌, inl, inr, ℕ, zero, suc, ◌+◌, Bool, true, false, ◌-◌, nat_lt, nat_eq, if◌then◌else◌, List, [], ◌∷◌, ◌++◌, Option, Some, None, slice_get, sym, ap, ◌∙◌, refl, subst, append-nil}
+use Rattle.std.proofs.Common.{ℕ, zero, suc, Bool, true, false, ◌-◌, nat_lt, nat_eq, if◌then◌else◌, List, [], ◌∷◌, Option, Some, None, slice_get}
 use Rattle.dm_base.specs.declared.event.Event.{Event}
 use Rattle.dm_base.specs.declared.event.Event.TheVariants.{Pre, Post}
 use Rattle.dm_base.specs.declared.outcome.Outcome.{Outcome}
-use Rattle.dm_base.specs.declared.outcome.Outcome.TheVariants.{Results, Turns, Undefined}
+use Rattle.dm_base.specs.declared.outcome.Outcome.TheVariants.{Turns, Undefined}
 use Rattle.sys_table.specs.declared.sys_result.SysResult.{SysResult}
 use Rattle.c_tree.specs.declared.value.Value.{Value}
 use Rattle.c_tree.specs.declared.value.Value.TheVariants.{Indeterminate, Int, Uint, Char, Uchar, Null, Func, At}
-use Rattle.c_tree.specs.Tree.{CType, array, Function, Program, type_of}
+use Rattle.c_tree.specs.Tree.{CType, Function, Program, type_of}
 use Rattle.c_tree.specs.Tree.{Expr, constant, function_name, string_place, variable, dereference, load, address_of, decay, discard, field, unary_operation, conversion, arithmetic, comparison, pointer_add, pointer_diff, and, or, assign, update, conditional, comma, call, call_through}
 use Rattle.c_tree.specs.Tree.{Exprs, no_exprs, more_exprs, Maybe, absent, there, Inits, no_inits, more_inits}
 use Rattle.c_tree.specs.Tree.{Stmt, block, empty, evaluate, declare, if_else, while_loop, do_loop, for_loop, switch_on, break_off, continue_on, return_void, return_value, Stmts, no_stmts, more_stmts, Groups, no_groups, more_groups}
 use Rattle.c_tree.specs.Functions.{defined}
 use Rattle.c_values.specs.Answers.{Answer, gives, undefined, U11, U13}
-use Rattle.c_values.specs.Memory.{Objects, declared}
+use Rattle.c_values.specs.Memory.{Objects}
 use Rattle.c_tree.specs.Operators.{convert, binary}
 use Rattle.c_tree.specs.Layout.{cells}
-use Rattle.c_meaning.specs.Meaning.{Marks, Frame, Loop, World, either, bracketed, tested, called, call_undefined, called_through, system_call_alone, null_call, wants, eval, eval_each, eval_all, condition, perhaps, initialise, fresh, leaving, declared_in, exec, exec_all, exec_from, selected, behind_of, decayed, operated, comparing, moving, updated, name_in}
-use Rattle.c_meaning.specs.Pointers.{test, callee, truth_value, place, load_place, store_place, member, difference}
+use Rattle.c_meaning.specs.Meaning.{Marks, Frame, Loop, World, either, bracketed, tested, called, call_undefined, called_through, null_call, wants, eval, eval_each, eval_all, condition, perhaps, initialise, fresh, leaving, declared_in, exec, exec_all, exec_from, selected, behind_of, decayed, operated, comparing, moving, updated, name_in}
+use Rattle.c_meaning.specs.Pointers.{test, callee, place, load_place, store_place, member, difference}
 use Rattle.c_meaning.specs.Results.{State, with_memory, Result, Go, Stop, after, then_do, spend_at, answered, remembered, Exit, on, broken, continued, returned, on_exit, on_round}
 use Rattle.c_meaning.specs.Runs.{entered, without_value, result_of, enter, loop, world, run_body, beginning}
 use Rattle.c_meaning.specs.SystemCalls.{system_call}

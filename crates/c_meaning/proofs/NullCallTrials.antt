@@ -1,12 +1,9 @@
 -- Runs with null calls: round the calls of a program, and made by it.
-use Rattle.std.proofs.Common.{◌≡◌, ◌≢◌, ℕ, zero, suc, ◌+◌, pos, List, [], ◌∷◌, Option, Some, None, slice_get, ap, sym, subst, refl, arith}
+use Rattle.std.proofs.Common.{◌≡◌, zero, suc, pos, [], ◌∷◌, Option, Some, None, subst, refl, arith}
 use Rattle.std.proofs.lemmas.Option.{none-some}
-use Rattle.dm_base.specs.declared.event.Event.{Event}
-use Rattle.dm_base.specs.declared.event.Event.TheVariants.{Pre, Post, Sys}
+use Rattle.dm_base.specs.declared.event.Event.TheVariants.{Pre, Post}
 use Rattle.sys_table.specs.Table.{table}
 use Rattle.c_tree.specs.Tree.{Function, void, call, evaluate}
-use Rattle.c_tree.specs.Functions.{defined}
-use Rattle.c_tree.proofs.TypedTrials.{f_with, main_with, f_of_b, main_of_b}
 use Rattle.c_meaning.specs.Meaning.{Marks}
 use Rattle.c_meaning.specs.Runs.{run_with}
 use Rattle.c_meaning.specs.NullCalls.{AreNullCalls}

@@ -9,11 +9,11 @@ use Rattle.c_tree.specs.declared.value.IntType.TheVariants as types
 use Rattle.c_tree.specs.declared.value.BinOp.TheVariants.{Add, Less}
 use Rattle.c_tree.specs.declared.value.Value.TheVariants as v
 use Rattle.c_tree.specs.declared.tree.TLabel.TheVariants.{Case, Default}
-use Rattle.c_tree.specs.Tree.{pointer, array, no_inits, more_inits, absent, there, no_groups, more_groups}
-use Rattle.c_tree.specs.Tree.{constant, string_place, load, address_of, decay, dereference, conversion, comparison, arithmetic, update, call, call_through, no_exprs}
+use Rattle.c_tree.specs.Tree.{pointer, array, no_inits, more_inits, absent, no_groups, more_groups}
+use Rattle.c_tree.specs.Tree.{string_place, load, address_of, decay, dereference, conversion, comparison, arithmetic, update, call, call_through, no_exprs}
 use Rattle.c_tree.specs.Tree.{empty, evaluate, declare, return_value, if_else, while_loop, do_loop, for_loop, switch_on, break_off, no_stmts}
-use Rattle.c_tree.specs.Functions.{int, unsigned_int, char_pointer}
-use Rattle.c_meaning.proofs.TrialTerms.{run_of, run_of_two, exits, undefined_after, result, getpid, stmts, body, exprs, char, int_pointer, function_type, number, size, own, static, value, static_value, of_cells, null_static, string_a, first_of, further, behind, set, return_0}
+use Rattle.c_tree.specs.Functions.{int, char_pointer}
+use Rattle.c_meaning.proofs.TrialTerms.{run_of, exits, undefined_after, result, getpid, stmts, body, exprs, char, int_pointer, function_type, number, size, own, static, value, static_value, of_cells, null_static, string_a, first_of, further, behind, set, return_0}
 
 -- int (*f)(int); int main(void) { return (*f)(getpid()); }: null is met before the arguments
 designator_first : run_of [] (null_static function_type ∷ []) (body (return_value (call_through int 1 (decay (pointer function_type) (dereference function_type (static_value (pointer function_type) 0))) (exprs (call int 0 15 no_exprs ∷ []))) ∷ [])) (result (pos 7) [] ∷ []) 1 ≡ undefined_after 5 []

@@ -1,6 +1,5 @@
 -- Terms of small programs, and what their runs give.
 use Rattle.std.specs.Prelude.{ℕ, ℤ, pos, Bool, true, false, List, [], ◌∷◌, codes}
-use Rattle.dm_base.specs.declared.event.Arg.{Arg}
 use Rattle.dm_base.specs.declared.event.Event.{Event}
 use Rattle.dm_base.specs.declared.event.Event.TheVariants.{Sys}
 use Rattle.dm_base.specs.declared.outcome.Outcome.TheVariants as outcomes
@@ -8,8 +7,8 @@ use Rattle.sys_table.specs.declared.sys_result.SysResult.{SysResult}
 use Rattle.c_tree.specs.declared.value.IntType.TheVariants as types
 use Rattle.c_tree.specs.declared.value.Value.{Value}
 use Rattle.c_tree.specs.declared.value.Value.TheVariants as v
-use Rattle.c_tree.specs.Tree.{CType, integer, pointer, array, function, no_types, more_types, Static, Program}
-use Rattle.c_tree.specs.Tree.{Expr, constant, string_place, variable, dereference, load, address_of, decay, assign, pointer_add, call, Exprs, no_exprs, more_exprs}
+use Rattle.c_tree.specs.Tree.{CType, integer, pointer, array, function, no_types, more_types, Static}
+use Rattle.c_tree.specs.Tree.{Expr, constant, variable, dereference, load, decay, assign, pointer_add, Exprs, no_exprs, more_exprs}
 use Rattle.c_tree.specs.Tree.{Stmt, block, evaluate, return_value, Stmts, no_stmts, more_stmts}
 use Rattle.c_tree.specs.Functions.{int, unsigned_int, of_none}
 use Rattle.c_tree.proofs.TypedTrials.{function_with}

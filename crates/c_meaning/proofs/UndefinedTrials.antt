@@ -1,13 +1,12 @@
 -- A small program for each kind of undefined behaviour that memory, pointers and calls meet.
-use Rattle.std.proofs.Common.{◌≡◌, pos, true, false, [], ◌∷◌, refl}
-use Rattle.sys_table.specs.Table.{table}
+use Rattle.std.proofs.Common.{◌≡◌, pos, false, [], ◌∷◌, refl}
 use Rattle.c_tree.specs.declared.value.BinOp.TheVariants.{Less}
 use Rattle.c_tree.specs.declared.value.Value.TheVariants as v
-use Rattle.c_tree.specs.Tree.{void, pointer, array, no_inits, more_inits}
-use Rattle.c_tree.specs.Tree.{constant, variable, load, address_of, discard, comparison, conditional, assign, call, call_through, no_exprs, and, decay, string_place, field, dereference}
-use Rattle.c_tree.specs.Tree.{empty, evaluate, declare, return_value}
-use Rattle.c_tree.specs.Functions.{int, char_pointer}
-use Rattle.c_meaning.proofs.TrialTerms.{run_of, run_of_two, exits, undefined_after, result, getpid, body, exprs, char, int_pointer, function_type, number, size, own, static, value, static_value, of_cells, null_static, string_a, first_of, further, behind, set, return_0}
+use Rattle.c_tree.specs.Tree.{void, array, no_inits, more_inits}
+use Rattle.c_tree.specs.Tree.{constant, load, address_of, discard, comparison, conditional, call, no_exprs, and, string_place}
+use Rattle.c_tree.specs.Tree.{evaluate, declare, return_value}
+use Rattle.c_tree.specs.Functions.{int}
+use Rattle.c_meaning.proofs.TrialTerms.{run_of, run_of_two, exits, undefined_after, result, body, exprs, char, int_pointer, number, size, own, static, value, static_value, of_cells, null_static, string_a, first_of, further, behind, set, return_0}
 
 -- int main(void) { int x; return x; }
 u4_return : run_of (int ∷ []) [] (body (declare 0 no_inits ∷ return_value (value int 0) ∷ [])) [] 1 ≡ undefined_after 4 []

@@ -1,5 +1,5 @@
 -- Null calls round calls: what they leave of a run as it was.
-use Rattle.std.specs.Prelude.{◌≡◌, ℕ, List, [], ◌∷◌}
+use Rattle.std.specs.Prelude.{◌≡◌, ℕ, List, []}
 use Rattle.dm_base.specs.Trace.{erase, output}
 use Rattle.sys_table.specs.declared.sys_result.SysResult.{SysResult}
 use Rattle.c_tree.specs.Tree.{Program}

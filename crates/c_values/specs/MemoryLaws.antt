@@ -4,7 +4,7 @@ use Rattle.c_tree.specs.declared.value.ObjectName.{ObjectName}
 use Rattle.c_tree.specs.declared.value.Pointer.{Pointer}
 use Rattle.c_tree.specs.declared.value.Value.{Value}
 use Rattle.c_values.specs.Answers.{gives, undefined, U6}
-use Rattle.c_values.specs.Memory.{Objects, cell_value, load, store, declared, ended}
+use Rattle.c_values.specs.Memory.{Objects, cell_value, load, store, ended}
 
 -- what was stored is loaded, unless it is indeterminate
 abbrev pub StoredIsLoaded : Type 0
