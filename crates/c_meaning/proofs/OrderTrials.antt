@@ -58,6 +58,10 @@ falls_through = refl
 goes_to_default : run_of [] [] (body (switch_on (number 5) (more_groups (Default ∷ []) (stmts (return_value (number 2) ∷ [])) (more_groups (Case (v.Int (pos 1)) ∷ []) (stmts (return_value (number 3) ∷ [])) no_groups)) ∷ [])) [] 1 ≡ exits (pos 2) []
 goes_to_default = refl
 
+-- int main(void) { switch (4294967295u) { case -1: return 3; } return 0; }: the case has the type of what is compared
+case_is_converted : run_of [] [] (body (switch_on (size 4294967295) (more_groups (Case (v.Uint 4294967295) ∷ []) (stmts (return_value (number 3) ∷ [])) no_groups) ∷ return_0 ∷ [])) [] 1 ≡ exits (pos 3) []
+case_is_converted = refl
+
 -- int main(void) { }
 main_falls_off : run_of [] [] (body []) [] 1 ≡ exits (pos 0) []
 main_falls_off = refl

@@ -2,7 +2,7 @@
 use Rattle.std.proofs.Common.{◌≡◌, pos, false, [], ◌∷◌, refl}
 use Rattle.c_tree.specs.declared.value.BinOp.TheVariants.{Less}
 use Rattle.c_tree.specs.declared.value.Value.TheVariants as v
-use Rattle.c_tree.specs.Tree.{void, array, no_inits, more_inits}
+use Rattle.c_tree.specs.Tree.{void, array, no_inits, more_inits, struct, field, pointer}
 use Rattle.c_tree.specs.Tree.{constant, load, address_of, discard, comparison, conditional, call, no_exprs, and, string_place}
 use Rattle.c_tree.specs.Tree.{evaluate, declare, return_value}
 use Rattle.c_tree.specs.Functions.{int}
@@ -27,6 +27,10 @@ u4_discarded = refl
 -- int *p; int main(void) { return *p; }
 u5_behind : run_of [] (null_static int ∷ []) (body (return_value (load int (behind int (static_value int_pointer 0))) ∷ [])) [] 1 ≡ undefined_after 5 []
 u5_behind = refl
+
+-- struct s { int l; int m; } *p; int main(void) { &p->m; return 0; }
+u5_member : run_of [] (null_static (struct 0) ∷ []) (body (evaluate (address_of int_pointer (field int 1 (behind (struct 0) (static_value (pointer (struct 0)) 0)))) ∷ return_0 ∷ [])) [] 1 ≡ undefined_after 5 []
+u5_member = refl
 
 -- int *p; int main(void) { p + 0; return 0; }
 u5_moved : run_of [] (null_static int ∷ []) (body (evaluate (further int (static_value int_pointer 0) 0) ∷ return_0 ∷ [])) [] 1 ≡ undefined_after 5 []
