@@ -203,6 +203,7 @@ fn joined(alloc: Global, parts: &[&[u8]]) -> Result<Vec<u8>, AllocError> {
 
 // What stands before the edges of a model, in each version.
 const EDGES_1: &[u8] = b"dyckmon-model 1\nfunctions 1\nf main 0 1\nnodes 3\n";
+
 const EDGES_2: &[u8] = b"dyckmon-model 2\nfunctions 1\nf main 0 1\nnodes 3\n";
 
 #[test]

@@ -12,6 +12,7 @@ use trace_file::{
 
 // What stands before the line of a trace, and before that of interleaved traces.
 const TRACE: &[u8] = b"dyckmon-trace 1\n";
+
 const TRACES: &[u8] = b"dyckmon-traces 1\n";
 
 // The events of a text, and how it ends.
@@ -170,13 +171,21 @@ fn a_line_that_is_cut_lacks_its_end(rt: HostRuntime) -> Result<(), Fail> {
     for text in EVENTS.iter().chain(ENDS.iter()) {
         for n in 0..text.len() {
             let cut = joined(alloc, TRACE, &text[..n], b"")?;
-            assert_eq!(rt; read_trace(alloc, &cut).err(), Some(TraceError::NoEnd), "{n}");
+            assert_eq!(rt;
+                read_trace(alloc, &cut).err(),
+                Some(TraceError::NoEnd),
+                "{n}"
+            );
         }
     }
     for text in EVENTS {
         for n in 0..text.len() {
             let cut = joined(alloc, b"dyckmon-traces 1\n10 ", &text[..n], b"")?;
-            assert_eq!(rt; read_traces(alloc, &cut).err(), Some(TraceError::NoEnd), "{n}");
+            assert_eq!(rt;
+                read_traces(alloc, &cut).err(),
+                Some(TraceError::NoEnd),
+                "{n}"
+            );
         }
     }
     Ok(())
@@ -241,11 +250,17 @@ fn other_lines_are_bad(rt: HostRuntime) -> Result<(), Fail> {
     let alloc = rt.alloc();
     for line in WRONG {
         let file = joined(alloc, TRACE, line, b"")?;
-        assert_eq!(rt; read_trace(alloc, &file).err(), Some(TraceError::BadLine(2)));
+        assert_eq!(rt;
+            read_trace(alloc, &file).err(),
+            Some(TraceError::BadLine(2))
+        );
     }
     for line in WRONG_RECORDS {
         let file = joined(alloc, TRACES, line, b"")?;
-        assert_eq!(rt; read_traces(alloc, &file).err(), Some(TraceError::BadLine(2)));
+        assert_eq!(rt;
+            read_traces(alloc, &file).err(),
+            Some(TraceError::BadLine(2))
+        );
     }
     Ok(())
 }

@@ -24,10 +24,18 @@ pub fn width_of(shape: &Shape, most: u32) -> u32
         Shape::Alt(one, other) => add(width_of(one, most), width_of(other, most), most),
         Shape::Loop(test, body, step) => add(
             3,
-            add(add(width_of(test, most), width_of(body, most), most), width_of(step, most), most),
+            add(
+                add(width_of(test, most), width_of(body, most), most),
+                width_of(step, most),
+                most,
+            ),
             most,
         ),
-        Shape::Do(body, test) => add(3, add(width_of(body, most), width_of(test, most), most), most),
+        Shape::Do(body, test) => add(
+            3,
+            add(width_of(body, most), width_of(test, most), most),
+            most,
+        ),
         Shape::Cases(groups, _) => width_of_parts(groups, most),
     }
 }

@@ -34,18 +34,18 @@ graph_of_indirect : graph_of_program indirect ≡ record {
   nodes = 13;
   start = 3;
   functions =
-    record { name = codes "a"; entry = 0; exit = 1 }
-    ∷ record { name = codes "b"; entry = 3; exit = 4 }
-    ∷ record { name = codes "c"; entry = 5; exit = 6 }
-    ∷ record { name = codes "main"; entry = 8; exit = 9 }
-    ∷ record { name = codes "close"; entry = 11; exit = 12 }
-    ∷ [];
+      record { name = codes "a"; entry = 0; exit = 1 }
+      ∷ record { name = codes "b"; entry = 3; exit = 4 }
+      ∷ record { name = codes "c"; entry = 5; exit = 6 }
+      ∷ record { name = codes "main"; entry = 8; exit = 9 }
+      ∷ record { name = codes "close"; entry = 11; exit = 12 }
+      ∷ [];
   silent = record { from = 2; to = 1 } ∷ record { from = 3; to = 4 } ∷ record { from = 7; to = 6 } ∷ record { from = 10; to = 9 } ∷ [];
   sys =
-    record { from = 0; name = 14; to = 2; args = [] }
-    ∷ record { from = 5; name = 14; to = 7; args = [] }
-    ∷ record { from = 11; name = 3; to = 12; args = None ∷ [] }
-    ∷ [];
+      record { from = 0; name = 14; to = 2; args = [] }
+      ∷ record { from = 5; name = 14; to = 7; args = [] }
+      ∷ record { from = 11; name = 3; to = 12; args = None ∷ [] }
+      ∷ [];
   calls = record { from = 8; site = 2; to = 10; candidates = 0 ∷ 1 ∷ 4 ∷ [] } ∷ [];
 }
 unfolding table sys_types

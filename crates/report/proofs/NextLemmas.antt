@@ -154,12 +154,12 @@ pub next_is : (which : Which) (g : Graph) (bound : ℕ) (h : List Event) (es : L
 next_is which g bound h es n trials number = record {
   accepted = λ accepted. number_same (Comes which g bound h es) (MayComeNext which g h) 24 n
       (λ x comes.
-          (comes.0, named_call x comes.0 comes.2 (trials.recorded comes.0 comes.1), kept-reads which g bound (h ++ comes.0 ∷ []) (accepted_whole which g bound (h ++ comes.0 ∷ []) comes.3)))
+      (comes.0, named_call x comes.0 comes.2 (trials.recorded comes.0 comes.1), kept-reads which g bound (h ++ comes.0 ∷ []) (accepted_whole which g bound (h ++ comes.0 ∷ []) comes.3)))
       (λ x may.
-          let last = last_fits which g h x may.0 may.1 may.2 in
-          let trial = trials.complete last.edge last.has in
-          let kept = kept_call which g bound h last.edge.name last.edge.args trial.0 trial.2 (accepted_whole which g bound h accepted) (last.others trial.0 trial.2) in
-          (trial.0, trial.1, fits_named x last.edge.name may.0 trial.0 last.edge.args may.1 last.fits trial.2, accepted_more which g bound h trial.0 accepted kept))
+      let last = last_fits which g h x may.0 may.1 may.2 in
+      let trial = trials.complete last.edge last.has in
+      let kept = kept_call which g bound h last.edge.name last.edge.args trial.0 trial.2 (accepted_whole which g bound h accepted) (last.others trial.0 trial.2) in
+      (trial.0, trial.1, fits_named x last.edge.name may.0 trial.0 last.edge.args may.1 last.fits trial.2, accepted_more which g bound h trial.0 accepted kept))
       number;
   refused = λ refused. number_none (Comes which g bound h es) 24 n (λ x comes. refused (accepted_part which g bound h comes.0 comes.3)) number;
 }

@@ -54,10 +54,7 @@ fn children_go_on_from_their_parents(rt: HostRuntime) -> Result<(), Fail> {
             &[(1, accepted(2))],
         ),
         // A child without a record has no verdict, and another fork names it.
-        (
-            b"dyckmon-traces 2\n1 S fork = 2\n",
-            &[(1, accepted(1))],
-        ),
+        (b"dyckmon-traces 2\n1 S fork = 2\n", &[(1, accepted(1))]),
         (
             b"dyckmon-traces 2\n1 S fork = 2\n3 S fork = 2\n2 S getpid = 2\n",
             &[(1, accepted(1)), (3, accepted(1)), (2, accepted(2))],

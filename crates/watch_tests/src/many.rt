@@ -95,7 +95,8 @@ fn forty_processes_have_their_own_verdicts(rt: HostRuntime) -> Result<(), Fail> 
 
 #[test]
 fn a_window_has_the_last_eight_kept_events(rt: HostRuntime) -> Result<(), Fail> {
-    let traces = b"dyckmon-traces 1\n5 S getpid = 1\n5 S getpid = 2\n5 S getpid = 3\n5 S getpid = 4\n5 S getpid = 5\n5 S getpid = 6\n5 S getpid = 7\n5 S getpid = 8\n5 S getpid = 9\n5 S getuid = 0\n5 S getpid = 10\n";
+    let traces =
+        b"dyckmon-traces 1\n5 S getpid = 1\n5 S getpid = 2\n5 S getpid = 3\n5 S getpid = 4\n5 S getpid = 5\n5 S getpid = 6\n5 S getpid = 7\n5 S getpid = 8\n5 S getpid = 9\n5 S getuid = 0\n5 S getpid = 10\n";
     let watch: Watch<CallgraphMonitor> = judged(rt.alloc(), ANY_CALLS, traces)?;
     assert_eq!(rt; watch.verdict(5), Some(Verdict::Rejected { at: 10 }));
     let window = watch.window(5)?;
