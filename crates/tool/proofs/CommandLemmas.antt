@@ -21,7 +21,7 @@ use Rattle.tool.specs.declared.command.Asked.TheVariants as asked
 use Rattle.tool.specs.Command.{Command, IsCommandLine, IsAskedBy}
 use Rattle.tool.specs.Command.{FileCommand, file_word, asked_word}
 use Rattle.tool.specs.Command.FileCommand.{Upgrade}
-use Rattle.tool.specs.Command.Command.{Version, Help, OfFile, Judge}
+use Rattle.tool.specs.Command.Command.{Version, Help, OfFile, Judge, Measure}
 use Rattle.tool.specs.Commands.{Makes, Refuses, IsReady}
 use Rattle.tool.specs.Judge.{IsAModel, IsATrace, RefusesToJudge}
 use Rattle.tool.specs.Upgrade.{Upgrades, RefusesToUpgrade, IsReadyToUpgrade}
@@ -94,10 +94,12 @@ one_command Version Version words line next = refl
 one_command Version Help words line next = elim line [ inl is ↦ cc (is, next) | inr is ↦ cc (is, next) ]
 one_command Version (OfFile other file) words line next = elim line [ inl is ↦ cc (is, next) | inr is ↦ cc (is, next) ]
 one_command Version (Judge m t again most) words line next = elim line [ inl is ↦ cc (is, next.1) | inr is ↦ cc (is, next.1) ]
+one_command Version (Measure m t again) words line next = elim line [ inl is ↦ cc (is, next) | inr is ↦ cc (is, next) ]
 one_command Help Version words line next = elim next [ inl is ↦ cc (is, line) | inr is ↦ cc (is, line) ]
 one_command Help Help words line next = refl
 one_command Help (OfFile other file) words line next = cc (line, next)
 one_command Help (Judge m t again most) words line next = cc (line, next.1)
+one_command Help (Measure m t again) words line next = cc (line, next)
 one_command (OfFile which name) Version words line next = elim next [ inl is ↦ cc (is, line) | inr is ↦ cc (is, line) ]
 one_command (OfFile which name) Help words line next = cc (line, next)
 one_command (OfFile which name) (OfFile other file) words line next =
@@ -105,6 +107,7 @@ one_command (OfFile which name) (OfFile other file) words line next =
     let same : name ≡ file = cc (line, next) in
     cc (command, same)
 one_command (OfFile which name) (Judge m t again most) words line next = cc (line, next.1)
+one_command (OfFile which name) (Measure m t again) words line next = cc (line, next)
 one_command (Judge model trace which bound) Version words line next = elim next [ inl is ↦ cc (is, line.1) | inr is ↦ cc (is, line.1) ]
 one_command (Judge model trace which bound) Help words line next = cc (line.1, next)
 one_command (Judge model trace which bound) (OfFile other file) words line next = cc (line.1, next)
@@ -114,6 +117,16 @@ one_command (Judge model trace which bound) (Judge m t again most) words line ne
     let models : model ≡ m = cc (line.1, next.1) in
     let traces : trace ≡ t = cc (line.1, next.1) in
     cc (models, traces, parts.0, parts.1)
+one_command (Judge model trace which bound) (Measure m t again) words line next = cc (line.1, next)
+one_command (Measure model trace which) Version words line next = elim next [ inl is ↦ cc (is, line) | inr is ↦ cc (is, line) ]
+one_command (Measure model trace which) Help words line next = cc (line, next)
+one_command (Measure model trace which) (OfFile other file) words line next = cc (line, next)
+one_command (Measure model trace which) (Judge m t again most) words line next = cc (line, next.1)
+one_command (Measure model trace which) (Measure m t again) words line next =
+    let asked : which ≡ again = one_asked which again (cc (line, next)) in
+    let models : model ≡ m = cc (line, next) in
+    let traces : trace ≡ t = cc (line, next) in
+    cc (models, traces, asked)
 
 -- a command that is ready refuses nothing
 ready_apart : (c : Command) (files : Option Files) (status : Status) (line : List ℕ) → IsReady c files → Refuses c files status line → ⊥
@@ -122,6 +135,8 @@ ready_apart Help files status line ready refuses = refuses
 ready_apart (OfFile Upgrade name) files status line ready refuses = upgrade_ready files name line status ready refuses
 ready_apart (Judge model trace which bound) None status line ready refuses = ready
 ready_apart (Judge model trace which bound) (Some told) status line ready refuses = good_files told model trace line status ready.0 ready.1 refuses
+ready_apart (Measure model trace which) None status line ready refuses = ready
+ready_apart (Measure model trace which) (Some told) status line ready refuses = good_files told model trace line status ready.0 ready.1 refuses
 
 -- a command that makes a text refuses nothing
 made_apart : (c : Command) (files : Option Files) (status later : Status) (text line : List ℕ) → IsSome files → Makes c files status text → Refuses c files later line → ⊥
@@ -132,6 +147,9 @@ made_apart (OfFile Upgrade name) (Some files) status later text line told makes 
 made_apart (Judge model trace which bound) None status later text line told makes refuses = absurd (cc told)
 made_apart (Judge model trace which bound) (Some files) status later text line told makes refuses =
     good_files files model trace line later (makes.graph, makes.is_model) (makes.events, makes.end, makes.is_trace) refuses
+made_apart (Measure model trace which) None status later text line told makes refuses = absurd (cc told)
+made_apart (Measure model trace which) (Some files) status later text line told makes refuses =
+    good_files files model trace line later (makes.graph, makes.is_model) (makes.events, makes.end, makes.is_trace) refuses
 
 -- two refusals of one command have one status
 same_refusal : (c : Command) (files : Option Files) (status later : Status) (line other : List ℕ) → IsSome files → Refuses c files status line → Refuses c files later other → status ≡ later
@@ -140,6 +158,8 @@ same_refusal Help files status later line other told refuses too = absurd refuse
 same_refusal (OfFile Upgrade name) files status later line other told refuses too = upgrade_status files name line status refuses ∙ sym (upgrade_status files name other later too)
 same_refusal (Judge model trace which bound) None status later line other told refuses too = absurd (cc told)
 same_refusal (Judge model trace which bound) (Some files) status later line other told refuses too = one_status files model trace line other status later refuses too
+same_refusal (Measure model trace which) None status later line other told refuses too = absurd (cc told)
+same_refusal (Measure model trace which) (Some files) status later line other told refuses too = one_status files model trace line other status later refuses too
 
 -- the command of the words refuses nothing where it is ready
 pub ready_not_refused : (c d : Command) (words : List (List ℕ)) (files : Option Files) (status : Status) (line : List ℕ) → IsCommandLine c words → IsCommandLine d words → IsReady c files → Refuses d files status line → ⊥

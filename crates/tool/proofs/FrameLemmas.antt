@@ -1,13 +1,15 @@
 -- What follows where nothing was disturbed.
-use Rattle.std.proofs.Common.{◌≡◌, ℕ, List, Option, inl, inr, refl}
-use Rattle.std.specs.Prelude.{◌⊎◌, IsSome}
+use Rattle.std.proofs.Common.{◌≡◌, ℕ, ◌<◌, List, length, take, true, Option, Result, Ok, Err, inl, inr, refl, sym, subst}
+use Rattle.std.proofs.lemmas.Bool.{true≢false}
+use Rattle.std.specs.Prelude.{◌⊎◌, IsSome, OnErr, is_err}
 use Rattle.dm_base.specs.declared.verdict.Status.{Status}
 use Rattle.dm_base.specs.declared.verdict.Status.TheVariants as statuses
+use Rattle.dm_io.specs.Sink.{Takes}
 use Rattle.dm_io.specs.Store.{Files}
 use Rattle.tool.specs.declared.stop.Stop.{Stop}
 use Rattle.tool.specs.declared.stop.Stop.TheVariants as stops
 use Rattle.tool.specs.Commands.{IsFinished}
-use Rattle.tool.specs.Frame.{call_of, IsSound, IsRefused, IsUndisturbed}
+use Rattle.tool.specs.Frame.{call_of, IsSound, IsRefused, IsUndisturbed, Writes}
 use Rattle.tool.specs.Stop.{HasStop, IsWorked, status_of_stop}
 use Rattle.tool.proofs.CommandLemmas.{ready_not_refused, made_not_refused, refused_once}
 
@@ -35,3 +37,11 @@ module _ (words : List (List ℕ)) (files : Option Files) (before after out_befo
   -- work that is done refuses no file
   pub done_not_refused : (status later : Status) (text line : List ℕ) → IsWorked words files status text → IsSome files → IsRefused (call_of words files before after out_before out_after) later line → ⊥
   done_not_refused status later text line worked told refused = made_not_refused worked.0 refused.0 words files status later text line told worked.1 refused.1 worked.2 refused.2
+
+-- what was written of a text before a write failed
+pub written_in_part : {A E : Type 0} (r : Result A E) (words : List (List ℕ)) (files : Option Files) (before after out_before out_after : ℕ) (status : Status) (text shown : List ℕ) (old new : Option (List ℕ))
+    → is_err r ≡ true → shown ≡ text → OnErr r ((n : ℕ) × (n < length shown) × Takes old new (take n shown)) → IsWorked words files status text
+    → Writes statuses.WriteFault (call_of words files before after out_before out_after) old new
+written_in_part (Ok a) words files before after out_before out_after status text shown old new failed same part worked = absurd (true≢false (sym failed))
+written_in_part (Err e) words files before after out_before out_after status text shown old new failed same part worked =
+    (status, text, part.0, worked, subst (λ (w : List ℕ). Takes old new (take part.0 w)) same part.2)

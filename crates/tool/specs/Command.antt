@@ -40,6 +40,7 @@ pub data Command : Type 0 where
   Help : Command
   OfFile : FileCommand → List ℕ → Command
   Judge : List ℕ → List ℕ → Asked → ℕ → Command
+  Measure : List ℕ → List ℕ → Asked → Command
 
 -- the words of each command
 abbrev pub IsCommandLine : Command → List (List ℕ) → Type 0
@@ -48,3 +49,4 @@ IsCommandLine Help words = words ≡ codes "--help" ∷ []
 IsCommandLine (OfFile which file) words = words ≡ file_word which ∷ file ∷ []
 IsCommandLine (Judge model trace which bound) words =
     (rest : List (List ℕ)) × (words ≡ codes "judge" ∷ model ∷ trace ∷ rest) × IsAskedBy which bound rest
+IsCommandLine (Measure model trace which) words = words ≡ codes "measure" ∷ model ∷ trace ∷ asked_word which ∷ []

@@ -5,8 +5,9 @@ use Rattle.dm_base.specs.declared.verdict.Status.TheVariants.{Done, Rejected, Bo
 use Rattle.dm_io.specs.Store.{Files, IsMissing}
 use Rattle.tool.specs.Command.{Command, monitors_of}
 use Rattle.tool.specs.Command.FileCommand.{Upgrade}
-use Rattle.tool.specs.Command.Command.{Version, Help, OfFile, Judge}
+use Rattle.tool.specs.Command.Command.{Version, Help, OfFile, Judge, Measure}
 use Rattle.tool.specs.Judge.{Judges, RefusesToJudge, LacksToJudge, IsReadyToJudge}
+use Rattle.tool.specs.Measure.{Measures}
 use Rattle.tool.specs.Upgrade.{Upgrades, RefusesToUpgrade, IsReadyToUpgrade}
 
 abbrev pub version_text : List ℕ
@@ -17,6 +18,7 @@ help_text =
     codes "dyckmon, dyckmon --version            the version\n"
     ++ codes "dyckmon --help                        this text\n"
     ++ codes "dyckmon judge MODEL TRACE WHICH [K]   the verdict lines of the model on the trace\n"
+    ++ codes "dyckmon measure MODEL TRACE WHICH     how many calls may come next along the trace\n"
     ++ codes "dyckmon upgrade MODEL                 the file of the model in the newest version\n"
     ++ codes "MODEL and TRACE are names of files. WHICH is callgraph, stack, dyck, or all for the three in this\n"
     ++ codes "order. K is how many calls may be open at once in the Dyck model, 1 to 65535; it is 1000 where\n"
@@ -34,6 +36,8 @@ Makes (OfFile which file) None status text = IsFinished status
 Makes (OfFile Upgrade file) (Some files) status text = (status ≡ Done) × Upgrades files file text
 Makes (Judge model trace which bound) None status text = IsFinished status
 Makes (Judge model trace which bound) (Some files) status text = Judges files model trace (monitors_of which) bound status text
+Makes (Measure model trace which) None status text = IsFinished status
+Makes (Measure model trace which) (Some files) status text = Measures files model trace (monitors_of which) status text
 
 -- the command refuses a file, with this status and this line
 abbrev pub Refuses : Command → Option Files → Status → List ℕ → Type 0
@@ -41,6 +45,7 @@ Refuses Version files status line = ⊥
 Refuses Help files status line = ⊥
 Refuses (OfFile Upgrade file) files status line = RefusesToUpgrade files file status line
 Refuses (Judge model trace which bound) files status line = RefusesToJudge files model trace status line
+Refuses (Measure model trace which) files status line = RefusesToJudge files model trace status line
 
 -- a file that the command asks for isn't there
 abbrev pub Lacks : Command → Option Files → Type 0
@@ -48,6 +53,7 @@ Lacks Version files = ⊥
 Lacks Help files = ⊥
 Lacks (OfFile which file) files = IsMissing files file
 Lacks (Judge model trace which bound) files = LacksToJudge files model trace
+Lacks (Measure model trace which) files = LacksToJudge files model trace
 
 -- the command's files are told, and are such that it refuses none
 abbrev pub IsReady : Command → Option Files → Type 0
@@ -55,3 +61,4 @@ IsReady Version files = Unit {0}
 IsReady Help files = Unit {0}
 IsReady (OfFile Upgrade file) files = IsReadyToUpgrade files file
 IsReady (Judge model trace which bound) files = IsReadyToJudge files model trace
+IsReady (Measure model trace which) files = IsReadyToJudge files model trace

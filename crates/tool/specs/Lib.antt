@@ -8,3 +8,5 @@ pub mod Reading
 pub mod Refused
 pub mod Stop
 pub mod Upgrade
+pub mod Told
+pub mod Measure

@@ -1,4 +1,4 @@
--- How far a trace file has been read, and what that says of the file.
+-- For private contracts and proofs alone: how far a trace file has been read, and what that says of the file.
 use Rattle.std.specs.Prelude.{◌≡◌, ◌≢◌, ◌⊎◌, ℕ, ◌≤◌, List, Option, None, Some, length, IfSome}
 use Rattle.dm_base.specs.declared.event.Event.{Event}
 use Rattle.dm_base.specs.declared.outcome.TraceEnd.{TraceEnd}
@@ -6,8 +6,6 @@ use Rattle.dm_base.specs.declared.verdict.Status.{Status}
 use Rattle.dm_base.specs.declared.verdict.Status.TheVariants as statuses
 use Rattle.dm_io.specs.Faults.{Rose}
 use Rattle.dm_io.specs.Store.{Files, file_at, IsMissing}
-use Rattle.flow_model.specs.declared.which.Which.{Which}
-use Rattle.flow_model.specs.Graph.{Graph}
 use Rattle.model_file.specs.declared.error.ModelError.{ModelError}
 use Rattle.model_file.specs.declared.error.ModelError.TheVariants as models
 use Rattle.trace_file.specs.declared.error.TraceError.{TraceError}
@@ -18,7 +16,6 @@ use Rattle.trace_file.specs.Trace.{longest, IsTraceWithin, IsTraceShown, IsTrace
 use Rattle.tool.specs.declared.stop.Stop.{Stop}
 use Rattle.tool.specs.declared.stop.Stop.TheVariants as stops
 use Rattle.tool.specs.Judge.{model_refusal, trace_refusal, RefusesModel}
-use Rattle.tool.specs.Judged.{AreJudged}
 
 -- the reader was given the text, and the events that it gave have been judged
 pub record IsOpen (reader : TraceReader) (Judged : List Event → Type 0) (text : List ℕ) : Type 0 where
@@ -77,12 +74,6 @@ IsStopOf (stops.Record line) error = (error ≢ traces.OutOfMemory) × (line.ite
 IsStopOf stops.Read error = ⊥
 IsStopOf stops.Write error = ⊥
 IsStopOf stops.OutOfMemory error = Unit {0}
-
--- the trace in the file has these verdicts of the monitors
-pub record AreTraceJudged (files : Option Files) (name : List ℕ) (monitors : List Which) (g : Graph) (bound : ℕ) (status : Status) (text : List ℕ) : Type 0 where
-  pub events : List Event
-  pub is : IfSome files (λ told. (end : TraceEnd) × IsTraceWithin (file_at told name) events end)
-  pub judged : AreJudged monitors g bound events status text
 
 -- why a model was not read, by the told files and the store's count before and after
 abbrev pub StopsModel : Stop → Option Files → List ℕ → ℕ → ℕ → Type 0

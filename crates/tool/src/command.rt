@@ -1,5 +1,6 @@
 ghost use Rattle.std.specs.Prelude.{◌≡◌, ◌≤◌, ◌⊎◌, ℕ, List, [], ◌∷◌, map, string_bytes, decimal, IfSome, IfNone};
 ghost use Rattle.tool.specs.Command.{Command as AskedCommand, IsCommandLine, IsAskedBy, asked_word};
+ghost use Rattle.tool.specs.Command.Command.{Judge, Measure};
 ghost use Rattle.tool.specs.declared.command.Asked.{Asked as AnyAsked};
 ghost use Rattle.tool.specs.Asked.{asked_by};
 
@@ -34,6 +35,12 @@ pub enum Command<'a> {
         asked: Asked,
         bound: u32,
     },
+    /// The precision of monitors of the model in a file along the trace in another.
+    Measure {
+        model: &'a str,
+        trace: &'a str,
+        asked: Asked,
+    },
 }
 
 // The bound of the Dyck model where none is given.
@@ -51,7 +58,7 @@ pub fn command_of(words: &[String]) -> Option<Command<'_>>
         [] => Some(Command::Version),
         [word] => option_of(word),
         [word, file] => file_command_of(word, file),
-        [word, model, trace, asked @ ..] => judge_of(word, model, trace, asked),
+        [word, model, trace, asked @ ..] => trace_command_of(word, model, trace, asked),
     }
 }
 
@@ -136,9 +143,57 @@ fn bounded(which: &str, bound: &str) -> Option<(Asked, u32)>
 }
 
 // A command of a word, two files, and what is asked for.
-fn judge_of<'a>(word: &str, model: &'a str, trace: &'a str, words: &[String]) -> Option<Command<'a>>
+fn trace_command_of<'a>(
+    word: &str,
+    model: &'a str,
+    trace: &'a str,
+    words: &[String],
+) -> Option<Command<'a>>
     ensures some { IfSome result (λ command. IsCommandLine (asked_by command) (word.now ∷ model.now ∷ trace.now ∷ map string_bytes words.now)) }
     ensures none { IfNone result ((c : AskedCommand) → IsCommandLine c (word.now ∷ model.now ∷ trace.now ∷ map string_bytes words.now) → ⊥) }
+{
+    match judge_of(word, model, trace, words) {
+        Some(command) => Some(command),
+        None => measure_of(word, model, trace, words),
+    }
+}
+
+// The command `measure`.
+fn measure_of<'a>(
+    word: &str,
+    model: &'a str,
+    trace: &'a str,
+    words: &[String],
+) -> Option<Command<'a>>
+    ensures some { IfSome result (λ command. IsCommandLine (asked_by command) (word.now ∷ model.now ∷ trace.now ∷ map string_bytes words.now)) }
+    ensures none { IfNone result ((m t : List ℕ) (which : AnyAsked) → IsCommandLine (Measure m t which) (word.now ∷ model.now ∷ trace.now ∷ map string_bytes words.now) → ⊥) }
+{
+    if word != "measure" {
+        return None;
+    }
+    let asked = asked_alone(words)?;
+    Some(Command::Measure {
+        model,
+        trace,
+        asked,
+    })
+}
+
+// The monitors that the only word asks for.
+fn asked_alone(words: &[String]) -> Option<Asked>
+    ensures some { IfSome result (λ asked. map string_bytes words.now ≡ asked_word asked ∷ []) }
+    ensures none { IfNone result ((asked : AnyAsked) → map string_bytes words.now ≡ asked_word asked ∷ [] → ⊥) }
+{
+    match words {
+        [which] => asked_of(which),
+        _ => None,
+    }
+}
+
+// The command `judge`.
+fn judge_of<'a>(word: &str, model: &'a str, trace: &'a str, words: &[String]) -> Option<Command<'a>>
+    ensures some { IfSome result (λ command. IsCommandLine (asked_by command) (word.now ∷ model.now ∷ trace.now ∷ map string_bytes words.now)) }
+    ensures none { IfNone result ((m t : List ℕ) (which : AnyAsked) (bound : ℕ) → IsCommandLine (Judge m t which bound) (word.now ∷ model.now ∷ trace.now ∷ map string_bytes words.now) → ⊥) }
 {
     if word != "judge" {
         return None;

@@ -4,8 +4,10 @@ ghost use Rattle.model_file.specs.Refusal.{IsModel};
 ghost use Rattle.tool.specs.Command.{monitors_of};
 ghost use Rattle.tool.specs.Commands.{IsFinished};
 ghost use Rattle.tool.specs.Judge.{Judges, RefusesToJudge, LacksToJudge};
-ghost use Rattle.tool.specs.Reading.{AreTraceJudged, IsStopOfModel, StopsTrace, StopsModel};
+ghost use Rattle.tool.specs.Judged.{AreJudged};
+ghost use Rattle.tool.specs.Reading.{IsStopOfModel, StopsTrace, StopsModel};
 ghost use Rattle.tool.specs.Stop.{Stops};
+ghost use Rattle.tool.specs.Told.{IsTraceTold};
 
 use crate::command::Asked;
 use crate::finished::Finished;
@@ -56,8 +58,8 @@ fn refused_with(alloc: Global, error: ModelError) -> Stop
     }
 }
 
-// Has the monitors of a panel judge the trace in a file.
-fn judge_by<S: Store, P: Panel>(
+/// Has a panel follow the trace in a file, and tell what it found.
+pub fn follow_by<S: Store, P: Panel>(
     alloc: Global,
     store: &mut S,
     model: &Model,
@@ -65,7 +67,7 @@ fn judge_by<S: Store, P: Panel>(
     bound: u32,
 ) -> Result<Finished, Stop>
     requires { (1 ≤ bound) × (bound < 2 ^ 16) }
-    ensures judged { IfOk result (λ done. AreTraceJudged (S.files store.old) trace.now P.monitors model.now bound done.status done.text.items) }
+    ensures told { IfOk result (λ done. IsTraceTold (S.files store.old) trace.now (P.tells model.now bound) done.status done.text.items) }
     ensures same { S.files store.new ≡ S.files store.old }
     ensures stop { IfErr result (λ stop. StopsTrace stop (S.files store.old) trace.now (S.faults store.old) (S.faults store.new)) }
     ensures never_falls { S.faults store.old ≤ S.faults store.new }
@@ -86,18 +88,18 @@ fn judge_asked<S: Store>(
     bound: u32,
 ) -> Result<Finished, Stop>
     requires { (1 ≤ bound) × (bound < 2 ^ 16) }
-    ensures judged { IfOk result (λ done. AreTraceJudged (S.files store.old) trace.now (monitors_of asked) model.now bound done.status done.text.items) }
+    ensures judged { IfOk result (λ done. IsTraceTold (S.files store.old) trace.now (AreJudged (monitors_of asked) model.now bound) done.status done.text.items) }
     ensures same { S.files store.new ≡ S.files store.old }
     ensures stop { IfErr result (λ stop. StopsTrace stop (S.files store.old) trace.now (S.faults store.old) (S.faults store.new)) }
     ensures never_falls { S.faults store.old ≤ S.faults store.new }
 {
     match asked {
         Asked::Callgraph => {
-            judge_by::<S, Judging<CallgraphMonitor>>(alloc, store, model, trace, bound)
+            follow_by::<S, Judging<CallgraphMonitor>>(alloc, store, model, trace, bound)
         }
-        Asked::Stack => judge_by::<S, Judging<StackMonitor>>(alloc, store, model, trace, bound),
-        Asked::Dyck => judge_by::<S, Judging<DyckMonitor>>(alloc, store, model, trace, bound),
-        Asked::All => judge_by::<S, All>(alloc, store, model, trace, bound),
+        Asked::Stack => follow_by::<S, Judging<StackMonitor>>(alloc, store, model, trace, bound),
+        Asked::Dyck => follow_by::<S, Judging<DyckMonitor>>(alloc, store, model, trace, bound),
+        Asked::All => follow_by::<S, All>(alloc, store, model, trace, bound),
     }
 }
 

@@ -5,7 +5,7 @@ ghost use Rattle.flow_model.specs.Graph.{Graph};
 ghost use Rattle.flow_model.specs.Verdict.{IsAccepted, IsStep, IsVerdict};
 ghost use Rattle.report.specs.VerdictLine.{verdict_text, IsGiven, event_at};
 ghost use Rattle.sys_table.specs.Table.{IsRecorded};
-ghost use Rattle.tool.specs.Judged.{status_of};
+ghost use Rattle.tool.specs.Judged.{status_of, AreJudged};
 ghost use Rattle.tool.specs.Refused.{IsRefusedAt, IsKeptWhole, HasComeTo};
 ghost use Rattle.trace_file.specs.Trace.{most};
 
@@ -131,9 +131,9 @@ fn refusal(alloc: Global, verdict: Verdict, event: &Event) -> Result<Refused, Ou
 }
 
 impl<M: Monitor> Panel for Judging<M> {
-    ghost monitors = { M.WHICH ∷ [] };
-
     ghost judged = { λ j g k h. M.is_pool j.pool g × M.noted j.pool g [] × HasComeTo (M.stands j.monitor j.pool g k h) M.WHICH g k h j.kept j.refused };
+
+    ghost tells = { λ g k h status text. AreJudged (M.WHICH ∷ []) g k h status text };
 
     fn open(alloc: Global, model: &Model, bound: u32) -> Result<Self, OutOfMemory> {
         let mut pool = M::pool(alloc, model)?;

@@ -5,6 +5,8 @@ mod command;
 mod finished;
 mod judge;
 mod judging;
+mod measure;
+mod metering;
 mod pair;
 mod panel;
 mod reading;

@@ -1,5 +1,6 @@
 ghost use Rattle.std.specs.Prelude.{◌≡◌, ◌++◌, IfOk};
 ghost use Rattle.tool.specs.Judged.{worse};
+ghost use Rattle.tool.specs.Told.{AreBothTold};
 
 use crate::finished::Finished;
 use crate::panel::Panel;
@@ -7,7 +8,7 @@ use dm_base::{Event, OutOfMemory, Status};
 use flow_model::Model;
 use std::alloc::Global;
 
-/// Two panels that judge the same trace, the lines of the first before those of the second.
+/// Two panels that follow the same trace; the text of the first stands before that of the second.
 #[derive(Drop)]
 pub struct Pair<A: Panel, B: Panel> {
     first: A,
@@ -40,9 +41,9 @@ fn joined(first: Finished, second: Finished) -> Result<Finished, OutOfMemory>
 }
 
 impl<A: Panel, B: Panel> Panel for Pair<A, B> {
-    ghost monitors = { A.monitors ++ B.monitors };
-
     ghost judged = { λ p g k h. A.judged p.first g k h × B.judged p.second g k h };
+
+    ghost tells = { λ g k h status text. AreBothTold (A.tells g k h) (B.tells g k h) status text };
 
     fn open(alloc: Global, model: &Model, bound: u32) -> Result<Self, OutOfMemory> {
         Ok(Pair {

@@ -8,6 +8,7 @@ ghost use Rattle.tool.specs.Stop.{line_of, status_of_stop, HasStop, IsWorked};
 use crate::command::{Command, command_of};
 use crate::finished::Finished;
 use crate::judge::judge;
+use crate::measure::measure;
 use crate::stop::Stop;
 use crate::upgrade::upgrade;
 use dm_base::{OutOfMemory, Status};
@@ -20,6 +21,7 @@ const HELP_TEXT: &[u8] = b"\
 dyckmon, dyckmon --version            the version
 dyckmon --help                        this text
 dyckmon judge MODEL TRACE WHICH [K]   the verdict lines of the model on the trace
+dyckmon measure MODEL TRACE WHICH     how many calls may come next along the trace
 dyckmon upgrade MODEL                 the file of the model in the newest version
 MODEL and TRACE are names of files. WHICH is callgraph, stack, dyck, or all for the three in this
 order. K is how many calls may be open at once in the Dyck model, 1 to 65535; it is 1000 where
@@ -48,6 +50,13 @@ fn work<S: Store>(alloc: Global, words: &[String], store: &mut S) -> Result<Fini
         None => Err(Stop::Usage),
         Some(Command::Version) => Ok(done(alloc, VERSION_TEXT)?),
         Some(Command::Help) => Ok(done(alloc, HELP_TEXT)?),
+        Some(
+            Command::Measure {
+                model,
+                trace,
+                asked,
+            },
+        ) => measure(alloc, store, model, trace, asked),
         Some(Command::Upgrade { model }) => upgrade(alloc, store, model),
         Some(
             Command::Judge {

@@ -480,6 +480,50 @@ fn judges_a_trace_that_is_swept_on_the_way(rt: HostRuntime) -> Result<(), Fail> 
 }
 
 #[test]
+fn measures_how_many_calls_may_come_next(rt: HostRuntime) -> Result<(), Fail> {
+    let alloc = rt.alloc();
+    let three: &[u8] = b"dyckmon-trace 1\nS getpid = 100\nS getuid = 0\nS getpid = 101\nend open\n";
+    let all: &[u8] =
+        b"callgraph prefixes 4 branching 4\nstack prefixes 4 branching 3\ndyck prefixes 1 branching 0\n";
+    let rows: [(&[&str], &[u8], Status, &[u8], &[u8]); 5] = [
+        (&["measure", "a", "t", "all"], three, Status::Done, all, b""),
+        (
+            &["measure", "a", "t", "stack"],
+            three,
+            Status::Done,
+            b"stack prefixes 4 branching 3\n",
+            b"",
+        ),
+        (
+            &["measure", "a", "t", "all", "5"],
+            three,
+            Status::Usage,
+            b"",
+            b"usage\n",
+        ),
+        (
+            &["measure", "a", "t"],
+            three,
+            Status::Usage,
+            b"",
+            b"usage\n",
+        ),
+        (
+            &["measure", "a", "t", "dyck"],
+            B,
+            Status::RecordRefused,
+            b"",
+            b"record refused X1 line 1\n",
+        ),
+    ];
+    for (words, trace, status, out, err) in rows.iter() {
+        let got = run_on(alloc, words, B, trace)?;
+        expect(&rt, &got, *status, out, err);
+    }
+    Ok(())
+}
+
+#[test]
 fn a_model_is_written_in_the_newest_version(rt: HostRuntime) -> Result<(), Fail> {
     let alloc = rt.alloc();
     let older: &[u8] =

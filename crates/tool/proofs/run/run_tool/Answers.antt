@@ -1,9 +1,10 @@
-use Rattle.std.proofs.Common.{◌≡◌, sym, subst}
+use Rattle.std.proofs.Common.{◌≡◌, ℕ, List, map, string_bytes, sym, subst, rules}
 use Rattle.std.specs.Prelude.{◌⊎◌}
 use Rattle.dm_base.specs.declared.verdict.Status.{Status}
 use Rattle.dm_base.specs.declared.verdict.Status.TheVariants as statuses
 use Rattle.tool.specs.Commands.{IsFinished}
-use Rattle.tool.proofs.FrameLemmas.{sound_stop, refused_stop, done_not_refused}
+use Rattle.tool.specs.Frame.{call_of, Writes}
+use Rattle.tool.proofs.FrameLemmas.{sound_stop, refused_stop, done_not_refused, written_in_part}
 use Rattle.tool.proofs.run.run_tool.Goals as goal
 
 pub returns-in-Err-clause-complete : goal.returns-in-Err-clause-complete
@@ -17,3 +18,16 @@ returns-in-Err-clause-refused g c = λ status line told refused undisturbed.
 pub returns-clause-refused : goal.returns-clause-refused
 returns-clause-refused g c = λ status line told refused undisturbed.
     absurd (done_not_refused _ _ (g.S.Store.faults c.args.store.now) (g.S.Store.faults c.work.new.store) (g.O.Sink.faults c.args.out.now) (g.O.Sink.faults c.write_whole.new.sink) c.in-Ok.finished.status status c.in-Ok.finished.text.items line c.in-Ok.ensures.made.1 told refused)
+
+pub returns-then-is_err-clause-written : goal.returns-then-is_err-clause-written
+returns-then-is_err-clause-written g c =
+    let words : List (List ℕ) = map string_bytes c.args.words.now in
+    let files = g.S.Store.files c.args.store.now in
+    let before = g.S.Store.faults c.args.store.now in
+    let after = g.S.Store.faults c.work.new.store in
+    let out_before = g.O.Sink.faults c.args.out.now in
+    let out_after = g.O.Sink.faults c.write_whole.new.sink in
+    let old = g.O.Sink.taken c.args.out.now in
+    let new = g.O.Sink.taken c.write_whole.new.sink in
+    subst (λ (s : Status). Writes s (call_of words files before after out_before out_after) old new) (sym c.refuse-then-is_err.ensures.status)
+    (written_in_part c.write_whole.result words files before after out_before out_after c.in-Ok.finished.status c.in-Ok.finished.text.items c.deref.result.now old new (search rules) c.deref.ensures.value c.write_whole.ensures.err c.in-Ok.ensures.made.1)
