@@ -13,7 +13,7 @@ same_itself : (x : ObjectName) → same_name x x ≡ true
 same_itself x =
     ap (λ b. if b then nat_eq x.variable x.variable else false) (eq-eqb x.activation x.activation refl) ∙ eq-eqb x.variable x.variable refl
 
-same_is : (x y : ObjectName) → same_name x y ≡ true → x ≡ y
+pub same_is : (x y : ObjectName) → same_name x y ≡ true → x ≡ y
 same_is x y h = at (nat_eq x.activation y.activation) refl h
   where
     at : (b : Bool) → nat_eq x.activation y.activation ≡ b → (if b then nat_eq x.variable y.variable else false) ≡ true → x ≡ y

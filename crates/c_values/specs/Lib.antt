@@ -1,3 +1,6 @@
 pub mod Answers
+pub mod Held
 pub mod Memory
 pub mod MemoryLaws
+pub mod Seen
+pub mod Told

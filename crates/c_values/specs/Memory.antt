@@ -1,5 +1,5 @@
 -- Memory: the objects that there are, by their names (C99 3.14, 6.2.4). Each scalar is one cell.
-use Rattle.std.specs.Prelude.{ℕ, ◌+◌, ◌*◌, nat_lt, nat_eq, if◌then◌else◌, Bool, false, List, replicate, Option, Some, None, slice_get, slice_set}
+use Rattle.std.specs.Prelude.{◌≡◌, ◌≤◌, length, ℕ, ◌+◌, ◌*◌, nat_lt, nat_eq, if◌then◌else◌, Bool, true, false, List, replicate, Option, Some, None, slice_get, slice_set}
 use Rattle.c_tree.specs.declared.value.ObjectName.{ObjectName}
 use Rattle.c_tree.specs.declared.value.Pointer.{Pointer}
 use Rattle.c_tree.specs.declared.value.Value.{Value}
@@ -29,6 +29,15 @@ changed m x o y = if same_name x y then o else m y
 -- the name has so many indeterminate cells from now on
 abbrev pub declared : Objects → ObjectName → ℕ → Objects
 declared m x n = changed m x (Some (record { cells = replicate n Indeterminate; string = false }))
+
+-- an object as that of a string literal
+abbrev pub marked : Option Object → Option Object
+marked None = None
+marked (Some o) = Some (record { cells = o.cells; string = true })
+
+-- the object of the name is that of a string literal from now on (6.4.5 paragraph 6)
+abbrev pub sealed : Objects → ObjectName → Objects
+sealed m x = changed m x (marked (m x))
 
 -- the object has ended
 abbrev pub ended : Objects → ObjectName → Objects
@@ -77,3 +86,7 @@ abbrev pub store : Objects → Pointer → ℕ → Value → Answer Objects
 store m q cell v =
     and_then (object m q.name) (λ o. and_then (element q) (λ first. and_then (writable o) (λ cells.
     and_then (set_cell cells (first + cell) v (slice_get cells (first + cell))) (λ new. gives (changed m q.name (Some new))))))
+
+-- where the object is there, the elements of the array lie in its cells, and the pointer leads to one of them or one past the last
+abbrev pub IsInside : Objects → Pointer → Type 0
+IsInside m q = (o : Object) → m q.name ≡ Some o → (q.first + q.elements * q.width ≤ length o.cells) × (q.index ≤ q.elements)
