@@ -4,27 +4,15 @@ ghost use Rattle.c_values.specs.Answers.{and_then};
 ghost use Rattle.c_values.specs.Memory.{element, cell_value, writable, set_cell};
 ghost use Rattle.c_values.specs.Held.{held_object, LiesIn, load_from, store_to};
 
+use crate::kinds::kind;
 use c_tree::{Pointer, Value};
-use dm_base::{Kind, OutOfMemory};
-use std::alloc::Global;
+use dm_base::Kind;
 
 // An object: the values of its cells, and whether it is a string literal.
 #[derive(Drop)]
 pub struct Held {
     pub cells: Vec<Value>,
     pub string: bool,
-}
-
-// The kind with this number.
-pub fn kind(number: u8) -> Kind
-    requires least { 1 ≤ number }
-    requires greatest { number ≤ 12 }
-    ensures { result ≡ number }
-{
-    match Kind::from_number(number) {
-        Some(kind) => kind,
-        None => unreachable!(),
-    }
 }
 
 // The first cell of the element that is pointed to.

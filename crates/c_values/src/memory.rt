@@ -3,7 +3,8 @@ ghost use Rattle.c_values.specs.Told.{told, left};
 ghost use Rattle.c_values.specs.Memory.{no_objects, declared, sealed, ended, load, store, IsInside};
 ghost use Rattle.c_values.specs.Seen.{seen};
 
-use crate::held::{Held, kind};
+use crate::held::Held;
+use crate::kinds::kind;
 use c_tree::{ObjectName, Pointer, Value};
 use dm_base::{Kind, OutOfMemory};
 use indexmap::IndexMap;
