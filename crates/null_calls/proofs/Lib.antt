@@ -1,0 +1,2 @@
+pub mod TrialUnits
+mod Trials

@@ -1,0 +1,10 @@
+pub mod Bracketed
+pub mod BracketedExpressions
+pub mod BracketedPrograms
+pub mod BracketedStatements
+pub mod Brackets
+pub mod MarkedCalls
+pub mod Marks
+pub mod SpelledTypes
+pub mod Temporaries
+pub mod WithoutSites
