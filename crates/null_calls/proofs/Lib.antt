@@ -1,2 +1,3 @@
 pub mod TrialUnits
 mod Trials
+mod Unsited

@@ -138,21 +138,21 @@ every_place = items_of (
     ∷ getpid_declared
     ∷ f_that_asks
     ∷ define syntax.void (of_params (declared (codes "v")) (param struct_s (pointer_to (declared (codes "p")))))
-      (block_of (doing (call_of (codes "getpid") []) ∷ doing (becomes (member 0 arrow (name (codes "p")) (ident (codes "x"))) (int 1)) ∷ []))
+    (block_of (doing (call_of (codes "getpid") []) ∷ doing (becomes (member 0 arrow (name (codes "p")) (ident (codes "x"))) (int 1)) ∷ []))
     ∷ define syntax.int (of_params (pointer_to (of_void (declared (codes "pick")))) (param syntax.int nothing))
-      (block_of (doing (call_of (codes "getpid") []) ∷ returns (name (codes "f")) ∷ []))
+    (block_of (doing (call_of (codes "getpid") []) ∷ returns (name (codes "f")) ∷ []))
     ∷ define syntax.int (of_void (declared (codes "main")))
-      (block_decl (a_decl struct_s (declared (codes "a")) no_init)
-      (block_decl (a_decl syntax.int (declared (codes "i")) (an_init (one 0 (f_of (int 0)))))
-      (block_decl (a_decl syntax.int (of_params (pointer_to (declared (codes "g"))) (param syntax.int nothing)) (an_init (one 0 (call_of (codes "pick") []))))
-      (block_of (
-      doing v_of_a
-      ∷ for_loop 0 (first_expr (f_of (int 1))) (there (less (f_of i) (int 2))) (there (becomes i (plus i (f_of (int 1))))) (block 0 (block_of (continue_on 0 ∷ [])))
-      ∷ switch_on 0 (f_of (int 3)) (more_groups (case_label 0 (int 3) no_labels) (stmts_of (doing (f_of (f_of (int 1))) ∷ break_off 0 ∷ [])) (more_groups (default_label 0 no_labels) (stmts_of (doing v_of_a ∷ [])) no_groups))
-      ∷ while_loop 0 (binary 0 and (f_of (int 0)) (f_of (int 1))) (empty 0)
-      ∷ doing (becomes i (commas (v_of_a ∷ call_of (codes "g") (f_of (int 2) ∷ []) ∷ [])))
-      ∷ doing (cast 0 (type_name 0 syntax.void nothing) (f_of (int 1)))
-      ∷ doing (conditional 0 (call_of (codes "g") (call_of (codes "g") (int 1 ∷ []) ∷ [])) (f_of (int 0)) (f_of (int 1)))
-      ∷ returns (call 0 (call_of (codes "pick") []) (exprs (i ∷ [])))
-      ∷ [])))))
+    (block_decl (a_decl struct_s (declared (codes "a")) no_init)
+    (block_decl (a_decl syntax.int (declared (codes "i")) (an_init (one 0 (f_of (int 0)))))
+    (block_decl (a_decl syntax.int (of_params (pointer_to (declared (codes "g"))) (param syntax.int nothing)) (an_init (one 0 (call_of (codes "pick") []))))
+    (block_of (
+    doing v_of_a
+    ∷ for_loop 0 (first_expr (f_of (int 1))) (there (less (f_of i) (int 2))) (there (becomes i (plus i (f_of (int 1))))) (block 0 (block_of (continue_on 0 ∷ [])))
+    ∷ switch_on 0 (f_of (int 3)) (more_groups (case_label 0 (int 3) no_labels) (stmts_of (doing (f_of (f_of (int 1))) ∷ break_off 0 ∷ [])) (more_groups (default_label 0 no_labels) (stmts_of (doing v_of_a ∷ [])) no_groups))
+    ∷ while_loop 0 (binary 0 and (f_of (int 0)) (f_of (int 1))) (empty 0)
+    ∷ doing (becomes i (commas (v_of_a ∷ call_of (codes "g") (f_of (int 2) ∷ []) ∷ [])))
+    ∷ doing (cast 0 (type_name 0 syntax.void nothing) (f_of (int 1)))
+    ∷ doing (conditional 0 (call_of (codes "g") (call_of (codes "g") (int 1 ∷ []) ∷ [])) (f_of (int 0)) (f_of (int 1)))
+    ∷ returns (call 0 (call_of (codes "pick") []) (exprs (i ∷ [])))
+    ∷ [])))))
     ∷ [])

@@ -56,11 +56,11 @@ two_calls_bracketed : with_null_calls two_calls
     ∷ define syntax.int (of_int (declared (codes "g")) (codes "x")) (block_of (returns (name (codes "x")) ∷ []))
     ∷ f_that_asks
     ∷ define syntax.int (of_void (declared (codes "main")))
-      (block_decl (a_decl syntax.int (declared (codes "__dyck_a1_0")) no_init)
-      (block_decl (a_decl syntax.int (declared (codes "__dyck_r1")) no_init)
-      (block_decl (a_decl syntax.int (declared (codes "__dyck_a3_0")) no_init)
-      (block_decl (a_decl syntax.int (declared (codes "__dyck_r3")) no_init)
-      (block_of (returns (plus (call_of_f (codes "__dyck_a1_0") (codes "__dyck_r1") 1 (call_of (codes "g") (int 1 ∷ []))) (call_of_f (codes "__dyck_a3_0") (codes "__dyck_r3") 3 (int 2))) ∷ []))))))
+    (block_decl (a_decl syntax.int (declared (codes "__dyck_a1_0")) no_init)
+    (block_decl (a_decl syntax.int (declared (codes "__dyck_r1")) no_init)
+    (block_decl (a_decl syntax.int (declared (codes "__dyck_a3_0")) no_init)
+    (block_decl (a_decl syntax.int (declared (codes "__dyck_r3")) no_init)
+    (block_of (returns (plus (call_of_f (codes "__dyck_a1_0") (codes "__dyck_r1") 1 (call_of (codes "g") (int 1 ∷ []))) (call_of_f (codes "__dyck_a3_0") (codes "__dyck_r3") 3 (int 2))) ∷ []))))))
     ∷ [])
 unfolding table sys_types int_wrap
 two_calls_bracketed = refl
@@ -68,7 +68,6 @@ two_calls_bracketed = refl
 two_calls_typed : is_fine (checked (with_null_calls two_calls) Instrumented) ≡ true
 unfolding table sys_types int_wrap
 two_calls_typed = refl
-
 
 -- the instrumented unit makes the null calls that stand round the marked calls of the plain one
 abbrev two_calls_ended : Run

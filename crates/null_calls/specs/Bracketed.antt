@@ -2,7 +2,7 @@
 -- null calls.
 use Rattle.std.specs.Prelude.{ℕ, ◌+◌, List}
 use Rattle.c_tree.specs.Tree.{Program}
-use Rattle.c_syntax.specs.Tree.{Expr, no_storage, unsigned_int, void, Declarator, nothing, named, function, no_params, more_params, no_init, no_parts, more_parts, decl}
+use Rattle.c_syntax.specs.Tree.{no_storage, unsigned_int, void, nothing, named, function, no_params, more_params, no_init, no_parts, more_parts, decl}
 use Rattle.c_syntax.specs.Tree.{Stmt, block, BlockItems, Item, struct_item, enum_item, tag_item, decl_item, function_item, Items, no_items, more_items}
 use Rattle.c_rules.specs.Names.{Name}
 use Rattle.c_rules.specs.Functions.{items_of_body}

@@ -1,10 +1,10 @@
 -- Expressions with null calls round their marked calls. Sites are numbered as the rules number them: that of a call is the number of
 -- calls whose opening parentheses stand before its own.
-use Rattle.std.specs.Prelude.{ℕ, suc, ◌+◌, Bool, true, false, List, [], ◌∷◌, ◌++◌, Option, None, Some, if◌then◌else◌}
+use Rattle.std.specs.Prelude.{ℕ, suc, ◌+◌, Bool, true, false, List, [], ◌++◌, Option, None, Some, if◌then◌else◌}
 use Rattle.c_lexer.specs.declared.punctuator.TheConstants as punctuators
-use Rattle.c_tree.specs.Tree.{CType, CTypes, no_types, more_types}
+use Rattle.c_tree.specs.Tree.{CType}
 use Rattle.c_syntax.specs.Tree.{Expr, a_name, an_int, a_char, a_str, comma, sizeof_type, cast, call, member, postfix, prefix, unary, index, binary, assign, conditional, Exprs, no_exprs, more_exprs, Maybe, absent, there}
-use Rattle.c_syntax.specs.Tree.{TypeName, type_name, Declarator, nothing, Spec, void}
+use Rattle.c_syntax.specs.Tree.{TypeName, type_name, nothing, void}
 use Rattle.c_rules.specs.Names.{Name}
 use Rattle.c_rules.specs.Counts.{calls, unless_sizeof}
 use Rattle.null_calls.specs.MarkedCalls.{Called, Sites}

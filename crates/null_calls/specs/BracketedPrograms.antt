@@ -3,7 +3,7 @@
 -- The sites are left aside: they are all 0 here.
 use Rattle.std.specs.Prelude.{ℕ, suc, ◌+◌, Bool, true, false, List, [], ◌∷◌, ◌++◌, map, length, Option, None, Some, if◌then◌else◌}
 use Rattle.c_tree.specs.declared.value.Value.TheVariants.{Uint}
-use Rattle.c_tree.specs.Tree.{CType, void, integer, pointer, array, struct, function, list_of}
+use Rattle.c_tree.specs.Tree.{CType, void, pointer, function, list_of}
 use Rattle.c_tree.specs.Tree.{Expr, constant, function_name, string_place, variable, dereference, load, address_of, decay, discard, field, unary_operation, conversion, arithmetic, comparison, pointer_add, pointer_diff, and, or, assign, update, conditional, comma, call, call_through, type_of}
 use Rattle.c_tree.specs.Tree.{Exprs, no_exprs, more_exprs, Maybe, absent, there, Inits, no_inits, more_inits}
 use Rattle.c_tree.specs.Tree.{Stmt, block, empty, evaluate, declare, if_else, while_loop, do_loop, for_loop, switch_on, break_off, continue_on, return_void, return_value, Stmts, no_stmts, more_stmts, Groups, no_groups, more_groups}
@@ -175,7 +175,7 @@ module _ (p : Program) where
     expr k wanted (call_through t site d es) =
         if is_marked p (Through (type_of d))
         then marked_through site wanted t (k + length (kept true d)) (expr k true d)
-          (arguments (k + length (kept true d) + length (of_through p wanted t (type_of d))) es)
+        (arguments (k + length (kept true d) + length (of_through p wanted t (type_of d))) es)
         else call_through t 0 (expr k true d) (arguments (k + length (kept true d)) es)
 
     pub arguments : (k : ℕ) → Exprs → Exprs

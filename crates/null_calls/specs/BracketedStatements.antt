@@ -6,7 +6,7 @@ use Rattle.c_syntax.specs.Tree.{Stmt, block, empty, evaluate, only_if, if_else, 
 use Rattle.c_syntax.specs.Tree.{BlockItems, no_block_items, block_decl, block_stmt, Stmts, no_stmts, more_stmts, Groups, no_groups, more_groups}
 use Rattle.c_rules.specs.Counts.{calls, calls_of_maybe}
 use Rattle.c_rules.specs.Initialisers.{calls_of_init, calls_of_maybe_init}
-use Rattle.c_rules.specs.Variables.{calls_of_parts, calls_of_decl, calls_of_first, calls_of_stmt, calls_of_stmts}
+use Rattle.c_rules.specs.Variables.{calls_of_decl, calls_of_first, calls_of_stmt, calls_of_stmts}
 use Rattle.null_calls.specs.MarkedCalls.{Sites}
 use Rattle.null_calls.specs.Temporaries.{Temporary}
 use Rattle.null_calls.specs.BracketedExpressions.{expr, maybe, kept, kept_of_maybe}

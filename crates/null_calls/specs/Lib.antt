@@ -5,6 +5,7 @@ pub mod BracketedStatements
 pub mod Brackets
 pub mod MarkedCalls
 pub mod Marks
+pub mod SitesLaw
 pub mod SpelledTypes
 pub mod Temporaries
 pub mod WithoutSites

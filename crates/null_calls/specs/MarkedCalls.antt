@@ -1,6 +1,6 @@
 -- What the instrumenter has to know of a program: at which sites null calls are to stand, and what is called there.
-use Rattle.std.specs.Prelude.{ℕ, Bool, true, false, Option, None, Some, if◌then◌else◌}
-use Rattle.c_tree.specs.Tree.{CType, void, integer, pointer, array, struct, function, CTypes, no_types, more_types, Program}
+use Rattle.std.specs.Prelude.{ℕ, Option, None, Some, if◌then◌else◌}
+use Rattle.c_tree.specs.Tree.{CType, pointer, function, CTypes, Program}
 use Rattle.c_tree.specs.Functions.{value_type}
 use Rattle.c_shapes.specs.Mentions.{Callee, Direct, Through, mentions_of_program}
 use Rattle.c_shapes.specs.CallGraph.{callee_at, is_marked}
