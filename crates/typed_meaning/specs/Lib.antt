@@ -1,0 +1,4 @@
+pub mod Callees
+pub mod Laws
+pub mod StoreTyping
+pub mod TypedResults
