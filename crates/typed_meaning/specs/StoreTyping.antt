@@ -1,5 +1,5 @@
 -- Typed memory. A store typing tells the types of the cells of each object that was or is there, by its name: so it only grows, and it stays when an object ends or a block is entered again (C99 6.2.4).
-use Rattle.std.specs.Prelude.{◌≡◌, ℕ, ◌<◌, Bool, true, false, List, Option, Some, None, slice_get}
+use Rattle.std.specs.Prelude.{◌≡◌, ℕ, ◌<◌, ◌≤◌, Bool, true, false, List, length, Option, Some, None, slice_get}
 use Rattle.std.specs.List.{AllZip}
 use Rattle.c_tree.specs.declared.value.ObjectName.{ObjectName}
 use Rattle.c_tree.specs.declared.value.Pointer.{Pointer}
@@ -70,9 +70,10 @@ abbrev pub IsTypedMemory : Program → Objects → Memory → Type 0
 IsTypedMemory p o m =
     (x : ObjectName) (ob : Object) → m x ≡ Some ob → (all : List CType) × (o x ≡ Some all) × AllZip (IsCell p o) all ob.cells
 
--- memory is typed, after so many entries of functions: nothing is told of the activations to come
+-- memory is typed, after so many entries of functions: objects have at most 65,536 cells, and nothing is told of the activations to come
 pub record IsTypedAfter (p : Program) (o : Objects) (m : Memory) (entries : ℕ) : Type 0 where
   pub memory : IsTypedMemory p o m
+  pub few : (x : ObjectName) (all : List CType) → o x ≡ Some all → length all ≤ 65536
   pub later : (x : ObjectName) → entries < x.activation → o x ≡ None
 
 abbrev pub IsTypedState : Program → Objects → State → Type 0

@@ -1,5 +1,5 @@
 -- Typed results: what the parts of a well-typed program give from a typed state on.
-use Rattle.std.specs.Prelude.{◌≡◌, ℕ, ◌≤◌, Bool, true, false, IsTrue, List, All, Option, Some, None, slice_get, FitsSigned}
+use Rattle.std.specs.Prelude.{◌≡◌, ℕ, ◌≤◌, Bool, true, false, IsTrue, List, All, Contains, Option, Some, None, slice_get, FitsSigned}
 use Rattle.std.specs.Int.{w32}
 use Rattle.std.specs.List.{AllZip}
 use Rattle.dm_base.specs.declared.event.Event.{Event}
@@ -10,6 +10,7 @@ use Rattle.c_tree.specs.declared.value.Value.{Value}
 use Rattle.c_tree.specs.Tree.{CType, function, CTypes, list_of, Expr, Exprs, Stmt, type_of, Function, Program}
 use Rattle.c_tree.specs.Typed.{IsValue, IsPlace, AreArguments, IsTest, IsStep, IsStmt}
 use Rattle.c_tree.specs.Kinds.{Objects}
+use Rattle.c_shapes.specs.Mentions.{Mention, mentions, mentions_of_all, mentions_of_maybe, mentions_of_stmt, mentions_of_program}
 use Rattle.c_meaning.specs.Meaning.{Marks, Frame, Loop, World, wants, eval, eval_all, exec}
 use Rattle.c_meaning.specs.Results.{State, Result, Go, Stop, Exit, on, broken, continued, returned}
 use Rattle.typed_meaning.specs.StoreTyping.{HasKind, IsGiven, IsPlaced, IsTypedState, Grows, TellsOfStatics, IsTypedFrame}
@@ -43,31 +44,41 @@ IsExit p r breaks continues o continued = IsTrue continues
 IsExit p r breaks continues o (returned None) = Unit {0}
 IsExit p r breaks continues o (returned (Some v)) = HasKind p o r v
 
+-- what a part says of functions is said in the program
+abbrev pub StandsIn : Program → List Mention → Type 0
+StandsIn p ms = (m : Mention) → Contains ms m → Contains (mentions_of_program p) m
+
+-- the parts of a loop stand in the program
+pub record StandsRound (p : Program) (l : Loop) : Type 0 where
+  pub test : StandsIn p (mentions_of_maybe l.test)
+  pub body : StandsIn p (mentions_of_stmt l.body)
+  pub step : StandsIn p (mentions_of_maybe l.step)
+
 -- to enter a function, and to go round a loop, keeps types
 pub record IsTypedWorld (p : Program) (w : World) : Type 0 where
   pub enter : (wanted : Bool) (f : ℕ) (g : Function) (r : CType) (ts : CTypes) (vs : List Value) (o : Objects) (st : State) → slice_get p.functions f ≡ Some g → g.ctype ≡ function r ts → TellsOfStatics p o → AllZip (HasKind p o) (list_of ts) vs → IsTypedState p o st → EndsTyped p {A = Value} (λ o v. IsGiven p o wanted r v) o (w.enter wanted f vs st)
-  pub again : (fr : Frame) (r : CType) (l : Loop) (o : Objects) (st : State) → IsTypedFrame p o fr → IsTest p fr.types l.test → IsStmt p fr.types r true true l.body → IsStep p fr.types l.step → IsTypedState p o st → EndsTyped p {A = Exit} (IsExit p r false false) o (w.again fr l st)
+  pub again : (fr : Frame) (r : CType) (l : Loop) (o : Objects) (st : State) → IsTypedFrame p o fr → IsTest p fr.types l.test → IsStmt p fr.types r true true l.body → IsStep p fr.types l.step → StandsRound p l → IsTypedState p o st → EndsTyped p {A = Exit} (IsExit p r false false) o (w.again fr l st)
 
 -- the marks that stand round calls are events that can be recorded
 abbrev pub AreRecorded : Marks → Type 0
 AreRecorded marks = (site : ℕ) → All IsRecorded ((marks site).0) × All IsRecorded ((marks site).1)
 
--- a well-typed expression gives a value of its type
+-- a well-typed expression of the program gives a value of its type
 abbrev pub ValuesAreTyped : Program → World → Marks → Type 0
 ValuesAreTyped p w marks =
-    (fr : Frame) (wanted : Bool) (e : Expr) (o : Objects) (st : State) → IsTypedFrame p o fr → IsValue p fr.types e → IsTypedState p o st → EndsTyped p {A = Value} (Gives p wanted (type_of e)) o (eval p w marks fr wanted e st)
+    (fr : Frame) (wanted : Bool) (e : Expr) (o : Objects) (st : State) → IsTypedFrame p o fr → IsValue p fr.types e → StandsIn p (mentions e) → IsTypedState p o st → EndsTyped p {A = Value} (Gives p wanted (type_of e)) o (eval p w marks fr wanted e st)
 
 -- and a place gives an object or a function of its type
 abbrev pub PlacesAreTyped : Program → World → Marks → Type 0
 PlacesAreTyped p w marks =
-    (fr : Frame) (wanted : Bool) (e : Expr) (o : Objects) (st : State) → IsTypedFrame p o fr → IsPlace p fr.types e → IsTypedState p o st → EndsTyped p {A = Value} (λ o v. IsPlaced p o (type_of e) v) o (eval p w marks fr wanted e st)
+    (fr : Frame) (wanted : Bool) (e : Expr) (o : Objects) (st : State) → IsTypedFrame p o fr → IsPlace p fr.types e → StandsIn p (mentions e) → IsTypedState p o st → EndsTyped p {A = Value} (λ o v. IsPlaced p o (type_of e) v) o (eval p w marks fr wanted e st)
 
 -- arguments give values of the types of the parameters
 abbrev pub ArgumentsAreTyped : Program → World → Marks → Type 0
 ArgumentsAreTyped p w marks =
-    (fr : Frame) (ts : CTypes) (es : Exprs) (o : Objects) (st : State) → IsTypedFrame p o fr → AreArguments p fr.types ts es → IsTypedState p o st → EndsTyped p {A = List Value} (GiveAll p (list_of ts)) o (eval_all p w marks fr es st)
+    (fr : Frame) (ts : CTypes) (es : Exprs) (o : Objects) (st : State) → IsTypedFrame p o fr → AreArguments p fr.types ts es → StandsIn p (mentions_of_all es) → IsTypedState p o st → EndsTyped p {A = List Value} (GiveAll p (list_of ts)) o (eval_all p w marks fr es st)
 
--- a statement keeps types, and is left where it may be
+-- a statement of the program keeps types, and is left where it may be
 abbrev pub StatementsAreTyped : Program → World → Marks → Type 0
 StatementsAreTyped p w marks =
-    (fr : Frame) (r : CType) (breaks continues : Bool) (s : Stmt) (o : Objects) (st : State) → IsTypedFrame p o fr → IsStmt p fr.types r breaks continues s → IsTypedState p o st → EndsTyped p {A = Exit} (IsExit p r breaks continues) o (exec p w marks fr s st)
+    (fr : Frame) (r : CType) (breaks continues : Bool) (s : Stmt) (o : Objects) (st : State) → IsTypedFrame p o fr → IsStmt p fr.types r breaks continues s → StandsIn p (mentions_of_stmt s) → IsTypedState p o st → EndsTyped p {A = Exit} (IsExit p r breaks continues) o (exec p w marks fr s st)
