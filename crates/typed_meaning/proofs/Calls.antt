@@ -97,10 +97,10 @@ passes test (u ∷ ts) (row ∷ rows) zero t d h e = let same : u ≡ t = cc in 
 passes test (u ∷ ts) (row ∷ rows) (suc x) t d h e = passes test ts rows x t d (and_right (test u row) (pass test ts rows) h) e
 
 results_pass : (x : ℕ) (r : CType) (ts : CTypes) → slice_get sys_types x ≡ Some (function r ts) → is_result r (result_of x) ≡ true
+unfolding sys_types table
 results_pass x r ts e = passes has_result sys_types table x (function r ts) _ all e
   where
     all : pass has_result sys_types table ≡ true
-    unfolding sys_types table
     all = refl
 
 arguments_pass : (x : ℕ) (r : CType) (ts : CTypes) → slice_get sys_types (suc (suc x)) ≡ Some (function r ts) → are_kinds ts (recorded_of (suc (suc x))) ≡ true
@@ -108,12 +108,19 @@ unfolding sys_types table
 arguments_pass x r ts e = passes has_arguments (past_two sys_types) (past_two table) x (function r ts) _ all e
   where
     all : pass has_arguments (past_two sys_types) (past_two table) ≡ true
-    unfolding sys_types table
     all = refl
 
 abbrev parameters_of : Option CType → List CType
 parameters_of (Some (function r ts)) = list_of ts
 parameters_of _ = []
+
+read_types : (r : CType) (ts : CTypes) → slice_get sys_types 0 ≡ Some (function r ts) → int ∷ char_pointer ∷ unsigned_int ∷ [] ≡ list_of ts
+unfolding sys_types
+read_types r ts e = ap parameters_of e
+
+write_types : (r : CType) (ts : CTypes) → slice_get sys_types 1 ≡ Some (function r ts) → int ∷ char_pointer ∷ unsigned_int ∷ [] ≡ list_of ts
+unfolding sys_types
+write_types r ts e = ap parameters_of e
 
 char_fits : (b : ℕ) → FitsSigned w8 (char_of b)
 char_fits b = at (nat_lt b 128) refl
@@ -142,16 +149,15 @@ answers_short (suc (suc x)) asked r h =
     omega (arith, e)
 
 answers_fit : (x asked : ℕ) (r : SysResult) → does_answer x asked r ≡ true → FitsResult (result_of x) r.value
+unfolding table
 answers_fit zero asked r h = at ((records_are_judged zero asked r).0 h)
   where
     at : AnswersRead asked r → FitsResult (result_of 0) r.value
-    unfolding table
     at (inl k) = subst (λ z. FitsSigned w32 z) (sym k.0) (grind (arith, ints))
     at (inr k) = k.2
 answers_fit (suc zero) asked r h = at ((records_are_judged 1 asked r).0 h)
   where
     at : AnswersWrite asked r → FitsResult (result_of 1) r.value
-    unfolding table
     at k = k.fits
 answers_fit (suc (suc x)) asked r h =
     let k : AnswersOther (suc (suc x)) r = (records_are_judged (suc (suc x)) asked r).0 h in k.1
@@ -221,11 +227,11 @@ module _ (p : Program) (n : ℕ) (typed : IsProgram p n) where
 
   zero_chars : (o : Objects) (vs : List Value) → AreChars o vs → AreCharsWhere o (before_zero vs)
   zero_chars o [] h = tt
-  zero_chars o (v ∷ vs) h = at (is_zero v)
+  zero_chars o (v ∷ vs) h = at (is_zero v) (zero_chars o vs h.1)
     where
-      at : (b : Bool) → AreCharsWhere o (if b then Some [] else put_first v (before_zero vs))
-      at true = tt
-      at false = put_chars o v (before_zero vs) h.0 (zero_chars o vs h.1)
+      at : (b : Bool) → AreCharsWhere o (before_zero vs) → AreCharsWhere o (if b then Some [] else put_first v (before_zero vs))
+      at true k = tt
+      at false k = put_chars o v (before_zero vs) h.0 k
 
   where_right : (o : Objects) (vs : Option (List Value)) → AreCharsWhere o vs → Right (λ bytes. Unit {0}) (bytes_where vs)
   where_right o None h = (omega arith, omega arith)
@@ -344,24 +350,16 @@ module _ (p : Program) (n : ℕ) (typed : IsProgram p n) where
       })))
 
   request_right : (x : ℕ) (r : CType) (ts : CTypes) (o : Objects) (vs : List Value) (m : Memory) → slice_get sys_types x ≡ Some (function r ts) → AllZip (HasKind p o) (list_of ts) vs → IsTypedMemory p o m → Right (IsRequest x o) (request x m vs)
-  request_right zero r ts o vs m e z mem = at vs (subst (λ us. AllZip (HasKind p o) us vs) (sym types) z)
+  request_right zero r ts o vs m e z mem = at vs (subst (λ us. AllZip (HasKind p o) us vs) (sym (read_types r ts e)) z)
     where
-      types : int ∷ char_pointer ∷ unsigned_int ∷ [] ≡ list_of ts
-      unfolding sys_types
-      types = ap parameters_of e
-
       at : (vs : List Value) → AllZip (HasKind p o) (int ∷ char_pointer ∷ unsigned_int ∷ []) vs → Right (IsRequest 0 o) (request 0 m vs)
       at [] z = absurd z
       at (a ∷ []) z = absurd z.1
       at (a ∷ b ∷ []) z = absurd z.1.1
       at (a ∷ b ∷ c ∷ []) z = read_right o a b c m z.0 z.1.0 z.1.1.0
       at (a ∷ b ∷ c ∷ d ∷ vs) z = absurd z.1.1.1
-  request_right (suc zero) r ts o vs m e z mem = at vs (subst (λ us. AllZip (HasKind p o) us vs) (sym types) z)
+  request_right (suc zero) r ts o vs m e z mem = at vs (subst (λ us. AllZip (HasKind p o) us vs) (sym (write_types r ts e)) z)
     where
-      types : int ∷ char_pointer ∷ unsigned_int ∷ [] ≡ list_of ts
-      unfolding sys_types
-      types = ap parameters_of e
-
       at : (vs : List Value) → AllZip (HasKind p o) (int ∷ char_pointer ∷ unsigned_int ∷ []) vs → Right (IsRequest 1 o) (request 1 m vs)
       at [] z = absurd z
       at (a ∷ []) z = absurd z.1

@@ -1,5 +1,6 @@
 -- What is typed after each way of putting parts of a program together.
 use Rattle.std.proofs.Common.{◌≡◌, ℕ, zero, suc, ◌≤◌, Bool, true, false, if◌then◌else◌, List, [], ◌∷◌, ◌++◌, All, Option, Some, None, refl, arith}
+use Rattle.std.proofs.lemmas.Bool.{false≢true}
 use Rattle.std.proofs.lemmas.List.Elements.{All-nil, All-append}
 use Rattle.dm_base.specs.declared.event.Event.{Event}
 use Rattle.sys_table.specs.Table.{IsRecorded}
@@ -52,7 +53,7 @@ module _ (p : Program) where
   answered_ends ok o (undefined kind) st h k = (h, All-nil IsRecorded)
 
   pub remembered_ends : {A : Type 0} (ok : Objects → A → Type 0) (o : Objects) (r : Answer Memory) (a : A) (st : State) → Right (IsTypedMemory p o) r → ok o a → IsTypedState p o st → EndsTyped p {A = A} ok o (remembered r a st)
-  remembered_ends {A} ok o (gives m) a st h l k = now {A = A} ok o a _ l (record { memory = h; few = k.few; later = k.later })
+  remembered_ends {A} ok o (gives m) a st h l k = now {A = A} ok o a (with_memory st m) l (record { memory = h; few = k.few; later = k.later })
   remembered_ends ok o (undefined kind) a st h l k = (h, All-nil IsRecorded)
 
   pub either_ends : {A : Type 0} (ok : Objects → A → Type 0) (o : Objects) (holds : Bool) (a b : Result A) → EndsTyped p {A = A} ok o a → EndsTyped p {A = A} ok o b → EndsTyped p {A = A} ok o (either holds a b)
@@ -82,7 +83,7 @@ module _ (p : Program) where
   -- what is left by neither break nor continue may stand anywhere
   pub looser : (r : CType) (breaks continues : Bool) (o : Objects) (x : Exit) → IsExit p r false false o x → IsExit p r breaks continues o x
   looser r breaks continues o on h = tt
-  looser r breaks continues o broken h = absurd h
-  looser r breaks continues o continued h = absurd h
+  looser r breaks continues o broken h = absurd (false≢true h)
+  looser r breaks continues o continued h = absurd (false≢true h)
   looser r breaks continues o (returned None) h = tt
   looser r breaks continues o (returned (Some v)) h = h

@@ -85,6 +85,37 @@ lies_within all (x ∷ xs) i h l =
     let w : i + length xs < length all = slice_get_within all (i + length xs) e.0 (h (length xs) e.0 e.1) in
     omega arith
 
+-- the types of cells are scalars
+scalars_both : (xs ys : List CType) (k : ℕ) (t : CType) → ((k : ℕ) (t : CType) → slice_get xs k ≡ Some t → IsScalar t) → ((k : ℕ) (t : CType) → slice_get ys k ≡ Some t → IsScalar t) → slice_get (xs ++ ys) k ≡ Some t → IsScalar t
+scalars_both [] ys k t h g e = g k t e
+scalars_both (x ∷ xs) ys zero t h g e = h zero t e
+scalars_both (x ∷ xs) ys (suc k) t h g e = scalars_both xs ys k t (λ j u d. h (suc j) u d) g e
+
+scalars_repeat : (n : ℕ) (xs : List CType) → ((k : ℕ) (t : CType) → slice_get xs k ≡ Some t → IsScalar t) → (k : ℕ) (t : CType) → slice_get (repeat n xs) k ≡ Some t → IsScalar t
+scalars_repeat zero xs h k t e = absurd (cc)
+scalars_repeat (suc n) xs h k t e = scalars_both xs (repeat n xs) k t h (scalars_repeat n xs h) e
+
+with_scalars : (layout : ℕ → List CType) → ((s k : ℕ) (t : CType) → slice_get (layout s) k ≡ Some t → IsScalar t) → (u : CType) (k : ℕ) (t : CType) → slice_get (flat_with layout u) k ≡ Some t → IsScalar t
+with_scalars layout h void k t e = absurd (cc)
+with_scalars layout h (integer i) zero t e = let same : integer i ≡ t = cc in subst IsScalar same tt
+with_scalars layout h (integer i) (suc k) t e = absurd (cc)
+with_scalars layout h (pointer u) zero t e = let same : pointer u ≡ t = cc in subst IsScalar same tt
+with_scalars layout h (pointer u) (suc k) t e = absurd (cc)
+with_scalars layout h (array u n) k t e = scalars_repeat n (flat_with layout u) (with_scalars layout h u) k t e
+with_scalars layout h (struct s) k t e = h s k t e
+with_scalars layout h (function r ts) k t e = absurd (cc)
+
+all_scalars : (layout : ℕ → List CType) → ((s k : ℕ) (t : CType) → slice_get (layout s) k ≡ Some t → IsScalar t) → (us : List CType) (k : ℕ) (t : CType) → slice_get (flat_all_with layout us) k ≡ Some t → IsScalar t
+all_scalars layout h [] k t e = absurd (cc)
+all_scalars layout h (u ∷ us) k t e = scalars_both (flat_with layout u) (flat_all_with layout us) k t (with_scalars layout h u) (all_scalars layout h us) e
+
+layout_scalars : (structs : Structs) (d s k : ℕ) (t : CType) → slice_get (layout structs d s) k ≡ Some t → IsScalar t
+layout_scalars structs zero s k t e = absurd (cc)
+layout_scalars structs (suc d) s k t e = all_scalars (layout structs d) (layout_scalars structs d) (or_none (slice_get structs s)) k t e
+
+pub flat_scalar : (structs : Structs) (u : CType) (k : ℕ) (t : CType) → slice_get (flat structs u) k ≡ Some t → IsScalar t
+flat_scalar structs u k t e = with_scalars (struct_cells structs) (layout_scalars structs (length structs)) u k t e
+
 module _ (structs : Structs) where
   pub member_lies : (ms : List CType) (i : ℕ) (t : CType) → slice_get ms i ≡ Some t → Lies (flat_all structs ms) (first_cell structs ms i) (flat structs t)
   member_lies [] i t e k u h = absurd (cc)

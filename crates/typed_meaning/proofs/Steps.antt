@@ -6,7 +6,7 @@ use Rattle.std.specs.Ordering.{int_eq}
 use Rattle.std.proofs.lemmas.Bool.{false≢true}
 use Rattle.std.proofs.lemmas.Bool.Decides.{nat_tests}
 use Rattle.std.proofs.lemmas.Int.{ints}
-use Rattle.std.proofs.lemmas.List.Elements.{All-head, All-tail}
+use Rattle.std.proofs.lemmas.List.Elements.{All-nil, All-cons, All-head, All-tail}
 use Rattle.c_tree.specs.declared.value.IntType.{IntType}
 use Rattle.c_tree.specs.declared.value.IntType.TheVariants as i
 use Rattle.c_tree.specs.declared.value.UnOp.{UnOp}
@@ -107,6 +107,10 @@ is_scalar_of (function r ts) h = absurd h
 are_scalars_of : (ts : CTypes) → All IsScalar (list_of ts) → are_scalars ts ≡ true
 are_scalars_of no_types h = refl
 are_scalars_of (more_types t ts) h = and_both (is_scalar t) (are_scalars ts) (is_scalar_of t (All-head IsScalar t (list_of ts) h)) (are_scalars_of ts (All-tail IsScalar t (list_of ts) h))
+
+all_scalars : (ts : CTypes) → are_scalars ts ≡ true → All IsScalar (list_of ts)
+all_scalars no_types h = All-nil IsScalar
+all_scalars (more_types t ts) h = All-cons IsScalar t (list_of ts) (scalar_is t (and_left (is_scalar t) (are_scalars ts) h)) (all_scalars ts (and_right (is_scalar t) (are_scalars ts) h))
 
 taken_from : (xs : List CType) (k : ℕ) (t : CType) → all_take xs ≡ true → slice_get xs k ≡ Some t → takes_scalars t ≡ true
 taken_from [] k t h e = absurd (cc)
@@ -234,6 +238,10 @@ module _ (p : Program) (n : ℕ) (typed : IsProgram p n) where
   called_takes f t e =
       taken_from (called_types p) f t (all_take_both (value_types p) null_types (all_take_both (map type_of_defined p.functions) sys_types (functions_take p.functions typed.functions) sys_take) refl) e
 
+  -- the types of its parameters
+  pub scalars_of : (f : ℕ) (r : CType) (ts : CTypes) → called_type p f ≡ Some (function r ts) → All IsScalar (list_of ts)
+  scalars_of f r ts e = all_scalars ts (called_takes f (function r ts) e)
+
   pub value_takes : (f : ℕ) (t : CType) → value_type p f ≡ Some t → takes_scalars t ≡ true
   value_takes f t e = called_takes f t (get_left (value_types p) null_types f t e)
 
@@ -266,7 +274,7 @@ module _ (p : Program) (n : ℕ) (typed : IsProgram p n) where
   converted_right o t (gives v) h = of_constant o t v h
   converted_right o t (undefined kind) h = absurd h
 
-  truth_kind : (o : Objects) (b : Bool) → HasKind p o int (truth_value b)
+  pub truth_kind : (o : Objects) (b : Bool) → HasKind p o int (truth_value b)
   truth_kind o true = (refl, grind (arith, ints))
   truth_kind o false = (refl, grind (arith, ints))
 
@@ -393,17 +401,13 @@ module _ (p : Program) (n : ℕ) (typed : IsProgram p n) where
   store_right o t q v m b h l k =
       there_right {B = Memory} (IsTypedMemory p o) (m q.name) _ (λ ob e. element_right {B = Memory} (IsTypedMemory p o) q _ (λ less. writing ob e less ob.string))
     where
-      new : Object → Object
-      new ob = record { cells = slice_set ob.cells (q.first + q.index * q.width + 0) v; string = false }
-
       writing : (ob : Object) → m q.name ≡ Some ob → q.index < q.elements → (b : Bool) → Right (IsTypedMemory p o) (and_then (if b then undefined 10 else gives ob.cells) (λ cells. and_then (set_cell cells (q.first + q.index * q.width + 0) v (slice_get cells (q.first + q.index * q.width + 0))) (λ new. gives (changed m q.name (Some new)))))
-      unfolding new
       writing ob e less true = (omega arith, omega arith)
       writing ob e less false =
           let z = cells_there o m q.name h.all ob k h.known e in
           let a = element_cell o t q h b less in
           let c = zip_get (IsCell p o) h.all ob.cells (q.first + q.index * q.width + 0) t z a in
-          subst (λ c. Right (IsTypedMemory p o) (and_then (set_cell ob.cells (q.first + q.index * q.width + 0) v c) (λ new. gives (changed m q.name (Some new))))) (sym c.1) (memory_changed p o m q.name h.all (new ob) k h.known (zip_set (IsCell p o) h.all ob.cells (q.first + q.index * q.width + 0) t v z a (kind_cell p o t v l)))
+          subst (λ c. Right (IsTypedMemory p o) (and_then (set_cell ob.cells (q.first + q.index * q.width + 0) v c) (λ new. gives (changed m q.name (Some new))))) (sym c.1) (memory_changed p o m q.name h.all (record { cells = slice_set ob.cells (q.first + q.index * q.width + 0) v; string = false }) k h.known (zip_set (IsCell p o) h.all ob.cells (q.first + q.index * q.width + 0) t v z a (kind_cell p o t v l)))
 
   pub store_place_right : (o : Objects) (t : CType) (a v : Value) (m : Memory) → IsScalar t → IsPlaced p o t a → HasKind p o t v → IsTypedMemory p o m → Right (IsTypedMemory p o) (store_place m a v)
   store_place_right o t a v m b h l k =
@@ -722,3 +726,7 @@ module _ (p : Program) (n : ℕ) (typed : IsProgram p n) where
   pub update_scalar : (op : BinOp) (t u : CType) → FitsUpdate p.structs op t u → IsScalar t
   update_scalar op t u (inl f) = subst IsScalar (sym f.2) tt
   update_scalar op t u (inr f) = subst IsScalar (sym f.1.1) tt
+
+  pub update_right_scalar : (op : BinOp) (t u : CType) → FitsUpdate p.structs op t u → IsScalar u
+  update_right_scalar op t u (inl f) = subst IsScalar (sym f.3) tt
+  update_right_scalar op t u (inr f) = subst IsScalar (sym f.2.1) tt
