@@ -92,7 +92,7 @@ module _ (p : Program) (n : ℕ) (typed : IsProgram p n) (members : HaveMembers 
   abbrev Place : CType → Objects → Value → Type 0
   Place t o v = IsPlaced p o t v
 
-  abbrev Holds : Objects → Bool → Type 0
+  abbrev pub Holds : Objects → Bool → Type 0
   Holds o b = Unit {0}
 
   abbrev Ends : {A : Type 0} → (Objects → A → Type 0) → Objects → Result A → Type 0
@@ -145,7 +145,7 @@ module _ (p : Program) (n : ℕ) (typed : IsProgram p n) (members : HaveMembers 
   bracketed_ends ok site o r h =
       after_ends p {A = Value} ok o o ((marks site).0) (then_do r (λ v st. Go v st ((marks site).1))) (grows_none o) (recorded site).0 (then_ends p {A = Value} {B = Value} ok ok o r (λ v st. Go v st ((marks site).1)) h (λ o v st g i s. now_after p {A = Value} ok o v st ((marks site).1) i s (recorded site).1))
 
-  stands_on : (o u : Objects) (fr : Frame) → Grows o u → IsTypedFrame p o fr → IsTypedFrame p u fr
+  pub stands_on : (o u : Objects) (fr : Frame) → Grows o u → IsTypedFrame p o fr → IsTypedFrame p u fr
   stands_on o u fr g h = record {
     statics = λ x s e. g (static_name x) (flat p.structs s.ctype) (h.statics x s e);
     objects = h.objects;
@@ -156,7 +156,7 @@ module _ (p : Program) (n : ℕ) (typed : IsProgram p n) (members : HaveMembers 
   statics_on o u g h x s e = g (static_name x) (flat p.structs s.ctype) (h x s e)
 
   -- arguments of the types of a function's parameters
-  arguments_kind : (t : CType) (r : CType) (ts : CTypes) (f : ℕ) (o : Objects) (vs : List Value) → called_type p f ≡ Some (function r ts) → GiveAll p (list_of ts) o vs → AllZip (HasKind p o) (list_of ts) vs
+  pub arguments_kind : (t : CType) (r : CType) (ts : CTypes) (f : ℕ) (o : Objects) (vs : List Value) → called_type p f ≡ Some (function r ts) → GiveAll p (list_of ts) o vs → AllZip (HasKind p o) (list_of ts) vs
   arguments_kind t r ts f o vs e z = all (list_of ts) vs (scalars_of p n typed f r ts e) z
     where
       all : (us : List CType) (vs : List Value) → All IsScalar us → GiveAll p us o vs → AllZip (HasKind p o) us vs
@@ -223,7 +223,7 @@ module _ (p : Program) (n : ℕ) (typed : IsProgram p n) (members : HaveMembers 
           absurd (grind (arith, nat_tests))
 
   module _ (w : World) (goes : IsTypedWorld p w) where
-    called_ends : (wanted : Bool) (f : ℕ) (r : CType) (ts : CTypes) (vs : List Value) (o : Objects) (st : State) → called_type p f ≡ Some (function r ts) → TellsOfStatics p o → AllZip (HasKind p o) (list_of ts) vs → IsTypedState p o st → EndsTyped p {A = Value} (Gives p wanted r) o (called p w (wants wanted r) f vs st)
+    pub called_ends : (wanted : Bool) (f : ℕ) (r : CType) (ts : CTypes) (vs : List Value) (o : Objects) (st : State) → called_type p f ≡ Some (function r ts) → TellsOfStatics p o → AllZip (HasKind p o) (list_of ts) vs → IsTypedState p o st → EndsTyped p {A = Value} (Gives p wanted r) o (called p w (wants wanted r) f vs st)
     called_ends wanted f r ts vs o st e s z k = at (nat_lt f (defined p)) refl
       where
         whole : slice_get (map type_of_defined p.functions ++ (sys_types ++ null_types)) f ≡ Some (function r ts)
@@ -238,7 +238,7 @@ module _ (p : Program) (n : ℕ) (typed : IsProgram p n) (members : HaveMembers 
             let more : length p.functions ≤ f = grind (arith, nat_tests) in
             undefined_ends (f - defined p) r ts wanted vs o st (undefined_at p.functions (sys_types ++ null_types) f (function r ts) more whole) z k
 
-    through_ends : (wanted : Bool) (f : ℕ) (r : CType) (ts : CTypes) (vs : List Value) (o : Objects) (st : State) → value_type p f ≡ Some (function r ts) → TellsOfStatics p o → AllZip (HasKind p o) (list_of ts) vs → IsTypedState p o st → EndsTyped p {A = Value} (Gives p wanted r) o (called_through p w (wants wanted r) f vs st)
+    pub through_ends : (wanted : Bool) (f : ℕ) (r : CType) (ts : CTypes) (vs : List Value) (o : Objects) (st : State) → value_type p f ≡ Some (function r ts) → TellsOfStatics p o → AllZip (HasKind p o) (list_of ts) vs → IsTypedState p o st → EndsTyped p {A = Value} (Gives p wanted r) o (called_through p w (wants wanted r) f vs st)
     through_ends wanted f r ts vs o st e s z k = at (nat_lt f (defined p)) refl
       where
         at : (b : Bool) → nat_lt f (defined p) ≡ b → EndsTyped p {A = Value} (Gives p wanted r) o (if b then w.enter (wants wanted r) f vs st else system_call_alone (f - defined p) vs st)
@@ -251,7 +251,7 @@ module _ (p : Program) (n : ℕ) (typed : IsProgram p n) (members : HaveMembers 
             alone_ends (f - defined p) r ts wanted vs o st (undefined_at p.functions sys_types f (function r ts) more e) z k
 
     -- a call through a value
-    callee_ends : (wanted : Bool) (r : CType) (ts : CTypes) (v : Value) (vs : List Value) (o : Objects) (st : State) → HasKind p o (pointer (function r ts)) v → TellsOfStatics p o → GiveAll p (list_of ts) o vs → IsTypedState p o st → EndsTyped p {A = Value} (Gives p wanted r) o (then_do (answered (callee v) st) (λ f st. called_through p w (wants wanted r) f vs st))
+    pub callee_ends : (wanted : Bool) (r : CType) (ts : CTypes) (v : Value) (vs : List Value) (o : Objects) (st : State) → HasKind p o (pointer (function r ts)) v → TellsOfStatics p o → GiveAll p (list_of ts) o vs → IsTypedState p o st → EndsTyped p {A = Value} (Gives p wanted r) o (then_do (answered (callee v) st) (λ f st. called_through p w (wants wanted r) f vs st))
     callee_ends wanted r ts v vs o st h s z k = at (callee v) (callee_right p n typed o r ts v h)
       where
         at : (c : Answer ℕ) → Right {A = ℕ} (IsCallee p n typed (function r ts)) c → EndsTyped p {A = Value} (Gives p wanted r) o (then_do (answered c st) (λ f st. called_through p w (wants wanted r) f vs st))
@@ -308,7 +308,7 @@ module _ (p : Program) (n : ℕ) (typed : IsProgram p n) (members : HaveMembers 
       variable_told o false k t s h = (s.objects k t h, s.variables k t h)
 
       mutual
-        value_ends : (wanted : Bool) (e : Expr) (o : Objects) (st : State) → IsTypedFrame p o fr → IsValue p fr.types e → StandsIn p (mentions e) → IsTypedState p o st → EndsTyped p {A = Value} (Gives p wanted (type_of e)) o (eval p w marks fr wanted e st)
+        pub value_ends : (wanted : Bool) (e : Expr) (o : Objects) (st : State) → IsTypedFrame p o fr → IsValue p fr.types e → StandsIn p (mentions e) → IsTypedState p o st → EndsTyped p {A = Value} (Gives p wanted (type_of e)) o (eval p w marks fr wanted e st)
         value_ends wanted (constant t v) o st s h m k = now p {A = Value} (Gives p wanted t) o v st (kind_given p o (wants wanted t) t v (of_constant p n typed o t v h)) k
         value_ends wanted (load t a) o st s h m k =
             one_ends (Place (type_of a)) t wanted o _ (λ st v. load_place st.memory v) (where_ends true a o st s h.2 m k) (λ o v st i k. load_place_right p n typed o t v st.memory h.0 (subst (λ t. IsPlaced p o t v) h.1 i) k.memory)
@@ -353,7 +353,7 @@ module _ (p : Program) (n : ℕ) (typed : IsProgram p n) (members : HaveMembers 
             then_ends p {A = Value} {B = Value} (Kind (pointer (function t h.0))) (Gives p wanted t) o _ _ (operand (type_of a) (pointer (function t h.0)) o _ h.1 tt (value_ends true a o st s h.2 (left_part p (mentions a) (Calls site (Through (type_of a)) ∷ mentions_of_all es) m) k)) (λ o1 v st g1 i k. then_ends p {A = List Value} {B = Value} (GiveAll p (list_of h.0)) (Gives p wanted t) o1 _ _ (all_end h.0 es o1 st (stands_on o o1 fr g1 s) h.3 (right_part p (Calls site (Through (type_of a)) ∷ []) (mentions_of_all es) rest) k) (λ o2 vs st g2 z k. bracketed_ends (Gives p wanted t) site o2 _ (callee_ends wanted t h.0 v vs o2 st (carry p o1 o2 (pointer (function t h.0)) v g2 i) (statics_on o o2 (grows_on o o1 o2 g1 g2) s.statics) z k)))
         value_ends wanted _ o st s h m k = absurd h
 
-        where_ends : (wanted : Bool) (e : Expr) (o : Objects) (st : State) → IsTypedFrame p o fr → IsPlace p fr.types e → StandsIn p (mentions e) → IsTypedState p o st → EndsTyped p {A = Value} (Place (type_of e)) o (eval p w marks fr wanted e st)
+        pub where_ends : (wanted : Bool) (e : Expr) (o : Objects) (st : State) → IsTypedFrame p o fr → IsPlace p fr.types e → StandsIn p (mentions e) → IsTypedState p o st → EndsTyped p {A = Value} (Place (type_of e)) o (eval p w marks fr wanted e st)
         where_ends wanted (function_name t f) o st s h m k =
             let parts = function_parts t (value_takes p n typed f t h) in
             now p {A = Value} (Place t) o (Func f) st (parts.0, parts.1, parts.2, h, taken_there p f m) k
@@ -374,7 +374,7 @@ module _ (p : Program) (n : ℕ) (typed : IsProgram p n) (members : HaveMembers 
         each_ends wanted t (more_exprs e (more_exprs f es)) o st s h m k =
             then_ends p {A = Value} {B = Value} (Gives p false (type_of e)) (Gives p wanted t) o _ _ (value_ends false e o st s h.0 (left_part p (mentions e) (mentions_of_all (more_exprs f es)) m) k) (λ o' v st g i k. each_ends wanted t (more_exprs f es) o' st (stands_on o o' fr g s) h.1 (right_part p (mentions e) (mentions_of_all (more_exprs f es)) m) k)
 
-        all_end : (ts : CTypes) (es : Exprs) (o : Objects) (st : State) → IsTypedFrame p o fr → AreArguments p fr.types ts es → StandsIn p (mentions_of_all es) → IsTypedState p o st → EndsTyped p {A = List Value} (GiveAll p (list_of ts)) o (eval_all p w marks fr es st)
+        pub all_end : (ts : CTypes) (es : Exprs) (o : Objects) (st : State) → IsTypedFrame p o fr → AreArguments p fr.types ts es → StandsIn p (mentions_of_all es) → IsTypedState p o st → EndsTyped p {A = List Value} (GiveAll p (list_of ts)) o (eval_all p w marks fr es st)
         all_end no_types no_exprs o st s h m k = now p {A = List Value} (GiveAll p []) o [] st tt k
         all_end no_types (more_exprs e es) o st s h m k = absurd h
         all_end (more_types t ts) no_exprs o st s h m k = absurd h
@@ -385,11 +385,11 @@ module _ (p : Program) (n : ℕ) (typed : IsProgram p n) (members : HaveMembers 
       condition_tested : (e : Expr) (o : Objects) (st : State) → IsTypedFrame p o fr → IsCondition p fr.types e → StandsIn p (mentions e) → IsTypedState p o st → EndsTyped p {A = Bool} Holds o (tested (eval p w marks fr true e st))
       condition_tested e o st s h m k = tested_ends (type_of e) o _ (operand (type_of e) (type_of e) o _ refl h.0 (value_ends true e o st s h.1 m k))
 
-      condition_ends : (e : Maybe) (o : Objects) (st : State) → IsTypedFrame p o fr → IsTest p fr.types e → StandsIn p (mentions_of_maybe e) → IsTypedState p o st → EndsTyped p {A = Bool} Holds o (condition p w marks fr e st)
+      pub condition_ends : (e : Maybe) (o : Objects) (st : State) → IsTypedFrame p o fr → IsTest p fr.types e → StandsIn p (mentions_of_maybe e) → IsTypedState p o st → EndsTyped p {A = Bool} Holds o (condition p w marks fr e st)
       condition_ends absent o st s h m k = now p {A = Bool} Holds o true st tt k
       condition_ends (there e) o st s h m k = condition_tested e o st s h m k
 
-      perhaps_ends : (r : CType) (e : Maybe) (o : Objects) (st : State) → IsTypedFrame p o fr → IsStep p fr.types e → StandsIn p (mentions_of_maybe e) → IsTypedState p o st → EndsTyped p {A = Exit} (IsExit p r false false) o (perhaps p w marks fr e st)
+      pub perhaps_ends : (r : CType) (e : Maybe) (o : Objects) (st : State) → IsTypedFrame p o fr → IsStep p fr.types e → StandsIn p (mentions_of_maybe e) → IsTypedState p o st → EndsTyped p {A = Exit} (IsExit p r false false) o (perhaps p w marks fr e st)
       perhaps_ends r absent o st s h m k = now p {A = Exit} (IsExit p r false false) o on st tt k
       perhaps_ends r (there e) o st s h m k =
           then_ends p {A = Value} {B = Exit} (Gives p false (type_of e)) (IsExit p r false false) o _ _ (value_ends false e o st s h m k) (λ o' v st g i k. now p {A = Exit} (IsExit p r false false) o' on st tt k)
@@ -443,7 +443,7 @@ module _ (p : Program) (n : ℕ) (typed : IsProgram p n) (members : HaveMembers 
       declare_ends r x is o st s h m k =
           then_ends p {A = Exit} {B = Exit} (IsExit p r false false) (IsExit p r false false) o _ _ (fresh_ends r h.0 x o st s h.1 k) (λ o' y st g i k. inits_end r h.0 x is o' st (stands_on o o' fr g s) h.1 h.2 m k)
 
-      without_typed : (o : Objects) (activation : ℕ) (xs : List ℕ) (m : Memory) → IsTypedMemory p o m → IsTypedMemory p o (without activation xs m)
+      pub without_typed : (o : Objects) (activation : ℕ) (xs : List ℕ) (m : Memory) → IsTypedMemory p o m → IsTypedMemory p o (without activation xs m)
       without_typed o activation [] m k = k
       without_typed o activation (x ∷ xs) m k = without_typed o activation xs _ (memory_ended p o m (record { activation = activation; variable = x }) k)
 
@@ -478,7 +478,7 @@ module _ (p : Program) (n : ℕ) (typed : IsProgram p n) (members : HaveMembers 
           one_first _ h m = absurd h
 
       mutual
-        exec_ends : (r : CType) (breaks continues : Bool) (a : Stmt) (o : Objects) (st : State) → IsTypedFrame p o fr → IsStmt p fr.types r breaks continues a → StandsIn p (mentions_of_stmt a) → IsTypedState p o st → EndsTyped p {A = Exit} (IsExit p r breaks continues) o (exec p w marks fr a st)
+        pub exec_ends : (r : CType) (breaks continues : Bool) (a : Stmt) (o : Objects) (st : State) → IsTypedFrame p o fr → IsStmt p fr.types r breaks continues a → StandsIn p (mentions_of_stmt a) → IsTypedState p o st → EndsTyped p {A = Exit} (IsExit p r breaks continues) o (exec p w marks fr a st)
         exec_ends r breaks continues (block ss) o st s h m k =
             leaving_ends r breaks continues (declared_in ss) o _ (stmts_end r breaks continues ss o st s h m k)
         exec_ends r breaks continues empty o st s h m k = now p {A = Exit} (IsExit p r breaks continues) o on st tt k

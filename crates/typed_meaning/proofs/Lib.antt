@@ -1,7 +1,9 @@
 pub mod Calls
+pub mod Candidates
 pub mod Differences
 pub mod Ends
 pub mod Keeps
 pub mod Places
 pub mod Standing
 pub mod Steps
+pub mod Worlds

@@ -52,4 +52,4 @@ TypesAreKept =
 -- a pointer value lies in its object or one past, where its array has a cell
 abbrev pub PointersAreInside : Type 0
 PointersAreInside =
-    (p : Program) (o : Objects) (m : Memory) (t : CType) (q : Pointer) → IsTypedMemory p o m → HasKind p o t (At q) → 0 < q.elements * q.width → IsInside m q
+    (p : Program) (n : ℕ) → IsProgram p n → (o : Objects) (m : Memory) (t : CType) (q : Pointer) → IsTypedMemory p o m → HasKind p o t (At q) → 0 < q.elements * q.width → IsInside m q
