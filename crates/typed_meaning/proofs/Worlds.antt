@@ -30,8 +30,9 @@ use Rattle.c_meaning.specs.Results.{State, with_memory, Result, Go, Stop, then_d
 use Rattle.c_meaning.specs.Runs.{with_parameters, parameters, entered, without_value, result_of, run_body, enter, loop, world, first_objects, beginning, Run, exit_of, ending, run_with}
 use Rattle.typed_meaning.specs.StoreTyping.{HasKind, IsCell, IsGiven, IsTypedMemory, IsTypedAfter, IsTypedState, Grows, TellsOfStatics, IsTypedFrame}
 use Rattle.typed_meaning.specs.TypedResults.{IsEnding, EndsTyped, IsExit, StandsIn, StandsRound, IsTypedWorld, AreRecorded}
-use Rattle.typed_meaning.specs.Laws.{HaveMembers, IsTypedRun, BeginsTyped, RunsBeginTyped, PartsAreTyped, TypesAreKept, RunsAreTyped, PointersAreInside}
+use Rattle.typed_meaning.specs.Laws.{HaveMembers, IsTypedRun, BeginsTyped, RunsBeginTyped, PartsAreTyped, TypesAreKept, RunsAreTyped, PointersAreInside, PlacesAreInside}
 use Rattle.typed_meaning.proofs.Places.{get_left, grows_on, grows_none, carry_all, kind_cell, kind_given, memory_changed, memory_grows, zip_get}
+use Rattle.typed_meaning.proofs.Steps.{place_pointer}
 use Rattle.typed_meaning.proofs.Differences.{inside}
 use Rattle.typed_meaning.proofs.Ends.{now, then_ends, grown, either_ends, spend_ends, round_ends}
 use Rattle.typed_meaning.proofs.Keeps.{Holds, stands_on, without_typed, condition_ends, perhaps_ends, value_ends, where_ends, all_end, exec_ends}
@@ -266,3 +267,7 @@ types_are_kept p n typed members marks recorded turns = parts_typed p n typed me
 
 pub pointers_are_inside : PointersAreInside
 pointers_are_inside p n typed o m t q k h l = inside p n typed o m h.0 q k h.2 l
+
+pub places_are_inside : PlacesAreInside
+places_are_inside p n typed o m t q k h l =
+    inside p n typed o m t q k (place_pointer p n typed o t q h) (omega (arith, (ap (λ e. e * q.width) h.alone), l))

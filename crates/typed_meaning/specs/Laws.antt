@@ -12,7 +12,7 @@ use Rattle.c_values.specs.Memory.{IsInside}
 use Rattle.c_values.specs.Memory.{Objects as Memory}
 use Rattle.c_meaning.specs.Meaning.{Marks}
 use Rattle.c_meaning.specs.Runs.{Run, world, beginning, run_with}
-use Rattle.typed_meaning.specs.StoreTyping.{HasKind, IsTypedMemory, IsTypedState, TellsOfStatics}
+use Rattle.typed_meaning.specs.StoreTyping.{HasKind, IsPlaced, IsTypedMemory, IsTypedState, TellsOfStatics}
 use Rattle.typed_meaning.specs.TypedResults.{IsEnding, IsTypedWorld, AreRecorded, ValuesAreTyped, PlacesAreTyped, ArgumentsAreTyped, StatementsAreTyped}
 
 -- each struct that has a definition has a member (6.7.2.1)
@@ -53,3 +53,8 @@ TypesAreKept =
 abbrev pub PointersAreInside : Type 0
 PointersAreInside =
     (p : Program) (n : ℕ) → IsProgram p n → (o : Objects) (m : Memory) (t : CType) (q : Pointer) → IsTypedMemory p o m → HasKind p o t (At q) → 0 < q.elements * q.width → IsInside m q
+
+-- and so does a place
+abbrev pub PlacesAreInside : Type 0
+PlacesAreInside =
+    (p : Program) (n : ℕ) → IsProgram p n → (o : Objects) (m : Memory) (t : CType) (q : Pointer) → IsTypedMemory p o m → IsPlaced p o t (At q) → 0 < q.width → IsInside m q

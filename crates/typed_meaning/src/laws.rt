@@ -1,5 +1,5 @@
 ghost use Rattle.typed_meaning.specs.Callees.{CalleesAreCandidates};
-ghost use Rattle.typed_meaning.specs.Laws.{PointersAreInside, RunsAreTyped, RunsBeginTyped, TypesAreKept};
+ghost use Rattle.typed_meaning.specs.Laws.{PlacesAreInside, PointersAreInside, RunsAreTyped, RunsBeginTyped, TypesAreKept};
 
 /// In a well-typed program each value that is loaded, passed, stored or given has the kind of its type: a run begins
 /// in a typed state, and each of its parts keeps types. So a run never ends for a value of another kind than its type,
@@ -10,6 +10,7 @@ pub fn values_have_kinds()
     ensures beginning { RunsBeginTyped }
     ensures parts { TypesAreKept }
     ensures pointers { PointersAreInside }
+    ensures places { PlacesAreInside }
 {}
 
 /// Each function that a well-typed program calls is a candidate of the call's site in the call graph: the one that a

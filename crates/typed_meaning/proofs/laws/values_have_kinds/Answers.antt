@@ -1,4 +1,4 @@
-use Rattle.typed_meaning.proofs.Worlds.{pointers_are_inside, runs_are_typed, runs_begin_typed, types_are_kept}
+use Rattle.typed_meaning.proofs.Worlds.{places_are_inside, pointers_are_inside, runs_are_typed, runs_begin_typed, types_are_kept}
 use Rattle.typed_meaning.proofs.laws.values_have_kinds.Goals as goal
 
 -- src/laws.rt:8:1
@@ -16,3 +16,7 @@ returns-clause-parts c = types_are_kept
 -- src/laws.rt:8:1
 pub returns-clause-pointers : goal.returns-clause-pointers
 returns-clause-pointers c = pointers_are_inside
+
+-- src/laws.rt:8:1
+pub returns-clause-places : goal.returns-clause-places
+returns-clause-places c = places_are_inside
