@@ -1,5 +1,5 @@
 -- System calls with arguments of their types.
-use Rattle.std.proofs.Common.{◌≡◌, ◌⊎◌, inl, inr, ℕ, zero, suc, ◌+◌, ◌-◌, ◌*◌, ◌^◌, ◌<◌, ◌≤◌, nat_lt, nat_le, nat_eq, if◌then◌else◌, Bool, true, false, ◌&&◌, ℤ, pos, negsuc, List, [], ◌∷◌, ◌++◌, All, Option, Some, None, slice_get, slice_index_or, length, take, drop, sym, ap, ◌∙◌, subst, refl, arith, FitsSigned}
+use Rattle.std.proofs.Common.{◌≡◌, inl, inr, ℕ, zero, suc, ◌+◌, ◌-◌, ◌*◌, ◌<◌, ◌≤◌, nat_lt, nat_le, nat_eq, if◌then◌else◌, Bool, true, false, ◌&&◌, ℤ, pos, negsuc, List, [], ◌∷◌, Option, Some, None, slice_get, slice_index_or, length, take, drop, sym, ap, ◌∙◌, subst, refl, arith, FitsSigned}
 use Rattle.std.specs.Int.{FitsUnsigned, w8, w32}
 use Rattle.std.specs.List.{AllZip}
 use Rattle.std.proofs.lemmas.Bool.{false≢true, eqb-true}
@@ -8,7 +8,6 @@ use Rattle.std.proofs.lemmas.Int.{ints}
 use Rattle.std.proofs.lemmas.List.Elements.{All-nil, All-cons}
 use Rattle.dm_base.specs.declared.event.Arg.{Arg}
 use Rattle.dm_base.specs.declared.event.Arg.TheVariants as args
-use Rattle.dm_base.specs.declared.event.Event.{Event}
 use Rattle.dm_base.specs.declared.event.Event.TheVariants.{Sys}
 use Rattle.dm_base.specs.declared.outcome.Outcome.TheVariants.{BadResult}
 use Rattle.sys_table.specs.declared.kinds.ArgKind.{ArgKind}
@@ -16,29 +15,27 @@ use Rattle.sys_table.specs.declared.kinds.ArgKind.TheVariants.{Signed, Unsigned,
 use Rattle.sys_table.specs.declared.kinds.ResultKind.{ResultKind}
 use Rattle.sys_table.specs.declared.kinds.ResultKind.TheVariants as kinds
 use Rattle.sys_table.specs.declared.sys_result.SysResult.{SysResult}
-use Rattle.sys_table.specs.Table.{Row, table, row_of, recorded_of, result_of, FitsNumber, FitsArgument, FitsResult, IsRecorded}
+use Rattle.sys_table.specs.Table.{Row, table, recorded_of, result_of, FitsArgument, FitsResult, IsRecorded}
 use Rattle.sys_table.specs.Answering.{AnswersRead, AnswersWrite, AnswersOther}
-use Rattle.c_tree.specs.declared.value.IntType.{IntType}
 use Rattle.c_tree.specs.declared.value.IntType.TheVariants as i
 use Rattle.c_tree.specs.declared.value.Pointer.{Pointer}
 use Rattle.c_tree.specs.declared.value.Value.{Value}
 use Rattle.c_tree.specs.declared.value.Value.TheVariants.{Indeterminate, Int, Uint, Char, Uchar, Null, Func, At}
-use Rattle.c_tree.specs.Tree.{CType, void, integer, pointer, array, struct, function, CTypes, no_types, more_types, list_of, Program}
-use Rattle.c_tree.specs.Layout.{repeat, flat, cells}
-use Rattle.c_tree.specs.Functions.{int, unsigned_int, char_pointer, sys_types, value_type}
+use Rattle.c_tree.specs.Tree.{CType, void, integer, pointer, function, CTypes, no_types, more_types, list_of, Program}
+use Rattle.c_tree.specs.Layout.{repeat}
+use Rattle.c_tree.specs.Functions.{int, unsigned_int, char_pointer, sys_types}
 use Rattle.c_tree.specs.Operands.{IsObject}
-use Rattle.c_tree.specs.Kinds.{Objects, Lies, IsPointer}
+use Rattle.c_tree.specs.Kinds.{Objects, IsPointer}
 use Rattle.c_tree.specs.Program.{IsProgram}
 use Rattle.c_tree.specs.Operators.{Answer, gives, undefined, and_then}
-use Rattle.c_values.specs.Memory.{Object, object, writable}
+use Rattle.c_values.specs.Memory.{Object}
 use Rattle.c_values.specs.Memory.{Objects as Memory}
-use Rattle.c_meaning.specs.Meaning.{wants}
 use Rattle.c_meaning.specs.Pointers.{number}
 use Rattle.c_meaning.specs.Pointers.{pointer as pointed}
-use Rattle.c_meaning.specs.Results.{State, Result, Go, Stop, after, then_do, answered, remembered}
-use Rattle.c_meaning.specs.SystemCalls.{byte_of, char_of, bytes_in, cells_from, is_zero, put_first, before_zero, bytes_where, string, has_room, bytes_of_buffer, room_for, size, Request, request_of, argument, arguments, read_request, write_request, request, does_answer, result_value, next, filled, filled_where, with_records, take_record, exit_call, exit_with, system_call}
+use Rattle.c_meaning.specs.Results.{State, Stop, after, remembered}
+use Rattle.c_meaning.specs.SystemCalls.{char_of, bytes_in, cells_from, is_zero, put_first, before_zero, bytes_where, string, has_room, bytes_of_buffer, room_for, size, Request, argument, arguments, read_request, write_request, request, does_answer, result_value, next, filled, filled_where, with_records, take_record, exit_call, exit_with, system_call}
 use Rattle.c_meaning.proofs.Answering.{records_are_judged}
-use Rattle.typed_meaning.specs.StoreTyping.{HasKind, IsCell, IsTypedMemory, IsTypedState, Grows}
+use Rattle.typed_meaning.specs.StoreTyping.{HasKind, IsCell, IsTypedMemory, IsTypedState}
 use Rattle.typed_meaning.specs.TypedResults.{EndsTyped, Gives}
 use Rattle.typed_meaning.proofs.Places.{scalar_object, grows_none, kind_given}
 use Rattle.typed_meaning.proofs.Steps.{Right, right_then, there_right, pointer_right, cells_there, store_right}

@@ -1,5 +1,5 @@
 -- Each function that a call calls is a candidate of its site, since each site stands once.
-use Rattle.std.proofs.Common.{◌≡◌, ◌⊎◌, inl, inr, ℕ, zero, suc, ◌+◌, ◌<◌, ◌≤◌, nat_eq, if◌then◌else◌, Bool, true, false, ◌&&◌, List, [], ◌∷◌, ◌++◌, map, filter, flat_map, Contains, Option, Some, None, slice_get, length, length-append, append_assoc, sym, ap, ap₂, ◌∙◌, subst, refl, arith}
+use Rattle.std.proofs.Common.{◌≡◌, ℕ, zero, suc, ◌+◌, ◌<◌, ◌≤◌, nat_eq, if◌then◌else◌, Bool, true, false, ◌&&◌, List, [], ◌∷◌, ◌++◌, map, filter, flat_map, Contains, Some, length, length-append, sym, ap, ap₂, ◌∙◌, subst, refl, arith}
 use Rattle.std.specs.List.{range_with_len}
 use Rattle.std.specs.Cmp.{nat_eq_equiv}
 use Rattle.std.proofs.lemmas.Bool.{false≢true}
@@ -13,10 +13,9 @@ use Rattle.c_tree.specs.Tree.{Exprs, no_exprs, more_exprs, Maybe, absent, there,
 use Rattle.c_tree.specs.Tree.{Stmt, block, empty, evaluate, declare, if_else, while_loop, do_loop, for_loop, switch_on, break_off, continue_on, return_void, return_value, Stmts, no_stmts, more_stmts, Groups, no_groups, more_groups}
 use Rattle.c_tree.specs.Functions.{sys_types, defined, type_of_defined, value_types, value_type}
 use Rattle.c_tree.specs.Kinds.{Objects}
-use Rattle.c_tree.specs.Program.{IsProgram}
 use Rattle.c_tree.specs.Sites.{sites_of, sites_of_all, sites_of_maybe, sites_of_inits, sites_of_stmt, sites_of_stmts, sites_of_groups, sites_of_function, sites_of_program}
 use Rattle.c_shapes.specs.Mentions.{Callee, Direct, Through, Mention, Named, Calls, mentions, mentions_of_all, mentions_of_maybe, mentions_of_inits, mentions_of_stmt, mentions_of_stmts, mentions_of_groups, mentions_of_function, mention_of_cell, mentions_of_static, mentions_of_program}
-use Rattle.c_shapes.specs.CallGraph.{same_type, is_taken, is_typed, functions_of, callees, callee_at, called_where, candidates}
+use Rattle.c_shapes.specs.CallGraph.{is_taken, is_typed, functions_of, callees, callee_at, called_where, candidates}
 use Rattle.c_shapes.proofs.SameTypes.{types_tell}
 use Rattle.typed_meaning.specs.StoreTyping.{HasKind}
 use Rattle.typed_meaning.specs.Callees.{CalleesAreCandidates}

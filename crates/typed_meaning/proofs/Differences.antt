@@ -1,20 +1,18 @@
 -- Differences of pointers fit an int, since each object has at most 65,536 cells and each element has one.
-use Rattle.std.proofs.Common.{◌≡◌, ℕ, zero, suc, ◌+◌, ◌*◌, ◌<◌, ◌≤◌, ℤ, pos, ◌-ℤ◌, List, [], ◌∷◌, ◌++◌, All, Some, slice_get, length, length-append, sym, ap, ◌∙◌, subst, refl, arith, FitsSigned}
+use Rattle.std.proofs.Common.{◌≡◌, ℕ, zero, suc, ◌+◌, ◌*◌, ◌<◌, ◌≤◌, pos, ◌-ℤ◌, List, [], ◌∷◌, ◌++◌, Some, slice_get, length, length-append, sym, ap, ◌∙◌, subst, refl, arith, FitsSigned}
 use Rattle.std.specs.Int.{w32}
 use Rattle.std.proofs.lemmas.Int.{ints}
 use Rattle.std.proofs.lemmas.List.Elements.{All-head}
 use Rattle.c_tree.specs.declared.value.ObjectName.{ObjectName}
 use Rattle.c_tree.specs.declared.value.Pointer.{Pointer}
 use Rattle.c_tree.specs.declared.value.Value.{Value}
-use Rattle.c_tree.specs.declared.value.Value.TheVariants.{Int}
 use Rattle.c_tree.specs.Tree.{CType, void, integer, pointer, array, struct, function, Program}
 use Rattle.c_tree.specs.Layout.{Structs, repeat, flat, flat_all, cells, struct_cells}
 use Rattle.c_tree.specs.Functions.{int}
 use Rattle.c_tree.specs.Operands.{IsComplete, IsObject}
 use Rattle.c_tree.specs.Kinds.{Objects, IsPointer}
-use Rattle.c_tree.specs.Operators.{gives}
 use Rattle.c_tree.specs.Program.{IsBelow, AreStructs, IsProgram}
-use Rattle.c_values.specs.Memory.{IsInside, Object}
+use Rattle.c_values.specs.Memory.{IsInside}
 use Rattle.c_values.specs.Memory.{Objects as Memory}
 use Rattle.c_meaning.specs.Pointers.{difference}
 use Rattle.typed_meaning.specs.StoreTyping.{HasKind, IsCell, IsTypedMemory}

@@ -1,18 +1,16 @@
 -- What is typed after each way of putting parts of a program together.
-use Rattle.std.proofs.Common.{◌≡◌, ℕ, zero, suc, ◌≤◌, Bool, true, false, if◌then◌else◌, List, [], ◌∷◌, ◌++◌, All, Option, Some, None, refl, arith}
+use Rattle.std.proofs.Common.{ℕ, zero, suc, Bool, true, false, if◌then◌else◌, List, [], All, Some, None}
 use Rattle.std.proofs.lemmas.Bool.{false≢true}
 use Rattle.std.proofs.lemmas.List.Elements.{All-nil, All-append}
 use Rattle.dm_base.specs.declared.event.Event.{Event}
 use Rattle.sys_table.specs.Table.{IsRecorded}
-use Rattle.c_tree.specs.declared.value.Value.{Value}
 use Rattle.c_tree.specs.Tree.{CType, Program}
 use Rattle.c_tree.specs.Kinds.{Objects}
 use Rattle.c_values.specs.Answers.{Answer, gives, undefined}
 use Rattle.c_values.specs.Memory.{Objects as Memory}
-use Rattle.c_meaning.specs.Meaning.{either, tested}
-use Rattle.c_meaning.specs.Pointers.{test}
+use Rattle.c_meaning.specs.Meaning.{either}
 use Rattle.c_meaning.specs.Results.{State, with_memory, Result, Go, Stop, after, then_do, spend_at, answered, remembered, Exit, on, broken, continued, returned, on_exit, on_round}
-use Rattle.typed_meaning.specs.StoreTyping.{HasKind, IsTypedMemory, IsTypedState, Grows}
+use Rattle.typed_meaning.specs.StoreTyping.{IsTypedMemory, IsTypedState, Grows}
 use Rattle.typed_meaning.specs.TypedResults.{EndsTyped, IsExit}
 use Rattle.typed_meaning.proofs.Places.{grows_on, grows_none}
 use Rattle.typed_meaning.proofs.Steps.{Right}

@@ -1,49 +1,43 @@
 -- Evaluation keeps types.
-use Rattle.std.proofs.Common.{◌≡◌, ◌⊎◌, inl, inr, ℕ, zero, suc, ◌+◌, ◌-◌, ◌*◌, ◌<◌, ◌≤◌, nat_lt, nat_eq, if◌then◌else◌, Bool, true, false, ℤ, pos, ◌-ℤ◌, List, [], ◌∷◌, ◌++◌, map, All, Contains, Option, Some, None, option_map, slice_get, replicate, length, append_assoc, sym, ap, ◌∙◌, subst, refl, arith, FitsSigned}
-use Rattle.std.specs.Int.{w32}
+use Rattle.std.proofs.Common.{◌≡◌, inl, inr, ℕ, zero, suc, ◌+◌, ◌-◌, ◌<◌, ◌≤◌, nat_lt, nat_eq, if◌then◌else◌, Bool, true, false, List, [], ◌∷◌, ◌++◌, map, All, Option, Some, None, slice_get, replicate, length, append_assoc, sym, ap, ◌∙◌, subst, refl, arith}
 use Rattle.std.specs.List.{AllZip}
-use Rattle.std.proofs.lemmas.Bool.{false≢true, eqb-true}
 use Rattle.std.proofs.lemmas.Bool.Decides.{nat_tests}
-use Rattle.std.proofs.lemmas.Int.{ints}
 use Rattle.std.proofs.lemmas.Option.{slice_get_within}
-use Rattle.std.proofs.lemmas.List.Elements.{All-nil, All-cons, All-head, All-tail, Contains-append_left, Contains-append_right}
+use Rattle.std.proofs.lemmas.List.Elements.{All-nil, All-cons, All-head, All-tail}
 use Rattle.dm_base.specs.declared.event.Event.{Event}
 use Rattle.dm_base.specs.declared.event.Event.TheVariants.{Pre, Post}
 use Rattle.dm_base.specs.declared.outcome.Outcome.TheVariants.{Undefined}
 use Rattle.sys_table.specs.Table.{IsRecorded}
 use Rattle.c_tree.specs.declared.value.IntType.{IntType}
-use Rattle.c_tree.specs.declared.value.IntType.TheVariants as i
 use Rattle.c_tree.specs.declared.value.UnOp.{UnOp}
 use Rattle.c_tree.specs.declared.value.UnOp.TheVariants.{Minus, Complement, Not}
-use Rattle.c_tree.specs.declared.value.Pointer.{Pointer}
 use Rattle.c_tree.specs.declared.value.Value.{Value}
 use Rattle.c_tree.specs.declared.value.Value.TheVariants.{Indeterminate, Int, Uint, Char, Uchar, Null, Func, At}
 use Rattle.c_tree.specs.Tree.{CType, void, integer, pointer, array, struct, function, CTypes, no_types, more_types, list_of, Function, Static, Program, type_of}
 use Rattle.c_tree.specs.Tree.{Expr, constant, function_name, string_place, variable, dereference, load, address_of, decay, discard, field, unary_operation, conversion, arithmetic, comparison, pointer_add, pointer_diff, and, or, assign, update, conditional, comma, call, call_through}
 use Rattle.c_tree.specs.Tree.{Exprs, no_exprs, more_exprs, Maybe, absent, there, Inits, no_inits, more_inits}
 use Rattle.c_tree.specs.Tree.{Stmt, block, empty, evaluate, declare, if_else, while_loop, do_loop, for_loop, switch_on, break_off, continue_on, return_void, return_value, Stmts, no_stmts, more_stmts, Groups, no_groups, more_groups}
-use Rattle.c_tree.specs.Layout.{Structs, repeat, flat, cells}
+use Rattle.c_tree.specs.Layout.{repeat, flat, cells}
 use Rattle.c_tree.specs.Functions.{int, unsigned_int, sys_types, null_types, defined, type_of_defined, value_types, value_type, called_type}
-use Rattle.c_tree.specs.Operands.{IsScalar, IsObject, IsPromoted, IsIntegerType, IsObjectPointer, OperatorKind, balanced, shift, ordering, equality, kind_of, FitsArithmetic, FitsUnary, AreComparable, FitsComparison, FitsPointerAdd}
-use Rattle.c_tree.specs.Kinds.{Objects, Lies, IsPointer, IsConstant}
+use Rattle.c_tree.specs.Operands.{IsScalar, IsObject, OperatorKind, balanced, shift, ordering, equality, kind_of, FitsUnary, AreComparable, FitsPointerAdd}
+use Rattle.c_tree.specs.Kinds.{Objects, IsPointer}
 use Rattle.c_tree.specs.Operators.{Answer, gives, undefined, convert, binary}
-use Rattle.c_tree.specs.Program.{IsFunction, IsStatic, IsProgram}
-use Rattle.c_tree.specs.Typed.{IsStaticOf, IsVariableOf, IsValue, IsPlace, AreMembers, AreMembersAfter, AreArguments, IsCondition, IsTest, IsStep, AreInits, IsDeclare, IsFirst, AreFirst, IsStmt, AreStmts, AreGroups}
-use Rattle.c_values.specs.Memory.{declared, ended}
+use Rattle.c_tree.specs.Program.{IsStatic, IsProgram}
+use Rattle.c_tree.specs.Typed.{IsStaticOf, IsVariableOf, IsValue, IsPlace, AreMembers, AreArguments, IsCondition, IsTest, IsStep, AreInits, IsDeclare, IsFirst, AreFirst, IsStmt, AreStmts, AreGroups}
+use Rattle.c_values.specs.Memory.{declared}
 use Rattle.c_values.specs.Memory.{Objects as Memory}
-use Rattle.c_shapes.specs.Mentions.{Mention, Named, Calls, Direct, Through, mentions, mentions_of_all, mentions_of_maybe, mentions_of_inits, mentions_of_stmt, mentions_of_stmts, mentions_of_groups, mentions_of_program}
-use Rattle.c_shapes.specs.CallGraph.{is_taken}
-use Rattle.c_meaning.specs.Meaning.{Marks, Frame, Loop, World, either, static_name, name_in, behind_of, decayed, operated, comparing, moving, updated, bracketed, wants, null_call, call_undefined, called, system_call_alone, called_through, tested, eval, eval_each, eval_all, condition, perhaps, initialise, fresh, declared_by, declared_in, without, leaving, selected, exec, exec_all, exec_from}
+use Rattle.c_shapes.specs.Mentions.{Calls, Direct, Through, mentions, mentions_of_all, mentions_of_maybe, mentions_of_inits, mentions_of_stmt, mentions_of_stmts, mentions_of_groups}
+use Rattle.c_meaning.specs.Meaning.{Marks, Frame, World, either, static_name, name_in, behind_of, decayed, operated, comparing, moving, updated, bracketed, wants, null_call, call_undefined, called, system_call_alone, called_through, tested, eval, eval_each, eval_all, condition, perhaps, initialise, fresh, declared_in, without, leaving, selected, exec, exec_all, exec_from}
 use Rattle.c_meaning.specs.Pointers.{callee, truth_value, place, load_place, store_place, member, difference, test}
-use Rattle.c_meaning.specs.Results.{State, with_memory, Result, Go, Stop, after, then_do, answered, remembered, Exit, on, broken, continued, returned, on_exit, on_round, out_of_switch}
+use Rattle.c_meaning.specs.Results.{State, with_memory, Result, Go, Stop, then_do, answered, Exit, on, broken, continued, returned, out_of_switch}
 use Rattle.c_meaning.specs.SystemCalls.{system_call}
-use Rattle.typed_meaning.specs.StoreTyping.{HasKind, IsCell, IsGiven, IsPlaceAt, IsPlaced, IsTypedMemory, IsTypedState, Grows, TellsOfStatics, IsTypedFrame}
-use Rattle.typed_meaning.specs.TypedResults.{EndsTyped, Gives, GiveAll, IsExit, StandsIn, StandsRound, IsTypedWorld, AreRecorded}
+use Rattle.typed_meaning.specs.StoreTyping.{HasKind, IsPlaced, IsTypedMemory, IsTypedState, Grows, TellsOfStatics, IsTypedFrame}
+use Rattle.typed_meaning.specs.TypedResults.{EndsTyped, Gives, GiveAll, IsExit, StandsIn, IsTypedWorld, AreRecorded}
 use Rattle.typed_meaning.specs.Laws.{HaveMembers}
-use Rattle.typed_meaning.proofs.Places.{flat_scalar, get_left, get_right, get_before, lies_whole, scalar_cell, scalar_object, zip_all, grows_on, grows_none, carry, carry_place, kind_cell, kind_given, carry_given, blank, memory_changed, memory_ended}
-use Rattle.typed_meaning.proofs.Steps.{Right, right_then, truth_kind, update_right_scalar, function_parts, value_takes, called_takes, scalars_of, convert_right, binary_right, behind_of_right, IsCallee, callee_right, load_place_right, store_right, store_place_right, field_right, address_is, decayed_right, moving_right, operated_right, comparing_right, test_right, updated_right, update_scalar, place_pointer, of_constant}
+use Rattle.typed_meaning.proofs.Places.{flat_scalar, get_left, get_right, get_before, lies_whole, scalar_object, grows_on, grows_none, carry, carry_place, kind_given, carry_given, blank, memory_changed, memory_ended}
+use Rattle.typed_meaning.proofs.Steps.{Right, truth_kind, update_right_scalar, function_parts, value_takes, scalars_of, convert_right, binary_right, behind_of_right, IsCallee, callee_right, load_place_right, store_right, store_place_right, field_right, address_is, decayed_right, moving_right, operated_right, comparing_right, test_right, updated_right, update_scalar, of_constant}
 use Rattle.typed_meaning.proofs.Differences.{difference_right}
-use Rattle.typed_meaning.proofs.Ends.{now, now_after, after_ends, then_ends, at_once, weaker, grown, answered_ends, remembered_ends, either_ends, if_ends, exit_ends, round_ends, looser}
+use Rattle.typed_meaning.proofs.Ends.{now, now_after, after_ends, then_ends, at_once, weaker, answered_ends, remembered_ends, either_ends, exit_ends, round_ends, looser}
 use Rattle.typed_meaning.proofs.Calls.{system_call_ends}
 use Rattle.typed_meaning.proofs.Standing.{taken_there, left_part, right_part, stands_empty}
 

@@ -4,18 +4,17 @@ use Rattle.std.specs.List.{AllZip}
 use Rattle.std.proofs.lemmas.Option.{slice_get_within}
 use Rattle.std.proofs.lemmas.List.Elements.{All-head, All-tail}
 use Rattle.c_tree.specs.declared.value.ObjectName.{ObjectName}
-use Rattle.c_tree.specs.declared.value.Pointer.{Pointer}
 use Rattle.c_tree.specs.declared.value.Value.{Value}
 use Rattle.c_tree.specs.declared.value.Value.TheVariants.{Indeterminate, Int, Uint, Char, Uchar, Null, Func, At}
 use Rattle.c_tree.specs.Tree.{CType, void, integer, pointer, array, struct, function, Program}
 use Rattle.c_tree.specs.Layout.{Structs, or_none, repeat, flat_with, flat_all_with, layout, struct_cells, flat, flat_all, cells, cells_of_all, first_cell}
-use Rattle.c_tree.specs.Operands.{IsScalar, IsComplete, IsObject}
-use Rattle.c_tree.specs.Kinds.{Objects, Lies, IsPointer, IsConstant}
+use Rattle.c_tree.specs.Operands.{IsScalar, IsObject}
+use Rattle.c_tree.specs.Kinds.{Objects, Lies}
 use Rattle.c_tree.specs.Program.{IsBelow, AreStructs}
 use Rattle.c_values.specs.Memory.{Object, same_name, changed, ended}
 use Rattle.c_values.specs.Memory.{Objects as Memory}
 use Rattle.c_values.proofs.StoreLemmas.{same_is}
-use Rattle.typed_meaning.specs.StoreTyping.{HasKind, IsCell, IsGiven, IsPlaceAt, IsPlaced, IsTypedMemory, Grows}
+use Rattle.typed_meaning.specs.StoreTyping.{HasKind, IsCell, IsGiven, IsPlaced, IsTypedMemory, Grows}
 
 pub get_left : {A : Type 0} (xs ys : List A) (k : ℕ) (t : A) → slice_get xs k ≡ Some t → slice_get (xs ++ ys) k ≡ Some t
 get_left [] ys k t h = absurd (cc)

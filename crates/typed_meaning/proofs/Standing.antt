@@ -1,11 +1,10 @@
 -- Parts of what stands in the program.
-use Rattle.std.proofs.Common.{◌≡◌, ◌⊎◌, inl, inr, ℕ, zero, suc, ◌<◌, Bool, true, false, ◌||◌, nat_eq, List, [], ◌∷◌, ◌++◌, flat_map, Contains, Option, Some, None, slice_get, length, sym, ap, ◌∙◌, subst, refl, arith}
+use Rattle.std.proofs.Common.{◌≡◌, ℕ, zero, suc, Bool, true, false, ◌||◌, List, [], ◌∷◌, ◌++◌, flat_map, Contains, Some, slice_get, ap, ◌∙◌, subst, refl, arith}
 use Rattle.std.specs.Cmp.{nat_eq_equiv}
 use Rattle.std.proofs.lemmas.List.Elements.{Contains-append_left, Contains-append_right}
-use Rattle.c_tree.specs.declared.value.Value.{Value}
 use Rattle.c_tree.specs.declared.value.Value.TheVariants.{Func}
 use Rattle.c_tree.specs.Tree.{Function, Static, Program}
-use Rattle.c_shapes.specs.Mentions.{Mention, Named, Calls, mention_of_cell, mentions_of_function, mentions_of_static, mentions_of_program}
+use Rattle.c_shapes.specs.Mentions.{Mention, Named, mention_of_cell, mentions_of_function, mentions_of_static, mentions_of_program}
 use Rattle.c_shapes.specs.CallGraph.{has_one, names, is_taken}
 use Rattle.typed_meaning.specs.TypedResults.{StandsIn}
 

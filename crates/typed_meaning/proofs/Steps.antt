@@ -1,8 +1,6 @@
 -- Steps on values and memory answer rightly, where these are typed.
-use Rattle.std.proofs.Common.{◌≡◌, ◌⊎◌, inl, inr, ℕ, zero, suc, ◌+◌, ◌*◌, ◌<◌, ◌≤◌, nat_lt, nat_le, nat_eq, if◌then◌else◌, Bool, true, false, not, ◌&&◌, ℤ, pos, negsuc, ◌+ℤ◌, ◌-ℤ◌, neg_ℤ, List, [], ◌∷◌, ◌++◌, map, All, Option, Some, None, slice_get, slice_set, length, sym, ap, ◌∙◌, subst, refl, arith, FitsSigned}
-use Rattle.std.specs.Int.{w32}
+use Rattle.std.proofs.Common.{◌≡◌, inl, inr, ℕ, zero, suc, ◌+◌, ◌*◌, ◌<◌, ◌≤◌, nat_lt, nat_le, if◌then◌else◌, Bool, true, false, not, ◌&&◌, ℤ, pos, negsuc, ◌+ℤ◌, ◌-ℤ◌, neg_ℤ, List, [], ◌∷◌, ◌++◌, map, All, Option, Some, None, slice_get, slice_set, length, sym, ap, ◌∙◌, subst, refl, arith}
 use Rattle.std.specs.List.{AllZip}
-use Rattle.std.specs.Ordering.{int_eq}
 use Rattle.std.proofs.lemmas.Bool.{false≢true}
 use Rattle.std.proofs.lemmas.Bool.Decides.{nat_tests}
 use Rattle.std.proofs.lemmas.Int.{ints}
@@ -20,21 +18,21 @@ use Rattle.c_tree.specs.declared.value.Value.TheVariants.{Indeterminate, Int, Ui
 use Rattle.c_tree.specs.Tree.{CType, void, integer, pointer, array, struct, function, CTypes, no_types, more_types, list_of, Function, Program}
 use Rattle.c_tree.specs.Layout.{Structs, repeat, flat, cells, flat_all, first_cell}
 use Rattle.c_tree.specs.Functions.{int, sys_types, null_types, type_of_defined, value_types, called_types, value_type, called_type}
-use Rattle.c_tree.specs.Operands.{IsScalar, IsComplete, IsObject, IsTarget, promoted, common, IsPromoted, IsIntegerType, IsObjectPointer, OperatorKind, balanced, shift, ordering, equality, kind_of, AreOperands, FitsArithmetic, FitsUnary, AreComparable, FitsComparison, FitsPointerAdd, FitsRightSide, MovesPointers, FitsUpdate, Decays}
+use Rattle.c_tree.specs.Operands.{IsScalar, IsComplete, IsObject, IsTarget, promoted, common, IsPromoted, IsIntegerType, IsObjectPointer, OperatorKind, balanced, shift, ordering, equality, kind_of, AreOperands, FitsArithmetic, FitsUnary, AreComparable, FitsComparison, FitsPointerAdd, FitsRightSide, FitsUpdate, Decays}
 use Rattle.c_tree.specs.Kinds.{Objects, Lies, IsPointer, IsConstant}
 use Rattle.c_tree.specs.OperatorTypes.{IsAnswer, IsGiven as IsConverted}
-use Rattle.c_tree.specs.Operators.{Answer, gives, undefined, and_then, on_number, fits_int, fitting, settle, low_bits, truth, table_of, convert, unary, negated, binary}
+use Rattle.c_tree.specs.Operators.{Answer, gives, undefined, and_then, fits_int, fitting, settle, truth, table_of, convert, unary, negated, binary}
 use Rattle.c_tree.specs.Program.{IsFunction, IsProgram}
 use Rattle.c_tree.specs.Typed.{IsMemberOf}
 use Rattle.c_tree.proofs.OperatorLemmas.{converted, arithmetic_fits, below_32}
-use Rattle.c_values.specs.Memory.{Object, there, object, element, cell_value, load, writable, set_cell, store, changed}
+use Rattle.c_values.specs.Memory.{Object, there, element, cell_value, load, set_cell, store, changed}
 use Rattle.c_values.specs.Memory.{Objects as Memory}
 use Rattle.c_meaning.specs.Meaning.{behind_of, decayed, operated, comparing, moving, computing, is_subtraction, updated}
-use Rattle.c_meaning.specs.Pointers.{callee, number, truth_value, place, behind, function_behind, load_place, store_place, member, to_first, at_index, offset, moved, same_array, in_one_array, difference, alive, same_cell, equal_to_at, equal_to_function, equal_to_null, equal_pointers, compared, is_not_zero, test}
+use Rattle.c_meaning.specs.Pointers.{callee, number, truth_value, behind, function_behind, load_place, store_place, member, to_first, at_index, offset, moved, same_array, in_one_array, alive, equal_pointers, compared, test}
 use Rattle.c_meaning.specs.Pointers.{pointer as pointed}
 use Rattle.c_shapes.specs.CallGraph.{is_taken}
 use Rattle.typed_meaning.specs.StoreTyping.{HasKind, IsCell, IsPlaceAt, IsPlaced, IsTypedMemory}
-use Rattle.typed_meaning.proofs.Places.{get_left, get_right, lies_in, lies_moved, repeat_lies, lies_once, member_lies, member_few, scalar_cell, scalar_object, element_object, struct_is, zip_get, zip_set, kind_cell, memory_changed}
+use Rattle.typed_meaning.proofs.Places.{get_left, lies_in, lies_moved, repeat_lies, lies_once, member_lies, member_few, scalar_cell, scalar_object, element_object, struct_is, zip_get, zip_set, kind_cell, memory_changed}
 
 -- an answer is what it should be, or one of the kinds U1 to U12
 abbrev pub Right : {A : Type 0} → (A → Type 0) → Answer A → Type 0

@@ -1,37 +1,32 @@
 -- Entries of functions, loops and whole runs keep types.
-use Rattle.std.proofs.Common.{◌≡◌, ℕ, zero, suc, ◌+◌, ◌*◌, ◌<◌, ◌≤◌, nat_eq, if◌then◌else◌, Bool, true, false, ℤ, pos, List, [], ◌∷◌, ◌++◌, All, Option, Some, None, option_map, slice_get, length, sym, ap, ◌∙◌, subst, refl, arith, FitsSigned}
-use Rattle.std.specs.Int.{w32}
+use Rattle.std.proofs.Common.{◌≡◌, ℕ, zero, suc, ◌+◌, ◌*◌, ◌<◌, ◌≤◌, nat_eq, if◌then◌else◌, Bool, true, false, pos, List, [], ◌∷◌, ◌++◌, All, Option, Some, None, option_map, slice_get, length, sym, ap, ◌∙◌, subst, refl, arith}
 use Rattle.std.specs.List.{AllZip}
 use Rattle.std.proofs.lemmas.Bool.{false≢true, eqb-true}
 use Rattle.std.proofs.lemmas.Bool.Decides.{nat_tests}
 use Rattle.std.proofs.lemmas.Int.{ints}
 use Rattle.std.proofs.lemmas.List.Elements.{All-nil, All-head, All-tail}
 use Rattle.std.specs.Cmp.{nat_eq_equiv}
-use Rattle.dm_base.specs.declared.outcome.Outcome.{Outcome}
-use Rattle.dm_base.specs.declared.outcome.Outcome.TheVariants.{Undefined}
 use Rattle.sys_table.specs.declared.sys_result.SysResult.{SysResult}
 use Rattle.sys_table.specs.Table.{IsRecorded}
 use Rattle.c_tree.specs.declared.value.ObjectName.{ObjectName}
-use Rattle.c_tree.specs.declared.value.Pointer.{Pointer}
 use Rattle.c_tree.specs.declared.value.Value.{Value}
 use Rattle.c_tree.specs.declared.value.Value.TheVariants.{Indeterminate, Int, Uint, Char, Uchar, Null, Func, At}
-use Rattle.c_tree.specs.Tree.{CType, void, integer, pointer, array, struct, function, CTypes, no_types, more_types, list_of, Function, Static, Program}
-use Rattle.c_tree.specs.Layout.{flat, cells}
+use Rattle.c_tree.specs.Tree.{CType, void, integer, pointer, array, struct, function, CTypes, no_types, list_of, Function, Static, Program}
+use Rattle.c_tree.specs.Layout.{flat}
 use Rattle.c_tree.specs.Functions.{int, of_none}
 use Rattle.c_tree.specs.Operands.{IsScalar, IsObject}
 use Rattle.c_tree.specs.Kinds.{Objects, HasType, cells_where, if_static, static_objects}
 use Rattle.c_tree.specs.Program.{IsFunction, IsStatic, IsProgram}
 use Rattle.c_tree.specs.Typed.{IsTest, IsStep, IsStmt}
-use Rattle.c_values.specs.Memory.{Object, no_objects, IsInside}
 use Rattle.c_shapes.specs.CallGraph.{is_taken}
 use Rattle.c_values.specs.Memory.{Objects as Memory}
-use Rattle.c_meaning.specs.Meaning.{Marks, Frame, Loop, World, either, static_name, condition, perhaps, without, exec}
-use Rattle.c_meaning.specs.Results.{State, with_memory, Result, Go, Stop, then_do, spend, Exit, on, broken, continued, returned, on_round}
-use Rattle.c_meaning.specs.Runs.{with_parameters, parameters, entered, without_value, result_of, run_body, enter, loop, world, first_objects, beginning, Run, exit_of, ending, run_with}
+use Rattle.c_meaning.specs.Meaning.{Marks, Frame, Loop, World, static_name, perhaps, without}
+use Rattle.c_meaning.specs.Results.{State, with_memory, Result, Go, Stop, then_do, Exit, on, broken, continued, returned}
+use Rattle.c_meaning.specs.Runs.{with_parameters, parameters, entered, without_value, result_of, run_body, enter, loop, world, first_objects, beginning, exit_of, ending, run_with}
 use Rattle.typed_meaning.specs.StoreTyping.{HasKind, IsCell, IsGiven, IsTypedMemory, IsTypedAfter, IsTypedState, Grows, TellsOfStatics, IsTypedFrame}
-use Rattle.typed_meaning.specs.TypedResults.{IsEnding, EndsTyped, IsExit, StandsIn, StandsRound, IsTypedWorld, AreRecorded}
+use Rattle.typed_meaning.specs.TypedResults.{IsEnding, EndsTyped, IsExit, StandsRound, IsTypedWorld, AreRecorded}
 use Rattle.typed_meaning.specs.Laws.{HaveMembers, IsTypedRun, BeginsTyped, RunsBeginTyped, PartsAreTyped, TypesAreKept, RunsAreTyped, PointersAreInside, PlacesAreInside}
-use Rattle.typed_meaning.proofs.Places.{get_left, grows_on, grows_none, carry_all, kind_cell, kind_given, memory_changed, memory_grows, zip_get}
+use Rattle.typed_meaning.proofs.Places.{get_left, grows_on, carry_all, kind_cell, kind_given, memory_changed, memory_grows}
 use Rattle.typed_meaning.proofs.Steps.{place_pointer}
 use Rattle.typed_meaning.proofs.Differences.{inside}
 use Rattle.typed_meaning.proofs.Ends.{now, then_ends, grown, either_ends, spend_ends, round_ends}

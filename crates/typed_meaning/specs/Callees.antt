@@ -1,8 +1,7 @@
 -- Which functions a call calls: those that the call graph has for its site.
-use Rattle.std.specs.Prelude.{◌≡◌, ℕ, Contains, Some}
+use Rattle.std.specs.Prelude.{ℕ, Contains}
 use Rattle.c_tree.specs.declared.value.Value.TheVariants.{Func}
 use Rattle.c_tree.specs.Tree.{CType, Program}
-use Rattle.c_tree.specs.Functions.{value_type}
 use Rattle.c_tree.specs.Kinds.{Objects}
 use Rattle.c_tree.specs.Program.{IsProgram}
 use Rattle.c_shapes.specs.Mentions.{Direct, Through, Calls, mentions_of_program}

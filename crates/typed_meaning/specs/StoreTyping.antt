@@ -1,5 +1,5 @@
 -- Typed memory. A store typing tells the types of the cells of each object that was or is there, by its name: so it only grows, and it stays when an object ends or a block is entered again (C99 6.2.4).
-use Rattle.std.specs.Prelude.{◌≡◌, ℕ, ◌<◌, ◌≤◌, Bool, true, false, List, length, Option, Some, None, slice_get}
+use Rattle.std.specs.Prelude.{◌≡◌, ℕ, ◌<◌, ◌≤◌, Bool, true, false, List, length, Some, None, slice_get}
 use Rattle.std.specs.List.{AllZip}
 use Rattle.c_tree.specs.declared.value.ObjectName.{ObjectName}
 use Rattle.c_tree.specs.declared.value.Pointer.{Pointer}

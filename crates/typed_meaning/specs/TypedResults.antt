@@ -1,8 +1,7 @@
 -- Typed results: what the parts of a well-typed program give from a typed state on.
-use Rattle.std.specs.Prelude.{◌≡◌, ℕ, ◌≤◌, Bool, true, false, IsTrue, List, All, Contains, Option, Some, None, slice_get, FitsSigned}
+use Rattle.std.specs.Prelude.{◌≡◌, ℕ, ◌≤◌, Bool, true, false, IsTrue, List, All, Contains, Some, None, slice_get, FitsSigned}
 use Rattle.std.specs.Int.{w32}
 use Rattle.std.specs.List.{AllZip}
-use Rattle.dm_base.specs.declared.event.Event.{Event}
 use Rattle.dm_base.specs.declared.outcome.Outcome.{Outcome}
 use Rattle.dm_base.specs.declared.outcome.Outcome.TheVariants.{Exit as ended_by, Undefined, Turns, Results, BadResult}
 use Rattle.sys_table.specs.Table.{IsRecorded}
