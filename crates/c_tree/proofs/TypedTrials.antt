@@ -30,6 +30,7 @@ no_structs = record {
   ranked = λ s ts h. absurd (none-some (Some ts) h);
   below = λ s ts h. absurd (none-some (Some ts) h);
   complete = λ s ts h. absurd (none-some (Some ts) h);
+  members = λ s ts h. absurd (none-some (Some ts) h);
 }
 
 alone : {A : Type 0} (R : A → A → Type 0) (x : A) → AllPairs R (x ∷ [])

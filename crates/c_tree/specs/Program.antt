@@ -20,12 +20,14 @@ IsBelow rank n (array t k) = IsBelow rank n t
 IsBelow rank n (struct s) = rank s < n
 IsBelow rank n (function r ts) = Unit {0}
 
--- members are objects of known size, and no struct holds itself, since each is defined after those that it holds (6.7.2.1 paragraph 2)
+-- each struct that is defined has members, which are objects of known size, and no struct holds itself, since each is defined after
+-- those that it holds (6.7.2.1 paragraphs 1 and 2)
 pub record AreStructs (structs : Structs) : Type 0 where
   pub rank : ℕ → ℕ
   pub ranked : (s : ℕ) (ts : List CType) → slice_get structs s ≡ Some (Some ts) → rank s < length structs
   pub below : (s : ℕ) (ts : List CType) → slice_get structs s ≡ Some (Some ts) → All (IsBelow rank (rank s)) ts
   pub complete : (s : ℕ) (ts : List CType) → slice_get structs s ≡ Some (Some ts) → All (IsComplete structs) ts
+  pub members : (s : ℕ) (ts : List CType) → slice_get structs s ≡ Some (Some ts) → 1 ≤ length ts
 
 -- a function: its parameters are the first of its variables, and its body is well-typed (6.9.1)
 pub record IsFunction (p : Program) (f : Function) : Type 0 where
