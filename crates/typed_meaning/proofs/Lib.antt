@@ -6,4 +6,5 @@ pub mod Keeps
 pub mod Places
 pub mod Standing
 pub mod Steps
+pub mod TypedRunTrials
 pub mod Worlds
