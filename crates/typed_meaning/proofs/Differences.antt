@@ -16,7 +16,6 @@ use Rattle.c_values.specs.Memory.{IsInside}
 use Rattle.c_values.specs.Memory.{Objects as Memory}
 use Rattle.c_meaning.specs.Pointers.{difference}
 use Rattle.typed_meaning.specs.StoreTyping.{HasKind, IsCell, IsTypedMemory}
-use Rattle.typed_meaning.specs.Laws.{HaveMembers}
 use Rattle.typed_meaning.proofs.Places.{length_repeat, lies_within, struct_is, zip_long}
 use Rattle.typed_meaning.proofs.Steps.{Right, in_one_right, cells_there}
 
@@ -27,7 +26,7 @@ times_more (suc k) c h =
     let l = times_more k c h in
     omega (arith, e, l, h)
 
-module _ (structs : Structs) (are : AreStructs structs) (members : HaveMembers structs) where
+module _ (structs : Structs) (are : AreStructs structs) where
   some_cell : (t : CType) (r : ℕ) → IsBelow are.rank r t → ((s : ℕ) (ts : List CType) → are.rank s < r → slice_get structs s ≡ Some (Some ts) → 1 ≤ length (struct_cells structs s)) → IsComplete structs t → 1 ≤ cells structs t
   some_cell void r b h c = absurd c
   some_cell (integer i) r b h c = omega arith
@@ -42,7 +41,7 @@ module _ (structs : Structs) (are : AreStructs structs) (members : HaveMembers s
 
   struct_some : (d s : ℕ) (ts : List CType) → are.rank s < d → slice_get structs s ≡ Some (Some ts) → 1 ≤ length (struct_cells structs s)
   struct_some zero s ts l e = absurd (omega (arith, l))
-  struct_some (suc d) s [] l e = let m = members s [] e in absurd (omega (arith, m))
+  struct_some (suc d) s [] l e = let m = are.members s [] e in absurd (omega (arith, m))
   struct_some (suc d) s (t ∷ ts) l e =
       let one = some_cell t (are.rank s) (All-head (IsBelow are.rank (are.rank s)) t ts (are.below s (t ∷ ts) e)) (λ u us b k. struct_some d u us (omega (arith, b, l)) k) (All-head (IsComplete structs) t ts (are.complete s (t ∷ ts) e)) in
       let long = length-append (flat structs t) (flat_all structs ts) in
@@ -76,26 +75,25 @@ module _ (p : Program) (n : ℕ) (typed : IsProgram p n) where
       let w = elements_within o t q h l in
       (omega (arith, long, w), h.within)
 
-  module _ (members : HaveMembers p.structs) where
-    elements_few : (o : Objects) (t : CType) (q : Pointer) → ((x : ObjectName) (all : List CType) → o x ≡ Some all → length all ≤ 65536) → IsPointer p.structs o t q → q.elements ≤ 65536
-    elements_few o t q few h = at q.elements refl
-      where
-        at : (k : ℕ) → q.elements ≡ k → k ≤ 65536
-        at zero e = omega arith
-        at (suc k) e =
-            let one = has_cell p.structs typed.structs members t h.object.complete in
-            let more = times_more q.elements q.width (subst (λ w. 1 ≤ w) (sym h.wide) one) in
-            let some : 0 < q.elements * q.width = omega (arith, e, more) in
-            let w = elements_within o t q h some in
-            let f = few q.name h.all h.known in
-            omega (arith, e, more, w, f)
+  elements_few : (o : Objects) (t : CType) (q : Pointer) → ((x : ObjectName) (all : List CType) → o x ≡ Some all → length all ≤ 65536) → IsPointer p.structs o t q → q.elements ≤ 65536
+  elements_few o t q few h = at q.elements refl
+    where
+      at : (k : ℕ) → q.elements ≡ k → k ≤ 65536
+      at zero e = omega arith
+      at (suc k) e =
+          let one = has_cell p.structs typed.structs t h.object.complete in
+          let more = times_more q.elements q.width (subst (λ w. 1 ≤ w) (sym h.wide) one) in
+          let some : 0 < q.elements * q.width = omega (arith, e, more) in
+          let w = elements_within o t q h some in
+          let f = few q.name h.all h.known in
+          omega (arith, e, more, w, f)
 
-    pub difference_right : (o : Objects) (t : CType) (v w : Value) (m : Memory) → IsObject p.structs t → ((x : ObjectName) (all : List CType) → o x ≡ Some all → length all ≤ 65536) → HasKind p o (pointer t) v → HasKind p o (pointer t) w → Right {A = Value} (HasKind p o int) (difference m v w)
-    difference_right o t v w m b few h k =
-        in_one_right p n typed {A = Value} (HasKind p o int) o t v w m _ b h k (λ x y i j. (refl, small x.index y.index (less x i) (less y j)))
-      where
-        less : (x : Pointer) → IsPointer p.structs o t x → x.index ≤ 65536
-        less x i = let f = elements_few o t x few i in omega (arith, f, i.within)
+  pub difference_right : (o : Objects) (t : CType) (v w : Value) (m : Memory) → IsObject p.structs t → ((x : ObjectName) (all : List CType) → o x ≡ Some all → length all ≤ 65536) → HasKind p o (pointer t) v → HasKind p o (pointer t) w → Right {A = Value} (HasKind p o int) (difference m v w)
+  difference_right o t v w m b few h k =
+      in_one_right p n typed {A = Value} (HasKind p o int) o t v w m _ b h k (λ x y i j. (refl, small x.index y.index (less x i) (less y j)))
+    where
+      less : (x : Pointer) → IsPointer p.structs o t x → x.index ≤ 65536
+      less x i = let f = elements_few o t x few i in omega (arith, f, i.within)
 
-        small : (a b : ℕ) → a ≤ 65536 → b ≤ 65536 → FitsSigned w32 (pos a -ℤ pos b)
-        small a b f g = grind (arith, ints, f, g)
+      small : (a b : ℕ) → a ≤ 65536 → b ≤ 65536 → FitsSigned w32 (pos a -ℤ pos b)
+      small a b f g = grind (arith, ints, f, g)

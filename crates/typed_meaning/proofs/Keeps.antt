@@ -33,7 +33,6 @@ use Rattle.c_meaning.specs.Results.{State, with_memory, Result, Go, Stop, then_d
 use Rattle.c_meaning.specs.SystemCalls.{system_call}
 use Rattle.typed_meaning.specs.StoreTyping.{HasKind, IsPlaced, IsTypedMemory, IsTypedState, Grows, TellsOfStatics, IsTypedFrame}
 use Rattle.typed_meaning.specs.TypedResults.{EndsTyped, Gives, GiveAll, IsExit, StandsIn, IsTypedWorld, AreRecorded}
-use Rattle.typed_meaning.specs.Laws.{HaveMembers}
 use Rattle.typed_meaning.proofs.Places.{flat_scalar, get_left, get_right, get_before, lies_whole, scalar_object, grows_on, grows_none, carry, carry_place, kind_given, carry_given, blank, memory_changed, memory_ended}
 use Rattle.typed_meaning.proofs.Steps.{Right, truth_kind, update_right_scalar, function_parts, value_takes, scalars_of, convert_right, binary_right, behind_of_right, IsCallee, callee_right, load_place_right, store_right, store_place_right, field_right, address_is, decayed_right, moving_right, operated_right, comparing_right, test_right, updated_right, update_scalar, of_constant}
 use Rattle.typed_meaning.proofs.Differences.{difference_right}
@@ -79,7 +78,7 @@ null_type zero r ts e = (ap parameters_in e, ap result_in e)
 null_type (suc zero) r ts e = (ap parameters_in e, ap result_in e)
 null_type (suc (suc x)) r ts e = absurd (cc)
 
-module _ (p : Program) (n : ℕ) (typed : IsProgram p n) (members : HaveMembers p.structs) (marks : Marks) (recorded : AreRecorded marks) where
+module _ (p : Program) (n : ℕ) (typed : IsProgram p n) (marks : Marks) (recorded : AreRecorded marks) where
   abbrev Kind : CType → Objects → Value → Type 0
   Kind t o v = HasKind p o t v
 
@@ -326,7 +325,7 @@ module _ (p : Program) (n : ℕ) (typed : IsProgram p n) (members : HaveMembers 
             two_ends (type_of a) (type_of b) t wanted o _ (eval p w marks fr true b) (λ st x y. moving first subtracted st.memory x y) (operand (type_of a) (type_of a) o _ refl c.0 (value_ends true a o st s h.1 (left_part p (mentions a) (mentions b) m) k)) (λ o' st g k. operand (type_of b) (type_of b) o' _ refl c.1 (value_ends true b o' st (stands_on o o' fr g s) h.2 (right_part p (mentions a) (mentions b) m) k)) (λ o x y st i j k. moving_right p n typed o first subtracted t (type_of a) (type_of b) x y st.memory h.0 i j)
         value_ends wanted (pointer_diff t a b) o st s h m k =
             let e = h.1.1 in
-            two_ends (pointer h.1.0) (pointer h.1.0) t wanted o _ (eval p w marks fr true b) (λ st x y. difference st.memory x y) (operand (type_of a) (pointer h.1.0) o _ e tt (value_ends true a o st s h.3 (left_part p (mentions a) (mentions b) m) k)) (λ o' st g k. operand (type_of b) (pointer h.1.0) o' _ (h.2 ∙ e) tt (value_ends true b o' st (stands_on o o' fr g s) h.4 (right_part p (mentions a) (mentions b) m) k)) (λ o x y st i j k. subst (λ t. Right {A = Value} (Kind t o) (difference st.memory x y)) (sym h.0) (difference_right p n typed members o h.1.0 x y st.memory h.1.2 k.few i j))
+            two_ends (pointer h.1.0) (pointer h.1.0) t wanted o _ (eval p w marks fr true b) (λ st x y. difference st.memory x y) (operand (type_of a) (pointer h.1.0) o _ e tt (value_ends true a o st s h.3 (left_part p (mentions a) (mentions b) m) k)) (λ o' st g k. operand (type_of b) (pointer h.1.0) o' _ (h.2 ∙ e) tt (value_ends true b o' st (stands_on o o' fr g s) h.4 (right_part p (mentions a) (mentions b) m) k)) (λ o x y st i j k. subst (λ t. Right {A = Value} (Kind t o) (difference st.memory x y)) (sym h.0) (difference_right p n typed o h.1.0 x y st.memory h.1.2 k.few i j))
         value_ends wanted (and t a b) o st s h m k =
             subst (λ t. EndsTyped p {A = Value} (Gives p wanted t) o (eval p w marks fr wanted (and t a b) st)) (sym h.0) (given wanted int o _ (then_ends p {A = Bool} {B = Value} Holds (Kind int) o _ _ (tested_ends (type_of a) o _ (operand (type_of a) (type_of a) o _ refl h.1.0 (value_ends true a o st s h.1.1 (left_part p (mentions a) (mentions b) m) k))) (λ o' holds st g i k. either_ends p {A = Value} (Kind int) o' holds _ _ (then_ends p {A = Bool} {B = Value} Holds (Kind int) o' _ _ (tested_ends (type_of b) o' _ (operand (type_of b) (type_of b) o' _ refl h.2.0 (value_ends true b o' st (stands_on o o' fr g s) h.2.1 (right_part p (mentions a) (mentions b) m) k))) (λ o holds st g i k. now p {A = Value} (Kind int) o (truth_value holds) st (truth_kind p n typed o holds) k)) (now p {A = Value} (Kind int) o' (truth_value false) st (truth_kind p n typed o' false) k))))
         value_ends wanted (or t a b) o st s h m k =

@@ -21,7 +21,7 @@ use Rattle.c_tree.proofs.TypedTrials.{function_with}
 use Rattle.c_shapes.specs.CallGraph.{candidates}
 use Rattle.c_meaning.specs.Runs.{no_marks, run}
 use Rattle.typed_meaning.specs.TypedResults.{AreRecorded}
-use Rattle.typed_meaning.specs.Laws.{HaveMembers, IsTypedRun}
+use Rattle.typed_meaning.specs.Laws.{IsTypedRun}
 use Rattle.typed_meaning.proofs.Worlds.{runs_are_typed}
 
 -- struct s { int a[2]; int *q; };
@@ -81,12 +81,12 @@ complete zero ts e =
     subst (All (IsComplete structs_of)) same (both (IsComplete structs_of) (array int 2) (pointer int) (omega arith, tt) tt)
 complete (suc s) ts e = absurd (none-some (Some ts) e)
 
-have_members : HaveMembers structs_of
+have_members : (s : ℕ) (ts : List CType) → slice_get structs_of s ≡ Some (Some ts) → 1 ≤ length ts
 have_members zero ts e = let same : members ≡ ts = cc in subst (λ (ts : List CType). 1 ≤ length ts) same (omega arith)
 have_members (suc s) ts e = absurd (none-some (Some ts) e)
 
 are_structs : AreStructs structs_of
-are_structs = record { rank = λ s. 0; ranked = λ s ts e. omega arith; below = below; complete = complete }
+are_structs = record { rank = λ s. 0; ranked = λ s ts e. omega arith; below = below; complete = complete; members = have_members }
 
 int_object : IsObject structs_of int
 int_object = record { complete = tt; few = omega arith }
@@ -168,7 +168,7 @@ nothing_recorded site = (All-nil IsRecorded, All-nil IsRecorded)
 
 -- the law on its runs
 trial_runs : (turns : ℕ) → IsTypedRun (run trial [] turns)
-trial_runs turns = runs_are_typed trial 1 trial_fits have_members no_marks nothing_recorded [] turns
+trial_runs turns = runs_are_typed trial 1 trial_fits no_marks nothing_recorded [] turns
 
 -- and what one is
 trial_exits : (run trial [] 10).outcome ≡ outcomes.Exit (pos 5)

@@ -25,7 +25,7 @@ use Rattle.c_meaning.specs.Results.{State, with_memory, Result, Go, Stop, then_d
 use Rattle.c_meaning.specs.Runs.{with_parameters, parameters, entered, without_value, result_of, run_body, enter, loop, world, first_objects, beginning, exit_of, ending, run_with}
 use Rattle.typed_meaning.specs.StoreTyping.{HasKind, IsCell, IsGiven, IsTypedMemory, IsTypedAfter, IsTypedState, Grows, TellsOfStatics, IsTypedFrame}
 use Rattle.typed_meaning.specs.TypedResults.{IsEnding, EndsTyped, IsExit, StandsRound, IsTypedWorld, AreRecorded}
-use Rattle.typed_meaning.specs.Laws.{HaveMembers, IsTypedRun, BeginsTyped, RunsBeginTyped, PartsAreTyped, TypesAreKept, RunsAreTyped, PointersAreInside, PlacesAreInside}
+use Rattle.typed_meaning.specs.Laws.{IsTypedRun, BeginsTyped, RunsBeginTyped, PartsAreTyped, TypesAreKept, RunsAreTyped, PointersAreInside, PlacesAreInside}
 use Rattle.typed_meaning.proofs.Places.{get_left, grows_on, carry_all, kind_cell, kind_given, memory_changed, memory_grows}
 use Rattle.typed_meaning.proofs.Steps.{place_pointer}
 use Rattle.typed_meaning.proofs.Differences.{inside}
@@ -170,7 +170,7 @@ module _ (p : Program) (n : ℕ) (typed : IsProgram p n) where
       let types : function r ts ≡ of_none int = sym d ∙ (ap (λ (g : Function). g.ctype) one ∙ m.2) in
       cc (types)
 
-  module _ (members : HaveMembers p.structs) (marks : Marks) (recorded : AreRecorded marks) where
+  module _ (marks : Marks) (recorded : AreRecorded marks) where
     body_ends : (w : World) → IsTypedWorld p w → (is_main wanted : Bool) (f : ℕ) (g : Function) (r : CType) (ts : CTypes) (vs : List Value) (o : Objects) (st : State) → slice_get p.functions f ≡ Some g → g.ctype ≡ function r ts → (is_main ≡ true → r ≡ int) → TellsOfStatics p o → AllZip (HasKind p o) (list_of ts) vs → IsTypedState p o st → EndsTyped p {A = Value} (λ o v. IsGiven p o wanted r v) o (run_body p w marks is_main wanted (Some g) vs st)
     body_ends w goes is_main wanted f g r ts vs o st e d h s z k =
         let a = suc st.entries in
@@ -191,7 +191,7 @@ module _ (p : Program) (n : ℕ) (typed : IsProgram p n) where
           few = opened_few g o st.memory st.entries is.objects k;
           later = opened_later g o st.memory st.entries k;
         } in
-        grown p {A = Value} (λ o v. IsGiven p o wanted r v) o u _ grows (then_ends p {A = Exit} {B = Value} (IsExit p r false false) (λ o v. IsGiven p o wanted r v) u _ _ (exec_ends p n typed members marks recorded w goes (record { activation = a; types = g.variables }) r false false g.body u (entered vs st) frame (subst (λ r. IsStmt p g.variables r false false g.body) gives is.typed) (body_stands p f g e) state) (λ o' x after grows' i k. result_ends is_main wanted r x o' (with_memory after (without a (parameters 0 vs) after.memory)) h i (record { memory = without_typed p n typed members marks recorded w goes (record { activation = a; types = g.variables }) o' a (parameters 0 vs) after.memory k.memory; few = k.few; later = k.later })))
+        grown p {A = Value} (λ o v. IsGiven p o wanted r v) o u _ grows (then_ends p {A = Exit} {B = Value} (IsExit p r false false) (λ o v. IsGiven p o wanted r v) u _ _ (exec_ends p n typed marks recorded w goes (record { activation = a; types = g.variables }) r false false g.body u (entered vs st) frame (subst (λ r. IsStmt p g.variables r false false g.body) gives is.typed) (body_stands p f g e) state) (λ o' x after grows' i k. result_ends is_main wanted r x o' (with_memory after (without a (parameters 0 vs) after.memory)) h i (record { memory = without_typed p n typed marks recorded w goes (record { activation = a; types = g.variables }) o' a (parameters 0 vs) after.memory k.memory; few = k.few; later = k.later })))
       where
         own : (others : List CType) → g.variables ≡ list_of ts ++ others → (j : ℕ) (t : CType) → slice_get (list_of ts) j ≡ Some t → slice_get g.variables (0 + j) ≡ Some t
         own others q j t c =
@@ -204,10 +204,10 @@ module _ (p : Program) (n : ℕ) (typed : IsProgram p n) where
 
     loop_ends : (w : World) → IsTypedWorld p w → (fr : Frame) (r : CType) (l : Loop) (o : Objects) (st : State) → IsTypedFrame p o fr → IsTest p fr.types l.test → IsStmt p fr.types r true true l.body → IsStep p fr.types l.step → StandsRound p l → IsTypedState p o st → EndsTyped p {A = Exit} (IsExit p r false false) o (loop p w marks fr l st)
     loop_ends w goes fr r l o st s test body step m k =
-        spend_ends p {A = Exit} (IsExit p r false false) o st.turns st _ k (λ st k. then_ends p {A = Bool} {B = Exit} (Holds p n typed members marks recorded) (IsExit p r false false) o _ _ (condition_ends p n typed members marks recorded w goes fr l.test o st s test m.test k) (λ o1 holds st g1 i k. either_ends p {A = Exit} (IsExit p r false false) o1 holds _ _ (then_ends p {A = Exit} {B = Exit} (IsExit p r true true) (IsExit p r false false) o1 _ _ (exec_ends p n typed members marks recorded w goes fr r true true l.body o1 st (on_frame o o1 g1 s) body m.body k) (λ o2 x st g2 i k. round_ends p r o2 x st (λ st. then_do (perhaps p w marks fr l.step st) (λ y st. w.again fr l st)) i k (then_ends p {A = Exit} {B = Exit} (IsExit p r false false) (IsExit p r false false) o2 _ _ (perhaps_ends p n typed members marks recorded w goes fr r l.step o2 st (on_frame o o2 (grows_on o o1 o2 g1 g2) s) step m.step k) (λ o3 y st g3 i k. goes.again fr r l o3 st (on_frame o o3 (grows_on o o1 o3 g1 (grows_on o1 o2 o3 g2 g3)) s) test body step m k)))) (now p {A = Exit} (IsExit p r false false) o1 on st tt k)))
+        spend_ends p {A = Exit} (IsExit p r false false) o st.turns st _ k (λ st k. then_ends p {A = Bool} {B = Exit} (Holds p n typed marks recorded) (IsExit p r false false) o _ _ (condition_ends p n typed marks recorded w goes fr l.test o st s test m.test k) (λ o1 holds st g1 i k. either_ends p {A = Exit} (IsExit p r false false) o1 holds _ _ (then_ends p {A = Exit} {B = Exit} (IsExit p r true true) (IsExit p r false false) o1 _ _ (exec_ends p n typed marks recorded w goes fr r true true l.body o1 st (on_frame o o1 g1 s) body m.body k) (λ o2 x st g2 i k. round_ends p r o2 x st (λ st. then_do (perhaps p w marks fr l.step st) (λ y st. w.again fr l st)) i k (then_ends p {A = Exit} {B = Exit} (IsExit p r false false) (IsExit p r false false) o2 _ _ (perhaps_ends p n typed marks recorded w goes fr r l.step o2 st (on_frame o o2 (grows_on o o1 o2 g1 g2) s) step m.step k) (λ o3 y st g3 i k. goes.again fr r l o3 st (on_frame o o3 (grows_on o o1 o3 g1 (grows_on o1 o2 o3 g2 g3)) s) test body step m k)))) (now p {A = Exit} (IsExit p r false false) o1 on st tt k)))
       where
         on_frame : (o u : Objects) → Grows o u → IsTypedFrame p o fr → IsTypedFrame p u fr
-        on_frame o u g s = stands_on p n typed members marks recorded o u fr g s
+        on_frame o u g s = stands_on p n typed marks recorded o u fr g s
 
     world_typed : (k : ℕ) → IsTypedWorld p (world p marks k)
     world_typed zero = record {
@@ -225,10 +225,10 @@ module _ (p : Program) (n : ℕ) (typed : IsProgram p n) where
         let goes = world_typed turns in
         record {
           turning = goes;
-          values = λ fr wanted e o st s h m k. value_ends p n typed members marks recorded w goes fr wanted e o st s h m k;
-          places = λ fr wanted e o st s h m k. where_ends p n typed members marks recorded w goes fr wanted e o st s h m k;
-          arguments = λ fr ts es o st s h m k. all_end p n typed members marks recorded w goes fr ts es o st s h m k;
-          statements = λ fr r breaks continues a o st s h m k. exec_ends p n typed members marks recorded w goes fr r breaks continues a o st s h m k;
+          values = λ fr wanted e o st s h m k. value_ends p n typed marks recorded w goes fr wanted e o st s h m k;
+          places = λ fr wanted e o st s h m k. where_ends p n typed marks recorded w goes fr wanted e o st s h m k;
+          arguments = λ fr ts es o st s h m k. all_end p n typed marks recorded w goes fr ts es o st s h m k;
+          statements = λ fr r breaks continues a o st s h m k. exec_ends p n typed marks recorded w goes fr r breaks continues a o st s h m k;
         }
 
     ended_run : (o : Objects) (q : Result Value) → EndsTyped p {A = Value} (λ o v. HasKind p o int v) o q → IsTypedRun (ending q)
@@ -252,13 +252,13 @@ module _ (p : Program) (n : ℕ) (typed : IsProgram p n) where
         ended_run (static_objects p) _ (enter_ends (world p marks turns) (world_typed turns) true p.main m.0 int no_types [] (static_objects p) (beginning p records turns) m.1 m.2 b.statics tt b.state)
 
 pub runs_are_typed : RunsAreTyped
-runs_are_typed p n typed members marks recorded records turns = run_typed p n typed members marks recorded records turns
+runs_are_typed p n typed marks recorded records turns = run_typed p n typed marks recorded records turns
 
 pub runs_begin_typed : RunsBeginTyped
 runs_begin_typed p n typed records turns = begins p n typed records turns
 
 pub types_are_kept : TypesAreKept
-types_are_kept p n typed members marks recorded turns = parts_typed p n typed members marks recorded turns
+types_are_kept p n typed marks recorded turns = parts_typed p n typed marks recorded turns
 
 pub pointers_are_inside : PointersAreInside
 pointers_are_inside p n typed o m t q k h l = inside p n typed o m h.0 q k h.2 l

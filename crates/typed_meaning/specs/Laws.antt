@@ -1,11 +1,10 @@
 -- The laws on well-typed programs: values have the kinds of their types, and pointers lie in their objects.
-use Rattle.std.specs.Prelude.{◌≡◌, ℕ, ◌<◌, ◌≤◌, ◌*◌, List, length, All, Some, slice_get}
+use Rattle.std.specs.Prelude.{ℕ, ◌<◌, ◌*◌, List, All}
 use Rattle.sys_table.specs.declared.sys_result.SysResult.{SysResult}
 use Rattle.sys_table.specs.Table.{IsRecorded}
 use Rattle.c_tree.specs.declared.value.Pointer.{Pointer}
 use Rattle.c_tree.specs.declared.value.Value.TheVariants.{At}
 use Rattle.c_tree.specs.Tree.{CType, Program}
-use Rattle.c_tree.specs.Layout.{Structs}
 use Rattle.c_tree.specs.Kinds.{Objects, static_objects}
 use Rattle.c_tree.specs.Program.{IsProgram}
 use Rattle.c_values.specs.Memory.{IsInside}
@@ -15,10 +14,6 @@ use Rattle.c_meaning.specs.Runs.{Run, world, beginning, run_with}
 use Rattle.typed_meaning.specs.StoreTyping.{HasKind, IsPlaced, IsTypedMemory, IsTypedState, TellsOfStatics}
 use Rattle.typed_meaning.specs.TypedResults.{IsEnding, IsTypedWorld, AreRecorded, ValuesAreTyped, PlacesAreTyped, ArgumentsAreTyped, StatementsAreTyped}
 
--- each struct that has a definition has a member (6.7.2.1)
-abbrev pub HaveMembers : Structs → Type 0
-HaveMembers structs = (s : ℕ) (ts : List CType) → slice_get structs s ≡ Some (Some ts) → 1 ≤ length ts
-
 -- a run ends rightly, and each of its events can be recorded
 pub record IsTypedRun (r : Run) : Type 0 where
   pub outcome : IsEnding r.outcome
@@ -27,7 +22,7 @@ pub record IsTypedRun (r : Run) : Type 0 where
 -- no run of a well-typed program meets a value of another kind than its type
 abbrev pub RunsAreTyped : Type 0
 RunsAreTyped =
-    (p : Program) (n : ℕ) → IsProgram p n → HaveMembers p.structs → (marks : Marks) → AreRecorded marks → (records : List SysResult) (turns : ℕ) → IsTypedRun (run_with p marks records turns)
+    (p : Program) (n : ℕ) → IsProgram p n → (marks : Marks) → AreRecorded marks → (records : List SysResult) (turns : ℕ) → IsTypedRun (run_with p marks records turns)
 
 -- a run begins in a typed state, which tells of the static objects and strings alone
 pub record BeginsTyped (p : Program) (records : List SysResult) (turns : ℕ) : Type 0 where
@@ -47,7 +42,7 @@ pub record PartsAreTyped (p : Program) (marks : Marks) (turns : ℕ) : Type 0 wh
 
 abbrev pub TypesAreKept : Type 0
 TypesAreKept =
-    (p : Program) (n : ℕ) → IsProgram p n → HaveMembers p.structs → (marks : Marks) → AreRecorded marks → (turns : ℕ) → PartsAreTyped p marks turns
+    (p : Program) (n : ℕ) → IsProgram p n → (marks : Marks) → AreRecorded marks → (turns : ℕ) → PartsAreTyped p marks turns
 
 -- a pointer value lies in its object or one past, where its array has a cell
 abbrev pub PointersAreInside : Type 0
