@@ -1,0 +1,10 @@
+pub mod Calls
+pub mod Constants
+pub mod Guards
+pub mod Lists
+pub mod Loops
+pub mod Places
+pub mod Says
+pub mod Silent
+pub mod Sites
+pub mod Words

@@ -1,0 +1,2 @@
+pub mod MarkedRuns
+pub mod NoFalseAlarm

@@ -1,0 +1,16 @@
+-- Runs with null calls round the calls at marked sites (Giffin, Jha and Miller 2004).
+use Rattle.std.specs.Prelude.{ℕ, List, [], ◌∷◌, if◌then◌else◌}
+use Rattle.dm_base.specs.declared.event.Event.TheVariants.{Pre, Post}
+use Rattle.sys_table.specs.declared.sys_result.SysResult.{SysResult}
+use Rattle.c_tree.specs.Tree.{Program}
+use Rattle.c_shapes.specs.CallGraph.{marked}
+use Rattle.c_meaning.specs.Meaning.{Marks}
+use Rattle.c_meaning.specs.Runs.{Run, run_with}
+
+-- the null calls before and after a call: those of its site, where some function that may be called there may come to a system call
+abbrev pub null_calls_of : Program → Marks
+null_calls_of p site = if marked p site then (Pre site ∷ [], Post site ∷ []) else ([], [])
+
+-- the run with null calls round the calls at marked sites
+abbrev pub marked_run : Program → List SysResult → ℕ → Run
+marked_run p records turns = run_with p (null_calls_of p) records turns
