@@ -49,7 +49,7 @@ module _ (p : Program) (n : ℕ) (right : IsProgram p n) (marks : Marks) (m : F.
   env = shapes_of p
 
   -- a shape is left at its end or by a return
-  abbrev Done : Shape → List Event → List Event → Type 0
+  abbrev pub Done : Shape → List Event → List Event → Type 0
   Done S t u = (x : Leave) × IsDone x × Whole env m S x t u
 
   -- what entering a function gives
@@ -178,10 +178,10 @@ module _ (p : Program) (n : ℕ) (right : IsProgram p n) (marks : Marks) (m : F.
     abbrev Through_ : List Value → Value → State → Result Value
     Through_ vs v st = then_do (answered (callee v) st) (λ f st. called_through p w wanted f vs st)
 
-    module _ (s : ℕ) (t : CType) (vs : List Value) (k : Contains (mentions_of_program p) (Calls s (Through (pointer t)))) (enters : (f : ℕ) (g : Function) → (st : State) → slice_get p.functions f ≡ Some g → g.ctype ≡ t → Entered (shape_of_function p g) (w.enter wanted f vs st)) where
+    module _ (s : ℕ) (t : CType) (vs : List Value) (st : State) (k : Contains (mentions_of_program p) (Calls s (Through (pointer t)))) (enters : (f : ℕ) (g : Function) → slice_get p.functions f ≡ Some g → g.ctype ≡ t → Entered (shape_of_function p g) (w.enter wanted f vs st)) where
       -- what a candidate does
-      candidate_says : (f : ℕ) (st : State) → Contains (callees p (Through (pointer t))) f → Entered (shape_of env (place_of p f)) (called_through p w wanted f vs st)
-      candidate_says f st among = at (nat_lt f (defined p)) refl
+      candidate_says : (f : ℕ) → Contains (callees p (Through (pointer t))) f → Entered (shape_of env (place_of p f)) (called_through p w wanted f vs st)
+      candidate_says f among = at (nat_lt f (defined p)) refl
         where
           alone : (b : Bool) → nat_lt (f - defined p) 24 ≡ b → defined p ≤ f → Entered (shape_of env (place_of p f)) (if b then system_call (f - defined p) vs st else Stop (Undefined U13) [])
           alone true e le =
@@ -192,33 +192,38 @@ module _ (p : Program) (n : ℕ) (right : IsProgram p n) (marks : Marks) (m : F.
           at : (b : Bool) → nat_lt f (defined p) ≡ b → Entered (shape_of env (place_of p f)) (if b then w.enter wanted f vs st else system_call_alone (f - defined p) vs st)
           at true e =
               let r = value_defined p f t (through_type p t f among) (below f (defined p) e) in
-              subst (λ S. Entered S (w.enter wanted f vs st)) (sym (shape_defined p f r.0 r.1)) (enters f r.0 st r.1 r.2)
+              subst (λ S. Entered S (w.enter wanted f vs st)) (sym (shape_defined p f r.0 r.1)) (enters f r.0 r.1 r.2)
           at false e = alone (nat_lt (f - defined p) 24) refl (not_below f (defined p) e)
 
       -- what a function does that comes to no system call
-      hushed_says : (f : ℕ) (st : State) → Contains (callees p (Through (pointer t))) f → reaches p f ≡ false → Says env m keep {A = Value} Straight Skip (called_through p w wanted f vs st)
-      hushed_says f st among never = at (nat_lt f (defined p)) refl
+      hushed_says : (f : ℕ) → Contains (callees p (Through (pointer t))) f → reaches p f ≡ false → Says env m keep {A = Value} Straight Skip (called_through p w wanted f vs st)
+      hushed_says f among never = at (nat_lt f (defined p)) refl
         where
           at : (b : Bool) → nat_lt f (defined p) ≡ b → Says env m keep {A = Value} Straight Skip (if b then w.enter wanted f vs st else system_call_alone (f - defined p) vs st)
           at true e =
               let r = value_defined p f t (through_type p t f among) (below f (defined p) e) in
-              silent_says (shape_of_function p r.0) (w.enter wanted f vs st) (silent_body p f r.0 r.1 never) (enters f r.0 st r.1 r.2)
+              silent_says (shape_of_function p r.0) (w.enter wanted f vs st) (silent_body p f r.0 r.1 never) (enters f r.0 r.1 r.2)
           at false e =
               let le = not_below f (defined p) e in
               absurd (false≢true (sym never ∙ system_reaches p f le ((system_taken p (pointer t) f among le).0)))
 
-      marked_through : (v : Value) (st : State) (a : Answer ℕ) → callee v ≡ a → ((f : ℕ) → callee v ≡ gives f → Contains (callees p (Through (pointer t))) f) → is_marked p (Through (pointer t)) ≡ true → Says env m keep {A = Value} Straight (Call s) (bracketed marks s (then_do (answered a st) (λ f st. called_through p w wanted f vs st)))
-      marked_through v st (gives f) e among mark =
-          marked_says s (place_of p f) (shape_of env (place_of p f)) (after [] (called_through p w wanted f vs st)) (mark_at s (Through (pointer t)) k ∙ mark) (candidate s (Through (pointer t)) f k mark (among f e)) refl (after_none keep {A = Value} Straight (λ y t u. Done (shape_of env (place_of p f)) t u) (Front env m (shape_of env (place_of p f))) (called_through p w wanted f vs st) (candidate_says f st (among f e)))
-      marked_through v st (undefined kind) e among mark =
+      marked_through : (v : Value) (a : Answer ℕ) → callee v ≡ a → ((f : ℕ) → callee v ≡ gives f → Contains (callees p (Through (pointer t))) f) → is_marked p (Through (pointer t)) ≡ true → Says env m keep {A = Value} Straight (Call s) (bracketed marks s (then_do (answered a st) (λ f st. called_through p w wanted f vs st)))
+      marked_through v (gives f) e among mark =
+          marked_says s (place_of p f) (shape_of env (place_of p f)) (after [] (called_through p w wanted f vs st)) (mark_at s (Through (pointer t)) k ∙ mark) (candidate s (Through (pointer t)) f k mark (among f e)) refl (after_none keep {A = Value} Straight (λ y t u. Done (shape_of env (place_of p f)) t u) (Front env m (shape_of env (place_of p f))) (called_through p w wanted f vs st) (candidate_says f (among f e)))
+      marked_through v (undefined kind) e among mark =
           let r = one_passes (λ f. reaches p f) (callees p (Through (pointer t))) mark in
           marked_says s (place_of p r.0) (shape_of env (place_of p r.0)) (Stop (Undefined kind) []) (mark_at s (Through (pointer t)) k ∙ mark) (candidate s (Through (pointer t)) r.0 k mark r.1) refl (λ u. F.nothing)
 
-      hushed_through : (v : Value) (st : State) (a : Answer ℕ) → callee v ≡ a → ((f : ℕ) → callee v ≡ gives f → Contains (callees p (Through (pointer t))) f) → is_marked p (Through (pointer t)) ≡ false → Says env m keep {A = Value} Straight Skip (then_do (answered a st) (λ f st. called_through p w wanted f vs st))
-      hushed_through v st (gives f) e among mark =
-          after_none keep {A = Value} Straight (Whole env m Skip) (Front env m Skip) (called_through p w wanted f vs st) (hushed_says f st (among f e) (none_passes (λ f. reaches p f) (callees p (Through (pointer t))) mark f (among f e)))
-      hushed_through v st (undefined kind) e among mark = λ u. F.nothing
+      hushed_through : (v : Value) (a : Answer ℕ) → callee v ≡ a → ((f : ℕ) → callee v ≡ gives f → Contains (callees p (Through (pointer t))) f) → is_marked p (Through (pointer t)) ≡ false → Says env m keep {A = Value} Straight Skip (then_do (answered a st) (λ f st. called_through p w wanted f vs st))
+      hushed_through v (gives f) e among mark =
+          after_none keep {A = Value} Straight (Whole env m Skip) (Front env m Skip) (called_through p w wanted f vs st) (hushed_says f (among f e) (none_passes (λ f. reaches p f) (callees p (Through (pointer t))) mark f (among f e)))
+      hushed_through v (undefined kind) e among mark = λ u. F.nothing
 
-      pub through_says : (v : Value) (st : State) → ((f : ℕ) → callee v ≡ gives f → Contains (callees p (Through (pointer t))) f) → Says env m keep {A = Value} Straight (marked_call p s (Through (pointer t))) (bracketed marks s (Through_ vs v st))
-      through_says v st among =
-          if_has (λ S. Says env m keep {A = Value} Straight S (bracketed marks s (Through_ vs v st))) (is_marked p (Through (pointer t))) (Call s) Skip (λ mark. marked_through v st (callee v) refl among mark) (λ mark. plain_says s Skip (Through_ vs v st) (mark_at s (Through (pointer t)) k ∙ mark) (hushed_through v st (callee v) refl among mark))
+      pub through_says : (v : Value) → ((f : ℕ) → callee v ≡ gives f → Contains (callees p (Through (pointer t))) f) → Says env m keep {A = Value} Straight (marked_call p s (Through (pointer t))) (bracketed marks s (Through_ vs v st))
+      through_says v among =
+          if_has (λ S. Says env m keep {A = Value} Straight S (bracketed marks s (Through_ vs v st))) (is_marked p (Through (pointer t))) (Call s) Skip (λ mark. marked_through v (callee v) refl among mark) (λ mark. plain_says s Skip (Through_ vs v st) (mark_at s (Through (pointer t)) k ∙ mark) (hushed_through v (callee v) refl among mark))
+
+    -- the same for a type that is equal
+    pub through_at : (ty : CType) (s : ℕ) (t : CType) (vs : List Value) (st : State) (v : Value) → ty ≡ pointer t → Contains (mentions_of_program p) (Calls s (Through ty)) → ((f : ℕ) (g : Function) → slice_get p.functions f ≡ Some g → g.ctype ≡ t → Entered (shape_of_function p g) (w.enter wanted f vs st)) → ((f : ℕ) → callee v ≡ gives f → Contains (callees p (Through ty)) f) → Says env m keep {A = Value} Straight (marked_call p s (Through ty)) (bracketed marks s (Through_ vs v st))
+    through_at ty s t vs st v e =
+        subst (λ ty. Contains (mentions_of_program p) (Calls s (Through ty)) → ((f : ℕ) (g : Function) → slice_get p.functions f ≡ Some g → g.ctype ≡ t → Entered (shape_of_function p g) (w.enter wanted f vs st)) → ((f : ℕ) → callee v ≡ gives f → Contains (callees p (Through ty)) f) → Says env m keep {A = Value} Straight (marked_call p s (Through ty)) (bracketed marks s (Through_ vs v st))) (sym e) (λ k enters among. through_says s t vs st k enters v among)

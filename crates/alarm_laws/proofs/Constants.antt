@@ -119,7 +119,7 @@ module _ (p : Program) (w : World) (marks : Marks) (fr : Frame) where
       ap (λ r. then_do {A = Value} {B = Value} r (λ v st. then_do (eval p w marks fr true b st) (λ u st. answered (f v u) st))) h ∙ ap (λ r. after {A = Value} [] r) (one_is b z y st (λ s u. f x u) k e)
 
   -- a constant has its value, and makes no events
-  constant_is : (wanted : Bool) (e : Expr) (y : Value) (st : State) → constant_value e ≡ Some y → eval p w marks fr wanted e st ≡ Go y st []
+  pub constant_is : (wanted : Bool) (e : Expr) (y : Value) (st : State) → constant_value e ≡ Some y → eval p w marks fr wanted e st ≡ Go y st []
   constant_is wanted (constant t x) y st h = ap (λ v. Go v st []) (same_some x y h)
   constant_is wanted (conversion t to a) y st h =
       let r = given_from (constant_value a) (convert to) y h in

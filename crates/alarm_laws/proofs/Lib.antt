@@ -1,10 +1,16 @@
 pub mod Calls
 pub mod Constants
+pub mod Expressions
 pub mod Guards
 pub mod Lists
 pub mod Loops
+pub mod Marking
+pub mod NoAlarm
+pub mod NullFree
 pub mod Places
+pub mod Programs
 pub mod Says
 pub mod Silent
 pub mod Sites
+pub mod Statements
 pub mod Words

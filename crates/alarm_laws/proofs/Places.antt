@@ -86,10 +86,14 @@ stands_at f a (suc n) test x h = index_at f a x n test (test a) h (stands_at f (
 
 module _ (p : Program) where
   -- the shape of a defined function
+  pub shape_at : (f : ℕ) (g : Function) → slice_get p.functions f ≡ Some g → shape_of (shapes_of p) f ≡ shape_of_function p g
+  shape_at f g is =
+      index_left (map (shape_of_function p) p.functions) (map any_call (taken_calls p)) Skip f (shape_of_function p g) (get_map (shape_of_function p) p.functions f g is)
+
   pub shape_defined : (f : ℕ) (g : Function) → slice_get p.functions f ≡ Some g → shape_of (shapes_of p) (place_of p f) ≡ shape_of_function p g
   shape_defined f g is =
       ap (λ b. shape_of (shapes_of p) (if b then f else defined p + length (filter (λ x. nat_lt x (f - defined p)) (taken_calls p)))) (is_below f (defined p) (slice_get_within p.functions f g is))
-      ∙ index_left (map (shape_of_function p) p.functions) (map any_call (taken_calls p)) Skip f (shape_of_function p g) (get_map (shape_of_function p) p.functions f g is)
+      ∙ shape_at f g is
 
   -- the shape of a taken system call
   pub shape_system : (f : ℕ) → defined p ≤ f → Contains (taken_calls p) (f - defined p) → shape_of (shapes_of p) (place_of p f) ≡ any_call (f - defined p)

@@ -31,6 +31,30 @@ abbrev pub Gives : {A : Type 0} → (A → State → Type 0) → Result A → Ty
 Gives P (Go a st w) = P a st
 Gives P (Stop o w) = Unit {0}
 
+pub gives_any : {A : Type 0} (P : A → State → Type 0) (r : Result A) → ((a : A) (st : State) → P a st) → Gives {A = A} P r
+gives_any P (Go a st w) h = h a st
+gives_any P (Stop o w) h = tt
+
+pub gives_both : {A : Type 0} (P Q : A → State → Type 0) (r : Result A) → Gives {A = A} P r → Gives {A = A} Q r → Gives {A = A} (λ a st. P a st × Q a st) r
+gives_both P Q (Go a st w) h k = (h, k)
+gives_both P Q (Stop o w) h k = tt
+
+pub after_gives : {A : Type 0} (P : A → State → Type 0) (w : List Event) (r : Result A) → Gives {A = A} P r → Gives {A = A} P (after w r)
+after_gives P w (Go a st z) h = h
+after_gives P w (Stop o z) h = tt
+
+pub then_gives : {A B : Type 0} (P : A → State → Type 0) (Q : B → State → Type 0) (r : Result A) (f : A → State → Result B) → Gives {A = A} P r → ((a : A) (st : State) → P a st → Gives {A = B} Q (f a st)) → Gives {A = B} Q (then_do r f)
+then_gives P Q (Go a st w) f h k = after_gives Q w (f a st) (k a st h)
+then_gives P Q (Stop o w) f h k = tt
+
+pub answered_gives : {A : Type 0} (P : State → Type 0) (x : Answer A) (st : State) → P st → Gives {A = A} (λ a u. P u) (answered x st)
+answered_gives P (gives a) st h = h
+answered_gives P (undefined kind) st h = tt
+
+pub tested_gives : (P : State → Type 0) (r : Result Value) → Gives {A = Value} (λ v st. P st) r → Gives {A = Bool} (λ b st. P st) (tested r)
+tested_gives P r h =
+    then_gives {A = Value} {B = Bool} (λ v st. P st) (λ b st. P st) r _ h (λ v st i. answered_gives {A = Bool} P (test st.memory v) st i)
+
 -- where a part goes on, its events are read whole; where it stops, they are read in front
 abbrev pub Tells : (Event → List Event) → {A : Type 0} → (A → Leave) → (Leave → List Event → List Event → Type 0) → (List Event → List Event → Type 0) → Result A → Type 0
 Tells keep by W F (Go a st w) = (u : List Event) → W (by a) (told keep w ++ u) u
@@ -88,6 +112,12 @@ module _ (keep : Event → List Event) where
   spend_tells by W F zero st f k h = k
   spend_tells by W F (suc n) st f k h = h n
 
+  -- what is left by any exit, and then no events
+  pub then_left : {A B : Type 0} (by : A → Leave) (to : B → Leave) (W X : Leave → List Event → List Event → Type 0) (F : List Event → List Event → Type 0) (r : Result A) (f : A → State → B) (g : A → State → State) → ((a : A) (st : State) (t u : List Event) → W (by a) t u → X (to (f a st)) t u) → Tells keep {A = A} by W F r → Tells keep {A = B} to X F (then_do r (λ a st. Go (f a st) (g a st) []))
+  then_left by to W X F (Go a st w) f g up h =
+      λ u. subst (λ z. X (to (f a st)) (told keep z ++ u) u) (sym (append-nil w)) (up a st (told keep w ++ u) u (h u))
+  then_left by to W X F (Stop o w) f g up h = h
+
 module _ (env : Shapes) (m : Marks) (keep : Event → List Event) where
   -- what a part does is said by a shape, or by parts in turn
   abbrev pub Says : {A : Type 0} → (A → Leave) → Shape → Result A → Type 0
@@ -135,12 +165,6 @@ module _ (env : Shapes) (m : Marks) (keep : Event → List Event) where
   then_quiet by S r f h k =
       change_tells keep by (Falls env m (Part S End)) (Whole env m S) (Stands env m (Part S End)) (Front env m S) (then_do r f) (λ x t u q. one_falls env m q) (λ t u q. one_stands env m q) (part_last by S r f h k)
 
-  -- what is left by any exit, and then no events
-  pub left_quiet : {A B : Type 0} (by : A → Leave) (to : B → Leave) (S : Shape) (r : Result A) (f : A → State → B) (g : A → State → State) → ((a : A) (st : State) → to (f a st) ≡ by a) → Says {A = A} by S r → Says {A = B} to S (then_do r (λ a st. Go (f a st) (g a st) []))
-  left_quiet by to S (Go a st w) f g e h =
-      λ u. subst (λ y. Whole env m S y (told keep (w ++ []) ++ u) u) (sym (e a st)) (subst (λ z. Whole env m S (by a) (told keep z ++ u) u) (sym (append-nil w)) (h u))
-  left_quiet by to S (Stop o w) f g e h = h
-
   pub none_quiet : {A : Type 0} (x : Answer A) (st : State) → SaysAll {A = A} Straight End (answered x st)
   none_quiet x st = answered_tells keep Straight (Falls env m End) (Stands env m End) x st (λ a u. F.ended) (λ u. here)
 
@@ -159,4 +183,3 @@ module _ (env : Shapes) (m : Marks) (keep : Event → List Event) where
   exit_then S ps P (Go (returned v) st w) f h g k =
       λ u. subst (λ z. Falls env m (Part S ps) returns (told keep z ++ u) u) (sym (append-nil w)) (F.falls_away tt (h u))
   exit_then S ps P (Stop o w) f h g k = λ u. inside (h u)
-

@@ -1,2 +1,6 @@
-//! No false alarm: the trace of each run of a program is in the program's languages.
+//! No false alarm: what a program does is in its languages.
 #![tactic(auto)]
+
+mod laws;
+
+pub use laws::named_calls_raise_no_alarm;

@@ -1,0 +1,211 @@
+-- What expressions do is said by their shapes: one line for each form.
+use Rattle.std.proofs.Common.{◌≡◌, ℕ, Bool, true, false, List, [], ◌∷◌, ◌++◌, Contains, Option, Some, None, slice_get, refl, ap, sym, ◌∙◌, subst}
+use Rattle.std.proofs.lemmas.List.Elements.{Contains-append_left, Contains-append_right}
+use Rattle.dm_base.specs.declared.event.Event.{Event}
+use Rattle.c_tree.specs.declared.value.Value.{Value}
+use Rattle.c_tree.specs.Tree.{CType, function, CTypes, no_types, more_types, Function, Program, type_of}
+use Rattle.c_tree.specs.Tree.{Expr, constant, function_name, string_place, variable, dereference, load, address_of, decay, discard, field, unary_operation, conversion, arithmetic, comparison, pointer_add, pointer_diff, and, or, assign, update, conditional, comma, call, call_through}
+use Rattle.c_tree.specs.Tree.{Exprs, no_exprs, more_exprs}
+use Rattle.c_tree.specs.Constants.{constant_value}
+use Rattle.c_tree.specs.Layout.{cells}
+use Rattle.c_tree.specs.Operators.{convert, binary}
+use Rattle.c_tree.specs.Program.{IsProgram}
+use Rattle.c_tree.specs.Typed.{IsValue, IsPlace, AreMembers, AreArguments, IsTest, IsStep, IsStmt}
+use Rattle.c_values.specs.Answers.{Answer, gives}
+use Rattle.c_shapes.specs.Shape.{Shape, Skip, Loop, Parts, End, Part, Shapes, Leave, goes_on}
+use Rattle.c_shapes.specs.Words.{Whole, Falls, Front}
+use Rattle.c_shapes.specs.Words as F
+use Rattle.c_shapes.specs.Mentions.{Mention, Direct, Through, Calls, mentions, mentions_of_all, mentions_of_maybe, mentions_of_stmt, mentions_of_program}
+use Rattle.c_shapes.specs.CallGraph.{callees}
+use Rattle.c_shapes.specs.ShapeOf.{seq, seq_two, alt, direct_call, marked_call, shape, shapes_before, shape_of_maybe, shape_of_stmt, shape_of_function, shapes_of}
+use Rattle.c_meaning.specs.Meaning.{Marks, Frame, Loop as LoopOf, World, either, tested, wants, eval, eval_each, eval_all, behind_of, decayed, operated, comparing, moving, updated}
+use Rattle.c_meaning.specs.Pointers.{callee, truth_value, load_place, store_place, member, difference}
+use Rattle.c_meaning.specs.Results.{State, Result, Go, Stop, after, then_do, answered, remembered, Exit}
+use Rattle.c_meaning.specs.Runs.{world}
+use Rattle.alarm_laws.proofs.Lists.{is_first, is_later, same_some, no_some}
+use Rattle.alarm_laws.proofs.Words.{Stands, here, inside, beyond}
+use Rattle.alarm_laws.proofs.Says.{told, Gives, gives_any, gives_both, then_gives, tested_gives, Tells, left_by, Straight, after_tells, answered_then, remembered_tells, either_tells, then_left, Says, SaysAll, seq_says, left_says, right_says, part_alone, part_then, part_last, then_quiet, none_quiet, tested_says}
+use Rattle.alarm_laws.proofs.Constants.{AreConstants, constant_is}
+use Rattle.alarm_laws.proofs.Guards.{Mentioned, IsGuarded, IsTied}
+use Rattle.alarm_laws.proofs.Calls.{Entered, called_says, through_at}
+
+pub mentioned_left : (p : Program) (xs ys : List Mention) → Mentioned p (xs ++ ys) → Mentioned p xs
+mentioned_left p xs ys h x k = h x (Contains-append_left xs ys x k)
+
+pub mentioned_right : (p : Program) (xs ys : List Mention) → Mentioned p (xs ++ ys) → Mentioned p ys
+mentioned_right p xs ys h x k = h x (Contains-append_right xs ys x k)
+
+mentioned_first : (p : Program) (x : Mention) (xs : List Mention) → Mentioned p (x ∷ xs) → Contains (mentions_of_program p) x
+mentioned_first p x xs h = h x (is_first x xs)
+
+mentioned_rest : (p : Program) (x : Mention) (xs : List Mention) → Mentioned p (x ∷ xs) → Mentioned p xs
+mentioned_rest p x xs h y k = h y (is_later x xs y k)
+
+module _ (p : Program) (n : ℕ) (right : IsProgram p n) (marks : Marks) (m : F.Marks) (keep : Event → List Event) (ties : IsTied p marks m keep) (Good : Frame → State → Type 0) (Passed : CTypes → List Value → State → Type 0) (guard : IsGuarded p marks Good Passed) where
+  abbrev env : Shapes
+  env = shapes_of p
+
+  -- what so many turns are enough for is said by shapes
+  pub record IsFine (k : ℕ) : Type 0 where
+    pub enter : (wanted : Bool) (f : ℕ) (g : Function) (r : CType) (ts : CTypes) (vs : List Value) (st : State) → slice_get p.functions f ≡ Some g → g.ctype ≡ function r ts → Passed ts vs st → Entered p n right marks m keep ties (shape_of_function p g) ((world p marks k).enter wanted f vs st)
+    pub again : (fr : Frame) (r : CType) (l : LoopOf) (st : State) → IsTest p fr.types l.test → IsStmt p fr.types r true true l.body → IsStep p fr.types l.step → Mentioned p (mentions_of_maybe l.test) → Mentioned p (mentions_of_stmt l.body) → Mentioned p (mentions_of_maybe l.step) → Good fr st → Says env m keep {A = Exit} left_by (Loop (shape_of_maybe p l.test) (shape_of_stmt p l.body) (shape_of_maybe p l.step)) ((world p marks k).again fr l st)
+
+  module _ (k : ℕ) (goes : IsFine k) (fr : Frame) where
+    abbrev E : Bool → Expr → State → Result Value
+    E wanted e st = eval p (world p marks k) marks fr wanted e st
+
+    abbrev Saying : Shape → Result Value → Type 0
+    Saying S r = Says env m keep {A = Value} Straight S r
+
+    abbrev Kept : Result Value → Type 0
+    Kept r = Gives {A = Value} (λ v st. Good fr st) r
+
+    -- one operand, and a step with its value
+    one : (S : Shape) (r : Result Value) (f : State → Value → Answer Value) → Saying S r → Saying S (then_do r (λ x st. answered (f st x) st))
+    one S r f h =
+        then_quiet env m keep {A = Value} {B = Value} Straight S r _ h (λ x st. none_quiet env m keep {A = Value} (f st x) st)
+
+    -- two operands, and a step with their values
+    two : (S T : Shape) (r : Result Value) (q : State → Result Value) (f : State → Value → Value → Answer Value) → Saying S r → Kept r → ((st : State) → Good fr st → Saying T (q st)) → Saying (seq_two S T) (then_do r (λ x st. then_do (q st) (λ y st. answered (f st x y) st)))
+    two S T r q f h g l =
+        seq_says env m keep {A = Value} Straight (Part S (Part T End)) _ (part_then env m keep {A = Value} {B = Value} Straight S (Part T End) (λ v st. Good fr st) r _ h g (λ x st i. part_last env m keep {A = Value} {B = Value} Straight T (q st) _ (l st i) (λ y st. none_quiet env m keep {A = Value} (f st x y) st)))
+
+    -- a test, and one of two values by it
+    branch : (S T U : Shape) (r : Result Value) (a b : State → Result Value) → Saying S r → Kept r → ((st : State) → Good fr st → Saying T (a st)) → ((st : State) → Good fr st → Saying U (b st)) → Saying (seq_two S (alt T U)) (then_do (tested r) (λ holds st. either holds (a st) (b st)))
+    branch S T U r a b h g l q =
+        seq_says env m keep {A = Value} Straight (Part S (Part (alt T U) End)) _ (part_then env m keep {A = Bool} {B = Value} Straight S (Part (alt T U) End) (λ v st. Good fr st) (tested r) _ (tested_says env m keep S r h) (tested_gives (Good fr) r g) (λ holds st i. part_alone env m keep {A = Value} Straight (alt T U) (either holds (a st) (b st)) (either_tells keep {A = Value} Straight (Whole env m (alt T U)) (Front env m (alt T U)) holds (a st) (b st) (left_says env m keep {A = Value} Straight T U (a st) (l st i)) (right_says env m keep {A = Value} Straight T U (b st) (q st i)))))
+
+    -- a test, and its truth value
+    truth_says : (S : Shape) (r : Result Value) → Saying S r → Saying S (then_do (tested r) (λ holds st. Go (truth_value holds) st []))
+    truth_says S r h =
+        then_quiet env m keep {A = Bool} {B = Value} Straight S (tested r) _ (tested_says env m keep S r h) (λ holds st u. F.ended)
+
+    -- the other way round
+    or_says : (S T : Shape) (r : Result Value) (b : State → Result Value) → Saying S r → Kept r → ((st : State) → Good fr st → Saying T (b st)) → Saying (seq_two S (alt T Skip)) (then_do (tested r) (λ holds st. either holds (Go (truth_value true) st []) (b st)))
+    or_says S T r b h g q =
+        seq_says env m keep {A = Value} Straight (Part S (Part (alt T Skip) End)) _ (part_then env m keep {A = Bool} {B = Value} Straight S (Part (alt T Skip) End) (λ v st. Good fr st) (tested r) _ (tested_says env m keep S r h) (tested_gives (Good fr) r g) (λ holds st i. part_alone env m keep {A = Value} Straight (alt T Skip) (either holds (Go (truth_value true) st []) (b st)) (either_tells keep {A = Value} Straight (Whole env m (alt T Skip)) (Front env m (alt T Skip)) holds (Go (truth_value true) st []) (b st) (right_says env m keep {A = Value} Straight T Skip (Go (truth_value true) st []) (λ u. F.skip)) (left_says env m keep {A = Value} Straight T Skip (b st) (q st i)))))
+
+    assign_says : (S T : Shape) (r : Result Value) (b : State → Result Value) → Saying S r → Kept r → ((st : State) → Good fr st → Saying T (b st)) → Saying (seq_two S T) (then_do r (λ q st. then_do (b st) (λ v st. remembered (store_place st.memory q v) v st)))
+    assign_says S T r b h g l =
+        seq_says env m keep {A = Value} Straight (Part S (Part T End)) _ (part_then env m keep {A = Value} {B = Value} Straight S (Part T End) (λ v st. Good fr st) r _ h g (λ q st i. part_last env m keep {A = Value} {B = Value} Straight T (b st) _ (l st i) (λ v st. remembered_tells keep {A = Value} Straight (Falls env m End) (Stands env m End) (store_place st.memory q v) v st (λ u. F.ended) (λ u. here))))
+
+    update_says : (S T : Shape) (r : Result Value) (b : State → Result Value) (old : Bool) (f : State → Value → Value → Answer Value) → Saying S r → Kept r → ((st : State) → Good fr st → Saying T (b st)) → Saying (seq_two S T) (then_do r (λ q st. then_do (answered (load_place st.memory q) st) (λ before st. then_do (b st) (λ v st. then_do (answered (f st before v) st) (λ new st. remembered (store_place st.memory q new) (either old before new) st)))))
+    update_says S T r b old f h g l =
+        seq_says env m keep {A = Value} Straight (Part S (Part T End)) _ (part_then env m keep {A = Value} {B = Value} Straight S (Part T End) (λ v st. Good fr st) r _ h g (λ q st i.
+        answered_then keep {A = Value} {B = Value} Straight (Falls env m (Part T End)) (Stands env m (Part T End)) (load_place st.memory q) st _ (λ u. here) (λ before.
+        part_last env m keep {A = Value} {B = Value} Straight T (b st) _ (l st i) (λ v st.
+        answered_then keep {A = Value} {B = Value} Straight (Falls env m End) (Stands env m End) (f st before v) st _ (λ u. here) (λ new.
+        remembered_tells keep {A = Value} Straight (Falls env m End) (Stands env m End) (store_place st.memory q new) (either old before new) st (λ u. F.ended) (λ u. here))))))
+
+    -- the values of arguments, before other parts
+    abbrev Passes : Exprs → Leave → List Event → List Event → Type 0
+    Passes es x t u =
+        (ps : Parts) → ((y : Leave) (v : List Event) → Falls env m ps y u v → Falls env m (shapes_before p es ps) y t v) × ((v : List Event) → Stands env m ps u v → Stands env m (shapes_before p es ps) t v)
+
+    abbrev FrontPasses : Exprs → List Event → List Event → Type 0
+    FrontPasses es t u = (ps : Parts) → Stands env m (shapes_before p es ps) t u
+
+    abbrev Passing : Exprs → Result (List Value) → Type 0
+    Passing es r = Tells keep {A = List Value} Straight (Passes es) (FrontPasses es) r
+
+    more_pass : (e : Expr) (es : Exprs) (r : Result Value) (q : State → Result (List Value)) → Saying (shape p e) r → Kept r → ((st : State) → Good fr st → Passing es (q st)) → Passing (more_exprs e es) (then_do r (λ v st. then_do (q st) (λ vs st. Go (v ∷ vs) st [])))
+    more_pass e es (Go v st w) q h g l =
+        after_tells keep {A = List Value} Straight (Passes es) (Passes (more_exprs e es)) (FrontPasses es) (FrontPasses (more_exprs e es)) w (then_do (q st) (λ vs st. Go (v ∷ vs) st [])) (λ x t u z ps. ((λ y v f. F.falls_on (h t) ((z ps).0 y v f)), (λ v f. beyond (h t) ((z ps).1 v f)))) (λ t u z ps. beyond (h t) (z ps)) (then_left keep {A = List Value} {B = List Value} Straight Straight (Passes es) (Passes es) (FrontPasses es) (q st) (λ vs st. v ∷ vs) (λ vs st. st) (λ vs st t u z. z) (l st g))
+    more_pass e es (Stop o w) q h g l = λ u ps. inside (h u)
+
+    args_then : (es : Exprs) (ps : Parts) (P : List Value → State → Type 0) (r : Result (List Value)) (f : List Value → State → Result Value) → Passing es r → Gives {A = List Value} P r → ((vs : List Value) (st : State) → P vs st → SaysAll env m keep {A = Value} Straight ps (f vs st)) → SaysAll env m keep {A = Value} Straight (shapes_before p es ps) (then_do r f)
+    args_then es ps P (Go vs st w) f h g l =
+        after_tells keep {A = Value} Straight (Falls env m ps) (Falls env m (shapes_before p es ps)) (Stands env m ps) (Stands env m (shapes_before p es ps)) w (f vs st) (λ x t u q. (h t ps).0 x u q) (λ t u q. (h t ps).1 u q) (l vs st g)
+    args_then es ps P (Stop o w) f h g l = λ u. h u ps
+
+    -- constant arguments have their values
+    constant_given : (e : Expr) (st : State) → Gives {A = Value} (λ v u. (y : Value) → constant_value e ≡ Some y → v ≡ y) (E true e st)
+    constant_given e st = at (constant_value e) refl
+      where
+        at : (o : Option Value) → constant_value e ≡ o → Gives {A = Value} (λ v u. (y : Value) → constant_value e ≡ Some y → v ≡ y) (E true e st)
+        at None is = gives_any {A = Value} (λ v u. (y : Value) → constant_value e ≡ Some y → v ≡ y) (E true e st) (λ v u y q. absurd (no_some y (sym is ∙ q)))
+        at (Some z) is =
+            subst (λ r. Gives {A = Value} (λ v u. (y : Value) → constant_value e ≡ Some y → v ≡ y) r) (sym (constant_is p (world p marks k) marks fr true e z st is)) (λ y q. same_some z y (sym is ∙ q))
+
+    constants_given : (es : Exprs) (st : State) → Gives {A = List Value} (λ vs u. AreConstants es vs) (eval_all p (world p marks k) marks fr es st)
+    constants_given no_exprs st = tt
+    constants_given (more_exprs e es) st =
+        then_gives {A = Value} {B = List Value} (λ v u. (y : Value) → constant_value e ≡ Some y → v ≡ y) (λ vs u. AreConstants (more_exprs e es) vs) (E true e st) _ (constant_given e st) (λ v st i. then_gives {A = List Value} {B = List Value} (λ vs u. AreConstants es vs) (λ vs u. AreConstants (more_exprs e es) vs) (eval_all p (world p marks k) marks fr es st) _ (constants_given es st) (λ vs st j. (i, j)))
+
+    passed : (ts : CTypes) (es : Exprs) (st : State) → AreArguments p fr.types ts es → Mentioned p (mentions_of_all es) → Good fr st → Gives {A = List Value} (λ vs u. AreConstants es vs × Passed ts vs u) (eval_all p (world p marks k) marks fr es st)
+    passed ts es st h l g =
+        gives_both {A = List Value} (λ vs u. AreConstants es vs) (λ vs u. Passed ts vs u) (eval_all p (world p marks k) marks fr es st) (constants_given es st) (guard.arguments_kept k fr ts es st h l g)
+
+    mutual
+      pub value_says : (wanted : Bool) (e : Expr) → IsValue p fr.types e → Mentioned p (mentions e) → (st : State) → Good fr st → Saying (shape p e) (E wanted e st)
+      value_says wanted (constant t v) h l st g = λ u. F.skip
+      value_says wanted (load t a) h l st g = one (shape p a) (E true a st) (λ s x. load_place s.memory x) (place_says true a h.2 l st g)
+      value_says wanted (address_of t a) h l st g = place_says true a h.1 l st g
+      value_says wanted (decay t a) h l st g = one (shape p a) (E true a st) (λ s x. decayed p.structs (type_of a) x) (place_says true a h.1 l st g)
+      value_says wanted (discard t a) h l st g = then_quiet env m keep {A = Value} {B = Value} Straight (shape p a) (E false a st) _ (value_says false a h.1 l st g) (λ x st u. F.ended)
+      value_says wanted (unary_operation t op a) h l st g = one (shape p a) (E true a st) (λ s x. operated op s.memory x) (value_says true a h.1 l st g)
+      value_says wanted (conversion t to a) h l st g = one (shape p a) (E true a st) (λ s x. convert to x) (value_says true a h.2 l st g)
+      value_says wanted (arithmetic t op a b) h l st g =
+          let i = mentioned_left p (mentions a) (mentions b) l in
+          two (shape p a) (shape p b) (E true a st) (E true b) (λ s x y. binary op x y) (value_says true a h.1 i st g) (guard.value k fr true a st h.1 i g) (value_says true b h.2 (mentioned_right p (mentions a) (mentions b) l))
+      value_says wanted (comparison t op a b) h l st g =
+          let i = mentioned_left p (mentions a) (mentions b) l in
+          two (shape p a) (shape p b) (E true a st) (E true b) (λ s x y. comparing op s.memory x y) (value_says true a h.1 i st g) (guard.value k fr true a st h.1 i g) (value_says true b h.2 (mentioned_right p (mentions a) (mentions b) l))
+      value_says wanted (pointer_add t first subtracted a b) h l st g =
+          let i = mentioned_left p (mentions a) (mentions b) l in
+          two (shape p a) (shape p b) (E true a st) (E true b) (λ s x y. moving first subtracted s.memory x y) (value_says true a h.1 i st g) (guard.value k fr true a st h.1 i g) (value_says true b h.2 (mentioned_right p (mentions a) (mentions b) l))
+      value_says wanted (pointer_diff t a b) h l st g =
+          let i = mentioned_left p (mentions a) (mentions b) l in
+          two (shape p a) (shape p b) (E true a st) (E true b) (λ s x y. difference s.memory x y) (value_says true a h.3 i st g) (guard.value k fr true a st h.3 i g) (value_says true b h.4 (mentioned_right p (mentions a) (mentions b) l))
+      value_says wanted (and t a b) h l st g =
+          let i = mentioned_left p (mentions a) (mentions b) l in
+          branch (shape p a) (shape p b) Skip (E true a st) (λ st. then_do (tested (E true b st)) (λ holds st. Go (truth_value holds) st [])) (λ st. Go (truth_value false) st []) (value_says true a h.1.1 i st g) (guard.value k fr true a st h.1.1 i g) (λ st j. truth_says (shape p b) (E true b st) (value_says true b h.2.1 (mentioned_right p (mentions a) (mentions b) l) st j)) (λ st j u. F.skip)
+      value_says wanted (or t a b) h l st g =
+          let i = mentioned_left p (mentions a) (mentions b) l in
+          or_says (shape p a) (shape p b) (E true a st) (λ st. then_do (tested (E true b st)) (λ holds st. Go (truth_value holds) st [])) (value_says true a h.1.1 i st g) (guard.value k fr true a st h.1.1 i g) (λ st j. truth_says (shape p b) (E true b st) (value_says true b h.2.1 (mentioned_right p (mentions a) (mentions b) l) st j))
+      value_says wanted (assign t a b) h l st g =
+          let i = mentioned_left p (mentions a) (mentions b) l in
+          assign_says (shape p a) (shape p b) (E true a st) (E true b) (place_says true a h.3 i st g) (guard.place_kept k fr true a st h.3 i g) (value_says true b h.4 (mentioned_right p (mentions a) (mentions b) l))
+      value_says wanted (update t op old a b) h l st g =
+          let i = mentioned_left p (mentions a) (mentions b) l in
+          update_says (shape p a) (shape p b) (E true a st) (E true b) old (λ s x y. updated op t (type_of b) s.memory x y) (place_says true a h.2 i st g) (guard.place_kept k fr true a st h.2 i g) (value_says true b h.3 (mentioned_right p (mentions a) (mentions b) l))
+      value_says wanted (conditional t c a b) h l st g =
+          let i = mentioned_left p (mentions c) (mentions a ++ mentions b) l in
+          let j = mentioned_right p (mentions c) (mentions a ++ mentions b) l in
+          branch (shape p c) (shape p a) (shape p b) (E true c st) (E true a) (E true b) (value_says true c h.0.1 i st g) (guard.value k fr true c st h.0.1 i g) (value_says true a h.3 (mentioned_left p (mentions a) (mentions b) j)) (value_says true b h.4 (mentioned_right p (mentions a) (mentions b) j))
+      value_says wanted (comma t es) h l st g = seq_says env m keep {A = Value} Straight (shapes_before p es End) _ (members_say wanted t es h l st g)
+      value_says wanted (call t s f es) h l st g =
+          let i = mentioned_rest p (Calls s (Direct f)) (mentions_of_all es) l in
+          seq_says env m keep {A = Value} Straight (shapes_before p es (Part (direct_call p s f es) End)) _ (args_then es (Part (direct_call p s f es) End) (λ vs u. AreConstants es vs × Passed h.0 vs u) (eval_all p (world p marks k) marks fr es st) _ (arguments_say h.0 es h.2 i st g) (passed h.0 es st h.2 i g) (λ vs st j. part_alone env m keep {A = Value} Straight (direct_call p s f es) _ (called_says p n right marks m keep ties (world p marks k) (wants wanted t) s f t h.0 fr.types es vs st (mentioned_first p (Calls s (Direct f)) (mentions_of_all es) l) h.1 h.2 j.0 (λ c is type. goes.enter (wants wanted t) f c t h.0 vs st is type j.1))))
+      value_says wanted (call_through t s a es) h l st g =
+          let c = Calls s (Through (type_of a)) in
+          let i = mentioned_left p (mentions a) (c ∷ mentions_of_all es) l in
+          let j = mentioned_right p (mentions a) (c ∷ mentions_of_all es) l in
+          let o = mentioned_first p c (mentions_of_all es) j in
+          let d = marked_call p s (Through (type_of a)) in
+          seq_says env m keep {A = Value} Straight (Part (shape p a) (shapes_before p es (Part d End))) _ (part_then env m keep {A = Value} {B = Value} Straight (shape p a) (shapes_before p es (Part d End)) (λ v u. Good fr u × ((f : ℕ) → callee v ≡ gives f → Contains (callees p (Through (type_of a))) f)) (E true a st) _ (value_says true a h.2 i st g) (gives_both {A = Value} (λ v u. Good fr u) (λ v u. (f : ℕ) → callee v ≡ gives f → Contains (callees p (Through (type_of a))) f) (E true a st) (guard.value k fr true a st h.2 i g) (guard.designator k fr s a t h.0 st h.1 h.2 i o g)) (λ v st q.
+          args_then es (Part d End) (λ vs u. AreConstants es vs × Passed h.0 vs u) (eval_all p (world p marks k) marks fr es st) _ (arguments_say h.0 es h.3 (mentioned_rest p c (mentions_of_all es) j) st q.0) (passed h.0 es st h.3 (mentioned_rest p c (mentions_of_all es) j) q.0) (λ vs st r.
+          part_alone env m keep {A = Value} Straight d _ (through_at p n right marks m keep ties (world p marks k) (wants wanted t) (type_of a) s (function t h.0) vs st v h.1 o (λ f b is type. goes.enter (wants wanted t) f b t h.0 vs st is type r.1) q.1))))
+      value_says wanted _ h l st g = absurd h
+
+      pub place_says : (wanted : Bool) (e : Expr) → IsPlace p fr.types e → Mentioned p (mentions e) → (st : State) → Good fr st → Saying (shape p e) (E wanted e st)
+      place_says wanted (function_name t f) h l st g = λ u. F.skip
+      place_says wanted (string_place t i) h l st g = λ u. F.skip
+      place_says wanted (variable t s i) h l st g = λ u. F.skip
+      place_says wanted (dereference t a) h l st g = one (shape p a) (E true a st) (λ s x. behind_of t s.memory x) (value_says true a h.2 l st g)
+      place_says wanted (field t first a) h l st g = one (shape p a) (E true a st) (λ s x. member first (cells p.structs t) x) (place_says true a h.1 l st g)
+      place_says wanted _ h l st g = absurd h
+
+      members_say : (wanted : Bool) (t : CType) (es : Exprs) → AreMembers p fr.types t es → Mentioned p (mentions_of_all es) → (st : State) → Good fr st → SaysAll env m keep {A = Value} Straight (shapes_before p es End) (eval_each p (world p marks k) marks fr wanted es st)
+      members_say wanted t no_exprs h l st g = absurd h
+      members_say wanted t (more_exprs e no_exprs) h l st g = part_alone env m keep {A = Value} Straight (shape p e) (E wanted e st) (value_says wanted e h.0 (mentioned_left p (mentions e) [] l) st g)
+      members_say wanted t (more_exprs e (more_exprs f es)) h l st g =
+          let i = mentioned_left p (mentions e) (mentions_of_all (more_exprs f es)) l in
+          part_then env m keep {A = Value} {B = Value} Straight (shape p e) (shapes_before p (more_exprs f es) End) (λ v u. Good fr u) (E false e st) _ (value_says false e h.0 i st g) (guard.value k fr false e st h.0 i g) (λ v st j. members_say wanted t (more_exprs f es) h.1 (mentioned_right p (mentions e) (mentions_of_all (more_exprs f es)) l) st j)
+
+      arguments_say : (ts : CTypes) (es : Exprs) → AreArguments p fr.types ts es → Mentioned p (mentions_of_all es) → (st : State) → Good fr st → Passing es (eval_all p (world p marks k) marks fr es st)
+      arguments_say ts no_exprs h l st g = λ u ps. ((λ y v q. q), (λ v q. q))
+      arguments_say no_types (more_exprs e es) h l st g = absurd h
+      arguments_say (more_types t ts) (more_exprs e es) h l st g =
+          let i = mentioned_left p (mentions e) (mentions_of_all es) l in
+          more_pass e es (E true e st) (eval_all p (world p marks k) marks fr es) (value_says true e h.1 i st g) (guard.value k fr true e st h.1 i g) (arguments_say ts es h.2 (mentioned_right p (mentions e) (mentions_of_all es) l))

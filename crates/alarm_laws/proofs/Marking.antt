@@ -1,0 +1,61 @@
+-- The marks of a run beside those of the words: with null calls at marked sites, and without.
+use Rattle.std.proofs.Common.{◌≡◌, ℕ, ◌+◌, Bool, true, false, if◌then◌else◌, List, [], ◌∷◌, ◌++◌, Contains, refl, ap}
+use Rattle.dm_base.specs.declared.event.Event.{Event}
+use Rattle.dm_base.specs.declared.event.Event.TheVariants.{Sys, Pre, Post}
+use Rattle.dm_base.specs.Trace.{erase}
+use Rattle.c_tree.specs.Tree.{Program}
+use Rattle.c_tree.specs.Functions.{defined}
+use Rattle.c_shapes.specs.Mentions.{Mention, Direct, Calls, mentions_of_program}
+use Rattle.c_shapes.specs.CallGraph.{marked}
+use Rattle.c_shapes.specs.Words.{brackets, no_brackets}
+use Rattle.c_meaning.specs.Runs.{no_marks}
+use Rattle.c_meaning.specs.WithoutNullCalls.{MakesNoNullCall}
+use Rattle.alarm_laws.specs.MarkedRuns.{null_calls_of}
+use Rattle.alarm_laws.proofs.Says.{told}
+use Rattle.alarm_laws.proofs.Guards.{IsTied}
+use Rattle.alarm_laws.proofs.NullFree.{IsOther, calls_others}
+
+-- every event is read
+abbrev pub every : Event → List Event
+every e = e ∷ []
+
+-- null calls are not read
+abbrev pub system_calls : Event → List Event
+system_calls (Sys x xs r) = Sys x xs r ∷ []
+system_calls (Pre s) = []
+system_calls (Post s) = []
+
+pub told_every : (t : List Event) → told every t ≡ t
+told_every [] = refl
+told_every (e ∷ t) = ap (λ u. e ∷ u) (told_every t)
+
+pub told_system_calls : (t : List Event) → told system_calls t ≡ erase t
+told_system_calls [] = refl
+told_system_calls (Sys x xs r ∷ t) = ap (λ u. Sys x xs r ∷ u) (told_system_calls t)
+told_system_calls (Pre s ∷ t) = told_system_calls t
+told_system_calls (Post s ∷ t) = told_system_calls t
+
+abbrev marks_if : ℕ → Bool → List Event × List Event
+marks_if s b = if b then (Pre s ∷ [], Post s ∷ []) else ([], [])
+
+pub marked_tied : (p : Program) → MakesNoNullCall p → IsTied p (null_calls_of p) brackets every
+marked_tied p free = record {
+  system = λ x xs r. refl;
+  before = λ s e. ap (λ b. told every ((marks_if s b).0)) e;
+  behind = λ s e. ap (λ b. told every ((marks_if s b).1)) e;
+  none_before = λ s e. ap (λ b. told every ((marks_if s b).0)) e;
+  none_behind = λ s e. ap (λ b. told every ((marks_if s b).1)) e;
+  null_pre = λ s f k e site. absurd ((calls_others p free (Calls s (Direct f)) k).0 e);
+  null_post = λ s f k e site. absurd ((calls_others p free (Calls s (Direct f)) k).1 e);
+}
+
+pub plain_tied : (p : Program) → IsTied p no_marks no_brackets system_calls
+plain_tied p = record {
+  system = λ x xs r. refl;
+  before = λ s e. refl;
+  behind = λ s e. refl;
+  none_before = λ s e. refl;
+  none_behind = λ s e. refl;
+  null_pre = λ s f k e site. refl;
+  null_post = λ s f k e site. refl;
+}

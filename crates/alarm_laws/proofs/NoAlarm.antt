@@ -1,0 +1,55 @@
+-- The laws, from what is kept by runs.
+use Rattle.std.proofs.Common.{◌≡◌, ℕ, List, subst}
+use Rattle.dm_base.specs.declared.event.Event.{Event}
+use Rattle.dm_base.specs.Trace.{erase}
+use Rattle.sys_table.specs.declared.sys_result.SysResult.{SysResult}
+use Rattle.c_tree.specs.declared.value.Value.{Value}
+use Rattle.c_tree.specs.Tree.{CTypes, Program, type_of}
+use Rattle.c_tree.specs.Program.{IsProgram}
+use Rattle.c_shapes.specs.Languages.{Words}
+use Rattle.c_shapes.specs.ProgramLanguages.{Dyck, Stack, Callgraph}
+use Rattle.c_shapes.specs.ShapeOf.{shapes_of}
+use Rattle.c_shapes.specs.Words.{brackets, no_brackets}
+use Rattle.c_shapes.proofs.Walking.{walked}
+use Rattle.c_meaning.specs.Meaning.{Marks, Frame, eval, eval_all, exec}
+use Rattle.c_meaning.specs.Results.{State, Exit, remembered}
+use Rattle.c_meaning.specs.Runs.{world, no_marks, run}
+use Rattle.c_meaning.specs.WithoutNullCalls.{MakesNoNullCall}
+use Rattle.alarm_laws.specs.MarkedRuns.{null_calls_of, marked_run}
+use Rattle.alarm_laws.specs.NoFalseAlarm.{CallsByName, RunsAreWords, MarkedRunsAreWords, NamedCallsRaiseNoAlarm, MarkedNamedCallsRaiseNoAlarm}
+use Rattle.alarm_laws.proofs.Says.{Gives, gives_any}
+use Rattle.alarm_laws.proofs.Guards.{IsGuarded}
+use Rattle.alarm_laws.proofs.Marking.{every, system_calls, told_every, told_system_calls, marked_tied, plain_tied}
+use Rattle.alarm_laws.proofs.Programs.{run_says}
+
+-- runs that keep something by which each function that is called through a pointer is a candidate
+pub guarded_runs : (p : Program) (n : ℕ) (right : IsProgram p n) (Good : Frame → State → Type 0) (Passed : CTypes → List Value → State → Type 0) → IsGuarded p no_marks Good Passed → RunsAreWords p
+guarded_runs p n right Good Passed guard records turns =
+    let h : Stack p (run p records turns).trace = subst (λ t. Words no_brackets (shapes_of p) t) (told_system_calls (run p records turns).trace) (run_says p n right no_marks no_brackets system_calls (plain_tied p) Good Passed guard records turns) in
+    (h, walked (shapes_of p) p.main (erase (run p records turns).trace) h)
+
+pub guarded_marked_runs : (p : Program) (n : ℕ) (right : IsProgram p n) → MakesNoNullCall p → (Good : Frame → State → Type 0) (Passed : CTypes → List Value → State → Type 0) → IsGuarded p (null_calls_of p) Good Passed → MarkedRunsAreWords p
+guarded_marked_runs p n right free Good Passed guard records turns =
+    subst (λ t. Words brackets (shapes_of p) t) (told_every (marked_run p records turns).trace) (run_says p n right (null_calls_of p) brackets every (marked_tied p free) Good Passed guard records turns)
+
+-- nothing is asked of values where no call goes through a pointer
+by_name : (p : Program) (marks : Marks) → CallsByName p → IsGuarded p marks (λ fr st. Unit {0}) (λ ts vs st. Unit {0})
+by_name p marks named = record {
+  value = λ k fr wanted e st h l g. gives_any {A = Value} (λ v st. Unit {0}) (eval p (world p marks k) marks fr wanted e st) (λ v st. tt);
+  place_kept = λ k fr wanted e st h l g. gives_any {A = Value} (λ v st. Unit {0}) (eval p (world p marks k) marks fr wanted e st) (λ v st. tt);
+  designator = λ k fr site a r ts st e h l c g. absurd (named site (type_of a) c);
+  arguments_kept = λ k fr ts es st h l g. gives_any {A = List Value} (λ vs st. Unit {0}) (eval_all p (world p marks k) marks fr es st) (λ vs st. tt);
+  entering = λ f g r ts vs st k is type h. tt;
+  fresh_kept = λ fr x t st e g. tt;
+  stored = λ k fr x cell t e st is type h l g. gives_any {A = Value} _ (eval p (world p marks k) marks fr _ e st) (λ v u. gives_any {A = Value} (λ y z. Unit {0}) _ (λ y z. tt));
+  statement = λ k fr r b c s st h l g. gives_any {A = Exit} (λ x st. Unit {0}) (exec p (world p marks k) marks fr s st) (λ x st. tt);
+  turn = λ fr st k g. tt;
+  begins = λ records turns. tt;
+}
+
+pub named_calls : NamedCallsRaiseNoAlarm
+named_calls p n right named = guarded_runs p n right (λ fr st. Unit {0}) (λ ts vs st. Unit {0}) (by_name p no_marks named)
+
+pub marked_named_calls : MarkedNamedCallsRaiseNoAlarm
+marked_named_calls p n right named free =
+    guarded_marked_runs p n right free (λ fr st. Unit {0}) (λ ts vs st. Unit {0}) (by_name p (null_calls_of p) named)
