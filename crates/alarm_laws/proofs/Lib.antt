@@ -1,5 +1,6 @@
 pub mod Calls
 pub mod Constants
+pub mod Entering
 pub mod Expressions
 pub mod Guards
 pub mod Lists
@@ -13,4 +14,5 @@ pub mod Says
 pub mod Silent
 pub mod Sites
 pub mod Statements
+pub mod TypedRuns
 pub mod Words

@@ -35,7 +35,7 @@ told_system_calls (Sys x xs r ∷ t) = ap (λ u. Sys x xs r ∷ u) (told_system_
 told_system_calls (Pre s ∷ t) = told_system_calls t
 told_system_calls (Post s ∷ t) = told_system_calls t
 
-abbrev marks_if : ℕ → Bool → List Event × List Event
+abbrev pub marks_if : ℕ → Bool → List Event × List Event
 marks_if s b = if b then (Pre s ∷ [], Post s ∷ []) else ([], [])
 
 pub marked_tied : (p : Program) → MakesNoNullCall p → IsTied p (null_calls_of p) brackets every

@@ -16,11 +16,12 @@ use Rattle.c_meaning.specs.Results.{State, Exit, remembered}
 use Rattle.c_meaning.specs.Runs.{world, no_marks, run}
 use Rattle.c_meaning.specs.WithoutNullCalls.{MakesNoNullCall}
 use Rattle.alarm_laws.specs.MarkedRuns.{null_calls_of, marked_run}
-use Rattle.alarm_laws.specs.NoFalseAlarm.{CallsByName, RunsAreWords, MarkedRunsAreWords, NamedCallsRaiseNoAlarm, MarkedNamedCallsRaiseNoAlarm}
+use Rattle.alarm_laws.specs.NoFalseAlarm.{CallsByName, RunsAreWords, MarkedRunsAreWords, NamedCallsRaiseNoAlarm, MarkedNamedCallsRaiseNoAlarm, RunsRaiseNoAlarm, MarkedRunsRaiseNoAlarm}
 use Rattle.alarm_laws.proofs.Says.{Gives, gives_any}
 use Rattle.alarm_laws.proofs.Guards.{IsGuarded}
 use Rattle.alarm_laws.proofs.Marking.{every, system_calls, told_every, told_system_calls, marked_tied, plain_tied}
 use Rattle.alarm_laws.proofs.Programs.{run_says}
+use Rattle.alarm_laws.proofs.TypedRuns.{IsGood, ArePassed, typed_guard, none_recorded, null_calls_recorded}
 
 -- runs that keep something by which each function that is called through a pointer is a candidate
 pub guarded_runs : (p : Program) (n : ℕ) (right : IsProgram p n) (Good : Frame → State → Type 0) (Passed : CTypes → List Value → State → Type 0) → IsGuarded p no_marks Good Passed → RunsAreWords p
@@ -53,3 +54,11 @@ named_calls p n right named = guarded_runs p n right (λ fr st. Unit {0}) (λ ts
 pub marked_named_calls : MarkedNamedCallsRaiseNoAlarm
 marked_named_calls p n right named free =
     guarded_marked_runs p n right free (λ fr st. Unit {0}) (λ ts vs st. Unit {0}) (by_name p (null_calls_of p) named)
+
+pub runs_raise_none : RunsRaiseNoAlarm
+runs_raise_none p n right members =
+    guarded_runs p n right (IsGood p n right members no_marks none_recorded) (ArePassed p n right members no_marks none_recorded) (typed_guard p n right members no_marks none_recorded)
+
+pub marked_runs_raise_none : MarkedRunsRaiseNoAlarm
+marked_runs_raise_none p n right members free =
+    guarded_marked_runs p n right free (IsGood p n right members (null_calls_of p) (null_calls_recorded p)) (ArePassed p n right members (null_calls_of p) (null_calls_recorded p)) (typed_guard p n right members (null_calls_of p) (null_calls_recorded p))

@@ -138,6 +138,12 @@ module _ (p : Program) where
   called_value : (f : ℕ) → f < defined p + 24 → called_type p f ≡ value_type p f
   called_value f lt = let k = many_values in get_left (value_types p) null_types f (omega (arith, lt, k))
 
+  pub type_of_function : (f : ℕ) (g : Function) → slice_get p.functions f ≡ Some g → called_type p f ≡ Some g.ctype
+  type_of_function f g is =
+      let lt = slice_get_within p.functions f g is in
+      let l = length_map type_of_defined p.functions in
+      called_value f (omega (arith, lt)) ∙ (get_left (map type_of_defined p.functions) sys_types f (omega (arith, lt, l)) ∙ get_map type_of_defined p.functions f g is)
+
   pub called_defined : (f : ℕ) (t : CType) → called_type p f ≡ Some t → f < defined p → (g : Function) × (slice_get p.functions f ≡ Some g) × (g.ctype ≡ t)
   called_defined f t e lt = value_defined f t (sym (called_value f (omega (arith, lt))) ∙ e) lt
 

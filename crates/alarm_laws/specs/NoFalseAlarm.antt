@@ -7,6 +7,7 @@ use Rattle.c_shapes.specs.Mentions.{Calls, Through, mentions_of_program}
 use Rattle.c_shapes.specs.ProgramLanguages.{Dyck, Stack, Callgraph}
 use Rattle.c_meaning.specs.Runs.{run}
 use Rattle.c_meaning.specs.WithoutNullCalls.{MakesNoNullCall}
+use Rattle.typed_meaning.specs.Laws.{HaveMembers}
 use Rattle.alarm_laws.specs.MarkedRuns.{marked_run}
 
 -- each call of the program names its function
@@ -30,3 +31,12 @@ NamedCallsRaiseNoAlarm = (p : Program) (n : ℕ) → IsProgram p n → CallsByNa
 abbrev pub MarkedNamedCallsRaiseNoAlarm : Type 0
 MarkedNamedCallsRaiseNoAlarm =
     (p : Program) (n : ℕ) → IsProgram p n → CallsByName p → MakesNoNullCall p → MarkedRunsAreWords p
+
+-- for each well-typed program
+abbrev pub RunsRaiseNoAlarm : Type 0
+RunsRaiseNoAlarm = (p : Program) (n : ℕ) → IsProgram p n → HaveMembers p.structs → RunsAreWords p
+
+-- for each that makes no null calls itself
+abbrev pub MarkedRunsRaiseNoAlarm : Type 0
+MarkedRunsRaiseNoAlarm =
+    (p : Program) (n : ℕ) → IsProgram p n → HaveMembers p.structs → MakesNoNullCall p → MarkedRunsAreWords p

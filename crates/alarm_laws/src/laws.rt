@@ -1,4 +1,4 @@
-ghost use Rattle.alarm_laws.specs.NoFalseAlarm.{NamedCallsRaiseNoAlarm, MarkedNamedCallsRaiseNoAlarm};
+ghost use Rattle.alarm_laws.specs.NoFalseAlarm.{MarkedNamedCallsRaiseNoAlarm, MarkedRunsRaiseNoAlarm, NamedCallsRaiseNoAlarm, RunsRaiseNoAlarm};
 
 /// No false alarm, for a well-typed program that calls functions by their names alone: the trace of each of its runs is
 /// in its stack and in its callgraph language, and where it makes no null calls itself, the trace of each run with null
@@ -7,4 +7,14 @@ ghost use Rattle.alarm_laws.specs.NoFalseAlarm.{NamedCallsRaiseNoAlarm, MarkedNa
 pub fn named_calls_raise_no_alarm()
     ensures runs { NamedCallsRaiseNoAlarm }
     ensures marked_runs { MarkedNamedCallsRaiseNoAlarm }
+{}
+
+/// No false alarm: the trace of each run of a well-typed program, for all recorded results and bounds of turns, is in the
+/// program's stack and in its callgraph language; and where the program makes no null calls itself, the trace of each run
+/// with null calls round its marked calls is in its Dyck language. A run that meets undefined behaviour, wants a recorded
+/// result or a turn is covered up to that moment. Each struct of the program has a member, as C99 6.7.2.1 asks. The
+/// function does nothing.
+pub fn runs_raise_no_alarm()
+    ensures runs { RunsRaiseNoAlarm }
+    ensures marked_runs { MarkedRunsRaiseNoAlarm }
 {}
