@@ -6,6 +6,7 @@ pub mod Guards
 pub mod Lists
 pub mod Loops
 pub mod Marking
+pub mod MonitorLemmas
 pub mod NoAlarm
 pub mod NullFree
 pub mod Places

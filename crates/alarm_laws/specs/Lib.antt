@@ -1,2 +1,3 @@
 pub mod MarkedRuns
+pub mod Monitors
 pub mod NoFalseAlarm

@@ -1,3 +1,4 @@
+ghost use Rattle.alarm_laws.specs.Monitors.{MonitorsAcceptMarkedRuns, MonitorsAcceptRuns};
 ghost use Rattle.alarm_laws.specs.NoFalseAlarm.{MarkedNamedCallsRaiseNoAlarm, MarkedRunsRaiseNoAlarm, NamedCallsRaiseNoAlarm, RunsRaiseNoAlarm};
 
 /// No false alarm, for a well-typed program that calls functions by their names alone: the trace of each of its runs is
@@ -17,4 +18,13 @@ pub fn named_calls_raise_no_alarm()
 pub fn runs_raise_no_alarm()
     ensures runs { RunsRaiseNoAlarm }
     ensures marked_runs { MarkedRunsRaiseNoAlarm }
+{}
+
+/// Each run of a well-typed program is accepted whole by the callgraph and the stack monitor of the program's graph,
+/// whatever the bound; and where the program makes no null calls itself, each run with null calls round its marked calls
+/// is so too, is accepted by the Dyck monitor where no more calls are open at once than the bound allows, and is never
+/// rejected by it. Each struct of the program has a member, as C99 6.7.2.1 asks. The function does nothing.
+pub fn monitors_accept_runs()
+    ensures runs { MonitorsAcceptRuns }
+    ensures marked_runs { MonitorsAcceptMarkedRuns }
 {}

@@ -1,0 +1,73 @@
+-- A word of a program's language is accepted by the monitor of the program's graph.
+use Rattle.std.proofs.Common.{◌≡◌, ℕ, zero, suc, ◌+◌, ◌-◌, ◌≤◌, List, [], ◌∷◌, ◌++◌, length, take, drop, refl, ap, sym, subst, arith}
+use Rattle.dm_base.specs.declared.event.Event.{Event}
+use Rattle.dm_base.specs.declared.event.Event.TheVariants.{Sys, Pre, Post}
+use Rattle.dm_base.specs.Trace.{depth}
+use Rattle.flow_model.specs.declared.which.Which.{Which}
+use Rattle.flow_model.specs.declared.which.Which.TheVariants as which
+use Rattle.flow_model.specs.Graph.{Graph}
+use Rattle.flow_model.specs.Language.{Reads}
+use Rattle.flow_model.specs.Verdict.{IsAccepted, IsRejectedAt}
+use Rattle.c_tree.specs.Tree.{Program}
+use Rattle.c_tree.specs.Program.{IsProgram}
+use Rattle.c_shapes.specs.ProgramLanguages.{Dyck, Stack, Callgraph}
+use Rattle.c_shapes.specs.ShapeOf.{shapes_of, names_of_functions}
+use Rattle.c_shapes.proofs.Erasing.{front}
+use Rattle.c_shapes.proofs.Fronts.{dyck_front, stack_front, callgraph_front}
+use Rattle.c_shapes.proofs.Walking.{walked}
+use Rattle.dm_base.specs.Trace.{erase}
+use Rattle.graph_laws.specs.Equal.{AreEqual}
+use Rattle.graph_laws.specs.GraphOfProgram.{graph_of_program}
+use Rattle.graph_laws.proofs.Runs as graphs
+use Rattle.graph_laws.proofs.ProgramsClosed.{closed, many_names}
+use Rattle.alarm_laws.specs.Monitors.{IsAcceptedByBoth, IsAcceptedByAll, MonitorsAcceptRuns, MonitorsAcceptMarkedRuns}
+use Rattle.alarm_laws.proofs.NoAlarm.{runs_raise_none, marked_runs_raise_none}
+
+cut : {X : Type 0} (k : ℕ) (xs : List X) → xs ≡ take k xs ++ drop k xs
+cut zero xs = refl
+cut (suc k) [] = refl
+cut (suc k) (x ∷ xs) = ap (λ z. x ∷ z) (cut k xs)
+
+-- no first part is deeper than the whole
+depth_cut : (k : ℕ) (t : List Event) → depth (take k t) ≤ depth t
+depth_cut zero t = omega arith
+depth_cut (suc k) [] = omega arith
+depth_cut (suc k) (Sys x xs r ∷ t) = depth_cut k t
+depth_cut (suc k) (Pre s ∷ t) = let h = depth_cut k t in omega (arith, h)
+depth_cut (suc k) (Post s ∷ t) = let h = depth_cut k t in omega (arith, h)
+
+module _ (p : Program) (n : ℕ) (right : IsProgram p n) where
+  dyck_same : AreEqual (Dyck p) (Reads which.Dyck (graph_of_program p))
+  dyck_same = graphs.dyck (names_of_functions p) (shapes_of p) (closed p n right) (many_names p)
+
+  stack_same : AreEqual (Stack p) (Reads which.Stack (graph_of_program p))
+  stack_same = graphs.stack (names_of_functions p) (shapes_of p) (closed p n right) (many_names p)
+
+  callgraph_same : AreEqual (Callgraph p) (Reads which.Callgraph (graph_of_program p))
+  callgraph_same = graphs.callgraph (names_of_functions p) (shapes_of p) (closed p n right) (many_names p)
+
+  dyck_at : (t : List Event) (k : ℕ) → Dyck p t → Reads which.Dyck (graph_of_program p) (take k t)
+  dyck_at t k h = dyck_same.into (take k t) (dyck_front (shapes_of p) (take k t) (drop k t) (subst (Dyck p) (cut k t) h))
+
+  both : (t : List Event) (bound : ℕ) → Stack p t → Callgraph p t → IsAcceptedByBoth (graph_of_program p) bound t
+  both t bound h l = record {
+    callgraph = (refl, record { kept = λ k le. callgraph_same.into (take k t) (callgraph_front (shapes_of p) (take k t) (drop k t) (subst (Callgraph p) (cut k t) l)) });
+    stack = (refl, record { kept = λ k le. stack_same.into (take k t) (stack_front (shapes_of p) (take k t) (drop k t) (subst (Stack p) (cut k t) h)) });
+  }
+
+  all : (t : List Event) (bound : ℕ) → Dyck p t → IsAcceptedByAll (graph_of_program p) bound t
+  all t bound h =
+      let s : Stack p t = front (shapes_of p) h in
+      record {
+        others = both t bound s (walked (shapes_of p) p.main (erase t) s);
+        dyck = λ few. (refl, record { kept = λ k le. (dyck_at t k h, (let i = depth_cut k t in omega (arith, i, few))) });
+        never_rejected = λ k r. r.refused (dyck_at t k h);
+      }
+
+pub accept_runs : MonitorsAcceptRuns
+accept_runs p n right members records turns bound =
+    let h = runs_raise_none p n right members records turns in both p n right _ bound h.0 h.1
+
+pub accept_marked_runs : MonitorsAcceptMarkedRuns
+accept_marked_runs p n right members free records turns bound =
+    all p n right _ bound (marked_runs_raise_none p n right members free records turns)
