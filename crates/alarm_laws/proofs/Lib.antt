@@ -5,6 +5,7 @@ pub mod Expressions
 pub mod Guards
 pub mod Lists
 pub mod Loops
+pub mod MarkedTrials
 pub mod Marking
 pub mod MonitorLemmas
 pub mod NoAlarm

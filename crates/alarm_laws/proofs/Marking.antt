@@ -1,5 +1,5 @@
 -- The marks of a run beside those of the words: with null calls at marked sites, and without.
-use Rattle.std.proofs.Common.{◌≡◌, ℕ, ◌+◌, Bool, true, false, if◌then◌else◌, List, [], ◌∷◌, ◌++◌, Contains, refl, ap}
+use Rattle.std.proofs.Common.{◌≡◌, ℕ, ◌+◌, Bool, true, false, if◌then◌else◌, List, [], ◌∷◌, ◌++◌, Contains, refl, ap, ◌∙◌}
 use Rattle.dm_base.specs.declared.event.Event.{Event}
 use Rattle.dm_base.specs.declared.event.Event.TheVariants.{Sys, Pre, Post}
 use Rattle.dm_base.specs.Trace.{erase}
@@ -10,7 +10,10 @@ use Rattle.c_shapes.specs.CallGraph.{marked}
 use Rattle.c_shapes.specs.Words.{brackets, no_brackets}
 use Rattle.c_meaning.specs.Runs.{no_marks}
 use Rattle.c_meaning.specs.WithoutNullCalls.{MakesNoNullCall}
-use Rattle.alarm_laws.specs.MarkedRuns.{null_calls_of}
+use Rattle.c_meaning.specs.NullCalls.{AreNullCalls}
+use Rattle.c_meaning.proofs.ErasedParts.{null_calls_change_nothing}
+use Rattle.c_meaning.proofs.Plain.{run_plain}
+use Rattle.alarm_laws.specs.MarkedRuns.{null_calls_of, MarkedRunsDifferInNullCalls, ErasedMarkedRunsAreRuns}
 use Rattle.alarm_laws.proofs.Says.{told}
 use Rattle.alarm_laws.proofs.Guards.{IsTied}
 use Rattle.alarm_laws.proofs.NullFree.{IsOther, calls_others}
@@ -59,3 +62,18 @@ plain_tied p = record {
   null_pre = λ s f k e site. refl;
   null_post = λ s f k e site. refl;
 }
+
+-- marks are null calls
+are_null_calls : (p : Program) → AreNullCalls (null_calls_of p)
+are_null_calls p s = by (marked p s)
+  where
+    by : (b : Bool) → (erase ((marks_if s b).0) ≡ []) × (erase ((marks_if s b).1) ≡ [])
+    by true = (refl, refl)
+    by false = (refl, refl)
+
+pub marked_runs_differ : MarkedRunsDifferInNullCalls
+marked_runs_differ p records turns = null_calls_change_nothing p (null_calls_of p) (are_null_calls p) records turns
+
+pub erased_marked_runs : ErasedMarkedRunsAreRuns
+erased_marked_runs p free records turns =
+    (marked_runs_differ p records turns).system_calls ∙ run_plain p free records turns

@@ -16,8 +16,7 @@ use Rattle.c_meaning.specs.Results.{State, Exit, remembered}
 use Rattle.c_meaning.specs.Runs.{world, no_marks, run}
 use Rattle.c_meaning.specs.WithoutNullCalls.{MakesNoNullCall}
 use Rattle.alarm_laws.specs.MarkedRuns.{null_calls_of, marked_run}
-use Rattle.alarm_laws.specs.NoFalseAlarm.{CallsByName, RunsAreWords, MarkedRunsAreWords, NamedCallsRaiseNoAlarm, MarkedNamedCallsRaiseNoAlarm, RunsRaiseNoAlarm, MarkedRunsRaiseNoAlarm}
-use Rattle.alarm_laws.proofs.Says.{Gives, gives_any}
+use Rattle.alarm_laws.specs.NoFalseAlarm.{RunsAreWords, MarkedRunsAreWords, RunsRaiseNoAlarm, MarkedRunsRaiseNoAlarm}
 use Rattle.alarm_laws.proofs.Guards.{IsGuarded}
 use Rattle.alarm_laws.proofs.Marking.{every, system_calls, told_every, told_system_calls, marked_tied, plain_tied}
 use Rattle.alarm_laws.proofs.Programs.{run_says}
@@ -32,28 +31,6 @@ guarded_runs p n right Good Passed guard records turns =
 pub guarded_marked_runs : (p : Program) (n : ℕ) (right : IsProgram p n) → MakesNoNullCall p → (Good : Frame → State → Type 0) (Passed : CTypes → List Value → State → Type 0) → IsGuarded p (null_calls_of p) Good Passed → MarkedRunsAreWords p
 guarded_marked_runs p n right free Good Passed guard records turns =
     subst (λ t. Words brackets (shapes_of p) t) (told_every (marked_run p records turns).trace) (run_says p n right (null_calls_of p) brackets every (marked_tied p free) Good Passed guard records turns)
-
--- nothing is asked of values where no call goes through a pointer
-by_name : (p : Program) (marks : Marks) → CallsByName p → IsGuarded p marks (λ fr st. Unit {0}) (λ ts vs st. Unit {0})
-by_name p marks named = record {
-  value = λ k fr wanted e st h l g. gives_any {A = Value} (λ v st. Unit {0}) (eval p (world p marks k) marks fr wanted e st) (λ v st. tt);
-  place_kept = λ k fr wanted e st h l g. gives_any {A = Value} (λ v st. Unit {0}) (eval p (world p marks k) marks fr wanted e st) (λ v st. tt);
-  designator = λ k fr site a r ts st e h l c g. absurd (named site (type_of a) c);
-  arguments_kept = λ k fr ts es st h l g. gives_any {A = List Value} (λ vs st. Unit {0}) (eval_all p (world p marks k) marks fr es st) (λ vs st. tt);
-  entering = λ f g r ts vs st k is type h. tt;
-  fresh_kept = λ fr x t st e g. tt;
-  stored = λ k fr x cell t e st is type h l g. gives_any {A = Value} _ (eval p (world p marks k) marks fr _ e st) (λ v u. gives_any {A = Value} (λ y z. Unit {0}) _ (λ y z. tt));
-  statement = λ k fr r b c s st h l g. gives_any {A = Exit} (λ x st. Unit {0}) (exec p (world p marks k) marks fr s st) (λ x st. tt);
-  turn = λ fr st k g. tt;
-  begins = λ records turns. tt;
-}
-
-pub named_calls : NamedCallsRaiseNoAlarm
-named_calls p n right named = guarded_runs p n right (λ fr st. Unit {0}) (λ ts vs st. Unit {0}) (by_name p no_marks named)
-
-pub marked_named_calls : MarkedNamedCallsRaiseNoAlarm
-marked_named_calls p n right named free =
-    guarded_marked_runs p n right free (λ fr st. Unit {0}) (λ ts vs st. Unit {0}) (by_name p (null_calls_of p) named)
 
 pub runs_raise_none : RunsRaiseNoAlarm
 runs_raise_none p n right members =

@@ -1,18 +1,13 @@
 -- No false alarm: what a well-typed program does is in its languages, however the run ends (Wagner and Dean 2001).
-use Rattle.std.specs.Prelude.{ℕ, List, Contains}
+use Rattle.std.specs.Prelude.{ℕ, List}
 use Rattle.sys_table.specs.declared.sys_result.SysResult.{SysResult}
-use Rattle.c_tree.specs.Tree.{CType, Program}
+use Rattle.c_tree.specs.Tree.{Program}
 use Rattle.c_tree.specs.Program.{IsProgram}
-use Rattle.c_shapes.specs.Mentions.{Calls, Through, mentions_of_program}
 use Rattle.c_shapes.specs.ProgramLanguages.{Dyck, Stack, Callgraph}
 use Rattle.c_meaning.specs.Runs.{run}
 use Rattle.c_meaning.specs.WithoutNullCalls.{MakesNoNullCall}
 use Rattle.typed_meaning.specs.Laws.{HaveMembers}
 use Rattle.alarm_laws.specs.MarkedRuns.{marked_run}
-
--- each call of the program names its function
-abbrev pub CallsByName : Program → Type 0
-CallsByName p = (s : ℕ) (t : CType) → Contains (mentions_of_program p) (Calls s (Through t)) → ⊥
 
 -- the trace of each run of the program is a word of its stack language and of its callgraph language
 abbrev pub RunsAreWords : Program → Type 0
@@ -22,15 +17,6 @@ RunsAreWords p =
 -- and that of each run with null calls round the calls at marked sites is a word of its Dyck language
 abbrev pub MarkedRunsAreWords : Program → Type 0
 MarkedRunsAreWords p = (records : List SysResult) (turns : ℕ) → Dyck p (marked_run p records turns).trace
-
--- for programs that call functions by their names alone
-abbrev pub NamedCallsRaiseNoAlarm : Type 0
-NamedCallsRaiseNoAlarm = (p : Program) (n : ℕ) → IsProgram p n → CallsByName p → RunsAreWords p
-
--- for such programs that make no null calls themselves
-abbrev pub MarkedNamedCallsRaiseNoAlarm : Type 0
-MarkedNamedCallsRaiseNoAlarm =
-    (p : Program) (n : ℕ) → IsProgram p n → CallsByName p → MakesNoNullCall p → MarkedRunsAreWords p
 
 -- for each well-typed program
 abbrev pub RunsRaiseNoAlarm : Type 0

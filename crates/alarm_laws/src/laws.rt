@@ -1,13 +1,13 @@
+ghost use Rattle.alarm_laws.specs.MarkedRuns.{ErasedMarkedRunsAreRuns, MarkedRunsDifferInNullCalls};
 ghost use Rattle.alarm_laws.specs.Monitors.{MonitorsAcceptMarkedRuns, MonitorsAcceptRuns};
-ghost use Rattle.alarm_laws.specs.NoFalseAlarm.{MarkedNamedCallsRaiseNoAlarm, MarkedRunsRaiseNoAlarm, NamedCallsRaiseNoAlarm, RunsRaiseNoAlarm};
+ghost use Rattle.alarm_laws.specs.NoFalseAlarm.{MarkedRunsRaiseNoAlarm, RunsRaiseNoAlarm};
 
-/// No false alarm, for a well-typed program that calls functions by their names alone: the trace of each of its runs is
-/// in its stack and in its callgraph language, and where it makes no null calls itself, the trace of each run with null
-/// calls round its marked calls is in its Dyck language. This holds for all recorded results and bounds of turns, also
-/// where a run stops. The function does nothing.
-pub fn named_calls_raise_no_alarm()
-    ensures runs { NamedCallsRaiseNoAlarm }
-    ensures marked_runs { MarkedNamedCallsRaiseNoAlarm }
+/// A run with null calls round the calls at marked sites ends as the run of the program does, makes the same system
+/// calls with the same results and writes the same bytes; and where the program makes no null calls itself, its trace
+/// without null calls is the trace of the run. The function does nothing.
+pub fn marked_runs_are_runs()
+    ensures differ { MarkedRunsDifferInNullCalls }
+    ensures erased { ErasedMarkedRunsAreRuns }
 {}
 
 /// No false alarm: the trace of each run of a well-typed program, for all recorded results and bounds of turns, is in the

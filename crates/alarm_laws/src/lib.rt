@@ -3,4 +3,4 @@
 
 mod laws;
 
-pub use laws::{monitors_accept_runs, named_calls_raise_no_alarm, runs_raise_no_alarm};
+pub use laws::{marked_runs_are_runs, monitors_accept_runs, runs_raise_no_alarm};
