@@ -1,5 +1,5 @@
 -- What calls do, beside the shapes of calls.
-use Rattle.std.proofs.Common.{◌≡◌, ◌≢◌, ◌⊎◌, inl, inr, ℕ, zero, suc, ◌+◌, ◌-◌, ◌<◌, ◌≤◌, Bool, true, false, ◌&&◌, nat_eq, nat_lt, if◌then◌else◌, List, [], ◌∷◌, ◌++◌, map, length, Contains, ℤ, pos, Option, Some, None, slice_get, refl, ap, sym, ◌∙◌, subst, append-nil, arith}
+use Rattle.std.proofs.Common.{◌≡◌, ℕ, ◌+◌, ◌-◌, ◌≤◌, Bool, true, false, ◌&&◌, nat_eq, nat_lt, if◌then◌else◌, List, [], ◌∷◌, ◌++◌, map, Contains, ℤ, pos, Option, Some, None, slice_get, refl, ap, sym, ◌∙◌, subst, arith}
 use Rattle.std.proofs.lemmas.Bool.{false≢true}
 use Rattle.dm_base.specs.declared.event.Arg.{Arg}
 use Rattle.dm_base.specs.declared.event.Arg.TheVariants as args
@@ -19,18 +19,18 @@ use Rattle.c_tree.specs.Typed.{AreArguments}
 use Rattle.dm_base.specs.declared.outcome.Outcome.TheVariants.{Undefined}
 use Rattle.c_values.specs.Answers.{Answer, gives, undefined, U13}
 use Rattle.c_values.specs.Memory.{Objects}
-use Rattle.c_shapes.specs.Shape.{Shape, Skip, Sys as SysShape, Exit, Call, Shapes, shape_of, Leave, goes_on, returns, IsDone}
+use Rattle.c_shapes.specs.Shape.{Shape, Skip, Sys as SysShape, Exit, Call, Shapes, shape_of, Leave, goes_on, IsDone}
 use Rattle.c_shapes.specs.Words.{Whole, Front}
 use Rattle.c_shapes.specs.Words as F
-use Rattle.c_shapes.specs.Mentions.{Callee, Direct, Through, Mention, Calls, mentions_of_program}
+use Rattle.c_shapes.specs.Mentions.{Callee, Direct, Through, Calls, mentions_of_program}
 use Rattle.c_shapes.specs.CallGraph.{callees, candidates, called_where, is_marked, marked, marked_where, reaches}
-use Rattle.c_shapes.specs.ShapeOf.{system_call as system_shape, marked_call, direct_call, shape_of_function, any_call, taken_calls, place_of, candidate_places, shapes_of}
+use Rattle.c_shapes.specs.ShapeOf.{system_call as system_shape, marked_call, direct_call, shape_of_function, place_of, candidate_places, shapes_of}
 use Rattle.c_meaning.specs.Meaning.{Marks, World, bracketed, called, call_undefined, called_through, system_call_alone, null_call}
 use Rattle.c_meaning.specs.Pointers.{callee}
 use Rattle.c_meaning.specs.Results.{State, Result, Go, Stop, after, then_do, answered, remembered}
 use Rattle.c_meaning.specs.SystemCalls.{Request, request, filled_where, result_value, does_answer, with_records, take_record, exit_call, exit_with, system_call}
 use Rattle.sys_table.specs.Table.{result_of}
-use Rattle.alarm_laws.proofs.Lists.{is_first, and_right, below, is_below, not_below, same_number, if_has, in_map, none_passes, one_passes}
+use Rattle.alarm_laws.proofs.Lists.{is_first, below, not_below, same_number, if_has, in_map, none_passes, one_passes}
 use Rattle.alarm_laws.proofs.Sites.{callee_found}
 use Rattle.alarm_laws.proofs.Silent.{IsSilent, whole_quiet, front_quiet, silent_body, system_reaches}
 use Rattle.alarm_laws.proofs.Says.{told, split, Tells, Straight, after_none, Says}
@@ -175,8 +175,8 @@ module _ (p : Program) (n : ℕ) (right : IsProgram p n) (marks : Marks) (m : F.
             plain_says s _ (call_undefined (f - defined p) vs st) (mark_at s (Direct f) k ∙ ap (λ b. b && reaches p f) e) (undefined_says s f t ts vars es vs st k type args told_of e)
 
     -- a call through a pointer
-    abbrev Through_ : List Value → Value → State → Result Value
-    Through_ vs v st = then_do (answered (callee v) st) (λ f st. called_through p w wanted f vs st)
+    abbrev ThroughCall : List Value → Value → State → Result Value
+    ThroughCall vs v st = then_do (answered (callee v) st) (λ f st. called_through p w wanted f vs st)
 
     module _ (s : ℕ) (t : CType) (vs : List Value) (st : State) (k : Contains (mentions_of_program p) (Calls s (Through (pointer t)))) (enters : (f : ℕ) (g : Function) → slice_get p.functions f ≡ Some g → g.ctype ≡ t → Entered (shape_of_function p g) (w.enter wanted f vs st)) where
       -- what a candidate does
@@ -219,11 +219,11 @@ module _ (p : Program) (n : ℕ) (right : IsProgram p n) (marks : Marks) (m : F.
           after_none keep {A = Value} Straight (Whole env m Skip) (Front env m Skip) (called_through p w wanted f vs st) (hushed_says f (among f e) (none_passes (λ f. reaches p f) (callees p (Through (pointer t))) mark f (among f e)))
       hushed_through v (undefined kind) e among mark = λ u. F.nothing
 
-      pub through_says : (v : Value) → ((f : ℕ) → callee v ≡ gives f → Contains (callees p (Through (pointer t))) f) → Says env m keep {A = Value} Straight (marked_call p s (Through (pointer t))) (bracketed marks s (Through_ vs v st))
+      pub through_says : (v : Value) → ((f : ℕ) → callee v ≡ gives f → Contains (callees p (Through (pointer t))) f) → Says env m keep {A = Value} Straight (marked_call p s (Through (pointer t))) (bracketed marks s (ThroughCall vs v st))
       through_says v among =
-          if_has (λ S. Says env m keep {A = Value} Straight S (bracketed marks s (Through_ vs v st))) (is_marked p (Through (pointer t))) (Call s) Skip (λ mark. marked_through v (callee v) refl among mark) (λ mark. plain_says s Skip (Through_ vs v st) (mark_at s (Through (pointer t)) k ∙ mark) (hushed_through v (callee v) refl among mark))
+          if_has (λ S. Says env m keep {A = Value} Straight S (bracketed marks s (ThroughCall vs v st))) (is_marked p (Through (pointer t))) (Call s) Skip (λ mark. marked_through v (callee v) refl among mark) (λ mark. plain_says s Skip (ThroughCall vs v st) (mark_at s (Through (pointer t)) k ∙ mark) (hushed_through v (callee v) refl among mark))
 
     -- the same for a type that is equal
-    pub through_at : (ty : CType) (s : ℕ) (t : CType) (vs : List Value) (st : State) (v : Value) → ty ≡ pointer t → Contains (mentions_of_program p) (Calls s (Through ty)) → ((f : ℕ) (g : Function) → slice_get p.functions f ≡ Some g → g.ctype ≡ t → Entered (shape_of_function p g) (w.enter wanted f vs st)) → ((f : ℕ) → callee v ≡ gives f → Contains (callees p (Through ty)) f) → Says env m keep {A = Value} Straight (marked_call p s (Through ty)) (bracketed marks s (Through_ vs v st))
+    pub through_at : (ty : CType) (s : ℕ) (t : CType) (vs : List Value) (st : State) (v : Value) → ty ≡ pointer t → Contains (mentions_of_program p) (Calls s (Through ty)) → ((f : ℕ) (g : Function) → slice_get p.functions f ≡ Some g → g.ctype ≡ t → Entered (shape_of_function p g) (w.enter wanted f vs st)) → ((f : ℕ) → callee v ≡ gives f → Contains (callees p (Through ty)) f) → Says env m keep {A = Value} Straight (marked_call p s (Through ty)) (bracketed marks s (ThroughCall vs v st))
     through_at ty s t vs st v e =
-        subst (λ ty. Contains (mentions_of_program p) (Calls s (Through ty)) → ((f : ℕ) (g : Function) → slice_get p.functions f ≡ Some g → g.ctype ≡ t → Entered (shape_of_function p g) (w.enter wanted f vs st)) → ((f : ℕ) → callee v ≡ gives f → Contains (callees p (Through ty)) f) → Says env m keep {A = Value} Straight (marked_call p s (Through ty)) (bracketed marks s (Through_ vs v st))) (sym e) (λ k enters among. through_says s t vs st k enters v among)
+        subst (λ ty. Contains (mentions_of_program p) (Calls s (Through ty)) → ((f : ℕ) (g : Function) → slice_get p.functions f ≡ Some g → g.ctype ≡ t → Entered (shape_of_function p g) (w.enter wanted f vs st)) → ((f : ℕ) → callee v ≡ gives f → Contains (callees p (Through ty)) f) → Says env m keep {A = Value} Straight (marked_call p s (Through ty)) (bracketed marks s (ThroughCall vs v st))) (sym e) (λ k enters among. through_says s t vs st k enters v among)

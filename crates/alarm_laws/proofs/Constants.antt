@@ -1,9 +1,8 @@
 -- A constant argument has in each run the value that it has in the program, and so an event fits its pattern (C99 6.6).
-use Rattle.std.proofs.Common.{◌≡◌, ◌⊎◌, inl, inr, ℕ, zero, suc, ◌+◌, ◌-◌, ◌<◌, ◌≤◌, Bool, true, false, not, ◌&&◌, nat_lt, if◌then◌else◌, List, [], ◌∷◌, ◌++◌, map, length, ℤ, pos, negsuc, ◌-ℤ◌, Option, Some, None, slice_get, slice_index_or, refl, ap, sym, ◌∙◌, subst, arith}
+use Rattle.std.proofs.Common.{◌≡◌, ℕ, zero, suc, ◌<◌, Bool, true, false, not, ◌&&◌, List, [], ◌∷◌, ℤ, pos, negsuc, ◌-ℤ◌, Option, Some, None, slice_get, slice_index_or, refl, ap, sym, ◌∙◌, subst, arith}
 use Rattle.std.specs.Int.{w32, int_wrap}
 use Rattle.std.specs.Ordering.{int_eq}
 use Rattle.std.specs.Prelude.{drop, neg_ℤ, FitsSigned}
-use Rattle.std.proofs.lemmas.Bool.{false≢true}
 use Rattle.std.proofs.lemmas.Bool.Decides.{Decides-int_eq}
 use Rattle.std.proofs.lemmas.Int.{ints, int_wrap_fits}
 use Rattle.dm_base.specs.declared.event.Arg.{Arg}
@@ -12,35 +11,33 @@ use Rattle.dm_base.specs.Fits.{IsNumber, FitArguments}
 use Rattle.sys_table.specs.declared.kinds.ArgKind.{ArgKind}
 use Rattle.sys_table.specs.declared.kinds.ArgKind.TheVariants.{Signed, Unsigned, Bytes}
 use Rattle.sys_table.specs.declared.kinds.ResultKind.TheVariants.{Void}
-use Rattle.sys_table.specs.Table.{Row, row, table, row_of, recorded_of}
+use Rattle.sys_table.specs.Table.{Row, row, table, recorded_of}
 use Rattle.c_tree.specs.declared.value.IntType.{IntType}
 use Rattle.c_tree.specs.declared.value.IntType.TheVariants as i
 use Rattle.c_tree.specs.declared.value.UnOp.{UnOp}
 use Rattle.c_tree.specs.declared.value.UnOp.TheVariants.{Minus, Complement, Not}
-use Rattle.c_tree.specs.declared.value.BinOp.{BinOp}
 use Rattle.c_tree.specs.declared.value.Pointer.{Pointer}
 use Rattle.c_tree.specs.declared.value.Value.{Value}
 use Rattle.c_tree.specs.declared.value.Value.TheVariants.{Indeterminate, Int, Uint, Char, Uchar, Null, Func, At}
 use Rattle.c_tree.specs.Tree.{CType, void, integer, pointer, array, struct, function, CTypes, no_types, more_types, Program, type_of}
-use Rattle.c_tree.specs.Tree.{Expr, constant, function_name, string_place, variable, dereference, load, address_of, decay, discard, field, unary_operation, conversion, arithmetic, comparison, pointer_add, pointer_diff, and, or, assign, update, conditional, comma, call, call_through}
+use Rattle.c_tree.specs.Tree.{Expr, constant, unary_operation, conversion, arithmetic}
 use Rattle.c_tree.specs.Tree.{Exprs, no_exprs, more_exprs}
 use Rattle.c_tree.specs.Functions.{int, unsigned_int, char_pointer, sys_types}
-use Rattle.c_tree.specs.Operands.{FitsUnary, FitsArithmetic, IsIntegerType, IsPromoted}
+use Rattle.c_tree.specs.Operands.{FitsUnary, IsPromoted}
 use Rattle.c_tree.specs.Operators.{Answer, gives, undefined, and_then, truth, convert, unary, binary, fits_int, fitting, settle, low_bits}
 use Rattle.c_tree.specs.OperatorTypes.{IsAnswer, IsGiven}
 use Rattle.c_tree.specs.Kinds.{IsConstant}
 use Rattle.c_tree.specs.Typed.{IsValue, AreArguments}
-use Rattle.c_tree.specs.Constants.{given, given_of, given_of_two, constant_value, number_in, number_as, entry, entries, recorded_arguments, pattern_of}
+use Rattle.c_tree.specs.Constants.{given, given_of, given_of_two, constant_value, number_in, entry, entries, recorded_arguments, pattern_of}
 use Rattle.c_tree.proofs.OperatorLemmas.{converted, arithmetic_fits, below_32}
 use Rattle.c_shapes.specs.CallGraph.{same_type}
 use Rattle.c_shapes.proofs.SameTypes.{types_tell}
 use Rattle.c_values.specs.Memory.{Objects}
-use Rattle.c_meaning.specs.Meaning.{Marks, Frame, World, eval, eval_all, operated}
-use Rattle.c_meaning.specs.Pointers.{truth_value, is_not_zero, test, number}
-use Rattle.c_meaning.specs.Results.{State, Result, Go, Stop, after, then_do, answered}
-use Rattle.c_meaning.specs.SystemCalls.{Request, request_of, argument, arguments, string, room_for, bytes_of_buffer, read_request, write_request, request, size}
+use Rattle.c_meaning.specs.Meaning.{Marks, Frame, World, eval, operated}
+use Rattle.c_meaning.specs.Pointers.{truth_value, is_not_zero, number}
+use Rattle.c_meaning.specs.Results.{State, Go, after, then_do, answered}
+use Rattle.c_meaning.specs.SystemCalls.{Request, argument, arguments, room_for, bytes_of_buffer, read_request, write_request, request, size}
 use Rattle.alarm_laws.proofs.Lists.{and_left, and_right, same_some, no_some}
-use Rattle.alarm_laws.proofs.Says.{Gives}
 
 -- what a step gives is so
 abbrev IfGives : {A : Type 0} → (A → Type 0) → Answer A → Type 0

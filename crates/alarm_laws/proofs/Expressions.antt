@@ -1,5 +1,5 @@
 -- What expressions do is said by their shapes: one line for each form.
-use Rattle.std.proofs.Common.{◌≡◌, ℕ, Bool, true, false, List, [], ◌∷◌, ◌++◌, Contains, Option, Some, None, slice_get, refl, ap, sym, ◌∙◌, subst}
+use Rattle.std.proofs.Common.{◌≡◌, ℕ, Bool, true, false, List, [], ◌∷◌, ◌++◌, Contains, Option, Some, None, slice_get, refl, sym, ◌∙◌, subst}
 use Rattle.std.proofs.lemmas.List.Elements.{Contains-append_left, Contains-append_right}
 use Rattle.dm_base.specs.declared.event.Event.{Event}
 use Rattle.c_tree.specs.declared.value.Value.{Value}
@@ -12,19 +12,19 @@ use Rattle.c_tree.specs.Operators.{convert, binary}
 use Rattle.c_tree.specs.Program.{IsProgram}
 use Rattle.c_tree.specs.Typed.{IsValue, IsPlace, AreMembers, AreArguments, IsTest, IsStep, IsStmt}
 use Rattle.c_values.specs.Answers.{Answer, gives}
-use Rattle.c_shapes.specs.Shape.{Shape, Skip, Loop, Parts, End, Part, Shapes, Leave, goes_on}
+use Rattle.c_shapes.specs.Shape.{Shape, Skip, Loop, Parts, End, Part, Shapes, Leave}
 use Rattle.c_shapes.specs.Words.{Whole, Falls, Front}
 use Rattle.c_shapes.specs.Words as F
 use Rattle.c_shapes.specs.Mentions.{Mention, Direct, Through, Calls, mentions, mentions_of_all, mentions_of_maybe, mentions_of_stmt, mentions_of_program}
 use Rattle.c_shapes.specs.CallGraph.{callees}
-use Rattle.c_shapes.specs.ShapeOf.{seq, seq_two, alt, direct_call, marked_call, shape, shapes_before, shape_of_maybe, shape_of_stmt, shape_of_function, shapes_of}
-use Rattle.c_meaning.specs.Meaning.{Marks, Frame, Loop as LoopOf, World, either, tested, wants, eval, eval_each, eval_all, behind_of, decayed, operated, comparing, moving, updated}
+use Rattle.c_shapes.specs.ShapeOf.{seq_two, alt, direct_call, marked_call, shape, shapes_before, shape_of_maybe, shape_of_stmt, shape_of_function, shapes_of}
+use Rattle.c_meaning.specs.Meaning.{Marks, Frame, Loop as LoopOf, either, tested, wants, eval, eval_each, eval_all, behind_of, decayed, operated, comparing, moving, updated}
 use Rattle.c_meaning.specs.Pointers.{callee, truth_value, load_place, store_place, member, difference}
-use Rattle.c_meaning.specs.Results.{State, Result, Go, Stop, after, then_do, answered, remembered, Exit}
+use Rattle.c_meaning.specs.Results.{State, Result, Go, Stop, then_do, answered, remembered, Exit}
 use Rattle.c_meaning.specs.Runs.{world}
 use Rattle.alarm_laws.proofs.Lists.{is_first, is_later, same_some, no_some}
 use Rattle.alarm_laws.proofs.Words.{Stands, here, inside, beyond}
-use Rattle.alarm_laws.proofs.Says.{told, Gives, gives_any, gives_both, then_gives, tested_gives, Tells, left_by, Straight, after_tells, answered_then, remembered_tells, either_tells, then_left, Says, SaysAll, seq_says, left_says, right_says, part_alone, part_then, part_last, then_quiet, none_quiet, tested_says}
+use Rattle.alarm_laws.proofs.Says.{Gives, gives_any, gives_both, then_gives, tested_gives, Tells, left_by, Straight, after_tells, answered_then, remembered_tells, either_tells, then_left, Says, SaysAll, seq_says, left_says, right_says, part_alone, part_then, part_last, then_quiet, none_quiet, tested_says}
 use Rattle.alarm_laws.proofs.Constants.{AreConstants, constant_is}
 use Rattle.alarm_laws.proofs.Guards.{Mentioned, IsGuarded, IsTied}
 use Rattle.alarm_laws.proofs.Calls.{Entered, called_says, through_at}

@@ -1,5 +1,5 @@
 -- What loops and switches do, beside their shapes.
-use Rattle.std.proofs.Common.{◌≡◌, ℕ, zero, suc, ◌<◌, ◌≤◌, Bool, true, false, ◌||◌, if◌then◌else◌, List, [], ◌∷◌, ◌++◌, Option, Some, None, sym, ap, ◌∙◌, subst, refl, append-nil, arith}
+use Rattle.std.proofs.Common.{◌≡◌, ℕ, suc, ◌<◌, Bool, true, false, ◌||◌, if◌then◌else◌, List, [], ◌∷◌, ◌++◌, Option, Some, None, sym, ap, ◌∙◌, subst, refl, append-nil, arith}
 use Rattle.std.specs.List.{list_any}
 use Rattle.std.specs.Option.{option_map}
 use Rattle.std.proofs.lemmas.Bool.{false≢true}
@@ -9,13 +9,13 @@ use Rattle.c_tree.specs.declared.tree.TLabel.{TLabel}
 use Rattle.c_tree.specs.declared.tree.TLabel.TheVariants.{Case, Default}
 use Rattle.c_tree.specs.Tree.{Groups, no_groups, more_groups}
 use Rattle.c_meaning.specs.Meaning.{either, is_case, is_default, group_with, count_groups, or_else, selected}
-use Rattle.c_meaning.specs.Results.{State, Result, Go, Stop, after, then_do, Exit, on, broken, continued, returned, on_round, out_of_switch}
-use Rattle.c_shapes.specs.Shape.{Shape, Skip, Loop, Do, Cases, Parts, Shapes, Leave, goes_on, breaks, continues, returns, IsNext}
+use Rattle.c_meaning.specs.Results.{State, Result, Go, Stop, then_do, Exit, on, broken, continued, returned, on_round}
+use Rattle.c_shapes.specs.Shape.{Shape, Skip, Loop, Do, Shapes, Leave, goes_on, breaks, continues, returns, IsNext}
 use Rattle.c_shapes.specs.Words.{Marks, Whole, Picks, Front, FrontPicks}
 use Rattle.c_shapes.specs.Words as F
 use Rattle.c_shapes.specs.ShapeOf.{has_default_label, has_default}
-use Rattle.alarm_laws.proofs.Words.{loop_whole, loop_front, do_whole, do_front, out_of, cases_whole}
-use Rattle.alarm_laws.proofs.Says.{told, Gives, Tells, left_by, Straight, after_tells, change_tells, Says}
+use Rattle.alarm_laws.proofs.Words.{loop_whole, loop_front, do_whole, do_front}
+use Rattle.alarm_laws.proofs.Says.{told, Gives, Tells, left_by, Straight, after_tells, Says}
 
 module _ (env : Shapes) (m : Marks) (keep : Event → List Event) where
   module _ (C B P : Shape) where

@@ -4,7 +4,7 @@ use Rattle.dm_base.specs.declared.event.Event.TheVariants.{Pre, Post}
 use Rattle.dm_base.specs.declared.outcome.Outcome.TheVariants.{Turns, Results}
 use Rattle.sys_table.specs.Table.{table}
 use Rattle.c_tree.specs.Functions.{sys_types}
-use Rattle.c_shapes.proofs.ProgramTrials.{source_b, source_d, indirect}
+use Rattle.c_shapes.proofs.ProgramTrials.{source_b, indirect}
 use Rattle.c_meaning.proofs.RunTrials.{the_record, the_call, ended}
 use Rattle.alarm_laws.specs.MarkedRuns.{marked_run}
 

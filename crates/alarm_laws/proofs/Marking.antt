@@ -1,11 +1,10 @@
 -- The marks of a run beside those of the words: with null calls at marked sites, and without.
-use Rattle.std.proofs.Common.{◌≡◌, ℕ, ◌+◌, Bool, true, false, if◌then◌else◌, List, [], ◌∷◌, ◌++◌, Contains, refl, ap, ◌∙◌}
+use Rattle.std.proofs.Common.{◌≡◌, ℕ, Bool, true, false, if◌then◌else◌, List, [], ◌∷◌, refl, ap, ◌∙◌}
 use Rattle.dm_base.specs.declared.event.Event.{Event}
 use Rattle.dm_base.specs.declared.event.Event.TheVariants.{Sys, Pre, Post}
 use Rattle.dm_base.specs.Trace.{erase}
 use Rattle.c_tree.specs.Tree.{Program}
-use Rattle.c_tree.specs.Functions.{defined}
-use Rattle.c_shapes.specs.Mentions.{Mention, Direct, Calls, mentions_of_program}
+use Rattle.c_shapes.specs.Mentions.{Direct, Calls}
 use Rattle.c_shapes.specs.CallGraph.{marked}
 use Rattle.c_shapes.specs.Words.{brackets, no_brackets}
 use Rattle.c_meaning.specs.Runs.{no_marks}
@@ -16,7 +15,7 @@ use Rattle.c_meaning.proofs.Plain.{run_plain}
 use Rattle.alarm_laws.specs.MarkedRuns.{null_calls_of, MarkedRunsDifferInNullCalls, ErasedMarkedRunsAreRuns}
 use Rattle.alarm_laws.proofs.Says.{told}
 use Rattle.alarm_laws.proofs.Guards.{IsTied}
-use Rattle.alarm_laws.proofs.NullFree.{IsOther, calls_others}
+use Rattle.alarm_laws.proofs.NullFree.{calls_others}
 
 -- every event is read
 abbrev pub every : Event → List Event

@@ -1,19 +1,17 @@
 -- The laws, from what is kept by runs.
-use Rattle.std.proofs.Common.{◌≡◌, ℕ, List, subst}
-use Rattle.dm_base.specs.declared.event.Event.{Event}
+use Rattle.std.proofs.Common.{ℕ, List, subst}
 use Rattle.dm_base.specs.Trace.{erase}
-use Rattle.sys_table.specs.declared.sys_result.SysResult.{SysResult}
 use Rattle.c_tree.specs.declared.value.Value.{Value}
-use Rattle.c_tree.specs.Tree.{CTypes, Program, type_of}
+use Rattle.c_tree.specs.Tree.{CTypes, Program}
 use Rattle.c_tree.specs.Program.{IsProgram}
 use Rattle.c_shapes.specs.Languages.{Words}
-use Rattle.c_shapes.specs.ProgramLanguages.{Dyck, Stack, Callgraph}
+use Rattle.c_shapes.specs.ProgramLanguages.{Stack}
 use Rattle.c_shapes.specs.ShapeOf.{shapes_of}
 use Rattle.c_shapes.specs.Words.{brackets, no_brackets}
 use Rattle.c_shapes.proofs.Walking.{walked}
-use Rattle.c_meaning.specs.Meaning.{Marks, Frame, eval, eval_all, exec}
-use Rattle.c_meaning.specs.Results.{State, Exit, remembered}
-use Rattle.c_meaning.specs.Runs.{world, no_marks, run}
+use Rattle.c_meaning.specs.Meaning.{Frame}
+use Rattle.c_meaning.specs.Results.{State}
+use Rattle.c_meaning.specs.Runs.{no_marks, run}
 use Rattle.c_meaning.specs.WithoutNullCalls.{MakesNoNullCall}
 use Rattle.alarm_laws.specs.MarkedRuns.{null_calls_of, marked_run}
 use Rattle.alarm_laws.specs.NoFalseAlarm.{RunsAreWords, MarkedRunsAreWords, RunsRaiseNoAlarm, MarkedRunsRaiseNoAlarm}

@@ -1,17 +1,17 @@
 -- The functions of a program's shapes, by their places.
-use Rattle.std.proofs.Common.{◌≡◌, ◌⊎◌, inl, inr, ℕ, zero, suc, ◌+◌, ◌-◌, ◌<◌, ◌≤◌, Bool, true, false, ◌&&◌, nat_lt, if◌then◌else◌, List, [], ◌∷◌, ◌++◌, map, filter, length, Contains, Option, Some, None, slice_get, slice_index_or, refl, ap, sym, ◌∙◌, subst, arith}
+use Rattle.std.proofs.Common.{◌≡◌, inl, inr, ℕ, zero, suc, ◌+◌, ◌-◌, ◌<◌, ◌≤◌, Bool, true, false, ◌&&◌, nat_lt, if◌then◌else◌, List, [], ◌∷◌, ◌++◌, map, filter, length, Contains, Option, Some, None, slice_get, slice_index_or, refl, ap, sym, ◌∙◌, arith}
 use Rattle.std.specs.List.{range_with_len}
 use Rattle.std.proofs.Common.{length-append}
 use Rattle.std.proofs.lemmas.Bool.{false≢true}
 use Rattle.std.proofs.lemmas.Option.{slice_get_within}
 use Rattle.c_tree.specs.Tree.{CType, pointer, Function, Program}
-use Rattle.c_tree.specs.Functions.{defined, type_of_defined, value_types, called_types, null_types, value_type, called_type, sys_types}
+use Rattle.c_tree.specs.Functions.{defined, type_of_defined, value_types, null_types, value_type, called_type, sys_types}
 use Rattle.c_shapes.specs.Shape.{Shape, Skip, shape_of}
 use Rattle.c_shapes.specs.Mentions.{Through}
 use Rattle.c_shapes.specs.CallGraph.{is_taken, is_typed, functions_of, callees}
 use Rattle.c_shapes.specs.ShapeOf.{shape_of_function, any_call, taken_calls, shapes_of_functions, place_of, shapes_of}
 use Rattle.c_shapes.proofs.SameTypes.{types_tell}
-use Rattle.alarm_laws.proofs.Lists.{cases, none_in, and_left, and_right, below, is_below, not_below, isnt_below, from_filter, in_filter, from_range, in_range, same_some, no_some}
+use Rattle.alarm_laws.proofs.Lists.{cases, none_in, and_left, and_right, is_below, isnt_below, from_filter, in_filter, from_range, in_range, same_some, no_some}
 
 length_map : {X Y : Type 0} (f : X → Y) (xs : List X) → length (map f xs) ≡ length xs
 length_map f [] = refl

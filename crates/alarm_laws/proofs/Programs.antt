@@ -1,28 +1,28 @@
 -- What a whole run does is said by the shape of main: by recursion on the turns.
-use Rattle.std.proofs.Common.{◌≡◌, ℕ, zero, suc, Bool, true, false, nat_eq, List, [], ◌∷◌, ◌++◌, flat_map, Contains, Option, Some, None, slice_get, refl, ap, sym, ◌∙◌, subst, append-nil}
+use Rattle.std.proofs.Common.{◌≡◌, ℕ, zero, suc, Bool, true, false, nat_eq, List, [], ◌++◌, flat_map, Some, None, slice_get, sym, subst, append-nil}
 use Rattle.std.proofs.lemmas.List.Elements.{Contains-append_left, All-contains}
 use Rattle.dm_base.specs.declared.event.Event.{Event}
-use Rattle.dm_base.specs.declared.outcome.Outcome.TheVariants.{Undefined, Turns}
+use Rattle.dm_base.specs.declared.outcome.Outcome.TheVariants.{Undefined}
 use Rattle.sys_table.specs.declared.sys_result.SysResult.{SysResult}
 use Rattle.c_tree.specs.declared.value.Value.{Value}
 use Rattle.c_tree.specs.declared.value.Value.TheVariants.{Indeterminate, Int}
-use Rattle.c_tree.specs.Tree.{CType, function, CTypes, no_types, Stmt, Function, Program}
-use Rattle.c_tree.specs.Functions.{int, of_none}
+use Rattle.c_tree.specs.Tree.{CType, function, CTypes, no_types, Function, Program}
+use Rattle.c_tree.specs.Functions.{int}
 use Rattle.c_tree.specs.Program.{IsProgram, IsFunction}
 use Rattle.c_tree.specs.Typed.{IsTest, IsStep, IsStmt}
 use Rattle.std.specs.Prelude.{pos}
 use Rattle.c_values.specs.Answers.{U11, U13}
-use Rattle.c_shapes.specs.Shape.{Shape, Loop, Shapes, shape_of, Leave, goes_on, breaks, continues, returns, IsDone}
+use Rattle.c_shapes.specs.Shape.{Shape, Loop, Shapes, Leave, goes_on, breaks, continues, returns, IsDone}
 use Rattle.c_shapes.specs.Words.{Whole, Front}
 use Rattle.c_shapes.specs.Words as F
 use Rattle.c_shapes.specs.Languages as languages
-use Rattle.c_shapes.specs.Mentions.{Mention, mentions_of_maybe, mentions_of_stmt, mentions_of_function, mentions_of_static, mentions_of_program}
+use Rattle.c_shapes.specs.Mentions.{mentions_of_maybe, mentions_of_stmt, mentions_of_function, mentions_of_static}
 use Rattle.c_shapes.specs.ShapeOf.{shape_of_maybe, shape_of_stmt, shape_of_function, shapes_of}
-use Rattle.c_meaning.specs.Meaning.{Marks, Frame, Loop as LoopOf, World, either, condition, perhaps, exec, without}
-use Rattle.c_meaning.specs.Results.{State, with_memory, Result, Go, Stop, after, then_do, spend_at, Exit, on, broken, continued, returned, on_round}
-use Rattle.c_meaning.specs.Runs.{entered, parameters, without_value, result_of, run_body, enter, loop, world, beginning, Run, ending, run_with}
+use Rattle.c_meaning.specs.Meaning.{Marks, Frame, Loop as LoopOf, condition, perhaps, exec, without}
+use Rattle.c_meaning.specs.Results.{State, with_memory, Result, Go, Stop, after, then_do, Exit, on, broken, continued, returned}
+use Rattle.c_meaning.specs.Runs.{entered, parameters, without_value, result_of, run_body, enter, loop, world, beginning, ending, run_with}
 use Rattle.alarm_laws.proofs.Lists.{got_in, in_flat_map}
-use Rattle.alarm_laws.proofs.Says.{told, Tells, left_by, Straight, spend_tells, Says}
+use Rattle.alarm_laws.proofs.Says.{told, left_by, Straight, spend_tells, Says}
 use Rattle.alarm_laws.proofs.Loops.{round_says}
 use Rattle.alarm_laws.proofs.Places.{shape_at}
 use Rattle.alarm_laws.proofs.Guards.{Mentioned, with_turns, frame_of, IsGuarded, IsTied}

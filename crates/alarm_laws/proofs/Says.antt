@@ -6,13 +6,13 @@ use Rattle.c_values.specs.Answers.{Answer, gives, undefined}
 use Rattle.c_values.specs.Memory.{Objects}
 use Rattle.c_meaning.specs.Meaning.{either, tested}
 use Rattle.c_meaning.specs.Pointers.{test}
-use Rattle.c_meaning.specs.Results.{State, Result, Go, Stop, after, then_do, spend_at, answered, remembered, Exit, on, broken, continued, returned, on_exit, on_round, out_of_switch}
-use Rattle.std.specs.Prelude.{ℕ, zero, suc, Option}
-use Rattle.c_shapes.specs.Shape.{Shape, Skip, Loop, Do, Cases, Parts, End, Part, Shapes, Leave, goes_on, breaks, continues, returns, IsNext}
+use Rattle.c_meaning.specs.Results.{State, Result, Go, Stop, after, then_do, spend_at, answered, remembered, Exit, on, broken, continued, returned, on_exit}
+use Rattle.std.specs.Prelude.{ℕ, zero, suc}
+use Rattle.c_shapes.specs.Shape.{Shape, Parts, End, Part, Shapes, Leave, goes_on, breaks, continues, returns}
 use Rattle.c_shapes.specs.Words.{Marks, Whole, Falls, Picks, Front, FrontPicks}
 use Rattle.c_shapes.specs.Words as F
-use Rattle.c_shapes.specs.ShapeOf.{seq, seq_two, alt}
-use Rattle.alarm_laws.proofs.Words.{Stands, here, inside, beyond, whole_skip, front_skip, one_falls, one_stands, seq_whole, seq_front, left_whole, right_whole, left_front, right_front, loop_whole, loop_front, do_whole, do_front, stands_falls, out_of, cases_whole}
+use Rattle.c_shapes.specs.ShapeOf.{seq, alt}
+use Rattle.alarm_laws.proofs.Words.{Stands, here, inside, beyond, one_falls, one_stands, seq_whole, seq_front, left_whole, right_whole, left_front, right_front}
 
 -- of each event, what a language reads
 abbrev pub told : (Event → List Event) → List Event → List Event

@@ -1,18 +1,18 @@
 -- The call at a site is found in what a program mentions: sites stand once.
-use Rattle.std.proofs.Common.{◌≡◌, ◌≢◌, ◌⊎◌, inl, inr, ℕ, zero, suc, ◌+◌, ◌<◌, ◌≤◌, Bool, true, false, nat_eq, if◌then◌else◌, List, [], ◌∷◌, ◌++◌, flat_map, length, Contains, Option, Some, None, refl, ap, sym, ◌∙◌, subst, append-nil, arith}
+use Rattle.std.proofs.Common.{◌≡◌, inl, inr, ℕ, zero, suc, ◌+◌, nat_eq, if◌then◌else◌, List, [], ◌∷◌, ◌++◌, flat_map, Contains, Option, Some, None, refl, ap, sym, ◌∙◌, subst, append-nil, arith}
 use Rattle.std.specs.Cmp.{nat_eq_equiv}
 use Rattle.std.specs.List.{range_with_len}
 use Rattle.c_tree.specs.declared.value.Value.{Value}
 use Rattle.c_tree.specs.declared.value.Value.TheVariants as v
-use Rattle.c_tree.specs.Tree.{CType, Expr, constant, function_name, string_place, variable, dereference, load, address_of, decay, discard, field, unary_operation, conversion, arithmetic, comparison, pointer_add, pointer_diff, and, or, assign, update, conditional, comma, call, call_through, type_of}
+use Rattle.c_tree.specs.Tree.{Expr, constant, function_name, string_place, variable, dereference, load, address_of, decay, discard, field, unary_operation, conversion, arithmetic, comparison, pointer_add, pointer_diff, and, or, assign, update, conditional, comma, call, call_through, type_of}
 use Rattle.c_tree.specs.Tree.{Exprs, no_exprs, more_exprs, Maybe, absent, there, Inits, no_inits, more_inits}
 use Rattle.c_tree.specs.Tree.{Stmt, block, empty, evaluate, declare, if_else, while_loop, do_loop, for_loop, switch_on, break_off, continue_on, return_void, return_value, Stmts, no_stmts, more_stmts, Groups, no_groups, more_groups}
 use Rattle.c_tree.specs.Tree.{Function, Static, Program}
 use Rattle.c_tree.specs.Program.{IsProgram}
 use Rattle.c_tree.specs.Sites.{sites_of, sites_of_all, sites_of_maybe, sites_of_inits, sites_of_stmt, sites_of_stmts, sites_of_groups, sites_of_function, sites_of_program}
-use Rattle.c_shapes.specs.Mentions.{Callee, Direct, Through, Mention, Named, Calls, mentions, mentions_of_all, mentions_of_maybe, mentions_of_inits, mentions_of_stmt, mentions_of_stmts, mentions_of_groups, mentions_of_function, mention_of_cell, mentions_of_static, mentions_of_program}
+use Rattle.c_shapes.specs.Mentions.{Callee, Through, Mention, Named, Calls, mentions, mentions_of_all, mentions_of_maybe, mentions_of_inits, mentions_of_stmt, mentions_of_stmts, mentions_of_groups, mentions_of_function, mention_of_cell, mentions_of_static, mentions_of_program}
 use Rattle.c_shapes.specs.CallGraph.{callee_at}
-use Rattle.alarm_laws.proofs.Lists.{is_first, is_later, cases, none_in, other_number, from_range}
+use Rattle.alarm_laws.proofs.Lists.{is_later, cases, none_in, other_number, from_range}
 
 -- the sites of the calls among what is mentioned
 abbrev sites_in : List Mention → List ℕ

@@ -1,28 +1,27 @@
 -- What statements do is said by their shapes: one line for each form.
-use Rattle.std.proofs.Common.{◌≡◌, ◌⊎◌, inl, inr, ℕ, zero, suc, ◌<◌, ◌≤◌, Bool, true, false, nat_lt, List, [], ◌∷◌, ◌++◌, Contains, Option, Some, None, slice_get, refl, ap, sym, ◌∙◌, subst, arith}
-use Rattle.std.proofs.lemmas.Bool.{false≢true}
+use Rattle.std.proofs.Common.{◌≡◌, ℕ, zero, suc, ◌<◌, ◌≤◌, Bool, true, false, nat_lt, List, [], ◌++◌, Option, Some, None, slice_get, refl, sym, ◌∙◌, subst, arith}
 use Rattle.dm_base.specs.declared.event.Event.{Event}
 use Rattle.c_tree.specs.declared.value.IntType.{IntType}
 use Rattle.c_tree.specs.declared.value.Value.{Value}
-use Rattle.c_tree.specs.Tree.{CType, function, CTypes, Function, Program, type_of}
+use Rattle.c_tree.specs.Tree.{CType, CTypes, Program}
 use Rattle.c_tree.specs.Tree.{Expr, Maybe, absent, there, Inits, no_inits, more_inits}
 use Rattle.c_tree.specs.Tree.{Stmt, block, empty, evaluate, declare, if_else, while_loop, do_loop, for_loop, switch_on, break_off, continue_on, return_void, return_value, Stmts, no_stmts, more_stmts, Groups, no_groups, more_groups}
 use Rattle.c_tree.specs.Layout.{flat}
 use Rattle.c_tree.specs.Program.{IsProgram}
-use Rattle.c_tree.specs.Typed.{IsValue, IsTest, IsStep, AreInits, IsDeclare, IsFirst, AreFirst, IsStmt, AreStmts, AreGroups}
-use Rattle.c_shapes.specs.Shape.{Shape, Skip, Loop, Do, Cases, Return, Parts, End, Part, Shapes, Leave, goes_on, returns}
+use Rattle.c_tree.specs.Typed.{IsValue, IsTest, IsStep, AreInits, IsFirst, AreFirst, IsStmt, AreStmts, AreGroups}
+use Rattle.c_shapes.specs.Shape.{Shape, Loop, Cases, Return, End, Part, Shapes}
 use Rattle.c_shapes.specs.Words.{Whole, Falls, Picks, Front, FrontPicks}
 use Rattle.c_shapes.specs.Words as F
-use Rattle.c_shapes.specs.Mentions.{Mention, mentions, mentions_of_maybe, mentions_of_inits, mentions_of_stmt, mentions_of_stmts, mentions_of_groups}
+use Rattle.c_shapes.specs.Mentions.{mentions, mentions_of_maybe, mentions_of_inits, mentions_of_stmt, mentions_of_stmts, mentions_of_groups}
 use Rattle.c_shapes.specs.ShapeOf.{seq, seq_two, alt, shape, shape_of_maybe, shapes_of_inits, shape_of_stmt, shapes_of_stmts, shapes_of_groups, has_default, shapes_of}
-use Rattle.c_meaning.specs.Meaning.{Marks, Frame, Loop as LoopOf, World, either, tested, eval, condition, perhaps, initialise, fresh, declared_in, without, leaving, selected, count_groups, exec, exec_all, exec_from, name_in}
+use Rattle.c_meaning.specs.Meaning.{Marks, Frame, either, tested, eval, condition, perhaps, initialise, fresh, declared_in, without, leaving, selected, count_groups, exec, exec_all, exec_from, name_in}
 use Rattle.c_meaning.specs.Pointers.{place, store_place}
-use Rattle.c_meaning.specs.Results.{State, with_memory, Result, Go, Stop, after, then_do, remembered, Exit, on, broken, continued, returned, on_exit, on_round, out_of_switch}
+use Rattle.c_meaning.specs.Results.{State, with_memory, Result, Go, then_do, remembered, Exit, on, broken, continued, returned, on_exit, out_of_switch}
 use Rattle.c_meaning.specs.Runs.{world}
 use Rattle.alarm_laws.proofs.Lists.{none_in, below, not_below}
-use Rattle.alarm_laws.proofs.Words.{Stands, here, inside, beyond, stands_falls, out_of, cases_whole}
-use Rattle.alarm_laws.proofs.Says.{told, Gives, gives_any, gives_both, then_gives, after_gives, tested_gives, Tells, left_by, Straight, change_tells, after_none, remembered_then, either_tells, then_left, Says, SaysAll, seq_says, left_says, right_says, part_alone, part_then, part_last, then_quiet, tested_says, exit_then}
-use Rattle.alarm_laws.proofs.Loops.{round_says, do_says, selected_within}
+use Rattle.alarm_laws.proofs.Words.{Stands, here, stands_falls, out_of, cases_whole}
+use Rattle.alarm_laws.proofs.Says.{Gives, then_gives, tested_gives, Tells, left_by, Straight, change_tells, after_none, remembered_then, either_tells, then_left, Says, SaysAll, seq_says, left_says, right_says, part_alone, part_then, then_quiet, tested_says, exit_then}
+use Rattle.alarm_laws.proofs.Loops.{do_says, selected_within}
 use Rattle.alarm_laws.proofs.Guards.{Mentioned, IsGuarded, IsTied}
 use Rattle.alarm_laws.proofs.Expressions.{mentioned_left, mentioned_right, IsFine, value_says}
 

@@ -1,28 +1,24 @@
 -- Typed states are kept by runs, and a function value of the type of the pointer that is called is a candidate.
-use Rattle.std.proofs.Common.{◌≡◌, ℕ, Bool, true, false, if◌then◌else◌, List, [], ◌∷◌, All, Contains, Option, Some, None, slice_get, sym, ap, ◌∙◌, subst, refl}
-use Rattle.std.specs.List.{AllZip}
+use Rattle.std.proofs.Common.{◌≡◌, ℕ, Bool, true, false, List, [], All, Contains, Option, Some, slice_get, sym, ap, ◌∙◌, subst}
 use Rattle.std.proofs.lemmas.List.Elements.{All-nil, All-cons}
-use Rattle.dm_base.specs.declared.event.Event.{Event}
 use Rattle.dm_base.specs.declared.event.Event.TheVariants.{Pre, Post}
 use Rattle.sys_table.specs.Table.{IsRecorded}
 use Rattle.c_tree.specs.declared.value.Value.{Value}
 use Rattle.c_tree.specs.declared.value.Value.TheVariants.{Indeterminate, Int, Uint, Char, Uchar, Null, Func, At}
-use Rattle.c_tree.specs.Tree.{CType, void, integer, pointer, array, struct, function, CTypes, no_types, list_of, Expr, Exprs, no_exprs, no_inits, declare, Stmt, Function, Program, type_of}
-use Rattle.c_tree.specs.Functions.{called_type}
+use Rattle.c_tree.specs.Tree.{CType, void, integer, pointer, array, struct, function, CTypes, list_of, no_inits, declare, Program, type_of}
 use Rattle.c_tree.specs.Kinds.{Objects, static_objects}
-use Rattle.c_tree.specs.Layout.{cells, flat}
+use Rattle.c_tree.specs.Layout.{cells}
 use Rattle.c_tree.specs.Operands.{IsScalar}
 use Rattle.c_tree.specs.Program.{IsProgram}
-use Rattle.c_tree.specs.Typed.{IsValue}
 use Rattle.c_values.specs.Answers.{Answer, gives, undefined}
 use Rattle.c_values.specs.Memory.{declared}
 use Rattle.c_values.specs.Memory.{Objects as Memory}
-use Rattle.c_shapes.specs.Mentions.{Calls, Through, mentions, mentions_of_program}
+use Rattle.c_shapes.specs.Mentions.{Calls, Through, mentions_of_program}
 use Rattle.c_shapes.specs.CallGraph.{callees, called_where, marked}
 use Rattle.c_meaning.specs.Meaning.{Marks, Frame, static_name, name_in, fresh}
 use Rattle.c_meaning.specs.Pointers.{callee, place, store_place}
 use Rattle.c_meaning.specs.Results.{State, with_memory, Result, Go, Stop, then_do, remembered, Exit, on}
-use Rattle.c_meaning.specs.Runs.{world, no_marks}
+use Rattle.c_meaning.specs.Runs.{no_marks}
 use Rattle.typed_meaning.specs.StoreTyping.{HasKind, IsPlaced, IsTypedMemory, IsTypedState, Grows, TellsOfStatics, IsTypedFrame}
 use Rattle.typed_meaning.specs.TypedResults.{EndsTyped, IsExit, Gives as GivesTyped, GiveAll, AreRecorded}
 use Rattle.typed_meaning.specs.Laws.{HaveMembers, PartsAreTyped}
