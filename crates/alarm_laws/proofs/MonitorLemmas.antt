@@ -62,9 +62,9 @@ module _ (p : Program) (n : ℕ) (right : IsProgram p n) where
       }
 
 pub accept_runs : MonitorsAcceptRuns
-accept_runs p n right members records turns bound =
-    let h = runs_raise_none p n right members records turns in both p n right _ bound h.0 h.1
+accept_runs p n right records turns bound =
+    let h = runs_raise_none p n right records turns in both p n right _ bound h.0 h.1
 
 pub accept_marked_runs : MonitorsAcceptMarkedRuns
-accept_marked_runs p n right members free records turns bound =
-    all p n right _ bound (marked_runs_raise_none p n right members free records turns)
+accept_marked_runs p n right free records turns bound =
+    all p n right _ bound (marked_runs_raise_none p n right free records turns)

@@ -31,9 +31,9 @@ guarded_marked_runs p n right free Good Passed guard records turns =
     subst (λ t. Words brackets (shapes_of p) t) (told_every (marked_run p records turns).trace) (run_says p n right (null_calls_of p) brackets every (marked_tied p free) Good Passed guard records turns)
 
 pub runs_raise_none : RunsRaiseNoAlarm
-runs_raise_none p n right members =
-    guarded_runs p n right (IsGood p n right members no_marks none_recorded) (ArePassed p n right members no_marks none_recorded) (typed_guard p n right members no_marks none_recorded)
+runs_raise_none p n right =
+    guarded_runs p n right (IsGood p n right no_marks none_recorded) (ArePassed p n right no_marks none_recorded) (typed_guard p n right no_marks none_recorded)
 
 pub marked_runs_raise_none : MarkedRunsRaiseNoAlarm
-marked_runs_raise_none p n right members free =
-    guarded_marked_runs p n right free (IsGood p n right members (null_calls_of p) (null_calls_recorded p)) (ArePassed p n right members (null_calls_of p) (null_calls_recorded p)) (typed_guard p n right members (null_calls_of p) (null_calls_recorded p))
+marked_runs_raise_none p n right free =
+    guarded_marked_runs p n right free (IsGood p n right (null_calls_of p) (null_calls_recorded p)) (ArePassed p n right (null_calls_of p) (null_calls_recorded p)) (typed_guard p n right (null_calls_of p) (null_calls_recorded p))

@@ -11,7 +11,6 @@ use Rattle.c_tree.specs.Tree.{Program}
 use Rattle.c_tree.specs.Program.{IsProgram}
 use Rattle.c_meaning.specs.Runs.{run}
 use Rattle.c_meaning.specs.WithoutNullCalls.{MakesNoNullCall}
-use Rattle.typed_meaning.specs.Laws.{HaveMembers}
 use Rattle.graph_laws.specs.GraphOfProgram.{graph_of_program}
 use Rattle.alarm_laws.specs.MarkedRuns.{marked_run}
 
@@ -29,9 +28,9 @@ pub record IsAcceptedByAll (g : Graph) (bound : ℕ) (t : List Event) : Type 0 w
 -- each run of a well-typed program is accepted by the monitors of its graph
 abbrev pub MonitorsAcceptRuns : Type 0
 MonitorsAcceptRuns =
-    (p : Program) (n : ℕ) → IsProgram p n → HaveMembers p.structs → (records : List SysResult) (turns bound : ℕ) → IsAcceptedByBoth (graph_of_program p) bound (run p records turns).trace
+    (p : Program) (n : ℕ) → IsProgram p n → (records : List SysResult) (turns bound : ℕ) → IsAcceptedByBoth (graph_of_program p) bound (run p records turns).trace
 
 -- and so is each run with null calls round the calls at marked sites, where the program makes no null calls itself
 abbrev pub MonitorsAcceptMarkedRuns : Type 0
 MonitorsAcceptMarkedRuns =
-    (p : Program) (n : ℕ) → IsProgram p n → HaveMembers p.structs → MakesNoNullCall p → (records : List SysResult) (turns bound : ℕ) → IsAcceptedByAll (graph_of_program p) bound (marked_run p records turns).trace
+    (p : Program) (n : ℕ) → IsProgram p n → MakesNoNullCall p → (records : List SysResult) (turns bound : ℕ) → IsAcceptedByAll (graph_of_program p) bound (marked_run p records turns).trace

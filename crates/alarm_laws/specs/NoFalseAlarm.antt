@@ -6,7 +6,6 @@ use Rattle.c_tree.specs.Program.{IsProgram}
 use Rattle.c_shapes.specs.ProgramLanguages.{Dyck, Stack, Callgraph}
 use Rattle.c_meaning.specs.Runs.{run}
 use Rattle.c_meaning.specs.WithoutNullCalls.{MakesNoNullCall}
-use Rattle.typed_meaning.specs.Laws.{HaveMembers}
 use Rattle.alarm_laws.specs.MarkedRuns.{marked_run}
 
 -- the trace of each run of the program is a word of its stack language and of its callgraph language
@@ -20,9 +19,9 @@ MarkedRunsAreWords p = (records : List SysResult) (turns : ℕ) → Dyck p (mark
 
 -- for each well-typed program
 abbrev pub RunsRaiseNoAlarm : Type 0
-RunsRaiseNoAlarm = (p : Program) (n : ℕ) → IsProgram p n → HaveMembers p.structs → RunsAreWords p
+RunsRaiseNoAlarm = (p : Program) (n : ℕ) → IsProgram p n → RunsAreWords p
 
 -- for each that makes no null calls itself
 abbrev pub MarkedRunsRaiseNoAlarm : Type 0
 MarkedRunsRaiseNoAlarm =
-    (p : Program) (n : ℕ) → IsProgram p n → HaveMembers p.structs → MakesNoNullCall p → MarkedRunsAreWords p
+    (p : Program) (n : ℕ) → IsProgram p n → MakesNoNullCall p → MarkedRunsAreWords p

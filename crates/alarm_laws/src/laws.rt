@@ -13,8 +13,7 @@ pub fn marked_runs_are_runs()
 /// No false alarm: the trace of each run of a well-typed program, for all recorded results and bounds of turns, is in the
 /// program's stack and in its callgraph language; and where the program makes no null calls itself, the trace of each run
 /// with null calls round its marked calls is in its Dyck language. A run that meets undefined behaviour, wants a recorded
-/// result or a turn is covered up to that moment. Each struct of the program has a member, as C99 6.7.2.1 asks. The
-/// function does nothing.
+/// result or a turn is covered up to that moment. The function does nothing.
 pub fn runs_raise_no_alarm()
     ensures runs { RunsRaiseNoAlarm }
     ensures marked_runs { MarkedRunsRaiseNoAlarm }
@@ -23,7 +22,7 @@ pub fn runs_raise_no_alarm()
 /// Each run of a well-typed program is accepted whole by the callgraph and the stack monitor of the program's graph,
 /// whatever the bound; and where the program makes no null calls itself, each run with null calls round its marked calls
 /// is so too, is accepted by the Dyck monitor where no more calls are open at once than the bound allows, and is never
-/// rejected by it. Each struct of the program has a member, as C99 6.7.2.1 asks. The function does nothing.
+/// rejected by it. The function does nothing.
 pub fn monitors_accept_runs()
     ensures runs { MonitorsAcceptRuns }
     ensures marked_runs { MonitorsAcceptMarkedRuns }
