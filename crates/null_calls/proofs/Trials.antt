@@ -14,7 +14,7 @@ use Rattle.c_meaning.specs.Runs.{Run, run}
 use Rattle.c_meaning.proofs.RunTrials.{the_record, the_call, ended}
 use Rattle.null_calls.specs.Bracketed.{bracketed}
 use Rattle.null_calls.specs.Brackets.{Brackets}
-use Rattle.null_calls.specs.Marks.{marked_run}
+use Rattle.alarm_laws.specs.MarkedRuns.{marked_run}
 use Rattle.null_calls.proofs.TrialUnits.{two_calls, every_place, items_of, prototype, of_params, declared, param, getpid_declared, define, of_int, of_void, block_of, returns, name, f_that_asks, a_decl, plus, commas, becomes, call_of, int}
 
 abbrev no_program : Program

@@ -4,7 +4,6 @@ pub mod BracketedPrograms
 pub mod BracketedStatements
 pub mod Brackets
 pub mod MarkedCalls
-pub mod Marks
 pub mod SitesLaw
 pub mod SpelledTypes
 pub mod Temporaries
