@@ -1,5 +1,5 @@
 -- What a change of the table does to the objects that there are.
-use Rattle.std.proofs.Common.{◌≡◌, ℕ, ◌+◌, Bool, true, false, cond, if◌then◌else◌, ◌&&◌, nat_eq, List, Option, Some, None, slice_get, ap, sym, ◌∙◌, subst, refl}
+use Rattle.std.proofs.Common.{◌≡◌, ℕ, ◌+◌, Bool, true, false, cond, if◌then◌else◌, ◌&&◌, nat_eq, List, Option, Some, slice_get, ap, sym, ◌∙◌, refl}
 use Rattle.std.specs.Prelude.{Result, Ok, Err, OnErr}
 use Rattle.indexmap.specs.IndexMap.{IndexMap, get}
 use Rattle.c_tree.specs.declared.value.ObjectName.{ObjectName}
@@ -9,7 +9,7 @@ use Rattle.c_values.specs.declared.held.Held.{Held}
 use Rattle.c_values.specs.Answers.{Answer, gives, undefined, and_then}
 use Rattle.c_values.specs.Memory.{same_name, Object, Objects, changed, there, element, writable, set_cell, store}
 use Rattle.c_values.specs.Seen.{same_key, as_object}
-use Rattle.c_values.specs.Held.{held_object, store_to}
+use Rattle.c_values.specs.Held.{store_to}
 use Rattle.c_values.specs.Told.{left}
 use Rattle.c_values.proofs.StoreLemmas.{same_is}
 

@@ -1,9 +1,9 @@
 -- For private contracts and proofs alone: an object as the code holds it.
-use Rattle.std.specs.Prelude.{◌≡◌, ℕ, ◌+◌, ◌*◌, ◌<◌, ◌≤◌, Option, None, Some, List, length, slice_get}
+use Rattle.std.specs.Prelude.{ℕ, ◌+◌, ◌*◌, ◌≤◌, length, slice_get}
 use Rattle.c_tree.specs.declared.value.Pointer.{Pointer}
 use Rattle.c_tree.specs.declared.value.Value.{Value}
 use Rattle.c_values.specs.declared.held.Held.{Held}
-use Rattle.c_values.specs.Answers.{Answer, gives, and_then}
+use Rattle.c_values.specs.Answers.{Answer, and_then}
 use Rattle.c_values.specs.Memory.{Object, element, cell_value, writable, set_cell}
 
 -- the object that is held

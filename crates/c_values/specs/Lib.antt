@@ -1,4 +1,5 @@
 pub mod Answers
+pub mod Cells
 pub mod Held
 pub mod Memory
 pub mod MemoryLaws

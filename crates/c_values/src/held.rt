@@ -1,7 +1,8 @@
-ghost use Rattle.std.specs.Prelude.{◌≡◌, ◌<◌, ◌≤◌, ◌+◌, ◌*◌, length, slice_get, OnErr, IfOk};
+ghost use Rattle.std.specs.Prelude.{◌≡◌, ◌<◌, ◌≤◌, ◌+◌, ◌*◌, length, slice_get, Some, OnErr, IfOk};
 ghost use Rattle.c_values.specs.Told.{told, left};
 ghost use Rattle.c_values.specs.Answers.{and_then};
 ghost use Rattle.c_values.specs.Memory.{element, cell_value, writable, set_cell};
+ghost use Rattle.c_values.specs.Cells.{with_cell};
 ghost use Rattle.c_values.specs.Held.{held_object, LiesIn, load_from, store_to};
 
 use crate::kinds::kind;
@@ -49,6 +50,14 @@ impl Held {
         }
         self.cells[place] = value;
         Ok(())
+    }
+
+    // Gives a cell this value, also in a string literal.
+    pub fn put(&mut self, cell: usize, value: Value)
+        requires { cell < length self.old.cells.items }
+        ensures { Some (held_object self.new) ≡ with_cell cell value (Some (held_object self.old)) }
+    {
+        self.cells[cell] = value;
     }
 
     // The value of a cell of the element that is pointed to.

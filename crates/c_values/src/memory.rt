@@ -1,6 +1,8 @@
 ghost use Rattle.std.specs.Prelude.{◌≡◌, ◌<◌, IsSome, OnOk, OnErr};
 ghost use Rattle.c_values.specs.Told.{told, left};
 ghost use Rattle.c_values.specs.Memory.{no_objects, declared, sealed, ended, load, store, IsInside};
+ghost use Rattle.std.specs.Option.{option_copied};
+ghost use Rattle.c_values.specs.Cells.{cells_of, is_string, put, HasCell};
 ghost use Rattle.c_values.specs.Seen.{seen};
 
 use crate::held::Held;
@@ -94,6 +96,36 @@ impl Memory {
         match self.objects.get_mut(&key(at.name)) {
             None => Err(kind(6)),
             Some(held) => held.store(at, cell, value),
+        }
+    }
+
+    /// The values of the object's cells, or None where it is not there.
+    pub fn cells(&self, name: ObjectName) -> Option<&[Value]>
+        ensures { option_copied result ≡ cells_of (seen self.now name) }
+    {
+        match self.objects.get(&key(name)) {
+            None => None,
+            Some(held) => Some(&held.cells),
+        }
+    }
+
+    /// Whether the object is that of a string literal. A name without an object has none.
+    pub fn is_string(&self, name: ObjectName) -> bool
+        ensures { result ≡ is_string (seen self.now name) }
+    {
+        match self.objects.get(&key(name)) {
+            None => false,
+            Some(held) => held.string,
+        }
+    }
+
+    /// Gives a cell of the object this value, also where it is that of a string literal.
+    pub fn set(&mut self, name: ObjectName, cell: usize, value: Value)
+        requires { HasCell (seen self.old name) cell }
+        ensures { seen self.new ≡ put (seen self.old) name cell value }
+    {
+        if let Some(held) = self.objects.get_mut(&key(name)) {
+            held.put(cell, value);
         }
     }
 }

@@ -1,4 +1,4 @@
-use Rattle.std.proofs.Common.{ap, sym, ◌∙◌, Some, true, rules}
+use Rattle.std.proofs.Common.{ap, ◌∙◌, Some, true, rules}
 use Rattle.indexmap.specs.IndexMap.{get}
 use Rattle.c_values.specs.declared.held.Held.{Held}
 use Rattle.c_values.specs.Memory.{changed, marked}
