@@ -1,0 +1,11 @@
+pub mod AddingLemmas
+pub mod Members
+pub mod ReachingLemmas
+pub mod SayingLemmas
+pub mod SitesLemmas
+pub mod PlaceLemmas
+pub mod NamingLemmas
+pub mod CallersLemmas
+pub mod TypesLemmas
+pub mod CallsLemmas
+pub mod MadeLemmas

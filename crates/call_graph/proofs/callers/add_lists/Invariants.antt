@@ -1,0 +1,10 @@
+use Rattle.std.proofs.Common.{◌≡◌, length}
+use Rattle.call_graph.specs.Types.{items_of}
+use Rattle.call_graph.specs.Callers.{Gains, HasCaller, IsCandidateBelow}
+use Rattle.call_graph.proofs.callers.add_lists.Given as goal
+
+abbrev pub invariant-loop-k : goal.invariant-loop-k
+invariant-loop-k l = record {
+  many : length l.callers.items ≡ length l.fn.callers.items;
+  added : Gains (HasCaller l.fn.callers.items) (HasCaller l.callers.items) (IsCandidateBelow (length l.fn.callers.items) l.count (items_of l.lists) l.k);
+}
