@@ -1,0 +1,4 @@
+pub mod ClosedLemmas
+pub mod MeasuredLemmas
+pub mod LaidLemmas
+pub mod TableLemmas
