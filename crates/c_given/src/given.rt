@@ -1,0 +1,137 @@
+ghost use Rattle.std.specs.Prelude.{◌≡◌, IfOk};
+ghost use Rattle.c_rules.specs.Given.{is_place, is_null, is_zero, is_known_zero, tree_of, value_given, integer_constant};
+ghost use Rattle.c_tree.specs.View.{ctype_of, expr_of, expr_with};
+ghost use Rattle.c_given.specs.View.{given_of, constant_of};
+
+use crate::types::{is_function, is_integer};
+use c_tree::{CType, TExpr, TExprKind, Value, copy_type};
+use dm_base::OutOfMemory;
+use std::alloc::Global;
+
+/// Whether an expression gives a value, or designates an object or a function (C99 6.3.2.1).
+#[derive(Drop)]
+pub enum Form {
+    /// A value.
+    Value(TExpr),
+    /// A place: an object or a function.
+    Place(TExpr),
+    /// What this pointer leads to (6.5.3.2).
+    Behind(TExpr),
+}
+
+/// Whether an expression is constant by its form (C99 6.6), and then its value.
+#[derive(Clone, Copy, Debug, PartialEq, Eq)]
+pub enum Constant {
+    /// It is not constant.
+    Not,
+    /// It is constant, and its value is undefined.
+    Undefined,
+    /// It is constant and has this value; that of a place is the address that leads to it.
+    Known(Value),
+}
+
+/// What an expression gives (C99 6.5).
+#[derive(Drop)]
+pub struct Given {
+    /// Its type, that of the object or function where it designates one.
+    pub ctype: CType,
+    /// Its form, with its typed tree.
+    pub form: Form,
+    /// Its constant value, where it has one.
+    pub constant: Constant,
+}
+
+/// Whether it is zero, of any integer type, or the null pointer.
+pub fn is_zero(value: Value) -> bool
+    ensures { result ≡ is_zero value }
+{
+    match value {
+        Value::Int(z) => z == 0,
+        Value::Uint(n) => n == 0,
+        Value::Char(z) => z == 0,
+        Value::Uchar(n) => n == 0,
+        Value::Null => true,
+        _ => false,
+    }
+}
+
+impl Constant {
+    /// Whether it is known and zero, of any integer type, or the null pointer.
+    pub fn is_zero(&self) -> bool
+        ensures { result ≡ is_known_zero (constant_of self.now) }
+    {
+        match self {
+            Constant::Known(value) => is_zero(*value),
+            _ => false,
+        }
+    }
+}
+
+impl Given {
+    // Whether it is a value.
+    fn is_value(&self) -> bool
+        ensures { result ≡ Rattle.c_rules.specs.Given.is_value (given_of self.now).form }
+    {
+        match &self.form {
+            Form::Value(_) => true,
+            _ => false,
+        }
+    }
+
+    /// Whether it designates an object (C99 6.3.2.1 paragraph 1).
+    pub fn is_place(&self) -> bool
+        ensures { result ≡ is_place (given_of self.now) }
+    {
+        !self.is_value() && !is_function(&self.ctype)
+    }
+
+    /// Whether it is a null pointer constant (C99 6.3.2.3 paragraph 3).
+    pub fn is_null(&self) -> bool
+        ensures { result ≡ is_null (given_of self.now) }
+    {
+        self.constant.is_zero()
+    }
+
+    /// The constant of an integer; no other is part of a constant integer expression (C99 6.6 paragraph 6).
+    pub fn integer_constant(&self) -> Constant
+        ensures { constant_of result ≡ integer_constant (given_of self.now) }
+    {
+        if is_integer(&self.ctype) {
+            self.constant
+        } else {
+            Constant::Not
+        }
+    }
+
+    /// The typed tree.
+    pub fn into_tree(self, alloc: Global) -> Result<TExpr, OutOfMemory>
+        ensures { IfOk result (λ tree. expr_of tree ≡ tree_of (given_of self)) }
+    {
+        let Given { ctype, form, .. } = self;
+        match form {
+            Form::Value(tree) => Ok(tree),
+            Form::Place(tree) => Ok(tree),
+            Form::Behind(pointer) => Ok(TExpr {
+                ctype,
+                kind: TExprKind::Deref(Box::new(alloc, pointer)?),
+            }),
+        }
+    }
+}
+
+/// A value of a type, with the form of its tree.
+pub fn value_given(
+    alloc: Global,
+    ctype: CType,
+    kind: TExprKind,
+    constant: Constant,
+) -> Result<Given, OutOfMemory>
+    ensures { IfOk result (λ g. given_of g ≡ value_given (ctype_of ctype) (expr_with (ctype_of ctype) kind) (constant_of constant)) }
+{
+    let copied = copy_type(alloc, &ctype)?;
+    Ok(Given {
+        ctype: copied,
+        form: Form::Value(TExpr { ctype, kind }),
+        constant,
+    })
+}
