@@ -56,13 +56,13 @@ module _ (p : Program) (n : ℕ) (right : IsProgram p n) (marks : Marks) (record
   abbrev pub ArePassed : CTypes → List Value → State → Type 0
   ArePassed ts vs st = (o : Objects) × TellsOfStatics p o × GiveAll p (list_of ts) o vs × IsTypedState p o st
 
-  good_after : {A : Type 0} (ok : Objects → A → Type 0) (o : Objects) (fr : Frame) (r : Result A) → IsTypedFrame p o fr → EndsTyped p {A = A} ok o r → Gives {A = A} (λ a st. IsGood fr st) r
-  good_after ok o fr (Go a st w) f h = (h.0, stands_on p n right marks recorded o h.0 fr h.1 f, h.3)
-  good_after ok o fr (Stop e w) f h = tt
+  good_after : {A : Type 0} (ok : Objects → A → Type 0) (o : Objects) (start : ℕ) (fr : Frame) (r : Result A) → IsTypedFrame p o fr → EndsTyped p {A = A} ok o start r → Gives {A = A} (λ a st. IsGood fr st) r
+  good_after ok o start fr (Go a st w) f h = (h.0, stands_on p n right marks recorded o h.0 fr h.1 f, h.3)
+  good_after ok o start fr (Stop e w) f h = tt
 
-  given_after : {A : Type 0} (ok : Objects → A → Type 0) (P : A → State → Type 0) (o : Objects) (r : Result A) → ((u : Objects) (a : A) (st : State) → Grows o u → ok u a → IsTypedState p u st → P a st) → EndsTyped p {A = A} ok o r → Gives {A = A} P r
-  given_after ok P o (Go a st w) up h = up h.0 a st h.1 h.2 h.3
-  given_after ok P o (Stop e w) up h = tt
+  given_after : {A : Type 0} (ok : Objects → A → Type 0) (P : A → State → Type 0) (o : Objects) (start : ℕ) (r : Result A) → ((u : Objects) (a : A) (st : State) → Grows o u → ok u a → IsTypedState p u st → P a st) → EndsTyped p {A = A} ok o start r → Gives {A = A} P r
+  given_after ok P o start (Go a st w) up h = up h.0 a st h.1 h.2 h.3
+  given_after ok P o start (Stop e w) up h = tt
 
   parts : (k : ℕ) → PartsAreTyped p marks k
   parts k = types_are_kept p n right marks recorded k
@@ -94,23 +94,23 @@ module _ (p : Program) (n : ℕ) (right : IsProgram p n) (marks : Marks) (record
   stored_good fr (gives m) v st u f k h = (u, f, record { memory = h; few = k.few; later = k.later })
   stored_good fr (undefined kind) v st u f k h = tt
 
-  fresh_good : (fr : Frame) (x : ℕ) (t : CType) (o : Objects) (st : State) → (c : Option CType) → c ≡ Some t → IsTypedFrame p o fr → EndsTyped p {A = Exit} (IsExit p void false false) o (then_do (fresh p.structs fr x c st) (λ y st. Go on st [])) → IsGood fr (with_memory st (declared st.memory (name_in fr false x) (cells p.structs t)))
+  fresh_good : (fr : Frame) (x : ℕ) (t : CType) (o : Objects) (st : State) → (c : Option CType) → c ≡ Some t → IsTypedFrame p o fr → EndsTyped p {A = Exit} (IsExit p void false false) o st.entries (then_do (fresh p.structs fr x c st) (λ y st. Go on st [])) → IsGood fr (with_memory st (declared st.memory (name_in fr false x) (cells p.structs t)))
   fresh_good fr x t o st c e f =
-      subst (λ c. EndsTyped p {A = Exit} (IsExit p void false false) o (then_do (fresh p.structs fr x c st) (λ y st. Go on st [])) → IsGood fr (with_memory st (declared st.memory (name_in fr false x) (cells p.structs t)))) (sym e) (λ h. (h.0, stands_on p n right marks recorded o h.0 fr h.1 f, h.3))
+      subst (λ c. EndsTyped p {A = Exit} (IsExit p void false false) o st.entries (then_do (fresh p.structs fr x c st) (λ y st. Go on st [])) → IsGood fr (with_memory st (declared st.memory (name_in fr false x) (cells p.structs t)))) (sym e) (λ h. (h.0, stands_on p n right marks recorded o h.0 fr h.1 f, h.3))
 
   pub typed_guard : IsGuarded p marks IsGood ArePassed
   typed_guard = record {
-    value = λ k fr wanted e st h l g. good_after {A = Value} (GivesTyped p wanted (type_of e)) g.0 fr _ g.1 ((parts k).values fr wanted e g.0 st g.1 h l g.2);
-    place_kept = λ k fr wanted e st h l g. good_after {A = Value} (λ o v. IsPlaced p o (type_of e) v) g.0 fr _ g.1 ((parts k).places fr wanted e g.0 st g.1 h l g.2);
-    designator = λ k fr site a r ts st e h l c g. given_after {A = Value} (GivesTyped p true (type_of a)) (λ v u. (f : ℕ) → callee v ≡ gives f → Contains (callees p (Through (type_of a))) f) g.0 _ (λ u v st w ok s. candidate site (type_of a) u v c (pointer_kind (type_of a) (function r ts) u v e ok)) ((parts k).values fr true a g.0 st g.1 h l g.2);
-    arguments_kept = λ k fr ts es st h l g. given_after {A = List Value} (GiveAll p (list_of ts)) (λ vs u. ArePassed ts vs u) g.0 _ (λ u vs st w ok s. (u, (λ x t e. w (static_name x) _ ((g.1).statics x t e)), ok, s)) ((parts k).arguments fr ts es g.0 st g.1 h l g.2);
+    value = λ k fr wanted e st h l g. good_after {A = Value} (GivesTyped p wanted (type_of e)) g.0 _ fr _ g.1 ((parts k).values fr wanted e g.0 st g.1 h l g.2);
+    place_kept = λ k fr wanted e st h l g. good_after {A = Value} (λ o v. IsPlaced p o (type_of e) v) g.0 _ fr _ g.1 ((parts k).places fr wanted e g.0 st g.1 h l g.2);
+    designator = λ k fr site a r ts st e h l c g. given_after {A = Value} (GivesTyped p true (type_of a)) (λ v u. (f : ℕ) → callee v ≡ gives f → Contains (callees p (Through (type_of a))) f) g.0 _ _ (λ u v st w ok s. candidate site (type_of a) u v c (pointer_kind (type_of a) (function r ts) u v e ok)) ((parts k).values fr true a g.0 st g.1 h l g.2);
+    arguments_kept = λ k fr ts es st h l g. given_after {A = List Value} (GiveAll p (list_of ts)) (λ vs u. ArePassed ts vs u) g.0 _ _ (λ u vs st w ok s. (u, (λ x t e. w (static_name x) _ ((g.1).statics x t e)), ok, s)) ((parts k).arguments fr ts es g.0 st g.1 h l g.2);
     entering = λ f g r ts vs st k is type h. entered_typed p n right f g r ts vs h.0 (with_turns st k) is type h.1 (arguments_kind p n right marks recorded r r ts f h.0 vs (type_of_function p f g is ∙ ap (λ t. Some t) type) h.2) h.3;
     fresh_kept = λ fr x t st e g. fresh_good fr x t g.0 st (slice_get fr.types x) e g.1 ((parts 0).statements fr void false false (declare x no_inits) g.0 st g.1 (t, e, tt) (stands_empty p) g.2);
-    stored = λ k fr x cell t a st e c h l g. given_after {A = Value} (GivesTyped p true (type_of a)) (λ v u. Gives {A = Value} (λ y z. IsGood fr z) (remembered (store_place u.memory (place (name_in fr false x) cell 1) v) v u)) g.0 _ (λ u v st w ok s.
+    stored = λ k fr x cell t a st e c h l g. given_after {A = Value} (GivesTyped p true (type_of a)) (λ v u. Gives {A = Value} (λ y z. IsGood fr z) (remembered (store_place u.memory (place (name_in fr false x) cell 1) v) v u)) g.0 _ _ (λ u v st w ok s.
         let b = flat_scalar p.structs t cell (type_of a) c in
         let f = stands_on p n right marks recorded g.0 u fr w g.1 in
         stored_good fr _ v st u f s (store_right p n right u (type_of a) _ v st.memory b (cell_pointer p n right u fr x cell t (type_of a) f e c b) (scalar_kind (type_of a) u v b ok) s.memory)) ((parts k).values fr true a g.0 st g.1 h l g.2);
-    statement = λ k fr r breaks continues s st h l g. good_after {A = Exit} (IsExit p r breaks continues) g.0 fr _ g.1 ((parts k).statements fr r breaks continues s g.0 st g.1 h l g.2);
+    statement = λ k fr r breaks continues s st h l g. good_after {A = Exit} (IsExit p r breaks continues) g.0 _ fr _ g.1 ((parts k).statements fr r breaks continues s g.0 st g.1 h l g.2);
     turn = λ fr st k g. (g.0, g.1, g.2);
     begins = λ records turns. let b = runs_begin_typed p n right records turns in (static_objects p, b.statics, tt, b.state);
   }

@@ -37,7 +37,7 @@ use Rattle.c_meaning.specs.SystemCalls.{char_of, bytes_in, cells_from, is_zero, 
 use Rattle.c_meaning.proofs.Answering.{records_are_judged}
 use Rattle.typed_meaning.specs.StoreTyping.{HasKind, IsCell, IsTypedMemory, IsTypedState}
 use Rattle.typed_meaning.specs.TypedResults.{EndsTyped, Gives}
-use Rattle.typed_meaning.proofs.Places.{scalar_object, grows_none, kind_given}
+use Rattle.typed_meaning.proofs.Places.{scalar_object, kind_given}
 use Rattle.typed_meaning.proofs.Steps.{Right, right_then, there_right, pointer_right, cells_there, store_right}
 use Rattle.typed_meaning.proofs.Ends.{after_ends, then_ends, answered_ends, remembered_ends}
 
@@ -376,27 +376,27 @@ module _ (p : Program) (n : ℕ) (typed : IsProgram p n) where
   filled_where_right o None asked bytes m h short mem = mem
   filled_where_right o (Some q) asked bytes m h short mem = filled_right o q bytes m h.0 (omega (arith, short, h.1)) mem
 
-  record_ends : (x : ℕ) (r : CType) (ts : CTypes) (o : Objects) (wanted : Bool) (q : Request) (rs : List SysResult) (st : State) → slice_get sys_types x ≡ Some (function r ts) → IsRequest x o q → IsTypedState p o st → EndsTyped p {A = Value} (Gives p wanted r) o (take_record x q rs st)
+  record_ends : (x : ℕ) (r : CType) (ts : CTypes) (o : Objects) (wanted : Bool) (q : Request) (rs : List SysResult) (st : State) → slice_get sys_types x ≡ Some (function r ts) → IsRequest x o q → IsTypedState p o st → EndsTyped p {A = Value} (Gives p wanted r) o st.entries (take_record x q rs st)
   record_ends x r ts o wanted q [] st e h k = (tt, All-nil IsRecorded)
   record_ends x r ts o wanted q (a ∷ rs) st e h k = at (does_answer x q.asked a) refl
     where
-      at : (b : Bool) → does_answer x q.asked a ≡ b → EndsTyped p {A = Value} (Gives p wanted r) o (if b then after (Sys x q.arguments a.value ∷ []) (remembered (filled_where q.buffer a.bytes st.memory) (result_value (result_of x) a.value) (with_records st rs)) else Stop (BadResult (suc st.taken)) [])
+      at : (b : Bool) → does_answer x q.asked a ≡ b → EndsTyped p {A = Value} (Gives p wanted r) o st.entries (if b then after (Sys x q.arguments a.value ∷ []) (remembered (filled_where q.buffer a.bytes st.memory) (result_value (result_of x) a.value) (with_records st rs)) else Stop (BadResult (suc st.taken)) [])
       at true d =
           let fits = answers_fit x q.asked a d in
-          after_ends p {A = Value} (Gives p wanted r) o o (Sys x q.arguments a.value ∷ []) _ (grows_none o) (All-cons IsRecorded (Sys x q.arguments a.value) [] (h.arguments, fits) (All-nil IsRecorded)) (remembered_ends p {A = Value} (Gives p wanted r) o _ (result_value (result_of x) a.value) (with_records st rs) (filled_where_right o q.buffer q.asked a.bytes st.memory h.room (answers_short x q.asked a d) k.memory) (given_result o wanted r (result_of x) a.value (results_pass x r ts e) fits) k)
+          after_ends p {A = Value} (Gives p wanted r) o st.entries (Sys x q.arguments a.value ∷ []) _ (All-cons IsRecorded (Sys x q.arguments a.value) [] (h.arguments, fits) (All-nil IsRecorded)) (remembered_ends p {A = Value} (Gives p wanted r) o _ (result_value (result_of x) a.value) (with_records st rs) (filled_where_right o q.buffer q.asked a.bytes st.memory h.room (answers_short x q.asked a d) k.memory) (given_result o wanted r (result_of x) a.value (results_pass x r ts e) fits) k)
       at false d = (tt, All-nil IsRecorded)
 
-  exit_ends : (o : Objects) (ok : Objects → Value → Type 0) (xs : List Arg) → AllZip FitsArgument (recorded_of exit_call) xs → EndsTyped p {A = Value} ok o (exit_with xs)
+  exit_ends : (o : Objects) (start : ℕ) (ok : Objects → Value → Type 0) (xs : List Arg) → AllZip FitsArgument (recorded_of exit_call) xs → EndsTyped p {A = Value} ok o start (exit_with xs)
   unfolding table
-  exit_ends o ok [] z = absurd z
-  exit_ends o ok (args.Int s ∷ []) z = (z.0, All-cons IsRecorded (Sys exit_call (args.Int s ∷ []) (pos 0)) [] (z, refl) (All-nil IsRecorded))
-  exit_ends o ok (args.Bytes bytes ∷ []) z = absurd (cc (z.0))
-  exit_ends o ok (a ∷ b ∷ xs) z = absurd z.1
+  exit_ends o start ok [] z = absurd z
+  exit_ends o start ok (args.Int s ∷ []) z = (z.0, All-cons IsRecorded (Sys exit_call (args.Int s ∷ []) (pos 0)) [] (z, refl) (All-nil IsRecorded))
+  exit_ends o start ok (args.Bytes bytes ∷ []) z = absurd (cc (z.0))
+  exit_ends o start ok (a ∷ b ∷ xs) z = absurd z.1
 
-  pub system_call_ends : (x : ℕ) (r : CType) (ts : CTypes) (o : Objects) (wanted : Bool) (vs : List Value) (st : State) → slice_get sys_types x ≡ Some (function r ts) → AllZip (HasKind p o) (list_of ts) vs → IsTypedState p o st → EndsTyped p {A = Value} (Gives p wanted r) o (system_call x vs st)
+  pub system_call_ends : (x : ℕ) (r : CType) (ts : CTypes) (o : Objects) (wanted : Bool) (vs : List Value) (st : State) → slice_get sys_types x ≡ Some (function r ts) → AllZip (HasKind p o) (list_of ts) vs → IsTypedState p o st → EndsTyped p {A = Value} (Gives p wanted r) o st.entries (system_call x vs st)
   system_call_ends x r ts o wanted vs st e z k =
-      then_ends p {A = Request} {B = Value} (IsRequest x) (Gives p wanted r) o _ _ (answered_ends p {A = Request} (IsRequest x) o (request x st.memory vs) st (request_right x r ts o vs st.memory e z k.memory) k) (λ u q st g h k. at u q st h k (nat_eq x exit_call) refl)
+      then_ends p {A = Request} {B = Value} (IsRequest x) (Gives p wanted r) o _ _ _ (answered_ends p {A = Request} (IsRequest x) o (request x st.memory vs) st (request_right x r ts o vs st.memory e z k.memory) k) (λ u q st g h k. at u q st h k (nat_eq x exit_call) refl)
     where
-      at : (u : Objects) (q : Request) (st : State) → IsRequest x u q → IsTypedState p u st → (b : Bool) → nat_eq x exit_call ≡ b → EndsTyped p {A = Value} (Gives p wanted r) u (if b then exit_with q.arguments else take_record x q st.records st)
-      at u q st h k true d = exit_ends u (Gives p wanted r) q.arguments (subst (λ x. AllZip FitsArgument (recorded_of x) q.arguments) (eqb-true x exit_call d) h.arguments)
+      at : (u : Objects) (q : Request) (st : State) → IsRequest x u q → IsTypedState p u st → (b : Bool) → nat_eq x exit_call ≡ b → EndsTyped p {A = Value} (Gives p wanted r) u st.entries (if b then exit_with q.arguments else take_record x q st.records st)
+      at u q st h k true d = exit_ends u st.entries (Gives p wanted r) q.arguments (subst (λ x. AllZip FitsArgument (recorded_of x) q.arguments) (eqb-true x exit_call d) h.arguments)
       at u q st h k false d = record_ends x r ts u wanted q st.records st e h k

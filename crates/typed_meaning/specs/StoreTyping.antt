@@ -83,6 +83,10 @@ IsTypedState p o st = IsTypedAfter p o st.memory st.entries
 abbrev pub Grows : Objects → Objects → Type 0
 Grows o u = (x : ObjectName) (all : List CType) → o x ≡ Some all → u x ≡ Some all
 
+-- of the activations up to this one the second tells as the first does
+abbrev pub TellsAlike : ℕ → Objects → Objects → Type 0
+TellsAlike last o u = (x : ObjectName) → x.activation ≤ last → u x ≡ o x
+
 -- the static objects and strings are told of by their types
 abbrev pub TellsOfStatics : Program → Objects → Type 0
 TellsOfStatics p o = (n : ℕ) (s : Static) → slice_get p.statics n ≡ Some s → o (static_name n) ≡ Some (flat p.structs s.ctype)
