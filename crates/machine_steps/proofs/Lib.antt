@@ -1,0 +1,4 @@
+pub mod BufferLemmas
+pub mod FillLemmas
+pub mod PointerLemmas
+pub mod TakingLemmas
