@@ -1,6 +1,5 @@
 -- Steps of answers one after the other.
 use Rattle.std.proofs.Common.{◌≡◌, ℕ, pos, ◌-ℤ◌, Bool, true, false, if◌then◌else◌, refl, ap, sym, ◌∙◌}
-use Rattle.c_tree.specs.declared.value.Pointer.{Pointer}
 use Rattle.c_tree.specs.declared.value.Value.{Value}
 use Rattle.c_tree.specs.declared.value.Value.TheVariants.{Int}
 use Rattle.c_values.specs.Answers.{Answer, gives, undefined, and_then, U9}

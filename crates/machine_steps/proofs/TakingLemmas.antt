@@ -1,5 +1,5 @@
 -- What a recorded result comes to.
-use Rattle.std.proofs.Common.{◌≡◌, ℕ, zero, suc, Bool, true, false, if◌then◌else◌, List, [], ◌∷◌, negsuc, FitsSigned, w32, ap, sym, ◌∙◌, subst, refl, arith, inl, inr}
+use Rattle.std.proofs.Common.{◌≡◌, ℕ, zero, suc, Bool, true, false, if◌then◌else◌, List, [], ◌∷◌, FitsSigned, w32, ap, sym, ◌∙◌, subst, refl, arith, inl, inr}
 use Rattle.std.specs.Prelude.{Ok, Err}
 use Rattle.std.proofs.lemmas.Int.{ints}
 use Rattle.dm_base.specs.declared.event.Event.TheVariants.{Sys}
@@ -9,7 +9,7 @@ use Rattle.sys_table.specs.Answering.{Answers}
 use Rattle.c_tree.specs.declared.value.Value.{Value}
 use Rattle.c_values.specs.Answers.{gives, undefined}
 use Rattle.c_values.specs.Memory.{Objects}
-use Rattle.c_meaning.specs.Results.{State, Go, Stop, after, remembered}
+use Rattle.c_meaning.specs.Results.{State, Stop, after, remembered}
 use Rattle.c_meaning.specs.SystemCalls.{Request as Asked, does_answer, result_value, filled_where, with_records, take_record}
 use Rattle.dm_base.specs.declared.outcome.Outcome.TheVariants.{BadResult as bad_result}
 use Rattle.c_meaning.proofs.Answering.{records_are_judged}

@@ -1,6 +1,5 @@
-use Rattle.std.proofs.Common.{FitsSigned, w64, subst, sym, rules}
+use Rattle.std.proofs.Common.{FitsSigned, w64, rules}
 use Rattle.std.proofs.lemmas.Int.{to_z-of_z}
-use Rattle.sys_table.specs.Table.{FitsResult, result_of}
 use Rattle.machine_steps.proofs.TakingLemmas.{fits_if_answers}
 use Rattle.machine_steps.proofs.records.take_record.Goals as goal
 
