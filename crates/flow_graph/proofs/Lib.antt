@@ -1,2 +1,4 @@
 pub mod Rows
 pub mod PartsLemmas
+pub mod LayingLemmas
+pub mod FunctionsLemmas

@@ -1,9 +1,8 @@
 -- Lists of shapes, one part after another.
-use Rattle.std.proofs.Common.{◌≡◌, ℕ, zero, suc, ◌+◌, ◌<◌, ◌≤◌, min, List, [], ◌∷◌, ◌++◌, Bool, Vec, Global, length, take, drop, get_or, refl, ap, sym, ◌∙◌, arith}
+use Rattle.std.proofs.Common.{◌≡◌, ℕ, zero, suc, ◌+◌, ◌<◌, min, List, [], ◌∷◌, Bool, Vec, Global, length, take, get_or, ap, arith}
 use Rattle.flow_graph.specs.declared.shape.Shape.{Shape as Tree}
 use Rattle.std.specs.Prelude.{Box}
 use Rattle.flow_graph.specs.declared.shape.Shape.TheVariants.{Seq as SeqTree, Cases as CasesTree}
-use Rattle.c_shapes.specs.Shape.{Shape, Parts, End, Part}
 use Rattle.graph_laws.specs.Layout.{width, widths, count}
 use Rattle.flow_graph.specs.View.{shape_of, parts_of}
 use Rattle.flow_graph.proofs.Rows.{seq_is, cases_is}

@@ -1,5 +1,5 @@
 -- The terms that shapes of Rust are seen as.
-use Rattle.std.specs.Prelude.{List, [], ◌∷◌}
+use Rattle.std.specs.Prelude.{List, [], ◌∷◌, map}
 use Rattle.flow_graph.specs.declared.shape.Shape.{Shape as Tree, Row_of-Shape, end_of-Shape, more_of-Shape}
 use Rattle.flow_graph.specs.declared.shape.Shape.{Skip as Skip', Sys as Sys', Exit as Exit', Call as Call', Seq', Alt', Loop', Do', Cases', Break as Break', Continue as Continue', Return as Return'}
 use Rattle.c_shapes.specs.Shape.{Shape, Skip, Sys, Exit, Call, Seq, Alt, Loop, Do, Cases, Break, Continue, Return, Parts, End, Part}
@@ -27,3 +27,7 @@ abbrev mutual
 abbrev pub parts_of : List Tree → Parts
 parts_of [] = End
 parts_of (t ∷ ts) = Part (shape_of t) (parts_of ts)
+
+-- shapes of functions
+abbrev pub shapes_in : List Tree → List Shape
+shapes_in ts = map shape_of ts

@@ -5,7 +5,7 @@ ghost use Rattle.graph_laws.specs.Layout.{width, widths, count};
 use crate::Shape;
 
 // The sum, or `most` where it is more.
-fn add(a: u32, b: u32, most: u32) -> u32
+pub fn add(a: u32, b: u32, most: u32) -> u32
     ensures { result ≡ min (a + b) most }
 {
     a.saturating_add(b).min(most)

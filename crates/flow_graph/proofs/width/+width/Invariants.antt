@@ -1,4 +1,4 @@
-use Rattle.std.proofs.Common.{◌≡◌, ◌+◌, min, take}
+use Rattle.std.proofs.Common.{◌≡◌, min, take}
 use Rattle.flow_graph.proofs.PartsLemmas.{weight}
 use Rattle.flow_graph.proofs.width.+width.Given as goal
 

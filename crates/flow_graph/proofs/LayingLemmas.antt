@@ -1,0 +1,121 @@
+-- Parts that are laid one after another.
+use Rattle.std.proofs.Common.{◌≡◌, ℕ, zero, suc, ◌+◌, ◌-◌, ◌<◌, ◌≤◌, Bool, List, [], ◌∷◌, ◌++◌, length, drop, get_or, Vec, Global, Result, Ok, Err, OnOk, IfOk, refl, sym, ap, ◌∙◌, arith, drop-cons}
+use Rattle.std.specs.Prelude.{Box}
+use Rattle.dm_base.specs.declared.memory.OutOfMemory.{OutOfMemory}
+use Rattle.flow_graph.specs.declared.shape.Shape.TheVariants.{Seq as SeqTree, Cases as CasesTree}
+use Rattle.flow_graph.proofs.Rows.{seq_is, cases_is}
+use Rattle.std.proofs.lemmas.List.{append-nil, append_assoc, length-drop}
+use Rattle.flow_graph.specs.declared.shape.Shape.{Shape as Tree}
+use Rattle.flow_graph.specs.View.{shape_of, parts_of}
+use Rattle.c_shapes.specs.Shape.{Seq, Cases, End, Part}
+use Rattle.c_shapes.specs.Walks.{Silent}
+use Rattle.graph_laws.specs.Layout.{Edge, edge, Places, head, width, widths, count, edges, edges_of_parts, to_each}
+
+pub parts_many : (ts : List Tree) → count (parts_of ts) ≡ length ts
+parts_many [] = refl
+parts_many (t ∷ ts) = let k = parts_many ts in omega (arith, k)
+
+dropped : (ts : List Tree) (k : ℕ) (s : Tree) → k < length ts → s ≡ get_or ts k s → parts_of (drop k ts) ≡ Part (shape_of s) (parts_of (drop (k + 1) ts))
+dropped ts k s lt is =
+    let n : k + 1 ≡ suc k = omega arith in
+    ap parts_of (drop-cons ts k s lt) ∙ ap (λ s. Part (shape_of s) (parts_of (drop (suc k) ts))) (sym is) ∙ ap (λ m. Part (shape_of s) (parts_of (drop m ts))) (sym n)
+
+pub dropped_all : (ts : List Tree) (k : ℕ) → length ts ≤ k → parts_of (drop k ts) ≡ End
+dropped_all [] zero le = refl
+dropped_all [] (suc k) le = refl
+dropped_all (t ∷ ts) zero le = absurd (omega (arith, le))
+dropped_all (t ∷ ts) (suc k) le = dropped_all ts k (omega (arith, le))
+
+dropped_many : (ts : List Tree) (k : ℕ) → length (drop k ts) ≡ length ts - k
+dropped_many ts k = length-drop k ts
+
+-- where a part leads
+pub leads_to : (ts : List Tree) (r i b : ℕ) → (0 < length ts → r ≡ i) → (length ts ≡ 0 → r ≡ b) → r ≡ head (parts_of ts) i b
+leads_to [] r i b some none = none refl
+leads_to (t ∷ ts) r i b some none = some (omega arith)
+
+-- one part more
+pub laid_more : (ts : List Tree) (k : ℕ) (s : Tree) (old mid new : List Edge) (i n node next following to : ℕ) (p : Places)
+    → k < length ts → s ≡ get_or ts k s → following ≡ node + 1
+    → (0 < length ts - k - 1 → to ≡ following) → (length ts - k - 1 ≡ 0 → to ≡ p.to)
+    → mid ++ edges_of_parts (parts_of (drop k ts)) node next p ≡ old ++ edges_of_parts (parts_of ts) i n p
+    → new ≡ mid ++ edges (shape_of s) node next (record p { to = to })
+    → new ++ edges_of_parts (parts_of (drop (k + 1) ts)) following (next + width (shape_of s)) p ≡ old ++ edges_of_parts (parts_of ts) i n p
+laid_more ts k s old mid new i n node next following to p lt is after some none before step =
+    let rest = parts_of (drop (k + 1) ts) in
+    let many : length (drop (k + 1) ts) ≡ length ts - (k + 1) = dropped_many ts (k + 1) in
+    let at : to ≡ head rest (node + 1) (p.to) = leads_to (drop (k + 1) ts) to (node + 1) (p.to) (λ h. some (omega (arith, h, many)) ∙ after) (λ h. none (omega (arith, h, many))) in
+    ap (λ es. es ++ edges_of_parts rest following (next + width (shape_of s)) p) step
+    ∙ append_assoc mid (edges (shape_of s) node next (record p { to = to })) (edges_of_parts rest following (next + width (shape_of s)) p)
+    ∙ ap (λ m. mid ++ (edges (shape_of s) node next (record p { to = to }) ++ edges_of_parts rest m (next + width (shape_of s)) p)) after
+    ∙ ap (λ t. mid ++ (edges (shape_of s) node next (record p { to = t }) ++ edges_of_parts rest (node + 1) (next + width (shape_of s)) p)) at
+    ∙ ap (λ ps. mid ++ edges_of_parts ps node next p) (sym (dropped ts k s lt is))
+    ∙ before
+
+pub fresh_more : (ts : List Tree) (k : ℕ) (s : Tree) (n next new : ℕ) → k < length ts → s ≡ get_or ts k s → next + widths (parts_of (drop k ts)) ≡ n + widths (parts_of ts) → new ≡ next + width (shape_of s) → new + widths (parts_of (drop (k + 1) ts)) ≡ n + widths (parts_of ts)
+fresh_more ts k s n next new lt is before step =
+    let e : widths (parts_of (drop k ts)) ≡ width (shape_of s) + widths (parts_of (drop (k + 1) ts)) = ap widths (dropped ts k s lt is) in
+    omega (arith, e, before, step)
+
+pub laid_end : (ts : List Tree) (k : ℕ) (old new : List Edge) (i n node next : ℕ) (p : Places) → length ts ≤ k → new ++ edges_of_parts (parts_of (drop k ts)) node next p ≡ old ++ edges_of_parts (parts_of ts) i n p → new ≡ old ++ edges_of_parts (parts_of ts) i n p
+laid_end ts k old new i n node next p over is =
+    sym (append-nil new) ∙ ap (λ ps. new ++ edges_of_parts ps node next p) (sym (dropped_all ts k over)) ∙ is
+
+pub fresh_end : (ts : List Tree) (k n next : ℕ) → length ts ≤ k → next + widths (parts_of (drop k ts)) ≡ n + widths (parts_of ts) → next ≡ n + widths (parts_of ts)
+fresh_end ts k n next over is = let e : widths (parts_of (drop k ts)) ≡ 0 = ap widths (dropped_all ts k over) in omega (arith, e, is)
+
+-- an edge to one part more
+pub each_more : (ts : List Tree) (k : ℕ) (s : Tree) (old mid new : List Edge) (a i node following : ℕ) → k < length ts → s ≡ get_or ts k s → following ≡ node + 1
+    → mid ++ to_each a (parts_of (drop k ts)) node ≡ old ++ to_each a (parts_of ts) i → new ≡ mid ++ edge a Silent node ∷ [] → new ++ to_each a (parts_of (drop (k + 1) ts)) following ≡ old ++ to_each a (parts_of ts) i
+each_more ts k s old mid new a i node following lt is after before step =
+    let rest = parts_of (drop (k + 1) ts) in
+    ap (λ es. es ++ to_each a rest following) step
+    ∙ append_assoc mid (edge a Silent node ∷ []) (to_each a rest following)
+    ∙ ap (λ m. mid ++ edge a Silent node ∷ to_each a rest m) after
+    ∙ ap (λ ps. mid ++ to_each a ps node) (sym (dropped ts k s lt is))
+    ∙ before
+
+pub each_end : (ts : List Tree) (k : ℕ) (old new : List Edge) (a i node : ℕ) → length ts ≤ k → new ++ to_each a (parts_of (drop k ts)) node ≡ old ++ to_each a (parts_of ts) i → new ≡ old ++ to_each a (parts_of ts) i
+each_end ts k old new a i node over is = sym (append-nil new) ∙ ap (λ ps. new ++ to_each a ps node) (sym (dropped_all ts k over)) ∙ is
+
+-- a call's clauses by other words
+pub on_same : (r : Result ℕ OutOfMemory) (old new m b : List Edge) → m ≡ b → OnOk r (new ≡ old ++ b) → OnOk r (new ≡ old ++ m)
+on_same (Ok u) old new m b e is = is ∙ ap (λ es. old ++ es) (sym e)
+on_same (Err x) old new m b e is = is
+
+pub next_same : (r : Result ℕ OutOfMemory) (n w v : ℕ) → w ≡ v → IfOk r (λ next. next ≡ n + v) → IfOk r (λ next. next ≡ n + w)
+next_same (Ok u) n w v e is = is ∙ ap (λ k. n + k) (sym e)
+next_same (Err x) n w v e is = is
+
+pub of_seq : (s : Tree) (t : Box Tree Global) (v : Vec Tree Global) (rest : List Tree) → s ≡ SeqTree t v → rest ≡ v.items → (f : Tree) → f ≡ t.value → shape_of s ≡ Seq (shape_of f) (parts_of rest)
+of_seq s t v rest is same f e = ap shape_of is ∙ seq_is t v ∙ ap (λ x. Seq (shape_of x) (parts_of v.items)) (sym e) ∙ ap (λ ts. Seq (shape_of f) (parts_of ts)) (sym same)
+
+pub of_cases : (s : Tree) (v : Vec Tree Global) (d : Bool) (gs : List Tree) → s ≡ CasesTree v d → gs ≡ v.items → shape_of s ≡ Cases (parts_of gs) d
+of_cases s v d gs is same = ap shape_of is ∙ cases_is v d ∙ ap (λ ts. Cases (parts_of ts) d) (sym same)
+
+pub then_on : (r : Result ℕ OutOfMemory) (old mid new a b m : List Edge) → mid ≡ old ++ a → m ≡ a ++ b → OnOk r (new ≡ mid ++ b) → OnOk r (new ≡ old ++ m)
+then_on (Ok u) old mid new a b m first e is = is ∙ ap (λ es. es ++ b) first ∙ append_assoc old a b ∙ ap (λ es. old ++ es) (sym e)
+then_on (Err x) old mid new a b m first e is = is
+
+-- a first part and the others
+module _ (s : Tree) (t : Box Tree Global) (v : Vec Tree Global) (rest : List Tree) (f : Tree) (is : s ≡ SeqTree t v) (same : rest ≡ v.items) (first : f ≡ t.value) (n start next : ℕ) (from : start ≡ n + count (parts_of rest)) (past : next ≡ start + width (shape_of f)) where
+  shape_is : shape_of s ≡ Seq (shape_of f) (parts_of rest)
+  shape_is = of_seq s t v rest is same f first
+
+  pub seq_laid : (r : Result ℕ OutOfMemory) (old mid new : List Edge) (a to : ℕ) (p : Places) → (0 < length rest → to ≡ n) → (length rest ≡ 0 → to ≡ p.to)
+      → mid ≡ old ++ edges (shape_of f) a start (record p { to = to }) → OnOk r (new ≡ mid ++ edges_of_parts (parts_of rest) n next p) → OnOk r (new ≡ old ++ edges (shape_of s) a n p)
+  seq_laid r old mid new a to p some none step rest_laid =
+      let at : to ≡ head (parts_of rest) n (p.to) = leads_to rest to n (p.to) some none in
+      let go : next ≡ n + count (parts_of rest) + width (shape_of f) = omega (arith, from, past) in
+      let S = shape_of f in
+      let ps = parts_of rest in
+      then_on r old mid new (edges S a start (record p { to = to })) (edges_of_parts ps n next p) (edges (shape_of s) a n p) step
+      (ap (λ S. edges S a n p) shape_is
+      ∙ ap (λ x. edges S a (n + count ps) (record p { to = x }) ++ edges_of_parts ps n (n + count ps + width S) p) (sym at)
+      ∙ ap (λ k. edges S a k (record p { to = to }) ++ edges_of_parts ps n (n + count ps + width S) p) (sym from)
+      ∙ ap (λ k. edges S a start (record p { to = to }) ++ edges_of_parts ps n k p) (sym go))
+      rest_laid
+
+  pub seq_next : (r : Result ℕ OutOfMemory) → IfOk r (λ m. m ≡ next + widths (parts_of rest)) → IfOk r (λ m. m ≡ n + width (shape_of s))
+  seq_next (Ok m) end = let w : width (shape_of s) ≡ count (parts_of rest) + width (shape_of f) + widths (parts_of rest) = ap width shape_is in omega (arith, w, from, past, end)
+  seq_next (Err x) end = end

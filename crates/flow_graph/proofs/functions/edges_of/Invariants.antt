@@ -1,0 +1,8 @@
+use Rattle.std.proofs.Common.{◌≡◌, ◌++◌, drop}
+use Rattle.flow_graph.specs.View.{shapes_in}
+use Rattle.flow_graph.specs.Edges.{edges_in}
+use Rattle.graph_laws.specs.GraphOf.{edges_from}
+use Rattle.flow_graph.proofs.functions.edges_of.Given as goal
+
+abbrev pub invariant-loop-shape : goal.invariant-loop-shape
+invariant-loop-shape l = edges_in l.edges.items ++ edges_from l.entry (shapes_in (drop l.shape-index l.shapes)) ≡ edges_from 0 (shapes_in l.shapes)
