@@ -1,0 +1,3 @@
+pub mod IndexLemmas
+pub mod NumberLemmas
+pub mod SeenLemmas

@@ -1,0 +1,4 @@
+pub mod Bound
+pub mod Index
+pub mod Numbers
+pub mod View
