@@ -1,17 +1,17 @@
 -- The map and the entries as scopes, after a name is declared and after it is taken back.
 use Rattle.std.specs.Option.{IsSome}
-use Rattle.std.proofs.Common.{◌≡◌, ℕ, zero, suc, ◌+◌, ◌<◌, ◌≤◌, List, [], ◌∷◌, ◌++◌, Option, Some, None, Bool, true, false, cond, nat_eq, length, rules, refl, ap, sym, ◌∙◌, arith, Bor, slice_get, get_or, map}
+use Rattle.std.proofs.Common.{◌≡◌, ℕ, zero, suc, ◌+◌, ◌<◌, ◌≤◌, List, [], ◌∷◌, ◌++◌, Option, Some, None, Bool, true, false, cond, nat_eq, length, rules, refl, ap, sym, ◌∙◌, arith, Bor, slice_get, get_or}
 use Rattle.std.specs.Prelude.{option_map, bytes_eq}
 use Rattle.std.specs.Option.{option_copied, IfSome, MatchOption}
 use Rattle.std.specs.List.{HoldsAt}
 use Rattle.std.proofs.lemmas.Option.{slice_get_past, slice_get-get_or}
-use Rattle.std.proofs.lemmas.Bool.{eqb-true, eq-eqb}
+use Rattle.std.proofs.lemmas.Bool.{eq-eqb}
 use Rattle.std.proofs.lemmas.Bool.Decides.{eqb_tells}
 use Rattle.std.proofs.lemmas.Slice.Eq.{bytes_eq-Decides}
 use Rattle.indexmap.specs.IndexMap.{IndexMap, get_by}
 use Rattle.c_rules.specs.Scopes.{Binding, lookup}
 use Rattle.c_scopes.specs.declared.scopes.Entry.{Entry}
-use Rattle.c_scopes.specs.Bound.{Bound, bound, binding_of, bindings_of, place}
+use Rattle.c_scopes.specs.Bound.{Bound, binding_of, bindings_of, place}
 use Rattle.c_scopes.specs.View.{found}
 use Rattle.c_scopes.specs.Index.{bound_of, onto, Hides, joined, IsIndex}
 

@@ -1,10 +1,10 @@
 -- The map as the first places of names, after one more.
-use Rattle.std.proofs.Common.{◌≡◌, ℕ, zero, suc, ◌+◌, List, [], ◌∷◌, ◌++◌, Option, Some, None, Bool, true, false, cond, length, refl, ap, sym, ◌∙◌, arith, Bor, map}
+use Rattle.std.proofs.Common.{◌≡◌, ℕ, suc, List, [], ◌∷◌, ◌++◌, Option, Some, None, Bool, true, false, cond, length, refl, ap, sym, ◌∙◌, arith, Bor}
 use Rattle.std.specs.Prelude.{option_map, is_some, bytes_eq}
 use Rattle.std.proofs.lemmas.Slice.Eq.{bytes_eq-Decides}
 use Rattle.indexmap.specs.IndexMap.{IndexMap, get_by}
 use Rattle.c_rules.specs.Names.{Name, number_among, is_among, with_new}
-use Rattle.c_scopes.specs.Numbers.{seen, bytes_of, AreNumbers}
+use Rattle.c_scopes.specs.Numbers.{seen, AreNumbers}
 
 pub length_seen : (names : List (Bor (List ℕ))) → length (seen names) ≡ length names
 length_seen [] = refl

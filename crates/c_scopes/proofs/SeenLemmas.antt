@@ -3,15 +3,13 @@ use Rattle.std.proofs.Common.{◌≡◌, ℕ, suc, Bool, true, false, ◌||◌, 
 use Rattle.std.specs.Prelude.{option_map, unwrap_or, is_some, IfSome, bytes_eq, reverse}
 use Rattle.std.proofs.lemmas.List.{reverse-append}
 use Rattle.std.proofs.lemmas.Option.{slice_get-map}
-use Rattle.c_tree.specs.Tree.{CType}
 use Rattle.c_tree.specs.Layout.{Structs}
 use Rattle.c_layout.specs.declared.structs.StructMember.{StructMember}
 use Rattle.c_layout.specs.Shown.{defined_in}
 use Rattle.c_rules.specs.Names.{Name, number_among, is_among}
 use Rattle.c_scopes.proofs.NumberLemmas.{or_new, number_pushed}
 use Rattle.c_layout.specs.Known.{Known, layout_of, type_of}
-use Rattle.c_rules.specs.Scopes as rules
-use Rattle.c_rules.specs.Scopes.{Struct, incomplete, types_of_struct, type_of_member}
+use Rattle.c_rules.specs.Scopes.{incomplete, types_of_struct, type_of_member}
 use Rattle.c_scopes.specs.View.{member_of, struct_known, structs_of, struct_in}
 
 types_seen : (ks : List Known) → map type_of_member (map member_of ks) ≡ map type_of ks

@@ -1,5 +1,5 @@
 -- The names that scopes hold, the newest first.
-use Rattle.std.specs.Prelude.{ℕ, ℤ, List, [], ◌∷◌, map, length, Option, Some, None, cond, bytes_eq}
+use Rattle.std.specs.Prelude.{ℕ, List, [], ◌∷◌, map, length, Option, Some, None, cond, bytes_eq}
 use Rattle.c_tree.specs.View.{ctype_of}
 use Rattle.c_scopes.specs.declared.meaning.Meaning.{Meaning as MeaningTree}
 use Rattle.c_scopes.specs.declared.meaning.Meaning.TheVariants as m

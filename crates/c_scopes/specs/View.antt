@@ -12,7 +12,7 @@ use Rattle.c_scopes.specs.declared.environment.Context.{Context}
 use Rattle.c_scopes.specs.declared.environment.Context.TheVariants as c
 use Rattle.c_scopes.specs.declared.environment.Environment.{Environment}
 use Rattle.c_scopes.specs.declared.environment.Before.{Before}
-use Rattle.c_scopes.specs.Bound.{Bound, binding_of, bindings_of}
+use Rattle.c_scopes.specs.Bound.{binding_of, bindings_of}
 
 -- a declaration that was looked up
 abbrev pub entry_of : Entry → Binding

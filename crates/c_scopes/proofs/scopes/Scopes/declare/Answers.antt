@@ -1,6 +1,6 @@
-use Rattle.std.proofs.Common.{rules, arith, ◌≡◌, ℕ, List, [], ◌∷◌, ap, ◌∙◌, sym}
+use Rattle.std.proofs.Common.{arith, [], ◌∷◌, ap, ◌∙◌, sym}
 use Rattle.c_scopes.specs.Bound.{bound, place}
-use Rattle.c_scopes.specs.Index.{onto, IsIndex}
+use Rattle.c_scopes.specs.Index.{onto}
 use Rattle.c_scopes.proofs.IndexLemmas.{declared, onto_push}
 use Rattle.c_scopes.proofs.scopes.Scopes.declare.Goals as goal
 

@@ -1,4 +1,4 @@
-use Rattle.std.proofs.Common.{◌≡◌, ℕ, List, [], ◌∷◌, ◌++◌, length}
+use Rattle.std.proofs.Common.{◌≡◌, List, ◌++◌, length}
 use Rattle.c_scopes.specs.Bound.{Bound}
 use Rattle.c_scopes.proofs.scopes.Scopes.leave.Given as goal
 

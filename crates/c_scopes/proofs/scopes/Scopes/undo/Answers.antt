@@ -1,6 +1,5 @@
-use Rattle.std.proofs.Common.{rules, ◌≡◌, ℕ, List, [], ◌∷◌, ap, ◌∙◌, sym}
+use Rattle.std.proofs.Common.{ap, ◌∙◌, sym}
 use Rattle.std.specs.Option.{option_copied_mut}
-use Rattle.c_scopes.specs.Index.{onto, IsIndex}
 use Rattle.c_scopes.proofs.IndexLemmas.{undone, there, some_there, taken}
 use Rattle.c_scopes.proofs.scopes.Scopes.undo.Goals as goal
 
