@@ -1,0 +1,7 @@
+use Rattle.flow_model.specs.Order.{sys_order}
+use Rattle.flow_model.proofs.OrderLemmas.{sys_order_total, sys_edges_tie}
+use Rattle.flow_graph.proofs.OrderedLemmas.{ordered}
+use Rattle.flow_graph.proofs.lists.order_sys.Goals as goal
+
+pub returns : goal.returns
+returns c = ordered sys_order sys_order_total sys_edges_tie c.args.edges.now.items c.in_order.new.items.items c.in_order.ensures.rise c.in_order.ensures.from c.in_order.ensures.all

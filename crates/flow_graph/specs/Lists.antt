@@ -1,0 +1,12 @@
+-- The lists of edges that are read alike, as a model keeps them.
+use Rattle.std.specs.Prelude.{◌≡◌, List}
+use Rattle.flow_graph.specs.declared.lists.Lists.{Lists}
+use Rattle.flow_model.specs.Order.{silent_order, sys_order}
+use Rattle.graph_laws.specs.Layout.{Edge}
+use Rattle.graph_laws.specs.GraphOf.{silent_edges, sys_edges}
+use Rattle.graph_laws.specs.Sorted.{sorted}
+
+-- those of these edges, in order and each once
+pub record AreLists (edges : List Edge) (lists : Lists) : Type 0 where
+  pub silent : lists.silent.items ≡ sorted silent_order (silent_edges edges)
+  pub sys : lists.sys.items ≡ sorted sys_order (sys_edges edges)
