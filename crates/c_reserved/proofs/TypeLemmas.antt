@@ -23,6 +23,6 @@ pub by_parameters :
     → same_type (ctype_of u) (plain p.gives) ≡ true → r ≡ same_types (types_of ts) (plain_types p.takes.now) → r ≡ same_type (ctype_of t) (prototype_type p)
 by_parameters t u ts p r g v is gives takes fits rest =
     let whole : same_type (ctype_of t) (prototype_type p) ≡ (same_type (ctype_of g.value) (plain p.gives) && same_types (types_of v.items) (plain_types p.takes.now)) =
-      ap (λ x. same_type (ctype_of x) (prototype_type p)) is ∙ ap (λ x. same_type x (prototype_type p)) (function_is g v) in
+    ap (λ x. same_type (ctype_of x) (prototype_type p)) is ∙ ap (λ x. same_type x (prototype_type p)) (function_is g v) in
     let first : same_type (ctype_of g.value) (plain p.gives) ≡ true = ap (λ x. same_type (ctype_of x) (plain p.gives)) (sym gives) ∙ fits in
     rest ∙ (ap (λ xs. same_types (types_of xs) (plain_types p.takes.now)) takes ∙ sym (whole ∙ ap (λ b. b && same_types (types_of v.items) (plain_types p.takes.now)) first))

@@ -1,0 +1,12 @@
+//! What is known of a unit of the C profile from its syntax alone: the names that declarators declare, the numbers of the
+//! variables of a function, and the functions and objects that the unit defines.
+#![tactic(auto)]
+
+mod gather;
+mod names;
+mod numbers;
+mod units;
+
+pub use names::name_of;
+pub use numbers::{Next, first_numbers};
+pub use units::{functions_of, objects_of};
