@@ -1,0 +1,66 @@
+-- Nodes with a list: as the terms that they are seen as.
+use Rattle.std.proofs.Common.{◌≡◌, ℕ, suc, max, sym, List, Option, Some, None, Vec, Global, refl, ap, ◌∙◌}
+use Rattle.std.specs.Prelude.{Box}
+use mathlib.Core.Former.{Count}
+use Rattle.c_syntax.specs.declared.tree.Expr.{Expr as Tree}
+use Rattle.c_syntax.specs.declared.tree.Param.{Param as ParamTree}
+use Rattle.c_syntax.specs.declared.tree.Declarator.{Declarator as DeclaratorTree}
+use Rattle.c_syntax.specs.declared.tree.ExprKind.{ExprKind, Comma', Row_of-Expr, end_of-Expr, more_of-Expr, items-the_row-Expr, items_hidden-the_row-Expr-1}
+use Rattle.c_syntax.specs.declared.tree.ExprKind.TheVariants.{Comma, Call}
+use Rattle.c_syntax.specs.declared.tree.DeclaratorKind.{DeclaratorKind, Function', Row_of-Param, end_of-Param, more_of-Param, items-the_row-Param, items_hidden-the_row-Param-0}
+use Rattle.c_syntax.specs.declared.tree.DeclaratorKind.TheBlock.{back-DeclaratorKind-Pointer-0}
+use Rattle.c_syntax.specs.declared.tree.DeclaratorKind.TheVariants.{Function}
+use Rattle.c_syntax.specs.Tree.{Expr, Exprs, more_exprs, comma, call, Declarator, Params, function}
+use Rattle.c_syntax.specs.Limits.{height, height_of_exprs, height_of_declarator, height_of_params}
+use Rattle.c_syntax.specs.View.{exprs_of_row, params_of_row, expr_at, expr_of, param_before, declarator_at, inner_declarator}
+use Rattle.c_syntax.specs.Writes.{exprs_of, params_of, declarator_behind}
+
+exprs_row : (n : _) (row : Row_of-Expr n) → exprs_of_row row ≡ exprs_of (items-the_row-Expr n row)
+exprs_row n end_of-Expr = refl
+exprs_row n (more_of-Expr at kind rest) = ap (more_exprs (expr_at at kind)) (exprs_row _ rest)
+
+abbrev row_in : ExprKind → (n : Count) × Row_of-Expr n
+row_in (Comma' shape row) = (_, row)
+row_in _ = (_, end_of-Expr)
+
+exprs_in : (v : Vec Tree Global) → exprs_of_row (row_in (Comma v)).1 ≡ exprs_of v.items
+exprs_in v = exprs_row (row_in (Comma v)).0 (row_in (Comma v)).1 ∙ ap exprs_of (items_hidden-the_row-Expr-1 v)
+
+pub comma_is : (at : ℕ) (v : Vec Tree Global) → expr_at at (Comma v) ≡ comma at (exprs_of v.items)
+comma_is at v = ap (comma at) (exprs_in v)
+
+pub call_is : (at : ℕ) (f : Box Tree Global) (v : Vec Tree Global) → expr_at at (Call f v) ≡ call at (expr_of f.value) (exprs_of v.items)
+call_is at f v = ap (call at (expr_of f.value)) (exprs_in v)
+
+params_row : (n : _) (row : Row_of-Param n) → params_of_row row ≡ params_of (items-the_row-Param n row)
+params_row n end_of-Param = refl
+params_row n (more_of-Param p rest) = ap (param_before p) (params_row _ rest)
+
+abbrev params_row_in : DeclaratorKind → (n : Count) × Row_of-Param n
+params_row_in (Function' held shape row) = (_, row)
+params_row_in _ = (_, end_of-Param)
+
+params_in : (d : Option (Box DeclaratorTree Global)) (v : Vec ParamTree Global) → params_of_row (params_row_in (Function d v)).1 ≡ params_of v.items
+params_in d v = params_row (params_row_in (Function d v)).0 (params_row_in (Function d v)).1 ∙ ap params_of (items_hidden-the_row-Param-0 v)
+
+inner_is : (d : Option (Box DeclaratorTree Global)) → inner_declarator (back-DeclaratorKind-Pointer-0 d) ≡ declarator_behind d
+inner_is None = refl
+inner_is (Some b) = refl
+
+pub function_is : (at : ℕ) (d : Option (Box DeclaratorTree Global)) (v : Vec ParamTree Global) → declarator_at at (Function d v) ≡ function at (declarator_behind d) (params_of v.items)
+function_is at d v =
+    ap (λ x. function at x (params_of_row (params_row_in (Function d v)).1)) (inner_is d)
+    ∙ ap (function at (declarator_behind d)) (params_in d v)
+
+both : {a b x y : ℕ} → a ≡ x → b ≡ y → max a b ≡ max x y
+both p q = cc
+
+-- the heights of these nodes
+pub comma_height : {h d at : ℕ} {es : Exprs} {e : Expr} → h ≡ suc d → d ≡ height_of_exprs es → e ≡ comma at es → h ≡ height e
+comma_height p q r = p ∙ ap suc q ∙ sym (ap height r)
+
+pub call_height : {h m d g at : ℕ} {a : Expr} {es : Exprs} {e : Expr} → h ≡ suc m → m ≡ max d g → d ≡ height a → g ≡ height_of_exprs es → e ≡ call at a es → h ≡ height e
+call_height p q r s t = p ∙ ap suc (q ∙ both r s) ∙ sym (ap height t)
+
+pub function_height : {h m d g at : ℕ} {a : Declarator} {ps : Params} {e : Declarator} → h ≡ suc m → m ≡ max d g → d ≡ height_of_declarator a → g ≡ height_of_params ps → e ≡ function at a ps → h ≡ height_of_declarator e
+function_height p q r s t = p ∙ ap suc (q ∙ both r s) ∙ sym (ap height_of_declarator t)

@@ -1,0 +1,13 @@
+use Rattle.std.proofs.Common.{ap, arith, length}
+use Rattle.c_syntax.specs.Specifiers.{no_const}
+use Rattle.c_phrases.proofs.Words.{const_taken, consts_end}
+use Rattle.c_phrases.proofs.cursor.Cursor.consts.Goals as goal
+
+pub loop-preserved : goal.loop-preserved
+loop-preserved c = record {
+  reads = λ k r. c.loop.invariant.reads k (const_taken c.loop-test.ensures.1 c.loop-test.ensures.2 r);
+  shorter = omega (arith, ap length c.loop-test.ensures.2, c.loop.invariant.shorter);
+}
+
+pub returns-clause-took : goal.returns-clause-took
+returns-clause-took c = consts_end c.loop-test.ensures.1 (c.loop.invariant.reads _ no_const)

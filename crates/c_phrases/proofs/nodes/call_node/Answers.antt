@@ -1,0 +1,9 @@
+use Rattle.std.proofs.Common.{◌∙◌}
+use Rattle.c_phrases.proofs.Rows.{call_is, call_height}
+use Rattle.c_phrases.proofs.nodes.call_node.Goals as goal
+
+pub returns-clause-makes : goal.returns-clause-makes
+returns-clause-makes c = c.in_ok-boxed.ensures ∙ call_is c.args.at c.args.a.tree c.args.list.trees
+
+pub invariant_of-result : goal.invariant_of-result
+invariant_of-result c = record { exact = call_height c.enclosed.ensures c.beside.ensures c.args.a.exact c.args.list.exact (c.in_ok-boxed.ensures ∙ call_is c.args.at c.args.a.tree c.args.list.trees) }

@@ -1,0 +1,5 @@
+pub mod Looking
+pub mod Making
+pub mod Phrases
+pub mod Reading
+pub mod Standing

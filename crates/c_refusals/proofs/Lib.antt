@@ -1,0 +1,9 @@
+pub mod Combine
+pub mod Fixed
+pub mod StmtForms
+pub mod BlockForms
+pub mod ElseWord
+pub mod ExprForms
+pub mod OperandFails
+pub mod UnitFails
+pub mod DeclForms

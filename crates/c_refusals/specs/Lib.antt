@@ -1,0 +1,5 @@
+pub mod Fails
+pub mod Operands
+pub mod Phrases
+pub mod Units
+pub mod Declarations
