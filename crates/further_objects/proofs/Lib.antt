@@ -1,0 +1,5 @@
+pub mod Expressions
+pub mod Statements
+pub mod Steps
+pub mod Together
+pub mod Worlds

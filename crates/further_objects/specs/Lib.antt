@@ -1,0 +1,2 @@
+pub mod FurtherObjects
+pub mod Laws
