@@ -1,4 +1,5 @@
 -- What `judge` makes of two files that were read.
+use Rattle.std.specs.Prelude.{◌⊎◌}
 use Rattle.std.proofs.Common.{ℕ, ◌≤◌, List, [], ◌∷◌, arith, Option, Some, None, IfSome, inl, inr, refl, sym, ◌∙◌, ap, subst}
 use Rattle.dm_base.specs.declared.event.Event.{Event}
 use Rattle.dm_base.specs.declared.outcome.TraceEnd.{TraceEnd}
@@ -10,14 +11,20 @@ use Rattle.dm_io.specs.Store.{Files, file_at}
 use Rattle.flow_model.specs.declared.which.Which.{Which}
 use Rattle.flow_model.specs.Graph.{Graph}
 use Rattle.model_file.specs.Refusal.{IsModel}
-use Rattle.trace_file.specs.Trace.{IsTraceWithin, IsTraceRefusal}
+use Rattle.trace_file.specs.declared.error.TraceError.{TraceError}
+use Rattle.trace_file.specs.declared.record.Record.{Record}
+use Rattle.trace_file.specs.declared.version.TracesVersion.{TracesVersion}
+use Rattle.trace_file.specs.Trace.{IsTraceWithin}
 use Rattle.tool.specs.Commands.{IsFinished}
 use Rattle.tool.specs.declared.stop.Stop.{Stop}
 use Rattle.tool.specs.declared.stop.Stop.TheVariants as stops
-use Rattle.tool.specs.Judge.{Judges, IsAModel, RefusesToJudge, LacksToJudge}
-use Rattle.tool.specs.Reading.{StopsModel, StopsTrace}
+use Rattle.tool.specs.Judge.{Judges, IsAModel, RefusesModel, RefusesRecords, LacksToJudge}
+use Rattle.tool.specs.Reading.{StopsModel, StopsFile}
 use Rattle.tool.specs.Stop.{Stops}
 use Rattle.tool.specs.Judged.{AreJudged, status_of, status_of_all, worse}
+use Rattle.tool.specs.Told.{AreTracesTold}
+use Rattle.tool.specs.Watch.{Watches}
+use Rattle.tool.specs.Watched.{AreAllWatched}
 
 -- each verdict ends the work
 
@@ -50,31 +57,45 @@ judges None model trace text g monitors bound status events is_model is_trace ju
 judges (Some files) model trace text g monitors bound status events is_model is_trace judged =
     record { graph = g; events = events; end = is_trace.0; is_model = is_model; is_trace = is_trace.1; judged = judged }
 
--- why judging stopped, once the model was read
-pub stops_judging : (told : Option Files) (model trace : List ℕ) (g : Graph) (stop : Stop) (before middle after : ℕ) → before ≤ middle → IfSome told (λ files. IsModel (file_at files model) g) → StopsTrace stop told trace middle after → Stops stop (RefusesToJudge told model trace) (LacksToJudge told model trace) before after
-stops_judging told model trace g stops.Usage before middle after le is why = why
-stops_judging told model trace g (stops.Model line) before middle after le is why = absurd why
-stops_judging told model trace g (stops.Record line) before middle after le is why = inr (why.0, why.1, refl, why.2, with_model told is why.3)
+-- why judging or watching stopped, once the model was read
+pub stops_following : (Refusal : TraceError → List ℕ → Type 0) (told : Option Files) (model trace : List ℕ) (g : Graph) (stop : Stop) (before middle after : ℕ) → before ≤ middle → IfSome told (λ files. IsModel (file_at files model) g) → StopsFile Refusal stop told trace middle after
+    → Stops stop (λ status line. RefusesModel told model status line ⊎ RefusesRecords Refusal told model trace status line) (LacksToJudge told model trace) before after
+stops_following Refusal told model trace g stops.Usage before middle after le is why = why
+stops_following Refusal told model trace g (stops.Model line) before middle after le is why = absurd why
+stops_following Refusal told model trace g (stops.Record line) before middle after le is why = inr (why.0, why.1, refl, why.2, with_model told is why.3)
   where
-    with_model : (t : Option Files) → IfSome t (λ files. IsModel (file_at files model) g) → IfSome t (λ files. IsTraceRefusal why.0 (file_at files trace)) → IfSome t (λ files. IsAModel files model × IsTraceRefusal why.0 (file_at files trace))
+    with_model : (t : Option Files) → IfSome t (λ files. IsModel (file_at files model) g) → IfSome t (λ files. Refusal why.0 (file_at files trace)) → IfSome t (λ files. IsAModel files model × Refusal why.0 (file_at files trace))
     with_model None is refusal = tt
     with_model (Some files) is refusal = ((g, is), refusal)
-stops_judging told model trace g stops.Read before middle after le is (inl (inl rose)) = inl (inl (omega (arith, rose, le)))
-stops_judging told model trace g stops.Read before middle after le is (inl (inr most)) = inl (inr most)
-stops_judging told model trace g stops.Read before middle after le is (inr missing) = inr (inr (missing, with_model told is))
+stops_following Refusal told model trace g stops.Read before middle after le is (inl (inl rose)) = inl (inl (omega (arith, rose, le)))
+stops_following Refusal told model trace g stops.Read before middle after le is (inl (inr most)) = inl (inr most)
+stops_following Refusal told model trace g stops.Read before middle after le is (inr missing) = inr (inr (missing, with_model told is))
   where
     with_model : (t : Option Files) → IfSome t (λ files. IsModel (file_at files model) g) → IfSome t (λ files. IsAModel files model)
     with_model None is = tt
     with_model (Some files) is = (g, is)
-stops_judging told model trace g stops.Write before middle after le is why = why
-stops_judging told model trace g stops.OutOfMemory before middle after le is why = tt
+stops_following Refusal told model trace g stops.Write before middle after le is why = why
+stops_following Refusal told model trace g stops.OutOfMemory before middle after le is why = tt
 
--- why judging stopped before the model was read
-pub stops_reading : (told : Option Files) (model trace : List ℕ) (stop : Stop) (before after : ℕ) → StopsModel stop told model before after → Stops stop (RefusesToJudge told model trace) (LacksToJudge told model trace) before after
-stops_reading told model trace stops.Usage before after why = why
-stops_reading told model trace (stops.Model line) before after why = inl why
-stops_reading told model trace (stops.Record line) before after why = absurd why
-stops_reading told model trace stops.Read before after (inl rose) = inl rose
-stops_reading told model trace stops.Read before after (inr missing) = inr (inl missing)
-stops_reading told model trace stops.Write before after why = why
-stops_reading told model trace stops.OutOfMemory before after why = tt
+-- why judging or watching stopped before the model was read
+pub stops_before : (Refusal : TraceError → List ℕ → Type 0) (told : Option Files) (model trace : List ℕ) (stop : Stop) (before after : ℕ) → StopsModel stop told model before after
+    → Stops stop (λ status line. RefusesModel told model status line ⊎ RefusesRecords Refusal told model trace status line) (LacksToJudge told model trace) before after
+stops_before Refusal told model trace stops.Usage before after why = why
+stops_before Refusal told model trace (stops.Model line) before after why = inl why
+stops_before Refusal told model trace (stops.Record line) before after why = absurd why
+stops_before Refusal told model trace stops.Read before after (inl rose) = inl rose
+stops_before Refusal told model trace stops.Read before after (inr missing) = inr (inl missing)
+stops_before Refusal told model trace stops.Write before after why = why
+stops_before Refusal told model trace stops.OutOfMemory before after why = tt
+
+-- the model and the interleaved traces of the files
+pub watches : (told : Option Files) (model traces text : List ℕ) (g : Graph) (monitors : List Which) (bound : ℕ) (status : Status)
+    → IfSome told (λ files. IsModel (file_at files model) g)
+    → AreTracesTold told traces (λ version records. AreAllWatched monitors g bound version records status text)
+    → IfSome told (λ files. Watches files model traces monitors bound status text)
+watches None model traces text g monitors bound status is_model told = tt
+watches (Some files) model traces text g monitors bound status is_model told =
+    record { graph = g; version = told.version; records = told.records; is_model = is_model; are_traces = told.are; watched = told.told }
+
+pub watched_finished : (monitors : List Which) (g : Graph) (bound : ℕ) (version : TracesVersion) (records : List Record) (status : Status) (text : List ℕ) → AreAllWatched monitors g bound version records status text → IsFinished status
+watched_finished monitors g bound version records status text watched = subst IsFinished (sym watched.ends) (statuses_finished watched.verdicts)

@@ -103,7 +103,7 @@ bound_now which g bound t kept e r whole recorded step is =
 
 -- what is told
 
-worse_alone : (v : Verdict) → worse (status_of v) Done ≡ status_of v
+pub worse_alone : (v : Verdict) → worse (status_of v) Done ≡ status_of v
 worse_alone (verdicts.Accepted n) = refl
 worse_alone (verdicts.Rejected k) = refl
 worse_alone (verdicts.Bound k) = refl

@@ -28,7 +28,7 @@ worse_assoc Rejected b c = refl
 worse_assoc Bound b c = worse_bound b c
 worse_assoc other b c = refl
 
-statuses_append : (vs ws : List Verdict) → status_of_all (vs ++ ws) ≡ worse (status_of_all vs) (status_of_all ws)
+pub statuses_append : (vs ws : List Verdict) → status_of_all (vs ++ ws) ≡ worse (status_of_all vs) (status_of_all ws)
 statuses_append [] ws = refl
 statuses_append (v ∷ vs) ws = ap (worse (status_of v)) (statuses_append vs ws) ∙ sym (worse_assoc (status_of v) (status_of_all vs) (status_of_all ws))
 

@@ -1,25 +1,30 @@
--- A trace file that is read in pieces.
-use Rattle.std.proofs.Common.{◌≡◌, ℕ, ◌+◌, ◌≤◌, List, [], ◌++◌, length, take, Option, None, Some, IfSome, refl, sym, ◌∙◌, ap, subst, inl, inr, append-nil, append_assoc, arith, length-append}
+-- A file of a trace, or of interleaved traces, that is read in pieces.
+use Rattle.std.proofs.Common.{rules, ◌≡◌, ℕ, ◌+◌, ◌<◌, ◌≤◌, List, [], ◌++◌, length, take, Option, None, Some, IfSome, refl, sym, ◌∙◌, ap, subst, inl, inr, append-nil, append_assoc, arith, length-append}
 use Rattle.std.specs.Prelude.{All, slice_index_or}
 use Rattle.std.proofs.lemmas.List.{take_all, length-take, get_or-append-add}
 use Rattle.dm_base.specs.declared.event.Event.{Event}
 use Rattle.dm_base.specs.declared.event.Event.TheVariants as events
 use Rattle.dm_base.specs.declared.outcome.TraceEnd.{TraceEnd}
+use Rattle.dm_base.specs.declared.verdict.Status.{Status}
 use Rattle.dm_io.specs.Front.{ReadsFront}
 use Rattle.dm_io.specs.Store.{Files, ReadsPart, file_at}
 use Rattle.dm_io.proofs.Parts.{ReadsFront-append}
 use Rattle.trace_file.specs.declared.error.TraceError.{TraceError}
 use Rattle.trace_file.specs.declared.error.TraceError.TheVariants as traces
+use Rattle.trace_file.specs.declared.record.Record.{Record}
 use Rattle.trace_file.specs.declared.trace_reader.TraceReader.{TraceReader}
 use Rattle.trace_file.specs.declared.trace_place.TracePlace.{TracePlace}
 use Rattle.trace_file.specs.declared.trace_place.TracePlace.TheVariants as places
+use Rattle.trace_file.specs.declared.version.TracesVersion.{TracesVersion}
 use Rattle.trace_file.specs.EventText.{IsWritten}
 use Rattle.trace_file.specs.TraceReading.{StandsForTrace, ReachesTrace}
 use Rattle.sys_table.specs.Table.{IsRecorded}
 use Rattle.trace_file.specs.Trace.{longest, most, IsTraceWithin, IsTraceRefusal}
+use Rattle.trace_file.specs.Traces.{AreTracesWithin, IsTracesRefusal}
 use Rattle.tool.specs.declared.stop.Stop.{Stop}
 use Rattle.tool.specs.declared.stop.Stop.TheVariants as stops
-use Rattle.tool.specs.Reading.{IsAt, IsOpen, IsShut, IsReadWhole, IsTraceJudged, IsConcluded, StopsTrace}
+use Rattle.tool.specs.Reading.{IsAt, IsShut, IsReadWhole, IsStopOf, StopsFile, StopsReading, StopsText}
+use Rattle.tool.specs.Told.{IsTraceTold, AreTracesTold}
 
 -- a read that gives no byte is at the end of the file
 pub whole_text : (told : Option Files) (name text into : List ℕ) (at : ℕ) → length text ≡ at → ReadsFront told name text → ReadsPart told name at 0 into → IfSome told (λ files. text ≡ file_at files name)
@@ -29,64 +34,70 @@ whole_text (Some files) name text into at is front part =
     front ∙ take_all (length text) (file_at files name) (omega (arith, past, is))
 
 -- one byte too many was read
-pub too_long : (told : Option Files) (name text : List ℕ) → length text ≡ 67108865 → ReadsFront told name text → IfSome told (λ files. IsTraceRefusal traces.TooLong (file_at files name))
+pub too_long : (told : Option Files) (name text : List ℕ) → length text ≡ 67108865 → ReadsFront told name text → IfSome told (λ files. longest < length (file_at files name))
 too_long None name text is front = tt
-too_long (Some files) name text is front =
-    inl (omega (arith, is, ap length front, length-take (length text) (file_at files name)))
+too_long (Some files) name text is front = omega (arith, is, ap length front, length-take (length text) (file_at files name))
 
--- what was judged of a text that is the file's
-pub trace_judged : (told : Option Files) (name : List ℕ) (refused : Option TraceError) (reader : TraceReader) (Judged : List Event → Type 0) → IsReadWhole told name refused reader Judged → refused ≡ None → ((text : List ℕ) (h : List Event) → StandsForTrace reader text h → (end : TraceEnd) × IsTraceWithin text h end) → IsTraceJudged told name Judged
-trace_judged told name refused reader Judged read unrefused ended =
-    let at : IsOpen reader Judged read.text = subst (λ (r : Option TraceError). IsAt r reader Judged read.text) unrefused read.at in
-    record { events = at.events; judged = at.judged; is = found told read.is (ended read.text at.events at.stands) }
-  where
-    found : (t : Option Files) → IfSome t (λ files. read.text ≡ file_at files name) → {events : List Event} → ((end : TraceEnd) × IsTraceWithin read.text events end) → IfSome t (λ files. (end : TraceEnd) × IsTraceWithin (file_at files name) events end)
-    found None is within = tt
-    found (Some files) is {events} within = (within.0, subst (λ (w : List ℕ). IsTraceWithin w events within.0) is within.1)
+-- what holds of a text that is the file's
+of_file : (P : List ℕ → Type 0) (told : Option Files) (name text : List ℕ) → IfSome told (λ files. text ≡ file_at files name) → P text → IfSome told (λ files. P (file_at files name))
+of_file P None name text is here = tt
+of_file P (Some files) name text is here = subst P is here
+
+-- what was told of a trace that is the file's
+pub trace_told : (told : Option Files) (name : List ℕ) (Followed : List ℕ → Type 0) (Tells : List Event → Status → List ℕ → Type 0) (status : Status) (text : List ℕ) → IsReadWhole told name Followed → ((w : List ℕ) → Followed w → (events : List Event) × (end : TraceEnd) × IsTraceWithin w events end × Tells events status text) → IsTraceTold told name Tells status text
+trace_told told name Followed Tells status text read found =
+    let at = found read.text read.followed in
+    record { events = at.0; is = of_file (λ w. (end : TraceEnd) × IsTraceWithin w at.0 end) told name read.text read.is (at.1, at.2); told = at.3 }
+
+-- what was told of interleaved traces that are the file's
+pub traces_told : (told : Option Files) (name : List ℕ) (Followed : List ℕ → Type 0) (Tells : TracesVersion → List Record → Type 0) → IsReadWhole told name Followed → ((w : List ℕ) → Followed w → (version : TracesVersion) × (records : List Record) × AreTracesWithin w version records × Tells version records) → AreTracesTold told name Tells
+traces_told told name Followed Tells read found =
+    let at = found read.text read.followed in
+    record { version = at.0; records = at.1; are = of_file (λ w. AreTracesWithin w at.0 at.1) told name read.text read.is at.2; told = at.3 }
 
 -- why a text that is the file's is refused
-pub trace_refused : (told : Option Files) (name : List ℕ) (refused : Option TraceError) (reader : TraceReader) (Judged : List Event → Type 0) (stop : Stop) (before after : ℕ) → IsReadWhole told name refused reader Judged → IsConcluded stop refused reader → StopsTrace stop told name before after
-trace_refused told name refused reader Judged stops.Usage before after read why = why
-trace_refused told name refused reader Judged (stops.Model line) before after read why = why
-trace_refused told name refused reader Judged (stops.Record line) before after read why =
-    (why.0, why.1, why.2, of_file told read.is)
+pub text_refused : (Refusal : TraceError → List ℕ → Type 0) (told : Option Files) (name : List ℕ) (Followed : List ℕ → Type 0) (stop : Stop) (before after : ℕ) → IsReadWhole told name Followed → ((w : List ℕ) → Followed w → length w ≤ longest → StopsText Refusal stop w) → StopsFile Refusal stop told name before after
+text_refused Refusal told name Followed stop before after read why = by stop (why read.text read.followed read.short)
   where
-    here : IsTraceRefusal why.0 read.text
-    here = elim why.3 [
-      | inl is ↦
-          let shut : IsShut why.0 read.text = subst (λ (r : Option TraceError). IsAt r reader Judged read.text) is read.at in
-          let nothing : read.text ++ [] ≡ read.text = append-nil read.text in
-          subst (IsTraceRefusal why.0) nothing (shut.shown [] (subst (λ (w : List ℕ). length w ≤ longest) (sym nothing) read.short))
-      | inr is ↦
-          let at : IsOpen reader Judged read.text = subst (λ (r : Option TraceError). IsAt r reader Judged read.text) is.0 read.at in
-          is.1 read.text at.events at.stands
-    ]
+    by : (s : Stop) → StopsText Refusal s read.text → StopsFile Refusal s told name before after
+    by stops.Usage why = why
+    by (stops.Model line) why = why
+    by (stops.Record line) why = (why.0, why.1, why.2, of_file (Refusal why.0) told name read.text read.is why.3)
+    by stops.Read why = absurd why
+    by stops.Write why = why
+    by stops.OutOfMemory why = tt
 
-    of_file : (t : Option Files) → IfSome t (λ files. read.text ≡ file_at files name) → IfSome t (λ files. IsTraceRefusal why.0 (file_at files name))
-    of_file None is = tt
-    of_file (Some files) is = subst (IsTraceRefusal why.0) is here
-trace_refused told name refused reader Judged stops.Read before after read why = absurd why
-trace_refused told name refused reader Judged stops.Write before after read why = why
-trace_refused told name refused reader Judged stops.OutOfMemory before after read why = tt
+-- why a file that was not read to its end is refused
+pub reading_refused : (Refusal : TraceError → List ℕ → Type 0) (told : Option Files) (name : List ℕ) (stop : Stop) (before after : ℕ) → ((w : List ℕ) → longest < length w → Refusal traces.TooLong w) → StopsReading stop told name before after → StopsFile Refusal stop told name before after
+reading_refused Refusal told name stops.Usage before after long why = why
+reading_refused Refusal told name (stops.Model line) before after long why = why
+reading_refused Refusal told name (stops.Record line) before after long why = (traces.TooLong, search rules, why.0, too_much told why.1)
+  where
+    too_much : (t : Option Files) → IfSome t (λ files. longest < length (file_at files name)) → IfSome t (λ files. Refusal traces.TooLong (file_at files name))
+    too_much None is = tt
+    too_much (Some files) is = long (file_at files name) is
+reading_refused Refusal told name stops.Read before after long why = why
+reading_refused Refusal told name stops.Write before after long why = why
+reading_refused Refusal told name stops.OutOfMemory before after long why = tt
 
 -- one piece more of the file
-pub piece_more : (told here : Option Files) (name text into : List ℕ) (given count next : ℕ) (refused : Option TraceError) (reader : TraceReader) (Judged : List Event → Type 0)
-    → here ≡ told → length text ≡ given → ReadsFront told name text → next ≡ given + count → count ≤ length into → ReadsPart here name given count into
-    → (length (text ++ take count into) ≤ longest → IsAt refused reader Judged (text ++ take count into))
-    → (t : List ℕ) × (length t ≡ next) × ReadsFront told name t × (length t ≤ longest → IsAt refused reader Judged t)
-piece_more told here name text into given count next refused reader Judged same long front is within part at = (
+pub piece_more : (told here : Option Files) (name text into : List ℕ) (given count : ℕ) (Followed : List ℕ → Type 0)
+    → here ≡ told → length text ≡ given → ReadsFront told name text → count ≤ length into → ReadsPart here name given count into
+    → (length (text ++ take count into) ≤ longest → Followed (text ++ take count into))
+    → (t : List ℕ) × (length t ≡ given + count) × ReadsFront told name t × (length t ≤ longest → Followed t)
+piece_more told here name text into given count Followed same long front within part at = (
   text ++ take count into,
-  omega (arith, long, is, within, length-append text (take count into), length-take count into),
+  omega (arith, long, within, length-append text (take count into), length-take count into),
   ReadsFront-append told name text into given count (sym long) within front (subst (λ (f : Option Files). ReadsPart f name given count into) same part),
   at,
 )
 
 -- no piece more of the file
-pub no_piece_more : (told here : Option Files) (name text into : List ℕ) (given count : ℕ) (refused : Option TraceError) (reader : TraceReader) (Judged : List Event → Type 0)
+pub no_piece_more : (told here : Option Files) (name text into : List ℕ) (given count : ℕ) (Followed : List ℕ → Type 0)
     → here ≡ told → given ≤ longest → count ≡ 0 → length text ≡ given → ReadsFront told name text → ReadsPart here name given count into
-    → (length (text ++ take count into) ≤ longest → IsAt refused reader Judged (text ++ take count into))
-    → IsReadWhole told name refused reader Judged
-no_piece_more told here name text into given count refused reader Judged same few none long front part at =
+    → (length (text ++ take count into) ≤ longest → Followed (text ++ take count into))
+    → IsReadWhole told name Followed
+no_piece_more told here name text into given count Followed same few none long front part at =
     let part' : ReadsPart told name given 0 into = subst (λ (n : ℕ). ReadsPart told name given n into) none (subst (λ (f : Option Files). ReadsPart f name given count into) same part) in
     let nothing : text ++ take count into ≡ text = ap (λ (n : ℕ). text ++ take n into) none ∙ append-nil text in
     let short : length text ≤ longest = omega (arith, long, few) in
@@ -95,10 +106,8 @@ no_piece_more told here name text into given count refused reader Judged same fe
       text = text;
       short = short;
       is = whole_text told name text into given long front part';
-      at = subst (IsAt refused reader Judged) nothing (at short');
+      followed = subst Followed nothing (at short');
     }
-
--- the events that a reader has given
 
 -- the number of the events, and that a file may hold them
 standing : (reader : TraceReader) (text : List ℕ) (events : List Event) → StandsForTrace reader text events → (length events ≤ most) × All IsWritten events
@@ -112,7 +121,7 @@ standing reader text events stands = at_place reader.place stands.done stands.re
 pub standing_few : (reader : TraceReader) (text : List ℕ) (events : List Event) → StandsForTrace reader text events → length events ≤ most
 standing_few reader text events stands = (standing reader text events stands).0
 
-written_recorded : (event : Event) → IsWritten event → IsRecorded event
+pub written_recorded : (event : Event) → IsWritten event → IsRecorded event
 written_recorded (events.Sys name arguments outcome) written = written.1
 written_recorded (events.Pre site) written = tt
 written_recorded (events.Post site) written = tt
@@ -125,21 +134,30 @@ given_recorded reader text before given stands = λ k d less.
 
 -- the next piece
 
-pub at_open : (refused : Option TraceError) (reader : TraceReader) (Judged : List Event → Type 0) (text : List ℕ) → refused ≡ None → IsAt refused reader Judged text → IsOpen reader Judged text
-at_open refused reader Judged text is at = subst (λ (r : Option TraceError). IsAt r reader Judged text) is at
+pub at_open : (Refusal : TraceError → List ℕ → Type 0) (refused : Option TraceError) (Open : List ℕ → Type 0) (text : List ℕ) → refused ≡ None → IsAt Refusal refused Open text → Open text
+at_open Refusal refused Open text is at = subst (λ (r : Option TraceError). IsAt Refusal r Open text) is at
 
-shut_more : (error : TraceError) (text piece : List ℕ) → IsShut error text → IsShut error (text ++ piece)
-shut_more error text piece shut =
+pub at_shut : (Refusal : TraceError → List ℕ → Type 0) (refused : Option TraceError) (error : TraceError) (Open : List ℕ → Type 0) (text : List ℕ) → refused ≡ Some error → IsAt Refusal refused Open text → IsShut Refusal error text
+at_shut Refusal refused error Open text is at = subst (λ (r : Option TraceError). IsAt Refusal r Open text) is at
+
+-- the whole text shows its refusal
+pub shut_here : (Refusal : TraceError → List ℕ → Type 0) (error : TraceError) (text : List ℕ) → IsShut Refusal error text → length text ≤ longest → Refusal error text
+shut_here Refusal error text shut short =
+    let nothing : text ++ [] ≡ text = append-nil text in
+    subst (Refusal error) nothing (shut.shown [] (subst (λ (w : List ℕ). length w ≤ longest) (sym nothing) short))
+
+shut_more : (Refusal : TraceError → List ℕ → Type 0) (error : TraceError) (text piece : List ℕ) → IsShut Refusal error text → IsShut Refusal error (text ++ piece)
+shut_more Refusal error text piece shut =
     record {
       named = shut.named;
       shown = λ more short.
           let same : text ++ (piece ++ more) ≡ (text ++ piece) ++ more = sym (append_assoc text piece more) in
-          subst (IsTraceRefusal error) same (shut.shown (piece ++ more) (subst (λ (w : List ℕ). length w ≤ longest) (sym same) short));
+          subst (Refusal error) same (shut.shown (piece ++ more) (subst (λ (w : List ℕ). length w ≤ longest) (sym same) short));
     }
 
-pub at_more : (refused : Option TraceError) (error : TraceError) (reader : TraceReader) (Judged Later : List Event → Type 0) (text piece : List ℕ) → refused ≡ Some error → IsAt refused reader Judged text → IsAt refused reader Later (text ++ piece)
-at_more refused error reader Judged Later text piece is at =
-    subst (λ (r : Option TraceError). IsAt r reader Later (text ++ piece)) (sym is) (shut_more error text piece (subst (λ (r : Option TraceError). IsAt r reader Judged text) is at))
+pub at_more : (Refusal : TraceError → List ℕ → Type 0) (refused : Option TraceError) (error : TraceError) (Open Later : List ℕ → Type 0) (text piece : List ℕ) → refused ≡ Some error → IsAt Refusal refused Open text → IsAt Refusal refused Later (text ++ piece)
+at_more Refusal refused error Open Later text piece is at =
+    subst (λ (r : Option TraceError). IsAt Refusal r Later (text ++ piece)) (sym is) (shut_more Refusal error text piece (at_shut Refusal refused error Open text is at))
 
 -- nothing was read
 
@@ -147,6 +165,11 @@ pub front_nil : (told : Option Files) (name : List ℕ) → ReadsFront told name
 front_nil None name = tt
 front_nil (Some files) name = refl
 
-pub begun : (told : Option Files) (name : List ℕ) (given : ℕ) (refused : Option TraceError) (reader : TraceReader) (Judged : List Event → Type 0) → given ≡ 0 → refused ≡ None → StandsForTrace reader [] [] → Judged [] → (text : List ℕ) × (length text ≡ given) × ReadsFront told name text × (length text ≤ longest → IsAt refused reader Judged text)
-begun told name given refused reader Judged none unrefused stands judged =
-    ([], sym none, front_nil told name, λ short. subst (λ (r : Option TraceError). IsAt r reader Judged []) (sym unrefused) (record { events = []; stands = stands; judged = judged }))
+-- the stop of a text that was read whole and is refused
+pub stops_text : (Refusal : TraceError → List ℕ → Type 0) (stop : Stop) (error : TraceError) (text : List ℕ) → IsStopOf stop error → Refusal error text → StopsText Refusal stop text
+stops_text Refusal stops.Usage error text why is = why
+stops_text Refusal (stops.Model line) error text why is = why
+stops_text Refusal (stops.Record line) error text why is = (error, why.0, why.1, is)
+stops_text Refusal stops.Read error text why is = why
+stops_text Refusal stops.Write error text why is = why
+stops_text Refusal stops.OutOfMemory error text why is = tt

@@ -34,12 +34,22 @@ pub data FileCommand : Type 0 where
 abbrev pub file_word : FileCommand → List ℕ
 file_word Upgrade = codes "upgrade"
 
+-- The commands that read a model and a trace, or interleaved traces, and write the verdicts of monitors up to a bound.
+pub data TraceCommand : Type 0 where
+  Judge : TraceCommand
+  Watch : TraceCommand
+
+-- the word of such a command
+abbrev pub trace_word : TraceCommand → List ℕ
+trace_word Judge = codes "judge"
+trace_word Watch = codes "watch"
+
 -- What the words ask for. File names are bytes.
 pub data Command : Type 0 where
   Version : Command
   Help : Command
   OfFile : FileCommand → List ℕ → Command
-  Judge : List ℕ → List ℕ → Asked → ℕ → Command
+  OfTrace : TraceCommand → List ℕ → List ℕ → Asked → ℕ → Command
   Measure : List ℕ → List ℕ → Asked → Command
 
 -- the words of each command
@@ -47,6 +57,6 @@ abbrev pub IsCommandLine : Command → List (List ℕ) → Type 0
 IsCommandLine Version words = (words ≡ []) ⊎ (words ≡ codes "--version" ∷ [])
 IsCommandLine Help words = words ≡ codes "--help" ∷ []
 IsCommandLine (OfFile which file) words = words ≡ file_word which ∷ file ∷ []
-IsCommandLine (Judge model trace which bound) words =
-    (rest : List (List ℕ)) × (words ≡ codes "judge" ∷ model ∷ trace ∷ rest) × IsAskedBy which bound rest
+IsCommandLine (OfTrace command model trace which bound) words =
+    (rest : List (List ℕ)) × (words ≡ trace_word command ∷ model ∷ trace ∷ rest) × IsAskedBy which bound rest
 IsCommandLine (Measure model trace which) words = words ≡ codes "measure" ∷ model ∷ trace ∷ asked_word which ∷ []

@@ -5,10 +5,12 @@ use Rattle.dm_base.specs.declared.verdict.Status.TheVariants.{Done, Rejected, Bo
 use Rattle.dm_io.specs.Store.{Files, IsMissing}
 use Rattle.tool.specs.Command.{Command, monitors_of}
 use Rattle.tool.specs.Command.FileCommand.{Upgrade}
-use Rattle.tool.specs.Command.Command.{Version, Help, OfFile, Judge, Measure}
+use Rattle.tool.specs.Command.Command.{Version, Help, OfFile, OfTrace, Measure}
+use Rattle.tool.specs.Command.TraceCommand.{Judge, Watch}
 use Rattle.tool.specs.Judge.{Judges, RefusesToJudge, LacksToJudge, IsReadyToJudge}
 use Rattle.tool.specs.Measure.{Measures}
 use Rattle.tool.specs.Upgrade.{Upgrades, RefusesToUpgrade, IsReadyToUpgrade}
+use Rattle.tool.specs.Watch.{Watches, RefusesToWatch, IsReadyToWatch}
 
 abbrev pub version_text : List ℕ
 version_text = codes "dyckmon 1\n"
@@ -20,8 +22,9 @@ help_text =
     ++ codes "dyckmon judge MODEL TRACE WHICH [K]   the verdict lines of the model on the trace\n"
     ++ codes "dyckmon measure MODEL TRACE WHICH     how many calls may come next along the trace\n"
     ++ codes "dyckmon upgrade MODEL                 the file of the model in the newest version\n"
-    ++ codes "MODEL and TRACE are names of files. WHICH is callgraph, stack, dyck, or all for the three in this\n"
-    ++ codes "order. K is how many calls may be open at once in the Dyck model, 1 to 65535; it is 1000 where\n"
+    ++ codes "dyckmon watch MODEL TRACES WHICH [K]  the verdict lines of each process of interleaved traces\n"
+    ++ codes "MODEL, TRACE and TRACES are names of files. WHICH is callgraph, stack, dyck, or all for the three in\n"
+    ++ codes "this order. K is how many calls may be open at once in the Dyck model, 1 to 65535; it is 1000 where\n"
     ++ codes "none is given.\n"
 
 -- the work was done: some text was written whole
@@ -34,8 +37,9 @@ Makes Version files status text = (status ≡ Done) × (text ≡ version_text)
 Makes Help files status text = (status ≡ Done) × (text ≡ help_text)
 Makes (OfFile which file) None status text = IsFinished status
 Makes (OfFile Upgrade file) (Some files) status text = (status ≡ Done) × Upgrades files file text
-Makes (Judge model trace which bound) None status text = IsFinished status
-Makes (Judge model trace which bound) (Some files) status text = Judges files model trace (monitors_of which) bound status text
+Makes (OfTrace command model trace which bound) None status text = IsFinished status
+Makes (OfTrace Judge model trace which bound) (Some files) status text = Judges files model trace (monitors_of which) bound status text
+Makes (OfTrace Watch model traces which bound) (Some files) status text = Watches files model traces (monitors_of which) bound status text
 Makes (Measure model trace which) None status text = IsFinished status
 Makes (Measure model trace which) (Some files) status text = Measures files model trace (monitors_of which) status text
 
@@ -44,7 +48,8 @@ abbrev pub Refuses : Command → Option Files → Status → List ℕ → Type 0
 Refuses Version files status line = ⊥
 Refuses Help files status line = ⊥
 Refuses (OfFile Upgrade file) files status line = RefusesToUpgrade files file status line
-Refuses (Judge model trace which bound) files status line = RefusesToJudge files model trace status line
+Refuses (OfTrace Judge model trace which bound) files status line = RefusesToJudge files model trace status line
+Refuses (OfTrace Watch model traces which bound) files status line = RefusesToWatch files model traces status line
 Refuses (Measure model trace which) files status line = RefusesToJudge files model trace status line
 
 -- a file that the command asks for isn't there
@@ -52,7 +57,7 @@ abbrev pub Lacks : Command → Option Files → Type 0
 Lacks Version files = ⊥
 Lacks Help files = ⊥
 Lacks (OfFile which file) files = IsMissing files file
-Lacks (Judge model trace which bound) files = LacksToJudge files model trace
+Lacks (OfTrace command model trace which bound) files = LacksToJudge files model trace
 Lacks (Measure model trace which) files = LacksToJudge files model trace
 
 -- the command's files are told, and are such that it refuses none
@@ -60,5 +65,6 @@ abbrev pub IsReady : Command → Option Files → Type 0
 IsReady Version files = Unit {0}
 IsReady Help files = Unit {0}
 IsReady (OfFile Upgrade file) files = IsReadyToUpgrade files file
-IsReady (Judge model trace which bound) files = IsReadyToJudge files model trace
+IsReady (OfTrace Judge model trace which bound) files = IsReadyToJudge files model trace
+IsReady (OfTrace Watch model traces which bound) files = IsReadyToWatch files model traces
 IsReady (Measure model trace which) files = IsReadyToJudge files model trace

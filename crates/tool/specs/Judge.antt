@@ -39,7 +39,7 @@ model_refusal models.Truncated = codes "model refused M3\n"
 model_refusal models.TooLarge = codes "model refused M4\n"
 model_refusal models.Version = codes "model refused M5\n"
 
--- the line of a refused trace
+-- the line of a refused trace, or of refused interleaved traces
 abbrev pub trace_refusal : TraceError → List ℕ
 trace_refusal traces.OutOfMemory = codes "out of memory\n"
 trace_refusal (traces.BadLine k) = codes "record refused X1 line " ++ decimal k ++ codes "\n"
@@ -54,17 +54,17 @@ RefusesModel files model status line =
     (error : ModelError) × (error ≢ models.OutOfMemory) × (status ≡ statuses.ModelRefused) × (line ≡ model_refusal error)
     × IfSome files (λ told. IsModelRefusal error (file_at told model))
 
--- the model is one, and the trace is refused, with this status and this line
-abbrev pub RefusesTrace : Option Files → List ℕ → List ℕ → Status → List ℕ → Type 0
-RefusesTrace files model trace status line =
+-- the model is one, and the file of the records is refused for one of these reasons, with this status and this line
+abbrev pub RefusesRecords : (TraceError → List ℕ → Type 0) → Option Files → List ℕ → List ℕ → Status → List ℕ → Type 0
+RefusesRecords Refusal files model trace status line =
     (error : TraceError) × (error ≢ traces.OutOfMemory) × (status ≡ statuses.RecordRefused) × (line ≡ trace_refusal error)
-    × IfSome files (λ told. IsAModel told model × IsTraceRefusal error (file_at told trace))
+    × IfSome files (λ told. IsAModel told model × Refusal error (file_at told trace))
 
 -- the files are read and refused in this order
 abbrev pub RefusesToJudge : Option Files → List ℕ → List ℕ → Status → List ℕ → Type 0
-RefusesToJudge files model trace status line = RefusesModel files model status line ⊎ RefusesTrace files model trace status line
+RefusesToJudge files model trace status line = RefusesModel files model status line ⊎ RefusesRecords IsTraceRefusal files model trace status line
 
--- the model isn't there, or the trace isn't there and the model is one
+-- the model isn't there, or the file of the records isn't there and the model is one
 abbrev pub LacksToJudge : Option Files → List ℕ → List ℕ → Type 0
 LacksToJudge files model trace = IsMissing files model ⊎ (IsMissing files trace × IfSome files (λ told. IsAModel told model))
 

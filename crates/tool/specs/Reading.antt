@@ -1,7 +1,6 @@
--- For private contracts and proofs alone: how far a trace file has been read, and what that says of the file.
-use Rattle.std.specs.Prelude.{◌≡◌, ◌≢◌, ◌⊎◌, ℕ, ◌≤◌, List, Option, None, Some, length, IfSome}
+-- For private contracts and proofs alone: how far a file of a trace, or of interleaved traces, has been read, and what that says of the file.
+use Rattle.std.specs.Prelude.{◌≡◌, ◌≢◌, ◌⊎◌, ℕ, ◌<◌, ◌≤◌, List, ◌++◌, Option, None, Some, length, IfSome}
 use Rattle.dm_base.specs.declared.event.Event.{Event}
-use Rattle.dm_base.specs.declared.outcome.TraceEnd.{TraceEnd}
 use Rattle.dm_base.specs.declared.verdict.Status.{Status}
 use Rattle.dm_base.specs.declared.verdict.Status.TheVariants as statuses
 use Rattle.dm_io.specs.Faults.{Rose}
@@ -12,7 +11,8 @@ use Rattle.trace_file.specs.declared.error.TraceError.{TraceError}
 use Rattle.trace_file.specs.declared.error.TraceError.TheVariants as traces
 use Rattle.trace_file.specs.declared.trace_reader.TraceReader.{TraceReader}
 use Rattle.trace_file.specs.TraceReading.{StandsForTrace}
-use Rattle.trace_file.specs.Trace.{longest, IsTraceWithin, IsTraceShown, IsTraceRefusal}
+use Rattle.trace_file.specs.Trace.{longest, IsTraceRefusal}
+use Rattle.trace_file.specs.Traces.{IsTracesRefusal}
 use Rattle.tool.specs.declared.stop.Stop.{Stop}
 use Rattle.tool.specs.declared.stop.Stop.TheVariants as stops
 use Rattle.tool.specs.Judge.{model_refusal, trace_refusal, RefusesModel}
@@ -24,47 +24,56 @@ pub record IsOpen (reader : TraceReader) (Judged : List Event → Type 0) (text 
   pub judged : Judged events
 
 -- the text is refused however it goes on
-pub record IsShut (error : TraceError) (text : List ℕ) : Type 0 where
+pub record IsShut (Refusal : TraceError → List ℕ → Type 0) (error : TraceError) (text : List ℕ) : Type 0 where
   pub named : error ≢ traces.OutOfMemory
-  pub shown : IsTraceShown error text
+  pub shown : (more : List ℕ) → length (text ++ more) ≤ longest → Refusal error (text ++ more)
 
--- the reader was given the text; it goes on, or it has refused the text
-abbrev pub IsAt : Option TraceError → TraceReader → (List Event → Type 0) → List ℕ → Type 0
-IsAt None reader Judged text = IsOpen reader Judged text
-IsAt (Some error) reader Judged text = IsShut error text
+-- the text was read; it goes on, or it has been refused
+abbrev pub IsAt : (TraceError → List ℕ → Type 0) → Option TraceError → (List ℕ → Type 0) → List ℕ → Type 0
+IsAt Refusal None Open text = Open text
+IsAt Refusal (Some error) Open text = IsShut Refusal error text
 
--- the events of the trace in the file have been judged
-pub record IsTraceJudged (files : Option Files) (name : List ℕ) (Judged : List Event → Type 0) : Type 0 where
-  pub events : List Event
-  pub judged : Judged events
-  pub is : IfSome files (λ told. (end : TraceEnd) × IsTraceWithin (file_at told name) events end)
+-- why a file of records was not followed, by the told files and the store's count before and after, where a text is refused for these reasons
+abbrev pub StopsFile : (TraceError → List ℕ → Type 0) → Stop → Option Files → List ℕ → ℕ → ℕ → Type 0
+StopsFile Refusal stops.Usage files name before after = ⊥
+StopsFile Refusal (stops.Model line) files name before after = ⊥
+StopsFile Refusal (stops.Record line) files name before after = (error : TraceError) × (error ≢ traces.OutOfMemory) × (line.items ≡ trace_refusal error) × IfSome files (λ told. Refusal error (file_at told name))
+StopsFile Refusal stops.Read files name before after = Rose before after ⊎ IsMissing files name
+StopsFile Refusal stops.Write files name before after = ⊥
+StopsFile Refusal stops.OutOfMemory files name before after = Unit {0}
 
--- why a trace was not judged, by the told files and the store's count before and after
+-- why a trace was not judged
 abbrev pub StopsTrace : Stop → Option Files → List ℕ → ℕ → ℕ → Type 0
-StopsTrace stops.Usage files name before after = ⊥
-StopsTrace (stops.Model line) files name before after = ⊥
-StopsTrace (stops.Record line) files name before after = (error : TraceError) × (error ≢ traces.OutOfMemory) × (line.items ≡ trace_refusal error) × IfSome files (λ told. IsTraceRefusal error (file_at told name))
-StopsTrace stops.Read files name before after = Rose before after ⊎ IsMissing files name
-StopsTrace stops.Write files name before after = ⊥
-StopsTrace stops.OutOfMemory files name before after = Unit {0}
+StopsTrace = StopsFile IsTraceRefusal
 
--- why a trace that was read whole is refused
-abbrev pub IsConcluded : Stop → Option TraceError → TraceReader → Type 0
-IsConcluded stops.Usage refused reader = ⊥
-IsConcluded (stops.Model line) refused reader = ⊥
-IsConcluded (stops.Record line) refused reader =
-    (error : TraceError) × (error ≢ traces.OutOfMemory) × (line.items ≡ trace_refusal error)
-    × ((refused ≡ Some error) ⊎ ((refused ≡ None) × ((text : List ℕ) (events : List Event) → StandsForTrace reader text events → IsTraceRefusal error text)))
-IsConcluded stops.Read refused reader = ⊥
-IsConcluded stops.Write refused reader = ⊥
-IsConcluded stops.OutOfMemory refused reader = Unit {0}
+-- why interleaved traces were not watched
+abbrev pub StopsTraces : Stop → Option Files → List ℕ → ℕ → ℕ → Type 0
+StopsTraces = StopsFile IsTracesRefusal
 
--- the whole file was read: the text is the file's, where the files are told
-pub record IsReadWhole (files : Option Files) (name : List ℕ) (refused : Option TraceError) (reader : TraceReader) (Judged : List Event → Type 0) : Type 0 where
+-- why a file was not read to its end: it is longer than a trace, or interleaved traces, may be
+abbrev pub StopsReading : Stop → Option Files → List ℕ → ℕ → ℕ → Type 0
+StopsReading stops.Usage files name before after = ⊥
+StopsReading (stops.Model line) files name before after = ⊥
+StopsReading (stops.Record line) files name before after = (line.items ≡ trace_refusal traces.TooLong) × IfSome files (λ told. longest < length (file_at told name))
+StopsReading stops.Read files name before after = Rose before after ⊎ IsMissing files name
+StopsReading stops.Write files name before after = ⊥
+StopsReading stops.OutOfMemory files name before after = Unit {0}
+
+-- why a text that was read whole is refused
+abbrev pub StopsText : (TraceError → List ℕ → Type 0) → Stop → List ℕ → Type 0
+StopsText Refusal stops.Usage text = ⊥
+StopsText Refusal (stops.Model line) text = ⊥
+StopsText Refusal (stops.Record line) text = (error : TraceError) × (error ≢ traces.OutOfMemory) × (line.items ≡ trace_refusal error) × Refusal error text
+StopsText Refusal stops.Read text = ⊥
+StopsText Refusal stops.Write text = ⊥
+StopsText Refusal stops.OutOfMemory text = Unit {0}
+
+-- the whole file was read and followed: the text is the file's, where the files are told
+pub record IsReadWhole (files : Option Files) (name : List ℕ) (Followed : List ℕ → Type 0) : Type 0 where
   pub text : List ℕ
   pub short : length text ≤ longest
   pub is : IfSome files (λ told. text ≡ file_at told name)
-  pub at : IsAt refused reader Judged text
+  pub followed : Followed text
 
 -- the stop of a trace that was refused so
 abbrev pub IsStopOf : Stop → TraceError → Type 0

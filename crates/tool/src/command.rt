@@ -1,6 +1,7 @@
 ghost use Rattle.std.specs.Prelude.{◌≡◌, ◌≤◌, ◌⊎◌, ℕ, List, [], ◌∷◌, map, string_bytes, decimal, IfSome, IfNone};
-ghost use Rattle.tool.specs.Command.{Command as AskedCommand, IsCommandLine, IsAskedBy, asked_word};
-ghost use Rattle.tool.specs.Command.Command.{Judge, Measure};
+ghost use Rattle.tool.specs.Command.{Command as AskedCommand, TraceCommand, IsCommandLine, IsAskedBy, asked_word};
+ghost use Rattle.tool.specs.Command.Command.{OfTrace, Measure};
+ghost use Rattle.tool.specs.Command.TraceCommand.{Judge, Watch};
 ghost use Rattle.tool.specs.declared.command.Asked.{Asked as AnyAsked};
 ghost use Rattle.tool.specs.Asked.{asked_by};
 
@@ -32,6 +33,14 @@ pub enum Command<'a> {
     Judge {
         model: &'a str,
         trace: &'a str,
+        asked: Asked,
+        bound: u32,
+    },
+    /// The verdicts of monitors of the model in a file on the processes of the interleaved traces in
+    /// another, where at most so many calls may be open at once in the Dyck model.
+    Watch {
+        model: &'a str,
+        traces: &'a str,
         asked: Asked,
         bound: u32,
     },
@@ -152,9 +161,25 @@ fn trace_command_of<'a>(
     ensures some { IfSome result (λ command. IsCommandLine (asked_by command) (word.now ∷ model.now ∷ trace.now ∷ map string_bytes words.now)) }
     ensures none { IfNone result ((c : AskedCommand) → IsCommandLine c (word.now ∷ model.now ∷ trace.now ∷ map string_bytes words.now) → ⊥) }
 {
-    match judge_of(word, model, trace, words) {
+    match bounded_command_of(word, model, trace, words) {
         Some(command) => Some(command),
         None => measure_of(word, model, trace, words),
+    }
+}
+
+// A command whose monitors may have a bound.
+fn bounded_command_of<'a>(
+    word: &str,
+    model: &'a str,
+    trace: &'a str,
+    words: &[String],
+) -> Option<Command<'a>>
+    ensures some { IfSome result (λ command. IsCommandLine (asked_by command) (word.now ∷ model.now ∷ trace.now ∷ map string_bytes words.now)) }
+    ensures none { IfNone result ((command : TraceCommand) (m t : List ℕ) (which : AnyAsked) (bound : ℕ) → IsCommandLine (OfTrace command m t which bound) (word.now ∷ model.now ∷ trace.now ∷ map string_bytes words.now) → ⊥) }
+{
+    match judge_of(word, model, trace, words) {
+        Some(command) => Some(command),
+        None => watch_of(word, model, trace, words),
     }
 }
 
@@ -193,7 +218,7 @@ fn asked_alone(words: &[String]) -> Option<Asked>
 // The command `judge`.
 fn judge_of<'a>(word: &str, model: &'a str, trace: &'a str, words: &[String]) -> Option<Command<'a>>
     ensures some { IfSome result (λ command. IsCommandLine (asked_by command) (word.now ∷ model.now ∷ trace.now ∷ map string_bytes words.now)) }
-    ensures none { IfNone result ((m t : List ℕ) (which : AnyAsked) (bound : ℕ) → IsCommandLine (Judge m t which bound) (word.now ∷ model.now ∷ trace.now ∷ map string_bytes words.now) → ⊥) }
+    ensures none { IfNone result ((m t : List ℕ) (which : AnyAsked) (bound : ℕ) → IsCommandLine (OfTrace Judge m t which bound) (word.now ∷ model.now ∷ trace.now ∷ map string_bytes words.now) → ⊥) }
 {
     if word != "judge" {
         return None;
@@ -202,6 +227,28 @@ fn judge_of<'a>(word: &str, model: &'a str, trace: &'a str, words: &[String]) ->
     Some(Command::Judge {
         model,
         trace,
+        asked,
+        bound,
+    })
+}
+
+// The command `watch`.
+fn watch_of<'a>(
+    word: &str,
+    model: &'a str,
+    traces: &'a str,
+    words: &[String],
+) -> Option<Command<'a>>
+    ensures some { IfSome result (λ command. IsCommandLine (asked_by command) (word.now ∷ model.now ∷ traces.now ∷ map string_bytes words.now)) }
+    ensures none { IfNone result ((m t : List ℕ) (which : AnyAsked) (bound : ℕ) → IsCommandLine (OfTrace Watch m t which bound) (word.now ∷ model.now ∷ traces.now ∷ map string_bytes words.now) → ⊥) }
+{
+    if word != "watch" {
+        return None;
+    }
+    let (asked, bound) = asked_for(words)?;
+    Some(Command::Watch {
+        model,
+        traces,
         asked,
         bound,
     })

@@ -14,9 +14,10 @@ use crate::finished::Finished;
 use crate::judging::Judging;
 use crate::pair::Pair;
 use crate::panel::Panel;
-use crate::reading::judge_trace;
+use crate::reading::read_to_end;
 use crate::refusals::model_line;
 use crate::stop::Stop;
+use crate::trace_follower::TraceFollower;
 use callgraph_monitor::CallgraphMonitor;
 use dm_io::{Store, read_whole};
 use dyck_monitor::DyckMonitor;
@@ -72,8 +73,15 @@ pub fn follow_by<S: Store, P: Panel>(
     ensures stop { IfErr result (λ stop. StopsTrace stop (S.files store.old) trace.now (S.faults store.old) (S.faults store.new)) }
     ensures never_falls { S.faults store.old ≤ S.faults store.new }
 {
-    let mut panel = P::open(alloc, model, bound)?;
-    judge_trace(alloc, store, trace, &mut panel, model)?;
+    let mut follower = TraceFollower::<P>::open(alloc, model, bound)?;
+    match read_to_end(alloc, store, trace, &mut follower, model) {
+        Ok(()) => {}
+        Err(stop) => return Err(stop),
+    }
+    let panel = match follower.conclude(alloc) {
+        Ok(panel) => panel,
+        Err(stop) => return Err(stop),
+    };
     let finished = panel.finish(alloc)?;
     Ok(finished)
 }

@@ -109,8 +109,8 @@ fn told(
     })
 }
 
-// The status of the verdict alone.
-fn status_of(verdict: Verdict) -> Status
+/// The status of the verdict alone.
+pub fn status_of(verdict: Verdict) -> Status
     ensures { result ≡ status_of verdict }
 {
     match verdict {

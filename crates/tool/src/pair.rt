@@ -15,8 +15,8 @@ pub struct Pair<A: Panel, B: Panel> {
     second: B,
 }
 
-// The status of what both tell: Rejected goes before Bound, and that before Done.
-fn worse(first: Status, second: Status) -> Status
+/// The status of what both tell: Rejected goes before Bound, and that before Done.
+pub fn worse(first: Status, second: Status) -> Status
     ensures { result ≡ worse first second }
 {
     match (first, second) {

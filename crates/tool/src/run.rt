@@ -11,6 +11,7 @@ use crate::judge::judge;
 use crate::measure::measure;
 use crate::stop::Stop;
 use crate::upgrade::upgrade;
+use crate::watch_traces::watch_traces;
 use dm_base::{OutOfMemory, Status};
 use dm_io::{HonestSink, HonestStore, Sink, Store, write_whole};
 use std::alloc::Global;
@@ -23,8 +24,9 @@ dyckmon --help                        this text
 dyckmon judge MODEL TRACE WHICH [K]   the verdict lines of the model on the trace
 dyckmon measure MODEL TRACE WHICH     how many calls may come next along the trace
 dyckmon upgrade MODEL                 the file of the model in the newest version
-MODEL and TRACE are names of files. WHICH is callgraph, stack, dyck, or all for the three in this
-order. K is how many calls may be open at once in the Dyck model, 1 to 65535; it is 1000 where
+dyckmon watch MODEL TRACES WHICH [K]  the verdict lines of each process of interleaved traces
+MODEL, TRACE and TRACES are names of files. WHICH is callgraph, stack, dyck, or all for the three in
+this order. K is how many calls may be open at once in the Dyck model, 1 to 65535; it is 1000 where
 none is given.
 ";
 
@@ -66,6 +68,14 @@ fn work<S: Store>(alloc: Global, words: &[String], store: &mut S) -> Result<Fini
                 bound,
             },
         ) => judge(alloc, store, model, trace, asked, bound),
+        Some(
+            Command::Watch {
+                model,
+                traces,
+                asked,
+                bound,
+            },
+        ) => watch_traces(alloc, store, model, traces, asked, bound),
     }
 }
 

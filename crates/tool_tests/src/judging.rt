@@ -61,10 +61,10 @@ const THREE: &[u8] = b"dyckmon-trace 1\nS getpid = 100\nS getpid = 101\nS getpid
 
 // What a run gave.
 #[derive(Drop)]
-struct Answer {
-    status: Status,
-    out: Vec<u8>,
-    err: Vec<u8>,
+pub struct Answer {
+    pub status: Status,
+    pub out: Vec<u8>,
+    pub err: Vec<u8>,
 }
 
 fn strings(alloc: Global, words: &[&str]) -> Result<Vec<String>, AllocError> {
@@ -83,7 +83,7 @@ fn files(alloc: Global, model: &[u8], trace: &[u8]) -> Result<Vec<(String, Vec<u
 }
 
 // The model stands in the file a and the trace in t; a read gives so many bytes at most.
-fn run_in_pieces(
+pub fn run_in_pieces(
     alloc: Global,
     words: &[&str],
     model: &[u8],
@@ -102,11 +102,16 @@ fn run_in_pieces(
     })
 }
 
-fn run_on(alloc: Global, words: &[&str], model: &[u8], trace: &[u8]) -> Result<Answer, AllocError> {
+pub fn run_on(
+    alloc: Global,
+    words: &[&str],
+    model: &[u8],
+    trace: &[u8],
+) -> Result<Answer, AllocError> {
     run_in_pieces(alloc, words, model, trace, 65_536)
 }
 
-fn expect(rt: &impl Abort, got: &Answer, status: Status, out: &[u8], err: &[u8]) {
+pub fn expect(rt: &impl Abort, got: &Answer, status: Status, out: &[u8], err: &[u8]) {
     assert_eq!(rt; got.status, status);
     assert_eq!(rt; got.out.as_slice(), out);
     assert_eq!(rt; got.err.as_slice(), err);
@@ -438,7 +443,7 @@ fn takes_the_command_lines_and_no_other_words(rt: HostRuntime) -> Result<(), Fai
             b"usage\n",
         ),
         (&["--Version"], Status::Usage, b"", b"usage\n"),
-        (&["watch", "a", "t", "dyck"], Status::Usage, b"", b"usage\n"),
+        (&["watch", "a", "t"], Status::Usage, b"", b"usage\n"),
     ];
     for (words, status, out, err) in rows.iter() {
         let got = run_on(alloc, words, A, ONE)?;

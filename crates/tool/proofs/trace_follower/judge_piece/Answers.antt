@@ -4,7 +4,7 @@ use Rattle.dm_base.specs.declared.event.Event.{Event}
 use Rattle.sys_table.specs.Table.{IsRecorded}
 use Rattle.trace_file.specs.Trace.{most}
 use Rattle.tool.proofs.ReadingLemmas.{standing_few, given_recorded}
-use Rattle.tool.proofs.reading.judge_piece.Goals as goal
+use Rattle.tool.proofs.trace_follower.judge_piece.Goals as goal
 
 pub take_events-requires-clause-judged : goal.take_events-requires-clause-judged
 take_events-requires-clause-judged g c =

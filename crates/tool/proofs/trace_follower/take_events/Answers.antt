@@ -2,7 +2,7 @@ use Rattle.std.proofs.Common.{◌≡◌, ◌+◌, List, [], ◌∷◌, ◌++◌,
 use Rattle.std.proofs.lemmas.List.{take_all, length-take}
 use Rattle.dm_base.specs.declared.event.Event.{Event}
 use Rattle.flow_model.proofs.Histories.{take_next}
-use Rattle.tool.proofs.reading.take_events.Goals as goal
+use Rattle.tool.proofs.trace_follower.take_events.Goals as goal
 
 pub loop-event-init : goal.loop-event-init
 loop-event-init g c = λ k h judged. subst (λ (t : List Event). g.P.Panel.judged c.args.panel.now c.args.model.now k t) (sym (append-nil h)) judged

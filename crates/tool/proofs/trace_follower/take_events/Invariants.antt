@@ -1,6 +1,6 @@
 use Rattle.std.proofs.Common.{ℕ, List, ◌++◌, take}
 use Rattle.dm_base.specs.declared.event.Event.{Event}
-use Rattle.tool.proofs.reading.take_events.Given as goal
+use Rattle.tool.proofs.trace_follower.take_events.Given as goal
 
 -- the events so far have been judged after those before
 abbrev pub invariant-loop-event : goal.invariant-loop-event

@@ -1,0 +1,26 @@
+-- Words that are no command line.
+use Rattle.std.proofs.Common.{◌≡◌, ℕ, List, [], ◌∷◌, Option, Some, None, IfNone, inl, inr, subst}
+use Rattle.tool.specs.declared.command.Asked.{Asked}
+use Rattle.tool.specs.Command.{Command, TraceCommand, IsCommandLine, IsAskedBy}
+use Rattle.tool.specs.Command.Command.{Version, Help, OfFile, OfTrace, Measure}
+use Rattle.tool.specs.Command.TraceCommand.{Judge, Watch}
+
+-- what follows the files asks for no monitors
+pub no_such_command : (command : TraceCommand) (word model trace : List ℕ) (words : List (List ℕ)) → ((asked : Asked) (bound : ℕ) → IsAskedBy asked bound words → ⊥) → (m t : List ℕ) (asked : Asked) (bound : ℕ) → IsCommandLine (OfTrace command m t asked bound) (word ∷ model ∷ trace ∷ words) → ⊥
+no_such_command command word model trace words none m t asked bound line =
+    let same : line.0 ≡ words = cc in
+    none asked bound (subst (IsAskedBy asked bound) same line.2)
+
+module _ (words : List (List ℕ)) where
+  abbrev IsNoLine : TraceCommand → Type 0
+  IsNoLine command = (m t : List ℕ) (asked : Asked) (bound : ℕ) → IsCommandLine (OfTrace command m t asked bound) words → ⊥
+
+  neither_command : IsNoLine Judge → IsNoLine Watch → (command : TraceCommand) → IsNoLine command
+  neither_command judge watch Judge = judge
+  neither_command judge watch Watch = watch
+
+  pub none_of_these : {A : Type 0} (r : Option A) → ((m t : List ℕ) (asked : Asked) (bound : ℕ) → IsCommandLine (OfTrace Judge m t asked bound) words → ⊥)
+      → IfNone r ((m t : List ℕ) (asked : Asked) (bound : ℕ) → IsCommandLine (OfTrace Watch m t asked bound) words → ⊥)
+      → IfNone r ((command : TraceCommand) (m t : List ℕ) (asked : Asked) (bound : ℕ) → IsCommandLine (OfTrace command m t asked bound) words → ⊥)
+  none_of_these (Some x) judge watch = tt
+  none_of_these None judge watch = neither_command judge watch
