@@ -7,3 +7,4 @@ pub mod ExprForms
 pub mod OperandFails
 pub mod UnitFails
 pub mod DeclForms
+pub mod GroupForms

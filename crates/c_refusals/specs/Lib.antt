@@ -3,3 +3,4 @@ pub mod Operands
 pub mod Phrases
 pub mod Units
 pub mod Declarations
+pub mod Groups

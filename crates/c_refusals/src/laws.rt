@@ -9,9 +9,10 @@ ghost use Rattle.c_syntax.specs.Spelling.{SpellsAnyDepth};
 ghost use Rattle.c_syntax.proofs.Ends.{start};
 ghost use Rattle.c_syntax.proofs.Heads.{head};
 ghost use Rattle.c_refusals.specs.Fails.{Fails, Meets};
-ghost use Rattle.c_refusals.specs.Phrases.{Bound, inner, ASpec, ADeclarator, AnInit, APlainDecl, AnExpr, AStmt, ABlockItem, InBlock, Punctuator, IfTail, WhileTail, DoTail, ForTail, SwitchTail, ReturnTail, EvaluationTail};
+ghost use Rattle.c_refusals.specs.Phrases.{Bound, inner, ASpec, ADeclarator, AnInit, APlainDecl, AnExpr, AStmt, ABlockItem, InBlock, InSwitch, SomeLabels, Punctuator, IfTail, WhileTail, DoTail, ForTail, SwitchTail, ReturnTail, EvaluationTail};
 ghost use Rattle.c_refusals.specs.Operands.{enclosed, SomeSuffixes, SomeChain, ParenthesisTail, IndexTail, CallTail, MemberTail, CastTail};
 ghost use Rattle.c_refusals.specs.Declarations.{PartsTail, SomeParts, PartsEnd};
+ghost use Rattle.c_refusals.specs.Groups.{InGroup, GroupRest};
 ghost use Rattle.c_refusals.specs.Units.{AUnit};
 ghost use Rattle.c_syntax.proofs.Precedence.{rank};
 
@@ -50,6 +51,18 @@ pub fn an_operand_fails_where_its_rest_fails()
     ensures cast { (b : Bound) (t : Token) (i r : List Token) → Is LEFT_PARENTHESIS t → 7 ≤ start i → Fails (CastTail (inner b)) i r → Fails (AnExpr b cast_level) (t ∷ i) r }
     ensures left { (b : Bound) (n : ℕ) (i r : List Token) → Fails (AnExpr b (binary_level n)) i r → Fails (AnExpr b (binary_level (suc n))) i r }
     ensures right { (b c : Bound) (n : ℕ) (i j r : List Token) → AnExpr c (binary_level n) i j → Fails (SomeChain b n) j r → Fails (AnExpr b (binary_level (suc n))) i r }
+{}
+
+/// Laws on the groups of a switch (C99 6.8.4.2): where no brace ends them, they fail where the labels fail, or stand
+/// and the group fails; a group fails where a statement fails, or stands and the rest fails. The numbers up to 12
+/// are those of labels and braces, and those from 20 on begin statements.
+pub fn a_switch_fails_where_a_group_fails()
+    ensures labels { (b : Bound) (i r : List Token) → (head i ≡ 5 → ⊥) → Fails (SomeLabels b) i r → Fails (InSwitch b) i r }
+    ensures group { (b c : Bound) (i j r : List Token) → (head i ≡ 5 → ⊥) → SomeLabels c i j → Fails (InGroup b) j r → Fails (InSwitch b) i r }
+    ensures statement { (b : Bound) (i r : List Token) → Fails (AStmt b) i r → Fails (InGroup b) i r }
+    ensures later { (b c : Bound) (i j r : List Token) → AStmt c i j → Fails (GroupRest b) j r → Fails (InGroup b) i r }
+    ensures ended { (b : Bound) (i r : List Token) → head i ≤ 12 → Fails (InSwitch b) i r → Fails (GroupRest b) i r }
+    ensures going { (b : Bound) (i r : List Token) → 20 ≤ head i → Fails (InGroup b) i r → Fails (GroupRest b) i r }
 {}
 
 /// Laws on declarations without a storage class (C99 6.7): where the specifiers fail, or stand and the declarators

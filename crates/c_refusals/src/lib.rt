@@ -6,6 +6,6 @@ mod laws;
 
 pub use laws::{
     a_block_fails_where_an_item_fails, a_declaration_fails_where_a_part_fails,
-    a_statement_fails_where_its_rest_fails, an_operand_fails_where_its_rest_fails,
-    no_unit_is_spelled_where_units_fail,
+    a_statement_fails_where_its_rest_fails, a_switch_fails_where_a_group_fails,
+    an_operand_fails_where_its_rest_fails, no_unit_is_spelled_where_units_fail,
 };
