@@ -22,6 +22,7 @@ no_structs = record {
   ranked = λ s ts h. absurd (none-some (Some ts) h);
   below = λ s ts h. absurd (none-some (Some ts) h);
   complete = λ s ts h. absurd (none-some (Some ts) h);
+  members = λ s ts h. absurd (none-some (Some ts) h);
 }
 
 -- a function without variables whose body is right
