@@ -1,10 +1,9 @@
 -- Expressions do alike where memory has further objects.
-use Rattle.std.proofs.Common.{◌≡◌, ℕ, zero, suc, ◌+◌, ◌-◌, ◌≤◌, ◌<◌, nat_lt, if◌then◌else◌, Bool, true, false, List, [], ◌∷◌, ◌++◌, map, Option, Some, None, slice_get, length, append_assoc, sym, ap, ◌∙◌, subst, refl, arith}
+use Rattle.std.proofs.Common.{◌≡◌, ℕ, zero, suc, ◌+◌, ◌-◌, ◌<◌, nat_lt, if◌then◌else◌, Bool, true, false, List, [], ◌∷◌, ◌++◌, map, Some, slice_get, length, append_assoc, sym, ap, ◌∙◌, subst, refl, arith}
 use Rattle.std.specs.List.{AllZip}
 use Rattle.std.proofs.lemmas.Bool.Decides.{nat_tests}
-use Rattle.dm_base.specs.declared.event.Event.{Event}
 use Rattle.c_tree.specs.declared.value.Value.{Value}
-use Rattle.c_tree.specs.declared.value.Value.TheVariants.{Indeterminate, Int, Uint, Char, Uchar, Null, Func, At}
+use Rattle.c_tree.specs.declared.value.Value.TheVariants.{Indeterminate, Func}
 use Rattle.c_tree.specs.Tree.{CType, pointer, function, CTypes, no_types, more_types, list_of, Function, Program, type_of}
 use Rattle.c_tree.specs.Tree.{Expr, constant, function_name, string_place, variable, dereference, load, address_of, decay, discard, field, unary_operation, conversion, arithmetic, comparison, pointer_add, pointer_diff, and, or, assign, update, conditional, comma, call, call_through}
 use Rattle.c_tree.specs.Layout.{cells}
@@ -18,16 +17,15 @@ use Rattle.c_values.specs.Memory.{Objects as Memory}
 use Rattle.c_shapes.specs.Mentions.{Calls, Direct, Through, mentions, mentions_of_all}
 use Rattle.c_meaning.specs.Meaning.{Marks, Frame, World, either, behind_of, decayed, operated, comparing, moving, updated, wants, call_undefined, called, system_call_alone, called_through, tested, eval, eval_each, eval_all}
 use Rattle.c_meaning.specs.Pointers.{callee, truth_value, load_place, store_place, member, difference, test}
-use Rattle.c_meaning.specs.Results.{State, with_memory, Result, Go, Stop, then_do, answered, remembered}
+use Rattle.c_meaning.specs.Results.{State, with_memory, Result, then_do, answered}
 use Rattle.typed_meaning.specs.StoreTyping.{HasKind, IsPlaced, Grows, TellsOfStatics, IsTypedFrame}
-use Rattle.typed_meaning.specs.TypedResults.{EndsTyped, Gives, GiveAll, StandsIn, IsTypedWorld, AreRecorded}
-use Rattle.typed_meaning.proofs.Places.{get_left, grows_on, grows_none, carry, carry_place}
-use Rattle.typed_meaning.proofs.Steps.{Right, IsCallee, callee_right, load_place_right, update_scalar, updated_right, update_right_scalar}
-use Rattle.typed_meaning.proofs.Keeps.{Holds, scalar_kind, stands_on, arguments_kind, value_ends, where_ends, all_end, condition_tested}
+use Rattle.typed_meaning.specs.TypedResults.{Gives, GiveAll, StandsIn, IsTypedWorld, AreRecorded}
+use Rattle.typed_meaning.proofs.Places.{get_left, grows_on, carry}
+use Rattle.typed_meaning.proofs.Steps.{Right, IsCallee, callee_right, load_place_right, update_scalar}
+use Rattle.typed_meaning.proofs.Keeps.{Holds, stands_on, arguments_kind, value_ends, where_ends, all_end, condition_tested}
 use Rattle.typed_meaning.proofs.Standing.{left_part, right_part}
-use Rattle.further_objects.specs.FurtherObjects.{DoesAlike}
 use Rattle.further_objects.proofs.Steps.{Sees, test_same, behind_of_same, load_place_same, moving_same, difference_same, comparing_same, operated_same, updated_same}
-use Rattle.further_objects.proofs.Together.{Beside, Does, Shown, AllShown, sees, Remembers, store_place_remembers, here, after_does, answered_does, remembered_does, Whenever, answered_then, either_does, bracketed_does, undefined_does, alone_does, Now, kind_shown, given_shown, place_shown, then_does}
+use Rattle.further_objects.proofs.Together.{Does, Shown, AllShown, sees, store_place_remembers, here, answered_does, remembered_does, Whenever, answered_then, either_does, bracketed_does, undefined_does, alone_does, Now, kind_shown, given_shown, place_shown, then_does}
 
 -- a call of a function that is defined
 defined_at : (fs : List Function) (xs : List CType) (f : ℕ) (t : CType) → f < length fs → slice_get (map type_of_defined fs ++ xs) f ≡ Some t → (g : Function) × (slice_get fs f ≡ Some g) × (g.ctype ≡ t)
@@ -166,7 +164,6 @@ module _ (known : Objects) (last : ℕ) (p : Program) (n : ℕ) (typed : IsProgr
             let mine = right_part p (Calls site (Through (type_of a)) ∷ []) (mentions_of_all es) rest in
             on_value {B = Value} true a o st more _ _ s h.2 (left_part p (mentions a) (Calls site (Through (type_of a)) ∷ mentions_of_all es) m) k (value_does true a o st more s h.2 (left_part p (mentions a) (Calls site (Through (type_of a)) ∷ mentions_of_all es) m) k) (λ u v st l g i k. then_does known last p {A = List Value} {B = Value} (GiveAll p (list_of h.0)) u st l _ _ _ _ k (all_end p n typed marks recorded w goes fr h.0 es u st (on_frame o u g s) h.3 mine k.state) (all_do h.0 es u st l (on_frame o u g s) h.3 mine k) (λ u' vs st l g' z k. bracketed_does known last marks site l _ _ (callee_does wanted t h.0 v vs u' st l (carry p u u' (pointer (function t h.0)) v g' (subst (λ t. Gives p true t u v) h.1 i)) (statics_on o u' (grows_on o u u' g g') s) z k)))
         value_does wanted _ o st more s h m k = absurd h
-
 
         pub place_does : (wanted : Bool) (e : Expr) (o : Objects) (st : State) (more : Memory) → IsTypedFrame p o fr → IsPlace p fr.types e → StandsIn p (mentions e) → Now known last p o st more → Does known last {A = Value} more (Runs wanted e st) (Runs wanted e (with_memory st more))
         place_does wanted (function_name t f) o st more s h m k = here known last {A = Value} (Func f) st more [] k.beside

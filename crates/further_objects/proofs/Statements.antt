@@ -1,28 +1,27 @@
 -- Statements do alike where memory has further objects.
-use Rattle.std.proofs.Common.{◌≡◌, ℕ, zero, suc, ◌≤◌, Bool, true, false, List, [], ◌∷◌, ◌++◌, Option, Some, None, slice_get, sym, ap, ◌∙◌, subst, refl}
+use Rattle.std.proofs.Common.{◌≡◌, ℕ, zero, suc, Bool, true, false, List, [], ◌∷◌, ◌++◌, Some, None, slice_get, sym, ap, ◌∙◌, subst, refl}
 use Rattle.c_tree.specs.declared.value.IntType.{IntType}
 use Rattle.c_tree.specs.declared.value.Value.{Value}
-use Rattle.c_tree.specs.declared.value.ObjectName.{ObjectName}
-use Rattle.c_tree.specs.Tree.{CType, Program, type_of, Expr, Exprs, Maybe, absent, there, Inits, no_inits, more_inits}
+use Rattle.c_tree.specs.Tree.{CType, Program, type_of, absent, there, Inits, no_inits, more_inits}
 use Rattle.c_tree.specs.Tree.{Stmt, block, empty, evaluate, declare, if_else, while_loop, do_loop, for_loop, switch_on, break_off, continue_on, return_void, return_value, Stmts, no_stmts, more_stmts, Groups, no_groups, more_groups}
 use Rattle.c_tree.specs.Layout.{flat, cells}
 use Rattle.c_tree.specs.Kinds.{Objects}
 use Rattle.c_tree.specs.Program.{IsProgram}
-use Rattle.c_tree.specs.Typed.{IsCondition, IsTest, IsStep, AreInits, IsDeclare, IsFirst, AreFirst, IsStmt, AreStmts, AreGroups}
-use Rattle.c_values.specs.Memory.{declared, ended}
+use Rattle.c_tree.specs.Typed.{IsTest, IsStep, AreInits, IsDeclare, IsFirst, AreFirst, IsStmt, AreStmts, AreGroups}
+use Rattle.c_values.specs.Memory.{declared}
 use Rattle.c_values.specs.Memory.{Objects as Memory}
 use Rattle.c_shapes.specs.Mentions.{mentions, mentions_of_maybe, mentions_of_inits, mentions_of_stmt, mentions_of_stmts, mentions_of_groups}
-use Rattle.c_meaning.specs.Meaning.{Marks, Frame, Loop, World, name_in, condition, perhaps, initialise, fresh, declared_by, declared_in, without, leaving, selected, exec, exec_all, exec_from}
+use Rattle.c_meaning.specs.Meaning.{Marks, Frame, Loop, World, name_in, initialise, fresh, declared_by, declared_in, without, leaving, selected, exec, exec_all, exec_from}
 use Rattle.c_meaning.specs.Pointers.{place, store_place}
-use Rattle.c_meaning.specs.Results.{State, with_memory, Result, Go, Stop, remembered, Exit, on, broken, continued, returned, out_of_switch}
+use Rattle.c_meaning.specs.Results.{State, with_memory, Result, Go, Stop, Exit, on, broken, continued, returned, out_of_switch}
 use Rattle.typed_meaning.specs.StoreTyping.{Grows, TellsAlike, IsTypedFrame}
 use Rattle.typed_meaning.specs.TypedResults.{EndsTyped, IsExit, StandsIn, StandsRound, IsTypedWorld, AreRecorded}
 use Rattle.typed_meaning.proofs.Places.{flat_scalar, grows_on}
-use Rattle.typed_meaning.proofs.Keeps.{scalar_kind, cell_ends, inits_end, fresh_ends, first_ends, exec_ends, stmts_end, groups_end}
+use Rattle.typed_meaning.proofs.Keeps.{scalar_kind, cell_ends, fresh_ends, first_ends, exec_ends, stmts_end, groups_end}
 use Rattle.typed_meaning.proofs.Standing.{left_part, right_part, stands_empty}
-use Rattle.further_objects.specs.FurtherObjects.{Stay, DoesAlike}
+use Rattle.further_objects.specs.FurtherObjects.{Stay}
 use Rattle.further_objects.proofs.Together.{Hidden, Beside, Does, beside_changed, stay_changed, store_place_remembers, here, remembered_does, either_does, exit_does, round_does, Now, told_shown, then_does}
-use Rattle.further_objects.proofs.Expressions.{Enters, on_value, on_test, on_frame, value_does, tested_does}
+use Rattle.further_objects.proofs.Expressions.{Enters, on_value, on_test, on_frame, value_does}
 
 module _ (known : Objects) (last : ℕ) where
   -- none of these variables of the activation is hidden

@@ -1,6 +1,5 @@
 -- Steps on values and memory answer the same where the objects that the values lead to are the same.
-use Rattle.std.proofs.Common.{◌≡◌, ℕ, zero, suc, ◌+◌, ◌-◌, ◌*◌, nat_le, if◌then◌else◌, Bool, true, false, not, ℤ, pos, ◌+ℤ◌, ◌-ℤ◌, List, [], ◌∷◌, Option, Some, None, slice_get, sym, ap, ◌∙◌, subst, refl, arith}
-use Rattle.dm_base.specs.declared.event.Arg.{Arg}
+use Rattle.std.proofs.Common.{◌≡◌, ℕ, zero, suc, ◌+◌, ◌-◌, if◌then◌else◌, Bool, true, false, not, ℤ, pos, ◌+ℤ◌, List, [], ◌∷◌, Some, None, slice_get, ap, ◌∙◌, refl}
 use Rattle.dm_base.specs.declared.event.Arg.TheVariants as args
 use Rattle.c_tree.specs.declared.value.UnOp.{UnOp}
 use Rattle.c_tree.specs.declared.value.UnOp.TheVariants.{Minus, Complement, Not}
@@ -11,7 +10,7 @@ use Rattle.c_tree.specs.declared.value.Value.{Value}
 use Rattle.c_tree.specs.declared.value.Value.TheVariants.{Indeterminate, Int, Uint, Char, Uchar, Null, Func, At}
 use Rattle.c_tree.specs.Tree.{CType, void, integer, pointer, array, struct, function}
 use Rattle.c_tree.specs.Operators.{Answer, gives, undefined, and_then}
-use Rattle.c_values.specs.Memory.{Object, there, element, cell_value, writable}
+use Rattle.c_values.specs.Memory.{there, element, cell_value, writable}
 use Rattle.c_values.specs.Memory.{Objects as Memory}
 use Rattle.c_meaning.specs.Meaning.{behind_of, operated, comparing, moving, is_subtraction, updated}
 use Rattle.c_meaning.specs.Pointers.{number, truth_value, place, behind, load_place, at_index, offset, moved, same_array, in_one_array, difference, alive, equal_pointers, equality, compared, test}

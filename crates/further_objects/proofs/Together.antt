@@ -1,5 +1,5 @@
 -- What does alike after each way of putting parts of a program together.
-use Rattle.std.proofs.Common.{◌≡◌, ℕ, zero, suc, ◌*◌, ◌+◌, ◌≤◌, nat_lt, nat_le, nat_eq, if◌then◌else◌, Bool, true, false, ℤ, pos, List, [], ◌∷◌, ◌++◌, Option, Some, None, slice_get, sym, ap, ◌∙◌, subst, refl, arith}
+use Rattle.std.proofs.Common.{◌≡◌, ℕ, zero, suc, ◌*◌, ◌+◌, ◌≤◌, nat_lt, nat_le, nat_eq, if◌then◌else◌, Bool, true, false, ℤ, List, [], ◌∷◌, Option, Some, None, slice_get, sym, ap, ◌∙◌, subst, refl, arith}
 use Rattle.dm_base.specs.declared.event.Event.{Event}
 use Rattle.dm_base.specs.declared.event.Event.TheVariants.{Pre, Post, Sys}
 use Rattle.dm_base.specs.declared.outcome.Outcome.TheVariants.{Undefined, BadResult}
@@ -20,7 +20,7 @@ use Rattle.c_values.proofs.StoreLemmas.{same_is}
 use Rattle.c_meaning.specs.Meaning.{Marks, either, bracketed, null_call, call_undefined, system_call_alone}
 use Rattle.c_meaning.specs.Pointers.{number, store_place}
 use Rattle.c_meaning.specs.Results.{State, with_memory, Result, Go, Stop, after, then_do, spend_at, answered, remembered, Exit, on, broken, continued, returned, on_exit, on_round}
-use Rattle.c_meaning.specs.SystemCalls.{char_of, has_room, room_for, bytes_of_buffer, size, Request, request_of, arguments, read_request, write_request, request, does_answer, result_value, next, filled, filled_where, with_records, take_record, exit_call, exit_with, system_call}
+use Rattle.c_meaning.specs.SystemCalls.{char_of, room_for, bytes_of_buffer, size, Request, arguments, request, does_answer, result_value, next, filled, filled_where, with_records, take_record, exit_call, exit_with, system_call}
 use Rattle.typed_meaning.specs.StoreTyping.{HasKind, IsCell, IsGiven, IsPlaced, IsTypedState, Grows, TellsAlike}
 use Rattle.typed_meaning.specs.TypedResults.{EndsTyped}
 use Rattle.further_objects.specs.FurtherObjects.{IsHidden, IsBeside, Stay, DoesAlike}

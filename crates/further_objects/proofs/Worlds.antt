@@ -1,26 +1,27 @@
 -- Entries of functions and loops do alike where memory has further objects.
-use Rattle.std.proofs.Common.{◌≡◌, ℕ, zero, suc, ◌+◌, ◌≤◌, ◌<◌, nat_eq, Bool, true, false, List, [], ◌∷◌, Option, Some, None, slice_get, sym, ap, ◌∙◌, subst, refl, arith}
+use Rattle.std.proofs.Common.{◌≡◌, ℕ, zero, suc, ◌≤◌, ◌<◌, nat_eq, Bool, true, false, List, [], ◌∷◌, Some, None, slice_get, sym, ap, ◌∙◌, subst, refl, arith}
 use Rattle.std.specs.List.{AllZip}
 use Rattle.c_tree.specs.declared.value.Value.{Value}
 use Rattle.c_tree.specs.declared.value.Value.TheVariants.{Indeterminate}
 use Rattle.c_tree.specs.declared.value.ObjectName.{ObjectName}
-use Rattle.c_tree.specs.Tree.{CType, function, CTypes, list_of, Function, Program, Maybe, absent, there}
-use Rattle.c_tree.specs.Kinds.{Objects}
+use Rattle.c_tree.specs.Tree.{CType, function, CTypes, no_types, list_of, Function, Program, Maybe, absent, there}
+use Rattle.c_tree.specs.Kinds.{Objects, static_objects}
+use Rattle.c_tree.specs.Functions.{int}
 use Rattle.c_tree.specs.Program.{IsProgram}
 use Rattle.c_tree.specs.Typed.{IsTest, IsStep, IsStmt}
 use Rattle.c_values.specs.Memory.{Objects as Memory}
 use Rattle.c_shapes.specs.Mentions.{mentions_of_maybe}
 use Rattle.c_meaning.specs.Meaning.{Marks, Frame, Loop, World, condition, perhaps, without, exec, either}
 use Rattle.c_meaning.specs.Results.{State, with_memory, Result, Go, Stop, then_do, Exit, on, broken, continued, returned, on_round}
-use Rattle.c_meaning.specs.Runs.{with_parameters, parameters, entered, without_value, result_of, run_body, enter, loop, world}
-use Rattle.typed_meaning.specs.StoreTyping.{HasKind, IsTypedMemory, IsTypedState, Grows, TellsAlike, TellsOfStatics, IsTypedFrame}
+use Rattle.c_meaning.specs.Runs.{with_parameters, parameters, entered, without_value, result_of, run_body, enter, loop, world, beginning, ending}
+use Rattle.typed_meaning.specs.StoreTyping.{HasKind, IsTypedMemory, Grows, TellsOfStatics, IsTypedFrame}
 use Rattle.typed_meaning.specs.TypedResults.{IsExit, StandsIn, StandsRound, IsTypedWorld, AreRecorded}
 use Rattle.typed_meaning.proofs.Places.{grows_on}
 use Rattle.typed_meaning.proofs.Keeps.{Holds, condition_ends, perhaps_ends, exec_ends}
 use Rattle.typed_meaning.proofs.Standing.{body_stands}
-use Rattle.typed_meaning.proofs.Worlds.{opens, body_typed, parts_typed}
-use Rattle.further_objects.specs.FurtherObjects.{Stay}
-use Rattle.further_objects.specs.Laws.{StandsBeside, PartsDoAlike, FurtherObjectsChangeNothing}
+use Rattle.typed_meaning.proofs.Worlds.{opens, body_typed, parts_typed, runs_begin_typed}
+use Rattle.further_objects.specs.FurtherObjects.{Stay, DoesAlike}
+use Rattle.further_objects.specs.Laws.{StandsBeside, FurtherObjectsChangeNothing, RunsDoAlike}
 use Rattle.further_objects.proofs.Together.{Hidden, Beside, Does, beside_changed, stay_changed, here, spend_does, either_does, round_does, later_does, Now, then_does}
 use Rattle.further_objects.proofs.Expressions.{Enters, on_value, value_does, tested_does, place_does, all_do}
 use Rattle.further_objects.proofs.Statements.{AreShown, Agains, without_beside, without_stays, framed, exec_does}
@@ -148,3 +149,13 @@ further_objects_change_nothing p n typed marks recorded turns =
       arguments = λ fr ts es o last st more s h m k. all_do o last p n typed marks recorded w goes (turns_do o last p n typed marks recorded turns).enters fr ts es o st more s h m (begins_now p o last st more k);
       statements = λ fr r breaks continues a o last st more s h m k. exec_does o last p n typed marks recorded w goes (turns_do o last p n typed marks recorded turns).enters (turns_do o last p n typed marks recorded turns).agains fr r breaks continues a o st more s h m (begins_now p o last st more k);
     }
+
+ending_same : (o : Objects) (last : ℕ) (more : Memory) (r q : Result Value) → DoesAlike {A = Value} o last more r q → ending q ≡ ending r
+ending_same o last more (Go v st w) q h = ap ending h.1
+ending_same o last more (Stop e w) q h = ap ending h
+
+pub runs_do_alike : RunsDoAlike
+runs_do_alike p n typed marks recorded records turns more beside =
+    let m = typed.main in
+    let b = runs_begin_typed p n typed records turns in
+    ending_same (static_objects p) 0 more _ _ ((further_objects_change_nothing p n typed marks recorded (suc turns)).calls true p.main m.0 int no_types [] (static_objects p) 0 (beginning p records turns) more m.1 m.2 b.statics tt (record { state = b.state; started = omega arith; beside = beside }))

@@ -1,16 +1,17 @@
 -- The law on further objects: what a part of a well-typed program does depends on no object to which no pointer leads.
-use Rattle.std.specs.Prelude.{◌≡◌, ℕ, ◌≤◌, Bool, true, List, Some, slice_get}
+use Rattle.std.specs.Prelude.{◌≡◌, ℕ, ◌≤◌, Bool, true, List, [], Some, slice_get}
 use Rattle.std.specs.List.{AllZip}
 use Rattle.c_tree.specs.declared.value.Value.{Value}
 use Rattle.c_tree.specs.Tree.{CType, function, CTypes, list_of, Expr, Exprs, Stmt, Function, Program}
 use Rattle.c_tree.specs.Typed.{IsValue, IsPlace, AreArguments, IsTest, IsStep, IsStmt}
-use Rattle.c_tree.specs.Kinds.{Objects}
+use Rattle.c_tree.specs.Kinds.{Objects, static_objects}
 use Rattle.c_tree.specs.Program.{IsProgram}
 use Rattle.c_values.specs.Memory.{Objects as Memory}
 use Rattle.c_shapes.specs.Mentions.{mentions, mentions_of_all, mentions_of_stmt}
 use Rattle.c_meaning.specs.Meaning.{Marks, Frame, Loop, World, eval, eval_all, exec}
 use Rattle.c_meaning.specs.Results.{State, with_memory, Exit}
-use Rattle.c_meaning.specs.Runs.{world}
+use Rattle.sys_table.specs.declared.sys_result.SysResult.{SysResult}
+use Rattle.c_meaning.specs.Runs.{world, enter, beginning, ending, run_with}
 use Rattle.typed_meaning.specs.StoreTyping.{HasKind, IsTypedState, TellsOfStatics, IsTypedFrame}
 use Rattle.typed_meaning.specs.TypedResults.{StandsIn, StandsRound, AreRecorded}
 use Rattle.further_objects.specs.FurtherObjects.{IsBeside, DoesAlike}
@@ -63,3 +64,8 @@ pub record PartsDoAlike (p : Program) (marks : Marks) (turns : ℕ) : Type 0 whe
 abbrev pub FurtherObjectsChangeNothing : Type 0
 FurtherObjectsChangeNothing =
     (p : Program) (n : ℕ) → IsProgram p n → (marks : Marks) → AreRecorded marks → (turns : ℕ) → PartsDoAlike p marks turns
+
+-- a run that begins with further static objects, past those of the program, is the run without them
+abbrev pub RunsDoAlike : Type 0
+RunsDoAlike =
+    (p : Program) (n : ℕ) → IsProgram p n → (marks : Marks) → AreRecorded marks → (records : List SysResult) (turns : ℕ) (more : Memory) → IsBeside (static_objects p) 0 (beginning p records turns).memory more → ending (enter p (world p marks turns) marks true p.main [] (with_memory (beginning p records turns) more)) ≡ run_with p marks records turns

@@ -1,6 +1,10 @@
-use Rattle.further_objects.proofs.Worlds.{further_objects_change_nothing}
+use Rattle.further_objects.proofs.Worlds.{further_objects_change_nothing, runs_do_alike}
 use Rattle.further_objects.proofs.laws.further_objects_change_nothing.Goals as goal
 
--- src/laws.rt:8:1
-pub returns : goal.returns
-returns c = further_objects_change_nothing
+-- src/laws.rt:9:1
+pub returns-clause-parts : goal.returns-clause-parts
+returns-clause-parts c = further_objects_change_nothing
+
+-- src/laws.rt:9:1
+pub returns-clause-runs : goal.returns-clause-runs
+returns-clause-runs c = runs_do_alike
