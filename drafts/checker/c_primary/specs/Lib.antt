@@ -1,0 +1,2 @@
+pub mod CalleeView
+pub mod Joined
