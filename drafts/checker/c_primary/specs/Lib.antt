@@ -1,2 +1,0 @@
-pub mod CalleeView
-pub mod Joined
