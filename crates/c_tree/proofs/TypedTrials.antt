@@ -14,7 +14,7 @@ use Rattle.sys_table.specs.Table.{table, name_of}
 use Rattle.c_tree.specs.Layout.{Structs, cells_of_all}
 use Rattle.c_tree.specs.Operands.{IsScalar, IsObject}
 use Rattle.c_tree.specs.Typed.{IsValue, IsStmt}
-use Rattle.c_tree.specs.Program.{IsProgram, IsFunction, IsStatic, HaveNames, AreStructs}
+use Rattle.c_tree.specs.Program.{IsProgram, IsBlock, IsFunction, IsStatic, HaveNames, AreStructs}
 use Rattle.c_tree.proofs.TrialNames.{apart, named, no_twin}
 
 -- a block of two statements
@@ -52,8 +52,8 @@ abbrev pub function_with : List ℕ → CType → List CType → Stmt → Functi
 function_with name ctype variables body = record { name = name; ctype = ctype; variables = variables; body = body }
 
 -- a function without variables whose body is right
-no_variables : (p : Program) (name : List ℕ) (body : Stmt) → IsStmt p [] int false false body → IsFunction p (function_with name (of_none int) [] body)
-no_variables p name body h = record {
+no_variables : (p : Program) (name : List ℕ) (body : Stmt) → IsBlock body → IsStmt p [] int false false body → IsFunction p (function_with name (of_none int) [] body)
+no_variables p name body is_block h = record {
   gives = int;
   takes = no_types;
   others = [];
@@ -64,12 +64,13 @@ no_variables p name body h = record {
   parameters = refl;
   objects = All-nil _;
   few = omega arith;
+  body = is_block;
   typed = h;
 }
 
 -- a function of one parameter whose body is right
-one_parameter : (p : Program) (name : List ℕ) (t : CType) (body : Stmt) → IsScalar t → IsObject p.structs t → cells_of_all p.structs (t ∷ []) ≤ 262144 → IsStmt p (t ∷ []) int false false body → IsFunction p (function_with name (of_one int t) (t ∷ []) body)
-one_parameter p name t body scalar object few h = record {
+one_parameter : (p : Program) (name : List ℕ) (t : CType) (body : Stmt) → IsBlock body → IsScalar t → IsObject p.structs t → cells_of_all p.structs (t ∷ []) ≤ 262144 → IsStmt p (t ∷ []) int false false body → IsFunction p (function_with name (of_one int t) (t ∷ []) body)
+one_parameter p name t body is_block scalar object few h = record {
   gives = int;
   takes = more_types t no_types;
   others = [];
@@ -80,6 +81,7 @@ one_parameter p name t body scalar object few h = record {
   parameters = refl;
   objects = All-cons (IsObject p.structs) t [] object (All-nil _);
   few = few;
+  body = is_block;
   typed = h;
 }
 
@@ -115,12 +117,12 @@ source_b = of_f_and_main f_of_b main_of_b []
 
 f_of_b_fits : IsFunction source_b (f_with f_of_b)
 unfolding sys_types
-f_of_b_fits = no_variables source_b (codes "f") f_of_b ((tt, refl, (no_types, refl, tt)), tt)
+f_of_b_fits = no_variables source_b (codes "f") f_of_b tt ((tt, refl, (no_types, refl, tt)), tt)
 
 main_of_b_fits : IsFunction source_b (main_with main_of_b)
 unfolding sys_types
 main_of_b_fits =
-    no_variables source_b (codes "main") main_of_b ((no_types, refl, tt), ((no_types, refl, tt), ((no_types, refl, tt), ((tt, refl, (refl, search arith)), tt))))
+    no_variables source_b (codes "main") main_of_b tt ((no_types, refl, tt), ((no_types, refl, tt), ((no_types, refl, tt), ((tt, refl, (refl, search arith)), tt))))
 
 source_b_fits : IsProgram source_b 4
 source_b_fits = record {
@@ -158,12 +160,12 @@ g_fits p = record { object = int_object p.structs; typed = ((refl, search arith)
 f_of_d_fits : IsFunction source_d (f_with f_of_d)
 unfolding sys_types
 f_of_d_fits =
-    no_variables source_d (codes "f") f_of_d (((tt, (tt, refl, (g_of_d, refl, refl, refl))), (no_types, refl, tt), tt), ((no_types, refl, tt), ((tt, refl, (refl, search arith)), tt)))
+    no_variables source_d (codes "f") f_of_d tt (((tt, (tt, refl, (g_of_d, refl, refl, refl))), (no_types, refl, tt), tt), ((no_types, refl, tt), ((tt, refl, (refl, search arith)), tt)))
 
 main_of_d_fits : IsFunction source_d (main_with main_of_d)
 unfolding sys_types
 main_of_d_fits =
-    no_variables source_d (codes "main") main_of_d ((no_types, refl, tt), ((tt, refl, (refl, search arith)), tt))
+    no_variables source_d (codes "main") main_of_d tt ((no_types, refl, tt), ((tt, refl, (refl, search arith)), tt))
 
 source_d_fits : IsProgram source_d 3
 source_d_fits = record {
@@ -193,17 +195,20 @@ t_of_one =
 abbrev a_of_i : Stmt
 a_of_i = two (evaluate (call int 0 18 no_exprs)) x_of_parameter
 
+abbrev b_of_i : Stmt
+b_of_i = block (more_stmts x_of_parameter no_stmts)
+
 abbrev c_of_i : Stmt
 c_of_i = two (evaluate (call int 1 18 no_exprs)) (return_value zero_of_int)
 
 abbrev main_of_i : Stmt
-main_of_i = return_value (call_through int 2 t_of_one (more_exprs (constant int (v.Int (pos 5))) no_exprs))
+main_of_i = block (more_stmts (return_value (call_through int 2 t_of_one (more_exprs (constant int (v.Int (pos 5))) no_exprs))) no_stmts)
 
 abbrev a_function : Function
 a_function = function_with (codes "a") (of_one int int) (int ∷ []) a_of_i
 
 abbrev b_function : Function
-b_function = function_with (codes "b") (of_one int int) (int ∷ []) x_of_parameter
+b_function = function_with (codes "b") (of_one int int) (int ∷ []) b_of_i
 
 abbrev c_function : Function
 c_function = function_with (codes "c") (of_one int char_pointer) (char_pointer ∷ []) c_of_i
@@ -254,20 +259,20 @@ indirect_names = record {
 a_fits : IsFunction indirect a_function
 unfolding sys_types
 a_fits =
-    one_parameter indirect (codes "a") int a_of_i tt (int_object []) (omega arith) ((no_types, refl, tt), (parameter_fits indirect, tt))
+    one_parameter indirect (codes "a") int a_of_i tt tt (int_object []) (omega arith) ((no_types, refl, tt), (parameter_fits indirect, tt))
 
 b_fits : IsFunction indirect b_function
 b_fits =
-    one_parameter indirect (codes "b") int x_of_parameter tt (int_object []) (omega arith) (parameter_fits indirect)
+    one_parameter indirect (codes "b") int b_of_i tt tt (int_object []) (omega arith) (parameter_fits indirect, tt)
 
 c_fits : IsFunction indirect c_function
 unfolding sys_types
 c_fits =
-    one_parameter indirect (codes "c") char_pointer c_of_i tt (pointer_object [] _) (omega arith) ((no_types, refl, tt), ((tt, refl, (refl, search arith)), tt))
+    one_parameter indirect (codes "c") char_pointer c_of_i tt tt (pointer_object [] _) (omega arith) ((no_types, refl, tt), ((tt, refl, (refl, search arith)), tt))
 
 main_of_i_fits : IsFunction indirect (main_with main_of_i)
 main_of_i_fits =
-    no_variables indirect (codes "main") main_of_i (tt, refl, (more_types int no_types, refl, designator_fits, (refl, (refl, search arith), tt)))
+    no_variables indirect (codes "main") main_of_i tt ((tt, refl, (more_types int no_types, refl, designator_fits, (refl, (refl, search arith), tt))), tt)
 
 t_fits : IsStatic indirect t_of_i
 unfolding sys_types

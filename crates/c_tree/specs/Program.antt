@@ -3,7 +3,7 @@ use Rattle.std.specs.Prelude.{◌≡◌, ◌≢◌, ℕ, ◌≤◌, ◌<◌, fal
 use Rattle.std.specs.List.{AllZip, range_with_len}
 use Rattle.dm_base.specs.Name.{IsName}
 use Rattle.sys_table.specs.Table.{name_of}
-use Rattle.c_tree.specs.Tree.{CType, void, integer, pointer, array, struct, function, CTypes, list_of, Function, Static, Program}
+use Rattle.c_tree.specs.Tree.{CType, void, integer, pointer, array, struct, function, CTypes, list_of, Stmt, block, Function, Static, Program}
 use Rattle.c_tree.specs.Layout.{Structs, flat, cells_of_all}
 use Rattle.c_tree.specs.Functions.{int, of_none, defined}
 use Rattle.c_tree.specs.Operands.{IsScalar, IsResult, IsComplete, IsObject}
@@ -29,7 +29,12 @@ pub record AreStructs (structs : Structs) : Type 0 where
   pub complete : (s : ℕ) (ts : List CType) → slice_get structs s ≡ Some (Some ts) → All (IsComplete structs) ts
   pub members : (s : ℕ) (ts : List CType) → slice_get structs s ≡ Some (Some ts) → 1 ≤ length ts
 
--- a function: its parameters are the first of its variables, and its body is well-typed (6.9.1)
+-- a compound statement
+abbrev pub IsBlock : Stmt → Type 0
+IsBlock (block ss) = Unit {0}
+IsBlock s = ⊥
+
+-- a function: its parameters are the first of its variables, and its body is a well-typed block (6.9.1)
 pub record IsFunction (p : Program) (f : Function) : Type 0 where
   pub gives : CType
   pub takes : CTypes
@@ -41,6 +46,7 @@ pub record IsFunction (p : Program) (f : Function) : Type 0 where
   pub parameters : f.variables ≡ list_of takes ++ others
   pub objects : All (IsObject p.structs) f.variables
   pub few : cells_of_all p.structs f.variables ≤ 262144
+  pub body : IsBlock f.body
   pub typed : IsStmt p f.variables gives false false f.body
 
 -- a static object or string: each of its cells has a value of its type, and pointers lie in static objects (6.7.8)

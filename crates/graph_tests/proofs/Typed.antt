@@ -12,7 +12,7 @@ use Rattle.c_tree.specs.declared.tree.Function.{Function as FunctionTree}
 use Rattle.c_tree.specs.declared.tree.Static.{Static as StaticTree}
 use Rattle.c_tree.specs.View.{function_of, program_of}
 use Rattle.c_tree.specs.Typed.{IsStmt}
-use Rattle.c_tree.specs.Program.{IsProgram, IsFunction, HaveNames, AreStructs}
+use Rattle.c_tree.specs.Program.{IsProgram, IsBlock, IsFunction, HaveNames, AreStructs}
 use Rattle.c_tree.proofs.TrialNames.{apart, named, no_twin}
 use Rattle.graph_tests.specs.Programs.{call_of_getpid, call_through_f, returning, without_variables, functions, through_a_pointer}
 
@@ -26,8 +26,8 @@ no_structs = record {
 }
 
 -- a function without variables whose body is right
-no_variables : (p : Program) (name : List ℕ) (body : Stmt) → IsStmt p [] int false false body → IsFunction p (without_variables name body)
-no_variables p name body h = record {
+no_variables : (p : Program) (name : List ℕ) (body : Stmt) → IsBlock body → IsStmt p [] int false false body → IsFunction p (without_variables name body)
+no_variables p name body is_block h = record {
   gives = int;
   takes = no_types;
   others = [];
@@ -38,6 +38,7 @@ no_variables p name body h = record {
   parameters = refl;
   objects = All-nil _;
   few = omega arith;
+  body = is_block;
   typed = h;
 }
 
@@ -60,10 +61,10 @@ names = record {
 
 f_fits : IsFunction through_a_pointer f
 unfolding sys_types
-f_fits = no_variables through_a_pointer (codes "f") (returning call_of_getpid) (tt, refl, (no_types, refl, tt))
+f_fits = no_variables through_a_pointer (codes "f") (returning call_of_getpid) tt ((tt, refl, (no_types, refl, tt)), tt)
 
 main_fits : IsFunction through_a_pointer m
-main_fits = no_variables through_a_pointer (codes "main") (returning call_through_f) (tt, refl, (no_types, refl, (refl, refl), tt))
+main_fits = no_variables through_a_pointer (codes "main") (returning call_through_f) tt ((tt, refl, (no_types, refl, (refl, refl), tt)), tt)
 
 pub fits : IsProgram through_a_pointer 2
 fits = record {

@@ -1,7 +1,7 @@
 -- The program of the tests, as a term.
 use Rattle.std.specs.Prelude.{ℕ, List, [], ◌∷◌, codes}
 use Rattle.c_tree.specs.Tree.{pointer, Function, Program}
-use Rattle.c_tree.specs.Tree.{Expr, function_name, decay, call, call_through, no_exprs, Stmt, return_value}
+use Rattle.c_tree.specs.Tree.{Expr, function_name, decay, call, call_through, no_exprs, Stmt, block, return_value, no_stmts, more_stmts}
 use Rattle.c_tree.specs.Functions.{int, of_none}
 
 abbrev pub call_of_getpid : Expr
@@ -15,7 +15,7 @@ abbrev pub call_through_f : Expr
 call_through_f = call_through int 1 pointer_to_f no_exprs
 
 abbrev pub returning : Expr → Stmt
-returning e = return_value e
+returning e = block (more_stmts (return_value e) no_stmts)
 
 abbrev pub without_variables : List ℕ → Stmt → Function
 without_variables name body = record { name = name; ctype = of_none int; variables = []; body = body }

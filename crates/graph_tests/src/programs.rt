@@ -69,11 +69,13 @@ fn function(alloc: Global, name: &[u8], value: TExpr) -> Result<Function, OutOfM
 {
     let name = Bytes::of(alloc, name)?;
     let ctype = type_of_none(alloc)?;
+    let mut body = Vec::new(alloc);
+    body.push(TStmt::Return(Some(value)))?;
     Ok(Function {
         name,
         ctype,
         variables: Vec::new(alloc),
-        body: TStmt::Return(Some(value)),
+        body: TStmt::Block(body),
     })
 }
 

@@ -51,7 +51,7 @@ body_of_main =
     block (more_stmts (declare 0 no_inits) (more_stmts (evaluate (assign (pointer int) q_of_v next)) (more_stmts (evaluate (assign int behind_q (constant int (v.Int (pos 5))))) (more_stmts (return_value (call_through int 0 (load int_of_int (variable int_of_int true 0)) (more_exprs (load int behind_q) no_exprs))) no_stmts))))
 
 abbrev f : Function
-f = function_with (codes "f") (of_one int int) (int ∷ []) (return_value (load int (variable int false 0)))
+f = function_with (codes "f") (of_one int int) (int ∷ []) (block (more_stmts (return_value (load int (variable int false 0))) no_stmts))
 
 abbrev main : Function
 main = function_with (codes "main") (of_none int) (struct 0 ∷ []) body_of_main
@@ -109,7 +109,8 @@ f_fits = record {
   parameters = refl;
   objects = one (IsObject structs_of) int int_object;
   few = omega arith;
-  typed = (tt, refl, (tt, refl, refl));
+  body = tt;
+  typed = ((tt, refl, (tt, refl, refl)), tt);
 }
 
 behind_fits : IsValue trial (struct 0 ∷ []) (load (pointer int) q_of_v)
@@ -136,6 +137,7 @@ main_fits = record {
   parameters = refl;
   objects = one (IsObject structs_of) (struct 0) struct_object;
   few = omega arith;
+  body = tt;
   typed = body_fits;
 }
 
