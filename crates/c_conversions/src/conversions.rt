@@ -1,0 +1,124 @@
+ghost use Rattle.std.specs.Prelude.{◌≡◌, IfOk};
+ghost use Rattle.c_given.specs.Judges.{Judges};
+ghost use Rattle.c_given.specs.View.{given_of};
+ghost use Rattle.c_rules.specs.Checked.{met};
+ghost use Rattle.c_rules.specs.Conversions.{is_defined, complete, valued, null_of, fits, assigned, as_if_assigned, condition};
+ghost use Rattle.c_rules.specs.Scopes.{struct_of};
+ghost use Rattle.c_scopes.specs.View.{env_of};
+ghost use Rattle.c_tree.specs.View.{ctype_of, expr_of};
+
+use crate::integers::converted_to;
+use crate::values::{decayed_array, decayed_function, loaded, null_of};
+use c_given::{
+    C3, C13, CheckError, Given, few_parts, is_integer, is_scalar, pointer_to, same_type,
+};
+use c_scopes::Environment;
+use c_tree::{CType, TExpr, copy_type};
+use dm_base::OutOfMemory;
+use std::alloc::Global;
+
+// A struct whose definition stands before.
+fn is_defined(env: &Environment<'_>, at: u32, s: u32) -> Result<(), CheckError>
+    ensures { Judges (λ _. met) result (is_defined at (struct_of (env_of env.now) s)) }
+{
+    match env.members(s) {
+        Some(_) => Ok(()),
+        None => Err(CheckError::At(C3, at)),
+    }
+}
+
+/// Demands the type of an object of known size (C99 6.2.5 paragraph 1).
+pub fn complete(env: &Environment<'_>, at: u32, t: &CType) -> Result<(), CheckError>
+    ensures { Judges (λ _. met) result (complete (env_of env.now) at (ctype_of t.now)) }
+{
+    match t {
+        CType::Void => Err(CheckError::At(C3, at)),
+        CType::Int(_) => Ok(()),
+        CType::Pointer(_) => Ok(()),
+        CType::Array(_, n) => {
+            if *n == 0 {
+                return Err(CheckError::At(C3, at));
+            }
+            Ok(())
+        }
+        CType::Struct(s) => is_defined(env, at, *s),
+        CType::Function(_, _) => Err(CheckError::At(C3, at)),
+    }
+}
+
+/// What gives a value where a value is asked (C99 6.3.2.1): a scalar place its value, an array a pointer to its first
+/// element, a function a pointer to it. A struct gives none in this profile.
+pub fn valued(alloc: Global, env: &Environment<'_>, at: u32, g: Given) -> Result<Given, CheckError>
+    ensures { Judges given_of result (valued (env_of env.now) at (given_of g)) }
+{
+    match &g.ctype {
+        CType::Void => Ok(loaded(alloc, g)?),
+        CType::Int(_) => Ok(loaded(alloc, g)?),
+        CType::Pointer(_) => Ok(loaded(alloc, g)?),
+        CType::Array(element, _) => {
+            let element = copy_type(alloc, element)?;
+            Ok(decayed_array(alloc, env, element, g)?)
+        }
+        CType::Struct(_) => Err(CheckError::At(C3, at)),
+        CType::Function(_, _) => {
+            let pointer = pointer_to(alloc, &g.ctype)?;
+            if !few_parts(&pointer) {
+                return Err(CheckError::At(C13, at));
+            }
+            Ok(decayed_function(alloc, pointer, g)?)
+        }
+    }
+}
+
+/// Whether a value may be assigned to an object of a type (C99 6.5.16.1): an integer to an integer; a pointer to one of
+/// its type; a null pointer constant to a pointer.
+pub fn fits(t: &CType, g: &Given) -> bool
+    ensures { result ≡ fits (ctype_of t.now) (given_of g.now) }
+{
+    match t {
+        CType::Int(_) => is_integer(&g.ctype),
+        CType::Pointer(_) => {
+            if g.is_null() {
+                return true;
+            }
+            same_type(t, &g.ctype)
+        }
+        _ => false,
+    }
+}
+
+/// A value that fits in the type of the object.
+pub fn assigned(alloc: Global, t: &CType, g: Given) -> Result<Given, OutOfMemory>
+    ensures { IfOk result (λ r. given_of r ≡ assigned (ctype_of t.now) (given_of g)) }
+{
+    match t {
+        CType::Int(i) => converted_to(alloc, *i, g),
+        CType::Pointer(_) => {
+            if g.is_null() {
+                return null_of(alloc, t);
+            }
+            Ok(g)
+        }
+        _ => Ok(g),
+    }
+}
+
+/// The conversion as if by assignment, and its demand (C99 6.5.16.1).
+pub fn as_if_assigned(alloc: Global, at: u32, t: &CType, g: Given) -> Result<Given, CheckError>
+    ensures { Judges given_of result (as_if_assigned at (ctype_of t.now) (given_of g)) }
+{
+    if !fits(t, &g) {
+        return Err(CheckError::At(C3, at));
+    }
+    Ok(assigned(alloc, t, g)?)
+}
+
+/// A condition, which is a scalar (C99 6.8.4.1 paragraph 1, 6.8.5 paragraph 2).
+pub fn condition(alloc: Global, at: u32, g: Given) -> Result<TExpr, CheckError>
+    ensures { Judges expr_of result (condition at (given_of g)) }
+{
+    if !is_scalar(&g.ctype) {
+        return Err(CheckError::At(C3, at));
+    }
+    Ok(g.into_tree(alloc)?)
+}
