@@ -1,3 +1,3 @@
 pub mod TrialUnits
 mod Trials
-mod Unsited
+pub mod Unsited
