@@ -28,16 +28,16 @@ use Rattle.further_objects.proofs.Steps.{Sees, test_same, behind_of_same, load_p
 use Rattle.further_objects.proofs.Together.{Does, Shown, AllShown, sees, store_place_remembers, here, answered_does, remembered_does, Whenever, answered_then, either_does, bracketed_does, undefined_does, alone_does, Now, kind_shown, given_shown, place_shown, then_does}
 
 -- a call of a function that is defined
-defined_at : (fs : List Function) (xs : List CType) (f : ℕ) (t : CType) → f < length fs → slice_get (map type_of_defined fs ++ xs) f ≡ Some t → (g : Function) × (slice_get fs f ≡ Some g) × (g.ctype ≡ t)
+pub defined_at : (fs : List Function) (xs : List CType) (f : ℕ) (t : CType) → f < length fs → slice_get (map type_of_defined fs ++ xs) f ≡ Some t → (g : Function) × (slice_get fs f ≡ Some g) × (g.ctype ≡ t)
 defined_at [] xs f t h e = absurd (omega (arith, h))
 defined_at (g ∷ fs) xs zero t h e = let same : g.ctype ≡ t = cc in (g, refl, same)
 defined_at (g ∷ fs) xs (suc f) t h e = defined_at fs xs f t (omega (arith, h)) e
 
-right_whenever : (ok : Value → Type 0) (r : Answer Value) → Right {A = Value} ok r → Whenever {A = Value} ok r
+pub right_whenever : (ok : Value → Type 0) (r : Answer Value) → Right {A = Value} ok r → Whenever {A = Value} ok r
 right_whenever ok (gives v) h = h
 right_whenever ok (undefined kind) h = tt
 
-any_whenever : (r : Answer Value) → Whenever {A = Value} (λ v. Unit {0}) r
+pub any_whenever : (r : Answer Value) → Whenever {A = Value} (λ v. Unit {0}) r
 any_whenever (gives v) = tt
 any_whenever (undefined kind) = tt
 
@@ -47,7 +47,7 @@ module _ (known : Objects) (last : ℕ) (p : Program) (n : ℕ) (typed : IsProgr
   Enters w =
       (wanted : Bool) (f : ℕ) (g : Function) (r : CType) (ts : CTypes) (vs : List Value) (o : Objects) (st : State) (more : Memory) → slice_get p.functions f ≡ Some g → g.ctype ≡ function r ts → TellsOfStatics p o → AllZip (HasKind p o) (list_of ts) vs → Now known last p o st more → Does known last {A = Value} more (w.enter wanted f vs st) (w.enter wanted f vs (with_memory st more))
 
-  zip_shown : (o : Objects) (ts : List CType) (vs : List Value) (st : State) (more : Memory) → Now known last p o st more → AllZip (HasKind p o) ts vs → AllShown known last vs
+  pub zip_shown : (o : Objects) (ts : List CType) (vs : List Value) (st : State) (more : Memory) → Now known last p o st more → AllZip (HasKind p o) ts vs → AllShown known last vs
   zip_shown o [] [] st more k z = tt
   zip_shown o [] (v ∷ vs) st more k z = absurd z
   zip_shown o (t ∷ ts) [] st more k z = absurd z

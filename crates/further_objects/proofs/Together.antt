@@ -27,7 +27,7 @@ use Rattle.further_objects.specs.FurtherObjects.{IsHidden, IsBeside, Stay, DoesA
 use Rattle.further_objects.proofs.Steps.{Sees, AllSee, request_same}
 
 -- of the activations before, as much is told after two parts as after none
-alike_on : (start later : ℕ) (o u v : Objects) → start ≤ later → TellsAlike start o u → TellsAlike later u v → TellsAlike start o v
+pub alike_on : (start later : ℕ) (o u v : Objects) → start ≤ later → TellsAlike start o u → TellsAlike later u v → TellsAlike start o v
 alike_on start later o u v less h k x l = k x (omega (arith, l, less)) ∙ h x l
 
 -- what holds of what an answer gives

@@ -28,19 +28,19 @@ use Rattle.further_objects.proofs.Statements.{AreShown, Agains, without_beside, 
 
 module _ (known : Objects) (last : ℕ) where
   -- names of later activations aren't hidden
-  later_shown : (activation x : ℕ) → last < activation → Hidden known last (record { activation = activation; variable = x }) → ⊥
+  pub later_shown : (activation x : ℕ) → last < activation → Hidden known last (record { activation = activation; variable = x }) → ⊥
   later_shown activation x l h = let a = h.0 in omega (arith, l, a)
 
-  parameters_shown : (activation x : ℕ) (vs : List Value) → last < activation → AreShown known last activation (parameters x vs)
+  pub parameters_shown : (activation x : ℕ) (vs : List Value) → last < activation → AreShown known last activation (parameters x vs)
   parameters_shown activation x [] l = tt
   parameters_shown activation x (v ∷ vs) l = (later_shown activation x l, parameters_shown activation (suc x) vs l)
 
-  parameters_beside : (activation x : ℕ) (vs : List Value) (m l : Memory) → Beside known last m l → Beside known last (with_parameters activation x vs m) (with_parameters activation x vs l)
+  pub parameters_beside : (activation x : ℕ) (vs : List Value) (m l : Memory) → Beside known last m l → Beside known last (with_parameters activation x vs m) (with_parameters activation x vs l)
   parameters_beside activation x [] m l b = b
   parameters_beside activation x (v ∷ vs) m l b =
       parameters_beside activation (suc x) vs _ _ (beside_changed known last m l (record { activation = activation; variable = x }) (Some (record { cells = v ∷ []; string = false })) b)
 
-  parameters_stay : (activation x : ℕ) (vs : List Value) (more l : Memory) → last < activation → Stay known last more l → Stay known last more (with_parameters activation x vs l)
+  pub parameters_stay : (activation x : ℕ) (vs : List Value) (more l : Memory) → last < activation → Stay known last more l → Stay known last more (with_parameters activation x vs l)
   parameters_stay activation x [] more l a s = s
   parameters_stay activation x (v ∷ vs) more l a s =
       parameters_stay activation (suc x) vs more _ a (λ y hid. stay_changed known last l (record { activation = activation; variable = x }) (Some (record { cells = v ∷ []; string = false })) (later_shown activation x a) y hid ∙ s y hid)
@@ -51,7 +51,7 @@ module _ (known : Objects) (last : ℕ) where
   without_value_does false true st more b = refl
   without_value_does false false st more b = here known last {A = Value} Indeterminate st more [] b
 
-  result_does : (is_main wanted : Bool) (x : Exit) (st : State) (more : Memory) → Beside known last st.memory more → Does known last {A = Value} more (result_of is_main wanted x st) (result_of is_main wanted x (with_memory st more))
+  pub result_does : (is_main wanted : Bool) (x : Exit) (st : State) (more : Memory) → Beside known last st.memory more → Does known last {A = Value} more (result_of is_main wanted x st) (result_of is_main wanted x (with_memory st more))
   result_does is_main wanted (returned (Some v)) st more b = here known last {A = Value} v st more [] b
   result_does is_main wanted (returned None) st more b = without_value_does is_main wanted st more b
   result_does is_main wanted on st more b = without_value_does is_main wanted st more b
