@@ -1,0 +1,7 @@
+pub mod Beside
+pub mod Bodies
+pub mod Calls
+pub mod Expressions
+pub mod Scalars
+pub mod Statements
+pub mod Worlds
