@@ -1,4 +1,5 @@
 ghost use Rattle.bracketed_runs.specs.Laws.{BracketedRunsAreMarkedRuns, BracketsAddNullCalls, BracketsRunMarked, ErasedBracketsRunAlike};
+ghost use Rattle.bracketed_runs.specs.NoFalseAlarm.{BracketedRunsAreWords, MonitorsAcceptBracketedRuns};
 
 /// A program that is a well-typed program with null calls round its marked calls, whatever its sites are, does what the
 /// program does with the null calls at its marked sites: it ends alike, after the same events. So its runs differ from
@@ -9,4 +10,13 @@ pub fn brackets_run_marked()
     ensures brackets { BracketsRunMarked }
     ensures differ { BracketsAddNullCalls }
     ensures erased { ErasedBracketsRunAlike }
+{}
+
+/// No false alarm on such a program, where the program that it is made of makes no null calls itself: the trace of each of
+/// its runs is in the Dyck language of that program, and is accepted whole by the callgraph and the stack monitor of that
+/// program's graph, and by the Dyck monitor where no more calls are open at once than the bound allows; the Dyck monitor
+/// never rejects it. The function does nothing.
+pub fn brackets_raise_no_alarm()
+    ensures words { BracketedRunsAreWords }
+    ensures monitors { MonitorsAcceptBracketedRuns }
 {}
