@@ -64,18 +64,26 @@ fn through(alloc: Global) -> Result<TExpr, OutOfMemory>
     })
 }
 
+// The block that returns the value.
+fn returned(alloc: Global, value: TExpr) -> Result<TStmt, OutOfMemory>
+    ensures { IfOk result (λ s. stmt_of s ≡ returning (expr_of value)) }
+{
+    let mut body = Vec::new(alloc);
+    body.push(TStmt::Return(Some(value)))?;
+    Ok(TStmt::Block(body))
+}
+
 fn function(alloc: Global, name: &[u8], value: TExpr) -> Result<Function, OutOfMemory>
     ensures { IfOk result (λ f. function_of f ≡ without_variables name.now (returning (expr_of value))) }
 {
     let name = Bytes::of(alloc, name)?;
     let ctype = type_of_none(alloc)?;
-    let mut body = Vec::new(alloc);
-    body.push(TStmt::Return(Some(value)))?;
+    let body = returned(alloc, value)?;
     Ok(Function {
         name,
         ctype,
         variables: Vec::new(alloc),
-        body: TStmt::Block(body),
+        body,
     })
 }
 
