@@ -1,5 +1,5 @@
 -- Declarations, part by part.
-use Rattle.std.proofs.Common.{◌≡◌, ◌≤◌, ℕ, List, ◌∷◌, refl, sym, ◌∙◌, subst, arith}
+use Rattle.std.proofs.Common.{◌≡◌, ◌≤◌, List, ◌∷◌, refl, sym, ap, ◌∙◌, subst, arith, ℕ}
 use Rattle.c_lexer.specs.declared.token.Token.{Token}
 use Rattle.c_lexer.specs.declared.punctuator.TheConstants.{ASSIGN, COMMA, SEMICOLON}
 use Rattle.c_syntax.specs.Tree.{MaybeInit, Init, Parts, Decl}
@@ -12,14 +12,14 @@ use Rattle.c_syntax.proofs.Ends.{started, EndsSpec}
 use Rattle.c_syntax.proofs.Begins.{named_ends_spec}
 use Rattle.c_syntax.proofs.Heads.{head, no_storage_at}
 use Rattle.c_syntax.proofs.OneDecl.{plain_head, maybe_init_ends, maybe_init_at, moved_spec}
-use Rattle.c_refusals.specs.Fails.{Fails, Then, then, first, second, one}
+use Rattle.c_refusals.specs.Fails.{Fails, Then, then, first, second, one, NotAt}
 use Rattle.c_refusals.specs.Phrases.{Bound, Fits, ASpec, ADeclarator, AnInit, APlainDecl}
 use Rattle.c_refusals.specs.Declarations.{PartsTail, last_stands, more_stand, SomeParts, PartsEnd}
-use Rattle.c_refusals.proofs.Combine.{fails_as, fails_first, fails_later, fails_under}
-use Rattle.c_refusals.proofs.Fixed.{spec_fixes, declarator_fixes, init_fixes, rank_alike}
+use Rattle.c_refusals.proofs.Combine.{fails_as, fails_first, fails_later, fails_under, not_at_alike}
+use Rattle.c_refusals.proofs.Fixed.{spec_fixes, declarator_fixes, init_fixes}
 use Rattle.c_refusals.proofs.BlockForms.{fits_under}
 
-parts_reads : (b : Bound) {d : ℕ} {ps : Parts} {t : Token} {i j : List Token} → ReadsParts d ps i (t ∷ j) → Is SEMICOLON t → Fits b d (height_of_parts ps) → SomeParts b i j
+pub parts_reads : (b : Bound) {d : ℕ} {ps : Parts} {t : Token} {i j : List Token} → ReadsParts d ps i (t ∷ j) → Is SEMICOLON t → Fits b d (height_of_parts ps) → SomeParts b i j
 parts_reads b (last_part e n v) h f =
     then
     (record { depth = _; tree = _; reads = e; named = n; ends = maybe_init_ends v (omega (arith, started h)); fits = fits_under b f (omega arith) })
@@ -57,15 +57,18 @@ pub init_form : (b : Bound) {t : Token} {i j : List Token} → Is ASSIGN t → P
 init_form b h (last_stands v c f) = then (last_init_reads b h v c f) (first (one c))
 init_form b h (more_stand v c ps u f) = then (more_init_reads b h v c (fits_under b f (omega arith))) (second (then (one c) (parts_reads b ps u (fits_under b f (omega arith)))))
 
-none_reads : {d : ℕ} {v : MaybeInit} {i j : List Token} → (rank i ≡ 13 → ⊥) → ReadsMaybeInit d v i j → i ≡ j
+none_reads : {d : ℕ} {v : MaybeInit} {i j : List Token} → NotAt (Is ASSIGN) i → ReadsMaybeInit d v i j → i ≡ j
 none_reads f no_initialiser = refl
-none_reads f (an_initialiser o r) = absurd (f (ranked o))
+none_reads f (an_initialiser o r) = absurd (f _ _ refl o)
+
+no_assign : {i : List Token} → (rank i ≡ 13 → ⊥) → NotAt (Is ASSIGN) i
+no_assign f = λ t j q h. f (ap rank q ∙ ranked h)
 
 end_at : (b : Bound) {i j k : List Token} → i ≡ j → PartsEnd b j k → PartsEnd b i k
 end_at b {k = k} q e = subst (λ z. PartsEnd b z k) (sym q) e
 
 -- the end or more, where no initialiser stands
-pub no_init_form : (b : Bound) {i j : List Token} → (rank i ≡ 13 → ⊥) → PartsTail b i j → PartsEnd b i j
+pub no_init_form : (b : Bound) {i j : List Token} → NotAt (Is ASSIGN) i → PartsTail b i j → PartsEnd b i j
 no_init_form b h (last_stands v c f) = end_at b (none_reads h v) (first (one c))
 no_init_form b h (more_stand v c ps u f) = end_at b (none_reads h v) (second (then (one c) (parts_reads b ps u (fits_under b f (omega arith)))))
 
@@ -89,5 +92,9 @@ init_fails b h f = fails_under (λ k j a. init_form b h a) (fails_first f)
 pub end_fails : (b c : Bound) {t : Token} {i j r : List Token} → Is ASSIGN t → AnInit c i j → Fails (PartsEnd b) j r → Fails (PartsTail b) (t ∷ i) r
 end_fails b c h v f = fails_under (λ k j a. init_form b h a) (fails_later (init_fixes c b) v f)
 
+-- no initialiser stands
+pub no_assign_fails : (b : Bound) {i r : List Token} → NotAt (Is ASSIGN) i → Fails (PartsEnd b) i r → Fails (PartsTail b) i r
+no_assign_fails b n f = fails_as (λ k j m a. no_init_form b (not_at_alike m n) a) f
+
 pub no_init_fails : (b : Bound) {i r : List Token} → (rank i ≡ 13 → ⊥) → Fails (PartsEnd b) i r → Fails (PartsTail b) i r
-no_init_fails b h f = fails_as (λ k j m a. no_init_form b (λ q. h (rank_alike m ∙ q)) a) f
+no_init_fails b h f = no_assign_fails b (no_assign h) f

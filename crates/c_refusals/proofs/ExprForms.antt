@@ -1,5 +1,5 @@
 -- What follows the first token of an operand, form by form, and operands that others begin with.
-use Rattle.std.proofs.Common.{◌≤◌, ℕ, suc, List, ◌∷◌, arith}
+use Rattle.std.proofs.Common.{◌≤◌, suc, List, ◌∷◌, arith, ℕ}
 use Rattle.c_lexer.specs.declared.token.Token.{Token}
 use Rattle.c_lexer.specs.declared.punctuator.TheConstants.{LEFT_PARENTHESIS, LEFT_BRACKET}
 use Rattle.c_syntax.specs.Tree.{Expr, Postfix, Access}
@@ -20,12 +20,12 @@ use Rattle.c_refusals.specs.Operands.{enclosed, SomeSuffixes, SomeChain, Parenth
 use Rattle.c_refusals.proofs.StmtForms.{fits_part}
 use Rattle.c_refusals.proofs.BlockForms.{fits_under}
 
-fits_enclosed : (b : Bound) {d h : ℕ} → Fits b (suc d) h → Fits (enclosed b) d h
+pub fits_enclosed : (b : Bound) {d h : ℕ} → Fits b (suc d) h → Fits (enclosed b) d h
 fits_enclosed any fits_any = fits_any
 fits_enclosed (within p n) (fits_within f g) = fits_within (omega arith) g
 
 -- suffixes and operators only add height
-suffixes_rise : {d at : ℕ} {a e : Expr} {i j : List Token} → Suffixes d at a e i j → height a ≤ height e
+pub suffixes_rise : {d at : ℕ} {a e : Expr} {i j : List Token} → Suffixes d at a e i j → height a ≤ height e
 suffixes_rise no_suffix = omega arith
 suffixes_rise (an_index o r c w) = omega (arith, suffixes_rise w)
 suffixes_rise (an_empty_call o c w) = omega (arith, suffixes_rise w)
@@ -33,7 +33,7 @@ suffixes_rise (a_call o r c w) = omega (arith, suffixes_rise w)
 suffixes_rise (a_member h n w) = omega (arith, suffixes_rise w)
 suffixes_rise (a_postfix h w) = omega (arith, suffixes_rise w)
 
-chain_rises : {d n at : ℕ} {a e : Expr} {i j : List Token} → Chain d n at a e i j → height a ≤ height e
+pub chain_rises : {d n at : ℕ} {a e : Expr} {i j : List Token} → Chain d n at a e i j → height a ≤ height e
 chain_rises no_operator = omega arith
 chain_rises (an_operator l h r c) = omega (arith, chain_rises c)
 

@@ -1,5 +1,5 @@
 -- What one phrase reads is fixed: it moves, and it ends in one place.
-use Rattle.std.proofs.Common.{◌≡◌, List, refl}
+use Rattle.std.proofs.Common.{◌≡◌, List, refl, ℕ}
 use Rattle.c_lexer.specs.declared.token.Token.{Token}
 use Rattle.c_syntax.proofs.Precedence.{Stops, rank}
 use Rattle.c_syntax.proofs.Ends.{start, EndsDeclarator, EndsSpec}
@@ -10,9 +10,10 @@ use Rattle.c_syntax.proofs.FrameStatements.{init_on, decl_on, stmt_on}
 use Rattle.c_syntax.proofs.One.{same, same_declarator, same_spec}
 use Rattle.c_syntax.proofs.OneDecl.{same_init, same_decl}
 use Rattle.c_syntax.proofs.OneStmt.{same_stmt}
-use Rattle.c_syntax.specs.Grammar.{Level, assignment_level}
+use Rattle.c_syntax.specs.Grammar.{Level, assignment_level, Reads}
+use Rattle.c_syntax.proofs.Twins.{On}
 use Rattle.c_syntax.specs.Statements.{IsClosed}
-use Rattle.c_syntax.specs.Tree.{Stmt}
+use Rattle.c_syntax.specs.Tree.{Expr, Stmt}
 use Rattle.c_refusals.specs.Fails.{Meets, at_end, at_token}
 use Rattle.c_refusals.specs.Phrases.{Bound, AnExpr, ASpec, ADeclarator, AnInit, APlainDecl, AStmt}
 use Rattle.c_refusals.proofs.Combine.{Fixes}
@@ -31,15 +32,15 @@ pub head_alike : {i k : List Token} → Meets i k → head i ≡ head k
 head_alike at_end = refl
 head_alike at_token = refl
 
-stops_alike : (l : Level) {i k : List Token} → Meets i k → Stops l i → Stops l k
+pub stops_alike : (l : Level) {i k : List Token} → Meets i k → Stops l i → Stops l k
 stops_alike l at_end s = s
 stops_alike l at_token s = s
 
-ends_declarator_alike : {i k : List Token} → Meets i k → EndsDeclarator i → EndsDeclarator k
+pub ends_declarator_alike : {i k : List Token} → Meets i k → EndsDeclarator i → EndsDeclarator k
 ends_declarator_alike at_end s = s
 ends_declarator_alike at_token s = s
 
-ends_spec_alike : {i k : List Token} → Meets i k → EndsSpec i → EndsSpec k
+pub ends_spec_alike : {i k : List Token} → Meets i k → EndsSpec i → EndsSpec k
 ends_spec_alike at_end s = s
 ends_spec_alike at_token s = s
 
@@ -94,3 +95,7 @@ stmt_fixes b c = record {
       record { tokens = x.tokens; twin = x.twin; reads = record { depth = a.depth; tree = a.tree; reads = x.reads; closed = closed_alike a.tree m a.closed; fits = a.fits } };
   once = λ i j k a e. (same_stmt a.reads e.reads a.closed e.closed).1;
 }
+
+-- an expression moves
+pub expr_on : {d : ℕ} {l : Level} {e : Expr} {i j : List Token} → Reads d l e i j → (k : List Token) → On (Reads d l e) i j k
+expr_on r k = let x = reads_on r k in record { tokens = x.tokens; twin = x.twin; reads = x.reads }

@@ -1,5 +1,5 @@
 -- Where tokens cannot go on.
-use Rattle.std.specs.Prelude.{◌≡◌, List, [], ◌∷◌, ◌++◌}
+use Rattle.std.specs.Prelude.{◌≡◌, List, ◌∷◌, ◌++◌, []}
 use Rattle.c_lexer.specs.declared.token.Token.{Token}
 
 -- They begin with one token, or both are at their end.
@@ -26,3 +26,7 @@ pub data Or (A B : List Token → List Token → Type 0) : List Token → List T
 -- a token with the property
 pub data One (P : Token → Type 0) : List Token → List Token → Type 0 where
   one : {t : Token} {i : List Token} → P t → One P (t ∷ i) i
+
+-- no token with the property stands first
+abbrev pub NotAt : (Token → Type 0) → List Token → Type 0
+NotAt P i = (t : Token) (j : List Token) → i ≡ t ∷ j → P t → ⊥

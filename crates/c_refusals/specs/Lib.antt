@@ -4,3 +4,11 @@ pub mod Phrases
 pub mod Units
 pub mod Declarations
 pub mod Groups
+pub mod Specs
+pub mod Declarators
+pub mod Initialisers
+pub mod Labels
+pub mod Items
+pub mod Nodes
+pub mod Pairs
+pub mod Opens

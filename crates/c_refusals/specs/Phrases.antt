@@ -1,5 +1,5 @@
 -- The phrases of the grammar as relations between lists of tokens, within a bound, and with what may follow them.
-use Rattle.std.specs.Prelude.{◌≡◌, ◌≤◌, ℕ, ◌-◌, List, ◌∷◌}
+use Rattle.std.specs.Prelude.{◌≡◌, ◌≤◌, ◌-◌, List, ◌∷◌, ℕ}
 use Rattle.c_lexer.specs.declared.token.Token.{Token}
 use Rattle.c_lexer.specs.declared.punctuator.TheConstants.{LEFT_PARENTHESIS, RIGHT_PARENTHESIS, LEFT_BRACE, RIGHT_BRACE, SEMICOLON}
 use Rattle.c_lexer.specs.declared.keyword.TheConstants.{ELSE, WHILE}

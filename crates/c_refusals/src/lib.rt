@@ -6,6 +6,13 @@ mod laws;
 
 pub use laws::{
     a_block_fails_where_an_item_fails, a_declaration_fails_where_a_part_fails,
-    a_statement_fails_where_its_rest_fails, a_switch_fails_where_a_group_fails,
-    an_operand_fails_where_its_rest_fails, no_unit_is_spelled_where_units_fail,
+    a_declarator_fails_where_a_part_fails, a_declarator_opens_past_the_limits,
+    a_statement_fails_where_its_rest_fails, a_statement_opens_past_the_limits,
+    a_switch_fails_where_a_group_fails, a_unit_fails_where_an_item_fails,
+    an_expression_opens_past_the_limits, an_initialiser_fails_where_a_part_fails,
+    an_item_fails_where_a_part_fails, an_operand_fails_at_its_first_token,
+    an_operand_fails_where_its_rest_fails, an_operator_fails_where_its_operand_fails,
+    labels_and_heads_fail_where_a_part_fails, no_unit_is_spelled_where_units_fail,
+    parameters_fail_where_one_fails, specifiers_fail_where_a_word_fails,
+    suffixes_fail_behind_what_is_read,
 };

@@ -1,0 +1,39 @@
+-- Tokens with which phrases can go on.
+use Rattle.std.proofs.Common.{◌≡◌, ◌⊎◌, ◌<◌, zero, suc, List, ◌∷◌, refl, inl, inr, arith, ℕ, []}
+use Rattle.std.proofs.lemmas.List.Elements.{All-cons, All-nil}
+use Rattle.dm_base.specs.Name.{IsName, IsLetter, IsDigit}
+use Rattle.c_lexer.specs.declared.token.Token.{Token}
+use Rattle.c_lexer.specs.declared.token.TokenKind.TheVariants.{Name, Keyword, Punct}
+use Rattle.c_lexer.proofs.WordTables.{c99_is_fixed}
+use Rattle.c_syntax.specs.Tree.{a_name}
+use Rattle.c_syntax.specs.Grammar.{binary_level, conditional_level, assignment_level, Reads, is_name, with_suffixes, no_suffix, no_prefix, no_cast, no_chain, a_chain, no_operator, no_choice, no_assignment}
+
+pub s_is_name : IsName (115 ∷ [])
+s_is_name =
+    record {
+      some = omega arith;
+      short = omega arith;
+      begins = λ b rest q. let e : 115 ≡ b = cc in inr (inl (omega arith, omega arith));
+      bytes = All-cons (λ b. IsLetter b ⊎ IsDigit b) 115 [] (inl (inr (inl (omega arith, omega arith)))) (All-nil (λ b. IsLetter b ⊎ IsDigit b));
+      free = λ among. let fixed = c99_is_fixed (115 ∷ []) among in omega (arith, fixed.long);
+    }
+
+-- a name at the place
+abbrev pub name_token : ℕ → Token
+name_token at = record { kind = Name (115 ∷ []); from = at; to = at; given = s_is_name }
+
+abbrev pub punctuator : (code : ℕ) → code < 45 → Token
+punctuator code l = record { kind = Punct code; from = 0; to = 0; given = l }
+
+abbrev pub word : (code : ℕ) → code < 22 → Token
+word code l = record { kind = Keyword code; from = 0; to = 0; given = l }
+
+pub name_chain : {d : ℕ} (at n : ℕ) {m : List Token} → Reads d (binary_level n) (a_name at (115 ∷ [])) (name_token at ∷ m) m
+name_chain at zero = no_chain (no_cast (no_prefix (with_suffixes refl (is_name (record { kind = refl })) no_suffix)))
+name_chain at (suc n) = a_chain refl (name_chain at n) no_operator
+
+pub name_chooses : {d : ℕ} (at : ℕ) {m : List Token} → Reads d conditional_level (a_name at (115 ∷ [])) (name_token at ∷ m) m
+name_chooses at = no_choice (name_chain at 10)
+
+pub name_reads : {d : ℕ} (at : ℕ) {m : List Token} → Reads d assignment_level (a_name at (115 ∷ [])) (name_token at ∷ m) m
+name_reads at = no_assignment (name_chooses at)
