@@ -1,0 +1,11 @@
+use Rattle.spelled_types.proofs.Declared.{declared_types_are_spelled}
+use Rattle.spelled_types.proofs.Spellings.{spellings_declare}
+use Rattle.spelled_types.proofs.laws.types_are_spelled.Goals as goal
+
+-- src/laws.rt:6:1
+pub returns-clause-spellings : goal.returns-clause-spellings
+returns-clause-spellings c = spellings_declare
+
+-- src/laws.rt:6:1
+pub returns-clause-declared : goal.returns-clause-declared
+returns-clause-declared c = declared_types_are_spelled
