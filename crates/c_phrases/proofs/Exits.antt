@@ -1,20 +1,20 @@
 -- What each reader of an expression or a declarator answers, from the answers of what it calls.
-use Rattle.std.proofs.Common.{◌⊎◌, inl, inr, ◌≡◌, ◌≢◌, ◌<◌, ◌≤◌, ◌+◌, ◌-◌, ℕ, Bool, true, false, zero, suc, List, [], ◌∷◌, ◌++◌, drop, length, refl, sym, ap, ◌∙◌, subst, arith}
+use Rattle.std.proofs.Common.{◌≡◌, ◌≤◌, ◌+◌, ◌-◌, ℕ, suc, List, [], ◌∷◌, drop, refl, sym, ap, ◌∙◌, subst, arith}
 use Rattle.c_lexer.specs.declared.token.Token.{Token}
 use Rattle.c_lexer.specs.declared.keyword.TheConstants.{SIZEOF}
-use Rattle.c_lexer.specs.declared.punctuator.TheConstants.{LEFT_BRACKET, RIGHT_BRACKET, LEFT_PARENTHESIS, RIGHT_PARENTHESIS, ASTERISK, QUESTION, COLON, COMMA}
-use Rattle.c_syntax.specs.Tree.{Infix, Prefix, Ident, Spec, void, Expr, Exprs, no_exprs, more_exprs, sizeof_type, comma, cast, call, index, unary, prefix, sizeof, binary, assign, conditional, Maybe, TypeName, type_name, Declarator, nothing, named, pointer, array, function, Params}
+use Rattle.c_lexer.specs.declared.punctuator.TheConstants.{LEFT_PARENTHESIS, RIGHT_PARENTHESIS, ASTERISK, QUESTION, COLON, COMMA}
+use Rattle.c_syntax.specs.Tree.{Infix, Prefix, Ident, Expr, Exprs, sizeof_type, comma, cast, unary, prefix, sizeof, binary, assign, conditional, Maybe, TypeName, Declarator, nothing, named, pointer, array, function, Params}
 use Rattle.c_syntax.specs.Tokens.{Is, IsKeyword, IsUnary, IsAssignment, IsPrefix, IsInfix, code_of_infix, place}
-use Rattle.c_syntax.specs.Specifiers.{Names, Consts, ReadsSpec}
-use Rattle.c_syntax.specs.Grammar.{Level, primary_level, postfix_level, unary_level, cast_level, binary_level, conditional_level, assignment_level, expression_level, HasName, HasNoName, IsThere}
-use Rattle.c_syntax.specs.Grammar.{Reads, in_parentheses, no_prefix, a_prefix, a_unary, a_sizeof_type, no_cast, a_cast, no_choice, a_choice, no_assignment, an_assignment, no_comma, a_comma, ReadsList, last_expr, next_expr, Suffixes, ReadsSize, ReadsType, a_type, Declares, a_pointer, a_direct, ReadsCore, a_declared, declarator_in_parentheses, no_core, Lengthens, an_array, a_function, ReadsParams}
+use Rattle.c_syntax.specs.Specifiers.{Names, Consts}
+use Rattle.c_syntax.specs.Grammar.{Level, primary_level, unary_level, cast_level, binary_level, conditional_level, assignment_level, expression_level, IsThere}
+use Rattle.c_syntax.specs.Grammar.{Reads, in_parentheses, a_prefix, a_unary, a_sizeof_type, no_cast, a_cast, a_choice, an_assignment, a_comma, ReadsList, last_expr, next_expr, ReadsType, Declares, a_pointer, ReadsCore, a_declared, declarator_in_parentheses}
 use Rattle.c_syntax.proofs.Precedence.{rank, rank_of_kind, Stops}
 use Rattle.c_syntax.proofs.Ranks.{ranked, ranked_infix}
 use Rattle.c_syntax.proofs.Begins.{type_begins}
 use Rattle.c_syntax.proofs.One.{same}
 use Rattle.c_phrases.specs.declared.form.Form.{Form}
 use Rattle.c_phrases.specs.declared.form.Form.TheVariants.{Named, Abstract, Either}
-use Rattle.c_phrases.specs.Looking.{IsAtCast, IsAtSpecifier}
+use Rattle.c_phrases.specs.Looking.{IsAtCast}
 use Rattle.c_phrases.specs.Standing.{IsAt, IsAtKeyword}
 use Rattle.c_phrases.specs.Reading.{Suits}
 use Rattle.c_phrases.proofs.Growing.{lifted, chained_more}
@@ -53,9 +53,6 @@ paired_declarator q r = rw (sym q) r
 
 pub ended : {d : ℕ} {l : Level} {e : Expr} {i j k : List Token} → j ≡ k → Reads d l e i j → Reads d l e i k
 ended q r = rw (sym q) r
-
-pub ended_list : {d : ℕ} {e : Exprs} {i j k : List Token} → j ≡ k → ReadsList d e i j → ReadsList d e i k
-ended_list q r = rw (sym q) r
 
 pub ended_type : {d : ℕ} {e : TypeName} {i j k : List Token} → j ≡ k → ReadsType d e i j → ReadsType d e i k
 ended_type q r = rw (sym q) r
@@ -110,12 +107,6 @@ parentheses_read {d} {x} {e} {i = i} {m = m} y l o q r c w =
     let one : suc x ≡ d = omega (arith, y, l) in
     let P : ℕ → Type 0 = λ n. Reads n primary_level e i m in
     subst P one (rw q (in_parentheses o (ended w r) c))
-
-pub made_suffixes : {d at : ℕ} {a b e : Expr} {i j : List Token} → a ≡ b → Suffixes d at a e i j → Suffixes d at b e i j
-made_suffixes q r = rw (sym q) r
-
-pub made_lengthens : {d at : ℕ} {a b e : Declarator} {i j : List Token} → a ≡ b → Lengthens d at a e i j → Lengthens d at b e i j
-made_lengthens q r = rw (sym q) r
 
 -- whether a declarator has a name
 pub suits_pointer : (form : Form) (at : ℕ) (e : Declarator) → Suits form e → Suits form (pointer at e)

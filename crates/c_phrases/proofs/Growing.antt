@@ -1,16 +1,15 @@
 -- What is read of expressions and declarators, with one part more.
-use Rattle.std.proofs.Common.{◌⊎◌, inl, inr, ◌≡◌, ◌≤◌, ◌+◌, ◌-◌, ℕ, zero, suc, List, [], ◌∷◌, ◌++◌, drop, length, refl, sym, ap, ◌∙◌, subst, arith}
+use Rattle.std.proofs.Common.{◌≡◌, ◌≤◌, ℕ, zero, suc, List, [], ◌∷◌, ◌++◌, refl, sym, ap, ◌∙◌, arith}
 use Rattle.std.proofs.lemmas.List.{append_assoc}
 use Rattle.c_lexer.specs.declared.token.Token.{Token}
 use Rattle.c_lexer.specs.declared.punctuator.TheConstants.{COMMA}
 use Rattle.c_syntax.specs.declared.tree.Expr.{Expr as ExprTree}
-use Rattle.c_syntax.specs.declared.tree.Param.{Param as ParamTree, Param'}
-use Rattle.c_syntax.specs.Tree.{Infix, Spec, void, char, unsigned_char, int, unsigned_int, struct, enum, Expr, Exprs, no_exprs, more_exprs, comma, binary, Declarator, nothing, named, pointer, array, function, Params, no_params, more_params}
+use Rattle.c_syntax.specs.Tree.{Infix, Expr, Exprs, no_exprs, more_exprs, binary}
 use Rattle.c_syntax.specs.Tokens.{Is, IsStr, IsInfix, code_of_infix, place}
-use Rattle.c_syntax.specs.Specifiers.{Consts, no_const, a_const, ReadsSpec}
-use Rattle.c_syntax.specs.Grammar.{Level, unary_level, cast_level, binary_level, assignment_level, expression_level, ReadsStrings, last_string, next_string, Reads, no_chain, a_chain, no_cast, a_cast, no_comma, a_comma, ReadsList, last_expr, next_expr, Chain, no_operator, an_operator, Declares, ReadsEach, last_param, next_param, AreSome, IsThere}
-use Rattle.c_syntax.specs.View.{expr_of, param_before, spec_of, held_declarator}
-use Rattle.c_syntax.specs.Writes.{exprs_of, params_of}
+use Rattle.c_syntax.specs.Specifiers.{Consts, no_const, a_const}
+use Rattle.c_syntax.specs.Grammar.{binary_level, assignment_level, ReadsStrings, last_string, next_string, Reads, a_chain, ReadsList, last_expr, next_expr, Chain, no_operator, an_operator}
+use Rattle.c_syntax.specs.View.{expr_of}
+use Rattle.c_syntax.specs.Writes.{exprs_of}
 
 -- the consts of both
 pub consts_join : {i j k : List Token} → Consts i j → Consts j k → Consts i k

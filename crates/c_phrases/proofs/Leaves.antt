@@ -4,13 +4,12 @@ use Rattle.std.specs.Prelude.{ℤ, Result, Ok, Err}
 use Rattle.c_lexer.specs.declared.token.Token.{Token}
 use Rattle.c_lexer.specs.declared.token.TokenKind.TheVariants.{Name, Int, Char, Str}
 use Rattle.c_syntax.specs.Tree.{Expr, a_name, an_int, a_char, a_str}
-use Rattle.c_syntax.specs.Tokens.{IsStr, place}
+use Rattle.c_syntax.specs.Tokens.{IsStr}
 use Rattle.c_syntax.specs.Grammar.{primary_level, Reads, is_name, are_strings, ReadsStrings}
 use Rattle.c_syntax.specs.Grammar.Reads.{is_int as int_stands, is_char as char_stands}
 use Rattle.c_phrases.specs.declared.depth.MeasuredExpr.{MeasuredExpr}
 use Rattle.c_phrases.specs.declared.error.PhraseError.{PhraseError}
-use Rattle.c_phrases.specs.declared.error.PhraseError.TheVariants.{OutOfMemory, Syntax, Nesting}
-use Rattle.c_phrases.specs.Making.{tree_of, Makes}
+use Rattle.c_phrases.specs.Making.{Makes}
 use Rattle.c_phrases.specs.Reading.{ParsesLeaf}
 
 pub leaf_read : {tree : Expr} {i j : List Token} (r : Result MeasuredExpr PhraseError) → Makes r tree → ((d : ℕ) → Reads d primary_level tree i j) → ParsesLeaf r i j

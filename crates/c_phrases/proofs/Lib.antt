@@ -1,7 +1,11 @@
+pub mod Adding
+pub mod Declaring
 pub mod Exits
 pub mod Growing
+pub mod Inits
 pub mod Known
 pub mod Leaves
 pub mod Lists
+pub mod Made
 pub mod Rows
 pub mod Words

@@ -1,14 +1,14 @@
 -- Lists of expressions and parameters with one more at the end: what is read of them, and their heights.
-use Rattle.std.proofs.Common.{◌≡◌, ◌≤◌, ◌+◌, ℕ, max, Bool, true, false, zero, suc, List, [], ◌∷◌, ◌++◌, refl, sym, ap, ◌∙◌, subst, arith}
+use Rattle.std.proofs.Common.{◌≡◌, ℕ, max, Bool, true, false, List, [], ◌∷◌, ◌++◌, refl, ap, ◌∙◌, subst, arith}
 use Rattle.c_lexer.specs.declared.token.Token.{Token}
 use Rattle.c_lexer.specs.declared.punctuator.TheConstants.{COMMA}
 use Rattle.c_syntax.specs.declared.tree.Expr.{Expr as ExprTree}
 use Rattle.c_syntax.specs.declared.tree.Param.{Param as ParamTree, Param'}
-use Rattle.c_syntax.specs.Tree.{Ident, Maybe, Spec, void, char, unsigned_char, int, unsigned_int, struct, enum, Expr, Exprs, no_exprs, more_exprs, Declarator, nothing, named, pointer, array, function, Params, no_params, more_params}
-use Rattle.c_syntax.specs.Tokens.{Is, place}
-use Rattle.c_syntax.specs.Limits.{height, height_of_exprs, height_of_params, height_of_declarator}
+use Rattle.c_syntax.specs.Tree.{Ident, Maybe, Spec, void, char, unsigned_char, int, unsigned_int, struct, enum, Declarator, nothing, named, pointer, array, function, Params, no_params, more_params}
+use Rattle.c_syntax.specs.Tokens.{Is}
+use Rattle.c_syntax.specs.Limits.{height, height_of_exprs, height_of_params}
 use Rattle.c_syntax.specs.Specifiers.{ReadsSpec}
-use Rattle.c_syntax.specs.Grammar.{Declares, a_direct, a_pointer, ReadsCore, no_core, a_declared, declarator_in_parentheses, IsThere, Lengthens, no_more, an_array, a_function, ReadsEach, last_param, next_param, ReadsParams, are_none, are_some, AreSome}
+use Rattle.c_syntax.specs.Grammar.{Declares, a_direct, ReadsCore, no_core, a_declared, declarator_in_parentheses, IsThere, Lengthens, no_more, an_array, a_function, ReadsEach, last_param, next_param, ReadsParams, are_none, AreSome}
 use Rattle.c_syntax.specs.View.{expr_of, param_before, spec_of, held_declarator}
 use Rattle.c_syntax.specs.Writes.{exprs_of, params_of}
 use Rattle.c_phrases.specs.Reading.{IsParam}

@@ -1,5 +1,5 @@
 -- Nodes with a list: as the terms that they are seen as.
-use Rattle.std.proofs.Common.{◌≡◌, ℕ, suc, max, sym, List, Option, Some, None, Vec, Global, refl, ap, ◌∙◌}
+use Rattle.std.proofs.Common.{◌≡◌, ℕ, suc, max, sym, Option, Some, None, Vec, Global, refl, ap, ◌∙◌}
 use Rattle.std.specs.Prelude.{Box}
 use mathlib.Core.Former.{Count}
 use Rattle.c_syntax.specs.declared.tree.Expr.{Expr as Tree}

@@ -1,12 +1,12 @@
 -- The words of specifiers, and strings side by side: what is taken one by one.
-use Rattle.std.proofs.Common.{◌≡◌, ℕ, Bool, true, false, List, ◌∷◌, ◌++◌, ap, sym, length, ◌<◌, arith}
+use Rattle.std.proofs.Common.{◌≡◌, ℕ, Bool, true, false, List, ◌∷◌, ap, sym, length, ◌<◌, arith}
 use Rattle.std.specs.Prelude.{Ok}
 use Rattle.c_lexer.specs.declared.token.Token.{Token}
-use Rattle.c_lexer.specs.declared.keyword.TheConstants.{CONST, ENUM, INT, CHAR, SIGNED, STRUCT, UNSIGNED}
+use Rattle.c_lexer.specs.declared.keyword.TheConstants.{CONST, ENUM, INT, SIGNED, STRUCT, UNSIGNED}
 use Rattle.c_syntax.specs.declared.tree.Ident.{Ident as Named}
-use Rattle.c_syntax.specs.Tree.{Spec, int, unsigned_int, unsigned_char, struct, enum}
+use Rattle.c_syntax.specs.Tree.{int, unsigned_int, struct, enum}
 use Rattle.c_syntax.specs.Tokens.{IsKeyword, IsStr}
-use Rattle.c_syntax.specs.Specifiers.{Consts, no_const, a_const, ReadsSpec, is_signed, is_signed_int, is_unsigned, is_unsigned_int, is_unsigned_char, is_struct, is_enum}
+use Rattle.c_syntax.specs.Specifiers.{Consts, a_const, ReadsSpec, is_signed, is_signed_int, is_unsigned, is_unsigned_int, is_struct, is_enum}
 use Rattle.c_syntax.specs.Grammar.{ReadsStrings}
 use Rattle.c_syntax.specs.View.{ident_of}
 use Rattle.c_phrases.specs.Standing.{TookKeyword, TookName, TookString}

@@ -1,3 +1,4 @@
+pub mod Lists
 pub mod Looking
 pub mod Making
 pub mod Phrases

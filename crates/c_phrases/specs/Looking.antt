@@ -15,7 +15,6 @@ use Rattle.c_phrases.specs.declared.looking.Suffix.{Suffix}
 use Rattle.c_phrases.specs.declared.looking.Suffix.TheVariants as s
 use Rattle.c_phrases.specs.declared.looking.Step.{Step}
 use Rattle.c_phrases.specs.declared.looking.Step.TheVariants as p
-use Rattle.c_phrases.specs.Standing.{IsAt}
 
 abbrev pub infix_of : Between → Infix
 infix_of b.And = and

@@ -1,6 +1,6 @@
 -- What is read of a phrase: it stands between what was left before and what is left now, it is within the room, and what is
 -- left doesn't go on with it.
-use Rattle.std.specs.Prelude.{◌≡◌, ◌≤◌, ◌<◌, ℕ, List, length, Result, Ok, Err}
+use Rattle.std.specs.Prelude.{◌≤◌, ◌<◌, List, length, Result, Ok, Err}
 use Rattle.c_lexer.specs.declared.token.Token.{Token}
 use Rattle.c_syntax.specs.declared.tree.Ident.{Ident as IdentTree}
 use Rattle.c_syntax.specs.declared.tree.Spec.{Spec as SpecTree}

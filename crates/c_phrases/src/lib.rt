@@ -1,15 +1,17 @@
-//! What phrases of the C profile are read with: the tokens that are left and what stands first among them,
-//! specifiers (C99 6.7.2, 6.7.3), and the nodes of expressions and declarators with their depth. The readers of
-//! whole expressions and declarators are still to come.
+//! Readers of the phrases of the C profile: expressions (C99 6.5), specifiers (6.7.2, 6.7.3), declarators and the names
+//! of types (6.7.5, 6.7.6), and initialisers (6.7.8). What is read spells the tree, places included, within the room
+//! that is given, and what is left does not go on with it.
 #![tactic(auto)]
 
 mod cursor;
 mod depth;
 mod error;
 mod form;
+mod initialisers;
 mod looking;
 mod nodes;
 mod operands;
+mod phrases;
 mod room;
 mod specifiers;
 

@@ -194,6 +194,13 @@ impl<'a> Cursor<'a> {
         self.rank() == 13
     }
 
+    // Whether an assignment expression can go on with what stands first.
+    pub fn goes_on_as_assignment(&self) -> bool
+        ensures { IsTrue result ↔ (rank self.now.rest.now ≤ 13) }
+    {
+        self.rank() <= 13
+    }
+
     // Whether specifiers can begin with what stands first.
     pub fn is_at_specifier(&self) -> bool
         ensures { IsTrue result ↔ IsAtSpecifier self.now.rest.now }

@@ -1,4 +1,4 @@
-use Rattle.std.proofs.Common.{◌-◌, ap, sym, ◌∙◌, arith}
+use Rattle.std.proofs.Common.{◌-◌, ap, arith}
 use Rattle.c_syntax.proofs.Precedence.{rank}
 use Rattle.c_phrases.proofs.Known.{empty_rank, rank_at, infix_at}
 use Rattle.c_phrases.proofs.cursor.Cursor.operator.Goals as goal
