@@ -47,12 +47,12 @@ core_there at n (a_declared x) y = absurd y
 core_there at n (declarator_in_parentheses o r h c) y = h
 core_there at n no_core y = absurd y
 
-pair_there : (at n : ℕ) {d : ℕ} {e : Declarator} {i j : List Token} (r : Declares d e i j) → PairInDeclarator at r n → IsThere e
+pub pair_there : (at n : ℕ) {d : ℕ} {e : Declarator} {i j : List Token} (r : Declares d e i j) → PairInDeclarator at r n → IsThere e
 pair_there at n (a_pointer h c r) y = tt
 pair_there at n (a_direct p c w) (inl y) = lengthens_there w (core_there at n c y)
 pair_there at n (a_direct p c w) (inr y) = more_there at n w y
 
-node_there : {at n : ℕ} {e : Declarator} → InDeclarator at n e → IsThere e
+pub node_there : {at n : ℕ} {e : Declarator} → InDeclarator at n e → IsThere e
 node_there (declarator_here h q) = h
 node_there (in_pointer x) = tt
 node_there (in_array x) = tt
@@ -60,7 +60,7 @@ node_there (in_size x) = tt
 node_there (in_function x) = tt
 node_there (in_params x) = tt
 
-deep_there : (at n p : ℕ) {d : ℕ} {e : Declarator} {i j : List Token} (r : Declares d e i j) → InDeclarator at n e ⊎ PairInDeclarator at r p → IsThere e
+pub deep_there : (at n p : ℕ) {d : ℕ} {e : Declarator} {i j : List Token} (r : Declares d e i j) → InDeclarator at n e ⊎ PairInDeclarator at r p → IsThere e
 deep_there at n p r (inl x) = node_there x
 deep_there at n p r (inr y) = pair_there at p r y
 

@@ -23,3 +23,6 @@ pub mod ExprOpens
 pub mod DeclOpens
 pub mod InitOpens
 pub mod StmtOpens
+pub mod Begun
+pub mod PartOpens
+pub mod UnitOpens

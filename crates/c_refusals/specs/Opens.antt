@@ -1,13 +1,13 @@
 -- Where tokens go on past the limits: with a node or a pair of parentheses too many at the place.
-use Rattle.std.specs.Prelude.{◌⊎◌, suc, List, ◌≡◌, ℕ}
+use Rattle.std.specs.Prelude.{◌⊎◌, suc, List, ◌≡◌, ℕ, [], ◌++◌}
 use Rattle.c_lexer.specs.declared.token.Token.{Token}
-use Rattle.c_syntax.specs.Tree.{Expr, Exprs, TypeName, Declarator, Init, Inits, Decl, Stmt, BlockItems, Items, pointer, array, function, Maybe, Params}
-use Rattle.c_syntax.specs.Grammar.{Level, Reads, ReadsList, ReadsType, Declares, Suffixes, ReadsCore, Lengthens}
-use Rattle.c_syntax.specs.Statements.{ReadsInit, ReadsInits, ReadsDecl, IsPlainDecl, ReadsStmt, ReadsBlockItems, ReadsItems}
+use Rattle.c_syntax.specs.Tree.{Expr, Exprs, TypeName, Declarator, Init, Inits, Decl, Stmt, BlockItems, Items, pointer, array, function, Maybe, Params, Parts, Item}
+use Rattle.c_syntax.specs.Grammar.{Level, Reads, ReadsList, ReadsType, Declares, Suffixes, ReadsCore, Lengthens, ReadsEach}
+use Rattle.c_syntax.specs.Statements.{ReadsInit, ReadsInits, ReadsDecl, IsPlainDecl, ReadsStmt, ReadsBlockItems, ReadsItems, ReadsParts, ReadsItem}
 use Rattle.c_syntax.proofs.Twins.{Twin}
 use Rattle.c_refusals.specs.Fails.{Meets}
-use Rattle.c_refusals.specs.Nodes.{InExpr, InExprs, InType, InDeclarator, InInit, InInits, InDecl, InStmt, InBlockItems, InUnit}
-use Rattle.c_refusals.specs.Pairs.{PairIn, PairInList, PairInType, PairInDeclarator, PairInInit, PairInInits, PairInDecl, PairInStmt, PairInBlockItems, PairInUnit, PairInSuffixes, PairInLengthens}
+use Rattle.c_refusals.specs.Nodes.{InExpr, InExprs, InType, InDeclarator, InInit, InInits, InDecl, InStmt, InBlockItems, InUnit, InParams, InParts, InItem}
+use Rattle.c_refusals.specs.Pairs.{PairIn, PairInList, PairInType, PairInDeclarator, PairInInit, PairInInits, PairInDecl, PairInStmt, PairInBlockItems, PairInUnit, PairInSuffixes, PairInLengthens, PairInEach, PairInParts, PairInItem}
 use Rattle.c_syntax.specs.Tokens.{place}
 
 -- Some tokens that begin with those of i through the first one of r are the phrase, with the tokens m behind it.
@@ -113,3 +113,27 @@ pub record Direct (d q : ℕ) (e : Declarator) (i j : List Token) : Type 0 where
   pub begins : q ≡ place i
   pub stands : ReadsCore d core i after
   pub lengthens : Lengthens d q core e after j
+
+pub record DeepEach (at p n : ℕ) (i j : List Token) : Type 0 where
+  pub trees : Params
+  pub reads : ReadsEach (suc p) trees i j
+  pub deep : InParams at (suc n) trees ⊎ PairInEach at reads p
+
+pub record DeepParts (at p n : ℕ) (i j : List Token) : Type 0 where
+  pub trees : Parts
+  pub reads : ReadsParts (suc p) trees i j
+  pub deep : InParts at (suc n) trees ⊎ PairInParts at reads p
+
+pub record DeepItem (at p n : ℕ) (i j : List Token) : Type 0 where
+  pub tree : Item
+  pub reads : ReadsItem (suc p) tree i j
+  pub deep : InItem at (suc n) tree ⊎ PairInItem at reads p
+
+-- Some unit past the limits is spelled by tokens that begin with those before r and the first one of r: at the place it has a node
+-- one too deep where n are allowed in each other, or a pair that makes no node and opens inside p others.
+pub record GoesOn (at p n : ℕ) (front r : List Token) : Type 0 where
+  pub other : List Token
+  pub meets : Meets r other
+  pub tree : Items
+  pub reads : ReadsItems (suc p) tree (front ++ other) []
+  pub deep : InUnit at (suc n) tree ⊎ PairInUnit at reads p
