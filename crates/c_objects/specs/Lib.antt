@@ -1,0 +1,2 @@
+pub mod ObjectView
+pub mod Texts
