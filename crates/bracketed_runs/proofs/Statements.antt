@@ -54,14 +54,14 @@ module _ (p : Program) (n : ℕ) (typed : IsProgram p n) (w w' : World) (goes : 
   abbrev PlainDo : Stmt → State → Result Exit
   PlainDo s st = exec p w (null_calls_of p) fr s st
 
-  abbrev BDo : Stmt → State → Result Exit
-  BDo s st = exec (bracketed_program p) w' no_marks wider_frame s st
+  abbrev OtherDo : Stmt → State → Result Exit
+  OtherDo s st = exec (bracketed_program p) w' no_marks wider_frame s st
 
   abbrev pub PlainDoAll : Stmts → State → Result Exit
   PlainDoAll ss st = exec_all p w (null_calls_of p) fr ss st
 
-  abbrev pub BDoAll : Stmts → State → Result Exit
-  BDoAll ss st = exec_all (bracketed_program p) w' no_marks wider_frame ss st
+  abbrev pub OtherDoAll : Stmts → State → Result Exit
+  OtherDoAll ss st = exec_all (bracketed_program p) w' no_marks wider_frame ss st
 
   left_room : (k : ℕ) (xs ys : List CType) → Room k (xs ++ ys) → Room k xs
   left_room k xs ys h = fits_left (length fr.types) limit k xs ys h
@@ -147,7 +147,7 @@ module _ (p : Program) (n : ℕ) (typed : IsProgram p n) (w w' : World) (goes : 
   fresh_does x t o st more s e a =
       subst (λ c. Do {A = Exit} more (fresh p.structs fr x c st) (fresh p.structs wider_frame x (slice_get wide x) (with_memory st more))) (sym e) (subst (λ c. Do {A = Exit} more (fresh p.structs fr x (Some t) st) (fresh p.structs wider_frame x c (with_memory st more))) (sym (agree x t e)) (lift known fr limit {A = Exit} (length fr.types) more (fresh p.structs fr x (Some t) st) (fresh p.structs wider_frame x (Some t) (with_memory st more)) untold (declared more (name_in fr false x) (cells p.structs t), refl, beside_changed known fr.activation st.memory more (name_in fr false x) _ a.now.beside, stay_changed known fr.activation more (name_in fr false x) _ (variable_shown o x t s a.now.tells e)) a.ready))
 
-  declare_does : (k : ℕ) (r : CType) (x : ℕ) (is : Inits) (o : Objects) (st : State) (more : Memory) → IsTypedFrame p o fr → IsDeclare p fr.types x is → StandsIn p (mentions_of_inits is) → Room k (kept_of_inits p is) → At o st more → Do {A = Exit} more (PlainDo (declare x is) st) (BDo (declare x (inits p k is)) (with_memory st more))
+  declare_does : (k : ℕ) (r : CType) (x : ℕ) (is : Inits) (o : Objects) (st : State) (more : Memory) → IsTypedFrame p o fr → IsDeclare p fr.types x is → StandsIn p (mentions_of_inits is) → Room k (kept_of_inits p is) → At o st more → Do {A = Exit} more (PlainDo (declare x is) st) (OtherDo (declare x (inits p k is)) (with_memory st more))
   declare_does k r x is o st more s h m room a =
       then_same known fr limit p {A = Exit} {B = Exit} true (length fr.types) (IsExit p r false false) o st more _ _ _ _ a (fresh_ends p n typed (null_calls_of p) (null_calls_recorded p) w goes fr r h.0 x o st s h.1 a.now.state) (fresh_does x h.0 o st more s h.1 a) (λ u y st l g i a. inits_do k r h.0 x is u st l (framed o u g s) h.1 h.2 m room a)
 
@@ -156,17 +156,17 @@ module _ (p : Program) (n : ℕ) (typed : IsProgram p n) (w w' : World) (goes : 
   first_one_ends r (declare x is) o st s h m a = exec_ends p n typed (null_calls_of p) (null_calls_recorded p) w goes fr r false false (declare x is) o st s h m a
   first_one_ends r _ o st s h m a = absurd h
 
-  first_one_does : (k : ℕ) (r : CType) (b : Stmt) (o : Objects) (st : State) (more : Memory) → IsTypedFrame p o fr → IsFirst p fr.types b → StandsIn p (mentions_of_stmt b) → Room k (kept_of_stmt p b) → At o st more → Do {A = Exit} more (PlainDo b st) (BDo (stmt p k b) (with_memory st more))
+  first_one_does : (k : ℕ) (r : CType) (b : Stmt) (o : Objects) (st : State) (more : Memory) → IsTypedFrame p o fr → IsFirst p fr.types b → StandsIn p (mentions_of_stmt b) → Room k (kept_of_stmt p b) → At o st more → Do {A = Exit} more (PlainDo b st) (OtherDo (stmt p k b) (with_memory st more))
   first_one_does k r (evaluate e) o st more s h m room a = effect k e o st more s h m room a
   first_one_does k r (declare x is) o st more s h m room a = declare_does k r x is o st more s h m room a
   first_one_does k r _ o st more s h m room a = absurd h
 
   -- what stands first in the head of a for
-  first_do : (k : ℕ) (r : CType) (ss : Stmts) (o : Objects) (st : State) (more : Memory) → IsTypedFrame p o fr → AreFirst p fr.types ss → StandsIn p (mentions_of_stmts ss) → Room k (kept_of_stmts p ss) → At o st more → Do {A = Exit} more (PlainDoAll ss st) (BDoAll (stmts p k ss) (with_memory st more))
+  first_do : (k : ℕ) (r : CType) (ss : Stmts) (o : Objects) (st : State) (more : Memory) → IsTypedFrame p o fr → AreFirst p fr.types ss → StandsIn p (mentions_of_stmts ss) → Room k (kept_of_stmts p ss) → At o st more → Do {A = Exit} more (PlainDoAll ss st) (OtherDoAll (stmts p k ss) (with_memory st more))
   first_do k r no_stmts o st more s h m room a = done on o st more a
   first_do k r (more_stmts b ss) o st more s h m room a =
       let mine = left_part p (mentions_of_stmt b) (mentions_of_stmts ss) m in
-      then_same known fr limit p {A = Exit} {B = Exit} true (length fr.types) (IsExit p r false false) o st more _ _ _ _ a (first_one_ends r b o st s h.0 mine a.now.state) (first_one_does k r b o st more s h.0 mine (left_room k (kept_of_stmt p b) (kept_of_stmts p ss) room) a) (λ u x st l g i a. exit_does known fr limit (length fr.types) x st l (PlainDoAll ss) (BDoAll (stmts p (k + length (kept_of_stmt p b)) ss)) a.now.beside a.ready (first_do (k + length (kept_of_stmt p b)) r ss u st l (framed o u g s) h.1 (right_part p (mentions_of_stmt b) (mentions_of_stmts ss) m) (right_room k (kept_of_stmt p b) (kept_of_stmts p ss) room) a))
+      then_same known fr limit p {A = Exit} {B = Exit} true (length fr.types) (IsExit p r false false) o st more _ _ _ _ a (first_one_ends r b o st s h.0 mine a.now.state) (first_one_does k r b o st more s h.0 mine (left_room k (kept_of_stmt p b) (kept_of_stmts p ss) room) a) (λ u x st l g i a. exit_does known fr limit (length fr.types) x st l (PlainDoAll ss) (OtherDoAll (stmts p (k + length (kept_of_stmt p b)) ss)) a.now.beside a.ready (first_do (k + length (kept_of_stmt p b)) r ss u st l (framed o u g s) h.1 (right_part p (mentions_of_stmt b) (mentions_of_stmts ss) m) (right_room k (kept_of_stmt p b) (kept_of_stmts p ss) room) a))
 
   -- ## Statements
 
@@ -174,7 +174,7 @@ module _ (p : Program) (n : ℕ) (typed : IsProgram p n) (w w' : World) (goes : 
   no_room k xs r = let a = r.1 in (r.0, omega (arith, a))
 
   mutual
-    pub exec_does : (k : ℕ) (r : CType) (breaks continues : Bool) (b : Stmt) (o : Objects) (st : State) (more : Memory) → IsTypedFrame p o fr → IsStmt p fr.types r breaks continues b → StandsIn p (mentions_of_stmt b) → Room k (kept_of_stmt p b) → At o st more → Do {A = Exit} more (PlainDo b st) (BDo (stmt p k b) (with_memory st more))
+    pub exec_does : (k : ℕ) (r : CType) (breaks continues : Bool) (b : Stmt) (o : Objects) (st : State) (more : Memory) → IsTypedFrame p o fr → IsStmt p fr.types r breaks continues b → StandsIn p (mentions_of_stmt b) → Room k (kept_of_stmt p b) → At o st more → Do {A = Exit} more (PlainDo b st) (OtherDo (stmt p k b) (with_memory st more))
     exec_does k r breaks continues (block ss) o st more s h m room a =
         leaving_does (declared_in ss) (declared_in (stmts p k ss)) more _ _ ((shapes_stay p).variables k ss) (block_shown o r breaks continues ss s a.now.tells h) (stmts_do k r breaks continues ss o st more s h m room a)
     exec_does k r breaks continues empty o st more s h m room a = done on o st more a
@@ -216,11 +216,11 @@ module _ (p : Program) (n : ℕ) (typed : IsProgram p n) (w w' : World) (goes : 
     exec_does k r breaks continues (return_value e) o st more s h m room a =
         on_value p n typed w w' goes enters known fr limit wide untold {C = Exit} true (length fr.types) e (expr p k true e) o st more _ _ s h.2 m a (value k true e o st more s h.2 m room a) (λ u v st l g i a. done (returned (Some v)) u st l a)
 
-    pub stmts_do : (k : ℕ) (r : CType) (breaks continues : Bool) (ss : Stmts) (o : Objects) (st : State) (more : Memory) → IsTypedFrame p o fr → AreStmts p fr.types r breaks continues ss → StandsIn p (mentions_of_stmts ss) → Room k (kept_of_stmts p ss) → At o st more → Do {A = Exit} more (PlainDoAll ss st) (BDoAll (stmts p k ss) (with_memory st more))
+    pub stmts_do : (k : ℕ) (r : CType) (breaks continues : Bool) (ss : Stmts) (o : Objects) (st : State) (more : Memory) → IsTypedFrame p o fr → AreStmts p fr.types r breaks continues ss → StandsIn p (mentions_of_stmts ss) → Room k (kept_of_stmts p ss) → At o st more → Do {A = Exit} more (PlainDoAll ss st) (OtherDoAll (stmts p k ss) (with_memory st more))
     stmts_do k r breaks continues no_stmts o st more s h m room a = done on o st more a
     stmts_do k r breaks continues (more_stmts b ss) o st more s h m room a =
         let mine = left_part p (mentions_of_stmt b) (mentions_of_stmts ss) m in
-        then_same known fr limit p {A = Exit} {B = Exit} true (length fr.types) (IsExit p r breaks continues) o st more _ _ _ _ a (exec_ends p n typed (null_calls_of p) (null_calls_recorded p) w goes fr r breaks continues b o st s h.0 mine a.now.state) (exec_does k r breaks continues b o st more s h.0 mine (left_room k (kept_of_stmt p b) (kept_of_stmts p ss) room) a) (λ u x st l g i a. exit_does known fr limit (length fr.types) x st l (PlainDoAll ss) (BDoAll (stmts p (k + length (kept_of_stmt p b)) ss)) a.now.beside a.ready (stmts_do (k + length (kept_of_stmt p b)) r breaks continues ss u st l (framed o u g s) h.1 (right_part p (mentions_of_stmt b) (mentions_of_stmts ss) m) (right_room k (kept_of_stmt p b) (kept_of_stmts p ss) room) a))
+        then_same known fr limit p {A = Exit} {B = Exit} true (length fr.types) (IsExit p r breaks continues) o st more _ _ _ _ a (exec_ends p n typed (null_calls_of p) (null_calls_recorded p) w goes fr r breaks continues b o st s h.0 mine a.now.state) (exec_does k r breaks continues b o st more s h.0 mine (left_room k (kept_of_stmt p b) (kept_of_stmts p ss) room) a) (λ u x st l g i a. exit_does known fr limit (length fr.types) x st l (PlainDoAll ss) (OtherDoAll (stmts p (k + length (kept_of_stmt p b)) ss)) a.now.beside a.ready (stmts_do (k + length (kept_of_stmt p b)) r breaks continues ss u st l (framed o u g s) h.1 (right_part p (mentions_of_stmt b) (mentions_of_stmts ss) m) (right_room k (kept_of_stmt p b) (kept_of_stmts p ss) room) a))
 
     pub groups_do : (k : ℕ) (r : CType) (continues : Bool) (i : IntType) (j : ℕ) (gs : Groups) (o : Objects) (st : State) (more : Memory) → IsTypedFrame p o fr → AreGroups p fr.types r continues i gs → StandsIn p (mentions_of_groups gs) → Room k (kept_of_groups p gs) → At o st more → Do {A = Exit} more (exec_from p w (null_calls_of p) fr j gs st) (exec_from (bracketed_program p) w' no_marks wider_frame j (groups p k gs) (with_memory st more))
     groups_do k r continues i j no_groups o st more s h m room a = done on o st more a
