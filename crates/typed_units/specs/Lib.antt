@@ -1,0 +1,5 @@
+pub mod Lexical
+pub mod MadeTypes
+pub mod RightScopes
+pub mod SoundStructs
+pub mod WellTyped
