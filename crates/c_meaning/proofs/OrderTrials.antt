@@ -6,7 +6,7 @@ use Rattle.dm_base.specs.declared.event.Event.TheVariants.{Sys}
 use Rattle.dm_base.specs.declared.outcome.Outcome.TheVariants as outcomes
 use Rattle.sys_table.specs.Table.{table}
 use Rattle.c_tree.specs.declared.value.IntType.TheVariants as types
-use Rattle.c_tree.specs.declared.value.BinOp.TheVariants.{Add, Sub, Less}
+use Rattle.c_tree.specs.declared.value.BinOp.TheVariants.{Add, Less}
 use Rattle.c_tree.specs.declared.value.Value.TheVariants as v
 use Rattle.c_tree.specs.declared.tree.TLabel.TheVariants.{Case, Default}
 use Rattle.c_tree.specs.Tree.{pointer, array, no_inits, more_inits, absent, no_groups, more_groups}
@@ -35,8 +35,8 @@ loaded_first : run_of (int ∷ []) [] (body (declare 0 no_inits ∷ evaluate (up
 unfolding table
 loaded_first = refl
 
--- int main(void) { return getpid() - getpid(); }
-left_to_right : run_of [] [] (body (return_value (arithmetic int Sub (call int 0 15 no_exprs) (call int 1 15 no_exprs)) ∷ [])) (result (pos 3) [] ∷ result (pos 4) [] ∷ []) 1 ≡ exits (negsuc 0) (getpid 3 ∷ getpid 4 ∷ [])
+-- int main(void) { return getpid() + getpid(); }
+left_to_right : run_of [] [] (body (return_value (arithmetic int Add (call int 0 15 no_exprs) (call int 1 15 no_exprs)) ∷ [])) (result (pos 3) [] ∷ result (pos 4) [] ∷ []) 1 ≡ exits (pos 7) (getpid 3 ∷ getpid 4 ∷ [])
 unfolding table
 left_to_right = refl
 
