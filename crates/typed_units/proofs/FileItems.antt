@@ -192,7 +192,7 @@ with_enums env es w = (record { runs = w.runs; shallow = w.shallow; names_known 
 with_functions : (env : Env) (fs : List Name) → IsFileRight env → Step env (record env { functions = fs })
 with_functions env fs w = (record { runs = w.runs; shallow = w.shallow; names_known = w.names_known; shallow_names = w.shallow_names; meanings = w.meanings }, record { grows = grows_same (layout_of env); whole = refl; later = λ x b e. (b, e, agrees_self b.means) })
 
-tags_step : (env : Env) (i : Item) → IsFileRight env → Step env (with_tags env i)
+pub tags_step : (env : Env) (i : Item) → IsFileRight env → Step env (with_tags env i)
 tags_step env i w = (record { runs = w.runs; shallow = w.shallow; names_known = w.names_known; shallow_names = w.shallow_names; meanings = w.meanings }, record { grows = grows_same (layout_of env); whole = refl; later = λ x b e. (b, e, agrees_self b.means) })
 
 enum_tag_step : (env : Env) (x : Tag) → IsFileRight env → Step env (behind_enum_tag env x)
@@ -309,7 +309,7 @@ global_fine : (env : Env) (defined : Bool) (b : Before) (x : Ident) (m : MaybeIn
 global_fine env false b x m r p e = (let f = on_fine r (λ _. fine no_output) p e in (f.0, f.1))
 global_fine env true b x m r p e = (let f = on_fine r (definition_of (within_global env true x r) b m) p e in (f.0, f.1))
 
-part_step : (env : Env) (b : Before) (at : ℕ) (class : Storage) (s : Spec) (d : Declarator) (m : MaybeInit) (o : Option Ident) (p : Output) → IsFileRight env → named_part env b at class s d m o ≡ fine p → Step env (behind_named_part env b at class s d m o)
+pub part_step : (env : Env) (b : Before) (at : ℕ) (class : Storage) (s : Spec) (d : Declarator) (m : MaybeInit) (o : Option Ident) (p : Output) → IsFileRight env → named_part env b at class s d m o ≡ fine p → Step env (behind_named_part env b at class s d m o)
 part_step env b at class s d m None p w e = absurd (cc)
 part_step env b at class s d m (Some x) p w e = by_kind (declares_function d) refl e
   where
@@ -323,7 +323,7 @@ part_step env b at class s d m (Some x) p w e = by_kind (declares_function d) re
         let f = global_fine env (defines class m) b x m r p e in
         object_step env (defines class m) b x r f.0 w f.1 (held (IsObjectNamed env (defines class m) b x) r f.0 (object_named env (defines class m) b at s d x m) f.1)
 
-parts_step : (ps : Parts) (env : Env) (b : Before) (at : ℕ) (class : Storage) (s : Spec) (p : Output) → IsFileRight env → file_parts env b at class s ps ≡ fine p → Step env (behind_file_parts env b at class s ps)
+pub parts_step : (ps : Parts) (env : Env) (b : Before) (at : ℕ) (class : Storage) (s : Spec) (p : Output) → IsFileRight env → file_parts env b at class s ps ≡ fine p → Step env (behind_file_parts env b at class s ps)
 parts_step no_parts env b at class s p w e = step_self env w
 parts_step (more_parts d m ps) env b at class s p w e =
     let inner : Env = behind_file_part env b at class s d m in
@@ -332,10 +332,10 @@ parts_step (more_parts d m ps) env b at class s p w e =
     let h = part_step env b at class s d m (name_of d) f.0 w f.2 in
     step_on env inner (behind_file_parts inner after at class s ps) h (parts_step ps inner after at class s f.1 h.0 f.3)
 
-decl_step : (d : Decl) (env : Env) (b : Before) (p : Output) → IsFileRight env → file_decl env b d ≡ fine p → Step env (behind_file_decl env b d)
+pub decl_step : (d : Decl) (env : Env) (b : Before) (p : Output) → IsFileRight env → file_decl env b d ≡ fine p → Step env (behind_file_decl env b d)
 decl_step (decl at class s ps) env b p w e = parts_step ps env b at class s p w e
 
-definition_step : (env : Env) (b : Before) (at : ℕ) (s : Spec) (d : Declarator) (body : Stmt) (o : Option Ident) (p : Output) (k : Bool) → declares_function d ≡ k → IsFileRight env → function_named env b at s d body k o ≡ fine p → Step env (behind_function_named env at s d o)
+pub definition_step : (env : Env) (b : Before) (at : ℕ) (s : Spec) (d : Declarator) (body : Stmt) (o : Option Ident) (p : Output) (k : Bool) → declares_function d ≡ k → IsFileRight env → function_named env b at s d body k o ≡ fine p → Step env (behind_function_named env at s d o)
 definition_step env b at s d body o p false q w e = absurd (cc)
 definition_step env b at s d body None p true q w e = absurd (cc)
 definition_step env b at s d body (Some x) p true q w e =
@@ -343,7 +343,7 @@ definition_step env b at s d body (Some x) p true q w e =
     let f = first_fine r (on (type_declared env at s d) (defined_as (behind_defined env at s d x) b (place_or at d) d x (items_of_body body))) (λ _ f. fine (output_of_function f)) p e in
     function_step env true x r f.0 w f.2 (held (IsFunctionDeclared env true x) r f.0 (function_declared_right env true x at s d q) f.2)
 
-form_step : (i : Item) (env : Env) (b : Before) (p : Output) → IsFileRight env → IsItemLexical i → item env b i ≡ fine p → Step env (behind_by_form env b i)
+pub form_step : (i : Item) (env : Env) (b : Before) (p : Output) → IsFileRight env → IsItemLexical i → item env b i ≡ fine p → Step env (behind_by_form env b i)
 form_step (struct_item at x ms) env b p w l e = (let f = on_fine (struct_definition env x ms) (λ _. fine no_output) p e in struct_step env x ms f.0 w l f.1)
 form_step (enum_item at x es) env b p w l e =
     let inner : Env = behind_enum_tag env x in

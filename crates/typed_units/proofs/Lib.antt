@@ -17,3 +17,8 @@ pub mod LexicalUnits
 pub mod Fine
 pub mod FileScopes
 pub mod FileItems
+pub mod UnitScopes
+pub mod UnitFunctions
+pub mod UnitShape
+pub mod UnitItems
+pub mod UnitTable

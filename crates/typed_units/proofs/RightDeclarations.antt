@@ -165,9 +165,20 @@ module _ (p : Program) (vars : List CType) where
   objects_both [] ys h k = k
   objects_both (x ∷ xs) ys h k = (h.0, objects_both xs ys h.1 k)
 
-  -- what a part of a body gives: its variables have the next numbers, and its tree is right where they are placed
+  -- types of known size
+  abbrev pub AreKnownSizes : Structs → List CType → Type 0
+  AreKnownSizes structs [] = Unit {0}
+  AreKnownSizes structs (t ∷ ts) = IsComplete structs t × AreKnownSizes structs ts
+
+  pub sizes_both : (structs : Structs) (xs ys : List CType) → AreKnownSizes structs xs → AreKnownSizes structs ys → AreKnownSizes structs (xs ++ ys)
+  sizes_both structs [] ys h k = k
+  sizes_both structs (x ∷ xs) ys h k = (h.0, sizes_both structs xs ys h.1 k)
+
+  -- what a part of a body gives: its variables have the next numbers and known sizes, and its tree is right where they are placed
   pub record IsLaidRight (A : Type 0) (env : Env) (next : Next) (names : List Name) (T : A → Type 0) (q : Laid A) : Type 0 where
     pub numbers : past_names next names ≡ ahead next q.plain q.added
+    pub plain_sizes : AreKnownSizes (layout_of env) q.plain
+    pub added_sizes : AreKnownSizes (layout_of env) q.added
     pub right : IsRight p vars env → Placed next q.plain q.added → T q.tree × AreObjects q.plain × AreObjects q.added
 
   -- ## Scopes
@@ -210,18 +221,22 @@ module _ (p : Program) (vars : List CType) where
       by_test false h = (let e : next.plain + 0 ≡ next.plain = omega arith in subst (λ n. slice_get vars n ≡ Some t) e (h.0 0 t refl))
 
   -- one variable with its cells
-  laid_right : (env inner behind : Env) (next : Next) (x : Name) (t : CType) (gs : List Given)
+  laid_right : (env inner behind : Env) (next : Next) (x : Name) (t : CType) (gs : List Given) → IsComplete (layout_of env) t
       → (IsRight p vars env → slice_get vars (number_in next x) ≡ Some t → IsDeclare p vars (number_in next x) (stores_from 0 gs) × IsObject p.structs t × IsRight p vars behind)
       → IsLaidRight typed.Stmt env next (x ∷ []) (λ s. IsFirst p vars s × IsRight p vars behind) (laid_variable x (number_in next x) t gs)
-  laid_right env inner behind next x t gs f = by_test (is_added x) refl
+  laid_right env inner behind next x t gs c f = by_test (is_added x) refl
     where
       by_test : (b : Bool) → is_added x ≡ b → IsLaidRight typed.Stmt env next (x ∷ []) (λ s. IsFirst p vars s × IsRight p vars behind) (if b then record { tree = typed.declare (number_in next x) (stores_from 0 gs); plain = []; added = t ∷ [] } else record { tree = typed.declare (number_in next x) (stores_from 0 gs); plain = t ∷ []; added = [] })
       by_test true e = record {
         numbers = ap (λ b. if b then record next { added = suc next.added } else record next { plain = suc next.plain }) e ∙ same_next next.plain (suc next.added) (next.plain + 0) (next.added + 1) (omega arith) (omega arith);
+        plain_sizes = tt;
+        added_sizes = (c, tt);
         right = λ w h. (let n : slice_get vars (number_in next x) ≡ Some t = ap (λ b. slice_get vars (if b then next.added else next.plain)) e ∙ (let q : next.added + 0 ≡ next.added = omega arith in subst (λ n. slice_get vars n ≡ Some t) q (h.1 0 t refl)) in let r = f w n in ((r.0, r.2), tt, (r.1, tt)));
       }
       by_test false e = record {
         numbers = ap (λ b. if b then record next { added = suc next.added } else record next { plain = suc next.plain }) e ∙ same_next (suc next.plain) next.added (next.plain + 1) (next.added + 0) (omega arith) (omega arith);
+        plain_sizes = (c, tt);
+        added_sizes = tt;
         right = λ w h. (let n : slice_get vars (number_in next x) ≡ Some t = ap (λ b. slice_get vars (if b then next.added else next.plain)) e ∙ (let q : next.plain + 0 ≡ next.plain = omega arith in subst (λ n. slice_get vars n ≡ Some t) q (h.0 0 t refl)) in let r = f w n in ((r.0, r.2), (r.1, tt), tt));
       }
 
@@ -241,7 +256,7 @@ module _ (p : Program) (vars : List CType) where
       let behind : Env = with_name env x.name (a_local k o.whole o.whole) in
       on_holds (λ gs. IsRight p vars inner → LocalRight p vars (layout_of env) o.whole gs) (IsLaidRight typed.Stmt env next (x.name ∷ []) (λ s. IsFirst p vars s × IsRight p vars behind)) (initialised_local inner b o.whole m) (λ gs. fine (laid_variable x.name k o.whole gs))
       (holds_given (IsRight p vars inner) (LocalRight p vars (layout_of env) o.whole) (initialised_local inner b o.whole m) (λ w. local_right p vars m inner w l b o.whole h.whole_made h.known (subst (StringsIn p vars (string_number env b)) (sym (held_by_named_same m env x.name (a_local k o.seen o.whole) o.whole)) s)))
-      (λ gs f. laid_right env inner behind next x.name o.whole gs (λ w e.
+      (λ gs f. laid_right env inner behind next x.name o.whole gs h.known (λ w e.
       (let i = right_local env x.name k o.seen o.whole w h.seen_sized (whole_sized (layout_of env) o h) h.alike h.thing e in
       (stores_declared env w k o.whole gs h.known e (f i), object_in env w o h, right_local env x.name k o.whole o.whole w (whole_sized (layout_of env) o h) (whole_sized (layout_of env) o h) (inl refl) (complete_thing (layout_of env) o.whole h.known) e))))
 
@@ -267,6 +282,17 @@ module _ (p : Program) (vars : List CType) where
   named_whole env next at s d m None = refl
   named_whole env next at s d m (Some x) = refl
 
+  named_layout : (env : Env) (next : Next) (at : ℕ) (s : Spec) (d : Declarator) (m : MaybeInit) (o : Option Ident) → layout_of (behind_named env next at s d m o) ≡ layout_of env
+  named_layout env next at s d m None = refl
+  named_layout env next at s d m (Some x) = refl
+
+  parts_layout : (ps : Parts) (env : Env) (next : Next) (at : ℕ) (s : Spec) → layout_of (behind_parts env next at s ps) ≡ layout_of env
+  parts_layout no_parts env next at s = refl
+  parts_layout (more_parts d m ps) env next at s = parts_layout ps (behind_part env next at s d m) (past_part next d) at s ∙ named_layout env next at s d m (name_of d)
+
+  pub decl_layout : (d : Decl) (env : Env) (next : Next) → layout_of (behind_decl env next d) ≡ layout_of env
+  decl_layout (decl at class s ps) env next = parts_layout ps env next at s
+
   parts_whole : (ps : Parts) (env : Env) (next : Next) (at : ℕ) (s : Spec) → (behind_parts env next at s ps).whole ≡ env.whole
   parts_whole no_parts env next at s = refl
   parts_whole (more_parts d m ps) env next at s = parts_whole ps (behind_part env next at s d m) (past_part next d) at s ∙ named_whole env next at s d m (name_of d)
@@ -275,16 +301,18 @@ module _ (p : Program) (vars : List CType) where
   strings_moved env other b ws e h = subst (λ w. StringsIn p vars (length w.objects + length b.strings) ws) (sym e) h
 
   -- two parts, one behind the other
-  pub one_and_rest : (env inner behind : Env) (next : Next) (xs ys : List Name) (T : typed.Stmt → Type 0) (U V : typed.Stmts → Type 0) (a : Laid typed.Stmt) (c : Laid typed.Stmts)
+  pub one_and_rest : (env inner behind : Env) (next : Next) (xs ys : List Name) (T : typed.Stmt → Type 0) (U V : typed.Stmts → Type 0) (a : Laid typed.Stmt) (c : Laid typed.Stmts) → layout_of inner ≡ layout_of env
       → IsLaidRight typed.Stmt env next xs T a → IsLaidRight typed.Stmts inner (past_names next xs) ys U c → (T a.tree → IsRight p vars env → IsRight p vars inner) → (T a.tree → U c.tree → V (typed.more_stmts a.tree c.tree)) → IsLaidRight typed.Stmts env next (xs ++ ys) V (one_more a c)
-  one_and_rest env inner behind next xs ys T U V a c h k f g = record {
+  one_and_rest env inner behind next xs ys T U V a c same h k f g = record {
     numbers = ahead_both next (past_names next xs) a.plain c.plain a.added c.added xs ys h.numbers k.numbers;
+    plain_sizes = sizes_both (layout_of env) a.plain c.plain h.plain_sizes (subst (λ z. AreKnownSizes z c.plain) same k.plain_sizes);
+    added_sizes = sizes_both (layout_of env) a.added c.added h.added_sizes (subst (λ z. AreKnownSizes z c.added) same k.added_sizes);
     right = λ w q. (let x = h.right w (placed_first next a.plain c.plain a.added c.added q) in let y = k.right (f x.0 w) (placed_rest next (past_names next xs) a.plain c.plain a.added c.added h.numbers q) in (g x.0 y.0, objects_both a.plain c.plain x.1 y.1, objects_both a.added c.added x.2 y.2));
   }
 
   pub parts_right : (ps : Parts) (env : Env) (b : Before) (next : Next) (at : ℕ) (s : Spec) → ArePartsLexical ps → StringsIn p vars (string_number env b) (held_by_parts env next at s ps)
       → Holds (IsLaidRight typed.Stmts env next (names_of_parts ps) (λ t. AreFirst p vars t × IsRight p vars (behind_parts env next at s ps))) (local_parts env b next at s ps)
-  parts_right no_parts env b next at s l h = record { numbers = ahead_none next; right = λ w q. ((tt, w), tt, tt) }
+  parts_right no_parts env b next at s l h = record { numbers = ahead_none next; plain_sizes = tt; added_sizes = tt; right = λ w q. ((tt, w), tt, tt) }
   parts_right (more_parts d m ps) env b next at s l h =
       let inner : Env = behind_part env next at s d m in
       let n : List Name = name_or_empty (name_of d) ∷ [] in
@@ -293,7 +321,7 @@ module _ (p : Program) (vars : List CType) where
       (local_part env b next at s d m) (local_parts inner (after_part env b at s d m) (past_part next d) at s ps) (λ a c. fine (one_more a c))
       (named_right env b next at s d m (name_of d) l.0 (strings_first p vars (string_number env b) (held_by_part env at s d m) (held_by_parts inner (past_part next d) at s ps) h))
       (parts_right ps inner (after_part env b at s d m) (past_part next d) at s l.1 (strings_moved env inner (after_part env b at s d m) (held_by_parts inner (past_part next d) at s ps) (named_whole env next at s d m (name_of d)) (strings_rest p vars env b (calls_of_maybe_init m) (held_by_part env at s d m) (held_by_parts inner (past_part next d) at s ps) h)))
-      (λ a c x y. one_and_rest env inner (behind_parts inner (past_part next d) at s ps) next n (names_of_parts ps) (λ t. IsFirst p vars t × IsRight p vars inner) (λ t. AreFirst p vars t × IsRight p vars (behind_parts inner (past_part next d) at s ps)) (λ t. AreFirst p vars t × IsRight p vars (behind_parts inner (past_part next d) at s ps)) a c x y (λ u _. u.1) (λ u v. ((u.0, v.0), v.1)))
+      (λ a c x y. one_and_rest env inner (behind_parts inner (past_part next d) at s ps) next n (names_of_parts ps) (λ t. IsFirst p vars t × IsRight p vars inner) (λ t. AreFirst p vars t × IsRight p vars (behind_parts inner (past_part next d) at s ps)) (λ t. AreFirst p vars t × IsRight p vars (behind_parts inner (past_part next d) at s ps)) a c (named_layout env next at s d m (name_of d)) x y (λ u _. u.1) (λ u v. ((u.0, v.0), v.1)))
 
   pub decl_right : (d : Decl) (env : Env) (b : Before) (next : Next) → IsDeclLexical d → StringsIn p vars (string_number env b) (held_by_decl env next d)
       → Holds (IsLaidRight typed.Stmts env next (names_of_decl d) (λ t. AreFirst p vars t × IsRight p vars (behind_decl env next d))) (local_decl env b next d)

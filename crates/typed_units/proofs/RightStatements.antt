@@ -18,7 +18,7 @@ use Rattle.c_syntax.specs.Tree.{BlockItems, no_block_items, block_decl, block_st
 use Rattle.c_rules.specs.Checked.{Checked, fine, faulty, on, both, beside}
 use Rattle.c_rules.specs.Names.{Name}
 use Rattle.c_rules.specs.Types.{is_void}
-use Rattle.c_rules.specs.Scopes.{Env, inside, Before}
+use Rattle.c_rules.specs.Scopes.{Env, inside, layout_of, Before}
 use Rattle.c_rules.specs.Constants.{number_of}
 use Rattle.c_rules.specs.Counts.{place_of, calls, strings, calls_of_maybe, strings_of_maybe, after, after_maybe}
 use Rattle.c_rules.specs.Given.{Given, tree_of}
@@ -35,7 +35,7 @@ use Rattle.typed_units.proofs.Holding.{Holds, on_holds, both_hold, all_three_hol
 use Rattle.typed_units.proofs.TypesOfGivens.{kind_integer}
 use Rattle.typed_units.proofs.RightGivens.{promoted_is, ValueRight, RightAs, converted_right, fits_scalar, assigned_right, condition_right}
 use Rattle.typed_units.proofs.RightExpressions.{strings_first, strings_rest, ValueBoth, value_right}
-use Rattle.typed_units.proofs.RightDeclarations.{holds_given, placed_first, placed_rest, ahead_both, ahead_none, objects_both, IsLaidRight, right_inside, decl_right, decl_whole, strings_moved}
+use Rattle.typed_units.proofs.RightDeclarations.{holds_given, placed_first, placed_rest, ahead_both, ahead_none, objects_both, AreKnownSizes, sizes_both, IsLaidRight, right_inside, decl_right, decl_whole, decl_layout, strings_moved}
 
 -- ## Labels
 
@@ -103,15 +103,17 @@ module _ (p : Program) (vars : List CType) where
 
   -- a part without variables
   bare_right : (A : Type 0) (env : Env) (next : Next) (T : A → Type 0) (a : A) → (IsRight p vars env → T a) → IsLaidRight p vars A env next [] T (bare a)
-  bare_right A env next T a f = record { numbers = ahead_none p vars next; right = λ w q. (f w, tt, tt) }
+  bare_right A env next T a f = record { numbers = ahead_none p vars next; plain_sizes = tt; added_sizes = tt; right = λ w q. (f w, tt, tt) }
 
-  tree_right : (A B : Type 0) (env other : Env) (next : Next) (names : List Name) (T : A → Type 0) (U : B → Type 0) (q : Laid A) (c : B) → IsLaidRight p vars A other next names T q → (IsRight p vars env → IsRight p vars other) → (T q.tree → IsRight p vars env → U c) → IsLaidRight p vars B env next names U (with_tree q c)
-  tree_right A B env other next names T U q c h g f = record { numbers = h.numbers; right = λ w x. (let y = h.right (g w) x in (f y.0 w, y.1, y.2)) }
+  tree_right : (A B : Type 0) (env other : Env) (next : Next) (names : List Name) (T : A → Type 0) (U : B → Type 0) (q : Laid A) (c : B) → layout_of other ≡ layout_of env → IsLaidRight p vars A other next names T q → (IsRight p vars env → IsRight p vars other) → (T q.tree → IsRight p vars env → U c) → IsLaidRight p vars B env next names U (with_tree q c)
+  tree_right A B env other next names T U q c same h g f = record { numbers = h.numbers; plain_sizes = subst (λ z. AreKnownSizes p vars z q.plain) same h.plain_sizes; added_sizes = subst (λ z. AreKnownSizes p vars z q.added) same h.added_sizes; right = λ w x. (let y = h.right (g w) x in (f y.0 w, y.1, y.2)) }
 
-  join_right : (A B C : Type 0) (env inner : Env) (next : Next) (xs ys : List Name) (T : A → Type 0) (U : B → Type 0) (V : C → Type 0) (a : Laid A) (b : Laid B) (c : C)
+  join_right : (A B C : Type 0) (env inner : Env) (next : Next) (xs ys : List Name) (T : A → Type 0) (U : B → Type 0) (V : C → Type 0) (a : Laid A) (b : Laid B) (c : C) → layout_of inner ≡ layout_of env
       → IsLaidRight p vars A env next xs T a → IsLaidRight p vars B inner (past_names next xs) ys U b → (T a.tree → IsRight p vars env → IsRight p vars inner) → (T a.tree → U b.tree → IsRight p vars env → V c) → IsLaidRight p vars C env next (xs ++ ys) V (joined a b c)
-  join_right A B C env inner next xs ys T U V a b c h k f g = record {
+  join_right A B C env inner next xs ys T U V a b c same h k f g = record {
     numbers = ahead_both p vars next (past_names next xs) a.plain b.plain a.added b.added xs ys h.numbers k.numbers;
+    plain_sizes = sizes_both p vars (layout_of env) a.plain b.plain h.plain_sizes (subst (λ z. AreKnownSizes p vars z b.plain) same k.plain_sizes);
+    added_sizes = sizes_both p vars (layout_of env) a.added b.added h.added_sizes (subst (λ z. AreKnownSizes p vars z b.added) same k.added_sizes);
     right = λ w q.
         (let x = h.right w (placed_first p vars next a.plain b.plain a.added b.added q) in
         let y = k.right (f x.0 w) (placed_rest p vars next (past_names next xs) a.plain b.plain a.added b.added h.numbers q) in
@@ -119,8 +121,8 @@ module _ (p : Program) (vars : List CType) where
   }
 
   -- in a scope round it
-  in_outer : (env outer : Env) (next : Next) (names : List Name) (T : typed.Stmt → Type 0) (q : Laid typed.Stmt) → IsLaidRight p vars typed.Stmt outer next names T q → (IsRight p vars env → IsRight p vars outer) → IsLaidRight p vars typed.Stmt env next names T q
-  in_outer env outer next names T q h f = record { numbers = h.numbers; right = λ w x. h.right (f w) x }
+  in_outer : (env outer : Env) (next : Next) (names : List Name) (T : typed.Stmt → Type 0) (q : Laid typed.Stmt) → layout_of outer ≡ layout_of env → IsLaidRight p vars typed.Stmt outer next names T q → (IsRight p vars env → IsRight p vars outer) → IsLaidRight p vars typed.Stmt env next names T q
+  in_outer env outer next names T q same h f = record { numbers = h.numbers; plain_sizes = subst (λ z. AreKnownSizes p vars z q.plain) same h.plain_sizes; added_sizes = subst (λ z. AreKnownSizes p vars z q.added) same h.added_sizes; right = λ w x. h.right (f w) x }
 
   is_true : (b : Bool) → b ≡ true → IsTrue b
   is_true b e = subst IsTrue (sym e) refl
@@ -129,6 +131,11 @@ module _ (p : Program) (vars : List CType) where
   first_whole first_absent env next = refl
   first_whole (first_expr x) env next = refl
   first_whole (first_decl d) env next = decl_whole p vars d env next
+
+  first_layout : (x : First) (env : Env) (next : Next) → layout_of (behind_first env next x) ≡ layout_of env
+  first_layout first_absent env next = refl
+  first_layout (first_expr x) env next = refl
+  first_layout (first_decl d) env next = decl_layout p vars d env next
 
   first_right : (x : First) (env : Env) (b : Before) (next : Next) → IsFirstLexical x → StringsIn p vars (string_number env b) (held_by_first env next x) → Holds (IsLaidRight p vars typed.Stmts env next (names_of_first x) (λ t. AreFirst p vars t × IsRight p vars (behind_first env next x))) (first_of env b next x)
   first_right first_absent env b next l s = bare_right typed.Stmts env next _ typed.no_stmts (λ w. (tt, w))
@@ -191,7 +198,7 @@ module _ (p : Program) (vars : List CType) where
       → Holds (AreGroupsRight env (in_switch a) next names (label_kind (kind_of g.ctype))) r → Holds (StmtRight env a next names) (both (fine g) r (switch_of at))
   switch_groups env at a next names g (fine l) f k =
       demand_holds (StmtRight env a next names) (are_distinct l.labels) 7 at _ (λ d.
-      tree_right typed.Groups typed.Stmt env env next names (AreGroups p vars a.returns a.continues (label_kind (kind_of g.ctype))) (IsStmt p vars a.returns a.breaks a.continues) l.groups (typed.switch_on (tree_of g) l.groups.tree) k.laid (λ w. w)
+      tree_right typed.Groups typed.Stmt env env next names (AreGroups p vars a.returns a.continues (label_kind (kind_of g.ctype))) (IsStmt p vars a.returns a.breaks a.continues) l.groups (typed.switch_on (tree_of g) l.groups.tree) refl k.laid (λ w. w)
       (λ gs w. (let t = f w in (t.0, t.3.0 ∙ t.1, t.2, t.3.1, subst (λ n. n ≤ 1) (sym k.counted) (one_default l.labels d), subst (λ j. AreGroups p vars a.returns a.continues j l.groups.tree) (label_type_is g.ctype t.0 t.1) gs))))
   switch_groups env at a next names g (faulty f fs) h k = tt
 
@@ -207,7 +214,7 @@ module _ (p : Program) (vars : List CType) where
     pub stmt_right : (s : Stmt) (env : Env) (a : Around) (b : Before) (next : Next) → IsStmtLexical s → StringsIn p vars (string_number env b) (held_by_stmt env next s) → Holds (StmtRight env a next (names_of_stmt s)) (stmt env a b next s)
     stmt_right (block at is) env a b next l s =
         on_holds (StmtsRight (inside env) a next (names_of_block is)) (StmtRight env a next (names_of_block is)) (items_of_block (inside env) a b next is) (λ q. fine (with_tree q (typed.block q.tree))) (block_right is (inside env) a b next l s)
-        (λ q h. tree_right typed.Stmts typed.Stmt env (inside env) next (names_of_block is) (AreStmts p vars a.returns a.breaks a.continues) (IsStmt p vars a.returns a.breaks a.continues) q (typed.block q.tree) h (right_inside p vars env) (λ x _. x))
+        (λ q h. tree_right typed.Stmts typed.Stmt env (inside env) next (names_of_block is) (AreStmts p vars a.returns a.breaks a.continues) (IsStmt p vars a.returns a.breaks a.continues) q (typed.block q.tree) refl h (right_inside p vars env) (λ x _. x))
     stmt_right (empty at) env a b next l s = bare_right typed.Stmt env next (IsStmt p vars a.returns a.breaks a.continues) typed.empty (λ _. tt)
     stmt_right (evaluate at x) env a b next l s =
         on_holds (λ g. IsRight p vars env → ValueBoth p vars env g) (StmtRight env a next []) (value env b x) (λ g. fine (bare (typed.evaluate (tree_of g))))
@@ -215,7 +222,7 @@ module _ (p : Program) (vars : List CType) where
     stmt_right (only_if at x t) env a b next l s =
         both_hold (CondRight env) (StmtRight env a next (names_of_stmt t)) (StmtRight env a next (names_of_stmt t)) (condition_at at (value env b x)) (stmt env a (after b x) next t) (λ c q. fine (with_tree q (typed.if_else c q.tree typed.empty)))
         (condition_at_right env b at x l.0 (strings_first p vars (string_number env b) (strings x) (held_by_stmt env next t) s)) (stmt_right t env a (after b x) next l.1 (strings_rest p vars env b (calls x) (strings x) (held_by_stmt env next t) s))
-        (λ c q f h. tree_right typed.Stmt typed.Stmt env env next (names_of_stmt t) (IsStmt p vars a.returns a.breaks a.continues) (IsStmt p vars a.returns a.breaks a.continues) q (typed.if_else c q.tree typed.empty) h (λ w. w) (λ y w. (f w, y, tt)))
+        (λ c q f h. tree_right typed.Stmt typed.Stmt env env next (names_of_stmt t) (IsStmt p vars a.returns a.breaks a.continues) (IsStmt p vars a.returns a.breaks a.continues) q (typed.if_else c q.tree typed.empty) refl h (λ w. w) (λ y w. (f w, y, tt)))
     stmt_right (if_else at x t u) env a b next l s =
         let names = past_names next (names_of_stmt t) in
         let b2 = after_stmt env (after b x) next t in
@@ -225,15 +232,15 @@ module _ (p : Program) (vars : List CType) where
         (condition_at_right env b at x l.0 (strings_first p vars (string_number env b) (strings x) (held_by_stmt env next t ++ held_by_stmt env names u) s))
         (stmt_right t env a (after b x) next l.1 (strings_first p vars (string_number env (after b x)) (held_by_stmt env next t) (held_by_stmt env names u) rest))
         (stmt_right u env a b2 names l.2 (strings_rest p vars env (after b x) (calls_of_stmt t) (held_by_stmt env next t) (held_by_stmt env names u) rest))
-        (λ c q r f h k. join_right typed.Stmt typed.Stmt typed.Stmt env env next (names_of_stmt t) (names_of_stmt u) (IsStmt p vars a.returns a.breaks a.continues) (IsStmt p vars a.returns a.breaks a.continues) (IsStmt p vars a.returns a.breaks a.continues) q r (typed.if_else c q.tree r.tree) h k (λ _ w. w) (λ y z w. (f w, y, z)))
+        (λ c q r f h k. join_right typed.Stmt typed.Stmt typed.Stmt env env next (names_of_stmt t) (names_of_stmt u) (IsStmt p vars a.returns a.breaks a.continues) (IsStmt p vars a.returns a.breaks a.continues) (IsStmt p vars a.returns a.breaks a.continues) q r (typed.if_else c q.tree r.tree) refl h k (λ _ w. w) (λ y z w. (f w, y, z)))
     stmt_right (while_loop at x t) env a b next l s =
         both_hold (CondRight env) (StmtRight env (in_loop a) next (names_of_stmt t)) (StmtRight env a next (names_of_stmt t)) (condition_at at (value env b x)) (stmt env (in_loop a) (after b x) next t) (λ c q. fine (with_tree q (typed.while_loop c q.tree)))
         (condition_at_right env b at x l.0 (strings_first p vars (string_number env b) (strings x) (held_by_stmt env next t) s)) (stmt_right t env (in_loop a) (after b x) next l.1 (strings_rest p vars env b (calls x) (strings x) (held_by_stmt env next t) s))
-        (λ c q f h. tree_right typed.Stmt typed.Stmt env env next (names_of_stmt t) (IsStmt p vars a.returns true true) (IsStmt p vars a.returns a.breaks a.continues) q (typed.while_loop c q.tree) h (λ w. w) (λ y w. (f w, y)))
+        (λ c q f h. tree_right typed.Stmt typed.Stmt env env next (names_of_stmt t) (IsStmt p vars a.returns true true) (IsStmt p vars a.returns a.breaks a.continues) q (typed.while_loop c q.tree) refl h (λ w. w) (λ y w. (f w, y)))
     stmt_right (do_loop at t x) env a b next l s =
         both_hold (StmtRight env (in_loop a) next (names_of_stmt t)) (CondRight env) (StmtRight env a next (names_of_stmt t)) (stmt env (in_loop a) b next t) (condition_at at (value env (after_stmt env b next t) x)) (λ q c. fine (with_tree q (typed.do_loop q.tree c)))
         (stmt_right t env (in_loop a) b next l.0 (strings_first p vars (string_number env b) (held_by_stmt env next t) (strings x) s)) (condition_at_right env (after_stmt env b next t) at x l.1 (strings_rest p vars env b (calls_of_stmt t) (held_by_stmt env next t) (strings x) s))
-        (λ q c h f. tree_right typed.Stmt typed.Stmt env env next (names_of_stmt t) (IsStmt p vars a.returns true true) (IsStmt p vars a.returns a.breaks a.continues) q (typed.do_loop q.tree c) h (λ w. w) (λ y w. (y, f w)))
+        (λ q c h f. tree_right typed.Stmt typed.Stmt env env next (names_of_stmt t) (IsStmt p vars a.returns true true) (IsStmt p vars a.returns a.breaks a.continues) q (typed.do_loop q.tree c) refl h (λ w. w) (λ y w. (y, f w)))
     stmt_right (for_loop at first test step t) env a b next l s =
         let outer = inside env in
         let inner = behind_first outer next first in
@@ -249,8 +256,8 @@ module _ (p : Program) (vars : List CType) where
         (both_hold (TestRight inner) (StepRight inner) (λ c. TestRight inner c.first × StepRight inner c.second) (test_of inner b1 at test) (step_of inner b2 step) (λ x y. fine (record { first = x; second = y }))
         (test_right test inner b1 at l.1 (strings_first p vars (string_number inner b1) (strings_of_maybe test) (strings_of_maybe step ++ held_by_stmt inner names t) s1)) (step_right step inner b2 l.2 (strings_first p vars (string_number inner b2) (strings_of_maybe step) (held_by_stmt inner names t) s2)) (λ x y h k. (h, k)))
         (stmt_right t inner (in_loop a) b3 names l.3 (strings_rest p vars inner b2 (calls_of_maybe step) (strings_of_maybe step) (held_by_stmt inner names t) s2))
-        (λ q c r h f k. in_outer env outer next (names_of_first first ++ names_of_stmt t) (IsStmt p vars a.returns a.breaks a.continues) (for_of q c r)
-        (join_right typed.Stmts typed.Stmt typed.Stmt outer inner next (names_of_first first) (names_of_stmt t) (λ y. AreFirst p vars y × IsRight p vars inner) (IsStmt p vars a.returns true true) (IsStmt p vars a.returns a.breaks a.continues) q r (typed.for_loop q.tree c.first c.second r.tree) h k (λ y _. y.1) (λ y z w. (y.0, f.0 y.1, f.1 y.1, z))) (right_inside p vars env))
+        (λ q c r h f k. in_outer env outer next (names_of_first first ++ names_of_stmt t) (IsStmt p vars a.returns a.breaks a.continues) (for_of q c r) refl
+        (join_right typed.Stmts typed.Stmt typed.Stmt outer inner next (names_of_first first) (names_of_stmt t) (λ y. AreFirst p vars y × IsRight p vars inner) (IsStmt p vars a.returns true true) (IsStmt p vars a.returns a.breaks a.continues) q r (typed.for_loop q.tree c.first c.second r.tree) (first_layout first outer next) h k (λ y _. y.1) (λ y z w. (y.0, f.0 y.1, f.1 y.1, z))) (right_inside p vars env))
     stmt_right (switch_on at x gs) env a b next l s =
         switch_right env at a next (names_of_groups gs) (switched at (value env b x)) (λ i. groups_of_switch env (in_switch a) (after b x) next i gs)
         (on_holds (λ g. IsRight p vars env → ValueBoth p vars env g) (λ h. IsRight p vars env → (i : IntType) × (h.ctype ≡ integer i) × IsPromoted i × ValueRight p vars h) (value env b x) (λ g. switched_kind at g (kind_of g.ctype))
@@ -270,13 +277,13 @@ module _ (p : Program) (vars : List CType) where
         (local_decl env b next d) (items_of_block inner a (after_decl env b next d) names is) (λ q r. fine (some_more q r))
         (decl_right p vars d env b next l.0 (strings_first p vars (string_number env b) (held_by_decl env next d) (held_by_block inner names is) s))
         (block_right is inner a (after_decl env b next d) names l.1 (strings_moved p vars env inner (after_decl env b next d) (held_by_block inner names is) (decl_whole p vars d env next) (strings_rest p vars env b (calls_of_decl d) (held_by_decl env next d) (held_by_block inner names is) s)))
-        (λ q r h k. join_right typed.Stmts typed.Stmts typed.Stmts env inner next (names_of_decl d) (names_of_block is) (λ y. AreFirst p vars y × IsRight p vars inner) (AreStmts p vars a.returns a.breaks a.continues) (AreStmts p vars a.returns a.breaks a.continues) q r (appended q.tree r.tree) h k (λ y _. y.1) (λ y z _. first_appended a.returns a.breaks a.continues q.tree r.tree y.0 z))
+        (λ q r h k. join_right typed.Stmts typed.Stmts typed.Stmts env inner next (names_of_decl d) (names_of_block is) (λ y. AreFirst p vars y × IsRight p vars inner) (AreStmts p vars a.returns a.breaks a.continues) (AreStmts p vars a.returns a.breaks a.continues) q r (appended q.tree r.tree) (decl_layout p vars d env next) h k (λ y _. y.1) (λ y z _. first_appended a.returns a.breaks a.continues q.tree r.tree y.0 z))
     block_right (block_stmt t is) env a b next l s =
         let names = past_names next (names_of_stmt t) in
         both_hold (StmtRight env a next (names_of_stmt t)) (StmtsRight env a names (names_of_block is)) (StmtsRight env a next (names_of_stmt t ++ names_of_block is))
         (stmt env a b next t) (items_of_block env a (after_stmt env b next t) names is) (λ q r. fine (one_more q r))
         (stmt_right t env a b next l.0 (strings_first p vars (string_number env b) (held_by_stmt env next t) (held_by_block env names is) s)) (block_right is env a (after_stmt env b next t) names l.1 (strings_rest p vars env b (calls_of_stmt t) (held_by_stmt env next t) (held_by_block env names is) s))
-        (λ q r h k. join_right typed.Stmt typed.Stmts typed.Stmts env env next (names_of_stmt t) (names_of_block is) (IsStmt p vars a.returns a.breaks a.continues) (AreStmts p vars a.returns a.breaks a.continues) (AreStmts p vars a.returns a.breaks a.continues) q r (typed.more_stmts q.tree r.tree) h k (λ _ w. w) (λ y z _. (y, z)))
+        (λ q r h k. join_right typed.Stmt typed.Stmts typed.Stmts env env next (names_of_stmt t) (names_of_block is) (IsStmt p vars a.returns a.breaks a.continues) (AreStmts p vars a.returns a.breaks a.continues) (AreStmts p vars a.returns a.breaks a.continues) q r (typed.more_stmts q.tree r.tree) refl h k (λ _ w. w) (λ y z _. (y, z)))
 
     stmts_right : (ss : Stmts) (env : Env) (a : Around) (b : Before) (next : Next) → AreStmtsLexical ss → StringsIn p vars (string_number env b) (held_by_stmts env next ss) → Holds (StmtsRight env a next (names_of_stmts ss)) (stmts env a b next ss)
     stmts_right no_stmts env a b next l s = bare_right typed.Stmts env next (AreStmts p vars a.returns a.breaks a.continues) typed.no_stmts (λ _. tt)
@@ -285,7 +292,7 @@ module _ (p : Program) (vars : List CType) where
         both_hold (StmtRight env a next (names_of_stmt t)) (StmtsRight env a names (names_of_stmts ss)) (StmtsRight env a next (names_of_stmt t ++ names_of_stmts ss))
         (stmt env a b next t) (stmts env a (after_stmt env b next t) names ss) (λ q r. fine (one_more q r))
         (stmt_right t env a b next l.0 (strings_first p vars (string_number env b) (held_by_stmt env next t) (held_by_stmts env names ss) s)) (stmts_right ss env a (after_stmt env b next t) names l.1 (strings_rest p vars env b (calls_of_stmt t) (held_by_stmt env next t) (held_by_stmts env names ss) s))
-        (λ q r h k. join_right typed.Stmt typed.Stmts typed.Stmts env env next (names_of_stmt t) (names_of_stmts ss) (IsStmt p vars a.returns a.breaks a.continues) (AreStmts p vars a.returns a.breaks a.continues) (AreStmts p vars a.returns a.breaks a.continues) q r (typed.more_stmts q.tree r.tree) h k (λ _ w. w) (λ y z _. (y, z)))
+        (λ q r h k. join_right typed.Stmt typed.Stmts typed.Stmts env env next (names_of_stmt t) (names_of_stmts ss) (IsStmt p vars a.returns a.breaks a.continues) (AreStmts p vars a.returns a.breaks a.continues) (AreStmts p vars a.returns a.breaks a.continues) q r (typed.more_stmts q.tree r.tree) refl h k (λ _ w. w) (λ y z _. (y, z)))
 
     groups_right : (gs : Groups) (env : Env) (a : Around) (b : Before) (next : Next) (i : IntType) → AreGroupsLexical gs → StringsIn p vars (string_number env b) (held_by_groups env next gs) → Holds (AreGroupsRight env (in_switch a) next (names_of_groups gs) i) (groups_of_switch env (in_switch a) b next i gs)
     groups_right no_groups env a b next i l s = record { laid = bare_right typed.Groups env next (AreGroups p vars a.returns a.continues i) typed.no_groups (λ _. tt); counted = refl }
@@ -295,6 +302,6 @@ module _ (p : Program) (vars : List CType) where
         (labels_of env i ls) (stmts env (in_switch a) b next ss) (groups_of_switch env (in_switch a) (after_stmts env b next ss) names i gs) (λ vs q rest. fine (labelled vs q rest)) (labels_right env i ls)
         (stmts_right ss env (in_switch a) b next l.0 (strings_first p vars (string_number env b) (held_by_stmts env next ss) (held_by_groups env names gs) s)) (groups_right gs env a (after_stmts env b next ss) names i l.1 (strings_rest p vars env b (calls_of_stmts ss) (held_by_stmts env next ss) (held_by_groups env names gs) s))
         (λ vs q r v h k. record {
-          laid = join_right typed.Stmts typed.Groups typed.Groups env env next (names_of_stmts ss) (names_of_groups gs) (AreStmts p vars a.returns true a.continues) (AreGroups p vars a.returns a.continues i) (AreGroups p vars a.returns a.continues i) q r.groups (typed.more_groups vs q.tree r.groups.tree) h k.laid (λ _ w. w) (λ y z _. (v, y, z));
+          laid = join_right typed.Stmts typed.Groups typed.Groups env env next (names_of_stmts ss) (names_of_groups gs) (AreStmts p vars a.returns true a.continues) (AreGroups p vars a.returns a.continues i) (AreGroups p vars a.returns a.continues i) q r.groups (typed.more_groups vs q.tree r.groups.tree) refl h k.laid (λ _ w. w) (λ y z _. (v, y, z));
           counted = (let c = k.counted in let d = labels_both vs r.labels in omega (arith, c, d));
         })

@@ -1,15 +1,16 @@
 -- Laws on what the rules type: the parts of a unit give well-typed parts of a program.
-use Rattle.std.specs.Prelude.{◌≡◌, ℕ, List}
+use Rattle.std.specs.Prelude.{◌≡◌, ℕ, false, List, All}
 use Rattle.std.specs.List.{range_with_len}
 use Rattle.dm_base.specs.declared.mode.Mode.{Mode}
 use Rattle.c_lexer.specs.declared.token.Token.{Token}
 use Rattle.c_lexer.specs.Spelling.{SpellsTokens}
-use Rattle.c_tree.specs.Tree.{CType, Program, type_of}
+use Rattle.c_tree.specs.Tree.{CType, Static, Program, type_of}
 use Rattle.c_tree.specs.Tree as typed
 use Rattle.c_tree.specs.Operands.{IsResult}
 use Rattle.c_tree.specs.Kinds.{Lies}
 use Rattle.c_tree.specs.Typed.{IsValue, IsStmt}
 use Rattle.c_tree.specs.Sites.{sites_of, sites_of_stmt}
+use Rattle.c_tree.specs.Program.{AreStructs, IsFunction, IsStatic}
 use Rattle.c_syntax.specs.Tree.{Expr, Stmt, Items}
 use Rattle.c_syntax.specs.Spelling.{SpellsUnit}
 use Rattle.c_rules.specs.Checked.{fine}
@@ -21,6 +22,7 @@ use Rattle.c_rules.specs.Expressions.{value}
 use Rattle.c_rules.specs.Variables.{Next, calls_of_stmt}
 use Rattle.c_rules.specs.Blocks.{Laid, held_by_stmt}
 use Rattle.c_rules.specs.Statements.{Around, stmt}
+use Rattle.c_rules.specs.Units.{IsTyped}
 use Rattle.typed_units.specs.Lexical.{IsLexical, IsStmtLexical, IsUnitLexical}
 use Rattle.typed_units.specs.RightScopes.{IsRight, StringsIn}
 
@@ -48,6 +50,19 @@ ExpressionsHaveSites = (env : Env) → env.context ≡ evaluated → (b : Before
 abbrev pub StatementsHaveSites : Type 0
 StatementsHaveSites =
     (env : Env) → env.context ≡ evaluated → (a : Around) (b : Before) (next : Next) (s : Stmt) (q : Laid typed.Stmt) → stmt env a b next s ≡ fine q → sites_of_stmt q.tree ≡ range_with_len b.sites (calls_of_stmt s)
+
+-- a static object that is no string has values of its types in its cells
+abbrev pub IsRightObject : Program → Static → Type 0
+IsRightObject p s = s.string ≡ false → IsStatic p s
+
+-- the structs, the functions and the objects that have names are those of a well-typed program
+pub record PartsAreRight (p : Program) : Type 0 where
+  pub structs : AreStructs p.structs
+  pub functions : All (IsFunction p) p.functions
+  pub objects : All (IsRightObject p) p.statics
+
+abbrev pub UnitsAreWellTyped : Type 0
+UnitsAreWellTyped = (u : Items) (m : Mode) (p : Program) → IsUnitLexical u → IsTyped u m p → PartsAreRight p
 
 -- a unit that a text spells is lexical
 abbrev pub SpelledUnitsAreLexical : Type 0

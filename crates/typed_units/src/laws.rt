@@ -1,4 +1,4 @@
-ghost use Rattle.typed_units.specs.WellTyped.{ExpressionsAreWellTyped, StatementsAreWellTyped, ExpressionsHaveSites, StatementsHaveSites, SpelledUnitsAreLexical};
+ghost use Rattle.typed_units.specs.WellTyped.{ExpressionsAreWellTyped, StatementsAreWellTyped, ExpressionsHaveSites, StatementsHaveSites, UnitsAreWellTyped, SpelledUnitsAreLexical};
 
 /// A law on the rules: where each name in scope is right in a program, the tree of an expression that the rules type has
 /// the type that they give it, and is a well-typed value in the program.
@@ -17,6 +17,13 @@ pub fn statements_are_well_typed()
 pub fn sites_are_in_order()
     ensures expressions { ExpressionsHaveSites }
     ensures statements { StatementsHaveSites }
+{}
+
+/// A law on the rules: the structs, the functions and the objects with names of a unit that is typed are those of a
+/// well-typed program, where constants are in range, strings no longer than a text, structs have a member and functions have
+/// names.
+pub fn units_are_well_typed()
+    ensures { UnitsAreWellTyped }
 {}
 
 /// A law on spelled units: their constants are in range, their strings are no longer than a text, their structs have a

@@ -5,5 +5,5 @@ mod laws;
 
 pub use laws::{
     a_spelled_unit_is_lexical, expressions_are_well_typed, sites_are_in_order,
-    statements_are_well_typed,
+    statements_are_well_typed, units_are_well_typed,
 };
