@@ -3,6 +3,7 @@ ghost use Rattle.dm_base.specs.declared.mode.Mode.{Mode};
 ghost use Rattle.dm_base.specs.declared.mode.Mode.TheVariants.{Plain, Instrumented};
 ghost use Rattle.c_tree.specs.Tree.{Program};
 ghost use Rattle.c_rules.specs.Accepted.{IsAccepted};
+ghost use Rattle.typed_units.specs.WellTyped.{PartsAreRight};
 ghost use Rattle.c_meaning.specs.WithoutNullCalls.{MakesNoNullCall};
 
 use c_lexer::a_text_has_one_list_of_tokens;
@@ -11,6 +12,7 @@ use c_rules::{
     a_unit_types_one_program,
 };
 use c_syntax::a_list_of_tokens_has_one_unit;
+use typed_units::{a_spelled_unit_is_lexical, units_are_well_typed};
 
 /// A law on texts: a text is accepted as one program at most in a mode.
 pub fn a_text_is_accepted_as_one_program()
@@ -34,4 +36,13 @@ pub fn a_plain_text_makes_no_null_call()
     ensures { (text : List ℕ) (p : Program) → IsAccepted text Plain p → MakesNoNullCall p }
 {
     a_plain_program_calls_no_null_call();
+}
+
+/// A law on texts: the structs, the functions and the objects with names of a program that is accepted are those of a
+/// well-typed program.
+pub fn accepted_texts_are_well_typed()
+    ensures { (text : List ℕ) (m : Mode) (p : Program) → IsAccepted text m p → PartsAreRight p }
+{
+    a_spelled_unit_is_lexical();
+    units_are_well_typed();
 }
