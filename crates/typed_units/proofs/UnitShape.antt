@@ -3,6 +3,7 @@ use Rattle.std.proofs.Common.{◌≡◌, ℕ, zero, suc, Bool, true, false, not,
 use Rattle.std.specs.Prelude.{bytes_eq}
 use Rattle.std.proofs.lemmas.Slice.Eq.{bytes_eq-Decides}
 use Rattle.c_tree.specs.Tree.{CType, void, integer, pointer, array, struct, function, CTypes, Function, Static}
+use Rattle.dm_base.specs.Name.{IsName}
 use Rattle.c_tree.specs.Tree as typed
 use Rattle.c_syntax.specs.Tree.{Ident, Storage, Spec, Declarator, MaybeInit, Parts, no_parts, more_parts, Decl, decl, Stmt, BlockItems, Item, struct_item, enum_item, tag_item, decl_item, function_item, Items, no_items, more_items}
 use Rattle.c_rules.specs.Checked.{Checked, fine, on, demand, met}
@@ -16,7 +17,7 @@ use Rattle.c_rules.specs.Variables.{name_or_empty}
 use Rattle.c_rules.specs.Functions.{function_meaning, declares_function, parameters_of, are_named, variables_of, function_laid, body_of, is_defined_by, function_declared, items_of_body, defined_as}
 use Rattle.c_rules.specs.Items.{Output, no_output, with_output, static_of, without_init, output_of_function, defines, global_declared, meaning_of_global, behind_global, within_global, after_object, definition_of, global, declared_part, named_part, behind_declared, behind_named_part, behind_file_part, after_file_part, file_parts, behind_file_parts, file_decl, behind_file_decl, behind_defined, function_named, behind_function_named, item, behind_item, behind_by_form, after_item, items, behind_items}
 use Rattle.c_rules.specs.Units.{functions_of_item, functions_of, objects_of_parts, objects_of_decl, objects_of_item, objects_of}
-use Rattle.typed_units.specs.Lexical.{IsUnitLexical}
+use Rattle.typed_units.specs.Lexical.{IsNamed, IsItemLexical, IsUnitLexical}
 use Rattle.typed_units.proofs.Holding.{held, first_fine, on_fine, demand_fine}
 use Rattle.typed_units.proofs.FileScopes.{IsFileRight, Agrees, Follows, follows_on}
 use Rattle.typed_units.proofs.FileItems.{form_step, function_meant, IsFunctionNamed, items_step, part_step, parts_step, tags_step}
@@ -48,7 +49,7 @@ zip_long R (x ∷ xs) (y ∷ ys) h = ap suc (zip_long R xs ys h.1)
 
 -- the function has the name, which means it behind all items
 abbrev pub IsFunctionOf : Env → Name → Function → Type 0
-IsFunctionOf last x f = (f.name ≡ x) × ((b : Binding) × (lookup last.names x ≡ Some b) × (b.means ≡ a_function f.ctype true))
+IsFunctionOf last x f = (f.name ≡ x) × IsName x × ((b : Binding) × (lookup last.names x ≡ Some b) × (b.means ≡ a_function f.ctype true))
 
 abbrev pub IsObjectOf : Env → Name → Static → Type 0
 IsObjectOf last x s = (s.string ≡ false) × ((b : Binding) × (seen : CType) × (d : Bool) × (lookup last.names x ≡ Some b) × (b.means ≡ a_static seen s.ctype d))
@@ -113,8 +114,8 @@ type_same t u e = cc
 
 -- ## Functions and objects
 
-definition_shape : (last env : Env) (b : Before) (at : ℕ) (s : Spec) (d : Declarator) (body : Stmt) (x : Ident) (p : Output) → IsFileRight env → function_named env b at s d body true (Some x) ≡ fine p → Follows (behind_function_named env at s d (Some x)) last → HasShape last (x.name ∷ []) [] p
-definition_shape last env b at s d body x p w e g =
+definition_shape : (last env : Env) (b : Before) (at : ℕ) (s : Spec) (d : Declarator) (body : Stmt) (x : Ident) (p : Output) → IsFileRight env → IsName x.name → function_named env b at s d body true (Some x) ≡ fine p → Follows (behind_function_named env at s d (Some x)) last → HasShape last (x.name ∷ []) [] p
+definition_shape last env b at s d body x p w n e g =
     let r : Checked Meaning = function_declared env true at s d x in
     let i = first_fine r (on (type_declared env at s d) (defined_as (behind_defined env at s d x) b (place_or at d) d x (items_of_body body))) (λ _ f. fine (output_of_function f)) p e in
     let m : Meaning = i.0 in
@@ -130,7 +131,7 @@ definition_shape last env b at s d body x p w e g =
     let later = g.later x.name (record { name = x.name; depth = env.depth; means = meaning_or_unknown r }) here in
     let last_means : later.0.means ≡ a_function u true = later_function u (is_defined_by true (declared_here env x.name)) later.0.means (subst (λ z. Agrees z later.0.means) means later.2) (defined_true (declared_here env x.name)) in
     subst (HasShape last (x.name ∷ []) []) (output_same (output_of_function f) p i.4)
-    (record { functions = ((shape.0, (later.0, later.1, last_means ∙ ap (λ t. a_function t true) (sym (shape.1 ∙ same)))), tt); statics = tt })
+    (record { functions = ((shape.0, n, (later.0, later.1, last_means ∙ ap (λ t. a_function t true) (sym (shape.1 ∙ same)))), tt); statics = tt })
 
 object_shape : (last env : Env) (b : Before) (x : Ident) (m : MaybeInit) (r : Checked Object) (p : Output) → global env true b x m r ≡ fine p → Follows (behind_global env true x r) last → HasShape last [] (x.name ∷ []) p
 object_shape last env b x m r p e g =
@@ -185,17 +186,17 @@ parts_shape (more_parts d m ps) last env b at class s p w e g =
 decl_shape : (d : Decl) (last env : Env) (b : Before) (p : Output) → IsFileRight env → file_decl env b d ≡ fine p → Follows (behind_file_decl env b d) last → HasShape last [] (objects_of_decl d) p
 decl_shape (decl at class s ps) last env b p w e g = parts_shape ps last env b at class s p w e g
 
-named_shape : (last env : Env) (b : Before) (at : ℕ) (s : Spec) (d : Declarator) (body : Stmt) (k : Bool) (o : Option Ident) (p : Output) → IsFileRight env → function_named env b at s d body k o ≡ fine p → Follows (behind_function_named env at s d o) last → HasShape last (name_or_empty o ∷ []) [] p
-named_shape last env b at s d body false o p w e g = absurd (cc)
-named_shape last env b at s d body true None p w e g = absurd (cc)
-named_shape last env b at s d body true (Some x) p w e g = definition_shape last env b at s d body x p w e g
+named_shape : (last env : Env) (b : Before) (at : ℕ) (s : Spec) (d : Declarator) (body : Stmt) (k : Bool) (o : Option Ident) (p : Output) → IsFileRight env → IsNamed o → function_named env b at s d body k o ≡ fine p → Follows (behind_function_named env at s d o) last → HasShape last (name_or_empty o ∷ []) [] p
+named_shape last env b at s d body false o p w n e g = absurd (cc)
+named_shape last env b at s d body true None p w n e g = absurd (cc)
+named_shape last env b at s d body true (Some x) p w n e g = definition_shape last env b at s d body x p w n e g
 
-form_shape : (i : Item) (last env : Env) (b : Before) (p : Output) → IsFileRight env → item env b i ≡ fine p → Follows (behind_by_form env b i) last → HasShape last (functions_of_item i) (objects_of_item i) p
-form_shape (struct_item at x ms) last env b p w e g = (let i = on_fine _ (λ _. fine no_output) p e in no_shape last p i.2)
-form_shape (enum_item at x es) last env b p w e g = (let i = first_fine _ _ (λ _ _. fine no_output) p e in no_shape last p i.4)
-form_shape (tag_item at x) last env b p w e g = (let i = on_fine _ (λ _. fine no_output) p e in no_shape last p i.2)
-form_shape (decl_item at d) last env b p w e g = decl_shape d last env b p w e g
-form_shape (function_item at class s d body) last env b p w e g = named_shape last env b at s d body (declares_function d) (name_of d) p w e g
+form_shape : (i : Item) (last env : Env) (b : Before) (p : Output) → IsFileRight env → IsItemLexical i → item env b i ≡ fine p → Follows (behind_by_form env b i) last → HasShape last (functions_of_item i) (objects_of_item i) p
+form_shape (struct_item at x ms) last env b p w n e g = (let i = on_fine _ (λ _. fine no_output) p e in no_shape last p i.2)
+form_shape (enum_item at x es) last env b p w n e g = (let i = first_fine _ _ (λ _ _. fine no_output) p e in no_shape last p i.4)
+form_shape (tag_item at x) last env b p w n e g = (let i = on_fine _ (λ _. fine no_output) p e in no_shape last p i.2)
+form_shape (decl_item at d) last env b p w n e g = decl_shape d last env b p w e g
+form_shape (function_item at class s d body) last env b p w n e g = named_shape last env b at s d body (declares_function d) (name_of d) p w n.0 e g
 
 pub items_shape : (is : Items) (last env : Env) (b : Before) (p : Output) → IsFileRight env → IsUnitLexical is → items env b is ≡ fine p → Follows (behind_items env b is) last → HasShape last (functions_of is) (objects_of is) p
 items_shape no_items last env b p w l e g = no_shape last p e
@@ -208,4 +209,4 @@ items_shape (more_items i is) last env b p w l e g =
     let rest = items_step is inner after f.1 tags.0 l.1 f.3 in
     let here = follows_on (behind_by_form env b i) inner last tags.1 (follows_on inner (behind_items inner after is) last rest.1 g) in
     subst (HasShape last (functions_of_item i ++ functions_of is) (objects_of_item i ++ objects_of is)) (output_same (with_output f.0 f.1) p f.4)
-    (shape_both last (functions_of_item i) (objects_of_item i) (functions_of is) (objects_of is) f.0 f.1 (form_shape i last env b f.0 w f.2 here) (items_shape is last inner after f.1 tags.0 l.1 f.3 g))
+    (shape_both last (functions_of_item i) (objects_of_item i) (functions_of is) (objects_of is) f.0 f.1 (form_shape i last env b f.0 w l.0 f.2 here) (items_shape is last inner after f.1 tags.0 l.1 f.3 g))

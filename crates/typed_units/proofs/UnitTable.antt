@@ -4,6 +4,7 @@ use Rattle.std.specs.Prelude.{option_map, bytes_eq}
 use Rattle.std.proofs.lemmas.Option.{slice_get-map}
 use Rattle.std.proofs.lemmas.List.Elements.{All-cons}
 use Rattle.std.proofs.lemmas.Slice.Eq.{bytes_eq-Decides}
+use Rattle.dm_base.specs.Name.{IsName}
 use Rattle.dm_base.specs.declared.mode.Mode.{Mode}
 use Rattle.c_tree.specs.Tree.{CType, Function, Static, Program}
 use Rattle.c_tree.specs.Typed.{IsStaticOf}
@@ -24,7 +25,7 @@ use Rattle.typed_units.proofs.SoundStructs.{are_structs}
 use Rattle.typed_units.proofs.FileScopes.{IsFileRight, follows_self}
 use Rattle.typed_units.proofs.FileItems.{Step, items_step}
 use Rattle.typed_units.proofs.UnitScopes.{IsTable}
-use Rattle.typed_units.proofs.UnitShape.{zip_at, zip_long, IsFunctionOf, IsObjectOf, HasShape, items_shape}
+use Rattle.typed_units.proofs.UnitShape.{Zip, zip_at, zip_long, IsFunctionOf, IsObjectOf, HasShape, items_shape}
 use Rattle.typed_units.proofs.UnitItems.{begins_self, AreFunctions, AreStatics, items_right}
 
 -- ## Before all items
@@ -95,8 +96,8 @@ module _ (m : Mode) (u : Items) (out : Output) (lexical : IsUnitLexical u) (type
   function_at x b t d i e q n =
       let n2 : number_among (functions_of u) x ≡ Some i = subst (λ w. number_among w.functions x ≡ Some i) step.1.whole n in
       let z = zip_at (IsFunctionOf (env_behind m u)) (functions_of u) out.functions i x shape.functions (name_at (functions_of u) x i n2) in
-      let c = one_binding (lookup (env_behind m u).names x) b z.2.1.0 e z.2.1.1 in
-      (z.0, z.1, same_function t z.0.ctype d true (sym q ∙ (ap (λ b. b.means) (sym c) ∙ z.2.1.2)))
+      let c = one_binding (lookup (env_behind m u).names x) b z.2.2.0 e z.2.2.1 in
+      (z.0, z.1, same_function t z.0.ctype d true (sym q ∙ (ap (λ b. b.means) (sym c) ∙ z.2.2.2)))
 
   object_at : (x : Name) (b : Binding) (s t : CType) (d : Bool) (n : ℕ) → lookup (env_behind m u).names x ≡ Some b → b.means ≡ a_static s t d → number_among (env_behind m u).whole.objects x ≡ Some n → IsStaticOf (program_of m u out) false n t
   object_at x b s t d n e q k =
@@ -134,10 +135,17 @@ module _ (m : Mode) (u : Items) (out : Output) (lexical : IsUnitLexical u) (type
   no_objects [] = λ k d l. absurd (omega (arith, l))
   no_objects (w ∷ ws) = All-cons (IsRightObject (program_of m u out)) (static_string w) (map static_string ws) (λ e. absurd (let q : true ≡ false = e in cc)) (no_objects ws)
 
+  each_name : (xs : List Name) (fs : List Function) → Zip (IsFunctionOf (env_behind m u)) xs fs → All (λ f. IsName f.name) fs
+  each_name [] [] h = λ k d l. absurd (omega (arith, l))
+  each_name (x ∷ xs) [] h = absurd h
+  each_name [] (f ∷ fs) h = absurd h
+  each_name (x ∷ xs) (f ∷ fs) h = All-cons (λ f. IsName f.name) f fs (subst IsName (sym h.0.0) h.0.1) (each_name xs fs h.1)
+
   pub parts_of_program : PartsAreRight (program_of m u out)
   parts_of_program = record {
     structs = are_structs (layout_of (env_behind m u)) step.0.names_known.sound;
     functions = each_function out.functions outputs.0;
+    names = each_name (functions_of u) out.functions shape.functions;
     objects = both_all (IsRightObject (program_of m u out)) out.statics (map static_string (strings_of m u)) (each_static out.statics outputs.1) (no_objects (strings_of m u));
   }
 

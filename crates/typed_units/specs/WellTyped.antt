@@ -1,6 +1,7 @@
 -- Laws on what the rules type: the parts of a unit give well-typed parts of a program.
 use Rattle.std.specs.Prelude.{◌≡◌, ℕ, false, List, All}
 use Rattle.std.specs.List.{range_with_len}
+use Rattle.dm_base.specs.Name.{IsName}
 use Rattle.dm_base.specs.declared.mode.Mode.{Mode}
 use Rattle.c_lexer.specs.declared.token.Token.{Token}
 use Rattle.c_lexer.specs.Spelling.{SpellsTokens}
@@ -59,6 +60,7 @@ IsRightObject p s = s.string ≡ false → IsStatic p s
 pub record PartsAreRight (p : Program) : Type 0 where
   pub structs : AreStructs p.structs
   pub functions : All (IsFunction p) p.functions
+  pub names : All (λ f. IsName f.name) p.functions
   pub objects : All (IsRightObject p) p.statics
 
 abbrev pub UnitsAreWellTyped : Type 0
