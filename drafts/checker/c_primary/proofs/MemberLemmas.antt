@@ -1,0 +1,48 @@
+-- The number of a member's name.
+use Rattle.std.proofs.Common.{◌≡◌, ℕ, ◌+◌, ◌<◌, ◌≤◌, Bool, true, false, cond, suc, List, [], ◌∷◌, length, map, drop, get_or, Option, Some, None, refl, ap, sym, ◌∙◌, arith}
+use Rattle.std.specs.Prelude.{option_map, bytes_eq}
+use Rattle.std.proofs.lemmas.List.{drop_all}
+use Rattle.c_layout.specs.declared.structs.StructMember.{StructMember}
+use Rattle.c_layout.specs.Shown.{knowns_of}
+use Rattle.c_given.proofs.PartsOfTypes.{at_place}
+use Rattle.c_rules.specs.Names.{Name, number_among}
+use Rattle.c_rules.specs.PostfixExpressions.{name_of_member}
+use Rattle.c_scopes.specs.View.{member_of as member_seen}
+
+abbrev pub names : List StructMember → List Name
+names ms = map name_of_member (map member_seen (knowns_of ms))
+
+-- the number of a name among members of which so many stand before
+abbrev pub number_from : ℕ → List StructMember → Name → Option ℕ
+number_from i ms x = option_map (λ k. i + k) (number_among (names ms) x)
+
+from_none : (o : Option ℕ) → option_map (λ k. 0 + k) o ≡ o
+from_none None = refl
+from_none (Some k) = ap Some (omega arith)
+
+pub from_first : (ms : List StructMember) (x : Name) → number_from 0 ms x ≡ number_among (names ms) x
+from_first ms x = from_none (number_among (names ms) x)
+
+one_later : (i : ℕ) (o : Option ℕ) → option_map (λ k. i + k) (option_map suc o) ≡ option_map (λ k. (i + 1) + k) o
+one_later i None = refl
+one_later i (Some k) = ap Some (omega arith)
+
+abbrev chosen : Bool → ℕ → Option ℕ → Option ℕ
+chosen t i o = option_map (λ k. i + k) (cond t (Some 0) (option_map suc o))
+
+not_this : (i : ℕ) (t : Bool) (o : Option ℕ) → t ≡ false → chosen t i o ≡ option_map (λ k. (i + 1) + k) o
+not_this i t o h = ap (λ b. chosen b i o) h ∙ one_later i o
+
+this : (i : ℕ) (t : Bool) (o : Option ℕ) → t ≡ true → chosen t i o ≡ Some i
+this i t o h = ap (λ b. chosen b i o) h ∙ ap Some (omega arith)
+
+-- another member has this number
+pub another : (ms : List StructMember) (x : Name) (i : ℕ) (m : StructMember) → i < length ms → m ≡ get_or ms i m → bytes_eq m.name.now x ≡ false → number_from i (drop i ms) x ≡ number_from (i + 1) (drop (i + 1) ms) x
+another ms x i m h q e = ap (λ l. number_from i l x) (at_place ms i m h q) ∙ not_this i (bytes_eq m.name.now x) (number_among (names (drop (i + 1) ms)) x) e
+
+-- the member with this number has the name
+pub this_one : (ms : List StructMember) (x : Name) (i : ℕ) (m : StructMember) → i < length ms → m ≡ get_or ms i m → bytes_eq m.name.now x ≡ true → number_from i (drop i ms) x ≡ Some i
+this_one ms x i m h q e = ap (λ l. number_from i l x) (at_place ms i m h q) ∙ this i (bytes_eq m.name.now x) (number_among (names (drop (i + 1) ms)) x) e
+
+pub no_more : (ms : List StructMember) (x : Name) (i : ℕ) → length ms ≤ i → number_from i (drop i ms) x ≡ None
+no_more ms x i h = ap (λ l. number_from i l x) (drop_all i ms h)

@@ -1,0 +1,3 @@
+pub mod EnvironmentLemmas
+pub mod MainLemmas
+pub mod StringLemmas

@@ -1,0 +1,13 @@
+pub mod ListLemmas
+pub mod Rows
+pub mod RoomLemmas
+pub mod Ended
+pub mod StmtLemmas
+pub mod DeclLemmas
+pub mod ItemLemmas
+pub mod UnitLemmas
+pub mod Classes
+pub mod Firsts
+pub mod StmtStops
+pub mod LoopStops
+pub mod DeclStops

@@ -1,0 +1,34 @@
+use Rattle.std.proofs.Common.{ap, length, arith}
+use Rattle.c_refusals.specs.Phrases.{any}
+use Rattle.c_parser.proofs.StmtStops.{raised, ends_at, no_head, first_fails, test_fails, step_fails}
+use Rattle.c_parser.proofs.StmtLemmas.{head_is}
+use Rattle.c_parser.proofs.statements.for_head.Goals as goal
+
+pub returns-clause-reads : goal.returns-clause-reads
+returns-clause-reads c =
+    let o = c.if-not-take.ensures in
+    head_is c.in_ok-boxed.ensures.ok
+    (record {
+      left = _;
+      inside = _;
+      after_first = _;
+      after_test = _;
+      stood = o.2;
+      opens = o.1;
+      first = c.in_ok-first.ensures.reads;
+      test = c.in_ok-test.ensures.reads;
+      step = c.in_ok-step.ensures.reads;
+    })
+
+pub returns-then-not-take-clause-stops : goal.returns-then-not-take-clause-stops
+returns-then-not-take-clause-stops c = let n = c.if-not-take.ensures in ends_at n.1 (no_head any _ n.0)
+
+pub returns-in_err-first-clause-stops : goal.returns-in_err-first-clause-stops
+returns-in_err-first-clause-stops c = raised c.from_residual-in_err-first.result c.in_err-first.field-0.0 c.from_residual-in_err-first.ensures (λ x r f. first_fails x c.if-not-take.ensures.2 f) c.in_err-first.ensures.stops
+
+pub returns-in_err-test-clause-stops : goal.returns-in_err-test-clause-stops
+returns-in_err-test-clause-stops c = raised c.from_residual-in_err-test.result c.in_err-test.field-0.0 c.from_residual-in_err-test.ensures (λ x r f. test_fails x c.if-not-take.ensures.2 c.in_ok-first.ensures.reads f) c.in_err-test.ensures.stops
+
+pub returns-in_err-step-clause-stops : goal.returns-in_err-step-clause-stops
+returns-in_err-step-clause-stops c =
+    raised c.from_residual-in_err-step.result c.in_err-step.field-0.0 c.from_residual-in_err-step.ensures (λ x r f. step_fails x c.if-not-take.ensures.2 c.in_ok-first.ensures.reads c.in_ok-test.ensures.reads f) c.in_err-step.ensures.stops
