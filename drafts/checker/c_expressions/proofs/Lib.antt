@@ -1,4 +1,0 @@
-pub mod Exits
-pub mod Loops
-pub mod Nodes
-pub mod Trees

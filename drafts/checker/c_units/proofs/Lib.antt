@@ -1,3 +1,0 @@
-pub mod EnvironmentLemmas
-pub mod MainLemmas
-pub mod StringLemmas
