@@ -130,6 +130,7 @@ i = name (codes "i")
 --   i = (v(&a), g(f(2)));
 --   (void) f(1);
 --   g(g(1)) ? f(0) : f(1);
+--   &*pick();
 --   return pick()(i);
 -- }
 abbrev pub every_place : Items
@@ -153,6 +154,7 @@ every_place = items_of (
     ∷ doing (becomes i (commas (v_of_a ∷ call_of (codes "g") (f_of (int 2) ∷ []) ∷ [])))
     ∷ doing (cast 0 (type_name 0 syntax.void nothing) (f_of (int 1)))
     ∷ doing (conditional 0 (call_of (codes "g") (call_of (codes "g") (int 1 ∷ []) ∷ [])) (f_of (int 0)) (f_of (int 1)))
+    ∷ doing (address (unary 0 punctuators.ASTERISK (call_of (codes "pick") [])))
     ∷ returns (call 0 (call_of (codes "pick") []) (exprs (i ∷ [])))
     ∷ [])))))
     ∷ [])

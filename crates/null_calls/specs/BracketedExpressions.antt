@@ -1,6 +1,6 @@
 -- Expressions with null calls round their marked calls. Sites are numbered as the rules number them: that of a call is the number of
 -- calls whose opening parentheses stand before its own.
-use Rattle.std.specs.Prelude.{ℕ, suc, ◌+◌, Bool, true, false, List, [], ◌++◌, Option, None, Some, if◌then◌else◌}
+use Rattle.std.specs.Prelude.{ℕ, suc, ◌+◌, nat_eq, Bool, true, false, ◌&&◌, List, [], ◌++◌, Option, None, Some, if◌then◌else◌}
 use Rattle.c_lexer.specs.declared.punctuator.TheConstants as punctuators
 use Rattle.c_tree.specs.Tree.{CType}
 use Rattle.c_syntax.specs.Tree.{Expr, a_name, an_int, a_char, a_str, comma, sizeof_type, cast, call, member, postfix, prefix, unary, index, binary, assign, conditional, Exprs, no_exprs, more_exprs, Maybe, absent, there}
@@ -14,6 +14,10 @@ use Rattle.null_calls.specs.Temporaries.{pre_name, post_name, designator_name, a
 abbrev pub is_void_type : TypeName → Bool
 is_void_type (type_name at void nothing) = true
 is_void_type t = false
+
+-- `& * e`, which is e, as if neither operator stood there (6.5.3.2 paragraph 3)
+abbrev pub is_address_of_indirection : (op inner : ℕ) → Bool
+is_address_of_indirection op inner = nat_eq op punctuators.AMPERSAND && nat_eq inner punctuators.ASTERISK
 
 -- ## A marked call
 
@@ -66,7 +70,8 @@ call_where at site wanted (Some c) d es = marked_call at site wanted c d es
 -- ## Expressions
 
 -- An expression before which so many calls stand in the unit, and whether its value is wanted: that of a member of a comma expression
--- but the last is not, nor that of the operand of a cast to void. An operand of sizeof isn't evaluated, and stays.
+-- but the last is not, nor that of the operand of a cast to void, nor that of e in `& * e` where that of the whole is not: both
+-- operators are left out there. An operand of sizeof isn't evaluated, and stays.
 module _ (sites : Sites) where
   abbrev mutual
     pub expr : (before : ℕ) → (wanted : Bool) → Expr → Expr
@@ -82,6 +87,8 @@ module _ (sites : Sites) where
     expr b wanted (member at how e x) = member at how (expr b true e) x
     expr b wanted (postfix at op e) = postfix at op (expr b true e)
     expr b wanted (prefix at op e) = prefix at op (unless_sizeof op (expr b true e) e)
+    expr b false (unary at op (unary place inner e)) =
+        if is_address_of_indirection op inner then expr b false e else unary at op (unary place inner (expr b true e))
     expr b wanted (unary at op e) = unary at op (expr b true e)
     expr b wanted (index at e f) = index at (expr b true e) (expr (b + calls e) true f)
     expr b wanted (binary at op e f) = binary at op (expr b true e) (expr (b + calls e) true f)
@@ -118,6 +125,7 @@ module _ (sites : Sites) where
     kept b wanted (member at how e x) = kept b true e
     kept b wanted (postfix at op e) = kept b true e
     kept b wanted (prefix at op e) = unless_sizeof op (kept b true e) []
+    kept b false (unary at op (unary place inner e)) = if is_address_of_indirection op inner then kept b false e else kept b true e
     kept b wanted (unary at op e) = kept b true e
     kept b wanted (index at e f) = kept b true e ++ kept (b + calls e) true f
     kept b wanted (binary at op e f) = kept b true e ++ kept (b + calls e) true f
