@@ -2,6 +2,7 @@ ghost use Rattle.std.specs.Prelude.{◌≡◌, ℕ, List};
 ghost use Rattle.dm_base.specs.declared.mode.Mode.{Mode};
 ghost use Rattle.dm_base.specs.declared.mode.Mode.TheVariants.{Plain, Instrumented};
 ghost use Rattle.c_tree.specs.Tree.{Program};
+ghost use Rattle.c_tree.specs.Program.{IsProgram};
 ghost use Rattle.c_rules.specs.Accepted.{IsAccepted};
 ghost use Rattle.typed_units.specs.WellTyped.{PartsAreRight};
 ghost use Rattle.c_meaning.specs.WithoutNullCalls.{MakesNoNullCall};
@@ -12,6 +13,7 @@ use c_rules::{
     a_unit_types_one_program,
 };
 use c_syntax::a_list_of_tokens_has_one_unit;
+use typed_programs::a_typed_unit_is_a_program;
 use typed_units::{a_spelled_unit_is_lexical, units_are_well_typed};
 
 /// A law on texts: a text is accepted as one program at most in a mode.
@@ -45,4 +47,12 @@ pub fn accepted_texts_are_well_typed()
 {
     a_spelled_unit_is_lexical();
     units_are_well_typed();
+}
+
+/// A law on texts: a program that is accepted is well-typed, with some number of call expressions.
+pub fn accepted_texts_are_programs()
+    ensures { (text : List ℕ) (m : Mode) (p : Program) → IsAccepted text m p → (n : ℕ) × IsProgram p n }
+{
+    a_spelled_unit_is_lexical();
+    a_typed_unit_is_a_program();
 }

@@ -6,5 +6,5 @@ mod laws;
 
 pub use laws::{
     a_plain_text_is_accepted_in_both_modes, a_plain_text_makes_no_null_call,
-    a_text_is_accepted_as_one_program, accepted_texts_are_well_typed,
+    a_text_is_accepted_as_one_program, accepted_texts_are_programs, accepted_texts_are_well_typed,
 };
