@@ -1,0 +1,5 @@
+pub mod EnvironmentLemmas
+pub mod MainLemmas
+pub mod ProgramLemmas
+pub mod StringLemmas
+pub mod StructLemmas
