@@ -1,0 +1,55 @@
+-- An expression with null calls round its marked calls beside the plain one: it gives the same with the bracketed tree.
+use Rattle.std.specs.Prelude.{◌≡◌, ℕ, false, true, List, [], ◌∷◌}
+use Rattle.c_tree.specs.Tree.{CType, Program}
+use Rattle.c_syntax.specs.Tree.{Expr, call, comma, Exprs, no_exprs, more_exprs}
+use Rattle.c_rules.specs.Checked.{Checked, fine, faulty}
+use Rattle.c_rules.specs.Scopes.{Env, Before}
+use Rattle.c_rules.specs.Given.{Given, tree_of}
+use Rattle.c_rules.specs.Expressions.{tree, value}
+use Rattle.null_calls.specs.MarkedCalls.{Sites}
+use Rattle.null_calls.specs.Temporaries.{Temporary}
+use Rattle.null_calls.specs.BracketedExpressions.{expr, kept}
+use Rattle.null_calls.specs.BracketedPrograms as brackets
+use Rattle.null_calls.specs.WithoutSites.{unsited}
+use Rattle.bracketed_scopes.specs.Beside.{More, plain_scope, instrumented_scope, AreUnreserved, MeanAlike}
+use Rattle.bracketed_rules.specs.Remade.{Follows}
+use Rattle.bracketed_counts.specs.Counts.{AreNamed, Near}
+use Rattle.bracketed_expressions.specs.Tabled.{IsPlainlyUnused, AreTabled, AreFound}
+
+-- the types of temporaries
+abbrev pub types_of : List Temporary → List CType
+types_of [] = []
+types_of (x ∷ xs) = x.ctype ∷ types_of xs
+
+-- where a value isn't wanted, only the trees agree
+abbrev pub UnusedFollows : Program → (k : ℕ) → List CType → Checked Given → Checked Given → Type 0
+UnusedFollows p k ts (fine g) s = (h : Given) × (s ≡ fine h) × (brackets.kept p false (tree_of g) ≡ ts) × (unsited (tree_of h) ≡ brackets.expr p k false (tree_of g))
+UnusedFollows p k ts (faulty f fs) s = Unit {0}
+
+module _ (p : Program) (sites : Sites) (env : Env) (w : More) where
+  -- an expression whose value is wanted
+  abbrev pub ExprFollows : Expr → Type 0
+  ExprFollows x =
+      (b b' : Before) (k : ℕ) → AreNamed sites b.sites x → AreTabled p sites (plain_scope env) b x → AreFound w.names k (kept sites b.sites true x) → Near b b' → Follows p k (types_of (kept sites b.sites true x)) (tree (plain_scope env) b x) (tree (instrumented_scope env w) b' (expr sites b.sites true x))
+
+  -- one whose value isn't
+  abbrev pub UnusedExprFollows : Expr → Type 0
+  UnusedExprFollows x =
+      IsPlainlyUnused x → (b b' : Before) (k : ℕ) → AreNamed sites b.sites x → AreTabled p sites (plain_scope env) b x → AreFound w.names k (kept sites b.sites false x) → Near b b' → UnusedFollows p k (types_of (kept sites b.sites false x)) (value (plain_scope env) b x) (value (instrumented_scope env w) b' (expr sites b.sites false x))
+
+  pub record Goes (x : Expr) : Type 0 where
+    pub wanted : ExprFollows x
+    pub unused : UnusedExprFollows x
+
+  abbrev pub AllGo : Exprs → Type 0
+  AllGo no_exprs = Unit {0}
+  AllGo (more_exprs e es) = Goes e × AllGo es
+
+  -- calls and commas do, where their parts do
+  pub record CallsGo : Type 0 where
+    pub calls : (at : ℕ) (d : Expr) (es : Exprs) → Goes d → AllGo es → Goes (call at d es)
+    pub commas : (at : ℕ) (es : Exprs) → AllGo es → Goes (comma at es)
+
+-- every expression does where calls and commas do
+abbrev pub ExpressionsGo : Type 0
+ExpressionsGo = (p : Program) (sites : Sites) (env : Env) (w : More) → AreUnreserved env.names → MeanAlike env.names w.names → CallsGo p sites env w → (x : Expr) → Goes p sites env w x

@@ -1,0 +1,5 @@
+pub mod All
+pub mod Binary
+pub mod Constants
+pub mod Operands
+pub mod Unary
