@@ -1,4 +1,4 @@
--- Every expression goes where calls and commas do.
+-- Every expression goes where calls do.
 use Rattle.std.proofs.Common.{◌≡◌, ℕ, Bool, true, false, if◌then◌else◌, List, [], refl, ap, sym, subst, ◌∙◌}
 use Rattle.c_tree.specs.Tree.{CType, void, discard, Program}
 use Rattle.c_syntax.specs.Tree.{Expr, a_name, an_int, a_char, a_str, comma, sizeof_type, cast, call, member, postfix, prefix, unary, index, binary, assign, conditional, Exprs, no_exprs, more_exprs, TypeName}
@@ -23,6 +23,7 @@ use Rattle.bracketed_expressions.specs.Follow.{types_of, UnusedFollows, ExprFoll
 use Rattle.bracketed_expressions.proofs.Leaves.{Holds}
 use Rattle.bracketed_expressions.proofs.Types.{IsThing, void_named, thing_named}
 use Rattle.bracketed_expressions.proofs.Solid.{strong_firm, cast_strong}
+use Rattle.bracketed_expressions.proofs.Commas.{comma_goes}
 use Rattle.bracketed_expressions.proofs.Forms.{value_goes, unused_goes, name_goes, int_goes, char_goes, string_goes, size_type_goes, prefix_goes, postfix_goes, member_goes, unary_goes, index_goes, binary_goes, assign_goes, choice_goes}
 
 -- ## Casts
@@ -76,17 +77,17 @@ module _ (p : Program) (sites : Sites) (env : Env) (w : More) (plain : AreUnrese
 
   -- ## All forms
 
-  module _ (hard : CallsGo p sites env w) where
+  module _ (calls_go : CallsGo p sites env w) where
     mutual
       goes : (x : Expr) → Goes p sites env w x
       goes (a_name at y) = name_goes p sites env w plain alike at y
       goes (an_int at n u) = int_goes p sites env w plain alike at n u
       goes (a_char at c) = char_goes p sites env w plain alike at c
       goes (a_str at text) = string_goes p sites env w plain alike at text
-      goes (comma at es) = hard.commas at es (all_go es)
+      goes (comma at es) = comma_goes p sites env w at es (all_go es)
       goes (sizeof_type at t) = size_type_goes p sites env w plain alike at t
       goes (cast at t e) = cast_goes at t e (goes e)
-      goes (call at d es) = hard.calls at d es (goes d) (all_go es)
+      goes (call at d es) = calls_go at d es (goes d) (all_go es)
       goes (member at how e y) = member_goes p sites env w plain alike at how e y (goes e)
       goes (postfix at o e) = postfix_goes p sites env w plain alike at o e (goes e)
       goes (prefix at o e) = prefix_goes p sites env w plain alike at o e (goes e)
@@ -101,4 +102,4 @@ module _ (p : Program) (sites : Sites) (env : Env) (w : More) (plain : AreUnrese
       all_go (more_exprs e es) = (goes e, all_go es)
 
 pub expressions_go : ExpressionsGo
-expressions_go p sites env w plain alike hard x = goes p sites env w plain alike hard x
+expressions_go p sites env w plain alike calls_go x = goes p sites env w plain alike calls_go x

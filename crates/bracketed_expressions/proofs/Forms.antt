@@ -1,4 +1,4 @@
--- The forms of expressions but calls and commas: where their parts go, they do.
+-- The forms of expressions but casts, calls and commas: where their parts go, they do.
 use Rattle.std.proofs.Common.{◌≡◌, ℕ, suc, ◌+◌, ℤ, Bool, true, false, if◌then◌else◌, List, [], ◌∷◌, ◌++◌, length, Option, Some, None, refl, ap, ap₂, sym, subst, ◌∙◌, arith}
 use Rattle.c_lexer.specs.declared.punctuator.TheConstants.{AMPERSAND, ASTERISK}
 use Rattle.c_tree.specs.declared.value.BinOp.{BinOp}

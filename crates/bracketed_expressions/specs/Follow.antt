@@ -1,7 +1,7 @@
 -- An expression with null calls round its marked calls beside the plain one: it gives the same with the bracketed tree.
 use Rattle.std.specs.Prelude.{◌≡◌, ℕ, false, true, List, [], ◌∷◌}
 use Rattle.c_tree.specs.Tree.{CType, Program}
-use Rattle.c_syntax.specs.Tree.{Expr, call, comma, Exprs, no_exprs, more_exprs}
+use Rattle.c_syntax.specs.Tree.{Expr, call, Exprs, no_exprs, more_exprs}
 use Rattle.c_rules.specs.Checked.{Checked, fine, faulty}
 use Rattle.c_rules.specs.Scopes.{Env, Before}
 use Rattle.c_rules.specs.Given.{Given, tree_of}
@@ -45,11 +45,10 @@ module _ (p : Program) (sites : Sites) (env : Env) (w : More) where
   AllGo no_exprs = Unit {0}
   AllGo (more_exprs e es) = Goes e × AllGo es
 
-  -- calls and commas do, where their parts do
-  pub record CallsGo : Type 0 where
-    pub calls : (at : ℕ) (d : Expr) (es : Exprs) → Goes d → AllGo es → Goes (call at d es)
-    pub commas : (at : ℕ) (es : Exprs) → AllGo es → Goes (comma at es)
+  -- a call does, where its designator and its arguments do
+  abbrev pub CallsGo : Type 0
+  CallsGo = (at : ℕ) (d : Expr) (es : Exprs) → Goes d → AllGo es → Goes (call at d es)
 
--- every expression does where calls and commas do
+-- every expression does where calls do
 abbrev pub ExpressionsGo : Type 0
 ExpressionsGo = (p : Program) (sites : Sites) (env : Env) (w : More) → AreUnreserved env.names → MeanAlike env.names w.names → CallsGo p sites env w → (x : Expr) → Goes p sites env w x
