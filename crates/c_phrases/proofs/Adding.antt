@@ -6,6 +6,7 @@ use Rattle.c_syntax.specs.Tree.{Ident, Access, Postfix, Expr, Exprs, no_exprs, c
 use Rattle.c_syntax.specs.Tokens.{Is, IsAccess, IsPostfix, place}
 use Rattle.c_syntax.specs.Specifiers.{Names}
 use Rattle.c_syntax.specs.Grammar.{primary_level, postfix_level, conditional_level, expression_level, Reads, with_suffixes, ReadsList, Suffixes, no_suffix, an_index, an_empty_call, a_call, a_member, a_postfix, ReadsSize, no_size, a_size, Declares, a_direct, ReadsCore, Lengthens, no_more, an_array, a_function, ReadsParams}
+use Rattle.c_syntax.proofs.Precedence.{Stops}
 use Rattle.c_phrases.specs.declared.looking.Suffix.{Suffix}
 use Rattle.c_phrases.specs.Looking.{IsSuffix}
 
@@ -47,20 +48,20 @@ suffix_is t q h = let P : Suffix → Type 0 = λ x. IsSuffix x t in subst P q h
 -- an operand, and the suffixes that were read of it, with one more
 pub suffix_more :
     {d at : ℕ} {b w : Expr} {t : Token} {s i m n : List Token}
-    → ((a : Expr) × (j : List Token) × Reads d primary_level a s j × ((e : Expr) (k : List Token) → Suffixes d at b e i k → Suffixes d at a e j k))
+    → ((a : Expr) × (j : List Token) × Reads d primary_level a s j × Stops primary_level j × ((e : Expr) (k : List Token) → Suffixes d at b e i k → Suffixes d at a e j k))
     → i ≡ t ∷ m
     → ((e : Expr) (k : List Token) → Suffixes d at w e n k → Suffixes d at b e (t ∷ m) k)
-    → (a : Expr) × (j : List Token) × Reads d primary_level a s j × ((e : Expr) (k : List Token) → Suffixes d at w e n k → Suffixes d at a e j k)
+    → (a : Expr) × (j : List Token) × Reads d primary_level a s j × Stops primary_level j × ((e : Expr) (k : List Token) → Suffixes d at w e n k → Suffixes d at a e j k)
 suffix_more {d} {at} {b} {w} {t} {s} {i} {m} {n} h q f =
-    (h.0, h.1, h.2, λ e k z. let P : List Token → Type 0 = λ y. Suffixes d at b e y k in h.3 e k (subst P (sym q) (f e k z)))
+    (h.0, h.1, h.2, h.3, λ e k z. let P : List Token → Type 0 = λ y. Suffixes d at b e y k in h.4 e k (subst P (sym q) (f e k z)))
 
 -- an operand with each suffix that was read
 pub suffixes_read :
     {d at : ℕ} {b : Expr} {s i : List Token}
     → at ≡ place s
-    → ((a : Expr) × (j : List Token) × Reads d primary_level a s j × ((e : Expr) (k : List Token) → Suffixes d at b e i k → Suffixes d at a e j k))
+    → ((a : Expr) × (j : List Token) × Reads d primary_level a s j × Stops primary_level j × ((e : Expr) (k : List Token) → Suffixes d at b e i k → Suffixes d at a e j k))
     → Reads d postfix_level b s i
-suffixes_read p h = with_suffixes p h.2 (h.3 _ _ no_suffix)
+suffixes_read p h = with_suffixes p h.2 (h.4 _ _ no_suffix)
 
 pub array_adds : {d x at : ℕ} {a w e : Declarator} {size : Maybe} {t u : Token} {i j k m n : List Token} → x ≡ d → Is LEFT_BRACKET t → i ≡ t ∷ j → ReadsSize x size j k → Is RIGHT_BRACKET u → k ≡ u ∷ m → w ≡ array at a size → Lengthens d at w e m n → Lengthens d at a e i n
 array_adds {d} {x} {at} {a} {w} {e} {size} {t} {u} {i} {j} {k} {m} {n} p h q r c y v s =

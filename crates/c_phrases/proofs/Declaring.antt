@@ -11,7 +11,7 @@ use Rattle.c_syntax.specs.declared.tree.DeclaratorKind.{DeclaratorKind, Pointer'
 use Rattle.c_syntax.specs.declared.tree.DeclaratorKind.{Name as Declared}
 use Rattle.c_syntax.specs.Tree.{Spec, Declarator, nothing, named, pointer, Params, no_params, more_params}
 use Rattle.c_syntax.specs.Tokens.{Is, place}
-use Rattle.c_syntax.specs.Specifiers.{Consts, ReadsSpec}
+use Rattle.c_syntax.specs.Specifiers.{Consts}
 use Rattle.c_syntax.specs.Limits.{height_of_params}
 use Rattle.c_syntax.specs.Grammar.{HasName, IsThere, AreSome, Declares, a_pointer, a_direct, ReadsCore, a_declared, declarator_in_parentheses, no_core, Lengthens, no_more, an_array, a_function, ReadsParams, are_some, ReadsEach}
 use Rattle.c_syntax.specs.View.{ident_of, param_before, declarator_at, declarator_of}
@@ -22,9 +22,9 @@ use Rattle.c_syntax.proofs.FrameGrammar.{declares_on}
 use Rattle.c_phrases.specs.declared.room.Room.{Room}
 use Rattle.c_phrases.specs.declared.depth.MeasuredDeclarator.{MeasuredDeclarator}
 use Rattle.c_phrases.specs.declared.form.Form.{Form}
-use Rattle.c_phrases.specs.declared.form.Form.TheVariants.{Named, Abstract}
+use Rattle.c_phrases.specs.declared.form.Form.TheVariants.{Named, Abstract, Either}
 use Rattle.c_phrases.specs.Making.{inner_of, IsVoidAlone}
-use Rattle.c_phrases.specs.Phrases.{HasDeclarator}
+use Rattle.c_phrases.specs.Phrases.{HasSpec, HasDeclarator}
 use Rattle.c_phrases.specs.Standing.{IsAt, TookName}
 use Rattle.c_phrases.specs.Reading.{Suits, IsParam}
 use Rattle.c_phrases.proofs.Exits.{taken_at, suits_pointer, suits_name, suits_nothing, suits_made, pointer_read, named_read, brackets_read}
@@ -80,7 +80,7 @@ brackets_made {i = i} {j = j} form q l h r s there u =
 -- a parameter that was read
 pub param_made :
     {d at : ℕ} {s : Spec} {e : Declarator} {i k j : List Token} (p : ParamTree) (v : Bool)
-    → at ≡ place i → ReadsSpec s i k → Declares d e k j → ((rest : Params) → param_before p rest ≡ more_params at s e rest) → IsVoidAlone v s e → IsParam d p v i j
+    → at ≡ place i → HasSpec s i k → Declares d e k j × EndsDeclarator j × Suits Either e → ((rest : Params) → param_before p rest ≡ more_params at s e rest) → IsVoidAlone v s e → IsParam d p v i j
 param_made {at = at} {s = s} {e = e} {k = k} p true b r c same alone = record {
   at = at;
   spec = s;
@@ -88,8 +88,10 @@ param_made {at = at} {s = s} {e = e} {k = k} p true b r c same alone = record {
   between = k;
   same = same;
   begins = b;
-  specified = r;
-  declared = c;
+  specified = r.reads;
+  spec_ends = r.ends;
+  declared = c.0;
+  ends = c.1;
   alone = λ _. alone;
   other = λ q. absurd (let t : true ≡ false = q in cc);
 }
@@ -100,8 +102,10 @@ param_made {at = at} {s = s} {e = e} {k = k} p false b r c same alone = record {
   between = k;
   same = same;
   begins = b;
-  specified = r;
-  declared = c;
+  specified = r.reads;
+  spec_ends = r.ends;
+  declared = c.0;
+  ends = c.1;
   alone = λ q. absurd (let t : false ≡ true = q in cc);
   other = λ _. alone at;
 }

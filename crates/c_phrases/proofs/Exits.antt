@@ -69,7 +69,7 @@ comma_read p r s h (next_expr w c b) z = a_comma p w c b
 -- what is no cast is a unary expression
 pub uncast : {d : ℕ} {e : Expr} {i j : List Token} → Reads d cast_level e i j → (IsAtCast i → ⊥) → Reads d unary_level e i j
 uncast (no_cast r) f = r
-uncast (a_cast o n c r) f = absurd (f (o, record { low = (type_begins n).0; high = (type_begins n).1 }))
+uncast (a_cast o n c r) f = absurd (f (o, (type_begins n).0))
 
 pub assign_read : {d x at op : ℕ} {a b : Expr} {t : Token} {i j k m : List Token} → x ≡ d → at ≡ place i → Reads d cast_level a i j → (IsAtCast i → ⊥) → j ≡ t ∷ k → Is op t → IsAssignment op → Reads x assignment_level b k m → Reads d assignment_level (assign at op a b) i m
 assign_read x p r f q o h v = an_assignment p (uncast (ended q r) f) o h (paired x v)

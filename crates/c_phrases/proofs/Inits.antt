@@ -134,7 +134,7 @@ grown_low {n} xs x q a b =
     subst P (sym q) (omega (arith, a, b, inits_height xs x))
 
 -- a comma was taken
-pub goes : {i j : List Token} (b : Bool) → b ≡ true → GoesOn (Ok b) i j → (c : Token) × Is COMMA c × (i ≡ c ∷ j)
+pub goes : {i j : List Token} (b : Bool) → b ≡ true → GoesOn (Ok b) i j → (c : Token) × Is COMMA c × (i ≡ c ∷ j) × (IsAt RIGHT_BRACE j → ⊥)
 goes true e h = h
 goes false e h = absurd (let q : false ≡ true = e in cc)
 

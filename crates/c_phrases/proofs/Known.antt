@@ -238,3 +238,15 @@ empty_rank (t ∷ i) h = absurd (omega (arith, h))
 
 pub rank_at : {code : ℕ} {t : Token} {i j : List Token} → i ≡ t ∷ j → t.kind ≡ Punct code → rank i ≡ rank_of_code code
 rank_at {t = t} q e = ap rank q ∙ punct_rank t.kind e
+
+-- no punctuator continues strings
+class_ranks : {code : ℕ} → Class code → 1 ≤ rank_of_code code
+class_ranks (mark e m) = omega (arith, e)
+class_ranks (infixed n e l h i c) = omega (arith, e)
+class_ranks (question e c) = omega (arith, e)
+class_ranks (assigned e a) = omega (arith, e)
+class_ranks (comma e c) = omega (arith, e)
+class_ranks (other e) = omega (arith, e)
+
+pub code_ranks : (code : ℕ) → 1 ≤ rank_of_code code
+code_ranks code = class_ranks (class_of code)

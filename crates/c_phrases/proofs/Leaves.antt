@@ -1,6 +1,6 @@
 -- Names, constants and strings: what is read of them.
-use Rattle.std.proofs.Common.{◌≡◌, ℕ, Bool, List, ◌∷◌, refl, sym, ap, ◌∙◌}
-use Rattle.std.specs.Prelude.{ℤ, Result, Ok, Err}
+use Rattle.std.proofs.Common.{◌≡◌, ℕ, Bool, List, ◌∷◌, refl, sym, ap, ◌∙◌, subst}
+use Rattle.std.specs.Prelude.{ℤ}
 use Rattle.c_lexer.specs.declared.token.Token.{Token}
 use Rattle.c_lexer.specs.declared.token.TokenKind.TheVariants.{Name, Int, Char, Str}
 use Rattle.c_syntax.specs.Tree.{Expr, a_name, an_int, a_char, a_str}
@@ -8,13 +8,10 @@ use Rattle.c_syntax.specs.Tokens.{IsStr}
 use Rattle.c_syntax.specs.Grammar.{primary_level, Reads, is_name, are_strings, ReadsStrings}
 use Rattle.c_syntax.specs.Grammar.Reads.{is_int as int_stands, is_char as char_stands}
 use Rattle.c_phrases.specs.declared.depth.MeasuredExpr.{MeasuredExpr}
-use Rattle.c_phrases.specs.declared.error.PhraseError.{PhraseError}
-use Rattle.c_phrases.specs.Making.{Makes}
-use Rattle.c_phrases.specs.Reading.{ParsesLeaf}
+use Rattle.c_phrases.specs.Making.{tree_of}
 
-pub leaf_read : {tree : Expr} {i j : List Token} (r : Result MeasuredExpr PhraseError) → Makes r tree → ((d : ℕ) → Reads d primary_level tree i j) → ParsesLeaf r i j
-leaf_read {tree} {i} {j} (Ok m) h f = λ d. rw h (f d)
-leaf_read (Err e) h f = tt
+pub leaf_made : {tree : Expr} {i j : List Token} (m : MeasuredExpr) → tree_of m ≡ tree → ((d : ℕ) → Reads d primary_level tree i j) → (d : ℕ) → Reads d primary_level (tree_of m) i j
+leaf_made {i = i} {j = j} m h f d = let P : Expr → Type 0 = λ z. Reads d primary_level z i j in subst P (sym h) (f d)
 
 pub name_read : {name : List ℕ} {t : Token} {i j : List Token} → i ≡ t ∷ j → t.kind ≡ Name name → (d : ℕ) → Reads d primary_level (a_name t.from name) i j
 name_read q k d = rw q (is_name (record { kind = k }))

@@ -4,8 +4,15 @@ pub mod Exits
 pub mod Growing
 pub mod Inits
 pub mod Known
+pub mod Lacking
 pub mod Leaves
 pub mod Lists
 pub mod Made
+pub mod Raising
+pub mod Refusals
+pub mod RefusalsOfDeclarators
+pub mod RefusalsOfLists
+pub mod RefusalsOfSpecifiers
 pub mod Rows
+pub mod Starts
 pub mod Words

@@ -1,5 +1,5 @@
 -- The words of specifiers, and strings side by side: what is taken one by one.
-use Rattle.std.proofs.Common.{◌≡◌, ℕ, Bool, true, false, List, ◌∷◌, ap, sym, length, ◌<◌, arith}
+use Rattle.std.proofs.Common.{◌≡◌, ℕ, Bool, true, false, List, ◌∷◌, ap, sym, length, ◌<◌, ◌≤◌, arith}
 use Rattle.std.specs.Prelude.{Ok}
 use Rattle.c_lexer.specs.declared.token.Token.{Token}
 use Rattle.c_lexer.specs.declared.keyword.TheConstants.{CONST, ENUM, INT, SIGNED, STRUCT, UNSIGNED}
@@ -9,6 +9,7 @@ use Rattle.c_syntax.specs.Tokens.{IsKeyword, IsStr}
 use Rattle.c_syntax.specs.Specifiers.{Consts, a_const, ReadsSpec, is_signed, is_signed_int, is_unsigned, is_unsigned_int, is_struct, is_enum}
 use Rattle.c_syntax.specs.Grammar.{ReadsStrings}
 use Rattle.c_syntax.specs.View.{ident_of}
+use Rattle.c_syntax.proofs.Precedence.{rank}
 use Rattle.c_phrases.specs.Standing.{TookKeyword, TookName, TookString}
 use Rattle.c_phrases.proofs.Growing.{consts_join, strings_more}
 
@@ -51,3 +52,8 @@ string_added false e took r t h = absurd (let q : false ≡ true = e in cc)
 pub string_shorter : (a b : List ℕ) (i j : List Token) (taken : Bool) → taken ≡ true → TookString (Ok taken) a b i j → length j < length i
 string_shorter a b i j true e took = omega (arith, ap length took.3)
 string_shorter a b i j false e took = absurd (let q : false ≡ true = e in cc)
+
+-- no string is left
+pub string_ended : (a b : List ℕ) (i j : List Token) (taken : Bool) → taken ≡ false → TookString (Ok taken) a b i j → 1 ≤ rank j
+string_ended a b i j true e took = absurd (let q : true ≡ false = e in cc)
+string_ended a b i j false e took = omega (arith, took.2, ap rank took.1)

@@ -8,8 +8,7 @@ use Rattle.c_syntax.specs.Tree.{Expr, Exprs, Maybe, Spec, void, Declarator, noth
 use Rattle.c_syntax.specs.Grammar.{AreSome}
 use Rattle.c_syntax.specs.View.{expr_at, expr_of, declarator_of}
 use Rattle.c_syntax.specs.Writes.{exprs_of, params_of, declarator_behind, expr_behind}
-use Rattle.c_phrases.specs.declared.error.PhraseError.{PhraseError}
-use Rattle.c_phrases.specs.declared.error.PhraseError.TheVariants.{OutOfMemory, Syntax, Nesting}
+use Rattle.dm_base.specs.declared.memory.OutOfMemory.{OutOfMemory}
 use Rattle.c_phrases.specs.declared.depth.MeasuredExpr.{MeasuredExpr}
 use Rattle.c_phrases.specs.declared.depth.MeasuredExprs.{MeasuredExprs}
 use Rattle.c_phrases.specs.declared.depth.MeasuredSize.{MeasuredSize}
@@ -34,29 +33,21 @@ inner_of m = declarator_behind m.tree
 abbrev pub list_of : MeasuredParams → Params
 list_of m = params_of m.params.items
 
-abbrev pub Boxes : Result (Box ExprTree Global) PhraseError → Expr → Type 0
+abbrev pub Boxes : Result (Box ExprTree Global) OutOfMemory → Expr → Type 0
 Boxes (Ok b) tree = expr_of b.value ≡ tree
-Boxes (Err OutOfMemory) tree = Unit {0}
-Boxes (Err Syntax) tree = ⊥
-Boxes (Err (Nesting at)) tree = ⊥
+Boxes (Err e) tree = Unit {0}
 
-abbrev pub BoxesDeclarator : Result (Box DeclaratorTree Global) PhraseError → Declarator → Type 0
+abbrev pub BoxesDeclarator : Result (Box DeclaratorTree Global) OutOfMemory → Declarator → Type 0
 BoxesDeclarator (Ok b) tree = declarator_of b.value ≡ tree
-BoxesDeclarator (Err OutOfMemory) tree = Unit {0}
-BoxesDeclarator (Err Syntax) tree = ⊥
-BoxesDeclarator (Err (Nesting at)) tree = ⊥
+BoxesDeclarator (Err e) tree = Unit {0}
 
-abbrev pub Makes : Result MeasuredExpr PhraseError → Expr → Type 0
+abbrev pub Makes : Result MeasuredExpr OutOfMemory → Expr → Type 0
 Makes (Ok m) tree = tree_of m ≡ tree
-Makes (Err OutOfMemory) tree = Unit {0}
-Makes (Err Syntax) tree = ⊥
-Makes (Err (Nesting at)) tree = ⊥
+Makes (Err e) tree = Unit {0}
 
-abbrev pub MakesDeclarator : Result MeasuredDeclarator PhraseError → Declarator → Type 0
+abbrev pub MakesDeclarator : Result MeasuredDeclarator OutOfMemory → Declarator → Type 0
 MakesDeclarator (Ok m) tree = inner_of m ≡ tree
-MakesDeclarator (Err OutOfMemory) tree = Unit {0}
-MakesDeclarator (Err Syntax) tree = ⊥
-MakesDeclarator (Err (Nesting at)) tree = ⊥
+MakesDeclarator (Err e) tree = Unit {0}
 
 -- the node of ++ or --, at each place
 abbrev pub IsStep : ExprKind → Step → Box ExprTree Global → Type 0

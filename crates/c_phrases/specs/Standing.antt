@@ -1,12 +1,13 @@
 -- What stands first among the tokens that are left, and what was taken of them.
-use Rattle.std.specs.Prelude.{◌≡◌, ℕ, Bool, true, false, List, [], ◌∷◌, ◌++◌, Result, Ok, Err}
+use Rattle.std.specs.Prelude.{◌≡◌, ◌≤◌, ℕ, Bool, true, false, List, [], ◌∷◌, ◌++◌, Result, Ok, Err}
 use Rattle.c_lexer.specs.declared.token.Token.{Token}
 use Rattle.c_syntax.specs.declared.tree.Ident.{Ident as Named}
 use Rattle.c_syntax.specs.Tokens.{Is, IsKeyword, IsStr}
 use Rattle.c_syntax.specs.Grammar.{ReadsStrings}
-use Rattle.c_phrases.specs.declared.error.PhraseError.{PhraseError}
+use Rattle.dm_base.specs.declared.memory.OutOfMemory.{OutOfMemory}
 use Rattle.c_syntax.specs.Specifiers.{Names}
 use Rattle.c_syntax.specs.View.{ident_of}
+use Rattle.c_syntax.proofs.Precedence.{rank}
 
 -- the punctuator stands first
 abbrev pub IsAt : ℕ → List Token → Type 0
@@ -35,9 +36,9 @@ pub record TookName (x : Named) (i j : List Token) : Type 0 where
   pub stood : i ≡ token ∷ j
 
 -- the string stood first, is taken and stands after the bytes, or none stands there and nothing changes
-abbrev pub TookString : Result Bool PhraseError → List ℕ → List ℕ → List Token → List Token → Type 0
+abbrev pub TookString : Result Bool OutOfMemory → List ℕ → List ℕ → List Token → List Token → Type 0
 TookString (Ok true) a b i j = (t : Token) × (part : List ℕ) × IsStr part t × (i ≡ t ∷ j) × (b ≡ a ++ part)
-TookString (Ok false) a b i j = (b ≡ a) × (j ≡ i)
+TookString (Ok false) a b i j = (b ≡ a) × (j ≡ i) × (1 ≤ rank i)
 TookString (Err e) a b i j = Unit {0}
 
 -- after a string of the bytes a, the strings that stood first make the bytes b

@@ -1,6 +1,9 @@
 ghost use Rattle.std.specs.Prelude.{◌≡◌, ◌↔◌, ◌<◌, ◌-◌, IsTrue, OnOk, drop, length};
 ghost use Rattle.c_syntax.specs.Tokens.{Is, IsKeyword, place};
 ghost use Rattle.c_phrases.specs.Phrases.{ParsesName};
+ghost use Rattle.c_refusals.specs.Fails.{One};
+ghost use Rattle.c_refusals.specs.Operands.{IsSomeName};
+ghost use Rattle.c_phrases.specs.Refusing.{StopsFlat};
 ghost use Rattle.c_phrases.specs.Standing.{IsAt, IsAtKeyword, Took, TookKeyword};
 
 use crate::error::PhraseError;
@@ -88,9 +91,10 @@ impl<'a> Cursor<'a> {
         }
     }
 
-    /// Takes the name that stands first.
+    /// Takes the name that stands first. `Syntax` says that none does, and `OutOfMemory` that its bytes were not copied.
     pub fn name(&mut self, alloc: Global) -> Result<Ident, PhraseError>
         ensures parses { ParsesName result self.old.rest.now self.new.rest.now }
+        ensures stops { StopsFlat (One IsSomeName) result self.old.rest.now self.new.rest.now }
         ensures shorter { OnOk result (length self.new.rest.now < length self.old.rest.now) }
     {
         let rest = self.rest;
@@ -106,17 +110,6 @@ impl<'a> Cursor<'a> {
             name,
             at: token.from,
         })
-    }
-
-    /// Whether a name stands first.
-    pub fn is_at_name(&self) -> bool {
-        match self.rest.split_first() {
-            Some((token, _)) => match token.kind {
-                TokenKind::Name(_) => true,
-                _ => false,
-            },
-            None => false,
-        }
     }
 }
 

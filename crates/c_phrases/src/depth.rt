@@ -44,11 +44,14 @@ impl Depth {
         self
     }
 
-    // The depth of a node with this inside.
-    pub fn enclosed(self) -> Depth
+    // The depth of a node at the place with this inside.
+    pub fn enclosed(self, at: u32) -> Depth
         requires { self.height < 4294967295 }
         ensures { result.height ≡ suc self.height }
     {
+        if self.height == 0 {
+            return Depth::leaf(at);
+        }
         Depth {
             height: self.height + 1,
             deepest: self.deepest,

@@ -9,10 +9,11 @@ use std::alloc::{AllocError, AllocFailed};
 pub enum PhraseError {
     /// Memory was refused.
     OutOfMemory,
-    /// No phrase begins with the tokens through the one at which the cursor stands.
+    /// No phrase, however deep, begins with the tokens through the one at which the cursor stands; where none is left there,
+    /// none begins with the tokens themselves.
     Syntax,
-    /// Within the limits no phrase begins with the tokens through the one at which the cursor stands: at the
-    /// place begins a node that is too deep, or a pair of parentheses that stands in too many others.
+    /// Within the limits no phrase begins with the tokens through some token. The place is meant to be that of a node that
+    /// is too deep, or of a pair of parentheses that stands in too many others.
     Nesting(u32),
 }
 

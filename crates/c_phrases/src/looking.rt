@@ -1,17 +1,16 @@
 // What stands first among the tokens that are left.
 
-ghost use Rattle.std.specs.Prelude.{◌≡◌, ◌↔◌, ◌≤◌, ◌<◌, IsTrue, IfSome, length};
+ghost use Rattle.std.specs.Prelude.{◌≡◌, ◌⊎◌, ◌↔◌, ◌≤◌, ◌<◌, IsTrue, IfSome, drop, length};
 ghost use Rattle.c_syntax.proofs.Precedence.{rank, rank_of_code, rank_of_kind};
 ghost use Rattle.c_syntax.proofs.Ends.{start, start_of_code, start_of_word, start_of_kind, EndsDeclarator, EndsSpec};
-ghost use Rattle.c_phrases.specs.Looking.{infix_of, between, StandsOperator, StandsSuffix, StandsAssignment, StandsUnary, StandsStep, IsAtSpecifier, IsAtCast, HasCode};
-ghost use Rattle.c_lexer.specs.declared.punctuator.TheConstants.{LEFT_PARENTHESIS as OPENING};
-ghost use Rattle.c_phrases.specs.Standing.{IsAt};
+ghost use Rattle.c_phrases.specs.Looking.{infix_of, between, StandsOperator, StandsSuffix, StandsAssignment, StandsUnary, StandsStep, StandsPrefix, IsAtSpecifier, IsAtCast, HasCode, OpensInside, IsDeepOrWrong, LacksPair, LacksDeclaratorPair};
 ghost use Rattle.c_phrases.specs.Reading.{StandsAlone};
 
 use crate::cursor::Cursor;
 use crate::error::PhraseError;
 use crate::form::Form;
 use c_lexer::TokenKind;
+use c_lexer::keyword::SIZEOF;
 use c_lexer::punctuator::{
     AMPERSAND, AND, ARROW, COMMA, DECREMENT, DOT, EXCLAMATION, INCREMENT, LEFT_BRACKET,
     LEFT_PARENTHESIS, OR,
@@ -48,6 +47,14 @@ pub enum Suffix {
 pub enum Step {
     Increment,
     Decrement,
+}
+
+// What stands before an operand of it.
+#[derive(Clone, Copy)]
+pub enum Prefix {
+    Sizeof,
+    Step(Step),
+    Operator(u8),
 }
 
 // The rank of each punctuator: 1 after an operand, n + 1 for an operator of the level n, 12 ?, 13 an assignment operator,
@@ -223,7 +230,14 @@ impl<'a> Cursor<'a> {
         self.start() <= 1
     }
 
-    // Whether a parenthesis stands first, and after it what begins the name of a type.
+    // Whether a word of specifiers or of a storage class stands first.
+    fn begins_spec(&self) -> bool
+        ensures { IsTrue result ↔ (7 ≤ start self.now.rest.now) }
+    {
+        7 <= self.start()
+    }
+
+    // Whether a parenthesis stands first, and after it what can begin the name of a type.
     pub fn is_at_cast(&self) -> bool
         ensures stands { IsTrue result ↔ IsAtCast self.now.rest.now }
         ensures some { IsTrue result → 0 < length self.now.rest.now }
@@ -232,7 +246,7 @@ impl<'a> Cursor<'a> {
             return false;
         }
         match self.rest.split_first() {
-            Some((_, more)) => Cursor { rest: more }.is_at_specifier(),
+            Some((_, more)) => Cursor { rest: more }.begins_spec(),
             None => false,
         }
     }
@@ -339,23 +353,107 @@ impl<'a> Cursor<'a> {
         None
     }
 
+    // What stands first and takes an operand after it.
+    pub fn prefix(&self) -> Option<Prefix>
+        ensures stands { StandsPrefix result self.now.rest.now }
+        ensures some { IfSome result (λ _. 0 < length self.now.rest.now) }
+    {
+        if self.is_at_keyword(SIZEOF) {
+            return Some(Prefix::Sizeof);
+        }
+        if let Some(step) = self.step() {
+            return Some(Prefix::Step(step));
+        }
+        if let Some(code) = self.unary() {
+            return Some(Prefix::Operator(code));
+        }
+        None
+    }
+
+    // Whether a name, a constant or a string stands first.
+    pub fn is_at_leaf(&self) -> bool
+        ensures { IsTrue result ↔ ((start self.now.rest.now ≡ 3) ⊎ (start self.now.rest.now ≡ 5)) }
+    {
+        let start = self.start();
+        if start == 3 {
+            return true;
+        }
+        start == 5
+    }
+
+    // Whether a name stands first.
+    pub fn is_at_name(&self) -> bool
+        ensures { IsTrue result ↔ (start self.now.rest.now ≡ 5) }
+    {
+        self.start() == 5
+    }
+
     // Whether a parenthesis stands first that opens no parameters.
     pub fn opens(&self, form: Form) -> bool
-        ensures stands { IsTrue result → IsAt OPENING self.now.rest.now }
+        ensures stands { OpensInside form result self.now.rest.now }
         ensures some { IsTrue result → 0 < length self.now.rest.now }
     {
-        if form == Form::Named {
-            return self.is_at(LEFT_PARENTHESIS);
+        if !self.is_at(LEFT_PARENTHESIS) {
+            return false;
         }
-        self.is_at(LEFT_PARENTHESIS) && !self.is_at_cast()
+        if form == Form::Named {
+            return true;
+        }
+        match self.rest.split_first() {
+            Some((_, more)) => Cursor { rest: more }.ends_spec(),
+            None => false,
+        }
     }
 
     // Why no part of a declarator is read at the limit.
-    pub fn too_deep_or_wrong(&self, deepest: u32) -> PhraseError {
-        if self.is_at(LEFT_BRACKET) || self.is_at(LEFT_PARENTHESIS) {
+    pub fn too_deep_or_wrong(&self, deepest: u32) -> PhraseError
+        ensures { IsDeepOrWrong deepest result self.now.rest.now }
+    {
+        if self.is_at(LEFT_BRACKET) {
+            return PhraseError::Nesting(deepest);
+        }
+        if self.is_at(LEFT_PARENTHESIS) {
             return PhraseError::Nesting(deepest);
         }
         PhraseError::Syntax
+    }
+
+    // Takes the parenthesis at the place, where no more pairs may stand in each other, and says why nothing is read there: an
+    // expression begins after it, or none does.
+    pub fn no_pair(&mut self, at: u32) -> PhraseError
+        ensures skips { self.new.rest.now ≡ drop 1 self.old.rest.now }
+        ensures lacks { LacksPair at result self.new.rest.now }
+    {
+        self.skip();
+        let start = self.start();
+        if start == 0 {
+            return PhraseError::Syntax;
+        }
+        if 5 < start {
+            return PhraseError::Syntax;
+        }
+        PhraseError::Nesting(at)
+    }
+
+    // The same before a declarator that may have no name.
+    pub fn no_declarator_pair(&mut self, at: u32, form: Form) -> PhraseError
+        ensures skips { self.new.rest.now ≡ drop 1 self.old.rest.now }
+        ensures lacks { LacksDeclaratorPair form at result self.new.rest.now }
+    {
+        self.skip();
+        let start = self.start();
+        if start <= 1 {
+            return PhraseError::Syntax;
+        }
+        if start == 3 {
+            return PhraseError::Syntax;
+        }
+        if start == 5 {
+            if form == Form::Abstract {
+                return PhraseError::Syntax;
+            }
+        }
+        PhraseError::Nesting(at)
     }
 
     // Whether a parameter that is `void` has none after it.

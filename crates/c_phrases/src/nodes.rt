@@ -12,25 +12,25 @@ use crate::depth::{
     Depth, MeasuredDeclarator, MeasuredExpr, MeasuredExprs, MeasuredParam, MeasuredParams,
     MeasuredSize, MeasuredType,
 };
-use crate::error::PhraseError;
 use crate::looking::{Infix, Step};
 use c_syntax::{Declarator, DeclaratorKind, Expr, ExprKind, Ident, Param, Spec, TypeName};
+use dm_base::OutOfMemory;
 use std::alloc::Global;
 
-fn boxed(alloc: Global, at: u32, kind: ExprKind) -> Result<Box<Expr>, PhraseError>
+fn boxed(alloc: Global, at: u32, kind: ExprKind) -> Result<Box<Expr>, OutOfMemory>
     ensures { Boxes result (expr_at at kind) }
 {
     Ok(Box::new(alloc, Expr { at, kind })?)
 }
 
-pub fn comma_node(alloc: Global, at: u32, list: MeasuredExprs) -> Result<MeasuredExpr, PhraseError>
+pub fn comma_node(alloc: Global, at: u32, list: MeasuredExprs) -> Result<MeasuredExpr, OutOfMemory>
     requires { list.depth.height < 4294967295 }
     ensures makes { Makes result (comma at (trees_of list)) }
     ensures height { IfOk result (λ m. m.depth.height ≡ suc (list.depth.height)) }
 {
     Ok(MeasuredExpr {
         tree: boxed(alloc, at, ExprKind::Comma(list.trees))?,
-        depth: list.depth.enclosed(),
+        depth: list.depth.enclosed(at),
     })
 }
 
@@ -38,14 +38,14 @@ pub fn sizeof_type_node(
     alloc: Global,
     at: u32,
     target: MeasuredType,
-) -> Result<MeasuredExpr, PhraseError>
+) -> Result<MeasuredExpr, OutOfMemory>
     requires { target.depth.height < 4294967295 }
     ensures makes { Makes result (sizeof_type at (type_name_of target.name)) }
     ensures height { IfOk result (λ m. m.depth.height ≡ suc (target.depth.height)) }
 {
     Ok(MeasuredExpr {
         tree: boxed(alloc, at, ExprKind::SizeofType(target.name))?,
-        depth: target.depth.enclosed(),
+        depth: target.depth.enclosed(at),
     })
 }
 
@@ -54,7 +54,7 @@ pub fn cast_node(
     at: u32,
     target: MeasuredType,
     a: MeasuredExpr,
-) -> Result<MeasuredExpr, PhraseError>
+) -> Result<MeasuredExpr, OutOfMemory>
     requires target_low { target.depth.height < 4294967295 }
     requires a_low { a.depth.height < 4294967295 }
     ensures makes { Makes result (cast at (type_name_of target.name) (tree_of a)) }
@@ -62,7 +62,7 @@ pub fn cast_node(
 {
     Ok(MeasuredExpr {
         tree: boxed(alloc, at, ExprKind::Cast(target.name, a.tree))?,
-        depth: target.depth.beside(a.depth).enclosed(),
+        depth: target.depth.beside(a.depth).enclosed(at),
     })
 }
 
@@ -71,7 +71,7 @@ pub fn call_node(
     at: u32,
     a: MeasuredExpr,
     list: MeasuredExprs,
-) -> Result<MeasuredExpr, PhraseError>
+) -> Result<MeasuredExpr, OutOfMemory>
     requires a_low { a.depth.height < 4294967295 }
     requires list_low { list.depth.height < 4294967295 }
     ensures makes { Makes result (call at (tree_of a) (trees_of list)) }
@@ -79,7 +79,7 @@ pub fn call_node(
 {
     Ok(MeasuredExpr {
         tree: boxed(alloc, at, ExprKind::Call(a.tree, list.trees))?,
-        depth: a.depth.beside(list.depth).enclosed(),
+        depth: a.depth.beside(list.depth).enclosed(at),
     })
 }
 
@@ -88,14 +88,14 @@ pub fn member_node(
     at: u32,
     a: MeasuredExpr,
     name: Ident,
-) -> Result<MeasuredExpr, PhraseError>
+) -> Result<MeasuredExpr, OutOfMemory>
     requires { a.depth.height < 4294967295 }
     ensures makes { Makes result (member at dot (tree_of a) (ident_of name)) }
     ensures height { IfOk result (λ m. m.depth.height ≡ suc (a.depth.height)) }
 {
     Ok(MeasuredExpr {
         tree: boxed(alloc, at, ExprKind::Member(a.tree, name))?,
-        depth: a.depth.enclosed(),
+        depth: a.depth.enclosed(at),
     })
 }
 
@@ -104,36 +104,36 @@ pub fn arrow_node(
     at: u32,
     a: MeasuredExpr,
     name: Ident,
-) -> Result<MeasuredExpr, PhraseError>
+) -> Result<MeasuredExpr, OutOfMemory>
     requires { a.depth.height < 4294967295 }
     ensures makes { Makes result (member at arrow (tree_of a) (ident_of name)) }
     ensures height { IfOk result (λ m. m.depth.height ≡ suc (a.depth.height)) }
 {
     Ok(MeasuredExpr {
         tree: boxed(alloc, at, ExprKind::Arrow(a.tree, name))?,
-        depth: a.depth.enclosed(),
+        depth: a.depth.enclosed(at),
     })
 }
 
-pub fn increased_node(alloc: Global, at: u32, a: MeasuredExpr) -> Result<MeasuredExpr, PhraseError>
+pub fn increased_node(alloc: Global, at: u32, a: MeasuredExpr) -> Result<MeasuredExpr, OutOfMemory>
     requires { a.depth.height < 4294967295 }
     ensures makes { Makes result (postfix at post_increment (tree_of a)) }
     ensures height { IfOk result (λ m. m.depth.height ≡ suc (a.depth.height)) }
 {
     Ok(MeasuredExpr {
         tree: boxed(alloc, at, ExprKind::PostInc(a.tree))?,
-        depth: a.depth.enclosed(),
+        depth: a.depth.enclosed(at),
     })
 }
 
-pub fn decreased_node(alloc: Global, at: u32, a: MeasuredExpr) -> Result<MeasuredExpr, PhraseError>
+pub fn decreased_node(alloc: Global, at: u32, a: MeasuredExpr) -> Result<MeasuredExpr, OutOfMemory>
     requires { a.depth.height < 4294967295 }
     ensures makes { Makes result (postfix at post_decrement (tree_of a)) }
     ensures height { IfOk result (λ m. m.depth.height ≡ suc (a.depth.height)) }
 {
     Ok(MeasuredExpr {
         tree: boxed(alloc, at, ExprKind::PostDec(a.tree))?,
-        depth: a.depth.enclosed(),
+        depth: a.depth.enclosed(at),
     })
 }
 
@@ -151,25 +151,25 @@ pub fn step_node(
     at: u32,
     step: Step,
     a: MeasuredExpr,
-) -> Result<MeasuredExpr, PhraseError>
+) -> Result<MeasuredExpr, OutOfMemory>
     requires { a.depth.height < 4294967295 }
     ensures makes { Makes result (prefix at (step_of step) (tree_of a)) }
     ensures height { IfOk result (λ m. m.depth.height ≡ suc (a.depth.height)) }
 {
     Ok(MeasuredExpr {
         tree: boxed(alloc, at, step_kind(step, a.tree))?,
-        depth: a.depth.enclosed(),
+        depth: a.depth.enclosed(at),
     })
 }
 
-pub fn sizeof_node(alloc: Global, at: u32, a: MeasuredExpr) -> Result<MeasuredExpr, PhraseError>
+pub fn sizeof_node(alloc: Global, at: u32, a: MeasuredExpr) -> Result<MeasuredExpr, OutOfMemory>
     requires { a.depth.height < 4294967295 }
     ensures makes { Makes result (prefix at sizeof (tree_of a)) }
     ensures height { IfOk result (λ m. m.depth.height ≡ suc (a.depth.height)) }
 {
     Ok(MeasuredExpr {
         tree: boxed(alloc, at, ExprKind::SizeofExpr(a.tree))?,
-        depth: a.depth.enclosed(),
+        depth: a.depth.enclosed(at),
     })
 }
 
@@ -178,14 +178,14 @@ pub fn unary_node(
     at: u32,
     operator: u8,
     a: MeasuredExpr,
-) -> Result<MeasuredExpr, PhraseError>
+) -> Result<MeasuredExpr, OutOfMemory>
     requires { a.depth.height < 4294967295 }
     ensures makes { Makes result (unary at operator (tree_of a)) }
     ensures height { IfOk result (λ m. m.depth.height ≡ suc (a.depth.height)) }
 {
     Ok(MeasuredExpr {
         tree: boxed(alloc, at, ExprKind::Unary(operator, a.tree))?,
-        depth: a.depth.enclosed(),
+        depth: a.depth.enclosed(at),
     })
 }
 
@@ -194,7 +194,7 @@ pub fn index_node(
     at: u32,
     a: MeasuredExpr,
     b: MeasuredExpr,
-) -> Result<MeasuredExpr, PhraseError>
+) -> Result<MeasuredExpr, OutOfMemory>
     requires a_low { a.depth.height < 4294967295 }
     requires b_low { b.depth.height < 4294967295 }
     ensures makes { Makes result (index at (tree_of a) (tree_of b)) }
@@ -202,7 +202,7 @@ pub fn index_node(
 {
     Ok(MeasuredExpr {
         tree: boxed(alloc, at, ExprKind::Index(a.tree, b.tree))?,
-        depth: a.depth.beside(b.depth).enclosed(),
+        depth: a.depth.beside(b.depth).enclosed(at),
     })
 }
 
@@ -222,7 +222,7 @@ pub fn binary_node(
     between: Infix,
     a: MeasuredExpr,
     b: MeasuredExpr,
-) -> Result<MeasuredExpr, PhraseError>
+) -> Result<MeasuredExpr, OutOfMemory>
     requires a_low { a.depth.height < 4294967295 }
     requires b_low { b.depth.height < 4294967295 }
     ensures makes { Makes result (binary at (infix_of between) (tree_of a) (tree_of b)) }
@@ -230,7 +230,7 @@ pub fn binary_node(
 {
     Ok(MeasuredExpr {
         tree: boxed(alloc, at, binary_kind(between, a.tree, b.tree))?,
-        depth: a.depth.beside(b.depth).enclosed(),
+        depth: a.depth.beside(b.depth).enclosed(at),
     })
 }
 
@@ -240,7 +240,7 @@ pub fn assign_node(
     operator: u8,
     a: MeasuredExpr,
     b: MeasuredExpr,
-) -> Result<MeasuredExpr, PhraseError>
+) -> Result<MeasuredExpr, OutOfMemory>
     requires a_low { a.depth.height < 4294967295 }
     requires b_low { b.depth.height < 4294967295 }
     ensures makes { Makes result (assign at operator (tree_of a) (tree_of b)) }
@@ -248,7 +248,7 @@ pub fn assign_node(
 {
     Ok(MeasuredExpr {
         tree: boxed(alloc, at, ExprKind::Assign(operator, a.tree, b.tree))?,
-        depth: a.depth.beside(b.depth).enclosed(),
+        depth: a.depth.beside(b.depth).enclosed(at),
     })
 }
 
@@ -258,7 +258,7 @@ pub fn conditional_node(
     a: MeasuredExpr,
     b: MeasuredExpr,
     c: MeasuredExpr,
-) -> Result<MeasuredExpr, PhraseError>
+) -> Result<MeasuredExpr, OutOfMemory>
     requires a_low { a.depth.height < 4294967295 }
     requires b_low { b.depth.height < 4294967295 }
     requires c_low { c.depth.height < 4294967295 }
@@ -267,7 +267,7 @@ pub fn conditional_node(
 {
     Ok(MeasuredExpr {
         tree: boxed(alloc, at, ExprKind::Cond(a.tree, b.tree, c.tree))?,
-        depth: a.depth.beside(b.depth.beside(c.depth)).enclosed(),
+        depth: a.depth.beside(b.depth.beside(c.depth)).enclosed(at),
     })
 }
 
@@ -302,7 +302,7 @@ fn boxed_declarator(
     alloc: Global,
     at: u32,
     kind: DeclaratorKind,
-) -> Result<Box<Declarator>, PhraseError>
+) -> Result<Box<Declarator>, OutOfMemory>
     ensures { BoxesDeclarator result (declarator_at at kind) }
 {
     Ok(Box::new(alloc, Declarator { at, kind })?)
@@ -319,7 +319,7 @@ pub fn no_declarator(at: u32) -> MeasuredDeclarator
     }
 }
 
-pub fn name_node(alloc: Global, at: u32, name: Ident) -> Result<MeasuredDeclarator, PhraseError>
+pub fn name_node(alloc: Global, at: u32, name: Ident) -> Result<MeasuredDeclarator, OutOfMemory>
     ensures makes { MakesDeclarator result (named at (ident_of name)) }
     ensures height { IfOk result (λ m. m.depth.height ≡ 1) }
 {
@@ -333,14 +333,14 @@ pub fn pointer_node(
     alloc: Global,
     at: u32,
     a: MeasuredDeclarator,
-) -> Result<MeasuredDeclarator, PhraseError>
+) -> Result<MeasuredDeclarator, OutOfMemory>
     requires { a.depth.height < 4294967295 }
     ensures makes { MakesDeclarator result (pointer at (inner_of a)) }
     ensures height { IfOk result (λ m. m.depth.height ≡ suc (a.depth.height)) }
 {
     Ok(MeasuredDeclarator {
         tree: Some(boxed_declarator(alloc, at, DeclaratorKind::Pointer(a.tree))?),
-        depth: a.depth.enclosed(),
+        depth: a.depth.enclosed(at),
     })
 }
 
@@ -349,7 +349,7 @@ pub fn array_node(
     at: u32,
     a: MeasuredDeclarator,
     size: MeasuredSize,
-) -> Result<MeasuredDeclarator, PhraseError>
+) -> Result<MeasuredDeclarator, OutOfMemory>
     requires a_low { a.depth.height < 4294967295 }
     requires size_low { size.depth.height < 4294967295 }
     ensures makes { MakesDeclarator result (array at (inner_of a) (size_of size)) }
@@ -364,7 +364,7 @@ pub fn array_node(
                 size: size.tree,
             },
         )?),
-        depth: a.depth.beside(size.depth).enclosed(),
+        depth: a.depth.beside(size.depth).enclosed(at),
     })
 }
 
@@ -373,7 +373,7 @@ pub fn function_node(
     at: u32,
     a: MeasuredDeclarator,
     list: MeasuredParams,
-) -> Result<MeasuredDeclarator, PhraseError>
+) -> Result<MeasuredDeclarator, OutOfMemory>
     requires a_low { a.depth.height < 4294967295 }
     requires list_low { list.depth.height < 4294967295 }
     ensures makes { MakesDeclarator result (function at (inner_of a) (list_of list)) }
@@ -388,12 +388,12 @@ pub fn function_node(
                 params: list.params,
             },
         )?),
-        depth: a.depth.beside(list.depth).enclosed(),
+        depth: a.depth.beside(list.depth).enclosed(at),
     })
 }
 
 // A leaf of an expression, at the place.
-pub fn leaf_node(alloc: Global, at: u32, kind: ExprKind) -> Result<MeasuredExpr, PhraseError>
+pub fn leaf_node(alloc: Global, at: u32, kind: ExprKind) -> Result<MeasuredExpr, OutOfMemory>
     requires { height (expr_at at kind) ≡ 1 }
     ensures makes { Makes result (expr_at at kind) }
     ensures height { IfOk result (λ m. m.depth.height ≡ 1) }

@@ -1,17 +1,18 @@
 // Expressions, type names and declarators, by recursive descent.
 
-ghost use Rattle.std.specs.Prelude.{◌≡◌, ◌<◌, ◌≤◌, ◌∷◌, List, OnOk, IfOk, IsTrue, length};
+ghost use Rattle.std.specs.Prelude.{◌≡◌, ◌≢◌, ◌<◌, ◌≤◌, ◌∷◌, List, OnOk, IfOk, Some, length, drop};
 ghost use Rattle.c_lexer.specs.declared.token.Token.{Token};
-ghost use Rattle.c_lexer.specs.declared.punctuator.TheConstants.{LEFT_PARENTHESIS as OPENING};
 ghost use Rattle.c_lexer.specs.declared.keyword.TheConstants.{SIZEOF as SIZEOF_WORD};
 ghost use Rattle.c_syntax.specs.Tokens.{IsKeyword, place};
 ghost use Rattle.c_syntax.specs.Grammar.{primary_level, postfix_level, unary_level, cast_level, binary_level, conditional_level, assignment_level, expression_level, Reads, ReadsCore};
-ghost use Rattle.c_syntax.proofs.Precedence.{Stops};
-ghost use Rattle.c_phrases.specs.Looking.{IsSuffix};
+ghost use Rattle.c_syntax.proofs.Precedence.{Stops as Ends};
+ghost use Rattle.c_syntax.proofs.Ends.{start as starts};
+ghost use Rattle.c_refusals.specs.Phrases.{AnExpr, ADeclarator};
+ghost use Rattle.c_phrases.specs.Refusing.{bound_of, Stops};
+ghost use Rattle.c_phrases.specs.Looking.{IsSuffix, StandsPrefix};
 ghost use Rattle.c_phrases.specs.Making.{tree_of, inner_of};
-ghost use Rattle.c_phrases.specs.Standing.{IsAt};
 ghost use Rattle.c_phrases.specs.Phrases.{Parses, ParsesDeclarator};
-ghost use Rattle.c_phrases.specs.Reading.{ParsesTree, ParsesTrees, AddsSuffix, TakesArguments, ParsesType, ParsesDeclared, ParsesCore, AddsPart, ParsesSize, ParsesParams, ParsesParam, StandsAlone, Suits};
+ghost use Rattle.c_phrases.specs.Reading.{ParsesTree, ParsesTrees, RefusesRest, IsCored, AddsSuffix, TakesArguments, ParsesType, ParsesDeclared, ParsesCore, AddsPart, ParsesSize, ParsesParams, ParsesParam, StandsAlone, Suits};
 
 use crate::cursor::Cursor;
 use crate::depth::{
@@ -20,7 +21,7 @@ use crate::depth::{
 };
 use crate::error::PhraseError;
 use crate::form::Form;
-use crate::looking::Suffix;
+use crate::looking::{Prefix, Suffix};
 use crate::nodes::{
     array_node, arrow_node, assign_node, binary_node, call_node, cast_node, comma_node,
     conditional_node, decreased_node, function_node, increased_node, index_node, member_node,
@@ -28,7 +29,6 @@ use crate::nodes::{
     sizeof_type_node, some_size, step_node, type_node, unary_node,
 };
 use crate::room::Room;
-use c_lexer::keyword::SIZEOF;
 use c_lexer::punctuator::{
     ASTERISK, COLON, COMMA, LEFT_BRACKET, LEFT_PARENTHESIS, QUESTION, RIGHT_BRACKET,
     RIGHT_PARENTHESIS,
@@ -44,6 +44,7 @@ impl<'a> Cursor<'a> {
     /// that a node was not allocated.
     pub fn expression(&mut self, alloc: Global, room: Room) -> Result<Expr, PhraseError>
         ensures parses { Parses room expression_level result self.old.rest.now self.new.rest.now }
+        ensures stops { Stops (λ b. AnExpr b expression_level) (bound_of room) result self.old.rest.now self.new.rest.now }
         ensures shorter { OnOk result (length self.new.rest.now < length self.old.rest.now) }
     {
         let whole = self.comma_expression(alloc, room)?;
@@ -53,6 +54,7 @@ impl<'a> Cursor<'a> {
     /// Reads a conditional expression, as a constant expression is (C99 6.5.15, 6.6). The errors are as in `expression`.
     pub fn conditional(&mut self, alloc: Global, room: Room) -> Result<Expr, PhraseError>
         ensures parses { Parses room conditional_level result self.old.rest.now self.new.rest.now }
+        ensures stops { Stops (λ b. AnExpr b conditional_level) (bound_of room) result self.old.rest.now self.new.rest.now }
         ensures shorter { OnOk result (length self.new.rest.now < length self.old.rest.now) }
     {
         let whole = self.conditional_expression(alloc, room)?;
@@ -62,6 +64,7 @@ impl<'a> Cursor<'a> {
     /// Reads an assignment expression (C99 6.5.16). The errors are as in `expression`.
     pub fn assignment_value(&mut self, alloc: Global, room: Room) -> Result<Expr, PhraseError>
         ensures parses { Parses room assignment_level result self.old.rest.now self.new.rest.now }
+        ensures stops { Stops (λ b. AnExpr b assignment_level) (bound_of room) result self.old.rest.now self.new.rest.now }
         ensures shorter { OnOk result (length self.new.rest.now < length self.old.rest.now) }
     {
         let whole = self.assignment_expression(alloc, room)?;
@@ -71,6 +74,7 @@ impl<'a> Cursor<'a> {
     /// Reads a declarator that has a name (C99 6.7.5). The errors are as in `expression`.
     pub fn declarator(&mut self, alloc: Global, room: Room) -> Result<Declarator, PhraseError>
         ensures parses { ParsesDeclarator room result self.old.rest.now self.new.rest.now }
+        ensures stops { Stops ADeclarator (bound_of room) result self.old.rest.now self.new.rest.now }
         ensures shorter { OnOk result (length self.new.rest.now < length self.old.rest.now) }
     {
         let whole = self.declared(alloc, room, Form::Named)?;
@@ -110,7 +114,8 @@ impl<'a> Cursor<'a> {
         first: MeasuredExpr,
     ) -> Result<MeasuredExprs, PhraseError>
         requires { first.depth.height ≤ room.nodes }
-        ensures parses { (start : List Token) → Reads room.pairs assignment_level (tree_of first) start self.old.rest.now → Stops assignment_level self.old.rest.now → ParsesTrees room result start self.new.rest.now }
+        ensures parses { (start : List Token) → Reads room.pairs assignment_level (tree_of first) start self.old.rest.now → Ends assignment_level self.old.rest.now → ParsesTrees room result start self.new.rest.now }
+        ensures refuses { RefusesRest room result self.old.rest.now self.new.rest.now }
         ensures shorter { OnOk result (length self.new.rest.now ≤ length self.old.rest.now) }
         ensures fits { IfOk result (λ m. m.depth.height ≤ room.nodes) }
     {
@@ -185,7 +190,7 @@ impl<'a> Cursor<'a> {
         operand: MeasuredExpr,
     ) -> Result<MeasuredExpr, PhraseError>
         requires { operand.depth.height ≤ room.nodes }
-        ensures parses { (start : List Token) → at ≡ place start → Reads room.pairs cast_level (tree_of operand) start self.old.rest.now → Stops cast_level self.old.rest.now → ParsesTree room conditional_level result start self.new.rest.now }
+        ensures parses { (start : List Token) → at ≡ place start → Reads room.pairs cast_level (tree_of operand) start self.old.rest.now → Ends cast_level self.old.rest.now → ParsesTree room conditional_level result start self.new.rest.now }
         ensures shorter { OnOk result (length self.new.rest.now ≤ length self.old.rest.now) }
         ensures fits { IfOk result (λ m. m.depth.height ≤ room.nodes) }
     {
@@ -218,7 +223,7 @@ impl<'a> Cursor<'a> {
     ) -> Result<MeasuredExpr, PhraseError>
         requires level { most ≤ 10 }
         requires operand_low { operand.depth.height ≤ room.nodes }
-        ensures parses { (start : List Token) → at ≡ place start → Reads room.pairs cast_level (tree_of operand) start self.old.rest.now → Stops cast_level self.old.rest.now → ParsesTree room (binary_level most) result start self.new.rest.now }
+        ensures parses { (start : List Token) → at ≡ place start → Reads room.pairs cast_level (tree_of operand) start self.old.rest.now → Ends cast_level self.old.rest.now → ParsesTree room (binary_level most) result start self.new.rest.now }
         ensures shorter { OnOk result (length self.new.rest.now ≤ length self.old.rest.now) }
         ensures fits { IfOk result (λ m. m.depth.height ≤ room.nodes) }
     {
@@ -275,34 +280,48 @@ impl<'a> Cursor<'a> {
         ensures fits { IfOk result (λ m. m.depth.height ≤ room.nodes) }
     {
         let at = self.place();
-        if self.is_at_keyword(SIZEOF) {
-            if room.nodes == 0 {
-                return Err(PhraseError::Nesting(at));
-            }
-            self.skip();
-            let whole = self.sizeof_expression(alloc, room, at)?;
+        let Some(prefix) = self.prefix() else {
+            let whole = self.postfix_expression(alloc, room)?;
             return Ok(whole);
+        };
+        if room.nodes == 0 {
+            return Err(PhraseError::Nesting(at));
         }
-        if let Some(step) = self.step() {
-            if room.nodes == 0 {
-                return Err(PhraseError::Nesting(at));
-            }
-            self.skip();
-            let operand = self.unary_expression(alloc, room.in_node())?;
-            let whole = step_node(alloc, at, step, operand)?;
-            return Ok(whole);
-        }
-        if let Some(operator) = self.unary() {
-            if room.nodes == 0 {
-                return Err(PhraseError::Nesting(at));
-            }
-            self.skip();
-            let operand = self.cast_expression(alloc, room.in_node())?;
-            let whole = unary_node(alloc, at, operator, operand)?;
-            return Ok(whole);
-        }
-        let whole = self.postfix_expression(alloc, room)?;
+        self.skip();
+        let whole = self.prefixed(alloc, room, at, prefix)?;
         Ok(whole)
+    }
+
+    // What stands after a prefix operator.
+    #[cycle(phrases)]
+    fn prefixed(
+        &mut self,
+        alloc: Global,
+        room: Room,
+        at: u32,
+        prefix: Prefix,
+    ) -> Result<MeasuredExpr, PhraseError>
+        requires { 0 < room.nodes }
+        ensures parses { (start : List Token) → at ≡ place start → StandsPrefix (Some prefix) start → self.old.rest.now ≡ drop 1 start → ParsesTree room unary_level result start self.new.rest.now }
+        ensures shorter { OnOk result (length self.new.rest.now < length self.old.rest.now) }
+        ensures fits { IfOk result (λ m. m.depth.height ≤ room.nodes) }
+    {
+        match prefix {
+            Prefix::Sizeof => {
+                let whole = self.sizeof_expression(alloc, room, at)?;
+                Ok(whole)
+            }
+            Prefix::Step(step) => {
+                let operand = self.unary_expression(alloc, room.in_node())?;
+                let whole = step_node(alloc, at, step, operand)?;
+                Ok(whole)
+            }
+            Prefix::Operator(operator) => {
+                let operand = self.cast_expression(alloc, room.in_node())?;
+                let whole = unary_node(alloc, at, operator, operand)?;
+                Ok(whole)
+            }
+        }
     }
 
     // What stands after `sizeof` (C99 6.5.3.4): the name of a type in parentheses, or a unary expression.
@@ -448,7 +467,7 @@ impl<'a> Cursor<'a> {
             return Err(PhraseError::Syntax);
         }
         if room.pairs == 0 {
-            return Err(PhraseError::Nesting(at));
+            return Err(self.no_pair(at));
         }
         self.skip();
         let inside = self.comma_expression(alloc, room.in_pair())?;
@@ -510,7 +529,7 @@ impl<'a> Cursor<'a> {
         room: Room,
         form: Form,
     ) -> Result<MeasuredDeclarator, PhraseError>
-        ensures parses { ParsesCore room form result self.old.rest.now self.new.rest.now }
+        ensures parses { starts self.old.rest.now ≢ 2 → ParsesCore room form result self.old.rest.now self.new.rest.now }
         ensures shorter { OnOk result (length self.new.rest.now ≤ length self.old.rest.now) }
         ensures fits { IfOk result (λ m. m.depth.height ≤ room.nodes) }
     {
@@ -533,7 +552,10 @@ impl<'a> Cursor<'a> {
             return Ok(no_declarator(at));
         }
         if room.pairs == 0 {
-            return Err(PhraseError::Nesting(at));
+            if form == Form::Named {
+                return Err(PhraseError::Nesting(at));
+            }
+            return Err(self.no_declarator_pair(at, form));
         }
         self.skip();
         let inside = self.declared(alloc, room.in_pair(), form)?;
@@ -556,7 +578,7 @@ impl<'a> Cursor<'a> {
         core: MeasuredDeclarator,
     ) -> Result<MeasuredDeclarator, PhraseError>
         requires { core.depth.height ≤ room.nodes }
-        ensures parses { (form : Form) (start : List Token) → at ≡ place start → ReadsCore room.pairs (inner_of core) start self.old.rest.now → Suits form (inner_of core) → ParsesDeclared room form result start self.new.rest.now }
+        ensures parses { (form : Form) (start : List Token) → at ≡ place start → ReadsCore room.pairs (inner_of core) start self.old.rest.now → Suits form (inner_of core) → IsCored (inner_of core) start self.old.rest.now → ParsesDeclared room form result start self.new.rest.now }
         ensures shorter { OnOk result (length self.new.rest.now ≤ length self.old.rest.now) }
         ensures fits { IfOk result (λ m. m.depth.height ≤ room.nodes) }
     {

@@ -1,7 +1,11 @@
 ghost use Rattle.std.specs.Prelude.{◌<◌, ◌≤◌, OnOk, IfOk, length};
 ghost use Rattle.c_syntax.specs.View.{spec_of};
 ghost use Rattle.c_phrases.specs.Phrases.{ParsesSpec};
-ghost use Rattle.c_phrases.specs.Reading.{TookConsts, TookWords};
+ghost use Rattle.c_lexer.specs.declared.keyword.TheConstants.{CONST as CONST_WORD};
+ghost use Rattle.c_refusals.specs.Phrases.{ASpec};
+ghost use Rattle.c_phrases.specs.Standing.{IsAtKeyword};
+ghost use Rattle.c_phrases.specs.Refusing.{StopsFlat};
+ghost use Rattle.c_phrases.specs.Reading.{TookConsts, TookWords, LeadsSpec};
 
 use crate::cursor::Cursor;
 use crate::error::PhraseError;
@@ -10,9 +14,11 @@ use c_syntax::Spec;
 use std::alloc::Global;
 
 impl<'a> Cursor<'a> {
-    /// Reads the words of the specifiers, with `const` before, between and after them (C99 6.7.2, 6.7.3).
+    /// Reads the words of the specifiers, with `const` before, between and after them (C99 6.7.2, 6.7.3). `Syntax` says that
+    /// no specifiers go on through the token at which the cursor stands, and `OutOfMemory` that a name was not copied.
     pub fn specifiers(&mut self, alloc: Global) -> Result<Spec, PhraseError>
         ensures parses { ParsesSpec result self.old.rest.now self.new.rest.now }
+        ensures stops { StopsFlat ASpec result self.old.rest.now self.new.rest.now }
         ensures shorter { OnOk result (length self.new.rest.now < length self.old.rest.now) }
     {
         self.consts();
@@ -27,6 +33,7 @@ impl<'a> Cursor<'a> {
     // Takes each `const` that stands first.
     pub fn consts(&mut self)
         ensures took { TookConsts self.old.rest.now self.new.rest.now }
+        ensures ends { IsAtKeyword CONST_WORD self.new.rest.now → ⊥ }
         ensures shorter { length self.new.rest.now ≤ length self.old.rest.now }
     {
         while self.take_keyword(CONST) {}
@@ -34,7 +41,10 @@ impl<'a> Cursor<'a> {
 
     // Reads the words of a type, without `const` before and after them.
     fn words(&mut self, alloc: Global) -> Result<Spec, PhraseError>
+        requires { IsAtKeyword CONST_WORD self.old.rest.now → ⊥ }
         ensures took { IfOk result (λ s. TookWords (spec_of s) self.old.rest.now self.new.rest.now) }
+        ensures leads { OnOk result (LeadsSpec self.old.rest.now self.new.rest.now) }
+        ensures stops { StopsFlat ASpec result self.old.rest.now self.new.rest.now }
         ensures shorter { OnOk result (length self.new.rest.now < length self.old.rest.now) }
     {
         if self.take_keyword(VOID) {

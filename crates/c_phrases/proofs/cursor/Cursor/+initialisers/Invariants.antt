@@ -1,7 +1,11 @@
-use Rattle.std.proofs.Common.{◌≤◌, ◌<◌, ◌+◌, ◌*◌, length}
+use Rattle.std.proofs.Common.{◌≤◌, ◌<◌, ◌+◌, ◌*◌, List, length}
+use Rattle.c_lexer.specs.declared.token.Token.{Token}
 use Rattle.c_syntax.specs.Limits.{height_of_inits}
 use Rattle.c_syntax.specs.Statements.{ReadsInits}
 use Rattle.c_syntax.specs.WritesUnit.{inits_of}
+use Rattle.c_refusals.specs.Fails.{Fails}
+use Rattle.c_refusals.specs.Phrases.{Bound}
+use Rattle.c_refusals.specs.Initialisers.{InList, ListEnd}
 use Rattle.c_phrases.proofs.cursor.Cursor.+initialisers.Given as goal
 
 abbrev pub decreases-initialiser : goal.decreases-initialiser
@@ -13,6 +17,7 @@ decreases-initialisers l = 2 * length l.self.now.rest.now + 1
 abbrev pub invariant-initialisers-loop-list : goal.invariant-initialisers-loop-list
 invariant-initialisers-loop-list l = record {
   reads : ReadsInits l.room.pairs (inits_of l.list.items) l.fn.self.rest.now l.self.rest.now;
+  leads : (b : Bound) (r : List Token) → Fails (ListEnd b) l.self.rest.now r → Fails (InList b) l.fn.self.rest.now r;
   fits : height_of_inits (inits_of l.list.items) ≤ l.room.nodes;
   shorter : length l.self.rest.now < length l.fn.self.rest.now;
 }

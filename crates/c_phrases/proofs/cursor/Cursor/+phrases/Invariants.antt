@@ -7,6 +7,10 @@ use Rattle.c_syntax.specs.Limits.{height_of_exprs, height_of_params}
 use Rattle.c_syntax.specs.Grammar.{primary_level, cast_level, binary_level, assignment_level, AreSome, Reads, ReadsList, Suffixes, Lengthens, ReadsEach}
 use Rattle.c_syntax.specs.Writes.{exprs_of, params_of}
 use Rattle.c_syntax.proofs.Precedence.{rank, Stops}
+use Rattle.c_refusals.specs.Fails.{Fails}
+use Rattle.c_refusals.specs.Phrases.{Bound}
+use Rattle.c_refusals.specs.Operands.{ExprsRest}
+use Rattle.c_refusals.specs.Declarators.{EachClosed, ParamsClosed}
 use Rattle.c_phrases.specs.declared.form.Form.{Form}
 use Rattle.c_phrases.specs.Standing.{IsAt}
 use Rattle.c_phrases.specs.Reading.{Suits}
@@ -21,6 +25,9 @@ decreases-postfix_expression l = 100 * length l.self.now.rest.now + 1
 
 abbrev pub decreases-unary_expression : goal.decreases-unary_expression
 decreases-unary_expression l = 100 * length l.self.now.rest.now + 2
+
+abbrev pub decreases-prefixed : goal.decreases-prefixed
+decreases-prefixed l = 100 * length l.self.now.rest.now + 20
 
 abbrev pub decreases-sizeof_expression : goal.decreases-sizeof_expression
 decreases-sizeof_expression l = 100 * length l.self.now.rest.now + 3
@@ -82,6 +89,7 @@ invariant-expressions_from-loop-alloc l = record {
   stops : Stops assignment_level l.fn.self.rest.now → Stops assignment_level l.self.rest.now;
   exact : l.depth.height ≡ height_of_exprs (exprs_of l.trees.items);
   fits : l.depth.height ≤ l.room.nodes;
+  leads : (b : Bound) (r : List Token) → Fails (ExprsRest b) l.self.rest.now r → Fails (ExprsRest b) l.fn.self.rest.now r;
   shorter : length l.self.rest.now ≤ length l.fn.self.rest.now;
 }
 
@@ -101,7 +109,7 @@ decreases-binary_from-loop-operator l = length l.self.rest.now
 abbrev pub invariant-postfix_expression-loop-suffix : goal.invariant-postfix_expression-loop-suffix
 invariant-postfix_expression-loop-suffix l = record {
   at : l.at ≡ place l.fn.self.rest.now;
-  reads : (a : Expr) × (j : List Token) × Reads l.room.pairs primary_level a l.fn.self.rest.now j × ((e : Expr) (k : List Token) → Suffixes l.room.pairs l.at (tree_of l.left) e l.self.rest.now k → Suffixes l.room.pairs l.at a e j k);
+  reads : (a : Expr) × (j : List Token) × Reads l.room.pairs primary_level a l.fn.self.rest.now j × Stops primary_level j × ((e : Expr) (k : List Token) → Suffixes l.room.pairs l.at (tree_of l.left) e l.self.rest.now k → Suffixes l.room.pairs l.at a e j k);
   fits : l.left.depth.height ≤ l.room.nodes;
   shorter : length l.self.rest.now < length l.fn.self.rest.now;
 }
@@ -125,6 +133,7 @@ invariant-parameters-loop-alloc l = record {
   reads : ReadsEach l.room.pairs (params_of l.params.items) l.fn.self.rest.now l.self.rest.now;
   some : AreSome (params_of l.params.items) ⊎ IsAt COMMA l.self.rest.now;
   exact : l.depth.height ≡ height_of_params (params_of l.params.items);
+  leads : (b : Bound) (r : List Token) → Fails (EachClosed b) l.self.rest.now r → Fails (ParamsClosed b) l.fn.self.rest.now r;
   fits : l.depth.height ≤ l.room.nodes;
   shorter : length l.self.rest.now < length l.fn.self.rest.now;
 }

@@ -1,5 +1,12 @@
 use Rattle.c_phrases.proofs.Made.{expression_has}
+use Rattle.std.proofs.lemmas.Result.{err_from_is_err_and}
+use Rattle.c_syntax.specs.Grammar.{assignment_level}
+use Rattle.c_refusals.specs.Phrases.{AnExpr}
+use Rattle.c_phrases.proofs.Raising.{told}
 use Rattle.c_phrases.proofs.cursor.Cursor.assignment_value.Goals as goal
 
 pub returns-clause-parses : goal.returns-clause-parses
 returns-clause-parses c = expression_has c.in_ok-whole.whole c.into_inner.result c.in_ok-whole.ensures.parses c.in_ok-whole.ensures.shorter c.in_ok-whole.ensures.fits c.into_inner.ensures
+
+pub returns-in_err-whole-clause-stops : goal.returns-in_err-whole-clause-stops
+returns-in_err-whole-clause-stops c = let w = err_from_is_err_and c.from_residual.result c.from_residual.ensures.1 in rw (w.1, w.2) (told {A = λ b. AnExpr b assignment_level} _ c.in_err-whole.ensures.parses)

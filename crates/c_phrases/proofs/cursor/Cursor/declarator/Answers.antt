@@ -1,4 +1,8 @@
 use Rattle.c_phrases.proofs.Declaring.{declarator_has, named_shorter}
+use Rattle.std.proofs.lemmas.Result.{err_from_is_err_and}
+use Rattle.c_refusals.specs.Phrases.{ADeclarator}
+use Rattle.c_phrases.proofs.Raising.{told, raised}
+use Rattle.c_phrases.proofs.RefusalsOfDeclarators.{declarator_as, none_named}
 use Rattle.c_phrases.proofs.cursor.Cursor.declarator.Goals as goal
 
 pub returns-in-Some-clause-parses : goal.returns-in-Some-clause-parses
@@ -6,3 +10,9 @@ returns-in-Some-clause-parses c = declarator_has c.in_ok-whole.whole c.in-Some.i
 
 pub returns-in-Some-clause-shorter : goal.returns-in-Some-clause-shorter
 returns-in-Some-clause-shorter c = named_shorter c.in_ok-whole.ensures.parses.0 c.in_ok-whole.ensures.parses.2 c.in_ok-whole.ensures.parses.1
+
+pub returns-in_err-whole-clause-stops : goal.returns-in_err-whole-clause-stops
+returns-in_err-whole-clause-stops c = let w = err_from_is_err_and c.from_residual.result c.from_residual.ensures.1 in rw (w.1, w.2) (told {A = ADeclarator} _ (raised c.in_err-whole.ensures.parses (λ b r f. declarator_as b r f)))
+
+pub returns-in-None-clause-stops : goal.returns-in-None-clause-stops
+returns-in-None-clause-stops c = absurd (none_named c.in-None.is c.in_ok-whole.ensures.parses.2)

@@ -8,7 +8,7 @@ returns-in_default c = record { stands = λ l. omega (arith, empty_rank _ c.in_d
 
 pub returns-in_default-code_of : goal.returns-in_default-code_of
 returns-in_default-code_of c = record {
-  stands = λ l. let r = ap rank c.in-Some.ensures.cases.0 in omega (arith, r, c.in_default-code_of.ensures (omega (arith, r, l)), c.requires);
+  stands = λ l. let r = ap rank c.in-Some.ensures.cases.0 in omega (arith, r, c.in_default-code_of.ensures.0 (omega (arith, r, l)), c.requires);
   some = tt;
 }
 

@@ -1,0 +1,104 @@
+-- How the refusal of a part becomes that of the whole.
+use Rattle.std.proofs.Common.{◌≡◌, ◌-◌, ℕ, List, refl, sym, subst}
+use Rattle.c_lexer.specs.declared.token.Token.{Token}
+use Rattle.c_phrases.specs.declared.room.Room.{Room}
+use Rattle.c_phrases.specs.declared.error.PhraseError.{PhraseError}
+use Rattle.c_phrases.specs.declared.error.PhraseError.TheVariants.{OutOfMemory, Syntax, Nesting}
+use Rattle.c_refusals.specs.Fails.{Fails, NotAt}
+use Rattle.c_refusals.specs.Phrases.{Bound, any, within, inner}
+use Rattle.c_refusals.specs.Operands.{enclosed}
+use Rattle.c_syntax.specs.Tokens.{Is, IsKeyword}
+use Rattle.c_phrases.specs.Standing.{IsAt, IsAtKeyword}
+use Rattle.c_phrases.specs.Refusing.{bound_of, Refuses, RefusedFlat}
+use Rattle.c_phrases.specs.Reading.{Refused, Lacks, LacksPast}
+
+wrong_is : {at : ℕ} → Nesting at ≡ Syntax → ⊥
+wrong_is q = cc
+
+deep_is : {at : ℕ} → Syntax ≡ Nesting at → ⊥
+deep_is q = cc
+
+no_memory_is : OutOfMemory ≡ Syntax → ⊥
+no_memory_is q = cc
+
+memory_deep_is : {at : ℕ} → OutOfMemory ≡ Nesting at → ⊥
+memory_deep_is q = cc
+
+-- there was no memory
+pub no_memory : {Q : Bound → List Token → List Token → Type 0} {room : Room} {i j : List Token} → Refused Q room OutOfMemory i j
+no_memory = record { wrong = λ q. absurd (no_memory_is q); deep = λ at q. absurd (memory_deep_is q) }
+
+-- it fails where the cursor stands
+pub wrong_here : {Q : Bound → List Token → List Token → Type 0} {room : Room} {i j : List Token} → Q any i j → Refused Q room Syntax i j
+wrong_here f = record { wrong = λ q. f; deep = λ at q. absurd (deep_is q) }
+
+-- within the limits it fails at the token
+pub deep_at : {Q : Bound → List Token → List Token → Type 0} {room : Room} {at : ℕ} {i j : List Token} (q : List Token) → Q (bound_of room) i q → Refused Q room (Nesting at) i j
+deep_at q f = record { wrong = λ e. absurd (wrong_is e); deep = λ at e. (q, f) }
+
+-- the part stands within the same limits
+pub raised : {Q P : Bound → List Token → List Token → Type 0} {room : Room} {e : PhraseError} {i j k : List Token} → Refused Q room e j k → ((b : Bound) (r : List Token) → Q b j r → P b i r) → Refused P room e i k
+raised {room = room} h f = record { wrong = λ q. f any _ (h.wrong q); deep = λ at q. let x = h.deep at q in (x.0, f (bound_of room) x.0 x.1) }
+
+-- the part stands inside one more node
+pub raised_in : {Q P : Bound → List Token → List Token → Type 0} {room inside : Room} {e : PhraseError} {i j k : List Token} → inside.nodes ≡ room.nodes - 1 → inside.pairs ≡ room.pairs → Refused Q inside e j k → ((b : Bound) (r : List Token) → Q (inner b) j r → P b i r) → Refused P room e i k
+raised_in {Q} {room = room} {j = j} n p h f = record {
+  wrong = λ q. f any _ (h.wrong q);
+  deep = λ at q. let x = h.deep at q in (x.0, f (bound_of room) x.0 (subst (λ z. Q z j x.0) (λ w. within (p w) (n w)) x.1));
+}
+
+-- the part stands inside one more pair of parentheses
+pub raised_enclosed : {Q P : Bound → List Token → List Token → Type 0} {room inside : Room} {e : PhraseError} {i j k : List Token} → inside.nodes ≡ room.nodes → inside.pairs ≡ room.pairs - 1 → Refused Q inside e j k → ((b : Bound) (r : List Token) → Q (enclosed b) j r → P b i r) → Refused P room e i k
+raised_enclosed {Q} {room = room} {j = j} n p h f = record {
+  wrong = λ q. f any _ (h.wrong q);
+  deep = λ at q. let x = h.deep at q in (x.0, f (bound_of room) x.0 (subst (λ z. Q z j x.0) (λ w. within (p w) (n w)) x.1));
+}
+
+-- the part is one in which nothing is nested
+pub raised_flat : {A : List Token → List Token → Type 0} {P : Bound → List Token → List Token → Type 0} {room : Room} {e : PhraseError} {i j k : List Token} → RefusedFlat A e j k → ((b : Bound) (r : List Token) → Fails A j r → P b i r) → Refused P room e i k
+raised_flat h f = record { wrong = λ q. f any _ (h.wrong q); deep = λ at q. absurd (h.deep at q) }
+
+-- the same of both
+pub flat_as : {A B : List Token → List Token → Type 0} {e : PhraseError} {i j k : List Token} → RefusedFlat A e j k → ((r : List Token) → Fails A j r → Fails B i r) → RefusedFlat B e i k
+flat_as h f = record { wrong = λ q. f _ (h.wrong q); deep = h.deep }
+
+pub flat_no_memory : {A : List Token → List Token → Type 0} {i j : List Token} → RefusedFlat A OutOfMemory i j
+flat_no_memory = record { wrong = λ q. absurd (no_memory_is q); deep = λ at q. absurd (memory_deep_is q) }
+
+pub flat_here : {A : List Token → List Token → Type 0} {i j : List Token} → Fails A i j → RefusedFlat A Syntax i j
+flat_here f = record { wrong = λ q. f; deep = λ at q. absurd (deep_is q) }
+
+-- what a public reader answers
+
+pub told : {A : Bound → List Token → List Token → Type 0} {room : Room} {i j : List Token} (e : PhraseError) → Refused (Lacks A) room e i j → Refuses A (bound_of room) e i j
+told OutOfMemory h = tt
+told Syntax h = h.wrong refl
+told (Nesting at) h = h.deep at refl
+
+pub telling : {A : Bound → List Token → List Token → Type 0} {room : Room} {i j : List Token} (e : PhraseError) → Refuses A (bound_of room) e i j → Refused (Lacks A) room e i j
+telling OutOfMemory h = no_memory
+telling Syntax h = wrong_here h
+telling (Nesting at) h = deep_at h.0 h.1
+
+pub flat : {A : List Token → List Token → Type 0} (b : Bound) {i j : List Token} (e : PhraseError) → RefusedFlat A e i j → Refuses (λ _. A) b e i j
+flat b OutOfMemory h = tt
+flat b Syntax h = h.wrong refl
+flat b (Nesting at) h = absurd (h.deep at refl)
+
+-- no token with the punctuator, or with the keyword, stands first
+
+pub not_at : {code : ℕ} {i : List Token} → (IsAt code i → ⊥) → NotAt (Is code) i
+not_at {code} f t j q h = f (subst (λ z. IsAt code z) (sym q) h)
+
+pub not_at_word : {code : ℕ} {i : List Token} → (IsAtKeyword code i → ⊥) → NotAt (IsKeyword code) i
+not_at_word {code} f t j q h = f (subst (λ z. IsAtKeyword code z) (sym q) h)
+
+-- a place that is known by an equation
+pub ends_at : {A : List Token → List Token → Type 0} {i j k : List Token} → k ≡ j → Fails A i j → Fails A i k
+ends_at {A} {i} q f = subst (λ z. Fails A i z) (sym q) f
+
+pub past_at : {A : Bound → List Token → List Token → Type 0} {b : Bound} {i j k : List Token} → k ≡ j → LacksPast A b i j → LacksPast A b i k
+past_at {A} {b} {i} q f = subst (λ z. LacksPast A b i z) (sym q) f
+
+pub at_from : (code : ℕ) {i j : List Token} → i ≡ j → IsAt code j → IsAt code i
+at_from code q h = subst (λ z. IsAt code z) (sym q) h
