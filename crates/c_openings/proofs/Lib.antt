@@ -1,0 +1,3 @@
+pub mod BodyOpens
+pub mod ExprOpens
+pub mod MemberOpens
