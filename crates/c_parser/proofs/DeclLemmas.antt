@@ -1,14 +1,13 @@
 -- Declarations, put together of their parts.
-use Rattle.std.proofs.Common.{◌≡◌, ◌≤◌, ◌<◌, ℕ, max, List, [], ◌∷◌, refl, sym, ap, ◌∙◌, subst, arith, length}
+use Rattle.std.proofs.Common.{◌≡◌, ℕ, List, ◌∷◌, refl, sym, ap, ◌∙◌, subst, arith, length}
 use Rattle.c_lexer.specs.declared.token.Token.{Token}
 use Rattle.c_lexer.specs.declared.punctuator.TheConstants.{ASSIGN, SEMICOLON}
 use Rattle.c_lexer.specs.declared.keyword.TheConstants.{EXTERN, STATIC}
 use Rattle.c_syntax.specs.declared.tree.DeclPart.{DeclPart}
-use Rattle.c_syntax.specs.Tree.{Storage, no_storage, static, extern, Spec, Init, MaybeInit, no_init, an_init, Decl, decl}
+use Rattle.c_syntax.specs.Tree.{Storage, no_storage, static, extern, Spec, Init, no_init, an_init, decl}
 use Rattle.c_syntax.specs.Tokens.{Is, IsKeyword, place}
 use Rattle.c_syntax.specs.Specifiers.{ReadsStorage, no_storage_stands, static_stands, extern_stands}
 use Rattle.c_syntax.specs.Statements.{no_initialiser, an_initialiser, last_part, next_part, ReadsDecl, a_declaration}
-use Rattle.c_syntax.specs.Limits.{height_of_decl}
 use Rattle.c_syntax.specs.View.{declarator_of}
 use Rattle.c_syntax.specs.UnitView.{maybe_init_of, parts_of}
 use Rattle.c_phrases.specs.declared.room.Room.{Room}

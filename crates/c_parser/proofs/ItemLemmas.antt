@@ -1,5 +1,5 @@
 -- Items of a unit, put together of their parts.
-use Rattle.std.proofs.Common.{◌≡◌, ◌≤◌, ◌<◌, ℕ, suc, max, List, [], ◌∷◌, refl, sym, ap, ◌∙◌, subst, arith, length}
+use Rattle.std.proofs.Common.{◌≡◌, ◌≤◌, ℕ, List, ◌∷◌, sym, ap, ◌∙◌, subst, arith, length}
 use Rattle.c_lexer.specs.declared.token.Token.{Token}
 use Rattle.c_lexer.specs.declared.punctuator.TheConstants.{ASSIGN, COMMA, LEFT_BRACE, RIGHT_BRACE, SEMICOLON}
 use Rattle.c_lexer.specs.declared.keyword.TheConstants.{ENUM, STRUCT}
@@ -10,13 +10,12 @@ use Rattle.c_syntax.specs.declared.tree.Enumerator.{Enumerator}
 use Rattle.c_syntax.specs.declared.tree.Item.{Item as ItemTree}
 use Rattle.c_syntax.specs.declared.tree.Stmt.{Stmt as StmtTree}
 use Rattle.c_syntax.specs.declared.tree.Ident.{Ident as Named}
-use Rattle.c_syntax.specs.Tree.{Storage, Spec, Expr, Maybe, absent, there, Declarator, Stmt, Tag, no_tag, tag, struct_item, enum_item, tag_item, decl_item, function_item, decl}
+use Rattle.c_syntax.specs.Tree.{Storage, Spec, Expr, absent, there, Declarator, Stmt, Tag, no_tag, tag, struct_item, enum_item, tag_item, decl_item, function_item, decl}
 use Rattle.c_syntax.specs.Tokens.{Is, IsKeyword, place}
 use Rattle.c_syntax.specs.Specifiers.{ReadsStorage, no_storage_stands, static_stands, extern_stands}
 use Rattle.c_syntax.specs.Grammar.{conditional_level}
 use Rattle.c_syntax.specs.Statements.{last_declarator, next_declarator, last_member, next_member, no_enumerator_value, an_enumerator_value, last_enumerator, next_enumerator, ReadsTag, no_name, a_tag}
 use Rattle.c_syntax.specs.Statements.{a_struct, an_enum, an_enum_with_comma, a_tag_alone, an_item_declaration, a_definition, last_item, next_item}
-use Rattle.c_syntax.specs.Limits.{height_of_declarator, height_of_stmt}
 use Rattle.c_syntax.specs.View.{ident_of, spec_of, declarator_of}
 use Rattle.c_syntax.specs.UnitView.{maybe_of, stmt_of, parts_of, members_of, enumerators_of, item_at}
 use Rattle.c_phrases.specs.declared.room.Room.{Room}

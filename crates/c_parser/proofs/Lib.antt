@@ -6,3 +6,10 @@ pub mod StmtLemmas
 pub mod DeclLemmas
 pub mod ItemLemmas
 pub mod UnitLemmas
+pub mod Classes
+pub mod Firsts
+pub mod StmtStops
+pub mod LoopStops
+pub mod DeclStops
+pub mod ItemStops
+pub mod UnitStops

@@ -1,9 +1,9 @@
 -- Lists that are read one by one.
-use Rattle.std.proofs.Common.{◌≡◌, List, [], ◌∷◌, ◌++◌, refl, sym, ap, ◌∙◌, subst, append_assoc, append-nil}
+use Rattle.std.proofs.Common.{◌≡◌, List, [], ◌∷◌, ◌++◌, sym, ap, ◌∙◌, subst, append_assoc, append-nil}
 use Rattle.c_lexer.specs.declared.token.Token.{Token}
 use Rattle.c_lexer.specs.declared.punctuator.TheConstants.{COMMA}
 use Rattle.c_syntax.specs.Tokens.{Is}
-use Rattle.c_parser.specs.Lists.{Goes, Rest, ends, goes_on, RestAfterComma, no_comma_stands, after_comma}
+use Rattle.c_parser.specs.Lists.{Goes, Rest, goes_on, RestAfterComma, after_comma}
 
 -- nothing was read so far
 pub goes_none : {X : Type 0} {R S : List X → List Token → List Token → Type 0} {i : List Token} (done : List X) → done ≡ [] → ((more : List X) (k : List Token) → S more i k → R more i k) → Goes R S done i i

@@ -1,5 +1,5 @@
 -- What is read inside a node is within the room of the node.
-use Rattle.std.proofs.Common.{◌≡◌, ◌≤◌, ◌<◌, ℕ, suc, ◌-◌, List, [], ◌∷◌, sym, ap, subst, arith, drop}
+use Rattle.std.proofs.Common.{◌≡◌, ◌<◌, ℕ, ◌-◌, List, [], ◌∷◌, sym, ap, subst, arith, drop}
 use Rattle.c_lexer.specs.declared.token.Token.{Token}
 use Rattle.c_syntax.specs.Tree.{Stmt}
 use Rattle.c_syntax.specs.Tokens.{IsKeyword, place}

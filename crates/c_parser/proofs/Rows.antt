@@ -1,8 +1,8 @@
 -- Lists of trees that a statement holds, as it is seen.
-use Rattle.std.proofs.Common.{◌≡◌, ℕ, List, ◌∷◌, Vec, Global, refl, ap, sym, ◌∙◌}
+use Rattle.std.proofs.Common.{◌≡◌, ℕ, Vec, Global, refl, ap, sym, ◌∙◌}
 use mathlib.Core.Former.{Count}
 use Rattle.c_syntax.specs.declared.tree.Expr.{Expr as Tree}
-use Rattle.c_syntax.specs.declared.tree.BlockItem.{BlockItem, Declaration, Statement'}
+use Rattle.c_syntax.specs.declared.tree.BlockItem.{BlockItem}
 use Rattle.c_syntax.specs.declared.tree.Stmt.{Stmt as StmtTree}
 use Rattle.c_syntax.specs.declared.tree.StmtKind.{StmtKind, Block', Switch', Row_of-BlockItem, end_of-BlockItem, more_of-BlockItem, items-the_row-BlockItem, items_hidden-the_row-BlockItem-0, Row_of-Group, end_of-Group, more_of-Group, items-the_row-Group, items_hidden-the_row-Group-1}
 use Rattle.c_syntax.specs.declared.tree.StmtKind.TheVariants.{Block, Switch}

@@ -1,5 +1,5 @@
 -- Statements, put together of their parts.
-use Rattle.std.proofs.Common.{◌≡◌, ◌≤◌, ◌<◌, ℕ, suc, ◌-◌, max, List, [], ◌∷◌, refl, sym, ap, ◌∙◌, subst, drop, arith}
+use Rattle.std.proofs.Common.{◌≡◌, ◌<◌, ℕ, List, [], ◌∷◌, refl, sym, ap, ◌∙◌, subst, drop, arith}
 use Rattle.c_lexer.specs.declared.token.Token.{Token}
 use Rattle.c_lexer.specs.declared.punctuator.TheConstants.{LEFT_PARENTHESIS, RIGHT_PARENTHESIS, LEFT_BRACE, RIGHT_BRACE, COLON, SEMICOLON}
 use Rattle.c_lexer.specs.declared.keyword.TheConstants.{BREAK, CASE, CONTINUE, DEFAULT, DO, ELSE, FOR, IF, RETURN, SWITCH, WHILE}
@@ -11,12 +11,12 @@ use Rattle.c_syntax.specs.declared.tree.Stmt.{Stmt as StmtTree}
 use Rattle.c_syntax.specs.declared.tree.Group.{Group}
 use Rattle.c_syntax.specs.declared.tree.BlockItem.{BlockItem}
 use Rattle.c_syntax.specs.declared.tree.BlockItem.TheVariants.{Declaration, Statement}
-use Rattle.c_syntax.specs.Statements.{ReadsMaybe, no_expression_stands, an_expression_stands, ReadsBlockItems}
-use Rattle.c_syntax.specs.Tree.{Expr, Maybe, absent, there, First, first_absent, first_expr, first_decl, Decl, Groups, more_groups, BlockItems}
+use Rattle.c_syntax.specs.Statements.{ReadsMaybe, no_expression_stands, an_expression_stands}
+use Rattle.c_syntax.specs.Tree.{Expr, Maybe, absent, there, First, first_absent, first_expr, first_decl, Decl, Groups, more_groups}
 use Rattle.c_syntax.specs.Tree.{Stmt, block, empty, evaluate, only_if, if_else, while_loop, do_loop, for_loop, switch_on, break_off, continue_on, return_from}
 use Rattle.c_syntax.specs.Tokens.{Is, IsKeyword, place}
 use Rattle.c_syntax.specs.Grammar.{conditional_level, expression_level}
-use Rattle.c_syntax.specs.Statements.{first_nothing, first_expression, first_declaration, last_case, last_default, next_case, next_default, IsClosed}
+use Rattle.c_syntax.specs.Statements.{first_nothing, first_expression, first_declaration, last_case, last_default, next_case, next_default}
 use Rattle.c_syntax.specs.Statements.{a_block, an_empty, an_evaluation, an_if, an_if_else, a_while, a_do, a_for, a_switch, a_break, a_continue, a_return}
 use Rattle.c_syntax.specs.Statements.{no_block_item, no_group, a_block_decl, a_block_stmt, last_stmt, next_stmt, a_group}
 use Rattle.c_syntax.specs.View.{expr_of}

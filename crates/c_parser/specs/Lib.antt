@@ -1,4 +1,6 @@
 pub mod Lists
 pub mod Making
 pub mod Parsed
+pub mod Refused
+pub mod Refusing
 pub mod Starting

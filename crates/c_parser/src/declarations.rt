@@ -5,6 +5,12 @@ ghost use Rattle.c_syntax.specs.UnitView.{decl_of, maybe_init_of, storage_of};
 ghost use Rattle.c_syntax.specs.Specifiers.{ReadsStorage};
 ghost use Rattle.c_phrases.specs.Phrases.{HasDeclarator};
 ghost use Rattle.c_parser.specs.Parsed.{HasPlainDecl, HasParts, HasMaybeInit};
+ghost use Rattle.c_refusals.specs.Fails.{Fails};
+ghost use Rattle.c_refusals.specs.Phrases.{Bound, APlainDecl};
+ghost use Rattle.c_refusals.specs.Declarations.{PartsTail, PartsEnd};
+ghost use Rattle.c_refusals.specs.Items.{AnOther};
+ghost use Rattle.c_phrases.specs.Refusing.{bound_of, Stops};
+ghost use Rattle.c_parser.specs.Refusing.{AfterStorage};
 
 use crate::starts::sure_to_be_deep;
 use c_lexer::keyword::{EXTERN, STATIC};
@@ -18,6 +24,7 @@ use std::alloc::Global;
 pub fn declaration(cursor: &mut Cursor<'_>, alloc: Global, room: Room) -> Result<Decl, PhraseError>
     ensures reads { IfOk result (λ x. HasPlainDecl room (decl_of x) cursor.old.rest.now cursor.new.rest.now) }
     ensures shorter { OnOk result (length cursor.new.rest.now < length cursor.old.rest.now) }
+    ensures stops { Stops APlainDecl (bound_of room) result cursor.old.rest.now cursor.new.rest.now }
 {
     match plain_declaration(cursor, alloc, room) {
         Ok(decl) => Ok(decl),
@@ -37,6 +44,7 @@ fn plain_declaration(
 ) -> Result<Decl, PhraseError>
     ensures reads { IfOk result (λ x. HasPlainDecl room (decl_of x) cursor.old.rest.now cursor.new.rest.now) }
     ensures shorter { OnOk result (length cursor.new.rest.now < length cursor.old.rest.now) }
+    ensures stops { Stops APlainDecl (bound_of room) result cursor.old.rest.now cursor.new.rest.now }
 {
     let at = cursor.place();
     let spec = cursor.specifiers(alloc)?;
@@ -59,6 +67,7 @@ pub fn parts(
 ) -> Result<Vec<DeclPart>, PhraseError>
     ensures reads { (start : List Token) → HasDeclarator room (declarator_of first) start cursor.old.rest.now → IfOk result (λ ps. HasParts room ps.items start cursor.new.rest.now) }
     ensures shorter { OnOk result (length cursor.new.rest.now < length cursor.old.rest.now) }
+    ensures stops { Stops PartsTail (bound_of room) result cursor.old.rest.now cursor.new.rest.now }
 {
     let mut parts = Vec::new(alloc);
     let init = maybe_initialiser(cursor, alloc, room)?;
@@ -82,7 +91,9 @@ fn maybe_initialiser(
     alloc: Global,
     room: Room,
 ) -> Result<Option<Init>, PhraseError>
-    ensures { IfOk result (λ v. HasMaybeInit room (maybe_init_of v) cursor.old.rest.now cursor.new.rest.now) }
+    ensures reads { IfOk result (λ v. HasMaybeInit room (maybe_init_of v) cursor.old.rest.now cursor.new.rest.now) }
+    ensures stops { Stops PartsTail (bound_of room) result cursor.old.rest.now cursor.new.rest.now }
+    ensures leads { OnOk result ((x : Bound) (r : List Token) → Fails (PartsEnd x) cursor.new.rest.now r → Fails (PartsTail x) cursor.old.rest.now r) }
 {
     if !cursor.take(ASSIGN) {
         return Ok(None);
@@ -93,7 +104,8 @@ fn maybe_initialiser(
 
 /// Takes the storage class that stands first, if one does.
 pub fn storage(cursor: &mut Cursor<'_>) -> Storage
-    ensures { ReadsStorage (storage_of result) cursor.old.rest.now cursor.new.rest.now }
+    ensures reads { ReadsStorage (storage_of result) cursor.old.rest.now cursor.new.rest.now }
+    ensures leads { (x : Bound) (r : List Token) → Fails (AfterStorage x) cursor.new.rest.now r → Fails (AnOther x) cursor.old.rest.now r }
 {
     if cursor.take_keyword(STATIC) {
         return Storage::Static;

@@ -1,7 +1,18 @@
-ghost use Rattle.std.specs.Prelude.{◌<◌, IfOk, OnOk, length};
+ghost use Rattle.std.specs.Prelude.{◌<◌, ◌∷◌, IfOk, OnOk, List, length};
+ghost use Rattle.c_lexer.specs.declared.token.Token.{Token};
+ghost use Rattle.c_lexer.specs.declared.keyword.TheConstants.{ENUM as enum_word};
+ghost use Rattle.c_lexer.specs.declared.punctuator.TheConstants.{LEFT_BRACE as opening, SEMICOLON as ending};
+ghost use Rattle.c_syntax.specs.Tokens.{IsKeyword};
 ghost use Rattle.c_syntax.specs.UnitView.{item_at, maybe_of, tag_of};
 ghost use Rattle.c_syntax.specs.Statements.{ReadsTag};
+ghost use Rattle.c_refusals.specs.Fails.{Fails};
+ghost use Rattle.c_refusals.specs.Phrases.{Bound, any, Punctuator};
+ghost use Rattle.c_refusals.specs.Units.{AUnit};
+ghost use Rattle.c_refusals.specs.Items.{AnItem, AnOther, InStruct, AMember, DeclaratorsClosed, InEnum, EnumEnd, ValueRest};
 ghost use Rattle.c_phrases.specs.declared.room.Room.{Room};
+ghost use Rattle.c_phrases.specs.Standing.{IsAt};
+ghost use Rattle.c_phrases.specs.Refusing.{bound_of, Stops};
+ghost use Rattle.c_parser.specs.Starting.{BeginsTagged, BeginsEnum};
 ghost use Rattle.c_parser.specs.Parsed.{HasItem, HasMembers, HasMember, HasDeclarators, HasEnumerators, HasEnumerator, HasEnumeratorValue, AreItems};
 
 use crate::declarations::{parts, storage};
@@ -18,6 +29,7 @@ pub fn items(cursor: &mut Cursor<'_>, alloc: Global, room: Room) -> Result<Vec<I
     requires { 0 < room.nodes }
     ensures reads { IfOk result (λ xs. AreItems room xs.items cursor.old.rest.now cursor.new.rest.now) }
     ensures whole { OnOk result (length cursor.new.rest.now < 1) }
+    ensures stops { Stops AUnit (bound_of room) result cursor.old.rest.now cursor.new.rest.now }
 {
     let mut items = Vec::new(alloc);
     let first = item(cursor, alloc, room)?;
@@ -33,6 +45,7 @@ fn item(cursor: &mut Cursor<'_>, alloc: Global, room: Room) -> Result<Item, Phra
     requires { 0 < room.nodes }
     ensures reads { IfOk result (λ x. HasItem room (item_at x.at x.kind) cursor.old.rest.now cursor.new.rest.now) }
     ensures shorter { OnOk result (length cursor.new.rest.now < length cursor.old.rest.now) }
+    ensures stops { Stops AnItem (bound_of room) result cursor.old.rest.now cursor.new.rest.now }
 {
     match item_start(cursor) {
         ItemStart::Struct => struct_item(cursor, alloc, room),
@@ -44,8 +57,10 @@ fn item(cursor: &mut Cursor<'_>, alloc: Global, room: Room) -> Result<Item, Phra
 
 // Reads a struct with its members (C99 6.7.2.1).
 fn struct_item(cursor: &mut Cursor<'_>, alloc: Global, room: Room) -> Result<Item, PhraseError>
+    requires { BeginsTagged opening cursor.now.rest.now }
     ensures reads { IfOk result (λ x. HasItem room (item_at x.at x.kind) cursor.old.rest.now cursor.new.rest.now) }
     ensures shorter { OnOk result (length cursor.new.rest.now < length cursor.old.rest.now) }
+    ensures stops { Stops AnItem (bound_of room) result cursor.old.rest.now cursor.new.rest.now }
 {
     let at = cursor.place();
     if !cursor.take_keyword(STRUCT) {
@@ -69,6 +84,8 @@ fn struct_item(cursor: &mut Cursor<'_>, alloc: Global, room: Room) -> Result<Ite
 fn members(cursor: &mut Cursor<'_>, alloc: Global, room: Room) -> Result<Vec<Member>, PhraseError>
     ensures reads { IfOk result (λ xs. HasMembers room xs.items cursor.old.rest.now cursor.new.rest.now) }
     ensures shorter { OnOk result (length cursor.new.rest.now < length cursor.old.rest.now) }
+    ensures stops { Stops InStruct (bound_of room) result cursor.old.rest.now cursor.new.rest.now }
+    ensures leads { OnOk result ((x : Bound) (r : List Token) → Fails (Punctuator ending) cursor.new.rest.now r → Fails (InStruct x) cursor.old.rest.now r) }
 {
     let mut members = Vec::new(alloc);
     let first = member(cursor, alloc, room)?;
@@ -83,6 +100,8 @@ fn members(cursor: &mut Cursor<'_>, alloc: Global, room: Room) -> Result<Vec<Mem
 fn member(cursor: &mut Cursor<'_>, alloc: Global, room: Room) -> Result<Member, PhraseError>
     ensures reads { IfOk result (λ x. HasMember room x cursor.old.rest.now cursor.new.rest.now) }
     ensures shorter { OnOk result (length cursor.new.rest.now < length cursor.old.rest.now) }
+    ensures stops { Stops AMember (bound_of room) result cursor.old.rest.now cursor.new.rest.now }
+    ensures stands { OnOk result (AMember any cursor.old.rest.now cursor.new.rest.now) }
 {
     let at = cursor.place();
     let spec = cursor.specifiers(alloc)?;
@@ -102,6 +121,7 @@ fn declarators(
 ) -> Result<Vec<Declarator>, PhraseError>
     ensures reads { IfOk result (λ xs. HasDeclarators room xs.items cursor.old.rest.now cursor.new.rest.now) }
     ensures shorter { OnOk result (length cursor.new.rest.now < length cursor.old.rest.now) }
+    ensures stops { Stops DeclaratorsClosed (bound_of room) result cursor.old.rest.now cursor.new.rest.now }
 {
     let mut declarators = Vec::new(alloc);
     let first = cursor.declarator(alloc, room)?;
@@ -118,8 +138,10 @@ fn declarators(
 
 // Reads `struct` and a tag alone.
 fn tag_item(cursor: &mut Cursor<'_>, alloc: Global) -> Result<Item, PhraseError>
+    requires { BeginsTagged ending cursor.now.rest.now }
     ensures reads { (room : Room) → IfOk result (λ x. HasItem room (item_at x.at x.kind) cursor.old.rest.now cursor.new.rest.now) }
     ensures shorter { OnOk result (length cursor.new.rest.now < length cursor.old.rest.now) }
+    ensures stops { (b : Bound) → Stops AnItem b result cursor.old.rest.now cursor.new.rest.now }
 {
     let at = cursor.place();
     if !cursor.take_keyword(STRUCT) {
@@ -137,8 +159,10 @@ fn tag_item(cursor: &mut Cursor<'_>, alloc: Global) -> Result<Item, PhraseError>
 
 // Reads an enum with its enumerators (C99 6.7.2.2).
 fn enum_item(cursor: &mut Cursor<'_>, alloc: Global, room: Room) -> Result<Item, PhraseError>
+    requires { BeginsEnum cursor.now.rest.now }
     ensures reads { IfOk result (λ x. HasItem room (item_at x.at x.kind) cursor.old.rest.now cursor.new.rest.now) }
     ensures shorter { OnOk result (length cursor.new.rest.now < length cursor.old.rest.now) }
+    ensures stops { Stops AnItem (bound_of room) result cursor.old.rest.now cursor.new.rest.now }
 {
     let at = cursor.place();
     if !cursor.take_keyword(ENUM) {
@@ -159,7 +183,9 @@ fn enum_item(cursor: &mut Cursor<'_>, alloc: Global, room: Room) -> Result<Item,
 }
 
 fn maybe_tag(cursor: &mut Cursor<'_>, alloc: Global) -> Result<Option<Ident>, PhraseError>
-    ensures { IfOk result (λ g. ReadsTag (tag_of g) cursor.old.rest.now cursor.new.rest.now) }
+    ensures reads { IfOk result (λ g. ReadsTag (tag_of g) cursor.old.rest.now cursor.new.rest.now) }
+    ensures stops { (b : Bound) (t : Token) → IsKeyword enum_word t → Stops AnItem b result (t ∷ cursor.old.rest.now) cursor.new.rest.now }
+    ensures braced { OnOk result ((t : Token) → BeginsEnum (t ∷ cursor.old.rest.now) → IsAt opening cursor.new.rest.now) }
 {
     if cursor.is_at(LEFT_BRACE) {
         return Ok(None);
@@ -176,6 +202,8 @@ fn enumerators(
 ) -> Result<Vec<Enumerator>, PhraseError>
     ensures reads { IfOk result (λ xs. HasEnumerators room xs.items cursor.old.rest.now cursor.new.rest.now) }
     ensures shorter { OnOk result (length cursor.new.rest.now < length cursor.old.rest.now) }
+    ensures stops { Stops InEnum (bound_of room) result cursor.old.rest.now cursor.new.rest.now }
+    ensures leads { OnOk result ((x : Bound) (r : List Token) → Fails (Punctuator ending) cursor.new.rest.now r → Fails (InEnum x) cursor.old.rest.now r) }
 {
     let mut list = Vec::new(alloc);
     let first = enumerator(cursor, alloc, room)?;
@@ -196,6 +224,8 @@ fn enumerators(
 fn enumerator(cursor: &mut Cursor<'_>, alloc: Global, room: Room) -> Result<Enumerator, PhraseError>
     ensures reads { IfOk result (λ x. HasEnumerator room x cursor.old.rest.now cursor.new.rest.now) }
     ensures shorter { OnOk result (length cursor.new.rest.now < length cursor.old.rest.now) }
+    ensures stops { Stops InEnum (bound_of room) result cursor.old.rest.now cursor.new.rest.now }
+    ensures leads { OnOk result ((x : Bound) (r : List Token) → Fails (EnumEnd x) cursor.new.rest.now r → Fails (InEnum x) cursor.old.rest.now r) }
 {
     let name = cursor.name(alloc)?;
     let value = enumerator_value(cursor, alloc, room)?;
@@ -207,7 +237,9 @@ fn enumerator_value(
     alloc: Global,
     room: Room,
 ) -> Result<Option<Expr>, PhraseError>
-    ensures { IfOk result (λ e. HasEnumeratorValue room (maybe_of e) cursor.old.rest.now cursor.new.rest.now) }
+    ensures reads { IfOk result (λ e. HasEnumeratorValue room (maybe_of e) cursor.old.rest.now cursor.new.rest.now) }
+    ensures stops { Stops ValueRest (bound_of room) result cursor.old.rest.now cursor.new.rest.now }
+    ensures leads { OnOk result ((x : Bound) (r : List Token) → Fails (EnumEnd x) cursor.new.rest.now r → Fails (ValueRest x) cursor.old.rest.now r) }
 {
     if !cursor.take(ASSIGN) {
         return Ok(None);
@@ -221,6 +253,7 @@ fn other_item(cursor: &mut Cursor<'_>, alloc: Global, room: Room) -> Result<Item
     requires { 0 < room.nodes }
     ensures reads { IfOk result (λ x. HasItem room (item_at x.at x.kind) cursor.old.rest.now cursor.new.rest.now) }
     ensures shorter { OnOk result (length cursor.new.rest.now < length cursor.old.rest.now) }
+    ensures stops { Stops AnOther (bound_of room) result cursor.old.rest.now cursor.new.rest.now }
 {
     let at = cursor.place();
     let storage = storage(cursor);

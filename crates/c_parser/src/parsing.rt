@@ -1,8 +1,11 @@
-ghost use Rattle.std.specs.Prelude.{◌≡◌, IfOk};
+ghost use Rattle.std.specs.Prelude.{◌≡◌, IfOk, IfErr};
 ghost use Rattle.dm_base.specs.declared.mode.Mode.{Mode};
+ghost use Rattle.c_syntax.specs.Tree.{Items};
 ghost use Rattle.c_syntax.specs.UnitView.{items_of};
 ghost use Rattle.c_syntax.specs.Spelling.{SpellsUnit};
 ghost use Rattle.c_syntax.specs.Limits.{deepest};
+ghost use Rattle.c_parser.specs.Refused.{end_of, IsRefused, Answers};
+ghost use Rattle.c_parser.specs.Refusing.{place_left};
 
 use crate::error::ParseError;
 use crate::items::items;
@@ -15,7 +18,8 @@ use std::alloc::Global;
 // How many pairs of parentheses that make no node may stand round a token.
 const PAIRS: u32 = 500;
 
-/// The unit that the tokens spell within the limits of the mode (C99 6.9).
+/// The unit that the tokens spell within the limits of the mode (C99 6.9). There is at most one, and where there is one it
+/// is answered, unless memory is refused.
 ///
 /// # Errors
 ///
@@ -24,13 +28,16 @@ const PAIRS: u32 = 500;
 /// of a node that is too deep, or of a pair of parentheses in too many others.
 pub fn parse(alloc: Global, tokens: &[Token], mode: Mode) -> Result<Unit, ParseError>
     ensures spelled { IfOk result (λ u. SpellsUnit (items_of u.items.items) tokens.now mode) }
+    ensures refused { IfErr result (λ e. IsRefused tokens.now mode e) }
+    ensures complete { (unit : Items) → SpellsUnit unit tokens.now mode → Answers unit result }
 {
     let items = whole(alloc, tokens, mode)?;
     Ok(Unit { items })
 }
 
 fn whole(alloc: Global, tokens: &[Token], mode: Mode) -> Result<Vec<Item>, ParseError>
-    ensures { IfOk result (λ xs. SpellsUnit (items_of xs.items) tokens.now mode) }
+    ensures spelled { IfOk result (λ xs. SpellsUnit (items_of xs.items) tokens.now mode) }
+    ensures refused { IfErr result (λ e. IsRefused tokens.now mode e) }
 {
     let mut cursor = Cursor { rest: tokens };
     let room = Room {
@@ -40,7 +47,7 @@ fn whole(alloc: Global, tokens: &[Token], mode: Mode) -> Result<Vec<Item>, Parse
     match items(&mut cursor, alloc, room) {
         Ok(items) => Ok(items),
         Err(PhraseError::OutOfMemory) => Err(ParseError::OutOfMemory),
-        Err(PhraseError::Syntax) => Err(ParseError::Syntax(place_left(tokens, cursor.rest))),
+        Err(PhraseError::Syntax) => Err(ParseError::Syntax(place_of_first(tokens, cursor.rest))),
         Err(PhraseError::Nesting(at)) => Err(ParseError::Nesting(at)),
     }
 }
@@ -55,16 +62,21 @@ fn most_nodes(mode: Mode) -> u32
 }
 
 // The place of the first token that is left, or the end of the last one of all.
-fn place_left(tokens: &[Token], rest: &[Token]) -> u32 {
+fn place_of_first(tokens: &[Token], rest: &[Token]) -> u32
+    ensures { result ≡ place_left tokens.now rest.now }
+{
     match rest.split_first() {
         Some((token, _)) => token.from,
         None => end_of_all(tokens),
     }
 }
 
-fn end_of_all(tokens: &[Token]) -> u32 {
-    match tokens.last() {
-        Some(token) => token.to,
-        None => 0,
+fn end_of_all(tokens: &[Token]) -> u32
+    ensures { result ≡ end_of 0 tokens.now }
+{
+    let mut end = 0;
+    for token in tokens {
+        end = token.to;
     }
+    end
 }

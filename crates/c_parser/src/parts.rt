@@ -2,6 +2,8 @@ ghost use Rattle.std.specs.Prelude.{◌<◌, IfOk, OnOk, length};
 ghost use Rattle.c_syntax.specs.View.{expr_of};
 ghost use Rattle.c_syntax.specs.UnitView.{maybe_of};
 ghost use Rattle.c_parser.specs.Parsed.{HasCondition, HasMaybe};
+ghost use Rattle.c_phrases.specs.Refusing.{bound_of, Stops};
+ghost use Rattle.c_parser.specs.Refusing.{ACondition, ABefore};
 
 use c_lexer::punctuator::{LEFT_PARENTHESIS, RIGHT_PARENTHESIS};
 use c_phrases::{Cursor, PhraseError, Room};
@@ -12,6 +14,7 @@ use std::alloc::Global;
 pub fn condition(cursor: &mut Cursor<'_>, alloc: Global, room: Room) -> Result<Expr, PhraseError>
     ensures reads { IfOk result (λ e. HasCondition room (expr_of e) cursor.old.rest.now cursor.new.rest.now) }
     ensures shorter { OnOk result (length cursor.new.rest.now < length cursor.old.rest.now) }
+    ensures stops { Stops ACondition (bound_of room) result cursor.old.rest.now cursor.new.rest.now }
 {
     if !cursor.take(LEFT_PARENTHESIS) {
         return Err(PhraseError::Syntax);
@@ -32,6 +35,7 @@ pub fn expression_before(
 ) -> Result<Option<Expr>, PhraseError>
     ensures reads { IfOk result (λ e. HasMaybe room end (maybe_of e) cursor.old.rest.now cursor.new.rest.now) }
     ensures shorter { OnOk result (length cursor.new.rest.now < length cursor.old.rest.now) }
+    ensures stops { Stops (ABefore end) (bound_of room) result cursor.old.rest.now cursor.new.rest.now }
 {
     if cursor.take(end) {
         return Ok(None);

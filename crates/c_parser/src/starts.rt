@@ -1,14 +1,17 @@
 // What stands first, where statements and items are read.
 
-ghost use Rattle.std.specs.Prelude.{◌<◌, IfSome, length};
-ghost use Rattle.c_parser.specs.Starting.{StartsCompound};
+ghost use Rattle.std.specs.Prelude.{◌≡◌, ◌<◌, ◌↔◌, ◌⊎◌, ℕ, IsTrue, IfSome, drop, length};
+ghost use Rattle.c_lexer.specs.declared.punctuator.TheConstants.{LEFT_BRACE as opening};
+ghost use Rattle.c_syntax.proofs.Heads.{head, head_of_kind, head_of_word, head_of_code};
+ghost use Rattle.c_refusals.specs.Phrases.{AStmt, within};
+ghost use Rattle.c_phrases.specs.Standing.{IsAt};
+ghost use Rattle.c_phrases.specs.Refusing.{Refuses};
+ghost use Rattle.c_parser.specs.Refusing.{KeepsOrNests};
+ghost use Rattle.c_parser.specs.Starting.{StartsCompound, StartsItem, BeginsTagged, BeginsEnum};
 
-use c_lexer::keyword::{BREAK, CONTINUE, DO, ENUM, FOR, IF, RETURN, SIZEOF, STRUCT, SWITCH, WHILE};
-use c_lexer::punctuator::{
-    AMPERSAND, ASTERISK, DECREMENT, EXCLAMATION, INCREMENT, LEFT_BRACE, LEFT_PARENTHESIS, MINUS,
-    PLUS, SEMICOLON, TILDE,
-};
-use c_lexer::{Token, TokenKind};
+use c_lexer::TokenKind;
+use c_lexer::keyword::{DO, ENUM, FOR, IF, STRUCT, SWITCH, WHILE};
+use c_lexer::punctuator::{LEFT_BRACE, SEMICOLON};
 use c_phrases::{Cursor, PhraseError};
 
 /// What an item of a unit is, as its first tokens tell.
@@ -57,22 +60,79 @@ pub fn compound_start(cursor: &Cursor<'_>) -> Option<Compound>
     None
 }
 
-/// The error of a statement for which there is no room.
-pub fn no_room(cursor: &Cursor<'_>) -> PhraseError {
-    match cursor.rest.split_first() {
-        Some((token, _)) => {
-            if begins_statement(token) {
-                PhraseError::Nesting(token.from)
-            } else {
-                PhraseError::Syntax
-            }
-        }
-        None => PhraseError::Syntax,
+// The number of what each punctuator begins: 20 for an expression, 21 for a block, 22 for a statement of `;` alone, and less
+// for what begins no statement.
+const PUNCTUATOR_HEADS: [u8; 45] = [
+    15, 16, 20, 10, 21, 5, 16, 16, 20, 20, 20, 20, 20, 20, 20, 20, 16, 16, 16, 16, 16, 16, 16, 16,
+    16, 16, 16, 16, 16, 16, 16, 8, 22, 9, 16, 16, 16, 16, 16, 16, 16, 16, 16, 16, 7,
+];
+
+// The number of what each keyword begins: 20 for an expression, from 23 on for the other statements, and less for what
+// begins no statement.
+const KEYWORD_HEADS: [u8; 22] = [
+    28, 11, 2, 2, 29, 12, 25, 13, 2, 3, 26, 23, 2, 30, 2, 20, 3, 2, 27, 2, 2, 24,
+];
+
+const OTHER: u8 = 16;
+
+fn code_head(code: u8) -> u8
+    ensures { result ≡ head_of_code code }
+{
+    if code < 45 {
+        PUNCTUATOR_HEADS[code as usize]
+    } else {
+        OTHER
     }
 }
 
+fn word_head(word: u8) -> u8
+    ensures { result ≡ head_of_word word }
+{
+    if word < 22 {
+        KEYWORD_HEADS[word as usize]
+    } else {
+        OTHER
+    }
+}
+
+#[tactic(auto, unfolding(c_syntax::proofs::Heads::head_of_kind))]
+fn kind_head(kind: &TokenKind) -> u8
+    ensures { result ≡ head_of_kind kind.now }
+{
+    match kind {
+        TokenKind::Punct(code) => code_head(*code),
+        TokenKind::Keyword(word) => word_head(*word),
+        TokenKind::Name(_) => 20,
+        TokenKind::Int { .. } => 20,
+        TokenKind::Char(_) => 20,
+        TokenKind::Str(_) => 20,
+    }
+}
+
+// The number of what the token that stands first begins, or 0 where none is left.
+fn first_head(cursor: &Cursor<'_>) -> u8
+    ensures { result ≡ head cursor.now.rest.now }
+{
+    match cursor.rest.split_first() {
+        Some((token, _)) => kind_head(&token.kind),
+        None => 0,
+    }
+}
+
+/// The error of a statement for which there is no room.
+pub fn no_room(cursor: &Cursor<'_>) -> PhraseError
+    ensures { (p : ℕ) → Refuses AStmt (within p 0) result cursor.now.rest.now cursor.now.rest.now }
+{
+    if first_head(cursor) < 20 {
+        return PhraseError::Syntax;
+    }
+    PhraseError::Nesting(cursor.place())
+}
+
 /// The error after a token with which a node too deep is sure to come, where there is no room for one.
-pub fn sure_to_be_deep(cursor: &Cursor<'_>, error: PhraseError) -> PhraseError {
+pub fn sure_to_be_deep(cursor: &Cursor<'_>, error: PhraseError) -> PhraseError
+    ensures { KeepsOrNests error result }
+{
     if cursor.rest.is_empty() {
         return error;
     }
@@ -82,66 +142,58 @@ pub fn sure_to_be_deep(cursor: &Cursor<'_>, error: PhraseError) -> PhraseError {
     }
 }
 
-fn begins_statement(token: &Token) -> bool {
-    match &token.kind {
-        TokenKind::Name(_) | TokenKind::Int { .. } | TokenKind::Char(_) | TokenKind::Str(_) => true,
-        TokenKind::Keyword(word) => is_statement_word(*word),
-        TokenKind::Punct(code) => is_statement_punctuator(*code),
-    }
-}
-
-fn is_statement_word(word: u8) -> bool {
-    word == IF
-        || word == WHILE
-        || word == DO
-        || word == FOR
-        || word == SWITCH
-        || word == BREAK
-        || word == CONTINUE
-        || word == RETURN
-        || word == SIZEOF
-}
-
-fn is_statement_punctuator(code: u8) -> bool {
-    code == LEFT_PARENTHESIS
-        || code == LEFT_BRACE
-        || code == SEMICOLON
-        || code == INCREMENT
-        || code == DECREMENT
-        || code == AMPERSAND
-        || code == ASTERISK
-        || code == PLUS
-        || code == MINUS
-        || code == TILDE
-        || code == EXCLAMATION
-}
-
 /// What the item that stands first is.
-pub fn item_start(cursor: &Cursor<'_>) -> ItemStart {
-    if cursor.is_at_keyword(STRUCT) {
-        if is_ahead(cursor, 2, LEFT_BRACE) {
-            return ItemStart::Struct;
-        }
-        if is_ahead(cursor, 2, SEMICOLON) {
-            return ItemStart::Tag;
-        }
-        return ItemStart::Other;
+pub fn item_start(cursor: &Cursor<'_>) -> ItemStart
+    ensures { StartsItem result cursor.now.rest.now }
+{
+    if begins_tagged(cursor, LEFT_BRACE) {
+        return ItemStart::Struct;
     }
-    if cursor.is_at_keyword(ENUM) {
-        if is_ahead(cursor, 1, LEFT_BRACE) || is_ahead(cursor, 2, LEFT_BRACE) {
-            return ItemStart::Enum;
-        }
+    if begins_tagged(cursor, SEMICOLON) {
+        return ItemStart::Tag;
+    }
+    if begins_enum(cursor) {
+        return ItemStart::Enum;
     }
     ItemStart::Other
 }
 
-// Whether the punctuator stands after so many tokens.
-fn is_ahead(cursor: &Cursor<'_>, count: usize, code: u8) -> bool {
-    match cursor.rest.get(count) {
-        Some(token) => match token.kind {
-            TokenKind::Punct(other) => other == code,
-            _ => false,
-        },
+// Whether `struct` stands first, and the punctuator after one token more.
+fn begins_tagged(cursor: &Cursor<'_>, code: u8) -> bool
+    ensures { IsTrue result ↔ BeginsTagged code cursor.now.rest.now }
+{
+    cursor.is_at_keyword(STRUCT) && is_after_two(cursor, code)
+}
+
+// Whether `enum` stands first, and a brace after it or after one token more.
+fn begins_enum(cursor: &Cursor<'_>) -> bool
+    ensures { IsTrue result ↔ BeginsEnum cursor.now.rest.now }
+{
+    cursor.is_at_keyword(ENUM) && has_brace(cursor)
+}
+
+fn has_brace(cursor: &Cursor<'_>) -> bool
+    ensures { IsTrue result ↔ (IsAt opening (drop 1 cursor.now.rest.now) ⊎ IsAt opening (drop 2 cursor.now.rest.now)) }
+{
+    is_after_one(cursor, LEFT_BRACE) || is_after_two(cursor, LEFT_BRACE)
+}
+
+// Whether the punctuator stands after one token.
+fn is_after_one(cursor: &Cursor<'_>, code: u8) -> bool
+    ensures { IsTrue result ↔ IsAt code (drop 1 cursor.now.rest.now) }
+{
+    match cursor.rest.split_first() {
+        Some((_, rest)) => Cursor { rest }.is_at(code),
+        None => false,
+    }
+}
+
+// Whether the punctuator stands after two tokens.
+fn is_after_two(cursor: &Cursor<'_>, code: u8) -> bool
+    ensures { IsTrue result ↔ IsAt code (drop 2 cursor.now.rest.now) }
+{
+    match cursor.rest.split_first() {
+        Some((_, rest)) => is_after_one(&Cursor { rest }, code),
         None => false,
     }
 }

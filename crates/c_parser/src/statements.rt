@@ -1,22 +1,29 @@
-ghost use Rattle.std.specs.Prelude.{◌≡◌, ◌<◌, ◌∷◌, IfOk, OnOk, List, length};
+ghost use Rattle.std.specs.Prelude.{◌≡◌, ◌≤◌, ◌<◌, ◌↔◌, ◌∷◌, IfOk, OnOk, IsTrue, List, drop, length};
 ghost use Rattle.c_lexer.specs.declared.token.Token.{Token};
 ghost use Rattle.c_lexer.specs.declared.keyword.TheConstants.{BREAK as break_word, CONTINUE as continue_word, DO as do_word, FOR as for_word, IF as if_word, RETURN as return_word, SWITCH as switch_word, WHILE as while_word};
 ghost use Rattle.c_lexer.specs.declared.punctuator.TheConstants.{LEFT_BRACE as opening};
 ghost use Rattle.c_syntax.specs.Tokens.{IsKeyword};
 ghost use Rattle.c_phrases.specs.Standing.{IsAt};
 ghost use Rattle.c_syntax.specs.UnitView.{stmt_of, first_of_head};
-ghost use Rattle.c_parser.specs.Starting.{BeginsCompound};
+ghost use Rattle.c_parser.specs.Starting.{BeginsCompound, BeginsNoCompound, EndsGroup};
 ghost use Rattle.c_parser.specs.Parsed.{HasStmt, HasNode, HasBlock, HasFirst, AddsBlockItem, AreStmts, HasGroups, HasHead};
+ghost use Rattle.c_phrases.specs.Looking.{IsAtSpecifier};
+ghost use Rattle.c_syntax.proofs.Heads.{head};
+ghost use Rattle.c_refusals.specs.Fails.{Fails};
+ghost use Rattle.c_refusals.specs.Phrases.{Bound, inner, AStmt, ABlockItem, InBlock, InSwitch, AFirst, IfTail, WhileTail, DoTail, ForTail, SwitchTail};
+ghost use Rattle.c_refusals.specs.Groups.{InGroup, GroupRest};
+ghost use Rattle.c_phrases.specs.Refusing.{bound_of, Stops};
+ghost use Rattle.c_parser.specs.Refusing.{AHead};
 
 use crate::declarations::declaration;
-use crate::labels::labels;
+use crate::labels::{is_at_label, labels};
 use crate::nodes::{
     ForHead, add_block_statement, add_statement, block_node, do_node, for_node, group_node,
     if_else_node, if_node, stmt_node, switch_node, while_node,
 };
 use crate::parts::{condition, expression_before};
 use crate::starts::{Compound, compound_start, no_room, sure_to_be_deep};
-use c_lexer::keyword::{BREAK, CASE, CONTINUE, DEFAULT, ELSE, RETURN, WHILE};
+use c_lexer::keyword::{BREAK, CONTINUE, ELSE, RETURN, WHILE};
 use c_lexer::punctuator::{
     LEFT_BRACE, LEFT_PARENTHESIS, RIGHT_BRACE, RIGHT_PARENTHESIS, SEMICOLON,
 };
@@ -33,6 +40,7 @@ pub fn statement(
 ) -> Result<Box<Stmt>, PhraseError>
     ensures reads { IfOk result (λ s. HasStmt room (stmt_of s.value) cursor.old.rest.now cursor.new.rest.now) }
     ensures shorter { OnOk result (length cursor.new.rest.now < length cursor.old.rest.now) }
+    ensures stops { Stops AStmt (bound_of room) result cursor.old.rest.now cursor.new.rest.now }
 {
     if room.nodes == 0 {
         return Err(no_room(cursor));
@@ -69,6 +77,7 @@ fn compound(
     requires some { 0 < length cursor.now.rest.now }
     ensures reads { IfOk result (λ s. HasStmt room (stmt_of s.value) cursor.old.rest.now cursor.new.rest.now) }
     ensures shorter { OnOk result (length cursor.new.rest.now < length cursor.old.rest.now) }
+    ensures stops { Stops AStmt (bound_of room) result cursor.old.rest.now cursor.new.rest.now }
 {
     let at = cursor.place();
     let inside = room.in_node();
@@ -105,6 +114,7 @@ pub fn block(cursor: &mut Cursor<'_>, alloc: Global, room: Room) -> Result<Box<S
     requires some { 0 < length cursor.now.rest.now }
     ensures reads { IfOk result (λ s. HasBlock room (stmt_of s.value) cursor.old.rest.now cursor.new.rest.now) }
     ensures shorter { OnOk result (length cursor.new.rest.now < length cursor.old.rest.now) }
+    ensures stops { Stops InBlock (inner (bound_of room)) result (drop 1 cursor.old.rest.now) cursor.new.rest.now }
 {
     let at = cursor.place();
     let inside = room.in_node();
@@ -127,6 +137,7 @@ fn block_item(
 ) -> Result<(), PhraseError>
     ensures reads { IfOk result (λ _. AddsBlockItem room items.old.items items.new.items cursor.old.rest.now cursor.new.rest.now) }
     ensures shorter { OnOk result (length cursor.new.rest.now < length cursor.old.rest.now) }
+    ensures stops { Stops ABlockItem (bound_of room) result cursor.old.rest.now cursor.new.rest.now }
 {
     if cursor.is_at_specifier() {
         block_declaration(cursor, alloc, room, items)?;
@@ -147,6 +158,7 @@ fn if_statement(
 ) -> Result<Box<Stmt>, PhraseError>
     ensures reads { (t : Token) → IsKeyword if_word t → at ≡ t.from → IfOk result (λ s. HasNode room (stmt_of s.value) (t ∷ cursor.old.rest.now) cursor.new.rest.now) }
     ensures shorter { OnOk result (length cursor.new.rest.now < length cursor.old.rest.now) }
+    ensures stops { Stops IfTail (bound_of room) result cursor.old.rest.now cursor.new.rest.now }
 {
     let test = condition(cursor, alloc, room)?;
     let yes = statement(cursor, alloc, room)?;
@@ -169,6 +181,7 @@ fn while_statement(
 ) -> Result<Box<Stmt>, PhraseError>
     ensures reads { (t : Token) → IsKeyword while_word t → at ≡ t.from → IfOk result (λ s. HasNode room (stmt_of s.value) (t ∷ cursor.old.rest.now) cursor.new.rest.now) }
     ensures shorter { OnOk result (length cursor.new.rest.now < length cursor.old.rest.now) }
+    ensures stops { Stops WhileTail (bound_of room) result cursor.old.rest.now cursor.new.rest.now }
 {
     let test = condition(cursor, alloc, room)?;
     let body = statement(cursor, alloc, room)?;
@@ -186,6 +199,7 @@ fn do_statement(
 ) -> Result<Box<Stmt>, PhraseError>
     ensures reads { (t : Token) → IsKeyword do_word t → at ≡ t.from → IfOk result (λ s. HasNode room (stmt_of s.value) (t ∷ cursor.old.rest.now) cursor.new.rest.now) }
     ensures shorter { OnOk result (length cursor.new.rest.now < length cursor.old.rest.now) }
+    ensures stops { Stops DoTail (bound_of room) result cursor.old.rest.now cursor.new.rest.now }
 {
     let body = statement(cursor, alloc, room)?;
     if !cursor.take_keyword(WHILE) {
@@ -209,6 +223,7 @@ fn for_statement(
 ) -> Result<Box<Stmt>, PhraseError>
     ensures reads { (t : Token) → IsKeyword for_word t → at ≡ t.from → IfOk result (λ s. HasNode room (stmt_of s.value) (t ∷ cursor.old.rest.now) cursor.new.rest.now) }
     ensures shorter { OnOk result (length cursor.new.rest.now < length cursor.old.rest.now) }
+    ensures stops { Stops ForTail (bound_of room) result cursor.old.rest.now cursor.new.rest.now }
 {
     let head = for_head(cursor, alloc, room)?;
     let body = statement(cursor, alloc, room)?;
@@ -220,6 +235,7 @@ fn for_statement(
 fn for_head(cursor: &mut Cursor<'_>, alloc: Global, room: Room) -> Result<Box<ForHead>, PhraseError>
     ensures reads { IfOk result (λ h. HasHead room h.value cursor.old.rest.now cursor.new.rest.now) }
     ensures shorter { OnOk result (length cursor.new.rest.now < length cursor.old.rest.now) }
+    ensures stops { Stops AHead (bound_of room) result cursor.old.rest.now cursor.new.rest.now }
 {
     if !cursor.take(LEFT_PARENTHESIS) {
         return Err(PhraseError::Syntax);
@@ -236,6 +252,7 @@ fn for_head(cursor: &mut Cursor<'_>, alloc: Global, room: Room) -> Result<Box<Fo
 fn for_first(cursor: &mut Cursor<'_>, alloc: Global, room: Room) -> Result<ForFirst, PhraseError>
     ensures reads { IfOk result (λ x. HasFirst room (first_of_head x) cursor.old.rest.now cursor.new.rest.now) }
     ensures shorter { OnOk result (length cursor.new.rest.now < length cursor.old.rest.now) }
+    ensures stops { Stops AFirst (bound_of room) result cursor.old.rest.now cursor.new.rest.now }
 {
     if cursor.take(SEMICOLON) {
         return Ok(ForFirst::Absent);
@@ -261,6 +278,7 @@ fn switch_statement(
 ) -> Result<Box<Stmt>, PhraseError>
     ensures reads { (t : Token) → IsKeyword switch_word t → at ≡ t.from → IfOk result (λ s. HasNode room (stmt_of s.value) (t ∷ cursor.old.rest.now) cursor.new.rest.now) }
     ensures shorter { OnOk result (length cursor.new.rest.now < length cursor.old.rest.now) }
+    ensures stops { Stops SwitchTail (bound_of room) result cursor.old.rest.now cursor.new.rest.now }
 {
     let on = condition(cursor, alloc, room)?;
     if !cursor.take(LEFT_BRACE) {
@@ -276,6 +294,7 @@ fn switch_statement(
 fn groups(cursor: &mut Cursor<'_>, alloc: Global, room: Room) -> Result<Vec<Group>, PhraseError>
     ensures reads { IfOk result (λ xs. HasGroups room xs.items cursor.old.rest.now cursor.new.rest.now) }
     ensures shorter { OnOk result (length cursor.new.rest.now < length cursor.old.rest.now) }
+    ensures stops { Stops InSwitch (bound_of room) result cursor.old.rest.now cursor.new.rest.now }
 {
     let mut groups = Vec::new(alloc);
     'next: while !cursor.take(RIGHT_BRACE) {
@@ -291,6 +310,10 @@ fn groups(cursor: &mut Cursor<'_>, alloc: Global, room: Room) -> Result<Vec<Grou
 fn statements(cursor: &mut Cursor<'_>, alloc: Global, room: Room) -> Result<Vec<Stmt>, PhraseError>
     ensures reads { IfOk result (λ xs. AreStmts room xs.items cursor.old.rest.now cursor.new.rest.now) }
     ensures shorter { OnOk result (length cursor.new.rest.now < length cursor.old.rest.now) }
+    ensures stops { Stops InGroup (bound_of room) result cursor.old.rest.now cursor.new.rest.now }
+    ensures begins { OnOk result (20 ≤ head cursor.old.rest.now) }
+    ensures leads { OnOk result ((x : Bound) (r : List Token) → Fails (GroupRest x) cursor.new.rest.now r → Fails (InGroup x) cursor.old.rest.now r) }
+    ensures ends { OnOk result (head cursor.new.rest.now ≤ 12) }
 {
     let mut body = Vec::new(alloc);
     let first = statement(cursor, alloc, room)?;
@@ -302,15 +325,20 @@ fn statements(cursor: &mut Cursor<'_>, alloc: Global, room: Room) -> Result<Vec<
     Ok(body)
 }
 
-fn ends_group(cursor: &Cursor<'_>) -> bool {
-    cursor.is_at(RIGHT_BRACE) || cursor.is_at_keyword(CASE) || cursor.is_at_keyword(DEFAULT)
+fn ends_group(cursor: &Cursor<'_>) -> bool
+    ensures { IsTrue result ↔ EndsGroup cursor.now.rest.now }
+{
+    cursor.is_at(RIGHT_BRACE) || is_at_label(cursor)
 }
 
 // Reads an expression, a jump or `;` alone.
 fn simple(cursor: &mut Cursor<'_>, alloc: Global, room: Room) -> Result<Box<Stmt>, PhraseError>
-    requires { 0 < room.nodes }
+    requires room { 0 < room.nodes }
+    requires other { BeginsNoCompound cursor.now.rest.now }
+    requires no_block { IsAt opening cursor.now.rest.now → ⊥ }
     ensures reads { IfOk result (λ s. HasStmt room (stmt_of s.value) cursor.old.rest.now cursor.new.rest.now) }
     ensures shorter { OnOk result (length cursor.new.rest.now < length cursor.old.rest.now) }
+    ensures stops { Stops AStmt (bound_of room) result cursor.old.rest.now cursor.new.rest.now }
 {
     let at = cursor.place();
     let inside = room.in_node();
@@ -352,8 +380,10 @@ fn block_declaration(
     room: Room,
     items: &mut Vec<BlockItem>,
 ) -> Result<(), PhraseError>
+    requires { IsAtSpecifier cursor.now.rest.now }
     ensures reads { IfOk result (λ _. AddsBlockItem room items.old.items items.new.items cursor.old.rest.now cursor.new.rest.now) }
     ensures shorter { OnOk result (length cursor.new.rest.now < length cursor.old.rest.now) }
+    ensures stops { Stops ABlockItem (bound_of room) result cursor.old.rest.now cursor.new.rest.now }
 {
     let declaration = declaration(cursor, alloc, room)?;
     items.push(BlockItem::Declaration(declaration))?;

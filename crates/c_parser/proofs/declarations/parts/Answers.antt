@@ -1,12 +1,19 @@
 use Rattle.std.proofs.Common.{ap, length, arith, ◌∙◌, sym}
 use Rattle.c_parser.proofs.ListLemmas.{goes_first, goes_more, goes_from, rest_after}
 use Rattle.c_parser.proofs.DeclLemmas.{part_before, parts_done}
+use Rattle.c_refusals.specs.Phrases.{any}
+use Rattle.c_parser.proofs.StmtStops.{raised, ends_at}
+use Rattle.c_parser.proofs.DeclStops.{no_end_from, next_declarator_fails, next_tail_fails}
+use Rattle.c_refusals.specs.Phrases.{ADeclarator}
+use Rattle.c_refusals.specs.Declarations.{PartsTail}
+use Rattle.c_phrases.specs.Refusing.{bound_of}
 use Rattle.c_parser.proofs.declarations.parts.Goals as goal
 
 pub next-init : goal.next-init
 next-init c = record {
-  goes = λ start e. goes_first _ _ _ c.in_ok-push.ensures.items c.new-parts.ensures.items (part_before _ e c.in_ok-init.ensures);
-  no_longer = c.in_ok-init.ensures.no_longer;
+  goes = λ start e. goes_first _ _ _ c.in_ok-push.ensures.items c.new-parts.ensures.items (part_before _ e c.in_ok-init.ensures.reads);
+  leads = c.in_ok-init.ensures.leads;
+  no_longer = c.in_ok-init.ensures.reads.no_longer;
 }
 
 pub next-preserved : goal.next-preserved
@@ -15,17 +22,38 @@ next-preserved c =
     record {
       goes = λ start e.
           goes_more _ _ _ c.in_ok-push-2.ensures.items (goes_from _ (sym left.1) (c.next.invariant.goes start e))
-          (λ more k s. rest_after comma.2 comma.1 (part_before _ c.in_ok-declarator.ensures.parses c.in_ok-init-2.ensures more k s));
-      no_longer = omega (arith, ap length left.1, ap length comma.2, c.in_ok-declarator.ensures.shorter, c.in_ok-init-2.ensures.no_longer, c.next.invariant.no_longer);
+          (λ more k s. rest_after comma.2 comma.1 (part_before _ c.in_ok-declarator.ensures.parses c.in_ok-init-2.ensures.reads more k s));
+      leads = λ x r f. c.next.invariant.leads x r (next_tail_fails x (sym left.1 ∙ comma.2) comma.1 c.in_ok-declarator.ensures.parses (c.in_ok-init-2.ensures.leads x r f));
+      no_longer = omega (arith, ap length left.1, ap length comma.2, c.in_ok-declarator.ensures.shorter, c.in_ok-init-2.ensures.reads.no_longer, c.next.invariant.no_longer);
     }
 
 pub next-smaller : goal.next-smaller
 next-smaller c =
     let left = c.next-test.ensures in let comma = c.if-not-take.ensures in
-    omega (arith, ap length left.1, ap length comma.2, c.in_ok-declarator.ensures.shorter, c.in_ok-init-2.ensures.no_longer)
+    omega (arith, ap length left.1, ap length comma.2, c.in_ok-declarator.ensures.shorter, c.in_ok-init-2.ensures.reads.no_longer)
 
 pub returns-clause-reads : goal.returns-clause-reads
 returns-clause-reads c start e = let k = c.next-test.ensures in parts_done _ (c.next.invariant.goes start e) k.2 k.1
 
 pub returns-clause-shorter : goal.returns-clause-shorter
 returns-clause-shorter c = omega (arith, ap length c.next-test.ensures.2, c.next.invariant.no_longer)
+
+pub returns-in_err-init-clause-stops : goal.returns-in_err-init-clause-stops
+returns-in_err-init-clause-stops c = raised PartsTail PartsTail (bound_of c.args.room) _ c.from_residual.result c.in_err-init.field-0.0 c.from_residual.ensures (λ x r f. f) c.in_err-init.ensures.stops
+
+pub returns-then-not-take-clause-stops : goal.returns-then-not-take-clause-stops
+returns-then-not-take-clause-stops c =
+    let left = c.next-test.ensures in let n = c.if-not-take.ensures in
+    ends_at (n.1 ∙ left.1) (c.next.invariant.leads any _ (no_end_from any left.1 left.0 n.0))
+
+pub returns-in_err-declarator-clause-stops : goal.returns-in_err-declarator-clause-stops
+returns-in_err-declarator-clause-stops c =
+    let left = c.next-test.ensures in let comma = c.if-not-take.ensures in
+    raised PartsTail ADeclarator (bound_of c.args.room) _ c.from_residual-in_err-declarator.result c.in_err-declarator.field-0.0 c.from_residual-in_err-declarator.ensures
+    (λ x r f. c.next.invariant.leads x r (next_declarator_fails x (sym left.1 ∙ comma.2) comma.1 f)) c.in_err-declarator.ensures.stops
+
+pub returns-in_err-init-2-clause-stops : goal.returns-in_err-init-2-clause-stops
+returns-in_err-init-2-clause-stops c =
+    let left = c.next-test.ensures in let comma = c.if-not-take.ensures in
+    raised PartsTail PartsTail (bound_of c.args.room) _ c.from_residual-in_err-init-2.result c.in_err-init-2.field-0.0 c.from_residual-in_err-init-2.ensures
+    (λ x r f. c.next.invariant.leads x r (next_tail_fails x (sym left.1 ∙ comma.2) comma.1 c.in_ok-declarator.ensures.parses f)) c.in_err-init-2.ensures.stops

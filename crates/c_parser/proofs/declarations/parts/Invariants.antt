@@ -1,7 +1,10 @@
-use Rattle.std.proofs.Common.{◌<◌, ◌≤◌, List, length}
+use Rattle.std.proofs.Common.{◌≤◌, List, length}
 use Rattle.c_lexer.specs.declared.token.Token.{Token}
 use Rattle.c_syntax.specs.View.{declarator_of}
 use Rattle.c_phrases.specs.Phrases.{HasDeclarator}
+use Rattle.c_refusals.specs.Fails.{Fails}
+use Rattle.c_refusals.specs.Phrases.{Bound}
+use Rattle.c_refusals.specs.Declarations.{PartsTail, PartsEnd}
 use Rattle.c_parser.specs.Lists.{Goes, RestAfterComma}
 use Rattle.c_parser.specs.Parsed.{AreParts}
 use Rattle.c_parser.proofs.declarations.parts.Given as goal
@@ -9,6 +12,7 @@ use Rattle.c_parser.proofs.declarations.parts.Given as goal
 abbrev pub invariant-next : goal.invariant-next
 invariant-next l = record {
   goes : (start : List Token) → HasDeclarator l.room (declarator_of l.fn.first) start l.fn.cursor.rest.now → Goes (AreParts l.room) (RestAfterComma (AreParts l.room)) l.parts.items start l.cursor.rest.now;
+  leads : (x : Bound) (r : List Token) → Fails (PartsEnd x) l.cursor.rest.now r → Fails (PartsTail x) l.fn.cursor.rest.now r;
   no_longer : length l.cursor.rest.now ≤ length l.fn.cursor.rest.now;
 }
 

@@ -1,5 +1,11 @@
 use Rattle.std.proofs.Common.{arith}
 use Rattle.c_parser.proofs.DeclLemmas.{plain_decl}
+use Rattle.c_parser.proofs.StmtStops.{raised}
+use Rattle.c_parser.proofs.DeclStops.{spec_fails, first_declarator_fails, parts_tail_fails}
+use Rattle.c_refusals.specs.Phrases.{APlainDecl, ADeclarator}
+use Rattle.c_refusals.specs.Declarations.{PartsTail}
+use Rattle.c_phrases.specs.Refusing.{bound_of}
+use Rattle.c_parser.proofs.StmtStops.{raised_flat}
 use Rattle.c_parser.proofs.declarations.plain_declaration.Goals as goal
 
 pub returns-clause-reads : goal.returns-clause-reads
@@ -7,3 +13,13 @@ returns-clause-reads c = plain_decl c.place-at.ensures c.in_ok-spec.ensures.pars
 
 pub returns-clause-shorter : goal.returns-clause-shorter
 returns-clause-shorter c = omega (arith, c.in_ok-spec.ensures.shorter, c.in_ok-first.ensures.shorter, c.in_ok-parts.ensures.shorter)
+
+pub returns-in_err-spec-clause-stops : goal.returns-in_err-spec-clause-stops
+returns-in_err-spec-clause-stops c = raised_flat APlainDecl (bound_of c.args.room) c.from_residual.result c.in_err-spec.field-0.0 c.from_residual.ensures (λ x r f. spec_fails x f) c.in_err-spec.ensures.stops
+
+pub returns-in_err-first-clause-stops : goal.returns-in_err-first-clause-stops
+returns-in_err-first-clause-stops c = raised APlainDecl ADeclarator (bound_of c.args.room) _ c.from_residual-in_err-first.result c.in_err-first.field-0.0 c.from_residual-in_err-first.ensures (λ x r f. first_declarator_fails x c.in_ok-spec.ensures.parses f) c.in_err-first.ensures.stops
+
+pub returns-in_err-parts-clause-stops : goal.returns-in_err-parts-clause-stops
+returns-in_err-parts-clause-stops c =
+    raised APlainDecl PartsTail (bound_of c.args.room) _ c.from_residual-in_err-parts.result c.in_err-parts.field-0.0 c.from_residual-in_err-parts.ensures (λ x r f. parts_tail_fails x c.in_ok-spec.ensures.parses c.in_ok-first.ensures.parses f) c.in_err-parts.ensures.stops

@@ -1,9 +1,22 @@
-use Rattle.std.proofs.Common.{ap, length, arith}
+use Rattle.std.proofs.Common.{arith}
 use Rattle.c_parser.proofs.ItemLemmas.{enumerator_before}
+use Rattle.c_refusals.specs.Items.{InEnum, ValueRest}
+use Rattle.c_phrases.specs.Refusing.{bound_of}
+use Rattle.c_parser.proofs.StmtStops.{raised, raised_flat}
+use Rattle.c_parser.proofs.ItemStops.{enumerator_unnamed, enumerator_rest_fails}
 use Rattle.c_parser.proofs.items.enumerator.Goals as goal
 
 pub returns-clause-reads : goal.returns-clause-reads
-returns-clause-reads c = record { before = enumerator_before _ c.in_ok-name.ensures.parses c.in_ok-value.ensures }
+returns-clause-reads c = record { before = enumerator_before _ c.in_ok-name.ensures.parses c.in_ok-value.ensures.reads }
 
 pub returns-clause-shorter : goal.returns-clause-shorter
-returns-clause-shorter c = omega (arith, c.in_ok-name.ensures.shorter, c.in_ok-value.ensures.no_longer)
+returns-clause-shorter c = omega (arith, c.in_ok-name.ensures.shorter, c.in_ok-value.ensures.reads.no_longer)
+
+pub returns-in_err-name-clause-stops : goal.returns-in_err-name-clause-stops
+returns-in_err-name-clause-stops c = raised_flat InEnum (bound_of c.args.room) c.from_residual.result c.in_err-name.field-0.0 c.from_residual.ensures (λ x r f. enumerator_unnamed x f) c.in_err-name.ensures.stops
+
+pub returns-in_err-value-clause-stops : goal.returns-in_err-value-clause-stops
+returns-in_err-value-clause-stops c = raised InEnum ValueRest (bound_of c.args.room) _ c.from_residual-in_err-value.result c.in_err-value.field-0.0 c.from_residual-in_err-value.ensures (λ x r f. enumerator_rest_fails x c.in_ok-name.ensures.parses f) c.in_err-value.ensures.stops
+
+pub returns-clause-leads : goal.returns-clause-leads
+returns-clause-leads c x r f = enumerator_rest_fails x c.in_ok-name.ensures.parses (c.in_ok-value.ensures.leads x r f)

@@ -1,4 +1,9 @@
 use Rattle.std.proofs.Common.{◌<◌, List, length}
+use Rattle.c_lexer.specs.declared.token.Token.{Token}
+use Rattle.c_refusals.specs.Fails.{Fails}
+use Rattle.c_refusals.specs.Phrases.{Bound}
+use Rattle.c_refusals.specs.Units.{AUnit}
+use Rattle.c_refusals.specs.Items.{UnitRest}
 use Rattle.c_parser.specs.Lists.{Goes, Rest}
 use Rattle.c_parser.specs.Parsed.{AreItems}
 use Rattle.c_parser.proofs.items.items.Given as goal
@@ -6,6 +11,7 @@ use Rattle.c_parser.proofs.items.items.Given as goal
 abbrev pub invariant-next : goal.invariant-next
 invariant-next l = record {
   goes : Goes (AreItems l.room) (Rest (AreItems l.room)) l.items.items l.fn.cursor.rest.now l.cursor.rest.now;
+  leads : (x : Bound) (r : List Token) → Fails (UnitRest x) l.cursor.rest.now r → Fails (AUnit x) l.fn.cursor.rest.now r;
   shorter : length l.cursor.rest.now < length l.fn.cursor.rest.now;
 }
 

@@ -1,5 +1,9 @@
 use Rattle.std.proofs.Common.{arith}
 use Rattle.c_parser.proofs.ItemLemmas.{member_before}
+use Rattle.c_refusals.specs.Items.{AMember, DeclaratorsClosed}
+use Rattle.c_phrases.specs.Refusing.{bound_of}
+use Rattle.c_parser.proofs.StmtStops.{raised, raised_flat}
+use Rattle.c_parser.proofs.ItemStops.{spec_of_member_fails, declarators_of_member_fail, a_member}
 use Rattle.c_parser.proofs.items.member.Goals as goal
 
 pub returns-clause-reads : goal.returns-clause-reads
@@ -7,3 +11,12 @@ returns-clause-reads c = record { before = member_before _ c.place-at.ensures c.
 
 pub returns-clause-shorter : goal.returns-clause-shorter
 returns-clause-shorter c = omega (arith, c.in_ok-spec.ensures.shorter, c.in_ok-declarators.ensures.shorter)
+
+pub returns-in_err-spec-clause-stops : goal.returns-in_err-spec-clause-stops
+returns-in_err-spec-clause-stops c = raised_flat AMember (bound_of c.args.room) c.from_residual.result c.in_err-spec.field-0.0 c.from_residual.ensures (λ x r f. spec_of_member_fails x f) c.in_err-spec.ensures.stops
+
+pub returns-in_err-declarators-clause-stops : goal.returns-in_err-declarators-clause-stops
+returns-in_err-declarators-clause-stops c = raised AMember DeclaratorsClosed (bound_of c.args.room) _ c.from_residual-in_err-declarators.result c.in_err-declarators.field-0.0 c.from_residual-in_err-declarators.ensures (λ x r f. declarators_of_member_fail x c.in_ok-spec.ensures.parses f) c.in_err-declarators.ensures.stops
+
+pub returns-clause-stands : goal.returns-clause-stands
+returns-clause-stands c = a_member c.in_ok-spec.ensures.parses c.in_ok-declarators.ensures.reads

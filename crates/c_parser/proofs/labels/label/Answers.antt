@@ -1,5 +1,11 @@
 use Rattle.std.proofs.Common.{ap, length, arith, ◌∙◌, sym, refl}
 use Rattle.c_parser.proofs.StmtLemmas.{default_before, case_before}
+use Rattle.c_refusals.specs.Phrases.{any}
+use Rattle.c_parser.proofs.StmtStops.{raised, ends_at}
+use Rattle.c_parser.proofs.LoopStops.{default_unclosed, default_leads, value_fails, case_unclosed, case_leads, no_label_from}
+use Rattle.c_refusals.specs.Phrases.{AnExpr, SomeLabels}
+use Rattle.c_syntax.specs.Grammar.{conditional_level}
+use Rattle.c_phrases.specs.Refusing.{bound_of}
 use Rattle.c_parser.proofs.labels.label.Goals as goal
 
 pub returns-then-take_keyword-clause-reads : goal.returns-then-take_keyword-clause-reads
@@ -17,3 +23,27 @@ returns-clause-reads c =
 
 pub returns-clause-shorter : goal.returns-clause-shorter
 returns-clause-shorter c = omega (arith, ap length c.if-take_keyword.ensures.1, ap length c.if-not-take_keyword.ensures.2, c.in_ok-value.ensures.shorter, ap length c.if-not-take-2.ensures.2)
+
+pub returns-then-not-take-clause-stops : goal.returns-then-not-take-clause-stops
+returns-then-not-take-clause-stops c = let w = c.if-take_keyword.ensures in let k = c.if-not-take.ensures in ends_at k.1 (default_unclosed any w.2 w.1 k.0)
+
+pub returns-then-take_keyword-clause-leads : goal.returns-then-take_keyword-clause-leads
+returns-then-take_keyword-clause-leads c x r f = let w = c.if-take_keyword.ensures in let k = c.if-not-take.ensures in default_leads x w.2 w.1 k.2 f
+
+pub returns-then-not-take_keyword-clause-stops : goal.returns-then-not-take_keyword-clause-stops
+returns-then-not-take_keyword-clause-stops c = let n = c.if-take_keyword.ensures in let m = c.if-not-take_keyword.ensures in ends_at (m.1 ∙ n.1) (no_label_from any n.1 m.0 n.0)
+
+pub returns-in_err-value-clause-stops : goal.returns-in_err-value-clause-stops
+returns-in_err-value-clause-stops c =
+    let n = c.if-take_keyword.ensures in let w = c.if-not-take_keyword.ensures in
+    raised SomeLabels (λ x. AnExpr x conditional_level) (bound_of c.args.room) _ c.from_residual.result c.in_err-value.field-0.0 c.from_residual.ensures (λ x r f. value_fails x (sym n.1 ∙ w.2) w.1 f) c.in_err-value.ensures.stops
+
+pub returns-then-not-take-2-clause-stops : goal.returns-then-not-take-2-clause-stops
+returns-then-not-take-2-clause-stops c =
+    let n = c.if-take_keyword.ensures in let w = c.if-not-take_keyword.ensures in let k = c.if-not-take-2.ensures in
+    ends_at k.1 (case_unclosed any (sym n.1 ∙ w.2) w.1 c.in_ok-value.ensures.parses k.0)
+
+pub returns-clause-leads : goal.returns-clause-leads
+returns-clause-leads c x r f =
+    let n = c.if-take_keyword.ensures in let w = c.if-not-take_keyword.ensures in let k = c.if-not-take-2.ensures in
+    case_leads x (sym n.1 ∙ w.2) w.1 c.in_ok-value.ensures.parses k.2 f

@@ -1,16 +1,33 @@
-use Rattle.std.proofs.Common.{ap, length, arith, ◌∙◌, sym}
-use Rattle.c_parser.specs.Lists.{ends, goes_on}
-use Rattle.c_parser.proofs.ListLemmas.{goes_first, goes_more, goes_from, goes_end, rest_of, rest_after}
+use Rattle.std.proofs.Common.{arith}
+use Rattle.c_parser.specs.Lists.{ends}
+use Rattle.c_parser.proofs.ListLemmas.{goes_first, goes_more, goes_end, rest_of}
+use Rattle.c_parser.proofs.StmtStops.{raised}
+use Rattle.c_parser.proofs.LoopStops.{label_next, next_label_fails}
+use Rattle.c_refusals.specs.Phrases.{SomeLabels}
+use Rattle.c_phrases.specs.Refusing.{bound_of}
 use Rattle.c_parser.proofs.labels.labels.Goals as goal
 
 pub next-init : goal.next-init
-next-init c = record { goes = goes_first _ _ _ c.in_ok-push.ensures.items c.new-labels.ensures.items c.in_ok-first.ensures.reads.before; shorter = c.in_ok-first.ensures.shorter }
+next-init c = record {
+  goes = goes_first _ _ _ c.in_ok-push.ensures.items c.new-labels.ensures.items c.in_ok-first.ensures.reads.before;
+  leads = c.in_ok-first.ensures.leads;
+  shorter = c.in_ok-first.ensures.shorter;
+}
 
 pub next-preserved : goal.next-preserved
 next-preserved c = record {
   goes = goes_more _ _ _ c.in_ok-push-2.ensures.items c.next.invariant.goes (λ more k s. rest_of (c.in_ok-next.ensures.reads.before more k s));
+  leads = λ x r f. c.next.invariant.leads x r (next_label_fails x (label_next _ (c.next-test.ensures.0 (cc))) (c.in_ok-next.ensures.leads x r f));
   shorter = omega (arith, c.in_ok-next.ensures.shorter, c.next.invariant.shorter);
 }
 
 pub returns-clause-reads : goal.returns-clause-reads
 returns-clause-reads c = goes_end _ c.next.invariant.goes ends
+
+pub returns-in_err-first-clause-stops : goal.returns-in_err-first-clause-stops
+returns-in_err-first-clause-stops c = raised SomeLabels SomeLabels (bound_of c.args.room) _ c.from_residual.result c.in_err-first.field-0.0 c.from_residual.ensures (λ x r f. f) c.in_err-first.ensures.stops
+
+pub returns-in_err-next-clause-stops : goal.returns-in_err-next-clause-stops
+returns-in_err-next-clause-stops c =
+    raised SomeLabels SomeLabels (bound_of c.args.room) _ c.from_residual-in_err-next.result c.in_err-next.field-0.0 c.from_residual-in_err-next.ensures
+    (λ x r f. c.next.invariant.leads x r (next_label_fails x (label_next _ (c.next-test.ensures.0 (cc))) f)) c.in_err-next.ensures.stops

@@ -1,4 +1,8 @@
 use Rattle.std.proofs.Common.{◌<◌, List, length}
+use Rattle.c_lexer.specs.declared.token.Token.{Token}
+use Rattle.c_refusals.specs.Fails.{Fails}
+use Rattle.c_refusals.specs.Phrases.{Bound, SomeLabels}
+use Rattle.c_refusals.specs.Labels.{LabelsRest}
 use Rattle.c_parser.specs.Lists.{Goes, Rest}
 use Rattle.c_parser.specs.Parsed.{AreLabels}
 use Rattle.c_parser.proofs.labels.labels.Given as goal
@@ -6,6 +10,7 @@ use Rattle.c_parser.proofs.labels.labels.Given as goal
 abbrev pub invariant-next : goal.invariant-next
 invariant-next l = record {
   goes : Goes (AreLabels l.room) (Rest (AreLabels l.room)) l.labels.items l.fn.cursor.rest.now l.cursor.rest.now;
+  leads : (x : Bound) (r : List Token) → Fails (LabelsRest x) l.cursor.rest.now r → Fails (SomeLabels x) l.fn.cursor.rest.now r;
   shorter : length l.cursor.rest.now < length l.fn.cursor.rest.now;
 }
 

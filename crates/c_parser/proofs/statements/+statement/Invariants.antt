@@ -1,4 +1,9 @@
 use Rattle.std.proofs.Common.{◌<◌, ◌≤◌, ◌+◌, ◌*◌, List, drop, length}
+use Rattle.c_lexer.specs.declared.token.Token.{Token}
+use Rattle.c_syntax.proofs.Heads.{head}
+use Rattle.c_refusals.specs.Fails.{Fails}
+use Rattle.c_refusals.specs.Phrases.{Bound, InBlock, InSwitch}
+use Rattle.c_refusals.specs.Groups.{InGroup, GroupRest}
 use Rattle.c_parser.specs.Lists.{Goes, Rest}
 use Rattle.c_parser.specs.Parsed.{AreBlockItems, AreStmts, AreGroups}
 use Rattle.c_parser.proofs.statements.+statement.Given as goal
@@ -39,6 +44,7 @@ decreases-switch_statement l = 100 * length l.cursor.now.rest.now + 50
 abbrev pub invariant-block-next : goal.invariant-block-next
 invariant-block-next l = record {
   goes : Goes (AreBlockItems l.inside) (AreBlockItems l.inside) l.items.items (drop 1 l.fn.cursor.rest.now) l.cursor.rest.now;
+  leads : (x : Bound) (r : List Token) → Fails (InBlock x) l.cursor.rest.now r → Fails (InBlock x) (drop 1 l.fn.cursor.rest.now) r;
   shorter : length l.cursor.rest.now < length l.fn.cursor.rest.now;
 }
 
@@ -48,6 +54,7 @@ decreases-block-next l = length l.cursor.rest.now
 abbrev pub invariant-groups-next : goal.invariant-groups-next
 invariant-groups-next l = record {
   goes : Goes (AreGroups l.room) (AreGroups l.room) l.groups.items l.fn.cursor.rest.now l.cursor.rest.now;
+  leads : (x : Bound) (r : List Token) → Fails (InSwitch x) l.cursor.rest.now r → Fails (InSwitch x) l.fn.cursor.rest.now r;
   shorter : length l.cursor.rest.now ≤ length l.fn.cursor.rest.now;
 }
 
@@ -57,6 +64,8 @@ decreases-groups-next l = length l.cursor.rest.now
 abbrev pub invariant-statements-next : goal.invariant-statements-next
 invariant-statements-next l = record {
   goes : Goes (AreStmts l.room) (Rest (AreStmts l.room)) l.body.items l.fn.cursor.rest.now l.cursor.rest.now;
+  leads : (x : Bound) (r : List Token) → Fails (GroupRest x) l.cursor.rest.now r → Fails (InGroup x) l.fn.cursor.rest.now r;
+  begins : 20 ≤ head l.fn.cursor.rest.now;
   shorter : length l.cursor.rest.now < length l.fn.cursor.rest.now;
 }
 
