@@ -1,0 +1,3 @@
+pub mod CellView
+pub mod Left
+pub mod SlotsLeft
