@@ -1,0 +1,181 @@
+-- The call at a site is found in what a program mentions: sites stand once.
+use Rattle.std.proofs.Common.{◌≡◌, ◌⊎◌, inl, inr, ℕ, zero, suc, ◌+◌, ◌<◌, ◌≤◌, Bool, true, false, nat_eq, if◌then◌else◌, List, [], ◌∷◌, ◌++◌, flat_map, Contains, Option, Some, None, refl, ap, sym, ◌∙◌, subst, append-nil, arith}
+use Rattle.std.proofs.lemmas.Bool.{eqb-true}
+use Rattle.std.specs.Cmp.{nat_eq_equiv}
+use Rattle.std.specs.List.{range_with_len}
+use Rattle.c_tree.specs.declared.value.Value.{Value}
+use Rattle.c_tree.specs.declared.value.Value.TheVariants as v
+use Rattle.c_tree.specs.Tree.{Expr, constant, function_name, string_place, variable, dereference, load, address_of, decay, discard, field, unary_operation, conversion, arithmetic, comparison, pointer_add, pointer_diff, and, or, assign, update, conditional, comma, call, call_through, type_of}
+use Rattle.c_tree.specs.Tree.{Exprs, no_exprs, more_exprs, Maybe, absent, there, Inits, no_inits, more_inits}
+use Rattle.c_tree.specs.Tree.{Stmt, block, empty, evaluate, declare, if_else, while_loop, do_loop, for_loop, switch_on, break_off, continue_on, return_void, return_value, Stmts, no_stmts, more_stmts, Groups, no_groups, more_groups}
+use Rattle.c_tree.specs.Tree.{Function, Static, Program}
+use Rattle.c_tree.specs.Program.{IsProgram}
+use Rattle.c_tree.specs.Sites.{sites_of, sites_of_all, sites_of_maybe, sites_of_inits, sites_of_stmt, sites_of_stmts, sites_of_groups, sites_of_function, sites_of_program}
+use Rattle.c_shapes.specs.Mentions.{Callee, Through, Mention, Named, Calls, mentions, mentions_of_all, mentions_of_maybe, mentions_of_inits, mentions_of_stmt, mentions_of_stmts, mentions_of_groups, mentions_of_function, mention_of_cell, mentions_of_static, mentions_of_program}
+use Rattle.c_shapes.specs.CallGraph.{callee_at}
+
+is_later : {X : Type 0} (x : X) (xs : List X) (z : X) → Contains xs z → Contains (x ∷ xs) z
+is_later x xs z (k, lt, is) = (suc k, omega arith, is)
+
+cases : {X : Type 0} (x : X) (xs : List X) (z : X) → Contains (x ∷ xs) z → (x ≡ z) ⊎ Contains xs z
+cases x xs z (zero, lt, is) = inl is
+cases x xs z (suc k, lt, is) = inr (k, omega arith, is)
+
+none_in : {X : Type 0} (z : X) → Contains [] z → ⊥
+none_in z h = omega (arith, h.1)
+
+other_number : (a b : ℕ) → (a ≡ b → ⊥) → nat_eq a b ≡ false
+other_number a b h = by (nat_eq a b) refl
+  where
+    by : (c : Bool) → nat_eq a b ≡ c → nat_eq a b ≡ false
+    by true e = absurd (h (eqb-true a b e))
+    by false e = e
+
+from_range : (a n z : ℕ) → Contains (range_with_len a n) z → (a ≤ z) × (z < a + n)
+from_range a zero z h = absurd (none_in z h)
+from_range a (suc n) z h = elim (cases a (range_with_len (a + 1) n) z h) as (λ k. (a ≤ z) × (z < a + suc n)) [ inl is ↦ (omega (arith, is), omega (arith, is)) | inr k ↦ (let r = from_range (a + 1) n z k in (omega (arith, r.0), omega (arith, r.1))) ]
+
+-- the sites of the calls among what is mentioned
+abbrev sites_in : List Mention → List ℕ
+sites_in [] = []
+sites_in (Named f ∷ ms) = sites_in ms
+sites_in (Calls s callee ∷ ms) = s ∷ sites_in ms
+
+sites_append : (xs ys : List Mention) → sites_in (xs ++ ys) ≡ sites_in xs ++ sites_in ys
+sites_append [] ys = refl
+sites_append (Named f ∷ xs) ys = sites_append xs ys
+sites_append (Calls s callee ∷ xs) ys = ap (λ z. s ∷ z) (sites_append xs ys)
+
+both : (xs ys : List Mention) (ss rs : List ℕ) → sites_in xs ≡ ss → sites_in ys ≡ rs → sites_in (xs ++ ys) ≡ ss ++ rs
+both xs ys ss rs h k = sites_append xs ys ∙ (ap (λ z. z ++ sites_in ys) h ∙ ap (λ z. ss ++ z) k)
+
+mutual
+  in_expr : (e : Expr) → sites_in (mentions e) ≡ sites_of e
+  in_expr (constant t v) = refl
+  in_expr (function_name t f) = refl
+  in_expr (string_place t n) = refl
+  in_expr (variable t is_static n) = refl
+  in_expr (dereference t a) = in_expr a
+  in_expr (load t a) = in_expr a
+  in_expr (address_of t a) = in_expr a
+  in_expr (decay t a) = in_expr a
+  in_expr (discard t a) = in_expr a
+  in_expr (field t first a) = in_expr a
+  in_expr (unary_operation t op a) = in_expr a
+  in_expr (conversion t to a) = in_expr a
+  in_expr (arithmetic t op a b) = both (mentions a) (mentions b) (sites_of a) (sites_of b) (in_expr a) (in_expr b)
+  in_expr (comparison t op a b) = both (mentions a) (mentions b) (sites_of a) (sites_of b) (in_expr a) (in_expr b)
+  in_expr (pointer_add t first subtracted a b) = both (mentions a) (mentions b) (sites_of a) (sites_of b) (in_expr a) (in_expr b)
+  in_expr (pointer_diff t a b) = both (mentions a) (mentions b) (sites_of a) (sites_of b) (in_expr a) (in_expr b)
+  in_expr (and t a b) = both (mentions a) (mentions b) (sites_of a) (sites_of b) (in_expr a) (in_expr b)
+  in_expr (or t a b) = both (mentions a) (mentions b) (sites_of a) (sites_of b) (in_expr a) (in_expr b)
+  in_expr (assign t a b) = both (mentions a) (mentions b) (sites_of a) (sites_of b) (in_expr a) (in_expr b)
+  in_expr (update t op old a b) = both (mentions a) (mentions b) (sites_of a) (sites_of b) (in_expr a) (in_expr b)
+  in_expr (conditional t c a b) =
+      both (mentions c) (mentions a ++ mentions b) (sites_of c) (sites_of a ++ sites_of b) (in_expr c) (both (mentions a) (mentions b) (sites_of a) (sites_of b) (in_expr a) (in_expr b))
+  in_expr (comma t es) = in_exprs es
+  in_expr (call t site f es) = ap (λ z. site ∷ z) (in_exprs es)
+  in_expr (call_through t site a es) =
+      both (mentions a) (Calls site (Through (type_of a)) ∷ mentions_of_all es) (sites_of a) (site ∷ sites_of_all es) (in_expr a) (ap (λ z. site ∷ z) (in_exprs es))
+
+  in_exprs : (es : Exprs) → sites_in (mentions_of_all es) ≡ sites_of_all es
+  in_exprs no_exprs = refl
+  in_exprs (more_exprs e es) = both (mentions e) (mentions_of_all es) (sites_of e) (sites_of_all es) (in_expr e) (in_exprs es)
+
+in_maybe : (e : Maybe) → sites_in (mentions_of_maybe e) ≡ sites_of_maybe e
+in_maybe absent = refl
+in_maybe (there e) = in_expr e
+
+in_inits : (is : Inits) → sites_in (mentions_of_inits is) ≡ sites_of_inits is
+in_inits no_inits = refl
+in_inits (more_inits cell e is) = both (mentions e) (mentions_of_inits is) (sites_of e) (sites_of_inits is) (in_expr e) (in_inits is)
+
+mutual
+  in_stmt : (s : Stmt) → sites_in (mentions_of_stmt s) ≡ sites_of_stmt s
+  in_stmt (block ss) = in_stmts ss
+  in_stmt empty = refl
+  in_stmt (evaluate e) = in_expr e
+  in_stmt (declare x is) = in_inits is
+  in_stmt (if_else e s u) =
+      both (mentions e) (mentions_of_stmt s ++ mentions_of_stmt u) (sites_of e) (sites_of_stmt s ++ sites_of_stmt u) (in_expr e) (both (mentions_of_stmt s) (mentions_of_stmt u) (sites_of_stmt s) (sites_of_stmt u) (in_stmt s) (in_stmt u))
+  in_stmt (while_loop e s) = both (mentions e) (mentions_of_stmt s) (sites_of e) (sites_of_stmt s) (in_expr e) (in_stmt s)
+  in_stmt (do_loop s e) = both (mentions_of_stmt s) (mentions e) (sites_of_stmt s) (sites_of e) (in_stmt s) (in_expr e)
+  in_stmt (for_loop first test step s) =
+      both (mentions_of_stmts first) (mentions_of_maybe test ++ (mentions_of_maybe step ++ mentions_of_stmt s)) (sites_of_stmts first) (sites_of_maybe test ++ (sites_of_maybe step ++ sites_of_stmt s)) (in_stmts first) (both (mentions_of_maybe test) (mentions_of_maybe step ++ mentions_of_stmt s) (sites_of_maybe test) (sites_of_maybe step ++ sites_of_stmt s) (in_maybe test) (both (mentions_of_maybe step) (mentions_of_stmt s) (sites_of_maybe step) (sites_of_stmt s) (in_maybe step) (in_stmt s)))
+  in_stmt (switch_on e gs) = both (mentions e) (mentions_of_groups gs) (sites_of e) (sites_of_groups gs) (in_expr e) (in_groups gs)
+  in_stmt break_off = refl
+  in_stmt continue_on = refl
+  in_stmt return_void = refl
+  in_stmt (return_value e) = in_expr e
+
+  in_stmts : (ss : Stmts) → sites_in (mentions_of_stmts ss) ≡ sites_of_stmts ss
+  in_stmts no_stmts = refl
+  in_stmts (more_stmts s ss) = both (mentions_of_stmt s) (mentions_of_stmts ss) (sites_of_stmt s) (sites_of_stmts ss) (in_stmt s) (in_stmts ss)
+
+  in_groups : (gs : Groups) → sites_in (mentions_of_groups gs) ≡ sites_of_groups gs
+  in_groups no_groups = refl
+  in_groups (more_groups ls ss gs) = both (mentions_of_stmts ss) (mentions_of_groups gs) (sites_of_stmts ss) (sites_of_groups gs) (in_stmts ss) (in_groups gs)
+
+in_functions : (fs : List Function) → sites_in (flat_map mentions_of_function fs) ≡ flat_map sites_of_function fs
+in_functions [] = refl
+in_functions (f ∷ fs) = both (mentions_of_function f) (flat_map mentions_of_function fs) (sites_of_function f) (flat_map sites_of_function fs) (in_stmt f.body) (in_functions fs)
+
+in_cell : (x : Value) → sites_in (mention_of_cell x) ≡ []
+in_cell (v.Func f) = refl
+in_cell _ = refl
+
+in_cells : (xs : List Value) → sites_in (flat_map mention_of_cell xs) ≡ []
+in_cells [] = refl
+in_cells (x ∷ xs) = both (mention_of_cell x) (flat_map mention_of_cell xs) [] [] (in_cell x) (in_cells xs)
+
+in_statics : (ss : List Static) → sites_in (flat_map mentions_of_static ss) ≡ []
+in_statics [] = refl
+in_statics (s ∷ ss) = both (mentions_of_static s) (flat_map mentions_of_static ss) [] [] (in_cells s.cells) (in_statics ss)
+
+in_program : (p : Program) → sites_in (mentions_of_program p) ≡ sites_of_program p
+in_program p = both (flat_map mentions_of_function p.functions) (flat_map mentions_of_static p.statics) (sites_of_program p) [] (in_functions p.functions) (in_statics p.statics) ∙ append-nil (sites_of_program p)
+
+-- each number once
+abbrev Apart : List ℕ → Type 0
+Apart [] = Unit {0}
+Apart (x ∷ xs) = ((y : ℕ) → Contains xs y → x ≡ y → ⊥) × Apart xs
+
+range_apart : (a n : ℕ) → Apart (range_with_len a n)
+range_apart a zero = tt
+range_apart a (suc n) = ((λ y k e. let r = from_range (a + 1) n y k in omega (arith, e, r.0)), range_apart (a + 1) n)
+
+abbrev IsCalls : Mention → Type 0
+IsCalls (Named f) = ⊥
+IsCalls (Calls s callee) = Unit {0}
+
+abbrev site_of : Mention → ℕ
+site_of (Named f) = 0
+site_of (Calls s callee) = s
+
+abbrev callee_of : Mention → Option Callee
+callee_of (Named f) = None
+callee_of (Calls s callee) = Some callee
+
+site_among : (s : ℕ) (c : Callee) (ms : List Mention) → Contains ms (Calls s c) → Contains (sites_in ms) s
+site_among s c [] h = absurd (none_in (Calls s c) h)
+site_among s c (Named f ∷ ms) h = elim (cases (Named f) ms (Calls s c) h) as (λ k. Contains (sites_in ms) s) [ inl is ↦ absurd (subst IsCalls (sym is) tt) | inr k ↦ site_among s c ms k ]
+site_among s c (Calls r d ∷ ms) h = elim (cases (Calls r d) ms (Calls s c) h) as (λ k. Contains (r ∷ sites_in ms) s) [ inl is ↦ (0, omega arith, ap site_of is) | inr k ↦ is_later r (sites_in ms) s (site_among s c ms k) ]
+
+at_first : (s r : ℕ) (d : Callee) (o : Option Callee) → r ≡ s → (if nat_eq s r then Some d else o) ≡ Some d
+at_first s r d o e = ap (λ b. if b then Some d else o) (ap (nat_eq s) e ∙ nat_eq_equiv.refl s)
+
+at_other : (s r : ℕ) (d : Callee) (o : Option Callee) → (s ≡ r → ⊥) → (if nat_eq s r then Some d else o) ≡ o
+at_other s r d o ne = ap (λ b. if b then Some d else o) (other_number s r ne)
+
+found : (s : ℕ) (c : Callee) (ms : List Mention) → Apart (sites_in ms) → Contains ms (Calls s c) → callee_at s ms ≡ Some c
+found s c [] a h = absurd (none_in (Calls s c) h)
+found s c (Named f ∷ ms) a h = elim (cases (Named f) ms (Calls s c) h) as (λ k. callee_at s ms ≡ Some c) [ inl is ↦ absurd (subst IsCalls (sym is) tt) | inr k ↦ found s c ms a k ]
+found s c (Calls r d ∷ ms) a h = elim (cases (Calls r d) ms (Calls s c) h) as (λ k. (if nat_eq s r then Some d else callee_at s ms) ≡ Some c) [
+  | inl is ↦ at_first s r d (callee_at s ms) (ap site_of is) ∙ ap callee_of is
+  | inr k ↦ at_other s r d (callee_at s ms) (λ e. a.0 s (site_among s c ms k) (sym e)) ∙ found s c ms a.1 k
+]
+
+-- the call at its site
+pub callee_found : (p : Program) (n : ℕ) → IsProgram p n → (s : ℕ) (c : Callee) → Contains (mentions_of_program p) (Calls s c) → callee_at s (mentions_of_program p) ≡ Some c
+callee_found p n h s c k =
+    found s c (mentions_of_program p) (subst Apart (sym (in_program p ∙ h.sites)) (range_apart 0 n)) k

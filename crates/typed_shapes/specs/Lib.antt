@@ -1,0 +1,4 @@
+pub mod Joined
+pub mod Recorded
+pub mod Labels
+pub mod Sited
