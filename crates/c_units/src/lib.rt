@@ -7,8 +7,10 @@ mod mains;
 mod programs;
 mod strings;
 mod structs;
+mod units;
 
 pub use environments::environment_before;
 pub use mains::has_main;
 pub use programs::{main_number, program_with};
 pub use strings::static_string;
+pub use units::typed_program;
