@@ -1,0 +1,4 @@
+pub mod FormLemmas
+pub mod LaidLemmas
+pub mod OutputLemmas
+pub mod ScopeLemmas

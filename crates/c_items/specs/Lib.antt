@@ -1,0 +1,3 @@
+pub mod Forms
+pub mod OutputView
+pub mod Scoped
