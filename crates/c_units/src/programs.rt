@@ -1,11 +1,11 @@
 ghost use Rattle.std.specs.Prelude.{◌≡◌, ◌++◌, length, map, unwrap_or, codes, IfOk};
 ghost use Rattle.c_counts.specs.Seen.{seen};
 ghost use Rattle.c_rules.specs.Names.{number_among};
-ghost use Rattle.c_rules.specs.Scopes.{layout_of};
 ghost use Rattle.c_rules.specs.Units.{static_string};
 ghost use Rattle.c_scopes.specs.View.{before_of, env_of};
 ghost use Rattle.c_tree.specs.Program.{IsProgram};
-ghost use Rattle.c_tree.specs.View.{function_of, program_of, static_of};
+ghost use Rattle.c_tree.specs.View.{program_of, static_of};
+ghost use Rattle.c_units.specs.Made.{output_of, program_made};
 
 use crate::strings::static_string;
 use crate::structs::{cells_of_structs, structs_of};
@@ -51,8 +51,8 @@ pub fn program_with(
     objects: Vec<Static>,
 ) -> Result<Program, OutOfMemory>
     requires counted { length (env_of env.now).structs ≡ length env.now.struct_tags }
-    requires typed { IsProgram (record { structs = layout_of (env_of env.now); functions = map function_of defined.items; main = number; statics = map static_of objects.items ++ map static_string (before_of before.now).strings }) before.now.sites }
-    ensures { IfOk result (λ p. program_of p ≡ record { structs = layout_of (env_of env.now); functions = map function_of defined.items; main = number; statics = map static_of objects.items ++ map static_string (before_of before.now).strings }) }
+    requires typed { IsProgram (program_made (env_of env.now) (before_of before.now) (output_of defined.items objects.items) number) before.now.sites }
+    ensures { IfOk result (λ p. program_of p ≡ program_made (env_of env.now) (before_of before.now) (output_of defined.items objects.items) number) }
 {
     let structs = structs_of(alloc, env)?;
     let struct_cells = cells_of_structs(alloc, env)?;

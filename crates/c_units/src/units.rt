@@ -1,4 +1,4 @@
-ghost use Rattle.std.specs.Prelude.{◌≡◌, map};
+ghost use Rattle.std.specs.Prelude.{◌≡◌};
 ghost use Rattle.c_given.specs.Judges.{Judges};
 ghost use Rattle.c_rules.specs.Checked.{fine};
 ghost use Rattle.c_rules.specs.Items.{after_items, items};
@@ -8,7 +8,8 @@ ghost use Rattle.c_scopes.specs.View.{before_of, env_of};
 ghost use Rattle.c_syntax.specs.UnitView.{items_of};
 ghost use Rattle.c_tree.specs.Program.{IsProgram};
 ghost use Rattle.c_tree.specs.Tree.{Program as ProgramTerm};
-ghost use Rattle.c_tree.specs.View.{function_of, program_of, static_of};
+ghost use Rattle.c_tree.specs.View.{program_of};
+ghost use Rattle.c_units.specs.Made.{output_of};
 
 use crate::mains::has_main;
 use crate::programs::{main_number, program_with};
@@ -33,7 +34,7 @@ pub fn typed_program(
 ) -> Result<Program, CheckError>
     requires behind { env_of env.now ≡ env_behind mode (items_of listed.now) }
     requires counted { before_of before.now ≡ after_items (env_before mode (items_of listed.now)) nothing_before (items_of listed.now) }
-    requires given { items (env_before mode (items_of listed.now)) nothing_before (items_of listed.now) ≡ fine (record { functions = map function_of defined.items; statics = map static_of objects.items }) }
+    requires given { items (env_before mode (items_of listed.now)) nothing_before (items_of listed.now) ≡ fine (output_of defined.items objects.items) }
     requires right { (p : ProgramTerm) → IsTyped (items_of listed.now) mode p → IsProgram p before.now.sites }
     ensures { Judges program_of result (checked (items_of listed.now) mode) }
 {
