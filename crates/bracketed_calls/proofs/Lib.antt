@@ -1,1 +1,2 @@
+pub mod AddedParts
 pub mod PlainCalls

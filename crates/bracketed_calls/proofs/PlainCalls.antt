@@ -1,5 +1,5 @@
 -- Calls that are not marked go where their designators and arguments do.
-use Rattle.std.proofs.Common.{◌≡◌, ℕ, zero, suc, ◌+◌, ◌*◌, ◌≤◌, ◌<◌, Bool, true, false, ◌&&◌, if◌then◌else◌, List, [], ◌∷◌, ◌++◌, length, Option, None, Some, nat_lt, nat_eq, refl, ap, ap₂, sym, subst, ◌∙◌, arith}
+use Rattle.std.proofs.Common.{◌≡◌, ℕ, suc, ◌+◌, ◌*◌, ◌≤◌, ◌<◌, Bool, true, false, ◌&&◌, if◌then◌else◌, List, [], ◌∷◌, ◌++◌, length, Option, None, Some, nat_lt, nat_eq, refl, ap, ap₂, sym, subst, ◌∙◌, arith}
 use Rattle.std.proofs.lemmas.Bool.Decides.{Decides-ltb, Decides-eqb}
 use Rattle.c_tree.specs.Tree.{CType, void, integer, pointer, array, struct, function, CTypes, no_types, more_types, type_of, Program}
 use Rattle.c_tree.specs.Tree as typed
@@ -11,12 +11,12 @@ use Rattle.c_rules.specs.Checked.{Checked, fine, faulty, demand, on, both, all_t
 use Rattle.c_rules.specs.Names.{Name}
 use Rattle.c_rules.specs.Types.{count}
 use Rattle.c_rules.specs.Scopes.{Env, Binding, Meaning, a_static, a_local, a_function, an_enumerator, unknown, Context, evaluated, sized, folded, lookup, Before}
-use Rattle.c_rules.specs.Counts.{place_of, calls, calls_of_all, strings, after, after_designator}
+use Rattle.c_rules.specs.Counts.{calls, after, after_designator}
 use Rattle.c_rules.specs.Given.{not_constant, Given, value_given, tree_of}
-use Rattle.c_rules.specs.Conversions.{kind_of, fits, assigned}
-use Rattle.c_rules.specs.PrimaryExpressions.{used, function_number, meant, bound, named_expression}
+use Rattle.c_rules.specs.Conversions.{kind_of}
+use Rattle.c_rules.specs.PrimaryExpressions.{used, function_number, named_expression}
 use Rattle.c_rules.specs.PostfixExpressions.{site_in, site_of, Designator, direct, through, Callee, callee_of_type, callee_through, callee_by_value, all_fit, passed, call_of, as_many_as, called}
-use Rattle.c_rules.specs.Expressions.{value_at, callee_meant, callee_bound, callee, tree, trees, value}
+use Rattle.c_rules.specs.Expressions.{callee_meant, callee_bound, callee, tree, trees, value}
 use Rattle.null_calls.specs.MarkedCalls.{Called, Sites}
 use Rattle.null_calls.specs.Temporaries.{Temporary, temporaries_where}
 use Rattle.null_calls.specs.BracketedExpressions.{call_where, expr, arguments, kept, kept_of_arguments}
@@ -26,12 +26,12 @@ use Rattle.bracketed_scopes.specs.Beside.{More, plain_scope, instrumented_scope,
 use Rattle.bracketed_scopes.proofs.Leads.{Leads, same_leads}
 use Rattle.bracketed_scopes.proofs.Names.{named_callee_leads}
 use Rattle.bracketed_rules.specs.Remade.{remade, IsRemade, Follows}
-use Rattle.bracketed_rules.proofs.Operands.{operand, value_remade, demand_follows, behind_follows, assigned_operand}
+use Rattle.bracketed_rules.proofs.Operands.{operand, value_remade, demand_follows, assigned_operand}
 use Rattle.bracketed_rules.proofs.Unary.{value_at_follows}
 use Rattle.bracketed_rules.proofs.Binary.{fits_same}
 use Rattle.bracketed_counts.specs.Counts.{AreNamed, AllNamed, Near}
 use Rattle.bracketed_counts.proofs.Expressions.{places_near, counts_stay}
-use Rattle.bracketed_expressions.specs.Tabled.{called_by, IsCalledAt, AreTabled, AllTabled, AreFound}
+use Rattle.bracketed_expressions.specs.Tabled.{called_by, AreTabled, AllTabled, AreFound}
 use Rattle.bracketed_expressions.specs.Follow.{types_of, ExprFollows, Goes, AllGo}
 use Rattle.bracketed_expressions.proofs.Leaves.{Holds, after_part, leaf_follows, named_leaf}
 use Rattle.bracketed_expressions.proofs.Forms.{types_both, found_first, found_rest, value_goes}

@@ -1,7 +1,23 @@
+ghost use Rattle.bracketed_calls.specs.AddedParts.{NullCallsAreMade, TemporariesAreRead, TemporariesAreSet};
 ghost use Rattle.bracketed_calls.specs.PlainCalls.{UnmarkedCallsGo};
 
 /// A law on the rules: a call of an instrumented unit that stands between no null calls gives what the plain one gives, with the
 /// bracketed tree, where its designator and its arguments do.
 pub fn unmarked_calls_go()
     ensures { UnmarkedCallsGo }
+{}
+
+/// A law on the rules: the name of a temporary of scalar type gives the value of the variable with its number.
+pub fn temporaries_are_read()
+    ensures { TemporariesAreRead }
+{}
+
+/// A law on the rules: what keeps a value in a temporary assigns it to the variable with its number, where it fits.
+pub fn temporaries_are_set()
+    ensures { TemporariesAreSet }
+{}
+
+/// A law on the rules: a null call is a call of its function with the constant of its site.
+pub fn null_calls_are_made()
+    ensures { NullCallsAreMade }
 {}

@@ -1,6 +1,6 @@
-//! Calls that are not marked, beside the plain ones (C99 6.5.2.2). It has no code but its law.
+//! Calls of an instrumented unit beside the plain ones (C99 6.5.2.2). It has no code but its laws.
 #![tactic(auto)]
 
 mod laws;
 
-pub use laws::unmarked_calls_go;
+pub use laws::{null_calls_are_made, temporaries_are_read, temporaries_are_set, unmarked_calls_go};
