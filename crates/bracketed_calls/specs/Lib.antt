@@ -1,2 +1,4 @@
 pub mod AddedParts
+pub mod MostCalls
+pub mod OwnTypes
 pub mod PlainCalls

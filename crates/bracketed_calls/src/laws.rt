@@ -1,4 +1,6 @@
 ghost use Rattle.bracketed_calls.specs.AddedParts.{NullCallsAreMade, TemporariesAreRead, TemporariesAreSet};
+ghost use Rattle.bracketed_calls.specs.MostCalls.{CallsAreWithin};
+ghost use Rattle.bracketed_calls.specs.OwnTypes.{ValuesFitTheirTypes};
 ghost use Rattle.bracketed_calls.specs.PlainCalls.{UnmarkedCallsGo};
 
 /// A law on the rules: a call of an instrumented unit that stands between no null calls gives what the plain one gives, with the
@@ -20,4 +22,15 @@ pub fn temporaries_are_set()
 /// A law on the rules: a null call is a call of its function with the constant of its site.
 pub fn null_calls_are_made()
     ensures { NullCallsAreMade }
+{}
+
+/// A law on the rules: a value of scalar type that is not constant may be assigned to an object of its type, and is converted to
+/// itself.
+pub fn values_fit_their_types()
+    ensures { ValuesFitTheirTypes }
+{}
+
+/// A law on the rules: the calls of an expression that is fine are within the limit of the mode, where those before it are.
+pub fn calls_are_within()
+    ensures { CallsAreWithin }
 {}

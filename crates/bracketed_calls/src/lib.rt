@@ -3,4 +3,7 @@
 
 mod laws;
 
-pub use laws::{null_calls_are_made, temporaries_are_read, temporaries_are_set, unmarked_calls_go};
+pub use laws::{
+    calls_are_within, null_calls_are_made, temporaries_are_read, temporaries_are_set,
+    unmarked_calls_go, values_fit_their_types,
+};
