@@ -1,5 +1,6 @@
 ghost use Rattle.bracketed_calls.specs.AddedParts.{NullCallsAreMade, TemporariesAreRead, TemporariesAreSet};
 ghost use Rattle.bracketed_calls.specs.MostCalls.{CallsAreWithin};
+ghost use Rattle.bracketed_calls.specs.NullTypes.{NullsHaveTheirTypes};
 ghost use Rattle.bracketed_calls.specs.OwnTypes.{ValuesFitTheirTypes};
 ghost use Rattle.bracketed_calls.specs.PlainCalls.{UnmarkedCallsGo};
 
@@ -33,4 +34,10 @@ pub fn values_fit_their_types()
 /// A law on the rules: the calls of an expression that is fine are within the limit of the mode, where those before it are.
 pub fn calls_are_within()
     ensures { CallsAreWithin }
+{}
+
+/// A law on the rules: a value that is a null pointer constant has an integer type, or is a `void *`; so a pointer to a function
+/// is none.
+pub fn nulls_have_their_types()
+    ensures { NullsHaveTheirTypes }
 {}
