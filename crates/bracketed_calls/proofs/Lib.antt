@@ -1,4 +1,5 @@
 pub mod AddedParts
+pub mod KeptArguments
 pub mod MostCalls
 pub mod NullTypes
 pub mod OwnTypes

@@ -1,4 +1,5 @@
 ghost use Rattle.bracketed_calls.specs.AddedParts.{NullCallsAreMade, TemporariesAreRead, TemporariesAreSet};
+ghost use Rattle.bracketed_calls.specs.KeptArguments.{KeptArgumentsGo};
 ghost use Rattle.bracketed_calls.specs.MostCalls.{CallsAreWithin};
 ghost use Rattle.bracketed_calls.specs.NullTypes.{NullsHaveTheirTypes};
 ghost use Rattle.bracketed_calls.specs.OwnTypes.{ValuesFitTheirTypes};
@@ -40,4 +41,10 @@ pub fn calls_are_within()
 /// is none.
 pub fn nulls_have_their_types()
     ensures { NullsHaveTheirTypes }
+{}
+
+/// A law on the rules: the arguments of a marked call, where they go, are kept in temporaries from the left to the right, before
+/// the other members of the comma expression.
+pub fn kept_arguments_go()
+    ensures { KeptArgumentsGo }
 {}
