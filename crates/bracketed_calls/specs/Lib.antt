@@ -1,5 +1,6 @@
 pub mod AddedParts
 pub mod KeptArguments
+pub mod KeptValues
 pub mod MostCalls
 pub mod NullTypes
 pub mod OwnTypes

@@ -1,5 +1,6 @@
 ghost use Rattle.bracketed_calls.specs.AddedParts.{NullCallsAreMade, TemporariesAreRead, TemporariesAreSet};
 ghost use Rattle.bracketed_calls.specs.KeptArguments.{KeptArgumentsGo};
+ghost use Rattle.bracketed_calls.specs.KeptValues.{KeptValuesAreGiven};
 ghost use Rattle.bracketed_calls.specs.MostCalls.{CallsAreWithin};
 ghost use Rattle.bracketed_calls.specs.NullTypes.{NullsHaveTheirTypes};
 ghost use Rattle.bracketed_calls.specs.OwnTypes.{ValuesFitTheirTypes};
@@ -47,4 +48,9 @@ pub fn nulls_have_their_types()
 /// the other members of the comma expression.
 pub fn kept_arguments_go()
     ensures { KeptArgumentsGo }
+{}
+
+/// A law on the rules: the temporaries of a marked call's arguments fit the parameters, and are passed as they are.
+pub fn kept_values_are_given()
+    ensures { KeptValuesAreGiven }
 {}
