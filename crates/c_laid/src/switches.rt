@@ -1,0 +1,130 @@
+ghost use Rattle.std.specs.Prelude.{◌≡◌, ◌++◌, IfOk};
+ghost use Rattle.c_given.specs.Judges.{Judges};
+ghost use Rattle.c_given.specs.View.{given_of};
+ghost use Rattle.c_laid.specs.LabelledView.{labelled_before, labelled_of};
+ghost use Rattle.c_laid.specs.LaidView.{all_laid_of, laid_of};
+ghost use Rattle.c_rules.specs.Blocks.{with_tree};
+ghost use Rattle.c_rules.specs.Conversions.{kind_of};
+ghost use Rattle.c_rules.specs.Given.{tree_of};
+ghost use Rattle.c_rules.specs.Statements.{label_kind, labelled, no_labelled, switch_of, switched_kind};
+ghost use Rattle.c_tree.specs.Tree.{switch_on};
+ghost use Rattle.c_tree.specs.View.{ctype_of};
+
+use crate::labels::are_distinct;
+use crate::laid::{Laid, LaidAll, Variables, no_variables, variables_of_both, with_variables};
+use c_conversions::{converted_to, promoted};
+use c_given::{C3, C7, CheckError, Given};
+use c_tree::{CType, IntType, TGroup, TLabel, TStmt};
+use dm_base::OutOfMemory;
+use std::alloc::Global;
+
+/// What groups of a switch give.
+#[derive(Drop)]
+pub struct Labelled {
+    /// Their typed trees.
+    pub groups: Vec<TGroup>,
+    /// All labels in them, in order.
+    pub labels: Vec<TLabel>,
+    /// The variables that their statements declare.
+    pub variables: Variables,
+}
+
+/// What a switch compares with its labels: an integer, which is promoted (C99 6.8.4.2 paragraphs 1 and 5).
+pub fn switched(alloc: Global, at: u32, g: Given) -> Result<Given, CheckError>
+    ensures { Judges given_of result (switched_kind at (given_of g) (kind_of (given_of g).ctype)) }
+{
+    match &g.ctype {
+        CType::Int(i) => {
+            let i = promoted(*i);
+            Ok(converted_to(alloc, i, g)?)
+        }
+        _ => Err(CheckError::At(C3, at)),
+    }
+}
+
+/// The integer type to which case values are converted (C99 6.8.4.2 paragraph 5).
+pub fn label_type(t: &CType) -> IntType
+    ensures { result ≡ label_kind (kind_of (ctype_of t.now)) }
+{
+    match t {
+        CType::Int(i) => *i,
+        _ => IntType::Int,
+    }
+}
+
+/// No groups.
+pub fn no_labelled(alloc: Global) -> Labelled
+    ensures { labelled_of result ≡ no_labelled }
+{
+    Labelled {
+        groups: Vec::new(alloc),
+        labels: Vec::new(alloc),
+        variables: no_variables(alloc),
+    }
+}
+
+// Labels behind others.
+fn labels_of_both(first: Vec<TLabel>, second: &[TLabel]) -> Result<Vec<TLabel>, OutOfMemory>
+    ensures { IfOk result (λ all. all.items ≡ first.items ++ second.now) }
+{
+    let mut all = first;
+    for label in second {
+        all.push(*label)?;
+    }
+    Ok(all)
+}
+
+/// Groups of a switch, and one with these labels and statements behind them.
+pub fn group_added(
+    first: Labelled,
+    labels: Vec<TLabel>,
+    body: LaidAll,
+) -> Result<Labelled, OutOfMemory>
+    ensures { IfOk result (λ all. labelled_of all ≡ labelled_before (labelled_of first) (labelled labels.items (all_laid_of body) no_labelled)) }
+{
+    let Labelled {
+        groups,
+        labels: earlier,
+        variables,
+    } = first;
+    let LaidAll {
+        trees,
+        variables: others,
+    } = body;
+    let all_labels = labels_of_both(earlier, &labels)?;
+    let variables = variables_of_both(variables, others)?;
+    let mut all = groups;
+    all.push(TGroup {
+        labels,
+        body: trees,
+    })?;
+    Ok(Labelled {
+        groups: all,
+        labels: all_labels,
+        variables,
+    })
+}
+
+// A switch without the demand on its labels.
+fn laid_switch(alloc: Global, g: Given, gs: Labelled) -> Result<Laid, OutOfMemory>
+    ensures { IfOk result (λ l. laid_of l ≡ with_tree (labelled_of gs).groups (switch_on (tree_of (given_of g)) (labelled_of gs).groups.tree)) }
+{
+    let on = g.into_tree(alloc)?;
+    let Labelled {
+        groups,
+        variables,
+        ..
+    } = gs;
+    with_variables(alloc, TStmt::Switch { on, groups }, variables)
+}
+
+/// A switch, whose case values are distinct, with at most one default (C99 6.8.4.2 paragraph 3).
+pub fn switch_laid(alloc: Global, at: u32, g: Given, gs: Labelled) -> Result<Laid, CheckError>
+    ensures { Judges laid_of result (switch_of at (given_of g) (labelled_of gs)) }
+{
+    let distinct = are_distinct(alloc, &gs.labels)?;
+    if !distinct {
+        return Err(CheckError::At(C7, at));
+    }
+    Ok(laid_switch(alloc, g, gs)?)
+}
