@@ -1,0 +1,8 @@
+/// Why no model was made of a program.
+#[derive(Clone, Copy, Debug, PartialEq, Eq)]
+pub enum BuildError {
+    /// Memory was refused.
+    OutOfMemory,
+    /// The graph has more than 200,000 nodes.
+    TooManyNodes,
+}
