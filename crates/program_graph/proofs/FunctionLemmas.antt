@@ -1,17 +1,14 @@
 -- The functions of the graph, one after another.
 use Rattle.std.proofs.Common.{◌≡◌, ℕ, zero, suc, ◌+◌, ◌-◌, ◌<◌, ◌≤◌, Bool, true, false, nat_lt, if◌then◌else◌, List, [], ◌∷◌, ◌++◌, map, length, drop, get_or, slice_get, refl, sym, ap, ap₂, ◌∙◌, arith, drop-cons}
 use Rattle.std.proofs.lemmas.Bool.Decides.{Decides-ltb}
-use Rattle.std.proofs.lemmas.Bool.{false≢true}
 use Rattle.std.proofs.lemmas.List.{get_or-map, length-map}
 use Rattle.sys_table.specs.Table.{name_of}
 use Rattle.c_tree.specs.Tree.{Function, Program}
 use Rattle.c_tree.specs.Functions.{defined, name_where, name_of_function}
 use Rattle.c_tree.specs.Program.{IsProgram}
-use Rattle.c_shapes.specs.Shape.{Shape}
 use Rattle.c_shapes.specs.ShapeOf.{taken_calls, names_of_functions}
 use Rattle.flow_graph.specs.declared.shape.Shape.{Shape as Tree}
 use Rattle.flow_graph.specs.View.{shape_of, shapes_in}
-use Rattle.flow_model.specs.declared.records.ModelFunction.{ModelFunction}
 use Rattle.graph_laws.specs.GraphOf.{functions_from}
 use Rattle.graph_laws.specs.Layout.{width}
 use Rattle.program_graph.proofs.RecordLemmas.{dropped_all}

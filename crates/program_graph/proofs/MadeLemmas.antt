@@ -1,5 +1,5 @@
 -- The records of a builder are the graph of the program, which breaks no rule.
-use Rattle.std.proofs.Common.{◌≡◌, ℕ, ◌<◌, ◌≤◌, min, List, length, map, refl, sym, ap, ap₂, ◌∙◌, subst, arith}
+use Rattle.std.proofs.Common.{◌≡◌, ℕ, ◌<◌, ◌≤◌, min, List, length, map, sym, ap, ap₂, ◌∙◌, subst, arith}
 use Rattle.std.specs.Cmp.{IsTotalOrder, nat_cmp_total}
 use Rattle.std.specs.declared.cmp.Ordering.{Ordering}
 use Rattle.std.specs.declared.cmp.Ordering.TheVariants.{Less, Equal}
@@ -11,11 +11,11 @@ use Rattle.c_shapes.specs.ShapeOf.{shapes_of_functions, names_of_functions, cand
 use Rattle.program_graph.specs.SiteEdges.{site_edges, site_edge_order}
 use Rattle.flow_model.specs.Built.{Records, graph_of_records}
 use Rattle.flow_model.specs.Graph.{Graph}
-use Rattle.flow_model.specs.Order.{silent_order, sys_order, site_order}
+use Rattle.flow_model.specs.Order.{silent_order, sys_order}
 use Rattle.flow_model.specs.Rules.{HasNoRepeats, IsInOrder, IsValid, IsLeastBroken}
 use Rattle.flow_model.specs.Rules.IsLeastBroken.{entries as broken_entries, exits as broken_exits, names as broken_names, edges as broken_edges, functions as broken_functions, repeats as broken_repeats, patterns as broken_patterns}
 use Rattle.flow_model.proofs.OrderLemmas.{silent_order_total, sys_order_total}
-use Rattle.graph_laws.specs.GraphOf.{functions_from, edges_from, nodes_from, silent_edges, sys_edges, calls}
+use Rattle.graph_laws.specs.GraphOf.{functions_from, edges_from, nodes_from, silent_edges, sys_edges}
 use Rattle.graph_laws.specs.GraphOfProgram.{graph_of_program}
 use Rattle.graph_laws.specs.Sorted.{sorted}
 use Rattle.graph_laws.proofs.ProgramsClosed.{closed, many_names}

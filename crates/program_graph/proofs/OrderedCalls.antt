@@ -8,7 +8,6 @@ use Rattle.c_shapes.specs.Walks.{Silent, System, Site}
 use Rattle.program_graph.specs.declared.sites.SiteEdge.{SiteEdge}
 use Rattle.program_graph.specs.SiteEdges.{site_edges, site_edge_order}
 use Rattle.program_graph.proofs.SiteOrder.{site_edges_tie}
-use Rattle.flow_model.specs.Call.{Call}
 use Rattle.flow_model.specs.Order.{site_order}
 use Rattle.flow_model.proofs.OrderLemmas.{numbers_tie}
 use Rattle.graph_laws.specs.Layout.{Edge, edge}

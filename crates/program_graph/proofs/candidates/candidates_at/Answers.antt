@@ -1,4 +1,4 @@
-use Rattle.std.proofs.Common.{◌∙◌, ◌≤◌, ap, map, sym, length, arith}
+use Rattle.std.proofs.Common.{◌∙◌, ap, map, sym, length, arith}
 use Rattle.c_tree.specs.View.{program_of}
 use Rattle.program_graph.specs.Places.{place_at}
 use Rattle.program_graph.proofs.TakenLemmas.{none_marked, all_placed, few_taken}

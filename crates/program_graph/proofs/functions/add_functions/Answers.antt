@@ -1,4 +1,4 @@
-use Rattle.std.proofs.Common.{◌∙◌, ◌<◌, ◌≤◌, ◌+◌, drop, length, arith}
+use Rattle.std.proofs.Common.{◌<◌, ◌+◌, drop, length, arith}
 use Rattle.c_tree.specs.View.{program_of}
 use Rattle.c_shapes.specs.ShapeOf.{names_of_functions}
 use Rattle.flow_graph.specs.View.{shapes_in}

@@ -1,4 +1,3 @@
-use Rattle.std.proofs.Common.{refl}
 use Rattle.c_tree.specs.View.{program_of}
 use Rattle.flow_graph.specs.View.{shapes_in}
 use Rattle.flow_model.specs.Built.{graph_of_records}

@@ -1,4 +1,4 @@
-use Rattle.std.proofs.Common.{◌+◌, ◌≤◌, nat_lt, get_or, refl, arith}
+use Rattle.std.proofs.Common.{◌+◌, nat_lt, get_or, refl, arith}
 use Rattle.program_graph.proofs.TakenLemmas.{below_more, below_end, at_most_one}
 use Rattle.program_graph.proofs.places.count_below.Goals as goal
 

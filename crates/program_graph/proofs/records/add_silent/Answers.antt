@@ -1,4 +1,4 @@
-use Rattle.std.proofs.Common.{[], get_or, refl}
+use Rattle.std.proofs.Common.{get_or, refl}
 use Rattle.flow_model.specs.declared.records.SilentEdge.{SilentEdge}
 use Rattle.program_graph.proofs.RecordLemmas.{with_silent, silent_more, silent_end}
 use Rattle.program_graph.proofs.records.add_silent.Goals as goal
