@@ -1,5 +1,6 @@
 -- What stands first, at the ends of the functions that look for it.
 use Rattle.std.proofs.Common.{◌≡◌, ◌≤◌, ◌<◌, inl, inr, ℕ, Bool, true, false, List, [], ◌∷◌, length, refl, sym, ap, ◌∙◌, subst, arith}
+use Rattle.std.proofs.Common.{◌⊎◌}
 use Rattle.c_lexer.specs.declared.token.Token.{Token}
 use Rattle.c_lexer.specs.declared.token.TokenKind.TheVariants.{Punct}
 use Rattle.c_lexer.specs.declared.punctuator.TheConstants.{LEFT_BRACKET, LEFT_PARENTHESIS}
@@ -50,8 +51,8 @@ part_wrong f g = record { wrong = λ q. (f, g); deep = λ at q. absurd (let p : 
 nesting_same : {a b : ℕ} → Nesting a ≡ Nesting b → a ≡ b
 nesting_same q = cc
 
-pub part_deep : {deepest : ℕ} {i : List Token} → IsDeepOrWrong deepest (Nesting deepest) i
-part_deep {deepest} = record { wrong = λ q. absurd (let p : Nesting deepest ≡ Syntax = q in cc); deep = λ at q. sym (nesting_same q) }
+pub part_deep : {deepest : ℕ} {i : List Token} → IsAt LEFT_BRACKET i ⊎ IsAt LEFT_PARENTHESIS i → IsDeepOrWrong deepest (Nesting deepest) i
+part_deep {deepest} h = record { wrong = λ q. absurd (let p : Nesting deepest ≡ Syntax = q in cc); deep = λ at q. (sym (nesting_same q), h) }
 
 -- no pair is left
 

@@ -1,5 +1,6 @@
 pub mod Adding
 pub mod Declaring
+pub mod Deepest
 pub mod Exits
 pub mod Growing
 pub mod Inits
@@ -8,6 +9,8 @@ pub mod Lacking
 pub mod Leaves
 pub mod Lists
 pub mod Made
+pub mod Opened
+pub mod OpenedDeclarators
 pub mod Raising
 pub mod Refusals
 pub mod RefusalsOfDeclarators

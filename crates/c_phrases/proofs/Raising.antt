@@ -1,5 +1,6 @@
 -- How the refusal of a part becomes that of the whole.
-use Rattle.std.proofs.Common.{◌≡◌, ◌-◌, ℕ, List, refl, sym, subst}
+use Rattle.std.proofs.Common.{◌≡◌, ◌<◌, ◌-◌, ℕ, suc, List, length, refl, sym, subst, arith}
+use Rattle.c_refusals.specs.Opens.{Opens}
 use Rattle.c_lexer.specs.declared.token.Token.{Token}
 use Rattle.c_phrases.specs.declared.room.Room.{Room}
 use Rattle.c_phrases.specs.declared.error.PhraseError.{PhraseError}
@@ -9,8 +10,8 @@ use Rattle.c_refusals.specs.Phrases.{Bound, any, within, inner}
 use Rattle.c_refusals.specs.Operands.{enclosed}
 use Rattle.c_syntax.specs.Tokens.{Is, IsKeyword}
 use Rattle.c_phrases.specs.Standing.{IsAt, IsAtKeyword}
-use Rattle.c_phrases.specs.Refusing.{bound_of, Refuses, RefusedFlat}
-use Rattle.c_phrases.specs.Reading.{Refused, Lacks, LacksPast}
+use Rattle.c_phrases.specs.Refusing.{bound_of, Refuses, RefusesDeep, RefusedFlat}
+use Rattle.c_phrases.specs.Reading.{IsNested, Refused, Lacks, LacksPast}
 
 wrong_is : {at : ℕ} → Nesting at ≡ Syntax → ⊥
 wrong_is q = cc
@@ -25,37 +26,66 @@ memory_deep_is : {at : ℕ} → OutOfMemory ≡ Nesting at → ⊥
 memory_deep_is q = cc
 
 -- there was no memory
-pub no_memory : {Q : Bound → List Token → List Token → Type 0} {room : Room} {i j : List Token} → Refused Q room OutOfMemory i j
+pub no_memory : {Q : Bound → List Token → List Token → Type 0} {O : ℕ → ℕ → ℕ → List Token → List Token → Type 0} {room : Room} {i j : List Token} → Refused Q O room OutOfMemory i j
 no_memory = record { wrong = λ q. absurd (no_memory_is q); deep = λ at q. absurd (memory_deep_is q) }
 
 -- it fails where the cursor stands
-pub wrong_here : {Q : Bound → List Token → List Token → Type 0} {room : Room} {i j : List Token} → Q any i j → Refused Q room Syntax i j
+pub wrong_here : {Q : Bound → List Token → List Token → Type 0} {O : ℕ → ℕ → ℕ → List Token → List Token → Type 0} {room : Room} {i j : List Token} → Q any i j → Refused Q O room Syntax i j
 wrong_here f = record { wrong = λ q. f; deep = λ at q. absurd (deep_is q) }
 
--- within the limits it fails at the token
-pub deep_at : {Q : Bound → List Token → List Token → Type 0} {room : Room} {at : ℕ} {i j : List Token} (q : List Token) → Q (bound_of room) i q → Refused Q room (Nesting at) i j
-deep_at q f = record { wrong = λ e. absurd (wrong_is e); deep = λ at e. (q, f) }
+nesting_same : {a b : ℕ} → Nesting a ≡ Nesting b → a ≡ b
+nesting_same q = cc
+
+-- within the limits it fails at the token, and past them it goes on
+pub deep_at : {Q : Bound → List Token → List Token → Type 0} {O : ℕ → ℕ → ℕ → List Token → List Token → Type 0} {room : Room} {at : ℕ} {i j : List Token} (q : List Token) → Q (bound_of room) i q → O at room.pairs room.nodes i q → 0 < length q → Refused Q O room (Nesting at) i j
+deep_at {O = O} {room} {i = i} q f o s = record {
+  wrong = λ e. absurd (wrong_is e);
+  deep = λ at e. record { token = q; fails = f; opens = subst (λ z. O z room.pairs room.nodes i q) (nesting_same e) o; some = s };
+}
+
+-- the same of a place that is told
+pub nested_at : {Q : Bound → List Token → List Token → Type 0} {O : ℕ → ℕ → ℕ → List Token → List Token → Type 0} {room : Room} {at : ℕ} {i : List Token} (q : List Token) → Q (bound_of room) i q → O at room.pairs room.nodes i q → 0 < length q → IsNested Q O room at i
+nested_at q f o s = record { token = q; fails = f; opens = o; some = s }
 
 -- the part stands within the same limits
-pub raised : {Q P : Bound → List Token → List Token → Type 0} {room : Room} {e : PhraseError} {i j k : List Token} → Refused Q room e j k → ((b : Bound) (r : List Token) → Q b j r → P b i r) → Refused P room e i k
-raised {room = room} h f = record { wrong = λ q. f any _ (h.wrong q); deep = λ at q. let x = h.deep at q in (x.0, f (bound_of room) x.0 x.1) }
+pub raised : {Q P : Bound → List Token → List Token → Type 0} {O U : ℕ → ℕ → ℕ → List Token → List Token → Type 0} {room : Room} {e : PhraseError} {i j k : List Token} → Refused Q O room e j k → ((b : Bound) (r : List Token) → Q b j r → P b i r) → ((at : ℕ) (r : List Token) → O at room.pairs room.nodes j r → U at room.pairs room.nodes i r) → Refused P U room e i k
+raised {room = room} h f g = record {
+  wrong = λ q. f any _ (h.wrong q);
+  deep = λ at q. let x = h.deep at q in record { token = x.token; fails = f (bound_of room) x.token x.fails; opens = g at x.token x.opens; some = x.some };
+}
 
 -- the part stands inside one more node
-pub raised_in : {Q P : Bound → List Token → List Token → Type 0} {room inside : Room} {e : PhraseError} {i j k : List Token} → inside.nodes ≡ room.nodes - 1 → inside.pairs ≡ room.pairs → Refused Q inside e j k → ((b : Bound) (r : List Token) → Q (inner b) j r → P b i r) → Refused P room e i k
-raised_in {Q} {room = room} {j = j} n p h f = record {
+pub raised_in : {Q P : Bound → List Token → List Token → Type 0} {O U : ℕ → ℕ → ℕ → List Token → List Token → Type 0} {room inside : Room} {e : PhraseError} {i j k : List Token} → 0 < room.nodes → inside.nodes ≡ room.nodes - 1 → inside.pairs ≡ room.pairs → Refused Q O inside e j k → ((b : Bound) (r : List Token) → Q (inner b) j r → P b i r) → ((at : ℕ) (r : List Token) → O at room.pairs (room.nodes - 1) j r → U at room.pairs (suc (room.nodes - 1)) i r) → Refused P U room e i k
+raised_in {Q} {O = O} {U} {room = room} {inside = inside} {i = i} {j = j} l n p h f g = record {
   wrong = λ q. f any _ (h.wrong q);
-  deep = λ at q. let x = h.deep at q in (x.0, f (bound_of room) x.0 (subst (λ z. Q z j x.0) (λ w. within (p w) (n w)) x.1));
+  deep = λ at q.
+      let x = h.deep at q in
+      let m : suc (room.nodes - 1) ≡ room.nodes = omega (arith, l) in
+      record {
+        token = x.token;
+        fails = f (bound_of room) x.token (subst (λ z. Q z j x.token) (λ w. within (p w) (n w)) x.fails);
+        opens = subst (λ z. U at room.pairs z i x.token) m (g at x.token (subst (λ z. O at z (room.nodes - 1) j x.token) p (subst (λ z. O at inside.pairs z j x.token) n x.opens)));
+        some = x.some;
+      };
 }
 
 -- the part stands inside one more pair of parentheses
-pub raised_enclosed : {Q P : Bound → List Token → List Token → Type 0} {room inside : Room} {e : PhraseError} {i j k : List Token} → inside.nodes ≡ room.nodes → inside.pairs ≡ room.pairs - 1 → Refused Q inside e j k → ((b : Bound) (r : List Token) → Q (enclosed b) j r → P b i r) → Refused P room e i k
-raised_enclosed {Q} {room = room} {j = j} n p h f = record {
+pub raised_enclosed : {Q P : Bound → List Token → List Token → Type 0} {O U : ℕ → ℕ → ℕ → List Token → List Token → Type 0} {room inside : Room} {e : PhraseError} {i j k : List Token} → 0 < room.pairs → inside.nodes ≡ room.nodes → inside.pairs ≡ room.pairs - 1 → Refused Q O inside e j k → ((b : Bound) (r : List Token) → Q (enclosed b) j r → P b i r) → ((at : ℕ) (r : List Token) → O at (room.pairs - 1) room.nodes j r → U at (suc (room.pairs - 1)) room.nodes i r) → Refused P U room e i k
+raised_enclosed {Q} {O = O} {U} {room = room} {inside = inside} {i = i} {j = j} l n p h f g = record {
   wrong = λ q. f any _ (h.wrong q);
-  deep = λ at q. let x = h.deep at q in (x.0, f (bound_of room) x.0 (subst (λ z. Q z j x.0) (λ w. within (p w) (n w)) x.1));
+  deep = λ at q.
+      let x = h.deep at q in
+      let m : suc (room.pairs - 1) ≡ room.pairs = omega (arith, l) in
+      record {
+        token = x.token;
+        fails = f (bound_of room) x.token (subst (λ z. Q z j x.token) (λ w. within (p w) (n w)) x.fails);
+        opens = subst (λ z. U at z room.nodes i x.token) m (g at x.token (subst (λ z. O at (room.pairs - 1) z j x.token) n (subst (λ z. O at z inside.nodes j x.token) p x.opens)));
+        some = x.some;
+      };
 }
 
 -- the part is one in which nothing is nested
-pub raised_flat : {A : List Token → List Token → Type 0} {P : Bound → List Token → List Token → Type 0} {room : Room} {e : PhraseError} {i j k : List Token} → RefusedFlat A e j k → ((b : Bound) (r : List Token) → Fails A j r → P b i r) → Refused P room e i k
+pub raised_flat : {A : List Token → List Token → Type 0} {P : Bound → List Token → List Token → Type 0} {U : ℕ → ℕ → ℕ → List Token → List Token → Type 0} {room : Room} {e : PhraseError} {i j k : List Token} → RefusedFlat A e j k → ((b : Bound) (r : List Token) → Fails A j r → P b i r) → Refused P U room e i k
 raised_flat h f = record { wrong = λ q. f any _ (h.wrong q); deep = λ at q. absurd (h.deep at q) }
 
 -- the same of both
@@ -70,15 +100,20 @@ flat_here f = record { wrong = λ q. f; deep = λ at q. absurd (deep_is q) }
 
 -- what a public reader answers
 
-pub told : {A : Bound → List Token → List Token → Type 0} {room : Room} {i j : List Token} (e : PhraseError) → Refused (Lacks A) room e i j → Refuses A (bound_of room) e i j
+pub told : {A : Bound → List Token → List Token → Type 0} {O : ℕ → ℕ → ℕ → List Token → List Token → Type 0} {room : Room} {i j : List Token} (e : PhraseError) → Refused (Lacks A) O room e i j → Refuses A (bound_of room) e i j
 told OutOfMemory h = tt
 told Syntax h = h.wrong refl
-told (Nesting at) h = h.deep at refl
+told (Nesting at) h = let x = h.deep at refl in (x.token, x.fails)
 
-pub telling : {A : Bound → List Token → List Token → Type 0} {room : Room} {i j : List Token} (e : PhraseError) → Refuses A (bound_of room) e i j → Refused (Lacks A) room e i j
-telling OutOfMemory h = no_memory
-telling Syntax h = wrong_here h
-telling (Nesting at) h = deep_at h.0 h.1
+pub told_deep : {A : Bound → List Token → List Token → Type 0} {D : ℕ → ℕ → ℕ → List Token → List Token → Type 0} {room : Room} {i j : List Token} (e : PhraseError) → Refused (Lacks A) (λ at p n i r. Opens (D at p n) i r) room e i j → RefusesDeep A D room e i
+told_deep OutOfMemory h = tt
+told_deep Syntax h = tt
+told_deep (Nesting at) h = let x = h.deep at refl in record { token = x.token; fails = x.fails; opens = x.opens; some = x.some }
+
+pub telling : {A : Bound → List Token → List Token → Type 0} {D : ℕ → ℕ → ℕ → List Token → List Token → Type 0} {room : Room} {i j : List Token} (e : PhraseError) → Refuses A (bound_of room) e i j → RefusesDeep A D room e i → Refused (Lacks A) (λ at p n i r. Opens (D at p n) i r) room e i j
+telling OutOfMemory h d = no_memory
+telling Syntax h d = wrong_here h
+telling (Nesting at) h d = deep_at d.token d.fails d.opens d.some
 
 pub flat : {A : List Token → List Token → Type 0} (b : Bound) {i j : List Token} (e : PhraseError) → RefusedFlat A e i j → Refuses (λ _. A) b e i j
 flat b OutOfMemory h = tt

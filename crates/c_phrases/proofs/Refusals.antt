@@ -143,7 +143,7 @@ no_fails {i = i} {j = j} {k = k} c e s y h q b r f =
 operator_ranks : {most : ℕ} (o : Operator) {j : List Token} → StandsOperator most (Some o) j → rank j ≡ o.level + 1
 operator_ranks o h = ap rank h.2 ∙ ranked h.3 ∙ infix_rank h.4
 
-left_of : {d most at : ℕ} {e : Expr} {i j k : List Token} (o : Operator) → at ≡ place i → Chained d most e i j → j ≡ k → StandsOperator most (Some o) j → Reads d (binary_level o.level) e i k
+pub left_of : {d most at : ℕ} {e : Expr} {i j k : List Token} (o : Operator) → at ≡ place i → Chained d most e i j → j ≡ k → StandsOperator most (Some o) j → Reads d (binary_level o.level) e i k
 left_of {d} {e = e} {i = i} o p c q h =
     let P : List Token → Type 0 = λ z. Reads d (binary_level o.level) e i z in
     subst P q (lifted o.level p (omega (arith, c.3, operator_ranks o h)) c.2)
@@ -171,7 +171,7 @@ not_cast f t j q h l = f (subst IsAtCast (sym q) (h, l))
 pub bare_cast : {i : List Token} → (IsAtCast i → ⊥) → (b : Bound) (r : List Token) → LacksExpr unary_level b i r → Fails (AnExpr b cast_level) i r
 bare_cast n b r f = cast_bare (not_cast n) f.past f.fails
 
-cast_taken : (i k : List Token) → IsAtCast i → k ≡ drop 1 i → (t : Token) × Is LEFT_PARENTHESIS t × (i ≡ t ∷ k) × (7 ≤ start k)
+pub cast_taken : (i k : List Token) → IsAtCast i → k ≡ drop 1 i → (t : Token) × Is LEFT_PARENTHESIS t × (i ≡ t ∷ k) × (7 ≤ start k)
 cast_taken [] k h e = absurd h
 cast_taken (t ∷ j) k h e = (t, h.0, ap (λ z. t ∷ z) (sym e), omega (arith, h.1, ap start e))
 
@@ -326,7 +326,7 @@ leaf_apart i (inr h) q = omega (arith, h, q)
 pub leaf_deep : {pairs nodes : ℕ} {i : List Token} → (start i ≡ 3) ⊎ (start i ≡ 5) → nodes ≡ 0 → LacksExpr primary_level (within pairs nodes) i i
 leaf_deep {i = i} n q = record { fails = no_nodes primary_level i q; past = low_past (leaf_apart i n) }
 
-pub leaf_refused : {Q : Bound → List Token → List Token → Type 0} {room : Room} {e : PhraseError} {i j : List Token} → (start i ≡ 3) ⊎ (start i ≡ 5) → IsNoLeaf e i → Refused Q room e i j
+pub leaf_refused : {Q : Bound → List Token → List Token → Type 0} {O : ℕ → ℕ → ℕ → List Token → List Token → Type 0} {room : Room} {e : PhraseError} {i j : List Token} → (start i ≡ 3) ⊎ (start i ≡ 5) → IsNoLeaf e i → Refused Q O room e i j
 leaf_refused {i = i} n h = record { wrong = λ q. absurd (none n (h.wrong q)); deep = λ at q. absurd (h.deep at q) }
   where
     none : (start i ≡ 3) ⊎ (start i ≡ 5) → (start i ≡ 3 → ⊥) × (start i ≡ 5 → ⊥) → ⊥

@@ -38,7 +38,7 @@ use Rattle.c_phrases.specs.Phrases.{HasSpec, HasInit}
 use Rattle.c_phrases.specs.declared.error.PhraseError.{PhraseError}
 use Rattle.c_phrases.specs.declared.error.PhraseError.TheVariants.{Syntax, Nesting}
 use Rattle.c_phrases.specs.Lists.{IsUnclosed}
-use Rattle.c_phrases.specs.Reading.{Refused, Lacks, Suits, LacksPast, IsCored, IsParam, LeadsParams}
+use Rattle.c_phrases.specs.Reading.{Refused, Lacks, OpensInits, Suits, LacksPast, IsCored, IsParam, LeadsParams}
 use Rattle.c_phrases.proofs.Exits.{taken_at}
 use Rattle.c_phrases.proofs.Declaring.{IsDeclared}
 use Rattle.c_phrases.proofs.Raising.{not_at, ends_at}
@@ -221,7 +221,7 @@ declarator_unclosed form {m = m} o e s n b =
 -- array sizes and parameters
 
 -- nothing was read of them, or something
-unmoved : {d at : ℕ} {a e : Declarator} {i j : List Token} → Lengthens d at a e i j → ((e ≡ a) × (j ≡ i)) ⊎ (length j < length i)
+pub unmoved : {d at : ℕ} {a e : Declarator} {i j : List Token} → Lengthens d at a e i j → ((e ≡ a) × (j ≡ i)) ⊎ (length j < length i)
 unmoved no_more = inl (refl, refl)
 unmoved (an_array {u = u} {j = j} {k = k} o s c l) = let f = front_of_all (size_on s) in let g = front_of_all (lengthens_on l) in inr (omega (arith, ap length f.is, ap length g.is, length-append f.front (u ∷ j), length-append g.front k))
 unmoved (a_function {u = u} {j = j} {k = k} o s c l) = let f = front_of_all (params_on s) in let g = front_of_all (lengthens_on l) in inr (omega (arith, ap length f.is, ap length g.is, length-append f.front (u ∷ j), length-append g.front k))
@@ -242,7 +242,7 @@ read_so_far {left = left} {j = j} p r c l = record { begins = p; core_reads = r;
 whole : {d at : ℕ} {core left : Declarator} {i h j : List Token} → IsThere core → Read d at core left i h j → Lengthened d left i j
 whole t r = record { at = _; middle = _; after = _; begins = r.begins; core = r.core_reads; stands = t; lengthens = r.lengthens }
 
-bare_lengthens : {d at : ℕ} {core left : Declarator} {i h j : List Token} → core ≡ nothing → h ≡ i → Lengthens d at core left h j → Lengthens d at nothing left i j
+pub bare_lengthens : {d at : ℕ} {core left : Declarator} {i h j : List Token} → core ≡ nothing → h ≡ i → Lengthens d at core left h j → Lengthens d at nothing left i j
 bare_lengthens {d} {at} {left = left} {h = h} {j = j} p q l =
     let P : Declarator → Type 0 = λ z. Lengthens d at z left h j in
     let Q : List Token → Type 0 = λ z. Lengthens d at nothing left z j in subst Q q (subst P p l)
@@ -341,7 +341,7 @@ list_wrong {i} w b = ends_at w.2 (list_unclosed i (not_at w.0) (not_at w.1))
 pub unclosed : {i j : List Token} → (IsAt COMMA i → ⊥) → (IsAt RIGHT_BRACE i → ⊥) → j ≡ i → IsUnclosed Syntax i j
 unclosed f g q = record { wrong = λ e. (f, g, q); deep = λ at e. let p : Syntax ≡ Nesting at = e in cc }
 
-pub list_refused : {room : Room} {e : PhraseError} {i j k : List Token} → ((b : Bound) (r : List Token) → Fails (ListEnd b) j r → Fails (InList b) i r) → IsUnclosed e j k → Refused (Lacks InList) room e i k
+pub list_refused : {room : Room} {e : PhraseError} {i j k : List Token} → ((b : Bound) (r : List Token) → Fails (ListEnd b) j r → Fails (InList b) i r) → IsUnclosed e j k → Refused (Lacks InList) OpensInits room e i k
 list_refused f h = record { wrong = λ q. f any _ (list_wrong (h.wrong q) any); deep = λ at q. absurd (h.deep at q) }
 
 -- a declarator with a name was read

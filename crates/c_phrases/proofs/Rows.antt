@@ -9,11 +9,11 @@ use Rattle.c_syntax.specs.declared.tree.ExprKind.{ExprKind, Comma', Row_of-Expr,
 use Rattle.c_syntax.specs.declared.tree.ExprKind.TheVariants.{Comma, Call}
 use Rattle.c_syntax.specs.declared.tree.DeclaratorKind.{DeclaratorKind, Function', Row_of-Param, end_of-Param, more_of-Param, items-the_row-Param, items_hidden-the_row-Param-0}
 use Rattle.c_syntax.specs.declared.tree.DeclaratorKind.TheBlock.{back-DeclaratorKind-Pointer-0}
-use Rattle.c_syntax.specs.declared.tree.DeclaratorKind.TheVariants.{Function}
-use Rattle.c_syntax.specs.Tree.{Expr, Exprs, more_exprs, comma, call, Declarator, Params, function}
+use Rattle.c_syntax.specs.declared.tree.DeclaratorKind.TheVariants.{Function, Pointer, Array}
+use Rattle.c_syntax.specs.Tree.{Expr, Exprs, more_exprs, comma, call, Declarator, Params, function, pointer, array}
 use Rattle.c_syntax.specs.Limits.{height, height_of_exprs, height_of_declarator, height_of_params}
 use Rattle.c_syntax.specs.View.{exprs_of_row, params_of_row, expr_at, expr_of, param_before, declarator_at, inner_declarator}
-use Rattle.c_syntax.specs.Writes.{exprs_of, params_of, declarator_behind}
+use Rattle.c_syntax.specs.Writes.{exprs_of, params_of, declarator_behind, expr_behind}
 
 exprs_row : (n : _) (row : Row_of-Expr n) → exprs_of_row row ≡ exprs_of (items-the_row-Expr n row)
 exprs_row n end_of-Expr = refl
@@ -64,3 +64,15 @@ call_height p q r s t = p ∙ ap suc (q ∙ both r s) ∙ sym (ap height t)
 
 pub function_height : {h m d g at : ℕ} {a : Declarator} {ps : Params} {e : Declarator} → h ≡ suc m → m ≡ max d g → d ≡ height_of_declarator a → g ≡ height_of_params ps → e ≡ function at a ps → h ≡ height_of_declarator e
 function_height p q r s t = p ∙ ap suc (q ∙ both r s) ∙ sym (ap height_of_declarator t)
+
+-- a pointer and an array as the terms that they are seen as
+
+pub pointer_is : (at : ℕ) (d : Option (Box DeclaratorTree Global)) → declarator_at at (Pointer d) ≡ pointer at (declarator_behind d)
+pointer_is at None = refl
+pointer_is at (Some b) = refl
+
+pub array_is : (at : ℕ) (d : Option (Box DeclaratorTree Global)) (m : Option (Box Tree Global)) → declarator_at at (Array d m) ≡ array at (declarator_behind d) (expr_behind m)
+array_is at None None = refl
+array_is at None (Some e) = refl
+array_is at (Some b) None = refl
+array_is at (Some b) (Some e) = refl

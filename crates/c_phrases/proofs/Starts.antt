@@ -3,7 +3,7 @@ use Rattle.std.proofs.Common.{◌≡◌, ◌≤◌, ℕ, zero, suc, List, [], �
 use Rattle.c_lexer.specs.declared.token.Token.{Token}
 use Rattle.c_lexer.specs.declared.token.TokenKind.{TokenKind}
 use Rattle.c_lexer.specs.declared.token.TokenKind.TheVariants.{Name, Keyword, Int, Char, Str, Punct}
-use Rattle.c_lexer.specs.declared.punctuator.TheConstants.{LEFT_PARENTHESIS, ASTERISK, INCREMENT, DECREMENT}
+use Rattle.c_lexer.specs.declared.punctuator.TheConstants.{LEFT_BRACKET, LEFT_PARENTHESIS, ASTERISK, INCREMENT, DECREMENT}
 use Rattle.c_lexer.specs.declared.keyword.TheConstants.{SIZEOF}
 use Rattle.c_syntax.proofs.Ends.{start, start_of_kind, start_of_code, start_of_word}
 use Rattle.c_phrases.specs.Standing.{IsAt, IsAtKeyword}
@@ -185,3 +185,27 @@ leaf_code code = (of_code (code_start code), code_of_name (code_start code))
 pub leaf_word : (word : ℕ) → (start_of_kind (Keyword word) ≡ 3 → ⊥) × (start_of_kind (Keyword word) ≡ 5 → ⊥)
 unfolding start_of_kind
 leaf_word word = (λ q. word_apart (word_start word) q (omega arith) (omega arith), λ q. word_apart (word_start word) q (omega arith) (omega arith))
+
+-- a bracket
+
+code_of_bracket : {code : ℕ} → CodeStart code → start_of_code code ≡ 6 → code ≡ LEFT_BRACKET
+code_of_bracket bracket_code q = refl
+code_of_bracket opening_code q = absurd (omega (arith, q))
+code_of_bracket increment_code q = absurd (omega (arith, q))
+code_of_bracket decrement_code q = absurd (omega (arith, q))
+code_of_bracket star_code q = absurd (omega (arith, q))
+code_of_bracket (unary_code l u e) q = absurd (omega (arith, e, q))
+code_of_bracket (other_code e) q = absurd (omega (arith, e, q))
+
+kind_of_bracket : (k : TokenKind) → start_of_kind k ≡ 6 → k ≡ Punct LEFT_BRACKET
+unfolding start_of_kind
+kind_of_bracket (Punct code) q = ap Punct (code_of_bracket (code_start code) q)
+kind_of_bracket (Keyword word) q = absurd (word_apart (word_start word) q (omega arith) (omega arith))
+kind_of_bracket (Name name) q = absurd (omega (arith, q))
+kind_of_bracket (Int n unsigned) q = absurd (omega (arith, q))
+kind_of_bracket (Char c) q = absurd (omega (arith, q))
+kind_of_bracket (Str bytes) q = absurd (omega (arith, q))
+
+pub bracket_there : (i : List Token) → start i ≡ 6 → IsAt LEFT_BRACKET i
+bracket_there [] q = absurd (omega (arith, q))
+bracket_there (t ∷ i) q = record { kind = kind_of_bracket t.kind q }

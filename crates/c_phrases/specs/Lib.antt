@@ -1,3 +1,5 @@
+pub mod Deep
+pub mod Deepest
 pub mod Lists
 pub mod Looking
 pub mod Making

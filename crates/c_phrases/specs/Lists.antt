@@ -14,7 +14,7 @@ use Rattle.c_phrases.specs.declared.error.PhraseError.TheVariants.{Syntax, Nesti
 use Rattle.c_phrases.specs.declared.room.Room.{Room}
 use Rattle.c_refusals.specs.Initialisers.{InList}
 use Rattle.c_phrases.specs.Standing.{IsAt}
-use Rattle.c_phrases.specs.Reading.{Refused, Lacks}
+use Rattle.c_phrases.specs.Reading.{Refused, Lacks, OpensInits}
 
 -- the list stands after the brace t, with the brace at its end
 pub record HasList (room : Room) (is : Inits) (t : Token) (i j : List Token) : Type 0 where
@@ -23,7 +23,7 @@ pub record HasList (room : Room) (is : Inits) (t : Token) (i j : List Token) : T
 
 abbrev pub ListsInits : Room → Result (Vec InitTree Global) PhraseError → List Token → List Token → Type 0
 ListsInits room (Ok v) i j = (t : Token) → Is LEFT_BRACE t → HasList room (inits_of v.items) t i j
-ListsInits room (Err e) i j = Refused (Lacks InList) room e i j
+ListsInits room (Err e) i j = Refused (Lacks InList) OpensInits room e i j
 
 -- neither a comma nor a brace stands there
 pub record IsUnclosed (e : PhraseError) (i j : List Token) : Type 0 where

@@ -95,7 +95,7 @@ OpensInside form false i = (IsAt LEFT_PARENTHESIS i → ⊥) ⊎ ((form ≡ Name
 -- why no part of a declarator is read: one begins at the limit, or none does
 pub record IsDeepOrWrong (deepest : ℕ) (e : PhraseError) (i : List Token) : Type 0 where
   pub wrong : e ≡ Syntax → (IsAt LEFT_BRACKET i → ⊥) × (IsAt LEFT_PARENTHESIS i → ⊥)
-  pub deep : (at : ℕ) → e ≡ Nesting at → at ≡ deepest
+  pub deep : (at : ℕ) → e ≡ Nesting at → (at ≡ deepest) × (IsAt LEFT_BRACKET i ⊎ IsAt LEFT_PARENTHESIS i)
 
 -- why nothing is read after a parenthesis for which no pair is left: an expression begins there, or none does
 pub record LacksPair (opening : ℕ) (e : PhraseError) (i : List Token) : Type 0 where

@@ -1,5 +1,5 @@
 -- For private contracts and proofs alone: what the readers of expressions, type names and declarators answer.
-use Rattle.std.specs.Prelude.{◌≡◌, ◌≤◌, ◌⊎◌, ℕ, Bool, true, false, List, ◌∷◌, Result, Ok, Err}
+use Rattle.std.specs.Prelude.{◌≡◌, ◌≤◌, ◌<◌, ◌⊎◌, ℕ, Bool, true, false, List, ◌∷◌, length, Result, Ok, Err}
 use Rattle.c_lexer.specs.declared.token.Token.{Token}
 use Rattle.c_lexer.specs.declared.punctuator.TheConstants.{LEFT_PARENTHESIS, RIGHT_BRACKET, COMMA}
 use Rattle.c_syntax.specs.declared.tree.Param.{Param as ParamTree}
@@ -13,6 +13,7 @@ use Rattle.c_syntax.proofs.Ends.{start, EndsDeclarator, EndsSpec}
 use Rattle.c_refusals.specs.Fails.{Fails}
 use Rattle.c_refusals.specs.Phrases.{Bound, any, AnExpr, ASpec}
 use Rattle.c_refusals.specs.Specs.{SpecEnd}
+use Rattle.c_refusals.specs.Opens.{Opens, DeepExpr, DeepExprs, DeepType, DeepSuffixes, DeepDeclarator, DeepLengthens, DeepEach, DeepInit, DeepInits}
 use Rattle.c_refusals.specs.Operands.{AType, SomeSuffixes, SomeArguments, ExprsRest, Past}
 use Rattle.c_refusals.specs.Declarators.{ADeclared, SomeLengthens, NoCore, SizeClosed, AParam, ParamsClosed, EachClosed}
 use Rattle.c_phrases.specs.declared.error.PhraseError.{PhraseError}
@@ -31,11 +32,41 @@ use Rattle.c_phrases.specs.declared.depth.MeasuredParams.{MeasuredParams}
 use Rattle.c_phrases.specs.Standing.{IsAt}
 use Rattle.c_phrases.specs.Making.{tree_of, trees_of, size_of, inner_of, list_of}
 
+-- Within the limits it fails at some token, and past them, with a node or a pair too many at the place, something goes on through it.
+pub record IsNested (Q : Bound → List Token → List Token → Type 0) (O : ℕ → ℕ → ℕ → List Token → List Token → Type 0) (room : Room) (at : ℕ) (i : List Token) : Type 0 where
+  pub token : List Token
+  pub fails : Q (bound_of room) i token
+  pub opens : O at room.pairs room.nodes i token
+  pub some : 0 < length token
+
 -- Why a phrase is not read that is to stand at i: what Q says at the token j where the cursor stands, whatever its depth, or at some
 -- token within the limits.
-pub record Refused (Q : Bound → List Token → List Token → Type 0) (room : Room) (e : PhraseError) (i j : List Token) : Type 0 where
+pub record Refused (Q : Bound → List Token → List Token → Type 0) (O : ℕ → ℕ → ℕ → List Token → List Token → Type 0) (room : Room) (e : PhraseError) (i j : List Token) : Type 0 where
   pub wrong : e ≡ Syntax → Q any i j
-  pub deep : (at : ℕ) → e ≡ Nesting at → (q : List Token) × Q (bound_of room) i q
+  pub deep : (at : ℕ) → e ≡ Nesting at → IsNested Q O room at i
+
+-- what goes on past the limits
+
+abbrev pub OpensExpr : Level → ℕ → ℕ → ℕ → List Token → List Token → Type 0
+OpensExpr l at p n i r = Opens (DeepExpr at p n l) i r
+
+abbrev pub OpensExprs : ℕ → ℕ → ℕ → List Token → List Token → Type 0
+OpensExprs at p n i r = Opens (DeepExprs at p n) i r
+
+-- a comma and more expressions
+pub record OpensMore (at p n : ℕ) (i r : List Token) : Type 0 where
+  pub token : Token
+  pub after : List Token
+  pub is : i ≡ token ∷ after
+  pub comma : Is COMMA token
+  pub opens : Opens (DeepExprs at p n) after r
+
+-- suffixes of the operand, which begins at the place
+abbrev pub OpensSuffix : ℕ → Expr → ℕ → ℕ → ℕ → List Token → List Token → Type 0
+OpensSuffix begins a at p n i r = Opens (DeepSuffixes at p n begins a) i r
+
+abbrev pub OpensType : ℕ → ℕ → ℕ → List Token → List Token → Type 0
+OpensType at p n i r = Opens (DeepType at p n) i r
 
 -- it fails
 abbrev pub Lacks : (Bound → List Token → List Token → Type 0) → Bound → List Token → List Token → Type 0
@@ -59,7 +90,7 @@ LacksExpr expression_level b i r = Fails (AnExpr b expression_level) i r
 
 abbrev pub ParsesTree : Room → Level → Result MeasuredExpr PhraseError → List Token → List Token → Type 0
 ParsesTree room l (Ok m) i j = Reads room.pairs l (tree_of m) i j × Stops l j
-ParsesTree room l (Err e) i j = Refused (LacksExpr l) room e i j
+ParsesTree room l (Err e) i j = Refused (LacksExpr l) (OpensExpr l) room e i j
 
 -- a name, a constant or strings, within any number of parentheses
 abbrev pub ParsesLeaf : Result MeasuredExpr PhraseError → List Token → List Token → Type 0
@@ -82,22 +113,22 @@ ParsesTrees room (Err e) i j = Unit {0}
 -- what follows the first of some expressions fails
 abbrev pub RefusesRest : Room → Result MeasuredExprs PhraseError → List Token → List Token → Type 0
 RefusesRest room (Ok m) i j = Unit {0}
-RefusesRest room (Err e) i j = Refused (Lacks ExprsRest) room e i j
+RefusesRest room (Err e) i j = Refused (Lacks ExprsRest) OpensMore room e i j
 
 -- the suffix whose first token is t makes of a, which begins at the place, what is answered
 abbrev pub AddsSuffix : Room → ℕ → Expr → Token → Result MeasuredExpr PhraseError → List Token → List Token → Type 0
 AddsSuffix room at a t (Ok m) i j = (e : Expr) (k : List Token) → Suffixes room.pairs at (tree_of m) e j k → Suffixes room.pairs at a e (t ∷ i) k
-AddsSuffix room at a t (Err e) i j = Refused (Lacks SomeSuffixes) room e (t ∷ i) j
+AddsSuffix room at a t (Err e) i j = Refused (Lacks SomeSuffixes) (OpensSuffix at a) room e (t ∷ i) j
 
 -- what stands after the parenthesis of a call are the arguments and a parenthesis
 abbrev pub TakesArguments : Room → Result MeasuredExprs PhraseError → List Token → List Token → Type 0
 TakesArguments room (Ok m) i j =
     (at : ℕ) (a e : Expr) (k : List Token) (t : Token) → Is LEFT_PARENTHESIS t → Suffixes room.pairs at (call at a (trees_of m)) e j k → Suffixes room.pairs at a e (t ∷ i) k
-TakesArguments room (Err e) i j = Refused (Lacks SomeArguments) room e i j
+TakesArguments room (Err e) i j = Refused (Lacks SomeArguments) OpensExprs room e i j
 
 abbrev pub ParsesType : Room → Result MeasuredType PhraseError → List Token → List Token → Type 0
 ParsesType room (Ok m) i j = ReadsType room.pairs (type_name_of m.name) i j × EndsDeclarator j
-ParsesType room (Err e) i j = Refused (Lacks AType) room e i j
+ParsesType room (Err e) i j = Refused (Lacks AType) OpensType room e i j
 
 -- the declarator has a name or not, as it is to
 abbrev pub Suits : Form → Declarator → Type 0
@@ -105,9 +136,41 @@ Suits Named e = HasName e
 Suits Abstract e = HasNoName e
 Suits Either e = Unit {0}
 
+abbrev pub OpensDeclared : Form → ℕ → ℕ → ℕ → List Token → List Token → Type 0
+OpensDeclared form at p n i r = Opens (DeepDeclarator (Suits form) at p n) i r
+
+-- array sizes and parameters of the declarator, which begins at the place
+abbrev pub OpensPart : ℕ → Declarator → ℕ → ℕ → ℕ → List Token → List Token → Type 0
+OpensPart begins a at p n i r = (form : Form) → Opens (DeepLengthens (Suits form) at p n begins a) i r
+
+abbrev pub OpensEach : ℕ → ℕ → ℕ → List Token → List Token → Type 0
+OpensEach at p n i r = Opens (DeepEach at p n) i r
+
+-- a comma and more parameters
+pub record OpensEachMore (at p n : ℕ) (i r : List Token) : Type 0 where
+  pub token : Token
+  pub after : List Token
+  pub is : i ≡ token ∷ after
+  pub comma : Is COMMA token
+  pub opens : Opens (DeepEach at p n) after r
+
+abbrev pub OpensInit : ℕ → ℕ → ℕ → List Token → List Token → Type 0
+OpensInit at p n i r = Opens (DeepInit at p n) i r
+
+abbrev pub OpensInits : ℕ → ℕ → ℕ → List Token → List Token → Type 0
+OpensInits at p n i r = Opens (DeepInits at p n) i r
+
+-- a comma and more initialisers
+pub record OpensInitMore (at p n : ℕ) (i r : List Token) : Type 0 where
+  pub token : Token
+  pub after : List Token
+  pub is : i ≡ token ∷ after
+  pub comma : Is COMMA token
+  pub opens : Opens (DeepInits at p n) after r
+
 abbrev pub ParsesDeclared : Room → Form → Result MeasuredDeclarator PhraseError → List Token → List Token → Type 0
 ParsesDeclared room form (Ok m) i j = Declares room.pairs (inner_of m) i j × EndsDeclarator j × Suits form (inner_of m)
-ParsesDeclared room form (Err e) i j = Refused (Lacks (ADeclared (Suits form))) room e i j
+ParsesDeclared room form (Err e) i j = Refused (Lacks (ADeclared (Suits form))) (OpensDeclared form) room e i j
 
 -- no name and no declarator in parentheses stands there, and nothing was read
 pub record IsBare (e : Declarator) (i j : List Token) : Type 0 where
@@ -121,18 +184,18 @@ IsCored e i j = IsThere e ⊎ IsBare e i j
 
 abbrev pub ParsesCore : Room → Form → Result MeasuredDeclarator PhraseError → List Token → List Token → Type 0
 ParsesCore room form (Ok m) i j = ReadsCore room.pairs (inner_of m) i j × Suits form (inner_of m) × IsCored (inner_of m) i j
-ParsesCore room form (Err e) i j = Refused (Lacks (ADeclared (Suits form))) room e i j
+ParsesCore room form (Err e) i j = Refused (Lacks (ADeclared (Suits form))) (OpensDeclared form) room e i j
 
 -- one array size or list of parameters makes of a, which begins at the place, what is answered
 abbrev pub AddsPart : Room → ℕ → Declarator → Result MeasuredDeclarator PhraseError → List Token → List Token → Type 0
 AddsPart room at a (Ok m) i j =
     ((e : Declarator) (k : List Token) → Lengthens room.pairs at (inner_of m) e j k → Lengthens room.pairs at a e i k)
     × ((form : Form) → Suits form a → Suits form (inner_of m))
-AddsPart room at a (Err e) i j = 2 ≤ start i → Refused (LacksPast SomeLengthens) room e i j
+AddsPart room at a (Err e) i j = 2 ≤ start i → Refused (LacksPast SomeLengthens) (OpensPart at a) room e i j
 
 abbrev pub ParsesSize : Room → Result MeasuredSize PhraseError → List Token → List Token → Type 0
 ParsesSize room (Ok m) i j = ReadsSize room.pairs (size_of m) i j × ((IsAt RIGHT_BRACKET j → ⊥) → (b : Bound) → Fails (SizeClosed b) i j)
-ParsesSize room (Err e) i j = Refused (Lacks SizeClosed) room e i j
+ParsesSize room (Err e) i j = Refused (Lacks SizeClosed) (OpensExpr conditional_level) room e i j
 
 -- what goes on behind the parameters fails with them, and no comma stands there
 pub record LeadsParams (i j : List Token) : Type 0 where
@@ -141,7 +204,7 @@ pub record LeadsParams (i j : List Token) : Type 0 where
 
 abbrev pub ParsesParams : Room → Result MeasuredParams PhraseError → List Token → List Token → Type 0
 ParsesParams room (Ok m) i j = ReadsParams room.pairs (list_of m) i j × LeadsParams i j
-ParsesParams room (Err e) i j = Refused (Lacks ParamsClosed) room e i j
+ParsesParams room (Err e) i j = Refused (Lacks ParamsClosed) OpensEach room e i j
 
 -- the parameter stands from i to j
 pub record IsParam (d : ℕ) (p : ParamTree) (is_void : Bool) (i j : List Token) : Type 0 where
@@ -160,7 +223,7 @@ pub record IsParam (d : ℕ) (p : ParamTree) (is_void : Bool) (i j : List Token)
 
 abbrev pub ParsesParam : Room → Result MeasuredParam PhraseError → List Token → List Token → Type 0
 ParsesParam room (Ok m) i j = IsParam room.pairs m.param m.is_void i j
-ParsesParam room (Err e) i j = Refused (Lacks AParam) room e i j
+ParsesParam room (Err e) i j = Refused (Lacks AParam) OpensEach room e i j
 
 -- `void` stands alone
 abbrev pub StandsAlone : Bool → Bool → List Token → Type 0

@@ -1,10 +1,11 @@
 -- Why a phrase isn't read: where nothing goes on with it, whatever its depth, or where nothing within the limits does.
-use Rattle.std.specs.Prelude.{◌≡◌, ℕ, List, Result, Ok, Err}
+use Rattle.std.specs.Prelude.{◌≡◌, ◌<◌, ℕ, List, length, Result, Ok, Err}
 use Rattle.c_lexer.specs.declared.token.Token.{Token}
 use Rattle.c_phrases.specs.declared.room.Room.{Room}
 use Rattle.c_phrases.specs.declared.error.PhraseError.{PhraseError}
 use Rattle.c_phrases.specs.declared.error.PhraseError.TheVariants.{OutOfMemory, Syntax, Nesting}
 use Rattle.c_refusals.specs.Fails.{Fails}
+use Rattle.c_refusals.specs.Opens.{Opens}
 use Rattle.c_refusals.specs.Phrases.{Bound, any, within}
 
 -- what the room allows
@@ -30,3 +31,21 @@ pub record RefusedFlat (A : List Token → List Token → Type 0) (e : PhraseErr
 abbrev pub StopsFlat : {T : Type 0} → (List Token → List Token → Type 0) → Result T PhraseError → List Token → List Token → Type 0
 StopsFlat A (Ok x) i j = Unit {0}
 StopsFlat A (Err e) i j = RefusedFlat A e i j
+
+-- Within the limits the phrase fails at some token, and past them tokens go on through it: D says that at the place they have a node
+-- that is one too deep, or a pair of parentheses inside too many others.
+pub record NestsAt (A : Bound → List Token → List Token → Type 0) (D : ℕ → ℕ → ℕ → List Token → List Token → Type 0) (room : Room) (at : ℕ) (i : List Token) : Type 0 where
+  pub token : List Token
+  pub fails : Fails (A (bound_of room)) i token
+  pub opens : Opens (D at room.pairs room.nodes) i token
+  pub some : 0 < length token
+
+abbrev pub RefusesDeep : (Bound → List Token → List Token → Type 0) → (ℕ → ℕ → ℕ → List Token → List Token → Type 0) → Room → PhraseError → List Token → Type 0
+RefusesDeep A D room OutOfMemory i = Unit {0}
+RefusesDeep A D room Syntax i = Unit {0}
+RefusesDeep A D room (Nesting at) i = NestsAt A D room at i
+
+-- the same of what a reader answers
+abbrev pub Nests : {T : Type 0} → (Bound → List Token → List Token → Type 0) → (ℕ → ℕ → ℕ → List Token → List Token → Type 0) → Room → Result T PhraseError → List Token → Type 0
+Nests A D room (Ok x) i = Unit {0}
+Nests A D room (Err e) i = RefusesDeep A D room e i

@@ -3,6 +3,7 @@ ghost use Rattle.c_syntax.specs.Limits.{height, height_of_exprs, height_of_maybe
 ghost use Rattle.c_syntax.specs.Tree.{Params};
 ghost use Rattle.c_syntax.specs.View.{expr_of, type_name_of, param_before};
 ghost use Rattle.c_syntax.specs.Writes.{exprs_of, params_of, declarator_behind, expr_behind};
+ghost use Rattle.c_phrases.specs.Deepest.{IsDeeper, IsAround, IsPlace};
 
 use c_syntax::{Declarator, Expr, Param, TypeName};
 
@@ -26,7 +27,8 @@ impl Depth {
 
     // The depth of a node with none inside, at the place.
     pub fn leaf(at: u32) -> Depth
-        ensures { result.height ≡ 1 }
+        ensures height { result.height ≡ 1 }
+        ensures place { result.deepest ≡ at }
     {
         Depth {
             height: 1,
@@ -34,9 +36,20 @@ impl Depth {
         }
     }
 
+    // The place of the deepest node, or the one that is given where there is none.
+    pub fn place_or(self, at: u32) -> u32
+        ensures { IsPlace at self result }
+    {
+        if self.height == 0 {
+            return at;
+        }
+        self.deepest
+    }
+
     // The depth of both, side by side.
     pub fn beside(self, other: Depth) -> Depth
-        ensures { result.height ≡ max self.height other.height }
+        ensures height { result.height ≡ max self.height other.height }
+        ensures deeper { IsDeeper self other result }
     {
         if self.height < other.height {
             return other;
@@ -47,7 +60,8 @@ impl Depth {
     // The depth of a node at the place with this inside.
     pub fn enclosed(self, at: u32) -> Depth
         requires { self.height < 4294967295 }
-        ensures { result.height ≡ suc self.height }
+        ensures height { result.height ≡ suc self.height }
+        ensures around { IsAround at self result }
     {
         if self.height == 0 {
             return Depth::leaf(at);

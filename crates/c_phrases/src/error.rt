@@ -12,8 +12,8 @@ pub enum PhraseError {
     /// No phrase, however deep, begins with the tokens through the one at which the cursor stands; where none is left there,
     /// none begins with the tokens themselves.
     Syntax,
-    /// Within the limits no phrase begins with the tokens through some token. The place is meant to be that of a node that
-    /// is too deep, or of a pair of parentheses that stands in too many others.
+    /// Within the limits no phrase begins with the tokens through some token, and past them some do: at the place they have a
+    /// node that is one too deep, or a pair of parentheses inside too many others.
     Nesting(u32),
 }
 

@@ -8,7 +8,8 @@ ghost use Rattle.c_syntax.specs.UnitView.{init_of};
 ghost use Rattle.c_syntax.specs.WritesUnit.{inits_of};
 ghost use Rattle.c_phrases.specs.Phrases.{ParsesInit};
 ghost use Rattle.c_refusals.specs.Phrases.{AnInit};
-ghost use Rattle.c_phrases.specs.Refusing.{bound_of, Stops};
+ghost use Rattle.c_phrases.specs.Refusing.{bound_of, Stops, Nests};
+ghost use Rattle.c_refusals.specs.Opens.{DeepInit};
 ghost use Rattle.c_phrases.specs.Lists.{ListsInits, GoesOn};
 
 use crate::cursor::Cursor;
@@ -24,6 +25,7 @@ impl<'a> Cursor<'a> {
     pub fn initialiser(&mut self, alloc: Global, room: Room) -> Result<Init, PhraseError>
         ensures parses { ParsesInit room result self.old.rest.now self.new.rest.now }
         ensures stops { Stops AnInit (bound_of room) result self.old.rest.now self.new.rest.now }
+        ensures nests { Nests AnInit DeepInit room result self.old.rest.now }
         ensures shorter { OnOk result (length self.new.rest.now < length self.old.rest.now) }
     {
         let at = self.place();

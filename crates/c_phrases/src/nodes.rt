@@ -6,6 +6,7 @@ ghost use Rattle.c_syntax.specs.Tree.{no_exprs as no_expr, no_params as no_param
 ghost use Rattle.c_syntax.specs.Limits.{height};
 ghost use Rattle.c_syntax.specs.View.{ident_of, spec_of, expr_at, declarator_at, type_name_of, param_before};
 ghost use Rattle.c_phrases.specs.Looking.{infix_of, step_of};
+ghost use Rattle.c_phrases.specs.Deep.{IsDeep, AreDeep, IsDeepSize, IsDeepType, IsDeepDeclarator, AreDeepParams};
 ghost use Rattle.c_phrases.specs.Making.{tree_of, trees_of, size_of, inner_of, list_of, Boxes, BoxesDeclarator, Makes, MakesDeclarator, IsStep, IsBetween, IsVoidAlone};
 
 use crate::depth::{
@@ -27,6 +28,7 @@ pub fn comma_node(alloc: Global, at: u32, list: MeasuredExprs) -> Result<Measure
     requires { list.depth.height < 4294967295 }
     ensures makes { Makes result (comma at (trees_of list)) }
     ensures height { IfOk result (λ m. m.depth.height ≡ suc (list.depth.height)) }
+    ensures deep { AreDeep list → IfOk result (λ m. IsDeep m) }
 {
     Ok(MeasuredExpr {
         tree: boxed(alloc, at, ExprKind::Comma(list.trees))?,
@@ -42,6 +44,7 @@ pub fn sizeof_type_node(
     requires { target.depth.height < 4294967295 }
     ensures makes { Makes result (sizeof_type at (type_name_of target.name)) }
     ensures height { IfOk result (λ m. m.depth.height ≡ suc (target.depth.height)) }
+    ensures deep { IsDeepType target → IfOk result (λ m. IsDeep m) }
 {
     Ok(MeasuredExpr {
         tree: boxed(alloc, at, ExprKind::SizeofType(target.name))?,
@@ -59,6 +62,7 @@ pub fn cast_node(
     requires a_low { a.depth.height < 4294967295 }
     ensures makes { Makes result (cast at (type_name_of target.name) (tree_of a)) }
     ensures height { IfOk result (λ m. m.depth.height ≡ suc (max target.depth.height a.depth.height)) }
+    ensures deep { IsDeepType target → IsDeep a → IfOk result (λ m. IsDeep m) }
 {
     Ok(MeasuredExpr {
         tree: boxed(alloc, at, ExprKind::Cast(target.name, a.tree))?,
@@ -76,6 +80,7 @@ pub fn call_node(
     requires list_low { list.depth.height < 4294967295 }
     ensures makes { Makes result (call at (tree_of a) (trees_of list)) }
     ensures height { IfOk result (λ m. m.depth.height ≡ suc (max a.depth.height list.depth.height)) }
+    ensures deep { IsDeep a → AreDeep list → IfOk result (λ m. IsDeep m) }
 {
     Ok(MeasuredExpr {
         tree: boxed(alloc, at, ExprKind::Call(a.tree, list.trees))?,
@@ -92,6 +97,7 @@ pub fn member_node(
     requires { a.depth.height < 4294967295 }
     ensures makes { Makes result (member at dot (tree_of a) (ident_of name)) }
     ensures height { IfOk result (λ m. m.depth.height ≡ suc (a.depth.height)) }
+    ensures deep { IsDeep a → IfOk result (λ m. IsDeep m) }
 {
     Ok(MeasuredExpr {
         tree: boxed(alloc, at, ExprKind::Member(a.tree, name))?,
@@ -108,6 +114,7 @@ pub fn arrow_node(
     requires { a.depth.height < 4294967295 }
     ensures makes { Makes result (member at arrow (tree_of a) (ident_of name)) }
     ensures height { IfOk result (λ m. m.depth.height ≡ suc (a.depth.height)) }
+    ensures deep { IsDeep a → IfOk result (λ m. IsDeep m) }
 {
     Ok(MeasuredExpr {
         tree: boxed(alloc, at, ExprKind::Arrow(a.tree, name))?,
@@ -119,6 +126,7 @@ pub fn increased_node(alloc: Global, at: u32, a: MeasuredExpr) -> Result<Measure
     requires { a.depth.height < 4294967295 }
     ensures makes { Makes result (postfix at post_increment (tree_of a)) }
     ensures height { IfOk result (λ m. m.depth.height ≡ suc (a.depth.height)) }
+    ensures deep { IsDeep a → IfOk result (λ m. IsDeep m) }
 {
     Ok(MeasuredExpr {
         tree: boxed(alloc, at, ExprKind::PostInc(a.tree))?,
@@ -130,6 +138,7 @@ pub fn decreased_node(alloc: Global, at: u32, a: MeasuredExpr) -> Result<Measure
     requires { a.depth.height < 4294967295 }
     ensures makes { Makes result (postfix at post_decrement (tree_of a)) }
     ensures height { IfOk result (λ m. m.depth.height ≡ suc (a.depth.height)) }
+    ensures deep { IsDeep a → IfOk result (λ m. IsDeep m) }
 {
     Ok(MeasuredExpr {
         tree: boxed(alloc, at, ExprKind::PostDec(a.tree))?,
@@ -155,6 +164,7 @@ pub fn step_node(
     requires { a.depth.height < 4294967295 }
     ensures makes { Makes result (prefix at (step_of step) (tree_of a)) }
     ensures height { IfOk result (λ m. m.depth.height ≡ suc (a.depth.height)) }
+    ensures deep { IsDeep a → IfOk result (λ m. IsDeep m) }
 {
     Ok(MeasuredExpr {
         tree: boxed(alloc, at, step_kind(step, a.tree))?,
@@ -166,6 +176,7 @@ pub fn sizeof_node(alloc: Global, at: u32, a: MeasuredExpr) -> Result<MeasuredEx
     requires { a.depth.height < 4294967295 }
     ensures makes { Makes result (prefix at sizeof (tree_of a)) }
     ensures height { IfOk result (λ m. m.depth.height ≡ suc (a.depth.height)) }
+    ensures deep { IsDeep a → IfOk result (λ m. IsDeep m) }
 {
     Ok(MeasuredExpr {
         tree: boxed(alloc, at, ExprKind::SizeofExpr(a.tree))?,
@@ -182,6 +193,7 @@ pub fn unary_node(
     requires { a.depth.height < 4294967295 }
     ensures makes { Makes result (unary at operator (tree_of a)) }
     ensures height { IfOk result (λ m. m.depth.height ≡ suc (a.depth.height)) }
+    ensures deep { IsDeep a → IfOk result (λ m. IsDeep m) }
 {
     Ok(MeasuredExpr {
         tree: boxed(alloc, at, ExprKind::Unary(operator, a.tree))?,
@@ -199,6 +211,7 @@ pub fn index_node(
     requires b_low { b.depth.height < 4294967295 }
     ensures makes { Makes result (index at (tree_of a) (tree_of b)) }
     ensures height { IfOk result (λ m. m.depth.height ≡ suc (max a.depth.height b.depth.height)) }
+    ensures deep { IsDeep a → IsDeep b → IfOk result (λ m. IsDeep m) }
 {
     Ok(MeasuredExpr {
         tree: boxed(alloc, at, ExprKind::Index(a.tree, b.tree))?,
@@ -227,6 +240,7 @@ pub fn binary_node(
     requires b_low { b.depth.height < 4294967295 }
     ensures makes { Makes result (binary at (infix_of between) (tree_of a) (tree_of b)) }
     ensures height { IfOk result (λ m. m.depth.height ≡ suc (max a.depth.height b.depth.height)) }
+    ensures deep { IsDeep a → IsDeep b → IfOk result (λ m. IsDeep m) }
 {
     Ok(MeasuredExpr {
         tree: boxed(alloc, at, binary_kind(between, a.tree, b.tree))?,
@@ -245,6 +259,7 @@ pub fn assign_node(
     requires b_low { b.depth.height < 4294967295 }
     ensures makes { Makes result (assign at operator (tree_of a) (tree_of b)) }
     ensures height { IfOk result (λ m. m.depth.height ≡ suc (max a.depth.height b.depth.height)) }
+    ensures deep { IsDeep a → IsDeep b → IfOk result (λ m. IsDeep m) }
 {
     Ok(MeasuredExpr {
         tree: boxed(alloc, at, ExprKind::Assign(operator, a.tree, b.tree))?,
@@ -264,6 +279,7 @@ pub fn conditional_node(
     requires c_low { c.depth.height < 4294967295 }
     ensures makes { Makes result (conditional at (tree_of a) (tree_of b) (tree_of c)) }
     ensures height { IfOk result (λ m. m.depth.height ≡ suc (max a.depth.height (max b.depth.height c.depth.height))) }
+    ensures deep { IsDeep a → IsDeep b → IsDeep c → IfOk result (λ m. IsDeep m) }
 {
     Ok(MeasuredExpr {
         tree: boxed(alloc, at, ExprKind::Cond(a.tree, b.tree, c.tree))?,
@@ -275,6 +291,7 @@ pub fn conditional_node(
 pub fn type_node(spec: Spec, inner: MeasuredDeclarator, at: u32) -> MeasuredType
     ensures makes { type_name_of result.name ≡ type_name at (spec_of spec) (inner_of inner) }
     ensures height { result.depth.height ≡ inner.depth.height }
+    ensures depth { result.depth ≡ inner.depth }
 {
     let depth = inner.depth;
     let inside = inner.tree;
@@ -322,6 +339,7 @@ pub fn no_declarator(at: u32) -> MeasuredDeclarator
 pub fn name_node(alloc: Global, at: u32, name: Ident) -> Result<MeasuredDeclarator, OutOfMemory>
     ensures makes { MakesDeclarator result (named at (ident_of name)) }
     ensures height { IfOk result (λ m. m.depth.height ≡ 1) }
+    ensures deep { IfOk result (λ m. IsDeepDeclarator m) }
 {
     Ok(MeasuredDeclarator {
         tree: Some(boxed_declarator(alloc, at, DeclaratorKind::Name(name))?),
@@ -337,6 +355,7 @@ pub fn pointer_node(
     requires { a.depth.height < 4294967295 }
     ensures makes { MakesDeclarator result (pointer at (inner_of a)) }
     ensures height { IfOk result (λ m. m.depth.height ≡ suc (a.depth.height)) }
+    ensures deep { IsDeepDeclarator a → IfOk result (λ m. IsDeepDeclarator m) }
 {
     Ok(MeasuredDeclarator {
         tree: Some(boxed_declarator(alloc, at, DeclaratorKind::Pointer(a.tree))?),
@@ -354,6 +373,7 @@ pub fn array_node(
     requires size_low { size.depth.height < 4294967295 }
     ensures makes { MakesDeclarator result (array at (inner_of a) (size_of size)) }
     ensures height { IfOk result (λ m. m.depth.height ≡ suc (max a.depth.height size.depth.height)) }
+    ensures deep { IsDeepDeclarator a → IsDeepSize size → IfOk result (λ m. IsDeepDeclarator m) }
 {
     Ok(MeasuredDeclarator {
         tree: Some(boxed_declarator(
@@ -378,6 +398,7 @@ pub fn function_node(
     requires list_low { list.depth.height < 4294967295 }
     ensures makes { MakesDeclarator result (function at (inner_of a) (list_of list)) }
     ensures height { IfOk result (λ m. m.depth.height ≡ suc (max a.depth.height list.depth.height)) }
+    ensures deep { IsDeepDeclarator a → AreDeepParams list → IfOk result (λ m. IsDeepDeclarator m) }
 {
     Ok(MeasuredDeclarator {
         tree: Some(boxed_declarator(
@@ -397,6 +418,7 @@ pub fn leaf_node(alloc: Global, at: u32, kind: ExprKind) -> Result<MeasuredExpr,
     requires { height (expr_at at kind) ≡ 1 }
     ensures makes { Makes result (expr_at at kind) }
     ensures height { IfOk result (λ m. m.depth.height ≡ 1) }
+    ensures deep { IfOk result (λ m. IsDeep m) }
 {
     Ok(MeasuredExpr {
         tree: boxed(alloc, at, kind)?,
@@ -430,6 +452,7 @@ pub fn no_size(at: u32) -> MeasuredSize
 pub fn some_size(size: MeasuredExpr) -> MeasuredSize
     ensures makes { size_of result ≡ there (tree_of size) }
     ensures height { result.depth.height ≡ size.depth.height }
+    ensures deep { IsDeep size → IsDeepSize result }
 {
     MeasuredSize {
         tree: Some(size.tree),
@@ -453,6 +476,7 @@ pub fn param_node(spec: Spec, inner: MeasuredDeclarator, at: u32) -> MeasuredPar
     ensures makes { (rest : Params) → param_before result.param rest ≡ more_params at (spec_of spec) (inner_of inner) rest }
     ensures height { result.depth.height ≡ inner.depth.height }
     ensures alone { IsVoidAlone result.is_void (spec_of spec) (inner_of inner) }
+    ensures depth { result.depth ≡ inner.depth }
 {
     let depth = inner.depth;
     let inside = inner.tree;

@@ -3,6 +3,7 @@
 ghost use Rattle.std.specs.Prelude.{◌≡◌, ◌<◌, ◌≤◌, OnOk, IfOk, length};
 ghost use Rattle.c_syntax.proofs.Precedence.{rank};
 ghost use Rattle.c_phrases.specs.Reading.{ParsesLeaf, RefusesLeaf};
+ghost use Rattle.c_phrases.specs.Deep.{IsDeep};
 ghost use Rattle.c_phrases.specs.Standing.{TookString, TookStrings};
 
 use crate::cursor::Cursor;
@@ -21,6 +22,7 @@ impl<'a> Cursor<'a> {
         ensures shorter { OnOk result (length self.new.rest.now < length self.old.rest.now) }
         ensures fits { IfOk result (λ m. m.depth.height ≡ 1) }
         ensures ends { OnOk result (rank self.old.rest.now ≡ 0 → 1 ≤ rank self.new.rest.now) }
+        ensures deep { IfOk result (λ m. IsDeep m) }
         ensures refuses { RefusesLeaf result self.old.rest.now }
     {
         let rest = self.rest;

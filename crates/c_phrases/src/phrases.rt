@@ -4,11 +4,13 @@ ghost use Rattle.std.specs.Prelude.{◌≡◌, ◌≢◌, ◌<◌, ◌≤◌, �
 ghost use Rattle.c_lexer.specs.declared.token.Token.{Token};
 ghost use Rattle.c_lexer.specs.declared.keyword.TheConstants.{SIZEOF as SIZEOF_WORD};
 ghost use Rattle.c_syntax.specs.Tokens.{IsKeyword, place};
-ghost use Rattle.c_syntax.specs.Grammar.{primary_level, postfix_level, unary_level, cast_level, binary_level, conditional_level, assignment_level, expression_level, Reads, ReadsCore};
+ghost use Rattle.c_syntax.specs.Grammar.{primary_level, postfix_level, unary_level, cast_level, binary_level, conditional_level, assignment_level, expression_level, HasName, Reads, ReadsCore};
 ghost use Rattle.c_syntax.proofs.Precedence.{Stops as Ends};
 ghost use Rattle.c_syntax.proofs.Ends.{start as starts};
 ghost use Rattle.c_refusals.specs.Phrases.{AnExpr, ADeclarator};
-ghost use Rattle.c_phrases.specs.Refusing.{bound_of, Stops};
+ghost use Rattle.c_refusals.specs.Opens.{DeepExpr, DeepDeclarator};
+ghost use Rattle.c_phrases.specs.Refusing.{bound_of, Stops, Nests};
+ghost use Rattle.c_phrases.specs.Deep.{IsDeep, AreDeep, IsDeepSize, IsDeepType, IsDeepDeclarator, IsDeepParam, AreDeepParams};
 ghost use Rattle.c_phrases.specs.Looking.{IsSuffix, StandsPrefix};
 ghost use Rattle.c_phrases.specs.Making.{tree_of, inner_of};
 ghost use Rattle.c_phrases.specs.Phrases.{Parses, ParsesDeclarator};
@@ -45,6 +47,7 @@ impl<'a> Cursor<'a> {
     pub fn expression(&mut self, alloc: Global, room: Room) -> Result<Expr, PhraseError>
         ensures parses { Parses room expression_level result self.old.rest.now self.new.rest.now }
         ensures stops { Stops (λ b. AnExpr b expression_level) (bound_of room) result self.old.rest.now self.new.rest.now }
+        ensures nests { Nests (λ b. AnExpr b expression_level) (λ at p n. DeepExpr at p n expression_level) room result self.old.rest.now }
         ensures shorter { OnOk result (length self.new.rest.now < length self.old.rest.now) }
     {
         let whole = self.comma_expression(alloc, room)?;
@@ -55,6 +58,7 @@ impl<'a> Cursor<'a> {
     pub fn conditional(&mut self, alloc: Global, room: Room) -> Result<Expr, PhraseError>
         ensures parses { Parses room conditional_level result self.old.rest.now self.new.rest.now }
         ensures stops { Stops (λ b. AnExpr b conditional_level) (bound_of room) result self.old.rest.now self.new.rest.now }
+        ensures nests { Nests (λ b. AnExpr b conditional_level) (λ at p n. DeepExpr at p n conditional_level) room result self.old.rest.now }
         ensures shorter { OnOk result (length self.new.rest.now < length self.old.rest.now) }
     {
         let whole = self.conditional_expression(alloc, room)?;
@@ -65,6 +69,7 @@ impl<'a> Cursor<'a> {
     pub fn assignment_value(&mut self, alloc: Global, room: Room) -> Result<Expr, PhraseError>
         ensures parses { Parses room assignment_level result self.old.rest.now self.new.rest.now }
         ensures stops { Stops (λ b. AnExpr b assignment_level) (bound_of room) result self.old.rest.now self.new.rest.now }
+        ensures nests { Nests (λ b. AnExpr b assignment_level) (λ at p n. DeepExpr at p n assignment_level) room result self.old.rest.now }
         ensures shorter { OnOk result (length self.new.rest.now < length self.old.rest.now) }
     {
         let whole = self.assignment_expression(alloc, room)?;
@@ -75,6 +80,7 @@ impl<'a> Cursor<'a> {
     pub fn declarator(&mut self, alloc: Global, room: Room) -> Result<Declarator, PhraseError>
         ensures parses { ParsesDeclarator room result self.old.rest.now self.new.rest.now }
         ensures stops { Stops ADeclarator (bound_of room) result self.old.rest.now self.new.rest.now }
+        ensures nests { Nests ADeclarator (DeepDeclarator HasName) room result self.old.rest.now }
         ensures shorter { OnOk result (length self.new.rest.now < length self.old.rest.now) }
     {
         let whole = self.declared(alloc, room, Form::Named)?;
@@ -91,6 +97,7 @@ impl<'a> Cursor<'a> {
         ensures parses { ParsesTree room expression_level result self.old.rest.now self.new.rest.now }
         ensures shorter { OnOk result (length self.new.rest.now < length self.old.rest.now) }
         ensures fits { IfOk result (λ m. m.depth.height ≤ room.nodes) }
+        ensures deep { IfOk result (λ m. IsDeep m) }
     {
         let at = self.place();
         let first = self.assignment_expression(alloc, room)?;
@@ -118,6 +125,7 @@ impl<'a> Cursor<'a> {
         ensures refuses { RefusesRest room result self.old.rest.now self.new.rest.now }
         ensures shorter { OnOk result (length self.new.rest.now ≤ length self.old.rest.now) }
         ensures fits { IfOk result (λ m. m.depth.height ≤ room.nodes) }
+        ensures deep { IsDeep first → IfOk result (λ m. AreDeep m) }
     {
         let mut depth = first.depth;
         let mut trees = Vec::new(alloc);
@@ -140,6 +148,7 @@ impl<'a> Cursor<'a> {
         ensures parses { ParsesTree room assignment_level result self.old.rest.now self.new.rest.now }
         ensures shorter { OnOk result (length self.new.rest.now < length self.old.rest.now) }
         ensures fits { IfOk result (λ m. m.depth.height ≤ room.nodes) }
+        ensures deep { IfOk result (λ m. IsDeep m) }
     {
         let at = self.place();
         let is_cast = self.is_at_cast();
@@ -173,6 +182,7 @@ impl<'a> Cursor<'a> {
         ensures parses { ParsesTree room conditional_level result self.old.rest.now self.new.rest.now }
         ensures shorter { OnOk result (length self.new.rest.now < length self.old.rest.now) }
         ensures fits { IfOk result (λ m. m.depth.height ≤ room.nodes) }
+        ensures deep { IfOk result (λ m. IsDeep m) }
     {
         let at = self.place();
         let operand = self.cast_expression(alloc, room)?;
@@ -190,9 +200,10 @@ impl<'a> Cursor<'a> {
         operand: MeasuredExpr,
     ) -> Result<MeasuredExpr, PhraseError>
         requires { operand.depth.height ≤ room.nodes }
-        ensures parses { (start : List Token) → at ≡ place start → Reads room.pairs cast_level (tree_of operand) start self.old.rest.now → Ends cast_level self.old.rest.now → ParsesTree room conditional_level result start self.new.rest.now }
+        ensures parses { (start : List Token) → at ≡ place start → Reads room.pairs cast_level (tree_of operand) start self.old.rest.now → Ends cast_level self.old.rest.now → IsDeep operand → ParsesTree room conditional_level result start self.new.rest.now }
         ensures shorter { OnOk result (length self.new.rest.now ≤ length self.old.rest.now) }
         ensures fits { IfOk result (λ m. m.depth.height ≤ room.nodes) }
+        ensures deep { IsDeep operand → IfOk result (λ m. IsDeep m) }
     {
         let test = self.binary_from(alloc, room, LEVELS, at, operand)?;
         if !self.is_at(QUESTION) {
@@ -223,9 +234,10 @@ impl<'a> Cursor<'a> {
     ) -> Result<MeasuredExpr, PhraseError>
         requires level { most ≤ 10 }
         requires operand_low { operand.depth.height ≤ room.nodes }
-        ensures parses { (start : List Token) → at ≡ place start → Reads room.pairs cast_level (tree_of operand) start self.old.rest.now → Ends cast_level self.old.rest.now → ParsesTree room (binary_level most) result start self.new.rest.now }
+        ensures parses { (start : List Token) → at ≡ place start → Reads room.pairs cast_level (tree_of operand) start self.old.rest.now → Ends cast_level self.old.rest.now → IsDeep operand → ParsesTree room (binary_level most) result start self.new.rest.now }
         ensures shorter { OnOk result (length self.new.rest.now ≤ length self.old.rest.now) }
         ensures fits { IfOk result (λ m. m.depth.height ≤ room.nodes) }
+        ensures deep { IsDeep operand → IfOk result (λ m. IsDeep m) }
     {
         let mut left = operand;
         while let Some(operator) = self.operator(most) {
@@ -253,6 +265,7 @@ impl<'a> Cursor<'a> {
         ensures parses { ParsesTree room cast_level result self.old.rest.now self.new.rest.now }
         ensures shorter { OnOk result (length self.new.rest.now < length self.old.rest.now) }
         ensures fits { IfOk result (λ m. m.depth.height ≤ room.nodes) }
+        ensures deep { IfOk result (λ m. IsDeep m) }
     {
         if !self.is_at_cast() {
             let whole = self.unary_expression(alloc, room)?;
@@ -278,6 +291,7 @@ impl<'a> Cursor<'a> {
         ensures parses { ParsesTree room unary_level result self.old.rest.now self.new.rest.now }
         ensures shorter { OnOk result (length self.new.rest.now < length self.old.rest.now) }
         ensures fits { IfOk result (λ m. m.depth.height ≤ room.nodes) }
+        ensures deep { IfOk result (λ m. IsDeep m) }
     {
         let at = self.place();
         let Some(prefix) = self.prefix() else {
@@ -305,6 +319,7 @@ impl<'a> Cursor<'a> {
         ensures parses { (start : List Token) → at ≡ place start → StandsPrefix (Some prefix) start → self.old.rest.now ≡ drop 1 start → ParsesTree room unary_level result start self.new.rest.now }
         ensures shorter { OnOk result (length self.new.rest.now < length self.old.rest.now) }
         ensures fits { IfOk result (λ m. m.depth.height ≤ room.nodes) }
+        ensures deep { IfOk result (λ m. IsDeep m) }
     {
         match prefix {
             Prefix::Sizeof => {
@@ -336,6 +351,7 @@ impl<'a> Cursor<'a> {
         ensures parses { (t : Token) → IsKeyword SIZEOF_WORD t → at ≡ t.from → ParsesTree room unary_level result (t ∷ self.old.rest.now) self.new.rest.now }
         ensures shorter { OnOk result (length self.new.rest.now < length self.old.rest.now) }
         ensures fits { IfOk result (λ m. m.depth.height ≤ room.nodes) }
+        ensures deep { IfOk result (λ m. IsDeep m) }
     {
         if !self.is_at_cast() {
             let inside = self.unary_expression(alloc, room.in_node())?;
@@ -360,6 +376,7 @@ impl<'a> Cursor<'a> {
         ensures parses { ParsesTree room postfix_level result self.old.rest.now self.new.rest.now }
         ensures shorter { OnOk result (length self.new.rest.now < length self.old.rest.now) }
         ensures fits { IfOk result (λ m. m.depth.height ≤ room.nodes) }
+        ensures deep { IfOk result (λ m. IsDeep m) }
     {
         let at = self.place();
         let mut left = self.primary_expression(alloc, room)?;
@@ -390,6 +407,7 @@ impl<'a> Cursor<'a> {
         ensures parses { (t : Token) → IsSuffix suffix t → AddsSuffix room at (tree_of left) t result self.old.rest.now self.new.rest.now }
         ensures shorter { OnOk result (length self.new.rest.now ≤ length self.old.rest.now) }
         ensures fits { IfOk result (λ m. m.depth.height ≤ room.nodes) }
+        ensures deep { IsDeep left → IfOk result (λ m. IsDeep m) }
     {
         match suffix {
             Suffix::Index => {
@@ -432,6 +450,7 @@ impl<'a> Cursor<'a> {
         ensures parses { TakesArguments room result self.old.rest.now self.new.rest.now }
         ensures shorter { OnOk result (length self.new.rest.now < length self.old.rest.now) }
         ensures fits { IfOk result (λ m. m.depth.height ≤ room.nodes) }
+        ensures deep { IfOk result (λ m. AreDeep m) }
     {
         let at = self.place();
         if self.take(RIGHT_PARENTHESIS) {
@@ -451,6 +470,7 @@ impl<'a> Cursor<'a> {
         ensures parses { ParsesTree room primary_level result self.old.rest.now self.new.rest.now }
         ensures shorter { OnOk result (length self.new.rest.now < length self.old.rest.now) }
         ensures fits { IfOk result (λ m. m.depth.height ≤ room.nodes) }
+        ensures deep { IfOk result (λ m. IsDeep m) }
     {
         let at = self.place();
         if self.is_at_leaf() {
@@ -486,6 +506,7 @@ impl<'a> Cursor<'a> {
         ensures parses { ParsesType room result self.old.rest.now self.new.rest.now }
         ensures shorter { OnOk result (length self.new.rest.now < length self.old.rest.now) }
         ensures fits { IfOk result (λ m. m.depth.height ≤ room.nodes) }
+        ensures deep { IfOk result (λ m. IsDeepType m) }
     {
         let at = self.place();
         let spec = self.specifiers(alloc)?;
@@ -504,6 +525,7 @@ impl<'a> Cursor<'a> {
         ensures parses { ParsesDeclared room form result self.old.rest.now self.new.rest.now }
         ensures shorter { OnOk result (length self.new.rest.now ≤ length self.old.rest.now) }
         ensures fits { IfOk result (λ m. m.depth.height ≤ room.nodes) }
+        ensures deep { IfOk result (λ m. IsDeepDeclarator m) }
     {
         let at = self.place();
         if !self.is_at(ASTERISK) {
@@ -532,6 +554,7 @@ impl<'a> Cursor<'a> {
         ensures parses { starts self.old.rest.now ≢ 2 → ParsesCore room form result self.old.rest.now self.new.rest.now }
         ensures shorter { OnOk result (length self.new.rest.now ≤ length self.old.rest.now) }
         ensures fits { IfOk result (λ m. m.depth.height ≤ room.nodes) }
+        ensures deep { IfOk result (λ m. IsDeepDeclarator m) }
     {
         let at = self.place();
         if self.is_at_name() {
@@ -578,14 +601,16 @@ impl<'a> Cursor<'a> {
         core: MeasuredDeclarator,
     ) -> Result<MeasuredDeclarator, PhraseError>
         requires { core.depth.height ≤ room.nodes }
-        ensures parses { (form : Form) (start : List Token) → at ≡ place start → ReadsCore room.pairs (inner_of core) start self.old.rest.now → Suits form (inner_of core) → IsCored (inner_of core) start self.old.rest.now → ParsesDeclared room form result start self.new.rest.now }
+        ensures parses { (form : Form) (start : List Token) → at ≡ place start → ReadsCore room.pairs (inner_of core) start self.old.rest.now → Suits form (inner_of core) → IsCored (inner_of core) start self.old.rest.now → IsDeepDeclarator core → ParsesDeclared room form result start self.new.rest.now }
         ensures shorter { OnOk result (length self.new.rest.now ≤ length self.old.rest.now) }
         ensures fits { IfOk result (λ m. m.depth.height ≤ room.nodes) }
+        ensures deep { IsDeepDeclarator core → IfOk result (λ m. IsDeepDeclarator m) }
     {
         let mut left = core;
         while !self.ends_declarator() {
             if room.nodes <= left.depth.height {
-                return Err(self.too_deep_or_wrong(left.depth.deepest));
+                let deepest = left.depth.place_or(at);
+                return Err(self.too_deep_or_wrong(deepest));
             }
             left = self.part(alloc, room, at, left)?;
         }
@@ -605,6 +630,7 @@ impl<'a> Cursor<'a> {
         ensures parses { AddsPart room at (inner_of left) result self.old.rest.now self.new.rest.now }
         ensures shorter { OnOk result (length self.new.rest.now < length self.old.rest.now) }
         ensures fits { IfOk result (λ m. m.depth.height ≤ room.nodes) }
+        ensures deep { IsDeepDeclarator left → IfOk result (λ m. IsDeepDeclarator m) }
     {
         if self.take(LEFT_BRACKET) {
             let size = self.size(alloc, room.in_node())?;
@@ -631,6 +657,7 @@ impl<'a> Cursor<'a> {
         ensures parses { ParsesSize room result self.old.rest.now self.new.rest.now }
         ensures shorter { OnOk result (length self.new.rest.now ≤ length self.old.rest.now) }
         ensures fits { IfOk result (λ m. m.depth.height ≤ room.nodes) }
+        ensures deep { IfOk result (λ m. IsDeepSize m) }
     {
         let at = self.place();
         if self.is_at(RIGHT_BRACKET) {
@@ -646,6 +673,7 @@ impl<'a> Cursor<'a> {
         ensures parses { ParsesParams room result self.old.rest.now self.new.rest.now }
         ensures shorter { OnOk result (length self.new.rest.now < length self.old.rest.now) }
         ensures fits { IfOk result (λ m. m.depth.height ≤ room.nodes) }
+        ensures deep { IfOk result (λ m. AreDeepParams m) }
     {
         let first = self.parameter(alloc, room)?;
         if self.stands_alone(first.is_void) {
@@ -668,6 +696,7 @@ impl<'a> Cursor<'a> {
         ensures parses { ParsesParam room result self.old.rest.now self.new.rest.now }
         ensures shorter { OnOk result (length self.new.rest.now < length self.old.rest.now) }
         ensures fits { IfOk result (λ m. m.depth.height ≤ room.nodes) }
+        ensures deep { IfOk result (λ m. IsDeepParam m) }
     {
         let at = self.place();
         let spec = self.specifiers(alloc)?;

@@ -1,4 +1,5 @@
-use Rattle.std.proofs.Common.{◌≤◌, ◌<◌, ◌+◌, ◌*◌, List, length}
+use Rattle.std.proofs.Common.{◌≤◌, ◌<◌, ◌+◌, ◌*◌, ℕ, List, length}
+use Rattle.c_phrases.specs.Reading.{OpensInits, OpensInitMore}
 use Rattle.c_lexer.specs.declared.token.Token.{Token}
 use Rattle.c_syntax.specs.Limits.{height_of_inits}
 use Rattle.c_syntax.specs.Statements.{ReadsInits}
@@ -18,6 +19,7 @@ abbrev pub invariant-initialisers-loop-list : goal.invariant-initialisers-loop-l
 invariant-initialisers-loop-list l = record {
   reads : ReadsInits l.room.pairs (inits_of l.list.items) l.fn.self.rest.now l.self.rest.now;
   leads : (b : Bound) (r : List Token) → Fails (ListEnd b) l.self.rest.now r → Fails (InList b) l.fn.self.rest.now r;
+  opens : (at : ℕ) (r : List Token) → OpensInitMore at l.room.pairs l.room.nodes l.self.rest.now r → OpensInits at l.room.pairs l.room.nodes l.fn.self.rest.now r;
   fits : height_of_inits (inits_of l.list.items) ≤ l.room.nodes;
   shorter : length l.self.rest.now < length l.fn.self.rest.now;
 }

@@ -7,13 +7,15 @@ use Rattle.c_syntax.specs.Limits.{height_of_exprs, height_of_params}
 use Rattle.c_syntax.specs.Grammar.{primary_level, cast_level, binary_level, assignment_level, AreSome, Reads, ReadsList, Suffixes, Lengthens, ReadsEach}
 use Rattle.c_syntax.specs.Writes.{exprs_of, params_of}
 use Rattle.c_syntax.proofs.Precedence.{rank, Stops}
+use Rattle.c_refusals.specs.Nodes.{InExprs, InParams}
 use Rattle.c_refusals.specs.Fails.{Fails}
 use Rattle.c_refusals.specs.Phrases.{Bound}
 use Rattle.c_refusals.specs.Operands.{ExprsRest}
 use Rattle.c_refusals.specs.Declarators.{EachClosed, ParamsClosed}
 use Rattle.c_phrases.specs.declared.form.Form.{Form}
 use Rattle.c_phrases.specs.Standing.{IsAt}
-use Rattle.c_phrases.specs.Reading.{Suits}
+use Rattle.c_phrases.specs.Deep.{IsDeep, IsDeepDeclarator}
+use Rattle.c_phrases.specs.Reading.{Suits, OpensMore, OpensEach, OpensEachMore}
 use Rattle.c_phrases.specs.Making.{tree_of, inner_of}
 use Rattle.c_phrases.proofs.cursor.Cursor.+phrases.Given as goal
 
@@ -88,7 +90,9 @@ invariant-expressions_from-loop-alloc l = record {
   reads : (start : List Token) → Reads l.room.pairs assignment_level (tree_of l.fn.first) start l.fn.self.rest.now → Stops assignment_level l.fn.self.rest.now → ReadsList l.room.pairs (exprs_of l.trees.items) start l.self.rest.now;
   stops : Stops assignment_level l.fn.self.rest.now → Stops assignment_level l.self.rest.now;
   exact : l.depth.height ≡ height_of_exprs (exprs_of l.trees.items);
+  deep : IsDeep l.fn.first → (l.depth.height ≡ 0) ⊎ InExprs l.depth.deepest l.depth.height (exprs_of l.trees.items);
   fits : l.depth.height ≤ l.room.nodes;
+  opens : (at : ℕ) (r : List Token) → OpensMore at l.room.pairs l.room.nodes l.self.rest.now r → OpensMore at l.room.pairs l.room.nodes l.fn.self.rest.now r;
   leads : (b : Bound) (r : List Token) → Fails (ExprsRest b) l.self.rest.now r → Fails (ExprsRest b) l.fn.self.rest.now r;
   shorter : length l.self.rest.now ≤ length l.fn.self.rest.now;
 }
@@ -99,6 +103,7 @@ decreases-expressions_from-loop-alloc l = length l.self.rest.now
 abbrev pub invariant-binary_from-loop-operator : goal.invariant-binary_from-loop-operator
 invariant-binary_from-loop-operator l = record {
   reads : (start : List Token) → l.at ≡ place start → Reads l.room.pairs cast_level (tree_of l.fn.operand) start l.fn.self.rest.now → Stops cast_level l.fn.self.rest.now → (n : ℕ) × (n ≤ l.most) × Reads l.room.pairs (binary_level n) (tree_of l.left) start l.self.rest.now × (n + 1 ≤ rank l.self.rest.now) × (2 ≤ rank l.self.rest.now);
+  deep : IsDeep l.fn.operand → IsDeep l.left;
   fits : l.left.depth.height ≤ l.room.nodes;
   shorter : length l.self.rest.now ≤ length l.fn.self.rest.now;
 }
@@ -110,6 +115,7 @@ abbrev pub invariant-postfix_expression-loop-suffix : goal.invariant-postfix_exp
 invariant-postfix_expression-loop-suffix l = record {
   at : l.at ≡ place l.fn.self.rest.now;
   reads : (a : Expr) × (j : List Token) × Reads l.room.pairs primary_level a l.fn.self.rest.now j × Stops primary_level j × ((e : Expr) (k : List Token) → Suffixes l.room.pairs l.at (tree_of l.left) e l.self.rest.now k → Suffixes l.room.pairs l.at a e j k);
+  deep : IsDeep l.left;
   fits : l.left.depth.height ≤ l.room.nodes;
   shorter : length l.self.rest.now < length l.fn.self.rest.now;
 }
@@ -120,6 +126,7 @@ decreases-postfix_expression-loop-suffix l = length l.self.rest.now
 abbrev pub invariant-lengthened-loop-alloc : goal.invariant-lengthened-loop-alloc
 invariant-lengthened-loop-alloc l = record {
   reads : (e : Declarator) (k : List Token) → Lengthens l.room.pairs l.at (inner_of l.left) e l.self.rest.now k → Lengthens l.room.pairs l.at (inner_of l.fn.core) e l.fn.self.rest.now k;
+  deep : IsDeepDeclarator l.fn.core → IsDeepDeclarator l.left;
   suits : (form : Form) → Suits form (inner_of l.fn.core) → Suits form (inner_of l.left);
   fits : l.left.depth.height ≤ l.room.nodes;
   shorter : length l.self.rest.now ≤ length l.fn.self.rest.now;
@@ -133,6 +140,8 @@ invariant-parameters-loop-alloc l = record {
   reads : ReadsEach l.room.pairs (params_of l.params.items) l.fn.self.rest.now l.self.rest.now;
   some : AreSome (params_of l.params.items) ⊎ IsAt COMMA l.self.rest.now;
   exact : l.depth.height ≡ height_of_params (params_of l.params.items);
+  deep : (l.depth.height ≡ 0) ⊎ InParams l.depth.deepest l.depth.height (params_of l.params.items);
+  opens : (at : ℕ) (r : List Token) → OpensEachMore at l.room.pairs l.room.nodes l.self.rest.now r → OpensEach at l.room.pairs l.room.nodes l.fn.self.rest.now r;
   leads : (b : Bound) (r : List Token) → Fails (EachClosed b) l.self.rest.now r → Fails (ParamsClosed b) l.fn.self.rest.now r;
   fits : l.depth.height ≤ l.room.nodes;
   shorter : length l.self.rest.now < length l.fn.self.rest.now;
