@@ -1,5 +1,5 @@
 -- A deepest node of what is made.
-use Rattle.std.proofs.Common.{◌≡◌, ◌≤◌, ◌<◌, ◌⊎◌, inl, inr, ℕ, suc, List, [], ◌∷◌, ◌++◌, refl, sym, ap, ◌∙◌, subst, arith}
+use Rattle.std.proofs.Common.{◌≡◌, ◌⊎◌, inl, inr, ℕ, suc, List, [], ◌∷◌, ◌++◌, sym, ap, ◌∙◌, subst, arith}
 use Rattle.c_syntax.specs.declared.tree.Expr.{Expr as ExprTree}
 use Rattle.c_syntax.specs.declared.tree.Param.{Param as ParamTree, Param'}
 use Rattle.c_syntax.specs.Tree.{Spec, Expr, Exprs, Maybe, TypeName, type_name, Declarator, Params, no_params, more_params}

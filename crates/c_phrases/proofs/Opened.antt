@@ -1,18 +1,17 @@
 -- Where expressions go on past the limits: what opens at a part opens at the whole.
-use Rattle.std.proofs.Common.{◌≡◌, ◌≤◌, ◌<◌, ◌+◌, ◌-◌, ◌⊎◌, inl, inr, ℕ, suc, ℤ, Bool, List, [], ◌∷◌, ◌++◌, drop, length, refl, sym, ap, ◌∙◌, subst, arith}
+use Rattle.std.proofs.Common.{◌≡◌, ◌≤◌, ◌<◌, ◌-◌, ◌⊎◌, inl, inr, ℕ, suc, ℤ, List, [], ◌∷◌, drop, length, refl, sym, ap, ◌∙◌, subst, arith}
 use Rattle.std.specs.Prelude.{Some}
 use Rattle.c_lexer.specs.declared.token.Token.{Token}
 use Rattle.c_lexer.specs.declared.token.TokenKind.{TokenKind}
 use Rattle.c_lexer.specs.declared.token.TokenKind.TheVariants.{Name, Keyword, Int, Char, Str, Punct}
 use Rattle.c_lexer.specs.declared.keyword.TheConstants.{SIZEOF}
-use Rattle.c_lexer.specs.declared.punctuator.TheConstants.{LEFT_BRACKET, LEFT_PARENTHESIS, RIGHT_PARENTHESIS, QUESTION, COLON, COMMA}
-use Rattle.c_syntax.specs.Tree.{Infix, Expr, TypeName, conditional, dot, arrow, post_increment, post_decrement}
-use Rattle.c_syntax.specs.Tokens.{Is, IsKeyword, IsChar, IsUnary, IsAssignment, code_of_infix, place}
-use Rattle.c_syntax.specs.Grammar.{Level, primary_level, postfix_level, unary_level, cast_level, binary_level, conditional_level, assignment_level, expression_level, Reads, with_suffixes, a_choice, ReadsType, Suffixes, no_suffix}
+use Rattle.c_lexer.specs.declared.punctuator.TheConstants.{LEFT_PARENTHESIS, RIGHT_PARENTHESIS, QUESTION, COLON, COMMA}
+use Rattle.c_syntax.specs.Tree.{Expr, TypeName, conditional, dot, arrow, post_increment, post_decrement}
+use Rattle.c_syntax.specs.Tokens.{Is, IsKeyword, IsChar, place}
+use Rattle.c_syntax.specs.Grammar.{Level, primary_level, postfix_level, unary_level, cast_level, binary_level, conditional_level, assignment_level, expression_level, Reads, with_suffixes, a_choice, ReadsType, no_suffix}
 use Rattle.c_syntax.specs.Grammar.Reads.{is_char as char_stands}
-use Rattle.c_syntax.proofs.Precedence.{rank, Stops}
 use Rattle.c_syntax.proofs.Ends.{start, start_of_kind, EndsDeclarator}
-use Rattle.c_syntax.proofs.Twins.{Twin, here, along, glue, after, On}
+use Rattle.c_syntax.proofs.Twins.{On}
 use Rattle.c_syntax.proofs.FrameGrammar.{reads_on}
 use Rattle.c_syntax.proofs.MorePairs.{wide}
 use Rattle.c_refusals.specs.Fails.{Then, then, One, one}
@@ -21,7 +20,7 @@ use Rattle.c_refusals.specs.Opens.{Opens, DeepExpr, DeepExprs, DeepType, DeepSuf
 use Rattle.c_refusals.proofs.Fixed.{expr_on}
 use Rattle.c_refusals.proofs.Opening.{opens_as, opens_under, opens_later, opens_here}
 use Rattle.c_refusals.proofs.Begun.{expression_begins}
-use Rattle.c_refusals.proofs.ExprOpens.{either, first_operand_opens, name_too_deep, int_too_deep, string_too_deep, parentheses_open, pair_too_deep, step_opens, operator_opens, step_too_deep, operator_too_deep, cast_too_deep, sizeof_too_deep, sizeof_operand_opens, cast_type_opens, sizeof_type_opens, cast_operand_opens, suffixes_open, index_opens, arguments_open, index_too_high, call_too_high, member_too_high, postfix_too_high, operator_opens_right, operator_opens_left, yes_opens, test_too_high, assigned_value_opens, assigned_too_deep, first_of_list_opens, later_of_list_opens, comma_opens, comma_too_deep}
+use Rattle.c_refusals.proofs.ExprOpens.{either, name_too_deep, int_too_deep, string_too_deep, parentheses_open, pair_too_deep, step_opens, operator_opens, step_too_deep, operator_too_deep, cast_too_deep, sizeof_too_deep, cast_type_opens, sizeof_type_opens, cast_operand_opens, suffixes_open, index_too_high, call_too_high, member_too_high, postfix_too_high, operator_opens_right, operator_opens_left, yes_opens, test_too_high, assigned_value_opens, assigned_too_deep, first_of_list_opens, later_of_list_opens, comma_opens, comma_too_deep}
 use Rattle.c_phrases.specs.declared.looking.Operator.{Operator}
 use Rattle.c_phrases.specs.declared.looking.Suffix.{Suffix}
 use Rattle.c_phrases.specs.declared.looking.Suffix.TheVariants as sv

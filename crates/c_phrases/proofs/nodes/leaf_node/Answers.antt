@@ -1,4 +1,4 @@
-use Rattle.std.proofs.Common.{sym, ◌∙◌}
+use Rattle.std.proofs.Common.{sym}
 use Rattle.c_phrases.proofs.Deepest.{leaf_deep}
 use Rattle.c_phrases.proofs.Inits.{place_is}
 use Rattle.c_phrases.proofs.nodes.leaf_node.Goals as goal
