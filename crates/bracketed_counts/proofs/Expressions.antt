@@ -1,14 +1,13 @@
 -- Strings and calls in an expression with null calls round its marked calls.
-use Rattle.std.proofs.Common.{◌≡◌, ℕ, zero, suc, ◌+◌, ◌*◌, ◌≤◌, Bool, true, false, if◌then◌else◌, List, [], ◌∷◌, ◌++◌, append_assoc, Option, None, Some, refl, ap, ap₂, sym, subst, ◌∙◌, arith}
+use Rattle.std.proofs.Common.{◌≡◌, ℕ, suc, ◌+◌, ◌*◌, ◌≤◌, Bool, true, false, if◌then◌else◌, List, [], ◌∷◌, ◌++◌, append_assoc, Option, None, Some, refl, ap, ap₂, sym, ◌∙◌, arith}
 use Rattle.c_tree.specs.Tree.{CType}
 use Rattle.c_syntax.specs.Tree.{Expr, a_name, an_int, a_char, a_str, comma, sizeof_type, cast, call, member, postfix, prefix, unary, index, binary, assign, conditional, Exprs, no_exprs, more_exprs}
-use Rattle.c_syntax.specs.Tree.{TypeName, Prefix, pre_increment, pre_decrement, sizeof}
-use Rattle.c_rules.specs.Scopes.{Before}
-use Rattle.c_rules.specs.Counts.{calls, calls_of_all, strings, strings_of_all, string_cells, past, after}
+use Rattle.c_syntax.specs.Tree.{pre_increment, pre_decrement, sizeof}
+use Rattle.c_rules.specs.Counts.{calls, calls_of_all, strings, strings_of_all, string_cells}
 use Rattle.null_calls.specs.MarkedCalls.{Called, Sites}
-use Rattle.null_calls.specs.Temporaries.{post_name, pre_name, is_kept}
-use Rattle.null_calls.specs.BracketedExpressions.{is_void_type, keep_designator, keep_arguments, kept_arguments, kept_designator, null_call, call_and_post, marked_call, call_where, expr, arguments, members}
-use Rattle.bracketed_counts.specs.Counts.{IsName, IsDesignator, AreNamed, AllNamed, Near, CountsStay, ExpressionsCountAlike, PlacesStayNear}
+use Rattle.null_calls.specs.Temporaries.{pre_name, is_kept}
+use Rattle.null_calls.specs.BracketedExpressions.{is_void_type, keep_designator, keep_arguments, kept_arguments, kept_designator, null_call, call_and_post, call_where, is_address_of_indirection, expr, arguments, members}
+use Rattle.bracketed_counts.specs.Counts.{IsName, IsDesignator, AreNamed, AllNamed, ExpressionsCountAlike, PlacesStayNear}
 
 nothing_more : {A : Type 0} (xs : List A) → xs ++ [] ≡ xs
 nothing_more [] = refl
@@ -144,6 +143,45 @@ by_type : (P : Expr → Type 0) (t : Bool) (x y : Expr) → P x → P y → P (i
 by_type P true x y h k = h
 by_type P false x y h k = k
 
+-- what holds of the operand of an operator whose value isn't wanted, where the operand is unary: for it may be left out with the operator
+abbrev Operand : (P : Expr → Type 0) (sites : Sites) (b : ℕ) → Expr → Type 0
+Operand P sites b (unary place inner e) = P (expr sites b false e)
+Operand P sites b e = Unit {0}
+
+by_unary : (P : Expr → Type 0) (sites : Sites) (at op : ℕ) (x : Expr) (b : ℕ) (wanted : Bool) → P (unary at op (expr sites b true x)) → Operand P sites b x → P (expr sites b wanted (unary at op x))
+by_unary P sites at op (a_name site x) b true h k = h
+by_unary P sites at op (an_int site n u) b true h k = h
+by_unary P sites at op (a_char site c) b true h k = h
+by_unary P sites at op (a_str site w) b true h k = h
+by_unary P sites at op (comma site es) b true h k = h
+by_unary P sites at op (sizeof_type site t) b true h k = h
+by_unary P sites at op (cast site t e) b true h k = h
+by_unary P sites at op (call site d es) b true h k = h
+by_unary P sites at op (member site how e x) b true h k = h
+by_unary P sites at op (postfix site o e) b true h k = h
+by_unary P sites at op (prefix site o e) b true h k = h
+by_unary P sites at op (unary place inner e) b true h k = h
+by_unary P sites at op (index site e f) b true h k = h
+by_unary P sites at op (binary site o e f) b true h k = h
+by_unary P sites at op (assign site o e f) b true h k = h
+by_unary P sites at op (conditional site c e f) b true h k = h
+by_unary P sites at op (a_name site x) b false h k = h
+by_unary P sites at op (an_int site n u) b false h k = h
+by_unary P sites at op (a_char site c) b false h k = h
+by_unary P sites at op (a_str site w) b false h k = h
+by_unary P sites at op (comma site es) b false h k = h
+by_unary P sites at op (sizeof_type site t) b false h k = h
+by_unary P sites at op (cast site t e) b false h k = h
+by_unary P sites at op (call site d es) b false h k = h
+by_unary P sites at op (member site how e x) b false h k = h
+by_unary P sites at op (postfix site o e) b false h k = h
+by_unary P sites at op (prefix site o e) b false h k = h
+by_unary P sites at op (unary place inner e) b false h k = by_type P (is_address_of_indirection op inner) (expr sites b false e) (unary at op (unary place inner (expr sites b true e))) k h
+by_unary P sites at op (index site e f) b false h k = h
+by_unary P sites at op (binary site o e f) b false h k = h
+by_unary P sites at op (assign site o e f) b false h k = h
+by_unary P sites at op (conditional site c e f) b false h k = h
+
 module _ (sites : Sites) where
   mutual
     expr_strings : (x : Expr) (b : ℕ) (wanted : Bool) → AreNamed sites b x → strings (expr sites b wanted x) ≡ strings x
@@ -162,11 +200,29 @@ module _ (sites : Sites) where
     expr_strings (prefix at pre_increment e) b wanted h = expr_strings e b true h
     expr_strings (prefix at pre_decrement e) b wanted h = expr_strings e b true h
     expr_strings (prefix at sizeof e) b wanted h = refl
-    expr_strings (unary at op e) b wanted h = expr_strings e b true h
+    expr_strings (unary at op e) b wanted h = by_unary (λ y. strings y ≡ strings e) sites at op e b wanted (expr_strings e b true h) (operand_strings e b h)
     expr_strings (index at e f) b wanted h = ap₂ (λ ws vs. ws ++ vs) (expr_strings e b true h.0) (expr_strings f (b + calls e) true h.1)
     expr_strings (binary at op e f) b wanted h = ap₂ (λ ws vs. ws ++ vs) (expr_strings e b true h.0) (expr_strings f (b + calls e) true h.1)
     expr_strings (assign at op e f) b wanted h = ap₂ (λ ws vs. ws ++ vs) (expr_strings e b true h.0) (expr_strings f (b + calls e) true h.1)
     expr_strings (conditional at c e f) b wanted h = ap₂ (λ ws vs. ws ++ vs) (expr_strings c b true h.0) (ap₂ (λ ws vs. ws ++ vs) (expr_strings e (b + calls c) true h.1) (expr_strings f (b + calls c + calls e) true h.2))
+
+    operand_strings : (x : Expr) (b : ℕ) → AreNamed sites b x → Operand (λ y. strings y ≡ strings x) sites b x
+    operand_strings (a_name at x) b h = tt
+    operand_strings (an_int at n u) b h = tt
+    operand_strings (a_char at c) b h = tt
+    operand_strings (a_str at w) b h = tt
+    operand_strings (comma at es) b h = tt
+    operand_strings (sizeof_type at t) b h = tt
+    operand_strings (cast at t e) b h = tt
+    operand_strings (call at d es) b h = tt
+    operand_strings (member at how e x) b h = tt
+    operand_strings (postfix at op e) b h = tt
+    operand_strings (prefix at op e) b h = tt
+    operand_strings (unary at op e) b h = expr_strings e b false h
+    operand_strings (index at e f) b h = tt
+    operand_strings (binary at op e f) b h = tt
+    operand_strings (assign at op e f) b h = tt
+    operand_strings (conditional at c e f) b h = tt
 
     arguments_stay : (es : Exprs) (b : ℕ) → AllNamed sites b es → strings_of_all (arguments sites b es) ≡ strings_of_all es
     arguments_stay no_exprs b h = refl
@@ -196,11 +252,29 @@ module _ (sites : Sites) where
     expr_calls (prefix at pre_increment e) b wanted h = expr_calls e b true h
     expr_calls (prefix at pre_decrement e) b wanted h = expr_calls e b true h
     expr_calls (prefix at sizeof e) b wanted h = omega arith
-    expr_calls (unary at op e) b wanted h = expr_calls e b true h
+    expr_calls (unary at op e) b wanted h = by_unary (λ y. calls y ≤ 3 * calls e) sites at op e b wanted (expr_calls e b true h) (operand_calls e b h)
     expr_calls (index at e f) b wanted h = (let m = expr_calls e b true h.0 in let n = expr_calls f (b + calls e) true h.1 in omega (arith, m, n))
     expr_calls (binary at op e f) b wanted h = (let m = expr_calls e b true h.0 in let n = expr_calls f (b + calls e) true h.1 in omega (arith, m, n))
     expr_calls (assign at op e f) b wanted h = (let m = expr_calls e b true h.0 in let n = expr_calls f (b + calls e) true h.1 in omega (arith, m, n))
     expr_calls (conditional at c e f) b wanted h = (let l = expr_calls c b true h.0 in let m = expr_calls e (b + calls c) true h.1 in let n = expr_calls f (b + calls c + calls e) true h.2 in omega (arith, l, m, n))
+
+    operand_calls : (x : Expr) (b : ℕ) → AreNamed sites b x → Operand (λ y. calls y ≤ 3 * calls x) sites b x
+    operand_calls (a_name at x) b h = tt
+    operand_calls (an_int at n u) b h = tt
+    operand_calls (a_char at c) b h = tt
+    operand_calls (a_str at w) b h = tt
+    operand_calls (comma at es) b h = tt
+    operand_calls (sizeof_type at t) b h = tt
+    operand_calls (cast at t e) b h = tt
+    operand_calls (call at d es) b h = tt
+    operand_calls (member at how e x) b h = tt
+    operand_calls (postfix at op e) b h = tt
+    operand_calls (prefix at op e) b h = tt
+    operand_calls (unary at op e) b h = expr_calls e b false h
+    operand_calls (index at e f) b h = tt
+    operand_calls (binary at op e f) b h = tt
+    operand_calls (assign at op e f) b h = tt
+    operand_calls (conditional at c e f) b h = tt
 
     arguments_few : (es : Exprs) (b : ℕ) → AllNamed sites b es → calls_of_all (arguments sites b es) ≤ 3 * calls_of_all es
     arguments_few no_exprs b h = omega arith

@@ -3,8 +3,8 @@ use Rattle.std.proofs.Common.{◌≡◌, ℕ, ◌+◌, Bool, true, false, if◌t
 use Rattle.c_tree.specs.Tree.{CType, void, integer, pointer, array, struct, function, type_of, Program}
 use Rattle.c_tree.specs.Tree as typed
 use Rattle.c_syntax.specs.Tree.{Expr, comma, Exprs, no_exprs, more_exprs}
-use Rattle.c_rules.specs.Checked.{Checked, fine, faulty, demand, on, both, gives}
-use Rattle.c_rules.specs.Scopes.{Env, layout_of, Before}
+use Rattle.c_rules.specs.Checked.{Checked, fine, faulty, both, gives}
+use Rattle.c_rules.specs.Scopes.{Env, Before}
 use Rattle.c_rules.specs.Counts.{place_of, calls, after}
 use Rattle.c_rules.specs.Given.{Form, a_value, a_place, behind, not_constant, Constant, Given, value_given, tree_of}
 use Rattle.c_rules.specs.Conversions.{few_parts, loaded, valued_as, valued}
@@ -22,8 +22,8 @@ use Rattle.bracketed_rules.specs.Remade.{remade, Follows}
 use Rattle.bracketed_rules.proofs.Operands.{operand}
 use Rattle.bracketed_counts.specs.Counts.{AreNamed, AllNamed, Near}
 use Rattle.bracketed_counts.proofs.Expressions.{places_near}
-use Rattle.bracketed_expressions.specs.Tabled.{IsPlainlyUnused, AreTabled, AllTabled, AllUnused, AreFound}
-use Rattle.bracketed_expressions.specs.Follow.{types_of, UnusedFollows, ExprFollows, Goes, AllGo}
+use Rattle.bracketed_expressions.specs.Tabled.{AreTabled, AllTabled, AreFound}
+use Rattle.bracketed_expressions.specs.Follow.{types_of, UnusedFollows, Goes, AllGo}
 use Rattle.bracketed_expressions.proofs.Leaves.{Holds, demand_holds}
 use Rattle.bracketed_expressions.proofs.TreeTypes.{ValueTyped, value_typed}
 use Rattle.bracketed_expressions.proofs.Forms.{types_both, found_first, found_rest, value_goes}
@@ -215,15 +215,15 @@ module _ (p : Program) (sites : Sites) (env : Env) (w : More) where
   Right = instrumented_scope env w
 
   -- one member
-  part_goes : (wanted : Bool) (e : Expr) → Goes p sites env w e → (b b' : Before) (k : ℕ) → IsPlainlyUnused e → AreNamed sites b.sites e → AreTabled p sites Left b e → AreFound w.names k (kept sites b.sites wanted e) → Near b b' → PartFollows p wanted k (types_of (kept sites b.sites wanted e)) (value Left b e) (value Right b' (expr sites b.sites wanted e))
-  part_goes true e h b b' k u n t f r = part_wanted p k (types_of (kept sites b.sites true e)) (value Left b e) (value Right b' (expr sites b.sites true e)) (value_goes p sites env w e h.wanted b b' k n t f r)
-  part_goes false e h b b' k u n t f r = part_unused p k (types_of (kept sites b.sites false e)) (value Left b e) (value Right b' (expr sites b.sites false e)) (h.unused u b b' k n t f r)
+  part_goes : (wanted : Bool) (e : Expr) → Goes p sites env w e → (b b' : Before) (k : ℕ) → AreNamed sites b.sites e → AreTabled p sites Left b e → AreFound w.names k (kept sites b.sites wanted e) → Near b b' → PartFollows p wanted k (types_of (kept sites b.sites wanted e)) (value Left b e) (value Right b' (expr sites b.sites wanted e))
+  part_goes true e h b b' k n t f r = part_wanted p k (types_of (kept sites b.sites true e)) (value Left b e) (value Right b' (expr sites b.sites true e)) (value_goes p sites env w e h.wanted b b' k n t f r)
+  part_goes false e h b b' k n t f r = part_unused p k (types_of (kept sites b.sites false e)) (value Left b e) (value Right b' (expr sites b.sites false e)) (h.unused b b' k n t f r)
 
-  members_go : (es : Exprs) (wanted : Bool) (e : Expr) → Goes p sites env w e → AllGo p sites env w es → (b b' : Before) (k : ℕ) → AllNamed sites b.sites (more_exprs e es) → AllTabled p sites Left b (more_exprs e es) → AllUnused p sites Left (more_exprs e es) → AreFound w.names k (kept_of_members sites b.sites wanted (more_exprs e es)) → Near b b'
+  members_go : (es : Exprs) (wanted : Bool) (e : Expr) → Goes p sites env w e → AllGo p sites env w es → (b b' : Before) (k : ℕ) → AllNamed sites b.sites (more_exprs e es) → AllTabled p sites Left b (more_exprs e es) → AreFound w.names k (kept_of_members sites b.sites wanted (more_exprs e es)) → Near b b'
       → ListFollows p wanted k (types_of (kept_of_members sites b.sites wanted (more_exprs e es))) (trees Left b (more_exprs e es)) (trees Right b' (members sites b.sites wanted (more_exprs e es)))
-  members_go no_exprs wanted e h l b b' k n t u f r =
-      last_goes p wanted k (types_of (kept sites b.sites wanted e)) (value Left b e) (value Right b' (expr sites b.sites wanted e)) (part_goes wanted e h b b' k u.0 n.0 t.0 f r) (value_typed (expr sites b.sites wanted e) Right b') (value_plain Left (place_of e) (tree Left b e)) (value_plain Right (place_of (expr sites b.sites wanted e)) (tree Right b' (expr sites b.sites wanted e)))
-  members_go (more_exprs g es) wanted e h l b b' k n t u f r =
+  members_go no_exprs wanted e h l b b' k n t f r =
+      last_goes p wanted k (types_of (kept sites b.sites wanted e)) (value Left b e) (value Right b' (expr sites b.sites wanted e)) (part_goes wanted e h b b' k n.0 t.0 f r) (value_typed (expr sites b.sites wanted e) Right b') (value_plain Left (place_of e) (tree Left b e)) (value_plain Right (place_of (expr sites b.sites wanted e)) (tree Right b' (expr sites b.sites wanted e)))
+  members_go (more_exprs g es) wanted e h l b b' k n t f r =
       let xs : List Temporary = kept sites b.sites false e in
       let ys : List Temporary = kept_of_members sites (b.sites + calls e) wanted (more_exprs g es) in
       let e1 : Expr = expr sites b.sites false e in
@@ -231,8 +231,8 @@ module _ (p : Program) (sites : Sites) (env : Env) (w : More) where
       let rest : Exprs = members sites (b.sites + calls e) wanted (more_exprs g es) in
       subst (λ ts. ListFollows p wanted k ts (trees Left b (more_exprs e (more_exprs g es))) (trees Right b' (more_exprs e1 rest))) (sym (types_both xs ys))
       (join p wanted k (types_of xs) (types_of ys) (value Left b e) (value Right b' e1) (trees Left (after b e) (more_exprs g es)) (trees Right b1 rest)
-      (part_goes false e h b b' k u.0 n.0 t.0 (found_first w.names k xs ys f) r)
-      (members_go es wanted g l.0 l.1 (after b e) b1 (k + length (types_of xs)) n.1 t.1 u.1 (found_rest w.names k xs ys f) (places_near sites b b' false e n.0 r)))
+      (part_goes false e h b b' k n.0 t.0 (found_first w.names k xs ys f) r)
+      (members_go es wanted g l.0 l.1 (after b e) b1 (k + length (types_of xs)) n.1 t.1 (found_rest w.names k xs ys f) (places_near sites b b' false e n.0 r)))
 
   -- ## The comma expression
 
@@ -267,9 +267,9 @@ module _ (p : Program) (sites : Sites) (env : Env) (w : More) where
   pub comma_goes : (at : ℕ) (es : Exprs) → AllGo p sites env w es → Goes p sites env w (comma at es)
   comma_goes at no_exprs l = record {
     wanted = λ b b' k n t f r. (typed.comma void typed.no_exprs, refl, record { types = refl; tree = refl; none = λ c. absurd c });
-    unused = λ u b b' k n t f r. (comma_of [], refl, refl, refl);
+    unused = λ b b' k n t f r. (comma_of [], refl, refl, refl);
   }
   comma_goes at (more_exprs e es) l = record {
-    wanted = λ b b' k n t f r. comma_wanted k (types_of (kept_of_members sites b.sites true (more_exprs e es))) (trees Left b (more_exprs e es)) (trees Right b' (members sites b.sites true (more_exprs e es))) (members_go es true e l.0 l.1 b b' k n t.0 t.1 f r);
-    unused = λ u b b' k n t f r. comma_unused at k (types_of (kept_of_members sites b.sites false (more_exprs e es))) (trees Left b (more_exprs e es)) (trees Right b' (members sites b.sites false (more_exprs e es))) (members_go es false e l.0 l.1 b b' k n t.0 t.1 f r);
+    wanted = λ b b' k n t f r. comma_wanted k (types_of (kept_of_members sites b.sites true (more_exprs e es))) (trees Left b (more_exprs e es)) (trees Right b' (members sites b.sites true (more_exprs e es))) (members_go es true e l.0 l.1 b b' k n t f r);
+    unused = λ b b' k n t f r. comma_unused at k (types_of (kept_of_members sites b.sites false (more_exprs e es))) (trees Left b (more_exprs e es)) (trees Right b' (members sites b.sites false (more_exprs e es))) (members_go es false e l.0 l.1 b b' k n t f r);
   }

@@ -1,30 +1,28 @@
 -- Every expression goes where calls do.
-use Rattle.std.proofs.Common.{◌≡◌, ℕ, Bool, true, false, if◌then◌else◌, List, [], refl, ap, sym, subst, ◌∙◌}
+use Rattle.std.proofs.Common.{◌≡◌, ℕ, Bool, true, false, if◌then◌else◌, List, refl, ap, sym, subst}
 use Rattle.c_tree.specs.Tree.{CType, void, discard, Program}
 use Rattle.c_syntax.specs.Tree.{Expr, a_name, an_int, a_char, a_str, comma, sizeof_type, cast, call, member, postfix, prefix, unary, index, binary, assign, conditional, Exprs, no_exprs, more_exprs, TypeName}
-use Rattle.c_rules.specs.Checked.{Checked, fine, faulty, on, both}
-use Rattle.c_rules.specs.Scopes.{Env, Before}
-use Rattle.c_rules.specs.Counts.{place_of}
-use Rattle.c_rules.specs.Given.{not_constant, Given, value_given, tree_of}
+use Rattle.c_rules.specs.Checked.{Checked, fine, faulty, both}
+use Rattle.c_rules.specs.Scopes.{Env}
+use Rattle.c_rules.specs.Given.{Given, tree_of}
 use Rattle.c_rules.specs.UnaryExpressions.{cast_of, null_cast}
 use Rattle.c_rules.specs.Declarators.{is_void_pointer}
-use Rattle.c_rules.specs.Expressions.{cast_rule, value_at, tree, value, type_named}
+use Rattle.c_rules.specs.Expressions.{cast_rule, value, type_named}
 use Rattle.null_calls.specs.MarkedCalls.{Sites}
 use Rattle.null_calls.specs.BracketedExpressions.{is_void_type, expr, kept}
 use Rattle.bracketed_scopes.specs.Beside.{More, plain_scope, instrumented_scope, AreUnreserved, MeanAlike, beside}
 use Rattle.bracketed_scopes.proofs.Leads.{Leads}
 use Rattle.bracketed_scopes.proofs.Parts.{type_named_leads}
-use Rattle.bracketed_rules.specs.Remade.{remade, Follows}
+use Rattle.bracketed_rules.specs.Remade.{Follows}
 use Rattle.bracketed_rules.proofs.Operands.{on_follows}
 use Rattle.bracketed_rules.proofs.Unary.{cast_of_follows, null_cast_follows}
-use Rattle.bracketed_counts.specs.Counts.{AreNamed, Near}
-use Rattle.bracketed_expressions.specs.Tabled.{AreTabled, AreFound}
+use Rattle.bracketed_expressions.specs.Tabled.{AreFound}
 use Rattle.bracketed_expressions.specs.Follow.{types_of, UnusedFollows, ExprFollows, Goes, AllGo, CallsGo, ExpressionsGo}
 use Rattle.bracketed_expressions.proofs.Leaves.{Holds}
 use Rattle.bracketed_expressions.proofs.Types.{IsThing, void_named, thing_named}
 use Rattle.bracketed_expressions.proofs.Solid.{strong_firm, cast_strong}
 use Rattle.bracketed_expressions.proofs.Commas.{comma_goes}
-use Rattle.bracketed_expressions.proofs.Forms.{value_goes, unused_goes, name_goes, int_goes, char_goes, string_goes, size_type_goes, prefix_goes, postfix_goes, member_goes, unary_goes, index_goes, binary_goes, assign_goes, choice_goes}
+use Rattle.bracketed_expressions.proofs.Forms.{OperandGoes, value_goes, unused_goes, name_goes, int_goes, char_goes, string_goes, size_type_goes, prefix_goes, postfix_goes, member_goes, unary_goes, index_goes, binary_goes, assign_goes, choice_goes}
 
 -- ## Casts
 
@@ -61,18 +59,18 @@ module _ (p : Program) (sites : Sites) (env : Env) (w : More) (plain : AreUnrese
           let r0 : Checked Given = value Left b e in
           let s0 : Checked Given = value Right b' (expr sites b.sites false e) in
           subst (λ z. Follows p k ts (cast_rule z at (type_named Left u) r0) (cast_rule z at (type_named Right u) s0)) (sym v.1)
-          (subst (λ z. Follows p k ts (both z r0 (cast_of at)) (both (type_named Right u) s0 (cast_of at))) (sym (v.0 Left)) (subst (λ z. Follows p k ts (both (fine void) r0 (cast_of at)) (both z s0 (cast_of at))) (sym (v.0 Right)) (void_cast p k ts at r0 s0 (h.unused t.1 b b' k n t.2 f r))))
+          (subst (λ z. Follows p k ts (both z r0 (cast_of at)) (both (type_named Right u) s0 (cast_of at))) (sym (v.0 Left)) (subst (λ z. Follows p k ts (both (fine void) r0 (cast_of at)) (both z s0 (cast_of at))) (sym (v.0 Right)) (void_cast p k ts at r0 s0 (h.unused b b' k n t.1 f r))))
 
       by_test : (v : Bool) → is_void_type u ≡ v → AreFound w.names k (if v then kept sites b.sites false e else kept sites b.sites true e)
           → Follows p k (types_of (if v then kept sites b.sites false e else kept sites b.sites true e)) (cast_rule (is_void_pointer u) at (type_named Left u) (value Left b e)) (cast_rule (is_void_pointer u) at (type_named Right u) (value Right b' (if v then expr sites b.sites false e else expr sites b.sites true e)))
       by_test true q f = void_goes q f
       by_test false q f =
-          rule_cast p k (types_of (kept sites b.sites true e)) (is_void_pointer u) at (type_named Left u) (type_named Right u) (value Left b e) (value Right b' (expr sites b.sites true e)) (type_named_leads Left Right (beside env w plain alike) u) (thing_named u Left t.0 q) (value_goes p sites env w e h.wanted b b' k n t.2 f r)
+          rule_cast p k (types_of (kept sites b.sites true e)) (is_void_pointer u) at (type_named Left u) (type_named Right u) (value Left b e) (value Right b' (expr sites b.sites true e)) (type_named_leads Left Right (beside env w plain alike) u) (thing_named u Left t.0 q) (value_goes p sites env w e h.wanted b b' k n t.1 f r)
 
   cast_goes : (at : ℕ) (u : TypeName) (e : Expr) → Goes p sites env w e → Goes p sites env w (cast at u e)
   cast_goes at u e h = record {
     wanted = cast_wanted at u e h;
-    unused = λ v b b' k n t f r. unused_goes p sites env w (cast at u e) (cast_wanted at u e h) b b' k n t f r (strong_firm p _ (cast_strong p (is_void_pointer u) at (type_named Left u) (value Left b e)));
+    unused = λ b b' k n t f r. unused_goes p sites env w (cast at u e) (cast_wanted at u e h) b b' k n t f r (strong_firm p _ (cast_strong p (is_void_pointer u) at (type_named Left u) (value Left b e)));
   }
 
   -- ## All forms
@@ -91,11 +89,30 @@ module _ (p : Program) (sites : Sites) (env : Env) (w : More) (plain : AreUnrese
       goes (member at how e y) = member_goes p sites env w plain alike at how e y (goes e)
       goes (postfix at o e) = postfix_goes p sites env w plain alike at o e (goes e)
       goes (prefix at o e) = prefix_goes p sites env w plain alike at o e (goes e)
-      goes (unary at o e) = unary_goes p sites env w plain alike at o e (goes e)
+      goes (unary at o e) = unary_goes p sites env w plain alike at o e (goes e) (operand_goes e)
       goes (index at e f) = index_goes p sites env w plain alike at e f (goes e) (goes f)
       goes (binary at o e f) = binary_goes p sites env w plain alike at o e f (goes e) (goes f)
       goes (assign at o e f) = assign_goes p sites env w plain alike at o e f (goes e) (goes f)
       goes (conditional at c e f) = choice_goes p sites env w plain alike at c e f (goes c) (goes e) (goes f)
+
+      -- the operand of a unary operator that is the operand of another one
+      operand_goes : (x : Expr) → OperandGoes p sites env w x
+      operand_goes (a_name at y) = tt
+      operand_goes (an_int at n u) = tt
+      operand_goes (a_char at c) = tt
+      operand_goes (a_str at text) = tt
+      operand_goes (comma at es) = tt
+      operand_goes (sizeof_type at t) = tt
+      operand_goes (cast at t e) = tt
+      operand_goes (call at d es) = tt
+      operand_goes (member at how e y) = tt
+      operand_goes (postfix at o e) = tt
+      operand_goes (prefix at o e) = tt
+      operand_goes (unary at o e) = (goes e).unused
+      operand_goes (index at e f) = tt
+      operand_goes (binary at o e f) = tt
+      operand_goes (assign at o e f) = tt
+      operand_goes (conditional at c e f) = tt
 
       all_go : (es : Exprs) → AllGo p sites env w es
       all_go no_exprs = tt

@@ -1,18 +1,18 @@
 -- Names, constants and strings, and what isn't evaluated, give the same in both units: there is no call in their trees.
-use Rattle.std.proofs.Common.{◌≡◌, ℕ, suc, ◌+◌, Bool, true, false, List, [], length, Option, Some, None, refl, ap, ap₂, sym, subst, ◌∙◌}
-use Rattle.c_tree.specs.Tree.{CType, void, integer, pointer, array, struct, function, Expr, Program}
-use Rattle.c_rules.specs.Checked.{Checked, fine, faulty, demand, on, gives, met}
-use Rattle.c_rules.specs.Names.{Name, is_among, null_calls}
-use Rattle.c_rules.specs.Scopes.{Env, Binding, Meaning, a_static, a_local, a_function, an_enumerator, unknown, Before, layout_of, lookup}
+use Rattle.std.proofs.Common.{◌≡◌, ℕ, suc, ◌+◌, Bool, true, false, List, [], length, Option, Some, None, refl, ap, ap₂, sym, ◌∙◌}
+use Rattle.c_tree.specs.Tree.{CType, Program}
+use Rattle.c_rules.specs.Checked.{Checked, fine, faulty, demand, on, gives}
+use Rattle.c_rules.specs.Names.{Name}
+use Rattle.c_rules.specs.Scopes.{Env, Binding, Meaning, a_static, a_local, a_function, an_enumerator, unknown, Before, lookup}
 use Rattle.c_rules.specs.Given.{Form, a_value, a_place, behind, Given}
 use Rattle.c_rules.specs.Conversions.{complete}
-use Rattle.c_rules.specs.PrimaryExpressions.{used, object_number, function_value_number, unsigned_given, meant, bound, named_expression, integer_expression, string_fits, string_given, string_expression}
+use Rattle.c_rules.specs.PrimaryExpressions.{used, object_number, function_value_number, meant, bound, named_expression, integer_expression, string_fits, string_given, string_expression}
 use Rattle.c_rules.specs.UnaryExpressions.{size_of, size_of_given, size_of_type}
 use Rattle.null_calls.specs.BracketedPrograms.{expr, kept}
 use Rattle.null_calls.specs.WithoutSites.{unsited}
 use Rattle.bracketed_scopes.specs.Beside.{plain_scope, instrumented_scope, More}
 use Rattle.bracketed_scopes.proofs.Leads.{Leads}
-use Rattle.bracketed_rules.specs.Remade.{inner_of, with_inner, remade, IsRemade, Follows}
+use Rattle.bracketed_rules.specs.Remade.{inner_of, with_inner, remade, Follows}
 use Rattle.bracketed_counts.specs.Counts.{Near}
 
 -- what is fine has the property

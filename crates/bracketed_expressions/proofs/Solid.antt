@@ -1,28 +1,26 @@
 -- Trees that have the same temporaries whether their value is wanted or not.
-use Rattle.std.proofs.Common.{◌≡◌, ℕ, suc, map, Bool, true, false, ◌&&◌, ◌||◌, if◌then◌else◌, List, [], length, Option, Some, None, nat_eq, refl, ap, sym, subst, ◌∙◌}
+use Rattle.std.proofs.Common.{◌≡◌, ℕ, map, Bool, true, false, ◌&&◌, ◌||◌, if◌then◌else◌, List, Option, Some, None, nat_eq, refl, sym, subst}
 use Rattle.std.proofs.lemmas.Bool.Decides.{Decides-eqb}
 use Rattle.c_lexer.specs.declared.punctuator.TheConstants.{AMPERSAND, ASTERISK, PLUS, MINUS, TILDE, ASSIGN}
-use Rattle.c_tree.specs.declared.value.IntType.{IntType}
 use Rattle.c_tree.specs.declared.value.UnOp.{UnOp}
 use Rattle.c_tree.specs.declared.value.UnOp.TheVariants.{Minus, Complement}
 use Rattle.c_tree.specs.declared.value.BinOp.{BinOp}
 use Rattle.c_tree.specs.declared.value.BinOp.TheVariants as op
 use Rattle.c_tree.specs.Tree.{CType, void, integer, pointer, array, struct, function, Expr, assign, Program}
-use Rattle.c_tree.specs.Operands.{promoted, common, OperatorKind, balanced, shift, ordering, equality}
+use Rattle.c_tree.specs.Operands.{OperatorKind, balanced, shift, ordering, equality}
 use Rattle.c_tree.specs.Operands.{kind_of as kind_of_operator}
-use Rattle.c_syntax.specs.Tree as syntax
 use Rattle.c_syntax.specs.Tree.{Infix, and, or, operator, Access, dot, arrow, Postfix, post_increment, post_decrement}
 use Rattle.c_rules.specs.Checked.{Checked, fine, faulty, demand, on, both, all_three, gives, met}
 use Rattle.c_rules.specs.Names.{Name, number_among}
 use Rattle.c_rules.specs.Types.{same_type, is_function, is_scalar, is_integer, is_void}
 use Rattle.c_rules.specs.Scopes.{Env, Meaning, a_static, a_local, a_function, an_enumerator, unknown, Binding, lookup, Struct, incomplete, unknown_struct, defined_struct, Member, struct_of}
 use Rattle.c_rules.specs.Given.{Form, a_value, a_place, behind, not_constant, Given, value_given, tree_of_form, tree_of, is_place, is_null}
-use Rattle.c_rules.specs.Conversions.{Kind, an_integer, a_pointer, neither, kind_of, complete, few_parts, loaded, valued_as, valued, cast_to, null_of, fits, assigned}
+use Rattle.c_rules.specs.Conversions.{Kind, an_integer, a_pointer, neither, kind_of, complete, few_parts, loaded, valued_as, valued, cast_to, fits, assigned}
 use Rattle.c_rules.specs.PrimaryExpressions.{used, object_number, function_value_number, meant, bound, named_expression}
 use Rattle.c_rules.specs.PostfixExpressions.{Callee, as_many_as, all_fit, called, name_of_member, member_or_undeclared, member_of_struct, member_of_type, member_of}
 use Rattle.c_rules.specs.UnaryExpressions.{address_of_form, address_of_type, address, led_to, indirection, plus_of, operator_of, unary_of_value, size_of, size_of_given, size_of_type, cast_of, null_cast}
-use Rattle.c_rules.specs.BinaryExpressions.{operator_of_code, sum_of, sum, minus_of, balanced_of, shift_of, ordered_of, Alike, alike_integers, alike_pointers, unlike, alike, equality_of, arithmetic_of, operation_of, both_scalars, chosen, arms_of, choice}
-use Rattle.c_rules.specs.Assignments.{assignment, operator_of_assignment, moves, update_of, assignment_by, one_for, step, comma_of}
+use Rattle.c_rules.specs.BinaryExpressions.{operator_of_code, sum_of, sum, minus_of, balanced_of, shift_of, ordered_of, Alike, alike_integers, alike_pointers, unlike, alike, equality_of, arithmetic_of, operation_of, both_scalars, arms_of, choice}
+use Rattle.c_rules.specs.Assignments.{operator_of_assignment, moves, update_of, assignment_by, one_for, step, comma_of}
 use Rattle.c_rules.specs.Expressions.{value_at, place_at, access, after_operand, unary_rule, infix_rule, cast_rule}
 use Rattle.null_calls.specs.BracketedPrograms.{expr, kept}
 use Rattle.bracketed_expressions.proofs.Leaves.{Holds, after_part, demand_holds}

@@ -1,5 +1,5 @@
 -- The tree of a value has the value's type.
-use Rattle.std.proofs.Common.{◌≡◌, ℕ, suc, ◌+◌, map, Bool, true, false, ◌&&◌, ◌||◌, if◌then◌else◌, List, [], length, Option, Some, None, nat_eq, refl, ap, sym, subst, ◌∙◌}
+use Rattle.std.proofs.Common.{◌≡◌, ℕ, suc, ◌+◌, map, Bool, true, false, ◌&&◌, ◌||◌, if◌then◌else◌, List, length, Option, Some, None, nat_eq, refl, sym, subst}
 use Rattle.c_lexer.specs.declared.punctuator.TheConstants.{AMPERSAND, ASTERISK, PLUS, MINUS, TILDE, ASSIGN}
 use Rattle.c_tree.specs.declared.value.UnOp.{UnOp}
 use Rattle.c_tree.specs.declared.value.UnOp.TheVariants.{Minus, Complement}
@@ -18,7 +18,7 @@ use Rattle.c_rules.specs.Scopes.{Env, Meaning, a_static, a_local, a_function, an
 use Rattle.c_rules.specs.Counts.{place_of, calls, after, after_designator}
 use Rattle.c_rules.specs.Given.{Form, a_value, a_place, behind, not_constant, Given, value_given, tree_of_form, tree_of, is_place, is_null}
 use Rattle.c_rules.specs.Conversions.{Kind, an_integer, a_pointer, neither, kind_of, complete, few_parts, loaded, valued_as, valued, cast_to, null_of, fits, assigned}
-use Rattle.c_rules.specs.PrimaryExpressions.{used, object_number, function_value_number, meant, bound, named_expression, string_fits}
+use Rattle.c_rules.specs.PrimaryExpressions.{used, object_number, function_value_number, meant, bound, string_fits}
 use Rattle.c_rules.specs.PostfixExpressions.{Designator, direct, through, Callee, as_many_as, all_fit, call_of, called, site_of, name_of_member, member_or_undeclared, member_of_struct, member_of_type, member_of}
 use Rattle.c_rules.specs.UnaryExpressions.{address_of_form, address_of_type, address, led_to, indirection, plus_of, operator_of, unary_of_value, size_of, size_of_given, size_of_type, cast_of, null_cast}
 use Rattle.c_rules.specs.BinaryExpressions.{operator_of_code, sum_of, sum, minus_of, balanced_of, shift_of, ordered_of, Alike, alike_integers, alike_pointers, unlike, alike, equality_of, arithmetic_of, operation_of, both_scalars, arms_of, choice}

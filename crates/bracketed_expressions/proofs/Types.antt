@@ -1,5 +1,5 @@
 -- Names of types that name void.
-use Rattle.std.proofs.Common.{◌≡◌, ℕ, Bool, true, false, not, List, Option, Some, None, refl, ap, sym, subst, ◌∙◌}
+use Rattle.std.proofs.Common.{◌≡◌, ℕ, Bool, true, false, not, Some, None, refl}
 use Rattle.c_tree.specs.declared.value.IntType.TheVariants.{Int}
 use Rattle.c_tree.specs.Tree.{CType, void, integer, CTypes}
 use Rattle.c_tree.specs.Tree as typed
@@ -9,7 +9,7 @@ use Rattle.c_rules.specs.Checked.{Checked, fine, faulty, demand, on, met}
 use Rattle.c_rules.specs.Scopes.{Env, inside, tag_number}
 use Rattle.c_rules.specs.Names.{is_among}
 use Rattle.c_rules.specs.Conversions.{few_parts, complete}
-use Rattle.c_rules.specs.Types.{is_result, count}
+use Rattle.c_rules.specs.Types.{is_result}
 use Rattle.c_rules.specs.Declarators.{name_of, is_void_pointer, type_of_spec, within_parts, pointer_to, array_of, function_of}
 use Rattle.c_rules.specs.Expressions.{declared, size_in, parameters, type_named}
 use Rattle.null_calls.specs.BracketedExpressions.{is_void_type}

@@ -14,7 +14,7 @@ use Rattle.null_calls.specs.WithoutSites.{unsited}
 use Rattle.bracketed_scopes.specs.Beside.{More, plain_scope, instrumented_scope, AreUnreserved, MeanAlike}
 use Rattle.bracketed_rules.specs.Remade.{Follows}
 use Rattle.bracketed_counts.specs.Counts.{AreNamed, Near}
-use Rattle.bracketed_expressions.specs.Tabled.{IsPlainlyUnused, AreTabled, AreFound}
+use Rattle.bracketed_expressions.specs.Tabled.{AreTabled, AreFound}
 
 -- the types of temporaries
 abbrev pub types_of : List Temporary → List CType
@@ -35,7 +35,7 @@ module _ (p : Program) (sites : Sites) (env : Env) (w : More) where
   -- one whose value isn't
   abbrev pub UnusedExprFollows : Expr → Type 0
   UnusedExprFollows x =
-      IsPlainlyUnused x → (b b' : Before) (k : ℕ) → AreNamed sites b.sites x → AreTabled p sites (plain_scope env) b x → AreFound w.names k (kept sites b.sites false x) → Near b b' → UnusedFollows p k (types_of (kept sites b.sites false x)) (value (plain_scope env) b x) (value (instrumented_scope env w) b' (expr sites b.sites false x))
+      (b b' : Before) (k : ℕ) → AreNamed sites b.sites x → AreTabled p sites (plain_scope env) b x → AreFound w.names k (kept sites b.sites false x) → Near b b' → UnusedFollows p k (types_of (kept sites b.sites false x)) (value (plain_scope env) b x) (value (instrumented_scope env w) b' (expr sites b.sites false x))
 
   pub record Goes (x : Expr) : Type 0 where
     pub wanted : ExprFollows x

@@ -1,8 +1,7 @@
 -- What is known of the calls and of the temporaries of an expression where null calls are to stand round its marked calls.
-use Rattle.std.specs.Prelude.{◌≡◌, ℕ, suc, ◌+◌, Bool, true, false, List, [], ◌∷◌, Option, None, Some, if◌then◌else◌}
-use Rattle.c_lexer.specs.declared.punctuator.TheConstants.{AMPERSAND, ASTERISK}
+use Rattle.std.specs.Prelude.{◌≡◌, ℕ, suc, ◌+◌, Bool, List, [], ◌∷◌, Option, None, Some, if◌then◌else◌}
 use Rattle.c_tree.specs.Tree.{CType, void, pointer, function, CTypes, Program, type_of}
-use Rattle.c_tree.specs.Functions.{unsigned_int, of_one, defined, called_type}
+use Rattle.c_tree.specs.Functions.{unsigned_int, of_one, called_type}
 use Rattle.c_tree.specs.Operands.{IsResult}
 use Rattle.c_shapes.specs.Mentions.{Direct, Through}
 use Rattle.c_shapes.specs.CallGraph.{is_marked}
@@ -42,15 +41,6 @@ pub record IsCalledAt (p : Program) (sites : Sites) (site : ℕ) (f : Callee) : 
 abbrev pub IsAbstract : TypeName → Type 0
 IsAbstract (type_name at s d) = name_of d ≡ None
 
--- an expression whose value isn't wanted is no address of what a pointer leads to
-abbrev pub IsNoDereference : Expr → Type 0
-IsNoDereference (unary at op e) = op ≡ ASTERISK → ⊥
-IsNoDereference e = Unit {0}
-
-abbrev pub IsPlainlyUnused : Expr → Type 0
-IsPlainlyUnused (unary at op e) = op ≡ AMPERSAND → IsNoDereference e
-IsPlainlyUnused e = Unit {0}
-
 -- each call stands at its site
 module _ (p : Program) (sites : Sites) (env : Env) where
   abbrev mutual
@@ -59,9 +49,9 @@ module _ (p : Program) (sites : Sites) (env : Env) where
     AreTabled b (an_int at n u) = Unit {0}
     AreTabled b (a_char at c) = Unit {0}
     AreTabled b (a_str at w) = Unit {0}
-    AreTabled b (comma at es) = AllTabled b es × AllUnused es
+    AreTabled b (comma at es) = AllTabled b es
     AreTabled b (sizeof_type at t) = Unit {0}
-    AreTabled b (cast at t e) = IsAbstract t × IsPlainlyUnused e × AreTabled b e
+    AreTabled b (cast at t e) = IsAbstract t × AreTabled b e
     AreTabled b (call at d es) =
         ((f : Callee) → callee env at d (value_at env (place_of d) (tree env b d)) ≡ fine f → IsCalledAt p sites (b.sites + calls d) f) × AreTabled b d × AllTabled (after_designator b d) es
     AreTabled b (member at how e x) = AreTabled b e
@@ -78,10 +68,6 @@ module _ (p : Program) (sites : Sites) (env : Env) where
     pub AllTabled : Before → Exprs → Type 0
     AllTabled b no_exprs = Unit {0}
     AllTabled b (more_exprs e es) = AreTabled b e × AllTabled (after b e) es
-
-    pub AllUnused : Exprs → Type 0
-    AllUnused no_exprs = Unit {0}
-    AllUnused (more_exprs e es) = IsPlainlyUnused e × AllUnused es
 
 -- ## Temporaries and null calls in scope
 
