@@ -70,7 +70,7 @@ module _ (env : Env) (w : More) (at : ℕ) (x : Name) (i : ℕ) (none : number_a
   null_callee : (r : Checked Given) → IsNullCall w.names x → callee_bound Scope at at x r (lookup w.names x) ≡ fine (record { designator = direct (length env.whole.functions + i); returns = void; parameters = more_types unsigned_int no_types })
   null_callee r h = ap (callee_bound Scope at at x r) h.2 ∙ by_function r h.0.means h.1 h.3
 
-null_site : (c : Context) (n m at : ℕ) → c ≡ evaluated → m ≡ n → n < 30000 → site_in c 30000 m at ≡ fine n
+pub null_site : (c : Context) (n m at : ℕ) → c ≡ evaluated → m ≡ n → n < 30000 → site_in c 30000 m at ≡ fine n
 null_site c n m at e q l = ap₂ (λ c m. site_in c 30000 m at) e q ∙ ap (λ b. demand b 13 at n) ((Decides-ltb n 30000).1 l)
 
 pub null_calls_are_made : NullCallsAreMade

@@ -29,7 +29,7 @@ use Rattle.bracketed_calls.specs.KeptArguments.{NearBy, ArgumentsAreKept, KeptAr
 use Rattle.bracketed_calls.proofs.AddedParts.{temporaries_are_set}
 
 -- what may be assigned to has a scalar type
-scalar_fits : (t : CType) (g : Given) → fits t g ≡ true → IsScalar t
+pub scalar_fits : (t : CType) (g : Given) → fits t g ≡ true → IsScalar t
 scalar_fits void g e = absurd (let q : false ≡ true = e in cc)
 scalar_fits (integer i) g e = tt
 scalar_fits (pointer t) g e = tt
@@ -45,27 +45,27 @@ scalar_value env at (array t n) e h = absurd h
 scalar_value env at (struct s) e h = absurd h
 scalar_value env at (function t ts) e h = absurd h
 
-first_fine : {A B C : Type 0} (p : Checked A) (q : Checked B) (k : A → B → Checked C) (c : C) → both p q k ≡ fine c → (a : A) × (b : B) × (p ≡ fine a) × (q ≡ fine b) × (k a b ≡ fine c)
+pub first_fine : {A B C : Type 0} (p : Checked A) (q : Checked B) (k : A → B → Checked C) (c : C) → both p q k ≡ fine c → (a : A) × (b : B) × (p ≡ fine a) × (q ≡ fine b) × (k a b ≡ fine c)
 first_fine (fine a) (fine b) k c e = (a, b, refl, refl, e)
 first_fine (fine a) (faulty f fs) k c e = absurd (cc)
 first_fine (faulty f fs) q k c e = absurd (cc)
 
-and_left : (a b : Bool) → (a && b) ≡ true → a ≡ true
+pub and_left : (a b : Bool) → (a && b) ≡ true → a ≡ true
 and_left true b h = refl
 and_left false b h = absurd (let q : false ≡ true = h in cc)
 
-and_right : (a b : Bool) → (a && b) ≡ true → b ≡ true
+pub and_right : (a b : Bool) → (a && b) ≡ true → b ≡ true
 and_right true b h = h
 and_right false b h = absurd (let q : false ≡ true = h in cc)
 
-same_list : (xs ys : List Given) → fine xs ≡ fine ys → xs ≡ ys
+pub same_list : (xs ys : List Given) → fine xs ≡ fine ys → xs ≡ ys
 same_list xs ys e = cc
 
-nothing_more : (ws : List (List ℕ)) → ws ++ [] ≡ ws
+pub nothing_more : (ws : List (List ℕ)) → ws ++ [] ≡ ws
 nothing_more [] = refl
 nothing_more (w ∷ ws) = ap (λ vs. w ∷ vs) (nothing_more ws)
 
-follows_fine : (p : Program) (k : ℕ) (ts : List CType) (r s : Checked Given) (g : Given) → Follows p k ts r s → r ≡ fine g → (x : typed.Expr) × (s ≡ fine (remade g x)) × IsRemade p k ts g x
+pub follows_fine : (p : Program) (k : ℕ) (ts : List CType) (r s : Checked Given) (g : Given) → Follows p k ts r s → r ≡ fine g → (x : typed.Expr) × (s ≡ fine (remade g x)) × IsRemade p k ts g x
 follows_fine p k ts r s g h e = subst (λ z. Follows p k ts z s) e h
 
 module _ (p : Program) (sites : Sites) (env : Env) (w : More) where

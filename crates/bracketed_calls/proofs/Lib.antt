@@ -1,6 +1,9 @@
 pub mod AddedParts
+pub mod AllCalls
+pub mod BehindArguments
 pub mod KeptArguments
 pub mod KeptValues
+pub mod MarkedCalls
 pub mod MostCalls
 pub mod NullTypes
 pub mod OwnTypes

@@ -14,7 +14,7 @@ integer_itself Int = refl
 integer_itself Uint = refl
 
 mutual
-  type_itself : (t : CType) → same_type t t ≡ true
+  pub type_itself : (t : CType) → same_type t t ≡ true
   type_itself void = refl
   type_itself (integer i) = integer_itself i
   type_itself (pointer t) = type_itself t

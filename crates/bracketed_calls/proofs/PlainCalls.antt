@@ -206,7 +206,7 @@ module _ (p : Program) where
 
   -- ## The call
 
-  abbrev marks : Designator → Bool
+  abbrev pub marks : Designator → Bool
   marks (direct n) = is_marked p (Direct n)
   marks (through e) = is_marked p (Through (type_of e))
 
@@ -274,7 +274,7 @@ module _ (p : Program) where
   combined k ts us at (faulty e es) r' s s' q q' h l a m = tt
 
   -- a site without an entry has no marked call
-  no_entry : (d : Designator) (t : CType) (ts : CTypes) → called_by p d t ts ≡ None → marks d ≡ false
+  pub no_entry : (d : Designator) (t : CType) (ts : CTypes) → called_by p d t ts ≡ None → marks d ≡ false
   no_entry (direct f) t ts h = entry_none (is_marked p (Direct f)) (record { pointer_type = None; returns = t; parameters = ts }) h
   no_entry (through a) t ts h = entry_none (is_marked p (Through (type_of a))) (record { pointer_type = Some (type_of a); returns = t; parameters = ts }) h
 

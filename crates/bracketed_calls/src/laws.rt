@@ -1,6 +1,7 @@
 ghost use Rattle.bracketed_calls.specs.AddedParts.{NullCallsAreMade, TemporariesAreRead, TemporariesAreSet};
 ghost use Rattle.bracketed_calls.specs.KeptArguments.{KeptArgumentsGo};
 ghost use Rattle.bracketed_calls.specs.KeptValues.{KeptValuesAreGiven};
+ghost use Rattle.bracketed_calls.specs.MarkedCalls.{AllCallsGo, AllExpressionsGo};
 ghost use Rattle.bracketed_calls.specs.MostCalls.{CallsAreWithin};
 ghost use Rattle.bracketed_calls.specs.NullTypes.{NullsHaveTheirTypes};
 ghost use Rattle.bracketed_calls.specs.OwnTypes.{ValuesFitTheirTypes};
@@ -53,4 +54,17 @@ pub fn kept_arguments_go()
 /// A law on the rules: the temporaries of a marked call's arguments fit the parameters, and are passed as they are.
 pub fn kept_values_are_given()
     ensures { KeptValuesAreGiven }
+{}
+
+/// A law on the rules: a call of an instrumented unit, marked or not, wanted or not, gives what the plain one gives, with the
+/// bracketed tree, where its designator and its arguments do: a marked one as the comma expression in which it stands between its
+/// null calls (C99 6.5.2.2, 6.5.17; Giffin, Jha and Miller 2004).
+pub fn calls_go()
+    ensures { AllCallsGo }
+{}
+
+/// A law on the rules: every expression of an instrumented unit gives what the plain one gives, with the bracketed tree, and has
+/// the temporaries that the bracketed program has, where each call stands at its site.
+pub fn expressions_go()
+    ensures { AllExpressionsGo }
 {}

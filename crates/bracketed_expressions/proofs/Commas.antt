@@ -70,7 +70,7 @@ valued_same env at (function t ts) e c h = absurd h
 
 -- ## Types of trees
 
-type_unsited : (e : typed.Expr) → type_of (unsited e) ≡ type_of e
+pub type_unsited : (e : typed.Expr) → type_of (unsited e) ≡ type_of e
 type_unsited (typed.constant t v) = refl
 type_unsited (typed.function_name t f) = refl
 type_unsited (typed.string_place t n) = refl
