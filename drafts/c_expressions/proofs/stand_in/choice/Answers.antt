@@ -1,0 +1,4 @@
+use Rattle.c_expressions.proofs.stand_in.choice.Goals as goal
+
+pub returns : goal.returns
+returns c = tt

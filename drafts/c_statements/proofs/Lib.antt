@@ -1,0 +1,4 @@
+pub mod DeclarationLemmas
+pub mod PartLemmas
+pub mod StatementLemmas
+pub mod SwitchLemmas
