@@ -1,4 +1,0 @@
-pub mod DeclarationLemmas
-pub mod PartLemmas
-pub mod StatementLemmas
-pub mod SwitchLemmas
