@@ -6,4 +6,6 @@ mod nesting;
 #[cfg(test)]
 mod refusals;
 #[cfg(test)]
+mod server;
+#[cfg(test)]
 mod trees;

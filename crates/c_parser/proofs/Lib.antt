@@ -13,3 +13,8 @@ pub mod LoopStops
 pub mod DeclStops
 pub mod ItemStops
 pub mod UnitStops
+pub mod Passing
+pub mod StmtGoesOn
+pub mod ItemGoesOn
+pub mod FirstGoesOn
+pub mod UnitGoesOn

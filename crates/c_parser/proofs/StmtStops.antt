@@ -45,7 +45,7 @@ handed : {T : Type 0} (A : Bound → List Token → List Token → Type 0) (b : 
 handed A b i k result e h p = let w = err_from_is_err_and result h.1 in rw (w.1, w.2) p
 
 -- the limits inside one more node
-inside_is : {room inside : Room} → IsInside room inside → bound_of inside ≡ inner (bound_of room)
+pub inside_is : {room inside : Room} → IsInside room inside → bound_of inside ≡ inner (bound_of room)
 inside_is h = λ n. within (h.pairs n) (h.nodes n)
 
 pub raised : {T : Type 0} (A B : Bound → List Token → List Token → Type 0) (b : Bound) {i j : List Token} (k : List Token) (result : Result T PhraseError) (e : PhraseError) → IsErr result × IsErrAnd result (λ y. y ≡ e) → ((x : Bound) (r : List Token) → Fails (B x) j r → Fails (A x) i r) → Refuses B b e j k → Stops A b result i k

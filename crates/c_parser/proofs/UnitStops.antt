@@ -10,16 +10,20 @@ use Rattle.c_syntax.specs.Limits.{deepest}
 use Rattle.c_syntax.specs.Spelling.{SpellsAnyDepth, SpellsUnit}
 use Rattle.c_syntax.proofs.OneUnit.{same_items}
 use Rattle.c_refusals.specs.Fails.{at_end, at_token, Fails}
-use Rattle.c_refusals.specs.Phrases.{Bound, any, within}
+use Rattle.c_refusals.specs.Phrases.{Bound, any}
 use Rattle.c_refusals.specs.Units.{AUnit}
-use Rattle.c_refusals.proofs.UnitFails.{none_spelled, none_within}
+use Rattle.c_refusals.specs.Opens.{DeepUnit}
+use Rattle.c_refusals.proofs.UnitFails.{none_spelled}
 use Rattle.c_phrases.specs.declared.error.PhraseError.{PhraseError}
 use Rattle.c_phrases.specs.declared.error.PhraseError.TheVariants as c
 use Rattle.c_phrases.specs.Refusing.{Refuses}
 use Rattle.c_parser.specs.declared.error.ParseError.{ParseError}
 use Rattle.c_parser.specs.declared.error.ParseError.TheVariants.{OutOfMemory, Syntax, Nesting}
-use Rattle.c_parser.specs.Refused.{end_of, SpellsNoUnit, stops_at, ends_early, SpellsNoneWithin, goes_no_further, is_not_whole, IsRefused, Answers}
+use Rattle.c_parser.specs.Nesting.{PastAt, RefusesPast, OpensAs}
+use Rattle.c_parser.specs.Refused.{end_of, SpellsNoUnit, stops_at, ends_early, IsRefused, Answers}
 use Rattle.c_parser.specs.Refusing.{place_left}
+use Rattle.c_parser.specs.TooDeep.{NestsTooDeep, nests}
+use Rattle.c_parser.proofs.UnitGoesOn.{unit_nests}
 
 no_unit : (tokens rest : List Token) (at : ℕ) → at ≡ place_left tokens rest → Fails (AUnit any) tokens rest → SpellsNoUnit tokens at
 no_unit tokens [] at q f =
@@ -27,24 +31,16 @@ no_unit tokens [] at q f =
     (ends_early (λ u w. none_spelled tokens tokens [] f (sym (append-nil tokens)) [] at_end u (subst (λ z. SpellsAnyDepth u z) (sym (append-nil tokens)) w)))
 no_unit tokens (t ∷ rest) at q f = subst (λ z. SpellsNoUnit tokens z) (sym q) (stops_at f.front t rest f.is (λ others u w. none_spelled tokens f.front (t ∷ rest) f f.is (t ∷ others) at_token u w))
 
-none_at : (mode : Mode) (tokens rest : List Token) → Fails (AUnit (within 500 (deepest mode))) tokens rest → SpellsNoneWithin mode tokens
-none_at mode tokens [] f =
-    is_not_whole (λ u w. none_within 500 (deepest mode) tokens tokens [] f (sym (append-nil tokens)) [] at_end u (subst (λ z. SpellsUnit u z mode) (sym (append-nil tokens)) w).reads w.nested)
-none_at mode tokens (t ∷ rest) f = goes_no_further f.front t rest f.is (λ others u w. none_within 500 (deepest mode) tokens f.front (t ∷ rest) f f.is (t ∷ others) at_token u w.reads w.nested)
-
-none_within_limits : (mode : Mode) (n : ℕ) (tokens rest : List Token) → n ≡ deepest mode → Fails (AUnit (within 500 n)) tokens rest → SpellsNoneWithin mode tokens
-none_within_limits mode n tokens rest q f = none_at mode tokens rest (subst (λ z. Fails (AUnit (within 500 z)) tokens rest) q f)
-
 -- the same of what the items answer
 
 pub refused_as_syntax : (b : Bound) (e : PhraseError) (tokens rest : List Token) (at : ℕ) → e ≡ c.Syntax → at ≡ place_left tokens rest → Refuses AUnit b e tokens rest → SpellsNoUnit tokens at
 refused_as_syntax b e tokens rest at q p f = no_unit tokens rest at p (subst (λ z. Refuses AUnit b z tokens rest) q f)
 
-pub refused_as_nesting : (mode : Mode) (n at : ℕ) (e : PhraseError) (tokens rest : List Token) → e ≡ c.Nesting at → n ≡ deepest mode → Refuses AUnit (within 500 n) e tokens rest → SpellsNoneWithin mode tokens
-refused_as_nesting mode n at e tokens rest q p f = nested (subst (λ z. Refuses AUnit (within 500 n) z tokens rest) q f)
+pub refused_as_nesting : (mode : Mode) (n at : ℕ) (e : PhraseError) (tokens : List Token) → e ≡ c.Nesting at → n ≡ deepest mode → RefusesPast AUnit (OpensAs DeepUnit) (record { nodes = n; pairs = 500 }) e tokens → NestsTooDeep mode tokens at
+refused_as_nesting mode n at e tokens q p f = nested (subst (λ z. RefusesPast AUnit (OpensAs DeepUnit) (record { nodes = n; pairs = 500 }) z tokens) q f)
   where
-    nested : (r : List Token) × Fails (AUnit (within 500 n)) tokens r → SpellsNoneWithin mode tokens
-    nested s = none_within_limits mode n tokens s.0 p s.1
+    nested : PastAt AUnit (OpensAs DeepUnit) (record { nodes = n; pairs = 500 }) at tokens → NestsTooDeep mode tokens at
+    nested s = unit_nests mode n tokens at s.token p s.some s.fails s.deep
 
 -- what is handed on by `?`
 pub refused_by : {T : Type 0} (tokens : List Token) (mode : Mode) (result : Result T ParseError) (e : ParseError) → IsErr result × IsErrAnd result (λ y. y ≡ e) → IsRefused tokens mode e → IfErr result (λ y. IsRefused tokens mode y)
@@ -58,14 +54,13 @@ spelled_after_all : (mode : Mode) (unit : Items) (tokens : List Token) (at : ℕ
 spelled_after_all mode unit tokens _ (stops_at before token after q none) s = none after unit (subst (λ z. SpellsAnyDepth unit z) q (500, s.reads))
 spelled_after_all mode unit tokens _ (ends_early none) s = none unit (500, s.reads)
 
-spelled_within : (mode : Mode) (unit : Items) (tokens : List Token) → SpellsNoneWithin mode tokens → SpellsUnit unit tokens mode → ⊥
-spelled_within mode unit tokens (goes_no_further before token after q none) s = none after unit (subst (λ z. SpellsUnit unit z mode) q s)
-spelled_within mode unit tokens (is_not_whole none) s = none unit s
+spelled_within : (mode : Mode) (unit : Items) (tokens : List Token) (at : ℕ) → NestsTooDeep mode tokens at → SpellsUnit unit tokens mode → ⊥
+spelled_within mode unit tokens at (nests before token after q none others tree reads deep) s = none after unit (subst (λ z. SpellsUnit unit z mode) q s)
 
 no_answer : (tokens : List Token) (mode : Mode) (unit : Items) (e : ParseError) → IsRefused tokens mode e → SpellsUnit unit tokens mode → Answers unit (Err e)
 no_answer tokens mode unit OutOfMemory p s = tt
 no_answer tokens mode unit (Syntax at) p s = spelled_after_all mode unit tokens at p s
-no_answer tokens mode unit (Nesting at) p s = spelled_within mode unit tokens p s
+no_answer tokens mode unit (Nesting at) p s = spelled_within mode unit tokens at p s
 
 -- what is refused was not spelled
 pub answers_by : (tokens : List Token) (mode : Mode) (unit : Items) (result : Result UnitTree ParseError) (e : ParseError) → IsErr result × IsErrAnd result (λ y. y ≡ e) → IsRefused tokens mode e → SpellsUnit unit tokens mode → Answers unit result

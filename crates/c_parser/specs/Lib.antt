@@ -4,3 +4,5 @@ pub mod Parsed
 pub mod Refused
 pub mod Refusing
 pub mod Starting
+pub mod Nesting
+pub mod TooDeep

@@ -5,10 +5,11 @@ use Rattle.dm_base.specs.declared.mode.Mode.{Mode}
 use Rattle.c_lexer.specs.declared.token.Token.{Token}
 use Rattle.c_syntax.specs.declared.unit.Unit.{Unit as UnitTree}
 use Rattle.c_syntax.specs.Tree.{Items}
-use Rattle.c_syntax.specs.Spelling.{SpellsAnyDepth, SpellsUnit}
+use Rattle.c_syntax.specs.Spelling.{SpellsAnyDepth}
 use Rattle.c_syntax.specs.UnitView.{items_of}
 use Rattle.c_parser.specs.declared.error.ParseError.{ParseError}
 use Rattle.c_parser.specs.declared.error.ParseError.TheVariants.{OutOfMemory, Syntax, Nesting}
+use Rattle.c_parser.specs.TooDeep.{NestsTooDeep}
 
 -- where the last of the tokens ends, or the place where there is none
 abbrev pub end_of : ℕ → List Token → ℕ
@@ -22,17 +23,11 @@ pub data SpellsNoUnit (tokens : List Token) : ℕ → Type 0 where
   stops_at : (before : List Token) (token : Token) (after : List Token) → tokens ≡ before ++ token ∷ after → ((others : List Token) (unit : Items) → SpellsAnyDepth unit (before ++ token ∷ others) → ⊥) → SpellsNoUnit tokens token.from
   ends_early : ((unit : Items) → SpellsAnyDepth unit tokens → ⊥) → SpellsNoUnit tokens (end_of 0 tokens)
 
--- The tokens spell no unit within the limits of the mode. Either this shows at some token: no list of tokens that begins with those
--- through this one spells such a unit. Or the tokens themselves spell none.
-pub data SpellsNoneWithin (mode : Mode) (tokens : List Token) : Type 0 where
-  goes_no_further : (before : List Token) (token : Token) (after : List Token) → tokens ≡ before ++ token ∷ after → ((others : List Token) (unit : Items) → SpellsUnit unit (before ++ token ∷ others) mode → ⊥) → SpellsNoneWithin mode tokens
-  is_not_whole : ((unit : Items) → SpellsUnit unit tokens mode → ⊥) → SpellsNoneWithin mode tokens
-
 -- what each error says of the tokens
 abbrev pub IsRefused : List Token → Mode → ParseError → Type 0
 IsRefused tokens mode OutOfMemory = Unit {0}
 IsRefused tokens mode (Syntax place) = SpellsNoUnit tokens place
-IsRefused tokens mode (Nesting place) = SpellsNoneWithin mode tokens
+IsRefused tokens mode (Nesting place) = NestsTooDeep mode tokens place
 
 -- the unit is what is answered, or memory was refused
 abbrev pub Answers : Items → Result UnitTree ParseError → Type 0

@@ -11,6 +11,9 @@ ghost use Rattle.c_refusals.specs.Declarations.{PartsTail, PartsEnd};
 ghost use Rattle.c_refusals.specs.Items.{AnOther};
 ghost use Rattle.c_phrases.specs.Refusing.{bound_of, Stops};
 ghost use Rattle.c_parser.specs.Refusing.{AfterStorage};
+ghost use Rattle.c_refusals.specs.Opens.{DeepDecl};
+ghost use Rattle.c_phrases.specs.Looking.{IsAtSpecifier};
+ghost use Rattle.c_parser.specs.Nesting.{Passes, OpensAs, OpensParts, OpensInitialiser};
 
 use crate::starts::sure_to_be_deep;
 use c_lexer::keyword::{EXTERN, STATIC};
@@ -22,9 +25,11 @@ use std::alloc::Global;
 /// Reads a declaration without a storage class, as in a block (C99 6.7). Its declarators are nodes, so a misfit
 /// after its first token is one of nesting where there is no room for them.
 pub fn declaration(cursor: &mut Cursor<'_>, alloc: Global, room: Room) -> Result<Decl, PhraseError>
+    requires { IsAtSpecifier cursor.now.rest.now }
     ensures reads { IfOk result (λ x. HasPlainDecl room (decl_of x) cursor.old.rest.now cursor.new.rest.now) }
     ensures shorter { OnOk result (length cursor.new.rest.now < length cursor.old.rest.now) }
     ensures stops { Stops APlainDecl (bound_of room) result cursor.old.rest.now cursor.new.rest.now }
+    ensures nests { Passes APlainDecl (OpensAs DeepDecl) room result cursor.old.rest.now }
 {
     match plain_declaration(cursor, alloc, room) {
         Ok(decl) => Ok(decl),
@@ -45,6 +50,7 @@ fn plain_declaration(
     ensures reads { IfOk result (λ x. HasPlainDecl room (decl_of x) cursor.old.rest.now cursor.new.rest.now) }
     ensures shorter { OnOk result (length cursor.new.rest.now < length cursor.old.rest.now) }
     ensures stops { Stops APlainDecl (bound_of room) result cursor.old.rest.now cursor.new.rest.now }
+    ensures nests { Passes APlainDecl (OpensAs DeepDecl) room result cursor.old.rest.now }
 {
     let at = cursor.place();
     let spec = cursor.specifiers(alloc)?;
@@ -68,6 +74,7 @@ pub fn parts(
     ensures reads { (start : List Token) → HasDeclarator room (declarator_of first) start cursor.old.rest.now → IfOk result (λ ps. HasParts room ps.items start cursor.new.rest.now) }
     ensures shorter { OnOk result (length cursor.new.rest.now < length cursor.old.rest.now) }
     ensures stops { Stops PartsTail (bound_of room) result cursor.old.rest.now cursor.new.rest.now }
+    ensures nests { Passes PartsTail (OpensParts room (declarator_of first)) room result cursor.old.rest.now }
 {
     let mut parts = Vec::new(alloc);
     let init = maybe_initialiser(cursor, alloc, room)?;
@@ -93,6 +100,7 @@ fn maybe_initialiser(
 ) -> Result<Option<Init>, PhraseError>
     ensures reads { IfOk result (λ v. HasMaybeInit room (maybe_init_of v) cursor.old.rest.now cursor.new.rest.now) }
     ensures stops { Stops PartsTail (bound_of room) result cursor.old.rest.now cursor.new.rest.now }
+    ensures nests { Passes PartsTail OpensInitialiser room result cursor.old.rest.now }
     ensures leads { OnOk result ((x : Bound) (r : List Token) → Fails (PartsEnd x) cursor.new.rest.now r → Fails (PartsTail x) cursor.old.rest.now r) }
 {
     if !cursor.take(ASSIGN) {

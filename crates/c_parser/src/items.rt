@@ -1,8 +1,8 @@
-ghost use Rattle.std.specs.Prelude.{◌<◌, ◌∷◌, IfOk, OnOk, List, length};
+ghost use Rattle.std.specs.Prelude.{◌<◌, ◌∷◌, IfOk, OnOk, List, length, ◌≡◌, ℕ};
 ghost use Rattle.c_lexer.specs.declared.token.Token.{Token};
 ghost use Rattle.c_lexer.specs.declared.keyword.TheConstants.{ENUM as enum_word};
-ghost use Rattle.c_lexer.specs.declared.punctuator.TheConstants.{LEFT_BRACE as opening, SEMICOLON as ending};
-ghost use Rattle.c_syntax.specs.Tokens.{IsKeyword};
+ghost use Rattle.c_lexer.specs.declared.punctuator.TheConstants.{COMMA as comma, LEFT_BRACE as opening, SEMICOLON as ending};
+ghost use Rattle.c_syntax.specs.Tokens.{Is, IsKeyword};
 ghost use Rattle.c_syntax.specs.UnitView.{item_at, maybe_of, tag_of};
 ghost use Rattle.c_syntax.specs.Statements.{ReadsTag};
 ghost use Rattle.c_refusals.specs.Fails.{Fails};
@@ -14,6 +14,9 @@ ghost use Rattle.c_phrases.specs.Standing.{IsAt};
 ghost use Rattle.c_phrases.specs.Refusing.{bound_of, Stops};
 ghost use Rattle.c_parser.specs.Starting.{BeginsTagged, BeginsEnum};
 ghost use Rattle.c_parser.specs.Parsed.{HasItem, HasMembers, HasMember, HasDeclarators, HasEnumerators, HasEnumerator, HasEnumeratorValue, AreItems};
+ghost use Rattle.c_refusals.specs.Opens.{Opens, DeepUnit, DeepItem};
+ghost use Rattle.c_openings.specs.Deep.{DeepMembers, DeepDeclarators, DeepEnumerators};
+ghost use Rattle.c_parser.specs.Nesting.{Passes, OpensAs, OpensValue};
 
 use crate::declarations::{parts, storage};
 use crate::starts::{ItemStart, item_start};
@@ -30,6 +33,7 @@ pub fn items(cursor: &mut Cursor<'_>, alloc: Global, room: Room) -> Result<Vec<I
     ensures reads { IfOk result (λ xs. AreItems room xs.items cursor.old.rest.now cursor.new.rest.now) }
     ensures whole { OnOk result (length cursor.new.rest.now < 1) }
     ensures stops { Stops AUnit (bound_of room) result cursor.old.rest.now cursor.new.rest.now }
+    ensures nests { Passes AUnit (OpensAs DeepUnit) room result cursor.old.rest.now }
 {
     let mut items = Vec::new(alloc);
     let first = item(cursor, alloc, room)?;
@@ -46,6 +50,7 @@ fn item(cursor: &mut Cursor<'_>, alloc: Global, room: Room) -> Result<Item, Phra
     ensures reads { IfOk result (λ x. HasItem room (item_at x.at x.kind) cursor.old.rest.now cursor.new.rest.now) }
     ensures shorter { OnOk result (length cursor.new.rest.now < length cursor.old.rest.now) }
     ensures stops { Stops AnItem (bound_of room) result cursor.old.rest.now cursor.new.rest.now }
+    ensures nests { Passes AnItem (OpensAs DeepItem) room result cursor.old.rest.now }
 {
     match item_start(cursor) {
         ItemStart::Struct => struct_item(cursor, alloc, room),
@@ -61,6 +66,7 @@ fn struct_item(cursor: &mut Cursor<'_>, alloc: Global, room: Room) -> Result<Ite
     ensures reads { IfOk result (λ x. HasItem room (item_at x.at x.kind) cursor.old.rest.now cursor.new.rest.now) }
     ensures shorter { OnOk result (length cursor.new.rest.now < length cursor.old.rest.now) }
     ensures stops { Stops AnItem (bound_of room) result cursor.old.rest.now cursor.new.rest.now }
+    ensures nests { Passes AnItem (OpensAs DeepItem) room result cursor.old.rest.now }
 {
     let at = cursor.place();
     if !cursor.take_keyword(STRUCT) {
@@ -85,6 +91,7 @@ fn members(cursor: &mut Cursor<'_>, alloc: Global, room: Room) -> Result<Vec<Mem
     ensures reads { IfOk result (λ xs. HasMembers room xs.items cursor.old.rest.now cursor.new.rest.now) }
     ensures shorter { OnOk result (length cursor.new.rest.now < length cursor.old.rest.now) }
     ensures stops { Stops InStruct (bound_of room) result cursor.old.rest.now cursor.new.rest.now }
+    ensures nests { Passes InStruct (OpensAs DeepMembers) room result cursor.old.rest.now }
     ensures leads { OnOk result ((x : Bound) (r : List Token) → Fails (Punctuator ending) cursor.new.rest.now r → Fails (InStruct x) cursor.old.rest.now r) }
 {
     let mut members = Vec::new(alloc);
@@ -101,6 +108,8 @@ fn member(cursor: &mut Cursor<'_>, alloc: Global, room: Room) -> Result<Member, 
     ensures reads { IfOk result (λ x. HasMember room x cursor.old.rest.now cursor.new.rest.now) }
     ensures shorter { OnOk result (length cursor.new.rest.now < length cursor.old.rest.now) }
     ensures stops { Stops AMember (bound_of room) result cursor.old.rest.now cursor.new.rest.now }
+    ensures nests { Passes AMember (OpensAs DeepMembers) room result cursor.old.rest.now }
+    ensures opens { OnOk result ((at n : ℕ) (q : List Token) → Opens (DeepMembers at room.pairs n) cursor.new.rest.now q → Opens (DeepMembers at room.pairs n) cursor.old.rest.now q) }
     ensures stands { OnOk result (AMember any cursor.old.rest.now cursor.new.rest.now) }
 {
     let at = cursor.place();
@@ -122,6 +131,7 @@ fn declarators(
     ensures reads { IfOk result (λ xs. HasDeclarators room xs.items cursor.old.rest.now cursor.new.rest.now) }
     ensures shorter { OnOk result (length cursor.new.rest.now < length cursor.old.rest.now) }
     ensures stops { Stops DeclaratorsClosed (bound_of room) result cursor.old.rest.now cursor.new.rest.now }
+    ensures nests { Passes DeclaratorsClosed (OpensAs DeepDeclarators) room result cursor.old.rest.now }
 {
     let mut declarators = Vec::new(alloc);
     let first = cursor.declarator(alloc, room)?;
@@ -142,6 +152,7 @@ fn tag_item(cursor: &mut Cursor<'_>, alloc: Global) -> Result<Item, PhraseError>
     ensures reads { (room : Room) → IfOk result (λ x. HasItem room (item_at x.at x.kind) cursor.old.rest.now cursor.new.rest.now) }
     ensures shorter { OnOk result (length cursor.new.rest.now < length cursor.old.rest.now) }
     ensures stops { (b : Bound) → Stops AnItem b result cursor.old.rest.now cursor.new.rest.now }
+    ensures nests { (room : Room) → Passes AnItem (OpensAs DeepItem) room result cursor.old.rest.now }
 {
     let at = cursor.place();
     if !cursor.take_keyword(STRUCT) {
@@ -163,6 +174,7 @@ fn enum_item(cursor: &mut Cursor<'_>, alloc: Global, room: Room) -> Result<Item,
     ensures reads { IfOk result (λ x. HasItem room (item_at x.at x.kind) cursor.old.rest.now cursor.new.rest.now) }
     ensures shorter { OnOk result (length cursor.new.rest.now < length cursor.old.rest.now) }
     ensures stops { Stops AnItem (bound_of room) result cursor.old.rest.now cursor.new.rest.now }
+    ensures nests { Passes AnItem (OpensAs DeepItem) room result cursor.old.rest.now }
 {
     let at = cursor.place();
     if !cursor.take_keyword(ENUM) {
@@ -185,6 +197,7 @@ fn enum_item(cursor: &mut Cursor<'_>, alloc: Global, room: Room) -> Result<Item,
 fn maybe_tag(cursor: &mut Cursor<'_>, alloc: Global) -> Result<Option<Ident>, PhraseError>
     ensures reads { IfOk result (λ g. ReadsTag (tag_of g) cursor.old.rest.now cursor.new.rest.now) }
     ensures stops { (b : Bound) (t : Token) → IsKeyword enum_word t → Stops AnItem b result (t ∷ cursor.old.rest.now) cursor.new.rest.now }
+    ensures nests { (room : Room) (t : Token) → Passes AnItem (OpensAs DeepItem) room result (t ∷ cursor.old.rest.now) }
     ensures braced { OnOk result ((t : Token) → BeginsEnum (t ∷ cursor.old.rest.now) → IsAt opening cursor.new.rest.now) }
 {
     if cursor.is_at(LEFT_BRACE) {
@@ -203,6 +216,7 @@ fn enumerators(
     ensures reads { IfOk result (λ xs. HasEnumerators room xs.items cursor.old.rest.now cursor.new.rest.now) }
     ensures shorter { OnOk result (length cursor.new.rest.now < length cursor.old.rest.now) }
     ensures stops { Stops InEnum (bound_of room) result cursor.old.rest.now cursor.new.rest.now }
+    ensures nests { Passes InEnum (OpensAs DeepEnumerators) room result cursor.old.rest.now }
     ensures leads { OnOk result ((x : Bound) (r : List Token) → Fails (Punctuator ending) cursor.new.rest.now r → Fails (InEnum x) cursor.old.rest.now r) }
 {
     let mut list = Vec::new(alloc);
@@ -225,6 +239,8 @@ fn enumerator(cursor: &mut Cursor<'_>, alloc: Global, room: Room) -> Result<Enum
     ensures reads { IfOk result (λ x. HasEnumerator room x cursor.old.rest.now cursor.new.rest.now) }
     ensures shorter { OnOk result (length cursor.new.rest.now < length cursor.old.rest.now) }
     ensures stops { Stops InEnum (bound_of room) result cursor.old.rest.now cursor.new.rest.now }
+    ensures nests { Passes InEnum (OpensAs DeepEnumerators) room result cursor.old.rest.now }
+    ensures opens { OnOk result ((at n : ℕ) (t : Token) (m q : List Token) → cursor.new.rest.now ≡ t ∷ m → Is comma t → Opens (DeepEnumerators at room.pairs n) m q → Opens (DeepEnumerators at room.pairs n) cursor.old.rest.now q) }
     ensures leads { OnOk result ((x : Bound) (r : List Token) → Fails (EnumEnd x) cursor.new.rest.now r → Fails (InEnum x) cursor.old.rest.now r) }
 {
     let name = cursor.name(alloc)?;
@@ -239,6 +255,7 @@ fn enumerator_value(
 ) -> Result<Option<Expr>, PhraseError>
     ensures reads { IfOk result (λ e. HasEnumeratorValue room (maybe_of e) cursor.old.rest.now cursor.new.rest.now) }
     ensures stops { Stops ValueRest (bound_of room) result cursor.old.rest.now cursor.new.rest.now }
+    ensures nests { Passes ValueRest OpensValue room result cursor.old.rest.now }
     ensures leads { OnOk result ((x : Bound) (r : List Token) → Fails (EnumEnd x) cursor.new.rest.now r → Fails (ValueRest x) cursor.old.rest.now r) }
 {
     if !cursor.take(ASSIGN) {
@@ -254,6 +271,7 @@ fn other_item(cursor: &mut Cursor<'_>, alloc: Global, room: Room) -> Result<Item
     ensures reads { IfOk result (λ x. HasItem room (item_at x.at x.kind) cursor.old.rest.now cursor.new.rest.now) }
     ensures shorter { OnOk result (length cursor.new.rest.now < length cursor.old.rest.now) }
     ensures stops { Stops AnOther (bound_of room) result cursor.old.rest.now cursor.new.rest.now }
+    ensures nests { Passes AnOther (OpensAs DeepItem) room result cursor.old.rest.now }
 {
     let at = cursor.place();
     let storage = storage(cursor);

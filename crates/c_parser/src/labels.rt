@@ -1,4 +1,4 @@
-ghost use Rattle.std.specs.Prelude.{◌<◌, ◌↔◌, IfOk, OnOk, IsTrue, List, length};
+ghost use Rattle.std.specs.Prelude.{◌<◌, ◌↔◌, IfOk, OnOk, IsTrue, List, length, ℕ};
 ghost use Rattle.c_parser.specs.Parsed.{HasLabel, AreLabels};
 ghost use Rattle.c_lexer.specs.declared.token.Token.{Token};
 ghost use Rattle.c_refusals.specs.Fails.{Fails};
@@ -6,6 +6,9 @@ ghost use Rattle.c_refusals.specs.Phrases.{Bound, SomeLabels};
 ghost use Rattle.c_refusals.specs.Labels.{LabelsRest};
 ghost use Rattle.c_parser.specs.Starting.{IsAtLabel};
 ghost use Rattle.c_phrases.specs.Refusing.{bound_of, Stops};
+ghost use Rattle.c_refusals.specs.Opens.{Opens};
+ghost use Rattle.c_openings.specs.Deep.{DeepLabels};
+ghost use Rattle.c_parser.specs.Nesting.{Passes, OpensAs};
 
 use c_lexer::keyword::{CASE, DEFAULT};
 use c_lexer::punctuator::COLON;
@@ -18,6 +21,7 @@ pub fn labels(cursor: &mut Cursor<'_>, alloc: Global, room: Room) -> Result<Vec<
     ensures reads { IfOk result (λ xs. AreLabels room xs.items cursor.old.rest.now cursor.new.rest.now) }
     ensures shorter { OnOk result (length cursor.new.rest.now < length cursor.old.rest.now) }
     ensures stops { Stops SomeLabels (bound_of room) result cursor.old.rest.now cursor.new.rest.now }
+    ensures nests { Passes SomeLabels (OpensAs DeepLabels) room result cursor.old.rest.now }
     ensures leads { OnOk result ((x : Bound) (r : List Token) → Fails (LabelsRest x) cursor.new.rest.now r → Fails (SomeLabels x) cursor.old.rest.now r) }
     ensures ended { OnOk result (IsAtLabel cursor.new.rest.now → ⊥) }
 {
@@ -42,6 +46,8 @@ fn label(cursor: &mut Cursor<'_>, alloc: Global, room: Room) -> Result<Label, Ph
     ensures reads { IfOk result (λ x. HasLabel room x cursor.old.rest.now cursor.new.rest.now) }
     ensures shorter { OnOk result (length cursor.new.rest.now < length cursor.old.rest.now) }
     ensures stops { Stops SomeLabels (bound_of room) result cursor.old.rest.now cursor.new.rest.now }
+    ensures nests { Passes SomeLabels (OpensAs DeepLabels) room result cursor.old.rest.now }
+    ensures opens { OnOk result ((at n : ℕ) (q : List Token) → Opens (DeepLabels at room.pairs n) cursor.new.rest.now q → Opens (DeepLabels at room.pairs n) cursor.old.rest.now q) }
     ensures leads { OnOk result ((x : Bound) (r : List Token) → Fails (LabelsRest x) cursor.new.rest.now r → Fails (SomeLabels x) cursor.old.rest.now r) }
 {
     let at = cursor.place();

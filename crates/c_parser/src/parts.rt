@@ -4,6 +4,8 @@ ghost use Rattle.c_syntax.specs.UnitView.{maybe_of};
 ghost use Rattle.c_parser.specs.Parsed.{HasCondition, HasMaybe};
 ghost use Rattle.c_phrases.specs.Refusing.{bound_of, Stops};
 ghost use Rattle.c_parser.specs.Refusing.{ACondition, ABefore};
+ghost use Rattle.c_syntax.specs.Grammar.{expression_level};
+ghost use Rattle.c_parser.specs.Nesting.{Passes, OpensInside, OpensExpr};
 
 use c_lexer::punctuator::{LEFT_PARENTHESIS, RIGHT_PARENTHESIS};
 use c_phrases::{Cursor, PhraseError, Room};
@@ -15,6 +17,7 @@ pub fn condition(cursor: &mut Cursor<'_>, alloc: Global, room: Room) -> Result<E
     ensures reads { IfOk result (λ e. HasCondition room (expr_of e) cursor.old.rest.now cursor.new.rest.now) }
     ensures shorter { OnOk result (length cursor.new.rest.now < length cursor.old.rest.now) }
     ensures stops { Stops ACondition (bound_of room) result cursor.old.rest.now cursor.new.rest.now }
+    ensures nests { Passes ACondition OpensInside room result cursor.old.rest.now }
 {
     if !cursor.take(LEFT_PARENTHESIS) {
         return Err(PhraseError::Syntax);
@@ -36,6 +39,7 @@ pub fn expression_before(
     ensures reads { IfOk result (λ e. HasMaybe room end (maybe_of e) cursor.old.rest.now cursor.new.rest.now) }
     ensures shorter { OnOk result (length cursor.new.rest.now < length cursor.old.rest.now) }
     ensures stops { Stops (ABefore end) (bound_of room) result cursor.old.rest.now cursor.new.rest.now }
+    ensures nests { Passes (ABefore end) (OpensExpr expression_level) room result cursor.old.rest.now }
 {
     if cursor.take(end) {
         return Ok(None);

@@ -7,6 +7,9 @@ ghost use Rattle.c_refusals.specs.Phrases.{AStmt, within};
 ghost use Rattle.c_phrases.specs.Standing.{IsAt};
 ghost use Rattle.c_phrases.specs.Refusing.{Refuses};
 ghost use Rattle.c_parser.specs.Refusing.{KeepsOrNests};
+ghost use Rattle.c_phrases.specs.declared.room.Room.{Room};
+ghost use Rattle.c_refusals.specs.Opens.{DeepStmt};
+ghost use Rattle.c_parser.specs.Nesting.{RefusesPast, OpensAs};
 ghost use Rattle.c_parser.specs.Starting.{StartsCompound, StartsItem, BeginsTagged, BeginsEnum};
 
 use c_lexer::TokenKind;
@@ -121,7 +124,8 @@ fn first_head(cursor: &Cursor<'_>) -> u8
 
 /// The error of a statement for which there is no room.
 pub fn no_room(cursor: &Cursor<'_>) -> PhraseError
-    ensures { (p : ℕ) → Refuses AStmt (within p 0) result cursor.now.rest.now cursor.now.rest.now }
+    ensures refuses { (p : ℕ) → Refuses AStmt (within p 0) result cursor.now.rest.now cursor.now.rest.now }
+    ensures nests { (room : Room) → room.nodes ≡ 0 → RefusesPast AStmt (OpensAs DeepStmt) room result cursor.now.rest.now }
 {
     if first_head(cursor) < 20 {
         return PhraseError::Syntax;

@@ -1,4 +1,4 @@
-ghost use Rattle.std.specs.Prelude.{◌≡◌, ◌≤◌, ◌<◌, ◌↔◌, ◌∷◌, IfOk, OnOk, IsTrue, List, drop, length};
+ghost use Rattle.std.specs.Prelude.{◌≡◌, ◌≤◌, ◌<◌, ◌↔◌, ◌∷◌, IfOk, OnOk, IsTrue, List, drop, length, ℕ};
 ghost use Rattle.c_lexer.specs.declared.token.Token.{Token};
 ghost use Rattle.c_lexer.specs.declared.keyword.TheConstants.{BREAK as break_word, CONTINUE as continue_word, DO as do_word, FOR as for_word, IF as if_word, RETURN as return_word, SWITCH as switch_word, WHILE as while_word};
 ghost use Rattle.c_lexer.specs.declared.punctuator.TheConstants.{LEFT_BRACE as opening};
@@ -14,6 +14,9 @@ ghost use Rattle.c_refusals.specs.Phrases.{Bound, inner, AStmt, ABlockItem, InBl
 ghost use Rattle.c_refusals.specs.Groups.{InGroup, GroupRest};
 ghost use Rattle.c_phrases.specs.Refusing.{bound_of, Stops};
 ghost use Rattle.c_parser.specs.Refusing.{AHead};
+ghost use Rattle.c_refusals.specs.Opens.{Opens, DeepStmt, DeepBlock};
+ghost use Rattle.c_openings.specs.Deep.{DeepStmts, DeepGroups};
+ghost use Rattle.c_parser.specs.Nesting.{Passes, OpensAs, OpensAfter, OpensInHead, OpensInBlock};
 
 use crate::declarations::declaration;
 use crate::labels::{is_at_label, labels};
@@ -41,6 +44,7 @@ pub fn statement(
     ensures reads { IfOk result (λ s. HasStmt room (stmt_of s.value) cursor.old.rest.now cursor.new.rest.now) }
     ensures shorter { OnOk result (length cursor.new.rest.now < length cursor.old.rest.now) }
     ensures stops { Stops AStmt (bound_of room) result cursor.old.rest.now cursor.new.rest.now }
+    ensures nests { Passes AStmt (OpensAs DeepStmt) room result cursor.old.rest.now }
 {
     if room.nodes == 0 {
         return Err(no_room(cursor));
@@ -78,6 +82,7 @@ fn compound(
     ensures reads { IfOk result (λ s. HasStmt room (stmt_of s.value) cursor.old.rest.now cursor.new.rest.now) }
     ensures shorter { OnOk result (length cursor.new.rest.now < length cursor.old.rest.now) }
     ensures stops { Stops AStmt (bound_of room) result cursor.old.rest.now cursor.new.rest.now }
+    ensures nests { Passes AStmt (OpensAs DeepStmt) room result cursor.old.rest.now }
 {
     let at = cursor.place();
     let inside = room.in_node();
@@ -115,6 +120,7 @@ pub fn block(cursor: &mut Cursor<'_>, alloc: Global, room: Room) -> Result<Box<S
     ensures reads { IfOk result (λ s. HasBlock room (stmt_of s.value) cursor.old.rest.now cursor.new.rest.now) }
     ensures shorter { OnOk result (length cursor.new.rest.now < length cursor.old.rest.now) }
     ensures stops { Stops InBlock (inner (bound_of room)) result (drop 1 cursor.old.rest.now) cursor.new.rest.now }
+    ensures nests { Passes (λ b. InBlock (inner b)) OpensInBlock room result (drop 1 cursor.old.rest.now) }
 {
     let at = cursor.place();
     let inside = room.in_node();
@@ -138,6 +144,8 @@ fn block_item(
     ensures reads { IfOk result (λ _. AddsBlockItem room items.old.items items.new.items cursor.old.rest.now cursor.new.rest.now) }
     ensures shorter { OnOk result (length cursor.new.rest.now < length cursor.old.rest.now) }
     ensures stops { Stops ABlockItem (bound_of room) result cursor.old.rest.now cursor.new.rest.now }
+    ensures nests { Passes ABlockItem (OpensAs DeepBlock) room result cursor.old.rest.now }
+    ensures opens { OnOk result ((at n : ℕ) (q : List Token) → Opens (DeepBlock at room.pairs n) cursor.new.rest.now q → Opens (DeepBlock at room.pairs n) cursor.old.rest.now q) }
 {
     if cursor.is_at_specifier() {
         block_declaration(cursor, alloc, room, items)?;
@@ -159,6 +167,7 @@ fn if_statement(
     ensures reads { (t : Token) → IsKeyword if_word t → at ≡ t.from → IfOk result (λ s. HasNode room (stmt_of s.value) (t ∷ cursor.old.rest.now) cursor.new.rest.now) }
     ensures shorter { OnOk result (length cursor.new.rest.now < length cursor.old.rest.now) }
     ensures stops { Stops IfTail (bound_of room) result cursor.old.rest.now cursor.new.rest.now }
+    ensures nests { Passes IfTail (OpensAfter if_word) room result cursor.old.rest.now }
 {
     let test = condition(cursor, alloc, room)?;
     let yes = statement(cursor, alloc, room)?;
@@ -182,6 +191,7 @@ fn while_statement(
     ensures reads { (t : Token) → IsKeyword while_word t → at ≡ t.from → IfOk result (λ s. HasNode room (stmt_of s.value) (t ∷ cursor.old.rest.now) cursor.new.rest.now) }
     ensures shorter { OnOk result (length cursor.new.rest.now < length cursor.old.rest.now) }
     ensures stops { Stops WhileTail (bound_of room) result cursor.old.rest.now cursor.new.rest.now }
+    ensures nests { Passes WhileTail (OpensAfter while_word) room result cursor.old.rest.now }
 {
     let test = condition(cursor, alloc, room)?;
     let body = statement(cursor, alloc, room)?;
@@ -200,6 +210,7 @@ fn do_statement(
     ensures reads { (t : Token) → IsKeyword do_word t → at ≡ t.from → IfOk result (λ s. HasNode room (stmt_of s.value) (t ∷ cursor.old.rest.now) cursor.new.rest.now) }
     ensures shorter { OnOk result (length cursor.new.rest.now < length cursor.old.rest.now) }
     ensures stops { Stops DoTail (bound_of room) result cursor.old.rest.now cursor.new.rest.now }
+    ensures nests { Passes DoTail (OpensAfter do_word) room result cursor.old.rest.now }
 {
     let body = statement(cursor, alloc, room)?;
     if !cursor.take_keyword(WHILE) {
@@ -224,6 +235,7 @@ fn for_statement(
     ensures reads { (t : Token) → IsKeyword for_word t → at ≡ t.from → IfOk result (λ s. HasNode room (stmt_of s.value) (t ∷ cursor.old.rest.now) cursor.new.rest.now) }
     ensures shorter { OnOk result (length cursor.new.rest.now < length cursor.old.rest.now) }
     ensures stops { Stops ForTail (bound_of room) result cursor.old.rest.now cursor.new.rest.now }
+    ensures nests { Passes ForTail (OpensAfter for_word) room result cursor.old.rest.now }
 {
     let head = for_head(cursor, alloc, room)?;
     let body = statement(cursor, alloc, room)?;
@@ -236,6 +248,7 @@ fn for_head(cursor: &mut Cursor<'_>, alloc: Global, room: Room) -> Result<Box<Fo
     ensures reads { IfOk result (λ h. HasHead room h.value cursor.old.rest.now cursor.new.rest.now) }
     ensures shorter { OnOk result (length cursor.new.rest.now < length cursor.old.rest.now) }
     ensures stops { Stops AHead (bound_of room) result cursor.old.rest.now cursor.new.rest.now }
+    ensures nests { Passes AHead (OpensAfter for_word) room result cursor.old.rest.now }
 {
     if !cursor.take(LEFT_PARENTHESIS) {
         return Err(PhraseError::Syntax);
@@ -253,6 +266,7 @@ fn for_first(cursor: &mut Cursor<'_>, alloc: Global, room: Room) -> Result<ForFi
     ensures reads { IfOk result (λ x. HasFirst room (first_of_head x) cursor.old.rest.now cursor.new.rest.now) }
     ensures shorter { OnOk result (length cursor.new.rest.now < length cursor.old.rest.now) }
     ensures stops { Stops AFirst (bound_of room) result cursor.old.rest.now cursor.new.rest.now }
+    ensures nests { Passes AFirst OpensInHead room result cursor.old.rest.now }
 {
     if cursor.take(SEMICOLON) {
         return Ok(ForFirst::Absent);
@@ -279,6 +293,7 @@ fn switch_statement(
     ensures reads { (t : Token) → IsKeyword switch_word t → at ≡ t.from → IfOk result (λ s. HasNode room (stmt_of s.value) (t ∷ cursor.old.rest.now) cursor.new.rest.now) }
     ensures shorter { OnOk result (length cursor.new.rest.now < length cursor.old.rest.now) }
     ensures stops { Stops SwitchTail (bound_of room) result cursor.old.rest.now cursor.new.rest.now }
+    ensures nests { Passes SwitchTail (OpensAfter switch_word) room result cursor.old.rest.now }
 {
     let on = condition(cursor, alloc, room)?;
     if !cursor.take(LEFT_BRACE) {
@@ -295,6 +310,7 @@ fn groups(cursor: &mut Cursor<'_>, alloc: Global, room: Room) -> Result<Vec<Grou
     ensures reads { IfOk result (λ xs. HasGroups room xs.items cursor.old.rest.now cursor.new.rest.now) }
     ensures shorter { OnOk result (length cursor.new.rest.now < length cursor.old.rest.now) }
     ensures stops { Stops InSwitch (bound_of room) result cursor.old.rest.now cursor.new.rest.now }
+    ensures nests { Passes InSwitch (OpensAs DeepGroups) room result cursor.old.rest.now }
 {
     let mut groups = Vec::new(alloc);
     'next: while !cursor.take(RIGHT_BRACE) {
@@ -311,6 +327,7 @@ fn statements(cursor: &mut Cursor<'_>, alloc: Global, room: Room) -> Result<Vec<
     ensures reads { IfOk result (λ xs. AreStmts room xs.items cursor.old.rest.now cursor.new.rest.now) }
     ensures shorter { OnOk result (length cursor.new.rest.now < length cursor.old.rest.now) }
     ensures stops { Stops InGroup (bound_of room) result cursor.old.rest.now cursor.new.rest.now }
+    ensures nests { Passes InGroup (OpensAs DeepStmts) room result cursor.old.rest.now }
     ensures begins { OnOk result (20 ≤ head cursor.old.rest.now) }
     ensures leads { OnOk result ((x : Bound) (r : List Token) → Fails (GroupRest x) cursor.new.rest.now r → Fails (InGroup x) cursor.old.rest.now r) }
     ensures ends { OnOk result (head cursor.new.rest.now ≤ 12) }
@@ -339,6 +356,7 @@ fn simple(cursor: &mut Cursor<'_>, alloc: Global, room: Room) -> Result<Box<Stmt
     ensures reads { IfOk result (λ s. HasStmt room (stmt_of s.value) cursor.old.rest.now cursor.new.rest.now) }
     ensures shorter { OnOk result (length cursor.new.rest.now < length cursor.old.rest.now) }
     ensures stops { Stops AStmt (bound_of room) result cursor.old.rest.now cursor.new.rest.now }
+    ensures nests { Passes AStmt (OpensAs DeepStmt) room result cursor.old.rest.now }
 {
     let at = cursor.place();
     let inside = room.in_node();
@@ -384,6 +402,8 @@ fn block_declaration(
     ensures reads { IfOk result (λ _. AddsBlockItem room items.old.items items.new.items cursor.old.rest.now cursor.new.rest.now) }
     ensures shorter { OnOk result (length cursor.new.rest.now < length cursor.old.rest.now) }
     ensures stops { Stops ABlockItem (bound_of room) result cursor.old.rest.now cursor.new.rest.now }
+    ensures nests { Passes ABlockItem (OpensAs DeepBlock) room result cursor.old.rest.now }
+    ensures opens { OnOk result ((at n : ℕ) (q : List Token) → Opens (DeepBlock at room.pairs n) cursor.new.rest.now q → Opens (DeepBlock at room.pairs n) cursor.old.rest.now q) }
 {
     let declaration = declaration(cursor, alloc, room)?;
     items.push(BlockItem::Declaration(declaration))?;

@@ -6,6 +6,9 @@ use Rattle.c_parser.proofs.DeclStops.{initialiser_fails, initialiser_leads, no_i
 use Rattle.c_refusals.specs.Phrases.{AnInit}
 use Rattle.c_refusals.specs.Declarations.{PartsTail}
 use Rattle.c_phrases.specs.Refusing.{bound_of}
+use Rattle.c_refusals.specs.Opens.{DeepInit}
+use Rattle.c_parser.specs.Nesting.{OpensInitialiser}
+use Rattle.c_parser.proofs.Passing.{passed_deep}
 use Rattle.c_parser.proofs.declarations.maybe_initialiser.Goals as goal
 
 pub returns-then-not-take-clause-reads : goal.returns-then-not-take-clause-reads
@@ -22,3 +25,10 @@ returns-in_err-init-clause-stops c = let o = c.if-not-take.ensures in raised Par
 
 pub returns-clause-leads : goal.returns-clause-leads
 returns-clause-leads c x r f = let o = c.if-not-take.ensures in initialiser_leads x o.2 o.1 c.in_ok-init.ensures.parses f
+
+pub returns-in_err-init-clause-nests : goal.returns-in_err-init-clause-nests
+returns-in_err-init-clause-nests c =
+    let o = c.if-not-take.ensures in
+    passed_deep PartsTail AnInit OpensInitialiser DeepInit c.args.room c.from_residual.result c.in_err-init.field-0.0 c.from_residual.ensures
+    (λ r f. initialiser_fails (bound_of c.args.room) o.2 o.1 f)
+    (λ at q d. record { token = _; rest = _; stood = o.2; assigns = o.1; deep = d }) c.in_err-init.ensures.nests

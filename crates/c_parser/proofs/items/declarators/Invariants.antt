@@ -1,5 +1,9 @@
-use Rattle.std.proofs.Common.{◌<◌, List, length}
+use Rattle.std.proofs.Common.{◌≡◌, ◌<◌, ℕ, List, ◌∷◌, length}
 use Rattle.c_lexer.specs.declared.token.Token.{Token}
+use Rattle.c_refusals.specs.Opens.{Opens}
+use Rattle.c_openings.specs.Deep.{DeepDeclarators}
+use Rattle.c_lexer.specs.declared.punctuator.TheConstants.{COMMA}
+use Rattle.c_syntax.specs.Tokens.{Is}
 use Rattle.c_refusals.specs.Fails.{Fails}
 use Rattle.c_refusals.specs.Phrases.{Bound}
 use Rattle.c_refusals.specs.Items.{DeclaratorsClosed, DeclaratorsEnd}
@@ -11,6 +15,7 @@ abbrev pub invariant-next : goal.invariant-next
 invariant-next l = record {
   goes : Goes (AreDeclarators l.room) (RestAfterComma (AreDeclarators l.room)) l.declarators.items l.fn.cursor.rest.now l.cursor.rest.now;
   leads : (x : Bound) (r : List Token) → Fails (DeclaratorsEnd x) l.cursor.rest.now r → Fails (DeclaratorsClosed x) l.fn.cursor.rest.now r;
+  opens : (at n : ℕ) (t : Token) (m q : List Token) → l.cursor.rest.now ≡ t ∷ m → Is COMMA t → Opens (DeepDeclarators at l.room.pairs n) m q → Opens (DeepDeclarators at l.room.pairs n) l.fn.cursor.rest.now q;
   shorter : length l.cursor.rest.now < length l.fn.cursor.rest.now;
 }
 

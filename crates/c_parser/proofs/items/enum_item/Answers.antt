@@ -6,6 +6,12 @@ use Rattle.c_phrases.specs.Refusing.{bound_of}
 use Rattle.c_refusals.proofs.Combine.{fails_at}
 use Rattle.c_parser.proofs.StmtStops.{raised, ends_at}
 use Rattle.c_parser.proofs.ItemStops.{no_ending, begins_from, enum_leads}
+use Rattle.c_refusals.specs.Opens.{DeepItem}
+use Rattle.c_openings.specs.Deep.{DeepEnumerators}
+use Rattle.c_parser.specs.Nesting.{OpensAs}
+use Rattle.c_parser.proofs.StmtGoesOn.{opens_at}
+use Rattle.c_parser.proofs.ItemGoesOn.{enum_goes_on}
+use Rattle.c_parser.proofs.Passing.{passed}
 use Rattle.c_parser.proofs.items.enum_item.Goals as goal
 
 pub returns-clause-reads : goal.returns-clause-reads
@@ -33,3 +39,17 @@ returns-in_err-list-clause-stops c = let w = c.if-not-take_keyword.ensures in le
 pub returns-then-not-take-2-clause-stops : goal.returns-then-not-take-2-clause-stops
 returns-then-not-take-2-clause-stops c = let w = c.if-not-take_keyword.ensures in let l = c.if-not-take.ensures in let n = c.if-not-take-2.ensures in
     ends_at n.1 (enum_leads any w.2 w.1 c.in_ok-tag.ensures.reads l.2 l.1 (c.in_ok-list.ensures.leads any _ (no_ending n.0)))
+
+pub returns-in_err-tag-clause-nests : goal.returns-in_err-tag-clause-nests
+returns-in_err-tag-clause-nests c =
+    let w = c.if-not-take_keyword.ensures in
+    passed AnItem AnItem (OpensAs DeepItem) (OpensAs DeepItem) c.args.room c.args.room c.from_residual.result c.in_err-tag.field-0.0 c.from_residual.ensures
+    (λ r f. fails_at w.2 f)
+    (λ at q d. opens_at w.2 d) (c.in_err-tag.ensures.nests c.args.room w.0)
+
+pub returns-in_err-list-clause-nests : goal.returns-in_err-list-clause-nests
+returns-in_err-list-clause-nests c =
+    let w = c.if-not-take_keyword.ensures in let l = c.if-not-take.ensures in
+    passed AnItem InEnum (OpensAs DeepItem) (OpensAs DeepEnumerators) c.args.room c.args.room c.from_residual-in_err-list.result c.in_err-list.field-0.0 c.from_residual-in_err-list.ensures
+    (λ r f. enum_leads (bound_of c.args.room) w.2 w.1 c.in_ok-tag.ensures.reads l.2 l.1 f)
+    (λ at q d. enum_goes_on w.2 w.1 c.in_ok-tag.ensures.reads l.2 l.1 d) c.in_err-list.ensures.nests

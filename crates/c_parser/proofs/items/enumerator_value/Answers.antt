@@ -5,6 +5,9 @@ use Rattle.c_phrases.specs.Refusing.{bound_of}
 use Rattle.c_syntax.specs.Grammar.{conditional_level}
 use Rattle.c_parser.proofs.StmtStops.{raised}
 use Rattle.c_parser.proofs.ItemStops.{value_fails, value_leads, no_value_leads}
+use Rattle.c_refusals.specs.Opens.{DeepExpr}
+use Rattle.c_parser.specs.Nesting.{OpensValue}
+use Rattle.c_parser.proofs.Passing.{passed_deep}
 use Rattle.c_parser.proofs.items.enumerator_value.Goals as goal
 
 pub returns-then-not-take-clause-reads : goal.returns-then-not-take-clause-reads
@@ -21,3 +24,10 @@ returns-in_err-value-clause-stops c = let o = c.if-not-take.ensures in raised Va
 
 pub returns-clause-leads : goal.returns-clause-leads
 returns-clause-leads c x r f = let o = c.if-not-take.ensures in value_leads x o.2 o.1 c.in_ok-value.ensures.parses f
+
+pub returns-in_err-value-clause-nests : goal.returns-in_err-value-clause-nests
+returns-in_err-value-clause-nests c =
+    let o = c.if-not-take.ensures in
+    passed_deep ValueRest (λ x. AnExpr x conditional_level) OpensValue (λ at p n. DeepExpr at p n conditional_level) c.args.room c.from_residual.result c.in_err-value.field-0.0 c.from_residual.ensures
+    (λ r f. value_fails (bound_of c.args.room) o.2 o.1 f)
+    (λ at q d. record { token = _; rest = _; stood = o.2; assigns = o.1; deep = d }) c.in_err-value.ensures.nests

@@ -6,10 +6,14 @@ use Rattle.c_refusals.specs.Items.{InEnum}
 use Rattle.c_phrases.specs.Refusing.{bound_of}
 use Rattle.c_parser.proofs.StmtStops.{raised, ends_at}
 use Rattle.c_parser.proofs.ItemStops.{enum_closed, enum_closed_after_comma, no_enum_end, another_enumerator_fails}
+use Rattle.c_openings.specs.Deep.{DeepEnumerators}
+use Rattle.c_parser.specs.Nesting.{OpensAs}
+use Rattle.c_parser.proofs.StmtGoesOn.{opens_at}
+use Rattle.c_parser.proofs.Passing.{passed}
 use Rattle.c_parser.proofs.items.enumerators.Goals as goal
 
 pub next-init : goal.next-init
-next-init c = record { goes = goes_first _ _ _ c.in_ok-push.ensures.items c.new-list.ensures.items c.in_ok-first.ensures.reads.before; leads = c.in_ok-first.ensures.leads; shorter = c.in_ok-first.ensures.shorter }
+next-init c = record { goes = goes_first _ _ _ c.in_ok-push.ensures.items c.new-list.ensures.items c.in_ok-first.ensures.reads.before; leads = c.in_ok-first.ensures.leads; shorter = c.in_ok-first.ensures.shorter; opens = λ at n t m q e h d. c.in_ok-first.ensures.opens at n t m q e h d }
 
 pub next-preserved : goal.next-preserved
 next-preserved c =
@@ -18,6 +22,7 @@ next-preserved c =
       goes = goes_more _ _ _ c.in_ok-push-2.ensures.items (goes_from _ (sym left.1) c.next.invariant.goes) (λ more k s. rest_after (comma.2 ∙ ap (λ z. comma.0 ∷ z) (sym no.1)) comma.1 (c.in_ok-next.ensures.reads.before more k s));
       leads = λ x r f. c.next.invariant.leads x r (another_enumerator_fails x left.1 comma.2 comma.1 no.1 no.0 (c.in_ok-next.ensures.leads x r f));
       shorter = omega (arith, ap length left.1, ap length comma.2, ap length no.1, c.in_ok-next.ensures.shorter, c.next.invariant.shorter);
+      opens = λ at n t m q e h d. c.next.invariant.opens at n _ _ q (sym left.1 ∙ comma.2) comma.1 (opens_at (sym no.1) (c.in_ok-next.ensures.opens at n t m q e h d));
     }
 
 pub next-smaller : goal.next-smaller
@@ -51,3 +56,16 @@ returns-then-take-clause-leads c x r f = let left = c.next-test.ensures in let c
 
 pub returns-clause-leads : goal.returns-clause-leads
 returns-clause-leads c x r f = let k = c.next-test.ensures in c.next.invariant.leads x r (enum_closed x k.2 k.1 f)
+
+pub returns-in_err-first-clause-nests : goal.returns-in_err-first-clause-nests
+returns-in_err-first-clause-nests c =
+    passed InEnum InEnum (OpensAs DeepEnumerators) (OpensAs DeepEnumerators) c.args.room c.args.room c.from_residual.result c.in_err-first.field-0.0 c.from_residual.ensures
+    (λ r f. f)
+    (λ at q d. d) c.in_err-first.ensures.nests
+
+pub returns-in_err-next-clause-nests : goal.returns-in_err-next-clause-nests
+returns-in_err-next-clause-nests c =
+    let left = c.next-test.ensures in let comma = c.if-not-take.ensures in let no = c.if-take.ensures in
+    passed InEnum InEnum (OpensAs DeepEnumerators) (OpensAs DeepEnumerators) c.args.room c.args.room c.from_residual-in_err-next.result c.in_err-next.field-0.0 c.from_residual-in_err-next.ensures
+    (λ r f. c.next.invariant.leads (bound_of c.args.room) r (another_enumerator_fails (bound_of c.args.room) left.1 comma.2 comma.1 no.1 no.0 f))
+    (λ at q d. c.next.invariant.opens at _ _ _ q (sym left.1 ∙ comma.2) comma.1 (opens_at (sym no.1) d)) c.in_err-next.ensures.nests

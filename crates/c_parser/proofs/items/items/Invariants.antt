@@ -1,5 +1,6 @@
-use Rattle.std.proofs.Common.{◌<◌, List, length}
+use Rattle.std.proofs.Common.{◌<◌, ℕ, List, length}
 use Rattle.c_lexer.specs.declared.token.Token.{Token}
+use Rattle.c_refusals.specs.Opens.{Opens, DeepUnit}
 use Rattle.c_refusals.specs.Fails.{Fails}
 use Rattle.c_refusals.specs.Phrases.{Bound}
 use Rattle.c_refusals.specs.Units.{AUnit}
@@ -12,6 +13,7 @@ abbrev pub invariant-next : goal.invariant-next
 invariant-next l = record {
   goes : Goes (AreItems l.room) (Rest (AreItems l.room)) l.items.items l.fn.cursor.rest.now l.cursor.rest.now;
   leads : (x : Bound) (r : List Token) → Fails (UnitRest x) l.cursor.rest.now r → Fails (AUnit x) l.fn.cursor.rest.now r;
+  opens : (at n : ℕ) (q : List Token) → Opens (DeepUnit at l.room.pairs n) l.cursor.rest.now q → Opens (DeepUnit at l.room.pairs n) l.fn.cursor.rest.now q;
   shorter : length l.cursor.rest.now < length l.fn.cursor.rest.now;
 }
 

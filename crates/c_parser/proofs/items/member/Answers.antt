@@ -4,6 +4,10 @@ use Rattle.c_refusals.specs.Items.{AMember, DeclaratorsClosed}
 use Rattle.c_phrases.specs.Refusing.{bound_of}
 use Rattle.c_parser.proofs.StmtStops.{raised, raised_flat}
 use Rattle.c_parser.proofs.ItemStops.{spec_of_member_fails, declarators_of_member_fail, a_member}
+use Rattle.c_openings.specs.Deep.{DeepMembers, DeepDeclarators}
+use Rattle.c_parser.specs.Nesting.{OpensAs}
+use Rattle.c_parser.proofs.ItemGoesOn.{member_goes_on, member_then}
+use Rattle.c_parser.proofs.Passing.{passed, passed_flat}
 use Rattle.c_parser.proofs.items.member.Goals as goal
 
 pub returns-clause-reads : goal.returns-clause-reads
@@ -20,3 +24,16 @@ returns-in_err-declarators-clause-stops c = raised AMember DeclaratorsClosed (bo
 
 pub returns-clause-stands : goal.returns-clause-stands
 returns-clause-stands c = a_member c.in_ok-spec.ensures.parses c.in_ok-declarators.ensures.reads
+
+pub returns-in_err-spec-clause-nests : goal.returns-in_err-spec-clause-nests
+returns-in_err-spec-clause-nests c =
+    passed_flat AMember (OpensAs DeepMembers) c.args.room c.args.cursor.now.rest.now c.from_residual.result c.in_err-spec.field-0.0 c.from_residual.ensures c.in_err-spec.ensures.stops
+
+pub returns-in_err-declarators-clause-nests : goal.returns-in_err-declarators-clause-nests
+returns-in_err-declarators-clause-nests c =
+    passed AMember DeclaratorsClosed (OpensAs DeepMembers) (OpensAs DeepDeclarators) c.args.room c.args.room c.from_residual-in_err-declarators.result c.in_err-declarators.field-0.0 c.from_residual-in_err-declarators.ensures
+    (λ r f. declarators_of_member_fail (bound_of c.args.room) c.in_ok-spec.ensures.parses f)
+    (λ at q d. member_goes_on c.in_ok-spec.ensures.parses d) c.in_err-declarators.ensures.nests
+
+pub returns-clause-opens : goal.returns-clause-opens
+returns-clause-opens c at n q d = member_then c.in_ok-spec.ensures.parses c.in_ok-declarators.ensures.reads d

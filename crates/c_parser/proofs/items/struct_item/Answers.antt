@@ -5,6 +5,11 @@ use Rattle.c_refusals.specs.Items.{AnItem, InStruct}
 use Rattle.c_phrases.specs.Refusing.{bound_of}
 use Rattle.c_parser.proofs.StmtStops.{raised, raised_flat, ends_at}
 use Rattle.c_parser.proofs.ItemStops.{third_at, struct_unnamed, struct_leads, no_ending}
+use Rattle.c_refusals.specs.Opens.{DeepItem}
+use Rattle.c_openings.specs.Deep.{DeepMembers}
+use Rattle.c_parser.specs.Nesting.{OpensAs}
+use Rattle.c_parser.proofs.ItemGoesOn.{struct_goes_on}
+use Rattle.c_parser.proofs.Passing.{passed, passed_flat}
 use Rattle.c_parser.proofs.items.struct_item.Goals as goal
 
 pub returns-clause-reads : goal.returns-clause-reads
@@ -30,3 +35,15 @@ returns-in_err-members-clause-stops c = let w = c.if-not-take_keyword.ensures in
 pub returns-then-not-take-2-clause-stops : goal.returns-then-not-take-2-clause-stops
 returns-then-not-take-2-clause-stops c = let w = c.if-not-take_keyword.ensures in let l = c.if-not-take.ensures in let n = c.if-not-take-2.ensures in
     ends_at n.1 (struct_leads any w.2 w.1 c.in_ok-tag.ensures.parses l.2 l.1 (c.in_ok-members.ensures.leads any _ (no_ending n.0)))
+
+pub returns-in_err-tag-clause-nests : goal.returns-in_err-tag-clause-nests
+returns-in_err-tag-clause-nests c =
+    let w = c.if-not-take_keyword.ensures in
+    passed_flat AnItem (OpensAs DeepItem) c.args.room c.args.cursor.now.rest.now c.from_residual.result c.in_err-tag.field-0.0 c.from_residual.ensures c.in_err-tag.ensures.stops
+
+pub returns-in_err-members-clause-nests : goal.returns-in_err-members-clause-nests
+returns-in_err-members-clause-nests c =
+    let w = c.if-not-take_keyword.ensures in let l = c.if-not-take.ensures in
+    passed AnItem InStruct (OpensAs DeepItem) (OpensAs DeepMembers) c.args.room c.args.room c.from_residual-in_err-members.result c.in_err-members.field-0.0 c.from_residual-in_err-members.ensures
+    (λ r f. struct_leads (bound_of c.args.room) w.2 w.1 c.in_ok-tag.ensures.parses l.2 l.1 f)
+    (λ at q d. struct_goes_on w.2 w.1 c.in_ok-tag.ensures.parses l.2 l.1 d) c.in_err-members.ensures.nests

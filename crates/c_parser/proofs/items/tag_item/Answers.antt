@@ -3,6 +3,9 @@ use Rattle.c_parser.proofs.ItemLemmas.{is_tag_item}
 use Rattle.c_refusals.specs.Items.{AnItem}
 use Rattle.c_parser.proofs.StmtStops.{raised_flat}
 use Rattle.c_parser.proofs.ItemStops.{third_at, struct_unnamed}
+use Rattle.c_refusals.specs.Opens.{DeepItem}
+use Rattle.c_parser.specs.Nesting.{OpensAs}
+use Rattle.c_parser.proofs.Passing.{passed_flat}
 use Rattle.c_parser.proofs.items.tag_item.Goals as goal
 
 pub returns-clause-reads : goal.returns-clause-reads
@@ -21,3 +24,6 @@ returns-in_err-tag-clause-stops c b = let w = c.if-not-take_keyword.ensures in r
 
 pub returns-then-not-take-clause-stops : goal.returns-then-not-take-clause-stops
 returns-then-not-take-clause-stops c b = let w = c.if-not-take_keyword.ensures in absurd (c.if-not-take.ensures.0 (third_at w.2 c.in_ok-tag.ensures.parses.stood c.requires))
+
+pub returns-in_err-tag-clause-nests : goal.returns-in_err-tag-clause-nests
+returns-in_err-tag-clause-nests c room = passed_flat AnItem (OpensAs DeepItem) room c.args.cursor.now.rest.now c.from_residual.result c.in_err-tag.field-0.0 c.from_residual.ensures c.in_err-tag.ensures.stops

@@ -6,6 +6,11 @@ use Rattle.c_parser.proofs.LoopStops.{default_unclosed, default_leads, value_fai
 use Rattle.c_refusals.specs.Phrases.{AnExpr, SomeLabels}
 use Rattle.c_syntax.specs.Grammar.{conditional_level}
 use Rattle.c_phrases.specs.Refusing.{bound_of}
+use Rattle.c_refusals.specs.Opens.{DeepExpr}
+use Rattle.c_openings.specs.Deep.{DeepLabels}
+use Rattle.c_parser.specs.Nesting.{OpensAs}
+use Rattle.c_parser.proofs.StmtGoesOn.{value_goes_on, default_then, case_then}
+use Rattle.c_parser.proofs.Passing.{passed_deep}
 use Rattle.c_parser.proofs.labels.label.Goals as goal
 
 pub returns-then-take_keyword-clause-reads : goal.returns-then-take_keyword-clause-reads
@@ -47,3 +52,18 @@ pub returns-clause-leads : goal.returns-clause-leads
 returns-clause-leads c x r f =
     let n = c.if-take_keyword.ensures in let w = c.if-not-take_keyword.ensures in let k = c.if-not-take-2.ensures in
     case_leads x (sym n.1 ∙ w.2) w.1 c.in_ok-value.ensures.parses k.2 f
+
+pub returns-in_err-value-clause-nests : goal.returns-in_err-value-clause-nests
+returns-in_err-value-clause-nests c =
+    let n = c.if-take_keyword.ensures in let w = c.if-not-take_keyword.ensures in
+    passed_deep SomeLabels (λ x. AnExpr x conditional_level) (OpensAs DeepLabels) (λ at p n. DeepExpr at p n conditional_level) c.args.room c.from_residual.result c.in_err-value.field-0.0 c.from_residual.ensures
+    (λ r f. value_fails (bound_of c.args.room) (sym n.1 ∙ w.2) w.1 f)
+    (λ at q d. value_goes_on (sym n.1 ∙ w.2) w.1 d) c.in_err-value.ensures.nests
+
+pub returns-then-take_keyword-clause-opens : goal.returns-then-take_keyword-clause-opens
+returns-then-take_keyword-clause-opens c at n q d = let w = c.if-take_keyword.ensures in let k = c.if-not-take.ensures in default_then w.2 w.1 k.2 k.1 d
+
+pub returns-clause-opens : goal.returns-clause-opens
+returns-clause-opens c at m q d =
+    let n = c.if-take_keyword.ensures in let w = c.if-not-take_keyword.ensures in let k = c.if-not-take-2.ensures in
+    case_then (sym n.1 ∙ w.2) w.1 c.in_ok-value.ensures.parses k.2 k.1 d

@@ -1,5 +1,7 @@
-use Rattle.std.proofs.Common.{◌<◌, List, length}
+use Rattle.std.proofs.Common.{◌<◌, ℕ, List, length}
 use Rattle.c_lexer.specs.declared.token.Token.{Token}
+use Rattle.c_refusals.specs.Opens.{Opens}
+use Rattle.c_openings.specs.Deep.{DeepLabels}
 use Rattle.c_refusals.specs.Fails.{Fails}
 use Rattle.c_refusals.specs.Phrases.{Bound, SomeLabels}
 use Rattle.c_refusals.specs.Labels.{LabelsRest}
@@ -11,6 +13,7 @@ abbrev pub invariant-next : goal.invariant-next
 invariant-next l = record {
   goes : Goes (AreLabels l.room) (Rest (AreLabels l.room)) l.labels.items l.fn.cursor.rest.now l.cursor.rest.now;
   leads : (x : Bound) (r : List Token) → Fails (LabelsRest x) l.cursor.rest.now r → Fails (SomeLabels x) l.fn.cursor.rest.now r;
+  opens : (at n : ℕ) (q : List Token) → Opens (DeepLabels at l.room.pairs n) l.cursor.rest.now q → Opens (DeepLabels at l.room.pairs n) l.fn.cursor.rest.now q;
   shorter : length l.cursor.rest.now < length l.fn.cursor.rest.now;
 }
 

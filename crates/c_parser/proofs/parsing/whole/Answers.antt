@@ -12,4 +12,4 @@ pub returns-in-Err-Syntax-clause-refused : goal.returns-in-Err-Syntax-clause-ref
 returns-in-Err-Syntax-clause-refused c = refused_as_syntax _ _ c.args.tokens.now _ _ c.in-Err-Syntax.field-0-is c.place_of_first.ensures c.in-Err-Syntax.ensures.stops
 
 pub returns-in-Err-Nesting-clause-refused : goal.returns-in-Err-Nesting-clause-refused
-returns-in-Err-Nesting-clause-refused c = refused_as_nesting c.args.mode c.most_nodes.result _ _ c.args.tokens.now _ c.in-Err-Nesting.field-0-is c.most_nodes.ensures c.in-Err-Nesting.ensures.stops
+returns-in-Err-Nesting-clause-refused c = refused_as_nesting c.args.mode c.most_nodes.result _ _ c.args.tokens.now c.in-Err-Nesting.field-0-is c.most_nodes.ensures c.in-Err-Nesting.ensures.nests

@@ -6,6 +6,10 @@ use Rattle.c_refusals.specs.Phrases.{AnExpr}
 use Rattle.c_parser.specs.Refusing.{ACondition}
 use Rattle.c_syntax.specs.Grammar.{expression_level}
 use Rattle.c_phrases.specs.Refusing.{bound_of}
+use Rattle.c_refusals.specs.Opens.{DeepExpr}
+use Rattle.c_parser.specs.Nesting.{OpensInside}
+use Rattle.c_parser.proofs.StmtGoesOn.{test_goes_on}
+use Rattle.c_parser.proofs.Passing.{passed_deep}
 use Rattle.c_parser.proofs.parts.condition.Goals as goal
 
 pub returns-clause-reads : goal.returns-clause-reads
@@ -24,3 +28,10 @@ pub returns-then-not-take-2-clause-stops : goal.returns-then-not-take-2-clause-s
 returns-then-not-take-2-clause-stops c =
     let o = c.if-not-take.ensures in let n = c.if-not-take-2.ensures in
     ends_at n.1 (condition_unclosed any o.2 c.in_ok-test.ensures.parses n.0)
+
+pub returns-in_err-test-clause-nests : goal.returns-in_err-test-clause-nests
+returns-in_err-test-clause-nests c =
+    let o = c.if-not-take.ensures in
+    passed_deep ACondition (λ x. AnExpr x expression_level) OpensInside (λ at p n. DeepExpr at p n expression_level) c.args.room c.from_residual.result c.in_err-test.field-0.0 c.from_residual.ensures
+    (λ r f. condition_fails (bound_of c.args.room) o.2 f)
+    (λ at q d. test_goes_on o.2 o.1 d) c.in_err-test.ensures.nests

@@ -7,6 +7,10 @@ use Rattle.c_refusals.specs.Phrases.{AnExpr}
 use Rattle.c_parser.specs.Refusing.{ABefore}
 use Rattle.c_syntax.specs.Grammar.{expression_level}
 use Rattle.c_phrases.specs.Refusing.{bound_of}
+use Rattle.c_refusals.specs.Opens.{DeepExpr}
+use Rattle.c_parser.specs.Nesting.{OpensExpr}
+use Rattle.c_parser.proofs.StmtGoesOn.{opens_at}
+use Rattle.c_parser.proofs.Passing.{passed_deep}
 use Rattle.c_parser.proofs.parts.expression_before.Goals as goal
 
 pub returns-then-take-clause-reads : goal.returns-then-take-clause-reads
@@ -30,3 +34,10 @@ pub returns-then-not-take-clause-stops : goal.returns-then-not-take-clause-stops
 returns-then-not-take-clause-stops c =
     let n = c.if-take.ensures in let k = c.if-not-take.ensures in
     ends_at k.1 (fails_at (sym n.1) (before_unclosed any c.args.end c.in_ok-inside.ensures.parses k.0))
+
+pub returns-in_err-inside-clause-nests : goal.returns-in_err-inside-clause-nests
+returns-in_err-inside-clause-nests c =
+    let n = c.if-take.ensures in
+    passed_deep (ABefore c.args.end) (λ x. AnExpr x expression_level) (OpensExpr expression_level) (λ at p n. DeepExpr at p n expression_level) c.args.room c.from_residual.result c.in_err-inside.field-0.0 c.from_residual.ensures
+    (λ r f. before_fails (bound_of c.args.room) c.args.end n.0 (fails_at (sym n.1) f))
+    (λ at q d. opens_at (sym n.1) d) c.in_err-inside.ensures.nests

@@ -15,6 +15,14 @@ use Rattle.c_refusals.specs.Phrases.{AStmt, ABlockItem, SomeLabels, InBlock, InS
 use Rattle.c_refusals.specs.Groups.{InGroup}
 use Rattle.c_parser.specs.Refusing.{ACondition, AHead}
 use Rattle.c_phrases.specs.Refusing.{bound_of}
+use Rattle.c_lexer.specs.declared.keyword.TheConstants.{IF, WHILE, DO, FOR, SWITCH}
+use Rattle.c_refusals.specs.Opens.{DeepStmt, DeepBlock}
+use Rattle.c_refusals.specs.Phrases.{inner}
+use Rattle.c_refusals.proofs.StmtOpens.{item_stmt_opens}
+use Rattle.c_openings.specs.Deep.{DeepLabels, DeepStmts, DeepGroups}
+use Rattle.c_parser.specs.Nesting.{OpensAs, OpensAfter, OpensInside, OpensInBlock}
+use Rattle.c_parser.proofs.StmtGoesOn.{opens_at, after_word, if_test, if_body, if_else, while_test, while_body as while_opens, do_body as do_opens, do_test, for_body as for_opens, switch_test, switch_groups as groups_open, labels_go_on, body_goes_on, group_then, stmt_first, stmts_then, stmt_then}
+use Rattle.c_parser.proofs.Passing.{block_then, compound_nests, memory_wants, passed, passed_in, passed_within}
 use Rattle.c_parser.proofs.statements.+statement.Goals as goal
 
 pub compound-returns-in_ok-choice-in-If-clause-reads : goal.compound-returns-in_ok-choice-in-If-clause-reads
@@ -39,6 +47,7 @@ pub block-next-init : goal.block-next-init
 block-next-init t c = record {
   goes = goes_begun _ c.skip.ensures.skips (goes_none _ c.new-items.ensures.items (λ more k s. s));
   leads = λ x r f. fails_at (sym c.skip.ensures.skips) f;
+  opens = λ at n q d. opens_at (sym c.skip.ensures.skips) d;
   shorter = omega (arith, c.skip.ensures.shorter, c.requires.some);
 }
 
@@ -48,6 +57,7 @@ block-next-preserved t c =
     record {
       goes = goes_more _ _ _ c.in_ok-block_item.ensures.reads.added (goes_from _ (sym left.1) c.next.invariant.goes) c.in_ok-block_item.ensures.reads.stands.before;
       leads = λ x r f. c.next.invariant.leads x r (item_leads x left.0 (item_from left.1 c.in_ok-block_item.ensures.reads.stands.item) f);
+      opens = λ at n q d. c.next.invariant.opens at n q (opens_at (sym left.1) (c.in_ok-block_item.ensures.opens at n q d));
       shorter = omega (arith, ap length left.1, c.in_ok-block_item.ensures.shorter, c.next.invariant.shorter);
     }
 
@@ -86,7 +96,7 @@ switch_statement-returns-clause-reads t c token w p =
     node_is c.in_ok-node.ensures (is_switch w p c.in_ok-on.ensures.reads l.2 l.1 c.in_ok-groups.ensures.reads)
 
 pub groups-next-init : goal.groups-next-init
-groups-next-init t c = record { goes = goes_none _ c.new-groups.ensures.items (λ more k s. s); leads = λ x r f. f; shorter = omega arith }
+groups-next-init t c = record { goes = goes_none _ c.new-groups.ensures.items (λ more k s. s); leads = λ x r f. f; opens = λ at n q d. d; shorter = omega arith }
 
 pub groups-next-preserved : goal.groups-next-preserved
 groups-next-preserved t c =
@@ -94,6 +104,7 @@ groups-next-preserved t c =
     record {
       goes = goes_more _ _ _ c.in_ok-push.ensures.items (goes_from _ (sym left.1) c.next.invariant.goes) (group_stands _ _ _ c.group_node.ensures c.in_ok-labels.ensures.reads c.in_ok-body.ensures.reads);
       leads = λ x r f. c.next.invariant.leads x r (group_leads x left.0 (labels_from left.1 c.in_ok-labels.ensures.reads) c.in_ok-body.ensures.begins (c.in_ok-body.ensures.leads x r) c.in_ok-body.ensures.ends f);
+      opens = λ at n q d. c.next.invariant.opens at n q (group_then left.1 c.in_ok-labels.ensures.reads c.in_ok-body.ensures.reads d);
       shorter = omega (arith, ap length left.1, c.in_ok-labels.ensures.shorter, c.in_ok-body.ensures.shorter, c.next.invariant.shorter);
     }
 
@@ -101,12 +112,13 @@ pub groups-returns-clause-reads : goal.groups-returns-clause-reads
 groups-returns-clause-reads t c = let k = c.next-test.ensures in groups_done _ c.next.invariant.goes k.2 k.1
 
 pub statements-next-init : goal.statements-next-init
-statements-next-init t c = record { goes = goes_first _ _ _ c.in_ok-add_statement.ensures c.new-body.ensures.items (stmt_before _ c.in_ok-first.ensures.reads); leads = λ x r f. first_statement_leads x c.in_ok-first.ensures.reads f; begins = stmt_head c.in_ok-first.ensures.reads.reads; shorter = c.in_ok-first.ensures.shorter }
+statements-next-init t c = record { goes = goes_first _ _ _ c.in_ok-add_statement.ensures c.new-body.ensures.items (stmt_before _ c.in_ok-first.ensures.reads); leads = λ x r f. first_statement_leads x c.in_ok-first.ensures.reads f; opens = λ at n q d. stmts_then c.in_ok-first.ensures.reads d; begins = stmt_head c.in_ok-first.ensures.reads.reads; shorter = c.in_ok-first.ensures.shorter }
 
 pub statements-next-preserved : goal.statements-next-preserved
 statements-next-preserved t c = record {
   goes = goes_more _ _ _ c.in_ok-add_statement-2.ensures c.next.invariant.goes (λ more k s. rest_of (stmt_before _ c.in_ok-next.ensures.reads more k s));
   leads = λ x r f. c.next.invariant.leads x r (group_goes x (λ e. let h = c.next-test.ensures.1 e in cc) (first_statement_leads x c.in_ok-next.ensures.reads f));
+  opens = λ at n q d. c.next.invariant.opens at n q (stmts_then c.in_ok-next.ensures.reads d);
   begins = c.next.invariant.begins;
   shorter = omega (arith, c.in_ok-next.ensures.shorter, c.next.invariant.shorter);
 }
@@ -115,7 +127,7 @@ pub statements-returns-clause-reads : goal.statements-returns-clause-reads
 statements-returns-clause-reads t c = goes_end _ c.next.invariant.goes ends
 
 pub statement-returns-then-room-eq0-clause-stops : goal.statement-returns-then-room-eq0-clause-stops
-statement-returns-then-room-eq0-clause-stops t c = no_room_left c.args.room c.args.cursor.now.rest.now _ c.if-room-eq0.true (c.no_room.ensures c.args.room.pairs)
+statement-returns-then-room-eq0-clause-stops t c = no_room_left c.args.room c.args.cursor.now.rest.now _ c.if-room-eq0.true (c.no_room.ensures.refuses c.args.room.pairs)
 
 pub statement-returns-in_err-block-clause-stops : goal.statement-returns-in_err-block-clause-stops
 statement-returns-in_err-block-clause-stops t c =
@@ -246,3 +258,177 @@ statements-returns-clause-ends t c = group_ends _ (c.next-test.ensures.0 (cc))
 pub statement-returns-then-room-eq1-clause-stops : goal.statement-returns-then-room-eq1-clause-stops
 statement-returns-then-room-eq1-clause-stops t c =
     stops_deep AStmt (bound_of c.args.room) _ c.in-Err.error c.sure_to_be_deep.result c.sure_to_be_deep.ensures (deep_compound c.in-Some.form c.if-room-eq1.true c.in-Some.ensures.starts) c.in-Err.ensures.stops
+
+pub statement-returns-in_err-block-clause-nests : goal.statement-returns-in_err-block-clause-nests
+statement-returns-in_err-block-clause-nests t c =
+    passed AStmt (λ b. InBlock (inner b)) (OpensAs DeepStmt) OpensInBlock c.args.room c.args.room c.from_residual.result c.in_err-block.field-0.0 c.from_residual.ensures
+    (λ r f. block_fails (bound_of c.args.room) (c.is_at.ensures.stands.0 c.if-is_at.true) f)
+    (λ at q d. block_then _ c.if-room-eq0.false (c.is_at.ensures.stands.0 c.if-is_at.true) d) c.in_err-block.ensures.nests
+
+pub statement-returns-in_err-simple-clause-nests : goal.statement-returns-in_err-simple-clause-nests
+statement-returns-in_err-simple-clause-nests t c =
+    passed AStmt AStmt (OpensAs DeepStmt) (OpensAs DeepStmt) c.args.room c.args.room c.from_residual-in_err-simple.result c.in_err-simple.field-0.0 c.from_residual-in_err-simple.ensures
+    (λ r f. f)
+    (λ at q d. d) c.in_err-simple.ensures.nests
+
+pub block-returns-in_err-block_item-clause-nests : goal.block-returns-in_err-block_item-clause-nests
+block-returns-in_err-block_item-clause-nests t c =
+    let left = c.next-test.ensures in
+    passed_within InBlock ABlockItem DeepBlock c.args.room c.from_residual.result c.in_err-block_item.field-0.0 c.from_residual.ensures (record { some = c.requires.room; nodes = c.in_node-inside.ensures.nodes; pairs = c.in_node-inside.ensures.pairs })
+    (λ r f. c.next.invariant.leads (inner (bound_of c.args.room)) r (item_fails (inner (bound_of c.args.room)) left.0 (fails_at (sym left.1) f)))
+    (λ at q d. c.next.invariant.opens at _ q (opens_at (sym left.1) d)) c.in_err-block_item.ensures.nests
+
+pub block_item-returns-in_err-block_declaration-clause-nests : goal.block_item-returns-in_err-block_declaration-clause-nests
+block_item-returns-in_err-block_declaration-clause-nests t c =
+    passed ABlockItem ABlockItem (OpensAs DeepBlock) (OpensAs DeepBlock) c.args.room c.args.room c.from_residual.result c.in_err-block_declaration.field-0.0 c.from_residual.ensures
+    (λ r f. f)
+    (λ at q d. d) c.in_err-block_declaration.ensures.nests
+
+pub block_item-returns-in_err-statement-clause-nests : goal.block_item-returns-in_err-statement-clause-nests
+block_item-returns-in_err-statement-clause-nests t c =
+    passed ABlockItem AStmt (OpensAs DeepBlock) (OpensAs DeepStmt) c.args.room c.args.room c.from_residual-in_err-statement.result c.in_err-statement.field-0.0 c.from_residual-in_err-statement.ensures
+    (λ r f. statement_fails (bound_of c.args.room) (not_there c.is_at_specifier.result c.if-is_at_specifier.false c.is_at_specifier.ensures) f)
+    (λ at q d. item_stmt_opens d) c.in_err-statement.ensures.nests
+
+pub block_item-returns-in_err-add_block_statement-clause-nests : goal.block_item-returns-in_err-add_block_statement-clause-nests
+block_item-returns-in_err-add_block_statement-clause-nests t c =
+    memory_wants ABlockItem (OpensAs DeepBlock) c.args.room _ _ _ _ c.from_residual-in_err-add_block_statement.result c.in_err-add_block_statement.field-0.0 c.from_residual-in_err-add_block_statement.ensures c.in_err-add_block_statement.ensures
+
+pub if_statement-returns-in_err-test-clause-nests : goal.if_statement-returns-in_err-test-clause-nests
+if_statement-returns-in_err-test-clause-nests t c =
+    passed IfTail ACondition (OpensAfter IF) OpensInside c.args.room c.args.room c.from_residual.result c.in_err-test.field-0.0 c.from_residual.ensures
+    (λ r f. if_head (bound_of c.args.room) f)
+    (λ at q d. if_test d) c.in_err-test.ensures.nests
+
+pub if_statement-returns-in_err-yes-clause-nests : goal.if_statement-returns-in_err-yes-clause-nests
+if_statement-returns-in_err-yes-clause-nests t c =
+    passed IfTail AStmt (OpensAfter IF) (OpensAs DeepStmt) c.args.room c.args.room c.from_residual-in_err-yes.result c.in_err-yes.field-0.0 c.from_residual-in_err-yes.ensures
+    (λ r f. if_yes (bound_of c.args.room) c.in_ok-test.ensures.reads f)
+    (λ at q d. if_body c.in_ok-test.ensures.reads d) c.in_err-yes.ensures.nests
+
+pub if_statement-returns-in_err-no-clause-nests : goal.if_statement-returns-in_err-no-clause-nests
+if_statement-returns-in_err-no-clause-nests t c =
+    passed IfTail AStmt (OpensAfter IF) (OpensAs DeepStmt) c.args.room c.args.room c.from_residual-in_err-no.result c.in_err-no.field-0.0 c.from_residual-in_err-no.ensures
+    (λ r f. if_no (bound_of c.args.room) c.in_ok-test.ensures.reads c.in_ok-yes.ensures.reads c.if-take_keyword.ensures.2 c.if-take_keyword.ensures.1 f)
+    (λ at q d. if_else c.in_ok-test.ensures.reads c.in_ok-yes.ensures.reads c.if-take_keyword.ensures.2 c.if-take_keyword.ensures.1 d) c.in_err-no.ensures.nests
+
+pub while_statement-returns-in_err-test-clause-nests : goal.while_statement-returns-in_err-test-clause-nests
+while_statement-returns-in_err-test-clause-nests t c =
+    passed WhileTail ACondition (OpensAfter WHILE) OpensInside c.args.room c.args.room c.from_residual.result c.in_err-test.field-0.0 c.from_residual.ensures
+    (λ r f. while_head (bound_of c.args.room) f)
+    (λ at q d. while_test d) c.in_err-test.ensures.nests
+
+pub while_statement-returns-in_err-body-clause-nests : goal.while_statement-returns-in_err-body-clause-nests
+while_statement-returns-in_err-body-clause-nests t c =
+    passed WhileTail AStmt (OpensAfter WHILE) (OpensAs DeepStmt) c.args.room c.args.room c.from_residual-in_err-body.result c.in_err-body.field-0.0 c.from_residual-in_err-body.ensures
+    (λ r f. while_body (bound_of c.args.room) c.in_ok-test.ensures.reads f)
+    (λ at q d. while_opens c.in_ok-test.ensures.reads d) c.in_err-body.ensures.nests
+
+pub do_statement-returns-in_err-body-clause-nests : goal.do_statement-returns-in_err-body-clause-nests
+do_statement-returns-in_err-body-clause-nests t c =
+    passed DoTail AStmt (OpensAfter DO) (OpensAs DeepStmt) c.args.room c.args.room c.from_residual.result c.in_err-body.field-0.0 c.from_residual.ensures
+    (λ r f. do_body (bound_of c.args.room) f)
+    (λ at q d. do_opens d) c.in_err-body.ensures.nests
+
+pub do_statement-returns-in_err-test-clause-nests : goal.do_statement-returns-in_err-test-clause-nests
+do_statement-returns-in_err-test-clause-nests t c =
+    passed DoTail ACondition (OpensAfter DO) OpensInside c.args.room c.args.room c.from_residual-in_err-test.result c.in_err-test.field-0.0 c.from_residual-in_err-test.ensures
+    (λ r f. do_head (bound_of c.args.room) c.in_ok-body.ensures.reads c.if-not-take_keyword.ensures.2 f)
+    (λ at q d. do_test c.in_ok-body.ensures.reads c.if-not-take_keyword.ensures.2 c.if-not-take_keyword.ensures.1 d) c.in_err-test.ensures.nests
+
+pub for_statement-returns-in_err-head-clause-nests : goal.for_statement-returns-in_err-head-clause-nests
+for_statement-returns-in_err-head-clause-nests t c =
+    passed ForTail AHead (OpensAfter FOR) (OpensAfter FOR) c.args.room c.args.room c.from_residual.result c.in_err-head.field-0.0 c.from_residual.ensures
+    (λ r f. for_head (bound_of c.args.room) f)
+    (λ at q d. d) c.in_err-head.ensures.nests
+
+pub for_statement-returns-in_err-body-clause-nests : goal.for_statement-returns-in_err-body-clause-nests
+for_statement-returns-in_err-body-clause-nests t c =
+    passed ForTail AStmt (OpensAfter FOR) (OpensAs DeepStmt) c.args.room c.args.room c.from_residual-in_err-body.result c.in_err-body.field-0.0 c.from_residual-in_err-body.ensures
+    (λ r f. for_body (bound_of c.args.room) _ c.in_ok-head.ensures.reads f)
+    (λ at q d. for_opens _ c.in_ok-head.ensures.reads d) c.in_err-body.ensures.nests
+
+pub switch_statement-returns-in_err-on-clause-nests : goal.switch_statement-returns-in_err-on-clause-nests
+switch_statement-returns-in_err-on-clause-nests t c =
+    passed SwitchTail ACondition (OpensAfter SWITCH) OpensInside c.args.room c.args.room c.from_residual.result c.in_err-on.field-0.0 c.from_residual.ensures
+    (λ r f. switch_head (bound_of c.args.room) f)
+    (λ at q d. switch_test d) c.in_err-on.ensures.nests
+
+pub switch_statement-returns-in_err-groups-clause-nests : goal.switch_statement-returns-in_err-groups-clause-nests
+switch_statement-returns-in_err-groups-clause-nests t c =
+    passed SwitchTail InSwitch (OpensAfter SWITCH) (OpensAs DeepGroups) c.args.room c.args.room c.from_residual-in_err-groups.result c.in_err-groups.field-0.0 c.from_residual-in_err-groups.ensures
+    (λ r f. switch_groups (bound_of c.args.room) c.in_ok-on.ensures.reads c.if-not-take.ensures.2 f)
+    (λ at q d. groups_open c.in_ok-on.ensures.reads c.if-not-take.ensures.2 c.if-not-take.ensures.1 d) c.in_err-groups.ensures.nests
+
+pub groups-returns-in_err-labels-clause-nests : goal.groups-returns-in_err-labels-clause-nests
+groups-returns-in_err-labels-clause-nests t c =
+    let left = c.next-test.ensures in
+    passed InSwitch SomeLabels (OpensAs DeepGroups) (OpensAs DeepLabels) c.args.room c.args.room c.from_residual.result c.in_err-labels.field-0.0 c.from_residual.ensures
+    (λ r f. c.next.invariant.leads (bound_of c.args.room) r (group_labels_fail (bound_of c.args.room) left.0 (fails_at (sym left.1) f)))
+    (λ at q d. c.next.invariant.opens at _ q (labels_go_on left.1 d)) c.in_err-labels.ensures.nests
+
+pub groups-returns-in_err-body-clause-nests : goal.groups-returns-in_err-body-clause-nests
+groups-returns-in_err-body-clause-nests t c =
+    let left = c.next-test.ensures in let ls = c.in_ok-labels.ensures in
+    passed InSwitch InGroup (OpensAs DeepGroups) (OpensAs DeepStmts) c.args.room c.args.room c.from_residual-in_err-body.result c.in_err-body.field-0.0 c.from_residual-in_err-body.ensures
+    (λ r f. c.next.invariant.leads (bound_of c.args.room) r (group_body_fails (bound_of c.args.room) left.0 (labels_from left.1 ls.reads) ls.ended (λ g. fails_at (sym left.1) (ls.leads (bound_of c.args.room) _ g)) f))
+    (λ at q d. c.next.invariant.opens at _ q (body_goes_on left.1 ls.reads d)) c.in_err-body.ensures.nests
+
+pub statements-returns-in_err-first-clause-nests : goal.statements-returns-in_err-first-clause-nests
+statements-returns-in_err-first-clause-nests t c =
+    passed InGroup AStmt (OpensAs DeepStmts) (OpensAs DeepStmt) c.args.room c.args.room c.from_residual.result c.in_err-first.field-0.0 c.from_residual.ensures
+    (λ r f. first_statement_fails (bound_of c.args.room) f)
+    (λ at q d. stmt_first d) c.in_err-first.ensures.nests
+
+pub statements-returns-in_err-add_statement-clause-nests : goal.statements-returns-in_err-add_statement-clause-nests
+statements-returns-in_err-add_statement-clause-nests t c =
+    memory_wants InGroup (OpensAs DeepStmts) c.args.room _ _ _ _ c.from_residual-in_err-add_statement.result c.in_err-add_statement.field-0.0 c.from_residual-in_err-add_statement.ensures c.in_err-add_statement.ensures
+
+pub statements-returns-in_err-next-clause-nests : goal.statements-returns-in_err-next-clause-nests
+statements-returns-in_err-next-clause-nests t c =
+    passed InGroup AStmt (OpensAs DeepStmts) (OpensAs DeepStmt) c.args.room c.args.room c.from_residual-in_err-next.result c.in_err-next.field-0.0 c.from_residual-in_err-next.ensures
+    (λ r f. c.next.invariant.leads (bound_of c.args.room) r (group_goes (bound_of c.args.room) (λ e. let h = c.next-test.ensures.1 e in cc) (first_statement_fails (bound_of c.args.room) f)))
+    (λ at q d. c.next.invariant.opens at _ q (stmt_first d)) c.in_err-next.ensures.nests
+
+pub statements-returns-in_err-add_statement-2-clause-nests : goal.statements-returns-in_err-add_statement-2-clause-nests
+statements-returns-in_err-add_statement-2-clause-nests t c =
+    memory_wants InGroup (OpensAs DeepStmts) c.args.room _ _ _ _ c.from_residual-in_err-add_statement-2.result c.in_err-add_statement-2.field-0.0 c.from_residual-in_err-add_statement-2.ensures c.in_err-add_statement-2.ensures
+
+pub compound-returns-in_err-choice-in-If-clause-nests : goal.compound-returns-in_err-choice-in-If-clause-nests
+compound-returns-in_err-choice-in-If-clause-nests t c =
+    passed_in AStmt IfTail (OpensAs DeepStmt) (OpensAfter IF) c.args.room c.from_residual.result c.in_err-choice-in-If.field-0.0 c.from_residual.ensures (record { some = c.requires.room; nodes = c.in_node-inside.ensures.nodes; pairs = c.in_node-inside.ensures.pairs })
+    (λ r f. if_fails (bound_of c.args.room) (begins_as c.args.form form.If c.args.cursor.now.rest.now c.in-If.is c.requires.begins) c.skip.ensures.skips f)
+    (λ at q d. after_word (begins_as c.args.form form.If c.args.cursor.now.rest.now c.in-If.is c.requires.begins) c.skip.ensures.skips d) c.in_err-choice-in-If.ensures.nests
+
+pub compound-returns-in_err-while_loop-in-While-clause-nests : goal.compound-returns-in_err-while_loop-in-While-clause-nests
+compound-returns-in_err-while_loop-in-While-clause-nests t c =
+    passed_in AStmt WhileTail (OpensAs DeepStmt) (OpensAfter WHILE) c.args.room c.from_residual-in_err-while_loop-in-While.result c.in_err-while_loop-in-While.field-0.0 c.from_residual-in_err-while_loop-in-While.ensures (record { some = c.requires.room; nodes = c.in_node-inside.ensures.nodes; pairs = c.in_node-inside.ensures.pairs })
+    (λ r f. while_fails (bound_of c.args.room) (begins_as c.args.form form.While c.args.cursor.now.rest.now c.in-While.is c.requires.begins) c.skip.ensures.skips f)
+    (λ at q d. after_word (begins_as c.args.form form.While c.args.cursor.now.rest.now c.in-While.is c.requires.begins) c.skip.ensures.skips d) c.in_err-while_loop-in-While.ensures.nests
+
+pub compound-returns-in_err-do_loop-in-Do-clause-nests : goal.compound-returns-in_err-do_loop-in-Do-clause-nests
+compound-returns-in_err-do_loop-in-Do-clause-nests t c =
+    passed_in AStmt DoTail (OpensAs DeepStmt) (OpensAfter DO) c.args.room c.from_residual-in_err-do_loop-in-Do.result c.in_err-do_loop-in-Do.field-0.0 c.from_residual-in_err-do_loop-in-Do.ensures (record { some = c.requires.room; nodes = c.in_node-inside.ensures.nodes; pairs = c.in_node-inside.ensures.pairs })
+    (λ r f. do_fails (bound_of c.args.room) (begins_as c.args.form form.Do c.args.cursor.now.rest.now c.in-Do.is c.requires.begins) c.skip.ensures.skips f)
+    (λ at q d. after_word (begins_as c.args.form form.Do c.args.cursor.now.rest.now c.in-Do.is c.requires.begins) c.skip.ensures.skips d) c.in_err-do_loop-in-Do.ensures.nests
+
+pub compound-returns-in_err-for_loop-in-For-clause-nests : goal.compound-returns-in_err-for_loop-in-For-clause-nests
+compound-returns-in_err-for_loop-in-For-clause-nests t c =
+    passed_in AStmt ForTail (OpensAs DeepStmt) (OpensAfter FOR) c.args.room c.from_residual-in_err-for_loop-in-For.result c.in_err-for_loop-in-For.field-0.0 c.from_residual-in_err-for_loop-in-For.ensures (record { some = c.requires.room; nodes = c.in_node-inside.ensures.nodes; pairs = c.in_node-inside.ensures.pairs })
+    (λ r f. for_fails (bound_of c.args.room) (begins_as c.args.form form.For c.args.cursor.now.rest.now c.in-For.is c.requires.begins) c.skip.ensures.skips f)
+    (λ at q d. after_word (begins_as c.args.form form.For c.args.cursor.now.rest.now c.in-For.is c.requires.begins) c.skip.ensures.skips d) c.in_err-for_loop-in-For.ensures.nests
+
+pub compound-returns-in_err-switch-in-Switch-clause-nests : goal.compound-returns-in_err-switch-in-Switch-clause-nests
+compound-returns-in_err-switch-in-Switch-clause-nests t c =
+    passed_in AStmt SwitchTail (OpensAs DeepStmt) (OpensAfter SWITCH) c.args.room c.from_residual-in_err-switch-in-Switch.result c.in_err-switch-in-Switch.field-0.0 c.from_residual-in_err-switch-in-Switch.ensures (record { some = c.requires.room; nodes = c.in_node-inside.ensures.nodes; pairs = c.in_node-inside.ensures.pairs })
+    (λ r f. switch_fails (bound_of c.args.room) (begins_as c.args.form form.Switch c.args.cursor.now.rest.now c.in-Switch.is c.requires.begins) c.skip.ensures.skips f)
+    (λ at q d. after_word (begins_as c.args.form form.Switch c.args.cursor.now.rest.now c.in-Switch.is c.requires.begins) c.skip.ensures.skips d) c.in_err-switch-in-Switch.ensures.nests
+
+pub block_item-returns-clause-opens : goal.block_item-returns-clause-opens
+block_item-returns-clause-opens t c at n q d = stmt_then c.in_ok-statement.ensures.reads d
+
+pub statement-returns-then-room-eq0-clause-nests : goal.statement-returns-then-room-eq0-clause-nests
+statement-returns-then-room-eq0-clause-nests t c = c.no_room.ensures.nests c.args.room c.if-room-eq0.true
+
+pub statement-returns-then-room-eq1-clause-nests : goal.statement-returns-then-room-eq1-clause-nests
+statement-returns-then-room-eq1-clause-nests t c = compound_nests c.args.room _ c.sure_to_be_deep.result c.in-Some.form c.if-room-eq1.true c.in-Some.ensures.starts c.in-Some.ensures.some

@@ -1,9 +1,11 @@
-use Rattle.std.proofs.Common.{◌<◌, ◌≤◌, ◌+◌, ◌*◌, List, drop, length}
+use Rattle.std.proofs.Common.{◌<◌, ◌≤◌, ◌+◌, ◌*◌, ℕ, List, drop, length}
 use Rattle.c_lexer.specs.declared.token.Token.{Token}
 use Rattle.c_syntax.proofs.Heads.{head}
 use Rattle.c_refusals.specs.Fails.{Fails}
 use Rattle.c_refusals.specs.Phrases.{Bound, InBlock, InSwitch}
 use Rattle.c_refusals.specs.Groups.{InGroup, GroupRest}
+use Rattle.c_refusals.specs.Opens.{Opens, DeepBlock}
+use Rattle.c_openings.specs.Deep.{DeepGroups, DeepStmts}
 use Rattle.c_parser.specs.Lists.{Goes, Rest}
 use Rattle.c_parser.specs.Parsed.{AreBlockItems, AreStmts, AreGroups}
 use Rattle.c_parser.proofs.statements.+statement.Given as goal
@@ -45,6 +47,7 @@ abbrev pub invariant-block-next : goal.invariant-block-next
 invariant-block-next l = record {
   goes : Goes (AreBlockItems l.inside) (AreBlockItems l.inside) l.items.items (drop 1 l.fn.cursor.rest.now) l.cursor.rest.now;
   leads : (x : Bound) (r : List Token) → Fails (InBlock x) l.cursor.rest.now r → Fails (InBlock x) (drop 1 l.fn.cursor.rest.now) r;
+  opens : (at n : ℕ) (q : List Token) → Opens (DeepBlock at l.inside.pairs n) l.cursor.rest.now q → Opens (DeepBlock at l.inside.pairs n) (drop 1 l.fn.cursor.rest.now) q;
   shorter : length l.cursor.rest.now < length l.fn.cursor.rest.now;
 }
 
@@ -55,6 +58,7 @@ abbrev pub invariant-groups-next : goal.invariant-groups-next
 invariant-groups-next l = record {
   goes : Goes (AreGroups l.room) (AreGroups l.room) l.groups.items l.fn.cursor.rest.now l.cursor.rest.now;
   leads : (x : Bound) (r : List Token) → Fails (InSwitch x) l.cursor.rest.now r → Fails (InSwitch x) l.fn.cursor.rest.now r;
+  opens : (at n : ℕ) (q : List Token) → Opens (DeepGroups at l.room.pairs n) l.cursor.rest.now q → Opens (DeepGroups at l.room.pairs n) l.fn.cursor.rest.now q;
   shorter : length l.cursor.rest.now ≤ length l.fn.cursor.rest.now;
 }
 
@@ -65,6 +69,7 @@ abbrev pub invariant-statements-next : goal.invariant-statements-next
 invariant-statements-next l = record {
   goes : Goes (AreStmts l.room) (Rest (AreStmts l.room)) l.body.items l.fn.cursor.rest.now l.cursor.rest.now;
   leads : (x : Bound) (r : List Token) → Fails (GroupRest x) l.cursor.rest.now r → Fails (InGroup x) l.fn.cursor.rest.now r;
+  opens : (at n : ℕ) (q : List Token) → Opens (DeepStmts at l.room.pairs n) l.cursor.rest.now q → Opens (DeepStmts at l.room.pairs n) l.fn.cursor.rest.now q;
   begins : 20 ≤ head l.fn.cursor.rest.now;
   shorter : length l.cursor.rest.now < length l.fn.cursor.rest.now;
 }

@@ -5,6 +5,11 @@ use Rattle.c_refusals.specs.Phrases.{AFirst}
 use Rattle.c_parser.specs.Refusing.{ABefore, AHead}
 use Rattle.c_lexer.specs.declared.punctuator.TheConstants.{SEMICOLON, RIGHT_PARENTHESIS}
 use Rattle.c_phrases.specs.Refusing.{bound_of}
+use Rattle.c_lexer.specs.declared.keyword.TheConstants.{FOR}
+use Rattle.c_syntax.specs.Grammar.{expression_level}
+use Rattle.c_parser.specs.Nesting.{OpensAfter, OpensInHead, OpensExpr}
+use Rattle.c_parser.proofs.StmtGoesOn.{head_first, head_test, head_step}
+use Rattle.c_parser.proofs.Passing.{passed}
 use Rattle.c_parser.proofs.statements.for_head.Goals as goal
 
 pub returns-clause-reads : goal.returns-clause-reads
@@ -35,3 +40,21 @@ returns-in_err-test-clause-stops c = raised AHead (ABefore SEMICOLON) (bound_of 
 pub returns-in_err-step-clause-stops : goal.returns-in_err-step-clause-stops
 returns-in_err-step-clause-stops c =
     raised AHead (ABefore RIGHT_PARENTHESIS) (bound_of c.args.room) _ c.from_residual-in_err-step.result c.in_err-step.field-0.0 c.from_residual-in_err-step.ensures (λ x r f. step_fails x c.if-not-take.ensures.2 c.in_ok-first.ensures.reads c.in_ok-test.ensures.reads f) c.in_err-step.ensures.stops
+
+pub returns-in_err-first-clause-nests : goal.returns-in_err-first-clause-nests
+returns-in_err-first-clause-nests c =
+    passed AHead AFirst (OpensAfter FOR) OpensInHead c.args.room c.args.room c.from_residual.result c.in_err-first.field-0.0 c.from_residual.ensures
+    (λ r f. first_fails (bound_of c.args.room) c.if-not-take.ensures.2 f)
+    (λ at q d. head_first c.if-not-take.ensures.2 c.if-not-take.ensures.1 d) c.in_err-first.ensures.nests
+
+pub returns-in_err-test-clause-nests : goal.returns-in_err-test-clause-nests
+returns-in_err-test-clause-nests c =
+    passed AHead (ABefore SEMICOLON) (OpensAfter FOR) (OpensExpr expression_level) c.args.room c.args.room c.from_residual-in_err-test.result c.in_err-test.field-0.0 c.from_residual-in_err-test.ensures
+    (λ r f. test_fails (bound_of c.args.room) c.if-not-take.ensures.2 c.in_ok-first.ensures.reads f)
+    (λ at q d. head_test c.if-not-take.ensures.2 c.if-not-take.ensures.1 c.in_ok-first.ensures.reads d) c.in_err-test.ensures.nests
+
+pub returns-in_err-step-clause-nests : goal.returns-in_err-step-clause-nests
+returns-in_err-step-clause-nests c =
+    passed AHead (ABefore RIGHT_PARENTHESIS) (OpensAfter FOR) (OpensExpr expression_level) c.args.room c.args.room c.from_residual-in_err-step.result c.in_err-step.field-0.0 c.from_residual-in_err-step.ensures
+    (λ r f. step_fails (bound_of c.args.room) c.if-not-take.ensures.2 c.in_ok-first.ensures.reads c.in_ok-test.ensures.reads f)
+    (λ at q d. head_step c.if-not-take.ensures.2 c.if-not-take.ensures.1 c.in_ok-first.ensures.reads c.in_ok-test.ensures.reads d) c.in_err-step.ensures.nests

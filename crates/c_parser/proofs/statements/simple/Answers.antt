@@ -9,6 +9,11 @@ use Rattle.c_refusals.specs.Phrases.{AStmt, AnExpr}
 use Rattle.c_parser.specs.Refusing.{ABefore}
 use Rattle.c_syntax.specs.Grammar.{expression_level}
 use Rattle.c_lexer.specs.declared.punctuator.TheConstants.{SEMICOLON}
+use Rattle.c_phrases.specs.Refusing.{bound_of}
+use Rattle.c_refusals.specs.Opens.{DeepStmt, DeepExpr}
+use Rattle.c_parser.specs.Nesting.{OpensAs, OpensExpr}
+use Rattle.c_parser.proofs.StmtGoesOn.{return_goes_on, evaluation_goes_on}
+use Rattle.c_parser.proofs.Passing.{passed_deep_in, passed_in}
 use Rattle.c_parser.proofs.statements.simple.Goals as goal
 
 pub returns-then-take-clause-reads : goal.returns-then-take-clause-reads
@@ -65,3 +70,17 @@ returns-then-not-take-3-clause-stops c =
     (evaluation_unclosed any
     (other_from q (no_other c.requires.no_block c.requires.other c.if-take.ensures.0 c.if-take.ensures.1 c.if-take_keyword.ensures.0 c.if-take_keyword.ensures.1 c.if-take_keyword-2.ensures.0 c.if-take_keyword-2.ensures.1 c.if-take_keyword-3.ensures.0))
     c.in_ok-whole.ensures.parses k.0))
+
+pub returns-in_err-value-clause-nests : goal.returns-in_err-value-clause-nests
+returns-in_err-value-clause-nests c =
+    let w = c.if-take_keyword-3.ensures in
+    passed_in AStmt (ABefore SEMICOLON) (OpensAs DeepStmt) (OpensExpr expression_level) c.args.room c.from_residual-in_err-value.result c.in_err-value.field-0.0 c.from_residual-in_err-value.ensures (record { some = c.requires.room; nodes = c.in_node-inside.ensures.nodes; pairs = c.in_node-inside.ensures.pairs })
+    (λ r f. return_fails (bound_of c.args.room) (sym c.if-take.ensures.1 ∙ sym c.if-take_keyword.ensures.1 ∙ sym c.if-take_keyword-2.ensures.1 ∙ w.2) w.1 f)
+    (λ at q d. return_goes_on (sym c.if-take.ensures.1 ∙ sym c.if-take_keyword.ensures.1 ∙ sym c.if-take_keyword-2.ensures.1 ∙ w.2) w.1 d) c.in_err-value.ensures.nests
+
+pub returns-in_err-whole-clause-nests : goal.returns-in_err-whole-clause-nests
+returns-in_err-whole-clause-nests c =
+    let q = c.if-take_keyword-3.ensures.1 ∙ c.if-take_keyword-2.ensures.1 ∙ c.if-take_keyword.ensures.1 ∙ c.if-take.ensures.1 in
+    passed_deep_in AStmt (λ x. AnExpr x expression_level) (OpensAs DeepStmt) (λ at p n. DeepExpr at p n expression_level) c.args.room c.from_residual-in_err-whole.result c.in_err-whole.field-0.0 c.from_residual-in_err-whole.ensures (record { some = c.requires.room; nodes = c.in_node-inside.ensures.nodes; pairs = c.in_node-inside.ensures.pairs })
+    (λ r f. evaluation_fails (bound_of c.args.room) (no_other c.requires.no_block c.requires.other c.if-take.ensures.0 c.if-take.ensures.1 c.if-take_keyword.ensures.0 c.if-take_keyword.ensures.1 c.if-take_keyword-2.ensures.0 c.if-take_keyword-2.ensures.1 c.if-take_keyword-3.ensures.0) (fails_at (sym q) f))
+    (λ at r d. evaluation_goes_on q d) c.in_err-whole.ensures.nests
