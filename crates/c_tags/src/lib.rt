@@ -5,4 +5,4 @@ mod gather;
 mod tags;
 mod units;
 
-pub use units::{push_tags, tags_of};
+pub use units::{push_tags, tag_names, tags_of};
