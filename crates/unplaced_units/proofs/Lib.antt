@@ -1,0 +1,12 @@
+pub mod Alike
+pub mod Blocks
+pub mod Counted
+pub mod Declared
+pub mod Expressions
+pub mod Functions
+pub mod Initialisers
+pub mod Items
+pub mod Operators
+pub mod Statements
+pub mod Tags
+pub mod Units
