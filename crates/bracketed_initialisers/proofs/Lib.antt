@@ -1,0 +1,4 @@
+pub mod Cells
+pub mod Initialisers
+pub mod Reserved
+pub mod Scopes

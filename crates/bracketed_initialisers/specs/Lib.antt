@@ -1,0 +1,2 @@
+pub mod Initialisers
+pub mod Standing
