@@ -1,0 +1,3 @@
+pub mod Declarations
+pub mod Laid
+pub mod Numbers
