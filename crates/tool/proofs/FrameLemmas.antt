@@ -6,17 +6,18 @@ use Rattle.dm_base.specs.declared.verdict.Status.{Status}
 use Rattle.dm_base.specs.declared.verdict.Status.TheVariants as statuses
 use Rattle.dm_io.specs.Sink.{Takes}
 use Rattle.dm_io.specs.Store.{Files}
-use Rattle.tool.specs.declared.stop.Stop.{Stop}
-use Rattle.tool.specs.declared.stop.Stop.TheVariants as stops
-use Rattle.tool.specs.Commands.{IsFinished}
+use Rattle.tool_frame.specs.declared.stop.Stop.{Stop}
+use Rattle.tool_frame.specs.declared.stop.Stop.TheVariants as stops
+use Rattle.tool_frame.specs.Stop.{IsFinished, status_of_stop}
 use Rattle.tool.specs.Frame.{call_of, IsSound, IsRefused, IsUndisturbed, Writes}
-use Rattle.tool.specs.Stop.{HasStop, IsWorked, status_of_stop}
+use Rattle.tool.specs.Stop.{HasStop, IsWorked}
 use Rattle.tool.proofs.CommandLemmas.{ready_not_refused, made_not_refused, refused_once}
 
 module _ (words : List (List ℕ)) (files : Option Files) (before after out_before out_after : ℕ) where
   -- a sound call stops for want of memory alone
   pub sound_stop : (stop : Stop) → HasStop stop words files before after → IsSound (call_of words files before after out_before out_after) → IsUndisturbed (call_of words files before after out_before out_after) → IsFinished (status_of_stop stop) ⊎ (status_of_stop stop ≡ statuses.OutOfMemory)
   sound_stop stops.Usage has sound undisturbed = absurd (has (sound.0, sound.1))
+  sound_stop (stops.Source line) has sound undisturbed = absurd (ready_not_refused sound.0 has.0 words files statuses.SourceRefused line.items sound.1 has.1 sound.2 has.2)
   sound_stop (stops.Model line) has sound undisturbed = absurd (ready_not_refused sound.0 has.0 words files statuses.ModelRefused line.items sound.1 has.1 sound.2 has.2)
   sound_stop (stops.Record line) has sound undisturbed = absurd (ready_not_refused sound.0 has.0 words files statuses.RecordRefused line.items sound.1 has.1 sound.2 has.2)
   sound_stop stops.Read (inl rose) sound undisturbed = absurd (undisturbed.store rose.1)
@@ -27,6 +28,7 @@ module _ (words : List (List ℕ)) (files : Option Files) (before after out_befo
   -- a refusal that is due is given
   pub refused_stop : (stop : Stop) (status : Status) (line : List ℕ) → HasStop stop words files before after → IsSome files → IsRefused (call_of words files before after out_before out_after) status line → IsUndisturbed (call_of words files before after out_before out_after) → (status_of_stop stop ≡ status) ⊎ (status_of_stop stop ≡ statuses.OutOfMemory)
   refused_stop stops.Usage status line has told refused undisturbed = absurd (has (refused.0, refused.1))
+  refused_stop (stops.Source own) status line has told refused undisturbed = inl (refused_once has.0 refused.0 words files statuses.SourceRefused status own.items line told has.1 refused.1 has.2 refused.2)
   refused_stop (stops.Model own) status line has told refused undisturbed = inl (refused_once has.0 refused.0 words files statuses.ModelRefused status own.items line told has.1 refused.1 has.2 refused.2)
   refused_stop (stops.Record own) status line has told refused undisturbed = inl (refused_once has.0 refused.0 words files statuses.RecordRefused status own.items line told has.1 refused.1 has.2 refused.2)
   refused_stop stops.Read status line (inl rose) told refused undisturbed = absurd (undisturbed.store rose.1)

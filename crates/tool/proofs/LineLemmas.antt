@@ -1,6 +1,6 @@
 -- Words that are no command line.
 use Rattle.std.proofs.Common.{◌≡◌, ℕ, List, [], ◌∷◌, Option, Some, None, IfNone, inl, inr, subst}
-use Rattle.tool.specs.declared.command.Asked.{Asked}
+use Rattle.model_commands.specs.declared.asked.Asked.{Asked}
 use Rattle.tool.specs.Command.{Command, TraceCommand, IsCommandLine, IsAskedBy}
 use Rattle.tool.specs.Command.Command.{Version, Help, OfFile, OfTrace, Measure}
 use Rattle.tool.specs.Command.TraceCommand.{Judge, Watch}

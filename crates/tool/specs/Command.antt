@@ -1,24 +1,7 @@
 -- The command lines.
 use Rattle.std.specs.Prelude.{◌≡◌, ◌⊎◌, ℕ, ◌≤◌, List, [], ◌∷◌, codes, decimal}
-use Rattle.flow_model.specs.declared.which.Which.{Which}
-use Rattle.flow_model.specs.declared.which.Which.TheVariants.{Callgraph, Stack, Dyck}
-use Rattle.report.specs.VerdictLine.{word_of}
-use Rattle.tool.specs.declared.command.Asked.{Asked}
-use Rattle.tool.specs.declared.command.Asked.TheVariants as asked
-
--- the monitors that a word asks for, in the order of their lines
-abbrev pub monitors_of : Asked → List Which
-monitors_of asked.Callgraph = Callgraph ∷ []
-monitors_of asked.Stack = Stack ∷ []
-monitors_of asked.Dyck = Dyck ∷ []
-monitors_of asked.All = Callgraph ∷ Stack ∷ Dyck ∷ []
-
--- the word that asks for monitors
-abbrev pub asked_word : Asked → List ℕ
-asked_word asked.Callgraph = word_of Callgraph
-asked_word asked.Stack = word_of Stack
-asked_word asked.Dyck = word_of Dyck
-asked_word asked.All = codes "all"
+use Rattle.model_commands.specs.declared.asked.Asked.{Asked}
+use Rattle.model_commands.specs.Monitors.{asked_word}
 
 -- the words that ask for monitors up to a bound, which is 1 to 65,535, and 1,000 where none is given
 abbrev pub IsAskedBy : Asked → ℕ → List (List ℕ) → Type 0

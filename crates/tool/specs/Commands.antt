@@ -1,16 +1,18 @@
 -- What each command makes of its words and files: one line a command in each definition.
-use Rattle.std.specs.Prelude.{◌≡◌, ◌⊎◌, ℕ, List, ◌++◌, Option, Some, None, codes}
+use Rattle.std.specs.Prelude.{◌≡◌, ℕ, List, ◌++◌, Option, Some, None, codes}
 use Rattle.dm_base.specs.declared.verdict.Status.{Status}
-use Rattle.dm_base.specs.declared.verdict.Status.TheVariants.{Done, Rejected, Bound}
+use Rattle.dm_base.specs.declared.verdict.Status.TheVariants.{Done}
 use Rattle.dm_io.specs.Store.{Files, IsMissing}
-use Rattle.tool.specs.Command.{Command, monitors_of}
+use Rattle.tool_frame.specs.Stop.{IsFinished}
+use Rattle.tool.specs.Command.{Command}
 use Rattle.tool.specs.Command.FileCommand.{Upgrade}
 use Rattle.tool.specs.Command.Command.{Version, Help, OfFile, OfTrace, Measure}
 use Rattle.tool.specs.Command.TraceCommand.{Judge, Watch}
-use Rattle.tool.specs.Judge.{Judges, RefusesToJudge, LacksToJudge, IsReadyToJudge}
-use Rattle.tool.specs.Measure.{Measures}
-use Rattle.tool.specs.Upgrade.{Upgrades, RefusesToUpgrade, IsReadyToUpgrade}
-use Rattle.tool.specs.Watch.{Watches, RefusesToWatch, IsReadyToWatch}
+use Rattle.model_commands.specs.Judge.{Judges, RefusesToJudge, LacksToJudge, IsReadyToJudge}
+use Rattle.model_commands.specs.Measure.{Measures}
+use Rattle.model_commands.specs.Monitors.{monitors_of}
+use Rattle.model_commands.specs.Upgrade.{Upgrades, RefusesToUpgrade, IsReadyToUpgrade}
+use Rattle.model_commands.specs.Watch.{Watches, RefusesToWatch, IsReadyToWatch}
 
 abbrev pub version_text : List ℕ
 version_text = codes "dyckmon 1\n"
@@ -26,10 +28,6 @@ help_text =
     ++ codes "MODEL, TRACE and TRACES are names of files. WHICH is callgraph, stack, dyck, or all for the three in\n"
     ++ codes "this order. K is how many calls may be open at once in the Dyck model, 1 to 65535; it is 1000 where\n"
     ++ codes "none is given.\n"
-
--- the work was done: some text was written whole
-abbrev pub IsFinished : Status → Type 0
-IsFinished status = (status ≡ Done) ⊎ ((status ≡ Rejected) ⊎ (status ≡ Bound))
 
 -- the command writes this text and ends with this status
 abbrev pub Makes : Command → Option Files → Status → List ℕ → Type 0

@@ -5,6 +5,7 @@ use Rattle.dm_base.specs.declared.verdict.Status.TheVariants.{Done, Rejected, Us
 use Rattle.dm_io.specs.Faults.{Rose}
 use Rattle.dm_io.specs.Sink.{Takes}
 use Rattle.dm_io.specs.Store.{Files}
+use Rattle.tool_frame.specs.Report.{TakesLine}
 use Rattle.tool.specs.Command.{Command, IsCommandLine}
 use Rattle.tool.specs.Commands.{Makes, Refuses, Lacks, IsReady}
 
@@ -62,10 +63,6 @@ Writes ReadFault call old new = new ≡ old
 Writes WriteFault call old new = (status : Status) × (text : List ℕ) × (n : ℕ) × IsMade call status text × Takes old new (take n text)
 Writes OutOfMemory call old new = new ≡ old
 Writes Bound call old new = (text : List ℕ) × IsMade call Bound text × Takes old new text
-
--- the line has been written, or a part of it from its front where err's count of faults rose
-abbrev pub TakesLine : ℕ → ℕ → Option (List ℕ) → Option (List ℕ) → List ℕ → Type 0
-TakesLine before after old new line = Takes old new line ⊎ ((n : ℕ) × Rose before after × Takes old new (take n line))
 
 -- what err has got: the line of the status, or nothing where the text was written
 abbrev pub Reports : Status → Call → ℕ → ℕ → Option (List ℕ) → Option (List ℕ) → Type 0

@@ -1,16 +1,5 @@
 pub mod Asked
 pub mod Command
 pub mod Commands
-pub mod Following
-pub mod Found
 pub mod Frame
-pub mod Judge
-pub mod Judged
-pub mod Measure
-pub mod Reading
-pub mod Refused
 pub mod Stop
-pub mod Told
-pub mod Upgrade
-pub mod Watch
-pub mod Watched

@@ -1,21 +1,13 @@
 ghost use Rattle.std.specs.Prelude.{◌≡◌, ◌≤◌, ◌⊎◌, ℕ, List, [], ◌∷◌, map, string_bytes, decimal, IfSome, IfNone};
-ghost use Rattle.tool.specs.Command.{Command as AskedCommand, TraceCommand, IsCommandLine, IsAskedBy, asked_word};
+ghost use Rattle.model_commands.specs.Monitors.{asked_word};
+ghost use Rattle.tool.specs.Command.{Command as AskedCommand, TraceCommand, IsCommandLine, IsAskedBy};
 ghost use Rattle.tool.specs.Command.Command.{OfTrace, Measure};
 ghost use Rattle.tool.specs.Command.TraceCommand.{Judge, Watch};
-ghost use Rattle.tool.specs.declared.command.Asked.{Asked as AnyAsked};
+ghost use Rattle.model_commands.specs.declared.asked.Asked.{Asked as AnyAsked};
 ghost use Rattle.tool.specs.Asked.{asked_by};
 
 use dm_base::read_u32;
-
-/// The monitors that a command line asks for.
-#[derive(Clone, Copy, Debug, PartialEq, Eq)]
-pub enum Asked {
-    Callgraph,
-    Stack,
-    Dyck,
-    /// All three, in this order.
-    All,
-}
+use model_commands::Asked;
 
 /// What the words ask for.
 #[derive(Clone, Copy, Debug, PartialEq, Eq)]

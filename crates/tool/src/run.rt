@@ -1,20 +1,16 @@
 ghost use Rattle.std.specs.Prelude.{◌≡◌, ◌≤◌, ◌⊎◌, ℕ, List, Some, map, string_bytes, IsSome, IfOk, IfErr};
 ghost use Rattle.dm_base.specs.declared.verdict.Status.{Status as AnyStatus};
 ghost use Rattle.dm_io.specs.Memory.{told};
-ghost use Rattle.tool.specs.Commands.{IsFinished};
-ghost use Rattle.tool.specs.Frame.{call_of, HasCause, Writes, Reports, IsAsked, IsLacking, IsRefused, IsSound, IsUndisturbed, TakesLine};
-ghost use Rattle.tool.specs.Stop.{line_of, status_of_stop, HasStop, IsWorked};
+ghost use Rattle.tool.specs.Frame.{call_of, HasCause, Writes, Reports, IsAsked, IsLacking, IsRefused, IsSound, IsUndisturbed};
+ghost use Rattle.tool.specs.Stop.{HasStop, IsWorked};
+ghost use Rattle.tool_frame.specs.Stop.{IsFinished};
 
 use crate::command::{Command, command_of};
-use crate::finished::Finished;
-use crate::judge::judge;
-use crate::measure::measure;
-use crate::stop::Stop;
-use crate::upgrade::upgrade;
-use crate::watch_traces::watch_traces;
 use dm_base::{OutOfMemory, Status};
 use dm_io::{HonestSink, HonestStore, Sink, Store, write_whole};
+use model_commands::{judge, measure, upgrade, watch_traces};
 use std::alloc::Global;
+use tool_frame::{Finished, Stop, refuse};
 
 const VERSION_TEXT: &[u8] = b"dyckmon 1\n";
 
@@ -77,16 +73,6 @@ fn work<S: Store>(alloc: Global, words: &[String], store: &mut S) -> Result<Fini
             },
         ) => watch_traces(alloc, store, model, traces, asked, bound),
     }
-}
-
-// Writes the line of a stop on err, and gives the status. A failed write changes no status.
-fn refuse<E: Sink>(err: &mut E, stop: &Stop) -> Status
-    ensures status { result ≡ status_of_stop stop.now }
-    ensures never_falls { E.faults err.old ≤ E.faults err.new }
-    ensures line { TakesLine (E.faults err.old) (E.faults err.new) (E.taken err.old) (E.taken err.new) (line_of stop.now) }
-{
-    let _ = write_whole(err, stop.line());
-    stop.status()
 }
 
 /// Runs the tool: reads the words and the files that they name, does the work, writes its text on

@@ -2,7 +2,7 @@ use Rattle.std.proofs.Common.{◌≡◌, ℕ, List, map, string_bytes, sym, subs
 use Rattle.std.specs.Prelude.{◌⊎◌}
 use Rattle.dm_base.specs.declared.verdict.Status.{Status}
 use Rattle.dm_base.specs.declared.verdict.Status.TheVariants as statuses
-use Rattle.tool.specs.Commands.{IsFinished}
+use Rattle.tool_frame.specs.Stop.{IsFinished}
 use Rattle.tool.specs.Frame.{call_of, Writes}
 use Rattle.tool.proofs.FrameLemmas.{sound_stop, refused_stop, done_not_refused, written_in_part}
 use Rattle.tool.proofs.run.run_tool.Goals as goal

@@ -1,0 +1,9 @@
+/// The monitors that a command line asks for.
+#[derive(Clone, Copy, Debug, PartialEq, Eq)]
+pub enum Asked {
+    Callgraph,
+    Stack,
+    Dyck,
+    /// All three, in this order.
+    All,
+}
