@@ -1,0 +1,6 @@
+pub mod DeclarationLemmas
+pub mod Exits
+pub mod NodeLemmas
+pub mod PartLemmas
+pub mod StatementLemmas
+pub mod SwitchLemmas
