@@ -3,19 +3,18 @@ use Rattle.std.proofs.Common.{◌≡◌, ℕ, zero, suc, ◌+◌, ◌<◌, ◌�
 use Rattle.std.proofs.lemmas.List.{drop_all, drop_more}
 use Rattle.c_given.specs.declared.error.CheckError.{CheckError}
 use Rattle.c_given.specs.Judges.{Names}
-use Rattle.c_given.proofs.Parts.{names_on, names_first, names_second}
-use Rattle.c_rules.specs.Blocks.{Laid, after_part, alone, behind_local, behind_part, behind_parts, held_by_part, held_by_parts, local, local_of, local_part, local_parts, one_more, past_part, some_more, within_local}
-use Rattle.c_rules.specs.Checked.{Checked, fine, faults, both, gives, on, Met, met}
+use Rattle.c_given.proofs.Parts.{names_on, names_first}
+use Rattle.c_rules.specs.Blocks.{Laid, after_part, alone, behind_part, behind_parts, held_by_part, held_by_parts, local, local_of, local_part, local_parts, one_more, past_part, some_more, within_local}
+use Rattle.c_rules.specs.Checked.{Checked, fine, faults, both, gives, on}
 use Rattle.c_rules.specs.Counts.{past}
 use Rattle.c_rules.specs.Declarators.{new_name}
 use Rattle.c_rules.specs.Initialisers.{Slots, copies, each, calls_of_maybe_init, held, held_by, held_in_turn, slots}
 use Rattle.c_rules.specs.Names.{Name}
 use Rattle.c_rules.specs.Objects.{Object}
-use Rattle.c_rules.specs.Scopes.{Env, Before, Meaning, a_local, meaning_or_unknown, with_name}
-use Rattle.c_rules.specs.Variables.{Next, calls_of_parts, names_of_parts, number_in, past_names}
-use Rattle.c_statements.specs.Ruled.{local_as}
-use Rattle.c_statements.proofs.PartLemmas.{behind_met}
-use Rattle.c_statements.proofs.StatementLemmas.{alone_and, laid_and, onto_laid, onto_one, more_none, past_past, past_none}
+use Rattle.c_rules.specs.Scopes.{Env, Before, Meaning, with_name}
+use Rattle.c_rules.specs.Variables.{Next, calls_of_parts, names_of_parts, past_names}
+use Rattle.c_expressions.proofs.NodeLemmas.{past_past}
+use Rattle.c_statements.proofs.StatementLemmas.{alone_and, laid_and, onto_laid, onto_one, more_none}
 use Rattle.c_syntax.specs.declared.tree.DeclPart.{DeclPart}
 use Rattle.c_syntax.specs.Tree as syntax
 use Rattle.c_syntax.specs.Tree.{Ident, Init, one, list, MaybeInit, no_init, an_init, Parts, more_parts, Spec}
@@ -54,21 +53,6 @@ held_within env x m t no_init = refl
 held_within env x m t (an_init i) = held_named env x m t i
 
 -- ## One variable
-
--- where its name is new and its type is that of an object
-abbrev within_new : Env → Next → Ident → Object → Checked Met → Env
-within_new env next x o d = with_name env x.name (meaning_or_unknown (both (fine o) d (λ u _. fine (a_local (number_in next x.name) u.seen u.whole))))
-
-abbrev behind_new : Env → Next → Ident → Object → Checked Met → Env
-behind_new env next x o d = with_name env x.name (meaning_or_unknown (both (fine o) d (λ u _. fine (a_local (number_in next x.name) u.whole u.whole))))
-
-pub local_is : (env : Env) (b : Before) (next : Next) (x : Ident) (m : MaybeInit) (r : Checked Object) (o : Object) → new_name env x ≡ fine met → r ≡ fine o → local env b next x m r ≡ local_as env b (number_in next x.name) x m o
-local_is env b next x m r o new is =
-    ap (local env b next x m) is
-    ∙ (behind_met (new_name env x) (local_of (within_local env next x (fine o)) b next x m o) new ∙ ap (λ d. local_of (within_new env next x o d) b next x m o) new)
-
-pub behind_is : (env : Env) (next : Next) (x : Ident) (r : Checked Object) (o : Object) → new_name env x ≡ fine met → r ≡ fine o → with_name env x.name (a_local (number_in next x.name) o.whole o.whole) ≡ behind_local env next x r
-behind_is env next x r o new is = sym (ap (behind_local env next x) is ∙ ap (behind_new env next x o) new)
 
 -- ## Declarators
 
@@ -129,16 +113,6 @@ pub parts_end : (env : Env) (b : Before) (next : Next) (at : ℕ) (s : Spec) (ps
 parts_end env b next at s ps i d all le before =
     before ∙ (ap (λ l. onto_laid d (local_parts env b next at s (parts_of l))) (drop_all i ps le) ∙ ap fine (more_none d))
 
-pub parts_counted_end : (env : Env) (b whole : Before) (next : Next) (at : ℕ) (s : Spec) (ps : List DeclPart) (i : ℕ) → length ps ≤ i → whole ≡ past b (calls_of_parts (parts_of (drop i ps))) (held_by_parts env next at s (parts_of (drop i ps))) → b ≡ whole
-parts_counted_end env b whole next at s ps i le before =
-    sym (before ∙ (ap (λ l. past b (calls_of_parts (parts_of l)) (held_by_parts env next at s (parts_of l))) (drop_all i ps le) ∙ past_none b))
-
-pub parts_meant_end : (env whole : Env) (next : Next) (at : ℕ) (s : Spec) (ps : List DeclPart) (i : ℕ) → length ps ≤ i → whole ≡ behind_parts env next at s (parts_of (drop i ps)) → env ≡ whole
-parts_meant_end env whole next at s ps i le before = sym (before ∙ ap (λ l. behind_parts env next at s (parts_of l)) (drop_all i ps le))
-
-pub parts_numbered_end : (whole next : Next) (ps : List DeclPart) (i : ℕ) → length ps ≤ i → whole ≡ past_names next (names_of_parts (parts_of (drop i ps))) → next ≡ whole
-parts_numbered_end whole next ps i le before = sym (before ∙ ap (λ l. past_names next (names_of_parts (parts_of l))) (drop_all i ps le))
-
 -- ## Demands on one variable
 
 module _ (e : CheckError) (env : Env) (b : Before) (next : Next) (x : Ident) (m : MaybeInit) (r : Checked Object) where
@@ -147,6 +121,3 @@ module _ (e : CheckError) (env : Env) (b : Before) (next : Next) (x : Ident) (m 
 
   pub name_fails : Names e (faults (new_name env x)) → Names e (faults (local env b next x m r))
   name_fails h = names_first e (new_name env x) (on r within) (λ _ p. fine p) h
-
-  pub object_fails : Names e (faults r) → Names e (faults (local env b next x m r))
-  object_fails h = names_second e (new_name env x) (on r within) (λ _ p. fine p) (names_on e r within h)

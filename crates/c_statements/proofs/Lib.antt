@@ -1,5 +1,4 @@
 pub mod DeclarationLemmas
-pub mod Exits
 pub mod NodeLemmas
 pub mod PartLemmas
 pub mod StatementLemmas

@@ -17,7 +17,7 @@ use Rattle.c_scopes.specs.declared.environment.Environment.{Environment}
 use Rattle.c_scopes.specs.View.{env_of}
 use Rattle.c_statements.specs.Ruled.{after_for, tested}
 use Rattle.c_statements.proofs.PartLemmas.{names_of_three, names_of_two}
-use Rattle.c_statements.proofs.StatementLemmas.{past_past}
+use Rattle.c_expressions.proofs.NodeLemmas.{past_past}
 use Rattle.c_syntax.specs.declared.tree.BlockItem.{BlockItem}
 use Rattle.c_syntax.specs.declared.tree.Expr.{Expr as ExprTree}
 use Rattle.c_syntax.specs.declared.tree.Group.{Group}
@@ -60,7 +60,7 @@ after_switch env b next at e gs = past_past b (calls e) (calls_of_groups gs) (st
 pub after_parts : (outer : Env) (b : Before) (next : Next) (first : First) (test step : Maybe) (s : Stmt)
     → after_for outer b next first test step s
     ≡ past b (calls_of_first first + (calls_of_maybe test + (calls_of_maybe step + calls_of_stmt s)))
-      (held_by_first outer next first ++ (strings_of_maybe test ++ (strings_of_maybe step ++ held_by_stmt (behind_first outer next first) (past_names next (names_of_first first)) s)))
+    (held_by_first outer next first ++ (strings_of_maybe test ++ (strings_of_maybe step ++ held_by_stmt (behind_first outer next first) (past_names next (names_of_first first)) s)))
 after_parts outer b next first test step s =
     let held : List (List ℕ) = held_by_stmt (behind_first outer next first) (past_names next (names_of_first first)) s in
     let b1 : Before = after_first outer b next first in
@@ -102,10 +102,6 @@ declared_more a b c d e = (e.0 ++ d.0, e.1 ∙ (λ i. record (d.1 i) { names = e
 pub ok_as : {X A : Type 0} (r : Result X CheckError) (new x y : A) → OnOk r (new ≡ x) → x ≡ y → OnOk r (new ≡ y)
 ok_as (Ok a) new x y h q = h ∙ q
 ok_as (Err e) new x y h q = tt
-
-pub ok_declared : {X : Type 0} (r : Result X CheckError) (a b c : Environment) → b ≡ a → OnOk r (Declares b c) → OnOk r (Declares a c)
-ok_declared (Ok x) a b c h d = declared_more a b c (declared_same a b h) d
-ok_declared (Err e) a b c h d = tt
 
 -- the names of one declaration alone
 pub numbered_alone : {X : Type 0} (r : Result X CheckError) (new next : Next) (names : List Name) → OnOk r (new ≡ past_names next names) → OnOk r (new ≡ past_names next (names ++ []))

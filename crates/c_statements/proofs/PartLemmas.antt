@@ -3,7 +3,7 @@ use Rattle.std.proofs.Common.{◌≡◌, List, [], ◌∷◌, ◌++◌, refl, ap
 use Rattle.c_given.specs.declared.error.CheckError.{CheckError}
 use Rattle.c_given.specs.Judges.{Names}
 use Rattle.c_given.proofs.Parts.{named_left}
-use Rattle.c_rules.specs.Checked.{Fault, Checked, fine, faulty, faults, all_three, beside, both, on, Two, Met, met}
+use Rattle.c_rules.specs.Checked.{Fault, Checked, fine, faulty, faults, all_three, beside, both, Two}
 
 pub faulty_not_fine : {A : Type 0} (f : Fault) (fs : List Fault) (a : A) → faulty f fs ≡ fine a → ⊥
 faulty_not_fine f fs a h = cc
@@ -47,23 +47,3 @@ two_as (fine x) (fine y) k t h =
 two_as (fine x) (faulty g gs) k t h = absurd (faulty_not_fine g gs t h)
 two_as (faulty g gs) (fine y) k t h = absurd (faulty_not_fine g (gs ++ []) t h)
 two_as (faulty g gs) (faulty f fs) k t h = absurd (faulty_not_fine g (gs ++ f ∷ fs) t h)
-
-three_fine : {A B C D : Type 0} (r : Checked C) (k : A → B → C → Checked D) (s : Two A B) → all_three (fine s.first) (fine s.second) r k ≡ on r (k s.first s.second)
-three_fine (fine c) k s = refl
-three_fine (faulty f fs) k s = refl
-
-pub three_as : {A B C D : Type 0} (p : Checked A) (q : Checked B) (r : Checked C) (k : A → B → C → Checked D) (t : Two A B) → beside p q ≡ fine t → all_three p q r k ≡ on r (k t.first t.second)
-three_as (fine x) (fine y) r k t h =
-    let s : Two _ _ = record { first = x; second = y } in
-    three_fine r k s ∙ (λ i. on r (k (first_same s t h i) (second_same s t h i)))
-three_as (fine x) (faulty g gs) r k t h = absurd (faulty_not_fine g gs t h)
-three_as (faulty g gs) (fine y) r k t h = absurd (faulty_not_fine g (gs ++ []) t h)
-three_as (faulty g gs) (faulty f fs) r k t h = absurd (faulty_not_fine g (gs ++ f ∷ fs) t h)
-
--- a part behind a demand that is met
-pub behind_met : {A : Type 0} (d : Checked Met) (p : Checked A) → d ≡ fine met → both d p (λ _ a. fine a) ≡ p
-behind_met d p h = ap (λ x. both x p (λ _ a. fine a)) h ∙ after_met p
-  where
-    after_met : {A : Type 0} (p : Checked A) → both (fine met) p (λ _ a. fine a) ≡ p
-    after_met (fine a) = refl
-    after_met (faulty f fs) = refl

@@ -1,13 +1,14 @@
 -- Statements one after another, and what stands before what follows them.
-use Rattle.std.proofs.Common.{◌≡◌, ℕ, ◌+◌, ◌<◌, ◌≤◌, List, [], ◌∷◌, ◌++◌, length, drop, get_or, refl, ap, sym, subst, ◌∙◌, arith, append_assoc, append-nil}
+use Rattle.std.proofs.Common.{◌≡◌, ℕ, ◌+◌, ◌<◌, ◌≤◌, List, [], ◌∷◌, ◌++◌, length, drop, get_or, refl, ap, sym, subst, ◌∙◌, append_assoc, append-nil}
 use Rattle.std.proofs.lemmas.List.{drop_all, drop_more}
 use Rattle.c_counts.specs.Named.{names_of_block_item}
 use Rattle.c_given.specs.declared.error.CheckError.{CheckError}
 use Rattle.c_given.specs.Judges.{Names}
 use Rattle.c_given.proofs.Parts.{names_on, names_first}
+use Rattle.c_expressions.proofs.NodeLemmas.{past_none, past_past}
 use Rattle.c_rules.specs.Blocks.{Laid, after_decl, after_stmt, alone, appended, bare, behind_decl, held_by_block, held_by_decl, held_by_stmt, held_by_stmts, local_decl, one_more, some_more}
 use Rattle.c_rules.specs.Checked.{Checked, fine, faulty, faults, both, gives, on}
-use Rattle.c_rules.specs.Counts.{past, string_cells}
+use Rattle.c_rules.specs.Counts.{past}
 use Rattle.c_rules.specs.Scopes.{Env, Before}
 use Rattle.c_rules.specs.Statements.{Around, items_of_block, stmt, stmts}
 use Rattle.c_rules.specs.Variables.{Next, calls_of_block, calls_of_decl, calls_of_stmt, calls_of_stmts, names_of_block, names_of_decl, names_of_stmt, names_of_stmts, past_name, past_names}
@@ -53,22 +54,6 @@ alone_and (fine p) (faulty f fs) = refl
 alone_and (faulty g gs) r = refl
 
 -- ## What stands before
-
-cells_of_both : (us vs : List (List ℕ)) → string_cells (us ++ vs) ≡ string_cells us + string_cells vs
-cells_of_both [] vs = omega arith
-cells_of_both (u ∷ us) vs = omega (arith, cells_of_both us vs)
-
-pub past_past : (b : Before) (m n : ℕ) (us vs : List (List ℕ)) → past (past b m us) n vs ≡ past b (m + n) (us ++ vs)
-past_past b m n us vs =
-    let sites : b.sites + m + n ≡ b.sites + (m + n) = omega arith in
-    let cells : b.cells + string_cells us + string_cells vs ≡ b.cells + string_cells (us ++ vs) = omega (arith, cells_of_both us vs) in
-    λ i. record { sites = sites i; strings = append_assoc b.strings us vs i; cells = cells i }
-
-pub past_none : (b : Before) → past b 0 [] ≡ b
-past_none b =
-    let sites : b.sites + 0 ≡ b.sites = omega arith in
-    let cells : b.cells + 0 ≡ b.cells = omega arith in
-    λ i. record { sites = sites i; strings = append-nil b.strings i; cells = cells i }
 
 pub names_append : (next : Next) (xs ys : List Name) → past_names next (xs ++ ys) ≡ past_names (past_names next xs) ys
 names_append next [] ys = refl

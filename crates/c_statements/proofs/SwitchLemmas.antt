@@ -16,7 +16,8 @@ use Rattle.c_rules.specs.Variables.{Next, calls_of_groups, calls_of_stmts, names
 use Rattle.c_statements.specs.Listed.{label_alone, labels_in, stmts_in}
 use Rattle.c_statements.specs.Ruled.{group_behind}
 use Rattle.c_statements.proofs.PartLemmas.{faulty_not_fine, fine_same, names_of_three}
-use Rattle.c_statements.proofs.StatementLemmas.{names_append, past_past, past_none}
+use Rattle.c_expressions.proofs.NodeLemmas.{past_past, past_none}
+use Rattle.c_statements.proofs.StatementLemmas.{names_append}
 use Rattle.c_syntax.specs.declared.tree.Group.{Group}
 use Rattle.c_syntax.specs.declared.tree.Label.{Label}
 use Rattle.c_syntax.specs.declared.tree.LabelKind.{LabelKind}
@@ -73,13 +74,6 @@ label_fails e env here i ls n l done all lt is same before h =
     let here : Names e (faults (labels_and (label_alone env i l.kind) (labels_of env i rest))) = names_first e (label_alone env i l.kind) (labels_of env i rest) (λ t ts. fine (t ∷ ts)) (subst (λ v. Names e (faults (label_alone v i l.kind))) same h) in
     let onto : Names e (faults (onto_labels done (labels_and (label_alone env i l.kind) (labels_of env i rest)))) = names_on e (labels_and (label_alone env i l.kind) (labels_of env i rest)) (λ ts. fine (done ++ ts)) here in
     subst (λ r. Names e (faults r)) (sym (before ∙ (ap (λ r. onto_labels done (labels_of env i r)) (labels_at ls n l lt is) ∙ ap (onto_labels done) (label_rule env i l.at l.kind rest)))) onto
-
-pub labels_end : (env : Env) (i : IntType) (ls : List Label) (n : ℕ) (done : List TLabel) (all : Checked (List TLabel)) → length ls ≤ n → all ≡ onto_labels done (labels_of env i (labels_seen (drop n ls))) → all ≡ fine done
-labels_end env i ls n done all le before = before ∙ (ap (λ l. onto_labels done (labels_of env i (labels_seen l))) (drop_all n ls le) ∙ ap fine (append-nil done))
-
-pub labels_start : (r : Checked (List TLabel)) → r ≡ onto_labels [] r
-labels_start (fine ls) = refl
-labels_start (faulty g gs) = refl
 
 -- ## Groups
 

@@ -20,9 +20,9 @@ ghost use Rattle.c_tree.specs.Tree.{evaluate};
 ghost use Rattle.c_tree.specs.View.{ctype_of, expr_of as tree_seen, maybe_of as maybe_seen};
 
 use crate::declarations::local_decl;
-use crate::stand_in::value;
 use c_conversions::condition;
 use c_counts::Next;
+use c_expressions::value;
 use c_given::{CheckError, Given};
 use c_laid::{Laid, LaidAll, alone, bare, no_statements, returned_value, returned_void, switched};
 use c_scopes::{Before, Environment};

@@ -10,9 +10,9 @@ ghost use Rattle.c_statements.specs.Listed.{items_of_labels, label_alone};
 ghost use Rattle.c_syntax.specs.UnitView.{labels_of as labels_seen};
 ghost use Rattle.c_syntax.specs.View.{expr_of};
 
-use crate::stand_in::folded_value;
 use c_cells::value_of_number;
 use c_derived::constant_value;
+use c_expressions::folded_value;
 use c_given::CheckError;
 use c_scopes::Environment;
 use c_syntax::{Expr, Label, LabelKind};

@@ -6,7 +6,6 @@ mod declarations;
 mod heads;
 mod labels;
 mod locals;
-mod stand_in;
 mod statements;
 
 pub use bodies::body_of;

@@ -16,11 +16,11 @@ ghost use Rattle.c_statements.specs.Ruled.{local_as};
 ghost use Rattle.c_syntax.specs.UnitView.{maybe_init_of};
 ghost use Rattle.c_syntax.specs.View.{declarator_of, ident_of, spec_of};
 
-use crate::stand_in::{initialised_local, type_declared};
 use c_counts::Next;
 use c_derived::new_name;
+use c_expressions::type_declared;
 use c_given::{CheckError, Given};
-
+use c_initialisers::initialised_local;
 use c_laid::{Laid, declare_variable, laid_variable, leave_names};
 use c_objects::{Object, object_of};
 use c_scopes::{Before, Environment};

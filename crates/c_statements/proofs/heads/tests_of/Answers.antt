@@ -4,7 +4,7 @@ use Rattle.c_rules.specs.Counts.{after_maybe}
 use Rattle.c_rules.specs.Statements.{step_of, test_of}
 use Rattle.c_scopes.specs.View.{before_of, env_of}
 use Rattle.c_statements.specs.Two.{two_of}
-use Rattle.c_statements.proofs.Exits.{fails_first}
+use Rattle.c_expressions.proofs.Exits.{fails_first}
 use Rattle.c_syntax.specs.UnitView.{maybe_of}
 use Rattle.c_statements.proofs.heads.tests_of.Goals as goal
 

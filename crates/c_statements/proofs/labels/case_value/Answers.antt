@@ -5,7 +5,8 @@ use Rattle.c_rules.specs.Counts.{place_of}
 use Rattle.c_rules.specs.Declarators.{constant_value}
 use Rattle.c_rules.specs.Expressions.{folded_value}
 use Rattle.c_scopes.specs.View.{env_of}
-use Rattle.c_statements.proofs.Exits.{on_ended, place_is}
+use Rattle.c_expressions.proofs.Exits.{on_ended}
+use Rattle.c_expressions.proofs.NodeLemmas.{place_is}
 use Rattle.c_syntax.specs.View.{expr_of}
 use Rattle.c_statements.proofs.labels.case_value.Goals as goal
 

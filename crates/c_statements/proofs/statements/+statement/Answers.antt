@@ -18,10 +18,11 @@ use Rattle.c_scopes.specs.View.{before_of, env_of}
 use Rattle.c_statements.specs.Listed.{after_item, behind_item, item_alone, labels_in, stmts_in}
 use Rattle.c_statements.specs.Ruled.{after_for, for_inside, group_behind, tested}
 use Rattle.c_statements.specs.Two.{tested_of}
-use Rattle.c_statements.proofs.Exits.{fails_first, fails_first_of, fails_on, fails_second, fails_second_of, fails_third_of, named_first, on_ok, two_ended}
+use Rattle.c_expressions.proofs.Exits.{fails_first, fails_first_of, fails_on, fails_second, fails_second_of, fails_third_of, named_first, on_ok, two_ended}
 use Rattle.c_statements.proofs.NodeLemmas.{after_do, after_else, after_parts, after_switch, after_while, block_seen, declared_as, declared_deeper, declared_more, deeper, gives_as, if_fails, if_seen, numbered_alone, ok_as, switch_seen}
 use Rattle.c_statements.proofs.PartLemmas.{names_of_two, two_as}
-use Rattle.c_statements.proofs.StatementLemmas.{item_counted, item_fails, item_more, item_numbered, items_counted_end, items_end, items_numbered_end, laid_start, names_append, onto_laid, stmt_counted, stmt_fails, stmt_more, stmt_numbered, stmts_counted_end, stmts_end, stmts_numbered_end, past_none}
+use Rattle.c_expressions.proofs.NodeLemmas.{past_none}
+use Rattle.c_statements.proofs.StatementLemmas.{item_counted, item_fails, item_more, item_numbered, items_counted_end, items_end, items_numbered_end, laid_start, names_append, onto_laid, stmt_counted, stmt_fails, stmt_more, stmt_numbered, stmts_counted_end, stmts_end, stmts_numbered_end}
 use Rattle.c_statements.proofs.SwitchLemmas.{group_counted, group_fails, group_more, group_numbered, groups_counted_end, groups_end, groups_numbered_end, groups_start, names_past, onto_groups}
 use Rattle.c_statements.proofs.statements.+statement.Goals as goal
 use Rattle.c_syntax.specs.Tree.{block, do_loop, for_loop, if_else, switch_on, while_loop}
