@@ -1,0 +1,4 @@
+pub mod FileNames
+pub mod Initialisers
+pub mod Items
+pub mod Silent

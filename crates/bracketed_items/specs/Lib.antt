@@ -1,0 +1,2 @@
+pub mod FileScopes
+pub mod OtherItems
