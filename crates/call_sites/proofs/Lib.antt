@@ -1,0 +1,11 @@
+pub mod Bodies
+pub mod CallsOfGivens
+pub mod Closed
+pub mod Declared
+pub mod Expressions
+pub mod Initialisers
+pub mod Kept
+pub mod Statements
+pub mod Tables
+pub mod TypesOfExpressions
+pub mod TypesOfGivens
