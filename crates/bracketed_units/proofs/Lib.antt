@@ -1,0 +1,9 @@
+pub mod Aside
+pub mod Facts
+pub mod FileWritten
+pub mod Items
+pub mod Names
+pub mod Prototypes
+pub mod SpelledCasts
+pub mod Texts
+pub mod Units
