@@ -1,0 +1,13 @@
+//! What stands at file scope in the C profile (C99 6.7, 6.9): what each item gives, and what is known behind it.
+#![tactic(auto)]
+
+mod enums;
+mod file_scope;
+mod functions;
+mod globals;
+mod members;
+mod objects;
+mod parts;
+mod structs;
+
+pub use file_scope::items;
