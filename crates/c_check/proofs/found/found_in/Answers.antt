@@ -1,0 +1,20 @@
+use Rattle.std.proofs.Common.{◌≡◌, subst}
+use Rattle.c_given.proofs.Parts.{raised}
+use Rattle.c_given.specs.Judges.{Names}
+use Rattle.c_items.specs.OutputView.{output_of}
+use Rattle.c_rules.specs.Checked.{Checked, faults}
+use Rattle.c_rules.specs.Items.{Output, items}
+use Rattle.c_rules.specs.Scopes.{nothing_before}
+use Rattle.c_rules.specs.Units.{env_before}
+use Rattle.c_scopes.specs.View.{before_of, env_of}
+use Rattle.c_syntax.specs.UnitView.{items_of}
+use Rattle.c_check.proofs.found.found_in.Goals as goal
+
+pub returns-in_err-output-clause-judged : goal.returns-in_err-output-clause-judged
+returns-in_err-output-clause-judged c =
+    let u = items_of c.args.listed.now in
+    let r : Checked Output = items (env_of c.in_ok-env.env) (before_of c.nothing_before-before.result) u in
+    let s : Checked Output = items (env_before c.args.mode u) nothing_before u in
+    let same : r ≡ s = λ i. items (c.in_ok-env.ensures i) (c.nothing_before-before.ensures i) u in
+    raised (λ f. output_of f.output) s c.from_residual-in_err-output.result c.in_err-output.field-0.0 c.from_residual-in_err-output.ensures
+    (subst (λ q. Names c.in_err-output.field-0.0 (faults q)) same c.in_err-output.ensures.judged)

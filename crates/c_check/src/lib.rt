@@ -1,0 +1,8 @@
+//! The checker of the C profile (C99 6.2 to 6.9): the program that a unit is typed as, or a demand on the unit that fails.
+#![tactic(auto)]
+
+mod checking;
+mod found;
+
+pub use c_given::CheckError;
+pub use checking::check;
