@@ -2,15 +2,17 @@
 use Rattle.std.proofs.Common.{◌≡◌, ℕ, List, get_or, nat_eq, if◌then◌else◌, Option, Some, None, inl, inr, refl, sym, ◌∙◌, ap, subst, arith}
 use Rattle.std.proofs.lemmas.Fmt.{decimal_injective}
 use Rattle.std.specs.Prelude.{IsSome}
+use Rattle.dm_base.specs.declared.mode.Mode.TheVariants.{Plain}
 use Rattle.dm_base.specs.declared.verdict.Status.{Status}
 use Rattle.dm_io.specs.Store.{Files}
 use Rattle.model_commands.specs.declared.asked.Asked.{Asked}
 use Rattle.model_commands.specs.declared.asked.Asked.TheVariants as asked
 use Rattle.model_commands.specs.Monitors.{asked_word, monitors_of}
 use Rattle.model_commands.proofs.FileLemmas.{judge_ready, watch_ready, upgrade_ready, judged_apart, measured_apart, watched_apart, upgrade_or_refused, judge_status, watch_status, upgrade_status}
+use Rattle.source_commands.proofs.FileLemmas.{check_ready, checked_apart, check_status, model_ready, modelled_apart, model_status}
 use Rattle.tool.specs.Command.{Command, IsCommandLine, IsAskedBy}
 use Rattle.tool.specs.Command.{FileCommand, TraceCommand, file_word, trace_word}
-use Rattle.tool.specs.Command.FileCommand.{Upgrade}
+use Rattle.tool.specs.Command.FileCommand.{Check, Model, Upgrade}
 use Rattle.tool.specs.Command.Command.{Version, Help, OfFile, OfTrace, Measure}
 use Rattle.tool.specs.Command.TraceCommand.{Judge, Watch}
 use Rattle.tool.specs.Commands.{Makes, Refuses, IsReady}
@@ -48,8 +50,16 @@ of_trace_command Watch = refl
 one_trace_command : (which other : TraceCommand) → trace_word which ≡ trace_word other → which ≡ other
 one_trace_command which other same = sym (of_trace_command which) ∙ ap (λ (w : List ℕ). trace_command_of (get_or w 0 0)) same ∙ of_trace_command other
 
+abbrev file_command_of : ℕ → FileCommand
+file_command_of byte = if nat_eq byte 99 then Check else (if nat_eq byte 109 then Model else Upgrade)
+
+of_file_command : (which : FileCommand) → file_command_of (get_or (file_word which) 0 0) ≡ which
+of_file_command Check = refl
+of_file_command Model = refl
+of_file_command Upgrade = refl
+
 one_file_command : (which other : FileCommand) → file_word which ≡ file_word other → which ≡ other
-one_file_command Upgrade Upgrade same = refl
+one_file_command which other same = sym (of_file_command which) ∙ ap (λ (w : List ℕ). file_command_of (get_or w 0 0)) same ∙ of_file_command other
 
 -- words ask for one command
 one_command : (c d : Command) (words : List (List ℕ)) → IsCommandLine c words → IsCommandLine d words → c ≡ d
@@ -100,6 +110,8 @@ one_command (Measure model trace which) (Measure m t again) words line next =
 ready_apart : (c : Command) (files : Option Files) (status : Status) (line : List ℕ) → IsReady c files → Refuses c files status line → ⊥
 ready_apart Version files status line ready refuses = refuses
 ready_apart Help files status line ready refuses = refuses
+ready_apart (OfFile Check name) files status line ready refuses = check_ready files name line status ready refuses
+ready_apart (OfFile Model name) files status line ready refuses = model_ready files name line status ready refuses
 ready_apart (OfFile Upgrade name) files status line ready refuses = upgrade_ready files name line status ready refuses
 ready_apart (OfTrace Judge model trace which bound) files status line ready refuses = judge_ready files model trace line status ready refuses
 ready_apart (OfTrace Watch model trace which bound) files status line ready refuses = watch_ready files model trace line status ready refuses
@@ -110,6 +122,8 @@ made_apart : (c : Command) (files : Option Files) (status later : Status) (text 
 made_apart Version files status later text line told makes refuses = refuses
 made_apart Help files status later text line told makes refuses = refuses
 made_apart (OfFile which name) None status later text line told makes refuses = absurd (cc told)
+made_apart (OfFile Check name) (Some files) status later text line told makes refuses = checked_apart files name text line later makes.1 refuses
+made_apart (OfFile Model name) (Some files) status later text line told makes refuses = modelled_apart files name text line later makes.1 refuses
 made_apart (OfFile Upgrade name) (Some files) status later text line told makes refuses = upgrade_or_refused files name text line later makes.1 refuses
 made_apart (OfTrace command model trace which bound) None status later text line told makes refuses = absurd (cc told)
 made_apart (OfTrace Judge model trace which bound) (Some files) status later text line told makes refuses = judged_apart files model trace text line (monitors_of which) bound status later makes refuses
@@ -121,6 +135,8 @@ made_apart (Measure model trace which) (Some files) status later text line told 
 same_refusal : (c : Command) (files : Option Files) (status later : Status) (line other : List ℕ) → IsSome files → Refuses c files status line → Refuses c files later other → status ≡ later
 same_refusal Version files status later line other told refuses too = absurd refuses
 same_refusal Help files status later line other told refuses too = absurd refuses
+same_refusal (OfFile Check name) files status later line other told refuses too = check_status Plain files name line status refuses ∙ sym (check_status Plain files name other later too)
+same_refusal (OfFile Model name) files status later line other told refuses too = model_status files name line status refuses ∙ sym (model_status files name other later too)
 same_refusal (OfFile Upgrade name) files status later line other told refuses too = upgrade_status files name line status refuses ∙ sym (upgrade_status files name other later too)
 same_refusal (OfTrace command model trace which bound) None status later line other told refuses too = absurd (cc told)
 same_refusal (OfTrace Judge model trace which bound) (Some files) status later line other told refuses too = judge_status files model trace line other status later refuses too

@@ -11,10 +11,14 @@ IsAskedBy which bound words =
 
 -- The commands that read one file and write one text.
 pub data FileCommand : Type 0 where
+  Check : FileCommand
+  Model : FileCommand
   Upgrade : FileCommand
 
 -- the word of such a command
 abbrev pub file_word : FileCommand → List ℕ
+file_word Check = codes "check"
+file_word Model = codes "model"
 file_word Upgrade = codes "upgrade"
 
 -- The commands that read a model and a trace, or interleaved traces, and write the verdicts of monitors up to a bound.

@@ -1,11 +1,12 @@
 -- What each command makes of its words and files: one line a command in each definition.
 use Rattle.std.specs.Prelude.{◌≡◌, ℕ, List, ◌++◌, Option, Some, None, codes}
+use Rattle.dm_base.specs.declared.mode.Mode.TheVariants.{Plain}
 use Rattle.dm_base.specs.declared.verdict.Status.{Status}
 use Rattle.dm_base.specs.declared.verdict.Status.TheVariants.{Done}
 use Rattle.dm_io.specs.Store.{Files, IsMissing}
 use Rattle.tool_frame.specs.Stop.{IsFinished}
 use Rattle.tool.specs.Command.{Command}
-use Rattle.tool.specs.Command.FileCommand.{Upgrade}
+use Rattle.tool.specs.Command.FileCommand.{Check, Model, Upgrade}
 use Rattle.tool.specs.Command.Command.{Version, Help, OfFile, OfTrace, Measure}
 use Rattle.tool.specs.Command.TraceCommand.{Judge, Watch}
 use Rattle.model_commands.specs.Judge.{Judges, RefusesToJudge, LacksToJudge, IsReadyToJudge}
@@ -13,6 +14,9 @@ use Rattle.model_commands.specs.Measure.{Measures}
 use Rattle.model_commands.specs.Monitors.{monitors_of}
 use Rattle.model_commands.specs.Upgrade.{Upgrades, RefusesToUpgrade, IsReadyToUpgrade}
 use Rattle.model_commands.specs.Watch.{Watches, RefusesToWatch, IsReadyToWatch}
+use Rattle.source_commands.specs.Check.{Checks, IsReadyToCheck}
+use Rattle.source_commands.specs.Modelled.{Models, RefusesToModel, IsReadyToModel}
+use Rattle.sources.specs.Sources.{RefusesSource}
 
 abbrev pub version_text : List ℕ
 version_text = codes "dyckmon 1\n"
@@ -21,19 +25,23 @@ abbrev pub help_text : List ℕ
 help_text =
     codes "dyckmon, dyckmon --version            the version\n"
     ++ codes "dyckmon --help                        this text\n"
+    ++ codes "dyckmon check FILE                    how many functions and calls the C text has\n"
     ++ codes "dyckmon judge MODEL TRACE WHICH [K]   the verdict lines of the model on the trace\n"
     ++ codes "dyckmon measure MODEL TRACE WHICH     how many calls may come next along the trace\n"
+    ++ codes "dyckmon model FILE                    the file of the model of the C text\n"
     ++ codes "dyckmon upgrade MODEL                 the file of the model in the newest version\n"
     ++ codes "dyckmon watch MODEL TRACES WHICH [K]  the verdict lines of each process of interleaved traces\n"
-    ++ codes "MODEL, TRACE and TRACES are names of files. WHICH is callgraph, stack, dyck, or all for the three in\n"
-    ++ codes "this order. K is how many calls may be open at once in the Dyck model, 1 to 65535; it is 1000 where\n"
-    ++ codes "none is given.\n"
+    ++ codes "FILE, MODEL, TRACE and TRACES are names of files. WHICH is callgraph, stack, dyck, or all for the\n"
+    ++ codes "three in this order. K is how many calls may be open at once in the Dyck model, 1 to 65535; it is\n"
+    ++ codes "1000 where none is given.\n"
 
 -- the command writes this text and ends with this status
 abbrev pub Makes : Command → Option Files → Status → List ℕ → Type 0
 Makes Version files status text = (status ≡ Done) × (text ≡ version_text)
 Makes Help files status text = (status ≡ Done) × (text ≡ help_text)
 Makes (OfFile which file) None status text = IsFinished status
+Makes (OfFile Check file) (Some files) status text = (status ≡ Done) × Checks files file text
+Makes (OfFile Model file) (Some files) status text = (status ≡ Done) × Models files file text
 Makes (OfFile Upgrade file) (Some files) status text = (status ≡ Done) × Upgrades files file text
 Makes (OfTrace command model trace which bound) None status text = IsFinished status
 Makes (OfTrace Judge model trace which bound) (Some files) status text = Judges files model trace (monitors_of which) bound status text
@@ -45,6 +53,8 @@ Makes (Measure model trace which) (Some files) status text = Measures files mode
 abbrev pub Refuses : Command → Option Files → Status → List ℕ → Type 0
 Refuses Version files status line = ⊥
 Refuses Help files status line = ⊥
+Refuses (OfFile Check file) files status line = RefusesSource Plain files file status line
+Refuses (OfFile Model file) files status line = RefusesToModel files file status line
 Refuses (OfFile Upgrade file) files status line = RefusesToUpgrade files file status line
 Refuses (OfTrace Judge model trace which bound) files status line = RefusesToJudge files model trace status line
 Refuses (OfTrace Watch model traces which bound) files status line = RefusesToWatch files model traces status line
@@ -62,6 +72,8 @@ Lacks (Measure model trace which) files = LacksToJudge files model trace
 abbrev pub IsReady : Command → Option Files → Type 0
 IsReady Version files = Unit {0}
 IsReady Help files = Unit {0}
+IsReady (OfFile Check file) files = IsReadyToCheck files file
+IsReady (OfFile Model file) files = IsReadyToModel files file
 IsReady (OfFile Upgrade file) files = IsReadyToUpgrade files file
 IsReady (OfTrace Judge model trace which bound) files = IsReadyToJudge files model trace
 IsReady (OfTrace Watch model traces which bound) files = IsReadyToWatch files model traces

@@ -16,6 +16,14 @@ pub enum Command<'a> {
     Version,
     /// The text on the commands.
     Help,
+    /// How many functions and call expressions the program of the C text in a file has.
+    Check {
+        source: &'a str,
+    },
+    /// The text of the model of the program of the C text in a file.
+    Model {
+        source: &'a str,
+    },
     /// The text of the model in a file in the newest version.
     Upgrade {
         model: &'a str,
@@ -82,6 +90,12 @@ fn file_command_of<'a>(word: &str, file: &'a str) -> Option<Command<'a>>
     ensures some { IfSome result (λ command. IsCommandLine (asked_by command) (word.now ∷ file.now ∷ [])) }
     ensures none { IfNone result ((c : AskedCommand) → IsCommandLine c (word.now ∷ file.now ∷ []) → ⊥) }
 {
+    if word == "check" {
+        return Some(Command::Check { source: file });
+    }
+    if word == "model" {
+        return Some(Command::Model { source: file });
+    }
     if word == "upgrade" {
         return Some(Command::Upgrade { model: file });
     }

@@ -1,0 +1,9 @@
+//! The commands that read a C text: whether it is a program, and the model of its program.
+#![tactic(auto)]
+
+mod check_command;
+mod model_command;
+mod modelling;
+
+pub use check_command::check_source;
+pub use model_command::model_of_source;

@@ -1,0 +1,2 @@
+pub mod SourceFiles
+pub mod SourceLemmas
