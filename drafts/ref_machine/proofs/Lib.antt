@@ -1,5 +1,0 @@
-pub mod Noting
-pub mod Recording
-pub mod Resuming
-pub mod Starting
-pub mod Turning

@@ -1,3 +1,0 @@
-pub mod Futures
-pub mod Standing
-pub mod WholeRuns
