@@ -31,4 +31,4 @@ most_nodes Instrumented = omega arith
 
 -- what is within the limits of a mode is within the widest
 pub is_unit : {u : Items} {tokens : List Token} (mode : Mode) → SpellsUnit u tokens mode → ∥ IsUnit u ∥₁
-is_unit {tokens = tokens} mode s = ∣ (tokens, record { reads = s.reads; nested = omega (arith, s.nested, most_nodes mode) }) ∣₁
+is_unit {u = u} {tokens = tokens} mode s = ∣ record { tokens = tokens; other = u; spelled = record { reads = s.reads; nested = omega (arith, s.nested, most_nodes mode) }; same = refl } ∣₁

@@ -15,6 +15,7 @@ pub mod FrameStatements
 pub mod FrontLemmas
 pub mod Heads
 pub mod HeightLemmas
+pub mod KindsAlike
 pub mod KindsOfUnits
 pub mod KindsPrinted
 pub mod LexBack

@@ -19,9 +19,12 @@ pub record SpellsUnit (unit : Items) (tokens : List Token) (mode : Mode) : Type 
   pub reads : ReadsItems most_pairs unit tokens []
   pub nested : height_of_unit unit ≤ deepest mode
 
--- some tokens spell the unit within the widest limits
-abbrev pub IsUnit : Items → Type 0
-IsUnit unit = (tokens : List Token) × SpellsUnit unit tokens Instrumented
+-- some tokens spell, within the widest limits, a unit that is the same apart from places
+pub record IsUnit (unit : Items) : Type 0 where
+  pub tokens : List Token
+  pub other : Items
+  pub spelled : SpellsUnit other tokens Instrumented
+  pub same : AreSame other unit
 
 -- the tokens of the text spell a unit that is the same apart from places
 pub record IsReadAs (text : List ℕ) (unit : Items) : Type 0 where

@@ -3,7 +3,7 @@ ghost use Rattle.c_syntax.specs.Spelling.{IsUnit};
 
 use crate::tree::Item;
 
-/// A unit (C99 6.9). Some list of tokens spells it within the limits of the mode Instrumented.
+/// A unit (C99 6.9). Some list of tokens spells it, apart from places, within the limits of the mode Instrumented.
 #[derive(Drop)]
 pub struct Unit {
     /// What stands at file scope, in order.
