@@ -384,7 +384,7 @@ module _ (p : Program) (n : ℕ) (typed : IsProgram p n) where
       at true d =
           let fits = answers_fit x q.asked a d in
           after_ends p {A = Value} (Gives p wanted r) o st.entries (Sys x q.arguments a.value ∷ []) _ (All-cons IsRecorded (Sys x q.arguments a.value) [] (h.arguments, fits) (All-nil IsRecorded)) (remembered_ends p {A = Value} (Gives p wanted r) o _ (result_value (result_of x) a.value) (with_records st rs) (filled_where_right o q.buffer q.asked a.bytes st.memory h.room (answers_short x q.asked a d) k.memory) (given_result o wanted r (result_of x) a.value (results_pass x r ts e) fits) k)
-      at false d = (tt, All-nil IsRecorded)
+      at false d = (omega arith, All-nil IsRecorded)
 
   exit_ends : (o : Objects) (start : ℕ) (ok : Objects → Value → Type 0) (xs : List Arg) → AllZip FitsArgument (recorded_of exit_call) xs → EndsTyped p {A = Value} ok o start (exit_with xs)
   unfolding table

@@ -14,13 +14,13 @@ use Rattle.c_meaning.specs.Meaning.{Marks, Frame, Loop, World, wants, eval, eval
 use Rattle.c_meaning.specs.Results.{State, Result, Go, Stop, Exit, on, broken, continued, returned}
 use Rattle.typed_meaning.specs.StoreTyping.{HasKind, IsGiven, IsPlaced, IsTypedState, Grows, TellsAlike, TellsOfStatics, IsTypedFrame}
 
--- A run ends by an int, by one of the kinds U1 to U12, or for want of turns or of an answer. Kind U13, a value of another kind than its type, is none of them.
+-- A run ends by an int, by one of the kinds U1 to U12, or for want of turns or of an answer, where records are counted from 1. Kind U13, a value of another kind than its type, is none of them.
 abbrev pub IsEnding : Outcome → Type 0
 IsEnding (ended_by z) = FitsSigned w32 z
 IsEnding (Undefined kind) = (1 ≤ kind) × (kind ≤ 12)
 IsEnding Turns = Unit {0}
 IsEnding Results = Unit {0}
-IsEnding (BadResult k) = Unit {0}
+IsEnding (BadResult k) = 1 ≤ k
 
 -- A part that begins with this store typing, after so many entries of functions, gives what it should in a typed state; or the run stops by a right ending. Each event can be recorded. Of the activations that were entered before nothing more is told.
 abbrev pub EndsTyped : Program → {A : Type 0} → (Objects → A → Type 0) → Objects → ℕ → Result A → Type 0
