@@ -1,4 +1,4 @@
-ghost use Rattle.std.specs.Prelude.{◌≡◌, ◌≤◌, ◌+◌, IfOk, IfErr, IfSome};
+ghost use Rattle.std.specs.Prelude.{◌≡◌, ◌≤◌, ◌+◌, ℕ, List, IfOk, IfErr, IfSome};
 ghost use Rattle.c_lexer.specs.Spelling.{longest_text};
 ghost use Rattle.dm_io.specs.Store.{file_at, IsMissing};
 ghost use Rattle.tool_frame.specs.Stop.{Stops};
@@ -62,6 +62,7 @@ pub fn source_in<S: Store>(
     mode: Mode,
 ) -> Result<Source, Stop>
     ensures read { IfOk result (λ source. IfSome (S.files store.old) (λ told. IsSourceOf (file_at told name.now) mode source)) }
+    ensures some { IfOk result (λ source. (text : List ℕ) × IsSourceOf text mode source) }
     ensures stop { IfErr result (λ stop. Stops stop (RefusesSource mode (S.files store.old) name.now) (IsMissing (S.files store.old) name.now) (S.faults store.old) (S.faults store.new)) }
     ensures same { S.files store.new ≡ S.files store.old }
     ensures never_falls { S.faults store.old ≤ S.faults store.new }

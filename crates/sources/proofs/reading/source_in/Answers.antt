@@ -12,6 +12,9 @@ returns-in-Ok-clause-read g c =
     (subst (λ (n : ℕ). ReadsWhole told c.args.name.now n text) c.most_read.ensures c.in_ok-text.ensures.whole)
     (subst (λ (w : List ℕ). IsSourceOf w c.args.mode c.in-Ok.source) c.deref.ensures.value c.in-Ok.ensures.read)
 
+pub returns-in-Ok-clause-some : goal.returns-in-Ok-clause-some
+returns-in-Ok-clause-some g c = (c.in_ok-text.text.items, subst (λ (w : List ℕ). IsSourceOf w c.args.mode c.in-Ok.source) c.deref.ensures.value c.in-Ok.ensures.read)
+
 pub returns-clause-stop : goal.returns-clause-stop
 returns-clause-stop g c =
     let told = g.S.Store.files c.args.store.now in
