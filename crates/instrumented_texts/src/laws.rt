@@ -1,0 +1,21 @@
+ghost use Rattle.instrumented_texts.specs.Instrumented.{InstrumentedTextsAreAccepted};
+
+use accepted_laws::a_plain_text_makes_no_null_call;
+use alarm_laws::marked_runs_are_runs;
+use bracketed_texts::bracketed_texts_are_read_back;
+use bracketed_units::bracketed_texts_run_marked;
+use unplaced_units::units_are_typed_alike_apart_from_places;
+
+/// A law on texts: where the instrumented text of a text that is accepted in the mode Plain has at most 16 MiB, it is accepted in the mode
+/// Instrumented, as the program with null calls round its marked calls (Giffin, Jha and Miller 2004); for all recorded results and
+/// bounds of turns that program ends as the plain one, makes the same system calls and writes the same bytes, and without null calls its
+/// trace is the plain one's.
+pub fn instrumented_texts_are_accepted()
+    ensures { InstrumentedTextsAreAccepted }
+{
+    a_plain_text_makes_no_null_call();
+    marked_runs_are_runs();
+    bracketed_texts_run_marked();
+    bracketed_texts_are_read_back();
+    units_are_typed_alike_apart_from_places();
+}
