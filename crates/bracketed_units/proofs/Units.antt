@@ -200,3 +200,11 @@ bracketed_units_typed u p lexical names typed =
     let j = demand_fine (has_main Plain u) C9 0 (program_of Plain u i.0) p i.2 in
     let program : IsProgram (program_of Plain u i.0) (after_items (env_before Plain u) nothing_before u).sites = subst (λ z. IsProgram z (after_items (env_before Plain u) nothing_before u).sites) (sym j.1) (unit_program u Plain p lexical typed) in
     subst (λ z. (q : Program) × IsTyped (bracketed z u) Instrumented q × Brackets z q) j.1 (unit_goes u i.0 lexical names i.1 j.0 (after_items (env_before Plain u) nothing_before u).sites program)
+
+-- what is known of the bodies of a typed unit
+pub typed_facts : (u : Items) (p : Program) → IsUnitLexical u → UnitNamesNoType u → IsTyped u Plain p → UnitFacts p (tags_of u) (env_before Plain u) nothing_before u
+typed_facts u p lexical names typed =
+    let i = on_fine (items (env_before Plain u) nothing_before u) (λ q. demand (has_main Plain u) C9 0 (program_of Plain u q)) p typed in
+    let j = demand_fine (has_main Plain u) C9 0 (program_of Plain u i.0) p i.2 in
+    let program : IsProgram (program_of Plain u i.0) (after_items (env_before Plain u) nothing_before u).sites = subst (λ z. IsProgram z (after_items (env_before Plain u) nothing_before u).sites) (sym j.1) (unit_program u Plain p lexical typed) in
+    subst (λ z. UnitFacts z (tags_of u) (env_before Plain u) nothing_before u) j.1 (facts u i.0 lexical names i.1 j.0 (after_items (env_before Plain u) nothing_before u).sites program)

@@ -1,3 +1,4 @@
 pub mod Read
 pub mod ReadBack
+pub mod Tokens
 pub mod Written

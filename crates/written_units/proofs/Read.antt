@@ -4,7 +4,7 @@ use Rattle.std.proofs.lemmas.List.Elements.{All-append}
 use Rattle.c_lexer.specs.declared.token.Token.{Token}
 use Rattle.c_lexer.specs.declared.token.TokenKind.TheVariants.{Name, Int, Char, Str}
 use Rattle.c_lexer.specs.Kinds.{IsKind, IsByte}
-use Rattle.c_syntax.specs.Tree.{Ident, Spec, Expr, Exprs, Maybe, TypeName, Declarator, Params, Init, Inits, MaybeInit, Parts, Decl, First, Labels, Stmt, BlockItems, Stmts, Groups, Declarators, Members, Enumerators, Tag, Item, Items}
+use Rattle.c_syntax.specs.Tree.{Spec, Expr, Exprs, Maybe, TypeName, Declarator, Params, Init, Inits, MaybeInit, Parts, Decl, First, Labels, Stmt, BlockItems, Stmts, Groups, Declarators, Members, Enumerators, Tag, Item, Items}
 use Rattle.c_syntax.specs.Specifiers.{ReadsSpec, is_void, is_char, is_unsigned_char, is_int, is_signed, is_signed_int, is_unsigned, is_unsigned_int, is_struct, is_enum}
 use Rattle.c_syntax.specs.Grammar.{Level, ReadsStrings, last_string, next_string}
 use Rattle.c_syntax.specs.Grammar.{Reads, is_name, is_int, is_char, are_strings, in_parentheses, with_suffixes, no_prefix, a_prefix, a_unary, a_sizeof_type, no_cast, a_cast, no_chain, a_chain, no_choice, a_choice, no_assignment, an_assignment, no_comma, a_comma}

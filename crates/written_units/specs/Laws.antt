@@ -5,7 +5,7 @@ use Rattle.c_lexer.specs.declared.token.Token.{Token}
 use Rattle.c_syntax.specs.Tree.{Items}
 use Rattle.c_syntax.specs.Limits.{height_of_unit}
 use Rattle.c_syntax.specs.Text.{unit_text}
-use Rattle.c_syntax.specs.Spelling.{SpellsUnit, IsReadAs}
+use Rattle.c_syntax.specs.Spelling.{SpellsUnit, IsUnit, IsReadAs}
 use Rattle.c_syntax.proofs.FineUnits.{AreSomeItems}
 use Rattle.written_units.specs.Writable.{AreWritableItems}
 
@@ -18,3 +18,7 @@ SpelledUnitsAreWritable = (u : Items) (tokens : List Token) (m : Mode) → Spell
 abbrev pub WritableUnitsAreReadBack : Type 0
 WritableUnitsAreReadBack =
     (u : Items) → AreSomeItems u → AreWritableItems u → height_of_unit u ≤ 500 → length (unit_text u) ≤ 16777216 → IsReadAs (unit_text u) u
+
+-- such a unit is one that some tokens spell, whatever the length of its text
+abbrev pub WritableUnitsAreUnits : Type 0
+WritableUnitsAreUnits = (u : Items) → AreSomeItems u → AreWritableItems u → height_of_unit u ≤ 500 → IsUnit u

@@ -4,4 +4,6 @@
 
 mod laws;
 
-pub use laws::{spelled_units_are_writable, writable_units_are_read_back};
+pub use laws::{
+    spelled_units_are_writable, writable_units_are_read_back, writable_units_are_units,
+};
