@@ -23,6 +23,7 @@ use Rattle.tool_frame.specs.declared.stop.Stop.{Stop}
 use Rattle.tool_frame.specs.declared.stop.Stop.TheVariants as stops
 use Rattle.tool_frame.specs.Stop.{Stops}
 use Rattle.trace_file.specs.EventText.{IsCountedOutcome, IsCountedEnd}
+use Rattle.trace_file.specs.Trace.{IsTrace}
 use Rattle.typed_meaning.specs.Laws.{IsTypedRun, RunsAreTyped}
 use Rattle.typed_meaning.specs.TypedResults.{IsEnding}
 use Rattle.run_command.specs.Run.{Runs, RefusesToRun, LacksToRun, IsSomeProgram, run_text}
@@ -48,10 +49,10 @@ end_counted typed p n is records turns found same =
 
 -- what a command makes of files that were read
 
-pub runs : (told : Option Files) (name results : List ℕ) (turns : ℕ) (text : List ℕ) (source : Source) (records : List SysResult) → IfSome told (λ files. IsSourceOf (file_at files name) Instrumented source) → IfSome told (λ files. AreResultsWithin (file_at files results) records) → text ≡ run_text (run (program_of source.program) records turns) → IfSome told (λ files. Runs files name results turns text)
-runs None name results turns text source records is read writes = tt
-runs (Some files) name results turns text source records is read writes =
-    record { program = program_of source.program; records = records; accepted = source_accepted (file_at files name) Instrumented source is; recorded = read; is = writes }
+pub runs : (told : Option Files) (name results : List ℕ) (turns : ℕ) (text : List ℕ) (source : Source) (records : List SysResult) → IfSome told (λ files. IsSourceOf (file_at files name) Instrumented source) → IfSome told (λ files. AreResultsWithin (file_at files results) records) → text ≡ run_text (run (program_of source.program) records turns) → IsTrace text (run (program_of source.program) records turns).trace (Ended (run (program_of source.program) records turns).outcome) → IfSome told (λ files. Runs files name results turns text)
+runs None name results turns text source records is read writes formed = tt
+runs (Some files) name results turns text source records is read writes formed =
+    record { program = program_of source.program; records = records; accepted = source_accepted (file_at files name) Instrumented source is; recorded = read; is = writes; formed = formed }
 
 some_program : (told : Option Files) (name : List ℕ) (source : Source) → IfSome told (λ files. IsSourceOf (file_at files name) Instrumented source) → IfSome told (λ files. IsSomeProgram files name)
 some_program None name source is = tt

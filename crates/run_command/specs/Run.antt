@@ -13,7 +13,7 @@ use Rattle.sys_table.specs.declared.results_error.ResultsError.{ResultsError}
 use Rattle.sys_table.specs.declared.results_error.ResultsError.TheVariants.{OutOfMemory, BadLine, NoEnd, TooLong, Version}
 use Rattle.sys_table.specs.declared.sys_result.SysResult.{SysResult}
 use Rattle.sys_table.specs.ResultsText.{AreResultsWithin, IsResultsRefusal}
-use Rattle.trace_file.specs.Trace.{trace_text}
+use Rattle.trace_file.specs.Trace.{trace_text, IsTrace}
 
 -- the text of the trace of a run, with the outcome
 abbrev pub run_text : Run → List ℕ
@@ -27,6 +27,7 @@ pub record Runs (files : Files) (source results : List ℕ) (turns : ℕ) (text 
   pub accepted : IsAccepted (file_at files source) Instrumented program
   pub recorded : AreResultsWithin (file_at files results) records
   pub is : text ≡ run_text (run program records turns)
+  pub formed : IsTrace text (run program records turns).trace (Ended (run program records turns).outcome)
 
 abbrev pub IsSomeProgram : Files → List ℕ → Type 0
 IsSomeProgram files name = (p : Program) × IsAccepted (file_at files name) Instrumented p

@@ -2,7 +2,9 @@ ghost use Rattle.std.specs.Prelude.{◌≡◌, ◌≤◌, IfOk, IfErr, IfSome};
 ghost use Rattle.c_meaning.specs.Runs.{run};
 ghost use Rattle.c_tree.specs.View.{program_of};
 ghost use Rattle.run_command.specs.Run.{LacksToRun, RefusesToRun, Runs, run_text};
+ghost use Rattle.dm_base.specs.declared.outcome.TraceEnd.TheVariants.{Ended};
 ghost use Rattle.tool_frame.specs.Stop.{Stops};
+ghost use Rattle.trace_file.specs.Trace.{IsTrace};
 
 use crate::results::results_in;
 use c_tree::Program;
@@ -23,7 +25,8 @@ fn trace_of(
     results: &[SysResult],
     turns: u32,
 ) -> Result<Vec<u8>, OutOfMemory>
-    ensures { IfOk result (λ text. text.items ≡ run_text (run (program_of program.now) results.now turns)) }
+    ensures text { IfOk result (λ text. text.items ≡ run_text (run (program_of program.now) results.now turns)) }
+    ensures formed { IfOk result (λ text. IsTrace text.items (run (program_of program.now) results.now turns).trace (Ended (run (program_of program.now) results.now turns).outcome)) }
 {
     values_have_kinds();
     let _sites = program.sites();
