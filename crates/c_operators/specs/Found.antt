@@ -1,35 +1,12 @@
 -- For private contracts and proofs alone: what is found of two operands by their types, and what they give then.
-use Rattle.std.specs.Prelude.{ℕ, Bool, true, false, ◌&&◌, neg_ℤ}
-use Rattle.c_tree.specs.Tree.{void, pointer_add}
-use Rattle.c_rules.specs.Checked.{Checked, demand}
-use Rattle.c_rules.specs.Codes.{C3}
-use Rattle.c_rules.specs.Types.{is_void}
-use Rattle.c_rules.specs.BinaryExpressions.{calculated, shifted, difference, compared_integers, compared_pointers, Alike, alike_integers, alike_pointers, unlike, chosen}
+use Rattle.std.specs.Prelude.{Bool, true, false, neg_ℤ}
+use Rattle.c_tree.specs.Tree.{pointer_add}
+use Rattle.c_rules.specs.BinaryExpressions.{calculated, shifted, difference, compared_integers, compared_pointers}
 use Rattle.c_rules.specs.Constants.{constant_moved}
-use Rattle.c_rules.specs.Conversions.{null_of}
 use Rattle.c_rules.specs.Given.{Given, value_given, tree_of}
-use Rattle.c_operators.specs.declared.alike.Alike.{Alike as AlikeTree}
-use Rattle.c_operators.specs.declared.alike.Alike.TheVariants as alikes
-use Rattle.c_operators.specs.declared.alike.NullSide.{NullSide}
-use Rattle.c_operators.specs.declared.alike.NullSide.TheVariants as sides
+use Rattle.c_operands.specs.Alike.{pointer_left, pointer_right}
 use Rattle.c_operators.specs.declared.finding.Operation.{Operation}
 use Rattle.c_operators.specs.declared.finding.Operation.TheVariants as operations
-
--- two pointers, one of which a null pointer of the other one's type may stand for
-abbrev pub pointer_left : NullSide → Given → Given → Given
-pointer_left sides.Neither a b = a
-pointer_left sides.Left a b = null_of b.ctype
-pointer_left sides.Right a b = a
-
-abbrev pub pointer_right : NullSide → Given → Given → Given
-pointer_right sides.Neither a b = b
-pointer_right sides.Left a b = b
-pointer_right sides.Right a b = null_of a.ctype
-
-abbrev pub alike_as : AlikeTree → Given → Given → Alike
-alike_as (alikes.Integers i) a b = alike_integers i
-alike_as (alikes.Pointers side) a b = alike_pointers (pointer_left side a b) (pointer_right side a b)
-alike_as alikes.Unlike a b = unlike
 
 -- a pointer plus an integer, in this order in the text or in the other one
 abbrev pub moved_on : (pointer_first : Bool) → Given → Given → Given
@@ -52,7 +29,3 @@ operation_as operations.PointerPlus a b = moved_on true a b
 operation_as operations.PlusPointer a b = moved_on false b a
 operation_as operations.PointerMinus a b = moved_back a b
 operation_as operations.Difference a b = difference a b
-
--- the arms of ?: where they are not alike
-abbrev pub void_arms : (at : ℕ) → Given → Given → Given → Checked Given
-void_arms at c a b = demand (is_void a.ctype && is_void b.ctype) C3 at (chosen void c a b)

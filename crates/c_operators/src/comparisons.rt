@@ -1,14 +1,13 @@
 ghost use Rattle.std.specs.Prelude.{◌≡◌, IfOk};
 ghost use Rattle.c_given.specs.View.{constant_of, given_of};
-ghost use Rattle.c_operators.specs.Found.{pointer_left, pointer_right};
+ghost use Rattle.c_operands.specs.Alike.{pointer_left, pointer_right};
 ghost use Rattle.c_rules.specs.BinaryExpressions.{compared_pointers};
 ghost use Rattle.c_rules.specs.Given.{tree_of, value_given};
 ghost use Rattle.c_tree.specs.Functions.{int};
 ghost use Rattle.c_tree.specs.Tree.{comparison};
 
-use crate::alike::{NullSide, Pointers, made_pointers};
-use crate::trees::{Operands, operand_trees};
 use c_given::{Constant, Given, value_given};
+use c_operands::{NullSide, Operands, Pointers, made_pointers, operand_trees};
 use c_tree::{BinOp, CType, IntType, TExprKind};
 use dm_base::OutOfMemory;
 use std::alloc::Global;

@@ -6,10 +6,10 @@ ghost use Rattle.c_rules.specs.BinaryExpressions.{operator_of_code, sum, minus_o
 ghost use Rattle.c_rules.specs.Conversions.{kind_of};
 ghost use Rattle.c_scopes.specs.View.{env_of};
 
-use crate::alike::{Alike, NullSide, alike_of};
 use c_conversions::{common, complete, promoted};
 use c_given::{C3, CheckError, Given, same_type};
 use c_lexer::punctuator;
+use c_operands::{Alike, NullSide, alike_of};
 use c_scopes::Environment;
 use c_tree::{BinOp, CType, IntType};
 

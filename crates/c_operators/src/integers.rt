@@ -6,10 +6,10 @@ ghost use Rattle.c_rules.specs.Given.{tree_of, value_given};
 ghost use Rattle.c_tree.specs.Tree.{arithmetic, integer};
 
 use crate::comparisons::comparison;
-use crate::trees::{Operands, operand_trees};
 use c_constants::constant_binary;
 use c_conversions::converted_to;
 use c_given::{Given, value_given};
+use c_operands::{Operands, operand_trees};
 use c_tree::{BinOp, CType, IntType, TExprKind};
 use dm_base::OutOfMemory;
 use std::alloc::Global;

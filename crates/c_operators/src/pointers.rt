@@ -6,9 +6,9 @@ ghost use Rattle.c_rules.specs.Given.{tree_of, value_given};
 ghost use Rattle.c_tree.specs.Tree.{pointer_add};
 ghost use Rattle.c_tree.specs.View.{ctype_of};
 
-use crate::trees::{Operands, operand_trees};
 use c_constants::{constant_moved_back, constant_moved_on};
 use c_given::{Constant, Given, value_given};
+use c_operands::{Operands, operand_trees};
 use c_tree::{CType, IntType, TExprKind, copy_type};
 use dm_base::OutOfMemory;
 use std::alloc::Global;

@@ -7,9 +7,9 @@ ghost use Rattle.c_rules.specs.Given.{integer_constant, tree_of, value_given};
 ghost use Rattle.c_tree.specs.Functions.{int};
 ghost use Rattle.c_tree.specs.Tree.{and, or};
 
-use crate::trees::{Operands, operand_trees};
 use c_constants::{constant_and, constant_or};
 use c_given::{C3, CheckError, Given, is_scalar, value_given};
+use c_operands::{Operands, operand_trees};
 use c_tree::{CType, IntType, TExprKind};
 use dm_base::OutOfMemory;
 use std::alloc::Global;

@@ -1,6 +1,6 @@
 ghost use Rattle.std.specs.Prelude.{◌≡◌, IfOk};
 ghost use Rattle.c_given.specs.View.{given_of};
-ghost use Rattle.c_operators.specs.Found.{alike_as, pointer_left, pointer_right};
+ghost use Rattle.c_operands.specs.Alike.{alike_as, pointer_left, pointer_right};
 ghost use Rattle.c_rules.specs.BinaryExpressions.{pointers_alike, alike};
 
 use c_conversions::{common, null_of};
@@ -9,7 +9,7 @@ use c_tree::{CType, IntType};
 use dm_base::OutOfMemory;
 use std::alloc::Global;
 
-// Which of two operands is to be made a null pointer of the other one's type.
+/// Which of two operands is to be made a null pointer of the other one's type.
 #[derive(Clone, Copy)]
 pub enum NullSide {
     Neither,
@@ -17,14 +17,14 @@ pub enum NullSide {
     Right,
 }
 
-// What two operands are that `==`, `!=` and `?:` take (C99 6.5.9 paragraph 2, 6.5.15 paragraphs 3 and 6).
+/// What two operands are that `==`, `!=` and `?:` take (C99 6.5.9 paragraph 2, 6.5.15 paragraphs 3 and 6).
 #[derive(Clone, Copy)]
 pub enum Alike {
-    // Two integers, converted to this type.
+    /// Two integers, converted to this type.
     Integers(IntType),
-    // Two pointers of one type, once a null pointer is made of this one.
+    /// Two pointers of one type, once a null pointer is made of this one.
     Pointers(NullSide),
-    // Neither.
+    /// Neither.
     Unlike,
 }
 
@@ -44,7 +44,7 @@ fn pointers_alike(a: &Given, b: &Given) -> Alike
     Alike::Unlike
 }
 
-// What two operands are.
+/// What two operands are.
 pub fn alike_of(a: &Given, b: &Given) -> Alike
     ensures { alike (given_of a.now) (given_of b.now) ≡ alike_as result (given_of a.now) (given_of b.now) }
 {
@@ -76,14 +76,14 @@ pub fn alike_of(a: &Given, b: &Given) -> Alike
     }
 }
 
-// Two pointers of one type.
+/// Two pointers of one type.
 #[derive(Drop)]
 pub struct Pointers {
     pub left: Given,
     pub right: Given,
 }
 
-// Two operands as pointers of one type.
+/// Two operands as pointers of one type.
 pub fn made_pointers(
     alloc: Global,
     side: NullSide,

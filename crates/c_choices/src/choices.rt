@@ -1,18 +1,20 @@
 ghost use Rattle.std.specs.Prelude.{◌≡◌, ◌&&◌, IfOk};
 ghost use Rattle.c_given.specs.Judges.{Judges};
 ghost use Rattle.c_given.specs.View.{given_of};
-ghost use Rattle.c_operators.specs.Found.{pointer_left, pointer_right, void_arms};
+ghost use Rattle.c_choices.specs.Arms.{void_arms};
+ghost use Rattle.c_operands.specs.Alike.{pointer_left, pointer_right};
 ghost use Rattle.c_rules.specs.BinaryExpressions.{alike, arms_of, choice, chosen};
 ghost use Rattle.c_rules.specs.Conversions.{converted_to};
 ghost use Rattle.c_rules.specs.Types.{is_void};
 ghost use Rattle.c_tree.specs.Tree.{integer};
 ghost use Rattle.c_tree.specs.View.{ctype_of};
 
-use crate::alike::{Alike, NullSide, Pointers, alike_of, made_pointers};
-use crate::trees::{Operands, operand_tree, operand_trees};
 use c_constants::constant_conditional;
 use c_conversions::converted_to;
 use c_given::{C3, CheckError, Given, is_scalar, is_void, value_given};
+use c_operands::{
+    Alike, NullSide, Operands, Pointers, alike_of, made_pointers, operand_tree, operand_trees,
+};
 use c_tree::{CType, IntType, TExprKind, copy_type};
 use dm_base::OutOfMemory;
 use std::alloc::Global;

@@ -8,14 +8,14 @@ use c_tree::TExpr;
 use dm_base::OutOfMemory;
 use std::alloc::Global;
 
-// The typed trees of two operands, in order.
+/// The typed trees of two operands, in order.
 #[derive(Drop)]
 pub struct Operands {
     pub left: Box<TExpr>,
     pub right: Box<TExpr>,
 }
 
-// The typed tree of an operand.
+/// The typed tree of an operand.
 pub fn operand_tree(alloc: Global, g: Given) -> Result<Box<TExpr>, OutOfMemory>
     ensures { IfOk result (λ tree. expr_of tree.value ≡ tree_of (given_of g)) }
 {
@@ -23,7 +23,7 @@ pub fn operand_tree(alloc: Global, g: Given) -> Result<Box<TExpr>, OutOfMemory>
     Ok(Box::new(alloc, tree)?)
 }
 
-// The typed trees of two operands.
+/// The typed trees of two operands.
 pub fn operand_trees(alloc: Global, a: Given, b: Given) -> Result<Operands, OutOfMemory>
     ensures left { IfOk result (λ r. expr_of r.left.value ≡ tree_of (given_of a)) }
     ensures right { IfOk result (λ r. expr_of r.right.value ≡ tree_of (given_of b)) }
