@@ -5,7 +5,6 @@ use Rattle.std.specs.Prelude.{IsSome}
 use Rattle.dm_base.specs.declared.mode.Mode.TheVariants.{Plain}
 use Rattle.dm_base.specs.declared.verdict.Status.{Status}
 use Rattle.dm_io.specs.Store.{Files}
-use Rattle.instrument_command.proofs.FileLemmas.{instrument_ready, instrumented_apart, instrument_status}
 use Rattle.model_commands.specs.declared.asked.Asked.{Asked}
 use Rattle.model_commands.specs.declared.asked.Asked.TheVariants as asked
 use Rattle.model_commands.specs.Monitors.{asked_word, monitors_of}
@@ -14,7 +13,7 @@ use Rattle.run_command.proofs.FileLemmas.{run_ready, run_apart, run_status}
 use Rattle.source_commands.proofs.FileLemmas.{check_ready, checked_apart, check_status, model_ready, modelled_apart, model_status}
 use Rattle.tool.specs.Command.{Command, IsCommandLine, IsAskedBy}
 use Rattle.tool.specs.Command.{FileCommand, TraceCommand, file_word, trace_word}
-use Rattle.tool.specs.Command.FileCommand.{Check, Instrument, Model, Upgrade}
+use Rattle.tool.specs.Command.FileCommand.{Check, Model, Upgrade}
 use Rattle.tool.specs.Command.Command.{Version, Help, OfFile, OfTrace, Measure, Run}
 use Rattle.tool.specs.Command.TraceCommand.{Judge, Watch}
 use Rattle.tool.specs.Commands.{Makes, Refuses, IsReady}
@@ -53,11 +52,10 @@ one_trace_command : (which other : TraceCommand) → trace_word which ≡ trace_
 one_trace_command which other same = sym (of_trace_command which) ∙ ap (λ (w : List ℕ). trace_command_of (get_or w 0 0)) same ∙ of_trace_command other
 
 abbrev file_command_of : ℕ → FileCommand
-file_command_of byte = if nat_eq byte 99 then Check else (if nat_eq byte 105 then Instrument else (if nat_eq byte 109 then Model else Upgrade))
+file_command_of byte = if nat_eq byte 99 then Check else (if nat_eq byte 109 then Model else Upgrade)
 
 of_file_command : (which : FileCommand) → file_command_of (get_or (file_word which) 0 0) ≡ which
 of_file_command Check = refl
-of_file_command Instrument = refl
 of_file_command Model = refl
 of_file_command Upgrade = refl
 
@@ -131,7 +129,6 @@ ready_apart : (c : Command) (files : Option Files) (status : Status) (line : Lis
 ready_apart Version files status line ready refuses = refuses
 ready_apart Help files status line ready refuses = refuses
 ready_apart (OfFile Check name) files status line ready refuses = check_ready files name line status ready refuses
-ready_apart (OfFile Instrument name) files status line ready refuses = instrument_ready files name line status ready refuses
 ready_apart (OfFile Model name) files status line ready refuses = model_ready files name line status ready refuses
 ready_apart (OfFile Upgrade name) files status line ready refuses = upgrade_ready files name line status ready refuses
 ready_apart (OfTrace Judge model trace which bound) files status line ready refuses = judge_ready files model trace line status ready refuses
@@ -145,7 +142,6 @@ made_apart Version files status later text line told makes refuses = refuses
 made_apart Help files status later text line told makes refuses = refuses
 made_apart (OfFile which name) None status later text line told makes refuses = absurd (cc told)
 made_apart (OfFile Check name) (Some files) status later text line told makes refuses = checked_apart files name text line later makes.1 refuses
-made_apart (OfFile Instrument name) (Some files) status later text line told makes refuses = instrumented_apart files name text line later makes.1 refuses
 made_apart (OfFile Model name) (Some files) status later text line told makes refuses = modelled_apart files name text line later makes.1 refuses
 made_apart (OfFile Upgrade name) (Some files) status later text line told makes refuses = upgrade_or_refused files name text line later makes.1 refuses
 made_apart (OfTrace command model trace which bound) None status later text line told makes refuses = absurd (cc told)
@@ -161,7 +157,6 @@ same_refusal : (c : Command) (files : Option Files) (status later : Status) (lin
 same_refusal Version files status later line other told refuses too = absurd refuses
 same_refusal Help files status later line other told refuses too = absurd refuses
 same_refusal (OfFile Check name) files status later line other told refuses too = check_status Plain files name line status refuses ∙ sym (check_status Plain files name other later too)
-same_refusal (OfFile Instrument name) files status later line other told refuses too = instrument_status files name line status refuses ∙ sym (instrument_status files name other later too)
 same_refusal (OfFile Model name) files status later line other told refuses too = model_status files name line status refuses ∙ sym (model_status files name other later too)
 same_refusal (OfFile Upgrade name) files status later line other told refuses too = upgrade_status files name line status refuses ∙ sym (upgrade_status files name other later too)
 same_refusal (OfTrace command model trace which bound) None status later line other told refuses too = absurd (cc told)

@@ -12,14 +12,12 @@ IsAskedBy which bound words =
 -- The commands that read one file and write one text.
 pub data FileCommand : Type 0 where
   Check : FileCommand
-  Instrument : FileCommand
   Model : FileCommand
   Upgrade : FileCommand
 
 -- the word of such a command
 abbrev pub file_word : FileCommand → List ℕ
 file_word Check = codes "check"
-file_word Instrument = codes "instrument"
 file_word Model = codes "model"
 file_word Upgrade = codes "upgrade"
 

@@ -6,10 +6,9 @@ use Rattle.dm_base.specs.declared.verdict.Status.TheVariants.{Done}
 use Rattle.dm_io.specs.Store.{Files, IsMissing}
 use Rattle.tool_frame.specs.Stop.{IsFinished}
 use Rattle.tool.specs.Command.{Command}
-use Rattle.tool.specs.Command.FileCommand.{Check, Instrument, Model, Upgrade}
+use Rattle.tool.specs.Command.FileCommand.{Check, Model, Upgrade}
 use Rattle.tool.specs.Command.Command.{Version, Help, OfFile, OfTrace, Measure, Run}
 use Rattle.tool.specs.Command.TraceCommand.{Judge, Watch}
-use Rattle.instrument_command.specs.Instrument.{Instruments, RefusesToInstrument, IsReadyToInstrument}
 use Rattle.model_commands.specs.Judge.{Judges, RefusesToJudge, LacksToJudge, IsReadyToJudge}
 use Rattle.model_commands.specs.Measure.{Measures}
 use Rattle.model_commands.specs.Monitors.{monitors_of}
@@ -28,7 +27,6 @@ help_text =
     codes "dyckmon, dyckmon --version            the version\n"
     ++ codes "dyckmon --help                        this text\n"
     ++ codes "dyckmon check FILE                    how many functions and calls the C text has\n"
-    ++ codes "dyckmon instrument FILE               the C text with null calls round its marked calls\n"
     ++ codes "dyckmon judge MODEL TRACE WHICH [K]   the verdict lines of the model on the trace\n"
     ++ codes "dyckmon measure MODEL TRACE WHICH     how many calls may come next along the trace\n"
     ++ codes "dyckmon model FILE                    the file of the model of the C text\n"
@@ -46,7 +44,6 @@ Makes Version files status text = (status ≡ Done) × (text ≡ version_text)
 Makes Help files status text = (status ≡ Done) × (text ≡ help_text)
 Makes (OfFile which file) None status text = IsFinished status
 Makes (OfFile Check file) (Some files) status text = (status ≡ Done) × Checks files file text
-Makes (OfFile Instrument file) (Some files) status text = (status ≡ Done) × Instruments files file text
 Makes (OfFile Model file) (Some files) status text = (status ≡ Done) × Models files file text
 Makes (OfFile Upgrade file) (Some files) status text = (status ≡ Done) × Upgrades files file text
 Makes (OfTrace command model trace which bound) None status text = IsFinished status
@@ -62,7 +59,6 @@ abbrev pub Refuses : Command → Option Files → Status → List ℕ → Type 0
 Refuses Version files status line = ⊥
 Refuses Help files status line = ⊥
 Refuses (OfFile Check file) files status line = RefusesSource Plain files file status line
-Refuses (OfFile Instrument file) files status line = RefusesToInstrument files file status line
 Refuses (OfFile Model file) files status line = RefusesToModel files file status line
 Refuses (OfFile Upgrade file) files status line = RefusesToUpgrade files file status line
 Refuses (OfTrace Judge model trace which bound) files status line = RefusesToJudge files model trace status line
@@ -84,7 +80,6 @@ abbrev pub IsReady : Command → Option Files → Type 0
 IsReady Version files = Unit {0}
 IsReady Help files = Unit {0}
 IsReady (OfFile Check file) files = IsReadyToCheck files file
-IsReady (OfFile Instrument file) files = IsReadyToInstrument files file
 IsReady (OfFile Model file) files = IsReadyToModel files file
 IsReady (OfFile Upgrade file) files = IsReadyToUpgrade files file
 IsReady (OfTrace Judge model trace which bound) files = IsReadyToJudge files model trace

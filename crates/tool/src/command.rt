@@ -20,10 +20,6 @@ pub enum Command<'a> {
     Check {
         source: &'a str,
     },
-    /// The C text in a file with null calls round the marked calls of its program.
-    Instrument {
-        source: &'a str,
-    },
     /// The text of the model of the program of the C text in a file.
     Model {
         source: &'a str,
@@ -106,9 +102,6 @@ fn file_command_of<'a>(word: &str, file: &'a str) -> Option<Command<'a>>
 {
     if word == "check" {
         return Some(Command::Check { source: file });
-    }
-    if word == "instrument" {
-        return Some(Command::Instrument { source: file });
     }
     if word == "model" {
         return Some(Command::Model { source: file });

@@ -8,7 +8,6 @@ ghost use Rattle.tool_frame.specs.Stop.{IsFinished};
 use crate::command::{Command, command_of};
 use dm_base::{OutOfMemory, Status};
 use dm_io::{HonestSink, HonestStore, Sink, Store, write_whole};
-use instrument_command::instrument_source;
 use model_commands::{judge, measure, upgrade, watch_traces};
 use run_command::run_source;
 use source_commands::{check_source, model_of_source};
@@ -21,7 +20,6 @@ const HELP_TEXT: &[u8] = b"\
 dyckmon, dyckmon --version            the version
 dyckmon --help                        this text
 dyckmon check FILE                    how many functions and calls the C text has
-dyckmon instrument FILE               the C text with null calls round its marked calls
 dyckmon judge MODEL TRACE WHICH [K]   the verdict lines of the model on the trace
 dyckmon measure MODEL TRACE WHICH     how many calls may come next along the trace
 dyckmon model FILE                    the file of the model of the C text
@@ -64,7 +62,6 @@ fn work<S: Store>(alloc: Global, words: &[String], store: &mut S) -> Result<Fini
             },
         ) => measure(alloc, store, model, trace, asked),
         Some(Command::Check { source }) => check_source(alloc, store, source),
-        Some(Command::Instrument { source }) => instrument_source(alloc, store, source),
         Some(Command::Model { source }) => model_of_source(alloc, store, source),
         Some(Command::Upgrade { model }) => upgrade(alloc, store, model),
         Some(
