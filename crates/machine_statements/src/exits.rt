@@ -75,7 +75,8 @@ fn out_of_switch(by: Left) -> Left
     }
 }
 
-/// What comes of an exit in a statement.
+/// What comes of an exit in a statement (C99 6.8, 6.8.6). Beside want of memory it refuses, as want of memory too, the
+/// round of a statement that is no loop. Where it refuses, `memory` and `todo` may have been changed.
 pub fn with_exit<'p>(
     memory: &mut Memory,
     todo: &mut Vec<Frame<'p>>,

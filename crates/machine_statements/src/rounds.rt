@@ -47,7 +47,8 @@ pub fn going_round<'p>(
     }
 }
 
-/// A loop is tested, once its turn is spent; a missing condition holds (C99 6.8.5.3 paragraph 2).
+/// A loop is tested, once its turn is spent (C99 6.8.5); a missing condition holds (6.8.5.3 paragraph 2). A statement
+/// that is no loop is refused as want of memory. Where it refuses, what is left to do may have been changed.
 pub fn test_loop<'p>(todo: &mut Vec<Frame<'p>>, of: &'p TStmt) -> Result<Now<'p>, OutOfMemory>
     ensures { IfOk result (λ now. (p : Program) (h : Activation) (m : Objects) → Leaves p h m todo.old.items (λ w st. then_do (condition p w no_marks (place_of h) (rounds_of (stmt_of of.now)).test st) (going_round p w (place_of h) (rounds_of (stmt_of of.now)))) now m todo.new.items) }
 {

@@ -78,7 +78,10 @@ fn begin_for<'p>(
     head(todo, of, left)
 }
 
-/// How a statement begins. `counts` has the number of cells of each struct.
+/// How a statement begins (C99 6.8). `counts` has the number of cells of each struct.
+///
+/// Beside want of memory it refuses what no well-typed program has, as want of memory too: a variable without a type, and
+/// one of 2^32 cells or more. Where it refuses, `memory` and `todo` may have been changed.
 pub fn begin_statement<'p>(
     program: &Checked,
     counts: &[u32],

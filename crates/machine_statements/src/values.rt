@@ -81,7 +81,10 @@ fn tested_loop<'p>(
     }
 }
 
-/// What comes of a value in a statement.
+/// What comes of a value in a statement (C99 6.8).
+///
+/// Beside want of memory it refuses what no run of a well-typed program comes to, as want of memory too: a value of another kind
+/// than its type, and a part that its statement has not. Where it refuses, `memory` and `todo` may have been changed.
 pub fn in_statement<'p>(
     memory: &mut Memory,
     todo: &mut Vec<Frame<'p>>,
