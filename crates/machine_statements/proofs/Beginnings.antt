@@ -1,5 +1,5 @@
 -- How statements begin, by their forms.
-use Rattle.std.proofs.Common.{◌≡◌, ℕ, zero, suc, true, List, [], ◌∷◌, ◌++◌, drop, length, Option, Some, None, IfOk, Vec, Global, refl, ap, sym, subst, ◌∙◌, arith}
+use Rattle.std.proofs.Common.{◌≡◌, ℕ, zero, suc, true, List, [], ◌∷◌, ◌++◌, drop, length, Option, None, IfOk, Vec, Global, refl, ap, sym, subst, ◌∙◌}
 use Rattle.std.specs.Prelude.{Box, Result, Ok, Err, slice_get}
 use Rattle.dm_base.specs.declared.memory.OutOfMemory.{OutOfMemory}
 use Rattle.c_tree.specs.declared.value.Value.{Value}
@@ -8,7 +8,7 @@ use Rattle.c_tree.specs.declared.tree.TInit.{TInit}
 use Rattle.c_tree.specs.declared.tree.TStmt.{TStmt}
 use Rattle.c_tree.specs.declared.tree.TStmt.TheVariants.{Block, Declare, If, For, Switch}
 use Rattle.c_tree.specs.declared.tree.TGroup.{TGroup}
-use Rattle.c_tree.specs.Tree.{Expr, Maybe, Stmt, block, empty, if_else, for_loop, switch_on, Stmts, Groups, Program}
+use Rattle.c_tree.specs.Tree.{Expr, Maybe, Stmt, block, empty, if_else, for_loop, switch_on, Stmts, Program}
 use Rattle.c_tree.specs.View.{expr_of, maybe_of, inits_of, stmt_of, stmts_of, groups_of}
 use Rattle.c_tree.proofs.Rows.{block_is, for_is, switch_is}
 use Rattle.c_values.specs.Memory.{Objects}

@@ -1,5 +1,5 @@
 -- Variables that end.
-use Rattle.std.proofs.Common.{◌≡◌, ℕ, List, [], ◌∷◌, ◌++◌, Option, Vec, Global, drop, refl, ap, sym, ◌∙◌}
+use Rattle.std.proofs.Common.{◌≡◌, ℕ, List, [], ◌∷◌, ◌++◌, Option, Vec, Global, refl, ap, sym, ◌∙◌}
 use Rattle.std.specs.Prelude.{Box}
 use Rattle.c_tree.specs.declared.tree.TStmt.{TStmt}
 use Rattle.c_tree.specs.declared.tree.TExpr.{TExpr}

@@ -1,10 +1,9 @@
 -- Steps in statements: what is left to do after them.
-use Rattle.std.proofs.Common.{◌≡◌, List, [], ◌∷◌, ◌++◌, sym, ap, subst, ◌∙◌, refl}
+use Rattle.std.proofs.Common.{◌≡◌, List, [], ◌∷◌, ◌++◌, sym, ap, ◌∙◌}
 use Rattle.c_tree.specs.Tree.{Program}
-use Rattle.c_values.specs.Answers.{undefined}
 use Rattle.c_values.specs.Memory.{Objects}
 use Rattle.c_meaning.specs.Meaning.{World}
-use Rattle.c_meaning.specs.Results.{State, with_memory, Result, Go, Stop, then_do, answered, Exit}
+use Rattle.c_meaning.specs.Results.{State, with_memory, Result, Go, then_do, Exit}
 use Rattle.machine_frames.specs.declared.frames.Here.{Here}
 use Rattle.machine_frames.specs.declared.frames.ExitFrame.{ExitFrame}
 use Rattle.machine_frames.specs.declared.frames.Frame.{Frame}
