@@ -1,0 +1,16 @@
+//! What a machine that runs a C program has left to do (C99 5.1.2.3): lists of frames, what they mean, and how a part of
+//! the program is waited for.
+#![tactic(auto)]
+
+mod answers;
+mod cells;
+mod frames;
+mod waiting;
+
+pub use answers::{given, given_in_words, stopped};
+pub use cells::{cells_in, struct_cells};
+pub use frames::{
+    After, Call, Callee, Choice, ExitFrame, Frame, Here, Left, Now, Pair, Parted, StatementFrame,
+    Step, Storing, ValueFrame, Valued,
+};
+pub use waiting::{wait, wait_for_statement, wait_in_statement};

@@ -1,0 +1,5 @@
+pub mod Noting
+pub mod Recording
+pub mod Resuming
+pub mod Starting
+pub mod Turning

@@ -1,0 +1,3 @@
+pub mod Futures
+pub mod Standing
+pub mod WholeRuns
