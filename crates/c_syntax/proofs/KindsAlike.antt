@@ -66,7 +66,7 @@ operand_of : (e : Expr) → Alike (expr_kinds (unplaced e)) (expr_kinds e) → A
 operand_of e h = wrapped_as (is_bare (unplaced e)) (is_bare e) (expr_kinds (unplaced e)) (expr_kinds e) (bare_alike e) h
 
 inner_of : (e : Declarator) → Alike (declarator_kinds (unplaced_declarator e)) (declarator_kinds e)
-  → Alike (wrapped (is_direct (unplaced_declarator e)) (declarator_kinds (unplaced_declarator e))) (wrapped (is_direct e) (declarator_kinds e))
+    → Alike (wrapped (is_direct (unplaced_declarator e)) (declarator_kinds (unplaced_declarator e))) (wrapped (is_direct e) (declarator_kinds e))
 inner_of e h = wrapped_as (is_direct (unplaced_declarator e)) (is_direct e) (declarator_kinds (unplaced_declarator e)) (declarator_kinds e) (direct_alike e) h
 
 -- one after the other
@@ -83,7 +83,7 @@ mutual
   expr_alike (sizeof_type at n) k = ap (λ (x : Kinds). Keyword w.SIZEOF ∷ Punct p.LEFT_PARENTHESIS ∷ x) (type_alike n (Punct p.RIGHT_PARENTHESIS ∷ k))
   expr_alike (cast at n a) k =
       ap (λ (x : Kinds). Punct p.LEFT_PARENTHESIS ∷ x)
-        (then (type_kinds (unplaced_type n)) (type_kinds n) (type_alike n) (ap (λ (x : Kinds). Punct p.RIGHT_PARENTHESIS ∷ x) (operand_of a (expr_alike a) k)))
+      (then (type_kinds (unplaced_type n)) (type_kinds n) (type_alike n) (ap (λ (x : Kinds). Punct p.RIGHT_PARENTHESIS ∷ x) (operand_of a (expr_alike a) k)))
   expr_alike (call at a es) k =
       then (operand_kinds (unplaced a)) (operand_kinds a) (operand_of a (expr_alike a)) (ap (λ (x : Kinds). Punct p.LEFT_PARENTHESIS ∷ x) (list_alike es (Punct p.RIGHT_PARENTHESIS ∷ k)))
   expr_alike (member at access a x) k = operand_of a (expr_alike a) (access_kind access ∷ Name x.name ∷ k)
@@ -98,8 +98,8 @@ mutual
       then (operand_kinds (unplaced a)) (operand_kinds a) (operand_of a (expr_alike a)) (ap (λ (x : Kinds). Punct op ∷ x) (operand_of b (expr_alike b) k))
   expr_alike (conditional at a b c) k =
       then (operand_kinds (unplaced a)) (operand_kinds a) (operand_of a (expr_alike a))
-        (ap (λ (x : Kinds). Punct p.QUESTION ∷ x)
-          (then (operand_kinds (unplaced b)) (operand_kinds b) (operand_of b (expr_alike b)) (ap (λ (x : Kinds). Punct p.COLON ∷ x) (operand_of c (expr_alike c) k))))
+      (ap (λ (x : Kinds). Punct p.QUESTION ∷ x)
+      (then (operand_kinds (unplaced b)) (operand_kinds b) (operand_of b (expr_alike b)) (ap (λ (x : Kinds). Punct p.COLON ∷ x) (operand_of c (expr_alike c) k))))
 
   list_alike : (es : Exprs) → Alike (list_kinds (unplaced_exprs es)) (list_kinds es)
   list_alike no_exprs k = refl
@@ -122,10 +122,10 @@ mutual
   declarator_alike (pointer at e) k = ap (λ (x : Kinds). Punct p.ASTERISK ∷ x) (declarator_alike e k)
   declarator_alike (array at e size) k =
       then (wrapped (is_direct (unplaced_declarator e)) (declarator_kinds (unplaced_declarator e))) (wrapped (is_direct e) (declarator_kinds e)) (inner_of e (declarator_alike e))
-        (ap (λ (x : Kinds). Punct p.LEFT_BRACKET ∷ x) (size_alike size (Punct p.RIGHT_BRACKET ∷ k)))
+      (ap (λ (x : Kinds). Punct p.LEFT_BRACKET ∷ x) (size_alike size (Punct p.RIGHT_BRACKET ∷ k)))
   declarator_alike (function at e ps) k =
       then (wrapped (is_direct (unplaced_declarator e)) (declarator_kinds (unplaced_declarator e))) (wrapped (is_direct e) (declarator_kinds e)) (inner_of e (declarator_alike e))
-        (ap (λ (x : Kinds). Punct p.LEFT_PARENTHESIS ∷ x) (params_alike ps (Punct p.RIGHT_PARENTHESIS ∷ k)))
+      (ap (λ (x : Kinds). Punct p.LEFT_PARENTHESIS ∷ x) (params_alike ps (Punct p.RIGHT_PARENTHESIS ∷ k)))
 
   params_alike : (ps : Params) → Alike (params_kinds (unplaced_params ps)) (params_kinds ps)
   params_alike no_params k = refl
@@ -136,7 +136,7 @@ mutual
   next_params_alike no_params k = refl
   next_params_alike (more_params at s e ps) k =
       ap (λ (x : Kinds). Punct p.COMMA ∷ x)
-        (then (spec_kinds (unplaced_spec s)) (spec_kinds s) (spec_alike s) (then (declarator_kinds (unplaced_declarator e)) (declarator_kinds e) (declarator_alike e) (next_params_alike ps k)))
+      (then (spec_kinds (unplaced_spec s)) (spec_kinds s) (spec_alike s) (then (declarator_kinds (unplaced_declarator e)) (declarator_kinds e) (declarator_alike e) (next_params_alike ps k)))
 
 maybe_alike : (e : Maybe) → Alike (maybe_kinds (unplaced_maybe e)) (maybe_kinds e)
 maybe_alike absent k = refl
@@ -163,14 +163,14 @@ next_parts_alike : (ps : Parts) → Alike (next_parts (unplaced_parts ps)) (next
 next_parts_alike no_parts k = refl
 next_parts_alike (more_parts e v ps) k =
     ap (λ (x : Kinds). Punct p.COMMA ∷ x)
-      (then (declarator_kinds (unplaced_declarator e)) (declarator_kinds e) (declarator_alike e)
-        (then (maybe_init_kinds (unplaced_maybe_init v)) (maybe_init_kinds v) (maybe_init_alike v) (next_parts_alike ps k)))
+    (then (declarator_kinds (unplaced_declarator e)) (declarator_kinds e) (declarator_alike e)
+    (then (maybe_init_kinds (unplaced_maybe_init v)) (maybe_init_kinds v) (maybe_init_alike v) (next_parts_alike ps k)))
 
 parts_alike : (ps : Parts) → Alike (parts_kinds (unplaced_parts ps)) (parts_kinds ps)
 parts_alike no_parts k = refl
 parts_alike (more_parts e v ps) k =
     then (declarator_kinds (unplaced_declarator e)) (declarator_kinds e) (declarator_alike e)
-      (then (maybe_init_kinds (unplaced_maybe_init v)) (maybe_init_kinds v) (maybe_init_alike v) (next_parts_alike ps k))
+    (then (maybe_init_kinds (unplaced_maybe_init v)) (maybe_init_kinds v) (maybe_init_alike v) (next_parts_alike ps k))
 
 decl_alike : (x : Decl) → Alike (decl_kinds (unplaced_decl x)) (decl_kinds x)
 decl_alike (decl at st s ps) k =
@@ -189,7 +189,7 @@ labels_alike (default_label at ls) k = ap (λ (x : Kinds). Keyword w.DEFAULT ∷
 
 -- an expression in parentheses after a keyword
 headed_alike : (e : Expr) (word : TokenKind) {a b : Kinds} → a ≡ b
-  → word ∷ Punct p.LEFT_PARENTHESIS ∷ expr_kinds (unplaced e) (Punct p.RIGHT_PARENTHESIS ∷ a) ≡ word ∷ Punct p.LEFT_PARENTHESIS ∷ expr_kinds e (Punct p.RIGHT_PARENTHESIS ∷ b)
+    → word ∷ Punct p.LEFT_PARENTHESIS ∷ expr_kinds (unplaced e) (Punct p.RIGHT_PARENTHESIS ∷ a) ≡ word ∷ Punct p.LEFT_PARENTHESIS ∷ expr_kinds e (Punct p.RIGHT_PARENTHESIS ∷ b)
 headed_alike e word q =
     ap (λ (x : Kinds). word ∷ Punct p.LEFT_PARENTHESIS ∷ x) (then (expr_kinds (unplaced e)) (expr_kinds e) (expr_alike e) (ap (λ (x : Kinds). Punct p.RIGHT_PARENTHESIS ∷ x) q))
 
@@ -206,10 +206,10 @@ mutual
       ap (λ (x : Kinds). Keyword w.DO ∷ x) (then (stmt_kinds (unplaced_stmt s)) (stmt_kinds s) (stmt_alike s) (headed_alike e (Keyword w.WHILE) refl))
   stmt_alike (for_loop at f a b s) k =
       ap (λ (x : Kinds). Keyword w.FOR ∷ Punct p.LEFT_PARENTHESIS ∷ x)
-        (then (first_kinds (unplaced_first f)) (first_kinds f) (first_alike f)
-          (then (maybe_kinds (unplaced_maybe a)) (maybe_kinds a) (maybe_alike a)
-            (ap (λ (x : Kinds). Punct p.SEMICOLON ∷ x)
-              (then (maybe_kinds (unplaced_maybe b)) (maybe_kinds b) (maybe_alike b) (ap (λ (x : Kinds). Punct p.RIGHT_PARENTHESIS ∷ x) (stmt_alike s k))))))
+      (then (first_kinds (unplaced_first f)) (first_kinds f) (first_alike f)
+      (then (maybe_kinds (unplaced_maybe a)) (maybe_kinds a) (maybe_alike a)
+      (ap (λ (x : Kinds). Punct p.SEMICOLON ∷ x)
+      (then (maybe_kinds (unplaced_maybe b)) (maybe_kinds b) (maybe_alike b) (ap (λ (x : Kinds). Punct p.RIGHT_PARENTHESIS ∷ x) (stmt_alike s k))))))
   stmt_alike (switch_on at e gs) k = headed_alike e (Keyword w.SWITCH) (ap (λ (x : Kinds). Punct p.LEFT_BRACE ∷ x) (groups_alike gs (Punct p.RIGHT_BRACE ∷ k)))
   stmt_alike (break_off at) k = refl
   stmt_alike (continue_on at) k = refl
@@ -242,7 +242,7 @@ members_alike : (ms : Members) → Alike (members_kinds (unplaced_members ms)) (
 members_alike no_members k = refl
 members_alike (more_members at s es ms) k =
     then (spec_kinds (unplaced_spec s)) (spec_kinds s) (spec_alike s)
-      (then (declarators_kinds (unplaced_declarators es)) (declarators_kinds es) (declarators_alike es) (ap (λ (x : Kinds). Punct p.SEMICOLON ∷ x) (members_alike ms k)))
+    (then (declarators_kinds (unplaced_declarators es)) (declarators_kinds es) (declarators_alike es) (ap (λ (x : Kinds). Punct p.SEMICOLON ∷ x) (members_alike ms k)))
 
 enumerator_value_alike : (e : Maybe) → Alike (enumerator_value_kinds (unplaced_maybe e)) (enumerator_value_kinds e)
 enumerator_value_alike absent k = refl
@@ -267,12 +267,12 @@ item_alike (struct_item at x ms) k =
     ap (λ (ks : Kinds). Keyword w.STRUCT ∷ Name x.name ∷ Punct p.LEFT_BRACE ∷ ks) (members_alike ms (Punct p.RIGHT_BRACE ∷ Punct p.SEMICOLON ∷ k))
 item_alike (enum_item at g es) k =
     ap (λ (ks : Kinds). Keyword w.ENUM ∷ ks)
-      (then (tag_kinds (unplaced_tag g)) (tag_kinds g) (tag_alike g) (ap (λ (ks : Kinds). Punct p.LEFT_BRACE ∷ ks) (enumerators_alike es (Punct p.RIGHT_BRACE ∷ Punct p.SEMICOLON ∷ k))))
+    (then (tag_kinds (unplaced_tag g)) (tag_kinds g) (tag_alike g) (ap (λ (ks : Kinds). Punct p.LEFT_BRACE ∷ ks) (enumerators_alike es (Punct p.RIGHT_BRACE ∷ Punct p.SEMICOLON ∷ k))))
 item_alike (tag_item at x) k = refl
 item_alike (decl_item at x) k = decl_alike x k
 item_alike (function_item at st s e b) k =
     ap (storage_kinds st)
-      (then (spec_kinds (unplaced_spec s)) (spec_kinds s) (spec_alike s) (then (declarator_kinds (unplaced_declarator e)) (declarator_kinds e) (declarator_alike e) (stmt_alike b k)))
+    (then (spec_kinds (unplaced_spec s)) (spec_kinds s) (spec_alike s) (then (declarator_kinds (unplaced_declarator e)) (declarator_kinds e) (declarator_alike e) (stmt_alike b k)))
 
 unit_alike : (u : Items) → Alike (unit_kinds (unplaced_unit u)) (unit_kinds u)
 unit_alike no_items k = refl
