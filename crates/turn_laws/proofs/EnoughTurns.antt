@@ -238,9 +238,9 @@ module _ (p : Program) (marks : Marks) (t : ℕ) where
       inits_agrees x (more_inits cell e is) st i =
           then_agree {A = Value} {B = Exit} (eval p w marks fr true e st) (eval p v marks fr true e st) _ _ (eval_agree true e st i) (λ y st i. then_agree {A = Value} {B = Exit} (remembered (store_place st.memory (place (name_in fr false x) cell 1) y) y st) (remembered (store_place st.memory (place (name_in fr false x) cell 1) y) y st) _ _ (remembered_agree {A = Value} (store_place st.memory (place (name_in fr false x) cell 1) y) y st i) (λ y st i. inits_agrees x is st i))
 
-      fresh_agree : (x : ℕ) (t : Option CType) (st : State) → st.turns ≤ t → Agree (fresh p.structs fr x t st) (fresh p.structs fr x t st)
+      fresh_agree : (x : ℕ) (of : Option CType) (st : State) → st.turns ≤ t → Agree (fresh p.structs fr x of st) (fresh p.structs fr x of st)
       fresh_agree x None st i = (refl, tt)
-      fresh_agree x (Some t) st i = (refl, i)
+      fresh_agree x (Some of) st i = (refl, i)
 
       leaving_agree : (xs : List ℕ) (r q : Result Exit) → Agree r q → Agree (leaving fr xs r) (leaving fr xs q)
       leaving_agree xs r q h = then_agree {A = Exit} {B = Exit} r q _ _ h (λ x st i. (refl, i))
