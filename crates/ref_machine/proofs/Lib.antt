@@ -1,3 +1,4 @@
+pub mod Chains
 pub mod Noting
 pub mod Recording
 pub mod Resuming

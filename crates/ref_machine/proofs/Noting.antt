@@ -1,12 +1,12 @@
 -- Pauses of a whole run.
-use Rattle.std.proofs.Common.{◌≡◌, ℕ, suc, ◌+◌, ◌<◌, Bool, true, false, length, drop, drop-cons, get_or, arith, List, [], ◌∷◌, ◌++◌, Some, None, sym, ap, ◌∙◌, append_assoc, append-nil}
+use Rattle.std.proofs.Common.{◌≡◌, ℕ, suc, ◌+◌, ◌<◌, Bool, true, false, length, drop, drop-cons, get_or, arith, List, [], ◌∷◌, Some, None, sym, ap, ◌∙◌, append_assoc, append-nil}
 use Rattle.dm_base.specs.declared.event.Event.{Event}
 use Rattle.dm_base.specs.declared.outcome.Outcome.{Outcome}
 use Rattle.c_meaning.specs.Runs.{Run}
 use Rattle.ref_machine.specs.declared.pause.Pause.{Pause}
 use Rattle.ref_machine.specs.declared.pause.Pause.TheVariants.{NeedResult, Did, Ended}
 use Rattle.sys_table.specs.declared.sys_result.SysResult.{SysResult}
-use Rattle.ref_machine.specs.Futures.{Future, Advances, event_first, only_end}
+use Rattle.ref_machine.specs.Futures.{Future, Advances}
 use Rattle.ref_machine.specs.WholeRuns.{Follows, Notes, joined}
 
 -- the run goes on

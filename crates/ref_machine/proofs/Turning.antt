@@ -1,9 +1,7 @@
 -- Turns that are spent, functions that are entered, and ends.
-use Rattle.std.proofs.Common.{◌≡◌, ℕ, zero, suc, ◌+◌, ◌-◌, ◌<◌, ◌≤◌, Bool, true, List, [], ◌∷◌, ◌++◌, length, Option, Some, sym, ap, ◌∙◌, subst, refl, append-nil, arith}
-use Rattle.std.proofs.lemmas.List.{reverse-append}
+use Rattle.std.proofs.Common.{◌≡◌, ℕ, zero, suc, ◌+◌, ◌-◌, ◌<◌, ◌≤◌, Bool, true, List, [], ◌∷◌, ◌++◌, length, Option, Some, sym, ap, ◌∙◌, refl, append-nil, arith}
 use Rattle.std.specs.Prelude.{nat_eq, slice_get, map}
 use Rattle.dm_base.specs.declared.event.Event.{Event}
-use Rattle.dm_base.specs.declared.outcome.Outcome.{Outcome}
 use Rattle.dm_base.specs.declared.outcome.Outcome.TheVariants.{Turns}
 use Rattle.sys_table.specs.declared.sys_result.SysResult.{SysResult}
 use Rattle.c_tree.specs.declared.value.Value.{Value}
@@ -13,14 +11,13 @@ use Rattle.c_tree.specs.View.{Parts, program_of, function_of, ctypes_of, stmt_of
 use Rattle.c_values.specs.Memory.{Objects, ended}
 use Rattle.c_meaning.specs.Meaning.{Frame as Place, Loop as Rounds, World, condition, exec, without}
 use Rattle.c_meaning.specs.Results.{State, with_memory, Result, Go, Stop, after, then_do, Exit}
-use Rattle.c_meaning.specs.Runs.{no_marks, world, run_body, result_of, parameters, entered, with_parameters, ending, exit_of, enter, Run}
+use Rattle.c_meaning.specs.Runs.{no_marks, world, run_body, result_of, parameters, entered, with_parameters, ending, exit_of, enter}
 use Rattle.turn_laws.proofs.EnoughTurns.{turns_are_enough}
-use Rattle.machine_frames.specs.declared.frames.Here.{Here}
 use Rattle.machine_frames.specs.declared.frames.Call.{Call}
 use Rattle.machine_frames.specs.declared.frames.Frame.{Frame}
 use Rattle.machine_frames.specs.declared.frames.Frame.TheVariants as frames
 use Rattle.machine_frames.specs.Frames.{place_of, stack, numbers, going_round, after_value, after_exit}
-use Rattle.machine_frames.proofs.Joining.{then_assoc, then_same, pushed}
+use Rattle.machine_frames.proofs.Joining.{then_assoc, pushed}
 use Rattle.ref_machine.specs.Standing.{state}
 use Rattle.ref_machine.specs.Futures.{event_first}
 

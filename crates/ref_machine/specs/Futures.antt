@@ -1,5 +1,5 @@
 -- The future of a machine: from the recorded results to come, how the run ends, and the events to come.
-use Rattle.std.specs.Prelude.{◌≡◌, ℕ, ◌+◌, Bool, true, false, List, [], ◌∷◌, ◌++◌, Option, Some, None}
+use Rattle.std.specs.Prelude.{◌≡◌, ◌≢◌, ℕ, ◌+◌, Bool, true, false, List, [], ◌∷◌, Option, Some, None}
 use Rattle.dm_base.specs.declared.event.Event.{Event}
 use Rattle.dm_base.specs.declared.outcome.Outcome.{Outcome}
 use Rattle.dm_base.specs.declared.outcome.Outcome.TheVariants.{Results}
@@ -20,7 +20,7 @@ Future = List SysResult → Run
 
 abbrev pub standing : Machine → Standing
 standing m =
-    record { here = m.here; memory = seen m.memory; entries = m.entries; turns = m.turns; now = m.now; todo = m.todo.items }
+    record { here = m.here; memory = seen m.memory; entries = m.entries; turns = m.turns; now = m.next; todo = m.todo.items }
 
 -- what the machine is going to do, with these records to come
 abbrev pub future : Machine → Future
@@ -68,7 +68,8 @@ only_end o = record { outcome = o; trace = [] }
 
 -- what a machine that was not waiting tells of its future before and after
 abbrev pub GoesOn : Future → Pause → Future → Bool → Type 0
-GoesOn old NeedResult new waiting = ((records : List SysResult) → new records ≡ old records) × (old [] ≡ only_end Results) × (waiting ≡ true)
+GoesOn old NeedResult new waiting =
+    ((records : List SysResult) → new records ≡ old records) × (old [] ≡ only_end Results) × (waiting ≡ true) × ((one : SysResult) (records : List SysResult) → old (one ∷ records) ≢ only_end Results)
 GoesOn old (Did e) new waiting = ((records : List SysResult) → old records ≡ event_first e (new records)) × (waiting ≡ false)
 GoesOn old (Ended o) new waiting =
     ((records : List SysResult) → (old records ≡ only_end o) × (new records ≡ only_end o)) × (waiting ≡ false)
@@ -90,3 +91,7 @@ Resumes old given (Ended o) new waiting =
 abbrev pub Advances : Bool → Future → Option SysResult → Pause → Future → Bool → Type 0
 Advances false old given pause new waiting = GoesOn old pause new waiting
 Advances true old given pause new waiting = Resumes old given pause new waiting
+
+-- the same as one fact, of a machine that was waiting
+pub record HasResumed (old : Future) (given : Option SysResult) (pause : Pause) (new : Future) (waiting : Bool) : Type 0 where
+  pub so : Resumes old given pause new waiting

@@ -3,7 +3,7 @@ use Rattle.std.specs.Prelude.{◌≡◌, List, [], ◌∷◌, ◌++◌, Option, 
 use Rattle.dm_base.specs.declared.event.Event.{Event}
 use Rattle.dm_base.specs.declared.outcome.Outcome.{Outcome}
 use Rattle.c_meaning.specs.Runs.{Run}
-use Rattle.ref_machine.specs.declared.running.Run.{Run as Found}
+use Rattle.ref_machine.specs.declared.whole.Run.{Run as Found}
 use Rattle.ref_machine.specs.declared.pause.Pause.{Pause}
 use Rattle.ref_machine.specs.declared.pause.Pause.TheVariants.{NeedResult, Did, Ended}
 use Rattle.ref_machine.specs.Futures.{event_first, only_end}

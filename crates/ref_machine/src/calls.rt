@@ -112,7 +112,9 @@ pub fn leave_call<'p>(
     here: &mut Here<'p>,
     call: Call<'p>,
     by: Left,
-) -> Result<Now<'p>, OutOfMemory> {
+) -> Result<Now<'p>, OutOfMemory>
+    ensures { IfOk result (λ now. (p : Term) (w : World) (todo : List Todo) (st : State) → rest p w (place_of here.new) now (stack todo) (with_memory st (seen memory.new)) ≡ then_do (out_of_call (place_of here.old) call.entry (exit_in by) (with_memory st (seen memory.old))) (after_value p w (place_of call.entry.caller) (stack todo))) }
+{
     end_parameters(memory, here.activation, call.parameters);
     *here = call.caller;
     let now = value_of(call.is_main, call.wanted, by)?;

@@ -3,12 +3,16 @@
 #![tactic(auto)]
 
 mod calls;
+mod laws;
 mod machine;
 mod pause;
 mod running;
 mod stand_in;
 mod stepping;
+mod whole;
 
+pub use laws::advances_are_exact;
 pub use machine::Machine;
 pub use pause::Pause;
-pub use running::{Run, run};
+pub use running::run;
+pub use whole::Run;

@@ -1,6 +1,7 @@
-ghost use Rattle.std.specs.Prelude.{◌≤◌};
+ghost use Rattle.std.specs.Prelude.{◌≡◌, ◌≤◌};
 ghost use Rattle.c_tree.specs.View.{program_of};
 ghost use Rattle.machine_frames.specs.Cells.{AreCells};
+ghost use Rattle.ref_machine.specs.declared.pause.Pause.TheVariants.{Ended};
 
 use crate::Pause;
 use crate::stepping::{coming, go_on, settled};
@@ -39,9 +40,16 @@ pub struct Machine<'p> {
     allowed: u32,
     turns: u32,
     stage: Stage,
-    now: Now<'p>,
+    next: Now<'p>,
     ghost counted: { AreCells (program_of program.now).structs counts.items },
     ghost bounded: { turns ≤ allowed },
+}
+
+// The end by this outcome.
+fn ended(outcome: &Outcome) -> Pause
+    ensures { result ≡ Ended outcome.now }
+{
+    Pause::Ended(*outcome)
 }
 
 impl<'p> Machine<'p> {
@@ -49,7 +57,7 @@ impl<'p> Machine<'p> {
     ghost use Rattle.std.specs.Option.{option_copied};
     ghost use Rattle.sys_table.specs.declared.sys_result.SysResult.{SysResult as Record};
     ghost use Rattle.c_meaning.specs.Runs.{run};
-    ghost use Rattle.ref_machine.specs.Futures.{future, future_at, is_waiting, has_failed, records_taken, taken_with, Advances, GoesOn, Resumes};
+    ghost use Rattle.ref_machine.specs.Futures.{future, future_at, is_waiting, has_failed, records_taken, taken_with, Advances, GoesOn, HasResumed, Resumes};
     ghost use Rattle.machine_frames.specs.declared.frames.Now.TheVariants.{Ask};
 
     /// The run of the program from its start, with so many turns.
@@ -80,7 +88,7 @@ impl<'p> Machine<'p> {
             allowed: turns,
             turns,
             stage: Stage::Going,
-            now: Now::Enter {
+            next: Now::Enter {
                 wanted: true,
                 function: program.main(),
                 arguments: Vec::new(alloc),
@@ -114,19 +122,20 @@ impl<'p> Machine<'p> {
     {
         match now {
             Now::Ask { name, request } => {
-                self.now = Now::Ask { name, request };
+                self.next = Now::Ask { name, request };
                 self.stage = Stage::Waiting;
                 Ok(Pause::NeedResult)
             }
             Now::Told { event, then } => {
-                self.now = coming(then);
+                self.next = coming(then);
                 self.stage = Stage::Going;
                 Ok(Pause::Did(event))
             }
             Now::Stopped(outcome) => {
-                self.now = Now::Stopped(outcome);
+                let pause = ended(&outcome);
+                self.next = Now::Stopped(outcome);
                 self.stage = Stage::Going;
-                Ok(Pause::Ended(outcome))
+                Ok(pause)
             }
             _ => Err(OutOfMemory),
         }
@@ -138,7 +147,7 @@ impl<'p> Machine<'p> {
         ensures taken { records_taken self.new ≡ records_taken self.old }
         ensures failed { OnErr result (has_failed self.new ≡ has_failed self.old) }
     {
-        let now = mem::replace(&mut self.now, Now::Stopped(Outcome::Turns));
+        let now = mem::replace(&mut self.next, Now::Stopped(Outcome::Turns));
         let next = go_on(
             self.alloc,
             self.program,
@@ -161,7 +170,7 @@ impl<'p> Machine<'p> {
         request: Request,
         given: &SysResult,
     ) -> Result<Pause, OutOfMemory>
-        ensures resumes { IfOk result (λ pause. Resumes (future_at self.old (Ask name request)) (Some given.now) pause (future self.new) (is_waiting self.new)) }
+        ensures resumes { IfOk result (λ pause. HasResumed (future_at self.old (Ask name request)) (Some given.now) pause (future self.new) (is_waiting self.new)) }
         ensures taken { IfOk result (λ pause. records_taken self.new ≡ records_taken self.old + 1) }
         ensures failed { OnErr result (has_failed self.new ≡ has_failed self.old) }
     {
@@ -172,13 +181,13 @@ impl<'p> Machine<'p> {
             Called::Answered { event, value } => {
                 let next = settled(value)?;
                 self.taken = number;
-                self.now = next;
+                self.next = next;
                 self.stage = Stage::Going;
                 Ok(Pause::Did(event))
             }
             Called::BadResult => {
                 self.taken = number;
-                self.now = Now::Stopped(Outcome::BadResult(number));
+                self.next = Now::Stopped(Outcome::BadResult(number));
                 self.stage = Stage::Going;
                 Ok(Pause::Ended(Outcome::BadResult(number)))
             }
@@ -191,17 +200,17 @@ impl<'p> Machine<'p> {
         ensures taken { IfOk result (λ pause. records_taken self.new ≡ taken_with (option_copied given.entry) (records_taken self.old)) }
         ensures failed { OnErr result (has_failed self.new ≡ has_failed self.old) }
     {
-        let now = mem::replace(&mut self.now, Now::Stopped(Outcome::Turns));
+        let now = mem::replace(&mut self.next, Now::Stopped(Outcome::Turns));
         let Now::Ask { name, request } = now else {
             return Err(OutOfMemory);
         };
         match given {
-            Some(given) => {
-                let pause = self.take(name, request, given)?;
+            Some(one) => {
+                let pause = self.take(name, request, one)?;
                 Ok(pause)
             }
             None => {
-                self.now = Now::Stopped(Outcome::Results);
+                self.next = Now::Stopped(Outcome::Results);
                 self.stage = Stage::Going;
                 Ok(Pause::Ended(Outcome::Results))
             }
@@ -212,8 +221,8 @@ impl<'p> Machine<'p> {
     /// waiting; where it is waiting and none is given, there is none left, and the run ends for want of it. After the
     /// end it answers the same again, and after want of memory want of memory.
     pub fn advance(&mut self, given: Option<&SysResult>) -> Result<Pause, OutOfMemory>
-        requires waiting { IsSome given.entry → is_waiting self.old ≡ true }
-        requires few { IsSome given.entry → records_taken self.old < 2 ^ 64 - 1 }
+        requires waiting { IsSome given → is_waiting self.old ≡ true }
+        requires few { IsSome given → records_taken self.old < 2 ^ 64 - 1 }
         ensures advances { IfOk result (λ pause. Advances (is_waiting self.old) (future self.old) (option_copied given.entry) pause (future self.new) (is_waiting self.new)) }
         ensures taken { IfOk result (λ pause. records_taken self.new ≡ taken_with (option_copied given.entry) (records_taken self.old)) }
         ensures failed { OnErr result (has_failed self.new ≡ true) }

@@ -4,20 +4,12 @@ ghost use Rattle.c_meaning.specs.Runs.{run};
 ghost use Rattle.ref_machine.specs.Futures.{future, records_taken};
 ghost use Rattle.ref_machine.specs.WholeRuns.{Follows, Notes, run_of};
 
+use crate::whole::Run;
 use crate::{Machine, Pause};
 use c_tree::Program;
 use dm_base::{Event, OutOfMemory, Outcome};
 use std::alloc::Global;
 use sys_table::SysResult;
-
-/// How a run ended, and its events.
-#[derive(Drop)]
-pub struct Run {
-    /// How it ended.
-    pub outcome: Outcome,
-    /// Its events, in order.
-    pub trace: Vec<Event>,
-}
 
 // Goes on to the next event, need of a recorded result, or end; the results from this number on are left.
 fn advance_with(

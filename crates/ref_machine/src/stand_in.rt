@@ -2,21 +2,53 @@
 
 ghost use Rattle.std.specs.Prelude.{IfOk};
 ghost use Rattle.c_tree.specs.Tree.{Program as Term};
-ghost use Rattle.c_tree.specs.View.{program_of, stmt_of};
+ghost use Rattle.c_tree.specs.View.{expr_of, program_of, stmt_of};
 ghost use Rattle.c_values.specs.Memory.{Objects};
 ghost use Rattle.c_values.specs.Seen.{seen};
-ghost use Rattle.c_meaning.specs.Meaning.{condition, exec};
+ghost use Rattle.c_meaning.specs.Meaning.{condition, eval, exec};
 ghost use Rattle.c_meaning.specs.Results.{then_do};
 ghost use Rattle.c_meaning.specs.Runs.{no_marks};
 ghost use Rattle.machine_frames.specs.Cells.{AreCells};
-ghost use Rattle.machine_frames.specs.Frames.{exit_in, going_round, in_statement, place_of, rounds_of, with_exit};
-ghost use Rattle.machine_frames.specs.Parts.{Leaves};
+ghost use Rattle.machine_frames.specs.Frames.{exit_in, going_round, in_statement, place_of, rounds_of, with_exit, with_value};
+ghost use Rattle.machine_frames.specs.Parts.{Gives, Leaves};
 ghost use Rattle.machine_frames.specs.declared.frames.Here.{Here as Activation};
 
-use c_tree::{Program, TStmt, Value};
+use c_tree::{Program, TExpr, TStmt, Value};
 use c_values::Memory;
 use dm_base::OutOfMemory;
-use machine_frames::{ExitFrame, Frame, Here, Left, Now, StatementFrame};
+use machine_frames::{ExitFrame, Frame, Here, Left, Now, StatementFrame, ValueFrame};
+use std::alloc::Global;
+
+pub fn begin<'p>(
+    alloc: Global,
+    program: &Program,
+    counts: &[u32],
+    memory: &Memory,
+    todo: &mut Vec<Frame<'p>>,
+    here: Here<'p>,
+    wanted: bool,
+    e: &'p TExpr,
+) -> Result<Now<'p>, OutOfMemory>
+    requires { AreCells (program_of program.now).structs counts.now }
+    ensures { IfOk result (λ now. Gives (program_of program.now) here.entry (seen memory.now) todo.old.items (λ w st. eval (program_of program.now) w no_marks (place_of here.entry) wanted (expr_of e.now) st) now (seen memory.now) todo.new.items) }
+{
+    Err(OutOfMemory)
+}
+
+pub fn with_value<'p>(
+    alloc: Global,
+    program: &Program,
+    counts: &[u32],
+    memory: &mut Memory,
+    todo: &mut Vec<Frame<'p>>,
+    frame: ValueFrame<'p>,
+    v: Value,
+) -> Result<Now<'p>, OutOfMemory>
+    requires { AreCells (program_of program.now).structs counts.now }
+    ensures { IfOk result (λ now. (h : Activation) → Gives (program_of program.now) h (seen memory.old) todo.old.items (λ w st. with_value (program_of program.now) w (place_of h) frame.entry v st) now (seen memory.new) todo.new.items) }
+{
+    Err(OutOfMemory)
+}
 
 pub fn begin_statement<'p>(
     program: &Program,

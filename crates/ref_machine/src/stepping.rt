@@ -16,11 +16,10 @@ ghost use Rattle.machine_steps.specs.Faults.{told};
 ghost use Rattle.ref_machine.specs.Standing.{IsPausing, SameLeft, Standing, left_of, state};
 
 use crate::calls::{enter, leave_call};
-use crate::stand_in::{begin_statement, in_statement, test_loop, with_exit};
+use crate::stand_in::{begin, begin_statement, in_statement, test_loop, with_exit, with_value};
 use c_tree::{Program, TStmt, Value};
 use c_values::Memory;
 use dm_base::{OutOfMemory, Outcome};
-use machine_expressions::{begin, with_value};
 use machine_frames::{After, Frame, Here, Left, Now, given};
 use machine_steps::Fault;
 use std::alloc::Global;
@@ -98,13 +97,13 @@ fn left_with<'p>(
 ) -> Result<Now<'p>, OutOfMemory>
     ensures { IfOk result (λ now. (p : Term) (w : World) (st : State) → rest p w (place_of here.new) now (stack todo.new.items) (with_memory st (seen memory.new)) ≡ after_exit p w (place_of here.old) (frame.entry ∷ stack todo.old.items) (exit_in by) (with_memory st (seen memory.old))) }
 {
-    match frame {
+    match &frame {
         Frame::Exit(frame) => {
-            let now = with_exit(memory, todo, *here, frame, by)?;
+            let now = with_exit(memory, todo, *here, *frame, by)?;
             Ok(now)
         }
         Frame::Call(call) => {
-            let now = leave_call(memory, here, call, by)?;
+            let now = leave_call(memory, here, *call, by)?;
             Ok(now)
         }
         Frame::Value(_) => Err(OutOfMemory),

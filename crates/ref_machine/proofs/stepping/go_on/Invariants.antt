@@ -1,7 +1,7 @@
 use Rattle.std.proofs.Common.{◌≤◌}
 use Rattle.c_tree.specs.View.{program_of}
 use Rattle.c_values.specs.Seen.{seen}
-use Rattle.ref_machine.specs.Standing.{Standing, SameLeft}
+use Rattle.ref_machine.specs.Standing.{SameLeft}
 use Rattle.ref_machine.proofs.stepping.go_on.Given as goal
 
 abbrev pub invariant-loop-step : goal.invariant-loop-step

@@ -41,7 +41,7 @@ returns-in_ok-next-in-Enter-clause-same c n records taken le =
     let w = world p no_marks n in
     let st = state (seen c.args.memory.now) c.args.entries.now records taken c.args.turns.now in
     c.in_ok-next-in-Enter.ensures.same n records taken le
-    ∙ (ap (λ vs. then_do (w.enter c.in-Enter.wanted c.in-Enter.function vs st) (after_value p w (place_of c.args.here.now) (stack c.args.todo.now.items))) c.deref-in-Enter.ensures.value
+    ∙ (ap (λ vs. then_do (w.enter c.in-Enter.wanted c.in-Enter.function vs st) (after_value p w (place_of c.args.here.now) (stack c.args.todo.now.items))) c.deref.ensures.value
     ∙ ap (λ now. rest p w (place_of c.args.here.now) now (stack c.args.todo.now.items) st) (sym c.in-Enter.is))
 
 pub returns-in_ok-next-in-Test-clause-same : goal.returns-in_ok-next-in-Test-clause-same

@@ -1,10 +1,9 @@
-use Rattle.std.proofs.Common.{◌≤◌, true, subst, sym, ap, refl, ◌∙◌, ◌<◌, length, arith}
+use Rattle.std.proofs.Common.{true, subst, sym, ap, ◌∙◌, ◌<◌, length, arith}
 use Rattle.std.specs.Prelude.{All, map, []}
 use Rattle.c_tree.specs.Program.{IsStatic}
 use Rattle.c_tree.specs.View.{program_of, static_of}
 use Rattle.c_values.specs.Seen.{seen}
 use Rattle.c_meaning.specs.Runs.{enter, ending, first_objects, no_marks, world}
-use Rattle.machine_frames.specs.Frames.{place_of}
 use Rattle.ref_machine.specs.Standing.{state}
 use Rattle.ref_machine.proofs.Starting.{few_statics, small_statics}
 use Rattle.ref_machine.proofs.Turning.{started}
