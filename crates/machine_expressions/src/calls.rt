@@ -262,12 +262,9 @@ pub fn arguments<'p>(
 ) -> Result<Now<'p>, OutOfMemory>
     ensures { IfOk result (λ now. (h : Activation) → Gives (program_of program.now) h (seen memory.now) todo.old.items (λ w st. then_do (eval_all (program_of program.now) w no_marks (place_of h) (exprs_of left.now) st) (λ vs st. made (program_of program.now) w wanted whom (before.items ++ vs) st)) now (seen memory.now) todo.new.items) }
 {
-    if left.is_empty() {
+    let Some((first, rest)) = left.split_first() else {
         let now = made(alloc, program, memory, wanted, whom, before)?;
         return Ok(now);
-    }
-    let Some((first, rest)) = left.split_first() else {
-        return Err(OutOfMemory);
     };
     let frame = ValueFrame::Argument {
         wanted,

@@ -1,12 +1,12 @@
 -- What a step gives as the next thing of a machine.
-use Rattle.std.proofs.Common.{◌≡◌, ℕ, ◌≤◌, Bool, true, false, if◌then◌else◌, ◌^◌, nat_lt, List, sym, ap, ◌∙◌, refl, arith}
+use Rattle.std.proofs.Common.{◌≡◌, ℕ, ◌≤◌, Bool, true, false, if◌then◌else◌, ◌^◌, nat_lt, sym, ap, ◌∙◌, arith}
 use Rattle.dm_base.specs.declared.outcome.Outcome.TheVariants.{Undefined}
 use Rattle.c_tree.specs.declared.value.Value.{Value}
 use Rattle.c_tree.specs.declared.value.Value.TheVariants.{Indeterminate, Int, Uint, Char, Uchar, Null, Func, At}
 use Rattle.c_tree.specs.Operators.{fits_int}
 use Rattle.c_values.specs.Answers.{Answer, gives, undefined, U13}
 use Rattle.c_meaning.specs.Results.{then_do, answered}
-use Rattle.machine_steps.specs.Words.{in_words, held}
+use Rattle.machine_steps.specs.Words.{held}
 use Rattle.machine_frames.specs.declared.frames.Now.{Now}
 use Rattle.machine_frames.specs.declared.frames.Now.TheVariants as nows
 use Rattle.machine_frames.specs.Frames.{after_value}

@@ -4,10 +4,8 @@ use Rattle.std.proofs.lemmas.List.{reverse-append}
 use Rattle.dm_base.specs.declared.event.Event.{Event}
 use Rattle.c_tree.specs.declared.value.Value.{Value}
 use Rattle.c_tree.specs.Tree.{Program}
-use Rattle.c_values.specs.Answers.{Answer, gives, undefined}
-use Rattle.c_values.specs.Memory.{Objects}
 use Rattle.c_meaning.specs.Meaning.{Frame as Place, World}
-use Rattle.c_meaning.specs.Results.{State, with_memory, Result, Go, Stop, after, then_do, answered, remembered, Exit}
+use Rattle.c_meaning.specs.Results.{State, Result, Go, Stop, after, then_do, Exit}
 use Rattle.machine_frames.specs.declared.frames.ValueFrame.{ValueFrame}
 use Rattle.machine_frames.specs.declared.frames.StatementFrame.{StatementFrame}
 use Rattle.machine_frames.specs.declared.frames.ExitFrame.{ExitFrame}

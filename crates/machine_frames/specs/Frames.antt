@@ -1,15 +1,12 @@
 -- What the things that are left to do mean, as parts of what a program does (C99 5.1.2.3).
-use Rattle.std.specs.Prelude.{ℕ, zero, suc, Bool, true, false, List, [], ◌∷◌, ◌++◌, reverse, Option, Some, None}
-use Rattle.dm_base.specs.declared.event.Event.{Event}
-use Rattle.dm_base.specs.declared.outcome.Outcome.{Outcome}
+use Rattle.std.specs.Prelude.{ℕ, zero, suc, Bool, true, false, List, [], ◌∷◌, ◌++◌, reverse, Some}
 use Rattle.dm_base.specs.declared.outcome.Outcome.TheVariants.{Undefined}
-use Rattle.c_tree.specs.declared.value.ObjectName.{ObjectName}
 use Rattle.c_tree.specs.declared.value.Value.{Value}
 use Rattle.c_tree.specs.declared.value.Value.TheVariants.{Indeterminate}
 use Rattle.c_tree.specs.Operators.{convert, binary}
 use Rattle.c_tree.specs.Layout.{Structs, cells}
-use Rattle.c_tree.specs.Tree.{Program, Stmt, block, empty, evaluate, declare, if_else, while_loop, do_loop, for_loop, switch_on, break_off, continue_on, return_void, return_value, there, absent}
-use Rattle.c_tree.specs.View.{ctype_of, ctypes_of, expr_of, exprs_of, maybe_of, inits_of, stmt_of, stmts_of, groups_of}
+use Rattle.c_tree.specs.Tree.{Program, Stmt, block, empty, if_else, while_loop, do_loop, for_loop, switch_on, there, absent}
+use Rattle.c_tree.specs.View.{ctype_of, ctypes_of, expr_of, exprs_of, inits_of, stmt_of, stmts_of, groups_of}
 use Rattle.c_values.specs.Answers.{Answer, gives, U13}
 use Rattle.c_values.specs.Memory.{Objects}
 use Rattle.c_meaning.specs.Pointers.{callee, truth_value, load_place, store_place, member, difference, place, test}

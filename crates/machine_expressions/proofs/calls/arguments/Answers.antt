@@ -1,15 +1,16 @@
 use Rattle.std.proofs.Common.{ap}
+use Rattle.std.proofs.lemmas.List.{nil_from_length}
 use Rattle.c_tree.specs.View.{expr_of, exprs_of, program_of}
 use Rattle.c_values.specs.Seen.{seen}
 use Rattle.c_meaning.specs.Results.{with_memory}
 use Rattle.machine_frames.specs.Frames.{place_of, stack, after_value}
-use Rattle.machine_expressions.proofs.Following.{no_argument, an_argument, nothing_left}
+use Rattle.machine_expressions.proofs.Following.{no_argument, an_argument}
 use Rattle.machine_expressions.proofs.calls.arguments.Goals as goal
 
-pub returns-then-is_empty : goal.returns-then-is_empty
-returns-then-is_empty c h w st =
+pub returns-in_default : goal.returns-in_default
+returns-in_default c h w st =
     let p = program_of c.args.program.now in
-    no_argument p w c.args.wanted c.args.whom c.args.before.items (with_memory st (seen c.args.memory.now)) (place_of h) (exprs_of c.args.left.now) (after_value p w (place_of h) (stack c.args.todo.now.items)) _ (ap exprs_of (nothing_left c.args.left.now c.is_empty.result c.is_empty.ensures c.if-is_empty.true)) (c.in_ok-now.ensures w (place_of h) (stack c.args.todo.now.items) st)
+    no_argument p w c.args.wanted c.args.whom c.args.before.items (with_memory st (seen c.args.memory.now)) (place_of h) (exprs_of c.args.left.now) (after_value p w (place_of h) (stack c.args.todo.now.items)) _ (ap exprs_of (nil_from_length c.args.left.now c.in_default.ensures.cases)) (c.in_ok-now.ensures w (place_of h) (stack c.args.todo.now.items) st)
 
 pub returns : goal.returns
 returns c h w st =

@@ -1,6 +1,5 @@
 use Rattle.std.proofs.Common.{ap, sym, ◌∙◌}
-use Rattle.machine_steps.specs.Faults.{told, number_of}
-use Rattle.c_values.specs.Answers.{undefined}
+use Rattle.machine_steps.specs.Faults.{told}
 use Rattle.machine_frames.proofs.Answering.{value_given, held_value}
 use Rattle.machine_frames.proofs.answers.given_in_words.Goals as goal
 

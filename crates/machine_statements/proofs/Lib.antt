@@ -1,0 +1,4 @@
+pub mod Beginnings
+pub mod Endings
+pub mod FirstGroups
+pub mod Stepping
