@@ -1,0 +1,6 @@
+pub mod Chains
+pub mod Noting
+pub mod Recording
+pub mod Resuming
+pub mod Starting
+pub mod Turning

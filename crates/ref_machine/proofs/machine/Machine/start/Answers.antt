@@ -1,0 +1,24 @@
+use Rattle.std.proofs.Common.{true, subst, sym, ap, ◌∙◌, ◌<◌, length, arith}
+use Rattle.std.specs.Prelude.{All, map, []}
+use Rattle.c_tree.specs.Program.{IsStatic}
+use Rattle.c_tree.specs.View.{program_of, static_of}
+use Rattle.c_values.specs.Seen.{seen}
+use Rattle.c_meaning.specs.Runs.{enter, ending, first_objects, no_marks, world}
+use Rattle.ref_machine.specs.Standing.{state}
+use Rattle.ref_machine.proofs.Starting.{few_statics, small_statics}
+use Rattle.ref_machine.proofs.Turning.{started}
+use Rattle.ref_machine.proofs.machine.Machine.start.Goals as goal
+
+pub static_objects-requires-clause-few : goal.static_objects-requires-clause-few
+static_objects-requires-clause-few c =
+    subst (λ ss. length ss < 4294967296) (sym c.statics.ensures) (few_statics c.args.program.now.statics 4294967296 c.sites-sites.ensures.typed.few_statics)
+
+pub static_objects-requires-clause-small : goal.static_objects-requires-clause-small
+static_objects-requires-clause-small c =
+    small_statics (program_of c.args.program.now) c.statics.result.now (subst (λ ss. All (IsStatic (program_of c.args.program.now)) (map static_of ss)) (sym c.statics.ensures) c.sites-sites.ensures.typed.statics)
+
+pub returns-clause-future : goal.returns-clause-future
+returns-clause-future c records =
+    let p = program_of c.args.program.now in
+    started p c.args.turns c.main.result _ _ _ (state (seen c.in_ok-memory.memory) 0 records 0 c.args.turns) c.main.ensures.is c.new-2.ensures.items c.new.ensures.items (omega arith)
+    ∙ ap (λ m. ending (enter p (world p no_marks c.args.turns) no_marks true p.main [] (state m 0 records 0 c.args.turns))) (c.in_ok-memory.ensures ∙ ap (λ ss. first_objects 0 (map static_of ss)) c.statics.ensures)

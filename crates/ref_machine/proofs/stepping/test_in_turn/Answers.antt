@@ -1,0 +1,23 @@
+use Rattle.std.proofs.Common.{◌≡◌, ◌≤◌, ◌-◌, suc, ap, ◌∙◌, arith}
+use Rattle.c_tree.specs.View.{stmt_of}
+use Rattle.c_meaning.specs.Results.{then_do}
+use Rattle.c_meaning.specs.Runs.{no_marks, world}
+use Rattle.machine_frames.specs.Frames.{place_of, stack, after_exit, rounds_of}
+use Rattle.ref_machine.specs.Standing.{state}
+use Rattle.ref_machine.proofs.Turning.{loop_turn, no_turn_to_test}
+use Rattle.ref_machine.proofs.stepping.test_in_turn.Goals as goal
+
+pub returns-then-turns-eq0-clause-same : goal.returns-then-turns-eq0-clause-same
+returns-then-turns-eq0-clause-same c p h m entries n records taken le =
+    no_turn_to_test p n (place_of h) (rounds_of (stmt_of c.args.of.now)) m entries records taken c.args.turns.now (after_exit p (world p no_marks n) (place_of h) (stack c.args.todo.now.items)) (omega arith) le
+
+pub returns-clause-same : goal.returns-clause-same
+returns-clause-same c p h m entries n records taken le =
+    let w = world p no_marks n in
+    let l = rounds_of (stmt_of c.args.of.now) in
+    let k = after_exit p w (place_of h) (stack c.args.todo.now.items) in
+    let left : suc (c.args.turns.now - 1) ≡ c.args.turns.now = omega arith in
+    let enough : suc (c.args.turns.now - 1) ≤ n = omega (arith, le) in
+    c.in_ok-now.ensures p h m w (state m entries records taken (c.args.turns.now - 1))
+    ∙ (loop_turn p n (place_of h) l m entries records taken (c.args.turns.now - 1) k enough
+    ∙ ap (λ t. then_do (w.again (place_of h) l (state m entries records taken t)) k) left)

@@ -1,0 +1,4 @@
+pub mod Advancing
+pub mod Futures
+pub mod Standing
+pub mod WholeRuns

@@ -1,0 +1,122 @@
+ghost use Rattle.std.specs.Prelude.{◌≡◌, ℕ, List, nat_eq, slice_get, IfOk};
+ghost use Rattle.sys_table.specs.declared.sys_result.SysResult.{SysResult as Record};
+ghost use Rattle.c_tree.specs.Tree.{Program as Term};
+ghost use Rattle.c_tree.specs.View.{program_of};
+ghost use Rattle.c_values.specs.Memory.{Objects};
+ghost use Rattle.c_values.specs.Seen.{seen};
+ghost use Rattle.c_meaning.specs.Meaning.{World, without};
+ghost use Rattle.c_meaning.specs.Results.{State, then_do, with_memory};
+ghost use Rattle.c_meaning.specs.Runs.{no_marks, result_of, run_body, without_value};
+ghost use Rattle.machine_frames.specs.declared.frames.Frame.{Frame as Todo};
+ghost use Rattle.machine_frames.specs.Frames.{after_value, exit_in, numbers, out_of_call, place_of, rest, stack};
+ghost use Rattle.machine_frames.specs.Parts.{Does};
+ghost use Rattle.ref_machine.specs.Standing.{state};
+
+use c_tree::{ObjectName, Program, Value};
+use c_values::Memory;
+use dm_base::{Kind, OutOfMemory, Outcome};
+use machine_frames::{Call, Frame, Here, Left, Now};
+use machine_objects::set_parameters;
+
+// Enters a function, once its turn is spent.
+pub fn enter<'p>(
+    program: &'p Program,
+    memory: &mut Memory,
+    todo: &mut Vec<Frame<'p>>,
+    here: &mut Here<'p>,
+    entries: &mut u64,
+    wanted: bool,
+    f: u32,
+    values: &[Value],
+) -> Result<Now<'p>, OutOfMemory>
+    ensures { IfOk result (λ now. (w : World) (rs : List Record) (taken turns : ℕ) → rest (program_of program.now) w (place_of here.new) now (stack todo.new.items) (state (seen memory.new) entries.new rs taken turns) ≡ then_do (run_body (program_of program.now) w no_marks (nat_eq f (program_of program.now).main) wanted (slice_get (program_of program.now).functions f) values.now (state (seen memory.old) entries.old rs taken turns)) (after_value (program_of program.now) w (place_of here.old) (stack todo.old.items))) }
+{
+    if program.defined() <= f {
+        return Err(OutOfMemory);
+    }
+    let Ok(parameters) = u32::try_from(values.len()) else {
+        return Err(OutOfMemory);
+    };
+    let Some(activation) = entries.checked_add(1) else {
+        return Err(OutOfMemory);
+    };
+    let function = program.function(f);
+    set_parameters(memory, activation, values)?;
+    let call = Call {
+        caller: *here,
+        is_main: f == program.main(),
+        wanted,
+        parameters,
+    };
+    todo.push(Frame::Call(call))?;
+    *here = Here {
+        activation,
+        types: &function.variables,
+    };
+    *entries = activation;
+    Ok(Now::Exec(&function.body))
+}
+
+// The parameters of an activation end.
+fn end_parameters(memory: &mut Memory, activation: u64, count: u32)
+    ensures { seen memory.new ≡ without activation (numbers 0 count) (seen memory.old) }
+{
+    for variable in 0..count {
+        memory.end(ObjectName {
+            activation,
+            variable,
+        });
+    }
+}
+
+// Undefined behaviour of a function that ends without its value (C99 6.9.1 paragraph 12).
+fn without_value<'p>(is_main: bool, wanted: bool) -> Result<Now<'p>, OutOfMemory>
+    ensures { IfOk result (λ now. (p : Term) (m : Objects) → Does p m (λ w st. without_value is_main wanted st) now) }
+{
+    if is_main {
+        return Ok(Now::Have(Value::Int(0)));
+    }
+    if !wanted {
+        return Ok(Now::Have(Value::Indeterminate));
+    }
+    match Kind::from_number(11) {
+        Some(kind) => Ok(Now::Stopped(Outcome::Undefined(kind))),
+        None => Err(OutOfMemory),
+    }
+}
+
+// What a call gives, by how its function is left.
+fn value_of<'p>(is_main: bool, wanted: bool, by: Left) -> Result<Now<'p>, OutOfMemory>
+    ensures { IfOk result (λ now. (p : Term) (m : Objects) → Does p m (λ w st. result_of is_main wanted (exit_in by) st) now) }
+{
+    match by {
+        Left::Returned(given) => match given {
+            Some(v) => Ok(Now::Have(v)),
+            None => {
+                let now = without_value(is_main, wanted)?;
+                Ok(now)
+            }
+        },
+        Left::On => {
+            let now = without_value(is_main, wanted)?;
+            Ok(now)
+        }
+        Left::Broken => Err(OutOfMemory),
+        Left::Continued => Err(OutOfMemory),
+    }
+}
+
+// A function is left: its parameters end, and the call gives its value to the caller.
+pub fn leave_call<'p>(
+    memory: &mut Memory,
+    here: &mut Here<'p>,
+    call: Call<'p>,
+    by: Left,
+) -> Result<Now<'p>, OutOfMemory>
+    ensures { IfOk result (λ now. (p : Term) (w : World) (todo : List Todo) (st : State) → rest p w (place_of here.new) now (stack todo) (with_memory st (seen memory.new)) ≡ then_do (out_of_call (place_of here.old) call.entry (exit_in by) (with_memory st (seen memory.old))) (after_value p w (place_of call.entry.caller) (stack todo))) }
+{
+    end_parameters(memory, here.activation, call.parameters);
+    *here = call.caller;
+    let now = value_of(call.is_main, call.wanted, by)?;
+    Ok(now)
+}

@@ -1,0 +1,18 @@
+//! The reference machine: it runs a typed program of the C profile in small steps, with an explicit list of what is left to
+//! do, and can be paused at each event and each need of a recorded result.
+#![tactic(auto)]
+
+mod calls;
+mod laws;
+mod machine;
+mod pause;
+mod running;
+mod stand_in;
+mod stepping;
+mod whole;
+
+pub use laws::advances_are_exact;
+pub use machine::Machine;
+pub use pause::Pause;
+pub use running::run;
+pub use whole::Run;

@@ -1,0 +1,72 @@
+ghost use Rattle.std.specs.Prelude.{◌≡◌, IfOk, drop};
+ghost use Rattle.c_tree.specs.View.{program_of};
+ghost use Rattle.c_meaning.specs.Runs.{run};
+ghost use Rattle.ref_machine.specs.Futures.{future, records_taken};
+ghost use Rattle.ref_machine.specs.WholeRuns.{Follows, Notes, run_of};
+
+use crate::whole::Run;
+use crate::{Machine, Pause};
+use c_tree::Program;
+use dm_base::{Event, OutOfMemory, Outcome};
+use std::alloc::Global;
+use sys_table::SysResult;
+
+// Goes on to the next event, need of a recorded result, or end; the results from this number on are left.
+fn advance_with(
+    machine: &mut Machine,
+    results: &[SysResult],
+    taken: &mut usize,
+) -> Result<Pause, OutOfMemory>
+    requires { records_taken machine.old ≡ taken.old }
+    ensures follows { IfOk result (λ pause. Follows (future machine.old (drop taken.old results.now)) pause (future machine.new (drop taken.new results.now))) }
+    ensures taken { IfOk result (λ pause. records_taken machine.new ≡ taken.new) }
+{
+    if !machine.is_waiting() {
+        let pause = machine.advance(None)?;
+        return Ok(pause);
+    }
+    if *taken < results.len() {
+        let given = &results[*taken];
+        let pause = machine.advance(Some(given))?;
+        *taken += 1;
+        return Ok(pause);
+    }
+    let pause = machine.advance(None)?;
+    Ok(pause)
+}
+
+// Notes what the machine has come to, and tells how the run ended, where it did.
+fn noted(trace: &mut Vec<Event>, pause: Pause) -> Result<Option<Outcome>, OutOfMemory>
+    ensures { IfOk result (λ ended. Notes trace.old.items trace.new.items pause ended) }
+{
+    match pause {
+        Pause::NeedResult => Ok(None),
+        Pause::Did(event) => {
+            trace.push(event)?;
+            Ok(None)
+        }
+        Pause::Ended(outcome) => Ok(Some(outcome)),
+    }
+}
+
+/// The run of the program with these recorded results and so many turns.
+pub fn run(
+    alloc: Global,
+    program: &Program,
+    results: &[SysResult],
+    turns: u32,
+) -> Result<Run, OutOfMemory>
+    ensures { IfOk result (λ found. run_of found ≡ run (program_of program.now) results.now turns) }
+{
+    let mut machine = Machine::start(alloc, program, turns)?;
+    let mut trace = Vec::new(alloc);
+    let mut taken = 0usize;
+    for _pause in 0..u64::MAX {
+        let pause = advance_with(&mut machine, results, &mut taken)?;
+        let ended = noted(&mut trace, pause)?;
+        if let Some(outcome) = ended {
+            return Ok(Run { outcome, trace });
+        }
+    }
+    Err(OutOfMemory)
+}

@@ -1,0 +1,275 @@
+ghost use Rattle.std.specs.Prelude.{◌≡◌, ◌≤◌, ◌↔◌, IsTrue, ℕ, List, [], ◌∷◌, IfOk};
+ghost use Rattle.c_tree.specs.Tree.{Program as Term};
+ghost use Rattle.sys_table.specs.declared.sys_result.SysResult.{SysResult as Record};
+ghost use Rattle.c_tree.specs.View.{program_of, stmt_of};
+ghost use Rattle.c_values.specs.Memory.{Objects};
+ghost use Rattle.c_values.specs.Seen.{seen};
+ghost use Rattle.c_meaning.specs.Meaning.{World, Frame as Place};
+ghost use Rattle.c_meaning.specs.Results.{State, Stop, then_do, with_memory};
+ghost use Rattle.c_meaning.specs.Runs.{exit_of, no_marks, world};
+ghost use Rattle.machine_frames.specs.declared.frames.Here.{Here as Activation};
+ghost use Rattle.machine_frames.specs.declared.frames.Frame.{Frame as Todo};
+ghost use Rattle.machine_frames.specs.Cells.{AreCells};
+ghost use Rattle.machine_frames.specs.Frames.{after_exit, after_value, exit_in, place_of, rest, rounds_of, stack, then_comes};
+ghost use Rattle.machine_frames.specs.Parts.{IsAnswer};
+ghost use Rattle.machine_steps.specs.Faults.{told};
+ghost use Rattle.ref_machine.specs.Standing.{IsPausing, SameLeft, Standing, left_of, state};
+
+use crate::calls::{enter, leave_call};
+use crate::stand_in::{begin, begin_statement, in_statement, test_loop, with_exit, with_value};
+use c_tree::{Program, TStmt, Value};
+use c_values::Memory;
+use dm_base::{OutOfMemory, Outcome};
+use machine_frames::{After, Frame, Here, Left, Now, given};
+use machine_steps::Fault;
+use std::alloc::Global;
+
+// The end of the run with the value of main.
+fn end<'p>(v: Value) -> Result<Now<'p>, OutOfMemory>
+    ensures { IfOk result (λ now. (p : Term) (w : World) (fr : Place) (todo : List Todo) (st : State) → rest p w fr now todo st ≡ Stop (exit_of v) []) }
+{
+    match v {
+        Value::Int(status) => Ok(Now::Stopped(Outcome::Exit(status))),
+        _ => Err(OutOfMemory),
+    }
+}
+
+// What comes of a value, where this is left to do.
+fn with_frame<'p>(
+    alloc: Global,
+    program: &'p Program,
+    counts: &[u32],
+    memory: &mut Memory,
+    todo: &mut Vec<Frame<'p>>,
+    here: Here<'p>,
+    frame: Frame<'p>,
+    v: Value,
+) -> Result<Now<'p>, OutOfMemory>
+    requires { AreCells (program_of program.now).structs counts.now }
+    ensures { IfOk result (λ now. (w : World) (st : State) → rest (program_of program.now) w (place_of here.entry) now (stack todo.new.items) (with_memory st (seen memory.new)) ≡ after_value (program_of program.now) w (place_of here.entry) (frame.entry ∷ stack todo.old.items) v (with_memory st (seen memory.old))) }
+{
+    match frame {
+        Frame::Value(frame) => {
+            let now = with_value(alloc, program, counts, memory, todo, frame, v)?;
+            Ok(now)
+        }
+        Frame::Statement(frame) => {
+            let now = in_statement(memory, todo, here, frame, v)?;
+            Ok(now)
+        }
+        Frame::Exit(_) => Err(OutOfMemory),
+        Frame::Call(_) => Err(OutOfMemory),
+    }
+}
+
+// What comes of a value.
+fn have<'p>(
+    alloc: Global,
+    program: &'p Program,
+    counts: &[u32],
+    memory: &mut Memory,
+    todo: &mut Vec<Frame<'p>>,
+    here: Here<'p>,
+    v: Value,
+) -> Result<Now<'p>, OutOfMemory>
+    requires { AreCells (program_of program.now).structs counts.now }
+    ensures { IfOk result (λ now. (w : World) (st : State) → rest (program_of program.now) w (place_of here.entry) now (stack todo.new.items) (with_memory st (seen memory.new)) ≡ after_value (program_of program.now) w (place_of here.entry) (stack todo.old.items) v (with_memory st (seen memory.old))) }
+{
+    match todo.pop() {
+        None => {
+            let now = end(v)?;
+            Ok(now)
+        }
+        Some(frame) => {
+            let now = with_frame(alloc, program, counts, memory, todo, here, frame, v)?;
+            Ok(now)
+        }
+    }
+}
+
+// What comes of an exit, where this is left to do.
+fn left_with<'p>(
+    memory: &mut Memory,
+    todo: &mut Vec<Frame<'p>>,
+    here: &mut Here<'p>,
+    frame: Frame<'p>,
+    by: Left,
+) -> Result<Now<'p>, OutOfMemory>
+    ensures { IfOk result (λ now. (p : Term) (w : World) (st : State) → rest p w (place_of here.new) now (stack todo.new.items) (with_memory st (seen memory.new)) ≡ after_exit p w (place_of here.old) (frame.entry ∷ stack todo.old.items) (exit_in by) (with_memory st (seen memory.old))) }
+{
+    match &frame {
+        Frame::Exit(frame) => {
+            let now = with_exit(memory, todo, *here, *frame, by)?;
+            Ok(now)
+        }
+        Frame::Call(call) => {
+            let now = leave_call(memory, here, *call, by)?;
+            Ok(now)
+        }
+        Frame::Value(_) => Err(OutOfMemory),
+        Frame::Statement(_) => Err(OutOfMemory),
+    }
+}
+
+// What comes of an exit.
+fn left<'p>(
+    memory: &mut Memory,
+    todo: &mut Vec<Frame<'p>>,
+    here: &mut Here<'p>,
+    by: Left,
+) -> Result<Now<'p>, OutOfMemory>
+    ensures { IfOk result (λ now. (p : Term) (w : World) (st : State) → rest p w (place_of here.new) now (stack todo.new.items) (with_memory st (seen memory.new)) ≡ after_exit p w (place_of here.old) (stack todo.old.items) (exit_in by) (with_memory st (seen memory.old))) }
+{
+    match todo.pop() {
+        None => Err(OutOfMemory),
+        Some(frame) => {
+            let now = left_with(memory, todo, here, frame, by)?;
+            Ok(now)
+        }
+    }
+}
+
+// A function is entered, where there is a turn for it.
+fn enter_in_turn<'p>(
+    program: &'p Program,
+    memory: &mut Memory,
+    todo: &mut Vec<Frame<'p>>,
+    here: &mut Here<'p>,
+    entries: &mut u64,
+    turns: &mut u32,
+    wanted: bool,
+    f: u32,
+    values: &[Value],
+) -> Result<Now<'p>, OutOfMemory>
+    ensures same { IfOk result (λ next. (n : ℕ) (records : List Record) (taken : ℕ) → turns.old ≤ n → left_of (program_of program.now) n (record { here = here.new; memory = seen memory.new; entries = entries.new; turns = turns.new; now = next; todo = todo.new.items }) records taken ≡ then_do ((world (program_of program.now) no_marks n).enter wanted f values.now (state (seen memory.old) entries.old records taken turns.old)) (after_value (program_of program.now) (world (program_of program.now) no_marks n) (place_of here.old) (stack todo.old.items))) }
+    ensures fewer { turns.new ≤ turns.old }
+{
+    if *turns == 0 {
+        return Ok(Now::Stopped(Outcome::Turns));
+    }
+    *turns -= 1;
+    let now = enter(program, memory, todo, here, entries, wanted, f, values)?;
+    Ok(now)
+}
+
+// A loop is tested, where there is a turn for it.
+fn test_in_turn<'p>(
+    todo: &mut Vec<Frame<'p>>,
+    turns: &mut u32,
+    of: &'p TStmt,
+) -> Result<Now<'p>, OutOfMemory>
+    ensures same { IfOk result (λ next. (p : Term) (h : Activation) (m : Objects) (entries n : ℕ) (records : List Record) (taken : ℕ) → turns.old ≤ n → left_of p n (record { here = h; memory = m; entries = entries; turns = turns.new; now = next; todo = todo.new.items }) records taken ≡ then_do ((world p no_marks n).again (place_of h) (rounds_of (stmt_of of.now)) (state m entries records taken turns.old)) (after_exit p (world p no_marks n) (place_of h) (stack todo.old.items))) }
+    ensures fewer { turns.new ≤ turns.old }
+{
+    if *turns == 0 {
+        return Ok(Now::Stopped(Outcome::Turns));
+    }
+    *turns -= 1;
+    let now = test_loop(todo, of)?;
+    Ok(now)
+}
+
+// Whether the run is at an event, at a need of a record, or at its end.
+fn is_pause(now: &Now) -> bool
+    ensures { IsTrue result ↔ IsPausing now.now }
+{
+    matches!(now, Now::Ask { .. } | Now::Told { .. } | Now::Stopped(_))
+}
+
+// One step.
+fn step<'p>(
+    alloc: Global,
+    program: &'p Program,
+    counts: &[u32],
+    memory: &mut Memory,
+    todo: &mut Vec<Frame<'p>>,
+    here: &mut Here<'p>,
+    entries: &mut u64,
+    turns: &mut u32,
+    now: Now<'p>,
+) -> Result<Now<'p>, OutOfMemory>
+    requires { AreCells (program_of program.now).structs counts.now }
+    ensures same { IfOk result (λ next. SameLeft (program_of program.now) (record { here = here.old; memory = seen memory.old; entries = entries.old; turns = turns.old; now = now.entry; todo = todo.old.items }) (record { here = here.new; memory = seen memory.new; entries = entries.new; turns = turns.new; now = next; todo = todo.new.items })) }
+    ensures fewer { turns.new ≤ turns.old }
+{
+    match now {
+        Now::Eval { wanted, of } => {
+            let next = begin(alloc, program, counts, memory, todo, *here, wanted, of)?;
+            Ok(next)
+        }
+        Now::Have(v) => {
+            let next = have(alloc, program, counts, memory, todo, *here, v)?;
+            Ok(next)
+        }
+        Now::Exec(s) => {
+            let next = begin_statement(program, counts, memory, todo, *here, s)?;
+            Ok(next)
+        }
+        Now::Left(by) => {
+            let next = left(memory, todo, here, by)?;
+            Ok(next)
+        }
+        Now::Enter {
+            wanted,
+            function,
+            arguments,
+        } => {
+            let next = enter_in_turn(
+                program, memory, todo, here, entries, turns, wanted, function, &arguments,
+            )?;
+            Ok(next)
+        }
+        Now::Test(of) => {
+            let next = test_in_turn(todo, turns, of)?;
+            Ok(next)
+        }
+        other => Ok(other),
+    }
+}
+
+// Goes on to the next event, need of a record or end.
+pub fn go_on<'p>(
+    alloc: Global,
+    program: &'p Program,
+    counts: &[u32],
+    memory: &mut Memory,
+    todo: &mut Vec<Frame<'p>>,
+    here: &mut Here<'p>,
+    entries: &mut u64,
+    turns: &mut u32,
+    now: Now<'p>,
+) -> Result<Now<'p>, OutOfMemory>
+    requires { AreCells (program_of program.now).structs counts.now }
+    ensures same { IfOk result (λ next. SameLeft (program_of program.now) (record { here = here.old; memory = seen memory.old; entries = entries.old; turns = turns.old; now = now.entry; todo = todo.old.items }) (record { here = here.new; memory = seen memory.new; entries = entries.new; turns = turns.new; now = next; todo = todo.new.items })) }
+    ensures fewer { turns.new ≤ turns.old }
+    ensures pausing { IfOk result (λ next. IsPausing next) }
+{
+    let mut next = now;
+    for _step in 0..u64::MAX {
+        if is_pause(&next) {
+            return Ok(next);
+        }
+        next = step(
+            alloc, program, counts, memory, todo, here, entries, turns, next,
+        )?;
+    }
+    Err(OutOfMemory)
+}
+
+// What comes after an event.
+pub fn coming<'p>(then: After) -> Now<'p>
+    ensures { (p : Term) (w : World) (fr : Place) (todo : List Todo) (st : State) → rest p w fr result todo st ≡ then_comes p w fr then todo st }
+{
+    match then {
+        After::Have(v) => Now::Have(v),
+        After::Stopped(outcome) => Now::Stopped(outcome),
+    }
+}
+
+// What comes after the event of a system call.
+pub fn settled<'p>(value: Result<Value, Fault>) -> Result<Now<'p>, OutOfMemory>
+    ensures { IfOk result (λ now. IsAnswer (told value) now) }
+{
+    let now = given(value)?;
+    Ok(now)
+}
