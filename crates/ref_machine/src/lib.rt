@@ -7,7 +7,6 @@ mod laws;
 mod machine;
 mod pause;
 mod running;
-mod stand_in;
 mod stepping;
 mod whole;
 

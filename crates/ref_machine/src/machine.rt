@@ -26,7 +26,8 @@ pub enum Stage {
     Failed,
 }
 
-/// A run of a program that can be paused.
+/// A run of a program that can be paused at each event and each need of a recorded result (C99 5.1.2.3). It stands for its
+/// future: from the recorded results to come, how the run ends, and the events to come.
 #[derive(Drop)]
 pub struct Machine<'p> {
     alloc: Global,
@@ -60,7 +61,9 @@ impl<'p> Machine<'p> {
     ghost use Rattle.ref_machine.specs.Futures.{future, future_at, is_waiting, has_failed, records_taken, taken_with, Advances, GoesOn, HasResumed, Resumes};
     ghost use Rattle.machine_frames.specs.declared.frames.Now.TheVariants.{Ask};
 
-    /// The run of the program from its start, with so many turns.
+    /// The run of the program from its start, where its static objects have their first values and `main` is entered (C99 5.1.2,
+    /// 5.1.2.2.1), with so many turns: to enter a function costs one, and so does each test of a loop. The error is that memory was
+    /// refused.
     pub fn start(
         alloc: Global,
         program: &'p Program,
@@ -96,14 +99,14 @@ impl<'p> Machine<'p> {
         })
     }
 
-    /// How many recorded results were taken.
+    /// How many recorded results were taken so far. It takes no memory.
     pub fn records_taken(&self) -> u64
         ensures { result ≡ records_taken self.now }
     {
         self.taken
     }
 
-    /// Whether the machine has said that it needs a recorded result, and was not given one since.
+    /// Whether the last call of `advance` said that a recorded result is needed. It takes no memory.
     pub fn is_waiting(&self) -> bool
         ensures { result ≡ is_waiting self.now }
     {
@@ -217,9 +220,14 @@ impl<'p> Machine<'p> {
         }
     }
 
-    /// Goes on to the next event, need of a recorded result, or end. A result is given only where the machine is
-    /// waiting; where it is waiting and none is given, there is none left, and the run ends for want of it. After the
-    /// end it answers the same again, and after want of memory want of memory.
+    /// Goes on to the next event, need of a recorded result, or end (C99 5.1.2.3). A result is given only where the machine is
+    /// waiting, and fewer than 2^64 − 1 were taken before; where it is waiting and none is given, there is none left, and the run
+    /// ends for want of it. A result that does not answer its call ends the run with its number, counted from 1. After the end it
+    /// answers the same again.
+    ///
+    /// The error is that memory was refused; from then on each call answers so. So it answers, too, where more than 2^64 − 1
+    /// steps lie between two pauses, and at a value or an exit of another kind than its place, which no run of a well-typed program
+    /// comes to.
     pub fn advance(&mut self, given: Option<&SysResult>) -> Result<Pause, OutOfMemory>
         requires waiting { IsSome given → is_waiting self.old ≡ true }
         requires few { IsSome given → records_taken self.old < 2 ^ 64 - 1 }

@@ -49,7 +49,9 @@ fn noted(trace: &mut Vec<Event>, pause: Pause) -> Result<Option<Outcome>, OutOfM
     }
 }
 
-/// The run of the program with these recorded results and so many turns.
+/// The run of the program with these recorded results and so many turns (C99 5.1.2.3): how it ended, and its events, in order.
+/// Results that the run did not come to are left. The error is that memory was refused; so it answers, too, where `Machine::advance`
+/// does, and at more than 2^64 − 1 pauses.
 pub fn run(
     alloc: Global,
     program: &Program,

@@ -16,11 +16,12 @@ ghost use Rattle.machine_steps.specs.Faults.{told};
 ghost use Rattle.ref_machine.specs.Standing.{IsPausing, SameLeft, Standing, left_of, state};
 
 use crate::calls::{enter, leave_call};
-use crate::stand_in::{begin, begin_statement, in_statement, test_loop, with_exit, with_value};
 use c_tree::{Program, TStmt, Value};
 use c_values::Memory;
 use dm_base::{OutOfMemory, Outcome};
+use machine_expressions::{begin, with_value};
 use machine_frames::{After, Frame, Here, Left, Now, given};
+use machine_statements::{begin_statement, in_statement, test_loop, with_exit};
 use machine_steps::Fault;
 use std::alloc::Global;
 
