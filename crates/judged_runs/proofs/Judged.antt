@@ -60,16 +60,16 @@ of_both asked.Dyck plain g bound t verdicts accepted judged = absurd plain
 of_both asked.All plain g bound t verdicts accepted judged = absurd plain
 
 pub judged_accepted : ((text : List ℕ) (m : Mode) (p q : Program) → IsAccepted text m p → IsAccepted text m q → p ≡ q)
-  → ((text : List ℕ) (p : Program) → IsAccepted text Plain p → IsAccepted text Instrumented p)
-  → ((text : List ℕ) (g h : Graph) → IsModel text g → IsModel text h → g ≡ h)
-  → TextsRaiseNoAlarm → JudgedRunsAreAccepted
+    → ((text : List ℕ) (p : Program) → IsAccepted text Plain p → IsAccepted text Instrumented p)
+    → ((text : List ℕ) (g h : Graph) → IsModel text g → IsModel text h → g ≡ h)
+    → TextsRaiseNoAlarm → JudgedRunsAreAccepted
 judged_accepted once both one alarm files source results turns model trace models runs later m t is_model is_trace which plain bound status text judges =
     let p : Program = models.0 in
     let same : p ≡ runs.program = once (file_at files source) Instrumented p runs.program (both (file_at files source) p models.1) runs.accepted in
     let graph : graph_of_program p ≡ judges.graph = one model (graph_of_program p) judges.graph (models.2).written.is_model (subst (λ (w : List ℕ). IsModel w judges.graph) is_model judges.is_model) in
     let events : judges.events ≡ (run runs.program runs.records turns).trace =
-        same_events trace (file_at later t) (run runs.program runs.records turns).trace judges.events (Ended (run runs.program runs.records turns).outcome) judges.end runs.formed judges.is_trace.trace is_trace in
+    same_events trace (file_at later t) (run runs.program runs.records turns).trace judges.events (Ended (run runs.program runs.records turns).outcome) judges.end runs.formed judges.is_trace.trace is_trace in
     let quiet : IsAcceptedByBoth (graph_of_program p) bound (run p runs.records turns).trace = (alarm (file_at files source) p models.1).accepted runs.records turns bound in
     let own : IsAcceptedByBoth (graph_of_program p) bound judges.events =
-        subst (λ (w : List Event). IsAcceptedByBoth (graph_of_program p) bound w) (ap (λ (q : Program). (run q runs.records turns).trace) same ∙ sym events) quiet in
+    subst (λ (w : List Event). IsAcceptedByBoth (graph_of_program p) bound w) (ap (λ (q : Program). (run q runs.records turns).trace) same ∙ sym events) quiet in
     judges.judged.ends ∙ of_both which plain judges.graph bound judges.events judges.judged.verdicts (subst (λ (g : Graph). IsAcceptedByBoth g bound judges.events) graph own) judges.judged.judged
