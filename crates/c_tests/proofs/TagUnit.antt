@@ -26,14 +26,17 @@ pub tag_unit : (x : Ident) → x ≡ record { name = 115 ∷ []; at = 7 } → Is
 tag_unit x q =
     let t : Token = record { kind = Keyword 17; from = 0; to = 6; given = lit< tt } in
     let n : Token = record { kind = Name (115 ∷ []); from = 7; to = 8; given = s_is_name } in
-    let u : Token = record { kind = Punct 32; from = 8; to = 9; given = lit< tt } in (
-      t ∷ n ∷ u ∷ [],
-      record {
+    let u : Token = record { kind = Punct 32; from = 8; to = 9; given = lit< tt } in
+    record {
+      tokens = t ∷ n ∷ u ∷ [];
+      other = more_items (tag_item 0 x) no_items;
+      spelled = record {
         reads = subst (λ (y : Ident). ReadsItems 500 (more_items (tag_item 0 y) no_items) (t ∷ n ∷ u ∷ []) []) (sym q)
             (last_item (a_tag_alone {t = t} {n = n} {u = u} (record { kind = refl }) (record { name = record { kind = refl }; at = refl }) (record { kind = refl })));
         nested = omega arith;
-      },
-    )
+      };
+      same = refl;
+    }
 
 -- the one item in a list
 pub tag_items : (items before : List ItemTree) (name : List ℕ) → items ≡ before ++ record { at = 0; kind = o.Tag (record { name = name; at = 7 }) } ∷ [] → before ≡ [] → name ≡ 115 ∷ [] → ∥ IsUnit (items_of items) ∥₁
