@@ -1,0 +1,4 @@
+pub mod Counting
+pub mod Limits
+pub mod Rows
+pub mod TokenLengths
