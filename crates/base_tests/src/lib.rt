@@ -1,6 +1,8 @@
 //! Tests of the crates at the bottom, over their public calls. Each call that can want memory is run
 //! once with ample memory: `Bytes::of`, `Event::copy` in `shared_types`; `NodeSet::new` and `copy`,
-//! `BoundedStack::new` and `copy` in `sets`; `read_whole`, `MemorySink::reserved` in `outside`.
+//! `BoundedStack::new` and `copy` in `sets`; `read_whole`, `MemorySink::reserved` in `outside`. In
+//! `uncalled` stand calls of higher crates that no command makes: `write_results`, `write_traces`,
+//! `measure`, `next_names` and `next_line`.
 #![tactic(auto)]
 
 #[cfg(test)]
@@ -9,3 +11,5 @@ mod outside;
 mod sets;
 #[cfg(test)]
 mod shared_types;
+#[cfg(test)]
+mod uncalled;

@@ -1,9 +1,0 @@
-use Rattle.std.proofs.Common.{ℕ, List}
-use Rattle.dm_base.specs.declared.event.Event.{Event}
-use Rattle.monitors_tests.proofs.judging.judge_copy.Given as goal
-
-abbrev pub invariant-loop-made : goal.invariant-loop-made
-invariant-loop-made g l = record {
-  pool : g.M.Monitor.is_pool l.pool l.model;
-  stands : (k : ℕ) × (h : List Event) × g.M.Monitor.stands l.monitor l.pool l.model k h;
-}
