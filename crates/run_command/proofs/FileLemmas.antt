@@ -1,6 +1,5 @@
 -- What `run` makes of its files and why it refuses them never hold both, and they are refused with one status.
 use Rattle.std.proofs.Common.{◌≡◌, ◌≢◌, ℕ, List, Option, Some, None, inl, inr, sym, ◌∙◌}
-use Rattle.dm_base.specs.declared.mode.Mode.TheVariants.{Instrumented}
 use Rattle.dm_base.specs.declared.verdict.Status.{Status}
 use Rattle.dm_io.specs.Store.{Files, file_at}
 use Rattle.sys_table.specs.declared.results_error.ResultsError.{ResultsError}

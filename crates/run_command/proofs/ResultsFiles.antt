@@ -1,8 +1,7 @@
 -- A file of recorded results that was read up to one byte past its limit.
-use Rattle.std.proofs.Common.{◌≡◌, ◌≢◌, ℕ, ◌<◌, ◌≤◌, nat_le, Bool, true, false, List, length, take, Option, Some, None, IfSome, inl, inr, refl, subst, ap, ◌∙◌, arith}
+use Rattle.std.proofs.Common.{◌≡◌, ℕ, ◌<◌, ◌≤◌, nat_le, Bool, true, false, List, length, take, Option, Some, None, IfSome, inl, inr, refl, subst, ap, ◌∙◌, arith}
 use Rattle.std.proofs.lemmas.Bool.Decides.{nat_tests}
 use Rattle.std.proofs.lemmas.List.{take_all, length-take}
-use Rattle.dm_base.specs.declared.verdict.Status.TheVariants as statuses
 use Rattle.dm_io.specs.Store.{Files, file_at, ReadsWhole}
 use Rattle.sys_table.specs.declared.results_error.ResultsError.{ResultsError}
 use Rattle.sys_table.specs.declared.results_error.ResultsError.TheVariants.{OutOfMemory, BadLine, NoEnd, TooLong, Version}

@@ -1,7 +1,6 @@
 -- A run can be written as a trace, and what a command makes of a program and results that files were read as.
-use Rattle.std.proofs.Common.{◌≡◌, ℕ, ◌<◌, ◌≤◌, List, All, Option, Some, None, IfSome, inl, inr, refl, sym, subst, arith}
+use Rattle.std.proofs.Common.{◌≡◌, ℕ, ◌≤◌, List, All, Option, Some, None, IfSome, inl, inr, sym, subst, arith}
 use Rattle.std.proofs.lemmas.List.Elements.{All-nil}
-use Rattle.dm_base.specs.declared.event.Event.{Event}
 use Rattle.dm_base.specs.declared.mode.Mode.TheVariants.{Instrumented}
 use Rattle.dm_base.specs.declared.outcome.Outcome.{Outcome}
 use Rattle.dm_base.specs.declared.outcome.Outcome.TheVariants.{Exit, Undefined, Turns, Results, BadResult}

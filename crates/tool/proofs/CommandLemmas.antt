@@ -9,11 +9,12 @@ use Rattle.model_commands.specs.declared.asked.Asked.{Asked}
 use Rattle.model_commands.specs.declared.asked.Asked.TheVariants as asked
 use Rattle.model_commands.specs.Monitors.{asked_word, monitors_of}
 use Rattle.model_commands.proofs.FileLemmas.{judge_ready, watch_ready, upgrade_ready, judged_apart, measured_apart, watched_apart, upgrade_or_refused, judge_status, watch_status, upgrade_status}
+use Rattle.run_command.proofs.FileLemmas.{run_ready, run_apart, run_status}
 use Rattle.source_commands.proofs.FileLemmas.{check_ready, checked_apart, check_status, model_ready, modelled_apart, model_status}
 use Rattle.tool.specs.Command.{Command, IsCommandLine, IsAskedBy}
 use Rattle.tool.specs.Command.{FileCommand, TraceCommand, file_word, trace_word}
 use Rattle.tool.specs.Command.FileCommand.{Check, Model, Upgrade}
-use Rattle.tool.specs.Command.Command.{Version, Help, OfFile, OfTrace, Measure}
+use Rattle.tool.specs.Command.Command.{Version, Help, OfFile, OfTrace, Measure, Run}
 use Rattle.tool.specs.Command.TraceCommand.{Judge, Watch}
 use Rattle.tool.specs.Commands.{Makes, Refuses, IsReady}
 
@@ -68,12 +69,14 @@ one_command Version Help words line next = elim line [ inl is ↦ cc (is, next) 
 one_command Version (OfFile other file) words line next = elim line [ inl is ↦ cc (is, next) | inr is ↦ cc (is, next) ]
 one_command Version (OfTrace other m t again most) words line next = elim line [ inl is ↦ cc (is, next.1) | inr is ↦ cc (is, next.1) ]
 one_command Version (Measure m t again) words line next = elim line [ inl is ↦ cc (is, next) | inr is ↦ cc (is, next) ]
+one_command Version (Run m t again) words line next = elim line [ inl is ↦ cc (is, next.0) | inr is ↦ cc (is, next.0) ]
 one_command Help Version words line next = elim next [ inl is ↦ cc (is, line) | inr is ↦ cc (is, line) ]
 one_command Help Help words line next = refl
 one_command Help (OfFile other file) words line next = cc (line, next)
 one_command Help (OfTrace Judge m t again most) words line next = cc (line, next.1)
 one_command Help (OfTrace Watch m t again most) words line next = cc (line, next.1)
 one_command Help (Measure m t again) words line next = cc (line, next)
+one_command Help (Run m t again) words line next = cc (line, next.0)
 one_command (OfFile which name) Version words line next = elim next [ inl is ↦ cc (is, line) | inr is ↦ cc (is, line) ]
 one_command (OfFile which name) Help words line next = cc (line, next)
 one_command (OfFile which name) (OfFile other file) words line next =
@@ -82,6 +85,7 @@ one_command (OfFile which name) (OfFile other file) words line next =
     cc (command, same)
 one_command (OfFile which name) (OfTrace other m t again most) words line next = cc (line, next.1)
 one_command (OfFile which name) (Measure m t again) words line next = cc (line, next)
+one_command (OfFile which name) (Run m t again) words line next = cc (line, next.0)
 one_command (OfTrace command model trace which bound) Version words line next = elim next [ inl is ↦ cc (is, line.1) | inr is ↦ cc (is, line.1) ]
 one_command (OfTrace Judge model trace which bound) Help words line next = cc (line.1, next)
 one_command (OfTrace Watch model trace which bound) Help words line next = cc (line.1, next)
@@ -95,6 +99,8 @@ one_command (OfTrace command model trace which bound) (OfTrace other m t again m
     cc (commands, models, traces, parts.0, parts.1)
 one_command (OfTrace Judge model trace which bound) (Measure m t again) words line next = cc (line.1, next)
 one_command (OfTrace Watch model trace which bound) (Measure m t again) words line next = cc (line.1, next)
+one_command (OfTrace Judge model trace which bound) (Run m t again) words line next = cc (line.1, next.0)
+one_command (OfTrace Watch model trace which bound) (Run m t again) words line next = cc (line.1, next.0)
 one_command (Measure model trace which) Version words line next = elim next [ inl is ↦ cc (is, line) | inr is ↦ cc (is, line) ]
 one_command (Measure model trace which) Help words line next = cc (line, next)
 one_command (Measure model trace which) (OfFile other file) words line next = cc (line, next)
@@ -105,6 +111,18 @@ one_command (Measure model trace which) (Measure m t again) words line next =
     let models : model ≡ m = cc (line, next) in
     let traces : trace ≡ t = cc (line, next) in
     cc (models, traces, asked)
+one_command (Measure model trace which) (Run m t again) words line next = cc (line, next.0)
+one_command (Run source results turns) Version words line next = elim next [ inl is ↦ cc (is, line.0) | inr is ↦ cc (is, line.0) ]
+one_command (Run source results turns) Help words line next = cc (line.0, next)
+one_command (Run source results turns) (OfFile other file) words line next = cc (line.0, next)
+one_command (Run source results turns) (OfTrace Judge m t again most) words line next = cc (line.0, next.1)
+one_command (Run source results turns) (OfTrace Watch m t again most) words line next = cc (line.0, next.1)
+one_command (Run source results turns) (Measure m t again) words line next = cc (line.0, next)
+one_command (Run source results turns) (Run m t again) words line next =
+    let numbers : turns ≡ again = decimal_injective turns again (omega (arith, line.1)) (omega (arith, next.1)) (cc (line.0, next.0)) in
+    let sources : source ≡ m = cc (line.0, next.0) in
+    let records : results ≡ t = cc (line.0, next.0) in
+    cc (sources, records, numbers)
 
 -- a command that is ready refuses nothing
 ready_apart : (c : Command) (files : Option Files) (status : Status) (line : List ℕ) → IsReady c files → Refuses c files status line → ⊥
@@ -116,6 +134,7 @@ ready_apart (OfFile Upgrade name) files status line ready refuses = upgrade_read
 ready_apart (OfTrace Judge model trace which bound) files status line ready refuses = judge_ready files model trace line status ready refuses
 ready_apart (OfTrace Watch model trace which bound) files status line ready refuses = watch_ready files model trace line status ready refuses
 ready_apart (Measure model trace which) files status line ready refuses = judge_ready files model trace line status ready refuses
+ready_apart (Run source results turns) files status line ready refuses = run_ready files source results status line ready refuses
 
 -- a command that makes a text refuses nothing
 made_apart : (c : Command) (files : Option Files) (status later : Status) (text line : List ℕ) → IsSome files → Makes c files status text → Refuses c files later line → ⊥
@@ -130,6 +149,8 @@ made_apart (OfTrace Judge model trace which bound) (Some files) status later tex
 made_apart (OfTrace Watch model trace which bound) (Some files) status later text line told makes refuses = watched_apart files model trace text line (monitors_of which) bound status later makes refuses
 made_apart (Measure model trace which) None status later text line told makes refuses = absurd (cc told)
 made_apart (Measure model trace which) (Some files) status later text line told makes refuses = measured_apart files model trace text line (monitors_of which) status later makes refuses
+made_apart (Run source results turns) None status later text line told makes refuses = absurd (cc told)
+made_apart (Run source results turns) (Some files) status later text line told makes refuses = run_apart files source results turns text later line makes.1 refuses
 
 -- two refusals of one command have one status
 same_refusal : (c : Command) (files : Option Files) (status later : Status) (line other : List ℕ) → IsSome files → Refuses c files status line → Refuses c files later other → status ≡ later
@@ -143,6 +164,8 @@ same_refusal (OfTrace Judge model trace which bound) (Some files) status later l
 same_refusal (OfTrace Watch model trace which bound) (Some files) status later line other told refuses too = watch_status files model trace line other status later refuses too
 same_refusal (Measure model trace which) None status later line other told refuses too = absurd (cc told)
 same_refusal (Measure model trace which) (Some files) status later line other told refuses too = judge_status files model trace line other status later refuses too
+same_refusal (Run source results turns) None status later line other told refuses too = absurd (cc told)
+same_refusal (Run source results turns) (Some files) status later line other told refuses too = run_status files source results status later line other refuses too
 
 -- the command of the words refuses nothing where it is ready
 pub ready_not_refused : (c d : Command) (words : List (List ℕ)) (files : Option Files) (status : Status) (line : List ℕ) → IsCommandLine c words → IsCommandLine d words → IsReady c files → Refuses d files status line → ⊥

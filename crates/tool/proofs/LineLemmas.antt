@@ -1,8 +1,8 @@
 -- Words that are no command line.
-use Rattle.std.proofs.Common.{◌≡◌, ℕ, List, [], ◌∷◌, Option, Some, None, IfNone, inl, inr, subst}
+use Rattle.std.proofs.Common.{◌≡◌, ℕ, List, ◌∷◌, Option, Some, None, IfNone, subst}
 use Rattle.model_commands.specs.declared.asked.Asked.{Asked}
-use Rattle.tool.specs.Command.{Command, TraceCommand, IsCommandLine, IsAskedBy}
-use Rattle.tool.specs.Command.Command.{Version, Help, OfFile, OfTrace, Measure}
+use Rattle.tool.specs.Command.{TraceCommand, IsCommandLine, IsAskedBy}
+use Rattle.tool.specs.Command.Command.{OfTrace}
 use Rattle.tool.specs.Command.TraceCommand.{Judge, Watch}
 
 -- what follows the files asks for no monitors

@@ -38,6 +38,7 @@ pub data Command : Type 0 where
   OfFile : FileCommand → List ℕ → Command
   OfTrace : TraceCommand → List ℕ → List ℕ → Asked → ℕ → Command
   Measure : List ℕ → List ℕ → Asked → Command
+  Run : List ℕ → List ℕ → ℕ → Command
 
 -- the words of each command
 abbrev pub IsCommandLine : Command → List (List ℕ) → Type 0
@@ -47,3 +48,4 @@ IsCommandLine (OfFile which file) words = words ≡ file_word which ∷ file ∷
 IsCommandLine (OfTrace command model trace which bound) words =
     (rest : List (List ℕ)) × (words ≡ trace_word command ∷ model ∷ trace ∷ rest) × IsAskedBy which bound rest
 IsCommandLine (Measure model trace which) words = words ≡ codes "measure" ∷ model ∷ trace ∷ asked_word which ∷ []
+IsCommandLine (Run source results turns) words = (words ≡ codes "run" ∷ source ∷ results ∷ decimal turns ∷ []) × (turns ≤ 1000000)

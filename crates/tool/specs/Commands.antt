@@ -7,13 +7,14 @@ use Rattle.dm_io.specs.Store.{Files, IsMissing}
 use Rattle.tool_frame.specs.Stop.{IsFinished}
 use Rattle.tool.specs.Command.{Command}
 use Rattle.tool.specs.Command.FileCommand.{Check, Model, Upgrade}
-use Rattle.tool.specs.Command.Command.{Version, Help, OfFile, OfTrace, Measure}
+use Rattle.tool.specs.Command.Command.{Version, Help, OfFile, OfTrace, Measure, Run}
 use Rattle.tool.specs.Command.TraceCommand.{Judge, Watch}
 use Rattle.model_commands.specs.Judge.{Judges, RefusesToJudge, LacksToJudge, IsReadyToJudge}
 use Rattle.model_commands.specs.Measure.{Measures}
 use Rattle.model_commands.specs.Monitors.{monitors_of}
 use Rattle.model_commands.specs.Upgrade.{Upgrades, RefusesToUpgrade, IsReadyToUpgrade}
 use Rattle.model_commands.specs.Watch.{Watches, RefusesToWatch, IsReadyToWatch}
+use Rattle.run_command.specs.Run.{Runs, RefusesToRun, LacksToRun, IsReadyToRun}
 use Rattle.source_commands.specs.Check.{Checks, IsReadyToCheck}
 use Rattle.source_commands.specs.Modelled.{Models, RefusesToModel, IsReadyToModel}
 use Rattle.sources.specs.Sources.{RefusesSource}
@@ -29,11 +30,13 @@ help_text =
     ++ codes "dyckmon judge MODEL TRACE WHICH [K]   the verdict lines of the model on the trace\n"
     ++ codes "dyckmon measure MODEL TRACE WHICH     how many calls may come next along the trace\n"
     ++ codes "dyckmon model FILE                    the file of the model of the C text\n"
+    ++ codes "dyckmon run FILE RESULTS TURNS        the trace of the C text's program with recorded results\n"
     ++ codes "dyckmon upgrade MODEL                 the file of the model in the newest version\n"
     ++ codes "dyckmon watch MODEL TRACES WHICH [K]  the verdict lines of each process of interleaved traces\n"
-    ++ codes "FILE, MODEL, TRACE and TRACES are names of files. WHICH is callgraph, stack, dyck, or all for the\n"
-    ++ codes "three in this order. K is how many calls may be open at once in the Dyck model, 1 to 65535; it is\n"
-    ++ codes "1000 where none is given.\n"
+    ++ codes "FILE, MODEL, RESULTS, TRACE and TRACES are names of files. WHICH is callgraph, stack, dyck, or all\n"
+    ++ codes "for the three in this order. K is how many calls may be open at once in the Dyck model, 1 to\n"
+    ++ codes "65535; it is 1000 where none is given. TURNS is how many functions may be entered and loops be\n"
+    ++ codes "tested, together, 0 to 1000000.\n"
 
 -- the command writes this text and ends with this status
 abbrev pub Makes : Command → Option Files → Status → List ℕ → Type 0
@@ -48,6 +51,8 @@ Makes (OfTrace Judge model trace which bound) (Some files) status text = Judges 
 Makes (OfTrace Watch model traces which bound) (Some files) status text = Watches files model traces (monitors_of which) bound status text
 Makes (Measure model trace which) None status text = IsFinished status
 Makes (Measure model trace which) (Some files) status text = Measures files model trace (monitors_of which) status text
+Makes (Run source results turns) None status text = IsFinished status
+Makes (Run source results turns) (Some files) status text = (status ≡ Done) × Runs files source results turns text
 
 -- the command refuses a file, with this status and this line
 abbrev pub Refuses : Command → Option Files → Status → List ℕ → Type 0
@@ -59,6 +64,7 @@ Refuses (OfFile Upgrade file) files status line = RefusesToUpgrade files file st
 Refuses (OfTrace Judge model trace which bound) files status line = RefusesToJudge files model trace status line
 Refuses (OfTrace Watch model traces which bound) files status line = RefusesToWatch files model traces status line
 Refuses (Measure model trace which) files status line = RefusesToJudge files model trace status line
+Refuses (Run source results turns) files status line = RefusesToRun files source results status line
 
 -- a file that the command asks for isn't there
 abbrev pub Lacks : Command → Option Files → Type 0
@@ -67,6 +73,7 @@ Lacks Help files = ⊥
 Lacks (OfFile which file) files = IsMissing files file
 Lacks (OfTrace command model trace which bound) files = LacksToJudge files model trace
 Lacks (Measure model trace which) files = LacksToJudge files model trace
+Lacks (Run source results turns) files = LacksToRun files source results
 
 -- the command's files are told, and are such that it refuses none
 abbrev pub IsReady : Command → Option Files → Type 0
@@ -78,3 +85,4 @@ IsReady (OfFile Upgrade file) files = IsReadyToUpgrade files file
 IsReady (OfTrace Judge model trace which bound) files = IsReadyToJudge files model trace
 IsReady (OfTrace Watch model traces which bound) files = IsReadyToWatch files model traces
 IsReady (Measure model trace which) files = IsReadyToJudge files model trace
+IsReady (Run source results turns) files = IsReadyToRun files source results

@@ -1,7 +1,7 @@
 ghost use Rattle.std.specs.Prelude.{◌≡◌, ◌≤◌, ◌⊎◌, ℕ, List, [], ◌∷◌, map, string_bytes, decimal, IfSome, IfNone};
 ghost use Rattle.model_commands.specs.Monitors.{asked_word};
 ghost use Rattle.tool.specs.Command.{Command as AskedCommand, TraceCommand, IsCommandLine, IsAskedBy};
-ghost use Rattle.tool.specs.Command.Command.{OfTrace, Measure};
+ghost use Rattle.tool.specs.Command.Command.{OfTrace, Measure, Run};
 ghost use Rattle.tool.specs.Command.TraceCommand.{Judge, Watch};
 ghost use Rattle.model_commands.specs.declared.asked.Asked.{Asked as AnyAsked};
 ghost use Rattle.tool.specs.Asked.{asked_by};
@@ -44,6 +44,13 @@ pub enum Command<'a> {
         asked: Asked,
         bound: u32,
     },
+    /// The trace of the run of the program of the C text in a file with the recorded results in another, where
+    /// at most so many functions may be entered and loops be tested, together.
+    Run {
+        source: &'a str,
+        results: &'a str,
+        turns: u32,
+    },
     /// The precision of monitors of the model in a file along the trace in another.
     Measure {
         model: &'a str,
@@ -57,6 +64,9 @@ const USUAL_BOUND: u32 = 1_000;
 
 // The greatest bound.
 const GREATEST_BOUND: u32 = 65_535;
+
+// The greatest number of turns.
+const MOST_TURNS: u32 = 1_000_000;
 
 /// The command of these words, or None where they are no command line.
 pub fn command_of(words: &[String]) -> Option<Command<'_>>
@@ -169,8 +179,70 @@ fn trace_command_of<'a>(
 {
     match bounded_command_of(word, model, trace, words) {
         Some(command) => Some(command),
-        None => measure_of(word, model, trace, words),
+        None => unbounded_command_of(word, model, trace, words),
     }
+}
+
+// A command of a word, two files and one more word.
+fn unbounded_command_of<'a>(
+    word: &str,
+    first: &'a str,
+    second: &'a str,
+    words: &[String],
+) -> Option<Command<'a>>
+    ensures some { IfSome result (λ command. IsCommandLine (asked_by command) (word.now ∷ first.now ∷ second.now ∷ map string_bytes words.now)) }
+    ensures measure { IfNone result ((m t : List ℕ) (which : AnyAsked) → IsCommandLine (Measure m t which) (word.now ∷ first.now ∷ second.now ∷ map string_bytes words.now) → ⊥) }
+    ensures run { IfNone result ((s r : List ℕ) (turns : ℕ) → IsCommandLine (Run s r turns) (word.now ∷ first.now ∷ second.now ∷ map string_bytes words.now) → ⊥) }
+{
+    match measure_of(word, first, second, words) {
+        Some(command) => Some(command),
+        None => run_of(word, first, second, words),
+    }
+}
+
+// The number of turns that the word is.
+fn turns_of(word: &str) -> Option<u32>
+    ensures some { IfSome result (λ turns. (word.now ≡ decimal turns) × (turns ≤ 1000000)) }
+    ensures none { IfNone result ((turns : ℕ) → word.now ≡ decimal turns → turns ≤ 1000000 → ⊥) }
+{
+    let turns = read_u32(word.as_bytes())?;
+    if turns <= MOST_TURNS {
+        Some(turns)
+    } else {
+        None
+    }
+}
+
+// The number of turns that the only word is.
+fn turns_alone(words: &[String]) -> Option<u32>
+    ensures some { IfSome result (λ turns. (map string_bytes words.now ≡ decimal turns ∷ []) × (turns ≤ 1000000)) }
+    ensures none { IfNone result ((turns : ℕ) → map string_bytes words.now ≡ decimal turns ∷ [] → turns ≤ 1000000 → ⊥) }
+{
+    match words {
+        [turns] => turns_of(turns),
+        _ => None,
+    }
+}
+
+// The command `run`.
+fn run_of<'a>(
+    word: &str,
+    source: &'a str,
+    results: &'a str,
+    words: &[String],
+) -> Option<Command<'a>>
+    ensures some { IfSome result (λ command. IsCommandLine (asked_by command) (word.now ∷ source.now ∷ results.now ∷ map string_bytes words.now)) }
+    ensures none { IfNone result ((s r : List ℕ) (turns : ℕ) → IsCommandLine (Run s r turns) (word.now ∷ source.now ∷ results.now ∷ map string_bytes words.now) → ⊥) }
+{
+    if word != "run" {
+        return None;
+    }
+    let turns = turns_alone(words)?;
+    Some(Command::Run {
+        source,
+        results,
+        turns,
+    })
 }
 
 // A command whose monitors may have a bound.

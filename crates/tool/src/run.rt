@@ -9,6 +9,7 @@ use crate::command::{Command, command_of};
 use dm_base::{OutOfMemory, Status};
 use dm_io::{HonestSink, HonestStore, Sink, Store, write_whole};
 use model_commands::{judge, measure, upgrade, watch_traces};
+use run_command::run_source;
 use source_commands::{check_source, model_of_source};
 use std::alloc::Global;
 use tool_frame::{Finished, Stop, refuse};
@@ -22,11 +23,13 @@ dyckmon check FILE                    how many functions and calls the C text ha
 dyckmon judge MODEL TRACE WHICH [K]   the verdict lines of the model on the trace
 dyckmon measure MODEL TRACE WHICH     how many calls may come next along the trace
 dyckmon model FILE                    the file of the model of the C text
+dyckmon run FILE RESULTS TURNS        the trace of the C text's program with recorded results
 dyckmon upgrade MODEL                 the file of the model in the newest version
 dyckmon watch MODEL TRACES WHICH [K]  the verdict lines of each process of interleaved traces
-FILE, MODEL, TRACE and TRACES are names of files. WHICH is callgraph, stack, dyck, or all for the
-three in this order. K is how many calls may be open at once in the Dyck model, 1 to 65535; it is
-1000 where none is given.
+FILE, MODEL, RESULTS, TRACE and TRACES are names of files. WHICH is callgraph, stack, dyck, or all
+for the three in this order. K is how many calls may be open at once in the Dyck model, 1 to
+65535; it is 1000 where none is given. TURNS is how many functions may be entered and loops be
+tested, together, 0 to 1000000.
 ";
 
 // A text that no file decides.
@@ -61,6 +64,13 @@ fn work<S: Store>(alloc: Global, words: &[String], store: &mut S) -> Result<Fini
         Some(Command::Check { source }) => check_source(alloc, store, source),
         Some(Command::Model { source }) => model_of_source(alloc, store, source),
         Some(Command::Upgrade { model }) => upgrade(alloc, store, model),
+        Some(
+            Command::Run {
+                source,
+                results,
+                turns,
+            },
+        ) => run_source(alloc, store, source, results, turns),
         Some(
             Command::Judge {
                 model,
