@@ -2,7 +2,7 @@
 //! once with ample memory: `Bytes::of`, `Event::copy` in `shared_types`; `NodeSet::new` and `copy`,
 //! `BoundedStack::new` and `copy` in `sets`; `read_whole`, `MemorySink::reserved` in `outside`. In
 //! `uncalled` stand calls of higher crates that no command makes: `write_results`, `write_traces`,
-//! `measure`, `next_names` and `next_line`.
+//! `outcome_text`, `measure`, `next_names` and `next_line`.
 #![tactic(auto)]
 
 #[cfg(test)]

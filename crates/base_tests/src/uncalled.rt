@@ -1,21 +1,21 @@
 ghost use Rattle.std.specs.Prelude.{◌<◌, ◌^◌, length};
 
 use callgraph_monitor::CallgraphMonitor;
-use dm_base::{Bytes, Event};
+use dm_base::{Bytes, Event, Outcome};
 use flow_model::{Model, Monitor};
 use model_file::read_model;
 use report::{measure, next_line, next_names, precision_line};
 use std::alloc::Global;
 use std::test::Fail;
 use sys_table::{SysResult, write_results};
-use trace_file::{Record, TracesVersion, write_traces};
+use trace_file::{Record, TracesVersion, outcome_text, write_traces};
 
 // One call of getpid.
 const ONE_GETPID: &[u8] =
     b"dyckmon-model 1\nfunctions 1\nf main 0 1\nnodes 2\ns 0 getpid 1\nstart 0\nend\n";
 
 #[test]
-fn results_and_interleaved_traces_are_written(rt: HostRuntime) -> Result<(), Fail> {
+fn results_traces_and_outcomes_are_written(rt: HostRuntime) -> Result<(), Fail> {
     let alloc = rt.alloc();
     let results = [
         SysResult {
@@ -41,6 +41,8 @@ fn results_and_interleaved_traces_are_written(rt: HostRuntime) -> Result<(), Fai
         text.as_slice(),
         b"dyckmon-traces 2\n4294967295 B 7\nend\n".as_slice()
     );
+    let text = outcome_text(alloc, &Outcome::Exit(-7))?;
+    assert_eq!(rt; text.as_slice(), b"exit -7".as_slice());
     Ok(())
 }
 
