@@ -1,6 +1,6 @@
 use Rattle.std.proofs.Common.{[], ◌∷◌, ◌++◌}
 use Rattle.model_commands.proofs.Judgements.{refusal_stays, rejected_now, bound_now, come_refused, come_kept, refused_come}
-use Rattle.model_commands.proofs.judging.Judging.follow.Goals as goal
+use Rattle.model_commands.proofs.judging.JudgingPanel.take.Goals as goal
 
 pub returns-in-Some : goal.returns-in-Some
 returns-in-Some g c = λ k h judged.

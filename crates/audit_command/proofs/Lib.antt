@@ -1,4 +1,0 @@
-pub mod FileLemmas
-mod ProgramLemmas
-mod StopLemmas
-mod Verdicts

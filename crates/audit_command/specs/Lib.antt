@@ -1,3 +1,0 @@
-pub mod Audit
-pub mod Heard
-pub mod Stopping

@@ -1,2 +1,0 @@
-pub mod Instrument
-pub mod Stopping

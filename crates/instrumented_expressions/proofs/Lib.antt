@@ -1,3 +1,0 @@
-pub mod ExprLemmas
-pub mod MarkedLemmas
-pub mod WantedLemmas

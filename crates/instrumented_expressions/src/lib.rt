@@ -1,8 +1,0 @@
-//! Expressions with null calls round their marked calls (Giffin, Jha and Miller 2004).
-#![tactic(auto)]
-
-mod expressions;
-mod marked;
-mod wanted;
-
-pub use expressions::expression;
