@@ -18,7 +18,7 @@ use Rattle.marked_sites.specs.declared.mention.Mention.{Mention}
 use Rattle.marked_sites.specs.declared.mention.Mention.TheVariants as m
 use Rattle.marked_sites.specs.declared.callees.Designator.{Designator}
 use Rattle.marked_sites.specs.declared.table.Called.{Called}
-use Rattle.marked_sites.specs.Saying.{mention_of, said, callee_where, callee_after}
+use Rattle.marked_sites.specs.Saying.{mention_of, said, callee_where, callee_after, IsDefinedWhere}
 use Rattle.marked_sites.specs.Sited.{called_where}
 
 below_or_at : (k n : ℕ) → (k < n) ⊎ (n ≤ k)
@@ -85,6 +85,10 @@ less_of m n h = ltb-true m n h
 
 pub direct_below : (p : Program) (s f : ℕ) (b : Bool) → b ≡ marked_where p (callee_at s (mentions_of_program p)) → b ≡ true → Some (Direct f) ≡ callee_at s (mentions_of_program p) → f < defined p
 direct_below p s f b e h is = less_of f (defined p) (below_of (nat_lt f (defined p)) _ (ap (marked_where p) is ∙ (sym e ∙ h)))
+
+pub defined_where : (p : Program) (s : ℕ) (b : Bool) (callee : Callee) → b ≡ marked_where p (callee_at s (mentions_of_program p)) → b ≡ true → Some callee ≡ callee_at s (mentions_of_program p) → IsDefinedWhere p callee
+defined_where p s b (Direct f) e h is = direct_below p s f b e h is
+defined_where p s b (Through t) e h is = tt
 
 pub called_by : (p : Program) (f : ℕ) (t : CType) → value_type p f ≡ Some t → called_as None t ≡ term.called_of p (Direct f)
 called_by p f t is = ap (called_by_type None) (sym is)

@@ -1,5 +1,7 @@
 -- For private contracts and proofs alone: what the code's mentions stand for.
-use Rattle.std.specs.Prelude.{ℕ, Bool, true, false, nat_eq, List, map, Option, None, Some, if◌then◌else◌}
+use Rattle.std.specs.Prelude.{ℕ, ◌<◌, Bool, true, false, nat_eq, List, map, Option, None, Some, if◌then◌else◌}
+use Rattle.c_tree.specs.Tree.{Program}
+use Rattle.c_tree.specs.Functions.{defined}
 use Rattle.c_tree.specs.View.{ctype_of}
 use Rattle.c_shapes.specs.Mentions as term
 use Rattle.c_shapes.specs.Mentions.{Callee, Direct, Through}
@@ -34,3 +36,8 @@ put_where false x y = y
 abbrev pub callee_after : ℕ → term.Mention → Option Callee → Option Callee
 callee_after s (term.Named f) rest = rest
 callee_after s (term.Calls r callee) rest = if nat_eq s r then Some callee else rest
+
+-- a function that is called by its name is a defined one
+abbrev pub IsDefinedWhere : Program → Callee → Type 0
+IsDefinedWhere p (Direct f) = f < defined p
+IsDefinedWhere p (Through t) = Unit {0}

@@ -5,7 +5,7 @@ ghost use Rattle.c_shapes.specs.CallGraph.{callee_at};
 ghost use Rattle.c_shapes.specs.Mentions.{Direct, mentions_of_program};
 ghost use Rattle.call_graph.specs.Calls.{AreCallsOf};
 ghost use Rattle.null_calls.specs.MarkedCalls as marks;
-ghost use Rattle.marked_sites.specs.Saying.{callee_where};
+ghost use Rattle.marked_sites.specs.Saying.{callee_of, callee_where, IsDefinedWhere};
 ghost use Rattle.marked_sites.specs.Sited.{type_where, called_of, called_where, sited};
 
 use crate::callees::{Designator, callee_in, callees_of};
@@ -83,6 +83,16 @@ fn called_directly<'p>(program: &'p Program, f: u32) -> Option<Called<'p>>
     called_as(None, &program.function(f).ctype)
 }
 
+// What a call with this designator calls, where it is no direct call of a system call.
+fn called_by<'p>(program: &'p Program, designator: Designator<'p>) -> Option<Called<'p>>
+    ensures { IsDefinedWhere (program_of program.now) (callee_of designator.entry) → called_where result ≡ marks.called_of (program_of program.now) (callee_of designator.entry) }
+{
+    match designator {
+        Designator::Function(f) => called_directly(program, f),
+        Designator::Pointer(t) => called_through(t),
+    }
+}
+
 // What is called at the site, where the call there is marked.
 fn called_at<'p>(
     program: &'p Program,
@@ -98,8 +108,7 @@ fn called_at<'p>(
     }
     match callee {
         None => None,
-        Some(Designator::Function(f)) => called_directly(program, f),
-        Some(Designator::Pointer(t)) => called_through(t),
+        Some(designator) => called_by(program, designator),
     }
 }
 

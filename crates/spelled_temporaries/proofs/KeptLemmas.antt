@@ -17,12 +17,12 @@ use Rattle.spelled_temporaries.specs.Kept.{temporary_of, temporaries_of, items_o
 pub at_place : {A : Type 0} (es : List A) (i : ℕ) (d : A) → i < length es → d ≡ get_or es i d → drop i es ≡ d ∷ drop (i + 1) es
 at_place es i d h q = rw (add-one, drop-cons es i d h, ← q) refl
 
+none_gone : (A : Type 0) (i : ℕ) → drop {A = A} i [] ≡ []
+none_gone A zero = refl
+none_gone A (suc i) = refl
+
 pub all_gone : {A : Type 0} (es : List A) (i : ℕ) → length es ≤ i → drop i es ≡ []
-all_gone [] i le = gone i
-  where
-    gone : (i : ℕ) → drop i [] ≡ []
-    gone zero = refl
-    gone (suc i) = refl
+all_gone {A = A} [] i le = none_gone A i
 all_gone (x ∷ xs) zero le = absurd (omega (arith, le))
 all_gone (x ∷ xs) (suc i) le = all_gone xs i (omega (arith, le))
 
