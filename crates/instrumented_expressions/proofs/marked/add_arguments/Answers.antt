@@ -21,7 +21,7 @@ loop-one-preserved c =
     let xs = c.next.new.self.rest.items in
     let items = c.loop-one.one-iterator.rest.items in
     let passed = c.loop-one.passed.items in
-    let i_is : c.len.result ≡ length passed = omega (arith, c.len.ensures) in
+    let i_is : c.len-i.result ≡ length passed = omega (arith, c.len-i.ensures) in
     record {
       counted = omega (arith, c.loop-one.invariant.counted, ap length c.in-Some.ensures.steps.0, c.in-Some.ensures.steps.1);
       keeps = keeps_more c.args.at c.args.site x c.in_ok-kept.kept _ items xs passed c.push.new.self.items c.in-Some.ensures.steps.0 c.in_ok-push.ensures.items c.loop-one.list.items c.add.new.list.items _ c.loop-one.invariant.keeps
