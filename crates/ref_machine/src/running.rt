@@ -1,15 +1,20 @@
 ghost use Rattle.std.specs.Prelude.{◌≡◌, IfOk, drop};
 ghost use Rattle.c_tree.specs.View.{program_of};
 ghost use Rattle.c_meaning.specs.Runs.{run};
+ghost use Rattle.c_shapes.specs.ProgramLanguages.{Callgraph, Stack};
 ghost use Rattle.ref_machine.specs.Futures.{future, records_taken};
+ghost use Rattle.ref_machine.specs.KeptTypes.{HasFunctionValues};
 ghost use Rattle.ref_machine.specs.WholeRuns.{Follows, Notes, run_of};
+ghost use Rattle.typed_meaning.specs.Laws.{IsTypedRun};
 
 use crate::whole::Run;
 use crate::{Machine, Pause};
+use alarm_laws::runs_raise_no_alarm;
 use c_tree::Program;
 use dm_base::{Event, OutOfMemory, Outcome};
 use std::alloc::Global;
 use sys_table::SysResult;
+use typed_meaning::{callees_are_candidates, values_have_kinds};
 
 // Goes on to the next event, need of a recorded result, or end; the results from this number on are left.
 fn advance_with(
@@ -49,10 +54,8 @@ fn noted(trace: &mut Vec<Event>, pause: Pause) -> Result<Option<Outcome>, OutOfM
     }
 }
 
-/// The run of the program with these recorded results and so many turns (C99 5.1.2.3): how it ended, and its events, in order.
-/// Results that the run did not come to are left. The error is that memory was refused; so it answers, too, where `Machine::advance`
-/// does, and at more than 2^64 − 1 pauses.
-pub fn run(
+// The run of the program, by pauses of a machine.
+fn whole_run(
     alloc: Global,
     program: &Program,
     results: &[SysResult],
@@ -71,4 +74,28 @@ pub fn run(
         }
     }
     Err(OutOfMemory)
+}
+
+/// The run of the program with these recorded results and so many turns (C99 5.1.2.3): how it ended, and its events, in order.
+/// Results that the run did not come to are left. However it ended, its trace is a word of the program's stack and of its
+/// callgraph language (Wagner and Dean 2001), for null calls that the program makes itself are left aside there; each event can be recorded;
+/// and no value of another kind than its type was met. The error is that memory was refused; so it answers, too, where
+/// `Machine::advance` does, and at more than 2^64 − 1 pauses.
+pub fn run(
+    alloc: Global,
+    program: &Program,
+    results: &[SysResult],
+    turns: u32,
+) -> Result<Run, OutOfMemory>
+    ensures run { IfOk result (λ found. run_of found ≡ run (program_of program.now) results.now turns) }
+    ensures no_false_alarm { IfOk result (λ found. Stack (program_of program.now) found.trace.items × Callgraph (program_of program.now) found.trace.items) }
+    ensures typed { IfOk result (λ found. IsTypedRun (run_of found)) }
+    ensures function_values { HasFunctionValues (program_of program.now) results.now turns }
+{
+    runs_raise_no_alarm();
+    values_have_kinds();
+    callees_are_candidates();
+    let _sites = program.sites();
+    let found = whole_run(alloc, program, results, turns)?;
+    Ok(found)
 }

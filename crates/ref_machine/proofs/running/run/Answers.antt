@@ -1,17 +1,19 @@
-use Rattle.std.proofs.Common.{drop, subst}
+use Rattle.std.proofs.Common.{sym, subst}
+use Rattle.c_meaning.specs.Meaning.{Marks}
+use Rattle.c_meaning.specs.Runs.{Run, no_marks, run}
 use Rattle.c_tree.specs.View.{program_of}
-use Rattle.c_meaning.specs.Runs.{run}
-use Rattle.ref_machine.specs.Futures.{future}
-use Rattle.ref_machine.specs.WholeRuns.{Notes}
-use Rattle.ref_machine.proofs.Noting.{noted_on, noted_end}
+use Rattle.c_shapes.specs.ProgramLanguages.{Callgraph, Stack}
+use Rattle.typed_meaning.specs.Laws.{IsTypedRun}
 use Rattle.ref_machine.proofs.running.run.Goals as goal
 
-pub loop-pause-preserved : goal.loop-pause-preserved
-loop-pause-preserved c = record {
-  same = noted_on (run (program_of c.args.program.now) c.args.results.now c.args.turns) c.loop-pause.trace.items c.noted.new.trace.items c.in_ok-pause.pause (future c.loop-pause.machine (drop c.loop-pause.taken c.args.results.now)) (future c.advance_with.new.machine (drop c.advance_with.new.taken c.args.results.now)) c.loop-pause.invariant.same c.in_ok-pause.ensures.follows (subst (Notes c.loop-pause.trace.items c.noted.new.trace.items c.in_ok-pause.pause) c.in_default.is c.in_ok-ended.ensures);
-  taken = c.in_ok-pause.ensures.taken;
-}
+pub returns-clause-no_false_alarm : goal.returns-clause-no_false_alarm
+returns-clause-no_false_alarm c =
+    let p = program_of c.args.program.now in
+    subst (λ (r : Run). Stack p r.trace × Callgraph p r.trace) (sym c.in_ok-found.ensures)
+    (c.runs_raise_no_alarm.ensures.runs p c.sites-_sites.result c.sites-_sites.ensures.typed c.args.results.now c.args.turns)
 
-pub returns-in-Some : goal.returns-in-Some
-returns-in-Some c =
-    noted_end (run (program_of c.args.program.now) c.args.results.now c.args.turns) c.loop-pause.trace.items c.noted.new.trace.items c.in_ok-pause.pause (future c.loop-pause.machine (drop c.loop-pause.taken c.args.results.now)) (future c.advance_with.new.machine (drop c.advance_with.new.taken c.args.results.now)) c.in-Some.outcome c.loop-pause.invariant.same c.in_ok-pause.ensures.follows (subst (Notes c.loop-pause.trace.items c.noted.new.trace.items c.in_ok-pause.pause) c.in-Some.is c.in_ok-ended.ensures)
+pub returns-clause-typed : goal.returns-clause-typed
+returns-clause-typed c =
+    let p = program_of c.args.program.now in
+    subst IsTypedRun (sym c.in_ok-found.ensures)
+    (c.values_have_kinds.ensures.runs p c.sites-_sites.result c.sites-_sites.ensures.typed no_marks (λ site. ({}, {})) c.args.results.now c.args.turns)

@@ -3,7 +3,7 @@ use Rattle.c_tree.specs.View.{program_of}
 use Rattle.c_meaning.specs.Runs.{run}
 use Rattle.ref_machine.specs.Futures.{future, records_taken}
 use Rattle.ref_machine.specs.WholeRuns.{joined}
-use Rattle.ref_machine.proofs.running.run.Given as goal
+use Rattle.ref_machine.proofs.running.whole_run.Given as goal
 
 abbrev pub invariant-loop-pause : goal.invariant-loop-pause
 invariant-loop-pause l = record {
