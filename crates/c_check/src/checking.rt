@@ -1,12 +1,12 @@
 ghost use Rattle.std.specs.Prelude.{◌≡◌, IfErr, IfOk};
 ghost use Rattle.c_check.specs.Refused.{IsRefused};
-ghost use Rattle.c_check.specs.Spelled.{IsSpelled};
 ghost use Rattle.c_given.specs.Judges.{Judges};
 ghost use Rattle.c_rules.specs.NullCalls.{CallsNoNullCall};
 ghost use Rattle.c_rules.specs.Units.{IsTyped, checked};
 ghost use Rattle.c_syntax.specs.UnitView.{items_of};
 ghost use Rattle.c_tree.specs.View.{program_of};
 ghost use Rattle.dm_base.specs.declared.mode.Mode.TheVariants.{Plain};
+ghost use Rattle.typed_units.specs.Lexical.{IsUnitLexical};
 
 use crate::found::{Found, found_in};
 use c_given::CheckError;
@@ -17,14 +17,12 @@ use c_units::typed_program;
 use dm_base::Mode;
 use std::alloc::Global;
 use typed_programs::a_typed_unit_is_a_program;
-use typed_units::a_spelled_unit_is_lexical;
 
 // The program that a unit with these items is typed as.
 fn checked_items(alloc: Global, listed: &[Item], mode: Mode) -> Result<Program, CheckError>
-    requires { IsSpelled (items_of listed.now) }
+    requires { IsUnitLexical (items_of listed.now) }
     ensures { Judges program_of result (checked (items_of listed.now) mode) }
 {
-    a_spelled_unit_is_lexical();
     a_typed_unit_is_a_program();
     let Found {
         env,
@@ -42,8 +40,8 @@ fn checked_items(alloc: Global, listed: &[Item], mode: Mode) -> Result<Program, 
     )
 }
 
-/// The program that the unit is typed as in the mode (C99 6.2 to 6.9); in the mode Plain it calls neither null call. The unit is one
-/// that some text spells, as those that `parse` gives.
+/// The program that the unit is typed as in the mode (C99 6.2 to 6.9); in the mode Plain it calls neither null call. Its constants
+/// are in range and its strings no longer than a text (C99 6.4.4, 6.4.5), as in each unit that `parse` gives, and in the instrumented one.
 ///
 /// # Errors
 ///
@@ -51,7 +49,7 @@ fn checked_items(alloc: Global, listed: &[Item], mode: Mode) -> Result<Program, 
 /// program. Where several demands fail it names any of them. `OutOfMemory` comes where memory was refused, and where 2^32 names, tags,
 /// calls or cells stand in the unit.
 pub fn check(alloc: Global, unit: &Unit, mode: Mode) -> Result<Program, CheckError>
-    requires spelled { IsSpelled (items_of unit.now.items.items) }
+    requires lexical { IsUnitLexical (items_of unit.now.items.items) }
     ensures typed { IfOk result (λ p. IsTyped (items_of unit.now.items.items) mode (program_of p)) }
     ensures refused { IfErr result (IsRefused (items_of unit.now.items.items) mode) }
     ensures no_null_calls { mode ≡ Plain → IfOk result (λ p. CallsNoNullCall (program_of p)) }

@@ -1,6 +1,7 @@
 pub mod FileLemmas
 pub mod FollowingLemmas
 pub mod FoundLemmas
+pub mod HearingLemmas
 pub mod JudgedFiles
 pub mod Judgements
 mod MeasureLemmas

@@ -25,3 +25,7 @@ pub record IsKeptWhole (Stands : Type 0) (which : Which) (g : Graph) (bound : �
 abbrev pub HasComeTo : Type 0 → Which → Graph → ℕ → List Event → ℕ → Option Refused → Type 0
 HasComeTo Stands which g bound t kept None = IsKeptWhole Stands which g bound t kept
 HasComeTo Stands which g bound t kept (Some r) = IsRefusedAt which g bound t r
+
+-- the monitor of a pool of this model, with no notes in it, has come to this
+abbrev pub HasFollowed : Type 0 → Type 0 → Type 0 → Which → Graph → ℕ → List Event → ℕ → Option Refused → Type 0
+HasFollowed Pool Noted Stands which g bound t kept refused = Pool × Noted × HasComeTo Stands which g bound t kept refused

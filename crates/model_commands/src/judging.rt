@@ -1,18 +1,19 @@
-ghost use Rattle.std.specs.Prelude.{◌≡◌, ◌≤◌, ◌<◌, ◌^◌, ℕ, List, [], ◌∷◌, ◌++◌, length, Option, None, Some, IfOk, OnOk, IfSome};
+ghost use Rattle.std.specs.Prelude.{◌≡◌, ◌≤◌, ◌<◌, ◌-◌, ◌^◌, ℕ, List, [], ◌∷◌, ◌++◌, length, Option, None, Some, IfOk, OnOk, IfSome};
 ghost use Rattle.std.specs.Option.{option_copied};
 ghost use Rattle.dm_base.specs.declared.event.Event.{Event};
 ghost use Rattle.flow_model.specs.Graph.{Graph};
 ghost use Rattle.flow_model.specs.Verdict.{IsAccepted, IsStep, IsVerdict};
+ghost use Rattle.report.specs.Precision.{IsNext};
 ghost use Rattle.report.specs.VerdictLine.{verdict_text, IsGiven, event_at};
 ghost use Rattle.sys_table.specs.Table.{IsRecorded};
 ghost use Rattle.model_commands.specs.Judged.{status_of, AreJudged};
-ghost use Rattle.model_commands.specs.Refused.{IsRefusedAt, IsKeptWhole, HasComeTo};
+ghost use Rattle.model_commands.specs.Refused.{IsRefusedAt, IsKeptWhole, HasComeTo, HasFollowed};
 ghost use Rattle.trace_file.specs.Trace.{most};
 
 use crate::panel::Panel;
 use dm_base::{Event, OutOfMemory, Status, Step, Verdict};
 use flow_model::{Model, Monitor, Which};
-use report::verdict_line;
+use report::{next_names, verdict_line};
 use std::alloc::Global;
 use tool_frame::Finished;
 
@@ -77,7 +78,7 @@ fn feed_next<M: Monitor>(
     requires pool { M.is_pool pool.old model.now }
     requires stands { (k : ℕ) × (h : List Event) × M.stands monitor.old pool.old model.now k h }
     requires notes { M.noted pool.old model.now [] }
-    requires few { kept < most }
+    requires few { kept < 2 ^ 64 - 1 }
     ensures pool { M.is_pool pool.new model.now }
     ensures notes { OnOk result (M.noted pool.new model.now []) }
     ensures stands { OnOk result ((k : ℕ) (h : List Event) → M.stands monitor.old pool.old model.now k h → M.stands monitor.new pool.new model.now k (h ++ event.now ∷ [])) }
@@ -130,24 +131,13 @@ fn refusal(alloc: Global, verdict: Verdict, event: &Event) -> Result<Refused, Ou
     })
 }
 
-impl<M: Monitor> Panel for Judging<M> {
-    ghost judged = { λ j g k h. M.is_pool j.pool g × M.noted j.pool g [] × HasComeTo (M.stands j.monitor j.pool g k h) M.WHICH g k h j.kept j.refused };
-
-    ghost tells = { λ g k h status text. AreJudged (M.WHICH ∷ []) g k h status text };
-
-    fn open(alloc: Global, model: &Model, bound: u32) -> Result<Self, OutOfMemory> {
-        let mut pool = M::pool(alloc, model)?;
-        let monitor = M::open(&mut pool, model, bound)?;
-        Ok(Judging {
-            pool,
-            monitor,
-            left: 0,
-            kept: 0,
-            refused: None,
-        })
-    }
-
-    fn take(&mut self, alloc: Global, model: &Model, event: &Event) -> Result<(), OutOfMemory> {
+impl<M: Monitor> Judging<M> {
+    /// Follows the next event. Where memory is refused, the monitor is of no more use.
+    pub fn follow(&mut self, alloc: Global, model: &Model, event: &Event) -> Result<(), OutOfMemory>
+        requires followed { (k : ℕ) × (h : List Event) × HasFollowed (M.is_pool self.old.pool model.now) (M.noted self.old.pool model.now []) (M.stands self.old.monitor self.old.pool model.now k h) M.WHICH model.now k h self.old.kept self.old.refused × (length h < 2 ^ 64 - 1) }
+        requires recorded { IsRecorded event.now }
+        ensures { OnOk result ((k : ℕ) (h : List Event) → HasFollowed (M.is_pool self.old.pool model.now) (M.noted self.old.pool model.now []) (M.stands self.old.monitor self.old.pool model.now k h) M.WHICH model.now k h self.old.kept self.old.refused → HasFollowed (M.is_pool self.new.pool model.now) (M.noted self.new.pool model.now []) (M.stands self.new.monitor self.new.pool model.now k (h ++ event.now ∷ [])) M.WHICH model.now k (h ++ event.now ∷ []) self.new.kept self.new.refused) }
+    {
         match &self.refused {
             Some(_) => return Ok(()),
             None => {}
@@ -171,6 +161,43 @@ impl<M: Monitor> Panel for Judging<M> {
                 self.refused = Some(refusal(alloc, Verdict::Bound { at }, event)?);
             }
         }
+        Ok(())
+    }
+
+    /// How many names of system calls may come next after the events that were followed, 0 where the monitor has refused them.
+    pub fn next_names(&mut self, alloc: Global, model: &Model) -> Result<u32, OutOfMemory>
+        requires { (k : ℕ) × (h : List Event) × HasFollowed (M.is_pool self.old.pool model.now) (M.noted self.old.pool model.now []) (M.stands self.old.monitor self.old.pool model.now k h) M.WHICH model.now k h self.old.kept self.old.refused }
+        ensures next { IfOk result (λ n. (k : ℕ) (h : List Event) → HasFollowed (M.is_pool self.old.pool model.now) (M.noted self.old.pool model.now []) (M.stands self.old.monitor self.old.pool model.now k h) M.WHICH model.now k h self.old.kept self.old.refused → IsNext M.WHICH model.now k h n) }
+        ensures same { OnOk result ((k : ℕ) (h : List Event) → HasFollowed (M.is_pool self.old.pool model.now) (M.noted self.old.pool model.now []) (M.stands self.old.monitor self.old.pool model.now k h) M.WHICH model.now k h self.old.kept self.old.refused → HasFollowed (M.is_pool self.new.pool model.now) (M.noted self.new.pool model.now []) (M.stands self.new.monitor self.new.pool model.now k h) M.WHICH model.now k h self.new.kept self.new.refused) }
+    {
+        match &self.refused {
+            Some(_) => return Ok(0),
+            None => {}
+        }
+        let count = next_names(alloc, &self.monitor, &mut self.pool, model)?;
+        Ok(count)
+    }
+}
+
+impl<M: Monitor> Panel for Judging<M> {
+    ghost judged = { λ j g k h. M.is_pool j.pool g × M.noted j.pool g [] × HasComeTo (M.stands j.monitor j.pool g k h) M.WHICH g k h j.kept j.refused };
+
+    ghost tells = { λ g k h status text. AreJudged (M.WHICH ∷ []) g k h status text };
+
+    fn open(alloc: Global, model: &Model, bound: u32) -> Result<Self, OutOfMemory> {
+        let mut pool = M::pool(alloc, model)?;
+        let monitor = M::open(&mut pool, model, bound)?;
+        Ok(Judging {
+            pool,
+            monitor,
+            left: 0,
+            kept: 0,
+            refused: None,
+        })
+    }
+
+    fn take(&mut self, alloc: Global, model: &Model, event: &Event) -> Result<(), OutOfMemory> {
+        self.follow(alloc, model, event)?;
         Ok(())
     }
 

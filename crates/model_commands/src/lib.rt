@@ -5,6 +5,7 @@
 mod asked;
 mod findings;
 mod follower;
+mod hearing;
 mod judge_command;
 mod judging;
 mod measure_command;
@@ -22,7 +23,9 @@ mod watches;
 mod watching;
 
 pub use asked::Asked;
+pub use hearing::{Heard, hear};
 pub use judge_command::judge;
 pub use measure_command::measure;
+pub use pair::worse;
 pub use upgrade_command::upgrade;
 pub use watch_command::watch_traces;

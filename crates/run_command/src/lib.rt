@@ -5,4 +5,5 @@ mod refusals;
 mod results;
 mod running;
 
+pub use results::results_in;
 pub use running::run_source;

@@ -7,3 +7,4 @@ mod modelling;
 
 pub use check_command::check_source;
 pub use model_command::model_of_source;
+pub use modelling::model_of;

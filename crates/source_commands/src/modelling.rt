@@ -22,8 +22,8 @@ fn stop_with(alloc: Global, text: &[u8]) -> Stop
     }
 }
 
-// The model of a program.
-fn model_of(alloc: Global, program: &Program) -> Result<Model, Stop>
+/// The model of a program. More than 200,000 nodes are refused.
+pub fn model_of(alloc: Global, program: &Program) -> Result<Model, Stop>
     ensures model { IfOk result (λ m. m ≡ graph_of_program (program_of program.now)) }
     ensures few { OnOk result ((graph_of_program (program_of program.now)).nodes ≤ 200000) }
     ensures languages { IfOk result (λ m. HasLanguagesOf (program_of program.now) m) }

@@ -14,6 +14,7 @@ use dm_base::Mode;
 use dm_io::{Store, read_whole};
 use std::alloc::Global;
 use tool_frame::Stop;
+use typed_units::a_spelled_unit_is_lexical;
 
 /// The unit and the program of a C text in the mode: its tokens are read, then its unit, and then the unit is checked.
 ///
@@ -25,6 +26,7 @@ pub fn read_source(alloc: Global, text: &[u8], mode: Mode) -> Result<Source, Sou
     ensures cause { IfErr result (λ error. IsSourceCause error text.now mode) }
     ensures none { IfErr result (λ error. HasNoProgram error text.now mode) }
 {
+    a_spelled_unit_is_lexical();
     let found = match tokens(alloc, text, mode) {
         Ok(found) => found,
         Err(error) => return Err(lexical(error)),

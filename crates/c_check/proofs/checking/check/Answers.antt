@@ -1,5 +1,5 @@
 use Rattle.std.proofs.Common.{sym, subst}
-use Rattle.c_check.specs.Spelled.{IsSpelled}
+use Rattle.typed_units.specs.Lexical.{IsUnitLexical}
 use Rattle.c_check.proofs.Answered.{refused_with, typed_as, without_null_calls}
 use Rattle.c_given.specs.Judges.{Judges}
 use Rattle.c_rules.specs.Units.{checked}
@@ -8,7 +8,7 @@ use Rattle.c_tree.specs.View.{program_of}
 use Rattle.c_check.proofs.checking.check.Goals as goal
 
 pub checked_items-requires : goal.checked_items-requires
-checked_items-requires c = subst (λ xs. IsSpelled (items_of xs)) (sym c.deref.ensures.value) c.requires.spelled
+checked_items-requires c = subst (λ xs. IsUnitLexical (items_of xs)) (sym c.deref.ensures.value) c.requires.lexical
 
 pub returns-clause-typed : goal.returns-clause-typed
 returns-clause-typed c =

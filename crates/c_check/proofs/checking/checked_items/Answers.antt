@@ -9,5 +9,4 @@ use Rattle.c_check.proofs.checking.checked_items.Goals as goal
 pub typed_program-requires-clause-right : goal.typed_program-requires-clause-right
 typed_program-requires-clause-right c p typed =
     let u = items_of c.args.listed.now in
-    let s = c.requires in
-    subst (IsProgram p) (sym (ap (λ b. b.sites) c.in_ok-env.ensures.counted)) (c.a_typed_unit_is_a_program.ensures u c.args.mode p (c.a_spelled_unit_is_lexical.ensures s.text s.mode s.tokens u s.lexed s.spelled) typed)
+    subst (IsProgram p) (sym (ap (λ b. b.sites) c.in_ok-env.ensures.counted)) (c.a_typed_unit_is_a_program.ensures u c.args.mode p c.requires typed)

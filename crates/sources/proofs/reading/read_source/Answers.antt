@@ -28,15 +28,9 @@ returns-in-Err-parse-clause-none c =
     (subst (λ (ts : List Token). (unit : Items) → SpellsUnit unit ts c.args.mode → parser.Answers unit (Err c.in-Err-parse.error)) c.deref.ensures.value c.in-Err-parse.ensures.complete))
 
 pub check-requires : goal.check-requires
-check-requires c = record {
-  spelled = record {
-    text = c.args.text.now;
-    mode = c.args.mode;
-    tokens = c.in-Ok.found.items;
-    lexed = c.in-Ok.ensures.spelled;
-    spelled = subst (λ (ts : List Token). SpellsUnit (items_of c.in-Ok-parse.unit.items.items) ts c.args.mode) c.deref.ensures.value c.in-Ok-parse.ensures.spelled;
-  };
-}
+check-requires c =
+    record { lexical = c.a_spelled_unit_is_lexical.ensures c.args.text.now c.args.mode c.in-Ok.found.items (items_of c.in-Ok-parse.unit.items.items) c.in-Ok.ensures.spelled
+    (subst (λ (ts : List Token). SpellsUnit (items_of c.in-Ok-parse.unit.items.items) ts c.args.mode) c.deref.ensures.value c.in-Ok-parse.ensures.spelled) }
 
 pub returns-in-Err-check-clause-cause : goal.returns-in-Err-check-clause-cause
 returns-in-Err-check-clause-cause c =

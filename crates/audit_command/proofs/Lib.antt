@@ -1,0 +1,4 @@
+pub mod FileLemmas
+mod ProgramLemmas
+mod StopLemmas
+mod Verdicts

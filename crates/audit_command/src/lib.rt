@@ -1,0 +1,9 @@
+//! The command `audit`: a C text is instrumented and run with recorded results, and the trace is judged by the monitors of the text's own
+//! model (Wagner and Dean 2001; Giffin, Jha and Miller 2004).
+#![tactic(auto)]
+
+mod audit;
+mod programs;
+mod reports;
+
+pub use audit::audit_source;

@@ -1,0 +1,2 @@
+pub mod Instrument
+pub mod Stopping

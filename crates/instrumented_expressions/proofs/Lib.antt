@@ -1,0 +1,3 @@
+pub mod ExprLemmas
+pub mod MarkedLemmas
+pub mod WantedLemmas

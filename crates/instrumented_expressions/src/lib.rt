@@ -1,0 +1,8 @@
+//! Expressions with null calls round their marked calls (Giffin, Jha and Miller 2004).
+#![tactic(auto)]
+
+mod expressions;
+mod marked;
+mod wanted;
+
+pub use expressions::expression;
