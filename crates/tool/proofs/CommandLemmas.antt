@@ -5,6 +5,8 @@ use Rattle.std.specs.Prelude.{IsSome}
 use Rattle.dm_base.specs.declared.mode.Mode.TheVariants.{Plain}
 use Rattle.dm_base.specs.declared.verdict.Status.{Status}
 use Rattle.dm_io.specs.Store.{Files}
+use Rattle.audit_command.proofs.FileLemmas.{audit_ready, audit_apart, audit_status}
+use Rattle.instrument_command.proofs.FileLemmas.{instrument_ready, instrumented_apart, instrument_status}
 use Rattle.model_commands.specs.declared.asked.Asked.{Asked}
 use Rattle.model_commands.specs.declared.asked.Asked.TheVariants as asked
 use Rattle.model_commands.specs.Monitors.{asked_word, monitors_of}
@@ -13,8 +15,8 @@ use Rattle.run_command.proofs.FileLemmas.{run_ready, run_apart, run_status}
 use Rattle.source_commands.proofs.FileLemmas.{check_ready, checked_apart, check_status, model_ready, modelled_apart, model_status}
 use Rattle.tool.specs.Command.{Command, IsCommandLine, IsAskedBy}
 use Rattle.tool.specs.Command.{FileCommand, TraceCommand, file_word, trace_word}
-use Rattle.tool.specs.Command.FileCommand.{Check, Model, Upgrade}
-use Rattle.tool.specs.Command.Command.{Version, Help, OfFile, OfTrace, Measure, Run}
+use Rattle.tool.specs.Command.FileCommand.{Check, Instrument, Model, Upgrade}
+use Rattle.tool.specs.Command.Command.{Version, Help, OfFile, OfTrace, Measure, Run, Audit}
 use Rattle.tool.specs.Command.TraceCommand.{Judge, Watch}
 use Rattle.tool.specs.Commands.{Makes, Refuses, IsReady}
 
@@ -52,10 +54,11 @@ one_trace_command : (which other : TraceCommand) → trace_word which ≡ trace_
 one_trace_command which other same = sym (of_trace_command which) ∙ ap (λ (w : List ℕ). trace_command_of (get_or w 0 0)) same ∙ of_trace_command other
 
 abbrev file_command_of : ℕ → FileCommand
-file_command_of byte = if nat_eq byte 99 then Check else (if nat_eq byte 109 then Model else Upgrade)
+file_command_of byte = if nat_eq byte 99 then Check else (if nat_eq byte 105 then Instrument else (if nat_eq byte 109 then Model else Upgrade))
 
 of_file_command : (which : FileCommand) → file_command_of (get_or (file_word which) 0 0) ≡ which
 of_file_command Check = refl
+of_file_command Instrument = refl
 of_file_command Model = refl
 of_file_command Upgrade = refl
 
@@ -70,6 +73,7 @@ one_command Version (OfFile other file) words line next = elim line [ inl is ↦
 one_command Version (OfTrace other m t again most) words line next = elim line [ inl is ↦ cc (is, next.1) | inr is ↦ cc (is, next.1) ]
 one_command Version (Measure m t again) words line next = elim line [ inl is ↦ cc (is, next) | inr is ↦ cc (is, next) ]
 one_command Version (Run m t again) words line next = elim line [ inl is ↦ cc (is, next.0) | inr is ↦ cc (is, next.0) ]
+one_command Version (Audit m t again greatest) words line next = elim line [ inl is ↦ cc (is, next.0) | inr is ↦ cc (is, next.0) ]
 one_command Help Version words line next = elim next [ inl is ↦ cc (is, line) | inr is ↦ cc (is, line) ]
 one_command Help Help words line next = refl
 one_command Help (OfFile other file) words line next = cc (line, next)
@@ -77,6 +81,7 @@ one_command Help (OfTrace Judge m t again most) words line next = cc (line, next
 one_command Help (OfTrace Watch m t again most) words line next = cc (line, next.1)
 one_command Help (Measure m t again) words line next = cc (line, next)
 one_command Help (Run m t again) words line next = cc (line, next.0)
+one_command Help (Audit m t again greatest) words line next = cc (line, next.0)
 one_command (OfFile which name) Version words line next = elim next [ inl is ↦ cc (is, line) | inr is ↦ cc (is, line) ]
 one_command (OfFile which name) Help words line next = cc (line, next)
 one_command (OfFile which name) (OfFile other file) words line next =
@@ -86,6 +91,7 @@ one_command (OfFile which name) (OfFile other file) words line next =
 one_command (OfFile which name) (OfTrace other m t again most) words line next = cc (line, next.1)
 one_command (OfFile which name) (Measure m t again) words line next = cc (line, next)
 one_command (OfFile which name) (Run m t again) words line next = cc (line, next.0)
+one_command (OfFile which name) (Audit m t again greatest) words line next = cc (line, next.0)
 one_command (OfTrace command model trace which bound) Version words line next = elim next [ inl is ↦ cc (is, line.1) | inr is ↦ cc (is, line.1) ]
 one_command (OfTrace Judge model trace which bound) Help words line next = cc (line.1, next)
 one_command (OfTrace Watch model trace which bound) Help words line next = cc (line.1, next)
@@ -100,7 +106,9 @@ one_command (OfTrace command model trace which bound) (OfTrace other m t again m
 one_command (OfTrace Judge model trace which bound) (Measure m t again) words line next = cc (line.1, next)
 one_command (OfTrace Watch model trace which bound) (Measure m t again) words line next = cc (line.1, next)
 one_command (OfTrace Judge model trace which bound) (Run m t again) words line next = cc (line.1, next.0)
+one_command (OfTrace Judge model trace which bound) (Audit m t again greatest) words line next = cc (line.1, next.0)
 one_command (OfTrace Watch model trace which bound) (Run m t again) words line next = cc (line.1, next.0)
+one_command (OfTrace Watch model trace which bound) (Audit m t again greatest) words line next = cc (line.1, next.0)
 one_command (Measure model trace which) Version words line next = elim next [ inl is ↦ cc (is, line) | inr is ↦ cc (is, line) ]
 one_command (Measure model trace which) Help words line next = cc (line, next)
 one_command (Measure model trace which) (OfFile other file) words line next = cc (line, next)
@@ -112,6 +120,7 @@ one_command (Measure model trace which) (Measure m t again) words line next =
     let traces : trace ≡ t = cc (line, next) in
     cc (models, traces, asked)
 one_command (Measure model trace which) (Run m t again) words line next = cc (line, next.0)
+one_command (Measure model trace which) (Audit m t again greatest) words line next = cc (line, next.0)
 one_command (Run source results turns) Version words line next = elim next [ inl is ↦ cc (is, line.0) | inr is ↦ cc (is, line.0) ]
 one_command (Run source results turns) Help words line next = cc (line.0, next)
 one_command (Run source results turns) (OfFile other file) words line next = cc (line.0, next)
@@ -123,18 +132,34 @@ one_command (Run source results turns) (Run m t again) words line next =
     let sources : source ≡ m = cc (line.0, next.0) in
     let records : results ≡ t = cc (line.0, next.0) in
     cc (sources, records, numbers)
+one_command (Run source results turns) (Audit m t again greatest) words line next = cc (line.0, next.0)
+one_command (Audit source results turns bound) Version words line next = elim next [ inl is ↦ cc (is, line.0) | inr is ↦ cc (is, line.0) ]
+one_command (Audit source results turns bound) Help words line next = cc (line.0, next)
+one_command (Audit source results turns bound) (OfFile other file) words line next = cc (line.0, next)
+one_command (Audit source results turns bound) (OfTrace Judge m t again most) words line next = cc (line.0, next.1)
+one_command (Audit source results turns bound) (OfTrace Watch m t again most) words line next = cc (line.0, next.1)
+one_command (Audit source results turns bound) (Measure m t again) words line next = cc (line.0, next)
+one_command (Audit source results turns bound) (Run m t again) words line next = cc (line.0, next.0)
+one_command (Audit source results turns bound) (Audit m t again greatest) words line next =
+    let numbers : turns ≡ again = decimal_injective turns again (omega (arith, line.1)) (omega (arith, next.1)) (cc (line.0, next.0)) in
+    let bounds : bound ≡ greatest = decimal_injective bound greatest (omega (arith, line.3)) (omega (arith, next.3)) (cc (line.0, next.0)) in
+    let sources : source ≡ m = cc (line.0, next.0) in
+    let records : results ≡ t = cc (line.0, next.0) in
+    cc (sources, records, numbers, bounds)
 
 -- a command that is ready refuses nothing
 ready_apart : (c : Command) (files : Option Files) (status : Status) (line : List ℕ) → IsReady c files → Refuses c files status line → ⊥
 ready_apart Version files status line ready refuses = refuses
 ready_apart Help files status line ready refuses = refuses
 ready_apart (OfFile Check name) files status line ready refuses = check_ready files name line status ready refuses
+ready_apart (OfFile Instrument name) files status line ready refuses = instrument_ready files name line status ready refuses
 ready_apart (OfFile Model name) files status line ready refuses = model_ready files name line status ready refuses
 ready_apart (OfFile Upgrade name) files status line ready refuses = upgrade_ready files name line status ready refuses
 ready_apart (OfTrace Judge model trace which bound) files status line ready refuses = judge_ready files model trace line status ready refuses
 ready_apart (OfTrace Watch model trace which bound) files status line ready refuses = watch_ready files model trace line status ready refuses
 ready_apart (Measure model trace which) files status line ready refuses = judge_ready files model trace line status ready refuses
 ready_apart (Run source results turns) files status line ready refuses = run_ready files source results status line ready refuses
+ready_apart (Audit source results turns bound) files status line ready refuses = audit_ready files source results status line ready refuses
 
 -- a command that makes a text refuses nothing
 made_apart : (c : Command) (files : Option Files) (status later : Status) (text line : List ℕ) → IsSome files → Makes c files status text → Refuses c files later line → ⊥
@@ -142,6 +167,7 @@ made_apart Version files status later text line told makes refuses = refuses
 made_apart Help files status later text line told makes refuses = refuses
 made_apart (OfFile which name) None status later text line told makes refuses = absurd (cc told)
 made_apart (OfFile Check name) (Some files) status later text line told makes refuses = checked_apart files name text line later makes.1 refuses
+made_apart (OfFile Instrument name) (Some files) status later text line told makes refuses = instrumented_apart files name text line later makes.1 refuses
 made_apart (OfFile Model name) (Some files) status later text line told makes refuses = modelled_apart files name text line later makes.1 refuses
 made_apart (OfFile Upgrade name) (Some files) status later text line told makes refuses = upgrade_or_refused files name text line later makes.1 refuses
 made_apart (OfTrace command model trace which bound) None status later text line told makes refuses = absurd (cc told)
@@ -151,12 +177,15 @@ made_apart (Measure model trace which) None status later text line told makes re
 made_apart (Measure model trace which) (Some files) status later text line told makes refuses = measured_apart files model trace text line (monitors_of which) status later makes refuses
 made_apart (Run source results turns) None status later text line told makes refuses = absurd (cc told)
 made_apart (Run source results turns) (Some files) status later text line told makes refuses = run_apart files source results turns text later line makes.1 refuses
+made_apart (Audit source results turns bound) None status later text line told makes refuses = absurd (cc told)
+made_apart (Audit source results turns bound) (Some files) status later text line told makes refuses = audit_apart files source results turns bound status text later line makes refuses
 
 -- two refusals of one command have one status
 same_refusal : (c : Command) (files : Option Files) (status later : Status) (line other : List ℕ) → IsSome files → Refuses c files status line → Refuses c files later other → status ≡ later
 same_refusal Version files status later line other told refuses too = absurd refuses
 same_refusal Help files status later line other told refuses too = absurd refuses
 same_refusal (OfFile Check name) files status later line other told refuses too = check_status Plain files name line status refuses ∙ sym (check_status Plain files name other later too)
+same_refusal (OfFile Instrument name) files status later line other told refuses too = instrument_status files name line status refuses ∙ sym (instrument_status files name other later too)
 same_refusal (OfFile Model name) files status later line other told refuses too = model_status files name line status refuses ∙ sym (model_status files name other later too)
 same_refusal (OfFile Upgrade name) files status later line other told refuses too = upgrade_status files name line status refuses ∙ sym (upgrade_status files name other later too)
 same_refusal (OfTrace command model trace which bound) None status later line other told refuses too = absurd (cc told)
@@ -166,6 +195,8 @@ same_refusal (Measure model trace which) None status later line other told refus
 same_refusal (Measure model trace which) (Some files) status later line other told refuses too = judge_status files model trace line other status later refuses too
 same_refusal (Run source results turns) None status later line other told refuses too = absurd (cc told)
 same_refusal (Run source results turns) (Some files) status later line other told refuses too = run_status files source results status later line other refuses too
+same_refusal (Audit source results turns bound) None status later line other told refuses too = absurd (cc told)
+same_refusal (Audit source results turns bound) (Some files) status later line other told refuses too = audit_status files source results status later line other refuses too
 
 -- the command of the words refuses nothing where it is ready
 pub ready_not_refused : (c d : Command) (words : List (List ℕ)) (files : Option Files) (status : Status) (line : List ℕ) → IsCommandLine c words → IsCommandLine d words → IsReady c files → Refuses d files status line → ⊥

@@ -12,12 +12,14 @@ IsAskedBy which bound words =
 -- The commands that read one file and write one text.
 pub data FileCommand : Type 0 where
   Check : FileCommand
+  Instrument : FileCommand
   Model : FileCommand
   Upgrade : FileCommand
 
 -- the word of such a command
 abbrev pub file_word : FileCommand → List ℕ
 file_word Check = codes "check"
+file_word Instrument = codes "instrument"
 file_word Model = codes "model"
 file_word Upgrade = codes "upgrade"
 
@@ -39,6 +41,7 @@ pub data Command : Type 0 where
   OfTrace : TraceCommand → List ℕ → List ℕ → Asked → ℕ → Command
   Measure : List ℕ → List ℕ → Asked → Command
   Run : List ℕ → List ℕ → ℕ → Command
+  Audit : List ℕ → List ℕ → ℕ → ℕ → Command
 
 -- the words of each command
 abbrev pub IsCommandLine : Command → List (List ℕ) → Type 0
@@ -49,3 +52,5 @@ IsCommandLine (OfTrace command model trace which bound) words =
     (rest : List (List ℕ)) × (words ≡ trace_word command ∷ model ∷ trace ∷ rest) × IsAskedBy which bound rest
 IsCommandLine (Measure model trace which) words = words ≡ codes "measure" ∷ model ∷ trace ∷ asked_word which ∷ []
 IsCommandLine (Run source results turns) words = (words ≡ codes "run" ∷ source ∷ results ∷ decimal turns ∷ []) × (turns ≤ 1000000)
+IsCommandLine (Audit source results turns bound) words =
+    (words ≡ codes "audit" ∷ source ∷ results ∷ decimal turns ∷ decimal bound ∷ []) × (turns ≤ 1000000) × (1 ≤ bound) × (bound ≤ 65535)

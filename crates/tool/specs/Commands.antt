@@ -6,9 +6,11 @@ use Rattle.dm_base.specs.declared.verdict.Status.TheVariants.{Done}
 use Rattle.dm_io.specs.Store.{Files, IsMissing}
 use Rattle.tool_frame.specs.Stop.{IsFinished}
 use Rattle.tool.specs.Command.{Command}
-use Rattle.tool.specs.Command.FileCommand.{Check, Model, Upgrade}
-use Rattle.tool.specs.Command.Command.{Version, Help, OfFile, OfTrace, Measure, Run}
+use Rattle.tool.specs.Command.FileCommand.{Check, Instrument, Model, Upgrade}
+use Rattle.tool.specs.Command.Command.{Version, Help, OfFile, OfTrace, Measure, Run, Audit}
 use Rattle.tool.specs.Command.TraceCommand.{Judge, Watch}
+use Rattle.audit_command.specs.Audit.{Audits, RefusesToAudit, LacksToAudit, IsReadyToAudit}
+use Rattle.instrument_command.specs.Instrument.{Instruments, RefusesToInstrument, IsReadyToInstrument}
 use Rattle.model_commands.specs.Judge.{Judges, RefusesToJudge, LacksToJudge, IsReadyToJudge}
 use Rattle.model_commands.specs.Measure.{Measures}
 use Rattle.model_commands.specs.Monitors.{monitors_of}
@@ -26,7 +28,9 @@ abbrev pub help_text : List ℕ
 help_text =
     codes "dyckmon, dyckmon --version            the version\n"
     ++ codes "dyckmon --help                        this text\n"
+    ++ codes "dyckmon audit FILE RESULTS TURNS K    the trace of the C text's instrumented program, and its verdicts\n"
     ++ codes "dyckmon check FILE                    how many functions and calls the C text has\n"
+    ++ codes "dyckmon instrument FILE               the C text with null calls round its marked calls\n"
     ++ codes "dyckmon judge MODEL TRACE WHICH [K]   the verdict lines of the model on the trace\n"
     ++ codes "dyckmon measure MODEL TRACE WHICH     how many calls may come next along the trace\n"
     ++ codes "dyckmon model FILE                    the file of the model of the C text\n"
@@ -44,6 +48,7 @@ Makes Version files status text = (status ≡ Done) × (text ≡ version_text)
 Makes Help files status text = (status ≡ Done) × (text ≡ help_text)
 Makes (OfFile which file) None status text = IsFinished status
 Makes (OfFile Check file) (Some files) status text = (status ≡ Done) × Checks files file text
+Makes (OfFile Instrument file) (Some files) status text = (status ≡ Done) × Instruments files file text
 Makes (OfFile Model file) (Some files) status text = (status ≡ Done) × Models files file text
 Makes (OfFile Upgrade file) (Some files) status text = (status ≡ Done) × Upgrades files file text
 Makes (OfTrace command model trace which bound) None status text = IsFinished status
@@ -53,18 +58,22 @@ Makes (Measure model trace which) None status text = IsFinished status
 Makes (Measure model trace which) (Some files) status text = Measures files model trace (monitors_of which) status text
 Makes (Run source results turns) None status text = IsFinished status
 Makes (Run source results turns) (Some files) status text = (status ≡ Done) × Runs files source results turns text
+Makes (Audit source results turns bound) None status text = IsFinished status
+Makes (Audit source results turns bound) (Some files) status text = Audits files source results turns bound status text
 
 -- the command refuses a file, with this status and this line
 abbrev pub Refuses : Command → Option Files → Status → List ℕ → Type 0
 Refuses Version files status line = ⊥
 Refuses Help files status line = ⊥
 Refuses (OfFile Check file) files status line = RefusesSource Plain files file status line
+Refuses (OfFile Instrument file) files status line = RefusesToInstrument files file status line
 Refuses (OfFile Model file) files status line = RefusesToModel files file status line
 Refuses (OfFile Upgrade file) files status line = RefusesToUpgrade files file status line
 Refuses (OfTrace Judge model trace which bound) files status line = RefusesToJudge files model trace status line
 Refuses (OfTrace Watch model traces which bound) files status line = RefusesToWatch files model traces status line
 Refuses (Measure model trace which) files status line = RefusesToJudge files model trace status line
 Refuses (Run source results turns) files status line = RefusesToRun files source results status line
+Refuses (Audit source results turns bound) files status line = RefusesToAudit files source results status line
 
 -- a file that the command asks for isn't there
 abbrev pub Lacks : Command → Option Files → Type 0
@@ -74,15 +83,18 @@ Lacks (OfFile which file) files = IsMissing files file
 Lacks (OfTrace command model trace which bound) files = LacksToJudge files model trace
 Lacks (Measure model trace which) files = LacksToJudge files model trace
 Lacks (Run source results turns) files = LacksToRun files source results
+Lacks (Audit source results turns bound) files = LacksToAudit files source results
 
 -- the command's files are told, and are such that it refuses none
 abbrev pub IsReady : Command → Option Files → Type 0
 IsReady Version files = Unit {0}
 IsReady Help files = Unit {0}
 IsReady (OfFile Check file) files = IsReadyToCheck files file
+IsReady (OfFile Instrument file) files = IsReadyToInstrument files file
 IsReady (OfFile Model file) files = IsReadyToModel files file
 IsReady (OfFile Upgrade file) files = IsReadyToUpgrade files file
 IsReady (OfTrace Judge model trace which bound) files = IsReadyToJudge files model trace
 IsReady (OfTrace Watch model traces which bound) files = IsReadyToWatch files model traces
 IsReady (Measure model trace which) files = IsReadyToJudge files model trace
 IsReady (Run source results turns) files = IsReadyToRun files source results
+IsReady (Audit source results turns bound) files = IsReadyToAudit files source results

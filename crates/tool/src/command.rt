@@ -1,7 +1,7 @@
 ghost use Rattle.std.specs.Prelude.{◌≡◌, ◌≤◌, ◌⊎◌, ℕ, List, [], ◌∷◌, map, string_bytes, decimal, IfSome, IfNone};
 ghost use Rattle.model_commands.specs.Monitors.{asked_word};
 ghost use Rattle.tool.specs.Command.{Command as AskedCommand, TraceCommand, IsCommandLine, IsAskedBy};
-ghost use Rattle.tool.specs.Command.Command.{OfTrace, Measure, Run};
+ghost use Rattle.tool.specs.Command.Command.{OfTrace, Measure, Run, Audit};
 ghost use Rattle.tool.specs.Command.TraceCommand.{Judge, Watch};
 ghost use Rattle.model_commands.specs.declared.asked.Asked.{Asked as AnyAsked};
 ghost use Rattle.tool.specs.Asked.{asked_by};
@@ -18,6 +18,10 @@ pub enum Command<'a> {
     Help,
     /// How many functions and call expressions the program of the C text in a file has.
     Check {
+        source: &'a str,
+    },
+    /// The C text in a file with null calls round the marked calls of its program.
+    Instrument {
         source: &'a str,
     },
     /// The text of the model of the program of the C text in a file.
@@ -50,6 +54,14 @@ pub enum Command<'a> {
         source: &'a str,
         results: &'a str,
         turns: u32,
+    },
+    /// The trace of the run of the instrumented program of the C text in a file, as `Run` has it, with the verdicts of
+    /// the monitors of the C text's own model, where at most so many calls may be open at once in the Dyck model.
+    Audit {
+        source: &'a str,
+        results: &'a str,
+        turns: u32,
+        bound: u32,
     },
     /// The precision of monitors of the model in a file along the trace in another.
     Measure {
@@ -102,6 +114,9 @@ fn file_command_of<'a>(word: &str, file: &'a str) -> Option<Command<'a>>
 {
     if word == "check" {
         return Some(Command::Check { source: file });
+    }
+    if word == "instrument" {
+        return Some(Command::Instrument { source: file });
     }
     if word == "model" {
         return Some(Command::Model { source: file });
@@ -183,7 +198,7 @@ fn trace_command_of<'a>(
     }
 }
 
-// A command of a word, two files and one more word.
+// A command of a word, two files and one or two more words.
 fn unbounded_command_of<'a>(
     word: &str,
     first: &'a str,
@@ -193,10 +208,28 @@ fn unbounded_command_of<'a>(
     ensures some { IfSome result (λ command. IsCommandLine (asked_by command) (word.now ∷ first.now ∷ second.now ∷ map string_bytes words.now)) }
     ensures measure { IfNone result ((m t : List ℕ) (which : AnyAsked) → IsCommandLine (Measure m t which) (word.now ∷ first.now ∷ second.now ∷ map string_bytes words.now) → ⊥) }
     ensures run { IfNone result ((s r : List ℕ) (turns : ℕ) → IsCommandLine (Run s r turns) (word.now ∷ first.now ∷ second.now ∷ map string_bytes words.now) → ⊥) }
+    ensures audit { IfNone result ((s r : List ℕ) (turns bound : ℕ) → IsCommandLine (Audit s r turns bound) (word.now ∷ first.now ∷ second.now ∷ map string_bytes words.now) → ⊥) }
 {
     match measure_of(word, first, second, words) {
         Some(command) => Some(command),
-        None => run_of(word, first, second, words),
+        None => running_command_of(word, first, second, words),
+    }
+}
+
+// A command that runs a program.
+fn running_command_of<'a>(
+    word: &str,
+    source: &'a str,
+    results: &'a str,
+    words: &[String],
+) -> Option<Command<'a>>
+    ensures some { IfSome result (λ command. IsCommandLine (asked_by command) (word.now ∷ source.now ∷ results.now ∷ map string_bytes words.now)) }
+    ensures run { IfNone result ((s r : List ℕ) (turns : ℕ) → IsCommandLine (Run s r turns) (word.now ∷ source.now ∷ results.now ∷ map string_bytes words.now) → ⊥) }
+    ensures audit { IfNone result ((s r : List ℕ) (turns bound : ℕ) → IsCommandLine (Audit s r turns bound) (word.now ∷ source.now ∷ results.now ∷ map string_bytes words.now) → ⊥) }
+{
+    match run_of(word, source, results, words) {
+        Some(command) => Some(command),
+        None => audit_of(word, source, results, words),
     }
 }
 
@@ -242,6 +275,49 @@ fn run_of<'a>(
         source,
         results,
         turns,
+    })
+}
+
+// The number of turns and the bound that two words are.
+fn turns_and_bound(words: &[String]) -> Option<(u32, u32)>
+    ensures some { IfSome result (λ found. (map string_bytes words.now ≡ decimal found.0 ∷ decimal found.1 ∷ []) × (found.0 ≤ 1000000) × (1 ≤ found.1) × (found.1 ≤ 65535)) }
+    ensures none { IfNone result ((turns bound : ℕ) → map string_bytes words.now ≡ decimal turns ∷ decimal bound ∷ [] → turns ≤ 1000000 → 1 ≤ bound → bound ≤ 65535 → ⊥) }
+{
+    match words {
+        [turns, bound] => both_numbers(turns, bound),
+        _ => None,
+    }
+}
+
+// The number of turns that the first word is, and the bound that the second one is.
+fn both_numbers(turns: &str, bound: &str) -> Option<(u32, u32)>
+    ensures some { IfSome result (λ found. (turns.now ≡ decimal found.0) × (bound.now ≡ decimal found.1) × (found.0 ≤ 1000000) × (1 ≤ found.1) × (found.1 ≤ 65535)) }
+    ensures none { IfNone result ((number greatest : ℕ) → turns.now ≡ decimal number → bound.now ≡ decimal greatest → number ≤ 1000000 → 1 ≤ greatest → greatest ≤ 65535 → ⊥) }
+{
+    let number = turns_of(turns)?;
+    let greatest = bound_of(bound)?;
+    Some((number, greatest))
+}
+
+// The command `audit`.
+fn audit_of<'a>(
+    word: &str,
+    source: &'a str,
+    results: &'a str,
+    words: &[String],
+) -> Option<Command<'a>>
+    ensures some { IfSome result (λ command. IsCommandLine (asked_by command) (word.now ∷ source.now ∷ results.now ∷ map string_bytes words.now)) }
+    ensures none { IfNone result ((s r : List ℕ) (turns bound : ℕ) → IsCommandLine (Audit s r turns bound) (word.now ∷ source.now ∷ results.now ∷ map string_bytes words.now) → ⊥) }
+{
+    if word != "audit" {
+        return None;
+    }
+    let (turns, bound) = turns_and_bound(words)?;
+    Some(Command::Audit {
+        source,
+        results,
+        turns,
+        bound,
     })
 }
 

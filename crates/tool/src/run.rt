@@ -6,8 +6,10 @@ ghost use Rattle.tool.specs.Stop.{HasStop, IsWorked};
 ghost use Rattle.tool_frame.specs.Stop.{IsFinished};
 
 use crate::command::{Command, command_of};
+use audit_command::audit_source;
 use dm_base::{OutOfMemory, Status};
 use dm_io::{HonestSink, HonestStore, Sink, Store, write_whole};
+use instrument_command::instrument_source;
 use model_commands::{judge, measure, upgrade, watch_traces};
 use run_command::run_source;
 use source_commands::{check_source, model_of_source};
@@ -19,7 +21,9 @@ const VERSION_TEXT: &[u8] = b"dyckmon 1\n";
 const HELP_TEXT: &[u8] = b"\
 dyckmon, dyckmon --version            the version
 dyckmon --help                        this text
+dyckmon audit FILE RESULTS TURNS K    the trace of the C text's instrumented program, and its verdicts
 dyckmon check FILE                    how many functions and calls the C text has
+dyckmon instrument FILE               the C text with null calls round its marked calls
 dyckmon judge MODEL TRACE WHICH [K]   the verdict lines of the model on the trace
 dyckmon measure MODEL TRACE WHICH     how many calls may come next along the trace
 dyckmon model FILE                    the file of the model of the C text
@@ -62,6 +66,7 @@ fn work<S: Store>(alloc: Global, words: &[String], store: &mut S) -> Result<Fini
             },
         ) => measure(alloc, store, model, trace, asked),
         Some(Command::Check { source }) => check_source(alloc, store, source),
+        Some(Command::Instrument { source }) => instrument_source(alloc, store, source),
         Some(Command::Model { source }) => model_of_source(alloc, store, source),
         Some(Command::Upgrade { model }) => upgrade(alloc, store, model),
         Some(
@@ -71,6 +76,14 @@ fn work<S: Store>(alloc: Global, words: &[String], store: &mut S) -> Result<Fini
                 turns,
             },
         ) => run_source(alloc, store, source, results, turns),
+        Some(
+            Command::Audit {
+                source,
+                results,
+                turns,
+                bound,
+            },
+        ) => audit_source(alloc, store, source, results, turns, bound),
         Some(
             Command::Judge {
                 model,
