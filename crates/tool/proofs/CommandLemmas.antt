@@ -65,6 +65,10 @@ of_file_command Upgrade = refl
 one_file_command : (which other : FileCommand) → file_word which ≡ file_word other → which ≡ other
 one_file_command which other same = sym (of_file_command which) ∙ ap (λ (w : List ℕ). file_command_of (get_or w 0 0)) same ∙ of_file_command other
 
+-- the first letter of the words' first word
+letter : (words : List (List ℕ)) (a b : List ℕ) (s t : List (List ℕ)) → words ≡ a ∷ s → words ≡ b ∷ t → get_or a 0 0 ≡ get_or b 0 0
+letter words a b s t one two = ap (λ (ws : List (List ℕ)). get_or (get_or ws 0 []) 0 0) (sym one ∙ two)
+
 -- words ask for one command
 one_command : (c d : Command) (words : List (List ℕ)) → IsCommandLine c words → IsCommandLine d words → c ≡ d
 one_command Version Version words line next = refl
@@ -106,9 +110,13 @@ one_command (OfTrace command model trace which bound) (OfTrace other m t again m
 one_command (OfTrace Judge model trace which bound) (Measure m t again) words line next = cc (line.1, next)
 one_command (OfTrace Watch model trace which bound) (Measure m t again) words line next = cc (line.1, next)
 one_command (OfTrace Judge model trace which bound) (Run m t again) words line next = cc (line.1, next.0)
-one_command (OfTrace Judge model trace which bound) (Audit m t again greatest) words line next = cc (line.1, next.0)
+one_command (OfTrace Judge model trace which bound) (Audit m t again greatest) words line next =
+    let letters : 106 ≡ 97 = letter words (trace_word Judge) (codes "audit") _ _ line.1 next.0 in
+    cc letters
 one_command (OfTrace Watch model trace which bound) (Run m t again) words line next = cc (line.1, next.0)
-one_command (OfTrace Watch model trace which bound) (Audit m t again greatest) words line next = cc (line.1, next.0)
+one_command (OfTrace Watch model trace which bound) (Audit m t again greatest) words line next =
+    let letters : 119 ≡ 97 = letter words (trace_word Watch) (codes "audit") _ _ line.1 next.0 in
+    cc letters
 one_command (Measure model trace which) Version words line next = elim next [ inl is ↦ cc (is, line) | inr is ↦ cc (is, line) ]
 one_command (Measure model trace which) Help words line next = cc (line, next)
 one_command (Measure model trace which) (OfFile other file) words line next = cc (line, next)
@@ -136,8 +144,12 @@ one_command (Run source results turns) (Audit m t again greatest) words line nex
 one_command (Audit source results turns bound) Version words line next = elim next [ inl is ↦ cc (is, line.0) | inr is ↦ cc (is, line.0) ]
 one_command (Audit source results turns bound) Help words line next = cc (line.0, next)
 one_command (Audit source results turns bound) (OfFile other file) words line next = cc (line.0, next)
-one_command (Audit source results turns bound) (OfTrace Judge m t again most) words line next = cc (line.0, next.1)
-one_command (Audit source results turns bound) (OfTrace Watch m t again most) words line next = cc (line.0, next.1)
+one_command (Audit source results turns bound) (OfTrace Judge m t again most) words line next =
+    let letters : 97 ≡ 106 = letter words (codes "audit") (trace_word Judge) _ _ line.0 next.1 in
+    cc letters
+one_command (Audit source results turns bound) (OfTrace Watch m t again most) words line next =
+    let letters : 97 ≡ 119 = letter words (codes "audit") (trace_word Watch) _ _ line.0 next.1 in
+    cc letters
 one_command (Audit source results turns bound) (Measure m t again) words line next = cc (line.0, next)
 one_command (Audit source results turns bound) (Run m t again) words line next = cc (line.0, next.0)
 one_command (Audit source results turns bound) (Audit m t again greatest) words line next =
