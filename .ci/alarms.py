@@ -1,13 +1,15 @@
 #!/usr/bin/env python3
 """alarms.py PROGRAM: for each C text of .ci/alarms.txt and each number of turns from 0 to 30, the trace that the command `run` writes is
-judged by the model that `model` writes of the text: the callgraph and the stack monitor have to accept it whole. The status is 0
-where they do.
+judged by the model that `model` writes of the text: the callgraph and the stack monitor have to accept it whole. The text that
+`instrument` writes is run too: it has to end alike, with the same events but for null calls, and the three monitors have to accept its
+trace whole. `audit` has to write that trace and those verdicts. The status is 0 where all is so.
 
 .ci/alarms.txt has a line `# WHAT IT SHOWS`, a line `R RESULT ..` with the results in their order, and the text in the lines below,
 for each text; an empty line ends it. A text may be that of a file of the repository: `from PATH`."""
 import concurrent.futures
 import os
 import pathlib
+import re
 import subprocess
 import sys
 import tempfile
@@ -41,6 +43,10 @@ def wrong(program, shows, results, text):
         pathlib.Path(folder, 'm').write_text(model)
         if status:
             return [f'{shows}: model ends with {status}: {error}']
+        status, instrumented, error = said('instrument', 'f')
+        pathlib.Path(folder, 'i').write_text(instrumented)
+        if status:
+            return [f'{shows}: instrument ends with {status}: {error}']
         longest = 0
         for turns in range(MOST_TURNS + 1):
             status, trace, error = said('run', 'f', 'r', str(turns))
@@ -53,6 +59,17 @@ def wrong(program, shows, results, text):
             for monitor in ('callgraph', 'stack'):
                 if said('judge', 'm', 't', monitor) != (0, f'{monitor} accepted {events}\n', ''):
                     found.append(f'{shows}, {turns} turns: {monitor} does not accept:\n{trace}')
+            _, shown, _ = said('run', 'i', 'r', str(turns))
+            pathlib.Path(folder, 's').write_text(shown)
+            if ''.join(it for it in shown.splitlines(True) if it[:2] not in ('B ', 'E ')) != trace:
+                found.append(f'{shows}, {turns} turns: the instrumented text does not do what the text does:\n{shown}')
+            events = shown.count('\n') - 2
+            verdicts = ''.join(f'{it} accepted {events}\n' for it in ('callgraph', 'stack', 'dyck'))
+            if said('judge', 'm', 's', 'all') != (0, verdicts, ''):
+                found.append(f'{shows}, {turns} turns: the trace of the instrumented text is not accepted:\n{shown}')
+            status, audit, _ = said('audit', 'f', 'r', str(turns), '1000')
+            if status or not re.fullmatch(re.escape(shown + verdicts) + r'next \d+ \d+ \d+\n', audit):
+                found.append(f'{shows}, {turns} turns: audit writes something else, with status {status}:\n{audit}')
         if not longest:
             found.append(f'{shows}: no run has an event')
     return found
