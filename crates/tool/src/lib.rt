@@ -2,6 +2,8 @@
 #![tactic(auto)]
 
 mod command;
+mod laws;
 mod run;
 
+pub use laws::the_headline_holds;
 pub use run::{run_in_memory, run_tool};
