@@ -65,8 +65,8 @@ pub fn run_failing(
 pub fn run_honest(alloc: Global, row: &Row) -> Result<Answer, Fail> {
     let words = strings(alloc, row.0)?;
     let mut store = MemoryStore::never(named(alloc, row.1)?);
-    let mut out = MemorySink::reserved(alloc, 1_000)?;
-    let mut err = MemorySink::reserved(alloc, 1_000)?;
+    let mut out = MemorySink::reserved(alloc, 4_000)?;
+    let mut err = MemorySink::reserved(alloc, 4_000)?;
     let status = run_in_memory(alloc, &words, &mut store, &mut out, &mut err);
     Ok(Answer {
         status,
