@@ -1,16 +1,16 @@
 -- Comma expressions, calls, and lists of expressions in turn.
-use Rattle.std.proofs.Common.{◌≡◌, ℕ, zero, suc, ◌+◌, ◌-◌, ◌<◌, ◌≤◌, Bool, true, false, nat_eq, List, [], ◌∷◌, ◌++◌, length, drop, get_or, Vec, Global, Result, Ok, Err, OnOk, refl, sym, ap, ◌∙◌, arith}
+use Rattle.std.proofs.Common.{◌≡◌, ℕ, suc, ◌+◌, ◌-◌, ◌<◌, ◌≤◌, Bool, true, false, nat_eq, List, [], ◌∷◌, ◌++◌, length, drop, get_or, Vec, Global, Result, Ok, Err, OnOk, refl, sym, ap, ◌∙◌, arith}
 use Rattle.std.specs.Prelude.{Box, ◌&&◌}
 use Rattle.std.proofs.lemmas.Bool.{eqb-true, eqb-false}
 use Rattle.std.proofs.lemmas.List.{append_assoc, append-nil, length-drop}
 use Rattle.c_syntax.specs.declared.tree.Expr.{Expr as ExprTree}
 use Rattle.c_syntax.specs.declared.tree.ExprKind.TheVariants.{Comma, Call}
-use Rattle.c_syntax.specs.Tree.{Expr, comma, call, Exprs, no_exprs, more_exprs}
+use Rattle.c_syntax.specs.Tree.{Expr, comma, call, Exprs, more_exprs}
 use Rattle.c_syntax.specs.View.{expr_at, expr_of}
 use Rattle.c_syntax.specs.Writes.{exprs_of}
 use Rattle.c_rules.specs.Counts.{calls, calls_of_all}
 use Rattle.c_counts.proofs.Rows.{comma_is, call_is}
-use Rattle.null_calls.specs.MarkedCalls.{Sites, Called}
+use Rattle.null_calls.specs.MarkedCalls.{Sites}
 use Rattle.null_calls.specs.Temporaries.{Temporary, temporaries_where}
 use Rattle.null_calls.specs.BracketedExpressions.{call_where, expr, kept, arguments, members, kept_of_arguments, kept_of_members}
 use Rattle.spelled_temporaries.proofs.KeptLemmas.{at_place, all_gone}

@@ -1,5 +1,5 @@
 -- Where the value of an operand isn't wanted.
-use Rattle.std.proofs.Common.{◌≡◌, ℕ, zero, suc, ◌+◌, ◌<◌, Bool, true, false, nat_eq, List, [], ◌∷◌, ◌++◌, length, drop, Option, Some, None, Global, refl, sym, ap, ◌∙◌, arith}
+use Rattle.std.proofs.Common.{◌≡◌, ℕ, Bool, true, false, List, ◌++◌, Option, Some, None, Global, refl, sym, ap, ◌∙◌}
 use Rattle.std.specs.Prelude.{Box, not, if◌then◌else◌}
 use Rattle.c_syntax.specs.declared.tree.Expr.{Expr as ExprTree}
 use Rattle.c_syntax.specs.declared.tree.ExprKind.{ExprKind, Int, Char, Str, Comma', SizeofType, Cast', Call', Member', Arrow', PostInc', PostDec', PreInc', PreDec', SizeofExpr', Unary', Index', And', Or', Binary', Assign', Cond'}
