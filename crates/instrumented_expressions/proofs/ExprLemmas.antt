@@ -1,15 +1,16 @@
 -- Comma expressions, calls, and lists of expressions in turn.
-use Rattle.std.proofs.Common.{◌≡◌, ℕ, zero, suc, ◌+◌, ◌<◌, ◌≤◌, Bool, true, false, nat_eq, List, [], ◌∷◌, ◌++◌, length, drop, get_or, Vec, Global, Result, Ok, Err, OnOk, refl, sym, ap, ◌∙◌, arith}
+use Rattle.std.proofs.Common.{◌≡◌, ℕ, suc, ◌+◌, ◌-◌, ◌<◌, ◌≤◌, Bool, true, false, nat_eq, List, [], ◌∷◌, ◌++◌, length, drop, get_or, Vec, Global, Result, Ok, Err, OnOk, refl, sym, ap, ◌∙◌, arith}
 use Rattle.std.specs.Prelude.{Box, ◌&&◌}
-use Rattle.std.proofs.lemmas.List.{append_assoc, append-nil}
+use Rattle.std.proofs.lemmas.Bool.{eqb-true, eqb-false}
+use Rattle.std.proofs.lemmas.List.{append_assoc, append-nil, length-drop}
 use Rattle.c_syntax.specs.declared.tree.Expr.{Expr as ExprTree}
 use Rattle.c_syntax.specs.declared.tree.ExprKind.TheVariants.{Comma, Call}
-use Rattle.c_syntax.specs.Tree.{Expr, comma, call, Exprs, no_exprs, more_exprs}
+use Rattle.c_syntax.specs.Tree.{Expr, comma, call, Exprs, more_exprs}
 use Rattle.c_syntax.specs.View.{expr_at, expr_of}
 use Rattle.c_syntax.specs.Writes.{exprs_of}
 use Rattle.c_rules.specs.Counts.{calls, calls_of_all}
 use Rattle.c_counts.proofs.Rows.{comma_is, call_is}
-use Rattle.null_calls.specs.MarkedCalls.{Sites, Called}
+use Rattle.null_calls.specs.MarkedCalls.{Sites}
 use Rattle.null_calls.specs.Temporaries.{Temporary, temporaries_where}
 use Rattle.null_calls.specs.BracketedExpressions.{call_where, expr, kept, arguments, members, kept_of_arguments, kept_of_members}
 use Rattle.spelled_temporaries.proofs.KeptLemmas.{at_place, all_gone}
@@ -99,11 +100,23 @@ abbrev is_last : {A : Type 0} → List A → Bool
 is_last [] = true
 is_last (x ∷ xs) = false
 
+is_last_when : {A : Type 0} (xs : List A) → length xs ≡ 0 → is_last xs ≡ true
+is_last_when [] h = refl
+is_last_when (x ∷ xs) h = absurd (omega (arith, h))
+
+is_last_not : {A : Type 0} (xs : List A) → (length xs ≡ 0 → ⊥) → is_last xs ≡ false
+is_last_not [] h = absurd (h refl)
+is_last_not (x ∷ xs) h = refl
+
 last_at : {A : Type 0} (es : List A) (i : ℕ) → i < length es → is_last (drop (i + 1) es) ≡ nat_eq (i + 1) (length es)
-last_at [] i lt = absurd (omega (arith, lt))
-last_at (x ∷ []) zero lt = refl
-last_at (x ∷ y ∷ xs) zero lt = refl
-last_at (x ∷ xs) (suc i) lt = last_at xs i (omega (arith, lt))
+last_at es i lt = by (nat_eq (i + 1) (length es)) refl
+  where
+    left : length (drop (i + 1) es) ≡ length es - (i + 1)
+    left = length-drop (i + 1) es
+
+    by : (t : Bool) → nat_eq (i + 1) (length es) ≡ t → is_last (drop (i + 1) es) ≡ t
+    by true h = let all = eqb-true (i + 1) (length es) h in is_last_when (drop (i + 1) es) (omega (arith, left, all))
+    by false h = is_last_not (drop (i + 1) es) (λ z. eqb-false (i + 1) (length es) h (omega (arith, left, z, lt)))
 
 one_member : (sites : Sites) (b : ℕ) (w : Bool) (e : ExprTree) (es : List ExprTree) → members sites b w (exprs_of (e ∷ es)) ≡ more_exprs (expr sites b (w && is_last es) (expr_of e)) (members sites (b + calls (expr_of e)) w (exprs_of es))
 one_member sites b true e [] = refl
@@ -178,3 +191,9 @@ no_calls b n h = omega (arith, h)
 
 pub none_new : (old more : List Temporary) → more ≡ [] → old ≡ old ++ more
 none_new old more h = sym (append-nil old) ∙ ap (λ xs. old ++ xs) (sym h)
+
+-- ## An expression that stands for another
+
+pub on_like : {A E P Q : Type 0} (r : Result A E) → (P → Q) → OnOk r P → OnOk r Q
+on_like (Ok a) f p = f p
+on_like (Err e) f p = tt

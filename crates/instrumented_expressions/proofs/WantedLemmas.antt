@@ -1,5 +1,5 @@
 -- Where the value of an operand isn't wanted.
-use Rattle.std.proofs.Common.{◌≡◌, ℕ, zero, suc, ◌+◌, ◌<◌, Bool, true, false, nat_eq, List, [], ◌∷◌, ◌++◌, length, drop, Option, Some, None, Global, refl, sym, ap, ◌∙◌, arith}
+use Rattle.std.proofs.Common.{◌≡◌, ℕ, Bool, true, false, List, ◌++◌, Option, Some, None, Global, refl, sym, ap, ◌∙◌}
 use Rattle.std.specs.Prelude.{Box, not, if◌then◌else◌}
 use Rattle.c_syntax.specs.declared.tree.Expr.{Expr as ExprTree}
 use Rattle.c_syntax.specs.declared.tree.ExprKind.{ExprKind, Int, Char, Str, Comma', SizeofType, Cast', Call', Member', Arrow', PostInc', PostDec', PreInc', PreDec', SizeofExpr', Unary', Index', And', Or', Binary', Assign', Cond'}
@@ -8,11 +8,12 @@ use Rattle.c_syntax.specs.declared.tree.ExprKind.TheVariants.{Unary}
 use Rattle.c_syntax.specs.declared.tree.TypeName.{TypeName as TypeTree, out-TypeName}
 use Rattle.c_syntax.specs.declared.tree.Declarator.{Declarator as DeclaratorTree}
 use Rattle.c_syntax.specs.declared.tree.DeclaratorKind.{DeclaratorKind, Name, Pointer', Array', Function'}
-use Rattle.c_syntax.specs.View.{spec_of, expr_at, type_name_of, declarator_at}
+use Rattle.c_syntax.specs.View.{spec_of, expr_at, expr_of, type_name_of, declarator_at}
 use Rattle.c_syntax.specs.Writes.{declarator_in}
 use Rattle.c_counts.proofs.Rows.{type_name_is}
 use Rattle.c_syntax.specs.Tree.{Spec, void, char, unsigned_char, int, unsigned_int, struct, enum, type_name, nothing}
 use Rattle.c_syntax.specs.Tree.{Expr, a_name, an_int, a_char, a_str, comma, sizeof_type, cast, call, member, postfix, prefix, unary, index, binary, assign, conditional, TypeName}
+use Rattle.c_rules.specs.Counts.{calls}
 use Rattle.null_calls.specs.MarkedCalls.{Sites}
 use Rattle.null_calls.specs.Temporaries.{Temporary}
 use Rattle.null_calls.specs.BracketedExpressions.{is_void_type, expr, kept}
@@ -115,27 +116,52 @@ without_declarator n b is h = h (out-TypeName n).at ∙ sym (told_by n None is)
 -- ## Operators that are left out
 
 -- an operator that is left out with its own has the form of one
-pub is_unary : (g : Global) (w : Bool) (op at : ℕ) (k : ExprKind) → ((inner : ℕ) (x : Box ExprTree Global) → k ≡ Unary inner x → ⊥) → is_left_out w op (expr_at at k) ≡ true → ⊥
-is_unary g true op at k never h = cc
-is_unary g false op at (Unary' inner p a k) never h = never inner (record { ptr = p; alloc = g; value = record { at = a; kind = k } }) refl
-is_unary g false op at (Named n) never h = cc
-is_unary g false op at (Int v u) never h = cc
-is_unary g false op at (Char c) never h = cc
-is_unary g false op at (Str s) never h = cc
-is_unary g false op at (Comma' shape row) never h = cc
-is_unary g false op at (SizeofType n) never h = cc
-is_unary g false op at (Cast' n p a k) never h = cc
-is_unary g false op at (Call' p a k shape row) never h = cc
-is_unary g false op at (Member' p a k x) never h = cc
-is_unary g false op at (Arrow' p a k x) never h = cc
-is_unary g false op at (PostInc' p a k) never h = cc
-is_unary g false op at (PostDec' p a k) never h = cc
-is_unary g false op at (PreInc' p a k) never h = cc
-is_unary g false op at (PreDec' p a k) never h = cc
-is_unary g false op at (SizeofExpr' p a k) never h = cc
-is_unary g false op at (Index' p a k q b l) never h = cc
-is_unary g false op at (And' p a k q b l) never h = cc
-is_unary g false op at (Or' p a k q b l) never h = cc
-is_unary g false op at (Binary' o p a k q b l) never h = cc
-is_unary g false op at (Assign' o p a k q b l) never h = cc
-is_unary g false op at (Cond' p a k q b l r d m) never h = cc
+pub is_unary : (w : Bool) (op at : ℕ) (k : ExprKind) → ((inner : ℕ) (x : Box ExprTree Global) → k ≡ Unary inner x → ⊥) → is_left_out w op (expr_at at k) ≡ true → ⊥
+is_unary true op at k never h = cc
+is_unary false op at (Unary' inner p a k) never h = never inner (record { ptr = p.ptr; alloc = p.alloc; value = record { at = a; kind = k } }) refl
+is_unary false op at (Named n) never h = cc
+is_unary false op at (Int v u) never h = cc
+is_unary false op at (Char c) never h = cc
+is_unary false op at (Str s) never h = cc
+is_unary false op at (Comma' shape row) never h = cc
+is_unary false op at (SizeofType n) never h = cc
+is_unary false op at (Cast' n p a k) never h = cc
+is_unary false op at (Call' p a k shape row) never h = cc
+is_unary false op at (Member' p a k x) never h = cc
+is_unary false op at (Arrow' p a k x) never h = cc
+is_unary false op at (PostInc' p a k) never h = cc
+is_unary false op at (PostDec' p a k) never h = cc
+is_unary false op at (PreInc' p a k) never h = cc
+is_unary false op at (PreDec' p a k) never h = cc
+is_unary false op at (SizeofExpr' p a k) never h = cc
+is_unary false op at (Index' p a k q b l) never h = cc
+is_unary false op at (And' p a k q b l) never h = cc
+is_unary false op at (Or' p a k q b l) never h = cc
+is_unary false op at (Binary' o p a k q b l) never h = cc
+is_unary false op at (Assign' o p a k q b l) never h = cc
+is_unary false op at (Cond' p a k q b l r d m) never h = cc
+
+-- ## An expression where both operators are left out
+
+module _ (sites : Sites) (b : ℕ) (w : Bool) (e : ExprTree) (op : ℕ) (a : Box ExprTree Global) (is : e.kind ≡ Unary op a) (left : true ≡ is_left_out w op (expr_of a.value)) where
+  module _ (inner : ℕ) (x : Box ExprTree Global) (under : a.value.kind ≡ Unary inner x) where
+    operand_is : expr_of a.value ≡ unary a.value.at inner (expr_of x.value)
+    operand_is = ap (expr_at a.value.at) under
+
+    whole_is : expr_of e ≡ unary e.at op (unary a.value.at inner (expr_of x.value))
+    whole_is = ap (expr_at e.at) is ∙ ap (unary e.at op) operand_is
+
+    left_is : is_left_out w op (unary a.value.at inner (expr_of x.value)) ≡ true
+    left_is = ap (is_left_out w op) (sym operand_is) ∙ sym left
+
+    pub alone_tree : expr sites b false (expr_of x.value) ≡ expr sites b w (expr_of e)
+    alone_tree = without_tree sites b w e.at op a.value.at inner (expr_of x.value) left_is ∙ ap (expr sites b w) (sym whole_is)
+
+    pub alone_kept : kept sites b false (expr_of x.value) ≡ kept sites b w (expr_of e)
+    alone_kept = without_kept sites b w e.at op a.value.at inner (expr_of x.value) left_is ∙ ap (kept sites b w) (sym whole_is)
+
+    pub alone_calls : calls (expr_of x.value) ≡ calls (expr_of e)
+    alone_calls = ap calls (sym whole_is)
+
+  pub never_other : ((inner : ℕ) (x : Box ExprTree Global) → a.value.kind ≡ Unary inner x → ⊥) → ⊥
+  never_other never = is_unary w op a.value.at a.value.kind never (sym left)

@@ -1,5 +1,6 @@
 use Rattle.std.proofs.Common.{◌≡◌, ◌+◌, ◌++◌, ◌∙◌, true, false, ap, sym}
 use Rattle.std.specs.Prelude.{not}
+use Rattle.c_syntax.specs.declared.tree.Expr.{Expr as ExprTree}
 use Rattle.c_syntax.specs.Tree.{cast, member, dot, arrow, postfix, post_increment, post_decrement, prefix, pre_increment, pre_decrement, unary, index, binary, and, or, operator, assign, conditional}
 use Rattle.c_syntax.specs.View.{ident_of, expr_at, expr_of, type_name_of}
 use Rattle.c_syntax.specs.Writes.{exprs_of}
@@ -10,8 +11,8 @@ use Rattle.null_calls.specs.Temporaries.{temporaries_where}
 use Rattle.null_calls.specs.BracketedExpressions as marks
 use Rattle.spelled_temporaries.specs.Kept.{temporaries_of}
 use Rattle.instrumented_expressions.specs.Wanted.{is_left_out}
-use Rattle.instrumented_expressions.proofs.ExprLemmas.{comma_tree, comma_kept, comma_calls, call_tree, call_kept, call_calls, arguments_more, kept_more, calls_more, arguments_end, kept_end, members_end, members_kept_end, calls_end, members_more, members_kept_more, two_tree, two_kept, three_tree, three_kept, two_calls, three_calls, on_any, none_new, no_calls}
-use Rattle.instrumented_expressions.proofs.WantedLemmas.{cast_tree, cast_kept, stays_tree, stays_kept}
+use Rattle.instrumented_expressions.proofs.ExprLemmas.{comma_tree, comma_kept, comma_calls, call_tree, call_kept, call_calls, arguments_more, kept_more, calls_more, arguments_end, kept_end, members_end, members_kept_end, calls_end, members_more, members_kept_more, two_tree, two_kept, three_tree, three_kept, two_calls, three_calls, on_any, on_like, none_new, no_calls}
+use Rattle.instrumented_expressions.proofs.WantedLemmas.{cast_tree, cast_kept, stays_tree, stays_kept, alone_tree, alone_kept, alone_calls, never_other}
 use Rattle.instrumented_expressions.proofs.expressions.+expressions.Goals as goal
 
 pub arguments-loop-i-preserved : goal.arguments-loop-i-preserved
@@ -650,3 +651,33 @@ expression-returns-in_ok-made-in-Unary-clause-counts t c =
     let b = c.args.next.now in
     let at = c.args.e.now.at in
     c.in_ok-operand-in-Unary.ensures.counts ∙ (ap (λ x. b + calls (expr_of x)) c.deref-in-Unary-2.ensures ∙ sym (ap (λ k. b + calls (expr_at at k)) c.in-Unary.is))
+
+pub expression-unreachable-requires : goal.expression-unreachable-requires
+expression-unreachable-requires t c =
+    let left = c.if-is_without.ensures ∙ ap (λ x. is_left_out c.args.wanted c.in-Unary.op (expr_of x)) c.deref-in-Unary.ensures in
+    never_other (sited c.args.table.now) c.args.next.now c.args.wanted c.args.e.now c.in-Unary.op c.in-Unary.a c.in-Unary.is left (λ inner x q. c.in_default.not-Unary inner x (ap (λ (y : ExprTree). y.kind) c.deref-then-is_without.ensures ∙ q))
+
+pub expression-returns-then-is_without-clause-tree : goal.expression-returns-then-is_without-clause-tree
+expression-returns-then-is_without-clause-tree t c =
+    let s = sited c.args.table.now in
+    let b = c.args.next.now in
+    let left = c.if-is_without.ensures ∙ ap (λ x. is_left_out c.args.wanted c.in-Unary.op (expr_of x)) c.deref-in-Unary.ensures in
+    let under = ap (λ (y : ExprTree). y.kind) (sym c.deref-then-is_without.ensures) ∙ c.in-Unary-kind.is in
+    made_as expr_of c.expression-then-is_without.result _ _ (ap (λ x. marks.expr s b false (expr_of x)) c.deref-then-is_without-2.ensures ∙ alone_tree s b c.args.wanted c.args.e.now c.in-Unary.op c.in-Unary.a c.in-Unary.is left _ c.in-Unary-kind.inner under) c.expression-then-is_without.ensures.tree
+
+pub expression-returns-then-is_without-clause-keeps : goal.expression-returns-then-is_without-clause-keeps
+expression-returns-then-is_without-clause-keeps t c =
+    let s = sited c.args.table.now in
+    let b = c.args.next.now in
+    let old = temporaries_of c.args.kept.now.items in
+    let left = c.if-is_without.ensures ∙ ap (λ x. is_left_out c.args.wanted c.in-Unary.op (expr_of x)) c.deref-in-Unary.ensures in
+    let under = ap (λ (y : ExprTree). y.kind) (sym c.deref-then-is_without.ensures) ∙ c.in-Unary-kind.is in
+    on_like c.expression-then-is_without.result (λ h. h ∙ ap (λ xs. old ++ xs) (ap (λ x. marks.kept s b false (expr_of x)) c.deref-then-is_without-2.ensures ∙ alone_kept s b c.args.wanted c.args.e.now c.in-Unary.op c.in-Unary.a c.in-Unary.is left _ c.in-Unary-kind.inner under)) c.expression-then-is_without.ensures.keeps
+
+pub expression-returns-then-is_without-clause-counts : goal.expression-returns-then-is_without-clause-counts
+expression-returns-then-is_without-clause-counts t c =
+    let s = sited c.args.table.now in
+    let b = c.args.next.now in
+    let left = c.if-is_without.ensures ∙ ap (λ x. is_left_out c.args.wanted c.in-Unary.op (expr_of x)) c.deref-in-Unary.ensures in
+    let under = ap (λ (y : ExprTree). y.kind) (sym c.deref-then-is_without.ensures) ∙ c.in-Unary-kind.is in
+    on_like c.expression-then-is_without.result (λ h. h ∙ ap (λ n. b + n) (ap (λ x. calls (expr_of x)) c.deref-then-is_without-2.ensures ∙ alone_calls s b c.args.wanted c.args.e.now c.in-Unary.op c.in-Unary.a c.in-Unary.is left _ c.in-Unary-kind.inner under)) c.expression-then-is_without.ensures.counts

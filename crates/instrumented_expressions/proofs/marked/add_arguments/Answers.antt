@@ -2,9 +2,7 @@ use Rattle.std.proofs.Common.{◌≡◌, ◌∙◌, length, ap, arith}
 use Rattle.c_syntax.specs.Tree.{a_name}
 use Rattle.c_syntax.specs.View.{expr_of}
 use Rattle.null_calls.specs.Temporaries.{argument_name}
-use Rattle.c_syntax.specs.Writes.{exprs_of}
 use Rattle.null_calls.specs.BracketedExpressions as marks
-use Rattle.instrumented_expressions.specs.Lists.{exprs_onto}
 use Rattle.instrumented_expressions.proofs.MarkedLemmas.{none_kept, none_passed, keeps_more, passes_more, all_kept, all_passed}
 use Rattle.instrumented_expressions.proofs.marked.add_arguments.Goals as goal
 

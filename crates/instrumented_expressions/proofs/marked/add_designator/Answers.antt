@@ -1,5 +1,4 @@
 use Rattle.std.proofs.Common.{ap, ◌∙◌}
-use Rattle.c_tree.specs.View.{ctype_of}
 use Rattle.c_syntax.specs.Tree.{a_name}
 use Rattle.c_syntax.specs.View.{expr_of}
 use Rattle.marked_sites.specs.Sited.{type_where}
