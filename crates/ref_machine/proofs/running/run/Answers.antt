@@ -1,4 +1,6 @@
 use Rattle.std.proofs.Common.{sym, subst}
+use Rattle.std.proofs.lemmas.List.Elements.{All-nil}
+use Rattle.sys_table.specs.Table.{IsRecorded}
 use Rattle.c_meaning.specs.Meaning.{Marks}
 use Rattle.c_meaning.specs.Runs.{Run, no_marks, run}
 use Rattle.c_tree.specs.View.{program_of}
@@ -16,4 +18,4 @@ pub returns-clause-typed : goal.returns-clause-typed
 returns-clause-typed c =
     let p = program_of c.args.program.now in
     subst IsTypedRun (sym c.in_ok-found.ensures)
-    (c.values_have_kinds.ensures.runs p c.sites-_sites.result c.sites-_sites.ensures.typed no_marks (λ site. ({}, {})) c.args.results.now c.args.turns)
+    (c.values_have_kinds.ensures.runs p c.sites-_sites.result c.sites-_sites.ensures.typed no_marks (λ site. (All-nil IsRecorded, All-nil IsRecorded)) c.args.results.now c.args.turns)

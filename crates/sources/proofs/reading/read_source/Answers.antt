@@ -29,8 +29,10 @@ returns-in-Err-parse-clause-none c =
 
 pub check-requires : goal.check-requires
 check-requires c =
-    record { lexical = c.a_spelled_unit_is_lexical.ensures c.args.text.now c.args.mode c.in-Ok.found.items (items_of c.in-Ok-parse.unit.items.items) c.in-Ok.ensures.spelled
-    (subst (λ (ts : List Token). SpellsUnit (items_of c.in-Ok-parse.unit.items.items) ts c.args.mode) c.deref.ensures.value c.in-Ok-parse.ensures.spelled) }
+    record {
+      lexical = c.a_spelled_unit_is_lexical.ensures c.args.text.now c.args.mode c.in-Ok.found.items (items_of c.in-Ok-parse.unit.items.items) c.in-Ok.ensures.spelled
+          (subst (λ (ts : List Token). SpellsUnit (items_of c.in-Ok-parse.unit.items.items) ts c.args.mode) c.deref.ensures.value c.in-Ok-parse.ensures.spelled);
+    }
 
 pub returns-in-Err-check-clause-cause : goal.returns-in-Err-check-clause-cause
 returns-in-Err-check-clause-cause c =
