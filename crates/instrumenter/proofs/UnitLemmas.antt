@@ -27,9 +27,9 @@ module _ (sites : Sites) (tags : List Name) (b n : ℕ) where
 
 pub unit_made : (p : Program) (u : Items) (sites : Sites) (tags : List Name) (x y : Item) (rest : Items) → ((s : ℕ) → sites s ≡ sites_of p s) → tags ≡ tags_of u → x ≡ null_prototype pre_name → y ≡ null_prototype post_name
     → rest ≡ marks.items sites tags 0 u → more_items x (more_items y rest) ≡ bracketed p u
-unit_made p u sites tags x y rest same named first second third =
+unit_made p u sites tags x y rest same tagged first second third =
     let table : sites ≡ sites_of p = λ i s. same s i in
-    let all : rest ≡ marks.items (sites_of p) (tags_of u) 0 u = third ∙ (ap (λ f. marks.items f tags 0 u) table ∙ ap (λ ts. marks.items (sites_of p) ts 0 u) named) in
+    let all : rest ≡ marks.items (sites_of p) (tags_of u) 0 u = third ∙ (ap (λ f. marks.items f tags 0 u) table ∙ ap (λ ts. marks.items (sites_of p) ts 0 u) tagged) in
     ap (λ i. more_items i (more_items y rest)) first ∙ (ap (λ i. more_items (null_prototype pre_name) (more_items i rest)) second ∙ ap (λ r. more_items (null_prototype pre_name) (more_items (null_prototype post_name) r)) all)
 
 pub two_first : (a b : ItemTree) (rest none one two all : List ItemTree) → none ≡ [] → one ≡ none ++ a ∷ [] → two ≡ one ++ b ∷ [] → all ≡ two ++ rest → items_of all ≡ more_items (item_at a.at a.kind) (more_items (item_at b.at b.kind) (items_of rest))

@@ -1,4 +1,4 @@
-use Rattle.std.proofs.Common.{◌+◌, ◌++◌, ◌∙◌, true, drop, refl, sym, ap, arith}
+use Rattle.std.proofs.Common.{◌+◌, ◌++◌, ◌∙◌, true, false, drop, refl, sym, ap, arith}
 use Rattle.std.proofs.lemmas.List.{append-nil}
 use Rattle.c_syntax.specs.declared.tree.Group.{out-Group}
 use Rattle.c_syntax.specs.Tree.{block, evaluate, only_if, if_else, while_loop, do_loop, for_loop, switch_on, return_from, block_decl, block_stmt, no_block_items, more_groups, no_groups}
@@ -384,7 +384,7 @@ statement-returns-in_ok-whole-in-Do-clause-tree t c =
     let s = sited c.args.table.now in
     let b = c.args.next.now in
     let at = c.args.s.now.at in
-    c.in_ok-whole-in-Do.ensures ∙ (two_trees (do_loop at) (λ k q. expr s k true (expr_of q)) _ _ _ _ _ _ _ (c.in_ok-turn-in-Do.ensures.counts ∙ ap (λ q. b + calls_of_stmt (stmt_of q)) c.deref-in-Do.ensures) refl (c.in_ok-turn-in-Do.ensures.tree ∙ ap (λ q. marks.stmt s b (stmt_of q)) c.deref-in-Do.ensures) c.in_ok-made-in-Do.ensures.tree ∙ sym (ap (λ k. marks.stmt s b (stmt_at at k)) c.in-Do.is))
+    c.in_ok-whole-in-Do.ensures ∙ (two_trees (do_loop at) (λ k q. expr s k true (expr_of q)) _ _ _ _ _ c.in-Do.test _ (c.in_ok-turn-in-Do.ensures.counts ∙ ap (λ q. b + calls_of_stmt (stmt_of q)) c.deref-in-Do.ensures) refl (c.in_ok-turn-in-Do.ensures.tree ∙ ap (λ q. marks.stmt s b (stmt_of q)) c.deref-in-Do.ensures) c.in_ok-made-in-Do.ensures.tree ∙ sym (ap (λ k. marks.stmt s b (stmt_at at k)) c.in-Do.is))
 
 pub statement-returns-in_ok-whole-in-Do-clause-keeps : goal.statement-returns-in_ok-whole-in-Do-clause-keeps
 statement-returns-in_ok-whole-in-Do-clause-keeps t c =
@@ -392,7 +392,7 @@ statement-returns-in_ok-whole-in-Do-clause-keeps t c =
     let b = c.args.next.now in
     let at = c.args.s.now.at in
     let old = temporaries_of c.args.kept.now.items in
-    two_keeps (λ k q. kept s k true (expr_of q)) old _ _ _ _ _ _ _ (c.in_ok-turn-in-Do.ensures.counts ∙ ap (λ q. b + calls_of_stmt (stmt_of q)) c.deref-in-Do.ensures) refl (c.in_ok-turn-in-Do.ensures.keeps ∙ ap (λ q. old ++ marks.kept_of_stmt s b (stmt_of q)) c.deref-in-Do.ensures) c.in_ok-made-in-Do.ensures.keeps ∙ sym (ap (λ k. old ++ marks.kept_of_stmt s b (stmt_at at k)) c.in-Do.is)
+    two_keeps (λ k q. kept s k true (expr_of q)) old _ _ _ _ _ c.in-Do.test _ (c.in_ok-turn-in-Do.ensures.counts ∙ ap (λ q. b + calls_of_stmt (stmt_of q)) c.deref-in-Do.ensures) refl (c.in_ok-turn-in-Do.ensures.keeps ∙ ap (λ q. old ++ marks.kept_of_stmt s b (stmt_of q)) c.deref-in-Do.ensures) c.in_ok-made-in-Do.ensures.keeps ∙ sym (ap (λ k. old ++ marks.kept_of_stmt s b (stmt_at at k)) c.in-Do.is)
 
 pub statement-returns-in_ok-whole-in-Do-clause-counts : goal.statement-returns-in_ok-whole-in-Do-clause-counts
 statement-returns-in_ok-whole-in-Do-clause-counts t c =
