@@ -12,10 +12,10 @@ pub returns-clause-no_false_alarm : goal.returns-clause-no_false_alarm
 returns-clause-no_false_alarm c =
     let p = program_of c.args.program.now in
     subst (λ (r : Run). Stack p r.trace × Callgraph p r.trace) (sym c.in_ok-found.ensures)
-    (c.runs_raise_no_alarm.ensures.runs p c.sites-_sites.result c.sites-_sites.ensures.typed c.args.results.now c.args.turns)
+    (c.runs_raise_no_alarm.ensures.runs p c.sites-sites.result c.sites-sites.ensures.typed c.args.results.now c.args.turns)
 
 pub returns-clause-typed : goal.returns-clause-typed
 returns-clause-typed c =
     let p = program_of c.args.program.now in
     subst IsTypedRun (sym c.in_ok-found.ensures)
-    (c.values_have_kinds.ensures.runs p c.sites-_sites.result c.sites-_sites.ensures.typed no_marks (λ site. (All-nil IsRecorded, All-nil IsRecorded)) c.args.results.now c.args.turns)
+    (c.values_have_kinds.ensures.runs p c.sites-sites.result c.sites-sites.ensures.typed no_marks (λ site. (All-nil IsRecorded, All-nil IsRecorded)) c.args.results.now c.args.turns)
