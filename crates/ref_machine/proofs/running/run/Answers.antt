@@ -1,11 +1,15 @@
-use Rattle.std.proofs.Common.{sym, subst}
+use Rattle.std.proofs.Common.{ℕ, List, sym, subst}
 use Rattle.std.proofs.lemmas.List.Elements.{All-nil}
 use Rattle.sys_table.specs.Table.{IsRecorded}
-use Rattle.c_meaning.specs.Meaning.{Marks}
-use Rattle.c_meaning.specs.Runs.{Run, no_marks, run}
+use Rattle.sys_table.specs.declared.sys_result.SysResult.{SysResult}
+use Rattle.c_tree.specs.Program.{IsProgram}
+use Rattle.c_tree.specs.Tree.{Program}
+use Rattle.c_meaning.specs.Runs.{Run, no_marks}
 use Rattle.c_tree.specs.View.{program_of}
 use Rattle.c_shapes.specs.ProgramLanguages.{Callgraph, Stack}
-use Rattle.typed_meaning.specs.Laws.{IsTypedRun}
+use Rattle.typed_meaning.specs.Callees.{CalleesAreCandidates}
+use Rattle.typed_meaning.specs.Laws.{IsTypedRun, RunsBeginTyped, TypesAreKept}
+use Rattle.ref_machine.specs.KeptTypes.{HasFunctionValues}
 use Rattle.ref_machine.proofs.running.run.Goals as goal
 
 pub returns-clause-no_false_alarm : goal.returns-clause-no_false_alarm
@@ -19,3 +23,19 @@ returns-clause-typed c =
     let p = program_of c.args.program.now in
     subst IsTypedRun (sym c.in_ok-found.ensures)
     (c.values_have_kinds.ensures.runs p c.sites-sites.result c.sites-sites.ensures.typed no_marks (λ site. (All-nil IsRecorded, All-nil IsRecorded)) c.args.results.now c.args.turns)
+
+function_values : RunsBeginTyped → TypesAreKept → CalleesAreCandidates → (p : Program) (n : ℕ) → IsProgram p n → (records : List SysResult) (turns : ℕ) → HasFunctionValues p records turns
+function_values begun kept callees p n is records turns = record {
+  beginning = begun p n is records turns;
+  parts = λ marks recorded. kept p n is marks recorded turns;
+  named = (callees p n is).0;
+  pointed = (callees p n is).1;
+}
+
+pub returns-in_err-found-clause-function_values : goal.returns-in_err-found-clause-function_values
+returns-in_err-found-clause-function_values c =
+    function_values c.values_have_kinds.ensures.beginning c.values_have_kinds.ensures.parts c.callees_are_candidates.ensures (program_of c.args.program.now) c.sites-sites.result c.sites-sites.ensures.typed c.args.results.now c.args.turns
+
+pub returns-clause-function_values : goal.returns-clause-function_values
+returns-clause-function_values c =
+    function_values c.values_have_kinds.ensures.beginning c.values_have_kinds.ensures.parts c.callees_are_candidates.ensures (program_of c.args.program.now) c.sites-sites.result c.sites-sites.ensures.typed c.args.results.now c.args.turns
