@@ -33,7 +33,7 @@ const ECHO_RESULTS: &[u8] =
     b"dyckmon-results 1\nR 3\nR 2\nR 0\nR 3 68690a\nR 3\nR 2 700a\nR 77\nR 1\nR 2 710a\nend\n";
 
 const ECHO_AUDIT: &[u8] =
-    b"dyckmon-trace 1\nS open 2f6465762f7474795330 2 0 = 3\nS dup2 3 2 = 2\nS fork = 0\nB 10\nS read 3 8 = 3\nB 5\nS write 3 68690a = 3\nE 5\nS read 3 8 = 2\nB 4\nS getpid = 77\nS write 3 37 = 1\nE 4\nS read 3 8 = 2\nE 10\nS _exit 3 = 0\nend exit 3\ncallgraph accepted 16\nstack accepted 16\ndyck accepted 16\nnext 1 1 1\n";
+    b"dyckmon-trace 1\nS open 2f6465762f7474795330 2 0 = 3\nS dup2 3 2 = 2\nS fork = 0\nB 10\nS read 3 8 = 3\nB 5\nS write 3 68690a = 3\nE 5\nS read 3 8 = 2\nB 4\nS getpid = 77\nS write 3 37 = 1\nE 4\nS read 3 8 = 2\nE 10\nS _exit 3 = 0\nend exit 3\ncallgraph accepted 16\nstack accepted 16\ndyck accepted 16\nnext 0 0 0\n";
 
 // Forty processes, one of which makes its first call again, and their verdicts.
 const FORTY: &[u8] =
