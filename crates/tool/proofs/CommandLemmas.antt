@@ -1,5 +1,5 @@
 -- What one command line asks for, and what its files are, once and for all.
-use Rattle.std.proofs.Common.{◌≡◌, ℕ, List, get_or, nat_eq, if◌then◌else◌, Option, Some, None, inl, inr, refl, sym, ◌∙◌, ap, subst, arith}
+use Rattle.std.proofs.Common.{◌≡◌, ℕ, true, false, List, [], ◌∷◌, codes, get_or, nat_eq, if◌then◌else◌, Option, Some, None, inl, inr, refl, sym, ◌∙◌, ap, subst, arith}
 use Rattle.std.proofs.lemmas.Fmt.{decimal_injective}
 use Rattle.std.specs.Prelude.{IsSome}
 use Rattle.dm_base.specs.declared.mode.Mode.TheVariants.{Plain}
@@ -69,6 +69,15 @@ one_file_command which other same = sym (of_file_command which) ∙ ap (λ (w : 
 letter : (words : List (List ℕ)) (a b : List ℕ) (s t : List (List ℕ)) → words ≡ a ∷ s → words ≡ b ∷ t → get_or a 0 0 ≡ get_or b 0 0
 letter words a b s t one two = ap (λ (ws : List (List ℕ)). get_or (get_or ws 0 []) 0 0) (sym one ∙ two)
 
+no_clash : false ≡ true → ⊥
+no_clash same = cc same
+
+judge_is_not_audit : ◌≡◌ {A = ℕ} 106 97 → ⊥
+judge_is_not_audit same = no_clash (ap (λ (n : ℕ). nat_eq n 97) same)
+
+watch_is_not_audit : ◌≡◌ {A = ℕ} 119 97 → ⊥
+watch_is_not_audit same = no_clash (ap (λ (n : ℕ). nat_eq n 97) same)
+
 -- words ask for one command
 one_command : (c d : Command) (words : List (List ℕ)) → IsCommandLine c words → IsCommandLine d words → c ≡ d
 one_command Version Version words line next = refl
@@ -110,13 +119,9 @@ one_command (OfTrace command model trace which bound) (OfTrace other m t again m
 one_command (OfTrace Judge model trace which bound) (Measure m t again) words line next = cc (line.1, next)
 one_command (OfTrace Watch model trace which bound) (Measure m t again) words line next = cc (line.1, next)
 one_command (OfTrace Judge model trace which bound) (Run m t again) words line next = cc (line.1, next.0)
-one_command (OfTrace Judge model trace which bound) (Audit m t again greatest) words line next =
-    let letters : 106 ≡ 97 = letter words (trace_word Judge) (codes "audit") _ _ line.1 next.0 in
-    cc letters
+one_command (OfTrace Judge model trace which bound) (Audit m t again greatest) words line next = absurd (judge_is_not_audit (letter words (trace_word Judge) (codes "audit") _ _ line.1 next.0))
 one_command (OfTrace Watch model trace which bound) (Run m t again) words line next = cc (line.1, next.0)
-one_command (OfTrace Watch model trace which bound) (Audit m t again greatest) words line next =
-    let letters : 119 ≡ 97 = letter words (trace_word Watch) (codes "audit") _ _ line.1 next.0 in
-    cc letters
+one_command (OfTrace Watch model trace which bound) (Audit m t again greatest) words line next = absurd (watch_is_not_audit (letter words (trace_word Watch) (codes "audit") _ _ line.1 next.0))
 one_command (Measure model trace which) Version words line next = elim next [ inl is ↦ cc (is, line) | inr is ↦ cc (is, line) ]
 one_command (Measure model trace which) Help words line next = cc (line, next)
 one_command (Measure model trace which) (OfFile other file) words line next = cc (line, next)
@@ -144,12 +149,8 @@ one_command (Run source results turns) (Audit m t again greatest) words line nex
 one_command (Audit source results turns bound) Version words line next = elim next [ inl is ↦ cc (is, line.0) | inr is ↦ cc (is, line.0) ]
 one_command (Audit source results turns bound) Help words line next = cc (line.0, next)
 one_command (Audit source results turns bound) (OfFile other file) words line next = cc (line.0, next)
-one_command (Audit source results turns bound) (OfTrace Judge m t again most) words line next =
-    let letters : 97 ≡ 106 = letter words (codes "audit") (trace_word Judge) _ _ line.0 next.1 in
-    cc letters
-one_command (Audit source results turns bound) (OfTrace Watch m t again most) words line next =
-    let letters : 97 ≡ 119 = letter words (codes "audit") (trace_word Watch) _ _ line.0 next.1 in
-    cc letters
+one_command (Audit source results turns bound) (OfTrace Judge m t again most) words line next = absurd (judge_is_not_audit (letter words (trace_word Judge) (codes "audit") _ _ next.1 line.0))
+one_command (Audit source results turns bound) (OfTrace Watch m t again most) words line next = absurd (watch_is_not_audit (letter words (trace_word Watch) (codes "audit") _ _ next.1 line.0))
 one_command (Audit source results turns bound) (Measure m t again) words line next = cc (line.0, next)
 one_command (Audit source results turns bound) (Run m t again) words line next = cc (line.0, next.0)
 one_command (Audit source results turns bound) (Audit m t again greatest) words line next =
