@@ -13,18 +13,15 @@ use Rattle.c_syntax.specs.declared.tree.Group.{Group, Group', out-Group, roll-Gr
 use Rattle.c_syntax.specs.declared.tree.Label.{Label}
 use mathlib.Core.Former.{Count}
 use Rattle.c_syntax.specs.declared.tree.Item.{Item as ItemTree}
-use Rattle.c_syntax.specs.Tree.{Expr, Init, list, Inits, more_inits, no_inits, Parts, no_parts, more_parts, Stmt, block, only_if, if_else, switch_on, BlockItems, no_block_items, block_decl, block_stmt, Stmts, no_stmts, more_stmts, Groups, no_groups, more_groups, Items, no_items, more_items}
+use Rattle.c_syntax.specs.Tree.{list, Inits, more_inits, no_inits, Parts, no_parts, more_parts, Stmt, block, only_if, if_else, switch_on, BlockItems, no_block_items, block_decl, block_stmt, Stmts, no_stmts, more_stmts, Groups, no_groups, more_groups, Items, no_items, more_items}
 use Rattle.c_syntax.specs.View.{expr_of, declarator_of}
 use Rattle.c_syntax.specs.UnitView.{init_at, init_of, maybe_init_of, parts_of, decl_of, stmt_at, stmt_of, if_with, block_item_before, group_before, labels_of, stmts_of_row, item_at, items_of}
 use Rattle.c_syntax.specs.WritesUnit.{inits_of, block_items_of, stmts_of, groups_of, else_behind}
-use Rattle.c_rules.specs.Counts.{calls}
-use Rattle.c_rules.specs.Initialisers.{calls_of_init, calls_of_inits, calls_of_maybe_init}
+use Rattle.c_rules.specs.Initialisers.{calls_of_init, calls_of_maybe_init}
 use Rattle.c_rules.specs.Functions.{items_of_body}
 use Rattle.c_rules.specs.Variables.{calls_of_decl, calls_of_stmt, calls_of_block, calls_of_stmts, calls_of_groups}
 use Rattle.c_counts.proofs.Rows.{list_is, block_is, if_is, switch_is, group_is}
 use Rattle.null_calls.specs.MarkedCalls.{Sites}
-use Rattle.null_calls.specs.Temporaries.{Temporary}
-use Rattle.null_calls.specs.BracketedExpressions.{expr, kept}
 use Rattle.null_calls.specs.BracketedStatements as marks
 use Rattle.instrumenter.specs.Parts.{part_of, item_of, group_of}
 use Rattle.instrumenter.proofs.Turns.{onto}

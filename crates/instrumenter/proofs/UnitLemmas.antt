@@ -1,5 +1,5 @@
 -- Bodies of functions, items and units.
-use Rattle.std.proofs.Common.{◌≡◌, ℕ, ◌+◌, List, [], ◌∷◌, ◌++◌, refl, sym, ap, ◌∙◌, arith}
+use Rattle.std.proofs.Common.{◌≡◌, ℕ, ◌+◌, List, [], ◌∷◌, ◌++◌, sym, ap, ◌∙◌}
 use Rattle.c_tree.specs.Tree.{Program}
 use Rattle.c_syntax.specs.declared.tree.Item.{Item as ItemTree}
 use Rattle.c_syntax.specs.Tree.{Declarator, Decl, Params, named, function, no_params, more_params, nothing, void, unsigned_int, block, BlockItems, Item, decl_item, Items, more_items}
