@@ -1,4 +1,5 @@
 pub mod FileLemmas
+mod FollowLemmas
 mod ProgramLemmas
 mod StopLemmas
 mod Verdicts

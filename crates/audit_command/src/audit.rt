@@ -8,12 +8,13 @@ ghost use Rattle.graph_laws.specs.GraphOfProgram.{graph_of_program};
 ghost use Rattle.sources.specs.Sources.{IsSourceOf};
 ghost use Rattle.tool_frame.specs.Stop.{IsFinished, Stops};
 
+use crate::following::{Followed, followed_run};
 use crate::programs::instrumented_program;
-use crate::reports::heard_by_all;
+use crate::reports::report;
 use accepted_runs::texts_raise_no_alarm;
 use dm_base::{Mode, OutOfMemory, Status, TraceEnd};
 use dm_io::Store;
-use ref_machine::run;
+use model_commands::{AllMonitors, Listener};
 use run_command::results_in;
 use source_commands::model_of;
 use sources::{Source, source_in};
@@ -54,12 +55,14 @@ fn audited(
     };
     let program = instrumented_program(alloc, source)?;
     let _sites = program.sites();
-    let done = run(alloc, &program, records, turns)?;
-    let heard = heard_by_all(alloc, &model, bound, &done.trace)?;
-    let trace = write_trace(alloc, &done.trace, &TraceEnd::Ended(done.outcome))?;
-    let text = joined(trace, &heard.text)?;
+    let followed = followed_run::<AllMonitors>(alloc, &program, records, turns, &model, bound)?;
+    let Followed { run, monitors } = followed;
+    let heard = monitors.conclude(alloc, &model)?;
+    let verdicts = report(alloc, heard)?;
+    let trace = write_trace(alloc, &run.trace, &TraceEnd::Ended(run.outcome))?;
+    let text = joined(trace, &verdicts.text)?;
     Ok(Finished {
-        status: heard.status,
+        status: verdicts.status,
         text,
     })
 }

@@ -3,6 +3,7 @@
 #![tactic(auto)]
 
 mod audit;
+mod following;
 mod programs;
 mod reports;
 

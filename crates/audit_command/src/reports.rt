@@ -1,40 +1,25 @@
-ghost use Rattle.std.specs.Prelude.{◌≤◌, ◌<◌, ◌^◌, All, IfOk};
-ghost use Rattle.audit_command.specs.Heard.{AreHeard};
-ghost use Rattle.sys_table.specs.Table.{IsRecorded};
+ghost use Rattle.std.specs.Prelude.{ℕ, List, IfOk};
+ghost use Rattle.dm_base.specs.declared.event.Event.{Event};
+ghost use Rattle.flow_model.specs.Graph.{Graph};
+ghost use Rattle.audit_command.specs.Heard.{AreHeard, HaveHeard};
 
-use callgraph_monitor::CallgraphMonitor;
-use dm_base::{Event, OutOfMemory};
-use dyck_monitor::DyckMonitor;
-use flow_model::Model;
-use model_commands::{hear, worse};
+use dm_base::OutOfMemory;
+use model_commands::Heard;
 use report::next_line;
-use stack_automaton::StackMonitor;
 use std::alloc::Global;
 use tool_frame::Finished;
 
-/// The verdict lines of the three monitors of a model on a trace, with the status of the three, and then the line of the calls that may
-/// come next.
-pub fn heard_by_all(
-    alloc: Global,
-    model: &Model,
-    bound: u32,
-    events: &[Event],
-) -> Result<Finished, OutOfMemory>
-    requires bound { (1 ≤ bound) × (bound < 2 ^ 16) }
-    requires recorded { All IsRecorded events.now }
-    ensures { IfOk result (λ done. AreHeard model.now bound events.now done.status done.text.items) }
+/// The verdict lines of the three monitors, with the status of the three, and then the line of the calls that may come next.
+pub fn report(alloc: Global, heard: Heard) -> Result<Finished, OutOfMemory>
+    requires { (g : Graph) × (bound : ℕ) × (events : List Event) × HaveHeard g bound events heard }
+    ensures { IfOk result (λ done. (g : Graph) (bound : ℕ) (events : List Event) → HaveHeard g bound events heard → AreHeard g bound events done.status done.text.items) }
 {
-    let callgraph = hear::<CallgraphMonitor>(alloc, model, bound, events)?;
-    let stack = hear::<StackMonitor>(alloc, model, bound, events)?;
-    let dyck = hear::<DyckMonitor>(alloc, model, bound, events)?;
-    let next = next_line(alloc, callgraph.next, stack.next, dyck.next)?;
-    let status = worse(
-        callgraph.told.status,
-        worse(stack.told.status, dyck.told.status),
-    );
-    let mut text = callgraph.told.text;
-    text.extend_from_slice(&stack.told.text)?;
-    text.extend_from_slice(&dyck.told.text)?;
-    text.extend_from_slice(&next)?;
-    Ok(Finished { status, text })
+    let Heard { told, next } = heard;
+    let line = next_line(alloc, next[0], next[1], next[2])?;
+    let mut text = told.text;
+    text.extend_from_slice(&line)?;
+    Ok(Finished {
+        status: told.status,
+        text,
+    })
 }

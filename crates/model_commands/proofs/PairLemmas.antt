@@ -32,6 +32,13 @@ pub statuses_append : (vs ws : List Verdict) → status_of_all (vs ++ ws) ≡ wo
 statuses_append [] ws = refl
 statuses_append (v ∷ vs) ws = ap (worse (status_of v)) (statuses_append vs ws) ∙ sym (worse_assoc (status_of v) (status_of_all vs) (status_of_all ws))
 
+-- what is said of the first monitors, and then of the others
+pub zip_append : {X : Type 0} (R : Which → X → Type 0) (ms ns : List Which) (vs ws : List X) → AllZip R ms vs → AllZip R ns ws → AllZip R (ms ++ ns) (vs ++ ws)
+zip_append R [] ns [] ws all more = more
+zip_append R [] ns (v ∷ vs) ws all more = absurd all
+zip_append R (m ∷ ms) ns [] ws all more = absurd all
+zip_append R (m ∷ ms) ns (v ∷ vs) ws all more = (all.0, zip_append R ms ns vs ws all.1 more)
+
 module _ (R : Which → Verdict → Type 0) (t : List Event) where
   lines_append : (ms ns : List Which) (vs ws : List Verdict) → AllZip R ms vs → verdict_lines (ms ++ ns) (vs ++ ws) t ≡ verdict_lines ms vs t ++ verdict_lines ns ws t
   lines_append [] ns [] ws all = refl
@@ -41,22 +48,16 @@ module _ (R : Which → Verdict → Type 0) (t : List Event) where
       ap (λ (w : List ℕ). verdict_text m v (event_at t v) ++ w) (lines_append ms ns vs ws all.1)
       ∙ sym (append_assoc (verdict_text m v (event_at t v)) (verdict_lines ms vs t) (verdict_lines ns ws t))
 
-  zip_append : (ms ns : List Which) (vs ws : List Verdict) → AllZip R ms vs → AllZip R ns ws → AllZip R (ms ++ ns) (vs ++ ws)
-  zip_append [] ns [] ws all more = more
-  zip_append [] ns (v ∷ vs) ws all more = absurd all
-  zip_append (m ∷ ms) ns [] ws all more = absurd all
-  zip_append (m ∷ ms) ns (v ∷ vs) ws all more = (all.0, zip_append ms ns vs ws all.1 more)
-
 -- the lines of the first, and then those of the second
-both_judged : (ms ns : List Which) (g : Graph) (bound : ℕ) (t : List Event) (status : Status) (text : List ℕ) → AreBothTold (AreJudged ms g bound t) (AreJudged ns g bound t) status text → AreJudged (ms ++ ns) g bound t status text
+pub both_judged : (ms ns : List Which) (g : Graph) (bound : ℕ) (t : List Event) (status : Status) (text : List ℕ) → AreBothTold (AreJudged ms g bound t) (AreJudged ns g bound t) status text → AreJudged (ms ++ ns) g bound t status text
 both_judged ms ns g bound t status text b =
     let R : Which → Verdict → Type 0 = λ which v. IsVerdict which g bound t v in
     let one = b.first in
     let other = b.second in
     record {
       verdicts = one.verdicts ++ other.verdicts;
-      judged = zip_append R t ms ns one.verdicts other.verdicts one.judged other.judged;
-      nested = verdicts_nested g bound t (ms ++ ns) (one.verdicts ++ other.verdicts) (zip_append R t ms ns one.verdicts other.verdicts one.judged other.judged);
+      judged = zip_append R ms ns one.verdicts other.verdicts one.judged other.judged;
+      nested = verdicts_nested g bound t (ms ++ ns) (one.verdicts ++ other.verdicts) (zip_append R ms ns one.verdicts other.verdicts one.judged other.judged);
       ends = b.ends ∙ ap (λ (s : Status). worse s b.second_status) one.ends ∙ ap (worse (status_of_all one.verdicts)) other.ends ∙ sym (statuses_append one.verdicts other.verdicts);
       writes = b.writes ∙ ap (λ (w : List ℕ). w ++ b.second_text) one.writes ∙ ap (λ (w : List ℕ). verdict_lines ms one.verdicts t ++ w) other.writes ∙ sym (lines_append R t ms ns one.verdicts other.verdicts one.judged);
     }

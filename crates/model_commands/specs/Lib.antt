@@ -1,5 +1,6 @@
 pub mod Following
 pub mod Found
+pub mod Heard
 pub mod Judge
 pub mod Judged
 pub mod Measure

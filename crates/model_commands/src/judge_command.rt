@@ -25,8 +25,11 @@ use stack_automaton::StackMonitor;
 use std::alloc::Global;
 use tool_frame::{Finished, Stop};
 
-// The three monitors, in the order of their lines.
-type All = Pair<Judging<CallgraphMonitor>, Pair<Judging<StackMonitor>, Judging<DyckMonitor>>>;
+/// The three monitors, in the order of their lines.
+pub type AllMonitors = Pair<
+    Judging<CallgraphMonitor>,
+    Pair<Judging<StackMonitor>, Judging<DyckMonitor>>,
+>;
 
 // One byte more than a model may have.
 const MOST: usize = 16_777_217;
@@ -106,7 +109,7 @@ fn judge_asked<S: Store>(
         }
         Asked::Stack => follow_by::<S, Judging<StackMonitor>>(alloc, store, model, trace, bound),
         Asked::Dyck => follow_by::<S, Judging<DyckMonitor>>(alloc, store, model, trace, bound),
-        Asked::All => follow_by::<S, All>(alloc, store, model, trace, bound),
+        Asked::All => follow_by::<S, AllMonitors>(alloc, store, model, trace, bound),
     }
 }
 

@@ -23,9 +23,8 @@ mod watches;
 mod watching;
 
 pub use asked::Asked;
-pub use hearing::{Heard, hear};
-pub use judge_command::judge;
+pub use hearing::{Heard, Listener};
+pub use judge_command::{AllMonitors, judge};
 pub use measure_command::measure;
-pub use pair::worse;
 pub use upgrade_command::upgrade;
 pub use watch_command::watch_traces;

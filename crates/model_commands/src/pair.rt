@@ -2,6 +2,7 @@ ghost use Rattle.std.specs.Prelude.{◌≡◌, ◌++◌, IfOk};
 ghost use Rattle.model_commands.specs.Judged.{worse};
 ghost use Rattle.model_commands.specs.Told.{AreBothTold};
 
+use crate::hearing::{Heard, Listener};
 use crate::panel::Panel;
 use dm_base::{Event, OutOfMemory, Status};
 use flow_model::Model;
@@ -64,5 +65,34 @@ impl<A: Panel, B: Panel> Panel for Pair<A, B> {
         let after = second.finish(alloc)?;
         let both = joined(before, after)?;
         Ok(both)
+    }
+}
+
+impl<A: Panel + Listener, B: Panel + Listener> Listener for Pair<A, B> {
+    ghost heard = { λ p g k h. A.heard p.first g k h × B.heard p.second g k h };
+
+    ghost monitors = { A.monitors ++ B.monitors };
+
+    fn begin(alloc: Global, model: &Model, bound: u32) -> Result<Self, OutOfMemory> {
+        Ok(Pair {
+            first: A::begin(alloc, model, bound)?,
+            second: B::begin(alloc, model, bound)?,
+        })
+    }
+
+    fn hear(&mut self, alloc: Global, model: &Model, event: &Event) -> Result<(), OutOfMemory> {
+        self.first.hear(alloc, model, event)?;
+        self.second.hear(alloc, model, event)?;
+        Ok(())
+    }
+
+    fn conclude(self, alloc: Global, model: &Model) -> Result<Heard, OutOfMemory> {
+        let Pair { first, second } = self;
+        let before = first.conclude(alloc, model)?;
+        let after = second.conclude(alloc, model)?;
+        let told = joined(before.told, after.told)?;
+        let mut next = before.next;
+        next.extend_from_slice(&after.next)?;
+        Ok(Heard { told, next })
     }
 }

@@ -13,5 +13,5 @@ mod whole;
 pub use laws::advances_are_exact;
 pub use machine::Machine;
 pub use pause::Pause;
-pub use running::run;
+pub use running::{advance_with, run};
 pub use whole::Run;

@@ -16,8 +16,9 @@ use std::alloc::Global;
 use sys_table::SysResult;
 use typed_meaning::{callees_are_candidates, values_have_kinds};
 
-// Goes on to the next event, need of a recorded result, or end; the results from this number on are left.
-fn advance_with(
+/// Goes on to the next event, need of a recorded result, or end, as `Machine::advance` does, where the results from this number on are
+/// left: the next of them is given where the machine waits for one.
+pub fn advance_with(
     machine: &mut Machine,
     results: &[SysResult],
     taken: &mut usize,
