@@ -27,20 +27,20 @@ loop-pause-preserved g c =
     let old = future c.loop-pause.machine (drop c.loop-pause.taken c.args.records.now) in
     let new = future c.advance_with.new.machine (drop c.advance_with.new.taken c.args.records.now) in
     elim c.match-pause.branch [
-      in-NeedResult w ↦
-        let same = ap (λ (v : Vec Event Global). v.items) w.trace-is in
-        record {
-          same = kept_on whole before c.match-pause.trace.items c.in_ok-pause.pause old new c.loop-pause.invariant.same c.in_ok-pause.ensures.follows w.in-NeedResult.is same;
-          taken = c.in_ok-pause.ensures.taken;
-          heard = rw w.monitors-is (rw same c.loop-pause.invariant.heard);
-          few = omega (arith, c.loop-pause.invariant.few, ap length same);
-        }
-    | in-Did+in_ok-hear-in-Did+in_ok-push-in-Did w ↦
-        let grown = ap (λ (v : Vec Event Global). v.items) w.trace-is ∙ w.in_ok-push-in-Did.ensures.items in
-        record {
-          same = told_on whole before c.match-pause.trace.items c.in_ok-pause.pause w.in-Did.event old new c.loop-pause.invariant.same c.in_ok-pause.ensures.follows w.in-Did.is grown;
-          taken = c.in_ok-pause.ensures.taken;
-          heard = rw w.monitors-is (rw grown (w.in_ok-hear-in-Did.ensures c.args.bound before c.loop-pause.invariant.heard));
-          few = omega (arith, c.loop-pause.invariant.few, ap length grown, length-append before (w.in-Did.event ∷ []));
-        }
+      | in-NeedResult w ↦
+          let same = ap (λ (v : Vec Event Global). v.items) w.trace-is in
+          record {
+            same = kept_on whole before c.match-pause.trace.items c.in_ok-pause.pause old new c.loop-pause.invariant.same c.in_ok-pause.ensures.follows w.in-NeedResult.is same;
+            taken = c.in_ok-pause.ensures.taken;
+            heard = rw w.monitors-is (rw same c.loop-pause.invariant.heard);
+            few = omega (arith, c.loop-pause.invariant.few, ap length same);
+          }
+      | in-Did+in_ok-hear-in-Did+in_ok-push-in-Did w ↦
+          let grown = ap (λ (v : Vec Event Global). v.items) w.trace-is ∙ w.in_ok-push-in-Did.ensures.items in
+          record {
+            same = told_on whole before c.match-pause.trace.items c.in_ok-pause.pause w.in-Did.event old new c.loop-pause.invariant.same c.in_ok-pause.ensures.follows w.in-Did.is grown;
+            taken = c.in_ok-pause.ensures.taken;
+            heard = rw w.monitors-is (rw grown (w.in_ok-hear-in-Did.ensures c.args.bound before c.loop-pause.invariant.heard));
+            few = omega (arith, c.loop-pause.invariant.few, ap length grown, length-append before (w.in-Did.event ∷ []));
+          }
     ]
