@@ -22,13 +22,13 @@ pub fn write_results(alloc: Global, results: &[SysResult]) -> Result<Vec<u8>, Ou
 }
 
 // Adds the line of a record at the end.
-fn write_record(alloc: Global, text: &mut Vec<u8>, record: &SysResult) -> Result<(), OutOfMemory>
-    ensures line { OnOk result (text.new.items ≡ text.old.items ++ result_line record.now) }
-    ensures are_bytes { IsBytes record.now.bytes }
+fn write_record(alloc: Global, text: &mut Vec<u8>, entry: &SysResult) -> Result<(), OutOfMemory>
+    ensures line { OnOk result (text.new.items ≡ text.old.items ++ result_line entry.now) }
+    ensures are_bytes { IsBytes entry.now.bytes }
 {
-    let bytes = record.bytes.as_slice();
+    let bytes = entry.bytes.as_slice();
     text.extend_from_slice(b"R ")?;
-    push_signed(alloc, text, record.value)?;
+    push_signed(alloc, text, entry.value)?;
     write_data(alloc, text, bytes)?;
     text.push(b'\n')?;
     Ok(())
