@@ -8,7 +8,7 @@ ghost use Rattle.c_tree.specs.View.{ctype_of, types_of};
 use c_conversions::complete;
 use c_given::{C3, C13, CheckError, few_parts, is_result, is_scalar};
 use c_scopes::Environment;
-use c_tree::CType;
+use c_tree::{CType, copy_type};
 use dm_base::OutOfMemory;
 use std::alloc::Global;
 
@@ -74,13 +74,13 @@ pub fn function_of(
 fn adjusted(alloc: Global, t: CType) -> Result<CType, OutOfMemory>
     ensures { IfOk result (λ u. ctype_of u ≡ adjusted (ctype_of t)) }
 {
-    match t {
-        CType::Array(element, _) => Ok(CType::Pointer(element)),
-        CType::Function(returns, parameters) => Ok(CType::Pointer(Box::new(
-            alloc,
-            CType::Function(returns, parameters),
-        )?)),
-        other => Ok(other),
+    match &t {
+        CType::Array(element, _) => {
+            let element = copy_type(alloc, element)?;
+            Ok(CType::Pointer(Box::new(alloc, element)?))
+        }
+        CType::Function(_, _) => Ok(CType::Pointer(Box::new(alloc, t)?)),
+        _ => Ok(t),
     }
 }
 

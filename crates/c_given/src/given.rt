@@ -31,7 +31,6 @@ pub enum Constant {
 }
 
 /// What an expression gives (C99 6.5).
-#[derive(Drop)]
 pub struct Given {
     /// Its type, that of the object or function where it designates one.
     pub ctype: CType,
@@ -39,6 +38,16 @@ pub struct Given {
     pub form: Form,
     /// Its constant value, where it has one.
     pub constant: Constant,
+}
+
+impl Drop for Given {
+    fn drop(self) {
+        let Self {
+            ctype: _ctype,
+            form: _form,
+            constant: _,
+        } = self;
+    }
 }
 
 /// Whether it is zero, of any integer type, or the null pointer.
@@ -103,11 +112,25 @@ impl Given {
         }
     }
 
+    /// Its type, its form and its constant value.
+    pub fn into_parts(self) -> (CType, Form, Constant)
+        ensures its_type { result.0 ≡ self.ctype }
+        ensures its_form { result.1 ≡ self.form }
+        ensures its_constant { result.2 ≡ self.constant }
+    {
+        let Self {
+            ctype,
+            form,
+            constant,
+        } = self;
+        (ctype, form, constant)
+    }
+
     /// The typed tree.
     pub fn into_tree(self, alloc: Global) -> Result<TExpr, OutOfMemory>
         ensures { IfOk result (λ tree. expr_of tree ≡ tree_of (given_of self)) }
     {
-        let Given { ctype, form, .. } = self;
+        let (ctype, form, _) = self.into_parts();
         match form {
             Form::Value(tree) => Ok(tree),
             Form::Place(tree) => Ok(tree),

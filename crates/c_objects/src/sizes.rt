@@ -11,7 +11,7 @@ ghost use Rattle.c_tree.specs.View.{ctype_of};
 
 use c_given::{C14, CheckError};
 use c_syntax::{Expr, ExprKind, Init, InitKind};
-use c_tree::{CType, IntType};
+use c_tree::{CType, IntType, copy_type};
 use dm_base::OutOfMemory;
 use std::alloc::Global;
 
@@ -98,13 +98,14 @@ fn sized_by(alloc: Global, name: u32, t: CType, m: &Option<Init>) -> Result<CTyp
 pub fn with_size(alloc: Global, name: u32, m: &Option<Init>, t: CType) -> Result<CType, CheckError>
     ensures { Judges ctype_of result (with_size name (maybe_init_of m.now) (ctype_of t)) }
 {
-    match t {
+    match &t {
         CType::Array(element, n) => {
-            if n == 0 {
-                return sized_by(alloc, name, Box::into_inner(element), m);
+            if *n == 0 {
+                let element = copy_type(alloc, element)?;
+                return sized_by(alloc, name, element, m);
             }
-            Ok(CType::Array(element, n))
+            Ok(t)
         }
-        other => Ok(other),
+        _ => Ok(t),
     }
 }

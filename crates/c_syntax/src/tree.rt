@@ -40,13 +40,19 @@ pub enum Spec {
 }
 
 /// An expression (C99 6.5). Parentheses round it make no node.
-#[derive(Drop)]
 #[cycle(tree)]
 pub struct Expr {
     /// The place of its first byte.
     pub at: u32,
     /// Its form.
     pub kind: ExprKind,
+}
+
+impl Drop for Expr {
+    #[cycle(trees_let_go)]
+    fn drop(self) {
+        let Self { at: _, kind: _kind } = self;
+    }
 }
 
 /// The forms of an expression. Operators are numbers of punctuators.
@@ -105,7 +111,6 @@ pub enum ExprKind {
 }
 
 /// The name of a type (C99 6.7.6).
-#[derive(Drop)]
 #[cycle(tree)]
 pub struct TypeName {
     /// Its specifiers.
@@ -116,8 +121,18 @@ pub struct TypeName {
     pub at: u32,
 }
 
+impl Drop for TypeName {
+    #[cycle(trees_let_go)]
+    fn drop(self) {
+        let Self {
+            spec: _spec,
+            declarator: _declarator,
+            at: _,
+        } = self;
+    }
+}
+
 /// A parameter (C99 6.7.5.3).
-#[derive(Drop)]
 #[cycle(tree)]
 pub struct Param {
     /// Its specifiers.
@@ -128,15 +143,32 @@ pub struct Param {
     pub at: u32,
 }
 
+impl Drop for Param {
+    #[cycle(trees_let_go)]
+    fn drop(self) {
+        let Self {
+            spec: _spec,
+            declarator: _declarator,
+            at: _,
+        } = self;
+    }
+}
+
 /// A declarator (C99 6.7.5), or the rest of one whose name is left out (6.7.6). Parentheses round it make no
 /// node.
-#[derive(Drop)]
 #[cycle(tree)]
 pub struct Declarator {
     /// The place of its first byte.
     pub at: u32,
     /// Its form.
     pub kind: DeclaratorKind,
+}
+
+impl Drop for Declarator {
+    #[cycle(trees_let_go)]
+    fn drop(self) {
+        let Self { at: _, kind: _kind } = self;
+    }
 }
 
 /// The forms of a declarator. An inner declarator is None where no name stands.
@@ -164,13 +196,19 @@ pub enum DeclaratorKind {
 }
 
 /// An initialiser (C99 6.7.8).
-#[derive(Drop)]
 #[cycle(init)]
 pub struct Init {
     /// The place of its first byte; that of its expression where that stands in parentheses.
     pub at: u32,
     /// Its form.
     pub kind: InitKind,
+}
+
+impl Drop for Init {
+    #[cycle(initialisers_let_go)]
+    fn drop(self) {
+        let Self { at: _, kind: _kind } = self;
+    }
 }
 
 /// The forms of an initialiser.
@@ -193,7 +231,6 @@ pub struct DeclPart {
 }
 
 /// A declaration (C99 6.7).
-#[derive(Drop)]
 pub struct Decl {
     /// Its storage class; absent in a block.
     pub storage: Storage,
@@ -203,6 +240,17 @@ pub struct Decl {
     pub parts: Vec<DeclPart>,
     /// The place of its first byte.
     pub at: u32,
+}
+
+impl Drop for Decl {
+    fn drop(self) {
+        let Self {
+            storage: _,
+            spec: _spec,
+            parts: _parts,
+            at: _,
+        } = self;
+    }
 }
 
 /// What stands first in the head of a `for` (C99 6.8.5).
@@ -235,13 +283,19 @@ pub enum LabelKind {
 }
 
 /// A statement (C99 6.8).
-#[derive(Drop)]
 #[cycle(statement)]
 pub struct Stmt {
     /// The place of its first byte.
     pub at: u32,
     /// Its form.
     pub kind: StmtKind,
+}
+
+impl Drop for Stmt {
+    #[cycle(statements_let_go)]
+    fn drop(self) {
+        let Self { at: _, kind: _kind } = self;
+    }
 }
 
 /// The forms of a statement.
@@ -344,12 +398,17 @@ pub struct Enumerator {
 }
 
 /// What stands at file scope (C99 6.9).
-#[derive(Drop)]
 pub struct Item {
     /// The place of its first byte.
     pub at: u32,
     /// Its form.
     pub kind: ItemKind,
+}
+
+impl Drop for Item {
+    fn drop(self) {
+        let Self { at: _, kind: _kind } = self;
+    }
 }
 
 /// The forms of what stands at file scope.

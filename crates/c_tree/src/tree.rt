@@ -2,7 +2,6 @@ use crate::{BinOp, IntType, UnOp, Value};
 use dm_base::Bytes;
 
 /// A type (C99 6.2.5). `const` isn't kept, and an enumerated type is `int`.
-#[derive(Drop)]
 pub enum CType {
     /// `void`
     Void,
@@ -18,14 +17,35 @@ pub enum CType {
     Function(Box<CType>, Vec<CType>),
 }
 
+impl Drop for CType {
+    #[cycle(types_let_go)]
+    fn drop(self) {
+        match self {
+            CType::Void | CType::Int(_) | CType::Struct(_) => {}
+            CType::Pointer(_to) => {}
+            CType::Array(_of, _) => {}
+            CType::Function(_result, _parameters) => {}
+        }
+    }
+}
+
 /// An expression with its type (C99 6.5).
-#[derive(Drop)]
 #[cycle(expression)]
 pub struct TExpr {
     /// Its type, that of the object or function where it is a place.
     pub ctype: CType,
     /// Its form.
     pub kind: TExprKind,
+}
+
+impl Drop for TExpr {
+    #[cycle(expressions_let_go)]
+    fn drop(self) {
+        let Self {
+            ctype: _ctype,
+            kind: _kind,
+        } = self;
+    }
 }
 
 /// The forms of an expression; each holds its operands in the order in which they are evaluated.

@@ -25,7 +25,7 @@ fn address_of_form(alloc: Global, at: u32, g: Given) -> Result<Given, CheckError
     ensures { Judges given_of result (address_of_form at (given_of g) (given_of g).form) }
 {
     let pointer = pointer_to(alloc, &g.ctype)?;
-    let Given { form, constant, .. } = g;
+    let (_, form, constant) = g.into_parts();
     match form {
         Form::Value(_) => Err(CheckError::At(C3, at)),
         Form::Place(tree) => {
