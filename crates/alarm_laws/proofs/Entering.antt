@@ -15,8 +15,8 @@ use Rattle.c_values.specs.Memory.{Objects as Memory}
 use Rattle.c_meaning.specs.Meaning.{Frame, static_name, name_in}
 use Rattle.c_meaning.specs.Results.{State}
 use Rattle.c_meaning.specs.Runs.{with_parameters, entered}
-use Rattle.typed_meaning.specs.StoreTyping.{HasKind, IsCell, IsTypedMemory, IsTypedAfter, IsTypedState, Grows, TellsOfStatics, IsTypedFrame}
-use Rattle.typed_meaning.proofs.Places.{get_left, carry_all, kind_cell, memory_changed, memory_grows, scalar_object}
+use Rattle.c_meaning_laws.specs.StoreTyping.{HasKind, IsCell, IsTypedMemory, IsTypedAfter, IsTypedState, Grows, TellsOfStatics, IsTypedFrame}
+use Rattle.c_meaning_laws.proofs.Places.{get_left, carry_all, kind_cell, memory_changed, memory_grows, scalar_object}
 use Rattle.alarm_laws.proofs.Lists.{got_in, same_some, no_some}
 use Rattle.alarm_laws.proofs.Guards.{frame_of}
 

@@ -19,15 +19,15 @@ use Rattle.c_meaning.specs.Meaning.{Marks, Frame, static_name, name_in, fresh}
 use Rattle.c_meaning.specs.Pointers.{callee, place, store_place}
 use Rattle.c_meaning.specs.Results.{State, with_memory, Result, Go, Stop, then_do, remembered, Exit, on}
 use Rattle.c_meaning.specs.Runs.{no_marks}
-use Rattle.typed_meaning.specs.StoreTyping.{HasKind, IsPlaced, IsTypedMemory, IsTypedState, Grows, TellsOfStatics, IsTypedFrame}
-use Rattle.typed_meaning.specs.TypedResults.{EndsTyped, IsExit, Gives as GivesTyped, GiveAll, AreRecorded}
-use Rattle.typed_meaning.specs.Laws.{PartsAreTyped}
-use Rattle.typed_meaning.proofs.Places.{flat_scalar}
-use Rattle.typed_meaning.proofs.Steps.{Right, store_right}
-use Rattle.typed_meaning.proofs.Keeps.{stands_on, arguments_kind}
-use Rattle.typed_meaning.proofs.Candidates.{callees_are_candidates}
-use Rattle.typed_meaning.proofs.Standing.{stands_empty}
-use Rattle.typed_meaning.proofs.Worlds.{types_are_kept, runs_begin_typed}
+use Rattle.c_meaning_laws.specs.StoreTyping.{HasKind, IsPlaced, IsTypedMemory, IsTypedState, Grows, TellsOfStatics, IsTypedFrame}
+use Rattle.c_meaning_laws.specs.TypedResults.{EndsTyped, IsExit, Gives as GivesTyped, GiveAll, AreRecorded}
+use Rattle.c_meaning_laws.specs.Laws.{PartsAreTyped}
+use Rattle.c_meaning_laws.proofs.Places.{flat_scalar}
+use Rattle.c_meaning_laws.proofs.Steps.{Right, store_right}
+use Rattle.c_meaning_laws.proofs.Keeps.{stands_on, arguments_kind}
+use Rattle.c_meaning_laws.proofs.Candidates.{callees_are_candidates}
+use Rattle.c_meaning_laws.proofs.Standing.{stands_empty}
+use Rattle.c_meaning_laws.proofs.Worlds.{types_are_kept, runs_begin_typed}
 use Rattle.alarm_laws.specs.MarkedRuns.{null_calls_of}
 use Rattle.alarm_laws.proofs.Sites.{callee_found}
 use Rattle.alarm_laws.proofs.Says.{Gives}

@@ -11,7 +11,7 @@ use Rattle.c_tree.specs.Tree.{Program}
 use Rattle.c_tree.specs.Program.{IsProgram}
 use Rattle.c_meaning.specs.Runs.{run}
 use Rattle.c_meaning.specs.WithoutNullCalls.{MakesNoNullCall}
-use Rattle.graph_laws.specs.GraphOfProgram.{graph_of_program}
+use Rattle.flow_graph_laws.specs.GraphOfProgram.{graph_of_program}
 use Rattle.alarm_laws.specs.MarkedRuns.{marked_run}
 
 -- the whole trace is accepted by the callgraph monitor and by the stack monitor of the graph

@@ -3,24 +3,24 @@ use Rattle.std.proofs.Common.{◌≡◌, ℕ, IfErr, IfOk, Result, Ok, Err, subs
 use Rattle.dm_base.specs.declared.mode.Mode.{Mode}
 use Rattle.dm_base.specs.declared.mode.Mode.TheVariants.{Plain}
 use Rattle.c_check.specs.Refused.{IsRefused}
-use Rattle.c_given.specs.declared.error.CheckError.{CheckError}
-use Rattle.c_given.specs.declared.error.CheckError.TheVariants as errors
-use Rattle.c_given.specs.Judges.{Judges}
+use Rattle.c_check_values.specs.declared.error.CheckError.{CheckError}
+use Rattle.c_check_values.specs.declared.error.CheckError.TheVariants as errors
+use Rattle.c_check_values.specs.Agreement.{AgreesWith}
 use Rattle.c_rules.specs.NullCalls.{CallsNoNullCall}
 use Rattle.c_rules.specs.Units.{IsTyped, IsViolated, checked}
 use Rattle.c_syntax.specs.Tree.{Items}
 use Rattle.c_tree.specs.Tree.{Program}
 use Rattle.c_tree.specs.View.{Parts, program_of}
 
-pub typed_as : (u : Items) (m : Mode) (result : Result Parts CheckError) → Judges program_of result (checked u m) → IfOk result (λ p. IsTyped u m (program_of p))
+pub typed_as : (u : Items) (m : Mode) (result : Result Parts CheckError) → AgreesWith program_of result (checked u m) → IfOk result (λ p. IsTyped u m (program_of p))
 typed_as u m (Ok p) h = h
 typed_as u m (Err e) h = tt
 
-pub refused_with : (u : Items) (m : Mode) (result : Result Parts CheckError) → ((v : Items) (n : Mode) (p : Program) (code at : ℕ) → IsTyped v n p → IsViolated v n code at → ⊥) → Judges program_of result (checked u m) → IfErr result (IsRefused u m)
+pub refused_with : (u : Items) (m : Mode) (result : Result Parts CheckError) → ((v : Items) (n : Mode) (p : Program) (code at : ℕ) → IsTyped v n p → IsViolated v n code at → ⊥) → AgreesWith program_of result (checked u m) → IfErr result (IsRefused u m)
 refused_with u m (Ok p) none h = tt
 refused_with u m (Err errors.OutOfMemory) none h = tt
 refused_with u m (Err (errors.At code at)) none h = (h, λ p typed. none u m p code at typed h)
 
-pub without_null_calls : (u : Items) (m : Mode) (result : Result Parts CheckError) → ((v : Items) (p : Program) → IsTyped v Plain p → CallsNoNullCall p) → Judges program_of result (checked u m) → m ≡ Plain → IfOk result (λ p. CallsNoNullCall (program_of p))
+pub without_null_calls : (u : Items) (m : Mode) (result : Result Parts CheckError) → ((v : Items) (p : Program) → IsTyped v Plain p → CallsNoNullCall p) → AgreesWith program_of result (checked u m) → m ≡ Plain → IfOk result (λ p. CallsNoNullCall (program_of p))
 without_null_calls u m (Ok p) law h plain = law u (program_of p) (subst (λ n. IsTyped u n (program_of p)) plain h)
 without_null_calls u m (Err e) law h plain = tt

@@ -1,7 +1,7 @@
 -- Units that are refused.
 use Rattle.dm_base.specs.declared.mode.Mode.{Mode}
-use Rattle.c_given.specs.declared.error.CheckError.{CheckError}
-use Rattle.c_given.specs.declared.error.CheckError.TheVariants as errors
+use Rattle.c_check_values.specs.declared.error.CheckError.{CheckError}
+use Rattle.c_check_values.specs.declared.error.CheckError.TheVariants as errors
 use Rattle.c_rules.specs.Units.{IsTyped, IsViolated}
 use Rattle.c_syntax.specs.Tree.{Items}
 use Rattle.c_tree.specs.Tree.{Program}

@@ -1,27 +1,27 @@
 ghost use Rattle.std.specs.Prelude.{◌≡◌, IfErr, IfOk};
 ghost use Rattle.c_check.specs.Refused.{IsRefused};
-ghost use Rattle.c_given.specs.Judges.{Judges};
+ghost use Rattle.c_check_values.specs.Agreement.{AgreesWith};
 ghost use Rattle.c_rules.specs.NullCalls.{CallsNoNullCall};
 ghost use Rattle.c_rules.specs.Units.{IsTyped, checked};
 ghost use Rattle.c_syntax.specs.UnitView.{items_of};
 ghost use Rattle.c_tree.specs.View.{program_of};
 ghost use Rattle.dm_base.specs.declared.mode.Mode.TheVariants.{Plain};
-ghost use Rattle.typed_units.specs.Lexical.{IsUnitLexical};
+ghost use Rattle.c_rules_laws.specs.Lexical.{IsUnitLexical};
 
 use crate::found::{Found, found_in};
-use c_given::CheckError;
+use c_check_units::typed_program;
+use c_check_values::CheckError;
 use c_rules::{a_plain_program_calls_no_null_call, a_typed_unit_violates_no_rule};
+use c_rules_laws::a_typed_unit_is_a_program;
 use c_syntax::{Item, Unit};
 use c_tree::Program;
-use c_units::typed_program;
 use dm_base::Mode;
 use std::alloc::Global;
-use typed_programs::a_typed_unit_is_a_program;
 
 // The program that a unit with these items is typed as.
 fn checked_items(alloc: Global, listed: &[Item], mode: Mode) -> Result<Program, CheckError>
     requires { IsUnitLexical (items_of listed.now) }
-    ensures { Judges program_of result (checked (items_of listed.now) mode) }
+    ensures { AgreesWith program_of result (checked (items_of listed.now) mode) }
 {
     a_typed_unit_is_a_program();
     let Found {

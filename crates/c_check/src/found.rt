@@ -1,18 +1,17 @@
 ghost use Rattle.std.specs.Prelude.{◌≡◌, IfOk};
-ghost use Rattle.c_given.specs.Judges.{Judges};
-ghost use Rattle.c_items.specs.OutputView.{output_of};
+ghost use Rattle.c_check_values.specs.Agreement.{AgreesWith};
+ghost use Rattle.c_check_units.specs.OutputView.{output_of};
 ghost use Rattle.c_rules.specs.Items.{after_items, items};
 ghost use Rattle.c_rules.specs.Scopes.{nothing_before};
 ghost use Rattle.c_rules.specs.Units.{env_before, env_behind};
-ghost use Rattle.c_scopes.specs.View.{before_of, env_of};
+ghost use Rattle.c_check_scopes.specs.View.{before_of, env_of};
 ghost use Rattle.c_syntax.specs.UnitView.{items_of};
 
-use c_file_scope::items;
-use c_given::CheckError;
-use c_items::Output;
-use c_scopes::{Before, Environment};
+use c_check_items::items;
+use c_check_scopes::{Before, Environment};
+use c_check_units::{Output, environment_before};
+use c_check_values::CheckError;
 use c_syntax::Item;
-use c_units::environment_before;
 use dm_base::Mode;
 use std::alloc::Global;
 
@@ -37,7 +36,7 @@ fn nothing_before<'t>(alloc: Global) -> Before<'t>
 
 // What is found of a unit with these items.
 pub fn found_in<'t>(alloc: Global, mode: Mode, listed: &'t [Item]) -> Result<Found<'t>, CheckError>
-    ensures judged { Judges (λ f. output_of f.output) result (items (env_before mode (items_of listed.now)) nothing_before (items_of listed.now)) }
+    ensures judged { AgreesWith (λ f. output_of f.output) result (items (env_before mode (items_of listed.now)) nothing_before (items_of listed.now)) }
     ensures behind { IfOk result (λ f. env_of f.env ≡ env_behind mode (items_of listed.now)) }
     ensures counted { IfOk result (λ f. before_of f.before ≡ after_items (env_before mode (items_of listed.now)) nothing_before (items_of listed.now)) }
 {

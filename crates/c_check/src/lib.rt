@@ -4,5 +4,5 @@
 mod checking;
 mod found;
 
-pub use c_given::CheckError;
+pub use c_check_values::CheckError;
 pub use checking::check;

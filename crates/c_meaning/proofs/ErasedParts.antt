@@ -13,7 +13,7 @@ use Rattle.c_meaning.specs.Pointers.{callee}
 use Rattle.c_meaning.specs.Results.{State, Result, Go, Stop, then_do, answered, Exit}
 use Rattle.c_meaning.specs.Runs.{run_with, no_marks, ending, enter, loop, world, run_body, beginning}
 use Rattle.c_meaning.specs.NullCalls.{AreNullCalls, DifferInNullCalls, NullCallsChangeNothing}
-use Rattle.c_meaning.proofs.Erasing.{output_erase, bare, Alike, then_alike, bracketed_alike, either_alike, if_alike, tested_alike, spend_alike, exit_alike, round_alike}
+use Rattle.c_meaning.proofs.Erasing.{output_erase, bare, Alike, then_alike, instrumented_alike, either_alike, if_alike, tested_alike, spend_alike, exit_alike, round_alike}
 
 -- two worlds that differ in null calls alone
 pub record AlikeWorlds (w v : World) : Type 0 where
@@ -73,9 +73,9 @@ module _ (p : Program) (m n : Marks) (hm : AreNullCalls m) (hn : AreNullCalls n)
             then_alike {A = Bool} {B = Value} (tested (eval p w m fr true c st)) (tested (eval p v n fr true c st)) _ _ (test_alike c st (eval_alike true c st)) (λ holds st. either_alike {A = Value} holds _ _ _ _ (eval_alike true a st) (eval_alike true b st))
         eval_alike wanted (comma t es) st = each_alike wanted es st
         eval_alike wanted (call t site f args) st =
-            then_alike {A = List Value} {B = Value} (eval_all p w m fr args st) (eval_all p v n fr args st) _ _ (all_alike args st) (λ vs st. bracketed_alike m n hm hn site (called p w (wants wanted t) f vs st) (called p v (wants wanted t) f vs st) (called_alike (wants wanted t) f vs st))
+            then_alike {A = List Value} {B = Value} (eval_all p w m fr args st) (eval_all p v n fr args st) _ _ (all_alike args st) (λ vs st. instrumented_alike m n hm hn site (called p w (wants wanted t) f vs st) (called p v (wants wanted t) f vs st) (called_alike (wants wanted t) f vs st))
         eval_alike wanted (call_through t site designator args) st =
-            then_alike {A = Value} {B = Value} (eval p w m fr true designator st) (eval p v n fr true designator st) _ _ (eval_alike true designator st) (λ x st. then_alike {A = List Value} {B = Value} (eval_all p w m fr args st) (eval_all p v n fr args st) _ _ (all_alike args st) (λ vs st. bracketed_alike m n hm hn site _ _ (then_alike {A = ℕ} {B = Value} (answered (callee x) st) (answered (callee x) st) _ _ refl (λ f st. through_alike (wants wanted t) f vs st))))
+            then_alike {A = Value} {B = Value} (eval p w m fr true designator st) (eval p v n fr true designator st) _ _ (eval_alike true designator st) (λ x st. then_alike {A = List Value} {B = Value} (eval_all p w m fr args st) (eval_all p v n fr args st) _ _ (all_alike args st) (λ vs st. instrumented_alike m n hm hn site _ _ (then_alike {A = ℕ} {B = Value} (answered (callee x) st) (answered (callee x) st) _ _ refl (λ f st. through_alike (wants wanted t) f vs st))))
 
         each_alike : (wanted : Bool) (es : Exprs) (st : State) → Alike (eval_each p w m fr wanted es st) (eval_each p v n fr wanted es st)
         each_alike wanted no_exprs st = refl

@@ -16,7 +16,7 @@ use Rattle.c_values.specs.Answers.{Answer, gives, undefined, U11, U13}
 use Rattle.c_values.specs.Memory.{Objects}
 use Rattle.c_tree.specs.Operators.{convert, binary}
 use Rattle.c_tree.specs.Layout.{cells}
-use Rattle.c_meaning.specs.Meaning.{Marks, Frame, Loop, World, either, bracketed, tested, called, call_undefined, called_through, null_call, wants, eval, eval_each, eval_all, condition, perhaps, initialise, fresh, leaving, declared_in, exec, exec_all, exec_from, selected, behind_of, decayed, operated, comparing, moving, updated, name_in}
+use Rattle.c_meaning.specs.Meaning.{Marks, Frame, Loop, World, either, instrumented_unit, tested, called, call_undefined, called_through, null_call, wants, eval, eval_each, eval_all, condition, perhaps, initialise, fresh, leaving, declared_in, exec, exec_all, exec_from, selected, behind_of, decayed, operated, comparing, moving, updated, name_in}
 use Rattle.c_meaning.specs.Pointers.{test, callee, place, load_place, store_place, member, difference}
 use Rattle.c_meaning.specs.Results.{State, with_memory, Result, Go, Stop, after, then_do, spend_at, answered, remembered, Exit, on, broken, continued, returned, on_exit, on_round}
 use Rattle.c_meaning.specs.Runs.{entered, without_value, result_of, enter, loop, world, run_body, beginning}
@@ -55,8 +55,8 @@ module _ (p : Program) (marks : Marks) (I : State → Type 0) (O : Outcome → T
   remembered_holds (gives m) a st i = kept.memory st m i
   remembered_holds (undefined kind) a st i = kept.undefined kind
 
-  bracketed_holds : (site : ℕ) (r : Result Value) → Holds r → Holds (bracketed marks site r)
-  bracketed_holds site r h = after_holds {A = Value} ((marks site).0) (then_do r (λ v st. Go v st ((marks site).1))) (then_holds {A = Value} {B = Value} r (λ v st. Go v st ((marks site).1)) h (λ v st i. i))
+  instrumented_holds : (site : ℕ) (r : Result Value) → Holds r → Holds (instrumented_unit marks site r)
+  instrumented_holds site r h = after_holds {A = Value} ((marks site).0) (then_do r (λ v st. Go v st ((marks site).1))) (then_holds {A = Value} {B = Value} r (λ v st. Go v st ((marks site).1)) h (λ v st i. i))
 
   either_holds : {A : Type 0} (holds : Bool) (a b : Result A) → Holds a → Holds b → Holds (either holds a b)
   either_holds true a b h k = h
@@ -168,9 +168,9 @@ module _ (p : Program) (marks : Marks) (I : State → Type 0) (O : Outcome → T
             then_holds {A = Bool} {B = Value} (tested (eval p w marks fr true c st)) _ (tested_holds _ (eval_holds true c st i)) (λ holds st i. either_holds {A = Value} holds _ _ (eval_holds true a st i) (eval_holds true b st i))
         eval_holds wanted (comma t es) st i = each_holds wanted es st i
         eval_holds wanted (call t site f args) st i =
-            then_holds {A = List Value} {B = Value} (eval_all p w marks fr args st) _ (all_hold args st i) (λ vs st i. bracketed_holds site (called p w (wants wanted t) f vs st) (called_holds (wants wanted t) f vs st i))
+            then_holds {A = List Value} {B = Value} (eval_all p w marks fr args st) _ (all_hold args st i) (λ vs st i. instrumented_holds site (called p w (wants wanted t) f vs st) (called_holds (wants wanted t) f vs st i))
         eval_holds wanted (call_through t site designator args) st i =
-            then_holds {A = Value} {B = Value} (eval p w marks fr true designator st) _ (eval_holds true designator st i) (λ x st i. then_holds {A = List Value} {B = Value} (eval_all p w marks fr args st) _ (all_hold args st i) (λ vs st i. bracketed_holds site _ (then_holds {A = ℕ} {B = Value} (answered (callee x) st) (λ f st. called_through p w (wants wanted t) f vs st) (answered_holds {A = ℕ} (callee x) st i) (λ f st i. through_holds (wants wanted t) f vs st i))))
+            then_holds {A = Value} {B = Value} (eval p w marks fr true designator st) _ (eval_holds true designator st i) (λ x st i. then_holds {A = List Value} {B = Value} (eval_all p w marks fr args st) _ (all_hold args st i) (λ vs st i. instrumented_holds site _ (then_holds {A = ℕ} {B = Value} (answered (callee x) st) (λ f st. called_through p w (wants wanted t) f vs st) (answered_holds {A = ℕ} (callee x) st i) (λ f st i. through_holds (wants wanted t) f vs st i))))
 
         each_holds : (wanted : Bool) (es : Exprs) (st : State) → I st → Holds (eval_each p w marks fr wanted es st)
         each_holds wanted no_exprs st i = kept.undefined U13

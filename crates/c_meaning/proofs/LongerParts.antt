@@ -19,7 +19,7 @@ use Rattle.c_meaning.specs.Pointers.{callee, place, load_place, store_place, mem
 use Rattle.c_meaning.specs.Results.{State, Result, Go, Stop, then_do, answered, Exit}
 use Rattle.c_meaning.specs.Runs.{run_with, ending, enter, loop, world, run_body, beginning}
 use Rattle.c_meaning.specs.More.{MoreRecordsChangeNothing, MoreTurnsChangeNothing}
-use Rattle.c_meaning.proofs.Longer.{plus, plus_is, plus_zero, more_in, IsLack, longer, Lacks, Follows, then_follows, answered_follows, remembered_follows, bracketed_follows, either_follows, if_follows, tested_follows, spend_follows, exit_follows, round_follows, null_follows, call_follows, result_follows}
+use Rattle.c_meaning.proofs.Longer.{plus, plus_is, plus_zero, more_in, IsLack, longer, Lacks, Follows, then_follows, answered_follows, remembered_follows, instrumented_follows, either_follows, if_follows, tested_follows, spend_follows, exit_follows, round_follows, null_follows, call_follows, result_follows}
 
 module _ (p : Program) (marks : Marks) (records : List SysResult) (turns : ℕ) (Lack : Outcome → Type 0) (lack : IsLack records turns Lack) where
   -- the second part is the first one with more, or the first one ended for want of it
@@ -101,9 +101,9 @@ module _ (p : Program) (marks : Marks) (records : List SysResult) (turns : ℕ) 
             goes_then {A = Bool} {B = Value} (tested (eval p w marks fr true c st)) (tested (eval p v marks fr true c (further st))) _ _ (test_goes c st (eval_goes true c st)) (λ holds st. either_follows records turns Lack lack {A = Value} holds _ _ _ _ (eval_goes true a st) (eval_goes true b st))
         eval_goes wanted (comma t es) st = each_goes wanted es st
         eval_goes wanted (call t site f args) st =
-            goes_then {A = List Value} {B = Value} (eval_all p w marks fr args st) (eval_all p v marks fr args (further st)) _ _ (all_goes args st) (λ vs st. bracketed_follows records turns Lack lack marks site (called p w (wants wanted t) f vs st) (called p v (wants wanted t) f vs (further st)) (called_goes (wants wanted t) f vs st))
+            goes_then {A = List Value} {B = Value} (eval_all p w marks fr args st) (eval_all p v marks fr args (further st)) _ _ (all_goes args st) (λ vs st. instrumented_follows records turns Lack lack marks site (called p w (wants wanted t) f vs st) (called p v (wants wanted t) f vs (further st)) (called_goes (wants wanted t) f vs st))
         eval_goes wanted (call_through t site designator args) st =
-            goes_then {A = Value} {B = Value} (eval p w marks fr true designator st) (eval p v marks fr true designator (further st)) _ _ (eval_goes true designator st) (λ x st. goes_then {A = List Value} {B = Value} (eval_all p w marks fr args st) (eval_all p v marks fr args (further st)) _ _ (all_goes args st) (λ vs st. bracketed_follows records turns Lack lack marks site _ _ (goes_then {A = ℕ} {B = Value} (answered (callee x) st) (answered (callee x) (further st)) _ _ (goes_answered {A = ℕ} (callee x) st) (λ f st. through_goes (wants wanted t) f vs st))))
+            goes_then {A = Value} {B = Value} (eval p w marks fr true designator st) (eval p v marks fr true designator (further st)) _ _ (eval_goes true designator st) (λ x st. goes_then {A = List Value} {B = Value} (eval_all p w marks fr args st) (eval_all p v marks fr args (further st)) _ _ (all_goes args st) (λ vs st. instrumented_follows records turns Lack lack marks site _ _ (goes_then {A = ℕ} {B = Value} (answered (callee x) st) (answered (callee x) (further st)) _ _ (goes_answered {A = ℕ} (callee x) st) (λ f st. through_goes (wants wanted t) f vs st))))
 
         each_goes : (wanted : Bool) (es : Exprs) (st : State) → Goes (eval_each p w marks fr wanted es st) (eval_each p v marks fr wanted es (further st))
         each_goes wanted no_exprs st = inr refl

@@ -13,7 +13,7 @@ use Rattle.c_values.specs.Answers.{Answer, gives, undefined}
 use Rattle.c_values.specs.Memory.{Objects}
 use Rattle.c_tree.specs.Operators.{convert, binary}
 use Rattle.c_tree.specs.Layout.{cells}
-use Rattle.c_meaning.specs.Meaning.{Frame, Loop, World, either, bracketed, tested, called, call_undefined, called_through, null_call, wants, eval, eval_each, eval_all, condition, perhaps, initialise, fresh, leaving, declared_in, exec, exec_all, exec_from, selected, behind_of, decayed, operated, comparing, moving, updated, name_in}
+use Rattle.c_meaning.specs.Meaning.{Frame, Loop, World, either, instrumented_unit, tested, called, call_undefined, called_through, null_call, wants, eval, eval_each, eval_all, condition, perhaps, initialise, fresh, leaving, declared_in, exec, exec_all, exec_from, selected, behind_of, decayed, operated, comparing, moving, updated, name_in}
 use Rattle.c_meaning.specs.Pointers.{test, callee, place, load_place, store_place, member, difference}
 use Rattle.c_meaning.specs.Results.{State, Result, Go, Stop, after, then_do, spend_at, answered, remembered, Exit, on, broken, continued, returned, on_exit, on_round}
 use Rattle.c_meaning.specs.Runs.{entered, without_value, result_of, enter, loop, world, run_body, beginning}
@@ -55,8 +55,8 @@ remembered_plain : {A : Type 0} (x : Answer Objects) (a : A) (st : State) → Pl
 remembered_plain (gives m) a st = refl
 remembered_plain (undefined kind) a st = refl
 
-bracketed_plain : (site : ℕ) (r : Result Value) → Plain r → Plain (bracketed no_marks site r)
-bracketed_plain site r h = after_plain {A = Value} [] (then_do r (λ v st. Go v st [])) refl (then_plain {A = Value} {B = Value} r (λ v st. Go v st []) h (λ v st. refl))
+instrumented_plain : (site : ℕ) (r : Result Value) → Plain r → Plain (instrumented_unit no_marks site r)
+instrumented_plain site r h = after_plain {A = Value} [] (then_do r (λ v st. Go v st [])) refl (then_plain {A = Value} {B = Value} r (λ v st. Go v st []) h (λ v st. refl))
 
 either_plain : {A : Type 0} (holds : Bool) (a b : Result A) → Plain a → Plain b → Plain (either holds a b)
 either_plain true a b h k = h
@@ -192,9 +192,9 @@ module _ (p : Program) (free : MakesNoNullCall p) where
             then_plain {A = Bool} {B = Value} (tested (eval p w no_marks fr true c st)) _ (tested_plain _ (eval_plain true c h.0 st)) (λ holds st. either_plain {A = Value} holds _ _ (eval_plain true a h.1 st) (eval_plain true b h.2 st))
         eval_plain wanted (comma t es) h st = each_plain wanted es h st
         eval_plain wanted (call t site f args) h st =
-            then_plain {A = List Value} {B = Value} (eval_all p w no_marks fr args st) _ (all_plain args h.2 st) (λ vs st. bracketed_plain site (called p w (wants wanted t) f vs st) (called_plain (wants wanted t) f vs st h.0 h.1))
+            then_plain {A = List Value} {B = Value} (eval_all p w no_marks fr args st) _ (all_plain args h.2 st) (λ vs st. instrumented_plain site (called p w (wants wanted t) f vs st) (called_plain (wants wanted t) f vs st h.0 h.1))
         eval_plain wanted (call_through t site designator args) h st =
-            then_plain {A = Value} {B = Value} (eval p w no_marks fr true designator st) _ (eval_plain true designator h.0 st) (λ x st. then_plain {A = List Value} {B = Value} (eval_all p w no_marks fr args st) _ (all_plain args h.1 st) (λ vs st. bracketed_plain site _ (then_plain {A = ℕ} {B = Value} (answered (callee x) st) (λ f st. called_through p w (wants wanted t) f vs st) (answered_plain {A = ℕ} (callee x) st) (λ f st. through_plain (wants wanted t) f vs st))))
+            then_plain {A = Value} {B = Value} (eval p w no_marks fr true designator st) _ (eval_plain true designator h.0 st) (λ x st. then_plain {A = List Value} {B = Value} (eval_all p w no_marks fr args st) _ (all_plain args h.1 st) (λ vs st. instrumented_plain site _ (then_plain {A = ℕ} {B = Value} (answered (callee x) st) (λ f st. called_through p w (wants wanted t) f vs st) (answered_plain {A = ℕ} (callee x) st) (λ f st. through_plain (wants wanted t) f vs st))))
 
         each_plain : (wanted : Bool) (es : Exprs) → AreFree (defined p) es → (st : State) → Plain (eval_each p w no_marks fr wanted es st)
         each_plain wanted no_exprs h st = refl

@@ -10,8 +10,8 @@ use Rattle.c_syntax.specs.Specifiers.{ReadsStorage, no_storage_stands, static_st
 use Rattle.c_syntax.specs.Statements.{no_initialiser, an_initialiser, last_part, next_part, ReadsDecl, a_declaration}
 use Rattle.c_syntax.specs.View.{declarator_of}
 use Rattle.c_syntax.specs.UnitView.{maybe_init_of, parts_of}
-use Rattle.c_phrases.specs.declared.room.Room.{Room}
-use Rattle.c_phrases.specs.Phrases.{HasSpec, HasDeclarator, HasInit}
+use Rattle.c_parser_phrases.specs.declared.room.Room.{Room}
+use Rattle.c_parser_phrases.specs.Phrases.{HasSpec, HasDeclarator, HasInit}
 use Rattle.c_parser.specs.Lists.{Goes, RestAfterComma, no_comma_stands, after_comma}
 use Rattle.c_parser.proofs.ListLemmas.{goes_until}
 use Rattle.c_parser.specs.Parsed.{HasMaybeInit, AreParts, HasParts, HasPlainDecl}

@@ -4,16 +4,16 @@ use Rattle.c_lexer.specs.declared.token.Token.{Token}
 use Rattle.c_lexer.specs.declared.punctuator.TheConstants.{ASSIGN, COMMA, SEMICOLON}
 use Rattle.c_syntax.specs.Tree.{Spec, Declarator, Init}
 use Rattle.c_syntax.specs.Tokens.{Is}
-use Rattle.c_phrases.specs.declared.room.Room.{Room}
-use Rattle.c_phrases.specs.Phrases.{HasSpec, HasDeclarator, HasInit}
-use Rattle.c_phrases.specs.Standing.{IsAt}
-use Rattle.c_refusals.specs.Fails.{Fails}
-use Rattle.c_phrases.specs.Refusing.{bound_of}
-use Rattle.c_refusals.specs.Phrases.{Bound, any, within, fits_any, ASpec, ADeclarator, AnInit, APlainDecl}
-use Rattle.c_refusals.specs.Declarations.{PartsTail, PartsEnd}
-use Rattle.c_refusals.proofs.Combine.{fails_at}
-use Rattle.c_refusals.proofs.DeclForms.{spec_fails as spec_of_decl_fails, parts_fail, declarator_fails, tail_fails, init_fails, end_fails, no_assign_fails}
-use Rattle.c_refusals.proofs.PartFails.{parts_unclosed, next_part_fails, no_decl_left}
+use Rattle.c_parser_phrases.specs.declared.room.Room.{Room}
+use Rattle.c_parser_phrases.specs.Phrases.{HasSpec, HasDeclarator, HasInit}
+use Rattle.c_parser_phrases.specs.Standing.{IsAt}
+use Rattle.c_parser_refusals.specs.Fails.{Fails}
+use Rattle.c_parser_phrases.specs.Refusing.{bound_of}
+use Rattle.c_parser_refusals.specs.Phrases.{Bound, any, within, fits_any, ASpec, ADeclarator, AnInit, APlainDecl}
+use Rattle.c_parser_refusals.specs.Declarations.{PartsTail, PartsEnd}
+use Rattle.c_parser_refusals.proofs.Combine.{fails_at}
+use Rattle.c_parser_refusals.proofs.DeclForms.{spec_fails as spec_of_decl_fails, parts_fail, declarator_fails, tail_fails, init_fails, end_fails, no_assign_fails}
+use Rattle.c_parser_refusals.proofs.PartFails.{parts_unclosed, next_part_fails, no_decl_left}
 use Rattle.c_parser.proofs.Firsts.{not_at}
 
 pub a_spec : {s : Spec} {i j : List Token} → HasSpec s i j → ASpec i j

@@ -18,9 +18,9 @@ use Rattle.c_syntax.specs.Statements.{last_declarator, next_declarator, last_mem
 use Rattle.c_syntax.specs.Statements.{a_struct, an_enum, an_enum_with_comma, a_tag_alone, an_item_declaration, a_definition, last_item, next_item}
 use Rattle.c_syntax.specs.View.{ident_of, spec_of, declarator_of}
 use Rattle.c_syntax.specs.UnitView.{maybe_of, stmt_of, parts_of, members_of, enumerators_of, item_at}
-use Rattle.c_phrases.specs.declared.room.Room.{Room}
-use Rattle.c_phrases.specs.Phrases.{HasRead, HasSpec, HasDeclarator}
-use Rattle.c_phrases.specs.Standing.{TookName}
+use Rattle.c_parser_phrases.specs.declared.room.Room.{Room}
+use Rattle.c_parser_phrases.specs.Phrases.{HasRead, HasSpec, HasDeclarator}
+use Rattle.c_parser_phrases.specs.Standing.{TookName}
 use Rattle.c_parser.specs.Lists.{Goes, Rest, ends, goes_on, RestAfterComma, no_comma_stands, after_comma}
 use Rattle.c_parser.specs.Parsed.{HasBlock, HasParts, AreDeclarators, HasDeclarators, AreMembers, HasMembers, AreEnumerators, HasEnumeratorValue, HasEnumerators, brace_follows, comma_follows, HasItem, AreItems}
 use Rattle.c_parser.proofs.ListLemmas.{goes_until}

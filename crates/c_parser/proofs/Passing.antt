@@ -3,17 +3,17 @@ use Rattle.std.proofs.Common.{◌≡◌, ◌<◌, ◌-◌, ℕ, zero, suc, List,
 use Rattle.std.proofs.lemmas.Result.{err_from_is_err_and}
 use Rattle.c_lexer.specs.declared.token.Token.{Token}
 use Rattle.c_lexer.specs.declared.punctuator.TheConstants.{LEFT_BRACE}
-use Rattle.c_phrases.specs.declared.room.Room.{Room}
-use Rattle.c_phrases.specs.declared.error.PhraseError.{PhraseError}
-use Rattle.c_phrases.specs.declared.error.PhraseError.TheVariants.{OutOfMemory, Syntax, Nesting}
-use Rattle.c_phrases.specs.Looking.{IsAtSpecifier}
-use Rattle.c_phrases.specs.Standing.{IsAt}
-use Rattle.c_phrases.specs.Refusing.{bound_of, RefusedFlat, RefusesDeep}
-use Rattle.c_refusals.specs.Fails.{Fails}
-use Rattle.c_refusals.specs.Phrases.{Bound, inner, fits_within, AStmt, APlainDecl}
-use Rattle.c_refusals.specs.Items.{AnItem, AnOther}
-use Rattle.c_refusals.specs.Opens.{Opens, DeepDecl, DeepStmt, DeepBlock}
-use Rattle.c_refusals.proofs.PartOpens.{decl_is_deep}
+use Rattle.c_parser_phrases.specs.declared.room.Room.{Room}
+use Rattle.c_parser_phrases.specs.declared.error.PhraseError.{PhraseError}
+use Rattle.c_parser_phrases.specs.declared.error.PhraseError.TheVariants.{OutOfMemory, Syntax, Nesting}
+use Rattle.c_parser_phrases.specs.Looking.{IsAtSpecifier}
+use Rattle.c_parser_phrases.specs.Standing.{IsAt}
+use Rattle.c_parser_phrases.specs.Refusing.{bound_of, RefusedFlat, RefusesDeep}
+use Rattle.c_parser_refusals.specs.Fails.{Fails}
+use Rattle.c_parser_refusals.specs.Phrases.{Bound, inner, fits_within, AStmt, APlainDecl}
+use Rattle.c_parser_refusals.specs.Items.{AnItem, AnOther}
+use Rattle.c_parser_refusals.specs.Opens.{Opens, DeepDecl, DeepStmt, DeepBlock}
+use Rattle.c_parser_refusals.proofs.PartOpens.{decl_is_deep}
 use Rattle.c_parser.specs.declared.starts.Compound.{Compound}
 use Rattle.c_parser.specs.declared.starts.Compound.TheVariants as c
 use Rattle.c_parser.specs.Making.{Adds}

@@ -3,8 +3,8 @@ use Rattle.std.proofs.Common.{◌≡◌, ◌<◌, ℕ, ◌-◌, List, [], ◌∷
 use Rattle.c_lexer.specs.declared.token.Token.{Token}
 use Rattle.c_syntax.specs.Tree.{Stmt}
 use Rattle.c_syntax.specs.Tokens.{IsKeyword, place}
-use Rattle.c_phrases.specs.Standing.{IsAtKeyword}
-use Rattle.c_phrases.specs.declared.room.Room.{Room}
+use Rattle.c_parser_phrases.specs.Standing.{IsAtKeyword}
+use Rattle.c_parser_phrases.specs.declared.room.Room.{Room}
 use Rattle.c_parser.specs.declared.starts.Compound.{Compound}
 use Rattle.c_parser.specs.Starting.{BeginsCompound}
 use Rattle.c_parser.specs.Parsed.{HasStmt, HasNode}

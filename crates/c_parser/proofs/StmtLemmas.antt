@@ -23,9 +23,9 @@ use Rattle.c_syntax.specs.View.{expr_of}
 use Rattle.c_parser.specs.declared.nodes.ForHead.{ForHead}
 use Rattle.c_syntax.specs.UnitView.{decl_of, first_of_head, maybe_of, stmt_of, group_before, labels_of}
 use Rattle.c_syntax.specs.WritesUnit.{block_items_of, stmts_of, groups_of}
-use Rattle.c_phrases.specs.declared.room.Room.{Room}
-use Rattle.c_phrases.specs.Phrases.{HasRead}
-use Rattle.c_phrases.specs.Standing.{IsAt, IsAtKeyword}
+use Rattle.c_parser_phrases.specs.declared.room.Room.{Room}
+use Rattle.c_parser_phrases.specs.Phrases.{HasRead}
+use Rattle.c_parser_phrases.specs.Standing.{IsAt, IsAtKeyword}
 use Rattle.c_parser.specs.Lists.{Goes, Rest, ends, goes_on}
 use Rattle.c_parser.specs.Parsed.{HasCondition, HasMaybe, HasPlainDecl, HasFirst, HasHead, AreLabels, HasStmt, HasNode, HasBlock, AreBlockItems, AreStmts, AreGroups, HasGroups}
 use Rattle.c_parser.proofs.ListLemmas.{goes_until}

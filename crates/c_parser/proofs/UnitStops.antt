@@ -9,14 +9,14 @@ use Rattle.c_syntax.specs.Tree.{Items}
 use Rattle.c_syntax.specs.Limits.{deepest}
 use Rattle.c_syntax.specs.Spelling.{SpellsAnyDepth, SpellsUnit}
 use Rattle.c_syntax.proofs.OneUnit.{same_items}
-use Rattle.c_refusals.specs.Fails.{at_end, at_token, Fails}
-use Rattle.c_refusals.specs.Phrases.{Bound, any}
-use Rattle.c_refusals.specs.Units.{AUnit}
-use Rattle.c_refusals.specs.Opens.{DeepUnit}
-use Rattle.c_refusals.proofs.UnitFails.{none_spelled}
-use Rattle.c_phrases.specs.declared.error.PhraseError.{PhraseError}
-use Rattle.c_phrases.specs.declared.error.PhraseError.TheVariants as c
-use Rattle.c_phrases.specs.Refusing.{Refuses}
+use Rattle.c_parser_refusals.specs.Fails.{at_end, at_token, Fails}
+use Rattle.c_parser_refusals.specs.Phrases.{Bound, any}
+use Rattle.c_parser_refusals.specs.Units.{AUnit}
+use Rattle.c_parser_refusals.specs.Opens.{DeepUnit}
+use Rattle.c_parser_refusals.proofs.UnitFails.{none_spelled}
+use Rattle.c_parser_phrases.specs.declared.error.PhraseError.{PhraseError}
+use Rattle.c_parser_phrases.specs.declared.error.PhraseError.TheVariants as c
+use Rattle.c_parser_phrases.specs.Refusing.{Refuses}
 use Rattle.c_parser.specs.declared.error.ParseError.{ParseError}
 use Rattle.c_parser.specs.declared.error.ParseError.TheVariants.{OutOfMemory, Syntax, Nesting}
 use Rattle.c_parser.specs.Nesting.{PastAt, RefusesPast, OpensAs}

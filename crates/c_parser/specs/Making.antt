@@ -4,8 +4,8 @@ use Rattle.std.specs.Global.{Global}
 use Rattle.c_syntax.specs.declared.tree.Stmt.{Stmt as StmtTree}
 use Rattle.c_syntax.specs.Tree.{Stmt}
 use Rattle.c_syntax.specs.UnitView.{stmt_of}
-use Rattle.c_phrases.specs.declared.error.PhraseError.{PhraseError}
-use Rattle.c_phrases.specs.declared.error.PhraseError.TheVariants.{OutOfMemory, Syntax, Nesting}
+use Rattle.c_parser_phrases.specs.declared.error.PhraseError.{PhraseError}
+use Rattle.c_parser_phrases.specs.declared.error.PhraseError.TheVariants.{OutOfMemory, Syntax, Nesting}
 
 -- the statement in a box, or want of memory
 abbrev pub Makes : Result (Box StmtTree Global) PhraseError → Stmt → Type 0

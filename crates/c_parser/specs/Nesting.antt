@@ -7,14 +7,14 @@ use Rattle.c_lexer.specs.declared.keyword.TheConstants.{FOR}
 use Rattle.c_syntax.specs.Tokens.{Is, IsKeyword}
 use Rattle.c_syntax.specs.Tree.{Declarator}
 use Rattle.c_syntax.specs.Grammar.{Level, expression_level, conditional_level}
-use Rattle.c_phrases.specs.declared.room.Room.{Room}
-use Rattle.c_phrases.specs.declared.error.PhraseError.{PhraseError}
-use Rattle.c_phrases.specs.declared.error.PhraseError.TheVariants.{OutOfMemory, Syntax, Nesting}
-use Rattle.c_phrases.specs.Phrases.{HasDeclarator}
-use Rattle.c_phrases.specs.Refusing.{bound_of}
-use Rattle.c_refusals.specs.Fails.{Fails}
-use Rattle.c_refusals.specs.Phrases.{Bound}
-use Rattle.c_refusals.specs.Opens.{Opens, DeepExpr, DeepInit, DeepParts, DeepStmt, DeepBlock}
+use Rattle.c_parser_phrases.specs.declared.room.Room.{Room}
+use Rattle.c_parser_phrases.specs.declared.error.PhraseError.{PhraseError}
+use Rattle.c_parser_phrases.specs.declared.error.PhraseError.TheVariants.{OutOfMemory, Syntax, Nesting}
+use Rattle.c_parser_phrases.specs.Phrases.{HasDeclarator}
+use Rattle.c_parser_phrases.specs.Refusing.{bound_of}
+use Rattle.c_parser_refusals.specs.Fails.{Fails}
+use Rattle.c_parser_refusals.specs.Phrases.{Bound}
+use Rattle.c_parser_refusals.specs.Opens.{Opens, DeepExpr, DeepInit, DeepParts, DeepStmt, DeepBlock}
 
 -- in the phrase itself
 abbrev pub OpensAs : (ℕ → ℕ → ℕ → List Token → List Token → Type 0) → (at p n : ℕ) → List Token → List Token → Type 0

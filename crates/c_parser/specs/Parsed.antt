@@ -20,9 +20,9 @@ use Rattle.c_syntax.specs.Statements.{ReadsMaybe, ReadsMaybeInit, ReadsParts, Re
 use Rattle.c_syntax.specs.Limits.{height, height_of_maybe, height_of_maybe_init, height_of_parts, height_of_decl, height_of_first, height_of_labels, height_of_stmt, height_of_block_items, height_of_stmts, height_of_groups, height_of_declarators, height_of_members, height_of_enumerators, height_of_item, height_of_unit}
 use Rattle.c_syntax.specs.UnitView.{first_of_head, maybe_of, parts_of, labels_of, declarators_of, members_of, enumerators_of, items_of}
 use Rattle.c_syntax.specs.WritesUnit.{block_items_of, stmts_of, groups_of}
-use Rattle.c_phrases.specs.declared.room.Room.{Room}
-use Rattle.c_phrases.specs.Standing.{IsAtKeyword}
-use Rattle.c_refusals.specs.Phrases.{any, ABlockItem}
+use Rattle.c_parser_phrases.specs.declared.room.Room.{Room}
+use Rattle.c_parser_phrases.specs.Standing.{IsAtKeyword}
+use Rattle.c_parser_refusals.specs.Phrases.{any, ABlockItem}
 use Rattle.c_parser.specs.declared.nodes.ForHead.{ForHead}
 use Rattle.c_parser.specs.Lists.{Rest, RestAfterComma}
 

@@ -3,11 +3,11 @@ use Rattle.std.specs.Prelude.{◌≡◌, ℕ, List, [], ◌∷◌}
 use Rattle.c_lexer.specs.declared.token.Token.{Token}
 use Rattle.c_lexer.specs.declared.punctuator.TheConstants.{LEFT_PARENTHESIS, RIGHT_PARENTHESIS, SEMICOLON}
 use Rattle.c_syntax.specs.Grammar.{expression_level}
-use Rattle.c_phrases.specs.declared.error.PhraseError.{PhraseError}
-use Rattle.c_phrases.specs.declared.error.PhraseError.TheVariants.{OutOfMemory, Syntax, Nesting}
-use Rattle.c_refusals.specs.Fails.{Then}
-use Rattle.c_refusals.specs.Phrases.{Bound, AnExpr, AFirst, MaybeExpr, Punctuator, ASpec, ADeclarator}
-use Rattle.c_refusals.specs.Items.{OtherRest}
+use Rattle.c_parser_phrases.specs.declared.error.PhraseError.{PhraseError}
+use Rattle.c_parser_phrases.specs.declared.error.PhraseError.TheVariants.{OutOfMemory, Syntax, Nesting}
+use Rattle.c_parser_refusals.specs.Fails.{Then}
+use Rattle.c_parser_refusals.specs.Phrases.{Bound, AnExpr, AFirst, MaybeExpr, Punctuator, ASpec, ADeclarator}
+use Rattle.c_parser_refusals.specs.Items.{OtherRest}
 use Rattle.c_parser.specs.Refused.{end_of}
 
 -- an error is left as it is, or becomes one of nesting

@@ -3,7 +3,7 @@ use Rattle.std.specs.Prelude.{◌⊎◌, ℕ, List, drop, Option, Some, None}
 use Rattle.c_lexer.specs.declared.token.Token.{Token}
 use Rattle.c_lexer.specs.declared.keyword.TheConstants.{CASE, DEFAULT, DO, ENUM, FOR, IF, STRUCT, SWITCH, WHILE}
 use Rattle.c_lexer.specs.declared.punctuator.TheConstants.{LEFT_BRACE, RIGHT_BRACE, SEMICOLON}
-use Rattle.c_phrases.specs.Standing.{IsAt, IsAtKeyword}
+use Rattle.c_parser_phrases.specs.Standing.{IsAt, IsAtKeyword}
 use Rattle.c_parser.specs.declared.starts.Compound.{Compound}
 use Rattle.c_parser.specs.declared.starts.Compound.TheVariants as c
 use Rattle.c_parser.specs.declared.starts.ItemStart.{ItemStart}

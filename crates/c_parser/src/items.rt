@@ -5,17 +5,17 @@ ghost use Rattle.c_lexer.specs.declared.punctuator.TheConstants.{COMMA as comma,
 ghost use Rattle.c_syntax.specs.Tokens.{Is, IsKeyword};
 ghost use Rattle.c_syntax.specs.UnitView.{item_at, maybe_of, tag_of};
 ghost use Rattle.c_syntax.specs.Statements.{ReadsTag};
-ghost use Rattle.c_refusals.specs.Fails.{Fails};
-ghost use Rattle.c_refusals.specs.Phrases.{Bound, any, Punctuator};
-ghost use Rattle.c_refusals.specs.Units.{AUnit};
-ghost use Rattle.c_refusals.specs.Items.{AnItem, AnOther, InStruct, AMember, DeclaratorsClosed, InEnum, EnumEnd, ValueRest};
-ghost use Rattle.c_phrases.specs.declared.room.Room.{Room};
-ghost use Rattle.c_phrases.specs.Standing.{IsAt};
-ghost use Rattle.c_phrases.specs.Refusing.{bound_of, Stops};
+ghost use Rattle.c_parser_refusals.specs.Fails.{Fails};
+ghost use Rattle.c_parser_refusals.specs.Phrases.{Bound, any, Punctuator};
+ghost use Rattle.c_parser_refusals.specs.Units.{AUnit};
+ghost use Rattle.c_parser_refusals.specs.Items.{AnItem, AnOther, InStruct, AMember, DeclaratorsClosed, InEnum, EnumEnd, ValueRest};
+ghost use Rattle.c_parser_phrases.specs.declared.room.Room.{Room};
+ghost use Rattle.c_parser_phrases.specs.Standing.{IsAt};
+ghost use Rattle.c_parser_phrases.specs.Refusing.{bound_of, Stops};
 ghost use Rattle.c_parser.specs.Starting.{BeginsTagged, BeginsEnum};
 ghost use Rattle.c_parser.specs.Parsed.{HasItem, HasMembers, HasMember, HasDeclarators, HasEnumerators, HasEnumerator, HasEnumeratorValue, AreItems};
-ghost use Rattle.c_refusals.specs.Opens.{Opens, DeepUnit, DeepItem};
-ghost use Rattle.c_openings.specs.Deep.{DeepMembers, DeepDeclarators, DeepEnumerators};
+ghost use Rattle.c_parser_refusals.specs.Opens.{Opens, DeepUnit, DeepItem};
+ghost use Rattle.c_parser_refusals.specs.Deep.{DeepMembers, DeepDeclarators, DeepEnumerators};
 ghost use Rattle.c_parser.specs.Nesting.{Passes, OpensAs, OpensValue};
 
 use crate::declarations::{parts, storage};
@@ -23,7 +23,7 @@ use crate::starts::{ItemStart, item_start};
 use crate::statements::block;
 use c_lexer::keyword::{ENUM, STRUCT};
 use c_lexer::punctuator::{ASSIGN, COMMA, LEFT_BRACE, RIGHT_BRACE, SEMICOLON};
-use c_phrases::{Cursor, PhraseError, Room};
+use c_parser_phrases::{Cursor, PhraseError, Room};
 use c_syntax::{Decl, Declarator, Enumerator, Expr, Ident, Item, ItemKind, Member};
 use std::alloc::Global;
 

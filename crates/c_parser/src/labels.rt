@@ -1,18 +1,18 @@
 ghost use Rattle.std.specs.Prelude.{◌<◌, ◌↔◌, IfOk, OnOk, IsTrue, List, length, ℕ};
 ghost use Rattle.c_parser.specs.Parsed.{HasLabel, AreLabels};
 ghost use Rattle.c_lexer.specs.declared.token.Token.{Token};
-ghost use Rattle.c_refusals.specs.Fails.{Fails};
-ghost use Rattle.c_refusals.specs.Phrases.{Bound, SomeLabels};
-ghost use Rattle.c_refusals.specs.Labels.{LabelsRest};
+ghost use Rattle.c_parser_refusals.specs.Fails.{Fails};
+ghost use Rattle.c_parser_refusals.specs.Phrases.{Bound, SomeLabels};
+ghost use Rattle.c_parser_refusals.specs.Labels.{LabelsRest};
 ghost use Rattle.c_parser.specs.Starting.{IsAtLabel};
-ghost use Rattle.c_phrases.specs.Refusing.{bound_of, Stops};
-ghost use Rattle.c_refusals.specs.Opens.{Opens};
-ghost use Rattle.c_openings.specs.Deep.{DeepLabels};
+ghost use Rattle.c_parser_phrases.specs.Refusing.{bound_of, Stops};
+ghost use Rattle.c_parser_refusals.specs.Opens.{Opens};
+ghost use Rattle.c_parser_refusals.specs.Deep.{DeepLabels};
 ghost use Rattle.c_parser.specs.Nesting.{Passes, OpensAs};
 
 use c_lexer::keyword::{CASE, DEFAULT};
 use c_lexer::punctuator::COLON;
-use c_phrases::{Cursor, PhraseError, Room};
+use c_parser_phrases::{Cursor, PhraseError, Room};
 use c_syntax::{Label, LabelKind};
 use std::alloc::Global;
 

@@ -8,7 +8,7 @@ ghost use Rattle.c_syntax.specs.WritesUnit.{block_items_of, groups_of, stmts_of}
 ghost use Rattle.c_syntax.specs.declared.tree.BlockItem.TheVariants.{Statement};
 ghost use Rattle.c_parser.specs.Making.{Makes, Adds};
 
-use c_phrases::PhraseError;
+use c_parser_phrases::PhraseError;
 use c_syntax::{BlockItem, Expr, ForFirst, Group, Label, Stmt, StmtKind};
 use std::alloc::Global;
 

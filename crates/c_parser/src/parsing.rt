@@ -10,7 +10,7 @@ ghost use Rattle.c_parser.specs.Refusing.{place_left};
 use crate::error::ParseError;
 use crate::items::items;
 use c_lexer::Token;
-use c_phrases::{Cursor, PhraseError, Room};
+use c_parser_phrases::{Cursor, PhraseError, Room};
 use c_syntax::{Item, Unit};
 use dm_base::Mode;
 use std::alloc::Global;

@@ -2,13 +2,13 @@ ghost use Rattle.std.specs.Prelude.{◌<◌, IfOk, OnOk, length};
 ghost use Rattle.c_syntax.specs.View.{expr_of};
 ghost use Rattle.c_syntax.specs.UnitView.{maybe_of};
 ghost use Rattle.c_parser.specs.Parsed.{HasCondition, HasMaybe};
-ghost use Rattle.c_phrases.specs.Refusing.{bound_of, Stops};
+ghost use Rattle.c_parser_phrases.specs.Refusing.{bound_of, Stops};
 ghost use Rattle.c_parser.specs.Refusing.{ACondition, ABefore};
 ghost use Rattle.c_syntax.specs.Grammar.{expression_level};
 ghost use Rattle.c_parser.specs.Nesting.{Passes, OpensInside, OpensExpr};
 
 use c_lexer::punctuator::{LEFT_PARENTHESIS, RIGHT_PARENTHESIS};
-use c_phrases::{Cursor, PhraseError, Room};
+use c_parser_phrases::{Cursor, PhraseError, Room};
 use c_syntax::Expr;
 use std::alloc::Global;
 

@@ -3,19 +3,19 @@
 ghost use Rattle.std.specs.Prelude.{◌≡◌, ◌<◌, ◌↔◌, ◌⊎◌, ℕ, IsTrue, IfSome, drop, length};
 ghost use Rattle.c_lexer.specs.declared.punctuator.TheConstants.{LEFT_BRACE as opening};
 ghost use Rattle.c_syntax.proofs.Heads.{head, head_of_kind, head_of_word, head_of_code};
-ghost use Rattle.c_refusals.specs.Phrases.{AStmt, within};
-ghost use Rattle.c_phrases.specs.Standing.{IsAt};
-ghost use Rattle.c_phrases.specs.Refusing.{Refuses};
+ghost use Rattle.c_parser_refusals.specs.Phrases.{AStmt, within};
+ghost use Rattle.c_parser_phrases.specs.Standing.{IsAt};
+ghost use Rattle.c_parser_phrases.specs.Refusing.{Refuses};
 ghost use Rattle.c_parser.specs.Refusing.{KeepsOrNests};
-ghost use Rattle.c_phrases.specs.declared.room.Room.{Room};
-ghost use Rattle.c_refusals.specs.Opens.{DeepStmt};
+ghost use Rattle.c_parser_phrases.specs.declared.room.Room.{Room};
+ghost use Rattle.c_parser_refusals.specs.Opens.{DeepStmt};
 ghost use Rattle.c_parser.specs.Nesting.{RefusesPast, OpensAs};
 ghost use Rattle.c_parser.specs.Starting.{StartsCompound, StartsItem, BeginsTagged, BeginsEnum};
 
 use c_lexer::TokenKind;
 use c_lexer::keyword::{DO, ENUM, FOR, IF, STRUCT, SWITCH, WHILE};
 use c_lexer::punctuator::{LEFT_BRACE, SEMICOLON};
-use c_phrases::{Cursor, PhraseError};
+use c_parser_phrases::{Cursor, PhraseError};
 
 /// What an item of a unit is, as its first tokens tell.
 #[derive(Clone, Copy)]

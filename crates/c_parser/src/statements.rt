@@ -3,19 +3,19 @@ ghost use Rattle.c_lexer.specs.declared.token.Token.{Token};
 ghost use Rattle.c_lexer.specs.declared.keyword.TheConstants.{BREAK as break_word, CONTINUE as continue_word, DO as do_word, FOR as for_word, IF as if_word, RETURN as return_word, SWITCH as switch_word, WHILE as while_word};
 ghost use Rattle.c_lexer.specs.declared.punctuator.TheConstants.{LEFT_BRACE as opening};
 ghost use Rattle.c_syntax.specs.Tokens.{IsKeyword};
-ghost use Rattle.c_phrases.specs.Standing.{IsAt};
+ghost use Rattle.c_parser_phrases.specs.Standing.{IsAt};
 ghost use Rattle.c_syntax.specs.UnitView.{stmt_of, first_of_head};
 ghost use Rattle.c_parser.specs.Starting.{BeginsCompound, BeginsNoCompound, EndsGroup};
 ghost use Rattle.c_parser.specs.Parsed.{HasStmt, HasNode, HasBlock, HasFirst, AddsBlockItem, AreStmts, HasGroups, HasHead};
-ghost use Rattle.c_phrases.specs.Looking.{IsAtSpecifier};
+ghost use Rattle.c_parser_phrases.specs.Looking.{IsAtSpecifier};
 ghost use Rattle.c_syntax.proofs.Heads.{head};
-ghost use Rattle.c_refusals.specs.Fails.{Fails};
-ghost use Rattle.c_refusals.specs.Phrases.{Bound, inner, AStmt, ABlockItem, InBlock, InSwitch, AFirst, IfTail, WhileTail, DoTail, ForTail, SwitchTail};
-ghost use Rattle.c_refusals.specs.Groups.{InGroup, GroupRest};
-ghost use Rattle.c_phrases.specs.Refusing.{bound_of, Stops};
+ghost use Rattle.c_parser_refusals.specs.Fails.{Fails};
+ghost use Rattle.c_parser_refusals.specs.Phrases.{Bound, inner, AStmt, ABlockItem, InBlock, InSwitch, AFirst, IfTail, WhileTail, DoTail, ForTail, SwitchTail};
+ghost use Rattle.c_parser_refusals.specs.Groups.{InGroup, GroupRest};
+ghost use Rattle.c_parser_phrases.specs.Refusing.{bound_of, Stops};
 ghost use Rattle.c_parser.specs.Refusing.{AHead};
-ghost use Rattle.c_refusals.specs.Opens.{Opens, DeepStmt, DeepBlock};
-ghost use Rattle.c_openings.specs.Deep.{DeepStmts, DeepGroups};
+ghost use Rattle.c_parser_refusals.specs.Opens.{Opens, DeepStmt, DeepBlock};
+ghost use Rattle.c_parser_refusals.specs.Deep.{DeepStmts, DeepGroups};
 ghost use Rattle.c_parser.specs.Nesting.{Passes, OpensAs, OpensAfter, OpensInHead, OpensInBlock};
 
 use crate::declarations::declaration;
@@ -30,7 +30,7 @@ use c_lexer::keyword::{BREAK, CONTINUE, ELSE, RETURN, WHILE};
 use c_lexer::punctuator::{
     LEFT_BRACE, LEFT_PARENTHESIS, RIGHT_BRACE, RIGHT_PARENTHESIS, SEMICOLON,
 };
-use c_phrases::{Cursor, PhraseError, Room};
+use c_parser_phrases::{Cursor, PhraseError, Room};
 use c_syntax::{BlockItem, ForFirst, Group, Stmt, StmtKind};
 use std::alloc::Global;
 

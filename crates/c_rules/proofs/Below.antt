@@ -13,8 +13,8 @@ use Rattle.c_rules.specs.Names.{Name, number_among}
 use Rattle.c_rules.specs.Scopes.{Env, Struct, incomplete, unknown_struct, defined_struct, Member, struct_of}
 use Rattle.c_tree.specs.Tree.{assign}
 use Rattle.c_rules.specs.Assignments.{moves}
-use Rattle.c_rules.specs.Given.{not_constant}
-use Rattle.c_rules.specs.Given.{Form, a_value, a_place, behind, Given, tree_of_form, tree_of, is_place, is_null}
+use Rattle.c_rules.specs.TypedExpression.{not_constant}
+use Rattle.c_rules.specs.TypedExpression.{Form, a_value, a_place, behind, TypedExpression, tree_of_form, tree_of, is_place, is_null}
 use Rattle.c_rules.specs.Conversions.{Kind, an_integer, a_pointer, neither, kind_of, complete, few_parts, loaded, valued_as, valued, cast_to, has_integer, converted_to, null_of, fits, assigned_as, assigned, as_if_assigned, condition}
 use Rattle.c_rules.specs.PostfixExpressions.{Designator, direct, through, Callee, call_of, passed, as_many_as, all_fit, called, name_of_member, member_or_undeclared, member_of_struct, member_of_type, member_of}
 use Rattle.c_rules.specs.UnaryExpressions.{address_of_form, address_of_type, address, led_to, indirection, plus_of, operator_of, unary_of_value, size_of, size_of_type, cast_of, null_cast}
@@ -26,7 +26,7 @@ use Rattle.c_rules.specs.BinaryExpressions.{both_scalars, compared_pointers, dif
 use Rattle.c_tree.specs.Functions.{int}
 use Rattle.c_tree.specs.Tree.{and, or, unary_operation}
 use Rattle.c_rules.specs.Constants.{constant_and, constant_or, constant_unary}
-use Rattle.c_rules.specs.Given.{integer_constant, value_given}
+use Rattle.c_rules.specs.TypedExpression.{integer_constant, typed_value}
 use Rattle.c_rules.specs.Types.{is_function, is_integer, is_scalar, same_type}
 
 -- what is fine has the property
@@ -73,59 +73,59 @@ module _ (n : ℕ) where
   FormBelow (a_place e) = CallsBelow n e
   FormBelow (behind p) = CallsBelow n p
 
-  abbrev pub GivenBelow : Given → Type 0
-  GivenBelow g = FormBelow g.form
+  abbrev pub TypedExpressionBelow : TypedExpression → Type 0
+  TypedExpressionBelow g = FormBelow g.form
 
-  abbrev pub GivensBelow : List Given → Type 0
-  GivensBelow [] = Unit {0}
-  GivensBelow (g ∷ gs) = GivenBelow g × GivensBelow gs
+  abbrev pub TypedExpressionsBelow : List TypedExpression → Type 0
+  TypedExpressionsBelow [] = Unit {0}
+  TypedExpressionsBelow (g ∷ gs) = TypedExpressionBelow g × TypedExpressionsBelow gs
 
   form_below : (t : CType) (f : Form) → FormBelow f → CallsBelow n (tree_of_form t f)
   form_below t (a_value e) h = h
   form_below t (a_place e) h = h
   form_below t (behind p) h = h
 
-  pub tree_below : (g : Given) → GivenBelow g → CallsBelow n (tree_of g)
+  pub tree_below : (g : TypedExpression) → TypedExpressionBelow g → CallsBelow n (tree_of g)
   tree_below g h = form_below g.ctype g.form h
 
-  if_below : (t : Bool) (g h : Given) → GivenBelow g → GivenBelow h → GivenBelow (if t then g else h)
+  if_below : (t : Bool) (g h : TypedExpression) → TypedExpressionBelow g → TypedExpressionBelow h → TypedExpressionBelow (if t then g else h)
   if_below true g h k l = k
   if_below false g h k l = l
 
-  loaded_below : (g : Given) (f : Form) → GivenBelow g → GivenBelow (loaded g f)
+  loaded_below : (g : TypedExpression) (f : Form) → TypedExpressionBelow g → TypedExpressionBelow (loaded g f)
   loaded_below g (a_value e) h = h
   loaded_below g (a_place e) h = tree_below g h
   loaded_below g (behind p) h = tree_below g h
 
-  valued_as_below : (env : Env) (at : ℕ) (g : Given) (t : CType) → GivenBelow g → Holds GivenBelow (valued_as env at g t)
+  valued_as_below : (env : Env) (at : ℕ) (g : TypedExpression) (t : CType) → TypedExpressionBelow g → Holds TypedExpressionBelow (valued_as env at g t)
   valued_as_below env at g void h = loaded_below g g.form h
   valued_as_below env at g (integer i) h = loaded_below g g.form h
   valued_as_below env at g (pointer t) h = loaded_below g g.form h
   valued_as_below env at g (array t k) h = tree_below g h
   valued_as_below env at g (struct s) h = tt
-  valued_as_below env at g (function t ts) h = demand_holds GivenBelow (few_parts (pointer g.ctype)) 13 at _ (tree_below g h)
+  valued_as_below env at g (function t ts) h = demand_holds TypedExpressionBelow (few_parts (pointer g.ctype)) 13 at _ (tree_below g h)
 
-  pub valued_below : (env : Env) (at : ℕ) (g : Given) → GivenBelow g → Holds GivenBelow (valued env at g)
+  pub valued_below : (env : Env) (at : ℕ) (g : TypedExpression) → TypedExpressionBelow g → Holds TypedExpressionBelow (valued env at g)
   valued_below env at g h = valued_as_below env at g g.ctype h
 
-  pub converted_below : (i : IntType) (g : Given) → GivenBelow g → GivenBelow (converted_to i g)
+  pub converted_below : (i : IntType) (g : TypedExpression) → TypedExpressionBelow g → TypedExpressionBelow (converted_to i g)
   converted_below i g h = if_below (has_integer i g.ctype) g (cast_to i g) h (tree_below g h)
 
-  converted_tree : (i : IntType) (g : Given) → GivenBelow g → CallsBelow n (tree_of (converted_to i g))
+  converted_tree : (i : IntType) (g : TypedExpression) → TypedExpressionBelow g → CallsBelow n (tree_of (converted_to i g))
   converted_tree i g h = tree_below (converted_to i g) (converted_below i g h)
 
-  assigned_as_below : (k : Kind) (t : CType) (g : Given) → GivenBelow g → GivenBelow (assigned_as k t g)
+  assigned_as_below : (k : Kind) (t : CType) (g : TypedExpression) → TypedExpressionBelow g → TypedExpressionBelow (assigned_as k t g)
   assigned_as_below (an_integer i) t g h = converted_below i g h
   assigned_as_below (a_pointer u) t g h = if_below (is_null g) (null_of t) g tt h
   assigned_as_below neither t g h = h
 
-  pub assigned_below : (t : CType) (g : Given) → GivenBelow g → GivenBelow (assigned t g)
+  pub assigned_below : (t : CType) (g : TypedExpression) → TypedExpressionBelow g → TypedExpressionBelow (assigned t g)
   assigned_below t g h = assigned_as_below (kind_of t) t g h
 
-  pub as_if_below : (at : ℕ) (t : CType) (g : Given) → GivenBelow g → Holds GivenBelow (as_if_assigned at t g)
-  as_if_below at t g h = demand_holds GivenBelow (fits t g) 3 at (assigned t g) (assigned_below t g h)
+  pub as_if_below : (at : ℕ) (t : CType) (g : TypedExpression) → TypedExpressionBelow g → Holds TypedExpressionBelow (as_if_assigned at t g)
+  as_if_below at t g h = demand_holds TypedExpressionBelow (fits t g) 3 at (assigned t g) (assigned_below t g h)
 
-  pub condition_below : (at : ℕ) (g : Given) → GivenBelow g → Holds (CallsBelow n) (condition at g)
+  pub condition_below : (at : ℕ) (g : TypedExpression) → TypedExpressionBelow g → Holds (CallsBelow n) (condition at g)
   condition_below at g h = demand_holds (CallsBelow n) _ 3 at (tree_of g) (tree_below g h)
 
   -- calls and members
@@ -137,7 +137,7 @@ module _ (n : ℕ) where
   abbrev pub CalleeBelow : Callee → Type 0
   CalleeBelow f = DesignatorBelow f.designator
 
-  passed_below : (ts : CTypes) (gs : List Given) → GivensBelow gs → AllBelow n (passed ts gs)
+  passed_below : (ts : CTypes) (gs : List TypedExpression) → TypedExpressionsBelow gs → AllBelow n (passed ts gs)
   passed_below no_types gs h = tt
   passed_below (more_types t ts) [] h = tt
   passed_below (more_types t ts) (g ∷ gs) h = (tree_below (assigned t g) (assigned_below t g h.0), passed_below ts gs h.1)
@@ -146,20 +146,20 @@ module _ (n : ℕ) where
   call_below (direct f) t site es h k = (h, k)
   call_below (through e) t site es h k = (h, k)
 
-  pub called_below : (at : ℕ) (f : Callee) (site : ℕ) (gs : List Given) → CalleeBelow f → GivensBelow gs → Holds GivenBelow (called at f site gs)
+  pub called_below : (at : ℕ) (f : Callee) (site : ℕ) (gs : List TypedExpression) → CalleeBelow f → TypedExpressionsBelow gs → Holds TypedExpressionBelow (called at f site gs)
   called_below at f site gs h k =
-      after_demands GivenBelow (demand (as_many_as f.parameters gs) 5 at met) _ (λ _. demand_holds GivenBelow (all_fit f.parameters gs) 3 at _ (call_below f.designator f.returns site (passed f.parameters gs) h (passed_below f.parameters gs k)))
+      after_demands TypedExpressionBelow (demand (as_many_as f.parameters gs) 5 at met) _ (λ _. demand_holds TypedExpressionBelow (all_fit f.parameters gs) 3 at _ (call_below f.designator f.returns site (passed f.parameters gs) h (passed_below f.parameters gs k)))
 
-  member_or_below : (env : Env) (at : ℕ) (ms : List Member) (g : Given) (o : Option ℕ) → GivenBelow g → Holds GivenBelow (member_or_undeclared env at ms g o)
+  member_or_below : (env : Env) (at : ℕ) (ms : List Member) (g : TypedExpression) (o : Option ℕ) → TypedExpressionBelow g → Holds TypedExpressionBelow (member_or_undeclared env at ms g o)
   member_or_below env at ms g None h = tt
   member_or_below env at ms g (Some k) h = tree_below g h
 
-  member_struct_below : (env : Env) (at : ℕ) (x : Name) (g : Given) (s : Struct) → GivenBelow g → Holds GivenBelow (member_of_struct env at x g s)
+  member_struct_below : (env : Env) (at : ℕ) (x : Name) (g : TypedExpression) (s : Struct) → TypedExpressionBelow g → Holds TypedExpressionBelow (member_of_struct env at x g s)
   member_struct_below env at x g incomplete h = tt
   member_struct_below env at x g (unknown_struct f fs) h = tt
   member_struct_below env at x g (defined_struct ms) h = member_or_below env at ms g (number_among (map name_of_member ms) x) h
 
-  member_type_below : (env : Env) (at : ℕ) (x : Name) (g : Given) (t : CType) → GivenBelow g → Holds GivenBelow (member_of_type env at x g t)
+  member_type_below : (env : Env) (at : ℕ) (x : Name) (g : TypedExpression) (t : CType) → TypedExpressionBelow g → Holds TypedExpressionBelow (member_of_type env at x g t)
   member_type_below env at x g (struct s) h = member_struct_below env at x g (struct_of env s) h
   member_type_below env at x g void h = tt
   member_type_below env at x g (integer i) h = tt
@@ -167,17 +167,17 @@ module _ (n : ℕ) where
   member_type_below env at x g (array t k) h = tt
   member_type_below env at x g (function t ts) h = tt
 
-  pub member_below : (env : Env) (at : ℕ) (x : Name) (g : Given) → GivenBelow g → Holds GivenBelow (member_of env at x g)
+  pub member_below : (env : Env) (at : ℕ) (x : Name) (g : TypedExpression) → TypedExpressionBelow g → Holds TypedExpressionBelow (member_of env at x g)
   member_below env at x g h = member_type_below env at x g g.ctype h
 
   -- unary operators
 
-  address_form_below : (at : ℕ) (g : Given) (f : Form) → FormBelow f → Holds GivenBelow (address_of_form at g f)
+  address_form_below : (at : ℕ) (g : TypedExpression) (f : Form) → FormBelow f → Holds TypedExpressionBelow (address_of_form at g f)
   address_form_below at g (a_value e) h = tt
-  address_form_below at g (a_place e) h = demand_holds GivenBelow (few_parts (pointer g.ctype)) 13 at _ h
+  address_form_below at g (a_place e) h = demand_holds TypedExpressionBelow (few_parts (pointer g.ctype)) 13 at _ h
   address_form_below at g (behind p) h = h
 
-  address_type_below : (at : ℕ) (g : Given) (t : CType) → GivenBelow g → Holds GivenBelow (address_of_type at g t)
+  address_type_below : (at : ℕ) (g : TypedExpression) (t : CType) → TypedExpressionBelow g → Holds TypedExpressionBelow (address_of_type at g t)
   address_type_below at g (array t k) h = tt
   address_type_below at g void h = address_form_below at g g.form h
   address_type_below at g (integer i) h = address_form_below at g g.form h
@@ -185,10 +185,10 @@ module _ (n : ℕ) where
   address_type_below at g (struct s) h = address_form_below at g g.form h
   address_type_below at g (function t ts) h = address_form_below at g g.form h
 
-  pub address_below : (at place : ℕ) (g : Given) → GivenBelow g → Holds GivenBelow (address at place g)
-  address_below at place g h = after_demands GivenBelow (demand (is_place g || is_function g.ctype) 4 place met) (λ x. address_of_type at g g.ctype) (λ _. address_type_below at g g.ctype h)
+  pub address_below : (at place : ℕ) (g : TypedExpression) → TypedExpressionBelow g → Holds TypedExpressionBelow (address at place g)
+  address_below at place g h = after_demands TypedExpressionBelow (demand (is_place g || is_function g.ctype) 4 place met) (λ x. address_of_type at g g.ctype) (λ _. address_type_below at g g.ctype h)
 
-  led_below : (at : ℕ) (g : Given) (t : CType) → GivenBelow g → Holds GivenBelow (led_to at g t)
+  led_below : (at : ℕ) (g : TypedExpression) (t : CType) → TypedExpressionBelow g → Holds TypedExpressionBelow (led_to at g t)
   led_below at g (pointer void) h = tt
   led_below at g (pointer (integer i)) h = tree_below g h
   led_below at g (pointer (pointer t)) h = tree_below g h
@@ -201,93 +201,93 @@ module _ (n : ℕ) where
   led_below at g (struct s) h = tt
   led_below at g (function t ts) h = tt
 
-  pub indirection_below : (at : ℕ) (g : Given) → GivenBelow g → Holds GivenBelow (indirection at g)
+  pub indirection_below : (at : ℕ) (g : TypedExpression) → TypedExpressionBelow g → Holds TypedExpressionBelow (indirection at g)
   indirection_below at g h = led_below at g g.ctype h
 
-  plus_below : (at : ℕ) (g : Given) (k : Kind) → GivenBelow g → Holds GivenBelow (plus_of at g k)
+  plus_below : (at : ℕ) (g : TypedExpression) (k : Kind) → TypedExpressionBelow g → Holds TypedExpressionBelow (plus_of at g k)
   plus_below at g (an_integer i) h = tree_below g h
   plus_below at g (a_pointer t) h = tt
   plus_below at g neither h = tt
 
-  operator_below : (at : ℕ) (o : UnOp) (g : Given) (k : Kind) → GivenBelow g → Holds GivenBelow (operator_of at o g k)
+  operator_below : (at : ℕ) (o : UnOp) (g : TypedExpression) (k : Kind) → TypedExpressionBelow g → Holds TypedExpressionBelow (operator_of at o g k)
   operator_below at o g (an_integer i) h = converted_tree (promoted i) g h
   operator_below at o g (a_pointer t) h = tt
   operator_below at o g neither h = tt
 
-  if_holds : (t : Bool) (r s : Checked Given) → Holds GivenBelow r → Holds GivenBelow s → Holds GivenBelow (if t then r else s)
+  if_holds : (t : Bool) (r s : Checked TypedExpression) → Holds TypedExpressionBelow r → Holds TypedExpressionBelow s → Holds TypedExpressionBelow (if t then r else s)
   if_holds true r s h k = h
   if_holds false r s h k = k
 
-  pub unary_below : (at o : ℕ) (g : Given) → GivenBelow g → Holds GivenBelow (unary_of_value at o g)
+  pub unary_below : (at o : ℕ) (g : TypedExpression) → TypedExpressionBelow g → Holds TypedExpressionBelow (unary_of_value at o g)
   unary_below at o g h =
       if_holds (nat_eq o ASTERISK) _ _ (indirection_below at g h)
       (if_holds (nat_eq o PLUS) _ _ (plus_below at g (kind_of g.ctype) h)
       (if_holds (nat_eq o MINUS) _ _ (operator_below at _ g (kind_of g.ctype) h)
-      (if_holds (nat_eq o TILDE) _ _ (operator_below at _ g (kind_of g.ctype) h) (demand_holds GivenBelow (is_scalar g.ctype) 3 at (value_given int (unary_operation int Not (tree_of g)) (constant_unary Not (integer_constant g))) (tree_below g h)))))
+      (if_holds (nat_eq o TILDE) _ _ (operator_below at _ g (kind_of g.ctype) h) (demand_holds TypedExpressionBelow (is_scalar g.ctype) 3 at (typed_value int (unary_operation int Not (tree_of g)) (constant_unary Not (integer_constant g))) (tree_below g h)))))
 
-  pub size_below : (env : Env) (at : ℕ) (t : CType) → Holds GivenBelow (size_of env at t)
-  size_below env at t = after_demands GivenBelow (complete env at t) _ (λ _. tt)
+  pub size_below : (env : Env) (at : ℕ) (t : CType) → Holds TypedExpressionBelow (size_of env at t)
+  size_below env at t = after_demands TypedExpressionBelow (complete env at t) _ (λ _. tt)
 
-  pub size_type_below : (env : Env) (at place : ℕ) (t : CType) → Holds GivenBelow (size_of_type env at place t)
-  size_type_below env at place t = on_holds GivenBelow GivenBelow (size_of env at t) _ (size_below env at t) (λ g h. demand_holds GivenBelow _ 13 place g h)
+  pub size_type_below : (env : Env) (at place : ℕ) (t : CType) → Holds TypedExpressionBelow (size_of_type env at place t)
+  size_type_below env at place t = on_holds TypedExpressionBelow TypedExpressionBelow (size_of env at t) _ (size_below env at t) (λ g h. demand_holds TypedExpressionBelow _ 13 place g h)
 
-  pub cast_below : (at : ℕ) (t : CType) (g : Given) → GivenBelow g → Holds GivenBelow (cast_of at t g)
+  pub cast_below : (at : ℕ) (t : CType) (g : TypedExpression) → TypedExpressionBelow g → Holds TypedExpressionBelow (cast_of at t g)
   cast_below at void g h = tree_below g h
-  cast_below at (integer i) g h = demand_holds GivenBelow (is_integer g.ctype) 3 at (cast_to i g) (tree_below g h)
+  cast_below at (integer i) g h = demand_holds TypedExpressionBelow (is_integer g.ctype) 3 at (cast_to i g) (tree_below g h)
   cast_below at (pointer t) g h = tt
   cast_below at (array t k) g h = tt
   cast_below at (struct s) g h = tt
   cast_below at (function t ts) g h = tt
 
-  pub null_cast_below : (at : ℕ) (g : Given) → Holds GivenBelow (null_cast at g)
-  null_cast_below at g = demand_holds GivenBelow _ 3 at (null_of (pointer void)) tt
+  pub null_cast_below : (at : ℕ) (g : TypedExpression) → Holds TypedExpressionBelow (null_cast at g)
+  null_cast_below at g = demand_holds TypedExpressionBelow _ 3 at (null_of (pointer void)) tt
 
   -- operators between two values
 
-  two_trees : (i j : IntType) (a b : Given) → GivenBelow a → GivenBelow b → CallsBelow n (tree_of (converted_to i a)) × CallsBelow n (tree_of (converted_to j b))
+  two_trees : (i j : IntType) (a b : TypedExpression) → TypedExpressionBelow a → TypedExpressionBelow b → CallsBelow n (tree_of (converted_to i a)) × CallsBelow n (tree_of (converted_to j b))
   two_trees i j a b h k = (converted_tree i a h, converted_tree j b k)
 
-  two : (a b : Given) → GivenBelow a → GivenBelow b → CallsBelow n (tree_of a) × CallsBelow n (tree_of b)
+  two : (a b : TypedExpression) → TypedExpressionBelow a → TypedExpressionBelow b → CallsBelow n (tree_of a) × CallsBelow n (tree_of b)
   two a b h k = (tree_below a h, tree_below b k)
 
-  sum_of_below : (env : Env) (at : ℕ) (a b : Given) (k l : Kind) → GivenBelow a → GivenBelow b → Holds GivenBelow (sum_of env at a b k l)
+  sum_of_below : (env : Env) (at : ℕ) (a b : TypedExpression) (k l : Kind) → TypedExpressionBelow a → TypedExpressionBelow b → Holds TypedExpressionBelow (sum_of env at a b k l)
   sum_of_below env at a b (an_integer i) (an_integer j) g h = two_trees (common i j) (common i j) a b g h
-  sum_of_below env at a b (a_pointer t) (an_integer j) g h = after_demands GivenBelow (complete env at t) _ (λ _. two a b g h)
-  sum_of_below env at a b (an_integer i) (a_pointer t) g h = after_demands GivenBelow (complete env at t) _ (λ _. two a b g h)
+  sum_of_below env at a b (a_pointer t) (an_integer j) g h = after_demands TypedExpressionBelow (complete env at t) _ (λ _. two a b g h)
+  sum_of_below env at a b (an_integer i) (a_pointer t) g h = after_demands TypedExpressionBelow (complete env at t) _ (λ _. two a b g h)
   sum_of_below env at a b (a_pointer t) (a_pointer u) g h = tt
   sum_of_below env at a b (a_pointer t) neither g h = tt
   sum_of_below env at a b (an_integer i) neither g h = tt
   sum_of_below env at a b neither l g h = tt
 
-  pub sum_below : (env : Env) (at : ℕ) (a b : Given) → GivenBelow a → GivenBelow b → Holds GivenBelow (sum env at a b)
+  pub sum_below : (env : Env) (at : ℕ) (a b : TypedExpression) → TypedExpressionBelow a → TypedExpressionBelow b → Holds TypedExpressionBelow (sum env at a b)
   sum_below env at a b g h = sum_of_below env at a b (kind_of a.ctype) (kind_of b.ctype) g h
 
-  minus_below : (env : Env) (at : ℕ) (a b : Given) (k l : Kind) → GivenBelow a → GivenBelow b → Holds GivenBelow (minus_of env at a b k l)
+  minus_below : (env : Env) (at : ℕ) (a b : TypedExpression) (k l : Kind) → TypedExpressionBelow a → TypedExpressionBelow b → Holds TypedExpressionBelow (minus_of env at a b k l)
   minus_below env at a b (an_integer i) (an_integer j) g h = two_trees (common i j) (common i j) a b g h
-  minus_below env at a b (a_pointer t) (an_integer j) g h = after_demands GivenBelow (complete env at t) _ (λ _. two a b g h)
-  minus_below env at a b (a_pointer t) (a_pointer u) g h = after_demands GivenBelow (demand (same_type t u) 3 at met) (λ x. on {B = Given} (complete env at t) (λ x'. fine (difference a b))) (λ _. after_demands GivenBelow (complete env at t) (λ x. fine (difference a b)) (λ _. two a b g h))
+  minus_below env at a b (a_pointer t) (an_integer j) g h = after_demands TypedExpressionBelow (complete env at t) _ (λ _. two a b g h)
+  minus_below env at a b (a_pointer t) (a_pointer u) g h = after_demands TypedExpressionBelow (demand (same_type t u) 3 at met) (λ x. on {B = TypedExpression} (complete env at t) (λ x'. fine (difference a b))) (λ _. after_demands TypedExpressionBelow (complete env at t) (λ x. fine (difference a b)) (λ _. two a b g h))
   minus_below env at a b (a_pointer t) neither g h = tt
   minus_below env at a b (an_integer i) (a_pointer u) g h = tt
   minus_below env at a b (an_integer i) neither g h = tt
   minus_below env at a b neither l g h = tt
 
-  balanced_below : (at : ℕ) (o : BinOp) (a b : Given) (k l : Kind) → GivenBelow a → GivenBelow b → Holds GivenBelow (balanced_of at o a b k l)
+  balanced_below : (at : ℕ) (o : BinOp) (a b : TypedExpression) (k l : Kind) → TypedExpressionBelow a → TypedExpressionBelow b → Holds TypedExpressionBelow (balanced_of at o a b k l)
   balanced_below at o a b (an_integer i) (an_integer j) g h = two_trees (common i j) (common i j) a b g h
   balanced_below at o a b (an_integer i) (a_pointer u) g h = tt
   balanced_below at o a b (an_integer i) neither g h = tt
   balanced_below at o a b (a_pointer t) l g h = tt
   balanced_below at o a b neither l g h = tt
 
-  shift_below : (at : ℕ) (o : BinOp) (a b : Given) (k l : Kind) → GivenBelow a → GivenBelow b → Holds GivenBelow (shift_of at o a b k l)
+  shift_below : (at : ℕ) (o : BinOp) (a b : TypedExpression) (k l : Kind) → TypedExpressionBelow a → TypedExpressionBelow b → Holds TypedExpressionBelow (shift_of at o a b k l)
   shift_below at o a b (an_integer i) (an_integer j) g h = two_trees (promoted i) (promoted j) a b g h
   shift_below at o a b (an_integer i) (a_pointer u) g h = tt
   shift_below at o a b (an_integer i) neither g h = tt
   shift_below at o a b (a_pointer t) l g h = tt
   shift_below at o a b neither l g h = tt
 
-  ordered_below : (env : Env) (at : ℕ) (o : BinOp) (a b : Given) (k l : Kind) → GivenBelow a → GivenBelow b → Holds GivenBelow (ordered_of env at o a b k l)
+  ordered_below : (env : Env) (at : ℕ) (o : BinOp) (a b : TypedExpression) (k l : Kind) → TypedExpressionBelow a → TypedExpressionBelow b → Holds TypedExpressionBelow (ordered_of env at o a b k l)
   ordered_below env at o a b (an_integer i) (an_integer j) g h = two_trees (common i j) (common i j) a b g h
-  ordered_below env at o a b (a_pointer t) (a_pointer u) g h = after_demands GivenBelow (demand (same_type t u) 3 at met) (λ x. on {B = Given} (complete env at t) (λ x'. fine (compared_pointers o a b))) (λ _. after_demands GivenBelow (complete env at t) (λ x. fine (compared_pointers o a b)) (λ _. two a b g h))
+  ordered_below env at o a b (a_pointer t) (a_pointer u) g h = after_demands TypedExpressionBelow (demand (same_type t u) 3 at met) (λ x. on {B = TypedExpression} (complete env at t) (λ x'. fine (compared_pointers o a b))) (λ _. after_demands TypedExpressionBelow (complete env at t) (λ x. fine (compared_pointers o a b)) (λ _. two a b g h))
   ordered_below env at o a b (a_pointer t) (an_integer j) g h = tt
   ordered_below env at o a b (a_pointer t) neither g h = tt
   ordered_below env at o a b (an_integer i) (a_pointer u) g h = tt
@@ -296,14 +296,14 @@ module _ (n : ℕ) where
 
   abbrev AlikeBelow : Alike → Type 0
   AlikeBelow (alike_integers i) = Unit {0}
-  AlikeBelow (alike_pointers x y) = GivenBelow x × GivenBelow y
+  AlikeBelow (alike_pointers x y) = TypedExpressionBelow x × TypedExpressionBelow y
   AlikeBelow unlike = Unit {0}
 
   if_alike : (t : Bool) (x y : Alike) → AlikeBelow x → AlikeBelow y → AlikeBelow (if t then x else y)
   if_alike true x y h k = h
   if_alike false x y h k = k
 
-  alike_of_below : (a b : Given) (k l : Kind) → GivenBelow a → GivenBelow b → AlikeBelow (alike_of a b k l)
+  alike_of_below : (a b : TypedExpression) (k l : Kind) → TypedExpressionBelow a → TypedExpressionBelow b → AlikeBelow (alike_of a b k l)
   alike_of_below a b (an_integer i) (an_integer j) g h = tt
   alike_of_below a b (a_pointer t) (a_pointer u) g h = if_alike _ (alike_pointers a b) _ (g, h) (if_alike (is_null a) (alike_pointers (null_of b.ctype) b) _ (tt, h) (if_alike (is_null b) (alike_pointers a (null_of a.ctype)) unlike (g, tt) tt))
   alike_of_below a b (a_pointer t) (an_integer j) g h = if_alike (is_null b) (alike_pointers a (null_of a.ctype)) unlike (g, tt) tt
@@ -312,15 +312,15 @@ module _ (n : ℕ) where
   alike_of_below a b (an_integer i) neither g h = tt
   alike_of_below a b neither l g h = tt
 
-  alike_below : (a b : Given) → GivenBelow a → GivenBelow b → AlikeBelow (alike a b)
+  alike_below : (a b : TypedExpression) → TypedExpressionBelow a → TypedExpressionBelow b → AlikeBelow (alike a b)
   alike_below a b g h = alike_of_below a b (kind_of a.ctype) (kind_of b.ctype) g h
 
-  equality_below : (at : ℕ) (o : BinOp) (a b : Given) (x : Alike) → GivenBelow a → GivenBelow b → AlikeBelow x → Holds GivenBelow (equality_of at o a b x)
+  equality_below : (at : ℕ) (o : BinOp) (a b : TypedExpression) (x : Alike) → TypedExpressionBelow a → TypedExpressionBelow b → AlikeBelow x → Holds TypedExpressionBelow (equality_of at o a b x)
   equality_below at o a b (alike_integers i) g h k = two_trees i i a b g h
   equality_below at o a b (alike_pointers x y) g h k = two x y k.0 k.1
   equality_below at o a b unlike g h k = tt
 
-  arithmetic_below : (env : Env) (at : ℕ) (o : BinOp) (a b : Given) → GivenBelow a → GivenBelow b → Holds GivenBelow (arithmetic_of env at o a b)
+  arithmetic_below : (env : Env) (at : ℕ) (o : BinOp) (a b : TypedExpression) → TypedExpressionBelow a → TypedExpressionBelow b → Holds TypedExpressionBelow (arithmetic_of env at o a b)
   arithmetic_below env at op.Add a b g h = sum_below env at a b g h
   arithmetic_below env at op.Sub a b g h = minus_below env at a b (kind_of a.ctype) (kind_of b.ctype) g h
   arithmetic_below env at op.Mul a b g h = balanced_below at op.Mul a b (kind_of a.ctype) (kind_of b.ctype) g h
@@ -338,61 +338,61 @@ module _ (n : ℕ) where
   arithmetic_below env at op.Equal a b g h = balanced_below at op.Equal a b (kind_of a.ctype) (kind_of b.ctype) g h
   arithmetic_below env at op.NotEqual a b g h = balanced_below at op.NotEqual a b (kind_of a.ctype) (kind_of b.ctype) g h
 
-  operation_of_below : (env : Env) (at : ℕ) (o : BinOp) (a b : Given) (k : OperatorKind) → GivenBelow a → GivenBelow b → Holds GivenBelow (operation_of env at o a b k)
+  operation_of_below : (env : Env) (at : ℕ) (o : BinOp) (a b : TypedExpression) (k : OperatorKind) → TypedExpressionBelow a → TypedExpressionBelow b → Holds TypedExpressionBelow (operation_of env at o a b k)
   operation_of_below env at o a b balanced g h = arithmetic_below env at o a b g h
   operation_of_below env at o a b shift g h = shift_below at o a b (kind_of a.ctype) (kind_of b.ctype) g h
   operation_of_below env at o a b ordering g h = ordered_below env at o a b (kind_of a.ctype) (kind_of b.ctype) g h
   operation_of_below env at o a b equality g h = equality_below at o a b (alike a b) g h (alike_below a b g h)
 
-  pub operation_below : (env : Env) (at : ℕ) (o : BinOp) (a b : Given) → GivenBelow a → GivenBelow b → Holds GivenBelow (operation env at o a b)
+  pub operation_below : (env : Env) (at : ℕ) (o : BinOp) (a b : TypedExpression) → TypedExpressionBelow a → TypedExpressionBelow b → Holds TypedExpressionBelow (operation env at o a b)
   operation_below env at o a b g h = operation_of_below env at o a b (kind_of_operator o) g h
 
-  pub conjunction_below : (at : ℕ) (a b : Given) → GivenBelow a → GivenBelow b → Holds GivenBelow (conjunction at a b)
-  conjunction_below at a b g h = demand_holds GivenBelow (both_scalars a b) 3 at (value_given int (and int (tree_of a) (tree_of b)) (constant_and (integer_constant a) (integer_constant b))) (two a b g h)
+  pub conjunction_below : (at : ℕ) (a b : TypedExpression) → TypedExpressionBelow a → TypedExpressionBelow b → Holds TypedExpressionBelow (conjunction at a b)
+  conjunction_below at a b g h = demand_holds TypedExpressionBelow (both_scalars a b) 3 at (typed_value int (and int (tree_of a) (tree_of b)) (constant_and (integer_constant a) (integer_constant b))) (two a b g h)
 
-  pub disjunction_below : (at : ℕ) (a b : Given) → GivenBelow a → GivenBelow b → Holds GivenBelow (disjunction at a b)
-  disjunction_below at a b g h = demand_holds GivenBelow (both_scalars a b) 3 at (value_given int (or int (tree_of a) (tree_of b)) (constant_or (integer_constant a) (integer_constant b))) (two a b g h)
+  pub disjunction_below : (at : ℕ) (a b : TypedExpression) → TypedExpressionBelow a → TypedExpressionBelow b → Holds TypedExpressionBelow (disjunction at a b)
+  disjunction_below at a b g h = demand_holds TypedExpressionBelow (both_scalars a b) 3 at (typed_value int (or int (tree_of a) (tree_of b)) (constant_or (integer_constant a) (integer_constant b))) (two a b g h)
 
-  arms_below : (at : ℕ) (c a b : Given) (x : Alike) → GivenBelow c → GivenBelow a → GivenBelow b → AlikeBelow x → Holds GivenBelow (arms_of at c a b x)
+  arms_below : (at : ℕ) (c a b : TypedExpression) (x : Alike) → TypedExpressionBelow c → TypedExpressionBelow a → TypedExpressionBelow b → AlikeBelow x → Holds TypedExpressionBelow (arms_of at c a b x)
   arms_below at c a b (alike_integers i) f g h k = (tree_below c f, converted_tree i a g, converted_tree i b h)
   arms_below at c a b (alike_pointers x y) f g h k = (tree_below c f, tree_below x k.0, tree_below y k.1)
-  arms_below at c a b unlike f g h k = demand_holds GivenBelow _ 3 at (chosen void c a b) (tree_below c f, tree_below a g, tree_below b h)
+  arms_below at c a b unlike f g h k = demand_holds TypedExpressionBelow _ 3 at (chosen void c a b) (tree_below c f, tree_below a g, tree_below b h)
 
-  pub choice_below : (at : ℕ) (c a b : Given) → GivenBelow c → GivenBelow a → GivenBelow b → Holds GivenBelow (choice at c a b)
-  choice_below at c a b f g h = after_demands GivenBelow (demand (is_scalar c.ctype) 3 at met) (λ x. arms_of at c a b (alike a b)) (λ _. arms_below at c a b (alike a b) f g h (alike_below a b g h))
+  pub choice_below : (at : ℕ) (c a b : TypedExpression) → TypedExpressionBelow c → TypedExpressionBelow a → TypedExpressionBelow b → Holds TypedExpressionBelow (choice at c a b)
+  choice_below at c a b f g h = after_demands TypedExpressionBelow (demand (is_scalar c.ctype) 3 at met) (λ x. arms_of at c a b (alike a b)) (λ _. arms_below at c a b (alike a b) f g h (alike_below a b g h))
 
   -- assignments
 
-  assignment_below : (at : ℕ) (p v : Given) → GivenBelow p → GivenBelow v → Holds GivenBelow (assignment at p v)
+  assignment_below : (at : ℕ) (p v : TypedExpression) → TypedExpressionBelow p → TypedExpressionBelow v → Holds TypedExpressionBelow (assignment at p v)
   assignment_below at p v g h =
       let k : CallsBelow n (tree_of p) × CallsBelow n (tree_of (assigned p.ctype v)) = (tree_below p g, tree_below (assigned p.ctype v) (assigned_below p.ctype v h)) in
-      demand_holds GivenBelow (fits p.ctype v) 3 at (value_given p.ctype (assign p.ctype (tree_of p) (tree_of (assigned p.ctype v))) not_constant) k
+      demand_holds TypedExpressionBelow (fits p.ctype v) 3 at (typed_value p.ctype (assign p.ctype (tree_of p) (tree_of (assigned p.ctype v))) not_constant) k
 
-  update_below : (env : Env) (at : ℕ) (o : BinOp) (old : Bool) (p v : Given) (k l : Kind) → GivenBelow p → GivenBelow v → Holds GivenBelow (update_of env at o old p v k l)
+  update_below : (env : Env) (at : ℕ) (o : BinOp) (old : Bool) (p v : TypedExpression) (k l : Kind) → TypedExpressionBelow p → TypedExpressionBelow v → Holds TypedExpressionBelow (update_of env at o old p v k l)
   update_below env at o old p v (an_integer i) (an_integer j) g h = (tree_below p g, converted_tree _ v h)
   update_below env at o old p v (a_pointer t) (an_integer j) g h =
       let k : CallsBelow n (tree_of p) × CallsBelow n (tree_of v) = two p v g h in
-      after_demands GivenBelow (demand (moves o) 3 at met) (λ _. gives (complete env at t) (λ _. updated o old p (tree_of v))) (λ _. after_demands GivenBelow (complete env at t) (λ _. fine (updated o old p (tree_of v))) (λ _. k))
+      after_demands TypedExpressionBelow (demand (moves o) 3 at met) (λ _. gives (complete env at t) (λ _. updated o old p (tree_of v))) (λ _. after_demands TypedExpressionBelow (complete env at t) (λ _. fine (updated o old p (tree_of v))) (λ _. k))
   update_below env at o old p v (an_integer i) (a_pointer u) g h = tt
   update_below env at o old p v (an_integer i) neither g h = tt
   update_below env at o old p v (a_pointer t) (a_pointer u) g h = tt
   update_below env at o old p v (a_pointer t) neither g h = tt
   update_below env at o old p v neither l g h = tt
 
-  pub assignment_by_below : (env : Env) (at o : ℕ) (p v : Given) → GivenBelow p → GivenBelow v → Holds GivenBelow (assignment_by env at o p v)
+  pub assignment_by_below : (env : Env) (at o : ℕ) (p v : TypedExpression) → TypedExpressionBelow p → TypedExpressionBelow v → Holds TypedExpressionBelow (assignment_by env at o p v)
   assignment_by_below env at o p v g h = if_holds (nat_eq o ASSIGN) _ _ (assignment_below at p v g h) (update_below env at (operator_of_assignment o) false p v (kind_of p.ctype) (kind_of v.ctype) g h)
 
-  one_below : (k : Kind) → GivenBelow (one_for k)
+  one_below : (k : Kind) → TypedExpressionBelow (one_for k)
   one_below (an_integer i) = tt
   one_below (a_pointer t) = tt
   one_below neither = tt
 
-  pub step_below : (env : Env) (at : ℕ) (o : BinOp) (old : Bool) (p : Given) → GivenBelow p → Holds GivenBelow (step env at o old p)
+  pub step_below : (env : Env) (at : ℕ) (o : BinOp) (old : Bool) (p : TypedExpression) → TypedExpressionBelow p → Holds TypedExpressionBelow (step env at o old p)
   step_below env at o old p g = update_below env at o old p (one_for (kind_of p.ctype)) (kind_of p.ctype) (kind_of (one_for (kind_of p.ctype)).ctype) g (one_below (kind_of p.ctype))
 
-  pub assignable_below : (at : ℕ) (g : Given) → GivenBelow g → Holds GivenBelow (assignable at g)
-  assignable_below at g h = demand_holds GivenBelow (is_place g) 4 at g h
+  pub assignable_below : (at : ℕ) (g : TypedExpression) → TypedExpressionBelow g → Holds TypedExpressionBelow (assignable at g)
+  assignable_below at g h = demand_holds TypedExpressionBelow (is_place g) 4 at g h
 
-  pub trees_below : (gs : List Given) → GivensBelow gs → AllBelow n (trees_of gs)
+  pub trees_below : (gs : List TypedExpression) → TypedExpressionsBelow gs → AllBelow n (trees_of gs)
   trees_below [] h = tt
   trees_below (g ∷ gs) h = (tree_below g h.0, trees_below gs h.1)

@@ -15,7 +15,7 @@ use Rattle.c_rules.specs.Codes.{C3, C9}
 use Rattle.c_rules.specs.Names.{Name, number_among, is_added, system_calls}
 use Rattle.c_rules.specs.Scopes.{Env, inside, Before, nothing_before}
 use Rattle.c_rules.specs.Counts.{after, after_maybe}
-use Rattle.c_rules.specs.Given.{Given, tree_of}
+use Rattle.c_rules.specs.TypedExpression.{TypedExpression, tree_of}
 use Rattle.c_rules.specs.Conversions.{Kind, an_integer, a_pointer, neither, kind_of, as_if_assigned, condition}
 use Rattle.c_tree.specs.Operands.{promoted}
 use Rattle.c_rules.specs.Declarators.{name_of, place_or, new_name}
@@ -24,14 +24,14 @@ use Rattle.c_rules.specs.Initialisers.{initialised_local, stores_from}
 use Rattle.c_rules.specs.Objects.{Object, object_declared}
 use Rattle.c_rules.specs.PrimaryExpressions.{given_number, number_or}
 use Rattle.c_rules.specs.Variables.{Next, number_in, past_names, names_of_decl, names_of_first, names_of_stmt, names_of_stmts}
-use Rattle.c_rules.specs.Blocks.{within_local, behind_named, behind_part, past_part, behind_parts, behind_decl, behind_first, after_part, after_decl, after_first, after_stmt, after_stmts, Laid, bare, with_tree, joined, one_more, alone, appended, some_more, laid_variable, local_of, local, local_named, local_part, local_parts, local_decl}
+use Rattle.c_rules.specs.Blocks.{within_local, behind_named, behind_part, past_part, behind_parts, behind_decl, behind_first, after_part, after_decl, after_first, after_stmt, after_stmts, StatementTree, bare, with_tree, joined, one_more, alone, appended, some_more, laid_variable, local_of, local, local_named, local_part, local_parts, local_decl}
 use Rattle.c_rules.specs.Statements.{Around, in_loop, in_switch, condition_at, test_of, step_of, first_of, for_of, switched_kind, switched, label_type, labels_of, Labelled, labelled, switch_of, returned, stmt, items_of_block, stmts, groups_of_switch}
 use Rattle.c_rules.specs.Functions.{with_parameter, with_parameters, body_env, body_numbers, body_of, parameters_of, are_named, function_laid, function_declared, items_of_body, declares_function, defined_as}
 use Rattle.c_rules.specs.Items.{Output, no_output, with_output, struct_definition, one_more_than, enumerator_value, behind_enumerator, behind_enumerators, new_enum, behind_enum_tag, enumerators, tag_declaration, defines, global_declared, global, definition_of, within_global, static_of, declared_part, named_part, behind_declared, behind_named_part, behind_file_part, after_file_part, file_parts, behind_file_parts, file_decl, behind_file_decl, output_of_function, behind_defined, function_named, behind_function_named, item, behind_by_form, behind_item, after_item, items}
 use Rattle.c_rules.specs.Units.{functions_of, functions_of_item, env_before, has_main, program_of, IsTyped}
 use Rattle.c_rules.specs.NullCalls.{CallsBelow, MaybeBelow, InitsBelow, StmtBelow, StmtsBelow, GroupsBelow, FunctionsBelow, CallsNoNullCall}
 use Rattle.c_rules.proofs.Modes.{on_fine, demand_met}
-use Rattle.c_rules.proofs.Below.{Holds, held, on_holds, both_hold, all_three_hold, Any, anything, demand_holds, after_demands, GivenBelow, GivensBelow, tree_below, as_if_below, condition_below, converted_below}
+use Rattle.c_rules.proofs.Below.{Holds, held, on_holds, both_hold, all_three_hold, Any, anything, demand_holds, after_demands, TypedExpressionBelow, TypedExpressionsBelow, tree_below, as_if_below, condition_below, converted_below}
 use Rattle.c_rules.proofs.BelowExpressions.{Within, value_holds, local_init_holds}
 use Rattle.c_tree.specs.Layout.{cells_of_all}
 use Rattle.c_rules.specs.Scopes.{layout_of}
@@ -59,28 +59,28 @@ module _ (n : ℕ) where
 
   -- ## Declarations
 
-  abbrev OneBelow : Laid typed.Stmt → Type 0
+  abbrev OneBelow : StatementTree typed.Stmt → Type 0
   OneBelow p = StmtBelow n p.tree
 
-  abbrev ManyBelow : Laid typed.Stmts → Type 0
+  abbrev ManyBelow : StatementTree typed.Stmts → Type 0
   ManyBelow p = StmtsBelow n p.tree
 
-  stores_below : (k : ℕ) (gs : List Given) → GivensBelow n gs → InitsBelow n (stores_from k gs)
+  stores_below : (k : ℕ) (gs : List TypedExpression) → TypedExpressionsBelow n gs → InitsBelow n (stores_from k gs)
   stores_below k [] h = tt
   stores_below k (g ∷ gs) h = (tree_below n g h.0, stores_below (suc k) gs h.1)
 
-  laid_below : (t : Bool) (x y : Laid typed.Stmt) → OneBelow x → OneBelow y → OneBelow (if t then x else y)
+  laid_below : (t : Bool) (x y : StatementTree typed.Stmt) → OneBelow x → OneBelow y → OneBelow (if t then x else y)
   laid_below true x y h k = h
   laid_below false x y h k = k
 
-  variable_below : (x : Name) (k : ℕ) (t : CType) (gs : List Given) → GivensBelow n gs → OneBelow (laid_variable x k t gs)
+  variable_below : (x : Name) (k : ℕ) (t : CType) (gs : List TypedExpression) → TypedExpressionsBelow n gs → OneBelow (laid_variable x k t gs)
   variable_below x k t gs h =
       laid_below (is_added x) (record { tree = typed.declare k (stores_from 0 gs); plain = []; added = t ∷ [] }) (record { tree = typed.declare k (stores_from 0 gs); plain = t ∷ []; added = [] }) (stores_below 0 gs h) (stores_below 0 gs h)
 
   local_holds : (e : Env) → Within n e → (b : Before) (next : Next) (x : Ident) (m : MaybeInit) (r : Checked Object) → Holds OneBelow (local e b next x m r)
   local_holds e w b next x m r =
       both_hold Any OneBelow OneBelow (new_name e x) (on r (local_of (within_local e next x r) b next x m)) (λ _ p. fine p) (anything (new_name e x))
-      (after_demands OneBelow r (local_of (within_local e next x r) b next x m) (λ o. on_holds (GivensBelow n) OneBelow (initialised_local (within_local e next x r) b o.whole m) (λ gs. fine (laid_variable x.name (number_in next x.name) o.whole gs)) (local_init_holds n (within_local e next x r) w b o.whole m) (λ gs h. variable_below x.name (number_in next x.name) o.whole gs h))) (λ _ p _ h. h)
+      (after_demands OneBelow r (local_of (within_local e next x r) b next x m) (λ o. on_holds (TypedExpressionsBelow n) OneBelow (initialised_local (within_local e next x r) b o.whole m) (λ gs. fine (laid_variable x.name (number_in next x.name) o.whole gs)) (local_init_holds n (within_local e next x r) w b o.whole m) (λ gs h. variable_below x.name (number_in next x.name) o.whole gs h))) (λ _ p _ h. h)
 
   part_holds : (e : Env) → Within n e → (b : Before) (next : Next) (at : ℕ) (s : Spec) (d : Declarator) (m : MaybeInit) (x : Option Ident) → Holds OneBelow (local_named e b next at s d m x)
   part_holds e w b next at s d m None = tt
@@ -98,7 +98,7 @@ module _ (n : ℕ) where
   -- ## Statements
 
   condition_holds : (e : Env) → Within n e → (b : Before) (at : ℕ) (x : Expr) → Holds (CallsBelow n) (condition_at at (value e b x))
-  condition_holds e w b at x = on_holds (GivenBelow n) (CallsBelow n) (value e b x) (condition at) (value_holds n e w b x) (λ g h. condition_below n at g h)
+  condition_holds e w b at x = on_holds (TypedExpressionBelow n) (CallsBelow n) (value e b x) (condition at) (value_holds n e w b x) (λ g h. condition_below n at g h)
 
   test_holds : (e : Env) → Within n e → (b : Before) (at : ℕ) (m : Maybe) → Holds (MaybeBelow n) (test_of e b at m)
   test_holds e w b at absent = tt
@@ -106,19 +106,19 @@ module _ (n : ℕ) where
 
   step_holds : (e : Env) → Within n e → (b : Before) (m : Maybe) → Holds (MaybeBelow n) (step_of e b m)
   step_holds e w b absent = tt
-  step_holds e w b (there x) = on_holds (GivenBelow n) (MaybeBelow n) (value e b x) (λ g. fine (typed.there (tree_of g))) (value_holds n e w b x) (λ g h. tree_below n g h)
+  step_holds e w b (there x) = on_holds (TypedExpressionBelow n) (MaybeBelow n) (value e b x) (λ g. fine (typed.there (tree_of g))) (value_holds n e w b x) (λ g h. tree_below n g h)
 
   first_holds : (e : Env) → Within n e → (b : Before) (next : Next) (x : First) → Holds ManyBelow (first_of e b next x)
   first_holds e w b next first_absent = tt
-  first_holds e w b next (first_expr x) = on_holds (GivenBelow n) ManyBelow (value e b x) (λ g. fine (alone (bare (typed.evaluate (tree_of g))))) (value_holds n e w b x) (λ g h. (tree_below n g h, tt))
+  first_holds e w b next (first_expr x) = on_holds (TypedExpressionBelow n) ManyBelow (value e b x) (λ g. fine (alone (bare (typed.evaluate (tree_of g))))) (value_holds n e w b x) (λ g h. (tree_below n g h, tt))
   first_holds e w b next (first_decl d) = decl_holds e w b next d
 
   returned_holds : (e : Env) → Within n e → (b : Before) (at : ℕ) (t : CType) (m : Maybe) → Holds (StmtBelow n) (returned e b at t m)
   returned_holds e w b at t absent = demand_holds (StmtBelow n) _ 3 at typed.return_void tt
   returned_holds e w b at t (there x) =
-      on_holds (GivenBelow n) (StmtBelow n) (on (value e b x) (as_if_assigned at t)) (λ g. fine (typed.return_value (tree_of g))) (on_holds (GivenBelow n) (GivenBelow n) (value e b x) (as_if_assigned at t) (value_holds n e w b x) (λ g h. as_if_below n at t g h)) (λ g h. tree_below n g h)
+      on_holds (TypedExpressionBelow n) (StmtBelow n) (on (value e b x) (as_if_assigned at t)) (λ g. fine (typed.return_value (tree_of g))) (on_holds (TypedExpressionBelow n) (TypedExpressionBelow n) (value e b x) (as_if_assigned at t) (value_holds n e w b x) (λ g h. as_if_below n at t g h)) (λ g h. tree_below n g h)
 
-  switched_below : (at : ℕ) (g : Given) (k : Kind) → GivenBelow n g → Holds (GivenBelow n) (switched_kind at g k)
+  switched_below : (at : ℕ) (g : TypedExpression) (k : Kind) → TypedExpressionBelow n g → Holds (TypedExpressionBelow n) (switched_kind at g k)
   switched_below at g (an_integer i) h = converted_below n (promoted i) g h
   switched_below at g (a_pointer t) h = tt
   switched_below at g neither h = tt
@@ -137,7 +137,7 @@ module _ (n : ℕ) where
     stmt_holds : (e : Env) → Within n e → (a : Around) (b : Before) (next : Next) (s : Stmt) → Holds OneBelow (stmt e a b next s)
     stmt_holds e w a b next (block at is) = on_holds ManyBelow OneBelow (items_of_block (inside e) a b next is) (λ p. fine (with_tree p (typed.block p.tree))) (block_holds (inside e) w a b next is) (λ p h. h)
     stmt_holds e w a b next (empty at) = tt
-    stmt_holds e w a b next (evaluate at x) = on_holds (GivenBelow n) OneBelow (value e b x) (λ g. fine (bare (typed.evaluate (tree_of g)))) (value_holds n e w b x) (λ g h. tree_below n g h)
+    stmt_holds e w a b next (evaluate at x) = on_holds (TypedExpressionBelow n) OneBelow (value e b x) (λ g. fine (bare (typed.evaluate (tree_of g)))) (value_holds n e w b x) (λ g h. tree_below n g h)
     stmt_holds e w a b next (only_if at x s) =
         both_hold (CallsBelow n) OneBelow OneBelow (condition_at at (value e b x)) (stmt e a (after b x) next s) (λ c p. fine (with_tree p (typed.if_else c p.tree typed.empty))) (condition_holds e w b at x) (stmt_holds e w a (after b x) next s) (λ c p h k. (h, k, tt))
     stmt_holds e w a b next (if_else at x s t) =
@@ -155,9 +155,9 @@ module _ (n : ℕ) where
         all_three_hold ManyBelow TestsBelow OneBelow OneBelow (first_of (inside e) b next first) (beside (test_of inner b1 at test) (step_of inner b2 step)) (stmt inner (in_loop a) b3 (past_names next (names_of_first first)) s) (λ p tests q. fine (for_of p tests q))
         (first_holds (inside e) w b next first) (both_hold (MaybeBelow n) (MaybeBelow n) TestsBelow (test_of inner b1 at test) (step_of inner b2 step) (λ t u. fine (record { first = t; second = u })) (test_holds inner v b1 at test) (step_holds inner v b2 step) (λ t u h k. (h, k))) (stmt_holds inner v (in_loop a) b3 (past_names next (names_of_first first)) s) (λ p t q h k l. (h, k.0, k.1, l))
     stmt_holds e w a b next (switch_on at x gs) =
-        let r : Checked Given = switched at (value e b x) in
-        both_hold (GivenBelow n) LabelledBelow OneBelow r (groups_of_switch e (in_switch a) (after b x) next (label_type r) gs) (switch_of at)
-        (on_holds (GivenBelow n) (GivenBelow n) (value e b x) (λ g. switched_kind at g (kind_of g.ctype)) (value_holds n e w b x) (λ g h. switched_below at g (kind_of g.ctype) h)) (groups_hold e w (in_switch a) (after b x) next (label_type r) gs) (λ g l h k. demand_holds OneBelow _ 7 at (with_tree l.groups (typed.switch_on (tree_of g) l.groups.tree)) (tree_below n g h, k))
+        let r : Checked TypedExpression = switched at (value e b x) in
+        both_hold (TypedExpressionBelow n) LabelledBelow OneBelow r (groups_of_switch e (in_switch a) (after b x) next (label_type r) gs) (switch_of at)
+        (on_holds (TypedExpressionBelow n) (TypedExpressionBelow n) (value e b x) (λ g. switched_kind at g (kind_of g.ctype)) (value_holds n e w b x) (λ g h. switched_below at g (kind_of g.ctype) h)) (groups_hold e w (in_switch a) (after b x) next (label_type r) gs) (λ g l h k. demand_holds OneBelow _ 7 at (with_tree l.groups (typed.switch_on (tree_of g) l.groups.tree)) (tree_below n g h, k))
     stmt_holds e w a b next (break_off at) = demand_holds OneBelow a.breaks 8 at (bare typed.break_off) tt
     stmt_holds e w a b next (continue_on at) = demand_holds OneBelow a.continues 8 at (bare typed.continue_on) tt
     stmt_holds e w a b next (return_from at m) = on_holds (StmtBelow n) OneBelow (returned e b at a.returns m) (λ s. fine (bare s)) (returned_holds e w b at a.returns m) (λ s h. h)

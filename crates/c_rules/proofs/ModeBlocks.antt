@@ -7,14 +7,14 @@ use Rattle.c_syntax.specs.Tree as syntax
 use Rattle.c_rules.specs.Checked.{Checked, fine, faulty, on, both, gives, demand, Met, met}
 use Rattle.c_rules.specs.Scopes.{Env, a_local, Before, layout_of}
 use Rattle.c_rules.specs.Counts.{past}
-use Rattle.c_rules.specs.Given.{Given, tree_of}
+use Rattle.c_rules.specs.TypedExpression.{TypedExpression, tree_of}
 use Rattle.c_rules.specs.Conversions.{as_if_assigned}
 use Rattle.c_rules.specs.Declarators.{name_of, place_or, new_name}
 use Rattle.c_rules.specs.Expressions.{value, type_declared}
 use Rattle.c_rules.specs.Initialisers.{Slots, copies, each, slots, capacity, takes_list, count_inits, text_of, zeros, cell_of, scalar_cell, array_cells, cells_of_one, cells_of_list, held, held_in_turn, held_by, calls_of_init, calls_of_maybe_init, after_init, initialised, in_turn, initialised_local, initialised_static}
 use Rattle.c_rules.specs.Objects.{Object, object_of, object_declared}
 use Rattle.c_rules.specs.Variables.{Next, number_in}
-use Rattle.c_rules.specs.Blocks.{seen_meaning, whole_meaning, within_local, behind_local, behind_named, behind_part, past_part, behind_parts, behind_decl, behind_first, held_by_object, held_by_named, held_by_part, held_by_parts, held_by_decl, held_by_first, after_part, Laid, bare, alone, one_more, laid_variable, local_of, local, local_named, local_part, local_parts, local_decl}
+use Rattle.c_rules.specs.Blocks.{seen_meaning, whole_meaning, within_local, behind_local, behind_named, behind_part, past_part, behind_parts, behind_decl, behind_first, held_by_object, held_by_named, held_by_part, held_by_parts, held_by_decl, held_by_first, after_part, StatementTree, bare, alone, one_more, laid_variable, local_of, local, local_named, local_part, local_parts, local_decl}
 use Rattle.c_rules.specs.Statements.{first_of}
 use Rattle.c_rules.proofs.Modes.{Leads, LeadsTo, same_leads, fine_leads, with_fact, on_leads, both_leads, gives_leads, first_fine, on_fine, ArePlain, Twin, twin, named_twin}
 use Rattle.c_rules.proofs.ModeNames.{left, right, new_name_leads, new_name_plain}
@@ -80,11 +80,11 @@ after_same env b t i = ap (past b (calls_of_init i)) (held_init env t i)
 
 -- ## Initialisers
 
-scalar_leads : (k : Bool) (at : ℕ) (t : CType) (r s : Checked Given) → Leads r s → Leads (scalar_cell k at t r) (scalar_cell k at t s)
+scalar_leads : (k : Bool) (at : ℕ) (t : CType) (r s : Checked TypedExpression) → Leads r s → Leads (scalar_cell k at t r) (scalar_cell k at t s)
 scalar_leads k at t r s h =
     on_leads (on r (as_if_assigned at t)) (on s (as_if_assigned at t)) (cell_of k at) (cell_of k at) (on_leads r s (as_if_assigned at t) (as_if_assigned at t) h (λ g _. same_leads (as_if_assigned at t g))) (λ g _. same_leads (cell_of k at g))
 
-one_leads : (k : Bool) (at : ℕ) (t : CType) (text : Option (List ℕ)) (r s : Checked Given) → Leads r s → Leads (cells_of_one k at t text r) (cells_of_one k at t text s)
+one_leads : (k : Bool) (at : ℕ) (t : CType) (text : Option (List ℕ)) (r s : Checked TypedExpression) → Leads r s → Leads (cells_of_one k at t text r) (cells_of_one k at t text s)
 one_leads k at void text r s h = tt
 one_leads k at (integer i) text r s h = scalar_leads k at (integer i) r s h
 one_leads k at (pointer t) text r s h = scalar_leads k at (pointer t) r s h
@@ -92,7 +92,7 @@ one_leads k at (array t n) text r s h = same_leads (array_cells at t n text)
 one_leads k at (struct x) text r s h = tt
 one_leads k at (function t ts) text r s h = tt
 
-list_leads : (takes : Bool) (at most n : ℕ) (r s : Checked (List Given)) → Leads r s → Leads (cells_of_list takes at most n r) (cells_of_list takes at most n s)
+list_leads : (takes : Bool) (at most n : ℕ) (r s : Checked (List TypedExpression)) → Leads r s → Leads (cells_of_list takes at most n r) (cells_of_list takes at most n s)
 list_leads takes at most n r s h =
     on_leads (demand takes 14 at met) (demand takes 14 at met) (λ _. on r (λ gs. demand (nat_le n most) 14 at gs)) (λ _. on s (λ gs. demand (nat_le n most) 14 at gs)) (same_leads _)
     (λ _ _. on_leads r s (λ gs. demand (nat_le n most) 14 at gs) (λ gs. demand (nat_le n most) 14 at gs) h (λ gs _. same_leads (demand (nat_le n most) 14 at gs)))
@@ -156,7 +156,7 @@ local_leads env p b next x m r s h =
     both_leads (new_name (left env) x) (new_name (right env) x) (on r (local_of (within_local (left env) next x r) b next x m)) (on s (local_of (within_local (right env) next x s) b next x m)) (λ _ q. fine q) (λ _ q. fine q) (new_name_leads env x)
     (λ a u. on_leads r s (local_of (within_local (left env) next x r) b next x m) (local_of (within_local (right env) next x s) b next x m) h (λ o e. local_of_leads _ _ (within_twin env p next x r s o a h e u) b next x m o)) (λ _ q. (refl, tt))
 
-local_facts : (env : Env) → ArePlain env.names → (b : Before) (next : Next) (x : Ident) (m : MaybeInit) (r s : Checked Object) → Leads r s → (c : Laid typed.Stmt) → local (left env) b next x m r ≡ fine c → PartFacts (behind_local (left env) next x r) (behind_local (right env) next x s) (held_by_object (left env) m r) (held_by_object (right env) m s)
+local_facts : (env : Env) → ArePlain env.names → (b : Before) (next : Next) (x : Ident) (m : MaybeInit) (r s : Checked Object) → Leads r s → (c : StatementTree typed.Stmt) → local (left env) b next x m r ≡ fine c → PartFacts (behind_local (left env) next x r) (behind_local (right env) next x s) (held_by_object (left env) m r) (held_by_object (right env) m s)
 local_facts env p b next x m r s h c e =
     let k = first_fine (new_name (left env) x) (on r (local_of (within_local (left env) next x r) b next x m)) (λ _ q. fine q) c e in
     let o = on_fine r (local_of (within_local (left env) next x r) b next x m) k.1 k.3 in

@@ -10,10 +10,10 @@ use Rattle.c_rules.specs.Checked.{Checked, fine, on, both}
 use Rattle.c_rules.specs.Names.{Name}
 use Rattle.c_rules.specs.Scopes.{Env, a_local, Before, nothing_before, sized, folded, in_context, inside, lookup}
 use Rattle.c_rules.specs.Counts.{place_of, calls, after, after_designator}
-use Rattle.c_rules.specs.Given.{Given}
+use Rattle.c_rules.specs.TypedExpression.{TypedExpression}
 use Rattle.c_rules.specs.PrimaryExpressions.{string_expression}
 use Rattle.c_rules.specs.PostfixExpressions.{site_of, callee_by_value, called, member_of}
-use Rattle.c_rules.specs.UnaryExpressions.{address, indirection, unary_of_value, size_of_given, size_of_type, cast_of, null_cast}
+use Rattle.c_rules.specs.UnaryExpressions.{address, indirection, unary_of_value, size_of_expression, size_of_type, cast_of, null_cast}
 use Rattle.c_rules.specs.BinaryExpressions.{sum, choice}
 use Rattle.c_rules.specs.Assignments.{assignable, assignment_by, step, comma_of}
 use Rattle.c_rules.specs.Declarators.{name_of, place_or, place_of_type, is_void_pointer, type_of_spec, pointer_to, array_of, function_of, parameter_of, array_size, new_name, variable_meaning, with_name_demands, behind_parameter}
@@ -21,45 +21,45 @@ use Rattle.c_rules.specs.Expressions.{value_at, place_at, callee, access, after_
 use Rattle.c_rules.proofs.Modes.{Leads, same_leads, fine_leads, on_leads, both_leads, gives_leads, all_three_lead, first_fine, ArePlain, Twin, twin, named_twin}
 use Rattle.c_rules.proofs.ModeNames.{left, right, found_plain, named_leads, site_leads, callee_bound_leads, value_at_leads, new_name_leads, new_name_plain}
 
-place_at_leads : (place : ℕ) (r s : Checked Given) → Leads r s → Leads (place_at place r) (place_at place s)
+place_at_leads : (place : ℕ) (r s : Checked TypedExpression) → Leads r s → Leads (place_at place r) (place_at place s)
 place_at_leads place r s h = on_leads r s (assignable place) (assignable place) h (λ g _. same_leads (assignable place g))
 
-callee_leads : (env : Env) → ArePlain env.names → (at : ℕ) (d : Expr) (r s : Checked Given) → Leads r s → Leads (callee (left env) at d r) (callee (right env) at d s)
+callee_leads : (env : Env) → ArePlain env.names → (at : ℕ) (d : Expr) (r s : Checked TypedExpression) → Leads r s → Leads (callee (left env) at d r) (callee (right env) at d s)
 callee_leads env p at (a_name place x) r s h = callee_bound_leads env at place x r s (lookup env.names x) (found_plain env.names x p) h
 callee_leads env p at _ r s h = on_leads r s (callee_by_value at) (callee_by_value at) h (λ g _. same_leads (callee_by_value at g))
 
-access_leads : (env : Env) (at place : ℕ) (how : Access) (x : Name) (r s : Checked Given) → Leads r s → Leads (access (left env) at place how x r) (access (right env) at place how x s)
+access_leads : (env : Env) (at place : ℕ) (how : Access) (x : Name) (r s : Checked TypedExpression) → Leads r s → Leads (access (left env) at place how x r) (access (right env) at place how x s)
 access_leads env at place dot x r s h = on_leads r s (member_of (left env) at x) (member_of (right env) at x) h (λ g _. same_leads (member_of (left env) at x g))
 access_leads env at place arrow x r s h =
     on_leads (on (value_at (left env) place r) (indirection at)) (on (value_at (right env) place s) (indirection at)) (member_of (left env) at x) (member_of (right env) at x)
     (on_leads (value_at (left env) place r) (value_at (right env) place s) (indirection at) (indirection at) (value_at_leads env place r s h) (λ g _. same_leads (indirection at g)))
     (λ g _. same_leads (member_of (left env) at x g))
 
-after_operand_leads : (env : Env) (at place : ℕ) (op : Postfix) (r s : Checked Given) → Leads r s → Leads (after_operand (left env) at place op r) (after_operand (right env) at place op s)
+after_operand_leads : (env : Env) (at place : ℕ) (op : Postfix) (r s : Checked TypedExpression) → Leads r s → Leads (after_operand (left env) at place op r) (after_operand (right env) at place op s)
 after_operand_leads env at place post_increment r s h = on_leads (place_at place r) (place_at place s) (step (left env) at Add true) (step (right env) at Add true) (place_at_leads place r s h) (λ g _. same_leads (step (left env) at Add true g))
 after_operand_leads env at place post_decrement r s h = on_leads (place_at place r) (place_at place s) (step (left env) at Sub true) (step (right env) at Sub true) (place_at_leads place r s h) (λ g _. same_leads (step (left env) at Sub true g))
 
-before_operand_leads : (env : Env) (at place : ℕ) (op : Prefix) (r s q t : Checked Given) → Leads r s → Leads q t → Leads (before_operand (left env) at place op r q) (before_operand (right env) at place op s t)
+before_operand_leads : (env : Env) (at place : ℕ) (op : Prefix) (r s q t : Checked TypedExpression) → Leads r s → Leads q t → Leads (before_operand (left env) at place op r q) (before_operand (right env) at place op s t)
 before_operand_leads env at place pre_increment r s q t h k = on_leads (place_at place r) (place_at place s) (step (left env) at Add false) (step (right env) at Add false) (place_at_leads place r s h) (λ g _. same_leads (step (left env) at Add false g))
 before_operand_leads env at place pre_decrement r s q t h k = on_leads (place_at place r) (place_at place s) (step (left env) at Sub false) (step (right env) at Sub false) (place_at_leads place r s h) (λ g _. same_leads (step (left env) at Sub false g))
-before_operand_leads env at place sizeof r s q t h k = on_leads q t (size_of_given (left env) at) (size_of_given (right env) at) k (λ g _. same_leads (size_of_given (left env) at g))
+before_operand_leads env at place sizeof r s q t h k = on_leads q t (size_of_expression (left env) at) (size_of_expression (right env) at) k (λ g _. same_leads (size_of_expression (left env) at g))
 
-unary_by : (t : Bool) (a b c d : Checked Given) → Leads a b → Leads c d → Leads (if t then a else c) (if t then b else d)
+unary_by : (t : Bool) (a b c d : Checked TypedExpression) → Leads a b → Leads c d → Leads (if t then a else c) (if t then b else d)
 unary_by true a b c d h k = h
 unary_by false a b c d h k = k
 
-unary_leads : (env : Env) (at place op : ℕ) (r s : Checked Given) → Leads r s → Leads (unary_rule (left env) at place op r) (unary_rule (right env) at place op s)
+unary_leads : (env : Env) (at place op : ℕ) (r s : Checked TypedExpression) → Leads r s → Leads (unary_rule (left env) at place op r) (unary_rule (right env) at place op s)
 unary_leads env at place op r s h =
     unary_by (nat_eq op AMPERSAND) (on r (address at place)) (on s (address at place)) (on (value_at (left env) place r) (unary_of_value at op)) (on (value_at (right env) place s) (unary_of_value at op))
     (on_leads r s (address at place) (address at place) h (λ g _. same_leads (address at place g)))
     (on_leads (value_at (left env) place r) (value_at (right env) place s) (unary_of_value at op) (unary_of_value at op) (value_at_leads env place r s h) (λ g _. same_leads (unary_of_value at op g)))
 
-infix_leads : (env : Env) (at : ℕ) (op : Infix) (a b : Given) → Leads (infix_rule (left env) at op a b) (infix_rule (right env) at op a b)
+infix_leads : (env : Env) (at : ℕ) (op : Infix) (a b : TypedExpression) → Leads (infix_rule (left env) at op a b) (infix_rule (right env) at op a b)
 infix_leads env at and a b = same_leads (infix_rule (left env) at and a b)
 infix_leads env at or a b = same_leads (infix_rule (left env) at or a b)
 infix_leads env at (operator code) a b = same_leads (infix_rule (left env) at (operator code) a b)
 
-cast_leads : (v : Bool) (at : ℕ) (t u : Checked CType) (r s : Checked Given) → Leads t u → Leads r s → Leads (cast_rule v at t r) (cast_rule v at u s)
+cast_leads : (v : Bool) (at : ℕ) (t u : Checked CType) (r s : Checked TypedExpression) → Leads t u → Leads r s → Leads (cast_rule v at t r) (cast_rule v at u s)
 cast_leads true at t u r s h k = on_leads r s (null_cast at) (null_cast at) k (λ g _. same_leads (null_cast at g))
 cast_leads false at t u r s h k = both_leads t u r s (cast_of at) (cast_of at) h (λ _ _. k) (λ a g. same_leads (cast_of at a g))
 

@@ -17,7 +17,7 @@ use Rattle.c_rules.specs.Names.{Name, number_among, is_among, is_reserved, given
 use Rattle.c_rules.specs.Scopes.{Env, Meaning, a_function, inside, Before, layout_of, declared_here}
 use Rattle.c_rules.specs.Declarators.{name_of, place_or, type_of_spec, pointer_to, array_of, function_of, new_name, with_name_demands, behind_parameter}
 use Rattle.c_rules.specs.Expressions.{declared, size_in, parameters, type_declared, type_of_parameter}
-use Rattle.c_rules.specs.Blocks.{Laid}
+use Rattle.c_rules.specs.Blocks.{StatementTree}
 use Rattle.c_rules.specs.Functions.{declares_function, parameters_of, are_named, with_parameter, with_parameters, body_env, body_numbers, held_by_type, held_by_typed, is_given_type, given_as, is_as_given, may_follow_function, is_defined_by, is_few, function_meaning, behind_function, function_declared, variables_of, function_laid, body_of, defined_as}
 use Rattle.c_rules.proofs.Modes.{Leads, LeadsTo, same_leads, fine_leads, on_leads, demand_leads, and_also_leads, first_fine, on_fine, demand_met, below_more, ArePlain, Twin, twin, named_twin}
 use Rattle.c_rules.proofs.ModeNames.{left, right, given_same, unreserved, name_leads, new_name_plain}
@@ -128,7 +128,7 @@ function_twin e f (twin env w) d at s p x m g =
 
 -- ## Definitions
 
-laid_leads : (e f : Env) → Twin e f → (x : Ident) (t : CType) (ts : CTypes) (p : Laid typed.Stmts) → Leads (function_laid e x t ts p) (function_laid f x t ts p)
+laid_leads : (e f : Env) → Twin e f → (x : Ident) (t : CType) (ts : CTypes) (p : StatementTree typed.Stmts) → Leads (function_laid e x t ts p) (function_laid f x t ts p)
 laid_leads e f (twin env w) x t ts p = demand_leads _ _ 13 x.at _ (cells_more (cells_of_all (layout_of env) (variables_of ts p)))
   where
     cells_more : (n : ℕ) → nat_le n 65536 ≡ true → nat_le n 262144 ≡ true

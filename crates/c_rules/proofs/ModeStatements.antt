@@ -12,12 +12,12 @@ use Rattle.c_rules.specs.Constants.{number_of}
 use Rattle.c_rules.specs.Checked.{Checked, fine, on, beside, Two}
 use Rattle.c_rules.specs.Scopes.{Env, inside, in_context, folded, Before, nothing_before}
 use Rattle.c_rules.specs.Counts.{place_of, past, after, after_maybe, strings, strings_of_maybe}
-use Rattle.c_rules.specs.Given.{Given, tree_of}
+use Rattle.c_rules.specs.TypedExpression.{TypedExpression, tree_of}
 use Rattle.c_rules.specs.Conversions.{kind_of, as_if_assigned, condition}
 use Rattle.c_rules.specs.Declarators.{constant_value}
 use Rattle.c_rules.specs.Expressions.{value, folded_value}
 use Rattle.c_rules.specs.Variables.{Next, past_names, names_of_decl, names_of_first, names_of_stmt, names_of_stmts, calls_of_decl, calls_of_first, calls_of_stmt, calls_of_stmts}
-use Rattle.c_rules.specs.Blocks.{behind_decl, behind_first, held_by_first, held_by_decl, held_by_stmt, held_by_block, held_by_stmts, held_by_groups, after_decl, after_first, after_stmt, after_stmts, Laid, bare, with_tree, joined, one_more, some_more, local_decl}
+use Rattle.c_rules.specs.Blocks.{behind_decl, behind_first, held_by_first, held_by_decl, held_by_stmt, held_by_block, held_by_stmts, held_by_groups, after_decl, after_first, after_stmt, after_stmts, StatementTree, bare, with_tree, joined, one_more, some_more, local_decl}
 use Rattle.c_rules.specs.Statements.{Around, in_loop, in_switch, condition_at, test_of, step_of, first_of, for_of, switched_kind, switched, label_type, labels_of, labelled, switch_of, returned, stmt, items_of_block, stmts, groups_of_switch}
 use Rattle.c_rules.proofs.Modes.{Leads, LeadsTo, same_leads, fine_leads, on_leads, both_leads, gives_leads, Twin, twin}
 use Rattle.c_rules.proofs.ModeExpressions.{value_leads}
@@ -56,7 +56,7 @@ switched_leads : (e f : Env) → Twin e f → (b : Before) (at : ℕ) (x : Expr)
 switched_leads e f w b at x = on_leads (value e b x) (value f b x) (λ g. switched_kind at g (kind_of g.ctype)) (λ g. switched_kind at g (kind_of g.ctype)) (value_leads e f w b x) (λ g _. same_leads (switched_kind at g (kind_of g.ctype)))
 
 -- where both are fine the labels have one type
-label_same : (r s : Checked Given) (g : Given) → Leads r s → r ≡ fine g → label_type r ≡ label_type s
+label_same : (r s : Checked TypedExpression) (g : TypedExpression) → Leads r s → r ≡ fine g → label_type r ≡ label_type s
 label_same r s g h e = ap label_type (e ∙ sym (fine_leads r s g h e))
 
 -- a statement that is fine in a plain unit: the same tree, and the same strings
@@ -70,7 +70,7 @@ back : (ws xs ys : List (List ℕ)) → xs ≡ ys → xs ++ ws ≡ ys ++ ws
 back ws xs ys h = ap (λ z. z ++ ws) h
 
 -- what stands behind the first part of a for
-abbrev rest_of_for : Env → Around → (at : ℕ) → Maybe → Maybe → Stmt → Next → Before → Checked (Two (Two typed.Maybe typed.Maybe) (Laid typed.Stmt))
+abbrev rest_of_for : Env → Around → (at : ℕ) → Maybe → Maybe → Stmt → Next → Before → Checked (Two (Two typed.Maybe typed.Maybe) (StatementTree typed.Stmt))
 rest_of_for e a at test step s later b =
     beside (beside (test_of e b at test) (step_of e (after_maybe b test) step)) (stmt e (in_loop a) (after_maybe (after_maybe b test) step) later s)
 
@@ -119,8 +119,8 @@ mutual
       (λ _ _ _. stmt_leads ie if' h.0 (in_loop a) (after_maybe (after_maybe (after_first oe b next first) test) step) later s) (λ t q. (refl, tt))))
       (λ p y. (refl, tt)))
   stmt_leads e f w a b next (switch_on at x gs) =
-      let r : Checked Given = switched at (value e b x) in
-      let s : Checked Given = switched at (value f b x) in
+      let r : Checked TypedExpression = switched at (value e b x) in
+      let s : Checked TypedExpression = switched at (value f b x) in
       let G : Type 0 = held_by_groups e next gs ≡ held_by_groups f next gs in
       weaken (Unit {0} × G) _ _ _ (λ h. front (strings x) _ _ h.1)
       (both_to (Unit {0}) G r s (groups_of_switch e (in_switch a) (after b x) next (label_type r) gs) (groups_of_switch f (in_switch a) (after b x) next (label_type s) gs) (switch_of at) (switch_of at)

@@ -9,7 +9,7 @@ use Rattle.c_tree.specs.Tree.{Program}
 use Rattle.c_rules.specs.Units.{IsTyped}
 
 -- the bytes are spelled by tokens that spell a unit which is typed as the program
-pub record IsAccepted (bytes : List ℕ) (mode : Mode) (p : Program) : Type 0 where
+pub record IsAcceptedAs (bytes : List ℕ) (mode : Mode) (p : Program) : Type 0 where
   pub tokens : List Token
   pub unit : Items
   pub lexed : SpellsTokens bytes mode tokens

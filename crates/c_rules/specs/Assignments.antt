@@ -14,18 +14,18 @@ use Rattle.c_tree.specs.Operators.{value_of}
 use Rattle.c_rules.specs.Checked.{Checked, fine, fault, demand, on, gives, met}
 use Rattle.c_rules.specs.Codes.{C3, C4}
 use Rattle.c_rules.specs.Scopes.{Env}
-use Rattle.c_rules.specs.Given.{Given, not_constant, value_given, tree_of, is_place}
+use Rattle.c_rules.specs.TypedExpression.{TypedExpression, not_constant, typed_value, tree_of, is_place}
 use Rattle.c_rules.specs.Conversions.{Kind, an_integer, a_pointer, kind_of, complete, converted_to, fits, assigned}
 
 -- the operand of an assignment or a step designates an object
-abbrev pub assignable : (at : ℕ) → Given → Checked Given
+abbrev pub assignable : (at : ℕ) → TypedExpression → Checked TypedExpression
 assignable at g = demand (is_place g) C4 at g
 
 -- ## Simple assignment (6.5.16.1)
 
-abbrev pub assignment : (at : ℕ) → Given → Given → Checked Given
+abbrev pub assignment : (at : ℕ) → TypedExpression → TypedExpression → Checked TypedExpression
 assignment at p v =
-    demand (fits p.ctype v) C3 at (value_given p.ctype (assign p.ctype (tree_of p) (tree_of (assigned p.ctype v))) not_constant)
+    demand (fits p.ctype v) C3 at (typed_value p.ctype (assign p.ctype (tree_of p) (tree_of (assigned p.ctype v))) not_constant)
 
 -- ## Compound assignment (6.5.16.2)
 
@@ -48,8 +48,8 @@ abbrev pub right_type : OperatorKind → (i j : IntType) → IntType
 right_type shift i j = promoted j
 right_type k i j = common i j
 
-abbrev pub updated : BinOp → (old : Bool) → Given → Expr → Given
-updated op old p e = value_given p.ctype (update p.ctype op old (tree_of p) e) not_constant
+abbrev pub updated : BinOp → (old : Bool) → TypedExpression → Expr → TypedExpression
+updated op old p e = typed_value p.ctype (update p.ctype op old (tree_of p) e) not_constant
 
 -- `+` and `-`, which move pointers
 abbrev pub moves : BinOp → Bool
@@ -58,43 +58,43 @@ moves Sub = true
 moves op = false
 
 -- an integer takes an integer; a pointer to an object is moved by an integer (paragraphs 1 and 2)
-abbrev pub update_of : Env → (at : ℕ) → BinOp → (old : Bool) → Given → Given → Kind → Kind → Checked Given
+abbrev pub update_of : Env → (at : ℕ) → BinOp → (old : Bool) → TypedExpression → TypedExpression → Kind → Kind → Checked TypedExpression
 update_of env at op old p v (an_integer i) (an_integer j) =
     fine (updated op old p (tree_of (converted_to (right_type (kind_of_operator op) i j) v)))
 update_of env at op old p v (a_pointer t) (an_integer j) =
     on (demand (moves op) C3 at met) (λ _. gives (complete env at t) (λ _. updated op old p (tree_of v)))
 update_of env at op old p v k l = fault C3 at
 
-abbrev pub compound_assignment : Env → (at : ℕ) → BinOp → Given → Given → Checked Given
+abbrev pub compound_assignment : Env → (at : ℕ) → BinOp → TypedExpression → TypedExpression → Checked TypedExpression
 compound_assignment env at op p v = update_of env at op false p v (kind_of p.ctype) (kind_of v.ctype)
 
 -- an assignment with the operator of this number
-abbrev pub assignment_by : Env → (at op : ℕ) → Given → Given → Checked Given
+abbrev pub assignment_by : Env → (at op : ℕ) → TypedExpression → TypedExpression → Checked TypedExpression
 assignment_by env at op p v =
     if nat_eq op punctuators.ASSIGN then assignment at p v else compound_assignment env at (operator_of_assignment op) p v
 
 -- ## Steps: a compound assignment of the constant 1 (6.5.3.1 paragraph 2, 6.5.2.4 paragraph 2)
 
 -- the constant 1 in the type of the operator
-abbrev pub one_for : Kind → Given
+abbrev pub one_for : Kind → TypedExpression
 one_for (an_integer i) =
-    value_given (integer (common i widths.Int)) (constant (integer (common i widths.Int)) (value_of (common i widths.Int) (pos 1))) not_constant
-one_for k = value_given int (constant int (Int (pos 1))) not_constant
+    typed_value (integer (common i widths.Int)) (constant (integer (common i widths.Int)) (value_of (common i widths.Int) (pos 1))) not_constant
+one_for k = typed_value int (constant int (Int (pos 1))) not_constant
 
 -- whether the value is the old one
-abbrev pub step : Env → (at : ℕ) → BinOp → (old : Bool) → Given → Checked Given
+abbrev pub step : Env → (at : ℕ) → BinOp → (old : Bool) → TypedExpression → Checked TypedExpression
 step env at op old p = update_of env at op old p (one_for (kind_of p.ctype)) (kind_of p.ctype) (kind_of (one_for (kind_of p.ctype)).ctype)
 
 -- ## The comma (6.5.17)
 
-abbrev pub trees_of : List Given → Exprs
+abbrev pub trees_of : List TypedExpression → Exprs
 trees_of [] = no_exprs
 trees_of (g ∷ gs) = more_exprs (tree_of g) (trees_of gs)
 
 -- the type of the last one
-abbrev pub last_type : CType → List Given → CType
+abbrev pub last_type : CType → List TypedExpression → CType
 last_type t [] = t
 last_type t (g ∷ gs) = last_type g.ctype gs
 
-abbrev pub comma_of : List Given → Given
-comma_of gs = value_given (last_type void gs) (comma (last_type void gs) (trees_of gs)) not_constant
+abbrev pub comma_of : List TypedExpression → TypedExpression
+comma_of gs = typed_value (last_type void gs) (comma (last_type void gs) (trees_of gs)) not_constant

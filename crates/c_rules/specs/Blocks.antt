@@ -11,7 +11,7 @@ use Rattle.c_rules.specs.Codes.{C3}
 use Rattle.c_rules.specs.Names.{Name, is_added}
 use Rattle.c_rules.specs.Scopes.{Env, Meaning, a_local, with_name, meaning_or_unknown, inside, Before}
 use Rattle.c_rules.specs.Counts.{strings, strings_of_maybe, past}
-use Rattle.c_rules.specs.Given.{Given}
+use Rattle.c_rules.specs.TypedExpression.{TypedExpression}
 use Rattle.c_rules.specs.Declarators.{name_of, place_or, new_name}
 use Rattle.c_rules.specs.Initialisers.{held_by, calls_of_maybe_init, initialised_local, stores_from}
 use Rattle.c_rules.specs.Objects.{Object, object_declared}
@@ -134,29 +134,29 @@ after_stmts env b next ss = past b (calls_of_stmts ss) (held_by_stmts env next s
 
 -- ## What a part of a body gives: its tree, and the types of the variables that it declares, the instrumenter's apart
 
-pub record Laid (A : Type 0) : Type 0 where
+pub record StatementTree (A : Type 0) : Type 0 where
   pub tree : A
   pub plain : List CType
   pub added : List CType
 
 -- a tree without variables
-abbrev pub bare : {A : Type 0} → A → Laid A
+abbrev pub bare : {A : Type 0} → A → StatementTree A
 bare a = record { tree = a; plain = []; added = [] }
 
 -- the same variables with another tree
-abbrev pub with_tree : {A B : Type 0} → Laid A → B → Laid B
+abbrev pub with_tree : {A B : Type 0} → StatementTree A → B → StatementTree B
 with_tree p b = record { tree = b; plain = p.plain; added = p.added }
 
 -- the variables of two parts with a tree of both
-abbrev pub joined : {A B C : Type 0} → Laid A → Laid B → C → Laid C
+abbrev pub joined : {A B C : Type 0} → StatementTree A → StatementTree B → C → StatementTree C
 joined p q c = record { tree = c; plain = p.plain ++ q.plain; added = p.added ++ q.added }
 
 -- one statement, and others behind it
-abbrev pub one_more : Laid typed.Stmt → Laid typed.Stmts → Laid typed.Stmts
+abbrev pub one_more : StatementTree typed.Stmt → StatementTree typed.Stmts → StatementTree typed.Stmts
 one_more p q = joined p q (typed.more_stmts p.tree q.tree)
 
 -- one statement alone
-abbrev pub alone : Laid typed.Stmt → Laid typed.Stmts
+abbrev pub alone : StatementTree typed.Stmt → StatementTree typed.Stmts
 alone p = with_tree p (typed.more_stmts p.tree typed.no_stmts)
 
 abbrev pub appended : typed.Stmts → typed.Stmts → typed.Stmts
@@ -164,35 +164,35 @@ appended typed.no_stmts us = us
 appended (typed.more_stmts s ss) us = typed.more_stmts s (appended ss us)
 
 -- some statements, and others behind them
-abbrev pub some_more : Laid typed.Stmts → Laid typed.Stmts → Laid typed.Stmts
+abbrev pub some_more : StatementTree typed.Stmts → StatementTree typed.Stmts → StatementTree typed.Stmts
 some_more p q = joined p q (appended p.tree q.tree)
 
 -- ## Declarations
 
 -- the declaration of a variable with this name, number and type, and its cells
-abbrev pub laid_variable : Name → (number : ℕ) → CType → List Given → Laid typed.Stmt
+abbrev pub laid_variable : Name → (number : ℕ) → CType → List TypedExpression → StatementTree typed.Stmt
 laid_variable x k t gs =
     if is_added x
     then record { tree = typed.declare k (stores_from 0 gs); plain = []; added = t ∷ [] }
     else record { tree = typed.declare k (stores_from 0 gs); plain = t ∷ []; added = [] }
 
-abbrev pub local_of : Env → Before → Next → Ident → MaybeInit → Object → Checked (Laid typed.Stmt)
+abbrev pub local_of : Env → Before → Next → Ident → MaybeInit → Object → Checked (StatementTree typed.Stmt)
 local_of env b next x m o = gives (initialised_local env b o.whole m) (laid_variable x.name (number_in next x.name) o.whole)
 
 -- a variable: its name is new, its type is that of an object, and its initialiser fits
-abbrev pub local : Env → Before → Next → Ident → MaybeInit → Checked Object → Checked (Laid typed.Stmt)
+abbrev pub local : Env → Before → Next → Ident → MaybeInit → Checked Object → Checked (StatementTree typed.Stmt)
 local env b next x m r = both (new_name env x) (on r (local_of (within_local env next x r) b next x m)) (λ _ p. fine p)
 
-abbrev pub local_named : Env → Before → Next → (at : ℕ) → Spec → Declarator → MaybeInit → Option Ident → Checked (Laid typed.Stmt)
+abbrev pub local_named : Env → Before → Next → (at : ℕ) → Spec → Declarator → MaybeInit → Option Ident → Checked (StatementTree typed.Stmt)
 local_named env b next at s d m None = fault C3 (place_or at d)
 local_named env b next at s d m (Some x) = local env b next x m (object_declared env at s d x m)
 
 -- one declarator with its initialiser
-abbrev pub local_part : Env → Before → Next → (at : ℕ) → Spec → Declarator → MaybeInit → Checked (Laid typed.Stmt)
+abbrev pub local_part : Env → Before → Next → (at : ℕ) → Spec → Declarator → MaybeInit → Checked (StatementTree typed.Stmt)
 local_part env b next at s d m = local_named env b next at s d m (name_of d)
 
 -- declarators, one variable for each
-abbrev pub local_parts : Env → Before → Next → (at : ℕ) → Spec → Parts → Checked (Laid typed.Stmts)
+abbrev pub local_parts : Env → Before → Next → (at : ℕ) → Spec → Parts → Checked (StatementTree typed.Stmts)
 local_parts env b next at s no_parts = fine (bare typed.no_stmts)
 local_parts env b next at s (more_parts d m ps) =
     both (local_part env b next at s d m)
@@ -200,5 +200,5 @@ local_parts env b next at s (more_parts d m ps) =
     (λ p q. fine (one_more p q))
 
 -- a declaration in a block
-abbrev pub local_decl : Env → Before → Next → Decl → Checked (Laid typed.Stmts)
+abbrev pub local_decl : Env → Before → Next → Decl → Checked (StatementTree typed.Stmts)
 local_decl env b next (decl at class s ps) = local_parts env b next at s ps

@@ -8,7 +8,7 @@ use Rattle.c_tree.specs.declared.value.Value.{Value}
 use Rattle.c_tree.specs.declared.value.Value.TheVariants.{Indeterminate, Int, Uint, Char, Uchar, Null, Func, At}
 use Rattle.c_tree.specs.Operators.{Answer, convert, unary, binary, truth}
 use Rattle.c_tree.specs.Operators as operators
-use Rattle.c_rules.specs.Given.{Constant, not_constant, undefined, known, is_zero}
+use Rattle.c_rules.specs.TypedExpression.{Constant, not_constant, undefined, known, is_zero}
 
 -- the number that an integer is
 abbrev pub number_of : Value → ℤ

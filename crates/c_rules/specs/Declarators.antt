@@ -12,7 +12,7 @@ use Rattle.c_rules.specs.Limits.{most_parameters}
 use Rattle.c_rules.specs.Names.{is_among, may_be_declared, given_names}
 use Rattle.c_rules.specs.Types.{is_scalar, is_result, count, adjusted}
 use Rattle.c_rules.specs.Scopes.{Env, Meaning, a_local, declared_here, with_name, meaning_or_unknown, tag_number}
-use Rattle.c_rules.specs.Given.{Given, Constant, not_constant, undefined, known, integer_constant}
+use Rattle.c_rules.specs.TypedExpression.{TypedExpression, Constant, not_constant, undefined, known, integer_constant}
 use Rattle.c_rules.specs.Conversions.{few_parts, complete}
 
 -- ## Names of declarators
@@ -94,7 +94,7 @@ defined_value place undefined = fault C6 place
 defined_value place (known v) = fine v
 
 -- the value of a constant integer expression
-abbrev pub constant_value : (place : ℕ) → Given → Checked Value
+abbrev pub constant_value : (place : ℕ) → TypedExpression → Checked Value
 constant_value place g = defined_value place (integer_constant g)
 
 abbrev pub positive : (place : ℕ) → ℤ → Checked ℕ
@@ -102,7 +102,7 @@ positive place (pos n) = demand (nat_lt 0 n) C6 place n
 positive place (negsuc n) = fault C6 place
 
 -- an array size is greater than zero (6.7.5.2 paragraph 1)
-abbrev pub array_size : (place : ℕ) → Given → Checked ℕ
+abbrev pub array_size : (place : ℕ) → TypedExpression → Checked ℕ
 array_size place g = on (constant_value place g) (λ v. positive place (number_of v))
 
 -- ## Declared names

@@ -10,76 +10,76 @@ use Rattle.c_rules.specs.Checked.{Checked, fine, on, both, all_three, gives}
 use Rattle.c_rules.specs.Names.{Name}
 use Rattle.c_rules.specs.Scopes.{Env, Binding, Meaning, a_function, Before, nothing_before, sized, folded, in_context, inside, binding_of}
 use Rattle.c_rules.specs.Counts.{place_of, calls, after, after_designator}
-use Rattle.c_rules.specs.Given.{Given}
+use Rattle.c_rules.specs.TypedExpression.{TypedExpression}
 use Rattle.c_rules.specs.Conversions.{valued}
-use Rattle.c_rules.specs.PrimaryExpressions.{named_expression, integer_expression, int_given, string_expression}
+use Rattle.c_rules.specs.PrimaryExpressions.{named_expression, integer_expression, typed_int, string_expression}
 use Rattle.c_rules.specs.PostfixExpressions.{Callee, site_of, callee_by_name, callee_by_value, called, member_of}
-use Rattle.c_rules.specs.UnaryExpressions.{address, indirection, unary_of_value, size_of_given, size_of_type, cast_of, null_cast}
+use Rattle.c_rules.specs.UnaryExpressions.{address, indirection, unary_of_value, size_of_expression, size_of_type, cast_of, null_cast}
 use Rattle.c_rules.specs.BinaryExpressions.{operator_of_code, sum, operation, conjunction, disjunction, choice}
 use Rattle.c_rules.specs.Assignments.{assignable, assignment_by, step, comma_of}
 use Rattle.c_rules.specs.Declarators.{name_of, place_or, place_of_type, is_void_pointer, type_of_spec, pointer_to, array_of, function_of, parameter_of, array_size, with_name_demands, behind_parameter}
 
 -- the value of an expression that gives this
-abbrev pub value_at : Env → (place : ℕ) → Checked Given → Checked Given
+abbrev pub value_at : Env → (place : ℕ) → Checked TypedExpression → Checked TypedExpression
 value_at env place r = on r (valued env place)
 
 -- the operand of an assignment or a step
-abbrev pub place_at : (place : ℕ) → Checked Given → Checked Given
+abbrev pub place_at : (place : ℕ) → Checked TypedExpression → Checked TypedExpression
 place_at place r = on r (assignable place)
 
 -- What is called (6.5.2.2): the call is direct exactly where its designator is the name of a function.
-abbrev pub callee_meant : Env → (at place : ℕ) → Name → Checked Given → Meaning → Checked Callee
+abbrev pub callee_meant : Env → (at place : ℕ) → Name → Checked TypedExpression → Meaning → Checked Callee
 callee_meant env at place x r (a_function t d) = callee_by_name env place x t
 callee_meant env at place x r m = on r (callee_by_value at)
 
-abbrev pub callee_bound : Env → (at place : ℕ) → Name → Checked Given → Option Binding → Checked Callee
+abbrev pub callee_bound : Env → (at place : ℕ) → Name → Checked TypedExpression → Option Binding → Checked Callee
 callee_bound env at place x r None = on r (callee_by_value at)
 callee_bound env at place x r (Some b) = callee_meant env at place x r b.means
 
 -- the callee of a call whose designator has this value
-abbrev pub callee : Env → (at : ℕ) → Expr → Checked Given → Checked Callee
+abbrev pub callee : Env → (at : ℕ) → Expr → Checked TypedExpression → Checked Callee
 callee env at (a_name place x) r = callee_bound env at place x r (binding_of env x)
 callee env at d r = on r (callee_by_value at)
 
 -- `e.x` and `e->x` (6.5.2.3), where the operand gives this
-abbrev pub access : Env → (at place : ℕ) → Access → Name → Checked Given → Checked Given
+abbrev pub access : Env → (at place : ℕ) → Access → Name → Checked TypedExpression → Checked TypedExpression
 access env at place dot x r = on r (member_of env at x)
 access env at place arrow x r = on (on (value_at env place r) (indirection at)) (member_of env at x)
 
 -- `e++` and `e--` (6.5.2.4)
-abbrev pub after_operand : Env → (at place : ℕ) → Postfix → Checked Given → Checked Given
+abbrev pub after_operand : Env → (at place : ℕ) → Postfix → Checked TypedExpression → Checked TypedExpression
 after_operand env at place post_increment r = on (place_at place r) (step env at Add true)
 after_operand env at place post_decrement r = on (place_at place r) (step env at Sub true)
 
 -- `++e`, `--e` and `sizeof e` (6.5.3.1, 6.5.3.4); the operand of sizeof isn't evaluated
-abbrev pub before_operand : Env → (at place : ℕ) → Prefix → (evaluated operand : Checked Given) → Checked Given
+abbrev pub before_operand : Env → (at place : ℕ) → Prefix → (evaluated operand : Checked TypedExpression) → Checked TypedExpression
 before_operand env at place pre_increment r s = on (place_at place r) (step env at Add false)
 before_operand env at place pre_decrement r s = on (place_at place r) (step env at Sub false)
-before_operand env at place sizeof r s = on s (size_of_given env at)
+before_operand env at place sizeof r s = on s (size_of_expression env at)
 
 -- the other unary operators (6.5.3); & takes what designates something, the others take a value
-abbrev pub unary_rule : Env → (at place op : ℕ) → Checked Given → Checked Given
+abbrev pub unary_rule : Env → (at place op : ℕ) → Checked TypedExpression → Checked TypedExpression
 unary_rule env at place op r =
     if nat_eq op AMPERSAND then on r (address at place) else on (value_at env place r) (unary_of_value at op)
 
 -- operators between two values
-abbrev pub infix_rule : Env → (at : ℕ) → Infix → Given → Given → Checked Given
+abbrev pub infix_rule : Env → (at : ℕ) → Infix → TypedExpression → TypedExpression → Checked TypedExpression
 infix_rule env at and a b = conjunction at a b
 infix_rule env at or a b = disjunction at a b
 infix_rule env at (operator code) a b = operation env at (operator_of_code code) a b
 
 -- a cast, and whether it is one to `void *`
-abbrev pub cast_rule : (to_void_pointer : Bool) → (at : ℕ) → Checked CType → Checked Given → Checked Given
+abbrev pub cast_rule : (to_void_pointer : Bool) → (at : ℕ) → Checked CType → Checked TypedExpression → Checked TypedExpression
 cast_rule true at t r = on r (null_cast at)
 cast_rule false at t r = both t r (cast_of at)
 
 abbrev mutual
   -- what an expression gives, where so much of the unit stands before it
-  pub tree : Env → Before → Expr → Checked Given
+  pub tree : Env → Before → Expr → Checked TypedExpression
   -- 6.5.1, 6.4.4, 6.4.5
   tree env b (a_name at x) = named_expression env at x
   tree env b (an_int at n u) = fine (integer_expression n u)
-  tree env b (a_char at c) = fine (int_given c)
+  tree env b (a_char at c) = fine (typed_int c)
   tree env b (a_str at w) = string_expression env b at w
   -- 6.5.17
   tree env b (comma at es) = gives (trees env b es) comma_of
@@ -113,7 +113,7 @@ abbrev mutual
       all_three (value_at env (place_of c) (tree env b c)) (value_at env (place_of e) (tree env (after b c) e)) (value_at env (place_of f) (tree env (after (after b c) e) f)) (choice at)
 
   -- the values of expressions
-  pub trees : Env → Before → Exprs → Checked (List Given)
+  pub trees : Env → Before → Exprs → Checked (List TypedExpression)
   trees env b no_exprs = fine []
   trees env b (more_exprs e es) = both (value_at env (place_of e) (tree env b e)) (trees env (after b e) es) (λ g gs. fine (g ∷ gs))
 
@@ -143,11 +143,11 @@ abbrev mutual
       both (with_name_demands env (name_of d) r) (parameters (behind_parameter env k (name_of d) r) (suc k) ps) (λ t ts. fine (more_types t ts))
 
 -- the value of an expression
-abbrev pub value : Env → Before → Expr → Checked Given
+abbrev pub value : Env → Before → Expr → Checked TypedExpression
 value env b e = value_at env (place_of e) (tree env b e)
 
 -- the value of an expression that is constant, which isn't evaluated when the program runs
-abbrev pub folded_value : Env → Expr → Checked Given
+abbrev pub folded_value : Env → Expr → Checked TypedExpression
 folded_value env e = value (in_context env folded) nothing_before e
 
 -- the type that a declaration gives to what a declarator declares

@@ -14,7 +14,7 @@ use Rattle.c_rules.specs.Scopes.{Env, Meaning, a_static, a_local, a_function, un
 use Rattle.c_rules.specs.Declarators.{name_of}
 use Rattle.c_rules.specs.Expressions.{type_declared}
 use Rattle.c_rules.specs.Variables.{Next, first_numbers}
-use Rattle.c_rules.specs.Blocks.{Laid, held_by_block}
+use Rattle.c_rules.specs.Blocks.{StatementTree, held_by_block}
 use Rattle.c_rules.specs.Statements.{items_of_block}
 
 -- ## Declarators of functions
@@ -116,11 +116,11 @@ items_of_body (block at is) = is
 items_of_body s = block_stmt s no_block_items
 
 -- the variables of a function: its parameters, the others, and those of the instrumenter
-abbrev pub variables_of : CTypes → Laid typed.Stmts → List CType
+abbrev pub variables_of : CTypes → StatementTree typed.Stmts → List CType
 variables_of ts p = list_of ts ++ (p.plain ++ p.added)
 
 -- the limit on the cells of all variables
-abbrev pub function_laid : Env → Ident → CType → CTypes → Laid typed.Stmts → Checked Function
+abbrev pub function_laid : Env → Ident → CType → CTypes → StatementTree typed.Stmts → Checked Function
 function_laid env x t ts p =
     demand (nat_le (cells_of_all (layout_of env) (variables_of ts p)) (most_local_cells env.whole.mode)) C13 x.at
     (record { name = x.name; ctype = function t ts; variables = variables_of ts p; body = typed.block p.tree })
@@ -134,7 +134,7 @@ abbrev pub body_numbers : Declarator → BlockItems → Next
 body_numbers d is = first_numbers (count_params (parameters_of d)) is
 
 -- the body of a function that returns this
-abbrev pub body_of : Env → Before → (returns : CType) → Declarator → CTypes → BlockItems → Checked (Laid typed.Stmts)
+abbrev pub body_of : Env → Before → (returns : CType) → Declarator → CTypes → BlockItems → Checked (StatementTree typed.Stmts)
 body_of env b t d ts is =
     items_of_block (body_env env d ts) (record { breaks = false; continues = false; returns = t }) b (body_numbers d is) is
 

@@ -13,7 +13,7 @@ use Rattle.c_rules.specs.Checked.{Checked, fine, fault, demand, on, both, met}
 use Rattle.c_rules.specs.Codes.{C6, C14}
 use Rattle.c_rules.specs.Scopes.{Env, Struct, incomplete, unknown_struct, defined_struct, struct_of, layout_of, type_of_member, Before}
 use Rattle.c_rules.specs.Counts.{calls, strings, past}
-use Rattle.c_rules.specs.Given.{Given, Constant, not_constant, undefined, known, value_given, tree_of}
+use Rattle.c_rules.specs.TypedExpression.{TypedExpression, Constant, not_constant, undefined, known, typed_value, tree_of}
 use Rattle.c_rules.specs.Conversions.{as_if_assigned, null_of}
 use Rattle.c_rules.specs.Expressions.{value}
 
@@ -58,50 +58,50 @@ text_of e = None
 -- ## Cells
 
 -- the constant of a type
-abbrev pub constant_given : CType → Value → Given
-constant_given t v = value_given t (constant t v) (known v)
+abbrev pub constant_given : CType → Value → TypedExpression
+constant_given t v = typed_value t (constant t v) (known v)
 
 -- zero of an integer type, or the null pointer (paragraph 10)
-abbrev pub zero_given : CType → Given
-zero_given (integer i) = constant_given (integer i) (value_of i (pos 0))
-zero_given t = null_of t
+abbrev pub typed_zero : CType → TypedExpression
+typed_zero (integer i) = constant_given (integer i) (value_of i (pos 0))
+typed_zero t = null_of t
 
 -- a byte of a string as a char
-abbrev pub char_given : ℕ → Given
-char_given b = constant_given (integer Char) (value_of Char (pos b))
+abbrev pub typed_char : ℕ → TypedExpression
+typed_char b = constant_given (integer Char) (value_of Char (pos b))
 
 -- the cells of elements or members without an initialiser (paragraph 21)
-abbrev pub zeros : Structs → Slots → List Given
-zeros structs (copies n t) = map zero_given (repeat n (flat structs t))
-zeros structs (each ts) = map zero_given (flat_all structs ts)
+abbrev pub zeros : Structs → Slots → List TypedExpression
+zeros structs (copies n t) = map typed_zero (repeat n (flat structs t))
+zeros structs (each ts) = map typed_zero (flat_all structs ts)
 
 -- a string in an array of so many chars; its zero is left out where there is no room (paragraph 14)
-abbrev pub chars : ℕ → List ℕ → List Given
-chars n w = map char_given w ++ replicate (n - length w) (char_given 0)
+abbrev pub chars : ℕ → List ℕ → List TypedExpression
+chars n w = map typed_char w ++ replicate (n - length w) (typed_char 0)
 
 -- ## The rules
 
 -- an initialiser of a static object is constant and defined (paragraph 4, 6.6 paragraphs 7 to 9)
-abbrev pub defined_cell : (at : ℕ) → Given → Constant → Checked (List Given)
+abbrev pub defined_cell : (at : ℕ) → TypedExpression → Constant → Checked (List TypedExpression)
 defined_cell at g not_constant = fault C6 at
 defined_cell at g undefined = fault C6 at
 defined_cell at g (known v) = fine (g ∷ [])
 
-abbrev pub cell_of : (is_static : Bool) → (at : ℕ) → Given → Checked (List Given)
+abbrev pub cell_of : (is_static : Bool) → (at : ℕ) → TypedExpression → Checked (List TypedExpression)
 cell_of true at g = defined_cell at g g.constant
 cell_of false at g = fine (g ∷ [])
 
 -- a scalar takes one expression, as if by assignment (paragraph 11)
-abbrev pub scalar_cell : (is_static : Bool) → (at : ℕ) → CType → Checked Given → Checked (List Given)
+abbrev pub scalar_cell : (is_static : Bool) → (at : ℕ) → CType → Checked TypedExpression → Checked (List TypedExpression)
 scalar_cell k at t r = on (on r (as_if_assigned at t)) (cell_of k at)
 
 -- an array of char takes a string (paragraph 14)
-abbrev pub array_cells : (at : ℕ) → CType → ℕ → Option (List ℕ) → Checked (List Given)
+abbrev pub array_cells : (at : ℕ) → CType → ℕ → Option (List ℕ) → Checked (List TypedExpression)
 array_cells at (integer Char) n (Some w) = demand (nat_le (length w) n) C14 at (chars n w)
 array_cells at t n text = fault C14 at
 
 -- one expression, with its bytes where it is a string
-abbrev pub cells_of_one : (is_static : Bool) → (at : ℕ) → CType → Option (List ℕ) → Checked Given → Checked (List Given)
+abbrev pub cells_of_one : (is_static : Bool) → (at : ℕ) → CType → Option (List ℕ) → Checked TypedExpression → Checked (List TypedExpression)
 cells_of_one k at void text r = fault C14 at
 cells_of_one k at (integer i) text r = scalar_cell k at (integer i) r
 cells_of_one k at (pointer t) text r = scalar_cell k at (pointer t) r
@@ -110,7 +110,7 @@ cells_of_one k at (struct s) text r = fault C14 at
 cells_of_one k at (function t ts) text r = fault C14 at
 
 -- a list in braces: it has the form and at most the count that the type allows (paragraph 2)
-abbrev pub cells_of_list : (takes : Bool) → (at capacity count : ℕ) → Checked (List Given) → Checked (List Given)
+abbrev pub cells_of_list : (takes : Bool) → (at capacity count : ℕ) → Checked (List TypedExpression) → Checked (List TypedExpression)
 cells_of_list takes at most n r = on (demand takes C14 at met) (λ _. on r (λ gs. demand (nat_le n most) C14 at gs))
 
 -- ## Strings that an initialiser holds: all but those that initialise arrays of char
@@ -151,14 +151,14 @@ after_init env b t i = past b (calls_of_init i) (held env t i)
 
 abbrev mutual
   -- the values of the cells of an object of a type, in order
-  pub initialised : Env → Before → (is_static : Bool) → CType → Init → Checked (List Given)
+  pub initialised : Env → Before → (is_static : Bool) → CType → Init → Checked (List TypedExpression)
   initialised env b k t (one at e) = cells_of_one k at t (text_of e) (value env b e)
   initialised env b k t (list at is) =
       cells_of_list (takes_list t) at (capacity (slots env t)) (count_inits is) (in_turn env b k (slots env t) is)
 
   -- Elements or members in turn, and zeros for those without an initialiser (paragraphs 17 and 21). What stands behind the last
   -- one has no type, and isn't looked at.
-  pub in_turn : Env → Before → (is_static : Bool) → Slots → syntax.Inits → Checked (List Given)
+  pub in_turn : Env → Before → (is_static : Bool) → Slots → syntax.Inits → Checked (List TypedExpression)
   in_turn env b k s syntax.no_inits = fine (zeros (layout_of env) s)
   in_turn env b k (copies zero t) (syntax.more_inits i is) = fine []
   in_turn env b k (copies (suc n) t) (syntax.more_inits i is) =
@@ -178,17 +178,17 @@ calls_of_maybe_init no_init = 0
 calls_of_maybe_init (an_init i) = calls_of_init i
 
 -- a variable of a function begins indeterminate where it has none
-abbrev pub initialised_local : Env → Before → CType → MaybeInit → Checked (List Given)
+abbrev pub initialised_local : Env → Before → CType → MaybeInit → Checked (List TypedExpression)
 initialised_local env b t no_init = fine []
 initialised_local env b t (an_init i) = initialised env b false t i
 
 -- a static object begins with zeros where it has none (paragraph 10)
-abbrev pub initialised_static : Env → Before → CType → MaybeInit → Checked (List Given)
-initialised_static env b t no_init = fine (map zero_given (flat (layout_of env) t))
+abbrev pub initialised_static : Env → Before → CType → MaybeInit → Checked (List TypedExpression)
+initialised_static env b t no_init = fine (map typed_zero (flat (layout_of env) t))
 initialised_static env b t (an_init i) = initialised env b true t i
 
 -- the cells from a number on, with their values
-abbrev pub stores_from : ℕ → List Given → Inits
+abbrev pub stores_from : ℕ → List TypedExpression → Inits
 stores_from k [] = typed.no_inits
 stores_from k (g ∷ gs) = typed.more_inits k (tree_of g) (stores_from (suc k) gs)
 
@@ -198,5 +198,5 @@ value_of_constant not_constant = Null
 value_of_constant undefined = Null
 value_of_constant (known v) = v
 
-abbrev pub value_of_cell : Given → Value
+abbrev pub value_of_cell : TypedExpression → Value
 value_of_cell g = value_of_constant g.constant

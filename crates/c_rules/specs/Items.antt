@@ -14,7 +14,7 @@ use Rattle.c_rules.specs.Names.{Name, is_among, may_be_declared, given_names}
 use Rattle.c_rules.specs.Types.{same_type}
 use Rattle.c_rules.specs.Scopes.{Env, Meaning, a_static, an_enumerator, unknown, Struct, incomplete, unknown_struct, defined_struct, Member, type_of_member, declared_here, with_name, meaning_or_unknown, with_struct, struct_of, tag_number, layout_of, Before}
 use Rattle.c_rules.specs.Counts.{place_of, past}
-use Rattle.c_rules.specs.Given.{Given}
+use Rattle.c_rules.specs.TypedExpression.{TypedExpression}
 use Rattle.c_rules.specs.Conversions.{complete}
 use Rattle.c_rules.specs.Declarators.{name_of, place_or, constant_value, new_name}
 use Rattle.c_rules.specs.Expressions.{type_declared, folded_value}
@@ -196,7 +196,7 @@ abbrev pub within_global : Env → (defined : Bool) → Ident → Checked Object
 within_global env defined x r = with_name env x.name (meaning_or_unknown (seen_of_global env defined x r))
 
 -- the static object with these cells
-abbrev pub static_of : Object → List Given → Output
+abbrev pub static_of : Object → List TypedExpression → Output
 static_of o gs = record { functions = []; statics = record { ctype = o.whole; cells = map value_of_cell gs; string = false } ∷ [] }
 
 -- so much stands before the initialiser of a static object

@@ -10,7 +10,7 @@ pub mod Counts
 pub mod Declarators
 pub mod Expressions
 pub mod Functions
-pub mod Given
+pub mod TypedExpression
 pub mod Initialisers
 pub mod Items
 pub mod Limits

@@ -8,7 +8,7 @@ use Rattle.c_rules.specs.Limits.{most_calls}
 use Rattle.c_rules.specs.Types.{count}
 use Rattle.c_rules.specs.Names.{Name, number_among}
 use Rattle.c_rules.specs.Scopes.{Env, Context, evaluated, sized, folded, Struct, incomplete, unknown_struct, defined_struct, Member, struct_of, layout_of, type_of_member}
-use Rattle.c_rules.specs.Given.{Given, a_place, not_constant, value_given, tree_of}
+use Rattle.c_rules.specs.TypedExpression.{TypedExpression, a_place, not_constant, typed_value, tree_of}
 use Rattle.c_rules.specs.Constants.{constant_member}
 use Rattle.c_rules.specs.Conversions.{fits, assigned}
 use Rattle.c_rules.specs.PrimaryExpressions.{used, function_number}
@@ -47,17 +47,17 @@ abbrev pub callee_through : (at : ℕ) → Expr → CType → Checked Callee
 callee_through at e (pointer (function t ts)) = fine (record { designator = through e; returns = t; parameters = ts })
 callee_through at e t = fault C3 at
 
-abbrev pub callee_by_value : (at : ℕ) → Given → Checked Callee
+abbrev pub callee_by_value : (at : ℕ) → TypedExpression → Checked Callee
 callee_by_value at g = callee_through at (tree_of g) g.ctype
 
 -- each argument may be assigned to its parameter (6.5.2.2 paragraph 2)
-abbrev pub all_fit : CTypes → List Given → Bool
+abbrev pub all_fit : CTypes → List TypedExpression → Bool
 all_fit no_types gs = true
 all_fit (more_types t ts) [] = true
 all_fit (more_types t ts) (g ∷ gs) = fits t g && all_fit ts gs
 
 -- the arguments in the types of the parameters (6.5.2.2 paragraph 7)
-abbrev pub passed : CTypes → List Given → Exprs
+abbrev pub passed : CTypes → List TypedExpression → Exprs
 passed no_types gs = no_exprs
 passed (more_types t ts) [] = no_exprs
 passed (more_types t ts) (g ∷ gs) = more_exprs (tree_of (assigned t g)) (passed ts gs)
@@ -66,14 +66,14 @@ abbrev pub call_of : Designator → CType → (site : ℕ) → Exprs → Expr
 call_of (direct f) t site es = call t site f es
 call_of (through e) t site es = call_through t site e es
 
-abbrev pub as_many_as : CTypes → List Given → Bool
+abbrev pub as_many_as : CTypes → List TypedExpression → Bool
 as_many_as ts gs = nat_eq (length gs) (count ts)
 
 -- a call of what is called, with its site and its arguments
-abbrev pub called : (at : ℕ) → Callee → ℕ → List Given → Checked Given
+abbrev pub called : (at : ℕ) → Callee → ℕ → List TypedExpression → Checked TypedExpression
 called at f site gs =
     on (demand (as_many_as f.parameters gs) C5 at met)
-    (λ _. demand (all_fit f.parameters gs) C3 at (value_given f.returns (call_of f.designator f.returns site (passed f.parameters gs)) not_constant))
+    (λ _. demand (all_fit f.parameters gs) C3 at (typed_value f.returns (call_of f.designator f.returns site (passed f.parameters gs)) not_constant))
 
 -- ## Members (6.5.2.3)
 
@@ -81,27 +81,27 @@ abbrev pub name_of_member : Member → Name
 name_of_member m = m.name
 
 -- the member with this number
-abbrev pub member_given : Env → List Member → Given → ℕ → Given
+abbrev pub member_given : Env → List Member → TypedExpression → ℕ → TypedExpression
 member_given env ms g k =
     let t : CType = slice_index_or (map type_of_member ms) k void in
     let first : ℕ = first_cell (layout_of env) (map type_of_member ms) k in
     record { ctype = t; form = a_place (field t first (tree_of g)); constant = constant_member first (cells (layout_of env) t) g.constant }
 
-abbrev pub member_or_undeclared : Env → (at : ℕ) → List Member → Given → Option ℕ → Checked Given
+abbrev pub member_or_undeclared : Env → (at : ℕ) → List Member → TypedExpression → Option ℕ → Checked TypedExpression
 member_or_undeclared env at ms g None = fault C1 at
 member_or_undeclared env at ms g (Some k) = fine (member_given env ms g k)
 
 -- a member of a struct that has its definition
-abbrev pub member_of_struct : Env → (at : ℕ) → Name → Given → Struct → Checked Given
+abbrev pub member_of_struct : Env → (at : ℕ) → Name → TypedExpression → Struct → Checked TypedExpression
 member_of_struct env at x g incomplete = fault C1 at
 member_of_struct env at x g (unknown_struct f fs) = faulty f fs
 member_of_struct env at x g (defined_struct ms) =
     member_or_undeclared env at ms g (number_among (map name_of_member ms) x)
 
-abbrev pub member_of_type : Env → (at : ℕ) → Name → Given → CType → Checked Given
+abbrev pub member_of_type : Env → (at : ℕ) → Name → TypedExpression → CType → Checked TypedExpression
 member_of_type env at x g (struct s) = member_of_struct env at x g (struct_of env s)
 member_of_type env at x g t = fault C3 at
 
 -- `g.x`
-abbrev pub member_of : Env → (at : ℕ) → Name → Given → Checked Given
+abbrev pub member_of : Env → (at : ℕ) → Name → TypedExpression → Checked TypedExpression
 member_of env at x g = member_of_type env at x g g.ctype

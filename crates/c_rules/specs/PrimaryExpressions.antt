@@ -10,7 +10,7 @@ use Rattle.c_rules.specs.Codes.{C1, C10, C12, C13}
 use Rattle.c_rules.specs.Limits.{most_cells, most_static_cells}
 use Rattle.c_rules.specs.Names.{Name, number_among, is_among, null_calls, given_names}
 use Rattle.c_rules.specs.Scopes.{Env, Binding, Meaning, a_static, a_local, a_function, an_enumerator, unknown, Context, evaluated, sized, folded, Before, layout_of, binding_of}
-use Rattle.c_rules.specs.Given.{Given, a_place, not_constant, known, value_given}
+use Rattle.c_rules.specs.TypedExpression.{TypedExpression, a_place, not_constant, known, typed_value}
 use Rattle.c_rules.specs.Constants.{address_of_static}
 
 -- What is used is defined (6.9 paragraph 5). An operand that isn't evaluated is no use, and has a number that nobody reads.
@@ -41,43 +41,43 @@ abbrev pub function_value_number : Env → (at : ℕ) → Name → Checked ℕ
 function_value_number env at x =
     on (demand (if is_among null_calls x then false else true) C12 at met) (λ _. used env.context at (function_number env x))
 
-abbrev pub static_given : Env → (seen whole : CType) → ℕ → Given
+abbrev pub static_given : Env → (seen whole : CType) → ℕ → TypedExpression
 static_given env seen whole n =
     record { ctype = seen; form = a_place (variable whole true n); constant = known (address_of_static n (cells (layout_of env) whole)) }
 
-abbrev pub local_given : (seen whole : CType) → ℕ → Given
+abbrev pub local_given : (seen whole : CType) → ℕ → TypedExpression
 local_given seen whole n = record { ctype = seen; form = a_place (variable whole false n); constant = not_constant }
 
-abbrev pub function_given : CType → ℕ → Given
-function_given t f = record { ctype = t; form = a_place (function_name t f); constant = known (Func f) }
+abbrev pub typed_function : CType → ℕ → TypedExpression
+typed_function t f = record { ctype = t; form = a_place (function_name t f); constant = known (Func f) }
 
-abbrev pub int_given : ℤ → Given
-int_given z = value_given int (constant int (Int z)) (known (Int z))
+abbrev pub typed_int : ℤ → TypedExpression
+typed_int z = typed_value int (constant int (Int z)) (known (Int z))
 
 -- a number of the type of sizeof (6.5.3.4 paragraph 4)
-abbrev pub unsigned_given : ℕ → Given
-unsigned_given n = value_given unsigned_int (constant unsigned_int (Uint n)) (known (Uint n))
+abbrev pub typed_unsigned : ℕ → TypedExpression
+typed_unsigned n = typed_value unsigned_int (constant unsigned_int (Uint n)) (known (Uint n))
 
 -- a name by its meaning (6.5.1 paragraph 2); an enumerator is an int (6.4.4.3)
-abbrev pub meant : Env → (at : ℕ) → Name → Meaning → Checked Given
+abbrev pub meant : Env → (at : ℕ) → Name → Meaning → Checked TypedExpression
 meant env at x (a_static seen whole d) = gives (used env.context at (object_number env x)) (static_given env seen whole)
 meant env at x (a_local n seen whole) = fine (local_given seen whole n)
-meant env at x (a_function t d) = gives (function_value_number env at x) (function_given t)
-meant env at x (an_enumerator z) = fine (int_given z)
+meant env at x (a_function t d) = gives (function_value_number env at x) (typed_function t)
+meant env at x (an_enumerator z) = fine (typed_int z)
 meant env at x (unknown f fs) = faulty f fs
 
-abbrev pub bound : Env → (at : ℕ) → Name → Option Binding → Checked Given
+abbrev pub bound : Env → (at : ℕ) → Name → Option Binding → Checked TypedExpression
 bound env at x None = fault C1 at
 bound env at x (Some b) = meant env at x b.means
 
 -- a name
-abbrev pub named_expression : Env → (at : ℕ) → Name → Checked Given
+abbrev pub named_expression : Env → (at : ℕ) → Name → Checked TypedExpression
 named_expression env at x = bound env at x (binding_of env x)
 
 -- an integer constant (6.4.4.1)
-abbrev pub integer_expression : ℕ → Bool → Given
-integer_expression n true = unsigned_given n
-integer_expression n false = int_given (pos n)
+abbrev pub integer_expression : ℕ → Bool → TypedExpression
+integer_expression n true = typed_unsigned n
+integer_expression n false = typed_int (pos n)
 
 -- the type of a string of so many bytes (6.4.5 paragraph 5)
 abbrev pub string_type : ℕ → CType
@@ -95,13 +95,13 @@ abbrev pub string_number : Env → Before → ℕ
 string_number env before = length env.whole.objects + length before.strings
 
 -- a string of so many bytes; it designates a static array (6.4.5 paragraph 5)
-abbrev pub string_given : (number bytes : ℕ) → Given
-string_given n bytes = record {
+abbrev pub typed_string : (number bytes : ℕ) → TypedExpression
+typed_string n bytes = record {
   ctype = string_type bytes;
   form = a_place (string_place (string_type bytes) n);
   constant = known (address_of_static n (suc bytes));
 }
 
-abbrev pub string_expression : Env → Before → (at : ℕ) → List ℕ → Checked Given
+abbrev pub string_expression : Env → Before → (at : ℕ) → List ℕ → Checked TypedExpression
 string_expression env before at w =
-    gives (string_fits env.context at before.cells (suc (length w))) (λ _. string_given (string_number env before) (length w))
+    gives (string_fits env.context at before.cells (suc (length w))) (λ _. typed_string (string_number env before) (length w))

@@ -18,12 +18,12 @@ use Rattle.c_rules.specs.Codes.{C3, C7, C8}
 use Rattle.c_rules.specs.Types.{is_void}
 use Rattle.c_rules.specs.Scopes.{Env, inside, Before}
 use Rattle.c_rules.specs.Counts.{place_of, after, after_maybe}
-use Rattle.c_rules.specs.Given.{Given, tree_of}
+use Rattle.c_rules.specs.TypedExpression.{TypedExpression, tree_of}
 use Rattle.c_rules.specs.Conversions.{Kind, an_integer, kind_of, converted_to, as_if_assigned, condition}
 use Rattle.c_rules.specs.Declarators.{constant_value}
 use Rattle.c_rules.specs.Expressions.{value, folded_value}
 use Rattle.c_rules.specs.Variables.{Next, past_names, names_of_decl, names_of_first, names_of_stmt, names_of_stmts}
-use Rattle.c_rules.specs.Blocks.{behind_decl, behind_first, after_decl, after_first, after_stmt, after_stmts, Laid, bare, with_tree, joined, one_more, alone, some_more, local_decl}
+use Rattle.c_rules.specs.Blocks.{behind_decl, behind_first, after_decl, after_first, after_stmt, after_stmts, StatementTree, bare, with_tree, joined, one_more, alone, some_more, local_decl}
 
 -- what stands round a statement: whether a break and a continue have a statement to leave or to go on with, and what the function
 -- returns
@@ -42,7 +42,7 @@ in_switch a = record a { breaks = true }
 -- ## Selection and iteration (6.8.4, 6.8.5)
 
 -- a condition and what it gives
-abbrev pub condition_at : (at : ℕ) → Checked Given → Checked typed.Expr
+abbrev pub condition_at : (at : ℕ) → Checked TypedExpression → Checked typed.Expr
 condition_at at r = on r (condition at)
 
 -- a condition that may be left out
@@ -56,22 +56,22 @@ step_of env b absent = fine typed.absent
 step_of env b (there e) = gives (value env b e) (λ g. typed.there (tree_of g))
 
 -- what stands first in the head of a for (6.8.5.3)
-abbrev pub first_of : Env → Before → Next → First → Checked (Laid typed.Stmts)
+abbrev pub first_of : Env → Before → Next → First → Checked (StatementTree typed.Stmts)
 first_of env b next first_absent = fine (bare typed.no_stmts)
 first_of env b next (first_expr e) = gives (value env b e) (λ g. alone (bare (typed.evaluate (tree_of g))))
 first_of env b next (first_decl d) = local_decl env b next d
 
-abbrev pub for_of : Laid typed.Stmts → Two typed.Maybe typed.Maybe → Laid typed.Stmt → Laid typed.Stmt
+abbrev pub for_of : StatementTree typed.Stmts → Two typed.Maybe typed.Maybe → StatementTree typed.Stmt → StatementTree typed.Stmt
 for_of p tests q = joined p q (typed.for_loop p.tree tests.first tests.second q.tree)
 
 -- ## switch (6.8.4.2)
 
 -- a switch takes an integer, which is promoted (paragraphs 1 and 5)
-abbrev pub switched_kind : (at : ℕ) → Given → Kind → Checked Given
+abbrev pub switched_kind : (at : ℕ) → TypedExpression → Kind → Checked TypedExpression
 switched_kind at g (an_integer i) = fine (converted_to (promoted i) g)
 switched_kind at g k = fault C3 at
 
-abbrev pub switched : (at : ℕ) → Checked Given → Checked Given
+abbrev pub switched : (at : ℕ) → Checked TypedExpression → Checked TypedExpression
 switched at r = on r (λ g. switched_kind at g (kind_of g.ctype))
 
 -- the type to which case values are converted; where the switch takes no integer, it is never seen
@@ -79,7 +79,7 @@ abbrev pub label_kind : Kind → IntType
 label_kind (an_integer i) = i
 label_kind k = Int
 
-abbrev pub label_type : Checked Given → IntType
+abbrev pub label_type : Checked TypedExpression → IntType
 label_type (fine g) = label_kind (kind_of g.ctype)
 label_type (faulty f fs) = Int
 
@@ -92,13 +92,13 @@ labels_of env i (default_label at ls) = gives (labels_of env i ls) (λ vs. Defau
 
 -- groups of a switch and all labels in them
 pub record Labelled : Type 0 where
-  pub groups : Laid typed.Groups
+  pub groups : StatementTree typed.Groups
   pub labels : List TLabel
 
 abbrev pub no_labelled : Labelled
 no_labelled = record { groups = bare typed.no_groups; labels = [] }
 
-abbrev pub labelled : List TLabel → Laid typed.Stmts → Labelled → Labelled
+abbrev pub labelled : List TLabel → StatementTree typed.Stmts → Labelled → Labelled
 labelled ls p rest = record { groups = joined p rest.groups (typed.more_groups ls p.tree rest.groups.tree); labels = ls ++ rest.labels }
 
 abbrev pub same_number : ℤ → ℤ → Bool
@@ -123,7 +123,7 @@ are_distinct [] = true
 are_distinct (Case v ∷ ls) = not (is_case_of v ls) && are_distinct ls
 are_distinct (Default ∷ ls) = not (has_default ls) && are_distinct ls
 
-abbrev pub switch_of : (at : ℕ) → Given → Labelled → Checked (Laid typed.Stmt)
+abbrev pub switch_of : (at : ℕ) → TypedExpression → Labelled → Checked (StatementTree typed.Stmt)
 switch_of at g gs = demand (are_distinct gs.labels) C7 at (with_tree gs.groups (typed.switch_on (tree_of g) gs.groups.tree))
 
 -- ## return (6.8.6.4)
@@ -137,7 +137,7 @@ returned env b at t (there e) = gives (on (value env b e) (as_if_assigned at t))
 
 abbrev mutual
   -- a statement, where so much of the unit stands before it, and its variables have the next numbers
-  pub stmt : Env → Around → Before → Next → Stmt → Checked (Laid typed.Stmt)
+  pub stmt : Env → Around → Before → Next → Stmt → Checked (StatementTree typed.Stmt)
   -- 6.8.2
   stmt env a b next (block at is) = gives (items_of_block (inside env) a b next is) (λ p. with_tree p (typed.block p.tree))
   -- 6.8.3
@@ -166,7 +166,7 @@ abbrev mutual
       (λ p tests q. fine (for_of p tests q))
   -- 6.8.4.2
   stmt env a b next (switch_on at e gs) =
-      let r : Checked Given = switched at (value env b e) in
+      let r : Checked TypedExpression = switched at (value env b e) in
       both r (groups_of_switch env (in_switch a) (after b e) next (label_type r) gs) (switch_of at)
   -- 6.8.6.3
   stmt env a b next (break_off at) = demand a.breaks C8 at (bare typed.break_off)
@@ -176,7 +176,7 @@ abbrev mutual
   stmt env a b next (return_from at m) = gives (returned env b at a.returns m) bare
 
   -- declarations and statements of a block
-  pub items_of_block : Env → Around → Before → Next → BlockItems → Checked (Laid typed.Stmts)
+  pub items_of_block : Env → Around → Before → Next → BlockItems → Checked (StatementTree typed.Stmts)
   items_of_block env a b next no_block_items = fine (bare typed.no_stmts)
   items_of_block env a b next (block_decl d is) =
       both (local_decl env b next d) (items_of_block (behind_decl env next d) a (after_decl env b next d) (past_names next (names_of_decl d)) is)
@@ -186,7 +186,7 @@ abbrev mutual
       (λ p q. fine (one_more p q))
 
   -- statements alone
-  pub stmts : Env → Around → Before → Next → Stmts → Checked (Laid typed.Stmts)
+  pub stmts : Env → Around → Before → Next → Stmts → Checked (StatementTree typed.Stmts)
   stmts env a b next no_stmts = fine (bare typed.no_stmts)
   stmts env a b next (more_stmts s ss) =
       both (stmt env a b next s) (stmts env a (after_stmt env b next s) (past_names next (names_of_stmt s)) ss)

@@ -10,7 +10,7 @@ use Rattle.c_rules.specs.Names.{Name, number_among, each_once}
 use Rattle.c_rules.specs.Types.{same_type}
 use Rattle.c_rules.specs.Scopes.{Env, Binding, Meaning, a_function, Whole, empty_env, binding_of, layout_of, nothing_before}
 use Rattle.c_rules.specs.PrimaryExpressions.{string_type}
-use Rattle.c_rules.specs.Initialisers.{char_given, value_of_cell}
+use Rattle.c_rules.specs.Initialisers.{typed_char, value_of_cell}
 use Rattle.c_rules.specs.Declarators.{name_of}
 use Rattle.c_rules.specs.Tags.{tags_of_items}
 use Rattle.c_rules.specs.Variables.{name_or_empty}
@@ -80,7 +80,7 @@ has_main m u = is_main_bound (binding_of (env_behind m u) (codes "main"))
 
 -- a string as a static array (6.4.5 paragraph 5)
 abbrev pub static_string : List ℕ → Static
-static_string w = record { ctype = string_type (length w); cells = map value_of_cell (map char_given (w ++ 0 ∷ [])); string = true }
+static_string w = record { ctype = string_type (length w); cells = map value_of_cell (map typed_char (w ++ 0 ∷ [])); string = true }
 
 abbrev pub program_of : Mode → Items → Output → Program
 program_of m u p = record {

@@ -150,7 +150,7 @@ site_of (events.Sys x arguments outcome) = 0
 site_of (events.Pre s) = suc s
 site_of (events.Post s) = 0
 
--- the call of f isn't bracketed
+-- the call of f isn't instrumented
 b_no_bracket : Dyck env_b (getpid ∷ []) → ⊥
 b_no_bracket h = let e : 0 ≡ 2 = ap site_of (first_is_pre env_b 1 _ getpid [] h) in omega (arith, e)
 

@@ -4,8 +4,8 @@ use Rattle.std.proofs.lemmas.List.{append-nil, append_assoc, take_more, take_all
 use Rattle.flow_graph.specs.declared.shape.Shape.{Shape as Tree}
 use Rattle.flow_graph.specs.View.{shape_of, shapes_in}
 use Rattle.c_shapes.specs.Shape.{Shape}
-use Rattle.graph_laws.specs.Layout.{Edge, ends, width, edges}
-use Rattle.graph_laws.specs.GraphOf.{nodes_from, edges_from}
+use Rattle.flow_graph_laws.specs.Layout.{Edge, ends, width, edges}
+use Rattle.flow_graph_laws.specs.GraphOf.{nodes_from, edges_from}
 
 nodes_append : (n : ℕ) (xs : List Shape) (S : Shape) → nodes_from n (xs ++ S ∷ []) ≡ nodes_from n xs + 2 + width S
 nodes_append n [] S = refl

@@ -4,3 +4,16 @@ pub mod LayingLemmas
 pub mod FunctionsLemmas
 pub mod OrderedLemmas
 pub mod ListsLemmas
+pub mod SequenceLemmas
+pub mod Trees
+pub mod TakenParts
+pub mod ArgumentLemmas
+pub mod Told
+pub mod ProgramLemmas
+pub mod Sites
+pub mod TakenLemmas
+pub mod RecordLemmas
+pub mod FunctionLemmas
+pub mod OrderedCalls
+pub mod MadeLemmas
+pub mod SiteOrder

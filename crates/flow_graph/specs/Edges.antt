@@ -5,7 +5,7 @@ use Rattle.flow_graph.specs.declared.edge.Label.TheVariants as l
 use Rattle.flow_graph.specs.declared.edge.Edge.{Edge as EdgeTree}
 use Rattle.flow_graph.specs.declared.edge.Places.{Places as PlacesTree}
 use Rattle.c_shapes.specs.Walks.{Label, Silent, System, Site}
-use Rattle.graph_laws.specs.Layout.{Edge, edge, Places}
+use Rattle.flow_graph_laws.specs.Layout.{Edge, edge, Places}
 
 abbrev pub label_of : Tree → Label
 label_of l.Silent = Silent

@@ -10,10 +10,10 @@ use Rattle.flow_model.specs.Language.{StackRun, Walk, Reads}
 use Rattle.c_tree.specs.Tree.{Program}
 use Rattle.c_shapes.specs.ProgramLanguages as program
 use Rattle.c_meaning.specs.Runs.{Run, run}
-use Rattle.graph_laws.specs.GraphOfProgram.{graph_of_program}
+use Rattle.flow_graph_laws.specs.GraphOfProgram.{graph_of_program}
 use Rattle.alarm_laws.specs.Monitors.{IsAcceptedByAll}
-use Rattle.accepted_runs.specs.AcceptedRuns.{RaisesNoAlarm}
-use Rattle.instrumented_texts.specs.Instrumented.{DoesAsMarked}
+use Rattle.headline.specs.AcceptedRuns.{RaisesNoAlarm}
+use Rattle.null_calls_texts_laws.specs.Instrumented.{DoesAsMarked}
 use Rattle.headline.specs.Headline.{AreNested, IsContained}
 
 pub contained : (p q : Program) → RaisesNoAlarm p → DoesAsMarked p q → IsContained p q

@@ -12,12 +12,12 @@ use Rattle.flow_model.specs.Language.{Reads}
 use Rattle.flow_model.specs.Verdict.{IsKept, IsVerdict}
 use Rattle.c_tree.specs.Tree.{Program}
 use Rattle.c_shapes.specs.ProgramLanguages.{Dyck, Stack, Callgraph}
-use Rattle.c_rules.specs.Accepted.{IsAccepted}
+use Rattle.c_rules.specs.Accepted.{IsAcceptedAs}
 use Rattle.c_meaning.specs.Runs.{run}
-use Rattle.graph_laws.specs.GraphOfProgram.{graph_of_program}
+use Rattle.flow_graph_laws.specs.GraphOfProgram.{graph_of_program}
 use Rattle.alarm_laws.specs.Monitors.{IsAcceptedByAll}
-use Rattle.accepted_runs.specs.AcceptedRuns.{RaisesNoAlarm}
-use Rattle.instrumented_texts.specs.Instrumented.{instrumented_text, DoesAsMarked}
+use Rattle.headline.specs.AcceptedRuns.{RaisesNoAlarm}
+use Rattle.null_calls_texts_laws.specs.Instrumented.{instrumented_text, DoesAsMarked}
 
 -- the languages of a model stand in each other: what the Dyck model reads, the abstract-stack model reads without its null calls, and what
 -- that one reads, the callgraph model reads
@@ -42,10 +42,10 @@ pub record IsContained (p q : Program) : Type 0 where
 -- The instrumented text is accepted as a program that does what the plain one does once null calls are erased, and the plain program's
 -- models contain the trace of each of its runs.
 abbrev pub IsInstrumentedAs : List ℕ → Program → Type 0
-IsInstrumentedAs text p = (q : Program) × IsAccepted text Instrumented q × DoesAsMarked p q × IsContained p q
+IsInstrumentedAs text p = (q : Program) × IsAcceptedAs text Instrumented q × DoesAsMarked p q × IsContained p q
 
 -- what is proved of a text that is accepted as the program, in this reading
-pub record HoldsOf (text : List ℕ) (p : Program) (reading : IsAccepted text Plain p) : Type 0 where
+pub record HoldsOf (text : List ℕ) (p : Program) (reading : IsAcceptedAs text Plain p) : Type 0 where
   -- the plain program's own runs are words of its models, which are those of its graph
   pub plain : RaisesNoAlarm p
   -- what `instrument` writes, which has 16 MiB at most
@@ -54,4 +54,4 @@ pub record HoldsOf (text : List ℕ) (p : Program) (reading : IsAccepted text Pl
   pub exact : (w : Which) (bound : ℕ) → AcceptsItsModel w (graph_of_program p) bound
 
 abbrev pub TheHeadline : Type 0
-TheHeadline = (text : List ℕ) (p : Program) (reading : IsAccepted text Plain p) → HoldsOf text p reading
+TheHeadline = (text : List ℕ) (p : Program) (reading : IsAcceptedAs text Plain p) → HoldsOf text p reading

@@ -1,1 +1,2 @@
+pub mod AcceptedRuns
 pub mod Headline

@@ -1,8 +1,8 @@
 ghost use Rattle.headline.specs.Headline.{TheHeadline};
 
-use accepted_runs::texts_raise_no_alarm;
+use crate::accepted_runs::texts_raise_no_alarm;
 use flow_model::languages_are_nested;
-use instrumented_texts::instrumented_texts_are_accepted;
+use null_calls_texts_laws::instrumented_texts_are_accepted;
 
 /// The headline (Wagner and Dean 2001; Giffin, Jha and Miller 2004). For every C text that is accepted in the mode Plain, all recorded
 /// results and every bound of turns: the instrumented text, where it has at most 16 MiB, is accepted in the mode Instrumented as a

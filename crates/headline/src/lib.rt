@@ -1,6 +1,11 @@
-//! The headline as one law over definitions. It has no code but its law.
+//! The headline as one law over definitions, and what is known of the runs of accepted texts. It has no code but its laws.
+//!
+//! - What is known of the runs of a C text that the profile accepts.
+//! - The headline as one law over definitions.
 #![tactic(auto)]
 
+mod accepted_runs;
 mod laws;
 
+pub use accepted_runs::texts_raise_no_alarm;
 pub use laws::texts_keep_the_headline;

@@ -1,3 +1,3 @@
-pub mod TrialUnits
-mod Trials
-pub mod Unsited
+pub mod Turns
+pub mod TreeLemmas
+pub mod UnitLemmas

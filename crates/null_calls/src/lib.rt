@@ -1,7 +1,10 @@
-//! The instrumenter, as a definition: the unit with null calls round its marked calls, in the manner of Giffin, Jha and Miller
-//! ("Efficient Context-Sensitive Intrusion Detection", NDSS 2004), and the program that it is typed as. It has no code but its laws.
+//! The instrumenter: a unit of the C profile with null calls round its marked calls, in the manner of Giffin, Jha and Miller
+//! ("Efficient Context-Sensitive Intrusion Detection", NDSS 2004).
 #![tactic(auto)]
 
-mod laws;
+mod declarations;
+mod statement_nodes;
+mod statements;
+mod units;
 
-pub use laws::sites_change_nothing;
+pub use units::instrument;

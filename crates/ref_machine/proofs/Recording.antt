@@ -14,15 +14,15 @@ use Rattle.c_meaning.specs.Meaning.{Frame as Place, World}
 use Rattle.c_meaning.specs.Results.{State, Result, Go, Stop, after, then_do, answered, remembered}
 use Rattle.c_meaning.specs.Runs.{Run, ending}
 use Rattle.c_meaning.specs.SystemCalls.{Request as Asked, take_record, does_answer, filled_where, result_value, with_records}
-use Rattle.machine_steps.specs.declared.fault.Fault.{Fault}
-use Rattle.machine_steps.specs.declared.records.Called.TheVariants as calls
-use Rattle.machine_steps.specs.Faults.{told}
-use Rattle.machine_steps.specs.Taking.{goes_on, Takes}
-use Rattle.machine_frames.specs.declared.frames.Frame.{Frame}
-use Rattle.machine_frames.specs.declared.frames.Now.{Now}
-use Rattle.machine_frames.specs.Frames.{after_value, rest}
-use Rattle.machine_frames.specs.Parts.{IsAnswer}
-use Rattle.machine_frames.proofs.Joining.{after_none}
+use Rattle.ref_machine_steps.specs.declared.fault.Fault.{Fault}
+use Rattle.ref_machine_steps.specs.declared.records.Called.TheVariants as calls
+use Rattle.ref_machine_steps.specs.Faults.{told}
+use Rattle.ref_machine_steps.specs.Taking.{goes_on, Takes}
+use Rattle.ref_machine_frames.specs.declared.frames.Frame.{Frame}
+use Rattle.ref_machine_frames.specs.declared.frames.Now.{Now}
+use Rattle.ref_machine_frames.specs.Frames.{after_value, rest}
+use Rattle.ref_machine_frames.specs.Parts.{IsAnswer}
+use Rattle.ref_machine_frames.proofs.Joining.{after_none}
 use Rattle.ref_machine.specs.Futures.{event_first, only_end}
 use Rattle.ref_machine.specs.Standing.{state}
 use Rattle.ref_machine.proofs.Turning.{ended_after}

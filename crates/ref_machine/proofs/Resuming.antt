@@ -6,14 +6,14 @@ use Rattle.std.specs.Prelude.{IsSome}
 use Rattle.std.specs.Borrow.{Bor}
 use Rattle.std.specs.Option.{option_copied}
 use Rattle.sys_table.specs.declared.sys_result.SysResult.{SysResult}
-use Rattle.machine_steps.specs.declared.requests.Request.{Request}
+use Rattle.ref_machine_steps.specs.declared.requests.Request.{Request}
 use Rattle.c_tree.specs.View.{program_of}
 use Rattle.c_values.specs.Seen.{seen}
 use Rattle.c_meaning.specs.Runs.{no_marks, world}
-use Rattle.machine_steps.specs.Requests.{asked_by}
-use Rattle.machine_frames.specs.Frames.{place_of, stack, after_value}
-use Rattle.machine_frames.specs.declared.frames.Now.{Now}
-use Rattle.machine_frames.specs.declared.frames.Now.TheVariants.{Ask}
+use Rattle.ref_machine_steps.specs.Requests.{asked_by}
+use Rattle.ref_machine_frames.specs.Frames.{place_of, stack, after_value}
+use Rattle.ref_machine_frames.specs.declared.frames.Now.{Now}
+use Rattle.ref_machine_frames.specs.declared.frames.Now.TheVariants.{Ask}
 use Rattle.ref_machine.specs.declared.machine.Machine.{Machine}
 use Rattle.ref_machine.specs.declared.pause.Pause.{Pause}
 use Rattle.ref_machine.specs.declared.pause.Pause.TheVariants.{NeedResult, Did, Ended}

@@ -12,12 +12,12 @@ use Rattle.c_values.specs.Memory.{Objects, ended}
 use Rattle.c_meaning.specs.Meaning.{Frame as Place, Loop as Rounds, World, condition, exec, without}
 use Rattle.c_meaning.specs.Results.{State, with_memory, Result, Go, Stop, after, then_do, Exit}
 use Rattle.c_meaning.specs.Runs.{no_marks, world, run_body, result_of, parameters, entered, with_parameters, ending, exit_of, enter}
-use Rattle.turn_laws.proofs.EnoughTurns.{turns_are_enough}
-use Rattle.machine_frames.specs.declared.frames.Call.{Call}
-use Rattle.machine_frames.specs.declared.frames.Frame.{Frame}
-use Rattle.machine_frames.specs.declared.frames.Frame.TheVariants as frames
-use Rattle.machine_frames.specs.Frames.{place_of, stack, numbers, going_round, after_value, after_exit}
-use Rattle.machine_frames.proofs.Joining.{then_assoc, pushed}
+use Rattle.c_meaning_laws.proofs.EnoughTurns.{turns_are_enough}
+use Rattle.ref_machine_frames.specs.declared.frames.Call.{Call}
+use Rattle.ref_machine_frames.specs.declared.frames.Frame.{Frame}
+use Rattle.ref_machine_frames.specs.declared.frames.Frame.TheVariants as frames
+use Rattle.ref_machine_frames.specs.Frames.{place_of, stack, numbers, going_round, after_value, after_exit}
+use Rattle.ref_machine_frames.proofs.Joining.{then_assoc, pushed}
 use Rattle.ref_machine.specs.Standing.{state}
 use Rattle.ref_machine.specs.Futures.{event_first}
 

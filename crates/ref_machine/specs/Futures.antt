@@ -7,7 +7,7 @@ use Rattle.sys_table.specs.declared.sys_result.SysResult.{SysResult}
 use Rattle.c_tree.specs.View.{program_of}
 use Rattle.c_values.specs.Seen.{seen}
 use Rattle.c_meaning.specs.Runs.{Run, ending}
-use Rattle.machine_frames.specs.declared.frames.Now.{Now}
+use Rattle.ref_machine_frames.specs.declared.frames.Now.{Now}
 use Rattle.ref_machine.specs.declared.machine.Machine.{Machine}
 use Rattle.ref_machine.specs.declared.machine.Stage.{Stage}
 use Rattle.ref_machine.specs.declared.machine.Stage.TheVariants.{Going, Waiting, Failed}

@@ -6,11 +6,11 @@ use Rattle.c_tree.specs.Tree.{Program}
 use Rattle.c_values.specs.Memory.{Objects}
 use Rattle.c_meaning.specs.Results.{State, Result}
 use Rattle.c_meaning.specs.Runs.{no_marks, world}
-use Rattle.machine_frames.specs.declared.frames.Here.{Here}
-use Rattle.machine_frames.specs.declared.frames.Frame.{Frame}
-use Rattle.machine_frames.specs.declared.frames.Now.{Now}
-use Rattle.machine_frames.specs.declared.frames.Now.TheVariants.{Eval, Have, Exec, Left, Enter, Test, Ask, Told, Stopped}
-use Rattle.machine_frames.specs.Frames.{place_of, stack, rest}
+use Rattle.ref_machine_frames.specs.declared.frames.Here.{Here}
+use Rattle.ref_machine_frames.specs.declared.frames.Frame.{Frame}
+use Rattle.ref_machine_frames.specs.declared.frames.Now.{Now}
+use Rattle.ref_machine_frames.specs.declared.frames.Now.TheVariants.{Eval, Have, Exec, Left, Enter, Test, Ask, Told, Stopped}
+use Rattle.ref_machine_frames.specs.Frames.{place_of, stack, rest}
 
 -- the state with these parts
 abbrev pub state : Objects → ℕ → List SysResult → ℕ → ℕ → State

@@ -7,16 +7,16 @@ ghost use Rattle.c_values.specs.Seen.{seen};
 ghost use Rattle.c_meaning.specs.Meaning.{World, without};
 ghost use Rattle.c_meaning.specs.Results.{State, then_do, with_memory};
 ghost use Rattle.c_meaning.specs.Runs.{no_marks, result_of, run_body, without_value};
-ghost use Rattle.machine_frames.specs.declared.frames.Frame.{Frame as Todo};
-ghost use Rattle.machine_frames.specs.Frames.{after_value, exit_in, numbers, out_of_call, place_of, rest, stack};
-ghost use Rattle.machine_frames.specs.Parts.{Does};
+ghost use Rattle.ref_machine_frames.specs.declared.frames.Frame.{Frame as Todo};
+ghost use Rattle.ref_machine_frames.specs.Frames.{after_value, exit_in, numbers, out_of_call, place_of, rest, stack};
+ghost use Rattle.ref_machine_frames.specs.Parts.{Does};
 ghost use Rattle.ref_machine.specs.Standing.{state};
 
 use c_tree::{ObjectName, Program, Value};
 use c_values::Memory;
 use dm_base::{Kind, OutOfMemory, Outcome};
-use machine_frames::{Call, Frame, Here, Left, Now};
-use machine_objects::set_parameters;
+use ref_machine_frames::{Call, Frame, Here, Left, Now};
+use ref_machine_steps::set_parameters;
 
 // Enters a function, once its turn is spent.
 pub fn enter<'p>(

@@ -1,6 +1,6 @@
 ghost use Rattle.std.specs.Prelude.{◌≡◌, ◌≤◌};
 ghost use Rattle.c_tree.specs.View.{program_of};
-ghost use Rattle.machine_frames.specs.Cells.{AreCells};
+ghost use Rattle.ref_machine_frames.specs.Cells.{AreCells};
 ghost use Rattle.ref_machine.specs.declared.pause.Pause.TheVariants.{Ended};
 
 use crate::Pause;
@@ -8,9 +8,8 @@ use crate::stepping::{coming, go_on, settled};
 use c_tree::Program;
 use c_values::Memory;
 use dm_base::{OutOfMemory, Outcome, SysName};
-use machine_frames::{Frame, Here, Now, struct_cells};
-use machine_objects::static_objects;
-use machine_steps::{Called, Request, take_record};
+use ref_machine_frames::{Frame, Here, Now, struct_cells};
+use ref_machine_steps::{Called, Request, static_objects, take_record};
 use std::alloc::Global;
 use std::mem;
 use sys_table::SysResult;
@@ -59,7 +58,7 @@ impl<'p> Machine<'p> {
     ghost use Rattle.sys_table.specs.declared.sys_result.SysResult.{SysResult as Record};
     ghost use Rattle.c_meaning.specs.Runs.{run};
     ghost use Rattle.ref_machine.specs.Futures.{future, future_at, is_waiting, has_failed, records_taken, taken_with, Advances, GoesOn, HasResumed, Resumes};
-    ghost use Rattle.machine_frames.specs.declared.frames.Now.TheVariants.{Ask};
+    ghost use Rattle.ref_machine_frames.specs.declared.frames.Now.TheVariants.{Ask};
 
     /// The run of the program from its start, where its static objects have their first values and `main` is entered (C99 5.1.2,
     /// 5.1.2.2.1), with so many turns: to enter a function costs one, and so does each test of a loop. The error is that memory was

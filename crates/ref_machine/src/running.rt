@@ -5,16 +5,16 @@ ghost use Rattle.c_shapes.specs.ProgramLanguages.{Callgraph, Stack};
 ghost use Rattle.ref_machine.specs.Futures.{future, records_taken};
 ghost use Rattle.ref_machine.specs.KeptTypes.{HasFunctionValues};
 ghost use Rattle.ref_machine.specs.WholeRuns.{Follows, Notes, run_of};
-ghost use Rattle.typed_meaning.specs.Laws.{IsTypedRun};
+ghost use Rattle.c_meaning_laws.specs.Laws.{IsTypedRun};
 
 use crate::whole::Run;
 use crate::{Machine, Pause};
 use alarm_laws::runs_raise_no_alarm;
+use c_meaning_laws::{callees_are_candidates, values_have_kinds};
 use c_tree::Program;
 use dm_base::{Event, OutOfMemory, Outcome};
 use std::alloc::Global;
 use sys_table::SysResult;
-use typed_meaning::{callees_are_candidates, values_have_kinds};
 
 /// Goes on to the next event, need of a recorded result, or end, as `Machine::advance` does, where the results from this number on are
 /// left: the next of them is given where the machine waits for one.

@@ -7,22 +7,22 @@ ghost use Rattle.c_values.specs.Seen.{seen};
 ghost use Rattle.c_meaning.specs.Meaning.{World, Frame as Place};
 ghost use Rattle.c_meaning.specs.Results.{State, Stop, then_do, with_memory};
 ghost use Rattle.c_meaning.specs.Runs.{exit_of, no_marks, world};
-ghost use Rattle.machine_frames.specs.declared.frames.Here.{Here as Activation};
-ghost use Rattle.machine_frames.specs.declared.frames.Frame.{Frame as Todo};
-ghost use Rattle.machine_frames.specs.Cells.{AreCells};
-ghost use Rattle.machine_frames.specs.Frames.{after_exit, after_value, exit_in, place_of, rest, rounds_of, stack, then_comes};
-ghost use Rattle.machine_frames.specs.Parts.{IsAnswer};
-ghost use Rattle.machine_steps.specs.Faults.{told};
+ghost use Rattle.ref_machine_frames.specs.declared.frames.Here.{Here as Activation};
+ghost use Rattle.ref_machine_frames.specs.declared.frames.Frame.{Frame as Todo};
+ghost use Rattle.ref_machine_frames.specs.Cells.{AreCells};
+ghost use Rattle.ref_machine_frames.specs.Frames.{after_exit, after_value, exit_in, place_of, rest, rounds_of, stack, then_comes};
+ghost use Rattle.ref_machine_frames.specs.Parts.{IsAnswer};
+ghost use Rattle.ref_machine_steps.specs.Faults.{told};
 ghost use Rattle.ref_machine.specs.Standing.{IsPausing, SameLeft, Standing, left_of, state};
 
 use crate::calls::{enter, leave_call};
 use c_tree::{Program, TStmt, Value};
 use c_values::Memory;
 use dm_base::{OutOfMemory, Outcome};
-use machine_expressions::{begin, with_value};
-use machine_frames::{After, Frame, Here, Left, Now, given};
-use machine_statements::{begin_statement, in_statement, test_loop, with_exit};
-use machine_steps::Fault;
+use ref_machine_expressions::{begin, with_value};
+use ref_machine_frames::{After, Frame, Here, Left, Now, given};
+use ref_machine_statements::{begin_statement, in_statement, test_loop, with_exit};
+use ref_machine_steps::Fault;
 use std::alloc::Global;
 
 // The end of the run with the value of main.

@@ -9,17 +9,17 @@ use Rattle.tool.specs.Command.{Command}
 use Rattle.tool.specs.Command.FileCommand.{Check, Instrument, Model, Upgrade}
 use Rattle.tool.specs.Command.Command.{Version, Help, OfFile, OfTrace, Measure, Run, Audit}
 use Rattle.tool.specs.Command.TraceCommand.{Judge, Watch}
-use Rattle.audit_command.specs.Audit.{Audits, RefusesToAudit, LacksToAudit, IsReadyToAudit}
-use Rattle.instrument_command.specs.Instrument.{Instruments, RefusesToInstrument, IsReadyToInstrument}
-use Rattle.model_commands.specs.Judge.{Judges, RefusesToJudge, LacksToJudge, IsReadyToJudge}
-use Rattle.model_commands.specs.Measure.{Measures}
-use Rattle.model_commands.specs.Monitors.{monitors_of}
-use Rattle.model_commands.specs.Upgrade.{Upgrades, RefusesToUpgrade, IsReadyToUpgrade}
-use Rattle.model_commands.specs.Watch.{Watches, RefusesToWatch, IsReadyToWatch}
-use Rattle.run_command.specs.Run.{Runs, RefusesToRun, LacksToRun, IsReadyToRun}
-use Rattle.source_commands.specs.Check.{Checks, IsReadyToCheck}
-use Rattle.source_commands.specs.Modelled.{Models, RefusesToModel, IsReadyToModel}
-use Rattle.sources.specs.Sources.{RefusesSource}
+use Rattle.tool_audit.specs.Audit.{Audits, RefusesToAudit, LacksToAudit, IsReadyToAudit}
+use Rattle.tool_instrument.specs.Instrument.{Instruments, RefusesToInstrument, IsReadyToInstrument}
+use Rattle.tool_models.specs.Judge.{Judges, RefusesToJudge, LacksToJudge, IsReadyToJudge}
+use Rattle.tool_models.specs.Measure.{Measures}
+use Rattle.tool_models.specs.Monitors.{monitors_of}
+use Rattle.tool_models.specs.Upgrade.{Upgrades, RefusesToUpgrade, IsReadyToUpgrade}
+use Rattle.tool_models.specs.Watch.{Watches, RefusesToWatch, IsReadyToWatch}
+use Rattle.tool_run.specs.Run.{Runs, RefusesToRun, LacksToRun, IsReadyToRun}
+use Rattle.tool_texts.specs.Check.{Checks, IsReadyToCheck}
+use Rattle.tool_texts.specs.Modelled.{Models, RefusesToModel, IsReadyToModel}
+use Rattle.tool_sources.specs.Sources.{RefusesSource}
 
 abbrev pub version_text : List ℕ
 version_text = codes "dyckmon 1\n"

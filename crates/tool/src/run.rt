@@ -6,15 +6,15 @@ ghost use Rattle.tool.specs.Stop.{HasStop, IsWorked};
 ghost use Rattle.tool_frame.specs.Stop.{IsFinished};
 
 use crate::command::{Command, command_of};
-use audit_command::audit_source;
 use dm_base::{OutOfMemory, Status};
 use dm_io::{HonestSink, HonestStore, Sink, Store, write_whole};
-use instrument_command::instrument_source;
-use model_commands::{judge, measure, upgrade, watch_traces};
-use run_command::run_source;
-use source_commands::{check_source, model_of_source};
 use std::alloc::Global;
+use tool_audit::audit_source;
 use tool_frame::{Finished, Stop, refuse};
+use tool_instrument::instrument_source;
+use tool_models::{judge, measure, upgrade, watch_traces};
+use tool_run::run_source;
+use tool_texts::{check_source, model_of_source};
 
 const VERSION_TEXT: &[u8] = b"dyckmon 1\n";
 

@@ -1,6 +1,6 @@
 use Rattle.std.proofs.Common.{ap, sym, subst}
 use Rattle.c_rules.specs.Units.{IsTyped}
-use Rattle.c_scopes.specs.View.{before_of}
+use Rattle.c_check_scopes.specs.View.{before_of}
 use Rattle.c_syntax.specs.UnitView.{items_of}
 use Rattle.c_tree.specs.Program.{IsProgram}
 use Rattle.c_check.proofs.checking.checked_items.Goals as goal

@@ -1,12 +1,12 @@
 use Rattle.std.proofs.Common.{◌≡◌, subst}
-use Rattle.c_given.proofs.Parts.{raised}
-use Rattle.c_given.specs.Judges.{Names}
-use Rattle.c_items.specs.OutputView.{output_of}
+use Rattle.c_check_values.proofs.Parts.{raised}
+use Rattle.c_check_values.specs.Agreement.{Names}
+use Rattle.c_check_units.specs.OutputView.{output_of}
 use Rattle.c_rules.specs.Checked.{Checked, faults}
 use Rattle.c_rules.specs.Items.{Output, items}
 use Rattle.c_rules.specs.Scopes.{nothing_before}
 use Rattle.c_rules.specs.Units.{env_before}
-use Rattle.c_scopes.specs.View.{before_of, env_of}
+use Rattle.c_check_scopes.specs.View.{before_of, env_of}
 use Rattle.c_syntax.specs.UnitView.{items_of}
 use Rattle.c_check.proofs.found.found_in.Goals as goal
 

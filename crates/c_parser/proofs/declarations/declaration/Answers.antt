@@ -1,5 +1,5 @@
-use Rattle.c_refusals.specs.Phrases.{APlainDecl}
-use Rattle.c_phrases.specs.Refusing.{bound_of}
+use Rattle.c_parser_refusals.specs.Phrases.{APlainDecl}
+use Rattle.c_parser_phrases.specs.Refusing.{bound_of}
 use Rattle.c_parser.proofs.StmtStops.{stops_deep}
 use Rattle.c_parser.proofs.DeclStops.{no_decl_room}
 use Rattle.c_parser.proofs.Passing.{decl_nests}

@@ -1,5 +1,5 @@
 use Rattle.std.proofs.Common.{ℕ, List, [], ◌∷◌, arith}
-use Rattle.c_phrases.proofs.Known.{index_within, index_beyond}
+use Rattle.c_parser_phrases.proofs.Known.{index_within, index_beyond}
 use Rattle.c_parser.proofs.starts.code_head.Goals as goal
 
 abbrev table : List ℕ

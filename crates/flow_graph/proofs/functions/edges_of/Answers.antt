@@ -1,6 +1,6 @@
 use Rattle.flow_graph.specs.View.{shapes_in}
 use Rattle.flow_graph.specs.Edges.{edges_in}
-use Rattle.graph_laws.specs.GraphOf.{edges_from}
+use Rattle.flow_graph_laws.specs.GraphOf.{edges_from}
 use Rattle.flow_graph.proofs.FunctionsLemmas.{function_more, function_end}
 use Rattle.flow_graph.proofs.functions.edges_of.Goals as goal
 

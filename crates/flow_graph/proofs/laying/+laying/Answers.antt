@@ -2,7 +2,7 @@ use Rattle.std.proofs.Common.{◌++◌, ◌∙◌, ap, sym, arith, drop, ◌+◌
 use Rattle.c_shapes.specs.Shape.{Cases}
 use Rattle.flow_graph.specs.View.{shape_of, parts_of}
 use Rattle.flow_graph.specs.Edges.{edges_in, places_of}
-use Rattle.graph_laws.specs.Layout.{edges, edges_of_parts, width, count}
+use Rattle.flow_graph_laws.specs.Layout.{edges, edges_of_parts, width, count}
 use Rattle.flow_graph.proofs.LayingLemmas.{of_cases, on_same, next_same, laid_more, fresh_more, seq_laid, seq_next}
 use Rattle.flow_graph.proofs.laying.+laying.Goals as goal
 

@@ -1,6 +1,6 @@
 use Rattle.std.proofs.Common.{length}
 use Rattle.flow_graph.specs.View.{parts_of}
-use Rattle.graph_laws.specs.Layout.{count}
+use Rattle.flow_graph_laws.specs.Layout.{count}
 use Rattle.flow_graph.proofs.LayingLemmas.{parts_many, next_same}
 use Rattle.flow_graph.proofs.laying.after_each.Goals as goal
 

@@ -1,7 +1,7 @@
 use Rattle.std.proofs.Common.{List}
-use Rattle.c_rules.specs.Accepted.{IsAccepted}
-use Rattle.accepted_runs.specs.AcceptedRuns.{RaisesNoAlarm}
-use Rattle.graph_laws.specs.GraphOfProgram.{graph_of_program}
+use Rattle.c_rules.specs.Accepted.{IsAcceptedAs}
+use Rattle.headline.specs.AcceptedRuns.{RaisesNoAlarm}
+use Rattle.flow_graph_laws.specs.GraphOfProgram.{graph_of_program}
 use Rattle.headline.proofs.Fronts.{accepts_its_model}
 use Rattle.headline.proofs.Contained.{contained, nested}
 use Rattle.headline.proofs.laws.texts_keep_the_headline.Goals as goal

@@ -1,7 +1,7 @@
 use Rattle.std.proofs.Common.{◌≡◌, ◌-◌}
 use Rattle.c_values.specs.Seen.{seen}
 use Rattle.c_meaning.specs.Meaning.{without}
-use Rattle.machine_frames.specs.Frames.{numbers}
+use Rattle.ref_machine_frames.specs.Frames.{numbers}
 use Rattle.ref_machine.proofs.calls.end_parameters.Given as goal
 
 abbrev pub invariant-loop-variable : goal.invariant-loop-variable

@@ -1,7 +1,7 @@
 use Rattle.std.proofs.Common.{◌≡◌, suc, length, ap, arith, nat_eq, refl, rules}
 use Rattle.c_tree.specs.View.{ctypes_of}
 use Rattle.c_values.specs.Seen.{seen}
-use Rattle.machine_frames.specs.Frames.{place_of}
+use Rattle.ref_machine_frames.specs.Frames.{place_of}
 use Rattle.ref_machine.proofs.Turning.{entered_by}
 use Rattle.ref_machine.proofs.calls.enter.Goals as goal
 

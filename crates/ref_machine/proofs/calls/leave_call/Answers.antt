@@ -2,7 +2,7 @@ use Rattle.std.proofs.Common.{ap, ◌∙◌}
 use Rattle.c_values.specs.Seen.{seen}
 use Rattle.c_meaning.specs.Results.{with_memory, then_do}
 use Rattle.c_meaning.specs.Runs.{result_of}
-use Rattle.machine_frames.specs.Frames.{exit_in, place_of, stack, after_value}
+use Rattle.ref_machine_frames.specs.Frames.{exit_in, place_of, stack, after_value}
 use Rattle.ref_machine.proofs.calls.leave_call.Goals as goal
 
 pub returns : goal.returns

@@ -1,11 +1,11 @@
 use Rattle.std.proofs.Common.{◌≡◌, ℕ, List, [], ◌∷◌, length, ap, sym, ◌∙◌, refl, arith}
 use Rattle.std.specs.Vec.{vec_len}
-use Rattle.machine_frames.specs.declared.frames.Frame.{Frame}
+use Rattle.ref_machine_frames.specs.declared.frames.Frame.{Frame}
 use Rattle.c_tree.specs.View.{program_of}
 use Rattle.c_values.specs.Seen.{seen}
 use Rattle.c_meaning.specs.Results.{with_memory}
-use Rattle.machine_frames.specs.Frames.{place_of, stack, after_value}
-use Rattle.machine_frames.proofs.Joining.{pushed}
+use Rattle.ref_machine_frames.specs.Frames.{place_of, stack, after_value}
+use Rattle.ref_machine_frames.proofs.Joining.{pushed}
 use Rattle.ref_machine.proofs.stepping.have.Goals as goal
 
 pub returns-in_ok-now-in-Some : goal.returns-in_ok-now-in-Some

@@ -1,8 +1,8 @@
 use Rattle.std.proofs.Common.{ap, sym, ◌∙◌}
 use Rattle.c_values.specs.Seen.{seen}
 use Rattle.c_meaning.specs.Results.{with_memory}
-use Rattle.machine_frames.specs.Frames.{exit_in, place_of, after_exit}
-use Rattle.machine_frames.proofs.Joining.{pushed}
+use Rattle.ref_machine_frames.specs.Frames.{exit_in, place_of, after_exit}
+use Rattle.ref_machine_frames.proofs.Joining.{pushed}
 use Rattle.ref_machine.proofs.stepping.left.Goals as goal
 
 pub returns-in_ok-now-in-Some : goal.returns-in_ok-now-in-Some

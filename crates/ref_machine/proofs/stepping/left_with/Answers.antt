@@ -1,7 +1,7 @@
 use Rattle.std.proofs.Common.{◌∷◌, ap, sym, ◌∙◌}
 use Rattle.c_values.specs.Seen.{seen}
 use Rattle.c_meaning.specs.Results.{with_memory}
-use Rattle.machine_frames.specs.Frames.{exit_in, place_of, stack, after_exit}
+use Rattle.ref_machine_frames.specs.Frames.{exit_in, place_of, stack, after_exit}
 use Rattle.ref_machine.proofs.stepping.left_with.Goals as goal
 
 pub returns-in-Exit : goal.returns-in-Exit

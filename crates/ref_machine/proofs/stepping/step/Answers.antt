@@ -3,7 +3,7 @@ use Rattle.c_tree.specs.View.{program_of}
 use Rattle.c_values.specs.Seen.{seen}
 use Rattle.c_meaning.specs.Results.{then_do}
 use Rattle.c_meaning.specs.Runs.{no_marks, world}
-use Rattle.machine_frames.specs.Frames.{place_of, stack, after_value, rest}
+use Rattle.ref_machine_frames.specs.Frames.{place_of, stack, after_value, rest}
 use Rattle.ref_machine.specs.Standing.{state}
 use Rattle.ref_machine.proofs.stepping.step.Goals as goal
 

@@ -2,7 +2,7 @@ use Rattle.std.proofs.Common.{◌≡◌, ◌≤◌, ◌-◌, suc, ap, ◌∙◌,
 use Rattle.c_tree.specs.View.{stmt_of}
 use Rattle.c_meaning.specs.Results.{then_do}
 use Rattle.c_meaning.specs.Runs.{no_marks, world}
-use Rattle.machine_frames.specs.Frames.{place_of, stack, after_exit, rounds_of}
+use Rattle.ref_machine_frames.specs.Frames.{place_of, stack, after_exit, rounds_of}
 use Rattle.ref_machine.specs.Standing.{state}
 use Rattle.ref_machine.proofs.Turning.{loop_turn, no_turn_to_test}
 use Rattle.ref_machine.proofs.stepping.test_in_turn.Goals as goal

@@ -2,7 +2,7 @@ use Rattle.std.proofs.Common.{◌∷◌, ap, sym, ◌∙◌}
 use Rattle.c_tree.specs.View.{program_of}
 use Rattle.c_values.specs.Seen.{seen}
 use Rattle.c_meaning.specs.Results.{with_memory}
-use Rattle.machine_frames.specs.Frames.{place_of, stack, after_value}
+use Rattle.ref_machine_frames.specs.Frames.{place_of, stack, after_value}
 use Rattle.ref_machine.proofs.stepping.with_frame.Goals as goal
 
 pub returns-in_ok-now-in-Value : goal.returns-in_ok-now-in-Value

@@ -2,8 +2,8 @@ use Rattle.std.proofs.Common.{ap, sym, ◌∙◌, refl}
 use Rattle.c_tree.specs.View.{program_of}
 use Rattle.c_values.specs.Seen.{seen}
 use Rattle.c_meaning.specs.Runs.{ending, no_marks, world}
-use Rattle.machine_frames.specs.Frames.{place_of, stack, then_comes}
-use Rattle.machine_frames.specs.declared.frames.Now.TheVariants.{Ask, Stopped}
+use Rattle.ref_machine_frames.specs.Frames.{place_of, stack, then_comes}
+use Rattle.ref_machine_frames.specs.declared.frames.Now.TheVariants.{Ask, Stopped}
 use Rattle.ref_machine.specs.Futures.{event_first, future_at}
 use Rattle.ref_machine.specs.Standing.{state}
 use Rattle.ref_machine.proofs.Resuming.{needs_one, has_ended}

@@ -2,8 +2,8 @@ use Rattle.std.proofs.Common.{◌≡◌, ◌+◌, refl, arith}
 use Rattle.c_tree.specs.View.{program_of}
 use Rattle.c_values.specs.Seen.{seen}
 use Rattle.c_meaning.specs.Runs.{no_marks, world}
-use Rattle.machine_steps.specs.Requests.{asked_by}
-use Rattle.machine_frames.specs.Frames.{place_of, stack, after_value}
+use Rattle.ref_machine_steps.specs.Requests.{asked_by}
+use Rattle.ref_machine_frames.specs.Frames.{place_of, stack, after_value}
 use Rattle.ref_machine.proofs.Recording.{taken_answered, taken_badly}
 use Rattle.ref_machine.proofs.machine.Machine.take.Goals as goal
 

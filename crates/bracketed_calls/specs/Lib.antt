@@ -1,8 +1,0 @@
-pub mod AddedParts
-pub mod KeptArguments
-pub mod KeptValues
-pub mod MarkedCalls
-pub mod MostCalls
-pub mod NullTypes
-pub mod OwnTypes
-pub mod PlainCalls

@@ -1,2 +1,0 @@
-pub mod Follow
-pub mod Tabled

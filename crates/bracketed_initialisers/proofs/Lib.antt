@@ -1,4 +1,0 @@
-pub mod Cells
-pub mod Initialisers
-pub mod Reserved
-pub mod Scopes

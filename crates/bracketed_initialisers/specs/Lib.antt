@@ -1,2 +1,0 @@
-pub mod Initialisers
-pub mod Standing

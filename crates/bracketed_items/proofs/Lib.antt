@@ -1,4 +1,0 @@
-pub mod FileNames
-pub mod Initialisers
-pub mod Items
-pub mod Silent

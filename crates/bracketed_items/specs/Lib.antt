@@ -1,2 +1,0 @@
-pub mod FileScopes
-pub mod OtherItems

@@ -1,9 +1,0 @@
-pub mod Aside
-pub mod Facts
-pub mod FileWritten
-pub mod Items
-pub mod Names
-pub mod Prototypes
-pub mod SpelledCasts
-pub mod Texts
-pub mod Units

@@ -1,9 +1,0 @@
-use Rattle.c_cells.proofs.SlotLemmas.{each_more}
-use Rattle.c_cells.proofs.slots.add_each.Goals as goal
-use Rattle.c_cells.specs.CellView.{givens_of}
-use Rattle.c_rules.specs.Scopes.{layout_of}
-use Rattle.c_scopes.specs.View.{env_of}
-
-pub loop-t-preserved : goal.loop-t-preserved
-loop-t-preserved c =
-    each_more (layout_of (env_of c.args.env.now)) c.args.ts.now c.loop-t.t-index c.t-item.result (givens_of c.args.cells.now.items) (givens_of c.loop-t.cells.items) (givens_of c.add_zeros.new.cells.items) c.loop-t-test.true c.t-item.is c.loop-t.invariant c.in_ok-add_zeros.ensures

@@ -1,0 +1,19 @@
+-- A type of too many cells under sizeof.
+use Rattle.std.proofs.Common.{◌≡◌, ℕ, ◌<◌, false, refl, ap, ◌∙◌, arith}
+use Rattle.std.specs.Prelude.{nat_le, Contains}
+use Rattle.std.proofs.lemmas.Bool.{lt-leb}
+use Rattle.c_tree.specs.Tree.{CType}
+use Rattle.c_tree.specs.Layout.{cells}
+use Rattle.c_rules.specs.Checked.{Checked, fine, fault, faults, demand, on}
+use Rattle.c_rules.specs.Scopes.{Env, layout_of}
+use Rattle.c_rules.specs.TypedExpression.{TypedExpression}
+use Rattle.c_rules.specs.UnaryExpressions.{size_of, size_of_type}
+
+faulted : {A : Type 0} (code at : ℕ) (found : Checked A) → found ≡ fault code at → Contains (faults found) (record { code = code; at = at })
+faulted code at found p = rw p (0, omega arith, refl)
+
+pub many_cells : (env : Env) (at place : ℕ) (t : CType) (g : TypedExpression) → size_of env at t ≡ fine g → 65536 < cells (layout_of env) t → Contains (faults (size_of_type env at place t)) (record { code = 13; at = place })
+many_cells env at place t g p h =
+    let over : nat_le (cells (layout_of env) t) 65536 ≡ false = lt-leb (cells (layout_of env) t) 65536 h in
+    faulted 13 place (size_of_type env at place t)
+    (ap (λ r. on r (λ size. demand (nat_le (cells (layout_of env) t) 65536) 13 place size)) p ∙ ap (λ b. demand b 13 place g) over)

@@ -1,0 +1,8 @@
+use Rattle.std.proofs.Common.{◌≡◌, ◌++◌, rules}
+use Rattle.c_check_bodies.proofs.LaidLemmas.{all_as}
+use Rattle.c_check_bodies.proofs.statement_tree.appended.Goals as goal
+use Rattle.c_check_bodies.specs.VariablesView.{variables_of}
+
+pub returns : goal.returns
+returns c =
+    all_as (variables_of c.in_ok-variables.variables) (variables_of c.args.first.variables) (variables_of c.args.second.variables) c.args.first.trees.items c.args.second.trees.items c.append.new.self.items c.in_ok-variables.ensures (search rules)

@@ -1,0 +1,59 @@
+ghost use Rattle.std.specs.Prelude.{◌≡◌, suc, length, IfOk, OnOk};
+ghost use Rattle.c_check_bodies.specs.Scoped.{Declares};
+ghost use Rattle.c_rules.specs.Scopes.{a_local, with_name};
+ghost use Rattle.c_check_scopes.specs.View.{env_of};
+ghost use Rattle.c_check_scopes.specs.declared.environment.Environment.{Environment};
+ghost use Rattle.c_tree.specs.View.{ctype_of};
+
+use c_check_scopes::{Environment, Meaning};
+use c_tree::{CType, copy_type};
+use dm_base::OutOfMemory;
+use std::alloc::Global;
+
+/// How many blocks enclose what stands one block deeper. `OutOfMemory` comes where there are 2^32.
+pub fn one_deeper(depth: u32) -> Result<u32, OutOfMemory>
+    ensures { IfOk result (λ d. d ≡ suc depth) }
+{
+    match depth.checked_add(1) {
+        Some(deeper) => Ok(deeper),
+        None => Err(OutOfMemory),
+    }
+}
+
+/// Declares a variable with this number, and with its type so far and its type, in the innermost scope (C99 6.2.1).
+pub fn declare_variable<'t>(
+    alloc: Global,
+    env: &mut Environment<'t>,
+    name: &'t [u8],
+    number: u32,
+    seen: &CType,
+    whole: &CType,
+) -> Result<(), OutOfMemory>
+    ensures meant { OnOk result (env_of env.new ≡ with_name (env_of env.old) name.now (a_local number (ctype_of seen.now) (ctype_of whole.now))) }
+    ensures kept { OnOk result (Declares env.old env.new) }
+{
+    let seen = copy_type(alloc, seen)?;
+    let whole = copy_type(alloc, whole)?;
+    let means = Meaning::Local {
+        number,
+        seen,
+        whole,
+    };
+    let depth = env.depth;
+    env.names.declare(name, depth, means)
+}
+
+/// Forgets all names but so many that were declared first.
+pub fn leave_names(env: &mut Environment<'_>, count: usize)
+    ensures { (outer : Environment) → Declares outer env.old → length outer.names ≡ count → env.new ≡ outer }
+{
+    env.names.leave(count);
+}
+
+/// Leaves a block, back to the so many names that were declared before it, and to what this many blocks enclose (C99 6.2.1 paragraph 4).
+pub fn leave_block(env: &mut Environment<'_>, count: usize, depth: u32)
+    ensures { (outer : Environment) → Declares (record outer { depth = suc outer.depth }) env.old → length outer.names ≡ count → outer.depth ≡ depth → env.new ≡ outer }
+{
+    env.names.leave(count);
+    env.depth = depth;
+}

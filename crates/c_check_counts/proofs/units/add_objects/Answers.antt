@@ -1,0 +1,10 @@
+use Rattle.c_syntax.specs.UnitView.{storage_of, parts_of}
+use Rattle.c_rules.specs.Units.{objects_of_parts}
+use Rattle.c_check_counts.specs.Named.{objects_of_part}
+use Rattle.c_check_counts.specs.Seen.{seen}
+use Rattle.c_check_counts.proofs.Lists.{objects_of_parts_flat, all_flat}
+use Rattle.c_check_counts.proofs.units.add_objects.Goals as goal
+
+pub returns : goal.returns
+returns c =
+    all_flat (objects_of_part (storage_of c.args.storage)) c.args.parts.now c.loop-part.part-index (seen c.args.into.now.items) (seen c.loop-part.into.items) (objects_of_parts (storage_of c.args.storage) (parts_of c.args.parts.now)) c.loop-part-test.false (objects_of_parts_flat (storage_of c.args.storage) c.args.parts.now) c.loop-part.invariant

@@ -1,0 +1,9 @@
+use Rattle.std.proofs.Common.{◌≡◌, [], ◌∷◌, ◌++◌, take}
+use Rattle.std.specs.Prelude.{flat_map}
+use Rattle.c_rules.specs.Units.{functions_of_item}
+use Rattle.c_syntax.specs.UnitView.{item_at}
+use Rattle.c_check_counts.specs.Seen.{seen}
+use Rattle.c_check_counts.proofs.units.functions_of.Given as goal
+
+abbrev pub invariant-loop-item : goal.invariant-loop-item
+invariant-loop-item l = seen l.names.items ≡ flat_map (λ i. functions_of_item (item_at i.at i.kind)) (take l.item-index l.items)

@@ -1,0 +1,3 @@
+pub mod ObjectLemmas
+pub mod ParameterLemmas
+pub mod MemberLemmas

@@ -1,0 +1,111 @@
+-- Parameters of Rust, one after another.
+use Rattle.std.proofs.Common.{◌≡◌, ℕ, suc, ◌+◌, ◌-◌, ◌<◌, ◌≤◌, Bool, true, false, List, [], ◌∷◌, length, take, drop, get_or, Bor, Option, Some, None, Vec, Global, Result, Ok, Err, IfOk, OnOk, refl, sym, ap, ◌∙◌, arith}
+use Rattle.std.specs.Prelude.{Box, ◌&&◌, is_some, not}
+use Rattle.std.proofs.lemmas.List.{take_all}
+use Rattle.c_check_counts.specs.declared.numbers.Next.{Next as NextTree}
+use Rattle.c_check_counts.specs.Numbered.{next_of}
+use Rattle.c_check_counts.specs.Seen.{ident_seen}
+use Rattle.c_check_counts.proofs.Rows.{function_is}
+use Rattle.c_check_declarations.specs.Named.{name_of_param, stands_alone}
+use Rattle.c_rules.specs.Functions.{parameters_of, is_named, are_named, count_params, with_parameter, with_parameters}
+use Rattle.c_rules.specs.Scopes.{Env}
+use Rattle.c_rules.specs.Variables.{first_numbers}
+use Rattle.c_syntax.specs.declared.tree.Declarator.{Declarator as DeclaratorTree}
+use Rattle.c_syntax.specs.declared.tree.DeclaratorKind.TheVariants.{Function}
+use Rattle.c_syntax.specs.declared.tree.Ident.{Ident as Named}
+use Rattle.c_syntax.specs.declared.tree.Param.{Param as ParamTree, Param', out-Param}
+use Rattle.c_syntax.specs.declared.tree.TypeName.{Param-declarator-None', Param-declarator-Some'}
+use Rattle.c_syntax.specs.Tree.{Ident, Declarator, nothing, named, pointer, array, function, Params, BlockItems}
+use Rattle.c_syntax.specs.View.{declarator_at, declarator_of}
+use Rattle.c_syntax.specs.Writes.{params_of, declarator_behind}
+use Rattle.c_tree.specs.declared.tree.CType.{CType as TypeTree}
+use Rattle.c_tree.specs.View.{ctype_of, types_of}
+
+-- ## Those of a declarator
+
+not_so : false ≡ true → ⊥
+not_so h = cc
+
+false_not_true : {A : Type 0} → false ≡ true → A
+false_not_true h = absurd (not_so h)
+
+alone : (at : ℕ) (e : Declarator) (ps : Params) → stands_alone e ≡ true → ps ≡ parameters_of (function at e ps)
+alone at nothing ps h = false_not_true h
+alone at (named here x) ps h = refl
+alone at (pointer here d) ps h = false_not_true h
+alone at (array here d size) ps h = false_not_true h
+alone at (function here d qs) ps h = false_not_true h
+
+pub own_parameters : (d : DeclaratorTree) (i : Option (Box DeclaratorTree Global)) (v : Vec ParamTree Global) (b : Bool) → d.kind ≡ Function i v → b ≡ stands_alone (declarator_behind i) → b ≡ true
+    → params_of v.items ≡ parameters_of (declarator_of d)
+own_parameters d i v b is told h =
+    alone d.at (declarator_behind i) (params_of v.items) (sym told ∙ h)
+    ∙ sym (ap (λ k. parameters_of (declarator_at d.at k)) is ∙ ap parameters_of (function_is d.at i v))
+
+-- ## Names
+
+named_more : (p : ParamTree) (ps : List ParamTree) → are_named (params_of (p ∷ ps)) ≡ (is_named (name_of_param p) && are_named (params_of ps))
+unfolding out-Param denote.Hole.Carrier.out
+named_more (Param' s Param-declarator-None' at) ps = refl
+named_more (Param' s (Param-declarator-Some' here kind) at) ps = refl
+
+named_there : (o : Option (Bor Named)) (n : Option Ident) (b : Bool) → ident_seen o ≡ n → is_some o ≡ not b → b ≡ false → is_named n ≡ true
+named_there None n b seen some h = false_not_true (some ∙ ap not h)
+named_there (Some x) n b seen some h = ap is_named (sym seen)
+
+all_but_one : {A : Type 0} (x : A) (xs : List A) → take (length (x ∷ xs) - 1) (drop 1 (x ∷ xs)) ≡ xs
+all_but_one x xs = take_all (length (x ∷ xs) - 1) xs (omega arith)
+
+pub named_rest : (ps : List ParamTree) (p : ParamTree) (o : Option (Bor Named)) (b r : Bool) → 1 ≤ length ps → p ≡ get_or ps 0 p → ident_seen o ≡ name_of_param p → is_some o ≡ not b → b ≡ false
+    → r ≡ are_named (params_of (take (length ps - 1) (drop 1 ps))) → r ≡ are_named (params_of ps)
+named_rest [] p o b r lt is seen some h rest = absurd (omega (arith, lt))
+named_rest (q ∷ qs) p o b r lt is seen some h rest =
+    rest
+    ∙ (ap (λ xs. are_named (params_of xs)) (all_but_one q qs)
+    ∙ (ap (λ t. t && are_named (params_of qs)) (sym (ap (λ y. is_named (name_of_param y)) (sym is) ∙ named_there o (name_of_param p) b seen some h)) ∙ sym (named_more q qs)))
+
+-- ## Numbers
+
+params_count : (ps : List ParamTree) → count_params (params_of ps) ≡ length ps
+params_count [] = refl
+params_count (Param' s held at ∷ ps) = ap suc (params_count ps)
+
+-- the numbers behind so many parameters
+pub numbers_as : {X : Type 0} (r : Result NextTree X) (n : ℕ) (ps : List ParamTree) (params : Params) (body : BlockItems) → n ≡ length ps → params_of ps ≡ params
+    → IfOk r (λ x. next_of x ≡ first_numbers n body) → IfOk r (λ x. next_of x ≡ first_numbers (count_params params) body)
+numbers_as (Ok x) n ps params body count seen h = h ∙ ap (λ k. first_numbers k body) (count ∙ (sym (params_count ps) ∙ ap count_params seen))
+numbers_as (Err e) n ps params body count seen h = h
+
+-- ## Scopes
+
+pub none_declared : (e : Env) (k : ℕ) (ps : List ParamTree) (ts : List TypeTree) → length ts < 1 → e ≡ with_parameters e k (params_of ps) (types_of ts)
+none_declared e k [] ts lt = refl
+none_declared e k (Param' s Param-declarator-None' at ∷ ps) [] lt = refl
+none_declared e k (Param' s (Param-declarator-Some' here kind) at ∷ ps) [] lt = refl
+none_declared e k ps (t ∷ ts) lt = absurd (omega (arith, lt))
+
+declared_more : (e : Env) (k : ℕ) (p : ParamTree) (ps : List ParamTree) (t : TypeTree) (ts : List TypeTree)
+    → with_parameters e k (params_of (p ∷ ps)) (types_of (t ∷ ts)) ≡ with_parameters (with_parameter e k (name_of_param p) (ctype_of t)) (suc k) (params_of ps) (types_of ts)
+unfolding out-Param denote.Hole.Carrier.out
+declared_more e k (Param' s Param-declarator-None' at) ps t ts = refl
+declared_more e k (Param' s (Param-declarator-Some' here kind) at) ps t ts = refl
+
+declared_step : (e e1 new : Env) (k next : ℕ) (ps : List ParamTree) (ts : List TypeTree) (p : ParamTree) (t : TypeTree) → 1 ≤ length ps → 1 ≤ length ts → p ≡ get_or ps 0 p → t ≡ get_or ts 0 t
+    → e1 ≡ with_parameter e k (name_of_param p) (ctype_of t) → next ≡ suc k
+    → new ≡ with_parameters e1 next (params_of (take (length ps - 1) (drop 1 ps))) (types_of (take (length ts - 1) (drop 1 ts))) → new ≡ with_parameters e k (params_of ps) (types_of ts)
+declared_step e e1 new k next [] ts p t lp lt is it first following rest = absurd (omega (arith, lp))
+declared_step e e1 new k next (q ∷ qs) [] p t lp lt is it first following rest = absurd (omega (arith, lt))
+declared_step e e1 new k next (q ∷ qs) (u ∷ us) p t lp lt is it first following rest =
+    rest
+    ∙ (ap (λ xs. with_parameters e1 next (params_of xs) (types_of (take (length (u ∷ us) - 1) (drop 1 (u ∷ us))))) (all_but_one q qs)
+    ∙ (ap (λ ys. with_parameters e1 next (params_of qs) (types_of ys)) (all_but_one u us)
+    ∙ (ap (λ d. with_parameters d next (params_of qs) (types_of us)) first
+    ∙ (ap (λ y. with_parameters (with_parameter e k (name_of_param y) (ctype_of t)) next (params_of qs) (types_of us)) is
+    ∙ (ap (λ y. with_parameters (with_parameter e k (name_of_param q) (ctype_of y)) next (params_of qs) (types_of us)) it
+    ∙ (ap (λ n. with_parameters (with_parameter e k (name_of_param q) (ctype_of u)) n (params_of qs) (types_of us)) following ∙ sym (declared_more e k q qs u us)))))))
+
+pub declared_all : {X : Type 0} (r : Result (Unit {0}) X) (e e1 new : Env) (k next : ℕ) (ps : List ParamTree) (ts : List TypeTree) (p : ParamTree) (t : TypeTree) → 1 ≤ length ps → 1 ≤ length ts → p ≡ get_or ps 0 p → t ≡ get_or ts 0 t
+    → e1 ≡ with_parameter e k (name_of_param p) (ctype_of t) → next ≡ suc k
+    → OnOk r (new ≡ with_parameters e1 next (params_of (take (length ps - 1) (drop 1 ps))) (types_of (take (length ts - 1) (drop 1 ts)))) → OnOk r (new ≡ with_parameters e k (params_of ps) (types_of ts))
+declared_all (Ok x) e e1 new k next ps ts p t lp lt is it first following rest = declared_step e e1 new k next ps ts p t lp lt is it first following rest
+declared_all (Err x) e e1 new k next ps ts p t lp lt is it first following rest = rest

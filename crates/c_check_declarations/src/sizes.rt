@@ -1,0 +1,111 @@
+ghost use Rattle.std.specs.Prelude.{◌≡◌, IfOk};
+ghost use Rattle.c_check_values.specs.Agreement.{AgreesWith};
+ghost use Rattle.c_check_declarations.specs.Texts.{text_seen};
+ghost use Rattle.c_rules.specs.Initialisers.{count_inits, text_of};
+ghost use Rattle.c_rules.specs.Objects.{sized_by_one, sized_by_init, sized_by, with_size};
+ghost use Rattle.c_syntax.specs.UnitView.{init_of, maybe_init_of};
+ghost use Rattle.c_syntax.specs.View.{expr_of};
+ghost use Rattle.c_syntax.specs.WritesUnit.{inits_of};
+ghost use Rattle.c_tree.specs.Tree.{array};
+ghost use Rattle.c_tree.specs.View.{ctype_of};
+
+use c_check_values::{C14, CheckError};
+use c_syntax::{Expr, ExprKind, Init, InitKind};
+use c_tree::{CType, IntType, copy_type};
+use dm_base::OutOfMemory;
+use std::alloc::Global;
+
+/// The bytes of a string, where the expression is one (C99 6.4.5).
+pub fn text_of(e: &Expr) -> Option<&[u8]>
+    ensures { text_seen result ≡ text_of (expr_of e.now) }
+{
+    match &e.kind {
+        ExprKind::Str(bytes) => Some(bytes.as_slice()),
+        _ => None,
+    }
+}
+
+// So many elements as a number of 32 bits.
+fn counted(count: usize) -> Result<u32, OutOfMemory>
+    ensures { IfOk result (λ n. n ≡ count) }
+{
+    match u32::try_from(count) {
+        Ok(n) => Ok(n),
+        Err(_) => Err(OutOfMemory),
+    }
+}
+
+// The same of the parts of a list of initialisers.
+#[tactic(auto, using(crate::proofs::ObjectLemmas::count_is))]
+fn count_inits(inits: &[Init]) -> Result<u32, OutOfMemory>
+    ensures { IfOk result (λ n. n ≡ count_inits (inits_of inits.now)) }
+{
+    counted(inits.len())
+}
+
+// An array of so many elements.
+fn array_with(alloc: Global, t: CType, size: u32) -> Result<CType, OutOfMemory>
+    ensures { IfOk result (λ u. ctype_of u ≡ array (ctype_of t) size) }
+{
+    Ok(CType::Array(Box::new(alloc, t)?, size))
+}
+
+// The array of char that a string fills, its zero among the elements (C99 6.7.8 paragraphs 14 and 22).
+fn sized_by_one(alloc: Global, at: u32, t: &CType, text: Option<&[u8]>) -> Result<CType, CheckError>
+    ensures { AgreesWith ctype_of result (sized_by_one at (ctype_of t.now) (text_seen text.entry)) }
+{
+    match t {
+        CType::Int(IntType::Char) => match text {
+            Some(bytes) => {
+                let length = counted(bytes.len())?;
+                let Some(size) = length.checked_add(1) else {
+                    return Err(CheckError::OutOfMemory);
+                };
+                Ok(CType::Array(Box::new(alloc, CType::Int(IntType::Char))?, size))
+            }
+            None => Err(CheckError::At(C14, at)),
+        },
+        _ => Err(CheckError::At(C14, at)),
+    }
+}
+
+// The array with elements of this type that an initialiser gives its size.
+fn sized_by_init(alloc: Global, t: CType, i: &Init) -> Result<CType, CheckError>
+    ensures { AgreesWith ctype_of result (sized_by_init (ctype_of t) (init_of i.now)) }
+{
+    match &i.kind {
+        InitKind::One(e) => sized_by_one(alloc, i.at, &t, text_of(e)),
+        InitKind::List(inits) => {
+            let size = count_inits(inits)?;
+            let whole = array_with(alloc, t, size)?;
+            Ok(whole)
+        }
+    }
+}
+
+// The same where the initialiser may be left out.
+fn sized_by(alloc: Global, name: u32, t: CType, m: &Option<Init>) -> Result<CType, CheckError>
+    ensures { AgreesWith ctype_of result (sized_by name (ctype_of t) (maybe_init_of m.now)) }
+{
+    match m {
+        Some(i) => sized_by_init(alloc, t, i),
+        None => Err(CheckError::At(C14, name)),
+    }
+}
+
+/// The type of an object; an array without a size has the size 0 until here, and that of its initialiser behind it (C99 6.7.8 paragraph 22).
+/// `OutOfMemory` comes too where that isn't below 2^32.
+pub fn with_size(alloc: Global, name: u32, m: &Option<Init>, t: CType) -> Result<CType, CheckError>
+    ensures { AgreesWith ctype_of result (with_size name (maybe_init_of m.now) (ctype_of t)) }
+{
+    match &t {
+        CType::Array(element, n) => {
+            if *n == 0 {
+                let element = copy_type(alloc, element)?;
+                return sized_by(alloc, name, element, m);
+            }
+            Ok(t)
+        }
+        _ => Ok(t),
+    }
+}

@@ -1,0 +1,7 @@
+pub mod DesignatorLemmas
+pub mod Exits
+pub mod Loops
+pub mod NodeLemmas
+pub mod Parameters
+pub mod Trees
+pub mod InitLemmas

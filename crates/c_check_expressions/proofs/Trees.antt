@@ -1,0 +1,139 @@
+-- What each form of an expression gives, by its parts in Rust.
+use Rattle.std.proofs.Common.{◌≡◌, ℕ, ℤ, ◌+◌, Bool, true, false, Option, List, Vec, Global, refl, ap, sym, ◌∙◌}
+use Rattle.std.specs.Prelude.{Box, if◌then◌else◌, nat_eq}
+use Rattle.c_lexer.specs.declared.punctuator.TheConstants.{AMPERSAND}
+use Rattle.c_syntax.specs.declared.tree.Declarator.{Declarator as DeclaratorTree}
+use Rattle.c_syntax.specs.declared.tree.Param.{Param as ParamTree}
+use Rattle.c_syntax.specs.declared.tree.DeclaratorKind.TheVariants as dk
+use Rattle.c_tree.specs.Tree.{CType}
+use Rattle.c_check_values.specs.declared.error.CheckError.{CheckError}
+use Rattle.c_check_values.specs.Agreement.{Names}
+use Rattle.c_check_values.proofs.Parts.{names_on, names_second}
+use Rattle.c_rules.specs.TypedExpression.{TypedExpression}
+use Rattle.c_rules.specs.Declarators.{pointer_to, array_of, function_of}
+use Rattle.c_syntax.specs.declared.tree.Expr.{Expr as ExprTree}
+use Rattle.c_syntax.specs.declared.tree.Ident.{Ident as Named}
+use Rattle.c_syntax.specs.declared.tree.TypeName.{TypeName as TypeTree, out-TypeName}
+use Rattle.c_syntax.specs.declared.tree.ExprKind.TheVariants as k
+use Rattle.c_syntax.specs.Tree.{post_increment, post_decrement, pre_increment, pre_decrement, sizeof, dot, arrow}
+use Rattle.c_syntax.specs.View.{expr_of, expr_at, type_name_of, ident_of, declarator_of, declarator_at}
+use Rattle.c_syntax.specs.Writes.{exprs_of, params_of, declarator_behind, expr_behind}
+use Rattle.c_check_counts.proofs.Rows.{type_name_is, comma_is, call_is, pointer_is, array_is, function_is}
+use Rattle.c_rules.specs.Checked.{Checked, fine, faulty, faults, on, both, all_three, gives}
+use Rattle.c_rules.specs.Conversions.{valued}
+use Rattle.c_rules.specs.Counts.{place_of, calls, after, after_designator}
+use Rattle.c_rules.specs.Scopes.{Env, Before, nothing_before, in_context, inside, sized}
+use Rattle.c_rules.specs.Declarators.{is_void_pointer, place_of_type}
+use Rattle.c_rules.specs.PrimaryExpressions.{typed_int, integer_expression, named_expression, string_expression}
+use Rattle.c_rules.specs.PostfixExpressions.{site_of, called}
+use Rattle.c_rules.specs.UnaryExpressions.{size_of_type, indirection, address, unary_of_value, null_cast, cast_of}
+use Rattle.c_rules.specs.BinaryExpressions.{operator_of_code, sum, operation, conjunction, disjunction, choice}
+use Rattle.c_rules.specs.Assignments.{assignment_by, comma_of}
+use Rattle.c_rules.specs.Expressions.{tree, trees, value, value_at, place_at, declared, size_in, parameters, type_named, access, after_operand, before_operand, unary_rule, cast_rule, callee}
+use Rattle.c_check_expressions.proofs.NodeLemmas.{place_is}
+
+pub tree-Name : (env : Env) (b : Before) (e : ExprTree) (n : List ℕ) → e.kind ≡ k.Name n → tree env b (expr_of e) ≡ named_expression env e.at n
+tree-Name env b e n is = ap (λ kind. tree env b (expr_at e.at kind)) is
+
+pub tree-Int : (env : Env) (b : Before) (e : ExprTree) (v : ℕ) (u : Bool) → e.kind ≡ k.Int v u → tree env b (expr_of e) ≡ fine (integer_expression v u)
+tree-Int env b e v u is = ap (λ kind. tree env b (expr_at e.at kind)) is
+
+pub tree-Char : (env : Env) (b : Before) (e : ExprTree) (c : ℤ) → e.kind ≡ k.Char c → tree env b (expr_of e) ≡ fine (typed_int c)
+tree-Char env b e c is = ap (λ kind. tree env b (expr_at e.at kind)) is
+
+pub tree-Member : (env : Env) (b : Before) (e : ExprTree) (a : Box ExprTree Global) (n : Named) (x : ExprTree) → e.kind ≡ k.Member a n → x ≡ a.value → tree env b (expr_of e) ≡ access env e.at (place_of (expr_of x)) dot (ident_of n).name (tree env b (expr_of x))
+tree-Member env b e a n x is p = ap (λ kind. tree env b (expr_at e.at kind)) is ∙ (λ i. access env e.at (place_of (expr_of (sym p i))) dot (ident_of n).name (tree env b (expr_of (sym p i))))
+
+pub tree-Arrow : (env : Env) (b : Before) (e : ExprTree) (a : Box ExprTree Global) (n : Named) (x : ExprTree) → e.kind ≡ k.Arrow a n → x ≡ a.value → tree env b (expr_of e) ≡ access env e.at (place_of (expr_of x)) arrow (ident_of n).name (tree env b (expr_of x))
+tree-Arrow env b e a n x is p = ap (λ kind. tree env b (expr_at e.at kind)) is ∙ (λ i. access env e.at (place_of (expr_of (sym p i))) arrow (ident_of n).name (tree env b (expr_of (sym p i))))
+
+pub tree-PostInc : (env : Env) (b : Before) (e : ExprTree) (a : Box ExprTree Global) (x : ExprTree) → e.kind ≡ k.PostInc a → x ≡ a.value → tree env b (expr_of e) ≡ after_operand env e.at (place_of (expr_of x)) post_increment (tree env b (expr_of x))
+tree-PostInc env b e a x is p = ap (λ kind. tree env b (expr_at e.at kind)) is ∙ (λ i. after_operand env e.at (place_of (expr_of (sym p i))) post_increment (tree env b (expr_of (sym p i))))
+
+pub tree-PostDec : (env : Env) (b : Before) (e : ExprTree) (a : Box ExprTree Global) (x : ExprTree) → e.kind ≡ k.PostDec a → x ≡ a.value → tree env b (expr_of e) ≡ after_operand env e.at (place_of (expr_of x)) post_decrement (tree env b (expr_of x))
+tree-PostDec env b e a x is p = ap (λ kind. tree env b (expr_at e.at kind)) is ∙ (λ i. after_operand env e.at (place_of (expr_of (sym p i))) post_decrement (tree env b (expr_of (sym p i))))
+
+pub tree-PreInc : (env : Env) (b : Before) (e : ExprTree) (a : Box ExprTree Global) (x : ExprTree) → e.kind ≡ k.PreInc a → x ≡ a.value → tree env b (expr_of e) ≡ before_operand env e.at (place_of (expr_of x)) pre_increment (tree env b (expr_of x)) (tree (in_context env sized) nothing_before (expr_of x))
+tree-PreInc env b e a x is p = ap (λ kind. tree env b (expr_at e.at kind)) is ∙ (λ i. before_operand env e.at (place_of (expr_of (sym p i))) pre_increment (tree env b (expr_of (sym p i))) (tree (in_context env sized) nothing_before (expr_of (sym p i))))
+
+pub tree-PreDec : (env : Env) (b : Before) (e : ExprTree) (a : Box ExprTree Global) (x : ExprTree) → e.kind ≡ k.PreDec a → x ≡ a.value → tree env b (expr_of e) ≡ before_operand env e.at (place_of (expr_of x)) pre_decrement (tree env b (expr_of x)) (tree (in_context env sized) nothing_before (expr_of x))
+tree-PreDec env b e a x is p = ap (λ kind. tree env b (expr_at e.at kind)) is ∙ (λ i. before_operand env e.at (place_of (expr_of (sym p i))) pre_decrement (tree env b (expr_of (sym p i))) (tree (in_context env sized) nothing_before (expr_of (sym p i))))
+
+pub tree-SizeofExpr : (env : Env) (b : Before) (e : ExprTree) (a : Box ExprTree Global) (x : ExprTree) → e.kind ≡ k.SizeofExpr a → x ≡ a.value → tree env b (expr_of e) ≡ before_operand env e.at (place_of (expr_of x)) sizeof (tree env b (expr_of x)) (tree (in_context env sized) nothing_before (expr_of x))
+tree-SizeofExpr env b e a x is p = ap (λ kind. tree env b (expr_at e.at kind)) is ∙ (λ i. before_operand env e.at (place_of (expr_of (sym p i))) sizeof (tree env b (expr_of (sym p i))) (tree (in_context env sized) nothing_before (expr_of (sym p i))))
+
+pub tree-Unary : (env : Env) (b : Before) (e : ExprTree) (op : ℕ) (a : Box ExprTree Global) (x : ExprTree) → e.kind ≡ k.Unary op a → x ≡ a.value → tree env b (expr_of e) ≡ unary_rule env e.at (place_of (expr_of x)) op (tree env b (expr_of x))
+tree-Unary env b e op a x is p = ap (λ kind. tree env b (expr_at e.at kind)) is ∙ (λ i. unary_rule env e.at (place_of (expr_of (sym p i))) op (tree env b (expr_of (sym p i))))
+
+pub tree-Cast : (env : Env) (b : Before) (e : ExprTree) (t : TypeTree) (a : Box ExprTree Global) (x : ExprTree) → e.kind ≡ k.Cast t a → x ≡ a.value → tree env b (expr_of e) ≡ cast_rule (is_void_pointer (type_name_of t)) e.at (type_named env (type_name_of t)) (value env b (expr_of x))
+tree-Cast env b e t a x is p = ap (λ kind. tree env b (expr_at e.at kind)) is ∙ (λ i. cast_rule (is_void_pointer (type_name_of t)) e.at (type_named env (type_name_of t)) (value env b (expr_of (sym p i))))
+
+pub tree-Index : (env : Env) (b : Before) (e : ExprTree) (l : Box ExprTree Global) (r : Box ExprTree Global) (x : ExprTree) (y : ExprTree) → e.kind ≡ k.Index l r → x ≡ l.value → y ≡ r.value → tree env b (expr_of e) ≡ on (both (value env b (expr_of x)) (value env (after b (expr_of x)) (expr_of y)) (sum env e.at)) (indirection e.at)
+tree-Index env b e l r x y is p q = ap (λ kind. tree env b (expr_at e.at kind)) is ∙ (λ i. on (both (value env b (expr_of (sym p i))) (value env (after b (expr_of (sym p i))) (expr_of (sym q i))) (sum env e.at)) (indirection e.at))
+
+pub tree-And : (env : Env) (b : Before) (e : ExprTree) (l : Box ExprTree Global) (r : Box ExprTree Global) (x : ExprTree) (y : ExprTree) → e.kind ≡ k.And l r → x ≡ l.value → y ≡ r.value → tree env b (expr_of e) ≡ both (value env b (expr_of x)) (value env (after b (expr_of x)) (expr_of y)) (conjunction e.at)
+tree-And env b e l r x y is p q = ap (λ kind. tree env b (expr_at e.at kind)) is ∙ (λ i. both (value env b (expr_of (sym p i))) (value env (after b (expr_of (sym p i))) (expr_of (sym q i))) (conjunction e.at))
+
+pub tree-Or : (env : Env) (b : Before) (e : ExprTree) (l : Box ExprTree Global) (r : Box ExprTree Global) (x : ExprTree) (y : ExprTree) → e.kind ≡ k.Or l r → x ≡ l.value → y ≡ r.value → tree env b (expr_of e) ≡ both (value env b (expr_of x)) (value env (after b (expr_of x)) (expr_of y)) (disjunction e.at)
+tree-Or env b e l r x y is p q = ap (λ kind. tree env b (expr_at e.at kind)) is ∙ (λ i. both (value env b (expr_of (sym p i))) (value env (after b (expr_of (sym p i))) (expr_of (sym q i))) (disjunction e.at))
+
+pub tree-Binary : (env : Env) (b : Before) (e : ExprTree) (op : ℕ) (l : Box ExprTree Global) (r : Box ExprTree Global) (x : ExprTree) (y : ExprTree) → e.kind ≡ k.Binary op l r → x ≡ l.value → y ≡ r.value → tree env b (expr_of e) ≡ both (value env b (expr_of x)) (value env (after b (expr_of x)) (expr_of y)) (operation env e.at (operator_of_code op))
+tree-Binary env b e op l r x y is p q = ap (λ kind. tree env b (expr_at e.at kind)) is ∙ (λ i. both (value env b (expr_of (sym p i))) (value env (after b (expr_of (sym p i))) (expr_of (sym q i))) (operation env e.at (operator_of_code op)))
+
+pub tree-Assign : (env : Env) (b : Before) (e : ExprTree) (op : ℕ) (l : Box ExprTree Global) (r : Box ExprTree Global) (x : ExprTree) (y : ExprTree) → e.kind ≡ k.Assign op l r → x ≡ l.value → y ≡ r.value → tree env b (expr_of e) ≡ both (place_at (place_of (expr_of x)) (tree env b (expr_of x))) (value env (after b (expr_of x)) (expr_of y)) (assignment_by env e.at op)
+tree-Assign env b e op l r x y is p q = ap (λ kind. tree env b (expr_at e.at kind)) is ∙ (λ i. both (place_at (place_of (expr_of (sym p i))) (tree env b (expr_of (sym p i)))) (value env (after b (expr_of (sym p i))) (expr_of (sym q i))) (assignment_by env e.at op))
+
+pub tree-Cond : (env : Env) (b : Before) (e : ExprTree) (c : Box ExprTree Global) (l : Box ExprTree Global) (r : Box ExprTree Global) (x : ExprTree) (y : ExprTree) (z : ExprTree) → e.kind ≡ k.Cond c l r → x ≡ c.value → y ≡ l.value → z ≡ r.value → tree env b (expr_of e) ≡ all_three (value env b (expr_of x)) (value env (after b (expr_of x)) (expr_of y)) (value env (after (after b (expr_of x)) (expr_of y)) (expr_of z)) (choice e.at)
+tree-Cond env b e c l r x y z is p q s = ap (λ kind. tree env b (expr_at e.at kind)) is ∙ (λ i. all_three (value env b (expr_of (sym p i))) (value env (after b (expr_of (sym p i))) (expr_of (sym q i))) (value env (after (after b (expr_of (sym p i))) (expr_of (sym q i))) (expr_of (sym s i))) (choice e.at))
+
+pub tree-SizeofType : (env : Env) (b : Before) (e : ExprTree) (t : TypeTree) → e.kind ≡ k.SizeofType t → tree env b (expr_of e) ≡ on (type_named env (type_name_of t)) (size_of_type env e.at (place_of_type (type_name_of t)))
+tree-SizeofType env b e t is = ap (λ kind. tree env b (expr_at e.at kind)) is
+
+pub tree-Str : (env : Env) (b : Before) (e : ExprTree) (w : List ℕ) → e.kind ≡ k.Str w → tree env b (expr_of e) ≡ string_expression env b e.at w
+tree-Str env b e w is = ap (λ kind. tree env b (expr_at e.at kind)) is
+
+pub tree-Comma : (env : Env) (b : Before) (e : ExprTree) (v : Vec ExprTree Global) (es : List ExprTree) → e.kind ≡ k.Comma v → es ≡ v.items → tree env b (expr_of e) ≡ gives (trees env b (exprs_of es)) comma_of
+tree-Comma env b e v es is p = ap (λ kind. tree env b (expr_at e.at kind)) is ∙ (ap (tree env b) (comma_is e.at v) ∙ (λ i. gives (trees env b (exprs_of (sym p i))) comma_of))
+
+pub tree-Call : (env : Env) (b : Before) (e : ExprTree) (d : Box ExprTree Global) (v : Vec ExprTree Global) (x : ExprTree) (es : List ExprTree) → e.kind ≡ k.Call d v → x ≡ d.value → es ≡ v.items → tree env b (expr_of e) ≡ all_three (callee env e.at (expr_of x) (value env b (expr_of x))) (site_of env (b.sites + calls (expr_of x)) e.at) (trees env (after_designator b (expr_of x)) (exprs_of es)) (called e.at)
+tree-Call env b e d v x es is p q = ap (λ kind. tree env b (expr_at e.at kind)) is ∙ (ap (tree env b) (call_is e.at d v) ∙ (λ i. all_three (callee env e.at (expr_of (sym p i)) (value env b (expr_of (sym p i)))) (site_of env (b.sites + calls (expr_of (sym p i))) e.at) (trees env (after_designator b (expr_of (sym p i))) (exprs_of (sym q i))) (called e.at)))
+
+-- ## Declarators
+
+pub declared-Name : (env : Env) (d : DeclaratorTree) (t : CType) (x : Named) → d.kind ≡ dk.Name x → declared env (declarator_of d) t ≡ fine t
+declared-Name env d t x is = ap (λ kind. declared env (declarator_at d.at kind) t) is
+
+pub declared-Pointer : (env : Env) (d : DeclaratorTree) (t : CType) (i : Option (Box DeclaratorTree Global)) → d.kind ≡ dk.Pointer i → declared env (declarator_of d) t ≡ on (pointer_to d.at t) (λ u. declared env (declarator_behind i) u)
+declared-Pointer env d t i is = ap (λ kind. declared env (declarator_at d.at kind) t) is ∙ ap (λ x. declared env x t) (pointer_is d.at i)
+
+pub declared-Array : (env : Env) (d : DeclaratorTree) (t : CType) (i : Option (Box DeclaratorTree Global)) (size : Option (Box ExprTree Global)) → d.kind ≡ dk.Array i size → declared env (declarator_of d) t ≡ on (on (size_in env (expr_behind size)) (array_of env d.at t)) (λ u. declared env (declarator_behind i) u)
+declared-Array env d t i size is = ap (λ kind. declared env (declarator_at d.at kind) t) is ∙ ap (λ x. declared env x t) (array_is d.at i size)
+
+pub declared-Function : (env : Env) (d : DeclaratorTree) (t : CType) (i : Option (Box DeclaratorTree Global)) (v : Vec ParamTree Global) (ps : List ParamTree) → d.kind ≡ dk.Function i v → ps ≡ v.items → declared env (declarator_of d) t ≡ on (on (parameters (inside env) 0 (params_of ps)) (function_of d.at t)) (λ u. declared env (declarator_behind i) u)
+declared-Function env d t i v ps is p =
+    ap (λ kind. declared env (declarator_at d.at kind) t) is
+    ∙ (ap (λ x. declared env x t) (function_is d.at i v) ∙ (λ j. on (on (parameters (inside env) 0 (params_of (sym p j))) (function_of d.at t)) (λ u. declared env (declarator_behind i) u)))
+
+-- ## Choices of the rules
+
+-- a rule for a unary operator, where its operand is fine
+unary_chosen : (env : Env) (at place op : ℕ) (chosen : Bool) (r : Checked TypedExpression) → (if chosen then on r (address at place) else on (value_at env place r) (unary_of_value at op)) ≡ on r (λ g. if chosen then address at place g else on (valued env place g) (unary_of_value at op))
+unary_chosen env at place op true (fine g) = refl
+unary_chosen env at place op true (faulty f fs) = refl
+unary_chosen env at place op false (fine g) = refl
+unary_chosen env at place op false (faulty f fs) = refl
+
+pub unary_is : (env : Env) (at place op : ℕ) (r : Checked TypedExpression) → unary_rule env at place op r ≡ on r (λ g. unary_rule env at place op (fine g))
+unary_is env at place op r = unary_chosen env at place op (nat_eq op AMPERSAND) r
+
+-- the place of an expression in a box
+pub box_place : (a : Box ExprTree Global) (x y : ExprTree) → x ≡ a.value → y ≡ a.value → y.at ≡ place_of (expr_of x)
+box_place a x y p q = ap (λ (z : ExprTree). z.at) (q ∙ sym p) ∙ sym (place_is x.at x.kind)
+
+-- an error of the operand of a cast is one of the cast
+pub operand_fails : (e : CheckError) (void_pointer : Bool) (at : ℕ) (t : Checked CType) (r : Checked TypedExpression) → Names e (faults r) → Names e (faults (cast_rule void_pointer at t r))
+operand_fails e true at t r h = names_on e r (null_cast at) h
+operand_fails e false at t r h = names_second e t r (cast_of at) h
+
+pub type_place : (n : TypeTree) → place_of_type (type_name_of n) ≡ (out-TypeName n).at
+type_place n = ap place_of_type (type_name_is n)

@@ -1,0 +1,208 @@
+ghost use Rattle.std.specs.Prelude.{◌≡◌, IfOk};
+ghost use Rattle.c_check_values.specs.Agreement.{AgreesWith};
+ghost use Rattle.c_check_values.specs.View.{typed_expression_of};
+ghost use Rattle.c_rules.specs.Names.{number_among, given_names};
+ghost use Rattle.c_rules.specs.PrimaryExpressions.{given_number, used, object_number, function_number, function_value_number, static_given, local_given, typed_function, typed_int, meant, named_expression, integer_expression};
+ghost use Rattle.c_check_scopes.specs.Bound.{meaning_of};
+ghost use Rattle.c_check_scopes.specs.View.{context_of, env_of};
+ghost use Rattle.c_tree.specs.View.{ctype_of};
+
+use c_check_scopes::{Context, Environment, Meaning, given_number, is_null_call};
+use c_check_values::{
+    C1, C10, C12, CheckError, Constant, Form, TypedExpression, address_of_static, typed_unsigned,
+};
+use c_tree::{CType, IntType, TExpr, TExprKind, Value, copy_type};
+use dm_base::OutOfMemory;
+use std::alloc::Global;
+
+// What is used is defined (C99 6.9 paragraph 5); an operand that isn't evaluated has a number that nobody reads.
+pub fn used(context: Context, at: u32, number: Option<u32>) -> Result<u32, CheckError>
+    ensures { AgreesWith (λ n. n) result (used (context_of context) at number) }
+{
+    match number {
+        Some(n) => Ok(n),
+        None => match context {
+            Context::Evaluated => Err(CheckError::At(C10, at)),
+            Context::Sized => Ok(0),
+            Context::Folded => Ok(0),
+        },
+    }
+}
+
+// The number of a function that has no definition. `OutOfMemory` comes too where it isn't below 2^32.
+fn number_of_given(env: &Environment<'_>, name: &[u8]) -> Result<Option<u32>, OutOfMemory>
+    ensures { IfOk result (λ r. r ≡ given_number (env_of env.now) (number_among (given_names env.now.mode) name.now)) }
+{
+    match given_number(env.mode, name) {
+        None => Ok(None),
+        Some(i) => {
+            let count = env.defined_functions.len();
+            let Some(number) = count.checked_add(i as usize) else {
+                return Err(OutOfMemory);
+            };
+            match u32::try_from(number) {
+                Ok(n) => Ok(Some(n)),
+                Err(_) => Err(OutOfMemory),
+            }
+        }
+    }
+}
+
+// Functions are numbered in the order of their definitions; after them stand the system calls and the two null calls.
+pub fn function_number(env: &Environment<'_>, name: &[u8]) -> Result<Option<u32>, OutOfMemory>
+    ensures { IfOk result (λ r. r ≡ function_number (env_of env.now) name.now) }
+{
+    match env.defined_functions.number(name) {
+        Some(n) => Ok(Some(n)),
+        None => number_of_given(env, name),
+    }
+}
+
+// A function whose name isn't the designator of a call: it is no null call.
+fn function_value_number(env: &Environment<'_>, at: u32, name: &[u8]) -> Result<u32, CheckError>
+    ensures { AgreesWith (λ n. n) result (function_value_number (env_of env.now) at name.now) }
+{
+    if is_null_call(name) {
+        return Err(CheckError::At(C12, at));
+    }
+    let number = function_number(env, name)?;
+    used(env.context, at, number)
+}
+
+// A static object. `OutOfMemory` comes too where its cells aren't fewer than 2^32.
+fn static_given(
+    alloc: Global,
+    env: &Environment<'_>,
+    seen: &CType,
+    whole: &CType,
+    number: u32,
+) -> Result<TypedExpression, OutOfMemory>
+    ensures { IfOk result (λ g. typed_expression_of g ≡ static_given (env_of env.now) (ctype_of seen.now) (ctype_of whole.now) number) }
+{
+    let Some(cells) = env.cells(whole) else {
+        return Err(OutOfMemory);
+    };
+    let ctype = copy_type(alloc, seen)?;
+    let whole = copy_type(alloc, whole)?;
+    Ok(TypedExpression {
+        ctype,
+        form: Form::Place(TExpr {
+            ctype: whole,
+            kind: TExprKind::Variable {
+                is_static: true,
+                number,
+            },
+        }),
+        constant: Constant::Known(address_of_static(number, cells)),
+    })
+}
+
+// A variable of the function.
+fn local_given(
+    alloc: Global,
+    seen: &CType,
+    whole: &CType,
+    number: u32,
+) -> Result<TypedExpression, OutOfMemory>
+    ensures { IfOk result (λ g. typed_expression_of g ≡ local_given (ctype_of seen.now) (ctype_of whole.now) number) }
+{
+    let ctype = copy_type(alloc, seen)?;
+    let whole = copy_type(alloc, whole)?;
+    Ok(TypedExpression {
+        ctype,
+        form: Form::Place(TExpr {
+            ctype: whole,
+            kind: TExprKind::Variable {
+                is_static: false,
+                number,
+            },
+        }),
+        constant: Constant::Not,
+    })
+}
+
+// A function.
+fn typed_function(alloc: Global, t: &CType, f: u32) -> Result<TypedExpression, OutOfMemory>
+    ensures { IfOk result (λ g. typed_expression_of g ≡ typed_function (ctype_of t.now) f) }
+{
+    let ctype = copy_type(alloc, t)?;
+    let copied = copy_type(alloc, t)?;
+    Ok(TypedExpression {
+        ctype,
+        form: Form::Place(TExpr {
+            ctype: copied,
+            kind: TExprKind::Function(f),
+        }),
+        constant: Constant::Known(Value::Func(f)),
+    })
+}
+
+/// An int.
+pub fn typed_int(z: i32) -> TypedExpression
+    ensures { typed_expression_of result ≡ typed_int z }
+{
+    TypedExpression {
+        ctype: CType::Int(IntType::Int),
+        form: Form::Value(TExpr {
+            ctype: CType::Int(IntType::Int),
+            kind: TExprKind::Const(Value::Int(z)),
+        }),
+        constant: Constant::Known(Value::Int(z)),
+    }
+}
+
+// A name by its meaning (C99 6.5.1 paragraph 2).
+fn meant(
+    alloc: Global,
+    env: &Environment<'_>,
+    at: u32,
+    name: &[u8],
+    means: &Meaning,
+) -> Result<TypedExpression, CheckError>
+    ensures { AgreesWith typed_expression_of result (meant (env_of env.now) at name.now (meaning_of means.now)) }
+{
+    match means {
+        Meaning::Static { seen, whole, .. } => {
+            let number = used(env.context, at, env.objects.number(name))?;
+            Ok(static_given(alloc, env, seen, whole, number)?)
+        }
+        Meaning::Local {
+            number,
+            seen,
+            whole,
+        } => Ok(local_given(alloc, seen, whole, *number)?),
+        Meaning::Function { ctype, .. } => {
+            let number = function_value_number(env, at, name)?;
+            Ok(typed_function(alloc, ctype, number)?)
+        }
+        Meaning::Enumerator(z) => Ok(typed_int(*z)),
+    }
+}
+
+/// A name (C99 6.5.1 paragraph 2).
+pub fn named_expression(
+    alloc: Global,
+    env: &Environment<'_>,
+    at: u32,
+    name: &[u8],
+) -> Result<TypedExpression, CheckError>
+    ensures { AgreesWith typed_expression_of result (named_expression (env_of env.now) at name.now) }
+{
+    match env.names.find(name) {
+        Some(entry) => meant(alloc, env, at, name, &entry.means),
+        None => Err(CheckError::At(C1, at)),
+    }
+}
+
+/// An integer constant (C99 6.4.4.1). `OutOfMemory` comes where the value of an int is above 2^31 − 1.
+pub fn integer_expression(n: u32, unsigned: bool) -> Result<TypedExpression, OutOfMemory>
+    ensures { IfOk result (λ g. typed_expression_of g ≡ integer_expression n unsigned) }
+{
+    if unsigned {
+        return Ok(typed_unsigned(n));
+    }
+    match i32::try_from(n) {
+        Ok(z) => Ok(typed_int(z)),
+        Err(_) => Err(OutOfMemory),
+    }
+}

@@ -1,0 +1,9 @@
+pub mod CountLemmas
+pub mod TypeLemmas
+pub mod ClosedLemmas
+pub mod MeasuredLemmas
+pub mod LaidLemmas
+pub mod TableLemmas
+pub mod IndexLemmas
+pub mod NumberLemmas
+pub mod SeenLemmas

@@ -1,0 +1,70 @@
+-- The structs of an environment as the layout of objects has them.
+use Rattle.std.proofs.Common.{◌≡◌, ℕ, suc, Bool, true, false, ◌||◌, cond, List, [], ◌∷◌, ◌++◌, length, map, Option, Some, None, slice_get, refl, ap, sym, ◌∙◌, Bor}
+use Rattle.std.specs.Prelude.{option_map, unwrap_or, is_some, IfSome, bytes_eq, reverse}
+use Rattle.std.proofs.lemmas.List.{reverse-append}
+use Rattle.std.proofs.lemmas.Option.{slice_get-map}
+use Rattle.c_tree.specs.Layout.{Structs}
+use Rattle.c_check_scopes.specs.declared.structs.StructMember.{StructMember}
+use Rattle.c_check_scopes.specs.Shown.{defined_in}
+use Rattle.c_rules.specs.Names.{Name, number_among, is_among}
+use Rattle.c_check_scopes.proofs.NumberLemmas.{or_new, number_pushed}
+use Rattle.c_check_scopes.specs.Known.{Known, layout_of, type_of}
+use Rattle.c_rules.specs.Scopes.{incomplete, types_of_struct, type_of_member}
+use Rattle.c_check_scopes.specs.View.{member_of, struct_known, structs_of, struct_in}
+
+types_seen : (ks : List Known) → map type_of_member (map member_of ks) ≡ map type_of ks
+types_seen [] = refl
+types_seen (k ∷ ks) = ap (λ ts. type_of k ∷ ts) (types_seen ks)
+
+struct_seen : (o : Option (List Known)) → types_of_struct (struct_known o) ≡ option_map (map type_of) o
+struct_seen None = refl
+struct_seen (Some ks) = ap Some (types_seen ks)
+
+pub layout_seen : (v : List (Option (List Known))) → map types_of_struct (structs_of v) ≡ layout_of v
+layout_seen [] = refl
+layout_seen (o ∷ v) = ap (λ x. x ∷ map types_of_struct (structs_of v)) (struct_seen o) ∙ ap (λ ys. option_map (map type_of) o ∷ ys) (layout_seen v)
+
+known_or : (o : Option (Option (List Known))) → unwrap_or (option_map struct_known o) incomplete ≡ struct_known (unwrap_or o None)
+known_or None = refl
+known_or (Some o) = refl
+
+-- a struct by its number
+pub struct_at : (v : List (Option (List Known))) (s : ℕ) → unwrap_or (slice_get (structs_of v) s) incomplete ≡ struct_known (unwrap_or (slice_get v s) None)
+struct_at v s = ap (λ o. unwrap_or o incomplete) (slice_get-map struct_known v s) ∙ known_or (slice_get v s)
+
+-- what a table of structs tells of an environment
+pub told_of : (F : Structs → ℕ) (v : List (Option (List Known))) (r : Option ℕ) → IfSome r (λ n. n ≡ F (layout_of v)) → IfSome r (λ n. n ≡ F (map types_of_struct (structs_of v)))
+told_of F v None h = tt
+told_of F v (Some n) h = h ∙ ap F (sym (layout_seen v))
+
+pub struct_told : (v : List (Option (List Known))) (s : ℕ) (r : Option (Bor (List StructMember))) → defined_in r ≡ unwrap_or (slice_get v s) None → unwrap_or (slice_get (structs_of v) s) incomplete ≡ struct_in r
+struct_told v s r h = struct_at v s ∙ ap struct_known (sym h)
+
+-- a name among names the other way round
+new_or : (o : Option ℕ) (t : Bool) (n : ℕ) → is_some (or_new o t n) ≡ (is_some o || t)
+new_or None true n = refl
+new_or None false n = refl
+new_or (Some i) t n = refl
+
+among_pushed : (ys : List Name) (y x : Name) → is_among (ys ++ y ∷ []) x ≡ (is_among ys x || bytes_eq y x)
+among_pushed ys y x = ap is_some (number_pushed ys y x) ∙ new_or (number_among ys x) (bytes_eq y x) (length ys)
+
+among_head : (t : Bool) (o : Option ℕ) → is_some (cond t (Some 0) (option_map suc o)) ≡ (t || is_some o)
+among_head true o = refl
+among_head false None = refl
+among_head false (Some i) = refl
+
+or_swapped : (a b : Bool) → (a || b) ≡ (b || a)
+or_swapped true true = refl
+or_swapped true false = refl
+or_swapped false true = refl
+or_swapped false false = refl
+
+reverse_cons : (y : Name) (ys : List Name) → reverse (y ∷ ys) ≡ reverse ys ++ y ∷ []
+reverse_cons y ys = reverse-append (y ∷ []) ys
+
+pub among_reverse : (ys : List Name) (x : Name) → is_among (reverse ys) x ≡ is_among ys x
+among_reverse [] x = refl
+among_reverse (y ∷ ys) x =
+    ap (λ zs. is_among zs x) (reverse_cons y ys)
+    ∙ (among_pushed (reverse ys) y x ∙ (ap (λ t. t || bytes_eq y x) (among_reverse ys x) ∙ (or_swapped (is_among ys x) (bytes_eq y x) ∙ sym (among_head (bytes_eq y x) (number_among ys x)))))

@@ -1,0 +1,11 @@
+pub mod Bound
+pub mod Extents
+pub mod Front
+pub mod Index
+pub mod Known
+pub mod Laid
+pub mod Measured
+pub mod Numbers
+pub mod Prototypes
+pub mod Shown
+pub mod View

@@ -1,0 +1,126 @@
+ghost use Rattle.std.specs.Prelude.{◌≡◌, IfSome, is_some};
+ghost use Rattle.c_check_scopes.specs.Shown.{members_types};
+ghost use Rattle.c_rules.specs.Names.{is_among};
+ghost use Rattle.c_rules.specs.Scopes.{declared_here, layout_of, struct_of, tag_number};
+ghost use Rattle.c_check_scopes.specs.View.{env_of, struct_in};
+ghost use Rattle.c_tree.specs.Layout.{cells, cells_of_all, first_cell, sizeof};
+ghost use Rattle.c_tree.specs.View.{ctype_of};
+
+use crate::numbering::Numbering;
+use crate::scopes::Scopes;
+use crate::structs::{StructMember, StructTable};
+use c_tree::CType;
+use dm_base::Mode;
+
+/// Whether what stands here is evaluated when the program runs.
+#[derive(Clone, Copy, Debug, PartialEq, Eq)]
+pub enum Context {
+    /// It is.
+    Evaluated,
+    /// It stands in the operand of `sizeof` (C99 6.5.3.4 paragraph 2).
+    Sized,
+    /// It stands in an array size, a case value or the value of an enumerator (C99 6.6).
+    Folded,
+}
+
+/// What is known where a part of a unit stands.
+#[derive(Drop)]
+pub struct Environment<'t> {
+    /// The mode in which the unit is read.
+    pub mode: Mode,
+    /// The names of the functions that the unit defines, in order.
+    pub defined_functions: Numbering<'t>,
+    /// The names of the static objects that the unit defines, in order.
+    pub objects: Numbering<'t>,
+    /// The tags of structs of the whole unit, in the order of their numbers.
+    pub struct_tags: Numbering<'t>,
+    /// The ordinary names.
+    pub names: Scopes<'t>,
+    /// How many blocks enclose the part.
+    pub depth: u32,
+    /// The structs by their numbers.
+    pub structs: StructTable<'t>,
+    /// The tags of enums that stand before.
+    pub enums: Numbering<'t>,
+    /// The functions that earlier items declare, each once.
+    pub functions: Numbering<'t>,
+    /// The tags of structs in earlier items, the last one first.
+    pub tags: Numbering<'t>,
+    /// Whether the part is evaluated.
+    pub context: Context,
+}
+
+/// What stands before a part of a unit.
+#[derive(Drop)]
+pub struct Before<'t> {
+    /// So many calls that are evaluated.
+    pub sites: u32,
+    /// The strings that the typed program holds.
+    pub strings: Vec<&'t [u8]>,
+    /// So many cells of static objects and of such strings.
+    pub cells: u32,
+}
+
+impl<'t> Environment<'t> {
+    /// The members of a struct, where its definition stands before.
+    pub fn members(&self, s: u32) -> Option<&[StructMember<'t>]>
+        ensures { struct_of (env_of self.now) s ≡ struct_in result }
+    {
+        self.structs.members(s)
+    }
+
+    /// How many cells an object of the type has, where these are fewer than 2^32.
+    pub fn cells(&self, t: &CType) -> Option<u32>
+        ensures { IfSome result (λ n. n ≡ cells (layout_of (env_of self.now)) (ctype_of t.now)) }
+    {
+        self.structs.cells(t)
+    }
+
+    /// How many cells objects of these members have together, where these are fewer than 2^32.
+    pub fn cells_of_all(&self, members: &[StructMember<'t>]) -> Option<u32>
+        ensures { IfSome result (λ n. n ≡ cells_of_all (layout_of (env_of self.now)) (members_types members.now)) }
+    {
+        self.structs.cells_of_all(members)
+    }
+
+    /// The first cell of the member with this number in a struct with these members, where it is below 2^32.
+    pub fn first_cell(&self, members: &[StructMember<'t>], k: usize) -> Option<u32>
+        ensures { IfSome result (λ n. n ≡ first_cell (layout_of (env_of self.now)) (members_types members.now) k) }
+    {
+        self.structs.first_cell(members, k)
+    }
+
+    /// What `sizeof` gives for the type (C99 6.5.3.4), where it is below 2^32.
+    pub fn sizeof(&self, t: &CType) -> Option<u32>
+        ensures { IfSome result (λ n. n ≡ sizeof (layout_of (env_of self.now)) (ctype_of t.now)) }
+    {
+        self.structs.sizeof(t)
+    }
+
+    /// Whether the name is declared in the innermost scope (C99 6.2.1 paragraph 4).
+    pub fn is_declared_here(&self, name: &[u8]) -> bool
+        ensures { result ≡ is_some (declared_here (env_of self.now) name.now) }
+    {
+        match self.names.find(name) {
+            Some(entry) => entry.depth == self.depth,
+            None => false,
+        }
+    }
+
+    /// Whether it is the tag of an enum that stands before.
+    pub fn is_enum(&self, tag: &[u8]) -> bool
+        ensures { result ≡ is_among (env_of self.now).enums tag.now }
+    {
+        self.enums.contains(tag)
+    }
+
+    /// The number of a tag of a struct.
+    pub fn tag_number(&self, tag: &[u8]) -> u32
+        ensures { result ≡ tag_number (env_of self.now) tag.now }
+    {
+        match self.struct_tags.number(tag) {
+            Some(n) => n,
+            None => 0,
+        }
+    }
+}

@@ -1,0 +1,30 @@
+use Rattle.c_check_counts.specs.Numbered.{next_of}
+use Rattle.c_check_values.proofs.Parts.{raised}
+use Rattle.c_check_bodies.specs.StatementTreeView.{statement_trees_of, statement_tree_of}
+use Rattle.c_rules.specs.Blocks.{behind_parts, held_by_parts, local_parts}
+use Rattle.c_rules.specs.Counts.{past}
+use Rattle.c_rules.specs.Variables.{calls_of_parts, names_of_parts, past_names}
+use Rattle.c_check_scopes.specs.View.{before_of, env_of}
+use Rattle.c_check_statements.proofs.NodeLemmas.{declared_more}
+use Rattle.c_check_statements.proofs.DeclarationLemmas.{part_counted, part_fails, part_meant, part_more, part_numbered, parts_end}
+use Rattle.c_syntax.specs.UnitView.{parts_of}
+use Rattle.c_syntax.specs.View.{spec_of}
+use Rattle.c_check_statements.proofs.declarations.local_parts.Goals as goal
+
+pub loop-part-preserved : goal.loop-part-preserved
+loop-part-preserved c =
+    record {
+      judged = part_more c.args.at (spec_of c.args.spec.now) c.args.parts.now c.loop-part.part-index c.part-item.result (env_of c.loop-part.env) (env_of c.local_part.new.env) (before_of c.loop-part.before) (before_of c.local_part.new.before) (next_of c.loop-part.next) (next_of c.local_part.new.next) (statement_trees_of c.loop-part.laid) (statement_trees_of c.in_ok-laid.laid) (statement_tree_of c.in_ok-one.one) (local_parts (env_of c.args.env.now) (before_of c.args.before.now) (next_of c.args.next.now) c.args.at (spec_of c.args.spec.now) (parts_of c.args.parts.now)) c.loop-part-test.true c.part-item.is c.loop-part.invariant.judged c.in_ok-one.ensures.judged c.in_ok-one.ensures.meant c.in_ok-one.ensures.counted c.in_ok-one.ensures.numbered c.in_ok-laid.ensures;
+      counted = part_counted c.args.at (spec_of c.args.spec.now) c.args.parts.now c.loop-part.part-index c.part-item.result (env_of c.loop-part.env) (env_of c.local_part.new.env) (before_of c.loop-part.before) (before_of c.local_part.new.before) (past (before_of c.args.before.now) (calls_of_parts (parts_of c.args.parts.now)) (held_by_parts (env_of c.args.env.now) (next_of c.args.next.now) c.args.at (spec_of c.args.spec.now) (parts_of c.args.parts.now))) (next_of c.loop-part.next) (next_of c.local_part.new.next) c.loop-part-test.true c.part-item.is c.loop-part.invariant.counted c.in_ok-one.ensures.meant c.in_ok-one.ensures.counted c.in_ok-one.ensures.numbered;
+      meant = part_meant c.args.at (spec_of c.args.spec.now) c.args.parts.now c.loop-part.part-index c.part-item.result (env_of c.loop-part.env) (env_of c.local_part.new.env) (behind_parts (env_of c.args.env.now) (next_of c.args.next.now) c.args.at (spec_of c.args.spec.now) (parts_of c.args.parts.now)) (next_of c.loop-part.next) (next_of c.local_part.new.next) c.loop-part-test.true c.part-item.is c.loop-part.invariant.meant c.in_ok-one.ensures.meant c.in_ok-one.ensures.numbered;
+      numbered = part_numbered c.args.at (spec_of c.args.spec.now) c.args.parts.now c.loop-part.part-index c.part-item.result (next_of c.loop-part.next) (next_of c.local_part.new.next) (past_names (next_of c.args.next.now) (names_of_parts (parts_of c.args.parts.now))) c.loop-part-test.true c.part-item.is c.loop-part.invariant.numbered c.in_ok-one.ensures.numbered;
+      kept = declared_more c.args.env.now c.loop-part.env c.local_part.new.env c.loop-part.invariant.kept c.in_ok-one.ensures.kept;
+    }
+
+pub returns-in_err-one-clause-judged : goal.returns-in_err-one-clause-judged
+returns-in_err-one-clause-judged c =
+    raised statement_trees_of (local_parts (env_of c.args.env.now) (before_of c.args.before.now) (next_of c.args.next.now) c.args.at (spec_of c.args.spec.now) (parts_of c.args.parts.now)) c.from_residual.result c.in_err-one.field-0.0 c.from_residual.ensures (part_fails c.args.at (spec_of c.args.spec.now) c.args.parts.now c.loop-part.part-index c.part-item.result c.in_err-one.field-0.0 (env_of c.loop-part.env) (before_of c.loop-part.before) (next_of c.loop-part.next) (statement_trees_of c.loop-part.laid) (local_parts (env_of c.args.env.now) (before_of c.args.before.now) (next_of c.args.next.now) c.args.at (spec_of c.args.spec.now) (parts_of c.args.parts.now)) c.loop-part-test.true c.part-item.is c.loop-part.invariant.judged c.in_err-one.ensures.judged)
+
+pub returns-clause-judged : goal.returns-clause-judged
+returns-clause-judged c =
+    parts_end (env_of c.loop-part.env) (before_of c.loop-part.before) (next_of c.loop-part.next) c.args.at (spec_of c.args.spec.now) c.args.parts.now c.loop-part.part-index (statement_trees_of c.loop-part.laid) (local_parts (env_of c.args.env.now) (before_of c.args.before.now) (next_of c.args.next.now) c.args.at (spec_of c.args.spec.now) (parts_of c.args.parts.now)) c.loop-part-test.false c.loop-part.invariant.judged

@@ -1,0 +1,14 @@
+use Rattle.c_check_counts.specs.Numbered.{next_of}
+use Rattle.c_check_values.proofs.Parts.{raised}
+use Rattle.c_check_bodies.specs.StatementTreeView.{statement_tree_of}
+use Rattle.c_rules.specs.Blocks.{local}
+use Rattle.c_rules.specs.Objects.{object_declared}
+use Rattle.c_check_scopes.specs.View.{before_of, env_of}
+use Rattle.c_check_statements.proofs.DeclarationLemmas.{name_fails}
+use Rattle.c_syntax.specs.UnitView.{maybe_init_of}
+use Rattle.c_syntax.specs.View.{declarator_of, ident_of, spec_of}
+use Rattle.c_check_statements.proofs.locals.local.Goals as goal
+
+pub returns-in_err-new_name-clause-judged : goal.returns-in_err-new_name-clause-judged
+returns-in_err-new_name-clause-judged c =
+    raised statement_tree_of (local (env_of c.args.env.now) (before_of c.args.before.now) (next_of c.args.next) (ident_of c.args.x.now) (maybe_init_of c.args.m.now) (object_declared (env_of c.args.env.now) c.args.at (spec_of c.args.spec.now) (declarator_of c.args.d.now) (ident_of c.args.x.now) (maybe_init_of c.args.m.now))) c.from_residual.result c.in_err-new_name.field-0.0 c.from_residual.ensures (name_fails c.in_err-new_name.field-0.0 (env_of c.args.env.now) (before_of c.args.before.now) (next_of c.args.next) (ident_of c.args.x.now) (maybe_init_of c.args.m.now) (object_declared (env_of c.args.env.now) c.args.at (spec_of c.args.spec.now) (declarator_of c.args.d.now) (ident_of c.args.x.now) (maybe_init_of c.args.m.now)) c.in_err-new_name.ensures)

@@ -1,0 +1,54 @@
+-- What is known before the items of a unit.
+use Rattle.std.proofs.Common.{◌≡◌, ℕ, suc, zero, ◌+◌, ◌<◌, ◌≤◌, List, [], ◌∷◌, ◌++◌, length, map, take, get_or, Bor, Option, None, Result, Ok, Err, IfOk, refl, sym, ap, ◌∙◌}
+use Rattle.std.specs.Prelude.{replicate, reverse}
+use Rattle.std.proofs.lemmas.List.{take_more, take_all, map-append}
+use Rattle.dm_base.specs.declared.mode.Mode.{Mode}
+use Rattle.c_check_counts.specs.Seen.{bytes_of, seen}
+use Rattle.c_check_scopes.specs.Known.{Known}
+use Rattle.c_rules.specs.Names.{Name}
+use Rattle.c_rules.specs.Scopes.{Env, Struct, incomplete, evaluated, empty_env}
+use Rattle.c_rules.specs.Units.{functions_of, objects_of, tags_of, whole_of, env_before}
+use Rattle.c_check_scopes.specs.Bound.{Bound, bindings_of}
+use Rattle.c_check_scopes.specs.View.{struct_known, structs_of}
+use Rattle.c_syntax.specs.Tree.{Items}
+
+-- ## Names in their order
+
+pub numbered_more : (xs : List (Bor (List ℕ))) (i : ℕ) (d : Bor (List ℕ)) (old new : List Name) → i < length xs → old ≡ seen (take i xs) → new ≡ old ++ (get_or xs i d).now ∷ []
+    → new ≡ seen (take (i + 1) xs)
+numbered_more xs i d old new lt before step =
+    let more : seen (take (i + 1) xs) ≡ seen (take i xs) ++ (get_or xs i d).now ∷ [] = ap seen (take_more xs i d lt) ∙ map-append bytes_of (take i xs) (get_or xs i d ∷ []) in
+    step ∙ (ap (λ ys. ys ++ (get_or xs i d).now ∷ []) before ∙ sym more)
+
+pub numbered_all : (xs : List (Bor (List ℕ))) (i : ℕ) (ys : List Name) → length xs ≤ i → ys ≡ seen (take i xs) → ys ≡ seen xs
+numbered_all xs i ys over is = is ∙ ap seen (take_all i xs over)
+
+-- ## Structs without a definition
+
+unknown_structs : (n : ℕ) → structs_of (replicate n None) ≡ replicate n incomplete
+unknown_structs zero = refl
+unknown_structs (suc n) = ap (λ ss. incomplete ∷ ss) (unknown_structs n)
+
+pub structs_as : {E : Type 0} (r : Result (List (Option (List Known))) E) (n m : ℕ) → n ≡ m → IfOk r (λ structs. structs ≡ replicate n None) → IfOk r (λ structs. structs_of structs ≡ replicate m incomplete)
+structs_as (Ok structs) n m count h = ap structs_of h ∙ (unknown_structs n ∙ ap (λ k. replicate k incomplete) count)
+structs_as (Err e) n m count h = h
+
+-- ## The environment
+
+abbrev pub begun : Mode → (defined objects struct_tags : List Name) → List Struct → List Bound → (enums functions tags : List Name) → Env
+begun m fs os ts structs names enums functions tags = record {
+  whole = record { mode = m; functions = fs; objects = os; tags = ts };
+  names = bindings_of names;
+  depth = 0;
+  structs = structs;
+  enums = reverse enums;
+  functions = functions;
+  tags = reverse tags;
+  context = evaluated;
+}
+
+pub begins : (m : Mode) (u : Items) (fs os ts : List Name) (structs : List Struct) (names : List Bound) (enums functions tags : List Name)
+    → fs ≡ functions_of u → os ≡ objects_of u → ts ≡ tags_of u → structs ≡ replicate (length ts) incomplete → names ≡ [] → enums ≡ [] → functions ≡ [] → tags ≡ []
+    → begun m fs os ts structs names enums functions tags ≡ env_before m u
+begins m u fs os ts structs names enums functions tags f o t s n e g k =
+    ap (λ ss. begun m fs os ts ss names enums functions tags) s ∙ (λ i. begun m (f i) (o i) (t i) (replicate (length (t i)) incomplete) (n i) (e i) (g i) (k i))

@@ -1,0 +1,14 @@
+pub mod SetLemmas
+pub mod TagLists
+pub mod TagNodes
+pub mod FormLemmas
+pub mod LaidLemmas
+pub mod OutputLemmas
+pub mod ScopeLemmas
+pub mod EnvironmentLemmas
+pub mod KeptLemmas
+pub mod MainLemmas
+pub mod ProgramLemmas
+pub mod StringLemmas
+pub mod StructLemmas
+pub mod TypedLemmas

@@ -1,0 +1,50 @@
+-- What an answer on the parts says of the whole.
+use Rattle.std.proofs.Common.{◌≡◌, List, [], ◌∷◌, ◌++◌, arith, Result, IsErr, IsErrAnd}
+use Rattle.std.proofs.lemmas.Result.{err_from_is_err_and}
+use Rattle.std.proofs.lemmas.List.Elements.{Contains-append_left, Contains-append_right}
+use Rattle.c_check_values.specs.declared.error.CheckError.{CheckError}
+use Rattle.c_check_values.specs.declared.error.CheckError.TheVariants as errors
+use Rattle.c_rules.specs.Checked.{Fault, Checked, fine, faulty, faults, on, both}
+use Rattle.c_check_values.specs.Agreement.{Names, AgreesWith}
+
+-- ## Errors: a demand that fails in a part fails in the whole
+
+pub named_left : (e : CheckError) (fs gs : List Fault) → Names e fs → Names e (fs ++ gs)
+named_left errors.OutOfMemory fs gs h = tt
+named_left (errors.At code at) fs gs h = Contains-append_left _ _ _ h
+
+pub named_right : (e : CheckError) (fs gs : List Fault) → Names e gs → Names e (fs ++ gs)
+named_right errors.OutOfMemory fs gs h = tt
+named_right (errors.At code at) fs gs h = Contains-append_right _ _ _ h
+
+none_named : {B : Type 0} (e : CheckError) (r : Checked B) → Names e [] → Names e (faults r)
+none_named errors.OutOfMemory r h = tt
+none_named (errors.At code at) r h = absurd (omega arith)
+
+pub names_on : {A B : Type 0} (e : CheckError) (r : Checked A) (k : A → Checked B) → Names e (faults r) → Names e (faults (on r k))
+names_on e (fine a) k h = none_named e (k a) h
+names_on e (faulty f fs) k h = h
+
+pub names_first : {A B C : Type 0} (e : CheckError) (r : Checked A) (s : Checked B) (k : A → B → Checked C) → Names e (faults r) → Names e (faults (both r s k))
+names_first e (fine a) (fine b) k h = none_named e (k a b) h
+names_first {C = C} e (fine a) (faulty g gs) k h = none_named {B = C} e (faulty g gs) h
+names_first e (faulty f fs) s k h = named_left e (f ∷ fs) (faults s) h
+
+pub names_second : {A B C : Type 0} (e : CheckError) (r : Checked A) (s : Checked B) (k : A → B → Checked C) → Names e (faults s) → Names e (faults (both r s k))
+names_second e (fine a) (fine b) k h = none_named e (k a b) h
+names_second e (fine a) (faulty g gs) k h = h
+names_second e (faulty f fs) s k h = named_right e (f ∷ fs) (faults s) h
+
+-- ## The exits of the code
+
+-- by `?`, after an error of a part
+pub raised : {X A : Type 0} (view : X → A) (found : Checked A) (result : Result X CheckError) (e : CheckError) → IsErr result × IsErrAnd result (λ y. y ≡ e) → Names e (faults found) → AgreesWith view result found
+raised view found result e h n = let w = err_from_is_err_and result h.1 in rw (w.1, w.2) n
+
+-- by the last part of one
+pub ended_on : {X A B : Type 0} (view : X → B) (result : Result X CheckError) (r : Checked A) (k : A → Checked B) (a : A) → r ≡ fine a → AgreesWith view result (k a) → AgreesWith view result (on r k)
+ended_on view result r k a p h = rw p h
+
+-- by the last part of two
+pub ended_both : {X A B C : Type 0} (view : X → C) (result : Result X CheckError) (r : Checked A) (s : Checked B) (k : A → B → Checked C) (a : A) (b : B) → r ≡ fine a → s ≡ fine b → AgreesWith view result (k a b) → AgreesWith view result (both r s k)
+ended_both view result r s k a b p q h = rw (p, q) h

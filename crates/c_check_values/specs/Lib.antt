@@ -1,0 +1,4 @@
+pub mod Agreement
+pub mod Moved
+pub mod Shifts
+pub mod View

@@ -1,6 +1,0 @@
-pub mod DesignatorLemmas
-pub mod Exits
-pub mod Loops
-pub mod NodeLemmas
-pub mod Parameters
-pub mod Trees

@@ -1,9 +1,0 @@
-use Rattle.std.proofs.Common.{[], ◌∷◌, map, ap, ◌∙◌}
-use Rattle.std.proofs.lemmas.List.{map-append}
-use Rattle.c_scopes.specs.View.{before_of, bytes_of}
-use Rattle.c_expressions.proofs.NodeLemmas.{past_string}
-use Rattle.c_expressions.proofs.counting.count_string.Goals as goal
-
-pub returns : goal.returns
-returns c =
-    past_string (before_of c.args.before.now) c.args.bytes.now (map bytes_of c.push.new.self.items) c.in-Some.cells (ap (map bytes_of) c.in_ok-push.ensures.items ∙ map-append bytes_of c.args.before.now.strings.items (c.args.bytes ∷ [])) c.in-Some.ensures

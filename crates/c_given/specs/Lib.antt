@@ -1,2 +1,0 @@
-pub mod Judges
-pub mod View

@@ -1,4 +1,0 @@
-pub mod FormLemmas
-pub mod LaidLemmas
-pub mod OutputLemmas
-pub mod ScopeLemmas

@@ -1,3 +1,0 @@
-pub mod Forms
-pub mod OutputView
-pub mod Scoped

@@ -1,8 +1,0 @@
--- Scopes in which names were declared.
-use Rattle.std.specs.Prelude.{◌≡◌, List, ◌++◌}
-use Rattle.c_scopes.specs.Bound.{Bound}
-use Rattle.c_scopes.specs.declared.environment.Environment.{Environment}
-
--- names were declared, and nothing else changed
-abbrev pub Declares : Environment → Environment → Type 0
-Declares old new = (inner : List Bound) × (new ≡ record old { names = inner ++ old.names })

@@ -1,4 +1,0 @@
-pub mod ClosedLemmas
-pub mod MeasuredLemmas
-pub mod LaidLemmas
-pub mod TableLemmas

@@ -1,6 +1,0 @@
--- Extents of Rust as those of the layout.
-use Rattle.c_tree.specs.Layout.{Extent}
-use Rattle.c_layout.specs.declared.extents.Extent.{Extent as ExtentTree}
-
-abbrev pub extent_seen : ExtentTree → Extent
-extent_seen e = record { size = e.size; alignment = e.alignment }

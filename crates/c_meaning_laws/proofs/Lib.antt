@@ -1,0 +1,16 @@
+pub mod Calls
+pub mod Candidates
+pub mod Differences
+pub mod Ends
+pub mod Keeps
+pub mod Places
+pub mod Standing
+pub mod Steps
+pub mod TypedRunTrials
+pub mod Worlds
+pub mod Expressions
+pub mod Statements
+pub mod FurtherSteps
+pub mod Together
+pub mod FurtherWorlds
+pub mod EnoughTurns

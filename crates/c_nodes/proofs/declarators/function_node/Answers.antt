@@ -1,5 +1,0 @@
-use Rattle.c_counts.proofs.Rows.{function_is}
-use Rattle.c_nodes.proofs.declarators.function_node.Goals as goal
-
-pub returns : goal.returns
-returns c = function_is c.args.at c.args.inner c.args.params

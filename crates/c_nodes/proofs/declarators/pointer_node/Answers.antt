@@ -1,5 +1,0 @@
-use Rattle.c_counts.proofs.Rows.{pointer_is}
-use Rattle.c_nodes.proofs.declarators.pointer_node.Goals as goal
-
-pub returns : goal.returns
-returns c = pointer_is c.args.at c.args.inner

@@ -1,5 +1,0 @@
-use Rattle.c_counts.proofs.Rows.{comma_is}
-use Rattle.c_nodes.proofs.nodes.comma_node.Goals as goal
-
-pub returns : goal.returns
-returns c = comma_is c.args.at c.args.list

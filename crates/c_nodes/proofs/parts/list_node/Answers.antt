@@ -1,5 +1,0 @@
-use Rattle.c_counts.proofs.Rows.{list_is}
-use Rattle.c_nodes.proofs.parts.list_node.Goals as goal
-
-pub returns : goal.returns
-returns c = list_is c.args.at c.args.inits

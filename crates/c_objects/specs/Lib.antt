@@ -1,2 +1,0 @@
-pub mod ObjectView
-pub mod Texts

@@ -1,3 +1,0 @@
-pub mod BodyOpens
-pub mod ExprOpens
-pub mod MemberOpens

@@ -1,0 +1,57 @@
+-- Where a list of initialisers is followed by what goes on with an expression.
+use Rattle.std.proofs.Common.{◌≡◌, ◌≤◌, ℕ, List, drop, sym, ap, arith}
+use Rattle.c_lexer.specs.declared.token.Token.{Token}
+use Rattle.c_lexer.specs.declared.punctuator.TheConstants.{LEFT_BRACE}
+use Rattle.c_syntax.specs.Tree.{Init, Inits, list}
+use Rattle.c_syntax.specs.Tokens.{Is}
+use Rattle.c_syntax.specs.Statements.{ReadsInit, an_expression, a_list, a_list_with_comma, ReadsInits, last_init, next_init}
+use Rattle.c_syntax.proofs.Precedence.{rank}
+use Rattle.c_syntax.proofs.Ranks.{ranked, heads}
+use Rattle.c_syntax.proofs.Heads.{head, headed, expression_head}
+use Rattle.c_syntax.proofs.OneDecl.{EndsList, brace_ends, comma_ends, after_comma, same_init}
+use Rattle.c_syntax.proofs.FrameStatements.{init_on}
+use Rattle.c_parser_refusals.specs.Fails.{Fails}
+use Rattle.c_parser_refusals.specs.Phrases.{Bound, AnInit}
+use Rattle.c_parser_refusals.proofs.Combine.{fails_at, fails_beside}
+use Rattle.c_parser_refusals.proofs.Fixed.{rank_alike}
+use Rattle.c_parser_phrases.specs.declared.room.Room.{Room}
+use Rattle.c_parser_phrases.specs.Lists.{HasList}
+use Rattle.c_parser_phrases.specs.Standing.{IsAt}
+use Rattle.c_parser_phrases.proofs.Exits.{taken_at}
+
+init_head : {d : ℕ} {a : Init} {i j : List Token} → ReadsInit d a i j → head i ≡ 5 → ⊥
+init_head (an_expression r p) h = omega (arith, expression_head r, h)
+init_head (a_list o r c) h = omega (arith, headed o, h)
+init_head (a_list_with_comma o r c b) h = omega (arith, headed o, h)
+
+inits_head : {d : ℕ} {a : Inits} {i j : List Token} → ReadsInits d a i j → head i ≡ 5 → ⊥
+inits_head (last_init r) h = init_head r h
+inits_head (next_init r c b) h = init_head r h
+
+moved_inits : {d : ℕ} {a : Inits} {i m j : List Token} → i ≡ m → ReadsInits d a m j → ReadsInits d a i j
+moved_inits q r = rw q r
+
+-- lists that stand in one place end in one
+one_end : {d x : ℕ} {a b : Inits} {i j k : List Token} → ReadsInits d a i j → ReadsInits x b i k → EndsList j → EndsList k → j ≡ k
+one_end (last_init r) (last_init v) s z = (same_init r v s.stops z.stops).1
+one_end (last_init r) (next_init v b l) s z = let y = same_init r v s.stops (omega (arith, ranked b)) in absurd (inits_head l (after_comma y.1 s b))
+one_end (next_init r c f) (last_init v) s z = let y = same_init r v (omega (arith, ranked c)) z.stops in absurd (inits_head f (after_comma (sym y.1) z c))
+one_end (next_init r c f) (next_init v b l) s z = let y = same_init r v (omega (arith, ranked c)) (omega (arith, ranked b)) in one_end f (moved_inits (heads y.1).1 l) s z
+
+list_end : {d x at : ℕ} {is : Inits} {b : Init} {i j k : List Token} → ReadsInit d (list at is) i j → ReadsInit x b i k → j ≡ k
+list_end (a_list h r c) (an_expression v q) = absurd (omega (arith, expression_head v, headed h))
+list_end (a_list_with_comma h r c e) (an_expression v q) = absurd (omega (arith, expression_head v, headed h))
+list_end (a_list h r c) (a_list o v b) = (heads (one_end r v (brace_ends c) (brace_ends b))).1
+list_end (a_list h r c) (a_list_with_comma o v b e) = let y = one_end r v (brace_ends c) (comma_ends b e) in absurd (omega (arith, ap head y, headed c, headed b))
+list_end (a_list_with_comma h r c e) (a_list o v b) = let y = one_end r v (comma_ends c e) (brace_ends b) in absurd (omega (arith, ap head y, headed c, headed b))
+list_end (a_list_with_comma h r c e) (a_list_with_comma o v b l) = (heads (heads (one_end r v (comma_ends c e) (comma_ends b l))).1).1
+
+list_followed_here : {d at : ℕ} {is : Inits} {i j : List Token} → ReadsInit d (list at is) i j → rank j ≤ 13 → (b : Bound) → Fails (AnInit b) i j
+list_followed_here {d} {at} {is} r q b =
+    fails_beside {R = ReadsInit d (list at is)} (λ k m. init_on r k)
+    (λ h k l m v a. let e = list_end v a.reads in omega (arith, a.stops, q, rank_alike m, ap rank e))
+
+pub list_followed :
+    {room : Room} {is : Inits} {i k m : List Token}
+    → IsAt LEFT_BRACE i → k ≡ drop 1 i → ((t : Token) → Is LEFT_BRACE t → HasList room is t k m) → rank m ≤ 13 → (b : Bound) → Fails (AnInit b) i m
+list_followed {i = i} {k = k} h e g l b = let t = taken_at LEFT_BRACE i k h e in fails_at t.2 (list_followed_here (g t.0 t.1).reads l b)

@@ -1,0 +1,89 @@
+-- Where initialisers fail (C99 6.7.8).
+use Rattle.std.proofs.Common.{◌≤◌, List, ◌∷◌, refl, arith, ℕ}
+use Rattle.c_lexer.specs.declared.token.Token.{Token}
+use Rattle.c_lexer.specs.declared.punctuator.TheConstants.{LEFT_BRACE, RIGHT_BRACE, COMMA}
+use Rattle.c_syntax.specs.Tree.{Init, Inits}
+use Rattle.c_syntax.specs.Tokens.{Is}
+use Rattle.c_syntax.specs.Grammar.{assignment_level}
+use Rattle.c_syntax.specs.Statements.{ReadsInit, an_expression, a_list, a_list_with_comma, ReadsInits, last_init, next_init}
+use Rattle.c_syntax.specs.Limits.{height_of_init, height_of_inits}
+use Rattle.c_syntax.proofs.Ranks.{ranked, apart}
+use Rattle.c_syntax.proofs.Precedence.{Stops}
+use Rattle.c_syntax.proofs.Heads.{headed, expression_head}
+use Rattle.c_parser_refusals.specs.Fails.{Meets, Fails, Then, then, first, second, one, NotAt}
+use Rattle.c_parser_refusals.specs.Phrases.{Bound, within, Fits, inner, AnExpr, AnInit, Punctuator}
+use Rattle.c_parser_refusals.specs.Initialisers.{InList, brace_ends, comma_ends, ListEnd}
+use Rattle.c_parser_refusals.proofs.Combine.{fails_here, fails_as, fails_first, fails_later, fails_under, fails_under_alike, not_at_alike}
+use Rattle.c_parser_refusals.proofs.Fixed.{init_fixes}
+use Rattle.c_parser_refusals.proofs.StmtForms.{fits_part}
+use Rattle.c_parser_refusals.proofs.BlockForms.{fits_under}
+use Rattle.c_parser_refusals.proofs.PrefixFails.{fits_low, tall}
+
+value_reads : {b : Bound} {d : ℕ} {v : Init} {i j : List Token} → NotAt (Is LEFT_BRACE) i → ReadsInit d v i j → Stops assignment_level j → Fits b d (height_of_init v) → AnExpr b assignment_level i j
+value_reads n (an_expression r p) s f = record { depth = _; tree = _; reads = r; stops = s; fits = f }
+value_reads n (a_list o r c) s f = absurd (n _ _ refl o)
+value_reads n (a_list_with_comma o r c e) s f = absurd (n _ _ refl o)
+
+-- where no brace begins a list
+pub init_value_fails : {b : Bound} {i r : List Token} → NotAt (Is LEFT_BRACE) i → Fails (AnExpr b assignment_level) i r → Fails (AnInit b) i r
+init_value_fails n f = fails_as (λ k j m a. value_reads (not_at_alike m n) a.reads a.stops a.fits) f
+
+tall_init : {d : ℕ} {v : Init} {i j : List Token} → ReadsInit d v i j → 1 ≤ height_of_init v
+tall_init (an_expression {e = e} r p) = tall e
+tall_init (a_list o r c) = omega arith
+tall_init (a_list_with_comma o r c e) = omega arith
+
+-- no initialiser stands without a node
+pub no_init_left : {p : ℕ} (i : List Token) → Fails (AnInit (within p 0)) i i
+no_init_left i = fails_here (λ s m j a. omega (arith, tall_init a.reads, (fits_low a.fits).1))
+
+list_begins : (b : Bound) {d : ℕ} {v : Init} {t : Token} {i j : List Token} → Is LEFT_BRACE t → ReadsInit d v (t ∷ i) j → Fits b d (height_of_init v) → InList (inner b) i j
+list_begins b h (an_expression r p) f = absurd (omega (arith, headed h, expression_head r))
+list_begins b h (a_list o r c) f = brace_ends r c (fits_part b f (omega arith))
+list_begins b h (a_list_with_comma o r c e) f = comma_ends r c e (fits_part b f (omega arith))
+
+-- what follows the brace
+pub init_list_fails : {b : Bound} {t : Token} {i r : List Token} → Is LEFT_BRACE t → Fails (InList (inner b)) i r → Fails (AnInit b) (t ∷ i) r
+init_list_fails {b} h f = fails_under (λ k j a. list_begins b h a.reads a.fits) f
+
+before_brace : (b : Bound) {d : ℕ} {is : Inits} {u : Token} {i j : List Token} → ReadsInits d is i (u ∷ j) → Is RIGHT_BRACE u → Fits b d (height_of_inits is) → Then (AnInit b) (ListEnd b) i j
+before_brace b (last_init r) c f = then (record { depth = _; tree = _; reads = r; stops = omega (arith, ranked c); fits = fits_under b f (omega arith) }) (first (one c))
+before_brace b (next_init r h w) c f =
+    then (record { depth = _; tree = _; reads = r; stops = omega (arith, ranked h); fits = fits_under b f (omega arith) }) (second (then (one h) (second (brace_ends w c (fits_under b f (omega arith))))))
+
+before_comma : (b : Bound) {d : ℕ} {is : Inits} {c u : Token} {i j : List Token} → ReadsInits d is i (c ∷ u ∷ j) → Is COMMA c → Is RIGHT_BRACE u → Fits b d (height_of_inits is) → Then (AnInit b) (ListEnd b) i j
+before_comma b (last_init r) c u f = then (record { depth = _; tree = _; reads = r; stops = omega (arith, ranked c); fits = fits_under b f (omega arith) }) (second (then (one c) (first (one u))))
+before_comma b (next_init r h w) c u f =
+    then (record { depth = _; tree = _; reads = r; stops = omega (arith, ranked h); fits = fits_under b f (omega arith) }) (second (then (one h) (second (comma_ends w c u (fits_under b f (omega arith))))))
+
+list_form : (b : Bound) {i j : List Token} → InList b i j → Then (AnInit b) (ListEnd b) i j
+list_form b (brace_ends r c f) = before_brace b r c f
+list_form b (comma_ends r c u f) = before_comma b r c u f
+
+-- the first initialiser of a list fails
+pub first_init_fails : {b : Bound} {i r : List Token} → Fails (AnInit b) i r → Fails (InList b) i r
+first_init_fails {b} f = fails_as (λ k j m a. list_form b a) (fails_first f)
+
+-- the first initialiser of a list stands
+pub first_init_leads : {b c : Bound} {i j r : List Token} → AnInit c i j → Fails (ListEnd b) j r → Fails (InList b) i r
+first_init_leads {b} {c} a f = fails_as (λ k j m a. list_form b a) (fails_later (init_fixes c b) a f)
+
+no_brace_read : {j k l : List Token} → NotAt (Is RIGHT_BRACE) j → Meets j k → Punctuator RIGHT_BRACE k l → ⊥
+no_brace_read f m (one h) = not_at_alike m f _ _ refl h
+
+-- neither a comma nor a brace follows
+pub list_unclosed : {b : Bound} (i : List Token) → NotAt (Is COMMA) i → NotAt (Is RIGHT_BRACE) i → Fails (ListEnd b) i i
+list_unclosed {b} i f g = fails_here (λ s m j a. none (not_at_alike m f) (not_at_alike m g) a)
+  where
+    none : {s j : List Token} → NotAt (Is COMMA) s → NotAt (Is RIGHT_BRACE) s → ListEnd b s j → ⊥
+    none f g (first (one c)) = g _ _ refl c
+    none f g (second (then (one h) w)) = f _ _ refl h
+
+goes_on : {b : Bound} {t : Token} {i j : List Token} → Is COMMA t → NotAt (Is RIGHT_BRACE) i → ListEnd b (t ∷ i) j → InList b i j
+goes_on h n (first (one c)) = absurd (omega (arith, apart h c))
+goes_on h n (second (then (one c) (first (one u)))) = absurd (n _ _ refl u)
+goes_on h n (second (then (one c) (second w))) = w
+
+-- after a comma the list goes on
+pub list_goes_on : {b : Bound} {t : Token} {i r : List Token} → Is COMMA t → NotAt (Is RIGHT_BRACE) i → Fails (InList b) i r → Fails (ListEnd b) (t ∷ i) r
+list_goes_on h n f = fails_under_alike (λ k j m a. goes_on h (not_at_alike m n) a) f

@@ -1,0 +1,84 @@
+-- Where items and units open past the limits (C99 6.9).
+use Rattle.std.proofs.Common.{◌≡◌, ◌⊎◌, inl, inr, ◌≤◌, ℕ, suc, List, [], ◌∷◌, ◌++◌, refl, sym, ◌∙◌, subst, arith}
+use Rattle.std.proofs.lemmas.List.{append_cancel_right}
+use Rattle.c_lexer.specs.declared.token.Token.{Token}
+use Rattle.c_lexer.specs.declared.punctuator.TheConstants.{LEFT_BRACE, RIGHT_BRACE, SEMICOLON, COMMA, ASSIGN}
+use Rattle.c_lexer.specs.declared.keyword.TheConstants.{ENUM, STRUCT}
+use Rattle.c_syntax.specs.Tree.{Ident, Storage, Spec, Declarator, Maybe, there, decl, block, no_block_items, Declarators, no_declarators, more_declarators, Members, no_members, more_members, Enumerators, no_enumerators, more_enumerators, Tag, Item, struct_item, enum_item, decl_item, function_item, Items, no_items, more_items}
+use Rattle.c_syntax.specs.Tokens.{Is, IsKeyword, place}
+use Rattle.c_syntax.specs.Specifiers.{Names, ReadsStorage, ReadsSpec}
+use Rattle.c_syntax.specs.Grammar.{conditional_level, HasName, Declares}
+use Rattle.c_syntax.specs.Statements.{a_declaration, no_block_item, ReadsDeclarators, last_declarator, next_declarator, ReadsMembers, last_member, next_member, ReadsEnumeratorValue, an_enumerator_value, ReadsEnumerators, last_enumerator, next_enumerator, ReadsTag}
+use Rattle.c_syntax.specs.Statements.{ReadsItem, a_struct, an_enum, an_item_declaration, a_definition, ReadsItems, last_item, next_item, ReadsStmt, a_block}
+use Rattle.c_syntax.proofs.Twins.{Twin, here, along, On}
+use Rattle.c_syntax.proofs.FrameSpecifiers.{spec_on, storage_on}
+use Rattle.c_syntax.proofs.FrameGrammar.{declares_on}
+use Rattle.c_syntax.proofs.FrameStatements.{item_on}
+use Rattle.c_syntax.proofs.MorePairs.{wide_declarator}
+use Rattle.c_syntax.proofs.MorePairsOfUnits.{wide_item}
+use Rattle.c_parser_refusals.specs.Fails.{Meets, Then, then, One, one}
+use Rattle.c_parser_refusals.specs.Nodes.{InMembers, in_first_member, in_first_declarator, in_struct_item, in_decl_item, in_decl, in_function_declarator, in_function_body, in_block, in_first_item, in_later_item}
+use Rattle.c_parser_refusals.specs.Opens.{Opens, Filled, DeepDeclarator, DeepParts, DeepBlock, DeepItem, DeepUnit, GoesOn}
+use Rattle.c_parser_refusals.proofs.Combine.{fronted}
+use Rattle.c_parser_refusals.proofs.Opening.{opens_as, opens_under, opens_first, opens_later, closed_by, filled_then}
+use Rattle.c_parser_refusals.proofs.Fills.{punctuator}
+use Rattle.c_parser_refusals.proofs.ExprOpens.{either}
+
+abbrev semicolon : Token
+semicolon = punctuator SEMICOLON (omega arith)
+
+abbrev close_brace : Token
+close_brace = punctuator RIGHT_BRACE (omega arith)
+
+abbrev open_brace : Token
+open_brace = punctuator LEFT_BRACE (omega arith)
+
+moved_spec : {s : Spec} {i j : List Token} → ReadsSpec s i j → (k : List Token) → On (ReadsSpec s) i j k
+moved_spec w k = let x = spec_on w k in record { tokens = x.tokens; twin = x.twin; reads = x.reads }
+
+-- declarations and functions
+
+-- a declaration, whose declarators open
+pub item_parts_open : {at p n : ℕ} {st : Storage} {s : Spec} {i j k r : List Token} → ReadsStorage st i j → ReadsSpec s j k → Opens (DeepParts at p n) k r → Opens (DeepItem at p n) i r
+item_parts_open {at} {p} {n} {st} {s} c w o =
+    opens_as (λ k m v. whole v) (opens_later (storage_on c) (opens_later (moved_spec w) (opens_first (closed_by {P = Is SEMICOLON} semicolon (record { kind = refl })) o)))
+  where
+    whole : {k m : List Token} → Then (ReadsStorage st) (Then (ReadsSpec s) (Then (DeepParts at p n) (One (Is SEMICOLON)))) k m → DeepItem at p n k m
+    whole (then a (then b (then y (one c)))) = record { tree = decl_item _ (decl _ st s y.trees); reads = an_item_declaration refl (a_declaration refl a b y.reads c); deep = either (λ z. in_decl_item (in_decl z)) (λ z. z) y.deep }
+
+-- a function, whose body opens
+pub item_body_opens : {at p n d : ℕ} {st : Storage} {s : Spec} {e : Declarator} {t : Token} {i j k m r : List Token} → d ≤ suc p → ReadsStorage st i j → ReadsSpec s j k → Declares d e k (t ∷ m) → HasName e → Is LEFT_BRACE t → Opens (DeepBlock at p n) m r → Opens (DeepItem at p (suc n)) i r
+item_body_opens {at} {p} {n} {st = st} {s = s} {e = e} g c w z x h o =
+    opens_as (λ k m v. whole v)
+    (opens_later (storage_on c) (opens_later (moved_spec w) (opens_later (declares_on (wide_declarator z g))
+    (opens_under {B = Then (One (Is LEFT_BRACE)) (Then (DeepBlock at p n) (One (Is RIGHT_BRACE)))} (λ k m v. then (one h) v)
+    (opens_first (closed_by {P = Is RIGHT_BRACE} close_brace (record { kind = refl })) o)))))
+  where
+    whole : {k m : List Token} → Then (ReadsStorage st) (Then (ReadsSpec s) (Then (Declares (suc p) e) (Then (One (Is LEFT_BRACE)) (Then (DeepBlock at p n) (One (Is RIGHT_BRACE)))))) k m → DeepItem at p (suc n) k m
+    whole (then a (then b (then f (then (one q) (then y (one c)))))) = record {
+      tree = function_item _ st s e (block _ y.trees);
+      reads = a_definition refl a b f x q y.reads c;
+      deep = either (λ v. in_function_body (in_block v)) (λ v. inr v) y.deep;
+    }
+
+-- units
+
+pub first_item_opens : {at p n : ℕ} {i r : List Token} → Opens (DeepItem at p n) i r → Opens (DeepUnit at p n) i r
+first_item_opens o = opens_as (λ k m a. record { tree = more_items a.tree no_items; reads = last_item a.reads; deep = either in_first_item (λ y. y) a.deep }) o
+
+pub later_item_opens : {at p n d : ℕ} {a : Item} {i j r : List Token} → d ≤ suc p → ReadsItem d a i j → Opens (DeepUnit at p n) j r → Opens (DeepUnit at p n) i r
+later_item_opens {at} {p} {n} {a = a} g w o = opens_as (λ k m v. whole v) (opens_later (item_on (wide_item w g)) o)
+  where
+    whole : {k m : List Token} → Then (ReadsItem (suc p) a) (DeepUnit at p n) k m → DeepUnit at p n k m
+    whole (then b c) = record { tree = more_items a c.tree; reads = next_item b c.reads; deep = either in_later_item (λ y. inr y) c.deep }
+
+-- some unit past the limits is spelled
+pub unit_goes_on : {at p n : ℕ} (tokens front r : List Token) → Opens (DeepUnit at p n) tokens r → tokens ≡ front ++ r → GoesOn at p n front r
+unit_goes_on {at} {p} {n} tokens front r o q =
+    let x = o.before [] in
+    let f = fronted x.twin in
+    let e : f.0 ≡ front = append_cancel_right f.0 front r (sym f.1 ∙ q) in
+    at_front x.other x.meets x.reads (f.2 ∙ subst (λ z. f.0 ++ x.other ≡ z ++ x.other) e refl)
+  where
+    at_front : {k : List Token} (other : List Token) → Meets r other → DeepUnit at p n k [] → k ≡ front ++ other → GoesOn at p n front r
+    at_front other m a e = let b : DeepUnit at p n (front ++ other) [] = subst (λ z. DeepUnit at p n z []) e a in record { other = other; meets = m; tree = b.tree; reads = b.reads; deep = b.deep }

@@ -1,0 +1,15 @@
+pub mod Declarations
+pub mod Declarators
+pub mod Deep
+pub mod Fails
+pub mod Groups
+pub mod Initialisers
+pub mod Items
+pub mod Labels
+pub mod Nodes
+pub mod Opens
+pub mod Operands
+pub mod Pairs
+pub mod Phrases
+pub mod Specs
+pub mod Units

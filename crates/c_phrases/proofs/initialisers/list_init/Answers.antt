@@ -1,5 +1,0 @@
-use Rattle.c_phrases.proofs.Inits.{list_is}
-use Rattle.c_phrases.proofs.initialisers.list_init.Goals as goal
-
-pub returns : goal.returns
-returns c = list_is c.args.at c.args.inits

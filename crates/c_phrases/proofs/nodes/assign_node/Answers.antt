@@ -1,7 +1,0 @@
-use Rattle.std.proofs.Common.{refl, inr}
-use Rattle.c_refusals.specs.Nodes.{in_assigned, in_value}
-use Rattle.c_phrases.proofs.Deepest.{node_deep, beside_expr}
-use Rattle.c_phrases.proofs.nodes.assign_node.Goals as goal
-
-pub returns-clause-deep : goal.returns-clause-deep
-returns-clause-deep c = λ d e. node_deep c.enclosed.ensures.height c.enclosed.ensures.around (c.in_ok-boxed.ensures) refl (beside_expr c.beside.ensures.deeper (inr (in_assigned d)) (inr (in_value e)))

@@ -1,7 +1,0 @@
-use Rattle.std.proofs.Common.{refl, inr}
-use Rattle.c_refusals.specs.Nodes.{in_test, in_yes, in_no}
-use Rattle.c_phrases.proofs.Deepest.{node_deep, beside_expr}
-use Rattle.c_phrases.proofs.nodes.conditional_node.Goals as goal
-
-pub returns-clause-deep : goal.returns-clause-deep
-returns-clause-deep c = λ d e f. node_deep c.enclosed.ensures.height c.enclosed.ensures.around c.in_ok-boxed.ensures refl (beside_expr c.beside-2.ensures.deeper (inr (in_test d)) (beside_expr c.beside.ensures.deeper (inr (in_yes e)) (inr (in_no f))))

@@ -1,6 +1,0 @@
-use Rattle.std.proofs.Common.{inr}
-use Rattle.c_refusals.specs.Nodes.{in_there}
-use Rattle.c_phrases.proofs.nodes.some_size.Goals as goal
-
-pub returns-clause-deep : goal.returns-clause-deep
-returns-clause-deep c = λ d. inr (in_there d)

@@ -1,8 +1,0 @@
-use Rattle.std.proofs.Common.{◌≡◌, map, length}
-use Rattle.c_given.specs.View.{given_of}
-use Rattle.c_rules.specs.PostfixExpressions.{passed}
-use Rattle.c_tree.specs.View.{types_of, exprs_of}
-use Rattle.c_primary.proofs.passing.passed.Given as goal
-
-abbrev pub invariant-loop-g : goal.invariant-loop-g
-invariant-loop-g l = (length l.es.items ≡ length l.yielded) × (exprs_of l.es.items ≡ passed (types_of l.ts) (map given_of l.yielded))

@@ -1,5 +1,0 @@
-use Rattle.std.proofs.Common.{length}
-use Rattle.c_reserved.proofs.fronts.+after_front.Given as goal
-
-abbrev pub decreases-after_front : goal.decreases-after_front
-decreases-after_front l = length l.front.now

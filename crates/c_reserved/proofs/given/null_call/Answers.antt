@@ -1,6 +1,0 @@
-use Rattle.std.proofs.Common.{rules}
-use Rattle.c_reserved.proofs.NumberLemmas.{null_none}
-use Rattle.c_reserved.proofs.given.null_call.Goals as goal
-
-pub returns : goal.returns
-returns c = null_none c.args.name.now (search rules) (search rules)

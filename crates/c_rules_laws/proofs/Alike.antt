@@ -1,0 +1,65 @@
+-- Two checks of which one is fine exactly where the other is, and then gives the same.
+use Rattle.std.proofs.Common.{◌≡◌, ℕ, Bool, true, false, if◌then◌else◌}
+use Rattle.c_rules.specs.Checked.{Checked, fine, on, both, beside, all_three, gives, demand, fault, and_also, Met, met}
+use Rattle.c_rules_laws.proofs.Leads.{Leads, same_leads, fine_leads, on_leads, both_leads, gives_leads, all_three_lead, first_fine}
+
+pub record Alike (A : Type 0) (r s : Checked A) : Type 0 where
+  pub forth : Leads r s
+  pub back : Leads s r
+
+pub alike : {A : Type 0} (r : Checked A) → Alike A r r
+alike r = record { forth = same_leads r; back = same_leads r }
+
+pub turned : {A : Type 0} {r s : Checked A} → Alike A r s → Alike A s r
+turned h = record { forth = h.back; back = h.forth }
+
+-- what is fine here is fine there
+pub fine_there : {A : Type 0} {r s : Checked A} (a : A) → Alike A r s → r ≡ fine a → s ≡ fine a
+fine_there {A} {r} {s} a h e = fine_leads r s a h.forth e
+
+pub fine_here : {A : Type 0} {r s : Checked A} (a : A) → Alike A r s → s ≡ fine a → r ≡ fine a
+fine_here {A} {r} {s} a h e = fine_leads s r a h.back e
+
+pub on_alike : {A B : Type 0} {r s : Checked A} (k l : A → Checked B) → Alike A r s → ((a : A) → r ≡ fine a → Alike B (k a) (l a)) → Alike B (on r k) (on s l)
+on_alike {A} {B} {r} {s} k l h t = record {
+  forth = on_leads r s k l h.forth (λ a e. (t a e).forth);
+  back = on_leads s r l k h.back (λ a e. (t a (fine_here a h e)).back);
+}
+
+pub gives_alike : {A B : Type 0} {r s : Checked A} (f : A → B) → Alike A r s → Alike B (gives r f) (gives s f)
+gives_alike {A} {B} {r} {s} f h = record { forth = gives_leads r s f h.forth; back = gives_leads s r f h.back }
+
+-- the second part is looked at where the first one is fine
+pub both_alike : {A B C : Type 0} {p p' : Checked A} (q q' : Checked B) (k l : A → B → Checked C) → Alike A p p' → ((a : A) → p ≡ fine a → Alike B q q') → ((a : A) (b : B) → Alike C (k a b) (l a b)) → Alike C (both p q k) (both p' q' l)
+both_alike {A} {B} {C} {p} {p'} q q' k l g h t = record {
+  forth = both_leads p p' q q' k l g.forth (λ a e. (h a e).forth) (λ a b. (t a b).forth);
+  back = both_leads p' p q' q l k g.back (λ a e. (h a (fine_here a g e)).back) (λ a b. (t a b).back);
+}
+
+pub three_alike : {A B C D : Type 0} {p p' : Checked A} (q q' : Checked B) (r r' : Checked C) (k l : A → B → C → Checked D) → Alike A p p' → ((a : A) → p ≡ fine a → Alike B q q') → ((a : A) (b : B) → p ≡ fine a → q ≡ fine b → Alike C r r') → ((a : A) (b : B) (c : C) → Alike D (k a b c) (l a b c)) → Alike D (all_three p q r k) (all_three p' q' r' l)
+three_alike {A} {B} {C} {D} {p} {p'} q q' r r' k l g h i t = record {
+  forth = all_three_lead p p' q q' r r' k l g.forth (λ a e. (h a e).forth) (λ a b e f. (i a b e f).forth) (λ a b c. (t a b c).forth);
+  back = all_three_lead p' p q' q r' r l k g.back (λ a e. (h a (fine_here a g e)).back) (λ a b e f. let d : p ≡ fine a = fine_here a g e in (i a b d (fine_here b (h a d) f)).back) (λ a b c. (t a b c).back);
+}
+
+-- a demand at another place
+pub demand_alike : {A : Type 0} (t : Bool) (code at to : ℕ) (a : A) → Alike A (demand t code at a) (demand t code to a)
+demand_alike true code at to a = alike (fine a)
+demand_alike false code at to a = record { forth = tt; back = tt }
+
+pub and_alike : {p p' q q' : Checked Met} → Alike Met p p' → Alike Met q q' → Alike Met (and_also p q) (and_also p' q')
+and_alike {p} {p'} {q} {q'} g h = both_alike q q' (λ _ _. fine met) (λ _ _. fine met) g (λ _ _. h) (λ _ _. alike (fine met))
+
+pub by_test : {A : Type 0} (t : Bool) {p p' q q' : Checked A} → Alike A p p' → Alike A q q' → Alike A (if t then p else q) (if t then p' else q')
+by_test true g h = g
+by_test false g h = h
+
+pub fault_alike : {A : Type 0} (code at to : ℕ) → Alike A (fault code at) (fault code to)
+fault_alike code at to = record { forth = tt; back = tt }
+
+-- the parts of three that are fine
+pub three_fine : {A B C D : Type 0} (p : Checked A) (q : Checked B) (r : Checked C) (k : A → B → C → Checked D) (d : D) → all_three p q r k ≡ fine d → (a : A) × (b : B) × (c : C) × (p ≡ fine a) × (q ≡ fine b) × (r ≡ fine c)
+three_fine {A} {B} {C} p q r k d e =
+    let f = first_fine p (beside q r) (λ a t. k a t.first t.second) d e in
+    let g = first_fine q r (λ b c. fine (record { first = b; second = c })) f.1 f.3 in
+    (f.0, g.0, g.1, f.2, g.2, g.3)

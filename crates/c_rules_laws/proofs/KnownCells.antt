@@ -1,0 +1,84 @@
+-- The cells of a static object that is fine are constants with values.
+use Rattle.std.proofs.Common.{◌≡◌, ℕ, zero, suc, ◌-◌, Bool, true, false, List, [], ◌∷◌, ◌++◌, map, replicate, length, Option, Some, None, nat_le, refl, sym, subst}
+use Rattle.c_tree.specs.declared.value.IntType.TheVariants.{Char}
+use Rattle.c_tree.specs.Tree.{CType, void, integer, pointer, array, struct, function}
+use Rattle.c_tree.specs.Layout.{Structs, repeat, flat, flat_all}
+use Rattle.c_syntax.specs.Tree.{Init, one, list, MaybeInit, no_init, an_init}
+use Rattle.c_syntax.specs.Tree as syntax
+use Rattle.c_rules.specs.Checked.{Checked, fine, on}
+use Rattle.c_rules.specs.Scopes.{Env, layout_of, Before}
+use Rattle.c_rules.specs.TypedExpression.{TypedExpression, Constant, not_constant, undefined, known}
+use Rattle.c_rules.specs.Conversions.{as_if_assigned}
+use Rattle.c_rules.specs.Expressions.{value}
+use Rattle.c_rules.specs.Initialisers.{Slots, copies, each, slots, capacity, takes_list, count_inits, text_of, typed_zero, typed_char, zeros, chars, defined_cell, cell_of, scalar_cell, array_cells, cells_of_list, after_init, initialised, in_turn, initialised_static}
+use Rattle.c_rules_laws.proofs.Holding.{Holds, on_holds, both_hold, demand_holds, behind_demand, after_part}
+use Rattle.c_rules_laws.proofs.RightInitialisers.{IsKnownConstant, AllKnown}
+
+known_both : (gs hs : List TypedExpression) → AllKnown gs → AllKnown hs → AllKnown (gs ++ hs)
+known_both [] hs h k = k
+known_both (g ∷ gs) hs h k = (h.0, known_both gs hs h.1 k)
+
+zeros_known : (ts : List CType) → AllKnown (map typed_zero ts)
+zeros_known [] = tt
+zeros_known (t ∷ ts) = (one_known t, zeros_known ts)
+  where
+    one_known : (t : CType) → IsKnownConstant (typed_zero t).constant
+    one_known void = tt
+    one_known (integer i) = tt
+    one_known (pointer t) = tt
+    one_known (array t n) = tt
+    one_known (struct s) = tt
+    one_known (function t ts) = tt
+
+slots_known : (structs : Structs) (s : Slots) → AllKnown (zeros structs s)
+slots_known structs (copies n t) = zeros_known (repeat n (flat structs t))
+slots_known structs (each ts) = zeros_known (flat_all structs ts)
+
+chars_known : (n : ℕ) (w : List ℕ) → AllKnown (chars n w)
+chars_known n w = known_both (map typed_char w) (replicate (n - length w) (typed_char 0)) (all w) (ends (n - length w))
+  where
+    all : (w : List ℕ) → AllKnown (map typed_char w)
+    all [] = tt
+    all (c ∷ w) = (tt, all w)
+
+    ends : (k : ℕ) → AllKnown (replicate k (typed_char 0))
+    ends zero = tt
+    ends (suc k) = (tt, ends k)
+
+cell_known : (at : ℕ) (g : TypedExpression) (c : Constant) → g.constant ≡ c → Holds AllKnown (defined_cell at g c)
+cell_known at g not_constant e = tt
+cell_known at g undefined e = tt
+cell_known at g (known x) e = (subst IsKnownConstant (sym e) tt, tt)
+
+scalar_known : (at : ℕ) (t : CType) (r : Checked TypedExpression) → Holds AllKnown (scalar_cell true at t r)
+scalar_known at t r = after_part AllKnown (on r (as_if_assigned at t)) (cell_of true at) (λ g. cell_known at g g.constant refl)
+
+array_known : (at : ℕ) (t : CType) (n : ℕ) (o : Option (List ℕ)) → Holds AllKnown (array_cells at t n o)
+array_known at (integer Char) n (Some w) = demand_holds AllKnown (nat_le (length w) n) 14 at (chars n w) (λ _. chars_known n w)
+array_known at t n o = tt
+
+list_known : (takes : Bool) (at most n : ℕ) (r : Checked (List TypedExpression)) → Holds AllKnown r → Holds AllKnown (cells_of_list takes at most n r)
+list_known takes at most n r h = behind_demand AllKnown takes 14 at _ (λ _. on_holds AllKnown AllKnown r _ h (λ gs k. demand_holds AllKnown (nat_le n most) 14 at gs (λ _. k)))
+
+mutual
+  init_known : (i : Init) (env : Env) (b : Before) (t : CType) → Holds AllKnown (initialised env b true t i)
+  init_known (one at e) env b void = tt
+  init_known (one at e) env b (integer i) = scalar_known at (integer i) (value env b e)
+  init_known (one at e) env b (pointer t) = scalar_known at (pointer t) (value env b e)
+  init_known (one at e) env b (array t n) = array_known at t n (text_of e)
+  init_known (one at e) env b (struct s) = tt
+  init_known (one at e) env b (function t ts) = tt
+  init_known (list at is) env b t = list_known (takes_list t) at (capacity (slots env t)) (count_inits is) (in_turn env b true (slots env t) is) (turn_known is env b (slots env t))
+
+  turn_known : (is : syntax.Inits) (env : Env) (b : Before) (s : Slots) → Holds AllKnown (in_turn env b true s is)
+  turn_known syntax.no_inits env b s = slots_known (layout_of env) s
+  turn_known (syntax.more_inits i is) env b (copies zero t) = tt
+  turn_known (syntax.more_inits i is) env b (copies (suc n) t) =
+      both_hold AllKnown AllKnown AllKnown (initialised env b true t i) (in_turn env (after_init env b t i) true (copies n t) is) (λ gs hs. fine (gs ++ hs)) (init_known i env b t) (turn_known is env (after_init env b t i) (copies n t)) (λ gs hs h k. known_both gs hs h k)
+  turn_known (syntax.more_inits i is) env b (each []) = tt
+  turn_known (syntax.more_inits i is) env b (each (t ∷ ts)) =
+      both_hold AllKnown AllKnown AllKnown (initialised env b true t i) (in_turn env (after_init env b t i) true (each ts) is) (λ gs hs. fine (gs ++ hs)) (init_known i env b t) (turn_known is env (after_init env b t i) (each ts)) (λ gs hs h k. known_both gs hs h k)
+
+pub static_known : (m : MaybeInit) (env : Env) (b : Before) (t : CType) → Holds AllKnown (initialised_static env b t m)
+static_known no_init env b t = zeros_known (flat (layout_of env) t)
+static_known (an_init i) env b t = init_known i env b t

@@ -1,0 +1,125 @@
+-- Tests of types, and types as declarators make them.
+use Rattle.std.proofs.Common.{◌≡◌, ℕ, ◌<◌, true, List, Option, Some, None, slice_get, unwrap_or, nat_lt, nat_eq, refl, ap, ap₂, ◌∙◌, arith}
+use Rattle.std.specs.Prelude.{option_map}
+use Rattle.std.proofs.lemmas.Bool.Decides.{Decides-ltb, Decides-eqb}
+use Rattle.std.proofs.lemmas.Option.{slice_get-map}
+use Rattle.c_tree.specs.declared.value.IntType.{IntType}
+use Rattle.c_tree.specs.declared.value.IntType.TheVariants.{Char, Uchar, Int, Uint}
+use Rattle.c_tree.specs.Tree.{CType, void, integer, pointer, array, struct, function, CTypes, no_types, more_types}
+use Rattle.c_tree.specs.Layout.{Structs}
+use Rattle.c_tree.specs.Operands.{IsScalar, IsResult, IsComplete}
+use Rattle.c_rules.specs.Types.{same_integer, same_type, same_types, is_scalar, is_result}
+use Rattle.c_rules.specs.Scopes.{Env, Struct, incomplete, unknown_struct, defined_struct, types_of_struct, layout_of}
+use Rattle.c_rules.specs.Conversions.{is_defined, complete}
+use Rattle.c_rules_laws.specs.MadeTypes.{NotArray, Made, AllMade, FewCells}
+use Rattle.c_rules_laws.proofs.Holding.{Holds, demand_holds, and_left, and_right}
+
+-- ## Tests of types
+
+pub integer_is : (i j : IntType) → same_integer i j ≡ true → i ≡ j
+integer_is Char Char h = refl
+integer_is Char Uchar h = absurd (cc)
+integer_is Char Int h = absurd (cc)
+integer_is Char Uint h = absurd (cc)
+integer_is Uchar Char h = absurd (cc)
+integer_is Uchar Uchar h = refl
+integer_is Uchar Int h = absurd (cc)
+integer_is Uchar Uint h = absurd (cc)
+integer_is Int Char h = absurd (cc)
+integer_is Int Uchar h = absurd (cc)
+integer_is Int Int h = refl
+integer_is Int Uint h = absurd (cc)
+integer_is Uint Char h = absurd (cc)
+integer_is Uint Uchar h = absurd (cc)
+integer_is Uint Int h = absurd (cc)
+integer_is Uint Uint h = refl
+
+pub number_is : (m n : ℕ) → nat_eq m n ≡ true → m ≡ n
+number_is m n h = (Decides-eqb m n).0 h
+
+mutual
+  pub type_is : (t u : CType) → same_type t u ≡ true → t ≡ u
+  type_is void void h = refl
+  type_is (integer i) (integer j) h = ap integer (integer_is i j h)
+  type_is (pointer t) (pointer u) h = ap pointer (type_is t u h)
+  type_is (array t m) (array u n) h = ap₂ (λ x y. array x y) (type_is t u (and_left (same_type t u) (nat_eq m n) h)) (number_is m n (and_right (same_type t u) (nat_eq m n) h))
+  type_is (struct s) (struct r) h = ap struct (number_is s r h)
+  type_is (function t ts) (function u us) h = ap₂ (λ x y. function x y) (type_is t u (and_left (same_type t u) (same_types ts us) h)) (types_are ts us (and_right (same_type t u) (same_types ts us) h))
+  type_is t u h = absurd (cc)
+
+  pub types_are : (ts us : CTypes) → same_types ts us ≡ true → ts ≡ us
+  types_are no_types no_types h = refl
+  types_are (more_types t ts) (more_types u us) h = ap₂ (λ x y. more_types x y) (type_is t u (and_left (same_type t u) (same_types ts us) h)) (types_are ts us (and_right (same_type t u) (same_types ts us) h))
+  types_are ts us h = absurd (cc)
+
+pub scalar_is : (t : CType) → is_scalar t ≡ true → IsScalar t
+scalar_is void h = absurd (cc)
+scalar_is (integer i) h = tt
+scalar_is (pointer t) h = tt
+scalar_is (array t n) h = absurd (cc)
+scalar_is (struct s) h = absurd (cc)
+scalar_is (function t ts) h = absurd (cc)
+
+pub result_is : (t : CType) → is_result t ≡ true → IsResult t
+result_is void h = tt
+result_is (integer i) h = tt
+result_is (pointer t) h = tt
+result_is (array t n) h = absurd (cc)
+result_is (struct s) h = absurd (cc)
+result_is (function t ts) h = absurd (cc)
+
+pub result_not_array : (t : CType) → IsResult t → NotArray t
+result_not_array void h = tt
+result_not_array (integer i) h = tt
+result_not_array (pointer t) h = tt
+result_not_array (array t n) h = absurd h
+result_not_array (struct s) h = absurd h
+result_not_array (function t ts) h = absurd h
+
+pub few_unless_array : (structs : Structs) (t : CType) → NotArray t → FewCells structs t
+few_unless_array structs void h = tt
+few_unless_array structs (integer i) h = tt
+few_unless_array structs (pointer t) h = tt
+few_unless_array structs (array t n) h = absurd h
+few_unless_array structs (struct s) h = tt
+few_unless_array structs (function t ts) h = tt
+
+-- ## Types of known size
+
+struct_known : (env : Env) (at s : ℕ) (o : Option Struct) → slice_get env.structs s ≡ o → Holds (λ _. IsComplete (layout_of env) (struct s)) (is_defined at (unwrap_or o incomplete))
+struct_known env at s None e = tt
+struct_known env at s (Some incomplete) e = tt
+struct_known env at s (Some (unknown_struct f fs)) e = tt
+struct_known env at s (Some (defined_struct ms)) e = (_, slice_get-map types_of_struct env.structs s ∙ ap (option_map types_of_struct) e)
+
+pub complete_known : (env : Env) (at : ℕ) (t : CType) → Made (layout_of env) t → Holds (λ _. IsComplete (layout_of env) t) (complete env at t)
+complete_known env at void h = tt
+complete_known env at (integer i) h = tt
+complete_known env at (pointer t) h = tt
+complete_known env at (array t n) h = demand_holds (λ _. IsComplete (layout_of env) (array t n)) (nat_lt 0 n) 3 at _ (λ e. let l : 0 < n = (Decides-ltb 0 n).0 e in (omega (arith, l), h.1))
+complete_known env at (struct s) h = struct_known env at s (slice_get env.structs s) refl
+complete_known env at (function t ts) h = tt
+
+-- ## More structs are defined
+
+module _ (old new : Structs) (kept : (s : ℕ) (ts : List CType) → slice_get old s ≡ Some (Some ts) → slice_get new s ≡ Some (Some ts)) where
+  pub complete_kept : (t : CType) → IsComplete old t → IsComplete new t
+  complete_kept void h = absurd h
+  complete_kept (integer i) h = tt
+  complete_kept (pointer t) h = tt
+  complete_kept (array t n) h = (h.0, complete_kept t h.1)
+  complete_kept (struct s) h = (h.0, kept s h.0 h.1)
+  complete_kept (function t ts) h = absurd h
+
+  mutual
+    pub made_kept : (t : CType) → Made old t → Made new t
+    made_kept void h = tt
+    made_kept (integer i) h = tt
+    made_kept (pointer t) h = (h.0, made_kept t h.1)
+    made_kept (array t n) h = (h.0, complete_kept t h.1, made_kept t h.2)
+    made_kept (struct s) h = tt
+    made_kept (function t ts) h = (h.0, h.1, made_kept t h.2, all_made_kept ts h.3)
+
+    pub all_made_kept : (ts : CTypes) → AllMade old ts → AllMade new ts
+    all_made_kept no_types h = tt
+    all_made_kept (more_types t ts) h = (h.0, made_kept t h.1, all_made_kept ts h.2)

@@ -1,0 +1,104 @@
+-- The size of an object is at most four times the number of its cells, and an object has a cell at least.
+use Rattle.std.proofs.Common.{◌≡◌, ◌⊎◌, inl, inr, ℕ, zero, suc, ◌+◌, ◌-◌, ◌*◌, ◌/◌, ◌≤◌, ◌<◌, max, List, [], ◌∷◌, ◌++◌, All, length, length-append, Some, slice_get, refl, sym, subst, arith}
+use Rattle.std.proofs.lemmas.List.Elements.{All-head}
+use Rattle.c_tree.specs.declared.value.IntType.TheVariants.{Char, Uchar, Int, Uint}
+use Rattle.c_tree.specs.Tree.{CType, void, integer, pointer, array, struct, function}
+use Rattle.c_tree.specs.Layout.{Structs, members_of, repeat, flat_with, flat_all_with, layout, struct_cells, flat, flat_all, cells, Extent, round_up, put_after, extent_with, extent_after, rounded, struct_extent, sizeof}
+use Rattle.c_tree.specs.Operands.{IsComplete}
+use Rattle.c_tree.specs.Program.{IsBelow}
+use Rattle.c_meaning_laws.proofs.Places.{length_repeat, struct_is}
+use Rattle.c_rules_laws.specs.SoundStructs.{AreSound}
+use Rattle.c_rules_laws.proofs.SoundStructs.{are_structs}
+
+-- an extent beside so many cells
+pub record IsWithin (e : Extent) (n : ℕ) : Type 0 where
+  pub size : e.size ≤ 4 * n
+  pub aligned : (e.alignment ≡ 1) ⊎ (e.alignment ≡ 4)
+
+rounded_up : (size a n : ℕ) → size ≤ 4 * n → (a ≡ 1) ⊎ (a ≡ 4) → round_up size a ≤ 4 * n
+rounded_up size a n h (inl e) = subst (λ a. round_up size a ≤ 4 * n) (sym e) (let q : round_up size 1 ≤ 4 * n = omega (arith, h) in q)
+rounded_up size a n h (inr e) = subst (λ a. round_up size a ≤ 4 * n) (sym e) (let q : (size + (4 - 1)) / 4 * 4 ≤ 4 * n = omega (arith, h) in q)
+
+greater : (a b : ℕ) → (a ≡ 1) ⊎ (a ≡ 4) → (b ≡ 1) ⊎ (b ≡ 4) → (max a b ≡ 1) ⊎ (max a b ≡ 4)
+greater a b (inl e) (inl f) = inl (omega (arith, e, f))
+greater a b (inl e) (inr f) = inr (omega (arith, e, f))
+greater a b (inr e) (inl f) = inr (omega (arith, e, f))
+greater a b (inr e) (inr f) = inr (omega (arith, e, f))
+
+put_within : (e m : Extent) (n k : ℕ) → IsWithin e n → IsWithin m k → IsWithin (put_after e m) (n + k)
+put_within e m n k h g = record {
+  size = (let r = rounded_up e.size m.alignment n h.size g.aligned in let s = g.size in omega (arith, r, s));
+  aligned = greater e.alignment m.alignment h.aligned g.aligned;
+}
+
+rounded_within : (e : Extent) (n : ℕ) → IsWithin e n → IsWithin (rounded e) n
+rounded_within e n h = record { size = rounded_up e.size e.alignment n h.size h.aligned; aligned = h.aligned }
+
+module _ (f : ℕ → Extent) (g : ℕ → List CType) (h : (s : ℕ) → IsWithin (f s) (length (g s))) where
+  with_within : (t : CType) → IsWithin (extent_with f t) (length (flat_with g t))
+  with_within void = record { size = omega arith; aligned = inl refl }
+  with_within (integer Char) = record { size = omega arith; aligned = inl refl }
+  with_within (integer Uchar) = record { size = omega arith; aligned = inl refl }
+  with_within (integer Int) = record { size = omega arith; aligned = inr refl }
+  with_within (integer Uint) = record { size = omega arith; aligned = inr refl }
+  with_within (pointer t) = record { size = omega arith; aligned = inr refl }
+  with_within (array t n) = record {
+    size = (let s = (with_within t).size in let l = length_repeat n (flat_with g t) in subst (λ k. n * (extent_with f t).size ≤ 4 * k) (sym l) (times n (extent_with f t).size (length (flat_with g t)) s));
+    aligned = (with_within t).aligned;
+  }
+    where
+      times : (n a c : ℕ) → a ≤ 4 * c → n * a ≤ 4 * (n * c)
+      times zero a c l = omega arith
+      times (suc n) a c l = (let r = times n a c l in omega (arith, r, l))
+  with_within (struct s) = h s
+  with_within (function t ts) = record { size = omega arith; aligned = inl refl }
+
+  after_within : (e : Extent) (n : ℕ) (ts : List CType) → IsWithin e n → IsWithin (extent_after f e ts) (n + length (flat_all_with g ts))
+  after_within e n [] w = subst (IsWithin e) (let q : n ≡ n + 0 = omega arith in q) w
+  after_within e n (t ∷ ts) w =
+      subst (IsWithin (extent_after f (put_after e (extent_with f t)) ts)) (let a = length-append (flat_with g t) (flat_all_with g ts) in let q : (n + length (flat_with g t)) + length (flat_all_with g ts) ≡ n + length (flat_with g t ++ flat_all_with g ts) = omega (arith, a) in q)
+      (after_within (put_after e (extent_with f t)) (n + length (flat_with g t)) ts (put_within e (extent_with f t) n (length (flat_with g t)) w (with_within t)))
+
+struct_within : (structs : Structs) (depth s : ℕ) → IsWithin (struct_extent structs depth s) (length (layout structs depth s))
+struct_within structs zero s = record { size = omega arith; aligned = inl refl }
+struct_within structs (suc depth) s =
+    let start : Extent = record { size = 0; alignment = 1 } in
+    let n : ℕ = length (flat_all_with (layout structs depth) (members_of structs s)) in
+    let begins : IsWithin start 0 = record { size = omega arith; aligned = inl refl } in
+    let q : 0 + n ≡ n = omega arith in
+    subst (IsWithin (rounded (extent_after (struct_extent structs depth) start (members_of structs s)))) q
+    (rounded_within (extent_after (struct_extent structs depth) start (members_of structs s)) (0 + n) (after_within (struct_extent structs depth) (layout structs depth) (struct_within structs depth) start 0 (members_of structs s) begins))
+
+pub size_bound : (structs : Structs) (t : CType) → sizeof structs t ≤ 4 * cells structs t
+size_bound structs t = (with_within (struct_extent structs (length structs)) (struct_cells structs) (struct_within structs (length structs)) t).size
+
+-- ## An object has a cell
+
+module _ (structs : Structs) (sound : AreSound structs) where
+  each_cell : (r : ℕ) → ((u : ℕ) (ts : List CType) → slice_get structs u ≡ Some (Some ts) → sound.rank u < r → 1 ≤ length (struct_cells structs u)) → (t : CType) → IsComplete structs t → IsBelow sound.rank r t → 1 ≤ cells structs t
+  each_cell r f void c b = absurd c
+  each_cell r f (integer i) c b = omega arith
+  each_cell r f (pointer t) c b = omega arith
+  each_cell r f (array t zero) c b = absurd (omega (arith, c.0))
+  each_cell r f (array t (suc k)) c b = (let a = length-append (flat structs t) (repeat k (flat structs t)) in let e = each_cell r f t c.1 b in omega (arith, a, e))
+  each_cell r f (struct u) c b = f u c.0 c.1 b
+  each_cell r f (function t us) c b = absurd c
+
+  first_cells : (r : ℕ) → ((u : ℕ) (ts : List CType) → slice_get structs u ≡ Some (Some ts) → sound.rank u < r → 1 ≤ length (struct_cells structs u)) → (us : List CType) → 1 ≤ length us → All (IsComplete structs) us → All (IsBelow sound.rank r) us → 1 ≤ length (flat_all structs us)
+  first_cells r f [] m c b = absurd (omega (arith, m))
+  first_cells r f (u ∷ us) m c b = (let a = length-append (flat structs u) (flat_all structs us) in let e = each_cell r f u (All-head (IsComplete structs) u us c) (All-head (IsBelow sound.rank r) u us b) in omega (arith, a, e))
+
+  some_cells : (n : ℕ) (s : ℕ) (ts : List CType) → slice_get structs s ≡ Some (Some ts) → sound.rank s < n → 1 ≤ length (struct_cells structs s)
+  some_cells zero s ts e l = absurd (omega (arith, l))
+  some_cells (suc n) s ts e l =
+      subst (λ xs. 1 ≤ length xs) (sym (struct_is structs (are_structs structs sound) s ts e))
+      (first_cells (sound.rank s) (λ u us q k. some_cells n u us q (omega (arith, l, k))) ts (sound.members s ts e) (sound.complete s ts e) (sound.below s ts e))
+
+  pub has_cell : (t : CType) → IsComplete structs t → 1 ≤ cells structs t
+  has_cell void c = absurd c
+  has_cell (integer i) c = omega arith
+  has_cell (pointer t) c = omega arith
+  has_cell (array t zero) c = absurd (omega (arith, c.0))
+  has_cell (array t (suc k)) c = (let a = length-append (flat structs t) (repeat k (flat structs t)) in let r = has_cell t c.1 in omega (arith, a, r))
+  has_cell (struct u) c = some_cells (suc (sound.rank u)) u c.0 c.1 (omega arith)
+  has_cell (function t us) c = absurd c

@@ -1,0 +1,236 @@
+-- The items of a unit that is fine: the sites in their functions are the numbers of the calls from those before them on, and no limit on calls, strings and cells is passed.
+use Rattle.std.proofs.Common.{◌≡◌, ℕ, zero, suc, ◌+◌, ◌≤◌, Bool, true, false, not, ◌&&◌, List, [], ◌∷◌, ◌++◌, flat_map, length, length-append, append_assoc, Option, Some, None, nat_le, refl, ap, ap₂, sym, subst, ◌∙◌, arith}
+use Rattle.std.specs.List.{range_with_len}
+use Rattle.c_tree.specs.Tree.{CType, void, integer, pointer, array, struct, function, CTypes, Function}
+use Rattle.c_tree.specs.Tree as typed
+use Rattle.c_tree.specs.Layout.{cells, cells_of_all}
+use Rattle.c_tree.specs.Sites.{sites_of_function}
+use Rattle.c_syntax.specs.Tree.{Ident, Storage, Spec, Declarator, Params, no_params, more_params, MaybeInit, Parts, no_parts, more_parts, Decl, decl, Stmt, BlockItems, Item, struct_item, enum_item, tag_item, decl_item, function_item, Items, no_items, more_items}
+use Rattle.c_rules.specs.Checked.{Checked, fine, on, and_also, demand, met}
+use Rattle.c_rules.specs.Limits.{most_local_cells}
+use Rattle.c_rules.specs.Scopes.{Env, a_static, evaluated, inside, layout_of, declared_here, Before}
+use Rattle.c_rules.specs.Counts.{string_cells, past}
+use Rattle.c_rules.specs.TypedExpression.{TypedExpression}
+use Rattle.c_rules.specs.Declarators.{name_of, place_or}
+use Rattle.c_rules.specs.Expressions.{type_declared}
+use Rattle.c_rules.specs.Initialisers.{held_by, calls_of_maybe_init, initialised_static}
+use Rattle.c_rules.specs.Objects.{Object, object_declared}
+use Rattle.c_rules.specs.Variables.{Next, calls_of_block}
+use Rattle.c_rules.specs.Blocks.{StatementTree, held_by_block}
+use Rattle.c_rules.specs.Statements.{Around, items_of_block}
+use Rattle.c_rules.specs.Functions.{declares_function, parameters_of, are_named, with_parameter, with_parameters, variables_of, function_laid, body_env, body_numbers, body_of, held_by_type, held_by_typed, is_defined_by, function_declared, items_of_body, defined_as}
+use Rattle.c_rules.specs.Items.{Output, no_output, with_output, static_of, without_init, output_of_function, defines, object_name, few_static, global_object, global_declared, within_global, after_object, definition_of, global, declared_part, named_part, behind_file_part, after_global, after_declared, after_file_part, file_parts, after_file_parts, file_decl, after_file_decl, behind_defined, function_named, behind_function_named, after_function, item, behind_item, behind_by_form, after_item, items, after_items}
+use Rattle.c_rules_laws.specs.Lexical.{IsItemLexical, IsUnitLexical}
+use Rattle.c_rules_laws.proofs.Holding.{held, first_fine, on_fine, demand_fine}
+use Rattle.c_rules_laws.proofs.SizeBounds.{has_cell}
+use Rattle.c_rules_laws.proofs.SitesOfExpressions.{AreShort, short_both, FitsAt, Span, range_append}
+use Rattle.c_rules_laws.proofs.RightInitialisers.{AllKnown, known_sites, InitCounted, static_counted}
+use Rattle.c_rules_laws.proofs.SitesOfStatements.{IsSpan, StmtsSpan, held_by_named_same, block_span}
+use Rattle.c_rules_laws.proofs.FileScopes.{IsFileRight}
+use Rattle.c_rules_laws.proofs.FileItems.{IsObjectNamed, object_named, part_step, form_step, tags_step}
+use Rattle.c_rules_laws.proofs.UnitShape.{output_same, type_same}
+use Rattle.c_rules_laws.proofs.KnownCells.{static_known}
+
+-- what stands before a part, what stands behind it, and what it gives
+pub record Spans (b a : Before) (q : Output) : Type 0 where
+  pub count : ℕ
+  pub sites : flat_map sites_of_function q.functions ≡ range_with_len b.sites count
+  pub counted : a.sites ≡ b.sites + count
+  pub more : List (List ℕ)
+  pub strings : a.strings ≡ b.strings ++ more
+  pub short : AreShort more
+  pub sites_fit : b.sites ≤ 30000 → a.sites ≤ 30000
+  pub cells_fit : b.cells ≤ 1048576 → a.cells ≤ 1048576
+  pub many : b.cells + (length q.statics + length more) ≤ a.cells
+
+nothing_more : {A : Type 0} (xs : List A) → xs ++ [] ≡ xs
+nothing_more [] = refl
+nothing_more (x ∷ xs) = ap (λ ys. x ∷ ys) (nothing_more xs)
+
+spans_none : (b : Before) → Spans b b no_output
+spans_none b = record {
+  count = 0;
+  sites = refl;
+  counted = omega arith;
+  more = [];
+  strings = sym (nothing_more b.strings);
+  short = tt;
+  sites_fit = λ l. l;
+  cells_fit = λ l. l;
+  many = omega arith;
+}
+
+no_spans : (b : Before) (q : Output) → fine no_output ≡ fine q → Spans b b q
+no_spans b q e = subst (Spans b b) (output_same no_output q e) (spans_none b)
+
+functions_sites : (fs gs : List Function) → flat_map sites_of_function (fs ++ gs) ≡ flat_map sites_of_function fs ++ flat_map sites_of_function gs
+functions_sites [] gs = refl
+functions_sites (f ∷ fs) gs = ap (λ xs. sites_of_function f ++ xs) (functions_sites fs gs) ∙ sym (append_assoc (sites_of_function f) (flat_map sites_of_function fs) (flat_map sites_of_function gs))
+
+spans_both : (b a c : Before) (q r : Output) → Spans b a q → Spans a c r → Spans b c (with_output q r)
+spans_both b a c q r h k = record {
+  count = h.count + k.count;
+  sites = functions_sites q.functions r.functions ∙ (ap₂ (λ xs ys. xs ++ ys) h.sites (k.sites ∙ ap (λ n. range_with_len n k.count) h.counted) ∙ sym (range_append b.sites h.count k.count));
+  counted = (let x = h.counted in let y = k.counted in omega (arith, x, y));
+  more = h.more ++ k.more;
+  strings = k.strings ∙ (ap (λ ws. ws ++ k.more) h.strings ∙ append_assoc b.strings h.more k.more);
+  short = short_both h.more k.more h.short k.short;
+  sites_fit = λ l. k.sites_fit (h.sites_fit l);
+  cells_fit = λ l. k.cells_fit (h.cells_fit l);
+  many = (let x = h.many in let y = k.many in let s = length-append q.statics r.statics in let t = length-append h.more k.more in omega (arith, x, y, s, t));
+}
+
+-- ## Objects
+
+no_range : (a n : ℕ) → range_with_len a n ≡ [] → n ≡ 0
+no_range a zero e = refl
+no_range a (suc n) e = absurd (cc)
+
+string_many : (ws : List (List ℕ)) → length ws ≤ string_cells ws
+string_many [] = omega arith
+string_many (w ∷ ws) = (let l = string_many ws in omega (arith, l))
+
+object_same : (o p : Object) → fine o ≡ fine p → o ≡ p
+object_same o p e = cc
+
+object_span : (env : Env) → IsFileRight env → (b : Before) (x : Ident) (m : MaybeInit) (r : Checked Object) (o : Object) (q : Output) → r ≡ fine o → IsObjectNamed env true b x o → global env true b x m r ≡ fine q → Spans b (after_global env b m (fine o)) q
+object_span env w b x m r o q e h f =
+    let inner : Env = within_global env true x r in
+    let i = on_fine r (definition_of inner b m) q f in
+    let same : i.0 ≡ o = object_same i.0 o (sym i.1 ∙ e) in
+    let g : definition_of inner b m o ≡ fine q = subst (λ z. definition_of inner b m z ≡ fine q) same i.2 in
+    let start : Before = after_object inner b o.whole in
+    let j = on_fine (initialised_static inner start o.whole m) (λ gs. fine (static_of o gs)) q g in
+    let n : ℕ = calls_of_maybe_init m in
+    let ws : List (List ℕ) = held_by env o.whole m in
+    let seen : held_by inner o.whole m ≡ ws = held_by_named_same m env x.name _ o.whole in
+    let counted : InitCounted start n (held_by inner o.whole m) j.0 = held (InitCounted start n (held_by inner o.whole m)) (initialised_static inner start o.whole m) j.0 (static_counted m inner w.runs start o.whole) j.1 in
+    let known : AllKnown j.0 = held AllKnown (initialised_static inner start o.whole m) j.0 (static_known m inner start o.whole) j.1 in
+    let none : n ≡ 0 = no_range b.sites n (known_sites j.0 (Span start n) known counted.0) in
+    let fits : FitsAt start n ws = subst (FitsAt start n) seen counted.1 in
+    let some = has_cell (layout_of env) w.names_known.sound o.whole h.right.known in
+    let many = string_many ws in
+    subst (Spans b (after_global env b m (fine o))) (output_same (static_of o j.0) q j.2)
+    (record {
+      count = 0;
+      sites = refl;
+      counted = omega (arith, none);
+      more = ws;
+      strings = refl;
+      short = fits.short;
+      sites_fit = λ l. omega (arith, none, l);
+      cells_fit = λ _. fits.cells_fit (h.few refl);
+      many = omega (arith, some, many);
+    })
+
+-- an object that is named is the one that is declared
+object_declared_same : (env : Env) (defined : Bool) (b : Before) (at : ℕ) (s : Spec) (d : Declarator) (x : Ident) (m : MaybeInit) (o : Object) → global_declared env defined b at s d x m ≡ fine o → object_declared env at s d x m ≡ fine o
+object_declared_same env defined b at s d x m o e =
+    let i = on_fine (object_declared env at s d x m) (global_object env defined b x) o e in
+    let j = on_fine (and_also (object_name env defined x i.0.whole) (few_static env defined b x i.0.whole)) (λ _. fine i.0) o i.2 in
+    i.1 ∙ j.2
+
+part_span : (env : Env) → IsFileRight env → (b : Before) (at : ℕ) (class : Storage) (s : Spec) (d : Declarator) (m : MaybeInit) (o : Option Ident) (q : Output) → named_part env b at class s d m o ≡ fine q → Spans b (after_declared env b at s d m (not (declares_function d) && defines class m) o) q
+part_span env w b at class s d m None q e = absurd (cc)
+part_span env w b at class s d m (Some x) q e = by_kind (declares_function d) (defines class m) refl e
+  where
+    by_object : (k : Bool) → defines class m ≡ k → global env k b x m (global_declared env (defines class m) b at s d x m) ≡ fine q → Spans b (after_declared env b at s d m k (Some x)) q
+    by_object false n e = (let i = on_fine (global_declared env (defines class m) b at s d x m) (λ _. fine no_output) q e in no_spans b q i.2)
+    by_object true n e =
+        let r : Checked Object = global_declared env (defines class m) b at s d x m in
+        let i = on_fine r (definition_of (within_global env true x r) b m) q e in
+        let named : IsObjectNamed env (defines class m) b x i.0 = held (IsObjectNamed env (defines class m) b x) r i.0 (object_named env (defines class m) b at s d x m) i.1 in
+        let o : object_declared env at s d x m ≡ fine i.0 = object_declared_same env (defines class m) b at s d x m i.0 i.1 in
+        subst (λ z. Spans b (after_global env b m z) q) (sym o) (object_span env w b x m r i.0 q i.1 (subst (λ k. IsObjectNamed env k b x i.0) n named) e)
+
+    by_kind : (f k : Bool) → defines class m ≡ k → declared_part env b at class s d m f x ≡ fine q → Spans b (after_declared env b at s d m (not f && k) (Some x)) q
+    by_kind true k n e = (let i = first_fine (function_declared env false at s d x) (without_init m) (λ _ _. fine no_output) q e in no_spans b q i.4)
+    by_kind false k n e = by_object k n (subst (λ z. global env z b x m (global_declared env (defines class m) b at s d x m) ≡ fine q) n e)
+
+parts_span : (ps : Parts) (env : Env) → IsFileRight env → (b : Before) (at : ℕ) (class : Storage) (s : Spec) (q : Output) → file_parts env b at class s ps ≡ fine q → Spans b (after_file_parts env b at class s ps) q
+parts_span no_parts env w b at class s q e = no_spans b q e
+parts_span (more_parts d m ps) env w b at class s q e =
+    let inner : Env = behind_file_part env b at class s d m in
+    let after : Before = after_file_part env b at class s d m in
+    let i = first_fine (named_part env b at class s d m (name_of d)) (file_parts inner after at class s ps) (λ p q. fine (with_output p q)) q e in
+    let step = part_step env b at class s d m (name_of d) i.0 w i.2 in
+    subst (Spans b (after_file_parts inner after at class s ps)) (output_same (with_output i.0 i.1) q i.4)
+    (spans_both b after (after_file_parts inner after at class s ps) i.0 i.1 (part_span env w b at class s d m (name_of d) i.0 i.2) (parts_span ps inner step.0 after at class s i.1 i.3))
+
+decl_span : (d : Decl) (env : Env) → IsFileRight env → (b : Before) (q : Output) → file_decl env b d ≡ fine q → Spans b (after_file_decl env b d) q
+decl_span (decl at class s ps) env w b q e = parts_span ps env w b at class s q e
+
+-- ## Functions
+
+parameter_context : (env : Env) (k : ℕ) (o : Option Ident) (t : CType) → (with_parameter env k o t).context ≡ env.context
+parameter_context env k None t = refl
+parameter_context env k (Some x) t = refl
+
+params_context : (ps : Params) (ts : CTypes) (env : Env) (k : ℕ) → (with_parameters env k ps ts).context ≡ env.context
+params_context no_params ts env k = refl
+params_context (more_params at s d ps) typed.no_types env k = refl
+params_context (more_params at s d ps) (typed.more_types t ts) env k = params_context ps ts (with_parameter env k (name_of d) t) (suc k) ∙ parameter_context env k (name_of d) t
+
+function_span : (env : Env) → env.context ≡ evaluated → (b : Before) (place : ℕ) (d : Declarator) (x : Ident) (is : BlockItems) (u : CType) (f : Function) → defined_as env b place d x is u ≡ fine f → IsSpan b (calls_of_block is) (held_by_type env d is u) (sites_of_function f)
+function_span env c b place d x is (function t ts) f e =
+    let i = first_fine (demand (are_named (parameters_of d)) 3 place met) (body_of env b t d ts is) (λ _ q. function_laid env x t ts q) f e in
+    let q : StatementTree typed.Stmts = i.1 in
+    let j = demand_fine (nat_le (cells_of_all (layout_of env) (variables_of ts q)) (most_local_cells env.whole.mode)) 13 x.at (record { name = x.name; ctype = function t ts; variables = variables_of ts q; body = typed.block q.tree }) f i.4 in
+    let inner : Env = body_env env d ts in
+    let next : Next = body_numbers d is in
+    let around : Around = record { breaks = false; continues = false; returns = t } in
+    let runs : inner.context ≡ evaluated = params_context (parameters_of d) ts (inside env) 0 ∙ c in
+    let h : StmtsSpan b (calls_of_block is) (held_by_block inner next is) q = held (StmtsSpan b (calls_of_block is) (held_by_block inner next is)) (items_of_block inner around b next is) q (block_span is inner runs around b next) i.3 in
+    subst (λ f. IsSpan b (calls_of_block is) (held_by_block inner next is) (sites_of_function f)) j.1 h
+function_span env c b place d x is void f e = absurd (cc)
+function_span env c b place d x is (integer i) f e = absurd (cc)
+function_span env c b place d x is (pointer t) f e = absurd (cc)
+function_span env c b place d x is (array t n) f e = absurd (cc)
+function_span env c b place d x is (struct n) f e = absurd (cc)
+
+-- a function, and what stands behind it
+one_function : (b : Before) (n : ℕ) (ws : List (List ℕ)) (f : Function) → IsSpan b n ws (sites_of_function f) → Spans b (past b n ws) (output_of_function f)
+one_function b n ws f h = record {
+  count = n;
+  sites = nothing_more (sites_of_function f) ∙ h.0;
+  counted = refl;
+  more = ws;
+  strings = refl;
+  short = h.1.short;
+  sites_fit = h.1.sites_fit;
+  cells_fit = h.1.cells_fit;
+  many = (let l = string_many ws in omega (arith, l));
+}
+
+definition_span : (env : Env) → IsFileRight env → (b : Before) (at : ℕ) (s : Spec) (d : Declarator) (body : Stmt) (k : Bool) (o : Option Ident) (q : Output) → function_named env b at s d body k o ≡ fine q
+    → Spans b (past b (calls_of_block (items_of_body body)) (held_by_typed (behind_function_named env at s d o) d (items_of_body body) (type_declared env at s d))) q
+definition_span env w b at s d body false o q e = absurd (cc)
+definition_span env w b at s d body true None q e = absurd (cc)
+definition_span env w b at s d body true (Some x) q e =
+    let is : BlockItems = items_of_body body in
+    let inner : Env = behind_defined env at s d x in
+    let i = first_fine (function_declared env true at s d x) (on (type_declared env at s d) (defined_as inner b (place_or at d) d x is)) (λ _ f. fine (output_of_function f)) q e in
+    let j = on_fine (type_declared env at s d) (defined_as inner b (place_or at d) d x is) i.1 i.3 in
+    let h : IsSpan b (calls_of_block is) (held_by_type inner d is j.0) (sites_of_function i.1) = function_span inner w.runs b (place_or at d) d x is j.0 i.1 j.2 in
+    subst (λ r. Spans b (past b (calls_of_block is) (held_by_typed inner d is r)) q) (sym j.1)
+    (subst (Spans b (past b (calls_of_block is) (held_by_type inner d is j.0))) (output_same (output_of_function i.1) q i.4) (one_function b (calls_of_block is) (held_by_type inner d is j.0) i.1 h))
+
+-- ## Items
+
+form_span : (i : Item) (env : Env) → IsFileRight env → (b : Before) (q : Output) → item env b i ≡ fine q → Spans b (after_item env b i) q
+form_span (struct_item at x ms) env w b q e = (let i = on_fine _ (λ _. fine no_output) q e in no_spans b q i.2)
+form_span (enum_item at x es) env w b q e = (let i = first_fine _ _ (λ _ _. fine no_output) q e in no_spans b q i.4)
+form_span (tag_item at x) env w b q e = (let i = on_fine _ (λ _. fine no_output) q e in no_spans b q i.2)
+form_span (decl_item at d) env w b q e = decl_span d env w b q e
+form_span (function_item at class s d body) env w b q e = definition_span env w b at s d body (declares_function d) (name_of d) q e
+
+pub items_span : (is : Items) (env : Env) → IsFileRight env → (b : Before) (q : Output) → IsUnitLexical is → items env b is ≡ fine q → Spans b (after_items env b is) q
+items_span no_items env w b q l e = no_spans b q e
+items_span (more_items i is) env w b q l e =
+    let inner : Env = behind_item env b i in
+    let after : Before = after_item env b i in
+    let f = first_fine (item env b i) (items inner after is) (λ p q. fine (with_output p q)) q e in
+    let form = form_step i env b f.0 w l.0 f.2 in
+    let tags = tags_step (behind_by_form env b i) i form.0 in
+    subst (Spans b (after_items inner after is)) (output_same (with_output f.0 f.1) q f.4)
+    (spans_both b after (after_items inner after is) f.0 f.1 (form_span i env w b f.0 f.2) (items_span is inner tags.0 after f.1 l.1 f.3))

@@ -1,0 +1,257 @@
+-- The items of a unit that is fine give functions and static objects of the program that is made of it.
+use Rattle.std.proofs.Common.{◌≡◌, ℕ, ◌+◌, ◌≤◌, Bool, true, false, not, ◌&&◌, List, [], ◌∷◌, ◌++◌, map, length, append_assoc, Option, Some, None, slice_get, refl, ap, sym, subst, ◌∙◌, arith}
+use Rattle.std.specs.List.{AllZip}
+use Rattle.c_tree.specs.Tree.{CType, Function, Static, Program}
+use Rattle.c_tree.specs.Layout.{flat}
+use Rattle.c_tree.specs.Operands.{IsObject}
+use Rattle.c_tree.specs.Kinds.{HasType, static_objects}
+use Rattle.c_tree.specs.Program.{IsFunction, IsStatic}
+use Rattle.c_tree.specs.Typed.{IsStaticOf}
+use Rattle.c_syntax.specs.Tree.{Ident, Storage, Spec, Declarator, MaybeInit, Parts, no_parts, more_parts, Decl, decl, Stmt, BlockItems, Item, struct_item, enum_item, tag_item, decl_item, function_item, Items, no_items, more_items}
+use Rattle.c_syntax.specs.Tree as syntax
+use Rattle.c_rules.specs.Checked.{Checked, fine, faulty, on, and_also}
+use Rattle.c_rules.specs.Scopes.{Env, declared_here, a_static, with_name, meaning_or_unknown, layout_of, Before}
+use Rattle.c_rules.specs.TypedExpression.{TypedExpression, Constant, not_constant, undefined, known}
+use Rattle.c_rules.specs.PrimaryExpressions.{string_type, string_number}
+use Rattle.c_rules.specs.Declarators.{name_of, place_or}
+use Rattle.c_rules.specs.Expressions.{type_declared}
+use Rattle.c_rules.specs.Initialisers.{initialised_static, value_of_constant, value_of_cell, held_by}
+use Rattle.c_rules.specs.Objects.{Object, object_declared}
+use Rattle.c_rules.specs.Functions.{parameters_of, is_defined_by, declares_function, held_by_type, held_by_typed, function_declared, items_of_body, defined_as}
+use Rattle.c_rules.specs.Items.{meaning_of_global, Output, no_output, with_output, static_of, without_init, output_of_function, defines, object_name, few_static, global_object, global_declared, seen_of_global, behind_global, within_global, after_object, definition_of, global, declared_part, named_part, behind_declared, behind_named_part, behind_file_part, after_global, after_declared, after_file_part, file_parts, behind_file_parts, after_file_parts, file_decl, behind_file_decl, after_file_decl, behind_defined, function_named, behind_function_named, item, behind_item, behind_by_form, after_item, items, behind_items, after_items}
+use Rattle.c_meaning_laws.proofs.Places.{get_left, get_right}
+use Rattle.c_rules_laws.specs.Lexical.{IsMaybeInitLexical, ArePartsLexical, IsDeclLexical, IsStmtLexical, AreItemsLexical, IsItemLexical, IsUnitLexical}
+use Rattle.c_rules_laws.specs.MadeTypes.{Made, IsSized}
+use Rattle.c_rules_laws.specs.RightScopes.{MeaningRight, IsRight, StringsIn}
+use Rattle.c_rules_laws.proofs.Holding.{held, first_fine, on_fine}
+use Rattle.c_rules_laws.proofs.SoundStructs.{same_flat}
+use Rattle.c_rules_laws.proofs.TypesOfTypedExpressions.{sized_few}
+use Rattle.c_rules_laws.proofs.TypesOfExpressions.{type_declared_made}
+use Rattle.c_rules_laws.proofs.RightTypedExpressions.{ConstRight, complete_in, cells_in}
+use Rattle.c_rules_laws.proofs.RightInitialisers.{IsKnownConstant, AllKnown, TypesAre, static_right}
+use Rattle.c_rules_laws.proofs.RightDeclarations.{right_named}
+use Rattle.c_rules_laws.proofs.SitesOfStatements.{held_by_named_same}
+use Rattle.c_rules_laws.proofs.FileScopes.{IsFileRight, Follows, follows_on}
+use Rattle.c_rules_laws.proofs.FileItems.{IsObjectNamed, object_named, part_step, parts_step, definition_step, form_step, tags_step, items_step}
+use Rattle.c_rules_laws.proofs.UnitScopes.{IsTable, object_at, scope_right}
+use Rattle.c_rules_laws.proofs.UnitFunctions.{ParamsFit, type_fits, function_right}
+use Rattle.c_rules_laws.proofs.UnitShape.{just_declared, output_same}
+
+-- ## Strings
+
+abbrev pub Begins : {A : Type 0} → List A → List A → Type 0
+Begins {A} xs ys = (zs : List A) × (ys ≡ xs ++ zs)
+
+pub begins_self : (xs : List (List ℕ)) → Begins xs xs
+begins_self xs = ([], sym (none xs))
+  where
+    none : (xs : List (List ℕ)) → xs ++ [] ≡ xs
+    none [] = refl
+    none (x ∷ xs) = ap (λ ys. x ∷ ys) (none xs)
+
+begins_on : (xs ys zs : List (List ℕ)) → Begins xs ys → Begins ys zs → Begins xs zs
+begins_on xs ys zs h k = (h.0 ++ k.0, k.1 ∙ (ap (λ v. v ++ k.0) h.1 ∙ append_assoc xs h.0 k.0))
+
+begins_more : (xs ys : List (List ℕ)) → Begins xs (xs ++ ys)
+begins_more xs ys = (ys, refl)
+
+get_front : (xs zs : List (List ℕ)) (j : ℕ) (w : List ℕ) → slice_get xs j ≡ Some w → slice_get (xs ++ zs) j ≡ Some w
+get_front xs zs j w e = get_left xs zs j w e
+
+module _ (p : Program) (last : Env) (table : IsTable p last) (all : List (List ℕ)) (placed : (j : ℕ) (w : List ℕ) → slice_get all j ≡ Some w → IsStaticOf p true (length last.whole.objects + j) (string_type (length w))) where
+  strings_here : (env : Env) → Follows env last → (b : Before) (ws : List (List ℕ)) → Begins (b.strings ++ ws) all → StringsIn p [] (string_number env b) ws
+  strings_here env g b ws h j w e =
+      let got : slice_get all (length b.strings + j) ≡ Some w = ap (λ v. slice_get v (length b.strings + j)) h.1 ∙ get_front (b.strings ++ ws) h.0 (length b.strings + j) w (get_right b.strings ws j ∙ e) in
+      let n : length last.whole.objects + (length b.strings + j) ≡ string_number env b + j = (let q : length last.whole.objects ≡ length env.whole.objects = ap (λ w. length w.objects) g.whole in omega (arith, q)) in
+      subst (λ k. IsStaticOf p true k (string_type (length w))) n (placed (length b.strings + j) w got)
+
+  -- ## Functions
+
+  abbrev pub AreFunctions : List Function → Type 0
+  AreFunctions [] = Unit {0}
+  AreFunctions (f ∷ fs) = IsFunction p f × AreFunctions fs
+
+  abbrev pub AreStatics : List Static → Type 0
+  AreStatics [] = Unit {0}
+  AreStatics (s ∷ ss) = IsStatic p s × AreStatics ss
+
+  functions_both : (xs ys : List Function) → AreFunctions xs → AreFunctions ys → AreFunctions (xs ++ ys)
+  functions_both [] ys h k = k
+  functions_both (x ∷ xs) ys h k = (h.0, functions_both xs ys h.1 k)
+
+  statics_both : (xs ys : List Static) → AreStatics xs → AreStatics ys → AreStatics (xs ++ ys)
+  statics_both [] ys h k = k
+  statics_both (x ∷ xs) ys h k = (h.0, statics_both xs ys h.1 k)
+
+  abbrev pub IsOutputRight : Output → Type 0
+  IsOutputRight q = AreFunctions q.functions × AreStatics q.statics
+
+  output_both : (q r : Output) → IsOutputRight q → IsOutputRight r → IsOutputRight (with_output q r)
+  output_both q r h k = (functions_both q.functions r.functions h.0 k.0, statics_both q.statics r.statics h.1 k.1)
+
+  body_lexical : (body : Stmt) → IsStmtLexical body → AreItemsLexical (items_of_body body)
+  body_lexical (syntax.block at is) h = h
+  body_lexical (syntax.empty at) h = (h, tt)
+  body_lexical (syntax.evaluate at e) h = (h, tt)
+  body_lexical (syntax.only_if at e s) h = (h, tt)
+  body_lexical (syntax.if_else at e s t) h = (h, tt)
+  body_lexical (syntax.while_loop at e s) h = (h, tt)
+  body_lexical (syntax.do_loop at s e) h = (h, tt)
+  body_lexical (syntax.for_loop at f t u s) h = (h, tt)
+  body_lexical (syntax.switch_on at e gs) h = (h, tt)
+  body_lexical (syntax.break_off at) h = (h, tt)
+  body_lexical (syntax.continue_on at) h = (h, tt)
+  body_lexical (syntax.return_from at m) h = (h, tt)
+
+  definition_right : (env : Env) → IsFileRight env → (b : Before) (at : ℕ) (s : Spec) (d : Declarator) (body : Stmt) (k : Bool) (o : Option Ident) (q : Output) → declares_function d ≡ k → IsStmtLexical body → function_named env b at s d body k o ≡ fine q → Follows (behind_function_named env at s d o) last
+      → Begins (b.strings ++ held_by_typed (behind_function_named env at s d o) d (items_of_body body) (type_declared env at s d)) all → IsOutputRight q
+  definition_right env w b at s d body false o q n l e g h = absurd (cc)
+  definition_right env w b at s d body true None q n l e g h = absurd (cc)
+  definition_right env w b at s d body true (Some x) q n l e g h =
+      let is : BlockItems = items_of_body body in
+      let inner : Env = behind_defined env at s d x in
+      let step = definition_step env b at s d body (Some x) q true n w e in
+      let i = first_fine (function_declared env true at s d x) (on (type_declared env at s d) (defined_as inner b (place_or at d) d x is)) (λ _ f. fine (output_of_function f)) q e in
+      let j = on_fine (type_declared env at s d) (defined_as inner b (place_or at d) d x is) i.1 i.3 in
+      let u : CType = j.0 in
+      let made : Made (layout_of env) u = held (Made (layout_of env)) (type_declared env at s d) u (type_declared_made env at s d) j.1 in
+      let fit : ParamsFit (parameters_of d) u = held (ParamsFit (parameters_of d)) (type_declared env at s d) u (type_fits env at s d n) j.1 in
+      let strings : StringsIn p [] (string_number inner b) (held_by_type inner d is u) = strings_here inner g b (held_by_type inner d is u) (subst (λ r. Begins (b.strings ++ held_by_typed inner d is r) all) j.1 h) in
+      let f = function_right p last table inner step.0 g b (place_or at d) d x is u i.1 made fit (body_lexical body l) strings j.2 in
+      subst IsOutputRight (output_same (output_of_function i.1) q i.4) ((f.0, tt), tt)
+
+  -- ## Objects
+
+  known_value : (t : CType) (c : Constant) → IsKnownConstant c → ConstRight p t c → HasType p (static_objects p) t (value_of_constant c)
+  known_value t not_constant k h = absurd k
+  known_value t undefined k h = absurd k
+  known_value t (known x) k h = h
+
+  cells_zip : (ts : List CType) (gs : List TypedExpression) → TypesAre p [] ts gs → AllKnown gs → AllZip (HasType p (static_objects p)) ts (map value_of_cell gs)
+  cells_zip [] [] h k = tt
+  cells_zip (t ∷ ts) [] h k = absurd h
+  cells_zip [] (g ∷ gs) h k = absurd h
+  cells_zip (t ∷ ts) (g ∷ gs) h k = (known_value t g.constant k.0 (subst (λ u. ConstRight p u g.constant) h.0 h.1.3), cells_zip ts gs h.2 k.1)
+
+  global_right : (env : Env) → IsFileRight env → (b : Before) (x : Ident) (m : MaybeInit) (r : Checked Object) (q : Output) (o : Object) → r ≡ fine o → IsObjectNamed env true b x o → IsFileRight (behind_global env true x r) → IsMaybeInitLexical m → global env true b x m r ≡ fine q → Follows env last → Follows (behind_global env true x r) last
+      → Begins (b.strings ++ held_by env o.whole m) all → IsOutputRight q
+  global_right env w b x m r q o e h v l f g0 g s =
+      let i = on_fine r (definition_of (within_global env true x r) b m) q f in
+      let same : i.0 ≡ o = object_same i.0 o (sym i.1 ∙ e) in
+      let d : Bool = is_defined_by true (declared_here env x.name) in
+      let inner : Env = with_name env x.name (a_static o.seen o.whole d) in
+      let within : within_global env true x r ≡ inner = ap (λ z. with_name env x.name (meaning_or_unknown (seen_of_global env true x z))) e in
+      let f2 : definition_of inner b m o ≡ fine q = subst (λ z. definition_of inner b m z ≡ fine q) same (subst (λ z. definition_of z b m i.0 ≡ fine q) within i.2) in
+      let j = on_fine (initialised_static inner (after_object inner b o.whole) o.whole m) (λ gs. fine (static_of o gs)) q f2 in
+      let w0 : IsRight p [] env = scope_right p [] env last w g0 table in
+      let sized : IsSized (layout_of env) o.whole = sized_few (layout_of env) o.whole h.right.whole_made h.right.small in
+      let meaning : meaning_or_unknown (meaning_of_global env true x r) ≡ a_static o.whole o.whole d = ap (λ z. meaning_or_unknown (meaning_of_global env true x z)) e in
+      let stands = object_at p [] (behind_global env true x r) last v g table x.name (record { name = x.name; depth = env.depth; means = meaning_or_unknown (meaning_of_global env true x r) }) o.whole o.whole d (just_declared env x.name (meaning_or_unknown (meaning_of_global env true x r))) meaning in
+      let w1 : IsRight p [] inner = right_named p [] env x.name (a_static o.seen o.whole d) w0 (h.right.seen_sized, sized) (λ y z. subst (λ y. MeaningRight p [] env y (a_static o.seen o.whole d)) z (h.right.alike, h.right.thing, h.right.known, h.right.small, stands)) in
+      let strings : StringsIn p [] (string_number inner (after_object inner b o.whole)) (held_by inner o.whole m) = subst (StringsIn p [] (string_number env b)) (sym (held_by_named_same m env x.name (a_static o.seen o.whole d) o.whole)) (strings_here env g0 b (held_by env o.whole m) s) in
+      let cells = held (λ gs. TypesAre p [] (flat (layout_of env) o.whole) gs × AllKnown gs) (initialised_static inner (after_object inner b o.whole) o.whole m) j.0 (static_right p [] m inner w1 l (after_object inner b o.whole) o.whole h.right.whole_made h.right.known strings) j.1 in
+      let object : IsObject p.structs o.whole = record { complete = complete_in (layout_of env) p.structs w0.within o.whole h.right.known; few = subst (λ k. k ≤ 65536) (cells_in (layout_of env) p.structs w0.within o.whole h.right.known) h.right.small } in
+      subst IsOutputRight (output_same (static_of o j.0) q j.2)
+      (tt, (record { object = object; typed = cells_zip (flat p.structs o.whole) j.0 (subst (λ ts. TypesAre p [] ts j.0) (sym (same_flat (layout_of env) p.structs w0.within.sound w0.within.grows o.whole h.right.known)) cells.0) cells.1 }, tt))
+    where
+      object_same : (y z : Object) → fine y ≡ fine z → y ≡ z
+      object_same y z e = cc
+
+  no_output_right : (q : Output) → fine no_output ≡ fine q → IsOutputRight q
+  no_output_right q e = subst IsOutputRight (output_same no_output q e) (tt, tt)
+
+  -- an object that is named is the one that is declared
+  object_declared_same : (env : Env) (defined : Bool) (b : Before) (at : ℕ) (s : Spec) (d : Declarator) (x : Ident) (m : MaybeInit) (o : Object) → global_declared env defined b at s d x m ≡ fine o → object_declared env at s d x m ≡ fine o
+  object_declared_same env defined b at s d x m o e =
+      let i = on_fine (object_declared env at s d x m) (global_object env defined b x) o e in
+      let j = on_fine (and_also (object_name env defined x i.0.whole) (few_static env defined b x i.0.whole)) (λ _. fine i.0) o i.2 in
+      i.1 ∙ j.2
+
+  part_right : (env : Env) → IsFileRight env → (b : Before) (at : ℕ) (class : Storage) (s : Spec) (d : Declarator) (m : MaybeInit) (o : Option Ident) (q : Output) → IsMaybeInitLexical m → named_part env b at class s d m o ≡ fine q → Follows env last → Follows (behind_named_part env b at class s d m o) last
+      → IsFileRight (behind_named_part env b at class s d m o) → Begins (after_declared env b at s d m (not (declares_function d) && defines class m) o).strings all → IsOutputRight q
+  part_right env w b at class s d m None q l e g0 g v h = absurd (cc)
+  part_right env w b at class s d m (Some x) q l e g0 g v h = by_kind (declares_function d) (defines class m) refl e g v h
+    where
+      by_object : (k : Bool) → defines class m ≡ k → global env k b x m (global_declared env (defines class m) b at s d x m) ≡ fine q → Follows (behind_global env k x (global_declared env (defines class m) b at s d x m)) last → IsFileRight (behind_global env k x (global_declared env (defines class m) b at s d x m)) → Begins (after_declared env b at s d m k (Some x)).strings all → IsOutputRight q
+      by_object false n e g v h = (let i = on_fine (global_declared env (defines class m) b at s d x m) (λ _. fine no_output) q e in no_output_right q i.2)
+      by_object true n e g v h =
+          let r : Checked Object = global_declared env (defines class m) b at s d x m in
+          let i = on_fine r (definition_of (within_global env true x r) b m) q e in
+          let named : IsObjectNamed env (defines class m) b x i.0 = held (IsObjectNamed env (defines class m) b x) r i.0 (object_named env (defines class m) b at s d x m) i.1 in
+          let o : object_declared env at s d x m ≡ fine i.0 = object_declared_same env (defines class m) b at s d x m i.0 i.1 in
+          global_right env w b x m r q i.0 i.1 (subst (λ k. IsObjectNamed env k b x i.0) n named) v l e g0 g (subst (λ r. Begins (after_global env b m r).strings all) o h)
+
+      by_kind : (f k : Bool) → defines class m ≡ k → declared_part env b at class s d m f x ≡ fine q → Follows (behind_declared env b at class s d m f x) last → IsFileRight (behind_declared env b at class s d m f x) → Begins (after_declared env b at s d m (not f && k) (Some x)).strings all → IsOutputRight q
+      by_kind true k n e g v h = (let i = first_fine (function_declared env false at s d x) (without_init m) (λ _ _. fine no_output) q e in no_output_right q i.4)
+      by_kind false k n e g v h =
+          by_object k n (subst (λ z. global env z b x m (global_declared env (defines class m) b at s d x m) ≡ fine q) n e) (subst (λ z. Follows (behind_global env z x (global_declared env (defines class m) b at s d x m)) last) n g)
+          (subst (λ z. IsFileRight (behind_global env z x (global_declared env (defines class m) b at s d x m))) n v) h
+
+  -- strings before a part are among those behind it
+  declared_begins : (env : Env) (b : Before) (at : ℕ) (s : Spec) (d : Declarator) (m : MaybeInit) (k : Bool) (o : Option Ident) → Begins b.strings (after_declared env b at s d m k o).strings
+  declared_begins env b at s d m false o = begins_self b.strings
+  declared_begins env b at s d m true None = begins_self b.strings
+  declared_begins env b at s d m true (Some x) = by_object (object_declared env at s d x m)
+    where
+      by_object : (r : Checked Object) → Begins b.strings (after_global env b m r).strings
+      by_object (fine o) = begins_more b.strings (held_by env o.whole m)
+      by_object (faulty f fs) = begins_self b.strings
+
+  parts_begin : (ps : Parts) (env : Env) (b : Before) (at : ℕ) (class : Storage) (s : Spec) → Begins b.strings (after_file_parts env b at class s ps).strings
+  parts_begin no_parts env b at class s = begins_self b.strings
+  parts_begin (more_parts d m ps) env b at class s =
+      let inner : Env = behind_file_part env b at class s d m in
+      let after : Before = after_file_part env b at class s d m in
+      begins_on b.strings after.strings (after_file_parts inner after at class s ps).strings (declared_begins env b at s d m (not (declares_function d) && defines class m) (name_of d)) (parts_begin ps inner after at class s)
+
+  decl_begins : (d : Decl) (env : Env) (b : Before) → Begins b.strings (after_file_decl env b d).strings
+  decl_begins (decl at class s ps) env b = parts_begin ps env b at class s
+
+  item_begins : (i : Item) (env : Env) (b : Before) → Begins b.strings (after_item env b i).strings
+  item_begins (struct_item at x ms) env b = begins_self b.strings
+  item_begins (enum_item at x es) env b = begins_self b.strings
+  item_begins (tag_item at x) env b = begins_self b.strings
+  item_begins (decl_item at d) env b = decl_begins d env b
+  item_begins (function_item at class s d body) env b = begins_more b.strings _
+
+  items_begin : (is : Items) (env : Env) (b : Before) → Begins b.strings (after_items env b is).strings
+  items_begin no_items env b = begins_self b.strings
+  items_begin (more_items i is) env b = begins_on b.strings (after_item env b i).strings (after_items (behind_item env b i) (after_item env b i) is).strings (item_begins i env b) (items_begin is (behind_item env b i) (after_item env b i))
+
+  parts_right : (ps : Parts) (env : Env) → IsFileRight env → (b : Before) (at : ℕ) (class : Storage) (s : Spec) (q : Output) → ArePartsLexical ps → file_parts env b at class s ps ≡ fine q → Follows env last → Follows (behind_file_parts env b at class s ps) last → Begins (after_file_parts env b at class s ps).strings all → IsOutputRight q
+  parts_right no_parts env w b at class s q l e g0 g h = no_output_right q e
+  parts_right (more_parts d m ps) env w b at class s q l e g0 g h =
+      let inner : Env = behind_file_part env b at class s d m in
+      let after : Before = after_file_part env b at class s d m in
+      let i = first_fine (named_part env b at class s d m (name_of d)) (file_parts inner after at class s ps) (λ p q. fine (with_output p q)) q e in
+      let step = part_step env b at class s d m (name_of d) i.0 w i.2 in
+      let rest = parts_step ps inner after at class s i.1 step.0 i.3 in
+      let g1 : Follows inner last = follows_on inner (behind_file_parts inner after at class s ps) last rest.1 g in
+      let h1 : Begins after.strings all = begins_on after.strings (after_file_parts inner after at class s ps).strings all (parts_begin ps inner after at class s) h in
+      subst IsOutputRight (output_same (with_output i.0 i.1) q i.4)
+      (output_both i.0 i.1 (part_right env w b at class s d m (name_of d) i.0 l.0 i.2 g0 g1 step.0 h1) (parts_right ps inner step.0 after at class s i.1 l.1 i.3 g1 g h))
+
+  decl_right : (d : Decl) (env : Env) → IsFileRight env → (b : Before) (q : Output) → IsDeclLexical d → file_decl env b d ≡ fine q → Follows env last → Follows (behind_file_decl env b d) last → Begins (after_file_decl env b d).strings all → IsOutputRight q
+  decl_right (decl at class s ps) env w b q l e g0 g h = parts_right ps env w b at class s q l e g0 g h
+
+  form_right : (i : Item) (env : Env) → IsFileRight env → (b : Before) (q : Output) → IsItemLexical i → item env b i ≡ fine q → Follows env last → Follows (behind_by_form env b i) last → Begins (after_item env b i).strings all → IsOutputRight q
+  form_right (struct_item at x ms) env w b q l e g0 g h = (let i = on_fine _ (λ _. fine no_output) q e in no_output_right q i.2)
+  form_right (enum_item at x es) env w b q l e g0 g h = (let i = first_fine _ _ (λ _ _. fine no_output) q e in no_output_right q i.4)
+  form_right (tag_item at x) env w b q l e g0 g h = (let i = on_fine _ (λ _. fine no_output) q e in no_output_right q i.2)
+  form_right (decl_item at d) env w b q l e g0 g h = decl_right d env w b q l e g0 g h
+  form_right (function_item at class s d body) env w b q l e g0 g h = definition_right env w b at s d body (declares_function d) (name_of d) q refl l.1 e g h
+
+  pub items_right : (is : Items) (env : Env) → IsFileRight env → (b : Before) (q : Output) → IsUnitLexical is → items env b is ≡ fine q → Follows (behind_items env b is) last → Begins (after_items env b is).strings all → IsOutputRight q
+  items_right no_items env w b q l e g h = no_output_right q e
+  items_right (more_items i is) env w b q l e g h =
+      let inner : Env = behind_item env b i in
+      let after : Before = after_item env b i in
+      let f = first_fine (item env b i) (items inner after is) (λ p q. fine (with_output p q)) q e in
+      let form = form_step i env b f.0 w l.0 f.2 in
+      let tags = tags_step (behind_by_form env b i) i form.0 in
+      let rest = items_step is inner after f.1 tags.0 l.1 f.3 in
+      let g2 : Follows inner last = follows_on inner (behind_items inner after is) last rest.1 g in
+      let g1 : Follows (behind_by_form env b i) last = follows_on (behind_by_form env b i) inner last tags.1 g2 in
+      let g0 : Follows env last = follows_on env (behind_by_form env b i) last form.1 g1 in
+      let h1 : Begins after.strings all = begins_on after.strings (after_items inner after is).strings all (items_begin is inner after) h in
+      subst IsOutputRight (output_same (with_output f.0 f.1) q f.4) (output_both f.0 f.1 (form_right i env w b f.0 l.0 f.2 g0 g1 h1) (items_right is inner tags.0 after f.1 l.1 f.3 g h))

@@ -1,0 +1,212 @@
+-- What the items of a unit give, in the order of the unit: the functions and objects that it defines, with the types that their names have behind all items.
+use Rattle.std.proofs.Common.{◌≡◌, ℕ, zero, suc, Bool, true, false, not, ◌&&◌, if◌then◌else◌, cond, List, [], ◌∷◌, ◌++◌, length, Option, Some, None, slice_get, refl, ap, ap₂, sym, subst, ◌∙◌}
+use Rattle.std.specs.Prelude.{bytes_eq}
+use Rattle.std.proofs.lemmas.Slice.Eq.{bytes_eq-Decides}
+use Rattle.c_tree.specs.Tree.{CType, void, integer, pointer, array, struct, function, CTypes, Function, Static}
+use Rattle.dm_base.specs.Name.{IsName}
+use Rattle.c_tree.specs.Tree as typed
+use Rattle.c_syntax.specs.Tree.{Ident, Storage, Spec, Declarator, MaybeInit, Parts, no_parts, more_parts, Decl, decl, Stmt, BlockItems, Item, struct_item, enum_item, tag_item, decl_item, function_item, Items, no_items, more_items}
+use Rattle.c_rules.specs.Checked.{Checked, fine, on, demand, met}
+use Rattle.c_rules.specs.Names.{Name, with_new}
+use Rattle.c_rules.specs.Scopes.{Env, Binding, Meaning, a_static, a_local, a_function, an_enumerator, unknown, with_name, meaning_or_unknown, lookup, declared_here, Before}
+use Rattle.c_rules.specs.Declarators.{name_of, place_or}
+use Rattle.c_rules.specs.Expressions.{type_declared}
+use Rattle.c_rules.specs.Initialisers.{initialised_static}
+use Rattle.c_rules.specs.Objects.{Object}
+use Rattle.c_rules.specs.Variables.{name_or_empty}
+use Rattle.c_rules.specs.Functions.{function_meaning, declares_function, parameters_of, are_named, variables_of, function_laid, body_of, is_defined_by, function_declared, items_of_body, defined_as}
+use Rattle.c_rules.specs.Items.{Output, no_output, with_output, static_of, without_init, output_of_function, defines, global_declared, meaning_of_global, behind_global, within_global, after_object, definition_of, global, declared_part, named_part, behind_declared, behind_named_part, behind_file_part, after_file_part, file_parts, behind_file_parts, file_decl, behind_file_decl, behind_defined, function_named, behind_function_named, item, behind_item, behind_by_form, after_item, items, behind_items}
+use Rattle.c_rules.specs.Units.{functions_of_item, functions_of, objects_of_parts, objects_of_decl, objects_of_item, objects_of}
+use Rattle.c_rules_laws.specs.Lexical.{IsNamed, IsItemLexical, IsUnitLexical}
+use Rattle.c_rules_laws.proofs.Holding.{held, first_fine, on_fine, demand_fine}
+use Rattle.c_rules_laws.proofs.FileScopes.{IsFileRight, Agrees, Follows, follows_on}
+use Rattle.c_rules_laws.proofs.FileItems.{form_step, function_meant, IsFunctionNamed, items_step, part_step, parts_step, tags_step}
+
+-- two lists side by side
+abbrev pub Zip : {A B : Type 0} → (A → B → Type 0) → List A → List B → Type 0
+Zip R [] [] = Unit {0}
+Zip R (x ∷ xs) [] = ⊥
+Zip R [] (y ∷ ys) = ⊥
+Zip R (x ∷ xs) (y ∷ ys) = R x y × Zip R xs ys
+
+pub zip_both : {A B : Type 0} (R : A → B → Type 0) (xs zs : List A) (ys ws : List B) → Zip R xs ys → Zip R zs ws → Zip R (xs ++ zs) (ys ++ ws)
+zip_both R [] zs [] ws h k = k
+zip_both R (x ∷ xs) zs [] ws h k = absurd h
+zip_both R [] zs (y ∷ ys) ws h k = absurd h
+zip_both R (x ∷ xs) zs (y ∷ ys) ws h k = (h.0, zip_both R xs zs ys ws h.1 k)
+
+pub zip_at : {A B : Type 0} (R : A → B → Type 0) (xs : List A) (ys : List B) (i : ℕ) (x : A) → Zip R xs ys → slice_get xs i ≡ Some x → (y : B) × (slice_get ys i ≡ Some y) × R x y
+zip_at R [] ys i x h e = absurd (let q : None ≡ Some x = e in cc)
+zip_at R (z ∷ xs) [] i x h e = absurd h
+zip_at R (z ∷ xs) (y ∷ ys) zero x h e = (y, refl, subst (λ w. R w y) (let q : Some z ≡ Some x = e in cc) h.0)
+zip_at R (z ∷ xs) (y ∷ ys) (suc i) x h e = zip_at R xs ys i x h.1 e
+
+pub zip_long : {A B : Type 0} (R : A → B → Type 0) (xs : List A) (ys : List B) → Zip R xs ys → length ys ≡ length xs
+zip_long R [] [] h = refl
+zip_long R (x ∷ xs) [] h = absurd h
+zip_long R [] (y ∷ ys) h = absurd h
+zip_long R (x ∷ xs) (y ∷ ys) h = ap suc (zip_long R xs ys h.1)
+
+-- the function has the name, which means it behind all items
+abbrev pub IsFunctionOf : Env → Name → Function → Type 0
+IsFunctionOf last x f = (f.name ≡ x) × IsName x × ((b : Binding) × (lookup last.names x ≡ Some b) × (b.means ≡ a_function f.ctype true))
+
+abbrev pub IsObjectOf : Env → Name → Static → Type 0
+IsObjectOf last x s = (s.string ≡ false) × ((b : Binding) × (seen : CType) × (d : Bool) × (lookup last.names x ≡ Some b) × (b.means ≡ a_static seen s.ctype d))
+
+pub record HasShape (last : Env) (names objects : List Name) (p : Output) : Type 0 where
+  pub functions : Zip (IsFunctionOf last) names p.functions
+  pub statics : Zip (IsObjectOf last) objects p.statics
+
+shape_none : (last : Env) → HasShape last [] [] no_output
+shape_none last = record { functions = tt; statics = tt }
+
+shape_both : (last : Env) (xs ys zs ws : List Name) (p q : Output) → HasShape last xs ys p → HasShape last zs ws q → HasShape last (xs ++ zs) (ys ++ ws) (with_output p q)
+shape_both last xs ys zs ws p q h k = record { functions = zip_both (IsFunctionOf last) xs zs p.functions q.functions h.functions k.functions; statics = zip_both (IsObjectOf last) ys ws p.statics q.statics h.statics k.statics }
+
+-- a name that was just declared
+itself : (x : Name) → bytes_eq x x ≡ true
+itself x = (bytes_eq-Decides x x).1 refl
+
+pub just_declared : (env : Env) (x : Name) (m : Meaning) → lookup (with_name env x m).names x ≡ Some (record { name = x; depth = env.depth; means = m })
+just_declared env x m = ap (λ b. cond b (Some (record { name = x; depth = env.depth; means = m })) (lookup env.names x)) (itself x)
+
+defined_true : (o : Option Meaning) → is_defined_by true o ≡ true
+defined_true None = refl
+defined_true (Some (a_static s t d)) = refl
+defined_true (Some (a_local n s t)) = refl
+defined_true (Some (a_function t d)) = refl
+defined_true (Some (an_enumerator z)) = refl
+defined_true (Some (unknown f fs)) = refl
+
+-- what a function's name means later
+later_function : (t : CType) (d : Bool) (m : Meaning) → Agrees (a_function t d) m → d ≡ true → m ≡ a_function t true
+later_function t d (a_function u e) h q = ap₂ (λ x y. a_function x y) (sym h.0) (h.1 q)
+later_function t d (a_static s u e) h q = absurd h
+later_function t d (a_local n s u) h q = absurd h
+later_function t d (an_enumerator z) h q = absurd h
+later_function t d (unknown f fs) h q = absurd h
+
+later_object : (s t : CType) (d : Bool) (m : Meaning) → Agrees (a_static s t d) m → (seen : CType) × (e : Bool) × (m ≡ a_static seen t e)
+later_object s t d (a_static r u e) h = (r, e, ap (λ x. a_static r x e) (sym h.0))
+later_object s t d (a_function u e) h = absurd h
+later_object s t d (a_local n r u) h = absurd h
+later_object s t d (an_enumerator z) h = absurd h
+later_object s t d (unknown f fs) h = absurd h
+
+-- what a definition gives
+function_shape : (env : Env) (b : Before) (place : ℕ) (d : Declarator) (x : Ident) (is : BlockItems) (u : CType) (f : Function) → defined_as env b place d x is u ≡ fine f → (f.name ≡ x.name) × (f.ctype ≡ u)
+function_shape env b place d x is (function t ts) f e =
+    let i = first_fine (demand (are_named (parameters_of d)) 3 place met) (body_of env b t d ts is) (λ _ q. function_laid env x t ts q) f e in
+    let j = demand_fine _ 13 x.at (record { name = x.name; ctype = function t ts; variables = variables_of ts i.1; body = typed.block i.1.tree }) f i.4 in
+    (ap (λ f. f.name) (sym j.1), ap (λ f. f.ctype) (sym j.1))
+function_shape env b place d x is void f e = absurd (cc)
+function_shape env b place d x is (integer i) f e = absurd (cc)
+function_shape env b place d x is (pointer t) f e = absurd (cc)
+function_shape env b place d x is (array t n) f e = absurd (cc)
+function_shape env b place d x is (struct n) f e = absurd (cc)
+
+pub output_same : (p q : Output) → fine p ≡ fine q → p ≡ q
+output_same p q e = cc
+
+pub type_same : (t u : CType) → fine t ≡ fine u → t ≡ u
+type_same t u e = cc
+
+-- ## Functions and objects
+
+definition_shape : (last env : Env) (b : Before) (at : ℕ) (s : Spec) (d : Declarator) (body : Stmt) (x : Ident) (p : Output) → IsFileRight env → IsName x.name → function_named env b at s d body true (Some x) ≡ fine p → Follows (behind_function_named env at s d (Some x)) last → HasShape last (x.name ∷ []) [] p
+definition_shape last env b at s d body x p w n e g =
+    let r : Checked Meaning = function_declared env true at s d x in
+    let i = first_fine r (on (type_declared env at s d) (defined_as (behind_defined env at s d x) b (place_or at d) d x (items_of_body body))) (λ _ f. fine (output_of_function f)) p e in
+    let m : Meaning = i.0 in
+    let f : Function = i.1 in
+    let j = on_fine (type_declared env at s d) (function_meaning env true x) m i.2 in
+    let k = on_fine (type_declared env at s d) (defined_as (behind_defined env at s d x) b (place_or at d) d x (items_of_body body)) f i.3 in
+    let u : CType = j.0 in
+    let same : k.0 ≡ u = type_same k.0 u (sym k.1 ∙ j.1) in
+    let named : IsFunctionNamed env true x u m = held (IsFunctionNamed env true x u) (function_meaning env true x u) m (function_meant env true x u) j.2 in
+    let shape = function_shape (behind_defined env at s d x) b (place_or at d) d x (items_of_body body) k.0 f k.2 in
+    let means : meaning_or_unknown r ≡ a_function u (is_defined_by true (declared_here env x.name)) = ap meaning_or_unknown i.2 ∙ named.is in
+    let here = just_declared (record env { functions = with_new env.functions x.name }) x.name (meaning_or_unknown r) in
+    let later = g.later x.name (record { name = x.name; depth = env.depth; means = meaning_or_unknown r }) here in
+    let last_means : later.0.means ≡ a_function u true = later_function u (is_defined_by true (declared_here env x.name)) later.0.means (subst (λ z. Agrees z later.0.means) means later.2) (defined_true (declared_here env x.name)) in
+    subst (HasShape last (x.name ∷ []) []) (output_same (output_of_function f) p i.4)
+    (record { functions = ((shape.0, n, (later.0, later.1, last_means ∙ ap (λ t. a_function t true) (sym (shape.1 ∙ same)))), tt); statics = tt })
+
+object_shape : (last env : Env) (b : Before) (x : Ident) (m : MaybeInit) (r : Checked Object) (p : Output) → global env true b x m r ≡ fine p → Follows (behind_global env true x r) last → HasShape last [] (x.name ∷ []) p
+object_shape last env b x m r p e g =
+    let i = on_fine r (definition_of (within_global env true x r) b m) p e in
+    let o : Object = i.0 in
+    let inner : Env = within_global env true x r in
+    let j = on_fine (initialised_static inner (after_object inner b o.whole) o.whole m) (λ gs. fine (static_of o gs)) p i.2 in
+    let means : meaning_or_unknown (meaning_of_global env true x r) ≡ a_static o.whole o.whole (is_defined_by true (declared_here env x.name)) = ap (λ z. meaning_or_unknown (meaning_of_global env true x z)) i.1 in
+    let here = just_declared env x.name (meaning_or_unknown (meaning_of_global env true x r)) in
+    let later = g.later x.name (record { name = x.name; depth = env.depth; means = meaning_or_unknown (meaning_of_global env true x r) }) here in
+    let l = later_object o.whole o.whole (is_defined_by true (declared_here env x.name)) later.0.means (subst (λ z. Agrees z later.0.means) means later.2) in
+    subst (HasShape last [] (x.name ∷ [])) (output_same (static_of o j.0) p j.2)
+    (record { functions = tt; statics = ((refl, (later.0, l.0, l.1, later.1, l.2)), tt) })
+
+no_shape : (last : Env) (p : Output) → fine no_output ≡ fine p → HasShape last [] [] p
+no_shape last p e = subst (HasShape last [] []) (output_same no_output p e) (shape_none last)
+
+-- the names of the objects that a declarator defines
+abbrev defined_names : Storage → Declarator → MaybeInit → List Name
+defined_names class d m = if not (declares_function d) && defines class m then name_or_empty (name_of d) ∷ [] else []
+
+part_shape : (last env : Env) (b : Before) (at : ℕ) (class : Storage) (s : Spec) (d : Declarator) (m : MaybeInit) (o : Option Ident) (p : Output) → named_part env b at class s d m o ≡ fine p → Follows (behind_named_part env b at class s d m o) last
+    → HasShape last [] (if not (declares_function d) && defines class m then name_or_empty o ∷ [] else []) p
+part_shape last env b at class s d m None p e g = absurd (cc)
+part_shape last env b at class s d m (Some x) p e g = by_kind (declares_function d) (defines class m) refl e g
+  where
+    by_object : (k : Bool) → defines class m ≡ k → global env k b x m (global_declared env (defines class m) b at s d x m) ≡ fine p → Follows (behind_global env k x (global_declared env (defines class m) b at s d x m)) last → HasShape last [] (if k then x.name ∷ [] else []) p
+    by_object true q e g = object_shape last env b x m (global_declared env (defines class m) b at s d x m) p e g
+    by_object false q e g = (let i = on_fine (global_declared env (defines class m) b at s d x m) (λ _. fine no_output) p e in no_shape last p i.2)
+
+    by_kind : (f k : Bool) → defines class m ≡ k → declared_part env b at class s d m f x ≡ fine p → Follows (behind_declared env b at class s d m f x) last → HasShape last [] (if not f && k then x.name ∷ [] else []) p
+    by_kind true k q e g = (let i = first_fine (function_declared env false at s d x) (without_init m) (λ _ _. fine no_output) p e in no_shape last p i.4)
+    by_kind false k q e g = by_object k q (subst (λ z. global env z b x m (global_declared env (defines class m) b at s d x m) ≡ fine p) q e) (subst (λ z. Follows (behind_global env z x (global_declared env (defines class m) b at s d x m)) last) q g)
+
+names_joined : (k : Bool) (x : Name) (xs : List Name) → (if k then x ∷ [] else []) ++ xs ≡ (if k then x ∷ xs else xs)
+names_joined true x xs = refl
+names_joined false x xs = refl
+
+parts_shape : (ps : Parts) (last env : Env) (b : Before) (at : ℕ) (class : Storage) (s : Spec) (p : Output) → IsFileRight env → file_parts env b at class s ps ≡ fine p → Follows (behind_file_parts env b at class s ps) last → HasShape last [] (objects_of_parts class ps) p
+parts_shape no_parts last env b at class s p w e g = no_shape last p e
+parts_shape (more_parts d m ps) last env b at class s p w e g =
+    let inner : Env = behind_file_part env b at class s d m in
+    let after : Before = after_file_part env b at class s d m in
+    let i = first_fine (named_part env b at class s d m (name_of d)) (file_parts inner after at class s ps) (λ p q. fine (with_output p q)) p e in
+    let step = part_step env b at class s d m (name_of d) i.0 w i.2 in
+    let rest = parts_step ps inner after at class s i.1 step.0 i.3 in
+    let h = part_shape last env b at class s d m (name_of d) i.0 i.2 (follows_on inner (behind_file_parts inner after at class s ps) last rest.1 g) in
+    let k = parts_shape ps last inner after at class s i.1 step.0 i.3 g in
+    subst (λ xs. HasShape last [] xs p) (names_joined (not (declares_function d) && defines class m) (name_or_empty (name_of d)) (objects_of_parts class ps))
+    (subst (HasShape last [] (defined_names class d m ++ objects_of_parts class ps)) (output_same (with_output i.0 i.1) p i.4) (shape_both last [] (defined_names class d m) [] (objects_of_parts class ps) i.0 i.1 h k))
+
+decl_shape : (d : Decl) (last env : Env) (b : Before) (p : Output) → IsFileRight env → file_decl env b d ≡ fine p → Follows (behind_file_decl env b d) last → HasShape last [] (objects_of_decl d) p
+decl_shape (decl at class s ps) last env b p w e g = parts_shape ps last env b at class s p w e g
+
+named_shape : (last env : Env) (b : Before) (at : ℕ) (s : Spec) (d : Declarator) (body : Stmt) (k : Bool) (o : Option Ident) (p : Output) → IsFileRight env → IsNamed o → function_named env b at s d body k o ≡ fine p → Follows (behind_function_named env at s d o) last → HasShape last (name_or_empty o ∷ []) [] p
+named_shape last env b at s d body false o p w n e g = absurd (cc)
+named_shape last env b at s d body true None p w n e g = absurd (cc)
+named_shape last env b at s d body true (Some x) p w n e g = definition_shape last env b at s d body x p w n e g
+
+form_shape : (i : Item) (last env : Env) (b : Before) (p : Output) → IsFileRight env → IsItemLexical i → item env b i ≡ fine p → Follows (behind_by_form env b i) last → HasShape last (functions_of_item i) (objects_of_item i) p
+form_shape (struct_item at x ms) last env b p w n e g = (let i = on_fine _ (λ _. fine no_output) p e in no_shape last p i.2)
+form_shape (enum_item at x es) last env b p w n e g = (let i = first_fine _ _ (λ _ _. fine no_output) p e in no_shape last p i.4)
+form_shape (tag_item at x) last env b p w n e g = (let i = on_fine _ (λ _. fine no_output) p e in no_shape last p i.2)
+form_shape (decl_item at d) last env b p w n e g = decl_shape d last env b p w e g
+form_shape (function_item at class s d body) last env b p w n e g = named_shape last env b at s d body (declares_function d) (name_of d) p w n.0 e g
+
+pub items_shape : (is : Items) (last env : Env) (b : Before) (p : Output) → IsFileRight env → IsUnitLexical is → items env b is ≡ fine p → Follows (behind_items env b is) last → HasShape last (functions_of is) (objects_of is) p
+items_shape no_items last env b p w l e g = no_shape last p e
+items_shape (more_items i is) last env b p w l e g =
+    let inner : Env = behind_item env b i in
+    let after : Before = after_item env b i in
+    let f = first_fine (item env b i) (items inner after is) (λ p q. fine (with_output p q)) p e in
+    let form = form_step i env b f.0 w l.0 f.2 in
+    let tags = tags_step (behind_by_form env b i) i form.0 in
+    let rest = items_step is inner after f.1 tags.0 l.1 f.3 in
+    let here = follows_on (behind_by_form env b i) inner last tags.1 (follows_on inner (behind_items inner after is) last rest.1 g) in
+    subst (HasShape last (functions_of_item i ++ functions_of is) (objects_of_item i ++ objects_of is)) (output_same (with_output f.0 f.1) p f.4)
+    (shape_both last (functions_of_item i) (objects_of_item i) (functions_of is) (objects_of is) f.0 f.1 (form_shape i last env b f.0 w l.0 f.2 here) (items_shape is last inner after f.1 tags.0 l.1 f.3 g))

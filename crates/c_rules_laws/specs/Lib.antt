@@ -1,0 +1,9 @@
+pub mod TypedAlike
+pub mod EnvironmentLaws
+pub mod Lexical
+pub mod MadeTypes
+pub mod PlaceLaws
+pub mod Programs
+pub mod RightScopes
+pub mod SoundStructs
+pub mod WellTyped

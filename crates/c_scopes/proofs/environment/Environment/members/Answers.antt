@@ -1,5 +1,0 @@
-use Rattle.c_scopes.proofs.SeenLemmas.{struct_told}
-use Rattle.c_scopes.proofs.environment.Environment.members.Goals as goal
-
-pub returns : goal.returns
-returns c = struct_told c.args.self.now.structs c.args.s c.members.result c.members.ensures

@@ -1,4 +1,0 @@
-pub mod Bound
-pub mod Index
-pub mod Numbers
-pub mod View

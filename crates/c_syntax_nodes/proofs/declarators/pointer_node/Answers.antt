@@ -1,0 +1,5 @@
+use Rattle.c_check_counts.proofs.Rows.{pointer_is}
+use Rattle.c_syntax_nodes.proofs.declarators.pointer_node.Goals as goal
+
+pub returns : goal.returns
+returns c = pointer_is c.args.at c.args.inner

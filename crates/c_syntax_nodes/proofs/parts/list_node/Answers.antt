@@ -1,0 +1,5 @@
+use Rattle.c_check_counts.proofs.Rows.{list_is}
+use Rattle.c_syntax_nodes.proofs.parts.list_node.Goals as goal
+
+pub returns : goal.returns
+returns c = list_is c.args.at c.args.inits

@@ -1,3 +1,0 @@
-pub mod SetLemmas
-pub mod TagLists
-pub mod TagNodes

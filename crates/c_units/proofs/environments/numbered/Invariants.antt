@@ -1,6 +1,0 @@
-use Rattle.std.proofs.Common.{◌≡◌, take}
-use Rattle.c_counts.specs.Seen.{seen}
-use Rattle.c_units.proofs.environments.numbered.Given as goal
-
-abbrev pub invariant-loop-name : goal.invariant-loop-name
-invariant-loop-name l = l.numbers ≡ seen (take l.name-index l.names)

@@ -1,5 +1,0 @@
-use Rattle.c_units.proofs.MainLemmas.{some_are}
-use Rattle.c_units.proofs.mains.are_none.Goals as goal
-
-pub returns-in_default : goal.returns-in_default
-returns-in_default c = some_are c.args.ts.now c.in_default.len_at_least

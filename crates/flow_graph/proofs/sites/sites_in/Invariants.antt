@@ -1,0 +1,7 @@
+use Rattle.std.proofs.Common.{◌≡◌, take}
+use Rattle.flow_graph.specs.Edges.{edges_in}
+use Rattle.flow_graph.specs.SiteEdges.{site_edges}
+use Rattle.flow_graph.proofs.sites.sites_in.Given as goal
+
+abbrev pub invariant-loop-edge : goal.invariant-loop-edge
+invariant-loop-edge l = l.found.items ≡ site_edges (edges_in (take l.edge-index l.edges))

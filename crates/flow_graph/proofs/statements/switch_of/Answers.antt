@@ -1,0 +1,10 @@
+use Rattle.std.proofs.Common.{◌∙◌, ap, ap₂, sym}
+use Rattle.c_tree.specs.View.{groups_of}
+use Rattle.c_shapes.specs.Shape.{Cases}
+use Rattle.c_shapes.specs.ShapeOf.{seq_two}
+use Rattle.flow_graph.specs.View.{shape_of, parts_of}
+use Rattle.flow_graph.proofs.Rows.{cases_is}
+use Rattle.flow_graph.proofs.statements.switch_of.Goals as goal
+
+pub returns : goal.returns
+returns c = c.in_ok-shape.ensures ∙ ap (seq_two (shape_of c.args.on)) (cases_is c.args.cases c.has_default.result ∙ ap (Cases (parts_of c.args.cases.items)) c.has_default.ensures)

@@ -1,0 +1,16 @@
+use Rattle.std.proofs.Common.{◌∙◌, ◌+◌, ap}
+use Rattle.c_tree.specs.Functions.{defined}
+use Rattle.c_tree.specs.View.{program_of}
+use Rattle.c_shapes.specs.CallGraph.{is_taken}
+use Rattle.flow_graph.proofs.TakenLemmas.{taken_more, taken_end}
+use Rattle.flow_graph.proofs.taken.taken_of.Goals as goal
+
+pub loop-x-preserved : goal.loop-x-preserved
+loop-x-preserved c =
+    let p = program_of c.args.program.now in
+    taken_more (λ x. is_taken p (defined p + x)) c.loop-x.x c.loop-x.taken.items c.add.new.into.items c.address_taken.result c.loop-x.invariant (c.address_taken.ensures p c.requires ∙ ap (λ n. is_taken p (n + c.loop-x.x)) c.defined-defined.ensures) c.in_ok-add.ensures
+
+pub returns : goal.returns
+returns c =
+    let p = program_of c.args.program.now in
+    taken_end (λ x. is_taken p (defined p + x)) c.loop-x.x c.loop-x.taken.items c.loop-x-test.false c.loop-x.auto.x-end c.loop-x.invariant

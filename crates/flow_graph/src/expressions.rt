@@ -1,0 +1,199 @@
+ghost use Rattle.std.specs.Prelude.{◌≡◌, false, slice_index_or, IfOk};
+ghost use Rattle.c_tree.specs.View.{expr_of, exprs_of, maybe_of, inits_of};
+ghost use Rattle.c_shapes.specs.Shape.{End};
+ghost use Rattle.c_shapes.specs.ShapeOf.{system_call, without_skips, seq};
+ghost use Rattle.flow_graph.specs.View.{shape_of, parts_of};
+ghost use Rattle.flow_graph.specs.Sited.{call_at, direct_at, expr_at, exprs_at, maybe_at, inits_at};
+
+use crate::arguments::pattern_of;
+use crate::sequence::{add, between, in_turn, one_of, perhaps, then_last, two};
+use crate::shape::Shape;
+use c_tree::{TExpr, TExprKind, TInit};
+use dm_base::{OutOfMemory, Pattern, SysName};
+use std::alloc::Global;
+
+// The number of `_exit`, which does not come back.
+const EXIT: u8 = 23;
+
+// What the shapes of a program's trees depend on: how many functions it defines, and which sites are marked.
+#[derive(Clone, Copy)]
+pub struct Reading<'p> {
+    pub defined: u32,
+    pub marks: &'p [bool],
+}
+
+// A call of a system call.
+pub fn system_call(name: SysName, pattern: Pattern) -> Shape
+    ensures { shape_of result ≡ system_call name pattern }
+{
+    if name.index() == EXIT {
+        Shape::Exit(pattern)
+    } else {
+        Shape::Sys(name, pattern)
+    }
+}
+
+impl<'p> Reading<'p> {
+    // Whether the site is marked.
+    fn is_marked(&self, site: u32) -> bool
+        ensures { result ≡ slice_index_or self.now.marks.now site false }
+    {
+        let place = site as usize;
+        if place < self.marks.len() {
+            return self.marks[place];
+        }
+        false
+    }
+
+    // The call at the site, where it is marked.
+    fn marked_call(&self, site: u32) -> Shape
+        ensures { shape_of result ≡ call_at self.now.marks.now site }
+    {
+        if self.is_marked(site) {
+            Shape::Call(site)
+        } else {
+            Shape::Skip
+        }
+    }
+
+    // A direct call: of a defined function, of a system call with the pattern of its arguments, or a null call.
+    fn direct_call(&self, site: u32, function: u32, arguments: &[TExpr]) -> Shape
+        ensures { shape_of result ≡ direct_at self.now.defined self.now.marks.now site function (exprs_of arguments.now) }
+    {
+        if function < self.defined {
+            return self.marked_call(site);
+        }
+        let number = function - self.defined;
+        if number >= 24 {
+            return Shape::Skip;
+        }
+        match SysName::from_index(number as u8) {
+            Some(name) => system_call(name, pattern_of(name, arguments)),
+            None => unreachable!(),
+        }
+    }
+
+    // The shape of an expression, whose parts come in the order of their evaluation (C99 6.5).
+    #[cycle(expressions)]
+    pub fn expression(&self, alloc: Global, e: &TExpr) -> Result<Shape, OutOfMemory>
+        ensures { IfOk result (λ s. shape_of s ≡ expr_at self.now.defined self.now.marks.now (expr_of e.now)) }
+    {
+        match &e.kind {
+            TExprKind::Const(_) => Ok(Shape::Skip),
+            TExprKind::Function(_) => Ok(Shape::Skip),
+            TExprKind::StringPlace(_) => Ok(Shape::Skip),
+            TExprKind::Variable { .. } => Ok(Shape::Skip),
+            TExprKind::Deref(a) => self.expression(alloc, a),
+            TExprKind::Load(a) => self.expression(alloc, a),
+            TExprKind::AddressOf(a) => self.expression(alloc, a),
+            TExprKind::Decay(a) => self.expression(alloc, a),
+            TExprKind::Discard(a) => self.expression(alloc, a),
+            TExprKind::Field(a, _) => self.expression(alloc, a),
+            TExprKind::Unary(_, a) => self.expression(alloc, a),
+            TExprKind::Convert(_, a) => self.expression(alloc, a),
+            TExprKind::Arith(_, a, b) => {
+                let first = self.expression(alloc, a)?;
+                let second = self.expression(alloc, b)?;
+                two(alloc, first, second)
+            }
+            TExprKind::Compare(_, a, b) => {
+                let first = self.expression(alloc, a)?;
+                let second = self.expression(alloc, b)?;
+                two(alloc, first, second)
+            }
+            TExprKind::PointerAdd { left, right, .. } => {
+                let first = self.expression(alloc, left)?;
+                let second = self.expression(alloc, right)?;
+                two(alloc, first, second)
+            }
+            TExprKind::PointerDiff(a, b) => {
+                let first = self.expression(alloc, a)?;
+                let second = self.expression(alloc, b)?;
+                two(alloc, first, second)
+            }
+            TExprKind::And(a, b) => {
+                let first = self.expression(alloc, a)?;
+                let second = self.expression(alloc, b)?;
+                perhaps(alloc, first, second)
+            }
+            TExprKind::Or(a, b) => {
+                let first = self.expression(alloc, a)?;
+                let second = self.expression(alloc, b)?;
+                perhaps(alloc, first, second)
+            }
+            TExprKind::Assign(a, b) => {
+                let first = self.expression(alloc, a)?;
+                let second = self.expression(alloc, b)?;
+                two(alloc, first, second)
+            }
+            TExprKind::Update { place, value, .. } => {
+                let first = self.expression(alloc, place)?;
+                let second = self.expression(alloc, value)?;
+                two(alloc, first, second)
+            }
+            TExprKind::Cond(test, yes, no) => {
+                let first = self.expression(alloc, test)?;
+                let one = self.expression(alloc, yes)?;
+                let other = self.expression(alloc, no)?;
+                one_of(alloc, first, one, other)
+            }
+            TExprKind::Comma(es) => {
+                let parts = self.expressions(alloc, es)?;
+                in_turn(alloc, parts)
+            }
+            TExprKind::Call {
+                site,
+                function,
+                arguments,
+            } => {
+                let parts = self.expressions(alloc, arguments)?;
+                let call = self.direct_call(*site, *function, arguments);
+                then_last(alloc, parts, call)
+            }
+            TExprKind::CallThrough {
+                site,
+                designator,
+                arguments,
+            } => {
+                let pointer = self.expression(alloc, designator)?;
+                let parts = self.expressions(alloc, arguments)?;
+                between(alloc, pointer, parts, self.marked_call(*site))
+            }
+        }
+    }
+
+    // The shapes of expressions, from the left to the right, but those that are nothing.
+    #[cycle(expressions)]
+    fn expressions(&self, alloc: Global, es: &[TExpr]) -> Result<Vec<Shape>, OutOfMemory>
+        ensures { IfOk result (λ v. parts_of v.items ≡ without_skips (exprs_at self.now.defined self.now.marks.now (exprs_of es.now) End)) }
+    {
+        let mut parts = Vec::new(alloc);
+        for e in es {
+            let part = self.expression(alloc, e)?;
+            add(&mut parts, part)?;
+        }
+        Ok(parts)
+    }
+
+    // The shape of an expression that may be absent.
+    pub fn maybe(&self, alloc: Global, e: &Option<TExpr>) -> Result<Shape, OutOfMemory>
+        ensures { IfOk result (λ s. shape_of s ≡ maybe_at self.now.defined self.now.marks.now (maybe_of e.now)) }
+    {
+        match e {
+            Some(e) => self.expression(alloc, e),
+            None => Ok(Shape::Skip),
+        }
+    }
+
+    // The shape of initialisers, from the first to the last (C99 6.7.8).
+    pub fn initialisers(&self, alloc: Global, inits: &[TInit]) -> Result<Shape, OutOfMemory>
+        ensures { IfOk result (λ s. shape_of s ≡ seq (inits_at self.now.defined self.now.marks.now (inits_of inits.now))) }
+    {
+        let mut parts = Vec::new(alloc);
+        for init in inits {
+            let part = self.expression(alloc, &init.value)?;
+            add(&mut parts, part)?;
+        }
+        in_turn(alloc, parts)
+    }
+}

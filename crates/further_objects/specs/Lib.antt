@@ -1,2 +1,0 @@
-pub mod FurtherObjects
-pub mod Laws

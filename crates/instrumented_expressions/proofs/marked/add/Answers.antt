@@ -1,7 +1,0 @@
-use Rattle.std.proofs.Common.{ap, ◌∙◌}
-use Rattle.instrumented_expressions.specs.Lists.{exprs_onto}
-use Rattle.instrumented_expressions.proofs.MarkedLemmas.{onto_more}
-use Rattle.instrumented_expressions.proofs.marked.add.Goals as goal
-
-pub returns : goal.returns
-returns c rest = ap (λ xs. exprs_onto xs rest) c.in_ok-push.ensures.items ∙ onto_more c.args.list.now.items c.args.one rest

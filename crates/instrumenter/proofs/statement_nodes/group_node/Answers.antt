@@ -1,5 +1,0 @@
-use Rattle.instrumenter.proofs.TreeLemmas.{group_made}
-use Rattle.instrumenter.proofs.statement_nodes.group_node.Goals as goal
-
-pub returns : goal.returns
-returns c rest = group_made c.args.labels c.args.body rest

@@ -1,5 +1,0 @@
-use Rattle.c_counts.proofs.Rows.{switch_is}
-use Rattle.instrumenter.proofs.statement_nodes.switch_node.Goals as goal
-
-pub returns : goal.returns
-returns c = switch_is c.args.at c.args.on c.args.groups

@@ -1,5 +1,0 @@
-use Rattle.judged_runs.proofs.Judged.{judged_accepted}
-use Rattle.judged_runs.proofs.laws.judged_runs_are_accepted.Goals as goal
-
-pub returns : goal.returns
-returns c = judged_accepted c.a_text_is_accepted_as_one_program.ensures c.a_plain_text_is_accepted_in_both_modes.ensures c.a_text_has_one_model.ensures.one c.texts_raise_no_alarm.ensures

@@ -1,4 +1,0 @@
-pub mod BufferLemmas
-pub mod FillLemmas
-pub mod PointerLemmas
-pub mod TakingLemmas

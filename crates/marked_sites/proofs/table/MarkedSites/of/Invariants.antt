@@ -1,7 +1,0 @@
-use Rattle.c_tree.specs.View.{program_of}
-use Rattle.null_calls.specs.MarkedCalls.{sites_of}
-use Rattle.marked_sites.proofs.SiteLemmas.{AreSited}
-use Rattle.marked_sites.proofs.table.MarkedSites.of.Given as goal
-
-abbrev pub invariant-loop-site : goal.invariant-loop-site
-invariant-loop-site l = AreSited (sites_of (program_of l.program)) l.site l.all.items

@@ -1,6 +1,0 @@
-use Rattle.model_commands.proofs.MeasureLemmas.{one_measured}
-use Rattle.model_commands.proofs.metering.MeteringPanel.finish.Goals as goal
-
-pub returns : goal.returns
-returns g c = λ g' k h come.
-    one_measured g.M.Monitor.WHICH c.figures-precision.result g' h c.in_ok-finished.finished.status c.in_ok-finished.finished.text.items (c.figures-precision.ensures g' h come) c.in_ok-finished.ensures.status (rw c.WHICH.ensures at c.in_ok-finished.ensures.text)

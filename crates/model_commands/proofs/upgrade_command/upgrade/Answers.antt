@@ -1,6 +1,0 @@
-use Rattle.model_commands.proofs.UpgradeLemmas.{is_too_long}
-use Rattle.model_commands.proofs.upgrade_command.upgrade.Goals as goal
-
-pub returns-in-Ok-too_long_line-clause-stop : goal.returns-in-Ok-too_long_line-clause-stop
-returns-in-Ok-too_long_line-clause-stop g c =
-    is_too_long (g.S.Store.files c.args.store.now) c.args.name.now c.in-Ok-too_long_line.line.items c.in_ok-model.model c.in_ok-model.ensures.model (c.in-Err-TooLarge.ensures.long c.in-Err-TooLarge.field-0-is) c.in-Ok-too_long_line.ensures

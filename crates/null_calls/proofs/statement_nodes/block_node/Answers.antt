@@ -1,0 +1,5 @@
+use Rattle.c_check_counts.proofs.Rows.{block_is}
+use Rattle.null_calls.proofs.statement_nodes.block_node.Goals as goal
+
+pub returns : goal.returns
+returns c = block_is c.args.at c.args.items

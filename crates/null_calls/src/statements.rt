@@ -1,0 +1,243 @@
+// Statements (C99 6.8).
+
+ghost use Rattle.std.specs.Prelude.{◌≡◌, ◌+◌, ◌++◌, OnOk, IfOk};
+ghost use Rattle.c_syntax.specs.Tree.{no_block_items, no_groups};
+ghost use Rattle.c_syntax.specs.UnitView.{first_of_head, stmt_of, block_item_before, group_before};
+ghost use Rattle.c_syntax.specs.WritesUnit.{block_items_of, stmts_of, groups_of};
+ghost use Rattle.c_rules.specs.Variables.{calls_of_first, calls_of_stmt, calls_of_block, calls_of_stmts, calls_of_groups};
+ghost use Rattle.null_calls_temporaries.specs.Sited.{sited};
+ghost use Rattle.null_calls_rules.specs.InstrumentedStatements as marks;
+ghost use Rattle.null_calls_temporaries.specs.Kept.{temporaries_of};
+ghost use Rattle.null_calls.specs.Parts.{item_of, group_of};
+
+use crate::declarations::{declaration, maybe};
+use crate::statement_nodes::{
+    block_node, do_node, for_node, group_node, if_else_node, if_node, switch_node, while_node,
+};
+use c_syntax::{BlockItem, ForFirst, Group, Stmt, StmtKind};
+use c_syntax_nodes::copy_labels;
+use dm_base::OutOfMemory;
+use null_calls_expressions::expression;
+use null_calls_temporaries::{MarkedSites, Temporary};
+use std::alloc::Global;
+
+// What stands first in the head of a for; the value of an expression there isn't wanted.
+fn head<'p>(
+    alloc: Global,
+    table: &MarkedSites<'p>,
+    f: &ForFirst,
+    next: &mut u32,
+    kept: &mut Vec<Temporary<'p>>,
+) -> Result<ForFirst, OutOfMemory>
+    ensures tree { IfOk result (λ made. first_of_head made ≡ marks.first (sited table.now) next.old (first_of_head f.now)) }
+    ensures keeps { OnOk result (temporaries_of kept.new.items ≡ temporaries_of kept.old.items ++ marks.kept_of_first (sited table.now) next.old (first_of_head f.now)) }
+    ensures counts { OnOk result (next.new ≡ next.old + calls_of_first (first_of_head f.now)) }
+{
+    match f {
+        ForFirst::Absent => Ok(ForFirst::Absent),
+        ForFirst::Expr(e) => {
+            let made = expression(alloc, table, false, e, next, kept)?;
+            Ok(ForFirst::Expr(made))
+        }
+        ForFirst::Declaration(d) => {
+            let made = declaration(alloc, table, d, next, kept)?;
+            Ok(ForFirst::Declaration(made))
+        }
+    }
+}
+
+// The statement with null calls round its marked calls, where `next` calls stand before it in the unit. The temporaries of its marked
+// calls are added to `kept`, and its calls to `next`.
+#[cycle(statements)]
+pub fn statement<'p>(
+    alloc: Global,
+    table: &MarkedSites<'p>,
+    s: &Stmt,
+    next: &mut u32,
+    kept: &mut Vec<Temporary<'p>>,
+) -> Result<Stmt, OutOfMemory>
+    ensures tree { IfOk result (λ made. stmt_of made ≡ marks.stmt (sited table.now) next.old (stmt_of s.now)) }
+    ensures keeps { OnOk result (temporaries_of kept.new.items ≡ temporaries_of kept.old.items ++ marks.kept_of_stmt (sited table.now) next.old (stmt_of s.now)) }
+    ensures counts { OnOk result (next.new ≡ next.old + calls_of_stmt (stmt_of s.now)) }
+{
+    let at = s.at;
+    match &s.kind {
+        StmtKind::Block(list) => {
+            let made = block_items(alloc, table, list, next, kept)?;
+            Ok(block_node(at, made))
+        }
+        StmtKind::Empty => Ok(Stmt {
+            at,
+            kind: StmtKind::Empty,
+        }),
+        StmtKind::Expr(e) => {
+            let made = expression(alloc, table, false, e, next, kept)?;
+            Ok(Stmt {
+                at,
+                kind: StmtKind::Expr(made),
+            })
+        }
+        StmtKind::If { test, yes, no } => {
+            let made = expression(alloc, table, true, test, next, kept)?;
+            let first = statement(alloc, table, yes, next, kept)?;
+            match no {
+                Some(no) => {
+                    let other = statement(alloc, table, no, next, kept)?;
+                    let whole = if_else_node(alloc, at, made, first, other)?;
+                    Ok(whole)
+                }
+                None => {
+                    let whole = if_node(alloc, at, made, first)?;
+                    Ok(whole)
+                }
+            }
+        }
+        StmtKind::While { test, body } => {
+            let made = expression(alloc, table, true, test, next, kept)?;
+            let turn = statement(alloc, table, body, next, kept)?;
+            let whole = while_node(alloc, at, made, turn)?;
+            Ok(whole)
+        }
+        StmtKind::Do { body, test } => {
+            let turn = statement(alloc, table, body, next, kept)?;
+            let made = expression(alloc, table, true, test, next, kept)?;
+            let whole = do_node(alloc, at, turn, made)?;
+            Ok(whole)
+        }
+        StmtKind::For {
+            first,
+            test,
+            step,
+            body,
+        } => {
+            let begin = head(alloc, table, first, next, kept)?;
+            let tested = maybe(alloc, table, true, test, next, kept)?;
+            let stepped = maybe(alloc, table, false, step, next, kept)?;
+            let turn = statement(alloc, table, body, next, kept)?;
+            let whole = for_node(alloc, at, begin, tested, stepped, turn)?;
+            Ok(whole)
+        }
+        StmtKind::Switch { on, groups } => {
+            let made = expression(alloc, table, true, on, next, kept)?;
+            let all = group_list(alloc, table, groups, next, kept)?;
+            Ok(switch_node(at, made, all))
+        }
+        StmtKind::Break => Ok(Stmt {
+            at,
+            kind: StmtKind::Break,
+        }),
+        StmtKind::Continue => Ok(Stmt {
+            at,
+            kind: StmtKind::Continue,
+        }),
+        StmtKind::Return(e) => {
+            let made = maybe(alloc, table, true, e, next, kept)?;
+            Ok(Stmt {
+                at,
+                kind: StmtKind::Return(made),
+            })
+        }
+    }
+}
+
+// The items of a block.
+#[cycle(statements)]
+pub fn block_items<'p>(
+    alloc: Global,
+    table: &MarkedSites<'p>,
+    list: &[BlockItem],
+    next: &mut u32,
+    kept: &mut Vec<Temporary<'p>>,
+) -> Result<Vec<BlockItem>, OutOfMemory>
+    ensures tree { IfOk result (λ made. block_items_of made.items ≡ marks.items_of_block (sited table.now) next.old (block_items_of list.now)) }
+    ensures keeps { OnOk result (temporaries_of kept.new.items ≡ temporaries_of kept.old.items ++ marks.kept_of_block (sited table.now) next.old (block_items_of list.now)) }
+    ensures counts { OnOk result (next.new ≡ next.old + calls_of_block (block_items_of list.now)) }
+{
+    let mut made = Vec::new(alloc);
+    for k in 0..list.len() {
+        let one = block_item(alloc, table, &list[k], next, kept)?;
+        made.push(one)?;
+    }
+    Ok(made)
+}
+
+#[cycle(statements)]
+fn block_item<'p>(
+    alloc: Global,
+    table: &MarkedSites<'p>,
+    x: &BlockItem,
+    next: &mut u32,
+    kept: &mut Vec<Temporary<'p>>,
+) -> Result<BlockItem, OutOfMemory>
+    ensures tree { IfOk result (λ made. item_of made ≡ marks.items_of_block (sited table.now) next.old (item_of x.now)) }
+    ensures keeps { OnOk result (temporaries_of kept.new.items ≡ temporaries_of kept.old.items ++ marks.kept_of_block (sited table.now) next.old (item_of x.now)) }
+    ensures counts { OnOk result (next.new ≡ next.old + calls_of_block (item_of x.now)) }
+{
+    match x {
+        BlockItem::Declaration(d) => {
+            let made = declaration(alloc, table, d, next, kept)?;
+            Ok(BlockItem::Declaration(made))
+        }
+        BlockItem::Statement(s) => {
+            let made = statement(alloc, table, s, next, kept)?;
+            Ok(BlockItem::Statement(made))
+        }
+    }
+}
+
+#[cycle(statements)]
+fn statement_list<'p>(
+    alloc: Global,
+    table: &MarkedSites<'p>,
+    list: &[Stmt],
+    next: &mut u32,
+    kept: &mut Vec<Temporary<'p>>,
+) -> Result<Vec<Stmt>, OutOfMemory>
+    ensures tree { IfOk result (λ made. stmts_of made.items ≡ marks.stmts (sited table.now) next.old (stmts_of list.now)) }
+    ensures keeps { OnOk result (temporaries_of kept.new.items ≡ temporaries_of kept.old.items ++ marks.kept_of_stmts (sited table.now) next.old (stmts_of list.now)) }
+    ensures counts { OnOk result (next.new ≡ next.old + calls_of_stmts (stmts_of list.now)) }
+{
+    let mut made = Vec::new(alloc);
+    for k in 0..list.len() {
+        let one = statement(alloc, table, &list[k], next, kept)?;
+        made.push(one)?;
+    }
+    Ok(made)
+}
+
+#[cycle(statements)]
+fn group_list<'p>(
+    alloc: Global,
+    table: &MarkedSites<'p>,
+    list: &[Group],
+    next: &mut u32,
+    kept: &mut Vec<Temporary<'p>>,
+) -> Result<Vec<Group>, OutOfMemory>
+    ensures tree { IfOk result (λ made. groups_of made.items ≡ marks.groups (sited table.now) next.old (groups_of list.now)) }
+    ensures keeps { OnOk result (temporaries_of kept.new.items ≡ temporaries_of kept.old.items ++ marks.kept_of_groups (sited table.now) next.old (groups_of list.now)) }
+    ensures counts { OnOk result (next.new ≡ next.old + calls_of_groups (groups_of list.now)) }
+{
+    let mut made = Vec::new(alloc);
+    for k in 0..list.len() {
+        let one = one_group(alloc, table, &list[k], next, kept)?;
+        made.push(one)?;
+    }
+    Ok(made)
+}
+
+#[cycle(statements)]
+fn one_group<'p>(
+    alloc: Global,
+    table: &MarkedSites<'p>,
+    g: &Group,
+    next: &mut u32,
+    kept: &mut Vec<Temporary<'p>>,
+) -> Result<Group, OutOfMemory>
+    ensures tree { IfOk result (λ made. group_of made ≡ marks.groups (sited table.now) next.old (group_of g.now)) }
+    ensures keeps { OnOk result (temporaries_of kept.new.items ≡ temporaries_of kept.old.items ++ marks.kept_of_groups (sited table.now) next.old (group_of g.now)) }
+    ensures counts { OnOk result (next.new ≡ next.old + calls_of_groups (group_of g.now)) }
+{
+    let labels = copy_labels(alloc, &g.labels)?;
+    let body = statement_list(alloc, table, &g.body, next, kept)?;
+    Ok(group_node(labels, body))
+}

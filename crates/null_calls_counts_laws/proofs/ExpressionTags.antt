@@ -1,0 +1,185 @@
+-- Tags of structs in expressions with null calls round their marked calls.
+use Rattle.std.proofs.Common.{◌≡◌, ℕ, suc, ◌+◌, Bool, true, false, if◌then◌else◌, List, [], ◌∷◌, ◌++◌, append_assoc, Option, None, Some, refl, ap, ap₂, sym, ◌∙◌}
+use Rattle.c_tree.specs.Tree.{CType}
+use Rattle.c_syntax.specs.Tree.{Expr, a_name, an_int, a_char, a_str, comma, sizeof_type, cast, call, member, postfix, prefix, unary, index, binary, assign, conditional, Exprs, no_exprs, more_exprs}
+use Rattle.c_syntax.specs.Tree.{pre_increment, pre_decrement, sizeof}
+use Rattle.c_rules.specs.Counts.{calls}
+use Rattle.c_rules.specs.Tags.{tags_of_expr, tags_of_exprs, tags_of_type}
+use Rattle.null_calls_rules.specs.MarkedCalls.{Called, Sites}
+use Rattle.null_calls_rules.specs.Temporaries.{pre_name, is_kept}
+use Rattle.null_calls_rules.specs.InstrumentedExpressions.{is_void_type, keep_designator, keep_arguments, kept_arguments, kept_designator, null_call, call_and_post, call_where, is_address_of_indirection, expr, arguments, members}
+use Rattle.null_calls_counts_laws.specs.Counts.{IsName, IsDesignator, AreNamed, AllNamed}
+
+nothing_more : {A : Type 0} (xs : List A) → xs ++ [] ≡ xs
+nothing_more [] = refl
+nothing_more (x ∷ xs) = ap (λ ys. x ∷ ys) (nothing_more xs)
+
+-- ## A marked call
+
+arguments_tags : (at site i : ℕ) (es rest : Exprs) → tags_of_exprs (keep_arguments at site i es rest) ≡ tags_of_exprs es ++ tags_of_exprs rest
+arguments_tags at site i no_exprs rest = refl
+arguments_tags at site i (more_exprs e es) rest = ap (λ ws. tags_of_expr e ++ ws) (arguments_tags at site (suc i) es rest) ∙ sym (append_assoc (tags_of_expr e) (tags_of_exprs es) (tags_of_exprs rest))
+
+names_tags : (at site i : ℕ) (es : Exprs) → tags_of_exprs (kept_arguments at site i es) ≡ []
+names_tags at site i no_exprs = refl
+names_tags at site i (more_exprs e es) = names_tags at site (suc i) es
+
+post_tags : (at site : ℕ) (k : Bool) (e : Expr) → tags_of_exprs (call_and_post at site k e) ≡ tags_of_expr e
+post_tags at site true e = nothing_more (tags_of_expr e)
+post_tags at site false e = nothing_more (tags_of_expr e)
+
+name_tags : (d : Expr) → IsName d → tags_of_expr d ≡ []
+name_tags (a_name at x) h = refl
+name_tags (an_int at n u) h = absurd h
+name_tags (a_char at c) h = absurd h
+name_tags (a_str at w) h = absurd h
+name_tags (comma at es) h = absurd h
+name_tags (sizeof_type at t) h = absurd h
+name_tags (cast at t e) h = absurd h
+name_tags (call at d es) h = absurd h
+name_tags (member at how e x) h = absurd h
+name_tags (postfix at op e) h = absurd h
+name_tags (prefix at op e) h = absurd h
+name_tags (unary at op e) h = absurd h
+name_tags (index at e f) h = absurd h
+name_tags (binary at op e f) h = absurd h
+name_tags (assign at op e f) h = absurd h
+name_tags (conditional at c e f) h = absurd h
+
+-- the name of what is called stays a name
+named_stays : (sites : Sites) (b : ℕ) (d : Expr) → IsName d → IsName (expr sites b true d)
+named_stays sites b (a_name at x) h = tt
+named_stays sites b (an_int at n u) h = absurd h
+named_stays sites b (a_char at c) h = absurd h
+named_stays sites b (a_str at w) h = absurd h
+named_stays sites b (comma at es) h = absurd h
+named_stays sites b (sizeof_type at t) h = absurd h
+named_stays sites b (cast at t e) h = absurd h
+named_stays sites b (call at d es) h = absurd h
+named_stays sites b (member at how e x) h = absurd h
+named_stays sites b (postfix at op e) h = absurd h
+named_stays sites b (prefix at op e) h = absurd h
+named_stays sites b (unary at op e) h = absurd h
+named_stays sites b (index at e f) h = absurd h
+named_stays sites b (binary at op e f) h = absurd h
+named_stays sites b (assign at op e f) h = absurd h
+named_stays sites b (conditional at c e f) h = absurd h
+
+behind_tags : (at site : ℕ) (k : Bool) (d : Expr) (es : Exprs) → tags_of_exprs (more_exprs (null_call at pre_name site) (call_and_post at site k (call at d (kept_arguments at site 0 es)))) ≡ tags_of_expr d
+behind_tags at site k d es = post_tags at site k (call at d (kept_arguments at site 0 es)) ∙ (ap (λ ws. tags_of_expr d ++ ws) (names_tags at site 0 es) ∙ nothing_more (tags_of_expr d))
+
+marked_tags : (at site : ℕ) (k : Bool) (o : Option CType) (d : Expr) (es : Exprs) → (o ≡ None → IsName d)
+    → tags_of_exprs (keep_designator at site o d (keep_arguments at site 0 es (more_exprs (null_call at pre_name site) (call_and_post at site k (call at (kept_designator at site o d) (kept_arguments at site 0 es)))))) ≡ tags_of_expr d ++ tags_of_exprs es
+marked_tags at site k None d es h =
+    let none : tags_of_expr d ≡ [] = name_tags d (h refl) in
+    arguments_tags at site 0 es (more_exprs (null_call at pre_name site) (call_and_post at site k (call at d (kept_arguments at site 0 es))))
+    ∙ (ap (λ ws. tags_of_exprs es ++ ws) (behind_tags at site k d es ∙ none) ∙ (nothing_more (tags_of_exprs es) ∙ ap (λ ws. ws ++ tags_of_exprs es) (sym none)))
+marked_tags at site k (Some t) d es h =
+    ap (λ ws. tags_of_expr d ++ ws) (arguments_tags at site 0 es (more_exprs (null_call at pre_name site) (call_and_post at site k (call at (kept_designator at site (Some t) d) (kept_arguments at site 0 es))))
+    ∙ (ap (λ ws. tags_of_exprs es ++ ws) (behind_tags at site k (kept_designator at site (Some t) d) es) ∙ nothing_more (tags_of_exprs es)))
+
+-- ## Calls
+
+call_tags : (at site : ℕ) (wanted : Bool) (o : Option Called) (d : Expr) (es : Exprs) → IsDesignator o d → tags_of_expr (call_where at site wanted o d es) ≡ tags_of_expr d ++ tags_of_exprs es
+call_tags at site wanted None d es h = refl
+call_tags at site wanted (Some c) d es h = marked_tags at site (is_kept wanted c.returns) c.pointer_type d es h
+
+designator_stays : (sites : Sites) (b : ℕ) (o : Option Called) (d : Expr) → IsDesignator o d → IsDesignator o (expr sites b true d)
+designator_stays sites b None d h = tt
+designator_stays sites b (Some c) d h = λ e. named_stays sites b d (h e)
+
+-- ## Expressions
+
+by_type : (P : Expr → Type 0) (t : Bool) (x y : Expr) → P x → P y → P (if t then x else y)
+by_type P true x y h k = h
+by_type P false x y h k = k
+
+-- what holds of the operand of an operator whose value isn't wanted, where the operand is unary: for it may be left out with the operator
+abbrev Operand : (P : Expr → Type 0) (sites : Sites) (b : ℕ) → Expr → Type 0
+Operand P sites b (unary place inner e) = P (expr sites b false e)
+Operand P sites b e = Unit {0}
+
+by_unary : (P : Expr → Type 0) (sites : Sites) (at op : ℕ) (x : Expr) (b : ℕ) (wanted : Bool) → P (unary at op (expr sites b true x)) → Operand P sites b x → P (expr sites b wanted (unary at op x))
+by_unary P sites at op (a_name site x) b true h k = h
+by_unary P sites at op (an_int site n u) b true h k = h
+by_unary P sites at op (a_char site c) b true h k = h
+by_unary P sites at op (a_str site w) b true h k = h
+by_unary P sites at op (comma site es) b true h k = h
+by_unary P sites at op (sizeof_type site t) b true h k = h
+by_unary P sites at op (cast site t e) b true h k = h
+by_unary P sites at op (call site d es) b true h k = h
+by_unary P sites at op (member site how e x) b true h k = h
+by_unary P sites at op (postfix site o e) b true h k = h
+by_unary P sites at op (prefix site o e) b true h k = h
+by_unary P sites at op (unary place inner e) b true h k = h
+by_unary P sites at op (index site e f) b true h k = h
+by_unary P sites at op (binary site o e f) b true h k = h
+by_unary P sites at op (assign site o e f) b true h k = h
+by_unary P sites at op (conditional site c e f) b true h k = h
+by_unary P sites at op (a_name site x) b false h k = h
+by_unary P sites at op (an_int site n u) b false h k = h
+by_unary P sites at op (a_char site c) b false h k = h
+by_unary P sites at op (a_str site w) b false h k = h
+by_unary P sites at op (comma site es) b false h k = h
+by_unary P sites at op (sizeof_type site t) b false h k = h
+by_unary P sites at op (cast site t e) b false h k = h
+by_unary P sites at op (call site d es) b false h k = h
+by_unary P sites at op (member site how e x) b false h k = h
+by_unary P sites at op (postfix site o e) b false h k = h
+by_unary P sites at op (prefix site o e) b false h k = h
+by_unary P sites at op (unary place inner e) b false h k = by_type P (is_address_of_indirection op inner) (expr sites b false e) (unary at op (unary place inner (expr sites b true e))) k h
+by_unary P sites at op (index site e f) b false h k = h
+by_unary P sites at op (binary site o e f) b false h k = h
+by_unary P sites at op (assign site o e f) b false h k = h
+by_unary P sites at op (conditional site c e f) b false h k = h
+
+module _ (sites : Sites) where
+  mutual
+    pub expr_tags : (x : Expr) (b : ℕ) (wanted : Bool) → AreNamed sites b x → tags_of_expr (expr sites b wanted x) ≡ tags_of_expr x
+    expr_tags (a_name at x) b wanted h = refl
+    expr_tags (an_int at n u) b wanted h = refl
+    expr_tags (a_char at c) b wanted h = refl
+    expr_tags (a_str at w) b wanted h = refl
+    expr_tags (comma at es) b wanted h = members_tags es b wanted h
+    expr_tags (sizeof_type at t) b wanted h = refl
+    expr_tags (cast at t e) b wanted h = ap (λ ws. tags_of_type t ++ ws) (by_type (λ y. tags_of_expr y ≡ tags_of_expr e) (is_void_type t) (expr sites b false e) (expr sites b true e) (expr_tags e b false h) (expr_tags e b true h))
+    expr_tags (call at d es) b wanted h =
+        call_tags at (b + calls d) wanted (sites (b + calls d)) (expr sites b true d) (arguments sites (suc (b + calls d)) es) (designator_stays sites b (sites (b + calls d)) d h.0)
+        ∙ ap₂ (λ ws vs. ws ++ vs) (expr_tags d b true h.1) (arguments_stay es (suc (b + calls d)) h.2)
+    expr_tags (member at how e x) b wanted h = expr_tags e b true h
+    expr_tags (postfix at op e) b wanted h = expr_tags e b true h
+    expr_tags (prefix at pre_increment e) b wanted h = expr_tags e b true h
+    expr_tags (prefix at pre_decrement e) b wanted h = expr_tags e b true h
+    expr_tags (prefix at sizeof e) b wanted h = refl
+    expr_tags (unary at op e) b wanted h = by_unary (λ y. tags_of_expr y ≡ tags_of_expr e) sites at op e b wanted (expr_tags e b true h) (operand_tags e b h)
+    expr_tags (index at e f) b wanted h = ap₂ (λ ws vs. ws ++ vs) (expr_tags e b true h.0) (expr_tags f (b + calls e) true h.1)
+    expr_tags (binary at op e f) b wanted h = ap₂ (λ ws vs. ws ++ vs) (expr_tags e b true h.0) (expr_tags f (b + calls e) true h.1)
+    expr_tags (assign at op e f) b wanted h = ap₂ (λ ws vs. ws ++ vs) (expr_tags e b true h.0) (expr_tags f (b + calls e) true h.1)
+    expr_tags (conditional at c e f) b wanted h = ap₂ (λ ws vs. ws ++ vs) (expr_tags c b true h.0) (ap₂ (λ ws vs. ws ++ vs) (expr_tags e (b + calls c) true h.1) (expr_tags f (b + calls c + calls e) true h.2))
+
+    operand_tags : (x : Expr) (b : ℕ) → AreNamed sites b x → Operand (λ y. tags_of_expr y ≡ tags_of_expr x) sites b x
+    operand_tags (a_name at x) b h = tt
+    operand_tags (an_int at n u) b h = tt
+    operand_tags (a_char at c) b h = tt
+    operand_tags (a_str at w) b h = tt
+    operand_tags (comma at es) b h = tt
+    operand_tags (sizeof_type at t) b h = tt
+    operand_tags (cast at t e) b h = tt
+    operand_tags (call at d es) b h = tt
+    operand_tags (member at how e x) b h = tt
+    operand_tags (postfix at op e) b h = tt
+    operand_tags (prefix at op e) b h = tt
+    operand_tags (unary at op e) b h = expr_tags e b false h
+    operand_tags (index at e f) b h = tt
+    operand_tags (binary at op e f) b h = tt
+    operand_tags (assign at op e f) b h = tt
+    operand_tags (conditional at c e f) b h = tt
+
+    arguments_stay : (es : Exprs) (b : ℕ) → AllNamed sites b es → tags_of_exprs (arguments sites b es) ≡ tags_of_exprs es
+    arguments_stay no_exprs b h = refl
+    arguments_stay (more_exprs e es) b h = ap₂ (λ ws vs. ws ++ vs) (expr_tags e b true h.0) (arguments_stay es (b + calls e) h.1)
+
+    members_tags : (es : Exprs) (b : ℕ) (wanted : Bool) → AllNamed sites b es → tags_of_exprs (members sites b wanted es) ≡ tags_of_exprs es
+    members_tags no_exprs b wanted h = refl
+    members_tags (more_exprs e no_exprs) b wanted h = ap (λ ws. ws ++ []) (expr_tags e b wanted h.0)
+    members_tags (more_exprs e (more_exprs f es)) b wanted h = ap₂ (λ ws vs. ws ++ vs) (expr_tags e b false h.0) (members_tags (more_exprs f es) (b + calls e) wanted h.1)

@@ -1,0 +1,5 @@
+use Rattle.null_calls_counts_laws.proofs.Expressions.{counts_stay}
+use Rattle.null_calls_counts_laws.proofs.counts.counts_stay.Goals as goal
+
+pub returns : goal.returns
+returns c = counts_stay

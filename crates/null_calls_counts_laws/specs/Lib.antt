@@ -1,0 +1,4 @@
+pub mod Counts
+pub mod Heights
+pub mod Statements
+pub mod Tags

@@ -1,0 +1,221 @@
+// A call, with null calls round it where it is marked.
+
+ghost use Rattle.std.specs.Prelude.{◌≡◌, ◌+◌, ◌++◌, true, false, OnOk, IfOk};
+ghost use Rattle.c_syntax.specs.Tree.{Exprs, more_exprs};
+ghost use Rattle.c_syntax.specs.View.{expr_of};
+ghost use Rattle.c_syntax.specs.Writes.{exprs_of};
+ghost use Rattle.null_calls_temporaries.specs.Sited.{type_where, called_of, called_where};
+ghost use Rattle.null_calls_rules.specs.InstrumentedExpressions as marks;
+ghost use Rattle.null_calls_rules.specs.Temporaries as temporaries;
+ghost use Rattle.null_calls_temporaries.specs.Kept.{temporaries_of};
+ghost use Rattle.null_calls_expressions.specs.Lists.{exprs_onto};
+
+use c_lexer::punctuator::ASSIGN;
+use c_syntax::Expr;
+use c_syntax_nodes::{assign_node, call_node, comma_node, int_node, name_node};
+use c_tree::CType;
+use dm_base::{Bytes, OutOfMemory};
+use null_calls_temporaries::{
+    Called, Temporary, add_temporaries, argument_name, designator_name, is_kept, post_name,
+    pre_name, result_name,
+};
+use std::alloc::Global;
+
+// Adds a member of the comma expression.
+fn add(list: &mut Vec<Expr>, one: Expr) -> Result<(), OutOfMemory>
+    ensures { OnOk result ((rest : Exprs) → exprs_onto list.new.items rest ≡ exprs_onto list.old.items (more_exprs (expr_of one) rest)) }
+{
+    list.push(one)?;
+    Ok(())
+}
+
+// The expression is assigned to the temporary.
+fn keep(alloc: Global, at: u32, name: Bytes, e: Expr) -> Result<Expr, OutOfMemory>
+    ensures { IfOk result (λ made. expr_of made ≡ marks.kept_in at name (expr_of e)) }
+{
+    assign_node(alloc, at, ASSIGN, name_node(at, name), e)
+}
+
+// The null call with this name.
+fn null_call(alloc: Global, at: u32, name: Bytes, site: u32) -> Result<Expr, OutOfMemory>
+    ensures { IfOk result (λ made. expr_of made ≡ marks.null_call at name site) }
+{
+    let mut arguments = Vec::new(alloc);
+    arguments.push(int_node(at, site, true))?;
+    call_node(alloc, at, name_node(at, name), arguments)
+}
+
+// Adds the assignment of the designator to its temporary, where there is one, and gives what is called.
+fn add_designator<'p>(
+    alloc: Global,
+    at: u32,
+    site: u32,
+    pointer_type: Option<&'p CType>,
+    designator: Expr,
+    list: &mut Vec<Expr>,
+) -> Result<Expr, OutOfMemory>
+    ensures keeps { OnOk result ((rest : Exprs) → exprs_onto list.new.items rest ≡ exprs_onto list.old.items (marks.keep_designator at site (type_where pointer_type.entry) (expr_of designator) rest)) }
+    ensures gives { IfOk result (λ made. expr_of made ≡ marks.kept_designator at site (type_where pointer_type.entry) (expr_of designator)) }
+{
+    match pointer_type {
+        None => Ok(designator),
+        Some(_) => {
+            let name = designator_name(alloc, site)?;
+            let kept = keep(alloc, at, name, designator)?;
+            add(list, kept)?;
+            let again = designator_name(alloc, site)?;
+            Ok(name_node(at, again))
+        }
+    }
+}
+
+// Adds the assignments of the arguments to their temporaries, and gives these.
+fn add_arguments(
+    alloc: Global,
+    at: u32,
+    site: u32,
+    arguments: Vec<Expr>,
+    list: &mut Vec<Expr>,
+) -> Result<Vec<Expr>, OutOfMemory>
+    ensures keeps { OnOk result ((rest : Exprs) → exprs_onto list.new.items rest ≡ exprs_onto list.old.items (marks.keep_arguments at site 0 (exprs_of arguments.items) rest)) }
+    ensures gives { IfOk result (λ made. exprs_of made.items ≡ marks.kept_arguments at site 0 (exprs_of arguments.items)) }
+{
+    let mut passed = Vec::new(alloc);
+    for one in arguments {
+        let i = passed.len() as u64;
+        let name = argument_name(alloc, site, i)?;
+        let kept = keep(alloc, at, name, one)?;
+        add(list, kept)?;
+        let again = argument_name(alloc, site, i)?;
+        passed.push(name_node(at, again))?;
+    }
+    Ok(passed)
+}
+
+// Adds the call, whose result isn't kept, and the null call after it.
+fn add_bare_call(
+    alloc: Global,
+    at: u32,
+    site: u32,
+    one: Expr,
+    list: &mut Vec<Expr>,
+) -> Result<(), OutOfMemory>
+    ensures { OnOk result (exprs_of list.new.items ≡ exprs_onto list.old.items (marks.call_and_post at site false (expr_of one))) }
+{
+    add(list, one)?;
+    let name = post_name(alloc)?;
+    let after = null_call(alloc, at, name, site)?;
+    add(list, after)?;
+    Ok(())
+}
+
+// Adds the call, whose result is kept, the null call after it, and the result.
+fn add_kept_call(
+    alloc: Global,
+    at: u32,
+    site: u32,
+    one: Expr,
+    list: &mut Vec<Expr>,
+) -> Result<(), OutOfMemory>
+    ensures { OnOk result (exprs_of list.new.items ≡ exprs_onto list.old.items (marks.call_and_post at site true (expr_of one))) }
+{
+    let name = result_name(alloc, site)?;
+    let keeping = keep(alloc, at, name, one)?;
+    add(list, keeping)?;
+    let post = post_name(alloc)?;
+    let after = null_call(alloc, at, post, site)?;
+    add(list, after)?;
+    let again = result_name(alloc, site)?;
+    let value = name_node(at, again);
+    add(list, value)?;
+    Ok(())
+}
+
+fn add_call_and_post(
+    alloc: Global,
+    at: u32,
+    site: u32,
+    kept: bool,
+    one: Expr,
+    list: &mut Vec<Expr>,
+) -> Result<(), OutOfMemory>
+    ensures { OnOk result (exprs_of list.new.items ≡ exprs_onto list.old.items (marks.call_and_post at site kept (expr_of one))) }
+{
+    if kept {
+        return add_kept_call(alloc, at, site, one, list);
+    }
+    add_bare_call(alloc, at, site, one, list)
+}
+
+// The comma expression of a marked call.
+fn marked_call<'p>(
+    alloc: Global,
+    at: u32,
+    site: u32,
+    wanted: bool,
+    called: &Called<'p>,
+    designator: Expr,
+    arguments: Vec<Expr>,
+) -> Result<Expr, OutOfMemory>
+    ensures { IfOk result (λ made. expr_of made ≡ marks.marked_call at site wanted (called_of called.now) (expr_of designator) (exprs_of arguments.items)) }
+{
+    let mut list = Vec::new(alloc);
+    let function = add_designator(alloc, at, site, called.pointer_type, designator, &mut list)?;
+    let passed = add_arguments(alloc, at, site, arguments, &mut list)?;
+    let name = pre_name(alloc)?;
+    let before = null_call(alloc, at, name, site)?;
+    add(&mut list, before)?;
+    let one = call_node(alloc, at, function, passed)?;
+    let kept = is_kept(wanted, called.returns);
+    add_call_and_post(alloc, at, site, kept, one, &mut list)?;
+    Ok(comma_node(at, list))
+}
+
+// The call at the site, between null calls where it is marked.
+pub fn call_where<'p>(
+    alloc: Global,
+    at: u32,
+    site: u32,
+    wanted: bool,
+    called: Option<Called<'p>>,
+    designator: Expr,
+    arguments: Vec<Expr>,
+) -> Result<Expr, OutOfMemory>
+    ensures { IfOk result (λ made. expr_of made ≡ marks.call_where at site wanted (called_where called.entry) (expr_of designator) (exprs_of arguments.items)) }
+{
+    match called {
+        None => call_node(alloc, at, designator, arguments),
+        Some(one) => marked_call(alloc, at, site, wanted, &one, designator, arguments),
+    }
+}
+
+// Adds the temporaries of the call at the site, where it is marked.
+pub fn add_where<'p>(
+    alloc: Global,
+    into: &mut Vec<Temporary<'p>>,
+    site: u32,
+    wanted: bool,
+    called: Option<Called<'p>>,
+) -> Result<(), OutOfMemory>
+    ensures { OnOk result (temporaries_of into.new.items ≡ temporaries_of into.old.items ++ temporaries.temporaries_where site wanted (called_where called.entry)) }
+{
+    match called {
+        None => Ok(()),
+        Some(one) => add_temporaries(alloc, into, site, wanted, &one),
+    }
+}
+
+// The next site.
+pub fn take_site(next: &mut u32) -> Result<u32, OutOfMemory>
+    ensures is { IfOk result (λ site. site ≡ next.old) }
+    ensures next { OnOk result (next.new ≡ next.old + 1) }
+{
+    let site = *next;
+    match site.checked_add(1) {
+        Some(after) => {
+            *next = after;
+            Ok(site)
+        }
+        None => Err(OutOfMemory),
+    }
+}

@@ -1,0 +1,12 @@
+pub mod AddedParts
+pub mod Follow
+pub mod KeptArguments
+pub mod KeptValues
+pub mod Laws
+pub mod MarkedCalls
+pub mod MostCalls
+pub mod NullTypes
+pub mod OwnTypes
+pub mod PlainCalls
+pub mod Remade
+pub mod Tabled

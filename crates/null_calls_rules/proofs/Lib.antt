@@ -1,0 +1,3 @@
+pub mod TrialUnits
+mod Trials
+pub mod Unsited

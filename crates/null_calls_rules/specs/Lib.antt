@@ -1,0 +1,10 @@
+pub mod Instrumented
+pub mod InstrumentedExpressions
+pub mod InstrumentedPrograms
+pub mod InstrumentedStatements
+pub mod IsWithNullCalls
+pub mod MarkedCalls
+pub mod SitesLaw
+pub mod SpelledTypes
+pub mod Temporaries
+pub mod WithoutSites

@@ -1,0 +1,228 @@
+-- The body of a function with its temporaries does what the body does: no object of the activation is left behind.
+use Rattle.std.proofs.Common.{◌≡◌, ◌⊎◌, inl, inr, ℕ, suc, ◌+◌, ◌≤◌, ◌<◌, nat_eq, nat_lt, Bool, true, false, List, [], ◌∷◌, ◌++◌, length, replicate, Option, Some, None, slice_get, sym, ap, ◌∙◌, subst, refl, arith, true≢false}
+use Rattle.std.specs.Cmp.{nat_eq_equiv}
+use Rattle.c_tree.specs.declared.value.ObjectName.{ObjectName}
+use Rattle.c_tree.specs.declared.value.Value.TheVariants.{Indeterminate}
+use Rattle.c_tree.specs.Tree.{CType, void, integer, pointer, array, struct, function, Program}
+use Rattle.c_tree.specs.Tree.{Stmt, block, Stmts}
+use Rattle.c_tree.specs.Layout.{Structs, cells}
+use Rattle.c_tree.specs.Kinds.{Objects}
+use Rattle.c_tree.specs.Operands.{IsScalar}
+use Rattle.c_tree.specs.Program.{IsBlock, IsProgram}
+use Rattle.c_tree.specs.Typed.{IsStmt, AreStmts}
+use Rattle.c_values.specs.Memory.{Object, declared, ended}
+use Rattle.c_values.specs.Memory.{Objects as Memory}
+use Rattle.c_shapes.specs.Mentions.{mentions_of_stmt, mentions_of_stmts}
+use Rattle.c_meaning.specs.Meaning.{Frame, World, name_in, declared_in, without, leaving, exec, exec_all}
+use Rattle.c_meaning.specs.Results.{State, with_memory, Result, Go, Stop, Exit}
+use Rattle.c_meaning.specs.Runs.{no_marks}
+use Rattle.c_meaning_laws.specs.StoreTyping.{IsTypedMemory, IsTypedFrame}
+use Rattle.c_meaning_laws.specs.TypedResults.{EndsTyped, IsExit, StandsIn, IsTypedWorld}
+use Rattle.c_meaning_laws.proofs.Places.{get_left, get_right}
+use Rattle.c_meaning_laws.proofs.Keeps.{stmts_end}
+use Rattle.c_meaning_laws.specs.FurtherObjects.{IsHidden, IsBeside, Stay, DoesAlike}
+use Rattle.c_meaning_laws.proofs.Together.{Now}
+use Rattle.c_meaning_laws.proofs.Statements.{AreShown, without_beside, without_stays}
+use Rattle.c_meaning_laws.proofs.FurtherWorlds.{later_shown}
+use Rattle.alarm_laws.specs.MarkedRuns.{null_calls_of}
+use Rattle.alarm_laws.proofs.Lists.{below, not_below, same_number, no_some}
+use Rattle.alarm_laws.proofs.TypedRuns.{null_calls_recorded}
+use Rattle.null_calls_rules.specs.InstrumentedPrograms.{kept_of_stmt, kept_of_stmts, stmts, declared_from, items_of, body_from, instrumented_program}
+use Rattle.null_calls_runs_laws.specs.Pieces.{declaring}
+use Rattle.null_calls_runs_laws.proofs.PieceLemmas.{declarations_declare, shapes_stay}
+use Rattle.null_calls_runs_laws.proofs.Beside.{Does, Here}
+use Rattle.null_calls_runs_laws.proofs.Scalars.{AreScalars, stmts_scalars}
+use Rattle.null_calls_runs_laws.proofs.Calls.{changed_there, changed_elsewhere, Enters}
+use Rattle.null_calls_runs_laws.proofs.Statements.{Agains, stmts_do}
+
+-- a temporary's number among the numbers from k on
+abbrev Own : (activation k many : ℕ) → ObjectName → Type 0
+Own a k many x = x.activation ≡ a → k ≤ x.variable → x.variable < k + many → ⊥
+
+-- it is one of them, or it is not
+own_or_not : (a k many : ℕ) (x : ObjectName) → ((x.activation ≡ a) × (k ≤ x.variable) × (x.variable < k + many)) ⊎ Own a k many x
+own_or_not a k many x = by (nat_eq x.activation a) (nat_lt x.variable k) (nat_lt x.variable (k + many)) refl refl refl
+  where
+    by : (b c d : Bool) → nat_eq x.activation a ≡ b → nat_lt x.variable k ≡ c → nat_lt x.variable (k + many) ≡ d → ((x.activation ≡ a) × (k ≤ x.variable) × (x.variable < k + many)) ⊎ Own a k many x
+    by true false true e f g = inl (same_number x.activation a e, not_below x.variable k f, below x.variable (k + many) g)
+    by true false false e f g = inr (λ i j l. let h = not_below x.variable (k + many) g in omega (arith, h, l))
+    by true true d e f g = inr (λ i j l. let h = below x.variable k f in omega (arith, h, j))
+    by false c d e f g = inr (λ i j l. true≢false (sym (ap (λ b. nat_eq b a) i ∙ nat_eq_equiv.refl a) ∙ e))
+
+-- ## Declarations of temporaries
+
+scalar_cells : (structs : Structs) (t : CType) → IsScalar t → cells structs t ≡ 1
+scalar_cells structs void h = absurd h
+scalar_cells structs (integer i) h = refl
+scalar_cells structs (pointer t) h = refl
+scalar_cells structs (array t n) h = absurd h
+scalar_cells structs (struct s) h = absurd h
+scalar_cells structs (function r ts) h = absurd h
+
+-- memory in which temporaries of these types from k on have new cells
+abbrev opened_memory : Structs → (activation k : ℕ) → List CType → Memory → Memory
+opened_memory structs a k [] m = m
+opened_memory structs a k (t ∷ ts) m =
+    opened_memory structs a (suc k) ts (declared m (record { activation = a; variable = k }) (cells structs t))
+
+declaring_is : (structs : Structs) (fr : Frame) (k : ℕ) (ts : List CType) (st : State) (m : Memory) → declaring structs fr k ts (with_memory st m) ≡ with_memory st (opened_memory structs fr.activation k ts m)
+declaring_is structs fr k [] st m = refl
+declaring_is structs fr k (t ∷ ts) st m = declaring_is structs fr (suc k) ts st _
+
+apart_name : (a k many : ℕ) (x : ObjectName) → 0 < many → Own a k many x → record { activation = a; variable = k } ≡ x → ⊥
+apart_name a k many x some out s =
+    let e : k ≡ x.variable = ap (λ y. y.variable) s in out (sym (ap (λ y. y.activation) s)) (omega (arith, e)) (omega (arith, e, some))
+
+opened_elsewhere : (structs : Structs) (a k : ℕ) (ts : List CType) (m : Memory) (x : ObjectName) → Own a k (length ts) x → opened_memory structs a k ts m x ≡ m x
+opened_elsewhere structs a k [] m x out = refl
+opened_elsewhere structs a k (t ∷ ts) m x out =
+    opened_elsewhere structs a (suc k) ts _ x (λ e b c. out e (omega (arith, b)) (omega (arith, c))) ∙ changed_elsewhere m (record { activation = a; variable = k }) x _ (apart_name a k (suc (length ts)) x (omega arith) out)
+
+opened_there : (structs : Structs) (a k : ℕ) (ts : List CType) (m : Memory) (j : ℕ) → AreScalars ts → k ≤ j → j < k + length ts → opened_memory structs a k ts m (record { activation = a; variable = j }) ≡ Some (record { cells = Indeterminate ∷ []; string = false })
+opened_there structs a k [] m j h low high = absurd (omega (arith, low, high))
+opened_there structs a k (t ∷ ts) m j h low high = by (nat_lt k j) refl (λ l. opened_there structs a (suc k) ts _ j h.1 l (omega (arith, high)))
+  where
+    by : (b : Bool) → nat_lt k j ≡ b → (suc k ≤ j → opened_memory structs a k (t ∷ ts) m (record { activation = a; variable = j }) ≡ Some (record { cells = Indeterminate ∷ []; string = false })) → opened_memory structs a k (t ∷ ts) m (record { activation = a; variable = j }) ≡ Some (record { cells = Indeterminate ∷ []; string = false })
+    by true e later = later (let l = below k j e in omega (arith, l))
+    by false e later =
+        let l = not_below k j e in
+        let same : k ≡ j = omega (arith, l, low) in
+        subst (λ j. opened_memory structs a (suc k) ts (declared m (record { activation = a; variable = k }) (cells structs t)) (record { activation = a; variable = j }) ≡ Some (record { cells = Indeterminate ∷ []; string = false })) same (opened_elsewhere structs a (suc k) ts _ (record { activation = a; variable = k }) (λ e b c. let b : suc k ≤ k = b in omega (arith, b)) ∙ (changed_there m (record { activation = a; variable = k }) _ ∙ ap (λ n. Some (record { cells = replicate n Indeterminate; string = false })) (scalar_cells structs t h.0)))
+
+-- ## Their ends
+
+abbrev numbers : ℕ → List CType → List ℕ
+numbers k [] = []
+numbers k (t ∷ ts) = k ∷ numbers (suc k) ts
+
+declared_numbers : (k : ℕ) (ts : List CType) (p : Program) (ss : Stmts) → declared_in (declared_from p k ts ss) ≡ numbers k ts ++ declared_in ss
+declared_numbers k [] p ss = refl
+declared_numbers k (t ∷ ts) p ss = ap (λ xs. k ∷ xs) (declared_numbers (suc k) ts p ss)
+
+without_both : (a : ℕ) (xs ys : List ℕ) (m : Memory) → without a (xs ++ ys) m ≡ without a ys (without a xs m)
+without_both a [] ys m = refl
+without_both a (x ∷ xs) ys m = without_both a xs ys _
+
+ended_elsewhere : (a k : ℕ) (ts : List CType) (m : Memory) (x : ObjectName) → Own a k (length ts) x → without a (numbers k ts) m x ≡ m x
+ended_elsewhere a k [] m x out = refl
+ended_elsewhere a k (t ∷ ts) m x out =
+    ended_elsewhere a (suc k) ts _ x (λ e b c. out e (omega (arith, b)) (omega (arith, c))) ∙ changed_elsewhere m (record { activation = a; variable = k }) x None (apart_name a k (suc (length ts)) x (omega arith) out)
+
+ended_there : (a k : ℕ) (ts : List CType) (m : Memory) (j : ℕ) → k ≤ j → j < k + length ts → without a (numbers k ts) m (record { activation = a; variable = j }) ≡ None
+ended_there a k [] m j low high = absurd (omega (arith, low, high))
+ended_there a k (t ∷ ts) m j low high = by (nat_lt k j) refl (λ l. ended_there a (suc k) ts _ j l (omega (arith, high)))
+  where
+    by : (b : Bool) → nat_lt k j ≡ b → (suc k ≤ j → without a (numbers k (t ∷ ts)) m (record { activation = a; variable = j }) ≡ None) → without a (numbers k (t ∷ ts)) m (record { activation = a; variable = j }) ≡ None
+    by true e later = later (let l = below k j e in omega (arith, l))
+    by false e later =
+        let l = not_below k j e in
+        let same : k ≡ j = omega (arith, l, low) in
+        subst (λ j. without a (numbers (suc k) ts) (ended m (record { activation = a; variable = k })) (record { activation = a; variable = j }) ≡ None) same (ended_elsewhere a (suc k) ts _ (record { activation = a; variable = k }) (λ e b c. let b : suc k ≤ k = b in omega (arith, b)) ∙ changed_there m (record { activation = a; variable = k }) None)
+
+-- what a store typing doesn't tell of isn't there
+typed_none : (p : Program) (o : Objects) (m : Memory) (x : ObjectName) → IsTypedMemory p o m → o x ≡ None → m x ≡ None
+typed_none p o m x h e = by (m x) refl
+  where
+    by : (c : Option Object) → m x ≡ c → c ≡ None
+    by None f = refl
+    by (Some ob) f = let t = h x ob f in absurd (no_some t.0 (sym e ∙ t.1))
+
+all_shown : (known : Objects) (last a : ℕ) (xs : List ℕ) → last < a → AreShown known last a xs
+all_shown known last a [] h = tt
+all_shown known last a (x ∷ xs) h = (later_shown known last a x h, all_shown known last a xs h)
+
+module _ (p : Program) (n : ℕ) (typed : IsProgram p n) (w w' : World) (goes : IsTypedWorld p w) (enters : Enters p w w') (agains : Agains p w w') (known : Objects) (last : ℕ) (fr : Frame) (ss : Stmts) (r : CType) (o : Objects) (st : State) (l : Memory) (s : IsTypedFrame p o fr) (h : AreStmts p fr.types r false false ss) (m : StandsIn p (mentions_of_stmts ss)) (k : Now known last p o st l) (above : last < fr.activation) (begun : fr.activation ≤ st.entries) (only : (j : ℕ) → length fr.types ≤ j → o (name_in fr false j) ≡ None) where
+  abbrev Temporaries : List CType
+  Temporaries = kept_of_stmts p ss
+
+  abbrev limit : ℕ
+  limit = length fr.types + length (kept_of_stmts p ss)
+
+  abbrev wide : List CType
+  wide = fr.types ++ kept_of_stmts p ss
+
+  abbrev wider_frame : Frame
+  wider_frame = record { activation = fr.activation; types = fr.types ++ kept_of_stmts p ss }
+
+  abbrev inside : Memory
+  inside = opened_memory p.structs fr.activation (length fr.types) (kept_of_stmts p ss) l
+
+  -- all variables that the body with its temporaries declares
+  abbrev all : List ℕ
+  all = declared_in (declared_from p (length fr.types) (kept_of_stmts p ss) (stmts p (length fr.types) ss))
+
+  -- memory without the temporaries
+  abbrev outside : Memory → Memory
+  outside m = without fr.activation (numbers (length fr.types) (kept_of_stmts p ss)) m
+
+  own_name : (x : ObjectName) → x.activation ≡ fr.activation → name_in fr false x.variable ≡ x
+  own_name x e i = record { activation = sym e i; variable = x.variable }
+
+  -- what is hidden outside is hidden inside
+  inner : (x : ObjectName) → IsHidden known last x → IsHidden o fr.activation x
+  inner x hid = let a = hid.0 in (omega (arith, a, above), k.tells x hid.0 ∙ hid.1)
+
+  ready : Here o fr limit p o st inside
+  ready = record {
+    now = record {
+      state = k.state;
+      tells = λ x a. refl;
+      started = begun;
+      beside = λ x shown. opened_elsewhere p.structs fr.activation (length fr.types) (kept_of_stmts p ss) l x (λ e b c. shown (omega (arith, e), ap o (sym (own_name x e)) ∙ only x.variable b)) ∙ k.beside x (λ hid. shown (inner x hid));
+    };
+    ready = λ j a b. (Indeterminate, opened_there p.structs fr.activation (length fr.types) (kept_of_stmts p ss) l j (stmts_scalars p n typed fr.types r false false ss h) a b);
+  }
+
+  agree : (x : ℕ) (t : CType) → slice_get fr.types x ≡ Some t → slice_get (fr.types ++ kept_of_stmts p ss) x ≡ Some t
+  agree x t e = get_left fr.types (kept_of_stmts p ss) x t e
+
+  -- the statements after the declarations
+  after_declarations : exec_all (instrumented_program p) w' no_marks wider_frame (declared_from p (length fr.types) (kept_of_stmts p ss) (stmts p (length fr.types) ss)) (with_memory st l) ≡ exec_all (instrumented_program p) w' no_marks wider_frame (stmts p (length fr.types) ss) (with_memory st inside)
+  after_declarations =
+      declarations_declare p (instrumented_program p) w' no_marks wider_frame (length fr.types) (kept_of_stmts p ss) (stmts p (length fr.types) ss) (with_memory st l) (λ i t e. get_right fr.types (kept_of_stmts p ss) i ∙ e) ∙ ap (exec_all (instrumented_program p) w' no_marks wider_frame (stmts p (length fr.types) ss)) (declaring_is p.structs wider_frame (length fr.types) (kept_of_stmts p ss) st l)
+
+  -- the body is left, and its temporaries end
+  leaving_alike : (z q : Result Exit) → EndsTyped p {A = Exit} (IsExit p r false false) o st.entries z → Does o fr limit {A = Exit} true (length fr.types) inside z q → DoesAlike {A = Exit} known last l (leaving fr (declared_in ss) z) (leaving wider_frame (declared_in (declared_from p (length fr.types) (kept_of_stmts p ss) (stmts p (length fr.types) ss))) q)
+  leaving_alike (Stop c u) q t d = ap (leaving wider_frame (declared_in (declared_from p (length fr.types) (kept_of_stmts p ss) (stmts p (length fr.types) ss)))) d
+  leaving_alike (Go x z u) q t d = (without fr.activation all d.left, ap (leaving wider_frame all) (d.is ∙ ap (λ x. Go x (with_memory z d.left) u) d.same), subst (λ m. IsBeside known last (without fr.activation (declared_in ss) z.memory) m) (sym ends) (without_beside known last fr.activation (declared_in ss) z.memory (outside d.left) beside), subst (λ m. Stay known last l m) (sym ends) (without_stays known last fr.activation (declared_in ss) l (outside d.left) (all_shown known last fr.activation (declared_in ss) above) stays))
+    where
+      ends : without fr.activation all d.left ≡ without fr.activation (declared_in ss) (outside d.left)
+      ends =
+          ap (λ xs. without fr.activation xs d.left) (declared_numbers (length fr.types) (kept_of_stmts p ss) p (stmts p (length fr.types) ss) ∙ ap (λ xs. numbers (length fr.types) (kept_of_stmts p ss) ++ xs) ((shapes_stay p).variables (length fr.types) ss)) ∙ without_both fr.activation (numbers (length fr.types) (kept_of_stmts p ss)) (declared_in ss) d.left
+
+      -- of this activation and those before it no more is told
+      nothing : (x : ObjectName) → x.activation ≤ fr.activation → o x ≡ None → z.memory x ≡ None
+      nothing x a e = typed_none p t.0 z.memory x t.3.memory (t.5 x (omega (arith, a, begun)) ∙ e)
+
+      still : (x : ObjectName) → IsHidden o fr.activation x → Own fr.activation (length fr.types) (length (kept_of_stmts p ss)) x → outside d.left x ≡ l x
+      still x hid out =
+          ended_elsewhere fr.activation (length fr.types) (kept_of_stmts p ss) d.left x out ∙ (d.stay x hid out ∙ opened_elsewhere p.structs fr.activation (length fr.types) (kept_of_stmts p ss) l x out)
+
+      stays : Stay known last l (outside d.left)
+      stays x hid = let a = hid.0 in still x (inner x hid) (λ e b c. omega (arith, e, a, above))
+
+      at : (x : ObjectName) → (IsHidden known last x → ⊥) → (b : Bool) (c : Option (List CType)) → nat_lt fr.activation x.activation ≡ b → o x ≡ c → Own fr.activation (length fr.types) (length (kept_of_stmts p ss)) x → outside d.left x ≡ z.memory x
+      at x shown true c e f out =
+          ended_elsewhere fr.activation (length fr.types) (kept_of_stmts p ss) d.left x out ∙ d.beside x (λ hid. let a = hid.0 in let b = below fr.activation x.activation e in omega (arith, a, b))
+      at x shown false (Some ts) e f out =
+          ended_elsewhere fr.activation (length fr.types) (kept_of_stmts p ss) d.left x out ∙ d.beside x (λ hid. no_some ts (sym hid.1 ∙ f))
+      at x shown false None e f out =
+          let a = not_below fr.activation x.activation e in
+          still x (a, f) out ∙ (k.beside x shown ∙ (typed_none p o st.memory x k.state.memory f ∙ sym (nothing x a f)))
+
+      beside : IsBeside known last z.memory (outside d.left)
+      beside x shown = elim (own_or_not fr.activation (length fr.types) (length (kept_of_stmts p ss)) x) as (λ c. outside d.left x ≡ z.memory x) [
+        | inl own ↦
+            subst (λ x. outside d.left x ≡ None) (own_name x own.0) (ended_there fr.activation (length fr.types) (kept_of_stmts p ss) d.left x.variable own.1 own.2) ∙ sym (nothing x (let e = own.0 in omega (arith, e)) (ap o (sym (own_name x own.0)) ∙ only x.variable own.1))
+        | inr out ↦ at x shown (nat_lt fr.activation x.activation) (o x) refl refl out
+      ]
+
+  pub block_alike : DoesAlike {A = Exit} known last l (exec p w (null_calls_of p) fr (block ss) st) (exec (instrumented_program p) w' no_marks wider_frame (body_from p (length fr.types) ss) (with_memory st l))
+  block_alike =
+      subst (λ q. DoesAlike {A = Exit} known last l (leaving fr (declared_in ss) (exec_all p w (null_calls_of p) fr ss st)) (leaving wider_frame (declared_in (declared_from p (length fr.types) (kept_of_stmts p ss) (stmts p (length fr.types) ss))) q)) (sym after_declarations) (leaving_alike _ _ (stmts_end p n typed (null_calls_of p) (null_calls_recorded p) w goes fr r false false ss o st s h m k.state) (stmts_do p n typed w w' goes enters agains o fr limit wide only agree (length fr.types) r false false ss o st inside s h m (omega arith, omega arith) ready))
+
+-- the body of a function, which is a block
+pub body_alike : (p : Program) (n : ℕ) (typed : IsProgram p n) (w w' : World) (goes : IsTypedWorld p w) (enters : Enters p w w') (agains : Agains p w w') (known : Objects) (last : ℕ) (fr : Frame) (b : Stmt) (r : CType) (o : Objects) (st : State) (l : Memory) → IsBlock b → IsTypedFrame p o fr → IsStmt p fr.types r false false b → StandsIn p (mentions_of_stmt b) → Now known last p o st l → last < fr.activation → fr.activation ≤ st.entries → ((j : ℕ) → length fr.types ≤ j → o (name_in fr false j) ≡ None) → DoesAlike {A = Exit} known last l (exec p w (null_calls_of p) fr b st) (exec (instrumented_program p) w' no_marks (record { activation = fr.activation; types = fr.types ++ kept_of_stmt p b }) (body_from p (length fr.types) (items_of p b)) (with_memory st l))
+body_alike p n typed w w' goes enters agains known last fr (block ss) r o st l is s h m k above begun only =
+    block_alike p n typed w w' goes enters agains known last fr ss r o st l s h m k above begun only
+body_alike p n typed w w' goes enters agains known last fr _ r o st l is s h m k above begun only = absurd is

@@ -1,0 +1,217 @@
+-- What the pieces of a marked call do.
+use Rattle.std.proofs.Common.{◌≡◌, ℕ, zero, suc, ◌+◌, ◌*◌, ◌-◌, ◌≤◌, nat_lt, if◌then◌else◌, Bool, true, false, List, [], ◌∷◌, ◌++◌, map, Some, option_map, slice_get, length, append-nil, ap, ◌∙◌, subst, refl, arith}
+use Rattle.std.specs.List.{list_any}
+use Rattle.std.proofs.lemmas.Bool.Decides.{nat_tests}
+use Rattle.dm_base.specs.declared.event.Event.{Event}
+use Rattle.c_tree.specs.declared.value.Pointer.{Pointer}
+use Rattle.c_tree.specs.declared.value.Value.{Value}
+use Rattle.c_tree.specs.declared.value.Value.TheVariants.{Indeterminate, Int, Uint, Char, Uchar, Null, Func, At}
+use Rattle.c_tree.specs.declared.tree.TLabel.{TLabel}
+use Rattle.c_tree.specs.Tree.{CType, void, integer, pointer, array, struct, function, Function, Program, type_of}
+use Rattle.c_tree.specs.Tree.{Expr, constant, function_name, string_place, variable, dereference, load, address_of, decay, discard, field, unary_operation, conversion, arithmetic, comparison, pointer_add, pointer_diff, and, or, assign, update, conditional, comma, call, call_through}
+use Rattle.c_tree.specs.Tree.{Exprs, no_exprs, more_exprs, no_inits}
+use Rattle.c_tree.specs.Tree.{Stmt, block, empty, evaluate, declare, if_else, while_loop, do_loop, for_loop, switch_on, break_off, continue_on, return_void, return_value, Stmts, no_stmts, more_stmts, Groups, no_groups, more_groups}
+use Rattle.c_tree.specs.Layout.{cells}
+use Rattle.c_tree.specs.Functions.{defined}
+use Rattle.c_tree.specs.Typed.{IsValue, IsPlace, AreMembers}
+use Rattle.c_values.specs.Answers.{gives, and_then}
+use Rattle.c_values.specs.Memory.{there, element, cell_value, writable, set_cell, changed, declared}
+use Rattle.c_shapes.specs.Mentions.{Direct, Through}
+use Rattle.c_shapes.specs.CallGraph.{is_marked}
+use Rattle.c_meaning.specs.Meaning.{Marks, Frame, World, name_in, wants, call_undefined, called, eval, eval_all, fresh, initialise, exec_all, declared_by, declared_in, is_case, is_default, group_with, count_groups, or_else, selected}
+use Rattle.c_meaning.specs.Pointers.{store_place}
+use Rattle.c_meaning.specs.Results.{State, with_memory, Result, Go, Stop, after, then_do, answered, remembered, Exit, on_exit}
+use Rattle.null_calls_rules.specs.Temporaries.{is_kept}
+use Rattle.null_calls_rules.specs.InstrumentedPrograms.{keep, kept_value, kept_values, marked_type, type_of_members, kept_of_stmt, kept_of_stmts, expr, stmt, stmts, groups, declared_from, instrumented_function, instrumented_program}
+use Rattle.null_calls_runs_laws.specs.Pieces.{IsKept, IsSet, AreKept, NullCallsAreEvents, KeepingSets, KeptIsGiven, KeptAreGiven, declaring, DeclarationsDeclare, TypesStay, ShapesStay}
+
+after_none : {A : Type 0} (r : Result A) → after [] r ≡ r
+after_none (Go a st w) = refl
+after_none (Stop e w) = refl
+
+-- ## Shapes
+
+many_mapped : {A B : Type 0} (f : A → B) (xs : List A) → length (map f xs) ≡ length xs
+many_mapped f [] = refl
+many_mapped f (x ∷ xs) = ap suc (many_mapped f xs)
+
+get_mapped : {A B : Type 0} (f : A → B) (xs : List A) (k : ℕ) → slice_get (map f xs) k ≡ option_map f (slice_get xs k)
+get_mapped f [] k = refl
+get_mapped f (x ∷ xs) zero = refl
+get_mapped f (x ∷ xs) (suc k) = get_mapped f xs k
+
+module _ (p : Program) where
+  same_declared : (k : ℕ) (s : Stmt) → declared_by (stmt p k s) ≡ declared_by s
+  same_declared k (block ss) = refl
+  same_declared k empty = refl
+  same_declared k (evaluate e) = refl
+  same_declared k (declare x is) = refl
+  same_declared k (if_else e s t) = refl
+  same_declared k (while_loop e s) = refl
+  same_declared k (do_loop s e) = refl
+  same_declared k (for_loop first test step s) = refl
+  same_declared k (switch_on e gs) = refl
+  same_declared k break_off = refl
+  same_declared k continue_on = refl
+  same_declared k return_void = refl
+  same_declared k (return_value e) = refl
+
+  same_variables : (k : ℕ) (ss : Stmts) → declared_in (stmts p k ss) ≡ declared_in ss
+  same_variables k no_stmts = refl
+  same_variables k (more_stmts s ss) =
+      let next = k + length (kept_of_stmt p s) in
+      ap (λ xs. xs ++ declared_in (stmts p next ss)) (same_declared k s) ∙ ap (λ xs. declared_by s ++ xs) (same_variables next ss)
+
+  same_group : (is : TLabel → Bool) (k : ℕ) (gs : Groups) → group_with is (groups p k gs) ≡ group_with is gs
+  same_group is k no_groups = refl
+  same_group is k (more_groups ls ss gs) = ap (λ g. if list_any is ls then Some 0 else option_map suc g) (same_group is (k + length (kept_of_stmts p ss)) gs)
+
+  same_count : (k : ℕ) (gs : Groups) → count_groups (groups p k gs) ≡ count_groups gs
+  same_count k no_groups = refl
+  same_count k (more_groups ls ss gs) = ap suc (same_count (k + length (kept_of_stmts p ss)) gs)
+
+  same_selected : (k : ℕ) (v : Value) (gs : Groups) → selected v (groups p k gs) ≡ selected v gs
+  same_selected k v gs =
+      ap (λ g. or_else g (or_else (group_with is_default (groups p k gs)) (count_groups (groups p k gs)))) (same_group (is_case v) k gs) ∙ (ap (λ g. or_else (group_with (is_case v) gs) (or_else g (count_groups (groups p k gs)))) (same_group is_default k gs) ∙ ap (λ n. or_else (group_with (is_case v) gs) (or_else (group_with is_default gs) n)) (same_count k gs))
+
+  -- ## Types
+
+  kept_type : (t : CType) → marked_type (is_kept true t) t ≡ t
+  kept_type void = refl
+  kept_type (integer i) = refl
+  kept_type (pointer t) = refl
+  kept_type (array t n) = refl
+  kept_type (struct s) = refl
+  kept_type (function r ts) = refl
+
+  if_type : (b : Bool) (x y : Expr) (t : CType) → type_of x ≡ t → type_of y ≡ t → type_of (if b then x else y) ≡ t
+  if_type true x y t h k = h
+  if_type false x y t h k = k
+
+  mutual
+    same_type : (vars : List CType) (k : ℕ) (e : Expr) → IsValue p vars e → type_of (expr p k true e) ≡ type_of e
+    same_type vars k (constant t v) h = refl
+    same_type vars k (function_name t f) h = absurd h
+    same_type vars k (string_place t n) h = absurd h
+    same_type vars k (variable t s n) h = absurd h
+    same_type vars k (dereference t a) h = absurd h
+    same_type vars k (field t first a) h = absurd h
+    same_type vars k (load t a) h = refl
+    same_type vars k (address_of t a) h = refl
+    same_type vars k (decay t a) h = refl
+    same_type vars k (discard t a) h = refl
+    same_type vars k (unary_operation t op a) h = refl
+    same_type vars k (conversion t to a) h = refl
+    same_type vars k (arithmetic t op a b) h = refl
+    same_type vars k (comparison t op a b) h = refl
+    same_type vars k (pointer_add t first subtracted a b) h = refl
+    same_type vars k (pointer_diff t a b) h = refl
+    same_type vars k (and t a b) h = refl
+    same_type vars k (or t a b) h = refl
+    same_type vars k (assign t a b) h = refl
+    same_type vars k (update t op old a b) h = refl
+    same_type vars k (conditional t c a b) h = refl
+    same_type vars k (comma t es) h = same_members vars t es h
+    same_type vars k (call t site f es) h = if_type (is_marked p (Direct f)) _ _ t (kept_type t) refl
+    same_type vars k (call_through t site a es) h = if_type (is_marked p (Through (type_of a))) _ _ t (kept_type t) refl
+
+    same_members : (vars : List CType) (t : CType) (es : Exprs) → AreMembers p vars t es → type_of_members p true t es ≡ t
+    same_members vars t no_exprs h = absurd h
+    same_members vars t (more_exprs e no_exprs) h = same_type vars 0 e h.0 ∙ h.1
+    same_members vars t (more_exprs e (more_exprs f es)) h = same_members vars t (more_exprs f es) h.1
+
+  same_place : (vars : List CType) (k : ℕ) (wanted : Bool) (e : Expr) → IsPlace p vars e → type_of (expr p k wanted e) ≡ type_of e
+  same_place vars k wanted (function_name t f) h = refl
+  same_place vars k wanted (string_place t n) h = refl
+  same_place vars k wanted (variable t s n) h = refl
+  same_place vars k wanted (dereference t a) h = refl
+  same_place vars k wanted (field t first a) h = refl
+  same_place vars k wanted _ h = absurd h
+
+  -- ## Null calls
+
+  many : defined (instrumented_program p) ≡ defined p
+  many = many_mapped {A = Function} {B = Function} (instrumented_function p) p.functions
+
+  not_less : (a b : ℕ) → b ≤ a → nat_lt a b ≡ false
+  not_less a b h = at (nat_lt a b) refl
+    where
+      at : (c : Bool) → nat_lt a b ≡ c → c ≡ false
+      at true e = absurd (grind (arith, nat_tests))
+      at false e = refl
+
+  null_called : (w : World) (wanted : Bool) (x : ℕ) (vs : List Value) (st : State) → called (instrumented_program p) w wanted (defined p + x) vs st ≡ call_undefined x vs st
+  null_called w wanted x vs st =
+      let e = many in
+      let past : defined (instrumented_program p) ≤ defined p + x = omega (arith, e) in
+      let number : defined p + x - defined (instrumented_program p) ≡ x = omega (arith, e) in
+      ap (λ b. if b then w.enter wanted (defined p + x) vs st else call_undefined (defined p + x - defined (instrumented_program p)) vs st) (not_less (defined p + x) (defined (instrumented_program p)) past) ∙ ap (λ x. call_undefined x vs st) number
+
+pub null_calls_are_events : NullCallsAreEvents
+null_calls_are_events p w fr wanted site st =
+    (ap (λ r. after [] (after [] (then_do r (λ v st. Go v st [])))) (null_called p w (wants wanted void) 24 (Uint site ∷ []) st), ap (λ r. after [] (after [] (then_do r (λ v st. Go v st [])))) (null_called p w (wants wanted void) 25 (Uint site ∷ []) st))
+
+-- ## Temporaries
+
+first_cell : (width : ℕ) → 0 + 0 * width + 0 ≡ 0
+first_cell width = omega arith
+
+module _ (p : Program) (w : World) (marks : Marks) (fr : Frame) where
+  abbrev the_place : CType → ℕ → Pointer
+  the_place t k = record { name = name_in fr false k; first = 0; width = cells p.structs t; elements = 1; index = 0 }
+
+  keeps : (wanted : Bool) (t : CType) (k : ℕ) (e : Expr) (v old : Value) (st later : State) (events : List Event) → eval p w marks fr true e st ≡ Go v later events → IsKept later.memory fr k old → eval p w marks fr wanted (keep t k e) st ≡ Go v (with_memory later (changed later.memory (name_in fr false k) (Some (record { cells = v ∷ []; string = false })))) events
+  keeps wanted t k e v old st later events h kept =
+      ap (λ r. after [] (then_do r (λ v st. remembered (store_place st.memory (At (the_place t k)) v) v st))) h ∙ (ap (λ c. after [] (after events (remembered (and_then (there c) (λ o. and_then (element (the_place t k)) (λ first. and_then (writable o) (λ cells. and_then (set_cell cells (first + 0) v (slice_get cells (first + 0))) (λ new. gives (changed later.memory (name_in fr false k) (Some new))))))) v later))) kept ∙ (ap (λ i. after [] (after events (remembered (and_then (set_cell (old ∷ []) i v (slice_get (old ∷ []) i)) (λ new. gives (changed later.memory (name_in fr false k) (Some new)))) v later))) (first_cell (cells p.structs t)) ∙ ap (λ u. Go v (with_memory later (changed later.memory (name_in fr false k) (Some (record { cells = v ∷ []; string = false })))) u) (append-nil events)))
+
+  gives_kept : (wanted : Bool) (t : CType) (k : ℕ) (v : Value) (st : State) → IsKept st.memory fr k v → IsSet v → eval p w marks fr wanted (kept_value t k) st ≡ Go v st []
+  gives_kept wanted t k v st kept set =
+      ap (λ c. after [] (answered (and_then (there c) (λ o. and_then (element (the_place t k)) (λ first. cell_value (slice_get o.cells (first + 0))))) st)) kept ∙ (ap (λ i. after [] (answered (cell_value (slice_get (v ∷ []) i)) st)) (first_cell (cells p.structs t)) ∙ at v set)
+    where
+      at : (v : Value) → IsSet v → after [] (answered (cell_value (Some v)) st) ≡ Go v st []
+      at Indeterminate h = absurd h
+      at (Int z) h = refl
+      at (Uint n) h = refl
+      at (Char z) h = refl
+      at (Uchar n) h = refl
+      at Null h = refl
+      at (Func f) h = refl
+      at (At q) h = refl
+
+  give_kept : (k : ℕ) (ts : List CType) (vs : List Value) (st : State) → AreKept st.memory fr k ts vs → eval_all p w marks fr (kept_values k ts) st ≡ Go vs st []
+  give_kept k [] [] st h = refl
+  give_kept k [] (v ∷ vs) st h = absurd h
+  give_kept k (t ∷ ts) [] st h = absurd h
+  give_kept k (t ∷ ts) (v ∷ vs) st h =
+      ap (λ r. then_do r (λ v st. then_do (eval_all p w marks fr (kept_values (suc k) ts) st) (λ vs st. Go (v ∷ vs) st []))) (gives_kept true t k v st h.0 h.1) ∙ ap (λ r. after [] (then_do r (λ vs st. Go (v ∷ vs) st []))) (give_kept (suc k) ts vs st h.2)
+
+  declares : (o : Program) (k : ℕ) (ts : List CType) (ss : Stmts) (st : State) → ((i : ℕ) (t : CType) → slice_get ts i ≡ Some t → slice_get fr.types (k + i) ≡ Some t) → exec_all p w marks fr (declared_from o k ts ss) st ≡ exec_all p w marks fr ss (declaring p.structs fr k ts st)
+  declares o k [] ss st h = refl
+  declares o k (t ∷ ts) ss st h =
+      let here : k + 0 ≡ k = omega arith in
+      let now = with_memory st (declared st.memory (name_in fr false k) (cells p.structs t)) in
+      let is = subst (λ j. slice_get fr.types j ≡ Some t) here (h 0 t refl) in
+      ap (λ c. then_do (then_do (fresh p.structs fr k c st) (λ y st. initialise p w marks fr k no_inits st)) (λ x st. on_exit x st (exec_all p w marks fr (declared_from o (suc k) ts ss)))) is ∙ (after_none {A = Exit} (exec_all p w marks fr (declared_from o (suc k) ts ss) now) ∙ declares o (suc k) ts ss now (λ i u e. let next : k + suc i ≡ suc k + i = omega arith in subst (λ j. slice_get fr.types j ≡ Some u) next (h (suc i) u e)))
+
+pub keeping_sets : KeepingSets
+keeping_sets p w marks fr wanted t k e v old st later events h kept = keeps p w marks fr wanted t k e v old st later events h kept
+
+pub kept_is_given : KeptIsGiven
+kept_is_given p w marks fr wanted t k v st kept set = gives_kept p w marks fr wanted t k v st kept set
+
+pub kept_are_given : KeptAreGiven
+kept_are_given p w marks fr k ts vs st h = give_kept p w marks fr k ts vs st h
+
+pub declarations_declare : DeclarationsDeclare
+declarations_declare p q w marks fr k ts ss st h = declares q w marks fr p k ts ss st h
+
+pub types_stay : TypesStay
+types_stay p vars k e = (λ h. same_type p vars k e h, λ h wanted. same_place p vars k wanted e h)
+
+pub shapes_stay : ShapesStay
+shapes_stay p = record {
+  many = many p;
+  functions = λ f. get_mapped {A = Function} {B = Function} (instrumented_function p) p.functions f;
+  variables = same_variables p;
+  selection = same_selected p;
+}

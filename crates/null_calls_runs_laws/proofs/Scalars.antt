@@ -1,0 +1,231 @@
+-- The temporaries of a well-typed program's marked calls have scalar types: each is one cell.
+use Rattle.std.proofs.Common.{◌≡◌, ℕ, zero, suc, Bool, true, false, ◌&&◌, if◌then◌else◌, List, [], ◌∷◌, ◌++◌, map, All, Option, Some, None, slice_get, sym, ap, ◌∙◌, subst, refl}
+use Rattle.std.proofs.lemmas.Bool.{false≢true}
+use Rattle.std.proofs.lemmas.List.Elements.{All-head, All-tail}
+use Rattle.c_tree.specs.declared.value.IntType.{IntType}
+use Rattle.c_tree.specs.Tree.{CType, void, integer, pointer, array, struct, function, CTypes, no_types, more_types, list_of, Function, Program, type_of}
+use Rattle.c_tree.specs.Tree.{Expr, constant, function_name, string_place, variable, dereference, load, address_of, decay, discard, field, unary_operation, conversion, arithmetic, comparison, pointer_add, pointer_diff, and, or, assign, update, conditional, comma, call, call_through}
+use Rattle.c_tree.specs.Tree.{Exprs, no_exprs, more_exprs, Maybe, absent, there, Inits, no_inits, more_inits}
+use Rattle.c_tree.specs.Tree.{Stmt, block, empty, evaluate, declare, if_else, while_loop, do_loop, for_loop, switch_on, break_off, continue_on, return_void, return_value, Stmts, no_stmts, more_stmts, Groups, no_groups, more_groups}
+use Rattle.c_tree.specs.Functions.{sys_types, null_types, type_of_defined, value_types, called_types, value_type, called_type}
+use Rattle.c_tree.specs.Operands.{IsScalar, IsResult}
+use Rattle.c_tree.specs.Program.{IsFunction, IsProgram}
+use Rattle.c_tree.specs.Typed.{IsValue, IsPlace, AreMembers, AreArguments, IsTest, IsStep, AreInits, IsFirst, AreFirst, IsStmt, AreStmts, AreGroups}
+use Rattle.c_shapes.specs.Mentions.{Direct, Through}
+use Rattle.c_shapes.specs.CallGraph.{is_taken, is_typed, functions_of, callees, reaches, is_marked}
+use Rattle.c_shapes.proofs.SameTypes.{types_tell}
+use Rattle.c_meaning_laws.proofs.Places.{get_left}
+use Rattle.c_meaning_laws.proofs.Steps.{scalars_of}
+use Rattle.alarm_laws.proofs.Lists.{and_left, and_right, from_filter, one_passes}
+use Rattle.null_calls_rules.specs.Temporaries.{is_kept}
+use Rattle.null_calls_rules.specs.InstrumentedPrograms.{parameters_where, of_result, of_direct, of_through, kept, kept_of_all, kept_of_members, kept_of_maybe, kept_of_inits, kept_of_stmt, kept_of_stmts, kept_of_groups}
+
+abbrev pub AreScalars : List CType → Type 0
+AreScalars [] = Unit {0}
+AreScalars (t ∷ ts) = IsScalar t × AreScalars ts
+
+scalars_both : (xs ys : List CType) → AreScalars xs → AreScalars ys → AreScalars (xs ++ ys)
+scalars_both [] ys h k = k
+scalars_both (x ∷ xs) ys h k = (h.0, scalars_both xs ys h.1 k)
+
+pub all_are : (ts : List CType) → All IsScalar ts → AreScalars ts
+all_are [] h = tt
+all_are (t ∷ ts) h = (All-head IsScalar t ts h, all_are ts (All-tail IsScalar t ts h))
+
+if_scalars : (b : Bool) (xs : List CType) → (b ≡ true → AreScalars xs) → AreScalars (if b then xs else [])
+if_scalars true xs h = h refl
+if_scalars false xs h = tt
+
+-- a function that gives a scalar or nothing
+abbrev gives_result : CType → Bool
+gives_result (function void ts) = true
+gives_result (function (integer i) ts) = true
+gives_result (function (pointer t) ts) = true
+gives_result _ = false
+
+abbrev all_give : List CType → Bool
+all_give [] = true
+all_give (t ∷ ts) = gives_result t && all_give ts
+
+and_both : (a b : Bool) → a ≡ true → b ≡ true → (a && b) ≡ true
+and_both true b h k = k
+and_both false b h k = absurd (false≢true h)
+
+give_both : (xs ys : List CType) → all_give xs ≡ true → all_give ys ≡ true → all_give (xs ++ ys) ≡ true
+give_both [] ys h k = k
+give_both (x ∷ xs) ys h k = and_both (gives_result x) (all_give (xs ++ ys)) (and_left (gives_result x) (all_give xs) h) (give_both xs ys (and_right (gives_result x) (all_give xs) h) k)
+
+given_from : (xs : List CType) (k : ℕ) (t : CType) → all_give xs ≡ true → slice_get xs k ≡ Some t → gives_result t ≡ true
+given_from [] k t h e = absurd (cc)
+given_from (x ∷ xs) zero t h e = let same : x ≡ t = cc in subst (λ t. gives_result t ≡ true) same (and_left (gives_result x) (all_give xs) h)
+given_from (x ∷ xs) (suc k) t h e = given_from xs k t (and_right (gives_result x) (all_give xs) h) e
+
+sys_give : all_give sys_types ≡ true
+unfolding sys_types
+sys_give = refl
+
+of_result_type : (r : CType) (ts : CTypes) → IsResult r → gives_result (function r ts) ≡ true
+of_result_type void ts h = refl
+of_result_type (integer i) ts h = refl
+of_result_type (pointer t) ts h = refl
+of_result_type (array t n) ts h = absurd h
+of_result_type (struct s) ts h = absurd h
+of_result_type (function r us) ts h = absurd h
+
+is_result : (r : CType) (ts : CTypes) → gives_result (function r ts) ≡ true → IsResult r
+is_result void ts h = tt
+is_result (integer i) ts h = tt
+is_result (pointer t) ts h = tt
+is_result (array t n) ts h = absurd (false≢true h)
+is_result (struct s) ts h = absurd (false≢true h)
+is_result (function r us) ts h = absurd (false≢true h)
+
+-- a result that is kept is a scalar
+pub kept_scalar : (wanted : Bool) (t : CType) → IsResult t → is_kept wanted t ≡ true → IsScalar t
+kept_scalar wanted void h k = absurd (false≢true k)
+kept_scalar wanted (integer i) h k = tt
+kept_scalar wanted (pointer t) h k = tt
+kept_scalar wanted (array t n) h k = absurd h
+kept_scalar wanted (struct s) h k = absurd h
+kept_scalar wanted (function r us) h k = absurd h
+
+result_scalars : (wanted : Bool) (t : CType) → IsResult t → AreScalars (of_result wanted t)
+result_scalars wanted t h = if_scalars (is_kept wanted t) (t ∷ []) (λ e. (kept_scalar wanted t h e, tt))
+
+module _ (p : Program) (n : ℕ) (typed : IsProgram p n) where
+  functions_give : (fs : List Function) → All (IsFunction p) fs → all_give (map type_of_defined fs) ≡ true
+  functions_give [] h = refl
+  functions_give (f ∷ fs) h = and_both (gives_result f.ctype) (all_give (map type_of_defined fs)) (one (All-head (IsFunction p) f fs h)) (functions_give fs (All-tail (IsFunction p) f fs h))
+    where
+      one : IsFunction p f → gives_result f.ctype ≡ true
+      one k = ap gives_result k.type ∙ of_result_type k.gives k.takes k.result_type
+
+  -- what a call gives is a scalar or nothing
+  pub result_of_call : (f : ℕ) (t : CType) (ts : CTypes) → called_type p f ≡ Some (function t ts) → IsResult t
+  result_of_call f t ts e =
+      is_result t ts (given_from (called_types p) f (function t ts) (give_both (value_types p) null_types (give_both (map type_of_defined p.functions) sys_types (functions_give p.functions typed.functions) sys_give) refl) e)
+
+  -- some function of the type may be called where a call through a pointer is marked
+  pub some_callee : (w : CType) → is_marked p (Through (pointer w)) ≡ true → (f : ℕ) × (called_type p f ≡ Some w)
+  some_callee w e =
+      let one = one_passes (λ f. reaches p f) (callees p (Through (pointer w))) e in
+      let of = from_filter (λ f. is_taken p f && is_typed (pointer w) (value_type p f)) (functions_of p) one.0 one.1 in
+      (one.0, get_left (value_types p) null_types one.0 w (at (value_type p one.0) (and_right (is_taken p one.0) (is_typed (pointer w) (value_type p one.0)) of.1)))
+    where
+      at : (c : Option CType) → is_typed (pointer w) c ≡ true → c ≡ Some w
+      at None h = absurd (false≢true h)
+      at (Some u) h = ap Some (sym ((types_tell w u).0 h))
+
+  pub scalars_of_call : (f : ℕ) (t : CType) (ts : CTypes) → called_type p f ≡ Some (function t ts) → AreScalars (list_of ts)
+  scalars_of_call f t ts e = all_are (list_of ts) (scalars_of p n typed f t ts e)
+
+  direct_scalars : (wanted : Bool) (t : CType) (f : ℕ) (ts : CTypes) → called_type p f ≡ Some (function t ts) → AreScalars (of_direct p wanted t f)
+  direct_scalars wanted t f ts e =
+      if_scalars (is_marked p (Direct f)) (parameters_where (called_type p f) ++ of_result wanted t) (λ m. scalars_both (parameters_where (called_type p f)) (of_result wanted t) (subst (λ c. AreScalars (parameters_where c)) (sym e) (scalars_of_call f t ts e)) (result_scalars wanted t (result_of_call f t ts e)))
+
+  through_scalars : (wanted : Bool) (t u : CType) (ts : CTypes) → u ≡ pointer (function t ts) → AreScalars (of_through p wanted t u)
+  through_scalars wanted t u ts e = subst (λ u. AreScalars (of_through p wanted t u)) (sym e) (if_scalars (is_marked p (Through (pointer (function t ts)))) _ (λ m.
+      let c = some_callee (function t ts) m in
+      (tt, scalars_both (list_of ts) (of_result wanted t) (scalars_of_call c.0 t ts c.1) (result_scalars wanted t (result_of_call c.0 t ts c.1)))))
+
+  two : (a b : Expr) → AreScalars (kept p true a) → AreScalars (kept p true b) → AreScalars (kept p true a ++ kept p true b)
+  two a b h k = scalars_both (kept p true a) (kept p true b) h k
+
+  module _ (vars : List CType) where
+    mutual
+      value_scalars : (wanted : Bool) (e : Expr) → IsValue p vars e → AreScalars (kept p wanted e)
+      value_scalars wanted (constant t x) h = tt
+      value_scalars wanted (load t a) h = place_scalars true a h.2
+      value_scalars wanted (address_of t a) h = place_scalars true a h.1
+      value_scalars wanted (decay t a) h = place_scalars true a h.1
+      value_scalars wanted (discard t a) h = value_scalars false a h.1
+      value_scalars wanted (unary_operation t op a) h = value_scalars true a h.1
+      value_scalars wanted (conversion t to a) h = value_scalars true a h.2
+      value_scalars wanted (arithmetic t op a b) h = two a b (value_scalars true a h.1) (value_scalars true b h.2)
+      value_scalars wanted (comparison t op a b) h = two a b (value_scalars true a h.1) (value_scalars true b h.2)
+      value_scalars wanted (pointer_add t first subtracted a b) h = two a b (value_scalars true a h.1) (value_scalars true b h.2)
+      value_scalars wanted (pointer_diff t a b) h = two a b (value_scalars true a h.3) (value_scalars true b h.4)
+      value_scalars wanted (and t a b) h = two a b (value_scalars true a h.1.1) (value_scalars true b h.2.1)
+      value_scalars wanted (or t a b) h = two a b (value_scalars true a h.1.1) (value_scalars true b h.2.1)
+      value_scalars wanted (assign t a b) h = two a b (place_scalars true a h.3) (value_scalars true b h.4)
+      value_scalars wanted (update t op old a b) h = two a b (place_scalars true a h.2) (value_scalars true b h.3)
+      value_scalars wanted (conditional t c a b) h =
+          scalars_both (kept p true c) (kept p true a ++ kept p true b) (value_scalars true c h.0.1) (two a b (value_scalars true a h.3) (value_scalars true b h.4))
+      value_scalars wanted (comma t es) h = members_scalars wanted t es h
+      value_scalars wanted (call t site f es) h =
+          scalars_both (of_direct p wanted t f) (kept_of_all p es) (direct_scalars wanted t f h.0 h.1) (all_scalars h.0 es h.2)
+      value_scalars wanted (call_through t site a es) h =
+          scalars_both (kept p true a) (of_through p wanted t (type_of a) ++ kept_of_all p es) (value_scalars true a h.2) (scalars_both (of_through p wanted t (type_of a)) (kept_of_all p es) (through_scalars wanted t (type_of a) h.0 h.1) (all_scalars h.0 es h.3))
+      value_scalars wanted _ h = absurd h
+
+      place_scalars : (wanted : Bool) (e : Expr) → IsPlace p vars e → AreScalars (kept p wanted e)
+      place_scalars wanted (function_name t f) h = tt
+      place_scalars wanted (string_place t x) h = tt
+      place_scalars wanted (variable t s x) h = tt
+      place_scalars wanted (dereference t a) h = value_scalars true a h.2
+      place_scalars wanted (field t first a) h = place_scalars true a h.1
+      place_scalars wanted _ h = absurd h
+
+      members_scalars : (wanted : Bool) (t : CType) (es : Exprs) → AreMembers p vars t es → AreScalars (kept_of_members p wanted es)
+      members_scalars wanted t no_exprs h = absurd h
+      members_scalars wanted t (more_exprs e no_exprs) h = value_scalars wanted e h.0
+      members_scalars wanted t (more_exprs e (more_exprs f es)) h =
+          scalars_both (kept p false e) (kept_of_members p wanted (more_exprs f es)) (value_scalars false e h.0) (members_scalars wanted t (more_exprs f es) h.1)
+
+      all_scalars : (ts : CTypes) (es : Exprs) → AreArguments p vars ts es → AreScalars (kept_of_all p es)
+      all_scalars no_types no_exprs h = tt
+      all_scalars no_types (more_exprs e es) h = absurd h
+      all_scalars (more_types t ts) no_exprs h = absurd h
+      all_scalars (more_types t ts) (more_exprs e es) h = scalars_both (kept p true e) (kept_of_all p es) (value_scalars true e h.1) (all_scalars ts es h.2)
+
+    test_scalars : (e : Maybe) → IsTest p vars e → AreScalars (kept_of_maybe p true e)
+    test_scalars absent h = tt
+    test_scalars (there e) h = value_scalars true e h.1
+
+    step_scalars : (e : Maybe) → IsStep p vars e → AreScalars (kept_of_maybe p false e)
+    step_scalars absent h = tt
+    step_scalars (there e) h = value_scalars false e h
+
+    inits_scalars : (ts : List CType) (is : Inits) → AreInits p vars ts is → AreScalars (kept_of_inits p is)
+    inits_scalars ts no_inits h = tt
+    inits_scalars ts (more_inits cell e is) h = scalars_both (kept p true e) (kept_of_inits p is) (value_scalars true e h.1) (inits_scalars ts is h.2)
+
+    first_scalars : (ss : Stmts) → AreFirst p vars ss → AreScalars (kept_of_stmts p ss)
+    first_scalars no_stmts h = tt
+    first_scalars (more_stmts s ss) h = scalars_both (kept_of_stmt p s) (kept_of_stmts p ss) (one s h.0) (first_scalars ss h.1)
+      where
+        one : (s : Stmt) → IsFirst p vars s → AreScalars (kept_of_stmt p s)
+        one (evaluate e) k = value_scalars false e k
+        one (declare x is) k = inits_scalars _ is k.2
+        one _ k = absurd k
+
+    mutual
+      stmt_scalars : (r : CType) (breaks continues : Bool) (s : Stmt) → IsStmt p vars r breaks continues s → AreScalars (kept_of_stmt p s)
+      stmt_scalars r breaks continues (block ss) h = stmts_scalars r breaks continues ss h
+      stmt_scalars r breaks continues empty h = tt
+      stmt_scalars r breaks continues (evaluate e) h = value_scalars false e h
+      stmt_scalars r breaks continues (declare x is) h = inits_scalars _ is h.2
+      stmt_scalars r breaks continues (if_else e s t) h =
+          scalars_both (kept p true e) (kept_of_stmt p s ++ kept_of_stmt p t) (value_scalars true e h.0.1) (scalars_both (kept_of_stmt p s) (kept_of_stmt p t) (stmt_scalars r breaks continues s h.1) (stmt_scalars r breaks continues t h.2))
+      stmt_scalars r breaks continues (while_loop e s) h =
+          scalars_both (kept p true e) (kept_of_stmt p s) (value_scalars true e h.0.1) (stmt_scalars r true true s h.1)
+      stmt_scalars r breaks continues (do_loop s e) h =
+          scalars_both (kept_of_stmt p s) (kept p true e) (stmt_scalars r true true s h.0) (value_scalars true e h.1.1)
+      stmt_scalars r breaks continues (for_loop first test step s) h =
+          scalars_both (kept_of_stmts p first) (kept_of_maybe p true test ++ (kept_of_maybe p false step ++ kept_of_stmt p s)) (first_scalars first h.0) (scalars_both (kept_of_maybe p true test) (kept_of_maybe p false step ++ kept_of_stmt p s) (test_scalars test h.1) (scalars_both (kept_of_maybe p false step) (kept_of_stmt p s) (step_scalars step h.2) (stmt_scalars r true true s h.3)))
+      stmt_scalars r breaks continues (switch_on e gs) h =
+          scalars_both (kept p true e) (kept_of_groups p gs) (value_scalars true e h.3) (groups_scalars r continues h.0 gs h.5)
+      stmt_scalars r breaks continues break_off h = tt
+      stmt_scalars r breaks continues continue_on h = tt
+      stmt_scalars r breaks continues return_void h = tt
+      stmt_scalars r breaks continues (return_value e) h = value_scalars true e h.2
+
+      pub stmts_scalars : (r : CType) (breaks continues : Bool) (ss : Stmts) → AreStmts p vars r breaks continues ss → AreScalars (kept_of_stmts p ss)
+      stmts_scalars r breaks continues no_stmts h = tt
+      stmts_scalars r breaks continues (more_stmts s ss) h =
+          scalars_both (kept_of_stmt p s) (kept_of_stmts p ss) (stmt_scalars r breaks continues s h.0) (stmts_scalars r breaks continues ss h.1)
+
+      groups_scalars : (r : CType) (continues : Bool) (i : IntType) (gs : Groups) → AreGroups p vars r continues i gs → AreScalars (kept_of_groups p gs)
+      groups_scalars r continues i no_groups h = tt
+      groups_scalars r continues i (more_groups ls ss gs) h =
+          scalars_both (kept_of_stmts p ss) (kept_of_groups p gs) (stmts_scalars r true continues ss h.1) (groups_scalars r continues i gs h.2)

@@ -1,0 +1,172 @@
+-- Initialisers of variables follow.
+use Rattle.std.proofs.Common.{◌≡◌, ℕ, zero, suc, ◌+◌, ◌*◌, ◌≤◌, true, false, ◌&&◌, if◌then◌else◌, List, [], ◌∷◌, ◌++◌, length, Option, Some, None, refl, ap, ap₂, sym, subst, arith, is_some}
+use Rattle.std.proofs.lemmas.Bool.{leb-true}
+use Rattle.c_tree.specs.Tree.{CType, Program}
+use Rattle.c_syntax.specs.Tree.{Expr, a_name, an_int, a_char, a_str, comma, sizeof_type, cast, call, member, postfix, prefix, unary, index, binary, assign, conditional, Exprs}
+use Rattle.c_syntax.specs.Tree.{Init, one, list, Inits, no_inits, more_inits, MaybeInit, no_init, an_init, no_parts, more_parts, decl, no_storage, nothing, no_block_items, block_decl}
+use Rattle.c_syntax.specs.Tree as syntax
+use Rattle.c_rules.specs.Checked.{Checked, fine, both}
+use Rattle.c_rules.specs.Scopes.{Env, Before, layout_of}
+use Rattle.c_rules.specs.Counts.{calls, string_cells}
+use Rattle.c_rules.specs.TypedExpression.{TypedExpression}
+use Rattle.c_rules.specs.Expressions.{value}
+use Rattle.c_rules.specs.Initialisers.{Slots, copies, each, slots, capacity, takes_list, count_inits, text_of, is_char_array, held, held_in_turn, calls_of_init, after_init, cells_of_one, cells_of_list, initialised, in_turn}
+use Rattle.null_calls_rules.specs.MarkedCalls.{Called, Sites}
+use Rattle.null_calls_rules.specs.Temporaries.{Temporary}
+use Rattle.null_calls_rules.specs.InstrumentedExpressions.{call_where, expr, arguments, kept}
+use Rattle.null_calls_rules.specs.InstrumentedStatements.{init, inits, kept_of_init, kept_of_inits}
+use Rattle.c_rules_laws.specs.TypedAlike.{More, plain_scope, instrumented_scope}
+use Rattle.null_calls_counts_laws.specs.Counts.{Near}
+use Rattle.null_calls_counts_laws.specs.Statements.{InitNamed, InitsNamed}
+use Rattle.null_calls_counts_laws.proofs.Expressions.{counts_stay}
+use Rattle.null_calls_counts_laws.proofs.Statements.{blocks_stay}
+use Rattle.null_calls_expressions_laws.specs.Tabled.{AreFound}
+use Rattle.null_calls_expressions_laws.specs.Follow.{types_of, Goes}
+use Rattle.null_calls_expressions_laws.proofs.Forms.{types_both, found_first, found_rest, value_goes}
+use Rattle.null_calls_expressions_laws.proofs.AllCalls.{all_expressions_go}
+use Rattle.null_calls_statements_laws.specs.Standing.{stand_beside}
+use Rattle.null_calls_statements_laws.specs.Initialisers.{InitTabled, InitsTabled, InitialisersGo}
+use Rattle.null_calls_statements_laws.proofs.Cells.{CellsGo, both_go, cells_follow, zeros_go, expression_goes, list_goes}
+use Rattle.null_calls_statements_laws.proofs.Reserved.{AreReserved, reserved_both, found_stay, expr_reserved}
+
+-- ## What the syntax alone tells
+
+text_of_call : (at site : ℕ) (o : Option Called) (d : Expr) (es : Exprs) → text_of (call_where at site true o d es) ≡ None
+text_of_call at site None d es = refl
+text_of_call at site (Some c) d es = refl
+
+module _ (sites : Sites) where
+  pub text_same : (x : Expr) (b : ℕ) → text_of (expr sites b true x) ≡ text_of x
+  text_same (a_name at x) b = refl
+  text_same (an_int at n u) b = refl
+  text_same (a_char at c) b = refl
+  text_same (a_str at w) b = refl
+  text_same (comma at es) b = refl
+  text_same (sizeof_type at t) b = refl
+  text_same (cast at t e) b = refl
+  text_same (call at d es) b = text_of_call at (b + calls d) (sites (b + calls d)) (expr sites b true d) (arguments sites (suc (b + calls d)) es)
+  text_same (member at how e x) b = refl
+  text_same (postfix at op e) b = refl
+  text_same (prefix at op e) b = refl
+  text_same (unary at op e) b = refl
+  text_same (index at e f) b = refl
+  text_same (binary at op e f) b = refl
+  text_same (assign at op e f) b = refl
+  text_same (conditional at c e f) b = refl
+
+  -- a string has no temporaries
+  string_alone : (x : Expr) (b : ℕ) (w : List ℕ) → text_of x ≡ Some w → types_of (kept sites b true x) ≡ []
+  string_alone (a_name at x) b w h = cc
+  string_alone (an_int at n u) b w h = cc
+  string_alone (a_char at c) b w h = cc
+  string_alone (a_str at v) b w h = refl
+  string_alone (comma at es) b w h = cc
+  string_alone (sizeof_type at t) b w h = cc
+  string_alone (cast at t e) b w h = cc
+  string_alone (call at d es) b w h = cc
+  string_alone (member at how e x) b w h = cc
+  string_alone (postfix at op e) b w h = cc
+  string_alone (prefix at op e) b w h = cc
+  string_alone (unary at op e) b w h = cc
+  string_alone (index at e f) b w h = cc
+  string_alone (binary at op e f) b w h = cc
+  string_alone (assign at op e f) b w h = cc
+  string_alone (conditional at c e f) b w h = cc
+
+  pub count_same : (is : Inits) (b : ℕ) → count_inits (inits sites b is) ≡ count_inits is
+  count_same no_inits b = refl
+  count_same (more_inits i is) b = ap suc (count_same is (b + calls_of_init i))
+
+  -- at most three times as many calls
+  pub init_few : (i : Init) (b : ℕ) → InitNamed sites b i → calls_of_init (init sites b i) ≤ 3 * calls_of_init i
+  init_few i b h = (let r = (blocks_stay sites b (block_decl (decl 0 no_storage syntax.void (more_parts nothing (an_init i) no_parts)) no_block_items) ((h, tt), tt)).calls_most in omega (arith, r))
+
+  mutual
+    pub init_reserved : (i : Init) (b : ℕ) → AreReserved (kept_of_init sites b i)
+    init_reserved (one at e) b = expr_reserved sites e b true
+    init_reserved (list at is) b = inits_reserved is b
+
+    inits_reserved : (is : Inits) (b : ℕ) → AreReserved (kept_of_inits sites b is)
+    inits_reserved no_inits b = tt
+    inits_reserved (more_inits i is) b = reserved_both (kept_of_init sites b i) (kept_of_inits sites (b + calls_of_init i) is) (init_reserved i b) (inits_reserved is (b + calls_of_init i))
+
+module _ (sites : Sites) (env : Env) (w : More) where
+  abbrev L : Env
+  L = plain_scope env
+
+  abbrev R : Env
+  R = instrumented_scope env w
+
+  -- ## Strings
+
+  mutual
+    pub held_same : (i : Init) (t : CType) (b : ℕ) → InitNamed sites b i → held R t (init sites b i) ≡ held L t i
+    held_same (one at e) t b h = ap₂ (λ o ws. if is_char_array t && is_some o then [] else ws) (text_same sites e b) (counts_stay sites b true e h).strings_same
+    held_same (list at is) t b h = held_in_turn_same is (slots L t) b h
+
+    held_in_turn_same : (is : Inits) (s : Slots) (b : ℕ) → InitsNamed sites b is → held_in_turn R s (inits sites b is) ≡ held_in_turn L s is
+    held_in_turn_same no_inits s b h = refl
+    held_in_turn_same (more_inits i is) (copies zero t) b h = refl
+    held_in_turn_same (more_inits i is) (copies (suc n) t) b h = ap₂ (λ ws vs. ws ++ vs) (held_same i t b h.0) (held_in_turn_same is (copies n t) (b + calls_of_init i) h.1)
+    held_in_turn_same (more_inits i is) (each []) b h = refl
+    held_in_turn_same (more_inits i is) (each (t ∷ ts)) b h = ap₂ (λ ws vs. ws ++ vs) (held_same i t b h.0) (held_in_turn_same is (each ts) (b + calls_of_init i) h.1)
+
+  near_init : (i : Init) (t : CType) (b b' : Before) → InitNamed sites b.sites i → Near b b' → Near (after_init L b t i) (after_init R b' t (init sites b.sites i))
+  near_init i t b b' h n =
+      let s = held_same i t b.sites h in
+      record {
+        sites = (let c = init_few sites i b.sites h in let l = n.sites in omega (arith, c, l));
+        strings = ap₂ (λ ws vs. ws ++ vs) n.strings s;
+        cells = ap₂ (λ c ws. c + string_cells ws) n.cells s;
+      }
+
+-- ## Initialisers
+
+module _ (p : Program) (sites : Sites) (env : Env) (w : More) (goes : (x : Expr) → Goes p sites env w x) where
+  abbrev Left : Env
+  Left = plain_scope env
+
+  abbrev Right : Env
+  Right = instrumented_scope env w
+
+  -- one, and then the others
+  more_go : (k : ℕ) (xs ys : List Temporary) (r r' s s' : Checked (List TypedExpression)) → CellsGo p k (types_of xs) r r' → CellsGo p (k + length (types_of xs)) (types_of ys) s s'
+      → CellsGo p k (types_of (xs ++ ys)) (both r s (λ gs hs. fine (gs ++ hs))) (both r' s' (λ gs hs. fine (gs ++ hs)))
+  more_go k xs ys r r' s s' g h =
+      subst (λ ts. CellsGo p k ts (both r s (λ gs hs. fine (gs ++ hs))) (both r' s' (λ gs hs. fine (gs ++ hs)))) (sym (types_both xs ys)) (both_go p k (types_of xs) (types_of ys) r r' s s' g h)
+
+  mutual
+    init_goes : (i : Init) (t : CType) (b b' : Before) (k : ℕ) → InitNamed sites b.sites i → InitTabled p sites Left b t i → AreFound w.names k (kept_of_init sites b.sites i) → Near b b' → CellsGo p k (types_of (kept_of_init sites b.sites i)) (initialised Left b false t i) (initialised Right b' false t (init sites b.sites i))
+    init_goes (one at e) t b b' k n c f r =
+        let ts : List CType = types_of (kept sites b.sites true e) in
+        subst (λ o. CellsGo p k ts (initialised Left b false t (one at e)) (cells_of_one false at t o (value Right b' (expr sites b.sites true e)))) (sym (text_same sites e b.sites))
+        (expression_goes p k ts at t (text_of e) (value Left b e) (value Right b' (expr sites b.sites true e)) (string_alone sites e b.sites) (value_goes p sites env w e (goes e).wanted b b' k n c f r))
+    init_goes (list at is) t b b' k n c f r =
+        let ts : List CType = types_of (kept_of_inits sites b.sites is) in
+        subst (λ m. CellsGo p k ts (initialised Left b false t (list at is)) (cells_of_list (takes_list t) at (capacity (slots Left t)) m (in_turn Right b' false (slots Left t) (inits sites b.sites is)))) (sym (count_same sites is b.sites))
+        (list_goes p k ts (takes_list t) at (capacity (slots Left t)) (count_inits is) (in_turn Left b false (slots Left t) is) (in_turn Right b' false (slots Left t) (inits sites b.sites is)) (λ e. inits_go is (slots Left t) b b' k n c f r (leb-true (count_inits is) (capacity (slots Left t)) e)))
+
+    inits_go : (is : Inits) (s : Slots) (b b' : Before) (k : ℕ) → InitsNamed sites b.sites is → InitsTabled p sites Left b s is → AreFound w.names k (kept_of_inits sites b.sites is) → Near b b' → count_inits is ≤ capacity s → CellsGo p k (types_of (kept_of_inits sites b.sites is)) (in_turn Left b false s is) (in_turn Right b' false s (inits sites b.sites is))
+    inits_go no_inits s b b' k n c f r few = zeros_go p k (layout_of Left) s
+    inits_go (more_inits i is) (copies zero t) b b' k n c f r few = absurd (omega (arith, few))
+    inits_go (more_inits i is) (copies (suc m) t) b b' k n c f r few =
+        let xs : List Temporary = kept_of_init sites b.sites i in
+        let ys : List Temporary = kept_of_inits sites (b.sites + calls_of_init i) is in
+        more_go k xs ys (initialised Left b false t i) (initialised Right b' false t (init sites b.sites i)) (in_turn Left (after_init Left b t i) false (copies m t) is) (in_turn Right (after_init Right b' t (init sites b.sites i)) false (copies m t) (inits sites (b.sites + calls_of_init i) is))
+        (init_goes i t b b' k n.0 c.0 (found_first w.names k xs ys f) r)
+        (inits_go is (copies m t) (after_init Left b t i) (after_init Right b' t (init sites b.sites i)) (k + length (types_of xs)) n.1 c.1 (found_rest w.names k xs ys f) (near_init sites env w i t b b' n.0 r) (omega (arith, few)))
+    inits_go (more_inits i is) (each []) b b' k n c f r few = absurd (omega (arith, few))
+    inits_go (more_inits i is) (each (t ∷ ts)) b b' k n c f r few =
+        let xs : List Temporary = kept_of_init sites b.sites i in
+        let ys : List Temporary = kept_of_inits sites (b.sites + calls_of_init i) is in
+        more_go k xs ys (initialised Left b false t i) (initialised Right b' false t (init sites b.sites i)) (in_turn Left (after_init Left b t i) false (each ts) is) (in_turn Right (after_init Right b' t (init sites b.sites i)) false (each ts) (inits sites (b.sites + calls_of_init i) is))
+        (init_goes i t b b' k n.0 c.0 (found_first w.names k xs ys f) r)
+        (inits_go is (each ts) (after_init Left b t i) (after_init Right b' t (init sites b.sites i)) (k + length (types_of xs)) n.1 c.1 (found_rest w.names k xs ys f) (near_init sites env w i t b b' n.0 r) (omega (arith, few)))
+
+pub initialisers_go : InitialisersGo
+initialisers_go p sites names e f (stand_beside env w u m n s) b b' k t i named tabled found near =
+    record {
+      cells = cells_follow p k (types_of (kept_of_init sites b.sites i)) (initialised (plain_scope env) b false t i) (initialised (instrumented_scope env w) b' false t (init sites b.sites i))
+          (init_goes p sites env w (all_expressions_go p sites env w u m n) i t b b' k named tabled (found_stay names w.names s k (kept_of_init sites b.sites i) (init_reserved sites i b.sites) found) near);
+      near = near_init sites env w i t b b' named near;
+    }

@@ -1,0 +1,10 @@
+pub mod Heads
+pub mod Cells
+pub mod Initialisers
+pub mod Reserved
+pub mod Scopes
+pub mod Declarations
+pub mod StatementTree
+pub mod Numbers
+pub mod Nodes
+pub mod Statements

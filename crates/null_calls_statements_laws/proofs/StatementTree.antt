@@ -1,0 +1,87 @@
+-- What declarations give, part by part.
+use Rattle.std.proofs.Common.{◌≡◌, ℕ, ◌+◌, Bool, true, false, if◌then◌else◌, List, [], ◌∷◌, ◌++◌, append-nil, length, refl, ap, ap₂, sym, subst, ◌∙◌}
+use Rattle.c_tree.specs.Tree.{CType, Program}
+use Rattle.c_tree.specs.Tree as typed
+use Rattle.c_rules.specs.Checked.{Checked, fine, faulty, on, both, gives, Met}
+use Rattle.c_rules.specs.Names.{Name, is_added}
+use Rattle.c_rules.specs.TypedExpression.{TypedExpression, tree_of}
+use Rattle.c_rules.specs.Initialisers.{stores_from}
+use Rattle.c_rules.specs.Blocks.{StatementTree, with_tree, bare, alone, one_more, laid_variable}
+use Rattle.null_calls_rules.specs.InstrumentedPrograms as with_null_calls
+use Rattle.null_calls_rules.specs.WithoutSites.{unsited_stmt}
+use Rattle.c_rules_laws.proofs.Leads.{Leads}
+use Rattle.null_calls_expressions_laws.proofs.Constants.{none_both}
+use Rattle.null_calls_expressions_laws.specs.Follow.{UnusedFollows}
+use Rattle.null_calls_statements_laws.specs.Initialisers.{CellsFollow}
+use Rattle.null_calls_statements_laws.specs.Declarations.{StatementTreeFollow}
+
+-- a variable, by whether it is the instrumenter's
+abbrev pub laid_if : Bool → (number : ℕ) → CType → List TypedExpression → StatementTree typed.Stmt
+laid_if b n t cs =
+    if b
+    then record { tree = typed.declare n (stores_from 0 cs); plain = []; added = t ∷ [] }
+    else record { tree = typed.declare n (stores_from 0 cs); plain = t ∷ []; added = [] }
+
+module _ (p : Program) (k : ℕ) (ts : List CType) where
+  -- one statement
+  abbrev pub OneFollows : Checked (StatementTree typed.Stmt) → Checked (StatementTree typed.Stmt) → Type 0
+  OneFollows (fine q) s = (x : typed.Stmt) × (s ≡ fine (with_tree q x)) × (q.added ≡ []) × (with_null_calls.kept_of_stmt p q.tree ≡ ts) × (unsited_stmt x ≡ with_null_calls.stmt p k q.tree)
+  OneFollows (faulty f fs) s = Unit {0}
+
+  -- a demand beside the statement
+  pub named_follows : (c d : Checked Met) (r s : Checked (StatementTree typed.Stmt)) → Leads c d → ((a : Met) → c ≡ fine a → OneFollows r s) → OneFollows (both c r (λ _ q. fine q)) (both d s (λ _ q. fine q))
+  named_follows (fine a) d (fine q) s h l =
+      (let m = l a refl in (m.0, ap₂ (λ y z. both y z (λ _ q. fine q)) h.0 m.1, m.2, m.3, m.4))
+  named_follows (fine a) d (faulty f fs) s h l = tt
+  named_follows (faulty f fs) d r s h l = tt
+
+  pub behind_part_follows : {A : Type 0} (r s : Checked A) (g h : A → Checked (StatementTree typed.Stmt)) → Leads r s → ((a : A) → r ≡ fine a → OneFollows (g a) (h a)) → OneFollows (on r g) (on s h)
+  behind_part_follows (fine a) s g h l m = subst (λ z. OneFollows (g a) (on z h)) (sym l.0) (m a refl)
+  behind_part_follows (faulty f fs) s g h l m = tt
+
+  -- a variable with its cells
+  pub variable_follows : (x : Name) (n m : ℕ) (t : CType) (r s : Checked (List TypedExpression)) → is_added x ≡ false → m ≡ n → CellsFollow p k ts r s → OneFollows (gives r (laid_variable x n t)) (gives s (laid_variable x m t))
+  variable_follows x n m t (fine cs) s a e h =
+      (typed.declare n (stores_from 0 h.0), ap₂ (λ i z. gives z (laid_variable x i t)) e h.1 ∙ variable_is (is_added x), no_added (is_added x) a, kept_is (is_added x), tree_is (is_added x))
+    where
+      variable_is : (b : Bool) → fine (laid_if b n t h.0) ≡ fine (with_tree (laid_if b n t cs) (typed.declare n (stores_from 0 h.0)))
+      variable_is true = refl
+      variable_is false = refl
+
+      no_added : (b : Bool) → b ≡ false → (laid_if b n t cs).added ≡ []
+      no_added true e = (let no : true ≡ false = e in cc)
+      no_added false e = refl
+
+      kept_is : (b : Bool) → with_null_calls.kept_of_stmt p (laid_if b n t cs).tree ≡ ts
+      kept_is true = h.2.types 0
+      kept_is false = h.2.types 0
+
+      tree_is : (b : Bool) → unsited_stmt (typed.declare n (stores_from 0 h.0)) ≡ with_null_calls.stmt p k (laid_if b n t cs).tree
+      tree_is true = ap (typed.declare n) (h.2.trees 0)
+      tree_is false = ap (typed.declare n) (h.2.trees 0)
+  variable_follows x n m t (faulty f fs) s a e h = tt
+
+-- no statement
+pub nothing_follows : (p : Program) (k : ℕ) → StatementTreeFollow p k [] (fine (bare typed.no_stmts)) (fine (bare typed.no_stmts))
+nothing_follows p k = (typed.no_stmts, refl, refl, refl, refl)
+
+-- one statement, and others behind it
+pub more_follow : (p : Program) (k : ℕ) (ts us : List CType) (r r' : Checked (StatementTree typed.Stmt)) (s s' : Checked (StatementTree typed.Stmts)) → OneFollows p k ts r r' → ((q : StatementTree typed.Stmt) → r ≡ fine q → StatementTreeFollow p (k + length ts) us s s')
+    → StatementTreeFollow p k (ts ++ us) (both r s (λ a b. fine (one_more a b))) (both r' s' (λ a b. fine (one_more a b)))
+more_follow p k ts us (fine q) r' (fine o) s' g h =
+    let l = h q refl in (
+      typed.more_stmts g.0 l.0,
+      ap₂ (λ y z. both y z (λ a b. fine (one_more a b))) g.1 l.1,
+      none_both q.added o.added g.2 l.2,
+      ap₂ (λ xs ys. xs ++ ys) g.3 l.3,
+      ap₂ (λ x xs. typed.more_stmts x xs) g.4 (l.4 ∙ ap (λ xs. with_null_calls.stmts p (k + length xs) o.tree) (sym g.3)),
+    )
+more_follow p k ts us (fine q) r' (faulty f fs) s' g h = tt
+more_follow p k ts us (faulty f fs) r' s s' g h = tt
+
+-- an expression in the head of a for
+pub expression_follows : (p : Program) (k : ℕ) (ts : List CType) (r s : Checked TypedExpression) → UnusedFollows p k ts r s
+    → StatementTreeFollow p k ts (gives r (λ g. alone (bare (typed.evaluate (tree_of g))))) (gives s (λ g. alone (bare (typed.evaluate (tree_of g)))))
+expression_follows p k ts (fine g) s h =
+    (typed.more_stmts (typed.evaluate (tree_of h.0)) typed.no_stmts, ap (λ z. gives z (λ g. alone (bare (typed.evaluate (tree_of g))))) h.1, refl, append-nil (with_null_calls.kept p false (tree_of g)) ∙ h.2, ap (λ x. typed.more_stmts (typed.evaluate x) typed.no_stmts) h.3)
+expression_follows p k ts (faulty f fs) s h = tt

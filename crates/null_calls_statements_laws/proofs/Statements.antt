@@ -1,0 +1,383 @@
+-- Statements of an instrumented unit go: the recursion on the syntax.
+use Rattle.std.proofs.Common.{◌≡◌, ℕ, ◌+◌, Bool, true, false, List, [], ◌∷◌, ◌++◌, length, append_assoc, append-nil, refl, ap, sym, subst, ◌∙◌, arith}
+use Rattle.c_tree.specs.declared.value.IntType.{IntType}
+use Rattle.c_tree.specs.declared.tree.TLabel.TheVariants.{Case, Default}
+use Rattle.c_tree.specs.Operators.{value_of}
+use Rattle.c_tree.specs.Tree.{CType, Program}
+use Rattle.c_tree.specs.Tree as typed
+use Rattle.c_syntax.specs.Tree.{Expr, Maybe, absent, there, First, Labels, no_labels, case_label, default_label, Decl}
+use Rattle.c_syntax.specs.Tree.{Stmt, block, empty, evaluate, only_if, if_else, while_loop, do_loop, for_loop, switch_on, break_off, continue_on, return_from}
+use Rattle.c_syntax.specs.Tree.{BlockItems, no_block_items, block_decl, block_stmt, Stmts, no_stmts, more_stmts, Groups, no_groups, more_groups}
+use Rattle.c_rules.specs.Constants.{number_of}
+use Rattle.c_rules.specs.Checked.{Checked, fine, on, both, all_three, beside, gives}
+use Rattle.c_rules.specs.Names.{Name}
+use Rattle.c_rules.specs.Scopes.{Env, Binding, inside, in_context, folded, Before, nothing_before}
+use Rattle.c_rules.specs.Counts.{place_of, calls, calls_of_maybe, strings, strings_of_maybe, string_cells, past, after, after_maybe}
+use Rattle.c_rules.specs.TypedExpression.{tree_of}
+use Rattle.c_rules.specs.Declarators.{constant_value}
+use Rattle.c_rules.specs.Expressions.{value, folded_value}
+use Rattle.c_rules.specs.Variables.{Next, past_name, past_names, names_of_decl, names_of_first, names_of_stmt, names_of_stmts, calls_of_decl, calls_of_first, calls_of_stmt, calls_of_stmts, calls_of_block, calls_of_groups}
+use Rattle.c_rules.specs.Blocks.{behind_decl, behind_first, held_by_first, held_by_decl, held_by_stmt, held_by_block, held_by_stmts, held_by_groups, after_decl, after_first, after_stmt, after_stmts, StatementTree, with_tree, local_decl}
+use Rattle.c_rules.specs.Statements.{Around, in_loop, in_switch, condition_at, test_of, step_of, first_of, switched, label_type, labels_of, Labelled, switch_of, returned, stmt, items_of_block, stmts, groups_of_switch}
+use Rattle.null_calls_rules.specs.MarkedCalls.{Sites}
+use Rattle.null_calls_rules.specs.Temporaries.{Temporary}
+use Rattle.null_calls_rules.specs.InstrumentedExpressions.{expr, maybe, kept, kept_of_maybe}
+use Rattle.null_calls_rules.specs.InstrumentedStatements as instrumented_unit
+use Rattle.c_rules_laws.specs.TypedAlike.{TypedAlike, beside as scopes_beside}
+use Rattle.c_rules_laws.proofs.Leads.{Leads, same_leads, fine_leads, on_leads, both_leads, gives_leads, first_fine, on_fine}
+use Rattle.c_rules_laws.proofs.Parts.{value_leads}
+use Rattle.null_calls_counts_laws.specs.Counts.{AreNamed, Near}
+use Rattle.null_calls_counts_laws.specs.Statements.{MaybeNamed, StmtNamed, BlockNamed, StmtsNamed, GroupsNamed}
+use Rattle.null_calls_counts_laws.proofs.Expressions.{places_near}
+use Rattle.null_calls_counts_laws.proofs.Statements.{statements_stay}
+use Rattle.null_calls_expressions_laws.specs.Tabled.{AreTabled, AreFound}
+use Rattle.null_calls_expressions_laws.specs.Follow.{types_of}
+use Rattle.null_calls_expressions_laws.proofs.Forms.{types_both, found_first, found_rest}
+use Rattle.null_calls_statements_laws.specs.Heads.{TreeFollows, MaybeFollows, OperandFollows, StmtFollows, HeadsGo}
+use Rattle.null_calls_statements_laws.proofs.Heads.{all_heads_go}
+use Rattle.null_calls_statements_laws.specs.Standing.{StandBeside, stand_beside, BlocksStandBeside, TemporariesStay}
+use Rattle.null_calls_statements_laws.proofs.Reserved.{temporaries_stay}
+use Rattle.null_calls_statements_laws.proofs.Scopes.{blocks_stand_beside}
+use Rattle.null_calls_statements_laws.specs.Declarations.{StatementTreeFollow, SameNumber, NumbersStay, DeclGoes, FirstGoes, DeclarationsGo, FirstsGo}
+use Rattle.null_calls_statements_laws.proofs.Declarations.{declarations_go, firsts_go}
+use Rattle.null_calls_statements_laws.proofs.Numbers.{numbers_stay}
+use Rattle.null_calls_statements_laws.specs.Statements.{after_groups, MaybeTabled, StmtTabled, BlockTabled, StmtsTabled, GroupsTabled, StatementTreeFollows, GroupsFollow, StmtGoes, BlockGoes, StatementsGo, BlocksGo}
+use Rattle.null_calls_statements_laws.proofs.Nodes.{evaluate_follows, bare_follows, jump_follows, if_follows, while_follows, do_follows, switch_follows, one_follows, some_follow, group_follows, block_follows, else_follows, for_follows}
+
+-- ## What stands before
+
+strings_both : (xs ys : List (List ℕ)) → string_cells (xs ++ ys) ≡ string_cells xs + string_cells ys
+strings_both [] ys = omega arith
+strings_both (x ∷ xs) ys = (let r = strings_both xs ys in omega (arith, r))
+
+past_past : (b : Before) (m n : ℕ) (ws vs : List (List ℕ)) → past (past b m ws) n vs ≡ past b (m + n) (ws ++ vs)
+past_past b m n ws vs =
+    let s : (b.sites + m) + n ≡ b.sites + (m + n) = omega arith in
+    let c : (b.cells + string_cells ws) + string_cells vs ≡ b.cells + string_cells (ws ++ vs) = (let r = strings_both ws vs in omega (arith, r)) in
+    let l : (b.strings ++ ws) ++ vs ≡ b.strings ++ (ws ++ vs) = append_assoc b.strings ws vs in
+    λ i. record { sites = s i; strings = l i; cells = c i }
+
+-- two parts are one
+pub near_both : (b b' : Before) (m n m' n' : ℕ) (ws vs ws' vs' : List (List ℕ)) → Near (past (past b m ws) n vs) (past (past b' m' ws') n' vs') → Near (past b (m + n) (ws ++ vs)) (past b' (m' + n') (ws' ++ vs'))
+near_both b b' m n m' n' ws vs ws' vs' h = subst (λ x. Near x (past b' (m' + n') (ws' ++ vs'))) (past_past b m n ws vs) (subst (λ x. Near (past (past b m ws) n vs) x) (past_past b' m' n' ws' vs') h)
+
+past_none : (b : Before) → b ≡ past b 0 []
+past_none b =
+    let s : b.sites ≡ b.sites + 0 = omega arith in
+    let c : b.cells ≡ b.cells + 0 = omega arith in
+    let l : b.strings ≡ b.strings ++ [] = sym (append-nil b.strings) in
+    λ i. record { sites = s i; strings = l i; cells = c i }
+
+near_none : (b b' : Before) → Near b b' → Near (past b 0 []) (past b' 0 [])
+near_none b b' h = subst (λ x. Near x (past b' 0 [])) (past_none b) (subst (λ x. Near b x) (past_none b') h)
+
+names_past : (n : Next) (xs ys : List Name) → past_names n (xs ++ ys) ≡ past_names (past_names n xs) ys
+names_past n [] ys = refl
+names_past n (x ∷ xs) ys = names_past (past_name n x) xs ys
+
+-- ## Labels (6.8.4.2)
+
+labels_lead : (e f : Env) → TypedAlike e f → (i : IntType) (ls : Labels) → Leads (labels_of e i ls) (labels_of f i ls)
+labels_lead e f w i no_labels = (refl, tt)
+labels_lead e f (scopes_beside env w p m) i (case_label at x ls) =
+    both_leads (on (folded_value e x) (constant_value (place_of x))) (on (folded_value f x) (constant_value (place_of x))) (labels_of e i ls) (labels_of f i ls) (λ v vs. fine (Case (value_of i (number_of v)) ∷ vs)) (λ v vs. fine (Case (value_of i (number_of v)) ∷ vs))
+    (on_leads (folded_value e x) (folded_value f x) (constant_value (place_of x)) (constant_value (place_of x)) (value_leads (in_context e folded) (in_context f folded) (scopes_beside (in_context env folded) w p m) nothing_before x) (λ g _. same_leads (constant_value (place_of x) g)))
+    (λ _ _. labels_lead e f (scopes_beside env w p m) i ls) (λ v vs. (refl, tt))
+labels_lead e f w i (default_label at ls) = gives_leads (labels_of e i ls) (labels_of f i ls) (λ vs. Default ∷ vs) (labels_lead e f w i ls)
+
+stand_scopes : (p : Program) (names : List Binding) (e f : Env) → StandBeside p names e f → TypedAlike e f
+stand_scopes p names e f (stand_beside env w plain alike stand same) = scopes_beside env w plain alike
+
+-- ## Expressions of statements
+
+-- heads in scopes that stand beside each other
+module _ (stay : TemporariesStay) (p : Program) (sites : Sites) (names : List Binding) where
+  record HeadsStand (e f : Env) (b b' : Before) (k : ℕ) : Type 0 where
+    pub conditions : (at : ℕ) (x : Expr) → AreNamed sites b.sites x → AreTabled p sites e b x → AreFound names k (kept sites b.sites true x) → TreeFollows p k (types_of (kept sites b.sites true x)) (condition_at at (value e b x)) (condition_at at (value f b' (expr sites b.sites true x)))
+    pub tests : (at : ℕ) (m : Maybe) → MaybeNamed sites b.sites m → MaybeTabled p sites e b m → AreFound names k (kept_of_maybe sites b.sites true m) → MaybeFollows p k (types_of (kept_of_maybe sites b.sites true m)) true (test_of e b at m) (test_of f b' at (maybe sites b.sites true m))
+    pub steps : (m : Maybe) → MaybeNamed sites b.sites m → MaybeTabled p sites e b m → AreFound names k (kept_of_maybe sites b.sites false m) → MaybeFollows p k (types_of (kept_of_maybe sites b.sites false m)) false (step_of e b m) (step_of f b' (maybe sites b.sites false m))
+    pub switches : (at : ℕ) (x : Expr) → AreNamed sites b.sites x → AreTabled p sites e b x → AreFound names k (kept sites b.sites true x) → OperandFollows p k (types_of (kept sites b.sites true x)) (switched at (value e b x)) (switched at (value f b' (expr sites b.sites true x)))
+    pub returns : (at : ℕ) (t : CType) (m : Maybe) → MaybeNamed sites b.sites m → MaybeTabled p sites e b m → AreFound names k (kept_of_maybe sites b.sites true m) → StmtFollows p k (types_of (kept_of_maybe sites b.sites true m)) (returned e b at t m) (returned f b' at t (maybe sites b.sites true m))
+    pub evaluated : (x : Expr) → AreNamed sites b.sites x → AreTabled p sites e b x → AreFound names k (kept sites b.sites false x)
+        → StmtFollows p k (types_of (kept sites b.sites false x)) (gives (value e b x) (λ g. typed.evaluate (tree_of g))) (gives (value f b' (expr sites b.sites false x)) (λ g. typed.evaluate (tree_of g)))
+
+  heads_stand : (e f : Env) → StandBeside p names e f → (b b' : Before) (k : ℕ) → Near b b' → HeadsStand e f b b' k
+  heads_stand e f (stand_beside env w plain alike stand same) b b' k near =
+      let go : HeadsGo p sites env w b b' k = all_heads_go p sites env w plain alike stand b b' k near in
+      record {
+        conditions = λ at x n t h. go.conditions at x (record { named = n; tabled = t; found = stay sites names w.names same b.sites k true x h });
+        tests = tests_at go;
+        steps = steps_at go;
+        switches = λ at x n t h. go.switches at x (record { named = n; tabled = t; found = stay sites names w.names same b.sites k true x h });
+        returns = returns_at go;
+        evaluated = λ x n t h. go.evaluated x (record { named = n; tabled = t; found = stay sites names w.names same b.sites k false x h });
+      }
+    where
+      tests_at : HeadsGo p sites env w b b' k → (at : ℕ) (m : Maybe) → MaybeNamed sites b.sites m → MaybeTabled p sites e b m → AreFound names k (kept_of_maybe sites b.sites true m) → MaybeFollows p k (types_of (kept_of_maybe sites b.sites true m)) true (test_of e b at m) (test_of f b' at (maybe sites b.sites true m))
+      tests_at go at absent n t h = go.tests at absent tt
+      tests_at go at (there x) n t h = go.tests at (there x) (record { named = n; tabled = t; found = stay sites names w.names same b.sites k true x h })
+
+      steps_at : HeadsGo p sites env w b b' k → (m : Maybe) → MaybeNamed sites b.sites m → MaybeTabled p sites e b m → AreFound names k (kept_of_maybe sites b.sites false m) → MaybeFollows p k (types_of (kept_of_maybe sites b.sites false m)) false (step_of e b m) (step_of f b' (maybe sites b.sites false m))
+      steps_at go absent n t h = go.steps absent tt
+      steps_at go (there x) n t h = go.steps (there x) (record { named = n; tabled = t; found = stay sites names w.names same b.sites k false x h })
+
+      returns_at : HeadsGo p sites env w b b' k → (at : ℕ) (t : CType) (m : Maybe) → MaybeNamed sites b.sites m → MaybeTabled p sites e b m → AreFound names k (kept_of_maybe sites b.sites true m) → StmtFollows p k (types_of (kept_of_maybe sites b.sites true m)) (returned e b at t m) (returned f b' at t (maybe sites b.sites true m))
+      returns_at go at t absent n u h = go.returns at t absent tt
+      returns_at go at t (there x) n u h = go.returns at t (there x) (record { named = n; tabled = u; found = stay sites names w.names same b.sites k true x h })
+
+maybe_near : (sites : Sites) (b b' : Before) (wanted : Bool) (m : Maybe) → MaybeNamed sites b.sites m → Near b b' → Near (after_maybe b m) (after_maybe b' (maybe sites b.sites wanted m))
+maybe_near sites b b' wanted absent n h = near_none b b' h
+maybe_near sites b b' wanted (there x) n h = places_near sites b b' wanted x n h
+
+both_near : {A B C : Type 0} (p : Checked A) (q : Checked B) (k : A → B → Checked C) (P : Type 0) → ((a : A) (b : B) → p ≡ fine a → q ≡ fine b → P) → (c : C) → both p q k ≡ fine c → P
+both_near p q k P h c e = let v = first_fine p q k c e in h v.0 v.1 v.2 v.3
+
+three_near : {A B C D : Type 0} (p : Checked A) (q : Checked B) (r : Checked C) (k : A → B → C → Checked D) (P : Type 0) → ((a : A) (b : B) (c : C) → p ≡ fine a → q ≡ fine b → r ≡ fine c → P) → (d : D) → all_three p q r k ≡ fine d → P
+three_near p q r k P h d e = both_near p (beside q r) (λ a t. k a t.first t.second) P (λ a t g l. both_near q r (λ b c. fine (record { first = b; second = c })) P (λ b c m n. h a b c g m n) t l) d e
+
+-- ## Statements
+
+module _ (blocks : BlocksStandBeside) (stay : TemporariesStay) (numbers : NumbersStay) (decls : DeclarationsGo) (firsts : FirstsGo) (p : Program) (sites : Sites) (names : List Binding) where
+  record StmtsGoes (e f : Env) (a : Around) (b b' : Before) (next next' : Next) (k : ℕ) (ss : Stmts) : Type 0 where
+    pub laid : StatementTreeFollow p k (types_of (instrumented_unit.kept_of_stmts sites b.sites ss)) (stmts e a b next ss) (stmts f a b' next' (instrumented_unit.stmts sites b.sites ss))
+    pub near : (q : StatementTree typed.Stmts) → stmts e a b next ss ≡ fine q → Near (after_stmts e b next ss) (after_stmts f b' next' (instrumented_unit.stmts sites b.sites ss))
+
+  record GroupsGoes (e f : Env) (a : Around) (b b' : Before) (next next' : Next) (k : ℕ) (i : IntType) (gs : Groups) : Type 0 where
+    pub laid : GroupsFollow p k (types_of (instrumented_unit.kept_of_groups sites b.sites gs)) (groups_of_switch e a b next i gs) (groups_of_switch f a b' next' i (instrumented_unit.groups sites b.sites gs))
+    pub near : (l : Labelled) → groups_of_switch e a b next i gs ≡ fine l → Near (after_groups e b next gs) (after_groups f b' next' (instrumented_unit.groups sites b.sites gs))
+
+  -- the next numbers of variables stay the same
+  stmt_numbers : (b : ℕ) (s : Stmt) (next next' : Next) → StmtNamed sites b s → SameNumber next next' → SameNumber (past_names next (names_of_stmt s)) (past_names next' (names_of_stmt (instrumented_unit.stmt sites b s)))
+  stmt_numbers b s next next' n m = subst (λ xs. SameNumber (past_names next (names_of_stmt s)) (past_names next' xs)) (sym (statements_stay sites b s n).names_same) (numbers next next' (names_of_stmt s) m)
+
+  stmts_numbers : (ss : Stmts) (b : ℕ) (next next' : Next) → StmtsNamed sites b ss → SameNumber next next' → SameNumber (past_names next (names_of_stmts ss)) (past_names next' (names_of_stmts (instrumented_unit.stmts sites b ss)))
+  stmts_numbers no_stmts b next next' n m = m
+  stmts_numbers (more_stmts s ss) b next next' n m =
+      let i : SameNumber (past_names (past_names next (names_of_stmt s)) (names_of_stmts ss)) (past_names (past_names next' (names_of_stmt (instrumented_unit.stmt sites b s))) (names_of_stmts (instrumented_unit.stmts sites (b + calls_of_stmt s) ss)))
+      = stmts_numbers ss (b + calls_of_stmt s) (past_names next (names_of_stmt s)) (past_names next' (names_of_stmt (instrumented_unit.stmt sites b s))) n.1 (stmt_numbers b s next next' n.0 m) in
+      subst (λ x. SameNumber x (past_names next' (names_of_stmt (instrumented_unit.stmt sites b s) ++ names_of_stmts (instrumented_unit.stmts sites (b + calls_of_stmt s) ss)))) (sym (names_past next (names_of_stmt s) (names_of_stmts ss)))
+      (subst (λ x. SameNumber (past_names (past_names next (names_of_stmt s)) (names_of_stmts ss)) x) (sym (names_past next' (names_of_stmt (instrumented_unit.stmt sites b s)) (names_of_stmts (instrumented_unit.stmts sites (b + calls_of_stmt s) ss)))) i)
+
+  abbrev X : Before → Expr → Expr
+  X b x = expr sites b.sites true x
+
+  abbrev M : Before → Bool → Maybe → Maybe
+  M b wanted m = maybe sites b.sites wanted m
+
+  abbrev S : Before → Stmt → Stmt
+  S b s = instrumented_unit.stmt sites b.sites s
+
+  mutual
+    stmt_goes : (s : Stmt) (e f : Env) → StandBeside p names e f → (a : Around) (b b' : Before) (next next' : Next) (k : ℕ) → StmtNamed sites b.sites s → StmtTabled p sites e b next s → AreFound names k (instrumented_unit.kept_of_stmt sites b.sites s) → Near b b' → SameNumber next next' → StmtGoes p sites e f a b b' next next' k s
+    stmt_goes (block at is) e f w a b b' next next' k n t h r m =
+        let i : BlockGoes p sites (inside e) (inside f) a b b' next next' k is = block_goes is (inside e) (inside f) (blocks p names e f w) a b b' next next' k n t h r m in
+        record {
+          laid = block_follows p k (types_of (instrumented_unit.kept_of_block sites b.sites is)) (items_of_block (inside e) a b next is) (items_of_block (inside f) a b' next' (instrumented_unit.items_of_block sites b.sites is)) i.laid;
+          near = λ q g. (let v = on_fine (items_of_block (inside e) a b next is) (λ q. fine (with_tree q (typed.block q.tree))) q g in i.near v.0 v.1);
+        }
+    stmt_goes (empty at) e f w a b b' next next' k n t h r m = record { laid = (typed.empty, refl, refl, refl, refl); near = λ q g. near_none b b' r }
+    stmt_goes (evaluate at x) e f w a b b' next next' k n t h r m = record {
+      laid = evaluate_follows p k (types_of (kept sites b.sites false x)) (value e b x) (value f b' (expr sites b.sites false x)) ((heads_stand stay p sites names e f w b b' k r).evaluated x n t h);
+      near = λ q g. places_near sites b b' false x n r;
+    }
+    stmt_goes (only_if at x s) e f w a b b' next next' k n t h r m =
+        let xs : List Temporary = kept sites b.sites true x in
+        let ys : List Temporary = instrumented_unit.kept_of_stmt sites (b.sites + calls x) s in
+        let i : StmtGoes p sites e f a (after b x) (after b' (X b x)) next next' (k + length (types_of xs)) s = stmt_goes s e f w a (after b x) (after b' (X b x)) next next' (k + length (types_of xs)) n.1 t.1 (found_rest names k xs ys h) (places_near sites b b' true x n.0 r) m in
+        record {
+          laid = subst (λ ts. StatementTreeFollows p k ts (stmt e a b next (only_if at x s)) (stmt f a b' next' (S b (only_if at x s)))) (sym (types_both xs ys))
+              (if_follows p k (types_of xs) (types_of ys) (condition_at at (value e b x)) (condition_at at (value f b' (X b x))) (stmt e a (after b x) next s) (stmt f a (after b' (X b x)) next' (S (after b x) s)) ((heads_stand stay p sites names e f w b b' k r).conditions at x n.0 t.0 (found_first names k xs ys h)) (λ _ _. i.laid));
+          near = both_near (condition_at at (value e b x)) (stmt e a (after b x) next s) _ _
+              (λ c q _ g. near_both b b' (calls x) (calls_of_stmt s) (calls (X b x)) (calls_of_stmt (S (after b x) s)) (strings x) (held_by_stmt e next s) (strings (X b x)) (held_by_stmt f next' (S (after b x) s)) (i.near q g));
+        }
+    stmt_goes (if_else at x s u) e f w a b b' next next' k n t h r m =
+        let xs : List Temporary = kept sites b.sites true x in
+        let ys : List Temporary = instrumented_unit.kept_of_stmt sites (b.sites + calls x) s in
+        let zs : List Temporary = instrumented_unit.kept_of_stmt sites (b.sites + calls x + calls_of_stmt s) u in
+        let b1 : Before = after b x in
+        let c1 : Before = after b' (X b x) in
+        let b2 : Before = after_stmt e b1 next s in
+        let c2 : Before = after_stmt f c1 next' (S b1 s) in
+        let rest : AreFound names (k + length (types_of xs)) (ys ++ zs) = found_rest names k xs (ys ++ zs) h in
+        let i : StmtGoes p sites e f a b1 c1 next next' (k + length (types_of xs)) s = stmt_goes s e f w a b1 c1 next next' (k + length (types_of xs)) n.1 t.1 (found_first names (k + length (types_of xs)) ys zs rest) (places_near sites b b' true x n.0 r) m in
+        let j : Near b2 c2 → StmtGoes p sites e f a b2 c2 (past_names next (names_of_stmt s)) (past_names next' (names_of_stmt (S b1 s))) (k + length (types_of xs) + length (types_of ys)) u
+        = (λ v. stmt_goes u e f w a b2 c2 (past_names next (names_of_stmt s)) (past_names next' (names_of_stmt (S b1 s))) (k + length (types_of xs) + length (types_of ys)) n.2 t.2 (found_rest names (k + length (types_of xs)) ys zs rest) v (stmt_numbers b1.sites s next next' n.1 m)) in
+        record {
+          laid = subst (λ ts. StatementTreeFollows p k ts (stmt e a b next (if_else at x s u)) (stmt f a b' next' (S b (if_else at x s u)))) (sym (types_both xs (ys ++ zs) ∙ ap (λ ts. types_of xs ++ ts) (types_both ys zs)))
+              (else_follows p k (types_of xs) (types_of ys) (types_of zs) (condition_at at (value e b x)) (condition_at at (value f b' (X b x))) (stmt e a b1 next s) (stmt f a c1 next' (S b1 s)) (stmt e a b2 (past_names next (names_of_stmt s)) u) (stmt f a c2 (past_names next' (names_of_stmt (S b1 s))) (S b2 u))
+              ((heads_stand stay p sites names e f w b b' k r).conditions at x n.0 t.0 (found_first names k xs (ys ++ zs) h)) (λ _ _. i.laid) (λ _ q _ g. (j (i.near q g)).laid));
+          near = three_near (condition_at at (value e b x)) (stmt e a b1 next s) (stmt e a b2 (past_names next (names_of_stmt s)) u) _ _
+              (λ c q v _ g l. near_both b b' (calls x) (calls_of_stmt s + calls_of_stmt u) (calls (X b x)) (calls_of_stmt (S b1 s) + calls_of_stmt (S b2 u)) (strings x) (held_by_stmt e next s ++ held_by_stmt e (past_names next (names_of_stmt s)) u) (strings (X b x)) (held_by_stmt f next' (S b1 s) ++ held_by_stmt f (past_names next' (names_of_stmt (S b1 s))) (S b2 u))
+              (near_both b1 c1 (calls_of_stmt s) (calls_of_stmt u) (calls_of_stmt (S b1 s)) (calls_of_stmt (S b2 u)) (held_by_stmt e next s) (held_by_stmt e (past_names next (names_of_stmt s)) u) (held_by_stmt f next' (S b1 s)) (held_by_stmt f (past_names next' (names_of_stmt (S b1 s))) (S b2 u)) ((j (i.near q g)).near v l)));
+        }
+    stmt_goes (while_loop at x s) e f w a b b' next next' k n t h r m =
+        let xs : List Temporary = kept sites b.sites true x in
+        let ys : List Temporary = instrumented_unit.kept_of_stmt sites (b.sites + calls x) s in
+        let i : StmtGoes p sites e f (in_loop a) (after b x) (after b' (X b x)) next next' (k + length (types_of xs)) s = stmt_goes s e f w (in_loop a) (after b x) (after b' (X b x)) next next' (k + length (types_of xs)) n.1 t.1 (found_rest names k xs ys h) (places_near sites b b' true x n.0 r) m in
+        record {
+          laid = subst (λ ts. StatementTreeFollows p k ts (stmt e a b next (while_loop at x s)) (stmt f a b' next' (S b (while_loop at x s)))) (sym (types_both xs ys))
+              (while_follows p k (types_of xs) (types_of ys) (condition_at at (value e b x)) (condition_at at (value f b' (X b x))) (stmt e (in_loop a) (after b x) next s) (stmt f (in_loop a) (after b' (X b x)) next' (S (after b x) s)) ((heads_stand stay p sites names e f w b b' k r).conditions at x n.0 t.0 (found_first names k xs ys h)) (λ _ _. i.laid));
+          near = both_near (condition_at at (value e b x)) (stmt e (in_loop a) (after b x) next s) _ _
+              (λ c q _ g. near_both b b' (calls x) (calls_of_stmt s) (calls (X b x)) (calls_of_stmt (S (after b x) s)) (strings x) (held_by_stmt e next s) (strings (X b x)) (held_by_stmt f next' (S (after b x) s)) (i.near q g));
+        }
+    stmt_goes (do_loop at s x) e f w a b b' next next' k n t h r m =
+        let xs : List Temporary = instrumented_unit.kept_of_stmt sites b.sites s in
+        let ys : List Temporary = kept sites (b.sites + calls_of_stmt s) true x in
+        let b1 : Before = after_stmt e b next s in
+        let c1 : Before = after_stmt f b' next' (S b s) in
+        let i : StmtGoes p sites e f (in_loop a) b b' next next' k s = stmt_goes s e f w (in_loop a) b b' next next' k n.0 t.0 (found_first names k xs ys h) r m in
+        record {
+          laid = subst (λ ts. StatementTreeFollows p k ts (stmt e a b next (do_loop at s x)) (stmt f a b' next' (S b (do_loop at s x)))) (sym (types_both xs ys))
+              (do_follows p k (types_of xs) (types_of ys) (stmt e (in_loop a) b next s) (stmt f (in_loop a) b' next' (S b s)) (condition_at at (value e b1 x)) (condition_at at (value f c1 (X b1 x))) i.laid
+              (λ q g. (heads_stand stay p sites names e f w b1 c1 (k + length (types_of xs)) (i.near q g)).conditions at x n.1 t.1 (found_rest names k xs ys h)));
+          near = both_near (stmt e (in_loop a) b next s) (condition_at at (value e b1 x)) _ _
+              (λ q c g _. near_both b b' (calls_of_stmt s) (calls x) (calls_of_stmt (S b s)) (calls (X b1 x)) (held_by_stmt e next s) (strings x) (held_by_stmt f next' (S b s)) (strings (X b1 x)) (places_near sites b1 c1 true x n.1 (i.near q g)));
+        }
+    stmt_goes (for_loop at first test step s) e f w a b b' next next' k n t h r m =
+        let ws : List Temporary = instrumented_unit.kept_of_first sites b.sites first in
+        let xs : List Temporary = kept_of_maybe sites (b.sites + calls_of_first first) true test in
+        let ys : List Temporary = kept_of_maybe sites (b.sites + calls_of_first first + calls_of_maybe test) false step in
+        let zs : List Temporary = instrumented_unit.kept_of_stmt sites (b.sites + calls_of_first first + calls_of_maybe test + calls_of_maybe step) s in
+        let eo : Env = inside e in
+        let fo : Env = inside f in
+        let first' : First = instrumented_unit.first sites b.sites first in
+        let ei : Env = behind_first eo next first in
+        let fi : Env = behind_first fo next' first' in
+        let b1 : Before = after_first eo b next first in
+        let c1 : Before = after_first fo b' next' first' in
+        let b2 : Before = after_maybe b1 test in
+        let c2 : Before = after_maybe c1 (M b1 true test) in
+        let b3 : Before = after_maybe b2 step in
+        let c3 : Before = after_maybe c2 (M b2 false step) in
+        let later : Next = past_names next (names_of_first first) in
+        let later' : Next = past_names next' (names_of_first first') in
+        let g1 : AreFound names (k + length (types_of ws)) (xs ++ (ys ++ zs)) = found_rest names k ws (xs ++ (ys ++ zs)) h in
+        let g2 : AreFound names (k + length (types_of ws) + length (types_of xs)) (ys ++ zs) = found_rest names (k + length (types_of ws)) xs (ys ++ zs) g1 in
+        let d : FirstGoes p sites names eo fo b b' next next' k first = firsts p sites names eo fo (blocks p names e f w) b b' next next' k first n.0 t.0 (found_first names k ws (xs ++ (ys ++ zs)) h) r m in
+        let r2 : Near b1 c1 → Near b2 c2 = maybe_near sites b1 c1 true test n.1 in
+        let r3 : Near b1 c1 → Near b3 c3 = (λ v. maybe_near sites b2 c2 false step n.2 (r2 v)) in
+        let i : StandBeside p names ei fi → Near b1 c1 → StmtGoes p sites ei fi (in_loop a) b3 c3 later later' (k + length (types_of ws) + length (types_of xs) + length (types_of ys)) s
+        = (λ u v. stmt_goes s ei fi u (in_loop a) b3 c3 later later' (k + length (types_of ws) + length (types_of xs) + length (types_of ys)) n.3 t.3 (found_rest names (k + length (types_of ws) + length (types_of xs)) ys zs g2) (r3 v) d.numbers) in
+        record {
+          laid = subst (λ ts. StatementTreeFollows p k ts (stmt e a b next (for_loop at first test step s)) (stmt f a b' next' (S b (for_loop at first test step s)))) (sym (types_both ws (xs ++ (ys ++ zs)) ∙ ap (λ ts. types_of ws ++ ts) (types_both xs (ys ++ zs) ∙ ap (λ ts. types_of xs ++ ts) (types_both ys zs))))
+              (for_follows p k (types_of ws) (types_of xs) (types_of ys) (types_of zs) (first_of eo b next first) (first_of fo b' next' first') (test_of ei b1 at test) (test_of fi c1 at (M b1 true test)) (step_of ei b2 step) (step_of fi c2 (M b2 false step)) (stmt ei (in_loop a) b3 later s) (stmt fi (in_loop a) c3 later' (S b3 s)) d.laid
+              (λ q g. (heads_stand stay p sites names ei fi (d.scopes q g) b1 c1 (k + length (types_of ws)) (d.near q g)).tests at test n.1 t.1 (found_first names (k + length (types_of ws)) xs (ys ++ zs) g1))
+              (λ q g. (heads_stand stay p sites names ei fi (d.scopes q g) b2 c2 (k + length (types_of ws) + length (types_of xs)) (r2 (d.near q g))).steps step n.2 t.2 (found_first names (k + length (types_of ws) + length (types_of xs)) ys zs g2))
+              (λ q g. (i (d.scopes q g) (d.near q g)).laid));
+          near = three_near (first_of eo b next first) (beside (test_of ei b1 at test) (step_of ei b2 step)) (stmt ei (in_loop a) b3 later s) _ _
+              (λ q _ v g _ l. near_both b b' (calls_of_first first) (calls_of_maybe test + (calls_of_maybe step + calls_of_stmt s)) (calls_of_first first') (calls_of_maybe (M b1 true test) + (calls_of_maybe (M b2 false step) + calls_of_stmt (S b3 s)))
+              (held_by_first eo next first) (strings_of_maybe test ++ (strings_of_maybe step ++ held_by_stmt ei later s)) (held_by_first fo next' first') (strings_of_maybe (M b1 true test) ++ (strings_of_maybe (M b2 false step) ++ held_by_stmt fi later' (S b3 s)))
+              (near_both b1 c1 (calls_of_maybe test) (calls_of_maybe step + calls_of_stmt s) (calls_of_maybe (M b1 true test)) (calls_of_maybe (M b2 false step) + calls_of_stmt (S b3 s)) (strings_of_maybe test) (strings_of_maybe step ++ held_by_stmt ei later s) (strings_of_maybe (M b1 true test)) (strings_of_maybe (M b2 false step) ++ held_by_stmt fi later' (S b3 s))
+              (near_both b2 c2 (calls_of_maybe step) (calls_of_stmt s) (calls_of_maybe (M b2 false step)) (calls_of_stmt (S b3 s)) (strings_of_maybe step) (held_by_stmt ei later s) (strings_of_maybe (M b2 false step)) (held_by_stmt fi later' (S b3 s))
+              ((i (d.scopes q g) (d.near q g)).near v l))));
+        }
+    stmt_goes (switch_on at x gs) e f w a b b' next next' k n t h r m =
+        let xs : List Temporary = kept sites b.sites true x in
+        let ys : List Temporary = instrumented_unit.kept_of_groups sites (b.sites + calls x) gs in
+        let gs' : Groups = instrumented_unit.groups sites (b.sites + calls x) gs in
+        let i : (j : IntType) → GroupsGoes e f (in_switch a) (after b x) (after b' (X b x)) next next' (k + length (types_of xs)) j gs
+        = (λ j. groups_go gs e f w (in_switch a) (after b x) (after b' (X b x)) next next' (k + length (types_of xs)) j n.1 t.1 (found_rest names k xs ys h) (places_near sites b b' true x n.0 r) m) in
+        record {
+          laid = subst (λ ts. StatementTreeFollows p k ts (stmt e a b next (switch_on at x gs)) (stmt f a b' next' (S b (switch_on at x gs)))) (sym (types_both xs ys))
+              (switch_follows p k (types_of xs) (types_of ys) at (switched at (value e b x)) (switched at (value f b' (X b x))) (λ j. groups_of_switch e (in_switch a) (after b x) next j gs) (λ j. groups_of_switch f (in_switch a) (after b' (X b x)) next' j gs')
+              ((heads_stand stay p sites names e f w b b' k r).switches at x n.0 t.0 (found_first names k xs ys h)) (λ g _. (i (label_type (switched at (value e b x)))).laid));
+          near = both_near (switched at (value e b x)) (groups_of_switch e (in_switch a) (after b x) next (label_type (switched at (value e b x))) gs) (switch_of at) _
+              (λ c q _ g. near_both b b' (calls x) (calls_of_groups gs) (calls (X b x)) (calls_of_groups gs') (strings x) (held_by_groups e next gs) (strings (X b x)) (held_by_groups f next' gs') ((i (label_type (switched at (value e b x)))).near q g));
+        }
+    stmt_goes (break_off at) e f w a b b' next next' k n t h r m = record { laid = jump_follows p k a.breaks 8 at typed.break_off refl refl; near = λ q g. near_none b b' r }
+    stmt_goes (continue_on at) e f w a b b' next next' k n t h r m = record { laid = jump_follows p k a.continues 8 at typed.continue_on refl refl; near = λ q g. near_none b b' r }
+    stmt_goes (return_from at o) e f w a b b' next next' k n t h r m = record {
+      laid = bare_follows p k (types_of (kept_of_maybe sites b.sites true o)) (returned e b at a.returns o) (returned f b' at a.returns (M b true o)) ((heads_stand stay p sites names e f w b b' k r).returns at a.returns o n t h);
+      near = λ q g. maybe_near sites b b' true o n r;
+    }
+
+    block_goes : (is : BlockItems) (e f : Env) → StandBeside p names e f → (a : Around) (b b' : Before) (next next' : Next) (k : ℕ) → BlockNamed sites b.sites is → BlockTabled p sites e b next is → AreFound names k (instrumented_unit.kept_of_block sites b.sites is) → Near b b' → SameNumber next next' → BlockGoes p sites e f a b b' next next' k is
+    block_goes no_block_items e f w a b b' next next' k n t h r m = record { laid = (typed.no_stmts, refl, refl, refl, refl); near = λ q g. near_none b b' r }
+    block_goes (block_decl d is) e f w a b b' next next' k n t h r m =
+        let xs : List Temporary = instrumented_unit.kept_of_decl sites b.sites d in
+        let ys : List Temporary = instrumented_unit.kept_of_block sites (b.sites + calls_of_decl d) is in
+        let d' : Decl = instrumented_unit.declaration sites b.sites d in
+        let is' : BlockItems = instrumented_unit.items_of_block sites (b.sites + calls_of_decl d) is in
+        let ei : Env = behind_decl e next d in
+        let fi : Env = behind_decl f next' d' in
+        let b1 : Before = after_decl e b next d in
+        let c1 : Before = after_decl f b' next' d' in
+        let later : Next = past_names next (names_of_decl d) in
+        let later' : Next = past_names next' (names_of_decl d') in
+        let j : DeclGoes p sites names e f b b' next next' k d = decls p sites names e f w b b' next next' k d n.0 t.0 (found_first names k xs ys h) r m in
+        let i : StandBeside p names ei fi → Near b1 c1 → BlockGoes p sites ei fi a b1 c1 later later' (k + length (types_of xs)) is = (λ u v. block_goes is ei fi u a b1 c1 later later' (k + length (types_of xs)) n.1 t.1 (found_rest names k xs ys h) v j.numbers) in
+        record {
+          laid = subst (λ ts. StatementTreeFollow p k ts (items_of_block e a b next (block_decl d is)) (items_of_block f a b' next' (block_decl d' is'))) (sym (types_both xs ys))
+              (some_follow p k (types_of xs) (types_of ys) (local_decl e b next d) (local_decl f b' next' d') (items_of_block ei a b1 later is) (items_of_block fi a c1 later' is') j.laid (λ q g. (i (j.scopes q g) (j.near q g)).laid));
+          near = both_near (local_decl e b next d) (items_of_block ei a b1 later is) _ _
+              (λ q v g l. near_both b b' (calls_of_decl d) (calls_of_block is) (calls_of_decl d') (calls_of_block is') (held_by_decl e next d) (held_by_block ei later is) (held_by_decl f next' d') (held_by_block fi later' is') ((i (j.scopes q g) (j.near q g)).near v l));
+        }
+    block_goes (block_stmt s is) e f w a b b' next next' k n t h r m =
+        let xs : List Temporary = instrumented_unit.kept_of_stmt sites b.sites s in
+        let ys : List Temporary = instrumented_unit.kept_of_block sites (b.sites + calls_of_stmt s) is in
+        let is' : BlockItems = instrumented_unit.items_of_block sites (b.sites + calls_of_stmt s) is in
+        let b1 : Before = after_stmt e b next s in
+        let c1 : Before = after_stmt f b' next' (S b s) in
+        let later : Next = past_names next (names_of_stmt s) in
+        let later' : Next = past_names next' (names_of_stmt (S b s)) in
+        let j : StmtGoes p sites e f a b b' next next' k s = stmt_goes s e f w a b b' next next' k n.0 t.0 (found_first names k xs ys h) r m in
+        let i : Near b1 c1 → BlockGoes p sites e f a b1 c1 later later' (k + length (types_of xs)) is = (λ v. block_goes is e f w a b1 c1 later later' (k + length (types_of xs)) n.1 t.1 (found_rest names k xs ys h) v (stmt_numbers b.sites s next next' n.0 m)) in
+        record {
+          laid = subst (λ ts. StatementTreeFollow p k ts (items_of_block e a b next (block_stmt s is)) (items_of_block f a b' next' (block_stmt (S b s) is'))) (sym (types_both xs ys))
+              (one_follows p k (types_of xs) (types_of ys) (stmt e a b next s) (stmt f a b' next' (S b s)) (items_of_block e a b1 later is) (items_of_block f a c1 later' is') j.laid (λ q g. (i (j.near q g)).laid));
+          near = both_near (stmt e a b next s) (items_of_block e a b1 later is) _ _
+              (λ q v g l. near_both b b' (calls_of_stmt s) (calls_of_block is) (calls_of_stmt (S b s)) (calls_of_block is') (held_by_stmt e next s) (held_by_block e later is) (held_by_stmt f next' (S b s)) (held_by_block f later' is') ((i (j.near q g)).near v l));
+        }
+
+    stmts_go : (ss : Stmts) (e f : Env) → StandBeside p names e f → (a : Around) (b b' : Before) (next next' : Next) (k : ℕ) → StmtsNamed sites b.sites ss → StmtsTabled p sites e b next ss → AreFound names k (instrumented_unit.kept_of_stmts sites b.sites ss) → Near b b' → SameNumber next next' → StmtsGoes e f a b b' next next' k ss
+    stmts_go no_stmts e f w a b b' next next' k n t h r m = record { laid = (typed.no_stmts, refl, refl, refl, refl); near = λ q g. near_none b b' r }
+    stmts_go (more_stmts s ss) e f w a b b' next next' k n t h r m =
+        let xs : List Temporary = instrumented_unit.kept_of_stmt sites b.sites s in
+        let ys : List Temporary = instrumented_unit.kept_of_stmts sites (b.sites + calls_of_stmt s) ss in
+        let ss' : Stmts = instrumented_unit.stmts sites (b.sites + calls_of_stmt s) ss in
+        let b1 : Before = after_stmt e b next s in
+        let c1 : Before = after_stmt f b' next' (S b s) in
+        let later : Next = past_names next (names_of_stmt s) in
+        let later' : Next = past_names next' (names_of_stmt (S b s)) in
+        let j : StmtGoes p sites e f a b b' next next' k s = stmt_goes s e f w a b b' next next' k n.0 t.0 (found_first names k xs ys h) r m in
+        let i : Near b1 c1 → StmtsGoes e f a b1 c1 later later' (k + length (types_of xs)) ss = (λ v. stmts_go ss e f w a b1 c1 later later' (k + length (types_of xs)) n.1 t.1 (found_rest names k xs ys h) v (stmt_numbers b.sites s next next' n.0 m)) in
+        record {
+          laid = subst (λ ts. StatementTreeFollow p k ts (stmts e a b next (more_stmts s ss)) (stmts f a b' next' (more_stmts (S b s) ss'))) (sym (types_both xs ys))
+              (one_follows p k (types_of xs) (types_of ys) (stmt e a b next s) (stmt f a b' next' (S b s)) (stmts e a b1 later ss) (stmts f a c1 later' ss') j.laid (λ q g. (i (j.near q g)).laid));
+          near = both_near (stmt e a b next s) (stmts e a b1 later ss) _ _
+              (λ q v g l. near_both b b' (calls_of_stmt s) (calls_of_stmts ss) (calls_of_stmt (S b s)) (calls_of_stmts ss') (held_by_stmt e next s) (held_by_stmts e later ss) (held_by_stmt f next' (S b s)) (held_by_stmts f later' ss') ((i (j.near q g)).near v l));
+        }
+
+    groups_go : (gs : Groups) (e f : Env) → StandBeside p names e f → (a : Around) (b b' : Before) (next next' : Next) (k : ℕ) (i : IntType) → GroupsNamed sites b.sites gs → GroupsTabled p sites e b next gs → AreFound names k (instrumented_unit.kept_of_groups sites b.sites gs) → Near b b' → SameNumber next next' → GroupsGoes e f a b b' next next' k i gs
+    groups_go no_groups e f w a b b' next next' k i n t h r m = record { laid = (typed.no_groups, refl, refl, refl, refl); near = λ q g. near_none b b' r }
+    groups_go (more_groups ls ss gs) e f w a b b' next next' k i n t h r m =
+        let xs : List Temporary = instrumented_unit.kept_of_stmts sites b.sites ss in
+        let ys : List Temporary = instrumented_unit.kept_of_groups sites (b.sites + calls_of_stmts ss) gs in
+        let ss' : Stmts = instrumented_unit.stmts sites b.sites ss in
+        let gs' : Groups = instrumented_unit.groups sites (b.sites + calls_of_stmts ss) gs in
+        let b1 : Before = after_stmts e b next ss in
+        let c1 : Before = after_stmts f b' next' ss' in
+        let later : Next = past_names next (names_of_stmts ss) in
+        let later' : Next = past_names next' (names_of_stmts ss') in
+        let j : StmtsGoes e f a b b' next next' k ss = stmts_go ss e f w a b b' next next' k n.0 t.0 (found_first names k xs ys h) r m in
+        let l : Near b1 c1 → GroupsGoes e f a b1 c1 later later' (k + length (types_of xs)) i gs = (λ v. groups_go gs e f w a b1 c1 later later' (k + length (types_of xs)) i n.1 t.1 (found_rest names k xs ys h) v (stmts_numbers ss b.sites next next' n.0 m)) in
+        record {
+          laid = subst (λ ts. GroupsFollow p k ts (groups_of_switch e a b next i (more_groups ls ss gs)) (groups_of_switch f a b' next' i (more_groups ls ss' gs'))) (sym (types_both xs ys))
+              (group_follows p k (types_of xs) (types_of ys) (labels_of e i ls) (labels_of f i ls) (stmts e a b next ss) (stmts f a b' next' ss') (groups_of_switch e a b1 later i gs) (groups_of_switch f a c1 later' i gs')
+              (λ vs q. fine_leads (labels_of e i ls) (labels_of f i ls) vs (labels_lead e f (stand_scopes p names e f w) i ls) q) j.laid (λ q g. (l (j.near q g)).laid));
+          near = three_near (labels_of e i ls) (stmts e a b next ss) (groups_of_switch e a b1 later i gs) _ _
+              (λ _ q v _ g o. near_both b b' (calls_of_stmts ss) (calls_of_groups gs) (calls_of_stmts ss') (calls_of_groups gs') (held_by_stmts e next ss) (held_by_groups e later gs) (held_by_stmts f next' ss') (held_by_groups f later' gs') ((l (j.near q g)).near v o));
+        }
+
+-- where declarations go
+pub statements_go_with : BlocksStandBeside → TemporariesStay → NumbersStay → DeclarationsGo → FirstsGo → StatementsGo
+statements_go_with blocks stay numbers decls firsts p sites names e f w a b b' next next' k s n t h r m = stmt_goes blocks stay numbers decls firsts p sites names s e f w a b b' next next' k n t h r m
+
+pub blocks_go_with : BlocksStandBeside → TemporariesStay → NumbersStay → DeclarationsGo → FirstsGo → BlocksGo
+blocks_go_with blocks stay numbers decls firsts p sites names e f w a b b' next next' k is n t h r m = block_goes blocks stay numbers decls firsts p sites names is e f w a b b' next next' k n t h r m
+
+pub statements_go : StatementsGo
+statements_go = statements_go_with blocks_stand_beside temporaries_stay numbers_stay declarations_go firsts_go
+
+pub blocks_go : BlocksGo
+blocks_go = blocks_go_with blocks_stand_beside temporaries_stay numbers_stay declarations_go firsts_go

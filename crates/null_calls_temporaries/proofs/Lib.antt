@@ -1,0 +1,4 @@
+pub mod SiteLemmas
+pub mod NameLemmas
+pub mod SpelledLemmas
+pub mod KeptLemmas

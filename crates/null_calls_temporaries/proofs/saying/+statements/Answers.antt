@@ -1,0 +1,37 @@
+use Rattle.std.proofs.Common.{◌++◌, ◌∙◌, ap, sym}
+use Rattle.std.proofs.lemmas.List.{append_assoc}
+use Rattle.c_tree.specs.View.{expr_of, maybe_of, stmt_of, stmts_of, groups_of}
+use Rattle.c_tree.specs.declared.tree.TGroup.{TGroup}
+use Rattle.c_shapes.specs.Mentions.{mentions, mentions_of_maybe, mentions_of_stmt, mentions_of_stmts, mentions_of_groups}
+use Rattle.null_calls_temporaries.specs.Saying.{said}
+use Rattle.call_graph.proofs.SayingLemmas.{of_block, of_for, of_switch, stmts_flat, groups_flat, all_of_flat, on_same, then_on, two_parts}
+use Rattle.null_calls_temporaries.proofs.saying.+statements.Goals as goal
+
+pub add_groups-returns : goal.add_groups-returns
+add_groups-returns t c = all_of_flat (λ (g : TGroup). mentions_of_stmts (stmts_of g.body.items)) c.args.groups.now c.loop-group.group-index (said c.args.into.now.items) (said c.loop-group.into.items) c.loop-group-test.false c.loop-group.invariant ∙ ap (λ ms. said c.args.into.now.items ++ ms) (sym (groups_flat c.args.groups.now))
+
+pub add_statement-returns-in-Block : goal.add_statement-returns-in-Block
+add_statement-returns-in-Block t c = on_same c.add_statements.result (said c.args.into.now.items) (said c.add_statements.new.into.items) (mentions_of_stmt (stmt_of c.args.s.now)) (mentions_of_stmts (stmts_of c.deref.result.now)) (of_block c.args.s.now c.in-Block.ss c.in-Block.is ∙ ap (λ ss. mentions_of_stmts (stmts_of ss)) (sym c.deref.ensures.value)) c.add_statements.ensures
+
+pub add_statement-returns-in_ok-add_maybe-in-For-2 : goal.add_statement-returns-in_ok-add_maybe-in-For-2
+add_statement-returns-in_ok-add_maybe-in-For-2 t c = let i = c.in-For in
+    let old = said c.args.into.now.items in
+    let one = said c.add_statements-in-For.new.into.items in
+    let two = said c.add_maybe.new.into.items in
+    let three = said c.add_maybe-in-For.new.into.items in
+    let first = mentions_of_stmts (stmts_of i.first.items) in
+    let test = mentions_of_maybe (maybe_of i.test) in
+    let step = mentions_of_maybe (maybe_of i.step) in
+    let body = mentions_of_stmt (stmt_of c.deref-in-For-2.result.now) in
+    let begin = c.in_ok-add_statements-in-For.ensures ∙ ap (λ ss. old ++ mentions_of_stmts (stmts_of ss)) c.deref-in-For.ensures.value in
+    let all = two_parts old one three first (test ++ step) begin (two_parts one two three test step c.in_ok-add_maybe-in-For.ensures c.in_ok-add_maybe-in-For-2.ensures) in
+    then_on c.add_statement-in-For.result old three (said c.add_statement-in-For.new.into.items) (first ++ (test ++ step)) body (mentions_of_stmt (stmt_of c.args.s.now)) all
+    (of_for c.args.s.now i.first i.test i.step i.body i.is ∙ ap (λ s. first ++ (test ++ (step ++ mentions_of_stmt (stmt_of s)))) (sym c.deref-in-For-2.ensures) ∙ ap (λ ms. first ++ ms) (sym (append_assoc test step body)) ∙ sym (append_assoc first (test ++ step) body)) c.add_statement-in-For.ensures
+
+pub add_statement-returns-in_ok-add_expression-in-Switch : goal.add_statement-returns-in_ok-add_expression-in-Switch
+add_statement-returns-in_ok-add_expression-in-Switch t c = let i = c.in-Switch in
+    then_on c.add_groups.result (said c.args.into.now.items) (said c.add_expression-in-Switch.new.into.items) (said c.add_groups.new.into.items) (mentions (expr_of i.on)) (mentions_of_groups (groups_of c.deref-in-Switch.result.now)) (mentions_of_stmt (stmt_of c.args.s.now)) c.in_ok-add_expression-in-Switch.ensures
+    (of_switch c.args.s.now i.on i.groups i.is ∙ ap (λ gs. mentions (expr_of i.on) ++ mentions_of_groups (groups_of gs)) (sym c.deref-in-Switch.ensures.value)) c.add_groups.ensures
+
+pub add_statements-returns : goal.add_statements-returns
+add_statements-returns t c = all_of_flat (λ s. mentions_of_stmt (stmt_of s)) c.args.ss.now c.loop-s.s-index (said c.args.into.now.items) (said c.loop-s.into.items) c.loop-s-test.false c.loop-s.invariant ∙ ap (λ ms. said c.args.into.now.items ++ ms) (sym (stmts_flat c.args.ss.now))

@@ -1,0 +1,4 @@
+pub mod Kept
+pub mod Saying
+pub mod Sited
+pub mod Spelled

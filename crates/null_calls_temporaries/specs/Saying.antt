@@ -1,0 +1,43 @@
+-- For private contracts and proofs alone: what the code's mentions stand for.
+use Rattle.std.specs.Prelude.{ℕ, ◌<◌, Bool, true, false, nat_eq, List, map, Option, None, Some, if◌then◌else◌}
+use Rattle.c_tree.specs.Tree.{Program}
+use Rattle.c_tree.specs.Functions.{defined}
+use Rattle.c_tree.specs.View.{ctype_of}
+use Rattle.c_shapes.specs.Mentions as term
+use Rattle.c_shapes.specs.Mentions.{Callee, Direct, Through}
+use Rattle.null_calls_temporaries.specs.declared.mention.Mention.{Mention}
+use Rattle.null_calls_temporaries.specs.declared.mention.Mention.TheVariants as m
+use Rattle.null_calls_temporaries.specs.declared.callees.Designator.{Designator}
+use Rattle.null_calls_temporaries.specs.declared.callees.Designator.TheVariants as d
+
+abbrev pub mention_of : Mention → term.Mention
+mention_of (m.Named f) = term.Named f
+mention_of (m.Direct s f) = term.Calls s (Direct f)
+mention_of (m.Through s t) = term.Calls s (Through (ctype_of t.now))
+
+abbrev pub said : List Mention → List term.Mention
+said ms = map mention_of ms
+
+-- what is called
+abbrev pub callee_of : Designator → Callee
+callee_of (d.Function f) = Direct f
+callee_of (d.Pointer t) = Through (ctype_of t.now)
+
+abbrev pub callee_where : Option Designator → Option Callee
+callee_where None = None
+callee_where (Some x) = Some (callee_of x)
+
+-- the first where the test holds, else the second
+abbrev pub put_where : Bool → Designator → Option Designator → Option Designator
+put_where true x y = Some x
+put_where false x y = y
+
+-- what is called at a site, where a mention stands before others
+abbrev pub callee_after : ℕ → term.Mention → Option Callee → Option Callee
+callee_after s (term.Named f) rest = rest
+callee_after s (term.Calls r callee) rest = if nat_eq s r then Some callee else rest
+
+-- a function that is called by its name is a defined one
+abbrev pub IsDefinedWhere : Program → Callee → Type 0
+IsDefinedWhere p (Direct f) = f < defined p
+IsDefinedWhere p (Through t) = Unit {0}

@@ -1,0 +1,178 @@
+-- What stands in expressions and statements with null calls round their marked calls.
+use Rattle.std.proofs.Common.{ℕ, suc, ◌+◌, ◌<◌, Bool, true, false, Option, None, Some}
+use Rattle.c_tree.specs.Tree.{CType}
+use Rattle.c_syntax.specs.Tree.{Expr, a_name, an_int, a_char, a_str, comma, sizeof_type, cast, call, member, postfix, prefix, unary, index, binary, assign, conditional, Exprs, no_exprs, more_exprs, Maybe, absent, there}
+use Rattle.c_syntax.specs.Tree.{pre_increment, pre_decrement, sizeof}
+use Rattle.c_syntax.specs.Tree.{Init, one, list, Inits, no_inits, more_inits, MaybeInit, no_init, an_init, Parts, no_parts, more_parts, Decl, decl, First, first_absent, first_expr, first_decl}
+use Rattle.c_syntax.specs.Tree.{Stmt, block, empty, evaluate, only_if, if_else, while_loop, do_loop, for_loop, switch_on, break_off, continue_on, return_from, BlockItems, no_block_items, block_decl, block_stmt, Stmts, no_stmts, more_stmts, Groups, no_groups, more_groups}
+use Rattle.c_rules.specs.Counts.{calls, calls_of_maybe}
+use Rattle.c_rules.specs.Initialisers.{calls_of_init, calls_of_maybe_init}
+use Rattle.c_rules.specs.Variables.{calls_of_decl, calls_of_first, calls_of_stmt, calls_of_stmts}
+use Rattle.null_calls_rules.specs.MarkedCalls.{Called, Sites}
+use Rattle.null_calls_rules.specs.Temporaries.{pre_name, is_kept}
+use Rattle.null_calls_rules.specs.InstrumentedExpressions.{is_void_type, keep_designator, keep_arguments, kept_arguments, kept_designator, null_call, call_and_post, call_where, expr, arguments, members, maybe}
+use Rattle.null_calls_rules.specs.InstrumentedStatements as new
+use Rattle.c_rules_laws.specs.Lexical.{AreSomeExprs, IsLexical, AreLexical, IsMaybeLexical, IsInitLexical, AreInitsLexical, IsMaybeInitLexical, ArePartsLexical, IsDeclLexical, IsFirstLexical, IsStmtLexical, AreItemsLexical, AreStmtsLexical, AreGroupsLexical}
+use Rattle.null_calls_counts_laws.proofs.ExpressionHeights.{Operand, by_type, by_unary}
+use Rattle.null_calls_texts_laws.proofs.Writable.{FitsWhere}
+
+-- ## A marked call
+
+some_kept : (at site i : ℕ) (es rest : Exprs) → AreSomeExprs rest → AreSomeExprs (keep_arguments at site i es rest)
+some_kept at site i no_exprs rest h = h
+some_kept at site i (more_exprs e es) rest h = tt
+
+kept_lexical : (at site i : ℕ) (es rest : Exprs) → AreLexical es → AreLexical rest → AreLexical (keep_arguments at site i es rest)
+kept_lexical at site i no_exprs rest h k = k
+kept_lexical at site i (more_exprs e es) rest h k = ((tt, h.0), kept_lexical at site (suc i) es rest h.1 k)
+
+names_lexical : (at site i : ℕ) (es : Exprs) → AreLexical (kept_arguments at site i es)
+names_lexical at site i no_exprs = tt
+names_lexical at site i (more_exprs e es) = (tt, names_lexical at site (suc i) es)
+
+post_lexical : (at site : ℕ) (k : Bool) (e : Expr) → site < 4294967296 → IsLexical e → AreLexical (call_and_post at site k e)
+post_lexical at site true e f h = ((tt, h), ((tt, (f, tt)), (tt, tt)))
+post_lexical at site false e f h = (h, ((tt, (f, tt)), tt))
+
+designator_lexical : (at site : ℕ) (o : Option CType) (d : Expr) (rest : Exprs) → IsLexical d → AreLexical rest → AreLexical (keep_designator at site o d rest)
+designator_lexical at site None d rest h k = k
+designator_lexical at site (Some t) d rest h k = ((tt, h), k)
+
+some_designator : (at site : ℕ) (o : Option CType) (d : Expr) (rest : Exprs) → AreSomeExprs rest → AreSomeExprs (keep_designator at site o d rest)
+some_designator at site None d rest h = h
+some_designator at site (Some t) d rest h = tt
+
+called_lexical : (at site : ℕ) (o : Option CType) (d : Expr) → IsLexical d → IsLexical (kept_designator at site o d)
+called_lexical at site None d h = h
+called_lexical at site (Some t) d h = tt
+
+call_lexical : (at site : ℕ) (wanted : Bool) (o : Option Called) (d : Expr) (es : Exprs) → FitsWhere o site → IsLexical d → AreLexical es → IsLexical (call_where at site wanted o d es)
+call_lexical at site wanted None d es f h k = (h, k)
+call_lexical at site wanted (Some c) d es f h k =
+    let keep : Bool = is_kept wanted c.returns in
+    let inner : Expr = call at (kept_designator at site c.pointer_type d) (kept_arguments at site 0 es) in
+    let last : Exprs = more_exprs (null_call at pre_name site) (call_and_post at site keep inner) in
+    let all : Exprs = keep_arguments at site 0 es last in (
+      some_designator at site c.pointer_type d all (some_kept at site 0 es last tt),
+      designator_lexical at site c.pointer_type d all h (kept_lexical at site 0 es last k ((tt, (f, tt)), post_lexical at site keep inner f (called_lexical at site c.pointer_type d h, names_lexical at site 0 es))),
+    )
+
+some_members : (sites : Sites) (es : Exprs) (b : ℕ) (wanted : Bool) → AreSomeExprs es → AreSomeExprs (members sites b wanted es)
+some_members sites no_exprs b wanted h = absurd h
+some_members sites (more_exprs e no_exprs) b wanted h = tt
+some_members sites (more_exprs e (more_exprs f es)) b wanted h = tt
+
+-- ## Expressions
+
+module _ (sites : Sites) (fit : (s : ℕ) → FitsWhere (sites s) s) where
+  mutual
+    expr_lexical : (x : Expr) (b : ℕ) (wanted : Bool) → IsLexical x → IsLexical (expr sites b wanted x)
+    expr_lexical (a_name at x) b wanted h = h
+    expr_lexical (an_int at n u) b wanted h = h
+    expr_lexical (a_char at c) b wanted h = h
+    expr_lexical (a_str at w) b wanted h = h
+    expr_lexical (comma at es) b wanted h = (some_members sites es b wanted h.0, members_lexical es b wanted h.1)
+    expr_lexical (sizeof_type at t) b wanted h = h
+    expr_lexical (cast at t e) b wanted h = by_type IsLexical (is_void_type t) (expr sites b false e) (expr sites b true e) (expr_lexical e b false h) (expr_lexical e b true h)
+    expr_lexical (call at d es) b wanted h = call_lexical at (b + calls d) wanted (sites (b + calls d)) (expr sites b true d) (arguments sites (suc (b + calls d)) es) (fit (b + calls d)) (expr_lexical d b true h.0) (arguments_lexical es (suc (b + calls d)) h.1)
+    expr_lexical (member at how e x) b wanted h = expr_lexical e b true h
+    expr_lexical (postfix at op e) b wanted h = expr_lexical e b true h
+    expr_lexical (prefix at pre_increment e) b wanted h = expr_lexical e b true h
+    expr_lexical (prefix at pre_decrement e) b wanted h = expr_lexical e b true h
+    expr_lexical (prefix at sizeof e) b wanted h = h
+    expr_lexical (unary at op e) b wanted h = by_unary IsLexical sites at op e b wanted (expr_lexical e b true h) (operand_lexical e b h)
+    expr_lexical (index at e f) b wanted h = (expr_lexical e b true h.0, expr_lexical f (b + calls e) true h.1)
+    expr_lexical (binary at op e f) b wanted h = (expr_lexical e b true h.0, expr_lexical f (b + calls e) true h.1)
+    expr_lexical (assign at op e f) b wanted h = (expr_lexical e b true h.0, expr_lexical f (b + calls e) true h.1)
+    expr_lexical (conditional at c e f) b wanted h = (expr_lexical c b true h.0, expr_lexical e (b + calls c) true h.1, expr_lexical f (b + calls c + calls e) true h.2)
+
+    operand_lexical : (x : Expr) (b : ℕ) → IsLexical x → Operand IsLexical sites b x
+    operand_lexical (a_name at x) b h = tt
+    operand_lexical (an_int at n u) b h = tt
+    operand_lexical (a_char at c) b h = tt
+    operand_lexical (a_str at w) b h = tt
+    operand_lexical (comma at es) b h = tt
+    operand_lexical (sizeof_type at t) b h = tt
+    operand_lexical (cast at t e) b h = tt
+    operand_lexical (call at d es) b h = tt
+    operand_lexical (member at how e x) b h = tt
+    operand_lexical (postfix at op e) b h = tt
+    operand_lexical (prefix at op e) b h = tt
+    operand_lexical (unary at op e) b h = expr_lexical e b false h
+    operand_lexical (index at e f) b h = tt
+    operand_lexical (binary at op e f) b h = tt
+    operand_lexical (assign at op e f) b h = tt
+    operand_lexical (conditional at c e f) b h = tt
+
+    arguments_lexical : (es : Exprs) (b : ℕ) → AreLexical es → AreLexical (arguments sites b es)
+    arguments_lexical no_exprs b h = tt
+    arguments_lexical (more_exprs e es) b h = (expr_lexical e b true h.0, arguments_lexical es (b + calls e) h.1)
+
+    members_lexical : (es : Exprs) (b : ℕ) (wanted : Bool) → AreLexical es → AreLexical (members sites b wanted es)
+    members_lexical no_exprs b wanted h = tt
+    members_lexical (more_exprs e no_exprs) b wanted h = (expr_lexical e b wanted h.0, tt)
+    members_lexical (more_exprs e (more_exprs f es)) b wanted h = (expr_lexical e b false h.0, members_lexical (more_exprs f es) (b + calls e) wanted h.1)
+
+  maybe_lexical : (m : Maybe) (b : ℕ) (wanted : Bool) → IsMaybeLexical m → IsMaybeLexical (maybe sites b wanted m)
+  maybe_lexical absent b wanted h = tt
+  maybe_lexical (there e) b wanted h = expr_lexical e b wanted h
+
+  -- ## Statements
+
+  mutual
+    init_lexical : (i : Init) (b : ℕ) → IsInitLexical i → IsInitLexical (new.init sites b i)
+    init_lexical (one at e) b h = expr_lexical e b true h
+    init_lexical (list at is) b h = inits_lexical is b h
+
+    inits_lexical : (is : Inits) (b : ℕ) → AreInitsLexical is → AreInitsLexical (new.inits sites b is)
+    inits_lexical no_inits b h = tt
+    inits_lexical (more_inits i is) b h = (init_lexical i b h.0, inits_lexical is (b + calls_of_init i) h.1)
+
+  maybe_init_lexical : (m : MaybeInit) (b : ℕ) → IsMaybeInitLexical m → IsMaybeInitLexical (new.maybe_init sites b m)
+  maybe_init_lexical no_init b h = tt
+  maybe_init_lexical (an_init i) b h = init_lexical i b h
+
+  parts_lexical : (ps : Parts) (b : ℕ) → ArePartsLexical ps → ArePartsLexical (new.parts sites b ps)
+  parts_lexical no_parts b h = tt
+  parts_lexical (more_parts d m ps) b h = (maybe_init_lexical m b h.0, parts_lexical ps (b + calls_of_maybe_init m) h.1)
+
+  decl_lexical : (d : Decl) (b : ℕ) → IsDeclLexical d → IsDeclLexical (new.declaration sites b d)
+  decl_lexical (decl at class s ps) b h = parts_lexical ps b h
+
+  first_lexical : (f : First) (b : ℕ) → IsFirstLexical f → IsFirstLexical (new.first sites b f)
+  first_lexical first_absent b h = tt
+  first_lexical (first_expr e) b h = expr_lexical e b false h
+  first_lexical (first_decl d) b h = decl_lexical d b h
+
+  mutual
+    stmt_lexical : (s : Stmt) (b : ℕ) → IsStmtLexical s → IsStmtLexical (new.stmt sites b s)
+    stmt_lexical (block at is) b h = block_lexical is b h
+    stmt_lexical (empty at) b h = tt
+    stmt_lexical (evaluate at e) b h = expr_lexical e b false h
+    stmt_lexical (only_if at e s) b h = (expr_lexical e b true h.0, stmt_lexical s (b + calls e) h.1)
+    stmt_lexical (if_else at e s t) b h = (expr_lexical e b true h.0, stmt_lexical s (b + calls e) h.1, stmt_lexical t (b + calls e + calls_of_stmt s) h.2)
+    stmt_lexical (while_loop at e s) b h = (expr_lexical e b true h.0, stmt_lexical s (b + calls e) h.1)
+    stmt_lexical (do_loop at s e) b h = (stmt_lexical s b h.0, expr_lexical e (b + calls_of_stmt s) true h.1)
+    stmt_lexical (for_loop at f test step s) b h = (
+      first_lexical f b h.0,
+      maybe_lexical test (b + calls_of_first f) true h.1,
+      maybe_lexical step (b + calls_of_first f + calls_of_maybe test) false h.2,
+      stmt_lexical s (b + calls_of_first f + calls_of_maybe test + calls_of_maybe step) h.3,
+    )
+    stmt_lexical (switch_on at e gs) b h = (expr_lexical e b true h.0, groups_lexical gs (b + calls e) h.1)
+    stmt_lexical (break_off at) b h = tt
+    stmt_lexical (continue_on at) b h = tt
+    stmt_lexical (return_from at m) b h = maybe_lexical m b true h
+
+    pub block_lexical : (is : BlockItems) (b : ℕ) → AreItemsLexical is → AreItemsLexical (new.items_of_block sites b is)
+    block_lexical no_block_items b h = tt
+    block_lexical (block_decl d is) b h = (decl_lexical d b h.0, block_lexical is (b + calls_of_decl d) h.1)
+    block_lexical (block_stmt s is) b h = (stmt_lexical s b h.0, block_lexical is (b + calls_of_stmt s) h.1)
+
+    stmts_lexical : (ss : Stmts) (b : ℕ) → AreStmtsLexical ss → AreStmtsLexical (new.stmts sites b ss)
+    stmts_lexical no_stmts b h = tt
+    stmts_lexical (more_stmts s ss) b h = (stmt_lexical s b h.0, stmts_lexical ss (b + calls_of_stmt s) h.1)
+
+    groups_lexical : (gs : Groups) (b : ℕ) → AreGroupsLexical gs → AreGroupsLexical (new.groups sites b gs)
+    groups_lexical no_groups b h = tt
+    groups_lexical (more_groups ls ss gs) b h = (stmts_lexical ss b h.0, groups_lexical gs (b + calls_of_stmts ss) h.1)

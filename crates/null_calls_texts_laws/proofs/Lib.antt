@@ -1,0 +1,11 @@
+pub mod Fine
+pub mod Names
+pub mod Sites
+pub mod Spelled
+pub mod Tags
+pub mod Texts
+pub mod Units
+pub mod Writable
+pub mod Instrumented
+pub mod LexicalUnits
+pub mod InstrumentedTexts

@@ -1,0 +1,204 @@
+-- The declarations of temporaries: they have the grammar's forms, what they are written with are tokens, and their nodes stand at most 65
+-- deep in each other (C99 6.7.5, 5.2.4.1).
+use Rattle.std.proofs.Common.{◌≡◌, ◌⊎◌, inl, inr, ℕ, ◌+◌, ◌≤◌, max, true, false, List, [], ◌∷◌, refl, true≢false, sym, subst, arith}
+use Rattle.std.specs.Prelude.{nat_le, slice_index_or}
+use Rattle.std.proofs.lemmas.Bool.Decides.{nat_tests}
+use Rattle.dm_base.specs.Name.{IsName}
+use Rattle.c_tree.specs.declared.value.IntType.{IntType}
+use Rattle.c_tree.specs.declared.value.IntType.TheVariants.{Char, Uchar, Int, Uint}
+use Rattle.c_tree.specs.Tree.{CType, void, integer, array, struct, CTypes, no_types, more_types}
+use Rattle.c_tree.specs.Tree as typed
+use Rattle.c_syntax.specs.Tree.{Spec, Declarator, nothing, named, pointer, function, Params, more_params, BlockItems}
+use Rattle.c_syntax.specs.Tree as syntax
+use Rattle.c_syntax.specs.Grammar.{HasName, AreSome}
+use Rattle.c_syntax.specs.Limits.{height_of_declarator, height_of_params, height_of_block_items}
+use Rattle.c_syntax.proofs.Fine.{IsFineDeclarator, IsParameterList, AreFineParams}
+use Rattle.c_syntax.proofs.FineUnits.{AreFineBlockItems}
+use Rattle.c_rules.specs.Limits.{most_parts}
+use Rattle.c_rules.specs.Names.{Name}
+use Rattle.c_rules.specs.Types.{is_scalar, is_result, parts, parts_of_all}
+use Rattle.null_calls_rules.specs.SpelledTypes.{integer_spec, spec_of, declarator_of, params_of}
+use Rattle.null_calls_rules.specs.Temporaries.{Temporary, declared_before, designator_name, argument_name, result_name}
+use Rattle.null_calls_units_laws.specs.Spelled.{is_pointee}
+use Rattle.c_rules_laws.specs.MadeTypes.{NotArray}
+use Rattle.c_syntax_laws.specs.Writable.{IsWritableSpec, IsWritableDeclarator, AreWritableParams, AreWritableBlockItems}
+use Rattle.null_calls_units_laws.specs.WrittenTypes.{Written, AllWritten}
+use Rattle.null_calls_units_laws.specs.Scopes.{AreWrittenTemporaries, AreOfSites}
+use Rattle.null_calls_texts_laws.proofs.Names.{designator_named, argument_named, result_named}
+use Rattle.null_calls_texts_laws.proofs.Tags.{AllNames, among_named}
+
+at_most : (a b : ℕ) → nat_le a b ≡ true → a ≤ b
+at_most a b h = grind (arith, nat_tests)
+
+-- ## No arrays
+
+scalar_is : (t : CType) → is_scalar t ≡ true → NotArray t
+scalar_is void h = tt
+scalar_is (integer i) h = tt
+scalar_is (typed.pointer t) h = tt
+scalar_is (array t n) h = true≢false (sym h)
+scalar_is (struct s) h = tt
+scalar_is (typed.function r ts) h = tt
+
+result_is : (t : CType) → is_result t ≡ true → NotArray t
+result_is void h = tt
+result_is (integer i) h = tt
+result_is (typed.pointer t) h = tt
+result_is (array t n) h = true≢false (sym h)
+result_is (struct s) h = tt
+result_is (typed.function r ts) h = tt
+
+pointee_is : (t : CType) → is_pointee t ≡ true → NotArray t
+pointee_is void h = tt
+pointee_is (integer i) h = tt
+pointee_is (typed.pointer t) h = tt
+pointee_is (array t n) h = true≢false (sym h)
+pointee_is (struct s) h = tt
+pointee_is (typed.function r ts) h = tt
+
+-- ## Forms
+
+name_of_site : (x : Temporary) (site i : ℕ) → (x.name ≡ designator_name site) ⊎ ((x.name ≡ argument_name site i) ⊎ (x.name ≡ result_name site)) → IsName x.name
+name_of_site x site i (inl e) = subst IsName (sym e) (designator_named site)
+name_of_site x site i (inr (inl e)) = subst IsName (sym e) (argument_named site i)
+name_of_site x site i (inr (inr e)) = subst IsName (sym e) (result_named site)
+
+abbrev IsThere : Declarator → Type 0
+IsThere nothing = ⊥
+IsThere d = Unit {0}
+
+module _ (tags : List Name) (at : ℕ) where
+  stays_there : (t : CType) (d : Declarator) → IsThere d → IsThere (declarator_of tags at t d)
+  stays_there void d h = h
+  stays_there (integer i) d h = h
+  stays_there (struct s) d h = h
+  stays_there (typed.pointer t) d h = stays_there t (pointer at d) tt
+  stays_there (array t n) d h = stays_there t (syntax.array at d (syntax.there (syntax.an_int at n false))) tt
+  stays_there (typed.function t ts) d h = stays_there t (function at d (params_of tags at ts)) tt
+
+  named_still : (t : CType) (d : Declarator) → HasName d → HasName (declarator_of tags at t d)
+  named_still void d h = h
+  named_still (integer i) d h = h
+  named_still (struct s) d h = h
+  named_still (typed.pointer t) d h = named_still t (pointer at d) h
+  named_still (array t n) d h = named_still t (syntax.array at d (syntax.there (syntax.an_int at n false))) h
+  named_still (typed.function t ts) d h = named_still t (function at d (params_of tags at ts)) h
+
+  -- a parameter isn't void
+  some_there : (s : Spec) (d : Declarator) (ps : Params) → IsThere d → AreSome (more_params at s d ps)
+  some_there syntax.void nothing ps h = absurd h
+  some_there syntax.void (named x y) ps h = tt
+  some_there syntax.void (pointer x y) ps h = tt
+  some_there syntax.void (syntax.array x y z) ps h = tt
+  some_there syntax.void (function x y z) ps h = tt
+  some_there syntax.char d ps h = tt
+  some_there syntax.unsigned_char d ps h = tt
+  some_there syntax.int d ps h = tt
+  some_there syntax.unsigned_int d ps h = tt
+  some_there (syntax.struct x) d ps h = tt
+  some_there (syntax.enum x) d ps h = tt
+
+  some_integer : (i : IntType) (ps : Params) → AreSome (more_params at (integer_spec i) nothing ps)
+  some_integer Char ps = tt
+  some_integer Uchar ps = tt
+  some_integer Int ps = tt
+  some_integer Uint ps = tt
+
+  some_scalar : (t : CType) (ps : Params) → is_scalar t ≡ true → AreSome (more_params at (spec_of tags at t) (declarator_of tags at t nothing) ps)
+  some_scalar void ps h = absurd (true≢false (sym h))
+  some_scalar (integer i) ps h = some_integer i ps
+  some_scalar (typed.pointer t) ps h = some_there (spec_of tags at t) (declarator_of tags at t (pointer at nothing)) ps (stays_there t (pointer at nothing) tt)
+  some_scalar (array t n) ps h = absurd (true≢false (sym h))
+  some_scalar (struct s) ps h = absurd (true≢false (sym h))
+  some_scalar (typed.function r ts) ps h = absurd (true≢false (sym h))
+
+module _ (enums tags stood : List Name) (at : ℕ) where
+  parameter_list : (ts : CTypes) → AllWritten enums tags stood ts → IsParameterList (params_of tags at ts)
+  parameter_list no_types h = tt
+  parameter_list (more_types t ts) h = some_scalar tags at t (params_of tags at ts) h.0
+
+  mutual
+    fine : (t : CType) (d : Declarator) → Written enums tags stood t → IsFineDeclarator d → IsFineDeclarator (declarator_of tags at t d)
+    fine void d h f = f
+    fine (integer i) d h f = f
+    fine (struct s) d h f = f
+    fine (typed.pointer t) d h f = fine t (pointer at d) h.2 f
+    fine (array t n) d h f = fine t (syntax.array at d (syntax.there (syntax.an_int at n false))) h.2 (f, tt)
+    fine (typed.function t ts) d h f = fine t (function at d (params_of tags at ts)) h.3 (f, parameter_list ts h.4, fine_params ts h.4)
+
+    fine_params : (ts : CTypes) → AllWritten enums tags stood ts → AreFineParams (params_of tags at ts)
+    fine_params no_types h = tt
+    fine_params (more_types t ts) h = (fine t nothing h.2 tt, fine_params ts h.3)
+
+  -- ## Words
+
+  module _ (names : AllNames stood) where
+    spec_writes : (t : CType) → Written enums tags stood t → IsWritableSpec (spec_of tags at t)
+    spec_writes void h = tt
+    spec_writes (integer Char) h = tt
+    spec_writes (integer Uchar) h = tt
+    spec_writes (integer Int) h = tt
+    spec_writes (integer Uint) h = tt
+    spec_writes (struct s) h = among_named stood (slice_index_or tags s []) names h.2
+    spec_writes (typed.pointer t) h = spec_writes t h.2
+    spec_writes (array t n) h = spec_writes t h.2
+    spec_writes (typed.function t ts) h = spec_writes t h.3
+
+    mutual
+      writes : (t : CType) (d : Declarator) → NotArray t → Written enums tags stood t → IsWritableDeclarator d → IsWritableDeclarator (declarator_of tags at t d)
+      writes void d n h w = w
+      writes (integer i) d n h w = w
+      writes (struct s) d n h w = w
+      writes (typed.pointer t) d n h w = writes t (pointer at d) (pointee_is t h.0) h.2 w
+      writes (array t k) d n h w = absurd n
+      writes (typed.function t ts) d n h w = writes t (function at d (params_of tags at ts)) (result_is t h.0) h.3 (w, params_write ts h.4)
+
+      params_write : (ts : CTypes) → AllWritten enums tags stood ts → AreWritableParams (params_of tags at ts)
+      params_write no_types h = tt
+      params_write (more_types t ts) h = (spec_writes t h.2, writes t nothing (scalar_is t h.0) h.2 tt, params_write ts h.3)
+
+  -- ## Depth
+
+  mutual
+    low : (t : CType) (d : Declarator) → NotArray t → Written enums tags stood t → height_of_declarator (declarator_of tags at t d) ≤ parts t + height_of_declarator d
+    low void d n h = omega arith
+    low (integer i) d n h = omega arith
+    low (struct s) d n h = omega arith
+    low (typed.pointer t) d n h = (let k = low t (pointer at d) (pointee_is t h.0) h.2 in omega (arith, k))
+    low (array t k) d n h = absurd n
+    low (typed.function t ts) d n h = (let k = low t (function at d (params_of tags at ts)) (result_is t h.0) h.3 in let l = params_low ts h.4 in omega (arith, k, l))
+
+    params_low : (ts : CTypes) → AllWritten enums tags stood ts → height_of_params (params_of tags at ts) ≤ parts_of_all ts
+    params_low no_types h = omega arith
+    params_low (more_types t ts) h = (let k = low t nothing (scalar_is t h.0) h.2 in let l = params_low ts h.3 in omega (arith, k, l))
+
+  few : (t : CType) → is_scalar t ≡ true → Written enums tags stood t → parts t ≤ 64
+  few void h w = omega arith
+  few (integer i) h w = omega arith
+  few (typed.pointer t) h w = at_most (parts (typed.pointer t)) most_parts w.1
+  few (array t n) h w = absurd (true≢false (sym h))
+  few (struct s) h w = absurd (true≢false (sym h))
+  few (typed.function r ts) h w = absurd (true≢false (sym h))
+
+  -- ## Declarations of temporaries
+
+  pub declared_fine : (xs : List Temporary) (is : BlockItems) → AreWrittenTemporaries enums tags stood xs → AreFineBlockItems is → AreFineBlockItems (declared_before tags at xs is)
+  declared_fine [] is h f = f
+  declared_fine (x ∷ xs) is h f =
+      let d : Declarator = named at (record { name = x.name; at = at }) in
+      ((fine x.ctype d h.1 tt, named_still tags at x.ctype d tt, tt, tt), refl, declared_fine xs is h.2 f)
+
+  pub declared_write : AllNames stood → (lo n : ℕ) (xs : List Temporary) (is : BlockItems) → AreWrittenTemporaries enums tags stood xs → AreOfSites lo n xs → AreWritableBlockItems is → AreWritableBlockItems (declared_before tags at xs is)
+  declared_write names lo n [] is h s w = w
+  declared_write names lo n (x ∷ xs) is h s w =
+      let d : Declarator = named at (record { name = x.name; at = at }) in
+      ((spec_writes names x.ctype h.1, (writes names x.ctype d (scalar_is x.ctype h.0) h.1 (name_of_site x s.0.site s.0.argument s.0.named), tt, tt)), declared_write names lo n xs is h.2 s.1 w)
+
+  pub declared_low : (xs : List Temporary) (is : BlockItems) → AreWrittenTemporaries enums tags stood xs → height_of_block_items (declared_before tags at xs is) ≤ max 65 (height_of_block_items is)
+  declared_low [] is h = omega arith
+  declared_low (x ∷ xs) is h =
+      let d : Declarator = named at (record { name = x.name; at = at }) in
+      let k = low x.ctype d (scalar_is x.ctype h.0) h.1 in
+      let f = few x.ctype h.0 h.1 in
+      let l = declared_low xs is h.2 in
+      omega (arith, k, f, l)

@@ -1,0 +1,3 @@
+pub mod Instrumented
+pub mod Lexical
+pub mod Texts

@@ -1,0 +1,148 @@
+-- The temporaries of a body are new names, and mean the variables that their declarations declare.
+use Rattle.std.proofs.Common.{◌≡◌, ◌⊎◌, inl, inr, ℕ, suc, Bool, true, false, not, cond, if◌then◌else◌, List, [], ◌∷◌, ◌++◌, Option, Some, None, refl, ap, sym, subst, ◌∙◌, true≢false}
+use Rattle.std.specs.Prelude.{is_some, is_none, option_map, bytes_eq}
+use Rattle.std.proofs.lemmas.Slice.Eq.{bytes_eq-Decides}
+use Rattle.c_tree.specs.Tree.{Program}
+use Rattle.c_rules.specs.Checked.{Checked, fine, demand, and_also, Met, met}
+use Rattle.c_rules.specs.Codes.{C2, C11, C12}
+use Rattle.c_rules.specs.Names.{Name, number_among, is_among, is_reserved, is_added, null_calls, system_calls}
+use Rattle.c_rules.specs.Scopes.{Env, Binding, a_local, lookup, at_depth}
+use Rattle.c_rules.specs.Declarators.{new_name}
+use Rattle.null_calls_rules.specs.Temporaries.{Temporary, pre_name, post_name, designator_name, argument_name, result_name}
+use Rattle.null_calls_units_laws.specs.Declarations.{with_temporaries, AreNew}
+use Rattle.null_calls_units_laws.specs.TemporaryNames.{IsFreeName}
+use Rattle.null_calls_units_laws.proofs.NameLemmas.{names_are_free}
+use Rattle.c_rules_laws.specs.TypedAlike.{More, plain_scope, instrumented_scope, AreUnreserved, MeanAlike}
+use Rattle.null_calls_expressions_laws.specs.Tabled.{AreFound, IsNullCall}
+use Rattle.null_calls_statements_laws.specs.Standing.{StandBeside, stand_beside}
+use Rattle.null_calls_statements_laws.proofs.Scopes.{unadded}
+use Rattle.null_calls_units_laws.specs.FileScopes.{HasNullCalls}
+use Rattle.null_calls_units_laws.specs.Functions.{HasFunctions}
+use Rattle.null_calls_units_laws.specs.Scopes.{AreWrittenTemporaries, AreOfSites, DiffersFrom, AllDiffer}
+use Rattle.null_calls_units_laws.proofs.Closed.{spelled}
+
+-- ## Names of temporaries
+
+among_rest : (xs ys : List Name) (x : Name) → is_among (xs ++ ys) x ≡ false → is_among ys x ≡ false
+among_rest [] ys x h = h
+among_rest (z ∷ xs) ys x h = among_rest xs ys x (by_test (bytes_eq z x) (number_among (xs ++ ys) x) h)
+  where
+    by_test : (t : Bool) (o : Option ℕ) → is_some (if t then Some 0 else option_map suc o) ≡ false → is_some o ≡ false
+    by_test true o e = absurd (true≢false e)
+    by_test false None e = refl
+    by_test false (Some k) e = e
+
+reserved : (x : Name) → is_added x ≡ true → is_reserved x ≡ true
+reserved x h = by_test (is_reserved x) refl
+  where
+    by_test : (t : Bool) → is_reserved x ≡ t → t ≡ true
+    by_test true e = refl
+    by_test false e = absurd (true≢false (sym h ∙ unadded x e))
+
+free_by : (x : Temporary) (s i : ℕ) → (x.name ≡ designator_name s) ⊎ ((x.name ≡ argument_name s i) ⊎ (x.name ≡ result_name s)) → IsFreeName x.name
+free_by x s i (inl e) = subst IsFreeName (sym e) (names_are_free s i).designator
+free_by x s i (inr (inl e)) = subst IsFreeName (sym e) (names_are_free s i).argument
+free_by x s i (inr (inr e)) = subst IsFreeName (sym e) (names_are_free s i).result
+
+abbrev pub AllFree : List Temporary → Type 0
+AllFree [] = Unit {0}
+AllFree (x ∷ xs) = IsFreeName x.name × AllFree xs
+
+pub all_free : (lo n : ℕ) (xs : List Temporary) → AreOfSites lo n xs → AllFree xs
+all_free lo n [] h = tt
+all_free lo n (x ∷ xs) h = (free_by x h.0.site h.0.argument h.0.named, all_free lo n xs h.1)
+
+-- ## Scopes behind them
+
+abbrev pub temporary_binding : (depth k : ℕ) → Temporary → Binding
+temporary_binding d k x = record { name = x.name; depth = d; means = a_local k x.ctype x.ctype }
+
+abbrev pub names_behind : (depth k : ℕ) → List Temporary → List Binding → List Binding
+names_behind d k [] ns = ns
+names_behind d k (x ∷ xs) ns = names_behind d (suc k) xs (temporary_binding d k x ∷ ns)
+
+pub behind_is : (env : Env) (more : More) (k : ℕ) (xs : List Temporary) → with_temporaries (instrumented_scope env more) k xs ≡ instrumented_scope env (record more { names = names_behind env.depth k xs more.names })
+behind_is env more k [] = refl
+behind_is env more k (x ∷ xs) = behind_is env (record more { names = temporary_binding env.depth k x ∷ more.names }) (suc k) xs
+
+abbrev OtherThan : Name → List Temporary → Type 0
+OtherThan y [] = Unit {0}
+OtherThan y (x ∷ xs) = (bytes_eq x.name y ≡ false) × OtherThan y xs
+
+past_all : (y : Name) (d k : ℕ) (xs : List Temporary) (ns : List Binding) → OtherThan y xs → lookup (names_behind d k xs ns) y ≡ lookup ns y
+past_all y d k [] ns h = refl
+past_all y d k (x ∷ xs) ns h = past_all y d (suc k) xs (temporary_binding d k x ∷ ns) h.1 ∙ ap (λ t. cond t (Some (temporary_binding d k x)) (lookup ns y)) h.0
+
+other : (x y : Name) → (x ≡ y → ⊥) → bytes_eq x y ≡ false
+other x y h = by_test (bytes_eq x y) refl
+  where
+    by_test : (t : Bool) → bytes_eq x y ≡ t → t ≡ false
+    by_test true e = absurd (h ((bytes_eq-Decides x y).0 e))
+    by_test false e = refl
+
+others : (x : Temporary) (xs : List Temporary) → DiffersFrom x xs → OtherThan x.name xs
+others x [] h = tt
+others x (y ∷ ys) h = (other y.name x.name (λ e. h.0 (sym e)), others x ys h.1)
+
+itself : (x : Name) → bytes_eq x x ≡ true
+itself x = (bytes_eq-Decides x x).1 refl
+
+-- they are found
+pub found_all : (d k : ℕ) (xs : List Temporary) (ns : List Binding) → AllDiffer xs → AreFound (names_behind d k xs ns) k xs
+found_all d k [] ns h = tt
+found_all d k (x ∷ xs) ns h =
+    let b : Binding = temporary_binding d k x in
+    ((b, past_all x.name d (suc k) xs (b ∷ ns) (others x xs h.0) ∙ ap (λ t. cond t (Some b) (lookup ns x.name)) (itself x.name), refl), found_all d (suc k) xs (b ∷ ns) h.1)
+
+-- a name that isn't reserved is no temporary
+unreserved_other : (y : Name) (xs : List Temporary) → is_reserved y ≡ false → AllFree xs → OtherThan y xs
+unreserved_other y [] u h = tt
+unreserved_other y (x ∷ xs) u h = (other x.name y (λ e. true≢false (sym (reserved x.name h.0.added) ∙ (ap is_reserved e ∙ u))), unreserved_other y xs u h.1)
+
+-- nor is a null call
+null_other : (y : Name) (xs : List Temporary) → is_among null_calls y ≡ true → AllFree xs → OtherThan y xs
+null_other y [] u h = tt
+null_other y (x ∷ xs) u h = (other x.name y (λ e. true≢false (sym u ∙ (ap (is_among null_calls) (sym e) ∙ among_rest system_calls null_calls x.name h.0.other))), null_other y xs u h.1)
+
+-- ## They are new
+
+abbrev AllAbsent : List Binding → List Temporary → Type 0
+AllAbsent ns [] = Unit {0}
+AllAbsent ns (x ∷ xs) = (lookup ns x.name ≡ None) × AllAbsent ns xs
+
+still_absent : (b : Binding) (x : Temporary) (xs : List Temporary) (ns : List Binding) → b.name ≡ x.name → DiffersFrom x xs → AllAbsent ns xs → AllAbsent (b ∷ ns) xs
+still_absent b x [] ns e h a = tt
+still_absent b x (y ∷ ys) ns e h a = (ap (λ t. cond t (Some b) (lookup ns y.name)) (other b.name y.name (λ q. h.0 (sym e ∙ q))) ∙ a.0, still_absent b x ys ns e h.1 a.1)
+
+abbrev three : (a b c : Bool) → (at : ℕ) → Checked Met
+three a b c at = and_also (and_also (demand a C12 at met) (demand b C11 at met)) (demand c C2 at met)
+
+is_new : (env : Env) (more : More) (at : ℕ) (x : Name) → IsFreeName x → lookup more.names x ≡ None → new_name (instrumented_scope env more) (record { name = x; at = at }) ≡ fine met
+is_new env more at x f a = λ i. three (f.declarable i) (ap not f.other i) (ap (λ o. is_none (at_depth env.depth o)) a i) at
+
+are_new : (env : Env) (more : More) (stood : List Name) (at k : ℕ) (xs : List Temporary) → AreWrittenTemporaries env.enums env.whole.tags stood xs → AllFree xs → AllDiffer xs → AllAbsent more.names xs → AreNew (instrumented_scope env more) at k xs
+are_new env more stood at k [] w f d a = tt
+are_new env more stood at k (x ∷ xs) w f d a =
+    let b : Binding = temporary_binding env.depth k x in
+    (w.0, spelled env.enums env.whole.tags stood x.ctype w.1, f.0.added, is_new env more at x.name f.0 a.0, are_new env (record more { names = b ∷ more.names }) stood at (suc k) xs w.2 f.1 d.1 (still_absent b x xs more.names refl d.0 a.1))
+
+all_absent : (env : Env) (more : More) → HasNullCalls env more → (xs : List Temporary) → AllFree xs → AllAbsent more.names xs
+all_absent env more l [] h = tt
+all_absent env more l (x ∷ xs) h = (l.fresh x.name (reserved x.name h.0.added) (among_rest system_calls null_calls x.name h.0.other), all_absent env more l xs h.1)
+
+pub temporaries_new : (env : Env) (more : More) → HasNullCalls env more → (stood : List Name) (at k : ℕ) (xs : List Temporary) → AreWrittenTemporaries env.enums env.whole.tags stood xs → AllFree xs → AllDiffer xs → AreNew (instrumented_scope env more) at k xs
+temporaries_new env more l stood at k xs w f d = are_new env more stood at k xs w f d (all_absent env more l xs f)
+
+-- ## The scopes stand beside each other
+
+null_stays : (y : Name) (d k : ℕ) (xs : List Temporary) (ns : List Binding) → is_among null_calls y ≡ true → AllFree xs → IsNullCall ns y → IsNullCall (names_behind d k xs ns) y
+null_stays y d k xs ns u f h = (h.0, h.1, past_all y d k xs ns (null_other y xs u f) ∙ h.2, h.3)
+
+pub stand_behind : (p : Program) (env : Env) (more : More) → AreUnreserved env.names → MeanAlike env.names more.names → HasNullCalls env more → HasFunctions p env.whole.functions → (k : ℕ) (xs : List Temporary) → AllFree xs
+    → StandBeside p (names_behind env.depth k xs more.names) (plain_scope env) (with_temporaries (instrumented_scope env more) k xs)
+stand_behind p env more u m l g k xs f =
+    let ns : List Binding = names_behind env.depth k xs more.names in
+    subst (StandBeside p ns (plain_scope env)) (sym (behind_is env more k xs))
+    (stand_beside env (record more { names = ns }) u (λ y v. past_all y env.depth k xs more.names (unreserved_other y xs v f) ∙ m y v)
+    (record { runs = l.runs; named = record { before = null_stays pre_name env.depth k xs more.names refl f l.nulls.before; behind = null_stays post_name env.depth k xs more.names refl f l.nulls.behind }; functions = g.long; pre_free = g.pre_free; post_free = g.post_free })
+    (λ y v. refl))

@@ -1,0 +1,13 @@
+pub mod AbstractCasts
+pub mod Bodies
+pub mod CallsIn
+pub mod ClosedTypes
+pub mod Declarations
+pub mod FileScopes
+pub mod Functions
+pub mod OtherItems
+pub mod Scopes
+pub mod Spelled
+pub mod TemporaryNames
+pub mod Units
+pub mod WrittenTypes

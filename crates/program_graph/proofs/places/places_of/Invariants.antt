@@ -1,6 +1,0 @@
-use Rattle.std.proofs.Common.{◌≡◌, map, take}
-use Rattle.program_graph.specs.Places.{place_at}
-use Rattle.program_graph.proofs.places.places_of.Given as goal
-
-abbrev pub invariant-loop-f : goal.invariant-loop-f
-invariant-loop-f l = l.places.items ≡ map (place_at l.defined l.taken) (take l.f-index l.functions)

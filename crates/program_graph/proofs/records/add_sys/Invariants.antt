@@ -1,6 +1,0 @@
-use Rattle.std.proofs.Common.{◌≡◌, drop}
-use Rattle.program_graph.proofs.RecordLemmas.{with_sys}
-use Rattle.program_graph.proofs.records.add_sys.Given as goal
-
-abbrev pub invariant-loop-i : goal.invariant-loop-i
-invariant-loop-i l = with_sys l.builder (drop l.i l.edges) ≡ with_sys l.fn.builder l.edges

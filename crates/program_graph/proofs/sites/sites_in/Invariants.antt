@@ -1,7 +1,0 @@
-use Rattle.std.proofs.Common.{◌≡◌, take}
-use Rattle.flow_graph.specs.Edges.{edges_in}
-use Rattle.program_graph.specs.SiteEdges.{site_edges}
-use Rattle.program_graph.proofs.sites.sites_in.Given as goal
-
-abbrev pub invariant-loop-edge : goal.invariant-loop-edge
-invariant-loop-edge l = l.found.items ≡ site_edges (edges_in (take l.edge-index l.edges))

@@ -1,0 +1,16 @@
+use Rattle.std.proofs.Common.{◌≡◌, ◌<◌, ap, sym, ◌∙◌, arith}
+use Rattle.c_values.specs.Seen.{seen}
+use Rattle.c_meaning.specs.Results.{with_memory, then_do}
+use Rattle.c_meaning.specs.SystemCalls.{system_call}
+use Rattle.ref_machine_frames.specs.Frames.{after_value}
+use Rattle.ref_machine_expressions.proofs.Following.{alone}
+use Rattle.ref_machine_expressions.proofs.calls.call_system.Goals as goal
+
+pub returns : goal.returns
+returns c p w fr todo st =
+    let at = with_memory st (seen c.args.memory.now) in
+    let below : c.args.x < 24 = omega arith in
+    let name : c.in-Some.name ≡ c.args.x = c.in-Some.ensures.name in
+    c.in_ok-now.ensures p w fr todo st
+    ∙ (ap (λ x. then_do (system_call x c.args.values.now at) (after_value p w fr todo)) name
+    ∙ ap (λ r. then_do r (after_value p w fr todo)) (sym (alone c.args.x c.args.values.now at below)))

@@ -1,0 +1,203 @@
+ghost use Rattle.std.specs.Prelude.{◌≡◌, IfOk};
+ghost use Rattle.c_tree.specs.Layout.{Structs, cells};
+ghost use Rattle.c_tree.specs.View.{ctype_of, expr_of, program_of};
+ghost use Rattle.c_values.specs.Answers.{gives};
+ghost use Rattle.c_values.specs.Seen.{seen};
+ghost use Rattle.c_meaning.specs.Meaning.{eval, name_in};
+ghost use Rattle.c_meaning.specs.Pointers.{place};
+ghost use Rattle.c_meaning.specs.Runs.{no_marks};
+ghost use Rattle.ref_machine_frames.specs.Cells.{AreCells};
+ghost use Rattle.ref_machine_frames.specs.Frames.{place_of};
+ghost use Rattle.ref_machine_frames.specs.Parts.{Gives, IsAnswer};
+
+use crate::calls::{arguments, wants};
+use crate::values::members;
+use c_tree::{CType, ObjectName, Program, TExpr, TExprKind, Value};
+use c_values::Memory;
+use dm_base::OutOfMemory;
+use ref_machine_frames::{
+    Callee, Choice, Frame, Here, Now, Pair, Step, Storing, ValueFrame, cells_in, wait,
+};
+use ref_machine_steps::place;
+use std::alloc::Global;
+
+// The name of a variable: a static one, or one of the activation that runs.
+fn name_in(here: Here, is_static: bool, number: u32) -> ObjectName
+    ensures { result ≡ name_in (place_of here.entry) is_static number }
+{
+    if is_static {
+        return ObjectName {
+            activation: 0,
+            variable: number,
+        };
+    }
+    ObjectName {
+        activation: here.activation,
+        variable: number,
+    }
+}
+
+// The place of an object of this type.
+fn whole<'p>(counts: &[u32], name: ObjectName, t: &CType) -> Result<Now<'p>, OutOfMemory>
+    ensures { (structs : Structs) → AreCells structs counts.now → IfOk result (λ now. IsAnswer (gives (place name 0 (cells structs (ctype_of t.now)))) now) }
+{
+    let width = cells_in(counts, t)?;
+    Ok(Now::Have(place(name, 0, width)))
+}
+
+/// How the evaluation of an expression begins. `counts` has the number of cells of each struct.
+pub fn begin<'p>(
+    alloc: Global,
+    program: &Program,
+    counts: &[u32],
+    memory: &Memory,
+    todo: &mut Vec<Frame<'p>>,
+    here: Here<'p>,
+    wanted: bool,
+    e: &'p TExpr,
+) -> Result<Now<'p>, OutOfMemory>
+    requires { AreCells (program_of program.now).structs counts.now }
+    ensures { IfOk result (λ now. Gives (program_of program.now) here.entry (seen memory.now) todo.old.items (λ w st. eval (program_of program.now) w no_marks (place_of here.entry) wanted (expr_of e.now) st) now (seen memory.now) todo.new.items) }
+{
+    match &e.kind {
+        TExprKind::Const(value) => Ok(Now::Have(*value)),
+        TExprKind::Function(f) => Ok(Now::Have(Value::Func(*f))),
+        TExprKind::StringPlace(number) => {
+            let now = whole(counts, name_in(here, true, *number), &e.ctype)?;
+            Ok(now)
+        }
+        TExprKind::Variable { is_static, number } => {
+            let now = whole(counts, name_in(here, *is_static, *number), &e.ctype)?;
+            Ok(now)
+        }
+        TExprKind::Deref(a) => {
+            let now = wait(todo, ValueFrame::One(Step::Deref(&e.ctype)), true, a)?;
+            Ok(now)
+        }
+        TExprKind::Load(a) => {
+            let now = wait(todo, ValueFrame::One(Step::Load), true, a)?;
+            Ok(now)
+        }
+        TExprKind::AddressOf(a) => Ok(Now::Eval {
+            wanted: true,
+            of: a,
+        }),
+        TExprKind::Decay(a) => {
+            let now = wait(todo, ValueFrame::One(Step::Decay(&a.ctype)), true, a)?;
+            Ok(now)
+        }
+        TExprKind::Discard(a) => {
+            let now = wait(todo, ValueFrame::One(Step::Discard), false, a)?;
+            Ok(now)
+        }
+        TExprKind::Field(a, first) => {
+            let now = wait(
+                todo,
+                ValueFrame::One(Step::Field(*first, &e.ctype)),
+                true,
+                a,
+            )?;
+            Ok(now)
+        }
+        TExprKind::Unary(op, a) => {
+            let now = wait(todo, ValueFrame::One(Step::Unary(*op)), true, a)?;
+            Ok(now)
+        }
+        TExprKind::Convert(to, a) => {
+            let now = wait(todo, ValueFrame::One(Step::Convert(*to)), true, a)?;
+            Ok(now)
+        }
+        TExprKind::Arith(op, a, b) => {
+            let now = wait(todo, ValueFrame::First(Pair::Arith(*op), b), true, a)?;
+            Ok(now)
+        }
+        TExprKind::Compare(op, a, b) => {
+            let now = wait(todo, ValueFrame::First(Pair::Compare(*op), b), true, a)?;
+            Ok(now)
+        }
+        TExprKind::PointerAdd {
+            pointer_first,
+            subtracted,
+            left,
+            right,
+        } => {
+            let pair = Pair::PointerAdd {
+                pointer_first: *pointer_first,
+                subtracted: *subtracted,
+            };
+            let now = wait(todo, ValueFrame::First(pair, right), true, left)?;
+            Ok(now)
+        }
+        TExprKind::PointerDiff(a, b) => {
+            let now = wait(todo, ValueFrame::First(Pair::PointerDiff, b), true, a)?;
+            Ok(now)
+        }
+        TExprKind::And(a, b) => {
+            let now = wait(todo, ValueFrame::Test(Choice::And(b)), true, a)?;
+            Ok(now)
+        }
+        TExprKind::Or(a, b) => {
+            let now = wait(todo, ValueFrame::Test(Choice::Or(b)), true, a)?;
+            Ok(now)
+        }
+        TExprKind::Assign(a, b) => {
+            let now = wait(todo, ValueFrame::Store(Storing::Place(b)), true, a)?;
+            Ok(now)
+        }
+        TExprKind::Update {
+            op,
+            old,
+            place,
+            value,
+        } => {
+            let part = Storing::Old {
+                op: *op,
+                old: *old,
+                ctype: &e.ctype,
+                right: value,
+            };
+            let now = wait(todo, ValueFrame::Store(part), true, place)?;
+            Ok(now)
+        }
+        TExprKind::Cond(test, yes, no) => {
+            let now = wait(
+                todo,
+                ValueFrame::Test(Choice::Cond {
+                    wanted: true,
+                    yes,
+                    no,
+                }),
+                true,
+                test,
+            )?;
+            Ok(now)
+        }
+        TExprKind::Comma(es) => {
+            let now = members(todo, wanted, es)?;
+            Ok(now)
+        }
+        TExprKind::Call {
+            site: _site,
+            function,
+            arguments: left,
+        } => {
+            let wanted = wants(wanted, &e.ctype);
+            let whom = Callee::Named(*function);
+            let none = Vec::new(alloc);
+            let now = arguments(alloc, program, memory, todo, wanted, whom, none, left)?;
+            Ok(now)
+        }
+        TExprKind::CallThrough {
+            site: _site,
+            designator,
+            arguments: left,
+        } => {
+            let frame = ValueFrame::Designator {
+                wanted: wants(wanted, &e.ctype),
+                arguments: left,
+            };
+            let now = wait(todo, frame, true, designator)?;
+            Ok(now)
+        }
+    }
+}

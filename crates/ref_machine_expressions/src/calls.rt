@@ -1,0 +1,277 @@
+ghost use Rattle.std.specs.Prelude.{◌≡◌, ◌++◌, ◌∷◌, [], ◌≤◌, IfOk, IfSome, length};
+ghost use Rattle.c_tree.specs.declared.value.Value.TheVariants.{Uint};
+ghost use Rattle.c_tree.specs.Tree.{Program as Term};
+ghost use Rattle.c_tree.specs.View.{ctype_of, exprs_of, program_of};
+ghost use Rattle.c_values.specs.Memory.{Objects};
+ghost use Rattle.c_values.specs.Seen.{seen};
+ghost use Rattle.c_meaning.specs.Meaning.{call_undefined, called, called_through, eval_all, system_call_alone, wants};
+ghost use Rattle.c_meaning.specs.Results.{then_do};
+ghost use Rattle.c_meaning.specs.Runs.{no_marks};
+ghost use Rattle.c_meaning.specs.SystemCalls.{Request as Asked, exit_with, system_call};
+ghost use Rattle.c_values.specs.Answers.{Answer};
+ghost use Rattle.ref_machine_steps.specs.Asking.{IsRefusal};
+ghost use Rattle.ref_machine_steps.specs.Requests.{asked_by};
+ghost use Rattle.ref_machine_expressions.specs.Asking.{asking, IsStop};
+ghost use Rattle.ref_machine_frames.specs.Frames.{made, place_of};
+ghost use Rattle.ref_machine_frames.specs.Parts.{Does, Gives};
+ghost use Rattle.ref_machine_frames.specs.declared.frames.Here.{Here as Activation};
+
+use c_tree::{CType, Program, TExpr, Value};
+use c_values::Memory;
+use dm_base::{Event, OutOfMemory, Outcome, SysName};
+use ref_machine_frames::{After, Callee, Frame, Now, ValueFrame, stopped, wait};
+use ref_machine_steps::{Request, StepError, callee, exit_status, requested};
+use std::alloc::Global;
+
+// The number of `_exit`.
+const EXIT: u8 = 23;
+
+// Whether the value of a call of this type is wanted; there is none of void.
+pub fn wants(wanted: bool, t: &CType) -> bool
+    ensures { result ≡ wants wanted (ctype_of t.now) }
+{
+    match t {
+        CType::Void => false,
+        _ => wanted,
+    }
+}
+
+// `_exit` ends the run with its argument.
+fn exit<'p>(name: SysName, request: Request) -> Result<Now<'p>, OutOfMemory>
+    requires { name ≡ 23 }
+    ensures { IfOk result (λ now. (p : Term) (m : Objects) → Does p m (λ w st. exit_with request.arguments) now) }
+{
+    let Some(status) = exit_status(&request) else {
+        return Err(OutOfMemory);
+    };
+    let Ok(status) = i32::try_from(status) else {
+        return Err(OutOfMemory);
+    };
+    Ok(Now::Told {
+        event: Event::Sys {
+            name,
+            args: request.arguments,
+            result: 0,
+        },
+        then: After::Stopped(Outcome::Exit(status)),
+    })
+}
+
+// A system call that has asked for this needs a record, but for `_exit`.
+fn asking<'p>(name: SysName, request: Request) -> Result<Now<'p>, OutOfMemory>
+    ensures { IfOk result (λ now. (p : Term) (m : Objects) → Does p m (λ w st. asking name (asked_by request) st) now) }
+{
+    if name.index() == EXIT {
+        let now = exit(name, request)?;
+        return Ok(now);
+    }
+    Ok(Now::Ask { name, request })
+}
+
+// Why a system call asks for nothing.
+fn refused<'p>(error: StepError) -> Result<Now<'p>, OutOfMemory>
+    ensures { IfOk result (λ now. (answer : Answer Asked) → IsRefusal error answer → IsStop answer now) }
+{
+    match error {
+        StepError::Faulty(fault) => {
+            let now = stopped(fault)?;
+            Ok(now)
+        }
+        StepError::OutOfMemory => Err(OutOfMemory),
+    }
+}
+
+// A system call tests its buffers and strings; then it needs a record, but for `_exit`.
+fn system_call<'p>(
+    alloc: Global,
+    memory: &Memory,
+    name: SysName,
+    values: &[Value],
+) -> Result<Now<'p>, OutOfMemory>
+    ensures { IfOk result (λ now. (p : Term) → Does p (seen memory.now) (λ w st. system_call name values.now st) now) }
+{
+    if values.len() > 3 {
+        return Err(OutOfMemory);
+    }
+    match requested(alloc, memory, name, values) {
+        Ok(request) => {
+            let now = asking(name, request)?;
+            Ok(now)
+        }
+        Err(error) => {
+            let now = refused(error)?;
+            Ok(now)
+        }
+    }
+}
+
+// The one argument of a null call.
+fn site_in(values: &[Value]) -> Option<u32>
+    ensures { IfSome result (λ site. values.now ≡ Uint site ∷ []) }
+{
+    let [Value::Uint(site)] = values else {
+        return None;
+    };
+    Some(*site)
+}
+
+// A call of a system call by its number.
+fn call_system<'p>(
+    alloc: Global,
+    memory: &Memory,
+    x: u32,
+    values: &[Value],
+) -> Result<Now<'p>, OutOfMemory>
+    ensures { IfOk result (λ now. (p : Term) → Does p (seen memory.now) (λ w st. system_call_alone x values.now st) now) }
+{
+    if x >= 24 {
+        return Err(OutOfMemory);
+    }
+    let Some(name) = SysName::from_index(x as u8) else {
+        return Err(OutOfMemory);
+    };
+    let now = system_call(alloc, memory, name, values)?;
+    Ok(now)
+}
+
+// A null call, of which 24 is that before a call, and 25 that after it.
+fn null_call<'p>(x: u32, site: u32) -> Result<Now<'p>, OutOfMemory>
+    requires { 24 ≤ x }
+    ensures { IfOk result (λ now. (p : Term) (m : Objects) → Does p m (λ w st. call_undefined x (Uint site ∷ []) st) now) }
+{
+    if x == 24 {
+        return Ok(Now::Told {
+            event: Event::Pre(site),
+            then: After::Have(Value::Indeterminate),
+        });
+    }
+    if x == 25 {
+        return Ok(Now::Told {
+            event: Event::Post(site),
+            then: After::Have(Value::Indeterminate),
+        });
+    }
+    Err(OutOfMemory)
+}
+
+// A call of a function that has no definition.
+fn call_undefined<'p>(
+    alloc: Global,
+    memory: &Memory,
+    x: u32,
+    values: &[Value],
+) -> Result<Now<'p>, OutOfMemory>
+    ensures { IfOk result (λ now. (p : Term) → Does p (seen memory.now) (λ w st. call_undefined x values.now st) now) }
+{
+    if x < 24 {
+        let now = call_system(alloc, memory, x, values)?;
+        return Ok(now);
+    }
+    let Some(site) = site_in(values) else {
+        return Err(OutOfMemory);
+    };
+    let now = null_call(x, site)?;
+    Ok(now)
+}
+
+// A call of the function with this number by its name.
+fn called<'p>(
+    alloc: Global,
+    program: &Program,
+    memory: &Memory,
+    wanted: bool,
+    f: u32,
+    values: Vec<Value>,
+) -> Result<Now<'p>, OutOfMemory>
+    ensures { IfOk result (λ now. Does (program_of program.now) (seen memory.now) (λ w st. called (program_of program.now) w wanted f values.items st) now) }
+{
+    let count = program.defined();
+    if f < count {
+        return Ok(Now::Enter {
+            wanted,
+            function: f,
+            arguments: values,
+        });
+    }
+    let now = call_undefined(alloc, memory, f - count, &values)?;
+    Ok(now)
+}
+
+// The same through a pointer.
+fn called_through<'p>(
+    alloc: Global,
+    program: &Program,
+    memory: &Memory,
+    wanted: bool,
+    f: u32,
+    values: Vec<Value>,
+) -> Result<Now<'p>, OutOfMemory>
+    ensures { IfOk result (λ now. Does (program_of program.now) (seen memory.now) (λ w st. called_through (program_of program.now) w wanted f values.items st) now) }
+{
+    let count = program.defined();
+    if f < count {
+        return Ok(Now::Enter {
+            wanted,
+            function: f,
+            arguments: values,
+        });
+    }
+    let now = call_system(alloc, memory, f - count, &values)?;
+    Ok(now)
+}
+
+// A call with its arguments.
+fn made<'p>(
+    alloc: Global,
+    program: &Program,
+    memory: &Memory,
+    wanted: bool,
+    whom: Callee,
+    values: Vec<Value>,
+) -> Result<Now<'p>, OutOfMemory>
+    ensures { IfOk result (λ now. Does (program_of program.now) (seen memory.now) (λ w st. made (program_of program.now) w wanted whom values.items st) now) }
+{
+    match whom {
+        Callee::Named(f) => {
+            let now = called(alloc, program, memory, wanted, f, values)?;
+            Ok(now)
+        }
+        Callee::Through(v) => match callee(v) {
+            Ok(f) => {
+                let now = called_through(alloc, program, memory, wanted, f, values)?;
+                Ok(now)
+            }
+            Err(fault) => {
+                let now = stopped(fault)?;
+                Ok(now)
+            }
+        },
+    }
+}
+
+// The arguments that are left, and then the call.
+pub fn arguments<'p>(
+    alloc: Global,
+    program: &Program,
+    memory: &Memory,
+    todo: &mut Vec<Frame<'p>>,
+    wanted: bool,
+    whom: Callee,
+    before: Vec<Value>,
+    left: &'p [TExpr],
+) -> Result<Now<'p>, OutOfMemory>
+    ensures { IfOk result (λ now. (h : Activation) → Gives (program_of program.now) h (seen memory.now) todo.old.items (λ w st. then_do (eval_all (program_of program.now) w no_marks (place_of h) (exprs_of left.now) st) (λ vs st. made (program_of program.now) w wanted whom (before.items ++ vs) st)) now (seen memory.now) todo.new.items) }
+{
+    let Some((first, rest)) = left.split_first() else {
+        let now = made(alloc, program, memory, wanted, whom, before)?;
+        return Ok(now);
+    };
+    let frame = ValueFrame::Argument {
+        wanted,
+        callee: whom,
+        before,
+        rest,
+    };
+    let now = wait(todo, frame, true, first)?;
+    Ok(now)
+}

@@ -1,0 +1,108 @@
+ghost use Rattle.std.specs.Prelude.{◌≡◌, ◌++◌, ◌∷◌, [], IfOk};
+ghost use Rattle.c_tree.specs.Tree.{Program as Term};
+ghost use Rattle.c_tree.specs.View.{exprs_of, program_of};
+ghost use Rattle.c_values.specs.Memory.{Objects};
+ghost use Rattle.c_values.specs.Seen.{seen};
+ghost use Rattle.c_meaning.specs.Meaning.{eval_each};
+ghost use Rattle.c_meaning.specs.Runs.{no_marks};
+ghost use Rattle.ref_machine_frames.specs.Cells.{AreCells};
+ghost use Rattle.ref_machine_frames.specs.Frames.{place_of, with_value};
+ghost use Rattle.ref_machine_frames.specs.Parts.{Gives};
+ghost use Rattle.ref_machine_frames.specs.declared.frames.Here.{Here as Activation};
+
+use crate::calls::arguments;
+use crate::choices::choosing;
+use crate::steps::{one_step, two_step};
+use crate::storing::storing;
+use c_tree::{Program, TExpr, Value};
+use c_values::Memory;
+use dm_base::OutOfMemory;
+use ref_machine_frames::{Callee, Frame, Now, ValueFrame, wait};
+use std::alloc::Global;
+
+// The members of a comma expression.
+pub fn members<'p>(
+    todo: &mut Vec<Frame<'p>>,
+    wanted: bool,
+    left: &'p [TExpr],
+) -> Result<Now<'p>, OutOfMemory>
+    ensures { IfOk result (λ now. (p : Term) (h : Activation) (m : Objects) → Gives p h m todo.old.items (λ w st. eval_each p w no_marks (place_of h) wanted (exprs_of left.now) st) now m todo.new.items) }
+{
+    let Some((first, rest)) = left.split_first() else {
+        return Err(OutOfMemory);
+    };
+    if rest.is_empty() {
+        return Ok(Now::Eval { wanted, of: first });
+    }
+    let now = wait(todo, ValueFrame::Members { wanted, rest }, false, first)?;
+    Ok(now)
+}
+
+// The values of arguments, with one more.
+fn with_argument(before: Vec<Value>, v: Value) -> Result<Vec<Value>, OutOfMemory>
+    ensures { IfOk result (λ all. all.items ≡ before.items ++ v ∷ []) }
+{
+    let mut all = before;
+    all.push(v)?;
+    Ok(all)
+}
+
+/// What comes of a value in an expression. `counts` has the number of cells of each struct.
+pub fn with_value<'p>(
+    alloc: Global,
+    program: &Program,
+    counts: &[u32],
+    memory: &mut Memory,
+    todo: &mut Vec<Frame<'p>>,
+    frame: ValueFrame<'p>,
+    v: Value,
+) -> Result<Now<'p>, OutOfMemory>
+    requires { AreCells (program_of program.now).structs counts.now }
+    ensures { IfOk result (λ now. (h : Activation) → Gives (program_of program.now) h (seen memory.old) todo.old.items (λ w st. with_value (program_of program.now) w (place_of h) frame.entry v st) now (seen memory.new) todo.new.items) }
+{
+    match frame {
+        ValueFrame::One(step) => {
+            let now = one_step(counts, memory, step, v)?;
+            Ok(now)
+        }
+        ValueFrame::First(pair, second) => {
+            let now = wait(todo, ValueFrame::Second(pair, v), true, second)?;
+            Ok(now)
+        }
+        ValueFrame::Second(pair, first) => {
+            let now = two_step(memory, pair, first, v)?;
+            Ok(now)
+        }
+        ValueFrame::Store(part) => {
+            let now = storing(memory, todo, part, v)?;
+            Ok(now)
+        }
+        ValueFrame::Test(choice) => {
+            let now = choosing(memory, todo, choice, v)?;
+            Ok(now)
+        }
+        ValueFrame::Members { wanted, rest } => {
+            let now = members(todo, wanted, rest)?;
+            Ok(now)
+        }
+        ValueFrame::Designator {
+            wanted,
+            arguments: left,
+        } => {
+            let whom = Callee::Through(v);
+            let none = Vec::new(alloc);
+            let now = arguments(alloc, program, memory, todo, wanted, whom, none, left)?;
+            Ok(now)
+        }
+        ValueFrame::Argument {
+            wanted,
+            callee,
+            before,
+            rest,
+        } => {
+            let all = with_argument(before, v)?;
+            let now = arguments(alloc, program, memory, todo, wanted, callee, all, rest)?;
+            Ok(now)
+        }
+    }
+}

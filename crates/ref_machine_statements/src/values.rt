@@ -1,0 +1,110 @@
+ghost use Rattle.std.specs.Prelude.{IfOk, List, false};
+ghost use Rattle.c_tree.specs.Tree.{Program};
+ghost use Rattle.c_tree.specs.View.{inits_of, stmt_of};
+ghost use Rattle.c_values.specs.Memory.{Objects};
+ghost use Rattle.c_values.specs.Seen.{seen};
+ghost use Rattle.c_meaning.specs.Meaning.{initialise, name_in};
+ghost use Rattle.c_meaning.specs.Pointers.{place, store_place};
+ghost use Rattle.c_meaning.specs.Results.{remembered, then_do};
+ghost use Rattle.c_meaning.specs.Runs.{no_marks};
+ghost use Rattle.ref_machine_frames.specs.Frames.{asked, going_round, in_statement, one_of, place_of, rounds_of};
+ghost use Rattle.ref_machine_frames.specs.Parts.{Leaves};
+ghost use Rattle.ref_machine_frames.specs.declared.frames.Frame.{Frame as Todo};
+ghost use Rattle.ref_machine_frames.specs.declared.frames.Here.{Here as Activation};
+
+use crate::rounds::going_round;
+use crate::sequences::initialisers;
+use crate::switches::switched;
+use crate::variables::name_here;
+use c_tree::{TInit, TStmt, Value};
+use c_values::Memory;
+use dm_base::OutOfMemory;
+use ref_machine_frames::{Frame, Here, Left, Now, StatementFrame, Valued, stopped};
+use ref_machine_steps::{place, store_place, test};
+
+// A cell of a variable gets the value, and then the later ones theirs.
+fn initialised<'p>(
+    memory: &mut Memory,
+    todo: &mut Vec<Frame<'p>>,
+    here: Here<'p>,
+    variable: u32,
+    cell: u32,
+    rest: &'p [TInit],
+    v: Value,
+) -> Result<Now<'p>, OutOfMemory>
+    ensures { IfOk result (λ now. (p : Program) → Leaves p here.entry (seen memory.old) todo.old.items (λ w st. then_do (remembered (store_place st.memory (place (name_in (place_of here.entry) false variable) cell 1) v) v st) (λ v st. initialise p w no_marks (place_of here.entry) variable (inits_of rest.now) st)) now (seen memory.new) todo.new.items) }
+{
+    match store_place(memory, place(name_here(here, variable), cell, 1), v) {
+        Ok(()) => initialisers(todo, variable, rest),
+        Err(fault) => stopped(fault),
+    }
+}
+
+// One of the two statements of an `if`.
+fn one_of<'p>(of: &'p TStmt, holds: bool) -> Result<Now<'p>, OutOfMemory>
+    ensures { IfOk result (λ now. (p : Program) (h : Activation) (m : Objects) (todo : List Todo) → Leaves p h m todo (λ w st. one_of p w (place_of h) (stmt_of of.now) holds st) now m todo) }
+{
+    let TStmt::If { yes, no, .. } = of else {
+        return Err(OutOfMemory);
+    };
+    if holds {
+        return Ok(Now::Exec(yes));
+    }
+    match no {
+        Some(no) => Ok(Now::Exec(no)),
+        None => Ok(Now::Left(Left::On)),
+    }
+}
+
+// What comes of the condition of an `if`.
+fn tested<'p>(memory: &Memory, of: &'p TStmt, v: Value) -> Result<Now<'p>, OutOfMemory>
+    ensures { IfOk result (λ now. (p : Program) (h : Activation) (todo : List Todo) → Leaves p h (seen memory.now) todo (λ w st. then_do (asked v st) (one_of p w (place_of h) (stmt_of of.now))) now (seen memory.now) todo) }
+{
+    match test(memory, v) {
+        Ok(holds) => one_of(of, holds),
+        Err(fault) => stopped(fault),
+    }
+}
+
+// What comes of the value of the condition of a loop.
+fn tested_loop<'p>(
+    memory: &Memory,
+    todo: &mut Vec<Frame<'p>>,
+    of: &'p TStmt,
+    v: Value,
+) -> Result<Now<'p>, OutOfMemory>
+    ensures { IfOk result (λ now. (p : Program) (h : Activation) → Leaves p h (seen memory.now) todo.old.items (λ w st. then_do (asked v st) (going_round p w (place_of h) (rounds_of (stmt_of of.now)))) now (seen memory.now) todo.new.items) }
+{
+    match test(memory, v) {
+        Ok(holds) => going_round(todo, of, holds),
+        Err(fault) => stopped(fault),
+    }
+}
+
+/// What comes of a value in a statement (C99 6.8).
+///
+/// Beside want of memory it refuses what no run of a well-typed program comes to, as want of memory too: a value of another kind
+/// than its type, and a part that its statement has not. Where it refuses, `memory` and `todo` may have been changed.
+pub fn in_statement<'p>(
+    memory: &mut Memory,
+    todo: &mut Vec<Frame<'p>>,
+    here: Here<'p>,
+    frame: StatementFrame<'p>,
+    v: Value,
+) -> Result<Now<'p>, OutOfMemory>
+    ensures { IfOk result (λ now. (p : Program) → Leaves p here.entry (seen memory.old) todo.old.items (λ w st. in_statement p w (place_of here.entry) frame.entry v st) now (seen memory.new) todo.new.items) }
+{
+    match frame {
+        StatementFrame::Forget => Ok(Now::Left(Left::On)),
+        StatementFrame::Give => Ok(Now::Left(Left::Returned(Some(v)))),
+        StatementFrame::Initialise {
+            variable,
+            cell,
+            rest,
+        } => initialised(memory, todo, here, variable, cell, rest, v),
+        StatementFrame::Part(Valued::If, of) => tested(memory, of, v),
+        StatementFrame::Part(Valued::Switch, of) => switched(todo, v, of),
+        StatementFrame::Part(Valued::Test, of) => tested_loop(memory, todo, of, v),
+        StatementFrame::Part(Valued::Step, of) => Ok(Now::Test(of)),
+    }
+}

@@ -1,0 +1,5 @@
+pub mod BufferLemmas
+pub mod FillLemmas
+pub mod PointerLemmas
+pub mod TakingLemmas
+pub mod ObjectLemmas

@@ -1,6 +1,0 @@
-use Rattle.std.proofs.Common.{refl}
-use Rattle.source_commands.proofs.FileLemmas.{checks}
-use Rattle.source_commands.proofs.check_command.check_source.Goals as goal
-
-pub returns-clause-made : goal.returns-clause-made
-returns-clause-made g c = (refl, checks (g.S.Store.files c.args.store.now) c.args.name.now c.in_ok-text.text.items c.in_ok-source.source c.in_ok-source.ensures.read c.in_ok-text.ensures)

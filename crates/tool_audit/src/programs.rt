@@ -1,0 +1,35 @@
+ghost use Rattle.std.specs.Prelude.{◌≡◌, ℕ, List, IfOk};
+ghost use Rattle.alarm_laws.specs.MarkedRuns.{marked_run};
+ghost use Rattle.c_meaning.specs.Runs.{run};
+ghost use Rattle.c_tree.specs.View.{program_of};
+ghost use Rattle.dm_base.specs.declared.mode.Mode.TheVariants.{Plain};
+ghost use Rattle.tool_sources.specs.Sources.{IsSourceOf};
+ghost use Rattle.sys_table.specs.declared.sys_result.SysResult.{SysResult};
+
+use c_check::check;
+use c_rules_laws::a_spelled_unit_is_lexical;
+use c_syntax::Unit;
+use c_tree::Program;
+use dm_base::{Mode, OutOfMemory};
+use null_calls_texts_laws::{instrumented_units_are_lexical, instrumented_units_are_units};
+use null_calls_units_laws::instrumented_texts_run_marked;
+use std::alloc::Global;
+use tool_instrument::instrumented_items;
+use tool_sources::Source;
+
+/// The program of a source's instrumented unit. The unit is always typed, so that the checker refuses it says that memory was refused.
+pub fn instrumented_program(alloc: Global, source: &Source) -> Result<Program, OutOfMemory>
+    requires { (text : List ℕ) × IsSourceOf text Plain source.now }
+    ensures { IfOk result (λ q. (records : List SysResult) (turns : ℕ) → run (program_of q) records turns ≡ marked_run (program_of source.now.program) records turns) }
+{
+    a_spelled_unit_is_lexical();
+    instrumented_units_are_units();
+    instrumented_units_are_lexical();
+    instrumented_texts_run_marked();
+    let items = instrumented_items(alloc, source)?;
+    let unit = Unit { items };
+    match check(alloc, &unit, Mode::Instrumented) {
+        Ok(program) => Ok(program),
+        Err(_) => Err(OutOfMemory),
+    }
+}

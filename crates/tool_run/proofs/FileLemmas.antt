@@ -1,0 +1,30 @@
+-- What `run` makes of its files and why it refuses them never hold both, and they are refused with one status.
+use Rattle.std.proofs.Common.{◌≡◌, ◌≢◌, ℕ, List, Option, Some, None, inl, inr, sym, ◌∙◌}
+use Rattle.dm_base.specs.declared.verdict.Status.{Status}
+use Rattle.dm_io.specs.Store.{Files, file_at}
+use Rattle.sys_table.specs.declared.results_error.ResultsError.{ResultsError}
+use Rattle.sys_table.specs.declared.results_error.ResultsError.TheVariants as errors
+use Rattle.sys_table.specs.ResultsText.{IsResultsRefusal}
+use Rattle.sys_table.proofs.ResultsLemmas.{not_refused}
+use Rattle.tool_run.specs.Run.{Runs, RefusesToRun, IsSomeProgram, AreSomeResults, IsReadyToRun}
+
+results_or_refused : (told : Files) (name : List ℕ) (error : ResultsError) → AreSomeResults told name → error ≢ errors.OutOfMemory → IsResultsRefusal error (file_at told name) → ⊥
+results_or_refused told name error are named refusal = named (not_refused error (file_at told name) are.0 are.1 refusal)
+
+module _ (told : Files) (source results : List ℕ) where
+  good_files : (status : Status) (line : List ℕ) → IsSomeProgram told source → AreSomeResults told results → RefusesToRun (Some told) source results status line → ⊥
+  good_files status line is are (inl refuses) = (refuses.4).1 is.0 is.1
+  good_files status line is are (inr refuses) = results_or_refused told results refuses.0 are refuses.1 (refuses.4).1
+
+  pub run_apart : (turns : ℕ) (text : List ℕ) (status : Status) (line : List ℕ) → Runs told source results turns text → RefusesToRun (Some told) source results status line → ⊥
+  run_apart turns text status line makes refuses = good_files status line (makes.program, makes.accepted) (makes.records, makes.recorded) refuses
+
+  pub run_status : (status later : Status) (line other : List ℕ) → RefusesToRun (Some told) source results status line → RefusesToRun (Some told) source results later other → status ≡ later
+  run_status status later line other (inl a) (inl b) = a.2 ∙ sym b.2
+  run_status status later line other (inl a) (inr b) = absurd ((a.4).1 ((b.4).0).0 ((b.4).0).1)
+  run_status status later line other (inr a) (inl b) = absurd ((b.4).1 ((a.4).0).0 ((a.4).0).1)
+  run_status status later line other (inr a) (inr b) = a.2 ∙ sym b.2
+
+pub run_ready : (files : Option Files) (source results : List ℕ) (status : Status) (line : List ℕ) → IsReadyToRun files source results → RefusesToRun files source results status line → ⊥
+run_ready None source results status line ready refuses = ready
+run_ready (Some told) source results status line ready refuses = good_files told source results status line ready.0 ready.1 refuses

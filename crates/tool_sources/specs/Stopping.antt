@@ -1,0 +1,17 @@
+-- For private contracts and proofs alone: why a text was not read.
+use Rattle.std.specs.Prelude.{◌≡◌, ◌≢◌}
+use Rattle.tool_frame.specs.declared.stop.Stop.{Stop}
+use Rattle.tool_frame.specs.declared.stop.Stop.TheVariants as stops
+use Rattle.tool_sources.specs.declared.error.SourceError.{SourceError}
+use Rattle.tool_sources.specs.declared.error.SourceError.TheVariants as errors
+use Rattle.tool_sources.specs.Sources.{source_refusal}
+
+-- the stop of a text that was refused so
+abbrev pub IsStopOfSource : Stop → SourceError → Type 0
+IsStopOfSource stops.Usage error = ⊥
+IsStopOfSource (stops.Source line) error = (error ≢ errors.OutOfMemory) × (line.items ≡ source_refusal error)
+IsStopOfSource (stops.Model line) error = ⊥
+IsStopOfSource (stops.Record line) error = ⊥
+IsStopOfSource stops.Read error = ⊥
+IsStopOfSource stops.Write error = ⊥
+IsStopOfSource stops.OutOfMemory error = Unit {0}

@@ -1,4 +1,0 @@
-pub mod Callees
-pub mod Laws
-pub mod StoreTyping
-pub mod TypedResults

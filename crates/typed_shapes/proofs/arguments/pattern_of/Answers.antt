@@ -1,5 +1,0 @@
-use Rattle.typed_shapes.proofs.ArgumentLemmas.{all_known}
-use Rattle.typed_shapes.proofs.arguments.pattern_of.Goals as goal
-
-pub returns : goal.returns
-returns c = all_known c.args.name c.argument_kinds-kinds.result.now c.args.arguments.now c.loop-i.i c.loop-i.pattern c.argument_kinds-kinds.ensures.kinds c.loop-i-test.false c.loop-i.invariant

@@ -1,5 +1,0 @@
-use Rattle.typed_shapes.proofs.ArgumentLemmas.{AreKnown}
-use Rattle.typed_shapes.proofs.arguments.pattern_of.Given as goal
-
-abbrev pub invariant-loop-i : goal.invariant-loop-i
-invariant-loop-i l = AreKnown l.name l.kinds l.arguments l.i l.pattern

@@ -1,7 +1,0 @@
-use Rattle.std.proofs.Common.{◌≡◌, drop}
-use Rattle.c_tree.specs.View.{groups_of}
-use Rattle.c_shapes.specs.ShapeOf.{has_default}
-use Rattle.typed_shapes.proofs.statements.has_default.Given as goal
-
-abbrev pub invariant-loop-group : goal.invariant-loop-group
-invariant-loop-group l = has_default (groups_of (drop l.group-index l.groups)) ≡ has_default (groups_of l.groups)

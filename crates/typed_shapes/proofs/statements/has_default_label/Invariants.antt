@@ -1,6 +1,0 @@
-use Rattle.std.proofs.Common.{◌≡◌, drop}
-use Rattle.c_shapes.specs.ShapeOf.{has_default_label}
-use Rattle.typed_shapes.proofs.statements.has_default_label.Given as goal
-
-abbrev pub invariant-loop-label : goal.invariant-loop-label
-invariant-loop-label l = has_default_label (drop l.label-index l.labels) ≡ has_default_label l.labels

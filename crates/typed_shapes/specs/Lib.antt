@@ -1,4 +1,0 @@
-pub mod Joined
-pub mod Recorded
-pub mod Labels
-pub mod Sited
