@@ -1,6 +1,6 @@
 -- Words that are no command line.
 use Rattle.std.proofs.Common.{◌≡◌, ℕ, List, ◌∷◌, Option, Some, None, IfNone, subst}
-use Rattle.tool_models.specs.declared.asked.Asked.{Asked}
+use Rattle.tool_monitors.specs.declared.asked.Asked.{Asked}
 use Rattle.tool.specs.Command.{TraceCommand, IsCommandLine, IsAskedBy}
 use Rattle.tool.specs.Command.Command.{OfTrace}
 use Rattle.tool.specs.Command.TraceCommand.{Judge, Watch}

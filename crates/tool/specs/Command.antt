@@ -1,7 +1,7 @@
 -- The command lines.
 use Rattle.std.specs.Prelude.{◌≡◌, ◌⊎◌, ℕ, ◌≤◌, List, [], ◌∷◌, codes, decimal}
-use Rattle.tool_models.specs.declared.asked.Asked.{Asked}
-use Rattle.tool_models.specs.Monitors.{asked_word}
+use Rattle.tool_monitors.specs.declared.asked.Asked.{Asked}
+use Rattle.tool_monitors.specs.Monitors.{asked_word}
 
 -- the words that ask for monitors up to a bound, which is 1 to 65,535, and 1,000 where none is given
 abbrev pub IsAskedBy : Asked → ℕ → List (List ℕ) → Type 0

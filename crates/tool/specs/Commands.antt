@@ -13,7 +13,7 @@ use Rattle.tool_audit.specs.Audit.{Audits, RefusesToAudit, LacksToAudit, IsReady
 use Rattle.tool_instrument.specs.Instrument.{Instruments, RefusesToInstrument, IsReadyToInstrument}
 use Rattle.tool_models.specs.Judge.{Judges, RefusesToJudge, LacksToJudge, IsReadyToJudge}
 use Rattle.tool_models.specs.Measure.{Measures}
-use Rattle.tool_models.specs.Monitors.{monitors_of}
+use Rattle.tool_monitors.specs.Monitors.{monitors_of}
 use Rattle.tool_models.specs.Upgrade.{Upgrades, RefusesToUpgrade, IsReadyToUpgrade}
 use Rattle.tool_models.specs.Watch.{Watches, RefusesToWatch, IsReadyToWatch}
 use Rattle.tool_run.specs.Run.{Runs, RefusesToRun, LacksToRun, IsReadyToRun}

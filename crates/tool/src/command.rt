@@ -1,13 +1,13 @@
 ghost use Rattle.std.specs.Prelude.{◌≡◌, ◌≤◌, ◌⊎◌, ℕ, List, [], ◌∷◌, map, string_bytes, decimal, IfSome, IfNone};
-ghost use Rattle.tool_models.specs.Monitors.{asked_word};
+ghost use Rattle.tool_monitors.specs.Monitors.{asked_word};
 ghost use Rattle.tool.specs.Command.{Command as AskedCommand, TraceCommand, IsCommandLine, IsAskedBy};
 ghost use Rattle.tool.specs.Command.Command.{OfTrace, Measure, Run, Audit};
 ghost use Rattle.tool.specs.Command.TraceCommand.{Judge, Watch};
-ghost use Rattle.tool_models.specs.declared.asked.Asked.{Asked as AnyAsked};
+ghost use Rattle.tool_monitors.specs.declared.asked.Asked.{Asked as AnyAsked};
 ghost use Rattle.tool.specs.Asked.{asked_by};
 
 use dm_base::read_u32;
-use tool_models::Asked;
+use tool_monitors::Asked;
 
 /// What the words ask for.
 #[derive(Clone, Copy, Debug, PartialEq, Eq)]

@@ -9,7 +9,7 @@ use Rattle.c_lexer.proofs.OneTokenText.{one_reading}
 use Rattle.c_rules.specs.Accepted.{IsAcceptedAs}
 use Rattle.c_tree.specs.Tree.{Program}
 use Rattle.flow_graph_laws.specs.GraphOfProgram.{graph_of_program}
-use Rattle.tool_run.specs.Run.{AreSomeResults}
+use Rattle.tool_steps.specs.Results.{AreSomeResults}
 use Rattle.tool_sources.proofs.SourceLemmas.{one_unit, one_typing}
 use Rattle.sys_table.specs.declared.results_error.ResultsError.{ResultsError}
 use Rattle.sys_table.specs.declared.results_error.ResultsError.TheVariants as errors

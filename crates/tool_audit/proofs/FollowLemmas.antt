@@ -9,10 +9,10 @@ use Rattle.flow_model.specs.declared.which.Which.TheVariants.{Callgraph, Stack, 
 use Rattle.flow_model.specs.Graph.{Graph}
 use Rattle.flow_model.specs.Verdict.{IsVerdict}
 use Rattle.c_meaning.specs.Runs.{Run}
-use Rattle.tool_models.specs.declared.hearing.Heard.{Heard}
-use Rattle.tool_models.specs.Heard.{AreNextNames}
-use Rattle.tool_models.specs.Judged.{status_of, status_of_all, verdict_lines, worse}
-use Rattle.tool_models.proofs.Judgements.{worse_alone}
+use Rattle.tool_monitors.specs.declared.hearing.Heard.{Heard}
+use Rattle.tool_monitors.specs.Heard.{AreNextNames}
+use Rattle.tool_monitors.specs.Judged.{status_of, status_of_all, verdict_lines, worse}
+use Rattle.tool_monitors.proofs.Judgements.{worse_alone}
 use Rattle.ref_machine.specs.declared.pause.Pause.{Pause}
 use Rattle.ref_machine.specs.declared.pause.Pause.TheVariants.{NeedResult, Did}
 use Rattle.ref_machine.specs.Futures.{event_first}

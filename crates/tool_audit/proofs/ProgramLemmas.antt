@@ -20,7 +20,7 @@ use Rattle.null_calls_texts_laws.specs.Lexical.{InstrumentedUnitsAreLexical}
 use Rattle.null_calls_rules.specs.Instrumented.{instrumented_unit}
 use Rattle.ref_machine.specs.declared.whole.Run.{Run as Found}
 use Rattle.ref_machine.specs.WholeRuns.{run_of}
-use Rattle.tool_run.specs.Run.{run_text}
+use Rattle.tool_steps.specs.Results.{run_text}
 use Rattle.tool_sources.specs.declared.source.Source.{Source}
 use Rattle.tool_sources.specs.Sources.{IsSourceOf}
 use Rattle.tool_sources.proofs.SourceLemmas.{one_typing, source_accepted}

@@ -9,8 +9,8 @@ use Rattle.c_rules.specs.Accepted.{IsAcceptedAs}
 use Rattle.c_tree.specs.Tree.{Program}
 use Rattle.c_tree.specs.View.{program_of}
 use Rattle.flow_graph_laws.specs.GraphOfProgram.{graph_of_program}
-use Rattle.tool_run.specs.Run.{AreSomeResults}
-use Rattle.tool_run.specs.Stopping.{RefusesResultsAlone}
+use Rattle.tool_steps.specs.Results.{AreSomeResults}
+use Rattle.tool_steps.specs.ResultsStops.{RefusesResultsAlone}
 use Rattle.tool_sources.specs.declared.source.Source.{Source}
 use Rattle.tool_sources.specs.Sources.{IsSourceOf, RefusesSource}
 use Rattle.tool_sources.proofs.SourceLemmas.{source_accepted}

@@ -16,10 +16,10 @@ use Rattle.flow_model.proofs.Histories.{accepted_whole}
 use Rattle.flow_model.proofs.Verdicts.{kept-reads}
 use Rattle.alarm_laws.specs.Monitors.{IsAcceptedByAll}
 use Rattle.c_meaning.specs.Runs.{Run}
-use Rattle.tool_models.specs.Judged.{status_of, worse}
+use Rattle.tool_monitors.specs.Judged.{status_of, worse}
 use Rattle.report.specs.Precision.{next_text}
 use Rattle.report.specs.VerdictLine.{verdict_text, event_at}
-use Rattle.tool_run.specs.Run.{run_text}
+use Rattle.tool_steps.specs.Results.{run_text}
 use Rattle.tool_frame.specs.Stop.{IsFinished}
 use Rattle.trace_file.specs.Trace.{IsTrace}
 use Rattle.tool_audit.specs.Audit.{IsAcceptedOrBound, IsAuditOf, lines_of}

@@ -17,10 +17,10 @@ use Rattle.c_meaning.specs.Runs.{Run}
 use Rattle.c_tree.specs.Tree.{Program}
 use Rattle.alarm_laws.specs.MarkedRuns.{marked_run}
 use Rattle.flow_graph_laws.specs.GraphOfProgram.{graph_of_program}
-use Rattle.tool_models.specs.Judged.{status_of, verdict_lines}
+use Rattle.tool_monitors.specs.Judged.{status_of, verdict_lines}
 use Rattle.report.specs.Precision.{IsNext, next_text}
-use Rattle.tool_run.specs.Run.{run_text, AreSomeResults, results_refusal}
-use Rattle.tool_texts.specs.Modelled.{many_nodes}
+use Rattle.tool_steps.specs.Results.{run_text, AreSomeResults, results_refusal}
+use Rattle.tool_steps.specs.ModelTexts.{many_nodes}
 use Rattle.tool_sources.specs.Sources.{RefusesSource}
 use Rattle.sys_table.specs.declared.results_error.ResultsError.{ResultsError}
 use Rattle.sys_table.specs.declared.results_error.ResultsError.TheVariants.{OutOfMemory}

@@ -7,9 +7,9 @@ use Rattle.flow_model.specs.declared.which.Which.{Which}
 use Rattle.flow_model.specs.declared.which.Which.TheVariants.{Callgraph, Stack, Dyck}
 use Rattle.flow_model.specs.Graph.{Graph}
 use Rattle.flow_model.specs.Verdict.{IsVerdict}
-use Rattle.tool_models.specs.declared.hearing.Heard.{Heard}
-use Rattle.tool_models.specs.Heard.{AreNextNames}
-use Rattle.tool_models.specs.Judged.{AreJudged, status_of, worse}
+use Rattle.tool_monitors.specs.declared.hearing.Heard.{Heard}
+use Rattle.tool_monitors.specs.Heard.{AreNextNames}
+use Rattle.tool_monitors.specs.Judged.{AreJudged, status_of, worse}
 use Rattle.report.specs.Precision.{next_text}
 use Rattle.report.specs.VerdictLine.{verdict_text, event_at}
 use Rattle.tool_audit.specs.Audit.{AreNext}

@@ -2,8 +2,8 @@
 use Rattle.std.specs.Prelude.{◌≡◌, ◌<◌}
 use Rattle.c_tree.specs.Tree.{Program}
 use Rattle.flow_graph_laws.specs.GraphOfProgram.{graph_of_program}
-use Rattle.tool_texts.specs.Modelled.{many_nodes}
-use Rattle.tool_texts.specs.Stopping.{IsStopBy}
+use Rattle.tool_steps.specs.ModelTexts.{many_nodes}
+use Rattle.tool_steps.specs.ModelStops.{IsStopBy}
 use Rattle.tool_frame.specs.declared.stop.Stop.{Stop}
 
 -- the program's graph has more nodes than a model may have, or memory was refused

@@ -18,10 +18,9 @@ use headline::texts_raise_no_alarm;
 use std::alloc::Global;
 use sys_table::SysResult;
 use tool_frame::{Finished, Stop};
-use tool_models::{AllMonitors, Listener};
-use tool_run::results_in;
+use tool_monitors::{AllMonitors, Listener};
 use tool_sources::{Source, source_in};
-use tool_texts::model_of;
+use tool_steps::{model_of, results_in};
 use trace_file::write_trace;
 
 // One text after another.

@@ -10,7 +10,7 @@ use flow_model::Model;
 use ref_machine::{Machine, Pause, Run, advance_with};
 use std::alloc::Global;
 use sys_table::SysResult;
-use tool_models::Listener;
+use tool_monitors::Listener;
 
 /// A run, and the monitors that heard it.
 #[derive(Drop)]

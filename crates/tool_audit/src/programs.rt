@@ -14,8 +14,8 @@ use dm_base::{Mode, OutOfMemory};
 use null_calls_texts_laws::{instrumented_units_are_lexical, instrumented_units_are_units};
 use null_calls_units_laws::instrumented_texts_run_marked;
 use std::alloc::Global;
-use tool_instrument::instrumented_items;
 use tool_sources::Source;
+use tool_steps::instrumented_items;
 
 /// The program of a source's instrumented unit. The unit is always typed, so that the checker refuses it says that memory was refused.
 pub fn instrumented_program(alloc: Global, source: &Source) -> Result<Program, OutOfMemory>

@@ -7,7 +7,7 @@ use dm_base::OutOfMemory;
 use report::next_line;
 use std::alloc::Global;
 use tool_frame::Finished;
-use tool_models::Heard;
+use tool_monitors::Heard;
 
 /// The verdict lines of the three monitors, with the status of the three, and then the line of the calls that may come next.
 pub fn report(alloc: Global, heard: Heard) -> Result<Finished, OutOfMemory>

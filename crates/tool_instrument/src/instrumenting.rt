@@ -12,14 +12,13 @@ ghost use Rattle.tool_frame.specs.Stop.{Stops};
 
 use c_syntax::{Item, Unit, print};
 use c_syntax_lengths::is_within;
-use call_graph::Calls;
 use dm_base::{Mode, OutOfMemory, Status};
 use dm_io::Store;
-use null_calls::instrument;
 use null_calls_texts_laws::{instrumented_texts_are_accepted, instrumented_units_are_units};
 use std::alloc::Global;
 use tool_frame::{Finished, Stop, fixed_line};
 use tool_sources::{Source, source_in};
+use tool_steps::instrumented_items;
 
 // The greatest length of an instrumented text, in bytes.
 const LONGEST: u32 = 16_777_216;
@@ -32,15 +31,6 @@ fn stop_with(alloc: Global, text: &[u8]) -> Stop
         Ok(line) => Stop::Source(line),
         Err(_) => Stop::OutOfMemory,
     }
-}
-
-/// The items of a source's instrumented unit. The error is that memory was refused.
-pub fn instrumented_items(alloc: Global, source: &Source) -> Result<Vec<Item>, OutOfMemory>
-    ensures { IfOk result (λ items. items_of items.items ≡ instrumented_unit (program_of source.now.program) (items_of source.now.unit.items.items)) }
-{
-    let calls = Calls::of(alloc, &source.program)?;
-    let items = instrument(alloc, &source.unit.items, &source.program, &calls)?;
-    Ok(items)
 }
 
 // The text of the instrumented unit.

@@ -3,4 +3,4 @@
 
 mod instrumenting;
 
-pub use instrumenting::{instrument_source, instrumented_items};
+pub use instrumenting::instrument_source;

@@ -22,10 +22,10 @@ use Rattle.flow_model.specs.declared.which.Which.TheVariants.{Callgraph, Stack, 
 use Rattle.flow_model.specs.Graph.{Graph}
 use Rattle.flow_model.specs.Verdict.{IsVerdict}
 use Rattle.flow_graph_laws.specs.GraphOfProgram.{graph_of_program}
-use Rattle.tool_models.specs.declared.asked.Asked.{Asked}
-use Rattle.tool_models.specs.declared.asked.Asked.TheVariants as asked
-use Rattle.tool_models.specs.Judged.{status_of, status_of_all}
-use Rattle.tool_models.specs.Monitors.{monitors_of}
+use Rattle.tool_monitors.specs.declared.asked.Asked.{Asked}
+use Rattle.tool_monitors.specs.declared.asked.Asked.TheVariants as asked
+use Rattle.tool_monitors.specs.Judged.{status_of, status_of_all}
+use Rattle.tool_monitors.specs.Monitors.{monitors_of}
 use Rattle.model_file.specs.Refusal.{IsModel}
 use Rattle.trace_file.specs.Trace.{IsTrace}
 use Rattle.trace_file.proofs.OneReading.{one_trace}

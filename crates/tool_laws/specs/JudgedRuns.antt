@@ -3,10 +3,10 @@ use Rattle.std.specs.Prelude.{◌≡◌, ℕ, List}
 use Rattle.dm_base.specs.declared.verdict.Status.{Status}
 use Rattle.dm_base.specs.declared.verdict.Status.TheVariants.{Done}
 use Rattle.dm_io.specs.Store.{Files, file_at}
-use Rattle.tool_models.specs.declared.asked.Asked.{Asked}
-use Rattle.tool_models.specs.declared.asked.Asked.TheVariants as asked
+use Rattle.tool_monitors.specs.declared.asked.Asked.{Asked}
+use Rattle.tool_monitors.specs.declared.asked.Asked.TheVariants as asked
 use Rattle.tool_models.specs.Judge.{Judges}
-use Rattle.tool_models.specs.Monitors.{monitors_of}
+use Rattle.tool_monitors.specs.Monitors.{monitors_of}
 use Rattle.tool_run.specs.Run.{Runs}
 use Rattle.tool_texts.specs.Modelled.{Models}
 

@@ -21,8 +21,8 @@ use Rattle.tool_frame.specs.declared.stop.Stop.TheVariants as stops
 use Rattle.tool_models.specs.Judge.{Judges, IsAModel, RefusesModel, RefusesRecords, LacksToJudge}
 use Rattle.tool_models.specs.Reading.{StopsModel, StopsFile}
 use Rattle.tool_frame.specs.Stop.{Stops}
-use Rattle.tool_models.specs.Judged.{AreJudged, status_of, status_of_all, worse}
-use Rattle.tool_models.specs.Told.{AreTracesTold}
+use Rattle.tool_monitors.specs.Judged.{AreJudged, status_of, status_of_all, worse}
+use Rattle.tool_monitors.specs.Told.{AreTracesTold}
 use Rattle.tool_models.specs.Watch.{Watches}
 use Rattle.tool_models.specs.Watched.{AreAllWatched}
 

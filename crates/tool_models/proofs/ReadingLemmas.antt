@@ -24,7 +24,7 @@ use Rattle.trace_file.specs.Traces.{AreTracesWithin, IsTracesRefusal}
 use Rattle.tool_frame.specs.declared.stop.Stop.{Stop}
 use Rattle.tool_frame.specs.declared.stop.Stop.TheVariants as stops
 use Rattle.tool_models.specs.Reading.{IsAt, IsShut, IsReadWhole, IsStopOf, StopsFile, StopsReading, StopsText}
-use Rattle.tool_models.specs.Told.{IsTraceTold, AreTracesTold}
+use Rattle.tool_monitors.specs.Told.{IsTraceTold, AreTracesTold}
 
 -- a read that gives no byte is at the end of the file
 pub whole_text : (told : Option Files) (name text into : List ℕ) (at : ℕ) → length text ≡ at → ReadsFront told name text → ReadsPart told name at 0 into → IfSome told (λ files. text ≡ file_at files name)

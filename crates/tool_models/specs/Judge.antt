@@ -13,7 +13,7 @@ use Rattle.model_file.specs.Refusal.{IsModel, IsModelRefusal}
 use Rattle.trace_file.specs.declared.error.TraceError.{TraceError}
 use Rattle.trace_file.specs.declared.error.TraceError.TheVariants as traces
 use Rattle.trace_file.specs.Trace.{IsTraceWithin, IsTraceRefusal}
-use Rattle.tool_models.specs.Judged.{AreJudged}
+use Rattle.tool_monitors.specs.Judged.{AreJudged}
 
 -- the text is that of the verdicts of the monitors of the model in the one file on the trace in the other
 pub record Judges (files : Files) (model trace : List ℕ) (monitors : List Which) (bound : ℕ) (status : Status) (text : List ℕ) : Type 0 where

@@ -1,13 +1,8 @@
 pub mod Following
 pub mod Found
-pub mod Heard
 pub mod Judge
-pub mod Judged
 pub mod Measure
-pub mod Monitors
 pub mod Reading
-pub mod Refused
-pub mod Told
 pub mod Upgrade
 pub mod Watch
 pub mod Watched

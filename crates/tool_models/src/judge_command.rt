@@ -1,18 +1,14 @@
 ghost use Rattle.std.specs.Prelude.{◌≡◌, ◌≤◌, ◌<◌, ◌^◌, ℕ, List, IfOk, IfErr, IfSome};
 ghost use Rattle.dm_io.specs.Store.{file_at};
 ghost use Rattle.model_file.specs.Refusal.{IsModel};
-ghost use Rattle.tool_models.specs.Monitors.{monitors_of};
+ghost use Rattle.tool_monitors.specs.Monitors.{monitors_of};
 ghost use Rattle.tool_frame.specs.Stop.{IsFinished};
 ghost use Rattle.tool_models.specs.Judge.{Judges, RefusesToJudge, LacksToJudge};
-ghost use Rattle.tool_models.specs.Judged.{AreJudged};
+ghost use Rattle.tool_monitors.specs.Judged.{AreJudged};
 ghost use Rattle.tool_models.specs.Reading.{IsStopOfModel, StopsTrace, StopsModel};
 ghost use Rattle.tool_frame.specs.Stop.{Stops};
-ghost use Rattle.tool_models.specs.Told.{IsTraceTold};
+ghost use Rattle.tool_monitors.specs.Told.{IsTraceTold};
 
-use crate::asked::Asked;
-use crate::judging::Judging;
-use crate::pair::Pair;
-use crate::panel::Panel;
 use crate::reading::read_to_end;
 use crate::refusals::model_line;
 use crate::trace_follower::TraceFollower;
@@ -24,12 +20,7 @@ use model_file::{ModelError, read_model};
 use stack_automaton::StackMonitor;
 use std::alloc::Global;
 use tool_frame::{Finished, Stop};
-
-/// The three monitors, in the order of their lines.
-pub type AllMonitors = Pair<
-    Judging<CallgraphMonitor>,
-    Pair<Judging<StackMonitor>, Judging<DyckMonitor>>,
->;
+use tool_monitors::{AllMonitors, Asked, Judging, Panel};
 
 // One byte more than a model may have.
 const MOST: usize = 16_777_217;

@@ -2,16 +2,11 @@
 //! newest version.
 #![tactic(auto)]
 
-mod asked;
 mod findings;
 mod follower;
-mod hearing;
 mod judge_command;
-mod judging;
 mod measure_command;
 mod metering;
-mod pair;
-mod panel;
 mod reading;
 mod refusals;
 mod trace_follower;
@@ -22,9 +17,7 @@ mod watch_pair;
 mod watches;
 mod watching;
 
-pub use asked::Asked;
-pub use hearing::{Heard, Listener};
-pub use judge_command::{AllMonitors, judge};
+pub use judge_command::judge;
 pub use measure_command::measure;
 pub use upgrade_command::upgrade;
 pub use watch_command::watch_traces;

@@ -1,15 +1,13 @@
 ghost use Rattle.std.specs.Prelude.{◌≡◌, ◌≤◌, IfOk, IfErr, IfSome};
-ghost use Rattle.tool_models.specs.Monitors.{monitors_of};
+ghost use Rattle.tool_monitors.specs.Monitors.{monitors_of};
 ghost use Rattle.tool_models.specs.Judge.{RefusesToJudge, LacksToJudge};
 ghost use Rattle.tool_models.specs.Measure.{AreMeasured, Measures};
 ghost use Rattle.tool_models.specs.Reading.{StopsTrace};
 ghost use Rattle.tool_frame.specs.Stop.{Stops};
-ghost use Rattle.tool_models.specs.Told.{IsTraceTold};
+ghost use Rattle.tool_monitors.specs.Told.{IsTraceTold};
 
-use crate::asked::Asked;
 use crate::judge_command::{follow_by, model_in};
 use crate::metering::Metering;
-use crate::pair::Pair;
 use callgraph_monitor::CallgraphMonitor;
 use dm_base::Status;
 use dm_io::Store;
@@ -18,6 +16,7 @@ use flow_model::Model;
 use stack_automaton::StackMonitor;
 use std::alloc::Global;
 use tool_frame::{Finished, Stop};
+use tool_monitors::{Asked, Pair};
 
 // The three monitors, in the order of their lines.
 type All = Pair<Metering<CallgraphMonitor>, Pair<Metering<StackMonitor>, Metering<DyckMonitor>>>;

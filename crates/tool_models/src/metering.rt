@@ -5,12 +5,12 @@ ghost use Rattle.report.specs.Measuring.{HasMeasured};
 ghost use Rattle.report.specs.Precision.{precision_text};
 ghost use Rattle.tool_models.specs.Measure.{AreMeasured};
 
-use crate::panel::Panel;
 use dm_base::{Event, OutOfMemory, Status};
 use flow_model::{Model, Monitor, Which};
 use report::{Meter, Precision, precision_line};
 use std::alloc::Global;
 use tool_frame::Finished;
+use tool_monitors::Panel;
 
 /// One monitor by which the precision of its model along a trace is measured.
 #[derive(Drop)]

@@ -7,12 +7,12 @@ ghost use Rattle.trace_file.specs.Trace.{longest, most, IsTraceWithin, IsTraceRe
 ghost use Rattle.tool_models.specs.Reading.{IsOpen, IsAt, StopsText};
 
 use crate::follower::Follower;
-use crate::panel::Panel;
 use crate::reading::refused_with;
 use dm_base::{Event, OutOfMemory};
 use flow_model::Model;
 use std::alloc::Global;
 use tool_frame::Stop;
+use tool_monitors::Panel;
 use trace_file::{TraceError, TraceReader};
 
 /// A panel that follows a trace: the reader of its file, and why the trace was refused, where it was.

@@ -1,14 +1,13 @@
 ghost use Rattle.std.specs.Prelude.{◌≡◌, ◌≤◌, ◌<◌, ◌^◌, IfOk, IfErr, IfSome};
-ghost use Rattle.tool_models.specs.Monitors.{monitors_of};
+ghost use Rattle.tool_monitors.specs.Monitors.{monitors_of};
 ghost use Rattle.tool_frame.specs.Stop.{IsFinished};
 ghost use Rattle.tool_models.specs.Judge.{LacksToJudge};
 ghost use Rattle.tool_models.specs.Reading.{StopsTraces};
 ghost use Rattle.tool_frame.specs.Stop.{Stops};
-ghost use Rattle.tool_models.specs.Told.{AreTracesTold};
+ghost use Rattle.tool_monitors.specs.Told.{AreTracesTold};
 ghost use Rattle.tool_models.specs.Watch.{Watches as WatchesTraces, RefusesToWatch};
 ghost use Rattle.tool_models.specs.Watched.{AreAllWatched};
 
-use crate::asked::Asked;
 use crate::judge_command::model_in;
 use crate::reading::read_to_end;
 use crate::traces_follower::TracesFollower;
@@ -21,6 +20,7 @@ use flow_model::Model;
 use stack_automaton::StackMonitor;
 use std::alloc::Global;
 use tool_frame::{Finished, Stop};
+use tool_monitors::Asked;
 use watch::Watch;
 
 // The watches of the three monitors, in the order of their lines.

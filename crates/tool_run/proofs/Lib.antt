@@ -1,3 +1,2 @@
 pub mod FileLemmas
-pub mod ResultsFiles
 pub mod RunLemmas

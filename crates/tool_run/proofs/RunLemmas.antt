@@ -1,4 +1,5 @@
 -- A run can be written as a trace, and what a command makes of a program and results that files were read as.
+use Rattle.tool_steps.proofs.RecordedRuns.{read_so}
 use Rattle.std.proofs.Common.{◌≡◌, ℕ, ◌≤◌, List, All, Option, Some, None, IfSome, inl, inr, sym, subst, arith}
 use Rattle.std.proofs.lemmas.List.Elements.{All-nil}
 use Rattle.dm_base.specs.declared.mode.Mode.TheVariants.{Instrumented}
@@ -26,26 +27,9 @@ use Rattle.trace_file.specs.EventText.{IsCountedOutcome, IsCountedEnd}
 use Rattle.trace_file.specs.Trace.{IsTrace}
 use Rattle.c_meaning_laws.specs.Laws.{IsTypedRun, RunsAreTyped}
 use Rattle.c_meaning_laws.specs.TypedResults.{IsEnding}
-use Rattle.tool_run.specs.Run.{Runs, RefusesToRun, LacksToRun, IsSomeProgram, run_text}
-use Rattle.tool_run.specs.Stopping.{RefusesResultsAlone}
-
--- what the run is, which was found so
-typed_run : (typed : RunsAreTyped) (p : Program) (n : ℕ) → IsProgram p n → (records : List SysResult) (turns : ℕ) → IsTypedRun (run p records turns)
-typed_run typed p n is records turns = typed p n is no_marks (λ site. (All-nil IsRecorded, All-nil IsRecorded)) records turns
-
-pub events_recorded : (typed : RunsAreTyped) (p : Program) (n : ℕ) → IsProgram p n → (records : List SysResult) (turns : ℕ) (found : Found) → run_of found ≡ run p records turns → All IsRecorded found.trace.items
-events_recorded typed p n is records turns found same = subst (λ (r : Run). All IsRecorded r.trace) (sym same) (typed_run typed p n is records turns).trace
-
-counted : (o : Outcome) → IsEnding o → IsCountedOutcome o
-counted (Exit z) h = tt
-counted (Undefined kind) h = tt
-counted Turns h = tt
-counted Results h = tt
-counted (BadResult k) h = h
-
-pub end_counted : (typed : RunsAreTyped) (p : Program) (n : ℕ) → IsProgram p n → (records : List SysResult) (turns : ℕ) (found : Found) → run_of found ≡ run p records turns → IsCountedEnd (Ended found.outcome)
-end_counted typed p n is records turns found same =
-    counted found.outcome (subst (λ (r : Run). IsEnding r.outcome) (sym same) (typed_run typed p n is records turns).outcome)
+use Rattle.tool_run.specs.Run.{Runs, RefusesToRun, LacksToRun, IsSomeProgram}
+use Rattle.tool_steps.specs.Results.{run_text}
+use Rattle.tool_steps.specs.ResultsStops.{RefusesResultsAlone}
 
 -- what a command makes of files that were read
 
@@ -53,12 +37,6 @@ pub runs : (told : Option Files) (name results : List ℕ) (turns : ℕ) (text :
 runs None name results turns text source records is read writes formed = tt
 runs (Some files) name results turns text source records is read writes formed =
     record { program = program_of source.program; records = records; accepted = source_accepted (file_at files name) Instrumented source is; recorded = read; is = writes; formed = formed }
-
--- the results that were read after the source, as they are passed on
-pub read_so : (told mid : Option Files) (results : List ℕ) (records seen : List SysResult) → mid ≡ told → seen ≡ records → IfSome mid (λ files. AreResultsWithin (file_at files results) records) → IfSome told (λ files. AreResultsWithin (file_at files results) seen)
-read_so told mid results records seen same are read =
-    subst (λ (t : Option Files). IfSome t (λ files. AreResultsWithin (file_at files results) seen)) same
-    (subst (λ (w : List SysResult). IfSome mid (λ files. AreResultsWithin (file_at files results) w)) (sym are) read)
 
 some_program : (told : Option Files) (name : List ℕ) (source : Source) → IfSome told (λ files. IsSourceOf (file_at files name) Instrumented source) → IfSome told (λ files. IsSomeProgram files name)
 some_program None name source is = tt

@@ -1,4 +1,5 @@
 -- What `run FILE RESULTS TURNS` makes of its files, and why it refuses them.
+use Rattle.tool_steps.specs.Results.{run_text, AreSomeResults, results_refusal}
 use Rattle.std.specs.Prelude.{◌≡◌, ◌≢◌, ◌⊎◌, ℕ, List, ◌++◌, Option, IfSome, IsSomeAnd, codes, decimal}
 use Rattle.dm_base.specs.declared.mode.Mode.TheVariants.{Instrumented}
 use Rattle.dm_base.specs.declared.outcome.TraceEnd.TheVariants.{Ended}
@@ -15,10 +16,6 @@ use Rattle.sys_table.specs.declared.sys_result.SysResult.{SysResult}
 use Rattle.sys_table.specs.ResultsText.{AreResultsWithin, IsResultsRefusal}
 use Rattle.trace_file.specs.Trace.{trace_text, IsTrace}
 
--- the text of the trace of a run, with the outcome
-abbrev pub run_text : Run → List ℕ
-run_text r = trace_text r.trace (Ended r.outcome)
-
 -- the one file's text is accepted as a program, the other's is that of recorded results, and the text is that of the trace of the
 -- program's run with these results and so many turns (C99 5.1.2.3)
 pub record Runs (files : Files) (source results : List ℕ) (turns : ℕ) (text : List ℕ) : Type 0 where
@@ -31,17 +28,6 @@ pub record Runs (files : Files) (source results : List ℕ) (turns : ℕ) (text 
 
 abbrev pub IsSomeProgram : Files → List ℕ → Type 0
 IsSomeProgram files name = (p : Program) × IsAcceptedAs (file_at files name) Instrumented p
-
-abbrev pub AreSomeResults : Files → List ℕ → Type 0
-AreSomeResults files name = (records : List SysResult) × AreResultsWithin (file_at files name) records
-
--- the line of refused results
-abbrev pub results_refusal : ResultsError → List ℕ
-results_refusal OutOfMemory = codes "out of memory\n"
-results_refusal (BadLine k) = codes "record refused F1 line " ++ decimal k ++ codes "\n"
-results_refusal NoEnd = codes "record refused F2\n"
-results_refusal TooLong = codes "record refused F3\n"
-results_refusal Version = codes "record refused F4\n"
 
 -- the source is a program, and the file of results is refused, with this status and this line
 abbrev pub RefusesResults : Option Files → List ℕ → List ℕ → Status → List ℕ → Type 0

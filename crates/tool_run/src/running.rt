@@ -1,12 +1,12 @@
 ghost use Rattle.std.specs.Prelude.{◌≡◌, ◌≤◌, IfOk, IfErr, IfSome};
 ghost use Rattle.c_meaning.specs.Runs.{run};
 ghost use Rattle.c_tree.specs.View.{program_of};
-ghost use Rattle.tool_run.specs.Run.{LacksToRun, RefusesToRun, Runs, run_text};
+ghost use Rattle.tool_run.specs.Run.{LacksToRun, RefusesToRun, Runs};
+ghost use Rattle.tool_steps.specs.Results.{run_text};
 ghost use Rattle.dm_base.specs.declared.outcome.TraceEnd.TheVariants.{Ended};
 ghost use Rattle.tool_frame.specs.Stop.{Stops};
 ghost use Rattle.trace_file.specs.Trace.{IsTrace};
 
-use crate::results::results_in;
 use c_meaning_laws::values_have_kinds;
 use c_tree::Program;
 use dm_base::{Mode, OutOfMemory, Status, TraceEnd};
@@ -16,6 +16,7 @@ use std::alloc::Global;
 use sys_table::SysResult;
 use tool_frame::{Finished, Stop};
 use tool_sources::source_in;
+use tool_steps::results_in;
 use trace_file::write_trace;
 
 // The text of the trace of the program's run with these recorded results and so many turns.

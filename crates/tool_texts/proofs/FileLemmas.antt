@@ -20,9 +20,10 @@ use Rattle.tool_frame.specs.declared.stop.Stop.TheVariants as stops
 use Rattle.tool_frame.specs.Stop.{Stops}
 use Rattle.tool_sources.specs.declared.source.Source.{Source}
 use Rattle.tool_texts.specs.Check.{Checks, checked_text, IsReadyToCheck}
-use Rattle.tool_texts.specs.Modelled.{Models, HasLanguagesOf, IsModelText, IsModelOf, IsPastLimit, RefusesToModel, IsReadyToModel, many_nodes, long_text}
+use Rattle.tool_texts.specs.Modelled.{Models, RefusesToModel, IsReadyToModel}
+use Rattle.tool_steps.specs.ModelTexts.{HasLanguagesOf, IsModelText, IsModelOf, IsPastLimit, many_nodes, long_text}
 use Rattle.tool_sources.specs.Sources.{IsSourceOf, RefusesSource}
-use Rattle.tool_texts.specs.Stopping.{IsStopBy, StopsBuilding, StopsModelling, StopsWriting}
+use Rattle.tool_steps.specs.ModelStops.{IsStopBy, StopsBuilding, StopsModelling, StopsWriting}
 use Rattle.tool_sources.proofs.SourceLemmas.{one_unit, one_typing, source_accepted}
 
 -- a text is accepted as one program
@@ -38,33 +39,6 @@ checks (Some files) name text source is writes = (program_of source.program, sou
 pub models : (told : Option Files) (name text : List ℕ) (source : Source) → IfSome told (λ files. IsSourceOf (file_at files name) Plain source) → IsModelOf (program_of source.program) text → IfSome told (λ files. Models files name text)
 models None name text source is made = tt
 models (Some files) name text source is made = (program_of source.program, source_accepted (file_at files name) Plain source is, made)
-
--- the model of a program
-
-pub stop_by : (P Q : List ℕ → Type 0) (stop : Stop) → ((line : List ℕ) → P line → Q line) → IsStopBy P stop → IsStopBy Q stop
-stop_by P Q stops.Usage on why = why
-stop_by P Q (stops.Source line) on why = on line.items why
-stop_by P Q (stops.Model line) on why = why
-stop_by P Q (stops.Record line) on why = why
-stop_by P Q stops.Read on why = why
-stop_by P Q stops.Write on why = why
-stop_by P Q stops.OutOfMemory on why = tt
-
-pub model_made : (p : Program) (g : Graph) (text : List ℕ) → g ≡ graph_of_program p → (graph_of_program p).nodes ≤ 200000 → IsModelText g text → HasLanguagesOf p g → IsModelOf p text
-model_made p g text same few is languages = record {
-  few = few;
-  written = subst (λ (h : Graph). IsModelText h text) same is;
-  languages = subst (HasLanguagesOf p) same languages;
-}
-
-pub stops_building : (stop : Stop) (p : Program) → StopsBuilding stop p → StopsModelling stop p
-stops_building stop p =
-    stop_by (λ (line : List ℕ). (line ≡ many_nodes) × (200000 < (graph_of_program p).nodes)) (IsPastLimit p) stop (λ line past. inl past)
-
-pub stops_writing : (stop : Stop) (p : Program) (g : Graph) → g ≡ graph_of_program p → (graph_of_program p).nodes ≤ 200000 → StopsWriting stop g → StopsModelling stop p
-stops_writing stop p g same few =
-    stop_by (λ (line : List ℕ). (line ≡ long_text) × (longest < length (model_text Two g))) (IsPastLimit p) stop
-    (λ line past. inr (past.0, few, subst (λ (h : Graph). longest < length (model_text Two h)) same past.1))
 
 -- why no model was made of a file that was read
 pub stops_modelling : (told : Option Files) (name : List ℕ) (source : Source) (stop : Stop) (before after : ℕ) → IfSome told (λ files. IsSourceOf (file_at files name) Plain source) → StopsModelling stop (program_of source.program) → Stops stop (RefusesToModel told name) (IsMissing told name) before after

@@ -1,4 +1,5 @@
 -- What `model FILE` makes of its file, and why it refuses it.
+use Rattle.tool_steps.specs.ModelTexts.{IsModelOf, IsPastLimit}
 use Rattle.std.specs.Prelude.{◌≡◌, ◌⊎◌, ℕ, ◌<◌, ◌≤◌, List, length, Option, IfSome, IsSomeAnd, codes}
 use Rattle.dm_base.specs.declared.mode.Mode.TheVariants.{Plain}
 use Rattle.dm_base.specs.declared.verdict.Status.{Status}
@@ -17,40 +18,9 @@ use Rattle.model_file.specs.ModelText.{model_text}
 use Rattle.model_file.specs.Refusal.{longest, IsModel}
 use Rattle.tool_sources.specs.Sources.{RefusesSource}
 
--- the three languages of the graph are those of the program (Wagner and Dean 2001; Giffin, Jha and Miller 2004)
-pub record HasLanguagesOf (p : Program) (g : Graph) : Type 0 where
-  pub dyck : AreEqual (programs.Dyck p) (Reads Dyck g)
-  pub stack : AreEqual (programs.Stack p) (Reads Stack g)
-  pub callgraph : AreEqual (programs.Callgraph p) (Reads Callgraph g)
-
--- the text is that of the graph in version 2, and is read as this valid model
-pub record IsModelText (g : Graph) (text : List ℕ) : Type 0 where
-  pub writes : text ≡ model_text Two g
-  pub is_model : IsModel text g
-
--- the text is that of the program's graph, which has its three languages and no more nodes than a model may have
-pub record IsModelOf (p : Program) (text : List ℕ) : Type 0 where
-  pub few : (graph_of_program p).nodes ≤ 200000
-  pub written : IsModelText (graph_of_program p) text
-  pub languages : HasLanguagesOf p (graph_of_program p)
-
 -- the file's text is accepted as a program, and the text is that of its model
 abbrev pub Models : Files → List ℕ → List ℕ → Type 0
 Models files name text = (p : Program) × IsAcceptedAs (file_at files name) Plain p × IsModelOf p text
-
--- the line of a program whose model would have more nodes than a model may have
-abbrev pub many_nodes : List ℕ
-many_nodes = codes "source refused G1\n"
-
--- the line of a program whose model would have a longer text than a model may have
-abbrev pub long_text : List ℕ
-long_text = codes "source refused G2\n"
-
--- the program's model is past a limit, and the line names it; the number of nodes comes first
-abbrev pub IsPastLimit : Program → List ℕ → Type 0
-IsPastLimit p line =
-    ((line ≡ many_nodes) × (200000 < (graph_of_program p).nodes))
-    ⊎ ((line ≡ long_text) × ((graph_of_program p).nodes ≤ 200000) × (longest < length (model_text Two (graph_of_program p))))
 
 -- the text is refused, or its program's model is past a limit
 abbrev pub RefusesToModel : Option Files → List ℕ → Status → List ℕ → Type 0

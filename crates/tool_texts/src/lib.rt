@@ -3,8 +3,6 @@
 
 mod check_command;
 mod model_command;
-mod modelling;
 
 pub use check_command::check_source;
 pub use model_command::model_of_source;
-pub use modelling::model_of;

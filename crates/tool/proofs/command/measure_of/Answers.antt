@@ -1,6 +1,6 @@
 use Rattle.std.proofs.Common.{◌≡◌, ℕ, List, [], ◌∷◌}
-use Rattle.tool_models.specs.declared.asked.Asked.{Asked}
-use Rattle.tool_models.specs.Monitors.{asked_word}
+use Rattle.tool_monitors.specs.declared.asked.Asked.{Asked}
+use Rattle.tool_monitors.specs.Monitors.{asked_word}
 use Rattle.tool.specs.Command.{IsCommandLine}
 use Rattle.tool.specs.Command.Command.{Measure}
 use Rattle.tool.proofs.command.measure_of.Goals as goal

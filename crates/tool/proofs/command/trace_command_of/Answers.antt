@@ -1,5 +1,5 @@
 use Rattle.std.proofs.Common.{ℕ, List, ◌∷◌, Option, Some, None, IfNone, inl, inr}
-use Rattle.tool_models.specs.declared.asked.Asked.{Asked}
+use Rattle.tool_monitors.specs.declared.asked.Asked.{Asked}
 use Rattle.tool.specs.Command.{Command, TraceCommand, IsCommandLine}
 use Rattle.tool.specs.Command.Command.{Version, Help, OfFile, OfTrace, Measure, Run, Audit}
 use Rattle.tool.proofs.command.trace_command_of.Goals as goal

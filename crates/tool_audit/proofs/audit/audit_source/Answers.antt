@@ -2,7 +2,7 @@ use Rattle.std.proofs.lemmas.Result.{err_from_is_err_and}
 use Rattle.alarm_laws.specs.MarkedRuns.{marked_run}
 use Rattle.c_tree.specs.View.{program_of}
 use Rattle.flow_graph_laws.specs.GraphOfProgram.{graph_of_program}
-use Rattle.tool_run.proofs.RunLemmas.{read_so}
+use Rattle.tool_steps.proofs.RecordedRuns.{read_so}
 use Rattle.tool_audit.proofs.StopLemmas.{audits, stops_at_results, stops_at_graph}
 use Rattle.tool_audit.proofs.Verdicts.{never_rejected, finished}
 use Rattle.tool_audit.proofs.audit.audit_source.Goals as goal

@@ -2,7 +2,7 @@ use Rattle.std.proofs.Common.{List, All, refl, sym, subst}
 use Rattle.dm_base.specs.declared.event.Event.{Event}
 use Rattle.c_tree.specs.View.{program_of}
 use Rattle.sys_table.specs.Table.{IsRecorded}
-use Rattle.tool_run.proofs.RunLemmas.{events_recorded, end_counted}
+use Rattle.tool_steps.proofs.RecordedRuns.{events_recorded, end_counted}
 use Rattle.tool_audit.proofs.ProgramLemmas.{audit_found}
 use Rattle.tool_audit.proofs.audit.audited.Goals as goal
 

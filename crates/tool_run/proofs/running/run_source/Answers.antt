@@ -1,6 +1,7 @@
 use Rattle.std.proofs.Common.{refl}
 use Rattle.std.proofs.lemmas.Result.{err_from_is_err_and}
-use Rattle.tool_run.proofs.RunLemmas.{read_so, runs, stops_at_results}
+use Rattle.tool_steps.proofs.RecordedRuns.{read_so}
+use Rattle.tool_run.proofs.RunLemmas.{runs, stops_at_results}
 use Rattle.tool_run.proofs.running.run_source.Goals as goal
 
 pub returns-in_err-records-clause-stop : goal.returns-in_err-records-clause-stop

@@ -2,7 +2,7 @@ use Rattle.std.proofs.Common.{List, All, sym, subst}
 use Rattle.dm_base.specs.declared.event.Event.{Event}
 use Rattle.c_tree.specs.View.{program_of}
 use Rattle.sys_table.specs.Table.{IsRecorded}
-use Rattle.tool_run.proofs.RunLemmas.{events_recorded, end_counted}
+use Rattle.tool_steps.proofs.RecordedRuns.{events_recorded, end_counted}
 use Rattle.tool_run.proofs.running.trace_of.Goals as goal
 
 pub write_trace-requires-clause-events : goal.write_trace-requires-clause-events

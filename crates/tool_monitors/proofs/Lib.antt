@@ -1,0 +1,4 @@
+pub mod HearingLemmas
+pub mod Judgements
+pub mod Nesting
+pub mod PairLemmas

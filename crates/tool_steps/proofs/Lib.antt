@@ -1,0 +1,3 @@
+pub mod ModelLemmas
+pub mod RecordedRuns
+pub mod ResultsFiles

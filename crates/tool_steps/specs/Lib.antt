@@ -1,0 +1,4 @@
+pub mod ModelStops
+pub mod ModelTexts
+pub mod Results
+pub mod ResultsStops

@@ -1,0 +1,12 @@
+//! What commands on C texts have in common, beside reading one: the records of a file, the model of a program, and the items of an
+//! instrumented unit.
+#![tactic(auto)]
+
+mod instrumented;
+mod modelling;
+mod refusals;
+mod results;
+
+pub use instrumented::instrumented_items;
+pub use modelling::{graph_text, model_of};
+pub use results::results_in;
