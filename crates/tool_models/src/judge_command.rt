@@ -1,4 +1,4 @@
-ghost use Rattle.std.specs.Prelude.{◌≡◌, ◌≤◌, ◌<◌, ◌^◌, ℕ, List, IfOk, IfErr, IfSome};
+ghost use Rattle.std.specs.Prelude.{◌≡◌, ◌≤◌, ◌<◌, ◌^◌, IfOk, IfErr, IfSome};
 ghost use Rattle.dm_io.specs.Store.{file_at};
 ghost use Rattle.model_file.specs.Refusal.{IsModel};
 ghost use Rattle.tool_monitors.specs.Monitors.{monitors_of};

@@ -1,20 +1,20 @@
 -- What `run FILE RESULTS TURNS` makes of its files, and why it refuses them.
 use Rattle.tool_steps.specs.Results.{run_text, AreSomeResults, results_refusal}
-use Rattle.std.specs.Prelude.{◌≡◌, ◌≢◌, ◌⊎◌, ℕ, List, ◌++◌, Option, IfSome, IsSomeAnd, codes, decimal}
+use Rattle.std.specs.Prelude.{◌≡◌, ◌≢◌, ◌⊎◌, ℕ, List, Option, IfSome, IsSomeAnd}
 use Rattle.dm_base.specs.declared.mode.Mode.TheVariants.{Instrumented}
 use Rattle.dm_base.specs.declared.outcome.TraceEnd.TheVariants.{Ended}
 use Rattle.dm_base.specs.declared.verdict.Status.{Status}
 use Rattle.dm_base.specs.declared.verdict.Status.TheVariants as statuses
 use Rattle.dm_io.specs.Store.{Files, file_at, IsMissing}
-use Rattle.c_meaning.specs.Runs.{Run, run}
+use Rattle.c_meaning.specs.Runs.{run}
 use Rattle.c_rules.specs.Accepted.{IsAcceptedAs}
 use Rattle.c_tree.specs.Tree.{Program}
 use Rattle.tool_sources.specs.Sources.{RefusesSource}
 use Rattle.sys_table.specs.declared.results_error.ResultsError.{ResultsError}
-use Rattle.sys_table.specs.declared.results_error.ResultsError.TheVariants.{OutOfMemory, BadLine, NoEnd, TooLong, Version}
+use Rattle.sys_table.specs.declared.results_error.ResultsError.TheVariants.{OutOfMemory}
 use Rattle.sys_table.specs.declared.sys_result.SysResult.{SysResult}
 use Rattle.sys_table.specs.ResultsText.{AreResultsWithin, IsResultsRefusal}
-use Rattle.trace_file.specs.Trace.{trace_text, IsTrace}
+use Rattle.trace_file.specs.Trace.{IsTrace}
 
 -- the one file's text is accepted as a program, the other's is that of recorded results, and the text is that of the trace of the
 -- program's run with these results and so many turns (C99 5.1.2.3)

@@ -1,15 +1,6 @@
 -- The model of a program, made and written or refused.
-use Rattle.std.proofs.Common.{◌≡◌, ℕ, ◌<◌, ◌≤◌, List, length, Option, Some, None, IfSome, inl, inr, refl, subst, arith}
-use Rattle.dm_base.specs.declared.mode.Mode.{Mode}
-use Rattle.dm_base.specs.declared.mode.Mode.TheVariants.{Plain}
-use Rattle.dm_base.specs.declared.verdict.Status.{Status}
-use Rattle.dm_base.specs.declared.verdict.Status.TheVariants as statuses
-use Rattle.dm_io.specs.Store.{Files, file_at, IsMissing}
-use Rattle.c_rules_laws.proofs.Texts.{one_program}
-use Rattle.c_lexer.proofs.OneTokenText.{one_reading}
-use Rattle.c_rules.specs.Accepted.{IsAcceptedAs}
+use Rattle.std.proofs.Common.{◌≡◌, ℕ, ◌<◌, ◌≤◌, List, length, inl, inr, subst}
 use Rattle.c_tree.specs.Tree.{Program}
-use Rattle.c_tree.specs.View.{program_of}
 use Rattle.flow_model.specs.Graph.{Graph}
 use Rattle.flow_graph_laws.specs.GraphOfProgram.{graph_of_program}
 use Rattle.model_file.specs.declared.version.ModelVersion.TheVariants.{Two}
@@ -17,14 +8,9 @@ use Rattle.model_file.specs.ModelText.{model_text}
 use Rattle.model_file.specs.Refusal.{longest}
 use Rattle.tool_frame.specs.declared.stop.Stop.{Stop}
 use Rattle.tool_frame.specs.declared.stop.Stop.TheVariants as stops
-use Rattle.tool_frame.specs.Stop.{Stops}
 use Rattle.tool_sources.specs.declared.source.Source.{Source}
-use Rattle.tool_texts.specs.Check.{Checks, checked_text, IsReadyToCheck}
-use Rattle.tool_texts.specs.Modelled.{Models, RefusesToModel, IsReadyToModel}
 use Rattle.tool_steps.specs.ModelTexts.{HasLanguagesOf, IsModelText, IsModelOf, IsPastLimit, many_nodes, long_text}
-use Rattle.tool_sources.specs.Sources.{IsSourceOf, RefusesSource}
 use Rattle.tool_steps.specs.ModelStops.{IsStopBy, StopsBuilding, StopsModelling, StopsWriting}
-use Rattle.tool_sources.proofs.SourceLemmas.{one_unit, one_typing, source_accepted}
 
 pub stop_by : (P Q : List ℕ → Type 0) (stop : Stop) → ((line : List ℕ) → P line → Q line) → IsStopBy P stop → IsStopBy Q stop
 stop_by P Q stops.Usage on why = why

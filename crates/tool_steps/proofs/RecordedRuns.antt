@@ -1,34 +1,21 @@
 -- A run can be written as a trace, and results that were read are passed on.
-use Rattle.std.proofs.Common.{◌≡◌, ℕ, ◌≤◌, List, All, Option, Some, None, IfSome, inl, inr, sym, subst, arith}
+use Rattle.std.proofs.Common.{◌≡◌, ℕ, List, All, Option, IfSome, sym, subst}
 use Rattle.std.proofs.lemmas.List.Elements.{All-nil}
-use Rattle.dm_base.specs.declared.mode.Mode.TheVariants.{Instrumented}
 use Rattle.dm_base.specs.declared.outcome.Outcome.{Outcome}
 use Rattle.dm_base.specs.declared.outcome.Outcome.TheVariants.{Exit, Undefined, Turns, Results, BadResult}
 use Rattle.dm_base.specs.declared.outcome.TraceEnd.TheVariants.{Ended}
-use Rattle.dm_io.specs.Faults.{Rose}
-use Rattle.dm_io.specs.Store.{Files, file_at, IsMissing}
+use Rattle.dm_io.specs.Store.{Files, file_at}
 use Rattle.c_meaning.specs.Runs.{Run, run, no_marks}
 use Rattle.c_tree.specs.Program.{IsProgram}
 use Rattle.c_tree.specs.Tree.{Program}
-use Rattle.c_tree.specs.View.{program_of}
 use Rattle.ref_machine.specs.declared.whole.Run.{Run as Found}
 use Rattle.ref_machine.specs.WholeRuns.{run_of}
-use Rattle.tool_sources.specs.declared.source.Source.{Source}
-use Rattle.tool_sources.specs.Sources.{IsSourceOf, RefusesSource}
-use Rattle.tool_sources.proofs.SourceLemmas.{source_accepted}
 use Rattle.sys_table.specs.declared.sys_result.SysResult.{SysResult}
-use Rattle.sys_table.specs.ResultsText.{AreResultsWithin, IsResultsRefusal}
+use Rattle.sys_table.specs.ResultsText.{AreResultsWithin}
 use Rattle.sys_table.specs.Table.{IsRecorded}
-use Rattle.tool_frame.specs.declared.stop.Stop.{Stop}
-use Rattle.tool_frame.specs.declared.stop.Stop.TheVariants as stops
-use Rattle.tool_frame.specs.Stop.{Stops}
 use Rattle.trace_file.specs.EventText.{IsCountedOutcome, IsCountedEnd}
-use Rattle.trace_file.specs.Trace.{IsTrace}
 use Rattle.c_meaning_laws.specs.Laws.{IsTypedRun, RunsAreTyped}
 use Rattle.c_meaning_laws.specs.TypedResults.{IsEnding}
-use Rattle.tool_run.specs.Run.{Runs, RefusesToRun, LacksToRun, IsSomeProgram}
-use Rattle.tool_steps.specs.Results.{run_text}
-use Rattle.tool_steps.specs.ResultsStops.{RefusesResultsAlone}
 
 -- what the run is, which was found so
 typed_run : (typed : RunsAreTyped) (p : Program) (n : ℕ) → IsProgram p n → (records : List SysResult) (turns : ℕ) → IsTypedRun (run p records turns)

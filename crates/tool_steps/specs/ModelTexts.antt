@@ -1,10 +1,5 @@
 -- What commands make of a program: its model, its text, and why there is none.
-use Rattle.std.specs.Prelude.{◌≡◌, ◌⊎◌, ℕ, ◌<◌, ◌≤◌, List, length, Option, IfSome, IsSomeAnd, codes}
-use Rattle.dm_base.specs.declared.mode.Mode.TheVariants.{Plain}
-use Rattle.dm_base.specs.declared.verdict.Status.{Status}
-use Rattle.dm_base.specs.declared.verdict.Status.TheVariants as statuses
-use Rattle.dm_io.specs.Store.{Files, file_at}
-use Rattle.c_rules.specs.Accepted.{IsAcceptedAs}
+use Rattle.std.specs.Prelude.{◌≡◌, ◌⊎◌, ℕ, ◌<◌, ◌≤◌, List, length, codes}
 use Rattle.c_shapes.specs.ProgramLanguages as programs
 use Rattle.c_tree.specs.Tree.{Program}
 use Rattle.flow_model.specs.declared.which.Which.TheVariants.{Callgraph, Stack, Dyck}
@@ -15,7 +10,6 @@ use Rattle.flow_graph_laws.specs.GraphOfProgram.{graph_of_program}
 use Rattle.model_file.specs.declared.version.ModelVersion.TheVariants.{Two}
 use Rattle.model_file.specs.ModelText.{model_text}
 use Rattle.model_file.specs.Refusal.{longest, IsModel}
-use Rattle.tool_sources.specs.Sources.{RefusesSource}
 
 -- the three languages of the graph are those of the program (Wagner and Dean 2001; Giffin, Jha and Miller 2004)
 pub record HasLanguagesOf (p : Program) (g : Graph) : Type 0 where

@@ -1,19 +1,13 @@
 -- What commands make of recorded results: the text of a run, and why the results are refused.
-use Rattle.std.specs.Prelude.{◌≡◌, ◌≢◌, ◌⊎◌, ℕ, List, ◌++◌, Option, IfSome, IsSomeAnd, codes, decimal}
-use Rattle.dm_base.specs.declared.mode.Mode.TheVariants.{Instrumented}
+use Rattle.std.specs.Prelude.{ℕ, List, ◌++◌, codes, decimal}
 use Rattle.dm_base.specs.declared.outcome.TraceEnd.TheVariants.{Ended}
-use Rattle.dm_base.specs.declared.verdict.Status.{Status}
-use Rattle.dm_base.specs.declared.verdict.Status.TheVariants as statuses
-use Rattle.dm_io.specs.Store.{Files, file_at, IsMissing}
-use Rattle.c_meaning.specs.Runs.{Run, run}
-use Rattle.c_rules.specs.Accepted.{IsAcceptedAs}
-use Rattle.c_tree.specs.Tree.{Program}
-use Rattle.tool_sources.specs.Sources.{RefusesSource}
+use Rattle.dm_io.specs.Store.{Files, file_at}
+use Rattle.c_meaning.specs.Runs.{Run}
 use Rattle.sys_table.specs.declared.results_error.ResultsError.{ResultsError}
 use Rattle.sys_table.specs.declared.results_error.ResultsError.TheVariants.{OutOfMemory, BadLine, NoEnd, TooLong, Version}
 use Rattle.sys_table.specs.declared.sys_result.SysResult.{SysResult}
-use Rattle.sys_table.specs.ResultsText.{AreResultsWithin, IsResultsRefusal}
-use Rattle.trace_file.specs.Trace.{trace_text, IsTrace}
+use Rattle.sys_table.specs.ResultsText.{AreResultsWithin}
+use Rattle.trace_file.specs.Trace.{trace_text}
 
 -- the text of the trace of a run, with the outcome
 abbrev pub run_text : Run → List ℕ

@@ -1,5 +1,5 @@
 -- What commands make of a C text and why they refuse it never hold both, and it is refused with one status.
-use Rattle.std.proofs.Common.{◌≡◌, ℕ, ◌<◌, ◌≤◌, List, length, Option, Some, None, IfSome, inl, inr, refl, subst, arith}
+use Rattle.std.proofs.Common.{◌≡◌, ℕ, ◌≤◌, List, length, Option, Some, None, IfSome, inl, inr, refl, subst, arith}
 use Rattle.dm_base.specs.declared.mode.Mode.{Mode}
 use Rattle.dm_base.specs.declared.mode.Mode.TheVariants.{Plain}
 use Rattle.dm_base.specs.declared.verdict.Status.{Status}
@@ -10,7 +10,6 @@ use Rattle.c_lexer.proofs.OneTokenText.{one_reading}
 use Rattle.c_rules.specs.Accepted.{IsAcceptedAs}
 use Rattle.c_tree.specs.Tree.{Program}
 use Rattle.c_tree.specs.View.{program_of}
-use Rattle.flow_model.specs.Graph.{Graph}
 use Rattle.flow_graph_laws.specs.GraphOfProgram.{graph_of_program}
 use Rattle.model_file.specs.declared.version.ModelVersion.TheVariants.{Two}
 use Rattle.model_file.specs.ModelText.{model_text}
@@ -21,9 +20,9 @@ use Rattle.tool_frame.specs.Stop.{Stops}
 use Rattle.tool_sources.specs.declared.source.Source.{Source}
 use Rattle.tool_texts.specs.Check.{Checks, checked_text, IsReadyToCheck}
 use Rattle.tool_texts.specs.Modelled.{Models, RefusesToModel, IsReadyToModel}
-use Rattle.tool_steps.specs.ModelTexts.{HasLanguagesOf, IsModelText, IsModelOf, IsPastLimit, many_nodes, long_text}
+use Rattle.tool_steps.specs.ModelTexts.{IsModelOf, IsPastLimit}
 use Rattle.tool_sources.specs.Sources.{IsSourceOf, RefusesSource}
-use Rattle.tool_steps.specs.ModelStops.{IsStopBy, StopsBuilding, StopsModelling, StopsWriting}
+use Rattle.tool_steps.specs.ModelStops.{StopsModelling}
 use Rattle.tool_sources.proofs.SourceLemmas.{one_unit, one_typing, source_accepted}
 
 -- a text is accepted as one program

@@ -1,21 +1,16 @@
 -- What `model FILE` makes of its file, and why it refuses it.
 use Rattle.tool_steps.specs.ModelTexts.{IsModelOf, IsPastLimit}
-use Rattle.std.specs.Prelude.{◌≡◌, ◌⊎◌, ℕ, ◌<◌, ◌≤◌, List, length, Option, IfSome, IsSomeAnd, codes}
+use Rattle.std.specs.Prelude.{◌≡◌, ◌⊎◌, ℕ, ◌≤◌, List, length, Option, IfSome, IsSomeAnd}
 use Rattle.dm_base.specs.declared.mode.Mode.TheVariants.{Plain}
 use Rattle.dm_base.specs.declared.verdict.Status.{Status}
 use Rattle.dm_base.specs.declared.verdict.Status.TheVariants as statuses
 use Rattle.dm_io.specs.Store.{Files, file_at}
 use Rattle.c_rules.specs.Accepted.{IsAcceptedAs}
-use Rattle.c_shapes.specs.ProgramLanguages as programs
 use Rattle.c_tree.specs.Tree.{Program}
-use Rattle.flow_model.specs.declared.which.Which.TheVariants.{Callgraph, Stack, Dyck}
-use Rattle.flow_model.specs.Graph.{Graph}
-use Rattle.flow_model.specs.Language.{Reads}
-use Rattle.flow_graph_laws.specs.Equal.{AreEqual}
 use Rattle.flow_graph_laws.specs.GraphOfProgram.{graph_of_program}
 use Rattle.model_file.specs.declared.version.ModelVersion.TheVariants.{Two}
 use Rattle.model_file.specs.ModelText.{model_text}
-use Rattle.model_file.specs.Refusal.{longest, IsModel}
+use Rattle.model_file.specs.Refusal.{longest}
 use Rattle.tool_sources.specs.Sources.{RefusesSource}
 
 -- the file's text is accepted as a program, and the text is that of its model
