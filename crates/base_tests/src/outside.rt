@@ -166,7 +166,7 @@ fn a_folder_store_reads_a_file_of_the_system(rt: HostRuntime) -> Result<(), Fail
     let path = env::temp_dir(&rt)?.join(alloc, name.as_str())?;
     let path = path.into_string();
     fs::write(&rt, path.as_str(), "0123456789")?;
-    let mut store = FolderStore::new(&rt);
+    let mut store = FolderStore::new(&rt, rt.alloc(), rt.stdin());
     let text = read_whole(alloc, &mut store, path.as_str(), 9)?;
     fs::remove_file(&rt, path.as_str())?;
     assert_eq!(rt; text.as_slice(), b"012345678".as_slice());
