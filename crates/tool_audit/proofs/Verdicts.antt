@@ -52,8 +52,8 @@ dyck_verdict g bound t (Rejected k) all is = all.never_rejected k is
 dyck_verdict g bound t (Bound k) all is = let front = depth_front k t in omega (arith, front, is.deep)
 
 -- lines one after the other, however they are put together
-joined : (x y z n : List ℕ) → (x ++ (y ++ (z ++ []))) ++ n ≡ x ++ (y ++ (z ++ n))
-joined x y z n = append_assoc x (y ++ (z ++ [])) n ∙ ap (λ (w : List ℕ). x ++ w) (append_assoc y (z ++ []) n ∙ ap (λ (w : List ℕ). y ++ (w ++ n)) (append-nil z))
+pub regrouped : (x y z n : List ℕ) → (x ++ (y ++ (z ++ []))) ++ n ≡ x ++ (y ++ (z ++ n))
+regrouped x y z n = append_assoc x (y ++ (z ++ [])) n ∙ ap (λ (w : List ℕ). x ++ w) (append_assoc y (z ++ []) n ∙ ap (λ (w : List ℕ). y ++ (w ++ n)) (append-nil z))
 
 abbrev line : List Event → Which → Verdict → List ℕ
 line t w v = verdict_text w v (event_at t v)
@@ -69,7 +69,7 @@ audit_of g bound r status heard text all said writes formed =
     subst (λ (v : Verdict). heard ≡ line r.trace Callgraph v ++ (line r.trace Stack (Accepted (length r.trace)) ++ (line r.trace Dyck said.dyck ++ next_text said.callgraph_next said.stack_next said.dyck_next))) first
     (subst (λ (v : Verdict). heard ≡ line r.trace Callgraph said.callgraph ++ (line r.trace Stack v ++ (line r.trace Dyck said.dyck ++ next_text said.callgraph_next said.stack_next said.dyck_next))) second said.writes) in
     let put : heard ≡ lines_of r.trace said.dyck ++ next_text said.callgraph_next said.stack_next said.dyck_next =
-    lines ∙ sym (joined (line r.trace Callgraph (Accepted (length r.trace))) (line r.trace Stack (Accepted (length r.trace))) (line r.trace Dyck said.dyck) (next_text said.callgraph_next said.stack_next said.dyck_next)) in
+    lines ∙ sym (regrouped (line r.trace Callgraph (Accepted (length r.trace))) (line r.trace Stack (Accepted (length r.trace))) (line r.trace Dyck said.dyck) (next_text said.callgraph_next said.stack_next said.dyck_next)) in
     record {
       dyck = said.dyck;
       verdicts = record { callgraph = all.others.callgraph; stack = all.others.stack; is_dyck = said.is_dyck; accepted = dyck_verdict g bound r.trace said.dyck all said.is_dyck };
