@@ -5,6 +5,7 @@ set -u
 program=$(readlink -f "$1") && cd "$(dirname "${BASH_SOURCE[0]}")/.." && examples=$PWD/examples && folder=$(mktemp -d) && cd "$folder" || exit 1
 trap 'rm -rf "$folder"' EXIT
 wrong=0
+command -v cc >/dev/null || { echo "recorder.sh: there is no cc, so nothing is recorded"; exit 0; }
 
 # Runs the program and compares its status and what it writes, of which `@PID` may stand for the two processes.
 wants() {
