@@ -7,7 +7,7 @@ trap 'rm -rf "$folder"' EXIT
 wrong=0
 command -v cc >/dev/null || { echo "recorder.sh: there is no cc, so nothing is recorded"; exit 0; }
 
-# Runs the program and compares its status and what it writes, of which `@PID` may stand for the two processes.
+# Runs the program and compares its status and what it writes.
 wants() {
     local status=$1 text=$2 out
     shift 2
@@ -23,20 +23,19 @@ accepted() { printf "${1}callgraph accepted $2\n${1}stack accepted $2\n${1}dyck 
 # The trace of one process: its own events, and for the child those of the parent up to the fork before them.
 trace_of() {
     echo dyckmon-trace 1
-    [ "$1" = "$parent" ] || sed -n "s/^$parent //p; /^$parent S fork /q" server.traces
+    [ "$1" = "$parent" ] || sed -n "/^$parent /{s///p; /^S fork /q}" server.traces
     sed -n "s/^$1 //p" server.traces
     echo end open
 }
 
-# Judges the traces with one change, which each monitor has to reject in the child.
+# Judges the traces with one change in the child, which these monitors have to reject.
 rejects() {
-    local what=$1 out
-    shift
-    sed "$@" server.traces >changed.traces
+    local monitors=$1 what=$2 out
+    sed "${@:3}" server.traces >changed.traces
     cmp -s server.traces changed.traces && echo "recorder.sh: nothing was changed: $what" && wrong=1
     out=$("$program" watch server.model changed.traces all)
-    [ "$? $(grep -c "^$child [a-z]* rejected" <<<"$out")" = "1 3" ] && return
-    printf 'recorder.sh: not rejected: %s\n%s\n' "$what" "$out"
+    [ "$? $(sed -n "s/^$child \([a-z]*\) rejected .*/\1/p" <<<"$out" | paste -sd ' ')" = "1 $monitors" ] && return
+    printf 'recorder.sh: %s has to be rejected by %s:\n%s\n' "$what" "$monitors" "$out"
     wrong=1
 }
 
@@ -56,9 +55,9 @@ wants 0 "$(accepted '' "$events_of_parent")" judge server.model "$parent.trace" 
 wants 0 "$(accepted '' "$events_of_child")" judge server.model "$child.trace" all
 wants 0 "$(accepted "$parent " "$events_of_parent"; accepted "$child " "$events_of_child"; echo verdicts 6 accepted 6 rejected 0 bound 0)" watch server.model server.traces all
 
-rejects 'a call that the program has not' -e "0,/^$child S getpid /s//$child S setuid 0 = 0\n&/"
-rejects 'an answer that is given twice' -e "s/^$child S write 1 68690a = 3\$/&\n&/"
-rejects 'the pid is asked for in the place of a line' -e "0,/^$child S read /s/^$child S read .*/$child S getpid = $child/"
+rejects 'callgraph stack dyck' 'a call that the program has not' -e "0,/^$child S getpid /s//$child S setuid 0 = 0\n&/"
+rejects 'callgraph stack dyck' 'a pid that is not written' -e "/^$child S write 1 3/d"
+rejects dyck 'an answer that is given twice' -e "s/^$child S write 1 68690a = 3\$/&\n&/"
 
 echo "recorder.sh: $((events_of_parent + events_of_child)) events of two processes, $([ "$wrong" -eq 0 ] && echo as wanted || echo not as wanted)"
 exit "$wrong"
