@@ -1,4 +1,4 @@
-/* Records the system calls of a C program as interleaved traces, for the commands watch and instrument of dyckmon. On Linux:
+/* Records the system calls of a C program as interleaved traces, for dyckmon watch. On Linux:
 
        dyckmon instrument server.c > marked.c
        cc -o server marked.c recorder.c @recorder.wraps
@@ -8,7 +8,8 @@
    The linker makes each call of read in the program a call of __wrap_read here, and each __real_read here one of the C library
    (ld --wrap); recorder.wraps has its words for the 24 calls that dyckmon knows. A record is written once its call has returned,
    or before it where it is _exit, by one write that appends. Several processes may record into one file. None of them knows
-   whether it is the last one, so whoever ends the recording appends the last line. Nothing is proved of this file. */
+   whether it is the last one, so whoever ends the recording appends the last line, and records into another file next. A number
+   names one process in a recording, so one ends before the system gives numbers anew. Nothing is proved of this file. */
 #include <errno.h>
 #include <fcntl.h>
 #include <signal.h>
