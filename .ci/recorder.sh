@@ -1,8 +1,9 @@
 #!/usr/bin/env bash
-# recorder.sh PROGRAM: records a run of examples/line_server.c, compiled with examples/recorder.c, and judges it by the text's own
-# model: the three monitors have to accept each process, and to reject it where the trace was changed. The status is 0 where all is so.
+# recorder.sh PROGRAM: records runs of C texts, compiled with examples/recorder.c, and judges them by the texts' own models. The three
+# monitors have to accept each process of examples/line_server.c, and to reject it where the trace was changed. Of .ci/each_call.c,
+# which makes each call that a model knows, the events of .ci/each_call.events have to be recorded. The status is 0 where all is so.
 set -u
-program=$(readlink -f "$1") && cd "$(dirname "${BASH_SOURCE[0]}")/.." && examples=$PWD/examples && folder=$(mktemp -d) && cd "$folder" || exit 1
+program=$(readlink -f "$1") && cd "$(dirname "${BASH_SOURCE[0]}")/.." && ci=$PWD/.ci examples=$PWD/examples && folder=$(mktemp -d) && cd "$folder" || exit 1
 trap 'rm -rf "$folder"' EXIT
 wrong=0
 command -v cc >/dev/null || { echo "recorder.sh: there is no cc, so nothing is recorded"; exit 0; }
@@ -39,11 +40,16 @@ rejects() {
     wrong=1
 }
 
-"$program" model "$examples/line_server.c" >server.model && "$program" instrument "$examples/line_server.c" >marked.c &&
-    cc -o server marked.c "$examples/recorder.c" @"$examples/recorder.wraps" || exit 1
-printf 'hi\np\nq\n' | DYCKMON_TRACES=server.traces ./server | cat >answers
-echo end >>server.traces
+# Records the run of a C text, whose standard input is that of the call, into NAME.traces, and writes what it writes.
+record() {
+    local text=$1 name=$2
+    "$program" model "$text" >"$name.model" && "$program" instrument "$text" >"$name.c" &&
+        cc -o "$name" "$name.c" "$examples/recorder.c" @"$examples/recorder.wraps" || exit 1
+    DYCKMON_TRACES=$name.traces "./$name" | cat
+    echo end >>"$name.traces"
+}
 
+printf 'hi\np\nq\n' | record "$examples/line_server.c" server >answers
 read -r parent _ _ _ child < <(grep -m 1 ' S fork = ' server.traces)
 [ "$(cat answers)" = "hi"$'\n'"$child" ] || { echo "recorder.sh: the server answers otherwise:"; cat answers; wrong=1; }
 events_of_parent=$(($(trace_of "$parent" | wc -l) - 2))
@@ -59,5 +65,14 @@ rejects 'callgraph stack dyck' 'a call that the program has not' -e "0,/^$child 
 rejects 'callgraph stack dyck' 'a pid that is not written' -e "/^$child S write 1 3/d"
 rejects dyck 'an answer that is given twice' -e "s/^$child S write 1 68690a = 3\$/&\n&/"
 
-echo "recorder.sh: $((events_of_parent + events_of_child)) events of two processes, $([ "$wrong" -eq 0 ] && echo as wanted || echo not as wanted)"
+record "$ci/each_call.c" each </dev/null
+read -r parent _ _ _ child < <(grep -m 1 ' S fork = ' each.traces)
+sed "s/PARENT/$parent/; s/CHILD/$child/; s/SHELL/$(sed -n "s/^$parent S getppid = //p" each.traces)/; s/USER/$(id -u)/; s/GROUP/$(id -g)/" "$ci/each_call.events" >wanted
+if ! sed -n "s/^$parent //p" each.traces | grep '^S' | diff - wanted; then
+    echo "recorder.sh: the calls are recorded otherwise (>)"
+    wrong=1
+fi
+wants 0 "$(accepted "$parent " 34; accepted "$child " 34; echo verdicts 6 accepted 6 rejected 0 bound 0)" watch each.model each.traces all
+
+echo "recorder.sh: $((events_of_parent + events_of_child)) events of a server and each call of the table, $([ "$wrong" -eq 0 ] && echo as wanted || echo not as wanted)"
 exit "$wrong"
