@@ -146,6 +146,15 @@ def try_builds(repository):
     got = repository.run('build')
     wants('a crate is not proved', got[:2] == (75, '') and got[2][-1].startswith('build: a crate is not proved'), got)
     wants('nothing is left then', not (repository.top / 'out/dyckmon').exists(), 'there is a program')
+    (repository.top / 'out').rename(repository.top / 'elsewhere')
+    (repository.top / 'out').write_text('')
+    got = repository.run('build')
+    wants('no folder for the program', got[:2] == (73, '') and got[2][-1].startswith('build: ') and "out can't be written" in got[2][-1], got)
+    (repository.top / 'out').unlink()
+    (repository.top / '.ci/program').rename(repository.top / 'program')
+    got = repository.run('dyckmon', '--version')
+    wants('a part of the repository', got[:2] == (73, '') and got[2][-1].startswith('dyckmon: a part of the repository'), got)
+    (repository.top / 'program').rename(repository.top / '.ci/program')
     repository.mode('well')
     made = [repository.start('build') for _ in range(2)]
     ended = [(it.communicate(timeout=60), it.returncode) for it in made]
