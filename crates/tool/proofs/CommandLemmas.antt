@@ -12,7 +12,8 @@ use Rattle.tool_instrument.proofs.FileLemmas.{instrument_ready, instrumented_apa
 use Rattle.tool_monitors.specs.declared.asked.Asked.{Asked}
 use Rattle.tool_monitors.specs.declared.asked.Asked.TheVariants as asked
 use Rattle.tool_monitors.specs.Monitors.{asked_word, monitors_of}
-use Rattle.tool_models.proofs.FileLemmas.{judge_ready, watch_ready, upgrade_ready, judged_apart, measured_apart, watched_apart, upgrade_or_refused, judge_status, watch_status, upgrade_status}
+use Rattle.tool_files.proofs.InputLemmas.{judge_ready, judge_status}
+use Rattle.tool_models.proofs.FileLemmas.{watch_ready, upgrade_ready, judged_apart, measured_apart, watched_apart, upgrade_or_refused, watch_status, upgrade_status}
 use Rattle.tool_run.proofs.FileLemmas.{run_ready, run_apart, run_status}
 use Rattle.tool_texts.proofs.FileLemmas.{check_ready, checked_apart, check_status, model_ready, modelled_apart, model_status}
 use Rattle.tool.specs.Command.{Command, IsCommandLine, IsAskedBy}

@@ -11,7 +11,8 @@ use Rattle.tool.specs.Command.Command.{Version, Help, OfFile, OfTrace, Measure, 
 use Rattle.tool.specs.Command.TraceCommand.{Judge, Watch}
 use Rattle.tool_audit.specs.Audit.{Audits, IsAuditStatus, RefusesToAudit, LacksToAudit, IsReadyToAudit}
 use Rattle.tool_instrument.specs.Instrument.{Instruments, RefusesToInstrument, IsReadyToInstrument}
-use Rattle.tool_models.specs.Judge.{Judges, RefusesToJudge, LacksToJudge, IsReadyToJudge}
+use Rattle.tool_models.specs.Judge.{Judges}
+use Rattle.tool_files.specs.Inputs.{RefusesToJudge, LacksToJudge, IsReadyToJudge}
 use Rattle.tool_models.specs.Measure.{Measures}
 use Rattle.tool_monitors.specs.Monitors.{monitors_of}
 use Rattle.tool_models.specs.Upgrade.{Upgrades, RefusesToUpgrade, IsReadyToUpgrade}

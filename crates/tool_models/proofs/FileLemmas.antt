@@ -1,51 +1,27 @@
 -- A file is what it is read as, or refused, and refused with one status.
+use Rattle.tool_files.proofs.InputLemmas.{model_or_refused, trace_or_refused, good_files, one_status}
 use Rattle.std.proofs.Common.{◌≡◌, ◌≢◌, ℕ, ◌<◌, List, length, Option, Some, None, inl, inr, refl, sym, ◌∙◌, ap, subst, arith}
-use Rattle.std.specs.Prelude.{◌⊎◌}
 use Rattle.dm_base.specs.declared.verdict.Status.{Status}
 use Rattle.dm_base.specs.declared.verdict.Status.TheVariants as statuses
 use Rattle.dm_io.specs.Store.{Files, file_at}
 use Rattle.flow_model.specs.declared.which.Which.{Which}
-use Rattle.model_file.specs.declared.error.ModelError.{ModelError}
-use Rattle.model_file.specs.declared.error.ModelError.TheVariants as models
 use Rattle.model_file.specs.declared.version.ModelVersion.TheVariants.{Two}
 use Rattle.model_file.specs.ModelText.{model_text}
-use Rattle.model_file.specs.Refusal.{longest, IsModelRefusal}
-use Rattle.model_file.proofs.LawLemmas.{not_refused}
+use Rattle.model_file.specs.Refusal.{longest}
 use Rattle.model_file.proofs.UniqueLemmas.{one_graph}
 use Rattle.trace_file.specs.declared.error.TraceError.{TraceError}
 use Rattle.trace_file.specs.declared.error.TraceError.TheVariants as errors
 use Rattle.trace_file.specs.Trace.{IsTraceRefusal}
 use Rattle.trace_file.specs.Traces.{IsTracesRefusal}
-use Rattle.trace_file.proofs.OneReading.{trace_unrefused, traces_unrefused}
-use Rattle.tool_models.specs.Judge.{IsAModel, IsATrace, Judges, RefusesModel, RefusesRecords, RefusesToJudge, IsReadyToJudge}
+use Rattle.trace_file.proofs.OneReading.{traces_unrefused}
+use Rattle.tool_files.specs.Inputs.{RefusesToJudge}
+use Rattle.tool_models.specs.Judge.{Judges}
 use Rattle.tool_models.specs.Measure.{Measures}
 use Rattle.tool_models.specs.Upgrade.{Upgrades, RefusesToUpgrade, IsReadyToUpgrade}
 use Rattle.tool_models.specs.Watch.{AreSomeTraces, Watches, RefusesToWatch, IsReadyToWatch}
 
-model_or_refused : (told : Files) (model : List ℕ) (error : ModelError) → IsAModel told model → error ≢ models.OutOfMemory → IsModelRefusal error (file_at told model) → ⊥
-model_or_refused told model error is named refusal = named (not_refused (file_at told model) is.0 error is.1 refusal)
-
-trace_or_refused : (told : Files) (trace : List ℕ) (error : TraceError) → IsATrace told trace → error ≢ errors.OutOfMemory → IsTraceRefusal error (file_at told trace) → ⊥
-trace_or_refused told trace error is named refusal = named (trace_unrefused (file_at told trace) is.0 is.1 error is.2 refusal)
-
 traces_or_refused : (told : Files) (name : List ℕ) (error : TraceError) → AreSomeTraces told name → error ≢ errors.OutOfMemory → IsTracesRefusal error (file_at told name) → ⊥
 traces_or_refused told name error are named refusal = named (traces_unrefused (file_at told name) are.0 are.1 error are.2 refusal)
-
-module _ (Refusal : TraceError → List ℕ → Type 0) (told : Files) (model trace : List ℕ) where
-  abbrev Refuses' : Status → List ℕ → Type 0
-  Refuses' status line = RefusesModel (Some told) model status line ⊎ RefusesRecords Refusal (Some told) model trace status line
-
-  -- a model and a file of records that isn't refused are not refused
-  good_files : (line : List ℕ) (status : Status) → IsAModel told model → ((error : TraceError) → error ≢ errors.OutOfMemory → Refusal error (file_at told trace) → ⊥) → Refuses' status line → ⊥
-  good_files line status is_model are_records (inl refuses) = model_or_refused told model refuses.0 is_model refuses.1 refuses.4
-  good_files line status is_model are_records (inr refuses) = are_records refuses.0 refuses.1 (refuses.4).1
-
-  -- two refusals of the same files have one status
-  one_status : (line other : List ℕ) (status later : Status) → Refuses' status line → Refuses' later other → status ≡ later
-  one_status line other status later (inl a) (inl b) = a.2 ∙ sym b.2
-  one_status line other status later (inl a) (inr b) = absurd (model_or_refused told model a.0 (b.4).0 a.1 a.4)
-  one_status line other status later (inr a) (inl b) = absurd (model_or_refused told model b.0 (a.4).0 b.1 b.4)
-  one_status line other status later (inr a) (inr b) = a.2 ∙ sym b.2
 
 -- no model is refused and made too, and one file is refused with one status
 pub upgrade_or_refused : (told : Files) (name text line : List ℕ) (status : Status) → Upgrades told name text → RefusesToUpgrade (Some told) name status line → ⊥
@@ -65,10 +41,6 @@ upgrade_status told name line status (inr refuses) = refuses.0
 
 -- each command
 
-pub judge_ready : (files : Option Files) (model trace line : List ℕ) (status : Status) → IsReadyToJudge files model trace → RefusesToJudge files model trace status line → ⊥
-judge_ready None model trace line status ready refuses = ready
-judge_ready (Some told) model trace line status ready refuses = good_files IsTraceRefusal told model trace line status ready.0 (λ error named. trace_or_refused told trace error ready.1 named) refuses
-
 pub watch_ready : (files : Option Files) (model traces line : List ℕ) (status : Status) → IsReadyToWatch files model traces → RefusesToWatch files model traces status line → ⊥
 watch_ready None model traces line status ready refuses = ready
 watch_ready (Some told) model traces line status ready refuses = good_files IsTracesRefusal told model traces line status ready.0 (λ error named. traces_or_refused told traces error ready.1 named) refuses
@@ -84,9 +56,6 @@ measured_apart told model trace text line monitors status later makes refuses =
 pub watched_apart : (told : Files) (model traces text line : List ℕ) (monitors : List Which) (bound : ℕ) (status later : Status) → Watches told model traces monitors bound status text → RefusesToWatch (Some told) model traces later line → ⊥
 watched_apart told model traces text line monitors bound status later makes refuses =
     good_files IsTracesRefusal told model traces line later (makes.graph, makes.is_model) (λ error named. traces_or_refused told traces error (makes.version, makes.records, makes.are_traces) named) refuses
-
-pub judge_status : (told : Files) (model trace line other : List ℕ) (status later : Status) → RefusesToJudge (Some told) model trace status line → RefusesToJudge (Some told) model trace later other → status ≡ later
-judge_status told model trace line other status later refuses too = one_status IsTraceRefusal told model trace line other status later refuses too
 
 pub watch_status : (told : Files) (model traces line other : List ℕ) (status later : Status) → RefusesToWatch (Some told) model traces status line → RefusesToWatch (Some told) model traces later other → status ≡ later
 watch_status told model traces line other status later refuses too = one_status IsTracesRefusal told model traces line other status later refuses too

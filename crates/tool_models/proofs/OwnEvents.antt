@@ -1,5 +1,5 @@
 -- The events of a process's own history are recorded, and so is what a verdict on it tells.
-use Rattle.std.proofs.Common.{Bor, ◌≡◌, ℕ, zero, suc, ◌+◌, ◌-◌, ◌<◌, ◌≤◌, true, false, nat_eq, List, [], ◌∷◌, ◌++◌, length, take, get_or, map, filter, reverse, Option, Some, None, slice_get, refl, sym, ◌∙◌, ap, subst, inl, inr, arith}
+use Rattle.std.proofs.Common.{Bor, ◌≡◌, ℕ, zero, suc, ◌+◌, ◌-◌, ◌<◌, ◌≤◌, true, false, nat_eq, List, [], ◌∷◌, ◌++◌, length, take, get_or, map, filter, reverse, Option, Some, None, slice_get, refl, sym, subst, inl, inr, arith}
 use Rattle.std.specs.Prelude.{All, ◌⊎◌, IfSome, if◌then◌else◌}
 use Rattle.std.specs.Option.{option_copied}
 use Rattle.std.proofs.lemmas.List.{reverse-append}
@@ -12,7 +12,6 @@ use Rattle.dm_base.specs.Trace.{depth}
 use Rattle.flow_model.specs.declared.which.Which.{Which}
 use Rattle.flow_model.specs.declared.which.Which.TheVariants.{Callgraph, Stack, Dyck}
 use Rattle.flow_model.specs.Graph.{Graph, HasFunction}
-use Rattle.flow_model.specs.Language.{Reads}
 use Rattle.flow_model.specs.Language.Walk.{over as walk_over}
 use Rattle.flow_model.specs.Language.StackRun.{over as stack_over}
 use Rattle.flow_model.specs.Language.DyckRun.{over as dyck_over}

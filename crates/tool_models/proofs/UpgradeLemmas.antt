@@ -8,7 +8,7 @@ use Rattle.model_file.specs.ModelText.{model_text}
 use Rattle.model_file.specs.Refusal.{longest, IsModel}
 use Rattle.tool_frame.specs.declared.stop.Stop.{Stop}
 use Rattle.tool_frame.specs.declared.stop.Stop.TheVariants as stops
-use Rattle.tool_models.specs.Reading.{StopsModel}
+use Rattle.tool_files.specs.Reading.{StopsModel}
 use Rattle.tool_frame.specs.Stop.{Stops}
 use Rattle.tool_models.specs.Upgrade.{Upgrades, RefusesToUpgrade, too_long}
 

@@ -2,7 +2,6 @@ pub mod Following
 pub mod Found
 pub mod Judge
 pub mod Measure
-pub mod Reading
 pub mod Upgrade
 pub mod Watch
 pub mod Watched

@@ -7,7 +7,7 @@ use Rattle.flow_model.specs.Graph.{Graph}
 use Rattle.model_file.specs.declared.version.ModelVersion.TheVariants.{Two}
 use Rattle.model_file.specs.ModelText.{model_text}
 use Rattle.model_file.specs.Refusal.{longest, IsModel}
-use Rattle.tool_models.specs.Judge.{RefusesModel}
+use Rattle.tool_files.specs.Inputs.{RefusesModel}
 
 -- the text is that of the file's model in version 2
 abbrev pub Upgrades : Files → List ℕ → List ℕ → Type 0

@@ -1,5 +1,5 @@
 -- What `watch MODEL TRACES WHICH [K]` makes of its files, and why it refuses them.
-use Rattle.std.specs.Prelude.{◌⊎◌, ℕ, List, Option, IfSome, IsSomeAnd}
+use Rattle.std.specs.Prelude.{◌⊎◌, ℕ, List, Option, IsSomeAnd}
 use Rattle.dm_base.specs.declared.verdict.Status.{Status}
 use Rattle.dm_io.specs.Store.{Files, file_at}
 use Rattle.flow_model.specs.declared.which.Which.{Which}
@@ -8,7 +8,7 @@ use Rattle.model_file.specs.Refusal.{IsModel}
 use Rattle.trace_file.specs.declared.record.Record.{Record}
 use Rattle.trace_file.specs.declared.version.TracesVersion.{TracesVersion}
 use Rattle.trace_file.specs.Traces.{AreTracesWithin, IsTracesRefusal}
-use Rattle.tool_models.specs.Judge.{IsAModel, RefusesModel, RefusesRecords}
+use Rattle.tool_files.specs.Inputs.{IsAModel, RefusesModel, RefusesRecords}
 use Rattle.tool_models.specs.Watched.{AreAllWatched}
 
 -- the text is that of the verdicts of the monitors of the model in the one file on the processes of the interleaved traces in the other

@@ -3,13 +3,9 @@
 #![tactic(auto)]
 
 mod findings;
-mod follower;
 mod judge_command;
 mod measure_command;
 mod metering;
-mod reading;
-mod refusals;
-mod trace_follower;
 mod traces_follower;
 mod upgrade_command;
 mod watch_command;

@@ -1,12 +1,11 @@
 ghost use Rattle.std.specs.Prelude.{◌≡◌, ◌≤◌, IfOk, IfErr, IfSome};
 ghost use Rattle.tool_monitors.specs.Monitors.{monitors_of};
-ghost use Rattle.tool_models.specs.Judge.{RefusesToJudge, LacksToJudge};
+ghost use Rattle.tool_files.specs.Inputs.{RefusesToJudge, LacksToJudge};
 ghost use Rattle.tool_models.specs.Measure.{AreMeasured, Measures};
-ghost use Rattle.tool_models.specs.Reading.{StopsTrace};
+ghost use Rattle.tool_files.specs.Reading.{StopsTrace};
 ghost use Rattle.tool_frame.specs.Stop.{Stops};
 ghost use Rattle.tool_monitors.specs.Told.{IsTraceTold};
 
-use crate::judge_command::{follow_by, model_in};
 use crate::metering::Metering;
 use callgraph_monitor::CallgraphMonitor;
 use dm_base::Status;
@@ -15,6 +14,7 @@ use dyck_monitor::DyckMonitor;
 use flow_model::Model;
 use stack_automaton::StackMonitor;
 use std::alloc::Global;
+use tool_files::{follow_by, model_in};
 use tool_frame::{Finished, Stop};
 use tool_monitors::{Asked, Pair};
 

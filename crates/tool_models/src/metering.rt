@@ -1,6 +1,5 @@
-ghost use Rattle.std.specs.Prelude.{◌≡◌, ℕ, List, [], ◌∷◌, IfOk};
+ghost use Rattle.std.specs.Prelude.{◌≡◌, [], ◌∷◌, IfOk};
 ghost use Rattle.dm_base.specs.declared.event.Event.{Event};
-ghost use Rattle.flow_model.specs.Graph.{Graph};
 ghost use Rattle.report.specs.Measuring.{HasMeasured};
 ghost use Rattle.report.specs.Precision.{precision_text};
 ghost use Rattle.tool_models.specs.Measure.{AreMeasured};

@@ -5,15 +5,14 @@ ghost use Rattle.trace_file.specs.declared.version.TracesVersion.{TracesVersion 
 ghost use Rattle.trace_file.specs.Known.{known_count};
 ghost use Rattle.trace_file.specs.Trace.{longest, most};
 ghost use Rattle.trace_file.specs.Traces.{most_processes, AreTracesWithin, IsTracesRefusal};
-ghost use Rattle.tool_models.specs.Reading.{IsAt, StopsText};
+ghost use Rattle.tool_files.specs.Reading.{IsAt, StopsText};
 ghost use Rattle.tool_models.specs.Following.{AreOpen, AreFew, HasBegun};
 
-use crate::follower::Follower;
-use crate::reading::refused_with;
 use crate::watches::Watches;
 use dm_base::OutOfMemory;
 use flow_model::Model;
 use std::alloc::Global;
+use tool_files::{Follower, refused_with};
 use tool_frame::Stop;
 use trace_file::{Record, TraceError, TracesReader, TracesVersion};
 

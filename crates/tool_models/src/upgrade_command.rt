@@ -3,11 +3,11 @@ ghost use Rattle.dm_io.specs.Store.{IsMissing};
 ghost use Rattle.tool_frame.specs.Stop.{Stops};
 ghost use Rattle.tool_models.specs.Upgrade.{Upgrades, RefusesToUpgrade, too_long};
 
-use crate::judge_command::model_in;
 use dm_base::{OutOfMemory, Status};
 use dm_io::Store;
 use model_file::{WriteModelError, write_model};
 use std::alloc::Global;
+use tool_files::model_in;
 use tool_frame::{Finished, Stop};
 
 const TOO_LONG: &[u8] = b"model refused G2\n";

@@ -1,15 +1,13 @@
 ghost use Rattle.std.specs.Prelude.{◌≡◌, ◌≤◌, ◌<◌, ◌^◌, IfOk, IfErr, IfSome};
 ghost use Rattle.tool_monitors.specs.Monitors.{monitors_of};
 ghost use Rattle.tool_frame.specs.Stop.{IsFinished};
-ghost use Rattle.tool_models.specs.Judge.{LacksToJudge};
-ghost use Rattle.tool_models.specs.Reading.{StopsTraces};
+ghost use Rattle.tool_files.specs.Inputs.{LacksToJudge};
+ghost use Rattle.tool_files.specs.Reading.{StopsTraces};
 ghost use Rattle.tool_frame.specs.Stop.{Stops};
 ghost use Rattle.tool_monitors.specs.Told.{AreTracesTold};
 ghost use Rattle.tool_models.specs.Watch.{Watches as WatchesTraces, RefusesToWatch};
 ghost use Rattle.tool_models.specs.Watched.{AreAllWatched};
 
-use crate::judge_command::model_in;
-use crate::reading::read_to_end;
 use crate::traces_follower::TracesFollower;
 use crate::watch_pair::WatchPair;
 use crate::watches::{Watches, findings_of};
@@ -19,6 +17,7 @@ use dyck_monitor::DyckMonitor;
 use flow_model::Model;
 use stack_automaton::StackMonitor;
 use std::alloc::Global;
+use tool_files::{model_in, read_to_end};
 use tool_frame::{Finished, Stop};
 use tool_monitors::Asked;
 use watch::Watch;

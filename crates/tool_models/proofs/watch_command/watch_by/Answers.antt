@@ -4,11 +4,11 @@ use Rattle.trace_file.specs.declared.record.Record.{Record}
 use Rattle.trace_file.specs.declared.version.TracesVersion.{TracesVersion}
 use Rattle.trace_file.specs.Traces.{IsTracesRefusal}
 use Rattle.tool_models.specs.Following.{AreOpen, HasBegun}
-use Rattle.tool_models.specs.Reading.{IsAt}
+use Rattle.tool_files.specs.Reading.{IsAt}
 use Rattle.tool_models.specs.Watched.{AreAllWatched}
 use Rattle.tool_models.proofs.FollowingLemmas.{within_recorded}
 use Rattle.tool_models.proofs.FoundLemmas.{all_watched}
-use Rattle.tool_models.proofs.ReadingLemmas.{traces_told, text_refused, reading_refused}
+use Rattle.tool_files.proofs.ReadingLemmas.{traces_told, text_refused, reading_refused}
 use Rattle.tool_models.proofs.watch_command.watch_by.Goals as goal
 
 pub read_to_end-requires : goal.read_to_end-requires

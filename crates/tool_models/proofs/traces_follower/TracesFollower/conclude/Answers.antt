@@ -6,7 +6,7 @@ use Rattle.trace_file.specs.Traces.{IsTracesRefusal}
 use Rattle.trace_file.specs.TracesReading.{traces_version}
 use Rattle.tool_models.specs.Following.{AreOpen, HasBegun}
 use Rattle.tool_models.proofs.FollowingLemmas.{ended, ended_begun}
-use Rattle.tool_models.proofs.ReadingLemmas.{at_open, at_shut, shut_here, stops_text}
+use Rattle.tool_files.proofs.ReadingLemmas.{at_open, at_shut, shut_here, stops_text}
 use Rattle.tool_models.proofs.traces_follower.TracesFollower.conclude.Goals as goal
 
 pub returns-in-Some-clause-stop : goal.returns-in-Some-clause-stop

@@ -1,0 +1,4 @@
+pub mod InputFiles
+pub mod InputLemmas
+pub mod ModelFiles
+pub mod ReadingLemmas
