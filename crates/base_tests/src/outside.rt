@@ -166,12 +166,34 @@ fn a_folder_store_reads_a_file_of_the_system(rt: HostRuntime) -> Result<(), Fail
     let path = env::temp_dir(&rt)?.join(alloc, name.as_str())?;
     let path = path.into_string();
     fs::write(&rt, path.as_str(), "0123456789")?;
-    let mut store = FolderStore::new(&rt);
+    let mut store = FolderStore::new(&rt, rt.alloc(), rt.stdin());
     let text = read_whole(alloc, &mut store, path.as_str(), 9)?;
     fs::remove_file(&rt, path.as_str())?;
     assert_eq!(rt; text.as_slice(), b"012345678".as_slice());
     let absent = read_whole(alloc, &mut store, path.as_str(), 9);
     assert_eq!(rt; absent.map(|t| t.len()), Err(ReadError::Fault));
+    Ok(())
+}
+
+#[test]
+fn a_file_is_read_on_under_another_name_and_the_input_once(rt: HostRuntime) -> Result<(), Fail> {
+    let alloc = rt.alloc();
+    let name = format!(in alloc; "dm_io_renamed_{}", process::id(rt.process()))?;
+    let path = env::temp_dir(&rt)?.join(alloc, name.as_str())?;
+    let path = path.into_string();
+    let other = format!(in alloc; "{path}.1")?;
+    fs::write(&rt, path.as_str(), "01234567")?;
+    let mut store = FolderStore::new(&rt, alloc, b"abc".as_slice());
+    let mut piece = [0u8; 4];
+    assert_eq!(rt; store.read(path.as_str(), 0, &mut piece), Ok(4));
+    fs::rename(&rt, path.as_str(), other.as_str())?;
+    assert_eq!(rt; store.read(path.as_str(), 4, &mut piece), Ok(4));
+    fs::remove_file(&rt, other.as_str())?;
+    assert_eq!(rt; piece.as_slice(), b"4567".as_slice());
+    let input = read_whole(alloc, &mut store, "-", 9)?;
+    assert_eq!(rt; input.as_slice(), b"abc".as_slice());
+    let again = read_whole(alloc, &mut store, "-", 9);
+    assert_eq!(rt; again.map(|t| t.len()), Err(ReadError::Fault));
     Ok(())
 }
 

@@ -4,7 +4,7 @@ ghost use Rattle.c_rules.specs.Blocks.{joined, with_tree};
 ghost use Rattle.c_tree.specs.Tree.{do_loop, for_loop, while_loop};
 ghost use Rattle.c_tree.specs.View.{expr_of, maybe_of};
 
-use crate::statement_tree::{StatementTree, StatementTreeAll, variables_of_both, with_variables};
+use crate::statement_tree::{StatementTree, StatementTrees, variables_of_both, with_variables};
 use c_tree::{TExpr, TStmt};
 use dm_base::OutOfMemory;
 use std::alloc::Global;
@@ -36,14 +36,14 @@ pub fn do_loop(
 /// A `for` (C99 6.8.5.3).
 pub fn for_loop(
     alloc: Global,
-    first: StatementTreeAll,
+    first: StatementTrees,
     test: Option<TExpr>,
     step: Option<TExpr>,
     body: StatementTree,
 ) -> Result<StatementTree, OutOfMemory>
     ensures { IfOk result (λ l. statement_tree_of l ≡ joined (statement_trees_of first) (statement_tree_of body) (for_loop (statement_trees_of first).tree (maybe_of test) (maybe_of step) (statement_tree_of body).tree)) }
 {
-    let StatementTreeAll { trees, variables } = first;
+    let StatementTrees { trees, variables } = first;
     let StatementTree {
         tree,
         variables: others,

@@ -29,7 +29,7 @@ pub struct StatementTree {
 
 /// What several statements give.
 #[derive(Drop)]
-pub struct StatementTreeAll {
+pub struct StatementTrees {
     /// Their typed trees.
     pub trees: Vec<TStmt>,
     /// The variables that they declare.
@@ -92,34 +92,34 @@ pub fn bare(alloc: Global, tree: TStmt) -> Result<StatementTree, OutOfMemory>
 }
 
 /// No statements.
-pub fn no_statements(alloc: Global) -> StatementTreeAll
+pub fn no_statements(alloc: Global) -> StatementTrees
     ensures { statement_trees_of result ≡ bare no_stmts }
 {
-    StatementTreeAll {
+    StatementTrees {
         trees: Vec::new(alloc),
         variables: no_variables(alloc),
     }
 }
 
 /// One statement alone.
-pub fn alone(alloc: Global, one: StatementTree) -> Result<StatementTreeAll, OutOfMemory>
+pub fn alone(alloc: Global, one: StatementTree) -> Result<StatementTrees, OutOfMemory>
     ensures { IfOk result (λ all. statement_trees_of all ≡ alone (statement_tree_of one)) }
 {
     let StatementTree { tree, variables } = one;
     let mut trees = Vec::new(alloc);
     trees.push(Box::into_inner(tree))?;
-    Ok(StatementTreeAll { trees, variables })
+    Ok(StatementTrees { trees, variables })
 }
 
 /// Some statements, and others behind them.
 pub fn appended(
-    first: StatementTreeAll,
-    second: StatementTreeAll,
-) -> Result<StatementTreeAll, OutOfMemory>
+    first: StatementTrees,
+    second: StatementTrees,
+) -> Result<StatementTrees, OutOfMemory>
     ensures { IfOk result (λ all. statement_trees_of all ≡ some_more (statement_trees_of first) (statement_trees_of second)) }
 {
-    let StatementTreeAll { trees, variables } = first;
-    let StatementTreeAll {
+    let StatementTrees { trees, variables } = first;
+    let StatementTrees {
         trees: other_trees,
         variables: others,
     } = second;
@@ -127,17 +127,17 @@ pub fn appended(
     let mut behind = other_trees;
     all.append(&mut behind)?;
     let variables = variables_of_both(variables, others)?;
-    Ok(StatementTreeAll {
+    Ok(StatementTrees {
         trees: all,
         variables,
     })
 }
 
 /// Some statements, and one behind them.
-pub fn pushed(first: StatementTreeAll, one: StatementTree) -> Result<StatementTreeAll, OutOfMemory>
+pub fn pushed(first: StatementTrees, one: StatementTree) -> Result<StatementTrees, OutOfMemory>
     ensures { IfOk result (λ all. statement_trees_of all ≡ some_more (statement_trees_of first) (alone (statement_tree_of one))) }
 {
-    let StatementTreeAll { trees, variables } = first;
+    let StatementTrees { trees, variables } = first;
     let StatementTree {
         tree,
         variables: others,
@@ -145,7 +145,7 @@ pub fn pushed(first: StatementTreeAll, one: StatementTree) -> Result<StatementTr
     let mut all = trees;
     all.push(Box::into_inner(tree))?;
     let variables = variables_of_both(variables, others)?;
-    Ok(StatementTreeAll {
+    Ok(StatementTrees {
         trees: all,
         variables,
     })

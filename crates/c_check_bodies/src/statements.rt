@@ -4,16 +4,16 @@ ghost use Rattle.c_rules.specs.Blocks.{joined, with_tree};
 ghost use Rattle.c_tree.specs.Tree.{block, empty, if_else};
 ghost use Rattle.c_tree.specs.View.{expr_of};
 
-use crate::statement_tree::{StatementTree, StatementTreeAll, variables_of_both, with_variables};
+use crate::statement_tree::{StatementTree, StatementTrees, variables_of_both, with_variables};
 use c_tree::{TExpr, TStmt};
 use dm_base::OutOfMemory;
 use std::alloc::Global;
 
 /// A block (C99 6.8.2).
-pub fn block(alloc: Global, items: StatementTreeAll) -> Result<StatementTree, OutOfMemory>
+pub fn block(alloc: Global, items: StatementTrees) -> Result<StatementTree, OutOfMemory>
     ensures { IfOk result (λ l. statement_tree_of l ≡ with_tree (statement_trees_of items) (block (statement_trees_of items).tree)) }
 {
-    let StatementTreeAll { trees, variables } = items;
+    let StatementTrees { trees, variables } = items;
     with_variables(alloc, TStmt::Block(trees), variables)
 }
 

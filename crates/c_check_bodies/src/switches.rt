@@ -12,7 +12,7 @@ ghost use Rattle.c_tree.specs.View.{ctype_of};
 
 use crate::labels::are_distinct;
 use crate::statement_tree::{
-    StatementTree, StatementTreeAll, Variables, no_variables, variables_of_both, with_variables,
+    StatementTree, StatementTrees, Variables, no_variables, variables_of_both, with_variables,
 };
 use c_check_values::{C3, C7, CheckError, TypedExpression, converted_to, promoted};
 use c_tree::{CType, IntType, TGroup, TLabel, TStmt};
@@ -79,7 +79,7 @@ fn labels_of_both(first: Vec<TLabel>, second: &[TLabel]) -> Result<Vec<TLabel>, 
 pub fn group_added(
     first: Labelled,
     labels: Vec<TLabel>,
-    body: StatementTreeAll,
+    body: StatementTrees,
 ) -> Result<Labelled, OutOfMemory>
     ensures { IfOk result (λ all. labelled_of all ≡ labelled_before (labelled_of first) (labelled labels.items (statement_trees_of body) no_labelled)) }
 {
@@ -88,7 +88,7 @@ pub fn group_added(
         labels: earlier,
         variables,
     } = first;
-    let StatementTreeAll {
+    let StatementTrees {
         trees,
         variables: others,
     } = body;

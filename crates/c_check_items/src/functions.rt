@@ -17,7 +17,7 @@ ghost use Rattle.c_syntax.specs.View.{declarator_of, ident_of, spec_of};
 ghost use Rattle.c_tree.specs.Tree.{function};
 ghost use Rattle.c_tree.specs.View.{ctype_of, function_of, types_of};
 
-use c_check_bodies::StatementTreeAll;
+use c_check_bodies::StatementTrees;
 use c_check_counts::name_of;
 use c_check_declarations::{
     are_named, body_numbers, declare_function, enter_body, function_meaning, parameters_of,
@@ -44,7 +44,7 @@ fn body_laid<'t>(
     body: &'t Stmt,
     returns: &CType,
     types: &[CType],
-) -> Result<StatementTreeAll, CheckError>
+) -> Result<StatementTrees, CheckError>
     ensures judged { AgreesWith statement_trees_of result (body_of (env_of env.old) (before_of before.old) (ctype_of returns.now) (declarator_of d.now) (types_of types.now) (items_of_body (stmt_of body.now))) }
     ensures kept { OnOk result (env_of env.new ≡ env_of env.old) }
     ensures counted { OnOk result (before_of before.new ≡ past (before_of before.old) (calls_of_block (items_of_body (stmt_of body.now))) (held_by_block (body_env (env_of env.old) (declarator_of d.now) (types_of types.now)) (body_numbers (declarator_of d.now) (items_of_body (stmt_of body.now))) (items_of_body (stmt_of body.now)))) }
@@ -74,7 +74,7 @@ fn function_laid(
     x: &Ident,
     returns: &CType,
     types: &[CType],
-    laid: StatementTreeAll,
+    laid: StatementTrees,
 ) -> Result<Function, CheckError>
     ensures { AgreesWith function_of result (function_laid (env_of env.now) (ident_of x.now) (ctype_of returns.now) (types_of types.now) (statement_trees_of laid)) }
 {

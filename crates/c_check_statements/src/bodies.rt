@@ -14,7 +14,7 @@ ghost use Rattle.c_syntax.specs.WritesUnit.{block_items_of};
 ghost use Rattle.c_tree.specs.View.{ctype_of};
 
 use crate::statements::{items_of_block, statement};
-use c_check_bodies::{Around, StatementTreeAll, alone, leave_names};
+use c_check_bodies::{Around, StatementTrees, alone, leave_names};
 use c_check_counts::Next;
 use c_check_scopes::{Before, Environment};
 use c_check_values::CheckError;
@@ -30,7 +30,7 @@ fn items_of_body<'t>(
     returns: &CType,
     next: Next,
     items: &'t [BlockItem],
-) -> Result<StatementTreeAll, CheckError>
+) -> Result<StatementTrees, CheckError>
     ensures judged { AgreesWith statement_trees_of result (items_of_block (env_of env.old) (record { breaks = false; continues = false; returns = ctype_of returns.now }) (before_of before.old) (next_of next) (block_items_of items.now)) }
     ensures counted { OnOk result (before_of before.new ≡ past (before_of before.old) (calls_of_block (block_items_of items.now)) (held_by_block (env_of env.old) (next_of next) (block_items_of items.now))) }
     ensures kept { OnOk result (env.new ≡ env.old) }
@@ -55,7 +55,7 @@ fn one_statement<'t>(
     returns: &CType,
     next: Next,
     s: &'t Stmt,
-) -> Result<StatementTreeAll, CheckError>
+) -> Result<StatementTrees, CheckError>
     ensures judged { AgreesWith statement_trees_of result (items_of_block (env_of env.old) (record { breaks = false; continues = false; returns = ctype_of returns.now }) (before_of before.old) (next_of next) (block_stmt (stmt_of s.now) no_block_items)) }
     ensures counted { OnOk result (before_of before.new ≡ past (before_of before.old) (calls_of_block (block_stmt (stmt_of s.now) no_block_items)) (held_by_block (env_of env.old) (next_of next) (block_stmt (stmt_of s.now) no_block_items))) }
     ensures kept { OnOk result (env.new ≡ env.old) }
@@ -79,7 +79,7 @@ pub fn body_of<'t>(
     returns: &CType,
     next: Next,
     body: &'t Stmt,
-) -> Result<StatementTreeAll, CheckError>
+) -> Result<StatementTrees, CheckError>
     ensures judged { AgreesWith statement_trees_of result (items_of_block (env_of env.old) (record { breaks = false; continues = false; returns = ctype_of returns.now }) (before_of before.old) (next_of next) (items_of_body (stmt_of body.now))) }
     ensures counted { OnOk result (before_of before.new ≡ past (before_of before.old) (calls_of_block (items_of_body (stmt_of body.now))) (held_by_block (env_of env.old) (next_of next) (items_of_body (stmt_of body.now)))) }
     ensures kept { OnOk result (env.new ≡ env.old) }

@@ -11,7 +11,7 @@ ghost use Rattle.c_syntax.specs.UnitView.{decl_of, maybe_init_of, parts_of};
 ghost use Rattle.c_syntax.specs.View.{declarator_of, spec_of};
 
 use crate::locals::{local, place_of};
-use c_check_bodies::{StatementTree, StatementTreeAll, no_statements, past_part, pushed};
+use c_check_bodies::{StatementTree, StatementTrees, no_statements, past_part, pushed};
 use c_check_counts::{Next, name_of};
 use c_check_scopes::{Before, Environment};
 use c_check_values::{C3, CheckError};
@@ -71,7 +71,7 @@ fn local_parts<'t>(
     at: u32,
     spec: &'t Spec,
     parts: &'t [DeclPart],
-) -> Result<StatementTreeAll, CheckError>
+) -> Result<StatementTrees, CheckError>
     ensures judged { AgreesWith statement_trees_of result (local_parts (env_of env.old) (before_of before.old) (next_of next.old) at (spec_of spec.now) (parts_of parts.now)) }
     ensures counted { OnOk result (before_of before.new ≡ past (before_of before.old) (calls_of_parts (parts_of parts.now)) (held_by_parts (env_of env.old) (next_of next.old) at (spec_of spec.now) (parts_of parts.now))) }
     ensures meant { OnOk result (env_of env.new ≡ behind_parts (env_of env.old) (next_of next.old) at (spec_of spec.now) (parts_of parts.now)) }
@@ -93,7 +93,7 @@ pub fn local_decl<'t>(
     before: &mut Before<'t>,
     next: &mut Next,
     decl: &'t Decl,
-) -> Result<StatementTreeAll, CheckError>
+) -> Result<StatementTrees, CheckError>
     ensures judged { AgreesWith statement_trees_of result (local_decl (env_of env.old) (before_of before.old) (next_of next.old) (decl_of decl.now)) }
     ensures counted { OnOk result (before_of before.new ≡ after_decl (env_of env.old) (before_of before.old) (next_of next.old) (decl_of decl.now)) }
     ensures meant { OnOk result (env_of env.new ≡ behind_decl (env_of env.old) (next_of next.old) (decl_of decl.now)) }

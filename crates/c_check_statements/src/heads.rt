@@ -21,7 +21,7 @@ ghost use Rattle.c_tree.specs.View.{ctype_of, expr_of as tree_seen, maybe_of as 
 
 use crate::declarations::local_decl;
 use c_check_bodies::{
-    StatementTree, StatementTreeAll, alone, bare, no_statements, returned_value, returned_void,
+    StatementTree, StatementTrees, alone, bare, no_statements, returned_value, returned_void,
     switched,
 };
 use c_check_counts::Next;
@@ -143,7 +143,7 @@ fn evaluated_first<'t>(
     env: &mut Environment<'t>,
     before: &mut Before<'t>,
     e: &'t Expr,
-) -> Result<StatementTreeAll, CheckError>
+) -> Result<StatementTrees, CheckError>
     ensures judged { AgreesWith statement_trees_of result (gives (value (env_of env.old) (before_of before.old) (expr_of e.now)) (λ g. alone (bare (evaluate (tree_of g))))) }
     ensures counted { OnOk result (before_of before.new ≡ after (before_of before.old) (expr_of e.now)) }
     ensures kept { OnOk result (env.new ≡ env.old) }
@@ -159,7 +159,7 @@ pub fn first_of<'t>(
     before: &mut Before<'t>,
     next: &mut Next,
     first: &'t ForFirst,
-) -> Result<StatementTreeAll, CheckError>
+) -> Result<StatementTrees, CheckError>
     ensures judged { AgreesWith statement_trees_of result (first_of (env_of env.old) (before_of before.old) (next_of next.old) (first_of_head first.now)) }
     ensures counted { OnOk result (before_of before.new ≡ after_first (env_of env.old) (before_of before.old) (next_of next.old) (first_of_head first.now)) }
     ensures meant { OnOk result (env_of env.new ≡ behind_first (env_of env.old) (next_of next.old) (first_of_head first.now)) }

@@ -26,7 +26,7 @@ use crate::declarations::local_decl;
 use crate::heads::{condition_of, evaluated, first_of, returned, switched_value, tests_of};
 use crate::labels::labels_of;
 use c_check_bodies::{
-    Around, Labelled, StatementTree, StatementTreeAll, alone, appended, bare, block, broken_off,
+    Around, Labelled, StatementTree, StatementTrees, alone, appended, bare, block, broken_off,
     continued, do_loop, for_loop, group_added, if_else, in_loop, in_switch, label_type,
     leave_block, no_labelled, no_statements, one_deeper, only_if, pushed, switch_laid, while_loop,
 };
@@ -292,7 +292,7 @@ pub fn items_of_block<'t>(
     before: &mut Before<'t>,
     next: &mut Next,
     items: &'t [BlockItem],
-) -> Result<StatementTreeAll, CheckError>
+) -> Result<StatementTrees, CheckError>
     ensures judged { AgreesWith statement_trees_of result (items_of_block (env_of env.old) (around_of around.now) (before_of before.old) (next_of next.old) (block_items_of items.now)) }
     ensures counted { OnOk result (before_of before.new ≡ past (before_of before.old) (calls_of_block (block_items_of items.now)) (held_by_block (env_of env.old) (next_of next.old) (block_items_of items.now))) }
     ensures numbered { OnOk result (next_of next.new ≡ past_names (next_of next.old) (names_of_block (block_items_of items.now))) }
@@ -315,7 +315,7 @@ fn block_item<'t>(
     before: &mut Before<'t>,
     next: &mut Next,
     item: &'t BlockItem,
-) -> Result<StatementTreeAll, CheckError>
+) -> Result<StatementTrees, CheckError>
     ensures judged { AgreesWith statement_trees_of result (item_alone (env_of env.old) (around_of around.now) (before_of before.old) (next_of next.old) item.now) }
     ensures counted { OnOk result (before_of before.new ≡ after_item (env_of env.old) (before_of before.old) (next_of next.old) item.now) }
     ensures meant { OnOk result (env_of env.new ≡ behind_item (env_of env.old) (next_of next.old) item.now) }
@@ -340,7 +340,7 @@ fn statements<'t>(
     before: &mut Before<'t>,
     next: &mut Next,
     ss: &'t [Stmt],
-) -> Result<StatementTreeAll, CheckError>
+) -> Result<StatementTrees, CheckError>
     ensures judged { AgreesWith statement_trees_of result (stmts (env_of env.old) (around_of around.now) (before_of before.old) (next_of next.old) (stmts_of ss.now)) }
     ensures counted { OnOk result (before_of before.new ≡ after_stmts (env_of env.old) (before_of before.old) (next_of next.old) (stmts_of ss.now)) }
     ensures numbered { OnOk result (next_of next.new ≡ past_names (next_of next.old) (names_of_stmts (stmts_of ss.now))) }

@@ -7,20 +7,20 @@
 //! - A law on the rules of a C text (C99 6.5 to 6.9): they don't look at places.
 #![tactic(auto)]
 
-mod accepted;
-mod environments;
-mod places;
-mod programs;
-mod units;
+mod environment_laws;
+mod place_laws;
+mod program_laws;
+mod text_laws;
+mod unit_laws;
 
-pub use accepted::{
+pub use environment_laws::parts_give_the_same_in_both_units;
+pub use place_laws::units_are_typed_alike_apart_from_places;
+pub use program_laws::a_typed_unit_is_a_program;
+pub use text_laws::{
     a_plain_text_is_accepted_in_both_modes, a_plain_text_makes_no_null_call,
     a_text_is_accepted_as_one_program, accepted_texts_are_programs, accepted_texts_are_well_typed,
 };
-pub use environments::parts_give_the_same_in_both_units;
-pub use places::units_are_typed_alike_apart_from_places;
-pub use programs::a_typed_unit_is_a_program;
-pub use units::{
+pub use unit_laws::{
     a_spelled_unit_is_lexical, expressions_are_well_typed, sites_are_in_order,
     statements_are_well_typed, units_are_well_typed,
 };

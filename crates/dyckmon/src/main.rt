@@ -31,7 +31,7 @@ fn status_without_words(error: &io::Error) -> Status {
 }
 
 fn main(rt: HostRuntime) -> ExitCode {
-    let mut store = FolderStore::new(&rt);
+    let mut store = FolderStore::new(&rt, rt.alloc(), rt.stdin());
     let mut out = StdSink::new(rt.stdout());
     let mut err = StdSink::new(rt.stderr());
     let status = match words(&rt) {

@@ -10,7 +10,7 @@ pub mod TakenParts
 pub mod ArgumentLemmas
 pub mod Told
 pub mod ProgramLemmas
-pub mod Sites
+pub mod SiteLemmas
 pub mod TakenLemmas
 pub mod RecordLemmas
 pub mod FunctionLemmas

@@ -1,57 +1,68 @@
 -- The headline: what is proved of every C text that the checker accepts (Wagner and Dean 2001; Giffin, Jha and Miller 2004).
-use Rattle.std.specs.Prelude.{ℕ, ◌≤◌, List, length}
+use Rattle.std.specs.Prelude.{◌≡◌, ℕ, ◌<◌, ◌≤◌, List, length}
 use Rattle.dm_base.specs.declared.event.Event.{Event}
 use Rattle.dm_base.specs.declared.mode.Mode.TheVariants.{Plain, Instrumented}
-use Rattle.dm_base.specs.declared.verdict.Verdict.TheVariants.{Accepted}
-use Rattle.dm_base.specs.Trace.{erase}
+use Rattle.dm_base.specs.declared.verdict.Verdict.TheVariants.{Accepted, Rejected, Bound}
+use Rattle.dm_base.specs.Trace.{depth, erase, output}
 use Rattle.sys_table.specs.declared.sys_result.SysResult.{SysResult}
 use Rattle.flow_model.specs.declared.which.Which.{Which}
 use Rattle.flow_model.specs.declared.which.Which.TheVariants as which
-use Rattle.flow_model.specs.Graph.{Graph}
 use Rattle.flow_model.specs.Language.{Reads}
-use Rattle.flow_model.specs.Verdict.{IsKept, IsVerdict}
+use Rattle.flow_model.specs.Verdict.{IsVerdict}
 use Rattle.c_tree.specs.Tree.{Program}
 use Rattle.c_shapes.specs.ProgramLanguages.{Dyck, Stack, Callgraph}
 use Rattle.c_rules.specs.Accepted.{IsAcceptedAs}
-use Rattle.c_meaning.specs.Runs.{run}
+use Rattle.c_meaning.specs.Runs.{Run, run}
+use Rattle.flow_graph_laws.specs.Equal.{AreEqual}
 use Rattle.flow_graph_laws.specs.GraphOfProgram.{graph_of_program}
-use Rattle.alarm_laws.specs.Monitors.{IsAcceptedByAll}
-use Rattle.headline.specs.AcceptedRuns.{RaisesNoAlarm}
-use Rattle.null_calls_texts_laws.specs.Instrumented.{instrumented_text, DoesAsMarked}
+use Rattle.alarm_laws.specs.MarkedRuns.{marked_run}
+use Rattle.null_calls_texts_laws.specs.Instrumented.{instrumented_text}
 
--- the languages of a model stand in each other: what the Dyck model reads, the abstract-stack model reads without its null calls, and what
--- that one reads, the callgraph model reads
-pub record AreNested (g : Graph) : Type 0 where
-  pub dyck : (t : List Event) → Reads which.Dyck g t → Reads which.Stack g (erase t)
-  pub stack : (t : List Event) → Reads which.Stack g t → Reads which.Callgraph g (erase t)
+-- a run does what another one does once null calls are erased
+pub record DoesTheSame (marked plain : Run) : Type 0 where
+  pub outcome : marked.outcome ≡ plain.outcome
+  pub output : output marked.trace ≡ output plain.trace
+  pub erased : erase marked.trace ≡ plain.trace
 
--- a monitor's verdict is that the whole trace is accepted exactly where the trace is a word of its model, and for the Dyck monitor where
--- also no more calls are open at once than its bound allows
-pub record AcceptsItsModel (w : Which) (g : Graph) (bound : ℕ) : Type 0 where
-  pub words : (t : List Event) → IsVerdict w g bound t (Accepted (length t)) → IsKept w g bound t
-  pub accepted : (t : List Event) → IsKept w g bound t → IsVerdict w g bound t (Accepted (length t))
+-- the languages of a program stand in each other: Dyck, null calls erased, inside abstract stack inside callgraph
+pub record AreNested (p : Program) : Type 0 where
+  pub dyck : (t : List Event) → Dyck p t → Stack p (erase t)
+  pub stack : (t : List Event) → Stack p t → Callgraph p t
 
--- The models of p contain the trace of each run of the program q, whatever the recorded results and the turns are, and p's monitors say
--- so: they accept it whole, the Dyck monitor where its bound allows as many open calls.
-pub record IsContained (p q : Program) : Type 0 where
-  pub dyck : (records : List SysResult) (turns : ℕ) → Dyck p (run q records turns).trace
-  pub stack : (records : List SysResult) (turns : ℕ) → Stack p (erase (run q records turns).trace)
-  pub callgraph : (records : List SysResult) (turns : ℕ) → Callgraph p (erase (run q records turns).trace)
-  pub accepted : (records : List SysResult) (turns bound : ℕ) → IsAcceptedByAll (graph_of_program p) bound (run q records turns).trace
+-- the words of a program that a monitor goes by
+abbrev pub Words : Which → Program → List Event → Type 0
+Words which.Callgraph p t = Callgraph p t
+Words which.Stack p t = Stack p t
+Words which.Dyck p t = Dyck p t
 
--- The instrumented text is accepted as a program that does what the plain one does once null calls are erased, and the plain program's
--- models contain the trace of each of its runs.
-abbrev pub IsInstrumentedAs : List ℕ → Program → Type 0
-IsInstrumentedAs text p = (q : Program) × IsAcceptedAs text Instrumented q × DoesAsMarked p q × IsContained p q
+-- no more calls are open at once than the bound of the monitor allows; only the Dyck monitor has one
+abbrev pub IsWithinBound : Which → ℕ → List Event → Type 0
+IsWithinBound which.Callgraph bound t = Unit {0}
+IsWithinBound which.Stack bound t = Unit {0}
+IsWithinBound which.Dyck bound t = depth t ≤ bound
 
--- what is proved of a text that is accepted as the program, in this reading
-pub record HoldsOf (text : List ℕ) (p : Program) (reading : IsAcceptedAs text Plain p) : Type 0 where
-  -- the plain program's own runs are words of its models, which are those of its graph
-  pub plain : RaisesNoAlarm p
-  -- what `instrument` writes, which has 16 MiB at most
-  pub instrumented : length (instrumented_text p reading.unit) ≤ 16777216 → IsInstrumentedAs (instrumented_text p reading.unit) p
-  pub nested : AreNested (graph_of_program p)
-  pub exact : (w : Which) (bound : ℕ) → AcceptsItsModel w (graph_of_program p) bound
+-- What the monitor of w over the program's graph says of a trace: by the contract of a monitor (`flow_model`, Monitor, exact) it answers
+-- by `IsVerdict`. It accepts a whole trace exactly where that is a word within the bound; a deeper word gets Bound, at the event that
+-- opens one call too many; and no word is rejected.
+pub record VerdictIsMembership (w : Which) (p : Program) (bound : ℕ) (t : List Event) : Type 0 where
+  pub words : IsVerdict w (graph_of_program p) bound t (Accepted (length t)) → Words w p t × IsWithinBound w bound t
+  pub accepted : Words w p t → IsWithinBound w bound t → IsVerdict w (graph_of_program p) bound t (Accepted (length t))
+  pub bounded : w ≡ which.Dyck → Words w p t → bound < depth t → (k : ℕ) × IsVerdict w (graph_of_program p) bound t (Bound k)
+  pub never_rejected : Words w p t → (k : ℕ) → IsVerdict w (graph_of_program p) bound t (Rejected k) → ⊥
+
+-- What holds of a program p and of the instrumented text of the text that is accepted as p, for all recorded results and bounds of turns.
+pub record HoldsOf (p : Program) (instrumented : List ℕ) : Type 0 where
+  -- where it has at most 16 MiB the instrumented text is accepted, and whatever program q it is accepted as runs as p does with null calls
+  pub accepted : length instrumented ≤ 16777216 → (q : Program) × IsAcceptedAs instrumented Instrumented q
+  pub runs : (q : Program) → IsAcceptedAs instrumented Instrumented q → (records : List SysResult) (turns : ℕ) → run q records turns ≡ marked_run p records turns
+  -- which is what p does, once null calls are erased
+  pub same : (records : List SysResult) (turns : ℕ) → DoesTheSame (marked_run p records turns) (run p records turns)
+  -- the models of p contain the trace
+  pub contained : (records : List SysResult) (turns : ℕ) → Dyck p (marked_run p records turns).trace
+  pub nested : AreNested p
+  pub models : (w : Which) → AreEqual (Words w p) (Reads w (graph_of_program p))
+  -- and each monitor accepts exactly the words of its model
+  pub exact : (w : Which) (bound : ℕ) (t : List Event) → VerdictIsMembership w p bound t
 
 abbrev pub TheHeadline : Type 0
-TheHeadline = (text : List ℕ) (p : Program) (reading : IsAcceptedAs text Plain p) → HoldsOf text p reading
+TheHeadline = (text : List ℕ) (p : Program) (reading : IsAcceptedAs text Plain p) → HoldsOf p (instrumented_text p reading.unit)

@@ -5,14 +5,14 @@
 //! - Calls of an instrumented unit beside the plain ones (C99 6.5.2.2).
 #![tactic(auto)]
 
-mod calls;
-mod expressions;
-mod rules;
+mod call_laws;
+mod expression_laws;
+mod rule_laws;
 
-pub use calls::{
+pub use call_laws::{
     calls_are_within, calls_go, expressions_go, kept_arguments_go, kept_values_are_given,
     null_calls_are_made, nulls_have_their_types, temporaries_are_read, temporaries_are_set,
     unmarked_calls_go, values_fit_their_types,
 };
-pub use expressions::expressions_go_where_calls_do;
-pub use rules::{choices_follow, operands_follow, pairs_follow};
+pub use expression_laws::expressions_go_where_calls_do;
+pub use rule_laws::{choices_follow, operands_follow, pairs_follow};

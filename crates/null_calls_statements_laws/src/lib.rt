@@ -6,12 +6,12 @@
 //! - Statements of an instrumented unit beside the plain ones (C99 6.8).
 #![tactic(auto)]
 
-mod declarations;
-mod heads;
-mod initialisers;
-mod statements;
+mod declaration_laws;
+mod head_laws;
+mod initialiser_laws;
+mod statement_laws;
 
-pub use declarations::{declarations_go, firsts_go, numbers_stay};
-pub use heads::heads_go;
-pub use initialisers::{blocks_stand_beside, initialisers_go, temporaries_stay};
-pub use statements::{blocks_go, statements_go};
+pub use declaration_laws::{declarations_go, firsts_go, numbers_stay};
+pub use head_laws::heads_go;
+pub use initialiser_laws::{blocks_stand_beside, initialisers_go, temporaries_stay};
+pub use statement_laws::{blocks_go, statements_go};

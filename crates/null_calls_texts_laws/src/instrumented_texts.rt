@@ -1,6 +1,6 @@
 ghost use Rattle.null_calls_texts_laws.specs.Instrumented.{InstrumentedTextsAreAccepted};
 
-use crate::texts::instrumented_texts_are_read_back;
+use crate::text_laws::instrumented_texts_are_read_back;
 use alarm_laws::marked_runs_are_runs;
 use c_rules_laws::{a_plain_text_makes_no_null_call, units_are_typed_alike_apart_from_places};
 use null_calls_units_laws::instrumented_texts_run_marked;

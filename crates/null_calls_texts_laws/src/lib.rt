@@ -9,8 +9,8 @@
 
 mod instrumented_texts;
 mod lexical_units;
-mod texts;
+mod text_laws;
 
 pub use instrumented_texts::instrumented_texts_are_accepted;
 pub use lexical_units::instrumented_units_are_lexical;
-pub use texts::{instrumented_texts_are_read_back, instrumented_units_are_units};
+pub use text_laws::{instrumented_texts_are_read_back, instrumented_units_are_units};

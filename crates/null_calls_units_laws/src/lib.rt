@@ -13,14 +13,14 @@
 
 mod call_sites;
 mod functions;
-mod items;
+mod item_laws;
 mod spelled_types;
 mod temporary_names;
-mod units;
+mod unit_laws;
 
 pub use call_sites::bodies_are_tabled;
 pub use functions::definitions_go;
-pub use items::other_items_go;
+pub use item_laws::other_items_go;
 pub use spelled_types::{temporaries_are_declared, types_are_spelled};
 pub use temporary_names::temporaries_have_names;
-pub use units::{instrumented_texts_run_marked, instrumented_units_are_typed};
+pub use unit_laws::{instrumented_texts_run_marked, instrumented_units_are_typed};

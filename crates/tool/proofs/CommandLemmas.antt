@@ -4,8 +4,10 @@ use Rattle.std.proofs.lemmas.Fmt.{decimal_injective}
 use Rattle.std.specs.Prelude.{IsSome}
 use Rattle.dm_base.specs.declared.mode.Mode.TheVariants.{Plain}
 use Rattle.dm_base.specs.declared.verdict.Status.{Status}
+use Rattle.dm_base.specs.declared.verdict.Status.TheVariants as statuses
 use Rattle.dm_io.specs.Store.{Files}
-use Rattle.tool_audit.proofs.FileLemmas.{audit_ready, audit_apart, audit_status}
+use Rattle.tool_audit.proofs.FileLemmas.{audit_ready, audit_apart, audit_status, audit_made}
+use Rattle.tool_audit.specs.Audit.{IsAuditStatus}
 use Rattle.tool_instrument.proofs.FileLemmas.{instrument_ready, instrumented_apart, instrument_status}
 use Rattle.tool_monitors.specs.declared.asked.Asked.{Asked}
 use Rattle.tool_monitors.specs.declared.asked.Asked.TheVariants as asked
@@ -225,3 +227,17 @@ made_not_refused c d words files status later text line told asked again makes r
 pub refused_once : (c d : Command) (words : List (List ℕ)) (files : Option Files) (status later : Status) (line other : List ℕ) → IsSome files → IsCommandLine c words → IsCommandLine d words → Refuses c files status line → Refuses d files later other → status ≡ later
 refused_once c d words files status later line other told asked again refuses too =
     same_refusal d files status later line other told (subst (λ (x : Command). Refuses x files status line) (one_command c d words asked again) refuses) too
+
+-- what `audit` makes never ends as a rejection
+
+audit_ended : (files : Option Files) (source results : List ℕ) (turns bound : ℕ) (status : Status) (text : List ℕ) → Makes (Audit source results turns bound) files status text → IsAuditStatus status
+audit_ended None source results turns bound status text makes = makes
+audit_ended (Some files) source results turns bound status text makes = audit_made files source results turns bound status text makes
+
+pub audit_never_rejects : (c : Command) (words : List (List ℕ)) (files : Option Files) (status : Status) (text source results : List ℕ) (turns bound : ℕ) → IsCommandLine c words → IsCommandLine (Audit source results turns bound) words → Makes c files status text → status ≡ statuses.Rejected → ⊥
+audit_never_rejects c words files status text source results turns bound asked again makes rejected =
+    of (audit_ended files source results turns bound status text (subst (λ (x : Command). Makes x files status text) (one_command c (Audit source results turns bound) words asked again) makes))
+  where
+    of : IsAuditStatus status → ⊥
+    of (inl done) = cc (done, rejected)
+    of (inr bounded) = cc (bounded, rejected)

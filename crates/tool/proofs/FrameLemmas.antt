@@ -9,9 +9,9 @@ use Rattle.dm_io.specs.Store.{Files}
 use Rattle.tool_frame.specs.declared.stop.Stop.{Stop}
 use Rattle.tool_frame.specs.declared.stop.Stop.TheVariants as stops
 use Rattle.tool_frame.specs.Stop.{IsFinished, status_of_stop}
-use Rattle.tool.specs.Frame.{call_of, IsSound, IsRefused, IsUndisturbed, Writes}
+use Rattle.tool.specs.Frame.{call_of, AsksToAudit, IsSound, IsRefused, IsUndisturbed, Writes}
 use Rattle.tool.specs.Stop.{HasStop, IsWorked}
-use Rattle.tool.proofs.CommandLemmas.{ready_not_refused, made_not_refused, refused_once}
+use Rattle.tool.proofs.CommandLemmas.{ready_not_refused, made_not_refused, refused_once, audit_never_rejects}
 
 module _ (words : List (List ℕ)) (files : Option Files) (before after out_before out_after : ℕ) where
   -- a sound call stops for want of memory alone
@@ -47,3 +47,18 @@ pub written_in_part : {A E : Type 0} (r : Result A E) (words : List (List ℕ)) 
 written_in_part (Ok a) words files before after out_before out_after status text shown old new failed same part worked = absurd (true≢false (sym failed))
 written_in_part (Err e) words files before after out_before out_after status text shown old new failed same part worked =
     (status, text, part.0, worked, subst (λ (w : List ℕ). Takes old new (take part.0 w)) same part.2)
+
+-- no stop is a rejection
+pub stop_not_rejected : (stop : Stop) → status_of_stop stop ≡ statuses.Rejected → ⊥
+stop_not_rejected stops.Usage same = cc same
+stop_not_rejected (stops.Source line) same = cc same
+stop_not_rejected (stops.Model line) same = cc same
+stop_not_rejected (stops.Record line) same = cc same
+stop_not_rejected stops.Read same = cc same
+stop_not_rejected stops.Write same = cc same
+stop_not_rejected stops.OutOfMemory same = cc same
+
+-- nor is an audit
+pub audit_not_rejected : (words : List (List ℕ)) (files : Option Files) (before after out_before out_after : ℕ) (status : Status) (text : List ℕ) → IsWorked words files status text → AsksToAudit (call_of words files before after out_before out_after) → status ≡ statuses.Rejected → ⊥
+audit_not_rejected words files before after out_before out_after status text worked asks rejected =
+    audit_never_rejects worked.0 words files status text asks.0 asks.1 asks.2 asks.3 worked.1 asks.4 worked.2 rejected

@@ -9,7 +9,7 @@ use Rattle.tool.specs.Command.{Command}
 use Rattle.tool.specs.Command.FileCommand.{Check, Instrument, Model, Upgrade}
 use Rattle.tool.specs.Command.Command.{Version, Help, OfFile, OfTrace, Measure, Run, Audit}
 use Rattle.tool.specs.Command.TraceCommand.{Judge, Watch}
-use Rattle.tool_audit.specs.Audit.{Audits, RefusesToAudit, LacksToAudit, IsReadyToAudit}
+use Rattle.tool_audit.specs.Audit.{Audits, IsAuditStatus, RefusesToAudit, LacksToAudit, IsReadyToAudit}
 use Rattle.tool_instrument.specs.Instrument.{Instruments, RefusesToInstrument, IsReadyToInstrument}
 use Rattle.tool_models.specs.Judge.{Judges, RefusesToJudge, LacksToJudge, IsReadyToJudge}
 use Rattle.tool_models.specs.Measure.{Measures}
@@ -46,7 +46,7 @@ help_text =
 abbrev pub Makes : Command → Option Files → Status → List ℕ → Type 0
 Makes Version files status text = (status ≡ Done) × (text ≡ version_text)
 Makes Help files status text = (status ≡ Done) × (text ≡ help_text)
-Makes (OfFile which file) None status text = IsFinished status
+Makes (OfFile which file) None status text = status ≡ Done
 Makes (OfFile Check file) (Some files) status text = (status ≡ Done) × Checks files file text
 Makes (OfFile Instrument file) (Some files) status text = (status ≡ Done) × Instruments files file text
 Makes (OfFile Model file) (Some files) status text = (status ≡ Done) × Models files file text
@@ -54,11 +54,11 @@ Makes (OfFile Upgrade file) (Some files) status text = (status ≡ Done) × Upgr
 Makes (OfTrace command model trace which bound) None status text = IsFinished status
 Makes (OfTrace Judge model trace which bound) (Some files) status text = Judges files model trace (monitors_of which) bound status text
 Makes (OfTrace Watch model traces which bound) (Some files) status text = Watches files model traces (monitors_of which) bound status text
-Makes (Measure model trace which) None status text = IsFinished status
+Makes (Measure model trace which) None status text = status ≡ Done
 Makes (Measure model trace which) (Some files) status text = Measures files model trace (monitors_of which) status text
-Makes (Run source results turns) None status text = IsFinished status
+Makes (Run source results turns) None status text = status ≡ Done
 Makes (Run source results turns) (Some files) status text = (status ≡ Done) × Runs files source results turns text
-Makes (Audit source results turns bound) None status text = IsFinished status
+Makes (Audit source results turns bound) None status text = IsAuditStatus status
 Makes (Audit source results turns bound) (Some files) status text = Audits files source results turns bound status text
 
 -- the command refuses a file, with this status and this line

@@ -7,6 +7,7 @@ use Rattle.dm_io.specs.Sink.{Takes}
 use Rattle.dm_io.specs.Store.{Files}
 use Rattle.tool_frame.specs.Report.{TakesLine}
 use Rattle.tool.specs.Command.{Command, IsCommandLine}
+use Rattle.tool.specs.Command.Command.{Audit}
 use Rattle.tool.specs.Commands.{Makes, Refuses, Lacks, IsReady}
 
 -- what a call finds: its words, the told files, and the counts of faults of the store and of out, before it and after it
@@ -37,6 +38,10 @@ IsRefused call status line = (c : Command) × IsCommandLine c call.words × Refu
 -- a file that the command of the words asks for isn't there
 abbrev pub IsLacking : Call → Type 0
 IsLacking call = (c : Command) × IsCommandLine c call.words × Lacks c call.files
+
+-- the words are those of `audit`
+abbrev pub AsksToAudit : Call → Type 0
+AsksToAudit call = (source : List ℕ) × (results : List ℕ) × (turns : ℕ) × (bound : ℕ) × IsCommandLine (Audit source results turns bound) call.words
 
 -- the cause of each status
 abbrev pub HasCause : Status → Call → Type 0

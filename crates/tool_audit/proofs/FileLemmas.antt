@@ -15,7 +15,9 @@ use Rattle.sys_table.specs.declared.results_error.ResultsError.{ResultsError}
 use Rattle.sys_table.specs.declared.results_error.ResultsError.TheVariants as errors
 use Rattle.sys_table.specs.ResultsText.{IsResultsRefusal}
 use Rattle.sys_table.proofs.ResultsLemmas.{not_refused}
-use Rattle.tool_audit.specs.Audit.{Audits, RefusesToAudit, IsReadyToAudit}
+use Rattle.tool_audit.specs.Audit.{Audits, IsAuditStatus, RefusesToAudit, IsReadyToAudit}
+use Rattle.tool_audit.proofs.Verdicts.{audit_ends}
+use Rattle.alarm_laws.specs.MarkedRuns.{marked_run}
 
 -- a text is accepted as one program
 accepted_once : (text : List ℕ) (m : Mode) (p q : Program) → IsAcceptedAs text m p → IsAcceptedAs text m q → p ≡ q
@@ -50,3 +52,8 @@ module _ (told : Files) (source results : List ℕ) where
 pub audit_ready : (files : Option Files) (source results : List ℕ) (status : Status) (line : List ℕ) → IsReadyToAudit files source results → RefusesToAudit files source results status line → ⊥
 audit_ready None source results status line ready refuses = ready
 audit_ready (Some told) source results status line ready refuses = good_files told source results status line ready.0 ready.1 ready.2 ready.3 refuses
+
+-- the status of an audit that was made
+pub audit_made : (told : Files) (source results : List ℕ) (turns bound : ℕ) (status : Status) (text : List ℕ) → Audits told source results turns bound status text → IsAuditStatus status
+audit_made told source results turns bound status text makes =
+    audit_ends (graph_of_program makes.program) bound (marked_run makes.program makes.records turns) status text makes.is

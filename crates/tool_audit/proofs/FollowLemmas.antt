@@ -1,5 +1,5 @@
 -- The events of a run that monitors hear can be recorded, and what three monitors that heard it whole say.
-use Rattle.std.proofs.Common.{◌≡◌, ℕ, List, [], ◌∷◌, ◌++◌, All, get_or, refl, sym, ◌∙◌, ap, subst, append-nil, append_assoc}
+use Rattle.std.proofs.Common.{◌≡◌, ℕ, List, [], ◌∷◌, ◌++◌, All, get_or, refl, sym, ◌∙◌, ap, subst}
 use Rattle.std.proofs.lemmas.List.Elements.{All-head, All-tail}
 use Rattle.std.specs.List.{AllZip}
 use Rattle.dm_base.specs.declared.event.Event.{Event}
@@ -21,7 +21,10 @@ use Rattle.ref_machine.proofs.Noting.{noted_on}
 use Rattle.report.specs.Precision.{IsNext, next_text}
 use Rattle.report.specs.VerdictLine.{verdict_text, event_at}
 use Rattle.sys_table.specs.Table.{IsRecorded}
-use Rattle.tool_audit.specs.Heard.{AreHeard, HaveHeard, all_monitors}
+use Rattle.tool_audit.specs.Heard.{AreHeard, HaveHeard}
+use Rattle.tool_audit.proofs.Verdicts.{regrouped}
+use Rattle.tool_monitors.specs.declared.asked.Asked.TheVariants.{All as AllThree}
+use Rattle.tool_monitors.specs.Monitors.{monitors_of}
 
 comes_after : (t : List Event) (e : Event) (rest : List Event) → All IsRecorded (t ++ e ∷ rest) → IsRecorded e
 comes_after [] e rest all = All-head IsRecorded e rest all
@@ -39,12 +42,8 @@ kept_on whole trace grown pause old new so follows is kept = noted_on whole trac
 pub told_on : (whole : Run) (trace grown : List Event) (pause : Pause) (e : Event) (old new : Run) → whole ≡ joined trace old → Follows old pause new → pause ≡ Did e → grown ≡ trace ++ e ∷ [] → whole ≡ joined grown new
 told_on whole trace grown pause e old new so follows is more = noted_on whole trace grown (Did e) old new so (subst (λ (p : Pause). Follows old p new) is follows) (more, refl)
 
--- lines one after the other, however they are put together
-regrouped : (x y z n : List ℕ) → (x ++ (y ++ (z ++ []))) ++ n ≡ x ++ (y ++ (z ++ n))
-regrouped x y z n = append_assoc x (y ++ (z ++ [])) n ∙ ap (λ (w : List ℕ). x ++ w) (append_assoc y (z ++ []) n ∙ ap (λ (w : List ℕ). y ++ (w ++ n)) (append-nil z))
-
 module _ (g : Graph) (bound : ℕ) (t : List Event) where
-  said_all : (status : Status) (told text : List ℕ) (a b c : ℕ) (vs : List Verdict) (ns : List ℕ) → AllZip (λ which v. IsVerdict which g bound t v) all_monitors vs → status ≡ status_of_all vs → told ≡ verdict_lines all_monitors vs t → AreNextNames all_monitors g bound t ns
+  said_all : (status : Status) (told text : List ℕ) (a b c : ℕ) (vs : List Verdict) (ns : List ℕ) → AllZip (λ which v. IsVerdict which g bound t v) (monitors_of AllThree) vs → status ≡ status_of_all vs → told ≡ verdict_lines (monitors_of AllThree) vs t → AreNextNames (monitors_of AllThree) g bound t ns
       → a ≡ get_or ns 0 a → b ≡ get_or ns 1 b → c ≡ get_or ns 2 c → text ≡ told ++ next_text a b c → AreHeard g bound t status text
   said_all status told text a b c [] ns judged ends writes next is_a is_b is_c wrote = absurd judged
   said_all status told text a b c (x ∷ []) ns judged ends writes next is_a is_b is_c wrote = absurd judged.1

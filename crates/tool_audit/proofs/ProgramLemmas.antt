@@ -48,17 +48,17 @@ runs_marked law text source u q is same typed records turns =
     subst (λ (w : Program). run w records turns ≡ marked_run p records turns) one (found.3 records turns)
 
 -- the audit of the run that the machine found, where its events and the lines are those that were passed on
-pub audit_found : TextsRaiseNoAlarm → (from : List ℕ) (source : Source) (q : Program) (records : List SysResult) (turns bound : ℕ) (found : Found) (g : Graph) (status : Status) (events again : List Event) (heard told shown text : List ℕ)
+pub audit_found : TextsRaiseNoAlarm → (from : List ℕ) (source : Source) (q : Program) (records : List SysResult) (turns bound : ℕ) (found : Found) (g : Graph) (status : Status) (again : List Event) (heard told shown text : List ℕ)
     → IsSourceOf from Plain source → g ≡ graph_of_program (program_of source.program) → run_of found ≡ run q records turns → ((records : List SysResult) (turns : ℕ) → run q records turns ≡ marked_run (program_of source.program) records turns)
-    → events ≡ found.trace.items → AreHeard g bound events status heard → again ≡ found.trace.items → shown ≡ trace_text again (Ended found.outcome) → IsTrace shown again (Ended found.outcome) → told ≡ heard → text ≡ shown ++ told
+    → AreHeard g bound found.trace.items status heard → again ≡ found.trace.items → shown ≡ trace_text again (Ended found.outcome) → IsTrace shown again (Ended found.outcome) → told ≡ heard → text ≡ shown ++ told
     → IsAuditOf (graph_of_program (program_of source.program)) bound (marked_run (program_of source.program) records turns) status text
-audit_found law from source q records turns bound found g status events again heard told shown text is same ran marked first said second writes formed passed joins =
+audit_found law from source q records turns bound found g status again heard told shown text is same ran marked said second writes formed passed joins =
     let p = program_of source.program in
     let r : run_of found ≡ marked_run p records turns = ran ∙ marked records turns in
     let all : IsAcceptedByAll (graph_of_program p) bound (run_of found).trace =
     subst (λ (w : Run). IsAcceptedByAll (graph_of_program p) bound w.trace) (sym r) ((law from p (source_accepted from Plain source is)).marked_accepted records turns bound) in
     let given : AreHeard (graph_of_program p) bound (run_of found).trace status heard =
-    subst (λ (h : Graph). AreHeard h bound found.trace.items status heard) same (subst (λ (t : List Event). AreHeard g bound t status heard) first said) in
+    subst (λ (h : Graph). AreHeard h bound found.trace.items status heard) same said in
     let wrote : shown ≡ run_text (run_of found) = subst (λ (t : List Event). shown ≡ trace_text t (Ended found.outcome)) second writes in
     let trace : IsTrace (run_text (run_of found)) found.trace.items (Ended found.outcome) =
     subst (λ (w : List ℕ). IsTrace w found.trace.items (Ended found.outcome)) wrote (subst (λ (t : List Event). IsTrace shown t (Ended found.outcome)) second formed) in

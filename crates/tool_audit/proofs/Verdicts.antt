@@ -4,7 +4,6 @@ use Rattle.dm_base.specs.declared.event.Event.{Event}
 use Rattle.dm_base.specs.declared.event.Event.TheVariants.{Sys, Pre, Post}
 use Rattle.dm_base.specs.declared.outcome.TraceEnd.TheVariants.{Ended}
 use Rattle.dm_base.specs.declared.verdict.Status.{Status}
-use Rattle.dm_base.specs.declared.verdict.Status.TheVariants as statuses
 use Rattle.dm_base.specs.declared.verdict.Verdict.{Verdict}
 use Rattle.dm_base.specs.declared.verdict.Verdict.TheVariants.{Accepted, Rejected, Bound}
 use Rattle.dm_base.specs.Trace.{depth}
@@ -20,9 +19,8 @@ use Rattle.tool_monitors.specs.Judged.{status_of, worse}
 use Rattle.report.specs.Precision.{next_text}
 use Rattle.report.specs.VerdictLine.{verdict_text, event_at}
 use Rattle.tool_steps.specs.Results.{run_text}
-use Rattle.tool_frame.specs.Stop.{IsFinished}
 use Rattle.trace_file.specs.Trace.{IsTrace}
-use Rattle.tool_audit.specs.Audit.{IsAcceptedOrBound, IsAuditOf, lines_of}
+use Rattle.tool_audit.specs.Audit.{IsAcceptedOrBound, IsAuditOf, IsAuditStatus, lines_of}
 use Rattle.tool_audit.specs.Heard.{AreHeard}
 
 -- no first part is deeper than the whole
@@ -52,8 +50,8 @@ dyck_verdict g bound t (Rejected k) all is = all.never_rejected k is
 dyck_verdict g bound t (Bound k) all is = let front = depth_front k t in omega (arith, front, is.deep)
 
 -- lines one after the other, however they are put together
-joined : (x y z n : List ℕ) → (x ++ (y ++ (z ++ []))) ++ n ≡ x ++ (y ++ (z ++ n))
-joined x y z n = append_assoc x (y ++ (z ++ [])) n ∙ ap (λ (w : List ℕ). x ++ w) (append_assoc y (z ++ []) n ∙ ap (λ (w : List ℕ). y ++ (w ++ n)) (append-nil z))
+pub regrouped : (x y z n : List ℕ) → (x ++ (y ++ (z ++ []))) ++ n ≡ x ++ (y ++ (z ++ n))
+regrouped x y z n = append_assoc x (y ++ (z ++ [])) n ∙ ap (λ (w : List ℕ). x ++ w) (append_assoc y (z ++ []) n ∙ ap (λ (w : List ℕ). y ++ (w ++ n)) (append-nil z))
 
 abbrev line : List Event → Which → Verdict → List ℕ
 line t w v = verdict_text w v (event_at t v)
@@ -69,7 +67,7 @@ audit_of g bound r status heard text all said writes formed =
     subst (λ (v : Verdict). heard ≡ line r.trace Callgraph v ++ (line r.trace Stack (Accepted (length r.trace)) ++ (line r.trace Dyck said.dyck ++ next_text said.callgraph_next said.stack_next said.dyck_next))) first
     (subst (λ (v : Verdict). heard ≡ line r.trace Callgraph said.callgraph ++ (line r.trace Stack v ++ (line r.trace Dyck said.dyck ++ next_text said.callgraph_next said.stack_next said.dyck_next))) second said.writes) in
     let put : heard ≡ lines_of r.trace said.dyck ++ next_text said.callgraph_next said.stack_next said.dyck_next =
-    lines ∙ sym (joined (line r.trace Callgraph (Accepted (length r.trace))) (line r.trace Stack (Accepted (length r.trace))) (line r.trace Dyck said.dyck) (next_text said.callgraph_next said.stack_next said.dyck_next)) in
+    lines ∙ sym (regrouped (line r.trace Callgraph (Accepted (length r.trace))) (line r.trace Stack (Accepted (length r.trace))) (line r.trace Dyck said.dyck) (next_text said.callgraph_next said.stack_next said.dyck_next)) in
     record {
       dyck = said.dyck;
       verdicts = record { callgraph = all.others.callgraph; stack = all.others.stack; is_dyck = said.is_dyck; accepted = dyck_verdict g bound r.trace said.dyck all said.is_dyck };
@@ -82,17 +80,11 @@ audit_of g bound r status heard text all said writes formed =
       formed = formed;
     }
 
--- so its status is not that of a refusal
-pub never_rejected : (g : Graph) (bound : ℕ) (r : Run) (status : Status) (text : List ℕ) → IsAuditOf g bound r status text → status ≡ statuses.Rejected → ⊥
-never_rejected g bound r status text made refused = of made.dyck (made.verdicts).accepted made.ends
+-- the status of an audit is never that of a rejection
+pub audit_ends : (g : Graph) (bound : ℕ) (r : Run) (status : Status) (text : List ℕ) → IsAuditOf g bound r status text → IsAuditStatus status
+audit_ends g bound r status text made = of made.dyck (made.verdicts).accepted made.ends
   where
-    of : (v : Verdict) → IsAcceptedOrBound bound r.trace v → status ≡ status_of v → ⊥
-    of (Accepted n) accepted is = cc (is, refused)
-    of (Rejected k) accepted is = accepted
-    of (Bound k) accepted is = cc (is, refused)
-
--- and it is that of a text that was made whole
-pub finished : (v : Verdict) (status : Status) → status ≡ status_of v → IsFinished status
-finished (Accepted n) status is = inl is
-finished (Rejected k) status is = inr (inl is)
-finished (Bound k) status is = inr (inr is)
+    of : (v : Verdict) → IsAcceptedOrBound bound r.trace v → status ≡ status_of v → IsAuditStatus status
+    of (Accepted n) accepted is = inl is
+    of (Rejected k) accepted is = absurd accepted
+    of (Bound k) accepted is = inr is

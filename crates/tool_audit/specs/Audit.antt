@@ -66,6 +66,10 @@ pub record IsAuditOf (g : Graph) (bound : ℕ) (r : Run) (status : Status) (text
   pub writes : text ≡ run_text r ++ (lines_of r.trace dyck ++ next_text callgraph_next stack_next dyck_next)
   pub formed : IsTrace (run_text r) r.trace (Ended r.outcome)
 
+-- the status of an audit that was made: that of the Dyck monitor's verdict, which is never Rejected
+abbrev pub IsAuditStatus : Status → Type 0
+IsAuditStatus status = (status ≡ statuses.Done) ⊎ (status ≡ statuses.Bound)
+
 -- The one file's text is accepted as a program, the other's is that of recorded results, and the text is that of the audit of the run
 -- with these results and so many turns and with null calls round the program's marked calls, by the monitors of the program's graph.
 pub record Audits (files : Files) (source results : List ℕ) (turns bound : ℕ) (status : Status) (text : List ℕ) : Type 0 where

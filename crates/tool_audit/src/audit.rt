@@ -1,12 +1,12 @@
-ghost use Rattle.std.specs.Prelude.{◌≡◌, ◌≢◌, ◌++◌, ◌≤◌, ◌<◌, ◌^◌, ℕ, List, IfOk, IfErr, IfSome, OnOk};
+ghost use Rattle.std.specs.Prelude.{◌≡◌, ◌++◌, ◌≤◌, ◌<◌, ◌^◌, ℕ, List, IfOk, IfErr, IfSome, OnOk};
 ghost use Rattle.alarm_laws.specs.MarkedRuns.{marked_run};
-ghost use Rattle.tool_audit.specs.Audit.{Audits, IsAuditOf, LacksToAudit, RefusesToAudit};
+ghost use Rattle.tool_audit.specs.Audit.{Audits, IsAuditOf, IsAuditStatus, LacksToAudit, RefusesToAudit};
 ghost use Rattle.tool_audit.specs.Stopping.{StopsAuditing};
 ghost use Rattle.c_tree.specs.View.{program_of};
 ghost use Rattle.dm_base.specs.declared.mode.Mode.TheVariants.{Plain};
 ghost use Rattle.flow_graph_laws.specs.GraphOfProgram.{graph_of_program};
 ghost use Rattle.tool_sources.specs.Sources.{IsSourceOf};
-ghost use Rattle.tool_frame.specs.Stop.{IsFinished, Stops};
+ghost use Rattle.tool_frame.specs.Stop.{Stops};
 
 use crate::following::{Followed, followed_run};
 use crate::programs::instrumented_program;
@@ -85,8 +85,7 @@ pub fn audit_source<S: Store>(
 ) -> Result<Finished, Stop>
     requires { (1 ≤ bound) × (bound < 2 ^ 16) }
     ensures made { IfOk result (λ done. IfSome (S.files store.old) (λ told. Audits told name.now results.now turns bound done.status done.text.items)) }
-    ensures finished { IfOk result (λ done. IsFinished done.status) }
-    ensures never_rejected { IfOk result (λ done. done.status ≢ Status.Rejected) }
+    ensures ended { IfOk result (λ done. IsAuditStatus done.status) }
     ensures same { S.files store.new ≡ S.files store.old }
     ensures never_falls { S.faults store.old ≤ S.faults store.new }
     ensures stop { IfErr result (λ stop. Stops stop (RefusesToAudit (S.files store.old) name.now results.now) (LacksToAudit (S.files store.old) name.now results.now) (S.faults store.old) (S.faults store.new)) }

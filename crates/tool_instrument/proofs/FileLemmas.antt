@@ -32,7 +32,7 @@ same_length text u v p q a b long =
 short_or_refused : (told : Files) (name line : List ℕ) (status : Status) (u : Items) (p : Program) → IsReading (file_at told name) u p → length (instrumented_text p u) ≤ longest → RefusesToInstrument (Some told) name status line → ⊥
 short_or_refused told name line status u p is short (inl refuses) = (refuses.4).1 p (record { tokens = is.tokens; unit = u; lexed = is.lexed; spelled = is.spelled; typed = is.typed })
 short_or_refused told name line status u p is short (inr past) =
-    let long : longest < length (instrumented_text p u) = same_length (file_at told name) u (past.1).0 p (past.1).1 is (past.1).2 ((past.1).3).1 in
+    let long : longest < length (instrumented_text p u) = same_length (file_at told name) u (past.2).0 p (past.2).1 is (past.2).2 (past.2).3 in
     omega (arith, short, long)
 
 pub instrument_ready : (told : Option Files) (name line : List ℕ) (status : Status) → IsReadyToInstrument told name → RefusesToInstrument told name status line → ⊥

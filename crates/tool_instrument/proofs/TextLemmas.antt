@@ -26,12 +26,12 @@ instruments (Some files) name text source is made = (items_of source.unit.items.
 -- the stop of an instrumented text that would be too long
 pub stops_at_length : (told : Option Files) (name : List ℕ) (source : Source) (u : Items) (stop : Stop) (before after : ℕ) → IfSome told (λ files. IsSourceOf (file_at files name) Plain source) → u ≡ instrumented_unit (program_of source.program) (items_of source.unit.items.items) → longest < length (unit_text u) → IsStopWith stop too_long → Stops stop (RefusesToInstrument told name) (IsMissing told name) before after
 stops_at_length told name source u stops.Usage before after is same long why = why
-stops_at_length told name source u (stops.Source line) before after is same long why = inr (refl, with_source told is)
+stops_at_length told name source u (stops.Source line) before after is same long why = inr (refl, why, with_source told is)
   where
-    with_source : (t : Option Files) → IfSome t (λ files. IsSourceOf (file_at files name) Plain source) → IfSome t (λ files. (v : Items) × (p : Program) × IsReading (file_at files name) v p × IsTooLong v p line.items)
+    with_source : (t : Option Files) → IfSome t (λ files. IsSourceOf (file_at files name) Plain source) → IfSome t (λ files. (v : Items) × (p : Program) × IsReading (file_at files name) v p × IsTooLong v p)
     with_source None is = tt
     with_source (Some files) is =
-        (items_of source.unit.items.items, program_of source.program, reading_of (file_at files name) source is, (why, subst (λ (w : Items). longest < length (unit_text w)) same long))
+        (items_of source.unit.items.items, program_of source.program, reading_of (file_at files name) source is, subst (λ (w : Items). longest < length (unit_text w)) same long)
 stops_at_length told name source u (stops.Model line) before after is same long why = absurd why
 stops_at_length told name source u (stops.Record line) before after is same long why = absurd why
 stops_at_length told name source u stops.Read before after is same long why = absurd why

@@ -40,14 +40,14 @@ abbrev pub too_long : List ℕ
 too_long = codes "source refused N1\n"
 
 -- the instrumented text would be longer than it may be
-abbrev pub IsTooLong : Items → Program → List ℕ → Type 0
-IsTooLong u p line = (line ≡ too_long) × (longest < length (instrumented_text p u))
+abbrev pub IsTooLong : Items → Program → Type 0
+IsTooLong u p = longest < length (instrumented_text p u)
 
 -- the text is refused, or its instrumented text would be too long
 abbrev pub RefusesToInstrument : Option Files → List ℕ → Status → List ℕ → Type 0
 RefusesToInstrument files name status line =
     RefusesSource Plain files name status line
-    ⊎ ((status ≡ statuses.SourceRefused) × IfSome files (λ told. (u : Items) × (p : Program) × IsReading (file_at told name) u p × IsTooLong u p line))
+    ⊎ ((status ≡ statuses.SourceRefused) × (line ≡ too_long) × IfSome files (λ told. (u : Items) × (p : Program) × IsReading (file_at told name) u p × IsTooLong u p))
 
 -- the file is told, and its text is accepted and has an instrumented text within the limit
 abbrev pub IsReadyToInstrument : Option Files → List ℕ → Type 0

@@ -1,5 +1,5 @@
 -- What commands make of a C text and why they refuse it never hold both, and it is refused with one status.
-use Rattle.std.proofs.Common.{◌≡◌, ℕ, ◌≤◌, List, length, Option, Some, None, IfSome, inl, inr, refl, subst, arith}
+use Rattle.std.proofs.Common.{◌≡◌, ◌⊎◌, ℕ, ◌≤◌, List, length, Option, Some, None, IfSome, inl, inr, refl, subst, arith}
 use Rattle.dm_base.specs.declared.mode.Mode.{Mode}
 use Rattle.dm_base.specs.declared.mode.Mode.TheVariants.{Plain}
 use Rattle.dm_base.specs.declared.verdict.Status.{Status}
@@ -20,7 +20,7 @@ use Rattle.tool_frame.specs.Stop.{Stops}
 use Rattle.tool_sources.specs.declared.source.Source.{Source}
 use Rattle.tool_texts.specs.Check.{Checks, checked_text, IsReadyToCheck}
 use Rattle.tool_texts.specs.Modelled.{Models, RefusesToModel, IsReadyToModel}
-use Rattle.tool_steps.specs.ModelTexts.{IsModelOf, IsPastLimit}
+use Rattle.tool_steps.specs.ModelTexts.{IsModelOf, IsPastLimit, many_nodes, long_text}
 use Rattle.tool_sources.specs.Sources.{IsSourceOf, RefusesSource}
 use Rattle.tool_steps.specs.ModelStops.{StopsModelling}
 use Rattle.tool_sources.proofs.SourceLemmas.{one_unit, one_typing, source_accepted}
@@ -42,8 +42,12 @@ models (Some files) name text source is made = (program_of source.program, sourc
 -- why no model was made of a file that was read
 pub stops_modelling : (told : Option Files) (name : List ℕ) (source : Source) (stop : Stop) (before after : ℕ) → IfSome told (λ files. IsSourceOf (file_at files name) Plain source) → StopsModelling stop (program_of source.program) → Stops stop (RefusesToModel told name) (IsMissing told name) before after
 stops_modelling told name source stops.Usage before after is why = why
-stops_modelling told name source (stops.Source line) before after is why = inr (refl, with_source told is)
+stops_modelling told name source (stops.Source line) before after is why = inr (refl, fixed why, with_source told is)
   where
+    fixed : IsPastLimit (program_of source.program) line.items → (line.items ≡ many_nodes) ⊎ (line.items ≡ long_text)
+    fixed (inl many) = inl many.0
+    fixed (inr long) = inr long.0
+
     with_source : (t : Option Files) → IfSome t (λ files. IsSourceOf (file_at files name) Plain source) → IfSome t (λ files. (p : Program) × IsAcceptedAs (file_at files name) Plain p × IsPastLimit p line.items)
     with_source None is = tt
     with_source (Some files) is = (program_of source.program, source_accepted (file_at files name) Plain source is, why)
@@ -85,8 +89,8 @@ within_limits p line few short (inr long) = (let more = long.2 in omega (arith, 
 modelled_or_refused : (told : Files) (name line : List ℕ) (status : Status) (p : Program) → IsAcceptedAs (file_at told name) Plain p → (graph_of_program p).nodes ≤ 200000 → length (model_text Two (graph_of_program p)) ≤ longest → RefusesToModel (Some told) name status line → ⊥
 modelled_or_refused told name line status p is few short (inl refuses) = accepted_apart told name line Plain status p is refuses
 modelled_or_refused told name line status p is few short (inr past) =
-    let same : (past.1).0 ≡ p = accepted_once (file_at told name) Plain (past.1).0 p (past.1).1 is in
-    within_limits p line few short (subst (λ (q : Program). IsPastLimit q line) same (past.1).2)
+    let same : (past.2).0 ≡ p = accepted_once (file_at told name) Plain (past.2).0 p (past.2).1 is in
+    within_limits p line few short (subst (λ (q : Program). IsPastLimit q line) same (past.2).2)
 
 pub model_ready : (told : Option Files) (name line : List ℕ) (status : Status) → IsReadyToModel told name → RefusesToModel told name status line → ⊥
 model_ready None name line status ready refuses = ready

@@ -1,5 +1,5 @@
 -- What `model FILE` makes of its file, and why it refuses it.
-use Rattle.tool_steps.specs.ModelTexts.{IsModelOf, IsPastLimit}
+use Rattle.tool_steps.specs.ModelTexts.{IsModelOf, IsPastLimit, many_nodes, long_text}
 use Rattle.std.specs.Prelude.{◌≡◌, ◌⊎◌, ℕ, ◌≤◌, List, length, Option, IfSome, IsSomeAnd}
 use Rattle.dm_base.specs.declared.mode.Mode.TheVariants.{Plain}
 use Rattle.dm_base.specs.declared.verdict.Status.{Status}
@@ -21,7 +21,7 @@ Models files name text = (p : Program) × IsAcceptedAs (file_at files name) Plai
 abbrev pub RefusesToModel : Option Files → List ℕ → Status → List ℕ → Type 0
 RefusesToModel files name status line =
     RefusesSource Plain files name status line
-    ⊎ ((status ≡ statuses.SourceRefused) × IfSome files (λ told. (p : Program) × IsAcceptedAs (file_at told name) Plain p × IsPastLimit p line))
+    ⊎ ((status ≡ statuses.SourceRefused) × ((line ≡ many_nodes) ⊎ (line ≡ long_text)) × IfSome files (λ told. (p : Program) × IsAcceptedAs (file_at told name) Plain p × IsPastLimit p line))
 
 -- the file is told, and its text is accepted as a program whose model is within the limits
 abbrev pub IsReadyToModel : Option Files → List ℕ → Type 0

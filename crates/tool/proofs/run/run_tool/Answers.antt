@@ -1,10 +1,11 @@
-use Rattle.std.proofs.Common.{◌≡◌, ℕ, List, map, string_bytes, sym, subst, rules}
+use Rattle.std.proofs.Common.{◌≡◌, ℕ, List, map, string_bytes, sym, ◌∙◌, subst, rules}
 use Rattle.std.specs.Prelude.{◌⊎◌}
 use Rattle.dm_base.specs.declared.verdict.Status.{Status}
 use Rattle.dm_base.specs.declared.verdict.Status.TheVariants as statuses
+use Rattle.tool_frame.specs.declared.stop.Stop.TheVariants as stops
 use Rattle.tool_frame.specs.Stop.{IsFinished}
 use Rattle.tool.specs.Frame.{call_of, Writes}
-use Rattle.tool.proofs.FrameLemmas.{sound_stop, refused_stop, done_not_refused, written_in_part}
+use Rattle.tool.proofs.FrameLemmas.{sound_stop, refused_stop, done_not_refused, written_in_part, stop_not_rejected, audit_not_rejected}
 use Rattle.tool.proofs.run.run_tool.Goals as goal
 
 pub returns-in-Err-clause-complete : goal.returns-in-Err-clause-complete
@@ -31,3 +32,13 @@ returns-then-is_err-clause-written g c =
     let new = g.O.Sink.taken c.write_whole.new.sink in
     subst (λ (s : Status). Writes s (call_of words files before after out_before out_after) old new) (sym c.refuse-then-is_err.ensures.status)
     (written_in_part c.write_whole.result words files before after out_before out_after c.in-Ok.finished.status c.in-Ok.finished.text.items c.deref.result.now old new (search rules) c.deref.ensures.value c.write_whole.ensures.err c.in-Ok.ensures.made.1)
+
+pub returns-in-Err-clause-audit : goal.returns-in-Err-clause-audit
+returns-in-Err-clause-audit g c = λ asks rejected. stop_not_rejected c.in-Err.stop (sym c.refuse.ensures.status ∙ rejected)
+
+pub returns-then-is_err-clause-audit : goal.returns-then-is_err-clause-audit
+returns-then-is_err-clause-audit g c = λ asks rejected. stop_not_rejected stops.Write (sym c.refuse-then-is_err.ensures.status ∙ rejected)
+
+pub returns-clause-audit : goal.returns-clause-audit
+returns-clause-audit g c =
+    audit_not_rejected _ _ (g.S.Store.faults c.args.store.now) (g.S.Store.faults c.work.new.store) (g.O.Sink.faults c.args.out.now) (g.O.Sink.faults c.write_whole.new.sink) c.in-Ok.finished.status c.in-Ok.finished.text.items c.in-Ok.ensures.made.1

@@ -4,7 +4,7 @@ use Rattle.c_tree.specs.View.{program_of}
 use Rattle.flow_graph_laws.specs.GraphOfProgram.{graph_of_program}
 use Rattle.tool_steps.proofs.RecordedRuns.{read_so}
 use Rattle.tool_audit.proofs.StopLemmas.{audits, stops_at_results, stops_at_graph}
-use Rattle.tool_audit.proofs.Verdicts.{never_rejected, finished}
+use Rattle.tool_audit.proofs.Verdicts.{audit_ends}
 use Rattle.tool_audit.proofs.audit.audit_source.Goals as goal
 
 pub returns-in_err-records-clause-stop : goal.returns-in_err-records-clause-stop
@@ -20,12 +20,9 @@ returns-in-Ok-clause-made g c =
     let read = read_so told _ c.args.results.now c.in_ok-records.records.items c.deref.result.now c.in_ok-source.ensures.same c.deref.ensures.value c.in_ok-records.ensures.read in
     audits told c.args.name.now c.args.results.now c.args.turns c.args.bound c.in-Ok.finished.status c.in-Ok.finished.text.items c.in_ok-source.source c.deref.result.now c.in_ok-source.ensures.read read c.in-Ok.ensures.few c.in-Ok.ensures.made
 
-pub returns-in-Ok-clause-finished : goal.returns-in-Ok-clause-finished
-returns-in-Ok-clause-finished g c = finished (c.in-Ok.ensures.made).dyck c.in-Ok.finished.status (c.in-Ok.ensures.made).ends
-
-pub returns-in-Ok-clause-never_rejected : goal.returns-in-Ok-clause-never_rejected
-returns-in-Ok-clause-never_rejected g c =
-    never_rejected (graph_of_program (program_of c.in_ok-source.source.program)) c.args.bound (marked_run (program_of c.in_ok-source.source.program) c.deref.result.now c.args.turns) c.in-Ok.finished.status c.in-Ok.finished.text.items c.in-Ok.ensures.made
+pub returns-in-Ok-clause-ended : goal.returns-in-Ok-clause-ended
+returns-in-Ok-clause-ended g c =
+    audit_ends (graph_of_program (program_of c.in_ok-source.source.program)) c.args.bound (marked_run (program_of c.in_ok-source.source.program) c.deref.result.now c.args.turns) c.in-Ok.finished.status c.in-Ok.finished.text.items c.in-Ok.ensures.made
 
 pub returns-clause-stop : goal.returns-clause-stop
 returns-clause-stop g c =

@@ -1,4 +1,4 @@
-use Rattle.std.proofs.Common.{List, All, refl, sym, subst}
+use Rattle.std.proofs.Common.{List, All, sym, subst}
 use Rattle.dm_base.specs.declared.event.Event.{Event}
 use Rattle.c_tree.specs.View.{program_of}
 use Rattle.sys_table.specs.Table.{IsRecorded}
@@ -30,5 +30,5 @@ returns-clause-made c =
     let heard = c.in_ok-followed.ensures.heard in
     let said = c.in_ok-verdicts.ensures c.in-Ok.model c.args.bound found.trace.items (record { judged = c.in_ok-heard.ensures.judged c.args.bound found.trace.items heard; next = c.in_ok-heard.ensures.next c.args.bound found.trace.items heard }) in
     audit_found c.texts_raise_no_alarm.ensures c.requires.source.0 c.args.source.now (program_of c.in_ok-program.program) c.args.records.now c.args.turns c.args.bound found c.in-Ok.model c.in_ok-verdicts.verdicts.status
-    found.trace.items c.deref.result.now c.in_ok-verdicts.verdicts.text.items c.deref-2.result.now c.in_ok-trace.trace.items c.in_ok-text.text.items
-    c.requires.source.1 c.in-Ok.ensures.model c.in_ok-followed.ensures.run c.in_ok-program.ensures refl said c.deref.ensures.value c.in_ok-trace.ensures.text c.in_ok-trace.ensures.formed c.deref-2.ensures.value c.in_ok-text.ensures
+    c.deref.result.now c.in_ok-verdicts.verdicts.text.items c.deref-2.result.now c.in_ok-trace.trace.items c.in_ok-text.text.items
+    c.requires.source.1 c.in-Ok.ensures.model c.in_ok-followed.ensures.run c.in_ok-program.ensures said c.deref.ensures.value c.in_ok-trace.ensures.text c.in_ok-trace.ensures.formed c.deref-2.ensures.value c.in_ok-text.ensures

@@ -1,5 +1,0 @@
-use Rattle.c_rules_laws.proofs.Units.{typed_alike}
-use Rattle.c_rules_laws.proofs.places.units_are_typed_alike_apart_from_places.Goals as goal
-
-pub returns : goal.returns
-returns c = typed_alike

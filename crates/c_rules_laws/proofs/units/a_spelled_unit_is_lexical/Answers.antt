@@ -1,5 +1,0 @@
-use Rattle.c_rules_laws.proofs.Fine.{spelled_lexical}
-use Rattle.c_rules_laws.proofs.units.a_spelled_unit_is_lexical.Goals as goal
-
-pub returns : goal.returns
-returns c = spelled_lexical

@@ -1,5 +1,0 @@
-use Rattle.c_rules_laws.proofs.Fine.{statements_well_typed}
-use Rattle.c_rules_laws.proofs.units.statements_are_well_typed.Goals as goal
-
-pub returns : goal.returns
-returns c = statements_well_typed

@@ -1,5 +1,0 @@
-use Rattle.null_calls_units_laws.proofs.Texts.{texts_run_marked}
-use Rattle.null_calls_units_laws.proofs.units.instrumented_texts_run_marked.Goals as goal
-
-pub returns : goal.returns
-returns c = texts_run_marked
