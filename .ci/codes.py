@@ -1,10 +1,10 @@
 #!/usr/bin/env python3
-"""codes.py PROGRAM: gives the program each example of docs/CODES.md and compares what it writes on the error stream with the
-example's last line. The status is 0 where there are examples and each is refused as its page says.
+"""codes.py PROGRAM: gives the program each example of docs/CODES.md and compares what it writes on the error stream with
+the example's last line. The status is 0 where there are examples and each is refused as its page says.
 
-An example is a block ```text whose last line is a refusal. What stands before it is the file, or where that is one line
-`$ COMMAND` the file is what bash writes for it. Files are C texts, models, traces, interleaved traces or recorded results, as
-the line says."""
+An example is a block ```text whose last line is a refusal. What stands before it is the file, or where it begins with
+`$ ` a command, and the file is what bash writes for it. Files are C texts, models, traces, interleaved traces or
+recorded results, as the line says."""
 import os
 import pathlib
 import re
