@@ -1,6 +1,6 @@
 #!/usr/bin/env python3
-"""codes.py PROGRAM: gives the program each example of docs/CODES.md and compares what it writes on the error stream with
-the example's last line. The status is 0 where there are examples and each is refused as its page says.
+"""codes.py PROGRAM: gives the program each example of docs/CODES.md and compares what it writes on the error stream
+with the example's last line. The status is 0 where there are examples and each is refused as its page says.
 
 An example is a block ```text whose last line is a refusal. What stands before it is the file, or where it begins with
 `$ ` a command, and the file is what bash writes for it. Files are C texts, models, traces, interleaved traces or
@@ -42,7 +42,8 @@ def differs(program, lines):
             else:
                 it.write(''.join(line + '\n' for line in lines[:-1]).encode())
         try:
-            done = subprocess.run([program, *words_of(wanted)], cwd=folder, capture_output=True, text=True, timeout=SECONDS)
+            words = [program, *words_of(wanted)]
+            done = subprocess.run(words, cwd=folder, capture_output=True, text=True, timeout=SECONDS)
         except subprocess.TimeoutExpired:
             return f'wanted {wanted}, got no end within {SECONDS} s'
     if done.stderr == wanted + '\n' and not done.stdout:
@@ -52,7 +53,8 @@ def differs(program, lines):
 
 def main():
     program = os.path.abspath(sys.argv[1])
-    blocks = [block.rstrip('\n').split('\n') for block in re.findall(r'^```text\n(.*?)^```', PAGE.read_text(), flags=re.S | re.M)]
+    texts = re.findall(r'^```text\n(.*?)^```', PAGE.read_text(), flags=re.S | re.M)
+    blocks = [text.rstrip('\n').split('\n') for text in texts]
     examples = [block for block in blocks if re.match(r'(source|model|record) refused ', block[-1])]
     wrong = [why for why in (differs(program, block) for block in examples) if why]
     for why in wrong:
