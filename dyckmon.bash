@@ -14,7 +14,8 @@ declare -gA _dyckmon_words=(
 )
 # The end of what is made.
 
-# Completes a command by its name, WHICH by the names of the models, no number, and each other word by the names of files.
+# Completes a command by its name, WHICH by the names of the models, no number, and each other word by the names of
+# files.
 _dyckmon() {
     local current=${COMP_WORDS[COMP_CWORD]} words kind
     COMPREPLY=()

@@ -1,6 +1,6 @@
 #!/usr/bin/env bash
-# bare.sh PROGRAM: tries the program in a root that has nothing but its file and the libraries that ldd names. Where no such root can
-# be entered, a line says so. The status is 0 where the program answers there as it does here.
+# bare.sh PROGRAM: tries the program in a root that has nothing but its file and the libraries that ldd names. Where
+# no such root can be entered, a line says so. The status is 0 where the program answers there as it does here.
 set -u
 program=$(readlink -f "$1") && examples=$(cd "$(dirname "${BASH_SOURCE[0]}")/../examples" && pwd) && root=$(mktemp -d) || exit 1
 trap 'rm -rf "$root"' EXIT

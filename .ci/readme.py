@@ -1,7 +1,7 @@
 #!/usr/bin/env python3
-"""readme.py PROGRAM [PAGE..]: runs the commands that stand in the blocks ```console of README.md, or of these pages, and compares
-what they write on the standard output, and their statuses, with what stands below them. The status is 0 where each page has a
-block and each command does as its page says.
+"""readme.py PROGRAM [PAGE..]: runs the commands that stand in the blocks ```console of these pages, or of README.md and of each
+page of docs/ that has some, and compares what they write on the standard output, and their statuses, with what stands below
+them. The status is 0 where README.md, or each page that is named, has a command and each command does as its page says.
 
 The blocks of a page are run in order in one folder, which has a copy of examples/ and the program as dyckmon. A line `$ COMMAND`
 is run by bash; the lines below it, up to the next such line or the block's end, are what it writes. A last line `# status N`
@@ -86,7 +86,10 @@ def run_page(page, program):
 def main():
     program = os.path.abspath(sys.argv[1])
     status = 0
-    for page in [pathlib.Path(it) for it in sys.argv[2:]] or [TOP / 'README.md']:
+    pages = [pathlib.Path(it) for it in sys.argv[2:]]
+    if not pages:
+        pages = [TOP / 'README.md', *(it for it in sorted((TOP / 'docs').glob('*.md')) if any(blocks(it)))]
+    for page in pages:
         count, wrong = run_page(page, program)
         for text in wrong:
             print(text)

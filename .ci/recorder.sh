@@ -1,7 +1,8 @@
 #!/usr/bin/env bash
-# recorder.sh PROGRAM: records runs of C texts, compiled with examples/recorder.c, and judges them by the texts' own models. The three
-# monitors have to accept each process of examples/line_server.c, and to reject it where the trace was changed. Of .ci/each_call.c,
-# which makes each call that a model knows, the events of .ci/each_call.events have to be recorded. The status is 0 where all is so.
+# recorder.sh PROGRAM: records runs of C texts, compiled with examples/recorder.c, and judges them by the texts' own
+# models. The three monitors have to accept each process of examples/line_server.c, and to reject it where the trace
+# was changed. Of .ci/each_call.c, which makes each call that a model knows, the events of .ci/each_call.events have
+# to be recorded. The status is 0 where all is so.
 set -u
 program=$(readlink -f "$1") && cd "$(dirname "${BASH_SOURCE[0]}")/.." && ci=$PWD/.ci examples=$PWD/examples && folder=$(mktemp -d) && cd "$folder" || exit 1
 trap 'rm -rf "$folder"' EXIT

@@ -5,11 +5,12 @@
        DYCKMON_TRACES=server.traces ./server
        echo end >> server.traces
 
-   The linker makes each call of read in the program a call of __wrap_read here, and each __real_read here one of the C library
-   (ld --wrap); recorder.wraps has its words for the 24 calls that dyckmon knows. A record is written once its call has returned,
-   or before it where it is _exit, by one write that appends. Several processes may record into one file. None of them knows
-   whether it is the last one, so whoever ends the recording appends the last line, and records into another file next. A number
-   names one process in a recording, so one ends before the system gives numbers anew. Nothing is proved of this file. */
+   The linker makes each call of read in the program a call of __wrap_read here, and each __real_read here one of the
+   C library (ld --wrap); recorder.wraps has its words for the 24 calls that dyckmon knows. A record is written once
+   its call has returned, or before it where it is _exit, by one write that appends. Several processes may record into
+   one file. None of them knows whether it is the last one, so whoever ends the recording appends the last line, and
+   records into another file next. A number names one process in a recording, so one ends before the system gives
+   numbers anew. Nothing is proved of this file. */
 #include <errno.h>
 #include <fcntl.h>
 #include <signal.h>
@@ -102,8 +103,8 @@ static void finish(void)
         stop("a record can't be written");
 }
 
-/* Records a call that returned. Each letter of kinds is an argument: i an int, u an unsigned int, p a path, b a buffer with its
-   length behind it. */
+/* Records a call that returned. Each letter of kinds is an argument: i an int, u an unsigned int, p a path, b a buffer
+   with its length behind it. */
 static void record(const char *name, long long result, const char *kinds, ...)
 {
     va_list arguments;
@@ -127,7 +128,8 @@ static void record(const char *name, long long result, const char *kinds, ...)
     finish();
 }
 
-/* Opens the file before main begins, with a number that the program hardly uses, and writes its first line where it is new. */
+/* Opens the file before main begins, with a number that the program hardly uses, and writes its first line where it is
+   new. */
 __attribute__((constructor)) static void open_traces(void)
 {
     static const char first[] = "dyckmon-traces 2\n";
@@ -160,7 +162,8 @@ void __dyck_post(unsigned site)
     finish();
 }
 
-/* A child has its parent's events up to the fork, so it waits until the parent has recorded that, and records none itself. */
+/* A child has its parent's events up to the fork, so it waits until the parent has recorded that, and records none
+   itself. */
 int __wrap_fork(void)
 {
     int gate[2], child;
