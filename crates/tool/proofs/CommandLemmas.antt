@@ -8,6 +8,7 @@ use Rattle.dm_base.specs.declared.verdict.Status.TheVariants as statuses
 use Rattle.dm_io.specs.Store.{Files}
 use Rattle.tool_audit.proofs.FileLemmas.{audit_ready, audit_apart, audit_status, audit_made}
 use Rattle.tool_audit.specs.Audit.{IsAuditStatus}
+use Rattle.tool_inline.proofs.DepthLemmas.{depth_ready, depth_apart, depth_status}
 use Rattle.tool_instrument.proofs.FileLemmas.{instrument_ready, instrumented_apart, instrument_status}
 use Rattle.tool_monitors.specs.declared.asked.Asked.{Asked}
 use Rattle.tool_monitors.specs.declared.asked.Asked.TheVariants as asked
@@ -18,7 +19,7 @@ use Rattle.tool_run.proofs.FileLemmas.{run_ready, run_apart, run_status}
 use Rattle.tool_texts.proofs.FileLemmas.{check_ready, checked_apart, check_status, model_ready, modelled_apart, model_status}
 use Rattle.tool.specs.Command.{Command, IsCommandLine, IsAskedBy}
 use Rattle.tool.specs.Command.{FileCommand, TraceCommand, file_word, trace_word}
-use Rattle.tool.specs.Command.FileCommand.{Check, Instrument, Model, Upgrade}
+use Rattle.tool.specs.Command.FileCommand.{Check, Depth, Instrument, Model, Upgrade}
 use Rattle.tool.specs.Command.Command.{Version, Help, OfFile, OfTrace, Measure, Run, Audit}
 use Rattle.tool.specs.Command.TraceCommand.{Judge, Watch}
 use Rattle.tool.specs.Commands.{Makes, Refuses, IsReady}
@@ -57,16 +58,18 @@ one_trace_command : (which other : TraceCommand) → trace_word which ≡ trace_
 one_trace_command which other same = sym (of_trace_command which) ∙ ap (λ (w : List ℕ). trace_command_of (get_or w 0 0)) same ∙ of_trace_command other
 
 abbrev file_command_of : ℕ → FileCommand
-file_command_of byte = if nat_eq byte 99 then Check else (if nat_eq byte 105 then Instrument else (if nat_eq byte 109 then Model else Upgrade))
+file_command_of byte =
+    if nat_eq byte 101 then Check else (if nat_eq byte 112 then Depth else (if nat_eq byte 115 then Instrument else (if nat_eq byte 100 then Model else Upgrade)))
 
-of_file_command : (which : FileCommand) → file_command_of (get_or (file_word which) 0 0) ≡ which
+of_file_command : (which : FileCommand) → file_command_of (get_or (file_word which) 2 0) ≡ which
 of_file_command Check = refl
+of_file_command Depth = refl
 of_file_command Instrument = refl
 of_file_command Model = refl
 of_file_command Upgrade = refl
 
 one_file_command : (which other : FileCommand) → file_word which ≡ file_word other → which ≡ other
-one_file_command which other same = sym (of_file_command which) ∙ ap (λ (w : List ℕ). file_command_of (get_or w 0 0)) same ∙ of_file_command other
+one_file_command which other same = sym (of_file_command which) ∙ ap (λ (w : List ℕ). file_command_of (get_or w 2 0)) same ∙ of_file_command other
 
 -- the first letter of the words' first word
 letter : (words : List (List ℕ)) (a b : List ℕ) (s t : List (List ℕ)) → words ≡ a ∷ s → words ≡ b ∷ t → get_or a 0 0 ≡ get_or b 0 0
@@ -168,6 +171,7 @@ ready_apart : (c : Command) (files : Option Files) (status : Status) (line : Lis
 ready_apart Version files status line ready refuses = refuses
 ready_apart Help files status line ready refuses = refuses
 ready_apart (OfFile Check name) files status line ready refuses = check_ready files name line status ready refuses
+ready_apart (OfFile Depth name) files status line ready refuses = depth_ready files name line status ready refuses
 ready_apart (OfFile Instrument name) files status line ready refuses = instrument_ready files name line status ready refuses
 ready_apart (OfFile Model name) files status line ready refuses = model_ready files name line status ready refuses
 ready_apart (OfFile Upgrade name) files status line ready refuses = upgrade_ready files name line status ready refuses
@@ -183,6 +187,7 @@ made_apart Version files status later text line told makes refuses = refuses
 made_apart Help files status later text line told makes refuses = refuses
 made_apart (OfFile which name) None status later text line told makes refuses = absurd (cc told)
 made_apart (OfFile Check name) (Some files) status later text line told makes refuses = checked_apart files name text line later makes.1 refuses
+made_apart (OfFile Depth name) (Some files) status later text line told makes refuses = depth_apart files name text line later makes.1 refuses
 made_apart (OfFile Instrument name) (Some files) status later text line told makes refuses = instrumented_apart files name text line later makes.1 refuses
 made_apart (OfFile Model name) (Some files) status later text line told makes refuses = modelled_apart files name text line later makes.1 refuses
 made_apart (OfFile Upgrade name) (Some files) status later text line told makes refuses = upgrade_or_refused files name text line later makes.1 refuses
@@ -201,6 +206,7 @@ same_refusal : (c : Command) (files : Option Files) (status later : Status) (lin
 same_refusal Version files status later line other told refuses too = absurd refuses
 same_refusal Help files status later line other told refuses too = absurd refuses
 same_refusal (OfFile Check name) files status later line other told refuses too = check_status Plain files name line status refuses ∙ sym (check_status Plain files name other later too)
+same_refusal (OfFile Depth name) files status later line other told refuses too = depth_status files name line status refuses ∙ sym (depth_status files name other later too)
 same_refusal (OfFile Instrument name) files status later line other told refuses too = instrument_status files name line status refuses ∙ sym (instrument_status files name other later too)
 same_refusal (OfFile Model name) files status later line other told refuses too = model_status files name line status refuses ∙ sym (model_status files name other later too)
 same_refusal (OfFile Upgrade name) files status later line other told refuses too = upgrade_status files name line status refuses ∙ sym (upgrade_status files name other later too)

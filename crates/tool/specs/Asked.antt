@@ -2,7 +2,7 @@
 use Rattle.tool.specs.declared.command.Command.{Command as ReadCommand}
 use Rattle.tool.specs.declared.command.Command.TheVariants as read
 use Rattle.tool.specs.Command.{Command}
-use Rattle.tool.specs.Command.FileCommand.{Check, Instrument, Model, Upgrade}
+use Rattle.tool.specs.Command.FileCommand.{Check, Depth, Instrument, Model, Upgrade}
 use Rattle.tool.specs.Command.Command.{Version, Help, OfFile, OfTrace, Measure, Run, Audit}
 use Rattle.tool.specs.Command.TraceCommand.{Judge, Watch}
 
@@ -10,6 +10,7 @@ abbrev pub asked_by : ReadCommand → Command
 asked_by read.Version = Version
 asked_by read.Help = Help
 asked_by (read.Check source) = OfFile Check source.now
+asked_by (read.Depth model) = OfFile Depth model.now
 asked_by (read.Instrument source) = OfFile Instrument source.now
 asked_by (read.Model source) = OfFile Model source.now
 asked_by (read.Upgrade model) = OfFile Upgrade model.now

@@ -12,6 +12,7 @@ IsAskedBy which bound words =
 -- The commands that read one file and write one text.
 pub data FileCommand : Type 0 where
   Check : FileCommand
+  Depth : FileCommand
   Instrument : FileCommand
   Model : FileCommand
   Upgrade : FileCommand
@@ -19,6 +20,7 @@ pub data FileCommand : Type 0 where
 -- the word of such a command
 abbrev pub file_word : FileCommand → List ℕ
 file_word Check = codes "check"
+file_word Depth = codes "depth"
 file_word Instrument = codes "instrument"
 file_word Model = codes "model"
 file_word Upgrade = codes "upgrade"

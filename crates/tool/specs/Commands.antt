@@ -6,13 +6,14 @@ use Rattle.dm_base.specs.declared.verdict.Status.TheVariants.{Done}
 use Rattle.dm_io.specs.Store.{Files, IsMissing}
 use Rattle.tool_frame.specs.Stop.{IsFinished}
 use Rattle.tool.specs.Command.{Command}
-use Rattle.tool.specs.Command.FileCommand.{Check, Instrument, Model, Upgrade}
+use Rattle.tool.specs.Command.FileCommand.{Check, Depth, Instrument, Model, Upgrade}
 use Rattle.tool.specs.Command.Command.{Version, Help, OfFile, OfTrace, Measure, Run, Audit}
 use Rattle.tool.specs.Command.TraceCommand.{Judge, Watch}
 use Rattle.tool_audit.specs.Audit.{Audits, IsAuditStatus, RefusesToAudit, LacksToAudit, IsReadyToAudit}
 use Rattle.tool_instrument.specs.Instrument.{Instruments, RefusesToInstrument, IsReadyToInstrument}
+use Rattle.tool_inline.specs.Depth.{TellsDepth, IsReadyToTellDepth}
 use Rattle.tool_models.specs.Judge.{Judges}
-use Rattle.tool_files.specs.Inputs.{RefusesToJudge, LacksToJudge, IsReadyToJudge}
+use Rattle.tool_files.specs.Inputs.{RefusesModel, RefusesToJudge, LacksToJudge, IsReadyToJudge}
 use Rattle.tool_models.specs.Measure.{Measures}
 use Rattle.tool_monitors.specs.Monitors.{monitors_of}
 use Rattle.tool_models.specs.Upgrade.{Upgrades, RefusesToUpgrade, IsReadyToUpgrade}
@@ -31,6 +32,7 @@ help_text =
     ++ codes "dyckmon --help                        this text\n"
     ++ codes "dyckmon audit FILE RESULTS TURNS K    the trace of the C text's instrumented program, and its verdicts\n"
     ++ codes "dyckmon check FILE                    how many functions and calls the C text has\n"
+    ++ codes "dyckmon depth MODEL                   how many calls may be open at once\n"
     ++ codes "dyckmon instrument FILE               the C text with null calls round its marked calls\n"
     ++ codes "dyckmon judge MODEL TRACE WHICH [K]   the verdict lines of the model on the trace\n"
     ++ codes "dyckmon measure MODEL TRACE WHICH     how many calls may come next along the trace\n"
@@ -49,6 +51,7 @@ Makes Version files status text = (status ≡ Done) × (text ≡ version_text)
 Makes Help files status text = (status ≡ Done) × (text ≡ help_text)
 Makes (OfFile which file) None status text = status ≡ Done
 Makes (OfFile Check file) (Some files) status text = (status ≡ Done) × Checks files file text
+Makes (OfFile Depth file) (Some files) status text = (status ≡ Done) × TellsDepth files file text
 Makes (OfFile Instrument file) (Some files) status text = (status ≡ Done) × Instruments files file text
 Makes (OfFile Model file) (Some files) status text = (status ≡ Done) × Models files file text
 Makes (OfFile Upgrade file) (Some files) status text = (status ≡ Done) × Upgrades files file text
@@ -67,6 +70,7 @@ abbrev pub Refuses : Command → Option Files → Status → List ℕ → Type 0
 Refuses Version files status line = ⊥
 Refuses Help files status line = ⊥
 Refuses (OfFile Check file) files status line = RefusesSource Plain files file status line
+Refuses (OfFile Depth file) files status line = RefusesModel files file status line
 Refuses (OfFile Instrument file) files status line = RefusesToInstrument files file status line
 Refuses (OfFile Model file) files status line = RefusesToModel files file status line
 Refuses (OfFile Upgrade file) files status line = RefusesToUpgrade files file status line
@@ -91,6 +95,7 @@ abbrev pub IsReady : Command → Option Files → Type 0
 IsReady Version files = Unit {0}
 IsReady Help files = Unit {0}
 IsReady (OfFile Check file) files = IsReadyToCheck files file
+IsReady (OfFile Depth file) files = IsReadyToTellDepth files file
 IsReady (OfFile Instrument file) files = IsReadyToInstrument files file
 IsReady (OfFile Model file) files = IsReadyToModel files file
 IsReady (OfFile Upgrade file) files = IsReadyToUpgrade files file

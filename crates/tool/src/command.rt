@@ -20,6 +20,10 @@ pub enum Command<'a> {
     Check {
         source: &'a str,
     },
+    /// How many calls may be open at once in the model in a file.
+    Depth {
+        model: &'a str,
+    },
     /// The C text in a file with null calls round the marked calls of its program.
     Instrument {
         source: &'a str,
@@ -114,6 +118,9 @@ fn file_command_of<'a>(word: &str, file: &'a str) -> Option<Command<'a>>
 {
     if word == "check" {
         return Some(Command::Check { source: file });
+    }
+    if word == "depth" {
+        return Some(Command::Depth { model: file });
     }
     if word == "instrument" {
         return Some(Command::Instrument { source: file });

@@ -11,6 +11,7 @@ use dm_io::{HonestSink, HonestStore, Sink, Store, write_whole};
 use std::alloc::Global;
 use tool_audit::audit_source;
 use tool_frame::{Finished, Stop, refuse};
+use tool_inline::depth_of_model;
 use tool_instrument::instrument_source;
 use tool_models::{judge, measure, upgrade, watch_traces};
 use tool_run::run_source;
@@ -23,6 +24,7 @@ dyckmon, dyckmon --version            the version
 dyckmon --help                        this text
 dyckmon audit FILE RESULTS TURNS K    the trace of the C text's instrumented program, and its verdicts
 dyckmon check FILE                    how many functions and calls the C text has
+dyckmon depth MODEL                   how many calls may be open at once
 dyckmon instrument FILE               the C text with null calls round its marked calls
 dyckmon judge MODEL TRACE WHICH [K]   the verdict lines of the model on the trace
 dyckmon measure MODEL TRACE WHICH     how many calls may come next along the trace
@@ -66,6 +68,7 @@ fn work<S: Store>(alloc: Global, words: &[String], store: &mut S) -> Result<Fini
             },
         ) => measure(alloc, store, model, trace, asked),
         Some(Command::Check { source }) => check_source(alloc, store, source),
+        Some(Command::Depth { model }) => depth_of_model(alloc, store, model),
         Some(Command::Instrument { source }) => instrument_source(alloc, store, source),
         Some(Command::Model { source }) => model_of_source(alloc, store, source),
         Some(Command::Upgrade { model }) => upgrade(alloc, store, model),

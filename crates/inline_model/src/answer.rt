@@ -1,0 +1,89 @@
+ghost use Rattle.std.specs.Prelude.{◌≡◌, ◌<◌, length, map, slice_index, IfOk, IfSome};
+ghost use Rattle.inline_model.specs.Depth.{HasLength, HasCycle, HasDepth};
+ghost use Rattle.inline_model.specs.Places.{site_at};
+ghost use Rattle.inline_model.specs.Searching.{Closes};
+
+use crate::Sites;
+use crate::depths::Depth;
+use crate::reading::call_of;
+use crate::search::{Search, Turn};
+use crate::turns::{begin, turn};
+use dm_base::OutOfMemory;
+use flow_model::Model;
+use inline_model_openings::openings;
+use std::alloc::Global;
+
+// The site of the call edge at the place.
+fn site_of(model: &Model, place: usize) -> Result<u32, OutOfMemory>
+    ensures { IfOk result (λ site. site ≡ site_at model.now place) }
+{
+    match call_of(model, place) {
+        Some(call) => Ok(call.site()),
+        None => Err(OutOfMemory),
+    }
+}
+
+// The sites of the call edges at the places.
+fn sites_at(alloc: Global, model: &Model, places: &[usize]) -> Result<Sites, OutOfMemory>
+    ensures { IfOk result (λ sites. sites ≡ map (site_at model.now) places.now) }
+{
+    let mut sites = Vec::new(alloc);
+    for place in places {
+        sites.push(site_of(model, *place)?)?;
+    }
+    Ok(Sites::new(sites))
+}
+
+// Where the place stands among the others.
+fn find_place(places: &[usize], place: usize) -> Option<usize>
+    ensures { IfSome result (λ at. (at < length places.now) × (slice_index places.now at ≡ place)) }
+{
+    for (at, one) in places.iter().enumerate() {
+        if *one == place {
+            return Some(at);
+        }
+    }
+    None
+}
+
+// The chain of the path, whose newest call edge opens the one at the place, which is on the path.
+fn recursion(
+    alloc: Global,
+    search: &Search,
+    model: &Model,
+    place: usize,
+) -> Result<Depth, OutOfMemory>
+    requires { Closes model.now search.now place }
+    ensures length { IfOk result (HasLength model.now) }
+    ensures cycle { IfOk result (HasCycle model.now) }
+{
+    let _nodes = model.nodes();
+    let places = search.path.places()?;
+    let Some(at) = find_place(&places, place) else {
+        return Err(OutOfMemory);
+    };
+    let (before, after) = places.split_at(at);
+    let first = sites_at(alloc, model, before)?;
+    let cycle = sites_at(alloc, model, after)?;
+    Ok(Depth::Unbounded { first, cycle })
+}
+
+/// How many calls may be open at once in the model, by one search over the call edges that are reached, in the order of
+/// their sites. Each call edge is searched once, and each candidate's call edges are gone through once.
+pub fn depth(alloc: Global, model: &Model) -> Result<Depth, OutOfMemory>
+    ensures length { IfOk result (HasLength model.now) }
+    ensures cycle { IfOk result (HasCycle model.now) }
+    ensures words { IfOk result (HasDepth model.now) }
+{
+    let _nodes = model.nodes();
+    let entries = openings(alloc, model)?;
+    let mut search = begin(alloc, model)?;
+    for _done in 0..usize::MAX {
+        match turn(&mut search, model, &entries)? {
+            Turn::Goes => {}
+            Turn::Ends(height) => return Ok(Depth::Greatest(height)),
+            Turn::Returns(place) => return recursion(alloc, &search, model, place),
+        }
+    }
+    Err(OutOfMemory)
+}

@@ -1,0 +1,5 @@
+pub mod Chains
+pub mod Copies
+pub mod Depths
+pub mod Inlined
+pub mod Within

@@ -1,0 +1,44 @@
+-- The nodes of a valid model are below its number of nodes.
+use Rattle.std.proofs.Common.{◌≡◌, ℕ, ◌+◌, ◌<◌, ◌≤◌, List, length, get_or, Contains, Option, Some, None, unwrap_or, refl, subst, arith}
+use Rattle.std.specs.Prelude.{slice_get, option_map}
+use Rattle.std.proofs.lemmas.Option.{slice_get_within, get_or_from_slice_get}
+use Rattle.std.proofs.lemmas.List.Elements.{All-contains}
+use Rattle.flow_model.specs.declared.records.ModelFunction.{ModelFunction}
+use Rattle.flow_model.specs.declared.records.SilentEdge.{SilentEdge}
+use Rattle.flow_model.specs.declared.records.SysEdge.{SysEdge}
+use Rattle.flow_model.specs.Call.{Call}
+use Rattle.flow_model.specs.Graph.{Graph, Owns, HaveOneOwner}
+use Rattle.flow_model.specs.Rules.{IsValid, HasRightEntries}
+
+-- each function begins at a node
+pub entry_below : (functions : List ModelFunction) (nodes f : ℕ) (one : ModelFunction) → HasRightEntries functions nodes → slice_get functions f ≡ Some one → one.entry < nodes
+entry_below functions nodes f one right has =
+    let within = slice_get_within functions f one has in
+    subst (λ (m : ModelFunction). m.entry < nodes) (get_or_from_slice_get functions f one one has) (right.below f one within)
+
+end_within : (functions : List ModelFunction) (nodes f : ℕ) (r : Option ModelFunction) → HasRightEntries functions nodes → slice_get functions f ≡ r → unwrap_or (option_map (λ one. one.entry) r) nodes ≤ nodes
+end_within functions nodes f None right is = omega arith
+end_within functions nodes f (Some one) right is = omega (arith, entry_below functions nodes f one right is)
+
+-- a node that is owned is a node
+pub owned_below : (functions : List ModelFunction) (nodes f a : ℕ) → HasRightEntries functions nodes → Owns functions nodes f a → a < nodes
+owned_below functions nodes f a right owns = omega (arith, owns.to, end_within functions nodes (f + 1) (slice_get functions (f + 1)) right refl)
+
+module _ (g : Graph) (valid : IsValid g) where
+  second_below : (a b : ℕ) → HaveOneOwner g.functions g.nodes a b → b < g.nodes
+  second_below a b both = owned_below g.functions g.nodes both.owner b valid.entries both.second
+
+  pub silent_below : (e : SilentEdge) → Contains g.silent e → e.to < g.nodes
+  silent_below e has = second_below e.from e.to (All-contains (λ (d : SilentEdge). HaveOneOwner g.functions g.nodes d.from d.to) g.silent e valid.edges.silent has)
+
+  pub sys_below : (e : SysEdge) → Contains g.sys e → e.to < g.nodes
+  sys_below e has = second_below e.from e.to (All-contains (λ (d : SysEdge). HaveOneOwner g.functions g.nodes d.from d.to) g.sys e valid.edges.sys has)
+
+  pub call_below : (c : Call) → Contains g.calls c → c.to < g.nodes
+  call_below c has = second_below c.from c.to (All-contains (λ (d : Call). HaveOneOwner g.functions g.nodes d.from d.to) g.calls c valid.edges.calls has)
+
+  -- each candidate is a function
+  pub candidate_below : (c : Call) (f : ℕ) → Contains g.calls c → Contains c.candidates f → f < length g.functions
+  candidate_below c f has one =
+      let known = All-contains (λ (d : Call). (k : ℕ) (e : ℕ) → k < length d.candidates → get_or d.candidates k e < length g.functions) g.calls c valid.functions.candidates has in
+      All-contains (λ h. h < length g.functions) c.candidates f known one

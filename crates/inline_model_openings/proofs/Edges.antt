@@ -1,0 +1,108 @@
+-- The edges that leave a node, and the nodes to which they lead.
+use Rattle.std.proofs.Common.{◌≡◌, ℕ, ℤ, ◌<◌, ◌⊎◌, Bool, true, false, IsTrue, ◌||◌, ◌↔◌, nat_eq, List, [], ◌∷◌, length, get_or, filter, map, Option, Contains, Some, refl, sym, ap, ◌∙◌, subst, inl, inr, arith}
+use Prim.Native.Nat.{zero, suc}
+use Rattle.std.specs.Prelude.{slice_get}
+use Rattle.std.specs.List.{list_any}
+use Rattle.std.proofs.lemmas.Bool.{eqb-true, eq-eqb, or_cases, false≢true}
+use Rattle.std.proofs.lemmas.List.{get_or-map}
+use Rattle.std.proofs.lemmas.Option.{same_Some, slice_get-get_or}
+use Rattle.dm_sets.specs.Nodes.{Nodes, Has}
+use Rattle.flow_model.specs.declared.records.ModelFunction.{ModelFunction}
+use Rattle.flow_model.specs.declared.records.SilentEdge.{SilentEdge}
+use Rattle.flow_model.specs.declared.records.SysEdge.{SysEdge}
+use Rattle.flow_model.specs.Call.{Call}
+use Rattle.flow_model.specs.Graph.{Graph, HasSilent}
+use Rattle.inline_model_openings.specs.Growth.{HasOne}
+use Rattle.inline_model_openings.specs.Saturating.{HasExit, MayPass, CallsTo, PassesTo, ReturnsTo}
+use Rattle.inline_model_openings.proofs.Items.{filter-contains, filter-pass, contains-filter}
+
+-- the call edges that leave the node
+abbrev pub calls_from : Graph → ℕ → List Call
+calls_from g node = filter (λ c. nat_eq c.from node) g.calls
+
+-- the call edges that may enter the function
+abbrev pub calls_of : Graph → ℕ → List Call
+calls_of g function = filter (λ c. list_any (λ f. nat_eq f function) c.candidates) g.calls
+
+-- The silent edges that leave a node.
+module _ (g : Graph) (node : ℕ) where
+  abbrev leaves : SilentEdge → Bool
+  leaves e = nat_eq e.from node
+
+  pub silent_end : (b : ℕ) → HasOne (λ e n. e.to ≡ n) (filter leaves g.silent) b → HasSilent g node b
+  silent_end b (e, has, to) =
+      let from : e.from ≡ node = eqb-true e.from node (filter-pass leaves g.silent e has) in
+      let same : e ≡ record { from = node; to = b } = λ i. record { from = from i; to = to i } in
+      subst (Contains g.silent) same (filter-contains leaves g.silent e has)
+
+  pub end_of_silent : (b : ℕ) → HasSilent g node b → HasOne (λ e n. e.to ≡ n) (filter leaves g.silent) b
+  end_of_silent b has = (record { from = node; to = b }, contains-filter leaves g.silent (record { from = node; to = b }) has.0 has.1 has.2 (eq-eqb node node refl), refl)
+
+-- The system-call edges that leave a node.
+module _ (g : Graph) (node : ℕ) where
+  abbrev leaves_by_call : SysEdge → Bool
+  leaves_by_call e = nat_eq e.from node
+
+  pub sys_end : (b : ℕ) → HasOne (λ e n. e.to ≡ n) (filter leaves_by_call g.sys) b → CallsTo g node b
+  sys_end b (e, has, to) =
+      let from : e.from ≡ node = eqb-true e.from node (filter-pass leaves_by_call g.sys e has) in
+      let same : e ≡ record { from = node; name = e.name; to = b; args = e.args } = λ i. record { from = from i; name = e.name; to = to i; args = e.args } in
+      (e.name, e.args, subst (Contains g.sys) same (filter-contains leaves_by_call g.sys e has))
+
+  pub end_of_sys : (b : ℕ) → CallsTo g node b → HasOne (λ e n. e.to ≡ n) (filter leaves_by_call g.sys) b
+  end_of_sys b (x, p, has) =
+      let e : SysEdge = record { from = node; name = x; to = b; args = p } in
+      (e, contains-filter leaves_by_call g.sys e has.0 has.1 has.2 (eq-eqb node node refl), refl)
+
+-- what a call edge adds, where one of its candidates has its exit in the set
+abbrev pub Passes : Graph → Nodes → Call → ℕ → Type 0
+Passes g done c b = MayPass g done c × (c.to ≡ b)
+
+-- what a call edge adds, where it leaves a node of the set
+abbrev pub Returns : Nodes → Call → ℕ → Type 0
+Returns done c b = Has done c.from × (c.to ≡ b)
+
+-- The call edges that leave a node.
+module _ (g : Graph) (done : Nodes) (node : ℕ) where
+  pub call_from : (c : Call) → Contains (calls_from g node) c → Contains g.calls c
+  call_from c has = filter-contains (λ (d : Call). nat_eq d.from node) g.calls c has
+
+  pub passes_end : (b : ℕ) → HasOne (Passes g done) (calls_from g node) b → PassesTo g done node b
+  passes_end b (c, has, is) = (c, call_from c has, eqb-true c.from node (filter-pass (λ (d : Call). nat_eq d.from node) g.calls c has), is.0, is.1)
+
+  pub end_of_passes : (b : ℕ) → PassesTo g done node b → HasOne (Passes g done) (calls_from g node) b
+  end_of_passes b (c, has, from, may, to) = (c, contains-filter (λ (d : Call). nat_eq d.from node) g.calls c has.0 has.1 has.2 (eq-eqb c.from node from), (may, to))
+
+or_true : (b : Bool) → (b || true) ≡ true
+or_true true = refl
+or_true false = refl
+
+any_of_contains : (f : ℕ) (fs : List ℕ) (k : ℕ) → k < length fs → get_or fs k f ≡ f → list_any (λ h. nat_eq h f) fs ≡ true
+any_of_contains f [] k lt is = absurd (omega arith)
+any_of_contains f (h ∷ fs) zero lt is = rw (eq-eqb h f is) refl
+any_of_contains f (h ∷ fs) (suc k) lt is = let later = any_of_contains f fs k (omega arith) is in rw later (or_true (nat_eq h f))
+
+contains_of_any : (f : ℕ) (fs : List ℕ) → list_any (λ h. nat_eq h f) fs ≡ true → Contains fs f
+contains_of_any f [] any = absurd (false≢true any)
+contains_of_any f (h ∷ fs) any = elim (or_cases (nat_eq h f) (list_any (λ k. nat_eq k f) fs) any) [
+  | inl here ↦ (0, omega arith, eqb-true h f here)
+  | inr later ↦ (let there = contains_of_any f fs later in (suc there.0, omega (arith, there.1), there.2))
+]
+
+-- The call edges that may enter a function.
+module _ (g : Graph) (done : Nodes) (f : ℕ) where
+  abbrev may_enter : Call → Bool
+  may_enter c = list_any (λ h. nat_eq h f) c.candidates
+
+  pub call_of : (c : Call) → Contains (calls_of g f) c → Contains g.calls c
+  call_of c has = filter-contains may_enter g.calls c has
+
+  pub returns_end : (b : ℕ) → HasOne (Returns done) (calls_of g f) b → ReturnsTo g done f b
+  returns_end b (c, has, is) = (c, call_of c has, contains_of_any f c.candidates (filter-pass may_enter g.calls c has), is.0, is.1)
+
+  pub end_of_returns : (b : ℕ) → ReturnsTo g done f b → HasOne (Returns done) (calls_of g f) b
+  end_of_returns b (c, has, one, from, to) = (c, contains-filter may_enter g.calls c has.0 has.1 has.2 (any_of_contains f c.candidates one.0 one.1 one.2), (from, to))
+
+-- the k-th site is that of the k-th call
+pub site_at : (calls : List Call) (k : ℕ) (d : Call) → k < length calls → (get_or calls k d).site ≡ get_or (map (λ c. c.site) calls) k 0
+site_at calls k d lt = sym (get_or-map (λ (c : Call). c.site) calls k d 0 lt)
