@@ -4,6 +4,7 @@
 declare -gA _dyckmon_words=(
     [audit]='FILE RESULTS TURNS K'
     [check]='FILE'
+    [depth]='MODEL'
     [instrument]='FILE'
     [judge]='MODEL TRACE WHICH [K]'
     [measure]='MODEL TRACE WHICH'

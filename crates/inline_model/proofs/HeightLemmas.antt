@@ -44,8 +44,8 @@ place_entry are f p (h, entry) = (record { function = f; place = p; candidate = 
 
 -- the next place of one function whose height isn't known
 pub next_one : (g : Graph) (entries : List Entry) (heights : List (Option ℕ)) (function from p : ℕ) → AreEntries g entries
-  → from ≤ p → ((h : ℕ) × Contains entries (record { function = function; place = p; candidate = h }))
-  → ((e : Entry) → Contains entries e → e.function ≡ function → from ≤ e.place → p ≤ e.place) → IsNext g heights (λ f. f ≡ function) from (Some p)
+    → from ≤ p → ((h : ℕ) × Contains entries (record { function = function; place = p; candidate = h }))
+    → ((e : Entry) → Contains entries e → e.function ≡ function → from ≤ e.place → p ≤ e.place) → IsNext g heights (λ f. f ≡ function) from (Some p)
 next_one g entries heights function from p are least has all = (
   least,
   (function, refl, (has.0, (are.all (record { function = function; place = p; candidate = has.0 })).0 has.1)),
@@ -56,7 +56,7 @@ next_one g entries heights function from p are least has all = (
 )
 
 pub next_over : (g : Graph) (entries : List Entry) (heights : List (Option ℕ)) (function from : ℕ) → AreEntries g entries
-  → ((e : Entry) → Contains entries e → e.function ≡ function → from ≤ e.place → ⊥) → IsNext g heights (λ f. f ≡ function) from None
+    → ((e : Entry) → Contains entries e → e.function ≡ function → from ≤ e.place → ⊥) → IsNext g heights (λ f. f ≡ function) from None
 next_over g entries heights function from are none f q same low place =
     let there = place_entry are f q place in
     absurd (none there.0 there.1 (there.2 ∙ same) (omega (arith, there.3)))
@@ -69,9 +69,9 @@ pub next_more : (g : Graph) (heights : List (Option ℕ)) (from : ℕ) (function
 next_more g heights from functions k f a b lt at one two =
     let more : take (k + 1) functions ≡ take k functions ++ f ∷ [] = take_more functions k f lt ∙ ap (λ x. take k functions ++ x ∷ []) (sym at) in
     next_like g heights from {F = λ h. Contains (take k functions) h ⊎ (h ≡ f)} {G = Contains (take (k + 1) functions)}
-      (λ h either. subst (λ xs. Contains xs h) (sym more) (elim either [ inl before ↦ Contains-append_left (take k functions) (f ∷ []) h before | inr same ↦ subst (Contains (take k functions ++ f ∷ [])) (sym same) (Contains-push (take k functions) f) ]))
-      (λ h has. elim (Contains-push_cases (take k functions) f h (subst (λ xs. Contains xs h) more has)) [ inl before ↦ inl before | inr same ↦ inr (sym same) ])
-      (lesser a b) (next_either g heights from (Contains (take k functions)) (λ h. h ≡ f) a b one two)
+    (λ h either. subst (λ xs. Contains xs h) (sym more) (elim either [ inl before ↦ Contains-append_left (take k functions) (f ∷ []) h before | inr same ↦ subst (Contains (take k functions ++ f ∷ [])) (sym same) (Contains-push (take k functions) f) ]))
+    (λ h has. elim (Contains-push_cases (take k functions) f h (subst (λ xs. Contains xs h) more has)) [ inl before ↦ inl before | inr same ↦ inr (sym same) ])
+    (lesser a b) (next_either g heights from (Contains (take k functions)) (λ h. h ≡ f) a b one two)
 
 -- the greatest height of the candidates, one more, is the function's
 module _ (g : Graph) (entries own : List Entry) (f : ℕ) (are : AreEntries g entries) (own_has : (e : Entry) → Contains own e ↔ (Contains entries e × (e.function ≡ f))) (heights : List (Option ℕ)) (right : AreHeights g heights) where
@@ -206,9 +206,9 @@ pub completes_more : (g : Graph) (functions : List ℕ) (k f : ℕ) (a b c : Lis
 completes_more g functions k f a b c lt at one two =
     let more : take (k + 1) functions ≡ take k functions ++ f ∷ [] = take_more functions k f lt ∙ ap (λ x. take k functions ++ x ∷ []) (sym at) in
     completes_like {F = λ h. Contains (take k functions) h ⊎ (h ≡ f)} {G = Contains (take (k + 1) functions)} g a c
-      (λ h either. subst (λ xs. Contains xs h) (sym more) (elim either [ inl before ↦ Contains-append_left (take k functions) (f ∷ []) h before | inr same ↦ subst (Contains (take k functions ++ f ∷ [])) (sym same) (Contains-push (take k functions) f) ]))
-      (λ h has. elim (Contains-push_cases (take k functions) f h (subst (λ xs. Contains xs h) more has)) [ inl before ↦ inl before | inr same ↦ inr (sym same) ])
-      (completes_then g a b c one two)
+    (λ h either. subst (λ xs. Contains xs h) (sym more) (elim either [ inl before ↦ Contains-append_left (take k functions) (f ∷ []) h before | inr same ↦ subst (Contains (take k functions ++ f ∷ [])) (sym same) (Contains-push (take k functions) f) ]))
+    (λ h has. elim (Contains-push_cases (take k functions) f h (subst (λ xs. Contains xs h) more has)) [ inl before ↦ inl before | inr same ↦ inr (sym same) ])
+    (completes_then g a b c one two)
 
 -- the functions that the opener may enter, where it is a call edge
 pub enters_call : (g : Graph) (opener : Option ℕ) (place : ℕ) (call : Call) (candidates : List ℕ) → opener ≡ Some place → slice_get g.calls place ≡ Some call → candidates ≡ call.candidates → (f : ℕ) → Contains candidates f → Enters g opener f

@@ -109,7 +109,7 @@ module _ (g : Graph) (marks : List Mark) (heights : List (Option ℕ)) (path : L
           done = λ p f done enters. inv.sound.done p f (back p done) enters;
         };
         is_path = subst (λ xs. IsPath g new (record { opener = Some q; next = 0 } ∷ xs)) (sym is)
-          (above (next.1.0, next.1.1, next.1.2) (λ p opens none. absurd (omega (arith, none))) (λ on. not_open ((inv.on_path q).1 (subst (λ xs. OnPath xs q) (sym is) on))) (path_still still here));
+            (above (next.1.0, next.1.1, next.1.2) (λ p opens none. absurd (omega (arith, none))) (λ on. not_open ((inv.on_path q).1 (subst (λ xs. OnPath xs q) (sym is) on))) (path_still still here));
         on_path = λ p. (
           λ open_now. elim (cases_eq p q) [
             | inl same ↦ on_path_here (record { opener = Some q; next = 0 }) path p (ap Some (sym same))
@@ -135,7 +135,7 @@ below_path {q = q} is (bottom passed) = absurd (let none : None ≡ Some q = is 
 below_path {q = q} is (above {p = p} {below = below} {rest = rest} opens passed fresh path) = let same : p ≡ q = cc in (path, λ on. fresh (subst (OnPath (below ∷ rest)) (sym same) on))
 
 pub leave_done : (g : Graph) (marks : List Mark) (heights : List (Option ℕ)) (path : List Frame) (frame : Frame) (rest : List Frame) → path ≡ frame ∷ rest → AreSearching g marks heights path → (q : ℕ) → frame.opener ≡ Some q → IsNext g heights (Enters g frame.opener) frame.next None
-  → (new_marks : List Mark) (new_heights : List (Option ℕ)) → Completes g heights new_heights (Enters g frame.opener) → new_marks ≡ set marks q Done → AreSearching g new_marks new_heights rest
+    → (new_marks : List Mark) (new_heights : List (Option ℕ)) → Completes g heights new_heights (Enters g frame.opener) → new_marks ≡ set marks q Done → AreSearching g new_marks new_heights rest
 leave_done g marks heights path frame rest is inv q opener next new_marks new_heights made set_is =
     let here : IsPath g marks (frame ∷ rest) = subst (IsPath g marks) is inv.is_path in
     let below = below_path opener here in

@@ -87,11 +87,11 @@ differ_onto : {g : Graph} {marks : List Mark} {path : List Frame} → IsPath g m
 differ_onto (bottom passed) places differ apart = differ
 differ_onto (above {p = p} {next = next} {below = below} {rest = rest} opens passed fresh path) places differ apart =
     differ_onto path (p ∷ places)
-      (pairs_cons (λ q r. q ≢ r) p places (λ q has same. apart q has (on_path_here (record { opener = Some p; next = next }) (below ∷ rest) q (ap Some same))) differ)
-      (λ q has on. elim (cons_cases p places q has) [
-        | inl same ↦ fresh (subst (OnPath (below ∷ rest)) (sym same) on)
-        | inr later ↦ apart q later (on_path_later (record { opener = Some p; next = next }) (below ∷ rest) q on)
-      ])
+    (pairs_cons (λ q r. q ≢ r) p places (λ q has same. apart q has (on_path_here (record { opener = Some p; next = next }) (below ∷ rest) q (ap Some same))) differ)
+    (λ q has on. elim (cons_cases p places q has) [
+      | inl same ↦ fresh (subst (OnPath (below ∷ rest)) (sym same) on)
+      | inr later ↦ apart q later (on_path_later (record { opener = Some p; next = next }) (below ∷ rest) q on)
+    ])
 
 onto_append : (path : List Frame) (places : List ℕ) → places_onto path places ≡ places_onto path [] ++ places
 onto_append [] places = refl
@@ -124,8 +124,8 @@ sites_differ g rise places called differ i j d lt within =
     let at_p = called p (Contains-get_or places i d i_lt) in
     let at_q = called q (Contains-get_or places j d j_lt) in
     λ same.
-        let sites : at_p.0.site ≡ at_q.0.site = sym (site_is g p at_p.0 at_p.1) ∙ sym (get_or-map (site_at g) places i d d i_lt) ∙ same ∙ get_or-map (site_at g) places j d d j_lt ∙ site_is g q at_q.0 at_q.1 in
-        differ i j d lt j_lt (same_place g rise p q at_p.0 at_q.0 at_p.1 at_q.1 sites)
+    let sites : at_p.0.site ≡ at_q.0.site = sym (site_is g p at_p.0 at_p.1) ∙ sym (get_or-map (site_at g) places i d d i_lt) ∙ same ∙ get_or-map (site_at g) places j d d j_lt ∙ site_is g q at_q.0 at_q.1 in
+    differ i j d lt j_lt (same_place g rise p q at_p.0 at_q.0 at_p.1 at_q.1 sites)
 
 -- the top of a path on which a place stands has a place
 top_place : {g : Graph} {marks : List Mark} (top : Frame) (rest : List Frame) (p : ℕ) → IsPath g marks (top ∷ rest) → OnPath (top ∷ rest) p → (t : ℕ) × (top.opener ≡ Some t)
@@ -147,7 +147,7 @@ opens_site g t p (f, (call, at, candidate), (h, entry)) = record {
 
 -- the newest call edge of the path opens one that is on the path
 pub recursion_at : (g : Graph) → IsValid g → (marks : List Mark) (path : List Frame) → IsPath g marks path → (top : Frame) (rest : List Frame) → path ≡ top ∷ rest → (p : ℕ) → OnPath path p → OpensPlace g top.opener p
-  → (at : ℕ) → at < length (places_onto path []) → get_or (places_onto path []) at p ≡ p → IsRecursion g (map (site_at g) (take at (places_onto path []))) (map (site_at g) (drop at (places_onto path [])))
+    → (at : ℕ) → at < length (places_onto path []) → get_or (places_onto path []) at p ≡ p → IsRecursion g (map (site_at g) (take at (places_onto path []))) (map (site_at g) (drop at (places_onto path [])))
 recursion_at g valid marks path is_path top rest is p on_path opens at lt here =
     let all = places_onto path [] in
     let below = places_onto rest [] in
@@ -170,10 +170,10 @@ recursion_at g valid marks path is_path top rest is p on_path opens at lt here =
 
 -- the same of lists that are these
 pub recursion_from : (g : Graph) → IsValid g → (marks : List Mark) (path : List Frame) → IsPath g marks path → (top : Frame) (rest : List Frame) → path ≡ top ∷ rest → (p : ℕ) → OnPath path p → OpensPlace g top.opener p
-  → (all : List ℕ) → all ≡ places_onto path [] → (at : ℕ) → (at < length all) × (get_or all at 0 ≡ p) → (first cycle : List ℕ) → first ≡ map (site_at g) (take at all) → cycle ≡ map (site_at g) (drop at all) → IsRecursion g first cycle
+    → (all : List ℕ) → all ≡ places_onto path [] → (at : ℕ) → (at < length all) × (get_or all at 0 ≡ p) → (first cycle : List ℕ) → first ≡ map (site_at g) (take at all) → cycle ≡ map (site_at g) (drop at all) → IsRecursion g first cycle
 recursion_from g valid marks path is_path top rest is p on_path opens all same at found first cycle first_is cycle_is =
     let lt : at < length (places_onto path []) = omega (arith, ap length same, found.0) in
     let here : get_or (places_onto path []) at p ≡ p = get_or_default (places_onto path []) at p 0 lt ∙ ap (λ xs. get_or xs at 0) (sym same) ∙ found.1 in
     subst (λ xs. IsRecursion g xs cycle) (sym (first_is ∙ ap (λ xs. map (site_at g) (take at xs)) same))
-      (subst (λ xs. IsRecursion g (map (site_at g) (take at (places_onto path []))) xs) (sym (cycle_is ∙ ap (λ xs. map (site_at g) (drop at xs)) same))
-        (recursion_at g valid marks path is_path top rest is p on_path opens at lt here))
+    (subst (λ xs. IsRecursion g (map (site_at g) (take at (places_onto path []))) xs) (sym (cycle_is ∙ ap (λ xs. map (site_at g) (drop at xs)) same))
+    (recursion_at g valid marks path is_path top rest is p on_path opens at lt here))

@@ -27,12 +27,7 @@ fn is_known(heights: &[Option<u32>], function: u32) -> bool
 }
 
 // The least place from the given one on by which the function goes on, or none where its height is known.
-fn next_of(
-    entries: &[Entry],
-    heights: &[Option<u32>],
-    function: u32,
-    from: usize,
-) -> Option<usize>
+fn next_of(entries: &[Entry], heights: &[Option<u32>], function: u32, from: usize) -> Option<usize>
     requires { StrictlyRise entry_order entries.now }
     ensures { (g : Graph) → AreEntries g entries.now → IsNext g heights.now (λ f. f ≡ function) from result }
 {

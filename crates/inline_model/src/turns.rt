@@ -64,11 +64,7 @@ fn leave(
 }
 
 // Ends the search where all call edges that the start opens are done.
-fn end(
-    search: &mut Search,
-    model: &Model,
-    entries: &[Entry],
-) -> Result<Turn, OutOfMemory>
+fn end(search: &mut Search, model: &Model, entries: &[Entry]) -> Result<Turn, OutOfMemory>
     requires entries { AreEntries model.now entries.now }
     requires search { IsSearching model.now search.old }
     ensures { IfOk result (IsTurn model.now search.new) }
@@ -100,7 +96,12 @@ fn pass(search: &mut Search, model: &Model, frame: Frame, place: usize) -> Resul
 }
 
 // Puts the place on the path.
-fn enter(search: &mut Search, model: &Model, frame: Frame, place: usize) -> Result<Turn, OutOfMemory>
+fn enter(
+    search: &mut Search,
+    model: &Model,
+    frame: Frame,
+    place: usize,
+) -> Result<Turn, OutOfMemory>
     requires search { IsSearching model.now search.old }
     requires top { (rest : List Frame) × (search.old.path ≡ frame ∷ rest) }
     requires next { IsNext model.now search.old.heights.items (Enters model.now frame.opener) frame.next (Some place) }

@@ -42,9 +42,9 @@ entries_tie d e h =
 
 -- the owner is the last function that begins at the node or before it
 pub owner_within : (g : Graph) (node begun : ℕ) (functions : List ModelFunction) → IsValid g → IsWithin g node → functions ≡ g.functions → begun ≤ length functions
-  → ((k : ℕ) (d : ModelFunction) → k < begun → (get_or functions k d).entry ≤ node)
-  → ((k : ℕ) (d : ModelFunction) → begun ≤ k → k < length functions → node < (get_or functions k d).entry)
-  → (0 < begun) × Within g (begun - 1) node
+    → ((k : ℕ) (d : ModelFunction) → k < begun → (get_or functions k d).entry ≤ node)
+    → ((k : ℕ) (d : ModelFunction) → begun ≤ k → k < length functions → node < (get_or functions k d).entry)
+    → (0 < begun) × Within g (begun - 1) node
 owner_within g node begun functions valid (f, within) same fits before after =
     let owns : Owns functions g.nodes f node = subst (λ xs. Owns xs g.nodes f node) (sym same) (within_owns valid within) in
     let last = owner_is_last functions g.nodes node begun fits before after f owns in

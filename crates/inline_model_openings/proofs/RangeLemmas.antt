@@ -103,13 +103,16 @@ module _ (entries own : List Entry) (f from at : ℕ) (own_has : (e : Entry) →
       let one = get_or own at d in
       let both = (own_has one).0 (at, lt, get_or_default own at one d lt) in
       let same : one ≡ record { function = f; place = one.place; candidate = one.candidate } = λ i. record { function = both.1 i; place = one.place; candidate = one.candidate } in
-      let least : at ≤ at = omega arith in
-      (after at d least lt, (one.candidate, subst (Contains entries) same both.0), λ e has function low.
-          let (k, inside, is) = (own_has e).1 (has, function) in
-          elim (cases_lt k at) [
-            | inl less ↦ absurd (omega (arith, before k e less, ap (λ (x : Entry). x.place) is))
-            | inr more ↦ omega (arith, own_places at k d more inside, ap (λ (x : Entry). x.place) (get_or_default own k d e inside ∙ is))
-          ])
+      let least : at ≤ at = omega arith in (
+        after at d least lt,
+        (one.candidate, subst (Contains entries) same both.0),
+        λ e has function low.
+            let (k, inside, is) = (own_has e).1 (has, function) in
+            elim (cases_lt k at) [
+              | inl less ↦ absurd (omega (arith, before k e less, ap (λ (x : Entry). x.place) is))
+              | inr more ↦ omega (arith, own_places at k d more inside, ap (λ (x : Entry). x.place) (get_or_default own k d e inside ∙ is))
+            ],
+      )
 
   pub next_missing : length own ≤ at → (e : Entry) → Contains entries e → e.function ≡ f → from ≤ e.place → ⊥
   next_missing over e has function low =

@@ -2,11 +2,9 @@
 //! entry while no other function stays entered.
 #![tactic(auto)]
 
-
 mod sorting;
 mod table;
 mod within;
-
 
 pub use sorting::in_order;
 pub use table::{Entry, entries_of, next_place, openings};

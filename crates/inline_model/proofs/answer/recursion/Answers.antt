@@ -9,10 +9,10 @@ use Rattle.inline_model.proofs.answer.recursion.Goals.{In_ok-cycle}
 cycle : (c : In_ok-cycle) → IsRecursion c.args.model.now c.in_ok-first.first c.in_ok-cycle.cycle
 cycle c =
     recursion_from c.args.model.now c.nodes-nodes.ensures.valid c.args.search.now.marks.items c.args.search.now.path c.requires.searching.is_path c.requires.top c.requires.rest c.requires.is c.args.place c.requires.on_path c.requires.opens
-      c.in_ok-places.places.items c.in_ok-places.ensures c.in-Some.at (subst (λ xs. (c.in-Some.at < length xs) × (get_or xs c.in-Some.at 0 ≡ c.args.place)) c.deref.ensures.value c.in-Some.ensures)
-      c.in_ok-first.first c.in_ok-cycle.cycle
-      (c.in_ok-first.ensures ∙ ap (map (site_at c.args.model.now)) (c.split_at.ensures.front ∙ ap (take c.in-Some.at) c.deref-2.ensures.value))
-      (c.in_ok-cycle.ensures ∙ ap (map (site_at c.args.model.now)) (c.split_at.ensures.back ∙ ap (drop c.in-Some.at) c.deref-2.ensures.value))
+    c.in_ok-places.places.items c.in_ok-places.ensures c.in-Some.at (subst (λ xs. (c.in-Some.at < length xs) × (get_or xs c.in-Some.at 0 ≡ c.args.place)) c.deref.ensures.value c.in-Some.ensures)
+    c.in_ok-first.first c.in_ok-cycle.cycle
+    (c.in_ok-first.ensures ∙ ap (map (site_at c.args.model.now)) (c.split_at.ensures.front ∙ ap (take c.in-Some.at) c.deref-2.ensures.value))
+    (c.in_ok-cycle.ensures ∙ ap (map (site_at c.args.model.now)) (c.split_at.ensures.back ∙ ap (drop c.in-Some.at) c.deref-2.ensures.value))
 
 pub returns-clause-length : goal.returns-clause-length
 returns-clause-length c = let at = (goal.at.returns-clause-length c).In_ok-cycle in recursion_unbounded c.args.model.now c.in_ok-first.first c.in_ok-cycle.cycle (cycle at)

@@ -9,4 +9,4 @@ pub returns : goal.returns
 returns c = λ g are right.
     let lt : c.args.function < length c.args.heights.now = omega arith in
     completes_one g c.args.heights.now (set c.args.heights.now c.args.function (Some c.in_ok-height.height)) c.args.function c.in_ok-height.height right lt refl
-      (height_from g c.args.entries.now c.entries_of.result.now c.args.function are c.entries_of.ensures.has c.args.heights.now right c.in_ok-height.height c.in_ok-height.ensures)
+    (height_from g c.args.entries.now c.entries_of.result.now c.args.function are c.entries_of.ensures.has c.args.heights.now right c.in_ok-height.height c.in_ok-height.ensures)

@@ -11,4 +11,4 @@ loop-entry-preserved c =
     let e = get_or c.args.entries.now k d in
     let known = c.in_ok-height.ensures in
     greatest_more c.args.entries.now c.args.heights.now k c.loop-entry.greatest known.0 e c.max-greatest.result c.loop-entry-test.true (get_or_default c.args.entries.now k d e c.loop-entry-test.true) c.loop-entry.invariant known.1
-      (c.max-greatest.ensures ∙ ap (max c.loop-entry.greatest) known.2)
+    (c.max-greatest.ensures ∙ ap (max c.loop-entry.greatest) known.2)

@@ -10,7 +10,7 @@ loop-function-preserved c = λ g are.
     let k = c.loop-function.function-index in
     let f = get_or functions k 0 in
     subst (IsNext g c.args.heights.now (Contains (take (k + 1) functions)) c.args.from) (sym c.lesser_of-least.ensures)
-      (next_more g c.args.heights.now c.args.from functions k f c.loop-function.least c.next_of.result c.loop-function-test.true (get_or_default functions k 0 f c.loop-function-test.true) (c.loop-function.invariant g are) (c.next_of.ensures g are))
+    (next_more g c.args.heights.now c.args.from functions k f c.loop-function.least c.next_of.result c.loop-function-test.true (get_or_default functions k 0 f c.loop-function-test.true) (c.loop-function.invariant g are) (c.next_of.ensures g are))
 
 pub returns : goal.returns
 returns c = λ g are.

@@ -14,7 +14,7 @@ owner_of-requires c =
 pub returns : goal.returns
 returns c =
     adds_call c.args.model.now c.nodes-nodes.ensures.valid c.args.place c.args.call.now c.owner_of.result c.args.entries.now.items c.add_candidates.new.entries.items
-      (subst (Within c.args.model.now c.owner_of.result) c.from-2.ensures c.owner_of.ensures) c.in_ok-add_candidates.ensures
+    (subst (Within c.args.model.now c.owner_of.result) c.from-2.ensures c.owner_of.ensures) c.in_ok-add_candidates.ensures
 
 pub returns-then-not-contains : goal.returns-then-not-contains
 returns-then-not-contains c = adds_no_call c.args.model.now c.args.place c.args.call.now c.args.entries.now.items (λ inside. false≢true (sym c.if-not-contains.true ∙ c.contains.ensures.1 ((c.requires c.from.result).1 (subst (IsWithin c.args.model.now) (sym c.from.ensures) inside))))

@@ -14,7 +14,7 @@ loop-place-preserved c =
     let items = c.calls-call-items.result.now in
     let at : slice_get items c.loop-place.place ≡ Some c.call-item.result = slice_get_read items (length items) c.loop-place.place c.call-item.result refl c.loop-place-test.true c.call-item.is in
     entries_more c.args.model.now c.loop-place.place c.call-item.result c.loop-place.entries.items c.add_call.new.entries.items
-      (subst (λ xs. slice_get xs c.loop-place.place ≡ Some c.call-item.result) c.calls-call-items.ensures at) c.loop-place.invariant c.in_ok-add_call.ensures
+    (subst (λ xs. slice_get xs c.loop-place.place ≡ Some c.call-item.result) c.calls-call-items.ensures at) c.loop-place.invariant c.in_ok-add_call.ensures
 
 pub returns : goal.returns
 returns c =

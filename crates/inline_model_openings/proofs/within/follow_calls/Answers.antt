@@ -45,8 +45,8 @@ loop-site-preserved c =
     let at = (goal.at.loop-site-preserved c).After-call_at-call in
     let calls = calls_from c.args.model.now c.args.node in
     adds-more_read (Passes c.args.model.now c.args.done.now) calls c.args.pool.now c.loop-site.pool c.add_where.new.pool c.loop-site.site-index nothing (in_calls at) c.loop-site.invariant
-      (subst (λ x. Adds c.loop-site.pool c.add_where.new.pool (Passes c.args.model.now c.args.done.now x)) (same at)
-        (adds-like c.loop-site.pool c.add_where.new.pool c.add_where.ensures (λ b is. (c.may_pass-passes.ensures.0 is.0, sym c.to.ensures ∙ is.1)) (λ b is. (c.may_pass-passes.ensures.1 is.0, c.to.ensures ∙ is.1))))
+    (subst (λ x. Adds c.loop-site.pool c.add_where.new.pool (Passes c.args.model.now c.args.done.now x)) (same at)
+    (adds-like c.loop-site.pool c.add_where.new.pool c.add_where.ensures (λ b is. (c.may_pass-passes.ensures.0 is.0, sym c.to.ensures ∙ is.1)) (λ b is. (c.may_pass-passes.ensures.1 is.0, c.to.ensures ∙ is.1))))
 
 over : (c : After-loop-site) → length (calls_from c.args.model.now c.args.node) ≤ c.loop-site.site-index
 over c = omega (arith, c.loop-site-test.false, ap length c.calls_from-site-items.ensures, length-map (calls_from c.args.model.now c.args.node) (λ (e : Call). e.site))

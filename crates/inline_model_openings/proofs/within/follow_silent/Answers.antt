@@ -27,7 +27,7 @@ pub loop-edge-preserved : goal.loop-edge-preserved
 loop-edge-preserved c =
     let edge = get_or c.silent_from-edge-items.result.now c.loop-edge.edge-index nothing in
     adds-more_read (λ (e : SilentEdge) b. e.to ≡ b) c.silent_from-edge-items.result.now c.args.pool.now c.loop-edge.pool c.add.new.self c.loop-edge.edge-index nothing c.loop-edge-test.true c.loop-edge.invariant
-      (adds-add c.loop-edge.pool c.add.new.self edge.to c.add.result c.add.ensures.added c.add.ensures.had c.add.ensures.same)
+    (adds-add c.loop-edge.pool c.add.new.self edge.to c.add.result c.add.ensures.added c.add.ensures.had c.add.ensures.same)
 
 pub returns : goal.returns
 returns c =

@@ -23,7 +23,7 @@ pub loop-edge-preserved : goal.loop-edge-preserved
 loop-edge-preserved c =
     let edge = c.edge-item.result in
     adds-more (λ (e : SysEdge) b. e.to ≡ b) c.sys_from-edge-items.result.now c.args.pool.now c.loop-edge.pool c.add.new.self c.loop-edge.edge-index edge c.loop-edge-test.true c.edge-item.is c.loop-edge.invariant
-      (adds-add c.loop-edge.pool c.add.new.self edge.to c.add.result c.add.ensures.added c.add.ensures.had c.add.ensures.same)
+    (adds-add c.loop-edge.pool c.add.new.self edge.to c.add.result c.add.ensures.added c.add.ensures.had c.add.ensures.same)
 
 pub returns : goal.returns
 returns c =

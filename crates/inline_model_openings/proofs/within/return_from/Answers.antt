@@ -46,8 +46,8 @@ loop-site-preserved c =
     let at = (goal.at.loop-site-preserved c).After-call_at-call in
     let calls = calls_of c.args.model.now c.args.function in
     adds-more_read (Returns c.args.done.now) calls c.args.pool.now c.loop-site.pool c.add_where.new.pool c.loop-site.site-index nothing (in_calls at) c.loop-site.invariant
-      (subst (λ x. Adds c.loop-site.pool c.add_where.new.pool (Returns c.args.done.now x)) (same at)
-        (adds-like c.loop-site.pool c.add_where.new.pool c.add_where.ensures (λ b is. (subst (Has c.args.done.now) c.from.ensures (c.contains-passes.ensures.0 is.0), sym c.to.ensures ∙ is.1)) (λ b is. (c.contains-passes.ensures.1 (subst (Has c.args.done.now) (sym c.from.ensures) is.0), c.to.ensures ∙ is.1))))
+    (subst (λ x. Adds c.loop-site.pool c.add_where.new.pool (Returns c.args.done.now x)) (same at)
+    (adds-like c.loop-site.pool c.add_where.new.pool c.add_where.ensures (λ b is. (subst (Has c.args.done.now) c.from.ensures (c.contains-passes.ensures.0 is.0), sym c.to.ensures ∙ is.1)) (λ b is. (c.contains-passes.ensures.1 (subst (Has c.args.done.now) (sym c.from.ensures) is.0), c.to.ensures ∙ is.1))))
 
 over : (c : After-loop-site) → length (calls_of c.args.model.now c.args.function) ≤ c.loop-site.site-index
 over c = omega (arith, c.loop-site-test.false, ap length c.returns_of-site-items.ensures, length-map (calls_of c.args.model.now c.args.function) (λ (e : Call). e.site))

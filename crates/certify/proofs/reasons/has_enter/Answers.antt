@@ -1,0 +1,11 @@
+use Rattle.std.proofs.Common.{take}
+use Rattle.certify_facts.specs.Confirms.{facts_of}
+use Rattle.certify_facts.specs.Reasons.{IsEntered}
+use Rattle.certify.proofs.ReasonLemmas.{reason_some, reason_none}
+use Rattle.certify.proofs.reasons.has_enter.Goals as goal
+
+pub returns-in-Some : goal.returns-in-Some
+returns-in-Some c = reason_some (facts_of (take c.args.before c.args.lines.now)) c.args.number (λ x. IsEntered c.args.model.now c.args.site x c.args.y) c.in-Some.x c.is_entered.result c.in-Some.ensures c.is_entered.ensures
+
+pub returns-in-None : goal.returns-in-None
+returns-in-None c = reason_none (facts_of (take c.args.before c.args.lines.now)) c.args.number (λ x. IsEntered c.args.model.now c.args.site x c.args.y) c.in-None.ensures

@@ -1,0 +1,4 @@
+pub mod AddingLemmas
+pub mod CheckLemmas
+pub mod FollowLemmas
+pub mod ReadingLemmas

@@ -1,0 +1,4 @@
+pub mod Adding
+pub mod Ending
+pub mod Reading
+pub mod Stepping

@@ -1,0 +1,22 @@
+use Rattle.fleet_schedule.proofs.ScheduleLemmas.{refused_at_head, head_complete, found_read, found_refused, found_complete, found_same}
+use Rattle.fleet_schedule.proofs.reading.read_schedule.Goals as goal
+
+pub returns-in-Err-clause-refused : goal.returns-in-Err-clause-refused
+returns-in-Err-clause-refused c = refused_at_head c.in-Err.error c.args.text.now c.first_line.result.0.now c.first_line.result.1.now c.if-text-gt-LONGEST.false c.first_line.ensures c.in-Err.ensures
+
+pub returns-in-Err-clause-complete : goal.returns-in-Err-clause-complete
+returns-in-Err-clause-complete c plan within = head_complete c.in-Err.error c.args.text.now c.first_line.result.0.now c.first_line.result.1.now plan c.if-text-gt-LONGEST.false c.first_line.ensures c.in-Err.ensures within
+
+pub returns-in-Ok-clause-read : goal.returns-in-Ok-clause-read
+returns-in-Ok-clause-read c = found_read c.read_lines.result c.args.text.now c.first_line.result.0.now c.first_line.result.1.now c.if-text-gt-LONGEST.false c.first_line.ensures c.in-Ok.ensures c.read_lines.ensures
+
+pub returns-in-Ok-clause-refused : goal.returns-in-Ok-clause-refused
+returns-in-Ok-clause-refused c = found_refused c.read_lines.result c.args.text.now c.first_line.result.0.now c.first_line.result.1.now c.if-text-gt-LONGEST.false c.first_line.ensures c.in-Ok.ensures c.read_lines.ensures
+
+pub returns-in-Ok-clause-complete : goal.returns-in-Ok-clause-complete
+returns-in-Ok-clause-complete c plan within =
+    found_complete c.read_lines.result c.args.text.now plan within (found_refused c.read_lines.result c.args.text.now c.first_line.result.0.now c.first_line.result.1.now c.if-text-gt-LONGEST.false c.first_line.ensures c.in-Ok.ensures c.read_lines.ensures)
+
+pub returns-in-Ok-clause-same : goal.returns-in-Ok-clause-same
+returns-in-Ok-clause-same c plan within =
+    found_same c.read_lines.result c.args.text.now plan within (found_read c.read_lines.result c.args.text.now c.first_line.result.0.now c.first_line.result.1.now c.if-text-gt-LONGEST.false c.first_line.ensures c.in-Ok.ensures c.read_lines.ensures)
