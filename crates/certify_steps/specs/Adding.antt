@@ -1,4 +1,4 @@
--- For private contracts and proofs alone: lists that grow.
+-- Lists that grow.
 use Rattle.std.specs.Prelude.{◌⊎◌, ◌↔◌, List, Contains}
 
 -- one of the items has P

@@ -1,4 +1,4 @@
--- For private contracts and proofs alone: where activations end.
+-- Where activations end.
 use Rattle.flow_model.specs.Graph.{Graph}
 use Rattle.certify_facts.specs.declared.fact.Fact.{Fact}
 use Rattle.certify_facts.specs.declared.fact.Fact.TheVariants.{Callgraph, At, Link}

@@ -1,4 +1,4 @@
--- For private contracts and proofs alone: the facts that follow from one fact, with their reasons.
+-- The facts that follow from one fact, with their reasons.
 use Rattle.std.specs.Prelude.{◌≡◌, ◌⊎◌, ℕ, List, Option, Some, None}
 use Rattle.dm_base.specs.declared.event.Event.{Event}
 use Rattle.flow_model.specs.declared.records.ModelFunction.{ModelFunction}
