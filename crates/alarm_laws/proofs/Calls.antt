@@ -25,7 +25,7 @@ use Rattle.c_shapes.specs.Words as F
 use Rattle.c_shapes.specs.Mentions.{Callee, Direct, Through, Calls, mentions_of_program}
 use Rattle.c_shapes.specs.CallGraph.{callees, candidates, called_where, is_marked, marked, marked_where, reaches}
 use Rattle.c_shapes.specs.ShapeOf.{system_call as system_shape, marked_call, direct_call, shape_of_function, place_of, candidate_places, shapes_of}
-use Rattle.c_meaning.specs.Meaning.{Marks, World, instrumented_unit, called, call_undefined, called_through, system_call_alone, null_call}
+use Rattle.c_meaning.specs.Meaning.{Marks, World, with_marks, called, call_undefined, called_through, system_call_alone, null_call}
 use Rattle.c_meaning.specs.Pointers.{callee}
 use Rattle.c_meaning.specs.Results.{State, Result, Go, Stop, after, then_do, answered, remembered}
 use Rattle.c_meaning.specs.SystemCalls.{Request, request, filled_where, result_value, does_answer, with_records, take_record, exit_call, exit_with, system_call}
@@ -61,7 +61,7 @@ module _ (p : Program) (n : ℕ) (right : IsProgram p n) (marks : Marks) (m : F.
   entered_from S (Stop o w) h = h
 
   -- a call at a marked site
-  marked_says : (s f : ℕ) (S : Shape) (r : Result Value) → marked p s ≡ true → Contains (candidate_places p s) f → shape_of env f ≡ S → Entered S r → Says env m keep {A = Value} Straight (Call s) (instrumented_unit marks s r)
+  marked_says : (s f : ℕ) (S : Shape) (r : Result Value) → marked p s ≡ true → Contains (candidate_places p s) f → shape_of env f ≡ S → Entered S r → Says env m keep {A = Value} Straight (Call s) (with_marks marks s r)
   marked_says s f S (Go v st w) e among is h =
       λ u. let d = h (told keep ((marks s).1) ++ u) in
       F.call among (split keep ((marks s).0) (w ++ (marks s).1) u ∙ (ap (λ z. z ++ (told keep (w ++ (marks s).1) ++ u)) (ties.before s e) ∙ ap (λ z. m.pre s ++ z) (split keep w ((marks s).1) u))) (subst (λ T. Whole env m T d.0 (told keep w ++ (told keep ((marks s).1) ++ u)) (told keep ((marks s).1) ++ u)) (sym is) d.2) d.1 (ap (λ z. z ++ u) (ties.behind s e))
@@ -69,7 +69,7 @@ module _ (p : Program) (n : ℕ) (right : IsProgram p n) (marks : Marks) (m : F.
       λ u. F.inside among (split keep ((marks s).0) w u ∙ ap (λ z. z ++ (told keep w ++ u)) (ties.before s e)) (subst (λ T. Front env m T (told keep w ++ u) u) (sym is) (h u))
 
   -- a call at another site
-  plain_says : (s : ℕ) (S : Shape) (r : Result Value) → marked p s ≡ false → Says env m keep {A = Value} Straight S r → Says env m keep {A = Value} Straight S (instrumented_unit marks s r)
+  plain_says : (s : ℕ) (S : Shape) (r : Result Value) → marked p s ≡ false → Says env m keep {A = Value} Straight S r → Says env m keep {A = Value} Straight S (with_marks marks s r)
   plain_says s S (Go v st w) e h =
       λ u. subst (λ z. Whole env m S goes_on z u) (sym (split keep ((marks s).0) (w ++ (marks s).1) u ∙ (ap (λ z. z ++ (told keep (w ++ (marks s).1) ++ u)) (ties.none_before s e) ∙ (split keep w ((marks s).1) u ∙ ap (λ z. told keep w ++ (z ++ u)) (ties.none_behind s e))))) (h u)
   plain_says s S (Stop o w) e h =
@@ -142,7 +142,7 @@ module _ (p : Program) (n : ℕ) (right : IsProgram p n) (marks : Marks) (m : F.
 
   -- a call of a function by its name
   module _ (w : World) (wanted : Bool) where
-    defined_says : (s f : ℕ) (vs : List Value) (st : State) (g : Function) → Contains (mentions_of_program p) (Calls s (Direct f)) → slice_get p.functions f ≡ Some g → Entered (shape_of_function p g) (w.enter wanted f vs st) → (b : Bool) → is_marked p (Direct f) ≡ b → nat_lt f (defined p) ≡ true → Says env m keep {A = Value} Straight (if b then Call s else Skip) (instrumented_unit marks s (w.enter wanted f vs st))
+    defined_says : (s f : ℕ) (vs : List Value) (st : State) (g : Function) → Contains (mentions_of_program p) (Calls s (Direct f)) → slice_get p.functions f ≡ Some g → Entered (shape_of_function p g) (w.enter wanted f vs st) → (b : Bool) → is_marked p (Direct f) ≡ b → nat_lt f (defined p) ≡ true → Says env m keep {A = Value} Straight (if b then Call s else Skip) (with_marks marks s (w.enter wanted f vs st))
     defined_says s f vs st g k is h true e lt =
         marked_says s (place_of p f) (shape_of_function p g) (w.enter wanted f vs st) (mark_at s (Direct f) k ∙ e) (candidate s (Direct f) f k e (is_first f [])) (shape_defined p f g is) h
     defined_says s f vs st g k is h false e lt =
@@ -164,10 +164,10 @@ module _ (p : Program) (n : ℕ) (right : IsProgram p n) (marks : Marks) (m : F.
         at false e =
             null_at Pre 24 (nat_eq (f - defined p) 24) refl (ties.null_pre s f k) _ (null_at Post 25 (nat_eq (f - defined p) 25) refl (ties.null_post s f k) _ (λ u. F.nothing))
 
-    pub called_says : (s f : ℕ) (t : CType) (ts : CTypes) (vars : List CType) (es : Exprs) (vs : List Value) (st : State) → Contains (mentions_of_program p) (Calls s (Direct f)) → called_type p f ≡ Some (function t ts) → AreArguments p vars ts es → AreConstants es vs → ((g : Function) → slice_get p.functions f ≡ Some g → g.ctype ≡ function t ts → Entered (shape_of_function p g) (w.enter wanted f vs st)) → Says env m keep {A = Value} Straight (direct_call p s f es) (instrumented_unit marks s (called p w wanted f vs st))
+    pub called_says : (s f : ℕ) (t : CType) (ts : CTypes) (vars : List CType) (es : Exprs) (vs : List Value) (st : State) → Contains (mentions_of_program p) (Calls s (Direct f)) → called_type p f ≡ Some (function t ts) → AreArguments p vars ts es → AreConstants es vs → ((g : Function) → slice_get p.functions f ≡ Some g → g.ctype ≡ function t ts → Entered (shape_of_function p g) (w.enter wanted f vs st)) → Says env m keep {A = Value} Straight (direct_call p s f es) (with_marks marks s (called p w wanted f vs st))
     called_says s f t ts vars es vs st k type args told_of enters = at (nat_lt f (defined p)) refl
       where
-        at : (b : Bool) → nat_lt f (defined p) ≡ b → Says env m keep {A = Value} Straight (if b then marked_call p s (Direct f) else (if nat_lt (f - defined p) 24 then system_shape (f - defined p) (pattern_of (f - defined p) es) else Skip)) (instrumented_unit marks s (if b then w.enter wanted f vs st else call_undefined (f - defined p) vs st))
+        at : (b : Bool) → nat_lt f (defined p) ≡ b → Says env m keep {A = Value} Straight (if b then marked_call p s (Direct f) else (if nat_lt (f - defined p) 24 then system_shape (f - defined p) (pattern_of (f - defined p) es) else Skip)) (with_marks marks s (if b then w.enter wanted f vs st else call_undefined (f - defined p) vs st))
         at true e =
             let r = called_defined p f (function t ts) type (below f (defined p) e) in
             defined_says s f vs st r.0 k r.1 (enters r.0 r.1 r.2) (is_marked p (Direct f)) refl e
@@ -207,7 +207,7 @@ module _ (p : Program) (n : ℕ) (right : IsProgram p n) (marks : Marks) (m : F.
               let le = not_below f (defined p) e in
               absurd (false≢true (sym never ∙ system_reaches p f le ((system_taken p (pointer t) f among le).0)))
 
-      marked_through : (v : Value) (a : Answer ℕ) → callee v ≡ a → ((f : ℕ) → callee v ≡ gives f → Contains (callees p (Through (pointer t))) f) → is_marked p (Through (pointer t)) ≡ true → Says env m keep {A = Value} Straight (Call s) (instrumented_unit marks s (then_do (answered a st) (λ f st. called_through p w wanted f vs st)))
+      marked_through : (v : Value) (a : Answer ℕ) → callee v ≡ a → ((f : ℕ) → callee v ≡ gives f → Contains (callees p (Through (pointer t))) f) → is_marked p (Through (pointer t)) ≡ true → Says env m keep {A = Value} Straight (Call s) (with_marks marks s (then_do (answered a st) (λ f st. called_through p w wanted f vs st)))
       marked_through v (gives f) e among mark =
           marked_says s (place_of p f) (shape_of env (place_of p f)) (after [] (called_through p w wanted f vs st)) (mark_at s (Through (pointer t)) k ∙ mark) (candidate s (Through (pointer t)) f k mark (among f e)) refl (after_none keep {A = Value} Straight (λ y t u. Done (shape_of env (place_of p f)) t u) (Front env m (shape_of env (place_of p f))) (called_through p w wanted f vs st) (candidate_says f (among f e)))
       marked_through v (undefined kind) e among mark =
@@ -219,11 +219,11 @@ module _ (p : Program) (n : ℕ) (right : IsProgram p n) (marks : Marks) (m : F.
           after_none keep {A = Value} Straight (Whole env m Skip) (Front env m Skip) (called_through p w wanted f vs st) (hushed_says f (among f e) (none_passes (λ f. reaches p f) (callees p (Through (pointer t))) mark f (among f e)))
       hushed_through v (undefined kind) e among mark = λ u. F.nothing
 
-      pub through_says : (v : Value) → ((f : ℕ) → callee v ≡ gives f → Contains (callees p (Through (pointer t))) f) → Says env m keep {A = Value} Straight (marked_call p s (Through (pointer t))) (instrumented_unit marks s (ThroughCall vs v st))
+      pub through_says : (v : Value) → ((f : ℕ) → callee v ≡ gives f → Contains (callees p (Through (pointer t))) f) → Says env m keep {A = Value} Straight (marked_call p s (Through (pointer t))) (with_marks marks s (ThroughCall vs v st))
       through_says v among =
-          if_has (λ S. Says env m keep {A = Value} Straight S (instrumented_unit marks s (ThroughCall vs v st))) (is_marked p (Through (pointer t))) (Call s) Skip (λ mark. marked_through v (callee v) refl among mark) (λ mark. plain_says s Skip (ThroughCall vs v st) (mark_at s (Through (pointer t)) k ∙ mark) (hushed_through v (callee v) refl among mark))
+          if_has (λ S. Says env m keep {A = Value} Straight S (with_marks marks s (ThroughCall vs v st))) (is_marked p (Through (pointer t))) (Call s) Skip (λ mark. marked_through v (callee v) refl among mark) (λ mark. plain_says s Skip (ThroughCall vs v st) (mark_at s (Through (pointer t)) k ∙ mark) (hushed_through v (callee v) refl among mark))
 
     -- the same for a type that is equal
-    pub through_at : (ty : CType) (s : ℕ) (t : CType) (vs : List Value) (st : State) (v : Value) → ty ≡ pointer t → Contains (mentions_of_program p) (Calls s (Through ty)) → ((f : ℕ) (g : Function) → slice_get p.functions f ≡ Some g → g.ctype ≡ t → Entered (shape_of_function p g) (w.enter wanted f vs st)) → ((f : ℕ) → callee v ≡ gives f → Contains (callees p (Through ty)) f) → Says env m keep {A = Value} Straight (marked_call p s (Through ty)) (instrumented_unit marks s (ThroughCall vs v st))
+    pub through_at : (ty : CType) (s : ℕ) (t : CType) (vs : List Value) (st : State) (v : Value) → ty ≡ pointer t → Contains (mentions_of_program p) (Calls s (Through ty)) → ((f : ℕ) (g : Function) → slice_get p.functions f ≡ Some g → g.ctype ≡ t → Entered (shape_of_function p g) (w.enter wanted f vs st)) → ((f : ℕ) → callee v ≡ gives f → Contains (callees p (Through ty)) f) → Says env m keep {A = Value} Straight (marked_call p s (Through ty)) (with_marks marks s (ThroughCall vs v st))
     through_at ty s t vs st v e =
-        subst (λ ty. Contains (mentions_of_program p) (Calls s (Through ty)) → ((f : ℕ) (g : Function) → slice_get p.functions f ≡ Some g → g.ctype ≡ t → Entered (shape_of_function p g) (w.enter wanted f vs st)) → ((f : ℕ) → callee v ≡ gives f → Contains (callees p (Through ty)) f) → Says env m keep {A = Value} Straight (marked_call p s (Through ty)) (instrumented_unit marks s (ThroughCall vs v st))) (sym e) (λ k enters among. through_says s t vs st k enters v among)
+        subst (λ ty. Contains (mentions_of_program p) (Calls s (Through ty)) → ((f : ℕ) (g : Function) → slice_get p.functions f ≡ Some g → g.ctype ≡ t → Entered (shape_of_function p g) (w.enter wanted f vs st)) → ((f : ℕ) → callee v ≡ gives f → Contains (callees p (Through ty)) f) → Says env m keep {A = Value} Straight (marked_call p s (Through ty)) (with_marks marks s (ThroughCall vs v st))) (sym e) (λ k enters among. through_says s t vs st k enters v among)

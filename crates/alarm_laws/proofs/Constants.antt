@@ -28,7 +28,7 @@ use Rattle.c_tree.specs.Operators.{Answer, gives, undefined, and_then, truth, co
 use Rattle.c_tree.specs.OperatorTypes.{IsAnswer, IsGiven}
 use Rattle.c_tree.specs.Kinds.{IsConstant}
 use Rattle.c_tree.specs.Typed.{IsValue, AreArguments}
-use Rattle.c_tree.specs.Constants.{given, typed_expression_of, given_of_two, constant_value, number_in, entry, entries, recorded_arguments, pattern_of}
+use Rattle.c_tree.specs.Constants.{given, given_of, given_of_two, constant_value, number_in, entry, entries, recorded_arguments, pattern_of}
 use Rattle.c_tree.proofs.OperatorLemmas.{converted, arithmetic_fits, below_32}
 use Rattle.c_shapes.specs.CallGraph.{same_type}
 use Rattle.c_shapes.proofs.SameTypes.{types_tell}
@@ -56,7 +56,7 @@ given_is : {A : Type 0} (x : Answer A) (a : A) → given x ≡ Some a → x ≡ 
 given_is (gives b) a e = ap gives (same_some b a e)
 given_is (undefined kind) a e = absurd (no_some a e)
 
-given_from : (o : Option Value) (f : Value → Answer Value) (y : Value) → typed_expression_of o f ≡ Some y → (x : Value) × (o ≡ Some x) × (f x ≡ gives y)
+given_from : (o : Option Value) (f : Value → Answer Value) (y : Value) → given_of o f ≡ Some y → (x : Value) × (o ≡ Some x) × (f x ≡ gives y)
 given_from None f y e = absurd (no_some y e)
 given_from (Some x) f y e = (x, refl, given_is (f x) y e)
 
@@ -235,7 +235,7 @@ unsigned_at as_arg read is (Func f) h = absurd h
 unsigned_at as_arg read is (At q) h = absurd h
 
 -- an entry that is no number, or that of a constant
-at_constant : {A : Type 0} (to : IntType) (as_arg : A → Arg) (read : Value → Answer A) (o : Option Value) (v : Value) → IsOf o (integer to) v → ((y : Value) → IsConstant (integer to) y → IfGives (λ a. EntryFits (number_in (given (convert to y))) (as_arg a)) (read y)) → IfGives (λ a. EntryFits (number_in (typed_expression_of o (convert to))) (as_arg a)) (read v)
+at_constant : {A : Type 0} (to : IntType) (as_arg : A → Arg) (read : Value → Answer A) (o : Option Value) (v : Value) → IsOf o (integer to) v → ((y : Value) → IsConstant (integer to) y → IfGives (λ a. EntryFits (number_in (given (convert to y))) (as_arg a)) (read y)) → IfGives (λ a. EntryFits (number_in (given_of o (convert to))) (as_arg a)) (read v)
 at_constant {A = A} to as_arg read None v h k = if_any {A = A} (λ a. Unit {0}) (read v) (λ a. tt)
 at_constant to as_arg read (Some y) v h k =
     let r = h y refl in

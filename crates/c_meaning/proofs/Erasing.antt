@@ -4,7 +4,7 @@ use Rattle.dm_base.specs.declared.event.Event.{Event}
 use Rattle.dm_base.specs.declared.event.Event.TheVariants.{Pre, Post, Sys}
 use Rattle.dm_base.specs.Trace.{erase, output, written_by}
 use Rattle.c_tree.specs.declared.value.Value.{Value}
-use Rattle.c_meaning.specs.Meaning.{Marks, either, instrumented_unit, tested}
+use Rattle.c_meaning.specs.Meaning.{Marks, either, with_marks, tested}
 use Rattle.c_meaning.specs.Results.{State, Result, Go, Stop, after, then_do, spend_at, Exit, on, broken, continued, returned, on_exit, on_round}
 use Rattle.c_meaning.specs.NullCalls.{AreNullCalls}
 
@@ -55,7 +55,7 @@ pub after_alike : {A : Type 0} (w u : List Event) (r q : Result A) → erase w �
 after_alike {A = A} w u r q e k h =
     bare_after w r ∙ (ap (λ z. after z (bare r)) (e ∙ sym k) ∙ (ap (λ z. after (erase u) z) h ∙ sym (bare_after u q)))
 
-pub instrumented_alike : (m n : Marks) → AreNullCalls m → AreNullCalls n → (site : ℕ) (r q : Result Value) → Alike r q → Alike (instrumented_unit m site r) (instrumented_unit n site q)
+pub instrumented_alike : (m n : Marks) → AreNullCalls m → AreNullCalls n → (site : ℕ) (r q : Result Value) → Alike r q → Alike (with_marks m site r) (with_marks n site q)
 instrumented_alike m n hm hn site r q h =
     after_alike {A = Value} ((m site).0) ((n site).0) (then_do r (λ v st. Go v st ((m site).1))) (then_do q (λ v st. Go v st ((n site).1))) ((hm site).0) ((hn site).0)
     (then_alike {A = Value} {B = Value} r q (λ v st. Go v st ((m site).1)) (λ v st. Go v st ((n site).1)) h (λ v st. ap (λ z. Go v st z) ((hm site).1 ∙ sym ((hn site).1))))

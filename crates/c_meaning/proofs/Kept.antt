@@ -16,7 +16,7 @@ use Rattle.c_values.specs.Answers.{Answer, gives, undefined, U11, U13}
 use Rattle.c_values.specs.Memory.{Objects}
 use Rattle.c_tree.specs.Operators.{convert, binary}
 use Rattle.c_tree.specs.Layout.{cells}
-use Rattle.c_meaning.specs.Meaning.{Marks, Frame, Loop, World, either, instrumented_unit, tested, called, call_undefined, called_through, null_call, wants, eval, eval_each, eval_all, condition, perhaps, initialise, fresh, leaving, declared_in, exec, exec_all, exec_from, selected, behind_of, decayed, operated, comparing, moving, updated, name_in}
+use Rattle.c_meaning.specs.Meaning.{Marks, Frame, Loop, World, either, with_marks, tested, called, call_undefined, called_through, null_call, wants, eval, eval_each, eval_all, condition, perhaps, initialise, fresh, leaving, declared_in, exec, exec_all, exec_from, selected, behind_of, decayed, operated, comparing, moving, updated, name_in}
 use Rattle.c_meaning.specs.Pointers.{test, callee, place, load_place, store_place, member, difference}
 use Rattle.c_meaning.specs.Results.{State, with_memory, Result, Go, Stop, after, then_do, spend_at, answered, remembered, Exit, on, broken, continued, returned, on_exit, on_round}
 use Rattle.c_meaning.specs.Runs.{entered, without_value, result_of, enter, loop, world, run_body, beginning}
@@ -55,7 +55,7 @@ module _ (p : Program) (marks : Marks) (I : State → Type 0) (O : Outcome → T
   remembered_holds (gives m) a st i = kept.memory st m i
   remembered_holds (undefined kind) a st i = kept.undefined kind
 
-  instrumented_holds : (site : ℕ) (r : Result Value) → Holds r → Holds (instrumented_unit marks site r)
+  instrumented_holds : (site : ℕ) (r : Result Value) → Holds r → Holds (with_marks marks site r)
   instrumented_holds site r h = after_holds {A = Value} ((marks site).0) (then_do r (λ v st. Go v st ((marks site).1))) (then_holds {A = Value} {B = Value} r (λ v st. Go v st ((marks site).1)) h (λ v st i. i))
 
   either_holds : {A : Type 0} (holds : Bool) (a b : Result A) → Holds a → Holds b → Holds (either holds a b)

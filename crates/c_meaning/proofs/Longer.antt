@@ -11,7 +11,7 @@ use Rattle.c_tree.specs.declared.value.Value.{Value}
 use Rattle.c_tree.specs.declared.value.Value.TheVariants.{Indeterminate, Int, Uint, Char, Uchar, Null, Func, At}
 use Rattle.c_values.specs.Answers.{Answer, gives, undefined}
 use Rattle.c_values.specs.Memory.{Objects}
-use Rattle.c_meaning.specs.Meaning.{Marks, either, instrumented_unit, tested, null_call}
+use Rattle.c_meaning.specs.Meaning.{Marks, either, with_marks, tested, null_call}
 use Rattle.c_meaning.specs.Pointers.{test}
 use Rattle.c_meaning.specs.Results.{State, Result, Go, Stop, after, then_do, spend_at, answered, remembered, Exit, on, broken, continued, returned, on_exit, on_round}
 use Rattle.c_meaning.specs.Runs.{result_of, without_value}
@@ -86,7 +86,7 @@ module _ (records : List SysResult) (turns : ℕ) (Lack : Outcome → Type 0) (l
   remembered_follows (gives m) a st = inr refl
   remembered_follows (undefined kind) a st = inr refl
 
-  pub instrumented_follows : (marks : Marks) (site : ℕ) (r q : Result Value) → Follows r q → Follows (instrumented_unit marks site r) (instrumented_unit marks site q)
+  pub instrumented_follows : (marks : Marks) (site : ℕ) (r q : Result Value) → Follows r q → Follows (with_marks marks site r) (with_marks marks site q)
   instrumented_follows marks site r q h =
       after_follows {A = Value} ((marks site).0) (then_do r (λ v st. Go v st ((marks site).1))) (then_do q (λ v st. Go v st ((marks site).1)))
       (then_follows {A = Value} {B = Value} r q (λ v st. Go v st ((marks site).1)) (λ v st. Go v st ((marks site).1)) h (λ v st. inr refl))

@@ -13,7 +13,7 @@ use Rattle.c_values.specs.Answers.{Answer, gives, undefined}
 use Rattle.c_values.specs.Memory.{Objects}
 use Rattle.c_tree.specs.Operators.{convert, binary}
 use Rattle.c_tree.specs.Layout.{cells}
-use Rattle.c_meaning.specs.Meaning.{Frame, Loop, World, either, instrumented_unit, tested, called, call_undefined, called_through, null_call, wants, eval, eval_each, eval_all, condition, perhaps, initialise, fresh, leaving, declared_in, exec, exec_all, exec_from, selected, behind_of, decayed, operated, comparing, moving, updated, name_in}
+use Rattle.c_meaning.specs.Meaning.{Frame, Loop, World, either, with_marks, tested, called, call_undefined, called_through, null_call, wants, eval, eval_each, eval_all, condition, perhaps, initialise, fresh, leaving, declared_in, exec, exec_all, exec_from, selected, behind_of, decayed, operated, comparing, moving, updated, name_in}
 use Rattle.c_meaning.specs.Pointers.{test, callee, place, load_place, store_place, member, difference}
 use Rattle.c_meaning.specs.Results.{State, Result, Go, Stop, after, then_do, spend_at, answered, remembered, Exit, on, broken, continued, returned, on_exit, on_round}
 use Rattle.c_meaning.specs.Runs.{entered, without_value, result_of, enter, loop, world, run_body, beginning}
@@ -55,7 +55,7 @@ remembered_plain : {A : Type 0} (x : Answer Objects) (a : A) (st : State) → Pl
 remembered_plain (gives m) a st = refl
 remembered_plain (undefined kind) a st = refl
 
-instrumented_plain : (site : ℕ) (r : Result Value) → Plain r → Plain (instrumented_unit no_marks site r)
+instrumented_plain : (site : ℕ) (r : Result Value) → Plain r → Plain (with_marks no_marks site r)
 instrumented_plain site r h = after_plain {A = Value} [] (then_do r (λ v st. Go v st [])) refl (then_plain {A = Value} {B = Value} r (λ v st. Go v st []) h (λ v st. refl))
 
 either_plain : {A : Type 0} (holds : Bool) (a b : Result A) → Plain a → Plain b → Plain (either holds a b)

@@ -110,8 +110,8 @@ updated op (pointer t) u m before v = moved m (is_subtraction op) before v
 updated op t u m before v = undefined U13
 
 -- a call, with the events that stand before and after it
-abbrev pub instrumented_unit : Marks → ℕ → Result Value → Result Value
-instrumented_unit marks site r = after ((marks site).0) (then_do r (λ v st. Go v st ((marks site).1)))
+abbrev pub with_marks : Marks → ℕ → Result Value → Result Value
+with_marks marks site r = after ((marks site).0) (then_do r (λ v st. Go v st ((marks site).1)))
 
 -- a function without a value owes none
 abbrev pub wants : Bool → CType → Bool
@@ -185,10 +185,10 @@ module _ (p : Program) (w : World) (marks : Marks) (fr : Frame) where
     eval wanted (conditional t c a b) st = then_do (tested (eval true c st)) (λ holds st. either holds (eval true a st) (eval true b st))
     eval wanted (comma t es) st = eval_each wanted es st
     eval wanted (call t site f args) st =
-        then_do (eval_all args st) (λ vs st. instrumented_unit marks site (called p w (wants wanted t) f vs st))
+        then_do (eval_all args st) (λ vs st. with_marks marks site (called p w (wants wanted t) f vs st))
     eval wanted (call_through t site designator args) st =
         then_do (eval true designator st) (λ v st. then_do (eval_all args st) (λ vs st.
-        instrumented_unit marks site (then_do (answered (callee v) st) (λ f st. called_through p w (wants wanted t) f vs st))))
+        with_marks marks site (then_do (answered (callee v) st) (λ f st. called_through p w (wants wanted t) f vs st))))
 
     -- the members of a comma expression; the last gives the value (6.5.17)
     pub eval_each : Bool → Exprs → State → Result Value

@@ -18,7 +18,7 @@ use Rattle.c_tree.specs.Operators.{convert, binary}
 use Rattle.c_tree.specs.Layout.{cells}
 use Rattle.c_values.specs.Answers.{Answer, gives, undefined}
 use Rattle.c_values.specs.Memory.{Objects}
-use Rattle.c_meaning.specs.Meaning.{Marks, Frame, Loop, World, either, instrumented_unit, tested, called, call_undefined, called_through, null_call, wants, eval, eval_each, eval_all, condition, perhaps, initialise, fresh, leaving, declared_in, exec, exec_all, exec_from, selected, behind_of, decayed, operated, comparing, moving, updated, name_in}
+use Rattle.c_meaning.specs.Meaning.{Marks, Frame, Loop, World, either, with_marks, tested, called, call_undefined, called_through, null_call, wants, eval, eval_each, eval_all, condition, perhaps, initialise, fresh, leaving, declared_in, exec, exec_all, exec_from, selected, behind_of, decayed, operated, comparing, moving, updated, name_in}
 use Rattle.c_meaning.specs.Pointers.{test, callee, place, load_place, store_place, member, difference}
 use Rattle.c_meaning.specs.Results.{State, Result, Go, Stop, after, then_do, spend_at, answered, remembered, Exit, on, broken, continued, returned, on_exit, on_round}
 use Rattle.c_meaning.specs.Runs.{entered, without_value, result_of, enter, loop, world, run_body}
@@ -67,7 +67,7 @@ module _ (p : Program) (marks : Marks) (t : ℕ) where
   remembered_agree (gives m) a st i = (refl, i)
   remembered_agree (undefined kind) a st i = (refl, tt)
 
-  instrumented_agree : (site : ℕ) (r q : Result Value) → Agree r q → Agree (instrumented_unit marks site r) (instrumented_unit marks site q)
+  instrumented_agree : (site : ℕ) (r q : Result Value) → Agree r q → Agree (with_marks marks site r) (with_marks marks site q)
   instrumented_agree site r q h =
       after_agree {A = Value} ((marks site).0) (then_do r (λ v st. Go v st ((marks site).1))) (then_do q (λ v st. Go v st ((marks site).1))) (then_agree {A = Value} {B = Value} r q (λ v st. Go v st ((marks site).1)) (λ v st. Go v st ((marks site).1)) h (λ v st i. (refl, i)))
 

@@ -27,7 +27,7 @@ use Rattle.c_tree.specs.Typed.{IsStaticOf, IsVariableOf, IsValue, IsPlace, AreMe
 use Rattle.c_values.specs.Memory.{declared}
 use Rattle.c_values.specs.Memory.{Objects as Memory}
 use Rattle.c_shapes.specs.Mentions.{Calls, Direct, Through, mentions, mentions_of_all, mentions_of_maybe, mentions_of_inits, mentions_of_stmt, mentions_of_stmts, mentions_of_groups}
-use Rattle.c_meaning.specs.Meaning.{Marks, Frame, World, either, static_name, name_in, behind_of, decayed, operated, comparing, moving, updated, instrumented_unit, wants, null_call, call_undefined, called, system_call_alone, called_through, tested, eval, eval_each, eval_all, condition, perhaps, initialise, fresh, declared_in, without, leaving, selected, exec, exec_all, exec_from}
+use Rattle.c_meaning.specs.Meaning.{Marks, Frame, World, either, static_name, name_in, behind_of, decayed, operated, comparing, moving, updated, with_marks, wants, null_call, call_undefined, called, system_call_alone, called_through, tested, eval, eval_each, eval_all, condition, perhaps, initialise, fresh, declared_in, without, leaving, selected, exec, exec_all, exec_from}
 use Rattle.c_meaning.specs.Pointers.{callee, truth_value, place, load_place, store_place, member, difference, test}
 use Rattle.c_meaning.specs.Results.{remembered, State, with_memory, Result, Go, Stop, then_do, answered, Exit, on, broken, continued, returned, out_of_switch}
 use Rattle.c_meaning.specs.SystemCalls.{system_call}
@@ -131,7 +131,7 @@ module _ (p : Program) (n : ℕ) (typed : IsProgram p n) (marks : Marks) (record
   tested_ends u o start r h =
       then_ends p {A = Value} {B = Bool} (Kind u) Holds o _ r _ h (λ o v st g i s. answered_ends p {A = Bool} Holds o (test st.memory v) st (test_right p n typed o u v st.memory i) s)
 
-  pub instrumented_ends : (ok : Objects → Value → Type 0) (site : ℕ) (o : Objects) (start : ℕ) (r : Result Value) → EndsTyped p {A = Value} ok o start r → EndsTyped p {A = Value} ok o start (instrumented_unit marks site r)
+  pub instrumented_ends : (ok : Objects → Value → Type 0) (site : ℕ) (o : Objects) (start : ℕ) (r : Result Value) → EndsTyped p {A = Value} ok o start r → EndsTyped p {A = Value} ok o start (with_marks marks site r)
   instrumented_ends ok site o start r h =
       after_ends p {A = Value} ok o start ((marks site).0) (then_do r (λ v st. Go v st ((marks site).1))) (recorded site).0 (then_ends p {A = Value} {B = Value} ok ok o _ r (λ v st. Go v st ((marks site).1)) h (λ o v st g i s. now_after p {A = Value} ok o v st ((marks site).1) i s (recorded site).1))
 

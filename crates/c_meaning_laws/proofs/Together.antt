@@ -17,7 +17,7 @@ use Rattle.c_tree.specs.Operators.{Answer, gives, undefined, and_then}
 use Rattle.c_values.specs.Memory.{Object, same_name, changed, there, element, writable, set_cell, store}
 use Rattle.c_values.specs.Memory.{Objects as Memory}
 use Rattle.c_values.proofs.StoreLemmas.{same_is}
-use Rattle.c_meaning.specs.Meaning.{Marks, either, instrumented_unit, null_call, call_undefined, system_call_alone}
+use Rattle.c_meaning.specs.Meaning.{Marks, either, with_marks, null_call, call_undefined, system_call_alone}
 use Rattle.c_meaning.specs.Pointers.{number, store_place}
 use Rattle.c_meaning.specs.Results.{State, with_memory, Result, Go, Stop, after, then_do, spend_at, answered, remembered, Exit, on, broken, continued, returned, on_exit, on_round}
 use Rattle.c_meaning.specs.SystemCalls.{char_of, room_for, bytes_of_buffer, size, Request, arguments, request, does_answer, result_value, next, filled, filled_where, with_records, take_record, exit_call, exit_with, system_call}
@@ -188,9 +188,9 @@ module _ (known : Objects) (last : ℕ) where
   round_does continued st more f g b h = h
   round_does (returned v) st more f g b h = here {A = Exit} (returned v) st more [] b
 
-  pub instrumented_does : (marks : Marks) (site : ℕ) (more : Memory) (r q : Result Value) → Does {A = Value} more r q → Does {A = Value} more (instrumented_unit marks site r) (instrumented_unit marks site q)
-  instrumented_does marks site more (Go v st w) q h = (h.0, ap (instrumented_unit marks site) h.1, h.2, h.3)
-  instrumented_does marks site more (Stop e w) q h = ap (instrumented_unit marks site) h
+  pub instrumented_does : (marks : Marks) (site : ℕ) (more : Memory) (r q : Result Value) → Does {A = Value} more r q → Does {A = Value} more (with_marks marks site r) (with_marks marks site q)
+  instrumented_does marks site more (Go v st w) q h = (h.0, ap (with_marks marks site) h.1, h.2, h.3)
+  instrumented_does marks site more (Stop e w) q h = ap (with_marks marks site) h
 
   -- ## System calls
 

@@ -11,13 +11,13 @@ use Rattle.c_tree.specs.declared.value.Value.{Value}
 use Rattle.c_tree.specs.declared.value.Value.TheVariants as v
 use Rattle.c_tree.specs.Tree.{Expr, Exprs, no_exprs, more_exprs}
 use Rattle.c_tree.specs.Operators.{low_bits, convert}
-use Rattle.c_tree.specs.Constants.{typed_expression_of, constant_value, number_in, entry, entries, recorded_arguments, pattern_of}
+use Rattle.c_tree.specs.Constants.{given_of, constant_value, number_in, entry, entries, recorded_arguments, pattern_of}
 use Rattle.c_tree.proofs.OperatorLemmas.{below_32}
 
 in_range : (n : ℕ) → n < 4294967296 → FitsUnsigned w32 (pos n)
 in_range n h = grind (arith, ints, h)
 
-signed_fits : (x : Option Value) → FitsEntry Signed (number_in (typed_expression_of x (convert Int)))
+signed_fits : (x : Option Value) → FitsEntry Signed (number_in (given_of x (convert Int)))
 signed_fits None = tt
 signed_fits (Some v.Indeterminate) = tt
 signed_fits (Some (v.Int z)) = SFits-int_wrap w32 z
@@ -28,7 +28,7 @@ signed_fits (Some v.Null) = tt
 signed_fits (Some (v.Func f)) = tt
 signed_fits (Some (v.At q)) = tt
 
-unsigned_fits : (x : Option Value) → FitsEntry Unsigned (number_in (typed_expression_of x (convert Uint)))
+unsigned_fits : (x : Option Value) → FitsEntry Unsigned (number_in (given_of x (convert Uint)))
 unsigned_fits None = tt
 unsigned_fits (Some v.Indeterminate) = tt
 unsigned_fits (Some (v.Int z)) = in_range (low_bits 32 z) (below_32 z)

@@ -15,9 +15,9 @@ abbrev pub given : {A : Type 0} → Answer A → Option A
 given (gives a) = Some a
 given (undefined kind) = None
 
-abbrev pub typed_expression_of : Option Value → (Value → Answer Value) → Option Value
-typed_expression_of None f = None
-typed_expression_of (Some x) f = given (f x)
+abbrev pub given_of : Option Value → (Value → Answer Value) → Option Value
+given_of None f = None
+given_of (Some x) f = given (f x)
 
 abbrev pub given_of_two : Option Value → Option Value → (Value → Value → Answer Value) → Option Value
 given_of_two None y f = None
@@ -27,8 +27,8 @@ given_of_two (Some x) (Some y) f = given (f x y)
 -- the value of a constant expression: a constant, or a conversion, a unary operator or arithmetic on such where its value is defined
 abbrev pub constant_value : Expr → Option Value
 constant_value (constant t x) = Some x
-constant_value (conversion t to a) = typed_expression_of (constant_value a) (convert to)
-constant_value (unary_operation t op a) = typed_expression_of (constant_value a) (unary op)
+constant_value (conversion t to a) = given_of (constant_value a) (convert to)
+constant_value (unary_operation t op a) = given_of (constant_value a) (unary op)
 constant_value (arithmetic t op a b) = given_of_two (constant_value a) (constant_value b) (binary op)
 constant_value _ = None
 
@@ -41,7 +41,7 @@ number_in (Some _) = None
 
 -- the number that a constant argument has in the parameter's type
 abbrev pub number_as : IntType → Expr → Option ℤ
-number_as t e = number_in (typed_expression_of (constant_value e) (convert t))
+number_as t e = number_in (given_of (constant_value e) (convert t))
 
 -- the entry of a recorded argument: the number of a constant integer
 abbrev pub entry : ArgKind → Expr → Option ℤ

@@ -8,7 +8,7 @@ use Rattle.flow_model.specs.declared.records.SysEdge.{SysEdge}
 use Rattle.flow_model.specs.Graph.{Graph}
 use Rattle.flow_model.specs.Order.{silent_order, sys_order}
 use Rattle.flow_model.proofs.OrderLemmas.{silent_order_total, sys_order_total}
-use Rattle.inline_model_laws.specs.Copies.{Opened, function_of, opened_order, node_count, AreOpenings, Copies, Branches}
+use Rattle.inline_model_laws.specs.Copies.{Opened, function_of, opened_order, node_count, AreOpenings, Copies, Branches, AreCopies}
 use Rattle.inline_model_laws.specs.Copies.Copies.{unfolds}
 use Rattle.inline_model_laws.specs.Copies.Branches.{over, branch}
 use Rattle.inline_model_laws.specs.Inlined.{HasInlinedSilent, HasInlinedSys, IsInlined}
@@ -55,3 +55,7 @@ one_inlined g m n one two =
     (λ (z : SysEdge) has. (one.sys z.from z.name z.args z.to).1 (subst (λ cs. HasInlinedSys g cs z.from z.name z.args z.to) (sym copies) ((two.sys z.from z.name z.args z.to).0 has))) in
     let calls : m.calls ≡ n.calls = one.calls ∙ sym two.calls in
     λ i. record { nodes = nodes i; start = start i; functions = functions i; silent = silent i; sys = sys i; calls = calls i }
+
+-- two lists of all copies are one
+pub one_list : {g : Graph} {xs ys : List (List Opened)} → AreCopies g xs → AreCopies g ys → xs ≡ ys
+one_list one two = same_copies one two refl refl

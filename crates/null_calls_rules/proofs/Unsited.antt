@@ -15,7 +15,7 @@ use Rattle.c_tree.specs.Layout.{cells}
 use Rattle.c_tree.specs.Functions.{defined}
 use Rattle.c_tree.specs.Operators.{convert, binary}
 use Rattle.c_meaning.specs.Pointers.{callee, truth_value, place, load_place, store_place, member, difference}
-use Rattle.c_meaning.specs.Meaning.{Frame, Loop, World, either, name_in, behind_of, decayed, operated, comparing, moving, updated, instrumented_unit, wants, call_undefined, called, system_call_alone, called_through, tested, eval, eval_each, eval_all, condition, perhaps, initialise, fresh, declared_by, declared_in, leaving, group_with, is_case, is_default, count_groups, or_else, selected, exec, exec_all, exec_from, without}
+use Rattle.c_meaning.specs.Meaning.{Frame, Loop, World, either, name_in, behind_of, decayed, operated, comparing, moving, updated, with_marks, wants, call_undefined, called, system_call_alone, called_through, tested, eval, eval_each, eval_all, condition, perhaps, initialise, fresh, declared_by, declared_in, leaving, group_with, is_case, is_default, count_groups, or_else, selected, exec, exec_all, exec_from, without}
 use Rattle.c_meaning.specs.Results.{State, with_memory, Go, then_do, answered, remembered, spend, on, returned, on_exit, on_round, out_of_switch}
 use Rattle.c_meaning.specs.Runs.{no_marks, entered, parameters, result_of, run_body, enter, loop, world, beginning, ending, run}
 use Rattle.null_calls_rules.specs.IsWithNullCalls.{IsWithNullCalls}
@@ -137,10 +137,10 @@ module _ (p : Program) (v w : World) (same : Same v w) (fr : Frame) where
         λ i. then_do (tested (value_same true c st i)) (λ holds st. either holds (value_same true a st i) (value_same true b st i))
     value_same wanted (comma t es) st = members_same wanted es st
     value_same wanted (call t site f es) st =
-        λ i. then_do (arguments_same es st i) (λ vs st. instrumented_unit no_marks site (called_same p v w same (wants wanted t) f vs st i))
+        λ i. then_do (arguments_same es st i) (λ vs st. with_marks no_marks site (called_same p v w same (wants wanted t) f vs st i))
     value_same wanted (call_through t site d es) st =
         λ i. then_do (value_same true d st i) (λ u st. then_do (arguments_same es st i) (λ vs st.
-        instrumented_unit no_marks site (then_do (answered (callee u) st) (λ f st. through_same p v w same (wants wanted t) f vs st i))))
+        with_marks no_marks site (then_do (answered (callee u) st) (λ f st. through_same p v w same (wants wanted t) f vs st i))))
 
     members_same : (wanted : Bool) (es : Exprs) (st : State) → eval_each (without_sites p) v no_marks fr wanted (unsited_all es) st ≡ eval_each p w no_marks fr wanted es st
     members_same wanted no_exprs st = refl

@@ -15,7 +15,7 @@ use Rattle.c_tree.specs.Typed.{IsValue, IsPlace, AreMembers, AreArguments, IsCon
 use Rattle.c_values.specs.Memory.{Objects as Memory}
 use Rattle.c_shapes.specs.Mentions.{Calls, Direct, Through, mentions, mentions_of_all}
 use Rattle.c_shapes.specs.CallGraph.{is_marked}
-use Rattle.c_meaning.specs.Meaning.{Frame, World, name_in, either, behind_of, decayed, operated, comparing, moving, updated, instrumented_unit, wants, called, called_through, tested, eval, eval_each, eval_all}
+use Rattle.c_meaning.specs.Meaning.{Frame, World, name_in, either, behind_of, decayed, operated, comparing, moving, updated, with_marks, wants, called, called_through, tested, eval, eval_each, eval_all}
 use Rattle.c_meaning.specs.Pointers.{callee, truth_value, load_place, store_place, member, difference, test}
 use Rattle.c_meaning.specs.Results.{State, with_memory, Result, Go, after, then_do, answered, remembered}
 use Rattle.c_meaning.specs.Runs.{no_marks}
@@ -66,7 +66,7 @@ result_one : (wanted : Bool) (t : CType) → is_kept wanted t ≡ true → lengt
 result_one wanted t e = ap (λ b. length (if b then t ∷ [] else [])) e
 
 -- no events round a call
-plain_calls : (site : ℕ) (k : ℕ) (r q : Result Value) (known : Objects) (fr : Frame) (limit : ℕ) (more : Memory) → Does known fr limit {A = Value} true k more r q → Does known fr limit {A = Value} true k more (instrumented_unit no_marks site r) (instrumented_unit no_marks 0 q)
+plain_calls : (site : ℕ) (k : ℕ) (r q : Result Value) (known : Objects) (fr : Frame) (limit : ℕ) (more : Memory) → Does known fr limit {A = Value} true k more r q → Does known fr limit {A = Value} true k more (with_marks no_marks site r) (with_marks no_marks 0 q)
 plain_calls site k r q known fr limit more h =
     after_does known fr limit {A = Value} true k more [] (then_do r (λ v st. Go v st [])) (then_do q (λ v st. Go v st [])) (subst (λ c. Does known fr limit {A = Value} true k more c (then_do q (λ v st. Go v st []))) (sym (then_go {A = Value} r)) (subst (λ c. Does known fr limit {A = Value} true k more r c) (sym (then_go {A = Value} q)) h))
 
@@ -166,17 +166,17 @@ module _ (p : Program) (n : ℕ) (typed : IsProgram p n) (w w' : World) (goes : 
   -- a call that isn't marked
   direct_plain : (k : ℕ) (wanted : Bool) (t : CType) (site f : ℕ) (es : Exprs) (o : Objects) (st : State) (more : Memory) → IsTypedFrame p o fr → (ts : CTypes) → called_type p f ≡ Some (function t ts) → AreArguments p fr.types ts es → StandsIn p (mentions (call t site f es)) → is_marked p (Direct f) ≡ false → At o st more → Do {A = List Value} true k more (PlainAll es st) (OtherAll (arguments p k es) (with_memory st more)) → Do {A = Value} wanted k more (Plain wanted (call t site f es) st) (Other wanted (call t 0 f (arguments p k es)) (with_memory st more))
   direct_plain k wanted t site f es o st more s ts e h m b a d =
-      loose known fr limit {A = Value} wanted k more _ _ (then_same known fr limit p {A = List Value} {B = Value} true k (GiveAll p (list_of ts)) o st more _ _ _ _ a (all_end p n typed (null_calls_of p) (null_calls_recorded p) w goes fr ts es o st s h (right_part p (Calls site (Direct f) ∷ []) (mentions_of_all es) m) a.now.state) d (λ u vs st l g z a. subst (λ c. Do {A = Value} true k l (after (c.0) (then_do (called p w (wants wanted t) f vs st) (λ v st. Go v st (c.1)))) (instrumented_unit no_marks 0 (called (instrumented_program p) w' (wants wanted t) f vs (with_memory st l)))) (sym (marks_at p n typed site (Direct f) false (left_part p (Calls site (Direct f) ∷ []) (mentions_of_all es) m) b)) (plain_calls site k _ _ known fr limit l (lift known fr limit {A = Value} k l _ _ untold (direct_alike wanted t f ts u vs st l e (on_frame o u g s) z a) a.ready))))
+      loose known fr limit {A = Value} wanted k more _ _ (then_same known fr limit p {A = List Value} {B = Value} true k (GiveAll p (list_of ts)) o st more _ _ _ _ a (all_end p n typed (null_calls_of p) (null_calls_recorded p) w goes fr ts es o st s h (right_part p (Calls site (Direct f) ∷ []) (mentions_of_all es) m) a.now.state) d (λ u vs st l g z a. subst (λ c. Do {A = Value} true k l (after (c.0) (then_do (called p w (wants wanted t) f vs st) (λ v st. Go v st (c.1)))) (with_marks no_marks 0 (called (instrumented_program p) w' (wants wanted t) f vs (with_memory st l)))) (sym (marks_at p n typed site (Direct f) false (left_part p (Calls site (Direct f) ∷ []) (mentions_of_all es) m) b)) (plain_calls site k _ _ known fr limit l (lift known fr limit {A = Value} k l _ _ untold (direct_alike wanted t f ts u vs st l e (on_frame o u g s) z a) a.ready))))
 
   -- the call of the kept arguments
   direct_there : (k : ℕ) (wanted : Bool) (t : CType) (f : ℕ) (ts : List CType) (vs : List Value) (st : State) (l : Memory) → AreKept l fr k ts vs → Other (is_kept wanted t) (call t 0 f (kept_values k ts)) (with_memory st l) ≡ called (instrumented_program p) w' (wants wanted t) f vs (with_memory st l)
   direct_there k wanted t f ts vs st l kept =
-      ap (λ c. then_do c (λ vs st. instrumented_unit no_marks 0 (called (instrumented_program p) w' (wants (is_kept wanted t) t) f vs st))) (kept_are_given (instrumented_program p) w' no_marks (record { activation = fr.activation; types = wide }) k ts vs (with_memory st l) kept) ∙ (after_none {A = Value} _ ∙ (after_none {A = Value} _ ∙ (then_go {A = Value} _ ∙ ap (λ b. called (instrumented_program p) w' b f vs (with_memory st l)) (wants_kept wanted t))))
+      ap (λ c. then_do c (λ vs st. with_marks no_marks 0 (called (instrumented_program p) w' (wants (is_kept wanted t) t) f vs st))) (kept_are_given (instrumented_program p) w' no_marks (record { activation = fr.activation; types = wide }) k ts vs (with_memory st l) kept) ∙ (after_none {A = Value} _ ∙ (after_none {A = Value} _ ∙ (then_go {A = Value} _ ∙ ap (λ b. called (instrumented_program p) w' b f vs (with_memory st l)) (wants_kept wanted t))))
 
   -- a marked call
   direct_marked : (k : ℕ) (wanted : Bool) (t : CType) (site f : ℕ) (es : Exprs) (o : Objects) (st : State) (more : Memory) → IsTypedFrame p o fr → (ts : CTypes) → called_type p f ≡ Some (function t ts) → StandsIn p (mentions (call t site f es)) → is_marked p (Direct f) ≡ true → length fr.types ≤ k → (is_kept wanted t ≡ true → k + length (list_of ts) < limit) → (j : ℕ) → KeepsAll k k j ts es o st more → Do {A = Value} wanted k more (Plain wanted (call t site f es) st) (OtherEach wanted (keep_all k (list_of ts) (arguments p j es) (Behind wanted site (k + length (list_of ts)) t (call t 0 f (kept_values k (list_of ts))))) (with_memory st more))
   direct_marked k wanted t site f es o st more s ts e m b first less j keeps =
-      keeps wanted wanted (Behind wanted site (k + length (list_of ts)) t (call t 0 f (kept_values k (list_of ts)))) (λ vs st. instrumented_unit (null_calls_of p) site (called p w (wants wanted t) f vs st)) tt (λ u vs st l g z kept stay a. subst (λ c. Do {A = Value} wanted k l (after (c.0) (then_do (called p w (wants wanted t) f vs st) (λ v st. Go v st (c.1)))) (OtherEach wanted (Behind wanted site (k + length (list_of ts)) t (call t 0 f (kept_values k (list_of ts)))) (with_memory st l))) (sym (marks_at p n typed site (Direct f) true (left_part p (Calls site (Direct f) ∷ []) (mentions_of_all es) m) b)) (call_does p w' known fr limit wide untold k (k + length (list_of ts)) wanted site t u st l _ _ (call t 0 f (kept_values k (list_of ts))) (from_here k (length (list_of ts))) less (omega (arith, first)) a (direct_ends wanted t f ts u vs st l e (on_frame o u g s) z a) (direct_alike wanted t f ts u vs st l e (on_frame o u g s) z a) (direct_there k wanted t f (list_of ts) vs st l kept)))
+      keeps wanted wanted (Behind wanted site (k + length (list_of ts)) t (call t 0 f (kept_values k (list_of ts)))) (λ vs st. with_marks (null_calls_of p) site (called p w (wants wanted t) f vs st)) tt (λ u vs st l g z kept stay a. subst (λ c. Do {A = Value} wanted k l (after (c.0) (then_do (called p w (wants wanted t) f vs st) (λ v st. Go v st (c.1)))) (OtherEach wanted (Behind wanted site (k + length (list_of ts)) t (call t 0 f (kept_values k (list_of ts)))) (with_memory st l))) (sym (marks_at p n typed site (Direct f) true (left_part p (Calls site (Direct f) ∷ []) (mentions_of_all es) m) b)) (call_does p w' known fr limit wide untold k (k + length (list_of ts)) wanted site t u st l _ _ (call t 0 f (kept_values k (list_of ts))) (from_here k (length (list_of ts))) less (omega (arith, first)) a (direct_ends wanted t f ts u vs st l e (on_frame o u g s) z a) (direct_alike wanted t f ts u vs st l e (on_frame o u g s) z a) (direct_there k wanted t f (list_of ts) vs st l kept)))
 
   direct_does : (k : ℕ) (wanted : Bool) (t : CType) (site f : ℕ) (es : Exprs) (o : Objects) (st : State) (more : Memory) → IsTypedFrame p o fr → (ts : CTypes) → called_type p f ≡ Some (function t ts) → AreArguments p fr.types ts es → StandsIn p (mentions (call t site f es)) → Room k (kept p wanted (call t site f es)) → At o st more → (Room k (kept_of_all p es) → Do {A = List Value} true k more (PlainAll es st) (OtherAll (arguments p k es) (with_memory st more))) → ((j : ℕ) → k + length (list_of ts) ≤ j → Room j (kept_of_all p es) → KeepsAll k k j ts es o st more) → Do {A = Value} wanted k more (Plain wanted (call t site f es) st) (Other wanted (expr p k wanted (call t site f es)) (with_memory st more))
   direct_does k wanted t site f es o st more s ts e h m room a plain keeps = at (is_marked p (Direct f)) refl room
@@ -236,12 +236,12 @@ module _ (p : Program) (n : ℕ) (typed : IsProgram p n) (w w' : World) (goes : 
   through_plain : (k j : ℕ) (wanted : Bool) (t : CType) (site : ℕ) (d d' : Expr) (es : Exprs) (o : Objects) (st : State) (more : Memory) → k ≤ j → IsTypedFrame p o fr → (ts : CTypes) → type_of d ≡ pointer (function t ts) → IsValue p fr.types d → AreArguments p fr.types ts es → StandsIn p (mentions (call_through t site d es)) → is_marked p (Through (type_of d)) ≡ false → At o st more → Do {A = Value} true k more (Plain true d st) (Other true d' (with_memory st more)) → ((u : Objects) (st : State) (l : Memory) → IsTypedFrame p u fr → At u st l → Do {A = List Value} true j l (PlainAll es st) (OtherAll (arguments p j es) (with_memory st l))) → Do {A = Value} wanted k more (Plain wanted (call_through t site d es) st) (Other wanted (call_through t 0 d' (arguments p j es)) (with_memory st more))
   through_plain k j wanted t site d d' es o st more kj s ts e h h' m b a first others =
       let parts = through_stands site d es m in
-      loose known fr limit {A = Value} wanted k more _ _ (on_value {C = Value} true k d d' o st more _ _ s h (left_part p (mentions d) (Calls site (Through (type_of d)) ∷ mentions_of_all es) m) a first (λ u x st l g given a. then_same known fr limit p {A = List Value} {B = Value} true k (GiveAll p (list_of ts)) u st l _ _ _ _ a (all_end p n typed (null_calls_of p) (null_calls_recorded p) w goes fr ts es u st (on_frame o u g s) h' parts.1 a.now.state) (wider known fr limit {A = List Value} true k j l _ _ kj (others u st l (on_frame o u g s) a)) (λ u' vs st' l' g' z a'. subst (λ c. Do {A = Value} true k l' (after (c.0) (then_do (Through' p w (wants wanted t) x vs st') (λ v st. Go v st (c.1)))) (instrumented_unit no_marks 0 (Through' (instrumented_program p) w' (wants wanted t) x vs (with_memory st' l')))) (sym (marks_at p n typed site (Through (type_of d)) false parts.0 b)) (plain_calls site k _ _ known fr limit l' (lift known fr limit {A = Value} k l' _ _ untold (through_alike wanted t ts x u' vs st' l' (designator_kind t ts d u u' x e g' given) (on_frame o u' (grows_on o u u' g g') s) z a') a'.ready)))))
+      loose known fr limit {A = Value} wanted k more _ _ (on_value {C = Value} true k d d' o st more _ _ s h (left_part p (mentions d) (Calls site (Through (type_of d)) ∷ mentions_of_all es) m) a first (λ u x st l g given a. then_same known fr limit p {A = List Value} {B = Value} true k (GiveAll p (list_of ts)) u st l _ _ _ _ a (all_end p n typed (null_calls_of p) (null_calls_recorded p) w goes fr ts es u st (on_frame o u g s) h' parts.1 a.now.state) (wider known fr limit {A = List Value} true k j l _ _ kj (others u st l (on_frame o u g s) a)) (λ u' vs st' l' g' z a'. subst (λ c. Do {A = Value} true k l' (after (c.0) (then_do (Through' p w (wants wanted t) x vs st') (λ v st. Go v st (c.1)))) (with_marks no_marks 0 (Through' (instrumented_program p) w' (wants wanted t) x vs (with_memory st' l')))) (sym (marks_at p n typed site (Through (type_of d)) false parts.0 b)) (plain_calls site k _ _ known fr limit l' (lift known fr limit {A = Value} k l' _ _ untold (through_alike wanted t ts x u' vs st' l' (designator_kind t ts d u u' x e g' given) (on_frame o u' (grows_on o u u' g g') s) z a') a'.ready)))))
 
   -- the call of the kept designator and arguments
   through_there : (i : ℕ) (wanted : Bool) (t v : CType) (ts : List CType) (x : Value) (vs : List Value) (st : State) (l : Memory) → IsKept l fr i x → IsSet x → AreKept l fr (suc i) ts vs → Other (is_kept wanted t) (call_through t 0 (kept_value v i) (kept_values (suc i) ts)) (with_memory st l) ≡ Through' (instrumented_program p) w' (wants wanted t) x vs (with_memory st l)
   through_there i wanted t v ts x vs st l there set kept =
-      ap (λ c. then_do c (λ x st. then_do (OtherAll (kept_values (suc i) ts) st) (λ vs st. instrumented_unit no_marks 0 (Through' (instrumented_program p) w' (wants (is_kept wanted t) t) x vs st)))) (kept_is_given (instrumented_program p) w' no_marks (record { activation = fr.activation; types = wide }) true v i x (with_memory st l) there set) ∙ (after_none {A = Value} _ ∙ (ap (λ c. then_do c (λ vs st. instrumented_unit no_marks 0 (Through' (instrumented_program p) w' (wants (is_kept wanted t) t) x vs st))) (kept_are_given (instrumented_program p) w' no_marks (record { activation = fr.activation; types = wide }) (suc i) ts vs (with_memory st l) kept) ∙ (after_none {A = Value} _ ∙ (after_none {A = Value} _ ∙ (then_go {A = Value} _ ∙ ap (λ b. Through' (instrumented_program p) w' b x vs (with_memory st l)) (wants_kept wanted t))))))
+      ap (λ c. then_do c (λ x st. then_do (OtherAll (kept_values (suc i) ts) st) (λ vs st. with_marks no_marks 0 (Through' (instrumented_program p) w' (wants (is_kept wanted t) t) x vs st)))) (kept_is_given (instrumented_program p) w' no_marks (record { activation = fr.activation; types = wide }) true v i x (with_memory st l) there set) ∙ (after_none {A = Value} _ ∙ (ap (λ c. then_do c (λ vs st. with_marks no_marks 0 (Through' (instrumented_program p) w' (wants (is_kept wanted t) t) x vs st))) (kept_are_given (instrumented_program p) w' no_marks (record { activation = fr.activation; types = wide }) (suc i) ts vs (with_memory st l) kept) ∙ (after_none {A = Value} _ ∙ (after_none {A = Value} _ ∙ (then_go {A = Value} _ ∙ ap (λ b. Through' (instrumented_program p) w' b x vs (with_memory st l)) (wants_kept wanted t))))))
 
   through_marked : (k i j : ℕ) (wanted : Bool) (t v : CType) (site : ℕ) (d d' : Expr) (es : Exprs) (o : Objects) (st : State) (more : Memory) → IsTypedFrame p o fr → (ts : CTypes) → type_of d ≡ pointer (function t ts) → IsValue p fr.types d → StandsIn p (mentions (call_through t site d es)) → is_marked p (Through (type_of d)) ≡ true → length fr.types ≤ k → k ≤ i → i < limit → (is_kept wanted t ≡ true → suc i + length (list_of ts) < limit) → At o st more → Do {A = Value} true k more (Plain true d st) (Other true d' (with_memory st more)) → ((u : Objects) (st : State) (l : Memory) → IsTypedFrame p u fr → At u st l → KeepsAll k (suc i) j ts es u st l) → Do {A = Value} wanted k more (Plain wanted (call_through t site d es) st) (OtherEach wanted (more_exprs (keep v i d') (keep_all (suc i) (list_of ts) (arguments p j es) (Behind wanted site (suc i + length (list_of ts)) t (call_through t 0 (kept_value v i) (kept_values (suc i) (list_of ts)))))) (with_memory st more))
   through_marked k i j wanted t v site d d' es o st more s ts e h m b first ki less room a does keeps =
@@ -249,7 +249,7 @@ module _ (p : Program) (n : ℕ) (typed : IsProgram p n) (w w' : World) (goes : 
       let the_call = call_through t 0 (kept_value v i) (kept_values (suc i) (list_of ts)) in
       let rest = Behind wanted site (suc i + length (list_of ts)) t the_call in
       let others = keep_all (suc i) (list_of ts) (arguments p j es) rest in
-      subst (λ c. Do {A = Value} wanted k more (Plain wanted (call_through t site d es) st) c) (sym (each_more (instrumented_program p) w' no_marks (record { activation = fr.activation; types = wide }) wanted (keep v i d') others (with_memory st more) (keep_all_more (suc i) (list_of ts) (arguments p j es) rest tt))) (keep_then p w' known fr limit wide untold {B = Value} wanted k k i k (Gives p true (type_of d)) v o st more (Plain true d st) d' _ (λ st. OtherEach wanted others st) (omega arith) ki (omega arith) (omega (arith, first, ki)) less a (value_ends p n typed (null_calls_of p) (null_calls_recorded p) w goes fr true d o st s h (left_part p (mentions d) (Calls site (Through (type_of d)) ∷ mentions_of_all es) m) a.now.state) does (λ u x st l g given there stay a. keeps u st l (on_frame o u g s) a wanted wanted rest (λ vs st. instrumented_unit (null_calls_of p) site (Through' p w (wants wanted t) x vs st)) tt (λ u' vs st' l' g' z kept stay' a'.
+      subst (λ c. Do {A = Value} wanted k more (Plain wanted (call_through t site d es) st) c) (sym (each_more (instrumented_program p) w' no_marks (record { activation = fr.activation; types = wide }) wanted (keep v i d') others (with_memory st more) (keep_all_more (suc i) (list_of ts) (arguments p j es) rest tt))) (keep_then p w' known fr limit wide untold {B = Value} wanted k k i k (Gives p true (type_of d)) v o st more (Plain true d st) d' _ (λ st. OtherEach wanted others st) (omega arith) ki (omega arith) (omega (arith, first, ki)) less a (value_ends p n typed (null_calls_of p) (null_calls_recorded p) w goes fr true d o st s h (left_part p (mentions d) (Calls site (Through (type_of d)) ∷ mentions_of_all es) m) a.now.state) does (λ u x st l g given there stay a. keeps u st l (on_frame o u g s) a wanted wanted rest (λ vs st. with_marks (null_calls_of p) site (Through' p w (wants wanted t) x vs st)) tt (λ u' vs st' l' g' z kept stay' a'.
       let kind = designator_kind t ts d u u' x e g' given in
       let frame = on_frame o u' (grows_on o u u' g g') s in
       let still = stays_kept i x l l' (omega (arith, first, ki)) stay' there in

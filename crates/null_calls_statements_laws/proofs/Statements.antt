@@ -22,7 +22,7 @@ use Rattle.c_rules.specs.Statements.{Around, in_loop, in_switch, condition_at, t
 use Rattle.null_calls_rules.specs.MarkedCalls.{Sites}
 use Rattle.null_calls_rules.specs.Temporaries.{Temporary}
 use Rattle.null_calls_rules.specs.InstrumentedExpressions.{expr, maybe, kept, kept_of_maybe}
-use Rattle.null_calls_rules.specs.InstrumentedStatements as instrumented_unit
+use Rattle.null_calls_rules.specs.InstrumentedStatements as with_null_calls
 use Rattle.c_rules_laws.specs.TypedAlike.{TypedAlike, beside as scopes_beside}
 use Rattle.c_rules_laws.proofs.Leads.{Leads, same_leads, fine_leads, on_leads, both_leads, gives_leads, first_fine, on_fine}
 use Rattle.c_rules_laws.proofs.Parts.{value_leads}
@@ -139,24 +139,24 @@ three_near p q r k P h d e = both_near p (beside q r) (λ a t. k a t.first t.sec
 
 module _ (blocks : BlocksStandBeside) (stay : TemporariesStay) (numbers : NumbersStay) (decls : DeclarationsGo) (firsts : FirstsGo) (p : Program) (sites : Sites) (names : List Binding) where
   record StmtsGoes (e f : Env) (a : Around) (b b' : Before) (next next' : Next) (k : ℕ) (ss : Stmts) : Type 0 where
-    pub laid : StatementTreeFollow p k (types_of (instrumented_unit.kept_of_stmts sites b.sites ss)) (stmts e a b next ss) (stmts f a b' next' (instrumented_unit.stmts sites b.sites ss))
-    pub near : (q : StatementTree typed.Stmts) → stmts e a b next ss ≡ fine q → Near (after_stmts e b next ss) (after_stmts f b' next' (instrumented_unit.stmts sites b.sites ss))
+    pub laid : StatementTreeFollow p k (types_of (with_null_calls.kept_of_stmts sites b.sites ss)) (stmts e a b next ss) (stmts f a b' next' (with_null_calls.stmts sites b.sites ss))
+    pub near : (q : StatementTree typed.Stmts) → stmts e a b next ss ≡ fine q → Near (after_stmts e b next ss) (after_stmts f b' next' (with_null_calls.stmts sites b.sites ss))
 
   record GroupsGoes (e f : Env) (a : Around) (b b' : Before) (next next' : Next) (k : ℕ) (i : IntType) (gs : Groups) : Type 0 where
-    pub laid : GroupsFollow p k (types_of (instrumented_unit.kept_of_groups sites b.sites gs)) (groups_of_switch e a b next i gs) (groups_of_switch f a b' next' i (instrumented_unit.groups sites b.sites gs))
-    pub near : (l : Labelled) → groups_of_switch e a b next i gs ≡ fine l → Near (after_groups e b next gs) (after_groups f b' next' (instrumented_unit.groups sites b.sites gs))
+    pub laid : GroupsFollow p k (types_of (with_null_calls.kept_of_groups sites b.sites gs)) (groups_of_switch e a b next i gs) (groups_of_switch f a b' next' i (with_null_calls.groups sites b.sites gs))
+    pub near : (l : Labelled) → groups_of_switch e a b next i gs ≡ fine l → Near (after_groups e b next gs) (after_groups f b' next' (with_null_calls.groups sites b.sites gs))
 
   -- the next numbers of variables stay the same
-  stmt_numbers : (b : ℕ) (s : Stmt) (next next' : Next) → StmtNamed sites b s → SameNumber next next' → SameNumber (past_names next (names_of_stmt s)) (past_names next' (names_of_stmt (instrumented_unit.stmt sites b s)))
+  stmt_numbers : (b : ℕ) (s : Stmt) (next next' : Next) → StmtNamed sites b s → SameNumber next next' → SameNumber (past_names next (names_of_stmt s)) (past_names next' (names_of_stmt (with_null_calls.stmt sites b s)))
   stmt_numbers b s next next' n m = subst (λ xs. SameNumber (past_names next (names_of_stmt s)) (past_names next' xs)) (sym (statements_stay sites b s n).names_same) (numbers next next' (names_of_stmt s) m)
 
-  stmts_numbers : (ss : Stmts) (b : ℕ) (next next' : Next) → StmtsNamed sites b ss → SameNumber next next' → SameNumber (past_names next (names_of_stmts ss)) (past_names next' (names_of_stmts (instrumented_unit.stmts sites b ss)))
+  stmts_numbers : (ss : Stmts) (b : ℕ) (next next' : Next) → StmtsNamed sites b ss → SameNumber next next' → SameNumber (past_names next (names_of_stmts ss)) (past_names next' (names_of_stmts (with_null_calls.stmts sites b ss)))
   stmts_numbers no_stmts b next next' n m = m
   stmts_numbers (more_stmts s ss) b next next' n m =
-      let i : SameNumber (past_names (past_names next (names_of_stmt s)) (names_of_stmts ss)) (past_names (past_names next' (names_of_stmt (instrumented_unit.stmt sites b s))) (names_of_stmts (instrumented_unit.stmts sites (b + calls_of_stmt s) ss)))
-      = stmts_numbers ss (b + calls_of_stmt s) (past_names next (names_of_stmt s)) (past_names next' (names_of_stmt (instrumented_unit.stmt sites b s))) n.1 (stmt_numbers b s next next' n.0 m) in
-      subst (λ x. SameNumber x (past_names next' (names_of_stmt (instrumented_unit.stmt sites b s) ++ names_of_stmts (instrumented_unit.stmts sites (b + calls_of_stmt s) ss)))) (sym (names_past next (names_of_stmt s) (names_of_stmts ss)))
-      (subst (λ x. SameNumber (past_names (past_names next (names_of_stmt s)) (names_of_stmts ss)) x) (sym (names_past next' (names_of_stmt (instrumented_unit.stmt sites b s)) (names_of_stmts (instrumented_unit.stmts sites (b + calls_of_stmt s) ss)))) i)
+      let i : SameNumber (past_names (past_names next (names_of_stmt s)) (names_of_stmts ss)) (past_names (past_names next' (names_of_stmt (with_null_calls.stmt sites b s))) (names_of_stmts (with_null_calls.stmts sites (b + calls_of_stmt s) ss)))
+      = stmts_numbers ss (b + calls_of_stmt s) (past_names next (names_of_stmt s)) (past_names next' (names_of_stmt (with_null_calls.stmt sites b s))) n.1 (stmt_numbers b s next next' n.0 m) in
+      subst (λ x. SameNumber x (past_names next' (names_of_stmt (with_null_calls.stmt sites b s) ++ names_of_stmts (with_null_calls.stmts sites (b + calls_of_stmt s) ss)))) (sym (names_past next (names_of_stmt s) (names_of_stmts ss)))
+      (subst (λ x. SameNumber (past_names (past_names next (names_of_stmt s)) (names_of_stmts ss)) x) (sym (names_past next' (names_of_stmt (with_null_calls.stmt sites b s)) (names_of_stmts (with_null_calls.stmts sites (b + calls_of_stmt s) ss)))) i)
 
   abbrev X : Before → Expr → Expr
   X b x = expr sites b.sites true x
@@ -165,14 +165,14 @@ module _ (blocks : BlocksStandBeside) (stay : TemporariesStay) (numbers : Number
   M b wanted m = maybe sites b.sites wanted m
 
   abbrev S : Before → Stmt → Stmt
-  S b s = instrumented_unit.stmt sites b.sites s
+  S b s = with_null_calls.stmt sites b.sites s
 
   mutual
-    stmt_goes : (s : Stmt) (e f : Env) → StandBeside p names e f → (a : Around) (b b' : Before) (next next' : Next) (k : ℕ) → StmtNamed sites b.sites s → StmtTabled p sites e b next s → AreFound names k (instrumented_unit.kept_of_stmt sites b.sites s) → Near b b' → SameNumber next next' → StmtGoes p sites e f a b b' next next' k s
+    stmt_goes : (s : Stmt) (e f : Env) → StandBeside p names e f → (a : Around) (b b' : Before) (next next' : Next) (k : ℕ) → StmtNamed sites b.sites s → StmtTabled p sites e b next s → AreFound names k (with_null_calls.kept_of_stmt sites b.sites s) → Near b b' → SameNumber next next' → StmtGoes p sites e f a b b' next next' k s
     stmt_goes (block at is) e f w a b b' next next' k n t h r m =
         let i : BlockGoes p sites (inside e) (inside f) a b b' next next' k is = block_goes is (inside e) (inside f) (blocks p names e f w) a b b' next next' k n t h r m in
         record {
-          laid = block_follows p k (types_of (instrumented_unit.kept_of_block sites b.sites is)) (items_of_block (inside e) a b next is) (items_of_block (inside f) a b' next' (instrumented_unit.items_of_block sites b.sites is)) i.laid;
+          laid = block_follows p k (types_of (with_null_calls.kept_of_block sites b.sites is)) (items_of_block (inside e) a b next is) (items_of_block (inside f) a b' next' (with_null_calls.items_of_block sites b.sites is)) i.laid;
           near = λ q g. (let v = on_fine (items_of_block (inside e) a b next is) (λ q. fine (with_tree q (typed.block q.tree))) q g in i.near v.0 v.1);
         }
     stmt_goes (empty at) e f w a b b' next next' k n t h r m = record { laid = (typed.empty, refl, refl, refl, refl); near = λ q g. near_none b b' r }
@@ -182,7 +182,7 @@ module _ (blocks : BlocksStandBeside) (stay : TemporariesStay) (numbers : Number
     }
     stmt_goes (only_if at x s) e f w a b b' next next' k n t h r m =
         let xs : List Temporary = kept sites b.sites true x in
-        let ys : List Temporary = instrumented_unit.kept_of_stmt sites (b.sites + calls x) s in
+        let ys : List Temporary = with_null_calls.kept_of_stmt sites (b.sites + calls x) s in
         let i : StmtGoes p sites e f a (after b x) (after b' (X b x)) next next' (k + length (types_of xs)) s = stmt_goes s e f w a (after b x) (after b' (X b x)) next next' (k + length (types_of xs)) n.1 t.1 (found_rest names k xs ys h) (places_near sites b b' true x n.0 r) m in
         record {
           laid = subst (λ ts. StatementTreeFollows p k ts (stmt e a b next (only_if at x s)) (stmt f a b' next' (S b (only_if at x s)))) (sym (types_both xs ys))
@@ -192,8 +192,8 @@ module _ (blocks : BlocksStandBeside) (stay : TemporariesStay) (numbers : Number
         }
     stmt_goes (if_else at x s u) e f w a b b' next next' k n t h r m =
         let xs : List Temporary = kept sites b.sites true x in
-        let ys : List Temporary = instrumented_unit.kept_of_stmt sites (b.sites + calls x) s in
-        let zs : List Temporary = instrumented_unit.kept_of_stmt sites (b.sites + calls x + calls_of_stmt s) u in
+        let ys : List Temporary = with_null_calls.kept_of_stmt sites (b.sites + calls x) s in
+        let zs : List Temporary = with_null_calls.kept_of_stmt sites (b.sites + calls x + calls_of_stmt s) u in
         let b1 : Before = after b x in
         let c1 : Before = after b' (X b x) in
         let b2 : Before = after_stmt e b1 next s in
@@ -212,7 +212,7 @@ module _ (blocks : BlocksStandBeside) (stay : TemporariesStay) (numbers : Number
         }
     stmt_goes (while_loop at x s) e f w a b b' next next' k n t h r m =
         let xs : List Temporary = kept sites b.sites true x in
-        let ys : List Temporary = instrumented_unit.kept_of_stmt sites (b.sites + calls x) s in
+        let ys : List Temporary = with_null_calls.kept_of_stmt sites (b.sites + calls x) s in
         let i : StmtGoes p sites e f (in_loop a) (after b x) (after b' (X b x)) next next' (k + length (types_of xs)) s = stmt_goes s e f w (in_loop a) (after b x) (after b' (X b x)) next next' (k + length (types_of xs)) n.1 t.1 (found_rest names k xs ys h) (places_near sites b b' true x n.0 r) m in
         record {
           laid = subst (λ ts. StatementTreeFollows p k ts (stmt e a b next (while_loop at x s)) (stmt f a b' next' (S b (while_loop at x s)))) (sym (types_both xs ys))
@@ -221,7 +221,7 @@ module _ (blocks : BlocksStandBeside) (stay : TemporariesStay) (numbers : Number
               (λ c q _ g. near_both b b' (calls x) (calls_of_stmt s) (calls (X b x)) (calls_of_stmt (S (after b x) s)) (strings x) (held_by_stmt e next s) (strings (X b x)) (held_by_stmt f next' (S (after b x) s)) (i.near q g));
         }
     stmt_goes (do_loop at s x) e f w a b b' next next' k n t h r m =
-        let xs : List Temporary = instrumented_unit.kept_of_stmt sites b.sites s in
+        let xs : List Temporary = with_null_calls.kept_of_stmt sites b.sites s in
         let ys : List Temporary = kept sites (b.sites + calls_of_stmt s) true x in
         let b1 : Before = after_stmt e b next s in
         let c1 : Before = after_stmt f b' next' (S b s) in
@@ -234,13 +234,13 @@ module _ (blocks : BlocksStandBeside) (stay : TemporariesStay) (numbers : Number
               (λ q c g _. near_both b b' (calls_of_stmt s) (calls x) (calls_of_stmt (S b s)) (calls (X b1 x)) (held_by_stmt e next s) (strings x) (held_by_stmt f next' (S b s)) (strings (X b1 x)) (places_near sites b1 c1 true x n.1 (i.near q g)));
         }
     stmt_goes (for_loop at first test step s) e f w a b b' next next' k n t h r m =
-        let ws : List Temporary = instrumented_unit.kept_of_first sites b.sites first in
+        let ws : List Temporary = with_null_calls.kept_of_first sites b.sites first in
         let xs : List Temporary = kept_of_maybe sites (b.sites + calls_of_first first) true test in
         let ys : List Temporary = kept_of_maybe sites (b.sites + calls_of_first first + calls_of_maybe test) false step in
-        let zs : List Temporary = instrumented_unit.kept_of_stmt sites (b.sites + calls_of_first first + calls_of_maybe test + calls_of_maybe step) s in
+        let zs : List Temporary = with_null_calls.kept_of_stmt sites (b.sites + calls_of_first first + calls_of_maybe test + calls_of_maybe step) s in
         let eo : Env = inside e in
         let fo : Env = inside f in
-        let first' : First = instrumented_unit.first sites b.sites first in
+        let first' : First = with_null_calls.first sites b.sites first in
         let ei : Env = behind_first eo next first in
         let fi : Env = behind_first fo next' first' in
         let b1 : Before = after_first eo b next first in
@@ -273,8 +273,8 @@ module _ (blocks : BlocksStandBeside) (stay : TemporariesStay) (numbers : Number
         }
     stmt_goes (switch_on at x gs) e f w a b b' next next' k n t h r m =
         let xs : List Temporary = kept sites b.sites true x in
-        let ys : List Temporary = instrumented_unit.kept_of_groups sites (b.sites + calls x) gs in
-        let gs' : Groups = instrumented_unit.groups sites (b.sites + calls x) gs in
+        let ys : List Temporary = with_null_calls.kept_of_groups sites (b.sites + calls x) gs in
+        let gs' : Groups = with_null_calls.groups sites (b.sites + calls x) gs in
         let i : (j : IntType) → GroupsGoes e f (in_switch a) (after b x) (after b' (X b x)) next next' (k + length (types_of xs)) j gs
         = (λ j. groups_go gs e f w (in_switch a) (after b x) (after b' (X b x)) next next' (k + length (types_of xs)) j n.1 t.1 (found_rest names k xs ys h) (places_near sites b b' true x n.0 r) m) in
         record {
@@ -291,13 +291,13 @@ module _ (blocks : BlocksStandBeside) (stay : TemporariesStay) (numbers : Number
       near = λ q g. maybe_near sites b b' true o n r;
     }
 
-    block_goes : (is : BlockItems) (e f : Env) → StandBeside p names e f → (a : Around) (b b' : Before) (next next' : Next) (k : ℕ) → BlockNamed sites b.sites is → BlockTabled p sites e b next is → AreFound names k (instrumented_unit.kept_of_block sites b.sites is) → Near b b' → SameNumber next next' → BlockGoes p sites e f a b b' next next' k is
+    block_goes : (is : BlockItems) (e f : Env) → StandBeside p names e f → (a : Around) (b b' : Before) (next next' : Next) (k : ℕ) → BlockNamed sites b.sites is → BlockTabled p sites e b next is → AreFound names k (with_null_calls.kept_of_block sites b.sites is) → Near b b' → SameNumber next next' → BlockGoes p sites e f a b b' next next' k is
     block_goes no_block_items e f w a b b' next next' k n t h r m = record { laid = (typed.no_stmts, refl, refl, refl, refl); near = λ q g. near_none b b' r }
     block_goes (block_decl d is) e f w a b b' next next' k n t h r m =
-        let xs : List Temporary = instrumented_unit.kept_of_decl sites b.sites d in
-        let ys : List Temporary = instrumented_unit.kept_of_block sites (b.sites + calls_of_decl d) is in
-        let d' : Decl = instrumented_unit.declaration sites b.sites d in
-        let is' : BlockItems = instrumented_unit.items_of_block sites (b.sites + calls_of_decl d) is in
+        let xs : List Temporary = with_null_calls.kept_of_decl sites b.sites d in
+        let ys : List Temporary = with_null_calls.kept_of_block sites (b.sites + calls_of_decl d) is in
+        let d' : Decl = with_null_calls.declaration sites b.sites d in
+        let is' : BlockItems = with_null_calls.items_of_block sites (b.sites + calls_of_decl d) is in
         let ei : Env = behind_decl e next d in
         let fi : Env = behind_decl f next' d' in
         let b1 : Before = after_decl e b next d in
@@ -313,9 +313,9 @@ module _ (blocks : BlocksStandBeside) (stay : TemporariesStay) (numbers : Number
               (λ q v g l. near_both b b' (calls_of_decl d) (calls_of_block is) (calls_of_decl d') (calls_of_block is') (held_by_decl e next d) (held_by_block ei later is) (held_by_decl f next' d') (held_by_block fi later' is') ((i (j.scopes q g) (j.near q g)).near v l));
         }
     block_goes (block_stmt s is) e f w a b b' next next' k n t h r m =
-        let xs : List Temporary = instrumented_unit.kept_of_stmt sites b.sites s in
-        let ys : List Temporary = instrumented_unit.kept_of_block sites (b.sites + calls_of_stmt s) is in
-        let is' : BlockItems = instrumented_unit.items_of_block sites (b.sites + calls_of_stmt s) is in
+        let xs : List Temporary = with_null_calls.kept_of_stmt sites b.sites s in
+        let ys : List Temporary = with_null_calls.kept_of_block sites (b.sites + calls_of_stmt s) is in
+        let is' : BlockItems = with_null_calls.items_of_block sites (b.sites + calls_of_stmt s) is in
         let b1 : Before = after_stmt e b next s in
         let c1 : Before = after_stmt f b' next' (S b s) in
         let later : Next = past_names next (names_of_stmt s) in
@@ -329,12 +329,12 @@ module _ (blocks : BlocksStandBeside) (stay : TemporariesStay) (numbers : Number
               (λ q v g l. near_both b b' (calls_of_stmt s) (calls_of_block is) (calls_of_stmt (S b s)) (calls_of_block is') (held_by_stmt e next s) (held_by_block e later is) (held_by_stmt f next' (S b s)) (held_by_block f later' is') ((i (j.near q g)).near v l));
         }
 
-    stmts_go : (ss : Stmts) (e f : Env) → StandBeside p names e f → (a : Around) (b b' : Before) (next next' : Next) (k : ℕ) → StmtsNamed sites b.sites ss → StmtsTabled p sites e b next ss → AreFound names k (instrumented_unit.kept_of_stmts sites b.sites ss) → Near b b' → SameNumber next next' → StmtsGoes e f a b b' next next' k ss
+    stmts_go : (ss : Stmts) (e f : Env) → StandBeside p names e f → (a : Around) (b b' : Before) (next next' : Next) (k : ℕ) → StmtsNamed sites b.sites ss → StmtsTabled p sites e b next ss → AreFound names k (with_null_calls.kept_of_stmts sites b.sites ss) → Near b b' → SameNumber next next' → StmtsGoes e f a b b' next next' k ss
     stmts_go no_stmts e f w a b b' next next' k n t h r m = record { laid = (typed.no_stmts, refl, refl, refl, refl); near = λ q g. near_none b b' r }
     stmts_go (more_stmts s ss) e f w a b b' next next' k n t h r m =
-        let xs : List Temporary = instrumented_unit.kept_of_stmt sites b.sites s in
-        let ys : List Temporary = instrumented_unit.kept_of_stmts sites (b.sites + calls_of_stmt s) ss in
-        let ss' : Stmts = instrumented_unit.stmts sites (b.sites + calls_of_stmt s) ss in
+        let xs : List Temporary = with_null_calls.kept_of_stmt sites b.sites s in
+        let ys : List Temporary = with_null_calls.kept_of_stmts sites (b.sites + calls_of_stmt s) ss in
+        let ss' : Stmts = with_null_calls.stmts sites (b.sites + calls_of_stmt s) ss in
         let b1 : Before = after_stmt e b next s in
         let c1 : Before = after_stmt f b' next' (S b s) in
         let later : Next = past_names next (names_of_stmt s) in
@@ -348,13 +348,13 @@ module _ (blocks : BlocksStandBeside) (stay : TemporariesStay) (numbers : Number
               (λ q v g l. near_both b b' (calls_of_stmt s) (calls_of_stmts ss) (calls_of_stmt (S b s)) (calls_of_stmts ss') (held_by_stmt e next s) (held_by_stmts e later ss) (held_by_stmt f next' (S b s)) (held_by_stmts f later' ss') ((i (j.near q g)).near v l));
         }
 
-    groups_go : (gs : Groups) (e f : Env) → StandBeside p names e f → (a : Around) (b b' : Before) (next next' : Next) (k : ℕ) (i : IntType) → GroupsNamed sites b.sites gs → GroupsTabled p sites e b next gs → AreFound names k (instrumented_unit.kept_of_groups sites b.sites gs) → Near b b' → SameNumber next next' → GroupsGoes e f a b b' next next' k i gs
+    groups_go : (gs : Groups) (e f : Env) → StandBeside p names e f → (a : Around) (b b' : Before) (next next' : Next) (k : ℕ) (i : IntType) → GroupsNamed sites b.sites gs → GroupsTabled p sites e b next gs → AreFound names k (with_null_calls.kept_of_groups sites b.sites gs) → Near b b' → SameNumber next next' → GroupsGoes e f a b b' next next' k i gs
     groups_go no_groups e f w a b b' next next' k i n t h r m = record { laid = (typed.no_groups, refl, refl, refl, refl); near = λ q g. near_none b b' r }
     groups_go (more_groups ls ss gs) e f w a b b' next next' k i n t h r m =
-        let xs : List Temporary = instrumented_unit.kept_of_stmts sites b.sites ss in
-        let ys : List Temporary = instrumented_unit.kept_of_groups sites (b.sites + calls_of_stmts ss) gs in
-        let ss' : Stmts = instrumented_unit.stmts sites b.sites ss in
-        let gs' : Groups = instrumented_unit.groups sites (b.sites + calls_of_stmts ss) gs in
+        let xs : List Temporary = with_null_calls.kept_of_stmts sites b.sites ss in
+        let ys : List Temporary = with_null_calls.kept_of_groups sites (b.sites + calls_of_stmts ss) gs in
+        let ss' : Stmts = with_null_calls.stmts sites b.sites ss in
+        let gs' : Groups = with_null_calls.groups sites (b.sites + calls_of_stmts ss) gs in
         let b1 : Before = after_stmts e b next ss in
         let c1 : Before = after_stmts f b' next' ss' in
         let later : Next = past_names next (names_of_stmts ss) in

@@ -11,7 +11,7 @@ use Rattle.c_rules.specs.Variables.{Next, past_names, names_of_decl, names_of_fi
 use Rattle.c_rules.specs.Blocks.{behind_decl, behind_first, held_by_block, held_by_groups, after_decl, after_first, after_stmt, after_stmts, StatementTree, with_tree}
 use Rattle.c_rules.specs.Statements.{Around, Labelled, stmt, items_of_block}
 use Rattle.null_calls_rules.specs.MarkedCalls.{Sites}
-use Rattle.null_calls_rules.specs.InstrumentedStatements as instrumented_unit
+use Rattle.null_calls_rules.specs.InstrumentedStatements as marked_statements
 use Rattle.null_calls_rules.specs.InstrumentedPrograms as with_null_calls
 use Rattle.null_calls_rules.specs.WithoutSites.{unsited_stmt, unsited_groups}
 use Rattle.null_calls_counts_laws.specs.Counts.{Near}
@@ -87,22 +87,22 @@ GroupsFollow p k ts (faulty f fs) s = Unit {0}
 module _ (p : Program) (sites : Sites) (e f : Env) (a : Around) (b b' : Before) (next next' : Next) (k : ℕ) where
   -- A statement: what it gives, and, where it is fine, so much that stands before what follows.
   pub record StmtGoes (s : Stmt) : Type 0 where
-    pub laid : StatementTreeFollows p k (types_of (instrumented_unit.kept_of_stmt sites b.sites s)) (stmt e a b next s) (stmt f a b' next' (instrumented_unit.stmt sites b.sites s))
-    pub near : (q : StatementTree typed.Stmt) → stmt e a b next s ≡ fine q → Near (after_stmt e b next s) (after_stmt f b' next' (instrumented_unit.stmt sites b.sites s))
+    pub laid : StatementTreeFollows p k (types_of (marked_statements.kept_of_stmt sites b.sites s)) (stmt e a b next s) (stmt f a b' next' (marked_statements.stmt sites b.sites s))
+    pub near : (q : StatementTree typed.Stmt) → stmt e a b next s ≡ fine q → Near (after_stmt e b next s) (after_stmt f b' next' (marked_statements.stmt sites b.sites s))
 
   -- the declarations and statements of a block
   pub record BlockGoes (is : BlockItems) : Type 0 where
-    pub laid : StatementTreeFollow p k (types_of (instrumented_unit.kept_of_block sites b.sites is)) (items_of_block e a b next is) (items_of_block f a b' next' (instrumented_unit.items_of_block sites b.sites is))
-    pub near : (q : StatementTree typed.Stmts) → items_of_block e a b next is ≡ fine q → Near (after_block e b next is) (after_block f b' next' (instrumented_unit.items_of_block sites b.sites is))
+    pub laid : StatementTreeFollow p k (types_of (marked_statements.kept_of_block sites b.sites is)) (items_of_block e a b next is) (items_of_block f a b' next' (marked_statements.items_of_block sites b.sites is))
+    pub near : (q : StatementTree typed.Stmts) → items_of_block e a b next is ≡ fine q → Near (after_block e b next is) (after_block f b' next' (marked_statements.items_of_block sites b.sites is))
 
 -- every statement
 abbrev pub StatementsGo : Type 0
 StatementsGo =
     (p : Program) (sites : Sites) (names : List Binding) (e f : Env) → StandBeside p names e f → (a : Around) (b b' : Before) (next next' : Next) (k : ℕ) (s : Stmt)
-    → StmtNamed sites b.sites s → StmtTabled p sites e b next s → AreFound names k (instrumented_unit.kept_of_stmt sites b.sites s) → Near b b' → SameNumber next next' → StmtGoes p sites e f a b b' next next' k s
+    → StmtNamed sites b.sites s → StmtTabled p sites e b next s → AreFound names k (marked_statements.kept_of_stmt sites b.sites s) → Near b b' → SameNumber next next' → StmtGoes p sites e f a b b' next next' k s
 
 -- every block
 abbrev pub BlocksGo : Type 0
 BlocksGo =
     (p : Program) (sites : Sites) (names : List Binding) (e f : Env) → StandBeside p names e f → (a : Around) (b b' : Before) (next next' : Next) (k : ℕ) (is : BlockItems)
-    → BlockNamed sites b.sites is → BlockTabled p sites e b next is → AreFound names k (instrumented_unit.kept_of_block sites b.sites is) → Near b b' → SameNumber next next' → BlockGoes p sites e f a b b' next next' k is
+    → BlockNamed sites b.sites is → BlockTabled p sites e b next is → AreFound names k (marked_statements.kept_of_block sites b.sites is) → Near b b' → SameNumber next next' → BlockGoes p sites e f a b b' next next' k is

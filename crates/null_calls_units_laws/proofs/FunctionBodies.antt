@@ -18,7 +18,7 @@ use Rattle.c_rules.specs.Functions.{variables_of, function_laid}
 use Rattle.null_calls_rules.specs.MarkedCalls.{Sites}
 use Rattle.null_calls_rules.specs.Temporaries.{Temporary, declared_before}
 use Rattle.null_calls_rules.specs.InstrumentedStatements.{kept_of_block}
-use Rattle.null_calls_rules.specs.InstrumentedStatements as instrumented_unit
+use Rattle.null_calls_rules.specs.InstrumentedStatements as marked_statements
 use Rattle.null_calls_rules.specs.InstrumentedPrograms.{kept_of_stmts, stmts, declared_from, instrumented_function}
 use Rattle.null_calls_rules.specs.WithoutSites.{unsited_stmts, unsited_function}
 use Rattle.null_calls_units_laws.specs.Declarations.{type_of_temporary, with_temporaries, AreNew, behind_declarations}
@@ -63,10 +63,10 @@ module _ (p : Program) (sites : Sites) (tags : List Name) (e f : Env) (b : Befor
 
   -- the body with null calls, and with the declarations before it
   abbrev pub inner_items : BlockItems
-  inner_items = instrumented_unit.items_of_block sites b.sites is
+  inner_items = marked_statements.items_of_block sites b.sites is
 
   abbrev pub all_items : BlockItems
-  all_items = declared_before tags at (kept_of_block sites b.sites is) (instrumented_unit.items_of_block sites b.sites is)
+  all_items = declared_before tags at (kept_of_block sites b.sites is) (marked_statements.items_of_block sites b.sites is)
 
   abbrev pub numbers : Next
   numbers = first_numbers count is
@@ -88,7 +88,7 @@ module _ (p : Program) (sites : Sites) (env : Env) (more : More) (b : Before) (n
   xs = kept_of_block sites b.sites is
 
   abbrev items_in : BlockItems
-  items_in = instrumented_unit.items_of_block sites b.sites is
+  items_in = marked_statements.items_of_block sites b.sites is
 
   abbrev items_all : BlockItems
   items_all = declared_before env.whole.tags at xs items_in

@@ -18,7 +18,7 @@ use Rattle.c_rules.specs.Items.{Output, output_of_function, behind_defined, func
 use Rattle.null_calls_rules.specs.MarkedCalls.{Sites, sites_of}
 use Rattle.null_calls_rules.specs.Temporaries.{Temporary, declared_before}
 use Rattle.null_calls_rules.specs.InstrumentedStatements.{kept_of_block}
-use Rattle.null_calls_rules.specs.InstrumentedStatements as instrumented_unit
+use Rattle.null_calls_rules.specs.InstrumentedStatements as marked_statements
 use Rattle.null_calls_rules.specs.Instrumented as units
 use Rattle.null_calls_rules.specs.InstrumentedPrograms.{instrumented_function}
 use Rattle.null_calls_rules.specs.WithoutSites.{unsited_function}
@@ -91,7 +91,7 @@ module _ (p : Program) (enums tags stood : List Name) (e f : Env) (w : FilesBesi
   temporaries_here = kept_of_block (sites_of p) b.sites (items_of_body body)
 
   abbrev items_right : BlockItems
-  items_right = declared_before tags at (kept_of_block (sites_of p) b.sites (items_of_body body)) (instrumented_unit.items_of_block (sites_of p) b.sites (items_of_body body))
+  items_right = declared_before tags at (kept_of_block (sites_of p) b.sites (items_of_body body)) (marked_statements.items_of_block (sites_of p) b.sites (items_of_body body))
 
   abbrev left_env : Env
   left_env = behind_defined e at s d x
@@ -184,7 +184,7 @@ definition_tags : (p : Program) (enums tags : List Name) (more : List Name) (e :
 definition_tags p enums tags more e b count at class s d body facts =
     let is : BlockItems = items_of_body body in
     let xs : List Temporary = kept_of_block (sites_of p) b.sites is in
-    let inner : BlockItems = instrumented_unit.items_of_block (sites_of p) b.sites is in
+    let inner : BlockItems = marked_statements.items_of_block (sites_of p) b.sites is in
     let own : List Name = tags_of_item false (function_item at class s d body) in
     let rest : List Name = tags_of_declarator d ++ tags_of_stmt false body in
     let mine : AreAmong (own ++ more) own = among_front own more own (among_itself own) in

@@ -7,7 +7,7 @@ use Rattle.c_tree.specs.declared.tree.TExprKind.{TExprKind, Const, StringPlace, 
 use Rattle.c_tree.specs.declared.tree.TExprKind.{Function as FunctionNamed}
 use Rattle.c_tree.specs.Tree.{CType, Expr, Exprs, decay, update, call, call_through, Program, type_of}
 use Rattle.c_tree.specs.View.{ctype_of, expr_of, expr_with}
-use Rattle.c_meaning.specs.Meaning.{Frame as Place, World, instrumented_unit, called, called_through, decayed, wants, eval, eval_all}
+use Rattle.c_meaning.specs.Meaning.{Frame as Place, World, with_marks, called, called_through, decayed, wants, eval, eval_all}
 use Rattle.c_meaning.specs.Pointers.{callee, load_place}
 use Rattle.c_meaning.specs.Results.{State, Result, Go, then_do, answered}
 use Rattle.c_meaning.specs.Runs.{no_marks}
@@ -24,7 +24,7 @@ begun p w fr wanted e f st k x h is = h ∙ ap (λ e. then_do (eval p w no_marks
 pub at_once : (v : Value) (st : State) (k : Value → State → Result Value) → k v st ≡ then_do (Go v st []) k
 at_once v st k = sym (after_none (k v st))
 
-bracket_none : (site : ℕ) (r : Result Value) → instrumented_unit no_marks site r ≡ r
+bracket_none : (site : ℕ) (r : Result Value) → with_marks no_marks site r ≡ r
 bracket_none site r = after_none (then_do r (λ v st. Go v st [])) ∙ then_nothing r
 
 -- the arguments of a call by name are evaluated, and then it is made

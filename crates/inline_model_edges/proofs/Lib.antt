@@ -1,0 +1,3 @@
+pub mod DrawnLemmas
+pub mod EdgeLemmas
+pub mod Grown

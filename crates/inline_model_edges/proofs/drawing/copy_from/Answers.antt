@@ -1,0 +1,29 @@
+use Rattle.std.proofs.Common.{◌≡◌, ◌≤◌, length, get_or, sym, ap, ◌∙◌, arith}
+use Rattle.std.proofs.lemmas.List.{get_or_default}
+use Rattle.flow_model.specs.declared.records.SilentEdge.{SilentEdge}
+use Rattle.inline_model_edges.specs.Growing.{IsSilentIn}
+use Rattle.inline_model_edges.proofs.EdgeLemmas.{leaves_silent, silent_leaves}
+use Rattle.inline_model_edges.proofs.Grown.{list_more, list_end, adds_like, adds_push}
+use Rattle.inline_model_edges.proofs.drawing.copy_from.Goals as goal
+
+pub loop-edge-preserved : goal.loop-edge-preserved
+loop-edge-preserved c =
+    let g = c.args.model.now in
+    let item = c.args.item.now in
+    let edge = get_or c.silent_from-edge-items.result.now c.loop-edge.edge-index (record { from = 0; to = 0 }) in
+    let pushed : SilentEdge = record { from = c.in_ok-from.from; to = c.in_ok-to.to } in
+    list_more (IsSilentIn g item) c.silent_from-edge-items.result.now c.args.edges.now.items c.loop-edge.edges.items c.push.new.self.items c.loop-edge.edge-index edge c.loop-edge-test.true (get_or_default c.silent_from-edge-items.result.now c.loop-edge.edge-index (record { from = 0; to = 0 }) edge c.loop-edge-test.true) c.loop-edge.invariant
+    (adds_like c.loop-edge.edges.items c.push.new.self.items
+    (λ e same. record { from = ap (λ (d : SilentEdge). d.from) (sym same) ∙ c.in_ok-from.ensures; to = ap (λ (d : SilentEdge). d.to) (sym same) ∙ c.in_ok-to.ensures })
+    (λ e is. λ i. record { from = (c.in_ok-from.ensures ∙ sym is.from) i; to = (c.in_ok-to.ensures ∙ sym is.to) i })
+    (adds_push c.loop-edge.edges.items c.push.new.self.items pushed c.in_ok-push.ensures.items))
+
+pub returns : goal.returns
+returns c =
+    let g = c.args.model.now in
+    let item = c.args.item.now in
+    let over : length c.silent_from-edge-items.result.now ≤ c.loop-edge.edge-index = omega (arith, c.loop-edge-test.false) in
+    adds_like c.args.edges.now.items c.loop-edge.edges.items
+    (leaves_silent g item c.args.node c.silent_from-edge-items.result.now c.silent_from-edge-items.ensures)
+    (silent_leaves g item c.args.node c.silent_from-edge-items.result.now c.silent_from-edge-items.ensures)
+    (list_end (IsSilentIn g item) c.silent_from-edge-items.result.now c.args.edges.now.items c.loop-edge.edges.items c.loop-edge.edge-index over c.loop-edge.invariant)
