@@ -1,5 +1,5 @@
 ghost use Rattle.std.specs.Prelude.{◌≡◌, Some};
-ghost use Rattle.c_tree.specs.Constants.{constant_value, number_in, number_as, entry, given, typed_expression_of, given_of_two};
+ghost use Rattle.c_tree.specs.Constants.{constant_value, number_in, number_as, entry, given, given_of, given_of_two};
 ghost use Rattle.c_tree.specs.Operators.{convert, unary, binary};
 ghost use Rattle.c_tree.specs.View.{expr_of};
 ghost use Rattle.c_values.specs.Told.{told as told_of};
@@ -33,7 +33,7 @@ fn typed_value(answer: Result<Value, Kind>) -> Option<Value>
 
 // The conversion of a constant (C99 6.3.1.3).
 fn converted(value: Option<Value>, to: IntType) -> Option<Value>
-    ensures { result ≡ typed_expression_of value (convert to) }
+    ensures { result ≡ given_of value (convert to) }
 {
     match value {
         Some(value) => value_of(convert_value(value, to)),
@@ -75,7 +75,7 @@ fn operated(op: UnOp, value: Value) -> Option<Value>
 
 // What a unary operator gives of a constant.
 fn operated_on(op: UnOp, value: Option<Value>) -> Option<Value>
-    ensures { result ≡ typed_expression_of value (unary op) }
+    ensures { result ≡ given_of value (unary op) }
 {
     match value {
         Some(value) => operated(op, value),
