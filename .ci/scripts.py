@@ -1,21 +1,24 @@
 #!/usr/bin/env python3
-"""scripts.py PROGRAM: tries ./dyckmon and ./build in a small repository with a stand-in for rt, which runs PROGRAM where rt try
-would compile it. The status is 0 where both do as their heads say."""
+"""scripts.py PROGRAM: tries ./dyckmon, ./build and .ci/run in a small repository with stand-ins for rt, which runs PROGRAM where
+rt try would compile it, and for .ci/smoke. The status is 0 where all three do as their heads say."""
 import os
 import pathlib
 import shutil
 import subprocess
 import sys
 import tempfile
+import time
 
 TOP = pathlib.Path(__file__).resolve().parent.parent
 TOOLS = 'awk bash cat chmod cp cut dirname env find flock grep head mkdir mktemp mv readlink rm sed sha256sum sleep sort stat tail tar xargs'
 RT = r'''#!/usr/bin/env bash
-# A stand-in for rt: mode in the file MODE beside it, a line for each call in the file CALLS.
+# A stand-in for rt: mode in the file MODE beside it, a line for each call in the file CALLS, and one for each rt ci
+# of a repository in which a copy stands that a build made.
 here=$(dirname "$0")
 mode=$(cat "$here/MODE")
 echo "$1" >>"$here/CALLS"
 if [ "$1" = ci ]; then
+    [ -e out/build ] && echo left >>"$here/CALLS"
     sleep 1
     echo 'rt: low is kept: an earlier run on this machine proved the same files over the same libraries'
     [ "$mode" = broken ] && echo 'rt: dyckmon NOT PROVED' && echo '1 passed, 1 failed' && exit 1
@@ -58,8 +61,9 @@ class Repository:
         (self.top / 'crates.txt').write_text('# A comment.\nlow:\ndyckmon: low\nother: low\n')
         (self.top / 'HANDLES').write_text('Handles allowed: none.\n')
         (self.top / '.ci').mkdir()
-        for name in ('dyckmon', 'build', '.ci/program'):
+        for name in ('dyckmon', 'build', '.ci/program', '.ci/run'):
             shutil.copy(TOP / name, self.top / name)
+        (self.top / '.ci/smoke').write_text('echo tried\n')
         shutil.copytree(TOP / 'examples', self.top / 'examples')
         self.tools.mkdir()
         for name in TOOLS.split():
@@ -179,6 +183,33 @@ def try_builds(repository):
     wants('built anew', got[0] == 0 and repository.calls().count('ci') == 3, got)
     got = repository.run('build')
     wants('nothing is to be done', got[0] == 0 and repository.calls().count('ci') == 3 and begin(got[2], 'build: the proved program is'), got)
+
+
+def try_gate(repository):
+    """The gate after a build that was broken off, and beside one that is under way."""
+    left = repository.top / 'out/build/crates/low'
+    left.mkdir(parents=True)
+    repository.mode('broken')
+    got = repository.run('.ci/run')
+    wants('a gate that does not pass', got[0] == 1 and not got[1].endswith('tried\n'), got)
+    left.mkdir(parents=True, exist_ok=True)
+    repository.mode('well')
+    got = repository.run('.ci/run')
+    wants('the gate', got[0] == 0 and got[1].endswith('tried\n'), got)
+    wants('a left copy is gone before rt ci', 'left' not in repository.calls() and not left.exists(), repository.calls())
+    (repository.top / 'crates/low/src/main.rt').write_text('// newer\n')
+    build = repository.start('build')
+    while build.poll() is None and not (repository.top / 'out/build/crates.txt').exists():
+        time.sleep(0.01)
+    got = repository.run('.ci/run')
+    said = build.communicate(timeout=60)
+    wants('the gate waits for a build', (build.returncode, got[0]) == (0, 0) and 'left' not in repository.calls(), (said, got))
+    got = repository.run('dyckmon', '--version')
+    wants('the program that the gate left', got == (0, 'dyckmon 1\n', []), got)
+
+
+def try_elsewhere(repository):
+    """The proved program where there is no rt, and on another machine."""
     (repository.tools / 'rt').unlink()
     got = repository.run('dyckmon', '--version')
     wants('the proved program without rt', got == (0, 'dyckmon 1\n', []), got)
@@ -192,6 +223,8 @@ def main():
         repository = Repository(folder, os.path.abspath(sys.argv[1]))
         try_trials(repository)
         try_builds(repository)
+        try_gate(repository)
+        try_elsewhere(repository)
     for line in wrong:
         print(line)
     print(f'{tried} trials of the scripts, {len(wrong)} wrong')
