@@ -3,17 +3,17 @@ use Rattle.std.proofs.Common.{◌≡◌, ◌↔◌, ◌⊎◌, inl, inr, ℕ, �
 use Prim.Native.Nat.{zero, suc}
 use Rattle.std.specs.Prelude.{slice_get}
 use Rattle.std.proofs.lemmas.Bool.{cases_lt, cases_eq}
-use Rattle.std.proofs.lemmas.List.{take_more, take_all, length-set}
+use Rattle.std.proofs.lemmas.List.{take_more, length-set}
 use Rattle.std.proofs.lemmas.List.Elements.{Contains-push_cases, Contains-append_left, Contains-push}
 use Rattle.std.proofs.lemmas.Option.{none-some, slice_get_within, get_or_from_slice_get, slice_get-get_or}
 use Rattle.flow_model.specs.Call.{Call}
-use Rattle.flow_model.specs.Graph.{Graph, HasCall}
+use Rattle.flow_model.specs.Graph.{Graph}
 use Rattle.inline_model_laws.specs.Within.{Within}
 use Rattle.inline_model_laws.specs.Chains.{Opening}
 use Rattle.inline_model_laws.proofs.ChainLemmas.{FromFunction, stays, goes}
 use Rattle.inline_model_openings.specs.declared.table.Entry.{Entry}
 use Rattle.inline_model_openings.specs.Entries.{IsEntry, AreEntries}
-use Rattle.inline_model.specs.Searching.{IsHeight, HasPlace, Enters, OpensPlace, IsComplete, IsNext, lesser, IsGreatestAbove, AreHeights, Completes}
+use Rattle.inline_model.specs.Searching.{IsHeight, HasPlace, Enters, IsComplete, IsNext, lesser, IsGreatestAbove, AreHeights, Completes}
 
 module _ (g : Graph) (heights : List (Option ℕ)) (from : ℕ) where
   -- the same of functions told by other words

@@ -1,17 +1,16 @@
 -- The turns of the search.
-use Rattle.std.proofs.Common.{◌≡◌, ◌↔◌, ◌⊎◌, inl, inr, ℕ, ◌+◌, ◌<◌, ◌≤◌, List, [], ◌∷◌, ◌++◌, length, take, drop, set, Option, Some, None, Contains, refl, sym, ap, ◌∙◌, subst, arith}
+use Rattle.std.proofs.Common.{◌≡◌, ◌⊎◌, inl, inr, ℕ, ◌+◌, ◌<◌, List, [], ◌∷◌, ◌++◌, length, take, drop, set, Option, Some, None, sym, ap, ◌∙◌, subst, arith}
 use Prim.Native.Nat.{zero, suc}
 use Rattle.std.specs.Prelude.{slice_get, replicate, IfSome, IfNone}
 use Rattle.std.proofs.lemmas.Bool.{cases_lt, cases_eq}
 use Rattle.std.proofs.lemmas.List.{length-set, append-nil, take_all, drop_all}
 use Rattle.std.proofs.lemmas.Option.{slice_get_within}
-use Rattle.flow_model.specs.Call.{Call}
 use Rattle.flow_model.specs.Graph.{Graph}
 use Rattle.inline_model_laws.proofs.Rising.{cons_cases, is_first, is_later}
 use Rattle.inline_model.specs.declared.path.Frame.{Frame}
 use Rattle.inline_model.specs.declared.search.Mark.{Mark}
 use Rattle.inline_model.specs.declared.search.Mark.TheVariants.{Unseen, Open, Done}
-use Rattle.inline_model.specs.Searching.{HasPlace, Enters, OpensPlace, IsComplete, IsDone, IsOpen, IsSound, Passed, OnPath, IsPath, AreSearching, IsNext, Completes}
+use Rattle.inline_model.specs.Searching.{Enters, OpensPlace, IsDone, IsOpen, Passed, OnPath, IsPath, AreSearching, IsNext, Completes}
 use Rattle.inline_model.specs.Searching.IsPath.{bottom, above}
 use Rattle.inline_model.proofs.HeightLemmas.{slice_get-set_same, slice_get-set_other}
 

@@ -1,13 +1,11 @@
 -- The chain of a path that has come back to one of its call edges.
-use Rattle.std.proofs.Common.{◌≡◌, ◌≢◌, ◌⊎◌, inl, inr, ℕ, suc, ◌+◌, ◌<◌, ◌≤◌, List, [], ◌∷◌, ◌++◌, length, map, take, drop, get_or, Option, Some, None, Contains, AllPairs, refl, sym, ap, ◌∙◌, subst, arith}
+use Rattle.std.proofs.Common.{◌≡◌, ◌≢◌, inl, inr, ℕ, suc, ◌<◌, ◌≤◌, List, [], ◌∷◌, ◌++◌, length, map, take, drop, get_or, Option, Some, None, Contains, AllPairs, refl, sym, ap, ◌∙◌, subst, arith}
 use Rattle.std.specs.Prelude.{slice_get, option_map, unwrap_or}
-use Rattle.std.specs.declared.cmp.Ordering.TheVariants.{Less}
-use Rattle.std.specs.Ordering.{nat_cmp}
 use Rattle.std.proofs.lemmas.Bool.{cases_lt, cases_eq}
 use Rattle.std.proofs.lemmas.List.{append-nil, append_assoc, take-append-drop, map-append, get_or-map, length-map, length-append, drop-append-le, get_or_default}
 use Rattle.std.proofs.Math.Seq.{drop-cons}
 use Rattle.std.proofs.lemmas.List.Elements.{Contains-get_or}
-use Rattle.std.proofs.lemmas.Option.{slice_get_within, get_or_from_slice_get, slice_get-get_or}
+use Rattle.std.proofs.lemmas.Option.{slice_get_within, get_or_from_slice_get}
 use Rattle.flow_model.specs.Call.{Call}
 use Rattle.flow_model.specs.Graph.{Graph, HasCall}
 use Rattle.flow_model.specs.Order.{site_order, StrictlyRise}
@@ -17,12 +15,12 @@ use Rattle.inline_model_laws.specs.Within.{Within}
 use Rattle.inline_model_laws.specs.Chains.{Opening, Opens, IsChain, IsRecursion}
 use Rattle.inline_model_laws.specs.Chains.IsChain.{empty}
 use Rattle.inline_model_laws.proofs.ChainLemmas.{FromFunction, stays, goes, chain_from}
-use Rattle.inline_model_laws.proofs.Rising.{cons_cases, is_first, is_later, pairs_nil, pairs_cons}
+use Rattle.inline_model_laws.proofs.Rising.{cons_cases, pairs_nil, pairs_cons}
 use Rattle.inline_model_openings.specs.Entries.{IsEntry}
 use Rattle.inline_model.specs.declared.path.Frame.{Frame}
 use Rattle.inline_model.specs.declared.search.Mark.{Mark}
 use Rattle.inline_model.specs.Places.{places_in, place_of, places_onto, site_at}
-use Rattle.inline_model.specs.Searching.{HasPlace, Enters, OpensPlace, OnPath, IsPath}
+use Rattle.inline_model.specs.Searching.{Enters, OpensPlace, OnPath, IsPath}
 use Rattle.inline_model.specs.Searching.IsPath.{bottom, above}
 use Rattle.inline_model.proofs.SearchLemmas.{on_path_cases, on_path_here, on_path_later}
 

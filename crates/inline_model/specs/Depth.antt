@@ -1,5 +1,4 @@
 -- What the depth of a model is.
-use Rattle.std.specs.Prelude.{ℕ, List}
 use Rattle.flow_model.specs.Graph.{Graph}
 use Rattle.inline_model.specs.declared.depths.Depth.{Depth}
 use Rattle.inline_model.specs.declared.depths.Depth.TheVariants.{Greatest, Unbounded}

@@ -1,3 +1,5 @@
+pub mod Cause
 pub mod Depth
+pub mod Parts
 pub mod Places
 pub mod Searching

@@ -4,7 +4,7 @@ use Rattle.flow_model.specs.Call.{Call}
 use Rattle.flow_model.specs.Graph.{Graph}
 use Rattle.inline_model.specs.declared.path.Frame.{Frame}
 use Rattle.inline_model.specs.declared.search.Mark.{Mark}
-use Rattle.inline_model.specs.declared.search.Mark.TheVariants.{Unseen, Open, Done}
+use Rattle.inline_model.specs.declared.search.Mark.TheVariants.{Open, Done}
 use Rattle.inline_model.specs.declared.search.Search.{Search}
 use Rattle.inline_model.specs.declared.search.Turn.{Turn}
 use Rattle.inline_model.specs.declared.search.Turn.TheVariants.{Goes, Ends, Returns}

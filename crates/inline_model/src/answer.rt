@@ -1,4 +1,5 @@
 ghost use Rattle.std.specs.Prelude.{◌≡◌, ◌<◌, length, map, slice_index, IfOk, IfSome};
+ghost use Rattle.inline_model_openings.specs.Entries.{AreEntries};
 ghost use Rattle.inline_model.specs.Depth.{HasLength, HasCycle, HasDepth};
 ghost use Rattle.inline_model.specs.Places.{site_at};
 ghost use Rattle.inline_model.specs.Searching.{Closes};
@@ -10,7 +11,7 @@ use crate::search::{Search, Turn};
 use crate::turns::{begin, turn};
 use dm_base::OutOfMemory;
 use flow_model::Model;
-use inline_model_openings::openings;
+use inline_model_openings::{Entry, openings};
 use std::alloc::Global;
 
 // The site of the call edge at the place.
@@ -68,22 +69,38 @@ fn recursion(
     Ok(Depth::Unbounded { first, cycle })
 }
 
-/// How many calls may be open at once in the model, by one search over the call edges that are reached, in the order of
-/// their sites. Each call edge is searched once, and each candidate's call edges are gone through once.
-pub fn depth(alloc: Global, model: &Model) -> Result<Depth, OutOfMemory>
+/// How many calls may be open at once in the model whose openings these are, by one search over the call edges that are
+/// reached, in the order of their sites. Each call edge is searched once, and each candidate's call edges are gone through
+/// once.
+pub fn depth_of(alloc: Global, model: &Model, entries: &[Entry]) -> Result<Depth, OutOfMemory>
+    requires { AreEntries model.now entries.now }
     ensures length { IfOk result (HasLength model.now) }
     ensures cycle { IfOk result (HasCycle model.now) }
     ensures words { IfOk result (HasDepth model.now) }
 {
     let _nodes = model.nodes();
-    let entries = openings(alloc, model)?;
     let mut search = begin(alloc, model)?;
     for _done in 0..usize::MAX {
-        match turn(&mut search, model, &entries)? {
+        match turn(&mut search, model, entries)? {
             Turn::Goes => {}
             Turn::Ends(height) => return Ok(Depth::Greatest(height)),
             Turn::Returns(place) => return recursion(alloc, &search, model, place),
         }
     }
     Err(OutOfMemory)
+}
+
+/// How many calls may be open at once in the model: the length of the longest chains of sites of which each opens the
+/// next, or a chain that ends in a cycle.
+///
+/// # Errors
+///
+/// `OutOfMemory` where memory was refused.
+pub fn depth(alloc: Global, model: &Model) -> Result<Depth, OutOfMemory>
+    ensures length { IfOk result (HasLength model.now) }
+    ensures cycle { IfOk result (HasCycle model.now) }
+    ensures words { IfOk result (HasDepth model.now) }
+{
+    let entries = openings(alloc, model)?;
+    depth_of(alloc, model, &entries)
 }

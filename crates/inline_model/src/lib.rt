@@ -3,7 +3,10 @@
 #![tactic(auto)]
 
 mod answer;
+mod building;
 mod depths;
+mod failure;
+mod inlining;
 mod path;
 mod reading;
 mod search;
@@ -12,4 +15,6 @@ mod turns;
 
 pub use answer::depth;
 pub use depths::Depth;
+pub use failure::InlineError;
+pub use inlining::inline;
 pub use sites::Sites;

@@ -1,4 +1,4 @@
--- For private contracts and proofs alone: the edges of the inlined model as the list of copies tells them.
+-- The edges of the inlined model as the list of copies tells them.
 use Rattle.std.specs.Prelude.{◌≡◌, ◌↔◌, ◌⊎◌, ◌<◌, ◌≤◌, ◌-◌, ◌+◌, ℕ, ℤ, Bool, true, false, List, Option, Some, Contains, slice_get}
 use Rattle.flow_model.specs.declared.records.SilentEdge.{SilentEdge}
 use Rattle.flow_model.specs.declared.records.SysEdge.{SysEdge}

@@ -1,1 +1,3 @@
 pub mod Depth
+pub mod Inline
+pub mod InlineStops

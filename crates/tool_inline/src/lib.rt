@@ -3,5 +3,8 @@
 
 mod depth_command;
 mod depth_text;
+mod inline_command;
+mod inline_text;
 
 pub use depth_command::depth_of_model;
+pub use inline_command::inlined_model;

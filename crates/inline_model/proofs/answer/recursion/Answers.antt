@@ -1,7 +1,7 @@
 use Rattle.std.proofs.Common.{◌≡◌, ◌<◌, length, get_or, take, drop, map, ap, ◌∙◌, subst}
 use Rattle.inline_model_laws.specs.Chains.{IsRecursion}
 use Rattle.inline_model_laws.proofs.RecursionLemmas.{recursion_unbounded}
-use Rattle.inline_model.specs.Places.{places_onto, site_at}
+use Rattle.inline_model.specs.Places.{site_at}
 use Rattle.inline_model.proofs.TrailLemmas.{recursion_from}
 use Rattle.inline_model.proofs.answer.recursion.Goals as goal
 use Rattle.inline_model.proofs.answer.recursion.Goals.{In_ok-cycle}

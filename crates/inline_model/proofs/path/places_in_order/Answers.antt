@@ -1,4 +1,4 @@
-use Rattle.std.proofs.Common.{◌≡◌, ◌++◌, take, get_or, None, sym, ap, ◌∙◌}
+use Rattle.std.proofs.Common.{◌++◌, take, get_or, None, sym, ap, ◌∙◌}
 use Rattle.std.proofs.lemmas.List.{take_more}
 use Rattle.inline_model.specs.declared.path.Frame.{Frame}
 use Rattle.inline_model.specs.Places.{place_of, places_of}

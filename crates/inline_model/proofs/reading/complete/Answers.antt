@@ -1,5 +1,4 @@
-use Rattle.std.proofs.Common.{◌≡◌, ℕ, Contains, None, sym, ap, ◌∙◌}
-use Rattle.std.specs.Prelude.{slice_get}
+use Rattle.std.proofs.Common.{◌≡◌, Contains, sym}
 use Rattle.inline_model.specs.Searching.{Enters}
 use Rattle.inline_model.proofs.HeightLemmas.{completes_like, completes_none, enters_call, call_enters, enters_nothing, enters_start, start_enters}
 use Rattle.inline_model.proofs.reading.complete.Goals as goal

@@ -1,4 +1,4 @@
-use Rattle.std.proofs.Common.{◌≡◌, get_or, max, ap, ◌∙◌}
+use Rattle.std.proofs.Common.{get_or, max, ap, ◌∙◌}
 use Rattle.std.proofs.lemmas.List.{get_or_default}
 use Rattle.inline_model_openings.specs.declared.table.Entry.{Entry}
 use Rattle.inline_model.proofs.HeightLemmas.{greatest_more}

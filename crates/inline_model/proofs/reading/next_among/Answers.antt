@@ -1,4 +1,4 @@
-use Rattle.std.proofs.Common.{◌≡◌, ◌+◌, ◌≤◌, length, take, get_or, Contains, sym, subst, arith}
+use Rattle.std.proofs.Common.{◌+◌, ◌≤◌, length, take, get_or, Contains, sym, subst, arith}
 use Rattle.std.proofs.lemmas.List.{get_or_default, take_all}
 use Rattle.inline_model.specs.Searching.{IsNext}
 use Rattle.inline_model.proofs.HeightLemmas.{next_more}

@@ -1,6 +1,6 @@
 use Rattle.std.proofs.Common.{◌≡◌, length, Some, sym, ap, ◌∙◌, subst, arith}
 use Rattle.std.specs.Prelude.{slice_get}
-use Rattle.inline_model.specs.Searching.{AreHeights, Completes, Enters, IsHeight}
+use Rattle.inline_model.specs.Searching.{AreHeights, IsHeight}
 use Rattle.inline_model.proofs.SearchLemmas.{written_back}
 use Rattle.inline_model.proofs.turns.end.Goals as goal
 

@@ -1,4 +1,4 @@
-use Rattle.std.proofs.Common.{◌≡◌, set, refl, sym, subst, arith}
+use Rattle.std.proofs.Common.{set, refl, sym, subst, arith}
 use Rattle.inline_model.specs.declared.search.Mark.TheVariants.{Done}
 use Rattle.inline_model.specs.Searching.{AreSearching, AreHeights, Completes, Enters}
 use Rattle.inline_model.proofs.SearchLemmas.{leave_done, popped, written_back}

@@ -1,5 +1,4 @@
 use Rattle.std.proofs.Common.{◌≡◌, ◌+◌, ◌∷◌, sym, ap, ◌∙◌, subst, arith}
-use Rattle.inline_model.specs.declared.path.Frame.{Frame}
 use Rattle.inline_model.specs.Searching.{AreSearching}
 use Rattle.inline_model.proofs.SearchLemmas.{pass_done, popped}
 use Rattle.inline_model.proofs.turns.pass.Goals as goal

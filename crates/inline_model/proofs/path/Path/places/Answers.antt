@@ -1,4 +1,4 @@
-use Rattle.std.proofs.Common.{◌≡◌, [], reverse, sym, ap, ◌∙◌}
+use Rattle.std.proofs.Common.{[], reverse, sym, ap, ◌∙◌}
 use Rattle.std.proofs.lemmas.List.{append-nil, reverse-reverse}
 use Rattle.inline_model.specs.Places.{places_of}
 use Rattle.inline_model.proofs.PlacesLemmas.{onto_reverse}
