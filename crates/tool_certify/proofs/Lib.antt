@@ -1,0 +1,3 @@
+pub mod CertificateFiles
+pub mod ConfirmLemmas
+pub mod FileLemmas
