@@ -1,0 +1,9 @@
+pub mod AdvanceLemmas
+pub mod AloneLemmas
+pub mod CountLemmas
+pub mod FleetLemmas
+pub mod GroupLemmas
+pub mod PlaceLemmas
+pub mod StepLemmas
+pub mod TellingLemmas
+pub mod ZipLemmas

@@ -1,0 +1,4 @@
+pub mod Alone
+pub mod Fleets
+pub mod Going
+pub mod Members
