@@ -3,8 +3,8 @@
 with the example's last line. The status is 0 where there are examples and each is refused as its page says.
 
 An example is a block ```text whose last line is a refusal. What stands before it is the file, or where it begins with
-`$ ` a command, and the file is what bash writes for it. Files are C texts, models, traces, interleaved traces or
-recorded results, as the line says."""
+`$ ` a command, and the file is what bash writes for it. Files are C texts, models, traces, interleaved traces,
+recorded results, schedules or certificates, as the line says."""
 import os
 import pathlib
 import re
@@ -16,6 +16,7 @@ PAGE = pathlib.Path(__file__).resolve().parent.parent / 'docs/CODES.md'
 SECONDS = 60
 MODEL = 'dyckmon-model 1\nfunctions 1\nf main 0 1\nnodes 2\ns 0 getpid 1\nstart 0\nend\n'
 PROGRAM = 'int main(void) { return 0; }\n'
+TRACE = 'dyckmon-trace 1\nS getpid = 100\nS getpid = 101\nend open\n'
 
 
 def words_of(line):
@@ -24,9 +25,13 @@ def words_of(line):
     if kind == 'source':
         return [{'G': 'model', 'N': 'instrument'}.get(code[0], 'check'), 'it']
     if kind == 'model':
-        return ['upgrade', 'it']
+        return ['inline' if code[0] == 'I' else 'upgrade', 'it']
     if code[0] == 'F':
         return ['run', 'program', 'it', '10']
+    if code[0] == 'S':
+        return ['fleet', 'it', 'stack']
+    if code[0] == 'Q':
+        return ['confirm', 'model', 'trace', 'it']
     return ['watch' if code == 'X4' else 'judge', 'model', 'it', 'all']
 
 
@@ -36,6 +41,7 @@ def differs(program, lines):
     with tempfile.TemporaryDirectory() as folder:
         pathlib.Path(folder, 'model').write_text(MODEL)
         pathlib.Path(folder, 'program').write_text(PROGRAM)
+        pathlib.Path(folder, 'trace').write_text(TRACE)
         with open(pathlib.Path(folder, 'it'), 'wb') as it:
             if lines[0].startswith('$ '):
                 subprocess.run(['bash', '-c', '\n'.join(lines[:-1])[2:]], stdout=it, check=True, timeout=SECONDS)

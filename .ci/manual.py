@@ -1,7 +1,8 @@
 #!/usr/bin/env python3
 """manual.py PROGRAM [write]: compares the commands of dyckmon.1 (the manual page) and of dyckmon.bash (completion in bash) with
-those of the program's --help, and tries the completion. The status is 0 where both have each command with its words and nothing
-else. With `write` it writes the two lists of commands anew first; the rest of both files is written by hand."""
+those of the program's --help, and the codes of dyckmon.1 with what `codes` writes, and tries the completion. The status is 0 where
+each has what the program says and nothing else. With `write` it writes the three lists anew first; the rest of both files is
+written by hand."""
 import pathlib
 import re
 import subprocess
@@ -11,6 +12,7 @@ TOP = pathlib.Path(__file__).resolve().parent.parent
 PAGE = TOP / 'dyckmon.1'
 COMPLETION = TOP / 'dyckmon.bash'
 PAGE_PART = ('.\\" Made from dyckmon --help by .ci/manual.py.\n', '.\\" The end of what is made.\n')
+CODES_PART = ('.\\" Made from dyckmon codes by .ci/manual.py.\n', '.\\" The end of the codes.\n')
 COMPLETION_PART = ('# Made from dyckmon --help by .ci/manual.py.\n', '# The end of what is made.\n')
 
 
@@ -33,6 +35,11 @@ def page_of(calls, words):
         shown = ' '.join(('\\fI%s\\fR' if re.search('[A-Z]', it) else '\\fB%s\\fR') % escaped(it) for it in typed.split())
         made += f'.TP\n{shown}\n{escaped(gives[0].upper() + gives[1:])}.\n'
     return made + f'.PP\n{escaped(words)}\n'
+
+
+def codes_of(text):
+    """The part of the manual page that lists the codes with their reasons."""
+    return ''.join(f'.TP\n.B {code}\n{escaped(reason)}\n' for code, reason in (line.split(' ', 1) for line in text.splitlines()))
 
 
 def completion_of(calls):
@@ -70,15 +77,22 @@ def completed(words):
 
 def main():
     program, *more = sys.argv[1:]
-    text = subprocess.run([str(pathlib.Path(program).resolve()), '--help'], capture_output=True, text=True, timeout=60).stdout
+    text, codes = (
+        subprocess.run([str(pathlib.Path(program).resolve()), word], capture_output=True, text=True, timeout=60).stdout
+        for word in ('--help', 'codes')
+    )
     calls, words = read_help(text)
     wrong = []
-    for path, part, made in (PAGE, PAGE_PART, page_of(calls, words)), (COMPLETION, COMPLETION_PART, completion_of(calls)):
+    for path, part, made in (
+        (PAGE, PAGE_PART, page_of(calls, words)),
+        (PAGE, CODES_PART, codes_of(codes)),
+        (COMPLETION, COMPLETION_PART, completion_of(calls)),
+    ):
         before, inside, behind = parts(path, part)
-        if more == ['write'] and calls:
+        if more == ['write'] and calls and codes:
             path.write_text(before + made + behind)
         elif inside != made:
-            wrong.append(f'{path.name} is not made from this --help: run .ci/manual.py PROGRAM write')
+            wrong.append(f'{path.name} is not made from what this program says: run .ci/manual.py PROGRAM write')
     for typed, wanted in (
         (['dyckmon', ''], sorted(['--help', '--version', *(it for it, _ in commands_of(calls))])),
         (['dyckmon', 'judge', 'm', 't', ''], ['all', 'callgraph', 'dyck', 'stack']),
@@ -89,8 +103,8 @@ def main():
             wrong.append(f'dyckmon.bash completes {typed} by {completed(typed)}, and not by {wanted}')
     for line in wrong:
         print(line)
-    print(f'the manual page and the completion have {len(calls)} lines of --help, {len(wrong)} wrong')
-    return 1 if wrong or not calls else 0
+    print(f'the manual page and the completion have {len(calls)} lines of --help and {len(codes.splitlines())} codes, {len(wrong)} wrong')
+    return 1 if wrong or not calls or not codes else 0
 
 
 if __name__ == '__main__':

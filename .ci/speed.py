@@ -83,11 +83,40 @@ def doubled(levels, length):
     return model(named, levels * length, silent, system, calls, 0)
 
 
+def rounds(functions, length):
+    """A C text whose main calls each function over and over, each of them with a row of system calls."""
+    types = {'getuid': 'unsigned', 'geteuid': 'unsigned', 'getgid': 'unsigned'}
+    lines = [f'{types.get(name, "int")} {name}(void);' for name in CALLS]
+    for i in range(functions):
+        lines.append(f'int f{i}(void) {{ ' + ' '.join(f'{CALLS[(i + j) % len(CALLS)]}();' for j in range(length)) + ' return 0; }')
+    return '\n'.join([*lines, 'int main(void) { while (1) { ' + ' '.join(f'f{i}();' for i in range(functions)) + ' } return 0; }', ''])
+
+
+def side_by_side(program, folder):
+    """64 processes with 15,000 events each in rounds, beside 64 runs that are judged alone."""
+    (folder / 'p').write_text(rounds(130, 12))
+    (folder / 'r').write_text('dyckmon-results 1\n' + 'R 7\n' * 15_000 + 'end\n')
+    (folder / 'm').write_bytes(run(program, ['model', 'p'], folder)[1])
+    pids = range(1, 65)
+    lines = ['dyckmon-fleet 1', *(f'p {pid} p m r 1000000 1000' for pid in pids)]
+    for steps in (7_500, 15_000):
+        (folder / 's').write_text('\n'.join([*lines, *(f'a {pid}' for _ in range(steps) for pid in pids), 'end', '']))
+        status, out, said, seconds, held = min((run(program, ['fleet', 's', 'stack'], folder) for _ in range(2)), key=lambda r: r[3])
+        right = out.endswith(b'fleet processes 64 open 64 ended 0 rejected 0 bound 0\n') and f'1 open {steps}\n'.encode() in out
+        print(f'fleet, {steps} events each: {seconds:.2f} s, {held:.0f} MiB, status {status}{"" if right else " WRONG " + said.decode()}', flush=True)
+    ran = min((run(program, ['run', 'p', 'r', '1000000'], folder) for _ in range(3)), key=lambda r: r[3])
+    (folder / 't').write_bytes(ran[1])
+    judged = min((run(program, ['judge', 'm', 't', 'stack'], folder) for _ in range(3)), key=lambda r: r[3])
+    nodes = int((folder / 'm').read_bytes().split(b'nodes ')[1].split()[0])
+    print(f'the same alone, model of {nodes} nodes: run {ran[3]:.2f} s, judge {judged[3]:.2f} s, 64 times both {64 * (ran[3] + judged[3]):.2f} s')
+    return not right or not judged[1].startswith(b'stack accepted 15000')
+
+
 def benchmarks(folder):
     """Name, files to make, words, and what is right of status and output."""
     def begins(text): return lambda status, out: out.startswith(text.encode())
     big = lambda: {'m': servers(200, 10), 't': served(200, 10, 1_000_000)}
-    bracketed = lambda: {'m': servers(200, 10), 'n': served(200, 10, 800_000, True)}
+    bracketed = lambda: {'m': servers(200, 10), 'n': served(200, 10, 799_992, True)}
     yield 'judge callgraph', big, ['judge', 'm', 't', 'callgraph'], begins('callgraph accepted 1000000')
     yield 'judge stack', big, ['judge', 'm', 't', 'stack'], begins('stack accepted 1000000')
     yield 'judge dyck', bracketed, ['judge', 'm', 'n', 'dyck'], begins('dyck accepted ')
@@ -109,10 +138,11 @@ def main():
         folder = pathlib.Path(place)
         for name, files, words, is_right in benchmarks(folder):
             if asked and name not in asked: continue
-            if f'dyckmon {words[0]} ' not in built:
-                print(f'{name}: the program has no such command')
+            made = files()
+            if any(f'dyckmon {command} ' not in built for command in [words[0], *(text[0] for text in made.values() if isinstance(text, list))]):
+                print(f'{name}: the program lacks a command for it')
                 continue
-            for file, text in files().items():
+            for file, text in made.items():
                 if isinstance(text, list): text = run(program, text, folder)[1]
                 (folder / file).write_bytes(text if isinstance(text, bytes) else text.encode())
             runs = [run(program, words, folder) for _ in range(3)]
@@ -121,6 +151,7 @@ def main():
             wrong += not right
             told = out[:60].split(b'\n')[0].decode(errors='replace')
             print(f'{name}: {seconds:.2f} s, {held:.0f} MiB, status {status}, {told!r}{"" if right else " WRONG " + said.decode()}', flush=True)
+        if (not asked or 'fleet' in asked) and 'dyckmon fleet ' in built: wrong += side_by_side(program, folder)
     return 1 if wrong else 0
 
 

@@ -8,19 +8,27 @@ use Rattle.dm_base.specs.declared.verdict.Status.TheVariants as statuses
 use Rattle.dm_io.specs.Store.{Files}
 use Rattle.tool_audit.proofs.FileLemmas.{audit_ready, audit_apart, audit_status, audit_made}
 use Rattle.tool_audit.specs.Audit.{IsAuditStatus}
+use Rattle.flow_model.specs.declared.which.Which.{Which}
+use Rattle.flow_model.specs.declared.which.Which.TheVariants as whiches
+use Rattle.report.specs.VerdictLine.{word_of}
+use Rattle.tool_fleet.proofs.FileLemmas.{fleet_ready, fleet_apart, fleet_status}
+use Rattle.tool_certify.proofs.FileLemmas.{confirm_ready, confirm_apart, confirm_status}
 use Rattle.tool_inline.proofs.DepthLemmas.{depth_ready, depth_apart, depth_status}
+use Rattle.tool_inline.proofs.InlineLemmas.{inline_ready, inline_apart, inline_status}
 use Rattle.tool_instrument.proofs.FileLemmas.{instrument_ready, instrumented_apart, instrument_status}
 use Rattle.tool_monitors.specs.declared.asked.Asked.{Asked}
 use Rattle.tool_monitors.specs.declared.asked.Asked.TheVariants as asked
 use Rattle.tool_monitors.specs.Monitors.{asked_word, monitors_of}
 use Rattle.tool_files.proofs.InputLemmas.{judge_ready, judge_status}
 use Rattle.tool_models.proofs.FileLemmas.{watch_ready, upgrade_ready, judged_apart, measured_apart, watched_apart, upgrade_or_refused, watch_status, upgrade_status}
+use Rattle.tool_reading.proofs.FileLemmas.{picture_ready, picture_apart, picture_status}
 use Rattle.tool_run.proofs.FileLemmas.{run_ready, run_apart, run_status}
 use Rattle.tool_texts.proofs.FileLemmas.{check_ready, checked_apart, check_status, model_ready, modelled_apart, model_status}
 use Rattle.tool.specs.Command.{Command, IsCommandLine, IsAskedBy}
-use Rattle.tool.specs.Command.{FileCommand, TraceCommand, file_word, trace_word}
-use Rattle.tool.specs.Command.FileCommand.{Check, Depth, Instrument, Model, Upgrade}
-use Rattle.tool.specs.Command.Command.{Version, Help, OfFile, OfTrace, Measure, Run, Audit}
+use Rattle.tool.specs.Command.{FileCommand, TraceCommand, file_word, trace_word, WordCommand, command_word}
+use Rattle.tool.specs.Command.FileCommand.{Check, Depth, Inline, Instrument, Model, Picture, Upgrade}
+use Rattle.tool.specs.Command.Command.{Version, OfWord, OfFile, OfTrace, Measure, Fleet, Run, Audit, Confirm}
+use Rattle.tool.specs.Command.WordCommand.{Help, Codes}
 use Rattle.tool.specs.Command.TraceCommand.{Judge, Watch}
 use Rattle.tool.specs.Commands.{Makes, Refuses, IsReady}
 
@@ -47,6 +55,18 @@ one_asked_for which other bound most words (inr a) (inl b) = cc (a.0, b.0)
 one_asked_for which other bound most words (inr a) (inr b) =
     (one_asked which other (cc (a.0, b.0)), decimal_injective bound most (omega (arith, a.2)) (omega (arith, b.2)) (cc (a.0, b.0)))
 
+-- the monitor that a word asks for, told by its first byte
+abbrev which_of : ℕ → Which
+which_of byte = if nat_eq byte 99 then whiches.Callgraph else (if nat_eq byte 115 then whiches.Stack else whiches.Dyck)
+
+of_which : (which : Which) → which_of (get_or (word_of which) 0 0) ≡ which
+of_which whiches.Callgraph = refl
+of_which whiches.Stack = refl
+of_which whiches.Dyck = refl
+
+one_which : (which other : Which) → word_of which ≡ word_of other → which ≡ other
+one_which which other same = sym (of_which which) ∙ ap (λ (w : List ℕ). which_of (get_or w 0 0)) same ∙ of_which other
+
 abbrev trace_command_of : ℕ → TraceCommand
 trace_command_of byte = if nat_eq byte 106 then Judge else Watch
 
@@ -57,15 +77,28 @@ of_trace_command Watch = refl
 one_trace_command : (which other : TraceCommand) → trace_word which ≡ trace_word other → which ≡ other
 one_trace_command which other same = sym (of_trace_command which) ∙ ap (λ (w : List ℕ). trace_command_of (get_or w 0 0)) same ∙ of_trace_command other
 
+-- a command of one word, told by its first byte
+abbrev word_command_of : ℕ → WordCommand
+word_command_of byte = if nat_eq byte 99 then Codes else Help
+
+of_word_command : (which : WordCommand) → word_command_of (get_or (command_word which) 0 0) ≡ which
+of_word_command Help = refl
+of_word_command Codes = refl
+
+one_word_command : (which other : WordCommand) → command_word which ≡ command_word other → which ≡ other
+one_word_command which other same = sym (of_word_command which) ∙ ap (λ (w : List ℕ). word_command_of (get_or w 0 0)) same ∙ of_word_command other
+
 abbrev file_command_of : ℕ → FileCommand
 file_command_of byte =
-    if nat_eq byte 101 then Check else (if nat_eq byte 112 then Depth else (if nat_eq byte 115 then Instrument else (if nat_eq byte 100 then Model else Upgrade)))
+    if nat_eq byte 101 then Check else (if nat_eq byte 112 then Depth else (if nat_eq byte 108 then Inline else (if nat_eq byte 115 then Instrument else (if nat_eq byte 100 then Model else (if nat_eq byte 99 then Picture else Upgrade)))))
 
 of_file_command : (which : FileCommand) → file_command_of (get_or (file_word which) 2 0) ≡ which
 of_file_command Check = refl
 of_file_command Depth = refl
+of_file_command Inline = refl
 of_file_command Instrument = refl
 of_file_command Model = refl
+of_file_command Picture = refl
 of_file_command Upgrade = refl
 
 one_file_command : (which other : FileCommand) → file_word which ≡ file_word other → which ≡ other
@@ -78,42 +111,71 @@ letter words a b s t one two = ap (λ (ws : List (List ℕ)). get_or (get_or ws 
 no_clash : false ≡ true → ⊥
 no_clash same = cc same
 
+-- `--version` is no such word
+no_version : (which : WordCommand) → codes "--version" ≡ command_word which → ⊥
+no_version Help same = no_clash (ap (λ (w : List ℕ). nat_eq (get_or w 2 0) 104) same)
+no_version Codes same = no_clash (ap (λ (w : List ℕ). nat_eq (get_or w 0 0) 99) same)
+
 judge_is_not_audit : ◌≡◌ {A = ℕ} 106 97 → ⊥
 judge_is_not_audit same = no_clash (ap (λ (n : ℕ). nat_eq n 97) same)
 
 watch_is_not_audit : ◌≡◌ {A = ℕ} 119 97 → ⊥
 watch_is_not_audit same = no_clash (ap (λ (n : ℕ). nat_eq n 97) same)
 
+judge_is_not_fleet : ◌≡◌ {A = ℕ} 106 102 → ⊥
+judge_is_not_fleet same = no_clash (ap (λ (n : ℕ). nat_eq n 102) same)
+
+watch_is_not_fleet : ◌≡◌ {A = ℕ} 119 102 → ⊥
+watch_is_not_fleet same = no_clash (ap (λ (n : ℕ). nat_eq n 102) same)
+
+judge_is_not_confirm : ◌≡◌ {A = ℕ} 106 99 → ⊥
+judge_is_not_confirm same = no_clash (ap (λ (n : ℕ). nat_eq n 99) same)
+
+watch_is_not_confirm : ◌≡◌ {A = ℕ} 119 99 → ⊥
+watch_is_not_confirm same = no_clash (ap (λ (n : ℕ). nat_eq n 99) same)
+
+measure_is_not_confirm : ◌≡◌ {A = ℕ} 109 99 → ⊥
+measure_is_not_confirm same = no_clash (ap (λ (n : ℕ). nat_eq n 99) same)
+
+run_is_not_confirm : ◌≡◌ {A = ℕ} 114 99 → ⊥
+run_is_not_confirm same = no_clash (ap (λ (n : ℕ). nat_eq n 99) same)
+
 -- words ask for one command
 one_command : (c d : Command) (words : List (List ℕ)) → IsCommandLine c words → IsCommandLine d words → c ≡ d
 one_command Version Version words line next = refl
-one_command Version Help words line next = elim line [ inl is ↦ cc (is, next) | inr is ↦ cc (is, next) ]
+one_command Version (OfWord other) words line next = elim line [ inl is ↦ cc (is, next) | inr is ↦ absurd (no_version other (cc (is, next))) ]
 one_command Version (OfFile other file) words line next = elim line [ inl is ↦ cc (is, next) | inr is ↦ cc (is, next) ]
 one_command Version (OfTrace other m t again most) words line next = elim line [ inl is ↦ cc (is, next.1) | inr is ↦ cc (is, next.1) ]
 one_command Version (Measure m t again) words line next = elim line [ inl is ↦ cc (is, next) | inr is ↦ cc (is, next) ]
+one_command Version (Fleet m again) words line next = elim line [ inl is ↦ cc (is, next) | inr is ↦ cc (is, next) ]
 one_command Version (Run m t again) words line next = elim line [ inl is ↦ cc (is, next.0) | inr is ↦ cc (is, next.0) ]
 one_command Version (Audit m t again greatest) words line next = elim line [ inl is ↦ cc (is, next.0) | inr is ↦ cc (is, next.0) ]
-one_command Help Version words line next = elim next [ inl is ↦ cc (is, line) | inr is ↦ cc (is, line) ]
-one_command Help Help words line next = refl
-one_command Help (OfFile other file) words line next = cc (line, next)
-one_command Help (OfTrace Judge m t again most) words line next = cc (line, next.1)
-one_command Help (OfTrace Watch m t again most) words line next = cc (line, next.1)
-one_command Help (Measure m t again) words line next = cc (line, next)
-one_command Help (Run m t again) words line next = cc (line, next.0)
-one_command Help (Audit m t again greatest) words line next = cc (line, next.0)
+one_command (OfWord which) Version words line next = elim next [ inl is ↦ cc (is, line) | inr is ↦ absurd (no_version which (cc (is, line))) ]
+one_command (OfWord which) (OfWord other) words line next =
+    let command : which ≡ other = one_word_command which other (cc (line, next)) in
+    cc command
+one_command (OfWord which) (OfFile other file) words line next = cc (line, next)
+one_command (OfWord which) (OfTrace other m t again most) words line next = cc (line, next.1)
+one_command (OfWord which) (Measure m t again) words line next = cc (line, next)
+one_command (OfWord which) (Run m t again) words line next = cc (line, next.0)
+one_command (OfWord which) (Fleet m again) words line next = cc (line, next)
+one_command (OfWord which) (Audit m t again greatest) words line next = cc (line, next.0)
+one_command (OfWord which) (Confirm m t q) words line next = cc (line, next)
+one_command Version (Confirm m t q) words line next = elim line [ inl is ↦ cc (is, next) | inr is ↦ cc (is, next) ]
 one_command (OfFile which name) Version words line next = elim next [ inl is ↦ cc (is, line) | inr is ↦ cc (is, line) ]
-one_command (OfFile which name) Help words line next = cc (line, next)
+one_command (OfFile which name) (OfWord other) words line next = cc (line, next)
 one_command (OfFile which name) (OfFile other file) words line next =
     let command : which ≡ other = one_file_command which other (cc (line, next)) in
     let same : name ≡ file = cc (line, next) in
     cc (command, same)
 one_command (OfFile which name) (OfTrace other m t again most) words line next = cc (line, next.1)
 one_command (OfFile which name) (Measure m t again) words line next = cc (line, next)
+one_command (OfFile which name) (Fleet m again) words line next = cc (line, next)
 one_command (OfFile which name) (Run m t again) words line next = cc (line, next.0)
 one_command (OfFile which name) (Audit m t again greatest) words line next = cc (line, next.0)
+one_command (OfFile which name) (Confirm m t q) words line next = cc (line, next)
 one_command (OfTrace command model trace which bound) Version words line next = elim next [ inl is ↦ cc (is, line.1) | inr is ↦ cc (is, line.1) ]
-one_command (OfTrace Judge model trace which bound) Help words line next = cc (line.1, next)
-one_command (OfTrace Watch model trace which bound) Help words line next = cc (line.1, next)
+one_command (OfTrace command model trace which bound) (OfWord other) words line next = cc (line.1, next)
 one_command (OfTrace command model trace which bound) (OfFile other file) words line next = cc (line.1, next)
 one_command (OfTrace command model trace which bound) (OfTrace other m t again most) words line next =
     let commands : command ≡ other = one_trace_command command other (cc (line.1, next.1)) in
@@ -124,12 +186,16 @@ one_command (OfTrace command model trace which bound) (OfTrace other m t again m
     cc (commands, models, traces, parts.0, parts.1)
 one_command (OfTrace Judge model trace which bound) (Measure m t again) words line next = cc (line.1, next)
 one_command (OfTrace Watch model trace which bound) (Measure m t again) words line next = cc (line.1, next)
+one_command (OfTrace Judge model trace which bound) (Fleet m again) words line next = absurd (judge_is_not_fleet (letter words (trace_word Judge) (codes "fleet") _ _ line.1 next))
+one_command (OfTrace Watch model trace which bound) (Fleet m again) words line next = absurd (watch_is_not_fleet (letter words (trace_word Watch) (codes "fleet") _ _ line.1 next))
 one_command (OfTrace Judge model trace which bound) (Run m t again) words line next = cc (line.1, next.0)
 one_command (OfTrace Judge model trace which bound) (Audit m t again greatest) words line next = absurd (judge_is_not_audit (letter words (trace_word Judge) (codes "audit") _ _ line.1 next.0))
 one_command (OfTrace Watch model trace which bound) (Run m t again) words line next = cc (line.1, next.0)
 one_command (OfTrace Watch model trace which bound) (Audit m t again greatest) words line next = absurd (watch_is_not_audit (letter words (trace_word Watch) (codes "audit") _ _ line.1 next.0))
+one_command (OfTrace Judge model trace which bound) (Confirm m t q) words line next = absurd (judge_is_not_confirm (letter words (trace_word Judge) (codes "confirm") _ _ line.1 next))
+one_command (OfTrace Watch model trace which bound) (Confirm m t q) words line next = absurd (watch_is_not_confirm (letter words (trace_word Watch) (codes "confirm") _ _ line.1 next))
 one_command (Measure model trace which) Version words line next = elim next [ inl is ↦ cc (is, line) | inr is ↦ cc (is, line) ]
-one_command (Measure model trace which) Help words line next = cc (line, next)
+one_command (Measure model trace which) (OfWord other) words line next = cc (line, next)
 one_command (Measure model trace which) (OfFile other file) words line next = cc (line, next)
 one_command (Measure model trace which) (OfTrace Judge m t again most) words line next = cc (line, next.1)
 one_command (Measure model trace which) (OfTrace Watch m t again most) words line next = cc (line, next.1)
@@ -138,26 +204,44 @@ one_command (Measure model trace which) (Measure m t again) words line next =
     let models : model ≡ m = cc (line, next) in
     let traces : trace ≡ t = cc (line, next) in
     cc (models, traces, asked)
+one_command (Measure model trace which) (Fleet m again) words line next = cc (line, next)
 one_command (Measure model trace which) (Run m t again) words line next = cc (line, next.0)
 one_command (Measure model trace which) (Audit m t again greatest) words line next = cc (line, next.0)
+one_command (Measure model trace which) (Confirm m t q) words line next = absurd (measure_is_not_confirm (letter words (codes "measure") (codes "confirm") _ _ line next))
+one_command (Fleet schedule which) Version words line next = elim next [ inl is ↦ cc (is, line) | inr is ↦ cc (is, line) ]
+one_command (Fleet schedule which) (OfWord other) words line next = cc (line, next)
+one_command (Fleet schedule which) (OfFile other file) words line next = cc (line, next)
+one_command (Fleet schedule which) (OfTrace Judge m t again most) words line next = absurd (judge_is_not_fleet (letter words (trace_word Judge) (codes "fleet") _ _ next.1 line))
+one_command (Fleet schedule which) (OfTrace Watch m t again most) words line next = absurd (watch_is_not_fleet (letter words (trace_word Watch) (codes "fleet") _ _ next.1 line))
+one_command (Fleet schedule which) (Measure m t again) words line next = cc (line, next)
+one_command (Fleet schedule which) (Fleet m again) words line next =
+    let asked : which ≡ again = one_which which again (cc (line, next)) in
+    let schedules : schedule ≡ m = cc (line, next) in
+    cc (schedules, asked)
+one_command (Fleet schedule which) (Run m t again) words line next = cc (line, next.0)
+one_command (Fleet schedule which) (Audit m t again greatest) words line next = cc (line, next.0)
+one_command (Fleet schedule which) (Confirm m t q) words line next = cc (line, next)
 one_command (Run source results turns) Version words line next = elim next [ inl is ↦ cc (is, line.0) | inr is ↦ cc (is, line.0) ]
-one_command (Run source results turns) Help words line next = cc (line.0, next)
+one_command (Run source results turns) (OfWord other) words line next = cc (line.0, next)
 one_command (Run source results turns) (OfFile other file) words line next = cc (line.0, next)
 one_command (Run source results turns) (OfTrace Judge m t again most) words line next = cc (line.0, next.1)
 one_command (Run source results turns) (OfTrace Watch m t again most) words line next = cc (line.0, next.1)
 one_command (Run source results turns) (Measure m t again) words line next = cc (line.0, next)
+one_command (Run source results turns) (Fleet m again) words line next = cc (line.0, next)
 one_command (Run source results turns) (Run m t again) words line next =
     let numbers : turns ≡ again = decimal_injective turns again (omega (arith, line.1)) (omega (arith, next.1)) (cc (line.0, next.0)) in
     let sources : source ≡ m = cc (line.0, next.0) in
     let records : results ≡ t = cc (line.0, next.0) in
     cc (sources, records, numbers)
 one_command (Run source results turns) (Audit m t again greatest) words line next = cc (line.0, next.0)
+one_command (Run source results turns) (Confirm m t q) words line next = absurd (run_is_not_confirm (letter words (codes "run") (codes "confirm") _ _ line.0 next))
 one_command (Audit source results turns bound) Version words line next = elim next [ inl is ↦ cc (is, line.0) | inr is ↦ cc (is, line.0) ]
-one_command (Audit source results turns bound) Help words line next = cc (line.0, next)
+one_command (Audit source results turns bound) (OfWord other) words line next = cc (line.0, next)
 one_command (Audit source results turns bound) (OfFile other file) words line next = cc (line.0, next)
 one_command (Audit source results turns bound) (OfTrace Judge m t again most) words line next = absurd (judge_is_not_audit (letter words (trace_word Judge) (codes "audit") _ _ next.1 line.0))
 one_command (Audit source results turns bound) (OfTrace Watch m t again most) words line next = absurd (watch_is_not_audit (letter words (trace_word Watch) (codes "audit") _ _ next.1 line.0))
 one_command (Audit source results turns bound) (Measure m t again) words line next = cc (line.0, next)
+one_command (Audit source results turns bound) (Fleet m again) words line next = cc (line.0, next)
 one_command (Audit source results turns bound) (Run m t again) words line next = cc (line.0, next.0)
 one_command (Audit source results turns bound) (Audit m t again greatest) words line next =
     let numbers : turns ≡ again = decimal_injective turns again (omega (arith, line.1)) (omega (arith, next.1)) (cc (line.0, next.0)) in
@@ -165,60 +249,91 @@ one_command (Audit source results turns bound) (Audit m t again greatest) words 
     let sources : source ≡ m = cc (line.0, next.0) in
     let records : results ≡ t = cc (line.0, next.0) in
     cc (sources, records, numbers, bounds)
+one_command (Audit source results turns bound) (Confirm m t q) words line next = cc (line.0, next)
+one_command (Confirm model trace certificate) Version words line next = elim next [ inl is ↦ cc (is, line) | inr is ↦ cc (is, line) ]
+one_command (Confirm model trace certificate) (OfWord other) words line next = cc (line, next)
+one_command (Confirm model trace certificate) (OfFile other file) words line next = cc (line, next)
+one_command (Confirm model trace certificate) (OfTrace Judge m t again most) words line next = absurd (judge_is_not_confirm (letter words (trace_word Judge) (codes "confirm") _ _ next.1 line))
+one_command (Confirm model trace certificate) (OfTrace Watch m t again most) words line next = absurd (watch_is_not_confirm (letter words (trace_word Watch) (codes "confirm") _ _ next.1 line))
+one_command (Confirm model trace certificate) (Measure m t again) words line next = absurd (measure_is_not_confirm (letter words (codes "measure") (codes "confirm") _ _ next line))
+one_command (Confirm model trace certificate) (Fleet m again) words line next = cc (line, next)
+one_command (Confirm model trace certificate) (Run m t again) words line next = absurd (run_is_not_confirm (letter words (codes "run") (codes "confirm") _ _ next.0 line))
+one_command (Confirm model trace certificate) (Audit m t again greatest) words line next = cc (line, next.0)
+one_command (Confirm model trace certificate) (Confirm m t q) words line next =
+    let models : model ≡ m = cc (line, next) in
+    let traces : trace ≡ t = cc (line, next) in
+    let certificates : certificate ≡ q = cc (line, next) in
+    cc (models, traces, certificates)
 
 -- a command that is ready refuses nothing
 ready_apart : (c : Command) (files : Option Files) (status : Status) (line : List ℕ) → IsReady c files → Refuses c files status line → ⊥
 ready_apart Version files status line ready refuses = refuses
-ready_apart Help files status line ready refuses = refuses
+ready_apart (OfWord which) files status line ready refuses = refuses
 ready_apart (OfFile Check name) files status line ready refuses = check_ready files name line status ready refuses
 ready_apart (OfFile Depth name) files status line ready refuses = depth_ready files name line status ready refuses
+ready_apart (OfFile Inline name) files status line ready refuses = inline_ready files name line status ready refuses
 ready_apart (OfFile Instrument name) files status line ready refuses = instrument_ready files name line status ready refuses
 ready_apart (OfFile Model name) files status line ready refuses = model_ready files name line status ready refuses
+ready_apart (OfFile Picture name) files status line ready refuses = picture_ready files name line status ready refuses
 ready_apart (OfFile Upgrade name) files status line ready refuses = upgrade_ready files name line status ready refuses
 ready_apart (OfTrace Judge model trace which bound) files status line ready refuses = judge_ready files model trace line status ready refuses
 ready_apart (OfTrace Watch model trace which bound) files status line ready refuses = watch_ready files model trace line status ready refuses
 ready_apart (Measure model trace which) files status line ready refuses = judge_ready files model trace line status ready refuses
+ready_apart (Fleet schedule which) files status line ready refuses = fleet_ready files schedule status line ready refuses
 ready_apart (Run source results turns) files status line ready refuses = run_ready files source results status line ready refuses
 ready_apart (Audit source results turns bound) files status line ready refuses = audit_ready files source results status line ready refuses
+ready_apart (Confirm model trace certificate) files status line ready refuses = confirm_ready files model trace certificate line status ready refuses
 
 -- a command that makes a text refuses nothing
 made_apart : (c : Command) (files : Option Files) (status later : Status) (text line : List ℕ) → IsSome files → Makes c files status text → Refuses c files later line → ⊥
 made_apart Version files status later text line told makes refuses = refuses
-made_apart Help files status later text line told makes refuses = refuses
+made_apart (OfWord which) files status later text line told makes refuses = refuses
 made_apart (OfFile which name) None status later text line told makes refuses = absurd (cc told)
 made_apart (OfFile Check name) (Some files) status later text line told makes refuses = checked_apart files name text line later makes.1 refuses
 made_apart (OfFile Depth name) (Some files) status later text line told makes refuses = depth_apart files name text line later makes.1 refuses
+made_apart (OfFile Inline name) (Some files) status later text line told makes refuses = inline_apart files name text line later makes.1 refuses
 made_apart (OfFile Instrument name) (Some files) status later text line told makes refuses = instrumented_apart files name text line later makes.1 refuses
 made_apart (OfFile Model name) (Some files) status later text line told makes refuses = modelled_apart files name text line later makes.1 refuses
+made_apart (OfFile Picture name) (Some files) status later text line told makes refuses = picture_apart files name text line later makes.1 refuses
 made_apart (OfFile Upgrade name) (Some files) status later text line told makes refuses = upgrade_or_refused files name text line later makes.1 refuses
 made_apart (OfTrace command model trace which bound) None status later text line told makes refuses = absurd (cc told)
 made_apart (OfTrace Judge model trace which bound) (Some files) status later text line told makes refuses = judged_apart files model trace text line (monitors_of which) bound status later makes refuses
 made_apart (OfTrace Watch model trace which bound) (Some files) status later text line told makes refuses = watched_apart files model trace text line (monitors_of which) bound status later makes refuses
 made_apart (Measure model trace which) None status later text line told makes refuses = absurd (cc told)
 made_apart (Measure model trace which) (Some files) status later text line told makes refuses = measured_apart files model trace text line (monitors_of which) status later makes refuses
+made_apart (Fleet schedule which) None status later text line told makes refuses = absurd (cc told)
+made_apart (Fleet schedule which) (Some files) status later text line told makes refuses = fleet_apart files schedule which status later text line makes refuses
 made_apart (Run source results turns) None status later text line told makes refuses = absurd (cc told)
 made_apart (Run source results turns) (Some files) status later text line told makes refuses = run_apart files source results turns text later line makes.1 refuses
 made_apart (Audit source results turns bound) None status later text line told makes refuses = absurd (cc told)
 made_apart (Audit source results turns bound) (Some files) status later text line told makes refuses = audit_apart files source results turns bound status text later line makes refuses
+made_apart (Confirm model trace certificate) None status later text line told makes refuses = absurd (cc told)
+made_apart (Confirm model trace certificate) (Some files) status later text line told makes refuses = confirm_apart files model trace certificate text line later makes.1 refuses
 
 -- two refusals of one command have one status
 same_refusal : (c : Command) (files : Option Files) (status later : Status) (line other : List ℕ) → IsSome files → Refuses c files status line → Refuses c files later other → status ≡ later
 same_refusal Version files status later line other told refuses too = absurd refuses
-same_refusal Help files status later line other told refuses too = absurd refuses
+same_refusal (OfWord which) files status later line other told refuses too = absurd refuses
 same_refusal (OfFile Check name) files status later line other told refuses too = check_status Plain files name line status refuses ∙ sym (check_status Plain files name other later too)
 same_refusal (OfFile Depth name) files status later line other told refuses too = depth_status files name line status refuses ∙ sym (depth_status files name other later too)
+same_refusal (OfFile Inline name) files status later line other told refuses too = inline_status files name line status refuses ∙ sym (inline_status files name other later too)
 same_refusal (OfFile Instrument name) files status later line other told refuses too = instrument_status files name line status refuses ∙ sym (instrument_status files name other later too)
 same_refusal (OfFile Model name) files status later line other told refuses too = model_status files name line status refuses ∙ sym (model_status files name other later too)
+same_refusal (OfFile Picture name) files status later line other told refuses too = picture_status files name line status refuses ∙ sym (picture_status files name other later too)
 same_refusal (OfFile Upgrade name) files status later line other told refuses too = upgrade_status files name line status refuses ∙ sym (upgrade_status files name other later too)
 same_refusal (OfTrace command model trace which bound) None status later line other told refuses too = absurd (cc told)
 same_refusal (OfTrace Judge model trace which bound) (Some files) status later line other told refuses too = judge_status files model trace line other status later refuses too
 same_refusal (OfTrace Watch model trace which bound) (Some files) status later line other told refuses too = watch_status files model trace line other status later refuses too
 same_refusal (Measure model trace which) None status later line other told refuses too = absurd (cc told)
 same_refusal (Measure model trace which) (Some files) status later line other told refuses too = judge_status files model trace line other status later refuses too
+same_refusal (Fleet schedule which) None status later line other told refuses too = absurd (cc told)
+same_refusal (Fleet schedule which) (Some files) status later line other told refuses too = fleet_status files schedule status later line other refuses too
 same_refusal (Run source results turns) None status later line other told refuses too = absurd (cc told)
 same_refusal (Run source results turns) (Some files) status later line other told refuses too = run_status files source results status later line other refuses too
 same_refusal (Audit source results turns bound) None status later line other told refuses too = absurd (cc told)
 same_refusal (Audit source results turns bound) (Some files) status later line other told refuses too = audit_status files source results status later line other refuses too
+same_refusal (Confirm model trace certificate) None status later line other told refuses too = absurd (cc told)
+same_refusal (Confirm model trace certificate) (Some files) status later line other told refuses too = confirm_status files model trace certificate line other status later refuses too
 
 -- the command of the words refuses nothing where it is ready
 pub ready_not_refused : (c d : Command) (words : List (List ℕ)) (files : Option Files) (status : Status) (line : List ℕ) → IsCommandLine c words → IsCommandLine d words → IsReady c files → Refuses d files status line → ⊥

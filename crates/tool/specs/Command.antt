@@ -1,5 +1,7 @@
 -- The command lines.
 use Rattle.std.specs.Prelude.{◌≡◌, ◌⊎◌, ℕ, ◌≤◌, List, [], ◌∷◌, codes, decimal}
+use Rattle.flow_model.specs.declared.which.Which.{Which}
+use Rattle.report.specs.VerdictLine.{word_of}
 use Rattle.tool_monitors.specs.declared.asked.Asked.{Asked}
 use Rattle.tool_monitors.specs.Monitors.{asked_word}
 
@@ -9,20 +11,34 @@ IsAskedBy which bound words =
     ((words ≡ asked_word which ∷ []) × (bound ≡ 1000))
     ⊎ ((words ≡ asked_word which ∷ decimal bound ∷ []) × (1 ≤ bound) × (bound ≤ 65535))
 
+-- The commands of one word, which read no file.
+pub data WordCommand : Type 0 where
+  Help : WordCommand
+  Codes : WordCommand
+
+-- the word of such a command
+abbrev pub command_word : WordCommand → List ℕ
+command_word Help = codes "--help"
+command_word Codes = codes "codes"
+
 -- The commands that read one file and write one text.
 pub data FileCommand : Type 0 where
   Check : FileCommand
   Depth : FileCommand
+  Inline : FileCommand
   Instrument : FileCommand
   Model : FileCommand
+  Picture : FileCommand
   Upgrade : FileCommand
 
 -- the word of such a command
 abbrev pub file_word : FileCommand → List ℕ
 file_word Check = codes "check"
 file_word Depth = codes "depth"
+file_word Inline = codes "inline"
 file_word Instrument = codes "instrument"
 file_word Model = codes "model"
+file_word Picture = codes "picture"
 file_word Upgrade = codes "upgrade"
 
 -- The commands that read a model and a trace, or interleaved traces, and write the verdicts of monitors up to a bound.
@@ -38,21 +54,25 @@ trace_word Watch = codes "watch"
 -- What the words ask for. File names are bytes.
 pub data Command : Type 0 where
   Version : Command
-  Help : Command
+  OfWord : WordCommand → Command
   OfFile : FileCommand → List ℕ → Command
   OfTrace : TraceCommand → List ℕ → List ℕ → Asked → ℕ → Command
   Measure : List ℕ → List ℕ → Asked → Command
+  Fleet : List ℕ → Which → Command
   Run : List ℕ → List ℕ → ℕ → Command
   Audit : List ℕ → List ℕ → ℕ → ℕ → Command
+  Confirm : List ℕ → List ℕ → List ℕ → Command
 
 -- the words of each command
 abbrev pub IsCommandLine : Command → List (List ℕ) → Type 0
 IsCommandLine Version words = (words ≡ []) ⊎ (words ≡ codes "--version" ∷ [])
-IsCommandLine Help words = words ≡ codes "--help" ∷ []
+IsCommandLine (OfWord which) words = words ≡ command_word which ∷ []
 IsCommandLine (OfFile which file) words = words ≡ file_word which ∷ file ∷ []
 IsCommandLine (OfTrace command model trace which bound) words =
     (rest : List (List ℕ)) × (words ≡ trace_word command ∷ model ∷ trace ∷ rest) × IsAskedBy which bound rest
 IsCommandLine (Measure model trace which) words = words ≡ codes "measure" ∷ model ∷ trace ∷ asked_word which ∷ []
+IsCommandLine (Fleet schedule which) words = words ≡ codes "fleet" ∷ schedule ∷ word_of which ∷ []
 IsCommandLine (Run source results turns) words = (words ≡ codes "run" ∷ source ∷ results ∷ decimal turns ∷ []) × (turns ≤ 1000000)
 IsCommandLine (Audit source results turns bound) words =
     (words ≡ codes "audit" ∷ source ∷ results ∷ decimal turns ∷ decimal bound ∷ []) × (turns ≤ 1000000) × (1 ≤ bound) × (bound ≤ 65535)
+IsCommandLine (Confirm model trace certificate) words = words ≡ codes "confirm" ∷ model ∷ trace ∷ certificate ∷ []

@@ -1,12 +1,15 @@
-ghost use Rattle.std.specs.Prelude.{◌≡◌, ◌≤◌, ◌⊎◌, ℕ, List, [], ◌∷◌, map, string_bytes, decimal, IfSome, IfNone};
+ghost use Rattle.std.specs.Prelude.{◌≡◌, ◌≤◌, ◌⊎◌, ℕ, List, [], ◌∷◌, length, map, string_bytes, decimal, IfSome, IfNone};
+ghost use Rattle.flow_model.specs.declared.which.Which.{Which as AnyWhich};
+ghost use Rattle.report.specs.VerdictLine.{word_of};
 ghost use Rattle.tool_monitors.specs.Monitors.{asked_word};
 ghost use Rattle.tool.specs.Command.{Command as AskedCommand, TraceCommand, IsCommandLine, IsAskedBy};
-ghost use Rattle.tool.specs.Command.Command.{OfTrace, Measure, Run, Audit};
+ghost use Rattle.tool.specs.Command.Command.{OfTrace, Measure, Run, Audit, Confirm};
 ghost use Rattle.tool.specs.Command.TraceCommand.{Judge, Watch};
 ghost use Rattle.tool_monitors.specs.declared.asked.Asked.{Asked as AnyAsked};
 ghost use Rattle.tool.specs.Asked.{asked_by};
 
 use dm_base::read_u32;
+use flow_model::Which;
 use tool_monitors::Asked;
 
 /// What the words ask for.
@@ -16,12 +19,18 @@ pub enum Command<'a> {
     Version,
     /// The text on the commands.
     Help,
+    /// The codes with their reasons.
+    Codes,
     /// How many functions and call expressions the program of the C text in a file has.
     Check {
         source: &'a str,
     },
     /// How many calls may be open at once in the model in a file.
     Depth {
+        model: &'a str,
+    },
+    /// The text of the inlined model of the model in a file.
+    Inline {
         model: &'a str,
     },
     /// The C text in a file with null calls round the marked calls of its program.
@@ -31,6 +40,10 @@ pub enum Command<'a> {
     /// The text of the model of the program of the C text in a file.
     Model {
         source: &'a str,
+    },
+    /// The picture of the model in a file.
+    Picture {
+        model: &'a str,
     },
     /// The text of the model in a file in the newest version.
     Upgrade {
@@ -73,6 +86,17 @@ pub enum Command<'a> {
         trace: &'a str,
         asked: Asked,
     },
+    /// What the processes of the schedule in a file come to, each judged by this monitor of its model while all of them run.
+    Fleet {
+        schedule: &'a str,
+        which: Which,
+    },
+    /// The verdict of the certificate in the third file on the trace in the second by the model in the first, where it shows it.
+    Confirm {
+        model: &'a str,
+        trace: &'a str,
+        certificate: &'a str,
+    },
 }
 
 // The bound of the Dyck model where none is given.
@@ -93,6 +117,7 @@ pub fn command_of(words: &[String]) -> Option<Command<'_>>
         [] => Some(Command::Version),
         [word] => option_of(word),
         [word, file] => file_command_of(word, file),
+        [word, schedule, which] => fleet_of(word, schedule, which),
         [word, model, trace, asked @ ..] => trace_command_of(word, model, trace, asked),
     }
 }
@@ -108,6 +133,9 @@ fn option_of<'a>(word: &str) -> Option<Command<'a>>
     if word == "--help" {
         return Some(Command::Help);
     }
+    if word == "codes" {
+        return Some(Command::Codes);
+    }
     None
 }
 
@@ -122,11 +150,17 @@ fn file_command_of<'a>(word: &str, file: &'a str) -> Option<Command<'a>>
     if word == "depth" {
         return Some(Command::Depth { model: file });
     }
+    if word == "inline" {
+        return Some(Command::Inline { model: file });
+    }
     if word == "instrument" {
         return Some(Command::Instrument { source: file });
     }
     if word == "model" {
         return Some(Command::Model { source: file });
+    }
+    if word == "picture" {
+        return Some(Command::Picture { model: file });
     }
     if word == "upgrade" {
         return Some(Command::Upgrade { model: file });
@@ -189,13 +223,46 @@ fn bounded(which: &str, bound: &str) -> Option<(Asked, u32)>
     Some((asked, number))
 }
 
+// The monitor that the word asks for.
+fn which_of(word: &str) -> Option<Which>
+    ensures some { IfSome result (λ which. word.now ≡ word_of which) }
+    ensures none { IfNone result ((which : AnyWhich) → word.now ≡ word_of which → ⊥) }
+{
+    if word == "callgraph" {
+        return Some(Which::Callgraph);
+    }
+    if word == "stack" {
+        return Some(Which::Stack);
+    }
+    if word == "dyck" {
+        return Some(Which::Dyck);
+    }
+    None
+}
+
+// The command `fleet`, the only one of three words.
+fn fleet_of<'a>(word: &str, schedule: &'a str, which: &str) -> Option<Command<'a>>
+    ensures some { IfSome result (λ command. IsCommandLine (asked_by command) (word.now ∷ schedule.now ∷ which.now ∷ [])) }
+    ensures none { IfNone result ((c : AskedCommand) → IsCommandLine c (word.now ∷ schedule.now ∷ which.now ∷ []) → ⊥) }
+{
+    if word != "fleet" {
+        return None;
+    }
+    let monitor = which_of(which)?;
+    Some(Command::Fleet {
+        schedule,
+        which: monitor,
+    })
+}
+
 // A command of a word, two files, and what is asked for.
 fn trace_command_of<'a>(
     word: &str,
     model: &'a str,
     trace: &'a str,
-    words: &[String],
+    words: &'a [String],
 ) -> Option<Command<'a>>
+    requires { 1 ≤ length words.now }
     ensures some { IfSome result (λ command. IsCommandLine (asked_by command) (word.now ∷ model.now ∷ trace.now ∷ map string_bytes words.now)) }
     ensures none { IfNone result ((c : AskedCommand) → IsCommandLine c (word.now ∷ model.now ∷ trace.now ∷ map string_bytes words.now) → ⊥) }
 {
@@ -210,17 +277,72 @@ fn unbounded_command_of<'a>(
     word: &str,
     first: &'a str,
     second: &'a str,
-    words: &[String],
+    words: &'a [String],
 ) -> Option<Command<'a>>
     ensures some { IfSome result (λ command. IsCommandLine (asked_by command) (word.now ∷ first.now ∷ second.now ∷ map string_bytes words.now)) }
     ensures measure { IfNone result ((m t : List ℕ) (which : AnyAsked) → IsCommandLine (Measure m t which) (word.now ∷ first.now ∷ second.now ∷ map string_bytes words.now) → ⊥) }
     ensures run { IfNone result ((s r : List ℕ) (turns : ℕ) → IsCommandLine (Run s r turns) (word.now ∷ first.now ∷ second.now ∷ map string_bytes words.now) → ⊥) }
     ensures audit { IfNone result ((s r : List ℕ) (turns bound : ℕ) → IsCommandLine (Audit s r turns bound) (word.now ∷ first.now ∷ second.now ∷ map string_bytes words.now) → ⊥) }
+    ensures confirm { IfNone result ((m t c : List ℕ) → IsCommandLine (Confirm m t c) (word.now ∷ first.now ∷ second.now ∷ map string_bytes words.now) → ⊥) }
 {
     match measure_of(word, first, second, words) {
         Some(command) => Some(command),
-        None => running_command_of(word, first, second, words),
+        None => other_command_of(word, first, second, words),
     }
+}
+
+// A command that runs a program, or one on certificates.
+fn other_command_of<'a>(
+    word: &str,
+    first: &'a str,
+    second: &'a str,
+    words: &'a [String],
+) -> Option<Command<'a>>
+    ensures some { IfSome result (λ command. IsCommandLine (asked_by command) (word.now ∷ first.now ∷ second.now ∷ map string_bytes words.now)) }
+    ensures run { IfNone result ((s r : List ℕ) (turns : ℕ) → IsCommandLine (Run s r turns) (word.now ∷ first.now ∷ second.now ∷ map string_bytes words.now) → ⊥) }
+    ensures audit { IfNone result ((s r : List ℕ) (turns bound : ℕ) → IsCommandLine (Audit s r turns bound) (word.now ∷ first.now ∷ second.now ∷ map string_bytes words.now) → ⊥) }
+    ensures confirm { IfNone result ((m t c : List ℕ) → IsCommandLine (Confirm m t c) (word.now ∷ first.now ∷ second.now ∷ map string_bytes words.now) → ⊥) }
+{
+    match running_command_of(word, first, second, words) {
+        Some(command) => Some(command),
+        None => certificate_command_of(word, first, second, words),
+    }
+}
+
+// A command on certificates.
+fn certificate_command_of<'a>(
+    word: &str,
+    model: &'a str,
+    trace: &'a str,
+    words: &'a [String],
+) -> Option<Command<'a>>
+    ensures some { IfSome result (λ command. IsCommandLine (asked_by command) (word.now ∷ model.now ∷ trace.now ∷ map string_bytes words.now)) }
+    ensures confirm { IfNone result ((m t c : List ℕ) → IsCommandLine (Confirm m t c) (word.now ∷ model.now ∷ trace.now ∷ map string_bytes words.now) → ⊥) }
+{
+    match words {
+        [last] => confirm_of(word, model, trace, last),
+        _ => None,
+    }
+}
+
+// The command `confirm`.
+fn confirm_of<'a>(
+    word: &str,
+    model: &'a str,
+    trace: &'a str,
+    certificate: &'a str,
+) -> Option<Command<'a>>
+    ensures some { IfSome result (λ command. IsCommandLine (asked_by command) (word.now ∷ model.now ∷ trace.now ∷ certificate.now ∷ [])) }
+    ensures none { IfNone result ((m t c : List ℕ) → IsCommandLine (Confirm m t c) (word.now ∷ model.now ∷ trace.now ∷ certificate.now ∷ []) → ⊥) }
+{
+    if word == "confirm" {
+        return Some(Command::Confirm {
+            model,
+            trace,
+            certificate,
+        });
+    }
+    None
 }
 
 // A command that runs a program.

@@ -1,1 +1,2 @@
+pub mod FleetRuns
 pub mod JudgedRuns
