@@ -1,3 +1,7 @@
+-- Read in this order: Bound (the names that scopes hold), Known (the members of structs), Shown (what a table of
+-- structs shows), View (the parts of an environment, as the rules have them), Extents (sizes and alignments, as the
+-- layout has them).
+-- For private contracts and proofs alone: Front, Numbers, Prototypes, Index, Measured, Laid.
 pub mod Bound
 pub mod Extents
 pub mod Front

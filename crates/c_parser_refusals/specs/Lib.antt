@@ -1,3 +1,8 @@
+-- Read in this order: Fails (where tokens cannot go on), Phrases (the grammar's phrases as relations between lists of
+-- tokens); then their parts: Operands, Specs, Declarators, Initialisers, Declarations, Labels, Groups, Units, Items.
+-- Then what is past the limits: Nodes (where counted nodes stand), Pairs (where parentheses that make no node stand),
+-- Opens (where tokens go on with one too many), Deep (labels, statements, groups and declarators with one too many).
+-- None is for private contracts and proofs alone.
 pub mod Declarations
 pub mod Declarators
 pub mod Deep

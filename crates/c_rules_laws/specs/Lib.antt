@@ -1,3 +1,8 @@
+-- Read in this order: Lexical (units as texts spell them), MadeTypes (types as declarators make them, C99 6.7.5),
+-- SoundStructs (6.7.2.1), RightScopes (what names mean is there in the program); then the laws: WellTyped (parts of a
+-- typed unit are well-typed), Programs (the unit is a well-typed program), PlaceLaws (the places of nodes don't
+-- matter), TypedAlike and EnvironmentLaws (parts that stay as they are in an instrumented unit).
+-- None is for private contracts and proofs alone.
 pub mod TypedAlike
 pub mod EnvironmentLaws
 pub mod Lexical

@@ -1,3 +1,7 @@
+-- Read in this order: Layout (the edges of shapes, and the numbers of their nodes), Sorted (items in order, each once),
+-- GraphOf (the graph of a program's shapes), GraphOfProgram (that of a program), Equal (languages that have the same
+-- words); then, for the laws, Premises (what the shapes of programs meet).
+-- None is for private contracts and proofs alone.
 pub mod Layout
 pub mod Sorted
 pub mod GraphOf
