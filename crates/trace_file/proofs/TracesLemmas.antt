@@ -423,15 +423,38 @@ stage_tells (stage.Records u n) ks lines more records w v reached is (rest, begi
 stage_tells (stage.End u n) ks lines more records w v reached is (rest, begins) =
     ap Some (head_same v u rest (flat_map record_line records ++ codes "end\n" ++ more) (sym begins ∙ ap (λ (t : List ℕ). t ++ more) (reached.traces.is ∙ append_assoc (traces_head u) (flat_map record_line records) (codes "end\n")) ∙ append_assoc (traces_head u) (flat_map record_line records ++ codes "end\n") more)).0
 
-start_refused_at : (at : TracesStage) (error : TraceError) (line : List ℕ) → IsWhole line → IsTracesHeadRefusal error line → IsShown (IsRefusedAt at) error line
-start_refused_at at error line whole refused more short =
-    record { refusal = head_shown error line whole refused more short; tells = λ other v begins. absurd (head_tells error line more whole refused other v begins) }
+-- a version that the stage tells is that of the first line
+stage_first : (at : TracesStage) (ks lines more : List ℕ) (records : List Record) (v : TracesVersion) → ReachesStage at ks lines records → stage_version at ≡ Some v → BeginsWith (Some v) (lines ++ more)
+stage_first stage.Start ks lines more records v reached is = absurd (none_not_some v is)
+  where
+    none_not_some : (w : TracesVersion) → ◌≡◌ {A = Option TracesVersion} None (Some w) → ⊥
+    none_not_some w is = cc
+stage_first (stage.Records u n) ks lines more records v reached is =
+    subst (λ (o : Option TracesVersion). BeginsWith o (lines ++ more)) is
+    (flat_map record_line records ++ more, ap (λ (t : List ℕ). t ++ more) reached.1.is ∙ append_assoc (traces_head u) (flat_map record_line records) more)
+stage_first (stage.End u n) ks lines more records v reached is =
+    subst (λ (o : Option TracesVersion). BeginsWith o (lines ++ more)) is (
+      flat_map record_line records ++ codes "end\n" ++ more,
+      ap (λ (t : List ℕ). t ++ more) (reached.traces.is ∙ append_assoc (traces_head u) (flat_map record_line records) (codes "end\n")) ∙ append_assoc (traces_head u) (flat_map record_line records ++ codes "end\n") more,
+    )
+
+start_refused_at : (at : TracesStage) (error : TraceError) (line : List ℕ) → at ≡ stage.Start → IsWhole line → IsTracesHeadRefusal error line → IsShown (IsRefusedAt at) error line
+start_refused_at at error line is whole refused more short =
+    record {
+      refusal = head_shown error line whole refused more short;
+      tells = λ other v begins. absurd (head_tells error line more whole refused other v begins);
+      first = λ other v told. absurd (none_told v (sym (ap stage_version is) ∙ told));
+    }
+  where
+    none_told : (w : TracesVersion) → ◌≡◌ {A = Option TracesVersion} None (Some w) → ⊥
+    none_told w is = cc
 
 later_refused_at : (at : TracesStage) (ks lines line : List ℕ) (records : List Record) (error : TraceError) (w : TracesVersion) → ReachesStage at ks lines records → stage_version at ≡ Some w → IsShown IsTracesRefusal error (lines ++ line) → IsShown (IsRefusedAt at) error (lines ++ line)
 later_refused_at at ks lines line records error w reached is shown more short =
     record {
       refusal = shown more short;
       tells = λ other v begins. stage_tells at ks lines (line ++ more) records w v reached is (subst (BeginsWith (Some v)) (append_assoc lines line more) begins);
+      first = λ other v told. subst (BeginsWith (Some v)) (sym (append_assoc lines line more)) (stage_first at ks lines (line ++ more) records v reached told);
     }
 
 -- from one place to the next
@@ -439,7 +462,7 @@ later_refused_at at ks lines line records error w reached is shown more short =
 pub start_shows : (at : TracesStage) (ks : List ℕ) (error : TraceError) (line : List ℕ) → at ≡ stage.Start → IsWhole line → IsTracesHeadRefusal error line → (lines : List ℕ) (records : List Record) → ReachesStage at ks lines records → IsShown (IsRefusedAt at) error (lines ++ line)
 start_shows at ks error line is whole refused lines records reached =
     let start = subst (λ (s : TracesStage). ReachesStage s ks lines records) is reached in
-    subst (λ (t : List ℕ). IsShown (IsRefusedAt at) error (t ++ line)) (sym start.1) (start_refused_at at error line whole refused)
+    subst (λ (t : List ℕ). IsShown (IsRefusedAt at) error (t ++ line)) (sym start.1) (start_refused_at at error line is whole refused)
 
 none_known : AreKnown [] []
 none_known = record { same = refl; apart = len-empty nat_cmp }
@@ -544,6 +567,12 @@ told_at new error text shown short other v begins =
     let same = append-nil text in
     (subst (IsRefusedAt new.place.stage error) same (shown [] (subst (λ (t : List ℕ). length t ≤ longest) (sym same) short))).tells other v begins
 
+-- where a text that is not too long is refused, a version that is told is that of its first line
+pub first_at : (new : Held TracesPlace) (error : TraceError) (text : List ℕ) → IsShown (IsRefusedAt new.place.stage) error text → length text ≤ longest → error ≢ OutOfMemory → (v : TracesVersion) → traces_version new ≡ Some v → BeginsWith (Some v) text
+first_at new error text shown short other v told =
+    let same = append-nil text in
+    (subst (IsRefusedAt new.place.stage error) same (shown [] (subst (λ (t : List ℕ). length t ≤ longest) (sym same) short))).first other v told
+
 memory_or_other : (error : TraceError) → (error ≡ OutOfMemory) ⊎ (error ≢ OutOfMemory)
 memory_or_other OutOfMemory = inl refl
 memory_or_other (BadLine k) = inr (λ same. cc)
@@ -564,12 +593,30 @@ kept_refused old new error text piece records v memory long shown stands is =
           ]
     ]
 
+-- at a refusal a version that is told is that of the first line
+pub first_refused : (old new : Held TracesPlace) (error : TraceError) (text piece : List ℕ) (records : List Record) (v : TracesVersion) → (error ≡ OutOfMemory → new ≡ old) → (longest < length (text ++ piece) → new.place ≡ old.place) → IsShown (IsRefusedAt new.place.stage) error (text ++ piece) → StandForTraces old text records → traces_version new ≡ Some v → BeginsWith (Some v) (text ++ piece)
+first_refused old new error text piece records v memory long shown stands told =
+    elim (memory_or_other error) [
+      | inl none ↦ still_begins old text piece records v stands (sym (ap traces_version (memory none)) ∙ told)
+      | inr other ↦
+          elim (cases_lt longest (length (text ++ piece))) [
+            | inl over ↦ still_begins old text piece records v stands (sym (ap (λ (p : TracesPlace). stage_version p.stage) (long over)) ∙ told)
+            | inr short ↦ first_at new error (text ++ piece) shown short other v told
+          ]
+    ]
+
 -- the facts of a piece that was fed
 module _ {W : Type 0} (items : W → List Record) (old new : Held TracesPlace) (piece : List ℕ) where
   pub feed_kept : (result : Result W TraceError) → IfOk result (λ given. (text : List ℕ) (records : List Record) → StandForTraces old text records → StandForTraces new (text ++ piece) (records ++ items given)) → (result ≡ Err OutOfMemory → new ≡ old) → ((text : List ℕ) (records : List Record) → StandForTraces old text records → longest < length (text ++ piece) → (result ≡ Err TooLong) × (new.place ≡ old.place)) → IfErr result (λ error. (text : List ℕ) (records : List Record) → StandForTraces old text records → IsShown (IsRefusedAt new.place.stage) error (text ++ piece)) → (text : List ℕ) (records : List Record) (v : TracesVersion) → StandForTraces old text records → traces_version old ≡ Some v → traces_version new ≡ Some v
   feed_kept (Ok given) stands memory long shown text records v before is = version_kept old new text piece records (records ++ items given) v before (stands text records before) is
   feed_kept (Err error) stands memory long shown text records v before is =
       kept_refused old new error text piece records v (λ none. memory (ap Err none)) (λ over. (long text records before over).1) (shown text records before) before is
+
+  pub feed_first : (result : Result W TraceError) → IfOk result (λ given. (text : List ℕ) (records : List Record) → StandForTraces old text records → StandForTraces new (text ++ piece) (records ++ items given)) → (result ≡ Err OutOfMemory → new ≡ old) → ((text : List ℕ) (records : List Record) → StandForTraces old text records → longest < length (text ++ piece) → (result ≡ Err TooLong) × (new.place ≡ old.place)) → IfErr result (λ error. (text : List ℕ) (records : List Record) → StandForTraces old text records → IsShown (IsRefusedAt new.place.stage) error (text ++ piece)) → (text : List ℕ) (records : List Record) (v : TracesVersion) → StandForTraces old text records → traces_version new ≡ Some v → BeginsWith (Some v) (text ++ piece)
+  feed_first (Ok given) stands memory long shown text records v before told =
+      subst (λ (o : Option TracesVersion). BeginsWith o (text ++ piece)) told (begins_with new (text ++ piece) (records ++ items given) (stands text records before))
+  feed_first (Err error) stands memory long shown text records v before told =
+      first_refused old new error text piece records v (λ none. memory (ap Err none)) (λ over. (long text records before over).1) (shown text records before) before told
 
   pub feed_told : (error : TraceError) → ((text : List ℕ) (records : List Record) → StandForTraces old text records → IsShown (IsRefusedAt new.place.stage) error (text ++ piece)) → error ≢ OutOfMemory → (text : List ℕ) (records : List Record) (v : TracesVersion) → StandForTraces old text records → length (text ++ piece) ≤ longest → BeginsWith (Some v) (text ++ piece) → traces_version new ≡ Some v
   feed_told error shown other text records v before short begins = told_at new error (text ++ piece) (shown text records before) short other v begins

@@ -68,7 +68,8 @@ IsRecordRefusal n Version line = ⊥
 abbrev pub EndsIn : TracesPlace → List ℕ → Type 0
 EndsIn at tail = (lines : List ℕ) (records : List Record) → ReachesTraces at lines records → length (lines ++ tail) ≤ longest → AreTracesOf (stage_version at.stage) (lines ++ tail) records
 
--- why the text is refused; where its first line stands whole, the stage tells its version
+-- why the text is refused; where its first line stands whole, the stage tells its version, and it tells no other
 pub record IsRefusedAt (at : TracesStage) (error : TraceError) (text : List ℕ) : Type 0 where
   pub refusal : IsTracesRefusal error text
   pub tells : error ≢ OutOfMemory → (version : TracesVersion) → BeginsWith (Some version) text → stage_version at ≡ Some version
+  pub first : error ≢ OutOfMemory → (version : TracesVersion) → stage_version at ≡ Some version → BeginsWith (Some version) text

@@ -142,7 +142,7 @@ impl Place for TracesPlace {
         self.known.truncate(mark.known);
     }
 
-    ghost memory = { λ place text. record { refusal = tt; tells = λ other. absurd (other refl) } };
+    ghost memory = { λ place text. record { refusal = tt; tells = λ other. absurd (other refl); first = λ other. absurd (other refl) } };
 }
 
 impl TracesPlace {

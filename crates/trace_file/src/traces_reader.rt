@@ -45,11 +45,13 @@ impl TracesReader {
     /// Takes the next piece of the text, and gives the records of the lines that it completes. Want
     /// of memory changes nothing; after another refusal each call answers it again. A text that gets
     /// longer than 64 MiB is refused at this piece. A version that was told stays, and after another
-    /// refusal than these two it is told where the first line stands whole.
+    /// refusal than these two it is told where the first line stands whole. No other is ever told, and
+    /// so none after a first line that is refused.
     pub fn feed(&mut self, piece: &[u8]) -> Result<Vec<Record>, TraceError>
         ensures stands { IfOk result (λ given. (text : List ℕ) (records : List Record) → StandForTraces self.old text records → StandForTraces self.new (text ++ piece.now) (records ++ given.items)) }
         ensures kept { (text : List ℕ) (records : List Record) (version : TracesVersion) → StandForTraces self.old text records → traces_version self.old ≡ Some version → traces_version self.new ≡ Some version }
         ensures told { IfErr result (λ error. error ≢ NoMemory → (text : List ℕ) (records : List Record) (version : TracesVersion) → StandForTraces self.old text records → length (text ++ piece.now) ≤ longest → BeginsWith (Some version) (text ++ piece.now) → traces_version self.new ≡ Some version) }
+        ensures first { (text : List ℕ) (records : List Record) (version : TracesVersion) → StandForTraces self.old text records → traces_version self.new ≡ Some version → BeginsWith (Some version) (text ++ piece.now) }
         ensures memory { result ≡ Err NoMemory → self.new ≡ self.old }
         ensures refused { IfErr result (λ error. error ≢ NoMemory → self.new.refused ≡ Some error) }
         ensures again { (error : TraceError) → self.old.refused ≡ Some error → (result ≡ Err error) × (self.new ≡ self.old) }

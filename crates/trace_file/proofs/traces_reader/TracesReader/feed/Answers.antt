@@ -9,7 +9,7 @@ use Rattle.trace_file.specs.Pieces.{IsShown}
 use Rattle.trace_file.specs.Refusals.{IsRefusedAt}
 use Rattle.trace_file.specs.Trace.{longest}
 use Rattle.trace_file.specs.TracesReading.{StandForTraces}
-use Rattle.trace_file.proofs.TracesLemmas.{feed_kept, feed_told}
+use Rattle.trace_file.proofs.TracesLemmas.{feed_kept, feed_first, feed_told}
 use Rattle.trace_file.proofs.traces_reader.TracesReader.feed.Goals as goal
 
 -- what the pieces tell, of the reader as it is seen
@@ -38,6 +38,10 @@ returns-clause-shown c = IfErr-weaker c.feed.result _ _ (λ error all text recor
 pub returns-clause-kept : goal.returns-clause-kept
 returns-clause-kept c =
     feed_kept (λ (v : Vec Record Global). v.items) c.args.self.now c.feed.new.self c.args.piece.now c.feed.result (stands_here c) (memory_here c) (long_here c) (shown_here c)
+
+pub returns-clause-first : goal.returns-clause-first
+returns-clause-first c =
+    feed_first (λ (v : Vec Record Global). v.items) c.args.self.now c.feed.new.self c.args.piece.now c.feed.result (stands_here c) (memory_here c) (long_here c) (shown_here c)
 
 pub returns-clause-told : goal.returns-clause-told
 returns-clause-told c =
