@@ -1,7 +1,8 @@
 ghost use Rattle.std.specs.Prelude.{◌≡◌, IfOk};
 ghost use Rattle.c_check_values.specs.Agreement.{AgreesWith};
 ghost use Rattle.c_check_declarations.specs.Texts.{text_seen};
-ghost use Rattle.c_rules.specs.Initialisers.{count_inits, text_of};
+ghost use Rattle.c_rules.specs.Checked.{met, on};
+ghost use Rattle.c_rules.specs.Initialisers.{count_inits, text_fits, text_of};
 ghost use Rattle.c_rules.specs.Objects.{sized_by_one, sized_by_init, sized_by, with_size};
 ghost use Rattle.c_syntax.specs.UnitView.{init_of, maybe_init_of};
 ghost use Rattle.c_syntax.specs.View.{expr_of};
@@ -9,7 +10,7 @@ ghost use Rattle.c_syntax.specs.WritesUnit.{inits_of};
 ghost use Rattle.c_tree.specs.Tree.{array};
 ghost use Rattle.c_tree.specs.View.{ctype_of};
 
-use c_check_values::{C14, CheckError};
+use c_check_values::{C14, CheckError, few_cells};
 use c_syntax::{Expr, ExprKind, Init, InitKind};
 use c_tree::{CType, IntType, copy_type};
 use dm_base::OutOfMemory;
@@ -69,12 +70,31 @@ fn sized_by_one(alloc: Global, at: u32, t: &CType, text: Option<&[u8]>) -> Resul
     }
 }
 
+// The limit on a string, where one stands.
+fn text_fits(at: u32, text: Option<&[u8]>) -> Result<(), CheckError>
+    ensures { AgreesWith (λ _. met) result (text_fits at (text_seen text.entry)) }
+{
+    match text {
+        Some(bytes) => few_cells(at, bytes.len()),
+        None => Ok(()),
+    }
+}
+
+// The array that one expression gives its size: a string that fits.
+fn sized_by_text(alloc: Global, at: u32, t: &CType, e: &Expr) -> Result<CType, CheckError>
+    ensures { AgreesWith ctype_of result (on (text_fits at (text_of (expr_of e.now))) (λ _. sized_by_one at (ctype_of t.now) (text_of (expr_of e.now)))) }
+{
+    let text = text_of(e);
+    text_fits(at, text)?;
+    sized_by_one(alloc, at, t, text)
+}
+
 // The array with elements of this type that an initialiser gives its size.
 fn sized_by_init(alloc: Global, t: CType, i: &Init) -> Result<CType, CheckError>
     ensures { AgreesWith ctype_of result (sized_by_init (ctype_of t) (init_of i.now)) }
 {
     match &i.kind {
-        InitKind::One(e) => sized_by_one(alloc, i.at, &t, text_of(e)),
+        InitKind::One(e) => sized_by_text(alloc, i.at, &t, e),
         InitKind::List(inits) => {
             let size = count_inits(inits)?;
             let whole = array_with(alloc, t, size)?;

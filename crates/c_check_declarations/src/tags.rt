@@ -1,4 +1,4 @@
-ghost use Rattle.std.specs.Prelude.{◌≡◌, OnOk};
+ghost use Rattle.std.specs.Prelude.{◌≡◌, reverse, OnOk};
 ghost use Rattle.c_check_values.specs.Agreement.{AgreesWith};
 ghost use Rattle.c_rules.specs.Checked.{met};
 ghost use Rattle.c_rules.specs.Items.{is_incomplete, new_struct, tag_declaration, new_enum, behind_enum_tag};
@@ -9,7 +9,7 @@ ghost use Rattle.c_syntax.specs.Tree.{tag};
 ghost use Rattle.c_syntax.specs.UnitView.{tag_of};
 ghost use Rattle.c_syntax.specs.View.{ident_of};
 
-use c_check_scopes::{Environment, may_be_declared};
+use c_check_scopes::{Environment, Numbering, may_be_declared};
 use c_check_values::{C2, C12, CheckError};
 use c_syntax::Ident;
 use dm_base::OutOfMemory;
@@ -60,9 +60,16 @@ fn is_mentioned(env: &Environment<'_>, tag: &[u8]) -> bool
     env.tags.contains(tag)
 }
 
-// The demands on the tag of an enum.
-fn new_enum_tag(env: &Environment<'_>, x: &Ident) -> Result<(), CheckError>
-    ensures { AgreesWith (λ _. met) result (new_enum (env_of env.now) (tag (ident_of x.now))) }
+// Whether the tag stands among these, of which the last one is the first.
+fn is_within(within: &Numbering<'_>, tag: &[u8]) -> bool
+    ensures { result ≡ is_among (reverse within.now) tag.now }
+{
+    within.contains(tag)
+}
+
+// The demands on the tag of an enum, in whose list these tags of structs stand.
+fn new_enum_tag(env: &Environment<'_>, x: &Ident, within: &Numbering<'_>) -> Result<(), CheckError>
+    ensures { AgreesWith (λ _. met) result (new_enum (env_of env.now) (tag (ident_of x.now)) (reverse within.now)) }
 {
     let tag = x.name.as_slice();
     if !may_be_declared(env.mode, tag) {
@@ -74,16 +81,23 @@ fn new_enum_tag(env: &Environment<'_>, x: &Ident) -> Result<(), CheckError>
     if is_mentioned(env, tag) {
         return Err(CheckError::At(C2, x.at));
     }
+    if is_within(within, tag) {
+        return Err(CheckError::At(C2, x.at));
+    }
     Ok(())
 }
 
-/// The demands on the tag of an enum that is defined, where one stands: it has one definition, and names no struct
-/// (C99 6.7.2.3 paragraph 1, 7.1.3).
-pub fn new_enum(env: &Environment<'_>, tag: &Option<Ident>) -> Result<(), CheckError>
-    ensures { AgreesWith (λ _. met) result (new_enum (env_of env.now) (tag_of tag.now)) }
+/// The demands on the tag of an enum that is defined, where one stands: it has one definition, and names no struct, also within its list,
+/// in which these tags of structs stand, the last one first (C99 6.7.2.3 paragraph 1, 7.1.3).
+pub fn new_enum(
+    env: &Environment<'_>,
+    tag: &Option<Ident>,
+    within: &Numbering<'_>,
+) -> Result<(), CheckError>
+    ensures { AgreesWith (λ _. met) result (new_enum (env_of env.now) (tag_of tag.now) (reverse within.now)) }
 {
     match tag {
-        Some(x) => new_enum_tag(env, x),
+        Some(x) => new_enum_tag(env, x, within),
         None => Ok(()),
     }
 }

@@ -15,7 +15,7 @@ use Rattle.c_rules.specs.Checked.{Fault, Checked, fine, faulty, faults, both, de
 use Rattle.c_rules.specs.Codes.{C14}
 use Rattle.c_rules.specs.Counts.{calls, strings, past}
 use Rattle.c_rules.specs.TypedExpression.{TypedExpression}
-use Rattle.c_rules.specs.Initialisers.{Slots, copies, each, after_init, array_cells, calls_of_init, calls_of_inits, capacity, cells_of_list, cells_of_one, count_inits, held, held_by_one, held_in_turn, in_turn, initialised, slots, takes_list, text_of, zeros}
+use Rattle.c_rules.specs.Initialisers.{Slots, copies, each, after_init, array_cells, calls_of_init, calls_of_inits, capacity, cells_of_list, cells_of_one, count_inits, held, held_by_one, held_in_turn, in_turn, initialised, slots, takes_list, text_of, zeros, text_fits}
 use Rattle.c_rules.specs.Scopes.{Env, Before, layout_of}
 use Rattle.c_syntax.specs.declared.tree.Init.{Init as InitTree}
 use Rattle.c_syntax.specs.Tree.{Expr, a_str, Init, Inits, no_inits, more_inits}
@@ -60,9 +60,13 @@ array_held (array t m) e n b at gs h = absurd (faulty_not_fine _ _ gs h)
 array_held (struct s) e n b at gs h = absurd (faulty_not_fine _ _ gs h)
 array_held (function t ts) e n b at gs h = absurd (faulty_not_fine _ _ gs h)
 
+behind_fine : {A B : Type 0} (q : Checked A) (r : Checked B) (b : B) → on q (λ _. r) ≡ fine b → r ≡ fine b
+behind_fine (fine a) r b h = h
+behind_fine (faulty f fs) r b h = absurd (faulty_not_fine _ _ b h)
+
 -- an array that one expression initialises holds no string, and has no call
-pub array_counted : {X : Type 0} (view : X → List TypedExpression) (r : Result X CheckError) (whole t : CType) (e : Expr) (n at : ℕ) (b : Before) → whole ≡ array t n → AgreesWith view r (array_cells at t n (text_of e)) → OnOk r (b ≡ past b (calls e) (held_by_one whole e))
-array_counted view (Ok x) whole t e n at b is h = sym (ap (λ u. past b (calls e) (held_by_one u e)) is ∙ array_held t e n b at (view x) h)
+pub array_counted : {X : Type 0} (view : X → List TypedExpression) (r : Result X CheckError) (whole t : CType) (e : Expr) (n at : ℕ) (b : Before) → whole ≡ array t n → AgreesWith view r (on (text_fits at (text_of e)) (λ _. array_cells at t n (text_of e))) → OnOk r (b ≡ past b (calls e) (held_by_one whole e))
+array_counted view (Ok x) whole t e n at b is h = sym (ap (λ u. past b (calls e) (held_by_one u e)) is ∙ array_held t e n b at (view x) (behind_fine (text_fits at (text_of e)) (array_cells at t n (text_of e)) (view x) h))
 array_counted view (Err x) whole t e n at b is h = tt
 
 -- ## Elements and members in turn
@@ -258,7 +262,7 @@ turn_fails_in e env env1 b1 k s is i place x t done all same here lt at there be
     turn_fails e env b1 k s is i x t done all lt at (ap (slot_at s) (sym here) ∙ sym there) before (subst (λ v. Names e (faults (initialised v b1 k t (init_of x)))) same n)
 
 -- an array that one expression initialises
-pub array_judged : {X : Type 0} (view : X → List TypedExpression) (r : Result X CheckError) (k : Bool) (at n : ℕ) (whole t : CType) (text : Option (List ℕ)) (v : Checked TypedExpression) → whole ≡ array t n → AgreesWith view r (array_cells at t n text) → AgreesWith view r (cells_of_one k at whole text v)
+pub array_judged : {X : Type 0} (view : X → List TypedExpression) (r : Result X CheckError) (k : Bool) (at n : ℕ) (whole t : CType) (text : Option (List ℕ)) (v : Checked TypedExpression) → whole ≡ array t n → AgreesWith view r (on (text_fits at text) (λ _. array_cells at t n text)) → AgreesWith view r (cells_of_one k at whole text v)
 array_judged view r k at n whole t text v is h = subst (λ u. AgreesWith view r (cells_of_one k at u text v)) (sym is) h
 
 -- ## Lists in braces

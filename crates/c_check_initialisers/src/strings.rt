@@ -1,14 +1,15 @@
 ghost use Rattle.std.specs.Prelude.{◌≡◌, ◌++◌, map, replicate, IfOk, OnOk};
 ghost use Rattle.c_check_initialisers.specs.CellView.{cells_of, typed_expressions_of};
 ghost use Rattle.c_check_values.specs.Agreement.{AgreesWith};
-ghost use Rattle.c_rules.specs.Initialisers.{array_cells, typed_char, chars, text_of};
+ghost use Rattle.c_rules.specs.Checked.{met, on};
+ghost use Rattle.c_rules.specs.Initialisers.{array_cells, typed_char, chars, text_fits, text_of};
 ghost use Rattle.c_syntax.specs.View.{expr_of};
 ghost use Rattle.c_tree.specs.Tree.{integer};
 ghost use Rattle.c_tree.specs.declared.value.IntType.TheVariants.{Char};
 ghost use Rattle.c_tree.specs.View.{ctype_of};
 
 use crate::constants::typed_char;
-use c_check_values::{C14, CheckError, TypedExpression};
+use c_check_values::{C14, CheckError, TypedExpression, few_cells};
 use c_syntax::{Expr, ExprKind};
 use c_tree::{CType, IntType};
 use dm_base::OutOfMemory;
@@ -66,9 +67,33 @@ fn string_cells(
     Ok(chars(alloc, n, text)?)
 }
 
+// The limit on a string, where the expression is one.
+fn text_fits(at: u32, e: &Expr) -> Result<(), CheckError>
+    ensures { AgreesWith (λ _. met) result (text_fits at (text_of (expr_of e.now))) }
+{
+    match &e.kind {
+        ExprKind::Str(bytes) => few_cells(at, bytes.as_slice().len()),
+        _ => Ok(()),
+    }
+}
+
 /// The cells of an array with so many elements of this type, which one expression initialises: an array of char takes a string, and no
 /// other array takes one expression (C99 6.7.8 paragraph 14).
 pub fn array_cells(
+    alloc: Global,
+    at: u32,
+    t: &CType,
+    n: u32,
+    e: &Expr,
+) -> Result<Vec<TypedExpression>, CheckError>
+    ensures { AgreesWith cells_of result (on (text_fits at (text_of (expr_of e.now))) (λ _. array_cells at (ctype_of t.now) n (text_of (expr_of e.now)))) }
+{
+    text_fits(at, e)?;
+    elements_of(alloc, at, t, n, e)
+}
+
+// The same of a string that fits.
+fn elements_of(
     alloc: Global,
     at: u32,
     t: &CType,

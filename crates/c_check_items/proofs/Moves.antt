@@ -87,10 +87,6 @@ second_alone (faulty f fs) = refl
 pub second_ends : {X A : Type 0} (view : X → A) (result : Result X CheckError) (p : Checked Met) (q : Checked A) → p ≡ fine met → AgreesWith view result q → AgreesWith view result (both p q (λ _ a. fine a))
 second_ends view result p q first h = same_judged view result q (both p q (λ _ a. fine a)) (sym (ap (λ r. both r q (λ _ a. fine a)) first ∙ second_alone q)) h
 
-pub demands_end : {A : Type 0} (none : A) (result : Result (Unit {0}) CheckError) (p q : Checked Met) → p ≡ fine met → AgreesWith (λ _. met) result q → AgreesWith (λ _. none) result (both p q (λ _ _. fine none))
-demands_end none (Ok u) p q first h = λ i. both (first i) (h i) (λ _ _. fine none)
-demands_end none (Err e) p q first h = names_second e p q (λ _ _. fine none) h
-
 -- ## Definitions of objects
 
 cells_twice : (gs : List TypedExpressionTree) → map value_of_cell (map typed_expression_of gs) ≡ cells_seen gs

@@ -3,6 +3,7 @@ ghost use Rattle.c_check_values.specs.Agreement.{AgreesWith};
 ghost use Rattle.c_rules.specs.Checked.{both, fine, met};
 ghost use Rattle.c_rules.specs.Items.{behind_enum_tag, behind_enumerator, behind_enumerators, enumerator_meaning, enumerator_value, enumerators, new_enum, no_output};
 ghost use Rattle.c_rules.specs.Scopes.{an_enumerator};
+ghost use Rattle.c_rules.specs.Tags.{tags_of_enumerators};
 ghost use Rattle.c_check_scopes.specs.View.{env_of};
 ghost use Rattle.c_syntax.specs.UnitView.{enumerators_of, maybe_of, tag_of};
 ghost use Rattle.c_syntax.specs.View.{ident_of};
@@ -13,7 +14,7 @@ use c_check_declarations::{
 use c_check_expressions::folded_value;
 use c_check_scopes::{Environment, Meaning};
 use c_check_types::new_name;
-use c_check_units::place_of_expression;
+use c_check_units::{place_of_expression, tags_within};
 use c_check_values::CheckError;
 use c_syntax::{Enumerator, Expr, Ident};
 use std::alloc::Global;
@@ -89,17 +90,19 @@ fn enumerators<'t>(
     Ok(())
 }
 
-// Defines an enum (C99 6.7.2.2).
+// Defines an enum (C99 6.7.2.2); its tag is declared behind its list (C99 6.7.2.3 paragraph 3).
 pub fn enum_item<'t>(
     alloc: Global,
     env: &mut Environment<'t>,
     tag: &'t Option<Ident>,
     es: &'t [Enumerator],
 ) -> Result<(), CheckError>
-    ensures judged { AgreesWith (λ _. no_output) result (both (new_enum (env_of env.old) (tag_of tag.now)) (enumerators (behind_enum_tag (env_of env.old) (tag_of tag.now)) (fine (pos 0)) (enumerators_of es.now)) (λ _ _. fine no_output)) }
-    ensures behind { OnOk result (env_of env.new ≡ behind_enumerators (behind_enum_tag (env_of env.old) (tag_of tag.now)) (fine (pos 0)) (enumerators_of es.now)) }
+    ensures judged { AgreesWith (λ _. no_output) result (both (new_enum (env_of env.old) (tag_of tag.now) (tags_of_enumerators (enumerators_of es.now))) (enumerators (env_of env.old) (fine (pos 0)) (enumerators_of es.now)) (λ _ _. fine no_output)) }
+    ensures behind { OnOk result (env_of env.new ≡ behind_enum_tag (behind_enumerators (env_of env.old) (fine (pos 0)) (enumerators_of es.now)) (tag_of tag.now)) }
 {
-    new_enum(env, tag)?;
+    let within = tags_within(alloc, es)?;
+    new_enum(env, tag, &within)?;
+    enumerators(alloc, env, es)?;
     declare_enum(env, tag)?;
-    enumerators(alloc, env, es)
+    Ok(())
 }

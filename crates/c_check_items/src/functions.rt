@@ -83,7 +83,7 @@ fn function_laid(
     function_with(alloc, env, x, ctype, variables, laid.trees)
 }
 
-// The demand that each parameter of a definition has a name (C99 6.9.1 paragraph 5).
+// The demand that each parameter of a definition has a name (C99 6.9.1 paragraph 5), which stands only where its body meets its own.
 fn named_parameters(place: u32, d: &Declarator) -> Result<(), CheckError>
     ensures { AgreesWith (λ _. met) result (demand (are_named (parameters_of (declarator_of d.now))) 3 place met) }
 {
@@ -109,8 +109,8 @@ fn defined_with<'t>(
     ensures kept { OnOk result (env_of env.new ≡ env_of env.old) }
     ensures counted { OnOk result (before_of before.new ≡ past (before_of before.old) (calls_of_block (items_of_body (stmt_of body.now))) (held_by_type (env_of env.old) (declarator_of d.now) (items_of_body (stmt_of body.now)) (function (ctype_of returns.now) (types_of types.now)))) }
 {
-    named_parameters(place, d)?;
     let laid = body_laid(alloc, env, before, d, body, returns, types)?;
+    named_parameters(place, d)?;
     function_laid(alloc, env, x, returns, types, laid)
 }
 

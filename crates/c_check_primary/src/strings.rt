@@ -4,7 +4,7 @@ ghost use Rattle.c_check_values.specs.View.{typed_expression_of};
 ghost use Rattle.c_rules.specs.Checked.{met};
 ghost use Rattle.c_rules.specs.Constants.{address_of_static};
 ghost use Rattle.c_rules.specs.TypedExpression.{a_place, known};
-ghost use Rattle.c_rules.specs.PrimaryExpressions.{string_fits, string_number, string_expression};
+ghost use Rattle.c_rules.specs.PrimaryExpressions.{few_cells, string_fits, string_number, string_expression};
 ghost use Rattle.c_check_scopes.specs.View.{before_of, context_of, env_of};
 ghost use Rattle.c_tree.specs.Tree.{array, integer, string_place};
 ghost use Rattle.c_tree.specs.View.{ctype_of};
@@ -15,6 +15,16 @@ use c_check_values::{C13, CheckError, Constant, Form, TypedExpression, address_o
 use c_tree::{CType, IntType, TExpr, TExprKind};
 use dm_base::OutOfMemory;
 use std::alloc::Global;
+
+// The limit on a string with so many cells, wherever it stands.
+fn few_cells(at: u32, cells: u32) -> Result<(), CheckError>
+    ensures { AgreesWith (λ _. met) result (few_cells at cells) }
+{
+    if cells > 65_536 {
+        return Err(CheckError::At(C13, at));
+    }
+    Ok(())
+}
 
 // The limits on a string with so many cells, before which stand so many.
 fn string_fits(context: Context, at: u32, before: u32, cells: u32) -> Result<(), CheckError>
@@ -35,8 +45,8 @@ fn string_fits(context: Context, at: u32, before: u32, cells: u32) -> Result<(),
                 }
             }
         }
-        Context::Sized => Ok(()),
-        Context::Folded => Ok(()),
+        Context::Sized => few_cells(at, cells),
+        Context::Folded => few_cells(at, cells),
     }
 }
 

@@ -1,7 +1,7 @@
 ghost use Rattle.std.specs.Prelude.{◌≡◌, map, slice_get};
 ghost use Rattle.c_tree.specs.Tree.{integer};
 ghost use Rattle.c_tree.specs.View.{ctype_of, types_of};
-ghost use Rattle.c_rules.specs.Functions.{is_given_type};
+ghost use Rattle.c_rules.specs.Names.{is_given_type};
 ghost use Rattle.c_rules.specs.Names.{given_types};
 ghost use Rattle.c_rules.specs.Types.{is_void, same_type, same_types};
 ghost use Rattle.c_check_scopes.specs.Prototypes.{plain, plain_types, prototype_type, prototype_seen};

@@ -10,7 +10,7 @@ ghost use Rattle.c_check_scopes.specs.View.{before_of, env_of};
 ghost use Rattle.c_syntax.specs.UnitView.{decl_of, maybe_init_of, parts_of};
 ghost use Rattle.c_syntax.specs.View.{declarator_of, spec_of};
 
-use crate::locals::{local, place_of};
+use crate::locals::{local_named, place_of};
 use c_check_bodies::{StatementTree, StatementTrees, no_statements, past_part, pushed};
 use c_check_counts::{Next, name_of};
 use c_check_scopes::{Before, Environment};
@@ -35,7 +35,7 @@ fn named_part<'t>(
 {
     let d = &part.declarator;
     match name_of(d) {
-        Some(x) => local(alloc, env, before, next, at, spec, d, x, &part.init),
+        Some(x) => local_named(alloc, env, before, next, at, spec, d, x, &part.init),
         None => Err(CheckError::At(C3, place_of(at, d))),
     }
 }

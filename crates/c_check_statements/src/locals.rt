@@ -1,18 +1,20 @@
-ghost use Rattle.std.specs.Prelude.{◌≡◌, OnOk};
+ghost use Rattle.std.specs.Prelude.{◌≡◌, Some, OnOk};
 ghost use Rattle.c_check_initialisers.specs.CellView.{cells_of};
 ghost use Rattle.c_check_counts.specs.Numbered.{next_of};
 ghost use Rattle.c_check_values.specs.Agreement.{AgreesWith};
 ghost use Rattle.c_check_bodies.specs.StatementTreeView.{statement_tree_of};
 ghost use Rattle.c_check_bodies.specs.Scoped.{Declares};
 ghost use Rattle.c_check_declarations.specs.ObjectView.{object_seen};
-ghost use Rattle.c_rules.specs.Blocks.{behind_local, held_by_object, local};
+ghost use Rattle.c_rules.specs.Blocks.{behind_local, behind_named, held_by_named, held_by_object, local, local_named};
 ghost use Rattle.c_rules.specs.Counts.{past};
 ghost use Rattle.c_rules.specs.Declarators.{place_or};
+ghost use Rattle.c_rules.specs.Expressions.{type_declared};
 ghost use Rattle.c_rules.specs.Initialisers.{calls_of_maybe_init, held_by, initialised_local};
+ghost use Rattle.c_rules.specs.Names.{given_names, number_among};
 ghost use Rattle.c_rules.specs.Objects.{object_declared};
 ghost use Rattle.c_rules.specs.Scopes.{a_local, with_name};
 ghost use Rattle.c_check_scopes.specs.View.{before_of, env_of};
-ghost use Rattle.c_check_statements.specs.Ruled.{local_as};
+ghost use Rattle.c_check_statements.specs.Ruled.{given_seen, local_as};
 ghost use Rattle.c_syntax.specs.UnitView.{maybe_init_of};
 ghost use Rattle.c_syntax.specs.View.{declarator_of, ident_of, spec_of};
 
@@ -20,9 +22,9 @@ use c_check_bodies::{StatementTree, declare_variable, laid_variable, leave_names
 use c_check_counts::Next;
 use c_check_declarations::{Object, object_of};
 use c_check_expressions::{initialised_local, type_declared};
-use c_check_scopes::{Before, Environment};
+use c_check_scopes::{Before, Environment, given_number, has_given_type};
 use c_check_types::new_name;
-use c_check_values::{CheckError, TypedExpression};
+use c_check_values::{C3, CheckError, TypedExpression};
 use c_syntax::{Declarator, DeclaratorKind, Ident, Init, Spec};
 use std::alloc::Global;
 
@@ -100,7 +102,7 @@ fn local_of<'t>(
 }
 
 // The declaration of a variable with this name: its name is new, its type is that of an object, and its initialiser fits.
-pub fn local<'t>(
+fn local<'t>(
     alloc: Global,
     env: &mut Environment<'t>,
     before: &mut Before<'t>,
@@ -120,4 +122,50 @@ pub fn local<'t>(
     let object = object_declared(alloc, env, at, spec, d, x, m)?;
     let number = next.number(x.name.as_slice());
     local_of(alloc, env, before, number, x, object, m)
+}
+
+// Whether a function is declared by its name and its type as it is given.
+fn is_given<'t>(
+    alloc: Global,
+    env: &mut Environment<'t>,
+    at: u32,
+    spec: &'t Spec,
+    d: &'t Declarator,
+    x: &Ident,
+) -> Result<bool, CheckError>
+    ensures judged { AgreesWith (λ given. given) result (given_seen (env_of env.old) (type_declared (env_of env.old) at (spec_of spec.now) (declarator_of d.now)) (number_among (given_names (env_of env.old).whole.mode) (ident_of x.now).name)) }
+    ensures kept { OnOk result (env.new ≡ env.old) }
+{
+    match given_number(env.mode, x.name.as_slice()) {
+        Some(number) => {
+            let ctype = type_declared(alloc, env, at, spec, d)?;
+            Ok(has_given_type(env.mode, number, &ctype))
+        }
+        None => Ok(false),
+    }
+}
+
+// The same of what is declared with this name. A function that is declared as it is given has nothing wrong but its place (C99 7.1.4
+// paragraph 2).
+pub fn local_named<'t>(
+    alloc: Global,
+    env: &mut Environment<'t>,
+    before: &mut Before<'t>,
+    next: Next,
+    at: u32,
+    spec: &'t Spec,
+    d: &'t Declarator,
+    x: &'t Ident,
+    m: &'t Option<Init>,
+) -> Result<StatementTree, CheckError>
+    ensures judged { AgreesWith statement_tree_of result (local_named (env_of env.old) (before_of before.old) (next_of next) at (spec_of spec.now) (declarator_of d.now) (maybe_init_of m.now) (Some (ident_of x.now))) }
+    ensures counted { OnOk result (before_of before.new ≡ past (before_of before.old) (calls_of_maybe_init (maybe_init_of m.now)) (held_by_named (env_of env.old) at (spec_of spec.now) (declarator_of d.now) (maybe_init_of m.now) (Some (ident_of x.now)))) }
+    ensures meant { OnOk result (env_of env.new ≡ behind_named (env_of env.old) (next_of next) at (spec_of spec.now) (declarator_of d.now) (maybe_init_of m.now) (Some (ident_of x.now))) }
+    ensures kept { OnOk result (Declares env.old env.new) }
+{
+    let given = is_given(alloc, env, at, spec, d, x)?;
+    if given {
+        return Err(CheckError::At(C3, place_of(at, d)));
+    }
+    local(alloc, env, before, next, at, spec, d, x, m)
 }

@@ -64,7 +64,7 @@ function_kept env at s d (Some x) = record { whole = refl; structs = refl }
 
 form_kept : (env : Env) (b : Before) (i : Item) → Keeps (behind_by_form env b i) env
 form_kept env b (struct_item at x ms) = record { whole = refl; structs = set_long env.structs (tag_number env x.name) (struct_or_unknown (struct_definition env x ms)) }
-form_kept env b (enum_item at x es) = keeps_on (behind_enumerators (behind_enum_tag env x) (fine (pos 0)) es) (behind_enum_tag env x) env (enumerators_kept (behind_enum_tag env x) (fine (pos 0)) es) (tag_kept env x)
+form_kept env b (enum_item at x es) = keeps_on (behind_enum_tag (behind_enumerators env (fine (pos 0)) es) x) (behind_enumerators env (fine (pos 0)) es) env (tag_kept (behind_enumerators env (fine (pos 0)) es) x) (enumerators_kept env (fine (pos 0)) es)
 form_kept env b (tag_item at x) = keeps_itself env
 form_kept env b (decl_item at (decl here class s ps)) = parts_kept env b here class s ps
 form_kept env b (function_item at class s d body) = function_kept env at s d (name_of d)

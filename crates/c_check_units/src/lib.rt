@@ -29,5 +29,5 @@ pub use outputs::{Output, add_function, add_object, no_output};
 pub use programs::{main_number, program_with};
 pub use scopes::{count_names, leave};
 pub use strings::static_string;
-pub use unit_tags::{push_tags, tag_names, tags_of};
+pub use unit_tags::{push_tags, tag_names, tags_of, tags_within};
 pub use units::typed_program;

@@ -434,7 +434,11 @@ fn add_members<'t>(into: &mut Vec<&'t [u8]>, ms: &'t [Member]) -> Result<(), Out
     Ok(())
 }
 
-fn add_enumerators<'t>(into: &mut Vec<&'t [u8]>, es: &'t [Enumerator]) -> Result<(), OutOfMemory>
+// Adds the tags in the list of an enum.
+pub fn add_enumerators<'t>(
+    into: &mut Vec<&'t [u8]>,
+    es: &'t [Enumerator],
+) -> Result<(), OutOfMemory>
     ensures { OnOk result (seen into.new.items ≡ seen into.old.items ++ tags_of_enumerators (enumerators_of es.now)) }
 {
     for e in es {

@@ -1,14 +1,14 @@
 ghost use Rattle.std.specs.Prelude.{◌≡◌, true, false, [], ◌++◌, reverse, IfOk, OnOk};
-ghost use Rattle.c_syntax.specs.UnitView.{item_at, items_of};
+ghost use Rattle.c_syntax.specs.UnitView.{enumerators_of, item_at, items_of};
 ghost use Rattle.c_rules.specs.Names.{each_once, with_new};
-ghost use Rattle.c_rules.specs.Tags.{tags_of_item, tags_of_items};
+ghost use Rattle.c_rules.specs.Tags.{tags_of_enumerators, tags_of_item, tags_of_items};
 ghost use Rattle.c_rules.specs.Units.{tags_of};
 ghost use Rattle.c_check_counts.specs.Seen.{seen};
 
 use crate::gather::add;
-use crate::tags::add_tags;
+use crate::tags::{add_enumerators, add_tags};
 use c_check_scopes::Numbering;
-use c_syntax::Item;
+use c_syntax::{Enumerator, Item};
 use dm_base::OutOfMemory;
 use std::alloc::Global;
 
@@ -115,4 +115,15 @@ pub fn push_tags<'t>(
     let mut names = Vec::new(alloc);
     add_tags(&mut names, false, item)?;
     push_backwards(into, names)
+}
+
+/// The tags of structs that stand in the list of an enum, the last one first. `OutOfMemory` comes too where there are 2^32 of them.
+pub fn tags_within<'t>(alloc: Global, es: &'t [Enumerator]) -> Result<Numbering<'t>, OutOfMemory>
+    ensures { IfOk result (λ tags. reverse tags ≡ tags_of_enumerators (enumerators_of es.now) ++ []) }
+{
+    let mut names = Vec::new(alloc);
+    add_enumerators(&mut names, es)?;
+    let mut tags = Numbering::new(alloc);
+    push_backwards(&mut tags, names)?;
+    Ok(tags)
 }

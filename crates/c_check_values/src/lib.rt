@@ -10,6 +10,7 @@ mod codes;
 mod conversions;
 mod error;
 mod integers;
+mod limits;
 mod operators;
 mod typed_expression;
 mod types;
@@ -22,6 +23,7 @@ pub use codes::{C1, C2, C3, C4, C5, C6, C7, C8, C9, C10, C11, C12, C13, C14};
 pub use conversions::{as_if_assigned, assigned, complete, condition, fits, valued};
 pub use error::CheckError;
 pub use integers::{cast_to, common, converted_to, promoted};
+pub use limits::few_cells;
 pub use operators::{
     constant_and, constant_binary, constant_conditional, constant_converted, constant_or,
     constant_unary, number_of,

@@ -8,7 +8,7 @@ use Rattle.c_lexer.specs.declared.punctuator.TheConstants.{ASTERISK, PLUS, MINUS
 use Rattle.c_tree.specs.Tree.{CType, void, integer, pointer, array, struct, function, CTypes, no_types, more_types}
 use Rattle.c_tree.specs.Operands.{promoted, common, OperatorKind, balanced, shift, ordering, equality}
 use Rattle.c_tree.specs.Operands.{kind_of as kind_of_operator}
-use Rattle.c_rules.specs.Checked.{Checked, fine, faulty, on, both, all_three, gives, demand, met}
+use Rattle.c_rules.specs.Checked.{Checked, fine, faulty, on, both, all_three, gives, demand, met, fails_with, parts_first}
 use Rattle.c_rules.specs.Names.{Name, number_among}
 use Rattle.c_rules.specs.Scopes.{Env, Struct, incomplete, unknown_struct, defined_struct, Member, struct_of}
 use Rattle.c_tree.specs.Tree.{assign}
@@ -62,6 +62,18 @@ all_three_hold P Q R S (faulty f fs) q r k g h i t = tt
 pub demand_holds : {A : Type 0} (P : A → Type 0) (t : Bool) (code at : ℕ) (a : A) → P a → Holds P (demand t code at a)
 demand_holds P true code at a h = h
 demand_holds P false code at a h = tt
+
+-- with one demand in place of what fails
+pub alone_holds : {A : Type 0} (P : A → Type 0) (t : Bool) (code at : ℕ) (r : Checked A) → Holds P r → Holds P (fails_with t code at r)
+alone_holds P t code at (fine a) h = h
+alone_holds P true code at (faulty f fs) h = tt
+alone_holds P false code at (faulty f fs) h = tt
+
+-- beside the parts of a node
+pub parts_first_holds : {A B : Type 0} (P : B → Type 0) (q : Checked A) (r : Checked B) → Holds P r → Holds P (parts_first q r)
+parts_first_holds P q (fine b) h = h
+parts_first_holds P (fine a) (faulty f fs) h = tt
+parts_first_holds P (faulty g gs) (faulty f fs) h = tt
 
 -- behind demands alone
 pub after_demands : {A B : Type 0} (Q : B → Type 0) (r : Checked A) (k : A → Checked B) → ((a : A) → Holds Q (k a)) → Holds Q (on r k)

@@ -21,7 +21,7 @@ use Rattle.c_rules.specs.BinaryExpressions.{operator_of_code, sum, choice}
 use Rattle.c_rules.specs.Assignments.{assignable, assignment_by, step, comma_of}
 use Rattle.c_rules.specs.Declarators.{place_of_type, is_void_pointer}
 use Rattle.c_rules.specs.Expressions.{value_at, place_at, callee_meant, callee_bound, callee, access, after_operand, before_operand, unary_rule, infix_rule, cast_rule, tree, trees, type_named, value}
-use Rattle.c_rules.specs.Initialisers.{Slots, copies, each, slots, capacity, takes_list, count_inits, text_of, typed_zero, typed_char, zeros, chars, defined_cell, cell_of, scalar_cell, array_cells, cells_of_one, cells_of_list, after_init, initialised, in_turn, initialised_local}
+use Rattle.c_rules.specs.Initialisers.{Slots, copies, each, slots, capacity, takes_list, count_inits, text_of, typed_zero, typed_char, zeros, chars, defined_cell, cell_of, scalar_cell, array_cells, cells_of_one, cells_of_list, after_init, initialised, in_turn, initialised_local, text_fits}
 use Rattle.c_rules.specs.NullCalls.{CallsBelow}
 use Rattle.c_rules.proofs.Below.{Holds, on_holds, both_hold, all_three_hold, Any, anything, demand_holds, after_demands, TypedExpressionBelow, TypedExpressionsBelow, tree_below, valued_below, as_if_below, CalleeBelow, called_below, member_below, address_below, indirection_below, unary_below, size_below, size_type_below, cast_below, null_cast_below, sum_below, operation_below, conjunction_below, disjunction_below, choice_below, assignment_by_below, step_below, assignable_below, trees_below}
 
@@ -214,7 +214,7 @@ module _ (n : ℕ) where
   one_below k at void o r h = tt
   one_below k at (integer i) o r h = scalar_below k at (integer i) r h
   one_below k at (pointer t) o r h = scalar_below k at (pointer t) r h
-  one_below k at (array t m) o r h = array_below at t m o
+  one_below k at (array t m) o r h = after_demands (TypedExpressionsBelow n) (text_fits at o) (λ _. array_cells at t m o) (λ _. array_below at t m o)
   one_below k at (struct s) o r h = tt
   one_below k at (function t ts) o r h = tt
 

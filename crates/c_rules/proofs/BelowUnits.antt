@@ -10,7 +10,7 @@ use Rattle.c_syntax.specs.Tree.{Ident, Storage, Spec, Declarator, Params, no_par
 use Rattle.c_syntax.specs.Tree.{Stmt, block, empty, evaluate, only_if, if_else, while_loop, do_loop, for_loop, switch_on, break_off, continue_on, return_from}
 use Rattle.c_syntax.specs.Tree.{BlockItems, no_block_items, block_decl, block_stmt, Stmts, no_stmts, more_stmts, Groups, no_groups, more_groups}
 use Rattle.c_syntax.specs.Tree.{Tag, no_tag, tag, Enumerators, no_enumerators, more_enumerators, Item, struct_item, enum_item, tag_item, decl_item, function_item, Items, no_items, more_items}
-use Rattle.c_rules.specs.Checked.{Checked, fine, faulty, on, beside, Two, demand, met}
+use Rattle.c_rules.specs.Checked.{Checked, fine, faulty, on, both, beside, Two, demand, met}
 use Rattle.c_rules.specs.Codes.{C3, C9}
 use Rattle.c_rules.specs.Names.{Name, number_among, is_added, system_calls}
 use Rattle.c_rules.specs.Scopes.{Env, inside, Before, nothing_before}
@@ -24,14 +24,14 @@ use Rattle.c_rules.specs.Initialisers.{initialised_local, stores_from}
 use Rattle.c_rules.specs.Objects.{Object, object_declared}
 use Rattle.c_rules.specs.PrimaryExpressions.{given_number, number_or}
 use Rattle.c_rules.specs.Variables.{Next, number_in, past_names, names_of_decl, names_of_first, names_of_stmt, names_of_stmts}
-use Rattle.c_rules.specs.Blocks.{within_local, behind_named, behind_part, past_part, behind_parts, behind_decl, behind_first, after_part, after_decl, after_first, after_stmt, after_stmts, StatementTree, bare, with_tree, joined, one_more, alone, appended, some_more, laid_variable, local_of, local, local_named, local_part, local_parts, local_decl}
+use Rattle.c_rules.specs.Blocks.{within_local, behind_named, behind_part, past_part, behind_parts, behind_decl, behind_first, after_part, after_decl, after_first, after_stmt, after_stmts, StatementTree, bare, with_tree, joined, one_more, alone, appended, some_more, laid_variable, local_of, local, local_named, local_part, local_parts, local_decl, is_given}
 use Rattle.c_rules.specs.Statements.{Around, in_loop, in_switch, condition_at, test_of, step_of, first_of, for_of, switched_kind, switched, label_type, labels_of, Labelled, labelled, switch_of, returned, stmt, items_of_block, stmts, groups_of_switch}
 use Rattle.c_rules.specs.Functions.{with_parameter, with_parameters, body_env, body_numbers, body_of, parameters_of, are_named, function_laid, function_declared, items_of_body, declares_function, defined_as}
 use Rattle.c_rules.specs.Items.{Output, no_output, with_output, struct_definition, one_more_than, enumerator_value, behind_enumerator, behind_enumerators, new_enum, behind_enum_tag, enumerators, tag_declaration, defines, global_declared, global, definition_of, within_global, static_of, declared_part, named_part, behind_declared, behind_named_part, behind_file_part, after_file_part, file_parts, behind_file_parts, file_decl, behind_file_decl, output_of_function, behind_defined, function_named, behind_function_named, item, behind_by_form, behind_item, after_item, items}
 use Rattle.c_rules.specs.Units.{functions_of, functions_of_item, env_before, has_main, program_of, IsTyped}
 use Rattle.c_rules.specs.NullCalls.{CallsBelow, MaybeBelow, InitsBelow, StmtBelow, StmtsBelow, GroupsBelow, FunctionsBelow, CallsNoNullCall}
 use Rattle.c_rules.proofs.Modes.{on_fine, demand_met}
-use Rattle.c_rules.proofs.Below.{Holds, held, on_holds, both_hold, all_three_hold, Any, anything, demand_holds, after_demands, TypedExpressionBelow, TypedExpressionsBelow, tree_below, as_if_below, condition_below, converted_below}
+use Rattle.c_rules.proofs.Below.{Holds, held, on_holds, both_hold, all_three_hold, Any, anything, demand_holds, after_demands, TypedExpressionBelow, TypedExpressionsBelow, tree_below, as_if_below, condition_below, converted_below, alone_holds, parts_first_holds}
 use Rattle.c_rules.proofs.BelowExpressions.{Within, value_holds, local_init_holds}
 use Rattle.c_tree.specs.Layout.{cells_of_all}
 use Rattle.c_rules.specs.Scopes.{layout_of}
@@ -84,7 +84,7 @@ module _ (n : ℕ) where
 
   part_holds : (e : Env) → Within n e → (b : Before) (next : Next) (at : ℕ) (s : Spec) (d : Declarator) (m : MaybeInit) (x : Option Ident) → Holds OneBelow (local_named e b next at s d m x)
   part_holds e w b next at s d m None = tt
-  part_holds e w b next at s d m (Some x) = local_holds e w b next x m (object_declared e at s d x m)
+  part_holds e w b next at s d m (Some x) = alone_holds OneBelow (is_given e x.name (type_declared e at s d)) C3 (place_or at d) (local e b next x m (object_declared e at s d x m)) (local_holds e w b next x m (object_declared e at s d x m))
 
   parts_hold : (e : Env) → Within n e → (b : Before) (next : Next) (at : ℕ) (s : Spec) (ps : Parts) → Holds ManyBelow (local_parts e b next at s ps)
   parts_hold e w b next at s no_parts = tt
@@ -203,7 +203,7 @@ module _ (n : ℕ) where
   defined_holds e w b place d x is (array t k) = tt
   defined_holds e w b place d x is (struct s) = tt
   defined_holds e w b place d x is (function t ts) =
-      both_hold Any ManyBelow FunctionBelow (demand (are_named (parameters_of d)) C3 place met) (body_of e b t d ts is) (λ _ p. function_laid e x t ts p) (anything (demand (are_named (parameters_of d)) C3 place met)) (body_holds e w b t d ts is) (λ _ p _ h. demand_holds FunctionBelow (nat_le (cells_of_all (layout_of e) (variables_of ts p)) (most_local_cells e.whole.mode)) 13 x.at (record { name = x.name; ctype = function t ts; variables = variables_of ts p; body = typed.block p.tree }) h)
+      parts_first_holds FunctionBelow (body_of e b t d ts is) (both (demand (are_named (parameters_of d)) C3 place met) (body_of e b t d ts is) (λ _ p. function_laid e x t ts p)) (both_hold Any ManyBelow FunctionBelow (demand (are_named (parameters_of d)) C3 place met) (body_of e b t d ts is) (λ _ p. function_laid e x t ts p) (anything (demand (are_named (parameters_of d)) C3 place met)) (body_holds e w b t d ts is) (λ _ p _ h. demand_holds FunctionBelow (nat_le (cells_of_all (layout_of e) (variables_of ts p)) (most_local_cells e.whole.mode)) 13 x.at (record { name = x.name; ctype = function t ts; variables = variables_of ts p; body = typed.block p.tree }) h))
 
   abbrev OutputBelow : Output → Type 0
   OutputBelow p = FunctionsBelow n p.functions
@@ -241,7 +241,7 @@ module _ (n : ℕ) where
 
   item_holds : (e : Env) → Within n e → (b : Before) (i : Item) → Holds OutputBelow (item e b i)
   item_holds e w b (struct_item at x ms) = after_demands OutputBelow (struct_definition e x ms) (λ _. fine no_output) (λ _. tt)
-  item_holds e w b (enum_item at x es) = both_hold Any Any OutputBelow (new_enum e x) (enumerators _ _ es) (λ _ _. fine no_output) (anything _) (anything _) (λ _ _ _ _. tt)
+  item_holds e w b (enum_item at x es) = both_hold Any Any OutputBelow (new_enum e x _) (enumerators _ _ es) (λ _ _. fine no_output) (anything _) (anything _) (λ _ _ _ _. tt)
   item_holds e w b (tag_item at x) = after_demands OutputBelow (tag_declaration e x) (λ _. fine no_output) (λ _. tt)
   item_holds e w b (decl_item at d) = file_decl_holds e b d
   item_holds e w b (function_item at class s d body) = function_holds e w b at s d body (declares_function d) (name_of d)
@@ -275,7 +275,7 @@ module _ (n : ℕ) where
 
   form_within : (e : Env) → Within n e → (b : Before) (i : Item) → Within n (behind_by_form e b i)
   form_within e w b (struct_item at x ms) = w
-  form_within e w b (enum_item at x es) = enumerators_within (behind_enum_tag e x) (enum_within e w x) _ es
+  form_within e w b (enum_item at x es) = enum_within (behind_enumerators e _ es) (enumerators_within e w _ es) x
   form_within e w b (tag_item at x) = w
   form_within e w b (decl_item at d) = file_decl_within e w b d
   form_within e w b (function_item at class s d body) = function_within e w at s d (name_of d)
@@ -328,7 +328,7 @@ function_counts e b at s d body true (Some x) =
 
 item_counts : (e : Env) (b : Before) (i : Item) → Holds (Counts (length (functions_of_item i))) (item e b i)
 item_counts e b (struct_item at x ms) = after_demands (Counts 0) (struct_definition e x ms) (λ _. fine no_output) (λ _. refl)
-item_counts e b (enum_item at x es) = both_hold Any Any (Counts 0) (new_enum e x) (enumerators _ _ es) (λ _ _. fine no_output) (anything _) (anything _) (λ _ _ _ _. refl)
+item_counts e b (enum_item at x es) = both_hold Any Any (Counts 0) (new_enum e x _) (enumerators _ _ es) (λ _ _. fine no_output) (anything _) (anything _) (λ _ _ _ _. refl)
 item_counts e b (tag_item at x) = after_demands (Counts 0) (tag_declaration e x) (λ _. fine no_output) (λ _. refl)
 item_counts e b (decl_item at d) = decl_counts e b d
 item_counts e b (function_item at class s d body) = function_counts e b at s d body (declares_function d) (name_of d)

@@ -11,12 +11,12 @@ use Rattle.c_rules.specs.TypedExpression.{TypedExpression, tree_of}
 use Rattle.c_rules.specs.Conversions.{as_if_assigned}
 use Rattle.c_rules.specs.Declarators.{name_of, place_or, new_name}
 use Rattle.c_rules.specs.Expressions.{value, type_declared}
-use Rattle.c_rules.specs.Initialisers.{Slots, copies, each, slots, capacity, takes_list, count_inits, text_of, zeros, cell_of, scalar_cell, array_cells, cells_of_one, cells_of_list, held, held_in_turn, held_by, calls_of_init, calls_of_maybe_init, after_init, initialised, in_turn, initialised_local, initialised_static}
+use Rattle.c_rules.specs.Initialisers.{Slots, copies, each, slots, capacity, takes_list, count_inits, text_of, zeros, cell_of, scalar_cell, array_cells, cells_of_one, cells_of_list, held, held_in_turn, held_by, calls_of_init, calls_of_maybe_init, after_init, initialised, in_turn, initialised_local, initialised_static, text_fits}
 use Rattle.c_rules.specs.Objects.{Object, object_of, object_declared}
 use Rattle.c_rules.specs.Variables.{Next, number_in}
-use Rattle.c_rules.specs.Blocks.{seen_meaning, whole_meaning, within_local, behind_local, behind_named, behind_part, past_part, behind_parts, behind_decl, behind_first, held_by_object, held_by_named, held_by_part, held_by_parts, held_by_decl, held_by_first, after_part, StatementTree, bare, alone, one_more, laid_variable, local_of, local, local_named, local_part, local_parts, local_decl}
+use Rattle.c_rules.specs.Blocks.{seen_meaning, whole_meaning, within_local, behind_local, behind_named, behind_part, past_part, behind_parts, behind_decl, behind_first, held_by_object, held_by_named, held_by_part, held_by_parts, held_by_decl, held_by_first, after_part, StatementTree, bare, alone, one_more, laid_variable, local_of, local, local_named, local_part, local_parts, local_decl, is_given}
 use Rattle.c_rules.specs.Statements.{first_of}
-use Rattle.c_rules.proofs.Modes.{Leads, LeadsTo, same_leads, fine_leads, with_fact, on_leads, both_leads, gives_leads, first_fine, on_fine, ArePlain, Twin, twin, named_twin}
+use Rattle.c_rules.proofs.Modes.{Leads, LeadsTo, same_leads, fine_leads, with_fact, on_leads, both_leads, gives_leads, first_fine, on_fine, ArePlain, Twin, twin, named_twin, alone_leads}
 use Rattle.c_rules.proofs.ModeNames.{left, right, new_name_leads, new_name_plain}
 use Rattle.c_rules.proofs.ModeExpressions.{value_leads, type_declared_leads}
 
@@ -88,7 +88,7 @@ one_leads : (k : Bool) (at : ℕ) (t : CType) (text : Option (List ℕ)) (r s : 
 one_leads k at void text r s h = tt
 one_leads k at (integer i) text r s h = scalar_leads k at (integer i) r s h
 one_leads k at (pointer t) text r s h = scalar_leads k at (pointer t) r s h
-one_leads k at (array t n) text r s h = same_leads (array_cells at t n text)
+one_leads k at (array t n) text r s h = same_leads (on (text_fits at text) (λ _. array_cells at t n text))
 one_leads k at (struct x) text r s h = tt
 one_leads k at (function t ts) text r s h = tt
 
@@ -128,6 +128,9 @@ object_leads e f (twin env p) at s d x m =
 
 -- ## Variables
 
+met_behind : {A B C : Type 0} (r : Checked A) (n : Checked B) (f : A → C) (o : A) (a : B) → r ≡ fine o → n ≡ fine a → on r (λ q. gives n (λ _. f q)) ≡ fine (f o)
+met_behind r n f o a e u = λ i. on (e i) (λ q. gives (u i) (λ _. f q))
+
 module _ (env : Env) (p : ArePlain env.names) (next : Next) (x : Ident) (r s : Checked Object) (o : Object) (a : Met) (h : Leads r s) (e : r ≡ fine o) (u : new_name (left env) x ≡ fine a) where
   plain_name : new_name (right env) x ≡ fine a
   plain_name = fine_leads _ _ a (new_name_leads env x) u
@@ -135,14 +138,14 @@ module _ (env : Env) (p : ArePlain env.names) (next : Next) (x : Ident) (r s : C
   within_twin : Twin (within_local (left env) next x r) (within_local (right env) next x s)
   within_twin =
       named_twin env x.name (seen_meaning (left env) (number_in next x.name) x r) (seen_meaning (right env) (number_in next x.name) x s) (a_local (number_in next x.name) o.seen o.whole) p (new_name_plain env x a u)
-      (both_gives r (new_name (left env) x) (λ q _. fine (a_local (number_in next x.name) q.seen q.whole)) o a e u)
-      (both_gives s (new_name (right env) x) (λ q _. fine (a_local (number_in next x.name) q.seen q.whole)) o a (fine_leads r s o h e) plain_name)
+      (met_behind r (new_name (left env) x) (λ q. a_local (number_in next x.name) q.seen q.whole) o a e u)
+      (met_behind s (new_name (right env) x) (λ q. a_local (number_in next x.name) q.seen q.whole) o a (fine_leads r s o h e) plain_name)
 
   local_twin : Twin (behind_local (left env) next x r) (behind_local (right env) next x s)
   local_twin =
       named_twin env x.name (whole_meaning (left env) (number_in next x.name) x r) (whole_meaning (right env) (number_in next x.name) x s) (a_local (number_in next x.name) o.whole o.whole) p (new_name_plain env x a u)
-      (both_gives r (new_name (left env) x) (λ q _. fine (a_local (number_in next x.name) q.whole q.whole)) o a e u)
-      (both_gives s (new_name (right env) x) (λ q _. fine (a_local (number_in next x.name) q.whole q.whole)) o a (fine_leads r s o h e) plain_name)
+      (met_behind r (new_name (left env) x) (λ q. a_local (number_in next x.name) q.whole q.whole) o a e u)
+      (met_behind s (new_name (right env) x) (λ q. a_local (number_in next x.name) q.whole q.whole) o a (fine_leads r s o h e) plain_name)
 
 local_of_leads : (e f : Env) → Twin e f → (b : Before) (next : Next) (x : Ident) (m : MaybeInit) (o : Object) → Leads (local_of e b next x m o) (local_of f b next x m o)
 local_of_leads e f w b next x m o = gives_leads (initialised_local e b o.whole m) (initialised_local f b o.whole m) (laid_variable x.name (number_in next x.name) o.whole) (local_init_leads e f w b o.whole m)
@@ -168,8 +171,11 @@ part_leads e f (twin env p) b next at s d m = by_name (name_of d)
     by_name : (n : Option Ident) → LeadsTo (PartFacts (behind_named (left env) next at s d m n) (behind_named (right env) next at s d m n) (held_by_named (left env) at s d m n) (held_by_named (right env) at s d m n)) (local_named (left env) b next at s d m n) (local_named (right env) b next at s d m n)
     by_name None = tt
     by_name (Some x) =
-        with_fact _ _ _ (local_leads env p b next x m (object_declared (left env) at s d x m) (object_declared (right env) at s d x m) (object_leads _ _ (twin env p) at s d x m))
-        (λ c e. local_facts env p b next x m (object_declared (left env) at s d x m) (object_declared (right env) at s d x m) (object_leads _ _ (twin env p) at s d x m) c e)
+        alone_leads (PartFacts (behind_named (left env) next at s d m (Some x)) (behind_named (right env) next at s d m (Some x)) (held_by_named (left env) at s d m (Some x)) (held_by_named (right env) at s d m (Some x)))
+        (is_given (left env) x.name (type_declared (left env) at s d)) (is_given (right env) x.name (type_declared (right env) at s d)) 3 (place_or at d) (place_or at d)
+        (local (left env) b next x m (object_declared (left env) at s d x m)) (local (right env) b next x m (object_declared (right env) at s d x m))
+        (with_fact _ _ _ (local_leads env p b next x m (object_declared (left env) at s d x m) (object_declared (right env) at s d x m) (object_leads _ _ (twin env p) at s d x m))
+        (λ c e. local_facts env p b next x m (object_declared (left env) at s d x m) (object_declared (right env) at s d x m) (object_leads _ _ (twin env p) at s d x m) c e))
 
 pub parts_lead : (e f : Env) → Twin e f → (b : Before) (next : Next) (at : ℕ) (s : Spec) (ps : Parts) → LeadsTo (PartFacts (behind_parts e next at s ps) (behind_parts f next at s ps) (held_by_parts e next at s ps) (held_by_parts f next at s ps)) (local_parts e b next at s ps) (local_parts f b next at s ps)
 parts_lead e f w b next at s no_parts = (refl, (w, refl))

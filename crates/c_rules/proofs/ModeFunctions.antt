@@ -13,13 +13,13 @@ use Rattle.c_syntax.specs.Tree.{Ident, Spec, Declarator, Params, no_params, more
 use Rattle.c_syntax.specs.Tree as syntax
 use Rattle.c_rules.specs.Checked.{Checked, fine, faulty, on, demand, and_also, Met, met}
 use Rattle.c_rules.specs.Codes.{C2, C3, C11, C12, C13}
-use Rattle.c_rules.specs.Names.{Name, number_among, is_among, is_reserved, given_names, may_be_declared, with_new}
+use Rattle.c_rules.specs.Names.{Name, number_among, is_among, is_reserved, given_names, may_be_declared, with_new, is_given_type}
 use Rattle.c_rules.specs.Scopes.{Env, Meaning, a_function, inside, Before, layout_of, declared_here}
 use Rattle.c_rules.specs.Declarators.{name_of, place_or, type_of_spec, pointer_to, array_of, function_of, new_name, with_name_demands, behind_parameter}
 use Rattle.c_rules.specs.Expressions.{declared, size_in, parameters, type_declared, type_of_parameter}
 use Rattle.c_rules.specs.Blocks.{StatementTree}
-use Rattle.c_rules.specs.Functions.{declares_function, parameters_of, are_named, with_parameter, with_parameters, body_env, body_numbers, held_by_type, held_by_typed, is_given_type, given_as, is_as_given, may_follow_function, is_defined_by, is_few, function_meaning, behind_function, function_declared, variables_of, function_laid, body_of, defined_as}
-use Rattle.c_rules.proofs.Modes.{Leads, LeadsTo, same_leads, fine_leads, on_leads, demand_leads, and_also_leads, first_fine, on_fine, demand_met, below_more, ArePlain, Twin, twin, named_twin}
+use Rattle.c_rules.specs.Functions.{declares_function, parameters_of, are_named, with_parameter, with_parameters, body_env, body_numbers, held_by_type, held_by_typed, given_as, is_as_given, may_follow_function, is_defined_by, is_few, function_meaning, behind_function, function_declared, variables_of, function_laid, body_of, defined_as}
+use Rattle.c_rules.proofs.Modes.{Leads, LeadsTo, same_leads, fine_leads, on_leads, demand_leads, and_also_leads, first_fine, on_fine, demand_met, below_more, ArePlain, Twin, twin, named_twin, parts_first_leads}
 use Rattle.c_rules.proofs.ModeNames.{left, right, given_same, unreserved, name_leads, new_name_plain}
 use Rattle.c_rules.proofs.ModeExpressions.{type_declared_leads, parameter_leads, behind_twin}
 use Rattle.c_rules.proofs.ModeBlocks.{both_to, weaken}
@@ -146,9 +146,9 @@ defined_leads e f w b place d x is (pointer t) h = tt
 defined_leads e f w b place d x is (array t n) h = tt
 defined_leads e f w b place d x is (struct s) h = tt
 defined_leads e f w b place d x is (function t us) h =
-    weaken (Unit {0} × (held_by_type e d is (function t us) ≡ held_by_type f d is (function t us))) _ _ _ (λ y. y.1)
+    parts_first_leads _ (body_of e b t d us is) (body_of f b t d us is) _ _ (weaken (Unit {0} × (held_by_type e d is (function t us) ≡ held_by_type f d is (function t us))) _ _ _ (λ y. y.1)
     (both_to (Unit {0}) (held_by_type e d is (function t us) ≡ held_by_type f d is (function t us)) (demand (are_named (parameters_of d)) C3 place met) (demand (are_named (parameters_of d)) C3 place met) (body_of e b t d us is) (body_of f b t d us is) (λ _ p. function_laid e x t us p) (λ _ p. function_laid f x t us p)
-    (same_leads _) (λ _ _ _. body_leads e f w b t d us is h) (λ _ p. laid_leads e f w x t us p))
+    (same_leads _) (λ _ _ _. body_leads e f w b t d us is h) (λ _ p. laid_leads e f w x t us p)))
 
 declared_names : (e f : Env) → Twin e f → (at : ℕ) (s : Spec) (d : Declarator) (u : CType) → declares_function d ≡ true → type_declared e at s d ≡ fine u → PlainNames (parameters_of d)
 declared_names e f w at s d u h g =

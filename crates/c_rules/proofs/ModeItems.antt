@@ -14,6 +14,7 @@ use Rattle.c_rules.specs.Declarators.{name_of, place_or, constant_value, new_nam
 use Rattle.c_rules.specs.Expressions.{type_declared, folded_value}
 use Rattle.c_rules.specs.Initialisers.{calls_of_maybe_init, held_by, initialised_static}
 use Rattle.c_rules.specs.Objects.{Object, object_declared}
+use Rattle.c_rules.specs.Tags.{tags_of_enumerators}
 use Rattle.c_rules.specs.Variables.{calls_of_block}
 use Rattle.c_rules.specs.Functions.{declares_function, held_by_typed, is_defined_by, function_declared, items_of_body, defined_as}
 use Rattle.c_rules.specs.Items.{Output, no_output, with_output, free_tag, member_typed, new_member, member_named, member_declared, with_option, names_behind, members_declared, members, struct_laid, is_incomplete, new_struct, struct_definition, struct_or_unknown, tag_declaration, int_value, enumerator_value, one_more_than, enumerator_meaning, behind_enumerator, enumerators, behind_enumerators, new_enum, behind_enum_tag, defines, may_follow_object, object_name, few_static, global_object, global_declared, meaning_of_global, seen_of_global, behind_global, within_global, static_of, after_object, definition_of, global, without_init, declared_part, named_part, behind_declared, behind_named_part, behind_file_part, after_global, after_declared, after_file_part, file_parts, behind_file_parts, after_file_parts, file_decl, behind_file_decl, after_file_decl, output_of_function, behind_defined, function_named, behind_function_named, item, with_tags, behind_item, after_item, items, behind_items, after_items}
@@ -72,9 +73,9 @@ tag_declaration_leads e f (twin env p) x = and_also_leads _ _ _ _ (tag_leads env
 
 -- ## Enums
 
-new_enum_leads : (e f : Env) → Twin e f → (t : Tag) → Leads (new_enum e t) (new_enum f t)
-new_enum_leads e f (twin env p) no_tag = (refl, tt)
-new_enum_leads e f (twin env p) (tag x) = and_also_leads _ _ _ _ (tag_leads env x) (same_leads (demand (not (is_among env.enums x.name) && not (is_among env.tags x.name)) C2 x.at met))
+new_enum_leads : (e f : Env) → Twin e f → (t : Tag) (ts : List Name) → Leads (new_enum e t ts) (new_enum f t ts)
+new_enum_leads e f (twin env p) no_tag ts = (refl, tt)
+new_enum_leads e f (twin env p) (tag x) ts = and_also_leads _ _ _ _ (tag_leads env x) (same_leads (demand (not (is_among env.enums x.name) && (not (is_among env.tags x.name) && not (is_among ts x.name))) C2 x.at met))
 
 enum_tag_twin : (e f : Env) → Twin e f → (t : Tag) → Twin (behind_enum_tag e t) (behind_enum_tag f t)
 enum_tag_twin e f (twin env p) no_tag = twin env p
@@ -235,12 +236,13 @@ item_leads e f w b (struct_item at x ms) =
     with_fact _ _ _ (gives_leads (struct_definition e x ms) (struct_definition f x ms) (λ _. no_output) (struct_leads e f w x ms))
     (λ c g. let k = on_fine (struct_definition e x ms) (λ _. fine no_output) c g in (tags_twin _ _ (struct_twin e f w x ms k.0 k.1) (struct_item at x ms), refl))
 item_leads e f w b (enum_item at x es) =
-    let e' : Env = behind_enum_tag e x in
-    let f' : Env = behind_enum_tag f x in
-    let Q : Type 0 = Twin (behind_enumerators e' (fine (pos 0)) es) (behind_enumerators f' (fine (pos 0)) es) in
-    weaken (Unit {0} × Q) _ _ _ (λ h. (tags_twin _ _ h.1 (enum_item at x es), refl))
-    (both_to (Unit {0}) Q (new_enum e x) (new_enum f x) (enumerators e' (fine (pos 0)) es) (enumerators f' (fine (pos 0)) es) (λ _ _. fine no_output) (λ _ _. fine no_output)
-    (new_enum_leads e f w x) (λ _ _ _. enumerators_lead e' f' (enum_tag_twin e f w x) (fine (pos 0)) (fine (pos 0)) (refl, tt) es) (λ _ _. (refl, tt)))
+    let e' : Env = behind_enumerators e (fine (pos 0)) es in
+    let f' : Env = behind_enumerators f (fine (pos 0)) es in
+    let Q : Type 0 = Twin e' f' in
+    let ts : List Name = tags_of_enumerators es in
+    weaken (Unit {0} × Q) _ _ _ (λ h. (tags_twin _ _ (enum_tag_twin e' f' h.1 x) (enum_item at x es), refl))
+    (both_to (Unit {0}) Q (new_enum e x ts) (new_enum f x ts) (enumerators e (fine (pos 0)) es) (enumerators f (fine (pos 0)) es) (λ _ _. fine no_output) (λ _ _. fine no_output)
+    (new_enum_leads e f w x ts) (λ _ _ _. enumerators_lead e f w (fine (pos 0)) (fine (pos 0)) (refl, tt) es) (λ _ _. (refl, tt)))
 item_leads e f w b (tag_item at x) = always _ _ _ (tags_twin _ _ w (tag_item at x), refl) (gives_leads (tag_declaration e x) (tag_declaration f x) (λ _. no_output) (tag_declaration_leads e f w x))
 item_leads e f w b (decl_item at d) = weaken _ _ _ _ (λ h. (tags_twin _ _ h.0 (decl_item at d), h.1)) (decl_leads e f w b d)
 item_leads e f w b (function_item at class s d body) = weaken _ _ _ _ (λ h. (tags_twin _ _ h.0 (function_item at class s d body), ap (past b (calls_of_block (items_of_body body))) h.1)) (function_item_leads e f w b at s d body (declares_function d) (name_of d) refl)

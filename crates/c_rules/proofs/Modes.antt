@@ -1,9 +1,9 @@
 -- The two modes side by side: what is fine in a plain unit is fine in an instrumented one and gives the same.
-use Rattle.std.proofs.Common.{◌≡◌, ℕ, ◌<◌, ◌≤◌, Bool, true, false, List, [], ◌∷◌, refl, sym, subst, arith, nat_lt}
+use Rattle.std.proofs.Common.{◌≡◌, ℕ, ◌<◌, ◌≤◌, Bool, true, false, List, [], ◌∷◌, refl, ap, sym, subst, arith, nat_lt}
 use Rattle.std.proofs.lemmas.Bool.Decides.{Decides-ltb}
 use Rattle.dm_base.specs.declared.mode.Mode.{Mode}
 use Rattle.dm_base.specs.declared.mode.Mode.TheVariants.{Plain, Instrumented}
-use Rattle.c_rules.specs.Checked.{Checked, fine, faulty, on, both, beside, all_three, gives, demand, and_also, Met, met}
+use Rattle.c_rules.specs.Checked.{Checked, fine, faulty, on, both, beside, all_three, gives, demand, and_also, Met, met, fails_with, parts_first}
 use Rattle.c_rules.specs.Names.{Name, is_reserved}
 use Rattle.c_rules.specs.Scopes.{Env, Binding, Meaning, with_name, meaning_or_unknown}
 
@@ -42,6 +42,18 @@ both_leads (fine a) p' (fine b) q' k l g h t =
     subst (λ x. Leads (k a b) (both x q' l)) (sym g.0) (subst (λ y. Leads (k a b) (both (fine a) y l)) (sym (h a refl).0) (t a b))
 both_leads (fine a) p' (faulty f fs) q' k l g h t = tt
 both_leads (faulty f fs) p' q q' k l g h t = tt
+
+-- with one demand in place of what fails
+pub alone_leads : {A : Type 0} (P : Type 0) (t u : Bool) (code at to : ℕ) (r s : Checked A) → LeadsTo P r s → LeadsTo P (fails_with t code at r) (fails_with u code to s)
+alone_leads P t u code at to (fine a) s h = (ap (fails_with u code to) h.0, h.1)
+alone_leads P true u code at to (faulty f fs) s h = tt
+alone_leads P false u code at to (faulty f fs) s h = tt
+
+-- beside the parts of a node
+pub parts_first_leads : {A B D : Type 0} (P : Type 0) (q : Checked A) (u : Checked B) (r s : Checked D) → LeadsTo P r s → LeadsTo P (parts_first q r) (parts_first u s)
+parts_first_leads P q u (fine d) s h = (ap (parts_first u) h.0, h.1)
+parts_first_leads P (fine a) u (faulty f fs) s h = tt
+parts_first_leads P (faulty g gs) u (faulty f fs) s h = tt
 
 pub gives_leads : {A B : Type 0} (r s : Checked A) (f : A → B) → Leads r s → Leads (gives r f) (gives s f)
 gives_leads r s f h = on_leads r s (λ a. fine (f a)) (λ a. fine (f a)) h (λ a _. (refl, tt))

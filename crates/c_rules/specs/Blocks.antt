@@ -1,30 +1,32 @@
 -- Declarations in blocks (6.7): the scopes behind them, the strings in them, and what they give.
-use Rattle.std.specs.Prelude.{ℕ, List, [], ◌∷◌, ◌++◌, if◌then◌else◌, Option, Some, None}
+use Rattle.std.specs.Prelude.{ℕ, Bool, false, List, [], ◌∷◌, ◌++◌, if◌then◌else◌, Option, Some, None, slice_get}
+use Rattle.dm_base.specs.declared.mode.Mode.{Mode}
 use Rattle.c_tree.specs.Tree.{CType}
 use Rattle.c_tree.specs.Tree as typed
 use Rattle.c_syntax.specs.Tree.{Ident, Spec, Declarator, MaybeInit, Parts, no_parts, more_parts, Decl, decl}
 use Rattle.c_syntax.specs.Tree.{First, first_absent, first_expr, first_decl}
 use Rattle.c_syntax.specs.Tree.{Stmt, block, empty, evaluate, only_if, if_else, while_loop, do_loop, for_loop, switch_on, break_off, continue_on, return_from}
 use Rattle.c_syntax.specs.Tree.{BlockItems, no_block_items, block_decl, block_stmt, Stmts, no_stmts, more_stmts, Groups, no_groups, more_groups}
-use Rattle.c_rules.specs.Checked.{Checked, fine, faulty, fault, on, both, gives}
+use Rattle.c_rules.specs.Checked.{Checked, fine, faulty, fault, on, both, gives, fails_with}
 use Rattle.c_rules.specs.Codes.{C3}
-use Rattle.c_rules.specs.Names.{Name, is_added}
+use Rattle.c_rules.specs.Names.{Name, is_added, number_among, given_names, given_types, is_given_type}
 use Rattle.c_rules.specs.Scopes.{Env, Meaning, a_local, with_name, meaning_or_unknown, inside, Before}
 use Rattle.c_rules.specs.Counts.{strings, strings_of_maybe, past}
 use Rattle.c_rules.specs.TypedExpression.{TypedExpression}
 use Rattle.c_rules.specs.Declarators.{name_of, place_or, new_name}
+use Rattle.c_rules.specs.Expressions.{type_declared}
 use Rattle.c_rules.specs.Initialisers.{held_by, calls_of_maybe_init, initialised_local, stores_from}
 use Rattle.c_rules.specs.Objects.{Object, object_declared}
 use Rattle.c_rules.specs.Variables.{name_or_empty, Next, number_in, past_name, calls_of_decl, calls_of_first, calls_of_stmt, calls_of_stmts, names_of_decl, names_of_first, names_of_stmt, names_of_stmts, past_names}
 
 -- ## Scopes
 
--- what the name of a variable means within its own initialiser, and behind it
+-- what the name of a variable means within its own initialiser, and behind it; where it is no object's, each use fails with its demands
 abbrev pub seen_meaning : Env → (number : ℕ) → Ident → Checked Object → Checked Meaning
-seen_meaning env k x r = both r (new_name env x) (λ o _. fine (a_local k o.seen o.whole))
+seen_meaning env k x r = on r (λ o. gives (new_name env x) (λ _. a_local k o.seen o.whole))
 
 abbrev pub whole_meaning : Env → (number : ℕ) → Ident → Checked Object → Checked Meaning
-whole_meaning env k x r = both r (new_name env x) (λ o _. fine (a_local k o.whole o.whole))
+whole_meaning env k x r = on r (λ o. gives (new_name env x) (λ _. a_local k o.whole o.whole))
 
 -- within the initialiser of a variable (6.2.1 paragraph 7)
 abbrev pub within_local : Env → Next → Ident → Checked Object → Env
@@ -183,9 +185,20 @@ local_of env b next x m o = gives (initialised_local env b o.whole m) (laid_vari
 abbrev pub local : Env → Before → Next → Ident → MaybeInit → Checked Object → Checked (StatementTree typed.Stmt)
 local env b next x m r = both (new_name env x) (on r (local_of (within_local env next x r) b next x m)) (λ _ p. fine p)
 
+-- a function is declared by its name and its type as it is given (7.1.4 paragraph 2)
+abbrev pub given_at : Mode → Option ℕ → CType → Bool
+given_at m None t = false
+given_at m (Some i) t = is_given_type (slice_get (given_types m) i) t
+
+abbrev pub is_given : Env → Name → Checked CType → Bool
+is_given env x (fine t) = given_at env.whole.mode (number_among (given_names env.whole.mode) x) t
+is_given env x (faulty f fs) = false
+
+-- A function isn't declared in a block in this profile. Where it is declared as it is given, nothing else is wrong with its name.
 abbrev pub local_named : Env → Before → Next → (at : ℕ) → Spec → Declarator → MaybeInit → Option Ident → Checked (StatementTree typed.Stmt)
 local_named env b next at s d m None = fault C3 (place_or at d)
-local_named env b next at s d m (Some x) = local env b next x m (object_declared env at s d x m)
+local_named env b next at s d m (Some x) =
+    fails_with (is_given env x.name (type_declared env at s d)) C3 (place_or at d) (local env b next x m (object_declared env at s d x m))
 
 -- one declarator with its initialiser
 abbrev pub local_part : Env → Before → Next → (at : ℕ) → Spec → Declarator → MaybeInit → Checked (StatementTree typed.Stmt)

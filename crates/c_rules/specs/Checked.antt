@@ -53,6 +53,19 @@ abbrev pub demand : {A : Type 0} → Bool → (code at : ℕ) → A → Checked 
 demand true code at a = fine a
 demand false code at a = fault code at
 
+-- What a node gives, beside the parts that it is made of: where it fails and one of them does, their demands alone are listed. So the
+-- demands on the node stand only where its parts meet theirs.
+abbrev pub parts_first : {A B : Type 0} → (parts : Checked A) → (node : Checked B) → Checked B
+parts_first parts (fine b) = fine b
+parts_first (fine a) (faulty f fs) = faulty f fs
+parts_first (faulty g gs) (faulty f fs) = faulty g gs
+
+-- where the condition holds, whatever fails in a part is this one demand
+abbrev pub fails_with : {A : Type 0} → (alone : Bool) → (code at : ℕ) → Checked A → Checked A
+fails_with alone code at (fine a) = fine a
+fails_with true code at (faulty f fs) = fault code at
+fails_with false code at (faulty f fs) = faulty f fs
+
 -- what a demand gives that gives nothing else
 pub data Met : Type 0 where
   met : Met

@@ -5,10 +5,10 @@ use Rattle.c_tree.specs.Tree as typed
 use Rattle.c_tree.specs.Layout.{cells_of_all}
 use Rattle.c_syntax.specs.Tree.{Ident, Spec, Declarator, Params, no_params, more_params, Stmt, block, BlockItems, no_block_items, block_stmt}
 use Rattle.c_syntax.specs.Tree as syntax
-use Rattle.c_rules.specs.Checked.{Checked, fine, faulty, fault, demand, on, both, and_also, met}
+use Rattle.c_rules.specs.Checked.{Checked, fine, faulty, fault, demand, on, both, and_also, met, parts_first}
 use Rattle.c_rules.specs.Codes.{C2, C3, C11, C12, C13}
 use Rattle.c_rules.specs.Limits.{most_functions, most_local_cells}
-use Rattle.c_rules.specs.Names.{Name, number_among, is_among, with_new, may_be_declared, given_names, given_types}
+use Rattle.c_rules.specs.Names.{Name, number_among, is_among, with_new, may_be_declared, given_names, given_types, is_given_type}
 use Rattle.c_rules.specs.Types.{same_type}
 use Rattle.c_rules.specs.Scopes.{Env, Meaning, a_static, a_local, a_function, unknown, declared_here, with_name, meaning_or_unknown, inside, layout_of, Before}
 use Rattle.c_rules.specs.Declarators.{name_of}
@@ -64,10 +64,6 @@ with_parameters env k (more_params at s d ps) (more_types t ts) = with_parameter
 -- ## Names of functions
 
 -- a name of a system call or of a null call is declared with its type, and has no definition
-abbrev pub is_given_type : Option CType → CType → Bool
-is_given_type None t = false
-is_given_type (Some u) t = same_type t u
-
 abbrev pub given_as : Env → (defined : Bool) → CType → Option ℕ → Bool
 given_as env defined t None = true
 given_as env defined t (Some i) = not defined && is_given_type (slice_get (given_types env.whole.mode) i) t
@@ -150,5 +146,5 @@ held_by_typed env d is (faulty f fs) = []
 -- a definition of a function of this type; its name is known in its body
 abbrev pub defined_as : Env → Before → (place : ℕ) → Declarator → Ident → BlockItems → CType → Checked Function
 defined_as env b place d x is (function t ts) =
-    both (demand (are_named (parameters_of d)) C3 place met) (body_of env b t d ts is) (λ _ p. function_laid env x t ts p)
+    parts_first (body_of env b t d ts is) (both (demand (are_named (parameters_of d)) C3 place met) (body_of env b t d ts is) (λ _ p. function_laid env x t ts p))
 defined_as env b place d x is t = fault C3 place

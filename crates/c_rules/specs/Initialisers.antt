@@ -9,12 +9,13 @@ use Rattle.c_tree.specs.Layout.{Structs, flat, flat_all, repeat}
 use Rattle.c_syntax.specs.Tree.{Expr, a_str, Init, one, list, MaybeInit, no_init, an_init}
 use Rattle.c_syntax.specs.Tree as syntax
 use Rattle.c_tree.specs.Operators.{value_of}
-use Rattle.c_rules.specs.Checked.{Checked, fine, fault, demand, on, both, met}
+use Rattle.c_rules.specs.Checked.{Checked, fine, fault, demand, on, both, Met, met}
 use Rattle.c_rules.specs.Codes.{C6, C14}
 use Rattle.c_rules.specs.Scopes.{Env, Struct, incomplete, unknown_struct, defined_struct, struct_of, layout_of, type_of_member, Before}
 use Rattle.c_rules.specs.Counts.{calls, strings, past}
 use Rattle.c_rules.specs.TypedExpression.{TypedExpression, Constant, not_constant, undefined, known, typed_value, tree_of}
 use Rattle.c_rules.specs.Conversions.{as_if_assigned, null_of}
+use Rattle.c_rules.specs.PrimaryExpressions.{few_cells}
 use Rattle.c_rules.specs.Expressions.{value}
 
 -- ## What takes an initialiser
@@ -54,6 +55,11 @@ count_inits (syntax.more_inits i is) = suc (count_inits is)
 abbrev pub text_of : Expr → Option (List ℕ)
 text_of (a_str at w) = Some w
 text_of e = None
+
+-- the limit on a string, which holds where it initialises an array too
+abbrev pub text_fits : (at : ℕ) → Option (List ℕ) → Checked Met
+text_fits at None = fine met
+text_fits at (Some w) = few_cells at (suc (length w))
 
 -- ## Cells
 
@@ -105,7 +111,7 @@ abbrev pub cells_of_one : (is_static : Bool) → (at : ℕ) → CType → Option
 cells_of_one k at void text r = fault C14 at
 cells_of_one k at (integer i) text r = scalar_cell k at (integer i) r
 cells_of_one k at (pointer t) text r = scalar_cell k at (pointer t) r
-cells_of_one k at (array t n) text r = array_cells at t n text
+cells_of_one k at (array t n) text r = on (text_fits at text) (λ _. array_cells at t n text)
 cells_of_one k at (struct s) text r = fault C14 at
 cells_of_one k at (function t ts) text r = fault C14 at
 

@@ -20,7 +20,7 @@ use Rattle.c_rules.specs.Declarators.{name_of, place_or, constant_value, new_nam
 use Rattle.c_rules.specs.Expressions.{type_declared, folded_value}
 use Rattle.c_rules.specs.Initialisers.{initialised_static, value_of_cell, held_by, calls_of_maybe_init}
 use Rattle.c_rules.specs.Objects.{Object, object_declared, with_size}
-use Rattle.c_rules.specs.Tags.{tags_of_item}
+use Rattle.c_rules.specs.Tags.{tags_of_enumerators, tags_of_item}
 use Rattle.c_rules.specs.Variables.{calls_of_block}
 use Rattle.c_rules.specs.Functions.{declares_function, held_by_typed, is_defined_by, behind_function, function_declared, items_of_body, defined_as}
 
@@ -141,11 +141,13 @@ behind_enumerators env before (more_enumerators x m es) =
     let r : Checked ℤ = enumerator_value env before x m in
     behind_enumerators (behind_enumerator env x r) (one_more_than r) es
 
-abbrev pub new_enum : Env → Tag → Checked Met
-new_enum env no_tag = fine met
-new_enum env (tag x) =
-    and_also (free_tag env x) (demand (not (is_among env.enums x.name) && not (is_among env.tags x.name)) C2 x.at met)
+-- the tag of an enum, in whose list these tags of structs stand
+abbrev pub new_enum : Env → Tag → (within : List Name) → Checked Met
+new_enum env no_tag within = fine met
+new_enum env (tag x) within =
+    and_also (free_tag env x) (demand (not (is_among env.enums x.name) && (not (is_among env.tags x.name) && not (is_among within x.name))) C2 x.at met)
 
+-- the tag is declared behind the list (6.7.2.3 paragraph 3)
 abbrev pub behind_enum_tag : Env → Tag → Env
 behind_enum_tag env no_tag = env
 behind_enum_tag env (tag x) = record env { enums = x.name ∷ env.enums }
@@ -313,7 +315,7 @@ after_function env b at s d body =
 -- what an item gives
 abbrev pub item : Env → Before → Item → Checked Output
 item env b (struct_item at x ms) = gives (struct_definition env x ms) (λ _. no_output)
-item env b (enum_item at x es) = both (new_enum env x) (enumerators (behind_enum_tag env x) (fine (pos 0)) es) (λ _ _. fine no_output)
+item env b (enum_item at x es) = both (new_enum env x (tags_of_enumerators es)) (enumerators env (fine (pos 0)) es) (λ _ _. fine no_output)
 item env b (tag_item at x) = gives (tag_declaration env x) (λ _. no_output)
 item env b (decl_item at d) = file_decl env b d
 item env b (function_item at class s d body) = function_named env b at s d body (declares_function d) (name_of d)
@@ -321,7 +323,7 @@ item env b (function_item at class s d body) = function_named env b at s d body 
 -- the names, structs and enums behind an item
 abbrev pub behind_by_form : Env → Before → Item → Env
 behind_by_form env b (struct_item at x ms) = with_struct env x.name (struct_or_unknown (struct_definition env x ms))
-behind_by_form env b (enum_item at x es) = behind_enumerators (behind_enum_tag env x) (fine (pos 0)) es
+behind_by_form env b (enum_item at x es) = behind_enum_tag (behind_enumerators env (fine (pos 0)) es) x
 behind_by_form env b (tag_item at x) = env
 behind_by_form env b (decl_item at d) = behind_file_decl env b d
 behind_by_form env b (function_item at class s d body) = behind_function_named env at s d (name_of d)

@@ -5,6 +5,7 @@ use Rattle.dm_base.specs.declared.mode.Mode.TheVariants.{Plain, Instrumented}
 use Rattle.sys_table.specs.Table.{Row, table}
 use Rattle.c_tree.specs.Functions.{sys_types, null_types}
 use Rattle.c_tree.specs.Tree.{CType}
+use Rattle.c_rules.specs.Types.{same_type}
 
 -- a name is its bytes
 abbrev pub Name : Type 0
@@ -107,3 +108,8 @@ given_names Instrumented = system_calls ++ null_calls
 abbrev pub given_types : Mode → List CType
 given_types Plain = sys_types
 given_types Instrumented = sys_types ++ null_types
+
+-- this type is given
+abbrev pub is_given_type : Option CType → CType → Bool
+is_given_type None t = false
+is_given_type (Some u) t = same_type t u

@@ -11,7 +11,7 @@ use Rattle.c_rules.specs.Scopes.{Env, layout_of}
 use Rattle.c_rules.specs.Conversions.{complete}
 use Rattle.c_rules.specs.Declarators.{place_or}
 use Rattle.c_rules.specs.Expressions.{type_declared}
-use Rattle.c_rules.specs.Initialisers.{count_inits, text_of}
+use Rattle.c_rules.specs.Initialisers.{count_inits, text_of, text_fits}
 
 -- the type of an object, and the type that it has within its own initialiser
 pub record Object : Type 0 where
@@ -24,7 +24,7 @@ sized_by_one at (integer Char) (Some w) = fine (array (integer Char) (suc (lengt
 sized_by_one at t text = fault C14 at
 
 abbrev pub sized_by_init : CType → Init → Checked CType
-sized_by_init t (one at e) = sized_by_one at t (text_of e)
+sized_by_init t (one at e) = on (text_fits at (text_of e)) (λ _. sized_by_one at t (text_of e))
 sized_by_init t (list at is) = fine (array t (count_inits is))
 
 -- an array without a size has an initialiser

@@ -83,12 +83,15 @@ integer_expression n false = typed_int (pos n)
 abbrev pub string_type : ℕ → CType
 string_type n = array (integer Char) (suc n)
 
--- the limits on a string that the program holds
+-- the limit on a string, wherever it stands
+abbrev pub few_cells : (at cells : ℕ) → Checked Met
+few_cells at cells = demand (nat_le cells most_cells) C13 at met
+
+-- the limits on a string; that on all of them is one on those that the program holds
 abbrev pub string_fits : Context → (at before cells : ℕ) → Checked Met
-string_fits evaluated at before cells =
-    and_also (demand (nat_le cells most_cells) C13 at met) (demand (nat_le (before + cells) most_static_cells) C13 at met)
-string_fits sized at before cells = fine met
-string_fits folded at before cells = fine met
+string_fits evaluated at before cells = and_also (few_cells at cells) (demand (nat_le (before + cells) most_static_cells) C13 at met)
+string_fits sized at before cells = few_cells at cells
+string_fits folded at before cells = few_cells at cells
 
 -- strings are numbered after the static objects, in the order of the text
 abbrev pub string_number : Env → Before → ℕ

@@ -1,7 +1,7 @@
 -- Two checks of which one is fine exactly where the other is, and then gives the same.
 use Rattle.std.proofs.Common.{◌≡◌, ℕ, Bool, true, false, if◌then◌else◌}
-use Rattle.c_rules.specs.Checked.{Checked, fine, on, both, beside, all_three, gives, demand, fault, and_also, Met, met}
-use Rattle.c_rules_laws.proofs.Leads.{Leads, same_leads, fine_leads, on_leads, both_leads, gives_leads, all_three_lead, first_fine}
+use Rattle.c_rules.specs.Checked.{Checked, fine, on, both, beside, all_three, gives, demand, fault, and_also, Met, met, fails_with, parts_first}
+use Rattle.c_rules_laws.proofs.Leads.{Leads, same_leads, fine_leads, on_leads, both_leads, gives_leads, all_three_lead, first_fine, alone_leads, parts_first_leads}
 
 pub record Alike (A : Type 0) (r s : Checked A) : Type 0 where
   pub forth : Leads r s
@@ -28,6 +28,20 @@ on_alike {A} {B} {r} {s} k l h t = record {
 
 pub gives_alike : {A B : Type 0} {r s : Checked A} (f : A → B) → Alike A r s → Alike B (gives r f) (gives s f)
 gives_alike {A} {B} {r} {s} f h = record { forth = gives_leads r s f h.forth; back = gives_leads s r f h.back }
+
+-- with one demand in place of what fails
+pub alone_alike : {A : Type 0} (t u : Bool) (code at to : ℕ) {r s : Checked A} → Alike A r s → Alike A (fails_with t code at r) (fails_with u code to s)
+alone_alike {A} t u code at to {r} {s} h = record {
+  forth = alone_leads (Unit {0}) t u code at to r s h.forth;
+  back = alone_leads (Unit {0}) u t code to at s r h.back;
+}
+
+-- beside the parts of a node
+pub parts_first_alike : {A B D : Type 0} (q : Checked A) (u : Checked B) {r s : Checked D} → Alike D r s → Alike D (parts_first q r) (parts_first u s)
+parts_first_alike {A} {B} {D} q u {r} {s} h = record {
+  forth = parts_first_leads (Unit {0}) q u r s h.forth;
+  back = parts_first_leads (Unit {0}) u q s r h.back;
+}
 
 -- the second part is looked at where the first one is fine
 pub both_alike : {A B C : Type 0} {p p' : Checked A} (q q' : Checked B) (k l : A → B → Checked C) → Alike A p p' → ((a : A) → p ≡ fine a → Alike B q q') → ((a : A) (b : B) → Alike C (k a b) (l a b)) → Alike C (both p q k) (both p' q' l)

@@ -3,19 +3,20 @@ use Rattle.std.proofs.Common.{◌≡◌, ℕ, ◌++◌, Option, Some, None, refl
 use Rattle.c_tree.specs.Tree as typed
 use Rattle.c_syntax.specs.Tree.{Ident, Spec, Declarator, MaybeInit, Parts, no_parts, more_parts, Decl, decl, First, first_absent, first_expr, first_decl}
 use Rattle.c_syntax.specs.Same.{unplaced_ident, unplaced_spec, unplaced_declarator, unplaced_maybe_init, unplaced_parts, unplaced_decl, unplaced_first}
-use Rattle.c_rules.specs.Checked.{Checked, fine, faulty, on, both, Met}
+use Rattle.c_rules.specs.Checked.{Checked, fine, faulty, on, Met, gives}
 use Rattle.c_rules.specs.Codes.{C3}
 use Rattle.c_rules.specs.Scopes.{Env, Meaning, a_local, with_name, meaning_or_unknown, Before}
 use Rattle.c_rules.specs.Counts.{strings}
 use Rattle.c_rules.specs.TypedExpression.{tree_of}
 use Rattle.c_rules.specs.Declarators.{name_of, place_or, new_name}
+use Rattle.c_rules.specs.Expressions.{type_declared}
 use Rattle.c_rules.specs.Initialisers.{held_by, calls_of_maybe_init}
 use Rattle.c_rules.specs.Objects.{Object, object_declared}
 use Rattle.c_rules.specs.Variables.{Next, number_in, calls_of_decl, calls_of_first}
-use Rattle.c_rules.specs.Blocks.{within_local, behind_local, behind_named, behind_part, past_part, behind_parts, behind_decl, behind_first, held_by_object, held_by_named, held_by_part, held_by_parts, held_by_decl, held_by_first, after_part, after_decl, after_first, StatementTree, bare, one_more, alone, laid_variable, local_of, local, local_named, local_part, local_parts, local_decl}
+use Rattle.c_rules.specs.Blocks.{within_local, behind_local, behind_named, behind_part, past_part, behind_parts, behind_decl, behind_first, held_by_object, held_by_named, held_by_part, held_by_parts, held_by_decl, held_by_first, after_part, after_decl, after_first, StatementTree, bare, one_more, alone, laid_variable, local_of, local, local_named, local_part, local_parts, local_decl, is_given}
 use Rattle.c_rules.specs.Statements.{first_of}
-use Rattle.c_rules_laws.proofs.Leads.{first_fine, on_fine}
-use Rattle.c_rules_laws.proofs.Alike.{Alike, alike, on_alike, gives_alike, both_alike, fault_alike}
+use Rattle.c_rules_laws.proofs.Leads.{first_fine, on_fine, alone_fine}
+use Rattle.c_rules_laws.proofs.Alike.{Alike, alike, on_alike, gives_alike, both_alike, fault_alike, alone_alike}
 use Rattle.c_rules_laws.proofs.Declared.{unplaced_name, name_same, new_alike, meaning_same}
 use Rattle.c_rules_laws.proofs.Expressions.{value_alike, strings_same, past_same}
 use Rattle.c_rules_laws.proofs.Initialisers.{maybe_init_calls_same, held_by_same, local_init_alike, declared_object_alike}
@@ -25,11 +26,11 @@ use Rattle.c_rules_laws.proofs.Counted.{past_name_same, decl_calls_same, first_c
 
 -- a name that is new has the same meaning within its initialiser and behind it
 met_meaning : (env : Env) (x : Ident) (r s : Checked Object) (f : Object → Meaning) (o : Object) (m : Met) → Alike Object r s → r ≡ fine o → new_name env x ≡ fine m
-    → meaning_or_unknown (both r (new_name env x) (λ o _. fine (f o))) ≡ meaning_or_unknown (both s (new_name env (unplaced_ident x)) (λ o _. fine (f o)))
+    → meaning_or_unknown (on r (λ o. gives (new_name env x) (λ _. f o))) ≡ meaning_or_unknown (on s (λ o. gives (new_name env (unplaced_ident x)) (λ _. f o)))
 met_meaning env x r s f o m h e d =
-    meaning_same (both r (new_name env x) (λ o _. fine (f o))) (both s (new_name env (unplaced_ident x)) (λ o _. fine (f o))) (f o)
-    (both_alike (new_name env x) (new_name env (unplaced_ident x)) (λ o _. fine (f o)) (λ o _. fine (f o)) h (λ _ _. new_alike env x) (λ o _. alike (fine (f o))))
-    (subst (λ y. both y (new_name env x) (λ o _. fine (f o)) ≡ fine (f o)) (sym e) (subst (λ z. both (fine o) z (λ o _. fine (f o)) ≡ fine (f o)) (sym d) refl))
+    meaning_same (on r (λ o. gives (new_name env x) (λ _. f o))) (on s (λ o. gives (new_name env (unplaced_ident x)) (λ _. f o))) (f o)
+    (on_alike (λ o. gives (new_name env x) (λ _. f o)) (λ o. gives (new_name env (unplaced_ident x)) (λ _. f o)) h (λ o _. gives_alike (λ _. f o) (new_alike env x)))
+    (λ i. on (e i) (λ o. gives (d i) (λ _. f o)))
 
 within_same : (env : Env) (next : Next) (x : Ident) (r s : Checked Object) (o : Object) (m : Met) → Alike Object r s → r ≡ fine o → new_name env x ≡ fine m
     → within_local env next x r ≡ within_local env next (unplaced_ident x) s
@@ -56,7 +57,8 @@ local_alike env b c h next x m r s g =
 named_alike : (env : Env) (b c : Before) → c ≡ b → (next : Next) (at to : ℕ) (s : Spec) (d : Declarator) (m : MaybeInit) (n : Option Ident) → Alike (StatementTree typed.Stmt) (local_named env b next at s d m n) (local_named env c next to (unplaced_spec s) (unplaced_declarator d) (unplaced_maybe_init m) (unplaced_name n))
 named_alike env b c h next at to s d m None = fault_alike C3 (place_or at d) (place_or to (unplaced_declarator d))
 named_alike env b c h next at to s d m (Some x) =
-    local_alike env b c h next x m (object_declared env at s d x m) (object_declared env to (unplaced_spec s) (unplaced_declarator d) (unplaced_ident x) (unplaced_maybe_init m)) (declared_object_alike env at to s d x m)
+    alone_alike (is_given env x.name (type_declared env at s d)) (is_given env x.name (type_declared env to (unplaced_spec s) (unplaced_declarator d))) C3 (place_or at d) (place_or to (unplaced_declarator d))
+    (local_alike env b c h next x m (object_declared env at s d x m) (object_declared env to (unplaced_spec s) (unplaced_declarator d) (unplaced_ident x) (unplaced_maybe_init m)) (declared_object_alike env at to s d x m))
 
 part_alike : (env : Env) (b c : Before) → c ≡ b → (n k : Next) → k ≡ n → (at to : ℕ) (s : Spec) (d : Declarator) (m : MaybeInit) → Alike (StatementTree typed.Stmt) (local_part env b n at s d m) (local_part env c k to (unplaced_spec s) (unplaced_declarator d) (unplaced_maybe_init m))
 part_alike env b c h n k g at to s d m =
@@ -68,7 +70,7 @@ behind_named_same : (env : Env) (b : Before) (n : Next) (at to : ℕ) (s : Spec)
 behind_named_same env b n at to s d m None p e = refl
 behind_named_same env b n at to s d m (Some x) p e =
     let r : Checked Object = object_declared env at s d x m in
-    let f = first_fine (new_name env x) (on r (local_of (within_local env n x r) b n x m)) (λ _ p. fine p) p e in
+    let f = first_fine (new_name env x) (on r (local_of (within_local env n x r) b n x m)) (λ _ p. fine p) p (alone_fine (is_given env x.name (type_declared env at s d)) C3 (place_or at d) (local env b n x m r) p e) in
     let g = on_fine r (local_of (within_local env n x r) b n x m) f.1 f.3 in
     behind_same env n x r (object_declared env to (unplaced_spec s) (unplaced_declarator d) (unplaced_ident x) (unplaced_maybe_init m)) g.0 f.0 (declared_object_alike env at to s d x m) g.1 f.2
 

@@ -12,7 +12,7 @@ use Rattle.c_tree.specs.Operators.{fits_int}
 use Rattle.c_syntax.specs.Tree.{Ident, Storage, Spec, Declarator, MaybeInit, Parts, no_parts, more_parts, Decl, decl, Maybe, absent, there, Stmt, Members, Enumerators, no_enumerators, more_enumerators, Tag, no_tag, tag, Item, struct_item, enum_item, tag_item, decl_item, function_item, Items, no_items, more_items}
 use Rattle.c_syntax.specs.Tree as syntax
 use Rattle.c_rules.specs.Checked.{Checked, fine, on, demand, and_also, Met, met}
-use Rattle.c_rules.specs.Names.{Name, with_new, number_among, is_among, may_be_declared, given_names, given_types}
+use Rattle.c_rules.specs.Names.{Name, with_new, number_among, is_among, may_be_declared, given_names, given_types, is_given_type}
 use Rattle.c_rules.specs.Types.{same_type, is_result, count}
 use Rattle.c_rules.specs.Scopes.{Env, Binding, Meaning, a_static, a_local, a_function, an_enumerator, unknown, Struct, defined_struct, Member, type_of_member, struct_of, tag_number, layout_of, with_struct, with_name, meaning_or_unknown, lookup, at_depth, declared_here, Before}
 use Rattle.c_rules.specs.Conversions.{few_parts}
@@ -21,7 +21,8 @@ use Rattle.c_rules.specs.Counts.{place_of}
 use Rattle.c_rules.specs.Declarators.{free_name, constant_value, name_of, place_or, pointer_to, array_of, function_of, new_name}
 use Rattle.c_rules.specs.Expressions.{folded_value, declared, size_in, parameters, type_declared}
 use Rattle.c_rules.specs.Objects.{Object, object_declared}
-use Rattle.c_rules.specs.Functions.{declares_function, is_given_type, given_as, is_as_given, may_follow_function, is_defined_by, is_few, function_meaning, behind_function, function_declared, items_of_body, defined_as}
+use Rattle.c_rules.specs.Tags.{tags_of_enumerators}
+use Rattle.c_rules.specs.Functions.{declares_function, given_as, is_as_given, may_follow_function, is_defined_by, is_few, function_meaning, behind_function, function_declared, items_of_body, defined_as}
 use Rattle.c_rules.specs.Items.{free_tag, without_init, output_of_function, Output, no_output, with_output, new_struct, struct_definition, struct_laid, members, is_incomplete, struct_or_unknown, int_value, enumerator_value, one_more_than, enumerator_meaning, behind_enumerator, enumerators, behind_enumerators, new_enum, behind_enum_tag, defines, may_follow_object, object_name, few_static, global_object, global_declared, meaning_of_global, behind_global, within_global, definition_of, global, declared_part, named_part, behind_declared, behind_named_part, behind_file_part, after_file_part, file_parts, behind_file_parts, file_decl, behind_file_decl, behind_defined, function_named, behind_function_named, item, behind_by_form, with_tags, behind_item, after_item, items, behind_items}
 use Rattle.c_rules_laws.specs.Lexical.{AreSomeMembers, IsItemLexical, IsUnitLexical}
 use Rattle.c_rules_laws.specs.MadeTypes.{NotArray, Made, IsSized}
@@ -346,10 +347,10 @@ definition_step env b at s d body (Some x) p true q w e =
 pub form_step : (i : Item) (env : Env) (b : Before) (p : Output) → IsFileRight env → IsItemLexical i → item env b i ≡ fine p → Step env (behind_by_form env b i)
 form_step (struct_item at x ms) env b p w l e = (let f = on_fine (struct_definition env x ms) (λ _. fine no_output) p e in struct_step env x ms f.0 w l f.1)
 form_step (enum_item at x es) env b p w l e =
-    let inner : Env = behind_enum_tag env x in
-    let f = first_fine (new_enum env x) (enumerators inner (fine (pos 0)) es) (λ _ _. fine no_output) p e in
-    let h = enum_tag_step env x w in
-    step_on env inner (behind_enumerators inner (fine (pos 0)) es) h (enumerators_step es inner (fine (pos 0)) f.1 h.0 f.3)
+    let inner : Env = behind_enumerators env (fine (pos 0)) es in
+    let f = first_fine (new_enum env x (tags_of_enumerators es)) (enumerators env (fine (pos 0)) es) (λ _ _. fine no_output) p e in
+    let h = enumerators_step es env (fine (pos 0)) f.1 w f.3 in
+    step_on env inner (behind_enum_tag inner x) h (enum_tag_step inner x h.0)
 form_step (tag_item at x) env b p w l e = step_self env w
 form_step (decl_item at d) env b p w l e = decl_step d env b p w e
 form_step (function_item at class s d body) env b p w l e = definition_step env b at s d body (name_of d) p (declares_function d) refl w e

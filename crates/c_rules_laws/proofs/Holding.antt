@@ -1,6 +1,6 @@
 -- What holds of parts that are fine.
 use Rattle.std.proofs.Common.{◌≡◌, ℕ, Bool, true, false, ◌&&◌, if◌then◌else◌, refl, subst}
-use Rattle.c_rules.specs.Checked.{Checked, fine, faulty, on, both, all_three, demand, met}
+use Rattle.c_rules.specs.Checked.{Checked, fine, faulty, on, both, all_three, demand, met, fails_with, parts_first}
 
 -- what is fine has the property
 abbrev pub Holds : {A : Type 0} → (A → Type 0) → Checked A → Type 0
@@ -54,6 +54,23 @@ behind_demand Q false code at r h = tt
 pub after_part : {A B : Type 0} (Q : B → Type 0) (r : Checked A) (k : A → Checked B) → ((a : A) → Holds Q (k a)) → Holds Q (on r k)
 after_part Q (fine a) k h = h a
 after_part Q (faulty f fs) k h = tt
+
+-- with one demand in place of what fails
+pub alone_holds : {A : Type 0} (P : A → Type 0) (t : Bool) (code at : ℕ) (r : Checked A) → Holds P r → Holds P (fails_with t code at r)
+alone_holds P t code at (fine a) h = h
+alone_holds P true code at (faulty f fs) h = tt
+alone_holds P false code at (faulty f fs) h = tt
+
+-- beside the parts of a node
+pub parts_first_holds : {A B : Type 0} (P : B → Type 0) (q : Checked A) (r : Checked B) → Holds P r → Holds P (parts_first q r)
+parts_first_holds P q (fine b) h = h
+parts_first_holds P (fine a) (faulty f fs) h = tt
+parts_first_holds P (faulty g gs) (faulty f fs) h = tt
+
+pub parts_first_fine : {A B : Type 0} (q : Checked A) (r : Checked B) (b : B) → parts_first q r ≡ fine b → r ≡ fine b
+parts_first_fine q (fine c) b e = e
+parts_first_fine (fine a) (faulty f fs) b e = e
+parts_first_fine (faulty g gs) (faulty f fs) b e = absurd (cc)
 
 pub if_holds : {A : Type 0} (P : A → Type 0) (t : Bool) (r s : Checked A) → Holds P r → Holds P s → Holds P (if t then r else s)
 if_holds P true r s h k = h

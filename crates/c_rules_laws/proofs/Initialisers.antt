@@ -6,7 +6,7 @@ use Rattle.c_tree.specs.Tree.{CType, void, integer, pointer, array, struct, func
 use Rattle.c_tree.specs.Layout.{cells}
 use Rattle.c_syntax.specs.Tree.{Ident, Spec, Declarator, Expr, a_name, an_int, a_char, a_str, comma, sizeof_type, cast, call, member, postfix, prefix, unary, index, binary, assign, conditional, Init, one, list, Inits, no_inits, more_inits, MaybeInit, no_init, an_init}
 use Rattle.c_syntax.specs.Same.{unplaced_ident, unplaced_spec, unplaced, unplaced_declarator, unplaced_init, unplaced_inits, unplaced_maybe_init}
-use Rattle.c_rules.specs.Checked.{Checked, fine, on, demand, met}
+use Rattle.c_rules.specs.Checked.{Checked, fine, on, demand, met, Met}
 use Rattle.c_rules.specs.Codes.{C6, C13, C14}
 use Rattle.c_rules.specs.Limits.{most_cells}
 use Rattle.c_rules.specs.Scopes.{Env, Before, layout_of}
@@ -15,10 +15,10 @@ use Rattle.c_rules.specs.TypedExpression.{TypedExpression, Constant, not_constan
 use Rattle.c_rules.specs.Conversions.{as_if_assigned}
 use Rattle.c_rules.specs.Declarators.{place_or}
 use Rattle.c_rules.specs.Expressions.{value}
-use Rattle.c_rules.specs.Initialisers.{Slots, copies, each, slots, capacity, takes_list, count_inits, text_of, chars, zeros, defined_cell, cell_of, scalar_cell, array_cells, cells_of_one, cells_of_list, is_char_array, held_by_one, held, held_in_turn, calls_of_init, calls_of_inits, after_init, initialised, in_turn, held_by, calls_of_maybe_init, initialised_local, initialised_static}
+use Rattle.c_rules.specs.Initialisers.{Slots, copies, each, slots, capacity, takes_list, count_inits, text_of, chars, zeros, defined_cell, cell_of, scalar_cell, array_cells, cells_of_one, cells_of_list, is_char_array, held_by_one, held, held_in_turn, calls_of_init, calls_of_inits, after_init, initialised, in_turn, held_by, calls_of_maybe_init, initialised_local, initialised_static, text_fits}
 use Rattle.c_rules.specs.Objects.{Object, sized_by_one, sized_by_init, sized_by, with_size, of_known_size, object_of, object_declared}
 use Rattle.c_rules_laws.proofs.Alike.{Alike, alike, on_alike, both_alike, demand_alike, fault_alike}
-use Rattle.c_rules_laws.proofs.Operators.{assigned_alike, complete_alike}
+use Rattle.c_rules_laws.proofs.Operators.{assigned_alike, complete_alike, few_cells_alike}
 use Rattle.c_rules_laws.proofs.Expressions.{value_alike, calls_same, strings_same, past_same, type_declared_alike}
 
 -- ## Counts
@@ -108,11 +108,15 @@ array_cells_alike at to (array t m) n o = fault_alike C14 at to
 array_cells_alike at to (struct s) n o = fault_alike C14 at to
 array_cells_alike at to (function t ts) n o = fault_alike C14 at to
 
+text_fits_alike : (at to : ℕ) (o : Option (List ℕ)) → Alike Met (text_fits at o) (text_fits to o)
+text_fits_alike at to None = alike (fine met)
+text_fits_alike at to (Some w) = few_cells_alike at to (suc (length w))
+
 cells_of_one_alike : (k : Bool) (at to : ℕ) (t : CType) (o : Option (List ℕ)) (r s : Checked TypedExpression) → Alike TypedExpression r s → Alike (List TypedExpression) (cells_of_one k at t o r) (cells_of_one k to t o s)
 cells_of_one_alike k at to void o r s h = fault_alike C14 at to
 cells_of_one_alike k at to (integer i) o r s h = scalar_alike k at to (integer i) r s h
 cells_of_one_alike k at to (pointer t) o r s h = scalar_alike k at to (pointer t) r s h
-cells_of_one_alike k at to (array t n) o r s h = array_cells_alike at to t n o
+cells_of_one_alike k at to (array t n) o r s h = on_alike (λ _. array_cells at t n o) (λ _. array_cells to t n o) (text_fits_alike at to o) (λ _ _. array_cells_alike at to t n o)
 cells_of_one_alike k at to (struct s') o r s h = fault_alike C14 at to
 cells_of_one_alike k at to (function t ts) o r s h = fault_alike C14 at to
 
@@ -164,7 +168,9 @@ sized_by_one_alike at to (struct s) o = fault_alike C14 at to
 sized_by_one_alike at to (function t ts) o = fault_alike C14 at to
 
 sized_by_init_alike : (t : CType) (i : Init) → Alike CType (sized_by_init t i) (sized_by_init t (unplaced_init i))
-sized_by_init_alike t (one at e) = subst (λ o. Alike CType (sized_by_one at t (text_of e)) (sized_by_one 0 t o)) (sym (text_same e)) (sized_by_one_alike at 0 t (text_of e))
+sized_by_init_alike t (one at e) =
+    subst (λ o. Alike CType (on (text_fits at (text_of e)) (λ _. sized_by_one at t (text_of e))) (on (text_fits 0 o) (λ _. sized_by_one 0 t o))) (sym (text_same e))
+    (on_alike (λ _. sized_by_one at t (text_of e)) (λ _. sized_by_one 0 t (text_of e)) (text_fits_alike at 0 (text_of e)) (λ _ _. sized_by_one_alike at 0 t (text_of e)))
 sized_by_init_alike t (list at is) = subst (λ n. Alike CType (fine (array t (count_inits is))) (fine (array t n))) (sym (count_same is)) (alike (fine (array t (count_inits is))))
 
 sized_by_alike : (at to : ℕ) (t : CType) (m : MaybeInit) → Alike CType (sized_by at t m) (sized_by to t (unplaced_maybe_init m))

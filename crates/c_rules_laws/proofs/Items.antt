@@ -20,6 +20,7 @@ use Rattle.c_rules.specs.Declarators.{name_of, place_or, constant_value}
 use Rattle.c_rules.specs.Expressions.{type_declared}
 use Rattle.c_rules.specs.Initialisers.{held_by, calls_of_maybe_init}
 use Rattle.c_rules.specs.Objects.{Object, object_declared}
+use Rattle.c_rules.specs.Tags.{tags_of_enumerators}
 use Rattle.c_rules.specs.Variables.{calls_of_block}
 use Rattle.c_rules.specs.Functions.{declares_function, held_by_typed, is_defined_by, function_declared, items_of_body, defined_as}
 use Rattle.c_rules.specs.Items.{Output, no_output, with_output, free_tag, member_typed, new_member, member_named, member_declared, with_option, names_behind, members_declared, members, struct_laid, is_incomplete, new_struct, struct_definition, struct_or_unknown, tag_declaration, int_value, enumerator_value, one_more_than, enumerator_meaning, behind_enumerator, enumerators, behind_enumerators, new_enum, behind_enum_tag, defines, may_follow_object, object_name, few_static, global_object, global_declared, behind_global, within_global, static_of, after_object, definition_of, global, without_init, prototype, declared_part, named_part, behind_declared, behind_named_part, behind_file_part, after_global, after_declared, after_file_part, file_parts, behind_file_parts, after_file_parts, file_decl, behind_file_decl, after_file_decl, output_of_function, behind_defined, function_named, behind_function_named, after_function, item, behind_by_form, behind_item, after_item, items, behind_items, after_items}
@@ -152,9 +153,9 @@ behind_enumerators_same env p q h (more_enumerators x m es) a e =
     behind_enumerators_same (behind_enumerator env x r) (one_more_than r) (one_more_than s) (one_more_alike r s k) es f.1 f.3
     ∙ ap (λ y. behind_enumerators y (one_more_than s) (unplaced_enumerators es)) (behind_enumerator_same env x r s f.0 k f.2)
 
-enum_alike : (env : Env) (x : Tag) → Alike Met (new_enum env x) (new_enum env (unplaced_tag x))
-enum_alike env no_tag = alike (fine met)
-enum_alike env (tag x) = and_alike (free_tag_alike env x) (demand_alike (not (is_among env.enums x.name) && not (is_among env.tags x.name)) C2 x.at 0 met)
+enum_alike : (env : Env) (x : Tag) (ts : List Name) → Alike Met (new_enum env x ts) (new_enum env (unplaced_tag x) ts)
+enum_alike env no_tag ts = alike (fine met)
+enum_alike env (tag x) ts = and_alike (free_tag_alike env x) (demand_alike (not (is_among env.enums x.name) && (not (is_among env.tags x.name) && not (is_among ts x.name))) C2 x.at 0 met)
 
 enum_tag_same : (env : Env) (x : Tag) → behind_enum_tag env (unplaced_tag x) ≡ behind_enum_tag env x
 enum_tag_same env no_tag = refl
@@ -397,8 +398,9 @@ module _ (env : Env) (b c : Before) (h : c ≡ b) (at to : ℕ) (s : Spec) (d : 
 item_alike : (env : Env) (b c : Before) → c ≡ b → (i : Item) → Alike Output (item env b i) (item env c (unplaced_item i))
 item_alike env b c h (struct_item at x ms) = gives_alike (λ _. no_output) (struct_alike env x ms)
 item_alike env b c h (enum_item at x es) =
-    both_alike (enumerators (behind_enum_tag env x) (fine (pos 0)) es) (enumerators (behind_enum_tag env (unplaced_tag x)) (fine (pos 0)) (unplaced_enumerators es)) (λ _ _. fine no_output) (λ _ _. fine no_output) (enum_alike env x)
-    (λ _ _. subst (λ y. Alike Met (enumerators (behind_enum_tag env x) (fine (pos 0)) es) (enumerators y (fine (pos 0)) (unplaced_enumerators es))) (sym (enum_tag_same env x)) (enumerators_alike (behind_enum_tag env x) (fine (pos 0)) (fine (pos 0)) (alike (fine (pos 0))) es))
+    both_alike (enumerators env (fine (pos 0)) es) (enumerators env (fine (pos 0)) (unplaced_enumerators es)) (λ _ _. fine no_output) (λ _ _. fine no_output)
+    (subst (λ ts. Alike Met (new_enum env x (tags_of_enumerators es)) (new_enum env (unplaced_tag x) ts)) (sym (item_tags false (enum_item at x es))) (enum_alike env x (tags_of_enumerators es)))
+    (λ _ _. enumerators_alike env (fine (pos 0)) (fine (pos 0)) (alike (fine (pos 0))) es)
     (λ _ _. alike (fine no_output))
 item_alike env b c h (tag_item at x) = gives_alike (λ _. no_output) (tag_alike env x)
 item_alike env b c h (decl_item at d) = decl_alike env b c h d
@@ -409,9 +411,9 @@ behind_form_same env b c h (struct_item at x ms) p e =
     let f = on_fine (struct_definition env x ms) (λ _. fine no_output) p e in
     ap (with_struct env x.name) (struct_same (struct_definition env x ms) (struct_definition env (unplaced_ident x) (unplaced_members ms)) f.0 (struct_alike env x ms) f.1)
 behind_form_same env b c h (enum_item at x es) p e =
-    let f = first_fine (new_enum env x) (enumerators (behind_enum_tag env x) (fine (pos 0)) es) (λ _ _. fine no_output) p e in
-    behind_enumerators_same (behind_enum_tag env x) (fine (pos 0)) (fine (pos 0)) (alike (fine (pos 0))) es f.1 f.3
-    ∙ ap (λ y. behind_enumerators y (fine (pos 0)) (unplaced_enumerators es)) (sym (enum_tag_same env x))
+    let f = first_fine (new_enum env x (tags_of_enumerators es)) (enumerators env (fine (pos 0)) es) (λ _ _. fine no_output) p e in
+    ap (λ y. behind_enum_tag y x) (behind_enumerators_same env (fine (pos 0)) (fine (pos 0)) (alike (fine (pos 0))) es f.1 f.3)
+    ∙ sym (enum_tag_same (behind_enumerators env (fine (pos 0)) (unplaced_enumerators es)) x)
 behind_form_same env b c h (tag_item at x) p e = refl
 behind_form_same env b c h (decl_item at d) p e = behind_decl_same env b c h d p e
 behind_form_same env b c h (function_item at class s d body) p e = behind_function_fine env b c h at 0 s d body p e

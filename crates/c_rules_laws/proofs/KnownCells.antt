@@ -10,7 +10,7 @@ use Rattle.c_rules.specs.Scopes.{Env, layout_of, Before}
 use Rattle.c_rules.specs.TypedExpression.{TypedExpression, Constant, not_constant, undefined, known}
 use Rattle.c_rules.specs.Conversions.{as_if_assigned}
 use Rattle.c_rules.specs.Expressions.{value}
-use Rattle.c_rules.specs.Initialisers.{Slots, copies, each, slots, capacity, takes_list, count_inits, text_of, typed_zero, typed_char, zeros, chars, defined_cell, cell_of, scalar_cell, array_cells, cells_of_list, after_init, initialised, in_turn, initialised_static}
+use Rattle.c_rules.specs.Initialisers.{Slots, copies, each, slots, capacity, takes_list, count_inits, text_of, typed_zero, typed_char, zeros, chars, defined_cell, cell_of, scalar_cell, array_cells, cells_of_list, after_init, initialised, in_turn, initialised_static, text_fits}
 use Rattle.c_rules_laws.proofs.Holding.{Holds, on_holds, both_hold, demand_holds, behind_demand, after_part}
 use Rattle.c_rules_laws.proofs.RightInitialisers.{IsKnownConstant, AllKnown}
 
@@ -65,7 +65,7 @@ mutual
   init_known (one at e) env b void = tt
   init_known (one at e) env b (integer i) = scalar_known at (integer i) (value env b e)
   init_known (one at e) env b (pointer t) = scalar_known at (pointer t) (value env b e)
-  init_known (one at e) env b (array t n) = array_known at t n (text_of e)
+  init_known (one at e) env b (array t n) = after_part AllKnown (text_fits at (text_of e)) (λ _. array_cells at t n (text_of e)) (λ _. array_known at t n (text_of e))
   init_known (one at e) env b (struct s) = tt
   init_known (one at e) env b (function t ts) = tt
   init_known (list at is) env b t = list_known (takes_list t) at (capacity (slots env t)) (count_inits is) (in_turn env b true (slots env t) is) (turn_known is env b (slots env t))

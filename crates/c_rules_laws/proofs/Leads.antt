@@ -1,7 +1,7 @@
 -- What is fine on the left is fine on the right, and gives the same.
-use Rattle.std.proofs.Common.{◌≡◌, ℕ, ◌<◌, ◌≤◌, Bool, true, false, refl, sym, subst, arith, nat_lt}
+use Rattle.std.proofs.Common.{◌≡◌, ℕ, ◌<◌, ◌≤◌, Bool, true, false, refl, ap, sym, subst, arith, nat_lt}
 use Rattle.std.proofs.lemmas.Bool.Decides.{Decides-ltb}
-use Rattle.c_rules.specs.Checked.{Checked, fine, faulty, on, both, beside, all_three, gives, demand, and_also, Met, met}
+use Rattle.c_rules.specs.Checked.{Checked, fine, faulty, on, both, beside, all_three, gives, demand, and_also, Met, met, fails_with, parts_first}
 
 -- what is fine on the left is fine on the right and gives the same, and a further fact holds then
 abbrev pub LeadsTo : {A : Type 0} → Type 0 → Checked A → Checked A → Type 0
@@ -38,6 +38,28 @@ both_leads (fine a) p' (fine b) q' k l g h t =
     subst (λ x. Leads (k a b) (both x q' l)) (sym g.0) (subst (λ y. Leads (k a b) (both (fine a) y l)) (sym (h a refl).0) (t a b))
 both_leads (fine a) p' (faulty f fs) q' k l g h t = tt
 both_leads (faulty f fs) p' q q' k l g h t = tt
+
+-- with one demand in place of what fails
+pub alone_leads : {A : Type 0} (P : Type 0) (t u : Bool) (code at to : ℕ) (r s : Checked A) → LeadsTo P r s → LeadsTo P (fails_with t code at r) (fails_with u code to s)
+alone_leads P t u code at to (fine a) s h = (ap (fails_with u code to) h.0, h.1)
+alone_leads P true u code at to (faulty f fs) s h = tt
+alone_leads P false u code at to (faulty f fs) s h = tt
+
+pub alone_fine : {A : Type 0} (t : Bool) (code at : ℕ) (r : Checked A) (a : A) → fails_with t code at r ≡ fine a → r ≡ fine a
+alone_fine t code at (fine b) a e = e
+alone_fine true code at (faulty f fs) a e = cc
+alone_fine false code at (faulty f fs) a e = e
+
+-- beside the parts of a node
+pub parts_first_leads : {A B D : Type 0} (P : Type 0) (q : Checked A) (u : Checked B) (r s : Checked D) → LeadsTo P r s → LeadsTo P (parts_first q r) (parts_first u s)
+parts_first_leads P q u (fine d) s h = (ap (parts_first u) h.0, h.1)
+parts_first_leads P (fine a) u (faulty f fs) s h = tt
+parts_first_leads P (faulty g gs) u (faulty f fs) s h = tt
+
+pub parts_first_fine : {A B : Type 0} (q : Checked A) (r : Checked B) (b : B) → parts_first q r ≡ fine b → r ≡ fine b
+parts_first_fine q (fine c) b e = e
+parts_first_fine (fine a) (faulty f fs) b e = e
+parts_first_fine (faulty g gs) (faulty f fs) b e = cc
 
 pub gives_leads : {A B : Type 0} (r s : Checked A) (f : A → B) → Leads r s → Leads (gives r f) (gives s f)
 gives_leads r s f h = on_leads r s (λ a. fine (f a)) (λ a. fine (f a)) h (λ a _. (refl, tt))

@@ -194,8 +194,8 @@ function_defines env w b at s d body (Some x) p true q e =
 form_defines : (i : Item) (env : Env) → IsFileRight env → (b : Before) (p : Output) → item env b i ≡ fine p → Defines env (behind_by_form env b i) (functions_of_item i)
 form_defines (struct_item at x ms) env w b p e = nothing_same env (with_struct env x.name (struct_or_unknown (struct_definition env x ms))) refl refl
 form_defines (enum_item at x es) env w b p e =
-    let inner : Env = behind_enum_tag env x in
-    nothing_both env inner (behind_enumerators inner (fine (pos 0)) es) (tag_defines env x) (enumerators_define es inner (fine (pos 0)))
+    let inner : Env = behind_enumerators env (fine (pos 0)) es in
+    nothing_both env inner (behind_enum_tag inner x) (enumerators_define es env (fine (pos 0))) (tag_defines inner x)
 form_defines (tag_item at x) env w b p e = nothing_same env env refl refl
 form_defines (decl_item at d) env w b p e = decl_defines d env b p e
 form_defines (function_item at class s d body) env w b p e = function_defines env w b at s d body (name_of d) p (declares_function d) refl e

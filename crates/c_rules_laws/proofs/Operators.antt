@@ -19,7 +19,7 @@ use Rattle.c_rules.specs.Types.{same_type, is_scalar, is_integer, is_function, i
 use Rattle.c_rules.specs.Scopes.{Env, Struct, incomplete, unknown_struct, defined_struct, Context, evaluated, sized, folded, Meaning, a_static, a_local, a_function, an_enumerator, unknown, Binding, binding_of, struct_of, Member, Before, layout_of}
 use Rattle.c_rules.specs.TypedExpression.{TypedExpression, Form, a_value, a_place, behind, tree_of, typed_value, not_constant, is_place, is_null, integer_constant}
 use Rattle.c_rules.specs.Constants.{constant_unary, constant_and, constant_or}
-use Rattle.c_rules.specs.PrimaryExpressions.{used, object_number, function_number, function_value_number, static_given, local_given, typed_function, typed_int, typed_unsigned, meant, bound, named_expression, string_fits, string_number, typed_string, string_expression}
+use Rattle.c_rules.specs.PrimaryExpressions.{used, object_number, function_number, function_value_number, static_given, local_given, typed_function, typed_int, typed_unsigned, meant, bound, named_expression, string_fits, string_number, typed_string, string_expression, few_cells}
 use Rattle.c_rules.specs.Conversions.{Kind, an_integer, a_pointer, neither, kind_of, few_parts, is_defined, complete, loaded, valued_as, valued, cast_to, null_of, fits, assigned, as_if_assigned, condition}
 use Rattle.c_rules.specs.PostfixExpressions.{site_in, site_of, callee_of_type, callee_by_name, callee_through, callee_by_value, Callee, all_fit, passed, call_of, as_many_as, called, name_of_member, member_given, member_or_undeclared, member_of_struct, member_of_type, member_of}
 use Rattle.c_rules.specs.UnaryExpressions.{address_of_form, address_of_type, address, led_to, indirection, plus_of, operator_of, negation, unary_of_value, size_of, size_of_type, cast_of, null_cast}
@@ -55,11 +55,14 @@ bound_alike env at to x (Some b) = meant_alike env at to x b.means
 pub named_alike : (env : Env) (at to : ℕ) (x : Name) → Alike TypedExpression (named_expression env at x) (named_expression env to x)
 named_alike env at to x = bound_alike env at to x (binding_of env x)
 
+pub few_cells_alike : (at to n : ℕ) → Alike Met (few_cells at n) (few_cells to n)
+few_cells_alike at to n = demand_alike (nat_le n 65536) C13 at to met
+
 string_fits_alike : (c : Context) (at to before n : ℕ) → Alike Met (string_fits c at before n) (string_fits c to before n)
 string_fits_alike evaluated at to before n =
     and_alike (demand_alike (nat_le n most_cells) C13 at to met) (demand_alike (nat_le (before + n) most_static_cells) C13 at to met)
-string_fits_alike sized at to before n = alike (fine met)
-string_fits_alike folded at to before n = alike (fine met)
+string_fits_alike sized at to before n = few_cells_alike at to n
+string_fits_alike folded at to before n = few_cells_alike at to n
 
 pub string_alike : (env : Env) (b : Before) (at to : ℕ) (w : List ℕ) → Alike TypedExpression (string_expression env b at w) (string_expression env b to w)
 string_alike env b at to w = gives_alike (λ _. typed_string (string_number env b) (length w)) (string_fits_alike env.context at to b.cells (suc (length w)))

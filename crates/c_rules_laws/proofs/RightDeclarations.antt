@@ -11,7 +11,7 @@ use Rattle.c_tree.specs.Operands.{IsComplete, IsObject}
 use Rattle.c_tree.specs.Kinds.{Lies}
 use Rattle.c_tree.specs.Typed.{AreInits, IsDeclare, IsFirst, AreFirst}
 use Rattle.c_syntax.specs.Tree.{Ident, Spec, Declarator, Init, one, list, MaybeInit, no_init, an_init, Parts, no_parts, more_parts, Decl, decl}
-use Rattle.c_rules.specs.Checked.{Checked, fine, faulty, on, both, Met}
+use Rattle.c_rules.specs.Checked.{Checked, fine, faulty, on, both, Met, gives}
 use Rattle.c_rules.specs.Names.{Name, is_added}
 use Rattle.c_rules.specs.Scopes.{Env, Binding, Meaning, a_local, inside, with_name, meaning_or_unknown, lookup, layout_of, Before}
 use Rattle.c_rules.specs.Counts.{past}
@@ -20,15 +20,15 @@ use Rattle.c_rules.specs.Conversions.{complete}
 use Rattle.c_rules.specs.PrimaryExpressions.{string_number}
 use Rattle.c_rules.specs.Declarators.{name_of, place_or, new_name}
 use Rattle.c_rules.specs.Expressions.{type_declared}
-use Rattle.c_rules.specs.Initialisers.{count_inits, text_of, calls_of_maybe_init, held_by, initialised_local, stores_from}
+use Rattle.c_rules.specs.Initialisers.{count_inits, text_of, calls_of_maybe_init, held_by, initialised_local, stores_from, text_fits}
 use Rattle.c_rules.specs.Objects.{Object, sized_by_one, sized_by_init, sized_by, with_size, of_known_size, object_of, object_declared}
 use Rattle.c_rules.specs.Variables.{name_or_empty, Next, number_in, past_name, past_names, names_of_parts, names_of_decl}
-use Rattle.c_rules.specs.Blocks.{behind_local, behind_named, behind_part, past_part, behind_parts, behind_decl, held_by_object, held_by_named, held_by_part, held_by_parts, held_by_decl, after_part, StatementTree, one_more, laid_variable, local_of, local, local_named, local_part, local_parts, local_decl}
+use Rattle.c_rules.specs.Blocks.{behind_local, behind_named, behind_part, past_part, behind_parts, behind_decl, held_by_object, held_by_named, held_by_part, held_by_parts, held_by_decl, after_part, StatementTree, one_more, laid_variable, local_of, local, local_named, local_part, local_parts, local_decl, is_given}
 use Rattle.c_meaning_laws.proofs.Places.{get_left, get_right, lies_whole}
 use Rattle.c_rules_laws.specs.Lexical.{IsMaybeInitLexical, ArePartsLexical, IsDeclLexical}
 use Rattle.c_rules_laws.specs.MadeTypes.{NotArray, Made, IsSized}
 use Rattle.c_rules_laws.specs.RightScopes.{MeaningTyped, Seen, IsThing, MeaningRight, IsRight, StringsIn}
-use Rattle.c_rules_laws.proofs.Holding.{Holds, on_holds, both_hold, demand_holds}
+use Rattle.c_rules_laws.proofs.Holding.{Holds, on_holds, both_hold, demand_holds, alone_holds, after_part as behind_demands}
 use Rattle.c_rules_laws.proofs.MadeTypes.{complete_known}
 use Rattle.c_rules_laws.proofs.TypesOfTypedExpressions.{sized_few}
 use Rattle.c_rules_laws.proofs.TypesOfExpressions.{type_declared_made}
@@ -74,7 +74,7 @@ module _ (structs : Structs) where
   one_sized at t o h = tt
 
   init_sized : (t : CType) (i : Init) → NotArray t × IsComplete structs t × Made structs t → Holds (WithSize (array t 0)) (sized_by_init t i)
-  init_sized t (one at e) h = one_sized at t (text_of e) h
+  init_sized t (one at e) h = behind_demands (WithSize (array t 0)) (text_fits at (text_of e)) (λ _. sized_by_one at t (text_of e)) (λ _. one_sized at t (text_of e) h)
   init_sized t (list at is) h = (h, inr (record { element = t; size = count_inits is; seen = refl; whole = refl }))
 
   by_sized : (name : ℕ) (t : CType) (m : MaybeInit) → NotArray t × IsComplete structs t × Made structs t → Holds (WithSize (array t 0)) (sized_by name t m)
@@ -265,8 +265,8 @@ module _ (p : Program) (vars : List CType) where
   local_right_at env b next x m r h l s = by_part (new_name env x) r h s
     where
       by_part : (n : Checked Met) (r : Checked Object) → Holds (IsObjectRight (layout_of env)) r → StringsIn p vars (string_number env b) (held_by_object env m r)
-          → Holds (IsStatementTreeRight typed.Stmt env next (x.name ∷ []) (λ s. IsFirst p vars s × IsRight p vars (with_name env x.name (meaning_or_unknown (both r n (λ o _. fine (a_local (number_in next x.name) o.whole o.whole)))))))
-          (both n (on r (local_of (with_name env x.name (meaning_or_unknown (both r n (λ o _. fine (a_local (number_in next x.name) o.seen o.whole))))) b next x m)) (λ _ q. fine q))
+          → Holds (IsStatementTreeRight typed.Stmt env next (x.name ∷ []) (λ s. IsFirst p vars s × IsRight p vars (with_name env x.name (meaning_or_unknown (on r (λ o. gives n (λ _. a_local (number_in next x.name) o.whole o.whole)))))))
+          (both n (on r (local_of (with_name env x.name (meaning_or_unknown (on r (λ o. gives n (λ _. a_local (number_in next x.name) o.seen o.whole))))) b next x m)) (λ _ q. fine q))
       by_part (fine a) (fine o) h s =
           both_hold {A = Met} (λ _. Unit {0}) (IsStatementTreeRight typed.Stmt env next (x.name ∷ []) (λ s. IsFirst p vars s × IsRight p vars (with_name env x.name (a_local (number_in next x.name) o.whole o.whole)))) (IsStatementTreeRight typed.Stmt env next (x.name ∷ []) (λ s. IsFirst p vars s × IsRight p vars (with_name env x.name (a_local (number_in next x.name) o.whole o.whole))))
           (fine a) (local_of (with_name env x.name (a_local (number_in next x.name) o.seen o.whole)) b next x m o) (λ _ q. fine q) tt (local_of_right env b next x m o h l s) (λ _ q _ k. k)
@@ -276,7 +276,9 @@ module _ (p : Program) (vars : List CType) where
   named_right : (env : Env) (b : Before) (next : Next) (at : ℕ) (s : Spec) (d : Declarator) (m : MaybeInit) (o : Option Ident) → IsMaybeInitLexical m → StringsIn p vars (string_number env b) (held_by_named env at s d m o)
       → Holds (IsStatementTreeRight typed.Stmt env next (name_or_empty o ∷ []) (λ t. IsFirst p vars t × IsRight p vars (behind_named env next at s d m o))) (local_named env b next at s d m o)
   named_right env b next at s d m None l h = tt
-  named_right env b next at s d m (Some x) l h = local_right_at env b next x m (object_declared env at s d x m) (declared_right env at s d x m) l h
+  named_right env b next at s d m (Some x) l h =
+      alone_holds (IsStatementTreeRight typed.Stmt env next (x.name ∷ []) (λ t. IsFirst p vars t × IsRight p vars (behind_named env next at s d m (Some x)))) (is_given env x.name (type_declared env at s d)) 3 (place_or at d) (local env b next x m (object_declared env at s d x m))
+      (local_right_at env b next x m (object_declared env at s d x m) (declared_right env at s d x m) l h)
 
   named_whole : (env : Env) (next : Next) (at : ℕ) (s : Spec) (d : Declarator) (m : MaybeInit) (o : Option Ident) → (behind_named env next at s d m o).whole ≡ env.whole
   named_whole env next at s d m None = refl

@@ -23,13 +23,13 @@ use Rattle.c_rules.specs.TypedExpression.{TypedExpression, Constant, not_constan
 use Rattle.c_rules.specs.Conversions.{as_if_assigned}
 use Rattle.c_rules.specs.PrimaryExpressions.{string_number}
 use Rattle.c_rules.specs.Expressions.{value}
-use Rattle.c_rules.specs.Initialisers.{Slots, copies, each, members_of_struct, slots, capacity, takes_list, count_inits, text_of, typed_zero, typed_char, zeros, chars, defined_cell, cell_of, scalar_cell, array_cells, cells_of_list, held_by_one, held, held_in_turn, calls_of_init, calls_of_inits, after_init, initialised, in_turn, held_by, calls_of_maybe_init, initialised_local, initialised_static, stores_from}
+use Rattle.c_rules.specs.Initialisers.{Slots, copies, each, members_of_struct, slots, capacity, takes_list, count_inits, text_of, typed_zero, typed_char, zeros, chars, defined_cell, cell_of, scalar_cell, array_cells, cells_of_list, held_by_one, held, held_in_turn, calls_of_init, calls_of_inits, after_init, initialised, in_turn, held_by, calls_of_maybe_init, initialised_local, initialised_static, stores_from, text_fits}
 use Rattle.c_meaning_laws.proofs.Places.{struct_is, flat_scalar}
 use Rattle.c_rules_laws.specs.Lexical.{IsInitLexical, AreInitsLexical, IsMaybeInitLexical}
 use Rattle.c_rules_laws.specs.MadeTypes.{Made}
 use Rattle.c_rules_laws.specs.RightScopes.{IsRight, StringsIn}
 use Rattle.c_rules_laws.specs.SoundStructs.{AreSound}
-use Rattle.c_rules_laws.proofs.Holding.{Holds, holds_map, on_holds, both_hold, demand_holds, behind_demand}
+use Rattle.c_rules_laws.proofs.Holding.{Holds, holds_map, on_holds, both_hold, demand_holds, behind_demand, after_part}
 use Rattle.c_rules_laws.proofs.SoundStructs.{are_structs}
 use Rattle.c_rules_laws.proofs.RightTypedExpressions.{constant_value, ValueRight, RightAs, null_right, as_if_right}
 use Rattle.c_rules_laws.proofs.RightExpressions.{strings_first, strings_rest, ValueBoth, value_right}
@@ -216,7 +216,8 @@ module _ (p : Program) (vars : List CType) where
     initialised_right (one at e) env w l b k void m c s = tt
     initialised_right (one at e) env w l b k (integer i) m c s = scalar_right env k at (integer i) (value env b e) (value_right p vars e env w l b s)
     initialised_right (one at e) env w l b k (pointer t) m c s = scalar_right env k at (pointer t) (value env b e) (value_right p vars e env w l b s)
-    initialised_right (one at e) env w l b k (array t n) m c s = array_right k at t n (text_of e) (flat (layout_of env) t) (char_flat (layout_of env) t)
+    initialised_right (one at e) env w l b k (array t n) m c s =
+        after_part (CellsRight k (repeat n (flat (layout_of env) t))) (text_fits at (text_of e)) (λ _. array_cells at t n (text_of e)) (λ _. array_right k at t n (text_of e) (flat (layout_of env) t) (char_flat (layout_of env) t))
     initialised_right (one at e) env w l b k (struct n) m c s = tt
     initialised_right (one at e) env w l b k (function t ts) m c s = tt
     initialised_right (list at is) env w l b k void m c s = list_right k (flat (layout_of env) void) false at 0 (count_inits is) (in_turn env b k (each []) is) (λ e. absurd (cc))
@@ -333,7 +334,7 @@ mutual
   initialised_counted (one at e) env c b k void = tt
   initialised_counted (one at e) env c b k (integer i) = scalar_counted k at (integer i) b (calls e) (strings e) (value env b e) (value_counted e env c b)
   initialised_counted (one at e) env c b k (pointer t) = scalar_counted k at (pointer t) b (calls e) (strings e) (value env b e) (value_counted e env c b)
-  initialised_counted (one at e) env c b k (array t n) = array_counted at t n e b
+  initialised_counted (one at e) env c b k (array t n) = after_part (InitCounted b (calls e) (held_by_one (array t n) e)) (text_fits at (text_of e)) (λ _. array_cells at t n (text_of e)) (λ _. array_counted at t n e b)
   initialised_counted (one at e) env c b k (struct s) = tt
   initialised_counted (one at e) env c b k (function t ts) = tt
   initialised_counted (list at is) env c b k t = list_counted b (calls_of_inits is) (held_in_turn env (slots env t) is) (takes_list t) at (capacity (slots env t)) (count_inits is) (in_turn env b k (slots env t) is) (in_turn_counted is env c b k (slots env t))

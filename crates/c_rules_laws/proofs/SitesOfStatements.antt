@@ -15,14 +15,14 @@ use Rattle.c_rules.specs.Scopes.{Env, Meaning, evaluated, inside, with_name, Bef
 use Rattle.c_rules.specs.Counts.{calls, strings, calls_of_maybe, strings_of_maybe, past, after, after_maybe}
 use Rattle.c_rules.specs.TypedExpression.{TypedExpression, tree_of}
 use Rattle.c_rules.specs.Conversions.{Kind, an_integer, a_pointer, neither, kind_of, as_if_assigned, condition}
-use Rattle.c_rules.specs.Declarators.{name_of, new_name}
-use Rattle.c_rules.specs.Expressions.{value}
+use Rattle.c_rules.specs.Declarators.{name_of, new_name, place_or}
+use Rattle.c_rules.specs.Expressions.{value, type_declared}
 use Rattle.c_rules.specs.Initialisers.{Slots, copies, each, slots, calls_of_maybe_init, held, held_in_turn, held_by, initialised_local, stores_from}
 use Rattle.c_rules.specs.Objects.{Object, object_declared}
 use Rattle.c_rules.specs.Variables.{Next, number_in, past_names, names_of_decl, names_of_first, names_of_stmt, names_of_stmts, calls_of_parts, calls_of_decl, calls_of_first, calls_of_stmt, calls_of_block, calls_of_stmts, calls_of_groups}
-use Rattle.c_rules.specs.Blocks.{within_local, behind_named, behind_part, past_part, behind_parts, behind_decl, behind_first, held_by_object, held_by_named, held_by_part, held_by_parts, held_by_decl, held_by_first, held_by_stmt, held_by_block, held_by_stmts, held_by_groups, after_part, after_decl, after_first, after_stmt, after_stmts, StatementTree, bare, with_tree, joined, one_more, alone, appended, some_more, local_of, local, local_named, local_part, local_parts, local_decl}
+use Rattle.c_rules.specs.Blocks.{within_local, behind_named, behind_part, past_part, behind_parts, behind_decl, behind_first, held_by_object, held_by_named, held_by_part, held_by_parts, held_by_decl, held_by_first, held_by_stmt, held_by_block, held_by_stmts, held_by_groups, after_part, after_decl, after_first, after_stmt, after_stmts, StatementTree, bare, with_tree, joined, one_more, alone, appended, some_more, local_of, local, local_named, local_part, local_parts, local_decl, is_given}
 use Rattle.c_rules.specs.Statements.{Around, in_loop, in_switch, condition_at, test_of, step_of, first_of, for_of, switched_kind, switched, label_type, labels_of, Labelled, labelled, switch_of, returned, stmt, items_of_block, stmts, groups_of_switch}
-use Rattle.c_rules_laws.proofs.Holding.{Holds, on_holds, both_hold, all_three_hold, Any, anything, demand_holds}
+use Rattle.c_rules_laws.proofs.Holding.{Holds, on_holds, both_hold, all_three_hold, Any, anything, demand_holds, alone_holds}
 use Rattle.c_rules_laws.proofs.SitesOfTypedExpressions.{SitesAre, condition_sites, as_if_sites, converted_sites}
 use Rattle.c_rules_laws.proofs.SitesOfExpressions.{fits_none, fits_both, FitsAt, Span, Counted, holds_with, range_append, value_counted}
 use Rattle.c_rules_laws.proofs.RightInitialisers.{InitCounted, local_counted, stores_sites}
@@ -108,7 +108,9 @@ local_span env c b next x m r = by_part (new_name env x) r
 
 named_span : (env : Env) → env.context ≡ evaluated → (b : Before) (next : Next) (at : ℕ) (s : Spec) (d : Declarator) (m : MaybeInit) (x : Option Ident) → Holds (StmtSpan b (calls_of_maybe_init m) (held_by_named env at s d m x)) (local_named env b next at s d m x)
 named_span env c b next at s d m None = tt
-named_span env c b next at s d m (Some x) = local_span env c b next x m (object_declared env at s d x m)
+named_span env c b next at s d m (Some x) =
+    alone_holds (StmtSpan b (calls_of_maybe_init m) (held_by_named env at s d m (Some x))) (is_given env x.name (type_declared env at s d)) 3 (place_or at d) (local env b next x m (object_declared env at s d x m))
+    (local_span env c b next x m (object_declared env at s d x m))
 
 parts_span : (ps : Parts) (env : Env) → env.context ≡ evaluated → (b : Before) (next : Next) (at : ℕ) (s : Spec) → Holds (StmtsSpan b (calls_of_parts ps) (held_by_parts env next at s ps)) (local_parts env b next at s ps)
 parts_span no_parts env c b next at s = span_none b

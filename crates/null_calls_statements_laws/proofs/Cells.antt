@@ -4,10 +4,10 @@ use Rattle.c_tree.specs.declared.value.IntType.TheVariants.{Char, Uchar, Int, Ui
 use Rattle.c_tree.specs.Tree.{CType, void, integer, pointer, array, struct, function, Program}
 use Rattle.c_tree.specs.Tree as typed
 use Rattle.c_tree.specs.Layout.{Structs, flat, flat_all, repeat}
-use Rattle.c_rules.specs.Checked.{Checked, fine, faulty, demand, on, both}
+use Rattle.c_rules.specs.Checked.{Checked, fine, faulty, demand, on, both, Met}
 use Rattle.c_rules.specs.TypedExpression.{TypedExpression, tree_of}
 use Rattle.c_rules.specs.Conversions.{fits, assigned, as_if_assigned, kind_of}
-use Rattle.c_rules.specs.Initialisers.{Slots, copies, each, typed_zero, typed_char, zeros, chars, cell_of, scalar_cell, array_cells, cells_of_one, cells_of_list, stores_from}
+use Rattle.c_rules.specs.Initialisers.{Slots, copies, each, typed_zero, typed_char, zeros, chars, cell_of, scalar_cell, array_cells, cells_of_one, cells_of_list, stores_from, text_fits}
 use Rattle.null_calls_rules.specs.InstrumentedPrograms.{expr, kept, inits, kept_of_inits}
 use Rattle.null_calls_rules.specs.WithoutSites.{unsited, unsited_inits}
 use Rattle.null_calls_expressions_laws.specs.Remade.{remade, Follows, IsOperand}
@@ -160,11 +160,15 @@ module _ (p : Program) where
     array_goes at n (struct s) text h = tt
     array_goes at n (function t us) text h = tt
 
+    behind_goes : (q : Checked Met) (r : Checked (List TypedExpression)) → CellsGo k ts r r → CellsGo k ts (on q (λ _. r)) (on q (λ _. r))
+    behind_goes (fine a) r h = h
+    behind_goes (faulty f fs) r h = tt
+
     pub expression_goes : (at : ℕ) (t : CType) (text : Option (List ℕ)) (r s : Checked TypedExpression) → ((w : List ℕ) → text ≡ Some w → ts ≡ []) → Follows p k ts r s → CellsGo k ts (cells_of_one false at t text r) (cells_of_one false at t text s)
     expression_goes at void text r s h l = tt
     expression_goes at (integer i) text r s h l = scalar_goes at (integer i) r s l
     expression_goes at (pointer t) text r s h l = scalar_goes at (pointer t) r s l
-    expression_goes at (array t n) text r s h l = array_goes at n t text h
+    expression_goes at (array t n) text r s h l = behind_goes (text_fits at text) (array_cells at t n text) (array_goes at n t text h)
     expression_goes at (struct i) text r s h l = tt
     expression_goes at (function t us) text r s h l = tt
 

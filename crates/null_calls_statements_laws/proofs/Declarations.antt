@@ -3,22 +3,22 @@ use Rattle.std.proofs.Common.{◌≡◌, ℕ, zero, suc, ◌+◌, ◌*◌, ◌�
 use Rattle.c_tree.specs.Tree.{CType, Program}
 use Rattle.c_tree.specs.Tree as typed
 use Rattle.c_syntax.specs.Tree.{Ident, Spec, Declarator, one, list, MaybeInit, no_init, an_init, Parts, no_parts, more_parts, Decl, decl, first_absent, first_expr, first_decl, no_block_items, block_decl}
-use Rattle.c_rules.specs.Checked.{Checked, fine, fault, on, both, Met}
+use Rattle.c_rules.specs.Checked.{Checked, fine, fault, on, both, Met, gives}
 use Rattle.c_rules.specs.Names.{Name, is_reserved}
 use Rattle.c_rules.specs.Scopes.{Env, Binding, Meaning, a_local, with_name, meaning_or_unknown, Before}
 use Rattle.c_rules.specs.Counts.{string_cells, past}
 use Rattle.c_rules.specs.Declarators.{name_of, place_or, new_name}
 use Rattle.c_rules.specs.Expressions.{value, type_declared}
-use Rattle.c_rules.specs.Initialisers.{held_by, calls_of_maybe_init, initialised_local}
+use Rattle.c_rules.specs.Initialisers.{held_by, calls_of_maybe_init, initialised_local, text_fits}
 use Rattle.c_rules.specs.Objects.{Object, sized_by_one, with_size, of_known_size, object_declared}
 use Rattle.c_rules.specs.Variables.{name_or_empty, Next, number_in, calls_of_decl, names_of_decl, past_names}
-use Rattle.c_rules.specs.Blocks.{seen_meaning, whole_meaning, within_local, behind_local, behind_named, behind_part, past_part, behind_parts, held_by_object, held_by_named, held_by_part, held_by_parts, held_by_decl, after_part, StatementTree, one_more, local_of, local_named, local_part, local_parts}
+use Rattle.c_rules.specs.Blocks.{seen_meaning, whole_meaning, within_local, behind_local, behind_named, behind_part, past_part, behind_parts, held_by_object, held_by_named, held_by_part, held_by_parts, held_by_decl, after_part, StatementTree, one_more, local_of, local_named, local_part, local_parts, is_given, local}
 use Rattle.null_calls_rules.specs.MarkedCalls.{Sites}
 use Rattle.null_calls_rules.specs.Temporaries.{Temporary}
 use Rattle.null_calls_rules.specs.InstrumentedExpressions.{expr, kept}
 use Rattle.null_calls_rules.specs.InstrumentedStatements.{maybe_init, parts, declaration, kept_of_maybe_init, kept_of_parts}
 use Rattle.c_rules_laws.specs.TypedAlike.{More, plain_scope, instrumented_scope, AreUnreserved, MeanAlike, beside}
-use Rattle.c_rules_laws.proofs.Leads.{Leads, fine_leads, first_fine, on_fine}
+use Rattle.c_rules_laws.proofs.Leads.{Leads, fine_leads, first_fine, on_fine, alone_fine}
 use Rattle.c_rules_laws.proofs.Names.{new_name_leads, new_name_plain}
 use Rattle.c_rules_laws.proofs.Parts.{object_leads}
 use Rattle.null_calls_counts_laws.specs.Counts.{Near}
@@ -36,7 +36,7 @@ use Rattle.null_calls_statements_laws.proofs.Initialisers.{text_same, count_same
 use Rattle.null_calls_statements_laws.proofs.Reserved.{temporaries_stay}
 use Rattle.null_calls_statements_laws.proofs.Scopes.{named_stand, unadded}
 use Rattle.null_calls_statements_laws.specs.Declarations.{NamedTabled, PartsTabled, StatementTreeFollow, SameNumber, DeclarationsGo, FirstsGo}
-use Rattle.null_calls_statements_laws.proofs.StatementTree.{OneFollows, named_follows, behind_part_follows, variable_follows, nothing_follows, more_follow, expression_follows}
+use Rattle.null_calls_statements_laws.proofs.StatementTree.{OneFollows, named_follows, behind_part_follows, variable_follows, nothing_follows, more_follow, expression_follows, alone_follows}
 use Rattle.null_calls_statements_laws.proofs.Numbers.{past_same, numbers_stay, number_same}
 
 -- ## What is declared
@@ -47,7 +47,7 @@ module _ (sites : Sites) where
     where
       by_init : (m : MaybeInit) → with_size name (maybe_init sites b m) (typed.array t zero) ≡ with_size name m (typed.array t zero)
       by_init no_init = refl
-      by_init (an_init (one at e)) = ap (sized_by_one at t) (text_same sites e b)
+      by_init (an_init (one at e)) = ap (λ o. on (text_fits at o) (λ _. sized_by_one at t o)) (text_same sites e b)
       by_init (an_init (list at is)) = ap (λ n. fine (typed.array t n)) (count_same sites is b)
   size_same name b m (typed.array t (suc n)) = refl
   size_same name b m typed.void = refl
@@ -85,10 +85,10 @@ module _ (sites : Sites) where
 
 -- what a name means within its initialiser and behind it, where it is fine
 seen_fine : (env : Env) (n : ℕ) (x : Ident) (r : Checked Object) (o : Object) (a : Met) → r ≡ fine o → new_name env x ≡ fine a → seen_meaning env n x r ≡ fine (a_local n o.seen o.whole)
-seen_fine env n x r o a g h = ap₂ (λ y z. both y z (λ q _. fine (a_local n q.seen q.whole))) g h
+seen_fine env n x r o a g h = ap₂ (λ y z. on y (λ q. gives z (λ _. a_local n q.seen q.whole))) g h
 
 whole_fine : (env : Env) (n : ℕ) (x : Ident) (r : Checked Object) (o : Object) (a : Met) → r ≡ fine o → new_name env x ≡ fine a → whole_meaning env n x r ≡ fine (a_local n o.whole o.whole)
-whole_fine env n x r o a g h = ap₂ (λ y z. both y z (λ q _. fine (a_local n q.whole q.whole))) g h
+whole_fine env n x r o a g h = ap₂ (λ y z. on y (λ q. gives z (λ _. a_local n q.whole q.whole))) g h
 
 module _ (p : Program) (names : List Binding) (env : Env) (w : More) (u : AreUnreserved env.names) (m : MeanAlike env.names w.names) (stand : NullCallsStand p env w) (s : ReservedMeanAlike names w.names) where
   abbrev L : Env
@@ -171,7 +171,7 @@ module _ (p : Program) (sites : Sites) (names : List Binding) (env : Env) (w : M
   -- where it is fine, the object and its name are
   found_fine : (q : StatementTree typed.Stmt) → local_named left b next at s d m (Some x) ≡ fine q → (o : Object) × (t : Met) × (object ≡ fine o) × (new_name left x ≡ fine t)
   found_fine q h =
-      let c = first_fine (new_name left x) laid_by (λ _ q. fine q) q h in
+      let c = first_fine (new_name left x) laid_by (λ _ q. fine q) q (alone_fine (is_given left x.name (type_declared left at s d)) 3 (place_or at d) (local left b next x m object) q h) in
       let o = on_fine object (local_of (within_local left next x object) b next x m) c.1 c.3 in
       (o.0, c.0, o.1, c.2)
 
@@ -179,11 +179,11 @@ module _ (p : Program) (sites : Sites) (names : List Binding) (env : Env) (w : M
   variable_goes named tabled found near same =
       let ts : List CType = types_of (kept_of_maybe_init sites b.sites m) in
       record {
-        laid = named_follows p k ts (new_name left x) (new_name right x) laid_by (on made_object (local_of (within_local right next' x made_object) b' next' x made)) (new_name_leads env w a x)
+        laid = alone_follows p k ts (is_given left x.name (type_declared left at s d)) (is_given right x.name (type_declared right at s d)) 3 (place_or at d) (place_or at d) (local left b next x m object) (local right b' next' x made made_object) (named_follows p k ts (new_name left x) (new_name right x) laid_by (on made_object (local_of (within_local right next' x made_object) b' next' x made)) (new_name_leads env w a x)
             (λ t new. behind_part_follows p k ts object made_object (local_of (within_local left next x object) b next x m) (local_of (within_local right next' x made_object) b' next' x made) lead
             (λ o e. variable_follows p k ts x.name (number_in next x.name) (number_in next' x.name) o.whole (initialised_local (within_local left next x object) b o.whole m) (initialised_local (within_local right next' x made_object) b' o.whole made) (unadded x.name (new_name_plain env x t new))
             (number p names env w u a n z next next' same x object made_object o t e (fine_leads object made_object o lead e) new)
-            (local_cells p sites names (within_local left next x object) (within_local right next' x made_object) (within_stand p names env w u a n z next next' same x object made_object o t e (fine_leads object made_object o lead e) new) b b' k o.whole m named (tabled o e) found near)));
+            (local_cells p sites names (within_local left next x object) (within_local right next' x made_object) (within_stand p names env w u a n z next next' same x object made_object o t e (fine_leads object made_object o lead e) new) b b' k o.whole m named (tabled o e) found near))));
         scopes = λ q h. (let c = found_fine q h in behind_stand p names env w u a n z next next' same x object made_object c.0 c.1 c.2 (fine_leads object made_object c.0 lead c.2) c.3);
         held = λ q h. (let c = found_fine q h in ap (held_by_object right made) (fine_leads object made_object c.0 lead c.2) ∙ (held_by_same sites env w m c.0.whole b.sites named ∙ sym (ap (held_by_object left m) c.2)));
       }

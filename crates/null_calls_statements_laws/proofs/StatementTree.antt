@@ -2,7 +2,7 @@
 use Rattle.std.proofs.Common.{◌≡◌, ℕ, ◌+◌, Bool, true, false, if◌then◌else◌, List, [], ◌∷◌, ◌++◌, append-nil, length, refl, ap, ap₂, sym, subst, ◌∙◌}
 use Rattle.c_tree.specs.Tree.{CType, Program}
 use Rattle.c_tree.specs.Tree as typed
-use Rattle.c_rules.specs.Checked.{Checked, fine, faulty, on, both, gives, Met}
+use Rattle.c_rules.specs.Checked.{Checked, fine, faulty, on, both, gives, Met, fails_with}
 use Rattle.c_rules.specs.Names.{Name, is_added}
 use Rattle.c_rules.specs.TypedExpression.{TypedExpression, tree_of}
 use Rattle.c_rules.specs.Initialisers.{stores_from}
@@ -34,6 +34,12 @@ module _ (p : Program) (k : ℕ) (ts : List CType) where
       (let m = l a refl in (m.0, ap₂ (λ y z. both y z (λ _ q. fine q)) h.0 m.1, m.2, m.3, m.4))
   named_follows (fine a) d (faulty f fs) s h l = tt
   named_follows (faulty f fs) d r s h l = tt
+
+  -- with one demand in place of what fails
+  pub alone_follows : (t u : Bool) (code at to : ℕ) (r s : Checked (StatementTree typed.Stmt)) → OneFollows r s → OneFollows (fails_with t code at r) (fails_with u code to s)
+  alone_follows t u code at to (fine q) s h = (h.0, ap (fails_with u code to) h.1, h.2, h.3, h.4)
+  alone_follows true u code at to (faulty f fs) s h = tt
+  alone_follows false u code at to (faulty f fs) s h = tt
 
   pub behind_part_follows : {A : Type 0} (r s : Checked A) (g h : A → Checked (StatementTree typed.Stmt)) → Leads r s → ((a : A) → r ≡ fine a → OneFollows (g a) (h a)) → OneFollows (on r g) (on s h)
   behind_part_follows (fine a) s g h l m = subst (λ z. OneFollows (g a) (on z h)) (sym l.0) (m a refl)

@@ -7,7 +7,7 @@ use Rattle.c_tree.specs.Tree.{Program}
 use Rattle.c_syntax.specs.Tree.{Ident, Storage, Spec, Declarator, MaybeInit, no_parts, more_parts, Decl, decl, First, first_absent, first_expr, first_decl, Item, struct_item, enum_item, tag_item, decl_item, function_item, Items, no_items, more_items}
 use Rattle.c_syntax.specs.Tree.{Stmt, block, empty, evaluate, only_if, if_else, while_loop, do_loop, for_loop, switch_on, break_off, continue_on, return_from}
 use Rattle.c_syntax.specs.Tree.{BlockItems, no_block_items, block_decl, block_stmt, Stmts, no_stmts, more_stmts, Groups, no_groups, more_groups}
-use Rattle.c_rules.specs.Checked.{Checked, fine, faulty, on, demand, and_also, Met, met, beside}
+use Rattle.c_rules.specs.Checked.{Checked, fine, faulty, on, both, demand, and_also, Met, met, beside}
 use Rattle.c_rules.specs.Names.{is_reserved, may_be_declared}
 use Rattle.c_rules.specs.Scopes.{Env, inside, Before}
 use Rattle.c_rules.specs.Counts.{after, after_maybe}
@@ -16,11 +16,11 @@ use Rattle.c_rules.specs.Expressions.{type_declared, value}
 use Rattle.c_rules.specs.Objects.{Object, object_declared}
 use Rattle.c_rules.specs.Tags.{tags_of_spec, tags_of_expr, tags_of_maybe, tags_of_declarator, tags_of_parts, declares_added, are_added, tags_of_decl, tags_of_first, tags_of_labels, tags_of_stmt, tags_of_block, tags_of_stmts, tags_of_groups, tags_of_item, tags_of_items}
 use Rattle.c_rules.specs.Variables.{Next, past_names, names_of_decl, names_of_first, names_of_stmt, names_of_stmts}
-use Rattle.c_rules.specs.Blocks.{behind_decl, behind_first, after_decl, after_first, after_stmt, after_stmts, local_named, local_part, local_decl}
+use Rattle.c_rules.specs.Blocks.{behind_decl, behind_first, after_decl, after_first, after_stmt, after_stmts, local_named, local_part, local_decl, is_given, local}
 use Rattle.c_rules.specs.Statements.{Around, in_loop, in_switch, condition_at, test_of, step_of, first_of, switched, label_type, labels_of, switch_of, stmt, items_of_block, stmts, groups_of_switch}
 use Rattle.c_rules.specs.Functions.{declares_function, parameters_of, are_named, body_env, body_of, body_numbers, function_laid, defined_as, function_meaning, function_declared, items_of_body}
 use Rattle.c_rules.specs.Items.{Output, defines, object_name, global_object, global_declared, global, without_init, declared_part, named_part, file_decl, behind_defined, function_named, item, behind_item, after_item, items}
-use Rattle.c_rules_laws.proofs.Holding.{Holds, on_holds, both_hold, all_three_hold, Any, anything, demand_holds}
+use Rattle.c_rules_laws.proofs.Holding.{Holds, on_holds, both_hold, all_three_hold, Any, anything, demand_holds, alone_holds, parts_first_holds}
 use Rattle.c_rules_laws.proofs.Holding.{after_part as behind_any}
 use Rattle.c_rules_laws.proofs.RightDeclarations.{decl_whole}
 use Rattle.c_rules_laws.proofs.Names.{unreserved}
@@ -55,7 +55,9 @@ added_no x h = unadded x.name h
 
 named_aside : (env : Env) → IsPlain env → (b : Before) (next : Next) (at : ℕ) (s : Spec) (d : Declarator) (m : MaybeInit) (o : Option Ident) → Holds (λ _. declares_added o ≡ false) (local_named env b next at s d m o)
 named_aside env e b next at s d m None = tt
-named_aside env e b next at s d m (Some x) = both_hold (λ _. is_reserved x.name ≡ false) Any (λ _. declares_added (Some x) ≡ false) (new_name env x) _ (λ _ p. fine p) (new_plain env e x) (anything _) (λ _ _ h _. added_no x h)
+named_aside env e b next at s d m (Some x) =
+    alone_holds (λ _. declares_added (Some x) ≡ false) (is_given env x.name (type_declared env at s d)) 3 (place_or at d) (local env b next x m (object_declared env at s d x m))
+    (both_hold (λ _. is_reserved x.name ≡ false) Any (λ _. declares_added (Some x) ≡ false) (new_name env x) _ (λ _ p. fine p) (new_plain env e x) (anything _) (λ _ _ h _. added_no x h))
 
 decl_aside : (d : Decl) (env : Env) → IsPlain env → DeclNamesNoType d → (b : Before) (next : Next) → Holds (λ _. tags_of_decl true d ≡ tags_of_decl false d) (local_decl env b next d)
 decl_aside (decl at class s no_parts) env e l b next = absurd l.0
@@ -185,9 +187,9 @@ defined_aside env e b place d x is l (pointer t) = tt
 defined_aside env e b place d x is l (array t n) = tt
 defined_aside env e b place d x is l (struct s) = tt
 defined_aside env e b place d x is l (function t ts) =
-    both_hold Any (λ _. tags_of_block true is ≡ tags_of_block false is) (λ _. tags_of_block true is ≡ tags_of_block false is) (demand (are_named (parameters_of d)) 3 place met) (body_of env b t d ts is) _ (anything _)
+    parts_first_holds (λ _. tags_of_block true is ≡ tags_of_block false is) (body_of env b t d ts is) (both (demand (are_named (parameters_of d)) 3 place met) (body_of env b t d ts is) (λ _ q. function_laid env x t ts q)) (both_hold Any (λ _. tags_of_block true is ≡ tags_of_block false is) (λ _. tags_of_block true is ≡ tags_of_block false is) (demand (are_named (parameters_of d)) 3 place met) (body_of env b t d ts is) (λ _ q. function_laid env x t ts q) (anything (demand (are_named (parameters_of d)) 3 place met))
     (block_aside is (body_env env d ts) (ap (λ w. w.mode) (parameters_functions (parameters_of d) ts (inside env) 0) ∙ e) l (record { breaks = false; continues = false; returns = t }) b (body_numbers d is))
-    (λ _ q _ h. always (tags_of_block true is ≡ tags_of_block false is) (function_laid env x t ts q) h)
+    (λ _ q _ h. always (tags_of_block true is ≡ tags_of_block false is) (function_laid env x t ts q) h))
 
 function_aside : (env : Env) → IsPlain env → (b : Before) (at : ℕ) (s : Spec) (d : Declarator) (body : Stmt) → StmtNamesNoType body → (k : Bool) (o : Option Ident) → Holds (λ _. tags_of_stmt true body ≡ tags_of_stmt false body) (function_named env b at s d body k o)
 function_aside env e b at s d body l false o = tt

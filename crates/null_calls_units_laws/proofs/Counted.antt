@@ -4,7 +4,7 @@ use Rattle.std.proofs.lemmas.Bool.{false≢true}
 use Rattle.c_tree.specs.Tree.{CType, void, integer, array, struct}
 use Rattle.c_tree.specs.Tree as typed
 use Rattle.c_syntax.specs.Tree.{Ident, Spec, Declarator, named, no_init, Decl, BlockItems}
-use Rattle.c_rules.specs.Checked.{fine, on, both, met}
+use Rattle.c_rules.specs.Checked.{fine, on, met, gives}
 use Rattle.c_rules.specs.Names.{Name, is_added}
 use Rattle.c_rules.specs.Types.{is_scalar}
 use Rattle.c_rules.specs.Scopes.{Env, a_local, with_name, meaning_or_unknown}
@@ -55,7 +55,7 @@ module _ (env : Env) (plain k at : ℕ) (x : Temporary) (scalar : is_scalar x.ct
 
   behind : behind_decl env next declaration ≡ with_name env x.name (a_local k x.ctype x.ctype)
   behind =
-      ap (λ o. behind_named env next at the_spec the_declarator no_init o) name ∙ (ap (λ r. with_name env x.name (meaning_or_unknown (both r (new_name env ident) (λ o _. fine (a_local (number_in next x.name) o.whole o.whole))))) is_object ∙ (ap (λ n. with_name env x.name (meaning_or_unknown (both (fine object) n (λ o _. fine (a_local (number_in next x.name) o.whole o.whole))))) new ∙ ap (λ c. with_name env x.name (a_local (if c then k else plain) x.ctype x.ctype)) added))
+      ap (λ o. behind_named env next at the_spec the_declarator no_init o) name ∙ (ap (λ r. with_name env x.name (meaning_or_unknown (on r (λ o. gives (new_name env ident) (λ _. a_local (number_in next x.name) o.whole o.whole))))) is_object ∙ (ap (λ n. with_name env x.name (meaning_or_unknown (gives n (λ _. a_local (number_in next x.name) x.ctype x.ctype)))) new ∙ ap (λ c. with_name env x.name (a_local (if c then k else plain) x.ctype x.ctype)) added))
 
   numbered : past_names next (names_of_decl declaration) ≡ record { plain = plain; added = suc k }
   numbered =

@@ -7,12 +7,13 @@ use Rattle.c_syntax.specs.Tree.{Ident, Spec, Declarator, named, no_init, Decl}
 use Rattle.c_rules.specs.Names.{is_added}
 use Rattle.c_rules.specs.Types.{is_scalar}
 use Rattle.c_rules.specs.Scopes.{Env, a_local, with_name, meaning_or_unknown, Before}
-use Rattle.c_rules.specs.Checked.{Checked, fine, faulty, on, both, met}
+use Rattle.c_rules.specs.Checked.{Checked, fine, faulty, on, both, met, gives, fails_with}
 use Rattle.c_rules.specs.Counts.{past}
 use Rattle.c_rules.specs.Declarators.{name_of, place_or, new_name}
+use Rattle.c_rules.specs.Expressions.{type_declared}
 use Rattle.c_rules.specs.Objects.{Object, object_of, object_declared}
 use Rattle.c_rules.specs.Variables.{name_or_empty, Next, number_in, names_of_decl, past_names}
-use Rattle.c_rules.specs.Blocks.{within_local, behind_named, behind_decl, held_by_object, held_by_named, after_decl, StatementTree, bare, one_more, some_more, laid_variable, local_of, local_named, local_decl}
+use Rattle.c_rules.specs.Blocks.{within_local, behind_named, behind_decl, held_by_object, held_by_named, after_decl, StatementTree, bare, one_more, some_more, laid_variable, local_of, local_named, local_decl, is_given}
 use Rattle.c_rules.specs.Statements.{items_of_block}
 use Rattle.null_calls_rules.specs.SpelledTypes.{spec_of, declarator_of}
 use Rattle.null_calls_rules.specs.Temporaries.{Temporary, declaration_of, declared_before}
@@ -61,13 +62,16 @@ module _ (env : Env) (b : Before) (plain k at : ℕ) (x : Temporary) (scalar : i
   is_object =
       ap (λ r. on r (object_of env (place_or at the_declarator) at no_init)) (spelled env at x.ctype (named at ident) (scalar_bare x.ctype scalar) is) ∙ scalar_object env (place_or at the_declarator) at x.ctype scalar
 
+  abbrev alone : Checked (StatementTree typed.Stmt) → Checked (StatementTree typed.Stmt)
+  alone r = fails_with (is_given env x.name (type_declared env at the_spec the_declarator)) 3 (place_or at the_declarator) r
+
   declares : local_decl env b next declaration ≡ fine (record { tree = typed.more_stmts (typed.declare k typed.no_inits) typed.no_stmts; plain = []; added = x.ctype ∷ [] })
   declares =
-      ap (λ o. both (local_named env b next at the_spec the_declarator no_init o) (fine (bare typed.no_stmts)) (λ p q. fine (one_more p q))) name ∙ (ap (λ r. both (both (new_name env ident) (on r (local_of (within_local env next ident r) b next ident no_init)) (λ _ p. fine p)) (fine (bare typed.no_stmts)) (λ p q. fine (one_more p q))) is_object ∙ (ap (λ n. both (both n (fine (laid_variable x.name (number_in next x.name) x.ctype [])) (λ _ p. fine p)) (fine (bare typed.no_stmts)) (λ p q. fine (one_more p q))) new ∙ ap (λ c. fine (one_more (if c then record { tree = typed.declare (if c then k else plain) typed.no_inits; plain = []; added = x.ctype ∷ [] } else record { tree = typed.declare (if c then k else plain) typed.no_inits; plain = x.ctype ∷ []; added = [] }) (bare typed.no_stmts))) added))
+      ap (λ o. both (local_named env b next at the_spec the_declarator no_init o) (fine (bare typed.no_stmts)) (λ p q. fine (one_more p q))) name ∙ (ap (λ r. both (alone (both (new_name env ident) (on r (local_of (within_local env next ident r) b next ident no_init)) (λ _ p. fine p))) (fine (bare typed.no_stmts)) (λ p q. fine (one_more p q))) is_object ∙ (ap (λ n. both (alone (both n (fine (laid_variable x.name (number_in next x.name) x.ctype [])) (λ _ p. fine p))) (fine (bare typed.no_stmts)) (λ p q. fine (one_more p q))) new ∙ ap (λ c. fine (one_more (if c then record { tree = typed.declare (if c then k else plain) typed.no_inits; plain = []; added = x.ctype ∷ [] } else record { tree = typed.declare (if c then k else plain) typed.no_inits; plain = x.ctype ∷ []; added = [] }) (bare typed.no_stmts))) added))
 
   behind : behind_decl env next declaration ≡ with_name env x.name (a_local k x.ctype x.ctype)
   behind =
-      ap (λ o. behind_named env next at the_spec the_declarator no_init o) name ∙ (ap (λ r. with_name env x.name (meaning_or_unknown (both r (new_name env ident) (λ o _. fine (a_local (number_in next x.name) o.whole o.whole))))) is_object ∙ (ap (λ n. with_name env x.name (meaning_or_unknown (both (fine object) n (λ o _. fine (a_local (number_in next x.name) o.whole o.whole))))) new ∙ ap (λ c. with_name env x.name (a_local (if c then k else plain) x.ctype x.ctype)) added))
+      ap (λ o. behind_named env next at the_spec the_declarator no_init o) name ∙ (ap (λ r. with_name env x.name (meaning_or_unknown (on r (λ o. gives (new_name env ident) (λ _. a_local (number_in next x.name) o.whole o.whole))))) is_object ∙ (ap (λ n. with_name env x.name (meaning_or_unknown (gives n (λ _. a_local (number_in next x.name) x.ctype x.ctype)))) new ∙ ap (λ c. with_name env x.name (a_local (if c then k else plain) x.ctype x.ctype)) added))
 
   numbered : past_names next (names_of_decl declaration) ≡ record { plain = plain; added = suc k }
   numbered =

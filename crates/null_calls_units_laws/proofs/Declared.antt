@@ -16,7 +16,7 @@ use Rattle.c_rules.specs.Conversions.{few_parts, complete}
 use Rattle.c_rules.specs.Tags.{tags_of_spec, tags_of_maybe, tags_of_declarator, tags_of_params}
 use Rattle.c_rules.specs.Declarators.{name_of, place_or, type_of_spec, within_parts, pointer_to, array_of, function_of, parameter_of, new_name, with_name_demands, behind_parameter}
 use Rattle.c_rules.specs.Expressions.{declared, size_in, parameters, type_declared}
-use Rattle.c_rules.specs.Initialisers.{text_of}
+use Rattle.c_rules.specs.Initialisers.{text_of, text_fits}
 use Rattle.c_rules.specs.Objects.{Object, sized_by_one, sized_by, with_size, of_known_size, object_of, object_declared}
 use Rattle.null_calls_units_laws.specs.Spelled.{AreAmong, is_pointee}
 use Rattle.c_rules_laws.proofs.Holding.{Holds, on_holds, both_hold, Any, anything, demand_holds, behind_demand, after_part}
@@ -186,7 +186,7 @@ module _ (enums tags stood : List Name) where
 
   sized_written : (name : ℕ) (t : CType) (m : MaybeInit) (n : ℕ) → W (array t n) → Holds W (sized_by name t m)
   sized_written name t no_init n h = tt
-  sized_written name t (an_init (one at e)) n h = sized_one_written at t (text_of e) n h
+  sized_written name t (an_init (one at e)) n h = after_part W (text_fits at (text_of e)) (λ _. sized_by_one at t (text_of e)) (λ _. sized_one_written at t (text_of e) n h)
   sized_written name t (an_init (list at is)) n h = h
 
   pub with_size_written : (name : ℕ) (m : MaybeInit) (t : CType) → W t → Holds W (with_size name m t)

@@ -10,10 +10,10 @@ use Rattle.c_tree.specs.Functions.{sys_types, null_types}
 use Rattle.c_syntax.specs.Tree.{Ident, Spec, Declarator}
 use Rattle.c_rules.specs.Checked.{Checked, fine, demand, and_also, Met, met}
 use Rattle.c_rules.specs.Codes.{C2, C11, C12, C13}
-use Rattle.c_rules.specs.Names.{Name, number_among, is_among, is_reserved, given_names, may_be_declared, with_new}
+use Rattle.c_rules.specs.Names.{Name, number_among, is_among, is_reserved, given_names, may_be_declared, with_new, is_given_type}
 use Rattle.c_rules.specs.Scopes.{Env, Binding, Meaning, a_function, lookup, at_depth, declared_here, with_name, meaning_or_unknown}
 use Rattle.c_rules.specs.Expressions.{type_declared}
-use Rattle.c_rules.specs.Functions.{is_given_type, given_as, is_as_given, may_follow_function, is_defined_by, is_few, function_meaning, behind_function, function_declared}
+use Rattle.c_rules.specs.Functions.{given_as, is_as_given, may_follow_function, is_defined_by, is_few, function_meaning, behind_function, function_declared}
 use Rattle.null_calls_rules.specs.Temporaries.{pre_name, post_name}
 use Rattle.c_rules_laws.specs.TypedAlike.{More, TypedAlike, beside, AreUnreserved, MeanAlike}
 use Rattle.c_rules_laws.proofs.Leads.{Leads, same_leads, fine_leads, on_leads, demand_leads, and_also_leads, first_fine, on_fine, demand_met}

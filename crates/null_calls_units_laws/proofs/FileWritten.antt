@@ -12,10 +12,10 @@ use Rattle.c_rules.specs.Conversions.{complete}
 use Rattle.c_rules.specs.Declarators.{name_of, place_or, new_name}
 use Rattle.c_rules.specs.Expressions.{type_declared}
 use Rattle.c_rules.specs.Objects.{Object, object_declared, with_size}
-use Rattle.c_rules.specs.Tags.{tags_of_spec, tags_of_declarator, tags_of_maybe_init, tags_of_parts, tags_of_decl, tags_of_declarators, tags_of_members, tags_of_stmt, tags_of_item}
+use Rattle.c_rules.specs.Tags.{tags_of_spec, tags_of_declarator, tags_of_maybe_init, tags_of_parts, tags_of_decl, tags_of_declarators, tags_of_members, tags_of_enumerators, tags_of_stmt, tags_of_item}
 use Rattle.c_rules.specs.Functions.{declares_function, function_meaning, is_defined_by, function_declared, behind_function}
 use Rattle.c_rules.specs.Items.{Output, no_output, member_typed, new_member, member_named, member_declared, with_option, names_behind, members_declared, members, struct_laid, new_struct, struct_definition, struct_or_unknown, free_tag, enumerator_value, one_more_than, enumerator_meaning, behind_enumerator, enumerators, behind_enumerators, new_enum, behind_enum_tag, defines, global_object, global_declared, meaning_of_global, behind_global, behind_declared, behind_named_part, behind_file_part, after_file_part, behind_file_parts, behind_file_decl, behind_function_named, item, behind_by_form, behind_item}
-use Rattle.c_rules_laws.proofs.Holding.{Holds, held, on_holds, both_hold, Any, anything, demand_holds, after_part, first_fine, and_right}
+use Rattle.c_rules_laws.proofs.Holding.{Holds, held, on_holds, both_hold, Any, anything, demand_holds, after_part, first_fine, and_left, and_right}
 use Rattle.null_calls_units_laws.specs.ClosedTypes.{MeaningHas, AllHave, ScopeHas}
 use Rattle.null_calls_units_laws.specs.WrittenTypes.{Written}
 use Rattle.null_calls_units_laws.proofs.Closed.{written_later}
@@ -237,12 +237,15 @@ module _ (tags stood : List Name) where
 -- ## Items
 
 -- an enum's tag stands nowhere before
-new_enum_apart : (env : Env) (x : Tag) → Holds (λ _. (y : Ident) → x ≡ tag y → is_among env.tags y.name ≡ false) (new_enum env x)
-new_enum_apart env no_tag = λ y e. absurd (cc)
-new_enum_apart env (tag x) =
-    both_hold Any (λ _. (y : Ident) → tag x ≡ tag y → is_among env.tags y.name ≡ false) (λ _. (y : Ident) → tag x ≡ tag y → is_among env.tags y.name ≡ false) (free_tag env x) (demand (not (is_among env.enums x.name) && not (is_among env.tags x.name)) 2 x.at met) (λ _ _. fine met) (anything (free_tag env x))
-    (demand_holds (λ _. (y : Ident) → tag x ≡ tag y → is_among env.tags y.name ≡ false) (not (is_among env.enums x.name) && not (is_among env.tags x.name)) 2 x.at met
-    (λ q y e. subst (λ z. is_among env.tags z.name ≡ false) (same y e) (is_not (is_among env.tags x.name) (and_right (not (is_among env.enums x.name)) (not (is_among env.tags x.name)) q))))
+new_enum_apart : (env : Env) (x : Tag) (ts : List Name) → Holds (λ _. (y : Ident) → x ≡ tag y → is_among env.tags y.name ≡ false) (new_enum env x ts)
+new_enum_apart env no_tag ts = λ y e. absurd (cc)
+new_enum_apart env (tag x) ts =
+    let new : Bool = not (is_among env.enums x.name) in
+    let apart : Bool = not (is_among env.tags x.name) in
+    let within : Bool = not (is_among ts x.name) in
+    both_hold Any (λ _. (y : Ident) → tag x ≡ tag y → is_among env.tags y.name ≡ false) (λ _. (y : Ident) → tag x ≡ tag y → is_among env.tags y.name ≡ false) (free_tag env x) (demand (new && (apart && within)) 2 x.at met) (λ _ _. fine met) (anything (free_tag env x))
+    (demand_holds (λ _. (y : Ident) → tag x ≡ tag y → is_among env.tags y.name ≡ false) (new && (apart && within)) 2 x.at met
+    (λ q y e. subst (λ z. is_among env.tags z.name ≡ false) (same y e) (is_not (is_among env.tags x.name) (and_left apart within (and_right new (apart && within) q)))))
     (λ _ _ _ k. k)
   where
     is_not : (t : Bool) → not t ≡ true → t ≡ false
@@ -258,11 +261,10 @@ form_file tags (struct_item at x ms) env b out w k e =
     struct_item_file tags stood env (more_stand tags env.tags stood env (λ y h. among_later (tags_of_item false (struct_item at x ms)) env.tags y h) w) x ms (rest_tags env.enums tags stood (x.name ∷ []) (tags_of_members ms) k)
 form_file tags (enum_item at x es) env b out w k e =
     let stood : List Name = tags_of_item false (enum_item at x es) ++ env.tags in
-    let i = first_fine (new_enum env x) (enumerators (behind_enum_tag env x) (fine _) es) (λ _ _. fine no_output) out e in
-    let inner : Env = behind_enum_tag env x in
-    let apart = held (λ _. (y : Ident) → x ≡ tag y → is_among env.tags y.name ≡ false) (new_enum env x) i.0 (new_enum_apart env x) i.2 in
-    let here : Env = behind_enumerators inner (fine _) es in
-    more_stand tags env.tags stood here (λ y h. among_later (tags_of_item false (enum_item at x es)) env.tags y h) (enumerators_file tags env.tags es inner (enum_stands tags env.tags env x apart w) (fine _))
+    let i = first_fine (new_enum env x (tags_of_enumerators es)) (enumerators env (fine _) es) (λ _ _. fine no_output) out e in
+    let inner : Env = behind_enumerators env (fine _) es in
+    let apart = held (λ _. (y : Ident) → x ≡ tag y → is_among env.tags y.name ≡ false) (new_enum env x (tags_of_enumerators es)) i.0 (new_enum_apart env x (tags_of_enumerators es)) i.2 in
+    more_stand tags env.tags stood (behind_enum_tag inner x) (λ y h. among_later (tags_of_item false (enum_item at x es)) env.tags y h) (enum_stands tags env.tags inner x apart (enumerators_file tags env.tags es env w (fine _)))
 form_file tags (tag_item at x) env b out w k e = more_stand tags env.tags (tags_of_item false (tag_item at x) ++ env.tags) env (λ y h. among_later (tags_of_item false (tag_item at x)) env.tags y h) w
 form_file tags (decl_item at d) env b out w k e =
     let stood : List Name = tags_of_item false (decl_item at d) ++ env.tags in
@@ -308,7 +310,7 @@ function_same env at s d (Some x) = refl
 
 pub form_tags : (i : Item) (env : Env) (b : Before) → (behind_by_form env b i).tags ≡ env.tags
 form_tags (struct_item at x ms) env b = refl
-form_tags (enum_item at x es) env b = enumerators_same es (behind_enum_tag env x) (fine _) ∙ enum_same env x
+form_tags (enum_item at x es) env b = enum_same (behind_enumerators env (fine _) es) x ∙ enumerators_same es env (fine _)
 form_tags (tag_item at x) env b = refl
 form_tags (decl_item at d) env b = decl_same d env b
 form_tags (function_item at class s d body) env b = function_same env at s d (name_of d)
@@ -343,7 +345,7 @@ function_whole env at s d (Some x) = refl
 
 pub form_whole : (i : Item) (env : Env) (b : Before) → (behind_by_form env b i).whole ≡ env.whole
 form_whole (struct_item at x ms) env b = refl
-form_whole (enum_item at x es) env b = enumerators_whole es (behind_enum_tag env x) (fine _) ∙ enum_whole env x
+form_whole (enum_item at x es) env b = enum_whole (behind_enumerators env (fine _) es) x ∙ enumerators_whole es env (fine _)
 form_whole (tag_item at x) env b = refl
 form_whole (decl_item at d) env b = decl_whole d env b
 form_whole (function_item at class s d body) env b = function_whole env at s d (name_of d)

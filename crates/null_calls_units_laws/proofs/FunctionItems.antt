@@ -3,7 +3,7 @@ use Rattle.std.proofs.Common.{◌≡◌, ℕ, suc, ◌+◌, ◌*◌, ◌≤◌, 
 use Rattle.c_tree.specs.Tree.{CType, function, CTypes, no_types, more_types, list_of, Function, Program}
 use Rattle.c_tree.specs.Tree as typed
 use Rattle.c_syntax.specs.Tree.{Ident, Storage, Spec, Declarator, Params, no_params, more_params, Stmt, BlockItems, Item, struct_item, enum_item, tag_item, decl_item, function_item}
-use Rattle.c_rules.specs.Checked.{fine, on, demand, met}
+use Rattle.c_rules.specs.Checked.{fine, on, both, demand, met, parts_first}
 use Rattle.c_rules.specs.Names.{Name, is_among}
 use Rattle.c_rules.specs.Scopes.{Env, inside, layout_of, Before}
 use Rattle.c_rules.specs.Counts.{past}
@@ -23,7 +23,7 @@ use Rattle.null_calls_rules.specs.Instrumented as units
 use Rattle.null_calls_rules.specs.InstrumentedPrograms.{instrumented_function}
 use Rattle.null_calls_rules.specs.WithoutSites.{unsited_function}
 use Rattle.null_calls_units_laws.specs.Spelled.{AreAmong}
-use Rattle.c_rules_laws.proofs.Leads.{first_fine, on_fine, fine_leads}
+use Rattle.c_rules_laws.proofs.Leads.{first_fine, on_fine, fine_leads, parts_first_fine}
 use Rattle.c_rules_laws.proofs.Parts.{type_declared_leads}
 use Rattle.null_calls_expressions_laws.specs.Follow.{types_of}
 use Rattle.null_calls_statements_laws.proofs.Numbers.{numbers_stay}
@@ -131,7 +131,7 @@ module _ (p : Program) (enums tags stood : List Name) (e f : Env) (w : FilesBesi
 
   definition_goes : FilesBeside left_env right_env → (left : Function) → defined_as left_env b (place_or at d) d x items_left (function t ts) ≡ fine left → DefinedGoes left
   definition_goes files left h =
-      let k = first_fine (demand (are_named (parameters_of d)) 3 (place_or at d) met) (body_of left_env b t d ts items_left) (λ _ q. function_laid left_env x t ts q) left h in
+      let k = first_fine (demand (are_named (parameters_of d)) 3 (place_or at d) met) (body_of left_env b t d ts items_left) (λ _ q. function_laid left_env x t ts q) left (parts_first_fine (body_of left_env b t d ts items_left) (both (demand (are_named (parameters_of d)) 3 (place_or at d) met) (body_of left_env b t d ts items_left) (λ _ q. function_laid left_env x t ts q)) left h) in
       let q : StatementTree typed.Stmts = k.1 in
       let us : List CType = types_of temporaries_here in
       let goes : BodyGoes p (sites_of p) tags (body_env left_env d ts) (body_env right_env d ts) b n at count_here items_left around q =
@@ -140,8 +140,9 @@ module _ (p : Program) (enums tags stood : List Name) (e f : Env) (w : FilesBesi
       record {
         right = right_function p x t ts first_here us goes.tree q;
         follows =
-            both_gives (demand (are_named (parameters_of d)) 3 (place_or at d) met) (body_of right_env (at_site b n) t d ts items_right) (λ _ q. function_laid right_env x t ts q) k.0 (right_laid p x t ts first_here us goes.tree q) k.2 goes.follows
-            ∙ laid.0;
+            ap (parts_first (body_of right_env (at_site b n) t d ts items_right))
+            (both_gives (demand (are_named (parameters_of d)) 3 (place_or at d) met) (body_of right_env (at_site b n) t d ts items_right) (λ _ q. function_laid right_env x t ts q) k.0 (right_laid p x t ts first_here us goes.tree q) k.2 goes.follows
+            ∙ laid.0);
         same = function_instrumented p x t ts first_here us goes.tree q goes.none goes.kept goes.instrumented_tree (number q k.3) ∙ ap (instrumented_function p) laid.1;
         after = goes.after;
         near = goes.near;

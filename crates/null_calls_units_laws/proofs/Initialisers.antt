@@ -13,13 +13,13 @@ use Rattle.c_rules.specs.Scopes.{Env, Before, layout_of}
 use Rattle.c_rules.specs.TypedExpression.{TypedExpression, tree_of}
 use Rattle.c_rules.specs.Conversions.{as_if_assigned}
 use Rattle.c_rules.specs.Expressions.{value}
-use Rattle.c_rules.specs.Initialisers.{Slots, copies, each, slots, capacity, takes_list, count_inits, text_of, typed_zero, typed_char, zeros, chars, cell_of, scalar_cell, array_cells, cells_of_list, after_init, calls_of_init, calls_of_inits, calls_of_maybe_init, initialised, in_turn, initialised_local, stores_from}
+use Rattle.c_rules.specs.Initialisers.{Slots, copies, each, slots, capacity, takes_list, count_inits, text_of, typed_zero, typed_char, zeros, chars, cell_of, scalar_cell, array_cells, cells_of_list, after_init, calls_of_init, calls_of_inits, calls_of_maybe_init, initialised, in_turn, initialised_local, stores_from, text_fits}
 use Rattle.null_calls_rules.specs.MarkedCalls.{sites_of}
 use Rattle.null_calls_rules.specs.Temporaries.{Temporary}
 use Rattle.null_calls_rules.specs.InstrumentedStatements.{kept_of_init, kept_of_inits, kept_of_maybe_init}
 use Rattle.null_calls_counts_laws.specs.Statements.{InitNamed, InitsNamed, MaybeInitNamed}
 use Rattle.null_calls_statements_laws.specs.Initialisers.{InitTabled, InitsTabled, MaybeInitTabled}
-use Rattle.c_rules_laws.proofs.Holding.{Holds, holds_map, on_holds, both_hold, demand_holds, behind_demand}
+use Rattle.c_rules_laws.proofs.Holding.{Holds, holds_map, on_holds, both_hold, demand_holds, behind_demand, after_part}
 use Rattle.null_calls_units_laws.specs.CallsIn.{calls_in, calls_in_inits}
 use Rattle.null_calls_units_laws.specs.AbstractCasts.{InitNamesNoType, InitsNameNoType, MaybeInitNamesNoType}
 use Rattle.null_calls_units_laws.specs.Scopes.{IsWrittenScope, AreTemporaries}
@@ -121,7 +121,7 @@ module _ (p : Program) (enums tags stood : List Name) where
     initialised_passes (one at x) env w b void l = tt
     initialised_passes (one at x) env w b (integer i) l = scalar_passes env w b at (integer i) x (value_passes p enums tags stood x env w b l)
     initialised_passes (one at x) env w b (pointer t) l = scalar_passes env w b at (pointer t) x (value_passes p enums tags stood x env w b l)
-    initialised_passes (one at x) env w b (array t n) l = array_passes env b at t n x
+    initialised_passes (one at x) env w b (array t n) l = after_part (CellsTell (InitPasses env b (array t n) (one at x))) (text_fits at (text_of x)) (λ _. array_cells at t n (text_of x)) (λ _. array_passes env b at t n x)
     initialised_passes (one at x) env w b (struct s) l = tt
     initialised_passes (one at x) env w b (function t ts) l = tt
     initialised_passes (list at is) env w b t l = list_passes (InitPasses env b t (list at is)) (takes_list t) at (capacity (slots env t)) (count_inits is) (in_turn env b false (slots env t) is) (in_turn_passes is env w b (slots env t) l)

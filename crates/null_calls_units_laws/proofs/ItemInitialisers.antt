@@ -9,7 +9,7 @@ use Rattle.c_rules.specs.Counts.{past}
 use Rattle.c_rules.specs.TypedExpression.{TypedExpression}
 use Rattle.c_rules.specs.Conversions.{as_if_assigned}
 use Rattle.c_rules.specs.Expressions.{value}
-use Rattle.c_rules.specs.Initialisers.{Slots, copies, each, slots, capacity, takes_list, count_inits, text_of, zeros, cell_of, scalar_cell, array_cells, cells_of_one, cells_of_list, held, held_in_turn, held_by, calls_of_init, after_init, initialised, in_turn, initialised_static}
+use Rattle.c_rules.specs.Initialisers.{Slots, copies, each, slots, capacity, takes_list, count_inits, text_of, zeros, cell_of, scalar_cell, array_cells, cells_of_one, cells_of_list, held, held_in_turn, held_by, calls_of_init, after_init, initialised, in_turn, initialised_static, text_fits}
 use Rattle.c_rules_laws.specs.TypedAlike.{More, TypedAlike, beside}
 use Rattle.c_rules_laws.proofs.Leads.{Leads, LeadsTo, same_leads, with_fact, on_leads, both_leads}
 use Rattle.c_rules_laws.proofs.Names.{left, right}
@@ -82,7 +82,7 @@ one_leads : (k : Bool) (at : ℕ) (t : CType) (text : Option (List ℕ)) (r s : 
 one_leads k at void text r s h = tt
 one_leads k at (integer i) text r s h = scalar_leads k at (integer i) r s h
 one_leads k at (pointer t) text r s h = scalar_leads k at (pointer t) r s h
-one_leads k at (array t n) text r s h = same_leads (array_cells at t n text)
+one_leads k at (array t n) text r s h = same_leads (on (text_fits at text) (λ _. array_cells at t n text))
 one_leads k at (struct x) text r s h = tt
 one_leads k at (function t ts) text r s h = tt
 

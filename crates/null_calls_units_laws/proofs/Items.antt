@@ -11,7 +11,7 @@ use Rattle.c_rules.specs.Codes.{C2, C11, C12}
 use Rattle.c_rules.specs.Names.{Name, number_among, is_among, is_reserved, given_names, may_be_declared}
 use Rattle.c_rules.specs.Scopes.{Env, a_static, an_enumerator, evaluated, folded, in_context, Struct, Before, nothing_before, struct_of, tag_number, declared_here, with_struct}
 use Rattle.c_rules.specs.Counts.{place_of, past, string_cells}
-use Rattle.c_rules.specs.Tags.{tags_of_item}
+use Rattle.c_rules.specs.Tags.{tags_of_enumerators, tags_of_item}
 use Rattle.c_rules.specs.TypedExpression.{TypedExpression}
 use Rattle.c_rules.specs.Declarators.{name_of, place_or, constant_value, new_name}
 use Rattle.c_rules.specs.Expressions.{type_declared, folded_value}
@@ -72,16 +72,18 @@ tag_declaration_leads e f (files_beside env more p q l) x = and_also_leads _ _ _
 
 -- ## Enums
 
-not_both : (a b c : Bool) → (c ≡ true → b ≡ true) → (not a && not b) ≡ true → (not a && not c) ≡ true
-not_both true b c h e = e
-not_both false true c h e = absurd (true≢false (sym e))
-not_both false false true h e = absurd (true≢false (sym (h refl)))
-not_both false false false h e = refl
+not_both : (a b c d : Bool) → (c ≡ true → b ≡ true) → (not a && (not b && d)) ≡ true → (not a && (not c && d)) ≡ true
+not_both true b c d h e = e
+not_both false true c d h e = absurd (true≢false (sym e))
+not_both false false true d h e = absurd (true≢false (sym (h refl)))
+not_both false false false d h e = e
 
-new_enum_leads : (e f : Env) → FilesBeside e f → (t : Tag) → Leads (new_enum e t) (new_enum f t)
-new_enum_leads e f (files_beside env more p q l) no_tag = (refl, tt)
-new_enum_leads e f (files_beside env more p q l) (tag x) =
-    and_also_leads _ _ _ _ (tag_leads env more x) (demand_leads (not (is_among env.enums x.name) && not (is_among env.tags x.name)) (not (is_among env.enums x.name) && not (is_among more.tags x.name)) C2 x.at met (not_both (is_among env.enums x.name) (is_among env.tags x.name) (is_among more.tags x.name) (l.tags x.name)))
+new_enum_leads : (e f : Env) → FilesBeside e f → (t : Tag) (ts : List Name) → Leads (new_enum e t ts) (new_enum f t ts)
+new_enum_leads e f (files_beside env more p q l) no_tag ts = (refl, tt)
+new_enum_leads e f (files_beside env more p q l) (tag x) ts =
+    and_also_leads _ _ _ _ (tag_leads env more x)
+    (demand_leads (not (is_among env.enums x.name) && (not (is_among env.tags x.name) && not (is_among ts x.name))) (not (is_among env.enums x.name) && (not (is_among more.tags x.name) && not (is_among ts x.name))) C2 x.at met
+    (not_both (is_among env.enums x.name) (is_among env.tags x.name) (is_among more.tags x.name) (not (is_among ts x.name)) (l.tags x.name)))
 
 enum_tag_files : (e f : Env) → FilesBeside e f → (t : Tag) → FilesBeside (behind_enum_tag e t) (behind_enum_tag f t)
 enum_tag_files e f (files_beside env more p q l) no_tag = files_beside env more p q l
@@ -294,12 +296,13 @@ other_item_leads e f w b n (struct_item at x ms) o =
     with_fact _ _ _ (gives_leads (struct_definition e x ms) (struct_definition f x ms) (λ _. no_output) (struct_leads e f w x ms))
     (λ c g. let k = on_fine (struct_definition e x ms) (λ _. fine no_output) c g in (same_tags _ _ (struct_twin e f w x ms k.0 k.1) (struct_item at x ms), refl, refl))
 other_item_leads e f w b n (enum_item at x es) o =
-    let e' : Env = behind_enum_tag e x in
-    let f' : Env = behind_enum_tag f x in
-    let Q : Type 0 = FilesBeside (behind_enumerators e' (fine (pos 0)) es) (behind_enumerators f' (fine (pos 0)) es) in
-    weaken (Unit {0} × Q) _ _ _ (λ h. (same_tags _ _ h.1 (enum_item at x es), refl, refl))
-    (both_to (Unit {0}) Q (new_enum e x) (new_enum f x) (enumerators e' (fine (pos 0)) es) (enumerators f' (fine (pos 0)) es) (λ _ _. fine no_output) (λ _ _. fine no_output)
-    (new_enum_leads e f w x) (λ _ _ _. enumerators_lead e' f' (enum_tag_files e f w x) (fine (pos 0)) (fine (pos 0)) (refl, tt) es) (λ _ _. (refl, tt)))
+    let e' : Env = behind_enumerators e (fine (pos 0)) es in
+    let f' : Env = behind_enumerators f (fine (pos 0)) es in
+    let Q : Type 0 = FilesBeside e' f' in
+    let ts : List Name = tags_of_enumerators es in
+    weaken (Unit {0} × Q) _ _ _ (λ h. (same_tags _ _ (enum_tag_files e' f' h.1 x) (enum_item at x es), refl, refl))
+    (both_to (Unit {0}) Q (new_enum e x ts) (new_enum f x ts) (enumerators e (fine (pos 0)) es) (enumerators f (fine (pos 0)) es) (λ _ _. fine no_output) (λ _ _. fine no_output)
+    (new_enum_leads e f w x ts) (λ _ _ _. enumerators_lead e f w (fine (pos 0)) (fine (pos 0)) (refl, tt) es) (λ _ _. (refl, tt)))
 other_item_leads e f w b n (tag_item at x) o = always _ _ _ (same_tags _ _ w (tag_item at x), refl, refl) (gives_leads (tag_declaration e x) (tag_declaration f x) (λ _. no_output) (tag_declaration_leads e f w x))
 other_item_leads e f w b n (decl_item at d) o = weaken _ _ _ _ (λ h. (same_tags _ _ h.0 (decl_item at d), h.1, h.2)) (decl_leads d e f w b n)
 other_item_leads e f w b n (function_item at class s d body) o = absurd o

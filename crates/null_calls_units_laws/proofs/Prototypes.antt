@@ -9,10 +9,10 @@ use Rattle.c_syntax.specs.Tree.{Ident, Declarator, no_init, more_params, no_para
 use Rattle.c_syntax.specs.Tree as syntax
 use Rattle.c_rules.specs.Checked.{fine, on, both, demand, and_also, met}
 use Rattle.c_rules.specs.Codes.{C2, C11, C12, C13}
-use Rattle.c_rules.specs.Names.{Name, number_among, is_among, given_names, given_types, may_be_declared, with_new}
+use Rattle.c_rules.specs.Names.{Name, number_among, is_among, given_names, given_types, may_be_declared, with_new, is_given_type}
 use Rattle.c_rules.specs.Scopes.{Env, Binding, a_function, Whole, empty_env, lookup, at_depth, Before}
 use Rattle.c_rules.specs.Expressions.{type_declared}
-use Rattle.c_rules.specs.Functions.{is_given_type, given_as, is_few, may_follow_function, is_defined_by, behind_function, function_declared}
+use Rattle.c_rules.specs.Functions.{given_as, is_few, may_follow_function, is_defined_by, behind_function, function_declared}
 use Rattle.c_rules.specs.Items.{Output, no_output, with_output, prototype, item, behind_item, items, behind_items, after_items, with_tags}
 use Rattle.null_calls_rules.specs.Temporaries.{pre_name, post_name}
 use Rattle.null_calls_rules.specs.Instrumented.{null_prototype}

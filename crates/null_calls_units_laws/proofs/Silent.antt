@@ -17,8 +17,8 @@ use Rattle.c_rules.specs.UnaryExpressions.{indirection}
 use Rattle.c_rules.specs.Assignments.{assignment_by, comma_of}
 use Rattle.c_rules.specs.Declarators.{is_void_pointer}
 use Rattle.c_rules.specs.Expressions.{value_at, place_at, access, after_operand, before_operand, unary_rule, infix_rule, cast_rule, tree, trees, type_named, value}
-use Rattle.c_rules.specs.Initialisers.{Slots, copies, each, slots, capacity, takes_list, count_inits, text_of, defined_cell, cell_of, scalar_cell, array_cells, cells_of_one, cells_of_list, after_init, calls_of_init, calls_of_inits, calls_of_maybe_init, initialised, in_turn, initialised_static}
-use Rattle.c_rules_laws.proofs.Holding.{Holds, on_holds, both_hold, demand_holds, behind_demand}
+use Rattle.c_rules.specs.Initialisers.{Slots, copies, each, slots, capacity, takes_list, count_inits, text_of, defined_cell, cell_of, scalar_cell, array_cells, cells_of_one, cells_of_list, after_init, calls_of_init, calls_of_inits, calls_of_maybe_init, initialised, in_turn, initialised_static, text_fits}
+use Rattle.c_rules_laws.proofs.Holding.{Holds, on_holds, both_hold, demand_holds, behind_demand, after_part}
 use Rattle.c_rules_laws.proofs.SitesOfTypedExpressions.{IsConst, SitesAre, as_if_sites}
 use Rattle.c_rules_laws.proofs.SitesOfExpressions.{Span, Counted, value_counted}
 use Rattle.null_calls_units_laws.specs.FileScopes.{at_site}
@@ -54,7 +54,7 @@ mutual
   init_silent (one at x) env e b void = tt
   init_silent (one at x) env e b (integer i) = scalar_silent env e b at (integer i) x
   init_silent (one at x) env e b (pointer t) = scalar_silent env e b at (pointer t) x
-  init_silent (one at x) env e b (array t n) = array_silent at t n x
+  init_silent (one at x) env e b (array t n) = after_part (λ _. calls x ≡ 0) (text_fits at (text_of x)) (λ _. array_cells at t n (text_of x)) (λ _. array_silent at t n x)
   init_silent (one at x) env e b (struct s) = tt
   init_silent (one at x) env e b (function t ts) = tt
   init_silent (list at is) env e b t = list_silent (calls_of_inits is) (takes_list t) at (capacity (slots env t)) (count_inits is) (in_turn env b true (slots env t) is) (turn_silent is env e b (slots env t))

@@ -10,7 +10,7 @@ use Rattle.c_shapes.specs.Mentions.{Mention}
 use Rattle.c_syntax.specs.Tree.{Ident, Spec, Declarator, MaybeInit, Parts, no_parts, more_parts, Decl, decl, Expr, Maybe, absent, there, First, first_absent, first_expr, first_decl}
 use Rattle.c_syntax.specs.Tree.{Stmt, block, empty, evaluate, only_if, if_else, while_loop, do_loop, for_loop, switch_on, break_off, continue_on, return_from}
 use Rattle.c_syntax.specs.Tree.{BlockItems, no_block_items, block_decl, block_stmt, Stmts, no_stmts, more_stmts, Groups, no_groups, more_groups}
-use Rattle.c_rules.specs.Checked.{Checked, fine, faulty, on, both, beside, Met}
+use Rattle.c_rules.specs.Checked.{Checked, fine, faulty, on, both, beside, Met, gives}
 use Rattle.c_rules.specs.Names.{Name, is_added}
 use Rattle.c_rules.specs.Types.{is_scalar, is_void}
 use Rattle.c_rules.specs.Scopes.{Env, Binding, Meaning, a_static, a_local, a_function, an_enumerator, unknown, inside, with_name, lookup, meaning_or_unknown, Before}
@@ -19,12 +19,12 @@ use Rattle.c_rules.specs.Tags.{tags_of_spec, tags_of_expr, tags_of_maybe, tags_o
 use Rattle.c_rules.specs.TypedExpression.{TypedExpression, tree_of}
 use Rattle.c_rules.specs.Conversions.{Kind, an_integer, a_pointer, neither, kind_of, as_if_assigned, condition}
 use Rattle.c_rules.specs.PrimaryExpressions.{function_number}
-use Rattle.c_rules.specs.Declarators.{name_of, new_name}
-use Rattle.c_rules.specs.Expressions.{value}
+use Rattle.c_rules.specs.Declarators.{name_of, new_name, place_or}
+use Rattle.c_rules.specs.Expressions.{value, type_declared}
 use Rattle.c_rules.specs.Initialisers.{calls_of_maybe_init, initialised_local, stores_from}
 use Rattle.c_rules.specs.Objects.{Object, object_declared}
 use Rattle.c_rules.specs.Variables.{Next, number_in, past_names, names_of_decl, names_of_first, names_of_stmt, names_of_stmts, calls_of_parts, calls_of_decl, calls_of_first, calls_of_stmt, calls_of_block, calls_of_stmts, calls_of_groups}
-use Rattle.c_rules.specs.Blocks.{within_local, behind_named, behind_part, past_part, behind_parts, behind_decl, behind_first, after_part, after_decl, after_first, after_stmt, after_stmts, StatementTree, bare, with_tree, joined, one_more, alone, appended, some_more, laid_variable, local_of, local_named, local_part, local_parts, local_decl}
+use Rattle.c_rules.specs.Blocks.{within_local, behind_named, behind_part, past_part, behind_parts, behind_decl, behind_first, after_part, after_decl, after_first, after_stmt, after_stmts, StatementTree, bare, with_tree, joined, one_more, alone, appended, some_more, laid_variable, local_of, local_named, local_part, local_parts, local_decl, is_given, local}
 use Rattle.c_rules.specs.Statements.{Around, in_loop, in_switch, condition_at, test_of, step_of, first_of, for_of, switched_kind, switched, label_type, labels_of, Labelled, labelled, switch_of, returned, stmt, items_of_block, stmts, groups_of_switch}
 use Rattle.null_calls_rules.specs.MarkedCalls.{sites_of}
 use Rattle.null_calls_rules.specs.Temporaries.{Temporary}
@@ -36,7 +36,7 @@ use Rattle.null_calls_expressions_laws.specs.Tabled.{AreTabled}
 use Rattle.null_calls_statements_laws.specs.Initialisers.{MaybeInitTabled}
 use Rattle.null_calls_statements_laws.specs.Declarations.{NamedTabled, PartsTabled, DeclTabled, FirstTabled}
 use Rattle.null_calls_statements_laws.specs.Statements.{MaybeTabled, StmtTabled, BlockTabled, StmtsTabled, GroupsTabled}
-use Rattle.c_rules_laws.proofs.Holding.{Holds, holds_map, on_holds, both_hold, all_three_hold, Any, anything, demand_holds}
+use Rattle.c_rules_laws.proofs.Holding.{Holds, holds_map, on_holds, both_hold, all_three_hold, Any, anything, demand_holds, alone_holds}
 use Rattle.null_calls_units_laws.specs.CallsIn.{calls_in, calls_in_maybe, calls_in_stmt, calls_in_stmts, calls_in_groups}
 use Rattle.null_calls_units_laws.specs.ClosedTypes.{MeaningHas}
 use Rattle.null_calls_units_laws.specs.WrittenTypes.{Written}
@@ -96,15 +96,15 @@ module _ (p : Program) (enums tags stood : List Name) where
   abbrev ObjectGood : Object → Type 0
   ObjectGood = ObjectWritten enums tags stood
 
-  whole_good : (env : Env) (k : ℕ) (x : Ident) (r : Checked Object) (n : Checked Met) → Scope env → Holds ObjectGood r → Scope (with_name env x.name (meaning_or_unknown (both r n (λ (o : Object) _. fine (a_local k o.whole o.whole)))))
+  whole_good : (env : Env) (k : ℕ) (x : Ident) (r : Checked Object) (n : Checked Met) → Scope env → Holds ObjectGood r → Scope (with_name env x.name (meaning_or_unknown (on r (λ (o : Object). gives n (λ _. a_local k o.whole o.whole)))))
   whole_good env k x (fine o) (fine a) w h = named_scope env x.name (a_local k o.whole o.whole) w h.1 tt
   whole_good env k x (fine o) (faulty f fs) w h = named_scope env x.name (unknown f fs) w tt tt
-  whole_good env k x (faulty f fs) n w h = named_scope env x.name (meaning_or_unknown (both {A = Object} (faulty f fs) n (λ o _. fine (a_local k o.whole o.whole)))) w tt tt
+  whole_good env k x (faulty f fs) n w h = named_scope env x.name (unknown f fs) w tt tt
 
-  seen_good : (env : Env) (k : ℕ) (x : Ident) (r : Checked Object) (n : Checked Met) → Scope env → Holds ObjectGood r → Scope (with_name env x.name (meaning_or_unknown (both r n (λ (o : Object) _. fine (a_local k o.seen o.whole)))))
+  seen_good : (env : Env) (k : ℕ) (x : Ident) (r : Checked Object) (n : Checked Met) → Scope env → Holds ObjectGood r → Scope (with_name env x.name (meaning_or_unknown (on r (λ (o : Object). gives n (λ _. a_local k o.seen o.whole)))))
   seen_good env k x (fine o) (fine a) w h = named_scope env x.name (a_local k o.seen o.whole) w h.0 tt
   seen_good env k x (fine o) (faulty f fs) w h = named_scope env x.name (unknown f fs) w tt tt
-  seen_good env k x (faulty f fs) n w h = named_scope env x.name (meaning_or_unknown (both {A = Object} (faulty f fs) n (λ o _. fine (a_local k o.seen o.whole)))) w tt tt
+  seen_good env k x (faulty f fs) n w h = named_scope env x.name (unknown f fs) w tt tt
 
   named_behind : (env : Env) → Scope env → (next : Next) (at : ℕ) (s : Spec) (d : Declarator) (m : MaybeInit) (o : Option Ident) → AreKnownTags enums tags stood (tags_of_spec s ++ tags_of_declarator d) → Scope (behind_named env next at s d m o)
   named_behind env w next at s d m None k = w
@@ -168,7 +168,9 @@ module _ (p : Program) (enums tags stood : List Name) where
 
   named_passes : (env : Env) → Scope env → (b : Before) (next : Next) (at : ℕ) (s : Spec) (d : Declarator) (m : MaybeInit) (o : Option Ident) → Known (tags_of_spec s ++ tags_of_declarator d) → MaybeInitNamesNoType m → Holds (StmtTells (NamedPasses env b next at s d m o)) (local_named env b next at s d m o)
   named_passes env w b next at s d m None k l = tt
-  named_passes env w b next at s d m (Some x) k l = by_object (object_declared env at s d x m) refl
+  named_passes env w b next at s d m (Some x) k l =
+      alone_holds (StmtTells (NamedPasses env b next at s d m (Some x))) (is_given env x.name (type_declared env at s d)) 3 (place_or at d) (local env b next x m (object_declared env at s d x m))
+      (by_object (object_declared env at s d x m) refl)
     where
       by_object : (q : Checked Object) → object_declared env at s d x m ≡ q → Holds (StmtTells (NamedPasses env b next at s d m (Some x))) (both (new_name env x) (on q (local_of (within_local env next x (object_declared env at s d x m)) b next x m)) (λ _ p. fine p))
       by_object (fine o) e =

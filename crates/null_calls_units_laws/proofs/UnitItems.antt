@@ -7,7 +7,7 @@ use Rattle.c_rules.specs.Names.{Name}
 use Rattle.c_rules.specs.Scopes.{Env, Before}
 use Rattle.c_rules.specs.Declarators.{name_of}
 use Rattle.c_rules.specs.Functions.{declares_function, function_declared}
-use Rattle.c_rules.specs.Items.{Output, no_output, with_output, static_of, struct_definition, tag_declaration, new_enum, enumerators, behind_enum_tag, defines, global_declared, definition_of, within_global, global, without_init, declared_part, named_part, behind_file_part, after_file_part, file_parts, file_decl, item, behind_item, after_item, items, behind_items, after_items}
+use Rattle.c_rules.specs.Items.{Output, no_output, with_output, static_of, struct_definition, tag_declaration, new_enum, enumerators, defines, global_declared, definition_of, within_global, global, without_init, declared_part, named_part, behind_file_part, after_file_part, file_parts, file_decl, item, behind_item, after_item, items, behind_items, after_items}
 use Rattle.null_calls_rules.specs.MarkedCalls.{sites_of}
 use Rattle.null_calls_rules.specs.Instrumented as units
 use Rattle.null_calls_rules.specs.Instrumented.{calls_of_item}
@@ -53,7 +53,7 @@ decl_none (decl at class s ps) e b = parts_none ps e b at class s
 
 other_none : (i : Item) → IsOther i → (e : Env) (b : Before) → Holds NoFunctions (item e b i)
 other_none (struct_item at x ms) o e b = behind_any NoFunctions (struct_definition e x ms) (λ _. fine no_output) (λ _. refl)
-other_none (enum_item at x es) o e b = both_hold Any Any NoFunctions (new_enum e x) (enumerators (behind_enum_tag e x) (fine _) es) (λ _ _. fine no_output) (anything _) (anything _) (λ _ _ _ _. refl)
+other_none (enum_item at x es) o e b = both_hold Any Any NoFunctions (new_enum e x _) (enumerators e (fine _) es) (λ _ _. fine no_output) (anything _) (anything _) (λ _ _ _ _. refl)
 other_none (tag_item at x) o e b = behind_any NoFunctions (tag_declaration e x) (λ _. fine no_output) (λ _. refl)
 other_none (decl_item at d) o e b = decl_none d e b
 other_none (function_item at class s d body) o e b = absurd o

@@ -1,0 +1,6 @@
+use Rattle.std.proofs.Common.{sym, ◌∙◌}
+use Rattle.c_check_scopes.proofs.SeenLemmas.{among_reverse}
+use Rattle.c_check_declarations.proofs.tags.is_within.Goals as goal
+
+pub returns : goal.returns
+returns c = c.contains.ensures ∙ sym (among_reverse c.args.within.now c.args.tag.now)

@@ -1,0 +1,22 @@
+ghost use Rattle.std.specs.Prelude.{suc};
+ghost use Rattle.c_check_values.specs.Agreement.{AgreesWith};
+ghost use Rattle.c_rules.specs.Checked.{met};
+ghost use Rattle.c_rules.specs.PrimaryExpressions.{few_cells};
+
+use crate::codes::C13;
+use crate::error::CheckError;
+
+/// The limit on a string of so many bytes and its zero, which holds where it initialises an array too (C99 5.2.4.1).
+pub fn few_cells(at: u32, bytes: usize) -> Result<(), CheckError>
+    ensures { AgreesWith (λ _. met) result (few_cells at (suc bytes)) }
+{
+    match bytes.checked_add(1) {
+        Some(cells) => {
+            if cells > 65_536 {
+                return Err(CheckError::At(C13, at));
+            }
+            Ok(())
+        }
+        None => Err(CheckError::OutOfMemory),
+    }
+}
