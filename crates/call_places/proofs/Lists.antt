@@ -1,0 +1,74 @@
+-- What lists of trees hold, one after another.
+use Rattle.std.proofs.Common.{◌≡◌, ℕ, ◌≤◌, List, [], ◌∷◌, ◌++◌, length, take, Result, Ok, Err, OnOk, refl, sym, ap, ◌∙◌, append-nil}
+use Rattle.std.specs.Prelude.{flat_map}
+use Rattle.std.proofs.lemmas.List.{take_all, append_assoc}
+use Rattle.c_syntax.specs.declared.tree.Expr.{Expr as ExprTree}
+use Rattle.c_syntax.specs.declared.tree.Init.{Init as InitTree}
+use Rattle.c_syntax.specs.declared.tree.DeclPart.{DeclPart}
+use Rattle.c_syntax.specs.declared.tree.BlockItem.{BlockItem, Declaration, Statement'}
+use Rattle.c_syntax.specs.declared.tree.Stmt.{Stmt as StmtTree}
+use Rattle.c_syntax.specs.declared.tree.Group.{Group, Group'}
+use Rattle.c_syntax.specs.declared.tree.Item.{Item as ItemTree}
+use Rattle.c_syntax.specs.View.{expr_of}
+use Rattle.c_syntax.specs.UnitView.{init_of, maybe_init_of, parts_of, decl_of, stmt_at, stmt_of, stmts_of_row, items_of, item_at}
+use Rattle.c_syntax.specs.Writes.{exprs_of}
+use Rattle.c_syntax.specs.WritesUnit.{inits_of, block_items_of, stmts_of, groups_of}
+use Rattle.call_places.specs.CallPlaces.{call_places_of_item, call_places}
+use Rattle.call_places.specs.Places.{places, places_of_all, places_of_init, places_of_inits, places_of_maybe_init, places_of_parts, places_of_decl, places_of_stmt, places_of_block, places_of_stmts, places_of_groups}
+use Rattle.call_places.specs.Seen.{places_of_block_item, places_of_group}
+
+one_more : {Y : Type 0} (a r s : List Y) → r ≡ s → a ++ r ≡ (a ++ []) ++ s
+one_more a r s e = ap (λ z. a ++ z) e ∙ ap (λ z. z ++ s) (sym (append-nil a))
+
+two_parts : {Y : Type 0} (old mid new a b : List Y) → mid ≡ old ++ a → new ≡ mid ++ b → new ≡ old ++ (a ++ b)
+two_parts old mid new a b first second = second ∙ ap (λ ys. ys ++ b) first ∙ append_assoc old a b
+
+pub exprs_flat : (es : List ExprTree) → places_of_all (exprs_of es) ≡ flat_map (λ e. places (expr_of e)) es
+exprs_flat [] = refl
+exprs_flat (e ∷ es) = ap (λ xs. places (expr_of e) ++ xs) (exprs_flat es)
+
+pub inits_flat : (is : List InitTree) → places_of_inits (inits_of is) ≡ flat_map (λ i. places_of_init (init_of i)) is
+inits_flat [] = refl
+inits_flat (i ∷ is) = ap (λ xs. places_of_init (init_of i) ++ xs) (inits_flat is)
+
+pub parts_flat : (ps : List DeclPart) → places_of_parts (parts_of ps) ≡ flat_map (λ p. places_of_maybe_init (maybe_init_of p.init)) ps
+parts_flat [] = refl
+parts_flat (p ∷ ps) = ap (λ xs. places_of_maybe_init (maybe_init_of p.init) ++ xs) (parts_flat ps)
+
+pub block_flat : (is : List BlockItem) → places_of_block (block_items_of is) ≡ flat_map places_of_block_item is
+block_flat [] = refl
+block_flat (Declaration d ∷ is) = one_more (places_of_decl (decl_of d)) (places_of_block (block_items_of is)) (flat_map places_of_block_item is) (block_flat is)
+block_flat (Statement' at kind ∷ is) = one_more (places_of_stmt (stmt_at at kind)) (places_of_block (block_items_of is)) (flat_map places_of_block_item is) (block_flat is)
+
+pub stmts_flat : (ss : List StmtTree) → places_of_stmts (stmts_of ss) ≡ flat_map (λ s. places_of_stmt (stmt_of s)) ss
+stmts_flat [] = refl
+stmts_flat (s ∷ ss) = ap (λ xs. places_of_stmt (stmt_of s) ++ xs) (stmts_flat ss)
+
+pub groups_flat : (gs : List Group) → places_of_groups (groups_of gs) ≡ flat_map places_of_group gs
+groups_flat [] = refl
+groups_flat (Group' labels shape row ∷ gs) = one_more (places_of_stmts (stmts_of_row row)) (places_of_groups (groups_of gs)) (flat_map places_of_group gs) (groups_flat gs)
+
+pub items_flat : (is : List ItemTree) → call_places (items_of is) ≡ flat_map (λ i. call_places_of_item (item_at i.at i.kind)) is
+items_flat [] = refl
+items_flat (i ∷ is) = ap (λ xs. call_places_of_item (item_at i.at i.kind) ++ xs) (items_flat is)
+
+-- ## Loops
+
+-- a loop that adds for each item what it has, at its end
+module _ {X Y : Type 0} (f : X → List Y) (xs : List X) where
+  pub all_flat : (i : ℕ) (start new whole : List Y) → length xs ≤ i → whole ≡ flat_map f xs → new ≡ start ++ flat_map f (take i xs) → new ≡ start ++ whole
+  all_flat i start new whole over e is = is ∙ ap (λ ys. start ++ flat_map f ys) (take_all i xs over) ∙ ap (λ ys. start ++ ys) (sym e)
+
+-- ## Clauses of calls by other words
+
+pub on_same : {E Y : Type 0} (r : Result (Unit {0}) E) (old new m b : List Y) → m ≡ b → OnOk r (new ≡ old ++ b) → OnOk r (new ≡ old ++ m)
+on_same (Ok u) old new m b e is = is ∙ ap (λ ms. old ++ ms) (sym e)
+on_same (Err x) old new m b e is = is
+
+pub then_on : {E Y : Type 0} (r : Result (Unit {0}) E) (old mid new a b m : List Y) → mid ≡ old ++ a → m ≡ a ++ b → OnOk r (new ≡ mid ++ b) → OnOk r (new ≡ old ++ m)
+then_on (Ok u) old mid new a b m first e is = two_parts old mid new a b first is ∙ ap (λ ms. old ++ ms) (sym e)
+then_on (Err x) old mid new a b m first e is = is
+
+pub two_then_on : {E Y : Type 0} (r : Result (Unit {0}) E) (old mid next new a b d m : List Y) → mid ≡ old ++ a → next ≡ mid ++ b → m ≡ a ++ (b ++ d) → OnOk r (new ≡ next ++ d) → OnOk r (new ≡ old ++ m)
+two_then_on r old mid next new a b d m first second e is =
+    then_on r old next new (a ++ b) d m (two_parts old mid next a b first second) (e ∙ sym (append_assoc a b d)) is
