@@ -11,15 +11,15 @@ use Rattle.generated_program.specs.Pieces.{front_text, function_text, main_text}
 zero_is : decimal 0 ≡ 48 ∷ []
 zero_is = decimal_digit 0 (omega arith)
 
-front_written : (k : Kinds) → kinds_text (item_kinds (prototype (codes "getpid")) (item_kinds (prototype (codes "getppid")) (item_kinds first_function k))) ≡ front_text ++ kinds_text k
+pub front_written : (k : Kinds) → kinds_text (item_kinds (prototype (codes "getpid")) (item_kinds (prototype (codes "getppid")) (item_kinds first_function k))) ≡ front_text ++ kinds_text k
 unfolding keywords punctuators
 front_written k = rw zero_is refl
 
-function_written : (x i : ℕ) (k : Kinds) → kinds_text (item_kinds (later_function x i) k) ≡ function_text i (called_by x i) (system_call_by x) ++ kinds_text k
+pub function_written : (x i : ℕ) (k : Kinds) → kinds_text (item_kinds (later_function x i) k) ≡ function_text i (called_by x i) (system_call_by x) ++ kinds_text k
 unfolding keywords punctuators
 function_written x i k = rw zero_is (simp append_assoc)
 
-main_written : (last : ℕ) → kinds_text (item_kinds (main_function last) []) ≡ main_text last
+pub main_written : (last : ℕ) → kinds_text (item_kinds (main_function last) []) ≡ main_text last
 unfolding keywords punctuators
 main_written last = rw zero_is refl
 
