@@ -52,8 +52,8 @@ fn are_followed(
     Ok(true)
 }
 
-// The fact with which a run begins.
-fn start_of(model: &Model, judge: Judge) -> Fact
+/// The fact with which a run begins.
+pub fn start_of(model: &Model, judge: Judge) -> Fact
     ensures model { IsOfModel judge result }
     ensures start { IsStart model.now result }
     ensures only { (y : Fact') → IsOfModel judge y → IsStart model.now y → result ≡ y }

@@ -10,5 +10,6 @@ mod error;
 mod known;
 mod reasons;
 
+pub use closed::start_of;
 pub use confirming::confirm;
 pub use error::ConfirmError;

@@ -1,2 +1,3 @@
+pub mod Certify
 pub mod Confirm
 pub mod Stopping

@@ -1,13 +1,15 @@
--- For private contracts and proofs alone: the stops of a certificate that was refused.
-use Rattle.std.specs.Prelude.{◌≡◌, ◌≢◌, ℕ, List}
+-- For private contracts and proofs alone: the stops of a certificate that was refused, or not made.
+use Rattle.std.specs.Prelude.{◌≡◌, ◌≢◌, ℕ, List, codes}
 use Rattle.dm_base.specs.declared.event.Event.{Event}
 use Rattle.flow_model.specs.Graph.{Graph}
 use Rattle.flow_model.specs.Verdict.{IsVerdict}
 use Rattle.certify_facts.specs.Confirms.{Confirms, which_of}
+use Rattle.certify_facts.specs.declared.fact.Judge.{Judge}
 use Rattle.certify_facts.specs.Told.{Told}
 use Rattle.certify.specs.declared.error.ConfirmError.{ConfirmError}
 use Rattle.certify.specs.declared.error.ConfirmError.TheVariants as claims
 use Rattle.certify.specs.Refusals.{IsRefusal}
+use Rattle.certify_making.specs.Made.{HasTooMany}
 use Rattle.tool_frame.specs.declared.stop.Stop.{Stop}
 use Rattle.tool_frame.specs.declared.stop.Stop.TheVariants as stops
 use Rattle.tool_certify.specs.Confirm.{confirmed_text, confirm_refusal}
@@ -37,3 +39,13 @@ pub record IsShown (g : Graph) (t : List Event) (c : Told) (text : List ℕ) : T
   pub confirms : Confirms g t c
   pub verdict : (bound : ℕ) → IsVerdict (which_of c.judge) g bound t c.verdict
   pub is : text ≡ confirmed_text c.judge c.verdict
+
+-- why a certificate wasn't made
+abbrev pub StopsMaking : Stop → Judge → Graph → List Event → Type 0
+StopsMaking stops.Usage judge g t = ⊥
+StopsMaking (stops.Source own) judge g t = ⊥
+StopsMaking (stops.Model own) judge g t = ⊥
+StopsMaking (stops.Record own) judge g t = (own.items ≡ codes "record refused Q3\n") × HasTooMany judge g t
+StopsMaking stops.Read judge g t = ⊥
+StopsMaking stops.Write judge g t = ⊥
+StopsMaking stops.OutOfMemory judge g t = Unit {0}

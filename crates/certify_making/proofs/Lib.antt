@@ -1,0 +1,10 @@
+pub mod AheadLemmas
+pub mod DeepestLemmas
+pub mod DepthLemmas
+pub mod FewLemmas
+pub mod GroundLemmas
+pub mod GrowingLemmas
+pub mod KeyLemmas
+pub mod MadeLemmas
+pub mod PairLemmas
+pub mod TurnLemmas

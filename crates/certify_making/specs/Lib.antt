@@ -1,0 +1,5 @@
+pub mod Made
+pub mod Adding
+pub mod Notes
+pub mod Pairs
+pub mod Ahead
