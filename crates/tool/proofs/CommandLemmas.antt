@@ -8,10 +8,13 @@ use Rattle.dm_base.specs.declared.verdict.Status.TheVariants as statuses
 use Rattle.dm_io.specs.Store.{Files}
 use Rattle.tool_audit.proofs.FileLemmas.{audit_ready, audit_apart, audit_status, audit_made}
 use Rattle.tool_audit.specs.Audit.{IsAuditStatus}
+use Rattle.certify_facts.specs.declared.fact.Judge.{Judge as CertifiedModel}
+use Rattle.certify_facts.specs.declared.fact.Judge.TheVariants as judges
 use Rattle.flow_model.specs.declared.which.Which.{Which}
 use Rattle.flow_model.specs.declared.which.Which.TheVariants as whiches
 use Rattle.report.specs.VerdictLine.{word_of}
 use Rattle.tool_fleet.proofs.FileLemmas.{fleet_ready, fleet_apart, fleet_status}
+use Rattle.tool_certify.proofs.CertifyFiles.{certify_ready, certify_apart, certify_status}
 use Rattle.tool_certify.proofs.FileLemmas.{confirm_ready, confirm_apart, confirm_status}
 use Rattle.tool_inline.proofs.DepthLemmas.{depth_ready, depth_apart, depth_status}
 use Rattle.tool_inline.proofs.InlineLemmas.{inline_ready, inline_apart, inline_status}
@@ -24,10 +27,10 @@ use Rattle.tool_models.proofs.FileLemmas.{watch_ready, upgrade_ready, judged_apa
 use Rattle.tool_reading.proofs.FileLemmas.{picture_ready, picture_apart, picture_status}
 use Rattle.tool_run.proofs.FileLemmas.{run_ready, run_apart, run_status}
 use Rattle.tool_texts.proofs.FileLemmas.{check_ready, checked_apart, check_status, model_ready, modelled_apart, model_status}
-use Rattle.tool.specs.Command.{Command, IsCommandLine, IsAskedBy}
+use Rattle.tool.specs.Command.{Command, IsCommandLine, IsAskedBy, judge_word}
 use Rattle.tool.specs.Command.{FileCommand, TraceCommand, file_word, trace_word, WordCommand, command_word}
 use Rattle.tool.specs.Command.FileCommand.{Check, Depth, Inline, Instrument, Model, Picture, Upgrade}
-use Rattle.tool.specs.Command.Command.{Version, OfWord, OfFile, OfTrace, Measure, Fleet, Run, Audit, Confirm}
+use Rattle.tool.specs.Command.Command.{Version, OfWord, OfFile, OfTrace, Measure, Fleet, Run, Audit, Confirm, Certify}
 use Rattle.tool.specs.Command.WordCommand.{Help, Codes}
 use Rattle.tool.specs.Command.TraceCommand.{Judge, Watch}
 use Rattle.tool.specs.Commands.{Makes, Refuses, IsReady}
@@ -67,6 +70,17 @@ of_which whiches.Dyck = refl
 one_which : (which other : Which) → word_of which ≡ word_of other → which ≡ other
 one_which which other same = sym (of_which which) ∙ ap (λ (w : List ℕ). which_of (get_or w 0 0)) same ∙ of_which other
 
+-- the model that a word names, told by its first byte
+abbrev judge_of : ℕ → CertifiedModel
+judge_of byte = if nat_eq byte 99 then judges.Callgraph else judges.Stack
+
+of_judge : (which : CertifiedModel) → judge_of (get_or (judge_word which) 0 0) ≡ which
+of_judge judges.Callgraph = refl
+of_judge judges.Stack = refl
+
+one_judge : (which other : CertifiedModel) → judge_word which ≡ judge_word other → which ≡ other
+one_judge which other same = sym (of_judge which) ∙ ap (λ (w : List ℕ). judge_of (get_or w 0 0)) same ∙ of_judge other
+
 abbrev trace_command_of : ℕ → TraceCommand
 trace_command_of byte = if nat_eq byte 106 then Judge else Watch
 
@@ -104,10 +118,6 @@ of_file_command Upgrade = refl
 one_file_command : (which other : FileCommand) → file_word which ≡ file_word other → which ≡ other
 one_file_command which other same = sym (of_file_command which) ∙ ap (λ (w : List ℕ). file_command_of (get_or w 2 0)) same ∙ of_file_command other
 
--- the first letter of the words' first word
-letter : (words : List (List ℕ)) (a b : List ℕ) (s t : List (List ℕ)) → words ≡ a ∷ s → words ≡ b ∷ t → get_or a 0 0 ≡ get_or b 0 0
-letter words a b s t one two = ap (λ (ws : List (List ℕ)). get_or (get_or ws 0 []) 0 0) (sym one ∙ two)
-
 no_clash : false ≡ true → ⊥
 no_clash same = cc same
 
@@ -116,29 +126,11 @@ no_version : (which : WordCommand) → codes "--version" ≡ command_word which 
 no_version Help same = no_clash (ap (λ (w : List ℕ). nat_eq (get_or w 2 0) 104) same)
 no_version Codes same = no_clash (ap (λ (w : List ℕ). nat_eq (get_or w 0 0) 99) same)
 
-judge_is_not_audit : ◌≡◌ {A = ℕ} 106 97 → ⊥
-judge_is_not_audit same = no_clash (ap (λ (n : ℕ). nat_eq n 97) same)
-
-watch_is_not_audit : ◌≡◌ {A = ℕ} 119 97 → ⊥
-watch_is_not_audit same = no_clash (ap (λ (n : ℕ). nat_eq n 97) same)
-
-judge_is_not_fleet : ◌≡◌ {A = ℕ} 106 102 → ⊥
-judge_is_not_fleet same = no_clash (ap (λ (n : ℕ). nat_eq n 102) same)
-
-watch_is_not_fleet : ◌≡◌ {A = ℕ} 119 102 → ⊥
-watch_is_not_fleet same = no_clash (ap (λ (n : ℕ). nat_eq n 102) same)
-
-judge_is_not_confirm : ◌≡◌ {A = ℕ} 106 99 → ⊥
-judge_is_not_confirm same = no_clash (ap (λ (n : ℕ). nat_eq n 99) same)
-
-watch_is_not_confirm : ◌≡◌ {A = ℕ} 119 99 → ⊥
-watch_is_not_confirm same = no_clash (ap (λ (n : ℕ). nat_eq n 99) same)
-
-measure_is_not_confirm : ◌≡◌ {A = ℕ} 109 99 → ⊥
-measure_is_not_confirm same = no_clash (ap (λ (n : ℕ). nat_eq n 99) same)
-
-run_is_not_confirm : ◌≡◌ {A = ℕ} 114 99 → ⊥
-run_is_not_confirm same = no_clash (ap (λ (n : ℕ). nat_eq n 99) same)
+-- two words that differ in a letter don't both begin the words
+apart : (words : List (List ℕ)) (i x y : ℕ) (a b : List ℕ) (s t : List (List ℕ)) → get_or a i 0 ≡ x → get_or b i 0 ≡ y → nat_eq x y ≡ false → nat_eq y y ≡ true → words ≡ a ∷ s → words ≡ b ∷ t → ⊥
+apart words i x y a b s t one two differ itself line next =
+    let letter : get_or a i 0 ≡ get_or b i 0 = ap (λ (ws : List (List ℕ)). get_or (get_or ws 0 []) i 0) (sym line ∙ next) in
+    no_clash (sym differ ∙ ap (λ (n : ℕ). nat_eq n y) (sym one ∙ letter ∙ two) ∙ itself)
 
 -- words ask for one command
 one_command : (c d : Command) (words : List (List ℕ)) → IsCommandLine c words → IsCommandLine d words → c ≡ d
@@ -150,6 +142,8 @@ one_command Version (Measure m t again) words line next = elim line [ inl is ↦
 one_command Version (Fleet m again) words line next = elim line [ inl is ↦ cc (is, next) | inr is ↦ cc (is, next) ]
 one_command Version (Run m t again) words line next = elim line [ inl is ↦ cc (is, next.0) | inr is ↦ cc (is, next.0) ]
 one_command Version (Audit m t again greatest) words line next = elim line [ inl is ↦ cc (is, next.0) | inr is ↦ cc (is, next.0) ]
+one_command Version (Confirm m t q) words line next = elim line [ inl is ↦ cc (is, next) | inr is ↦ cc (is, next) ]
+one_command Version (Certify m t again) words line next = elim line [ inl is ↦ cc (is, next) | inr is ↦ cc (is, next) ]
 one_command (OfWord which) Version words line next = elim next [ inl is ↦ cc (is, line) | inr is ↦ absurd (no_version which (cc (is, line))) ]
 one_command (OfWord which) (OfWord other) words line next =
     let command : which ≡ other = one_word_command which other (cc (line, next)) in
@@ -157,11 +151,11 @@ one_command (OfWord which) (OfWord other) words line next =
 one_command (OfWord which) (OfFile other file) words line next = cc (line, next)
 one_command (OfWord which) (OfTrace other m t again most) words line next = cc (line, next.1)
 one_command (OfWord which) (Measure m t again) words line next = cc (line, next)
-one_command (OfWord which) (Run m t again) words line next = cc (line, next.0)
 one_command (OfWord which) (Fleet m again) words line next = cc (line, next)
+one_command (OfWord which) (Run m t again) words line next = cc (line, next.0)
 one_command (OfWord which) (Audit m t again greatest) words line next = cc (line, next.0)
 one_command (OfWord which) (Confirm m t q) words line next = cc (line, next)
-one_command Version (Confirm m t q) words line next = elim line [ inl is ↦ cc (is, next) | inr is ↦ cc (is, next) ]
+one_command (OfWord which) (Certify m t again) words line next = cc (line, next)
 one_command (OfFile which name) Version words line next = elim next [ inl is ↦ cc (is, line) | inr is ↦ cc (is, line) ]
 one_command (OfFile which name) (OfWord other) words line next = cc (line, next)
 one_command (OfFile which name) (OfFile other file) words line next =
@@ -174,6 +168,7 @@ one_command (OfFile which name) (Fleet m again) words line next = cc (line, next
 one_command (OfFile which name) (Run m t again) words line next = cc (line, next.0)
 one_command (OfFile which name) (Audit m t again greatest) words line next = cc (line, next.0)
 one_command (OfFile which name) (Confirm m t q) words line next = cc (line, next)
+one_command (OfFile which name) (Certify m t again) words line next = cc (line, next)
 one_command (OfTrace command model trace which bound) Version words line next = elim next [ inl is ↦ cc (is, line.1) | inr is ↦ cc (is, line.1) ]
 one_command (OfTrace command model trace which bound) (OfWord other) words line next = cc (line.1, next)
 one_command (OfTrace command model trace which bound) (OfFile other file) words line next = cc (line.1, next)
@@ -184,35 +179,38 @@ one_command (OfTrace command model trace which bound) (OfTrace other m t again m
     let models : model ≡ m = cc (line.1, next.1) in
     let traces : trace ≡ t = cc (line.1, next.1) in
     cc (commands, models, traces, parts.0, parts.1)
-one_command (OfTrace Judge model trace which bound) (Measure m t again) words line next = cc (line.1, next)
-one_command (OfTrace Watch model trace which bound) (Measure m t again) words line next = cc (line.1, next)
-one_command (OfTrace Judge model trace which bound) (Fleet m again) words line next = absurd (judge_is_not_fleet (letter words (trace_word Judge) (codes "fleet") _ _ line.1 next))
-one_command (OfTrace Watch model trace which bound) (Fleet m again) words line next = absurd (watch_is_not_fleet (letter words (trace_word Watch) (codes "fleet") _ _ line.1 next))
-one_command (OfTrace Judge model trace which bound) (Run m t again) words line next = cc (line.1, next.0)
-one_command (OfTrace Judge model trace which bound) (Audit m t again greatest) words line next = absurd (judge_is_not_audit (letter words (trace_word Judge) (codes "audit") _ _ line.1 next.0))
-one_command (OfTrace Watch model trace which bound) (Run m t again) words line next = cc (line.1, next.0)
-one_command (OfTrace Watch model trace which bound) (Audit m t again greatest) words line next = absurd (watch_is_not_audit (letter words (trace_word Watch) (codes "audit") _ _ line.1 next.0))
-one_command (OfTrace Judge model trace which bound) (Confirm m t q) words line next = absurd (judge_is_not_confirm (letter words (trace_word Judge) (codes "confirm") _ _ line.1 next))
-one_command (OfTrace Watch model trace which bound) (Confirm m t q) words line next = absurd (watch_is_not_confirm (letter words (trace_word Watch) (codes "confirm") _ _ line.1 next))
+one_command (OfTrace Judge model trace which bound) (Measure m t again) words line next = absurd (apart words 0 106 109 (trace_word Judge) (codes "measure") _ _ refl refl refl refl line.1 next)
+one_command (OfTrace Watch model trace which bound) (Measure m t again) words line next = absurd (apart words 0 119 109 (trace_word Watch) (codes "measure") _ _ refl refl refl refl line.1 next)
+one_command (OfTrace Judge model trace which bound) (Fleet m again) words line next = absurd (apart words 0 106 102 (trace_word Judge) (codes "fleet") _ _ refl refl refl refl line.1 next)
+one_command (OfTrace Watch model trace which bound) (Fleet m again) words line next = absurd (apart words 0 119 102 (trace_word Watch) (codes "fleet") _ _ refl refl refl refl line.1 next)
+one_command (OfTrace Judge model trace which bound) (Run m t again) words line next = absurd (apart words 0 106 114 (trace_word Judge) (codes "run") _ _ refl refl refl refl line.1 next.0)
+one_command (OfTrace Watch model trace which bound) (Run m t again) words line next = absurd (apart words 0 119 114 (trace_word Watch) (codes "run") _ _ refl refl refl refl line.1 next.0)
+one_command (OfTrace Judge model trace which bound) (Audit m t again greatest) words line next = absurd (apart words 0 106 97 (trace_word Judge) (codes "audit") _ _ refl refl refl refl line.1 next.0)
+one_command (OfTrace Watch model trace which bound) (Audit m t again greatest) words line next = absurd (apart words 0 119 97 (trace_word Watch) (codes "audit") _ _ refl refl refl refl line.1 next.0)
+one_command (OfTrace Judge model trace which bound) (Confirm m t q) words line next = absurd (apart words 0 106 99 (trace_word Judge) (codes "confirm") _ _ refl refl refl refl line.1 next)
+one_command (OfTrace Watch model trace which bound) (Confirm m t q) words line next = absurd (apart words 0 119 99 (trace_word Watch) (codes "confirm") _ _ refl refl refl refl line.1 next)
+one_command (OfTrace Judge model trace which bound) (Certify m t again) words line next = absurd (apart words 0 106 99 (trace_word Judge) (codes "certify") _ _ refl refl refl refl line.1 next)
+one_command (OfTrace Watch model trace which bound) (Certify m t again) words line next = absurd (apart words 0 119 99 (trace_word Watch) (codes "certify") _ _ refl refl refl refl line.1 next)
 one_command (Measure model trace which) Version words line next = elim next [ inl is ↦ cc (is, line) | inr is ↦ cc (is, line) ]
 one_command (Measure model trace which) (OfWord other) words line next = cc (line, next)
 one_command (Measure model trace which) (OfFile other file) words line next = cc (line, next)
-one_command (Measure model trace which) (OfTrace Judge m t again most) words line next = cc (line, next.1)
-one_command (Measure model trace which) (OfTrace Watch m t again most) words line next = cc (line, next.1)
+one_command (Measure model trace which) (OfTrace Judge m t again most) words line next = absurd (apart words 0 109 106 (codes "measure") (trace_word Judge) _ _ refl refl refl refl line next.1)
+one_command (Measure model trace which) (OfTrace Watch m t again most) words line next = absurd (apart words 0 109 119 (codes "measure") (trace_word Watch) _ _ refl refl refl refl line next.1)
 one_command (Measure model trace which) (Measure m t again) words line next =
     let asked : which ≡ again = one_asked which again (cc (line, next)) in
     let models : model ≡ m = cc (line, next) in
     let traces : trace ≡ t = cc (line, next) in
     cc (models, traces, asked)
 one_command (Measure model trace which) (Fleet m again) words line next = cc (line, next)
-one_command (Measure model trace which) (Run m t again) words line next = cc (line, next.0)
+one_command (Measure model trace which) (Run m t again) words line next = absurd (apart words 0 109 114 (codes "measure") (codes "run") _ _ refl refl refl refl line next.0)
 one_command (Measure model trace which) (Audit m t again greatest) words line next = cc (line, next.0)
-one_command (Measure model trace which) (Confirm m t q) words line next = absurd (measure_is_not_confirm (letter words (codes "measure") (codes "confirm") _ _ line next))
+one_command (Measure model trace which) (Confirm m t q) words line next = absurd (apart words 0 109 99 (codes "measure") (codes "confirm") _ _ refl refl refl refl line next)
+one_command (Measure model trace which) (Certify m t again) words line next = absurd (apart words 0 109 99 (codes "measure") (codes "certify") _ _ refl refl refl refl line next)
 one_command (Fleet schedule which) Version words line next = elim next [ inl is ↦ cc (is, line) | inr is ↦ cc (is, line) ]
 one_command (Fleet schedule which) (OfWord other) words line next = cc (line, next)
 one_command (Fleet schedule which) (OfFile other file) words line next = cc (line, next)
-one_command (Fleet schedule which) (OfTrace Judge m t again most) words line next = absurd (judge_is_not_fleet (letter words (trace_word Judge) (codes "fleet") _ _ next.1 line))
-one_command (Fleet schedule which) (OfTrace Watch m t again most) words line next = absurd (watch_is_not_fleet (letter words (trace_word Watch) (codes "fleet") _ _ next.1 line))
+one_command (Fleet schedule which) (OfTrace Judge m t again most) words line next = absurd (apart words 0 102 106 (codes "fleet") (trace_word Judge) _ _ refl refl refl refl line next.1)
+one_command (Fleet schedule which) (OfTrace Watch m t again most) words line next = absurd (apart words 0 102 119 (codes "fleet") (trace_word Watch) _ _ refl refl refl refl line next.1)
 one_command (Fleet schedule which) (Measure m t again) words line next = cc (line, next)
 one_command (Fleet schedule which) (Fleet m again) words line next =
     let asked : which ≡ again = one_which which again (cc (line, next)) in
@@ -221,12 +219,13 @@ one_command (Fleet schedule which) (Fleet m again) words line next =
 one_command (Fleet schedule which) (Run m t again) words line next = cc (line, next.0)
 one_command (Fleet schedule which) (Audit m t again greatest) words line next = cc (line, next.0)
 one_command (Fleet schedule which) (Confirm m t q) words line next = cc (line, next)
+one_command (Fleet schedule which) (Certify m t again) words line next = cc (line, next)
 one_command (Run source results turns) Version words line next = elim next [ inl is ↦ cc (is, line.0) | inr is ↦ cc (is, line.0) ]
 one_command (Run source results turns) (OfWord other) words line next = cc (line.0, next)
 one_command (Run source results turns) (OfFile other file) words line next = cc (line.0, next)
-one_command (Run source results turns) (OfTrace Judge m t again most) words line next = cc (line.0, next.1)
-one_command (Run source results turns) (OfTrace Watch m t again most) words line next = cc (line.0, next.1)
-one_command (Run source results turns) (Measure m t again) words line next = cc (line.0, next)
+one_command (Run source results turns) (OfTrace Judge m t again most) words line next = absurd (apart words 0 114 106 (codes "run") (trace_word Judge) _ _ refl refl refl refl line.0 next.1)
+one_command (Run source results turns) (OfTrace Watch m t again most) words line next = absurd (apart words 0 114 119 (codes "run") (trace_word Watch) _ _ refl refl refl refl line.0 next.1)
+one_command (Run source results turns) (Measure m t again) words line next = absurd (apart words 0 114 109 (codes "run") (codes "measure") _ _ refl refl refl refl line.0 next)
 one_command (Run source results turns) (Fleet m again) words line next = cc (line.0, next)
 one_command (Run source results turns) (Run m t again) words line next =
     let numbers : turns ≡ again = decimal_injective turns again (omega (arith, line.1)) (omega (arith, next.1)) (cc (line.0, next.0)) in
@@ -234,12 +233,13 @@ one_command (Run source results turns) (Run m t again) words line next =
     let records : results ≡ t = cc (line.0, next.0) in
     cc (sources, records, numbers)
 one_command (Run source results turns) (Audit m t again greatest) words line next = cc (line.0, next.0)
-one_command (Run source results turns) (Confirm m t q) words line next = absurd (run_is_not_confirm (letter words (codes "run") (codes "confirm") _ _ line.0 next))
+one_command (Run source results turns) (Confirm m t q) words line next = absurd (apart words 0 114 99 (codes "run") (codes "confirm") _ _ refl refl refl refl line.0 next)
+one_command (Run source results turns) (Certify m t again) words line next = absurd (apart words 0 114 99 (codes "run") (codes "certify") _ _ refl refl refl refl line.0 next)
 one_command (Audit source results turns bound) Version words line next = elim next [ inl is ↦ cc (is, line.0) | inr is ↦ cc (is, line.0) ]
 one_command (Audit source results turns bound) (OfWord other) words line next = cc (line.0, next)
 one_command (Audit source results turns bound) (OfFile other file) words line next = cc (line.0, next)
-one_command (Audit source results turns bound) (OfTrace Judge m t again most) words line next = absurd (judge_is_not_audit (letter words (trace_word Judge) (codes "audit") _ _ next.1 line.0))
-one_command (Audit source results turns bound) (OfTrace Watch m t again most) words line next = absurd (watch_is_not_audit (letter words (trace_word Watch) (codes "audit") _ _ next.1 line.0))
+one_command (Audit source results turns bound) (OfTrace Judge m t again most) words line next = absurd (apart words 0 97 106 (codes "audit") (trace_word Judge) _ _ refl refl refl refl line.0 next.1)
+one_command (Audit source results turns bound) (OfTrace Watch m t again most) words line next = absurd (apart words 0 97 119 (codes "audit") (trace_word Watch) _ _ refl refl refl refl line.0 next.1)
 one_command (Audit source results turns bound) (Measure m t again) words line next = cc (line.0, next)
 one_command (Audit source results turns bound) (Fleet m again) words line next = cc (line.0, next)
 one_command (Audit source results turns bound) (Run m t again) words line next = cc (line.0, next.0)
@@ -250,20 +250,37 @@ one_command (Audit source results turns bound) (Audit m t again greatest) words 
     let records : results ≡ t = cc (line.0, next.0) in
     cc (sources, records, numbers, bounds)
 one_command (Audit source results turns bound) (Confirm m t q) words line next = cc (line.0, next)
+one_command (Audit source results turns bound) (Certify m t again) words line next = cc (line.0, next)
 one_command (Confirm model trace certificate) Version words line next = elim next [ inl is ↦ cc (is, line) | inr is ↦ cc (is, line) ]
 one_command (Confirm model trace certificate) (OfWord other) words line next = cc (line, next)
 one_command (Confirm model trace certificate) (OfFile other file) words line next = cc (line, next)
-one_command (Confirm model trace certificate) (OfTrace Judge m t again most) words line next = absurd (judge_is_not_confirm (letter words (trace_word Judge) (codes "confirm") _ _ next.1 line))
-one_command (Confirm model trace certificate) (OfTrace Watch m t again most) words line next = absurd (watch_is_not_confirm (letter words (trace_word Watch) (codes "confirm") _ _ next.1 line))
-one_command (Confirm model trace certificate) (Measure m t again) words line next = absurd (measure_is_not_confirm (letter words (codes "measure") (codes "confirm") _ _ next line))
+one_command (Confirm model trace certificate) (OfTrace Judge m t again most) words line next = absurd (apart words 0 99 106 (codes "confirm") (trace_word Judge) _ _ refl refl refl refl line next.1)
+one_command (Confirm model trace certificate) (OfTrace Watch m t again most) words line next = absurd (apart words 0 99 119 (codes "confirm") (trace_word Watch) _ _ refl refl refl refl line next.1)
+one_command (Confirm model trace certificate) (Measure m t again) words line next = absurd (apart words 0 99 109 (codes "confirm") (codes "measure") _ _ refl refl refl refl line next)
 one_command (Confirm model trace certificate) (Fleet m again) words line next = cc (line, next)
-one_command (Confirm model trace certificate) (Run m t again) words line next = absurd (run_is_not_confirm (letter words (codes "run") (codes "confirm") _ _ next.0 line))
+one_command (Confirm model trace certificate) (Run m t again) words line next = absurd (apart words 0 99 114 (codes "confirm") (codes "run") _ _ refl refl refl refl line next.0)
 one_command (Confirm model trace certificate) (Audit m t again greatest) words line next = cc (line, next.0)
 one_command (Confirm model trace certificate) (Confirm m t q) words line next =
     let models : model ≡ m = cc (line, next) in
     let traces : trace ≡ t = cc (line, next) in
     let certificates : certificate ≡ q = cc (line, next) in
     cc (models, traces, certificates)
+one_command (Confirm model trace certificate) (Certify m t again) words line next = absurd (apart words 1 111 101 (codes "confirm") (codes "certify") _ _ refl refl refl refl line next)
+one_command (Certify model trace which) Version words line next = elim next [ inl is ↦ cc (is, line) | inr is ↦ cc (is, line) ]
+one_command (Certify model trace which) (OfWord other) words line next = cc (line, next)
+one_command (Certify model trace which) (OfFile other file) words line next = cc (line, next)
+one_command (Certify model trace which) (OfTrace Judge m t again most) words line next = absurd (apart words 0 99 106 (codes "certify") (trace_word Judge) _ _ refl refl refl refl line next.1)
+one_command (Certify model trace which) (OfTrace Watch m t again most) words line next = absurd (apart words 0 99 119 (codes "certify") (trace_word Watch) _ _ refl refl refl refl line next.1)
+one_command (Certify model trace which) (Measure m t again) words line next = absurd (apart words 0 99 109 (codes "certify") (codes "measure") _ _ refl refl refl refl line next)
+one_command (Certify model trace which) (Fleet m again) words line next = cc (line, next)
+one_command (Certify model trace which) (Run m t again) words line next = absurd (apart words 0 99 114 (codes "certify") (codes "run") _ _ refl refl refl refl line next.0)
+one_command (Certify model trace which) (Audit m t again greatest) words line next = cc (line, next.0)
+one_command (Certify model trace which) (Confirm m t q) words line next = absurd (apart words 1 101 111 (codes "certify") (codes "confirm") _ _ refl refl refl refl line next)
+one_command (Certify model trace which) (Certify m t again) words line next =
+    let asked : which ≡ again = one_judge which again (cc (line, next)) in
+    let models : model ≡ m = cc (line, next) in
+    let traces : trace ≡ t = cc (line, next) in
+    cc (models, traces, asked)
 
 -- a command that is ready refuses nothing
 ready_apart : (c : Command) (files : Option Files) (status : Status) (line : List ℕ) → IsReady c files → Refuses c files status line → ⊥
@@ -283,6 +300,7 @@ ready_apart (Fleet schedule which) files status line ready refuses = fleet_ready
 ready_apart (Run source results turns) files status line ready refuses = run_ready files source results status line ready refuses
 ready_apart (Audit source results turns bound) files status line ready refuses = audit_ready files source results status line ready refuses
 ready_apart (Confirm model trace certificate) files status line ready refuses = confirm_ready files model trace certificate line status ready refuses
+ready_apart (Certify model trace which) files status line ready refuses = certify_ready files model trace line which status ready refuses
 
 -- a command that makes a text refuses nothing
 made_apart : (c : Command) (files : Option Files) (status later : Status) (text line : List ℕ) → IsSome files → Makes c files status text → Refuses c files later line → ⊥
@@ -309,6 +327,8 @@ made_apart (Audit source results turns bound) None status later text line told m
 made_apart (Audit source results turns bound) (Some files) status later text line told makes refuses = audit_apart files source results turns bound status text later line makes refuses
 made_apart (Confirm model trace certificate) None status later text line told makes refuses = absurd (cc told)
 made_apart (Confirm model trace certificate) (Some files) status later text line told makes refuses = confirm_apart files model trace certificate text line later makes.1 refuses
+made_apart (Certify model trace which) None status later text line told makes refuses = absurd (cc told)
+made_apart (Certify model trace which) (Some files) status later text line told makes refuses = certify_apart files model trace which text line status later makes refuses
 
 -- two refusals of one command have one status
 same_refusal : (c : Command) (files : Option Files) (status later : Status) (line other : List ℕ) → IsSome files → Refuses c files status line → Refuses c files later other → status ≡ later
@@ -334,6 +354,8 @@ same_refusal (Audit source results turns bound) None status later line other tol
 same_refusal (Audit source results turns bound) (Some files) status later line other told refuses too = audit_status files source results status later line other refuses too
 same_refusal (Confirm model trace certificate) None status later line other told refuses too = absurd (cc told)
 same_refusal (Confirm model trace certificate) (Some files) status later line other told refuses too = confirm_status files model trace certificate line other status later refuses too
+same_refusal (Certify model trace which) None status later line other told refuses too = absurd (cc told)
+same_refusal (Certify model trace which) (Some files) status later line other told refuses too = certify_status files model trace which line other status later refuses too
 
 -- the command of the words refuses nothing where it is ready
 pub ready_not_refused : (c d : Command) (words : List (List ℕ)) (files : Option Files) (status : Status) (line : List ℕ) → IsCommandLine c words → IsCommandLine d words → IsReady c files → Refuses d files status line → ⊥

@@ -3,7 +3,7 @@ use Rattle.tool.specs.declared.command.Command.{Command as ReadCommand}
 use Rattle.tool.specs.declared.command.Command.TheVariants as read
 use Rattle.tool.specs.Command.{Command}
 use Rattle.tool.specs.Command.FileCommand.{Check, Depth, Inline, Instrument, Model, Picture, Upgrade}
-use Rattle.tool.specs.Command.Command.{Version, OfWord, OfFile, OfTrace, Measure, Fleet, Run, Audit, Confirm}
+use Rattle.tool.specs.Command.Command.{Version, OfWord, OfFile, OfTrace, Measure, Fleet, Run, Audit, Confirm, Certify}
 use Rattle.tool.specs.Command.WordCommand.{Help, Codes}
 use Rattle.tool.specs.Command.TraceCommand.{Judge, Watch}
 
@@ -25,3 +25,4 @@ asked_by (read.Fleet schedule which) = Fleet schedule.now which
 asked_by (read.Run source results turns) = Run source.now results.now turns
 asked_by (read.Audit source results turns bound) = Audit source.now results.now turns bound
 asked_by (read.Confirm model trace certificate) = Confirm model.now trace.now certificate.now
+asked_by (read.Certify model trace which) = Certify model.now trace.now which

@@ -1,5 +1,7 @@
 -- The command lines.
 use Rattle.std.specs.Prelude.{◌≡◌, ◌⊎◌, ℕ, ◌≤◌, List, [], ◌∷◌, codes, decimal}
+use Rattle.certify_facts.specs.declared.fact.Judge.{Judge as CertifiedModel}
+use Rattle.certify_facts.specs.declared.fact.Judge.TheVariants as judges
 use Rattle.flow_model.specs.declared.which.Which.{Which}
 use Rattle.report.specs.VerdictLine.{word_of}
 use Rattle.tool_monitors.specs.declared.asked.Asked.{Asked}
@@ -51,6 +53,11 @@ abbrev pub trace_word : TraceCommand → List ℕ
 trace_word Judge = codes "judge"
 trace_word Watch = codes "watch"
 
+-- the word for a model whose verdicts are certified
+abbrev pub judge_word : CertifiedModel → List ℕ
+judge_word judges.Callgraph = codes "callgraph"
+judge_word judges.Stack = codes "stack"
+
 -- What the words ask for. File names are bytes.
 pub data Command : Type 0 where
   Version : Command
@@ -62,6 +69,7 @@ pub data Command : Type 0 where
   Run : List ℕ → List ℕ → ℕ → Command
   Audit : List ℕ → List ℕ → ℕ → ℕ → Command
   Confirm : List ℕ → List ℕ → List ℕ → Command
+  Certify : List ℕ → List ℕ → CertifiedModel → Command
 
 -- the words of each command
 abbrev pub IsCommandLine : Command → List (List ℕ) → Type 0
@@ -76,3 +84,4 @@ IsCommandLine (Run source results turns) words = (words ≡ codes "run" ∷ sour
 IsCommandLine (Audit source results turns bound) words =
     (words ≡ codes "audit" ∷ source ∷ results ∷ decimal turns ∷ decimal bound ∷ []) × (turns ≤ 1000000) × (1 ≤ bound) × (bound ≤ 65535)
 IsCommandLine (Confirm model trace certificate) words = words ≡ codes "confirm" ∷ model ∷ trace ∷ certificate ∷ []
+IsCommandLine (Certify model trace which) words = words ≡ codes "certify" ∷ model ∷ trace ∷ judge_word which ∷ []

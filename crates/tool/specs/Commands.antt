@@ -8,9 +8,10 @@ use Rattle.dm_io.specs.Store.{Files, IsMissing}
 use Rattle.tool_frame.specs.Stop.{IsFinished}
 use Rattle.tool.specs.Command.{Command}
 use Rattle.tool.specs.Command.FileCommand.{Check, Depth, Inline, Instrument, Model, Picture, Upgrade}
-use Rattle.tool.specs.Command.Command.{Version, OfWord, OfFile, OfTrace, Measure, Fleet, Run, Audit, Confirm}
+use Rattle.tool.specs.Command.Command.{Version, OfWord, OfFile, OfTrace, Measure, Fleet, Run, Audit, Confirm, Certify}
 use Rattle.tool.specs.Command.WordCommand.{Help, Codes}
 use Rattle.tool.specs.Command.TraceCommand.{Judge, Watch}
+use Rattle.tool_certify.specs.Certify.{TellsCertificate, RefusesToCertify, IsReadyToCertify}
 use Rattle.tool_certify.specs.Confirm.{TellsConfirmed, RefusesToConfirm, LacksToConfirm, IsReadyToConfirm}
 use Rattle.tool_audit.specs.Audit.{Audits, IsAuditStatus, RefusesToAudit, LacksToAudit, IsReadyToAudit}
 use Rattle.tool_instrument.specs.Instrument.{Instruments, RefusesToInstrument, IsReadyToInstrument}
@@ -34,27 +35,28 @@ version_text = codes "dyckmon 1\n"
 
 abbrev pub help_text : List ℕ
 help_text =
-    codes "dyckmon, dyckmon --version            the version\n"
-    ++ codes "dyckmon --help                        this text\n"
-    ++ codes "dyckmon audit FILE RESULTS TURNS K    the trace of the C text's instrumented program, and its verdicts\n"
-    ++ codes "dyckmon check FILE                    how many functions and calls the C text has\n"
-    ++ codes "dyckmon codes                         each code of a refusal or of undefined behaviour, with its reason\n"
+    codes "dyckmon, dyckmon --version               the version\n"
+    ++ codes "dyckmon --help                           this text\n"
+    ++ codes "dyckmon audit FILE RESULTS TURNS K       the trace of the C text's instrumented program, and its verdicts\n"
+    ++ codes "dyckmon certify MODEL TRACE WHICH        a certificate of the verdict of callgraph or stack on the trace\n"
+    ++ codes "dyckmon check FILE                       how many functions and calls the C text has\n"
+    ++ codes "dyckmon codes                            each code of a refusal or of undefined behaviour, with its reason\n"
     ++ codes "dyckmon confirm MODEL TRACE CERTIFICATE  the verdict of the certificate, where it shows it\n"
-    ++ codes "dyckmon depth MODEL                   how many calls may be open at once\n"
-    ++ codes "dyckmon fleet SCHEDULE WHICH          what each process of the schedule comes to under its model\n"
-    ++ codes "dyckmon inline MODEL                  the file of a model without calls that has the same words\n"
-    ++ codes "dyckmon instrument FILE               the C text with null calls round its marked calls\n"
-    ++ codes "dyckmon judge MODEL TRACE WHICH [K]   the verdict lines of the model on the trace\n"
-    ++ codes "dyckmon measure MODEL TRACE WHICH     how many calls may come next along the trace\n"
-    ++ codes "dyckmon model FILE                    the file of the model of the C text\n"
-    ++ codes "dyckmon picture MODEL                 the model as a graph in the DOT language of Graphviz\n"
-    ++ codes "dyckmon run FILE RESULTS TURNS        the trace of the C text's program with recorded results\n"
-    ++ codes "dyckmon upgrade MODEL                 the file of the model in the newest version\n"
-    ++ codes "dyckmon watch MODEL TRACES WHICH [K]  the verdict lines of each process of interleaved traces\n"
+    ++ codes "dyckmon depth MODEL                      how many calls may be open at once\n"
+    ++ codes "dyckmon fleet SCHEDULE WHICH             what each process of the schedule comes to under its model\n"
+    ++ codes "dyckmon inline MODEL                     the file of a model without calls that has the same words\n"
+    ++ codes "dyckmon instrument FILE                  the C text with null calls round its marked calls\n"
+    ++ codes "dyckmon judge MODEL TRACE WHICH [K]      the verdict lines of the model on the trace\n"
+    ++ codes "dyckmon measure MODEL TRACE WHICH        how many calls may come next along the trace\n"
+    ++ codes "dyckmon model FILE                       the file of the model of the C text\n"
+    ++ codes "dyckmon picture MODEL                    the model as a graph in the DOT language of Graphviz\n"
+    ++ codes "dyckmon run FILE RESULTS TURNS           the trace of the C text's program with recorded results\n"
+    ++ codes "dyckmon upgrade MODEL                    the file of the model in the newest version\n"
+    ++ codes "dyckmon watch MODEL TRACES WHICH [K]     the verdict lines of each process of interleaved traces\n"
     ++ codes "CERTIFICATE, FILE, MODEL, RESULTS, SCHEDULE, TRACE and TRACES are names of files. WHICH is callgraph,\n"
-    ++ codes "stack, dyck, or, except with fleet, all for the three in this order. K is how many calls may be open\n"
-    ++ codes "at once in the Dyck model, 1 to 65535; it is 1000 where none is given. TURNS is how many functions\n"
-    ++ codes "may be entered and loops be tested, together, 0 to 1000000.\n"
+    ++ codes "stack, dyck, or all for the three in this order; with certify one of the first two, with fleet one of the\n"
+    ++ codes "first three. K is how many calls may be open at once in the Dyck model, 1 to 65535; it is 1000 where none\n"
+    ++ codes "is given. TURNS is how many functions may be entered and loops be tested, together, 0 to 1000000.\n"
 
 -- the command writes this text and ends with this status
 abbrev pub Makes : Command → Option Files → Status → List ℕ → Type 0
@@ -82,6 +84,8 @@ Makes (Audit source results turns bound) None status text = IsAuditStatus status
 Makes (Audit source results turns bound) (Some files) status text = Audits files source results turns bound status text
 Makes (Confirm model trace certificate) None status text = status ≡ Done
 Makes (Confirm model trace certificate) (Some files) status text = (status ≡ Done) × TellsConfirmed files model trace certificate text
+Makes (Certify model trace which) None status text = IsFinished status
+Makes (Certify model trace which) (Some files) status text = TellsCertificate files model trace which status text
 
 -- the command refuses a file, with this status and this line
 abbrev pub Refuses : Command → Option Files → Status → List ℕ → Type 0
@@ -101,6 +105,7 @@ Refuses (Fleet schedule which) files status line = RefusesFleet files schedule s
 Refuses (Run source results turns) files status line = RefusesToRun files source results status line
 Refuses (Audit source results turns bound) files status line = RefusesToAudit files source results status line
 Refuses (Confirm model trace certificate) files status line = RefusesToConfirm files model trace certificate status line
+Refuses (Certify model trace which) files status line = RefusesToCertify files model trace which status line
 
 -- a file that the command asks for isn't there
 abbrev pub Lacks : Command → Option Files → Type 0
@@ -113,6 +118,7 @@ Lacks (Fleet schedule which) files = LacksForFleet files schedule
 Lacks (Run source results turns) files = LacksToRun files source results
 Lacks (Audit source results turns bound) files = LacksToAudit files source results
 Lacks (Confirm model trace certificate) files = LacksToConfirm files model trace certificate
+Lacks (Certify model trace which) files = LacksToJudge files model trace
 
 -- the command's files are told, and are such that it refuses none
 abbrev pub IsReady : Command → Option Files → Type 0
@@ -132,3 +138,4 @@ IsReady (Fleet schedule which) files = IsReadyForFleet files schedule
 IsReady (Run source results turns) files = IsReadyToRun files source results
 IsReady (Audit source results turns bound) files = IsReadyToAudit files source results
 IsReady (Confirm model trace certificate) files = IsReadyToConfirm files model trace certificate
+IsReady (Certify model trace which) files = IsReadyToCertify files model trace which

@@ -1,13 +1,15 @@
 ghost use Rattle.std.specs.Prelude.{◌≡◌, ◌≤◌, ◌⊎◌, ℕ, List, [], ◌∷◌, length, map, string_bytes, decimal, IfSome, IfNone};
+ghost use Rattle.certify_facts.specs.declared.fact.Judge.{Judge as AnyJudge};
 ghost use Rattle.flow_model.specs.declared.which.Which.{Which as AnyWhich};
 ghost use Rattle.report.specs.VerdictLine.{word_of};
 ghost use Rattle.tool_monitors.specs.Monitors.{asked_word};
-ghost use Rattle.tool.specs.Command.{Command as AskedCommand, TraceCommand, IsCommandLine, IsAskedBy};
-ghost use Rattle.tool.specs.Command.Command.{OfTrace, Measure, Run, Audit, Confirm};
+ghost use Rattle.tool.specs.Command.{Command as AskedCommand, TraceCommand, IsCommandLine, IsAskedBy, judge_word};
+ghost use Rattle.tool.specs.Command.Command.{OfTrace, Measure, Run, Audit, Confirm, Certify};
 ghost use Rattle.tool.specs.Command.TraceCommand.{Judge, Watch};
 ghost use Rattle.tool_monitors.specs.declared.asked.Asked.{Asked as AnyAsked};
 ghost use Rattle.tool.specs.Asked.{asked_by};
 
+use certify_facts::Judge as CertifiedModel;
 use dm_base::read_u32;
 use flow_model::Which;
 use tool_monitors::Asked;
@@ -90,6 +92,12 @@ pub enum Command<'a> {
     Fleet {
         schedule: &'a str,
         which: Which,
+    },
+    /// A certificate of the verdict of this monitor of the model in a file on the trace in another.
+    Certify {
+        model: &'a str,
+        trace: &'a str,
+        judge: CertifiedModel,
     },
     /// The verdict of the certificate in the third file on the trace in the second by the model in the first, where it shows it.
     Confirm {
@@ -284,6 +292,7 @@ fn unbounded_command_of<'a>(
     ensures run { IfNone result ((s r : List ℕ) (turns : ℕ) → IsCommandLine (Run s r turns) (word.now ∷ first.now ∷ second.now ∷ map string_bytes words.now) → ⊥) }
     ensures audit { IfNone result ((s r : List ℕ) (turns bound : ℕ) → IsCommandLine (Audit s r turns bound) (word.now ∷ first.now ∷ second.now ∷ map string_bytes words.now) → ⊥) }
     ensures confirm { IfNone result ((m t c : List ℕ) → IsCommandLine (Confirm m t c) (word.now ∷ first.now ∷ second.now ∷ map string_bytes words.now) → ⊥) }
+    ensures certify { IfNone result ((m t : List ℕ) (judge : AnyJudge) → IsCommandLine (Certify m t judge) (word.now ∷ first.now ∷ second.now ∷ map string_bytes words.now) → ⊥) }
 {
     match measure_of(word, first, second, words) {
         Some(command) => Some(command),
@@ -302,6 +311,7 @@ fn other_command_of<'a>(
     ensures run { IfNone result ((s r : List ℕ) (turns : ℕ) → IsCommandLine (Run s r turns) (word.now ∷ first.now ∷ second.now ∷ map string_bytes words.now) → ⊥) }
     ensures audit { IfNone result ((s r : List ℕ) (turns bound : ℕ) → IsCommandLine (Audit s r turns bound) (word.now ∷ first.now ∷ second.now ∷ map string_bytes words.now) → ⊥) }
     ensures confirm { IfNone result ((m t c : List ℕ) → IsCommandLine (Confirm m t c) (word.now ∷ first.now ∷ second.now ∷ map string_bytes words.now) → ⊥) }
+    ensures certify { IfNone result ((m t : List ℕ) (judge : AnyJudge) → IsCommandLine (Certify m t judge) (word.now ∷ first.now ∷ second.now ∷ map string_bytes words.now) → ⊥) }
 {
     match running_command_of(word, first, second, words) {
         Some(command) => Some(command),
@@ -318,11 +328,59 @@ fn certificate_command_of<'a>(
 ) -> Option<Command<'a>>
     ensures some { IfSome result (λ command. IsCommandLine (asked_by command) (word.now ∷ model.now ∷ trace.now ∷ map string_bytes words.now)) }
     ensures confirm { IfNone result ((m t c : List ℕ) → IsCommandLine (Confirm m t c) (word.now ∷ model.now ∷ trace.now ∷ map string_bytes words.now) → ⊥) }
+    ensures certify { IfNone result ((m t : List ℕ) (judge : AnyJudge) → IsCommandLine (Certify m t judge) (word.now ∷ model.now ∷ trace.now ∷ map string_bytes words.now) → ⊥) }
 {
     match words {
-        [last] => confirm_of(word, model, trace, last),
+        [last] => certificate_command(word, model, trace, last),
         _ => None,
     }
+}
+
+// The command `confirm` or the command `certify`.
+fn certificate_command<'a>(
+    word: &str,
+    model: &'a str,
+    trace: &'a str,
+    last: &'a str,
+) -> Option<Command<'a>>
+    ensures some { IfSome result (λ command. IsCommandLine (asked_by command) (word.now ∷ model.now ∷ trace.now ∷ last.now ∷ [])) }
+    ensures confirm { IfNone result ((m t c : List ℕ) → IsCommandLine (Confirm m t c) (word.now ∷ model.now ∷ trace.now ∷ last.now ∷ []) → ⊥) }
+    ensures certify { IfNone result ((m t : List ℕ) (judge : AnyJudge) → IsCommandLine (Certify m t judge) (word.now ∷ model.now ∷ trace.now ∷ last.now ∷ []) → ⊥) }
+{
+    match confirm_of(word, model, trace, last) {
+        Some(command) => Some(command),
+        None => certify_of(word, model, trace, last),
+    }
+}
+
+// The model that the word names.
+fn judge_named(word: &str) -> Option<CertifiedModel>
+    ensures some { IfSome result (λ judge. word.now ≡ judge_word judge) }
+    ensures none { IfNone result ((judge : AnyJudge) → word.now ≡ judge_word judge → ⊥) }
+{
+    if word == "callgraph" {
+        return Some(CertifiedModel::Callgraph);
+    }
+    if word == "stack" {
+        return Some(CertifiedModel::Stack);
+    }
+    None
+}
+
+// The command `certify`.
+fn certify_of<'a>(word: &str, model: &'a str, trace: &'a str, which: &str) -> Option<Command<'a>>
+    ensures some { IfSome result (λ command. IsCommandLine (asked_by command) (word.now ∷ model.now ∷ trace.now ∷ which.now ∷ [])) }
+    ensures none { IfNone result ((m t : List ℕ) (judge : AnyJudge) → IsCommandLine (Certify m t judge) (word.now ∷ model.now ∷ trace.now ∷ which.now ∷ []) → ⊥) }
+{
+    if word != "certify" {
+        return None;
+    }
+    let judge = judge_named(which)?;
+    Some(Command::Certify {
+        model,
+        trace,
+        judge,
+    })
 }
 
 // The command `confirm`.

@@ -10,7 +10,7 @@ use dm_base::{OutOfMemory, Status};
 use dm_io::{HonestSink, HonestStore, Sink, Store, write_whole};
 use std::alloc::Global;
 use tool_audit::audit_source;
-use tool_certify::confirm_certificate;
+use tool_certify::{certify_trace, confirm_certificate};
 use tool_fleet::run_fleet;
 use tool_frame::{Finished, Stop, refuse};
 use tool_inline::{depth_of_model, inlined_model};
@@ -23,27 +23,28 @@ use tool_texts::{check_source, model_of_source};
 const VERSION_TEXT: &[u8] = b"dyckmon 1\n";
 
 const HELP_TEXT: &[u8] = b"\
-dyckmon, dyckmon --version            the version
-dyckmon --help                        this text
-dyckmon audit FILE RESULTS TURNS K    the trace of the C text's instrumented program, and its verdicts
-dyckmon check FILE                    how many functions and calls the C text has
-dyckmon codes                         each code of a refusal or of undefined behaviour, with its reason
+dyckmon, dyckmon --version               the version
+dyckmon --help                           this text
+dyckmon audit FILE RESULTS TURNS K       the trace of the C text's instrumented program, and its verdicts
+dyckmon certify MODEL TRACE WHICH        a certificate of the verdict of callgraph or stack on the trace
+dyckmon check FILE                       how many functions and calls the C text has
+dyckmon codes                            each code of a refusal or of undefined behaviour, with its reason
 dyckmon confirm MODEL TRACE CERTIFICATE  the verdict of the certificate, where it shows it
-dyckmon depth MODEL                   how many calls may be open at once
-dyckmon fleet SCHEDULE WHICH          what each process of the schedule comes to under its model
-dyckmon inline MODEL                  the file of a model without calls that has the same words
-dyckmon instrument FILE               the C text with null calls round its marked calls
-dyckmon judge MODEL TRACE WHICH [K]   the verdict lines of the model on the trace
-dyckmon measure MODEL TRACE WHICH     how many calls may come next along the trace
-dyckmon model FILE                    the file of the model of the C text
-dyckmon picture MODEL                 the model as a graph in the DOT language of Graphviz
-dyckmon run FILE RESULTS TURNS        the trace of the C text's program with recorded results
-dyckmon upgrade MODEL                 the file of the model in the newest version
-dyckmon watch MODEL TRACES WHICH [K]  the verdict lines of each process of interleaved traces
+dyckmon depth MODEL                      how many calls may be open at once
+dyckmon fleet SCHEDULE WHICH             what each process of the schedule comes to under its model
+dyckmon inline MODEL                     the file of a model without calls that has the same words
+dyckmon instrument FILE                  the C text with null calls round its marked calls
+dyckmon judge MODEL TRACE WHICH [K]      the verdict lines of the model on the trace
+dyckmon measure MODEL TRACE WHICH        how many calls may come next along the trace
+dyckmon model FILE                       the file of the model of the C text
+dyckmon picture MODEL                    the model as a graph in the DOT language of Graphviz
+dyckmon run FILE RESULTS TURNS           the trace of the C text's program with recorded results
+dyckmon upgrade MODEL                    the file of the model in the newest version
+dyckmon watch MODEL TRACES WHICH [K]     the verdict lines of each process of interleaved traces
 CERTIFICATE, FILE, MODEL, RESULTS, SCHEDULE, TRACE and TRACES are names of files. WHICH is callgraph,
-stack, dyck, or, except with fleet, all for the three in this order. K is how many calls may be open
-at once in the Dyck model, 1 to 65535; it is 1000 where none is given. TURNS is how many functions
-may be entered and loops be tested, together, 0 to 1000000.
+stack, dyck, or all for the three in this order; with certify one of the first two, with fleet one of the
+first three. K is how many calls may be open at once in the Dyck model, 1 to 65535; it is 1000 where none
+is given. TURNS is how many functions may be entered and loops be tested, together, 0 to 1000000.
 ";
 
 // A text that no file decides.
@@ -99,6 +100,13 @@ fn work<S: Store>(alloc: Global, words: &[String], store: &mut S) -> Result<Fini
                 bound,
             },
         ) => audit_source(alloc, store, source, results, turns, bound),
+        Some(
+            Command::Certify {
+                model,
+                trace,
+                judge,
+            },
+        ) => certify_trace(alloc, store, model, trace, judge),
         Some(
             Command::Confirm {
                 model,

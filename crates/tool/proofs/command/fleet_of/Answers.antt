@@ -2,7 +2,7 @@ use Rattle.std.proofs.Common.{◌≡◌, ℕ, List, [], ◌∷◌, codes, inl, i
 use Rattle.flow_model.specs.declared.which.Which.{Which}
 use Rattle.report.specs.VerdictLine.{word_of}
 use Rattle.tool.specs.Command.{Command, IsAskedBy, IsCommandLine}
-use Rattle.tool.specs.Command.Command.{Version, OfWord, OfFile, OfTrace, Measure, Fleet, Run, Audit, Confirm}
+use Rattle.tool.specs.Command.Command.{Version, OfWord, OfFile, OfTrace, Measure, Fleet, Run, Audit, Confirm, Certify}
 use Rattle.tool_monitors.specs.declared.asked.Asked.{Asked}
 use Rattle.tool.proofs.command.fleet_of.Goals as goal
 
@@ -24,6 +24,7 @@ no_other word schedule which none (Fleet s w) line = none s w line
 no_other word schedule which none (Run s r turns) line = cc (line.0)
 no_other word schedule which none (Audit s r turns bound) line = cc (line.0)
 no_other word schedule which none (Confirm m t q) line = cc line
+no_other word schedule which none (Certify m t judge) line = cc line
 
 other_word : (word schedule which : List ℕ) → (word ≡ codes "fleet" → ⊥) → (s : List ℕ) (w : Which) → word ∷ schedule ∷ which ∷ [] ≡ codes "fleet" ∷ s ∷ word_of w ∷ [] → ⊥
 other_word word schedule which other s w line = let same : word ≡ codes "fleet" = cc line in other same
