@@ -3,6 +3,7 @@
 # Made from dyckmon --help by .ci/manual.py.
 declare -gA _dyckmon_words=(
     [audit]='FILE RESULTS TURNS K'
+    [certify]='MODEL TRACE WHICH'
     [check]='FILE'
     [codes]=''
     [confirm]='MODEL TRACE CERTIFICATE'

@@ -1,7 +1,7 @@
 #!/usr/bin/env python3
 """certificates.py PROGRAM: gives each model and trace of .ci/cases/judge.cases to `certify`, and what it writes to `confirm`, by
 callgraph and by stack, and compares both with the verdict of `judge`. The status is 0 where there are verdicts and each certificate
-is confirmed with the verdict."""
+is confirmed with the verdict, or too many facts follow for one (Q3)."""
 import concurrent.futures
 import os
 import pathlib
@@ -26,6 +26,8 @@ def differs(program, model, trace, which):
         status, out, err = run(program, ['judge', 'm', 't', which], folder)
         verdict = re.match(rb'\w+ (accepted|rejected) \d+', out)
         made = run(program, ['certify', 'm', 't', which], folder)
+        if verdict and made == (5, b'', b'record refused Q3\n'):
+            return False, None
         if not verdict:
             return False, None if made[:2] == (status, b'') and made[2] == err else f'{which}: judge gives {err}, certify {made}'
         pathlib.Path(folder, 'c').write_bytes(made[1])
