@@ -3,10 +3,11 @@ ghost use Rattle.dm_base.specs.declared.event.Event.{Event};
 ghost use Rattle.dm_sets.specs.Nodes.{Has};
 ghost use Rattle.flow_model.specs.declared.which.Which.TheVariants.{Callgraph};
 ghost use Rattle.flow_model.specs.Cost.{most_steps};
+ghost use Rattle.flow_model.specs.Graph.{Graph};
 ghost use Rattle.flow_model.specs.Language.{Walk};
 ghost use Rattle.flow_model.specs.Verdict.{IsStep};
 ghost use Rattle.callgraph_monitor.specs.Ahead.{GoesTo};
-ghost use Rattle.callgraph_monitor.specs.Standing.{StandsFor};
+ghost use Rattle.callgraph_monitor.specs.Standing.{IsAfter, StandsFor};
 
 use crate::reading::{is_empty, read};
 use crate::visiting::saturate;
@@ -103,6 +104,16 @@ impl CallgraphMonitor {
         ensures exact { (k : ℕ) (h : List Event) → StandsFor self.old model.now k h → IsStep Callgraph model.now k (h ++ event.now ∷ []) result }
     {
         feed_uncounted(self, pool, model, event)
+    }
+
+    /// The nodes at which the monitor stands after its history: a node is one of them exactly where a
+    /// walk ends at it that reads the system calls of the history. There are none exactly where the
+    /// history was rejected.
+    pub fn nodes(&self) -> &NodeSet
+        ensures size { (g : Graph) (k : ℕ) (h : List Event) → StandsFor self.now g k h → result.now.size ≡ g.nodes }
+        ensures exact { (g : Graph) (k : ℕ) (h : List Event) → StandsFor self.now g k h → (a : ℕ) → Has result.now a ↔ IsAfter g h a }
+    {
+        &self.standing
     }
 }
 

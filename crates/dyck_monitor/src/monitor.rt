@@ -1,12 +1,14 @@
-ghost use Rattle.std.specs.Prelude.{◌≡◌, ◌≤◌, ◌+◌, ◌↔◌, ℕ, List, ◌∷◌, ◌++◌, [], length, IsTrue, IsOk, IfOk, OnOk, OnErr};
+ghost use Rattle.std.specs.Prelude.{◌≡◌, ◌≤◌, ◌+◌, ◌↔◌, ℕ, List, ◌∷◌, ◌++◌, [], length, Some, IsTrue, IsOk, IfOk, OnOk, OnErr};
 ghost use Rattle.dm_base.specs.declared.event.Event.{Event};
 ghost use Rattle.dm_base.specs.declared.verdict.Step.TheVariants.{Kept};
 ghost use Rattle.flow_model.specs.declared.which.Which.TheVariants.{Dyck};
+ghost use Rattle.dm_sets.specs.Nodes.{Has};
+ghost use Rattle.flow_model.specs.Graph.{Graph};
 ghost use Rattle.flow_model.specs.Rules.{IsValid};
-ghost use Rattle.flow_model.specs.Verdict.{IsStep};
+ghost use Rattle.flow_model.specs.Verdict.{IsAccepted, IsStep};
 ghost use Rattle.dyck_monitor.specs.Silence.{LeadsTo};
 ghost use Rattle.dyck_monitor.specs.Sites.{SitesGoOn, OpensSite};
-ghost use Rattle.dyck_monitor.specs.Standing.{Stands, StandsFor};
+ghost use Rattle.dyck_monitor.specs.Standing.{IsReached, Stands, StandsFor};
 ghost use Rattle.flow_model.specs.Cost.{most_steps};
 
 use crate::moves::{follow, look_ahead};
@@ -145,6 +147,23 @@ impl DyckMonitor {
         ensures exact { (k : ℕ) (h : List Event) → StandsFor self.old model.now k h → IsStep Dyck model.now k (h ++ event.now ∷ []) result }
     {
         feed_uncounted(self, pool, model, event)
+    }
+
+    /// The nodes at which the monitor stands after a history that is accepted: a node is one of them
+    /// exactly where a run that reads the history leads to it.
+    pub fn nodes(&self) -> &NodeSet
+        ensures size { (g : Graph) (k : ℕ) (h : List Event) → StandsFor self.now g k h → result.now.size ≡ g.nodes }
+        ensures exact { (g : Graph) (k : ℕ) (h : List Event) → StandsFor self.now g k h → IsAccepted Dyck g k h → (v : ℕ) → Has result.now v ↔ ((z : List ℕ) × IsReached g h v z) }
+    {
+        &self.nodes
+    }
+
+    /// The newest open site after a history that is accepted, None where no site is open: the runs that
+    /// read the history end with it, to whatever nodes they lead.
+    pub fn top(&self) -> Option<u32>
+        ensures { (g : Graph) (k : ℕ) (h : List Event) → StandsFor self.now g k h → IsAccepted Dyck g k h → (v s : ℕ) → ((z : List ℕ) × IsReached g h v (s ∷ z)) ↔ (((z : List ℕ) × IsReached g h v z) × (result ≡ Some s)) }
+    {
+        self.sites.top()
     }
 }
 

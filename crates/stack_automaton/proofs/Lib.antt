@@ -12,3 +12,4 @@ pub mod ResolvingLemmas
 pub mod SaturationLemmas
 pub mod SeenLemmas
 pub mod StandingLemmas
+pub mod TopsLemmas

@@ -74,6 +74,22 @@ module _ (p : Contents) (s : Slab (List Edge)) (last : ℕ) (notes : List ℕ) (
   pub seen : edges_at p ≡ get s
   seen = ap edges_at (sym is) ∙ look s
 
+  -- the state at a key, and that there is none
+  pub there_seen : (key : ℕ) (state edges : List Edge) → get s key ≡ Some state → edges_at p key ≡ Some edges → state ≡ edges
+  there_seen key state edges here found =
+      let both : Some state ≡ Some edges = sym here ∙ ap (λ (t : States). t key) (sym seen) ∙ found in
+      cc
+
+  pub none_seen : (key : ℕ) (state : List Edge) → get s key ≡ Some state → edges_at p key ≡ None → ⊥
+  none_seen key state here found =
+      let both : Some state ≡ None = sym here ∙ ap (λ (t : States). t key) (sym seen) ∙ found in
+      absurd cc
+
+  pub missing_seen : (key : ℕ) (edges : List Edge) → get s key ≡ None → edges_at p key ≡ Some edges → ⊥
+  missing_seen key edges here found =
+      let both : ◌≡◌ {A = Option (List Edge)} None (Some edges) = sym here ∙ ap (λ (t : States). t key) (sym seen) ∙ found in
+      absurd cc
+
   pub one_seen : (P : States → Type 0) → P (edges_at p) → P (get s)
   one_seen P holds = subst P seen holds
 

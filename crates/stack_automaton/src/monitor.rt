@@ -4,6 +4,7 @@ ghost use Rattle.dm_base.specs.declared.event.Event.{Event as Event'};
 ghost use Rattle.dm_base.specs.declared.verdict.Step.TheVariants.{Kept as Kept'};
 ghost use Rattle.flow_model.specs.declared.which.Which.TheVariants.{Stack as Stack'};
 ghost use Rattle.flow_model.specs.Graph.{Graph};
+ghost use Rattle.flow_model.specs.Language.{IsConfig};
 ghost use Rattle.flow_model.specs.Verdict.{IsAccepted, IsStep};
 ghost use Rattle.stack_automaton.specs.declared.place.Fact.{Fact as Fact'};
 ghost use Rattle.stack_automaton.specs.declared.place.Place.TheVariants.{Held};
@@ -13,7 +14,7 @@ ghost use Rattle.stack_automaton.specs.Storing.{Grows};
 
 use crate::Pool;
 use crate::follow::add;
-use crate::place::{Fact, Place};
+use crate::place::{Edge, Fact, Place};
 use dm_base::{Event, OutOfMemory, Step};
 use flow_model::{Model, Monitor, Which};
 use indexmap::IndexSet;
@@ -37,6 +38,16 @@ impl std::marker::Model for StackMonitor {
 }
 
 impl StackMonitor {
+    /// The edges of the pool that leave the monitor's key after a history that is accepted. Their labels
+    /// are the nodes at which the monitor stands: a node is one of them exactly where it is that of a
+    /// configuration after the history.
+    pub fn tops<'a>(&self, pool: &'a Pool) -> &'a [Edge]
+        ensures { (g : Graph) (k : ℕ) (h : List Event') → StandsFor self.now pool.now g k h → IsAccepted Stack' g k h
+            → (v : ℕ) → ((q : ℕ) × Contains result.now (record { label = v; to = q })) ↔ ((z : List ℕ) × IsConfig g h v z) }
+    {
+        pool.edges(self.at)
+    }
+
     // Takes the next event of a history that is accepted.
     fn go_on(&mut self, pool: &mut Pool, model: &Model, event: &Event) -> Result<Step, OutOfMemory>
         requires pool { IsPool pool.old }

@@ -11,7 +11,7 @@ ghost use Rattle.stack_automaton.specs.Storing.{Grows, IsStored};
 
 use crate::event::{move_on, settle};
 use crate::notes::{note_from, sweep_states};
-use crate::place::{Fact, State};
+use crate::place::{Edge, Fact, State};
 use crate::shared::Shared;
 use dm_base::{Event, OutOfMemory};
 use flow_model::Model;
@@ -68,6 +68,17 @@ impl Pool {
         ensures { result ≡ map.len self.now.entries }
     {
         self.states.len()
+    }
+
+    // The edges of the state at the key, none where it isn't there.
+    pub(crate) fn edges(&self, key: usize) -> &[Edge]
+        ensures there { (edges : List Edge') → edges_at self.now key ≡ Some edges → result.now ≡ edges }
+        ensures none { edges_at self.now key ≡ None → result.now ≡ [] }
+    {
+        match self.states.get(key) {
+            Some(state) => state.edges(),
+            None => &[],
+        }
     }
 
     // Where the pool takes its memory.
