@@ -1,0 +1,7 @@
+mod CalledLemmas
+mod EventsLemmas
+mod FindingLemmas
+mod FollowedLemmas
+mod KeptLemmas
+mod RisingLemmas
+mod StandingLemmas

@@ -1,0 +1,7 @@
+use Rattle.std.proofs.Common.{[], take}
+use Rattle.stack_automaton.specs.Adding.{Adds, Has}
+use Rattle.expected_events.specs.Marked.{IsCalledBy}
+use Rattle.expected_events.proofs.called.gathered.Given as goal
+
+abbrev pub invariant-loop-edge : goal.invariant-loop-edge
+invariant-loop-edge l = Adds [] l.calls.items (λ c. Has (IsCalledBy l.at c) (take l.edge-index l.edges))

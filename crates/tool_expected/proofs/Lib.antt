@@ -1,0 +1,2 @@
+pub mod ExpectsLemmas
+pub mod FindingsLemmas
