@@ -48,7 +48,8 @@ pub source_of_file : (told : Option Files) (name text : List ℕ) (mode : Mode) 
 source_of_file None name text mode source reads is = tt
 source_of_file (Some files) name text mode source reads is = source_is_file mode (file_at files name) text reads source is
 
-refusal_told : (told : Option Files) (name text : List ℕ) (mode : Mode) (error : SourceError) → ReadsWhole told name (longest_text mode + 1) text → error ≢ OutOfMemory → IsSourceCause error text mode → HasNoProgram error text mode
+-- a refusal that is shown of what was read is one of the file, where the files are told
+pub refusal_told : (told : Option Files) (name text : List ℕ) (mode : Mode) (error : SourceError) → ReadsWhole told name (longest_text mode + 1) text → error ≢ OutOfMemory → IsSourceCause error text mode → HasNoProgram error text mode
     → IfSome told (λ files. IsSourceCause error (file_at files name) mode × ((p : Program) → IsAcceptedAs (file_at files name) mode p → ⊥))
 refusal_told None name text mode error reads named cause none = tt
 refusal_told (Some files) name text mode error reads named cause none =

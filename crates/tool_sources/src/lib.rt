@@ -8,4 +8,5 @@ mod source;
 
 pub use error::SourceError;
 pub use reading::{read_source, source_in};
+pub use refusals::refused_with;
 pub use source::Source;

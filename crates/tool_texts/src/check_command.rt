@@ -14,8 +14,8 @@ use std::alloc::Global;
 use tool_frame::{Finished, Stop};
 use tool_sources::source_in;
 
-// How many functions the program defines, and how many call expressions it has.
-fn counts_line(alloc: Global, program: &Program) -> Result<Vec<u8>, OutOfMemory>
+/// The line that `check` writes of a program: how many functions it defines, and how many call expressions it has.
+pub fn counts_line(alloc: Global, program: &Program) -> Result<Vec<u8>, OutOfMemory>
     ensures { IfOk result (λ line. line.items ≡ checked_text (program_of program.now)) }
 {
     let mut line = Vec::new(alloc);

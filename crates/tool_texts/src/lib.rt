@@ -4,5 +4,5 @@
 mod check_command;
 mod model_command;
 
-pub use check_command::check_source;
+pub use check_command::{check_source, counts_line};
 pub use model_command::model_of_source;

@@ -1,0 +1,3 @@
+-- For private contracts and proofs alone: Stopping.
+pub mod Explained
+pub mod Stopping
