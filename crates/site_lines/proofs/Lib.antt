@@ -1,0 +1,4 @@
+mod KindLemmas
+mod LineLemmas
+mod NameLemmas
+mod PartLemmas
