@@ -1,17 +1,24 @@
--- The instrumented unit of a source is typed, and its program runs as the plain one does with null calls at its marked sites.
-use Rattle.std.proofs.Common.{◌≡◌, ℕ, List, ◌++◌, sym, ◌∙◌, ap, subst}
+-- The instrumented unit of a source is typed, its program runs as the plain one does with null calls at its marked sites, and what is told
+-- of that run.
+use Rattle.std.proofs.Common.{◌≡◌, ℕ, List, ◌++◌, All, sym, ◌∙◌, ap, subst}
 use Rattle.dm_base.specs.declared.event.Event.{Event}
 use Rattle.dm_base.specs.declared.mode.Mode.TheVariants.{Plain, Instrumented}
+use Rattle.dm_base.specs.declared.outcome.Outcome.{Outcome}
+use Rattle.dm_base.specs.declared.outcome.Outcome.TheVariants.{Exit, Undefined, Turns, Results, BadResult}
 use Rattle.dm_base.specs.declared.outcome.TraceEnd.TheVariants.{Ended}
 use Rattle.dm_base.specs.declared.verdict.Status.{Status}
 use Rattle.headline.specs.AcceptedRuns.{TextsRaiseNoAlarm}
-use Rattle.alarm_laws.specs.MarkedRuns.{marked_run}
+use Rattle.alarm_laws.specs.MarkedRuns.{null_calls_of, marked_run}
 use Rattle.alarm_laws.specs.Monitors.{IsAcceptedByAll}
+use Rattle.alarm_laws.proofs.TypedRuns.{null_calls_recorded}
 use Rattle.null_calls_units_laws.specs.Units.{InstrumentedTextsRunMarked}
 use Rattle.c_meaning.specs.Runs.{Run, run}
+use Rattle.c_meaning_laws.specs.Laws.{IsTypedRun, RunsAreTyped}
+use Rattle.c_meaning_laws.specs.TypedResults.{IsEnding}
 use Rattle.c_rules.specs.Units.{IsTyped}
 use Rattle.c_syntax.specs.Tree.{Items}
 use Rattle.c_syntax.specs.UnitView.{items_of}
+use Rattle.c_tree.specs.Program.{IsProgram}
 use Rattle.c_tree.specs.Tree.{Program}
 use Rattle.c_tree.specs.View.{program_of}
 use Rattle.flow_model.specs.Graph.{Graph}
@@ -25,12 +32,14 @@ use Rattle.tool_sources.specs.declared.source.Source.{Source}
 use Rattle.tool_sources.specs.Sources.{IsSourceOf}
 use Rattle.tool_sources.proofs.SourceLemmas.{one_typing, source_accepted}
 use Rattle.sys_table.specs.declared.sys_result.SysResult.{SysResult}
+use Rattle.sys_table.specs.Table.{IsRecorded}
+use Rattle.trace_file.specs.EventText.{IsCountedOutcome, IsCountedEnd}
 use Rattle.trace_file.specs.Trace.{trace_text, IsTrace}
 use Rattle.c_rules_laws.specs.Lexical.{IsUnitLexical}
 use Rattle.c_rules_laws.specs.WellTyped.{SpelledUnitsAreLexical}
-use Rattle.tool_audit.specs.Audit.{IsAuditOf}
+use Rattle.tool_audit.specs.Audit.{AreReported, IsAuditOf}
 use Rattle.tool_audit.specs.Heard.{AreHeard}
-use Rattle.tool_audit.proofs.Verdicts.{audit_of}
+use Rattle.tool_audit.proofs.Verdicts.{reported, audit_of}
 
 -- so the checker takes it
 pub is_lexical : SpelledUnitsAreLexical → InstrumentedUnitsAreLexical → (text : List ℕ) (source : Source) (u : Items) → IsSourceOf text Plain source → u ≡ instrumented_unit (program_of source.program) (items_of source.unit.items.items) → IsUnitLexical u
@@ -47,20 +56,48 @@ runs_marked law text source u q is same typed records turns =
     let one : found.0 ≡ q = one_typing (instrumented_unit p plain) Instrumented found.0 q found.1 (subst (λ (w : Items). IsTyped w Instrumented q) same typed) in
     subst (λ (w : Program). run w records turns ≡ marked_run p records turns) one (found.3 records turns)
 
--- the audit of the run that the machine found, where its events and the lines are those that were passed on
-pub audit_found : TextsRaiseNoAlarm → (from : List ℕ) (source : Source) (q : Program) (records : List SysResult) (turns bound : ℕ) (found : Found) (g : Graph) (status : Status) (again : List Event) (heard told shown text : List ℕ)
+-- what is reported of the run that the machine found, where its events were passed on
+pub reported_found : TextsRaiseNoAlarm → (from : List ℕ) (source : Source) (q : Program) (records : List SysResult) (turns bound : ℕ) (found : Found) (g : Graph) (status : Status) (heard : List ℕ)
     → IsSourceOf from Plain source → g ≡ graph_of_program (program_of source.program) → run_of found ≡ run q records turns → ((records : List SysResult) (turns : ℕ) → run q records turns ≡ marked_run (program_of source.program) records turns)
-    → AreHeard g bound found.trace.items status heard → again ≡ found.trace.items → shown ≡ trace_text again (Ended found.outcome) → IsTrace shown again (Ended found.outcome) → told ≡ heard → text ≡ shown ++ told
-    → IsAuditOf (graph_of_program (program_of source.program)) bound (marked_run (program_of source.program) records turns) status text
-audit_found law from source q records turns bound found g status again heard told shown text is same ran marked said second writes formed passed joins =
+    → AreHeard g bound found.trace.items status heard → AreReported (graph_of_program (program_of source.program)) bound (marked_run (program_of source.program) records turns).trace status heard
+reported_found law from source q records turns bound found g status heard is same ran marked said =
     let p = program_of source.program in
     let r : run_of found ≡ marked_run p records turns = ran ∙ marked records turns in
-    let all : IsAcceptedByAll (graph_of_program p) bound (run_of found).trace =
-    subst (λ (w : Run). IsAcceptedByAll (graph_of_program p) bound w.trace) (sym r) ((law from p (source_accepted from Plain source is)).marked_accepted records turns bound) in
-    let given : AreHeard (graph_of_program p) bound (run_of found).trace status heard =
+    let all : IsAcceptedByAll (graph_of_program p) bound (marked_run p records turns).trace = (law from p (source_accepted from Plain source is)).marked_accepted records turns bound in
+    let given : AreHeard (graph_of_program p) bound found.trace.items status heard =
     subst (λ (h : Graph). AreHeard h bound found.trace.items status heard) same said in
+    let passed : AreHeard (graph_of_program p) bound (marked_run p records turns).trace status heard =
+    subst (λ (w : Run). AreHeard (graph_of_program p) bound w.trace status heard) r given in
+    reported (graph_of_program p) bound (marked_run p records turns).trace status heard all passed
+
+-- the audit of that run, where its events and the lines are those that were passed on
+pub audit_found : (p : Program) (records : List SysResult) (turns bound : ℕ) (found : Found) (status : Status) (again : List Event) (heard told shown text : List ℕ) → run_of found ≡ marked_run p records turns
+    → AreReported (graph_of_program p) bound (marked_run p records turns).trace status heard → again ≡ found.trace.items → shown ≡ trace_text again (Ended found.outcome) → IsTrace shown again (Ended found.outcome) → told ≡ heard → text ≡ shown ++ told
+    → IsAuditOf (graph_of_program p) bound (marked_run p records turns) status text
+audit_found p records turns bound found status again heard told shown text r said second writes formed passed joins =
+    let given : AreReported (graph_of_program p) bound (run_of found).trace status heard =
+    subst (λ (w : Run). AreReported (graph_of_program p) bound w.trace status heard) (sym r) said in
     let wrote : shown ≡ run_text (run_of found) = subst (λ (t : List Event). shown ≡ trace_text t (Ended found.outcome)) second writes in
     let trace : IsTrace (run_text (run_of found)) found.trace.items (Ended found.outcome) =
     subst (λ (w : List ℕ). IsTrace w found.trace.items (Ended found.outcome)) wrote (subst (λ (t : List Event). IsTrace shown t (Ended found.outcome)) second formed) in
     let whole : text ≡ run_text (run_of found) ++ heard = joins ∙ (ap (λ (w : List ℕ). w ++ told) wrote ∙ ap (λ (w : List ℕ). run_text (run_of found) ++ w) passed) in
-    subst (λ (w : Run). IsAuditOf (graph_of_program p) bound w status text) r (audit_of (graph_of_program p) bound (run_of found) status heard text all given whole trace)
+    subst (λ (w : Run). IsAuditOf (graph_of_program p) bound w status text) r (audit_of (graph_of_program p) bound (run_of found) status heard text given whole trace)
+
+-- the run with null calls round the marked calls, which was found so, can be written as a trace
+typed_run : RunsAreTyped → (p : Program) (n : ℕ) → IsProgram p n → (records : List SysResult) (turns : ℕ) → IsTypedRun (marked_run p records turns)
+typed_run typed p n is records turns = typed p n is (null_calls_of p) (null_calls_recorded p) records turns
+
+pub events_recorded : RunsAreTyped → (p : Program) (n : ℕ) → IsProgram p n → (records : List SysResult) (turns : ℕ) (found : Found) (again : List Event) → run_of found ≡ marked_run p records turns → again ≡ found.trace.items → All IsRecorded again
+events_recorded typed p n is records turns found again same second =
+    subst (λ (t : List Event). All IsRecorded t) (sym second) (subst (λ (r : Run). All IsRecorded r.trace) (sym same) (typed_run typed p n is records turns).trace)
+
+counted : (o : Outcome) → IsEnding o → IsCountedOutcome o
+counted (Exit z) h = tt
+counted (Undefined kind) h = tt
+counted Turns h = tt
+counted Results h = tt
+counted (BadResult k) h = h
+
+pub end_counted : RunsAreTyped → (p : Program) (n : ℕ) → IsProgram p n → (records : List SysResult) (turns : ℕ) (found : Found) → run_of found ≡ marked_run p records turns → IsCountedEnd (Ended found.outcome)
+end_counted typed p n is records turns found same =
+    counted found.outcome (subst (λ (r : Run). IsEnding r.outcome) (sym same) (typed_run typed p n is records turns).outcome)

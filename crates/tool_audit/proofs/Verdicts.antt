@@ -20,7 +20,7 @@ use Rattle.report.specs.Precision.{next_text}
 use Rattle.report.specs.VerdictLine.{verdict_text, event_at}
 use Rattle.tool_steps.specs.Results.{run_text}
 use Rattle.trace_file.specs.Trace.{IsTrace}
-use Rattle.tool_audit.specs.Audit.{IsAcceptedOrBound, IsAuditOf, IsAuditStatus, lines_of}
+use Rattle.tool_audit.specs.Audit.{AreReported, IsAcceptedOrBound, IsAuditOf, IsAuditStatus}
 use Rattle.tool_audit.specs.Heard.{AreHeard}
 
 -- no first part is deeper than the whole
@@ -56,29 +56,41 @@ regrouped x y z n = append_assoc x (y ++ (z ++ [])) n ∙ ap (λ (w : List ℕ).
 abbrev line : List Event → Which → Verdict → List ℕ
 line t w v = verdict_text w v (event_at t v)
 
-pub audit_of : (g : Graph) (bound : ℕ) (r : Run) (status : Status) (heard text : List ℕ) → IsAcceptedByAll g bound r.trace → AreHeard g bound r.trace status heard → text ≡ run_text r ++ heard → IsTrace (run_text r) r.trace (Ended r.outcome) → IsAuditOf g bound r status text
-audit_of g bound r status heard text all said writes formed =
-    let first : said.callgraph ≡ Accepted (length r.trace) = one_verdict Callgraph g bound r.trace said.callgraph callgraph_alone all.others.callgraph said.is_callgraph in
-    let second : said.stack ≡ Accepted (length r.trace) = one_verdict Stack g bound r.trace said.stack stack_alone all.others.stack said.is_stack in
+-- what is reported of a trace that the monitors accept
+pub reported : (g : Graph) (bound : ℕ) (t : List Event) (status : Status) (heard : List ℕ) → IsAcceptedByAll g bound t → AreHeard g bound t status heard → AreReported g bound t status heard
+reported g bound t status heard all said =
+    let first : said.callgraph ≡ Accepted (length t) = one_verdict Callgraph g bound t said.callgraph callgraph_alone all.others.callgraph said.is_callgraph in
+    let second : said.stack ≡ Accepted (length t) = one_verdict Stack g bound t said.stack stack_alone all.others.stack said.is_stack in
     let ended : status ≡ status_of said.dyck =
-    subst (λ (v : Verdict). status ≡ worse (status_of v) (worse (status_of (Accepted (length r.trace))) (status_of said.dyck))) first
+    subst (λ (v : Verdict). status ≡ worse (status_of v) (worse (status_of (Accepted (length t))) (status_of said.dyck))) first
     (subst (λ (v : Verdict). status ≡ worse (status_of said.callgraph) (worse (status_of v) (status_of said.dyck))) second said.ends) in
-    let lines : heard ≡ line r.trace Callgraph (Accepted (length r.trace)) ++ (line r.trace Stack (Accepted (length r.trace)) ++ (line r.trace Dyck said.dyck ++ next_text said.callgraph_next said.stack_next said.dyck_next)) =
-    subst (λ (v : Verdict). heard ≡ line r.trace Callgraph v ++ (line r.trace Stack (Accepted (length r.trace)) ++ (line r.trace Dyck said.dyck ++ next_text said.callgraph_next said.stack_next said.dyck_next))) first
-    (subst (λ (v : Verdict). heard ≡ line r.trace Callgraph said.callgraph ++ (line r.trace Stack v ++ (line r.trace Dyck said.dyck ++ next_text said.callgraph_next said.stack_next said.dyck_next))) second said.writes) in
-    let put : heard ≡ lines_of r.trace said.dyck ++ next_text said.callgraph_next said.stack_next said.dyck_next =
-    lines ∙ sym (regrouped (line r.trace Callgraph (Accepted (length r.trace))) (line r.trace Stack (Accepted (length r.trace))) (line r.trace Dyck said.dyck) (next_text said.callgraph_next said.stack_next said.dyck_next)) in
+    let lines : heard ≡ line t Callgraph (Accepted (length t)) ++ (line t Stack (Accepted (length t)) ++ (line t Dyck said.dyck ++ next_text said.callgraph_next said.stack_next said.dyck_next)) =
+    subst (λ (v : Verdict). heard ≡ line t Callgraph v ++ (line t Stack (Accepted (length t)) ++ (line t Dyck said.dyck ++ next_text said.callgraph_next said.stack_next said.dyck_next))) first
+    (subst (λ (v : Verdict). heard ≡ line t Callgraph said.callgraph ++ (line t Stack v ++ (line t Dyck said.dyck ++ next_text said.callgraph_next said.stack_next said.dyck_next))) second said.writes) in
     record {
       dyck = said.dyck;
-      verdicts = record { callgraph = all.others.callgraph; stack = all.others.stack; is_dyck = said.is_dyck; accepted = dyck_verdict g bound r.trace said.dyck all said.is_dyck };
+      verdicts = record { callgraph = all.others.callgraph; stack = all.others.stack; is_dyck = said.is_dyck; accepted = dyck_verdict g bound t said.dyck all said.is_dyck };
       callgraph_next = said.callgraph_next;
       stack_next = said.stack_next;
       dyck_next = said.dyck_next;
       next = said.next;
       ends = ended;
-      writes = writes ∙ ap (λ (w : List ℕ). run_text r ++ w) put;
-      formed = formed;
+      writes = lines ∙ sym (regrouped (line t Callgraph (Accepted (length t))) (line t Stack (Accepted (length t))) (line t Dyck said.dyck) (next_text said.callgraph_next said.stack_next said.dyck_next));
     }
+
+-- the audit of a run, by what is reported of its trace
+pub audit_of : (g : Graph) (bound : ℕ) (r : Run) (status : Status) (heard text : List ℕ) → AreReported g bound r.trace status heard → text ≡ run_text r ++ heard → IsTrace (run_text r) r.trace (Ended r.outcome) → IsAuditOf g bound r status text
+audit_of g bound r status heard text said writes formed = record {
+  dyck = said.dyck;
+  verdicts = said.verdicts;
+  callgraph_next = said.callgraph_next;
+  stack_next = said.stack_next;
+  dyck_next = said.dyck_next;
+  next = said.next;
+  ends = said.ends;
+  writes = writes ∙ ap (λ (w : List ℕ). run_text r ++ w) said.writes;
+  formed = formed;
+}
 
 -- the status of an audit is never that of a rejection
 pub audit_ends : (g : Graph) (bound : ℕ) (r : Run) (status : Status) (text : List ℕ) → IsAuditOf g bound r status text → IsAuditStatus status

@@ -53,6 +53,17 @@ pub record AreNext (g : Graph) (bound : ℕ) (t : List Event) (callgraph stack d
   pub in_stack : IsNext Stack g bound t stack
   pub in_dyck : IsNext Dyck g bound t dyck
 
+-- What the monitors of the graph say of the trace: a status, and a text of their verdict lines and the line of the calls that may come next.
+pub record AreReported (g : Graph) (bound : ℕ) (t : List Event) (status : Status) (text : List ℕ) : Type 0 where
+  pub dyck : Verdict
+  pub verdicts : AreVerdicts g bound t dyck
+  pub callgraph_next : ℕ
+  pub stack_next : ℕ
+  pub dyck_next : ℕ
+  pub next : AreNext g bound t callgraph_next stack_next dyck_next
+  pub ends : status ≡ status_of dyck
+  pub writes : text ≡ lines_of t dyck ++ next_text callgraph_next stack_next dyck_next
+
 -- The text of the audit of a run: its trace and outcome, the verdict lines of the monitors of the graph on the trace, and the line of the
 -- calls that may come next.
 pub record IsAuditOf (g : Graph) (bound : ℕ) (r : Run) (status : Status) (text : List ℕ) : Type 0 where

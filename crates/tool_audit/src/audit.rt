@@ -1,10 +1,11 @@
 ghost use Rattle.std.specs.Prelude.{◌≡◌, ◌++◌, ◌≤◌, ◌<◌, ◌^◌, ℕ, List, IfOk, IfErr, IfSome, OnOk};
 ghost use Rattle.alarm_laws.specs.MarkedRuns.{marked_run};
-ghost use Rattle.tool_audit.specs.Audit.{Audits, IsAuditOf, IsAuditStatus, LacksToAudit, RefusesToAudit};
+ghost use Rattle.tool_audit.specs.Audit.{AreReported, Audits, IsAuditOf, IsAuditStatus, LacksToAudit, RefusesToAudit};
 ghost use Rattle.tool_audit.specs.Stopping.{StopsAuditing};
 ghost use Rattle.c_tree.specs.View.{program_of};
 ghost use Rattle.dm_base.specs.declared.mode.Mode.TheVariants.{Plain};
 ghost use Rattle.flow_graph_laws.specs.GraphOfProgram.{graph_of_program};
+ghost use Rattle.ref_machine.specs.WholeRuns.{run_of};
 ghost use Rattle.tool_sources.specs.Sources.{IsSourceOf};
 ghost use Rattle.tool_frame.specs.Stop.{Stops};
 
@@ -15,6 +16,7 @@ use c_meaning_laws::values_have_kinds;
 use dm_base::{Mode, OutOfMemory, Status, TraceEnd};
 use dm_io::Store;
 use headline::texts_raise_no_alarm;
+use ref_machine::Run;
 use std::alloc::Global;
 use sys_table::SysResult;
 use tool_frame::{Finished, Stop};
@@ -32,8 +34,58 @@ fn joined(first: Vec<u8>, second: &[u8]) -> Result<Vec<u8>, OutOfMemory>
     Ok(text)
 }
 
-// The audit of a source's program with these recorded results and so many turns.
-fn audited(
+/// A run and what the monitors say of it.
+#[derive(Drop)]
+pub struct Audited {
+    pub run: Run,
+    /// How many nodes the model of the program has.
+    pub nodes: u32,
+    /// The verdict lines of the three monitors with their status, and the line of the calls that may come next.
+    pub verdicts: Finished,
+}
+
+/// Audits the program of a C text: the text is instrumented, its program runs with these recorded results and so many turns, and the trace
+/// is judged by the three monitors of the text's own model, with a bound from 1 to 65,535 of open calls for the Dyck monitor (Giffin, Jha
+/// and Miller 2004).
+///
+/// # Errors
+///
+/// `Source` where the model would have more than 200,000 nodes, and `OutOfMemory`.
+pub fn audit_program(
+    alloc: Global,
+    source: &Source,
+    records: &[SysResult],
+    turns: u32,
+    bound: u32,
+) -> Result<Audited, Stop>
+    requires source { (text : List ℕ) × IsSourceOf text Plain source.now }
+    requires bound { (1 ≤ bound) × (bound < 2 ^ 16) }
+    ensures run { IfOk result (λ audited. run_of audited.run ≡ marked_run (program_of source.now.program) records.now turns) }
+    ensures nodes { IfOk result (λ audited. audited.nodes ≡ (graph_of_program (program_of source.now.program)).nodes) }
+    ensures few { OnOk result ((graph_of_program (program_of source.now.program)).nodes ≤ 200000) }
+    ensures verdicts { IfOk result (λ audited. AreReported (graph_of_program (program_of source.now.program)) bound (marked_run (program_of source.now.program) records.now turns).trace audited.verdicts.status audited.verdicts.text.items) }
+    ensures stop { IfErr result (λ stop. StopsAuditing stop (program_of source.now.program)) }
+{
+    texts_raise_no_alarm();
+    let model = match model_of(alloc, &source.program) {
+        Ok(model) => model,
+        Err(stop) => return Err(stop),
+    };
+    let program = instrumented_program(alloc, source)?;
+    let followed = followed_run::<AllMonitors>(alloc, &program, records, turns, &model, bound)?;
+    let Followed { run, monitors } = followed;
+    let heard = monitors.conclude(alloc, &model)?;
+    let verdicts = report(alloc, heard)?;
+    let nodes = model.nodes();
+    Ok(Audited {
+        run,
+        nodes,
+        verdicts,
+    })
+}
+
+// The text of the audit of a source's program with these recorded results and so many turns.
+fn audit_text(
     alloc: Global,
     source: &Source,
     records: &[SysResult],
@@ -46,18 +98,17 @@ fn audited(
     ensures few { OnOk result ((graph_of_program (program_of source.now.program)).nodes ≤ 200000) }
     ensures stop { IfErr result (λ stop. StopsAuditing stop (program_of source.now.program)) }
 {
-    texts_raise_no_alarm();
     values_have_kinds();
-    let model = match model_of(alloc, &source.program) {
-        Ok(model) => model,
+    let _sites = source.program.sites();
+    let found = match audit_program(alloc, source, records, turns, bound) {
+        Ok(found) => found,
         Err(stop) => return Err(stop),
     };
-    let program = instrumented_program(alloc, source)?;
-    let _sites = program.sites();
-    let followed = followed_run::<AllMonitors>(alloc, &program, records, turns, &model, bound)?;
-    let Followed { run, monitors } = followed;
-    let heard = monitors.conclude(alloc, &model)?;
-    let verdicts = report(alloc, heard)?;
+    let Audited {
+        run,
+        nodes: _nodes,
+        verdicts,
+    } = found;
     let trace = write_trace(alloc, &run.trace, &TraceEnd::Ended(run.outcome))?;
     let text = joined(trace, &verdicts.text)?;
     Ok(Finished {
@@ -92,7 +143,7 @@ pub fn audit_source<S: Store>(
 {
     let source = source_in(alloc, store, name, Mode::Plain)?;
     let records = results_in(alloc, store, results)?;
-    match audited(alloc, &source, &records, turns, bound) {
+    match audit_text(alloc, &source, &records, turns, bound) {
         Ok(finished) => Ok(finished),
         Err(stop) => Err(stop),
     }

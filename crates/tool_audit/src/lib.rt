@@ -7,4 +7,4 @@ mod following;
 mod programs;
 mod reports;
 
-pub use audit::audit_source;
+pub use audit::{Audited, audit_program, audit_source};

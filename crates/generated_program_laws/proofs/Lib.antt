@@ -1,0 +1,7 @@
+pub mod Names
+pub mod Scopes
+pub mod Bodies
+pub mod Definitions
+pub mod Typed
+pub mod Written
+pub mod Read

@@ -1,0 +1,2 @@
+pub mod Selftest
+pub mod Summary

@@ -1,0 +1,7 @@
+//! The command `selftest`: a program is generated, audited from its text on, and told in a summary with its verdicts.
+#![tactic(auto)]
+
+mod selftest;
+mod summary;
+
+pub use selftest::self_test;
