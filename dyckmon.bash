@@ -8,6 +8,8 @@ declare -gA _dyckmon_words=(
     [codes]=''
     [confirm]='MODEL TRACE CERTIFICATE'
     [depth]='MODEL'
+    [expected]='MODEL TRACE WHICH [K]'
+    [explain]='FILE'
     [fleet]='SCHEDULE WHICH'
     [inline]='MODEL'
     [instrument]='FILE'
@@ -16,6 +18,8 @@ declare -gA _dyckmon_words=(
     [model]='FILE'
     [picture]='MODEL'
     [run]='FILE RESULTS TURNS'
+    [selftest]='NUMBER SIZE'
+    [sites]='FILE'
     [upgrade]='MODEL'
     [watch]='MODEL TRACES WHICH [K]'
 )

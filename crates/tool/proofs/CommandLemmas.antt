@@ -26,13 +26,15 @@ use Rattle.tool_files.proofs.InputLemmas.{judge_ready, judge_status}
 use Rattle.tool_models.proofs.FileLemmas.{watch_ready, upgrade_ready, judged_apart, measured_apart, watched_apart, upgrade_or_refused, watch_status, upgrade_status}
 use Rattle.tool_reading.proofs.FileLemmas.{picture_ready, picture_apart, picture_status}
 use Rattle.tool_run.proofs.FileLemmas.{run_ready, run_apart, run_status}
+use Rattle.tool_explain.proofs.ExplainLemmas.{explain_ready, explained_apart, explain_status}
+use Rattle.tool_sites.proofs.FileLemmas.{sites_ready, sites_apart}
 use Rattle.tool_texts.proofs.FileLemmas.{check_ready, checked_apart, check_status, model_ready, modelled_apart, model_status}
 use Rattle.tool.specs.Command.{Command, IsCommandLine, IsAskedBy, judge_word}
 use Rattle.tool.specs.Command.{FileCommand, TraceCommand, file_word, trace_word, WordCommand, command_word}
-use Rattle.tool.specs.Command.FileCommand.{Check, Depth, Inline, Instrument, Model, Picture, Upgrade}
-use Rattle.tool.specs.Command.Command.{Version, OfWord, OfFile, OfTrace, Measure, Fleet, Run, Audit, Confirm, Certify}
+use Rattle.tool.specs.Command.FileCommand.{Check, Depth, Explain, Inline, Instrument, Model, Picture, Sites, Upgrade}
+use Rattle.tool.specs.Command.Command.{Version, OfWord, OfFile, OfTrace, Measure, Fleet, Run, Audit, Confirm, Certify, Selftest}
 use Rattle.tool.specs.Command.WordCommand.{Help, Codes}
-use Rattle.tool.specs.Command.TraceCommand.{Judge, Watch}
+use Rattle.tool.specs.Command.TraceCommand.{Expected, Judge, Watch}
 use Rattle.tool.specs.Commands.{Makes, Refuses, IsReady}
 
 -- command lines
@@ -82,9 +84,10 @@ one_judge : (which other : CertifiedModel) → judge_word which ≡ judge_word o
 one_judge which other same = sym (of_judge which) ∙ ap (λ (w : List ℕ). judge_of (get_or w 0 0)) same ∙ of_judge other
 
 abbrev trace_command_of : ℕ → TraceCommand
-trace_command_of byte = if nat_eq byte 106 then Judge else Watch
+trace_command_of byte = if nat_eq byte 106 then Judge else (if nat_eq byte 119 then Watch else Expected)
 
 of_trace_command : (which : TraceCommand) → trace_command_of (get_or (trace_word which) 0 0) ≡ which
+of_trace_command Expected = refl
 of_trace_command Judge = refl
 of_trace_command Watch = refl
 
@@ -102,21 +105,24 @@ of_word_command Codes = refl
 one_word_command : (which other : WordCommand) → command_word which ≡ command_word other → which ≡ other
 one_word_command which other same = sym (of_word_command which) ∙ ap (λ (w : List ℕ). word_command_of (get_or w 0 0)) same ∙ of_word_command other
 
-abbrev file_command_of : ℕ → FileCommand
-file_command_of byte =
-    if nat_eq byte 101 then Check else (if nat_eq byte 112 then Depth else (if nat_eq byte 108 then Inline else (if nat_eq byte 115 then Instrument else (if nat_eq byte 100 then Model else (if nat_eq byte 99 then Picture else Upgrade)))))
+-- a command of one file, told by its first and its third byte
+abbrev file_command_of : List ℕ → FileCommand
+file_command_of w =
+    if nat_eq (get_or w 0 0) 101 then Explain else (if nat_eq (get_or w 2 0) 101 then Check else (if nat_eq (get_or w 2 0) 112 then Depth else (if nat_eq (get_or w 2 0) 108 then Inline else (if nat_eq (get_or w 2 0) 115 then Instrument else (if nat_eq (get_or w 2 0) 100 then Model else (if nat_eq (get_or w 2 0) 99 then Picture else (if nat_eq (get_or w 2 0) 116 then Sites else Upgrade)))))))
 
-of_file_command : (which : FileCommand) → file_command_of (get_or (file_word which) 2 0) ≡ which
+of_file_command : (which : FileCommand) → file_command_of (file_word which) ≡ which
 of_file_command Check = refl
 of_file_command Depth = refl
+of_file_command Explain = refl
 of_file_command Inline = refl
 of_file_command Instrument = refl
 of_file_command Model = refl
 of_file_command Picture = refl
+of_file_command Sites = refl
 of_file_command Upgrade = refl
 
 one_file_command : (which other : FileCommand) → file_word which ≡ file_word other → which ≡ other
-one_file_command which other same = sym (of_file_command which) ∙ ap (λ (w : List ℕ). file_command_of (get_or w 2 0)) same ∙ of_file_command other
+one_file_command which other same = sym (of_file_command which) ∙ ap file_command_of same ∙ of_file_command other
 
 no_clash : false ≡ true → ⊥
 no_clash same = cc same
@@ -144,6 +150,7 @@ one_command Version (Run m t again) words line next = elim line [ inl is ↦ cc 
 one_command Version (Audit m t again greatest) words line next = elim line [ inl is ↦ cc (is, next.0) | inr is ↦ cc (is, next.0) ]
 one_command Version (Confirm m t q) words line next = elim line [ inl is ↦ cc (is, next) | inr is ↦ cc (is, next) ]
 one_command Version (Certify m t again) words line next = elim line [ inl is ↦ cc (is, next) | inr is ↦ cc (is, next) ]
+one_command Version (Selftest m t) words line next = elim line [ inl is ↦ cc (is, next.0) | inr is ↦ cc (is, next.0) ]
 one_command (OfWord which) Version words line next = elim next [ inl is ↦ cc (is, line) | inr is ↦ absurd (no_version which (cc (is, line))) ]
 one_command (OfWord which) (OfWord other) words line next =
     let command : which ≡ other = one_word_command which other (cc (line, next)) in
@@ -156,6 +163,7 @@ one_command (OfWord which) (Run m t again) words line next = cc (line, next.0)
 one_command (OfWord which) (Audit m t again greatest) words line next = cc (line, next.0)
 one_command (OfWord which) (Confirm m t q) words line next = cc (line, next)
 one_command (OfWord which) (Certify m t again) words line next = cc (line, next)
+one_command (OfWord which) (Selftest m t) words line next = cc (line, next.0)
 one_command (OfFile which name) Version words line next = elim next [ inl is ↦ cc (is, line) | inr is ↦ cc (is, line) ]
 one_command (OfFile which name) (OfWord other) words line next = cc (line, next)
 one_command (OfFile which name) (OfFile other file) words line next =
@@ -169,6 +177,7 @@ one_command (OfFile which name) (Run m t again) words line next = cc (line, next
 one_command (OfFile which name) (Audit m t again greatest) words line next = cc (line, next.0)
 one_command (OfFile which name) (Confirm m t q) words line next = cc (line, next)
 one_command (OfFile which name) (Certify m t again) words line next = cc (line, next)
+one_command (OfFile which name) (Selftest m t) words line next = cc (line, next.0)
 one_command (OfTrace command model trace which bound) Version words line next = elim next [ inl is ↦ cc (is, line.1) | inr is ↦ cc (is, line.1) ]
 one_command (OfTrace command model trace which bound) (OfWord other) words line next = cc (line.1, next)
 one_command (OfTrace command model trace which bound) (OfFile other file) words line next = cc (line.1, next)
@@ -179,21 +188,31 @@ one_command (OfTrace command model trace which bound) (OfTrace other m t again m
     let models : model ≡ m = cc (line.1, next.1) in
     let traces : trace ≡ t = cc (line.1, next.1) in
     cc (commands, models, traces, parts.0, parts.1)
+one_command (OfTrace Expected model trace which bound) (Measure m t again) words line next = absurd (apart words 0 101 109 (trace_word Expected) (codes "measure") _ _ refl refl refl refl line.1 next)
 one_command (OfTrace Judge model trace which bound) (Measure m t again) words line next = absurd (apart words 0 106 109 (trace_word Judge) (codes "measure") _ _ refl refl refl refl line.1 next)
 one_command (OfTrace Watch model trace which bound) (Measure m t again) words line next = absurd (apart words 0 119 109 (trace_word Watch) (codes "measure") _ _ refl refl refl refl line.1 next)
+one_command (OfTrace Expected model trace which bound) (Fleet m again) words line next = absurd (apart words 0 101 102 (trace_word Expected) (codes "fleet") _ _ refl refl refl refl line.1 next)
 one_command (OfTrace Judge model trace which bound) (Fleet m again) words line next = absurd (apart words 0 106 102 (trace_word Judge) (codes "fleet") _ _ refl refl refl refl line.1 next)
 one_command (OfTrace Watch model trace which bound) (Fleet m again) words line next = absurd (apart words 0 119 102 (trace_word Watch) (codes "fleet") _ _ refl refl refl refl line.1 next)
+one_command (OfTrace Expected model trace which bound) (Run m t again) words line next = absurd (apart words 0 101 114 (trace_word Expected) (codes "run") _ _ refl refl refl refl line.1 next.0)
 one_command (OfTrace Judge model trace which bound) (Run m t again) words line next = absurd (apart words 0 106 114 (trace_word Judge) (codes "run") _ _ refl refl refl refl line.1 next.0)
 one_command (OfTrace Watch model trace which bound) (Run m t again) words line next = absurd (apart words 0 119 114 (trace_word Watch) (codes "run") _ _ refl refl refl refl line.1 next.0)
+one_command (OfTrace Expected model trace which bound) (Audit m t again greatest) words line next = absurd (apart words 0 101 97 (trace_word Expected) (codes "audit") _ _ refl refl refl refl line.1 next.0)
 one_command (OfTrace Judge model trace which bound) (Audit m t again greatest) words line next = absurd (apart words 0 106 97 (trace_word Judge) (codes "audit") _ _ refl refl refl refl line.1 next.0)
 one_command (OfTrace Watch model trace which bound) (Audit m t again greatest) words line next = absurd (apart words 0 119 97 (trace_word Watch) (codes "audit") _ _ refl refl refl refl line.1 next.0)
+one_command (OfTrace Expected model trace which bound) (Confirm m t q) words line next = absurd (apart words 0 101 99 (trace_word Expected) (codes "confirm") _ _ refl refl refl refl line.1 next)
 one_command (OfTrace Judge model trace which bound) (Confirm m t q) words line next = absurd (apart words 0 106 99 (trace_word Judge) (codes "confirm") _ _ refl refl refl refl line.1 next)
 one_command (OfTrace Watch model trace which bound) (Confirm m t q) words line next = absurd (apart words 0 119 99 (trace_word Watch) (codes "confirm") _ _ refl refl refl refl line.1 next)
+one_command (OfTrace Expected model trace which bound) (Certify m t again) words line next = absurd (apart words 0 101 99 (trace_word Expected) (codes "certify") _ _ refl refl refl refl line.1 next)
 one_command (OfTrace Judge model trace which bound) (Certify m t again) words line next = absurd (apart words 0 106 99 (trace_word Judge) (codes "certify") _ _ refl refl refl refl line.1 next)
 one_command (OfTrace Watch model trace which bound) (Certify m t again) words line next = absurd (apart words 0 119 99 (trace_word Watch) (codes "certify") _ _ refl refl refl refl line.1 next)
+one_command (OfTrace Expected model trace which bound) (Selftest m t) words line next = absurd (apart words 0 101 115 (trace_word Expected) (codes "selftest") _ _ refl refl refl refl line.1 next.0)
+one_command (OfTrace Judge model trace which bound) (Selftest m t) words line next = absurd (apart words 0 106 115 (trace_word Judge) (codes "selftest") _ _ refl refl refl refl line.1 next.0)
+one_command (OfTrace Watch model trace which bound) (Selftest m t) words line next = absurd (apart words 0 119 115 (trace_word Watch) (codes "selftest") _ _ refl refl refl refl line.1 next.0)
 one_command (Measure model trace which) Version words line next = elim next [ inl is ↦ cc (is, line) | inr is ↦ cc (is, line) ]
 one_command (Measure model trace which) (OfWord other) words line next = cc (line, next)
 one_command (Measure model trace which) (OfFile other file) words line next = cc (line, next)
+one_command (Measure model trace which) (OfTrace Expected m t again most) words line next = absurd (apart words 0 109 101 (codes "measure") (trace_word Expected) _ _ refl refl refl refl line next.1)
 one_command (Measure model trace which) (OfTrace Judge m t again most) words line next = absurd (apart words 0 109 106 (codes "measure") (trace_word Judge) _ _ refl refl refl refl line next.1)
 one_command (Measure model trace which) (OfTrace Watch m t again most) words line next = absurd (apart words 0 109 119 (codes "measure") (trace_word Watch) _ _ refl refl refl refl line next.1)
 one_command (Measure model trace which) (Measure m t again) words line next =
@@ -206,9 +225,11 @@ one_command (Measure model trace which) (Run m t again) words line next = absurd
 one_command (Measure model trace which) (Audit m t again greatest) words line next = cc (line, next.0)
 one_command (Measure model trace which) (Confirm m t q) words line next = absurd (apart words 0 109 99 (codes "measure") (codes "confirm") _ _ refl refl refl refl line next)
 one_command (Measure model trace which) (Certify m t again) words line next = absurd (apart words 0 109 99 (codes "measure") (codes "certify") _ _ refl refl refl refl line next)
+one_command (Measure model trace which) (Selftest m t) words line next = cc (line, next.0)
 one_command (Fleet schedule which) Version words line next = elim next [ inl is ↦ cc (is, line) | inr is ↦ cc (is, line) ]
 one_command (Fleet schedule which) (OfWord other) words line next = cc (line, next)
 one_command (Fleet schedule which) (OfFile other file) words line next = cc (line, next)
+one_command (Fleet schedule which) (OfTrace Expected m t again most) words line next = absurd (apart words 0 102 101 (codes "fleet") (trace_word Expected) _ _ refl refl refl refl line next.1)
 one_command (Fleet schedule which) (OfTrace Judge m t again most) words line next = absurd (apart words 0 102 106 (codes "fleet") (trace_word Judge) _ _ refl refl refl refl line next.1)
 one_command (Fleet schedule which) (OfTrace Watch m t again most) words line next = absurd (apart words 0 102 119 (codes "fleet") (trace_word Watch) _ _ refl refl refl refl line next.1)
 one_command (Fleet schedule which) (Measure m t again) words line next = cc (line, next)
@@ -220,9 +241,11 @@ one_command (Fleet schedule which) (Run m t again) words line next = cc (line, n
 one_command (Fleet schedule which) (Audit m t again greatest) words line next = cc (line, next.0)
 one_command (Fleet schedule which) (Confirm m t q) words line next = cc (line, next)
 one_command (Fleet schedule which) (Certify m t again) words line next = cc (line, next)
+one_command (Fleet schedule which) (Selftest m t) words line next = absurd (apart words 0 102 115 (codes "fleet") (codes "selftest") _ _ refl refl refl refl line next.0)
 one_command (Run source results turns) Version words line next = elim next [ inl is ↦ cc (is, line.0) | inr is ↦ cc (is, line.0) ]
 one_command (Run source results turns) (OfWord other) words line next = cc (line.0, next)
 one_command (Run source results turns) (OfFile other file) words line next = cc (line.0, next)
+one_command (Run source results turns) (OfTrace Expected m t again most) words line next = absurd (apart words 0 114 101 (codes "run") (trace_word Expected) _ _ refl refl refl refl line.0 next.1)
 one_command (Run source results turns) (OfTrace Judge m t again most) words line next = absurd (apart words 0 114 106 (codes "run") (trace_word Judge) _ _ refl refl refl refl line.0 next.1)
 one_command (Run source results turns) (OfTrace Watch m t again most) words line next = absurd (apart words 0 114 119 (codes "run") (trace_word Watch) _ _ refl refl refl refl line.0 next.1)
 one_command (Run source results turns) (Measure m t again) words line next = absurd (apart words 0 114 109 (codes "run") (codes "measure") _ _ refl refl refl refl line.0 next)
@@ -235,9 +258,11 @@ one_command (Run source results turns) (Run m t again) words line next =
 one_command (Run source results turns) (Audit m t again greatest) words line next = cc (line.0, next.0)
 one_command (Run source results turns) (Confirm m t q) words line next = absurd (apart words 0 114 99 (codes "run") (codes "confirm") _ _ refl refl refl refl line.0 next)
 one_command (Run source results turns) (Certify m t again) words line next = absurd (apart words 0 114 99 (codes "run") (codes "certify") _ _ refl refl refl refl line.0 next)
+one_command (Run source results turns) (Selftest m t) words line next = cc (line.0, next.0)
 one_command (Audit source results turns bound) Version words line next = elim next [ inl is ↦ cc (is, line.0) | inr is ↦ cc (is, line.0) ]
 one_command (Audit source results turns bound) (OfWord other) words line next = cc (line.0, next)
 one_command (Audit source results turns bound) (OfFile other file) words line next = cc (line.0, next)
+one_command (Audit source results turns bound) (OfTrace Expected m t again most) words line next = absurd (apart words 0 97 101 (codes "audit") (trace_word Expected) _ _ refl refl refl refl line.0 next.1)
 one_command (Audit source results turns bound) (OfTrace Judge m t again most) words line next = absurd (apart words 0 97 106 (codes "audit") (trace_word Judge) _ _ refl refl refl refl line.0 next.1)
 one_command (Audit source results turns bound) (OfTrace Watch m t again most) words line next = absurd (apart words 0 97 119 (codes "audit") (trace_word Watch) _ _ refl refl refl refl line.0 next.1)
 one_command (Audit source results turns bound) (Measure m t again) words line next = cc (line.0, next)
@@ -251,9 +276,11 @@ one_command (Audit source results turns bound) (Audit m t again greatest) words 
     cc (sources, records, numbers, bounds)
 one_command (Audit source results turns bound) (Confirm m t q) words line next = cc (line.0, next)
 one_command (Audit source results turns bound) (Certify m t again) words line next = cc (line.0, next)
+one_command (Audit source results turns bound) (Selftest m t) words line next = cc (line.0, next.0)
 one_command (Confirm model trace certificate) Version words line next = elim next [ inl is ↦ cc (is, line) | inr is ↦ cc (is, line) ]
 one_command (Confirm model trace certificate) (OfWord other) words line next = cc (line, next)
 one_command (Confirm model trace certificate) (OfFile other file) words line next = cc (line, next)
+one_command (Confirm model trace certificate) (OfTrace Expected m t again most) words line next = absurd (apart words 0 99 101 (codes "confirm") (trace_word Expected) _ _ refl refl refl refl line next.1)
 one_command (Confirm model trace certificate) (OfTrace Judge m t again most) words line next = absurd (apart words 0 99 106 (codes "confirm") (trace_word Judge) _ _ refl refl refl refl line next.1)
 one_command (Confirm model trace certificate) (OfTrace Watch m t again most) words line next = absurd (apart words 0 99 119 (codes "confirm") (trace_word Watch) _ _ refl refl refl refl line next.1)
 one_command (Confirm model trace certificate) (Measure m t again) words line next = absurd (apart words 0 99 109 (codes "confirm") (codes "measure") _ _ refl refl refl refl line next)
@@ -266,9 +293,11 @@ one_command (Confirm model trace certificate) (Confirm m t q) words line next =
     let certificates : certificate ≡ q = cc (line, next) in
     cc (models, traces, certificates)
 one_command (Confirm model trace certificate) (Certify m t again) words line next = absurd (apart words 1 111 101 (codes "confirm") (codes "certify") _ _ refl refl refl refl line next)
+one_command (Confirm model trace certificate) (Selftest m t) words line next = cc (line, next.0)
 one_command (Certify model trace which) Version words line next = elim next [ inl is ↦ cc (is, line) | inr is ↦ cc (is, line) ]
 one_command (Certify model trace which) (OfWord other) words line next = cc (line, next)
 one_command (Certify model trace which) (OfFile other file) words line next = cc (line, next)
+one_command (Certify model trace which) (OfTrace Expected m t again most) words line next = absurd (apart words 0 99 101 (codes "certify") (trace_word Expected) _ _ refl refl refl refl line next.1)
 one_command (Certify model trace which) (OfTrace Judge m t again most) words line next = absurd (apart words 0 99 106 (codes "certify") (trace_word Judge) _ _ refl refl refl refl line next.1)
 one_command (Certify model trace which) (OfTrace Watch m t again most) words line next = absurd (apart words 0 99 119 (codes "certify") (trace_word Watch) _ _ refl refl refl refl line next.1)
 one_command (Certify model trace which) (Measure m t again) words line next = absurd (apart words 0 99 109 (codes "certify") (codes "measure") _ _ refl refl refl refl line next)
@@ -281,6 +310,23 @@ one_command (Certify model trace which) (Certify m t again) words line next =
     let models : model ≡ m = cc (line, next) in
     let traces : trace ≡ t = cc (line, next) in
     cc (models, traces, asked)
+one_command (Certify model trace which) (Selftest m t) words line next = cc (line, next.0)
+one_command (Selftest number size) Version words line next = elim next [ inl is ↦ cc (is, line.0) | inr is ↦ cc (is, line.0) ]
+one_command (Selftest number size) (OfWord other) words line next = cc (line.0, next)
+one_command (Selftest number size) (OfFile other file) words line next = cc (line.0, next)
+one_command (Selftest number size) (OfTrace Expected m t again most) words line next = absurd (apart words 0 115 101 (codes "selftest") (trace_word Expected) _ _ refl refl refl refl line.0 next.1)
+one_command (Selftest number size) (OfTrace Judge m t again most) words line next = absurd (apart words 0 115 106 (codes "selftest") (trace_word Judge) _ _ refl refl refl refl line.0 next.1)
+one_command (Selftest number size) (OfTrace Watch m t again most) words line next = absurd (apart words 0 115 119 (codes "selftest") (trace_word Watch) _ _ refl refl refl refl line.0 next.1)
+one_command (Selftest number size) (Measure m t again) words line next = cc (line.0, next)
+one_command (Selftest number size) (Fleet m again) words line next = absurd (apart words 0 115 102 (codes "selftest") (codes "fleet") _ _ refl refl refl refl line.0 next)
+one_command (Selftest number size) (Run m t again) words line next = cc (line.0, next.0)
+one_command (Selftest number size) (Audit m t again greatest) words line next = cc (line.0, next.0)
+one_command (Selftest number size) (Confirm m t q) words line next = cc (line.0, next)
+one_command (Selftest number size) (Certify m t again) words line next = cc (line.0, next)
+one_command (Selftest number size) (Selftest m t) words line next =
+    let numbers : number ≡ m = decimal_injective number m (omega (arith, line.1)) (omega (arith, next.1)) (cc (line.0, next.0)) in
+    let sizes : size ≡ t = decimal_injective size t (omega (arith, line.3)) (omega (arith, next.3)) (cc (line.0, next.0)) in
+    cc (numbers, sizes)
 
 -- a command that is ready refuses nothing
 ready_apart : (c : Command) (files : Option Files) (status : Status) (line : List ℕ) → IsReady c files → Refuses c files status line → ⊥
@@ -288,17 +334,21 @@ ready_apart Version files status line ready refuses = refuses
 ready_apart (OfWord which) files status line ready refuses = refuses
 ready_apart (OfFile Check name) files status line ready refuses = check_ready files name line status ready refuses
 ready_apart (OfFile Depth name) files status line ready refuses = depth_ready files name line status ready refuses
+ready_apart (OfFile Explain name) files status line ready refuses = explain_ready files name line status ready refuses
 ready_apart (OfFile Inline name) files status line ready refuses = inline_ready files name line status ready refuses
 ready_apart (OfFile Instrument name) files status line ready refuses = instrument_ready files name line status ready refuses
 ready_apart (OfFile Model name) files status line ready refuses = model_ready files name line status ready refuses
 ready_apart (OfFile Picture name) files status line ready refuses = picture_ready files name line status ready refuses
+ready_apart (OfFile Sites name) files status line ready refuses = sites_ready files name line status ready refuses
 ready_apart (OfFile Upgrade name) files status line ready refuses = upgrade_ready files name line status ready refuses
+ready_apart (OfTrace Expected model trace which bound) files status line ready refuses = judge_ready files model trace line status ready refuses
 ready_apart (OfTrace Judge model trace which bound) files status line ready refuses = judge_ready files model trace line status ready refuses
 ready_apart (OfTrace Watch model trace which bound) files status line ready refuses = watch_ready files model trace line status ready refuses
 ready_apart (Measure model trace which) files status line ready refuses = judge_ready files model trace line status ready refuses
 ready_apart (Fleet schedule which) files status line ready refuses = fleet_ready files schedule status line ready refuses
 ready_apart (Run source results turns) files status line ready refuses = run_ready files source results status line ready refuses
 ready_apart (Audit source results turns bound) files status line ready refuses = audit_ready files source results status line ready refuses
+ready_apart (Selftest number size) files status line ready refuses = refuses
 ready_apart (Confirm model trace certificate) files status line ready refuses = confirm_ready files model trace certificate line status ready refuses
 ready_apart (Certify model trace which) files status line ready refuses = certify_ready files model trace line which status ready refuses
 
@@ -309,12 +359,16 @@ made_apart (OfWord which) files status later text line told makes refuses = refu
 made_apart (OfFile which name) None status later text line told makes refuses = absurd (cc told)
 made_apart (OfFile Check name) (Some files) status later text line told makes refuses = checked_apart files name text line later makes.1 refuses
 made_apart (OfFile Depth name) (Some files) status later text line told makes refuses = depth_apart files name text line later makes.1 refuses
+made_apart (OfFile Explain name) (Some files) status later text line told makes refuses = explained_apart files name text line later makes.1 refuses
 made_apart (OfFile Inline name) (Some files) status later text line told makes refuses = inline_apart files name text line later makes.1 refuses
 made_apart (OfFile Instrument name) (Some files) status later text line told makes refuses = instrumented_apart files name text line later makes.1 refuses
 made_apart (OfFile Model name) (Some files) status later text line told makes refuses = modelled_apart files name text line later makes.1 refuses
 made_apart (OfFile Picture name) (Some files) status later text line told makes refuses = picture_apart files name text line later makes.1 refuses
+made_apart (OfFile Sites name) (Some files) status later text line told makes refuses = sites_apart files name text line later makes.1 refuses
 made_apart (OfFile Upgrade name) (Some files) status later text line told makes refuses = upgrade_or_refused files name text line later makes.1 refuses
 made_apart (OfTrace command model trace which bound) None status later text line told makes refuses = absurd (cc told)
+made_apart (OfTrace Expected model trace which bound) (Some files) status later text line told makes refuses =
+    judge_ready (Some files) model trace line later ((makes.graph, makes.is_model), (makes.events, makes.end, makes.is_trace)) refuses
 made_apart (OfTrace Judge model trace which bound) (Some files) status later text line told makes refuses = judged_apart files model trace text line (monitors_of which) bound status later makes refuses
 made_apart (OfTrace Watch model trace which bound) (Some files) status later text line told makes refuses = watched_apart files model trace text line (monitors_of which) bound status later makes refuses
 made_apart (Measure model trace which) None status later text line told makes refuses = absurd (cc told)
@@ -325,6 +379,7 @@ made_apart (Run source results turns) None status later text line told makes ref
 made_apart (Run source results turns) (Some files) status later text line told makes refuses = run_apart files source results turns text later line makes.1 refuses
 made_apart (Audit source results turns bound) None status later text line told makes refuses = absurd (cc told)
 made_apart (Audit source results turns bound) (Some files) status later text line told makes refuses = audit_apart files source results turns bound status text later line makes refuses
+made_apart (Selftest number size) files status later text line told makes refuses = refuses
 made_apart (Confirm model trace certificate) None status later text line told makes refuses = absurd (cc told)
 made_apart (Confirm model trace certificate) (Some files) status later text line told makes refuses = confirm_apart files model trace certificate text line later makes.1 refuses
 made_apart (Certify model trace which) None status later text line told makes refuses = absurd (cc told)
@@ -336,12 +391,15 @@ same_refusal Version files status later line other told refuses too = absurd ref
 same_refusal (OfWord which) files status later line other told refuses too = absurd refuses
 same_refusal (OfFile Check name) files status later line other told refuses too = check_status Plain files name line status refuses ∙ sym (check_status Plain files name other later too)
 same_refusal (OfFile Depth name) files status later line other told refuses too = depth_status files name line status refuses ∙ sym (depth_status files name other later too)
+same_refusal (OfFile Explain name) files status later line other told refuses too = explain_status files name line status refuses ∙ sym (explain_status files name other later too)
 same_refusal (OfFile Inline name) files status later line other told refuses too = inline_status files name line status refuses ∙ sym (inline_status files name other later too)
 same_refusal (OfFile Instrument name) files status later line other told refuses too = instrument_status files name line status refuses ∙ sym (instrument_status files name other later too)
 same_refusal (OfFile Model name) files status later line other told refuses too = model_status files name line status refuses ∙ sym (model_status files name other later too)
 same_refusal (OfFile Picture name) files status later line other told refuses too = picture_status files name line status refuses ∙ sym (picture_status files name other later too)
+same_refusal (OfFile Sites name) files status later line other told refuses too = check_status Plain files name line status refuses ∙ sym (check_status Plain files name other later too)
 same_refusal (OfFile Upgrade name) files status later line other told refuses too = upgrade_status files name line status refuses ∙ sym (upgrade_status files name other later too)
 same_refusal (OfTrace command model trace which bound) None status later line other told refuses too = absurd (cc told)
+same_refusal (OfTrace Expected model trace which bound) (Some files) status later line other told refuses too = judge_status files model trace line other status later refuses too
 same_refusal (OfTrace Judge model trace which bound) (Some files) status later line other told refuses too = judge_status files model trace line other status later refuses too
 same_refusal (OfTrace Watch model trace which bound) (Some files) status later line other told refuses too = watch_status files model trace line other status later refuses too
 same_refusal (Measure model trace which) None status later line other told refuses too = absurd (cc told)
@@ -352,6 +410,7 @@ same_refusal (Run source results turns) None status later line other told refuse
 same_refusal (Run source results turns) (Some files) status later line other told refuses too = run_status files source results status later line other refuses too
 same_refusal (Audit source results turns bound) None status later line other told refuses too = absurd (cc told)
 same_refusal (Audit source results turns bound) (Some files) status later line other told refuses too = audit_status files source results status later line other refuses too
+same_refusal (Selftest number size) files status later line other told refuses too = absurd refuses
 same_refusal (Confirm model trace certificate) None status later line other told refuses too = absurd (cc told)
 same_refusal (Confirm model trace certificate) (Some files) status later line other told refuses too = confirm_status files model trace certificate line other status later refuses too
 same_refusal (Certify model trace which) None status later line other told refuses too = absurd (cc told)

@@ -27,29 +27,35 @@ command_word Codes = codes "codes"
 pub data FileCommand : Type 0 where
   Check : FileCommand
   Depth : FileCommand
+  Explain : FileCommand
   Inline : FileCommand
   Instrument : FileCommand
   Model : FileCommand
   Picture : FileCommand
+  Sites : FileCommand
   Upgrade : FileCommand
 
 -- the word of such a command
 abbrev pub file_word : FileCommand → List ℕ
 file_word Check = codes "check"
 file_word Depth = codes "depth"
+file_word Explain = codes "explain"
 file_word Inline = codes "inline"
 file_word Instrument = codes "instrument"
 file_word Model = codes "model"
 file_word Picture = codes "picture"
+file_word Sites = codes "sites"
 file_word Upgrade = codes "upgrade"
 
 -- The commands that read a model and a trace, or interleaved traces, and write the verdicts of monitors up to a bound.
 pub data TraceCommand : Type 0 where
+  Expected : TraceCommand
   Judge : TraceCommand
   Watch : TraceCommand
 
 -- the word of such a command
 abbrev pub trace_word : TraceCommand → List ℕ
+trace_word Expected = codes "expected"
 trace_word Judge = codes "judge"
 trace_word Watch = codes "watch"
 
@@ -70,6 +76,7 @@ pub data Command : Type 0 where
   Audit : List ℕ → List ℕ → ℕ → ℕ → Command
   Confirm : List ℕ → List ℕ → List ℕ → Command
   Certify : List ℕ → List ℕ → CertifiedModel → Command
+  Selftest : ℕ → ℕ → Command
 
 -- the words of each command
 abbrev pub IsCommandLine : Command → List (List ℕ) → Type 0
@@ -85,3 +92,4 @@ IsCommandLine (Audit source results turns bound) words =
     (words ≡ codes "audit" ∷ source ∷ results ∷ decimal turns ∷ decimal bound ∷ []) × (turns ≤ 1000000) × (1 ≤ bound) × (bound ≤ 65535)
 IsCommandLine (Confirm model trace certificate) words = words ≡ codes "confirm" ∷ model ∷ trace ∷ certificate ∷ []
 IsCommandLine (Certify model trace which) words = words ≡ codes "certify" ∷ model ∷ trace ∷ judge_word which ∷ []
+IsCommandLine (Selftest number size) words = (words ≡ codes "selftest" ∷ decimal number ∷ decimal size ∷ []) × (number ≤ 4294967295) × (1 ≤ size) × (size ≤ 500)

@@ -7,10 +7,10 @@ use Rattle.dm_base.specs.declared.verdict.Status.TheVariants.{Done}
 use Rattle.dm_io.specs.Store.{Files, IsMissing}
 use Rattle.tool_frame.specs.Stop.{IsFinished}
 use Rattle.tool.specs.Command.{Command}
-use Rattle.tool.specs.Command.FileCommand.{Check, Depth, Inline, Instrument, Model, Picture, Upgrade}
-use Rattle.tool.specs.Command.Command.{Version, OfWord, OfFile, OfTrace, Measure, Fleet, Run, Audit, Confirm, Certify}
+use Rattle.tool.specs.Command.FileCommand.{Check, Depth, Explain, Inline, Instrument, Model, Picture, Sites, Upgrade}
+use Rattle.tool.specs.Command.Command.{Version, OfWord, OfFile, OfTrace, Measure, Fleet, Run, Audit, Confirm, Certify, Selftest}
 use Rattle.tool.specs.Command.WordCommand.{Help, Codes}
-use Rattle.tool.specs.Command.TraceCommand.{Judge, Watch}
+use Rattle.tool.specs.Command.TraceCommand.{Expected, Judge, Watch}
 use Rattle.tool_certify.specs.Certify.{TellsCertificate, RefusesToCertify, IsReadyToCertify}
 use Rattle.tool_certify.specs.Confirm.{TellsConfirmed, RefusesToConfirm, LacksToConfirm, IsReadyToConfirm}
 use Rattle.tool_audit.specs.Audit.{Audits, IsAuditStatus, RefusesToAudit, LacksToAudit, IsReadyToAudit}
@@ -18,6 +18,7 @@ use Rattle.tool_instrument.specs.Instrument.{Instruments, RefusesToInstrument, I
 use Rattle.tool_fleet.specs.Fleet.{RunsFleet, RefusesFleet, LacksForFleet, IsReadyForFleet}
 use Rattle.tool_inline.specs.Depth.{TellsDepth, IsReadyToTellDepth}
 use Rattle.tool_inline.specs.Inline.{Inlines, RefusesToInline, IsReadyToInline}
+use Rattle.tool_expected.specs.Expects.{Expects}
 use Rattle.tool_models.specs.Judge.{Judges}
 use Rattle.tool_files.specs.Inputs.{RefusesModel, RefusesToJudge, LacksToJudge, IsReadyToJudge}
 use Rattle.tool_models.specs.Measure.{Measures}
@@ -26,6 +27,9 @@ use Rattle.tool_models.specs.Upgrade.{Upgrades, RefusesToUpgrade, IsReadyToUpgra
 use Rattle.tool_models.specs.Watch.{Watches, RefusesToWatch, IsReadyToWatch}
 use Rattle.tool_reading.specs.Picture.{Pictures, RefusesToPicture, IsReadyToPicture}
 use Rattle.tool_run.specs.Run.{Runs, RefusesToRun, LacksToRun, IsReadyToRun}
+use Rattle.tool_selftest.specs.Selftest.{TellsSelftest}
+use Rattle.tool_explain.specs.Explained.{RefusesToExplain}
+use Rattle.tool_sites.specs.Sites.{TellsSites, IsReadyToTellSites}
 use Rattle.tool_texts.specs.Check.{Checks, IsReadyToCheck}
 use Rattle.tool_texts.specs.Modelled.{Models, RefusesToModel, IsReadyToModel}
 use Rattle.tool_sources.specs.Sources.{RefusesSource}
@@ -43,6 +47,8 @@ help_text =
     ++ codes "dyckmon codes                            each code of a refusal or of undefined behaviour, with its reason\n"
     ++ codes "dyckmon confirm MODEL TRACE CERTIFICATE  the verdict of the certificate, where it shows it\n"
     ++ codes "dyckmon depth MODEL                      how many calls may be open at once\n"
+    ++ codes "dyckmon expected MODEL TRACE WHICH [K]   the verdict lines, and after each what may come next\n"
+    ++ codes "dyckmon explain FILE                     where the C text is refused and why, or what check tells\n"
     ++ codes "dyckmon fleet SCHEDULE WHICH             what each process of the schedule comes to under its model\n"
     ++ codes "dyckmon inline MODEL                     the file of a model without calls that has the same words\n"
     ++ codes "dyckmon instrument FILE                  the C text with null calls round its marked calls\n"
@@ -51,12 +57,15 @@ help_text =
     ++ codes "dyckmon model FILE                       the file of the model of the C text\n"
     ++ codes "dyckmon picture MODEL                    the model as a graph in the DOT language of Graphviz\n"
     ++ codes "dyckmon run FILE RESULTS TURNS           the trace of the C text's program with recorded results\n"
+    ++ codes "dyckmon selftest NUMBER SIZE             a program made from the number, audited\n"
+    ++ codes "dyckmon sites FILE                       where each call of the C text stands, and what it may call\n"
     ++ codes "dyckmon upgrade MODEL                    the file of the model in the newest version\n"
     ++ codes "dyckmon watch MODEL TRACES WHICH [K]     the verdict lines of each process of interleaved traces\n"
     ++ codes "CERTIFICATE, FILE, MODEL, RESULTS, SCHEDULE, TRACE and TRACES are names of files. WHICH is callgraph,\n"
     ++ codes "stack, dyck, or all for the three in this order; with certify one of the first two, with fleet one of the\n"
     ++ codes "first three. K is how many calls may be open at once in the Dyck model, 1 to 65535; it is 1000 where none\n"
     ++ codes "is given. TURNS is how many functions may be entered and loops be tested, together, 0 to 1000000.\n"
+    ++ codes "NUMBER is 0 to 4294967295, and SIZE how many functions stand before main, 1 to 500.\n"
 
 -- the command writes this text and ends with this status
 abbrev pub Makes : Command → Option Files → Status → List ℕ → Type 0
@@ -66,12 +75,15 @@ Makes (OfWord Codes) files status text = (status ≡ Done) × (text ≡ codes_te
 Makes (OfFile which file) None status text = status ≡ Done
 Makes (OfFile Check file) (Some files) status text = (status ≡ Done) × Checks files file text
 Makes (OfFile Depth file) (Some files) status text = (status ≡ Done) × TellsDepth files file text
+Makes (OfFile Explain file) (Some files) status text = (status ≡ Done) × Checks files file text
 Makes (OfFile Inline file) (Some files) status text = (status ≡ Done) × Inlines files file text
 Makes (OfFile Instrument file) (Some files) status text = (status ≡ Done) × Instruments files file text
 Makes (OfFile Model file) (Some files) status text = (status ≡ Done) × Models files file text
 Makes (OfFile Picture file) (Some files) status text = (status ≡ Done) × Pictures files file text
+Makes (OfFile Sites file) (Some files) status text = (status ≡ Done) × TellsSites files file text
 Makes (OfFile Upgrade file) (Some files) status text = (status ≡ Done) × Upgrades files file text
 Makes (OfTrace command model trace which bound) None status text = IsFinished status
+Makes (OfTrace Expected model trace which bound) (Some files) status text = Expects files model trace (monitors_of which) bound status text
 Makes (OfTrace Judge model trace which bound) (Some files) status text = Judges files model trace (monitors_of which) bound status text
 Makes (OfTrace Watch model traces which bound) (Some files) status text = Watches files model traces (monitors_of which) bound status text
 Makes (Measure model trace which) None status text = status ≡ Done
@@ -86,6 +98,7 @@ Makes (Confirm model trace certificate) None status text = status ≡ Done
 Makes (Confirm model trace certificate) (Some files) status text = (status ≡ Done) × TellsConfirmed files model trace certificate text
 Makes (Certify model trace which) None status text = IsFinished status
 Makes (Certify model trace which) (Some files) status text = TellsCertificate files model trace which status text
+Makes (Selftest number size) files status text = (status ≡ Done) × TellsSelftest number size text
 
 -- the command refuses a file, with this status and this line
 abbrev pub Refuses : Command → Option Files → Status → List ℕ → Type 0
@@ -93,11 +106,14 @@ Refuses Version files status line = ⊥
 Refuses (OfWord which) files status line = ⊥
 Refuses (OfFile Check file) files status line = RefusesSource Plain files file status line
 Refuses (OfFile Depth file) files status line = RefusesModel files file status line
+Refuses (OfFile Explain file) files status line = RefusesToExplain files file status line
 Refuses (OfFile Inline file) files status line = RefusesToInline files file status line
 Refuses (OfFile Instrument file) files status line = RefusesToInstrument files file status line
 Refuses (OfFile Model file) files status line = RefusesToModel files file status line
 Refuses (OfFile Picture file) files status line = RefusesToPicture files file status line
+Refuses (OfFile Sites file) files status line = RefusesSource Plain files file status line
 Refuses (OfFile Upgrade file) files status line = RefusesToUpgrade files file status line
+Refuses (OfTrace Expected model trace which bound) files status line = RefusesToJudge files model trace status line
 Refuses (OfTrace Judge model trace which bound) files status line = RefusesToJudge files model trace status line
 Refuses (OfTrace Watch model traces which bound) files status line = RefusesToWatch files model traces status line
 Refuses (Measure model trace which) files status line = RefusesToJudge files model trace status line
@@ -106,6 +122,7 @@ Refuses (Run source results turns) files status line = RefusesToRun files source
 Refuses (Audit source results turns bound) files status line = RefusesToAudit files source results status line
 Refuses (Confirm model trace certificate) files status line = RefusesToConfirm files model trace certificate status line
 Refuses (Certify model trace which) files status line = RefusesToCertify files model trace which status line
+Refuses (Selftest number size) files status line = ⊥
 
 -- a file that the command asks for isn't there
 abbrev pub Lacks : Command → Option Files → Type 0
@@ -119,6 +136,7 @@ Lacks (Run source results turns) files = LacksToRun files source results
 Lacks (Audit source results turns bound) files = LacksToAudit files source results
 Lacks (Confirm model trace certificate) files = LacksToConfirm files model trace certificate
 Lacks (Certify model trace which) files = LacksToJudge files model trace
+Lacks (Selftest number size) files = ⊥
 
 -- the command's files are told, and are such that it refuses none
 abbrev pub IsReady : Command → Option Files → Type 0
@@ -126,11 +144,14 @@ IsReady Version files = Unit {0}
 IsReady (OfWord which) files = Unit {0}
 IsReady (OfFile Check file) files = IsReadyToCheck files file
 IsReady (OfFile Depth file) files = IsReadyToTellDepth files file
+IsReady (OfFile Explain file) files = IsReadyToCheck files file
 IsReady (OfFile Inline file) files = IsReadyToInline files file
 IsReady (OfFile Instrument file) files = IsReadyToInstrument files file
 IsReady (OfFile Model file) files = IsReadyToModel files file
 IsReady (OfFile Picture file) files = IsReadyToPicture files file
+IsReady (OfFile Sites file) files = IsReadyToTellSites files file
 IsReady (OfFile Upgrade file) files = IsReadyToUpgrade files file
+IsReady (OfTrace Expected model trace which bound) files = IsReadyToJudge files model trace
 IsReady (OfTrace Judge model trace which bound) files = IsReadyToJudge files model trace
 IsReady (OfTrace Watch model traces which bound) files = IsReadyToWatch files model traces
 IsReady (Measure model trace which) files = IsReadyToJudge files model trace
@@ -139,3 +160,4 @@ IsReady (Run source results turns) files = IsReadyToRun files source results
 IsReady (Audit source results turns bound) files = IsReadyToAudit files source results
 IsReady (Confirm model trace certificate) files = IsReadyToConfirm files model trace certificate
 IsReady (Certify model trace which) files = IsReadyToCertify files model trace which
+IsReady (Selftest number size) files = Unit {0}

@@ -4,8 +4,8 @@ ghost use Rattle.flow_model.specs.declared.which.Which.{Which as AnyWhich};
 ghost use Rattle.report.specs.VerdictLine.{word_of};
 ghost use Rattle.tool_monitors.specs.Monitors.{asked_word};
 ghost use Rattle.tool.specs.Command.{Command as AskedCommand, TraceCommand, IsCommandLine, IsAskedBy, judge_word};
-ghost use Rattle.tool.specs.Command.Command.{OfTrace, Measure, Run, Audit, Confirm, Certify};
-ghost use Rattle.tool.specs.Command.TraceCommand.{Judge, Watch};
+ghost use Rattle.tool.specs.Command.Command.{OfTrace, Measure, Fleet, Run, Audit, Confirm, Certify, Selftest};
+ghost use Rattle.tool.specs.Command.TraceCommand.{Expected, Judge, Watch};
 ghost use Rattle.tool_monitors.specs.declared.asked.Asked.{Asked as AnyAsked};
 ghost use Rattle.tool.specs.Asked.{asked_by};
 
@@ -31,6 +31,10 @@ pub enum Command<'a> {
     Depth {
         model: &'a str,
     },
+    /// Where the C text in a file is refused, and why; else what `Check` tells.
+    Explain {
+        source: &'a str,
+    },
     /// The text of the inlined model of the model in a file.
     Inline {
         model: &'a str,
@@ -47,9 +51,21 @@ pub enum Command<'a> {
     Picture {
         model: &'a str,
     },
+    /// Where each call expression of the C text in a file stands, and what it may call.
+    Sites {
+        source: &'a str,
+    },
     /// The text of the model in a file in the newest version.
     Upgrade {
         model: &'a str,
+    },
+    /// The verdicts of monitors of the model in a file on the trace in another, as `Judge` has them, and after each
+    /// what may come next.
+    Expected {
+        model: &'a str,
+        trace: &'a str,
+        asked: Asked,
+        bound: u32,
     },
     /// The verdicts of monitors of the model in a file on the trace in another, where at most so many
     /// calls may be open at once in the Dyck model.
@@ -88,6 +104,11 @@ pub enum Command<'a> {
         trace: &'a str,
         asked: Asked,
     },
+    /// The audit of a program that is made from the number, with so many functions before its main function.
+    Selftest {
+        number: u32,
+        size: u32,
+    },
     /// What the processes of the schedule in a file come to, each judged by this monitor of its model while all of them run.
     Fleet {
         schedule: &'a str,
@@ -113,6 +134,9 @@ const USUAL_BOUND: u32 = 1_000;
 // The greatest bound.
 const GREATEST_BOUND: u32 = 65_535;
 
+// The most functions before main that a program is made with.
+const GREATEST_SIZE: u32 = 500;
+
 // The greatest number of turns.
 const MOST_TURNS: u32 = 1_000_000;
 
@@ -125,7 +149,7 @@ pub fn command_of(words: &[String]) -> Option<Command<'_>>
         [] => Some(Command::Version),
         [word] => option_of(word),
         [word, file] => file_command_of(word, file),
-        [word, schedule, which] => fleet_of(word, schedule, which),
+        [word, second, third] => three_word_command_of(word, second, third),
         [word, model, trace, asked @ ..] => trace_command_of(word, model, trace, asked),
     }
 }
@@ -158,6 +182,9 @@ fn file_command_of<'a>(word: &str, file: &'a str) -> Option<Command<'a>>
     if word == "depth" {
         return Some(Command::Depth { model: file });
     }
+    if word == "explain" {
+        return Some(Command::Explain { source: file });
+    }
     if word == "inline" {
         return Some(Command::Inline { model: file });
     }
@@ -169,6 +196,9 @@ fn file_command_of<'a>(word: &str, file: &'a str) -> Option<Command<'a>>
     }
     if word == "picture" {
         return Some(Command::Picture { model: file });
+    }
+    if word == "sites" {
+        return Some(Command::Sites { source: file });
     }
     if word == "upgrade" {
         return Some(Command::Upgrade { model: file });
@@ -248,10 +278,59 @@ fn which_of(word: &str) -> Option<Which>
     None
 }
 
-// The command `fleet`, the only one of three words.
+// The number that the word is.
+fn number_of(word: &str) -> Option<u32>
+    ensures some { IfSome result (λ number. (word.now ≡ decimal number) × (number ≤ 4294967295)) }
+    ensures none { IfNone result ((number : ℕ) → word.now ≡ decimal number → number ≤ 4294967295 → ⊥) }
+{
+    let number = read_u32(word.as_bytes())?;
+    Some(number)
+}
+
+// The number of functions that the word is.
+fn size_of(word: &str) -> Option<u32>
+    ensures some { IfSome result (λ size. (word.now ≡ decimal size) × (1 ≤ size) × (size ≤ 500)) }
+    ensures none { IfNone result ((size : ℕ) → word.now ≡ decimal size → 1 ≤ size → size ≤ 500 → ⊥) }
+{
+    let size = read_u32(word.as_bytes())?;
+    if 1 <= size && size <= GREATEST_SIZE {
+        Some(size)
+    } else {
+        None
+    }
+}
+
+// The command `selftest`.
+fn selftest_of<'a>(word: &str, number: &str, size: &str) -> Option<Command<'a>>
+    ensures some { IfSome result (λ command. IsCommandLine (asked_by command) (word.now ∷ number.now ∷ size.now ∷ [])) }
+    ensures none { IfNone result ((n s : ℕ) → IsCommandLine (Selftest n s) (word.now ∷ number.now ∷ size.now ∷ []) → ⊥) }
+{
+    if word != "selftest" {
+        return None;
+    }
+    let drawn = number_of(number)?;
+    let functions = size_of(size)?;
+    Some(Command::Selftest {
+        number: drawn,
+        size: functions,
+    })
+}
+
+// A command of three words: `selftest` or `fleet`.
+fn three_word_command_of<'a>(word: &str, second: &'a str, third: &str) -> Option<Command<'a>>
+    ensures some { IfSome result (λ command. IsCommandLine (asked_by command) (word.now ∷ second.now ∷ third.now ∷ [])) }
+    ensures none { IfNone result ((c : AskedCommand) → IsCommandLine c (word.now ∷ second.now ∷ third.now ∷ []) → ⊥) }
+{
+    match selftest_of(word, second, third) {
+        Some(command) => Some(command),
+        None => fleet_of(word, second, third),
+    }
+}
+
+// The command `fleet`.
 fn fleet_of<'a>(word: &str, schedule: &'a str, which: &str) -> Option<Command<'a>>
     ensures some { IfSome result (λ command. IsCommandLine (asked_by command) (word.now ∷ schedule.now ∷ which.now ∷ [])) }
-    ensures none { IfNone result ((c : AskedCommand) → IsCommandLine c (word.now ∷ schedule.now ∷ which.now ∷ []) → ⊥) }
+    ensures none { IfNone result ((s : List ℕ) (w : AnyWhich) → IsCommandLine (Fleet s w) (word.now ∷ schedule.now ∷ which.now ∷ []) → ⊥) }
 {
     if word != "fleet" {
         return None;
@@ -520,7 +599,24 @@ fn bounded_command_of<'a>(
 {
     match judge_of(word, model, trace, words) {
         Some(command) => Some(command),
-        None => watch_of(word, model, trace, words),
+        None => later_command_of(word, model, trace, words),
+    }
+}
+
+// The command `watch` or the command `expected`.
+fn later_command_of<'a>(
+    word: &str,
+    model: &'a str,
+    trace: &'a str,
+    words: &[String],
+) -> Option<Command<'a>>
+    ensures some { IfSome result (λ command. IsCommandLine (asked_by command) (word.now ∷ model.now ∷ trace.now ∷ map string_bytes words.now)) }
+    ensures watch { IfNone result ((m t : List ℕ) (which : AnyAsked) (bound : ℕ) → IsCommandLine (OfTrace Watch m t which bound) (word.now ∷ model.now ∷ trace.now ∷ map string_bytes words.now) → ⊥) }
+    ensures expected { IfNone result ((m t : List ℕ) (which : AnyAsked) (bound : ℕ) → IsCommandLine (OfTrace Expected m t which bound) (word.now ∷ model.now ∷ trace.now ∷ map string_bytes words.now) → ⊥) }
+{
+    match watch_of(word, model, trace, words) {
+        Some(command) => Some(command),
+        None => expected_of(word, model, trace, words),
     }
 }
 
@@ -590,6 +686,28 @@ fn watch_of<'a>(
     Some(Command::Watch {
         model,
         traces,
+        asked,
+        bound,
+    })
+}
+
+// The command `expected`.
+fn expected_of<'a>(
+    word: &str,
+    model: &'a str,
+    trace: &'a str,
+    words: &[String],
+) -> Option<Command<'a>>
+    ensures some { IfSome result (λ command. IsCommandLine (asked_by command) (word.now ∷ model.now ∷ trace.now ∷ map string_bytes words.now)) }
+    ensures none { IfNone result ((m t : List ℕ) (which : AnyAsked) (bound : ℕ) → IsCommandLine (OfTrace Expected m t which bound) (word.now ∷ model.now ∷ trace.now ∷ map string_bytes words.now) → ⊥) }
+{
+    if word != "expected" {
+        return None;
+    }
+    let (asked, bound) = asked_for(words)?;
+    Some(Command::Expected {
+        model,
+        trace,
         asked,
         bound,
     })

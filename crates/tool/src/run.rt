@@ -11,6 +11,8 @@ use dm_io::{HonestSink, HonestStore, Sink, Store, write_whole};
 use std::alloc::Global;
 use tool_audit::audit_source;
 use tool_certify::{certify_trace, confirm_certificate};
+use tool_expected::expected_command;
+use tool_explain::explain_source;
 use tool_fleet::run_fleet;
 use tool_frame::{Finished, Stop, refuse};
 use tool_inline::{depth_of_model, inlined_model};
@@ -18,6 +20,8 @@ use tool_instrument::instrument_source;
 use tool_models::{judge, measure, upgrade, watch_traces};
 use tool_reading::{picture_of_model, tell_codes};
 use tool_run::run_source;
+use tool_selftest::self_test;
+use tool_sites::sites_of_source;
 use tool_texts::{check_source, model_of_source};
 
 const VERSION_TEXT: &[u8] = b"dyckmon 1\n";
@@ -31,6 +35,8 @@ dyckmon check FILE                       how many functions and calls the C text
 dyckmon codes                            each code of a refusal or of undefined behaviour, with its reason
 dyckmon confirm MODEL TRACE CERTIFICATE  the verdict of the certificate, where it shows it
 dyckmon depth MODEL                      how many calls may be open at once
+dyckmon expected MODEL TRACE WHICH [K]   the verdict lines, and after each what may come next
+dyckmon explain FILE                     where the C text is refused and why, or what check tells
 dyckmon fleet SCHEDULE WHICH             what each process of the schedule comes to under its model
 dyckmon inline MODEL                     the file of a model without calls that has the same words
 dyckmon instrument FILE                  the C text with null calls round its marked calls
@@ -39,12 +45,15 @@ dyckmon measure MODEL TRACE WHICH        how many calls may come next along the 
 dyckmon model FILE                       the file of the model of the C text
 dyckmon picture MODEL                    the model as a graph in the DOT language of Graphviz
 dyckmon run FILE RESULTS TURNS           the trace of the C text's program with recorded results
+dyckmon selftest NUMBER SIZE             a program made from the number, audited
+dyckmon sites FILE                       where each call of the C text stands, and what it may call
 dyckmon upgrade MODEL                    the file of the model in the newest version
 dyckmon watch MODEL TRACES WHICH [K]     the verdict lines of each process of interleaved traces
 CERTIFICATE, FILE, MODEL, RESULTS, SCHEDULE, TRACE and TRACES are names of files. WHICH is callgraph,
 stack, dyck, or all for the three in this order; with certify one of the first two, with fleet one of the
 first three. K is how many calls may be open at once in the Dyck model, 1 to 65535; it is 1000 where none
 is given. TURNS is how many functions may be entered and loops be tested, together, 0 to 1000000.
+NUMBER is 0 to 4294967295, and SIZE how many functions stand before main, 1 to 500.
 ";
 
 // A text that no file decides.
@@ -79,11 +88,14 @@ fn work<S: Store>(alloc: Global, words: &[String], store: &mut S) -> Result<Fini
         ) => measure(alloc, store, model, trace, asked),
         Some(Command::Check { source }) => check_source(alloc, store, source),
         Some(Command::Depth { model }) => depth_of_model(alloc, store, model),
+        Some(Command::Explain { source }) => explain_source(alloc, store, source),
         Some(Command::Fleet { schedule, which }) => run_fleet(alloc, store, schedule, which),
         Some(Command::Inline { model }) => inlined_model(alloc, store, model),
         Some(Command::Instrument { source }) => instrument_source(alloc, store, source),
         Some(Command::Model { source }) => model_of_source(alloc, store, source),
         Some(Command::Picture { model }) => picture_of_model(alloc, store, model),
+        Some(Command::Sites { source }) => sites_of_source(alloc, store, source),
+        Some(Command::Selftest { number, size }) => Ok(self_test(alloc, number, size)?),
         Some(Command::Upgrade { model }) => upgrade(alloc, store, model),
         Some(
             Command::Run {
@@ -114,6 +126,14 @@ fn work<S: Store>(alloc: Global, words: &[String], store: &mut S) -> Result<Fini
                 certificate,
             },
         ) => confirm_certificate(alloc, store, model, trace, certificate),
+        Some(
+            Command::Expected {
+                model,
+                trace,
+                asked,
+                bound,
+            },
+        ) => expected_command(alloc, store, model, trace, asked, bound),
         Some(
             Command::Judge {
                 model,

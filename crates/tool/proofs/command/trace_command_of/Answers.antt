@@ -3,7 +3,7 @@ use Rattle.std.proofs.lemmas.List.{length-map}
 use Rattle.certify_facts.specs.declared.fact.Judge.{Judge}
 use Rattle.tool_monitors.specs.declared.asked.Asked.{Asked}
 use Rattle.tool.specs.Command.{Command, TraceCommand, IsCommandLine}
-use Rattle.tool.specs.Command.Command.{Version, OfWord, OfFile, OfTrace, Measure, Fleet, Run, Audit, Confirm, Certify}
+use Rattle.tool.specs.Command.Command.{Version, OfWord, OfFile, OfTrace, Measure, Fleet, Run, Audit, Confirm, Certify, Selftest}
 use Rattle.tool.proofs.command.trace_command_of.Goals as goal
 
 neither : (word model trace : List ℕ) (words : List (List ℕ))
@@ -25,6 +25,7 @@ neither word model trace words some bounded measure run audit confirm certify (R
 neither word model trace words some bounded measure run audit confirm certify (Audit s r turns bound) line = audit s r turns bound line
 neither word model trace words some bounded measure run audit confirm certify (Confirm m t q) line = confirm m t q line
 neither word model trace words some bounded measure run audit confirm certify (Certify m t judge) line = certify m t judge line
+neither word model trace words some bounded measure run audit confirm certify (Selftest number size) line = let none : words ≡ [] = cc (line.0) in omega (arith, some, ap length none)
 
 none_of_both : {A : Type 0} (word model trace : List ℕ) (words : List (List ℕ)) (r : Option A)
     → 1 ≤ length words
