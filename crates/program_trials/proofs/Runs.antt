@@ -25,7 +25,7 @@ program_or_none (fine p) = p
 program_or_none (faulty f fs) = no_program
 
 -- the program that a unit is typed as
-abbrev program_of : Items → Program
+abbrev pub program_of : Items → Program
 program_of u = program_or_none (checked u Plain)
 
 abbrev ending : Outcome → List Event → Run

@@ -135,6 +135,15 @@ recursion_short_unit =
     s.more_items (s.function_item 0 s.no_storage s.int (s.function 0 (s.named 0 (ident (codes "main"))) s.no_params) (s.block 0 (s.block_stmt (s.return_from 0 (s.there (s.call 0 (s.a_name 0 (codes "f")) (s.more_exprs (s.an_int 0 3 false) s.no_exprs)))) s.no_block_items))) (
     s.no_items))
 
+-- int getpid(void); unsigned getuid(void); int f(void) { return getpid(); } int main(void) { f(); getuid(); f(); return 0; }
+abbrev pub two_callers_unit : Items
+two_callers_unit =
+    s.more_items (s.decl_item 0 (s.decl 0 s.no_storage s.int (s.more_parts (s.function 0 (s.named 0 (ident (codes "getpid"))) s.no_params) s.no_init s.no_parts))) (
+    s.more_items (s.decl_item 0 (s.decl 0 s.no_storage s.unsigned_int (s.more_parts (s.function 0 (s.named 0 (ident (codes "getuid"))) s.no_params) s.no_init s.no_parts))) (
+    s.more_items (s.function_item 0 s.no_storage s.int (s.function 0 (s.named 0 (ident (codes "f"))) s.no_params) (s.block 0 (s.block_stmt (s.return_from 0 (s.there (s.call 0 (s.a_name 0 (codes "getpid")) s.no_exprs))) s.no_block_items))) (
+    s.more_items (s.function_item 0 s.no_storage s.int (s.function 0 (s.named 0 (ident (codes "main"))) s.no_params) (s.block 0 (s.block_stmt (s.evaluate 0 (s.call 0 (s.a_name 0 (codes "f")) s.no_exprs)) (s.block_stmt (s.evaluate 0 (s.call 0 (s.a_name 0 (codes "getuid")) s.no_exprs)) (s.block_stmt (s.evaluate 0 (s.call 0 (s.a_name 0 (codes "f")) s.no_exprs)) (s.block_stmt (s.return_from 0 (s.there (s.an_int 0 0 false))) s.no_block_items)))))) (
+    s.no_items))))
+
 -- a server that echoes the lines of a terminal, in a child
 abbrev pub echo_unit : Items
 echo_unit =
