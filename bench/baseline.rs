@@ -4,10 +4,10 @@
 //!     ./baseline judge MODEL TRACE WHICH [K]
 //!     ./baseline watch MODEL TRACES WHICH [K]
 //!
-//! It reads the files of docs/FILES.md and docs/RECORDING.md, `-` not among them, and writes what dyckmon writes, with the
-//! statuses 0, 1 and 9. Words that are no command, and files that it can't read, have one line and the status 5, whatever
-//! the cause is. It doesn't look at limits, ranges of arguments, the order of a model's lines, the rules of models, and
-//! what follows the last line of a trace.
+//! It reads the files of docs/FILES.md and docs/RECORDING.md, `-` not among them, and writes what dyckmon writes, with
+//! the statuses 0, 1 and 9. Words that are no command, and files that it can't read, have one line and the status 5,
+//! whatever the cause is. It doesn't look at limits, ranges of arguments, the order of a model's lines, the rules of
+//! models, and what follows the last line of a trace.
 
 use std::collections::{HashMap, VecDeque};
 use std::error::Error;
@@ -358,9 +358,9 @@ struct Link {
     below: usize,
 }
 
-/// A function that was entered, known by its exit, with the calls that may have entered it; the start of the program has
-/// none. Stacks share the frames below them, so a few frames stand for many stacks, and for infinitely many where links
-/// go in circles.
+/// A function that was entered, known by its exit, with the calls that may have entered it; the start of the program
+/// has none. Stacks share the frames below them, so a few frames stand for many stacks, and for infinitely many where
+/// links go in circles.
 #[derive(Clone, PartialEq, Eq, Hash)]
 struct Frame {
     exit: u32,
@@ -402,7 +402,7 @@ impl Reached {
         }
     }
 
-    /// Makes a call of the function. The event makes one frame for it, and its exit may have been reached before this call.
+    /// Makes a call of the function. The event makes one frame for it, whose exit may have been reached before.
     fn enter(&mut self, frames: &mut Vec<Frame>, function: Function, link: Link) {
         let made = self.at[function.entry as usize].iter().find(|&&frame| frame >= self.old);
         let frame = made.copied().unwrap_or(frames.len());
@@ -477,8 +477,8 @@ impl Stack {
         }
     }
 
-    /// Keeps the frames that the tops need, and of equal ones one. Each comes after those below it, whose new places are
-    /// known then; where links go in circles one has to come before, and is equal to no other.
+    /// Keeps the frames that the tops need, and of equal ones one. Each comes after those below it, whose new places
+    /// are known then; where links go in circles one has to come before, and is equal to no other.
     fn tidy(&mut self) {
         let mut kept = Vec::new();
         let mut equal = HashMap::new();
