@@ -2,7 +2,8 @@
 //! once with ample memory: `Bytes::of`, `Event::copy` in `shared_types`; `NodeSet::new` and `copy`,
 //! `BoundedStack::new` and `copy` in `sets`; `read_whole`, `MemorySink::reserved` in `outside`. In
 //! `uncalled` stand calls of higher crates that no command makes: `write_results`, `write_traces`,
-//! `outcome_text`, `measure`, `next_names` and `next_line`.
+//! `outcome_text`, `measure`, `next_names` and `next_line`; in `watching` how many states of the
+//! monitors of stacks a watch holds, and a sweep after each step.
 #![tactic(auto)]
 
 #[cfg(test)]
@@ -13,3 +14,5 @@ mod sets;
 mod shared_types;
 #[cfg(test)]
 mod uncalled;
+#[cfg(test)]
+mod watching;

@@ -1,4 +1,4 @@
--- For private contracts and proofs alone: why a text was not read.
+-- Why a text was not read, and the stop that says so.
 use Rattle.std.specs.Prelude.{◌≡◌, ◌≢◌}
 use Rattle.tool_frame.specs.declared.stop.Stop.{Stop}
 use Rattle.tool_frame.specs.declared.stop.Stop.TheVariants as stops

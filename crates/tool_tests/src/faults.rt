@@ -1,4 +1,4 @@
-use crate::running::{Row, TAKEN, expect, run_failing, run_honest};
+use crate::running::{Faults, NONE, Row, TAKEN, expect, run_failing, run_honest};
 use dm_base::Status;
 use std::alloc::{AllocError, Global};
 use std::process::Abort;
@@ -42,7 +42,7 @@ const FORTY: &[u8] =
 const FORTY_VERDICTS: &[u8] =
     b"1 stack accepted 3\n2 stack accepted 3\n3 stack accepted 3\n4 stack accepted 3\n5 stack accepted 3\n6 stack accepted 3\n7 stack rejected 2 S getpid = 100\n- 1 S getpid = 100\n8 stack accepted 3\n9 stack accepted 3\n10 stack accepted 3\n11 stack accepted 3\n12 stack accepted 3\n13 stack accepted 3\n14 stack accepted 3\n15 stack accepted 3\n16 stack accepted 3\n17 stack accepted 3\n18 stack accepted 3\n19 stack accepted 3\n20 stack accepted 3\n21 stack accepted 3\n22 stack accepted 3\n23 stack accepted 3\n24 stack accepted 3\n25 stack accepted 3\n26 stack accepted 3\n27 stack accepted 3\n28 stack accepted 3\n29 stack accepted 3\n30 stack accepted 3\n31 stack accepted 3\n32 stack accepted 3\n33 stack accepted 3\n34 stack accepted 3\n35 stack accepted 3\n36 stack accepted 3\n37 stack accepted 3\n38 stack accepted 3\n39 stack accepted 3\n40 stack accepted 3\nverdicts 40 accepted 39 rejected 1 bound 0\n";
 
-const ROWS: [Row; 12] = [
+const ROWS: [Row; 13] = [
     (
         &["judge", "a", "t", "callgraph"],
         &[ONE_GETPID, b"dyckmon-trace 1\nS getpid = 100\nend open\n"],
@@ -140,6 +140,7 @@ const ROWS: [Row; 12] = [
         b"callgraph prefixes 4 branching 4\nstack prefixes 4 branching 3\ndyck prefixes 1 branching 0\n",
         b"",
     ),
+    (&["judge", "a"], &[], Status::Usage, b"", b"usage\n"),
 ];
 
 // How many bytes a read gives at most.
@@ -147,7 +148,11 @@ const READ: usize = 7;
 
 // Sees that the row's run is a fault where the read with this number fails.
 fn fails_at_read(rt: &impl Abort, alloc: Global, row: &Row, number: u64) -> Result<(), AllocError> {
-    let got = run_failing(alloc, row, vec![in alloc; number]?, Vec::new(alloc), READ)?;
+    let faults = Faults {
+        read: Some(number),
+        ..NONE
+    };
+    let got = run_failing(alloc, row, faults, READ)?;
     expect(rt, &got, Status::ReadFault, b"", b"read fault\n");
     Ok(())
 }
@@ -163,7 +168,11 @@ fn fails_at_each_read(rt: &impl Abort, alloc: Global, row: &Row) -> Result<(), A
         fails_at_read(rt, alloc, row, number)?;
         number = number.saturating_add(1);
     }
-    let got = run_failing(alloc, row, vec![in alloc; number]?, Vec::new(alloc), READ)?;
+    let faults = Faults {
+        read: Some(number),
+        ..NONE
+    };
+    let got = run_failing(alloc, row, faults, READ)?;
     expect(rt, &got, row.2, row.3, row.4);
     Ok(())
 }
@@ -173,7 +182,11 @@ fn fails_at_each_write(rt: &impl Abort, alloc: Global, row: &Row) -> Result<(), 
     let mut number: u64 = 0;
     let mut taken = Vec::new(alloc);
     for piece in row.3.chunks(TAKEN) {
-        let got = run_failing(alloc, row, Vec::new(alloc), vec![in alloc; number]?, 65_536)?;
+        let faults = Faults {
+            out: Some(number),
+            ..NONE
+        };
+        let got = run_failing(alloc, row, faults, 65_536)?;
         expect(
             rt,
             &got,
@@ -184,14 +197,51 @@ fn fails_at_each_write(rt: &impl Abort, alloc: Global, row: &Row) -> Result<(), 
         number = number.saturating_add(1);
         taken.extend_from_slice(piece)?;
     }
-    let got = run_failing(alloc, row, Vec::new(alloc), vec![in alloc; number]?, 65_536)?;
+    let faults = Faults {
+        out: Some(number),
+        ..NONE
+    };
+    let got = run_failing(alloc, row, faults, 65_536)?;
     expect(rt, &got, row.2, row.3, row.4);
+    Ok(())
+}
+
+// Each write to err fails in turn, and what stood before it was taken: the status and out stay as they were.
+fn fails_at_each_write_to_err(rt: &impl Abort, alloc: Global, row: &Row) -> Result<(), AllocError> {
+    let mut number: u64 = 0;
+    let mut taken = Vec::new(alloc);
+    for piece in row.4.chunks(TAKEN) {
+        let faults = Faults {
+            err: Some(number),
+            ..NONE
+        };
+        let got = run_failing(alloc, row, faults, 65_536)?;
+        expect(rt, &got, row.2, row.3, taken.as_slice());
+        number = number.saturating_add(1);
+        taken.extend_from_slice(piece)?;
+    }
+    Ok(())
+}
+
+// The first read or the first write to out fails, and then the first write to err: the status is that of the first fault.
+fn fails_twice(rt: &impl Abort, alloc: Global, row: &Row) -> Result<(), AllocError> {
+    let table = [
+        (row.1.is_empty(), Some(0), None, Status::ReadFault),
+        (row.3.is_empty(), None, Some(0), Status::WriteFault),
+    ];
+    for (is_left_out, read, out, status) in table {
+        if !is_left_out {
+            let err = Some(0);
+            let got = run_failing(alloc, row, Faults { read, out, err }, 65_536)?;
+            expect(rt, &got, status, b"", b"");
+        }
+    }
     Ok(())
 }
 
 // A read gives one byte, and neither reads nor writes fail.
 fn goes_well(rt: &impl Abort, alloc: Global, row: &Row) -> Result<(), Fail> {
-    let got = run_failing(alloc, row, Vec::new(alloc), Vec::new(alloc), 1)?;
+    let got = run_failing(alloc, row, NONE, 1)?;
     expect(rt, &got, row.2, row.3, row.4);
     let got = run_honest(alloc, row)?;
     expect(rt, &got, row.2, row.3, row.4);
@@ -204,6 +254,15 @@ fn each_read_and_each_write_may_fail(rt: HostRuntime) -> Result<(), Fail> {
         fails_at_each_read(&rt, rt.alloc(), row)?;
         fails_at_each_write(&rt, rt.alloc(), row)?;
         goes_well(&rt, rt.alloc(), row)?;
+    }
+    Ok(())
+}
+
+#[test]
+fn a_write_to_err_that_fails_changes_no_status(rt: HostRuntime) -> Result<(), Fail> {
+    for row in &ROWS {
+        fails_at_each_write_to_err(&rt, rt.alloc(), row)?;
+        fails_twice(&rt, rt.alloc(), row)?;
     }
     Ok(())
 }

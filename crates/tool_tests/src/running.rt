@@ -17,6 +17,21 @@ pub type Row = (
     &'static [u8],
 );
 
+/// Which read fails, and which write to out and to err, each counted from 0.
+#[derive(Clone, Copy)]
+pub struct Faults {
+    pub read: Option<u64>,
+    pub out: Option<u64>,
+    pub err: Option<u64>,
+}
+
+/// None fails.
+pub const NONE: Faults = Faults {
+    read: None,
+    out: None,
+    err: None,
+};
+
 /// What a run gave.
 #[derive(Drop)]
 pub struct Answer {
@@ -41,18 +56,26 @@ fn named(alloc: Global, texts: &[&[u8]]) -> Result<Vec<(String, Vec<u8>)>, Alloc
     Ok(files)
 }
 
-/// What the row's words give where these reads and writes fail, counted from 0, and a read gives at most so many bytes.
+fn listed(alloc: Global, number: Option<u64>) -> Result<Vec<u64>, AllocError> {
+    let mut list = Vec::new(alloc);
+    if let Some(number) = number {
+        list.push(number)?;
+    }
+    Ok(list)
+}
+
+/// What the row's words give where these calls fail, and a read gives at most so many bytes.
 pub fn run_failing(
     alloc: Global,
     row: &Row,
-    reads: Vec<u64>,
-    writes: Vec<u64>,
+    faults: Faults,
     most: usize,
 ) -> Result<Answer, AllocError> {
     let words = strings(alloc, row.0)?;
-    let mut store = MemoryStore::new(named(alloc, row.1)?, reads, most);
-    let mut out = MemorySink::new(alloc, writes, TAKEN);
-    let mut err = MemorySink::new(alloc, Vec::new(alloc), TAKEN);
+    let files = named(alloc, row.1)?;
+    let mut store = MemoryStore::new(files, listed(alloc, faults.read)?, most);
+    let mut out = MemorySink::new(alloc, listed(alloc, faults.out)?, TAKEN);
+    let mut err = MemorySink::new(alloc, listed(alloc, faults.err)?, TAKEN);
     let status = run_tool(alloc, &words, &mut store, &mut out, &mut err);
     Ok(Answer {
         status,
