@@ -232,15 +232,15 @@ pub fn size_of_type(
 ) -> Result<TypedExpression, CheckError>
     ensures { AgreesWith typed_expression_of result (size_of_type (env_of env.now) at place (ctype_of t.now)) }
 {
-    let size = size_of(env, at, t)?;
+    complete(env, at, t)?;
     match env.cells(t) {
         Some(cells) => {
             if cells > 65_536 {
                 return Err(CheckError::At(C13, place));
             }
-            Ok(size)
+            size_of(env, at, t)
         }
-        None => Err(CheckError::OutOfMemory),
+        None => Err(CheckError::At(C13, place)),
     }
 }
 

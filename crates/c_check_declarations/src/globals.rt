@@ -17,7 +17,7 @@ use c_tree::{CType, copy_type};
 use dm_base::OutOfMemory;
 use std::alloc::Global;
 
-// The limit on the cells of static objects and strings (C99 5.2.4.1). `OutOfMemory` comes too where these are 2^32.
+// The limit on the cells of static objects and strings (C99 5.2.4.1).
 fn few_static(
     env: &Environment<'_>,
     defined: bool,
@@ -31,10 +31,10 @@ fn few_static(
         return Ok(());
     }
     let Some(own) = env.cells(t) else {
-        return Err(CheckError::OutOfMemory);
+        return Err(CheckError::At(C13, x.at));
     };
     let Some(all) = before.cells.checked_add(own) else {
-        return Err(CheckError::OutOfMemory);
+        return Err(CheckError::At(C13, x.at));
     };
     if all > 1048576 {
         return Err(CheckError::At(C13, x.at));
@@ -43,7 +43,7 @@ fn few_static(
 }
 
 /// The demands on an object at file scope with this name, which is declared or defined: on its name and on the cells of all (C99 5.2.4.1, 6.7
-/// paragraph 4, 6.9 paragraph 5). `OutOfMemory` comes too where these are 2^32.
+/// paragraph 4, 6.9 paragraph 5).
 pub fn global_object(
     env: &Environment<'_>,
     defined: bool,

@@ -1,4 +1,4 @@
-ghost use Rattle.std.specs.Prelude.{◌≡◌, length, map, nat_le, IfSome, OnOk};
+ghost use Rattle.std.specs.Prelude.{◌≡◌, length, map, nat_le, OnOk};
 ghost use Rattle.c_check_values.specs.Agreement.{AgreesWith};
 ghost use Rattle.c_rules.specs.Items.{struct_laid};
 ghost use Rattle.c_rules.specs.Limits.{most_cells, most_members};
@@ -21,18 +21,18 @@ fn are_few(members: &[StructMember<'_>]) -> bool
     members.len() <= 256
 }
 
-// Whether they don't have too many cells, where these are fewer than 2^32.
+// Whether they don't have too many cells.
 #[tactic(auto, using(crate::proofs::MemberLemmas::types_are))]
-fn are_small(env: &Environment<'_>, members: &[StructMember<'_>]) -> Option<bool>
-    ensures { IfSome result (λ b. b ≡ nat_le (cells_of_all (layout_of (env_of env.now)) (map type_of_member (members_of members.now))) most_cells) }
+fn are_small(env: &Environment<'_>, members: &[StructMember<'_>]) -> bool
+    ensures { result ≡ nat_le (cells_of_all (layout_of (env_of env.now)) (map type_of_member (members_of members.now))) most_cells }
 {
     match env.cells_of_all(members) {
-        Some(cells) => Some(cells <= 65536),
-        None => None,
+        Some(cells) => cells <= 65536,
+        None => false,
     }
 }
 
-/// The limits on a struct with these members (C99 5.2.4.1). `OutOfMemory` comes too where they have 2^32 cells.
+/// The limits on a struct with these members (C99 5.2.4.1).
 pub fn struct_laid(
     env: &Environment<'_>,
     x: &Ident,
@@ -43,15 +43,10 @@ pub fn struct_laid(
     if !are_few(members) {
         return Err(CheckError::At(C13, x.at));
     }
-    match are_small(env, members) {
-        Some(small) => {
-            if !small {
-                return Err(CheckError::At(C13, x.at));
-            }
-            Ok(())
-        }
-        None => Err(CheckError::OutOfMemory),
+    if !are_small(env, members) {
+        return Err(CheckError::At(C13, x.at));
     }
+    Ok(())
 }
 
 /// Gives the struct with this tag its members. `OutOfMemory` comes too where it has a definition, where a member holds a struct without one,

@@ -24,7 +24,7 @@ pub struct Object {
     pub whole: CType,
 }
 
-// An object of known size with few cells (C99 5.2.4.1, 6.7 paragraph 7). `OutOfMemory` comes too where it has 2^32 cells.
+// An object of known size with few cells (C99 5.2.4.1, 6.7 paragraph 7).
 fn of_known_size(env: &Environment<'_>, place: u32, name: u32, t: &CType) -> Result<(), CheckError>
     ensures { AgreesWith (λ _. ctype_of t.now) result (of_known_size (env_of env.now) place name (ctype_of t.now)) }
 {
@@ -36,7 +36,7 @@ fn of_known_size(env: &Environment<'_>, place: u32, name: u32, t: &CType) -> Res
             }
             Ok(())
         }
-        None => Err(CheckError::OutOfMemory),
+        None => Err(CheckError::At(C13, name)),
     }
 }
 

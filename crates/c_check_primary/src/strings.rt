@@ -1,10 +1,10 @@
-ghost use Rattle.std.specs.Prelude.{suc, ◌≡◌, IfOk};
+ghost use Rattle.std.specs.Prelude.{◌≡◌, ◌≤◌, IfOk};
 ghost use Rattle.c_check_values.specs.Agreement.{AgreesWith};
 ghost use Rattle.c_check_values.specs.View.{typed_expression_of};
 ghost use Rattle.c_rules.specs.Checked.{met};
 ghost use Rattle.c_rules.specs.Constants.{address_of_static};
 ghost use Rattle.c_rules.specs.TypedExpression.{a_place, known};
-ghost use Rattle.c_rules.specs.PrimaryExpressions.{few_cells, string_fits, string_number, string_expression};
+ghost use Rattle.c_rules.specs.PrimaryExpressions.{string_fits, string_number, string_expression};
 ghost use Rattle.c_check_scopes.specs.View.{before_of, context_of, env_of};
 ghost use Rattle.c_tree.specs.Tree.{array, integer, string_place};
 ghost use Rattle.c_tree.specs.View.{ctype_of};
@@ -16,37 +16,23 @@ use c_tree::{CType, IntType, TExpr, TExprKind};
 use dm_base::OutOfMemory;
 use std::alloc::Global;
 
-// The limit on a string with so many cells, wherever it stands.
-fn few_cells(at: u32, cells: u32) -> Result<(), CheckError>
-    ensures { AgreesWith (λ _. met) result (few_cells at cells) }
-{
-    if cells > 65_536 {
-        return Err(CheckError::At(C13, at));
-    }
-    Ok(())
-}
-
-// The limits on a string with so many cells, before which stand so many.
-fn string_fits(context: Context, at: u32, before: u32, cells: u32) -> Result<(), CheckError>
+// The limit on all strings that the program holds, where so many cells stand before one with so many.
+fn strings_fit(context: Context, at: u32, before: u32, cells: u32) -> Result<(), CheckError>
+    requires { cells ≤ 65536 }
     ensures { AgreesWith (λ _. met) result (string_fits (context_of context) at before cells) }
 {
     match context {
-        Context::Evaluated => {
-            if cells > 65_536 {
-                return Err(CheckError::At(C13, at));
-            }
-            match before.checked_add(cells) {
-                None => Err(CheckError::OutOfMemory),
-                Some(sum) => {
-                    if sum > 1_048_576 {
-                        return Err(CheckError::At(C13, at));
-                    }
-                    Ok(())
+        Context::Evaluated => match before.checked_add(cells) {
+            None => Err(CheckError::At(C13, at)),
+            Some(sum) => {
+                if sum > 1_048_576 {
+                    return Err(CheckError::At(C13, at));
                 }
+                Ok(())
             }
-        }
-        Context::Sized => few_cells(at, cells),
-        Context::Folded => few_cells(at, cells),
+        },
+        Context::Sized => Ok(()),
+        Context::Folded => Ok(()),
     }
 }
 
@@ -86,20 +72,7 @@ fn typed_string(alloc: Global, number: u32, cells: u32) -> Result<TypedExpressio
     })
 }
 
-// The cells of a string of so many bytes, its zero among them.
-fn cells_of_string(bytes: usize) -> Result<u32, OutOfMemory>
-    ensures { IfOk result (λ n. n ≡ suc bytes) }
-{
-    match u32::try_from(bytes) {
-        Ok(n) => match n.checked_add(1) {
-            Some(cells) => Ok(cells),
-            None => Err(OutOfMemory),
-        },
-        Err(_) => Err(OutOfMemory),
-    }
-}
-
-/// A string (C99 6.4.5). `OutOfMemory` comes too where a number isn't below 2^32.
+/// A string (C99 6.4.5). `OutOfMemory` comes too where its number isn't below 2^32.
 pub fn string_expression(
     alloc: Global,
     env: &Environment<'_>,
@@ -109,8 +82,11 @@ pub fn string_expression(
 ) -> Result<TypedExpression, CheckError>
     ensures { AgreesWith typed_expression_of result (string_expression (env_of env.now) (before_of before.now) at bytes.now) }
 {
-    let cells = cells_of_string(bytes.len())?;
-    string_fits(env.context, at, before.cells, cells)?;
+    if bytes.len() >= 65_536 {
+        return Err(CheckError::At(C13, at));
+    }
+    let cells = bytes.len() as u32 + 1;
+    strings_fit(env.context, at, before.cells, cells)?;
     let number = string_number(env, before)?;
     Ok(typed_string(alloc, number, cells)?)
 }

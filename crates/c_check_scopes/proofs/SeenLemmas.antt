@@ -1,6 +1,6 @@
 -- The structs of an environment as the layout of objects has them.
-use Rattle.std.proofs.Common.{◌≡◌, ℕ, suc, Bool, true, false, ◌||◌, cond, List, [], ◌∷◌, ◌++◌, length, map, Option, Some, None, slice_get, refl, ap, sym, ◌∙◌, Bor}
-use Rattle.std.specs.Prelude.{option_map, unwrap_or, is_some, IfSome, bytes_eq, reverse}
+use Rattle.std.proofs.Common.{◌≡◌, ℕ, suc, Bool, true, false, ◌||◌, cond, List, [], ◌∷◌, ◌++◌, length, map, Option, Some, None, slice_get, refl, ap, sym, subst, ◌∙◌, Bor}
+use Rattle.std.specs.Prelude.{◌<◌, ◌^◌, option_map, unwrap_or, is_some, IfSome, SomeIff, bytes_eq, reverse}
 use Rattle.std.proofs.lemmas.List.{reverse-append}
 use Rattle.std.proofs.lemmas.Option.{slice_get-map}
 use Rattle.c_tree.specs.Layout.{Structs}
@@ -36,6 +36,11 @@ struct_at v s = ap (λ o. unwrap_or o incomplete) (slice_get-map struct_known v 
 pub told_of : (F : Structs → ℕ) (v : List (Option (List Known))) (r : Option ℕ) → IfSome r (λ n. n ≡ F (layout_of v)) → IfSome r (λ n. n ≡ F (map types_of_struct (structs_of v)))
 told_of F v None h = tt
 told_of F v (Some n) h = h ∙ ap F (sym (layout_seen v))
+
+-- the same of a number that is told where it is below 2^32
+pub number_told : (F : Structs → ℕ) (v : List (Option (List Known))) (r : Option ℕ) → SomeIff r (F (layout_of v) < 2 ^ 32) (F (layout_of v))
+    → SomeIff r (F (map types_of_struct (structs_of v)) < 2 ^ 32) (F (map types_of_struct (structs_of v)))
+number_told F v r h = subst (λ l. SomeIff r (F l < 2 ^ 32) (F l)) (sym (layout_seen v)) h
 
 pub struct_told : (v : List (Option (List Known))) (s : ℕ) (r : Option (Bor (List StructMember))) → defined_in r ≡ unwrap_or (slice_get v s) None → unwrap_or (slice_get (structs_of v) s) incomplete ≡ struct_in r
 struct_told v s r h = struct_at v s ∙ ap struct_known (sym h)

@@ -1,5 +1,5 @@
 -- Types against prototypes.
-use Rattle.std.proofs.Common.{◌≡◌, ◌<◌, Bool, true, ◌&&◌, List, [], ◌∷◌, length, Vec, Global, refl, sym, ap, ◌∙◌, arith}
+use Rattle.std.proofs.Common.{◌≡◌, ◌<◌, Bool, true, ◌&&◌, List, [], ◌∷◌, length, Vec, Global, sym, ap, ◌∙◌, arith}
 use Rattle.std.specs.Prelude.{Box, ◌==◌}
 use Rattle.std.proofs.Math.Dec.{eqb-suc-zero}
 use Rattle.c_tree.specs.declared.tree.CType.{CType as TypeTree}

@@ -1,4 +1,4 @@
-ghost use Rattle.std.specs.Prelude.{◌≡◌, IfSome, is_some};
+ghost use Rattle.std.specs.Prelude.{◌≡◌, ◌<◌, ◌^◌, IfSome, SomeIff, is_some};
 ghost use Rattle.c_check_scopes.specs.Shown.{members_types};
 ghost use Rattle.c_rules.specs.Names.{is_among};
 ghost use Rattle.c_rules.specs.Scopes.{declared_here, layout_of, struct_of, tag_number};
@@ -71,14 +71,14 @@ impl<'t> Environment<'t> {
 
     /// How many cells an object of the type has, where these are fewer than 2^32.
     pub fn cells(&self, t: &CType) -> Option<u32>
-        ensures { IfSome result (λ n. n ≡ cells (layout_of (env_of self.now)) (ctype_of t.now)) }
+        ensures { SomeIff result (cells (layout_of (env_of self.now)) (ctype_of t.now) < 2 ^ 32) (cells (layout_of (env_of self.now)) (ctype_of t.now)) }
     {
         self.structs.cells(t)
     }
 
     /// How many cells objects of these members have together, where these are fewer than 2^32.
     pub fn cells_of_all(&self, members: &[StructMember<'t>]) -> Option<u32>
-        ensures { IfSome result (λ n. n ≡ cells_of_all (layout_of (env_of self.now)) (members_types members.now)) }
+        ensures { SomeIff result (cells_of_all (layout_of (env_of self.now)) (members_types members.now) < 2 ^ 32) (cells_of_all (layout_of (env_of self.now)) (members_types members.now)) }
     {
         self.structs.cells_of_all(members)
     }

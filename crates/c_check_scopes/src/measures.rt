@@ -1,4 +1,4 @@
-ghost use Rattle.std.specs.Prelude.{◌≡◌, ◌+◌, IsTrue, IfSome, slice_get};
+ghost use Rattle.std.specs.Prelude.{◌≡◌, ◌+◌, ◌<◌, ◌^◌, IsTrue, IfSome, SomeIff, slice_get};
 ghost use Rattle.c_tree.specs.Layout.{extent_with, extent_after, rounded};
 ghost use Rattle.c_tree.specs.View.{ctype_of};
 ghost use Rattle.c_check_scopes.specs.Extents.{extent_seen};
@@ -43,15 +43,18 @@ fn is_defined(structs: &[Option<Defined<'_>>], s: u32) -> bool
     }
 }
 
-// The cells of a type.
+// The cells of a type, where these are fewer than 2^32.
 pub fn cells_in(structs: &[Option<Defined<'_>>], t: &CType) -> Option<u32>
-    ensures { IfSome result (λ n. n ≡ counted (λ s. cells_kept (slice_get structs.now s)) (ctype_of t.now)) }
+    ensures { SomeIff result (counted (λ s. cells_kept (slice_get structs.now s)) (ctype_of t.now) < 2 ^ 32) (counted (λ s. cells_kept (slice_get structs.now s)) (ctype_of t.now)) }
 {
     match t {
         CType::Void => Some(0),
         CType::Int(_) => Some(1),
         CType::Pointer(_) => Some(1),
         CType::Array(element, n) => {
+            if *n == 0 {
+                return Some(0);
+            }
             let each = cells_in(structs, element)?;
             let cells = n.checked_mul(each)?;
             Some(cells)
@@ -61,12 +64,12 @@ pub fn cells_in(structs: &[Option<Defined<'_>>], t: &CType) -> Option<u32>
     }
 }
 
-// The cells of all members.
+// The cells of all members, where these are fewer than 2^32.
 pub fn cells_of_members(
     structs: &[Option<Defined<'_>>],
     members: &[StructMember<'_>],
 ) -> Option<u32>
-    ensures { IfSome result (λ n. n ≡ counted_all (λ s. cells_kept (slice_get structs.now s)) (members_types members.now)) }
+    ensures { SomeIff result (counted_all (λ s. cells_kept (slice_get structs.now s)) (members_types members.now) < 2 ^ 32) (counted_all (λ s. cells_kept (slice_get structs.now s)) (members_types members.now)) }
 {
     let mut sum = 0u32;
     for member in members {

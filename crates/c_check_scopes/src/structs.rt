@@ -1,4 +1,4 @@
-ghost use Rattle.std.specs.Prelude.{◌≡◌, ◌<◌, ℕ, None, Some, length, map, replicate, slice_get, slice_set, unwrap_or, IfOk, OnOk, OnErr, IfSome, IsTrue};
+ghost use Rattle.std.specs.Prelude.{◌≡◌, ◌<◌, ◌^◌, ℕ, None, Some, length, map, replicate, slice_get, slice_set, unwrap_or, IfOk, OnOk, OnErr, IfSome, IsTrue, SomeIff};
 ghost use Rattle.c_tree.specs.Layout.{cells, sizeof, cells_of_all, first_cell};
 ghost use Rattle.c_tree.specs.View.{ctype_of};
 ghost use Rattle.c_check_scopes.specs.Known.{layout_of};
@@ -141,14 +141,14 @@ impl<'t> StructTable<'t> {
 
     /// How many cells an object of the type has, where these are fewer than 2^32.
     pub fn cells(&self, t: &CType) -> Option<u32>
-        ensures { IfSome result (λ n. n ≡ cells (layout_of self.now) (ctype_of t.now)) }
+        ensures { SomeIff result (cells (layout_of self.now) (ctype_of t.now) < 2 ^ 32) (cells (layout_of self.now) (ctype_of t.now)) }
     {
         cells_in(&self.structs, t)
     }
 
     /// How many cells objects of these members have together, where these are fewer than 2^32.
     pub fn cells_of_all(&self, members: &[StructMember<'t>]) -> Option<u32>
-        ensures { IfSome result (λ n. n ≡ cells_of_all (layout_of self.now) (members_types members.now)) }
+        ensures { SomeIff result (cells_of_all (layout_of self.now) (members_types members.now) < 2 ^ 32) (cells_of_all (layout_of self.now) (members_types members.now)) }
     {
         cells_of_members(&self.structs, members)
     }

@@ -1,7 +1,7 @@
 -- The variables of a function, and their cells.
 use Rattle.std.proofs.Common.{◌≡◌, ℕ, ◌+◌, ◌<◌, ◌≤◌, List, [], ◌∷◌, ◌++◌, length, drop, get_or, refl, ap, sym, subst, ◌∙◌, arith, append_assoc, length-append, Vec, Global}
 use Rattle.std.proofs.lemmas.List.{drop_all, map-append}
-use Rattle.std.specs.Prelude.{nat_le}
+use Rattle.std.specs.Prelude.{◌^◌, Option, None, SomeIff, nat_le}
 use Rattle.std.proofs.lemmas.Bool.{le-leb}
 use Rattle.c_check_values.proofs.PartsOfTypes.{at_place}
 use Rattle.c_rules.specs.Checked.{demand, fine}
@@ -25,11 +25,29 @@ cells_on structs ts i t sum own new whole lt is step each before =
     let q : cells_of_all structs (ctype_of t ∷ ctypes_of (drop (i + 1) ts)) ≡ cells structs (ctype_of t) + cells_of_all structs (ctypes_of (drop (i + 1) ts)) = cells_more structs (ctype_of t) (ctypes_of (drop (i + 1) ts)) in
     omega (arith, p, q, step, each)
 
-pub cells_end : (structs : Structs) (ts : List TypeTree) (i sum whole : ℕ) → length ts ≤ i → sum + cells_of_all structs (ctypes_of (drop i ts)) ≡ whole → sum ≡ whole
-cells_end structs ts i sum whole over before =
-    let p : sum + cells_of_all structs [] ≡ whole = subst (λ l. sum + cells_of_all structs (ctypes_of l) ≡ whole) (drop_all i ts over) before in
+-- none is told of types one of which takes 2^32 cells, alone or behind others
+pub no_type : (structs : Structs) (r : Option ℕ) (ts : List TypeTree) (i : ℕ) (t : TypeTree) (sum : ℕ) → r ≡ None → i < length ts → t ≡ get_or ts i t
+    → sum + cells_of_all structs (ctypes_of (drop i ts)) ≡ cells_of_all structs (ctypes_of ts) → ¬ (cells structs (ctype_of t) < 2 ^ 32)
+    → SomeIff r (cells_of_all structs (ctypes_of ts) < 2 ^ 32) (cells_of_all structs (ctypes_of ts))
+no_type structs r ts i t sum none lt is before many =
+    let p : sum + cells_of_all structs (ctype_of t ∷ ctypes_of (drop (i + 1) ts)) ≡ cells_of_all structs (ctypes_of ts) = subst (λ l. sum + cells_of_all structs (ctypes_of l) ≡ cells_of_all structs (ctypes_of ts)) (at_place ts i t lt is) before in
+    let q : cells_of_all structs (ctype_of t ∷ ctypes_of (drop (i + 1) ts)) ≡ cells structs (ctype_of t) + cells_of_all structs (ctypes_of (drop (i + 1) ts)) = cells_more structs (ctype_of t) (ctypes_of (drop (i + 1) ts)) in
+    subst (λ o. SomeIff o (cells_of_all structs (ctypes_of ts) < 2 ^ 32) (cells_of_all structs (ctypes_of ts))) (sym none) (λ small. many (omega (arith, p, q, small)))
+
+pub none_behind : (structs : Structs) (r : Option ℕ) (ts : List TypeTree) (i : ℕ) (t : TypeTree) (sum own : ℕ) → r ≡ None → i < length ts → t ≡ get_or ts i t → own ≡ cells structs (ctype_of t)
+    → sum + cells_of_all structs (ctypes_of (drop i ts)) ≡ cells_of_all structs (ctypes_of ts) → ¬ (sum + own < 2 ^ 32)
+    → SomeIff r (cells_of_all structs (ctypes_of ts) < 2 ^ 32) (cells_of_all structs (ctypes_of ts))
+none_behind structs r ts i t sum own none lt is each before many =
+    let p : sum + cells_of_all structs (ctype_of t ∷ ctypes_of (drop (i + 1) ts)) ≡ cells_of_all structs (ctypes_of ts) = subst (λ l. sum + cells_of_all structs (ctypes_of l) ≡ cells_of_all structs (ctypes_of ts)) (at_place ts i t lt is) before in
+    let q : cells_of_all structs (ctype_of t ∷ ctypes_of (drop (i + 1) ts)) ≡ cells structs (ctype_of t) + cells_of_all structs (ctypes_of (drop (i + 1) ts)) = cells_more structs (ctype_of t) (ctypes_of (drop (i + 1) ts)) in
+    subst (λ o. SomeIff o (cells_of_all structs (ctypes_of ts) < 2 ^ 32) (cells_of_all structs (ctypes_of ts))) (sym none) (λ small. many (omega (arith, p, q, each, small)))
+
+pub cells_end : (structs : Structs) (ts : List TypeTree) (i sum : ℕ) → length ts ≤ i → sum + cells_of_all structs (ctypes_of (drop i ts)) ≡ cells_of_all structs (ctypes_of ts) → sum < 2 ^ 32
+    → (cells_of_all structs (ctypes_of ts) < 2 ^ 32) × (sum ≡ cells_of_all structs (ctypes_of ts))
+cells_end structs ts i sum over before small =
+    let p : sum + cells_of_all structs [] ≡ cells_of_all structs (ctypes_of ts) = subst (λ l. sum + cells_of_all structs (ctypes_of l) ≡ cells_of_all structs (ctypes_of ts)) (drop_all i ts over) before in
     let z : cells_of_all structs [] ≡ 0 = refl in
-    omega (arith, p, z)
+    (omega (arith, p, z, small), omega (arith, p, z))
 
 -- ## Types of variables
 

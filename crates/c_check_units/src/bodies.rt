@@ -1,4 +1,4 @@
-ghost use Rattle.std.specs.Prelude.{◌≡◌, ◌++◌, nat_le, IfOk, IfSome};
+ghost use Rattle.std.specs.Prelude.{◌≡◌, ◌++◌, ◌<◌, ◌^◌, nat_le, IfOk, SomeIff};
 ghost use Rattle.c_check_values.specs.Agreement.{AgreesWith};
 ghost use Rattle.c_rules.specs.Checked.{demand};
 ghost use Rattle.c_rules.specs.Limits.{most_local_cells};
@@ -17,7 +17,7 @@ use std::alloc::Global;
 
 // The cells of objects of these types together, where these are fewer than 2^32.
 fn cells_of_types(env: &Environment<'_>, types: &[CType]) -> Option<u32>
-    ensures { IfSome result (λ n. n ≡ cells_of_all (layout_of (env_of env.now)) (ctypes_of types.now)) }
+    ensures { SomeIff result (cells_of_all (layout_of (env_of env.now)) (ctypes_of types.now) < 2 ^ 32) (cells_of_all (layout_of (env_of env.now)) (ctypes_of types.now)) }
 {
     let mut sum = 0u32;
     for t in types {
@@ -54,8 +54,7 @@ pub fn variables_of(
     Ok(variables)
 }
 
-/// A function with these variables and this body, with the limit on the cells of its variables (C99 5.2.4.1). `OutOfMemory` comes too where
-/// these are 2^32.
+/// A function with these variables and this body, with the limit on the cells of its variables (C99 5.2.4.1).
 pub fn function_with(
     alloc: Global,
     env: &Environment<'_>,
@@ -68,7 +67,7 @@ pub fn function_with(
         (record { name = x.now.name; ctype = ctype_of ctype; variables = ctypes_of variables.items; body = block (stmts_of tree.items) })) }
 {
     let Some(cells) = cells_of_types(env, &variables) else {
-        return Err(CheckError::OutOfMemory);
+        return Err(CheckError::At(C13, x.at));
     };
     if cells > most_local_cells(env.mode) {
         return Err(CheckError::At(C13, x.at));

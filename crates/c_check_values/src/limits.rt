@@ -10,13 +10,8 @@ use crate::error::CheckError;
 pub fn few_cells(at: u32, bytes: usize) -> Result<(), CheckError>
     ensures { AgreesWith (λ _. met) result (few_cells at (suc bytes)) }
 {
-    match bytes.checked_add(1) {
-        Some(cells) => {
-            if cells > 65_536 {
-                return Err(CheckError::At(C13, at));
-            }
-            Ok(())
-        }
-        None => Err(CheckError::OutOfMemory),
+    if bytes >= 65_536 {
+        return Err(CheckError::At(C13, at));
     }
+    Ok(())
 }
