@@ -8,6 +8,8 @@ use Rattle.flow_model.specs.declared.records.SilentEdge.{SilentEdge}
 use Rattle.flow_model.specs.declared.records.SysEdge.{SysEdge}
 use Rattle.flow_model.specs.Call.{Call}
 use Rattle.flow_model.specs.Graph.{Graph, Owns, HaveOneOwner}
+use Rattle.flow_model.specs.Language.{Quiet}
+use Rattle.flow_model.specs.Language.Quiet.{silent, enter, leave}
 use Rattle.flow_model.specs.Rules.{IsValid, HasRightEntries}
 
 -- each function begins at a node
@@ -42,3 +44,10 @@ module _ (g : Graph) (valid : IsValid g) where
   candidate_below c f has one =
       let known = All-contains (λ (d : Call). (k : ℕ) (e : ℕ) → k < length d.candidates → get_or d.candidates k e < length g.functions) g.calls c valid.functions.candidates has in
       All-contains (λ h. h < length g.functions) c.candidates f known one
+
+  -- a step that reads nothing leads to a node
+  pub quiet_below : (a b : ℕ) → Quiet g a b → b < g.nodes
+  quiet_below a b (silent has) = silent_below (record { from = a; to = b }) has
+  quiet_below a b (enter {f = f} call function) =
+      omega (arith, entry_below g.functions g.nodes f function.one valid.entries function.has, function.begins)
+  quiet_below a b (leave call function) = omega (arith, call_below call.call call.has, call.to)

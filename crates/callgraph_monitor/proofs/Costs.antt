@@ -14,7 +14,8 @@ use Rattle.flow_model.specs.Cost.{candidate_count}
 use Rattle.flow_model.specs.Graph.{Graph, HasFunction}
 use Rattle.flow_model.specs.Groups.{sites_of}
 use Rattle.flow_model.proofs.Counting.{shared_sum, sum_by-add, sum_by-nothing}
-use Rattle.callgraph_monitor.specs.Visits.{does_end, silent_cost, enter_cost, leave_cost, visit_cost, calls_of}
+use Rattle.callgraph_monitor.specs.Ahead.{calls_of}
+use Rattle.callgraph_monitor.specs.Visits.{does_end, silent_cost, enter_cost, leave_cost, visit_cost}
 
 -- a list counts one for each item
 length-sum : {X : Type 0} (xs : List X) → sum_by (λ (x : X). 1) xs ≡ length xs

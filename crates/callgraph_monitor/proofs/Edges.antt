@@ -16,8 +16,8 @@ use Rattle.flow_model.specs.Graph.{Graph, HasSilent}
 use Rattle.flow_model.specs.Language.{Quiet}
 use Rattle.flow_model.specs.Language.Quiet.{silent, enter, leave}
 use Rattle.callgraph_monitor.specs.Growth.{HasOne}
-use Rattle.callgraph_monitor.specs.Ahead.{IsAhead, BeginsAt, Enters, EntersFrom, ReturnsTo, LeavesTo}
-use Rattle.callgraph_monitor.specs.Visits.{calls_from, calls_of}
+use Rattle.callgraph_monitor.specs.Ahead.{IsAhead, BeginsAt, Enters, EntersFrom, ReturnsTo, LeavesTo, calls_of}
+use Rattle.callgraph_monitor.specs.Visits.{calls_from}
 use Rattle.callgraph_monitor.proofs.Items.{filter-contains, filter-pass, contains-filter}
 
 -- The silent edges that leave a node.

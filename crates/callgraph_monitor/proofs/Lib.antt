@@ -4,5 +4,7 @@ pub mod Costs
 pub mod Edges
 pub mod Grown
 pub mod Items
+pub mod LaidLemmas
+pub mod Pushed
 pub mod Sites
 pub mod Stands

@@ -3,6 +3,8 @@ use Rattle.std.proofs.Common.{◌≡◌, ℕ, ℤ, ◌+◌, ◌↔◌, List, [],
 use Rattle.dm_base.specs.declared.event.Arg.{Arg}
 use Rattle.dm_base.specs.declared.event.Event.{Event}
 use Rattle.dm_base.specs.declared.event.Event.TheVariants.{Sys, Pre, Post}
+use Rattle.dm_base.specs.declared.verdict.Step.{Step}
+use Rattle.dm_base.specs.declared.verdict.Step.TheVariants.{Kept, Rejected, Bound}
 use Rattle.dm_base.specs.Trace.{erase}
 use Rattle.dm_sets.specs.Nodes.{Nodes, Has}
 use Rattle.flow_model.specs.declared.which.Which.TheVariants.{Callgraph}
@@ -11,7 +13,8 @@ use Rattle.flow_model.specs.Language.{Walk, Reads}
 use Rattle.flow_model.specs.Language.Walk.{calls}
 use Rattle.flow_model.proofs.Histories.{erase-append, erase-null, accepted_nothing, accepted_more, rejected_more, rejected_stays}
 use Rattle.flow_model.proofs.Walks.{walk-append, last_call}
-use Rattle.callgraph_monitor.specs.Ahead.{GoesTo}
+use Rattle.flow_model.specs.Verdict.{IsStep}
+use Rattle.callgraph_monitor.specs.Ahead.{GoesTo, IsAnswer, IsCall}
 use Rattle.callgraph_monitor.specs.Standing.{IsAfter, StandsFor}
 
 -- where a walk ends that reads the history, the history is read
@@ -51,7 +54,7 @@ some_before g h (Post site) c is = (c, before_null g h (Post site) refl c is)
 
 module _ (g : Graph) (bound : ℕ) (h : List Event) (old : Nodes) (stands : StandsFor old g bound h) where
   -- a system call, where the set had a node
-  pub stands_call : (name : ℕ) (arguments : List Arg) (outcome : ℤ) (new : Nodes) → (a : ℕ) → Has old a → new.size ≡ g.nodes → ((c : ℕ) → Has new c ↔ GoesTo g (Sys name arguments outcome) old c) → StandsFor new g bound (h ++ Sys name arguments outcome ∷ [])
+  stands_call : (name : ℕ) (arguments : List Arg) (outcome : ℤ) (new : Nodes) → (a : ℕ) → Has old a → new.size ≡ g.nodes → ((c : ℕ) → Has new c ↔ GoesTo g (Sys name arguments outcome) old c) → StandsFor new g bound (h ++ Sys name arguments outcome ∷ [])
   stands_call name arguments outcome new a has size moved =
       let into = after_of_goes g h name arguments outcome old stands.after in
       let out = goes_of_after g h name arguments outcome old stands.after in
@@ -65,6 +68,17 @@ module _ (g : Graph) (bound : ℕ) (h : List Event) (old : Nodes) (stands : Stan
           rejected_more Callgraph g bound h (Sys name arguments outcome) accepted (λ read. let there = after_of_reads g (h ++ Sys name arguments outcome ∷ []) read in none there.0 ((moved there.0).1 (out there.0 there.1))),
         );
       }
+
+  pub stands_after : (e : Event) → IsCall e → (new : Nodes) → (a : ℕ) → Has old a → new.size ≡ g.nodes → ((c : ℕ) → Has new c ↔ GoesTo g e old c) → StandsFor new g bound (h ++ e ∷ [])
+  stands_after (Sys name arguments outcome) call = stands_call name arguments outcome
+  stands_after (Pre site) call = absurd call
+  stands_after (Post site) call = absurd call
+
+  -- what is answered where it stands
+  pub answered : (step : Step) → IsAnswer old step → IsStep Callgraph g bound h step
+  answered Kept some = stands.accepted some.0 some.1
+  answered Rejected none = stands.over none
+  answered Bound never = absurd never
 
   -- any event, where the set had none
   pub stands_still : ((a : ℕ) → Has old a → ⊥) → (e : Event) → StandsFor old g bound (h ++ e ∷ [])

@@ -10,6 +10,13 @@ pub record Adds (old new : Found) (P : ℕ → Type 0) : Type 0 where
   pub only : (b : ℕ) → Contains more b → P b
   pub all : (b : ℕ) → P b → Contains new.nodes b
 
+-- nodes that have P were added at the end, and each node that has P is among them
+pub record Pushes (old new : List ℕ) (P : ℕ → Type 0) : Type 0 where
+  pub more : List ℕ
+  pub grown : new ≡ old ++ more
+  pub only : (b : ℕ) → Contains more b → P b
+  pub all : (b : ℕ) → P b → Contains more b
+
 -- one of the items has P with the node
 abbrev pub HasOne : {X : Type 0} → (X → ℕ → Type 0) → List X → ℕ → Type 0
 HasOne {X} P xs b = (x : X) × Contains xs x × P x b

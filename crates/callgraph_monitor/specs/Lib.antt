@@ -1,4 +1,6 @@
 pub mod Growth
+pub mod Laid
 pub mod Ahead
 pub mod Visits
 pub mod Standing
+pub mod Space

@@ -1,6 +1,5 @@
--- For private contracts and proofs alone: how many edges and candidate entries are read at a node.
+-- How many edges and candidate entries are read at a node.
 use Rattle.std.specs.Prelude.{ℕ, ◌+◌, Bool, false, List, length, filter, sum_by, count_by, nat_eq, slice_get}
-use Rattle.std.specs.List.{list_any}
 use Rattle.std.specs.Option.{option_map_or}
 use Rattle.flow_model.specs.Call.{Call}
 use Rattle.flow_model.specs.Graph.{Graph}
@@ -8,10 +7,6 @@ use Rattle.flow_model.specs.Graph.{Graph}
 -- the call edges that leave the node
 abbrev pub calls_from : Graph → ℕ → List Call
 calls_from g node = filter (λ c. nat_eq c.from node) g.calls
-
--- the call edges that may enter the function
-abbrev pub calls_of : Graph → ℕ → List Call
-calls_of g function = filter (λ c. list_any (λ f. nat_eq f function) c.candidates) g.calls
 
 -- whether the function ends at the node
 abbrev pub does_end : Graph → ℕ → ℕ → Bool

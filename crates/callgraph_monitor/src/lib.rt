@@ -2,7 +2,8 @@
 #![tactic(auto)]
 
 mod monitor;
+mod quiet;
 mod reading;
 mod visiting;
 
-pub use monitor::CallgraphMonitor;
+pub use monitor::{CallgraphMonitor, CallgraphPool};

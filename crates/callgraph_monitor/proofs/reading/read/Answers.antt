@@ -1,5 +1,5 @@
 use Rattle.std.proofs.Common.{◌≡◌, ◌≤◌, nat_lt, Contains, ap, ◌∙◌, subst, inl, inr, arith}
-use Rattle.std.proofs.lemmas.Bool.{cases_lt}
+use Rattle.std.proofs.lemmas.Bool.{cases_lt, ltb-true, lt-ltb}
 use Rattle.flow_model.specs.declared.records.SysEdge.{SysEdge}
 use Rattle.flow_model.specs.Found.{Found}
 use Rattle.callgraph_monitor.specs.Ahead.{IsAhead}
@@ -13,6 +13,7 @@ loop-node-init g c = record {
   within = omega arith;
   only = λ b has. absurd (let there = subst (λ xs. Contains xs b) (ap (λ (f : Found). f.nodes) c.clear.ensures) has in omega (arith, there.1));
   all = λ a b lt has ahead. absurd (omega (arith, lt));
+  some = λ lt. absurd (omega (arith, lt));
   cost = omega arith;
   rise = omega arith;
 }
@@ -39,6 +40,7 @@ loop-node-preserved g c =
             let same : a ≡ node = omega (arith, lt, le) in
             adds.all b (subst (λ n. IsAhead c.args.model.now c.args.event.now n b) same ahead)
       ];
+      some = λ lt. (node, some.2);
       cost = omega (arith, before.cost, c.read_from.ensures.cost, below_and_at (λ (e : SysEdge). e.from) c.loop-node.from node some.0 c.args.model.now.sys);
       rise = omega (arith, before.rise, c.read_from.ensures.cost);
     }
@@ -51,3 +53,12 @@ returns-clause-all g c = λ a b has ahead. elim (cases_lt a c.loop-node.from) [
 
 pub returns-clause-cost : goal.returns-clause-cost
 returns-clause-cost g c = omega (arith, c.loop-node.invariant.cost, filter-few (λ (e : SysEdge). nat_lt e.from c.loop-node.from) c.args.model.now.sys)
+
+pub returns-clause-some : goal.returns-clause-some
+returns-clause-some g c = λ on. c.loop-node.invariant.some (ltb-true 0 c.loop-node.from on)
+
+pub returns-clause-none : goal.returns-clause-none
+returns-clause-none g c = λ off a has. elim (cases_lt 0 c.loop-node.from) [
+  | inl some ↦ off (lt-ltb 0 c.loop-node.from some)
+  | inr first ↦ c.in_default.ensures.none a (omega (arith, first)) has
+]

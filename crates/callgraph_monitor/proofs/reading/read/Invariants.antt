@@ -9,6 +9,7 @@ invariant-loop-node g l = record {
   within : l.from ≤ l.model.nodes;
   only : (b : ℕ) → Contains l.pool.nodes b → (a : ℕ) × Has l.set a × IsAhead l.model l.event a b;
   all : (a b : ℕ) → a < l.from → Has l.set a → IsAhead l.model l.event a b → Contains l.pool.nodes b;
+  some : 0 < l.from → (a : ℕ) × Has l.set a;
   cost : l.steps ≤ l.fn.steps + length (filter (λ e. nat_lt e.from l.from) l.model.sys);
   rise : l.fn.steps ≤ l.steps;
 }

@@ -14,7 +14,7 @@ read_edge-requires g c =
     let items = c.sys_from-edge-items.result.now in
     let edge = c.edge-item.result in
     let here = subst (Contains items) (sym c.edge-item.is) (Contains-get_or items c.loop-edge.edge-index edge c.loop-edge-test.true) in
-    let below = sys_below c.args.model.now c.nodes-nodes.ensures.valid edge (filter-contains (λ (e : SysEdge). nat_eq e.from c.args.node) c.args.model.now.sys edge (subst (λ xs. Contains xs edge) c.sys_from-edge-items.ensures here)) in
+    let below = sys_below c.args.model.now c.requires.valid edge (filter-contains (λ (e : SysEdge). nat_eq e.from c.args.node) c.args.model.now.sys edge (subst (λ xs. Contains xs edge) c.sys_from-edge-items.ensures here)) in
     omega (arith, below, c.loop-edge.invariant.added.size, c.requires.pool)
 
 pub loop-edge-init : goal.loop-edge-init

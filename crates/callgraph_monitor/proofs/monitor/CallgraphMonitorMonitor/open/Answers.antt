@@ -5,12 +5,12 @@ use Rattle.flow_model.proofs.Walks.{same_entry}
 use Rattle.callgraph_monitor.specs.Standing.{StandsFor}
 use Rattle.callgraph_monitor.proofs.Stands.{stands_first}
 use Rattle.callgraph_monitor.proofs.monitor.CallgraphMonitorMonitor.open.Goals as goal
-use Rattle.callgraph_monitor.proofs.monitor.CallgraphMonitorMonitor.open.Goals.{After-begin_uncounted}
+use Rattle.callgraph_monitor.proofs.monitor.CallgraphMonitorMonitor.open.Goals.{After-begin_over}
 
-stands : (c : After-begin_uncounted) → StandsFor c.begin_uncounted.new.set c.args.model.now c.args._bound []
+stands : (c : After-begin_over) → StandsFor c.begin_over.new.set c.args.model.now c.args._bound []
 stands c =
-    let (entry, exit, start, begun) = c.begin_uncounted.ensures.begun in
-    stands_first c.args.model.now c.args._bound c.begin_uncounted.new.set c.begin_uncounted.ensures.size
+    let (entry, exit, start, begun) = c.begin_over.ensures.begun in
+    stands_first c.args.model.now c.args._bound c.begin_over.new.set c.begin_over.ensures.size
     (λ a. (
       λ has. (entry, exit, start, (begun a).0 has),
       λ (other, end, function, walk). (begun a).1 (subst (λ n. Walk c.args.model.now n [] a) (same_entry function start) walk),
@@ -21,4 +21,4 @@ pub returns-clause-stands : goal.returns-clause-stands
 returns-clause-stands c = stands c
 
 pub returns-clause-empty : goal.returns-clause-empty
-returns-clause-empty c = let (entry, exit, start, begun) = c.begin_uncounted.ensures.begun in (stands c).accepted entry ((begun entry).1 over)
+returns-clause-empty c = let (entry, exit, start, begun) = c.begin_over.ensures.begun in (stands c).accepted entry ((begun entry).1 over)
