@@ -35,7 +35,7 @@ place_same : (p : Place) → place_eq.it p p ≡ true
 place_same (Held a) = eq-eqb a a refl
 place_same (Entered a) = eq-eqb a a refl
 
-both_true : (a b : Bool) → (a && b) ≡ true → (a ≡ true) × (b ≡ true)
+pub both_true : (a b : Bool) → (a && b) ≡ true → (a ≡ true) × (b ≡ true)
 both_true true b e = (refl, e)
 both_true false b e = absurd cc
 

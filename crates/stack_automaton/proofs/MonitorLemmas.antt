@@ -20,19 +20,26 @@ use Rattle.stack_automaton.specs.Event.{IsNext}
 use Rattle.stack_automaton.specs.Following.{IsFirst, AreHeld}
 use Rattle.stack_automaton.specs.Held.{IsThere, HasEdge, Leads}
 use Rattle.stack_automaton.specs.Held.Leads.{here}
-use Rattle.stack_automaton.specs.Moving.{IsMoved}
-use Rattle.stack_automaton.specs.Seen.{Contents, Position, edges_at}
-use Rattle.stack_automaton.specs.Standing.{IsPool, HoldsConfigs, StandsFor, Extends, IsNeeded, AreNoted, AreNeeded}
+use Rattle.stack_automaton.specs.Moving.{LiveAt, IsMoved}
+use Rattle.stack_automaton.specs.Seen.{Contents, Memory, Position, edges_at}
+use Rattle.stack_automaton.specs.Standing.{IsPool, IsPoolOf, IsKeyOf, IsLive, HoldsConfigs, StandsFor, Extends, IsNeeded, AreNoted, AreNeeded}
 use Rattle.stack_automaton.specs.Standing.StandsFor.{kept, rejected}
 use Rattle.stack_automaton.specs.Storing.{Grows, IsStored}
 use Rattle.stack_automaton.proofs.GrowingLemmas.{edge_there}
 use Rattle.stack_automaton.proofs.NotingLemmas.{leads_more, leads_closed, leads_trans, same_noted, leads_new, swept_closed, swept_empty}
-use Rattle.stack_automaton.proofs.StandingLemmas.{stands_grown, stands_framed, leads_old, stands_null, stands_moved, stands_refused, stands_first}
+use Rattle.stack_automaton.proofs.StandingLemmas.{key_grown, key_stored, stands_grown, stands_framed, leads_old, stands_null, stands_moved, stands_refused, stands_first}
 
 -- Between two pools.
 module _ (old new : Contents) (grows : Grows (edges_at old) (edges_at new)) (final : new.final ≡ old.final) where
   pub pool_grown : IsPool old → IsPool new
   pool_grown pool = record { closed = grows.closed pool.closed; empty = ap (edges_at new) final ∙ grows.kept old.final [] pool.empty }
+
+  pub pool_of_grown : (g : Graph) → new.remembered ≡ old.remembered → IsPoolOf old g → IsPoolOf new g
+  pool_of_grown g same was = record {
+    pool = pool_grown was.pool;
+    remembered = λ m has. subst (λ n. IsKeyOf g (edges_at new) n m.begin m.key) (sym final)
+        (key_grown g (edges_at old) (edges_at new) old.final was.pool.closed grows m.begin m.key (was.remembered m (subst (λ ms. Contains ms m) same has)));
+  }
 
   pub extends : Extends old new
   extends = record { kept = grows.kept; final = final }
@@ -67,6 +74,10 @@ pub holding : (m : Position) (p : Contents) (g : Graph) (bound : ℕ) (h : List 
 holding m p g bound h same (kept is holds) = holds
 holding m p g bound h same (rejected k is at) = let both : Kept ≡ Rejected = sym same ∙ is in absurd cc
 
+-- its key is live, as is the number that it was read from
+pub key_live : (m : Position) (p : Contents) (g : Graph) (bound : ℕ) (h : List Event) (key : ℕ) → m.answer ≡ Kept → m.key ≡ key → StandsFor m p g bound h → IsLive (edges_at p) p.final key
+key_live m p g bound h key was same stands = subst (IsLive (edges_at p) p.final) same (holding m p g bound h was stands).live
+
 pub refused : (m : Position) (p : Contents) (g : Graph) (bound : ℕ) (h : List Event) (e : Event) → m.answer ≡ Rejected → StandsFor m p g bound h → StandsFor m p g bound (h ++ e ∷ [])
 refused m p g bound h e same (kept is holds) = let both : Kept ≡ Rejected = sym is ∙ same in absurd cc
 refused m p g bound h e same (rejected k is at) = rejected k is (rejected_stays Stack g bound h e k at)
@@ -80,11 +91,11 @@ module _ (m n : Position) (old new : Contents) (g : Graph) (bound : ℕ) (h : Li
   holds : HoldsConfigs (edges_at old) old.final m.key g bound h
   holds = holding m old g bound h was stands
 
-  pub after_call : erase (e ∷ []) ≡ e ∷ [] → n.answer ≡ Kept → IsMoved g (edges_at old) (edges_at new) m.key e n.key → StandsFor n new g bound (h ++ e ∷ [])
-  after_call call now moves = kept now (subst (λ k. HoldsConfigs (edges_at new) k n.key g bound (h ++ e ∷ [])) (sym final) (stands_moved g (edges_at old) (edges_at new) old.final m.key e bound h call pool.closed pool.empty holds n.key moves))
+  pub after_call : erase (e ∷ []) ≡ e ∷ [] → n.answer ≡ Kept → Grows (edges_at old) (edges_at new) → IsMoved g (edges_at old) (edges_at new) old.final m.key e n.key → StandsFor n new g bound (h ++ e ∷ [])
+  after_call call now grows moves = kept now (subst (λ k. HoldsConfigs (edges_at new) k n.key g bound (h ++ e ∷ [])) (sym final) (stands_moved g (edges_at old) (edges_at new) old.final m.key e bound h call pool.closed holds n.key grows moves))
 
   pub after_refusal : erase (e ∷ []) ≡ e ∷ [] → n.answer ≡ Rejected → ((b q : ℕ) → IsNext g (HasEdge (edges_at old)) m.key e b q → ⊥) → StandsFor n new g bound (h ++ e ∷ [])
-  after_refusal call now none = rejected (length h + 1) now (stands_refused g (edges_at old) (edges_at new) old.final m.key e bound h call pool.closed pool.empty holds none)
+  after_refusal call now none = rejected (length h + 1) now (stands_refused g (edges_at old) (edges_at new) old.final m.key e bound h call pool.closed holds none)
 
 pub after_null : (m : Position) (p : Contents) (g : Graph) (bound : ℕ) (h : List Event) (e : Event) → m.answer ≡ Kept → erase (e ∷ []) ≡ [] → StandsFor m p g bound h → StandsFor m p g bound (h ++ e ∷ [])
 after_null m p g bound h e was null stands = kept was (stands_null (edges_at p) p.final m.key g bound h e null (holding m p g bound h was stands))
@@ -213,6 +224,41 @@ module _ (old new : Contents) (same : new.entries ≡ old.entries) (final : new.
     empty = subst (λ es. map.get es new.final ≡ Some []) (sym same) (ap (edges_at old) final ∙ pool.empty);
   }
 
+  pub key_same : (g : Graph) (begin : List Fact) (key : ℕ) → IsKeyOf g (edges_at old) old.final begin key → IsKeyOf g (edges_at new) new.final begin key
+  key_same g begin key is = subst (λ es. IsKeyOf g (map.get es) new.final begin key) (sym same) (subst (λ n. IsKeyOf g (edges_at old) n begin key) (sym final) is)
+
+  pub pool_of_same : new.remembered ≡ old.remembered → (g : Graph) → IsPoolOf old g → IsPoolOf new g
+  pool_of_same still g was = record { pool = pool_same was.pool; remembered = λ m has. key_same g m.begin m.key (was.remembered m (subst (λ ms. Contains ms m) still has)) }
+
   pub stands_same : (m : Position) (g : Graph) (bound : ℕ) (h : List Event) → StandsFor m old g bound h → StandsFor m new g bound h
   stands_same m g bound h (kept is holds) = kept is (subst (λ es. HoldsConfigs (map.get es) new.final m.key g bound h) (sym same) (subst (λ n. HoldsConfigs (edges_at old) n m.key g bound h) (sym final) holds))
   stands_same m g bound h (rejected k is at) = rejected k is at
+
+-- a pool that remembers nothing is one of each model
+pub remembers_nothing : (p : Contents) (g : Graph) → p.remembered ≡ [] → IsPool p → IsPoolOf p g
+remembers_nothing p g none pool = record { pool = pool; remembered = λ m has. absurd (let inside : Contains [] m = subst (λ ms. Contains ms m) none has in omega (arith, inside.1)) }
+
+-- An event whose states are stored, and that is remembered.
+module _ (old mid new : Contents) (g : Graph) (begin : List Fact) (key : ℕ) (grows : Grows (edges_at old) (edges_at mid)) (final : mid.final ≡ old.final) (still : mid.remembered ≡ old.remembered)
+    (same : new.entries ≡ mid.entries) (last : new.final ≡ mid.final) (more : (m : Memory) → Contains new.remembered m → Contains mid.remembered m ⊎ (m ≡ record { begin = begin; key = key })) where
+  pub arrived_grows : Grows (edges_at old) (edges_at new)
+  arrived_grows = subst (λ es. Grows (edges_at old) (map.get es)) (sym same) grows
+
+  module _ (pool : IsPoolOf old g) (live : (b q : ℕ) → IsFirst begin b q → LiveAt (edges_at old) old.final q) (stored : IsStored g (edges_at old) (edges_at mid) begin key) (found : IsThere (edges_at mid) key) where
+    arrived : IsKeyOf g (edges_at new) new.final begin key
+    arrived = key_same mid new same last g begin key (subst (λ n. IsKeyOf g (edges_at mid) n begin key) (sym final)
+        (key_stored g (edges_at old) (edges_at mid) old.final key begin pool.pool.closed pool.pool.empty grows stored found live))
+
+    pub arrived_key : IsKeyOf g (edges_at new) old.final begin key
+    arrived_key = subst (λ n. IsKeyOf g (edges_at new) n begin key) (last ∙ final) arrived
+
+    pub arrived_pool : IsPoolOf new g
+    arrived_pool =
+        let grown = pool_of_grown old mid grows final g still pool in
+        record {
+          pool = pool_same mid new same last grown.pool;
+          remembered = λ m has. elim (more m has) as (λ _. IsKeyOf g (edges_at new) new.final m.begin m.key) [
+            | inl was ↦ key_same mid new same last g m.begin m.key (grown.remembered m was)
+            | inr e ↦ subst (λ (n : Memory). IsKeyOf g (edges_at new) new.final n.begin n.key) (sym e) arrived
+          ];
+        }

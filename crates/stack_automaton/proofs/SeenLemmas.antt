@@ -12,7 +12,7 @@ use Rattle.slab.specs.Slab.{Slab, get, entries, entries_from, slab_len}
 use Rattle.slab.proofs.SlabLemmas.{length-entries}
 use Rattle.stack_automaton.specs.declared.place.Edge.{Edge}
 use Rattle.stack_automaton.specs.Held.{States, IsThere, HasEdge, Leads}
-use Rattle.stack_automaton.specs.Seen.{Contents, edges_at}
+use Rattle.stack_automaton.specs.Seen.{Contents, Memory, edges_at}
 use Rattle.stack_automaton.specs.Standing.{IsPool}
 
 less_is : (x y : ℕ) → x < y → nat_cmp x y ≡ Less
@@ -70,7 +70,7 @@ module _ {X : Type 0} where
   look_len s = sym (len-entries (from_sorted {R = nat_cmp} (entries s)) ∙ ap length (entries-from_sorted nat_cmp (entries s) (rises 0 s.slots)) ∙ length-entries s)
 
 -- what is said of the slab of a pool, said of the pool
-module _ (p : Contents) (s : Slab (List Edge)) (last : ℕ) (notes : List ℕ) (is : ◌≡◌ {A = Contents} (record { entries = from_sorted (entries s); final = last; noted = notes }) p) where
+module _ (p : Contents) (s : Slab (List Edge)) (last : ℕ) (notes : List ℕ) (ms : List Memory) (is : ◌≡◌ {A = Contents} (record { entries = from_sorted (entries s); final = last; noted = notes; remembered = ms }) p) where
   pub seen : edges_at p ≡ get s
   seen = ap edges_at (sym is) ∙ look s
 
@@ -93,10 +93,13 @@ module _ (p : Contents) (s : Slab (List Edge)) (last : ℕ) (notes : List ℕ) (
   pub one_seen : (P : States → Type 0) → P (edges_at p) → P (get s)
   one_seen P holds = subst P seen holds
 
+  pub seen_one : (P : States → Type 0) → P (get s) → P (edges_at p)
+  seen_one P holds = subst P (sym seen) holds
+
   pub both_seen : (R : States → States → Type 0) (s' : Slab (List Edge)) → R (get s) (get s') → R (edges_at p) (map.get (from_sorted {R = nat_cmp} (entries s')))
   both_seen R s' holds = subst (R (edges_at p)) (sym (look s')) (subst (λ t. R t (get s')) (sym seen) holds)
 
-  at_pool : (Q : Contents → Type 0) → Q (record { entries = from_sorted (entries s); final = last; noted = notes }) → Q p
+  pub at_pool : (Q : Contents → Type 0) → Q (record { entries = from_sorted (entries s); final = last; noted = notes; remembered = ms }) → Q p
   at_pool Q holds = subst Q is holds
 
   pub noted_seen : (noted' : List ℕ) (key : ℕ) → ((k : ℕ) → Contains noted' k ↔ ((j : ℕ) × (Contains notes j ⊎ (j ≡ key)) × Leads (HasEdge (get s)) j k))
@@ -117,9 +120,9 @@ none_at : (s0 : Slab (List Edge)) (k : ℕ) → s0.slots ≡ [] → get s0 k ≡
 none_at s0 k empty = ap (λ xs. get_or xs k None) empty
 
 -- a slab with one state, which has no edges
-pub pool_seen : (s0 s : Slab (List Edge)) (key : ℕ) (state : List Edge) (notes : List ℕ) → s0.slots ≡ [] → get s key ≡ Some state → ((k : ℕ) → k ≢ key → get s k ≡ get s0 k) → state ≡ []
-    → IsPool (record { entries = from_sorted (entries s); final = key; noted = notes })
-pool_seen s0 s key state notes empty here others none = record {
+pub pool_seen : (s0 s : Slab (List Edge)) (key : ℕ) (state : List Edge) (notes : List ℕ) (ms : List Memory) → s0.slots ≡ [] → get s key ≡ Some state → ((k : ℕ) → k ≢ key → get s k ≡ get s0 k) → state ≡ []
+    → IsPool (record { entries = from_sorted (entries s); final = key; noted = notes; remembered = ms })
+pool_seen s0 s key state notes ms empty here others none = record {
   closed = λ k edges e found has. elim (cases_eq k key) as (λ _. IsThere (map.get (from_sorted {R = nat_cmp} (entries s))) e.to) [
     | inl same ↦
         let both : Some edges ≡ Some state = sym found ∙ look_at s k ∙ ap (get s) same ∙ here in

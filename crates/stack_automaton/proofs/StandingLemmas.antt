@@ -24,8 +24,8 @@ use Rattle.stack_automaton.specs.Event.{IsNext, IsReached, key_of, IsFact, Climb
 use Rattle.stack_automaton.specs.Event.IsFact.{first, silent, enter, back, out}
 use Rattle.stack_automaton.specs.Event.Climbs.{held, link}
 use Rattle.stack_automaton.specs.Following.{IsFirst, AreHeld}
-use Rattle.stack_automaton.specs.Moving.{IsReadFrom, LeadsBy, IsMoved}
-use Rattle.stack_automaton.specs.Standing.{IsLive, HoldsConfigs}
+use Rattle.stack_automaton.specs.Moving.{IsReadFrom, LeadsBy, LiveAt, IsMoved}
+use Rattle.stack_automaton.specs.Standing.{IsLive, IsKeyOf, HoldsConfigs}
 use Rattle.stack_automaton.specs.Storing.{IsClosed, Grows, IsStored}
 use Rattle.stack_automaton.proofs.PathLemmas.{path_frame}
 use Rattle.stack_automaton.proofs.GrowingLemmas.{edge_there}
@@ -66,8 +66,8 @@ firsts_there g s key event begin closed is leads b q one = let next = (leads b q
 pub none_next : (g : Graph) (s : States) (key : ℕ) (event : Event) (begin : List Fact) → length begin ≡ 0 → LeadsBy g s key event begin → (b q : ℕ) → IsNext g (HasEdge s) key event b q → ⊥
 none_next g s key event begin empty leads b q next = let has = (leads b q).1 next in omega (arith, has.1, empty)
 
-pub moved : (g : Graph) (old new : States) (key : ℕ) (event : Event) (next : ℕ) (begin : List Fact) → 0 < length begin → AreHeld begin → LeadsBy g old key event begin → IsStored g old new begin next → IsThere new next → IsMoved g old new key event next
-moved g old new key event next begin some are leads stored is_there =
+pub moved : (g : Graph) (old new : States) (final key : ℕ) (event : Event) (next : ℕ) (begin : List Fact) → 0 < length begin → AreHeld begin → LeadsBy g old key event begin → IsKeyOf g new final begin next → IsMoved g old new final key event next
+moved g old new final key event next begin some are leads after =
     let none : Fact = record { node = 0; place = Held 0 } in
     let x : Fact = get_or begin 0 none in
     let has : Contains begin x = Contains-get_or begin 0 none some in
@@ -75,8 +75,7 @@ moved g old new key event next begin some are leads stored is_there =
     record {
       begin = begin;
       leads = leads;
-      stored = stored;
-      there = is_there;
+      after = after;
       node = x.node;
       below = q;
       some = (leads x.node q).0 (subst (λ p. Contains begin (record { node = x.node; place = p })) place has);
@@ -91,17 +90,20 @@ module _ (old new : States) (final : ℕ) (Kept : ℕ → Type 0) (same : (k l q
       let more = leads_old (closed k l q is was) rest in
       (on was more.0, more.1)
 
+  pub live_framed : (key : ℕ) → Kept key → IsLive old final key → IsLive new final key
+  live_framed key is live l r q edge leads =
+      let was = (same key l r is).0 edge in
+      let more = leads_old (closed key l r is was) leads in
+      let (z, path) = live l r q was more.0 in
+      (z, (path_frame (HasEdge old) (HasEdge new) final Kept same closed q z more.1).1 path)
+
   pub stands_framed : (key : ℕ) (g : Graph) (bound : ℕ) (h : List Event) → Kept key → IsThere new key → HoldsConfigs old final key g bound h → HoldsConfigs new final key g bound h
   stands_framed key g bound h is is_there stands = record {
     accepted = stands.accepted;
     holds = λ v z. let frame = path_frame (HasEdge old) (HasEdge new) final Kept same closed key (v ∷ z) is in
         (λ path. (stands.holds v z).0 (frame.0 path), λ config. frame.1 ((stands.holds v z).1 config));
     there = is_there;
-    live = λ l r q edge leads.
-        let was = (same key l r is).0 edge in
-        let more = leads_old (closed key l r is was) leads in
-        let (z, path) = stands.live l r q was more.0 in
-        (z, (path_frame (HasEdge old) (HasEdge new) final Kept same closed q z more.1).1 path);
+    live = live_framed key is stands.live;
   }
 
 pub grown_same : (old new : States) → Grows old new → (k l q : ℕ) → IsThere old k → HasEdge new k l q ↔ HasEdge old k l q
@@ -116,9 +118,30 @@ stands_grown old new final key g bound h closed grows stands =
     let (edges, found) = stands.there in
     stands_framed old new final (IsThere old) (grown_same old new grows) (edge_there old closed) key g bound h stands.there (edges, grows.kept key edges found) stands
 
--- a key from which a path begins to the final key, as one does from all that it leads to
-abbrev LiveAt : States → ℕ → ℕ → Type 0
-LiveAt s final q = IsThere s q × ((r : ℕ) → Leads (HasEdge s) q r → (z : List ℕ) × Path (HasEdge s) final r z)
+-- A key that is that of an event stays so while the pool grows.
+module _ (g : Graph) (old new : States) (final : ℕ) (closed : IsClosed old) (grows : Grows old new) where
+  path_grown : (q : ℕ) (z : List ℕ) → IsThere old q → Path (HasEdge new) final q z ↔ Path (HasEdge old) final q z
+  path_grown q z is = path_frame (HasEdge old) (HasEdge new) final (IsThere old) (grown_same old new grows) (edge_there old closed) q z is
+
+  there_grown : (q : ℕ) → IsThere old q → IsThere new q
+  there_grown q (edges, found) = (edges, grows.kept q edges found)
+
+  pub reached_grown : (begin : List Fact) → ((b q : ℕ) → IsFirst begin b q → IsThere old q) → (v : ℕ) (z : List ℕ) → IsReached g (HasEdge new) (IsFirst begin) final v z ↔ IsReached g (HasEdge old) (IsFirst begin) final v z
+  reached_grown begin below v z = (
+    λ (b, q, y, is, path, run). (b, q, y, is, (path_grown q y (below b q is)).0 path, run),
+    λ (b, q, y, is, path, run). (b, q, y, is, (path_grown q y (below b q is)).1 path, run),
+  )
+
+  pub key_grown : (begin : List Fact) (key : ℕ) → IsKeyOf g old final begin key → IsKeyOf g new final begin key
+  key_grown begin key is = record {
+    below = λ b q first. there_grown q (is.below b q first);
+    holds = λ v z.
+        let path = path_grown key (v ∷ z) is.there in
+        let reached = reached_grown begin is.below v z in
+        (λ held. reached.1 ((is.holds v z).0 (path.0 held)), λ from. path.1 ((is.holds v z).1 (reached.0 from)));
+    there = there_grown key is.there;
+    live = live_framed old new final (IsThere old) (grown_same old new grows) (edge_there old closed) key is.there is.live;
+  }
 
 -- What is stored of an event that begins with these facts.
 module _ (g : Graph) (old new : States) (final next : ℕ) (begin : List Fact) (closed : IsClosed old) (empty : old final ≡ Some []) (stored : IsStored g old new begin next) (live_first : (b q : ℕ) → IsFirst begin b q → LiveAt old final q) where
@@ -169,8 +192,28 @@ module _ (g : Graph) (old new : States) (final next : ℕ) (begin : List Fact) (
   pub settled_exact : (v : ℕ) (z : List ℕ) → Path (HasEdge new) final next (v ∷ z) ↔ IsReached g (HasEdge old) (IsFirst begin) final v z
   settled_exact v z = stored_exact g (HasEdge old) (HasEdge new) (IsFirst begin) (IsThere old) stored.0 next final stored.1 (edge_there old closed) firsts ([], empty) no_edges v z
 
+-- the key of what is stored is that of the event
+pub key_stored : (g : Graph) (old new : States) (final next : ℕ) (begin : List Fact) → IsClosed old → old final ≡ Some [] → Grows old new → IsStored g old new begin next → IsThere new next → ((b q : ℕ) → IsFirst begin b q → LiveAt old final q) → IsKeyOf g new final begin next
+key_stored g old new final next begin closed empty grows stored next_there live =
+    let below : (b q : ℕ) → IsFirst begin b q → IsThere old q = λ b q is. (live b q is).0 in
+    record {
+      below = λ b q is. let (edges, found) = below b q is in (edges, grows.kept q edges found);
+      holds = λ v z.
+          let settled = settled_exact g old new final next begin closed empty stored live v z in
+          let reached = reached_grown g old new final closed grows begin below v z in
+          (λ path. reached.1 (settled.0 path), λ from. settled.1 (reached.0 from));
+      there = next_there;
+      live = settled_live g old new final next begin closed empty stored live;
+    }
+
+-- below the facts with which an event begins at a live key are live keys
+pub firsts_live : (g : Graph) (s : States) (final key : ℕ) (event : Event) (begin : List Fact) → IsClosed s → IsThere s key → IsLive s final key → LeadsBy g s key event begin → (b q : ℕ) → IsFirst begin b q → LiveAt s final q
+firsts_live g s final key event begin closed is live leads b q one =
+    let step = (leads b q).0 one in
+    (edge_there s closed key step.from q is step.edge, λ r below. live step.from q r step.edge below)
+
 -- One system call more.
-module _ (g : Graph) (old new : States) (final key : ℕ) (event : Event) (bound : ℕ) (h : List Event) (call : erase (event ∷ []) ≡ event ∷ []) (closed : IsClosed old) (empty : old final ≡ Some []) (stands : HoldsConfigs old final key g bound h) where
+module _ (g : Graph) (old new : States) (final key : ℕ) (event : Event) (bound : ℕ) (h : List Event) (call : erase (event ∷ []) ≡ event ∷ []) (closed : IsClosed old) (stands : HoldsConfigs old final key g bound h) where
   reads : (v : ℕ) (z : List ℕ) → IsConfig g (h ++ event ∷ []) v z → Reads Stack g (h ++ event ∷ [])
   reads v z (entry, exit, at, run) = (entry, exit, v, z, at, run)
 
@@ -179,9 +222,9 @@ module _ (g : Graph) (old new : States) (final key : ℕ) (event : Event) (bound
       let (b, q, y, next, path, rest) = (next_exact g (HasEdge old) key final h stands.holds event call v z).1 (entry, exit, at, run) in
       none b q next)
 
-  module _ (next : ℕ) (moves : IsMoved g old new key event next) where
-    live_first : (b q : ℕ) → IsFirst moves.begin b q → LiveAt old final q
-    live_first b q is = let step = (moves.leads b q).0 is in (edge_there old closed key step.from q stands.there step.edge, λ r leads. stands.live step.from q r step.edge leads)
+  module _ (next : ℕ) (grows : Grows old new) (moves : IsMoved g old new final key event next) where
+    first_there : (b q : ℕ) → IsFirst moves.begin b q → IsThere old q
+    first_there = firsts_there g old key event moves.begin closed stands.there moves.leads
 
     reached : (v : ℕ) (z : List ℕ) → IsReached g (HasEdge old) (IsFirst moves.begin) final v z ↔ IsReached g (HasEdge old) (IsNext g (HasEdge old) key event) final v z
     reached v z = (
@@ -192,8 +235,9 @@ module _ (g : Graph) (old new : States) (final key : ℕ) (event : Event) (bound
     moved_holds : (v : ℕ) (z : List ℕ) → IsHeld new final next v z ↔ IsConfig g (h ++ event ∷ []) v z
     moved_holds v z =
         let exact = next_exact g (HasEdge old) key final h stands.holds event call v z in
-        let settled = settled_exact g old new final next moves.begin closed empty moves.stored live_first v z in
-        (λ path. exact.0 ((reached v z).0 (settled.0 path)), λ config. settled.1 ((reached v z).1 (exact.1 config)))
+        let grown = reached_grown g old new final closed grows moves.begin first_there v z in
+        let after = moves.after.holds v z in
+        (λ path. exact.0 ((reached v z).0 (grown.0 (after.0 path))), λ config. after.1 (grown.1 ((reached v z).1 (exact.1 config))))
 
     moved_reads : Reads Stack g (h ++ event ∷ [])
     moved_reads =
@@ -204,8 +248,8 @@ module _ (g : Graph) (old new : States) (final key : ℕ) (event : Event) (bound
     stands_moved = record {
       accepted = accepted_more Stack g bound h event stands.accepted moved_reads;
       holds = moved_holds;
-      there = moves.there;
-      live = settled_live g old new final next moves.begin closed empty moves.stored live_first;
+      there = moves.after.there;
+      live = moves.after.live;
     }
 
 pub no_edges_at : (s : States) (final : ℕ) → s final ≡ Some [] → (l q : ℕ) → HasEdge s final l q → ⊥

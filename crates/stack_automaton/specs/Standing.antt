@@ -4,11 +4,13 @@ use Rattle.dm_base.specs.declared.event.Event.{Event}
 use Rattle.dm_base.specs.declared.verdict.Step.TheVariants.{Kept, Rejected}
 use Rattle.flow_model.specs.declared.which.Which.TheVariants.{Stack}
 use Rattle.flow_model.specs.Graph.{Graph}
-use Rattle.flow_model.specs.Language.{IsConfig}
+use Rattle.flow_model.specs.Language.{IsConfig, StackRun}
 use Rattle.flow_model.specs.Verdict.{IsAccepted, IsRejectedAt}
 use Rattle.stack_automaton.specs.declared.place.Edge.{Edge}
+use Rattle.stack_automaton.specs.declared.place.Fact.{Fact}
+use Rattle.stack_automaton.specs.declared.place.Place.TheVariants.{Held}
 use Rattle.stack_automaton.specs.Held.{States, IsThere, HasEdge, Path, IsHeld, Leads}
-use Rattle.stack_automaton.specs.Seen.{Contents, Position, edges_at}
+use Rattle.stack_automaton.specs.Seen.{Contents, Memory, Position, edges_at}
 
 -- each edge leads to a key that is there, and the final key is there and has no edges
 pub record IsPool (p : Contents) : Type 0 where
@@ -18,6 +20,26 @@ pub record IsPool (p : Contents) : Type 0 where
 -- from each key to which edges lead from this one, itself left aside, a path leads to the final key
 abbrev pub IsLive : States → ℕ → ℕ → Type 0
 IsLive s final key = (l r q : ℕ) → HasEdge s key l r → Leads (HasEdge s) r q → (z : List ℕ) × Path (HasEdge s) final q z
+
+-- the event begins at the node, with the stacks below it that are held from the key
+abbrev pub BeginsAt : List Fact → ℕ → ℕ → Type 0
+BeginsAt begin b q = Contains begin (record { node = b; place = Held q })
+
+-- the configuration is reached, with nothing read, from one with which the event begins
+abbrev pub IsReachedFrom : Graph → States → ℕ → List Fact → ℕ → List ℕ → Type 0
+IsReachedFrom g s final begin v z = (b : ℕ) × (q : ℕ) × (y : List ℕ) × BeginsAt begin b q × Path (HasEdge s) final q y × StackRun g b y [] v z
+
+-- From the key just the configurations are held to which an event leads that begins with these facts.
+pub record IsKeyOf (g : Graph) (s : States) (final : ℕ) (begin : List Fact) (key : ℕ) : Type 0 where
+  pub below : (b q : ℕ) → BeginsAt begin b q → IsThere s q
+  pub holds : (v : ℕ) (z : List ℕ) → IsHeld s final key v z ↔ IsReachedFrom g s final begin v z
+  pub there : IsThere s key
+  pub live : IsLive s final key
+
+-- A pool of the model: what it remembers of earlier events holds in the model.
+pub record IsPoolOf (p : Contents) (g : Graph) : Type 0 where
+  pub pool : IsPool p
+  pub remembered : (m : Memory) → Contains p.remembered m → IsKeyOf g (edges_at p) p.final m.begin m.key
 
 -- The history is accepted, and from the key just its configurations are held.
 pub record HoldsConfigs (s : States) (final key : ℕ) (g : Graph) (bound : ℕ) (h : List Event) : Type 0 where

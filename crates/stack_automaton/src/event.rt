@@ -1,11 +1,10 @@
-ghost use Rattle.std.specs.Prelude.{◌≡◌, ◌↔◌, ℕ, Contains, IfOk, OnOk, IfSome, IfNone};
+ghost use Rattle.std.specs.Prelude.{◌≡◌, ◌↔◌, ℕ, Contains, IfOk, OnOk};
 ghost use Rattle.slab.specs.Slab.{get};
 ghost use Rattle.stack_automaton.specs.declared.place.Fact.{Fact as Fact'};
 ghost use Rattle.stack_automaton.specs.Adding.{Has, Adds};
-ghost use Rattle.stack_automaton.specs.Held.{IsThere, HasEdge};
-ghost use Rattle.stack_automaton.specs.Event.{IsNext};
+ghost use Rattle.stack_automaton.specs.Held.{IsThere};
 ghost use Rattle.stack_automaton.specs.Following.{AreHeld, IsFirst};
-ghost use Rattle.stack_automaton.specs.Moving.{IsRead, IsReadFrom, LeadsBy, IsMoved};
+ghost use Rattle.stack_automaton.specs.Moving.{IsRead, IsReadFrom, LeadsBy};
 ghost use Rattle.stack_automaton.specs.Storing.{IsClosed, Grows, IsStored};
 
 use crate::follow::add;
@@ -105,7 +104,7 @@ pub fn settle(
 }
 
 // The facts with which the event begins at the key.
-fn begin_at(
+pub fn begin_at(
     alloc: Global,
     states: &Slab<State>,
     model: &Model,
@@ -123,27 +122,4 @@ fn begin_at(
         }
         None => Ok(IndexSet::new(alloc)),
     }
-}
-
-// The key after the event, or None where it leads nowhere.
-pub fn move_on(
-    alloc: Global,
-    states: &mut Slab<State>,
-    shared: &mut Shared,
-    model: &Model,
-    key: usize,
-    event: &Event,
-) -> Result<Option<usize>, OutOfMemory>
-    requires there { IsThere (get states.old) key }
-    requires closed { IsClosed (get states.old) }
-    ensures grows { Grows (get states.old) (get states.new) }
-    ensures moved { IfOk result (λ next. IfSome next (λ next. IsMoved model.now (get states.old) (get states.new) key event.now next)) }
-    ensures none { IfOk result (λ next. IfNone next ((b q : ℕ) → IsNext model.now (HasEdge (get states.old)) key event.now b q → ⊥)) }
-{
-    let facts = begin_at(alloc, states, model, key, event)?;
-    if facts.is_empty() {
-        return Ok(None);
-    }
-    let next = settle(alloc, states, shared, model, facts)?;
-    Ok(Some(next))
 }

@@ -6,6 +6,7 @@ mod edges;
 mod event;
 mod follow;
 mod links;
+mod memo;
 mod monitor;
 mod notes;
 mod order;

@@ -9,7 +9,7 @@ ghost use Rattle.flow_model.specs.Verdict.{IsAccepted, IsStep};
 ghost use Rattle.stack_automaton.specs.declared.place.Fact.{Fact as Fact'};
 ghost use Rattle.stack_automaton.specs.declared.place.Place.TheVariants.{Held};
 ghost use Rattle.stack_automaton.specs.Seen.{Contents, Position, edges_at};
-ghost use Rattle.stack_automaton.specs.Standing.{IsPool, StandsFor, Extends, AreNoted, AreNeeded};
+ghost use Rattle.stack_automaton.specs.Standing.{IsPool, IsPoolOf, StandsFor, Extends, AreNoted, AreNeeded};
 ghost use Rattle.stack_automaton.specs.Storing.{Grows};
 
 use crate::Pool;
@@ -50,12 +50,13 @@ impl StackMonitor {
 
     // Takes the next event of a history that is accepted.
     fn go_on(&mut self, pool: &mut Pool, model: &Model, event: &Event) -> Result<Step, OutOfMemory>
-        requires pool { IsPool pool.old }
+        requires pool { IsPoolOf pool.old model.now }
         requires kept { self.old.answer ≡ Kept' }
         requires stands { (k : ℕ) × (h : List Event') × StandsFor self.old pool.old model.now k h }
         ensures grows { Grows (edges_at pool.old) (edges_at pool.new) }
         ensures last { pool.new.final ≡ pool.old.final }
         ensures notes { pool.new.noted ≡ pool.old.noted }
+        ensures pool { IsPoolOf pool.new model.now }
         ensures stands { OnOk result ((k : ℕ) (h : List Event') → StandsFor self.old pool.old model.now k h → StandsFor self.new pool.new model.now k (h ++ event.now ∷ [])) }
         ensures answer { IfOk result (λ step. self.new.answer ≡ step) }
         ensures err { OnErr result (self.new ≡ self.old) }
@@ -78,11 +79,12 @@ impl StackMonitor {
 
     // Takes the next event.
     fn take(&mut self, pool: &mut Pool, model: &Model, event: &Event) -> Result<Step, OutOfMemory>
-        requires pool { IsPool pool.old }
+        requires pool { IsPoolOf pool.old model.now }
         requires stands { (k : ℕ) × (h : List Event') × StandsFor self.old pool.old model.now k h }
         ensures grows { Grows (edges_at pool.old) (edges_at pool.new) }
         ensures last { pool.new.final ≡ pool.old.final }
         ensures notes { pool.new.noted ≡ pool.old.noted }
+        ensures pool { IsPoolOf pool.new model.now }
         ensures stands { OnOk result ((k : ℕ) (h : List Event') → StandsFor self.old pool.old model.now k h → StandsFor self.new pool.new model.now k (h ++ event.now ∷ [])) }
         ensures answer { IfOk result (λ step. self.new.answer ≡ step) }
         ensures err { OnErr result (self.new ≡ self.old) }
@@ -120,7 +122,7 @@ impl Monitor for StackMonitor {
 
     ghost WHICH = { Stack' };
 
-    ghost is_pool = { λ p _. IsPool p };
+    ghost is_pool = { IsPoolOf };
 
     ghost stands = { StandsFor };
 
@@ -129,7 +131,7 @@ impl Monitor for StackMonitor {
     ghost needed = { λ p _ ms. AreNeeded p ms };
 
     fn pool(alloc: Global, _model: &Model) -> Result<Pool, OutOfMemory>
-        ensures pool { IfOk result IsPool }
+        ensures pool { IfOk result (λ p. IsPoolOf p _model.now) }
         ensures notes { IfOk result (λ p. AreNoted p []) }
     {
         let pool = Pool::new(alloc)?;
@@ -137,9 +139,9 @@ impl Monitor for StackMonitor {
     }
 
     fn open(pool: &mut Pool, model: &Model, bound: u32) -> Result<Self, OutOfMemory>
-        requires pool { IsPool pool.old }
+        requires pool { IsPoolOf pool.old model.now }
         requires bound { (1 ≤ bound) × (bound < 2 ^ 16) }
-        ensures pool { IsPool pool.new }
+        ensures pool { IsPoolOf pool.new model.now }
         ensures stands { IfOk result (λ m. StandsFor m pool.new model.now bound []) }
         ensures kept { IfOk result (λ m. m.answer ≡ Kept') }
         ensures empty { OnOk result (IsAccepted Stack' model.now bound []) }
@@ -159,9 +161,9 @@ impl Monitor for StackMonitor {
     }
 
     fn feed(&mut self, pool: &mut Pool, model: &Model, event: &Event) -> Result<Step, OutOfMemory>
-        requires pool { IsPool pool.old }
+        requires pool { IsPoolOf pool.old model.now }
         requires stands { (k : ℕ) × (h : List Event') × StandsFor self.old pool.old model.now k h }
-        ensures pool { IsPool pool.new }
+        ensures pool { IsPoolOf pool.new model.now }
         ensures stands { OnOk result ((k : ℕ) (h : List Event') → StandsFor self.old pool.old model.now k h → StandsFor self.new pool.new model.now k (h ++ event.now ∷ [])) }
         ensures answer { IfOk result (λ step. self.new.answer ≡ step) }
         ensures exact { IfOk result (λ step. (k : ℕ) (h : List Event') → StandsFor self.old pool.old model.now k h → IsStep Stack' model.now k (h ++ event.now ∷ []) step) }
@@ -179,7 +181,7 @@ impl Monitor for StackMonitor {
 
     fn copy(&self, pool: &mut Pool) -> Result<Self, OutOfMemory>
         requires stands { (g : Graph) × (k : ℕ) × (h : List Event') × IsPool pool.old × StandsFor self.now pool.old g k h }
-        ensures pool { (g : Graph) → IsPool pool.old → IsPool pool.new }
+        ensures pool { (g : Graph) → IsPoolOf pool.old g → IsPoolOf pool.new g }
         ensures copy { IfOk result (λ m. (g : Graph) (k : ℕ) (h : List Event') → StandsFor self.now pool.old g k h → StandsFor m pool.new g k h) }
         ensures memory { IsOk result }
         ensures same { IfOk result (λ m. m ≡ self.now) }
@@ -196,7 +198,7 @@ impl Monitor for StackMonitor {
 
     fn mark(&self, pool: &mut Pool) -> Result<(), OutOfMemory>
         requires stands { (g : Graph) × (k : ℕ) × (h : List Event') × IsPool pool.old × StandsFor self.now pool.old g k h }
-        ensures pool { (g : Graph) → IsPool pool.old → IsPool pool.new }
+        ensures pool { (g : Graph) → IsPoolOf pool.old g → IsPoolOf pool.new g }
         ensures ok { OnOk result ((g : Graph) (ms : List Position) → AreNoted pool.old ms → AreNoted pool.new (ms ++ self.now ∷ [])) }
         ensures err { OnErr result ((g : Graph) → IsPool pool.old → AreNoted pool.new []) }
         ensures others { (m : Position) (g : Graph) (k : ℕ) (h : List Event') → StandsFor m pool.old g k h → StandsFor m pool.new g k h }
@@ -215,7 +217,7 @@ impl Monitor for StackMonitor {
 
     fn sweep(pool: &mut Pool)
         requires { (g : Graph) × (ms : List Position) × IsPool pool.old × AreNoted pool.old ms }
-        ensures pool { (g : Graph) → IsPool pool.old → IsPool pool.new }
+        ensures pool { (g : Graph) → IsPool pool.old → IsPoolOf pool.new g }
         ensures notes { (g : Graph) → IsPool pool.old → AreNoted pool.new [] }
         ensures exact { (g : Graph) (ms : List Position) → IsPool pool.old → AreNoted pool.old ms → AreNeeded pool.new ms }
         ensures over { (m : Position) (g : Graph) (k : ℕ) (h : List Event') → (IsAccepted Stack' g k h → ⊥) → StandsFor m pool.old g k h → StandsFor m pool.new g k h }

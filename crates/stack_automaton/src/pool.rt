@@ -4,12 +4,13 @@ ghost use Rattle.stack_automaton.specs.declared.place.Edge.{Edge as Edge'};
 ghost use Rattle.stack_automaton.specs.Event.{IsNext};
 ghost use Rattle.stack_automaton.specs.Following.{AreHeld, IsFirst};
 ghost use Rattle.stack_automaton.specs.Held.{IsThere, HasEdge, Leads};
-ghost use Rattle.stack_automaton.specs.Moving.{IsMoved};
-ghost use Rattle.stack_automaton.specs.Seen.{edges_at};
-ghost use Rattle.stack_automaton.specs.Standing.{IsPool};
+ghost use Rattle.stack_automaton.specs.Moving.{IsMoved, LeadsBy, LiveAt};
+ghost use Rattle.stack_automaton.specs.Seen.{Memory, edges_at};
+ghost use Rattle.stack_automaton.specs.Standing.{IsPool, IsPoolOf, IsKeyOf, IsLive};
 ghost use Rattle.stack_automaton.specs.Storing.{Grows, IsStored};
 
-use crate::event::{move_on, settle};
+use crate::event::{begin_at, settle};
+use crate::memo::{Memo, copied};
 use crate::notes::{note_from, sweep_states};
 use crate::place::{Edge, Fact, State};
 use crate::shared::Shared;
@@ -20,9 +21,9 @@ use slab::Slab;
 use std::alloc::Global;
 
 /// The states of all monitors of a model. Seen as a finite map from keys to lists of edges, with the
-/// final key, at which every stack ends, and the keys that are noted for a sweep. The configuration of
-/// a node v with the open sites s1 to sk is held from a key where edges labelled v, s1, .., sk lead
-/// from it to the final key.
+/// final key, at which every stack ends, the keys that are noted for a sweep, and the events whose keys
+/// are remembered, up to 65,536 facts of them. The configuration of a node v with the open sites s1 to
+/// sk is held from a key where edges labelled v, s1, .., sk lead from it to the final key.
 #[derive(Drop)]
 pub struct Pool {
     alloc: Global,
@@ -30,6 +31,7 @@ pub struct Pool {
     shared: Shared,
     last: usize,
     notes: IndexSet<usize>,
+    memo: Memo,
 }
 
 impl std::marker::Model for Pool {
@@ -41,8 +43,9 @@ impl std::marker::Model for Pool {
 
     ghost use Rattle.std.specs.FinMap.{from_sorted};
     ghost use Rattle.slab.specs.Slab.{entries};
+    ghost use Rattle.indexmap.specs.IndexMap.{values};
 
-    ghost view = { λ p. record { entries = from_sorted (entries p.states); final = p.last; noted = p.notes.keys } };
+    ghost view = { λ p. record { entries = from_sorted (entries p.states); final = p.last; noted = p.notes.keys; remembered = values p.memo.entries } };
 }
 
 impl Pool {
@@ -50,16 +53,19 @@ impl Pool {
     pub(crate) fn new(alloc: Global) -> Result<Pool, OutOfMemory>
         ensures pool { IfOk result IsPool }
         ensures notes { IfOk result (λ p. p.noted ≡ []) }
+        ensures remembered { IfOk result (λ p. p.remembered ≡ []) }
     {
         let mut states = Slab::new(alloc);
         let last = states.insert(State::empty(alloc))?;
         let notes = IndexSet::new(alloc);
+        let memo = Memo::new(alloc);
         Ok(Pool {
             alloc,
             states,
             shared: Shared::new(alloc),
             last,
             notes,
+            memo,
         })
     }
 
@@ -105,10 +111,64 @@ impl Pool {
         ensures grows { Grows (edges_at self.old) (edges_at self.new) }
         ensures last { self.new.final ≡ self.old.final }
         ensures notes { self.new.noted ≡ self.old.noted }
+        ensures remembered { self.new.remembered ≡ self.old.remembered }
         ensures stored { IfOk result (λ key. IsStored model.now (edges_at self.old) (edges_at self.new) begin.keys key) }
         ensures there { IfOk result (λ key. IsThere (edges_at self.new) key) }
     {
         let key = settle(self.alloc, &mut self.states, &mut self.shared, model, begin)?;
+        Ok(key)
+    }
+
+    // The facts with which the event begins at the key.
+    fn begin_at(
+        &self,
+        model: &Model,
+        key: usize,
+        event: &Event,
+    ) -> Result<IndexSet<Fact>, OutOfMemory>
+        requires { IsThere (edges_at self.now) key }
+        ensures leads { IfOk result (λ facts. LeadsBy model.now (edges_at self.now) key event.now facts.keys) }
+        ensures held { IfOk result (λ facts. AreHeld facts.keys) }
+    {
+        let facts = begin_at(self.alloc, &self.states, model, key, event)?;
+        Ok(facts)
+    }
+
+    // The key of an event that began with these facts, where it is remembered.
+    fn recalled(&self, begin: &[Fact]) -> Option<usize>
+        ensures { IfSome result (λ key. Contains self.now.remembered (record { begin = begin.now; key = key })) }
+    {
+        self.memo.find(begin)
+    }
+
+    // Remembers the key of an event that began with these facts, where there is memory for it.
+    fn remember(&mut self, begin: Vec<Fact>, key: usize)
+        ensures entries { self.new.entries ≡ self.old.entries }
+        ensures last { self.new.final ≡ self.old.final }
+        ensures notes { self.new.noted ≡ self.old.noted }
+        ensures remembered { (m : Memory) → Contains self.new.remembered m → Contains self.old.remembered m ⊎ (m ≡ record { begin = begin.items; key = key }) }
+    {
+        self.memo.note(begin, key);
+    }
+
+    // The key of the event that begins with these facts: the one that is remembered, or else that of the
+    // states that are stored of it.
+    fn arrive(&mut self, model: &Model, begin: IndexSet<Fact>) -> Result<usize, OutOfMemory>
+        requires pool { IsPoolOf self.old model.now }
+        requires held { AreHeld begin.keys }
+        requires live { (b q : ℕ) → IsFirst begin.keys b q → LiveAt (edges_at self.old) self.old.final q }
+        ensures grows { Grows (edges_at self.old) (edges_at self.new) }
+        ensures last { self.new.final ≡ self.old.final }
+        ensures notes { self.new.noted ≡ self.old.noted }
+        ensures pool { IsPoolOf self.new model.now }
+        ensures key { IfOk result (λ key. IsKeyOf model.now (edges_at self.new) self.old.final begin.keys key) }
+    {
+        if let Some(key) = self.recalled(begin.as_slice()) {
+            return Ok(key);
+        }
+        let facts = copied(self.memory(), begin.as_slice())?;
+        let key = self.settle(model, begin)?;
+        self.remember(facts, key);
         Ok(key)
     }
 
@@ -119,29 +179,29 @@ impl Pool {
         key: usize,
         event: &Event,
     ) -> Result<Option<usize>, OutOfMemory>
-        requires pool { IsPool self.old }
+        requires pool { IsPoolOf self.old model.now }
         requires there { IsThere (edges_at self.old) key }
+        requires live { IsLive (edges_at self.old) self.old.final key }
         ensures grows { Grows (edges_at self.old) (edges_at self.new) }
         ensures last { self.new.final ≡ self.old.final }
         ensures notes { self.new.noted ≡ self.old.noted }
-        ensures moved { IfOk result (λ next. IfSome next (λ next. IsMoved model.now (edges_at self.old) (edges_at self.new) key event.now next)) }
+        ensures pool { IsPoolOf self.new model.now }
+        ensures moved { IfOk result (λ next. IfSome next (λ next. IsMoved model.now (edges_at self.old) (edges_at self.new) self.old.final key event.now next)) }
         ensures none { IfOk result (λ next. IfNone next ((b q : ℕ) → IsNext model.now (HasEdge (edges_at self.old)) key event.now b q → ⊥)) }
     {
-        let next = move_on(
-            self.alloc,
-            &mut self.states,
-            &mut self.shared,
-            model,
-            key,
-            event,
-        )?;
-        Ok(next)
+        let facts = self.begin_at(model, key, event)?;
+        if facts.is_empty() {
+            return Ok(None);
+        }
+        let next = self.arrive(model, facts)?;
+        Ok(Some(next))
     }
 
     // Notes the key, and all keys to which edges lead from it. Where memory is refused nothing is noted.
     pub(crate) fn note(&mut self, key: usize) -> Result<(), OutOfMemory>
         ensures entries { self.new.entries ≡ self.old.entries }
         ensures last { self.new.final ≡ self.old.final }
+        ensures remembered { self.new.remembered ≡ self.old.remembered }
         ensures ok { OnOk result ((k : ℕ) → Contains self.new.noted k ↔ ((j : ℕ) × (Contains self.old.noted j ⊎ (j ≡ key)) × Leads (HasEdge (edges_at self.old)) j k)) }
         ensures err { OnErr result (self.new.noted ≡ []) }
     {
@@ -154,16 +214,18 @@ impl Pool {
         }
     }
 
-    // Frees the states that aren't noted, but for the final key, and the notes.
+    // Frees the states that aren't noted, but for the final key, and the notes, and forgets all events.
     pub(crate) fn sweep(&mut self)
         ensures last { self.new.final ≡ self.old.final }
         ensures notes { self.new.noted ≡ [] }
+        ensures remembered { self.new.remembered ≡ [] }
         ensures kept { (k : ℕ) → Contains self.old.noted k ⊎ (k ≡ self.old.final) → edges_at self.new k ≡ edges_at self.old k }
         ensures gone { (k : ℕ) → (Contains self.old.noted k → ⊥) → k ≢ self.old.final → edges_at self.new k ≡ None }
         ensures fewer { (k : ℕ) (edges : List Edge') → edges_at self.new k ≡ Some edges → edges_at self.old k ≡ Some edges }
     {
         sweep_states(&mut self.states, &self.notes, self.last);
         self.shared.sweep(&self.states);
+        self.memo.clear();
         self.notes.clear();
     }
 }

@@ -2,11 +2,11 @@ use Rattle.std.proofs.Common.{◌≡◌, ◌⊎◌, ◌↔◌, ℕ, Contains, sy
 use Rattle.dm_base.specs.declared.verdict.Step.TheVariants.{Kept, Rejected}
 use Rattle.stack_automaton.specs.Held.{HasEdge, Leads}
 use Rattle.stack_automaton.specs.Seen.{edges_at}
-use Rattle.stack_automaton.proofs.MonitorLemmas.{pool_same, stands_same, notes_more, notes_refused}
+use Rattle.stack_automaton.proofs.MonitorLemmas.{pool_of_same, stands_same, notes_more, notes_refused}
 use Rattle.stack_automaton.proofs.monitor.StackMonitorMonitor.mark.Goals as goal
 
 pub returns-in-Ok-clause-pool : goal.returns-in-Ok-clause-pool
-returns-in-Ok-clause-pool c = λ g pool. pool_same c.args.pool.now c.note.new.self c.note.ensures.entries c.note.ensures.last pool
+returns-in-Ok-clause-pool c = pool_of_same c.args.pool.now c.note.new.self c.note.ensures.entries c.note.ensures.last c.note.ensures.remembered
 
 pub returns-in-Ok-clause-ok : goal.returns-in-Ok-clause-ok
 returns-in-Ok-clause-ok c = λ g ms notes.
@@ -20,7 +20,7 @@ pub returns-in-Ok-clause-others : goal.returns-in-Ok-clause-others
 returns-in-Ok-clause-others c = λ m g k h stands. stands_same c.args.pool.now c.note.new.self c.note.ensures.entries c.note.ensures.last m g k h stands
 
 pub returns-in-Err-clause-pool : goal.returns-in-Err-clause-pool
-returns-in-Err-clause-pool c = λ g pool. pool_same c.args.pool.now c.note.new.self c.note.ensures.entries c.note.ensures.last pool
+returns-in-Err-clause-pool c = pool_of_same c.args.pool.now c.note.new.self c.note.ensures.entries c.note.ensures.last c.note.ensures.remembered
 
 pub returns-in-Err-clause-others : goal.returns-in-Err-clause-others
 returns-in-Err-clause-others c = λ m g k h stands. stands_same c.args.pool.now c.note.new.self c.note.ensures.entries c.note.ensures.last m g k h stands

@@ -1,26 +1,17 @@
-use Rattle.std.proofs.Common.{ℕ}
-use Rattle.std.specs.Prelude.{IfSome, IfNone}
-use Rattle.stack_automaton.specs.Event.{IsNext}
-use Rattle.stack_automaton.specs.Held.{IsThere, HasEdge}
-use Rattle.stack_automaton.specs.Moving.{IsMoved}
-use Rattle.stack_automaton.specs.Storing.{IsClosed, Grows}
-use Rattle.stack_automaton.proofs.SeenLemmas.{one_seen, both_seen}
+use Rattle.std.proofs.Common.{rules, ◌≡◌, ◌<◌, length}
+use Rattle.stack_automaton.specs.Seen.{edges_at}
+use Rattle.stack_automaton.proofs.StandingLemmas.{none_next, firsts_live, moved}
 use Rattle.stack_automaton.proofs.pool.Pool.move_on.Goals as goal
 
-pub move_on-requires-clause-there : goal.move_on-requires-clause-there
-move_on-requires-clause-there c = one_seen c.args.self.now c.self.inside.states c.self.inside.last c.self.inside.notes.keys c.self.view_is (λ s. IsThere s c.args.key) c.requires.there
+pub returns-then-is_empty-clause-none : goal.returns-then-is_empty-clause-none
+returns-then-is_empty-clause-none c =
+    let none : length c.in_ok-facts.facts.keys ≡ 0 = search rules in
+    none_next c.args.model.now (edges_at c.args.self.now) c.args.key c.args.event.now c.in_ok-facts.facts.keys none c.in_ok-facts.ensures.leads
 
-pub move_on-requires-clause-closed : goal.move_on-requires-clause-closed
-move_on-requires-clause-closed c = one_seen c.args.self.now c.self.inside.states c.self.inside.last c.self.inside.notes.keys c.self.view_is IsClosed c.requires.pool.closed
-
-pub returns-in_err-next-clause-grows : goal.returns-in_err-next-clause-grows
-returns-in_err-next-clause-grows c = both_seen c.args.self.now c.self.inside.states c.self.inside.last c.self.inside.notes.keys c.self.view_is Grows c.move_on.new.states c.move_on.ensures.grows
-
-pub returns-clause-grows : goal.returns-clause-grows
-returns-clause-grows c = both_seen c.args.self.now c.self.inside.states c.self.inside.last c.self.inside.notes.keys c.self.view_is Grows c.move_on.new.states c.move_on.ensures.grows
+pub arrive-requires-clause-live : goal.arrive-requires-clause-live
+arrive-requires-clause-live c = firsts_live c.args.model.now (edges_at c.args.self.now) c.args.self.now.final c.args.key c.args.event.now c.in_ok-facts.facts.keys c.requires.pool.pool.closed c.requires.there c.requires.live c.in_ok-facts.ensures.leads
 
 pub returns-clause-moved : goal.returns-clause-moved
-returns-clause-moved c = both_seen c.args.self.now c.self.inside.states c.self.inside.last c.self.inside.notes.keys c.self.view_is (λ old new. IfSome c.in_ok-next.next (λ next. IsMoved c.args.model.now old new c.args.key c.args.event.now next)) c.move_on.new.states c.in_ok-next.ensures.moved
-
-pub returns-clause-none : goal.returns-clause-none
-returns-clause-none c = both_seen c.args.self.now c.self.inside.states c.self.inside.last c.self.inside.notes.keys c.self.view_is (λ old new. IfNone c.in_ok-next.next ((b q : ℕ) → IsNext c.args.model.now (HasEdge old) c.args.key c.args.event.now b q → ⊥)) c.move_on.new.states c.in_ok-next.ensures.none
+returns-clause-moved c =
+    let some : 0 < length c.in_ok-facts.facts.keys = search rules in
+    moved c.args.model.now (edges_at c.args.self.now) (edges_at c.arrive.new.self) c.args.self.now.final c.args.key c.args.event.now c.in_ok-next.next c.in_ok-facts.facts.keys some c.in_ok-facts.ensures.held c.in_ok-facts.ensures.leads c.in_ok-next.ensures.key

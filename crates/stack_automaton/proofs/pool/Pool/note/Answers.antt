@@ -1,5 +1,6 @@
+use Rattle.indexmap.specs.IndexMap.{values}
 use Rattle.stack_automaton.proofs.SeenLemmas.{noted_seen}
 use Rattle.stack_automaton.proofs.pool.Pool.note.Goals as goal
 
 pub returns-in-Ok-clause-ok : goal.returns-in-Ok-clause-ok
-returns-in-Ok-clause-ok c = noted_seen c.args.self.now c.self.inside.states c.self.inside.last c.self.inside.notes.keys c.self.view_is c.note_from.new.noted.keys c.args.key c.in-Ok.ensures
+returns-in-Ok-clause-ok c = noted_seen c.args.self.now c.self.inside.states c.self.inside.last c.self.inside.notes.keys (values c.self.inside.memo.entries) c.self.view_is c.note_from.new.noted.keys c.args.key c.in-Ok.ensures
