@@ -4,4 +4,5 @@ mod FindingLemmas
 mod FollowedLemmas
 mod KeptLemmas
 mod RisingLemmas
+mod RunsLemmas
 mod StandingLemmas

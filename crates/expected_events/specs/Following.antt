@@ -1,5 +1,5 @@
 -- For private contracts and proofs alone: how far a trace was followed.
-use Rattle.std.specs.Prelude.{◌≡◌, ℕ, List, take, slice_get}
+use Rattle.std.specs.Prelude.{◌≡◌, ℕ, ◌≤◌, List, length, take, slice_get}
 use Rattle.dm_base.specs.declared.event.Event.{Event}
 use Rattle.dm_base.specs.declared.verdict.Step.{Step}
 use Rattle.dm_base.specs.declared.verdict.Step.TheVariants as steps
@@ -16,6 +16,12 @@ abbrev pub verdict_at : Step → ℕ → Verdict
 verdict_at steps.Kept n = Accepted n
 verdict_at steps.Rejected n = Rejected n
 verdict_at steps.Bound n = Bound n
+
+-- so many events at least are kept, and the monitor stands for them
+pub record HasKept (Stands : List Event → Type 0) (which : Which) (g : Graph) (bound : ℕ) (t : List Event) (kept : ℕ) : Type 0 where
+  pub within : kept ≤ length t
+  pub stands : Stands (take kept t)
+  pub accepted : IsAccepted which g bound (take kept t)
 
 -- so many events were kept, which are just those that the verdict keeps, and the monitor stands for them
 pub record IsFollowed (Stands : List Event → Type 0) (which : Which) (g : Graph) (bound : ℕ) (t : List Event) (kept : ℕ) (v : Verdict) : Type 0 where

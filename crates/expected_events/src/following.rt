@@ -1,16 +1,17 @@
-ghost use Rattle.std.specs.Prelude.{◌≡◌, ◌≤◌, ◌<◌, ◌^◌, ℕ, List, [], ◌∷◌, ◌++◌, IfOk, OnOk};
+ghost use Rattle.std.specs.Prelude.{◌≡◌, ◌↔◌, ◌≤◌, ◌<◌, ◌+◌, ◌^◌, ℕ, List, [], ◌∷◌, ◌++◌, length, take, if◌then◌else◌, IfOk, OnOk, IsTrue};
 ghost use Rattle.dm_base.specs.declared.event.Event.{Event};
 ghost use Rattle.dm_base.specs.declared.verdict.Step.TheVariants.{Kept as Kept'};
 ghost use Rattle.flow_model.specs.Graph.{Graph};
-ghost use Rattle.flow_model.specs.Verdict.{IsStep};
-ghost use Rattle.expected_events.specs.Following.{IsFollowed, verdict_at};
+ghost use Rattle.flow_model.specs.Verdict.{IsAccepted, IsStep};
+ghost use Rattle.report.specs.Trials.{KeepsPool};
+ghost use Rattle.expected_events.specs.Following.{HasKept, IsFollowed, verdict_at};
 
 use dm_base::{Event, OutOfMemory, Step, Verdict};
 use flow_model::{Model, Monitor};
 use std::alloc::Global;
 
-// After so many events the pool is swept.
-const SWEPT_AFTER: usize = 1_024;
+// Before a run of so many events the monitor is copied, and after it the pool is swept.
+const RUN: usize = 1_024;
 
 /// A monitor that stands for the events of a trace that it kept, with its pool: how many these are, and
 /// its verdict on the trace.
@@ -35,16 +36,78 @@ fn sweep<M: Monitor>(monitor: &M, pool: &mut M::Pool)
     }
 }
 
-// Sweeps the pool after each 1,024th event.
-fn sweep_each<M: Monitor>(monitor: &M, pool: &mut M::Pool, kept: usize)
-    requires { (g : Graph) × (k : ℕ) × (h : List Event) × M.is_pool pool.old g × M.stands monitor.now pool.old g k h × M.noted pool.old g [] }
-    ensures pool { (g : Graph) → M.is_pool pool.old g → M.is_pool pool.new g }
-    ensures stands { (g : Graph) (k : ℕ) (h : List Event) → M.is_pool pool.old g → M.noted pool.old g [] → M.stands monitor.now pool.old g k h → M.stands monitor.now pool.new g k h }
-    ensures notes { (g : Graph) → M.is_pool pool.old g → M.noted pool.old g [] → M.noted pool.new g [] }
+// Feeds the monitor these events, up to the first that is not kept, and answers whether all are kept.
+fn all_kept<M: Monitor>(
+    monitor: &mut M,
+    pool: &mut M::Pool,
+    model: &Model,
+    events: &[Event],
+) -> Result<bool, OutOfMemory>
+    requires pool { M.is_pool pool.old model.now }
+    requires stands { (k : ℕ) × (h : List Event) × M.stands monitor.old pool.old model.now k h }
+    ensures stands { IfOk result (λ all. IsTrue all → (k : ℕ) (h : List Event) → M.stands monitor.old pool.old model.now k h → M.stands monitor.new pool.new model.now k (h ++ events.now)) }
+    ensures exact { IfOk result (λ all. (k : ℕ) (h : List Event) → M.stands monitor.old pool.old model.now k h → IsAccepted M.WHICH model.now k h → IsTrue all ↔ IsAccepted M.WHICH model.now k (h ++ events.now)) }
+    ensures frame { KeepsPool M.is_pool M.stands M.noted model.now pool.old pool.new }
 {
-    if kept % SWEPT_AFTER == 0 {
-        sweep(monitor, pool);
+    for event in events {
+        let step = monitor.feed(pool, model, event)?;
+        if step != Step::Kept {
+            return Ok(false);
+        }
     }
+    Ok(true)
+}
+
+// Has the monitor take these events if all are kept, and answers whether they are; else the monitor
+// stays as it was.
+fn take_run<M: Monitor>(
+    monitor: &mut M,
+    pool: &mut M::Pool,
+    model: &Model,
+    events: &[Event],
+) -> Result<bool, OutOfMemory>
+    requires pool { M.is_pool pool.old model.now }
+    requires stands { (k : ℕ) × (h : List Event) × M.stands monitor.old pool.old model.now k h }
+    ensures stands { IfOk result (λ all. (k : ℕ) (h : List Event) → M.stands monitor.old pool.old model.now k h → M.stands monitor.new pool.new model.now k (if all then h ++ events.now else h)) }
+    ensures exact { IfOk result (λ all. (k : ℕ) (h : List Event) → M.stands monitor.old pool.old model.now k h → IsAccepted M.WHICH model.now k h → IsTrue all ↔ IsAccepted M.WHICH model.now k (h ++ events.now)) }
+    ensures pool { M.is_pool pool.new model.now }
+    ensures notes { M.noted pool.old model.now [] → M.noted pool.new model.now [] }
+{
+    let mut ahead = monitor.copy(pool)?;
+    let all = all_kept(&mut ahead, pool, model, events)?;
+    if !all {
+        return Ok(false);
+    }
+    *monitor = ahead;
+    Ok(true)
+}
+
+// Has the monitor take the events by runs of 1,024, up to the first run of which one is not kept, and
+// answers how many it took.
+fn take_runs<M: Monitor>(
+    monitor: &mut M,
+    pool: &mut M::Pool,
+    model: &Model,
+    events: &[Event],
+) -> Result<usize, OutOfMemory>
+    requires pool { M.is_pool pool.old model.now }
+    requires kept { (k : ℕ) × HasKept (M.stands monitor.old pool.old model.now k) M.WHICH model.now k events.now 0 }
+    requires notes { M.noted pool.old model.now [] }
+    ensures pool { M.is_pool pool.new model.now }
+    ensures kept { IfOk result (λ kept. (k : ℕ) → HasKept (M.stands monitor.old pool.old model.now k) M.WHICH model.now k events.now 0 → HasKept (M.stands monitor.new pool.new model.now k) M.WHICH model.now k events.now kept) }
+    ensures stops { IfOk result (λ kept. (k : ℕ) → HasKept (M.stands monitor.old pool.old model.now k) M.WHICH model.now k events.now 0 → kept + RUN ≤ length events.now → IsAccepted M.WHICH model.now k (take (kept + RUN) events.now) → ⊥) }
+    ensures notes { OnOk result (M.noted pool.new model.now []) }
+{
+    let mut kept = 0;
+    while events.len() - kept >= RUN {
+        let all = take_run(monitor, pool, model, &events[kept..kept + RUN])?;
+        sweep(monitor, pool);
+        if !all {
+            return Ok(kept);
+        }
+        kept += RUN;
+    }
+    Ok(kept)
 }
 
 // Has the monitor take the next event, if it is kept; else the monitor stays as it was.
@@ -75,6 +138,39 @@ fn take_kept<M: Monitor>(
     }
 }
 
+// Has the monitor, which stands for so many of the events, go on to the first that is not kept.
+fn follow_on<M: Monitor>(
+    mut monitor: M,
+    mut pool: M::Pool,
+    model: &Model,
+    events: &[Event],
+    mut kept: usize,
+) -> Result<Followed<M>, OutOfMemory>
+    requires pool { M.is_pool pool model.now }
+    requires kept { (k : ℕ) × HasKept (M.stands monitor pool model.now k) M.WHICH model.now k events.now kept }
+    requires notes { M.noted pool model.now [] }
+    ensures { IfOk result (λ f. (k : ℕ) → HasKept (M.stands monitor pool model.now k) M.WHICH model.now k events.now kept → IsFollowed (M.stands f.monitor f.pool model.now k) M.WHICH model.now k events.now f.kept f.verdict) }
+{
+    for event in &events[kept..] {
+        let step = take_kept(&mut monitor, &mut pool, model, event)?;
+        if step != Step::Kept {
+            return Ok(Followed {
+                pool,
+                monitor,
+                kept,
+                verdict: verdict_at(step, kept as u64 + 1),
+            });
+        }
+        kept += 1;
+    }
+    Ok(Followed {
+        pool,
+        monitor,
+        kept,
+        verdict: verdict_at(Step::Kept, kept as u64),
+    })
+}
+
 /// Follows the events up to the first that is not kept.
 pub fn follow<M: Monitor>(
     alloc: Global,
@@ -87,26 +183,8 @@ pub fn follow<M: Monitor>(
 {
     let mut pool = M::pool(alloc, model)?;
     let mut monitor = M::open(&mut pool, model, bound)?;
-    let mut kept = 0;
-    for event in events {
-        let step = take_kept(&mut monitor, &mut pool, model, event)?;
-        if step != Step::Kept {
-            return Ok(Followed {
-                pool,
-                monitor,
-                kept,
-                verdict: verdict_at(step, kept as u64 + 1),
-            });
-        }
-        kept += 1;
-        sweep_each(&monitor, &mut pool, kept);
-    }
-    Ok(Followed {
-        pool,
-        monitor,
-        kept,
-        verdict: verdict_at(Step::Kept, kept as u64),
-    })
+    let kept = take_runs(&mut monitor, &mut pool, model, events)?;
+    follow_on(monitor, pool, model, events, kept)
 }
 
 // The verdict with this number, where this was answered last.
