@@ -444,3 +444,7 @@ audit_never_rejects c words files status text source results turns bound asked a
     of : IsAuditStatus status → ⊥
     of (inl done) = cc (done, rejected)
     of (inr bounded) = cc (bounded, rejected)
+
+-- what holds of the command of the words holds of `selftest`, where they are its words
+pub of_test : (P : Command → Type 0) (c : Command) (number size : ℕ) (words : List (List ℕ)) → IsCommandLine c words → IsCommandLine (Selftest number size) words → P c → P (Selftest number size)
+of_test P c number size words asked again h = subst P (one_command c (Selftest number size) words asked again) h

@@ -124,6 +124,20 @@ Refuses (Confirm model trace certificate) files status line = RefusesToConfirm f
 Refuses (Certify model trace which) files status line = RefusesToCertify files model trace which status line
 Refuses (Selftest number size) files status line = ⊥
 
+-- the command reads files
+abbrev pub ReadsFiles : Command → Type 0
+ReadsFiles Version = ⊥
+ReadsFiles (OfWord which) = ⊥
+ReadsFiles (OfFile which file) = Unit {0}
+ReadsFiles (OfTrace command model trace which bound) = Unit {0}
+ReadsFiles (Measure model trace which) = Unit {0}
+ReadsFiles (Fleet schedule which) = Unit {0}
+ReadsFiles (Run source results turns) = Unit {0}
+ReadsFiles (Audit source results turns bound) = Unit {0}
+ReadsFiles (Confirm model trace certificate) = Unit {0}
+ReadsFiles (Certify model trace which) = Unit {0}
+ReadsFiles (Selftest number size) = ⊥
+
 -- a file that the command asks for isn't there
 abbrev pub Lacks : Command → Option Files → Type 0
 Lacks Version files = ⊥

@@ -7,8 +7,8 @@ use Rattle.dm_io.specs.Sink.{Takes}
 use Rattle.dm_io.specs.Store.{Files}
 use Rattle.tool_frame.specs.Report.{TakesLine}
 use Rattle.tool.specs.Command.{Command, IsCommandLine}
-use Rattle.tool.specs.Command.Command.{Audit}
-use Rattle.tool.specs.Commands.{Makes, Refuses, Lacks, IsReady}
+use Rattle.tool.specs.Command.Command.{Audit, Selftest}
+use Rattle.tool.specs.Commands.{Makes, Refuses, ReadsFiles, Lacks, IsReady}
 
 -- what a call finds: its words, the told files, and the counts of faults of the store and of out, before it and after it
 pub record Call : Type 0 where
@@ -43,6 +43,14 @@ IsLacking call = (c : Command) × IsCommandLine c call.words × Lacks c call.fil
 abbrev pub AsksToAudit : Call → Type 0
 AsksToAudit call = (source : List ℕ) × (results : List ℕ) × (turns : ℕ) × (bound : ℕ) × IsCommandLine (Audit source results turns bound) call.words
 
+-- the words are those of `selftest`
+abbrev pub AsksToTest : Call → Type 0
+AsksToTest call = (number : ℕ) × (size : ℕ) × IsCommandLine (Selftest number size) call.words
+
+-- the words are those of a command that reads files
+abbrev pub AsksForFiles : Call → Type 0
+AsksForFiles call = (c : Command) × IsCommandLine c call.words × ReadsFiles c
+
 -- the cause of each status
 abbrev pub HasCause : Status → Call → Type 0
 HasCause Done call = (text : List ℕ) × IsMade call Done text
@@ -51,7 +59,7 @@ HasCause Usage call = IsAsked call → ⊥
 HasCause SourceRefused call = (line : List ℕ) × IsRefused call SourceRefused line
 HasCause ModelRefused call = (line : List ℕ) × IsRefused call ModelRefused line
 HasCause RecordRefused call = (line : List ℕ) × IsRefused call RecordRefused line
-HasCause ReadFault call = (IsAsked call × Rose call.store_before call.store_after) ⊎ IsLacking call
+HasCause ReadFault call = (AsksForFiles call × Rose call.store_before call.store_after) ⊎ IsLacking call
 HasCause WriteFault call = Rose call.out_before call.out_after × ((status : Status) × (text : List ℕ) × IsMade call status text)
 HasCause OutOfMemory call = IsAsked call
 HasCause Bound call = (text : List ℕ) × IsMade call Bound text

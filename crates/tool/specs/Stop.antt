@@ -7,7 +7,7 @@ use Rattle.dm_io.specs.Store.{Files}
 use Rattle.tool_frame.specs.declared.stop.Stop.{Stop}
 use Rattle.tool_frame.specs.declared.stop.Stop.TheVariants as stops
 use Rattle.tool.specs.Command.{Command, IsCommandLine}
-use Rattle.tool.specs.Commands.{Makes, Refuses, Lacks}
+use Rattle.tool.specs.Commands.{Makes, Refuses, ReadsFiles, Lacks}
 
 -- some command of the words makes this text with this status
 abbrev pub IsWorked : List (List ℕ) → Option Files → Status → List ℕ → Type 0
@@ -19,6 +19,6 @@ HasStop stops.Usage words files before after = ((c : Command) × IsCommandLine c
 HasStop (stops.Source line) words files before after = (c : Command) × IsCommandLine c words × Refuses c files statuses.SourceRefused line.items
 HasStop (stops.Model line) words files before after = (c : Command) × IsCommandLine c words × Refuses c files statuses.ModelRefused line.items
 HasStop (stops.Record line) words files before after = (c : Command) × IsCommandLine c words × Refuses c files statuses.RecordRefused line.items
-HasStop stops.Read words files before after = (((c : Command) × IsCommandLine c words) × Rose before after) ⊎ ((c : Command) × IsCommandLine c words × Lacks c files)
+HasStop stops.Read words files before after = (((c : Command) × IsCommandLine c words × ReadsFiles c) × Rose before after) ⊎ ((c : Command) × IsCommandLine c words × Lacks c files)
 HasStop stops.Write words files before after = ⊥
 HasStop stops.OutOfMemory words files before after = (c : Command) × IsCommandLine c words

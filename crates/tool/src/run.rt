@@ -1,7 +1,7 @@
 ghost use Rattle.std.specs.Prelude.{◌≡◌, ◌≢◌, ◌≤◌, ◌⊎◌, ℕ, List, Some, map, string_bytes, IsSome, IfOk, IfErr};
 ghost use Rattle.dm_base.specs.declared.verdict.Status.{Status as AnyStatus};
 ghost use Rattle.dm_io.specs.Memory.{told};
-ghost use Rattle.tool.specs.Frame.{call_of, AsksToAudit, HasCause, Writes, Reports, IsAsked, IsLacking, IsRefused, IsSound, IsUndisturbed};
+ghost use Rattle.tool.specs.Frame.{call_of, AsksToAudit, AsksToTest, HasCause, Writes, Reports, IsAsked, IsLacking, IsRefused, IsSound, IsUndisturbed};
 ghost use Rattle.tool.specs.Stop.{HasStop, IsWorked};
 ghost use Rattle.tool_frame.specs.Stop.{IsFinished};
 
@@ -178,6 +178,9 @@ pub fn run_tool<S: Store, O: Sink, E: Sink>(
     // `audit` never rejects.
     ensures audit { AsksToAudit (call_of (map string_bytes words.now) (S.files store.old) (S.faults store.old) (S.faults store.new) (O.faults out.old) (O.faults out.new)) → result ≢ Status.Rejected }
 
+    // `selftest` does its work, unless its text isn't taken or memory is refused.
+    ensures selftest { AsksToTest (call_of (map string_bytes words.now) (S.files store.old) (S.faults store.old) (S.faults store.new) (O.faults out.old) (O.faults out.new)) → (result ≡ Status.Done) ⊎ ((result ≡ Status.WriteFault) ⊎ (result ≡ Status.OutOfMemory)) }
+
     // The store's files stay as they are told, and no count falls, so a later call over the same
     // store and sinks finds what the contracts of both say.
     ensures same { S.files store.new ≡ S.files store.old }
@@ -212,6 +215,7 @@ pub fn run_in_memory(
     ensures complete { IsSound (call_of (map string_bytes words.now) (Some store.old) 0 0 0 0) → (IsLacking (call_of (map string_bytes words.now) (Some store.old) 0 0 0 0) → ⊥) → IsFinished result ⊎ (result ≡ Status.OutOfMemory) }
     ensures refused { (status : AnyStatus) (line : List ℕ) → IsRefused (call_of (map string_bytes words.now) (Some store.old) 0 0 0 0) status line → (IsLacking (call_of (map string_bytes words.now) (Some store.old) 0 0 0 0) → ⊥) → (result ≡ status) ⊎ (result ≡ Status.OutOfMemory) }
     ensures audit { AsksToAudit (call_of (map string_bytes words.now) (Some store.old) 0 0 0 0) → result ≢ Status.Rejected }
+    ensures selftest { AsksToTest (call_of (map string_bytes words.now) (Some store.old) 0 0 0 0) → (result ≡ Status.Done) ⊎ (result ≡ Status.OutOfMemory) }
     ensures same { store.new ≡ store.old }
 {
     run_tool(alloc, words, store, out, err)

@@ -1,11 +1,11 @@
-use Rattle.std.proofs.Common.{◌≡◌, ℕ, List, map, string_bytes, sym, ◌∙◌, subst, rules}
+use Rattle.std.proofs.Common.{◌≡◌, ℕ, List, map, string_bytes, inl, inr, sym, ◌∙◌, subst, rules}
 use Rattle.std.specs.Prelude.{◌⊎◌}
 use Rattle.dm_base.specs.declared.verdict.Status.{Status}
 use Rattle.dm_base.specs.declared.verdict.Status.TheVariants as statuses
 use Rattle.tool_frame.specs.declared.stop.Stop.TheVariants as stops
 use Rattle.tool_frame.specs.Stop.{IsFinished}
 use Rattle.tool.specs.Frame.{call_of, Writes}
-use Rattle.tool.proofs.FrameLemmas.{sound_stop, refused_stop, done_not_refused, written_in_part, stop_not_rejected, audit_not_rejected}
+use Rattle.tool.proofs.FrameLemmas.{sound_stop, refused_stop, done_not_refused, written_in_part, stop_not_rejected, audit_not_rejected, test_stop, test_done}
 use Rattle.tool.proofs.run.run_tool.Goals as goal
 
 pub returns-in-Err-clause-complete : goal.returns-in-Err-clause-complete
@@ -42,3 +42,14 @@ returns-then-is_err-clause-audit g c = λ asks rejected. stop_not_rejected stops
 pub returns-clause-audit : goal.returns-clause-audit
 returns-clause-audit g c =
     audit_not_rejected _ _ (g.S.Store.faults c.args.store.now) (g.S.Store.faults c.work.new.store) (g.O.Sink.faults c.args.out.now) (g.O.Sink.faults c.write_whole.new.sink) c.in-Ok.finished.status c.in-Ok.finished.text.items c.in-Ok.ensures.made.1
+
+pub returns-in-Err-clause-selftest : goal.returns-in-Err-clause-selftest
+returns-in-Err-clause-selftest g c = λ asks.
+    subst (λ (s : Status). (s ≡ statuses.Done) ⊎ ((s ≡ statuses.WriteFault) ⊎ (s ≡ statuses.OutOfMemory))) (sym c.refuse.ensures.status) (test_stop _ _ _ _ 0 0 c.in-Err.stop c.in-Err.ensures.stop asks)
+
+pub returns-then-is_err-clause-selftest : goal.returns-then-is_err-clause-selftest
+returns-then-is_err-clause-selftest g c = λ asks. inr (inl c.refuse-then-is_err.ensures.status)
+
+pub returns-clause-selftest : goal.returns-clause-selftest
+returns-clause-selftest g c = λ asks.
+    inl (test_done _ _ (g.S.Store.faults c.args.store.now) (g.S.Store.faults c.work.new.store) (g.O.Sink.faults c.args.out.now) (g.O.Sink.faults c.write_whole.new.sink) c.in-Ok.finished.status c.in-Ok.finished.text.items c.in-Ok.ensures.made.1 asks)
