@@ -11,6 +11,7 @@ A file of cases is a list of blocks. A line that begins with # is a comment.
     run WORD..          the words that the program gets
     status N            its exit status; 0 where there is no such line
     out, out begins     what it writes, or what that begins with; nothing where there is no such line
+    out facts           a certificate that it writes, with its facts in this or another order
     err                 what it writes on the error stream; nothing where there is no such line
     each                lines of fields with ' :: ' between them; the case is run for each, with @1, @2 .. for the fields
     cut NAME            the case is run for each proper prefix of the file
@@ -93,7 +94,7 @@ def cases_of(path):
             if case:
                 yield case
             case = dict(place=f'{path.name}, line {number}: {said}', texts=texts, files={}, words='', status='0', out='', err='',
-                        begins=False, rows=[()], cut=None, spoil=None)
+                        begins=False, facts=False, rows=[()], cut=None, spoil=None)
         elif word in ('text', 'file'):
             name, _, said = said.partition(' ')
             (texts if word == 'text' else case['files'])[name] = whole(said, lines)
@@ -103,6 +104,7 @@ def cases_of(path):
             case[word] = said
         elif word in ('out', 'err'):
             case['begins'] |= said == 'begins'
+            case['facts'] |= said == 'facts'
             case[word] = whole(said, lines)
         elif word == 'each':
             case['rows'] = [[field.strip() for field in line.split('::')] for line in lines]
@@ -123,6 +125,22 @@ def variants_of(case, fields):
     return [(None, b'', 0)]
 
 
+def in_any_order(text):
+    """The head, the facts and the end of a certificate: the facts sorted, each with those that its reason names in place of their
+    numbers."""
+    lines, facts, said = text.decode('latin-1').split('\n'), [], []
+    stack = lines[1:2] == ['which stack']
+    for words in (line.split(' ') for line in lines[3:-2]):
+        columns = 6 if words[0] == 'l' else 5 if stack else 3
+        reason = ' '.join(words[columns:])
+        # all its numbers are those of facts, or the first one is, and the second that of a site
+        count = 0 if stack and not reason.startswith('enter') else 1
+        named = re.sub(r'\d+', lambda m: facts[int(m[0]) - 1] if 0 < int(m[0]) <= len(facts) else m[0], reason, count=count)
+        facts.append(' '.join(words[:columns]))
+        said.append(f'{facts[-1]}: {named}')
+    return lines[:3], sorted(said), lines[-2:]
+
+
 def shown(status, out, err):
     return f'status {status}, out {out[:SHOWN]!r}, err {err[:SHOWN]!r}'
 
@@ -141,6 +159,8 @@ def differs(program, case, fields, variant):
         except subprocess.TimeoutExpired:
             got = f'none in {SECONDS} s', b'', b''
     out = got[1][:len(wanted[1])] if case['begins'] else got[1]
+    if case['facts'] and in_any_order(out) == in_any_order(wanted[1]):
+        out = wanted[1]
     if (got[0], out, got[2]) == wanted:
         return None
     return '\n'.join([case['place'], f'  {" :: ".join(fields)}' + (f'  {name}: {changed[:SHOWN]!r}' if name else ''),

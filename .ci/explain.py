@@ -1,7 +1,8 @@
 #!/usr/bin/env python3
-"""explain.py PROGRAM: gives the program each C text of .ci/cases/check.cases, plain and with line markers put in, and compares what
-`explain` writes with what `check` says of it, by a line, a column and a part of the line that are found here anew. The reasons are
-those that `codes` writes. The status is 0 where there are texts and each is explained so."""
+"""explain.py PROGRAM: gives the program each C text of .ci/cases/check.cases as it is, and each of fewer than 1000 bytes that has no
+double quote also with line markers put in, and compares what `explain` writes with what `check` says of it, by a line, a column and
+a part of the line that are found here anew. The reasons are those that `codes` writes. The status is 0 where there are texts and
+each is explained so."""
 import concurrent.futures
 import os
 import pathlib
@@ -13,7 +14,7 @@ import tempfile
 import cases
 
 BEFORE = BEHIND = 60
-MARKER = re.compile(rb'[ \t]*# (0|[1-9][0-9]{0,9}) "([^"]*)"(?: [1-4])*[ \t\r]*')
+MARKER = re.compile(rb'[ \t]*# (0|[1-9][0-9]{0,9}) "(.*)"(?: [1-4])*[ \t\r]*')
 
 
 def marked(text):

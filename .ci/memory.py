@@ -2,8 +2,8 @@
 """memory.py PROGRAM: runs a small case of each command as often as it asks for memory, and refuses it once in each run
 (refuse.c). The status has to be 8 then, with nothing on out and the line of it on the error stream, or none where the words could
 not be had; or 6 where the system could not open a file for want of memory; or the run answers as it does with memory, where it
-goes on without. Where there is no cc, a line says so. The status is 0 where each run ends so, each case is refused memory in
-some run, and each command has a case."""
+goes on without. Where there is no cc, a line says so. The status is 0 where each run ends so, each case writes nothing on the
+error stream with memory and is refused it in some run, and each command has a case."""
 import concurrent.futures
 import os
 import pathlib
@@ -13,10 +13,12 @@ import sys
 import tempfile
 
 TOP = pathlib.Path(__file__).resolve().parent.parent
-# The words of a case for each command, over the files of examples and those below.
+# The words of a case for each command, over the files of examples and those below; of `confirm` there are two, since a rejected
+# claim asks for more.
 CASES = [
     '--version', '--help', 'audit two_calls.c two_calls.results 1000 1000', 'certify two_callers.model two_callers.trace stack', 'check two_calls.c',
-    'codes', 'confirm one_getpid.model one_getpid.trace one_getpid.certificate', 'depth two_callers.model', 'expected two_callers.model two_callers.trace all',
+    'codes', 'confirm one_getpid.model one_getpid.trace one_getpid.certificate',
+    'confirm two_callers.model two_callers.trace two_callers.certificate', 'depth two_callers.model', 'expected two_callers.model two_callers.trace all',
     'explain two_calls.c', 'fleet two_callers.schedule stack', 'inline two_callers.model', 'instrument two_calls.c',
     'judge two_callers.model two_callers.trace all', 'measure two_callers.model two_callers.trace all', 'model two_calls.c', 'picture two_callers.model',
     'run two_calls.c two_calls.results 1000', 'selftest 1 2', 'sites two_calls.c', 'upgrade two_callers.model', 'watch echo_server.model echo_server.traces all',
@@ -25,6 +27,9 @@ CASES = [
 REFUSED, WITHOUT_WORDS, NOT_OPENED = (8, '', 'out of memory\n'), (8, '', ''), (6, '', 'read fault\n')
 FILES = {
     'one_getpid.certificate': 'dyckmon-certificate 1\nwhich callgraph\naccepted 1\na 0 0 start\na 1 1 event 1\nend\n',
+    'two_callers.certificate': 'dyckmon-certificate 1\nwhich stack\nrejected 4\na 0 0 1 3 start\na 0 0 0 0 enter 1 1\nl 0 0 0 1 1 1\n'
+                               'a 1 0 0 2 event 2\na 1 0 0 1 silent 4\na 1 0 1 5 return 5 3\na 2 0 1 6 event 6\na 2 2 0 0 enter 7 3\n'
+                               'l 2 0 0 1 3 7\na 3 2 0 2 event 8\na 3 2 0 1 silent 10\na 3 0 1 7 return 11 9\na 3 0 1 4 silent 12\nend\n',
     'two_callers.schedule': 'dyckmon-fleet 1\np 7 two_callers.c two_callers.model two_calls.results 1000 1000\na 7\na 7\nend\n',
 }
 
@@ -71,6 +76,8 @@ def main():
             own, asked = program.run(words)
             answers = [it for it, _ in pool.map(lambda number: program.run(words, number), range(1, asked + 1))]
             runs += asked
+            if own[2]:
+                wrong.append(f'{case}: {own}')
             if REFUSED not in answers:
                 wrong.append(f'{case}: {asked} allocations, of which none is refused')
             for number, answer in enumerate(answers, 1):
