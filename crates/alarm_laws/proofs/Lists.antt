@@ -6,16 +6,10 @@ use Rattle.std.proofs.lemmas.Bool.{false≢true}
 use Rattle.std.proofs.lemmas.Bool.Decides.{Decides-ltb, eqb_tells}
 use Rattle.std.proofs.lemmas.List.Elements.{Contains-append_left, Contains-append_right}
 use Rattle.c_shapes.specs.CallGraph.{is_in, has_one}
-
-pub is_first : {X : Type 0} (x : X) (xs : List X) → Contains (x ∷ xs) x
-is_first x xs = (0, omega arith, refl)
-
-pub is_later : {X : Type 0} (x : X) (xs : List X) (z : X) → Contains xs z → Contains (x ∷ xs) z
-is_later x xs z (k, lt, is) = (suc k, omega arith, is)
-
-pub cases : {X : Type 0} (x : X) (xs : List X) (z : X) → Contains (x ∷ xs) z → (x ≡ z) ⊎ Contains xs z
-cases x xs z (zero, lt, is) = inl is
-cases x xs z (suc k, lt, is) = inr (k, omega arith, is)
+pub use Rattle.flow_graph_laws.proofs.Edges.{is_first, is_later}
+use Rattle.flow_graph_laws.proofs.ProgramsClosed.{first_or_later}
+pub use Rattle.flow_graph_laws.proofs.ProgramsClosed.{below, is_below}
+pub use Rattle.flow_graph_laws.proofs.SortedLemmas.{cases}
 
 pub none_in : {X : Type 0} (z : X) → Contains [] z → ⊥
 none_in z h = omega (arith, h.1)
@@ -35,12 +29,6 @@ or_false_left false b h = refl
 pub or_false_right : (a b : Bool) → (a || b) ≡ false → b ≡ false
 or_false_right true b h = absurd (false≢true (sym h))
 or_false_right false b h = h
-
-pub below : (a b : ℕ) → nat_lt a b ≡ true → a < b
-below a b h = (Decides-ltb a b).0 h
-
-pub is_below : (a b : ℕ) → a < b → nat_lt a b ≡ true
-is_below a b h = (Decides-ltb a b).1 h
 
 pub not_below : (a b : ℕ) → nat_lt a b ≡ false → b ≤ a
 not_below a b h = omega (arith, (λ (lt : a < b). false≢true (sym h ∙ is_below a b lt)))
@@ -89,12 +77,6 @@ in_filter test (x ∷ xs) z h k = kept_at test x xs (test x) refl z (elim (cases
 pub in_map : {X Y : Type 0} (f : X → Y) (xs : List X) (x : X) → Contains xs x → Contains (map f xs) (f x)
 in_map f [] x h = absurd (none_in x h)
 in_map f (y ∷ xs) x h = elim (cases y xs x h) as (λ k. Contains (f y ∷ map f xs) (f x)) [ inl is ↦ (0, omega arith, ap f is) | inr k ↦ is_later (f y) (map f xs) (f x) (in_map f xs x k) ]
-
-first_or_later : (a z : ℕ) → a ≤ z → (a ≡ z) ⊎ (a + 1 ≤ z)
-first_or_later zero zero le = inl refl
-first_or_later zero (suc z) le = inr (omega arith)
-first_or_later (suc a) zero le = absurd (omega (arith, le))
-first_or_later (suc a) (suc z) le = elim (first_or_later a z (omega (arith, le))) as (λ k. (suc a ≡ suc z) ⊎ (suc a + 1 ≤ suc z)) [ inl is ↦ inl (ap suc is) | inr k ↦ inr (omega (arith, k)) ]
 
 pub in_range : (a n z : ℕ) → a ≤ z → z < a + n → Contains (range_with_len a n) z
 in_range a zero z le lt = absurd (omega (arith, le, lt))

@@ -13,11 +13,9 @@ use Rattle.c_rules.specs.Statements.{are_distinct, has_default, is_case_of, same
 use Rattle.c_tree.specs.declared.tree.TLabel.{TLabel}
 use Rattle.c_tree.specs.declared.tree.TLabel.TheVariants.{Case, Default}
 use Rattle.c_tree.specs.declared.value.Value.{Value}
+use Rattle.c_check_scopes.proofs.NumberLemmas.{not_so}
 
 -- ## Equal numbers
-
-not_so : false ≡ true → ⊥
-not_so h = cc
 
 pos_apart : (m n : ℕ) → pos m ≡ negsuc n → false ≡ true
 pos_apart m n h = cc

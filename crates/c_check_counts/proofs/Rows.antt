@@ -24,16 +24,10 @@ use Rattle.c_syntax.specs.View.{spec_of, expr_at, expr_of, exprs_of_row, type_na
 use Rattle.c_syntax.specs.UnitView.{init_at, inits_of_row, stmt_at, stmt_of, if_with, block_items_of_row, block_item_before, groups_of_row, group_before, stmts_of_row, labels_of}
 use Rattle.c_syntax.specs.Writes.{exprs_of, params_of, declarator_in, declarator_behind, expr_behind}
 use Rattle.c_syntax.specs.WritesUnit.{inits_of, block_items_of, stmts_of, groups_of, else_behind}
+use Rattle.c_syntax.proofs.Rows.{exprs_row, row_in, inner_is, params_row, params_row_in, params_in}
+use Rattle.c_syntax.proofs.UnitRows.{inits_row, inits_row_in, inits_in, block_items_row, block_items_row_in, block_items_in, groups_row, groups_row_in, stmts_row}
 
 -- ## Expressions
-
-exprs_row : (n : _) (row : Row_of-Expr n) → exprs_of_row row ≡ exprs_of (items-the_row-Expr n row)
-exprs_row n end_of-Expr = refl
-exprs_row n (more_of-Expr at kind rest) = ap (more_exprs (expr_at at kind)) (exprs_row _ rest)
-
-abbrev row_in : ExprKind → (n : Count) × Row_of-Expr n
-row_in (Comma' shape row) = (_, row)
-row_in _ = (_, end_of-Expr)
 
 exprs_in : (v : Vec ExprTree Global) → exprs_of_row (row_in (Comma v)).1 ≡ exprs_of v.items
 exprs_in v = exprs_row (row_in (Comma v)).0 (row_in (Comma v)).1 ∙ ap exprs_of (items_hidden-the_row-Expr-1 v)
@@ -56,10 +50,6 @@ unfolding out-Param denote.Hole.Carrier.out
 param_is (Param' s Param-declarator-None' at) rest = refl
 param_is (Param' s (Param-declarator-Some' p kind) at) rest = refl
 
-inner_is : (d : Option (Box DeclaratorTree Global)) → inner_declarator (back-DeclaratorKind-Pointer-0 d) ≡ declarator_behind d
-inner_is None = refl
-inner_is (Some b) = refl
-
 size_is : (e : Option (Box ExprTree Global)) → maybe_size (back-DeclaratorKind-Array-1 e) ≡ expr_behind e
 size_is None = refl
 size_is (Some b) = refl
@@ -70,48 +60,15 @@ pointer_is at d = ap (pointer at) (inner_is d)
 pub array_is : (at : ℕ) (d : Option (Box DeclaratorTree Global)) (e : Option (Box ExprTree Global)) → declarator_at at (Array d e) ≡ array at (declarator_behind d) (expr_behind e)
 array_is at d e = ap (λ x. array at x (maybe_size (back-DeclaratorKind-Array-1 e))) (inner_is d) ∙ ap (array at (declarator_behind d)) (size_is e)
 
-params_row : (n : _) (row : Row_of-Param n) → params_of_row row ≡ params_of (items-the_row-Param n row)
-params_row n end_of-Param = refl
-params_row n (more_of-Param p rest) = ap (param_before p) (params_row _ rest)
-
-abbrev params_row_in : DeclaratorKind → (n : Count) × Row_of-Param n
-params_row_in (Function' held shape row) = (_, row)
-params_row_in _ = (_, end_of-Param)
-
-params_in : (d : Option (Box DeclaratorTree Global)) (v : Vec ParamTree Global) → params_of_row (params_row_in (Function d v)).1 ≡ params_of v.items
-params_in d v = params_row (params_row_in (Function d v)).0 (params_row_in (Function d v)).1 ∙ ap params_of (items_hidden-the_row-Param-0 v)
-
 pub function_is : (at : ℕ) (d : Option (Box DeclaratorTree Global)) (v : Vec ParamTree Global) → declarator_at at (Function d v) ≡ function at (declarator_behind d) (params_of v.items)
 function_is at d v = ap (λ x. function at x (params_of_row (params_row_in (Function d v)).1)) (inner_is d) ∙ ap (function at (declarator_behind d)) (params_in d v)
 
 -- ## Initialisers
 
-inits_row : (n : _) (row : Row_of-Init n) → inits_of_row row ≡ inits_of (items-the_row-Init n row)
-inits_row n end_of-Init = refl
-inits_row n (more_of-Init at kind rest) = ap (more_inits (init_at at kind)) (inits_row _ rest)
-
-abbrev inits_row_in : InitKind → (n : Count) × Row_of-Init n
-inits_row_in (List' shape row) = (_, row)
-inits_row_in _ = (_, end_of-Init)
-
-inits_in : (v : Vec InitTree Global) → inits_of_row (inits_row_in (listed v)).1 ≡ inits_of v.items
-inits_in v = inits_row (inits_row_in (listed v)).0 (inits_row_in (listed v)).1 ∙ ap inits_of (items_hidden-the_row-Init-0 v)
-
 pub list_is : (at : ℕ) (v : Vec InitTree Global) → init_at at (listed v) ≡ list at (inits_of v.items)
 list_is at v = ap (list at) (inits_in v)
 
 -- ## Statements
-
-block_items_row : (n : _) (row : Row_of-BlockItem n) → block_items_of_row row ≡ block_items_of (items-the_row-BlockItem n row)
-block_items_row n end_of-BlockItem = refl
-block_items_row n (more_of-BlockItem x rest) = ap (block_item_before x) (block_items_row _ rest)
-
-abbrev block_items_row_in : StmtKind → (n : Count) × Row_of-BlockItem n
-block_items_row_in (Block' shape row) = (_, row)
-block_items_row_in _ = (_, end_of-BlockItem)
-
-block_items_in : (v : Vec BlockItem Global) → block_items_of_row (block_items_row_in (Block v)).1 ≡ block_items_of v.items
-block_items_in v = block_items_row (block_items_row_in (Block v)).0 (block_items_row_in (Block v)).1 ∙ ap block_items_of (items_hidden-the_row-BlockItem-0 v)
 
 pub block_is : (at : ℕ) (v : Vec BlockItem Global) → stmt_at at (Block v) ≡ block at (block_items_of v.items)
 block_is at v = ap (block at) (block_items_in v)
@@ -120,23 +77,11 @@ pub if_is : (at : ℕ) (e : ExprTree) (s : Box StmtTree Global) (o : Option (Box
 if_is at e s None = refl
 if_is at e s (Some b) = refl
 
-groups_row : (n : _) (row : Row_of-Group n) → groups_of_row row ≡ groups_of (items-the_row-Group n row)
-groups_row n end_of-Group = refl
-groups_row n (more_of-Group x rest) = ap (group_before x) (groups_row _ rest)
-
-abbrev groups_row_in : StmtKind → (n : Count) × Row_of-Group n
-groups_row_in (Switch' e shape row) = (_, row)
-groups_row_in _ = (_, end_of-Group)
-
 groups_in : (e : ExprTree) (v : Vec Group Global) → groups_of_row (groups_row_in (Switch e v)).1 ≡ groups_of v.items
 groups_in e v = groups_row (groups_row_in (Switch e v)).0 (groups_row_in (Switch e v)).1 ∙ ap groups_of (items_hidden-the_row-Group-1 v)
 
 pub switch_is : (at : ℕ) (e : ExprTree) (v : Vec Group Global) → stmt_at at (Switch e v) ≡ switch_on at (expr_of e) (groups_of v.items)
 switch_is at e v = ap (switch_on at (expr_of e)) (groups_in e v)
-
-stmts_row : (n : _) (row : Row_of-Stmt n) → stmts_of_row row ≡ stmts_of (items-the_row-Stmt n row)
-stmts_row n end_of-Stmt = refl
-stmts_row n (more_of-Stmt at kind rest) = ap (more_stmts (stmt_at at kind)) (stmts_row _ rest)
 
 pub group_is : (g : Group) (rest : Groups) → group_before g rest ≡ more_groups (labels_of (out-Group g).labels.items) (stmts_of (out-Group g).body.items) rest
 unfolding out-Group denote.Hole.Carrier.out

@@ -20,6 +20,7 @@ use Rattle.c_syntax.specs.Tree.{no_init, an_init}
 use Rattle.c_syntax.specs.UnitView.{init_at, init_of, maybe_init_of}
 use Rattle.c_syntax.specs.WritesUnit.{inits_of}
 use Rattle.c_tree.specs.Tree.{CType, void, integer, pointer, array, struct, function}
+use Rattle.c_check_scopes.proofs.NumberLemmas.{not_so}
 
 -- ## Initialisers
 
@@ -48,9 +49,6 @@ pub name_fails : (e : CheckError) (p q : Checked Met) (o : Object) → Names e (
 name_fails e p q o h = names_on e (and_also p q) (λ _. fine o) (names_first e p q (λ _ _. fine met) h)
 
 -- ## Types of members
-
-not_so : false ≡ true → ⊥
-not_so h = cc
 
 sized_is : (name : ℕ) (t : CType) → is_unsized t ≡ false → with_size name no_init t ≡ fine t
 sized_is name void h = refl

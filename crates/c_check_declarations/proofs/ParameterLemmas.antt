@@ -20,11 +20,9 @@ use Rattle.c_syntax.specs.View.{declarator_at, declarator_of}
 use Rattle.c_syntax.specs.Writes.{params_of, declarator_behind}
 use Rattle.c_tree.specs.declared.tree.CType.{CType as TypeTree}
 use Rattle.c_tree.specs.View.{ctype_of, types_of}
+use Rattle.c_check_scopes.proofs.NumberLemmas.{not_so}
 
 -- ## Those of a declarator
-
-not_so : false ≡ true → ⊥
-not_so h = cc
 
 false_not_true : {A : Type 0} → false ≡ true → A
 false_not_true h = absurd (not_so h)

@@ -34,7 +34,7 @@ str_calls : (e : Expr) (w : List ℕ) → text_of e ≡ Some w → calls e ≡ 0
 str_calls (a_str at u) w h = refl
 str_calls e w h = absurd (none_not_some w h)
 
-faulty_not_fine : {A : Type 0} (f : Fault) (fs : List Fault) (a : A) → faulty f fs ≡ fine a → ⊥
+pub faulty_not_fine : {A : Type 0} (f : Fault) (fs : List Fault) (a : A) → faulty f fs ≡ fine a → ⊥
 faulty_not_fine f fs a h = cc
 
 chars_held : (e : Expr) (n : ℕ) (o : Option (List ℕ)) (at : ℕ) (gs : List TypedExpression) → text_of e ≡ o → array_cells at (integer Char) n o ≡ fine gs → (w : List ℕ) × (text_of e ≡ Some w)

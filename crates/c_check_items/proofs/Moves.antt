@@ -20,6 +20,7 @@ use Rattle.c_syntax.specs.Tree.{Ident, Init, one, list, MaybeInit, no_init, an_i
 use Rattle.c_syntax.specs.Tree as syntax
 use Rattle.c_tree.specs.declared.value.Value.{Value}
 use Rattle.c_tree.specs.Tree.{Static, CType, void, integer, pointer, array, struct, function}
+pub use Rattle.c_check_expressions.proofs.Exits.{on_ok}
 
 pub same_judged : {X A : Type 0} (view : X → A) (result : Result X CheckError) (r s : Checked A) → r ≡ s → AgreesWith view result r → AgreesWith view result s
 same_judged view result r s same h = subst (AgreesWith view result) same h
@@ -112,10 +113,6 @@ module _ (env : Env) (b : Before) (x : Ident) (m : MaybeInit) (r : Checked Objec
   definition_fails e is h = same_named e (gives own (static_of o)) (global env true b x m r) (sym (ap (global env true b x m) is)) (names_on e own (λ gs. fine (static_of o gs)) h)
 
 -- ## Definitions of functions
-
-pub on_ok : {X E : Type 0} (r : Result X E) (A : Type 0) → A → OnOk r A
-on_ok (Ok x) A a = a
-on_ok (Err e) A a = tt
 
 pub on_more : {X E : Type 0} (r : Result X E) (A B : Type 0) → (A → B) → OnOk r A → OnOk r B
 on_more (Ok x) A B f h = f h

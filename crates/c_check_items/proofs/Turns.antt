@@ -4,9 +4,7 @@ use Rattle.c_check_values.specs.declared.error.CheckError.{CheckError}
 use Rattle.c_check_values.specs.Agreement.{Names}
 use Rattle.c_check_values.proofs.Parts.{names_on, names_first}
 use Rattle.c_rules.specs.Checked.{Fault, Checked, fine, faulty, faults, both, gives, Met, met}
-
-not_so : false ≡ true → ⊥
-not_so h = cc
+use Rattle.c_check_scopes.proofs.NumberLemmas.{not_so}
 
 abbrev is_fine : {A : Type 0} → Checked A → Bool
 is_fine (fine a) = true

@@ -72,7 +72,7 @@ added ys zs x h q = q ∙ sym (rw h refl)
 pub there_already : (ys : List Name) (x : Name) → is_among ys x ≡ true → ys ≡ with_new ys x
 there_already ys x h = sym (rw h refl)
 
-not_so : false ≡ true → ⊥
+pub not_so : false ≡ true → ⊥
 not_so h = cc
 
 some_by : (o : Option ℕ) → is_some o ≡ true → (i : ℕ) × (o ≡ Some i)

@@ -13,7 +13,7 @@ use Rattle.c_check_scopes.specs.Laid.{AllIn, AllInAll, AreLaid, IsMeasured}
 use Rattle.c_check_scopes.proofs.LaidLemmas.{map_set, cells_told, cells_of_all_told, first_cell_told, laid_set}
 
 -- the element at a place of a list, and what stands after it
-at_place : {A : Type 0} (es : List A) (i : ℕ) (d : A) → i < length es → d ≡ get_or es i d → drop i es ≡ d ∷ drop (i + 1) es
+pub at_place : {A : Type 0} (es : List A) (i : ℕ) (d : A) → i < length es → d ≡ get_or es i d → drop i es ≡ d ∷ drop (i + 1) es
 at_place es i d h q = rw (add-one, drop-cons es i d h, ← q) refl
 
 pub cells_on : (f : ℕ → ℕ) (ms : List StructMember) (i : ℕ) (m : StructMember) (sum each new whole : ℕ) → i < length ms → m ≡ get_or ms i m → new ≡ sum + each → each ≡ counted f (ctype_of m.ctype)

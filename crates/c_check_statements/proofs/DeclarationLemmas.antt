@@ -28,12 +28,7 @@ use Rattle.c_syntax.specs.UnitView.{maybe_init_of, parts_of}
 use Rattle.c_syntax.specs.View.{declarator_of}
 use Rattle.c_tree.specs.Tree as typed
 use Rattle.c_tree.specs.Tree.{CType, void, integer, pointer, array, struct, function}
-
--- the parts of what is fine are fine
-first_fine : {A B C : Type 0} (p : Checked A) (q : Checked B) (k : A → B → Checked C) (c : C) → both p q k ≡ fine c → (a : A) × (b : B) × (p ≡ fine a) × (q ≡ fine b) × (k a b ≡ fine c)
-first_fine (fine a) (fine b) k c e = (a, b, refl, refl, e)
-first_fine (fine a) (faulty f fs) k c e = cc
-first_fine (faulty f fs) q k c e = cc
+use Rattle.c_rules.proofs.Modes.{first_fine}
 
 -- ## Strings that an initialiser holds, where further names are declared
 

@@ -4,9 +4,7 @@ use Rattle.c_check_values.specs.declared.error.CheckError.{CheckError}
 use Rattle.c_check_values.specs.Agreement.{Names}
 use Rattle.c_check_values.proofs.Parts.{named_left}
 use Rattle.c_rules.specs.Checked.{Fault, Checked, fine, faulty, faults, all_three, beside, both, Two}
-
-pub faulty_not_fine : {A : Type 0} (f : Fault) (fs : List Fault) (a : A) → faulty f fs ≡ fine a → ⊥
-faulty_not_fine f fs a h = cc
+pub use Rattle.c_check_expressions.proofs.InitLemmas.{faulty_not_fine}
 
 pub fine_same : {A : Type 0} (a b : A) → fine a ≡ fine b → a ≡ b
 fine_same a b h = cc

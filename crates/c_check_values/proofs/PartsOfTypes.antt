@@ -6,10 +6,7 @@ use Rattle.c_tree.specs.declared.tree.CType.TheVariants.{Function}
 use Rattle.c_tree.specs.View.{ctype_of, types_of}
 use Rattle.c_tree.proofs.Rows.{function_is}
 use Rattle.c_rules.specs.Types.{parts, parts_of_all}
-
--- the element at a place of a list, and what stands after it
-pub at_place : {A : Type 0} (es : List A) (i : ℕ) (d : A) → i < length es → d ≡ get_or es i d → drop i es ≡ d ∷ drop (i + 1) es
-at_place es i d h q = rw (add-one, drop-cons es i d h, ← q) refl
+pub use Rattle.c_check_scopes.proofs.TableLemmas.{at_place}
 
 pub rest_parts : (ts : List TypeTree) (i : ℕ) (t : TypeTree) → i < length ts → t ≡ get_or ts i t → parts_of_all (types_of (drop i ts)) ≡ 1 + (parts (ctype_of t) + parts_of_all (types_of (drop (i + 1) ts)))
 rest_parts ts i t h q = ap (λ l. parts_of_all (types_of l)) (at_place ts i t h q)

@@ -5,9 +5,7 @@ use Rattle.c_tree.specs.declared.value.IntType.{IntType}
 use Rattle.c_tree.specs.declared.value.IntType.TheVariants.{Char, Uchar, Int, Uint}
 use Rattle.c_tree.specs.Tree.{CType, void, integer, pointer, array, struct, function, CTypes, no_types, more_types}
 use Rattle.c_rules.specs.Types.{same_integer, same_type, same_types}
-
-not_so : false ≡ true → ⊥
-not_so h = cc
+use Rattle.c_check_scopes.proofs.NumberLemmas.{not_so}
 
 false_not_true : {A : Type 0} → false ≡ true → A
 false_not_true h = absurd (not_so h)

@@ -15,15 +15,11 @@ use Rattle.c_parser_refusals.proofs.Combine.{fails_at}
 use Rattle.c_parser_refusals.proofs.DeclForms.{spec_fails as spec_of_decl_fails, parts_fail, declarator_fails, tail_fails, init_fails, end_fails, no_assign_fails}
 use Rattle.c_parser_refusals.proofs.PartFails.{parts_unclosed, next_part_fails, no_decl_left}
 use Rattle.c_parser.proofs.Firsts.{not_at}
-
-pub a_spec : {s : Spec} {i j : List Token} → HasSpec s i j → ASpec i j
-a_spec h = record { tree = _; reads = h.reads; ends = h.ends }
+use Rattle.c_parser_phrases.proofs.RefusalsOfDeclarators.{an_init}
+pub use Rattle.c_parser_phrases.proofs.RefusalsOfDeclarators.{a_spec}
 
 pub a_declarator : {room : Room} {e : Declarator} {i j : List Token} → HasDeclarator room e i j → ADeclarator any i j
 a_declarator h = record { depth = _; tree = _; reads = h.reads; named = h.named; ends = h.ends; fits = fits_any }
-
-an_init : {room : Room} {v : Init} {i j : List Token} → HasInit room v i j → AnInit any i j
-an_init h = record { depth = _; tree = _; reads = h.reads; stops = h.stops; fits = fits_any }
 
 pub spec_fails : (x : Bound) {i r : List Token} → Fails ASpec i r → Fails (APlainDecl x) i r
 spec_fails x f = spec_of_decl_fails x f

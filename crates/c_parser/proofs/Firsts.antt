@@ -14,14 +14,9 @@ use Rattle.c_parser_refusals.specs.Fails.{NotAt}
 use Rattle.c_parser_refusals.proofs.ElseWord.{else_stands}
 use Rattle.c_parser.proofs.Classes.{CodeClass, an_opening_brace, a_closing_brace, a_semicolon, an_operand, another_code, code_class}
 use Rattle.c_parser.proofs.Classes.{WordClass, break_word, case_word, continue_word, default_word, do_word, else_word, for_word, if_word, return_word, sizeof_word, static_word, extern_word, switch_word, while_word, a_specifier, another_word, word_class}
+pub use Rattle.c_parser_phrases.proofs.Raising.{not_at, not_at_word}
 
 -- no token with the punctuator, or with the keyword, stands first
-
-pub not_at : {code : ℕ} {i : List Token} → (IsAt code i → ⊥) → NotAt (Is code) i
-not_at {code} f t j q h = f (subst (λ z. IsAt code z) (sym q) h)
-
-pub not_at_word : {code : ℕ} {i : List Token} → (IsAtKeyword code i → ⊥) → NotAt (IsKeyword code) i
-not_at_word {code} f t j q h = f (subst (λ z. IsAtKeyword code z) (sym q) h)
 
 -- the number of the first token tells what stands there
 

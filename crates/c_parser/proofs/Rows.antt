@@ -12,34 +12,15 @@ use Rattle.c_syntax.specs.Tree.{block, switch_on, more_stmts, more_groups, Group
 use Rattle.c_syntax.specs.View.{expr_of}
 use Rattle.c_syntax.specs.UnitView.{stmt_at, block_items_of_row, block_item_before, groups_of_row, group_before, stmts_of_row, labels_of}
 use Rattle.c_syntax.specs.WritesUnit.{block_items_of, stmts_of, groups_of}
-
-block_items_row : (n : _) (row : Row_of-BlockItem n) → block_items_of_row row ≡ block_items_of (items-the_row-BlockItem n row)
-block_items_row n end_of-BlockItem = refl
-block_items_row n (more_of-BlockItem x rest) = ap (block_item_before x) (block_items_row _ rest)
-
-abbrev block_items_row_in : StmtKind → (n : Count) × Row_of-BlockItem n
-block_items_row_in (Block' shape row) = (_, row)
-block_items_row_in _ = (_, end_of-BlockItem)
+use Rattle.c_syntax.proofs.UnitRows.{block_items_row, block_items_row_in, groups_row, groups_row_in, stmts_row}
 
 -- what stands in a block
 pub block_is : (at : ℕ) (v : Vec BlockItem Global) → stmt_at at (Block v) ≡ block at (block_items_of v.items)
 block_is at v = ap (block at) (block_items_row (block_items_row_in (Block v)).0 (block_items_row_in (Block v)).1 ∙ ap block_items_of (items_hidden-the_row-BlockItem-0 v))
 
-groups_row : (n : _) (row : Row_of-Group n) → groups_of_row row ≡ groups_of (items-the_row-Group n row)
-groups_row n end_of-Group = refl
-groups_row n (more_of-Group x rest) = ap (group_before x) (groups_row _ rest)
-
-abbrev groups_row_in : StmtKind → (n : Count) × Row_of-Group n
-groups_row_in (Switch' e shape row) = (_, row)
-groups_row_in _ = (_, end_of-Group)
-
 -- what stands in a switch
 pub switch_is : (at : ℕ) (e : Tree) (v : Vec Group Global) → stmt_at at (Switch e v) ≡ switch_on at (expr_of e) (groups_of v.items)
 switch_is at e v = ap (switch_on at (expr_of e)) (groups_row (groups_row_in (Switch e v)).0 (groups_row_in (Switch e v)).1 ∙ ap groups_of (items_hidden-the_row-Group-1 v))
-
-stmts_row : (n : _) (row : Row_of-Stmt n) → stmts_of_row row ≡ stmts_of (items-the_row-Stmt n row)
-stmts_row n end_of-Stmt = refl
-stmts_row n (more_of-Stmt at kind rest) = ap (more_stmts (stmt_at at kind)) (stmts_row _ rest)
 
 -- a group is its labels and its statements
 pub group_is : (g : Group) (rest : Groups) → group_before g rest ≡ more_groups (labels_of (out-Group g).labels.items) (stmts_of (out-Group g).body.items) rest

@@ -27,6 +27,7 @@ use Rattle.c_parser.specs.Parsed.{HasCondition, HasMaybe, HasFirst, HasHead, Has
 use Rattle.c_parser.specs.declared.nodes.ForHead.{ForHead}
 use Rattle.c_parser.proofs.RoomLemmas.{IsInside}
 use Rattle.c_parser.proofs.Firsts.{not_at, not_at_word, else_at}
+pub use Rattle.c_parser_phrases.proofs.Raising.{ends_at}
 
 -- from the error of a part to that of the whole, within the same limits
 pub refuses_as : (A B : Bound → List Token → List Token → Type 0) (b : Bound) {i j : List Token} (k : List Token) (e : PhraseError) → ((x : Bound) (r : List Token) → Fails (B x) j r → Fails (A x) i r) → Refuses B b e j k → Refuses A b e i k
@@ -91,10 +92,6 @@ pub no_room_left : (room : Room) (i : List Token) (e : PhraseError) → room.nod
 no_room_left room i OutOfMemory q s = tt
 no_room_left room i Syntax q s = s
 no_room_left room i (Nesting at) q s = (s.0, subst (λ n. Fails (AStmt (within room.pairs n)) i s.0) (sym q) s.1)
-
--- a place that is known by an equation
-pub ends_at : {A : List Token → List Token → Type 0} {i j k : List Token} → k ≡ j → Fails A i j → Fails A i k
-ends_at {A} {i} q f = subst (λ z. Fails A i z) (sym q) f
 
 -- the same, where an error may have become one of nesting
 pub stops_deep : (A : Bound → List Token → List Token → Type 0) (b : Bound) {i q : List Token} (j : List Token) (e r : PhraseError) → KeepsOrNests e r → Fails (A b) i q → Refuses A b e i j → Refuses A b r i j

@@ -29,6 +29,7 @@ use Rattle.c_parser_phrases.specs.Standing.{IsAt, TookName}
 use Rattle.c_parser_phrases.specs.Reading.{Suits, IsParam}
 use Rattle.c_parser_phrases.proofs.Exits.{taken_at, suits_pointer, suits_name, suits_nothing, suits_made, pointer_read, named_read, brackets_read}
 use Rattle.c_parser_phrases.proofs.Lists.{each_one, each_more, some_more, some_one, none_read, params_height}
+use Rattle.c_syntax.proofs.Heads.{lengthened_name}
 
 -- the declarator stands between, has a name or not as it is to, and what follows doesn't go on with it
 abbrev pub IsDeclared : ℕ → Form → Declarator → List Token → List Token → Type 0
@@ -161,11 +162,6 @@ pub some_grown : {d : ℕ} {i z : List Token} {qs : List ParamTree} (ps : List P
 some_grown ps p r e =
     let Q : List ParamTree → Type 0 = λ y. AreSome (params_of y) in
     subst Q (sym e) (some_more ps p r)
-
-lengthened_name : {d at : ℕ} {a e : Declarator} {j k : List Token} → Lengthens d at a e j k → HasName e → HasName a
-lengthened_name no_more h = h
-lengthened_name (an_array o s c r) h = lengthened_name r h
-lengthened_name (a_function o s c r) h = lengthened_name r h
 
 core_begins : {d : ℕ} {a : Declarator} {i j : List Token} → ReadsCore d a i j → HasName a → 2 ≤ start i
 core_begins (a_declared n) h = omega (arith, started_name n.name)

@@ -22,6 +22,7 @@ use Rattle.c_parser_phrases.specs.Standing.{IsAt, Took}
 use Rattle.c_parser_phrases.specs.Phrases.{HasRead, HasInit}
 use Rattle.c_parser_phrases.specs.Lists.{HasList, GoesOn}
 use Rattle.c_parser_phrases.proofs.Exits.{taken_at}
+use Rattle.c_syntax.proofs.UnitRows.{inits_row}
 
 -- the place of an expression
 pub place_is : (at : ℕ) (kind : ExprKind) → place_of (expr_at at kind) ≡ at
@@ -47,10 +48,6 @@ place_is at (Or' p a1 k1 q a2 k2) = refl
 place_is at (Binary' op p a1 k1 q a2 k2) = refl
 place_is at (Assign' op p a1 k1 q a2 k2) = refl
 place_is at (Cond' p a1 k1 q a2 k2 r a3 k3) = refl
-
-inits_row : (n : _) (row : Row_of-Init n) → inits_of_row row ≡ inits_of (items-the_row-Init n row)
-inits_row n end_of-Init = refl
-inits_row n (more_of-Init at kind rest) = ap (more_inits (init_at at kind)) (inits_row _ rest)
 
 abbrev row_in : InitKind → (n : Count) × Row_of-Init n
 row_in (List' shape row) = (_, row)

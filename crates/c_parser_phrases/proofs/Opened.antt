@@ -34,6 +34,7 @@ use Rattle.c_parser_phrases.proofs.Made.{Stands, Chained}
 use Rattle.c_parser_phrases.proofs.Exits.{taken, taken_at}
 use Rattle.c_parser_phrases.proofs.Refusals.{cast_taken, left_of, Suffixed}
 use Rattle.c_parser_phrases.proofs.Starts.{leaf_code, leaf_word}
+use Rattle.c_parser_refusals.proofs.ExprOpens.{Placed, placed_on}
 
 -- the height is the limit
 pub at_limit : {at n h : ℕ} {e : Expr} → n ≤ h → h ≤ n → InExpr at h e → InExpr at n e
@@ -94,13 +95,6 @@ pub yes_part_opens : {at p n : ℕ} {a : Expr} {i k r : List Token} (j : List To
 yes_part_opens {p = p} {a = a} {i = i} {k = k} j c e s o =
     let t = taken_at QUESTION j k c e in
     let P : List Token → Type 0 = λ z. Reads p (binary_level 10) a i z in yes_opens (omega arith) t.1 (subst P t.2 s.0) o
-
-record Placed (q d : ℕ) (l : Level) (e : Expr) (i j : List Token) : Type 0 where
-  reads : Reads d l e i j
-  begins : q ≡ place i
-
-placed_on : {d x : ℕ} {l : Level} {e : Expr} {i j : List Token} → Reads d l e i j → d ≤ x → (k : List Token) → On (Placed (place i) x l e) i j k
-placed_on r l k = let x = reads_on (wide r l) k in record { tokens = x.tokens; twin = x.twin; reads = record { reads = x.reads; begins = x.same } }
 
 -- the third part of a conditional expression
 no_opens : {at p n d : ℕ} {a b : Expr} {t u : Token} {i j k r : List Token} → d ≤ suc p → Is QUESTION t → Reads d (binary_level 10) a i (t ∷ j) → Reads d expression_level b j (u ∷ k) → Is COLON u → Opens (DeepExpr at p n conditional_level) k r → Opens (DeepExpr at p (suc n) conditional_level) i r

@@ -35,15 +35,12 @@ use Rattle.c_parser_phrases.specs.Reading.{Suits, IsBare, IsCored, IsParam, Open
 use Rattle.c_parser_phrases.proofs.Exits.{taken_at, suits_name, suits_nothing}
 use Rattle.c_parser_phrases.proofs.Starts.{kind_of_name, star_there, opening_there, bracket_there}
 use Rattle.c_parser_phrases.proofs.RefusalsOfDeclarators.{Read, unmoved, bare_lengthens, opening_taken}
+use Rattle.c_parser_refusals.proofs.BodyOpens.{close_paren}
+use Rattle.c_parser_refusals.proofs.DeclOpens.{close_bracket}
+use Rattle.c_parser_refusals.proofs.DeclaratorFails.{core_on, place_alike}
 
 moved_open : {A : List Token → List Token → Type 0} {i j r : List Token} → i ≡ j → Opens A j r → Opens A i r
 moved_open {A} {r = r} q o = subst (λ z. Opens A z r) (sym q) o
-
-abbrev close_paren : Token
-close_paren = punctuator RIGHT_PARENTHESIS (omega arith)
-
-abbrev close_bracket : Token
-close_bracket = punctuator RIGHT_BRACKET (omega arith)
 
 abbrev some_name : Ident
 some_name = record { name = 115 ∷ []; at = 0 }
@@ -181,11 +178,6 @@ some_inside form o = omega (arith, ap length o.2)
 
 -- array sizes and parameters
 
-core_on : {d : ℕ} {a : Declarator} {i j : List Token} → ReadsCore d a i j → (k : List Token) → On (ReadsCore d a) i j k
-core_on (a_declared {t = t} n) k = record { tokens = t ∷ k; twin = along here; reads = a_declared n }
-core_on (declarator_in_parentheses {t = t} {u = u} o r h c) k = let x = declares_on r (u ∷ k) in record { tokens = t ∷ x.tokens; twin = along (after x.twin); reads = declarator_in_parentheses o x.reads h c }
-core_on no_core k = record { tokens = k; twin = here; reads = no_core }
-
 place_front : {i z : List Token} (j k front : List Token) → i ≡ front ++ j → z ≡ front ++ k → length j < length i → place i ≡ place z
 place_front j k [] q p l = absurd (omega (arith, ap length q, l))
 place_front j k (t ∷ front) q p l = ap place q ∙ sym (ap place p)
@@ -205,10 +197,6 @@ core_shorter no_core t = absurd t
 
 no_longer : {d q : ℕ} {a e : Declarator} {i j : List Token} → Lengthens d q a e i j → length j ≤ length i
 no_longer {j = j} l = let f = front_of_all (lengthens_on l) in omega (arith, ap length f.is, length-append f.front j)
-
-place_alike : {i k : List Token} → Meets i k → place i ≡ place k
-place_alike at_end = refl
-place_alike at_token = refl
 
 -- where nothing stands before them
 bare_open : {N : Declarator → Type 0} {at p n q : ℕ} {i r : List Token} → q ≡ place i → N nothing → Opens (DeepLengthens N at p n q nothing) i r → Opens (DeepDeclarator N at p n) i r

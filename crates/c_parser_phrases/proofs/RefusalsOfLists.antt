@@ -18,6 +18,7 @@ use Rattle.c_parser_phrases.specs.declared.room.Room.{Room}
 use Rattle.c_parser_phrases.specs.Lists.{HasList}
 use Rattle.c_parser_phrases.specs.Standing.{IsAt}
 use Rattle.c_parser_phrases.proofs.Exits.{taken_at}
+use Rattle.c_syntax.proofs.OneDecl.{moved_inits}
 
 init_head : {d : ℕ} {a : Init} {i j : List Token} → ReadsInit d a i j → head i ≡ 5 → ⊥
 init_head (an_expression r p) h = omega (arith, expression_head r, h)
@@ -27,9 +28,6 @@ init_head (a_list_with_comma o r c b) h = omega (arith, headed o, h)
 inits_head : {d : ℕ} {a : Inits} {i j : List Token} → ReadsInits d a i j → head i ≡ 5 → ⊥
 inits_head (last_init r) h = init_head r h
 inits_head (next_init r c b) h = init_head r h
-
-moved_inits : {d : ℕ} {a : Inits} {i m j : List Token} → i ≡ m → ReadsInits d a m j → ReadsInits d a i j
-moved_inits q r = rw q r
 
 -- lists that stand in one place end in one
 one_end : {d x : ℕ} {a b : Inits} {i j k : List Token} → ReadsInits d a i j → ReadsInits x b i k → EndsList j → EndsList k → j ≡ k

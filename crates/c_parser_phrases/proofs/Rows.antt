@@ -14,17 +14,8 @@ use Rattle.c_syntax.specs.Tree.{Expr, Exprs, more_exprs, comma, call, Declarator
 use Rattle.c_syntax.specs.Limits.{height, height_of_exprs, height_of_declarator, height_of_params}
 use Rattle.c_syntax.specs.View.{exprs_of_row, params_of_row, expr_at, expr_of, param_before, declarator_at, inner_declarator}
 use Rattle.c_syntax.specs.Writes.{exprs_of, params_of, declarator_behind, expr_behind}
-
-exprs_row : (n : _) (row : Row_of-Expr n) → exprs_of_row row ≡ exprs_of (items-the_row-Expr n row)
-exprs_row n end_of-Expr = refl
-exprs_row n (more_of-Expr at kind rest) = ap (more_exprs (expr_at at kind)) (exprs_row _ rest)
-
-abbrev row_in : ExprKind → (n : Count) × Row_of-Expr n
-row_in (Comma' shape row) = (_, row)
-row_in _ = (_, end_of-Expr)
-
-exprs_in : (v : Vec Tree Global) → exprs_of_row (row_in (Comma v)).1 ≡ exprs_of v.items
-exprs_in v = exprs_row (row_in (Comma v)).0 (row_in (Comma v)).1 ∙ ap exprs_of (items_hidden-the_row-Expr-1 v)
+use Rattle.c_syntax.proofs.HeightLemmas.{both}
+use Rattle.c_syntax.proofs.Rows.{exprs_row, row_in, inner_is, params_row, params_row_in, params_in, exprs_in}
 
 pub comma_is : (at : ℕ) (v : Vec Tree Global) → expr_at at (Comma v) ≡ comma at (exprs_of v.items)
 comma_is at v = ap (comma at) (exprs_in v)
@@ -32,28 +23,10 @@ comma_is at v = ap (comma at) (exprs_in v)
 pub call_is : (at : ℕ) (f : Box Tree Global) (v : Vec Tree Global) → expr_at at (Call f v) ≡ call at (expr_of f.value) (exprs_of v.items)
 call_is at f v = ap (call at (expr_of f.value)) (exprs_in v)
 
-params_row : (n : _) (row : Row_of-Param n) → params_of_row row ≡ params_of (items-the_row-Param n row)
-params_row n end_of-Param = refl
-params_row n (more_of-Param p rest) = ap (param_before p) (params_row _ rest)
-
-abbrev params_row_in : DeclaratorKind → (n : Count) × Row_of-Param n
-params_row_in (Function' held shape row) = (_, row)
-params_row_in _ = (_, end_of-Param)
-
-params_in : (d : Option (Box DeclaratorTree Global)) (v : Vec ParamTree Global) → params_of_row (params_row_in (Function d v)).1 ≡ params_of v.items
-params_in d v = params_row (params_row_in (Function d v)).0 (params_row_in (Function d v)).1 ∙ ap params_of (items_hidden-the_row-Param-0 v)
-
-inner_is : (d : Option (Box DeclaratorTree Global)) → inner_declarator (back-DeclaratorKind-Pointer-0 d) ≡ declarator_behind d
-inner_is None = refl
-inner_is (Some b) = refl
-
 pub function_is : (at : ℕ) (d : Option (Box DeclaratorTree Global)) (v : Vec ParamTree Global) → declarator_at at (Function d v) ≡ function at (declarator_behind d) (params_of v.items)
 function_is at d v =
     ap (λ x. function at x (params_of_row (params_row_in (Function d v)).1)) (inner_is d)
     ∙ ap (function at (declarator_behind d)) (params_in d v)
-
-both : {a b x y : ℕ} → a ≡ x → b ≡ y → max a b ≡ max x y
-both p q = cc
 
 -- the heights of these nodes
 pub comma_height : {h d at : ℕ} {es : Exprs} {e : Expr} → h ≡ suc d → d ≡ height_of_exprs es → e ≡ comma at es → h ≡ height e

@@ -26,7 +26,7 @@ use Rattle.c_parser_refusals.proofs.Begun.{expression_begins}
 abbrev open_paren : Token
 open_paren = punctuator LEFT_PARENTHESIS (omega arith)
 
-abbrev close_paren : Token
+abbrev pub close_paren : Token
 close_paren = punctuator RIGHT_PARENTHESIS (omega arith)
 
 abbrev open_brace : Token

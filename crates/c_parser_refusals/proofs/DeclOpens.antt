@@ -21,7 +21,7 @@ use Rattle.c_parser_refusals.proofs.ExprOpens.{either}
 abbrev close_paren : Token
 close_paren = punctuator RIGHT_PARENTHESIS (omega arith)
 
-abbrev close_bracket : Token
+abbrev pub close_bracket : Token
 close_bracket = punctuator RIGHT_BRACKET (omega arith)
 
 pub builds_name : Builds HasName

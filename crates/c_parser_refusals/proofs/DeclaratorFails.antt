@@ -174,7 +174,7 @@ no_pair_for_name {N} {n} c f h = fails_here (λ s m j a. none h m a)
     none : {t : Token} {i s j : List Token} → Is LEFT_PARENTHESIS t → Meets (t ∷ i) s → ADeclared N (within 0 n) s j → ⊥
     none h at_token a = no_pair_reads c h (inr f) (fits_low a.fits).0 a.reads a.suits a.ends
 
-core_on : {d : ℕ} {a : Declarator} {i j : List Token} → ReadsCore d a i j → (k : List Token) → On (ReadsCore d a) i j k
+pub core_on : {d : ℕ} {a : Declarator} {i j : List Token} → ReadsCore d a i j → (k : List Token) → On (ReadsCore d a) i j k
 core_on (a_declared {t = t} n) k = record { tokens = t ∷ k; twin = along here; reads = a_declared n }
 core_on (declarator_in_parentheses {t = t} {u = u} o r h c) k = let x = declares_on r (u ∷ k) in record { tokens = t ∷ x.tokens; twin = along (after x.twin); reads = declarator_in_parentheses o x.reads h c }
 core_on no_core k = record { tokens = k; twin = here; reads = no_core }
@@ -199,7 +199,7 @@ lengthens_pass {at = at} {a = a} (a_function o s c v) (a_function q r p w) z =
 rooted : {x at it : ℕ} {a b f : Declarator} {i j k : List Token} → at ≡ it → a ≡ b → i ≡ j → Lengthens x it b f j k → Lengthens x at a f i k
 rooted o p q r = rw (o, p, q) r
 
-place_alike : {i k : List Token} → Meets i k → place i ≡ place k
+pub place_alike : {i k : List Token} → Meets i k → place i ≡ place k
 place_alike at_end = refl
 place_alike at_token = refl
 

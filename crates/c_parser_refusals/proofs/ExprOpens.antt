@@ -156,11 +156,11 @@ cast_operand_opens {at} {p} {n} {d} {y} {t} {u} {i} {j} l h w c o =
 -- postfix expressions (6.5.2)
 
 -- a reading that begins at the place
-record Placed (q d : ℕ) (l : Level) (e : Expr) (i j : List Token) : Type 0 where
-  reads : Reads d l e i j
-  begins : q ≡ place i
+pub record Placed (q d : ℕ) (l : Level) (e : Expr) (i j : List Token) : Type 0 where
+  pub reads : Reads d l e i j
+  pub begins : q ≡ place i
 
-placed_on : {d x : ℕ} {l : Level} {e : Expr} {i j : List Token} → Reads d l e i j → d ≤ x → (k : List Token) → On (Placed (place i) x l e) i j k
+pub placed_on : {d x : ℕ} {l : Level} {e : Expr} {i j : List Token} → Reads d l e i j → d ≤ x → (k : List Token) → On (Placed (place i) x l e) i j k
 placed_on r l k = let x = reads_on (wide r l) k in record { tokens = x.tokens; twin = x.twin; reads = record { reads = x.reads; begins = x.same } }
 
 -- the suffixes with others behind them

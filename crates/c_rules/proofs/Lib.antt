@@ -5,13 +5,13 @@ mod TrialPrograms
 mod TrialStatics
 mod TrialTypes
 mod CheckedLemmas
-mod Modes
-mod ModeNames
-mod ModeExpressions
-mod ModeBlocks
+pub mod Modes
+pub mod ModeNames
+pub mod ModeExpressions
+pub mod ModeBlocks
 mod ModeStatements
-mod ModeFunctions
-mod ModeItems
-mod Below
+pub mod ModeFunctions
+pub mod ModeItems
+pub mod Below
 mod BelowExpressions
 mod BelowUnits

@@ -80,11 +80,11 @@ after_same env b t i = ap (past b (calls_of_init i)) (held_init env t i)
 
 -- ## Initialisers
 
-scalar_leads : (k : Bool) (at : ℕ) (t : CType) (r s : Checked TypedExpression) → Leads r s → Leads (scalar_cell k at t r) (scalar_cell k at t s)
+pub scalar_leads : (k : Bool) (at : ℕ) (t : CType) (r s : Checked TypedExpression) → Leads r s → Leads (scalar_cell k at t r) (scalar_cell k at t s)
 scalar_leads k at t r s h =
     on_leads (on r (as_if_assigned at t)) (on s (as_if_assigned at t)) (cell_of k at) (cell_of k at) (on_leads r s (as_if_assigned at t) (as_if_assigned at t) h (λ g _. same_leads (as_if_assigned at t g))) (λ g _. same_leads (cell_of k at g))
 
-one_leads : (k : Bool) (at : ℕ) (t : CType) (text : Option (List ℕ)) (r s : Checked TypedExpression) → Leads r s → Leads (cells_of_one k at t text r) (cells_of_one k at t text s)
+pub one_leads : (k : Bool) (at : ℕ) (t : CType) (text : Option (List ℕ)) (r s : Checked TypedExpression) → Leads r s → Leads (cells_of_one k at t text r) (cells_of_one k at t text s)
 one_leads k at void text r s h = tt
 one_leads k at (integer i) text r s h = scalar_leads k at (integer i) r s h
 one_leads k at (pointer t) text r s h = scalar_leads k at (pointer t) r s h
@@ -92,7 +92,7 @@ one_leads k at (array t n) text r s h = same_leads (on (text_fits at text) (λ _
 one_leads k at (struct x) text r s h = tt
 one_leads k at (function t ts) text r s h = tt
 
-list_leads : (takes : Bool) (at most n : ℕ) (r s : Checked (List TypedExpression)) → Leads r s → Leads (cells_of_list takes at most n r) (cells_of_list takes at most n s)
+pub list_leads : (takes : Bool) (at most n : ℕ) (r s : Checked (List TypedExpression)) → Leads r s → Leads (cells_of_list takes at most n r) (cells_of_list takes at most n s)
 list_leads takes at most n r s h =
     on_leads (demand takes 14 at met) (demand takes 14 at met) (λ _. on r (λ gs. demand (nat_le n most) 14 at gs)) (λ _. on s (λ gs. demand (nat_le n most) 14 at gs)) (same_leads _)
     (λ _ _. on_leads r s (λ gs. demand (nat_le n most) 14 at gs) (λ gs. demand (nat_le n most) 14 at gs) h (λ gs _. same_leads (demand (nat_le n most) 14 at gs)))

@@ -21,7 +21,7 @@ use Rattle.c_rules.specs.Expressions.{value_at, place_at, callee, access, after_
 use Rattle.c_rules.proofs.Modes.{Leads, same_leads, fine_leads, on_leads, both_leads, gives_leads, all_three_lead, first_fine, ArePlain, Twin, twin, named_twin}
 use Rattle.c_rules.proofs.ModeNames.{left, right, found_plain, named_leads, site_leads, callee_bound_leads, value_at_leads, new_name_leads, new_name_plain}
 
-place_at_leads : (place : ℕ) (r s : Checked TypedExpression) → Leads r s → Leads (place_at place r) (place_at place s)
+pub place_at_leads : (place : ℕ) (r s : Checked TypedExpression) → Leads r s → Leads (place_at place r) (place_at place s)
 place_at_leads place r s h = on_leads r s (assignable place) (assignable place) h (λ g _. same_leads (assignable place g))
 
 callee_leads : (env : Env) → ArePlain env.names → (at : ℕ) (d : Expr) (r s : Checked TypedExpression) → Leads r s → Leads (callee (left env) at d r) (callee (right env) at d s)
@@ -44,7 +44,7 @@ before_operand_leads env at place pre_increment r s q t h k = on_leads (place_at
 before_operand_leads env at place pre_decrement r s q t h k = on_leads (place_at place r) (place_at place s) (step (left env) at Sub false) (step (right env) at Sub false) (place_at_leads place r s h) (λ g _. same_leads (step (left env) at Sub false g))
 before_operand_leads env at place sizeof r s q t h k = on_leads q t (size_of_expression (left env) at) (size_of_expression (right env) at) k (λ g _. same_leads (size_of_expression (left env) at g))
 
-unary_by : (t : Bool) (a b c d : Checked TypedExpression) → Leads a b → Leads c d → Leads (if t then a else c) (if t then b else d)
+pub unary_by : (t : Bool) (a b c d : Checked TypedExpression) → Leads a b → Leads c d → Leads (if t then a else c) (if t then b else d)
 unary_by true a b c d h k = h
 unary_by false a b c d h k = k
 
@@ -59,7 +59,7 @@ infix_leads env at and a b = same_leads (infix_rule (left env) at and a b)
 infix_leads env at or a b = same_leads (infix_rule (left env) at or a b)
 infix_leads env at (operator code) a b = same_leads (infix_rule (left env) at (operator code) a b)
 
-cast_leads : (v : Bool) (at : ℕ) (t u : Checked CType) (r s : Checked TypedExpression) → Leads t u → Leads r s → Leads (cast_rule v at t r) (cast_rule v at u s)
+pub cast_leads : (v : Bool) (at : ℕ) (t u : Checked CType) (r s : Checked TypedExpression) → Leads t u → Leads r s → Leads (cast_rule v at t r) (cast_rule v at u s)
 cast_leads true at t u r s h k = on_leads r s (null_cast at) (null_cast at) k (λ g _. same_leads (null_cast at g))
 cast_leads false at t u r s h k = both_leads t u r s (cast_of at) (cast_of at) h (λ _ _. k) (λ a g. same_leads (cast_of at a g))
 

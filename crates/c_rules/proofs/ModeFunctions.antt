@@ -43,7 +43,7 @@ parameters_fine e (syntax.function at (syntax.array here d size) ps) t u h g =
 parameters_fine e (syntax.function at (syntax.function here d qs) ps) t u h g =
     let k = on_fine (on (parameters (inside e) 0 ps) (function_of at t)) (λ v. declared e (syntax.function here d qs) v) u g in parameters_fine e (syntax.function here d qs) k.0 u h k.2
 
-abbrev PlainName : Option Ident → Type 0
+abbrev pub PlainName : Option Ident → Type 0
 PlainName None = Unit {0}
 PlainName (Some x) = is_reserved x.name ≡ false
 

@@ -86,7 +86,7 @@ enumerator_value_leads e f w r s h x absent = on_leads r s (int_value x.at) (int
 enumerator_value_leads e f w r s h x (there y) =
     on_leads _ _ _ _ (on_leads (folded_value e y) (folded_value f y) (constant_value (place_of y)) (constant_value (place_of y)) (folded_leads e f w y) (λ g _. same_leads (constant_value (place_of y) g))) (λ v _. same_leads _)
 
-one_more_leads : (r s : Checked ℤ) → Leads r s → Leads (one_more_than r) (one_more_than s)
+pub one_more_leads : (r s : Checked ℤ) → Leads r s → Leads (one_more_than r) (one_more_than s)
 one_more_leads (fine z) s h = (ap one_more_than h.0, tt)
 one_more_leads (faulty f fs) s h = tt
 
@@ -160,7 +160,7 @@ global_leads e f (twin env w) true b at s p x m =
     on_leads r q (definition_of (within_global (left env) true x r) b m) (definition_of (within_global (right env) true x q) b m) h
     (λ o g. let t : Twin (within_global (left env) true x r) (within_global (right env) true x q) = seen_twin env w true b x r q o h g (global_plain env true b at s p x m o g) in static_leads _ _ (left env) (right env) t b m o)
 
-global_fine : (e : Env) (d : Bool) (b : Before) (x : Ident) (m : MaybeInit) (r : Checked Object) (c : Output) → global e d b x m r ≡ fine c → (o : Object) × (r ≡ fine o)
+pub global_fine : (e : Env) (d : Bool) (b : Before) (x : Ident) (m : MaybeInit) (r : Checked Object) (c : Output) → global e d b x m r ≡ fine c → (o : Object) × (r ≡ fine o)
 global_fine e false b x m r c g = let k = on_fine r (λ _. fine no_output) c g in (k.0, k.1)
 global_fine e true b x m r c g = let k = on_fine r (definition_of (within_global e true x r) b m) c g in (k.0, k.1)
 

@@ -22,7 +22,7 @@ left env = in_mode Plain env
 abbrev pub right : Env → Env
 right env = in_mode Instrumented env
 
-found_in : (t : Bool) (c : Binding) (x : Name) (rest : Option Binding) (b : Binding) → bytes_eq c.name x ≡ t → is_reserved c.name ≡ false → (rest ≡ Some b → is_reserved x ≡ false) → cond t (Some c) rest ≡ Some b → is_reserved x ≡ false
+pub found_in : (t : Bool) (c : Binding) (x : Name) (rest : Option Binding) (b : Binding) → bytes_eq c.name x ≡ t → is_reserved c.name ≡ false → (rest ≡ Some b → is_reserved x ≡ false) → cond t (Some c) rest ≡ Some b → is_reserved x ≡ false
 found_in true c x rest b e u h k = subst (λ y. is_reserved y ≡ false) ((bytes_eq-Decides c.name x).0 e) u
 found_in false c x rest b e u h k = h k
 
@@ -33,19 +33,19 @@ found_plain (c ∷ bs) x p b e = found_in (bytes_eq c.name x) c x (lookup bs x) 
 
 -- ## Given names
 
-not_first : (t : Bool) (o : Option ℕ) → (t ≡ true → ⊥) → o ≡ None → (if t then Some 0 else option_map suc o) ≡ None
+pub not_first : (t : Bool) (o : Option ℕ) → (t ≡ true → ⊥) → o ≡ None → (if t then Some 0 else option_map suc o) ≡ None
 not_first true o h k = absurd (h refl)
 not_first false o h k = ap (option_map suc) k
 
-no_twin : (y x : Name) → is_reserved y ≡ true → is_reserved x ≡ false → bytes_eq y x ≡ true → ⊥
+pub no_twin : (y x : Name) → is_reserved y ≡ true → is_reserved x ≡ false → bytes_eq y x ≡ true → ⊥
 no_twin y x r u e = let same : y ≡ x = (bytes_eq-Decides y x).0 e in let k : is_reserved x ≡ true = subst (λ z. is_reserved z ≡ true) same r in let no : true ≡ false = sym k ∙ u in cc
 
-no_null : (x : Name) → is_reserved x ≡ false → number_among null_calls x ≡ None
+pub no_null : (x : Name) → is_reserved x ≡ false → number_among null_calls x ≡ None
 no_null x u =
     not_first (bytes_eq (codes "__dyck_pre") x) (number_among (codes "__dyck_post" ∷ []) x) (no_twin (codes "__dyck_pre") x refl u)
     (not_first (bytes_eq (codes "__dyck_post") x) None (no_twin (codes "__dyck_post") x refl u) refl)
 
-among_front : (xs ys : List Name) (x : Name) → number_among ys x ≡ None → number_among (xs ++ ys) x ≡ number_among xs x
+pub among_front : (xs ys : List Name) (x : Name) → number_among ys x ≡ None → number_among (xs ++ ys) x ≡ number_among xs x
 among_front [] ys x h = h
 among_front (z ∷ xs) ys x h = ap (λ o. if bytes_eq z x then Some 0 else option_map suc o) (among_front xs ys x h)
 

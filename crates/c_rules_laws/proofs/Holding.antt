@@ -1,18 +1,7 @@
 -- What holds of parts that are fine.
 use Rattle.std.proofs.Common.{◌≡◌, ℕ, Bool, true, false, ◌&&◌, if◌then◌else◌, refl, subst}
 use Rattle.c_rules.specs.Checked.{Checked, fine, faulty, on, both, all_three, demand, met, fails_with, parts_first}
-
--- what is fine has the property
-abbrev pub Holds : {A : Type 0} → (A → Type 0) → Checked A → Type 0
-Holds P (fine a) = P a
-Holds P (faulty f fs) = Unit {0}
-
-pub held : {A : Type 0} (P : A → Type 0) (r : Checked A) (a : A) → Holds P r → r ≡ fine a → P a
-held P r a h e = subst (Holds P) e h
-
-pub on_holds : {A B : Type 0} (P : A → Type 0) (Q : B → Type 0) (r : Checked A) (k : A → Checked B) → Holds P r → ((a : A) → P a → Holds Q (k a)) → Holds Q (on r k)
-on_holds P Q (fine a) k h t = t a h
-on_holds P Q (faulty f fs) k h t = tt
+pub use Rattle.c_rules.proofs.Below.{Holds, held, on_holds, both_hold, Any, anything, all_three_hold, alone_holds, parts_first_holds}
 
 pub holds_map : {A : Type 0} (P Q : A → Type 0) → ((a : A) → P a → Q a) → (r : Checked A) → Holds P r → Holds Q r
 holds_map P Q f (fine a) h = f a h
@@ -21,24 +10,6 @@ holds_map P Q f (faulty g gs) h = tt
 pub holds_two : {A : Type 0} (P Q : A → Type 0) (r : Checked A) → Holds P r → Holds Q r → Holds (λ a. P a × Q a) r
 holds_two P Q (fine a) h k = (h, k)
 holds_two P Q (faulty g gs) h k = tt
-
-pub both_hold : {A B C : Type 0} (P : A → Type 0) (Q : B → Type 0) (R : C → Type 0) (p : Checked A) (q : Checked B) (k : A → B → Checked C) → Holds P p → Holds Q q → ((a : A) (b : B) → P a → Q b → Holds R (k a b)) → Holds R (both p q k)
-both_hold P Q R (fine a) (fine b) k g h t = t a b g h
-both_hold P Q R (fine a) (faulty f fs) k g h t = tt
-both_hold P Q R (faulty f fs) q k g h t = tt
-
-abbrev pub Any : {A : Type 0} → A → Type 0
-Any a = Unit {0}
-
-pub anything : {A : Type 0} (r : Checked A) → Holds Any r
-anything (fine a) = tt
-anything (faulty f fs) = tt
-
-pub all_three_hold : {A B C D : Type 0} (P : A → Type 0) (Q : B → Type 0) (R : C → Type 0) (S : D → Type 0) (p : Checked A) (q : Checked B) (r : Checked C) (k : A → B → C → Checked D) → Holds P p → Holds Q q → Holds R r → ((a : A) (b : B) (c : C) → P a → Q b → R c → Holds S (k a b c)) → Holds S (all_three p q r k)
-all_three_hold P Q R S (fine a) (fine b) (fine c) k g h i t = t a b c g h i
-all_three_hold P Q R S (fine a) (fine b) (faulty f fs) k g h i t = tt
-all_three_hold P Q R S (fine a) (faulty f fs) r k g h i t = tt
-all_three_hold P Q R S (faulty f fs) q r k g h i t = tt
 
 -- where a demand is met
 pub demand_holds : {A : Type 0} (P : A → Type 0) (t : Bool) (code at : ℕ) (a : A) → (t ≡ true → P a) → Holds P (demand t code at a)
@@ -54,18 +25,6 @@ behind_demand Q false code at r h = tt
 pub after_part : {A B : Type 0} (Q : B → Type 0) (r : Checked A) (k : A → Checked B) → ((a : A) → Holds Q (k a)) → Holds Q (on r k)
 after_part Q (fine a) k h = h a
 after_part Q (faulty f fs) k h = tt
-
--- with one demand in place of what fails
-pub alone_holds : {A : Type 0} (P : A → Type 0) (t : Bool) (code at : ℕ) (r : Checked A) → Holds P r → Holds P (fails_with t code at r)
-alone_holds P t code at (fine a) h = h
-alone_holds P true code at (faulty f fs) h = tt
-alone_holds P false code at (faulty f fs) h = tt
-
--- beside the parts of a node
-pub parts_first_holds : {A B : Type 0} (P : B → Type 0) (q : Checked A) (r : Checked B) → Holds P r → Holds P (parts_first q r)
-parts_first_holds P q (fine b) h = h
-parts_first_holds P (fine a) (faulty f fs) h = tt
-parts_first_holds P (faulty g gs) (faulty f fs) h = tt
 
 pub parts_first_fine : {A B : Type 0} (q : Checked A) (r : Checked B) (b : B) → parts_first q r ≡ fine b → r ≡ fine b
 parts_first_fine q (fine c) b e = e

@@ -2,95 +2,14 @@
 use Rattle.std.proofs.Common.{◌≡◌, ℕ, ◌<◌, ◌≤◌, Bool, true, false, refl, ap, sym, subst, arith, nat_lt}
 use Rattle.std.proofs.lemmas.Bool.Decides.{Decides-ltb}
 use Rattle.c_rules.specs.Checked.{Checked, fine, faulty, on, both, beside, all_three, gives, demand, and_also, Met, met, fails_with, parts_first}
-
--- what is fine on the left is fine on the right and gives the same, and a further fact holds then
-abbrev pub LeadsTo : {A : Type 0} → Type 0 → Checked A → Checked A → Type 0
-LeadsTo P (fine a) s = (s ≡ fine a) × P
-LeadsTo P (faulty f fs) s = Unit {0}
-
-abbrev pub Leads : {A : Type 0} → Checked A → Checked A → Type 0
-Leads r s = LeadsTo (Unit {0}) r s
-
-pub same_leads : {A : Type 0} (r : Checked A) → Leads r r
-same_leads (fine a) = (refl, tt)
-same_leads (faulty f fs) = tt
-
-pub fine_leads : {A : Type 0} (r s : Checked A) (a : A) → Leads r s → r ≡ fine a → s ≡ fine a
-fine_leads r s a h e = let k : Leads (fine a) s = subst (λ x. Leads x s) e h in k.0
-
-pub fact : {A : Type 0} (P : Type 0) (r s : Checked A) (a : A) → LeadsTo P r s → r ≡ fine a → P
-fact P r s a h e = let k : LeadsTo P (fine a) s = subst (λ x. LeadsTo P x s) e h in k.1
-
-pub without : {A : Type 0} (P : Type 0) (r s : Checked A) → LeadsTo P r s → Leads r s
-without P (fine a) s h = (h.0, tt)
-without P (faulty f fs) s h = tt
-
-pub with_fact : {A : Type 0} (P : Type 0) (r s : Checked A) → Leads r s → ((a : A) → r ≡ fine a → P) → LeadsTo P r s
-with_fact P (fine a) s h k = (h.0, k a refl)
-with_fact P (faulty f fs) s h k = tt
-
-pub on_leads : {A B : Type 0} (r s : Checked A) (k l : A → Checked B) → Leads r s → ((a : A) → r ≡ fine a → Leads (k a) (l a)) → Leads (on r k) (on s l)
-on_leads (fine a) s k l h t = subst (λ x. Leads (k a) (on x l)) (sym h.0) (t a refl)
-on_leads (faulty f fs) s k l h t = tt
-
-pub both_leads : {A B C : Type 0} (p p' : Checked A) (q q' : Checked B) (k l : A → B → Checked C) → Leads p p' → ((a : A) → p ≡ fine a → Leads q q') → ((a : A) (b : B) → Leads (k a b) (l a b)) → Leads (both p q k) (both p' q' l)
-both_leads (fine a) p' (fine b) q' k l g h t =
-    subst (λ x. Leads (k a b) (both x q' l)) (sym g.0) (subst (λ y. Leads (k a b) (both (fine a) y l)) (sym (h a refl).0) (t a b))
-both_leads (fine a) p' (faulty f fs) q' k l g h t = tt
-both_leads (faulty f fs) p' q q' k l g h t = tt
-
--- with one demand in place of what fails
-pub alone_leads : {A : Type 0} (P : Type 0) (t u : Bool) (code at to : ℕ) (r s : Checked A) → LeadsTo P r s → LeadsTo P (fails_with t code at r) (fails_with u code to s)
-alone_leads P t u code at to (fine a) s h = (ap (fails_with u code to) h.0, h.1)
-alone_leads P true u code at to (faulty f fs) s h = tt
-alone_leads P false u code at to (faulty f fs) s h = tt
+pub use Rattle.c_rules.proofs.Modes.{first_fine, LeadsTo, Leads, same_leads, fine_leads, fact, without, with_fact, on_leads, both_leads, alone_leads, parts_first_leads, gives_leads, all_three_lead, demand_leads, and_also_leads, on_fine, demand_met, below_more}
 
 pub alone_fine : {A : Type 0} (t : Bool) (code at : ℕ) (r : Checked A) (a : A) → fails_with t code at r ≡ fine a → r ≡ fine a
 alone_fine t code at (fine b) a e = e
 alone_fine true code at (faulty f fs) a e = cc
 alone_fine false code at (faulty f fs) a e = e
 
--- beside the parts of a node
-pub parts_first_leads : {A B D : Type 0} (P : Type 0) (q : Checked A) (u : Checked B) (r s : Checked D) → LeadsTo P r s → LeadsTo P (parts_first q r) (parts_first u s)
-parts_first_leads P q u (fine d) s h = (ap (parts_first u) h.0, h.1)
-parts_first_leads P (fine a) u (faulty f fs) s h = tt
-parts_first_leads P (faulty g gs) u (faulty f fs) s h = tt
-
 pub parts_first_fine : {A B : Type 0} (q : Checked A) (r : Checked B) (b : B) → parts_first q r ≡ fine b → r ≡ fine b
 parts_first_fine q (fine c) b e = e
 parts_first_fine (fine a) (faulty f fs) b e = e
 parts_first_fine (faulty g gs) (faulty f fs) b e = cc
-
-pub gives_leads : {A B : Type 0} (r s : Checked A) (f : A → B) → Leads r s → Leads (gives r f) (gives s f)
-gives_leads r s f h = on_leads r s (λ a. fine (f a)) (λ a. fine (f a)) h (λ a _. (refl, tt))
-
-pub all_three_lead : {A B C D : Type 0} (p p' : Checked A) (q q' : Checked B) (r r' : Checked C) (k l : A → B → C → Checked D) → Leads p p' → ((a : A) → p ≡ fine a → Leads q q') → ((a : A) (b : B) → p ≡ fine a → q ≡ fine b → Leads r r') → ((a : A) (b : B) (c : C) → Leads (k a b c) (l a b c)) → Leads (all_three p q r k) (all_three p' q' r' l)
-all_three_lead p p' q q' r r' k l g h i t =
-    both_leads p p' (beside q r) (beside q' r') (λ a x. k a x.first x.second) (λ a x. l a x.first x.second) g
-    (λ a e. both_leads q q' r r' (λ b c. fine (record { first = b; second = c })) (λ b c. fine (record { first = b; second = c })) (h a e) (λ b d. i a b e d) (λ b c. (refl, tt)))
-    (λ a x. t a x.first x.second)
-
--- a demand that holds where another one does
-pub demand_leads : {A : Type 0} (t s : Bool) (code at : ℕ) (a : A) → (t ≡ true → s ≡ true) → Leads (demand t code at a) (demand s code at a)
-demand_leads true s code at a h = (subst (λ x. demand x code at a ≡ fine a) (sym (h refl)) refl, tt)
-demand_leads false s code at a h = tt
-
-pub and_also_leads : (p p' q q' : Checked Met) → Leads p p' → Leads q q' → Leads (and_also p q) (and_also p' q')
-and_also_leads p p' q q' g h = both_leads p p' q q' (λ _ _. fine met) (λ _ _. fine met) g (λ _ _. h) (λ _ _. (refl, tt))
-
--- the parts of what is fine are fine
-pub first_fine : {A B C : Type 0} (p : Checked A) (q : Checked B) (k : A → B → Checked C) (c : C) → both p q k ≡ fine c → (a : A) × (b : B) × (p ≡ fine a) × (q ≡ fine b) × (k a b ≡ fine c)
-first_fine (fine a) (fine b) k c e = (a, b, refl, refl, e)
-first_fine (fine a) (faulty f fs) k c e = cc
-first_fine (faulty f fs) q k c e = cc
-
-pub on_fine : {A B : Type 0} (r : Checked A) (k : A → Checked B) (b : B) → on r k ≡ fine b → (a : A) × (r ≡ fine a) × (k a ≡ fine b)
-on_fine (fine a) k b e = (a, refl, e)
-on_fine (faulty f fs) k b e = cc
-
-pub demand_met : {A : Type 0} (t : Bool) (code at : ℕ) (a b : A) → demand t code at a ≡ fine b → t ≡ true
-demand_met true code at a b e = refl
-demand_met false code at a b e = cc
-
-pub below_more : (n m k : ℕ) → m ≤ k → nat_lt n m ≡ true → nat_lt n k ≡ true
-below_more n m k h e = (Decides-ltb n k).1 (let below : n < m = (Decides-ltb n m).0 e in omega (arith, below, h))

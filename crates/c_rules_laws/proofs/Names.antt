@@ -16,6 +16,8 @@ use Rattle.c_rules.specs.Declarators.{free_name, new_name}
 use Rattle.c_rules.specs.Expressions.{value_at, callee_meant, callee_bound}
 use Rattle.c_rules_laws.specs.TypedAlike.{AreUnreserved, MeanAlike, More, plain_scope, instrumented_scope, TypedAlike, beside}
 use Rattle.c_rules_laws.proofs.Leads.{Leads, same_leads, on_leads, both_leads, gives_leads, demand_leads, and_also_leads, first_fine, demand_met, below_more}
+use Rattle.c_rules.proofs.ModeNames.{found_in, not_first, no_twin, no_null, among_front}
+pub use Rattle.c_rules.proofs.ModeNames.{given_same, unreserved, may_more, name_leads, given_leads}
 
 abbrev pub left : Env → Env
 left env = plain_scope env
@@ -23,36 +25,12 @@ left env = plain_scope env
 abbrev pub right : Env → More → Env
 right env w = instrumented_scope env w
 
-found_in : (t : Bool) (c : Binding) (x : Name) (rest : Option Binding) (b : Binding) → bytes_eq c.name x ≡ t → is_reserved c.name ≡ false → (rest ≡ Some b → is_reserved x ≡ false) → cond t (Some c) rest ≡ Some b → is_reserved x ≡ false
-found_in true c x rest b e u h k = subst (λ y. is_reserved y ≡ false) ((bytes_eq-Decides c.name x).0 e) u
-found_in false c x rest b e u h k = h k
-
 -- a name that is bound is not reserved
 pub found_plain : (bs : List Binding) (x : Name) → AreUnreserved bs → (b : Binding) → lookup bs x ≡ Some b → is_reserved x ≡ false
 found_plain [] x p b e = cc
 found_plain (c ∷ bs) x p b e = found_in (bytes_eq c.name x) c x (lookup bs x) b refl p.0 (found_plain bs x p.1 b) e
 
 -- ## Given names
-
-not_first : (t : Bool) (o : Option ℕ) → (t ≡ true → ⊥) → o ≡ None → (if t then Some 0 else option_map suc o) ≡ None
-not_first true o h k = absurd (h refl)
-not_first false o h k = ap (option_map suc) k
-
-no_twin : (y x : Name) → is_reserved y ≡ true → is_reserved x ≡ false → bytes_eq y x ≡ true → ⊥
-no_twin y x r u e = let same : y ≡ x = (bytes_eq-Decides y x).0 e in let k : is_reserved x ≡ true = subst (λ z. is_reserved z ≡ true) same r in let no : true ≡ false = sym k ∙ u in cc
-
-no_null : (x : Name) → is_reserved x ≡ false → number_among null_calls x ≡ None
-no_null x u =
-    not_first (bytes_eq (codes "__dyck_pre") x) (number_among (codes "__dyck_post" ∷ []) x) (no_twin (codes "__dyck_pre") x refl u)
-    (not_first (bytes_eq (codes "__dyck_post") x) None (no_twin (codes "__dyck_post") x refl u) refl)
-
-among_front : (xs ys : List Name) (x : Name) → number_among ys x ≡ None → number_among (xs ++ ys) x ≡ number_among xs x
-among_front [] ys x h = h
-among_front (z ∷ xs) ys x h = ap (λ o. if bytes_eq z x then Some 0 else option_map suc o) (among_front xs ys x h)
-
--- a name that isn't reserved is given in both modes or in none
-pub given_same : (x : Name) → is_reserved x ≡ false → number_among (given_names Instrumented) x ≡ number_among (given_names Plain) x
-given_same x u = among_front system_calls null_calls x (no_null x u)
 
 pub function_number_same : (env : Env) (w : More) (x : Name) → is_reserved x ≡ false → function_number (right env w) x ≡ function_number (left env) x
 function_number_same env w x u = ap (λ o. number_or (number_among env.whole.functions x) (given_number (left env) o)) (given_same x u)
@@ -117,26 +95,6 @@ pub named_callee_leads : (env : Env) (w : More) → AreUnreserved env.names → 
 named_callee_leads env w p m at place x = callee_bound_leads env w at place x (lookup env.names x) (lookup w.names x) (found_plain env.names x p, m x)
 
 -- ## Declared names
-
--- what may be declared in a plain unit is not reserved
-pub unreserved : (x : Name) → may_be_declared Plain x ≡ true → is_reserved x ≡ false
-unreserved x h = by_reserved (is_reserved x) h
-  where
-    by_reserved : (t : Bool) → (not t || false) ≡ true → t ≡ false
-    by_reserved true e = cc
-    by_reserved false e = refl
-
-pub may_more : (x : Name) → may_be_declared Plain x ≡ true → may_be_declared Instrumented x ≡ true
-may_more x h = rw (unreserved x h) refl
-
--- the demand on reserved names, and then others that agree where it is met
-pub name_leads : (x : Name) (at : ℕ) (q r : Checked Met) → (is_reserved x ≡ false → Leads q r) → Leads (and_also (demand (may_be_declared Plain x) C12 at met) q) (and_also (demand (may_be_declared Instrumented x) C12 at met) r)
-name_leads x at q r h =
-    both_leads (demand (may_be_declared Plain x) C12 at met) (demand (may_be_declared Instrumented x) C12 at met) q r (λ _ _. fine met) (λ _ _. fine met)
-    (demand_leads _ _ 12 at met (may_more x)) (λ a e. h (unreserved x (demand_met (may_be_declared Plain x) 12 at met a e))) (λ _ _. (refl, tt))
-
-pub given_leads : (x : Ident) → is_reserved x.name ≡ false → Leads (demand (not (is_among (given_names Plain) x.name)) C11 x.at met) (demand (not (is_among (given_names Instrumented) x.name)) C11 x.at met)
-given_leads x u = subst (λ o. Leads (demand (not (is_among (given_names Plain) x.name)) C11 x.at met) (demand (not (is_some o)) C11 x.at met)) (sym (given_same x.name u)) (same_leads _)
 
 pub free_name_leads : (env : Env) (w : More) (x : Ident) → Leads (free_name (left env) x) (free_name (right env w) x)
 free_name_leads env w x = name_leads x.name x.at _ _ (given_leads x)

@@ -23,9 +23,7 @@ use Rattle.c_rules_laws.specs.TypedAlike.{AreUnreserved, MeanAlike, More, TypedA
 use Rattle.c_rules_laws.specs.EnvironmentLaws.{PartsGiveTheSame}
 use Rattle.c_rules_laws.proofs.Leads.{Leads, same_leads, fine_leads, on_leads, both_leads, gives_leads, all_three_lead, first_fine}
 use Rattle.c_rules_laws.proofs.Names.{left, right, named_leads, site_leads, named_callee_leads, value_at_leads, new_name_leads, new_name_plain, named_beside}
-
-place_at_leads : (place : ℕ) (r s : Checked TypedExpression) → Leads r s → Leads (place_at place r) (place_at place s)
-place_at_leads place r s h = on_leads r s (assignable place) (assignable place) h (λ g _. same_leads (assignable place g))
+use Rattle.c_rules.proofs.ModeExpressions.{place_at_leads, unary_by, cast_leads}
 
 callee_leads : (env : Env) (w : More) → AreUnreserved env.names → MeanAlike env.names w.names → (at : ℕ) (b : Before) (d : Expr) → Leads (value_at (left env) (place_of d) (tree (left env) b d)) (value_at (right env w) (place_of d) (tree (right env w) b d))
     → Leads (callee (left env) at d (value_at (left env) (place_of d) (tree (left env) b d))) (callee (right env w) at d (value_at (right env w) (place_of d) (tree (right env w) b d)))
@@ -48,10 +46,6 @@ before_operand_leads env w at place pre_increment r s q t h k = on_leads (place_
 before_operand_leads env w at place pre_decrement r s q t h k = on_leads (place_at place r) (place_at place s) (step (left env) at Sub false) (step (right env w) at Sub false) (place_at_leads place r s h) (λ g _. same_leads (step (left env) at Sub false g))
 before_operand_leads env w at place sizeof r s q t h k = on_leads q t (size_of_expression (left env) at) (size_of_expression (right env w) at) k (λ g _. same_leads (size_of_expression (left env) at g))
 
-unary_by : (t : Bool) (a b c d : Checked TypedExpression) → Leads a b → Leads c d → Leads (if t then a else c) (if t then b else d)
-unary_by true a b c d h k = h
-unary_by false a b c d h k = k
-
 unary_leads : (env : Env) (w : More) (at place op : ℕ) (r s : Checked TypedExpression) → Leads r s → Leads (unary_rule (left env) at place op r) (unary_rule (right env w) at place op s)
 unary_leads env w at place op r s h =
     unary_by (nat_eq op AMPERSAND) (on r (address at place)) (on s (address at place)) (on (value_at (left env) place r) (unary_of_value at op)) (on (value_at (right env w) place s) (unary_of_value at op))
@@ -62,10 +56,6 @@ infix_leads : (env : Env) (w : More) (at : ℕ) (op : Infix) (a b : TypedExpress
 infix_leads env w at and a b = same_leads (infix_rule (left env) at and a b)
 infix_leads env w at or a b = same_leads (infix_rule (left env) at or a b)
 infix_leads env w at (operator code) a b = same_leads (infix_rule (left env) at (operator code) a b)
-
-cast_leads : (v : Bool) (at : ℕ) (t u : Checked CType) (r s : Checked TypedExpression) → Leads t u → Leads r s → Leads (cast_rule v at t r) (cast_rule v at u s)
-cast_leads true at t u r s h k = on_leads r s (null_cast at) (null_cast at) k (λ g _. same_leads (null_cast at g))
-cast_leads false at t u r s h k = both_leads t u r s (cast_of at) (cast_of at) h (λ _ _. k) (λ a g. same_leads (cast_of at a g))
 
 with_name_leads : (env : Env) (w : More) → MeanAlike env.names w.names → (n : Option Ident) (r s : Checked CType) → Leads r s → Leads (with_name_demands (left env) n r) (with_name_demands (right env w) n s)
 with_name_leads env w m None r s h = h

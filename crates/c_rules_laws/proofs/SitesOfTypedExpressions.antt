@@ -51,31 +51,31 @@ none_both xs ys e f = ap₂ (λ x y. x ++ y) e f
 
 -- ## Constants
 
-converted_const : (i : IntType) (c : Constant) → IsConst (constant_converted i c) → IsConst c
+pub converted_const : (i : IntType) (c : Constant) → IsConst (constant_converted i c) → IsConst c
 converted_const i not_constant h = h
 converted_const i undefined h = tt
 converted_const i (known x) h = tt
 
-unary_const : (o : UnOp) (c : Constant) → IsConst (constant_unary o c) → IsConst c
+pub unary_const : (o : UnOp) (c : Constant) → IsConst (constant_unary o c) → IsConst c
 unary_const o not_constant h = h
 unary_const o undefined h = tt
 unary_const o (known x) h = tt
 
-integer_const : (b : Bool) (c : Constant) → IsConst (integer_constant_if b c) → IsConst c
+pub integer_const : (b : Bool) (c : Constant) → IsConst (integer_constant_if b c) → IsConst c
 integer_const true c h = h
 integer_const false c h = absurd h
 
-decayed_const : (n : ℕ) (c : Constant) → IsConst (constant_decayed n c) → IsConst c
+pub decayed_const : (n : ℕ) (c : Constant) → IsConst (constant_decayed n c) → IsConst c
 decayed_const n not_constant h = h
 decayed_const n undefined h = tt
 decayed_const n (known x) h = tt
 
-member_const : (k n : ℕ) (c : Constant) → IsConst (constant_member k n c) → IsConst c
+pub member_const : (k n : ℕ) (c : Constant) → IsConst (constant_member k n c) → IsConst c
 member_const k n not_constant h = h
 member_const k n undefined h = tt
 member_const k n (known x) h = tt
 
-binary_const : (o : BinOp) (a b : Constant) → IsConst (constant_binary o a b) → IsConst a × IsConst b
+pub binary_const : (o : BinOp) (a b : Constant) → IsConst (constant_binary o a b) → IsConst a × IsConst b
 binary_const o not_constant b h = absurd h
 binary_const o undefined not_constant h = absurd h
 binary_const o undefined undefined h = (tt, tt)
@@ -84,7 +84,7 @@ binary_const o (known x) not_constant h = absurd h
 binary_const o (known x) undefined h = (tt, tt)
 binary_const o (known x) (known y) h = (tt, tt)
 
-and_const : (a b : Constant) → IsConst (constant_and a b) → IsConst a × IsConst b
+pub and_const : (a b : Constant) → IsConst (constant_and a b) → IsConst a × IsConst b
 and_const not_constant b h = absurd h
 and_const undefined not_constant h = absurd h
 and_const undefined undefined h = (tt, tt)
@@ -93,7 +93,7 @@ and_const (known x) not_constant h = absurd h
 and_const (known x) undefined h = (tt, tt)
 and_const (known x) (known y) h = (tt, tt)
 
-or_const : (a b : Constant) → IsConst (constant_or a b) → IsConst a × IsConst b
+pub or_const : (a b : Constant) → IsConst (constant_or a b) → IsConst a × IsConst b
 or_const not_constant b h = absurd h
 or_const undefined not_constant h = absurd h
 or_const undefined undefined h = (tt, tt)
@@ -102,7 +102,7 @@ or_const (known x) not_constant h = absurd h
 or_const (known x) undefined h = (tt, tt)
 or_const (known x) (known y) h = (tt, tt)
 
-conditional_const : (c a b : Constant) → IsConst (constant_conditional c a b) → IsConst c × IsConst a × IsConst b
+pub conditional_const : (c a b : Constant) → IsConst (constant_conditional c a b) → IsConst c × IsConst a × IsConst b
 conditional_const not_constant a b h = absurd h
 conditional_const undefined not_constant b h = absurd h
 conditional_const undefined undefined not_constant h = absurd h
@@ -119,7 +119,7 @@ conditional_const (known z) (known x) not_constant h = absurd h
 conditional_const (known z) (known x) undefined h = (tt, tt, tt)
 conditional_const (known z) (known x) (known y) h = (tt, tt, tt)
 
-moved_const : (c : Constant) (s : ℤ → ℤ) (k : Constant) → IsConst (constant_moved c s k) → IsConst c × IsConst k
+pub moved_const : (c : Constant) (s : ℤ → ℤ) (k : Constant) → IsConst (constant_moved c s k) → IsConst c × IsConst k
 moved_const not_constant s k h = absurd h
 moved_const undefined s not_constant h = absurd h
 moved_const undefined s undefined h = (tt, tt)
@@ -135,7 +135,7 @@ moved_const (known (v.At q)) s not_constant h = absurd h
 moved_const (known x) s undefined h = (tt, tt)
 moved_const (known x) s (known y) h = (tt, tt)
 
-zero_const : (c : Constant) → is_known_zero c ≡ true → IsConst c
+pub zero_const : (c : Constant) → is_known_zero c ≡ true → IsConst c
 zero_const not_constant h = absurd (cc)
 zero_const undefined h = tt
 zero_const (known x) h = tt
@@ -311,7 +311,7 @@ cast_of_sites at xs (array t n) g h = tt
 cast_of_sites at xs (struct s) g h = tt
 cast_of_sites at xs (function t ts) g h = tt
 
-and_right_test : (a b : Bool) → (a && b) ≡ true → b ≡ true
+pub and_right_test : (a b : Bool) → (a && b) ≡ true → b ≡ true
 and_right_test true b h = h
 and_right_test false b h = absurd (cc)
 

@@ -162,11 +162,11 @@ decl_span (decl at class s ps) env w b q e = parts_span ps env w b at class s q 
 
 -- ## Functions
 
-parameter_context : (env : Env) (k : ℕ) (o : Option Ident) (t : CType) → (with_parameter env k o t).context ≡ env.context
+pub parameter_context : (env : Env) (k : ℕ) (o : Option Ident) (t : CType) → (with_parameter env k o t).context ≡ env.context
 parameter_context env k None t = refl
 parameter_context env k (Some x) t = refl
 
-params_context : (ps : Params) (ts : CTypes) (env : Env) (k : ℕ) → (with_parameters env k ps ts).context ≡ env.context
+pub params_context : (ps : Params) (ts : CTypes) (env : Env) (k : ℕ) → (with_parameters env k ps ts).context ≡ env.context
 params_context no_params ts env k = refl
 params_context (more_params at s d ps) typed.no_types env k = refl
 params_context (more_params at s d ps) (typed.more_types t ts) env k = params_context ps ts (with_parameter env k (name_of d) t) (suc k) ∙ parameter_context env k (name_of d) t

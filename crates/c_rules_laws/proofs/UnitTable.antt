@@ -30,7 +30,7 @@ use Rattle.c_rules_laws.proofs.UnitItems.{begins_self, AreFunctions, AreStatics,
 
 -- ## Before all items
 
-none_defined : (n s : ℕ) (ts : List CType) → slice_get (map types_of_struct (replicate n incomplete)) s ≡ Some (Some ts) → ⊥
+pub none_defined : (n s : ℕ) (ts : List CType) → slice_get (map types_of_struct (replicate n incomplete)) s ≡ Some (Some ts) → ⊥
 none_defined zero s ts e = (let q : None ≡ Some (Some ts) = e in cc)
 none_defined (suc n) zero ts e = (let q : Some None ≡ Some (Some ts) = e in cc)
 none_defined (suc n) (suc s) ts e = none_defined n s ts e
@@ -46,7 +46,7 @@ nothing_sound n = record {
   few = λ s ts e. absurd (none_defined n s ts e);
 }
 
-no_binding : (x : Name) (b : Binding) → lookup [] x ≡ Some b → ⊥
+pub no_binding : (x : Name) (b : Binding) → lookup [] x ≡ Some b → ⊥
 no_binding x b e = (let q : None ≡ Some b = e in cc)
 
 before_right : (w : Whole) → IsFileRight (empty_env w)

@@ -128,7 +128,7 @@ spec_head (is_unsigned_int c w a v b) = consts_head c (worded w)
 spec_head (is_struct c w n a) = consts_head c (worded w)
 spec_head (is_enum c w n a) = consts_head c (worded w)
 
-lengthened_name : {d at : ℕ} {a e : Declarator} {j k : List Token} → Lengthens d at a e j k → HasName e → HasName a
+pub lengthened_name : {d at : ℕ} {a e : Declarator} {j k : List Token} → Lengthens d at a e j k → HasName e → HasName a
 lengthened_name no_more h = h
 lengthened_name (an_array o s c r) h = lengthened_name r h
 lengthened_name (a_function o s c r) h = lengthened_name r h

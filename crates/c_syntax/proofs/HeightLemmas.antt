@@ -9,7 +9,7 @@ use Rattle.c_syntax.specs.Tree.{Declarators, no_declarators, more_declarators, M
 use Rattle.c_syntax.specs.Limits.{height, height_of_exprs, height_of_maybe, height_of_type, height_of_declarator, height_of_params, height_of_init, height_of_inits, height_of_maybe_init, height_of_parts, height_of_decl, height_of_first, height_of_labels, height_of_stmt, height_of_block_items, height_of_stmts, height_of_groups, height_of_declarators, height_of_members, height_of_enumerators, height_of_item, height_of_unit}
 use Rattle.c_syntax.specs.Same.{unplaced, unplaced_exprs, unplaced_maybe, unplaced_type, unplaced_declarator, unplaced_params, unplaced_init, unplaced_inits, unplaced_maybe_init, unplaced_parts, unplaced_decl, unplaced_first, unplaced_labels, unplaced_stmt, unplaced_block_items, unplaced_stmts, unplaced_groups, unplaced_declarators, unplaced_members, unplaced_enumerators, unplaced_item, unplaced_unit, AreSame}
 
-both : {a b x y : ℕ} → a ≡ x → b ≡ y → max a b ≡ max x y
+pub both : {a b x y : ℕ} → a ≡ x → b ≡ y → max a b ≡ max x y
 both p q = cc
 
 mutual

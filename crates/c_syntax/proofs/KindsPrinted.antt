@@ -27,16 +27,16 @@ pub record Prints (f : List TokenKind → List TokenKind) : Type 0 where
 pub mark_kind : {op : ℕ} {t : Token} → Is op t → IsKind (Punct op)
 mark_kind {op} {t} g = subst IsKind g.kind t.given
 
-named_kind : {n : List ℕ} {t : Token} → IsNameToken n t → IsKind (Name n)
+pub named_kind : {n : List ℕ} {t : Token} → IsNameToken n t → IsKind (Name n)
 named_kind {n} {t} g = subst IsKind g.kind t.given
 
-int_kind : {n : ℕ} {u : Bool} {t : Token} → IsInt n u t → IsKind (Int n u)
+pub int_kind : {n : ℕ} {u : Bool} {t : Token} → IsInt n u t → IsKind (Int n u)
 int_kind {n} {u} {t} g = subst IsKind g.kind t.given
 
-char_kind : {c : ℤ} {t : Token} → IsChar c t → IsKind (Char c)
+pub char_kind : {c : ℤ} {t : Token} → IsChar c t → IsKind (Char c)
 char_kind {c} {t} g = subst IsKind g.kind t.given
 
-str_kind : {bytes : List ℕ} {t : Token} → IsStr bytes t → IsKind (Str bytes)
+pub str_kind : {bytes : List ℕ} {t : Token} → IsStr bytes t → IsKind (Str bytes)
 str_kind {bytes} {t} g = subst IsKind g.kind t.given
 
 pub name_kind : {x : Ident} {t : Token} → Names x t → IsKind (Name x.name)
@@ -46,7 +46,7 @@ pub wraps : (b : Bool) {f : List TokenKind → List TokenKind} → Prints f → 
 wraps true x = record { put = λ k h. x.put k h }
 wraps false x = record { put = λ k h. (lit< tt, x.put _ (lit< tt, h)) }
 
-strings_kind : {bytes : List ℕ} {i j : List Token} → ReadsStrings bytes i j → IsKind (Str bytes)
+pub strings_kind : {bytes : List ℕ} {i j : List Token} → ReadsStrings bytes i j → IsKind (Str bytes)
 strings_kind (last_string h) = str_kind h
 strings_kind (next_string {front = a} {rest = b} h r q) = subst (λ (x : List ℕ). IsKind (Str x)) (sym q) (All-append IsByte a b (str_kind h) (strings_kind r))
 
@@ -67,16 +67,16 @@ spec_prints (is_unsigned_int a g b x c) = record { put = λ k h. (lit< tt, (lit<
 spec_prints (is_struct a g n b) = record { put = λ k h. (lit< tt, (name_kind n, h)) }
 spec_prints (is_enum a g n b) = record { put = λ k h. (lit< tt, (name_kind n, h)) }
 
-prefix_is : (o : Prefix) → IsKind (prefix_kind o)
+pub prefix_is : (o : Prefix) → IsKind (prefix_kind o)
 prefix_is pre_increment = lit< tt
 prefix_is pre_decrement = lit< tt
 prefix_is sizeof = lit< tt
 
-postfix_is : (o : Postfix) → IsKind (postfix_kind o)
+pub postfix_is : (o : Postfix) → IsKind (postfix_kind o)
 postfix_is post_increment = lit< tt
 postfix_is post_decrement = lit< tt
 
-access_is : (o : Access) → IsKind (access_kind o)
+pub access_is : (o : Access) → IsKind (access_kind o)
 access_is dot = lit< tt
 access_is arrow = lit< tt
 

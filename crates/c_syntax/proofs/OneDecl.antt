@@ -16,7 +16,7 @@ use Rattle.c_syntax.proofs.Heads.{head, second, headed, worded, expression_head,
 use Rattle.c_syntax.proofs.One.{same, same_declarator, same_spec, same_storage, named_ends_spec, spec_ends_storage}
 
 -- the same phrase, read from an equal list
-moved_inits : {d : ℕ} {a : Inits} {i m j : List Token} → i ≡ m → ReadsInits d a m j → ReadsInits d a i j
+pub moved_inits : {d : ℕ} {a : Inits} {i m j : List Token} → i ≡ m → ReadsInits d a m j → ReadsInits d a i j
 moved_inits q r = rw q r
 
 pub moved_maybe_init : {d : ℕ} {v : MaybeInit} {i m j : List Token} → i ≡ m → ReadsMaybeInit d v m j → ReadsMaybeInit d v i j

@@ -20,24 +20,24 @@ use Rattle.c_syntax.proofs.One.{same, same_declarator, same_spec, named_ends_spe
 use Rattle.c_syntax.proofs.OneDecl.{moved_spec, EndsList, brace_ends, comma_ends, after_comma, Leads, same_leads, decl_leads, same_decl, decl_head, storage_head}
 use Rattle.c_syntax.proofs.OneStmt.{moved_block_items, same_block_items}
 
-moved_declarators : {d : ℕ} {a : Declarators} {i m j : List Token} → i ≡ m → ReadsDeclarators d a m j → ReadsDeclarators d a i j
+pub moved_declarators : {d : ℕ} {a : Declarators} {i m j : List Token} → i ≡ m → ReadsDeclarators d a m j → ReadsDeclarators d a i j
 moved_declarators q r = rw q r
 
-moved_members : {d : ℕ} {a : Members} {i m j : List Token} → i ≡ m → ReadsMembers d a m j → ReadsMembers d a i j
+pub moved_members : {d : ℕ} {a : Members} {i m j : List Token} → i ≡ m → ReadsMembers d a m j → ReadsMembers d a i j
 moved_members q r = rw q r
 
-moved_enumerators : {d : ℕ} {a : Enumerators} {i m j : List Token} → i ≡ m → ReadsEnumerators d a m j → ReadsEnumerators d a i j
+pub moved_enumerators : {d : ℕ} {a : Enumerators} {i m j : List Token} → i ≡ m → ReadsEnumerators d a m j → ReadsEnumerators d a i j
 moved_enumerators q r = rw q r
 
 -- declarators end at a semicolon
-record EndsDeclarators (j : List Token) : Type 0 where
-  semicolon : head j ≡ 22
-  ends : EndsDeclarator j
+pub record EndsDeclarators (j : List Token) : Type 0 where
+  pub semicolon : head j ≡ 22
+  pub ends : EndsDeclarator j
 
-semicolon_ends : {t : Token} {j : List Token} → Is SEMICOLON t → EndsDeclarators (t ∷ j)
+pub semicolon_ends : {t : Token} {j : List Token} → Is SEMICOLON t → EndsDeclarators (t ∷ j)
 semicolon_ends h = record { semicolon = headed h; ends = omega (arith, started h) }
 
-same_declarators : {d x : ℕ} {a b : Declarators} {i j k : List Token} → ReadsDeclarators d a i j → ReadsDeclarators x b i k → EndsDeclarators j → EndsDeclarators k → (a ≡ b) × (j ≡ k)
+pub same_declarators : {d x : ℕ} {a b : Declarators} {i j k : List Token} → ReadsDeclarators d a i j → ReadsDeclarators x b i k → EndsDeclarators j → EndsDeclarators k → (a ≡ b) × (j ≡ k)
 same_declarators (last_declarator r n) (last_declarator v m) s z = let y = same_declarator r v s.ends z.ends in (cc, y.1)
 same_declarators (last_declarator r n) (next_declarator v m c b) s z =
     let y = same_declarator r v s.ends (omega (arith, started c)) in absurd (omega (arith, ap head y.1, headed c, s.semicolon))
@@ -47,39 +47,39 @@ same_declarators (next_declarator r n h f) (next_declarator v m c b) s z =
     let y = same_declarator r v (omega (arith, started h)) (omega (arith, started c)) in
     let w = same_declarators f (moved_declarators (heads y.1).1 b) s z in (cc, w.1)
 
-declarators_end_spec : {d : ℕ} {a : Declarators} {i j : List Token} → ReadsDeclarators d a i j → EndsSpec i
+pub declarators_end_spec : {d : ℕ} {a : Declarators} {i j : List Token} → ReadsDeclarators d a i j → EndsSpec i
 declarators_end_spec (last_declarator r n) = named_ends_spec r n
 declarators_end_spec (next_declarator r n c b) = named_ends_spec r n
 
 -- one line of members: the specifiers, the declarators and the semicolon
-same_line : {d x : ℕ} {s z : Spec} {a b : Declarators} {t u : Token} {i j k m n : List Token} → ReadsSpec s i j → ReadsDeclarators d a j (t ∷ k) → Is SEMICOLON t →
+pub same_line : {d x : ℕ} {s z : Spec} {a b : Declarators} {t u : Token} {i j k m n : List Token} → ReadsSpec s i j → ReadsDeclarators d a j (t ∷ k) → Is SEMICOLON t →
     ReadsSpec z i m → ReadsDeclarators x b m (u ∷ n) → Is SEMICOLON u → (s ≡ z) × (a ≡ b) × (k ≡ n)
 same_line s f h z b c =
     let y = same_spec s z (declarators_end_spec f) (declarators_end_spec b) in
     let w = same_declarators f (moved_declarators y.1 b) (semicolon_ends h) (semicolon_ends c) in (y.0, w.0, (heads w.1).1)
 
-members_head : {d : ℕ} {a : Members} {i j : List Token} → ReadsMembers d a i j → head i ≡ 2
+pub members_head : {d : ℕ} {a : Members} {i j : List Token} → ReadsMembers d a i j → head i ≡ 2
 members_head (last_member p s f h) = spec_head s
 members_head (next_member p s f h g) = spec_head s
 
-same_members : {d x : ℕ} {a b : Members} {i j k : List Token} → ReadsMembers d a i j → ReadsMembers x b i k → head j ≡ 5 → head k ≡ 5 → (a ≡ b) × (j ≡ k)
+pub same_members : {d x : ℕ} {a b : Members} {i j k : List Token} → ReadsMembers d a i j → ReadsMembers x b i k → head j ≡ 5 → head k ≡ 5 → (a ≡ b) × (j ≡ k)
 same_members (last_member p s f h) (last_member q z b c) o e = let y = same_line s f h z b c in (cc, y.2)
 same_members (last_member p s f h) (next_member q z b c l) o e = let y = same_line s f h z b c in absurd (omega (arith, ap head y.2, members_head l))
 same_members (next_member p s f h g) (last_member q z b c) o e = let y = same_line s f h z b c in absurd (omega (arith, ap head y.2, members_head g))
 same_members (next_member p s f h g) (next_member q z b c l) o e =
     let y = same_line s f h z b c in let w = same_members g (moved_members y.2 l) o e in (cc, w.1)
 
-same_enumerator_value : {d x : ℕ} {a b : Maybe} {i j k : List Token} → ReadsEnumeratorValue d a i j → ReadsEnumeratorValue x b i k → 14 ≤ rank j → 14 ≤ rank k → (a ≡ b) × (j ≡ k)
+pub same_enumerator_value : {d x : ℕ} {a b : Maybe} {i j k : List Token} → ReadsEnumeratorValue d a i j → ReadsEnumeratorValue x b i k → 14 ≤ rank j → 14 ≤ rank k → (a ≡ b) × (j ≡ k)
 same_enumerator_value no_enumerator_value no_enumerator_value s z = (refl, refl)
 same_enumerator_value no_enumerator_value (an_enumerator_value o v) s z = absurd (omega (arith, ranked o))
 same_enumerator_value (an_enumerator_value h r) no_enumerator_value s z = absurd (omega (arith, ranked h))
 same_enumerator_value (an_enumerator_value h r) (an_enumerator_value o v) s z = let y = same r v (omega arith) (omega arith) in (cc, y.1)
 
-enumerators_head : {d : ℕ} {a : Enumerators} {i j : List Token} → ReadsEnumerators d a i j → head i ≡ 20
+pub enumerators_head : {d : ℕ} {a : Enumerators} {i j : List Token} → ReadsEnumerators d a i j → head i ≡ 20
 enumerators_head (last_enumerator n r) = name_head n
 enumerators_head (next_enumerator n r c b) = name_head n
 
-same_enumerators : {d x : ℕ} {a b : Enumerators} {i j k : List Token} → ReadsEnumerators d a i j → ReadsEnumerators x b i k → EndsList j → EndsList k → (a ≡ b) × (j ≡ k)
+pub same_enumerators : {d x : ℕ} {a b : Enumerators} {i j k : List Token} → ReadsEnumerators d a i j → ReadsEnumerators x b i k → EndsList j → EndsList k → (a ≡ b) × (j ≡ k)
 same_enumerators (last_enumerator n r) (last_enumerator m v) s z = let o = one_ident n m in let y = same_enumerator_value r v s.stops z.stops in (cc, y.1)
 same_enumerators (last_enumerator n r) (next_enumerator m v c b) s z =
     let y = same_enumerator_value r v s.stops (omega (arith, ranked c)) in absurd (omega (arith, after_comma y.1 s c, enumerators_head b))
@@ -90,7 +90,7 @@ same_enumerators (next_enumerator n r h f) (next_enumerator m v c b) s z =
     let y = same_enumerator_value r v (omega (arith, ranked h)) (omega (arith, ranked c)) in
     let w = same_enumerators f (moved_enumerators (heads y.1).1 b) s z in (cc, w.1)
 
-same_tag : {g h : Tag} {i j k : List Token} → ReadsTag g i j → ReadsTag h i k → head j ≡ 21 → head k ≡ 21 → (g ≡ h) × (j ≡ k)
+pub same_tag : {g h : Tag} {i j k : List Token} → ReadsTag g i j → ReadsTag h i k → head j ≡ 21 → head k ≡ 21 → (g ≡ h) × (j ≡ k)
 same_tag no_name no_name s z = (refl, refl)
 same_tag no_name (a_tag m) s z = absurd (omega (arith, name_head m))
 same_tag (a_tag n) no_name s z = absurd (omega (arith, name_head n))
@@ -114,27 +114,27 @@ defines {d} {st} {s} {e} {t} {i} {j} {k} {m} r z c n h = record {
 }
 
 -- a type that no name follows begins neither a declaration nor a definition
-no_name_after : {z : Spec} {i m : List Token} → ReadsSpec z i m → EndsSpec m → (head m ≡ 20 → ⊥) → Leads i → ⊥
+pub no_name_after : {z : Spec} {i m : List Token} → ReadsSpec z i m → EndsSpec m → (head m ≡ 20 → ⊥) → Leads i → ⊥
 no_name_after s z f a =
     let y = no_storage_at a.stands (spec_head s) in
     let w = same_spec s (moved_spec y a.specifies) z (named_ends_spec a.declares a.named) in
     f (ap head w.1 ∙ declarator_head a.declares a.named)
 
-struct_leads : {ident : Ident} {t n l : Token} {i : List Token} → IsKeyword STRUCT t → Names ident n → Is LEFT_BRACE l → Leads (t ∷ n ∷ l ∷ i) → ⊥
+pub struct_leads : {ident : Ident} {t n l : Token} {i : List Token} → IsKeyword STRUCT t → Names ident n → Is LEFT_BRACE l → Leads (t ∷ n ∷ l ∷ i) → ⊥
 struct_leads w n h a = no_name_after (is_struct no_const w n no_const) (omega (arith, started h)) (λ k. omega (arith, headed h)) a
 
-tag_leads : {ident : Ident} {t n u : Token} {i : List Token} → IsKeyword STRUCT t → Names ident n → Is SEMICOLON u → Leads (t ∷ n ∷ u ∷ i) → ⊥
+pub tag_leads : {ident : Ident} {t n u : Token} {i : List Token} → IsKeyword STRUCT t → Names ident n → Is SEMICOLON u → Leads (t ∷ n ∷ u ∷ i) → ⊥
 tag_leads w n h a = no_name_after (is_struct no_const w n no_const) (omega (arith, started h)) (λ k. omega (arith, headed h)) a
 
-moved_enum : {s : Spec} {t l : Token} {i j k : List Token} → t ∷ l ∷ i ≡ j → ReadsSpec s j k → ReadsSpec s (t ∷ l ∷ i) k
+pub moved_enum : {s : Spec} {t l : Token} {i j k : List Token} → t ∷ l ∷ i ≡ j → ReadsSpec s j k → ReadsSpec s (t ∷ l ∷ i) k
 moved_enum q r = rw q r
 
-enum_leads : {g : Tag} {t l : Token} {i j : List Token} → IsKeyword ENUM t → ReadsTag g i (l ∷ j) → Is LEFT_BRACE l → Leads (t ∷ i) → ⊥
+pub enum_leads : {g : Tag} {t l : Token} {i j : List Token} → IsKeyword ENUM t → ReadsTag g i (l ∷ j) → Is LEFT_BRACE l → Leads (t ∷ i) → ⊥
 enum_leads w no_name h a = no_bare_enum (moved_enum (no_storage_at a.stands (worded w)) a.specifies) w h
 enum_leads w (a_tag n) h a = no_name_after (is_enum no_const w n no_const) (omega (arith, started h)) (λ k. omega (arith, headed h)) a
 
 -- the inside of an enum
-same_enum : {d x : ℕ} {g h : Tag} {a b : Enumerators} {l m : Token} {i j k n o : List Token} → ReadsTag g i (l ∷ j) → Is LEFT_BRACE l → ReadsEnumerators d a j k → EndsList k →
+pub same_enum : {d x : ℕ} {g h : Tag} {a b : Enumerators} {l m : Token} {i j k n o : List Token} → ReadsTag g i (l ∷ j) → Is LEFT_BRACE l → ReadsEnumerators d a j k → EndsList k →
     ReadsTag h i (m ∷ n) → Is LEFT_BRACE m → ReadsEnumerators x b n o → EndsList o → (g ≡ h) × (a ≡ b) × (k ≡ o)
 same_enum r l f s v m b z =
     let y = same_tag r v (headed l) (headed m) in
@@ -184,7 +184,7 @@ declaration_case p r (an_item_declaration q v) = let y = same_decl r v in (cc, y
 declaration_case p r (a_definition q v s e m o b c) =
     let y = same_leads (decl_leads r).lead (defines v s e m o) in absurd ((decl_leads r).no_brace (ap head y.3 ∙ headed o))
 
-same_function : {at it : ℕ} {st su : Storage} {s z : Spec} {e f : Declarator} {a b : BlockItems} {t u : Token} → at ≡ it → st ≡ su → s ≡ z → e ≡ f → t ≡ u → a ≡ b →
+pub same_function : {at it : ℕ} {st su : Storage} {s z : Spec} {e f : Declarator} {a b : BlockItems} {t u : Token} → at ≡ it → st ≡ su → s ≡ z → e ≡ f → t ≡ u → a ≡ b →
     function_item at st s e (block t.from a) ≡ function_item it su z f (block u.from b)
 same_function {t = t} {u = u} p q r v h w = let y : t.from ≡ u.from = ap (λ (k : Token). k.from) h in cc
 

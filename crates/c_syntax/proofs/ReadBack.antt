@@ -19,7 +19,7 @@ use Rattle.c_syntax.proofs.HeightLemmas.{same_height}
 use Rattle.c_syntax.proofs.KindsAlike.{same_kinds}
 use Rattle.c_syntax.proofs.LexBack.{LexedBack, lexed_back}
 
-all_kinds : (ks : List TokenKind) → AreKinds ks → All IsKind ks
+pub all_kinds : (ks : List TokenKind) → AreKinds ks → All IsKind ks
 all_kinds [] h = λ i d below. absurd (omega arith)
 all_kinds (kind ∷ ks) h = All-cons IsKind kind ks h.0 (all_kinds ks h.1)
 

@@ -19,15 +19,15 @@ use Rattle.c_syntax.specs.Print.{Kinds, params_kinds, list_kinds, expr_kinds, op
 use Rattle.c_syntax.specs.Writes.{Leaves, Writes, exprs_of, params_of, left_params, head_params, declarator_in, declarator_behind, direct_kinds, typed_kinds}
 use Rattle.c_syntax.proofs.Writing.{all_written, on_ok_as, written_as}
 
-exprs_row : (n : _) (row : Row_of-Expr n) → exprs_of_row row ≡ exprs_of (items-the_row-Expr n row)
+pub exprs_row : (n : _) (row : Row_of-Expr n) → exprs_of_row row ≡ exprs_of (items-the_row-Expr n row)
 exprs_row n end_of-Expr = refl
 exprs_row n (more_of-Expr at kind rest) = ap (more_exprs (expr_at at kind)) (exprs_row _ rest)
 
-abbrev row_in : ExprKind → (n : Count) × Row_of-Expr n
+abbrev pub row_in : ExprKind → (n : Count) × Row_of-Expr n
 row_in (Comma' shape row) = (_, row)
 row_in _ = (_, end_of-Expr)
 
-exprs_in : (v : Vec Tree Global) → exprs_of_row (row_in (Comma v)).1 ≡ exprs_of v.items
+pub exprs_in : (v : Vec Tree Global) → exprs_of_row (row_in (Comma v)).1 ≡ exprs_of v.items
 exprs_in v = exprs_row (row_in (Comma v)).0 (row_in (Comma v)).1 ∙ ap exprs_of (items_hidden-the_row-Expr-1 v)
 
 -- the same operand
@@ -55,19 +55,19 @@ call_last r a b at f v es is =
     (expr_kinds (expr_at at (Call f v)))
     (λ k. ap (λ x. operand_kinds (expr_of f.value) (Punct LEFT_PARENTHESIS ∷ list_kinds x (Punct RIGHT_PARENTHESIS ∷ k))) (ap exprs_of is ∙ sym (exprs_in v)))
 
-params_row : (n : _) (row : Row_of-Param n) → params_of_row row ≡ params_of (items-the_row-Param n row)
+pub params_row : (n : _) (row : Row_of-Param n) → params_of_row row ≡ params_of (items-the_row-Param n row)
 params_row n end_of-Param = refl
 params_row n (more_of-Param p rest) = ap (param_before p) (params_row _ rest)
 
-abbrev params_row_in : DeclaratorKind → (n : Count) × Row_of-Param n
+abbrev pub params_row_in : DeclaratorKind → (n : Count) × Row_of-Param n
 params_row_in (Function' held shape row) = (_, row)
 params_row_in _ = (_, end_of-Param)
 
-params_in : (d : Option (Box DeclaratorTree Global)) (v : Vec ParamTree Global) → params_of_row (params_row_in (Function d v)).1 ≡ params_of v.items
+pub params_in : (d : Option (Box DeclaratorTree Global)) (v : Vec ParamTree Global) → params_of_row (params_row_in (Function d v)).1 ≡ params_of v.items
 params_in d v = params_row (params_row_in (Function d v)).0 (params_row_in (Function d v)).1 ∙ ap params_of (items_hidden-the_row-Param-0 v)
 
 -- what stands inside a declarator
-inner_is : (d : Option (Box DeclaratorTree Global)) → inner_declarator (back-DeclaratorKind-Pointer-0 d) ≡ declarator_behind d
+pub inner_is : (d : Option (Box DeclaratorTree Global)) → inner_declarator (back-DeclaratorKind-Pointer-0 d) ≡ declarator_behind d
 inner_is None = refl
 inner_is (Some b) = refl
 
@@ -91,11 +91,11 @@ type_is (TypeName' s Param-declarator-None' at) k = refl
 type_is (TypeName' s (Param-declarator-Some' p kind) at) k = refl
 
 -- parameters after the last one
-no_params_left : (first : Bool) (k : Kinds) → left_params first (params_of []) k ≡ k
+pub no_params_left : (first : Bool) (k : Kinds) → left_params first (params_of []) k ≡ k
 no_params_left true k = refl
 no_params_left false k = refl
 
-head_is_all : (ps : List ParamTree) → false ≡ (length ps == 0) → (k : Kinds) → head_params (params_of ps) k ≡ params_kinds (params_of ps) k
+pub head_is_all : (ps : List ParamTree) → false ≡ (length ps == 0) → (k : Kinds) → head_params (params_of ps) k ≡ params_kinds (params_of ps) k
 head_is_all [] some k = absurd (cc some)
 head_is_all (Param' s held at ∷ ps) some k = refl
 

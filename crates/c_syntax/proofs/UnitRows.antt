@@ -23,15 +23,15 @@ use Rattle.c_syntax.specs.Writes.{Writes}
 use Rattle.c_syntax.specs.WritesUnit.{inits_of, block_items_of, stmts_of, groups_of, worded_kinds}
 use Rattle.c_syntax.proofs.Writing.{on_ok_as}
 
-inits_row : (n : _) (row : Row_of-Init n) → inits_of_row row ≡ inits_of (items-the_row-Init n row)
+pub inits_row : (n : _) (row : Row_of-Init n) → inits_of_row row ≡ inits_of (items-the_row-Init n row)
 inits_row n end_of-Init = refl
 inits_row n (more_of-Init at kind rest) = ap (more_inits (init_at at kind)) (inits_row _ rest)
 
-abbrev inits_row_in : InitKind → (n : Count) × Row_of-Init n
+abbrev pub inits_row_in : InitKind → (n : Count) × Row_of-Init n
 inits_row_in (List' shape row) = (_, row)
 inits_row_in _ = (_, end_of-Init)
 
-inits_in : (v : Vec InitTree Global) → inits_of_row (inits_row_in (listed v)).1 ≡ inits_of v.items
+pub inits_in : (v : Vec InitTree Global) → inits_of_row (inits_row_in (listed v)).1 ≡ inits_of v.items
 inits_in v = inits_row (inits_row_in (listed v)).0 (inits_row_in (listed v)).1 ∙ ap inits_of (items_hidden-the_row-Init-0 v)
 
 -- a list of initialisers is the initialisers in braces
@@ -45,15 +45,15 @@ list_last r a b at v xs is =
     (init_kinds (init_at at (listed v)))
     (λ k. ap (λ x. Punct LEFT_BRACE ∷ inits_kinds x (Punct RIGHT_BRACE ∷ k)) (ap inits_of is ∙ sym (inits_in v)))
 
-block_items_row : (n : _) (row : Row_of-BlockItem n) → block_items_of_row row ≡ block_items_of (items-the_row-BlockItem n row)
+pub block_items_row : (n : _) (row : Row_of-BlockItem n) → block_items_of_row row ≡ block_items_of (items-the_row-BlockItem n row)
 block_items_row n end_of-BlockItem = refl
 block_items_row n (more_of-BlockItem x rest) = ap (block_item_before x) (block_items_row _ rest)
 
-abbrev block_items_row_in : StmtKind → (n : Count) × Row_of-BlockItem n
+abbrev pub block_items_row_in : StmtKind → (n : Count) × Row_of-BlockItem n
 block_items_row_in (Block' shape row) = (_, row)
 block_items_row_in _ = (_, end_of-BlockItem)
 
-block_items_in : (v : Vec BlockItem Global) → block_items_of_row (block_items_row_in (Block v)).1 ≡ block_items_of v.items
+pub block_items_in : (v : Vec BlockItem Global) → block_items_of_row (block_items_row_in (Block v)).1 ≡ block_items_of v.items
 block_items_in v = block_items_row (block_items_row_in (Block v)).0 (block_items_row_in (Block v)).1 ∙ ap block_items_of (items_hidden-the_row-BlockItem-0 v)
 
 -- a block is what stands in it, in braces
@@ -67,15 +67,15 @@ block_last r a b at v xs is =
     (stmt_kinds (stmt_at at (Block v)))
     (λ k. ap (λ x. Punct LEFT_BRACE ∷ block_items_kinds x (Punct RIGHT_BRACE ∷ k)) (ap block_items_of is ∙ sym (block_items_in v)))
 
-groups_row : (n : _) (row : Row_of-Group n) → groups_of_row row ≡ groups_of (items-the_row-Group n row)
+pub groups_row : (n : _) (row : Row_of-Group n) → groups_of_row row ≡ groups_of (items-the_row-Group n row)
 groups_row n end_of-Group = refl
 groups_row n (more_of-Group x rest) = ap (group_before x) (groups_row _ rest)
 
-abbrev groups_row_in : StmtKind → (n : Count) × Row_of-Group n
+abbrev pub groups_row_in : StmtKind → (n : Count) × Row_of-Group n
 groups_row_in (Switch' e shape row) = (_, row)
 groups_row_in _ = (_, end_of-Group)
 
-groups_in : (e : Tree) (v : Vec Group Global) → groups_of_row (groups_row_in (Switch e v)).1 ≡ groups_of v.items
+pub groups_in : (e : Tree) (v : Vec Group Global) → groups_of_row (groups_row_in (Switch e v)).1 ≡ groups_of v.items
 groups_in e v = groups_row (groups_row_in (Switch e v)).0 (groups_row_in (Switch e v)).1 ∙ ap groups_of (items_hidden-the_row-Group-1 v)
 
 -- a switch is its head, and the groups in braces
@@ -89,7 +89,7 @@ switch_last r a b at e v xs is =
     (stmt_kinds (stmt_at at (Switch e v)))
     (λ k. ap (λ x. worded_kinds SWITCH (expr_of e) (Punct LEFT_BRACE ∷ groups_kinds x (Punct RIGHT_BRACE ∷ k))) (ap groups_of is ∙ sym (groups_in e v)))
 
-stmts_row : (n : _) (row : Row_of-Stmt n) → stmts_of_row row ≡ stmts_of (items-the_row-Stmt n row)
+pub stmts_row : (n : _) (row : Row_of-Stmt n) → stmts_of_row row ≡ stmts_of (items-the_row-Stmt n row)
 stmts_row n end_of-Stmt = refl
 stmts_row n (more_of-Stmt at kind rest) = ap (more_stmts (stmt_at at kind)) (stmts_row _ rest)
 

@@ -19,22 +19,7 @@ use Rattle.c_syntax.specs.Statements.{ReadsItem, a_struct, an_enum, an_enum_with
 use Rattle.c_syntax.specs.Tokens.{IsNameToken, IsInt, IsChar, IsStr}
 use Rattle.c_syntax.proofs.KindsPrinted.{mark_kind, name_kind}
 use Rattle.c_syntax_laws.specs.Writable.{IsWritableSpec, IsWritable, AreWritable, IsWritableMaybe, IsWritableType, IsWritableDeclarator, AreWritableParams, IsWritableInit, AreWritableInits, IsWritableMaybeInit, AreWritableParts, IsWritableDecl, IsWritableFirst, AreWritableLabels, IsWritableStmt, AreWritableBlockItems, AreWritableStmts, AreWritableGroups, AreWritableDeclarators, AreWritableMembers, AreWritableEnumerators, IsWritableTag, IsWritableItem, AreWritableItems}
-
-named_kind : {n : List ℕ} {t : Token} → IsNameToken n t → IsKind (Name n)
-named_kind {n} {t} g = subst IsKind g.kind t.given
-
-int_kind : {n : ℕ} {u : Bool} {t : Token} → IsInt n u t → IsKind (Int n u)
-int_kind {n} {u} {t} g = subst IsKind g.kind t.given
-
-char_kind : {c : ℤ} {t : Token} → IsChar c t → IsKind (Char c)
-char_kind {c} {t} g = subst IsKind g.kind t.given
-
-str_kind : {bytes : List ℕ} {t : Token} → IsStr bytes t → IsKind (Str bytes)
-str_kind {bytes} {t} g = subst IsKind g.kind t.given
-
-strings_kind : {bytes : List ℕ} {i j : List Token} → ReadsStrings bytes i j → IsKind (Str bytes)
-strings_kind (last_string h) = str_kind h
-strings_kind (next_string {front = a} {rest = b} h r q) = subst (λ (x : List ℕ). IsKind (Str x)) (sym q) (All-append IsByte a b (str_kind h) (strings_kind r))
+use Rattle.c_syntax.proofs.KindsPrinted.{named_kind, int_kind, char_kind, str_kind, strings_kind}
 
 spec : {s : Spec} {i j : List Token} → ReadsSpec s i j → IsWritableSpec s
 spec (is_void a g b) = tt

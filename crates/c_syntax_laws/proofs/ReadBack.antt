@@ -11,10 +11,7 @@ use Rattle.c_syntax.proofs.LexBack.{LexedBack, lexed_back}
 use Rattle.c_syntax_laws.specs.Laws.{SpelledUnitsAreWritable, WritableUnitsAreReadBack}
 use Rattle.c_syntax_laws.proofs.Read as read
 use Rattle.c_syntax_laws.proofs.Written as written
-
-all_kinds : (ks : List TokenKind) → AreKinds ks → All IsKind ks
-all_kinds [] h = λ i d below. absurd (omega arith)
-all_kinds (kind ∷ ks) h = All-cons IsKind kind ks h.0 (all_kinds ks h.1)
+use Rattle.c_syntax.proofs.ReadBack.{all_kinds}
 
 pub spelled_writable : SpelledUnitsAreWritable
 spelled_writable u tokens m h = read.unit h.reads

@@ -11,6 +11,7 @@ use Rattle.c_syntax.specs.Tree.{Declarators, no_declarators, more_declarators, M
 use Rattle.c_syntax.specs.Print.{storage_kinds, spec_kinds, prefix_kind, postfix_kind, access_kind, is_bare, is_direct, expr_kinds, list_kinds, next_kinds, size_kinds, type_kinds, declarator_kinds, params_kinds, next_params, operand_kinds, maybe_kinds, init_kinds, inits_kinds, next_inits, maybe_init_kinds, next_parts, parts_kinds, decl_kinds, first_kinds, labels_kinds, head_kinds, stmt_kinds, block_items_kinds, stmts_kinds, groups_kinds, next_declarators, declarators_kinds, members_kinds, enumerator_value_kinds, next_enumerators, enumerators_kinds, tag_kinds, item_kinds, unit_kinds}
 use Rattle.c_syntax.proofs.KindsPrinted.{Prints, wraps}
 use Rattle.c_syntax_laws.specs.Writable.{IsWritableSpec, IsWritable, AreWritable, IsWritableMaybe, IsWritableType, IsWritableDeclarator, AreWritableParams, IsWritableInit, AreWritableInits, IsWritableMaybeInit, AreWritableParts, IsWritableDecl, IsWritableFirst, AreWritableLabels, IsWritableStmt, AreWritableBlockItems, AreWritableStmts, AreWritableGroups, AreWritableDeclarators, AreWritableMembers, AreWritableEnumerators, IsWritableTag, IsWritableItem, AreWritableItems}
+use Rattle.c_syntax.proofs.KindsPrinted.{prefix_is, postfix_is, access_is}
 
 storage : (s : Storage) → Prints (storage_kinds s)
 storage no_storage = record { put = λ k h. h }
@@ -25,19 +26,6 @@ spec int w = record { put = λ k h. (lit< tt, h) }
 spec unsigned_int w = record { put = λ k h. (lit< tt, (lit< tt, h)) }
 spec (struct x) w = record { put = λ k h. (lit< tt, (w, h)) }
 spec (enum x) w = record { put = λ k h. (lit< tt, (w, h)) }
-
-prefix_is : (o : Prefix) → IsKind (prefix_kind o)
-prefix_is pre_increment = lit< tt
-prefix_is pre_decrement = lit< tt
-prefix_is sizeof = lit< tt
-
-postfix_is : (o : Postfix) → IsKind (postfix_kind o)
-postfix_is post_increment = lit< tt
-postfix_is post_decrement = lit< tt
-
-access_is : (o : Access) → IsKind (access_kind o)
-access_is dot = lit< tt
-access_is arrow = lit< tt
 
 mutual
   expr : (e : Expr) → IsWritable e → Prints (expr_kinds e)

@@ -28,17 +28,8 @@ use Rattle.c_syntax.specs.Writes.{exprs_of, params_of, left_params, head_params,
 use Rattle.c_syntax.specs.WritesUnit.{inits_of, block_items_of, groups_of, worded_kinds}
 use Rattle.c_syntax_lengths.specs.Counted.{Leaves, Counts}
 use Rattle.c_syntax_lengths.proofs.Counting.{all_counted, counted_as}
-
-exprs_row : (n : _) (row : Row_of-Expr n) → exprs_of_row row ≡ exprs_of (items-the_row-Expr n row)
-exprs_row n end_of-Expr = refl
-exprs_row n (more_of-Expr at kind rest) = ap (more_exprs (expr_at at kind)) (exprs_row _ rest)
-
-abbrev row_in : ExprKind → (n : Count) × Row_of-Expr n
-row_in (Comma' shape row) = (_, row)
-row_in _ = (_, end_of-Expr)
-
-exprs_in : (v : Vec Tree Global) → exprs_of_row (row_in (Comma v)).1 ≡ exprs_of v.items
-exprs_in v = exprs_row (row_in (Comma v)).0 (row_in (Comma v)).1 ∙ ap exprs_of (items_hidden-the_row-Expr-1 v)
+use Rattle.c_syntax.proofs.Rows.{exprs_row, row_in, inner_is, params_row, params_row_in, params_in, exprs_in, no_params_left, head_is_all}
+use Rattle.c_syntax.proofs.UnitRows.{inits_row, inits_row_in, inits_in, block_items_row, block_items_row_in, block_items_in, groups_row, groups_row_in, groups_in}
 
 -- the same operand
 pub operand_is : {a b : ℕ} (x y : Tree) → x ≡ y → Counts a (operand_kinds (expr_of x)) b → Counts a (operand_kinds (expr_of y)) b
@@ -55,22 +46,6 @@ pub call_is :
 call_is at f v es is k =
     ap (λ x. operand_kinds (expr_of f.value) (Punct LEFT_PARENTHESIS ∷ list_kinds x (Punct RIGHT_PARENTHESIS ∷ k))) (ap exprs_of is ∙ sym (exprs_in v))
 
-params_row : (n : _) (row : Row_of-Param n) → params_of_row row ≡ params_of (items-the_row-Param n row)
-params_row n end_of-Param = refl
-params_row n (more_of-Param p rest) = ap (param_before p) (params_row _ rest)
-
-abbrev params_row_in : DeclaratorKind → (n : Count) × Row_of-Param n
-params_row_in (Function' held shape row) = (_, row)
-params_row_in _ = (_, end_of-Param)
-
-params_in : (d : Option (Box DeclaratorTree Global)) (v : Vec ParamTree Global) → params_of_row (params_row_in (Function d v)).1 ≡ params_of v.items
-params_in d v = params_row (params_row_in (Function d v)).0 (params_row_in (Function d v)).1 ∙ ap params_of (items_hidden-the_row-Param-0 v)
-
--- what stands inside a declarator
-inner_is : (d : Option (Box DeclaratorTree Global)) → inner_declarator (back-DeclaratorKind-Pointer-0 d) ≡ declarator_behind d
-inner_is None = refl
-inner_is (Some b) = refl
-
 -- a function is what stands inside, and the parameters in parentheses
 pub function_is :
     (at : ℕ) (d : Option (Box DeclaratorTree Global)) (v : Vec ParamTree Global) (ps : List ParamTree) → ps ≡ v.items → (k : Kinds)
@@ -79,61 +54,19 @@ function_is at d v ps is k =
     ap (λ x. direct_kinds x (Punct LEFT_PARENTHESIS ∷ params_kinds (params_of ps) (Punct RIGHT_PARENTHESIS ∷ k))) (sym (inner_is d))
     ∙ ap (λ x. direct_kinds (inner_declarator (back-DeclaratorKind-Pointer-0 d)) (Punct LEFT_PARENTHESIS ∷ params_kinds x (Punct RIGHT_PARENTHESIS ∷ k))) (ap params_of is ∙ sym (params_in d v))
 
--- parameters after the last one
-no_params_left : (first : Bool) (k : Kinds) → left_params first (params_of []) k ≡ k
-no_params_left true k = refl
-no_params_left false k = refl
-
-head_is_all : (ps : List ParamTree) → false ≡ (length ps == 0) → (k : Kinds) → head_params (params_of ps) k ≡ params_kinds (params_of ps) k
-head_is_all [] some k = absurd (cc some)
-head_is_all (Param' s held at ∷ ps) some k = refl
-
 pub params_counted :
     (ps : List ParamTree) (i : ℕ) (first : Bool) (a b : ℕ) → false ≡ (length ps == 0) → length ps ≤ i
     → Leaves a (head_params (params_of ps)) b (left_params first (params_of (drop i ps))) → Counts a (params_kinds (params_of ps)) b
 params_counted ps i first a b some past x =
     counted_as (params_kinds (params_of ps)) (head_is_all ps some) (all_counted (λ xs. left_params first (params_of xs)) (no_params_left first) ps i past x)
 
-inits_row : (n : _) (row : Row_of-Init n) → inits_of_row row ≡ inits_of (items-the_row-Init n row)
-inits_row n end_of-Init = refl
-inits_row n (more_of-Init at kind rest) = ap (more_inits (init_at at kind)) (inits_row _ rest)
-
-abbrev inits_row_in : InitKind → (n : Count) × Row_of-Init n
-inits_row_in (List' shape row) = (_, row)
-inits_row_in _ = (_, end_of-Init)
-
-inits_in : (v : Vec InitTree Global) → inits_of_row (inits_row_in (listed v)).1 ≡ inits_of v.items
-inits_in v = inits_row (inits_row_in (listed v)).0 (inits_row_in (listed v)).1 ∙ ap inits_of (items_hidden-the_row-Init-0 v)
-
 -- a list of initialisers is what stands in it, in braces
 pub list_is : (at : ℕ) (v : Vec InitTree Global) (xs : List InitTree) → xs ≡ v.items → (k : Kinds) → (Punct LEFT_BRACE ∷ inits_kinds (inits_of xs) (Punct RIGHT_BRACE ∷ k)) ≡ init_kinds (init_at at (listed v)) k
 list_is at v xs is k = ap (λ x. Punct LEFT_BRACE ∷ inits_kinds x (Punct RIGHT_BRACE ∷ k)) (ap inits_of is ∙ sym (inits_in v))
 
-block_items_row : (n : _) (row : Row_of-BlockItem n) → block_items_of_row row ≡ block_items_of (items-the_row-BlockItem n row)
-block_items_row n end_of-BlockItem = refl
-block_items_row n (more_of-BlockItem x rest) = ap (block_item_before x) (block_items_row _ rest)
-
-abbrev block_items_row_in : StmtKind → (n : Count) × Row_of-BlockItem n
-block_items_row_in (Block' shape row) = (_, row)
-block_items_row_in _ = (_, end_of-BlockItem)
-
-block_items_in : (v : Vec BlockItem Global) → block_items_of_row (block_items_row_in (Block v)).1 ≡ block_items_of v.items
-block_items_in v = block_items_row (block_items_row_in (Block v)).0 (block_items_row_in (Block v)).1 ∙ ap block_items_of (items_hidden-the_row-BlockItem-0 v)
-
 -- a block is what stands in it, in braces
 pub block_is : (at : ℕ) (v : Vec BlockItem Global) (xs : List BlockItem) → xs ≡ v.items → (k : Kinds) → (Punct LEFT_BRACE ∷ block_items_kinds (block_items_of xs) (Punct RIGHT_BRACE ∷ k)) ≡ stmt_kinds (stmt_at at (Block v)) k
 block_is at v xs is k = ap (λ x. Punct LEFT_BRACE ∷ block_items_kinds x (Punct RIGHT_BRACE ∷ k)) (ap block_items_of is ∙ sym (block_items_in v))
-
-groups_row : (n : _) (row : Row_of-Group n) → groups_of_row row ≡ groups_of (items-the_row-Group n row)
-groups_row n end_of-Group = refl
-groups_row n (more_of-Group x rest) = ap (group_before x) (groups_row _ rest)
-
-abbrev groups_row_in : StmtKind → (n : Count) × Row_of-Group n
-groups_row_in (Switch' e shape row) = (_, row)
-groups_row_in _ = (_, end_of-Group)
-
-groups_in : (e : Tree) (v : Vec Group Global) → groups_of_row (groups_row_in (Switch e v)).1 ≡ groups_of v.items
-groups_in e v = groups_row (groups_row_in (Switch e v)).0 (groups_row_in (Switch e v)).1 ∙ ap groups_of (items_hidden-the_row-Group-1 v)
 
 -- a switch is its head, and the groups in braces
 pub switch_is :

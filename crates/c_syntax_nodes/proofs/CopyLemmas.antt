@@ -124,7 +124,7 @@ inits_are (i ∷ is) = ap (more_inits (init_of i)) (inits_are is)
 pub same_inits : (is js : List InitTree) → map init_of is ≡ map init_of js → inits_of is ≡ inits_of js
 same_inits is js q = sym (inits_are is) ∙ (ap inits_from q ∙ inits_are js)
 
-abbrev part_then : Parts → Parts → Parts
+abbrev pub part_then : Parts → Parts → Parts
 part_then no_parts rest = rest
 part_then (more_parts d m more) rest = more_parts d m rest
 

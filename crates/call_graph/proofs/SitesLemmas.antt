@@ -18,7 +18,7 @@ use Rattle.call_graph.proofs.Members.{contains-cons, contains-here, contains-cas
 use Rattle.call_graph.proofs.ReachingLemmas.{range_from}
 
 -- the sites of calls that are mentioned
-abbrev sites_in : List Mention → List ℕ
+abbrev pub sites_in : List Mention → List ℕ
 sites_in [] = []
 sites_in (Named f ∷ ms) = sites_in ms
 sites_in (Calls s callee ∷ ms) = s ∷ sites_in ms
@@ -63,7 +63,7 @@ mutual
   in_exprs no_exprs = refl
   in_exprs (more_exprs e es) = both (mentions e) (mentions_of_all es) (sites_of e) (sites_of_all es) (in_expr e) (in_exprs es)
 
-in_maybe : (e : Maybe) → sites_in (mentions_of_maybe e) ≡ sites_of_maybe e
+pub in_maybe : (e : Maybe) → sites_in (mentions_of_maybe e) ≡ sites_of_maybe e
 in_maybe absent = refl
 in_maybe (there e) = in_expr e
 
@@ -103,7 +103,7 @@ in_functions [] = refl
 in_functions (f ∷ fs) = both (mentions_of_function f) (flat_map mentions_of_function fs) (sites_of_function f) (flat_map sites_of_function fs) (in_stmt f.body) (in_functions fs)
 
 -- cells have no calls
-in_cell : (x : Value) → sites_in (mention_of_cell x) ≡ []
+pub in_cell : (x : Value) → sites_in (mention_of_cell x) ≡ []
 in_cell (v.Func f) = refl
 in_cell _ = refl
 

@@ -17,16 +17,10 @@ use Rattle.c_syntax.specs.View.{expr_at, expr_of, exprs_of_row}
 use Rattle.c_syntax.specs.UnitView.{init_at, inits_of_row, stmt_at, block_items_of_row, block_item_before, groups_of_row, group_before, stmts_of_row, labels_of}
 use Rattle.c_syntax.specs.Writes.{exprs_of}
 use Rattle.c_syntax.specs.WritesUnit.{inits_of, block_items_of, stmts_of, groups_of}
+use Rattle.c_syntax.proofs.Rows.{exprs_row, row_in}
+use Rattle.c_syntax.proofs.UnitRows.{inits_row, inits_row_in, inits_in, block_items_row, block_items_row_in, block_items_in, groups_row, groups_row_in, stmts_row}
 
 -- ## Expressions
-
-exprs_row : (n : _) (row : Row_of-Expr n) → exprs_of_row row ≡ exprs_of (items-the_row-Expr n row)
-exprs_row n end_of-Expr = refl
-exprs_row n (more_of-Expr at kind rest) = ap (more_exprs (expr_at at kind)) (exprs_row _ rest)
-
-abbrev row_in : ExprKind → (n : Count) × Row_of-Expr n
-row_in (Comma' shape row) = (_, row)
-row_in _ = (_, end_of-Expr)
 
 exprs_in : (v : Vec ExprTree Global) → exprs_of_row (row_in (Comma v)).1 ≡ exprs_of v.items
 exprs_in v = exprs_row (row_in (Comma v)).0 (row_in (Comma v)).1 ∙ ap exprs_of (items_hidden-the_row-Expr-1 v)
@@ -39,53 +33,19 @@ call_is at d v = ap (call at (expr_of d.value)) (exprs_in v)
 
 -- ## Initialisers
 
-inits_row : (n : _) (row : Row_of-Init n) → inits_of_row row ≡ inits_of (items-the_row-Init n row)
-inits_row n end_of-Init = refl
-inits_row n (more_of-Init at kind rest) = ap (more_inits (init_at at kind)) (inits_row _ rest)
-
-abbrev inits_row_in : InitKind → (n : Count) × Row_of-Init n
-inits_row_in (List' shape row) = (_, row)
-inits_row_in _ = (_, end_of-Init)
-
-inits_in : (v : Vec InitTree Global) → inits_of_row (inits_row_in (listed v)).1 ≡ inits_of v.items
-inits_in v = inits_row (inits_row_in (listed v)).0 (inits_row_in (listed v)).1 ∙ ap inits_of (items_hidden-the_row-Init-0 v)
-
 pub list_is : (at : ℕ) (v : Vec InitTree Global) → init_at at (listed v) ≡ list at (inits_of v.items)
 list_is at v = ap (list at) (inits_in v)
 
 -- ## Statements
 
-block_items_row : (n : _) (row : Row_of-BlockItem n) → block_items_of_row row ≡ block_items_of (items-the_row-BlockItem n row)
-block_items_row n end_of-BlockItem = refl
-block_items_row n (more_of-BlockItem x rest) = ap (block_item_before x) (block_items_row _ rest)
-
-abbrev block_items_row_in : StmtKind → (n : Count) × Row_of-BlockItem n
-block_items_row_in (Block' shape row) = (_, row)
-block_items_row_in _ = (_, end_of-BlockItem)
-
-block_items_in : (v : Vec BlockItem Global) → block_items_of_row (block_items_row_in (Block v)).1 ≡ block_items_of v.items
-block_items_in v = block_items_row (block_items_row_in (Block v)).0 (block_items_row_in (Block v)).1 ∙ ap block_items_of (items_hidden-the_row-BlockItem-0 v)
-
 pub block_is : (at : ℕ) (v : Vec BlockItem Global) → stmt_at at (Block v) ≡ block at (block_items_of v.items)
 block_is at v = ap (block at) (block_items_in v)
-
-groups_row : (n : _) (row : Row_of-Group n) → groups_of_row row ≡ groups_of (items-the_row-Group n row)
-groups_row n end_of-Group = refl
-groups_row n (more_of-Group x rest) = ap (group_before x) (groups_row _ rest)
-
-abbrev groups_row_in : StmtKind → (n : Count) × Row_of-Group n
-groups_row_in (Switch' e shape row) = (_, row)
-groups_row_in _ = (_, end_of-Group)
 
 groups_in : (e : ExprTree) (v : Vec Group Global) → groups_of_row (groups_row_in (Switch e v)).1 ≡ groups_of v.items
 groups_in e v = groups_row (groups_row_in (Switch e v)).0 (groups_row_in (Switch e v)).1 ∙ ap groups_of (items_hidden-the_row-Group-1 v)
 
 pub switch_is : (at : ℕ) (e : ExprTree) (v : Vec Group Global) → stmt_at at (Switch e v) ≡ switch_on at (expr_of e) (groups_of v.items)
 switch_is at e v = ap (switch_on at (expr_of e)) (groups_in e v)
-
-stmts_row : (n : _) (row : Row_of-Stmt n) → stmts_of_row row ≡ stmts_of (items-the_row-Stmt n row)
-stmts_row n end_of-Stmt = refl
-stmts_row n (more_of-Stmt at kind rest) = ap (more_stmts (stmt_at at kind)) (stmts_row _ rest)
 
 pub group_is : (g : Group) (rest : Groups) → group_before g rest ≡ more_groups (labels_of (out-Group g).labels.items) (stmts_of (out-Group g).body.items) rest
 unfolding out-Group denote.Hole.Carrier.out

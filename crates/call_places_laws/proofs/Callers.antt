@@ -29,6 +29,8 @@ use Rattle.call_places.specs.CallPlaces.{CallPlace, called_in, declared_name, ca
 use Rattle.call_places.specs.Places.{places_of_stmt}
 use Rattle.call_places_laws.specs.AreSites.{caller_of, callers_of_function, callers_of_program, AreSitesOf}
 use Rattle.call_places_laws.proofs.Counted.{stmt_counted, block_counted}
+use Rattle.c_rules_laws.proofs.Spans.{parameter_context, params_context}
+use Rattle.c_rules_laws.proofs.UnitShape.{output_same}
 
 -- ## Lists
 
@@ -56,9 +58,6 @@ callers_long [] = refl
 callers_long (c ∷ cs) = ap suc (callers_long cs)
 
 -- ## Items that define no function
-
-output_same : (p q : Output) → fine p ≡ fine q → p ≡ q
-output_same p q e = cc
 
 nothing : (q : Output) → fine no_output ≡ fine q → q.functions ≡ []
 nothing q e = sym (ap (λ z. z.functions) (output_same no_output q e))
@@ -101,15 +100,6 @@ declared_is (syntax.named at x) = refl
 declared_is (syntax.pointer at d) = declared_is d
 declared_is (syntax.array at d size) = declared_is d
 declared_is (syntax.function at d ps) = declared_is d
-
-parameter_context : (env : Env) (k : ℕ) (o : Option Ident) (t : CType) → (with_parameter env k o t).context ≡ env.context
-parameter_context env k None t = refl
-parameter_context env k (Some x) t = refl
-
-params_context : (ps : Params) (ts : CTypes) (env : Env) (k : ℕ) → (with_parameters env k ps ts).context ≡ env.context
-params_context no_params ts env k = refl
-params_context (more_params at s d ps) typed.no_types env k = refl
-params_context (more_params at s d ps) (typed.more_types t ts) env k = params_context ps ts (with_parameter env k (name_of d) t) (suc k) ∙ parameter_context env k (name_of d) t
 
 -- a definition gives a function of its name with as many sites as calls stand in its body
 function_callers : (env : Env) → env.context ≡ evaluated → (b : Before) (place : ℕ) (d : Declarator) (x : Ident) (is : BlockItems) (u : CType) (f : Function) → defined_as env b place d x is u ≡ fine f → (f.name ≡ x.name) × (length (sites_of_function f) ≡ calls_of_block is)

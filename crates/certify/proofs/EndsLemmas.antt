@@ -10,11 +10,11 @@ use Rattle.certify_steps.proofs.AddingLemmas.{has_more, has_none}
 use Rattle.certify.specs.contracts.ends.ActivationPartialEq.TheImpl.{eq-value as activation_eq}
 use Rattle.certify.specs.declared.ends.Activation.{Activation}
 
-both_true : (a b : Bool) → (a && b) ≡ true → (a ≡ true) × (b ≡ true)
+pub both_true : (a b : Bool) → (a && b) ≡ true → (a ≡ true) × (b ≡ true)
 both_true true b e = (refl, e)
 both_true false b e = absurd cc
 
-both_hold : (a b : Bool) → a ≡ true → b ≡ true → (a && b) ≡ true
+pub both_hold : (a b : Bool) → a ≡ true → b ≡ true → (a && b) ≡ true
 both_hold true b p q = q
 both_hold false b p q = absurd cc
 

@@ -5,14 +5,7 @@ use Rattle.std.proofs.lemmas.List.Elements.{Contains-append_left, Contains-push,
 use Rattle.certify_making.specs.contracts.notes.KeyPartialEq.TheImpl.{eq-value as key_eq}
 use Rattle.certify_making.specs.declared.notes.Key.{Key}
 use Rattle.certify_making.specs.declared.notes.Key.TheVariants.{Exits, Links}
-
-both_true : (a b : Bool) → (a && b) ≡ true → (a ≡ true) × (b ≡ true)
-both_true true b e = (refl, e)
-both_true false b e = absurd cc
-
-both_hold : (a b : Bool) → a ≡ true → b ≡ true → (a && b) ≡ true
-both_hold true b p q = q
-both_hold false b p q = absurd cc
+use Rattle.certify.proofs.EndsLemmas.{both_true, both_hold}
 
 key_exact : (x y : Key) → key_eq.it x y ≡ true → x ≡ y
 key_exact (Exits i f) (Exits i' f') e =

@@ -27,17 +27,7 @@ use Rattle.expected_events.specs.declared.called.Called.{Called}
 use Rattle.expected_events.specs.Kept.{IsKeptNext}
 use Rattle.expected_events.specs.Next.{Next, IsNext, MayCall, MayStand}
 use Rattle.expected_events.proofs.EventsLemmas.{some_event}
-
--- null calls are left out of a trace before an event that is none
-fit_erased : (t : List Event) (x : ℕ) (p : List (Option ℤ)) (e : Event) → Fits x p e → erase (t ++ e ∷ []) ≡ erase t ++ e ∷ []
-fit_erased t x p (Sys name arguments outcome) fits = erase-append t (Sys name arguments outcome ∷ [])
-fit_erased t x p (Pre site) fits = absurd fits
-fit_erased t x p (Post site) fits = absurd fits
-
-call_erased : (t : List Event) (x : ℕ) (e : Event) → IsCall x e → erase (t ++ e ∷ []) ≡ erase t ++ e ∷ []
-call_erased t x (Sys name arguments outcome) call = erase-append t (Sys name arguments outcome ∷ [])
-call_erased t x (Pre site) call = absurd call
-call_erased t x (Post site) call = absurd call
+use Rattle.report.proofs.LastCalls.{fit_erased, call_erased}
 
 -- an event has one name
 call_name : (x name : ℕ) (p : List (Option ℤ)) (e : Event) → IsCall x e → Fits name p e → name ≡ x

@@ -13,13 +13,9 @@ use Rattle.c_tree.specs.Program.{IsProgram}
 use Rattle.c_tree.specs.Sites.{sites_of, sites_of_all, sites_of_maybe, sites_of_inits, sites_of_stmt, sites_of_stmts, sites_of_groups, sites_of_function, sites_of_program}
 use Rattle.c_shapes.specs.Mentions.{Callee, Through, Mention, Named, Calls, mentions, mentions_of_all, mentions_of_maybe, mentions_of_inits, mentions_of_stmt, mentions_of_stmts, mentions_of_groups, mentions_of_function, mention_of_cell, mentions_of_static, mentions_of_program}
 use Rattle.c_shapes.specs.CallGraph.{callee_at}
-
-is_later : {X : Type 0} (x : X) (xs : List X) (z : X) → Contains xs z → Contains (x ∷ xs) z
-is_later x xs z (k, lt, is) = (suc k, omega arith, is)
-
-cases : {X : Type 0} (x : X) (xs : List X) (z : X) → Contains (x ∷ xs) z → (x ≡ z) ⊎ Contains xs z
-cases x xs z (zero, lt, is) = inl is
-cases x xs z (suc k, lt, is) = inr (k, omega arith, is)
+use Rattle.call_graph.proofs.SitesLemmas.{sites_in, in_maybe, in_cell}
+use Rattle.flow_graph_laws.proofs.Edges.{is_later}
+use Rattle.flow_graph_laws.proofs.SortedLemmas.{cases}
 
 none_in : {X : Type 0} (z : X) → Contains [] z → ⊥
 none_in z h = omega (arith, h.1)
@@ -34,12 +30,6 @@ other_number a b h = by (nat_eq a b) refl
 from_range : (a n z : ℕ) → Contains (range_with_len a n) z → (a ≤ z) × (z < a + n)
 from_range a zero z h = absurd (none_in z h)
 from_range a (suc n) z h = elim (cases a (range_with_len (a + 1) n) z h) as (λ k. (a ≤ z) × (z < a + suc n)) [ inl is ↦ (omega (arith, is), omega (arith, is)) | inr k ↦ (let r = from_range (a + 1) n z k in (omega (arith, r.0), omega (arith, r.1))) ]
-
--- the sites of the calls among what is mentioned
-abbrev sites_in : List Mention → List ℕ
-sites_in [] = []
-sites_in (Named f ∷ ms) = sites_in ms
-sites_in (Calls s callee ∷ ms) = s ∷ sites_in ms
 
 sites_append : (xs ys : List Mention) → sites_in (xs ++ ys) ≡ sites_in xs ++ sites_in ys
 sites_append [] ys = refl
@@ -82,10 +72,6 @@ mutual
   in_exprs no_exprs = refl
   in_exprs (more_exprs e es) = both (mentions e) (mentions_of_all es) (sites_of e) (sites_of_all es) (in_expr e) (in_exprs es)
 
-in_maybe : (e : Maybe) → sites_in (mentions_of_maybe e) ≡ sites_of_maybe e
-in_maybe absent = refl
-in_maybe (there e) = in_expr e
-
 in_inits : (is : Inits) → sites_in (mentions_of_inits is) ≡ sites_of_inits is
 in_inits no_inits = refl
 in_inits (more_inits cell e is) = both (mentions e) (mentions_of_inits is) (sites_of e) (sites_of_inits is) (in_expr e) (in_inits is)
@@ -119,10 +105,6 @@ mutual
 in_functions : (fs : List Function) → sites_in (flat_map mentions_of_function fs) ≡ flat_map sites_of_function fs
 in_functions [] = refl
 in_functions (f ∷ fs) = both (mentions_of_function f) (flat_map mentions_of_function fs) (sites_of_function f) (flat_map sites_of_function fs) (in_stmt f.body) (in_functions fs)
-
-in_cell : (x : Value) → sites_in (mention_of_cell x) ≡ []
-in_cell (v.Func f) = refl
-in_cell _ = refl
 
 in_cells : (xs : List Value) → sites_in (flat_map mention_of_cell xs) ≡ []
 in_cells [] = refl

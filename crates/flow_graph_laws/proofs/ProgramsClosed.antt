@@ -32,10 +32,10 @@ and_right : (a b : Bool) → (a && b) ≡ true → b ≡ true
 and_right true b h = h
 and_right false b h = cc
 
-below : (a b : ℕ) → nat_lt a b ≡ true → a < b
+pub below : (a b : ℕ) → nat_lt a b ≡ true → a < b
 below a b h = (Decides-ltb a b).0 h
 
-is_below : (a b : ℕ) → a < b → nat_lt a b ≡ true
+pub is_below : (a b : ℕ) → a < b → nat_lt a b ≡ true
 is_below a b h = (Decides-ltb a b).1 h
 
 -- a filter keeps what passes
@@ -85,7 +85,7 @@ from_range : (a n z : ℕ) → Contains (range_with_len a n) z → (a ≤ z) × 
 from_range a zero z h = absurd (omega (arith, h.1))
 from_range a (suc n) z h = elim (cases a (range_with_len (a + 1) n) z h) as (λ k. (a ≤ z) × (z < a + suc n)) [ inl is ↦ (omega (arith, is), omega (arith, is)) | inr k ↦ (let r = from_range (a + 1) n z k in (omega (arith, r.0), omega (arith, r.1))) ]
 
-first_or_later : (a z : ℕ) → a ≤ z → (a ≡ z) ⊎ (a + 1 ≤ z)
+pub first_or_later : (a z : ℕ) → a ≤ z → (a ≡ z) ⊎ (a + 1 ≤ z)
 first_or_later zero zero le = inl refl
 first_or_later zero (suc z) le = inr (omega arith)
 first_or_later (suc a) zero le = absurd (omega (arith, le))
@@ -100,7 +100,7 @@ from_map f [] y h = absurd (omega (arith, h.1))
 from_map f (x ∷ xs) y (zero, lt, is) = (x, (0, omega arith, refl), is)
 from_map f (x ∷ xs) y (suc k, lt, is) = let r = from_map f xs y (k, omega arith, is) in (r.0, is_later x xs r.0 r.1, r.2)
 
-length_map : {X Y : Type 0} (f : X → Y) (xs : List X) → length (map f xs) ≡ length xs
+pub length_map : {X Y : Type 0} (f : X → Y) (xs : List X) → length (map f xs) ≡ length xs
 length_map f [] = refl
 length_map f (x ∷ xs) = let k = length_map f xs in omega (arith, k)
 

@@ -12,11 +12,9 @@ use Rattle.dm_base.specs.Name.{IsDigit, IsLetter, IsName, keywords}
 use Rattle.sys_table.specs.Table.{table}
 use Rattle.c_rules.specs.Names.{Name, number_among, system_calls}
 use Rattle.generated_program.specs.Generator.{function_name}
+pub use Rattle.c_rules_laws.proofs.DistinctNames.{itself}
 
 -- ## Comparing names
-
-pub itself : (x : Name) → bytes_eq x x ≡ true
-itself x = (bytes_eq-Decides x x).1 refl
 
 other : (y x : Name) → (y ≡ x → ⊥) → bytes_eq y x ≡ false
 other y x unlike = false_from_ne_true (bytes_eq y x) (λ t. unlike ((bytes_eq-Decides y x).0 t))

@@ -56,7 +56,7 @@ reads_front Callgraph g k t (entry, exit, a, has, walk) =
     (entry, exit, f.0, has, subst (λ (u : List Event). Walk g entry u f.0) (sym e.1) f.1)
 
 -- no first part is deeper than the whole
-depth_front : (k : ℕ) (t : List Event) → depth (take k t) ≤ depth t
+pub depth_front : (k : ℕ) (t : List Event) → depth (take k t) ≤ depth t
 depth_front zero t = omega arith
 depth_front (suc k) [] = omega arith
 depth_front (suc k) (Sys x xs r ∷ t) = depth_front k t

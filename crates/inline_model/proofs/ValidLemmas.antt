@@ -28,6 +28,7 @@ use Rattle.inline_model_laws.specs.Inlined.HasInlinedSys.{copied as copied_sys}
 use Rattle.inline_model_laws.proofs.Basics.{entry_is}
 use Rattle.inline_model_laws.proofs.InlinedLemmas.{has_copy, node_of}
 use Rattle.inline_model_laws.proofs.Rising.{cons_cases, pairs_nil, pairs_cons}
+use Rattle.inline_model_laws.proofs.Rising.{all_from}
 
 -- a model that keeps the rules breaks none
 rises_apart : {X : Type 0} {order : X → X → Ordering} → IsTotalOrder order → (x y : X) → order x y ≡ Less → x ≡ y → ⊥
@@ -52,10 +53,6 @@ none_broken g k valid (broken_edges is entries exits names not_so) = not_so vali
 none_broken g k valid (broken_functions is entries exits names edges not_so) = not_so valid.functions
 none_broken g k valid (broken_repeats is entries exits names edges functions not_so) = not_so (no_repeats g valid.order)
 none_broken g k valid (broken_patterns is entries exits names edges functions repeats not_so) = not_so valid.patterns
-
--- what each item of a list has, all have
-all_from : {X : Type 0} (P : X → Type 0) (xs : List X) → ((z : X) → Contains xs z → P z) → All P xs
-all_from P xs f k d lt = f (slice_index_or xs k d) (Contains-get_or xs k d lt)
 
 -- a list of one function
 one_only : (P : ModelFunction → Type 0) (only : ModelFunction) → P only → All P (only ∷ [])

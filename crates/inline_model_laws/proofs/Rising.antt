@@ -21,7 +21,7 @@ is_first x xs = (0, omega arith, refl)
 pub is_later : {X : Type 0} (x : X) (xs : List X) (z : X) → Contains xs z → Contains (x ∷ xs) z
 is_later x xs z (k, lt, is) = (suc k, omega arith, is)
 
-all_from : {X : Type 0} (P : X → Type 0) (xs : List X) → ((z : X) → Contains xs z → P z) → All P xs
+pub all_from : {X : Type 0} (P : X → Type 0) (xs : List X) → ((z : X) → Contains xs z → P z) → All P xs
 all_from P xs f k d lt = f (slice_index_or xs k d) (Contains-get_or xs k d lt)
 
 of_all : {X : Type 0} (P : X → Type 0) (xs : List X) → All P xs → (z : X) → Contains xs z → P z

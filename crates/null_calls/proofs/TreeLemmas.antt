@@ -25,6 +25,8 @@ use Rattle.null_calls_rules.specs.MarkedCalls.{Sites}
 use Rattle.null_calls_rules.specs.InstrumentedStatements as marks
 use Rattle.null_calls.specs.Parts.{part_of, item_of, group_of}
 use Rattle.null_calls.proofs.Turns.{onto}
+use Rattle.c_syntax.proofs.UnitRows.{stmts_row}
+use Rattle.c_syntax_nodes.proofs.CopyLemmas.{part_then}
 
 -- ## Lists as they are seen
 
@@ -65,10 +67,6 @@ items_seen [] = refl
 items_seen (x ∷ xs) = ap (more_items (item_at x.at x.kind)) (items_seen xs)
 
 -- ## One part of a list
-
-abbrev part_then : Parts → Parts → Parts
-part_then no_parts rest = rest
-part_then (more_parts d m more) rest = more_parts d m rest
 
 module _ (sites : Sites) (b n : ℕ) where
   pub init_tree : (x y : InitTree) (xs : List InitTree) → n ≡ b + calls_of_init (init_of x) → init_of y ≡ marks.init sites b (init_of x)
@@ -189,10 +187,6 @@ pub by_count : {A : Type 0} (f : A → ℕ) (x y : A) (old new : ℕ) → x ≡ 
 by_count f x y old new is h = h ∙ ap (λ z. old + f z) (sym is)
 
 -- ## Groups that are made
-
-stmts_row : (n : _) (row : Row_of-Stmt n) → stmts_of_row row ≡ stmts_of (items-the_row-Stmt n row)
-stmts_row n end_of-Stmt = refl
-stmts_row n (more_of-Stmt at kind rest) = ap (more_stmts (stmt_at at kind)) (stmts_row _ rest)
 
 abbrev row_in : Group → (n : Count) × Row_of-Stmt n
 row_in (Group' labels shape row) = (_, row)

@@ -27,7 +27,7 @@ names_strings : (at site i : ℕ) (es : Exprs) → strings_of_all (kept_argument
 names_strings at site i no_exprs = refl
 names_strings at site i (more_exprs e es) = names_strings at site (suc i) es
 
-names_calls : (at site i : ℕ) (es : Exprs) → calls_of_all (kept_arguments at site i es) ≡ 0
+pub names_calls : (at site i : ℕ) (es : Exprs) → calls_of_all (kept_arguments at site i es) ≡ 0
 names_calls at site i no_exprs = refl
 names_calls at site i (more_exprs e es) = (let r = names_calls at site (suc i) es in omega (arith, r))
 

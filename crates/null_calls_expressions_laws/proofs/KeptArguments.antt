@@ -27,6 +27,7 @@ use Rattle.null_calls_expressions_laws.specs.Follow.{types_of, AllGo}
 use Rattle.null_calls_expressions_laws.proofs.Forms.{types_both, found_first, found_rest, value_goes}
 use Rattle.null_calls_expressions_laws.specs.KeptArguments.{NearBy, ArgumentsAreKept, KeptArgumentsGo}
 use Rattle.null_calls_expressions_laws.proofs.AddedParts.{temporaries_are_set}
+pub use Rattle.c_rules_laws.proofs.Holding.{first_fine}
 
 -- what may be assigned to has a scalar type
 pub scalar_fits : (t : CType) (g : TypedExpression) → fits t g ≡ true → IsScalar t
@@ -44,11 +45,6 @@ scalar_value env at (pointer t) e h = refl
 scalar_value env at (array t n) e h = absurd h
 scalar_value env at (struct s) e h = absurd h
 scalar_value env at (function t ts) e h = absurd h
-
-pub first_fine : {A B C : Type 0} (p : Checked A) (q : Checked B) (k : A → B → Checked C) (c : C) → both p q k ≡ fine c → (a : A) × (b : B) × (p ≡ fine a) × (q ≡ fine b) × (k a b ≡ fine c)
-first_fine (fine a) (fine b) k c e = (a, b, refl, refl, e)
-first_fine (fine a) (faulty f fs) k c e = absurd (cc)
-first_fine (faulty f fs) q k c e = absurd (cc)
 
 pub and_left : (a b : Bool) → (a && b) ≡ true → a ≡ true
 and_left true b h = refl

@@ -14,19 +14,11 @@ use Rattle.c_rules_laws.specs.TypedAlike.{plain_scope, instrumented_scope, More}
 use Rattle.c_rules_laws.proofs.Leads.{Leads}
 use Rattle.null_calls_expressions_laws.specs.Remade.{inner_of, with_inner, remade, Follows}
 use Rattle.null_calls_counts_laws.specs.Counts.{Near}
-
--- what is fine has the property
-abbrev pub Holds : {A : Type 0} → (A → Type 0) → Checked A → Type 0
-Holds P (fine a) = P a
-Holds P (faulty f fs) = Unit {0}
+pub use Rattle.c_rules.proofs.Below.{Holds, demand_holds}
 
 pub after_part : {A B : Type 0} (Q : B → Type 0) (r : Checked A) (k : A → Checked B) → ((a : A) → Holds Q (k a)) → Holds Q (on r k)
 after_part Q (fine a) k h = h a
 after_part Q (faulty f fs) k h = tt
-
-pub demand_holds : {A : Type 0} (P : A → Type 0) (t : Bool) (code at : ℕ) (a : A) → P a → Holds P (demand t code at a)
-demand_holds P true code at a h = h
-demand_holds P false code at a h = tt
 
 same_inner : (f : Form) → with_inner f (inner_of f) ≡ f
 same_inner (a_value e) = refl

@@ -15,6 +15,7 @@ use Rattle.c_rules.specs.Expressions.{declared, size_in, parameters, type_named}
 use Rattle.null_calls_rules.specs.InstrumentedExpressions.{is_void_type}
 use Rattle.null_calls_expressions_laws.specs.Tabled.{IsAbstract}
 use Rattle.null_calls_expressions_laws.proofs.Leaves.{Holds}
+use Rattle.c_rules.proofs.Below.{on_holds}
 
 -- no void
 abbrev pub IsThing : CType → Type 0
@@ -24,10 +25,6 @@ IsThing (typed.pointer t) = Unit {0}
 IsThing (typed.array t n) = Unit {0}
 IsThing (typed.struct s) = Unit {0}
 IsThing (typed.function t ts) = Unit {0}
-
-on_holds : {A B : Type 0} (P : A → Type 0) (Q : B → Type 0) (r : Checked A) (k : A → Checked B) → Holds P r → ((a : A) → P a → Holds Q (k a)) → Holds Q (on r k)
-on_holds P Q (fine a) k h t = t a h
-on_holds P Q (faulty f fs) k h t = tt
 
 any : {A : Type 0} (r : Checked A) → Holds (λ a. Unit {0}) r
 any (fine a) = tt

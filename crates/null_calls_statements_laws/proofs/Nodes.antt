@@ -14,11 +14,9 @@ use Rattle.null_calls_rules.specs.WithoutSites.{unsited, unsited_maybe, unsited_
 use Rattle.null_calls_statements_laws.specs.Heads.{TreeFollows, MaybeFollows, OperandFollows, StmtFollows}
 use Rattle.null_calls_statements_laws.specs.Declarations.{StatementTreeFollow}
 use Rattle.null_calls_statements_laws.specs.Statements.{StatementTreeFollows, GroupsFollow}
+pub use Rattle.c_rules.proofs.ModeBlocks.{both_gives}
 
 -- ## What parts that are fine give
-
-pub both_gives : {A B C : Type 0} (p : Checked A) (q : Checked B) (k : A → B → Checked C) (a : A) (b : B) → p ≡ fine a → q ≡ fine b → both p q k ≡ k a b
-both_gives p q k a b g h = ap (λ x. both x q k) g ∙ ap (λ y. both (fine a) y k) h
 
 pub three_give : {A B C D : Type 0} (p : Checked A) (q : Checked B) (r : Checked C) (k : A → B → C → Checked D) (a : A) (b : B) (c : C) → p ≡ fine a → q ≡ fine b → r ≡ fine c → all_three p q r k ≡ k a b c
 three_give p q r k a b c g h i = both_gives p (beside q r) (λ x t. k x t.first t.second) a (record { first = b; second = c }) g (both_gives q r (λ x y. fine (record { first = x; second = y })) b c h i)

@@ -26,12 +26,8 @@ use Rattle.c_rules.specs.BinaryExpressions.{shifted, compared_integers, sum_of, 
 use Rattle.c_rules.specs.Assignments.{assignment, operator_of_assignment, moves, right_type, update_of, assignment_by, one_for, step, trees_of, comma_of}
 use Rattle.c_rules_laws.proofs.Holding.{Holds, demand_holds, behind_demand, after_part, if_holds}
 use Rattle.c_rules_laws.proofs.MadeTypes.{number_is}
-
--- constant by its form
-abbrev pub IsConst : Constant → Type 0
-IsConst not_constant = ⊥
-IsConst undefined = Unit {0}
-IsConst (known x) = Unit {0}
+use Rattle.c_rules_laws.proofs.SitesOfTypedExpressions.{converted_const, unary_const, integer_const, decayed_const, member_const, binary_const, and_const, or_const, conditional_const, moved_const, zero_const, and_right_test}
+pub use Rattle.c_rules_laws.proofs.SitesOfTypedExpressions.{IsConst}
 
 -- the sites in the tree, of which a constant has none
 abbrev pub SitesAre : List Mention → TypedExpression → Type 0
@@ -52,95 +48,6 @@ pub none_both : (xs ys : List Mention) → xs ≡ [] → ys ≡ [] → xs ++ ys 
 none_both xs ys e f = ap₂ (λ x y. x ++ y) e f
 
 -- ## Constants
-
-converted_const : (i : IntType) (c : Constant) → IsConst (constant_converted i c) → IsConst c
-converted_const i not_constant h = h
-converted_const i undefined h = tt
-converted_const i (known x) h = tt
-
-unary_const : (o : UnOp) (c : Constant) → IsConst (constant_unary o c) → IsConst c
-unary_const o not_constant h = h
-unary_const o undefined h = tt
-unary_const o (known x) h = tt
-
-integer_const : (b : Bool) (c : Constant) → IsConst (integer_constant_if b c) → IsConst c
-integer_const true c h = h
-integer_const false c h = absurd h
-
-decayed_const : (n : ℕ) (c : Constant) → IsConst (constant_decayed n c) → IsConst c
-decayed_const n not_constant h = h
-decayed_const n undefined h = tt
-decayed_const n (known x) h = tt
-
-member_const : (k n : ℕ) (c : Constant) → IsConst (constant_member k n c) → IsConst c
-member_const k n not_constant h = h
-member_const k n undefined h = tt
-member_const k n (known x) h = tt
-
-binary_const : (o : BinOp) (a b : Constant) → IsConst (constant_binary o a b) → IsConst a × IsConst b
-binary_const o not_constant b h = absurd h
-binary_const o undefined not_constant h = absurd h
-binary_const o undefined undefined h = (tt, tt)
-binary_const o undefined (known y) h = (tt, tt)
-binary_const o (known x) not_constant h = absurd h
-binary_const o (known x) undefined h = (tt, tt)
-binary_const o (known x) (known y) h = (tt, tt)
-
-and_const : (a b : Constant) → IsConst (constant_and a b) → IsConst a × IsConst b
-and_const not_constant b h = absurd h
-and_const undefined not_constant h = absurd h
-and_const undefined undefined h = (tt, tt)
-and_const undefined (known y) h = (tt, tt)
-and_const (known x) not_constant h = absurd h
-and_const (known x) undefined h = (tt, tt)
-and_const (known x) (known y) h = (tt, tt)
-
-or_const : (a b : Constant) → IsConst (constant_or a b) → IsConst a × IsConst b
-or_const not_constant b h = absurd h
-or_const undefined not_constant h = absurd h
-or_const undefined undefined h = (tt, tt)
-or_const undefined (known y) h = (tt, tt)
-or_const (known x) not_constant h = absurd h
-or_const (known x) undefined h = (tt, tt)
-or_const (known x) (known y) h = (tt, tt)
-
-conditional_const : (c a b : Constant) → IsConst (constant_conditional c a b) → IsConst c × IsConst a × IsConst b
-conditional_const not_constant a b h = absurd h
-conditional_const undefined not_constant b h = absurd h
-conditional_const undefined undefined not_constant h = absurd h
-conditional_const undefined undefined undefined h = (tt, tt, tt)
-conditional_const undefined undefined (known y) h = (tt, tt, tt)
-conditional_const undefined (known x) not_constant h = absurd h
-conditional_const undefined (known x) undefined h = (tt, tt, tt)
-conditional_const undefined (known x) (known y) h = (tt, tt, tt)
-conditional_const (known z) not_constant b h = absurd h
-conditional_const (known z) undefined not_constant h = absurd h
-conditional_const (known z) undefined undefined h = (tt, tt, tt)
-conditional_const (known z) undefined (known y) h = (tt, tt, tt)
-conditional_const (known z) (known x) not_constant h = absurd h
-conditional_const (known z) (known x) undefined h = (tt, tt, tt)
-conditional_const (known z) (known x) (known y) h = (tt, tt, tt)
-
-moved_const : (c : Constant) (s : ℤ → ℤ) (k : Constant) → IsConst (constant_moved c s k) → IsConst c × IsConst k
-moved_const not_constant s k h = absurd h
-moved_const undefined s not_constant h = absurd h
-moved_const undefined s undefined h = (tt, tt)
-moved_const undefined s (known y) h = (tt, tt)
-moved_const (known v.Indeterminate) s not_constant h = absurd h
-moved_const (known (v.Int z)) s not_constant h = absurd h
-moved_const (known (v.Uint n)) s not_constant h = absurd h
-moved_const (known (v.Char z)) s not_constant h = absurd h
-moved_const (known (v.Uchar n)) s not_constant h = absurd h
-moved_const (known v.Null) s not_constant h = absurd h
-moved_const (known (v.Func f)) s not_constant h = absurd h
-moved_const (known (v.At q)) s not_constant h = absurd h
-moved_const (known x) s undefined h = (tt, tt)
-moved_const (known x) s (known y) h = (tt, tt)
-
-zero_const : (c : Constant) → is_known_zero c ≡ true → IsConst c
-zero_const not_constant h = absurd (cc)
-zero_const undefined h = tt
-zero_const (known x) h = tt
 
 -- ## Conversions
 
@@ -317,10 +224,6 @@ cast_of_sites at xs (pointer t) g h = tt
 cast_of_sites at xs (array t n) g h = tt
 cast_of_sites at xs (struct s) g h = tt
 cast_of_sites at xs (function t ts) g h = tt
-
-and_right_test : (a b : Bool) → (a && b) ≡ true → b ≡ true
-and_right_test true b h = h
-and_right_test false b h = absurd (cc)
 
 pub null_cast_sites : (at : ℕ) (xs : List Mention) (g : TypedExpression) → SitesAre xs g → Holds (SitesAre xs) (null_cast at g)
 null_cast_sites at xs g h = demand_holds (SitesAre xs) (is_integer g.ctype && is_null g) 3 at (null_of (pointer void)) (λ e. null_sites xs (pointer void) g (and_right_test (is_integer g.ctype) (is_null g) e) h)

@@ -29,6 +29,7 @@ use Rattle.null_calls_units_laws.specs.FileScopes.{HasNullCalls, FilesBeside, fi
 use Rattle.null_calls_units_laws.proofs.FileNames.{scopes_of, named_files, here_same, function_declared_leads, function_files}
 use Rattle.null_calls_units_laws.proofs.ItemInitialisers.{both_to, weaken, always, moved, held_same, static_init_leads}
 use Rattle.null_calls_units_laws.proofs.Silent.{static_silent, static_alone}
+use Rattle.c_rules.proofs.ModeItems.{one_more_leads, global_fine}
 
 -- ## Structs
 
@@ -96,10 +97,6 @@ enumerator_value_leads : (e f : Env) → FilesBeside e f → (r s : Checked ℤ)
 enumerator_value_leads e f w r s h x absent = on_leads r s (int_value x.at) (int_value x.at) h (λ z _. same_leads (int_value x.at z))
 enumerator_value_leads e f w r s h x (there y) =
     on_leads _ _ _ _ (on_leads (folded_value e y) (folded_value f y) (constant_value (place_of y)) (constant_value (place_of y)) (folded_leads e f w y) (λ g _. same_leads (constant_value (place_of y) g))) (λ v _. same_leads _)
-
-one_more_leads : (r s : Checked ℤ) → Leads r s → Leads (one_more_than r) (one_more_than s)
-one_more_leads (fine z) s h = (ap one_more_than h.0, tt)
-one_more_leads (faulty f fs) s h = tt
 
 enumerators_lead : (e f : Env) → FilesBeside e f → (r s : Checked ℤ) → Leads r s → (es : Enumerators) → LeadsTo (FilesBeside (behind_enumerators e r es) (behind_enumerators f s es)) (enumerators e r es) (enumerators f s es)
 enumerators_lead e f w r s h no_enumerators = (refl, w)
@@ -188,10 +185,6 @@ global_leads e f (files_beside env more p q l) true b n at s c x m =
     let h : Leads r z = global_declared_leads _ _ (files_beside env more p q l) true b n at s c x m in
     on_leads r z (definition_of (within_global (left env) true x r) b m) (definition_of (within_global (right env more) true x z) (at_site b n) m) h
     (λ o g. static_leads (within_global (left env) true x r) (within_global (right env more) true x z) (seen_files env more p q l true x r z o h g (global_plain env true b at s c x m o g)) b n m o)
-
-global_fine : (e : Env) (d : Bool) (b : Before) (x : Ident) (m : MaybeInit) (r : Checked Object) (c : Output) → global e d b x m r ≡ fine c → (o : Object) × (r ≡ fine o)
-global_fine e false b x m r c g = let k = on_fine r (λ _. fine no_output) c g in (k.0, k.1)
-global_fine e true b x m r c g = let k = on_fine r (definition_of (within_global e true x r) b m) c g in (k.0, k.1)
 
 -- what a definition says of its calls
 global_silent : (e f : Env) → FilesBeside e f → (b : Before) (at : ℕ) (s : Spec) (d : Declarator) (x : Ident) (m : MaybeInit) (c : Output) → global e true b x m (global_declared e true b at s d x m) ≡ fine c → calls_of_maybe_init m ≡ 0

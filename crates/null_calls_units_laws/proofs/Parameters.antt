@@ -16,6 +16,8 @@ use Rattle.c_rules_laws.proofs.Names.{left, right, new_name_plain}
 use Rattle.c_rules_laws.proofs.Parts.{behind_beside, type_declared_leads}
 use Rattle.null_calls_units_laws.specs.FileScopes.{HasNullCalls, FilesBeside, files_beside}
 use Rattle.null_calls_units_laws.proofs.FileNames.{scopes_of, named_files}
+use Rattle.c_rules.proofs.ModeFunctions.{PlainName}
+pub use Rattle.c_rules.proofs.ModeFunctions.{PlainNames}
 
 pub inside_files : (e f : Env) → FilesBeside e f → FilesBeside (inside e) (inside f)
 inside_files e f (files_beside env w p q l) = files_beside (inside env) w p q (record { runs = l.runs; nulls = l.nulls; fresh = l.fresh; functions = l.functions; tags = l.tags })
@@ -38,15 +40,6 @@ parameters_fine e (syntax.function at (syntax.array here d size) ps) t u h g =
     let k = on_fine (on (parameters (inside e) 0 ps) (function_of at t)) (λ v. declared e (syntax.array here d size) v) u g in parameters_fine e (syntax.array here d size) k.0 u h k.2
 parameters_fine e (syntax.function at (syntax.function here d qs) ps) t u h g =
     let k = on_fine (on (parameters (inside e) 0 ps) (function_of at t)) (λ v. declared e (syntax.function here d qs) v) u g in parameters_fine e (syntax.function here d qs) k.0 u h k.2
-
-abbrev PlainName : Option Ident → Type 0
-PlainName None = Unit {0}
-PlainName (Some x) = is_reserved x.name ≡ false
-
--- no name of a parameter is reserved
-abbrev pub PlainNames : Params → Type 0
-PlainNames no_params = Unit {0}
-PlainNames (more_params at s d ps) = PlainName (name_of d) × PlainNames ps
 
 name_plain : (env : Env) (n : Option Ident) (r : Checked CType) (t : CType) → with_name_demands (left env) n r ≡ fine t → PlainName n
 name_plain env None r t g = tt

@@ -20,6 +20,7 @@ use Rattle.null_calls_units_laws.specs.FileScopes.{HasNullCalls}
 use Rattle.null_calls_units_laws.specs.Functions.{HasFunctions}
 use Rattle.null_calls_units_laws.specs.Scopes.{AreWrittenTemporaries, AreOfSites, DiffersFrom, AllDiffer}
 use Rattle.null_calls_units_laws.proofs.Closed.{spelled}
+use Rattle.c_rules_laws.proofs.DistinctNames.{itself}
 
 -- ## Names of temporaries
 
@@ -83,9 +84,6 @@ other x y h = by_test (bytes_eq x y) refl
 others : (x : Temporary) (xs : List Temporary) → DiffersFrom x xs → OtherThan x.name xs
 others x [] h = tt
 others x (y ∷ ys) h = (other y.name x.name (λ e. h.0 (sym e)), others x ys h.1)
-
-itself : (x : Name) → bytes_eq x x ≡ true
-itself x = (bytes_eq-Decides x x).1 refl
 
 -- they are found
 pub found_all : (d k : ℕ) (xs : List Temporary) (ns : List Binding) → AllDiffer xs → AreFound (names_behind d k xs ns) k xs

@@ -37,13 +37,9 @@ use Rattle.null_calls_units_laws.proofs.Facts.{UnitFacts, unit_facts, all_in}
 use Rattle.null_calls_units_laws.proofs.Names.{each_app, each_none, each_has, tags_go, functions_same, objects_same, AllPlain, functions_plain, none_reserved}
 use Rattle.null_calls_units_laws.proofs.UnitItems.{ItemsGo, items_go}
 use Rattle.null_calls_units_laws.proofs.Prototypes.{start, new_env, items_start, env_start, strings_start, start_files}
+use Rattle.c_rules_laws.proofs.UnitTable.{none_defined, no_binding}
 
 -- ## Before all items
-
-none_defined : (n s : ℕ) (ts : List CType) → slice_get (map types_of_struct (replicate n incomplete)) s ≡ Some (Some ts) → ⊥
-none_defined zero s ts e = (let q : None ≡ Some (Some ts) = e in cc)
-none_defined (suc n) zero ts e = (let q : Some None ≡ Some (Some ts) = e in cc)
-none_defined (suc n) (suc s) ts e = none_defined n s ts e
 
 nothing_sound : (n : ℕ) → AreSound (map types_of_struct (replicate n incomplete))
 nothing_sound n = record {
@@ -55,9 +51,6 @@ nothing_sound n = record {
   made = λ s ts e. absurd (none_defined n s ts e);
   few = λ s ts e. absurd (none_defined n s ts e);
 }
-
-no_binding : (x : Name) (b : Binding) → lookup [] x ≡ Some b → ⊥
-no_binding x b e = (let q : None ≡ Some b = e in cc)
 
 before_right : (w : Whole) → IsFileRight (empty_env w)
 before_right w = record {

@@ -102,12 +102,12 @@ dyck_last {g} {a} {c} {y = y} {w = w} (dyck.calls {b = b} {x = x} {p = p} {z = z
     weaker (λ other. DyckWord g b z (t ++ other ∷ [])) (λ other. DyckWord g a y ((first ∷ t) ++ other ∷ [])) e (λ other word. (word.0, word.1, dyck.calls step (subst (Fits x p) event fits) word.2)) (dyck_last rest t n e call tail)
 
 -- null calls are left out of a word before a call
-call_erased : (t : List Event) (x : ℕ) (e : Event) → IsCall x e → erase (t ++ e ∷ []) ≡ erase t ++ e ∷ []
+pub call_erased : (t : List Event) (x : ℕ) (e : Event) → IsCall x e → erase (t ++ e ∷ []) ≡ erase t ++ e ∷ []
 call_erased t x (Sys name arguments outcome) call = erase-append t (Sys name arguments outcome ∷ [])
 call_erased t x (Pre site) call = absurd call
 call_erased t x (Post site) call = absurd call
 
-fit_erased : (t : List Event) (x : ℕ) (p : List (Option ℤ)) (e : Event) → Fits x p e → erase (t ++ e ∷ []) ≡ erase t ++ e ∷ []
+pub fit_erased : (t : List Event) (x : ℕ) (p : List (Option ℤ)) (e : Event) → Fits x p e → erase (t ++ e ∷ []) ≡ erase t ++ e ∷ []
 fit_erased t x p (Sys name arguments outcome) fits = erase-append t (Sys name arguments outcome ∷ [])
 fit_erased t x p (Pre site) fits = absurd fits
 fit_erased t x p (Post site) fits = absurd fits

@@ -40,6 +40,7 @@ use Rattle.c_rules_laws.specs.WellTyped.{SpelledUnitsAreLexical}
 use Rattle.tool_audit.specs.Audit.{AreReported, IsAuditOf}
 use Rattle.tool_audit.specs.Heard.{AreHeard}
 use Rattle.tool_audit.proofs.Verdicts.{reported, audit_of}
+use Rattle.tool_steps.proofs.RecordedRuns.{counted}
 
 -- so the checker takes it
 pub is_lexical : SpelledUnitsAreLexical → InstrumentedUnitsAreLexical → (text : List ℕ) (source : Source) (u : Items) → IsSourceOf text Plain source → u ≡ instrumented_unit (program_of source.program) (items_of source.unit.items.items) → IsUnitLexical u
@@ -90,13 +91,6 @@ typed_run typed p n is records turns = typed p n is (null_calls_of p) (null_call
 pub events_recorded : RunsAreTyped → (p : Program) (n : ℕ) → IsProgram p n → (records : List SysResult) (turns : ℕ) (found : Found) (again : List Event) → run_of found ≡ marked_run p records turns → again ≡ found.trace.items → All IsRecorded again
 events_recorded typed p n is records turns found again same second =
     subst (λ (t : List Event). All IsRecorded t) (sym second) (subst (λ (r : Run). All IsRecorded r.trace) (sym same) (typed_run typed p n is records turns).trace)
-
-counted : (o : Outcome) → IsEnding o → IsCountedOutcome o
-counted (Exit z) h = tt
-counted (Undefined kind) h = tt
-counted Turns h = tt
-counted Results h = tt
-counted (BadResult k) h = h
 
 pub end_counted : RunsAreTyped → (p : Program) (n : ℕ) → IsProgram p n → (records : List SysResult) (turns : ℕ) (found : Found) → run_of found ≡ marked_run p records turns → IsCountedEnd (Ended found.outcome)
 end_counted typed p n is records turns found same =

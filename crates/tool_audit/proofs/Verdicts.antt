@@ -22,14 +22,7 @@ use Rattle.tool_steps.specs.Results.{run_text}
 use Rattle.trace_file.specs.Trace.{IsTrace}
 use Rattle.tool_audit.specs.Audit.{AreReported, IsAcceptedOrBound, IsAuditOf, IsAuditStatus}
 use Rattle.tool_audit.specs.Heard.{AreHeard}
-
--- no first part is deeper than the whole
-depth_front : (k : ℕ) (t : List Event) → depth (take k t) ≤ depth t
-depth_front zero t = omega arith
-depth_front (suc k) [] = omega arith
-depth_front (suc k) (Sys x xs r ∷ t) = depth_front k t
-depth_front (suc k) (Pre s ∷ t) = let h = depth_front k t in omega (arith, h)
-depth_front (suc k) (Post s ∷ t) = let h = depth_front k t in omega (arith, h)
+use Rattle.headline.proofs.Fronts.{depth_front}
 
 -- a monitor that accepts the whole trace has no other verdict on it
 one_verdict : (w : Which) (g : Graph) (bound : ℕ) (t : List Event) (v : Verdict) → (w ≡ Dyck → ⊥) → IsVerdict w g bound t (Accepted (length t)) → IsVerdict w g bound t v → v ≡ Accepted (length t)

@@ -19,29 +19,9 @@ use Rattle.trace_file.specs.Traces.{most_processes, traces_head, AreTracesWithin
 use Rattle.trace_file.specs.TracesReading.{StandForTraces, ReachesStage, stage_version, traces_version}
 use Rattle.tool_models.specs.Following.{AreFew, HasBegun}
 use Rattle.tool_files.proofs.ReadingLemmas.{written_recorded}
+use Rattle.trace_file.proofs.OneReading.{len_more, known_more}
 
 -- how many processes are known
-
-len_more : (front numbers : List ℕ) → len (from_list {R = nat_cmp} front) ≤ len (from_list {R = nat_cmp} (front ++ numbers))
-len_more front [] = let same = ap (λ (t : List ℕ). len (from_list {R = nat_cmp} t)) (append-nil front) in omega (arith, same)
-len_more front (p ∷ numbers) =
-    let pushed : len (from_list {R = nat_cmp} (front ++ p ∷ [])) ≡ cond (contains (from_list {R = nat_cmp} front) p) (len (from_list {R = nat_cmp} front)) (len (from_list {R = nat_cmp} front) + 1) =
-    ap len (from_list_push nat_cmp_total nat_cmp-IsAntisymmetric front p) ∙ len-insert nat_cmp_total (from_list front) p in
-    let one : len (from_list {R = nat_cmp} front) ≤ len (from_list {R = nat_cmp} (front ++ p ∷ [])) = not_less (contains (from_list {R = nat_cmp} front) p) (len (from_list {R = nat_cmp} front)) _ pushed in
-    let others = len_more (front ++ p ∷ []) numbers in
-    let same = ap (λ (t : List ℕ). len (from_list {R = nat_cmp} t)) (append_assoc front (p ∷ []) numbers) in
-    omega (arith, one, others, same)
-  where
-    not_less : (b : Bool) (n m : ℕ) → m ≡ cond b n (n + 1) → n ≤ m
-    not_less true n m is = omega (arith, is)
-    not_less false n m is = omega (arith, is)
-
--- more records make no fewer processes known
-known_more : (v : TracesVersion) (front more : List Record) → known_count v front ≤ known_count v (front ++ more)
-known_more v front more =
-    let whole = len_more (flat_map (made_known v) front) (flat_map (made_known v) more) in
-    let same = ap (λ (t : List ℕ). len (from_list {R = nat_cmp} t)) (flat_map-append (made_known v) front more) in
-    omega (arith, whole, same)
 
 -- a loop over records
 

@@ -24,7 +24,7 @@ typed_run typed p n is records turns = typed p n is no_marks (λ site. (All-nil 
 pub events_recorded : (typed : RunsAreTyped) (p : Program) (n : ℕ) → IsProgram p n → (records : List SysResult) (turns : ℕ) (found : Found) → run_of found ≡ run p records turns → All IsRecorded found.trace.items
 events_recorded typed p n is records turns found same = subst (λ (r : Run). All IsRecorded r.trace) (sym same) (typed_run typed p n is records turns).trace
 
-counted : (o : Outcome) → IsEnding o → IsCountedOutcome o
+pub counted : (o : Outcome) → IsEnding o → IsCountedOutcome o
 counted (Exit z) h = tt
 counted (Undefined kind) h = tt
 counted Turns h = tt

@@ -163,7 +163,7 @@ one_traces text more v v' records later first whole_one =
     (heads.0, same.0, sym same.1)
 
 -- more numbers are no fewer known
-len_more : (front numbers : List ℕ) → len (from_list {R = nat_cmp} front) ≤ len (from_list {R = nat_cmp} (front ++ numbers))
+pub len_more : (front numbers : List ℕ) → len (from_list {R = nat_cmp} front) ≤ len (from_list {R = nat_cmp} (front ++ numbers))
 len_more front [] = let same = ap (λ (t : List ℕ). len (from_list {R = nat_cmp} t)) (append-nil front) in omega (arith, same)
 len_more front (p ∷ numbers) =
     let pushed : len (from_list {R = nat_cmp} (front ++ p ∷ [])) ≡ cond (contains (from_list {R = nat_cmp} front) p) (len (from_list {R = nat_cmp} front)) (len (from_list {R = nat_cmp} front) + 1) =
@@ -177,7 +177,7 @@ len_more front (p ∷ numbers) =
     not_less true n m is = omega (arith, is)
     not_less false n m is = omega (arith, is)
 
-known_more : (v : TracesVersion) (front more : List Record) → known_count v front ≤ known_count v (front ++ more)
+pub known_more : (v : TracesVersion) (front more : List Record) → known_count v front ≤ known_count v (front ++ more)
 known_more v front more =
     let whole = len_more (flat_map (made_known v) front) (flat_map (made_known v) more) in
     let same = ap (λ (t : List ℕ). len (from_list {R = nat_cmp} t)) (flat_map-append (made_known v) front more) in

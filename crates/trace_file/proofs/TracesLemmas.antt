@@ -464,7 +464,7 @@ start_shows at ks error line is whole refused lines records reached =
     let start = subst (λ (s : TracesStage). ReachesStage s ks lines records) is reached in
     subst (λ (t : List ℕ). IsShown (IsRefusedAt at) error (t ++ line)) (sym start.1) (start_refused_at at error line is whole refused)
 
-none_known : AreKnown [] []
+pub none_known : AreKnown [] []
 none_known = record { same = refl; apart = len-empty nat_cmp }
 
 pub start_takes : (at : TracesStage) (ks : List ℕ) (v : TracesVersion) (line rest : List ℕ) → at ≡ stage.Start → IsWhole line → line ≡ traces_head v ++ rest → (lines : List ℕ) (records : List Record) → ReachesStage at ks lines records → ReachesStage (stage.Records v 0) ks (lines ++ line) (records ++ [])

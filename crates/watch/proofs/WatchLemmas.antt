@@ -39,6 +39,7 @@ use Rattle.watch.proofs.KeyLemmas.{among_keys, among_self, among_kept, keys_know
 use Rattle.watch.proofs.MarkLemmas.{marked_there, marked_from, numbered}
 use Rattle.watch.proofs.PastLemmas.{accepted_is_kept, kept_is_accepted, verdict_told}
 use Rattle.watch.proofs.StepLemmas.{known_alone}
+use Rattle.trace_file.proofs.TracesLemmas.{none_known}
 
 -- what holds of the watch's own model, bound and version holds of those that it stands for
 pub moved : (Q : Graph → ℕ → TracesVersion → Type 0) (setting : Setting) (g : Graph) (k : ℕ) (version : TracesVersion) → setting.model ≡ g → setting.bound ≡ k → setting.version ≡ version → Q setting.model setting.bound setting.version → Q g k version
@@ -125,9 +126,6 @@ none_own : (version : TracesVersion) (p : ℕ) → own version p [] ≡ []
 unfolding own_forked
 none_own One p = refl
 none_own Two p = refl
-
-none_known : AreKnown [] []
-none_known = record { same = refl; apart = len-empty nat_cmp }
 
 module _ {M P S : Type 0} (laws : monitor.Ghosts M P) (setting : Setting) where
   pub watched_nothing : (table : IndexMap ℕ (Process M) S) (pool : P) → table.entries ≡ [] → laws.is_pool pool setting.model → laws.noted pool setting.model [] → AreWatched laws setting table pool []
