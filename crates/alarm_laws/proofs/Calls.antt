@@ -31,7 +31,7 @@ use Rattle.c_meaning.specs.Results.{State, Result, Go, Stop, after, then_do, ans
 use Rattle.c_meaning.specs.SystemCalls.{Request, request, filled_where, result_value, does_answer, with_records, take_record, exit_call, exit_with, system_call}
 use Rattle.sys_table.specs.Table.{result_of}
 use Rattle.alarm_laws.proofs.Lists.{is_first, below, not_below, same_number, if_has, in_map, none_passes, one_passes}
-use Rattle.alarm_laws.proofs.Sites.{callee_found}
+use Rattle.c_shapes.proofs.SitesSaid.{callee_found}
 use Rattle.alarm_laws.proofs.Silent.{IsSilent, whole_quiet, front_quiet, silent_body, system_reaches}
 use Rattle.alarm_laws.proofs.Says.{told, split, Tells, Straight, after_none, Says}
 use Rattle.alarm_laws.proofs.Places.{shape_defined, shape_system, system_taken, through_type, value_defined, called_defined, called_system}

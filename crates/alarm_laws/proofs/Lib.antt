@@ -14,7 +14,6 @@ pub mod Places
 pub mod Programs
 pub mod Says
 pub mod Silent
-pub mod Sites
 pub mod Statements
 pub mod TypedRuns
 pub mod Words

@@ -1,90 +1,15 @@
 -- Members of lists, and tests.
-use Rattle.std.proofs.Common.{◌≡◌, ◌⊎◌, inl, inr, ℕ, zero, suc, ◌+◌, ◌<◌, ◌≤◌, Bool, true, false, ◌&&◌, ◌||◌, nat_eq, nat_lt, if◌then◌else◌, List, [], ◌∷◌, ◌++◌, map, flat_map, filter, Contains, Some, None, slice_get, refl, ap, sym, ◌∙◌, subst, arith}
+use Rattle.std.proofs.Common.{◌≡◌, inl, inr, ℕ, zero, suc, ◌+◌, Bool, true, false, ◌||◌, nat_eq, if◌then◌else◌, List, [], ◌∷◌, ◌++◌, flat_map, Contains, Some, None, slice_get, refl, ap, sym, ◌∙◌, subst, arith}
 use Rattle.std.specs.Cmp.{nat_eq_equiv}
-use Rattle.std.specs.List.{range_with_len}
 use Rattle.std.proofs.lemmas.Bool.{false≢true}
-use Rattle.std.proofs.lemmas.Bool.Decides.{Decides-ltb, eqb_tells}
 use Rattle.std.proofs.lemmas.List.Elements.{Contains-append_left, Contains-append_right}
 use Rattle.c_shapes.specs.CallGraph.{is_in, has_one}
-pub use Rattle.flow_graph_laws.proofs.Edges.{is_first, is_later}
-use Rattle.flow_graph_laws.proofs.ProgramsClosed.{first_or_later}
-pub use Rattle.flow_graph_laws.proofs.ProgramsClosed.{below, is_below}
-pub use Rattle.flow_graph_laws.proofs.SortedLemmas.{cases}
-
-pub none_in : {X : Type 0} (z : X) → Contains [] z → ⊥
-none_in z h = omega (arith, h.1)
-
-pub and_left : (a b : Bool) → (a && b) ≡ true → a ≡ true
-and_left true b h = refl
-and_left false b h = absurd (false≢true h)
-
-pub and_right : (a b : Bool) → (a && b) ≡ true → b ≡ true
-and_right true b h = h
-and_right false b h = absurd (false≢true h)
-
-pub or_false_left : (a b : Bool) → (a || b) ≡ false → a ≡ false
-or_false_left true b h = h
-or_false_left false b h = refl
-
-pub or_false_right : (a b : Bool) → (a || b) ≡ false → b ≡ false
-or_false_right true b h = absurd (false≢true (sym h))
-or_false_right false b h = h
-
-pub not_below : (a b : ℕ) → nat_lt a b ≡ false → b ≤ a
-not_below a b h = omega (arith, (λ (lt : a < b). false≢true (sym h ∙ is_below a b lt)))
-
-pub isnt_below : (a b : ℕ) → b ≤ a → nat_lt a b ≡ false
-isnt_below a b le = by (nat_lt a b) refl
-  where
-    by : (c : Bool) → nat_lt a b ≡ c → nat_lt a b ≡ false
-    by true e = let lt = below a b e in absurd (omega (arith, le, lt))
-    by false e = e
-
-pub same_number : (a b : ℕ) → nat_eq a b ≡ true → a ≡ b
-same_number a b h = elim (eqb_tells a b) as (λ k. a ≡ b) [ inl k ↦ k.1 | inr k ↦ absurd (false≢true (sym k.0 ∙ h)) ]
-
-pub other_number : (a b : ℕ) → (a ≡ b → ⊥) → nat_eq a b ≡ false
-other_number a b h = by (nat_eq a b) refl
-  where
-    by : (c : Bool) → nat_eq a b ≡ c → nat_eq a b ≡ false
-    by true e = absurd (h (same_number a b e))
-    by false e = e
+pub use Rattle.c_shapes.proofs.Members.{and_left, and_right, or_false_left, or_false_right, below, is_below, not_below, isnt_below, same_number, other_number, is_first, is_later, cases, none_in, from_filter, in_filter, in_map, in_range, from_range}
 
 -- what a choice has
 pub if_has : {A : Type 0} (P : A → Type 0) (b : Bool) (x y : A) → (b ≡ true → P x) → (b ≡ false → P y) → P (if b then x else y)
 if_has P true x y h k = h refl
 if_has P false x y h k = k refl
-
--- a filter has what passes, and nothing else
-from_kept : {X : Type 0} (test : X → Bool) (x : X) (xs : List X) (b : Bool) → test x ≡ b → (z : X) → Contains (if b then x ∷ filter test xs else filter test xs) z → (Contains (filter test xs) z → Contains xs z × (test z ≡ true)) → Contains (x ∷ xs) z × (test z ≡ true)
-from_kept test x xs true e z h rest = elim (cases x (filter test xs) z h) as (λ k. Contains (x ∷ xs) z × (test z ≡ true)) [ inl is ↦ ((0, omega arith, is), subst (λ y. test y ≡ true) is e) | inr k ↦ (let r = rest k in (is_later x xs z r.0, r.1)) ]
-from_kept test x xs false e z h rest = let r = rest h in (is_later x xs z r.0, r.1)
-
-pub from_filter : {X : Type 0} (test : X → Bool) (xs : List X) (z : X) → Contains (filter test xs) z → Contains xs z × (test z ≡ true)
-from_filter test [] z h = absurd (none_in z h)
-from_filter test (x ∷ xs) z h = from_kept test x xs (test x) refl z h (λ k. from_filter test xs z k)
-
-kept_at : {X : Type 0} (test : X → Bool) (x : X) (xs : List X) (b : Bool) → test x ≡ b → (z : X) → ((x ≡ z) ⊎ Contains (filter test xs) z) → test z ≡ true → Contains (if b then x ∷ filter test xs else filter test xs) z
-kept_at test x xs true e z (inl is) h = (0, omega arith, is)
-kept_at test x xs true e z (inr k) h = is_later x (filter test xs) z k
-kept_at test x xs false e z (inl is) h = absurd (false≢true (sym e ∙ (ap test is ∙ h)))
-kept_at test x xs false e z (inr k) h = k
-
-pub in_filter : {X : Type 0} (test : X → Bool) (xs : List X) (z : X) → Contains xs z → test z ≡ true → Contains (filter test xs) z
-in_filter test [] z h k = absurd (none_in z h)
-in_filter test (x ∷ xs) z h k = kept_at test x xs (test x) refl z (elim (cases x xs z h) as (λ q. (x ≡ z) ⊎ Contains (filter test xs) z) [ inl is ↦ inl is | inr q ↦ inr (in_filter test xs z q k) ]) k
-
-pub in_map : {X Y : Type 0} (f : X → Y) (xs : List X) (x : X) → Contains xs x → Contains (map f xs) (f x)
-in_map f [] x h = absurd (none_in x h)
-in_map f (y ∷ xs) x h = elim (cases y xs x h) as (λ k. Contains (f y ∷ map f xs) (f x)) [ inl is ↦ (0, omega arith, ap f is) | inr k ↦ is_later (f y) (map f xs) (f x) (in_map f xs x k) ]
-
-pub in_range : (a n z : ℕ) → a ≤ z → z < a + n → Contains (range_with_len a n) z
-in_range a zero z le lt = absurd (omega (arith, le, lt))
-in_range a (suc n) z le lt = elim (first_or_later a z le) as (λ k. Contains (range_with_len a (suc n)) z) [ inl is ↦ (0, omega arith, is) | inr k ↦ is_later a (range_with_len (a + 1) n) z (in_range (a + 1) n z k (omega (arith, lt))) ]
-
-pub from_range : (a n z : ℕ) → Contains (range_with_len a n) z → (a ≤ z) × (z < a + n)
-from_range a zero z h = absurd (none_in z h)
-from_range a (suc n) z h = elim (cases a (range_with_len (a + 1) n) z h) as (λ k. (a ≤ z) × (z < a + suc n)) [ inl is ↦ (omega (arith, is), omega (arith, is)) | inr k ↦ (let r = from_range (a + 1) n z k in (omega (arith, r.0), omega (arith, r.1))) ]
 
 -- membership as a test
 pub is_in_of : (f : ℕ) (fs : List ℕ) → Contains fs f → is_in f fs ≡ true

@@ -12,7 +12,7 @@ use Rattle.c_shapes.specs.CallGraph.{is_taken, is_typed, functions_of, callees}
 use Rattle.c_shapes.specs.ShapeOf.{shape_of_function, any_call, taken_calls, shapes_of_functions, place_of, shapes_of}
 use Rattle.c_shapes.proofs.SameTypes.{types_tell}
 use Rattle.alarm_laws.proofs.Lists.{cases, none_in, and_left, and_right, is_below, isnt_below, from_filter, in_filter, from_range, in_range, same_some, no_some}
-use Rattle.flow_graph_laws.proofs.ProgramsClosed.{length_map}
+use Rattle.c_shapes.proofs.Members.{length_map}
 
 -- an element of the first list, or of the second
 pub get_left : {X : Type 0} (xs ys : List X) (k : ℕ) → k < length xs → slice_get (xs ++ ys) k ≡ slice_get xs k

@@ -29,7 +29,7 @@ use Rattle.c_meaning_laws.proofs.Candidates.{callees_are_candidates}
 use Rattle.c_meaning_laws.proofs.Standing.{stands_empty}
 use Rattle.c_meaning_laws.proofs.Worlds.{types_are_kept, runs_begin_typed}
 use Rattle.alarm_laws.specs.MarkedRuns.{null_calls_of}
-use Rattle.alarm_laws.proofs.Sites.{callee_found}
+use Rattle.c_shapes.proofs.SitesSaid.{callee_found}
 use Rattle.alarm_laws.proofs.Says.{Gives}
 use Rattle.alarm_laws.proofs.Guards.{with_turns, IsGuarded}
 use Rattle.alarm_laws.proofs.Places.{type_of_function}

@@ -40,6 +40,7 @@ use Rattle.c_meaning_laws.specs.TypedResults.{EndsTyped, Gives}
 use Rattle.c_meaning_laws.proofs.Places.{scalar_object, kind_given}
 use Rattle.c_meaning_laws.proofs.Steps.{Right, right_then, there_right, pointer_right, cells_there, store_right}
 use Rattle.c_meaning_laws.proofs.Ends.{after_ends, then_ends, answered_ends, remembered_ends}
+use Rattle.c_shapes.proofs.Members.{and_left, and_right}
 
 abbrev char : CType
 char = integer i.Char
@@ -78,14 +79,6 @@ pass test _ _ = false
 abbrev past_two : {A : Type 0} → List A → List A
 past_two (a ∷ b ∷ xs) = xs
 past_two _ = []
-
-and_left : (a b : Bool) → (a && b) ≡ true → a ≡ true
-and_left true b h = refl
-and_left false b h = absurd (false≢true h)
-
-and_right : (a b : Bool) → (a && b) ≡ true → b ≡ true
-and_right true b h = h
-and_right false b h = absurd (false≢true h)
 
 passes : (test : CType → Row → Bool) (ts : List CType) (rows : List Row) (x : ℕ) (t : CType) (d : Row) → pass test ts rows ≡ true → slice_get ts x ≡ Some t → test t (slice_index_or rows x d) ≡ true
 passes test [] rows x t d h e = absurd (cc)

@@ -7,6 +7,7 @@ use Rattle.c_tree.specs.Tree.{Function, Static, Program}
 use Rattle.c_shapes.specs.Mentions.{Mention, Named, mention_of_cell, mentions_of_function, mentions_of_static, mentions_of_program}
 use Rattle.c_shapes.specs.CallGraph.{has_one, names, is_taken}
 use Rattle.c_meaning_laws.specs.TypedResults.{StandsIn}
+use Rattle.c_shapes.proofs.Members.{or_right}
 
 pub left_part : (p : Program) (xs ys : List Mention) → StandsIn p (xs ++ ys) → StandsIn p xs
 left_part p xs ys h m k = h m (Contains-append_left xs ys m k)
@@ -22,10 +23,6 @@ is_first x xs = (0, omega arith, refl)
 
 pub is_later : {A : Type 0} (x : A) (xs : List A) (y : A) → Contains xs y → Contains (x ∷ xs) y
 is_later x xs y (k, less, is) = (suc k, omega (arith, less), is)
-
-or_right : (a b : Bool) → b ≡ true → (a || b) ≡ true
-or_right true b h = refl
-or_right false b h = h
 
 or_left : (a b : Bool) → a ≡ true → (a || b) ≡ true
 or_left true b h = refl

@@ -33,6 +33,7 @@ use Rattle.c_meaning.specs.Pointers.{pointer as pointed}
 use Rattle.c_shapes.specs.CallGraph.{is_taken}
 use Rattle.c_meaning_laws.specs.StoreTyping.{HasKind, IsCell, IsPlaceAt, IsPlaced, IsTypedMemory}
 use Rattle.c_meaning_laws.proofs.Places.{get_left, lies_in, lies_moved, repeat_lies, lies_once, member_lies, member_few, scalar_cell, scalar_object, element_object, struct_is, zip_get, zip_set, kind_cell, memory_changed}
+use Rattle.c_shapes.proofs.Members.{and_left, and_right, and_both}
 
 -- an answer is what it should be, or one of the kinds U1 to U12
 abbrev pub Right : {A : Type 0} → (A → Type 0) → Answer A → Type 0
@@ -73,18 +74,6 @@ takes_scalars _ = false
 abbrev all_take : List CType → Bool
 all_take [] = true
 all_take (t ∷ ts) = takes_scalars t && all_take ts
-
-and_left : (a b : Bool) → (a && b) ≡ true → a ≡ true
-and_left true b h = refl
-and_left false b h = absurd (false≢true h)
-
-and_right : (a b : Bool) → (a && b) ≡ true → b ≡ true
-and_right true b h = h
-and_right false b h = absurd (false≢true h)
-
-and_both : (a b : Bool) → a ≡ true → b ≡ true → (a && b) ≡ true
-and_both true b h k = k
-and_both false b h k = absurd (false≢true h)
 
 scalar_is : (t : CType) → is_scalar t ≡ true → IsScalar t
 scalar_is void h = absurd (false≢true h)

@@ -8,3 +8,5 @@ pub mod ProgramTrials
 pub mod WordTrials
 pub mod Rounds
 pub mod SameTypes
+pub mod Members
+pub mod SitesSaid

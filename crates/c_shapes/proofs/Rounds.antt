@@ -3,26 +3,11 @@ use Rattle.std.proofs.Common.{◌≡◌, ℕ, zero, suc, ◌+◌, ◌<◌, ◌�
 use Rattle.std.specs.List.{range_with_len}
 use Rattle.std.specs.Cmp.{nat_eq_equiv}
 use Rattle.std.proofs.lemmas.Bool.{false≢true}
-use Rattle.std.proofs.lemmas.Bool.Decides.{eqb_tells}
 use Rattle.c_tree.specs.Tree.{Program}
 use Rattle.c_tree.specs.Functions.{defined}
 use Rattle.c_shapes.specs.Mentions.{Mention, Named, Calls}
 use Rattle.c_shapes.specs.CallGraph.{is_in, has_one, functions_of, callees, enters, said_by, one_round, reaching, reaches}
-
-or_left : (a b : Bool) → a ≡ true → (a || b) ≡ true
-or_left true b h = refl
-or_left false b h = absurd (false≢true h)
-
-or_right : (a b : Bool) → b ≡ true → (a || b) ≡ true
-or_right true b h = refl
-or_right false b h = h
-
-or_cases : (a b : Bool) → (a || b) ≡ true → (a ≡ true) ⊎ (b ≡ true)
-or_cases true b h = inl refl
-or_cases false b h = inr h
-
-same : (a b : ℕ) → nat_eq a b ≡ true → a ≡ b
-same a b h = elim (eqb_tells a b) as (λ k. a ≡ b) [ inl k ↦ k.1 | inr k ↦ absurd (false≢true (sym k.0 ∙ h)) ]
+use Rattle.c_shapes.proofs.Members.{or_left, or_right, or_cases, same_number}
 
 -- each member of the one list is one of the other
 abbrev Within : List ℕ → List ℕ → Type 0
@@ -59,7 +44,7 @@ no_more fs gs w (x ∷ xs) le f h k =
     let i = tally_more fs gs w xs in
     let j = count_more (is_in x fs) (is_in x gs) (w x) in
     elim (or_cases (nat_eq f x) (is_in f xs) h) as (λ q. is_in f fs ≡ true) [
-      | inl q ↦ (let e = same f x q in subst (λ f. is_in f fs ≡ true) (sym e) (count_same (is_in x fs) (is_in x gs) (w x) (omega (arith, le, i)) (subst (λ f. is_in f gs ≡ true) e k)))
+      | inl q ↦ (let e = same_number f x q in subst (λ f. is_in f fs ≡ true) (sym e) (count_same (is_in x fs) (is_in x gs) (w x) (omega (arith, le, i)) (subst (λ f. is_in f gs ≡ true) e k)))
       | inr q ↦ no_more fs gs w xs (omega (arith, le, j)) f q k
     ]
 
@@ -82,14 +67,14 @@ all_members fs (x ∷ xs) le f h =
     let i = tally_most fs xs in
     let j = tally_most fs (x ∷ []) in
     elim (or_cases (nat_eq f x) (is_in f xs) h) as (λ q. is_in f fs ≡ true) [
-      | inl q ↦ subst (λ f. is_in f fs ≡ true) (sym (same f x q)) (all_count (is_in x fs) (omega (arith, le, i)))
+      | inl q ↦ subst (λ f. is_in f fs ≡ true) (sym (same_number f x q)) (all_count (is_in x fs) (omega (arith, le, i)))
       | inr q ↦ all_members fs xs (omega (arith, le, j)) f q
     ]
 
 -- a filter has the numbers that pass
 from_kept : (test : ℕ → Bool) (x : ℕ) (xs : List ℕ) (b : Bool) → test x ≡ b → (f : ℕ) → is_in f (if b then x ∷ filter test xs else filter test xs) ≡ true → (is_in f (filter test xs) ≡ true → (is_in f xs ≡ true) × (test f ≡ true)) → (is_in f (x ∷ xs) ≡ true) × (test f ≡ true)
 from_kept test x xs true e f h rest = elim (or_cases (nat_eq f x) (is_in f (filter test xs)) h) as (λ q. (is_in f (x ∷ xs) ≡ true) × (test f ≡ true)) [
-  | inl q ↦ (or_left (nat_eq f x) (is_in f xs) q, subst (λ f. test f ≡ true) (sym (same f x q)) e)
+  | inl q ↦ (or_left (nat_eq f x) (is_in f xs) q, subst (λ f. test f ≡ true) (sym (same_number f x q)) e)
   | inr q ↦ (let r = rest q in (or_right (nat_eq f x) (is_in f xs) r.0, r.1))
 ]
 from_kept test x xs false e f h rest = let r = rest h in (or_right (nat_eq f x) (is_in f xs) r.0, r.1)
@@ -106,7 +91,7 @@ to_kept test x xs false e f t (inr q) = q
 
 to_filter : (test : ℕ → Bool) (xs : List ℕ) (f : ℕ) → is_in f xs ≡ true → test f ≡ true → is_in f (filter test xs) ≡ true
 to_filter test [] f h t = absurd (false≢true h)
-to_filter test (x ∷ xs) f h t = to_kept test x xs (test x) refl f t (elim (or_cases (nat_eq f x) (is_in f xs) h) as (λ q. (f ≡ x) ⊎ (is_in f (filter test xs) ≡ true)) [ inl q ↦ inl (same f x q) | inr q ↦ inr (to_filter test xs f q t) ])
+to_filter test (x ∷ xs) f h t = to_kept test x xs (test x) refl f t (elim (or_cases (nat_eq f x) (is_in f xs) h) as (λ q. (f ≡ x) ⊎ (is_in f (filter test xs) ≡ true)) [ inl q ↦ inl (same_number f x q) | inr q ↦ inr (to_filter test xs f q t) ])
 
 -- what may be called of fewer functions may be called of more
 one_more : {X : Type 0} (t u : X → Bool) → ((x : X) → t x ≡ true → u x ≡ true) → (xs : List X) → has_one t xs ≡ true → has_one u xs ≡ true

@@ -1,27 +1,12 @@
 -- The test of types tells whether they are the same.
-use Rattle.std.proofs.Common.{◌≡◌, ◌↔◌, ℕ, Bool, true, false, ◌&&◌, nat_eq, inl, inr, sym, ap, ap₂, ◌∙◌, subst, refl}
+use Rattle.std.proofs.Common.{◌≡◌, ◌↔◌, true, nat_eq, ap, ap₂, subst, refl}
 use Rattle.std.specs.Cmp.{nat_eq_equiv}
 use Rattle.std.proofs.lemmas.Bool.{false≢true}
-use Rattle.std.proofs.lemmas.Bool.Decides.{eqb_tells}
 use Rattle.c_tree.specs.declared.value.IntType.{IntType}
 use Rattle.c_tree.specs.declared.value.IntType.TheVariants.{Char, Uchar, Int, Uint}
 use Rattle.c_tree.specs.Tree.{CType, void, integer, pointer, array, struct, function, CTypes, no_types, more_types}
 use Rattle.c_shapes.specs.CallGraph.{rank_of, same_type, same_types}
-
-and_left : (a b : Bool) → (a && b) ≡ true → a ≡ true
-and_left true b h = refl
-and_left false b h = absurd (false≢true h)
-
-and_right : (a b : Bool) → (a && b) ≡ true → b ≡ true
-and_right true b h = h
-and_right false b h = absurd (false≢true h)
-
-and_both : (a b : Bool) → a ≡ true → b ≡ true → (a && b) ≡ true
-and_both true b h k = k
-and_both false b h k = absurd (false≢true h)
-
-same : (a b : ℕ) → nat_eq a b ≡ true → a ≡ b
-same a b h = elim (eqb_tells a b) as (λ k. a ≡ b) [ inl k ↦ k.1 | inr k ↦ absurd (false≢true (sym k.0 ∙ h)) ]
+use Rattle.c_shapes.proofs.Members.{and_left, and_right, and_both, same_number}
 
 rank_same : (i j : IntType) → nat_eq (rank_of i) (rank_of j) ≡ true → i ≡ j
 rank_same Char Char h = refl
@@ -35,8 +20,8 @@ mutual
   type_is void void h = refl
   type_is (integer i) (integer j) h = ap integer (rank_same i j h)
   type_is (pointer t) (pointer u) h = ap pointer (type_is t u h)
-  type_is (array t n) (array u m) h = ap₂ (λ x y. array x y) (type_is t u (and_left (same_type t u) (nat_eq n m) h)) (same n m (and_right (same_type t u) (nat_eq n m) h))
-  type_is (struct s) (struct r) h = ap struct (same s r h)
+  type_is (array t n) (array u m) h = ap₂ (λ x y. array x y) (type_is t u (and_left (same_type t u) (nat_eq n m) h)) (same_number n m (and_right (same_type t u) (nat_eq n m) h))
+  type_is (struct s) (struct r) h = ap struct (same_number s r h)
   type_is (function t ts) (function u us) h = ap₂ (λ x y. function x y) (type_is t u (and_left (same_type t u) (same_types ts us) h)) (types_are ts us (and_right (same_type t u) (same_types ts us) h))
   type_is _ _ h = absurd (false≢true h)
 

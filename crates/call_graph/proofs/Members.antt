@@ -1,11 +1,12 @@
 -- Members of lists, by tests and by facts.
-use Rattle.std.proofs.Common.{◌≡◌, ◌⊎◌, ℕ, zero, suc, Bool, true, false, cond, ◌||◌, List, [], ◌∷◌, ◌++◌, map, Contains, refl, sym, ◌∙◌, ap, subst, inl, inr, arith, nat_eq, append-nil}
+use Rattle.std.proofs.Common.{◌≡◌, ◌⊎◌, ℕ, zero, suc, Bool, true, false, cond, List, [], ◌∷◌, ◌++◌, map, Contains, refl, sym, ◌∙◌, ap, subst, inl, inr, arith, nat_eq, append-nil}
 use Rattle.std.specs.List.{list_any}
 use Rattle.std.proofs.lemmas.Bool.{eq-eqb, eqb-true, false≢true}
 use Rattle.std.proofs.lemmas.List.Elements.{Contains-append_left, Contains-push, Contains-push_cases}
 use Rattle.indexmap.specs.IndexSet.{insert_key}
 use Rattle.c_shapes.specs.CallGraph.{is_in, has_one}
 use Rattle.call_graph.specs.Adding.{Has, Adds}
+use Rattle.c_shapes.proofs.Members.{or_left, or_right, or_cases}
 
 -- a list with an item before it
 pub contains-cons : {X : Type 0} (y x : X) (xs : List X) → Contains xs x → Contains (y ∷ xs) x
@@ -20,18 +21,6 @@ contains-cases y x xs (suc k, lt, is) = inr (k, omega (arith, lt), is)
 
 pub contains-none : {X : Type 0} (x : X) → Contains [] x → ⊥
 contains-none x (k, lt, is) = omega (arith, lt)
-
-or_left : (a b : Bool) → a ≡ true → (a || b) ≡ true
-or_left true b h = refl
-or_left false b h = absurd (false≢true h)
-
-or_right : (a b : Bool) → b ≡ true → (a || b) ≡ true
-or_right true b h = refl
-or_right false b h = h
-
-or_cases : (a b : Bool) → (a || b) ≡ true → (a ≡ true) ⊎ (b ≡ true)
-or_cases true b h = inl refl
-or_cases false b h = inr h
 
 -- an item passes the test
 module _ {X : Type 0} (test : X → Bool) where

@@ -10,7 +10,6 @@ pub mod TakenParts
 pub mod ArgumentLemmas
 pub mod Told
 pub mod ProgramLemmas
-pub mod SiteLemmas
 pub mod TakenLemmas
 pub mod RecordLemmas
 pub mod FunctionLemmas

@@ -14,10 +14,10 @@ use Rattle.flow_graph_laws.specs.Layout.{Edge, edge}
 use Rattle.flow_graph_laws.specs.GraphOf.{calls, edges_from}
 use Rattle.flow_graph_laws.specs.Premises.{AreClosed}
 use Rattle.flow_graph_laws.specs.Sorted.{placed, insert, sorted}
-use Rattle.flow_graph_laws.proofs.Edges.{is_first, is_later}
 use Rattle.flow_graph_laws.proofs.SortedLemmas.{sorted_from}
 use Rattle.flow_graph_laws.proofs.Functions.{one_call}
 use Rattle.flow_graph.specs.Places.{call_of}
+use Rattle.c_shapes.proofs.Members.{is_first, is_later}
 
 module _ {X Y : Type 0} (f : X → Y) (R : X → X → Ordering) (Q : Y → Y → Ordering) where
   placed_map : (o : Ordering) (x y : X) (ys inside : List X) → map f (placed o x y ys inside) ≡ placed o (f x) (f y) (map f ys) (map f inside)

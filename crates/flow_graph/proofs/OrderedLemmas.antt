@@ -11,8 +11,9 @@ use Rattle.std.proofs.lemmas.List.Elements.{All-from_recursion}
 use Rattle.std.proofs.lemmas.List.Kept.{Any-dedup}
 use Rattle.flow_model.specs.Order.{StrictlyRise}
 use Rattle.flow_graph_laws.specs.Sorted.{sorted}
-use Rattle.flow_graph_laws.proofs.SortedLemmas.{cases, sorted_from, sorted_has}
+use Rattle.flow_graph_laws.proofs.SortedLemmas.{sorted_from, sorted_has}
 use Rattle.flow_graph_laws.proofs.Rising.{pairs_cons, pairs_nil, pairs_head, pairs_tail, of_all, sorted_rises}
+use Rattle.c_shapes.proofs.Members.{cases}
 
 -- a strictly sorted list rises
 pub rises : {X : Type 0} (order : X → X → Ordering) (xs : List X) → IsStrictlySortedBy order xs → StrictlyRise order xs

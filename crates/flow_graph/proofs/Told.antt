@@ -12,8 +12,8 @@ use Rattle.c_shapes.specs.Mentions.{Callee, Direct, Through, Mention, Named, Cal
 use Rattle.c_shapes.specs.CallGraph.{is_marked, marked, marked_where, callee_at}
 use Rattle.c_shapes.specs.ShapeOf.{seq, seq_two, alt, system_call, marked_call, direct_call, has_default, shape, shapes_before, shape_of_maybe, shapes_of_inits, shape_of_stmt, shapes_of_stmts, shapes_of_groups, shape_of_function}
 use Rattle.flow_graph.specs.Sited.{call_at, direct_at, expr_at, exprs_at, maybe_at, inits_at, stmt_at, stmts_at, groups_at}
-use Rattle.flow_graph.proofs.SiteLemmas.{callee_found}
-use Rattle.flow_graph_laws.proofs.Edges.{is_first, is_later}
+use Rattle.c_shapes.proofs.SitesSaid.{callee_found}
+use Rattle.c_shapes.proofs.Members.{is_first, is_later}
 
 in_left : {X : Type 0} (xs ys : List X) (z : X) → Contains xs z → Contains (xs ++ ys) z
 in_left [] ys z (k, lt, is) = absurd (omega (arith, lt))

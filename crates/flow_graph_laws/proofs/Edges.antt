@@ -6,6 +6,7 @@ use Rattle.c_shapes.specs.Walks.{Label, Silent, System, Site}
 use Rattle.flow_graph_laws.specs.Layout.{Edge, edge, Places, body, width, count, group, switch, to_each, past_all, edges, edges_of_parts}
 use Rattle.flow_graph_laws.proofs.Laid.{Heads}
 use Rattle.flow_graph_laws.proofs.Laid as G
+use Rattle.c_shapes.proofs.Members.{is_first, is_later}
 
 -- an edge of S, laid from the node a with the fresh nodes from n on
 mutual
@@ -50,12 +51,6 @@ none_of P z has = absurd (omega (arith, has.1))
 
 pub either : {X : Type 0} (P : X → Type 0) (xs ys : List X) (z : X) → Contains (xs ++ ys) z → (Contains xs z → P z) → (Contains ys z → P z) → P z
 either P xs ys z has one two = elim (Contains-append_cases xs ys z has) as (λ h. P z) [ inl a ↦ one a | inr b ↦ two b ]
-
-pub is_first : {X : Type 0} (x : X) (xs : List X) → Contains (x ∷ xs) x
-is_first x xs = (0, omega arith, refl)
-
-pub is_later : {X : Type 0} (x : X) (xs : List X) (z : X) → Contains xs z → Contains (x ∷ xs) z
-is_later x xs z (k, lt, is) = (suc k, omega arith, is)
 
 only_one : {X : Type 0} (P : X → Type 0) (x : X) (z : X) → Contains (x ∷ []) z → P x → P z
 only_one P x z has here = first_or P x [] z has here (λ h. none_of P z h)

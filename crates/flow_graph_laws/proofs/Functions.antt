@@ -7,8 +7,9 @@ use Rattle.flow_graph_laws.specs.Layout.{Edge, edge, Places, ends, body, switch,
 use Rattle.flow_graph_laws.specs.GraphOf.{edges_from}
 use Rattle.flow_graph_laws.specs.Premises.{sites, sites_of_parts, AreClosed}
 use Rattle.flow_graph_laws.proofs.Laid.{Graph, LaidFrom}
-use Rattle.flow_graph_laws.proofs.Edges.{Lays, either, none_of, is_later, lays_from, lays_to}
+use Rattle.flow_graph_laws.proofs.Edges.{Lays, either, none_of, lays_from, lays_to}
 use Rattle.flow_graph_laws.proofs.Owns.{At, start, fresh, sources, begin, laid, Owns}
+use Rattle.c_shapes.proofs.Members.{is_later}
 
 -- the shape and the entry of the function f of those from the node n on
 abbrev pub at : List Shape → ℕ → Shape

@@ -15,9 +15,9 @@ use Rattle.flow_graph_laws.specs.Layout.{Edge, edge, width}
 use Rattle.flow_graph_laws.specs.Sorted.{sorted}
 use Rattle.flow_graph_laws.specs.GraphOf.{graph_of, silent_edges, sys_edges, calls, functions_from, edges_from}
 use Rattle.flow_graph_laws.specs.Premises.{AreClosed}
-use Rattle.flow_graph_laws.proofs.Edges.{is_first, is_later}
 use Rattle.flow_graph_laws.proofs.SortedLemmas.{sorted_from, sorted_has}
 use Rattle.flow_graph_laws.proofs.Functions.{entry_at, one_call}
+use Rattle.c_shapes.proofs.Members.{is_first, is_later}
 
 pub silent_from : (es : List Edge) (a b : ℕ) → Contains (silent_edges es) (record { from = a; to = b }) → Contains es (edge a Silent b)
 silent_from [] a b h = absurd (omega (arith, h.1))

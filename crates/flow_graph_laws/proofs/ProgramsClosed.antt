@@ -2,7 +2,6 @@
 use Rattle.std.proofs.Common.{◌≡◌, ◌≢◌, ◌⊎◌, inl, inr, ℕ, zero, suc, ◌+◌, ◌-◌, ◌<◌, ◌≤◌, Bool, true, false, ◌&&◌, nat_lt, if◌then◌else◌, List, [], ◌∷◌, ◌++◌, map, filter, length, Contains, All, AllPairs, Option, Some, None, refl, ap, sym, ◌∙◌, subst, arith}
 use Rattle.std.specs.List.{range_with_len}
 use Rattle.std.proofs.lemmas.Bool.{false≢true}
-use Rattle.std.proofs.lemmas.Bool.Decides.{Decides-ltb}
 use Rattle.std.proofs.lemmas.Option.{slice_get_within}
 use Rattle.std.proofs.lemmas.List.Elements.{All-append, Contains-append_cases}
 use Rattle.dm_base.specs.Name.{IsName}
@@ -17,49 +16,16 @@ use Rattle.c_shapes.specs.CallGraph.{is_taken, is_typed, functions_of, callees, 
 use Rattle.c_shapes.specs.ShapeOf.{shape_of_function, any_call, taken_calls, shapes_of_functions, names_of_functions, place_of, shapes_of}
 use Rattle.flow_graph_laws.specs.GraphOf.{nodes_from}
 use Rattle.flow_graph_laws.specs.Premises.{AreClosed, AreNamed, HasRightCalls}
-use Rattle.flow_graph_laws.proofs.Edges.{is_first, is_later}
 use Rattle.flow_graph_laws.proofs.Rising.{all_from, of_all, pairs_cons, pairs_head, pairs_tail, pairs_nil}
-use Rattle.flow_graph_laws.proofs.SortedLemmas.{cases}
 use Rattle.flow_graph_laws.proofs.ShapesOfTrees.{statement_has, right_stmt, right_any, any_body}
 use Rattle.flow_graph_laws.proofs.SitesOfTrees.{sites_differ}
 use Rattle.flow_graph_laws.proofs.SystemNames.{named_call}
-
-and_left : (a b : Bool) → (a && b) ≡ true → a ≡ true
-and_left true b h = refl
-and_left false b h = cc
-
-and_right : (a b : Bool) → (a && b) ≡ true → b ≡ true
-and_right true b h = h
-and_right false b h = cc
-
-pub below : (a b : ℕ) → nat_lt a b ≡ true → a < b
-below a b h = (Decides-ltb a b).0 h
-
-pub is_below : (a b : ℕ) → a < b → nat_lt a b ≡ true
-is_below a b h = (Decides-ltb a b).1 h
+use Rattle.c_shapes.proofs.Members.{and_left, below, is_below, is_first, is_later, cases, from_filter, in_filter, from_range, in_range, from_map, length_map}
 
 -- a filter keeps what passes
 abbrev kept : {X : Type 0} → Bool → X → List X → List X
 kept true x xs = x ∷ xs
 kept false x xs = xs
-
-from_kept : {X : Type 0} (test : X → Bool) (x : X) (xs : List X) (b : Bool) → test x ≡ b → (z : X) → Contains (if b then x ∷ filter test xs else filter test xs) z → (Contains (filter test xs) z → Contains xs z × (test z ≡ true)) → Contains (x ∷ xs) z × (test z ≡ true)
-from_kept test x xs true e z h rest = elim (cases x (filter test xs) z h) as (λ k. Contains (x ∷ xs) z × (test z ≡ true)) [ inl is ↦ ((0, omega arith, is), subst (λ y. test y ≡ true) is e) | inr k ↦ (let r = rest k in (is_later x xs z r.0, r.1)) ]
-from_kept test x xs false e z h rest = let r = rest h in (is_later x xs z r.0, r.1)
-
-from_filter : {X : Type 0} (test : X → Bool) (xs : List X) (z : X) → Contains (filter test xs) z → Contains xs z × (test z ≡ true)
-from_filter test [] z h = absurd (omega (arith, h.1))
-from_filter test (x ∷ xs) z h = from_kept test x xs (test x) refl z h (λ k. from_filter test xs z k)
-
-kept_at : {X : Type 0} (test : X → Bool) (x : X) (xs : List X) (b : Bool) → test x ≡ b → (z : X) → ((x ≡ z) ⊎ Contains (filter test xs) z) → test z ≡ true → Contains (if b then x ∷ filter test xs else filter test xs) z
-kept_at test x xs true e z (inl is) h = (0, omega arith, is)
-kept_at test x xs true e z (inr k) h = is_later x (filter test xs) z k
-kept_at test x xs false e z (inl is) h = absurd (false≢true (sym e ∙ (ap test is ∙ h)))
-kept_at test x xs false e z (inr k) h = k
-
-in_filter : {X : Type 0} (test : X → Bool) (xs : List X) (z : X) → Contains xs z → test z ≡ true → Contains (filter test xs) z
-in_filter test [] z h k = absurd (omega (arith, h.1))
-in_filter test (x ∷ xs) z h k = kept_at test x xs (test x) refl z (elim (cases x xs z h) as (λ q. (x ≡ z) ⊎ Contains (filter test xs) z) [ inl is ↦ inl is | inr q ↦ inr (in_filter test xs z q k) ]) k
 
 length_kept : {X : Type 0} (test : X → Bool) (x : X) (xs : List X) (b : Bool) → length (if b then x ∷ filter test xs else filter test xs) ≤ 1 + length (filter test xs)
 length_kept test x xs true = omega arith
@@ -80,29 +46,6 @@ fewer test (x ∷ xs) z h k = elim (cases x xs z h) as (λ q. length (filter tes
   | inl is ↦ (let i = length_without test x xs (test x) refl (ap test is ∙ k) in let j = length_filter test xs in omega (arith, i, j))
   | inr q ↦ (let i = length_kept test x xs (test x) in let j = fewer test xs z q k in omega (arith, i, j))
 ]
-
-from_range : (a n z : ℕ) → Contains (range_with_len a n) z → (a ≤ z) × (z < a + n)
-from_range a zero z h = absurd (omega (arith, h.1))
-from_range a (suc n) z h = elim (cases a (range_with_len (a + 1) n) z h) as (λ k. (a ≤ z) × (z < a + suc n)) [ inl is ↦ (omega (arith, is), omega (arith, is)) | inr k ↦ (let r = from_range (a + 1) n z k in (omega (arith, r.0), omega (arith, r.1))) ]
-
-pub first_or_later : (a z : ℕ) → a ≤ z → (a ≡ z) ⊎ (a + 1 ≤ z)
-first_or_later zero zero le = inl refl
-first_or_later zero (suc z) le = inr (omega arith)
-first_or_later (suc a) zero le = absurd (omega (arith, le))
-first_or_later (suc a) (suc z) le = elim (first_or_later a z (omega (arith, le))) as (λ k. (suc a ≡ suc z) ⊎ (suc a + 1 ≤ suc z)) [ inl is ↦ inl (ap suc is) | inr k ↦ inr (omega (arith, k)) ]
-
-in_range : (a n z : ℕ) → a ≤ z → z < a + n → Contains (range_with_len a n) z
-in_range a zero z le lt = absurd (omega (arith, le, lt))
-in_range a (suc n) z le lt = elim (first_or_later a z le) as (λ k. Contains (range_with_len a (suc n)) z) [ inl is ↦ (0, omega arith, is) | inr k ↦ is_later a (range_with_len (a + 1) n) z (in_range (a + 1) n z k (omega (arith, lt))) ]
-
-from_map : {X Y : Type 0} (f : X → Y) (xs : List X) (y : Y) → Contains (map f xs) y → (x : X) × Contains xs x × (f x ≡ y)
-from_map f [] y h = absurd (omega (arith, h.1))
-from_map f (x ∷ xs) y (zero, lt, is) = (x, (0, omega arith, refl), is)
-from_map f (x ∷ xs) y (suc k, lt, is) = let r = from_map f xs y (k, omega arith, is) in (r.0, is_later x xs r.0 r.1, r.2)
-
-pub length_map : {X Y : Type 0} (f : X → Y) (xs : List X) → length (map f xs) ≡ length xs
-length_map f [] = refl
-length_map f (x ∷ xs) = let k = length_map f xs in omega (arith, k)
 
 length_append : {X : Type 0} (xs ys : List X) → length (xs ++ ys) ≡ length xs + length ys
 length_append [] ys = omega arith

@@ -7,7 +7,8 @@ use Rattle.std.specs.declared.cmp.Ordering.TheVariants.{Less, Equal, Greater}
 use Rattle.std.proofs.lemmas.List.Elements.{Contains-get_or}
 use Rattle.std.proofs.lemmas.List.Kept.{AllPairs-cons}
 use Rattle.flow_graph_laws.specs.Sorted.{placed, insert, sorted}
-use Rattle.flow_graph_laws.proofs.SortedLemmas.{cases, insert_from}
+use Rattle.flow_graph_laws.proofs.SortedLemmas.{insert_from}
+use Rattle.c_shapes.proofs.Members.{cases}
 
 pub all_from : {X : Type 0} (P : X → Type 0) (xs : List X) → ((z : X) → Contains xs z → P z) → All P xs
 all_from P xs f k d lt = f (slice_index_or xs k d) (Contains-get_or xs k d lt)

@@ -1,13 +1,10 @@
 -- What is in a sorted list.
-use Rattle.std.proofs.Common.{◌≡◌, zero, suc, List, [], ◌∷◌, Contains, ◌⊎◌, inl, inr, sym, subst, refl, arith}
+use Rattle.std.proofs.Common.{◌≡◌, List, [], ◌∷◌, Contains, ◌⊎◌, inl, inr, sym, subst, refl, arith}
 use Rattle.std.specs.declared.cmp.Ordering.{Ordering}
 use Rattle.std.specs.declared.cmp.Ordering.TheVariants.{Less, Equal, Greater}
 use Rattle.flow_graph_laws.specs.Sorted.{placed, insert, sorted}
-use Rattle.flow_graph_laws.proofs.Edges.{first_or, none_of, is_first, is_later}
-
-pub cases : {X : Type 0} (x : X) (xs : List X) (z : X) → Contains (x ∷ xs) z → (x ≡ z) ⊎ Contains xs z
-cases x xs z (zero, lt, is) = inl is
-cases x xs z (suc k, lt, is) = inr (k, omega arith, is)
+use Rattle.flow_graph_laws.proofs.Edges.{first_or, none_of}
+use Rattle.c_shapes.proofs.Members.{is_first, is_later, cases}
 
 place_has : {X : Type 0} (o : Ordering) (x y : X) (ys inside : List X) → (o ≡ Equal → x ≡ y) → Contains inside x → Contains (placed o x y ys inside) x
 place_has Less x y ys inside ties has = is_first x (y ∷ ys)

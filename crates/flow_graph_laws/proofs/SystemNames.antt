@@ -4,28 +4,10 @@ use Rattle.std.specs.Str.{bytes_eq}
 use Rattle.std.proofs.lemmas.Slice.Eq.{bytes_eq-Decides}
 use Rattle.std.proofs.lemmas.List.Elements.{All-nil, All-cons}
 use Rattle.std.proofs.lemmas.Bool.{false≢true}
-use Rattle.std.proofs.lemmas.Bool.Decides.{Decides-ltb, eqb_tells}
 use Rattle.dm_base.specs.Name.{IsName, IsLetter, IsDigit, keywords}
 use Rattle.dm_base.proofs.Names.{IsName-from_parts}
 use Rattle.sys_table.specs.Table.{Row, table, name_of}
-
-and_left : (a b : Bool) → (a && b) ≡ true → a ≡ true
-and_left true b h = refl
-and_left false b h = cc
-
-and_right : (a b : Bool) → (a && b) ≡ true → b ≡ true
-and_right true b h = h
-and_right false b h = cc
-
-or_cases : (a b : Bool) → (a || b) ≡ true → (a ≡ true) ⊎ (b ≡ true)
-or_cases true b h = inl refl
-or_cases false b h = inr h
-
-below : (a b : ℕ) → nat_lt a b ≡ true → a < b
-below a b h = (Decides-ltb a b).0 h
-
-same : (a b : ℕ) → nat_eq a b ≡ true → a ≡ b
-same a b h = elim (eqb_tells a b) as (λ k. a ≡ b) [ inl k ↦ k.1 | inr k ↦ absurd (false≢true (sym k.0 ∙ h)) ]
+use Rattle.c_shapes.proofs.Members.{and_left, and_right, or_cases, below, same_number}
 
 -- whether the byte is a small letter or an underscore
 abbrev is_letter : ℕ → Bool
@@ -36,7 +18,7 @@ is_byte b = is_letter b || (nat_lt 47 b && nat_lt b 58)
 
 letter : (b : ℕ) → is_letter b ≡ true → IsLetter b
 letter b h = elim (or_cases (nat_eq b 95) (nat_lt 96 b && nat_lt b 123) h) as (λ k. IsLetter b) [
-  | inl k ↦ inr (inr (same b 95 k))
+  | inl k ↦ inr (inr (same_number b 95 k))
   | inr k ↦ (let low = below 96 b (and_left (nat_lt 96 b) (nat_lt b 123) k) in let high = below b 123 (and_right (nat_lt 96 b) (nat_lt b 123) k) in inr (inl (omega (arith, low), omega (arith, high))))
 ]
 

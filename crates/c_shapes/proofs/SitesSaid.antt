@@ -1,6 +1,5 @@
--- The call at a site is found in what a program mentions: sites stand once.
-use Rattle.std.proofs.Common.{◌≡◌, ◌⊎◌, inl, inr, ℕ, zero, suc, ◌+◌, ◌<◌, ◌≤◌, Bool, true, false, nat_eq, if◌then◌else◌, List, [], ◌∷◌, ◌++◌, flat_map, Contains, Option, Some, None, refl, ap, sym, ◌∙◌, subst, append-nil, arith}
-use Rattle.std.proofs.lemmas.Bool.{eqb-true}
+-- The calls that a program mentions stand at its sites, in the same order, and each site stands once: so the call at a site is found.
+use Rattle.std.proofs.Common.{◌≡◌, inl, inr, ℕ, zero, suc, ◌+◌, nat_eq, if◌then◌else◌, List, [], ◌∷◌, ◌++◌, flat_map, Contains, Option, Some, None, refl, ap, sym, ◌∙◌, subst, append-nil, arith}
 use Rattle.std.specs.Cmp.{nat_eq_equiv}
 use Rattle.std.specs.List.{range_with_len}
 use Rattle.c_tree.specs.declared.value.Value.{Value}
@@ -13,23 +12,13 @@ use Rattle.c_tree.specs.Program.{IsProgram}
 use Rattle.c_tree.specs.Sites.{sites_of, sites_of_all, sites_of_maybe, sites_of_inits, sites_of_stmt, sites_of_stmts, sites_of_groups, sites_of_function, sites_of_program}
 use Rattle.c_shapes.specs.Mentions.{Callee, Through, Mention, Named, Calls, mentions, mentions_of_all, mentions_of_maybe, mentions_of_inits, mentions_of_stmt, mentions_of_stmts, mentions_of_groups, mentions_of_function, mention_of_cell, mentions_of_static, mentions_of_program}
 use Rattle.c_shapes.specs.CallGraph.{callee_at}
-use Rattle.call_graph.proofs.SitesLemmas.{sites_in, in_maybe, in_cell}
-use Rattle.flow_graph_laws.proofs.Edges.{is_later}
-use Rattle.flow_graph_laws.proofs.SortedLemmas.{cases}
+use Rattle.c_shapes.proofs.Members.{is_later, cases, none_in, other_number, from_range}
 
-none_in : {X : Type 0} (z : X) → Contains [] z → ⊥
-none_in z h = omega (arith, h.1)
-
-other_number : (a b : ℕ) → (a ≡ b → ⊥) → nat_eq a b ≡ false
-other_number a b h = by (nat_eq a b) refl
-  where
-    by : (c : Bool) → nat_eq a b ≡ c → nat_eq a b ≡ false
-    by true e = absurd (h (eqb-true a b e))
-    by false e = e
-
-from_range : (a n z : ℕ) → Contains (range_with_len a n) z → (a ≤ z) × (z < a + n)
-from_range a zero z h = absurd (none_in z h)
-from_range a (suc n) z h = elim (cases a (range_with_len (a + 1) n) z h) as (λ k. (a ≤ z) × (z < a + suc n)) [ inl is ↦ (omega (arith, is), omega (arith, is)) | inr k ↦ (let r = from_range (a + 1) n z k in (omega (arith, r.0), omega (arith, r.1))) ]
+-- the sites of the calls among what is mentioned
+abbrev pub sites_in : List Mention → List ℕ
+sites_in [] = []
+sites_in (Named f ∷ ms) = sites_in ms
+sites_in (Calls s callee ∷ ms) = s ∷ sites_in ms
 
 sites_append : (xs ys : List Mention) → sites_in (xs ++ ys) ≡ sites_in xs ++ sites_in ys
 sites_append [] ys = refl
@@ -72,6 +61,10 @@ mutual
   in_exprs no_exprs = refl
   in_exprs (more_exprs e es) = both (mentions e) (mentions_of_all es) (sites_of e) (sites_of_all es) (in_expr e) (in_exprs es)
 
+in_maybe : (e : Maybe) → sites_in (mentions_of_maybe e) ≡ sites_of_maybe e
+in_maybe absent = refl
+in_maybe (there e) = in_expr e
+
 in_inits : (is : Inits) → sites_in (mentions_of_inits is) ≡ sites_of_inits is
 in_inits no_inits = refl
 in_inits (more_inits cell e is) = both (mentions e) (mentions_of_inits is) (sites_of e) (sites_of_inits is) (in_expr e) (in_inits is)
@@ -106,6 +99,10 @@ in_functions : (fs : List Function) → sites_in (flat_map mentions_of_function 
 in_functions [] = refl
 in_functions (f ∷ fs) = both (mentions_of_function f) (flat_map mentions_of_function fs) (sites_of_function f) (flat_map sites_of_function fs) (in_stmt f.body) (in_functions fs)
 
+in_cell : (x : Value) → sites_in (mention_of_cell x) ≡ []
+in_cell (v.Func f) = refl
+in_cell _ = refl
+
 in_cells : (xs : List Value) → sites_in (flat_map mention_of_cell xs) ≡ []
 in_cells [] = refl
 in_cells (x ∷ xs) = both (mention_of_cell x) (flat_map mention_of_cell xs) [] [] (in_cell x) (in_cells xs)
@@ -114,7 +111,7 @@ in_statics : (ss : List Static) → sites_in (flat_map mentions_of_static ss) �
 in_statics [] = refl
 in_statics (s ∷ ss) = both (mentions_of_static s) (flat_map mentions_of_static ss) [] [] (in_cells s.cells) (in_statics ss)
 
-in_program : (p : Program) → sites_in (mentions_of_program p) ≡ sites_of_program p
+pub in_program : (p : Program) → sites_in (mentions_of_program p) ≡ sites_of_program p
 in_program p = both (flat_map mentions_of_function p.functions) (flat_map mentions_of_static p.statics) (sites_of_program p) [] (in_functions p.functions) (in_statics p.statics) ∙ append-nil (sites_of_program p)
 
 -- each number once
@@ -138,7 +135,7 @@ abbrev callee_of : Mention → Option Callee
 callee_of (Named f) = None
 callee_of (Calls s callee) = Some callee
 
-site_among : (s : ℕ) (c : Callee) (ms : List Mention) → Contains ms (Calls s c) → Contains (sites_in ms) s
+pub site_among : (s : ℕ) (c : Callee) (ms : List Mention) → Contains ms (Calls s c) → Contains (sites_in ms) s
 site_among s c [] h = absurd (none_in (Calls s c) h)
 site_among s c (Named f ∷ ms) h = elim (cases (Named f) ms (Calls s c) h) as (λ k. Contains (sites_in ms) s) [ inl is ↦ absurd (subst IsCalls (sym is) tt) | inr k ↦ site_among s c ms k ]
 site_among s c (Calls r d ∷ ms) h = elim (cases (Calls r d) ms (Calls s c) h) as (λ k. Contains (r ∷ sites_in ms) s) [ inl is ↦ (0, omega arith, ap site_of is) | inr k ↦ is_later r (sites_in ms) s (site_among s c ms k) ]
