@@ -1,23 +1,27 @@
 -- What follows a step that was answered.
-use Rattle.std.proofs.Common.{◌≡◌, ℕ, ◌<◌, ◌≤◌, ◌-◌, ◌+◌, Bool, true, false, if◌then◌else◌, nat_lt, length, List, [], ◌∷◌, ◌++◌, sym, ap, ◌∙◌, subst, refl, append_assoc, append-nil}
+use Rattle.std.proofs.Common.{◌≡◌, ℕ, ◌<◌, ◌≤◌, ◌-◌, ◌+◌, Bool, true, false, if◌then◌else◌, nat_lt, length, List, [], ◌∷◌, ◌++◌, Option, Some, None, nat_eq, sym, ap, ◌∙◌, subst, refl, append_assoc, append-nil}
 use Rattle.std.specs.Prelude.{◌==◌}
 use Rattle.std.proofs.Math.Dec.{eqb-suc-zero}
 use Rattle.std.proofs.lemmas.Bool.{lt-ltb, le-ltb, false≢true, true≢false}
+use Rattle.dm_base.specs.declared.event.Event.{Event}
+use Rattle.dm_base.specs.declared.event.Event.TheVariants.{Pre, Post}
 use Rattle.dm_base.specs.declared.outcome.Outcome.TheVariants.{Undefined}
 use Rattle.c_tree.specs.declared.value.Value.{Value}
+use Rattle.c_tree.specs.declared.value.Value.TheVariants.{Indeterminate, Int, Uint, Char, Uchar, Null, Func, At}
 use Rattle.c_tree.specs.Tree.{Expr, Exprs, no_exprs, more_exprs, Program}
 use Rattle.c_tree.specs.declared.tree.TExpr.{TExpr}
 use Rattle.c_tree.specs.View.{expr_of, exprs_of}
 use Rattle.c_tree.specs.Functions.{defined}
 use Rattle.c_values.specs.Answers.{Answer, gives, undefined}
 use Rattle.c_values.specs.Memory.{Objects}
-use Rattle.c_meaning.specs.Meaning.{Frame as Place, World, call_undefined, eval, eval_each, eval_all, system_call_alone}
+use Rattle.c_meaning.specs.Meaning.{Frame as Place, World, call_undefined, eval, eval_each, eval_all, null_call, system_call_alone}
 use Rattle.c_meaning.specs.Results.{State, with_memory, Result, Go, Stop, then_do, answered, remembered}
 use Rattle.c_meaning.specs.Runs.{no_marks}
 use Rattle.c_meaning.specs.SystemCalls.{system_call}
 use Rattle.ref_machine_frames.specs.declared.frames.Callee.{Callee}
 use Rattle.ref_machine_frames.specs.Frames.{asked, made}
 use Rattle.ref_machine_frames.proofs.Joining.{after_none, then_assoc, then_same}
+use Rattle.ref_machine_expressions.specs.Asking.{site_of}
 
 -- a step gave something, and the run goes on with it
 pub goes_on_with : {A B C : Type 0} (answer : Answer A) (a : A) (st : State) (f : A → State → Result B) (k : B → State → Result C) (x : Result C) → gives a ≡ answer → x ≡ then_do (f a st) k → x ≡ then_do (then_do (answered answer st) f) k
@@ -118,3 +122,49 @@ nothing_left (x ∷ xs) b e t = absurd (false≢true (sym (e ∙ eqb-suc-zero (l
 pub something_left : (xs : List TExpr) (b : Bool) → b ≡ (length xs == 0) → b ≡ false → xs ≡ [] → ⊥
 something_left [] b e f h = true≢false (sym e ∙ f)
 something_left (x ∷ xs) b e f h = cc
+
+-- a system call by a number that none has
+pub not_alone : (x : ℕ) (vs : List Value) (st : State) → 24 ≤ x → system_call_alone x vs st ≡ Stop (Undefined 13) []
+not_alone x vs st le = if_not_below x 24 (system_call x vs st) (Stop (Undefined 13) []) le
+
+-- a null call without its site
+null_none : (event : ℕ → Event) (vs : List Value) (st : State) → site_of vs ≡ None → null_call event vs st ≡ Stop (Undefined 13) []
+null_none event [] st e = refl
+null_none event (Uint n ∷ []) st e = cc
+null_none event (Uint n ∷ u ∷ us) st e = refl
+null_none event (Indeterminate ∷ us) st e = refl
+null_none event (Int z ∷ us) st e = refl
+null_none event (Char z ∷ us) st e = refl
+null_none event (Uchar n ∷ us) st e = refl
+null_none event (Null ∷ us) st e = refl
+null_none event (Func f ∷ us) st e = refl
+null_none event (At q ∷ us) st e = refl
+
+one_of_three : {A : Type 0} (b c : Bool) (x y z : A) → x ≡ z → y ≡ z → (if b then x else (if c then y else z)) ≡ z
+one_of_three true c x y z p q = p
+one_of_three false true x y z p q = q
+one_of_three false false x y z p q = refl
+
+pub no_site : (x : ℕ) (vs : List Value) (st : State) → 24 ≤ x → None ≡ site_of vs → call_undefined x vs st ≡ Stop (Undefined 13) []
+no_site x vs st le none =
+    if_not_below x 24 (system_call x vs st) (if nat_eq x 24 then null_call Pre vs st else (if nat_eq x 25 then null_call Post vs st else Stop (Undefined 13) [])) le
+    ∙ one_of_three (nat_eq x 24) (nat_eq x 25) (null_call Pre vs st) (null_call Post vs st) (Stop (Undefined 13) []) (null_none Pre vs st (sym none)) (null_none Post vs st (sym none))
+
+-- a null call with its site
+pub with_site : (site : ℕ) (vs : List Value) → Some site ≡ site_of vs → Uint site ∷ [] ≡ vs
+with_site site [] e = cc
+with_site site (Uint n ∷ []) e =
+    let same : site ≡ n = cc in
+    ap (λ n. Uint n ∷ []) same
+with_site site (Uint n ∷ u ∷ us) e = cc
+with_site site (Indeterminate ∷ us) e = cc
+with_site site (Int z ∷ us) e = cc
+with_site site (Char z ∷ us) e = cc
+with_site site (Uchar n ∷ us) e = cc
+with_site site (Null ∷ us) e = cc
+with_site site (Func f ∷ us) e = cc
+with_site site (At q ∷ us) e = cc
+
+-- no member of a comma expression
+pub no_member : (p : Program) (w : World) (fr : Place) (wanted : Bool) (es : List TExpr) (st : State) (k : Value → State → Result Value) → es ≡ [] → Stop (Undefined 13) [] ≡ then_do (eval_each p w no_marks fr wanted (exprs_of es) st) k
+no_member p w fr wanted es st k none = sym (ap (λ es. then_do (eval_each p w no_marks fr wanted (exprs_of es) st) k) none)

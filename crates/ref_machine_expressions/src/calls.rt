@@ -1,4 +1,4 @@
-ghost use Rattle.std.specs.Prelude.{◌≡◌, ◌++◌, ◌∷◌, [], ◌≤◌, IfOk, IfSome, length};
+ghost use Rattle.std.specs.Prelude.{◌≡◌, ◌++◌, ◌∷◌, [], ◌≤◌, IfOk, length};
 ghost use Rattle.c_tree.specs.declared.value.Value.TheVariants.{Uint};
 ghost use Rattle.c_tree.specs.Tree.{Program as Term};
 ghost use Rattle.c_tree.specs.View.{ctype_of, exprs_of, program_of};
@@ -11,14 +11,14 @@ ghost use Rattle.c_meaning.specs.SystemCalls.{Request as Asked, exit_with, syste
 ghost use Rattle.c_values.specs.Answers.{Answer};
 ghost use Rattle.ref_machine_steps.specs.Asking.{IsRefusal};
 ghost use Rattle.ref_machine_steps.specs.Requests.{asked_by};
-ghost use Rattle.ref_machine_expressions.specs.Asking.{asking, IsStop};
+ghost use Rattle.ref_machine_expressions.specs.Asking.{asking, site_of, IsStop};
 ghost use Rattle.ref_machine_frames.specs.Frames.{made, place_of};
 ghost use Rattle.ref_machine_frames.specs.Parts.{Does, Gives};
 ghost use Rattle.ref_machine_frames.specs.declared.frames.Here.{Here as Activation};
 
 use c_tree::{CType, Program, TExpr, Value};
 use c_values::Memory;
-use dm_base::{Event, OutOfMemory, Outcome, SysName};
+use dm_base::{Event, OutOfMemory, SysName};
 use ref_machine_frames::{After, Callee, Frame, Now, ValueFrame, stopped, wait};
 use ref_machine_steps::{Request, StepError, callee, exit_status, requested};
 use std::alloc::Global;
@@ -37,35 +37,31 @@ pub fn wants(wanted: bool, t: &CType) -> bool
 }
 
 // `_exit` ends the run with its argument.
-fn exit<'p>(name: SysName, request: Request) -> Result<Now<'p>, OutOfMemory>
+fn exit<'p>(name: SysName, request: Request) -> Now<'p>
     requires { name ≡ 23 }
-    ensures { IfOk result (λ now. (p : Term) (m : Objects) → Does p m (λ w st. exit_with request.arguments) now) }
+    ensures { (p : Term) (m : Objects) → Does p m (λ w st. exit_with request.arguments) result }
 {
     let Some(status) = exit_status(&request) else {
-        return Err(OutOfMemory);
+        return Now::Mistyped;
     };
-    let Ok(status) = i32::try_from(status) else {
-        return Err(OutOfMemory);
-    };
-    Ok(Now::Told {
+    Now::Told {
         event: Event::Sys {
             name,
             args: request.arguments,
             result: 0,
         },
-        then: After::Stopped(Outcome::Exit(status)),
-    })
+        then: After::Exited(status),
+    }
 }
 
 // A system call that has asked for this needs a record, but for `_exit`.
-fn asking<'p>(name: SysName, request: Request) -> Result<Now<'p>, OutOfMemory>
-    ensures { IfOk result (λ now. (p : Term) (m : Objects) → Does p m (λ w st. asking name (asked_by request) st) now) }
+fn asking<'p>(name: SysName, request: Request) -> Now<'p>
+    ensures { (p : Term) (m : Objects) → Does p m (λ w st. asking name (asked_by request) st) result }
 {
     if name.index() == EXIT {
-        let now = exit(name, request)?;
-        return Ok(now);
+        return exit(name, request);
     }
-    Ok(Now::Ask { name, request })
+    Now::Ask { name, request }
 }
 
 // Why a system call asks for nothing.
@@ -73,10 +69,7 @@ fn refused<'p>(error: StepError) -> Result<Now<'p>, OutOfMemory>
     ensures { IfOk result (λ now. (answer : Answer Asked) → IsRefusal error answer → IsStop answer now) }
 {
     match error {
-        StepError::Faulty(fault) => {
-            let now = stopped(fault)?;
-            Ok(now)
-        }
+        StepError::Faulty(fault) => Ok(stopped(fault)),
         StepError::OutOfMemory => Err(OutOfMemory),
     }
 }
@@ -94,25 +87,12 @@ fn system_call<'p>(
         return Err(OutOfMemory);
     }
     match requested(alloc, memory, name, values) {
-        Ok(request) => {
-            let now = asking(name, request)?;
-            Ok(now)
-        }
+        Ok(request) => Ok(asking(name, request)),
         Err(error) => {
             let now = refused(error)?;
             Ok(now)
         }
     }
-}
-
-// The one argument of a null call.
-fn site_in(values: &[Value]) -> Option<u32>
-    ensures { IfSome result (λ site. values.now ≡ Uint site ∷ []) }
-{
-    let [Value::Uint(site)] = values else {
-        return None;
-    };
-    Some(*site)
 }
 
 // A call of a system call by its number.
@@ -125,33 +105,46 @@ fn call_system<'p>(
     ensures { IfOk result (λ now. (p : Term) → Does p (seen memory.now) (λ w st. system_call_alone x values.now st) now) }
 {
     if x >= 24 {
-        return Err(OutOfMemory);
+        return Ok(Now::Mistyped);
     }
     let Some(name) = SysName::from_index(x as u8) else {
-        return Err(OutOfMemory);
+        unreachable!()
     };
     let now = system_call(alloc, memory, name, values)?;
     Ok(now)
 }
 
+// The one argument of a null call.
+fn site_in(values: &[Value]) -> Option<u32>
+    ensures { result ≡ site_of values.now }
+{
+    let [one] = values else {
+        return None;
+    };
+    match one {
+        Value::Uint(site) => Some(*site),
+        _ => None,
+    }
+}
+
 // A null call, of which 24 is that before a call, and 25 that after it.
-fn null_call<'p>(x: u32, site: u32) -> Result<Now<'p>, OutOfMemory>
+fn null_call<'p>(x: u32, site: u32) -> Now<'p>
     requires { 24 ≤ x }
-    ensures { IfOk result (λ now. (p : Term) (m : Objects) → Does p m (λ w st. call_undefined x (Uint site ∷ []) st) now) }
+    ensures { (p : Term) (m : Objects) → Does p m (λ w st. call_undefined x (Uint site ∷ []) st) result }
 {
     if x == 24 {
-        return Ok(Now::Told {
+        return Now::Told {
             event: Event::Pre(site),
             then: After::Have(Value::Indeterminate),
-        });
+        };
     }
     if x == 25 {
-        return Ok(Now::Told {
+        return Now::Told {
             event: Event::Post(site),
             then: After::Have(Value::Indeterminate),
-        });
+        };
     }
-    Err(OutOfMemory)
+    Now::Mistyped
 }
 
 // A call of a function that has no definition.
@@ -167,11 +160,10 @@ fn call_undefined<'p>(
         let now = call_system(alloc, memory, x, values)?;
         return Ok(now);
     }
-    let Some(site) = site_in(values) else {
-        return Err(OutOfMemory);
-    };
-    let now = null_call(x, site)?;
-    Ok(now)
+    match site_in(values) {
+        Some(site) => Ok(null_call(x, site)),
+        None => Ok(Now::Mistyped),
+    }
 }
 
 // A call of the function with this number by its name.
@@ -241,10 +233,7 @@ fn made<'p>(
                 let now = called_through(alloc, program, memory, wanted, f, values)?;
                 Ok(now)
             }
-            Err(fault) => {
-                let now = stopped(fault)?;
-                Ok(now)
-            }
+            Err(fault) => Ok(stopped(fault)),
         },
     }
 }

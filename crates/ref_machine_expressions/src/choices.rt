@@ -60,9 +60,6 @@ pub fn choosing<'p>(
             let now = chosen(todo, choice, holds)?;
             Ok(now)
         }
-        Err(fault) => {
-            let now = stopped(fault)?;
-            Ok(now)
-        }
+        Err(fault) => Ok(stopped(fault)),
     }
 }

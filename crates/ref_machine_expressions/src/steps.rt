@@ -31,10 +31,7 @@ fn dereferenced<'p>(memory: &Memory, t: &CType, v: Value) -> Result<Now<'p>, Out
     ensures { IfOk result (λ now. IsAnswer (behind_of (ctype_of t.now) (seen memory.now) v) now) }
 {
     match t {
-        CType::Function(_, _) => {
-            let now = given(function_behind(v))?;
-            Ok(now)
-        }
+        CType::Function(_, _) => Ok(given(function_behind(v))),
         CType::Void => {
             let now = object_behind(memory, v)?;
             Ok(now)
@@ -68,8 +65,7 @@ fn first_element<'p>(
     ensures { (structs : Structs) → AreCells structs counts.now → IfOk result (λ now. IsAnswer (to_first (cells structs (ctype_of element.now)) n v) now) }
 {
     let width = cells_in(counts, element)?;
-    let now = given(to_first(width, n, v))?;
-    Ok(now)
+    Ok(given(to_first(width, n, v)))
 }
 
 // A place of this type as a pointer.
@@ -82,7 +78,10 @@ fn decayed<'p>(counts: &[u32], t: &CType, v: Value) -> Result<Now<'p>, OutOfMemo
             Ok(now)
         }
         CType::Function(_, _) => Ok(Now::Have(v)),
-        _ => Err(OutOfMemory),
+        CType::Void => Ok(Now::Mistyped),
+        CType::Int(_) => Ok(Now::Mistyped),
+        CType::Pointer(_) => Ok(Now::Mistyped),
+        CType::Struct(_) => Ok(Now::Mistyped),
     }
 }
 
@@ -109,10 +108,7 @@ pub fn one_step<'p>(
             let now = dereferenced(memory, t, v)?;
             Ok(now)
         }
-        Step::Load => {
-            let now = given(load_place(memory, v))?;
-            Ok(now)
-        }
+        Step::Load => Ok(given(load_place(memory, v))),
         Step::Decay(t) => {
             let now = decayed(counts, t, v)?;
             Ok(now)
@@ -122,14 +118,8 @@ pub fn one_step<'p>(
             let now = member_of(counts, first, t, v)?;
             Ok(now)
         }
-        Step::Unary(op) => {
-            let now = given(operated(memory, op, v))?;
-            Ok(now)
-        }
-        Step::Convert(to) => {
-            let now = given(convert_value(v, to))?;
-            Ok(now)
-        }
+        Step::Unary(op) => Ok(given(operated(memory, op, v))),
+        Step::Convert(to) => Ok(given(convert_value(v, to))),
     }
 }
 
@@ -162,21 +152,12 @@ pub fn two_step<'p>(memory: &Memory, pair: Pair, v: Value, u: Value) -> Result<N
     ensures { IfOk result (λ now. IsAnswer (two_step pair (seen memory.now) v u) now) }
 {
     match pair {
-        Pair::Arith(op) => {
-            let now = given(computed(op, v, u))?;
-            Ok(now)
-        }
-        Pair::Compare(op) => {
-            let now = given(comparing(memory, op, v, u))?;
-            Ok(now)
-        }
+        Pair::Arith(op) => Ok(given(computed(op, v, u))),
+        Pair::Compare(op) => Ok(given(comparing(memory, op, v, u))),
         Pair::PointerAdd {
             pointer_first,
             subtracted,
-        } => {
-            let now = given(moved_by(memory, pointer_first, subtracted, v, u))?;
-            Ok(now)
-        }
+        } => Ok(given(moved_by(memory, pointer_first, subtracted, v, u))),
         Pair::PointerDiff => {
             let now = distance(memory, v, u)?;
             Ok(now)

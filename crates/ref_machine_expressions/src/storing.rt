@@ -100,10 +100,7 @@ fn stored<'p>(
 {
     match store_place(memory, place, value) {
         Ok(()) => Ok(Now::Have(gives)),
-        Err(fault) => {
-            let now = stopped(fault)?;
-            Ok(now)
-        }
+        Err(fault) => Ok(stopped(fault)),
     }
 }
 
@@ -154,10 +151,7 @@ fn loading<'p>(
             let now = wait(todo, ValueFrame::Store(next), true, right)?;
             Ok(now)
         }
-        Err(fault) => {
-            let now = stopped(fault)?;
-            Ok(now)
-        }
+        Err(fault) => Ok(stopped(fault)),
     }
 }
 
@@ -180,10 +174,7 @@ fn renewing<'p>(
             let now = renewed(memory, todo, old, place, before, new)?;
             Ok(now)
         }
-        Err(fault) => {
-            let now = stopped(fault)?;
-            Ok(now)
-        }
+        Err(fault) => Ok(stopped(fault)),
     }
 }
 

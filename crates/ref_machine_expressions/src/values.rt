@@ -29,7 +29,7 @@ pub fn members<'p>(
     ensures { IfOk result (λ now. (p : Term) (h : Activation) (m : Objects) → Gives p h m todo.old.items (λ w st. eval_each p w no_marks (place_of h) wanted (exprs_of left.now) st) now m todo.new.items) }
 {
     let Some((first, rest)) = left.split_first() else {
-        return Err(OutOfMemory);
+        return Ok(Now::Mistyped);
     };
     if rest.is_empty() {
         return Ok(Now::Eval { wanted, of: first });

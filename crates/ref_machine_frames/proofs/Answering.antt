@@ -22,6 +22,10 @@ typed_value v answer e p w fr todo st =
 pub none_given : (kind : ℕ) (answer : Answer Value) → undefined kind ≡ answer → IsAnswer answer (nows.Stopped (Undefined kind))
 none_given kind answer e p w fr todo st = ap (λ a. then_do (answered a st) (after_value p w fr todo)) e
 
+-- a value of another kind than its place
+pub mistyped : (answer : Answer Value) → undefined U13 ≡ answer → IsAnswer answer nows.Mistyped
+mistyped answer e p w fr todo st = ap (λ a. then_do (answered a st) (after_value p w fr todo)) e
+
 fits : (b : Bool) (v u : Value) → gives v ≡ (if b then gives u else undefined U13) → gives v ≡ gives u
 fits true v u e = e
 fits false v u e = cc

@@ -1,6 +1,6 @@
 -- What the things that are left to do mean, as parts of what a program does (C99 5.1.2.3).
 use Rattle.std.specs.Prelude.{ℕ, zero, suc, Bool, true, false, List, [], ◌∷◌, ◌++◌, reverse, Some}
-use Rattle.dm_base.specs.declared.outcome.Outcome.TheVariants.{Undefined}
+use Rattle.dm_base.specs.declared.outcome.Outcome.TheVariants.{Undefined, Exit as ended_by}
 use Rattle.c_tree.specs.declared.value.Value.{Value}
 use Rattle.c_tree.specs.declared.value.Value.TheVariants.{Indeterminate}
 use Rattle.c_tree.specs.Operators.{convert, binary}
@@ -220,7 +220,7 @@ abbrev mutual
 -- what comes after an event
 abbrev pub then_comes : Program → World → Place → After → List Frame → State → Result Value
 then_comes p w fr (afters.Have v) k st = after_value p w fr k v st
-then_comes p w fr (afters.Stopped o) k st = Stop o []
+then_comes p w fr (afters.Exited status) k st = Stop (ended_by status) []
 
 -- what is left of the run: what comes next, and then these
 abbrev pub rest : Program → World → Place → Now → List Frame → State → Result Value
@@ -233,3 +233,4 @@ rest p w fr (nows.Test s) k st = then_do (w.again fr (rounds_of (stmt_of s.now))
 rest p w fr (nows.Ask x q) k st = then_do (take_record x (asked_by q) st.records st) (after_value p w fr k)
 rest p w fr (nows.Told e next) k st = after (e ∷ []) (then_comes p w fr next k st)
 rest p w fr (nows.Stopped o) k st = Stop o []
+rest p w fr nows.Mistyped k st = stuck

@@ -10,14 +10,14 @@ use c_tree::Value;
 use dm_base::{OutOfMemory, Outcome};
 use ref_machine_steps::Fault;
 
-/// The end of the run by undefined behaviour. A value of another kind than its type, which no well-typed program
-/// comes to, has no outcome, and is answered as want of memory.
-pub fn stopped<'p>(fault: Fault) -> Result<Now<'p>, OutOfMemory>
-    ensures { IfOk result (λ now. IsAnswer (undefined (number_of fault)) now) }
+/// The end of the run by undefined behaviour, or at a value of another kind than its type, which no run of a
+/// well-typed program comes to.
+pub fn stopped<'p>(fault: Fault) -> Now<'p>
+    ensures { IsAnswer (undefined (number_of fault)) result }
 {
     match fault {
-        Fault::Undefined(kind) => Ok(Now::Stopped(Outcome::Undefined(kind))),
-        Fault::Mistyped => Err(OutOfMemory),
+        Fault::Undefined(kind) => Now::Stopped(Outcome::Undefined(kind)),
+        Fault::Mistyped => Now::Mistyped,
     }
 }
 
@@ -36,16 +36,17 @@ fn stopped_in_words<'p>(fault: Fault) -> Result<Now<'p>, OutOfMemory>
 }
 
 /// The value that a step gives, or the end of the run.
-pub fn given<'p>(found: Result<Value, Fault>) -> Result<Now<'p>, OutOfMemory>
-    ensures { IfOk result (λ now. IsAnswer (told found) now) }
+pub fn given<'p>(found: Result<Value, Fault>) -> Now<'p>
+    ensures { IsAnswer (told found) result }
 {
     match found {
-        Ok(value) => Ok(Now::Have(value)),
+        Ok(value) => Now::Have(value),
         Err(fault) => stopped(fault),
     }
 }
 
-/// The same of a step that gives values alone whose numbers have 32 bits.
+/// The same of a step that gives values alone whose numbers have 32 bits. Where the value has a number with more, it
+/// can't be held, and want of memory is answered.
 pub fn given_in_words<'p>(found: Result<Value, Fault>) -> Result<Now<'p>, OutOfMemory>
     ensures { (answer : Answer Scalar) → told found ≡ held answer → IfOk result (λ now. IsAnswer answer now) }
 {

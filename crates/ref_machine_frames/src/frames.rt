@@ -253,8 +253,8 @@ pub enum Left {
 pub enum After {
     /// The value of the call.
     Have(Value),
-    /// The end of the run.
-    Stopped(Outcome),
+    /// The end of the run with this status, an `int` in each run of a well-typed program.
+    Exited(i64),
 }
 
 /// What comes next.
@@ -300,4 +300,6 @@ pub enum Now<'p> {
     },
     /// The run has ended.
     Stopped(Outcome),
+    /// A value or an exit of another kind than its place was met, which no run of a well-typed program comes to.
+    Mistyped,
 }

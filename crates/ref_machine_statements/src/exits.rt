@@ -52,14 +52,14 @@ fn later_groups<'p>(
 }
 
 // A loop after the head of its `for`, where that goes on.
-fn begin_loop<'p>(of: &'p TStmt, by: Left) -> Result<Now<'p>, OutOfMemory>
-    ensures { IfOk result (λ now. (p : Program) (h : Activation) (m : Objects) (todo : List Todo) → Leaves p h m todo (λ w st. on_exit (exit_in by) st (w.again (place_of h) (rounds_of (stmt_of of.now)))) now m todo) }
+fn begin_loop<'p>(of: &'p TStmt, by: Left) -> Now<'p>
+    ensures { (p : Program) (h : Activation) (m : Objects) (todo : List Todo) → Leaves p h m todo (λ w st. on_exit (exit_in by) st (w.again (place_of h) (rounds_of (stmt_of of.now)))) result m todo }
 {
     match by {
-        Left::On => Ok(Now::Test(of)),
-        Left::Broken => Ok(Now::Left(by)),
-        Left::Continued => Ok(Now::Left(by)),
-        Left::Returned(_) => Ok(Now::Left(by)),
+        Left::On => Now::Test(of),
+        Left::Broken => Now::Left(by),
+        Left::Continued => Now::Left(by),
+        Left::Returned(_) => Now::Left(by),
     }
 }
 
@@ -75,8 +75,8 @@ fn out_of_switch(by: Left) -> Left
     }
 }
 
-/// What comes of an exit in a statement (C99 6.8, 6.8.6). Beside want of memory it refuses, as want of memory too, the
-/// round of a statement that is no loop. Where it refuses, `memory` and `todo` may have been changed.
+/// What comes of an exit in a statement (C99 6.8, 6.8.6). Where memory is refused, `memory` and `todo` may have been
+/// changed.
 pub fn with_exit<'p>(
     memory: &mut Memory,
     todo: &mut Vec<Frame<'p>>,
@@ -95,6 +95,6 @@ pub fn with_exit<'p>(
             Ok(Now::Left(by))
         }
         ExitFrame::Part(Parted::Round, of) => round(todo, of, by),
-        ExitFrame::Part(Parted::Head, of) => begin_loop(of, by),
+        ExitFrame::Part(Parted::Head, of) => Ok(begin_loop(of, by)),
     }
 }

@@ -43,12 +43,13 @@ pub fn going_round<'p>(
             ExitFrame::Part(Parted::Round, of),
             body,
         ),
-        _ => Err(OutOfMemory),
+        _ => Ok(Now::Test(of)),
     }
 }
 
-/// A loop is tested, once its turn is spent (C99 6.8.5); a missing condition holds (6.8.5.3 paragraph 2). A statement
-/// that is no loop is refused as want of memory. Where it refuses, what is left to do may have been changed.
+/// A loop is tested, once its turn is spent (C99 6.8.5); a missing condition holds (6.8.5.3 paragraph 2), and a
+/// statement that is no loop has neither a condition nor a body. Where memory is refused, what is left to do may have
+/// been changed.
 pub fn test_loop<'p>(todo: &mut Vec<Frame<'p>>, of: &'p TStmt) -> Result<Now<'p>, OutOfMemory>
     ensures { IfOk result (λ now. (p : Program) (h : Activation) (m : Objects) → Leaves p h m todo.old.items (λ w st. then_do (condition p w no_marks (place_of h) (rounds_of (stmt_of of.now)).test st) (going_round p w (place_of h) (rounds_of (stmt_of of.now)))) now m todo.new.items) }
 {
@@ -74,7 +75,7 @@ pub fn test_loop<'p>(todo: &mut Vec<Frame<'p>>, of: &'p TStmt) -> Result<Now<'p>
             ),
             None => going_round(todo, of, true),
         },
-        _ => Err(OutOfMemory),
+        _ => Ok(Now::Test(of)),
     }
 }
 
@@ -83,8 +84,6 @@ fn step<'p>(todo: &mut Vec<Frame<'p>>, of: &'p TStmt) -> Result<Now<'p>, OutOfMe
     ensures { IfOk result (λ now. (p : Program) (h : Activation) (m : Objects) → Leaves p h m todo.old.items (λ w st. then_do (perhaps p w no_marks (place_of h) (rounds_of (stmt_of of.now)).step st) (λ y st. w.again (place_of h) (rounds_of (stmt_of of.now)) st)) now m todo.new.items) }
 {
     match of {
-        TStmt::While { .. } => Ok(Now::Test(of)),
-        TStmt::Do { .. } => Ok(Now::Test(of)),
         TStmt::For { step, .. } => match step {
             Some(step) => wait_in_statement(
                 todo,
@@ -94,7 +93,7 @@ fn step<'p>(todo: &mut Vec<Frame<'p>>, of: &'p TStmt) -> Result<Now<'p>, OutOfMe
             ),
             None => Ok(Now::Test(of)),
         },
-        _ => Err(OutOfMemory),
+        _ => Ok(Now::Test(of)),
     }
 }
 

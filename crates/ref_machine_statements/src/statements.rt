@@ -36,7 +36,7 @@ fn declare<'p>(
     ensures { IfOk result (λ now. Leaves (program_of program.now) here.entry (seen memory.old) todo.old.items (λ w st. then_do (fresh (program_of program.now).structs (place_of here.entry) variable (slice_get (place_of here.entry).types variable) st) (λ y st. initialise (program_of program.now) w no_marks (place_of here.entry) variable (inits_of init.now) st)) now (seen memory.new) todo.new.items) }
 {
     let Some(t) = here.types.get(variable as usize) else {
-        return Err(OutOfMemory);
+        return Ok(Now::Mistyped);
     };
     renew(counts, memory, name_here(here, variable), t)?;
     initialisers(todo, variable, init)
@@ -78,10 +78,9 @@ fn begin_for<'p>(
     head(todo, of, left)
 }
 
-/// How a statement begins (C99 6.8). `counts` has the number of cells of each struct.
-///
-/// Beside want of memory it refuses what no well-typed program has, as want of memory too: a variable without a type, and
-/// one of 2^32 cells or more. Where it refuses, `memory` and `todo` may have been changed.
+/// How a statement begins (C99 6.8). `counts` has the number of cells of each struct. A variable of 2^32 cells or more,
+/// which no well-typed program has, is answered as want of memory. Where memory is refused, `memory` and `todo` may have
+/// been changed.
 pub fn begin_statement<'p>(
     program: &Checked,
     counts: &[u32],

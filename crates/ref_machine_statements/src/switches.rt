@@ -147,6 +147,6 @@ pub fn switched<'p>(
 {
     match of {
         TStmt::Switch { groups, .. } => groups_selected(todo, v, groups),
-        _ => Err(OutOfMemory),
+        _ => Ok(Now::Mistyped),
     }
 }

@@ -36,29 +36,29 @@ fn initialised<'p>(
 {
     match store_place(memory, place(name_here(here, variable), cell, 1), v) {
         Ok(()) => initialisers(todo, variable, rest),
-        Err(fault) => stopped(fault),
+        Err(fault) => Ok(stopped(fault)),
     }
 }
 
 // One of the two statements of an `if`.
-fn one_of<'p>(of: &'p TStmt, holds: bool) -> Result<Now<'p>, OutOfMemory>
-    ensures { IfOk result (λ now. (p : Program) (h : Activation) (m : Objects) (todo : List Todo) → Leaves p h m todo (λ w st. one_of p w (place_of h) (stmt_of of.now) holds st) now m todo) }
+fn one_of<'p>(of: &'p TStmt, holds: bool) -> Now<'p>
+    ensures { (p : Program) (h : Activation) (m : Objects) (todo : List Todo) → Leaves p h m todo (λ w st. one_of p w (place_of h) (stmt_of of.now) holds st) result m todo }
 {
     let TStmt::If { yes, no, .. } = of else {
-        return Err(OutOfMemory);
+        return Now::Mistyped;
     };
     if holds {
-        return Ok(Now::Exec(yes));
+        return Now::Exec(yes);
     }
     match no {
-        Some(no) => Ok(Now::Exec(no)),
-        None => Ok(Now::Left(Left::On)),
+        Some(no) => Now::Exec(no),
+        None => Now::Left(Left::On),
     }
 }
 
 // What comes of the condition of an `if`.
-fn tested<'p>(memory: &Memory, of: &'p TStmt, v: Value) -> Result<Now<'p>, OutOfMemory>
-    ensures { IfOk result (λ now. (p : Program) (h : Activation) (todo : List Todo) → Leaves p h (seen memory.now) todo (λ w st. then_do (asked v st) (one_of p w (place_of h) (stmt_of of.now))) now (seen memory.now) todo) }
+fn tested<'p>(memory: &Memory, of: &'p TStmt, v: Value) -> Now<'p>
+    ensures { (p : Program) (h : Activation) (todo : List Todo) → Leaves p h (seen memory.now) todo (λ w st. then_do (asked v st) (one_of p w (place_of h) (stmt_of of.now))) result (seen memory.now) todo }
 {
     match test(memory, v) {
         Ok(holds) => one_of(of, holds),
@@ -77,14 +77,11 @@ fn tested_loop<'p>(
 {
     match test(memory, v) {
         Ok(holds) => going_round(todo, of, holds),
-        Err(fault) => stopped(fault),
+        Err(fault) => Ok(stopped(fault)),
     }
 }
 
-/// What comes of a value in a statement (C99 6.8).
-///
-/// Beside want of memory it refuses what no run of a well-typed program comes to, as want of memory too: a value of another kind
-/// than its type, and a part that its statement has not. Where it refuses, `memory` and `todo` may have been changed.
+/// What comes of a value in a statement (C99 6.8). Where memory is refused, `memory` and `todo` may have been changed.
 pub fn in_statement<'p>(
     memory: &mut Memory,
     todo: &mut Vec<Frame<'p>>,
@@ -102,7 +99,7 @@ pub fn in_statement<'p>(
             cell,
             rest,
         } => initialised(memory, todo, here, variable, cell, rest, v),
-        StatementFrame::Part(Valued::If, of) => tested(memory, of, v),
+        StatementFrame::Part(Valued::If, of) => Ok(tested(memory, of, v)),
         StatementFrame::Part(Valued::Switch, of) => switched(todo, v, of),
         StatementFrame::Part(Valued::Test, of) => tested_loop(memory, todo, of, v),
         StatementFrame::Part(Valued::Step, of) => Ok(Now::Test(of)),

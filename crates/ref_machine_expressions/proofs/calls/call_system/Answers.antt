@@ -3,7 +3,7 @@ use Rattle.c_values.specs.Seen.{seen}
 use Rattle.c_meaning.specs.Results.{with_memory, then_do}
 use Rattle.c_meaning.specs.SystemCalls.{system_call}
 use Rattle.ref_machine_frames.specs.Frames.{after_value}
-use Rattle.ref_machine_expressions.proofs.Following.{alone}
+use Rattle.ref_machine_expressions.proofs.Following.{alone, not_alone}
 use Rattle.ref_machine_expressions.proofs.calls.call_system.Goals as goal
 
 pub returns : goal.returns
@@ -14,3 +14,7 @@ returns c p w fr todo st =
     c.in_ok-now.ensures p w fr todo st
     ∙ (ap (λ x. then_do (system_call x c.args.values.now at) (after_value p w fr todo)) name
     ∙ ap (λ r. then_do r (after_value p w fr todo)) (sym (alone c.args.x c.args.values.now at below)))
+
+pub returns-then-x-ge24 : goal.returns-then-x-ge24
+returns-then-x-ge24 c p w fr todo st =
+    ap (λ r. then_do r (after_value p w fr todo)) (sym (not_alone c.args.x c.args.values.now (with_memory st (seen c.args.memory.now)) c.if-x-ge24.true))

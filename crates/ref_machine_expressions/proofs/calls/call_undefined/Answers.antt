@@ -3,7 +3,7 @@ use Rattle.c_values.specs.Seen.{seen}
 use Rattle.c_meaning.specs.Meaning.{call_undefined}
 use Rattle.c_meaning.specs.Results.{with_memory, then_do}
 use Rattle.ref_machine_frames.specs.Frames.{after_value}
-use Rattle.ref_machine_expressions.proofs.Following.{is_system_call}
+use Rattle.ref_machine_expressions.proofs.Following.{is_system_call, no_site, with_site}
 use Rattle.ref_machine_expressions.proofs.calls.call_undefined.Goals as goal
 
 pub returns-then-x-lt24 : goal.returns-then-x-lt24
@@ -11,7 +11,12 @@ returns-then-x-lt24 c p w fr todo st =
     let at = with_memory st (seen c.args.memory.now) in
     c.in_ok-now.ensures p w fr todo st ∙ ap (λ r. then_do r (after_value p w fr todo)) (sym (is_system_call c.args.x c.args.values.now at c.if-x-lt24.true))
 
-pub returns : goal.returns
-returns c p w fr todo st =
+pub returns-in-Some : goal.returns-in-Some
+returns-in-Some c p w fr todo st =
     let at = with_memory st (seen c.args.memory.now) in
-    c.in_ok-now-2.ensures p (seen c.args.memory.now) w fr todo st ∙ ap (λ vs. then_do (call_undefined c.args.x vs at) (after_value p w fr todo)) (sym c.in-Some.ensures)
+    c.null_call.ensures p (seen c.args.memory.now) w fr todo st ∙ ap (λ vs. then_do (call_undefined c.args.x vs at) (after_value p w fr todo)) (with_site c.in-Some.site c.args.values.now c.in-Some.ensures)
+
+pub returns-in-None : goal.returns-in-None
+returns-in-None c p w fr todo st =
+    let at = with_memory st (seen c.args.memory.now) in
+    ap (λ r. then_do r (after_value p w fr todo)) (sym (no_site c.args.x c.args.values.now at c.if-x-lt24.false c.in-None.ensures))

@@ -7,10 +7,10 @@ use Rattle.ref_machine_expressions.specs.Asking.{asking}
 use Rattle.ref_machine_expressions.proofs.Following.{goes_on_with}
 use Rattle.ref_machine_expressions.proofs.calls.system_call.Goals as goal
 
-pub returns-in_ok-now-in-Ok : goal.returns-in_ok-now-in-Ok
-returns-in_ok-now-in-Ok c p w fr todo st =
+pub returns-in-Ok : goal.returns-in-Ok
+returns-in-Ok c p w fr todo st =
     let m = seen c.args.memory.now in
-    goes_on_with (request c.args.name m c.args.values.now) (asked_by c.in-Ok.request) (with_memory st m) (asking c.args.name) (after_value p w fr todo) _ c.in-Ok.ensures (c.in_ok-now-in-Ok.ensures p m w fr todo st)
+    goes_on_with (request c.args.name m c.args.values.now) (asked_by c.in-Ok.request) (with_memory st m) (asking c.args.name) (after_value p w fr todo) _ c.in-Ok.ensures (c.asking.ensures p m w fr todo st)
 
 pub returns-in_ok-now-in-Err : goal.returns-in_ok-now-in-Err
 returns-in_ok-now-in-Err c p w fr todo st =

@@ -11,8 +11,8 @@ returns-in_ok-now-in-Ok c p h w st =
     let m = seen c.args.memory.now in
     goes_on_with (test m c.args.v) c.in-Ok.holds (with_memory st m) (chosen p w (place_of h) c.args.choice) (after_value p w (place_of h) (stack c.args.todo.now.items)) _ c.in-Ok.ensures (c.in_ok-now-in-Ok.ensures p h m w st)
 
-pub returns-in_ok-now-in-Err : goal.returns-in_ok-now-in-Err
-returns-in_ok-now-in-Err c p h w st =
+pub returns-in-Err : goal.returns-in-Err
+returns-in-Err c p h w st =
     let m = seen c.args.memory.now in
     let k = after_value p w (place_of h) (stack c.args.todo.now.items) in
-    stops_with (test m c.args.v) (number_of c.in-Err.fault) (with_memory st m) (chosen p w (place_of h) c.args.choice) k _ k c.in-Err.ensures (c.in_ok-now-in-Err.ensures p w (place_of h) (stack c.args.todo.now.items) (with_memory st m))
+    stops_with (test m c.args.v) (number_of c.in-Err.fault) (with_memory st m) (chosen p w (place_of h) c.args.choice) k _ k c.in-Err.ensures (c.stopped.ensures p w (place_of h) (stack c.args.todo.now.items) (with_memory st m))

@@ -5,9 +5,9 @@ use Rattle.c_meaning.specs.Meaning.{behind_of}
 use Rattle.ref_machine_frames.proofs.Answering.{same_answer}
 use Rattle.ref_machine_expressions.proofs.steps.dereferenced.Goals as goal
 
-pub returns-in_ok-now-in-Function : goal.returns-in_ok-now-in-Function
-returns-in_ok-now-in-Function c =
-    same_answer _ _ c.in_ok-now-in-Function.now (c.function_behind.ensures ∙ ap (λ t. behind_of (ctype_of t) (seen c.args.memory.now) c.args.v) (sym c.in-Function.is)) c.in_ok-now-in-Function.ensures
+pub returns-in-Function : goal.returns-in-Function
+returns-in-Function c =
+    same_answer _ _ c.given.result (c.function_behind.ensures ∙ ap (λ t. behind_of (ctype_of t) (seen c.args.memory.now) c.args.v) (sym c.in-Function.is)) c.given.ensures
 
 pub returns-in_ok-now-in-Void : goal.returns-in_ok-now-in-Void
 returns-in_ok-now-in-Void c =

@@ -5,4 +5,4 @@ use Rattle.ref_machine_expressions.proofs.steps.first_element.Goals as goal
 
 pub returns : goal.returns
 returns c structs h =
-    same_answer _ _ c.in_ok-now.now (c.to_first.ensures ∙ ap (λ n. to_first n c.args.n c.args.v) (c.in_ok-width.ensures structs h)) c.in_ok-now.ensures
+    same_answer _ _ c.given.result (c.to_first.ensures ∙ ap (λ n. to_first n c.args.n c.args.v) (c.in_ok-width.ensures structs h)) c.given.ensures

@@ -5,17 +5,17 @@ use Rattle.ref_machine_frames.specs.Frames.{one_step}
 use Rattle.ref_machine_frames.proofs.Answering.{typed_value, same_answer}
 use Rattle.ref_machine_expressions.proofs.steps.one_step.Goals as goal
 
-pub returns-in_ok-now-in-Load : goal.returns-in_ok-now-in-Load
-returns-in_ok-now-in-Load c structs h =
-    same_answer _ _ c.in_ok-now-in-Load.now (c.load_place.ensures ∙ ap (λ s. one_step structs s (seen c.args.memory.now) c.args.v) (sym c.in-Load.is)) c.in_ok-now-in-Load.ensures
+pub returns-in-Load : goal.returns-in-Load
+returns-in-Load c structs h =
+    same_answer _ _ c.given.result (c.load_place.ensures ∙ ap (λ s. one_step structs s (seen c.args.memory.now) c.args.v) (sym c.in-Load.is)) c.given.ensures
 
-pub returns-in_ok-now-in-Unary : goal.returns-in_ok-now-in-Unary
-returns-in_ok-now-in-Unary c structs h =
-    same_answer _ _ c.in_ok-now-in-Unary.now (c.operated.ensures ∙ ap (λ s. one_step structs s (seen c.args.memory.now) c.args.v) (sym c.in-Unary.is)) c.in_ok-now-in-Unary.ensures
+pub returns-in-Unary : goal.returns-in-Unary
+returns-in-Unary c structs h =
+    same_answer _ _ c.given-in-Unary.result (c.operated.ensures ∙ ap (λ s. one_step structs s (seen c.args.memory.now) c.args.v) (sym c.in-Unary.is)) c.given-in-Unary.ensures
 
-pub returns-in_ok-now-in-Convert : goal.returns-in_ok-now-in-Convert
-returns-in_ok-now-in-Convert c structs h =
-    same_answer _ _ c.in_ok-now-in-Convert.now (c.convert_value.ensures ∙ ap (λ s. one_step structs s (seen c.args.memory.now) c.args.v) (sym c.in-Convert.is)) c.in_ok-now-in-Convert.ensures
+pub returns-in-Convert : goal.returns-in-Convert
+returns-in-Convert c structs h =
+    same_answer _ _ c.given-in-Convert.result (c.convert_value.ensures ∙ ap (λ s. one_step structs s (seen c.args.memory.now) c.args.v) (sym c.in-Convert.is)) c.given-in-Convert.ensures
 
 pub returns-in_ok-now-in-Deref : goal.returns-in_ok-now-in-Deref
 returns-in_ok-now-in-Deref c structs h =

@@ -4,17 +4,17 @@ use Rattle.ref_machine_frames.specs.Frames.{two_step}
 use Rattle.ref_machine_frames.proofs.Answering.{same_answer}
 use Rattle.ref_machine_expressions.proofs.steps.two_step.Goals as goal
 
-pub returns-in_ok-now-in-Arith : goal.returns-in_ok-now-in-Arith
-returns-in_ok-now-in-Arith c =
-    same_answer _ _ c.in_ok-now-in-Arith.now (c.computed.ensures ∙ ap (λ s. two_step s (seen c.args.memory.now) c.args.v c.args.u) (sym c.in-Arith.is)) c.in_ok-now-in-Arith.ensures
+pub returns-in-Arith : goal.returns-in-Arith
+returns-in-Arith c =
+    same_answer _ _ c.given.result (c.computed.ensures ∙ ap (λ s. two_step s (seen c.args.memory.now) c.args.v c.args.u) (sym c.in-Arith.is)) c.given.ensures
 
-pub returns-in_ok-now-in-Compare : goal.returns-in_ok-now-in-Compare
-returns-in_ok-now-in-Compare c =
-    same_answer _ _ c.in_ok-now-in-Compare.now (c.comparing.ensures ∙ ap (λ s. two_step s (seen c.args.memory.now) c.args.v c.args.u) (sym c.in-Compare.is)) c.in_ok-now-in-Compare.ensures
+pub returns-in-Compare : goal.returns-in-Compare
+returns-in-Compare c =
+    same_answer _ _ c.given-in-Compare.result (c.comparing.ensures ∙ ap (λ s. two_step s (seen c.args.memory.now) c.args.v c.args.u) (sym c.in-Compare.is)) c.given-in-Compare.ensures
 
-pub returns-in_ok-now-in-PointerAdd : goal.returns-in_ok-now-in-PointerAdd
-returns-in_ok-now-in-PointerAdd c =
-    same_answer _ _ c.in_ok-now-in-PointerAdd.now (c.moved_by.ensures ∙ ap (λ s. two_step s (seen c.args.memory.now) c.args.v c.args.u) (sym c.in-PointerAdd.is)) c.in_ok-now-in-PointerAdd.ensures
+pub returns-in-PointerAdd : goal.returns-in-PointerAdd
+returns-in-PointerAdd c =
+    same_answer _ _ c.given-in-PointerAdd.result (c.moved_by.ensures ∙ ap (λ s. two_step s (seen c.args.memory.now) c.args.v c.args.u) (sym c.in-PointerAdd.is)) c.given-in-PointerAdd.ensures
 
 pub returns-in_ok-now-in-PointerDiff : goal.returns-in_ok-now-in-PointerDiff
 returns-in_ok-now-in-PointerDiff c =

@@ -13,8 +13,8 @@ returns-in_ok-now-in-Ok c p h w st =
     let m = seen c.args.memory.now in
     goes_on_with (updated c.args.op (ctype_of c.args.ctype.now) (ctype_of c.args.right.now) m c.args.before c.args.v) c.in-Ok.new (with_memory st m) (λ new st. remembered (store_place st.memory c.args.place new) (either c.args.old c.args.before new) st) (after_value p w (place_of h) (stack c.args.todo.now.items)) _ c.in-Ok.ensures (c.in_ok-now-in-Ok.ensures p h w st)
 
-pub returns-in_ok-now-in-Err : goal.returns-in_ok-now-in-Err
-returns-in_ok-now-in-Err c p h w st =
+pub returns-in-Err : goal.returns-in-Err
+returns-in-Err c p h w st =
     let m = seen c.args.memory.now in
     let k = after_value p w (place_of h) (stack c.args.todo.now.items) in
-    stops_with (updated c.args.op (ctype_of c.args.ctype.now) (ctype_of c.args.right.now) m c.args.before c.args.v) (number_of c.in-Err.fault) (with_memory st m) (λ new st. remembered (store_place st.memory c.args.place new) (either c.args.old c.args.before new) st) k _ k c.in-Err.ensures (c.in_ok-now-in-Err.ensures p w (place_of h) (stack c.args.todo.now.items) (with_memory st m))
+    stops_with (updated c.args.op (ctype_of c.args.ctype.now) (ctype_of c.args.right.now) m c.args.before c.args.v) (number_of c.in-Err.fault) (with_memory st m) (λ new st. remembered (store_place st.memory c.args.place new) (either c.args.old c.args.before new) st) k _ k c.in-Err.ensures (c.stopped.ensures p w (place_of h) (stack c.args.todo.now.items) (with_memory st m))
