@@ -1,10 +1,9 @@
 -- One copy more, and what stands at the end.
-use Rattle.std.proofs.Common.{◌≡◌, ◌↔◌, ◌⊎◌, inl, inr, ℕ, zero, suc, ◌+◌, ◌-◌, ◌<◌, ◌≤◌, Bool, true, false, List, [], ◌∷◌, ◌++◌, length, take, drop, map, filter, nat_eq, get_or, Option, Some, None, Contains, AllPairs, refl, sym, ◌∙◌, ap, subst, arith}
+use Rattle.std.proofs.Common.{◌≡◌, ◌↔◌, ◌⊎◌, inl, inr, ℕ, zero, suc, ◌+◌, ◌<◌, ◌≤◌, Bool, true, List, [], ◌∷◌, ◌++◌, length, drop, map, filter, nat_eq, get_or, Some, None, Contains, refl, sym, ◌∙◌, ap, subst, arith}
 use Rattle.std.specs.Prelude.{slice_get, option_map, unwrap_or}
 use Rattle.std.specs.declared.cmp.Ordering.{Ordering}
 use Rattle.std.specs.declared.cmp.Ordering.TheVariants.{Less, Equal, Greater}
 use Rattle.std.specs.Ordering.{nat_cmp, ordering_then}
-use Rattle.std.proofs.lemmas.Bool.{cases_lt, cases_eq}
 use Rattle.std.specs.Cmp.{nat_cmp_is}
 use Rattle.std.proofs.lemmas.Bool.{eqb-true, eq-eqb}
 use Rattle.std.proofs.lemmas.List.Elements.{All-contains, All-filter, All-contains_itself, filter_passes, Contains-get_or}
@@ -12,13 +11,14 @@ use Rattle.std.proofs.lemmas.List.Kept.{AllPairs-filter}
 use Rattle.std.proofs.lemmas.List.{append-nil, append_assoc, length-append, length-map, get_or-map, take-append-le, take_all}
 use Rattle.std.proofs.Math.Seq.{drop-cons}
 use Rattle.std.proofs.lemmas.List.Sums.{sum_by_push, sum_by-cons, sum_by-append}
-use Rattle.std.proofs.lemmas.Option.{slice_get_within, get_or_from_slice_get, slice_get-get_or, slice_get_past}
+use Rattle.std.proofs.lemmas.Option.{slice_get_within, get_or_from_slice_get, slice_get-get_or}
 use Rattle.flow_model.specs.Call.{Call}
-use Rattle.flow_model.specs.Graph.{Graph, HasCall}
+use Rattle.flow_model.specs.Graph.{Graph}
 use Rattle.flow_model.specs.Order.{site_order, StrictlyRise}
 use Rattle.flow_model.specs.Rules.{IsValid}
 use Rattle.flow_model.proofs.OrderLemmas.{lt_from_less, numbers_tie}
 use Rattle.inline_model_openings.proofs.Items.{contains-filter}
+use Rattle.inline_model_laws.proofs.Basics.{candidate_below, entry_is, has_function, owns_entry}
 use Rattle.inline_model_laws.proofs.Rising.{is_first, is_later}
 use Rattle.inline_model_laws.specs.Within.{Within}
 use Rattle.inline_model_laws.specs.Chains.{Opening, IsGreatest}
@@ -258,6 +258,26 @@ copying_more g valid entries own items w ws count are own_has rise before few = 
           count_is = omega (arith, before.count_is, sum_by_push (size_of g) before.copies copy, ap (nodes_of g) one.function);
           few = few;
         }
+
+-- the function of a copy is one of the model's
+pub copy_known : {g : Graph} → IsValid g → {copy : List Opened} → IsCopy g copy → function_of g copy < length g.functions
+copy_known valid of_start = valid.functions.start
+copy_known valid (goes_on before opening) = candidate_below valid opening.call
+
+-- so is that of the next copy that waits
+pub waiting_known : (g : Graph) → IsValid g → (items : List Copied) (w : Waiting) (ws : List Waiting) (count : ℕ) → IsCopying g items (w ∷ ws) count → w.function < length g.functions
+waiting_known g valid items w ws count before = first_known before.ahead before.awaited
+  where
+    first_known : (ahead : List (List Opened)) → AreAwaited g before.copies (w ∷ ws) ahead → w.function < length g.functions
+    first_known [] none_there = elim none_there [ ]
+    first_known (copy ∷ cs) (more one others) = omega (arith, one.function, copy_known valid one.is_copy)
+
+-- each function has a node
+pub nodes_some : (g : Graph) → IsValid g → (f : ℕ) → f < length g.functions → 0 < nodes_of g f
+nodes_some g valid f lt =
+    let there = has_function {g = g} f lt in
+    let owns = owns_entry g.functions g.nodes f there.0 valid.entries there.1 in
+    omega (arith, owns.to, entry_is g.functions f there.0 there.1)
 
 -- nothing waits any more
 pub copying_ends : (g : Graph) (items : List Copied) (count : ℕ) → IsCopying g items [] count → AreAllCopies g items

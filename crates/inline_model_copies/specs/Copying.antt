@@ -1,5 +1,5 @@
 -- For private contracts and proofs alone: how the list of copies is made.
-use Rattle.std.specs.Prelude.{◌≡◌, ◌<◌, ◌≤◌, ◌-◌, ◌+◌, ℕ, Bool, true, false, List, [], ◌∷◌, ◌++◌, Option, Some, Contains, length, take, map, slice_get, option_map, unwrap_or}
+use Rattle.std.specs.Prelude.{◌≡◌, ◌≤◌, ◌-◌, ℕ, false, List, [], ◌∷◌, ◌++◌}
 use Rattle.flow_model.specs.Graph.{Graph, end_of}
 use Rattle.inline_model_laws.specs.Copies.{Opened, function_of, IsCopy, entry_of, node_count, AreCopies, Copies}
 use Rattle.inline_model_copies.specs.declared.copied.Copied.{Copied}

@@ -1,11 +1,9 @@
 -- The list of copies as it is kept: each names the copy from which it goes on by its place.
-use Rattle.std.specs.Prelude.{◌≡◌, ◌<◌, ◌≤◌, ◌-◌, ◌+◌, ℕ, Bool, true, false, List, [], ◌∷◌, ◌++◌, Option, Some, Contains, length, take, map, slice_get, option_map, unwrap_or}
+use Rattle.std.specs.Prelude.{◌≡◌, ◌≤◌, ℕ, Bool, true, false, List, [], ◌∷◌, Some, Contains, length, take, slice_get}
 use Rattle.flow_model.specs.Call.{Call}
-use Rattle.flow_model.specs.Graph.{Graph, end_of}
-use Rattle.inline_model_laws.specs.Copies.{Opened, function_of, IsCopy, entry_of, node_count, AreCopies, Copies}
+use Rattle.flow_model.specs.Graph.{Graph}
+use Rattle.inline_model_laws.specs.Copies.{Opened, function_of, IsCopy, node_count, AreCopies}
 use Rattle.inline_model_copies.specs.declared.copied.Copied.{Copied}
-use Rattle.inline_model_copies.specs.declared.copied.Waiting.{Waiting}
-use Rattle.inline_model_openings.specs.declared.table.Entry.{Entry}
 
 -- the copy goes on from the one at a place of the list by the call edge at a place of the model
 pub record GoesOn (g : Graph) (copies : List (List Opened)) (copy : List Opened) (parent place function : ℕ) : Type 0 where

@@ -1,4 +1,4 @@
-ghost use Rattle.std.specs.Prelude.{◌≡◌, ◌+◌, ◌<◌, ◌≤◌, ◌↔◌, ◌++◌, ◌∷◌, [], ℕ, List, length, map, drop, IfOk, IfErr, IfSome, OnOk, Contains};
+ghost use Rattle.std.specs.Prelude.{◌≡◌, ◌+◌, ◌<◌, ◌≤◌, ◌↔◌, ◌++◌, ◌∷◌, [], ℕ, List, length, map, drop, IfOk, IfErr, OnOk, Contains};
 ghost use Rattle.flow_model.specs.Order.{StrictlyRise};
 ghost use Rattle.inline_model_laws.specs.Chains.{IsGreatest};
 ghost use Rattle.inline_model_laws.specs.Inlined.{HasTooManyNodes};
@@ -20,15 +20,16 @@ use std::alloc::Global;
 const MOST_NODES: u32 = 200_000;
 
 // How many nodes the function has.
-fn size_of(model: &Model, function: u32) -> Option<u32>
-    ensures { IfSome result (λ n. n ≡ nodes_of model.now function) }
+fn size_of(model: &Model, function: u32) -> u32
+    requires { function < length model.now.functions }
+    ensures { result ≡ nodes_of model.now function }
 {
     let functions = model.functions();
     let place = function as usize;
-    let one = functions.get(place)?;
+    let entry = functions[place].entry;
     match functions.get(place + 1) {
-        Some(next) => Some(next.entry.saturating_sub(one.entry)),
-        None => Some(model.nodes().saturating_sub(one.entry)),
+        Some(next) => next.entry.saturating_sub(entry),
+        None => model.nodes().saturating_sub(entry),
     }
 }
 
@@ -51,13 +52,12 @@ fn wait_for(stack: &mut Stack, own: &[Entry], parent: usize) -> Result<(), OutOf
 
 // How many nodes there are with those of the copy, where these are no more than a model may have.
 fn counted(model: &Model, next: Waiting, count: u32) -> Result<u32, CopiesError>
-    requires { count ≤ 200000 }
+    requires known { next.function < length model.now.functions }
+    requires few { count ≤ 200000 }
     ensures ok { IfOk result (λ n. (n ≡ count + nodes_of model.now next.function) × (n ≤ 200000)) }
-    ensures err { IfErr result (λ e. e ≡ CopiesError.TooManyNodes → 200000 < count + nodes_of model.now next.function) }
+    ensures err { IfErr result (λ e. (e ≡ CopiesError.TooManyNodes) × (200000 < count + nodes_of model.now next.function)) }
 {
-    let Some(size) = size_of(model, next.function) else {
-        return Err(CopiesError::OutOfMemory);
-    };
+    let size = size_of(model, next.function);
     if size > MOST_NODES - count {
         return Err(CopiesError::TooManyNodes);
     }
@@ -91,6 +91,7 @@ fn take(
     requires copying { IsCopying model.now copies.old.items (next ∷ stack.old) count }
     requires few { count ≤ 200000 }
     ensures ok { IfOk result (λ n. IsCopying model.now copies.new.items stack.new n × (n ≤ 200000)) }
+    ensures more { IfOk result (λ n. count < n) }
     ensures err { (n : ℕ) → IsGreatest model.now n → IfErr result (λ e. e ≡ CopiesError.TooManyNodes → HasTooManyNodes model.now) }
 {
     let _nodes = model.nodes();
@@ -105,8 +106,8 @@ fn take(
 }
 
 /// All copies of a model whose openings these are, depth first. Where the longest chains have a length, TooManyNodes says
-/// that the inlined model has more nodes than a model may have. No list is longer than the 200,001 copies that are looked
-/// at before that.
+/// that the inlined model has more nodes than a model may have. Each copy has a node, so no list is longer than 200,000
+/// copies. OutOfMemory says that memory was refused.
 pub fn copies(alloc: Global, model: &Model, entries: &[Entry]) -> Result<Vec<Copied>, CopiesError>
     requires { AreEntries model.now entries.now }
     ensures ok { IfOk result (λ v. AreAllCopies model.now v.items) }
@@ -121,15 +122,11 @@ pub fn copies(alloc: Global, model: &Model, entries: &[Entry]) -> Result<Vec<Cop
         place: 0,
     })?;
     let mut count = 0;
-    for _done in 0..usize::MAX {
-        let next = match stack.pop() {
-            Some(next) => next,
-            None => return Ok(copies),
-        };
+    while let Some(next) = stack.pop() {
         count = match take(&mut copies, &mut stack, model, entries, next, count) {
             Ok(more) => more,
             Err(error) => return Err(error),
         };
     }
-    Err(CopiesError::OutOfMemory)
+    Ok(copies)
 }

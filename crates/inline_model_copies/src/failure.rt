@@ -3,7 +3,7 @@ use dm_base::OutOfMemory;
 /// Why there is no list of copies.
 #[derive(Clone, Copy, Debug, PartialEq, Eq)]
 pub enum CopiesError {
-    /// There was no memory.
+    /// Memory was refused.
     OutOfMemory,
     /// The copies have more than 200,000 nodes together.
     TooManyNodes,

@@ -1,10 +1,10 @@
-use Rattle.std.proofs.Common.{◌≡◌, [], ◌∷◌, true, sym, ap, ◌∙◌, subst, arith}
+use Rattle.std.proofs.Common.{[], ◌∷◌, true, sym, ap, ◌∙◌, subst, arith}
 use Rattle.inline_model_copies.specs.Copying.{IsCopying}
 use Rattle.inline_model_copies.proofs.CopyingLemmas.{copying_begins, copying_ends}
 use Rattle.inline_model_copies.proofs.copying.copies.Goals as goal
 
-pub loop-done-init : goal.loop-done-init
-loop-done-init c = record {
+pub loop-next-init : goal.loop-next-init
+loop-next-init c = record {
   copying =
       subst (λ xs. IsCopying c.args.model.now xs c.push.new.self 0) (sym c.new-copies.ensures.items)
       (subst (λ ws. IsCopying c.args.model.now [] ws 0) (sym (c.in_ok-push.ensures ∙ ap (λ ws. record { function = c.start.result; root = true; parent = 0; place = 0 } ∷ ws) c.new-stack.ensures))
@@ -12,5 +12,5 @@ loop-done-init c = record {
   few = omega arith;
 }
 
-pub returns-in-None-clause-ok : goal.returns-in-None-clause-ok
-returns-in-None-clause-ok c = copying_ends c.args.model.now c.loop-done.copies.items c.loop-done.count (subst (λ ws. IsCopying c.args.model.now c.loop-done.copies.items ws c.loop-done.count) c.in-None.ensures.none c.loop-done.invariant.copying)
+pub returns-clause-ok : goal.returns-clause-ok
+returns-clause-ok c = copying_ends c.args.model.now c.loop-next.copies.items c.loop-next.count (subst (λ ws. IsCopying c.args.model.now c.loop-next.copies.items ws c.loop-next.count) c.in_default.ensures.none c.loop-next.invariant.copying)
