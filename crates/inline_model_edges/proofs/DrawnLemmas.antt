@@ -1,9 +1,9 @@
 -- The edges that are drawn are those of the inlined model.
-use Rattle.std.proofs.Common.{◌≡◌, ◌↔◌, ◌⊎◌, inl, inr, ℕ, ℤ, zero, suc, ◌+◌, ◌-◌, ◌<◌, ◌≤◌, Bool, true, false, List, [], ◌∷◌, ◌++◌, length, take, drop, get_or, Option, Some, None, Contains, AllPairs, refl, sym, ◌∙◌, ap, subst, arith}
+use Rattle.std.proofs.Common.{◌≡◌, inl, inr, ℕ, ℤ, suc, ◌+◌, ◌-◌, ◌<◌, ◌≤◌, true, false, List, [], ◌∷◌, ◌++◌, length, take, drop, get_or, Option, Some, Contains, AllPairs, refl, sym, ◌∙◌, ap, subst, arith}
 use Rattle.std.specs.Prelude.{slice_get}
 use Rattle.std.proofs.lemmas.Bool.{cases_lt, cases_eq, false≢true}
 use Rattle.std.proofs.lemmas.List.{take-append-drop, drop_all}
-use Rattle.std.proofs.lemmas.List.Sums.{sum_by_push}
+use Rattle.std.proofs.lemmas.List.Sums.{sum_by-append, sum_by-cons, sum_by_push}
 use Rattle.std.proofs.lemmas.Option.{slice_get_within, get_or_from_slice_get, slice_get-get_or}
 use Rattle.std.proofs.Math.Seq.{drop-cons}
 use Rattle.flow_model.specs.Call.{Call}
@@ -11,22 +11,25 @@ use Rattle.flow_model.specs.Graph.{Graph, Owns, HasSilent, HasSys, HasCall, HasF
 use Rattle.flow_model.specs.Rules.{IsValid}
 use Rattle.inline_model_laws.specs.Within.{Within}
 use Rattle.inline_model_laws.specs.Chains.{Opening}
-use Rattle.inline_model_laws.specs.Copies.{Opened, function_of, entry_of, size_of, node_count, IsCopy, BeginsAt, AreCopies}
-use Rattle.inline_model_laws.specs.Copies.IsCopy.{of_start, goes_on}
+use Rattle.inline_model_laws.specs.Copies.{Opened, function_of, entry_of, size_of, node_count, IsCopy, BeginsAt, Copies}
+use Rattle.inline_model_laws.specs.Copies.Copies.{unfolds}
+use Rattle.inline_model_laws.specs.Copies.IsCopy.{goes_on}
 use Rattle.inline_model_laws.specs.Inlined.{IsNodeOf, HasInlinedSilent, HasInlinedSys}
 use Rattle.inline_model_laws.specs.Inlined.HasInlinedSilent.{copied, enters, leaves}
 use Rattle.inline_model_laws.specs.Inlined.HasInlinedSys.{copied as copied_sys}
-use Rattle.inline_model_laws.proofs.Basics.{at_one_site, same_from, same_to, same_call, same_function, within_owns, function_owns_entry, function_owns_exit, silent_stays, sys_stays, call_stays}
+use Rattle.inline_model_laws.proofs.Basics.{same_from, same_call, within_owns, function_owns_entry, function_owns_exit, silent_stays, sys_stays, call_stays}
 use Rattle.inline_model_laws.proofs.DistinctCopies.{copies_differ}
 use Rattle.inline_model_copies.specs.declared.copied.Copied.{Copied}
-use Rattle.inline_model_copies.specs.Named.{GoesOn, IsFrom, IsNamed, AreNamed, AreAllCopies}
+use Rattle.inline_model_copies.specs.Named.{IsFrom, AreAllCopies}
 use Rattle.inline_model_copies.specs.Named.IsFrom.{begins, continues}
-use Rattle.inline_model_edges.specs.Drawn.{number_in, IsCopiedSilent, IsCopiedSys, IsLink, IsDrawnSilent, IsDrawnSys}
+use Rattle.inline_model_copies.proofs.CopyingLemmas.{copy_known}
+use Rattle.inline_model_edges.specs.Drawn.{number_in, IsCopiedSilent, IsLink, IsDrawnSilent, IsDrawnSys}
+use Rattle.inline_model_edges.specs.Growing.{IsNumbered}
 
 contains_at : {X : Type 0} (xs : List X) (x : X) → Contains xs x → (k : ℕ) × (slice_get xs k ≡ Some x)
 contains_at xs x (k, lt, is) = (k, slice_get-get_or xs k x lt ∙ ap Some is)
 
-at_contains : {X : Type 0} (xs : List X) (k : ℕ) (x : X) → slice_get xs k ≡ Some x → Contains xs x
+pub at_contains : {X : Type 0} (xs : List X) (k : ℕ) (x : X) → slice_get xs k ≡ Some x → Contains xs x
 at_contains xs k x at = (k, slice_get_within xs k x at, get_or_from_slice_get xs k x x at)
 
 -- where the copy at a place begins
@@ -91,6 +94,34 @@ module _ (g : Graph) (valid : IsValid g) (items : List Copied) (all : AreAllCopi
         owns = subst (λ f. Owns g.functions g.nodes f a) named.function owns;
         number_is = ap (λ f. item.first + (a - entry_of g.functions f)) named.function;
       }
+
+  -- the nodes of an item have numbers
+  pub item_numbered : (item : Copied) → Contains items item → IsNumbered g item
+  item_numbered item has =
+      let (k, at) = contains_at items item has in
+      let named = all.named.all k item at in
+      let begins = begins_at g all.copies k named.copy named.stands in
+      let size : end_of g.functions g.nodes item.function - entry_of g.functions item.function ≡ size_of g named.copy = ap (λ f. end_of g.functions g.nodes f - entry_of g.functions f) named.function in
+      let whole : node_count g all.copies ≡ node_count g begins.before + (size_of g named.copy + node_count g begins.after) =
+      ap (node_count g) begins.stands ∙ sum_by-append (size_of g) begins.before (named.copy ∷ begins.after) ∙ ap (λ n. node_count g begins.before + n) (sum_by-cons (size_of g) named.copy begins.after) in
+      record {
+        known = omega (arith, named.function, copy_known valid named.is_copy);
+        few = omega (arith, size, whole, named.number, begins.number_is, all.few);
+      }
+
+  -- the places that an item names, where it goes on from another
+  places_from : (item : Copied) (copy : List Opened) → IsFrom g all.copies copy item.root item.parent item.place item.function → item.root ≡ false → (item.parent < length items) × (item.place < length g.calls)
+  places_from item copy (begins empty root) inner = absurd (false≢true (sym inner ∙ root))
+  places_from item copy (continues root goes) inner = (
+    omega (arith, slice_get_within all.copies item.parent goes.before goes.stands, all.named.long),
+    slice_get_within g.calls item.place goes.call goes.at,
+  )
+
+  pub item_places : (item : Copied) → Contains items item → item.root ≡ false → (item.parent < length items) × (item.place < length g.calls)
+  item_places item has inner =
+      let (k, at) = contains_at items item has in
+      let named = all.named.all k item at in
+      places_from item named.copy named.from inner
 
   -- the item of a copy, and the number of its node
   record ItemOf (copy : List Opened) (a i : ℕ) : Type 0 where
@@ -280,6 +311,18 @@ module _ (g : Graph) (valid : IsValid g) (items : List Copied) (all : AreAllCopi
         within = subst (Within g (function_of g goes.before)) (same_from valid opening.call has) opening.within;
       }
 
+  -- the ends of the call edge are nodes of the copy from which the item goes on
+  pub link_ends : (item before : Copied) (call : Call) → Contains items item → item.root ≡ false → slice_get items item.parent ≡ Some before → slice_get g.calls item.place ≡ Some call → Owns g.functions g.nodes before.function call.from × Owns g.functions g.nodes before.function call.to
+  link_ends item before call has inner stands call_stands =
+      let (k, at) = contains_at items item has in
+      let named = all.named.all k item at in
+      let way = way_from k item before call call_stands inner named.copy named.stands named.is_copy named.from in
+      let first = all.named.all item.parent before stands in
+      let two : Some first.copy ≡ Some way.copy = sym first.stands ∙ way.stands in
+      let same : first.copy ≡ way.copy = cc in
+      let owns : Owns g.functions g.nodes before.function call.from = subst (λ f. Owns g.functions g.nodes f call.from) (sym (first.function ∙ ap (function_of g) same)) (within_owns valid way.within) in
+      (owns, call_stays valid way.has owns)
+
   drawn_link : {i j : ℕ} (k : ℕ) (item : Copied) → slice_get items k ≡ Some item → IsLink g items item i j → HasInlinedSilent g all.copies i j
   drawn_link {i} {j} k item at link =
       let named = all.named.all k item at in
@@ -303,6 +346,13 @@ module _ (g : Graph) (valid : IsValid g) (items : List Copied) (all : AreAllCopi
   drawn_silent (item, has, either) =
       let (k, at) = contains_at items item has in
       elim either [ inl edge ↦ drawn_copied k at edge | inr link ↦ drawn_link k item at link ]
+
+some_copy : {g : Graph} {copy : List Opened} {list rest : List (List Opened)} → Copies g copy list rest → 1 ≤ length list
+some_copy (unfolds openings branches) = omega arith
+
+-- there is a copy of the start
+pub some_item : (g : Graph) (items : List Copied) → AreAllCopies g items → 1 ≤ length items
+some_item g items all = omega (arith, all.named.long, some_copy all.are)
 
 -- the nodes of the last copy are the last nodes
 pub counted_all : (g : Graph) (items : List Copied) (item : Copied) (k n : ℕ) → slice_get items k ≡ Some item → suc k ≡ length items → n ≡ item.first + (end_of g.functions g.nodes item.function - entry_of g.functions item.function) → (all : AreAllCopies g items) → n ≡ node_count g all.copies

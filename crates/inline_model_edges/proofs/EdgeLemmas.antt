@@ -1,22 +1,22 @@
 -- The edges of one copy, and of the way to it.
-use Rattle.std.proofs.Common.{◌≡◌, ◌↔◌, ◌⊎◌, inl, inr, ℕ, ◌+◌, ◌-◌, ◌<◌, ◌≤◌, nat_eq, filter, List, [], ◌∷◌, length, Option, Some, None, Bool, true, false, Contains, refl, sym, ◌∙◌, ap, subst, arith}
+use Rattle.std.proofs.Common.{◌≡◌, ◌↔◌, ◌⊎◌, inl, inr, ℕ, ◌<◌, ◌≤◌, nat_eq, filter, List, [], length, get_or, Some, true, false, Contains, refl, sym, ◌∙◌, ap, subst, arith}
 use Rattle.std.specs.Prelude.{slice_get}
 use Rattle.std.specs.declared.cmp.Ordering.{Ordering}
 use Rattle.std.specs.declared.cmp.Ordering.TheVariants.{Equal}
 use Rattle.std.proofs.lemmas.Bool.{eqb-true, eq-eqb, false≢true}
-use Rattle.std.proofs.lemmas.Option.{slice_get_cases}
+use Rattle.std.proofs.lemmas.Option.{slice_get-get_or}
 use Rattle.flow_model.specs.declared.records.ModelFunction.{ModelFunction}
 use Rattle.flow_model.specs.declared.records.SilentEdge.{SilentEdge}
 use Rattle.flow_model.specs.declared.records.SysEdge.{SysEdge}
 use Rattle.flow_model.specs.Call.{Call}
-use Rattle.flow_model.specs.Graph.{Graph, Owns, HasSilent, HasFunction, end_of}
+use Rattle.flow_model.specs.Graph.{Graph, Owns, end_of}
 use Rattle.flow_model.specs.Rules.{IsValid}
 use Rattle.inline_model_laws.specs.Copies.{entry_of}
-use Rattle.inline_model_laws.proofs.Basics.{entry_is, owns_entry}
+use Rattle.inline_model_laws.proofs.Basics.{entry_is, has_function, owns_entry, silent_stays, sys_stays}
 use Rattle.inline_model_openings.proofs.Items.{filter-contains, filter-pass, contains-filter}
 use Rattle.inline_model_copies.specs.declared.copied.Copied.{Copied}
 use Rattle.inline_model_edges.specs.Drawn.{number_in, IsCopiedSilent, IsCopiedSys, IsLink}
-use Rattle.inline_model_edges.specs.Growing.{Adds, HasOne, HasNode, IsSilentIn, IsSysIn, LeavesSilent, LeavesSys}
+use Rattle.inline_model_edges.specs.Growing.{Adds, HasOne, HasNode, IsNumbered, IsSilentIn, IsSysIn, LeavesSilent, LeavesSys}
 
 pub leaves_silent : (g : Graph) (item : Copied) (node : ℕ) (list : List SilentEdge) → list ≡ filter (λ e. nat_eq e.from node) g.silent → (e : SilentEdge) → HasOne (IsSilentIn g item) list e → LeavesSilent g item node e
 leaves_silent g item node list same e (edge, has, is) =
@@ -35,6 +35,37 @@ leaves_sys g item node list same e (edge, has, is) =
 pub sys_leaves : (g : Graph) (item : Copied) (node : ℕ) (list : List SysEdge) → list ≡ filter (λ e. nat_eq e.from node) g.sys → (e : SysEdge) → LeavesSys g item node e → HasOne (IsSysIn g item) list e
 sys_leaves g item node list same e (edge, has, from, is) =
     (edge, subst (λ xs. Contains xs edge) (sym same) (contains-filter (λ (d : SysEdge). nat_eq d.from node) g.sys edge has.0 has.1 has.2 (eq-eqb edge.from node from)), is)
+
+-- what is read of a list that is this one
+pub stands_at : {X : Type 0} (list read : List X) (place : ℕ) (x : X) → read ≡ list → place < length list → x ≡ get_or read place x → slice_get list place ≡ Some x
+stands_at list read place x same lt at = slice_get-get_or list place x lt ∙ ap Some (ap (λ xs. get_or xs place x) (sym same) ∙ sym at)
+
+-- the ends of an edge that leaves a node of the function
+pub silent_ends : (g : Graph) → IsValid g → (f node : ℕ) (list : List SilentEdge) → list ≡ filter (λ e. nat_eq e.from node) g.silent → Owns g.functions g.nodes f node → (edge : SilentEdge) → Contains list edge → Owns g.functions g.nodes f edge.from × Owns g.functions g.nodes f edge.to
+silent_ends g valid f node list same owns edge has =
+    let there = subst (λ xs. Contains xs edge) same has in
+    let from : edge.from ≡ node = eqb-true edge.from node (filter-pass (λ (d : SilentEdge). nat_eq d.from node) g.silent edge there) in
+    let first : Owns g.functions g.nodes f edge.from = subst (Owns g.functions g.nodes f) (sym from) owns in
+    (first, silent_stays valid {f = f} {a = edge.from} {b = edge.to} (filter-contains (λ (d : SilentEdge). nat_eq d.from node) g.silent edge there) first)
+
+pub sys_ends : (g : Graph) → IsValid g → (f node : ℕ) (list : List SysEdge) → list ≡ filter (λ e. nat_eq e.from node) g.sys → Owns g.functions g.nodes f node → (edge : SysEdge) → Contains list edge → Owns g.functions g.nodes f edge.from × Owns g.functions g.nodes f edge.to
+sys_ends g valid f node list same owns edge has =
+    let there = subst (λ xs. Contains xs edge) same has in
+    let from : edge.from ≡ node = eqb-true edge.from node (filter-pass (λ (d : SysEdge). nat_eq d.from node) g.sys edge there) in
+    let first : Owns g.functions g.nodes f edge.from = subst (Owns g.functions g.nodes f) (sym from) owns in
+    (first, sys_stays valid {f = f} {a = edge.from} {x = edge.name} {b = edge.to} {p = edge.args} (filter-contains (λ (d : SysEdge). nat_eq d.from node) g.sys edge there) first)
+
+-- the nodes of a function
+pub owns_between : (g : Graph) (f from to node : ℕ) → f < length g.functions → from ≡ entry_of g.functions f → to ≡ end_of g.functions g.nodes f → from ≤ node → node < to → Owns g.functions g.nodes f node
+owns_between g f from to node lt from_is to_is least less =
+    let there = has_function {g = g} f lt in
+    record { one = there.0; has = there.1; from = omega (arith, least, from_is, entry_is g.functions f there.0 there.1); to = omega (arith, less, to_is) }
+
+-- the number of a node of the copy's function
+pub number_right : (g : Graph) (item : Copied) (node : ℕ) → IsNumbered g item → Owns g.functions g.nodes item.function node → (entry_of g.functions item.function ≤ node) × (number_in g item node < 200000)
+number_right g item node numbered owns =
+    let entry = entry_is g.functions item.function owns.one owns.has in
+    (omega (arith, entry, owns.from), omega (arith, entry, owns.from, owns.to, numbered.few))
 
 -- a function begins before its end
 pub entry_first : (g : Graph) → IsValid g → (f : ℕ) (one : ModelFunction) → slice_get g.functions f ≡ Some one → entry_of g.functions f ≤ end_of g.functions g.nodes f

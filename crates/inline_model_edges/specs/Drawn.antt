@@ -1,7 +1,5 @@
 -- The edges of the inlined model as the list of copies tells them.
-use Rattle.std.specs.Prelude.{◌≡◌, ◌↔◌, ◌⊎◌, ◌<◌, ◌≤◌, ◌-◌, ◌+◌, ℕ, ℤ, Bool, true, false, List, Option, Some, Contains, slice_get}
-use Rattle.flow_model.specs.declared.records.SilentEdge.{SilentEdge}
-use Rattle.flow_model.specs.declared.records.SysEdge.{SysEdge}
+use Rattle.std.specs.Prelude.{◌≡◌, ◌⊎◌, ◌-◌, ◌+◌, ℕ, ℤ, false, List, Option, Some, Contains, slice_get}
 use Rattle.flow_model.specs.Call.{Call}
 use Rattle.flow_model.specs.Graph.{Graph, Owns, HasSilent, HasSys, HasFunction}
 use Rattle.inline_model_laws.specs.Copies.{entry_of}

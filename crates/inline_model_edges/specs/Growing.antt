@@ -1,10 +1,16 @@
 -- For private contracts and proofs alone: how a list of edges grows.
-use Rattle.std.specs.Prelude.{◌≡◌, ◌↔◌, ◌⊎◌, ◌<◌, ◌≤◌, ℕ, List, Contains}
+use Rattle.std.specs.Prelude.{◌≡◌, ◌↔◌, ◌⊎◌, ◌<◌, ◌≤◌, ◌+◌, ◌-◌, ℕ, List, Contains, length}
 use Rattle.flow_model.specs.declared.records.SilentEdge.{SilentEdge}
 use Rattle.flow_model.specs.declared.records.SysEdge.{SysEdge}
-use Rattle.flow_model.specs.Graph.{Graph, Owns}
+use Rattle.flow_model.specs.Graph.{Graph, end_of}
+use Rattle.inline_model_laws.specs.Copies.{entry_of}
 use Rattle.inline_model_copies.specs.declared.copied.Copied.{Copied}
-use Rattle.inline_model_edges.specs.Drawn.{number_in, IsCopiedSilent, IsCopiedSys, IsLink}
+use Rattle.inline_model_edges.specs.Drawn.{number_in}
+
+-- the item is a copy of a function of the model, and its nodes have numbers below 200,000
+pub record IsNumbered (g : Graph) (item : Copied) : Type 0 where
+  pub known : item.function < length g.functions
+  pub few : item.first + (end_of g.functions g.nodes item.function - entry_of g.functions item.function) ≤ 200000
 
 -- just the items that have P were added
 abbrev pub Adds : {X : Type 0} → List X → List X → (X → Type 0) → Type 0

@@ -1,9 +1,10 @@
 ghost use Rattle.std.specs.Prelude.{◌≡◌, ◌<◌, ◌≤◌, ◌⊎◌, ◌↔◌, length, IfOk, OnOk, Contains};
 ghost use Rattle.flow_model.specs.declared.records.SilentEdge.{SilentEdge};
-ghost use Rattle.flow_model.specs.Graph.{Graph};
+ghost use Rattle.flow_model.specs.Graph.{Owns};
 ghost use Rattle.flow_model.specs.Order.{silent_order, StrictlyRise};
+ghost use Rattle.inline_model_copies.specs.Named.{AreAllCopies};
 ghost use Rattle.inline_model_edges.specs.Drawn.{IsCopiedSilent, IsLink, IsDrawnSilent};
-ghost use Rattle.inline_model_edges.specs.Growing.{Adds, LeavesSilent};
+ghost use Rattle.inline_model_edges.specs.Growing.{Adds, IsNumbered, LeavesSilent};
 
 use crate::growing::{call_of, first_of, function_of, item_at, number_of, past_of};
 use dm_base::OutOfMemory;
@@ -19,12 +20,15 @@ fn copy_from(
     item: &Copied,
     node: u32,
 ) -> Result<(), OutOfMemory>
-    requires { node < model.now.nodes }
+    requires node { node < model.now.nodes }
+    requires item { IsNumbered model.now item.now }
+    requires owns { Owns model.now.functions model.now.nodes item.now.function node }
     ensures { OnOk result (Adds edges.old.items edges.new.items (LeavesSilent model.now item.now node)) }
 {
+    let _nodes = model.nodes();
     for edge in model.silent_from(node) {
-        let from = number_of(model, item, edge.from)?;
-        let to = number_of(model, item, edge.to)?;
+        let from = number_of(model, item, edge.from);
+        let to = number_of(model, item, edge.to);
         edges.push(SilentEdge { from, to })?;
     }
     Ok(())
@@ -32,10 +36,11 @@ fn copy_from(
 
 // Adds the silent edges of the copy.
 fn copy_all(edges: &mut Vec<SilentEdge>, model: &Model, item: &Copied) -> Result<(), OutOfMemory>
+    requires { IsNumbered model.now item.now }
     ensures { OnOk result (Adds edges.old.items edges.new.items (λ e. IsCopiedSilent model.now item.now e.from e.to)) }
 {
     let _nodes = model.nodes();
-    let from = first_of(model, item.function)?;
+    let from = first_of(model, item.function);
     let to = past_of(model, item.function);
     for node in from..to {
         copy_from(edges, model, item, node)?;
@@ -50,25 +55,22 @@ fn link(
     items: &[Copied],
     item: &Copied,
 ) -> Result<(), OutOfMemory>
+    requires all { AreAllCopies model.now items.now }
+    requires has { Contains items.now item.now }
     ensures { OnOk result (Adds edges.old.items edges.new.items (λ e. IsLink model.now items.now item.now e.from e.to)) }
 {
     if item.root {
         return Ok(());
     }
-    let Some(before) = item_at(items, item.parent) else {
-        return Err(OutOfMemory);
-    };
-    let Some(call) = call_of(model, item.place) else {
-        return Err(OutOfMemory);
-    };
-    let Some(one) = function_of(model, item.function) else {
-        return Err(OutOfMemory);
-    };
-    let from = number_of(model, &before, call.from())?;
-    let entry = number_of(model, item, one.entry)?;
+    let _nodes = model.nodes();
+    let before = item_at(items, item.parent);
+    let call = call_of(model, item.place);
+    let one = function_of(model, item.function);
+    let from = number_of(model, &before, call.from());
+    let entry = number_of(model, item, one.entry);
     edges.push(SilentEdge { from, to: entry })?;
-    let exit = number_of(model, item, one.exit)?;
-    let to = number_of(model, &before, call.to())?;
+    let exit = number_of(model, item, one.exit);
+    let to = number_of(model, &before, call.to());
     edges.push(SilentEdge { from: exit, to })?;
     Ok(())
 }
@@ -80,8 +82,11 @@ fn draw(
     items: &[Copied],
     item: &Copied,
 ) -> Result<(), OutOfMemory>
+    requires all { AreAllCopies model.now items.now }
+    requires has { Contains items.now item.now }
     ensures { OnOk result (Adds edges.old.items edges.new.items (λ e. IsCopiedSilent model.now item.now e.from e.to ⊎ IsLink model.now items.now item.now e.from e.to)) }
 {
+    let _nodes = model.nodes();
     copy_all(edges, model, item)?;
     link(edges, model, items, item)?;
     Ok(())
@@ -89,6 +94,7 @@ fn draw(
 
 // The silent edges of all copies.
 fn drawn(alloc: Global, model: &Model, items: &[Copied]) -> Result<Vec<SilentEdge>, OutOfMemory>
+    requires { AreAllCopies model.now items.now }
     ensures { IfOk result (λ v. (e : SilentEdge) → Contains v.items e ↔ IsDrawnSilent model.now items.now e.from e.to) }
 {
     let mut edges = Vec::new(alloc);
@@ -98,12 +104,13 @@ fn drawn(alloc: Global, model: &Model, items: &[Copied]) -> Result<Vec<SilentEdg
     Ok(edges)
 }
 
-/// The silent edges of the inlined model with these copies, in increasing order.
+/// The silent edges of the inlined model with these copies, which are all of the model, in increasing order.
 pub fn draw_silent(
     alloc: Global,
     model: &Model,
     items: &[Copied],
 ) -> Result<Vec<SilentEdge>, OutOfMemory>
+    requires { AreAllCopies model.now items.now }
     ensures edges { IfOk result (λ v. (e : SilentEdge) → Contains v.items e ↔ IsDrawnSilent model.now items.now e.from e.to) }
     ensures rise { IfOk result (λ v. StrictlyRise silent_order v.items) }
 {

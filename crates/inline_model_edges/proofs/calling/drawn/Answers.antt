@@ -1,14 +1,19 @@
-use Rattle.std.proofs.Common.{◌≡◌, ◌≤◌, ◌⊎◌, [], length, get_or, false, arith}
+use Rattle.std.proofs.Common.{◌≤◌, [], length, get_or, false, arith}
+use Rattle.std.proofs.lemmas.List.Elements.{Contains-get_or}
 use Rattle.std.proofs.lemmas.List.{get_or_default}
 use Rattle.flow_model.specs.declared.records.SysEdge.{SysEdge}
 use Rattle.inline_model_copies.specs.declared.copied.Copied.{Copied}
 use Rattle.inline_model_edges.specs.Drawn.{IsCopiedSys}
+use Rattle.inline_model_edges.proofs.DrawnLemmas.{item_numbered}
 use Rattle.inline_model_edges.proofs.EdgeLemmas.{from_nothing}
 use Rattle.inline_model_edges.proofs.Grown.{list_more, list_end}
 use Rattle.inline_model_edges.proofs.calling.drawn.Goals as goal
 
 abbrev nothing : Copied
 nothing = record { function = 0; root = false; parent = 0; place = 0; first = 0 }
+
+pub copy_all-requires : goal.copy_all-requires
+copy_all-requires c = item_numbered c.args.model.now c.nodes-nodes.ensures.valid c.args.items.now c.requires (get_or c.args.items.now c.loop-item.item-index nothing) (Contains-get_or c.args.items.now c.loop-item.item-index nothing c.loop-item-test.true)
 
 pub loop-item-preserved : goal.loop-item-preserved
 loop-item-preserved c =

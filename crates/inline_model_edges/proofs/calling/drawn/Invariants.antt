@@ -1,4 +1,4 @@
-use Rattle.std.proofs.Common.{[], ◌⊎◌, take}
+use Rattle.std.proofs.Common.{[], take}
 use Rattle.inline_model_edges.specs.Drawn.{IsCopiedSys}
 use Rattle.inline_model_edges.specs.Growing.{Adds, HasOne}
 use Rattle.inline_model_edges.proofs.calling.drawn.Given as goal

@@ -1,4 +1,3 @@
-use Rattle.std.proofs.Common.{◌≡◌}
 use Rattle.flow_model.specs.Order.{silent_order}
 use Rattle.flow_model.proofs.OrderLemmas.{silent_edges_tie}
 use Rattle.inline_model_edges.proofs.EdgeLemmas.{same_items}

@@ -1,4 +1,5 @@
-use Rattle.std.proofs.Common.{◌≡◌, ◌≤◌, ◌⊎◌, [], length, get_or, false, arith}
+use Rattle.std.proofs.Common.{◌≤◌, ◌⊎◌, [], length, get_or, false, arith}
+use Rattle.std.proofs.lemmas.List.Elements.{Contains-get_or}
 use Rattle.std.proofs.lemmas.List.{get_or_default}
 use Rattle.flow_model.specs.declared.records.SilentEdge.{SilentEdge}
 use Rattle.inline_model_copies.specs.declared.copied.Copied.{Copied}
@@ -9,6 +10,9 @@ use Rattle.inline_model_edges.proofs.drawing.drawn.Goals as goal
 
 abbrev nothing : Copied
 nothing = record { function = 0; root = false; parent = 0; place = 0; first = 0 }
+
+pub draw-requires-clause-has : goal.draw-requires-clause-has
+draw-requires-clause-has c = Contains-get_or c.args.items.now c.loop-item.item-index nothing c.loop-item-test.true
 
 pub loop-item-preserved : goal.loop-item-preserved
 loop-item-preserved c =

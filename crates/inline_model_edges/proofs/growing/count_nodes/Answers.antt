@@ -1,14 +1,32 @@
-use Rattle.std.proofs.Common.{◌≡◌, ◌+◌, ◌-◌, suc, length, sym, ap, ◌∙◌, arith}
-use Rattle.std.proofs.lemmas.Option.{slice_get_within}
-use Rattle.flow_model.specs.Graph.{end_of}
-use Rattle.inline_model_laws.specs.Copies.{entry_of}
-use Rattle.inline_model_edges.proofs.DrawnLemmas.{counted_all}
+use Rattle.std.proofs.Common.{◌≡◌, ◌-◌, ◌<◌, suc, length, arith}
+use Rattle.inline_model_laws.proofs.Basics.{has_function}
+use Rattle.inline_model_edges.proofs.DrawnLemmas.{at_contains, counted_all, item_numbered, some_item}
+use Rattle.inline_model_edges.proofs.EdgeLemmas.{entry_first}
 use Rattle.inline_model_edges.proofs.growing.count_nodes.Goals as goal
 
+pub first_of-first-requires : goal.first_of-first-requires
+first_of-first-requires c = (item_numbered c.args.model.now c.nodes-nodes.ensures.valid c.args.items.now c.requires c.item_at-last.result (at_contains c.args.items.now (length c.args.items.now - 1) c.item_at-last.result c.item_at-last.ensures)).known
+
+pub overflow_sub-result : goal.overflow_sub-result
+overflow_sub-result c =
+    let g = c.args.model.now in
+    let f = c.item_at-last.result.function in
+    let known : f < length g.functions = (item_numbered c.args.model.now c.nodes-nodes.ensures.valid c.args.items.now c.requires c.item_at-last.result (at_contains c.args.items.now (length c.args.items.now - 1) c.item_at-last.result c.item_at-last.ensures)).known in
+    let there = has_function {g = g} f known in
+    omega (arith, entry_first g c.nodes-nodes.ensures.valid f there.0 there.1, c.first_of-first.ensures, c.past_of-past.ensures)
+
+pub overflow_add-result : goal.overflow_add-result
+overflow_add-result c =
+    let few = (item_numbered c.args.model.now c.nodes-nodes.ensures.valid c.args.items.now c.requires c.item_at-last.result (at_contains c.args.items.now (length c.args.items.now - 1) c.item_at-last.result c.item_at-last.ensures)).few in
+    omega (arith, few, c.first_of-first.ensures, c.past_of-past.ensures)
+
 pub returns : goal.returns
-returns c =
+returns c = λ all.
     let items = c.args.items.now in
     let k = length items - 1 in
-    let last : suc k ≡ length items = omega (arith, slice_get_within items k c.in-Some.last (sym c.in-Some.ensures)) in
-    counted_all c.args.model.now items c.in-Some.last k c.in-Some-checked_add.count (sym c.in-Some.ensures) last
-    (c.in-Some-checked_add.ensures.1 ∙ ap (λ s. c.in-Some.last.first + s) (c.saturating_sub-size.ensures ∙ ap (λ p. p - c.in_ok-first.first) c.past_of.ensures ∙ ap (λ f. end_of c.args.model.now.functions c.args.model.now.nodes c.in-Some.last.function - f) c.in_ok-first.ensures.is))
+    let g = c.args.model.now in
+    let last = c.item_at-last.result in
+    let some = some_item g items c.requires in
+    let is_last : suc k ≡ length items = omega (arith, some) in
+    counted_all g items last k _ c.item_at-last.ensures is_last
+    (omega (arith, c.first_of-first.ensures, c.past_of-past.ensures)) all
