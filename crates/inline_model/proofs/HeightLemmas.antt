@@ -5,6 +5,7 @@ use Rattle.std.specs.Prelude.{slice_get}
 use Rattle.std.proofs.lemmas.Bool.{cases_lt, cases_eq}
 use Rattle.std.proofs.lemmas.List.{take_more, length-set}
 use Rattle.std.proofs.lemmas.List.Elements.{Contains-push_cases, Contains-append_left, Contains-push}
+use Rattle.std.proofs.lemmas.List.Sums.{sum_by-cons, sum_by-set}
 use Rattle.std.proofs.lemmas.Option.{none-some, slice_get_within, get_or_from_slice_get, slice_get-get_or}
 use Rattle.flow_model.specs.Call.{Call}
 use Rattle.flow_model.specs.Graph.{Graph}
@@ -13,7 +14,7 @@ use Rattle.inline_model_laws.specs.Chains.{Opening}
 use Rattle.inline_model_laws.proofs.ChainLemmas.{FromFunction, stays, goes}
 use Rattle.inline_model_openings.specs.declared.table.Entry.{Entry}
 use Rattle.inline_model_openings.specs.Entries.{IsEntry, AreEntries}
-use Rattle.inline_model.specs.Searching.{IsHeight, HasPlace, Enters, IsComplete, IsNext, lesser, IsGreatestAbove, AreHeights, Completes}
+use Rattle.inline_model.specs.Searching.{IsHeight, HasPlace, Enters, IsComplete, count_of, known_count, AreLow, IsReady, StayLow, IsNext, lesser, IsGreatestAbove, AreHeights, Completes}
 
 module _ (g : Graph) (heights : List (Option ℕ)) (from : ℕ) where
   -- the same of functions told by other words
@@ -176,6 +177,72 @@ completes_one g old new f n right lt is height =
       ];
       all = λ h same. (n, ap (slice_get new) same ∙ here);
     }
+
+-- there are no more known heights than heights
+count_few : (heights : List (Option ℕ)) → known_count heights ≤ length heights
+count_few [] = omega arith
+count_few (None ∷ heights) = omega (arith, sum_by-cons count_of None heights, count_few heights)
+count_few (Some n ∷ heights) = omega (arith, sum_by-cons count_of (Some n) heights, count_few heights)
+
+pub height_few : (heights : List (Option ℕ)) → AreLow heights → (f n : ℕ) → slice_get heights f ≡ Some (Some n) → n < 200000
+height_few heights low f n at = omega (arith, low.below f n at, low.few, count_few heights)
+
+-- the next height is no more than the number of those that are known
+pub height_next : (entries : List Entry) (heights : List (Option ℕ)) (n : ℕ) → AreLow heights → IsGreatestAbove entries heights n → n ≤ known_count heights
+height_next entries heights n low greatest = elim greatest.some [
+  | inl none ↦ omega (arith, none)
+  | inr there ↦ omega (arith, low.below there.0.candidate there.1 there.3, there.4)
+]
+
+unknown_at : (heights : List (Option ℕ)) (f : ℕ) → f < length heights → (IsComplete heights f → ⊥) → slice_get heights f ≡ Some None
+unknown_at heights f lt unknown = by_value (get_or heights f None) (slice_get-get_or heights f None lt)
+  where
+    by_value : (h : Option ℕ) → slice_get heights f ≡ Some h → slice_get heights f ≡ Some None
+    by_value None at = at
+    by_value (Some n) at = absurd (unknown (n, at))
+
+-- heights that stay as they are, and one that is noted
+pub stays_same : (heights : List (Option ℕ)) → AreLow heights → StayLow heights heights
+stays_same heights low = record { tall = refl; low = low; still = λ f known. known }
+
+pub stays_one : (old new : List (Option ℕ)) (f n : ℕ) → AreLow old → f < length old → (IsComplete old f → ⊥) → n ≤ known_count old → new ≡ set old f (Some n) → StayLow old new
+stays_one old new f n low lt unknown few is =
+    let none : get_or old f None ≡ None = get_or_from_slice_get old f None None (unknown_at old f lt unknown) in
+    let tall : length new ≡ length old = ap length is ∙ length-set old f (Some n) in
+    let count : known_count new ≡ known_count old + 1 = omega (arith, ap known_count is, sum_by-set count_of old f (Some n) None lt, ap count_of none) in
+    let here : slice_get new f ≡ Some (Some n) = ap (λ xs. slice_get xs f) is ∙ slice_get-set_same old f (Some n) lt in
+    let others : (h : ℕ) → (h ≡ f → ⊥) → slice_get new h ≡ slice_get old h = λ h ne. ap (λ xs. slice_get xs h) is ∙ slice_get-set_other old f h (Some n) ne in
+    record {
+      tall = tall;
+      low = record {
+        few = omega (arith, tall, low.few);
+        below = λ h m at. elim (cases_eq h f) [
+          | inl same ↦
+              let value : Some (Some n) ≡ Some (Some m) = sym here ∙ ap (slice_get new) (sym same) ∙ at in
+              let number : n ≡ m = cc in
+              omega (arith, number, few, count)
+          | inr ne ↦ omega (arith, low.below h m (sym (others h ne) ∙ at), count)
+        ];
+      };
+      still = λ h known. elim (cases_eq h f) [
+        | inl same ↦ (n, ap (slice_get new) same ∙ here)
+        | inr ne ↦ (known.0, others h ne ∙ known.1)
+      ];
+    }
+
+pub stays_then : (a b c : List (Option ℕ)) → StayLow a b → StayLow b c → StayLow a c
+stays_then a b c one two = record {
+  tall = two.tall ∙ one.tall;
+  low = two.low;
+  still = λ f known. two.still f (one.still f known);
+}
+
+-- what can be told can be told where more is known
+pub ready_still : (entries : List Entry) (old new : List (Option ℕ)) (f : ℕ) → StayLow old new → IsReady entries old f → IsReady entries new f
+ready_still entries old new f kept ready = record {
+  within = omega (arith, ready.within, kept.tall);
+  candidates = λ e has same. kept.still e.candidate (ready.candidates e has same);
+}
 
 pub completes_none : {F : ℕ → Type 0} (g : Graph) (heights : List (Option ℕ)) → AreHeights g heights → ((f : ℕ) → F f → ⊥) → Completes g heights heights F
 completes_none g heights right none = record { tall = refl; heights = right; still = λ h is. is; only = λ h is. inl is; all = λ h has. absurd (none h has) }

@@ -1,16 +1,23 @@
 -- The turns of the search.
-use Rattle.std.proofs.Common.{◌≡◌, ◌⊎◌, inl, inr, ℕ, ◌+◌, ◌<◌, List, [], ◌∷◌, ◌++◌, length, take, drop, set, Option, Some, None, sym, ap, ◌∙◌, subst, arith}
+use Rattle.std.proofs.Common.{◌≡◌, ◌⊎◌, inl, inr, ℕ, ◌+◌, ◌<◌, ◌≤◌, List, [], ◌∷◌, ◌++◌, length, take, drop, set, Option, Some, None, refl, sym, ap, ◌∙◌, subst, arith}
 use Prim.Native.Nat.{zero, suc}
-use Rattle.std.specs.Prelude.{slice_get, replicate, IfSome, IfNone}
+use Rattle.std.specs.Prelude.{slice_get, replicate, sum_by, IfSome, IfNone}
 use Rattle.std.proofs.lemmas.Bool.{cases_lt, cases_eq}
 use Rattle.std.proofs.lemmas.List.{length-set, append-nil, take_all, drop_all}
-use Rattle.std.proofs.lemmas.Option.{slice_get_within}
-use Rattle.flow_model.specs.Graph.{Graph}
+use Rattle.std.proofs.lemmas.List.Sums.{sum_by-cons, sum_by-set}
+use Rattle.std.proofs.lemmas.Option.{slice_get_within, get_or_from_slice_get}
+use Rattle.flow_model.specs.Graph.{Graph, HasCall}
+use Rattle.flow_model.specs.Rules.{IsValid}
+use Rattle.flow_model.proofs.ModelLemmas.{functions_few}
+use Rattle.inline_model_laws.proofs.Basics.{candidate_below}
+use Rattle.inline_model_laws.specs.Within.{Within}
 use Rattle.inline_model_laws.proofs.Rising.{cons_cases, is_first, is_later}
 use Rattle.inline_model.specs.declared.path.Frame.{Frame}
 use Rattle.inline_model.specs.declared.search.Mark.{Mark}
 use Rattle.inline_model.specs.declared.search.Mark.TheVariants.{Unseen, Open, Done}
-use Rattle.inline_model.specs.Searching.{Enters, OpensPlace, IsDone, IsOpen, Passed, OnPath, IsPath, AreSearching, IsNext, Completes}
+use Rattle.inline_model_openings.specs.declared.table.Entry.{Entry}
+use Rattle.inline_model_openings.specs.Entries.{IsEntry, AreEntries}
+use Rattle.inline_model.specs.Searching.{Enters, HasPlace, OpensPlace, IsDone, IsOpen, Passed, OnPath, IsPath, AreSearching, IsNext, IsReady, StayLow, Completes, mark_left, frame_left, turns_left}
 use Rattle.inline_model.specs.Searching.IsPath.{bottom, above}
 use Rattle.inline_model.proofs.HeightLemmas.{slice_get-set_same, slice_get-set_other}
 
@@ -48,11 +55,15 @@ moved_on_path frame next rest p on = elim (on_path_cases frame rest p on) [
 ]
 
 -- before the first turn
-pub begun : (g : Graph) (marks : List Mark) (heights : List (Option ℕ)) → length marks ≡ length g.calls → length heights ≡ length g.functions → ((p : ℕ) (m : Mark) → slice_get marks p ≡ Some m → m ≡ Unseen) → ((f : ℕ) (h : Option ℕ) → slice_get heights f ≡ Some h → h ≡ None) → AreSearching g marks heights (record { opener = None; next = 0 } ∷ [])
-begun g marks heights long tall unseen unknown = record {
+pub begun : (g : Graph) → IsValid g → (marks : List Mark) (heights : List (Option ℕ)) → length marks ≡ length g.calls → length heights ≡ length g.functions → ((p : ℕ) (m : Mark) → slice_get marks p ≡ Some m → m ≡ Unseen) → ((f : ℕ) (h : Option ℕ) → slice_get heights f ≡ Some h → h ≡ None) → AreSearching g marks heights (record { opener = None; next = 0 } ∷ [])
+begun g valid marks heights long tall unseen unknown = record {
   sound = record {
     long = long;
     tall = tall;
+    low = record {
+      few = omega (arith, tall, functions_few g.functions g.nodes valid.entries, valid.entries.few);
+      below = λ f n at. absurd (let same = unknown f (Some n) at in cc);
+    };
     right = λ f n at. absurd (let same = unknown f (Some n) at in cc);
     complete = λ f p known. absurd (let same = unknown f (Some known.0) known.1 in cc);
     done = λ p f is. absurd (let same = unseen p Done is in cc);
@@ -103,6 +114,7 @@ module _ (g : Graph) (marks : List Mark) (heights : List (Option ℕ)) (path : L
         sound = record {
           long = ap length set_is ∙ length-set marks q Open ∙ inv.sound.long;
           tall = inv.sound.tall;
+          low = inv.sound.low;
           right = inv.sound.right;
           complete = λ f p known place. still p (inv.sound.complete f p known place);
           done = λ p f done enters. inv.sound.done p f (back p done) enters;
@@ -128,14 +140,67 @@ module _ (g : Graph) (marks : List Mark) (heights : List (Option ℕ)) (path : L
     | inr least ↦ inv.sound.complete opens.0 p (next opens.0 p opens.1 least opens.2) opens.2
   ]
 
+-- a function that is entered is one of the model's
+entered_known : (g : Graph) → IsValid g → (opener : Option ℕ) (f : ℕ) → Enters g opener f → f < length g.functions
+entered_known g valid None f enters = omega (arith, enters, valid.functions.start)
+entered_known g valid (Some p) f (call, at, candidate) =
+    let has : HasCall g call.from call.site call.to f = record {
+      call = call;
+      has = (p, slice_get_within g.calls p call at, get_or_from_slice_get g.calls p call call at);
+      from = refl;
+      site = refl;
+      to = refl;
+      candidate = candidate;
+    } in
+    candidate_below valid has
+
+-- where nothing is next, the heights of the functions that the newest frame enters can be told
+pub ready_here : (g : Graph) → IsValid g → (marks : List Mark) (heights : List (Option ℕ)) (path : List Frame) (frame : Frame) (rest : List Frame) → path ≡ frame ∷ rest → AreSearching g marks heights path → IsNext g heights (Enters g frame.opener) frame.next None → (entries : List Entry) → AreEntries g entries → (f : ℕ) → Enters g frame.opener f → IsReady entries heights f
+ready_here g valid marks heights path frame rest is inv next entries are f enters = record {
+  within = omega (arith, inv.sound.tall, entered_known g valid frame.opener f enters);
+  candidates = λ e has same.
+      let entry = (are.all e).0 has in
+      let here : IsEntry g (record { function = f; place = e.place; candidate = e.candidate }) = record { call = entry.call; stands = entry.stands; within = subst (λ k. Within g k entry.call.from) same entry.within; candidate = entry.candidate } in
+      inv.sound.done e.place e.candidate (all_done g marks heights path frame rest is inv next e.place (f, enters, (e.candidate, here))) (entry.call, entry.stands, entry.candidate);
+}
+
+-- the place of the newest frame is open
+pub top_open : (g : Graph) (marks : List Mark) (heights : List (Option ℕ)) (path : List Frame) (frame : Frame) (rest : List Frame) → path ≡ frame ∷ rest → AreSearching g marks heights path → (q : ℕ) → frame.opener ≡ Some q → IsOpen marks q
+top_open g marks heights path frame rest is inv q opener = (inv.on_path q).1 (subst (λ xs. OnPath xs q) (sym is) (on_path_here frame rest q opener))
+
+-- a path has a frame
+pub path_some : {g : Graph} {marks : List Mark} {path : List Frame} → IsPath g marks path → path ≡ [] → ⊥
+path_some (bottom passed) is = cc
+path_some (above opens passed fresh below) is = cc
+
+-- a place by which a function goes on has a mark
+pub place_marked : (g : Graph) (marks : List Mark) (f p : ℕ) → length marks ≡ length g.calls → HasPlace g f p → p < length marks
+place_marked g marks f p long (h, entry) = omega (arith, long, slice_get_within g.calls p entry.call entry.stands)
+
+-- the turns that are left where a mark changes
+marks_fall : (n : ℕ) (marks new : List Mark) (q : ℕ) (before after : Mark) → slice_get marks q ≡ Some before → new ≡ set marks q after → sum_by (mark_left n) new + mark_left n before ≡ sum_by (mark_left n) marks + mark_left n after
+marks_fall n marks new q before after at is =
+    ap (λ xs. sum_by (mark_left n) xs + mark_left n before) is
+    ∙ ap (λ m. sum_by (mark_left n) (set marks q after) + mark_left n m) (sym (get_or_from_slice_get marks q before before at))
+    ∙ sum_by-set (mark_left n) marks q after before (slice_get_within marks q before at)
+
+pub pass_left : (n : ℕ) (marks : List Mark) (frame : Frame) (rest : List Frame) (q : ℕ) → frame.next ≤ q → q < n → turns_left n marks (record { opener = frame.opener; next = q + 1 } ∷ rest) < turns_left n marks (frame ∷ rest)
+pass_left n marks frame rest q least less = omega (arith, sum_by-cons (frame_left n) frame rest, sum_by-cons (frame_left n) (record { opener = frame.opener; next = q + 1 }) rest)
+
+pub enter_left : (n : ℕ) (marks new : List Mark) (path : List Frame) (q : ℕ) → slice_get marks q ≡ Some Unseen → new ≡ set marks q Open → turns_left n new (record { opener = Some q; next = 0 } ∷ path) < turns_left n marks path
+enter_left n marks new path q at is = omega (arith, marks_fall n marks new q Unseen Open at is, sum_by-cons (frame_left n) (record { opener = Some q; next = 0 }) path)
+
+pub leave_left : (n : ℕ) (marks new : List Mark) (frame : Frame) (rest : List Frame) (q : ℕ) → slice_get marks q ≡ Some Open → new ≡ set marks q Done → turns_left n new rest < turns_left n marks (frame ∷ rest)
+leave_left n marks new frame rest q at is = omega (arith, marks_fall n marks new q Open Done at is, sum_by-cons (frame_left n) frame rest)
+
 -- the frames below one that was opened
 below_path : {g : Graph} {marks : List Mark} {frame : Frame} {rest : List Frame} {q : ℕ} → frame.opener ≡ Some q → IsPath g marks (frame ∷ rest) → IsPath g marks rest × (OnPath rest q → ⊥)
 below_path {q = q} is (bottom passed) = absurd (let none : None ≡ Some q = is in cc)
 below_path {q = q} is (above {p = p} {below = below} {rest = rest} opens passed fresh path) = let same : p ≡ q = cc in (path, λ on. fresh (subst (OnPath (below ∷ rest)) (sym same) on))
 
 pub leave_done : (g : Graph) (marks : List Mark) (heights : List (Option ℕ)) (path : List Frame) (frame : Frame) (rest : List Frame) → path ≡ frame ∷ rest → AreSearching g marks heights path → (q : ℕ) → frame.opener ≡ Some q → IsNext g heights (Enters g frame.opener) frame.next None
-    → (new_marks : List Mark) (new_heights : List (Option ℕ)) → Completes g heights new_heights (Enters g frame.opener) → new_marks ≡ set marks q Done → AreSearching g new_marks new_heights rest
-leave_done g marks heights path frame rest is inv q opener next new_marks new_heights made set_is =
+    → (new_marks : List Mark) (new_heights : List (Option ℕ)) → Completes g heights new_heights (Enters g frame.opener) → StayLow heights new_heights → new_marks ≡ set marks q Done → AreSearching g new_marks new_heights rest
+leave_done g marks heights path frame rest is inv q opener next new_marks new_heights made stays set_is =
     let here : IsPath g marks (frame ∷ rest) = subst (IsPath g marks) is inv.is_path in
     let below = below_path opener here in
     let open_q : IsOpen marks q = (inv.on_path q).1 (subst (λ xs. OnPath xs q) (sym is) (on_path_here frame rest q opener)) in
@@ -148,6 +213,7 @@ leave_done g marks heights path frame rest is inv q opener next new_marks new_he
       sound = record {
         long = ap length set_is ∙ length-set marks q Done ∙ inv.sound.long;
         tall = made.tall ∙ inv.sound.tall;
+        low = stays.low;
         right = made.heights;
         complete = λ f p known place. elim (made.only f known) [
           | inl before ↦ still p (inv.sound.complete f p before place)

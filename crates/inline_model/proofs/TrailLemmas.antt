@@ -4,7 +4,7 @@ use Rattle.std.specs.Prelude.{slice_get, option_map, unwrap_or}
 use Rattle.std.proofs.lemmas.Bool.{cases_lt, cases_eq}
 use Rattle.std.proofs.lemmas.List.{append-nil, append_assoc, take-append-drop, map-append, get_or-map, length-map, length-append, drop-append-le, get_or_default}
 use Rattle.std.proofs.Math.Seq.{drop-cons}
-use Rattle.std.proofs.lemmas.List.Elements.{Contains-get_or}
+use Rattle.std.proofs.lemmas.List.Elements.{Contains-get_or, Contains-append_left, Contains-append_right}
 use Rattle.std.proofs.lemmas.Option.{slice_get_within, get_or_from_slice_get}
 use Rattle.flow_model.specs.Call.{Call}
 use Rattle.flow_model.specs.Graph.{Graph, HasCall}
@@ -15,7 +15,7 @@ use Rattle.inline_model_laws.specs.Within.{Within}
 use Rattle.inline_model_laws.specs.Chains.{Opening, Opens, IsChain, IsRecursion}
 use Rattle.inline_model_laws.specs.Chains.IsChain.{empty}
 use Rattle.inline_model_laws.proofs.ChainLemmas.{FromFunction, stays, goes, chain_from}
-use Rattle.inline_model_laws.proofs.Rising.{cons_cases, pairs_nil, pairs_cons}
+use Rattle.inline_model_laws.proofs.Rising.{cons_cases, is_first, pairs_nil, pairs_cons}
 use Rattle.inline_model_openings.specs.Entries.{IsEntry}
 use Rattle.inline_model.specs.declared.path.Frame.{Frame}
 use Rattle.inline_model.specs.declared.search.Mark.{Mark}
@@ -29,7 +29,7 @@ data Trail (g : Graph) : Option ℕ → List ℕ → Type 0 where
   ends : {o : Option ℕ} → Trail g o []
   opens_next : {o : Option ℕ} {p : ℕ} {places : List ℕ} → OpensPlace g o p → Trail g (Some p) places → Trail g o (p ∷ places)
 
-site_is : (g : Graph) (p : ℕ) (call : Call) → slice_get g.calls p ≡ Some call → site_at g p ≡ call.site
+pub site_is : (g : Graph) (p : ℕ) (call : Call) → slice_get g.calls p ≡ Some call → site_at g p ≡ call.site
 site_is g p call at = ap (λ o. unwrap_or (option_map (λ (c : Call). c.site) o) 0) at
 
 -- the call edge at the place as a call with any of its candidates
@@ -97,6 +97,31 @@ onto_append (frame ∷ rest) places =
     onto_append rest (place_of frame ++ places)
     ∙ sym (append_assoc (places_onto rest []) (place_of frame) places)
     ∙ ap (λ xs. xs ++ places) (sym (onto_append rest (place_of frame)) ∙ ap (places_onto rest) (sym (append-nil (place_of frame))))
+
+-- the places of a path are those of call edges
+pub path_called : {g : Graph} {marks : List Mark} (path : List Frame) → IsPath g marks path → (p : ℕ) → Contains (places_onto path []) p → p < length g.calls
+path_called {g} path is_path p has =
+    let there = trail_called (places_onto path []) (trail_onto is_path [] ends) p has in
+    slice_get_within g.calls p there.0 there.1
+
+-- so are those of its parts
+pub front_called : {g : Graph} {marks : List Mark} (path : List Frame) → IsPath g marks path → (all : List ℕ) → all ≡ places_onto path [] → (at p : ℕ) → Contains (take at all) p → p < length g.calls
+front_called path is_path all same at p has = path_called path is_path p (subst (λ xs. Contains xs p) (take-append-drop at all ∙ same) (Contains-append_left (take at all) (drop at all) p has))
+
+pub back_called : {g : Graph} {marks : List Mark} (path : List Frame) → IsPath g marks path → (all : List ℕ) → all ≡ places_onto path [] → (at p : ℕ) → Contains (drop at all) p → p < length g.calls
+back_called path is_path all same at p has = path_called path is_path p (subst (λ xs. Contains xs p) (take-append-drop at all ∙ same) (Contains-append_right (take at all) (drop at all) p has))
+
+onto_keeps : (path : List Frame) (places : List ℕ) (p : ℕ) → Contains places p → Contains (places_onto path places) p
+onto_keeps [] places p has = has
+onto_keeps (frame ∷ rest) places p has = onto_keeps rest (place_of frame ++ places) p (Contains-append_right (place_of frame) places p has)
+
+-- a place on the path is one of them
+pub on_path_placed : (path : List Frame) (places : List ℕ) (p : ℕ) → OnPath path p → Contains (places_onto path places) p
+on_path_placed [] places p on = absurd (omega (arith, on.has.1))
+on_path_placed (frame ∷ rest) places p on = elim (on_path_cases frame rest p on) [
+  | inl here ↦ onto_keeps rest (place_of frame ++ places) p (Contains-append_left (place_of frame) places p (subst (λ o. Contains (places_in o) p) (sym here) (is_first p [])))
+  | inr later ↦ on_path_placed rest (place_of frame ++ places) p later
+]
 
 -- places of call edges whose sites are one are one
 same_place : (g : Graph) → StrictlyRise site_order g.calls → (p q : ℕ) (c d : Call) → slice_get g.calls p ≡ Some c → slice_get g.calls q ≡ Some d → c.site ≡ d.site → p ≡ q

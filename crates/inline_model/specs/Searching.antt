@@ -1,10 +1,10 @@
 -- For private contracts and proofs alone: the search for the longest chain, by depth first.
-use Rattle.std.specs.Prelude.{◌≡◌, ◌↔◌, ◌⊎◌, ◌<◌, ◌≤◌, ◌+◌, ℕ, min, List, [], ◌∷◌, Option, Some, None, length, Contains, slice_get}
+use Rattle.std.specs.Prelude.{◌≡◌, ◌↔◌, ◌⊎◌, ◌<◌, ◌≤◌, ◌+◌, ◌-◌, ℕ, min, sum_by, List, [], ◌∷◌, Option, Some, None, length, Contains, slice_get}
 use Rattle.flow_model.specs.Call.{Call}
 use Rattle.flow_model.specs.Graph.{Graph}
 use Rattle.inline_model.specs.declared.path.Frame.{Frame}
 use Rattle.inline_model.specs.declared.search.Mark.{Mark}
-use Rattle.inline_model.specs.declared.search.Mark.TheVariants.{Open, Done}
+use Rattle.inline_model.specs.declared.search.Mark.TheVariants.{Unseen, Open, Done}
 use Rattle.inline_model.specs.declared.search.Search.{Search}
 use Rattle.inline_model.specs.declared.search.Turn.{Turn}
 use Rattle.inline_model.specs.declared.search.Turn.TheVariants.{Goes, Ends, Returns}
@@ -34,6 +34,31 @@ OpensPlace g opener p = (f : ℕ) × Enters g opener f × HasPlace g f p
 abbrev pub IsComplete : List (Option ℕ) → ℕ → Type 0
 IsComplete heights f = (n : ℕ) × (slice_get heights f ≡ Some (Some n))
 
+-- 1 where the height is known
+abbrev pub count_of : Option ℕ → ℕ
+count_of None = 0
+count_of (Some n) = 1
+
+-- how many heights are known
+abbrev pub known_count : List (Option ℕ) → ℕ
+known_count heights = sum_by count_of heights
+
+-- each known height is below their number, and there are no more functions than a model may have nodes
+pub record AreLow (heights : List (Option ℕ)) : Type 0 where
+  pub few : length heights ≤ 200000
+  pub below : (f n : ℕ) → slice_get heights f ≡ Some (Some n) → n < known_count heights
+
+-- the height of the function can be told: those of the candidates of its entries are known
+pub record IsReady (entries : List Entry) (heights : List (Option ℕ)) (f : ℕ) : Type 0 where
+  pub within : f < length heights
+  pub candidates : (e : Entry) → Contains entries e → e.function ≡ f → IsComplete heights e.candidate
+
+-- heights have become known, and are low still
+pub record StayLow (old new : List (Option ℕ)) : Type 0 where
+  pub tall : length new ≡ length old
+  pub low : AreLow new
+  pub still : (f : ℕ) → IsComplete old f → IsComplete new f
+
 abbrev pub IsDone : List Mark → ℕ → Type 0
 IsDone marks p = slice_get marks p ≡ Some Done
 
@@ -44,6 +69,7 @@ IsOpen marks p = slice_get marks p ≡ Some Open
 pub record IsSound (g : Graph) (marks : List Mark) (heights : List (Option ℕ)) : Type 0 where
   pub long : length marks ≡ length g.calls
   pub tall : length heights ≡ length g.functions
+  pub low : AreLow heights
   pub right : (f n : ℕ) → slice_get heights f ≡ Some (Some n) → IsHeight g f n
   pub complete : (f p : ℕ) → IsComplete heights f → HasPlace g f p → IsDone marks p
   pub done : (p f : ℕ) → IsDone marks p → Enters g (Some p) f → IsComplete heights f
@@ -71,6 +97,23 @@ pub record AreSearching (g : Graph) (marks : List Mark) (heights : List (Option 
 
 abbrev pub IsSearching : Graph → Search → Type 0
 IsSearching g search = AreSearching g search.marks.items search.heights.items search.path
+
+-- how many turns a call edge with this mark may still take but for those of its frame, where there are n call edges
+abbrev pub mark_left : ℕ → Mark → ℕ
+mark_left n Unseen = n + 2
+mark_left n Open = 1
+mark_left n Done = 0
+
+-- how many places the frame may still go past
+abbrev pub frame_left : ℕ → Frame → ℕ
+frame_left n frame = n - frame.next
+
+-- how many turns there may still be
+abbrev pub turns_left : ℕ → List Mark → List Frame → ℕ
+turns_left n marks path = sum_by (mark_left n) marks + sum_by (frame_left n) path
+
+abbrev pub left_of : Graph → Search → ℕ
+left_of g search = turns_left (length g.calls) search.marks.items search.path
 
 -- the least place, not before the one given, by which a function goes on whose height isn't known; or none
 abbrev pub IsNext : Graph → List (Option ℕ) → (ℕ → Type 0) → ℕ → Option ℕ → Type 0
@@ -109,8 +152,8 @@ pub record Closes (g : Graph) (search : Search) (p : ℕ) : Type 0 where
   pub is : search.path ≡ top ∷ rest
   pub opens : OpensPlace g top.opener p
 
--- what a turn gives
-abbrev pub IsTurn : Graph → Search → Turn → Type 0
-IsTurn g search Goes = IsSearching g search
-IsTurn g search (Ends n) = IsHeight g g.start n
-IsTurn g search (Returns p) = Closes g search p
+-- what a turn gives, and where the search goes on, there are fewer turns to come
+abbrev pub IsTurn : Graph → Search → Search → Turn → Type 0
+IsTurn g old new Goes = IsSearching g new × (left_of g new < left_of g old)
+IsTurn g old new (Ends n) = IsHeight g g.start n
+IsTurn g old new (Returns p) = Closes g new p

@@ -1,4 +1,4 @@
-ghost use Rattle.std.specs.Prelude.{◌≡◌, ◌<◌, length, map, slice_index, IfOk, IfSome};
+ghost use Rattle.std.specs.Prelude.{◌≡◌, ◌<◌, ℕ, length, map, slice_index, Contains, IfOk};
 ghost use Rattle.inline_model_openings.specs.Entries.{AreEntries};
 ghost use Rattle.inline_model.specs.Depth.{HasLength, HasCycle, HasDepth};
 ghost use Rattle.inline_model.specs.Places.{site_at};
@@ -6,7 +6,6 @@ ghost use Rattle.inline_model.specs.Searching.{Closes};
 
 use crate::Sites;
 use crate::depths::Depth;
-use crate::reading::call_of;
 use crate::search::{Search, Turn};
 use crate::turns::{begin, turn};
 use dm_base::OutOfMemory;
@@ -15,36 +14,36 @@ use inline_model_openings::{Entry, openings};
 use std::alloc::Global;
 
 // The site of the call edge at the place.
-fn site_of(model: &Model, place: usize) -> Result<u32, OutOfMemory>
-    ensures { IfOk result (λ site. site ≡ site_at model.now place) }
+fn site_of(model: &Model, place: usize) -> u32
+    requires { place < length model.now.calls }
+    ensures { result ≡ site_at model.now place }
 {
-    match call_of(model, place) {
-        Some(call) => Ok(call.site()),
-        None => Err(OutOfMemory),
-    }
+    model.calls()[place].site()
 }
 
 // The sites of the call edges at the places.
 fn sites_at(alloc: Global, model: &Model, places: &[usize]) -> Result<Sites, OutOfMemory>
+    requires { (p : ℕ) → Contains places.now p → p < length model.now.calls }
     ensures { IfOk result (λ sites. sites ≡ map (site_at model.now) places.now) }
 {
     let mut sites = Vec::new(alloc);
     for place in places {
-        sites.push(site_of(model, *place)?)?;
+        sites.push(site_of(model, *place))?;
     }
     Ok(Sites::new(sites))
 }
 
 // Where the place stands among the others.
-fn find_place(places: &[usize], place: usize) -> Option<usize>
-    ensures { IfSome result (λ at. (at < length places.now) × (slice_index places.now at ≡ place)) }
+fn find_place(places: &[usize], place: usize) -> usize
+    requires { Contains places.now place }
+    ensures { (result < length places.now) × (slice_index places.now result ≡ place) }
 {
     for (at, one) in places.iter().enumerate() {
         if *one == place {
-            return Some(at);
+            return at;
         }
     }
-    None
+    unreachable!()
 }
 
 // The chain of the path, whose newest call edge opens the one at the place, which is on the path.
@@ -60,9 +59,7 @@ fn recursion(
 {
     let _nodes = model.nodes();
     let places = search.path.places()?;
-    let Some(at) = find_place(&places, place) else {
-        return Err(OutOfMemory);
-    };
+    let at = find_place(&places, place);
     let (before, after) = places.split_at(at);
     let first = sites_at(alloc, model, before)?;
     let cycle = sites_at(alloc, model, after)?;
@@ -80,14 +77,13 @@ pub fn depth_of(alloc: Global, model: &Model, entries: &[Entry]) -> Result<Depth
 {
     let _nodes = model.nodes();
     let mut search = begin(alloc, model)?;
-    for _done in 0..usize::MAX {
+    'turns: loop {
         match turn(&mut search, model, entries)? {
             Turn::Goes => {}
             Turn::Ends(height) => return Ok(Depth::Greatest(height)),
             Turn::Returns(place) => return recursion(alloc, &search, model, place),
         }
     }
-    Err(OutOfMemory)
 }
 
 /// How many calls may be open at once in the model: the length of the longest chains of sites of which each opens the

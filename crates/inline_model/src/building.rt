@@ -96,7 +96,7 @@ pub fn build(alloc: Global, model: &Model, items: &[Copied]) -> Result<Model, Ou
     ensures { IfOk result (IsInlined model.now) }
 {
     let _nodes = model.nodes();
-    let nodes = count_nodes(model, items)?;
+    let nodes = count_nodes(model, items);
     let silent = draw_silent(alloc, model, items)?;
     let sys = draw_sys(alloc, model, items)?;
     let one = only_function(alloc, model)?;

@@ -13,6 +13,7 @@ use crate::answer::depth_of;
 use crate::building::build;
 use crate::depths::Depth;
 use crate::failure::InlineError;
+use dm_base::OutOfMemory;
 use flow_model::Model;
 use inline_model_copies::{Copied, CopiesError, copies};
 use inline_model_laws::inlining_keeps_words;
@@ -38,7 +39,7 @@ fn check_depth(alloc: Global, model: &Model, entries: &[Entry]) -> Result<(), In
 {
     match depth_of(alloc, model, entries) {
         Ok(found) => greatest_alone(&found),
-        Err(_) => Err(InlineError::OutOfMemory),
+        Err(OutOfMemory) => Err(InlineError::OutOfMemory),
     }
 }
 
@@ -78,7 +79,7 @@ pub fn inline(alloc: Global, model: &Model) -> Result<Model, InlineError>
     let _nodes = model.nodes();
     let entries = match openings(alloc, model) {
         Ok(entries) => entries,
-        Err(_) => return Err(InlineError::OutOfMemory),
+        Err(OutOfMemory) => return Err(InlineError::OutOfMemory),
     };
     match check_depth(alloc, model, &entries) {
         Ok(()) => {}
@@ -90,6 +91,6 @@ pub fn inline(alloc: Global, model: &Model) -> Result<Model, InlineError>
     };
     match build(alloc, model, &items) {
         Ok(inlined) => Ok(inlined),
-        Err(_) => Err(InlineError::OutOfMemory),
+        Err(OutOfMemory) => Err(InlineError::OutOfMemory),
     }
 }

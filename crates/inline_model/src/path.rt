@@ -68,6 +68,7 @@ impl Path {
     /// The newest frame.
     pub fn top(&self) -> Option<Frame>
         ensures some { IfSome result (λ frame. (rest : List Frame) × (self.now ≡ frame ∷ rest)) }
+        ensures none { IfNone result (self.now ≡ []) }
     {
         self.frames.last().copied()
     }

@@ -1,11 +1,11 @@
-ghost use Rattle.std.specs.Prelude.{◌≡◌, ◌+◌, ◌<◌, ℕ, ◌↔◌, IfOk, OnOk, IfSome, IsTrue, Some, Contains, length, slice_get};
+ghost use Rattle.std.specs.Prelude.{◌≡◌, ◌+◌, ◌<◌, ℕ, ◌↔◌, IsTrue, Some, Contains, length, slice_get};
 ghost use Rattle.std.specs.Option.{option_copied};
 ghost use Rattle.flow_model.specs.Graph.{Graph};
 ghost use Rattle.flow_model.specs.Order.{StrictlyRise};
+ghost use Rattle.inline_model_openings.specs.declared.table.Entry.{Entry};
 ghost use Rattle.inline_model_openings.specs.Entries.{AreEntries, entry_order};
-ghost use Rattle.inline_model.specs.Searching.{IsComplete, IsNext, Enters, IsGreatestAbove, AreHeights, Completes, lesser};
+ghost use Rattle.inline_model.specs.Searching.{IsComplete, IsNext, Enters, IsGreatestAbove, AreHeights, AreLow, IsReady, StayLow, Completes, lesser};
 
-use dm_base::OutOfMemory;
 use flow_model::{CallEdge, Model};
 use inline_model_openings::{Entry, entries_of, next_place};
 
@@ -90,75 +90,65 @@ pub fn next_opened(
     next_among(entries, heights, call.candidates(), from)
 }
 
-/// The height of the function, where it is known.
-pub fn known_height(heights: &[Option<u32>], function: u32) -> Option<u32>
-    ensures { IfSome result (λ n. slice_get heights.now function ≡ Some (Some n)) }
+/// The height of the function, which is known.
+pub fn height_at(heights: &[Option<u32>], function: u32) -> u32
+    requires { IsComplete heights.now function }
+    ensures { slice_get heights.now function ≡ Some (Some result) }
 {
-    match heights.get(function as usize) {
-        Some(height) => *height,
-        None => None,
+    match heights[function as usize] {
+        Some(height) => height,
+        None => unreachable!(),
     }
 }
 
 // One more than the height of the function.
-fn height_above(heights: &[Option<u32>], function: u32) -> Result<u32, OutOfMemory>
-    ensures { IfOk result (λ n. (m : ℕ) × (slice_get heights.now function ≡ Some (Some m)) × (n ≡ m + 1)) }
+fn height_above(heights: &[Option<u32>], function: u32) -> u32
+    requires known { IsComplete heights.now function }
+    requires low { AreLow heights.now }
+    ensures { (m : ℕ) × (slice_get heights.now function ≡ Some (Some m)) × (result ≡ m + 1) }
 {
-    let Some(height) = known_height(heights, function) else {
-        return Err(OutOfMemory);
-    };
-    let Some(more) = height.checked_add(1) else {
-        return Err(OutOfMemory);
-    };
-    Ok(more)
+    height_at(heights, function) + 1
 }
 
 // The height of the function whose entries these are.
-fn height_of(entries: &[Entry], heights: &[Option<u32>]) -> Result<u32, OutOfMemory>
-    ensures { IfOk result (λ n. IsGreatestAbove entries.now heights.now n) }
+fn height_of(entries: &[Entry], heights: &[Option<u32>]) -> u32
+    requires known { (e : Entry) → Contains entries.now e → IsComplete heights.now e.candidate }
+    requires low { AreLow heights.now }
+    ensures { IsGreatestAbove entries.now heights.now result }
 {
     let mut greatest = 0;
     for entry in entries {
-        let height = height_above(heights, entry.candidate)?;
-        greatest = u32::max(greatest, height);
+        greatest = u32::max(greatest, height_above(heights, entry.candidate));
     }
-    Ok(greatest)
+    greatest
 }
 
 // Notes the height of the function.
-fn complete_one(
-    heights: &mut [Option<u32>],
-    entries: &[Entry],
-    function: u32,
-) -> Result<(), OutOfMemory>
-    requires { StrictlyRise entry_order entries.now }
-    ensures { OnOk result ((g : Graph) → AreEntries g entries.now → AreHeights g heights.old → Completes g heights.old heights.new (λ f. f ≡ function)) }
+fn complete_one(heights: &mut [Option<u32>], entries: &[Entry], function: u32)
+    requires rise { StrictlyRise entry_order entries.now }
+    requires low { AreLow heights.old }
+    requires ready { IsReady entries.now heights.old function }
+    ensures completes { (g : Graph) → AreEntries g entries.now → AreHeights g heights.old → Completes g heights.old heights.new (λ f. f ≡ function) }
+    ensures stays { StayLow heights.old heights.new }
 {
     if is_known(heights, function) {
-        return Ok(());
+        return;
     }
-    let place = function as usize;
-    if place >= heights.len() {
-        return Err(OutOfMemory);
-    }
-    let height = height_of(entries_of(entries, function), heights)?;
-    heights[place] = Some(height);
-    Ok(())
+    let height = height_of(entries_of(entries, function), heights);
+    heights[function as usize] = Some(height);
 }
 
 // Notes the heights of the functions.
-fn complete_each(
-    heights: &mut [Option<u32>],
-    entries: &[Entry],
-    functions: &[u32],
-) -> Result<(), OutOfMemory>
-    requires { StrictlyRise entry_order entries.now }
-    ensures { OnOk result ((g : Graph) → AreEntries g entries.now → AreHeights g heights.old → Completes g heights.old heights.new (Contains functions.now)) }
+fn complete_each(heights: &mut [Option<u32>], entries: &[Entry], functions: &[u32])
+    requires rise { StrictlyRise entry_order entries.now }
+    requires low { AreLow heights.old }
+    requires ready { (f : ℕ) → Contains functions.now f → IsReady entries.now heights.old f }
+    ensures completes { (g : Graph) → AreEntries g entries.now → AreHeights g heights.old → Completes g heights.old heights.new (Contains functions.now) }
+    ensures stays { StayLow heights.old heights.new }
 {
     for function in functions {
-        complete_one(heights, entries, *function)?;
+        complete_one(heights, entries, *function);
     }
-    Ok(())
 }
 
 /// Notes the heights of the functions that the opener may enter.
@@ -167,17 +157,19 @@ pub fn complete(
     model: &Model,
     entries: &[Entry],
     opener: Option<usize>,
-) -> Result<(), OutOfMemory>
-    requires { AreEntries model.now entries.now }
-    ensures { OnOk result (AreHeights model.now heights.old → Completes model.now heights.old heights.new (Enters model.now opener)) }
+)
+    requires entries { AreEntries model.now entries.now }
+    requires low { AreLow heights.old }
+    requires ready { (f : ℕ) → Enters model.now opener f → IsReady entries.now heights.old f }
+    ensures completes { AreHeights model.now heights.old → Completes model.now heights.old heights.new (Enters model.now opener) }
+    ensures stays { StayLow heights.old heights.new }
 {
     let Some(place) = opener else {
-        complete_one(heights, entries, model.start())?;
-        return Ok(());
+        complete_one(heights, entries, model.start());
+        return;
     };
     let Some(call) = call_of(model, place) else {
-        return Ok(());
+        return;
     };
-    complete_each(heights, entries, call.candidates())?;
-    Ok(())
+    complete_each(heights, entries, call.candidates());
 }

@@ -1,10 +1,10 @@
-ghost use Rattle.std.specs.Prelude.{◌≡◌, ℕ, replicate, IfOk, Some, List, ◌∷◌, slice_get};
+ghost use Rattle.std.specs.Prelude.{◌≡◌, ◌<◌, ℕ, replicate, IfOk, Some, List, ◌∷◌, length, slice_get};
 ghost use Rattle.inline_model_openings.specs.Entries.{AreEntries};
 ghost use Rattle.inline_model.specs.declared.path.Frame.{Frame};
 ghost use Rattle.inline_model.specs.Searching.{IsSearching, IsTurn, IsNext, Enters, IsDone};
 
 use crate::path::{Frame, Path};
-use crate::reading::{complete, known_height, next_opened};
+use crate::reading::{complete, height_at, next_opened};
 use crate::search::{Mark, Search, Turn};
 use dm_base::OutOfMemory;
 use flow_model::Model;
@@ -29,6 +29,7 @@ fn unknown(alloc: Global, count: usize) -> Result<Vec<Option<u32>>, OutOfMemory>
 pub fn begin(alloc: Global, model: &Model) -> Result<Search, OutOfMemory>
     ensures { IfOk result (IsSearching model.now) }
 {
+    let _nodes = model.nodes();
     let marks = unseen(alloc, model.calls().len())?;
     let heights = unknown(alloc, model.functions().len())?;
     let path = Path::new(alloc)?;
@@ -40,40 +41,33 @@ pub fn begin(alloc: Global, model: &Model) -> Result<Search, OutOfMemory>
 }
 
 // Leaves the newest frame, that of the place, all of whose opened call edges are done.
-fn leave(
-    search: &mut Search,
-    model: &Model,
-    entries: &[Entry],
-    frame: Frame,
-    place: usize,
-) -> Result<Turn, OutOfMemory>
+fn leave(search: &mut Search, model: &Model, entries: &[Entry], frame: Frame, place: usize) -> Turn
     requires entries { AreEntries model.now entries.now }
     requires search { IsSearching model.now search.old }
     requires top { (rest : List Frame) × (search.old.path ≡ frame ∷ rest) }
     requires opener { frame.opener ≡ Some place }
     requires over { IsNext model.now search.old.heights.items (Enters model.now frame.opener) frame.next None }
-    ensures { IfOk result (IsTurn model.now search.new) }
+    ensures { IsTurn model.now search.old search.new result }
 {
-    complete(&mut search.heights, model, entries, frame.opener)?;
-    if place >= search.marks.len() {
-        return Err(OutOfMemory);
-    }
+    let _nodes = model.nodes();
+    complete(&mut search.heights, model, entries, frame.opener);
     search.marks[place] = Mark::Done;
     let _left = search.path.pop();
-    Ok(Turn::Goes)
+    Turn::Goes
 }
 
 // Ends the search where all call edges that the start opens are done.
-fn end(search: &mut Search, model: &Model, entries: &[Entry]) -> Result<Turn, OutOfMemory>
+fn end(search: &mut Search, model: &Model, entries: &[Entry], frame: Frame) -> Turn
     requires entries { AreEntries model.now entries.now }
     requires search { IsSearching model.now search.old }
-    ensures { IfOk result (IsTurn model.now search.new) }
+    requires top { (rest : List Frame) × (search.old.path ≡ frame ∷ rest) }
+    requires opener { frame.opener ≡ None }
+    requires over { IsNext model.now search.old.heights.items (Enters model.now frame.opener) frame.next None }
+    ensures { IsTurn model.now search.old search.new result }
 {
-    complete(&mut search.heights, model, entries, None)?;
-    let Some(height) = known_height(&search.heights, model.start()) else {
-        return Err(OutOfMemory);
-    };
-    Ok(Turn::Ends(height))
+    let _nodes = model.nodes();
+    complete(&mut search.heights, model, entries, frame.opener);
+    Turn::Ends(height_at(&search.heights, model.start()))
 }
 
 // Goes past the place, which is done.
@@ -82,15 +76,12 @@ fn pass(search: &mut Search, model: &Model, frame: Frame, place: usize) -> Resul
     requires top { (rest : List Frame) × (search.old.path ≡ frame ∷ rest) }
     requires next { IsNext model.now search.old.heights.items (Enters model.now frame.opener) frame.next (Some place) }
     requires done { IsDone search.old.marks.items place }
-    ensures { IfOk result (IsTurn model.now search.new) }
+    ensures { IfOk result (IsTurn model.now search.old search.new) }
 {
-    let Some(next) = place.checked_add(1) else {
-        return Err(OutOfMemory);
-    };
     let _left = search.path.pop();
     search.path.push(Frame {
         opener: frame.opener,
-        next,
+        next: place + 1,
     })?;
     Ok(Turn::Goes)
 }
@@ -106,7 +97,7 @@ fn enter(
     requires top { (rest : List Frame) × (search.old.path ≡ frame ∷ rest) }
     requires next { IsNext model.now search.old.heights.items (Enters model.now frame.opener) frame.next (Some place) }
     requires unseen { slice_get search.old.marks.items place ≡ Some Mark.Unseen }
-    ensures { IfOk result (IsTurn model.now search.new) }
+    ensures { IfOk result (IsTurn model.now search.old search.new) }
 {
     search.path.push(Frame {
         opener: Some(place),
@@ -117,28 +108,24 @@ fn enter(
 }
 
 // The mark of the place.
-fn mark_at(marks: &[Mark], place: usize) -> Option<Mark>
-    ensures { result ≡ slice_get marks.now place }
+fn mark_at(marks: &[Mark], place: usize) -> Mark
+    requires { place < length marks.now }
+    ensures { slice_get marks.now place ≡ Some result }
 {
-    marks.get(place).copied()
+    marks[place]
 }
 
 // Leaves the newest frame, all of whose opened call edges are done.
-fn go_back(
-    search: &mut Search,
-    model: &Model,
-    entries: &[Entry],
-    frame: Frame,
-) -> Result<Turn, OutOfMemory>
+fn go_back(search: &mut Search, model: &Model, entries: &[Entry], frame: Frame) -> Turn
     requires entries { AreEntries model.now entries.now }
     requires search { IsSearching model.now search.old }
     requires top { (rest : List Frame) × (search.old.path ≡ frame ∷ rest) }
     requires over { IsNext model.now search.old.heights.items (Enters model.now frame.opener) frame.next None }
-    ensures { IfOk result (IsTurn model.now search.new) }
+    ensures { IsTurn model.now search.old search.new result }
 {
     match frame.opener {
         Some(place) => leave(search, model, entries, frame, place),
-        None => end(search, model, entries),
+        None => end(search, model, entries, frame),
     }
 }
 
@@ -152,12 +139,9 @@ fn look_at(
     requires search { IsSearching model.now search.old }
     requires top { (rest : List Frame) × (search.old.path ≡ frame ∷ rest) }
     requires next { IsNext model.now search.old.heights.items (Enters model.now frame.opener) frame.next (Some place) }
-    ensures { IfOk result (IsTurn model.now search.new) }
+    ensures { IfOk result (IsTurn model.now search.old search.new) }
 {
-    let Some(mark) = mark_at(&search.marks, place) else {
-        return Err(OutOfMemory);
-    };
-    match mark {
+    match mark_at(&search.marks, place) {
         Mark::Unseen => enter(search, model, frame, place),
         Mark::Open => Ok(Turn::Returns(place)),
         Mark::Done => pass(search, model, frame, place),
@@ -168,13 +152,13 @@ fn look_at(
 pub fn turn(search: &mut Search, model: &Model, entries: &[Entry]) -> Result<Turn, OutOfMemory>
     requires entries { AreEntries model.now entries.now }
     requires search { IsSearching model.now search.old }
-    ensures { IfOk result (IsTurn model.now search.new) }
+    ensures { IfOk result (IsTurn model.now search.old search.new) }
 {
     let Some(frame) = search.path.top() else {
-        return Err(OutOfMemory);
+        unreachable!()
     };
     match next_opened(model, entries, &search.heights, frame.opener, frame.next) {
         Some(place) => look_at(search, model, frame, place),
-        None => go_back(search, model, entries, frame),
+        None => Ok(go_back(search, model, entries, frame)),
     }
 }

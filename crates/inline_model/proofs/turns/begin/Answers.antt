@@ -11,7 +11,7 @@ returns c =
     let marks = c.in_ok-marks.ensures in
     let heights = c.in_ok-heights.ensures in
     subst (AreSearching c.args.model.now c.in_ok-marks.marks.items c.in_ok-heights.heights.items) (sym c.in_ok-path.ensures)
-    (begun c.args.model.now c.in_ok-marks.marks.items c.in_ok-heights.heights.items
+    (begun c.args.model.now c.nodes-nodes.ensures.valid c.in_ok-marks.marks.items c.in_ok-heights.heights.items
     (ap length marks ∙ length-replicate _ _ ∙ ap length c.calls.ensures)
     (ap length heights ∙ length-replicate _ _ ∙ ap length c.functions.ensures)
     (λ p m at. slice_get-replicate _ p Unseen m (ap (λ xs. slice_get xs p) (sym marks) ∙ at))
