@@ -52,14 +52,12 @@ fn note_next(
 fn note_all(noted: &mut IndexSet<usize>, states: &Slab<State>) -> Result<(), OutOfMemory>
     ensures { OnOk result ((k : ℕ) → Contains noted.new.keys k ↔ IsLedTo (get states.now) noted.old.keys k) }
 {
-    for i in 0..usize::MAX {
-        let Some(&key) = noted.get_index(i) else {
-            return Ok(());
-        };
+    let mut i = 0;
+    while let Some(&key) = noted.as_slice().get(i) {
         note_next(noted, states, key)?;
+        i += 1;
     }
-    // So many keys find no memory.
-    Err(OutOfMemory)
+    Ok(())
 }
 
 // Notes the key, and all keys to which edges lead from it.

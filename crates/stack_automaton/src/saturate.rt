@@ -33,12 +33,10 @@ pub fn saturate(
     let mut ended = IndexSet::new(alloc);
     // It tells that the model is valid.
     let _nodes = model.nodes();
-    for i in 0..usize::MAX {
-        let Some(&fact) = facts.get_index(i) else {
-            return Ok(Closure { facts, links });
-        };
+    let mut i = 0;
+    while let Some(&fact) = facts.as_slice().get(i) {
         follow_fact(&mut facts, &mut links, &mut ended, model, states, fact)?;
+        i += 1;
     }
-    // So many facts find no memory.
-    Err(OutOfMemory)
+    Ok(Closure { facts, links })
 }
