@@ -4,6 +4,7 @@ pub mod FactLemmas
 pub mod FollowingLemmas
 pub mod GrowingLemmas
 pub mod LinksLemmas
+pub mod MarksLemmas
 pub mod MemoLemmas
 pub mod MonitorLemmas
 pub mod NotingLemmas

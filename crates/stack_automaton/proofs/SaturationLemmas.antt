@@ -227,10 +227,3 @@ module _ (g : Graph) (valid : IsValid g) (s : States) (begin all : List Fact) (l
 
   pub followed_links : AreLinks g all links
   followed_links = subst (λ front. AreLinks g front links) (take_all n all over) to.calls
-
--- past the end of a list
-pub none_there : {X : Type 0} (xs : List X) (i : ℕ) → slice_get xs i ≡ None → length xs ≤ i
-none_there xs i none = elim (slice_get_cases xs i).1 as (λ _. length xs ≤ i) [
-  | inl some ↦ let (x, lt, found, at) = some in let both : Some x ≡ None = sym found ∙ none in absurd cc
-  | inr past ↦ past.0
-]

@@ -1,11 +1,12 @@
 -- Read in this order: Held (what the states of a pool hold: stacks), Seen (what contracts see of a pool and of a
 -- monitor), Standing (what these stand for).
--- For private contracts and proofs alone: Adding, Links, Event, Noting, Following, Storing, Moving, Resolving.
+-- For private contracts and proofs alone: Adding, Links, Marks, Event, Noting, Following, Storing, Moving, Resolving.
 pub mod Adding
 pub mod Event
 pub mod Following
 pub mod Held
 pub mod Links
+pub mod Marks
 pub mod Moving
 pub mod Noting
 pub mod Resolving

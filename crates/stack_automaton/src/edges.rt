@@ -56,7 +56,7 @@ pub fn link_edges(
 ) -> Result<Vec<Edge>, OutOfMemory>
     ensures { IfOk result (λ edges. (e : Edge') → Contains edges.items e ↔ Has (λ l. IsLinkEdge (functions_of links.now) keys.now l e) list.now) }
 {
-    let mut edges = Vec::new(alloc);
+    let mut edges = Vec::with_capacity(alloc, list.len())?;
     for link in list {
         push_link(&mut edges, links, keys, *link)?;
     }
@@ -89,7 +89,7 @@ pub fn tops(
 ) -> Result<Vec<Edge>, OutOfMemory>
     ensures { IfOk result (λ edges. AreTops (functions_of links.now) keys.now facts.now edges.items) }
 {
-    let mut edges = Vec::new(alloc);
+    let mut edges = Vec::with_capacity(alloc, facts.len())?;
     for fact in facts {
         push_top(&mut edges, links, keys, *fact)?;
     }

@@ -5,6 +5,7 @@
 mod edges;
 mod event;
 mod follow;
+mod key_set;
 mod links;
 mod memo;
 mod monitor;

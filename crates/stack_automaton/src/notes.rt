@@ -5,27 +5,27 @@ ghost use Rattle.stack_automaton.specs.Adding.{Has, Adds};
 ghost use Rattle.stack_automaton.specs.Held.{HasEdge, Leads};
 ghost use Rattle.stack_automaton.specs.Noting.{IsNextTo, IsLedTo};
 
+use crate::key_set::KeySet;
 use crate::place::{Edge, State};
 use dm_base::OutOfMemory;
-use indexmap::IndexSet;
 use slab::Slab;
 
 // Whether the key is noted.
-fn is_noted(noted: &IndexSet<usize>, key: usize) -> bool
+fn is_noted(noted: &KeySet, key: usize) -> bool
     ensures { IsTrue result ↔ Contains noted.now.keys key }
 {
-    noted.contains(&key)
+    noted.contains(key)
 }
 
 // Notes the key where it isn't noted.
-fn note(noted: &mut IndexSet<usize>, key: usize) -> Result<(), OutOfMemory>
+fn note(noted: &mut KeySet, key: usize) -> Result<(), OutOfMemory>
     ensures { OnOk result (Adds noted.old.keys noted.new.keys (λ k. k ≡ key)) }
 {
     noted.insert(key)?;
     Ok(())
 }
 
-fn note_edges(noted: &mut IndexSet<usize>, edges: &[Edge]) -> Result<(), OutOfMemory>
+fn note_edges(noted: &mut KeySet, edges: &[Edge]) -> Result<(), OutOfMemory>
     ensures { OnOk result (Adds noted.old.keys noted.new.keys (λ k. Has (λ e. k ≡ e.to) edges.now)) }
 {
     for edge in edges {
@@ -36,7 +36,7 @@ fn note_edges(noted: &mut IndexSet<usize>, edges: &[Edge]) -> Result<(), OutOfMe
 
 // Notes the keys to which the edges of a state lead.
 fn note_next(
-    noted: &mut IndexSet<usize>,
+    noted: &mut KeySet,
     states: &Slab<State>,
     key: usize,
 ) -> Result<(), OutOfMemory>
@@ -49,7 +49,7 @@ fn note_next(
 }
 
 // Notes all keys to which edges lead from the noted keys.
-fn note_all(noted: &mut IndexSet<usize>, states: &Slab<State>) -> Result<(), OutOfMemory>
+fn note_all(noted: &mut KeySet, states: &Slab<State>) -> Result<(), OutOfMemory>
     ensures { OnOk result ((k : ℕ) → Contains noted.new.keys k ↔ IsLedTo (get states.now) noted.old.keys k) }
 {
     let mut i = 0;
@@ -62,7 +62,7 @@ fn note_all(noted: &mut IndexSet<usize>, states: &Slab<State>) -> Result<(), Out
 
 // Notes the key, and all keys to which edges lead from it.
 pub fn note_from(
-    noted: &mut IndexSet<usize>,
+    noted: &mut KeySet,
     states: &Slab<State>,
     key: usize,
 ) -> Result<(), OutOfMemory>
@@ -74,7 +74,7 @@ pub fn note_from(
 }
 
 // Frees the state at the key, unless it is noted or the last.
-fn sweep_one(states: &mut Slab<State>, noted: &IndexSet<usize>, last: usize, key: usize)
+fn sweep_one(states: &mut Slab<State>, noted: &KeySet, last: usize, key: usize)
     ensures kept { (k : ℕ) → Contains noted.now.keys k ⊎ (k ≡ last) → get states.new k ≡ get states.old k }
     ensures others { (k : ℕ) → k ≢ key → get states.new k ≡ get states.old k }
     ensures gone { (Contains noted.now.keys key → ⊥) → key ≢ last → get states.new key ≡ None }
@@ -86,7 +86,7 @@ fn sweep_one(states: &mut Slab<State>, noted: &IndexSet<usize>, last: usize, key
 }
 
 // Frees the states that aren't noted, but for the last.
-pub fn sweep_states(states: &mut Slab<State>, noted: &IndexSet<usize>, last: usize)
+pub fn sweep_states(states: &mut Slab<State>, noted: &KeySet, last: usize)
     ensures kept { (k : ℕ) → Contains noted.now.keys k ⊎ (k ≡ last) → get states.new k ≡ get states.old k }
     ensures gone { (k : ℕ) → (Contains noted.now.keys k → ⊥) → k ≢ last → get states.new k ≡ None }
     ensures fewer { (k : ℕ) (edges : List Edge') → get states.new k ≡ Some edges → get states.old k ≡ Some edges }

@@ -10,6 +10,7 @@ ghost use Rattle.stack_automaton.specs.Standing.{IsPool, IsPoolOf, IsKeyOf, IsLi
 ghost use Rattle.stack_automaton.specs.Storing.{Grows, IsStored};
 
 use crate::event::{begin_at, settle};
+use crate::key_set::KeySet;
 use crate::memo::{Memo, copied};
 use crate::notes::{note_from, sweep_states};
 use crate::place::{Edge, Fact, State};
@@ -19,6 +20,9 @@ use flow_model::Model;
 use indexmap::IndexSet;
 use slab::Slab;
 use std::alloc::Global;
+
+// So many events one after another that make new states are many.
+const LONG: u32 = 8;
 
 /// The states of all monitors of a model. Seen as a finite map from keys to lists of edges, with the
 /// final key, at which every stack ends, the keys that are noted for a sweep, and the events whose keys
@@ -30,8 +34,10 @@ pub struct Pool {
     states: Slab<State>,
     shared: Shared,
     last: usize,
-    notes: IndexSet<usize>,
+    notes: KeySet,
     memo: Memo,
+    // How many of the events that were stored last made new states, one after another.
+    growths: u32,
 }
 
 impl std::marker::Model for Pool {
@@ -57,7 +63,7 @@ impl Pool {
     {
         let mut states = Slab::new(alloc);
         let last = states.insert(State::empty(alloc))?;
-        let notes = IndexSet::new(alloc);
+        let notes = KeySet::new(alloc);
         let memo = Memo::new(alloc);
         Ok(Pool {
             alloc,
@@ -66,6 +72,7 @@ impl Pool {
             last,
             notes,
             memo,
+            growths: 0,
         })
     }
 
@@ -115,7 +122,13 @@ impl Pool {
         ensures stored { IfOk result (λ key. IsStored model.now (edges_at self.old) (edges_at self.new) begin.keys key) }
         ensures there { IfOk result (λ key. IsThere (edges_at self.new) key) }
     {
+        let before = self.states.len();
         let key = settle(self.alloc, &mut self.states, &mut self.shared, model, begin)?;
+        self.growths = if self.states.len() > before {
+            self.growths.saturating_add(1)
+        } else {
+            0
+        };
         Ok(key)
     }
 
@@ -151,9 +164,24 @@ impl Pool {
         self.memo.note(begin, key);
     }
 
+    // The key of the event that begins with these facts, by the states that are stored of it.
+    fn arrive_anew(&mut self, model: &Model, begin: IndexSet<Fact>) -> Result<usize, OutOfMemory>
+        requires pool { IsPoolOf self.old model.now }
+        requires held { AreHeld begin.keys }
+        requires live { (b q : ℕ) → IsFirst begin.keys b q → LiveAt (edges_at self.old) self.old.final q }
+        ensures grows { Grows (edges_at self.old) (edges_at self.new) }
+        ensures last { self.new.final ≡ self.old.final }
+        ensures notes { self.new.noted ≡ self.old.noted }
+        ensures pool { IsPoolOf self.new model.now }
+        ensures key { IfOk result (λ key. IsKeyOf model.now (edges_at self.new) self.old.final begin.keys key) }
+    {
+        let key = self.settle(model, begin)?;
+        Ok(key)
+    }
+
     // The key of the event that begins with these facts: the one that is remembered, or else that of the
     // states that are stored of it.
-    fn arrive(&mut self, model: &Model, begin: IndexSet<Fact>) -> Result<usize, OutOfMemory>
+    fn arrive_again(&mut self, model: &Model, begin: IndexSet<Fact>) -> Result<usize, OutOfMemory>
         requires pool { IsPoolOf self.old model.now }
         requires held { AreHeld begin.keys }
         requires live { (b q : ℕ) → IsFirst begin.keys b q → LiveAt (edges_at self.old) self.old.final q }
@@ -170,6 +198,24 @@ impl Pool {
         let key = self.settle(model, begin)?;
         self.remember(facts, key);
         Ok(key)
+    }
+
+    // The key of the event that begins with these facts. Where one event after another makes new states,
+    // as in a recursion that goes deeper, none of them is met again, and so none is looked up.
+    fn arrive(&mut self, model: &Model, begin: IndexSet<Fact>) -> Result<usize, OutOfMemory>
+        requires pool { IsPoolOf self.old model.now }
+        requires held { AreHeld begin.keys }
+        requires live { (b q : ℕ) → IsFirst begin.keys b q → LiveAt (edges_at self.old) self.old.final q }
+        ensures grows { Grows (edges_at self.old) (edges_at self.new) }
+        ensures last { self.new.final ≡ self.old.final }
+        ensures notes { self.new.noted ≡ self.old.noted }
+        ensures pool { IsPoolOf self.new model.now }
+        ensures key { IfOk result (λ key. IsKeyOf model.now (edges_at self.new) self.old.final begin.keys key) }
+    {
+        if self.growths >= LONG {
+            return self.arrive_anew(model, begin);
+        }
+        self.arrive_again(model, begin)
     }
 
     // The key after the event, or None where it leads nowhere.

@@ -9,12 +9,12 @@ ghost use Rattle.stack_automaton.specs.Resolving.{IsKnown, AreResolved};
 ghost use Rattle.stack_automaton.specs.Storing.{Grows};
 
 use crate::edges::link_edges;
+use crate::key_set::KeySet;
 use crate::links::Links;
 use crate::order::order;
 use crate::place::{Link, Place, State};
 use crate::shared::{Shared, share};
 use dm_base::OutOfMemory;
-use indexmap::IndexSet;
 use slab::Slab;
 use std::alloc::Global;
 
@@ -23,18 +23,18 @@ use std::alloc::Global;
 #[derive(Drop)]
 pub struct Resolved {
     pub keys: Vec<usize>,
-    pub known: IndexSet<usize>,
+    pub known: KeySet,
 }
 
 // Whether the key at the place is known.
-pub fn is_among(known: &IndexSet<usize>, place: usize) -> bool
+pub fn is_among(known: &KeySet, place: usize) -> bool
     ensures { IsTrue result ↔ Contains known.now.keys place }
 {
-    known.contains(&place)
+    known.contains(place)
 }
 
 // Whether the key of what stands below is known.
-fn is_known(links: &Links, known: &IndexSet<usize>, place: Place) -> bool
+fn is_known(links: &Links, known: &KeySet, place: Place) -> bool
     ensures { IsTrue result → IsKnown (functions_of links.now) known.now.keys place }
 {
     match place {
@@ -44,7 +44,7 @@ fn is_known(links: &Links, known: &IndexSet<usize>, place: Place) -> bool
 }
 
 // Whether all keys to which these calls lead are known.
-fn are_known(links: &Links, known: &IndexSet<usize>, list: &[Link]) -> bool
+fn are_known(links: &Links, known: &KeySet, list: &[Link]) -> bool
     ensures { IsTrue result → (l : Linked) → Contains list.now l → IsKnown (functions_of links.now) known.now.keys l.place }
 {
     for link in list {
@@ -58,7 +58,7 @@ fn are_known(links: &Links, known: &IndexSet<usize>, list: &[Link]) -> bool
 // Notes the key at the place.
 fn note_key(
     keys: &mut Vec<usize>,
-    known: &mut IndexSet<usize>,
+    known: &mut KeySet,
     place: usize,
     key: usize,
 ) -> Result<(), OutOfMemory>
@@ -79,7 +79,7 @@ fn resolve_one(
     states: &mut Slab<State>,
     shared: &mut Shared,
     keys: &mut Vec<usize>,
-    known: &mut IndexSet<usize>,
+    known: &mut KeySet,
     links: &Links,
     place: usize,
 ) -> Result<(), OutOfMemory>
@@ -103,6 +103,48 @@ fn resolve_one(
     Ok(())
 }
 
+// Stores the states of the functions in the order in which they were found. A function is mostly found
+// after those that call it, and so most states are stored here.
+fn resolve_as_found(
+    alloc: Global,
+    states: &mut Slab<State>,
+    shared: &mut Shared,
+    keys: &mut Vec<usize>,
+    known: &mut KeySet,
+    links: &Links,
+) -> Result<(), OutOfMemory>
+    requires resolved { AreResolved (get states.old) keys.old.items known.old.keys links.now }
+    requires held { (f q : ℕ) (l : Linked) → HasLink links.now f l → l.place ≡ Held q → IsThere (get states.old) q }
+    ensures grows { Grows (get states.old) (get states.new) }
+    ensures resolved { OnOk result (AreResolved (get states.new) keys.new.items known.new.keys links.now) }
+{
+    for place in 0..links.len() {
+        resolve_one(alloc, states, shared, keys, known, links, place)?;
+    }
+    Ok(())
+}
+
+// Stores the states of the functions in this order.
+fn resolve_in_order(
+    alloc: Global,
+    states: &mut Slab<State>,
+    shared: &mut Shared,
+    keys: &mut Vec<usize>,
+    known: &mut KeySet,
+    links: &Links,
+    order: &[usize],
+) -> Result<(), OutOfMemory>
+    requires resolved { AreResolved (get states.old) keys.old.items known.old.keys links.now }
+    requires held { (f q : ℕ) (l : Linked) → HasLink links.now f l → l.place ≡ Held q → IsThere (get states.old) q }
+    ensures grows { Grows (get states.old) (get states.new) }
+    ensures resolved { OnOk result (AreResolved (get states.new) keys.new.items known.new.keys links.now) }
+{
+    for place in order {
+        resolve_one(alloc, states, shared, keys, known, links, *place)?;
+    }
+    Ok(())
+}
+
 // Stores the states of the functions that are entered, bottom up, but for those from which a cycle of
 // calls is reached.
 pub fn resolve(
@@ -116,10 +158,12 @@ pub fn resolve(
     ensures resolved { IfOk result (λ r. AreResolved (get states.new) r.keys.items r.known.keys links.now) }
 {
     let mut keys = vec![in alloc; 0; links.len()]?;
-    let mut known = IndexSet::new(alloc);
-    let order = order(alloc, links)?;
-    for place in &order {
-        resolve_one(alloc, states, shared, &mut keys, &mut known, links, *place)?;
+    let mut known = KeySet::new(alloc);
+    resolve_as_found(alloc, states, shared, &mut keys, &mut known, links)?;
+    if known.len() == links.len() {
+        return Ok(Resolved { keys, known });
     }
+    let order = order(alloc, links)?;
+    resolve_in_order(alloc, states, shared, &mut keys, &mut known, links, &order)?;
     Ok(Resolved { keys, known })
 }

@@ -8,6 +8,7 @@ ghost use Rattle.stack_automaton.specs.Resolving.{AreResolved, IsChosen};
 ghost use Rattle.stack_automaton.specs.Storing.{IsClosed, Grows, IsPut, key_at, Planned, IsFilled, Rewrites, Filled, IsEvent, AreStored, IsStored};
 
 use crate::edges::{link_edges, tops};
+use crate::key_set::KeySet;
 use crate::links::Links;
 use crate::place::State;
 use crate::resolve::{is_among, resolve};
@@ -15,7 +16,6 @@ use crate::saturate::Closure;
 use crate::shared::{Shared, insert, share};
 use dm_base::OutOfMemory;
 use flow_model::Model;
-use indexmap::IndexSet;
 use slab::Slab;
 use std::alloc::Global;
 
@@ -34,7 +34,7 @@ fn plan_one(
     alloc: Global,
     states: &mut Slab<State>,
     found: &[usize],
-    known: &IndexSet<usize>,
+    known: &KeySet,
     place: usize,
 ) -> Result<usize, OutOfMemory>
     requires within { place < length found.now }
@@ -55,7 +55,7 @@ fn plan(
     alloc: Global,
     states: &mut Slab<State>,
     found: &[usize],
-    known: &IndexSet<usize>,
+    known: &KeySet,
 ) -> Result<Vec<usize>, OutOfMemory>
     requires there { (i : ℕ) → Contains known.now.keys i → IsThere (get states.old) (slice_index_or found.now i 0) }
     ensures grows { Grows (get states.old) (get states.new) }
@@ -74,7 +74,7 @@ fn fill_one(
     alloc: Global,
     states: &mut Slab<State>,
     keys: &[usize],
-    known: &IndexSet<usize>,
+    known: &KeySet,
     links: &Links,
     place: usize,
 ) -> Result<(), OutOfMemory>
@@ -102,7 +102,7 @@ fn fill(
     alloc: Global,
     states: &mut Slab<State>,
     keys: &[usize],
-    known: &IndexSet<usize>,
+    known: &KeySet,
     links: &Links,
 ) -> Result<(), OutOfMemory>
     requires own { (i : ℕ) → i < length keys.now → IsThere (get states.old) (slice_index_or keys.now i 0) }
@@ -125,7 +125,7 @@ fn store_others(
     model: &Model,
     done: &Closure,
     found: &[usize],
-    known: &IndexSet<usize>,
+    known: &KeySet,
 ) -> Result<Vec<usize>, OutOfMemory>
     requires event { (begin : List Fact') × (s : States) × IsEvent model.now s begin done.now × IsClosed s × Grows s (get states.old) }
     requires resolved { AreResolved (get states.old) found.now known.now.keys done.now.links }

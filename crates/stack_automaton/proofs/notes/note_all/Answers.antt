@@ -10,7 +10,7 @@ pub loop-key-preserved : goal.loop-key-preserved
 loop-key-preserved c =
     let at = c.in-Some.ensures.lookup in
     noted_more (get c.args.states.now) c.args.noted.now.keys c.loop-key.noted.keys c.note_next.new.noted.keys c.loop-key.i c.in-Some.field-0.now
-    (subst (λ ks. c.loop-key.i < length ks) c.as_slice.ensures.keys at.3.0) (subst (λ ks. c.in-Some.field-0.now ≡ get_or ks c.loop-key.i c.in-Some.field-0.now) c.as_slice.ensures.keys at.1) c.loop-key.invariant c.in_ok-note_next.ensures
+    (subst (λ ks. c.loop-key.i < length ks) c.as_slice.ensures at.3.0) (subst (λ ks. c.in-Some.field-0.now ≡ get_or ks c.loop-key.i c.in-Some.field-0.now) c.as_slice.ensures at.1) c.loop-key.invariant c.in_ok-note_next.ensures
 
 pub returns : goal.returns
-returns c = noted_all (get c.args.states.now) c.args.noted.now.keys c.loop-key.noted.keys c.loop-key.i (subst (λ ks. length ks ≤ c.loop-key.i) c.as_slice.ensures.keys c.in_default.ensures.lookup.3) c.loop-key.invariant
+returns c = noted_all (get c.args.states.now) c.args.noted.now.keys c.loop-key.noted.keys c.loop-key.i (subst (λ ks. length ks ≤ c.loop-key.i) c.as_slice.ensures c.in_default.ensures.lookup.3) c.loop-key.invariant

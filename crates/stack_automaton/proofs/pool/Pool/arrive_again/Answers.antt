@@ -2,7 +2,7 @@ use Rattle.std.proofs.Common.{◌≡◌, ◌⊎◌, Contains, ◌∙◌, subst}
 use Rattle.stack_automaton.specs.Seen.{edges_at}
 use Rattle.stack_automaton.specs.Standing.{IsKeyOf}
 use Rattle.stack_automaton.proofs.MonitorLemmas.{pool_of_grown, arrived_key, arrived_pool}
-use Rattle.stack_automaton.proofs.pool.Pool.arrive.Goals as goal
+use Rattle.stack_automaton.proofs.pool.Pool.arrive_again.Goals as goal
 
 pub returns-in-Some-clause-key : goal.returns-in-Some-clause-key
 returns-in-Some-clause-key c =

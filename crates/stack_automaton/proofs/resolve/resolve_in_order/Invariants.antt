@@ -1,7 +1,7 @@
 use Rattle.slab.specs.Slab.{get}
 use Rattle.stack_automaton.specs.Resolving.{AreResolved}
 use Rattle.stack_automaton.specs.Storing.{Grows}
-use Rattle.stack_automaton.proofs.resolve.resolve.Given as goal
+use Rattle.stack_automaton.proofs.resolve.resolve_in_order.Given as goal
 
 abbrev pub invariant-loop-place : goal.invariant-loop-place
 invariant-loop-place l = record {

@@ -1,0 +1,46 @@
+-- Keys and their marks.
+use Rattle.std.proofs.Common.{◌≡◌, ◌≢◌, ◌⊎◌, ℕ, nat_eq, ◌<◌, Bool, true, false, List, [], ◌∷◌, ◌++◌, length, get_or, Contains, refl, sym, ◌∙◌, subst, inl, inr}
+use Rattle.std.proofs.lemmas.Bool.{eq-eqb, eqb-true, false≢true}
+use Rattle.std.proofs.lemmas.List.{get_or-set_same, get_or-set_other}
+use Rattle.std.proofs.lemmas.List.Elements.{Contains-append_left, Contains-push, Contains-push_cases}
+use Rattle.std.proofs.Math.ListN.{set}
+use Rattle.stack_automaton.specs.Adding.{Adds}
+use Rattle.stack_automaton.specs.Marks.{AreMarked}
+
+-- the marks stay
+pub marked_same : (keys : List ℕ) (old new : List Bool) → ((k : ℕ) → get_or new k false ≡ get_or old k false) → AreMarked keys old → AreMarked keys new
+marked_same keys old new same before k = (λ has. same k ∙ (before k).0 has, λ is. (before k).1 (sym (same k) ∙ is))
+
+same_or_not : (b : Bool) (k key : ℕ) → nat_eq k key ≡ b → (k ≡ key) ⊎ (k ≢ key)
+same_or_not true k key is = inl (eqb-true k key is)
+same_or_not false k key is = inr (λ e. absurd (false≢true (sym is ∙ eq-eqb k key e)))
+
+-- a mark that is on stays on
+still_on : (marks : List Bool) (key k : ℕ) → key < length marks → get_or marks k false ≡ true → get_or (set marks key true) k false ≡ true
+still_on marks key k lt is =
+    elim (same_or_not (nat_eq k key) k key refl) as (λ _. get_or (set marks key true) k false ≡ true) [
+      | inl e ↦ subst (λ j. get_or (set marks key true) j false ≡ true) (sym e) (get_or-set_same marks key true false lt)
+      | inr ne ↦ get_or-set_other marks key k true false ne ∙ is
+    ]
+
+-- one key more
+pub marked_more : (keys : List ℕ) (marks : List Bool) (key : ℕ) → key < length marks → AreMarked keys marks → AreMarked (keys ++ key ∷ []) (set marks key true)
+marked_more keys marks key lt before k = (
+  λ has. elim (Contains-push_cases keys key k has) as (λ _. get_or (set marks key true) k false ≡ true) [
+    | inl was ↦ still_on marks key k lt ((before k).0 was)
+    | inr e ↦ subst (λ j. get_or (set marks key true) j false ≡ true) e (get_or-set_same marks key true false lt)
+  ],
+  λ is. elim (same_or_not (nat_eq k key) k key refl) as (λ _. Contains (keys ++ key ∷ []) k) [
+    | inl e ↦ subst (Contains (keys ++ key ∷ [])) (sym e) (Contains-push keys key)
+    | inr ne ↦ Contains-append_left keys (key ∷ []) k ((before k).1 (sym (get_or-set_other marks key k true false ne) ∙ is))
+  ],
+)
+
+pub added_one : (keys : List ℕ) (key : ℕ) → Adds keys (keys ++ key ∷ []) (λ k. k ≡ key)
+added_one keys key = record {
+  grows = (key ∷ [], refl);
+  is = λ k. (
+    λ has. elim (Contains-push_cases keys key k has) as (λ _. Contains keys k ⊎ (k ≡ key)) [ inl was ↦ inl was | inr e ↦ inr (sym e) ],
+    λ s. elim s as (λ _. Contains (keys ++ key ∷ []) k) [ inl was ↦ Contains-append_left keys (key ∷ []) k was | inr e ↦ subst (Contains (keys ++ key ∷ [])) (sym e) (Contains-push keys key) ],
+  );
+}
