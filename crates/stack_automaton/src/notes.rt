@@ -35,11 +35,7 @@ fn note_edges(noted: &mut KeySet, edges: &[Edge]) -> Result<(), OutOfMemory>
 }
 
 // Notes the keys to which the edges of a state lead.
-fn note_next(
-    noted: &mut KeySet,
-    states: &Slab<State>,
-    key: usize,
-) -> Result<(), OutOfMemory>
+fn note_next(noted: &mut KeySet, states: &Slab<State>, key: usize) -> Result<(), OutOfMemory>
     ensures { OnOk result (Adds noted.old.keys noted.new.keys (IsNextTo (get states.now) key)) }
 {
     if let Some(state) = states.get(key) {
@@ -61,11 +57,7 @@ fn note_all(noted: &mut KeySet, states: &Slab<State>) -> Result<(), OutOfMemory>
 }
 
 // Notes the key, and all keys to which edges lead from it.
-pub fn note_from(
-    noted: &mut KeySet,
-    states: &Slab<State>,
-    key: usize,
-) -> Result<(), OutOfMemory>
+pub fn note_from(noted: &mut KeySet, states: &Slab<State>, key: usize) -> Result<(), OutOfMemory>
     ensures { OnOk result ((k : ℕ) → Contains noted.new.keys k ↔ ((j : ℕ) × (Contains noted.old.keys j ⊎ (j ≡ key)) × Leads (HasEdge (get states.now)) j k)) }
 {
     note(noted, key)?;
