@@ -1,5 +1,5 @@
 -- The callers of nodes, one after another.
-use Rattle.std.proofs.Common.{◌≡◌, ◌⊎◌, ◌↔◌, ℕ, zero, suc, ◌+◌, ◌<◌, ◌≤◌, List, [], ◌∷◌, ◌++◌, length, map, take, get_or, Contains, None, Some, Vec, Global, refl, sym, ◌∙◌, ap, subst, inl, inr, arith}
+use Rattle.std.proofs.Common.{◌≡◌, ◌⊎◌, ◌↔◌, ℕ, zero, suc, ◌+◌, ◌<◌, ◌≤◌, ◌^◌, List, [], ◌∷◌, ◌++◌, length, map, take, get_or, Contains, None, Some, Vec, Global, refl, sym, ◌∙◌, ap, subst, inl, inr, arith}
 use Rattle.std.specs.Prelude.{slice_get}
 use Rattle.std.proofs.Math.ListN.{set}
 use Rattle.std.proofs.lemmas.Bool.{cases_eq}
@@ -209,12 +209,6 @@ no_callers_of callers node none k (w, found, has) = absurd (none_some (sym none 
     none_some : {x : Vec ℕ Global} → None ≡ Some x → ⊥
     none_some e = cc
 
--- where there is no i-th node
-pub past_end : (xs : List ℕ) (i : ℕ) → slice_get xs i ≡ None → length xs ≤ i
-past_end [] i is = omega arith
-past_end (x ∷ xs) zero is = absurd cc
-past_end (x ∷ xs) (suc i) is = let k = past_end xs i is in omega (arith, k)
-
 -- from the system calls
 pub from_calls : (callers : List (Vec ℕ Global)) (first : ℕ) (begin : List ℕ) → ((k : ℕ) → Contains begin k ↔ ((first ≤ k) × (k < first + 24))) → (k : ℕ) → IsLedTo callers begin k ↔ IsReaching callers first k
 from_calls callers first begin are k = (
@@ -273,7 +267,7 @@ lists_long [] = refl
 lists_long (v ∷ vs) = ap suc (lists_long vs)
 
 pub callers_made : (p : Program) (types : List CType) (lists : List (List ℕ)) (none mid all : List (Vec ℕ Global)) (count long : ℕ)
-    → length types ≡ long → long < 4294967296 → count ≡ defined p + 24 → length none ≡ count + long → length mid ≡ length none → length all ≡ length mid → ((e : Link) → HasCaller none e → ⊥)
+    → length types ≡ long → long < 2 ^ 63 → count ≡ defined p + 24 → length none ≡ count + long → length mid ≡ length none → length all ≡ length mid → ((e : Link) → HasCaller none e → ⊥)
     → Gains (HasCaller none) (HasCaller mid) (IsCallBelow (length none) types (defined p + 24) p (defined p)) → Gains (HasCaller mid) (HasCaller all) (IsCandidateBelow (length mid) count lists (length lists)) → AreCallers p types lists all
 callers_made p types lists none mid all count long typed few counted many_none many_mid many_all empty bodies candidates =
     let size = defined p + 24 + length types in

@@ -68,6 +68,6 @@ IsReaching callers first k = (j : ℕ) × (first ≤ j) × (j < first + 24) × L
 
 -- each node has its callers: the functions whose bodies call it, and the pointers that may call it
 pub record AreCallers (p : Program) (types : List CType) (lists : List (List ℕ)) (callers : List (Vec ℕ Global)) : Type 0 where
-  pub few : length types < 2 ^ 32
+  pub few : length types < 2 ^ 63
   pub many : length callers ≡ defined p + 24 + length types
   pub are : (e : Link) → HasCaller callers e ↔ (IsCallBelow (defined p + 24 + length types) types (defined p + 24) p (defined p) e ⊎ IsCandidateBelow (defined p + 24 + length types) (defined p + 24) lists (length lists) e)

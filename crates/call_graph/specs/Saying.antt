@@ -1,4 +1,4 @@
--- For private contracts and proofs alone: what the code's mentions stand for.
+-- What the code's mentions stand for.
 use Rattle.std.specs.Prelude.{List, map}
 use Rattle.c_tree.specs.View.{ctype_of}
 use Rattle.c_shapes.specs.Mentions as term

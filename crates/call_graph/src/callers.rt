@@ -16,8 +16,7 @@ use std::alloc::Global;
 // The node that is called: a function by its number, or after the `count` functions the place of the type of
 // the pointer. Null calls have no node.
 fn node_of(types: &[&CType], count: usize, m: &Mention) -> Option<usize>
-    requires count { count < 2 ^ 32 }
-    requires few { length types.now < 2 ^ 32 }
+    requires { count < 2 ^ 32 }
     ensures { result ≡ node_called (types_at types.now) count (mention_of m.now) }
 {
     match m {
@@ -66,8 +65,7 @@ fn add_call(
     by: usize,
     m: &Mention,
 ) -> Result<(), OutOfMemory>
-    requires count { count < 2 ^ 32 }
-    requires few { length types.now < 2 ^ 32 }
+    requires { count < 2 ^ 32 }
     ensures length { OnOk result (length callers.new.items ≡ length callers.old.items) }
     ensures added { OnOk result (Gains (HasCaller callers.old.items) (HasCaller callers.new.items) (IsCall (length callers.old.items) (types_at types.now) count by (mention_of m.now))) }
 {
@@ -86,8 +84,7 @@ fn add_calls(
     by: usize,
     ms: &[Mention],
 ) -> Result<(), OutOfMemory>
-    requires count { count < 2 ^ 32 }
-    requires few { length types.now < 2 ^ 32 }
+    requires { count < 2 ^ 32 }
     ensures length { OnOk result (length callers.new.items ≡ length callers.old.items) }
     ensures added { OnOk result (Gains (HasCaller callers.old.items) (HasCaller callers.new.items) (λ e. Has (λ m. IsCall (length callers.old.items) (types_at types.now) count by (mention_of m) e) ms.now)) }
 {
@@ -104,7 +101,6 @@ fn add_bodies(
     types: &[&CType],
     program: &Program,
 ) -> Result<(), OutOfMemory>
-    requires { length types.now < 2 ^ 32 }
     ensures length { OnOk result (length callers.new.items ≡ length callers.old.items) }
     ensures added { OnOk result (Gains (HasCaller callers.old.items) (HasCaller callers.new.items) (IsCallBelow (length callers.old.items) (types_at types.now) (defined (program_of program.now) + 24) (program_of program.now) (defined (program_of program.now)))) }
 {
@@ -157,10 +153,6 @@ pub fn callers_of(
 ) -> Result<Vec<Vec<usize>>, OutOfMemory>
     ensures { IfOk result (λ v. AreCallers (program_of program.now) (types_at types.now) (items_of lists.now) v.items) }
 {
-    if types.len() > u32::MAX as usize {
-        // So many types find no memory.
-        return Err(OutOfMemory);
-    }
     let _sites = program.sites();
     let count = program.defined() as usize + 24;
     let mut callers = no_callers(alloc, count + types.len())?;

@@ -1,5 +1,5 @@
 //! The call graph of a program: which functions may be called at each site, and which may come to a system
-//! call.
+//! call. What the program says of functions, from which it is made, is here for other crates too.
 #![tactic(auto)]
 
 mod callers;
@@ -13,3 +13,5 @@ mod sys_types;
 mod types;
 
 pub use calls::Calls;
+pub use mention::Mention;
+pub use saying::said_in;

@@ -42,14 +42,12 @@ fn note_callers(
 fn note_all(found: &mut IndexSet<usize>, callers: &[Vec<usize>]) -> Result<(), OutOfMemory>
     ensures { OnOk result ((k : ℕ) → Contains found.new.keys k ↔ IsLedTo callers.now found.old.keys k) }
 {
-    for i in 0..usize::MAX {
-        let Some(&node) = found.get_index(i) else {
-            return Ok(());
-        };
+    let mut i = 0;
+    while let Some(&node) = found.as_slice().get(i) {
         note_callers(found, callers, node)?;
+        i += 1;
     }
-    // So many nodes find no memory.
-    Err(OutOfMemory)
+    Ok(())
 }
 
 // The 24 nodes from `first` on.

@@ -226,7 +226,9 @@ pub fn said_by<'p>(alloc: Global, f: &'p Function) -> Result<Vec<Mention<'p>>, O
     Ok(all)
 }
 
-// What all functions and static objects of the program say.
+/// What all functions and static objects of the program say of functions: the bodies in the order of the
+/// definitions, each from its start to its end, and then the cells of the static objects in order. The only error is
+/// that memory was refused.
 pub fn said_in<'p>(alloc: Global, program: &'p Program) -> Result<Vec<Mention<'p>>, OutOfMemory>
     ensures { IfOk result (λ v. said v.items ≡ mentions_of_program (program_of program.now)) }
 {

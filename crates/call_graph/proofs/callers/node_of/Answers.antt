@@ -5,4 +5,4 @@ use Rattle.call_graph.proofs.TypesLemmas.{place_most, types_many}
 use Rattle.call_graph.proofs.callers.node_of.Goals as goal
 
 pub overflow_add-result : goal.overflow_add-result
-overflow_add-result c = let k = place_most (ctype_of c.in-Through.ctype.now) (types_at c.args.types.now) in let l = types_many c.args.types.now in omega (arith, k, l, c.requires.few, c.requires.count, c.place_of.ensures)
+overflow_add-result c = let k = place_most (ctype_of c.in-Through.ctype.now) (types_at c.args.types.now) in let l = types_many c.args.types.now in omega (arith, k, l, c.requires, c.place_of.ensures)
