@@ -12,6 +12,9 @@ use Rattle.alarm_laws.specs.MarkedRuns.{null_calls_of, marked_run}
 use Rattle.alarm_laws.specs.Monitors.{IsAcceptedByAll}
 use Rattle.alarm_laws.proofs.TypedRuns.{null_calls_recorded}
 use Rattle.null_calls_units_laws.specs.Units.{InstrumentedTextsRunMarked}
+use Rattle.c_check.specs.Refused.{IsRefused}
+use Rattle.c_check_values.specs.declared.error.CheckError.{CheckError}
+use Rattle.c_check_values.specs.declared.error.CheckError.TheVariants.{At}
 use Rattle.c_meaning.specs.Runs.{Run, run}
 use Rattle.c_meaning_laws.specs.Laws.{IsTypedRun, RunsAreTyped}
 use Rattle.c_meaning_laws.specs.TypedResults.{IsEnding}
@@ -56,6 +59,15 @@ runs_marked law text source u q is same typed records turns =
     let found = law text is.tokens plain p is.lexed is.spelled is.typed in
     let one : found.0 ≡ q = one_typing (instrumented_unit p plain) Instrumented found.0 q found.1 (subst (λ (w : Items). IsTyped w Instrumented q) same typed) in
     subst (λ (w : Program). run w records turns ≡ marked_run p records turns) one (found.3 records turns)
+
+-- the instrumented unit is typed, so no demand on it fails
+pub never_refused : InstrumentedTextsRunMarked → (text : List ℕ) (source : Source) (u : Items) → IsSourceOf text Plain source → u ≡ instrumented_unit (program_of source.program) (items_of source.unit.items.items) → (error : CheckError) (code place : ℕ) → error ≡ At code place → IsRefused u Instrumented error → ⊥
+never_refused law text source u is same error code place e h =
+    let p = program_of source.program in
+    let plain = items_of source.unit.items.items in
+    let found = law text is.tokens plain p is.lexed is.spelled is.typed in
+    let refused : IsRefused u Instrumented (At code place) = subst (λ (x : CheckError). IsRefused u Instrumented x) e h in
+    refused.1 found.0 (subst (λ (w : Items). IsTyped w Instrumented found.0) (sym same) found.1)
 
 -- what is reported of the run that the machine found, where its events were passed on
 pub reported_found : TextsRaiseNoAlarm → (from : List ℕ) (source : Source) (q : Program) (records : List SysResult) (turns bound : ℕ) (found : Found) (g : Graph) (status : Status) (heard : List ℕ)

@@ -1,5 +1,6 @@
 ghost use Rattle.std.specs.Prelude.{◌≡◌, ℕ, List, IfOk};
 ghost use Rattle.alarm_laws.specs.MarkedRuns.{marked_run};
+ghost use Rattle.c_check_values.specs.declared.error.CheckError.TheVariants.{At};
 ghost use Rattle.c_meaning.specs.Runs.{run};
 ghost use Rattle.c_tree.specs.View.{program_of};
 ghost use Rattle.dm_base.specs.declared.mode.Mode.TheVariants.{Plain};
@@ -7,6 +8,7 @@ ghost use Rattle.tool_sources.specs.Sources.{IsSourceOf};
 ghost use Rattle.sys_table.specs.declared.sys_result.SysResult.{SysResult};
 
 use c_check::check;
+use c_check_values::CheckError;
 use c_rules_laws::a_spelled_unit_is_lexical;
 use c_syntax::Unit;
 use c_tree::Program;
@@ -17,7 +19,17 @@ use std::alloc::Global;
 use tool_sources::Source;
 use tool_steps::instrumented_items;
 
-/// The program of a source's instrumented unit. The unit is always typed, so that the checker refuses it says that memory was refused.
+// The want of memory, where no demand fails.
+fn memory_of(error: CheckError) -> OutOfMemory
+    requires { (code place : ℕ) → error ≡ At code place → ⊥ }
+{
+    match error {
+        CheckError::OutOfMemory => OutOfMemory,
+        CheckError::At(_, _) => unreachable!(),
+    }
+}
+
+/// The program of a source's instrumented unit, which is always typed.
 pub fn instrumented_program(alloc: Global, source: &Source) -> Result<Program, OutOfMemory>
     requires { (text : List ℕ) × IsSourceOf text Plain source.now }
     ensures { IfOk result (λ q. (records : List SysResult) (turns : ℕ) → run (program_of q) records turns ≡ marked_run (program_of source.now.program) records turns) }
@@ -30,6 +42,6 @@ pub fn instrumented_program(alloc: Global, source: &Source) -> Result<Program, O
     let unit = Unit { items };
     match check(alloc, &unit, Mode::Instrumented) {
         Ok(program) => Ok(program),
-        Err(_) => Err(OutOfMemory),
+        Err(error) => Err(memory_of(error)),
     }
 }

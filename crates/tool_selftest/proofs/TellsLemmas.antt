@@ -1,5 +1,5 @@
 -- What is told of the audit of the generated program.
-use Rattle.std.proofs.Common.{◌≡◌, ℕ, ◌-◌, ◌<◌, ◌≤◌, List, ◌++◌, length, ◌∙◌, ap, ap₂, subst, arith}
+use Rattle.std.proofs.Common.{◌≡◌, ◌≢◌, ℕ, ◌-◌, ◌<◌, ◌≤◌, List, ◌++◌, length, ◌∙◌, refl, sym, ap, ap₂, subst, arith}
 use Rattle.dm_base.specs.declared.event.Event.{Event}
 use Rattle.dm_base.specs.declared.mode.Mode.TheVariants.{Plain}
 use Rattle.dm_base.specs.declared.verdict.Status.{Status}
@@ -9,11 +9,12 @@ use Rattle.dm_base.specs.declared.verdict.Verdict.TheVariants.{Accepted, Rejecte
 use Rattle.dm_base.specs.Trace.{depth}
 use Rattle.alarm_laws.specs.MarkedRuns.{marked_run}
 use Rattle.c_meaning.specs.Runs.{Run}
+use Rattle.c_rules.specs.Accepted.{IsAcceptedAs}
 use Rattle.c_tree.specs.Tree.{Program}
 use Rattle.flow_graph_laws.specs.GraphOfProgram.{graph_of_program}
 use Rattle.generated_program.specs.Generator.{generated_source, generated_results}
 use Rattle.generated_program.specs.Typed.{generated_program}
-use Rattle.generated_program_bounds_laws.specs.Bounds.{GeneratedCallsAreFew}
+use Rattle.generated_program_bounds_laws.specs.Bounds.{GeneratedCallsAreFew, GeneratedProgramsAreSmall}
 use Rattle.generated_program_laws.specs.Accepted.{GeneratedTextsAreAccepted}
 use Rattle.headline.specs.AcceptedRuns.{TextsRaiseNoAlarm}
 use Rattle.report.specs.Precision.{next_text}
@@ -23,11 +24,37 @@ use Rattle.tool_monitors.specs.Judged.{status_of}
 use Rattle.tool_selftest.specs.Selftest.{TellsSelftest, generated_run, summary_text}
 use Rattle.tool_selftest.specs.Summary.{counts_text}
 use Rattle.tool_sources.specs.declared.source.Source.{Source}
-use Rattle.tool_sources.specs.Sources.{IsSourceOf}
+use Rattle.tool_audit.specs.Stopping.{StopsAuditing}
+use Rattle.tool_frame.specs.declared.stop.Stop.{Stop}
+use Rattle.tool_frame.specs.declared.stop.Stop.TheVariants as stops
+use Rattle.tool_sources.specs.declared.error.SourceError.{SourceError}
+use Rattle.tool_sources.specs.declared.error.SourceError.TheVariants as errors
+use Rattle.tool_sources.specs.Sources.{IsSourceOf, HasNoProgram}
 
 -- a text that was passed on and read
 pub read_so : (text seen again : List ℕ) (source : Source) → seen ≡ text → again ≡ seen → IsSourceOf again Plain source → IsSourceOf text Plain source
 read_so text seen again source made passed is = subst (λ (w : List ℕ). IsSourceOf w Plain source) (passed ∙ made) is
+
+-- the generated text is accepted, so nothing but want of memory refuses it
+pub never_refused : GeneratedTextsAreAccepted → (number last : ℕ) → last < 500 → (seen again : List ℕ) (error : SourceError) → seen ≡ generated_source number last → again ≡ seen → HasNoProgram error again Plain → error ≢ errors.OutOfMemory → ⊥
+never_refused accepted number last small seen again error made passed none other =
+    none other (generated_program number last) (subst (λ (w : List ℕ). IsAcceptedAs w Plain (generated_program number last)) (sym (passed ∙ made)) (accepted number last small))
+
+-- its graph is within the limit, so nothing but want of memory stops the audit
+never_large : (number last : ℕ) (p : Program) → GeneratedProgramsAreSmall → last < 500 → p ≡ generated_program number last → 200000 < (graph_of_program p).nodes → ⊥
+never_large number last p small few same many =
+    let is = (small number last).nodes_are in
+    let large : 200000 < (graph_of_program (generated_program number last)).nodes = subst (λ (q : Program). 200000 < (graph_of_program q).nodes) same many in
+    omega (arith, is, large, few)
+
+pub never_stopped : GeneratedProgramsAreSmall → (number last : ℕ) (p : Program) (stop : Stop) → last < 500 → p ≡ generated_program number last → StopsAuditing stop p → stop ≢ stops.OutOfMemory → ⊥
+never_stopped small number last p stops.Usage few same h other = absurd h
+never_stopped small number last p (stops.Source line) few same h other = never_large number last p small few same h.1
+never_stopped small number last p (stops.Model line) few same h other = absurd h
+never_stopped small number last p (stops.Record line) few same h other = absurd h
+never_stopped small number last p stops.Read few same h other = absurd h
+never_stopped small number last p stops.Write few same h other = absurd h
+never_stopped small number last p stops.OutOfMemory few same h other = other refl
 
 -- results that were passed on
 pub ran_with : (p : Program) (records seen : List SysResult) (turns : ℕ) (r : Run) → seen ≡ records → r ≡ marked_run p seen turns → r ≡ marked_run p records turns

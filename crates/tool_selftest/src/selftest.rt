@@ -1,4 +1,4 @@
-ghost use Rattle.std.specs.Prelude.{◌≡◌, ◌≤◌, ◌<◌, ℕ, List, IfOk};
+ghost use Rattle.std.specs.Prelude.{◌≡◌, ◌≢◌, ◌≤◌, ◌<◌, ℕ, List, IfOk};
 ghost use Rattle.alarm_laws.specs.MarkedRuns.{marked_run};
 ghost use Rattle.c_tree.specs.View.{program_of};
 ghost use Rattle.dm_base.specs.declared.mode.Mode.TheVariants.{Plain};
@@ -7,23 +7,45 @@ ghost use Rattle.generated_program.specs.Generator.{generated_source, generated_
 ghost use Rattle.generated_program.specs.Typed.{generated_program};
 ghost use Rattle.ref_machine.specs.WholeRuns.{run_of};
 ghost use Rattle.tool_audit.specs.Audit.{AreReported};
+ghost use Rattle.tool_frame.specs.declared.stop.Stop.TheVariants as stops;
 ghost use Rattle.tool_selftest.specs.Selftest.{TellsSelftest};
 ghost use Rattle.tool_sources.specs.Sources.{IsSourceOf};
+ghost use Rattle.tool_sources.specs.declared.error.SourceError.TheVariants as errors;
 
 use crate::summary::summary_line;
 use c_rules_laws::a_text_is_accepted_as_one_program;
 use dm_base::{Mode, OutOfMemory, Status};
 use generated_program::{generated_results, generated_text};
-use generated_program_bounds_laws::generated_calls_descend;
+use generated_program_bounds_laws::{generated_calls_descend, generated_programs_are_small};
 use generated_program_laws::generated_texts_are_accepted;
 use headline::texts_raise_no_alarm;
 use line_text::push_bytes;
 use std::alloc::Global;
 use tool_audit::{Audited, audit_program};
-use tool_frame::Finished;
-use tool_sources::{Source, read_source};
+use tool_frame::{Finished, Stop};
+use tool_sources::{Source, SourceError, read_source};
 
-// What the generated text is read as. The text is accepted, so that it is refused says that memory was refused.
+// The want of memory, where a text is refused for nothing else.
+fn refused_memory(error: SourceError) -> OutOfMemory
+    requires { (error ≢ errors.OutOfMemory) → ⊥ }
+{
+    match error {
+        SourceError::OutOfMemory => OutOfMemory,
+        _ => unreachable!(),
+    }
+}
+
+// The want of memory, where an audit stops for nothing else.
+fn stopped_memory(stop: Stop) -> OutOfMemory
+    requires { (stop ≢ stops.OutOfMemory) → ⊥ }
+{
+    match stop {
+        Stop::OutOfMemory => OutOfMemory,
+        _ => unreachable!(),
+    }
+}
+
+// What the generated text is read as.
 fn source_of(alloc: Global, number: u32, last: u32) -> Result<Source, OutOfMemory>
     requires { last < 500 }
     ensures read { IfOk result (λ source. IsSourceOf (generated_source number last) Plain source) }
@@ -34,23 +56,25 @@ fn source_of(alloc: Global, number: u32, last: u32) -> Result<Source, OutOfMemor
     let text = generated_text(alloc, number, last)?;
     match read_source(alloc, &text, Mode::Plain) {
         Ok(source) => Ok(source),
-        Err(_) => Err(OutOfMemory),
+        Err(error) => Err(refused_memory(error)),
     }
 }
 
 // The audit of the generated program with its recorded results, 1,000,000 turns and at most 1,000 open calls. The program's model is within
-// the limits, so that it is refused says that memory was refused.
+// the limits.
 fn audit_of(alloc: Global, source: &Source, last: u32) -> Result<Audited, OutOfMemory>
     requires source { (text : List ℕ) × IsSourceOf text Plain source.now }
+    requires program { (number : ℕ) × (program_of source.now.program ≡ generated_program number last) }
     requires last { last < 500 }
     ensures run { IfOk result (λ audited. run_of audited.run ≡ marked_run (program_of source.now.program) (results last) 1000000) }
     ensures nodes { IfOk result (λ audited. audited.nodes ≡ (graph_of_program (program_of source.now.program)).nodes) }
     ensures verdicts { IfOk result (λ audited. AreReported (graph_of_program (program_of source.now.program)) 1000 (marked_run (program_of source.now.program) (results last) 1000000).trace audited.verdicts.status audited.verdicts.text.items) }
 {
+    generated_programs_are_small();
     let records = generated_results(alloc, last)?;
     match audit_program(alloc, source, &records, 1_000_000, 1_000) {
         Ok(audited) => Ok(audited),
-        Err(_) => Err(OutOfMemory),
+        Err(stop) => Err(stopped_memory(stop)),
     }
 }
 

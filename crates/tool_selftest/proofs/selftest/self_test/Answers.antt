@@ -11,6 +11,9 @@ source_of-requires c = omega (arith, c.requires.0, c.requires.1)
 pub audit_of-requires-clause-source : goal.audit_of-requires-clause-source
 audit_of-requires-clause-source c = (generated_source c.args.number (c.args.size - 1), c.in_ok-source.ensures.read)
 
+pub audit_of-requires-clause-program : goal.audit_of-requires-clause-program
+audit_of-requires-clause-program c = (c.args.number, c.in_ok-source.ensures.program)
+
 pub audit_of-requires-clause-last : goal.audit_of-requires-clause-last
 audit_of-requires-clause-last c = omega (arith, c.requires.0, c.requires.1)
 

@@ -3,7 +3,7 @@ use Rattle.dm_base.specs.declared.mode.Mode.TheVariants.{Plain}
 use Rattle.generated_program.specs.Generator.{generated_source}
 use Rattle.generated_program.specs.Typed.{generated_program}
 use Rattle.tool_sources.proofs.SourceLemmas.{source_accepted}
-use Rattle.tool_selftest.proofs.TellsLemmas.{read_so}
+use Rattle.tool_selftest.proofs.TellsLemmas.{read_so, never_refused}
 use Rattle.tool_selftest.proofs.selftest.source_of.Goals as goal
 
 pub returns-in-Ok-clause-read : goal.returns-in-Ok-clause-read
@@ -16,3 +16,7 @@ returns-in-Ok-clause-program c =
     let is = read_so text c.in_ok-text.text.items c.deref.result.now c.in-Ok.source c.in_ok-text.ensures c.deref.ensures.value c.in-Ok.ensures.read in
     c.a_text_is_accepted_as_one_program.ensures text Plain (program_of c.in-Ok.source.program) (generated_program c.args.number c.args.last)
     (source_accepted text Plain c.in-Ok.source is) (c.generated_texts_are_accepted.ensures c.args.number c.args.last c.requires)
+
+pub refused_memory-requires : goal.refused_memory-requires
+refused_memory-requires c = λ other.
+    never_refused c.generated_texts_are_accepted.ensures c.args.number c.args.last c.requires c.in_ok-text.text.items c.deref.result.now c.in-Err.error c.in_ok-text.ensures c.deref.ensures.value c.in-Err.ensures.none other
