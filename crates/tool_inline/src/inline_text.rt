@@ -7,6 +7,7 @@ ghost use Rattle.inline_model.specs.Cause.{HasCause};
 ghost use Rattle.tool_inline.specs.Inline.{HasInlined, IsInlinedText};
 ghost use Rattle.tool_inline.specs.InlineStops.{IsStopWith, StopsInlining};
 
+use dm_base::OutOfMemory;
 use flow_model::Model;
 use inline_model::{InlineError, inline};
 use model_file::{WriteModelError, write_model};
@@ -19,7 +20,7 @@ fn stop_with(alloc: Global, text: &[u8]) -> Stop
 {
     match fixed_line(alloc, text) {
         Ok(line) => Stop::Model(line),
-        Err(_) => Stop::OutOfMemory,
+        Err(OutOfMemory) => Stop::OutOfMemory,
     }
 }
 
