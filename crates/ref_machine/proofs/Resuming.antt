@@ -1,25 +1,33 @@
 -- A machine that was waiting goes on.
-use Rattle.std.proofs.Common.{◌≡◌, ℕ, List, [], ◌∷◌, Bool, true, false, Option, Some, None, sym, ap, ◌∙◌, refl, subst}
+use Rattle.std.proofs.Common.{◌≡◌, ℕ, List, [], ◌∷◌, Bool, true, false, Option, Some, None, sym, ap, ◌∙◌, refl, subst, arith}
+use Rattle.dm_base.specs.declared.event.Event.{Event}
 use Rattle.dm_base.specs.declared.outcome.Outcome.{Outcome}
-use Rattle.dm_base.specs.declared.outcome.Outcome.TheVariants.{Results}
+use Rattle.dm_base.specs.declared.outcome.Outcome.TheVariants.{Results, Turns, Undefined}
 use Rattle.std.specs.Prelude.{IsSome}
 use Rattle.std.specs.Borrow.{Bor}
 use Rattle.std.specs.Option.{option_copied}
 use Rattle.sys_table.specs.declared.sys_result.SysResult.{SysResult}
 use Rattle.ref_machine_steps.specs.declared.requests.Request.{Request}
 use Rattle.c_tree.specs.View.{program_of}
+use Rattle.c_values.specs.Memory.{Objects}
 use Rattle.c_values.specs.Seen.{seen}
-use Rattle.c_meaning.specs.Runs.{no_marks, world}
+use Rattle.c_meaning.specs.Runs.{Run, ending, no_marks, world}
+use Rattle.c_meaning_laws.specs.TypedResults.{IsEnding}
 use Rattle.ref_machine_steps.specs.Requests.{asked_by}
 use Rattle.ref_machine_frames.specs.Frames.{place_of, stack, after_value}
+use Rattle.ref_machine_frames.specs.declared.frames.Here.{Here}
+use Rattle.ref_machine_frames.specs.declared.frames.Frame.{Frame}
 use Rattle.ref_machine_frames.specs.declared.frames.Now.{Now}
-use Rattle.ref_machine_frames.specs.declared.frames.Now.TheVariants.{Ask}
+use Rattle.ref_machine_frames.specs.declared.frames.Now.TheVariants.{Eval, Have, Exec, Left, Enter, Test, Ask, Told, Stopped, Mistyped}
 use Rattle.ref_machine.specs.declared.machine.Machine.{Machine}
 use Rattle.ref_machine.specs.declared.pause.Pause.{Pause}
 use Rattle.ref_machine.specs.declared.pause.Pause.TheVariants.{NeedResult, Did, Ended}
-use Rattle.ref_machine.specs.Standing.{state}
+use Rattle.ref_machine.specs.declared.machine.Stage.{Stage}
+use Rattle.ref_machine.specs.declared.machine.Stage.TheVariants.{Going, Waiting, Failed}
+use Rattle.ref_machine.specs.Stages.{HasCall, waits}
+use Rattle.ref_machine.specs.Standing.{GoesRight, IsAsk, left_of, state}
 use Rattle.ref_machine.proofs.Recording.{none_wanted}
-use Rattle.ref_machine.specs.Futures.{Future, future, future_at, only_end, with_given, taken_with, Advances, GoesOn, HasResumed, Resumes}
+use Rattle.ref_machine.specs.Futures.{EndsRight, Future, event_first, future, future_at, only_end, with_given, taken_with, Advances, GoesOn, HasResumed, Resumes}
 
 -- no record is left
 pub resumed_without : (m : Machine) (name : _) (request : Request) (given : Option SysResult) → m.next ≡ Ask name request → given ≡ None → (records : List SysResult) → future m (with_given given records) ≡ only_end Results
@@ -69,3 +77,40 @@ resumes_when false old new given pause waiting is h = cc
 pub none_taken : (given : Option (Bor SysResult)) (waited : Bool) (old new : ℕ) → waited ≡ false → (IsSome given → waited ≡ true) → new ≡ old → new ≡ taken_with (option_copied given) old
 none_taken None waited old new is need same = same
 none_taken (Some g) waited old new is need same = let gave : waited ≡ true = need refl in cc
+
+-- what is left after an event ends as the whole does
+pub right_after : (e : Event) (old new : Future) → ((records : List SysResult) → old records ≡ event_first e (new records)) → EndsRight old → EndsRight new
+right_after e old new same right records = subst (λ (r : Run). IsEnding r.outcome) (same records) (right records)
+
+-- the same future ends alike
+pub right_alike : (old new : Future) → ((records : List SysResult) → old records ≡ new records) → EndsRight old → EndsRight new
+right_alike old new same right records = subst (λ (r : Run). IsEnding r.outcome) (same records) (right records)
+
+-- a run of a well-typed program meets no value of another kind than its place
+pub never_mistyped : (m : Machine) (now : Now) → now ≡ Mistyped → EndsRight (future_at m now) → ⊥
+never_mistyped m now is right =
+    let end : IsEnding (Undefined 13) = subst (λ now. IsEnding (future_at m now []).outcome) is (right []) in
+    omega (arith, end.1)
+
+not_ask : (next now : Now) → IsAsk next → now ≡ next → ((name : ℕ) (request : Request) → now ≡ Ask name request → ⊥) → ⊥
+not_ask (Ask name request) now h is never = never name request is
+not_ask (Eval wanted e) now h is never = h
+not_ask (Have v) now h is never = h
+not_ask (Exec s) now h is never = h
+not_ask (Left x) now h is never = h
+not_ask (Enter wanted f vs) now h is never = h
+not_ask (Test s) now h is never = h
+not_ask (Told e next) now h is never = h
+not_ask (Stopped o) now h is never = h
+not_ask Mistyped now h is never = h
+
+-- a machine that waits has a system call before it
+pub call_waits : (stage : Stage) (next now : Now) → waits stage ≡ true → HasCall stage next → now ≡ next → ((name : ℕ) (request : Request) → now ≡ Ask name request → ⊥) → ⊥
+call_waits Going next now w h is never = cc
+call_waits Waiting next now w h is never = not_ask next now h is never
+call_waits (Failed error) next now w h is never = cc
+
+-- a run that has ended ends rightly
+pub ended_right : (m : Machine) (here : Here) (memory : Objects) (entries turns : ℕ) (now : Now) (todo : List Frame) → now ≡ Stopped Turns → GoesRight (program_of m.program.now) m.allowed (record { here = here; memory = memory; entries = entries; turns = turns; now = now; todo = todo }) m.taken
+ended_right m here memory entries turns now todo is records =
+    subst (λ (now : Now). IsEnding (ending (left_of (program_of m.program.now) m.allowed (record { here = here; memory = memory; entries = entries; turns = turns; now = now; todo = todo }) records m.taken)).outcome) (sym is) tt

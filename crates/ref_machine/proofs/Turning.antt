@@ -1,8 +1,8 @@
 -- Turns that are spent, functions that are entered, and ends.
-use Rattle.std.proofs.Common.{◌≡◌, ℕ, zero, suc, ◌+◌, ◌-◌, ◌<◌, ◌≤◌, Bool, true, List, [], ◌∷◌, ◌++◌, length, Option, Some, sym, ap, ◌∙◌, refl, append-nil, arith}
+use Rattle.std.proofs.Common.{◌≡◌, ℕ, zero, suc, ◌+◌, ◌-◌, ◌<◌, ◌≤◌, Bool, true, List, [], ◌∷◌, ◌++◌, length, Option, Some, None, sym, ap, ◌∙◌, refl, append-nil, arith}
 use Rattle.std.specs.Prelude.{nat_eq, slice_get, map}
 use Rattle.dm_base.specs.declared.event.Event.{Event}
-use Rattle.dm_base.specs.declared.outcome.Outcome.TheVariants.{Turns}
+use Rattle.dm_base.specs.declared.outcome.Outcome.TheVariants.{Turns, Undefined}
 use Rattle.sys_table.specs.declared.sys_result.SysResult.{SysResult}
 use Rattle.c_tree.specs.declared.value.Value.{Value}
 use Rattle.c_tree.specs.declared.tree.Function.{Function as FunctionTree}
@@ -13,12 +13,15 @@ use Rattle.c_meaning.specs.Meaning.{Frame as Place, Loop as Rounds, World, condi
 use Rattle.c_meaning.specs.Results.{State, with_memory, Result, Go, Stop, after, then_do, Exit}
 use Rattle.c_meaning.specs.Runs.{no_marks, world, run_body, result_of, parameters, entered, with_parameters, ending, exit_of, enter}
 use Rattle.c_meaning_laws.proofs.EnoughTurns.{turns_are_enough}
+use Rattle.c_meaning_laws.specs.TypedResults.{IsEnding}
+use Rattle.ref_machine_frames.specs.declared.frames.After.{After}
+use Rattle.ref_machine_frames.specs.declared.frames.After.TheVariants as afters
 use Rattle.ref_machine_frames.specs.declared.frames.Call.{Call}
 use Rattle.ref_machine_frames.specs.declared.frames.Frame.{Frame}
 use Rattle.ref_machine_frames.specs.declared.frames.Frame.TheVariants as frames
-use Rattle.ref_machine_frames.specs.Frames.{place_of, stack, numbers, going_round, after_value, after_exit}
+use Rattle.ref_machine_frames.specs.Frames.{place_of, stack, numbers, going_round, after_value, after_exit, then_comes}
 use Rattle.ref_machine_frames.proofs.Joining.{then_assoc, pushed}
-use Rattle.ref_machine.specs.Standing.{state}
+use Rattle.ref_machine.specs.Standing.{EndsRightly, state}
 use Rattle.ref_machine.specs.Futures.{event_first}
 
 pub parameters_are : (x : ℕ) (vs : List Value) → parameters x vs ≡ numbers x (length vs)
@@ -123,3 +126,23 @@ started p n f fr vs todo st is none nothing le =
 pub ended_after : (e : Event) (r : Result Value) → ending (after (e ∷ []) r) ≡ event_first e (ending r)
 ended_after e (Go v st u) = refl
 ended_after e (Stop o u) = refl
+
+none_there : {A : Type 0} (xs : List A) (i : ℕ) → length xs ≤ i → slice_get xs i ≡ None
+none_there [] i le = refl
+none_there (x ∷ xs) zero le = absurd (omega (arith, le))
+none_there (x ∷ xs) (suc i) le = none_there xs i (omega (arith, le))
+
+-- nothing is left to do
+pub nothing_to_do : (todo : List Frame) (n : ℕ) → n ≡ 0 → n ≡ length todo → [] ≡ todo
+nothing_to_do [] n none is = refl
+nothing_to_do (f ∷ todo) n none is = absurd (omega (arith, none, is))
+
+-- a function by a number that none has
+pub no_function : (p : Program) (w : World) (is_main wanted : Bool) (f : ℕ) (vs : List Value) (st : State) (k : Value → State → Result Value) → length p.functions ≤ f → Stop (Undefined 13) [] ≡ then_do (run_body p w no_marks is_main wanted (slice_get p.functions f) vs st) k
+no_function p w is_main wanted f vs st k le =
+    ap (λ o. then_do (run_body p w no_marks is_main wanted o vs st) k) (sym (none_there p.functions f le))
+
+-- the status with which a run ends is an int
+pub exits_fit : (p : Program) (w : World) (fr : Place) (e : Event) (next : After) (k : List Frame) (st : State) → IsEnding (ending (after (e ∷ []) (then_comes p w fr next k st))).outcome → EndsRightly next
+exits_fit p w fr e (afters.Have v) k st h = tt
+exits_fit p w fr e (afters.Exited status) k st h = h

@@ -7,12 +7,12 @@ use Rattle.sys_table.specs.declared.sys_result.SysResult.{SysResult}
 use Rattle.c_tree.specs.View.{program_of}
 use Rattle.c_values.specs.Seen.{seen}
 use Rattle.c_meaning.specs.Runs.{Run, ending}
+use Rattle.c_meaning_laws.specs.TypedResults.{IsEnding}
 use Rattle.ref_machine_frames.specs.declared.frames.Now.{Now}
 use Rattle.ref_machine.specs.declared.machine.Machine.{Machine}
-use Rattle.ref_machine.specs.declared.machine.Stage.{Stage}
-use Rattle.ref_machine.specs.declared.machine.Stage.TheVariants.{Going, Waiting, Failed}
 use Rattle.ref_machine.specs.declared.pause.Pause.{Pause}
 use Rattle.ref_machine.specs.declared.pause.Pause.TheVariants.{NeedResult, Did, Ended}
+use Rattle.ref_machine.specs.Stages.{waits, has_failed_at}
 use Rattle.ref_machine.specs.Standing.{Standing, left_of}
 
 abbrev pub Future : Type 0
@@ -31,6 +31,10 @@ abbrev pub future_at : Machine → Now → Future
 future_at m now records =
     ending (left_of (program_of m.program.now) m.allowed (record { here = m.here; memory = seen m.memory; entries = m.entries; turns = m.turns; now = now; todo = m.todo.items }) records m.taken)
 
+-- with any records to come it ends by an outcome that a run of a well-typed program may have
+abbrev pub EndsRight : Future → Type 0
+EndsRight future = (records : List SysResult) → IsEnding (future records).outcome
+
 -- how many recorded results were taken
 abbrev pub records_taken : Machine → ℕ
 records_taken m = m.taken
@@ -40,21 +44,11 @@ abbrev pub taken_with : Option SysResult → ℕ → ℕ
 taken_with None n = n
 taken_with (Some given) n = n + 1
 
-abbrev pub waits : Stage → Bool
-waits Going = false
-waits Waiting = true
-waits Failed = false
-
 -- the machine has said that it needs a recorded result, and was not given one since
 abbrev pub is_waiting : Machine → Bool
 is_waiting m = waits m.stage
 
-abbrev pub has_failed_at : Stage → Bool
-has_failed_at Going = false
-has_failed_at Waiting = false
-has_failed_at Failed = true
-
--- memory was wanted
+-- memory was refused
 abbrev pub has_failed : Machine → Bool
 has_failed m = has_failed_at m.stage
 

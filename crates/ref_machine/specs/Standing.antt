@@ -1,15 +1,19 @@
 -- For private contracts and proofs alone: where a machine stands, and what is left of its run.
-use Rattle.std.specs.Prelude.{◌≡◌, ℕ, ◌≤◌, List}
+use Rattle.std.specs.Prelude.{◌≡◌, ℕ, ◌≤◌, List, FitsSigned}
+use Rattle.std.specs.Int.{w32}
 use Rattle.sys_table.specs.declared.sys_result.SysResult.{SysResult}
 use Rattle.c_tree.specs.declared.value.Value.{Value}
 use Rattle.c_tree.specs.Tree.{Program}
 use Rattle.c_values.specs.Memory.{Objects}
 use Rattle.c_meaning.specs.Results.{State, Result}
-use Rattle.c_meaning.specs.Runs.{no_marks, world}
+use Rattle.c_meaning.specs.Runs.{ending, no_marks, world}
+use Rattle.c_meaning_laws.specs.TypedResults.{IsEnding}
+use Rattle.ref_machine_frames.specs.declared.frames.After.{After}
+use Rattle.ref_machine_frames.specs.declared.frames.After.TheVariants as afters
 use Rattle.ref_machine_frames.specs.declared.frames.Here.{Here}
 use Rattle.ref_machine_frames.specs.declared.frames.Frame.{Frame}
 use Rattle.ref_machine_frames.specs.declared.frames.Now.{Now}
-use Rattle.ref_machine_frames.specs.declared.frames.Now.TheVariants.{Eval, Have, Exec, Left, Enter, Test, Ask, Told, Stopped}
+use Rattle.ref_machine_frames.specs.declared.frames.Now.TheVariants.{Eval, Have, Exec, Left, Enter, Test, Ask, Told, Stopped, Mistyped}
 use Rattle.ref_machine_frames.specs.Frames.{place_of, stack, rest}
 
 -- the state with these parts
@@ -47,3 +51,26 @@ IsPausing (Test s) = ⊥
 IsPausing (Ask x q) = Unit {0}
 IsPausing (Told e next) = Unit {0}
 IsPausing (Stopped o) = Unit {0}
+IsPausing Mistyped = Unit {0}
+
+-- a record is needed
+abbrev pub IsAsk : Now → Type 0
+IsAsk (Eval wanted e) = ⊥
+IsAsk (Have v) = ⊥
+IsAsk (Exec s) = ⊥
+IsAsk (Left x) = ⊥
+IsAsk (Enter wanted f vs) = ⊥
+IsAsk (Test s) = ⊥
+IsAsk (Ask x q) = Unit {0}
+IsAsk (Told e next) = ⊥
+IsAsk (Stopped o) = ⊥
+IsAsk Mistyped = ⊥
+
+-- the status is an int, where the run ends with it
+abbrev pub EndsRightly : After → Type 0
+EndsRightly (afters.Have v) = Unit {0}
+EndsRightly (afters.Exited status) = FitsSigned w32 status
+
+-- with any records to come, what is left of the run ends by an outcome that a run of a well-typed program may have
+abbrev pub GoesRight : Program → ℕ → Standing → ℕ → Type 0
+GoesRight p n s taken = (records : List SysResult) → IsEnding (ending (left_of p n s records taken)).outcome

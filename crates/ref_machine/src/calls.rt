@@ -1,5 +1,6 @@
-ghost use Rattle.std.specs.Prelude.{◌≡◌, ℕ, List, nat_eq, slice_get, IfOk};
+ghost use Rattle.std.specs.Prelude.{◌≡◌, ℕ, ◌+◌, ◌-◌, ◌^◌, ◌<◌, ◌≤◌, List, nat_eq, slice_get, IfOk};
 ghost use Rattle.sys_table.specs.declared.sys_result.SysResult.{SysResult as Record};
+ghost use Rattle.c_tree.specs.Functions.{defined};
 ghost use Rattle.c_tree.specs.Tree.{Program as Term};
 ghost use Rattle.c_tree.specs.View.{program_of};
 ghost use Rattle.c_values.specs.Memory.{Objects};
@@ -18,8 +19,8 @@ use dm_base::{Kind, OutOfMemory, Outcome};
 use ref_machine_frames::{Call, Frame, Here, Left, Now};
 use ref_machine_steps::set_parameters;
 
-// Enters a function, once its turn is spent.
-pub fn enter<'p>(
+// Enters a function that is defined, once its turn is spent.
+fn enter_defined<'p>(
     program: &'p Program,
     memory: &mut Memory,
     todo: &mut Vec<Frame<'p>>,
@@ -29,17 +30,15 @@ pub fn enter<'p>(
     f: u32,
     values: &[Value],
 ) -> Result<Now<'p>, OutOfMemory>
-    ensures { IfOk result (λ now. (w : World) (rs : List Record) (taken turns : ℕ) → rest (program_of program.now) w (place_of here.new) now (stack todo.new.items) (state (seen memory.new) entries.new rs taken turns) ≡ then_do (run_body (program_of program.now) w no_marks (nat_eq f (program_of program.now).main) wanted (slice_get (program_of program.now).functions f) values.now (state (seen memory.old) entries.old rs taken turns)) (after_value (program_of program.now) w (place_of here.old) (stack todo.old.items))) }
+    requires known { f < defined (program_of program.now) }
+    requires room { entries.old < 2 ^ 64 - 1 }
+    ensures entered { IfOk result (λ now. (w : World) (rs : List Record) (taken turns : ℕ) → rest (program_of program.now) w (place_of here.new) now (stack todo.new.items) (state (seen memory.new) entries.new rs taken turns) ≡ then_do (run_body (program_of program.now) w no_marks (nat_eq f (program_of program.now).main) wanted (slice_get (program_of program.now).functions f) values.now (state (seen memory.old) entries.old rs taken turns)) (after_value (program_of program.now) w (place_of here.old) (stack todo.old.items))) }
+    ensures counted { entries.new ≤ entries.old + 1 }
 {
-    if program.defined() <= f {
-        return Err(OutOfMemory);
-    }
     let Ok(parameters) = u32::try_from(values.len()) else {
         return Err(OutOfMemory);
     };
-    let Some(activation) = entries.checked_add(1) else {
-        return Err(OutOfMemory);
-    };
+    let activation = *entries + 1;
     let function = program.function(f);
     set_parameters(memory, activation, values)?;
     let call = Call {
@@ -57,6 +56,29 @@ pub fn enter<'p>(
     Ok(Now::Exec(&function.body))
 }
 
+// Enters a function, once its turn is spent.
+pub fn enter<'p>(
+    program: &'p Program,
+    memory: &mut Memory,
+    todo: &mut Vec<Frame<'p>>,
+    here: &mut Here<'p>,
+    entries: &mut u64,
+    wanted: bool,
+    f: u32,
+    values: &[Value],
+) -> Result<Now<'p>, OutOfMemory>
+    requires { entries.old < 2 ^ 64 - 1 }
+    ensures entered { IfOk result (λ now. (w : World) (rs : List Record) (taken turns : ℕ) → rest (program_of program.now) w (place_of here.new) now (stack todo.new.items) (state (seen memory.new) entries.new rs taken turns) ≡ then_do (run_body (program_of program.now) w no_marks (nat_eq f (program_of program.now).main) wanted (slice_get (program_of program.now).functions f) values.now (state (seen memory.old) entries.old rs taken turns)) (after_value (program_of program.now) w (place_of here.old) (stack todo.old.items))) }
+    ensures counted { entries.new ≤ entries.old + 1 }
+{
+    let count = program.defined();
+    if f < count {
+        let now = enter_defined(program, memory, todo, here, entries, wanted, f, values)?;
+        return Ok(now);
+    }
+    Ok(Now::Mistyped)
+}
+
 // The parameters of an activation end.
 fn end_parameters(memory: &mut Memory, activation: u64, count: u32)
     ensures { seen memory.new ≡ without activation (numbers 0 count) (seen memory.old) }
@@ -70,39 +92,33 @@ fn end_parameters(memory: &mut Memory, activation: u64, count: u32)
 }
 
 // Undefined behaviour of a function that ends without its value (C99 6.9.1 paragraph 12).
-fn without_value<'p>(is_main: bool, wanted: bool) -> Result<Now<'p>, OutOfMemory>
-    ensures { IfOk result (λ now. (p : Term) (m : Objects) → Does p m (λ w st. without_value is_main wanted st) now) }
+fn without_value<'p>(is_main: bool, wanted: bool) -> Now<'p>
+    ensures { (p : Term) (m : Objects) → Does p m (λ w st. without_value is_main wanted st) result }
 {
     if is_main {
-        return Ok(Now::Have(Value::Int(0)));
+        return Now::Have(Value::Int(0));
     }
     if !wanted {
-        return Ok(Now::Have(Value::Indeterminate));
+        return Now::Have(Value::Indeterminate);
     }
     match Kind::from_number(11) {
-        Some(kind) => Ok(Now::Stopped(Outcome::Undefined(kind))),
-        None => Err(OutOfMemory),
+        Some(kind) => Now::Stopped(Outcome::Undefined(kind)),
+        None => unreachable!(),
     }
 }
 
 // What a call gives, by how its function is left.
-fn value_of<'p>(is_main: bool, wanted: bool, by: Left) -> Result<Now<'p>, OutOfMemory>
-    ensures { IfOk result (λ now. (p : Term) (m : Objects) → Does p m (λ w st. result_of is_main wanted (exit_in by) st) now) }
+fn value_of<'p>(is_main: bool, wanted: bool, by: Left) -> Now<'p>
+    ensures { (p : Term) (m : Objects) → Does p m (λ w st. result_of is_main wanted (exit_in by) st) result }
 {
     match by {
         Left::Returned(given) => match given {
-            Some(v) => Ok(Now::Have(v)),
-            None => {
-                let now = without_value(is_main, wanted)?;
-                Ok(now)
-            }
+            Some(v) => Now::Have(v),
+            None => without_value(is_main, wanted),
         },
-        Left::On => {
-            let now = without_value(is_main, wanted)?;
-            Ok(now)
-        }
-        Left::Broken => Err(OutOfMemory),
-        Left::Continued => Err(OutOfMemory),
+        Left::On => without_value(is_main, wanted),
+        Left::Broken => Now::Mistyped,
+        Left::Continued => Now::Mistyped,
     }
 }
 
@@ -112,11 +128,10 @@ pub fn leave_call<'p>(
     here: &mut Here<'p>,
     call: Call<'p>,
     by: Left,
-) -> Result<Now<'p>, OutOfMemory>
-    ensures { IfOk result (λ now. (p : Term) (w : World) (todo : List Todo) (st : State) → rest p w (place_of here.new) now (stack todo) (with_memory st (seen memory.new)) ≡ then_do (out_of_call (place_of here.old) call.entry (exit_in by) (with_memory st (seen memory.old))) (after_value p w (place_of call.entry.caller) (stack todo))) }
+) -> Now<'p>
+    ensures { (p : Term) (w : World) (todo : List Todo) (st : State) → rest p w (place_of here.new) result (stack todo) (with_memory st (seen memory.new)) ≡ then_do (out_of_call (place_of here.old) call.entry (exit_in by) (with_memory st (seen memory.old))) (after_value p w (place_of call.entry.caller) (stack todo)) }
 {
     end_parameters(memory, here.activation, call.parameters);
     *here = call.caller;
-    let now = value_of(call.is_main, call.wanted, by)?;
-    Ok(now)
+    value_of(call.is_main, call.wanted, by)
 }

@@ -5,6 +5,7 @@
 mod calls;
 mod laws;
 mod machine;
+mod next;
 mod pause;
 mod running;
 mod stepping;
@@ -12,6 +13,7 @@ mod whole;
 
 pub use laws::advances_are_exact;
 pub use machine::Machine;
+pub use next::Next;
 pub use pause::Pause;
-pub use running::{advance_with, run};
+pub use running::{advance_with, next_event, run};
 pub use whole::Run;

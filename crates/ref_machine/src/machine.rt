@@ -1,10 +1,16 @@
-ghost use Rattle.std.specs.Prelude.{◌≡◌, ◌≤◌};
+ghost use Rattle.std.specs.Prelude.{◌≡◌, ◌≤◌, ◌<◌, ◌+◌, ◌^◌};
 ghost use Rattle.c_tree.specs.View.{program_of};
+ghost use Rattle.c_values.specs.Seen.{seen};
 ghost use Rattle.ref_machine_frames.specs.Cells.{AreCells};
 ghost use Rattle.ref_machine.specs.declared.pause.Pause.TheVariants.{Ended};
+ghost use Rattle.std.proofs.Props.{props};
+ghost use Rattle.ref_machine.specs.Props.{IsEnding-prop, HasCall-prop};
+ghost use Rattle.ref_machine.specs.Standing.{GoesRight};
+ghost use Rattle.ref_machine.specs.Stages.{HasCall};
 
 use crate::Pause;
 use crate::stepping::{coming, go_on, settled};
+use c_meaning_laws::values_have_kinds;
 use c_tree::Program;
 use c_values::Memory;
 use dm_base::{OutOfMemory, Outcome, SysName};
@@ -21,8 +27,8 @@ pub enum Stage {
     Going,
     // It has said that it needs a record.
     Waiting,
-    // Memory was wanted.
-    Failed,
+    // Memory was refused.
+    Failed(OutOfMemory),
 }
 
 /// A run of a program that can be paused at each event and each need of a recorded result (C99 5.1.2.3). It stands for its
@@ -42,7 +48,18 @@ pub struct Machine<'p> {
     stage: Stage,
     next: Now<'p>,
     ghost counted: { AreCells (program_of program.now).structs counts.items },
-    ghost bounded: { turns ≤ allowed },
+    ghost bounded: { entries + turns ≤ allowed },
+    ghost few: { allowed < 2 ^ 32 },
+    ghost right: { GoesRight (program_of program.now) allowed (record { here = here; memory = seen memory; entries = entries; turns = turns; now = next; todo = todo.items }) taken } by { Prim.hlevel (props, IsEnding-prop) },
+    ghost called: { HasCall stage next } by { HasCall-prop stage next },
+}
+
+// Where a run stands before `main` is entered.
+fn before_main<'p>() -> Here<'p> {
+    Here {
+        activation: 0,
+        types: &[],
+    }
 }
 
 // The end by this outcome.
@@ -57,7 +74,8 @@ impl<'p> Machine<'p> {
     ghost use Rattle.std.specs.Option.{option_copied};
     ghost use Rattle.sys_table.specs.declared.sys_result.SysResult.{SysResult as Record};
     ghost use Rattle.c_meaning.specs.Runs.{run};
-    ghost use Rattle.ref_machine.specs.Futures.{future, future_at, is_waiting, has_failed, records_taken, taken_with, Advances, GoesOn, HasResumed, Resumes};
+    ghost use Rattle.ref_machine.specs.Futures.{future, future_at, is_waiting, has_failed, records_taken, taken_with, EndsRight, Advances, GoesOn, HasResumed, Resumes};
+    ghost use Rattle.ref_machine.specs.Standing.{IsPausing};
     ghost use Rattle.ref_machine_frames.specs.declared.frames.Now.TheVariants.{Ask};
 
     /// The run of the program from its start, where its static objects have their first values and `main` is entered (C99 5.1.2,
@@ -72,6 +90,7 @@ impl<'p> Machine<'p> {
         ensures waiting { IfOk result (λ machine. is_waiting machine ≡ false) }
         ensures taken { IfOk result (λ machine. records_taken machine ≡ 0) }
     {
+        values_have_kinds();
         let _sites = program.sites();
         let counts = struct_cells(alloc, program)?;
         let memory = static_objects(alloc, program.statics())?;
@@ -81,10 +100,7 @@ impl<'p> Machine<'p> {
             counts,
             memory,
             todo: Vec::new(alloc),
-            here: Here {
-                activation: 0,
-                types: &[],
-            },
+            here: before_main(),
             entries: 0,
             taken: 0,
             allowed: turns,
@@ -112,34 +128,41 @@ impl<'p> Machine<'p> {
         match self.stage {
             Stage::Going => false,
             Stage::Waiting => true,
-            Stage::Failed => false,
+            Stage::Failed(_) => false,
         }
     }
 
     // Tells what the machine has come to.
-    fn pause(&mut self, now: Now<'p>) -> Result<Pause, OutOfMemory>
-        ensures goes_on { IfOk result (λ pause. GoesOn (future_at self.old now.entry) pause (future self.new) (is_waiting self.new)) }
+    fn pause(&mut self, now: Now<'p>) -> Pause
+        requires pausing { IsPausing now }
+        requires right { EndsRight (future_at self.old now) }
+        ensures goes_on { GoesOn (future_at self.old now.entry) result (future self.new) (is_waiting self.new) }
         ensures taken { records_taken self.new ≡ records_taken self.old }
-        ensures failed { OnErr result (has_failed self.new ≡ has_failed self.old) }
     {
         match now {
             Now::Ask { name, request } => {
                 self.next = Now::Ask { name, request };
                 self.stage = Stage::Waiting;
-                Ok(Pause::NeedResult)
+                Pause::NeedResult
             }
             Now::Told { event, then } => {
                 self.next = coming(then);
                 self.stage = Stage::Going;
-                Ok(Pause::Did(event))
+                Pause::Did(event)
             }
             Now::Stopped(outcome) => {
                 let pause = ended(&outcome);
                 self.next = Now::Stopped(outcome);
                 self.stage = Stage::Going;
-                Ok(pause)
+                pause
             }
-            _ => Err(OutOfMemory),
+            Now::Eval { .. } => unreachable!(),
+            Now::Have(_) => unreachable!(),
+            Now::Exec(_) => unreachable!(),
+            Now::Left(_) => unreachable!(),
+            Now::Enter { .. } => unreachable!(),
+            Now::Test(_) => unreachable!(),
+            Now::Mistyped => unreachable!(),
         }
     }
 
@@ -147,9 +170,9 @@ impl<'p> Machine<'p> {
     fn go_on(&mut self) -> Result<Pause, OutOfMemory>
         ensures goes_on { IfOk result (λ pause. GoesOn (future self.old) pause (future self.new) (is_waiting self.new)) }
         ensures taken { records_taken self.new ≡ records_taken self.old }
-        ensures failed { OnErr result (has_failed self.new ≡ has_failed self.old) }
     {
         let now = mem::replace(&mut self.next, Now::Stopped(Outcome::Turns));
+        self.stage = Stage::Going;
         let next = go_on(
             self.alloc,
             self.program,
@@ -161,62 +184,57 @@ impl<'p> Machine<'p> {
             &mut self.turns,
             now,
         )?;
-        let pause = self.pause(next)?;
-        Ok(pause)
+        Ok(self.pause(next))
     }
 
     // Goes on with a record.
-    fn take(
-        &mut self,
-        name: SysName,
-        request: Request,
-        given: &SysResult,
-    ) -> Result<Pause, OutOfMemory>
-        ensures resumes { IfOk result (λ pause. HasResumed (future_at self.old (Ask name request)) (Some given.now) pause (future self.new) (is_waiting self.new)) }
-        ensures taken { IfOk result (λ pause. records_taken self.new ≡ records_taken self.old + 1) }
-        ensures failed { OnErr result (has_failed self.new ≡ has_failed self.old) }
+    fn take(&mut self, name: SysName, request: Request, recorded: &SysResult) -> Pause
+        requires few { records_taken self.old < 2 ^ 64 - 1 }
+        requires right { EndsRight (future_at self.old (Ask name request)) }
+        ensures resumes { HasResumed (future_at self.old (Ask name request)) (Some recorded.now) result (future self.new) (is_waiting self.new) }
+        ensures taken { records_taken self.new ≡ records_taken self.old + 1 }
     {
-        let Some(number) = self.taken.checked_add(1) else {
-            return Err(OutOfMemory);
-        };
-        match take_record(&mut self.memory, name, request, given) {
+        self.taken += 1;
+        self.stage = Stage::Going;
+        match take_record(&mut self.memory, name, request, recorded) {
             Called::Answered { event, value } => {
-                let next = settled(value)?;
-                self.taken = number;
-                self.next = next;
-                self.stage = Stage::Going;
-                Ok(Pause::Did(event))
+                self.next = settled(value);
+                Pause::Did(event)
             }
             Called::BadResult => {
-                self.taken = number;
-                self.next = Now::Stopped(Outcome::BadResult(number));
-                self.stage = Stage::Going;
-                Ok(Pause::Ended(Outcome::BadResult(number)))
+                self.next = Now::Stopped(Outcome::BadResult(self.taken));
+                Pause::Ended(Outcome::BadResult(self.taken))
             }
         }
     }
 
     // Goes on with a record, or with none.
-    fn resume(&mut self, given: Option<&SysResult>) -> Result<Pause, OutOfMemory>
-        ensures resumes { IfOk result (λ pause. Resumes (future self.old) (option_copied given.entry) pause (future self.new) (is_waiting self.new)) }
-        ensures taken { IfOk result (λ pause. records_taken self.new ≡ taken_with (option_copied given.entry) (records_taken self.old)) }
-        ensures failed { OnErr result (has_failed self.new ≡ has_failed self.old) }
+    fn resume(&mut self, given: Option<&SysResult>) -> Pause
+        requires waiting { is_waiting self.old ≡ true }
+        requires few { IsSome given → records_taken self.old < 2 ^ 64 - 1 }
+        ensures resumes { Resumes (future self.old) (option_copied given.entry) result (future self.new) (is_waiting self.new) }
+        ensures taken { records_taken self.new ≡ taken_with (option_copied given.entry) (records_taken self.old) }
     {
         let now = mem::replace(&mut self.next, Now::Stopped(Outcome::Turns));
+        self.stage = Stage::Going;
         let Now::Ask { name, request } = now else {
-            return Err(OutOfMemory);
+            unreachable!()
         };
         match given {
-            Some(one) => {
-                let pause = self.take(name, request, one)?;
-                Ok(pause)
-            }
+            Some(recorded) => self.take(name, request, recorded),
             None => {
                 self.next = Now::Stopped(Outcome::Results);
-                self.stage = Stage::Going;
-                Ok(Pause::Ended(Outcome::Results))
+                Pause::Ended(Outcome::Results)
             }
         }
+    }
+
+    // Memory was refused.
+    fn fail(&mut self, error: OutOfMemory) -> OutOfMemory
+        ensures { has_failed self.new ≡ true }
+    {
+        self.stage = Stage::Failed(error);
+        error
     }
 
     /// Goes on to the next event, need of a recorded result, or end (C99 5.1.2.3). A result is given only where the machine is
@@ -224,9 +242,9 @@ impl<'p> Machine<'p> {
     /// ends for want of it. A result that does not answer its call ends the run with its number, counted from 1. After the end it
     /// answers the same again.
     ///
-    /// The error is that memory was refused; from then on each call answers so. So it answers, too, where more than 2^64 − 1
-    /// steps lie between two pauses, and at a value or an exit of another kind than its place, which no run of a well-typed program
-    /// comes to.
+    /// The error is that memory was refused; from then on each call answers so. It is answered, too, at what no run of a well-typed
+    /// program comes to: a number of cells, a place in an object or a number of arguments with more than 32 bits, and a system call
+    /// with more than three arguments; and where more than 2^64 − 1 steps lie between two pauses.
     pub fn advance(&mut self, given: Option<&SysResult>) -> Result<Pause, OutOfMemory>
         requires waiting { IsSome given → is_waiting self.old ≡ true }
         requires few { IsSome given → records_taken self.old < 2 ^ 64 - 1 }
@@ -235,17 +253,13 @@ impl<'p> Machine<'p> {
         ensures failed { OnErr result (has_failed self.new ≡ true) }
         ensures fails { has_failed self.old ≡ true → IsErr result }
     {
-        let stage = mem::replace(&mut self.stage, Stage::Failed);
-        match stage {
-            Stage::Going => {
-                let pause = self.go_on()?;
-                Ok(pause)
-            }
-            Stage::Waiting => {
-                let pause = self.resume(given)?;
-                Ok(pause)
-            }
-            Stage::Failed => Err(OutOfMemory),
+        match self.stage {
+            Stage::Going => match self.go_on() {
+                Ok(pause) => Ok(pause),
+                Err(error) => Err(self.fail(error)),
+            },
+            Stage::Waiting => Ok(self.resume(given)),
+            Stage::Failed(error) => Err(error),
         }
     }
 }

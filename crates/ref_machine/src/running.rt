@@ -1,18 +1,18 @@
-ghost use Rattle.std.specs.Prelude.{◌≡◌, IfOk, drop};
+ghost use Rattle.std.specs.Prelude.{◌≡◌, true, IfOk, drop};
 ghost use Rattle.c_tree.specs.View.{program_of};
 ghost use Rattle.c_meaning.specs.Runs.{run};
 ghost use Rattle.c_shapes.specs.ProgramLanguages.{Callgraph, Stack};
-ghost use Rattle.ref_machine.specs.Futures.{future, records_taken};
+ghost use Rattle.ref_machine.specs.Futures.{future, is_waiting, records_taken};
 ghost use Rattle.ref_machine.specs.KeptTypes.{HasFunctionValues};
-ghost use Rattle.ref_machine.specs.WholeRuns.{Follows, Notes, run_of};
+ghost use Rattle.ref_machine.specs.WholeRuns.{Follows, Happens, Waits, run_of};
 ghost use Rattle.c_meaning_laws.specs.Laws.{IsTypedRun};
 
 use crate::whole::Run;
-use crate::{Machine, Pause};
+use crate::{Machine, Next, Pause};
 use alarm_laws::runs_raise_no_alarm;
 use c_meaning_laws::{callees_are_candidates, values_have_kinds};
 use c_tree::Program;
-use dm_base::{Event, OutOfMemory, Outcome};
+use dm_base::OutOfMemory;
 use std::alloc::Global;
 use sys_table::SysResult;
 
@@ -26,6 +26,7 @@ pub fn advance_with(
     requires { records_taken machine.old ≡ taken.old }
     ensures follows { IfOk result (λ pause. Follows (future machine.old (drop taken.old results.now)) pause (future machine.new (drop taken.new results.now))) }
     ensures taken { IfOk result (λ pause. records_taken machine.new ≡ taken.new) }
+    ensures waits { IfOk result (λ pause. Waits (is_waiting machine.old) pause (is_waiting machine.new)) }
 {
     if !machine.is_waiting() {
         let pause = machine.advance(None)?;
@@ -41,21 +42,48 @@ pub fn advance_with(
     Ok(pause)
 }
 
-// Notes what the machine has come to, and tells how the run ended, where it did.
-fn noted(trace: &mut Vec<Event>, pause: Pause) -> Result<Option<Outcome>, OutOfMemory>
-    ensures { IfOk result (λ ended. Notes trace.old.items trace.new.items pause ended) }
+// The same of a machine that waits for a result.
+fn answered(
+    machine: &mut Machine,
+    results: &[SysResult],
+    taken: &mut usize,
+) -> Result<Next, OutOfMemory>
+    requires taken { records_taken machine.old ≡ taken.old }
+    requires waiting { is_waiting machine.old ≡ true }
+    ensures happens { IfOk result (λ next. Happens (future machine.old (drop taken.old results.now)) next (future machine.new (drop taken.new results.now))) }
+    ensures taken { IfOk result (λ next. records_taken machine.new ≡ taken.new) }
 {
+    let pause = advance_with(machine, results, taken)?;
     match pause {
-        Pause::NeedResult => Ok(None),
-        Pause::Did(event) => {
-            trace.push(event)?;
-            Ok(None)
-        }
-        Pause::Ended(outcome) => Ok(Some(outcome)),
+        Pause::NeedResult => unreachable!(),
+        Pause::Did(event) => Ok(Next::Event(event)),
+        Pause::Ended(outcome) => Ok(Next::End(outcome)),
     }
 }
 
-// The run of the program, by pauses of a machine.
+/// Goes on to the next event of a run or to its end, where the results from this number on are left: the next of them is given
+/// where the machine needs one. The error is that memory was refused, as of `Machine::advance`; from then on each call answers so.
+pub fn next_event(
+    machine: &mut Machine,
+    results: &[SysResult],
+    taken: &mut usize,
+) -> Result<Next, OutOfMemory>
+    requires { records_taken machine.old ≡ taken.old }
+    ensures happens { IfOk result (λ next. Happens (future machine.old (drop taken.old results.now)) next (future machine.new (drop taken.new results.now))) }
+    ensures taken { IfOk result (λ next. records_taken machine.new ≡ taken.new) }
+{
+    let pause = advance_with(machine, results, taken)?;
+    match pause {
+        Pause::NeedResult => {
+            let next = answered(machine, results, taken)?;
+            Ok(next)
+        }
+        Pause::Did(event) => Ok(Next::Event(event)),
+        Pause::Ended(outcome) => Ok(Next::End(outcome)),
+    }
+}
+
+// The run of the program, event by event.
 fn whole_run(
     alloc: Global,
     program: &Program,
@@ -67,21 +95,20 @@ fn whole_run(
     let mut machine = Machine::start(alloc, program, turns)?;
     let mut trace = Vec::new(alloc);
     let mut taken = 0usize;
-    for _pause in 0..u64::MAX {
-        let pause = advance_with(&mut machine, results, &mut taken)?;
-        let ended = noted(&mut trace, pause)?;
-        if let Some(outcome) = ended {
-            return Ok(Run { outcome, trace });
+    'events: loop {
+        let next = next_event(&mut machine, results, &mut taken)?;
+        match next {
+            Next::Event(event) => trace.push(event)?,
+            Next::End(outcome) => return Ok(Run { outcome, trace }),
         }
     }
-    Err(OutOfMemory)
 }
 
 /// The run of the program with these recorded results and so many turns (C99 5.1.2.3): how it ended, and its events, in order.
 /// Results that the run did not come to are left. However it ended, its trace is a word of the program's stack and of its
 /// callgraph language (Wagner and Dean 2001), for null calls that the program makes itself are left aside there; each event can be recorded;
 /// and no value of another kind than its type was met. The error is that memory was refused; so it answers, too, where
-/// `Machine::advance` does, and at more than 2^64 − 1 pauses.
+/// `Machine::advance` does.
 pub fn run(
     alloc: Global,
     program: &Program,

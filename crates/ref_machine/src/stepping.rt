@@ -1,4 +1,4 @@
-ghost use Rattle.std.specs.Prelude.{◌≡◌, ◌≤◌, ◌↔◌, IsTrue, ℕ, List, [], ◌∷◌, IfOk};
+ghost use Rattle.std.specs.Prelude.{◌≡◌, ◌≤◌, ◌<◌, ◌+◌, ◌^◌, ◌↔◌, IsTrue, ℕ, List, [], ◌∷◌, IfOk};
 ghost use Rattle.c_tree.specs.Tree.{Program as Term};
 ghost use Rattle.sys_table.specs.declared.sys_result.SysResult.{SysResult as Record};
 ghost use Rattle.c_tree.specs.View.{program_of, stmt_of};
@@ -13,7 +13,7 @@ ghost use Rattle.ref_machine_frames.specs.Cells.{AreCells};
 ghost use Rattle.ref_machine_frames.specs.Frames.{after_exit, after_value, exit_in, place_of, rest, rounds_of, stack, then_comes};
 ghost use Rattle.ref_machine_frames.specs.Parts.{IsAnswer};
 ghost use Rattle.ref_machine_steps.specs.Faults.{told};
-ghost use Rattle.ref_machine.specs.Standing.{IsPausing, SameLeft, Standing, left_of, state};
+ghost use Rattle.ref_machine.specs.Standing.{EndsRightly, IsPausing, SameLeft, Standing, left_of, state};
 
 use crate::calls::{enter, leave_call};
 use c_tree::{Program, TStmt, Value};
@@ -26,12 +26,12 @@ use ref_machine_steps::Fault;
 use std::alloc::Global;
 
 // The end of the run with the value of main.
-fn end<'p>(v: Value) -> Result<Now<'p>, OutOfMemory>
-    ensures { IfOk result (λ now. (p : Term) (w : World) (fr : Place) (todo : List Todo) (st : State) → rest p w fr now todo st ≡ Stop (exit_of v) []) }
+fn end<'p>(v: Value) -> Now<'p>
+    ensures { (p : Term) (w : World) (fr : Place) (todo : List Todo) (st : State) → rest p w fr result todo st ≡ Stop (exit_of v) [] }
 {
     match v {
-        Value::Int(status) => Ok(Now::Stopped(Outcome::Exit(status))),
-        _ => Err(OutOfMemory),
+        Value::Int(status) => Now::Stopped(Outcome::Exit(status)),
+        _ => Now::Mistyped,
     }
 }
 
@@ -58,8 +58,8 @@ fn with_frame<'p>(
             let now = in_statement(memory, todo, here, frame, v)?;
             Ok(now)
         }
-        Frame::Exit(_) => Err(OutOfMemory),
-        Frame::Call(_) => Err(OutOfMemory),
+        Frame::Exit(_) => Ok(Now::Mistyped),
+        Frame::Call(_) => Ok(Now::Mistyped),
     }
 }
 
@@ -77,10 +77,7 @@ fn have<'p>(
     ensures { IfOk result (λ now. (w : World) (st : State) → rest (program_of program.now) w (place_of here.entry) now (stack todo.new.items) (with_memory st (seen memory.new)) ≡ after_value (program_of program.now) w (place_of here.entry) (stack todo.old.items) v (with_memory st (seen memory.old))) }
 {
     match todo.pop() {
-        None => {
-            let now = end(v)?;
-            Ok(now)
-        }
+        None => Ok(end(v)),
         Some(frame) => {
             let now = with_frame(alloc, program, counts, memory, todo, here, frame, v)?;
             Ok(now)
@@ -103,12 +100,9 @@ fn left_with<'p>(
             let now = with_exit(memory, todo, *here, *frame, by)?;
             Ok(now)
         }
-        Frame::Call(call) => {
-            let now = leave_call(memory, here, *call, by)?;
-            Ok(now)
-        }
-        Frame::Value(_) => Err(OutOfMemory),
-        Frame::Statement(_) => Err(OutOfMemory),
+        Frame::Call(call) => Ok(leave_call(memory, here, *call, by)),
+        Frame::Value(_) => Ok(Now::Mistyped),
+        Frame::Statement(_) => Ok(Now::Mistyped),
     }
 }
 
@@ -122,7 +116,7 @@ fn left<'p>(
     ensures { IfOk result (λ now. (p : Term) (w : World) (st : State) → rest p w (place_of here.new) now (stack todo.new.items) (with_memory st (seen memory.new)) ≡ after_exit p w (place_of here.old) (stack todo.old.items) (exit_in by) (with_memory st (seen memory.old))) }
 {
     match todo.pop() {
-        None => Err(OutOfMemory),
+        None => Ok(Now::Mistyped),
         Some(frame) => {
             let now = left_with(memory, todo, here, frame, by)?;
             Ok(now)
@@ -142,8 +136,10 @@ fn enter_in_turn<'p>(
     f: u32,
     values: &[Value],
 ) -> Result<Now<'p>, OutOfMemory>
+    requires { entries.old + turns.old < 2 ^ 32 }
     ensures same { IfOk result (λ next. (n : ℕ) (records : List Record) (taken : ℕ) → turns.old ≤ n → left_of (program_of program.now) n (record { here = here.new; memory = seen memory.new; entries = entries.new; turns = turns.new; now = next; todo = todo.new.items }) records taken ≡ then_do ((world (program_of program.now) no_marks n).enter wanted f values.now (state (seen memory.old) entries.old records taken turns.old)) (after_value (program_of program.now) (world (program_of program.now) no_marks n) (place_of here.old) (stack todo.old.items))) }
     ensures fewer { turns.new ≤ turns.old }
+    ensures spent { entries.new + turns.new ≤ entries.old + turns.old }
 {
     if *turns == 0 {
         return Ok(Now::Stopped(Outcome::Turns));
@@ -174,7 +170,10 @@ fn test_in_turn<'p>(
 fn is_pause(now: &Now) -> bool
     ensures { IsTrue result ↔ IsPausing now.now }
 {
-    matches!(now, Now::Ask { .. } | Now::Told { .. } | Now::Stopped(_))
+    matches!(
+        now,
+        Now::Ask { .. } | Now::Told { .. } | Now::Stopped(_) | Now::Mistyped
+    )
 }
 
 // One step.
@@ -189,9 +188,11 @@ fn step<'p>(
     turns: &mut u32,
     now: Now<'p>,
 ) -> Result<Now<'p>, OutOfMemory>
-    requires { AreCells (program_of program.now).structs counts.now }
+    requires counted { AreCells (program_of program.now).structs counts.now }
+    requires few { entries.old + turns.old < 2 ^ 32 }
     ensures same { IfOk result (λ next. SameLeft (program_of program.now) (record { here = here.old; memory = seen memory.old; entries = entries.old; turns = turns.old; now = now.entry; todo = todo.old.items }) (record { here = here.new; memory = seen memory.new; entries = entries.new; turns = turns.new; now = next; todo = todo.new.items })) }
     ensures fewer { turns.new ≤ turns.old }
+    ensures spent { entries.new + turns.new ≤ entries.old + turns.old }
 {
     match now {
         Now::Eval { wanted, of } => {
@@ -240,9 +241,11 @@ pub fn go_on<'p>(
     turns: &mut u32,
     now: Now<'p>,
 ) -> Result<Now<'p>, OutOfMemory>
-    requires { AreCells (program_of program.now).structs counts.now }
+    requires counted { AreCells (program_of program.now).structs counts.now }
+    requires few { entries.old + turns.old < 2 ^ 32 }
     ensures same { IfOk result (λ next. SameLeft (program_of program.now) (record { here = here.old; memory = seen memory.old; entries = entries.old; turns = turns.old; now = now.entry; todo = todo.old.items }) (record { here = here.new; memory = seen memory.new; entries = entries.new; turns = turns.new; now = next; todo = todo.new.items })) }
     ensures fewer { turns.new ≤ turns.old }
+    ensures spent { entries.new + turns.new ≤ entries.old + turns.old }
     ensures pausing { IfOk result (λ next. IsPausing next) }
 {
     let mut next = now;
@@ -257,20 +260,20 @@ pub fn go_on<'p>(
     Err(OutOfMemory)
 }
 
-// What comes after an event.
+// What comes after the event of a system call.
+pub fn settled<'p>(value: Result<Value, Fault>) -> Now<'p>
+    ensures { IsAnswer (told value) result }
+{
+    given(value)
+}
+
+// What comes after an event, whose status is an `int` where the run ends with it.
 pub fn coming<'p>(then: After) -> Now<'p>
+    requires { EndsRightly then }
     ensures { (p : Term) (w : World) (fr : Place) (todo : List Todo) (st : State) → rest p w fr result todo st ≡ then_comes p w fr then todo st }
 {
     match then {
         After::Have(v) => Now::Have(v),
-        After::Stopped(outcome) => Now::Stopped(outcome),
+        After::Exited(status) => Now::Stopped(Outcome::Exit(status as i32)),
     }
-}
-
-// What comes after the event of a system call.
-pub fn settled<'p>(value: Result<Value, Fault>) -> Result<Now<'p>, OutOfMemory>
-    ensures { IfOk result (λ now. IsAnswer (told value) now) }
-{
-    let now = given(value)?;
-    Ok(now)
 }

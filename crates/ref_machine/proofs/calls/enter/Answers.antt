@@ -1,12 +1,15 @@
-use Rattle.std.proofs.Common.{◌≡◌, suc, length, ap, arith, nat_eq, refl, rules}
-use Rattle.c_tree.specs.View.{ctypes_of}
+use Rattle.std.proofs.Common.{◌≤◌, nat_eq, subst}
+use Rattle.c_tree.specs.View.{program_of}
 use Rattle.c_values.specs.Seen.{seen}
-use Rattle.ref_machine_frames.specs.Frames.{place_of}
-use Rattle.ref_machine.proofs.Turning.{entered_by}
+use Rattle.ref_machine_frames.specs.Frames.{place_of, stack, after_value}
+use Rattle.ref_machine.specs.Standing.{state}
+use Rattle.ref_machine.proofs.Turning.{no_function}
 use Rattle.ref_machine.proofs.calls.enter.Goals as goal
 
-pub returns : goal.returns
-returns c w rs taken turns =
-    let next : suc c.args.entries.now ≡ c.in-Some.activation = omega (arith, c.in-Some.ensures) in
-    let many : c.in-Ok.parameters ≡ length c.args.values.now = search rules in
-    entered_by c.args.program.now w _ _ c.args.f c.function-function.result.now c.args.values.now (seen c.args.memory.now) (seen c.set_parameters.new.memory) c.args.entries.now c.in-Some.activation rs taken turns c.args.todo.now.items _ _ c.args.wanted (place_of c.args.here.now) c.function-function.ensures next c.in_ok-set_parameters.ensures (ap (λ ts. record { activation = c.in-Some.activation; types = ctypes_of ts }) c.deref.ensures.value) many (ap (λ m. nat_eq c.args.f m) c.main.ensures.is) refl refl c.in_ok-push.ensures.items
+pub returns-then-f-count-clause-entered : goal.returns-then-f-count-clause-entered
+returns-then-f-count-clause-entered c = c.in_ok-now.ensures.entered
+
+pub returns-clause-entered : goal.returns-clause-entered
+returns-clause-entered c w rs taken turns =
+    let p = program_of c.args.program.now in
+    no_function p w (nat_eq c.args.f p.main) c.args.wanted c.args.f c.args.values.now (state (seen c.args.memory.now) c.args.entries.now rs taken turns) (after_value p w (place_of c.args.here.now) (stack c.args.todo.now.items)) (subst (λ n. n ≤ c.args.f) c.defined-count.ensures c.if-f-count.false)

@@ -7,5 +7,5 @@ use Rattle.ref_machine.proofs.calls.leave_call.Goals as goal
 
 pub returns : goal.returns
 returns c p w todo st =
-    c.in_ok-now.ensures p (seen c.end_parameters.new.memory) w (place_of c.args.call.caller) (stack todo) st
+    c.value_of.ensures p (seen c.end_parameters.new.memory) w (place_of c.args.call.caller) (stack todo) st
     ∙ ap (λ m. then_do (result_of c.args.call.is_main c.args.call.wanted (exit_in c.args.by) (with_memory st m)) (after_value p w (place_of c.args.call.caller) (stack todo))) c.end_parameters.ensures

@@ -21,6 +21,6 @@ returns-clause-same c n records taken le =
     let k = after_value p w (place_of c.args.here.now) (stack c.args.todo.now.items) in
     let left : suc (c.args.turns.now - 1) ≡ c.args.turns.now = omega arith in
     let enough : suc (c.args.turns.now - 1) ≤ n = omega (arith, le) in
-    c.in_ok-now.ensures w records taken (c.args.turns.now - 1)
+    c.in_ok-now.ensures.entered w records taken (c.args.turns.now - 1)
     ∙ (enter_turn p n c.args.wanted c.args.f c.args.values.now m c.args.entries.now records taken (c.args.turns.now - 1) k enough
     ∙ ap (λ t. then_do (w.enter c.args.wanted c.args.f c.args.values.now (state m c.args.entries.now records taken t)) k) left)

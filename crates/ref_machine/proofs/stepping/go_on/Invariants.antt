@@ -1,4 +1,4 @@
-use Rattle.std.proofs.Common.{◌≤◌}
+use Rattle.std.proofs.Common.{◌≤◌, ◌+◌}
 use Rattle.c_tree.specs.View.{program_of}
 use Rattle.c_values.specs.Seen.{seen}
 use Rattle.ref_machine.specs.Standing.{SameLeft}
@@ -8,4 +8,5 @@ abbrev pub invariant-loop-step : goal.invariant-loop-step
 invariant-loop-step l = record {
   same : SameLeft (program_of l.program) (record { here = l.fn.here; memory = seen l.fn.memory; entries = l.fn.entries; turns = l.fn.turns; now = l.fn.now; todo = l.fn.todo.items }) (record { here = l.here; memory = seen l.memory; entries = l.entries; turns = l.turns; now = l.next; todo = l.todo.items });
   fewer : l.turns ≤ l.fn.turns;
+  spent : l.entries + l.turns ≤ l.fn.entries + l.fn.turns;
 }

@@ -1,11 +1,11 @@
-use Rattle.std.proofs.Common.{◌≡◌, ℕ, List, [], ◌∷◌, length, ap, sym, ◌∙◌, refl, arith}
+use Rattle.std.proofs.Common.{◌≡◌, [], ap, sym, ◌∙◌}
 use Rattle.std.specs.Vec.{vec_len}
-use Rattle.ref_machine_frames.specs.declared.frames.Frame.{Frame}
 use Rattle.c_tree.specs.View.{program_of}
 use Rattle.c_values.specs.Seen.{seen}
 use Rattle.c_meaning.specs.Results.{with_memory}
 use Rattle.ref_machine_frames.specs.Frames.{place_of, stack, after_value}
 use Rattle.ref_machine_frames.proofs.Joining.{pushed}
+use Rattle.ref_machine.proofs.Turning.{nothing_to_do}
 use Rattle.ref_machine.proofs.stepping.have.Goals as goal
 
 pub returns-in_ok-now-in-Some : goal.returns-in_ok-now-in-Some
@@ -13,14 +13,9 @@ returns-in_ok-now-in-Some c w st =
     let p = program_of c.args.program.now in
     c.in_ok-now-in-Some.ensures w st ∙ ap (λ k. after_value p w (place_of c.args.here) k c.args.v (with_memory st (seen c.args.memory.now))) (sym (pushed c.pop.new.self.items c.args.todo.now.items c.in-Some.frame c.in-Some.ensures.items))
 
--- nothing is left to do
-nothing : (todo : List Frame) (n : ℕ) → n ≡ 0 → n ≡ length todo → [] ≡ todo
-nothing [] n none is = refl
-nothing (f ∷ todo) n none is = absurd (omega (arith, none, is))
-
-pub returns-in_ok-now-in-None : goal.returns-in_ok-now-in-None
-returns-in_ok-now-in-None c w st =
+pub returns-in-None : goal.returns-in-None
+returns-in-None c w st =
     let p = program_of c.args.program.now in
     let m = with_memory st (seen c.args.memory.now) in
-    let none : [] ≡ c.args.todo.now.items = nothing c.args.todo.now.items (vec_len c.args.todo.now) c.in-None.ensures.cases.0 c.args.todo.now.ok.0 in
-    c.in_ok-now-in-None.ensures p w (place_of c.args.here) (stack c.pop.new.self.items) m ∙ ap (λ todo. after_value p w (place_of c.args.here) (stack todo) c.args.v m) none
+    let none : [] ≡ c.args.todo.now.items = nothing_to_do c.args.todo.now.items (vec_len c.args.todo.now) c.in-None.ensures.cases.0 c.args.todo.now.ok.0 in
+    c.end.ensures p w (place_of c.args.here) (stack c.pop.new.self.items) m ∙ ap (λ todo. after_value p w (place_of c.args.here) (stack todo) c.args.v m) none

@@ -10,4 +10,12 @@ returns-in-Exit c p w st =
 
 pub returns-in-Call : goal.returns-in-Call
 returns-in-Call c p w st =
-    c.in_ok-now-in-Call.ensures p w c.args.todo.now.items st ∙ ap (λ f. after_exit p w (place_of c.args.here.now) (f ∷ stack c.args.todo.now.items) (exit_in c.args.by) (with_memory st (seen c.args.memory.now))) (sym c.in-Call.is)
+    c.leave_call.ensures p w c.args.todo.now.items st ∙ ap (λ f. after_exit p w (place_of c.args.here.now) (f ∷ stack c.args.todo.now.items) (exit_in c.args.by) (with_memory st (seen c.args.memory.now))) (sym c.in-Call.is)
+
+pub returns-in-Value : goal.returns-in-Value
+returns-in-Value c p w st =
+    ap (λ f. after_exit p w (place_of c.args.here.now) (f ∷ stack c.args.todo.now.items) (exit_in c.args.by) (with_memory st (seen c.args.memory.now))) (sym c.in-Value.is)
+
+pub returns : goal.returns
+returns c p w st =
+    ap (λ f. after_exit p w (place_of c.args.here.now) (f ∷ stack c.args.todo.now.items) (exit_in c.args.by) (with_memory st (seen c.args.memory.now))) (sym c.in-Statement.is)
