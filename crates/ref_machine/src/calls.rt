@@ -123,12 +123,7 @@ fn value_of<'p>(is_main: bool, wanted: bool, by: Left) -> Now<'p>
 }
 
 // A function is left: its parameters end, and the call gives its value to the caller.
-pub fn leave_call<'p>(
-    memory: &mut Memory,
-    here: &mut Here<'p>,
-    call: Call<'p>,
-    by: Left,
-) -> Now<'p>
+pub fn leave_call<'p>(memory: &mut Memory, here: &mut Here<'p>, call: Call<'p>, by: Left) -> Now<'p>
     ensures { (p : Term) (w : World) (todo : List Todo) (st : State) → rest p w (place_of here.new) result (stack todo) (with_memory st (seen memory.new)) ≡ then_do (out_of_call (place_of here.old) call.entry (exit_in by) (with_memory st (seen memory.old))) (after_value p w (place_of call.entry.caller) (stack todo)) }
 {
     end_parameters(memory, here.activation, call.parameters);

@@ -40,7 +40,7 @@ invariant_of-result c =
       bounded = omega arith;
       few = search rules;
       right = right_alike whole new (λ records. sym (started p n c.main.result (place_of c.before_main.result) c.new-2.result.items c.new.result.items (state (seen c.in_ok-memory.memory) 0 records 0 n) c.main.ensures.is c.new-2.ensures.items c.new.ensures.items (omega arith)
-      ∙ ap (λ m. ending (enter p (world p no_marks n) no_marks true p.main [] (state m 0 records 0 n))) (c.in_ok-memory.ensures ∙ ap (λ ss. first_objects 0 (map static_of ss)) c.statics.ensures)))
-      (λ records. (c.values_have_kinds.ensures.runs p c.sites-sites.result c.sites-sites.ensures.typed no_marks (λ site. (All-nil IsRecorded, All-nil IsRecorded)) records n).outcome);
+          ∙ ap (λ m. ending (enter p (world p no_marks n) no_marks true p.main [] (state m 0 records 0 n))) (c.in_ok-memory.ensures ∙ ap (λ ss. first_objects 0 (map static_of ss)) c.statics.ensures)))
+          (λ records. (c.values_have_kinds.ensures.runs p c.sites-sites.result c.sites-sites.ensures.typed no_marks (λ site. (All-nil IsRecorded, All-nil IsRecorded)) records n).outcome);
       called = tt;
     }
