@@ -14,11 +14,12 @@ use Rattle.c_shapes.specs.CallGraph.{callee_at, is_marked, marked_where}
 use Rattle.null_calls_rules.specs.MarkedCalls as term
 use Rattle.null_calls_rules.specs.MarkedCalls.{called_as, called_by_type, marked_of, sites_of}
 use Rattle.call_graph.proofs.SitesLemmas.{no_site}
-use Rattle.null_calls_temporaries.specs.declared.mention.Mention.{Mention}
-use Rattle.null_calls_temporaries.specs.declared.mention.Mention.TheVariants as m
+use Rattle.call_graph.specs.declared.mention.Mention.{Mention}
+use Rattle.call_graph.specs.declared.mention.Mention.TheVariants as m
+use Rattle.call_graph.specs.Saying.{mention_of, said}
 use Rattle.null_calls_temporaries.specs.declared.callees.Designator.{Designator}
 use Rattle.null_calls_temporaries.specs.declared.table.Called.{Called}
-use Rattle.null_calls_temporaries.specs.Saying.{mention_of, said, callee_where, callee_after, IsDefinedWhere}
+use Rattle.null_calls_temporaries.specs.Callees.{callee_where, callee_after, IsDefinedWhere}
 use Rattle.null_calls_temporaries.specs.Sited.{called_where}
 
 below_or_at : (k n : ℕ) → (k < n) ⊎ (n ≤ k)

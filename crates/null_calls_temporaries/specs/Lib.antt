@@ -1,4 +1,4 @@
+pub mod Callees
 pub mod Kept
-pub mod Saying
 pub mod Sited
 pub mod Spelled

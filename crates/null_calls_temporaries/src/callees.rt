@@ -1,9 +1,10 @@
 ghost use Rattle.std.specs.Prelude.{◌≡◌, ◌<◌, ℕ, nat_eq, None, length, slice_index_or, IfOk};
 ghost use Rattle.c_shapes.specs.CallGraph.{callee_at};
-ghost use Rattle.null_calls_temporaries.specs.Saying.{mention_of, said, callee_where, put_where, callee_after};
+ghost use Rattle.call_graph.specs.Saying.{mention_of, said};
+ghost use Rattle.null_calls_temporaries.specs.Callees.{callee_where, put_where, callee_after};
 
-use crate::mention::Mention;
 use c_tree::CType;
+use call_graph::Mention;
 use dm_base::OutOfMemory;
 use std::alloc::Global;
 

@@ -6,9 +6,7 @@
 
 mod callees;
 mod declaring;
-mod mention;
 mod names;
-mod saying;
 mod spelled;
 mod table;
 mod temporaries;

@@ -5,13 +5,12 @@ ghost use Rattle.c_shapes.specs.CallGraph.{callee_at};
 ghost use Rattle.c_shapes.specs.Mentions.{Direct, mentions_of_program};
 ghost use Rattle.call_graph.specs.Calls.{AreCallsOf};
 ghost use Rattle.null_calls_rules.specs.MarkedCalls as marks;
-ghost use Rattle.null_calls_temporaries.specs.Saying.{callee_of, callee_where, IsDefinedWhere};
+ghost use Rattle.null_calls_temporaries.specs.Callees.{callee_of, callee_where, IsDefinedWhere};
 ghost use Rattle.null_calls_temporaries.specs.Sited.{type_where, called_of, called_where, sited};
 
 use crate::callees::{Designator, callee_in, callees_of};
-use crate::saying::said_in;
 use c_tree::{CType, Program};
-use call_graph::Calls;
+use call_graph::{Calls, said_in};
 use dm_base::OutOfMemory;
 use std::alloc::Global;
 

@@ -1,7 +1,8 @@
 use Rattle.std.proofs.Common.{◌≡◌, ◌<◌, ◌-◌, ℕ, length, drop, None}
 use Rattle.std.specs.Prelude.{slice_index_or}
 use Rattle.c_shapes.specs.CallGraph.{callee_at}
-use Rattle.null_calls_temporaries.specs.Saying.{said, callee_where}
+use Rattle.call_graph.specs.Saying.{said}
+use Rattle.null_calls_temporaries.specs.Callees.{callee_where}
 use Rattle.null_calls_temporaries.proofs.callees.put_calls.Given as goal
 
 abbrev pub invariant-loop-i : goal.invariant-loop-i

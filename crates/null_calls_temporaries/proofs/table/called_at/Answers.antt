@@ -1,6 +1,6 @@
 use Rattle.std.proofs.Common.{◌∙◌, ap, sym}
 use Rattle.c_tree.specs.View.{program_of}
-use Rattle.null_calls_temporaries.specs.Saying.{callee_of, callee_where}
+use Rattle.null_calls_temporaries.specs.Callees.{callee_of, callee_where}
 use Rattle.null_calls_temporaries.specs.Sited.{called_where}
 use Rattle.null_calls_temporaries.proofs.SiteLemmas.{unmarked_site, none_site, marked_site, defined_where}
 use Rattle.null_calls_temporaries.proofs.table.called_at.Goals as goal

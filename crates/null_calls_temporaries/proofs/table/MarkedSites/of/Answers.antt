@@ -3,7 +3,8 @@ use Rattle.std.specs.Prelude.{slice_index_or}
 use Rattle.c_tree.specs.View.{program_of}
 use Rattle.c_shapes.specs.CallGraph.{callee_at}
 use Rattle.null_calls_rules.specs.MarkedCalls.{sites_of}
-use Rattle.null_calls_temporaries.specs.Saying.{said, callee_where}
+use Rattle.call_graph.specs.Saying.{said}
+use Rattle.null_calls_temporaries.specs.Callees.{callee_where}
 use Rattle.null_calls_temporaries.proofs.SiteLemmas.{site_more, all_sited}
 use Rattle.null_calls_temporaries.proofs.table.MarkedSites.of.Goals as goal
 

@@ -1,22 +1,12 @@
--- For private contracts and proofs alone: what the code's mentions stand for.
-use Rattle.std.specs.Prelude.{ℕ, ◌<◌, Bool, true, false, nat_eq, List, map, Option, None, Some, if◌then◌else◌}
+-- For private contracts and proofs alone: what is called at sites.
+use Rattle.std.specs.Prelude.{ℕ, ◌<◌, Bool, true, false, nat_eq, Option, None, Some, if◌then◌else◌}
 use Rattle.c_tree.specs.Tree.{Program}
 use Rattle.c_tree.specs.Functions.{defined}
 use Rattle.c_tree.specs.View.{ctype_of}
 use Rattle.c_shapes.specs.Mentions as term
 use Rattle.c_shapes.specs.Mentions.{Callee, Direct, Through}
-use Rattle.null_calls_temporaries.specs.declared.mention.Mention.{Mention}
-use Rattle.null_calls_temporaries.specs.declared.mention.Mention.TheVariants as m
 use Rattle.null_calls_temporaries.specs.declared.callees.Designator.{Designator}
 use Rattle.null_calls_temporaries.specs.declared.callees.Designator.TheVariants as d
-
-abbrev pub mention_of : Mention → term.Mention
-mention_of (m.Named f) = term.Named f
-mention_of (m.Direct s f) = term.Calls s (Direct f)
-mention_of (m.Through s t) = term.Calls s (Through (ctype_of t.now))
-
-abbrev pub said : List Mention → List term.Mention
-said ms = map mention_of ms
 
 -- what is called
 abbrev pub callee_of : Designator → Callee
