@@ -13,11 +13,8 @@ use Rattle.tool_monitors.specs.declared.hearing.Heard.{Heard}
 use Rattle.tool_monitors.specs.Heard.{AreNextNames}
 use Rattle.tool_monitors.specs.Judged.{status_of, status_of_all, verdict_lines, worse}
 use Rattle.tool_monitors.proofs.Judgements.{worse_alone}
-use Rattle.ref_machine.specs.declared.pause.Pause.{Pause}
-use Rattle.ref_machine.specs.declared.pause.Pause.TheVariants.{NeedResult, Did}
 use Rattle.ref_machine.specs.Futures.{event_first}
-use Rattle.ref_machine.specs.WholeRuns.{Follows, joined}
-use Rattle.ref_machine.proofs.Noting.{noted_on}
+use Rattle.ref_machine.specs.WholeRuns.{joined}
 use Rattle.report.specs.Precision.{IsNext, next_text}
 use Rattle.report.specs.VerdictLine.{verdict_text, event_at}
 use Rattle.sys_table.specs.Table.{IsRecorded}
@@ -33,14 +30,6 @@ comes_after (x ∷ t) e rest all = comes_after t e rest (All-tail IsRecorded x (
 -- the next event of a run whose events can be recorded
 pub next_recorded : (whole : Run) (t : List Event) (e : Event) (rest : Run) → All IsRecorded whole.trace → whole ≡ joined t (event_first e rest) → IsRecorded e
 next_recorded whole t e rest all same = comes_after t e rest.trace (subst (λ (r : Run). All IsRecorded r.trace) same all)
-
--- a pause at which nothing is done
-pub kept_on : (whole : Run) (trace grown : List Event) (pause : Pause) (old new : Run) → whole ≡ joined trace old → Follows old pause new → pause ≡ NeedResult → grown ≡ trace → whole ≡ joined grown new
-kept_on whole trace grown pause old new so follows is kept = noted_on whole trace grown NeedResult old new so (subst (λ (p : Pause). Follows old p new) is follows) (kept, refl)
-
--- an event
-pub told_on : (whole : Run) (trace grown : List Event) (pause : Pause) (e : Event) (old new : Run) → whole ≡ joined trace old → Follows old pause new → pause ≡ Did e → grown ≡ trace ++ e ∷ [] → whole ≡ joined grown new
-told_on whole trace grown pause e old new so follows is more = noted_on whole trace grown (Did e) old new so (subst (λ (p : Pause). Follows old p new) is follows) (more, refl)
 
 module _ (g : Graph) (bound : ℕ) (t : List Event) where
   said_all : (status : Status) (told text : List ℕ) (a b c : ℕ) (vs : List Verdict) (ns : List ℕ) → AllZip (λ which v. IsVerdict which g bound t v) (monitors_of AllThree) vs → status ≡ status_of_all vs → told ≡ verdict_lines (monitors_of AllThree) vs t → AreNextNames (monitors_of AllThree) g bound t ns

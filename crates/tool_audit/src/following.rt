@@ -7,7 +7,7 @@ use c_meaning_laws::values_have_kinds;
 use c_tree::Program;
 use dm_base::OutOfMemory;
 use flow_model::Model;
-use ref_machine::{Machine, Pause, Run, advance_with};
+use ref_machine::{Machine, Next, Run, next_event};
 use std::alloc::Global;
 use sys_table::SysResult;
 use tool_monitors::Listener;
@@ -39,19 +39,18 @@ pub fn followed_run<L: Listener>(
     let mut monitors = L::begin(alloc, model, bound)?;
     let mut trace = Vec::new(alloc);
     let mut taken = 0usize;
-    for _pause in 0..u64::MAX {
-        let pause = advance_with(&mut machine, records, &mut taken)?;
-        match pause {
-            Pause::NeedResult => {}
-            Pause::Did(event) => {
+    'events: loop {
+        let next = next_event(&mut machine, records, &mut taken)?;
+        match next {
+            Next::Event(event) => {
+                let _before = trace.as_slice().len();
                 monitors.hear(alloc, model, &event)?;
                 trace.push(event)?;
             }
-            Pause::Ended(outcome) => {
+            Next::End(outcome) => {
                 let run = Run { outcome, trace };
                 return Ok(Followed { run, monitors });
             }
         }
     }
-    Err(OutOfMemory)
 }
