@@ -16,7 +16,9 @@ use Rattle.flow_model.specs.declared.which.Which.{Which}
 use Rattle.flow_model.specs.Verdict.{IsAccepted, IsRejectedAt, IsBoundAt, IsStep, IsVerdict}
 use Rattle.flow_model.proofs.Verdicts.{rejected_next, bound_next, rejected_of_part, bound_of_part}
 use Rattle.ref_machine.specs.Futures.{event_first, only_end, records_taken}
-use Rattle.ref_machine.specs.WholeRuns.{joined}
+use Rattle.ref_machine.specs.declared.next.Next.{Next}
+use Rattle.ref_machine.specs.declared.next.Next.TheVariants as nexts
+use Rattle.ref_machine.specs.WholeRuns.{Happens, joined}
 use Rattle.trace_file.specs.declared.record.Record.{Record}
 use Rattle.trace_file.specs.declared.version.TracesVersion.TheVariants.{One}
 use Rattle.watch.specs.declared.watch.Watch.{Watch}
@@ -25,14 +27,12 @@ use Rattle.watch.specs.Pasts.{refused_event}
 use Rattle.watch.proofs.OwnLemmas.{own_self, own_other}
 use Rattle.fleet.specs.declared.advance.Advance.{Advance}
 use Rattle.fleet.specs.declared.advance.Advance.TheVariants.{Made, Rejected, Bound, Ended}
-use Rattle.fleet.specs.declared.process.Next.{Next}
-use Rattle.fleet.specs.declared.process.Next.TheVariants as nexts
 use Rattle.fleet.specs.declared.process.Process.{Process}
 use Rattle.fleet.specs.declared.process.Stage.{Stage}
 use Rattle.fleet.specs.declared.process.Stage.TheVariants as stages
 use Rattle.fleet.specs.declared.standing.Standing.TheVariants as standings
 use Rattle.fleet.specs.Alone.{IsAlone, IsAnswer}
-use Rattle.fleet.specs.Going.{Happens, IsAt, IsAtStage, IsOpen, HasEnded, WasRefused, HasCome, IsReady, IsSameProcess, added_at, answer_of, remaining, stage_of}
+use Rattle.fleet.specs.Going.{IsAt, IsAtStage, IsOpen, HasEnded, WasRefused, HasCome, IsReady, IsSameProcess, added_at, answer_of, remaining, stage_of}
 use Rattle.fleet.specs.Members.{Group, Member, one_more, refused_to, run_of}
 
 -- the own records of a process

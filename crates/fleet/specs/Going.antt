@@ -15,9 +15,7 @@ use Rattle.flow_model.specs.declared.monitor.Monitor as monitor
 use Rattle.flow_model.specs.declared.which.Which.{Which}
 use Rattle.flow_model.specs.Graph.{Graph}
 use Rattle.flow_model.specs.Verdict.{IsAccepted, IsRejectedAt, IsBoundAt}
-use Rattle.ref_machine.specs.declared.pause.Pause.{Pause}
-use Rattle.ref_machine.specs.declared.pause.Pause.TheVariants as pauses
-use Rattle.ref_machine.specs.Futures.{event_first, future, only_end, records_taken}
+use Rattle.ref_machine.specs.Futures.{future, only_end, records_taken}
 use Rattle.ref_machine.specs.WholeRuns.{joined}
 use Rattle.trace_file.specs.declared.record.Record.{Record}
 use Rattle.trace_file.specs.declared.version.TracesVersion.{TracesVersion}
@@ -29,24 +27,11 @@ use Rattle.watch.specs.Own.{own, record_of}
 use Rattle.watch.specs.Watching.{StandsFor as WatchStandsFor}
 use Rattle.fleet.specs.declared.advance.Advance.{Advance}
 use Rattle.fleet.specs.declared.advance.Advance.TheVariants.{Made, Rejected, Bound, Ended}
-use Rattle.fleet.specs.declared.process.Next.{Next}
-use Rattle.fleet.specs.declared.process.Next.TheVariants as nexts
 use Rattle.fleet.specs.declared.process.Process.{Process}
 use Rattle.fleet.specs.declared.process.Stage.{Stage}
 use Rattle.fleet.specs.declared.process.Stage.TheVariants as stages
 use Rattle.fleet.specs.Alone.{IsAnswer}
 use Rattle.fleet.specs.Members.{Group, Member, one_more, run_of}
-
--- the event or the end that a machine tells
-abbrev pub next_of : Pause → Option Next
-next_of pauses.NeedResult = None
-next_of (pauses.Did e) = Some (nexts.Event e)
-next_of (pauses.Ended o) = Some (nexts.End o)
-
--- what is left of a run before and after its next event or its end
-abbrev pub Happens : Run → Next → Run → Type 0
-Happens old (nexts.Event e) new = old ≡ event_first e new
-Happens old (nexts.End o) new = old ≡ only_end o
 
 -- what is left of the process's run
 abbrev pub remaining : Process → Run

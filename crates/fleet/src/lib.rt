@@ -4,7 +4,6 @@
 
 mod advance;
 mod fleet;
-mod going;
 mod laws;
 mod places;
 mod process;

@@ -1,4 +1,4 @@
-use dm_base::{Event, Outcome};
+use dm_base::Outcome;
 use ref_machine::Machine;
 use sys_table::SysResult;
 
@@ -26,11 +26,4 @@ pub struct Process<'p> {
     pub results: &'p [SysResult],
     pub taken: usize,
     pub stage: Stage,
-}
-
-// What a run does next.
-#[derive(Drop)]
-pub enum Next {
-    Event(Event),
-    End(Outcome),
 }

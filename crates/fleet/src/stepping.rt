@@ -20,10 +20,10 @@ ghost use Rattle.fleet.specs.declared.process.Process.{Process as Process'};
 ghost use Rattle.fleet.specs.declared.process.Stage.TheVariants as stages;
 
 use crate::Advance;
-use crate::going::go_on;
-use crate::process::{Next, Process, Stage};
+use crate::process::{Process, Stage};
 use dm_base::{Event, OutOfMemory, Outcome, Step};
 use flow_model::Monitor;
+use ref_machine::{Next, next_event};
 use std::alloc::Global;
 use std::mem;
 use watch::Watch;
@@ -70,7 +70,7 @@ fn make_step<M: Monitor>(
     ensures kept { IsSameProcess process.old process.new }
     ensures stage { OnErr result (process.new.stage ≡ process.old.stage) }
 {
-    let next = go_on(&mut process.machine, process.results, &mut process.taken)?;
+    let next = next_event(&mut process.machine, process.results, &mut process.taken)?;
     match next {
         Next::End(outcome) => {
             let answer = ended(&outcome);

@@ -16,4 +16,4 @@ returns-in_ok-step-in-Event-clause-at g c g' records m ready =
 
 pub returns-in_ok-step-in-Event-clause-exact : goal.returns-in_ok-step-in-Event-clause-exact
 returns-in_ok-step-in-Event-clause-exact g c g' records m ready =
-    step_answer g.M.Monitor.WHICH g' records c.args.process.now (record c.args.process.now { machine = c.go_on.new.machine; taken = c.go_on.new.taken }) m ready.at (record { pid = refl; group = refl; results = refl }) c.in_ok-next.next c.in-Event.event c.in_ok-step-in-Event.step c.answer_after.result c.in-Event.is c.answer_after.ensures c.in_ok-next.ensures.happens c.in_ok-next.ensures.taken (c.in_ok-step-in-Event.ensures.exact g'.model g'.bound One records ready.watch)
+    step_answer g.M.Monitor.WHICH g' records c.args.process.now (record c.args.process.now { machine = c.next_event.new.machine; taken = c.next_event.new.taken }) m ready.at (record { pid = refl; group = refl; results = refl }) c.in_ok-next.next c.in-Event.event c.in_ok-step-in-Event.step c.answer_after.result c.in-Event.is c.answer_after.ensures c.in_ok-next.ensures.happens c.in_ok-next.ensures.taken (c.in_ok-step-in-Event.ensures.exact g'.model g'.bound One records ready.watch)
