@@ -1,0 +1,6 @@
+//! Numbers without a bound.
+#![tactic(auto)]
+
+mod count;
+
+pub use count::Count;
