@@ -1,10 +1,13 @@
--- Keys and their marks.
-use Rattle.std.proofs.Common.{◌≡◌, ◌≢◌, ◌⊎◌, ℕ, nat_eq, ◌<◌, Bool, true, false, List, [], ◌∷◌, ◌++◌, length, get_or, Contains, refl, sym, ◌∙◌, subst, inl, inr}
+-- Keys and their marks, facts and their index.
+use Rattle.std.proofs.Common.{◌≡◌, ◌≢◌, ◌⊎◌, ◌↔◌, ℕ, nat_eq, ◌-◌, ◌<◌, Bool, true, false, List, [], ◌∷◌, ◌++◌, length, get_or, Contains, refl, sym, ◌∙◌, ap, subst, inl, inr, arith, take}
+use Rattle.std.proofs.Math.Seq.{take-append_seam}
+use Rattle.std.proofs.lemmas.List.{length-append}
 use Rattle.std.proofs.lemmas.Bool.{eq-eqb, eqb-true, false≢true}
 use Rattle.std.proofs.lemmas.List.{get_or-set_same, get_or-set_other}
 use Rattle.std.proofs.lemmas.List.Elements.{Contains-append_left, Contains-push, Contains-push_cases}
 use Rattle.std.proofs.Math.ListN.{set}
-use Rattle.stack_automaton.specs.Adding.{Adds}
+use Rattle.stack_automaton.specs.Adding.{Has, Adds}
+use Rattle.stack_automaton.specs.declared.place.Fact.{Fact}
 use Rattle.stack_automaton.specs.Marks.{AreMarked}
 
 -- the marks stay
@@ -36,7 +39,7 @@ marked_more keys marks key lt before k = (
   ],
 )
 
-pub added_one : (keys : List ℕ) (key : ℕ) → Adds keys (keys ++ key ∷ []) (λ k. k ≡ key)
+pub added_one : {X : Type 0} (keys : List X) (key : X) → Adds keys (keys ++ key ∷ []) (λ k. k ≡ key)
 added_one keys key = record {
   grows = (key ∷ [], refl);
   is = λ k. (
@@ -44,3 +47,29 @@ added_one keys key = record {
     λ s. elim s as (λ _. Contains (keys ++ key ∷ []) k) [ inl was ↦ Contains-append_left keys (key ∷ []) k was | inr e ↦ subst (Contains (keys ++ key ∷ [])) (sym e) (Contains-push keys key) ],
   );
 }
+
+-- the index has just the facts of the list
+abbrev pub AreSame : List Fact → List Fact → Type 0
+AreSame index facts = (x : Fact) → Contains index x ↔ Contains facts x
+
+-- with one fact more
+pub same_more : (facts index new : List Fact) (fact : Fact) → AreSame index facts → Adds index new (λ x. x ≡ fact) → AreSame new (facts ++ fact ∷ [])
+same_more facts index new fact same adds x = (
+  λ has. elim ((adds.is x).0 has) as (λ _. Contains (facts ++ fact ∷ []) x) [
+    | inl was ↦ Contains-append_left facts (fact ∷ []) x ((same x).0 was)
+    | inr e ↦ subst (Contains (facts ++ fact ∷ [])) (sym e) (Contains-push facts fact)
+  ],
+  λ has. elim (Contains-push_cases facts fact x has) as (λ _. Contains new x) [
+    | inl was ↦ (adds.is x).1 (inl ((same x).1 was))
+    | inr e ↦ (adds.is x).1 (inr (sym e))
+  ],
+)
+
+pub has_equal : {X : Type 0} (xs : List X) (y : X) → Has (λ x. y ≡ x) xs ↔ Contains xs y
+has_equal xs y = (λ h. subst (Contains xs) (sym h.2) h.1, λ has. (y, has, refl))
+
+-- what was added last is taken back
+pub taken_back : {X : Type 0} (xs ys new : List X) (x : X) (n : ℕ) → ys ≡ xs ++ x ∷ [] → n ≡ length ys → new ≡ take (n - 1) ys → new ≡ xs
+taken_back xs ys new x n is long left =
+    let same : n - 1 ≡ length xs = omega (arith, long, ap length is, length-append xs (x ∷ [])) in
+    left ∙ (λ i. take (same i) (is i)) ∙ take-append_seam xs (x ∷ [])

@@ -7,21 +7,26 @@ ghost use Rattle.stack_automaton.specs.Following.{AreHeld, IsFirst};
 ghost use Rattle.stack_automaton.specs.Moving.{IsRead, IsReadFrom, LeadsBy};
 ghost use Rattle.stack_automaton.specs.Storing.{IsClosed, Grows, IsStored};
 
+use crate::fact_set::FactSet;
 use crate::follow::add;
+use crate::links::Links;
 use crate::place::{Edge, Fact, Place, State};
 use crate::reading::sys_from;
-use crate::saturate::saturate;
+use crate::saturate::{Closure, saturate};
 use crate::shared::Shared;
 use crate::store::store;
 use dm_base::{Event, OutOfMemory, fits};
 use flow_model::{Model, SysEdge};
-use indexmap::IndexSet;
 use slab::Slab;
 use std::alloc::Global;
+use std::mem;
+
+// The most functions for whose calls the room is kept.
+const MOST: usize = 64;
 
 // Adds where the edge of the model leads, if the event is read along it.
 fn read_one(
-    facts: &mut IndexSet<Fact>,
+    facts: &mut FactSet,
     edge: Edge,
     sys: &SysEdge,
     event: &Event,
@@ -41,7 +46,7 @@ fn read_one(
 }
 
 fn read_each(
-    facts: &mut IndexSet<Fact>,
+    facts: &mut FactSet,
     edge: Edge,
     sys: &[SysEdge],
     event: &Event,
@@ -56,7 +61,7 @@ fn read_each(
 
 // Adds where the event leads from the node with which the edge is labelled.
 fn read_from(
-    facts: &mut IndexSet<Fact>,
+    facts: &mut FactSet,
     model: &Model,
     edge: Edge,
     event: &Event,
@@ -73,23 +78,36 @@ fn first_facts(
     model: &Model,
     edges: &[Edge],
     event: &Event,
-) -> Result<IndexSet<Fact>, OutOfMemory>
+) -> Result<FactSet, OutOfMemory>
     ensures { IfOk result (λ facts. (x : Fact') → Contains facts.keys x ↔ Has (λ e. IsReadFrom model.now event.now e x) edges.now) }
 {
-    let mut facts = IndexSet::new(alloc);
+    let mut facts = FactSet::new(alloc);
     for edge in edges {
         read_from(&mut facts, model, *edge, event)?;
     }
     Ok(facts)
 }
 
-// Stores the states of the event that begins with these facts, and gives the key of its own.
+// Keeps the room of an event's calls for the next event, where it is small.
+fn give_back(room: &mut Links, done: Closure) {
+    let Closure {
+        facts: _facts,
+        links,
+    } = done;
+    if links.len() <= MOST {
+        *room = links;
+    }
+}
+
+// Stores the states of the event that begins with these facts, and gives the key of its own. The room of the calls of an earlier event is
+// used again.
 pub fn settle(
     alloc: Global,
     states: &mut Slab<State>,
     shared: &mut Shared,
     model: &Model,
-    begin: IndexSet<Fact>,
+    begin: FactSet,
+    room: &mut Links,
 ) -> Result<usize, OutOfMemory>
     requires held { AreHeld begin.keys }
     requires there { (b q : ℕ) → IsFirst begin.keys b q → IsThere (get states.old) q }
@@ -98,8 +116,10 @@ pub fn settle(
     ensures stored { IfOk result (λ key. IsStored model.now (get states.old) (get states.new) begin.keys key) }
     ensures there { IfOk result (λ key. IsThere (get states.new) key) }
 {
-    let done = saturate(alloc, model, states, begin)?;
+    let links = mem::replace(room, Links::new(alloc));
+    let done = saturate(alloc, model, states, begin, links)?;
     let key = store(alloc, states, shared, model, &done)?;
+    give_back(room, done);
     Ok(key)
 }
 
@@ -110,7 +130,7 @@ pub fn begin_at(
     model: &Model,
     key: usize,
     event: &Event,
-) -> Result<IndexSet<Fact>, OutOfMemory>
+) -> Result<FactSet, OutOfMemory>
     requires { IsThere (get states.now) key }
     ensures leads { IfOk result (λ facts. LeadsBy model.now (get states.now) key event.now facts.keys) }
     ensures held { IfOk result (λ facts. AreHeld facts.keys) }
@@ -120,6 +140,6 @@ pub fn begin_at(
             let facts = first_facts(alloc, model, state.edges(), event)?;
             Ok(facts)
         }
-        None => Ok(IndexSet::new(alloc)),
+        None => Ok(FactSet::new(alloc)),
     }
 }

@@ -4,6 +4,7 @@ ghost use Rattle.stack_automaton.specs.Adding.{Has, Adds};
 ghost use Rattle.stack_automaton.specs.Links.{AddsLinks};
 ghost use Rattle.stack_automaton.specs.Following.{IsAlong, IsEntry, IsCalled, IsCallTo, IsLinkOf, EndsAt, IsReturn, IsBack, IsEnd, IsAfterEnd, IsStep};
 
+use crate::fact_set::FactSet;
 use crate::links::Links;
 use crate::place::{Edge, Fact, Link, Place, State};
 use crate::reading::{call_at, ending_at, silent_from, sites_from};
@@ -13,7 +14,7 @@ use indexmap::IndexSet;
 use slab::Slab;
 
 // Adds the fact where it isn't there.
-pub fn add(facts: &mut IndexSet<Fact>, fact: Fact) -> Result<(), OutOfMemory>
+pub fn add(facts: &mut FactSet, fact: Fact) -> Result<(), OutOfMemory>
     ensures { OnOk result (Adds facts.old.keys facts.new.keys (λ x. x ≡ fact)) }
 {
     facts.insert(fact)?;
@@ -21,7 +22,7 @@ pub fn add(facts: &mut IndexSet<Fact>, fact: Fact) -> Result<(), OutOfMemory>
 }
 
 // Adds the node with what stands below the fact.
-fn add_at(facts: &mut IndexSet<Fact>, node: u32, place: Place) -> Result<(), OutOfMemory>
+fn add_at(facts: &mut FactSet, node: u32, place: Place) -> Result<(), OutOfMemory>
     ensures { OnOk result (Adds facts.old.keys facts.new.keys (λ x. x ≡ record { node = node; place = place })) }
 {
     add(facts, Fact { node, place })?;
@@ -29,7 +30,7 @@ fn add_at(facts: &mut IndexSet<Fact>, node: u32, place: Place) -> Result<(), Out
 }
 
 fn follow_each_silent(
-    facts: &mut IndexSet<Fact>,
+    facts: &mut FactSet,
     edges: &[SilentEdge],
     place: Place,
 ) -> Result<(), OutOfMemory>
@@ -42,7 +43,7 @@ fn follow_each_silent(
 }
 
 // Adds what silent edges lead to.
-fn follow_silent(facts: &mut IndexSet<Fact>, model: &Model, fact: Fact) -> Result<(), OutOfMemory>
+fn follow_silent(facts: &mut FactSet, model: &Model, fact: Fact) -> Result<(), OutOfMemory>
     ensures { OnOk result (Adds facts.old.keys facts.new.keys (λ y. Has (λ e. IsAlong fact e y) model.now.silent)) }
 {
     follow_each_silent(facts, silent_from(model, fact.node), fact.place)?;
@@ -51,7 +52,7 @@ fn follow_silent(facts: &mut IndexSet<Fact>, model: &Model, fact: Fact) -> Resul
 
 // Adds the entry of a function that is entered.
 fn enter_one(
-    facts: &mut IndexSet<Fact>,
+    facts: &mut FactSet,
     functions: &[ModelFunction],
     function: u32,
 ) -> Result<(), OutOfMemory>
@@ -72,7 +73,7 @@ fn has_ended(ended: &IndexSet<u32>, function: u32) -> bool
 
 // Adds what is returned to, where the exit of the function that the call enters is reached.
 fn return_one(
-    facts: &mut IndexSet<Fact>,
+    facts: &mut FactSet,
     ended: &IndexSet<u32>,
     function: u32,
     to: u32,
@@ -88,7 +89,7 @@ fn return_one(
 
 // Makes the call of one function.
 fn call_one(
-    facts: &mut IndexSet<Fact>,
+    facts: &mut FactSet,
     links: &mut Links,
     ended: &IndexSet<u32>,
     functions: &[ModelFunction],
@@ -105,7 +106,7 @@ fn call_one(
 }
 
 fn call_each(
-    facts: &mut IndexSet<Fact>,
+    facts: &mut FactSet,
     links: &mut Links,
     ended: &IndexSet<u32>,
     functions: &[ModelFunction],
@@ -123,7 +124,7 @@ fn call_each(
 
 // Makes the call at the site.
 fn call_site(
-    facts: &mut IndexSet<Fact>,
+    facts: &mut FactSet,
     links: &mut Links,
     ended: &IndexSet<u32>,
     model: &Model,
@@ -152,7 +153,7 @@ fn call_site(
 }
 
 fn call_each_site(
-    facts: &mut IndexSet<Fact>,
+    facts: &mut FactSet,
     links: &mut Links,
     ended: &IndexSet<u32>,
     model: &Model,
@@ -171,7 +172,7 @@ fn call_each_site(
 // Makes the calls that leave the node of the fact: their functions are entered, and where the exit of
 // one is reached already, the call is returned to.
 fn follow_calls(
-    facts: &mut IndexSet<Fact>,
+    facts: &mut FactSet,
     links: &mut Links,
     ended: &IndexSet<u32>,
     model: &Model,
@@ -217,7 +218,7 @@ fn is_exit_of_one(functions: &[ModelFunction], candidates: &[u32], node: u32) ->
 
 // Adds what is returned to at the end of a function, along an edge of a state that the pool holds.
 fn return_along(
-    facts: &mut IndexSet<Fact>,
+    facts: &mut FactSet,
     model: &Model,
     node: u32,
     edge: Edge,
@@ -233,7 +234,7 @@ fn return_along(
 }
 
 fn return_along_each(
-    facts: &mut IndexSet<Fact>,
+    facts: &mut FactSet,
     model: &Model,
     node: u32,
     edges: &[Edge],
@@ -248,7 +249,7 @@ fn return_along_each(
 
 // Adds what is returned to along the edges of a state that the pool holds, where a function ends.
 fn follow_back(
-    facts: &mut IndexSet<Fact>,
+    facts: &mut FactSet,
     model: &Model,
     states: &Slab<State>,
     fact: Fact,
@@ -279,7 +280,7 @@ fn ending(functions: &[ModelFunction], fact: Fact) -> Option<u32>
     None
 }
 
-fn return_to_each(facts: &mut IndexSet<Fact>, links: &[Link]) -> Result<(), OutOfMemory>
+fn return_to_each(facts: &mut FactSet, links: &[Link]) -> Result<(), OutOfMemory>
     ensures { OnOk result (Adds facts.old.keys facts.new.keys (λ y. Has (λ l. y ≡ record { node = l.to; place = l.place }) links.now)) }
 {
     for link in links {
@@ -304,7 +305,7 @@ fn note_end(
 
 // Adds what is returned to by the calls that enter the function that ends with this fact.
 fn follow_end(
-    facts: &mut IndexSet<Fact>,
+    facts: &mut FactSet,
     links: &Links,
     functions: &[ModelFunction],
     fact: Fact,
@@ -319,7 +320,7 @@ fn follow_end(
 
 // Adds what is one step from the fact, given the calls and the ends that were found before.
 pub fn follow_fact(
-    facts: &mut IndexSet<Fact>,
+    facts: &mut FactSet,
     links: &mut Links,
     ended: &mut IndexSet<u32>,
     model: &Model,

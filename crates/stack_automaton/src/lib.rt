@@ -4,6 +4,7 @@
 
 mod edges;
 mod event;
+mod fact_set;
 mod follow;
 mod key_set;
 mod links;

@@ -27,6 +27,13 @@ impl Links {
         }
     }
 
+    // No function is entered any more. The room stays.
+    pub fn clear(&mut self)
+        ensures { (f : ℕ) (l : Linked) → HasLink self.new f l → ⊥ }
+    {
+        self.lists.clear();
+    }
+
     // A call enters the function.
     pub fn add(&mut self, function: u32, link: Link) -> Result<(), OutOfMemory>
         ensures { OnOk result (AddsLinks self.old self.new (λ f l. (f ≡ function) × (l ≡ link))) }

@@ -13,11 +13,11 @@ ghost use Rattle.stack_automaton.specs.Standing.{IsPool, IsPoolOf, StandsFor, Ex
 ghost use Rattle.stack_automaton.specs.Storing.{Grows};
 
 use crate::Pool;
+use crate::fact_set::FactSet;
 use crate::follow::add;
 use crate::place::{Edge, Fact, Place};
 use dm_base::{Event, OutOfMemory, Step};
 use flow_model::{Model, Monitor, Which};
-use indexmap::IndexSet;
 use std::alloc::Global;
 
 /// The monitor of the abstract-stack model. Seen as its last answer, which is Kept at first and never
@@ -101,10 +101,10 @@ impl StackMonitor {
 }
 
 // The fact with which a run begins.
-fn first_fact(alloc: Global, node: u32, last: usize) -> Result<IndexSet<Fact>, OutOfMemory>
+fn first_fact(alloc: Global, node: u32, last: usize) -> Result<FactSet, OutOfMemory>
     ensures { IfOk result (λ facts. (x : Fact') → Contains facts.keys x ↔ (x ≡ record { node = node; place = Held last })) }
 {
-    let mut facts = IndexSet::new(alloc);
+    let mut facts = FactSet::new(alloc);
     add(
         &mut facts,
         Fact {

@@ -10,19 +10,23 @@ ghost use Rattle.stack_automaton.specs.Standing.{IsPool, IsPoolOf, IsKeyOf, IsLi
 ghost use Rattle.stack_automaton.specs.Storing.{Grows, IsStored};
 
 use crate::event::{begin_at, settle};
+use crate::fact_set::FactSet;
 use crate::key_set::KeySet;
+use crate::links::Links;
 use crate::memo::{Memo, copied};
 use crate::notes::{note_from, sweep_states};
 use crate::place::{Edge, Fact, State};
 use crate::shared::Shared;
 use dm_base::{Event, OutOfMemory};
 use flow_model::Model;
-use indexmap::IndexSet;
 use slab::Slab;
 use std::alloc::Global;
 
-// So many events one after another that make new states are many.
-const LONG: u32 = 8;
+// Of so many events one after another that aren't remembered ..
+const ROUND: u32 = 16_384;
+
+// .. so many are looked up, and remembered then.
+const TRIED: u32 = 1_024;
 
 /// The states of all monitors of a model. Seen as a finite map from keys to lists of edges, with the
 /// final key, at which every stack ends, the keys that are noted for a sweep, and the events whose keys
@@ -36,8 +40,10 @@ pub struct Pool {
     last: usize,
     notes: KeySet,
     memo: Memo,
-    // How many of the events that were stored last made new states, one after another.
-    growths: u32,
+    // Room for the calls of the next event.
+    room: Links,
+    // How many of the last events, one after another, weren't remembered.
+    misses: u32,
 }
 
 impl std::marker::Model for Pool {
@@ -72,7 +78,8 @@ impl Pool {
             last,
             notes,
             memo,
-            growths: 0,
+            room: Links::new(alloc),
+            misses: 0,
         })
     }
 
@@ -107,11 +114,7 @@ impl Pool {
     }
 
     // Stores the states of the event that begins with these facts, and gives the key of its own.
-    pub(crate) fn settle(
-        &mut self,
-        model: &Model,
-        begin: IndexSet<Fact>,
-    ) -> Result<usize, OutOfMemory>
+    pub(crate) fn settle(&mut self, model: &Model, begin: FactSet) -> Result<usize, OutOfMemory>
         requires pool { IsPool self.old }
         requires held { AreHeld begin.keys }
         requires there { (b q : ℕ) → IsFirst begin.keys b q → IsThere (edges_at self.old) q }
@@ -122,23 +125,20 @@ impl Pool {
         ensures stored { IfOk result (λ key. IsStored model.now (edges_at self.old) (edges_at self.new) begin.keys key) }
         ensures there { IfOk result (λ key. IsThere (edges_at self.new) key) }
     {
-        let before = self.states.len();
-        let key = settle(self.alloc, &mut self.states, &mut self.shared, model, begin)?;
-        self.growths = if self.states.len() > before {
-            self.growths.saturating_add(1)
-        } else {
-            0
-        };
+        let key = settle(
+            self.alloc,
+            &mut self.states,
+            &mut self.shared,
+            model,
+            begin,
+            &mut self.room,
+        )?;
+        self.misses = self.misses.wrapping_add(1);
         Ok(key)
     }
 
     // The facts with which the event begins at the key.
-    fn begin_at(
-        &self,
-        model: &Model,
-        key: usize,
-        event: &Event,
-    ) -> Result<IndexSet<Fact>, OutOfMemory>
+    fn begin_at(&self, model: &Model, key: usize, event: &Event) -> Result<FactSet, OutOfMemory>
         requires { IsThere (edges_at self.now) key }
         ensures leads { IfOk result (λ facts. LeadsBy model.now (edges_at self.now) key event.now facts.keys) }
         ensures held { IfOk result (λ facts. AreHeld facts.keys) }
@@ -164,8 +164,15 @@ impl Pool {
         self.memo.note(begin, key);
     }
 
+    // The last event was remembered.
+    fn found_again(&mut self)
+        ensures { self.new ≡ self.old }
+    {
+        self.misses = 0;
+    }
+
     // The key of the event that begins with these facts, by the states that are stored of it.
-    fn arrive_anew(&mut self, model: &Model, begin: IndexSet<Fact>) -> Result<usize, OutOfMemory>
+    fn arrive_anew(&mut self, model: &Model, begin: FactSet) -> Result<usize, OutOfMemory>
         requires pool { IsPoolOf self.old model.now }
         requires held { AreHeld begin.keys }
         requires live { (b q : ℕ) → IsFirst begin.keys b q → LiveAt (edges_at self.old) self.old.final q }
@@ -181,7 +188,7 @@ impl Pool {
 
     // The key of the event that begins with these facts: the one that is remembered, or else that of the
     // states that are stored of it.
-    fn arrive_again(&mut self, model: &Model, begin: IndexSet<Fact>) -> Result<usize, OutOfMemory>
+    fn arrive_again(&mut self, model: &Model, begin: FactSet) -> Result<usize, OutOfMemory>
         requires pool { IsPoolOf self.old model.now }
         requires held { AreHeld begin.keys }
         requires live { (b q : ℕ) → IsFirst begin.keys b q → LiveAt (edges_at self.old) self.old.final q }
@@ -192,6 +199,7 @@ impl Pool {
         ensures key { IfOk result (λ key. IsKeyOf model.now (edges_at self.new) self.old.final begin.keys key) }
     {
         if let Some(key) = self.recalled(begin.as_slice()) {
+            self.found_again();
             return Ok(key);
         }
         let facts = copied(self.memory(), begin.as_slice())?;
@@ -200,9 +208,9 @@ impl Pool {
         Ok(key)
     }
 
-    // The key of the event that begins with these facts. Where one event after another makes new states,
-    // as in a recursion that goes deeper, none of them is met again, and so none is looked up.
-    fn arrive(&mut self, model: &Model, begin: IndexSet<Fact>) -> Result<usize, OutOfMemory>
+    // The key of the event that begins with these facts. Where one event after another isn't remembered, as
+    // in a recursion that goes deeper, or in one that is too deep to be remembered, most aren't looked up.
+    fn arrive(&mut self, model: &Model, begin: FactSet) -> Result<usize, OutOfMemory>
         requires pool { IsPoolOf self.old model.now }
         requires held { AreHeld begin.keys }
         requires live { (b q : ℕ) → IsFirst begin.keys b q → LiveAt (edges_at self.old) self.old.final q }
@@ -212,7 +220,7 @@ impl Pool {
         ensures pool { IsPoolOf self.new model.now }
         ensures key { IfOk result (λ key. IsKeyOf model.now (edges_at self.new) self.old.final begin.keys key) }
     {
-        if self.growths >= LONG {
+        if self.misses % ROUND >= TRIED {
             return self.arrive_anew(model, begin);
         }
         self.arrive_again(model, begin)

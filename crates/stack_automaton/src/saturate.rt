@@ -2,6 +2,7 @@ ghost use Rattle.std.specs.Prelude.{◌≡◌, IfOk};
 ghost use Rattle.slab.specs.Slab.{get};
 ghost use Rattle.stack_automaton.specs.Following.{AreHeld, IsClosure};
 
+use crate::fact_set::FactSet;
 use crate::follow::follow_fact;
 use crate::links::Links;
 use crate::place::{Fact, State};
@@ -14,22 +15,25 @@ use std::alloc::Global;
 // All facts of an event, and the calls that are made at it.
 #[derive(Drop)]
 pub struct Closure {
-    pub facts: IndexSet<Fact>,
+    pub facts: FactSet,
     pub links: Links,
 }
 
-// All facts of the event that begins with these. Each fact is followed once.
+// All facts of the event that begins with these. Each fact is followed once. The calls are put into the room of those of an earlier
+// event.
 pub fn saturate(
     alloc: Global,
     model: &Model,
     states: &Slab<State>,
-    begin: IndexSet<Fact>,
+    begin: FactSet,
+    room: Links,
 ) -> Result<Closure, OutOfMemory>
     requires { AreHeld begin.keys }
     ensures { IfOk result (λ done. IsClosure model.now (get states.now) begin.keys done) }
 {
     let mut facts = begin;
-    let mut links = Links::new(alloc);
+    let mut links = room;
+    links.clear();
     let mut ended = IndexSet::new(alloc);
     // It tells that the model is valid.
     let _nodes = model.nodes();

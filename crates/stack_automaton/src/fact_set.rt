@@ -1,0 +1,158 @@
+ghost use Rattle.std.specs.Prelude.{◌≡◌, ◌↔◌, [], ◌∷◌, ◌++◌, Contains, IsTrue, IfOk, OnOk, OnErr, length};
+ghost use Rattle.stack_automaton.specs.Adding.{Adds};
+ghost use Rattle.stack_automaton.specs.declared.place.Fact.{Fact as Fact'};
+
+use crate::place::Fact;
+use dm_base::OutOfMemory;
+use indexmap::IndexSet;
+use std::alloc::Global;
+
+// So many facts are gone through one after another. Where there are more, an index tells which are there.
+const FEW: usize = 16;
+
+// Different facts, in the order in which they were added. Seen as their list.
+#[derive(Drop)]
+pub struct FactSet {
+    alloc: Global,
+    list: Vec<Fact>,
+    // The facts of the list, where there are more than few.
+    index: IndexSet<Fact>,
+}
+
+impl std::marker::Model for FactSet {
+    ghost use Rattle.stack_automaton.specs.Marks.{Facts, AreIndexed};
+
+    ghost Value = { Facts };
+
+    ghost view = { λ s. record { keys = s.list.items } };
+
+    ghost invariant = { λ s. AreIndexed s.list.items s.index.keys };
+}
+
+// Whether the fact is one of these.
+fn is_one_of(facts: &[Fact], fact: Fact) -> bool
+    ensures { IsTrue result ↔ Contains facts.now fact }
+{
+    facts.contains(&fact)
+}
+
+// Whether the index has the fact.
+fn is_in(index: &IndexSet<Fact>, fact: Fact) -> bool
+    ensures { IsTrue result ↔ Contains index.now.keys fact }
+{
+    index.contains(&fact)
+}
+
+// Puts the fact into the index.
+fn put(index: &mut IndexSet<Fact>, fact: Fact) -> Result<(), OutOfMemory>
+    ensures added { OnOk result (Adds index.old.keys index.new.keys (λ x. x ≡ fact)) }
+    ensures kept { OnErr result (index.new.keys ≡ index.old.keys) }
+{
+    index.insert(fact)?;
+    Ok(())
+}
+
+// The index of these facts alone.
+fn index_of(alloc: Global, facts: &[Fact]) -> Result<IndexSet<Fact>, OutOfMemory>
+    ensures { IfOk result (λ index. (x : Fact') → Contains index.keys x ↔ Contains facts.now x) }
+{
+    let mut index = IndexSet::new(alloc);
+    for fact in facts {
+        put(&mut index, *fact)?;
+    }
+    Ok(index)
+}
+
+// Adds a fact to the list and to the index of its facts.
+fn add_to_both(
+    list: &mut Vec<Fact>,
+    index: &mut IndexSet<Fact>,
+    fact: Fact,
+) -> Result<(), OutOfMemory>
+    requires { (x : Fact') → Contains index.old.keys x ↔ Contains list.old.items x }
+    ensures added { OnOk result (list.new.items ≡ list.old.items ++ fact ∷ []) }
+    ensures kept { OnErr result (list.new.items ≡ list.old.items) }
+    ensures indexed { (x : Fact') → Contains index.new.keys x ↔ Contains list.new.items x }
+{
+    list.push(fact)?;
+    match put(index, fact) {
+        Ok(()) => Ok(()),
+        Err(refused) => {
+            list.pop();
+            Err(refused)
+        }
+    }
+}
+
+impl FactSet {
+    // No fact is in it.
+    pub fn new(alloc: Global) -> FactSet
+        ensures { result.keys ≡ [] }
+    {
+        FactSet {
+            alloc,
+            list: Vec::new(alloc),
+            index: IndexSet::new(alloc),
+        }
+    }
+
+    // The facts.
+    pub fn as_slice(&self) -> &[Fact]
+        ensures { result.now ≡ self.now.keys }
+    {
+        &self.list
+    }
+
+    // Whether there are none.
+    pub fn is_empty(&self) -> bool
+        ensures { IsTrue result ↔ (length self.now.keys ≡ 0) }
+    {
+        self.list.is_empty()
+    }
+
+    // Whether the fact is among them.
+    pub fn contains(&self, fact: Fact) -> bool
+        ensures { IsTrue result ↔ Contains self.now.keys fact }
+    {
+        if self.list.len() > FEW {
+            return is_in(&self.index, fact);
+        }
+        is_one_of(&self.list, fact)
+    }
+
+    // Adds a fact where they are few, so that the index begins.
+    fn begin_index(&mut self, fact: Fact) -> Result<(), OutOfMemory>
+        requires { length self.old.keys ≡ 16 }
+        ensures { OnOk result (self.new.keys ≡ self.old.keys ++ fact ∷ []) }
+    {
+        self.index = index_of(self.alloc, &self.list)?;
+        add_to_both(&mut self.list, &mut self.index, fact)?;
+        Ok(())
+    }
+
+    // Adds a fact at the end.
+    fn push(&mut self, fact: Fact) -> Result<(), OutOfMemory>
+        ensures { OnOk result (self.new.keys ≡ self.old.keys ++ fact ∷ []) }
+    {
+        if self.list.len() < FEW {
+            self.list.push(fact)?;
+            return Ok(());
+        }
+        if self.list.len() == FEW {
+            return self.begin_index(fact);
+        }
+        add_to_both(&mut self.list, &mut self.index, fact)?;
+        Ok(())
+    }
+
+    // Adds the fact where it isn't among them.
+    pub fn insert(&mut self, fact: Fact) -> Result<(), OutOfMemory>
+        ensures { OnOk result (Adds self.old.keys self.new.keys (λ x. x ≡ fact)) }
+    {
+        if self.contains(fact) {
+            return Ok(());
+        }
+        self.push(fact)?;
+        Ok(())
+    }
+}
