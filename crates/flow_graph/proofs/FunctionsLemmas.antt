@@ -32,6 +32,24 @@ dropped_all [] (suc k) le = refl
 dropped_all (t ∷ ts) zero le = absurd (omega (arith, le))
 dropped_all (t ∷ ts) (suc k) le = dropped_all ts k (omega (arith, le))
 
+nodes_least : (n : ℕ) (xs : List Shape) → n ≤ nodes_from n xs
+nodes_least n [] = omega arith
+nodes_least n (S ∷ xs) = let k = nodes_least (n + 2 + width S) xs in omega (arith, k)
+
+-- the nodes past one function more, and those of all
+pub nodes_next : (ts : List Tree) (k : ℕ) (s : Tree) (entry next : ℕ) → k < length ts → s ≡ get_or ts k s → next ≡ entry + 2 + width (shape_of s)
+    → nodes_from entry (shapes_in (drop k ts)) ≡ nodes_from 0 (shapes_in ts) → nodes_from next (shapes_in (drop (k + 1) ts)) ≡ nodes_from 0 (shapes_in ts)
+nodes_next ts k s entry next lt is step before =
+    ap (λ m. nodes_from m (shapes_in (drop (k + 1) ts))) step ∙ ap (nodes_from entry) (sym (dropped ts k s lt is)) ∙ before
+
+-- what is left for a function where there is room for all
+pub nodes_room : (ts : List Tree) (k : ℕ) (s : Tree) (entry most : ℕ) → k < length ts → s ≡ get_or ts k s → nodes_from entry (shapes_in (drop k ts)) ≡ nodes_from 0 (shapes_in ts) → nodes_from 0 (shapes_in ts) < most → entry + 2 + width (shape_of s) < most
+nodes_room ts k s entry most lt is before room =
+    let next = entry + 2 + width (shape_of s) in
+    let all = nodes_next ts k s entry next lt is refl before in
+    let least = nodes_least next (shapes_in (drop (k + 1) ts)) in
+    omega (arith, all, least, room)
+
 -- one function more
 pub function_more : (ts : List Tree) (k : ℕ) (s : Tree) (mid new all : List Edge) (entry exit fresh next : ℕ) → k < length ts → s ≡ get_or ts k s → exit ≡ entry + 1 → fresh ≡ entry + 2
     → mid ++ edges_from entry (shapes_in (drop k ts)) ≡ all → new ≡ mid ++ edges (shape_of s) entry fresh (ends exit) → next ≡ fresh + width (shape_of s) → new ++ edges_from next (shapes_in (drop (k + 1) ts)) ≡ all

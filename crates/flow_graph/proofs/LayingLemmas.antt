@@ -57,6 +57,12 @@ fresh_more ts k s n next new lt is before step =
     let e : widths (parts_of (drop k ts)) ≡ width (shape_of s) + widths (parts_of (drop (k + 1) ts)) = ap widths (dropped ts k s lt is) in
     omega (arith, e, before, step)
 
+-- what is left for a part where there is room for all
+pub fresh_room : (ts : List Tree) (k : ℕ) (s : Tree) (n next most : ℕ) → k < length ts → s ≡ get_or ts k s → next + widths (parts_of (drop k ts)) ≡ n + widths (parts_of ts) → n + widths (parts_of ts) < most → next + width (shape_of s) < most
+fresh_room ts k s n next most lt is before room =
+    let e : widths (parts_of (drop k ts)) ≡ width (shape_of s) + widths (parts_of (drop (k + 1) ts)) = ap widths (dropped ts k s lt is) in
+    omega (arith, e, before, room)
+
 pub laid_end : (ts : List Tree) (k : ℕ) (old new : List Edge) (i n node next : ℕ) (p : Places) → length ts ≤ k → new ++ edges_of_parts (parts_of (drop k ts)) node next p ≡ old ++ edges_of_parts (parts_of ts) i n p → new ≡ old ++ edges_of_parts (parts_of ts) i n p
 laid_end ts k old new i n node next p over is =
     sym (append-nil new) ∙ ap (λ ps. new ++ edges_of_parts ps node next p) (sym (dropped_all ts k over)) ∙ is
@@ -119,3 +125,23 @@ module _ (s : Tree) (t : Box Tree Global) (v : Vec Tree Global) (rest : List Tre
   pub seq_next : (r : Result ℕ OutOfMemory) → IfOk r (λ m. m ≡ next + widths (parts_of rest)) → IfOk r (λ m. m ≡ n + width (shape_of s))
   seq_next (Ok m) end = let w : width (shape_of s) ≡ count (parts_of rest) + width (shape_of f) + widths (parts_of rest) = ap width shape_is in omega (arith, w, from, past, end)
   seq_next (Err x) end = end
+
+-- where there is room for a shape, there is room for its parts
+module _ (s : Tree) (t : Box Tree Global) (v : Vec Tree Global) (rest : List Tree) (n most : ℕ) (is : s ≡ SeqTree t v) (same : rest ≡ v.items) (room : n + width (shape_of s) < most) where
+  seq_room : n + (count (parts_of rest) + width (shape_of t.value) + widths (parts_of rest)) < most
+  seq_room = let w : width (shape_of s) ≡ count (parts_of rest) + width (shape_of t.value) + widths (parts_of rest) = ap width (of_seq s t v rest is same t.value refl) in omega (arith, w, room)
+
+  pub rest_nodes : n + count (parts_of rest) < most
+  rest_nodes = let k = seq_room in omega (arith, k)
+
+  pub first_fits : (f : Tree) (start : ℕ) → f ≡ t.value → start ≡ n + count (parts_of rest) → start + width (shape_of f) < most
+  first_fits f start first from = let k = seq_room in let e : width (shape_of f) ≡ width (shape_of t.value) = ap (λ x. width (shape_of x)) first in omega (arith, k, e, from)
+
+  pub rest_fits : (f : Tree) (start next : ℕ) → f ≡ t.value → start ≡ n + count (parts_of rest) → next ≡ start + width (shape_of f) → next + widths (parts_of rest) < most
+  rest_fits f start next first from past =
+      let k = seq_room in
+      let e : width (shape_of f) ≡ width (shape_of t.value) = ap (λ x. width (shape_of x)) first in
+      omega (arith, k, e, from, past)
+
+pub cases_fit : (s : Tree) (v : Vec Tree Global) (d : Bool) (gs : List Tree) (n most : ℕ) → s ≡ CasesTree v d → gs ≡ v.items → n + width (shape_of s) < most → n + width (Cases (parts_of gs) d) < most
+cases_fit s v d gs n most is same room = let w : width (shape_of s) ≡ width (Cases (parts_of gs) d) = ap width (of_cases s v d gs is same) in omega (arith, w, room)

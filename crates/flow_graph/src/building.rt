@@ -12,6 +12,7 @@ use crate::programs::shapes_of_functions;
 use crate::{BuildError, model_of_shapes};
 use c_tree::Program;
 use call_graph::Calls;
+use dm_base::OutOfMemory;
 use flow_model::Model;
 use std::alloc::Global;
 
@@ -31,6 +32,6 @@ pub fn build(alloc: Global, program: &Program, calls: &Calls) -> Result<Model, B
 {
     match shapes_of_functions(alloc, program, calls) {
         Ok(shapes) => model_of_shapes(alloc, program, calls, &shapes),
-        Err(_) => Err(BuildError::OutOfMemory),
+        Err(OutOfMemory) => Err(BuildError::OutOfMemory),
     }
 }

@@ -1,24 +1,24 @@
 use dm_base::{Pattern, SysName};
 
-/// What is done along an edge.
+// What is done along an edge.
 #[derive(Clone, Copy)]
 pub enum Label {
-    /// Nothing is read.
+    // Nothing is read.
     Silent,
-    /// A system call is read whose recorded arguments fit the pattern.
+    // A system call is read whose recorded arguments fit the pattern.
     System(SysName, Pattern),
-    /// The call at the site is passed.
+    // The call at the site is passed.
     Site(u32),
 }
 
-/// An edge of the graph of shapes.
+// An edge of the graph of shapes.
 #[derive(Clone, Copy)]
 pub struct Edge {
-    /// The node that it leaves.
+    // The node that it leaves.
     pub from: u32,
-    /// What is done along it.
+    // What is done along it.
     pub label: Label,
-    /// The node to which it leads.
+    // The node to which it leads.
     pub to: u32,
 }
 

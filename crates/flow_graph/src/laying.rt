@@ -1,4 +1,4 @@
-ghost use Rattle.std.specs.Prelude.{◌≡◌, ◌+◌, ◌<◌, ◌∷◌, ◌++◌, [], OnOk, IfOk};
+ghost use Rattle.std.specs.Prelude.{◌≡◌, ◌+◌, ◌<◌, ◌^◌, ◌∷◌, ◌++◌, [], OnOk, IfOk};
 ghost use Rattle.c_shapes.specs.Shape.{exit_call, Cases};
 ghost use Rattle.c_shapes.specs.Walks.{Silent, System};
 ghost use Rattle.flow_graph.specs.View.{shape_of, parts_of};
@@ -25,24 +25,13 @@ fn add_silent(into: &mut Vec<Edge>, from: u32, to: u32) -> Result<(), OutOfMemor
     Ok(())
 }
 
-// The node that is so many after it; so many nodes find no memory.
-pub fn after(n: u32, more: u32) -> Result<u32, OutOfMemory>
-    ensures { IfOk result (λ next. next ≡ n + more) }
+// The node past those of so many parts, which stand from n on.
+fn after_each(n: u32, parts: &[Shape]) -> u32
+    requires { n + count (parts_of parts.now) < 2 ^ 32 }
+    ensures { result ≡ n + count (parts_of parts.now) }
 {
-    match n.checked_add(more) {
-        Some(next) => Ok(next),
-        None => Err(OutOfMemory),
-    }
-}
-
-// The node past those of so many parts.
-fn after_each(n: u32, parts: &[Shape]) -> Result<u32, OutOfMemory>
-    ensures { IfOk result (λ next. next ≡ n + count (parts_of parts.now)) }
-{
-    if parts.len() > u32::MAX as usize {
-        return Err(OutOfMemory);
-    }
-    after(n, parts.len() as u32)
+    let many = parts.len() as u32;
+    n + many
 }
 
 // Lays the edges of a shape from the node a, with fresh nodes from n on, and gives the node past them.
@@ -54,6 +43,7 @@ pub fn lay(
     n: u32,
     p: Places,
 ) -> Result<u32, OutOfMemory>
+    requires { n + width (shape_of shape.now) < 2 ^ 32 }
     ensures laid { OnOk result (edges_in into.new.items ≡ edges_in into.old.items ++ edges (shape_of shape.now) a n (places_of p)) }
     ensures next { IfOk result (λ next. next ≡ n + width (shape_of shape.now)) }
 {
@@ -72,7 +62,7 @@ pub fn lay(
             Ok(n)
         }
         Shape::Seq(first, rest) => {
-            let start = after_each(n, rest)?;
+            let start = after_each(n, rest);
             let to = end_of(rest.len(), n, p.to);
             let next = lay(into, first, a, start, Places { to, ..p })?;
             lay_parts(into, rest, n, next, p)
@@ -83,7 +73,7 @@ pub fn lay(
         }
         Shape::Loop(test, body, step) => {
             // The fresh nodes are those of the test, the body and the step.
-            let fresh = after(n, 3)?;
+            let fresh = n + 3;
             add_silent(into, a, n)?;
             add_silent(into, n + 1, p.to)?;
             let inner = Places {
@@ -98,7 +88,7 @@ pub fn lay(
         }
         Shape::Do(body, test) => {
             // The fresh nodes are those of the body and the test, and that after the test.
-            let fresh = after(n, 3)?;
+            let fresh = n + 3;
             add_silent(into, a, n)?;
             add_silent(into, n + 2, n)?;
             add_silent(into, n + 2, p.to)?;
@@ -129,14 +119,14 @@ pub fn lay(
 
 // A call of `_exit`, which leads to a fresh node that nothing leaves.
 fn lay_exit(into: &mut Vec<Edge>, pattern: Pattern, a: u32, n: u32) -> Result<u32, OutOfMemory>
+    requires { n + 1 < 2 ^ 32 }
     ensures laid { OnOk result (edges_in into.new.items ≡ edges_in into.old.items ++ edge a (System exit_call pattern) n ∷ []) }
     ensures next { IfOk result (λ next. next ≡ n + 1) }
 {
-    let next = after(n, 1)?;
     match SysName::from_index(23) {
         Some(name) => {
             add(into, a, Label::System(name, pattern), n)?;
-            Ok(next)
+            Ok(n + 1)
         }
         None => unreachable!(),
     }
@@ -159,13 +149,15 @@ fn lay_parts(
     n: u32,
     p: Places,
 ) -> Result<u32, OutOfMemory>
+    requires nodes { i + count (parts_of parts.now) < 2 ^ 32 }
+    requires fresh { n + widths (parts_of parts.now) < 2 ^ 32 }
     ensures laid { OnOk result (edges_in into.new.items ≡ edges_in into.old.items ++ edges_of_parts (parts_of parts.now) i n (places_of p)) }
     ensures next { IfOk result (λ next. next ≡ n + widths (parts_of parts.now)) }
 {
     let mut node = i;
     let mut next = n;
     for k in 0..parts.len() {
-        let following = after(node, 1)?;
+        let following = node + 1;
         let to = end_of(parts.len() - k - 1, following, p.to);
         next = lay(into, &parts[k], node, next, Places { to, ..p })?;
         node = following;
@@ -175,12 +167,13 @@ fn lay_parts(
 
 // A silent edge from a to each of so many nodes from i on.
 fn lay_to_each(into: &mut Vec<Edge>, a: u32, parts: &[Shape], i: u32) -> Result<(), OutOfMemory>
+    requires { i + count (parts_of parts.now) < 2 ^ 32 }
     ensures { OnOk result (edges_in into.new.items ≡ edges_in into.old.items ++ to_each a (parts_of parts.now) i) }
 {
     let mut node = i;
     for _k in 0..parts.len() {
         add_silent(into, a, node)?;
-        node = after(node, 1)?;
+        node += 1;
     }
     Ok(())
 }
@@ -206,10 +199,11 @@ fn lay_cases(
     n: u32,
     p: Places,
 ) -> Result<u32, OutOfMemory>
+    requires { n + width (Cases (parts_of groups.now) has_default) < 2 ^ 32 }
     ensures laid { OnOk result (edges_in into.new.items ≡ edges_in into.old.items ++ edges (Cases (parts_of groups.now) has_default) a n (places_of p)) }
     ensures next { IfOk result (λ next. next ≡ n + width (Cases (parts_of groups.now) has_default)) }
 {
-    let fresh = after_each(n, groups)?;
+    let fresh = after_each(n, groups);
     lay_to_each(into, a, groups, n)?;
     lay_past(into, has_default, a, p.to)?;
     lay_parts(into, groups, n, fresh, Places { brk: p.to, ..p })

@@ -30,9 +30,7 @@ mod width;
 
 pub use build_error::BuildError;
 pub use building::build;
-pub use edge::{Edge, Label};
-pub use functions::{edges_of, nodes_of};
-pub use lists::{Lists, lists_of};
+pub use functions::nodes_of;
 pub use model::model_of_shapes;
 pub use programs::shapes_of_functions;
 pub use shape::Shape;

@@ -1,25 +1,26 @@
-ghost use Rattle.std.specs.Prelude.{◌≡◌, ◌∷◌, ◌++◌, [], Contains, OnOk, IfOk};
+ghost use Rattle.std.specs.Prelude.{◌≡◌, ◌<◌, ◌^◌, ◌∷◌, ◌++◌, [], Contains, OnOk, IfOk};
 ghost use Rattle.flow_graph.specs.View.{shapes_in};
 ghost use Rattle.flow_graph.specs.Edges.{edge_of, edges_in};
 ghost use Rattle.flow_graph.specs.Lists.{AreLists};
 ghost use Rattle.flow_model.specs.Order.{silent_order, sys_order, StrictlyRise};
-ghost use Rattle.flow_graph_laws.specs.GraphOf.{edges_from, silent_edges, sys_edges};
+ghost use Rattle.flow_graph_laws.specs.GraphOf.{edges_from, nodes_from, silent_edges, sys_edges};
 ghost use Rattle.flow_graph_laws.specs.Sorted.{sorted};
 
 use crate::edge::{Edge, Label};
-use crate::{Shape, edges_of};
+use crate::functions::edges_of;
+use crate::shape::Shape;
 use dm_base::OutOfMemory;
 use flow_model::{SilentEdge, SysEdge};
 use std::alloc::Global;
 use std::cmp::Ordering;
 
-/// The edges of a graph of shapes along which nothing is read, and those along which a system call is read,
-/// in the order of models and each once.
+// The edges of a graph of shapes along which nothing is read, and those along which a system call is read,
+// in the order of models and each once.
 #[derive(Drop)]
 pub struct Lists {
-    /// The silent edges.
+    // The silent edges.
     pub silent: Vec<SilentEdge>,
-    /// The system-call edges.
+    // The system-call edges.
     pub sys: Vec<SysEdge>,
 }
 
@@ -101,8 +102,9 @@ fn sys_in(alloc: Global, edges: &[Edge]) -> Result<Vec<SysEdge>, OutOfMemory>
     Ok(found)
 }
 
-/// The silent and the system-call edges of the graph of functions with these shapes, as a model keeps them.
+// The silent and the system-call edges of the graph of functions with these shapes, as a model keeps them.
 pub fn lists_of(alloc: Global, shapes: &[Shape]) -> Result<Lists, OutOfMemory>
+    requires { nodes_from 0 (shapes_in shapes.now) < 2 ^ 32 }
     ensures { IfOk result (AreLists (edges_from 0 (shapes_in shapes.now))) }
 {
     let edges = edges_of(alloc, shapes)?;

@@ -1,4 +1,4 @@
-ghost use Rattle.std.specs.Prelude.{◌≡◌, ◌<◌, ◌≤◌, ℕ, OnOk, IfOk, IfErr};
+ghost use Rattle.std.specs.Prelude.{◌≡◌, ◌<◌, ◌≤◌, OnOk, IfOk, IfErr};
 ghost use Rattle.c_tree.specs.View.{program_of};
 ghost use Rattle.c_shapes.specs.ShapeOf.{shapes_of_functions};
 ghost use Rattle.c_shapes.specs.ProgramLanguages as programs;
@@ -25,16 +25,6 @@ use std::alloc::Global;
 // The most nodes that a model has.
 const MOST: u32 = 200_000;
 
-// The want of memory, where no rule is broken.
-fn memory_of(error: FinishError) -> OutOfMemory
-    requires { (k : ℕ) → error ≡ FinishError.Invalid k → ⊥ }
-{
-    match error {
-        FinishError::OutOfMemory => OutOfMemory,
-        FinishError::Invalid(_) => unreachable!(),
-    }
-}
-
 // The model of a program that has these shapes and so many nodes.
 fn model_with(
     alloc: Global,
@@ -54,7 +44,9 @@ fn model_with(
     let builder = builder_of(alloc, program, calls, shapes)?;
     match builder.finish(nodes, program.main()) {
         Ok(model) => Ok(model),
-        Err(error) => Err(memory_of(error)),
+        Err(FinishError::OutOfMemory) => Err(OutOfMemory),
+        // The graph breaks no rule of models.
+        Err(FinishError::Invalid(_)) => unreachable!(),
     }
 }
 
@@ -87,6 +79,6 @@ pub fn model_of_shapes(
     }
     match model_with(alloc, program, calls, shapes, nodes) {
         Ok(model) => Ok(model),
-        Err(_) => Err(BuildError::OutOfMemory),
+        Err(OutOfMemory) => Err(BuildError::OutOfMemory),
     }
 }

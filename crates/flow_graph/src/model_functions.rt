@@ -1,8 +1,8 @@
-ghost use Rattle.std.specs.Prelude.{◌≡◌, ◌+◌, ◌<◌, ◌++◌, ◌∷◌, [], length, slice_index_or, OnOk, IfOk};
+ghost use Rattle.std.specs.Prelude.{◌≡◌, ◌+◌, ◌<◌, ◌^◌, ◌++◌, ◌∷◌, [], length, slice_index_or, OnOk, IfOk};
 ghost use Rattle.c_tree.specs.View.{program_of};
 ghost use Rattle.c_shapes.specs.ShapeOf.{taken_calls, names_of_functions};
 ghost use Rattle.flow_graph.specs.View.{shape_of, shapes_in};
-ghost use Rattle.flow_graph_laws.specs.GraphOf.{functions_from};
+ghost use Rattle.flow_graph_laws.specs.GraphOf.{functions_from, nodes_from};
 ghost use Rattle.flow_graph_laws.specs.Layout.{width};
 
 use crate::shape::Shape;
@@ -26,23 +26,12 @@ fn name_at<'p>(program: &'p Program, taken: &[u32], place: usize) -> &'p [u8]
     program.name_of(defined as u32 + taken[place - defined])
 }
 
-// The node that is so many after it; so many nodes find no memory.
-fn after(n: u32, more: u32) -> Result<u32, OutOfMemory>
-    ensures { IfOk result (λ next. next ≡ n + more) }
-{
-    match n.checked_add(more) {
-        Some(next) => Ok(next),
-        None => Err(OutOfMemory),
-    }
-}
-
 // The node past those of a function that begins at this node.
-fn next_entry(entry: u32, shape: &Shape) -> Result<u32, OutOfMemory>
-    ensures { IfOk result (λ next. next ≡ entry + 2 + width (shape_of shape.now)) }
+fn next_entry(entry: u32, shape: &Shape) -> u32
+    requires { entry + 2 + width (shape_of shape.now) < 2 ^ 32 }
+    ensures { result ≡ entry + 2 + width (shape_of shape.now) }
 {
-    let fresh = after(entry, 2)?;
-    let next = after(fresh, width_of(shape, u32::MAX))?;
-    Ok(next)
+    entry + 2 + width_of(shape, u32::MAX)
 }
 
 // Adds a function that begins at this node, and gives the node past its own.
@@ -53,10 +42,11 @@ fn add_function(
     entry: u32,
     shape: &Shape,
 ) -> Result<u32, OutOfMemory>
+    requires { entry + 2 + width (shape_of shape.now) < 2 ^ 32 }
     ensures made { OnOk result (builder.new ≡ record builder.old { functions = builder.old.functions ++ record { name = name.now; entry = entry; exit = entry + 1 } ∷ [] }) }
     ensures next { IfOk result (λ next. next ≡ entry + 2 + width (shape_of shape.now)) }
 {
-    let next = next_entry(entry, shape)?;
+    let next = next_entry(entry, shape);
     let name = Bytes::of(alloc, name)?;
     builder.function(ModelFunction {
         name,
@@ -76,6 +66,7 @@ pub fn add_functions(
 ) -> Result<(), OutOfMemory>
     requires taken { taken.now ≡ taken_calls (program_of program.now) }
     requires many { length shapes.now ≡ length (names_of_functions (program_of program.now)) }
+    requires few { nodes_from 0 (shapes_in shapes.now) < 2 ^ 32 }
     ensures { OnOk result (builder.new ≡ record builder.old { functions = builder.old.functions ++ functions_from 0 (names_of_functions (program_of program.now)) (shapes_in shapes.now) }) }
 {
     let mut entry = 0;

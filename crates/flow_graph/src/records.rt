@@ -1,10 +1,10 @@
-ghost use Rattle.std.specs.Prelude.{◌≡◌, ◌++◌, map, OnOk, IfOk};
+ghost use Rattle.std.specs.Prelude.{◌≡◌, ◌<◌, ◌^◌, ◌++◌, map, OnOk, IfOk};
 ghost use Rattle.c_tree.specs.View.{program_of};
 ghost use Rattle.c_shapes.specs.ShapeOf.{shapes_of_functions, names_of_functions, candidate_places};
 ghost use Rattle.call_graph.specs.Calls.{AreCallsOf};
 ghost use Rattle.flow_graph.specs.View.{shapes_in};
 ghost use Rattle.flow_model.specs.Order.{silent_order, sys_order};
-ghost use Rattle.flow_graph_laws.specs.GraphOf.{functions_from, edges_from, silent_edges, sys_edges};
+ghost use Rattle.flow_graph_laws.specs.GraphOf.{functions_from, edges_from, nodes_from, silent_edges, sys_edges};
 ghost use Rattle.flow_graph_laws.specs.Sorted.{sorted};
 ghost use Rattle.flow_graph.specs.Places.{call_of};
 ghost use Rattle.flow_graph.specs.SiteEdges.{site_edges, site_edge_order};
@@ -50,6 +50,7 @@ pub fn builder_of(
 ) -> Result<ModelBuilder, OutOfMemory>
     requires calls { AreCallsOf (program_of program.now) calls.now }
     requires shapes { shapes_in shapes.now ≡ shapes_of_functions (program_of program.now) }
+    requires few { nodes_from 0 (shapes_in shapes.now) < 2 ^ 32 }
     ensures { IfOk result (λ b. b ≡ record { functions = functions_from 0 (names_of_functions (program_of program.now)) (shapes_in shapes.now); silent = sorted silent_order (silent_edges (edges_from 0 (shapes_in shapes.now))); sys = sorted sys_order (sys_edges (edges_from 0 (shapes_in shapes.now))); calls = map (call_of (candidate_places (program_of program.now))) (sorted site_edge_order (site_edges (edges_from 0 (shapes_in shapes.now)))) }) }
 {
     let taken = taken_of(alloc, program, calls)?;

@@ -1,9 +1,9 @@
-ghost use Rattle.std.specs.Prelude.{◌≡◌, ◌∷◌, ◌++◌, [], Contains, OnOk, IfOk};
+ghost use Rattle.std.specs.Prelude.{◌≡◌, ◌<◌, ◌^◌, ◌∷◌, ◌++◌, [], Contains, OnOk, IfOk};
 ghost use Rattle.std.specs.Ordering.{nat_cmp};
 ghost use Rattle.flow_graph.specs.View.{shapes_in};
 ghost use Rattle.flow_graph.specs.Edges.{edge_of, edges_in};
 ghost use Rattle.flow_model.specs.Order.{StrictlyRise};
-ghost use Rattle.flow_graph_laws.specs.GraphOf.{edges_from};
+ghost use Rattle.flow_graph_laws.specs.GraphOf.{edges_from, nodes_from};
 ghost use Rattle.flow_graph_laws.specs.Sorted.{sorted};
 ghost use Rattle.flow_graph.specs.SiteEdges.{site_edges, site_edge_order};
 
@@ -75,6 +75,7 @@ fn sites_in(alloc: Global, edges: &[Edge]) -> Result<Vec<SiteEdge>, OutOfMemory>
 
 // The edges at sites of the graph of functions with these shapes, in the order of the sites.
 pub fn sites_of(alloc: Global, shapes: &[Shape]) -> Result<Vec<SiteEdge>, OutOfMemory>
+    requires { nodes_from 0 (shapes_in shapes.now) < 2 ^ 32 }
     ensures { IfOk result (λ v. v.items ≡ sorted site_edge_order (site_edges (edges_from 0 (shapes_in shapes.now)))) }
 {
     let edges = edges_of(alloc, shapes)?;
