@@ -13,6 +13,7 @@ use c_check_units::{Output, environment_before};
 use c_check_values::CheckError;
 use c_syntax::Item;
 use dm_base::Mode;
+use dm_counts::Count;
 use std::alloc::Global;
 
 // What is found of a unit: what is known and what stands before behind its items, and what they define.
@@ -28,9 +29,9 @@ fn nothing_before<'t>(alloc: Global) -> Before<'t>
     ensures { before_of result ≡ nothing_before }
 {
     Before {
-        sites: 0,
+        sites: Count::zero(alloc),
         strings: Vec::new(alloc),
-        cells: 0,
+        cells: Count::zero(alloc),
     }
 }
 

@@ -1,4 +1,4 @@
-ghost use Rattle.std.specs.Prelude.{◌≡◌, List, [], ◌∷◌, slice_get, IfOk, OnOk};
+ghost use Rattle.std.specs.Prelude.{◌≡◌, ◌<◌, List, [], ◌∷◌, Some, length, slice_get, IfOk, OnOk};
 ghost use Rattle.c_check_bodies.specs.Repeated.{AddsNumber, HasSeen, is_repeated};
 ghost use Rattle.c_rules.specs.Statements.{are_distinct};
 ghost use Rattle.c_tree.specs.declared.tree.TLabel.{TLabel};
@@ -66,13 +66,11 @@ fn seen_with(seen: Seen, label: TLabel) -> Result<Seen, OutOfMemory>
 }
 
 // The label at a place.
-fn label_at(labels: &[TLabel], place: usize) -> Option<TLabel>
-    ensures { result ≡ slice_get labels.now place }
+fn label_at(labels: &[TLabel], place: usize) -> TLabel
+    requires { place < length labels.now }
+    ensures { Some result ≡ slice_get labels.now place }
 {
-    match labels.get(place) {
-        Some(label) => Some(*label),
-        None => None,
-    }
+    labels[place]
 }
 
 /// Whether the case values are distinct, and at most one label is a default (C99 6.8.4.2 paragraph 3), found in a time that doesn't grow with
@@ -84,9 +82,7 @@ pub fn are_distinct(alloc: Global, labels: &[TLabel]) -> Result<bool, OutOfMemor
     let mut left = labels.len();
     while left > 0 {
         left -= 1;
-        let Some(label) = label_at(labels, left) else {
-            return Err(OutOfMemory);
-        };
+        let label = label_at(labels, left);
         if is_repeated(&seen, label) {
             return Ok(false);
         }

@@ -16,7 +16,7 @@ pub use around::{Around, in_loop, in_switch};
 pub use jumps::{broken_off, continued, returned_value, returned_void};
 pub use labels::are_distinct;
 pub use loops::{do_loop, for_loop, while_loop};
-pub use scopes::{declare_variable, leave_block, leave_names, one_deeper};
+pub use scopes::{declare_variable, leave_block, leave_names};
 pub use statement_tree::{
     StatementTree, StatementTrees, Variables, alone, appended, bare, no_statements, pushed,
 };

@@ -1,4 +1,4 @@
-ghost use Rattle.std.specs.Prelude.{◌≡◌, suc, length, IfOk, OnOk};
+ghost use Rattle.std.specs.Prelude.{◌≡◌, suc, length, OnOk};
 ghost use Rattle.c_check_bodies.specs.Scoped.{Declares};
 ghost use Rattle.c_rules.specs.Scopes.{a_local, with_name};
 ghost use Rattle.c_check_scopes.specs.View.{env_of};
@@ -8,17 +8,8 @@ ghost use Rattle.c_tree.specs.View.{ctype_of};
 use c_check_scopes::{Environment, Meaning};
 use c_tree::{CType, copy_type};
 use dm_base::OutOfMemory;
+use dm_counts::Count;
 use std::alloc::Global;
-
-/// How many blocks enclose what stands one block deeper. `OutOfMemory` comes where there are 2^32.
-pub fn one_deeper(depth: u32) -> Result<u32, OutOfMemory>
-    ensures { IfOk result (λ d. d ≡ suc depth) }
-{
-    match depth.checked_add(1) {
-        Some(deeper) => Ok(deeper),
-        None => Err(OutOfMemory),
-    }
-}
 
 /// Declares a variable with this number, and with its type so far and its type, in the innermost scope (C99 6.2.1).
 pub fn declare_variable<'t>(
@@ -39,7 +30,7 @@ pub fn declare_variable<'t>(
         seen,
         whole,
     };
-    let depth = env.depth;
+    let depth = env.depth.copy()?;
     env.names.declare(name, depth, means)
 }
 
@@ -51,7 +42,7 @@ pub fn leave_names(env: &mut Environment<'_>, count: usize)
 }
 
 /// Leaves a block, back to the so many names that were declared before it, and to what this many blocks enclose (C99 6.2.1 paragraph 4).
-pub fn leave_block(env: &mut Environment<'_>, count: usize, depth: u32)
+pub fn leave_block(env: &mut Environment<'_>, count: usize, depth: Count)
     ensures { (outer : Environment) → Declares (record outer { depth = suc outer.depth }) env.old → length outer.names ≡ count → outer.depth ≡ depth → env.new ≡ outer }
 {
     env.names.leave(count);

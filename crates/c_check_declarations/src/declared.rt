@@ -13,7 +13,7 @@ pub fn declared_here<'e>(env: &'e Environment<'_>, name: &[u8]) -> Option<&'e Me
 {
     match env.names.find(name) {
         Some(entry) => {
-            if entry.depth == env.depth {
+            if entry.depth.is(&env.depth) {
                 return Some(&entry.means);
             }
             None
@@ -30,6 +30,6 @@ pub fn declare<'t>(
 ) -> Result<(), OutOfMemory>
     ensures { OnOk result (env_of env.new ≡ with_name (env_of env.old) name.now (meaning_of means)) }
 {
-    let depth = env.depth;
+    let depth = env.depth.copy()?;
     env.names.declare(name, depth, means)
 }

@@ -1,12 +1,15 @@
-ghost use Rattle.std.specs.Prelude.{◌≡◌, map, false, IfOk, OnOk};
+ghost use Rattle.std.specs.Prelude.{◌≡◌, ◌+◌, ◌≤◌, map, false, IfOk, OnOk};
 ghost use Rattle.c_check_values.specs.Agreement.{AgreesWith};
 ghost use Rattle.c_check_values.specs.View.{constant_of, typed_expression_of};
 ghost use Rattle.c_check_declarations.specs.ObjectView.{cells_seen, object_seen};
 ghost use Rattle.c_rules.specs.Checked.{met};
 ghost use Rattle.c_rules.specs.Initialisers.{value_of_constant, value_of_cell};
 ghost use Rattle.c_rules.specs.Items.{after_object, without_init};
+ghost use Rattle.c_rules.specs.Limits.{most_static_cells};
+ghost use Rattle.c_rules.specs.Scopes.{layout_of};
 ghost use Rattle.c_check_scopes.specs.View.{before_of, env_of};
 ghost use Rattle.c_syntax.specs.UnitView.{maybe_init_of};
+ghost use Rattle.c_tree.specs.Layout.{cells};
 ghost use Rattle.c_tree.specs.View.{ctype_of, static_of};
 
 use crate::types::Object;
@@ -27,22 +30,19 @@ pub fn without_init(m: &Option<Init>) -> Result<(), CheckError>
     }
 }
 
-/// The object's cells stand before what follows. `OutOfMemory` comes too where these are 2^32.
+/// The object's cells, which are within the limit on all of them, stand before what follows.
 pub fn count_object(
     env: &Environment<'_>,
     before: &mut Before<'_>,
     t: &CType,
 ) -> Result<(), OutOfMemory>
+    requires { (before_of before.old).cells + cells (layout_of (env_of env.now)) (ctype_of t.now) ≤ most_static_cells }
     ensures { OnOk result (before_of before.new ≡ after_object (env_of env.now) (before_of before.old) (ctype_of t.now)) }
 {
-    let Some(own) = env.cells(t) else {
-        return Err(OutOfMemory);
-    };
-    let Some(cells) = before.cells.checked_add(own) else {
-        return Err(OutOfMemory);
-    };
-    before.cells = cells;
-    Ok(())
+    match env.cells(t) {
+        Some(own) => before.cells.add(own as usize),
+        None => unreachable!(),
+    }
 }
 
 // The value of a constant.

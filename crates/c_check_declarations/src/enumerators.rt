@@ -5,27 +5,16 @@ ghost use Rattle.c_rules.specs.Checked.{on};
 ghost use Rattle.c_rules.specs.Constants.{number_of};
 ghost use Rattle.c_rules.specs.Declarators.{constant_value};
 ghost use Rattle.c_rules.specs.Items.{int_value};
-ghost use Rattle.c_tree.specs.Operators.{fits_int};
 
 use c_check_values::{C6, CheckError, Constant, TypedExpression, number_of};
-
-// Whether an int can have the number.
-fn fits_int(z: i64) -> bool
-    ensures { result ≡ fits_int z }
-{
-    -2147483648 <= z && z <= 2147483647
-}
 
 /// A value of an enumerator, which is that of an int (C99 6.7.2.2 paragraph 2).
 pub fn enumerator_value(place: u32, z: i64) -> Result<i32, CheckError>
     ensures { AgreesWith (λ v. v) result (int_value place z) }
 {
-    if !fits_int(z) {
-        return Err(CheckError::At(C6, place));
-    }
     match i32::try_from(z) {
         Ok(value) => Ok(value),
-        Err(_) => Err(CheckError::OutOfMemory),
+        Err(_) => Err(CheckError::At(C6, place)),
     }
 }
 

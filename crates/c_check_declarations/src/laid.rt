@@ -1,8 +1,9 @@
-ghost use Rattle.std.specs.Prelude.{◌≡◌, length, map, nat_le, OnOk};
+ghost use Rattle.std.specs.Prelude.{◌≡◌, ◌≤◌, length, map, nat_le};
 ghost use Rattle.c_check_values.specs.Agreement.{AgreesWith};
 ghost use Rattle.c_rules.specs.Items.{struct_laid};
 ghost use Rattle.c_rules.specs.Limits.{most_cells, most_members};
-ghost use Rattle.c_rules.specs.Scopes.{defined_struct, layout_of, type_of_member, with_struct};
+ghost use Rattle.c_rules.specs.Scopes.{defined_struct, incomplete, layout_of, struct_of, tag_number, type_of_member, with_struct};
+ghost use Rattle.c_check_scopes.specs.Held.{AllInAll, IsDefined};
 ghost use Rattle.c_check_scopes.specs.View.{env_of};
 ghost use Rattle.c_check_declarations.specs.Members.{members_of};
 ghost use Rattle.c_syntax.specs.View.{ident_of};
@@ -11,7 +12,6 @@ ghost use Rattle.c_tree.specs.Layout.{cells_of_all};
 use c_check_scopes::{Environment, StructMember};
 use c_check_values::{C13, CheckError};
 use c_syntax::Ident;
-use dm_base::OutOfMemory;
 
 // Whether there aren't too many members.
 #[tactic(auto, using(crate::proofs::MemberLemmas::count_is))]
@@ -49,15 +49,14 @@ pub fn struct_laid(
     Ok(())
 }
 
-/// Gives the struct with this tag its members. `OutOfMemory` comes too where it has a definition, where a member holds a struct without one,
-/// and where it takes 2^32 cells or bytes.
-pub fn define_struct<'t>(
-    env: &mut Environment<'t>,
-    tag: &[u8],
-    members: Vec<StructMember<'t>>,
-) -> Result<(), OutOfMemory>
-    ensures { OnOk result (env_of env.new ≡ with_struct (env_of env.old) tag.now (defined_struct (members_of members.entry.items))) }
+/// Gives the struct with this tag, which has no definition yet, its members: they hold structs with definitions alone, and are within the
+/// limit on the cells of a struct.
+pub fn define_struct<'t>(env: &mut Environment<'t>, tag: &[u8], members: Vec<StructMember<'t>>)
+    requires open { struct_of (env_of env.old) (tag_number (env_of env.old) tag.now) ≡ incomplete }
+    requires known { AllInAll (IsDefined (layout_of (env_of env.old))) (map type_of_member (members_of members.items)) }
+    requires few { cells_of_all (layout_of (env_of env.old)) (map type_of_member (members_of members.items)) ≤ most_cells }
+    ensures { env_of env.new ≡ with_struct (env_of env.old) tag.now (defined_struct (members_of members.entry.items)) }
 {
     let number = env.tag_number(tag);
-    env.structs.define(number, members)
+    env.structs.define(number, members);
 }

@@ -78,9 +78,7 @@ pub fn enter_body<'t>(
 ) -> Result<(), OutOfMemory>
     ensures { OnOk result (env_of env.new ≡ body_env (env_of env.old) (declarator_of d.now) (types_of ts.now)) }
 {
-    let Some(depth) = env.depth.checked_add(1) else {
-        return Err(OutOfMemory);
-    };
+    let depth = env.depth.one_more()?;
     env.depth = depth;
     declare_parameters(alloc, env, 0, parameters_of(d), ts)
 }

@@ -291,19 +291,6 @@ list_counted r new env b t i v is told items h = subst (λ y. OnOk r (new ≡ y)
 pub list_as : (takes count : Bool) (at most n : ℕ) (r : Checked (List TypedExpression)) (gs : List TypedExpression) → takes ≡ true → r ≡ fine gs → nat_le n most ≡ count → cells_of_list takes at most n r ≡ demand count C14 at gs
 list_as takes count at most n r gs p q h = λ i. on (demand (p i) C14 at met) (λ _. on (q i) (λ hs. demand (h i) C14 at hs))
 
--- ## Behind the last element or member
-
-full_turn : (env : Env) (b : Before) (k : Bool) (s : Slots) (i : ℕ) (x : Init) (xs : Inits) → capacity s ≤ i → in_turn env b k (left_from s i) (more_inits x xs) ≡ fine []
-full_turn env b k (copies n u) i x xs le = let none : n - i ≡ 0 = omega (arith, le) in copies_end env b k (n - i) u x xs none
-full_turn env b k (each ts) i x xs le = ap (λ us. in_turn env b k (each us) (more_inits x xs)) (drop_all i ts le)
-
-pub turn_full : (env : Env) (b1 : Before) (k : Bool) (s : Slots) (is : List InitTree) (i : ℕ) (x : InitTree) (done : List TypedExpression) (all : Checked (List TypedExpression)) → i < length is → x ≡ get_or is i x → capacity s ≤ i
-    → all ≡ on (in_turn env b1 k (left_from s i) (inits_of (drop i is))) (λ hs. fine (done ++ hs)) → all ≡ fine done
-turn_full env b1 k s is i x done all lt at le before =
-    before
-    ∙ (ap (λ r. onto_cells done (in_turn env b1 k (left_from s i) r)) (inits_at is i x lt at)
-    ∙ (ap (onto_cells done) (full_turn env b1 k s i (init_of x) (inits_of (drop (i + 1) is)) le) ∙ ap fine (append-nil done)))
-
 many : (n most count : ℕ) → n ≡ count → most < count → nat_le n most ≡ false
 many n most count is lt = grind (arith, nat_tests)
 

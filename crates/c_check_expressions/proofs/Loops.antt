@@ -150,7 +150,7 @@ declares_more a b b' d p same q = (
 )
 
 -- names that were declared are left again
-pub left_again : (a : Environment) (b : Environment) (names : List Bound) (deep : ℕ) → Declares ((λ (w : Environment). record w { depth = deep }) a) b → ((inner : List Bound) (outer : List Bound) → b.names ≡ inner ++ outer → length outer ≡ length a.names → names ≡ outer) → (λ (w : Environment). record w { names = names; depth = a.depth }) b ≡ a
-left_again a b names deep p leave =
+pub left_again : (a : Environment) (b : Environment) (names : List Bound) (deep back : ℕ) → back ≡ a.depth → Declares ((λ (w : Environment). record w { depth = deep }) a) b → ((inner : List Bound) (outer : List Bound) → b.names ≡ inner ++ outer → length outer ≡ length a.names → names ≡ outer) → (λ (w : Environment). record w { names = names; depth = back }) b ≡ a
+left_again a b names deep back was p leave =
     let same : names ≡ a.names = leave p.0 a.names (ap (λ (w : Environment). w.names) p.1) refl in
-    ap (λ (w : Environment). record w { names = names; depth = a.depth }) p.1 ∙ (λ i. record a { names = same i })
+    ap (λ (w : Environment). record w { names = names; depth = back }) p.1 ∙ (λ i. record a { names = same i; depth = was i })

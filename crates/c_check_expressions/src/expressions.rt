@@ -16,7 +16,7 @@ ghost use Rattle.c_tree.specs.View.{ctype_of, types_of};
 
 use crate::counting::{next_site, next_string, nothing_before};
 use crate::designators::direct_callee;
-use crate::forms::{declare_parameter, is_void_pointer, one_deeper, place_or};
+use crate::forms::{declare_parameter, is_void_pointer, place_or};
 use crate::nodes::{comma_given, index_given, integer_given, member_behind, unary_given};
 use c_check_assignments::{
     assignable, assignment_by, cast_of, null_cast, size_of_expression, size_of_type, step,
@@ -30,8 +30,8 @@ use c_syntax::{Declarator, DeclaratorKind, Expr, ExprKind, Param, Spec, TypeName
 use c_tree::{BinOp, CType};
 use std::alloc::Global;
 
-/// What an expression gives, where so much of the unit stands before it (C99 6.5). `OutOfMemory` comes too where the calls or the cells of
-/// strings before its end aren't fewer than 2^32.
+/// What an expression gives, where so much of the unit stands before it (C99 6.5). `OutOfMemory` comes too where the number of a string isn't
+/// below 2^32.
 #[cycle(expression)]
 pub fn tree<'t>(
     alloc: Global,
@@ -124,8 +124,7 @@ pub fn tree<'t>(
     }
 }
 
-/// The value of an expression (C99 6.3.2.1). `OutOfMemory` comes too where the calls or the cells of strings before its end aren't fewer
-/// than 2^32.
+/// The value of an expression (C99 6.3.2.1). `OutOfMemory` comes too where the number of a string isn't below 2^32.
 #[cycle(expression)]
 pub fn value<'t>(
     alloc: Global,
@@ -395,9 +394,9 @@ fn parameters_apart<'t>(
     ensures judged { AgreesWith (λ v. types_of v.items) result (parameters (inside (env_of env.old)) 0 (params_of params.now)) }
     ensures kept { OnOk result (env.new ≡ env.old) }
 {
-    let outer = env.depth;
+    let outer = env.depth.copy()?;
     let count = env.names.len();
-    let depth = one_deeper(outer)?;
+    let depth = env.depth.one_more()?;
     env.depth = depth;
     let types = parameters(alloc, env, params)?;
     env.names.leave(count);

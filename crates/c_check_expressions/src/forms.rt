@@ -72,16 +72,6 @@ fn name_in(d: &Option<Declarator>) -> Option<&Ident>
     }
 }
 
-// How many blocks enclose what stands one scope deeper. `OutOfMemory` comes where there are 2^32.
-pub fn one_deeper(depth: u32) -> Result<u32, OutOfMemory>
-    ensures { IfOk result (λ d. d ≡ suc depth) }
-{
-    match depth.checked_add(1) {
-        Some(deeper) => Ok(deeper),
-        None => Err(OutOfMemory),
-    }
-}
-
 // Declares a variable with this number and type (C99 6.2.1 paragraph 7).
 fn declare_variable<'t>(
     alloc: Global,
@@ -100,7 +90,7 @@ fn declare_variable<'t>(
         seen,
         whole,
     };
-    let depth = env.depth;
+    let depth = env.depth.copy()?;
     env.names.declare(x.name.as_slice(), depth, means)
 }
 

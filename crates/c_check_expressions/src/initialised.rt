@@ -80,11 +80,8 @@ fn in_turn<'t>(
     let mut cells = Vec::new(alloc);
     let mut place = 0usize;
     for i in inits {
-        if place >= capacity(slots) {
-            return Ok(cells);
-        }
         let Some(t) = slot_at(slots, place) else {
-            return Err(CheckError::OutOfMemory);
+            return Ok(cells);
         };
         let mut one = initialised(alloc, env, before, is_static, i, t)?;
         cells.append(&mut one)?;

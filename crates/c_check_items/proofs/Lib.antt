@@ -1,5 +1,6 @@
 pub mod Enumerators
 pub mod FunctionTypes
+pub mod HeldStructs
 pub mod Loops
 pub mod Moves
 pub mod Outputs

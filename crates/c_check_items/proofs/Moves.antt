@@ -1,6 +1,7 @@
 -- What is found where something is known by other words, and how a part ends by the parts that it is made of.
-use Rattle.std.proofs.Common.{◌≡◌, zero, suc, List, [], ◌∷◌, ◌++◌, map, true, false, Result, Ok, Err, OnOk, refl, ap, sym, subst, ◌∙◌, append-nil}
-use Rattle.std.specs.Prelude.{slice_get, unwrap_or}
+use Rattle.std.proofs.Common.{◌≡◌, ◌+◌, ◌≤◌, ℕ, zero, suc, arith, List, [], ◌∷◌, ◌++◌, map, Bool, true, false, not, ◌&&◌, Result, Ok, Err, OnOk, refl, ap, sym, subst, ◌∙◌, append-nil}
+use Rattle.std.specs.Prelude.{nat_le, slice_get, unwrap_or}
+use Rattle.std.proofs.lemmas.Bool.Decides.{nat_tests}
 use Rattle.c_check_values.specs.declared.error.CheckError.{CheckError}
 use Rattle.c_check_values.specs.declared.typed_expression.TypedExpression.{TypedExpression as TypedExpressionTree}
 use Rattle.c_check_values.specs.View.{typed_expression_of}
@@ -8,14 +9,19 @@ use Rattle.c_check_values.specs.Agreement.{AgreesWith, Names}
 use Rattle.c_check_values.proofs.Parts.{names_on, names_first, names_second}
 use Rattle.c_check_items.proofs.Turns.{not_fine}
 use Rattle.c_check_units.specs.Scoped.{IsWithin}
-use Rattle.c_rules.specs.Checked.{Checked, fine, faulty, faults, on, both, gives, Met, met}
+use Rattle.c_rules.specs.Checked.{Checked, fine, faulty, faults, and_also, demand, on, both, gives, Met, met}
+use Rattle.c_rules.specs.Codes.{C2, C13}
+use Rattle.c_rules.specs.Limits.{most_static_cells}
+use Rattle.c_tree.specs.Layout.{cells}
+use Rattle.c_rules.proofs.Modes.{demand_met, first_fine as parts_fine}
+use Rattle.c_check_scopes.proofs.NumberLemmas.{not_so}
 use Rattle.c_check_declarations.specs.ObjectView.{cells_seen}
 use Rattle.c_rules.specs.TypedExpression.{TypedExpression}
 use Rattle.c_rules.specs.Initialisers.{Slots, copies, each, slots, members_of_struct, held, held_in_turn, held_by, initialised_static, value_of_cell}
-use Rattle.c_rules.specs.Items.{Output, after_object, global, static_of, within_global}
-use Rattle.c_rules.specs.Names.{Name}
-use Rattle.c_rules.specs.Objects.{Object}
-use Rattle.c_rules.specs.Scopes.{Env, Before, Meaning, incomplete, with_name}
+use Rattle.c_rules.specs.Items.{Output, after_object, few_static, free_tag, global, global_declared, global_object, is_incomplete, object_name, members, new_struct, static_of, struct_definition, struct_laid, within_global}
+use Rattle.c_rules.specs.Names.{Name, is_among}
+use Rattle.c_rules.specs.Objects.{Object, object_declared}
+use Rattle.c_rules.specs.Scopes.{Env, Before, Meaning, Struct, incomplete, unknown_struct, defined_struct, layout_of, struct_of, tag_number, with_name}
 use Rattle.c_syntax.specs.Tree.{Ident, Init, one, list, MaybeInit, no_init, an_init}
 use Rattle.c_syntax.specs.Tree as syntax
 use Rattle.c_tree.specs.declared.value.Value.{Value}
@@ -136,3 +142,38 @@ first_fine (faulty f fs) q b h = absurd (not_fine f (fs ++ faults q) b h)
 pub viewed_ends : {X A B M : Type 0} (view : X → A) (f : A → B) (result : Result X CheckError) (p : Checked M) (q : Checked A) (m : M) → p ≡ fine m → AgreesWith view result q → AgreesWith (λ x. f (view x)) result (both p q (λ _ a. fine (f a)))
 viewed_ends view f (Ok x) p q m first h = λ i. both (first i) (h i) (λ _ a. fine (f a))
 viewed_ends view f (Err e) p q m first h = names_second e p q (λ _ a. fine (f a)) h
+
+-- ## A struct that gets its definition
+
+opened : (s : Struct) → is_incomplete s ≡ true → s ≡ incomplete
+opened incomplete h = refl
+opened (unknown_struct f fs) h = absurd (not_so h)
+opened (defined_struct ms) h = absurd (not_so h)
+
+first_true : (a b : Bool) → (a && b) ≡ true → a ≡ true
+first_true true b h = refl
+first_true false b h = absurd (not_so h)
+
+pub was_open : (env : Env) (x : Ident) (ms : syntax.Members) (s : Struct) → struct_definition env x ms ≡ fine s → struct_of env (tag_number env x.name) ≡ incomplete
+was_open env x ms s h =
+    let outer = parts_fine (new_struct env x) (on (members env [] ms) (struct_laid env x)) (λ _ r. fine r) s h in
+    let inner = parts_fine (free_tag env x) (demand (is_incomplete (struct_of env (tag_number env x.name)) && not (is_among env.enums x.name)) C2 x.at met) (λ _ _. fine met) outer.0 outer.2 in
+    opened (struct_of env (tag_number env x.name)) (first_true _ _ (demand_met (is_incomplete (struct_of env (tag_number env x.name)) && not (is_among env.enums x.name)) C2 x.at met inner.1 inner.3))
+
+-- ## An object that is defined
+
+gives_fine : {A B : Type 0} (p : Checked A) (f : A → B) (b : B) → gives p f ≡ fine b → IsFine p
+gives_fine (fine a) f b h = record { value = a; is = refl }
+gives_fine (faulty g gs) f b h = absurd (not_fine g gs b h)
+
+pub at_most : (n m : ℕ) → nat_le n m ≡ true → n ≤ m
+at_most n m h = grind (arith, nat_tests, h)
+
+-- its cells are within the limit on all of them
+pub within_limit : (env : Env) (b : Before) (at : ℕ) (s : syntax.Spec) (d : syntax.Declarator) (x : Ident) (m : MaybeInit) (o : Object) → object_declared env at s d x m ≡ fine o → global_declared env true b at s d x m ≡ fine o
+    → b.cells + cells (layout_of env) o.whole ≤ most_static_cells
+within_limit env b at s d x m o declared h =
+    let found : global_object env true b x o ≡ fine o = sym (ap (λ r. on r (global_object env true b x)) declared) ∙ h in
+    let demands = gives_fine (and_also (object_name env true x o.whole) (few_static env true b x o.whole)) (λ _. o) o found in
+    let parts = parts_fine (object_name env true x o.whole) (few_static env true b x o.whole) (λ _ _. fine met) demands.value demands.is in
+    at_most (b.cells + cells (layout_of env) o.whole) most_static_cells (demand_met (nat_le (b.cells + cells (layout_of env) o.whole) most_static_cells) C13 x.at met parts.1 parts.3)

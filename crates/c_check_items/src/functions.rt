@@ -50,7 +50,7 @@ fn body_laid<'t>(
     ensures counted { OnOk result (before_of before.new ≡ past (before_of before.old) (calls_of_block (items_of_body (stmt_of body.now))) (held_by_block (body_env (env_of env.old) (declarator_of d.now) (types_of types.now)) (body_numbers (declarator_of d.now) (items_of_body (stmt_of body.now))) (items_of_body (stmt_of body.now)))) }
 {
     let count = count_names(env);
-    let depth = env.depth;
+    let depth = env.depth.copy()?;
     let numbers = body_numbers(alloc, d, body)?;
     enter_body(alloc, env, d, types)?;
     let laid = body_of(alloc, env, before, returns, numbers, body)?;

@@ -1,4 +1,4 @@
-ghost use Rattle.std.specs.Prelude.{◌≡◌, [], ◌∷◌, true, OnOk};
+ghost use Rattle.std.specs.Prelude.{◌≡◌, ◌+◌, ◌≤◌, [], ◌∷◌, true, OnOk};
 ghost use Rattle.c_check_values.specs.Agreement.{AgreesWith};
 ghost use Rattle.c_check_initialisers.specs.CellView.{typed_expressions_of};
 ghost use Rattle.c_check_declarations.specs.ObjectView.{object_seen};
@@ -6,10 +6,13 @@ ghost use Rattle.c_rules.specs.Checked.{fine};
 ghost use Rattle.c_rules.specs.Counts.{past};
 ghost use Rattle.c_rules.specs.Initialisers.{calls_of_maybe_init, held_by, initialised_static};
 ghost use Rattle.c_rules.specs.Items.{after_global, after_object, behind_global, global, global_declared, within_global};
+ghost use Rattle.c_rules.specs.Limits.{most_static_cells};
 ghost use Rattle.c_rules.specs.Objects.{object_declared};
+ghost use Rattle.c_rules.specs.Scopes.{layout_of};
 ghost use Rattle.c_check_scopes.specs.View.{before_of, env_of};
 ghost use Rattle.c_syntax.specs.UnitView.{maybe_init_of};
 ghost use Rattle.c_syntax.specs.View.{declarator_of, ident_of, spec_of};
+ghost use Rattle.c_tree.specs.Layout.{cells};
 ghost use Rattle.c_tree.specs.View.{ctype_of, static_of};
 
 use crate::globals::global_declared;
@@ -31,12 +34,13 @@ fn cells_of_object<'t>(
     m: &'t Option<Init>,
     o: &Object,
 ) -> Result<Vec<TypedExpression>, CheckError>
+    requires { (before_of before.old).cells + cells (layout_of (env_of env.old)) (ctype_of o.now.whole) ≤ most_static_cells }
     ensures judged { AgreesWith (λ v. typed_expressions_of v.items) result (initialised_static (within_global (env_of env.old) true (ident_of x.now) (fine (object_seen o.now))) (after_object (env_of env.old) (before_of before.old) (ctype_of o.now.whole)) (ctype_of o.now.whole) (maybe_init_of m.now)) }
     ensures kept { OnOk result (env_of env.new ≡ env_of env.old) }
     ensures counted { OnOk result (before_of before.new ≡ past (after_object (env_of env.old) (before_of before.old) (ctype_of o.now.whole)) (calls_of_maybe_init (maybe_init_of m.now)) (held_by (env_of env.old) (ctype_of o.now.whole) (maybe_init_of m.now))) }
 {
     let count = count_names(env);
-    let depth = env.depth;
+    let depth = env.depth.copy()?;
     declare_within(alloc, env, true, x, o)?;
     count_object(env, before, &o.whole)?;
     let cells = initialised_static(alloc, env, before, &o.whole, m)?;

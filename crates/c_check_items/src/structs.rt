@@ -55,7 +55,7 @@ pub fn struct_item<'t>(
     ensures behind { OnOk result (env_of env.new ≡ with_struct (env_of env.old) x.now.name (struct_or_unknown (struct_definition (env_of env.old) (ident_of x.now) (listed_members ms.now)))) }
 {
     let members = struct_definition(alloc, env, x, ms)?;
-    define_struct(env, x.name.as_slice(), members)?;
+    define_struct(env, x.name.as_slice(), members);
     Ok(())
 }
 

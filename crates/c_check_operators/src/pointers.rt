@@ -49,7 +49,7 @@ pub fn moved_on(
 ) -> Result<TypedExpression, OutOfMemory>
     ensures { IfOk result (λ r. typed_expression_of r ≡ moved_on pointer_first (typed_expression_of p) (typed_expression_of k)) }
 {
-    let constant = constant_moved_on(p.constant, k.constant)?;
+    let constant = constant_moved_on(p.constant, k.constant);
     let ctype = copy_type(alloc, &p.ctype)?;
     if pointer_first {
         return pointer_sum(alloc, ctype, true, false, p, k, constant);
@@ -65,7 +65,7 @@ pub fn moved_back(
 ) -> Result<TypedExpression, OutOfMemory>
     ensures { IfOk result (λ r. typed_expression_of r ≡ moved_back (typed_expression_of p) (typed_expression_of k)) }
 {
-    let constant = constant_moved_back(p.constant, k.constant)?;
+    let constant = constant_moved_back(p.constant, k.constant);
     let ctype = copy_type(alloc, &p.ctype)?;
     pointer_sum(alloc, ctype, true, true, p, k, constant)
 }

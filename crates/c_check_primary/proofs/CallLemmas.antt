@@ -1,7 +1,7 @@
 -- Arguments of calls, and types of what is called.
 use Rattle.std.proofs.Common.{◌≡◌, ℕ, ◌+◌, ◌<◌, ◌≤◌, Bool, ◌&&◌, true, false, suc, List, [], ◌∷◌, ◌++◌, length, map, drop, get_or, Vec, Global, Result, Ok, Err, refl, ap, sym, ◌∙◌, arith}
 use Rattle.std.specs.Prelude.{Box, nat_eq, IfOk}
-use Rattle.std.proofs.lemmas.List.{map-append, length-append, length-map, drop_all}
+use Rattle.std.proofs.lemmas.List.{length-append, length-map, drop_all}
 use Rattle.c_tree.specs.declared.tree.CType.{CType as TypeTree}
 use Rattle.c_tree.specs.declared.tree.CType.TheVariants.{Function}
 use Rattle.c_tree.specs.declared.tree.TExpr.{TExpr}

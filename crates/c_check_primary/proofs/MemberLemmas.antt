@@ -1,12 +1,12 @@
 -- The number of a member's name.
 use Rattle.std.proofs.Common.{◌≡◌, ℕ, ◌+◌, ◌<◌, ◌≤◌, Bool, true, false, cond, zero, suc, List, [], ◌∷◌, length, map, drop, get_or, Option, Some, None, refl, ap, sym, ◌∙◌, arith}
-use Rattle.std.specs.Prelude.{option_map, bytes_eq, IfSome, slice_index_or}
+use Rattle.std.specs.Prelude.{option_map, bytes_eq, slice_index_or}
 use Rattle.std.proofs.lemmas.List.{drop_all}
 use Rattle.c_check_scopes.specs.declared.structs.StructMember.{StructMember}
 use Rattle.c_check_scopes.specs.Known.{Known, type_of}
 use Rattle.c_check_scopes.specs.Shown.{knowns_of, members_types}
 use Rattle.c_rules.specs.Scopes.{type_of_member}
-use Rattle.c_tree.specs.Layout.{Structs, first_cell}
+use Rattle.c_tree.specs.Layout.{Structs, cells, first_cell}
 use Rattle.c_tree.specs.Tree.{void}
 use Rattle.c_tree.specs.View.{ctype_of}
 use Rattle.c_check_values.proofs.PartsOfTypes.{at_place}
@@ -66,6 +66,8 @@ type_is [] k m h q = absurd (omega (arith, h))
 type_is (x ∷ ms) zero m h q = ap (λ y. ctype_of y.ctype) q
 type_is (x ∷ ms) (suc k) m h q = type_is ms k m (omega (arith, h)) q
 
-pub cell_told : (r : Option ℕ) (l : Structs) (ms : List StructMember) (k : ℕ) → IfSome r (λ n. n ≡ first_cell l (members_types ms) k) → IfSome r (λ n. n ≡ first_cell l (map type_of_member (map member_seen (knowns_of ms))) k)
-cell_told None l ms k h = tt
-cell_told (Some n) l ms k h = h ∙ ap (λ ts. first_cell l ts k) (sym (types_are ms))
+pub cell_told : (n : ℕ) (l : Structs) (ms : List StructMember) (k : ℕ) → n ≡ first_cell l (members_types ms) k → n ≡ first_cell l (map type_of_member (map member_seen (knowns_of ms))) k
+cell_told n l ms k h = h ∙ ap (λ ts. first_cell l ts k) (sym (types_are ms))
+
+pub cells_told : (n : ℕ) (l : Structs) (ms : List StructMember) (k : ℕ) → n ≡ cells l (slice_index_or (members_types ms) k void) → n ≡ cells l (slice_index_or (map type_of_member (map member_seen (knowns_of ms))) k void)
+cells_told n l ms k h = h ∙ ap (λ ts. cells l (slice_index_or ts k void)) (sym (types_are ms))

@@ -1,4 +1,4 @@
-ghost use Rattle.std.specs.Prelude.{◌≡◌, map, IfOk};
+ghost use Rattle.std.specs.Prelude.{◌≡◌, ◌≤◌, map, IfOk};
 ghost use Rattle.c_check_values.specs.Agreement.{AgreesWith};
 ghost use Rattle.c_check_values.specs.View.{typed_expression_of};
 ghost use Rattle.c_check_primary.specs.CalleeView.{callee_of, designator_of};
@@ -16,11 +16,13 @@ use c_check_scopes::{Context, Environment};
 use c_check_values::{C3, C5, C6, C13, CheckError, Constant, TypedExpression, typed_value};
 use c_tree::{CType, TExpr, TExprKind, copy_type, copy_types};
 use dm_base::{Mode, OutOfMemory};
+use dm_counts::Count;
 use std::alloc::Global;
 
 // The limit on the call expressions of a unit.
 fn most_calls(mode: Mode) -> u32
-    ensures { result ≡ most_calls mode }
+    ensures is { result ≡ most_calls mode }
+    ensures few { result ≤ 30000 }
 {
     match mode {
         Mode::Plain => 10_000,
@@ -29,15 +31,19 @@ fn most_calls(mode: Mode) -> u32
 }
 
 /// The site of a call; no call stands in the operand of `sizeof`, and one that is folded has no site.
-pub fn site_of(env: &Environment<'_>, site: u32, at: u32) -> Result<u32, CheckError>
-    ensures { AgreesWith (λ n. n) result (site_of (env_of env.now) site at) }
+pub fn site_of(env: &Environment<'_>, site: &Count, at: u32) -> Result<u32, CheckError>
+    ensures { AgreesWith (λ n. n) result (site_of (env_of env.now) site.now at) }
 {
     match env.context {
         Context::Evaluated => {
-            if site >= most_calls(env.mode) {
+            let most = most_calls(env.mode);
+            let Some(number) = site.number() else {
+                return Err(CheckError::At(C13, at));
+            };
+            if number >= most {
                 return Err(CheckError::At(C13, at));
             }
-            Ok(site)
+            Ok(number)
         }
         Context::Sized => Err(CheckError::At(C6, at)),
         Context::Folded => Ok(0),

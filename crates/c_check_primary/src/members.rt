@@ -1,14 +1,14 @@
-ghost use Rattle.std.specs.Prelude.{◌≡◌, map, IfOk, IfSome, slice_index_or};
+ghost use Rattle.std.specs.Prelude.{◌≡◌, ◌<◌, ◌^◌, length, map, IfOk, IfSome, slice_index_or};
 ghost use Rattle.c_check_values.specs.Agreement.{AgreesWith};
 ghost use Rattle.c_check_values.specs.View.{typed_expression_of};
-ghost use Rattle.c_check_scopes.specs.Shown.{knowns_of};
+ghost use Rattle.c_check_scopes.specs.Shown.{knowns_of, members_types};
 ghost use Rattle.c_rules.specs.Constants.{constant_member};
 ghost use Rattle.c_rules.specs.TypedExpression.{a_place, tree_of};
 ghost use Rattle.c_rules.specs.Names.{number_among};
 ghost use Rattle.c_rules.specs.PostfixExpressions.{name_of_member, member_given, member_of_struct, member_of};
 ghost use Rattle.c_rules.specs.Scopes.{layout_of, struct_of, type_of_member};
 ghost use Rattle.c_check_scopes.specs.View.{env_of, member_of as member_seen};
-ghost use Rattle.c_tree.specs.Layout.{first_cell};
+ghost use Rattle.c_tree.specs.Layout.{cells, cells_of_all, first_cell};
 ghost use Rattle.c_tree.specs.Tree.{field, void};
 ghost use Rattle.c_tree.specs.View.{ctype_of};
 
@@ -20,7 +20,8 @@ use std::alloc::Global;
 
 // The number of the member with this name.
 fn number_of(members: &[StructMember<'_>], name: &[u8]) -> Option<usize>
-    ensures { result ≡ number_among (map name_of_member (map member_seen (knowns_of members.now))) name.now }
+    ensures within { IfSome result (λ k. k < length members.now) }
+    ensures told { result ≡ number_among (map name_of_member (map member_seen (knowns_of members.now))) name.now }
 {
     for i in 0..members.len() {
         if members[i].name == name {
@@ -31,20 +32,29 @@ fn number_of(members: &[StructMember<'_>], name: &[u8]) -> Option<usize>
 }
 
 // The type of the member with this number.
-fn type_at<'m>(members: &'m [StructMember<'_>], k: usize) -> Option<&'m CType>
-    ensures { IfSome result (λ t. ctype_of t.now ≡ slice_index_or (map type_of_member (map member_seen (knowns_of members.now))) k void) }
+fn type_at<'m>(members: &'m [StructMember<'_>], k: usize) -> &'m CType
+    requires { k < length members.now }
+    ensures { ctype_of result.now ≡ slice_index_or (map type_of_member (map member_seen (knowns_of members.now))) k void }
 {
-    if k >= members.len() {
-        return None;
-    }
-    Some(&members[k].ctype)
+    &members[k].ctype
 }
 
-// The first cell of the member with this number, where it is below 2^32.
-fn cell_at(env: &Environment<'_>, members: &[StructMember<'_>], k: usize) -> Option<u32>
-    ensures { IfSome result (λ n. n ≡ first_cell (layout_of (env_of env.now)) (map type_of_member (map member_seen (knowns_of members.now))) k) }
+// The first cell of the member with this number.
+fn cell_at(env: &Environment<'_>, members: &[StructMember<'_>], k: usize) -> u32
+    requires within { k < length members.now }
+    requires few { cells_of_all (layout_of (env_of env.now)) (members_types members.now) < 2 ^ 32 }
+    ensures { result ≡ first_cell (layout_of (env_of env.now)) (map type_of_member (map member_seen (knowns_of members.now))) k }
 {
     env.first_cell(members, k)
+}
+
+// How many cells the member with this number has.
+fn cells_at(env: &Environment<'_>, members: &[StructMember<'_>], k: usize) -> u32
+    requires within { k < length members.now }
+    requires few { cells_of_all (layout_of (env_of env.now)) (members_types members.now) < 2 ^ 32 }
+    ensures { result ≡ cells (layout_of (env_of env.now)) (slice_index_or (map type_of_member (map member_seen (knowns_of members.now))) k void) }
+{
+    env.member_cells(members, k)
 }
 
 // A member of this type that begins at this cell of its struct and has so many.
@@ -71,7 +81,7 @@ fn member_placed(
     })
 }
 
-// The member with this number. `OutOfMemory` comes too where there is none, and where a cell's number isn't below 2^32.
+// The member with this number. `OutOfMemory` comes too where the number of a cell of a constant address isn't below 2^32.
 fn member_given(
     alloc: Global,
     env: &Environment<'_>,
@@ -79,17 +89,13 @@ fn member_given(
     g: TypedExpression,
     k: usize,
 ) -> Result<TypedExpression, OutOfMemory>
+    requires within { k < length members.now }
+    requires few { cells_of_all (layout_of (env_of env.now)) (members_types members.now) < 2 ^ 32 }
     ensures { IfOk result (λ r. typed_expression_of r ≡ member_given (env_of env.now) (map member_seen (knowns_of members.now)) (typed_expression_of g) k) }
 {
-    let Some(t) = type_at(members, k) else {
-        return Err(OutOfMemory);
-    };
-    let Some(first) = cell_at(env, members, k) else {
-        return Err(OutOfMemory);
-    };
-    let Some(cells) = env.cells(t) else {
-        return Err(OutOfMemory);
-    };
+    let t = type_at(members, k);
+    let first = cell_at(env, members, k);
+    let cells = cells_at(env, members, k);
     member_placed(alloc, t, first, cells, g)
 }
 
@@ -108,7 +114,10 @@ fn member_of_struct(
         None => Err(CheckError::At(C1, at)),
         Some(members) => match number_of(members, name) {
             None => Err(CheckError::At(C1, at)),
-            Some(k) => Ok(member_given(alloc, env, members, g, k)?),
+            Some(k) => {
+                env.have_few_cells(s);
+                Ok(member_given(alloc, env, members, g, k)?)
+            }
         },
     }
 }

@@ -1,4 +1,4 @@
-ghost use Rattle.std.specs.Prelude.{◌≡◌, map, IfOk};
+ghost use Rattle.std.specs.Prelude.{◌≡◌, ◌≤◌, length, map, nat_eq, IfOk};
 ghost use Rattle.c_check_values.specs.View.{typed_expression_of};
 ghost use Rattle.c_rules.specs.PostfixExpressions.{all_fit, as_many_as, passed};
 ghost use Rattle.c_tree.specs.View.{exprs_of, types_of};
@@ -11,7 +11,8 @@ use std::alloc::Global;
 // Whether there are as many arguments as parameters (C99 6.5.2.2 paragraph 2).
 #[tactic(auto, using(crate::proofs::CallLemmas::as_many_is))]
 pub fn as_many(ts: &[CType], gs: &[TypedExpression]) -> bool
-    ensures { result ≡ as_many_as (types_of ts.now) (map typed_expression_of gs.now) }
+    ensures counted { result ≡ nat_eq (length gs.now) (length ts.now) }
+    ensures judged { result ≡ as_many_as (types_of ts.now) (map typed_expression_of gs.now) }
 {
     gs.len() == ts.len()
 }
@@ -31,21 +32,18 @@ pub fn all_fit(ts: &[CType], gs: &[TypedExpression]) -> bool
     true
 }
 
-// The arguments in the types of the parameters (C99 6.5.2.2 paragraph 7). `OutOfMemory` comes too where there are more arguments than
-// parameters.
+// The arguments, no more than there are parameters, in the types of the parameters (C99 6.5.2.2 paragraph 7).
 pub fn passed(
     alloc: Global,
     ts: &[CType],
     gs: Vec<TypedExpression>,
 ) -> Result<Vec<TExpr>, OutOfMemory>
+    requires { length gs.items ≤ length ts.now }
     ensures { IfOk result (λ es. exprs_of es.items ≡ passed (types_of ts.now) (map typed_expression_of gs.items)) }
 {
     let mut es = Vec::new(alloc);
     for g in gs {
         let i = es.len();
-        if i >= ts.len() {
-            return Err(OutOfMemory);
-        }
         let value = assigned(alloc, &ts[i], g)?;
         let tree = value.into_tree(alloc)?;
         es.push(tree)?;

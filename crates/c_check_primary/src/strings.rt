@@ -14,23 +14,27 @@ use c_check_scopes::{Before, Context, Environment};
 use c_check_values::{C13, CheckError, Constant, Form, TypedExpression, address_of_static};
 use c_tree::{CType, IntType, TExpr, TExprKind};
 use dm_base::OutOfMemory;
+use dm_counts::Count;
 use std::alloc::Global;
 
 // The limit on all strings that the program holds, where so many cells stand before one with so many.
-fn strings_fit(context: Context, at: u32, before: u32, cells: u32) -> Result<(), CheckError>
+fn strings_fit(context: Context, at: u32, before: &Count, cells: u32) -> Result<(), CheckError>
     requires { cells ≤ 65536 }
-    ensures { AgreesWith (λ _. met) result (string_fits (context_of context) at before cells) }
+    ensures { AgreesWith (λ _. met) result (string_fits (context_of context) at before.now cells) }
 {
     match context {
-        Context::Evaluated => match before.checked_add(cells) {
-            None => Err(CheckError::At(C13, at)),
-            Some(sum) => {
-                if sum > 1_048_576 {
-                    return Err(CheckError::At(C13, at));
-                }
-                Ok(())
+        Context::Evaluated => {
+            let Some(number) = before.number() else {
+                return Err(CheckError::At(C13, at));
+            };
+            let Some(sum) = number.checked_add(cells) else {
+                return Err(CheckError::At(C13, at));
+            };
+            if sum > 1_048_576 {
+                return Err(CheckError::At(C13, at));
             }
-        },
+            Ok(())
+        }
         Context::Sized => Ok(()),
         Context::Folded => Ok(()),
     }
@@ -86,7 +90,7 @@ pub fn string_expression(
         return Err(CheckError::At(C13, at));
     }
     let cells = bytes.len() as u32 + 1;
-    strings_fit(env.context, at, before.cells, cells)?;
+    strings_fit(env.context, at, &before.cells, cells)?;
     let number = string_number(env, before)?;
     Ok(typed_string(alloc, number, cells)?)
 }

@@ -3,7 +3,8 @@
 use Rattle.std.proofs.Common.{◌≡◌, ℕ, zero, suc, ◌+◌, ◌-◌, ◌≤◌, ◌<◌, List, [], ◌∷◌, length, Option, Some, None, slice_get, set, refl, ap, sym, subst, ◌∙◌, arith}
 use Rattle.c_tree.specs.Tree.{CType, void, integer, pointer, array, struct, function}
 use Rattle.c_tree.specs.Layout.{Structs, members_of, or_none}
-use Rattle.c_check_scopes.specs.Laid.{AllIn, AllInAll, IsClosed, count_defined}
+use Rattle.c_check_scopes.specs.Held.{AllIn, AllInAll}
+use Rattle.c_check_scopes.specs.Laid.{IsClosed, count_defined}
 
 pub none_is_no_list : (ts : List CType) → Some None ≡ Some (Some ts) → ⊥
 none_is_no_list ts q = cc
@@ -38,7 +39,7 @@ pub members_are : (structs : Structs) (s : ℕ) (ts : List CType) → slice_get 
 members_are structs s ts q = ap or_none q
 
 -- one level deeper
-over_step : {R : Type 0} (base : R) (rule : (ℕ → R) → List CType → R) → Looks rule → (structs : Structs) (depth s : ℕ) → IsClosed structs depth s → over base rule structs depth s ≡ over base rule structs (suc depth) s
+pub over_step : {R : Type 0} (base : R) (rule : (ℕ → R) → List CType → R) → Looks rule → (structs : Structs) (depth s : ℕ) → IsClosed structs depth s → over base rule structs depth s ≡ over base rule structs (suc depth) s
 over_step base rule looks structs zero s h = absurd h
 over_step base rule looks structs (suc depth) s h =
     let q = members_are structs s h.0 h.1 in
@@ -58,6 +59,10 @@ deeper_is : (k n : ℕ) → deeper k n ≡ k + n
 deeper_is zero n = omega arith
 deeper_is (suc k) n = omega (arith, deeper_is k n)
 
+closed_deeper : (structs : Structs) (k depth s : ℕ) → IsClosed structs depth s → IsClosed structs (deeper k depth) s
+closed_deeper structs zero depth s h = h
+closed_deeper structs (suc k) depth s h = closed_step structs (deeper k depth) s (closed_deeper structs k depth s h)
+
 over_deeper : {R : Type 0} (base : R) (rule : (ℕ → R) → List CType → R) → Looks rule → (structs : Structs) (k depth s : ℕ) → IsClosed structs depth s → (over base rule structs depth s ≡ over base rule structs (deeper k depth) s) × IsClosed structs (deeper k depth) s
 over_deeper base rule looks structs zero depth s h = (refl, h)
 over_deeper base rule looks structs (suc k) depth s h =
@@ -68,6 +73,11 @@ pub over_at : {R : Type 0} (base : R) (rule : (ℕ → R) → List CType → R) 
 over_at base rule looks structs depth most s h c =
     let q : deeper (most - depth) depth ≡ most = omega (arith, deeper_is (most - depth) depth) in
     (over_deeper base rule looks structs (most - depth) depth s c).0 ∙ ap (λ n. over base rule structs n s) q
+
+pub closed_at : (structs : Structs) (depth most s : ℕ) → depth ≤ most → IsClosed structs depth s → IsClosed structs most s
+closed_at structs depth most s h c =
+    let q : deeper (most - depth) depth ≡ most = omega (arith, deeper_is (most - depth) depth) in
+    subst (λ n. IsClosed structs n s) q (closed_deeper structs (most - depth) depth s c)
 
 -- a struct without a definition
 pub over_none : {R : Type 0} (base : R) (rule : (ℕ → R) → List CType → R) (structs : Structs) (depth s : ℕ) → rule (λ _. base) [] ≡ base → Looks rule → members_of structs s ≡ [] → over base rule structs depth s ≡ base

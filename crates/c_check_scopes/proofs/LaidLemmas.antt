@@ -1,16 +1,17 @@
 -- A table of structs stays laid when a struct gets its members, and tells the cells and extents of types.
-use Rattle.std.proofs.Common.{◌≡◌, ◌⊎◌, inl, inr, ℕ, zero, suc, false, ◌+◌, ◌≤◌, ◌<◌, List, [], ◌∷◌, length, map, Option, Some, None, slice_get, set, refl, ap, sym, subst, ◌∙◌, arith, length-set}
-use Rattle.std.specs.Prelude.{option_map, IsTrue, replicate, take}
+use Rattle.std.proofs.Common.{◌≡◌, ◌⊎◌, inl, inr, ℕ, zero, suc, ◌≤◌, ◌<◌, List, [], ◌∷◌, length, map, Option, Some, None, slice_get, set, refl, ap, sym, subst, ◌∙◌, arith, length-set}
+use Rattle.std.specs.Prelude.{option_map, replicate}
 use Rattle.std.proofs.lemmas.Option.{slice_get-map, slice_get_within}
 use Rattle.c_tree.specs.Tree.{CType}
-use Rattle.c_tree.specs.Layout.{Structs, members_of, or_none, struct_cells, cells, cells_of_all, first_cell, extent_with, extent}
+use Rattle.c_tree.specs.Layout.{Structs, members_of, or_none, struct_cells, cells, cells_of_all, extent_with, extent}
 use Rattle.c_check_scopes.specs.declared.structs.Defined.{Defined}
 use Rattle.c_check_scopes.specs.Known.{layout_of, type_of}
 use Rattle.c_check_scopes.specs.Shown.{shown, defined_members, members_types}
-use Rattle.c_check_scopes.specs.Measured.{has_definition, cells_kept, extent_kept, counted, counted_all, counted_first, no_extent}
-use Rattle.c_check_scopes.specs.Laid.{AllInAll, IsDefined, IsClosed, count_defined, AreLaid, IsMeasured}
-use Rattle.c_check_scopes.proofs.ClosedLemmas.{none_is_no_list, all_map_all, over, Looks, members_are, over_at, over_none, over_set, get_set, get_other, closed_step, closed_set, count_below, count_set}
-use Rattle.c_check_scopes.proofs.MeasuredLemmas.{counted_is, counted_all_is, counted_first_is, layout_count, counted_looks, extent_rule, struct_extent_is, extent_looks}
+use Rattle.c_check_scopes.specs.Measured.{cells_kept, extent_kept, counted, counted_all, no_extent}
+use Rattle.c_check_scopes.specs.Held.{AllInAll, IsDefined}
+use Rattle.c_check_scopes.specs.Laid.{IsClosed, count_defined, AreLaid, IsMeasured}
+use Rattle.c_check_scopes.proofs.ClosedLemmas.{none_is_no_list, all_map_all, over, Looks, members_are, over_at, over_none, over_set, get_set, get_other, closed_at, closed_step, closed_set, count_below, count_set, over_step}
+use Rattle.c_check_scopes.proofs.MeasuredLemmas.{counted_is, counted_all_is, layout_count, counted_looks, extent_rule, struct_extent_is, extent_looks}
 
 pub map_set : {A B : Type 0} (f : A → B) (xs : List A) (n : ℕ) (v : A) → map f (set xs n v) ≡ set (map f xs) n (f v)
 map_set f [] n v = refl
@@ -131,24 +132,12 @@ laid_at ys structs q c e closed = record {
   closed = subst AreClosed (sym q) closed;
 }
 
-not_true : IsTrue false → ⊥
-not_true h = cc
-
-kept_defined : (o : Option (Option Defined)) → IsTrue (has_definition o) → (ts : List CType) × (option_map types_in o ≡ Some (Some ts))
-kept_defined None h = absurd (not_true h)
-kept_defined (Some None) h = absurd (not_true h)
-kept_defined (Some (Some d)) h = (members_types d.members.items, refl)
-
-is_kept : (xs : List (Option Defined)) (s : ℕ) → IsTrue (has_definition (slice_get xs s)) → IsDefined (structs_in xs) s
-is_kept xs s h = let w = kept_defined (slice_get xs s) h in (w.0, get_in xs s ∙ w.1)
-
-pub laid_set : (xs : List (Option Defined)) (n : ℕ) (d : Defined) → slice_get xs n ≡ Some None → IsMeasured xs d → AreLaid xs → AreLaid (set xs n (Some d))
-laid_set xs n d o m h =
+pub laid_set : (xs : List (Option Defined)) (n : ℕ) (d : Defined) → slice_get xs n ≡ Some None → IsMeasured xs d → AllInAll (IsDefined (structs_in xs)) (members_types d.members.items) → AreLaid xs → AreLaid (set xs n (Some d))
+laid_set xs n d o m known h =
     let structs = structs_in xs in
     let ts = members_types d.members.items in
     let l = slice_get_within xs n None o in
     let o2 = get_in xs n ∙ ap (option_map types_in) o in
-    let known = all_map_all (λ s. IsTrue (has_definition (slice_get xs s))) (IsDefined structs) (is_kept xs) ts m.known in
     let c = all_map_all (IsDefined structs) (IsClosed structs (count_defined structs)) h.closed ts known in
     laid_at (set xs n (Some d)) (with_types structs n ts) (structs_set xs n d)
     (λ s. kept_by 0 counted_all refl counted_looks cells_kept xs structs n d ts l o2 m.cells (cells_over xs h) h.closed c s (same_place s n))
@@ -163,20 +152,15 @@ cells_told xs h t = counted_is (λ s. cells_kept (slice_get xs s)) (struct_cells
 pub cells_of_all_told : (xs : List (Option Defined)) → AreLaid xs → (ts : List CType) → counted_all (λ s. cells_kept (slice_get xs s)) ts ≡ cells_of_all (structs_in xs) ts
 cells_of_all_told xs h ts = counted_all_is (λ s. cells_kept (slice_get xs s)) (struct_cells (structs_in xs)) h.cells ts
 
-abbrev no_types : List CType
-no_types = []
-
-take_none : (k : ℕ) → take k no_types ≡ no_types
-take_none zero = refl
-take_none (suc k) = refl
-
-first_taken : (f : ℕ → ℕ) (ts : List CType) (k : ℕ) → counted_all f (take k ts) ≡ counted_first f ts k
-first_taken f [] k = ap (counted_all f) (take_none k)
-first_taken f (t ∷ ts) zero = refl
-first_taken f (t ∷ ts) (suc k) = ap (λ n. counted f t + n) (first_taken f ts k)
-
-pub first_cell_told : (xs : List (Option Defined)) → AreLaid xs → (ts : List CType) (k : ℕ) → counted_all (λ s. cells_kept (slice_get xs s)) (take k ts) ≡ first_cell (structs_in xs) ts k
-first_cell_told xs h ts k = first_taken (λ s. cells_kept (slice_get xs s)) ts k ∙ counted_first_is (structs_in xs) (λ s. cells_kept (slice_get xs s)) h.cells ts k
+-- a struct with a definition has the cells of its members
+pub whole_struct : (xs : List (Option Defined)) → AreLaid xs → (s : ℕ) (ts : List CType) → slice_get (structs_in xs) s ≡ Some (Some ts) → cells_kept (slice_get xs s) ≡ cells_of_all (structs_in xs) ts
+whole_struct xs h s ts q =
+    let structs = structs_in xs in
+    let top = length structs in
+    let closed = closed_at structs (count_defined structs) top s (count_below structs) (h.closed s (ts, q)) in
+    let inner : over 0 counted_all structs (suc top) s ≡ counted_all (over 0 counted_all structs top) ts = ap (counted_all (over 0 counted_all structs top)) (members_are structs s ts q) in
+    let kept : counted_all (over 0 counted_all structs top) ts ≡ cells_of_all structs ts = counted_all_is (over 0 counted_all structs top) (struct_cells structs) (λ r. sym (layout_count structs top r)) ts in
+    cells_over xs h s ∙ (over_step 0 counted_all counted_looks structs top s closed ∙ (inner ∙ kept))
 
 pub extent_told : (xs : List (Option Defined)) → AreLaid xs → (t : CType) → extent_with (λ s. extent_kept (slice_get xs s)) t ≡ extent (structs_in xs) t
 extent_told xs h t = ap (λ f. extent_with f t) (λ i s. h.extents s i)

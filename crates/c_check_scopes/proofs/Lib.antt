@@ -3,6 +3,7 @@ pub mod TypeLemmas
 pub mod ClosedLemmas
 pub mod MeasuredLemmas
 pub mod LaidLemmas
+pub mod FittingLemmas
 pub mod TableLemmas
 pub mod IndexLemmas
 pub mod NumberLemmas

@@ -1,9 +1,9 @@
 -- Cells and extents of types by those of the structs that they hold.
 use Rattle.std.proofs.Common.{◌≡◌, ℕ, zero, suc, ◌+◌, ◌*◌, List, [], ◌∷◌, ◌++◌, length, length-append, refl, ap, sym, ◌∙◌, arith}
 use Rattle.c_tree.specs.Tree.{CType, void, integer, pointer, array, struct, function}
-use Rattle.c_tree.specs.Layout.{Structs, Extent, repeat, flat_with, flat_all_with, layout, members_of, struct_cells, cells, first_cell, extent_with, extent_after, rounded, put_after, struct_extent}
-use Rattle.c_check_scopes.specs.Laid.{AllIn, AllInAll}
-use Rattle.c_check_scopes.specs.Measured.{counted, counted_all, counted_first, no_extent}
+use Rattle.c_tree.specs.Layout.{Structs, Extent, repeat, flat_with, flat_all_with, layout, members_of, extent_with, extent_after, rounded, put_after, struct_extent}
+use Rattle.c_check_scopes.specs.Held.{AllIn, AllInAll}
+use Rattle.c_check_scopes.specs.Measured.{counted, counted_all, no_extent}
 use Rattle.c_check_scopes.proofs.ClosedLemmas.{over, Looks}
 
 length_repeat : {A : Type 0} (n : ℕ) (xs : List A) → length (repeat n xs) ≡ n * length xs
@@ -31,12 +31,6 @@ counted_all_is f g h [] = refl
 counted_all_is f g h (t ∷ ts) =
     sum_same (counted f t) (counted_all f ts) (length (flat_with g t)) (length (flat_all_with g ts)) (counted_is f g h t) (counted_all_is f g h ts)
     ∙ sym (length-append (flat_with g t) (flat_all_with g ts))
-
-pub counted_first_is : (structs : Structs) (f : ℕ → ℕ) → ((s : ℕ) → f s ≡ length (struct_cells structs s)) → (ts : List CType) (k : ℕ) → counted_first f ts k ≡ first_cell structs ts k
-counted_first_is structs f h [] k = refl
-counted_first_is structs f h (t ∷ ts) zero = refl
-counted_first_is structs f h (t ∷ ts) (suc k) =
-    sum_same (counted f t) (counted_first f ts k) (cells structs t) (first_cell structs ts k) (counted_is f (struct_cells structs) h t) (counted_first_is structs f h ts k)
 
 -- the cells of a struct at a depth
 pub layout_count : (structs : Structs) (depth s : ℕ) → length (layout structs depth s) ≡ over 0 counted_all structs depth s

@@ -1,10 +1,12 @@
 -- Read in this order: Bound (the names that scopes hold), Known (the members of structs), Shown (what a table of
--- structs shows), View (the parts of an environment, as the rules have them), Extents (sizes and alignments, as the
--- layout has them).
--- For private contracts and proofs alone: Front, Numbers, Prototypes, Index, Measured, Laid.
+-- structs shows), View (the parts of an environment, as the rules have them), Held (the structs that objects of a type
+-- hold), Extents (sizes and alignments, as the layout has them).
+-- For private contracts and proofs alone: Front, Numbers, Prototypes, Index, Measured, Laid, Fitting.
 pub mod Bound
 pub mod Extents
+pub mod Fitting
 pub mod Front
+pub mod Held
 pub mod Index
 pub mod Known
 pub mod Laid

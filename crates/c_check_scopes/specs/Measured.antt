@@ -1,5 +1,5 @@
 -- For private contracts and proofs alone: cells and extents of types over those of structs.
-use Rattle.std.specs.Prelude.{ℕ, zero, suc, ◌+◌, ◌*◌, Bool, true, false, List, [], ◌∷◌, Option, Some, None}
+use Rattle.std.specs.Prelude.{ℕ, ◌+◌, ◌*◌, List, [], ◌∷◌, Option, Some, None}
 use Rattle.c_tree.specs.Tree.{CType, void, integer, pointer, array, struct, function}
 use Rattle.c_tree.specs.Layout.{Extent}
 use Rattle.c_check_scopes.specs.declared.structs.Defined.{Defined}
@@ -17,17 +17,6 @@ counted f (function t ts) = 0
 abbrev pub counted_all : (ℕ → ℕ) → List CType → ℕ
 counted_all f [] = 0
 counted_all f (t ∷ ts) = counted f t + counted_all f ts
-
--- the cells of the first types
-abbrev pub counted_first : (ℕ → ℕ) → List CType → ℕ → ℕ
-counted_first f [] k = 0
-counted_first f (t ∷ ts) zero = 0
-counted_first f (t ∷ ts) (suc k) = counted f t + counted_first f ts k
-
-abbrev pub has_definition : Option (Option Defined) → Bool
-has_definition None = false
-has_definition (Some None) = false
-has_definition (Some (Some d)) = true
 
 -- what is kept of each struct
 abbrev pub cells_kept : Option (Option Defined) → ℕ

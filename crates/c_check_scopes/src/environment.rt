@@ -1,9 +1,11 @@
-ghost use Rattle.std.specs.Prelude.{◌≡◌, ◌<◌, ◌^◌, IfSome, SomeIff, is_some};
-ghost use Rattle.c_check_scopes.specs.Shown.{members_types};
+ghost use Rattle.std.specs.Prelude.{◌≡◌, ◌<◌, ◌^◌, List, length, map, slice_index_or, IfSome, SomeIff, is_some};
+ghost use Rattle.c_check_scopes.specs.Shown.{knowns_of, members_types};
+ghost use Rattle.c_check_scopes.specs.declared.structs.StructMember.{StructMember};
 ghost use Rattle.c_rules.specs.Names.{is_among};
-ghost use Rattle.c_rules.specs.Scopes.{declared_here, layout_of, struct_of, tag_number};
-ghost use Rattle.c_check_scopes.specs.View.{env_of, struct_in};
+ghost use Rattle.c_rules.specs.Scopes.{declared_here, defined_struct, layout_of, struct_of, tag_number};
+ghost use Rattle.c_check_scopes.specs.View.{env_of, member_of, struct_in};
 ghost use Rattle.c_tree.specs.Layout.{cells, cells_of_all, first_cell, sizeof};
+ghost use Rattle.c_tree.specs.Tree.{struct, void};
 ghost use Rattle.c_tree.specs.View.{ctype_of};
 
 use crate::numbering::Numbering;
@@ -11,6 +13,7 @@ use crate::scopes::Scopes;
 use crate::structs::{StructMember, StructTable};
 use c_tree::CType;
 use dm_base::Mode;
+use dm_counts::Count;
 
 /// Whether what stands here is evaluated when the program runs.
 #[derive(Clone, Copy, Debug, PartialEq, Eq)]
@@ -37,7 +40,7 @@ pub struct Environment<'t> {
     /// The ordinary names.
     pub names: Scopes<'t>,
     /// How many blocks enclose the part.
-    pub depth: u32,
+    pub depth: Count,
     /// The structs by their numbers.
     pub structs: StructTable<'t>,
     /// The tags of enums that stand before.
@@ -54,11 +57,11 @@ pub struct Environment<'t> {
 #[derive(Drop)]
 pub struct Before<'t> {
     /// So many calls that are evaluated.
-    pub sites: u32,
+    pub sites: Count,
     /// The strings that the typed program holds.
     pub strings: Vec<&'t [u8]>,
     /// So many cells of static objects and of such strings.
-    pub cells: u32,
+    pub cells: Count,
 }
 
 impl<'t> Environment<'t> {
@@ -66,7 +69,28 @@ impl<'t> Environment<'t> {
     pub fn members(&self, s: u32) -> Option<&[StructMember<'t>]>
         ensures { struct_of (env_of self.now) s ≡ struct_in result }
     {
-        self.structs.members(s)
+        self.structs.members(s as usize)
+    }
+
+    /// The members of the struct at a place, where its definition stands before.
+    pub fn members_at(&self, place: usize) -> Option<&[StructMember<'t>]>
+        ensures { struct_of (env_of self.now) place ≡ struct_in result }
+    {
+        self.structs.members(place)
+    }
+
+    /// How many cells an object of the struct at a place has, none where its definition doesn't stand before.
+    pub fn struct_cells(&self, place: usize) -> u32
+        ensures { result ≡ cells (layout_of (env_of self.now)) (struct place) }
+    {
+        self.structs.struct_cells(place)
+    }
+
+    /// The members of a struct whose definition stands before have fewer than 2^32 cells together.
+    pub fn have_few_cells(&self, s: u32)
+        ensures { (members : List StructMember) → struct_of (env_of self.now) s ≡ defined_struct (map member_of (knowns_of members)) → cells_of_all (layout_of (env_of self.now)) (members_types members) < 2 ^ 32 }
+    {
+        self.structs.have_few_cells(s as usize);
     }
 
     /// How many cells an object of the type has, where these are fewer than 2^32.
@@ -83,11 +107,24 @@ impl<'t> Environment<'t> {
         self.structs.cells_of_all(members)
     }
 
-    /// The first cell of the member with this number in a struct with these members, where it is below 2^32.
-    pub fn first_cell(&self, members: &[StructMember<'t>], k: usize) -> Option<u32>
-        ensures { IfSome result (λ n. n ≡ first_cell (layout_of (env_of self.now)) (members_types members.now) k) }
+    /// The first cell of the member with this number in a struct with these members, which have fewer than 2^32 cells
+    /// together.
+    pub fn first_cell(&self, members: &[StructMember<'t>], k: usize) -> u32
+        requires within { k < length members.now }
+        requires few { cells_of_all (layout_of (env_of self.now)) (members_types members.now) < 2 ^ 32 }
+        ensures { result ≡ first_cell (layout_of (env_of self.now)) (members_types members.now) k }
     {
         self.structs.first_cell(members, k)
+    }
+
+    /// How many cells the member with this number has in a struct with these members, which have fewer than 2^32 cells
+    /// together.
+    pub fn member_cells(&self, members: &[StructMember<'t>], k: usize) -> u32
+        requires within { k < length members.now }
+        requires few { cells_of_all (layout_of (env_of self.now)) (members_types members.now) < 2 ^ 32 }
+        ensures { result ≡ cells (layout_of (env_of self.now)) (slice_index_or (members_types members.now) k void) }
+    {
+        self.structs.member_cells(members, k)
     }
 
     /// What `sizeof` gives for the type (C99 6.5.3.4), where it is below 2^32.
@@ -102,7 +139,7 @@ impl<'t> Environment<'t> {
         ensures { result ≡ is_some (declared_here (env_of self.now) name.now) }
     {
         match self.names.find(name) {
-            Some(entry) => entry.depth == self.depth,
+            Some(entry) => entry.depth.is(&self.depth),
             None => false,
         }
     }

@@ -1,4 +1,5 @@
-ghost use Rattle.std.specs.Prelude.{◌≡◌, max, IfSome};
+ghost use Rattle.std.specs.Prelude.{◌≡◌, ◌*◌, ◌≤◌, max};
+ghost use Rattle.c_rules.specs.Limits.{most_cells};
 ghost use Rattle.c_tree.specs.Layout.{extent_of_integer, put_after, round_up, rounded};
 ghost use Rattle.c_check_scopes.specs.Extents.{extent_seen};
 
@@ -14,14 +15,13 @@ pub struct Extent {
 }
 
 // The next multiple of an alignment.
-fn round_up(size: u32, alignment: u32) -> Option<u32>
-    ensures { IfSome result (λ n. n ≡ round_up size alignment) }
+fn round_up(size: u32, alignment: u32) -> u32
+    requires small { size ≤ 4 * most_cells }
+    requires least { 1 ≤ alignment }
+    requires most { alignment ≤ 4 }
+    ensures { result ≡ round_up size alignment }
 {
-    if alignment == 0 {
-        return None;
-    }
-    let above = size.checked_add(alignment - 1)?;
-    (above / alignment).checked_mul(alignment)
+    (size + (alignment - 1)) / alignment * alignment
 }
 
 // The extent of an integer type.
@@ -49,24 +49,28 @@ pub fn of_integer(i: IntType) -> Extent
 }
 
 // A member after others: at the next multiple of its alignment.
-pub fn put_after(before: Extent, member: Extent) -> Option<Extent>
-    ensures { IfSome result (λ e. extent_seen e ≡ put_after (extent_seen before) (extent_seen member)) }
+pub fn put_after(before: Extent, member: Extent) -> Extent
+    requires first { before.size ≤ 4 * most_cells }
+    requires second { member.size ≤ 4 * most_cells }
+    requires least { 1 ≤ member.alignment }
+    requires most { member.alignment ≤ 4 }
+    ensures { extent_seen result ≡ put_after (extent_seen before) (extent_seen member) }
 {
-    let start = round_up(before.size, member.alignment)?;
-    let size = start.checked_add(member.size)?;
-    Some(Extent {
-        size,
+    Extent {
+        size: round_up(before.size, member.alignment) + member.size,
         alignment: before.alignment.max(member.alignment),
-    })
+    }
 }
 
 // The extent of a struct whose members take so much.
-pub fn rounded(e: Extent) -> Option<Extent>
-    ensures { IfSome result (λ r. extent_seen r ≡ rounded (extent_seen e)) }
+pub fn rounded(e: Extent) -> Extent
+    requires small { e.size ≤ 4 * most_cells }
+    requires least { 1 ≤ e.alignment }
+    requires most { e.alignment ≤ 4 }
+    ensures { extent_seen result ≡ rounded (extent_seen e) }
 {
-    let size = round_up(e.size, e.alignment)?;
-    Some(Extent {
-        size,
+    Extent {
+        size: round_up(e.size, e.alignment),
         alignment: e.alignment,
-    })
+    }
 }

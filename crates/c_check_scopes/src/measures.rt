@@ -1,20 +1,21 @@
-ghost use Rattle.std.specs.Prelude.{◌≡◌, ◌+◌, ◌<◌, ◌^◌, IsTrue, IfSome, SomeIff, slice_get};
+ghost use Rattle.std.specs.Prelude.{◌≡◌, ◌+◌, ◌<◌, ◌≤◌, ◌^◌, SomeIff, slice_get};
+ghost use Rattle.c_rules.specs.Limits.{most_cells};
 ghost use Rattle.c_tree.specs.Layout.{extent_with, extent_after, rounded};
 ghost use Rattle.c_tree.specs.View.{ctype_of};
 ghost use Rattle.c_check_scopes.specs.Extents.{extent_seen};
-ghost use Rattle.c_check_scopes.specs.Laid.{AllIn, AllInAll};
-ghost use Rattle.c_check_scopes.specs.Measured.{has_definition, counted, counted_all, cells_kept, extent_kept, no_extent};
+ghost use Rattle.c_check_scopes.specs.Fitting.{AreFitting};
+ghost use Rattle.c_check_scopes.specs.Measured.{counted, counted_all, cells_kept, extent_kept, no_extent};
 ghost use Rattle.c_check_scopes.specs.Shown.{members_types};
 
 use crate::extents::{Extent, of_integer, put_after, rounded};
 use crate::structs::{Defined, StructMember};
 use c_tree::CType;
 
-// The cells that are kept of a struct.
-fn cells_kept(structs: &[Option<Defined<'_>>], s: u32) -> u32
-    ensures { result ≡ cells_kept (slice_get structs.now s) }
+// The cells that are kept of the struct at a place.
+pub fn cells_kept(structs: &[Option<Defined<'_>>], place: usize) -> u32
+    ensures { result ≡ cells_kept (slice_get structs.now place) }
 {
-    match structs.get(s as usize) {
+    match structs.get(place) {
         Some(Some(defined)) => defined.cells,
         _ => 0,
     }
@@ -30,16 +31,6 @@ fn extent_kept(structs: &[Option<Defined<'_>>], s: u32) -> Extent
             size: 0,
             alignment: 1,
         },
-    }
-}
-
-// Whether a struct has a definition.
-fn is_defined(structs: &[Option<Defined<'_>>], s: u32) -> bool
-    ensures { result ≡ has_definition (slice_get structs.now s) }
-{
-    match structs.get(s as usize) {
-        Some(Some(_)) => true,
-        _ => false,
     }
 }
 
@@ -59,7 +50,7 @@ pub fn cells_in(structs: &[Option<Defined<'_>>], t: &CType) -> Option<u32>
             let cells = n.checked_mul(each)?;
             Some(cells)
         }
-        CType::Struct(s) => Some(cells_kept(structs, *s)),
+        CType::Struct(s) => Some(cells_kept(structs, *s as usize)),
         CType::Function(_, _) => Some(0),
     }
 }
@@ -79,73 +70,68 @@ pub fn cells_of_members(
     Some(sum)
 }
 
-// The extent of a type.
-pub fn extent_in(structs: &[Option<Defined<'_>>], t: &CType) -> Option<Extent>
-    ensures { IfSome result (λ e. extent_seen e ≡ extent_with (λ s. extent_kept (slice_get structs.now s)) (ctype_of t.now)) }
+// The bytes of a type, where these are fewer than 2^32.
+pub fn size_in(structs: &[Option<Defined<'_>>], t: &CType) -> Option<u32>
+    ensures { SomeIff result ((extent_with (λ s. extent_kept (slice_get structs.now s)) (ctype_of t.now)).size < 2 ^ 32) (extent_with (λ s. extent_kept (slice_get structs.now s)) (ctype_of t.now)).size }
 {
     match t {
-        CType::Void => Some(Extent {
-            size: 0,
-            alignment: 1,
-        }),
-        CType::Int(i) => Some(of_integer(*i)),
-        CType::Pointer(_) => Some(Extent {
-            size: 4,
-            alignment: 4,
-        }),
+        CType::Void => Some(0),
+        CType::Int(i) => Some(of_integer(*i).size),
+        CType::Pointer(_) => Some(4),
         CType::Array(element, n) => {
-            let each = extent_in(structs, element)?;
-            let size = n.checked_mul(each.size)?;
-            Some(Extent {
-                size,
-                alignment: each.alignment,
-            })
+            if *n == 0 {
+                return Some(0);
+            }
+            let each = size_in(structs, element)?;
+            let size = n.checked_mul(each)?;
+            Some(size)
         }
-        CType::Struct(s) => Some(extent_kept(structs, *s)),
-        CType::Function(_, _) => Some(Extent {
-            size: 0,
-            alignment: 1,
-        }),
+        CType::Struct(s) => Some(extent_kept(structs, *s).size),
+        CType::Function(_, _) => Some(0),
     }
 }
 
-// The extent of a struct with these members.
-pub fn extent_of_members(
-    structs: &[Option<Defined<'_>>],
-    members: &[StructMember<'_>],
-) -> Option<Extent>
-    ensures { IfSome result (λ e. extent_seen e ≡ rounded (extent_after (λ s. extent_kept (slice_get structs.now s)) no_extent (members_types members.now))) }
+// The number of which the address of an object of the type is a multiple.
+fn alignment_in(structs: &[Option<Defined<'_>>], t: &CType) -> u32
+    ensures { result ≡ (extent_with (λ s. extent_kept (slice_get structs.now s)) (ctype_of t.now)).alignment }
+{
+    match t {
+        CType::Void => 1,
+        CType::Int(i) => of_integer(*i).alignment,
+        CType::Pointer(_) => 4,
+        CType::Array(element, _) => alignment_in(structs, element),
+        CType::Struct(s) => extent_kept(structs, *s).alignment,
+        CType::Function(_, _) => 1,
+    }
+}
+
+// The extent of a type that takes fewer than 2^32 bytes.
+fn extent_in(structs: &[Option<Defined<'_>>], t: &CType) -> Extent
+    requires { (extent_with (λ s. extent_kept (slice_get structs.now s)) (ctype_of t.now)).size < 2 ^ 32 }
+    ensures { extent_seen result ≡ extent_with (λ s. extent_kept (slice_get structs.now s)) (ctype_of t.now) }
+{
+    match size_in(structs, t) {
+        Some(size) => Extent {
+            size,
+            alignment: alignment_in(structs, t),
+        },
+        None => unreachable!(),
+    }
+}
+
+// The extent of a struct with these members, within the limit on its cells.
+pub fn extent_of_members(structs: &[Option<Defined<'_>>], members: &[StructMember<'_>]) -> Extent
+    requires fitting { AreFitting structs.now }
+    requires few { counted_all (λ s. cells_kept (slice_get structs.now s)) (members_types members.now) ≤ most_cells }
+    ensures { extent_seen result ≡ rounded (extent_after (λ s. extent_kept (slice_get structs.now s)) no_extent (members_types members.now)) }
 {
     let mut sum = Extent {
         size: 0,
         alignment: 1,
     };
     for member in members {
-        let each = extent_in(structs, &member.ctype)?;
-        sum = put_after(sum, each)?;
+        let each = extent_in(structs, &member.ctype);
+        sum = put_after(sum, each);
     }
     rounded(sum)
-}
-
-// Whether all structs that objects of the type hold have definitions.
-fn is_known_in(structs: &[Option<Defined<'_>>], t: &CType) -> bool
-    ensures { IsTrue result → AllIn (λ s. IsTrue (has_definition (slice_get structs.now s))) (ctype_of t.now) }
-{
-    match t {
-        CType::Array(element, _) => is_known_in(structs, element),
-        CType::Struct(s) => is_defined(structs, *s),
-        _ => true,
-    }
-}
-
-// Whether all structs that the members hold have definitions.
-pub fn are_known_in(structs: &[Option<Defined<'_>>], members: &[StructMember<'_>]) -> bool
-    ensures { IsTrue result → AllInAll (λ s. IsTrue (has_definition (slice_get structs.now s))) (members_types members.now) }
-{
-    for member in members {
-        if !is_known_in(structs, &member.ctype) {
-            return false;
-        }
-    }
-    true
 }

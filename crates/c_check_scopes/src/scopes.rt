@@ -5,6 +5,7 @@ ghost use Rattle.c_check_scopes.specs.View.{found};
 
 use crate::meaning::Meaning;
 use dm_base::OutOfMemory;
+use dm_counts::Count;
 use indexmap::IndexMap;
 use std::alloc::Global;
 use std::marker::Model;
@@ -15,7 +16,7 @@ pub struct Entry<'t> {
     /// The name.
     pub name: &'t [u8],
     /// How many blocks enclose its declaration.
-    pub depth: u32,
+    pub depth: Count,
     /// What it means.
     pub means: Meaning,
     /// The number of the entry of the name that it hides.
@@ -85,7 +86,12 @@ impl<'t> Scopes<'t> {
     }
 
     /// Declares a name inside so many blocks.
-    pub fn declare(&mut self, name: &'t [u8], depth: u32, means: Meaning) -> Result<(), OutOfMemory>
+    pub fn declare(
+        &mut self,
+        name: &'t [u8],
+        depth: Count,
+        means: Meaning,
+    ) -> Result<(), OutOfMemory>
         ensures { OnOk result (self.new ≡ bound name.now depth means ∷ self.old) }
     {
         let hidden = self.newest_of(name);

@@ -1,12 +1,17 @@
-ghost use Rattle.std.specs.Prelude.{◌≡◌, ◌<◌, ◌^◌, ℕ, None, Some, length, map, replicate, slice_get, slice_set, unwrap_or, IfOk, OnOk, OnErr, IfSome, IsTrue, SomeIff};
+ghost use Rattle.std.specs.Prelude.{◌≡◌, ◌<◌, ◌≤◌, ◌^◌, ℕ, List, None, Some, length, map, replicate, slice_get, slice_index_or, slice_set, take, unwrap_or, IfOk, IfSome, SomeIff};
 ghost use Rattle.c_tree.specs.Layout.{cells, sizeof, cells_of_all, first_cell};
+ghost use Rattle.c_rules.specs.Limits.{most_cells};
+ghost use Rattle.c_tree.specs.Tree.{struct, void};
 ghost use Rattle.c_tree.specs.View.{ctype_of};
-ghost use Rattle.c_check_scopes.specs.Known.{layout_of};
+ghost use Rattle.c_check_scopes.specs.Known.{Known, layout_of, type_of};
+ghost use Rattle.c_check_scopes.specs.Fitting.{AreFitting};
+ghost use Rattle.c_check_scopes.specs.Held.{AllInAll, IsDefined};
 ghost use Rattle.c_check_scopes.specs.Laid.{AreLaid, IsMeasured};
+ghost use Rattle.c_check_scopes.specs.Measured.{cells_kept, counted_all};
 ghost use Rattle.c_check_scopes.specs.Shown.{knowns_of, members_types, defined_in, shown};
 
 use crate::extents::Extent;
-use crate::measures::{are_known_in, cells_in, cells_of_members, extent_in, extent_of_members};
+use crate::measures::{cells_in, cells_kept, cells_of_members, extent_of_members, size_in};
 use c_tree::CType;
 use dm_base::OutOfMemory;
 use std::alloc::Global;
@@ -53,10 +58,18 @@ impl<'t> Model for StructTable<'t> {
     ghost invariant = { λ s. AreLaid s.structs.items };
 }
 
+// The first members.
+fn front<'m, 't>(members: &'m [StructMember<'t>], k: usize) -> &'m [StructMember<'t>]
+    requires { k ≤ length members.now }
+    ensures { result.now ≡ take k members.now }
+{
+    &members[..k]
+}
+
 // So many structs without a definition.
 fn without_definitions<'t>(
     alloc: Global,
-    count: u32,
+    count: usize,
 ) -> Result<Vec<Option<Defined<'t>>>, OutOfMemory>
     ensures { IfOk result (λ structs. structs.items ≡ replicate count None) }
 {
@@ -67,76 +80,80 @@ fn without_definitions<'t>(
     Ok(structs)
 }
 
-// A struct with its cells and its extent, where all structs that it holds have definitions.
-fn measured<'t>(
-    structs: &[Option<Defined<'t>>],
-    members: Vec<StructMember<'t>>,
-) -> Option<Defined<'t>>
-    ensures members { IfSome result (λ d. knowns_of d.members.items ≡ knowns_of members.entry.items) }
-    ensures measured { IfSome result (λ d. IsMeasured structs.now d) }
+// The cells of members that are within the limit on them.
+fn few_cells(structs: &[Option<Defined<'_>>], members: &[StructMember<'_>]) -> u32
+    requires { counted_all (λ s. cells_kept (slice_get structs.now s)) (members_types members.now) ≤ most_cells }
+    ensures { result ≡ counted_all (λ s. cells_kept (slice_get structs.now s)) (members_types members.now) }
 {
-    if !are_known_in(structs, &members) {
-        return None;
+    match cells_of_members(structs, members) {
+        Some(cells) => cells,
+        None => unreachable!(),
     }
-    let cells = cells_of_members(structs, &members)?;
-    let extent = extent_of_members(structs, &members)?;
-    Some(Defined {
+}
+
+// A struct with its cells and its extent.
+fn measured<'t>(structs: &[Option<Defined<'t>>], members: Vec<StructMember<'t>>) -> Defined<'t>
+    requires fitting { AreFitting structs.now }
+    requires few { counted_all (λ s. cells_kept (slice_get structs.now s)) (members_types members.items) ≤ most_cells }
+    ensures members { knowns_of result.members.items ≡ knowns_of members.entry.items }
+    ensures measured { IsMeasured structs.now result }
+{
+    let cells = few_cells(structs, &members);
+    let extent = extent_of_members(structs, &members);
+    Defined {
         members,
         cells,
         extent,
-    })
-}
-
-// Whether a struct is there and has no definition.
-fn is_open(structs: &[Option<Defined<'_>>], place: usize) -> bool
-    ensures { IsTrue result → slice_get structs.now place ≡ Some None }
-{
-    match structs.get(place) {
-        Some(None) => true,
-        _ => false,
     }
 }
 
-// Gives a struct its members.
-fn put<'t>(
-    structs: &mut Vec<Option<Defined<'t>>>,
-    place: usize,
-    members: Vec<StructMember<'t>>,
-) -> Result<(), OutOfMemory>
-    ensures shown { OnOk result (shown structs.new.items ≡ slice_set (shown structs.old.items) place (Some (knowns_of members.entry.items))) }
-    ensures laid { OnOk result (AreLaid structs.old.items → AreLaid structs.new.items) }
-    ensures refused { OnErr result (structs.new.items ≡ structs.old.items) }
+// Gives a struct its members; one that isn't there stays away.
+fn put<'t>(structs: &mut Vec<Option<Defined<'t>>>, place: usize, members: Vec<StructMember<'t>>)
+    requires open { unwrap_or (slice_get (shown structs.old.items) place) None ≡ None }
+    requires laid { AreLaid structs.old.items }
+    requires known { AllInAll (IsDefined (layout_of (shown structs.old.items))) (members_types members.items) }
+    requires few { cells_of_all (layout_of (shown structs.old.items)) (members_types members.items) ≤ most_cells }
+    ensures shown { shown structs.new.items ≡ slice_set (shown structs.old.items) place (Some (knowns_of members.entry.items)) }
+    ensures laid { AreLaid structs.new.items }
 {
     if place >= structs.len() {
-        return Err(OutOfMemory);
+        return;
     }
-    if !is_open(structs, place) {
-        return Err(OutOfMemory);
-    }
-    let Some(defined) = measured(structs, members) else {
-        return Err(OutOfMemory);
-    };
+    let defined = measured(structs, members);
     structs[place] = Some(defined);
-    Ok(())
 }
 
 impl<'t> StructTable<'t> {
     /// So many structs without a definition.
-    pub fn new(alloc: Global, count: u32) -> Result<StructTable<'t>, OutOfMemory>
+    pub fn new(alloc: Global, count: usize) -> Result<StructTable<'t>, OutOfMemory>
         ensures { IfOk result (λ table. table ≡ replicate count None) }
     {
         let structs = without_definitions(alloc, count)?;
         Ok(StructTable { structs })
     }
 
-    /// The members of a struct, where it has a definition.
-    pub fn members(&self, s: u32) -> Option<&[StructMember<'t>]>
-        ensures { defined_in result ≡ unwrap_or (slice_get self.now s) None }
+    /// The members of the struct at a place, where it has a definition.
+    pub fn members(&self, place: usize) -> Option<&[StructMember<'t>]>
+        ensures { defined_in result ≡ unwrap_or (slice_get self.now place) None }
     {
-        match self.structs.get(s as usize) {
+        match self.structs.get(place) {
             Some(Some(defined)) => Some(&defined.members),
             _ => None,
         }
+    }
+
+    /// How many cells an object of the struct at a place has, none where it has no definition.
+    pub fn struct_cells(&self, place: usize) -> u32
+        ensures { result ≡ cells (layout_of self.now) (struct place) }
+    {
+        cells_kept(&self.structs, place)
+    }
+
+    /// The members of a struct with a definition have fewer than 2^32 cells together.
+    pub fn have_few_cells(&self, place: usize)
+        ensures { (ks : List Known) → slice_get self.now place ≡ Some (Some ks) → cells_of_all (layout_of self.now) (map type_of ks) < 2 ^ 32 }
+    {
+        let _kept = cells_kept(&self.structs, place);
     }
 
     /// How many cells an object of the type has, where these are fewer than 2^32.
@@ -153,26 +170,46 @@ impl<'t> StructTable<'t> {
         cells_of_members(&self.structs, members)
     }
 
-    /// The first cell of the member with this number in a struct with these members, where it is below 2^32.
-    pub fn first_cell(&self, members: &[StructMember<'t>], k: usize) -> Option<u32>
-        ensures { IfSome result (λ n. n ≡ first_cell (layout_of self.now) (members_types members.now) k) }
+    /// The first cell of the member with this number in a struct with these members, which have fewer than 2^32 cells
+    /// together.
+    pub fn first_cell(&self, members: &[StructMember<'t>], k: usize) -> u32
+        requires within { k < length members.now }
+        requires few { cells_of_all (layout_of self.now) (members_types members.now) < 2 ^ 32 }
+        ensures { result ≡ first_cell (layout_of self.now) (members_types members.now) k }
     {
-        let front = members.get(..k)?;
-        cells_of_members(&self.structs, front)
+        match self.cells_of_all(front(members, k)) {
+            Some(first) => first,
+            None => unreachable!(),
+        }
+    }
+
+    /// How many cells the member with this number has in a struct with these members, which have fewer than 2^32 cells
+    /// together.
+    pub fn member_cells(&self, members: &[StructMember<'t>], k: usize) -> u32
+        requires within { k < length members.now }
+        requires few { cells_of_all (layout_of self.now) (members_types members.now) < 2 ^ 32 }
+        ensures { result ≡ cells (layout_of self.now) (slice_index_or (members_types members.now) k void) }
+    {
+        match self.cells(&members[k].ctype) {
+            Some(cells) => cells,
+            None => unreachable!(),
+        }
     }
 
     /// What `sizeof` gives for the type (C99 6.5.3.4), where it is below 2^32.
     pub fn sizeof(&self, t: &CType) -> Option<u32>
-        ensures { IfSome result (λ n. n ≡ sizeof (layout_of self.now) (ctype_of t.now)) }
+        ensures { SomeIff result (sizeof (layout_of self.now) (ctype_of t.now) < 2 ^ 32) (sizeof (layout_of self.now) (ctype_of t.now)) }
     {
-        let extent = extent_in(&self.structs, t)?;
-        Some(extent.size)
+        size_in(&self.structs, t)
     }
 
-    /// Gives a struct its members. `OutOfMemory` comes too where the struct isn't there or has a definition, where a
-    /// member holds a struct without one, and where the struct takes 2^32 cells or bytes.
-    pub fn define(&mut self, s: u32, members: Vec<StructMember<'t>>) -> Result<(), OutOfMemory>
-        ensures { OnOk result (self.new ≡ slice_set self.old s (Some (knowns_of members.entry.items))) }
+    /// Gives a struct without a definition its members, which hold structs with definitions alone and are within the
+    /// limit on the cells of a struct; a struct that isn't there stays away.
+    pub fn define(&mut self, s: u32, members: Vec<StructMember<'t>>)
+        requires open { unwrap_or (slice_get self.old s) None ≡ None }
+        requires known { AllInAll (IsDefined (layout_of self.old)) (members_types members.items) }
+        requires few { cells_of_all (layout_of self.old) (members_types members.items) ≤ most_cells }
+        ensures { self.new ≡ slice_set self.old s (Some (knowns_of members.entry.items)) }
     {
         put(&mut self.structs, s as usize, members)
     }

@@ -28,7 +28,7 @@ use crate::labels::labels_of;
 use c_check_bodies::{
     Around, Labelled, StatementTree, StatementTrees, alone, appended, bare, block, broken_off,
     continued, do_loop, for_loop, group_added, if_else, in_loop, in_switch, label_type,
-    leave_block, no_labelled, no_statements, one_deeper, only_if, pushed, switch_laid, while_loop,
+    leave_block, no_labelled, no_statements, only_if, pushed, switch_laid, while_loop,
 };
 use c_check_counts::Next;
 use c_check_scopes::{Before, Environment};
@@ -104,9 +104,9 @@ fn block_statement<'t>(
     ensures numbered { OnOk result (next_of next.new ≡ past_names (next_of next.old) (names_of_stmt (block at (block_items_of items.now)))) }
     ensures kept { OnOk result (env.new ≡ env.old) }
 {
-    let depth = env.depth;
+    let depth = env.depth.copy()?;
     let count = env.names.len();
-    let deeper = one_deeper(depth)?;
+    let deeper = env.depth.one_more()?;
     env.depth = deeper;
     let laid = items_of_block(alloc, env, around, before, next, items)?;
     leave_block(env, count, depth);
@@ -221,9 +221,9 @@ fn for_statement<'t>(
     ensures numbered { OnOk result (next_of next.new ≡ past_names (next_of next.old) (names_of_stmt (for_loop at (first_of_head first.now) (maybe_of test.now) (maybe_of step.now) (stmt_of body.now)))) }
     ensures kept { OnOk result (env.new ≡ env.old) }
 {
-    let depth = env.depth;
+    let depth = env.depth.copy()?;
     let count = env.names.len();
-    let deeper = one_deeper(depth)?;
+    let deeper = env.depth.one_more()?;
     env.depth = deeper;
     let laid = for_parts(
         alloc, env, around, before, next, body, at, first, test, step,

@@ -35,11 +35,11 @@ structs_as (Err e) n m count h = h
 
 -- ## The environment
 
-abbrev pub begun : Mode → (defined objects struct_tags : List Name) → List Struct → List Bound → (enums functions tags : List Name) → Env
-begun m fs os ts structs names enums functions tags = record {
+abbrev pub begun : Mode → (defined objects struct_tags : List Name) → List Struct → List Bound → (enums functions tags : List Name) → (depth : ℕ) → Env
+begun m fs os ts structs names enums functions tags depth = record {
   whole = record { mode = m; functions = fs; objects = os; tags = ts };
   names = bindings_of names;
-  depth = 0;
+  depth = depth;
   structs = structs;
   enums = reverse enums;
   functions = functions;
@@ -47,8 +47,8 @@ begun m fs os ts structs names enums functions tags = record {
   context = evaluated;
 }
 
-pub begins : (m : Mode) (u : Items) (fs os ts : List Name) (structs : List Struct) (names : List Bound) (enums functions tags : List Name)
-    → fs ≡ functions_of u → os ≡ objects_of u → ts ≡ tags_of u → structs ≡ replicate (length ts) incomplete → names ≡ [] → enums ≡ [] → functions ≡ [] → tags ≡ []
-    → begun m fs os ts structs names enums functions tags ≡ env_before m u
-begins m u fs os ts structs names enums functions tags f o t s n e g k =
-    ap (λ ss. begun m fs os ts ss names enums functions tags) s ∙ (λ i. begun m (f i) (o i) (t i) (replicate (length (t i)) incomplete) (n i) (e i) (g i) (k i))
+pub begins : (m : Mode) (u : Items) (fs os ts : List Name) (structs : List Struct) (names : List Bound) (enums functions tags : List Name) (depth : ℕ)
+    → fs ≡ functions_of u → os ≡ objects_of u → ts ≡ tags_of u → structs ≡ replicate (length ts) incomplete → names ≡ [] → enums ≡ [] → functions ≡ [] → tags ≡ [] → depth ≡ 0
+    → begun m fs os ts structs names enums functions tags depth ≡ env_before m u
+begins m u fs os ts structs names enums functions tags depth f o t s n e g k d =
+    ap (λ ss. begun m fs os ts ss names enums functions tags depth) s ∙ (λ i. begun m (f i) (o i) (t i) (replicate (length (t i)) incomplete) (n i) (e i) (g i) (k i) (d i))

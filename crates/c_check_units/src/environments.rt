@@ -10,6 +10,7 @@ use c_check_counts::{functions_of, objects_of};
 use c_check_scopes::{Context, Environment, Numbering, Scopes, StructTable};
 use c_syntax::Item;
 use dm_base::{Mode, OutOfMemory};
+use dm_counts::Count;
 use std::alloc::Global;
 
 // The names in their order.
@@ -43,10 +44,7 @@ fn objects_in<'t>(alloc: Global, items: &'t [Item]) -> Result<Numbering<'t>, Out
 fn structs_with<'t>(alloc: Global, tags: &Numbering<'_>) -> Result<StructTable<'t>, OutOfMemory>
     ensures { IfOk result (λ structs. structs_of structs ≡ replicate (length tags.now) incomplete) }
 {
-    let Ok(count) = u32::try_from(tags.len()) else {
-        return Err(OutOfMemory);
-    };
-    StructTable::new(alloc, count)
+    StructTable::new(alloc, tags.len())
 }
 
 /// What is known before the items of a unit. `OutOfMemory` comes too where there are 2^32 functions, objects or tags.
@@ -71,7 +69,7 @@ pub fn environment_before<'t>(
         objects,
         struct_tags,
         names,
-        depth: 0,
+        depth: Count::zero(alloc),
         structs,
         enums,
         functions,

@@ -41,7 +41,7 @@ fn statics_with(
 }
 
 /// The program with these functions, this number of `main` and these static objects, where this is known and stands before behind all items.
-/// `OutOfMemory` comes too where there are 2^32 structs, or where a struct or a string has 2^32 cells.
+/// `OutOfMemory` comes too where a string has 2^32 cells.
 pub fn program_with(
     alloc: Global,
     env: &Environment<'_>,
@@ -57,12 +57,8 @@ pub fn program_with(
     let structs = structs_of(alloc, env)?;
     let struct_cells = cells_of_structs(alloc, env)?;
     let statics = statics_with(alloc, objects, &before.strings)?;
-    Ok(Program::of(
-        structs,
-        defined,
-        number,
-        statics,
-        before.sites,
-        struct_cells,
-    ))
+    match before.sites.number() {
+        Some(sites) => Ok(Program::of(structs, defined, number, statics, sites, struct_cells)),
+        None => unreachable!(),
+    }
 }

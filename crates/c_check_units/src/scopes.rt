@@ -4,9 +4,10 @@ ghost use Rattle.c_rules.specs.Scopes.{Env};
 ghost use Rattle.c_check_scopes.specs.View.{env_of};
 
 use c_check_scopes::Environment;
+use dm_counts::Count;
 
 /// Leaves scopes and names that were entered since so many names were declared at this depth.
-pub fn leave(env: &mut Environment<'_>, count: usize, depth: u32)
+pub fn leave(env: &mut Environment<'_>, count: usize, depth: Count)
     ensures { (e : Env) → IsWithin (env_of env.old) e → length e.names ≡ count → e.depth ≡ depth → env_of env.new ≡ e }
 {
     env.names.leave(count);

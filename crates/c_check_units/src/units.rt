@@ -22,7 +22,7 @@ use std::alloc::Global;
 
 /// The program that a unit with these items is typed as (C99 6.9), where they define these functions and these static objects, and this is
 /// known and stands before behind them; what is typed is well-typed. `At` names the demand that `main` is defined, and `OutOfMemory` comes
-/// too where there are 2^32 structs, or where a struct or a string has 2^32 cells.
+/// too where a string has 2^32 cells.
 pub fn typed_program(
     alloc: Global,
     mode: Mode,

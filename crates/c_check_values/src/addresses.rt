@@ -2,7 +2,7 @@ ghost use Rattle.std.specs.Prelude.{◌≡◌, ◌+◌, ◌*◌, ◌/◌, pos, �
 ghost use Rattle.c_check_values.specs.Moved.{moved_value};
 ghost use Rattle.c_tree.specs.declared.value.Value.TheVariants.{At};
 ghost use Rattle.c_check_values.specs.View.{constant_of};
-ghost use Rattle.c_rules.specs.Constants.{address_of_static, part_of, constant_member, constant_decayed, moved, constant_moved};
+ghost use Rattle.c_rules.specs.Constants.{address_of_static, number_of, part_of, constant_member, constant_decayed, moved, constant_moved};
 
 use crate::operators::number_of;
 use crate::typed_expression::Constant;
@@ -73,18 +73,25 @@ pub fn constant_member(from: u32, cells: u32, c: Constant) -> Result<Constant, O
     }
 }
 
+// How many elements of so many cells an array of this width has; none where an element has no cell.
+fn elements_in(width: u32, cells: u32) -> u32
+    ensures { result ≡ width / cells }
+{
+    if cells == 0 {
+        return 0;
+    }
+    width / cells
+}
+
 // An array as a pointer to the first of its elements.
 fn first_element(q: &Pointer, cells: u32) -> Result<Constant, OutOfMemory>
     ensures { IfOk result (λ r. constant_of r ≡ part_of q.now 0 cells (q.now.width / cells)) }
 {
-    if cells == 0 {
-        return Err(OutOfMemory);
-    }
-    part_of(q, 0, cells, q.width / cells)
+    part_of(q, 0, cells, elements_in(q.width, cells))
 }
 
-/// The address of the first element of an array whose elements have so many cells. `OutOfMemory` comes where they have
-/// none, or a cell's number isn't below 2^32.
+/// The address of the first element of an array whose elements have so many cells. `OutOfMemory` comes where a cell's
+/// number isn't below 2^32.
 pub fn constant_decayed(cells: u32, c: Constant) -> Result<Constant, OutOfMemory>
     ensures { IfOk result (λ r. constant_of r ≡ constant_decayed cells (constant_of c)) }
 {
@@ -112,17 +119,16 @@ fn at_index(q: &Pointer, index: u32) -> Value
 }
 
 // A pointer so many elements on.
-fn moved_on(q: &Pointer, by: i64) -> Result<Constant, OutOfMemory>
-    requires { pos 0 ≤ℤ by }
-    ensures { IfOk result (λ c. constant_of c ≡ moved q.now by) }
+fn moved_on(q: &Pointer, by: i64) -> Constant
+    requires least { pos 0 ≤ℤ by }
+    requires most { by ≤ℤ pos 4294967295 }
+    ensures { constant_of result ≡ moved q.now by }
 {
-    let Some(index) = (q.index as i64).checked_add(by) else {
-        return Err(OutOfMemory);
-    };
+    let index = q.index as i64 + by;
     if index > q.elements as i64 {
-        return Ok(Constant::Undefined);
+        return Constant::Undefined;
     }
-    Ok(Constant::Known(at_index(q, index as u32)))
+    Constant::Known(at_index(q, index as u32))
 }
 
 // A pointer so many elements back.
@@ -138,72 +144,67 @@ fn moved_back(q: &Pointer, by: i64) -> Constant
 }
 
 // A pointer within its array, or one past its end (C99 6.5.6 paragraph 8).
-fn moved(q: &Pointer, by: i64) -> Result<Constant, OutOfMemory>
-    ensures { IfOk result (λ c. constant_of c ≡ moved q.now by) }
+fn moved(q: &Pointer, by: i64) -> Constant
+    requires { by ≤ℤ pos 4294967295 }
+    ensures { constant_of result ≡ moved q.now by }
 {
     if by < 0 {
-        return Ok(moved_back(q, by));
+        return moved_back(q, by);
     }
     moved_on(q, by)
 }
 
 // A value that is moved, where it is a pointer to an object.
-fn value_moved(value: Value, by: i64) -> Result<Constant, OutOfMemory>
-    ensures { IfOk result (λ c. constant_of c ≡ moved_value value by) }
+fn value_moved(value: Value, by: i64) -> Constant
+    requires { by ≤ℤ pos 4294967295 }
+    ensures { constant_of result ≡ moved_value value by }
 {
     match value {
         Value::At(q) => moved(&q, by),
-        _ => Ok(Constant::Undefined),
+        _ => Constant::Undefined,
     }
 }
 
-/// A constant pointer plus a constant integer (C99 6.5.6 paragraph 8). `OutOfMemory` comes where a number isn't below
-/// 2^63.
-pub fn constant_moved_on(p: Constant, k: Constant) -> Result<Constant, OutOfMemory>
-    ensures { IfOk result (λ r. constant_of r ≡ constant_moved (constant_of p) (λ z. z) (constant_of k)) }
+/// A constant pointer plus a constant integer (C99 6.5.6 paragraph 8).
+pub fn constant_moved_on(p: Constant, k: Constant) -> Constant
+    ensures { constant_of result ≡ constant_moved (constant_of p) (λ z. z) (constant_of k) }
 {
     match p {
-        Constant::Not => Ok(Constant::Not),
+        Constant::Not => Constant::Not,
         Constant::Undefined => match k {
-            Constant::Not => Ok(Constant::Not),
-            _ => Ok(Constant::Undefined),
+            Constant::Not => Constant::Not,
+            _ => Constant::Undefined,
         },
         Constant::Known(value) => match k {
-            Constant::Not => Ok(Constant::Not),
-            Constant::Undefined => Ok(Constant::Undefined),
+            Constant::Not => Constant::Not,
+            Constant::Undefined => Constant::Undefined,
             Constant::Known(by) => value_moved(value, number_of(by)),
         },
     }
 }
 
-// The negative of a number.
-fn negative(z: i64) -> Result<i64, OutOfMemory>
-    ensures { IfOk result (λ n. n ≡ neg_ℤ z) }
+// The negative of the number that an integer is.
+fn negative(value: Value) -> i64
+    ensures number { result ≡ neg_ℤ (number_of value) }
+    ensures most { result ≤ℤ pos 4294967295 }
 {
-    match z.checked_neg() {
-        Some(n) => Ok(n),
-        None => Err(OutOfMemory),
-    }
+    -number_of(value)
 }
 
-/// A constant pointer minus a constant integer (C99 6.5.6 paragraph 8). `OutOfMemory` comes where a number isn't below
-/// 2^63.
-pub fn constant_moved_back(p: Constant, k: Constant) -> Result<Constant, OutOfMemory>
-    ensures { IfOk result (λ r. constant_of r ≡ constant_moved (constant_of p) (λ z. neg_ℤ z) (constant_of k)) }
+/// A constant pointer minus a constant integer (C99 6.5.6 paragraph 8).
+pub fn constant_moved_back(p: Constant, k: Constant) -> Constant
+    ensures { constant_of result ≡ constant_moved (constant_of p) (λ z. neg_ℤ z) (constant_of k) }
 {
     match p {
-        Constant::Not => Ok(Constant::Not),
+        Constant::Not => Constant::Not,
         Constant::Undefined => match k {
-            Constant::Not => Ok(Constant::Not),
-            _ => Ok(Constant::Undefined),
+            Constant::Not => Constant::Not,
+            _ => Constant::Undefined,
         },
         Constant::Known(value) => match k {
-            Constant::Not => Ok(Constant::Not),
-            Constant::Undefined => Ok(Constant::Undefined),
-            Constant::Known(by) => {
-                let back = negative(number_of(by))?;
-                value_moved(value, back)
-            }
+            Constant::Not => Constant::Not,
+            Constant::Undefined => Constant::Undefined,
+            Constant::Known(by) => value_moved(value, negative(by)),
         },
     }
 }

@@ -1,4 +1,4 @@
-ghost use Rattle.std.specs.Prelude.{◌≡◌};
+ghost use Rattle.std.specs.Prelude.{◌≡◌, ◌≤ℤ◌, pos, negsuc};
 ghost use Rattle.c_check_values.specs.View.{constant_of};
 ghost use Rattle.c_rules.specs.Constants.{answered, number_of, constant_converted, constant_unary, constant_binary, constant_truth, constant_and, constant_or, constant_conditional};
 ghost use Rattle.c_rules.specs.TypedExpression.{not_constant};
@@ -33,9 +33,11 @@ fn truth(is: bool) -> Constant
     }
 }
 
-/// The number that an integer is, 0 for any other value.
+/// The number that an integer is, 0 for any other value; it is from −2^31 to 2^32 − 1.
 pub fn number_of(value: Value) -> i64
-    ensures { result ≡ number_of value }
+    ensures number { result ≡ number_of value }
+    ensures least { negsuc 2147483647 ≤ℤ result }
+    ensures most { result ≤ℤ pos 4294967295 }
 {
     match value {
         Value::Int(z) => z as i64,

@@ -5,4 +5,4 @@ use Rattle.c_check_scopes.specs.declared.meaning.Meaning.TheVariants.{Local}
 
 pub returns-clause-kept : goal.returns-clause-kept
 returns-clause-kept c =
-    declared_one c.declare.result c.args.env.now c.declare.new.self (bound c.args.name.now c.args.env.now.depth (Local c.args.number c.in_ok-seen.seen c.in_ok-whole.whole)) c.declare.ensures
+    declared_one c.declare.result c.args.env.now c.declare.new.self (bound c.args.name.now c.in_ok-depth.depth (Local c.args.number c.in_ok-seen.seen c.in_ok-whole.whole)) c.declare.ensures

@@ -2,5 +2,5 @@ use Rattle.c_check_scopes.specs.View.{before_of}
 use Rattle.c_check_expressions.proofs.NodeLemmas.{past_call}
 use Rattle.c_check_expressions.proofs.counting.count_call.Goals as goal
 
-pub returns-in-Some : goal.returns-in-Some
-returns-in-Some c = past_call (before_of c.args.before.now) c.in-Some.sites c.in-Some.ensures.1
+pub returns : goal.returns
+returns c = past_call (before_of c.args.before.now) c.raise.new.self c.in_ok-raise.ensures

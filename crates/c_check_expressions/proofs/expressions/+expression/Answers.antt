@@ -671,4 +671,4 @@ parameters_apart-returns-clause-judged t c =
 
 pub parameters_apart-returns-clause-kept : goal.parameters_apart-returns-clause-kept
 parameters_apart-returns-clause-kept t c =
-    left_again c.args.env.now c.parameters.new.env c.leave.new.self c.in_ok-depth.depth c.in_ok-types.ensures.kept (λ inner outer p q. c.leave.ensures inner outer p (q ∙ sym c.len-count.ensures))
+    left_again c.args.env.now c.parameters.new.env c.leave.new.self c.in_ok-depth.depth c.in_ok-outer.outer c.in_ok-outer.ensures c.in_ok-types.ensures.kept (λ inner outer p q. c.leave.ensures inner outer p (q ∙ sym c.len-count.ensures))

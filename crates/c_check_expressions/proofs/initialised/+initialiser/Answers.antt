@@ -1,9 +1,10 @@
 use Rattle.std.proofs.Common.{◌≡◌, ◌∙◌, ◌++◌, ap, sym, arith, refl, rules}
 use Rattle.std.proofs.lemmas.List.{map-append}
 use Rattle.c_check_initialisers.specs.CellView.{cells_of, typed_expressions_of, slots_of}
+use Rattle.c_check_initialisers.specs.SlotsLeft.{ctype_seen, slot_at}
 use Rattle.c_check_values.proofs.Parts.{raised}
 use Rattle.c_check_values.specs.View.{typed_expression_of}
-use Rattle.c_check_expressions.proofs.InitLemmas.{counted_more_in, counted_starts, list_counted, list_fits, list_judged, list_many, turn_fails_in, turn_full, turn_more_in, turn_starts}
+use Rattle.c_check_expressions.proofs.InitLemmas.{counted_more_in, counted_starts, list_counted, list_fits, list_judged, list_many, none_there, turn_fails_in, turn_more_in, turn_starts, turn_stops}
 use Rattle.c_check_expressions.proofs.initialised.+initialiser.Goals as goal
 use Rattle.c_rules.specs.Counts.{past}
 use Rattle.c_rules.specs.Initialisers.{calls_of_inits, held_in_turn, in_turn, takes_list}
@@ -34,14 +35,15 @@ in_turn-loop-i-preserved t c =
           (slots_of c.args.slots.now) c.args.inits.now c.loop-i.i-index c.loop-i.place c.i-item.result (ctype_of c.in-Some.t.now) (ap env_of c.loop-i.invariant.kept) c.loop-i.invariant.place c.loop-i-test.true c.i-item.is c.in-Some.ensures c.loop-i.invariant.counted c.in_ok-one.ensures.counted;
     }
 
-pub in_turn-returns-then-place-capacity-clause-judged : goal.in_turn-returns-then-place-capacity-clause-judged
-in_turn-returns-then-place-capacity-clause-judged t c =
-    turn_full (env_of c.args.env.now) (before_of c.loop-i.before) c.args.is_static (slots_of c.args.slots.now) c.args.inits.now c.loop-i.i-index c.i-item.result (typed_expressions_of c.loop-i.cells.items)
+pub in_turn-returns-in_default-clause-judged : goal.in_turn-returns-in_default-clause-judged
+in_turn-returns-in_default-clause-judged t c =
+    turn_stops (env_of c.args.env.now) (before_of c.loop-i.before) c.args.is_static (slots_of c.args.slots.now) c.args.inits.now c.loop-i.i-index c.i-item.result (typed_expressions_of c.loop-i.cells.items)
     (in_turn (env_of c.args.env.now) (before_of c.args.before.now) c.args.is_static (slots_of c.args.slots.now) (inits_of c.args.inits.now)) c.loop-i-test.true c.i-item.is
-    (omega (arith, c.if-place-capacity.true, c.capacity.ensures, c.loop-i.invariant.place)) c.loop-i.invariant.judged
+    (ap (slot_at (slots_of c.args.slots.now)) (sym c.loop-i.invariant.place) ∙ (sym c.slot_at.ensures ∙ ap ctype_seen c.in_default.is)) c.loop-i.invariant.judged
 
-pub in_turn-returns-then-place-capacity-clause-counted : goal.in_turn-returns-then-place-capacity-clause-counted
-in_turn-returns-then-place-capacity-clause-counted t c few = absurd (omega (arith, few, c.loop-i-test.true, c.if-place-capacity.true, c.capacity.ensures, c.loop-i.invariant.place))
+pub in_turn-returns-in_default-clause-counted : goal.in_turn-returns-in_default-clause-counted
+in_turn-returns-in_default-clause-counted t c few =
+    absurd (omega (arith, few, c.loop-i-test.true, none_there (slots_of c.args.slots.now) c.loop-i.place (sym c.slot_at.ensures ∙ ap ctype_seen c.in_default.is), c.loop-i.invariant.place))
 
 pub in_turn-returns-in_err-one-clause-judged : goal.in_turn-returns-in_err-one-clause-judged
 in_turn-returns-in_err-one-clause-judged t c =

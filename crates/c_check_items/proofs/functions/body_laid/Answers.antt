@@ -1,4 +1,4 @@
-use Rattle.std.proofs.Common.{◌≡◌, refl, ap, sym, ◌∙◌}
+use Rattle.std.proofs.Common.{◌≡◌, ap, sym, ◌∙◌}
 use Rattle.std.specs.Prelude.{false}
 use Rattle.c_check_counts.specs.Numbered.{next_of}
 use Rattle.c_check_values.proofs.Parts.{raised}
@@ -49,7 +49,7 @@ pub returns-clause-kept : goal.returns-clause-kept
 returns-clause-kept c =
     let env : Env = env_of c.args.env.now in
     let inner : IsWithin (env_of c.enter_body.new.env) env = same_within (env_of c.enter_body.new.env) (body_env env (declarator_of c.args.d.now) (types_of c.args.types.now)) env c.in_ok-enter_body.ensures (body_within env (declarator_of c.args.d.now) (types_of c.args.types.now)) in
-    c.leave.ensures env (same_within (env_of c.body_of.new.env) (env_of c.enter_body.new.env) env (ap env_of c.in_ok-laid.ensures.kept) inner) c.count_names-count.ensures refl
+    c.leave.ensures env (same_within (env_of c.body_of.new.env) (env_of c.enter_body.new.env) env (ap env_of c.in_ok-laid.ensures.kept) inner) c.count_names-count.ensures (sym c.in_ok-depth.ensures)
 
 pub returns-clause-counted : goal.returns-clause-counted
 returns-clause-counted c =

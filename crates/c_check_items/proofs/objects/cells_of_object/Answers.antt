@@ -1,4 +1,4 @@
-use Rattle.std.proofs.Common.{◌≡◌, List, refl, ap, sym, ◌∙◌}
+use Rattle.std.proofs.Common.{◌≡◌, ◌+◌, ◌≤◌, List, ap, sym, subst, ◌∙◌}
 use Rattle.std.specs.Prelude.{true}
 use Rattle.c_check_values.proofs.Parts.{raised}
 use Rattle.c_check_items.proofs.Moves.{held_by_same, named_within, same_within, same_named}
@@ -10,12 +10,18 @@ use Rattle.c_rules.specs.Counts.{past}
 use Rattle.c_rules.specs.TypedExpression.{TypedExpression}
 use Rattle.c_rules.specs.Initialisers.{calls_of_maybe_init, held_by, initialised_static}
 use Rattle.c_rules.specs.Items.{after_object, seen_of_global, within_global}
-use Rattle.c_rules.specs.Scopes.{Env, Before, meaning_or_unknown}
+use Rattle.c_rules.specs.Limits.{most_static_cells}
+use Rattle.c_rules.specs.Scopes.{Env, Before, layout_of, meaning_or_unknown}
 use Rattle.c_check_scopes.specs.View.{before_of, env_of}
 use Rattle.c_syntax.specs.UnitView.{maybe_init_of}
 use Rattle.c_syntax.specs.View.{ident_of}
+use Rattle.c_tree.specs.Layout.{cells}
 use Rattle.c_tree.specs.View.{ctype_of}
 use Rattle.c_check_items.proofs.objects.cells_of_object.Goals as goal
+
+pub count_object-requires : goal.count_object-requires
+count_object-requires c =
+    subst (λ (e : Env). (before_of c.args.before.now).cells + cells (layout_of e) (ctype_of c.args.o.now.whole) ≤ most_static_cells) (sym c.in_ok-declare_within.ensures) c.requires
 
 pub returns-in_err-cells-clause-judged : goal.returns-in_err-cells-clause-judged
 returns-in_err-cells-clause-judged c =
@@ -43,7 +49,7 @@ returns-clause-kept c =
     let env : Env = env_of c.args.env.now in
     let x = ident_of c.args.x.now in
     let inner : IsWithin (env_of c.declare_within.new.env) env = named_within (env_of c.declare_within.new.env) env x.name (meaning_or_unknown (seen_of_global env true x (fine (object_seen c.args.o.now)))) c.in_ok-declare_within.ensures in
-    c.leave.ensures env (same_within (env_of c.initialised_static.new.env) (env_of c.declare_within.new.env) env (ap env_of c.in_ok-cells.ensures.kept) inner) c.count_names-count.ensures refl
+    c.leave.ensures env (same_within (env_of c.initialised_static.new.env) (env_of c.declare_within.new.env) env (ap env_of c.in_ok-cells.ensures.kept) inner) c.count_names-count.ensures (sym c.in_ok-depth.ensures)
 
 pub returns-clause-counted : goal.returns-clause-counted
 returns-clause-counted c =

@@ -1,7 +1,7 @@
-use Rattle.std.proofs.Common.{◌≡◌, List, ap, sym, ◌∙◌, rules}
+use Rattle.std.proofs.Common.{◌≡◌, ◌+◌, ◌≤◌, List, ap, sym, subst, ◌∙◌, rules}
 use Rattle.std.specs.Prelude.{[], ◌∷◌, true}
 use Rattle.c_check_values.proofs.Parts.{names_on, raised}
-use Rattle.c_check_items.proofs.Moves.{definition_fails, definition_is, same_named}
+use Rattle.c_check_items.proofs.Moves.{definition_fails, definition_is, same_named, within_limit}
 use Rattle.c_check_declarations.specs.ObjectView.{object_seen}
 use Rattle.c_rules.specs.Checked.{Checked, fine}
 use Rattle.c_rules.specs.Counts.{past}
@@ -9,12 +9,21 @@ use Rattle.c_rules.specs.TypedExpression.{TypedExpression}
 use Rattle.c_rules.specs.Initialisers.{calls_of_maybe_init, held_by, initialised_static}
 use Rattle.c_rules.specs.Items.{after_global, after_object, behind_global, definition_of, global, global_declared, within_global}
 use Rattle.c_rules.specs.Objects.{Object}
-use Rattle.c_rules.specs.Scopes.{Env}
+use Rattle.c_rules.specs.Limits.{most_static_cells}
+use Rattle.c_rules.specs.Scopes.{Env, layout_of}
 use Rattle.c_check_scopes.specs.View.{before_of, env_of}
 use Rattle.c_syntax.specs.UnitView.{maybe_init_of}
 use Rattle.c_syntax.specs.View.{declarator_of, ident_of, spec_of}
+use Rattle.c_tree.specs.Layout.{cells}
 use Rattle.c_tree.specs.View.{static_of}
 use Rattle.c_check_items.proofs.objects.global_definition.Goals as goal
+
+pub cells_of_object-requires : goal.cells_of_object-requires
+cells_of_object-requires c =
+    let b = before_of c.args.before.now in
+    let o : Object = object_seen c.in_ok-object.object in
+    subst (λ (e : Env). b.cells + cells (layout_of e) o.whole ≤ most_static_cells) (sym (ap env_of c.in_ok-object.ensures.kept))
+    (within_limit (env_of c.args.env.now) b c.args.at (spec_of c.args.s.now) (declarator_of c.args.d.now) (ident_of c.args.x.now) (maybe_init_of c.args.m.now) o c.in_ok-object.ensures.declared c.in_ok-object.ensures.judged)
 
 pub returns-in_err-object-clause-judged : goal.returns-in_err-object-clause-judged
 returns-in_err-object-clause-judged c =

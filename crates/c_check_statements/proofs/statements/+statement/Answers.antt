@@ -47,7 +47,7 @@ block_statement-returns-clause-counted t c =
 
 pub block_statement-returns-clause-kept : goal.block_statement-returns-clause-kept
 block_statement-returns-clause-kept t c =
-    c.leave_block.ensures c.args.env.now (declared_deeper c.args.env.now c.items_of_block.new.env c.in_ok-deeper.deeper c.in_ok-deeper.ensures c.in_ok-laid.ensures.kept) (sym c.len-count.ensures) refl
+    c.leave_block.ensures c.args.env.now (declared_deeper c.args.env.now c.items_of_block.new.env c.in_ok-deeper.deeper c.in_ok-deeper.ensures c.in_ok-laid.ensures.kept) (sym c.len-count.ensures) (sym c.in_ok-depth.ensures)
 
 pub tested-returns-in_err-condition-clause-judged : goal.tested-returns-in_err-condition-clause-judged
 tested-returns-in_err-condition-clause-judged t c =
@@ -123,7 +123,7 @@ for_statement-returns-clause-counted t c =
 
 pub for_statement-returns-clause-kept : goal.for_statement-returns-clause-kept
 for_statement-returns-clause-kept t c =
-    c.leave_block.ensures c.args.env.now (declared_deeper c.args.env.now c.for_parts.new.env c.in_ok-deeper.deeper c.in_ok-deeper.ensures c.in_ok-laid.ensures.kept) (sym c.len-count.ensures) refl
+    c.leave_block.ensures c.args.env.now (declared_deeper c.args.env.now c.for_parts.new.env c.in_ok-deeper.deeper c.in_ok-deeper.ensures c.in_ok-laid.ensures.kept) (sym c.len-count.ensures) (sym c.in_ok-depth.ensures)
 
 pub for_parts-returns-in_err-head-clause-judged : goal.for_parts-returns-in_err-head-clause-judged
 for_parts-returns-in_err-head-clause-judged t c =

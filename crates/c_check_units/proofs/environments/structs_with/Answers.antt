@@ -1,6 +1,6 @@
-use Rattle.std.proofs.Common.{arith, length}
+use Rattle.std.proofs.Common.{length}
 use Rattle.c_check_units.proofs.EnvironmentLemmas.{structs_as}
 use Rattle.c_check_units.proofs.environments.structs_with.Goals as goal
 
 pub returns : goal.returns
-returns c = structs_as c.new.result c.in-Ok.count (length c.args.tags.now) (omega (arith, c.in-Ok.ensures, c.len.ensures)) c.new.ensures
+returns c = structs_as c.new.result c.len.result (length c.args.tags.now) c.len.ensures c.new.ensures

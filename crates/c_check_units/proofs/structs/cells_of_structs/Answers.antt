@@ -10,8 +10,8 @@ loop-s-init c = subst (HaveCells (layout_of (env_of c.args.env.now)) 0) (sym c.n
 
 pub loop-s-preserved : goal.loop-s-preserved
 loop-s-preserved c =
-    cells_more (layout_of (env_of c.args.env.now)) c.loop-s.s c.in_ok-cells.cells c.loop-s.counts.items c.push.new.self.items c.loop-s.invariant c.in_ok-cells.ensures (search rules)
+    cells_more (layout_of (env_of c.args.env.now)) c.loop-s.s c.struct_cells-cells.result c.loop-s.counts.items c.push.new.self.items c.loop-s.invariant c.struct_cells-cells.ensures (search rules)
 
 pub returns : goal.returns
 returns c size =
-    cells_all (layout_of (env_of c.args.env.now)) c.in_ok-count.count c.loop-s.s c.loop-s.counts.items c.loop-s-test.false c.loop-s.invariant (length-map (env_of c.args.env.now).structs types_of_struct ∙ (size ∙ sym c.in_ok-count.ensures))
+    cells_all (layout_of (env_of c.args.env.now)) c.len-count.result c.loop-s.s c.loop-s.counts.items c.loop-s-test.false c.loop-s.invariant (length-map (env_of c.args.env.now).structs types_of_struct ∙ (size ∙ sym c.len-count.ensures))

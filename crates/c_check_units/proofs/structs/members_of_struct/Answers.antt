@@ -7,4 +7,4 @@ use Rattle.c_check_units.proofs.structs.members_of_struct.Goals as goal
 
 pub returns-in_ok-types-in-Some : goal.returns-in_ok-types-in-Some
 returns-in_ok-types-in-Some c =
-    types_shown c.in-Some.members.now (ctypes_of c.in_ok-types-in-Some.types.items) c.in_ok-types-in-Some.ensures ∙ sym (ap types_of_struct (c.members.ensures ∙ ap struct_in c.in-Some.is))
+    types_shown c.in-Some.members.now (ctypes_of c.in_ok-types-in-Some.types.items) c.in_ok-types-in-Some.ensures ∙ sym (ap types_of_struct (c.members_at.ensures ∙ ap struct_in c.in-Some.is))
