@@ -16,6 +16,7 @@ ghost use Rattle.null_calls.specs.Parts.{part_of};
 use c_syntax::{Decl, DeclPart, Expr, Init, InitKind};
 use c_syntax_nodes::{copy_declarator, copy_spec};
 use dm_base::OutOfMemory;
+use dm_counts::Count;
 use null_calls_expressions::expression;
 use null_calls_temporaries::{MarkedSites, Temporary};
 use std::alloc::Global;
@@ -26,7 +27,7 @@ pub fn maybe<'p>(
     table: &MarkedSites<'p>,
     wanted: bool,
     e: &Option<Expr>,
-    next: &mut u32,
+    next: &mut Count,
     kept: &mut Vec<Temporary<'p>>,
 ) -> Result<Option<Expr>, OutOfMemory>
     ensures tree { IfOk result (λ made. maybe_of made ≡ marked.maybe (sited table.now) next.old wanted (maybe_of e.now)) }
@@ -57,7 +58,7 @@ fn init<'p>(
     alloc: Global,
     table: &MarkedSites<'p>,
     i: &Init,
-    next: &mut u32,
+    next: &mut Count,
     kept: &mut Vec<Temporary<'p>>,
 ) -> Result<Init, OutOfMemory>
     ensures tree { IfOk result (λ made. init_of made ≡ marks.init (sited table.now) next.old (init_of i.now)) }
@@ -85,7 +86,7 @@ fn init_list<'p>(
     alloc: Global,
     table: &MarkedSites<'p>,
     list: &[Init],
-    next: &mut u32,
+    next: &mut Count,
     kept: &mut Vec<Temporary<'p>>,
 ) -> Result<Vec<Init>, OutOfMemory>
     ensures tree { IfOk result (λ made. inits_of made.items ≡ marks.inits (sited table.now) next.old (inits_of list.now)) }
@@ -104,7 +105,7 @@ fn maybe_init<'p>(
     alloc: Global,
     table: &MarkedSites<'p>,
     i: &Option<Init>,
-    next: &mut u32,
+    next: &mut Count,
     kept: &mut Vec<Temporary<'p>>,
 ) -> Result<Option<Init>, OutOfMemory>
     ensures tree { IfOk result (λ made. maybe_init_of made ≡ marks.maybe_init (sited table.now) next.old (maybe_init_of i.now)) }
@@ -124,7 +125,7 @@ fn part<'p>(
     alloc: Global,
     table: &MarkedSites<'p>,
     p: &DeclPart,
-    next: &mut u32,
+    next: &mut Count,
     kept: &mut Vec<Temporary<'p>>,
 ) -> Result<DeclPart, OutOfMemory>
     ensures tree { IfOk result (λ made. part_of made ≡ marks.parts (sited table.now) next.old (part_of p.now)) }
@@ -140,7 +141,7 @@ fn part_list<'p>(
     alloc: Global,
     table: &MarkedSites<'p>,
     ps: &[DeclPart],
-    next: &mut u32,
+    next: &mut Count,
     kept: &mut Vec<Temporary<'p>>,
 ) -> Result<Vec<DeclPart>, OutOfMemory>
     ensures tree { IfOk result (λ made. parts_of made.items ≡ marks.parts (sited table.now) next.old (parts_of ps.now)) }
@@ -160,7 +161,7 @@ pub fn declaration<'p>(
     alloc: Global,
     table: &MarkedSites<'p>,
     d: &Decl,
-    next: &mut u32,
+    next: &mut Count,
     kept: &mut Vec<Temporary<'p>>,
 ) -> Result<Decl, OutOfMemory>
     ensures tree { IfOk result (λ made. decl_of made ≡ marks.declaration (sited table.now) next.old (decl_of d.now)) }

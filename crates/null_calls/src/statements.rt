@@ -17,6 +17,7 @@ use crate::statement_nodes::{
 use c_syntax::{BlockItem, ForFirst, Group, Stmt, StmtKind};
 use c_syntax_nodes::copy_labels;
 use dm_base::OutOfMemory;
+use dm_counts::Count;
 use null_calls_expressions::expression;
 use null_calls_temporaries::{MarkedSites, Temporary};
 use std::alloc::Global;
@@ -26,7 +27,7 @@ fn head<'p>(
     alloc: Global,
     table: &MarkedSites<'p>,
     f: &ForFirst,
-    next: &mut u32,
+    next: &mut Count,
     kept: &mut Vec<Temporary<'p>>,
 ) -> Result<ForFirst, OutOfMemory>
     ensures tree { IfOk result (λ made. first_of_head made ≡ marks.first (sited table.now) next.old (first_of_head f.now)) }
@@ -53,7 +54,7 @@ pub fn statement<'p>(
     alloc: Global,
     table: &MarkedSites<'p>,
     s: &Stmt,
-    next: &mut u32,
+    next: &mut Count,
     kept: &mut Vec<Temporary<'p>>,
 ) -> Result<Stmt, OutOfMemory>
     ensures tree { IfOk result (λ made. stmt_of made ≡ marks.stmt (sited table.now) next.old (stmt_of s.now)) }
@@ -146,7 +147,7 @@ pub fn block_items<'p>(
     alloc: Global,
     table: &MarkedSites<'p>,
     list: &[BlockItem],
-    next: &mut u32,
+    next: &mut Count,
     kept: &mut Vec<Temporary<'p>>,
 ) -> Result<Vec<BlockItem>, OutOfMemory>
     ensures tree { IfOk result (λ made. block_items_of made.items ≡ marks.items_of_block (sited table.now) next.old (block_items_of list.now)) }
@@ -166,7 +167,7 @@ fn block_item<'p>(
     alloc: Global,
     table: &MarkedSites<'p>,
     x: &BlockItem,
-    next: &mut u32,
+    next: &mut Count,
     kept: &mut Vec<Temporary<'p>>,
 ) -> Result<BlockItem, OutOfMemory>
     ensures tree { IfOk result (λ made. item_of made ≡ marks.items_of_block (sited table.now) next.old (item_of x.now)) }
@@ -190,7 +191,7 @@ fn statement_list<'p>(
     alloc: Global,
     table: &MarkedSites<'p>,
     list: &[Stmt],
-    next: &mut u32,
+    next: &mut Count,
     kept: &mut Vec<Temporary<'p>>,
 ) -> Result<Vec<Stmt>, OutOfMemory>
     ensures tree { IfOk result (λ made. stmts_of made.items ≡ marks.stmts (sited table.now) next.old (stmts_of list.now)) }
@@ -210,7 +211,7 @@ fn group_list<'p>(
     alloc: Global,
     table: &MarkedSites<'p>,
     list: &[Group],
-    next: &mut u32,
+    next: &mut Count,
     kept: &mut Vec<Temporary<'p>>,
 ) -> Result<Vec<Group>, OutOfMemory>
     ensures tree { IfOk result (λ made. groups_of made.items ≡ marks.groups (sited table.now) next.old (groups_of list.now)) }
@@ -230,7 +231,7 @@ fn one_group<'p>(
     alloc: Global,
     table: &MarkedSites<'p>,
     g: &Group,
-    next: &mut u32,
+    next: &mut Count,
     kept: &mut Vec<Temporary<'p>>,
 ) -> Result<Group, OutOfMemory>
     ensures tree { IfOk result (λ made. group_of made ≡ marks.groups (sited table.now) next.old (group_of g.now)) }

@@ -27,6 +27,7 @@ use c_syntax_nodes::{
 use c_tree::Program;
 use call_graph::Calls;
 use dm_base::{Bytes, OutOfMemory};
+use dm_counts::Count;
 use null_calls_temporaries::{
     MarkedSites, Temporary, declared, declared_alone, post_name, pre_name,
 };
@@ -52,7 +53,7 @@ fn alone<'p>(
     alloc: Global,
     table: &MarkedSites<'p>,
     s: &Stmt,
-    next: &mut u32,
+    next: &mut Count,
     kept: &mut Vec<Temporary<'p>>,
 ) -> Result<Vec<BlockItem>, OutOfMemory>
     ensures tree { IfOk result (λ made. block_items_of made.items ≡ parts.items_of_block (sited table.now) next.old (block_stmt (stmt_of s.now) no_block_items)) }
@@ -89,7 +90,7 @@ fn body_items<'p>(
     alloc: Global,
     table: &MarkedSites<'p>,
     body: &Stmt,
-    next: &mut u32,
+    next: &mut Count,
     kept: &mut Vec<Temporary<'p>>,
 ) -> Result<Vec<BlockItem>, OutOfMemory>
     ensures tree { IfOk result (λ made. block_items_of made.items ≡ parts.items_of_block (sited table.now) next.old (items_of_body (stmt_of body.now))) }
@@ -109,7 +110,7 @@ fn body_of<'p>(
     tags: &[&[u8]],
     at: u32,
     body: &Stmt,
-    next: &mut u32,
+    next: &mut Count,
 ) -> Result<Stmt, OutOfMemory>
     ensures tree { IfOk result (λ made. stmt_of made ≡ marks.body_of (sited table.now) (seen tags.now) at next.old (items_of_body (stmt_of body.now))) }
     ensures counts { OnOk result (next.new ≡ next.old + calls_of_block (items_of_body (stmt_of body.now))) }
@@ -126,7 +127,7 @@ fn item<'p>(
     table: &MarkedSites<'p>,
     tags: &[&[u8]],
     x: &Item,
-    next: &mut u32,
+    next: &mut Count,
 ) -> Result<Item, OutOfMemory>
     ensures tree { IfOk result (λ made. item_at made.at made.kind ≡ marks.item (sited table.now) (seen tags.now) next.old (item_at x.now.at x.now.kind)) }
     ensures counts { OnOk result (next.new ≡ next.old + calls_of_item (item_at x.now.at x.now.kind)) }
@@ -194,7 +195,7 @@ fn all_items<'p>(
 ) -> Result<Vec<Item>, OutOfMemory>
     ensures { IfOk result (λ made. items_of made.items ≡ marks.items (sited table.now) (seen tags.now) 0 (items_of list.now)) }
 {
-    let mut next = 0_u32;
+    let mut next = Count::zero(alloc);
     let mut made = Vec::new(alloc);
     for k in 0..list.len() {
         let one = item(alloc, table, tags, &list[k], &mut next)?;
@@ -207,7 +208,7 @@ fn all_items<'p>(
 /// calls are declared first, each function's body begins with the declarations of its temporaries, and each marked call is a comma
 /// expression that keeps the designator and the arguments, and calls between its null calls. `items` are those of the unit, and
 /// `calls` is the call graph of the program. Takes time that is linear in the unit that it makes. `OutOfMemory` comes too where the
-/// unit has 2^32 calls or tags.
+/// unit has 2^32 tags.
 pub fn instrument(
     alloc: Global,
     items: &[Item],

@@ -6,7 +6,7 @@ ghost use Rattle.null_calls_temporaries.specs.Sited.{sited};
 ghost use Rattle.null_calls_rules.specs.InstrumentedExpressions as marks;
 ghost use Rattle.null_calls_temporaries.specs.Kept.{temporaries_of};
 
-use crate::marked::{add_where, call_where, take_site};
+use crate::marked::{add_where, call_where};
 use crate::wanted::{is_void, is_wanted_at, is_without};
 use c_syntax::{Expr, ExprKind};
 use c_syntax_nodes::{
@@ -15,19 +15,20 @@ use c_syntax_nodes::{
     pre_dec_node, pre_inc_node, unary_node,
 };
 use dm_base::OutOfMemory;
+use dm_counts::Count;
 use null_calls_temporaries::{MarkedSites, Temporary};
 use std::alloc::Global;
 
 /// The expression with null calls round its marked calls (C99 6.5), where `next` calls stand before it in the unit and its value is
-/// wanted or not. The temporaries of its marked calls are added to `kept`, and its calls to `next`. `OutOfMemory` comes too where
-/// there are 2^32 calls.
+/// wanted or not. The temporaries of its marked calls are added to `kept`, and its calls to `next`. The only error is that memory was
+/// refused.
 #[cycle(expressions)]
 pub fn expression<'p>(
     alloc: Global,
     table: &MarkedSites<'p>,
     wanted: bool,
     e: &Expr,
-    next: &mut u32,
+    next: &mut Count,
     kept: &mut Vec<Temporary<'p>>,
 ) -> Result<Expr, OutOfMemory>
     ensures tree { IfOk result (λ made. expr_of made ≡ marks.expr (sited table.now) next.old wanted (expr_of e.now)) }
@@ -54,11 +55,11 @@ pub fn expression<'p>(
         }
         ExprKind::Call(d, es) => {
             let designator = expression(alloc, table, true, d, next, kept)?;
-            let site = take_site(next)?;
-            let called = table.at(site);
-            add_where(alloc, kept, site, wanted, called)?;
+            let marked = table.after(next);
+            next.raise()?;
+            add_where(alloc, kept, wanted, marked)?;
             let list = arguments(alloc, table, es, next, kept)?;
-            let made = call_where(alloc, at, site, wanted, called, designator, list)?;
+            let made = call_where(alloc, at, wanted, marked, designator, list)?;
             Ok(made)
         }
         ExprKind::Member(a, x) => {
@@ -150,7 +151,7 @@ fn arguments<'p>(
     alloc: Global,
     table: &MarkedSites<'p>,
     es: &[Expr],
-    next: &mut u32,
+    next: &mut Count,
     kept: &mut Vec<Temporary<'p>>,
 ) -> Result<Vec<Expr>, OutOfMemory>
     ensures tree { IfOk result (λ made. exprs_of made.items ≡ marks.arguments (sited table.now) next.old (exprs_of es.now)) }
@@ -172,7 +173,7 @@ fn members<'p>(
     table: &MarkedSites<'p>,
     wanted: bool,
     es: &[Expr],
-    next: &mut u32,
+    next: &mut Count,
     kept: &mut Vec<Temporary<'p>>,
 ) -> Result<Vec<Expr>, OutOfMemory>
     ensures tree { IfOk result (λ made. exprs_of made.items ≡ marks.members (sited table.now) next.old wanted (exprs_of es.now)) }

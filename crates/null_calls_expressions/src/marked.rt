@@ -1,11 +1,12 @@
 // A call, with null calls round it where it is marked.
 
-ghost use Rattle.std.specs.Prelude.{◌≡◌, ◌+◌, ◌++◌, true, false, OnOk, IfOk};
+ghost use Rattle.std.specs.Prelude.{◌≡◌, ◌++◌, ℕ, true, false, Option, OnOk, IfOk};
 ghost use Rattle.c_syntax.specs.Tree.{Exprs, more_exprs};
 ghost use Rattle.c_syntax.specs.View.{expr_of};
 ghost use Rattle.c_syntax.specs.Writes.{exprs_of};
-ghost use Rattle.null_calls_temporaries.specs.Sited.{type_where, called_of, called_where};
+ghost use Rattle.null_calls_temporaries.specs.Sited.{type_where, called_of, IsCallAt};
 ghost use Rattle.null_calls_rules.specs.InstrumentedExpressions as marks;
+ghost use Rattle.null_calls_rules.specs.MarkedCalls as term;
 ghost use Rattle.null_calls_rules.specs.Temporaries as temporaries;
 ghost use Rattle.null_calls_temporaries.specs.Kept.{temporaries_of};
 ghost use Rattle.null_calls_expressions.specs.Lists.{exprs_onto};
@@ -16,7 +17,7 @@ use c_syntax_nodes::{assign_node, call_node, comma_node, int_node, name_node};
 use c_tree::CType;
 use dm_base::{Bytes, OutOfMemory};
 use null_calls_temporaries::{
-    Called, Temporary, add_temporaries, argument_name, designator_name, is_kept, post_name,
+    Called, Marked, Temporary, add_temporaries, argument_name, designator_name, is_kept, post_name,
     pre_name, result_name,
 };
 use std::alloc::Global;
@@ -171,51 +172,42 @@ fn marked_call<'p>(
     Ok(comma_node(at, list))
 }
 
-// The call at the site, between null calls where it is marked.
+// The call, between null calls where it is marked.
 pub fn call_where<'p>(
     alloc: Global,
     at: u32,
-    site: u32,
     wanted: bool,
-    called: Option<Called<'p>>,
+    marked: Option<Marked<'p>>,
     designator: Expr,
     arguments: Vec<Expr>,
 ) -> Result<Expr, OutOfMemory>
-    ensures { IfOk result (λ made. expr_of made ≡ marks.call_where at site wanted (called_where called.entry) (expr_of designator) (exprs_of arguments.items)) }
+    ensures { (site : ℕ) (called : Option term.Called) → IsCallAt marked.entry site called → IfOk result (λ made. expr_of made ≡ marks.call_where at site wanted called (expr_of designator) (exprs_of arguments.items)) }
 {
-    match called {
+    match marked {
         None => call_node(alloc, at, designator, arguments),
-        Some(one) => marked_call(alloc, at, site, wanted, &one, designator, arguments),
+        Some(one) => marked_call(
+            alloc,
+            at,
+            one.site,
+            wanted,
+            &one.called,
+            designator,
+            arguments,
+        ),
     }
 }
 
-// Adds the temporaries of the call at the site, where it is marked.
+// Adds the temporaries of the call, where it is marked.
 pub fn add_where<'p>(
     alloc: Global,
     into: &mut Vec<Temporary<'p>>,
-    site: u32,
     wanted: bool,
-    called: Option<Called<'p>>,
+    marked: Option<Marked<'p>>,
 ) -> Result<(), OutOfMemory>
-    ensures { OnOk result (temporaries_of into.new.items ≡ temporaries_of into.old.items ++ temporaries.temporaries_where site wanted (called_where called.entry)) }
+    ensures { (site : ℕ) (called : Option term.Called) → IsCallAt marked.entry site called → OnOk result (temporaries_of into.new.items ≡ temporaries_of into.old.items ++ temporaries.temporaries_where site wanted called) }
 {
-    match called {
+    match marked {
         None => Ok(()),
-        Some(one) => add_temporaries(alloc, into, site, wanted, &one),
-    }
-}
-
-// The next site.
-pub fn take_site(next: &mut u32) -> Result<u32, OutOfMemory>
-    ensures is { IfOk result (λ site. site ≡ next.old) }
-    ensures next { OnOk result (next.new ≡ next.old + 1) }
-{
-    let site = *next;
-    match site.checked_add(1) {
-        Some(after) => {
-            *next = after;
-            Ok(site)
-        }
-        None => Err(OutOfMemory),
+        Some(one) => add_temporaries(alloc, into, one.site, wanted, &one.called),
     }
 }

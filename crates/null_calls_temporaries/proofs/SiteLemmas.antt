@@ -1,5 +1,5 @@
 -- What is called at a site, and the table of marked sites.
-use Rattle.std.proofs.Common.{◌≡◌, ◌⊎◌, inl, inr, ℕ, zero, suc, ◌+◌, ◌-◌, ◌<◌, ◌≤◌, Bool, true, false, nat_lt, List, [], ◌∷◌, ◌++◌, length, drop, get_or, Option, None, Some, Box, Vec, Global, refl, sym, ap, ◌∙◌, arith, drop-cons}
+use Rattle.std.proofs.Common.{◌≡◌, ◌⊎◌, inl, inr, ℕ, zero, suc, ◌+◌, ◌-◌, ◌<◌, ◌≤◌, ◌^◌, Bool, true, false, nat_lt, List, [], ◌∷◌, ◌++◌, length, drop, get_or, Option, None, Some, Box, Vec, Global, refl, sym, ap, ◌∙◌, arith, drop-cons}
 use Rattle.std.specs.Prelude.{◌&&◌, slice_index_or, if◌then◌else◌}
 use Rattle.std.proofs.lemmas.Bool.{ltb-true}
 use Rattle.c_tree.specs.declared.tree.CType.{CType as TypeTree}
@@ -18,9 +18,10 @@ use Rattle.call_graph.specs.declared.mention.Mention.{Mention}
 use Rattle.call_graph.specs.declared.mention.Mention.TheVariants as m
 use Rattle.call_graph.specs.Saying.{mention_of, said}
 use Rattle.null_calls_temporaries.specs.declared.callees.Designator.{Designator}
+use Rattle.null_calls_temporaries.specs.declared.marked_sites.MarkedSites.{MarkedSites}
 use Rattle.null_calls_temporaries.specs.declared.table.Called.{Called}
 use Rattle.null_calls_temporaries.specs.Callees.{callee_where, callee_after, IsDefinedWhere}
-use Rattle.null_calls_temporaries.specs.Sited.{called_where}
+use Rattle.null_calls_temporaries.specs.Sited.{called_of, called_where, sited}
 
 below_or_at : (k n : ℕ) → (k < n) ⊎ (n ≤ k)
 below_or_at k zero = inr (omega arith)
@@ -138,6 +139,16 @@ all_sited p n h i calls over within are s = elim (below_or_at s i) as (λ _. cal
   | inl lt ↦ are.are s lt
   | inr le ↦ ap called_where (past_end calls s (omega (arith, le, are.many))) ∙ sym (ap (marked_of p) (no_site s n p h (omega (arith, le, over))))
 ]
+
+-- a call that the table has, and one that it hasn't
+pub call_there : (table : MarkedSites) (s n : ℕ) (called : Called) → s ≡ n → Some (called_of called) ≡ sited table s → (s ≡ n) × (sited table n ≡ Some (called_of called))
+call_there table s n called same is = (same, sym (is ∙ ap (sited table) same))
+
+pub no_call_there : (table : MarkedSites) (s n : ℕ) → s ≡ n → None ≡ sited table s → sited table n ≡ None
+no_call_there table s n same is = sym (is ∙ ap (sited table) same)
+
+pub past_table : (table : MarkedSites) (n : ℕ) → 2 ^ 32 ≤ n → sited table n ≡ None
+past_table table n le = let few = table.few in ap called_where (past_end table.calls.items n (omega (arith, le, few)))
 
 -- ## Types of functions
 

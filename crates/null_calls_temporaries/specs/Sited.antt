@@ -1,5 +1,5 @@
 -- What the table of sites stands for: the call at each site, where it is marked.
-use Rattle.std.specs.Prelude.{Option, None, Some, slice_index_or}
+use Rattle.std.specs.Prelude.{◌≡◌, ℕ, Option, None, Some, slice_index_or}
 use Rattle.std.specs.Borrow.{Bor}
 use Rattle.c_tree.specs.declared.tree.CType.{CType as TypeTree}
 use Rattle.c_tree.specs.Tree.{CType}
@@ -7,7 +7,8 @@ use Rattle.c_tree.specs.View.{ctype_of, types_of}
 use Rattle.null_calls_rules.specs.MarkedCalls as term
 use Rattle.null_calls_rules.specs.MarkedCalls.{Sites}
 use Rattle.null_calls_temporaries.specs.declared.table.Called.{Called}
-use Rattle.null_calls_temporaries.specs.declared.table.MarkedSites.{MarkedSites}
+use Rattle.null_calls_temporaries.specs.declared.marked_sites.Marked.{Marked}
+use Rattle.null_calls_temporaries.specs.declared.marked_sites.MarkedSites.{MarkedSites}
 
 abbrev pub type_where : Option (Bor TypeTree) → Option CType
 type_where None = None
@@ -22,3 +23,8 @@ called_where (Some c) = Some (called_of c)
 
 abbrev pub sited : MarkedSites → Sites
 sited table s = called_where (slice_index_or table.calls.items s None)
+
+-- the call is the one that the table has at the site, where it has one
+abbrev pub IsCallAt : Option Marked → ℕ → Option term.Called → Type 0
+IsCallAt None s o = o ≡ None
+IsCallAt (Some m) s o = (m.site ≡ s) × (o ≡ Some (called_of m.called))

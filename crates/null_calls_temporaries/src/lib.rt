@@ -6,12 +6,14 @@
 
 mod callees;
 mod declaring;
+mod marked_sites;
 mod names;
 mod spelled;
 mod table;
 mod temporaries;
 
 pub use declaring::{declared, declared_alone};
+pub use marked_sites::{Marked, MarkedSites};
 pub use names::{argument_name, designator_name, post_name, pre_name, result_name};
-pub use table::{Called, MarkedSites};
+pub use table::Called;
 pub use temporaries::{Temporary, add_temporaries, is_kept};

@@ -1,4 +1,4 @@
-ghost use Rattle.std.specs.Prelude.{◌≡◌, ◌<◌, ◌∷◌, ◌++◌, [], ℕ, IfOk, OnOk};
+ghost use Rattle.std.specs.Prelude.{◌≡◌, ◌<◌};
 ghost use Rattle.c_tree.specs.Functions.{defined};
 ghost use Rattle.c_tree.specs.View.{ctype_of, types_of, program_of};
 ghost use Rattle.c_shapes.specs.CallGraph.{callee_at};
@@ -6,13 +6,11 @@ ghost use Rattle.c_shapes.specs.Mentions.{Direct, mentions_of_program};
 ghost use Rattle.call_graph.specs.Calls.{AreCallsOf};
 ghost use Rattle.null_calls_rules.specs.MarkedCalls as marks;
 ghost use Rattle.null_calls_temporaries.specs.Callees.{callee_of, callee_where, IsDefinedWhere};
-ghost use Rattle.null_calls_temporaries.specs.Sited.{type_where, called_of, called_where, sited};
+ghost use Rattle.null_calls_temporaries.specs.Sited.{type_where, called_of, called_where};
 
-use crate::callees::{Designator, callee_in, callees_of};
+use crate::callees::Designator;
 use c_tree::{CType, Program};
-use call_graph::{Calls, said_in};
-use dm_base::OutOfMemory;
-use std::alloc::Global;
+use call_graph::Calls;
 
 /// What a marked call calls.
 #[derive(Clone, Copy)]
@@ -93,7 +91,7 @@ fn called_by<'p>(program: &'p Program, designator: Designator<'p>) -> Option<Cal
 }
 
 // What is called at the site, where the call there is marked.
-fn called_at<'p>(
+pub fn called_at<'p>(
     program: &'p Program,
     calls: &Calls,
     site: u32,
@@ -108,52 +106,5 @@ fn called_at<'p>(
     match callee {
         None => None,
         Some(designator) => called_by(program, designator),
-    }
-}
-
-/// The calls of a program that stand between null calls, by their sites.
-#[derive(Drop)]
-pub struct MarkedSites<'p> {
-    calls: Vec<Option<Called<'p>>>,
-}
-
-// Adds the call at the next site.
-fn add<'p>(into: &mut Vec<Option<Called<'p>>>, one: Option<Called<'p>>) -> Result<(), OutOfMemory>
-    ensures { OnOk result (into.new.items ≡ into.old.items ++ one.entry ∷ []) }
-{
-    into.push(one)?;
-    Ok(())
-}
-
-impl<'p> MarkedSites<'p> {
-    /// The marked calls of the program, with the types of what they call. Takes time that is linear in the program.
-    pub fn of(
-        alloc: Global,
-        program: &'p Program,
-        calls: &Calls,
-    ) -> Result<MarkedSites<'p>, OutOfMemory>
-        requires { AreCallsOf (program_of program.now) calls.now }
-        ensures { IfOk result (λ table. (s : ℕ) → sited table s ≡ marks.sites_of (program_of program.now) s) }
-    {
-        let said = said_in(alloc, program)?;
-        let count = program.sites();
-        let callees = callees_of(alloc, &said, count)?;
-        let mut all = Vec::new(alloc);
-        for site in 0..count {
-            let callee = callee_in(&callees, site);
-            let one = called_at(program, calls, site, callee);
-            add(&mut all, one)?;
-        }
-        Ok(MarkedSites { calls: all })
-    }
-
-    /// What is called at the site. None where there is no such site, or where the call there isn't marked.
-    pub fn at(&self, site: u32) -> Option<Called<'p>>
-        ensures { called_where result ≡ sited self.now site }
-    {
-        match self.calls.get(site as usize) {
-            Some(one) => *one,
-            None => None,
-        }
     }
 }

@@ -1,4 +1,4 @@
-use Rattle.std.proofs.Common.{◌≡◌, ◌+◌, ◌++◌, ◌∙◌, true, false, ap, sym}
+use Rattle.std.proofs.Common.{◌≡◌, ◌+◌, ◌++◌, ◌∙◌, true, false, ap, refl, sym}
 use Rattle.std.specs.Prelude.{not}
 use Rattle.c_syntax.specs.declared.tree.Expr.{Expr as ExprTree}
 use Rattle.c_syntax.specs.Tree.{cast, member, dot, arrow, postfix, post_increment, post_decrement, prefix, pre_increment, pre_decrement, unary, index, binary, and, or, operator, assign, conditional}
@@ -6,8 +6,7 @@ use Rattle.c_syntax.specs.View.{ident_of, expr_at, expr_of, type_name_of}
 use Rattle.c_syntax.specs.Writes.{exprs_of}
 use Rattle.c_rules.specs.Counts.{calls, calls_of_all}
 use Rattle.c_syntax_nodes.proofs.CopyLemmas.{made_as}
-use Rattle.null_calls_temporaries.specs.Sited.{sited, called_where}
-use Rattle.null_calls_rules.specs.Temporaries.{temporaries_where}
+use Rattle.null_calls_temporaries.specs.Sited.{sited}
 use Rattle.null_calls_rules.specs.InstrumentedExpressions as marks
 use Rattle.null_calls_temporaries.specs.Kept.{temporaries_of}
 use Rattle.null_calls_expressions.specs.Wanted.{is_left_out}
@@ -82,17 +81,17 @@ expression-returns-in_ok-made-in-Call-clause-tree t c =
     let b = c.args.next.now in
     let d = c.in-Call.d in
     let v = c.in-Call.es in
-    let site = c.in_ok-site-in-Call.site in
-    let n = c.take_site.new.next in
+    let site = c.expression-in-Call.new.next in
+    let n = c.raise.new.self in
     let f = expr_of c.in_ok-designator-in-Call.designator in
     let es = exprs_of c.in_ok-list-in-Call.list.items in
-    c.in_ok-made-in-Call.ensures ∙ call_tree s b c.args.wanted c.args.e.now d v c.in-Call.is site
-    (c.in_ok-site-in-Call.ensures.is ∙ (c.in_ok-designator-in-Call.ensures.counts ∙ ap (λ x. b + calls (expr_of x)) c.deref-in-Call.ensures))
-    f (marks.call_where c.args.e.now.at site c.args.wanted (called_where c.at-called.result) f es) es n
+    c.in_ok-made-in-Call.ensures site (s site) c.after-marked.ensures ∙ call_tree s b c.args.wanted c.args.e.now d v c.in-Call.is site
+    (c.in_ok-designator-in-Call.ensures.counts ∙ ap (λ x. b + calls (expr_of x)) c.deref-in-Call.ensures)
+    f (marks.call_where c.args.e.now.at site c.args.wanted (s site) f es) es n
     (c.in_ok-designator-in-Call.ensures.tree ∙ ap (λ x. marks.expr s b true (expr_of x)) c.deref-in-Call.ensures)
-    (c.in_ok-site-in-Call.ensures.next ∙ ap (λ m. m + 1) (sym c.in_ok-site-in-Call.ensures.is))
+    c.in_ok-raise-in-Call.ensures
     (c.in_ok-list-in-Call.ensures.tree ∙ ap (λ xs. marks.arguments s n (exprs_of xs)) c.deref-in-Call-2.ensures.value)
-    (ap (λ o. marks.call_where c.args.e.now.at site c.args.wanted o f es) c.at-called.ensures)
+    refl
 
 pub expression-returns-in_ok-made-in-Call-clause-keeps : goal.expression-returns-in_ok-made-in-Call-clause-keeps
 expression-returns-in_ok-made-in-Call-clause-keeps t c =
@@ -100,27 +99,27 @@ expression-returns-in_ok-made-in-Call-clause-keeps t c =
     let b = c.args.next.now in
     let d = c.in-Call.d in
     let v = c.in-Call.es in
-    let site = c.in_ok-site-in-Call.site in
-    let n = c.take_site.new.next in
+    let site = c.expression-in-Call.new.next in
+    let n = c.raise.new.self in
     let old = temporaries_of c.args.kept.now.items in
     let one = temporaries_of c.expression-in-Call.new.kept.items in
     let two = temporaries_of c.add_where.new.into.items in
     call_kept s b c.args.wanted c.args.e.now d v c.in-Call.is site
-    (c.in_ok-site-in-Call.ensures.is ∙ (c.in_ok-designator-in-Call.ensures.counts ∙ ap (λ x. b + calls (expr_of x)) c.deref-in-Call.ensures))
+    (c.in_ok-designator-in-Call.ensures.counts ∙ ap (λ x. b + calls (expr_of x)) c.deref-in-Call.ensures)
     old one two _ n
     (c.in_ok-designator-in-Call.ensures.keeps ∙ ap (λ x. old ++ marks.kept s b true (expr_of x)) c.deref-in-Call.ensures)
-    (c.in_ok-add_where-in-Call.ensures ∙ ap (λ o. one ++ temporaries_where site c.args.wanted o) c.at-called.ensures)
-    (c.in_ok-site-in-Call.ensures.next ∙ ap (λ m. m + 1) (sym c.in_ok-site-in-Call.ensures.is))
+    (c.in_ok-add_where-in-Call.ensures site (s site) c.after-marked.ensures)
+    c.in_ok-raise-in-Call.ensures
     (c.in_ok-list-in-Call.ensures.keeps ∙ ap (λ xs. two ++ marks.kept_of_arguments s n (exprs_of xs)) c.deref-in-Call-2.ensures.value)
 
 pub expression-returns-in_ok-made-in-Call-clause-counts : goal.expression-returns-in_ok-made-in-Call-clause-counts
 expression-returns-in_ok-made-in-Call-clause-counts t c =
     let s = sited c.args.table.now in
     let b = c.args.next.now in
-    let n = c.take_site.new.next in
-    call_calls s b c.args.wanted c.args.e.now c.in-Call.d c.in-Call.es c.in-Call.is c.in_ok-site-in-Call.site
-    (c.in_ok-site-in-Call.ensures.is ∙ (c.in_ok-designator-in-Call.ensures.counts ∙ ap (λ x. b + calls (expr_of x)) c.deref-in-Call.ensures))
-    n _ (c.in_ok-site-in-Call.ensures.next ∙ ap (λ m. m + 1) (sym c.in_ok-site-in-Call.ensures.is))
+    let n = c.raise.new.self in
+    call_calls s b c.args.wanted c.args.e.now c.in-Call.d c.in-Call.es c.in-Call.is c.expression-in-Call.new.next
+    (c.in_ok-designator-in-Call.ensures.counts ∙ ap (λ x. b + calls (expr_of x)) c.deref-in-Call.ensures)
+    n _ c.in_ok-raise-in-Call.ensures
     (c.in_ok-list-in-Call.ensures.counts ∙ ap (λ xs. n + calls_of_all (exprs_of xs)) c.deref-in-Call-2.ensures.value)
 
 pub expression-returns-in_ok-made-in-Cast-clause-tree : goal.expression-returns-in_ok-made-in-Cast-clause-tree

@@ -1,7 +1,7 @@
 use Rattle.c_tree.specs.View.{program_of}
 use Rattle.null_calls_rules.specs.MarkedCalls.{sites_of}
 use Rattle.null_calls_temporaries.proofs.SiteLemmas.{AreSited}
-use Rattle.null_calls_temporaries.proofs.table.MarkedSites.of.Given as goal
+use Rattle.null_calls_temporaries.proofs.marked_sites.MarkedSites.of.Given as goal
 
 abbrev pub invariant-loop-site : goal.invariant-loop-site
 invariant-loop-site l = AreSited (sites_of (program_of l.program)) l.site l.all.items

@@ -6,7 +6,7 @@ use Rattle.null_calls_rules.specs.MarkedCalls.{sites_of}
 use Rattle.call_graph.specs.Saying.{said}
 use Rattle.null_calls_temporaries.specs.Callees.{callee_where}
 use Rattle.null_calls_temporaries.proofs.SiteLemmas.{site_more, all_sited}
-use Rattle.null_calls_temporaries.proofs.table.MarkedSites.of.Goals as goal
+use Rattle.null_calls_temporaries.proofs.marked_sites.MarkedSites.of.Goals as goal
 
 pub loop-site-preserved : goal.loop-site-preserved
 loop-site-preserved c =
