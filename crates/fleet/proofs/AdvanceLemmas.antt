@@ -65,6 +65,17 @@ module _ {M P : Type 0} (laws : monitor.Ghosts M P) (old : Fleet M P) (pid place
               (subst (λ (w : Watch M P). IsReady laws found.judged.group found.judged.records w found.process.stage found.process found.member) (sym (watch_is e)) (found_ready laws old groups members pid place s found less)),
         )
 
+    pub requires_judged : (d : Process) (e : Watch M P) → (g : Group) × (records : List Record) × (m : Member) × WatchStandsFor laws g.model g.bound One (get_or ws (get_or ps place d).group e) records × IsAt laws.WHICH g records (get_or ps place d) m
+    requires_judged d e =
+        let found = find laws old groups members pid place s here in (
+          found.judged.group,
+          found.judged.records,
+          found.member,
+          subst (λ (p : Process). WatchStandsFor laws found.judged.group.model found.judged.group.bound One (get_or ws p.group e) found.judged.records) (sym (process_is d))
+              (subst (λ (w : Watch M P). WatchStandsFor laws found.judged.group.model found.judged.group.bound One w found.judged.records) (sym (watch_is e)) found.watches.stands),
+          subst (λ (p : Process). IsAt laws.WHICH found.judged.group found.judged.records p found.member) (sym (process_is d)) found.at,
+        )
+
     pub watch_follows : (m : Member) → Contains members m → m.pid ≡ pid → m ≡ (find laws old groups members pid place s here).member
     watch_follows m has is =
         let found = find laws old groups members pid place s here in

@@ -29,7 +29,7 @@ use Rattle.fleet.specs.Going.{HasCome, IsAt, IsReady, added_at, numbers}
 use Rattle.fleet.specs.Members.{Group, Member, run_of}
 use Rattle.fleet.proofs.AloneLemmas.{one_alone}
 use Rattle.fleet.proofs.CountLemmas.{few_known}
-use Rattle.fleet.proofs.StepLemmas.{own_same, open_alone, rejected_alone, bound_alone, ended_alone}
+use Rattle.fleet.proofs.StepLemmas.{last_of, own_same, open_alone, rejected_alone, bound_alone, ended_alone}
 use Rattle.fleet.proofs.ZipLemmas.{some_same, map_at, map_length, set_here, set_elsewhere, map-set, zip_left, zip_right, zip_set, zip_one}
 
 -- numbers of processes
@@ -123,11 +123,6 @@ own_added q pid records stages.Rejected a other = nothing_added q records
 own_added q pid records stages.Bound a other = nothing_added q records
 own_added q pid records (stages.Ended o) a other = nothing_added q records
 own_added q pid records stages.Failed a other = nothing_added q records
-
--- the last event of some
-last_of : (made : List Event) → 1 ≤ length made → (e : Event) × (slice_get made (length made - 1) ≡ Some e)
-last_of [] some = absurd (omega arith)
-last_of (e ∷ made) some = let d = slice_get-get_or (e ∷ made) (length (e ∷ made) - 1) e (omega arith) in (get_or (e ∷ made) (length (e ∷ made) - 1) e, d)
 
 -- what was added, by what the process had come to
 

@@ -4,6 +4,7 @@ pub mod CountLemmas
 pub mod FleetLemmas
 pub mod GroupLemmas
 pub mod PlaceLemmas
+pub mod RefusalLemmas
 pub mod StepLemmas
 pub mod TellingLemmas
 pub mod ZipLemmas

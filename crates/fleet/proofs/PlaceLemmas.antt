@@ -36,6 +36,17 @@ at_defaults {M} {P} laws ps ws place d item q e watch v answer within group has 
       subst (λ (p : Process). HasAdvanced laws p q (get_or ws p.group e) v answer) same (subst (λ (w : Watch M P). HasAdvanced laws (get_or ps place item) q w v answer) (get_or_default ws (get_or ps place item).group watch e group) has),
     )
 
+-- what is known of the process at a place, by any defaults
+pub judged_at_defaults : {M P : Type 0} (laws : monitor.Ghosts M P) (ps : List Process) (ws : List (Watch M P)) (place : ℕ) (item : Process) (watch : Watch M P) → item ≡ get_or ps place item → watch ≡ get_or ws item.group watch → ((d : Process) (e : Watch M P) → (g : Group) × (records : List Record) × (m : Member) × WatchStandsFor laws g.model g.bound One (get_or ws (get_or ps place d).group e) records × IsAt laws.WHICH g records (get_or ps place d) m) → (g : Group) × (records : List Record) × (m : Member) × WatchStandsFor laws g.model g.bound One watch records × IsAt laws.WHICH g records item m
+judged_at_defaults {M} {P} laws ps ws place item watch item_is watch_is judged =
+    let one = judged item watch in (
+      one.0,
+      one.1,
+      one.2,
+      subst (λ (w : Watch M P). WatchStandsFor laws one.0.model one.0.bound One w one.1) (ap (λ (p : Process). get_or ws p.group watch) (sym item_is) ∙ sym watch_is) one.3,
+      subst (λ (p : Process). IsAt laws.WHICH one.0 one.1 p one.2) (sym item_is) one.4,
+    )
+
 -- what is told of the process at a place, by any defaults
 
 pub stands_at_defaults : {M P : Type 0} (laws : monitor.Ghosts M P) (ps : List Process) (ws : List (Watch M P)) (place : ℕ) (item : Process) (watch : Watch M P) (answer : Result Standing OutOfMemory) → place < length ps → item.group < length ws → item ≡ get_or ps place item → watch ≡ get_or ws item.group watch → IfOk answer (λ standing. (g : Group) (records : List Record) (m : Member) → WatchStandsFor laws g.model g.bound One watch records → IsAt laws.WHICH g records item m → IsAlone laws.WHICH g.model g.bound (run_of m) m.advances standing) → IfOk answer (λ standing. (d : Process) (e : Watch M P) (g : Group) (records : List Record) (m : Member) → WatchStandsFor laws g.model g.bound One (get_or ws (get_or ps place d).group e) records → IsAt laws.WHICH g records (get_or ps place d) m → IsAlone laws.WHICH g.model g.bound (run_of m) m.advances standing)

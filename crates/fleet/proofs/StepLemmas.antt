@@ -68,6 +68,11 @@ last_is made e =
     let place : length (made ++ e ∷ []) - 1 ≡ length made = omega arith in
     ap (slice_get (made ++ e ∷ [])) place ∙ slice_get-get_or (made ++ e ∷ []) (length made) e (omega arith) ∙ ap Some (get_or-append_seam made e [] e)
 
+-- the last event of some
+pub last_of : (made : List Event) → 1 ≤ length made → (e : Event) × (slice_get made (length made - 1) ≡ Some e)
+last_of [] some = absurd (omega arith)
+last_of (e ∷ made) some = let d = slice_get-get_or (e ∷ made) (length (e ∷ made) - 1) e (omega arith) in (get_or (e ∷ made) (length (e ∷ made) - 1) e, d)
+
 one_joined : (made : List Event) (e : Event) (left : Run) → joined made (event_first e left) ≡ joined (made ++ e ∷ []) left
 one_joined made e left = ap (λ (t : List Event). let r : Run = record { outcome = left.outcome; trace = t } in r) (sym (append_assoc made (e ∷ []) left.trace))
 

@@ -14,7 +14,7 @@ use Rattle.c_meaning_laws.specs.Laws.{IsTypedRun}
 use Rattle.flow_model.specs.declared.monitor.Monitor as monitor
 use Rattle.flow_model.specs.declared.which.Which.{Which}
 use Rattle.flow_model.specs.Graph.{Graph}
-use Rattle.flow_model.specs.Verdict.{IsAccepted, IsRejectedAt, IsBoundAt}
+use Rattle.flow_model.specs.Verdict.{IsAccepted, IsRejectedAt, IsBoundAt, IsVerdict}
 use Rattle.ref_machine.specs.Futures.{future, only_end, records_taken}
 use Rattle.ref_machine.specs.WholeRuns.{joined}
 use Rattle.trace_file.specs.declared.record.Record.{Record}
@@ -23,7 +23,8 @@ use Rattle.trace_file.specs.declared.version.TracesVersion.TheVariants.{One}
 use Rattle.trace_file.specs.Known.{known_count}
 use Rattle.trace_file.specs.Traces.{most_processes}
 use Rattle.watch.specs.declared.watch.Watch.{Watch}
-use Rattle.watch.specs.Own.{own, record_of}
+use Rattle.watch.specs.Own.{has_record, own, record_of}
+use Rattle.watch.specs.Pasts.{refused_event}
 use Rattle.watch.specs.Watching.{StandsFor as WatchStandsFor}
 use Rattle.fleet.specs.declared.advance.Advance.{Advance}
 use Rattle.fleet.specs.declared.advance.Advance.TheVariants.{Made, Rejected, Bound, Ended}
@@ -117,6 +118,17 @@ pub record IsReady {M P : Type 0} (laws : monitor.Ghosts M P) (g : Group) (recor
   pub at : IsAtStage laws.WHICH g stage records p m
   pub room : (e : Event) → known_count One (records ++ record_of p.pid e ∷ []) ≤ most_processes
   pub few : length records + 1 < 2 ^ 64
+
+-- the watch has a record of the process, and the verdict on the process's own history refuses it at this event
+pub record HasRefused {M P : Type 0} (laws : monitor.Ghosts M P) (w : Watch M P) (pid : ℕ) : Type 0 where
+  pub group : Group
+  pub records : List Record
+  pub watch : WatchStandsFor laws group.model group.bound One w records
+  pub there : has_record records pid ≡ true
+  pub verdict : Verdict
+  pub judged : IsVerdict laws.WHICH group.model group.bound (own One pid records) verdict
+  pub event : Event
+  pub refused : refused_event verdict (own One pid records) ≡ Some event
 
 -- the process has its number, its group and its results
 pub record IsSameProcess (old new : Process) : Type 0 where

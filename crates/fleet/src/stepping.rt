@@ -13,7 +13,7 @@ ghost use Rattle.watch.specs.Own.{has_record, own, record_of};
 ghost use Rattle.watch.specs.Pasts.{refused_event};
 ghost use Rattle.watch.specs.Watching.{StandsFor as WatchStandsFor};
 ghost use Rattle.fleet.specs.Alone.{IsAnswer};
-ghost use Rattle.fleet.specs.Going.{HasAdvanced, IsAt, IsReady, IsSameProcess, added_at, answer_of, stage_of};
+ghost use Rattle.fleet.specs.Going.{HasAdvanced, HasRefused, IsAt, IsReady, IsSameProcess, added_at, answer_of, stage_of};
 ghost use Rattle.fleet.specs.Members.{Group, Member, one_more, run_of};
 ghost use Rattle.fleet.specs.declared.advance.Advance.TheVariants.{Ended};
 ghost use Rattle.fleet.specs.declared.process.Process.{Process as Process'};
@@ -85,17 +85,18 @@ fn make_step<M: Monitor>(
     }
 }
 
-// The event of a process that was refused.
+// The event at which a process was refused.
 pub fn event_refused<M: Monitor>(
     alloc: Global,
     pid: u32,
     watch: &Watch<M>,
 ) -> Result<Event, OutOfMemory>
+    requires { HasRefused M.Monitor watch.now pid }
     ensures { IfOk result (λ event. (g : Graph) (k : ℕ) (version : TracesVersion) (records : List Record) (verdict : Verdict) → WatchStandsFor M.Monitor g k version watch.now records → IsVerdict M.WHICH g k (own version pid records) verdict → refused_event verdict (own version pid records) ≡ Some event) }
 {
     match watch.refused(pid) {
         Some(event) => event.copy(alloc),
-        None => Err(OutOfMemory),
+        None => unreachable!(),
     }
 }
 

@@ -57,6 +57,7 @@ fn standing_of<M: Monitor>(
     process: &Process,
     watch: &Watch<M>,
 ) -> Result<Standing, OutOfMemory>
+    requires { (g : Group) × (records : List Record) × (m : Member) × WatchStandsFor M.Monitor g.model g.bound One watch.now records × IsAt M.WHICH g records process.now m }
     ensures exact { IfOk result (λ standing. (g : Group) (records : List Record) (m : Member) → WatchStandsFor M.Monitor g.model g.bound One watch.now records → IsAt M.WHICH g records process.now m → IsAlone M.WHICH g.model g.bound (run_of m) m.advances standing) }
     ensures fails { process.now.stage ≡ stages.Failed → IsErr result }
 {
@@ -85,6 +86,7 @@ pub fn standing_at<M: Monitor>(
 ) -> Result<Standing, OutOfMemory>
     requires place { place < length processes.now }
     requires group { (d : Process') → (slice_index_or processes.now place d).group < length watches.now }
+    requires judged { (d : Process') (e : Watch' M M.Pool) → let p = slice_index_or processes.now place d in (g : Group) × (records : List Record) × (m : Member) × WatchStandsFor M.Monitor g.model g.bound One (slice_index_or watches.now p.group e) records × IsAt M.WHICH g records p m }
     ensures exact { IfOk result (λ standing. (d : Process') (e : Watch' M M.Pool) → let p = slice_index_or processes.now place d in (g : Group) (records : List Record) (m : Member) → WatchStandsFor M.Monitor g.model g.bound One (slice_index_or watches.now p.group e) records → IsAt M.WHICH g records p m → IsAlone M.WHICH g.model g.bound (run_of m) m.advances standing) }
     ensures fails { (d : Process') → (slice_index_or processes.now place d).stage ≡ stages.Failed → IsErr result }
 {

@@ -7,6 +7,7 @@ use Rattle.fleet.specs.declared.process.Stage.{Stage}
 use Rattle.fleet.specs.declared.process.Stage.TheVariants as stages
 use Rattle.fleet.specs.Going.{IsAt, IsAtStage, added_at}
 use Rattle.fleet.specs.Members.{one_more}
+use Rattle.fleet.proofs.RefusalLemmas.{has_bound, has_rejected}
 use Rattle.fleet.proofs.StepLemmas.{ready_moved, rejected_verdict, rejected_answer, bound_verdict, bound_answer}
 use Rattle.fleet.proofs.stepping.advance.Goals as goal
 
@@ -19,6 +20,18 @@ pub returns-in_ok-answer-in-Open-clause-at : goal.returns-in_ok-answer-in-Open-c
 returns-in_ok-answer-in-Open-clause-at g c g' records m ready =
     subst (λ (s : Stage). IsAt g.M.Monitor.WHICH g' (records ++ added_at c.args.process.now.pid s c.in_ok-answer-in-Open.answer) c.make_step.new.process (one_more m)) c.in-Open.ensures.value
     (c.in_ok-answer-in-Open.ensures.at g' records m (ready_moved g.M.Monitor g' records c.args.watch.now c.args.process.now.stage stages.Open c.replace-stage.new.dest c.args.process.now m c.in-Open.ensures.value ready))
+
+pub event_refused-requires : goal.event_refused-requires
+event_refused-requires g c =
+    let ready = c.requires.3 in
+    has_rejected g.M.Monitor c.requires.0 c.requires.1 c.args.watch.now c.args.process.now c.requires.2 ready.watch
+    (subst (λ (s : Stage). IsAtStage g.M.Monitor.WHICH c.requires.0 s c.requires.1 c.args.process.now c.requires.2) (sym c.in-Rejected.ensures.value) ready.at)
+
+pub event_refused-requires-in-Bound : goal.event_refused-requires-in-Bound
+event_refused-requires-in-Bound g c =
+    let ready = c.requires.3 in
+    has_bound g.M.Monitor c.requires.0 c.requires.1 c.args.watch.now c.args.process.now c.requires.2 ready.watch
+    (subst (λ (s : Stage). IsAtStage g.M.Monitor.WHICH c.requires.0 s c.requires.1 c.args.process.now c.requires.2) (sym c.in-Bound.ensures.value) ready.at)
 
 pub returns-in_ok-event-in-Rejected-clause-exact : goal.returns-in_ok-event-in-Rejected-clause-exact
 returns-in_ok-event-in-Rejected-clause-exact g c g' records m ready =
