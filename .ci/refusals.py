@@ -21,23 +21,15 @@ AGAIN = {'fleet/stepping.rt advance', 'fleet/telling.rt standing_of'}
 # Functions that build it though nothing was refused: where a count of what stands in a C text or a program would pass 32 or 64 bits, or
 # in a case that can't come and of which no proof says so.
 WAITING = {
-    'c_check_assignments/operators.rt size_of', 'c_check_bodies/labels.rt are_distinct', 'c_check_bodies/scopes.rt one_deeper',
-    'c_check_bodies/variables.rt past_part', 'c_check_counts/numbers.rt past_all', 'c_check_declarations/definitions.rt count_object',
-    'c_check_declarations/enumerators.rt enumerator_value', 'c_check_declarations/parameters.rt body_numbers',
-    'c_check_declarations/scopes.rt declare_parameters', 'c_check_declarations/scopes.rt enter_body', 'c_check_declarations/sizes.rt counted',
-    'c_check_declarations/sizes.rt sized_by_one', 'c_check_expressions/counting.rt count_call', 'c_check_expressions/counting.rt count_string',
-    'c_check_expressions/forms.rt declare_parameter', 'c_check_expressions/forms.rt one_deeper', 'c_check_expressions/initialised.rt in_turn',
-    'c_check_initialisers/stores.rt store_of', 'c_check_initialisers/zeros.rt add_copies', 'c_check_initialisers/zeros.rt add_struct',
-    'c_check_initialisers/zeros.rt zero_cells', 'c_check_primary/members.rt member_given', 'c_check_primary/names.rt integer_expression',
-    'c_check_primary/names.rt number_of_given', 'c_check_primary/names.rt static_given', 'c_check_primary/passing.rt passed',
-    'c_check_primary/strings.rt string_number', 'c_check_scopes/numbering.rt push', 'c_check_scopes/structs.rt put', 'c_check_types/constants.rt positive',
-    'c_check_units/environments.rt structs_with', 'c_check_units/strings.rt string_type', 'c_check_units/structs.rt cells_of_struct',
-    'c_check_units/structs.rt count_structs', 'c_check_values/addresses.rt cell_behind', 'c_check_values/addresses.rt first_element',
-    'c_check_values/addresses.rt moved_on', 'c_check_values/addresses.rt negative', 'c_check_values/values.rt decayed_array',
-    'fleet/stepping.rt event_refused', 'flow_graph/laying.rt after', 'flow_graph/laying.rt after_each', 'flow_graph/model_functions.rt after',
-    'null_calls_expressions/marked.rt take_site', 'ref_machine/calls.rt enter_defined', 'ref_machine/stepping.rt go_on',
-    'ref_machine_expressions/calls.rt system_call', 'ref_machine_frames/answers.rt stopped_in_words', 'ref_machine_frames/cells.rt added',
-    'ref_machine_frames/cells.rt cells_with',
+    'c_check_assignments/operators.rt size_of', 'c_check_bodies/variables.rt past_part', 'c_check_counts/numbers.rt past_all',
+    'c_check_declarations/parameters.rt body_numbers', 'c_check_declarations/scopes.rt declare_parameters', 'c_check_declarations/sizes.rt counted',
+    'c_check_declarations/sizes.rt sized_by_one', 'c_check_expressions/forms.rt declare_parameter', 'c_check_initialisers/stores.rt store_of',
+    'c_check_initialisers/zeros.rt add_copies', 'c_check_initialisers/zeros.rt add_struct', 'c_check_initialisers/zeros.rt zero_cells',
+    'c_check_primary/names.rt integer_expression', 'c_check_primary/names.rt number_of_given', 'c_check_primary/names.rt static_given',
+    'c_check_primary/strings.rt string_number', 'c_check_scopes/numbering.rt push', 'c_check_units/strings.rt string_type',
+    'c_check_values/addresses.rt cell_behind', 'c_check_values/values.rt decayed_array', 'ref_machine/calls.rt enter_defined',
+    'ref_machine/stepping.rt go_on', 'ref_machine_expressions/calls.rt system_call', 'ref_machine_frames/answers.rt stopped_in_words',
+    'ref_machine_frames/cells.rt added', 'ref_machine_frames/cells.rt cells_with',
 }
 # What the impls of `From` for it may take.
 TAKEN = r'OutOfMemory|dm_base::OutOfMemory|AllocError|AllocFailed<\w+>|ReadError|LexError|ParseError|CheckError|SourceError|PhraseError|ReadFail'
