@@ -16,4 +16,4 @@ pub record Facts : Type 0 where
 
 -- where there are more than few, the index has just the facts of the list
 abbrev pub AreIndexed : List Fact → List Fact → Type 0
-AreIndexed facts index = 16 < length facts → (x : Fact) → Contains index x ↔ Contains facts x
+AreIndexed facts index = 64 < length facts → (x : Fact) → Contains index x ↔ Contains facts x

@@ -8,7 +8,7 @@ use indexmap::IndexSet;
 use std::alloc::Global;
 
 // So many facts are gone through one after another. Where there are more, an index tells which are there.
-const FEW: usize = 16;
+const FEW: usize = 64;
 
 // Different facts, in the order in which they were added. Seen as their list.
 #[derive(Drop)]
@@ -122,7 +122,7 @@ impl FactSet {
 
     // Adds a fact where they are few, so that the index begins.
     fn begin_index(&mut self, fact: Fact) -> Result<(), OutOfMemory>
-        requires { length self.old.keys ≡ 16 }
+        requires { length self.old.keys ≡ 64 }
         ensures { OnOk result (self.new.keys ≡ self.old.keys ++ fact ∷ []) }
     {
         self.index = index_of(self.alloc, &self.list)?;
