@@ -17,7 +17,7 @@ use Rattle.c_rules.specs.TypedExpression.{not_constant}
 use Rattle.c_rules.specs.TypedExpression.{Form, a_value, a_place, behind, TypedExpression, tree_of_form, tree_of, is_place, is_null}
 use Rattle.c_rules.specs.Conversions.{Kind, an_integer, a_pointer, neither, kind_of, complete, few_parts, loaded, valued_as, valued, cast_to, has_integer, converted_to, null_of, fits, assigned_as, assigned, as_if_assigned, condition}
 use Rattle.c_rules.specs.PostfixExpressions.{Designator, direct, through, Callee, call_of, passed, as_many_as, all_fit, called, name_of_member, member_or_undeclared, member_of_struct, member_of_type, member_of}
-use Rattle.c_rules.specs.UnaryExpressions.{address_of_form, address_of_type, address, led_to, indirection, plus_of, operator_of, unary_of_value, size_of, size_of_type, cast_of, null_cast}
+use Rattle.c_rules.specs.UnaryExpressions.{address_of_form, address_of_type, address, led_to, indirection, plus_of, operator_of, unary_of_value, cast_of, null_cast}
 use Rattle.c_rules.specs.BinaryExpressions.{sum_of, sum, minus_of, balanced_of, shift_of, ordered_of, Alike, alike_integers, alike_pointers, unlike, alike_of, alike, equality_of, arithmetic_of, operation_of, operation, conjunction, disjunction, chosen, arms_of, choice}
 use Rattle.c_rules.specs.Assignments.{assignable, assignment, operator_of_assignment, updated, update_of, assignment_by, one_for, step, trees_of}
 use Rattle.c_rules.specs.NullCalls.{CallsBelow, AllBelow}
@@ -236,12 +236,6 @@ module _ (n : ℕ) where
       (if_holds (nat_eq o PLUS) _ _ (plus_below at g (kind_of g.ctype) h)
       (if_holds (nat_eq o MINUS) _ _ (operator_below at _ g (kind_of g.ctype) h)
       (if_holds (nat_eq o TILDE) _ _ (operator_below at _ g (kind_of g.ctype) h) (demand_holds TypedExpressionBelow (is_scalar g.ctype) 3 at (typed_value int (unary_operation int Not (tree_of g)) (constant_unary Not (integer_constant g))) (tree_below g h)))))
-
-  pub size_below : (env : Env) (at : ℕ) (t : CType) → Holds TypedExpressionBelow (size_of env at t)
-  size_below env at t = after_demands TypedExpressionBelow (complete env at t) _ (λ _. tt)
-
-  pub size_type_below : (env : Env) (at place : ℕ) (t : CType) → Holds TypedExpressionBelow (size_of_type env at place t)
-  size_type_below env at place t = on_holds TypedExpressionBelow TypedExpressionBelow (size_of env at t) _ (size_below env at t) (λ g h. demand_holds TypedExpressionBelow _ 13 place g h)
 
   pub cast_below : (at : ℕ) (t : CType) (g : TypedExpression) → TypedExpressionBelow g → Holds TypedExpressionBelow (cast_of at t g)
   cast_below at void g h = tree_below g h

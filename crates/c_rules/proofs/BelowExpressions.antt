@@ -23,7 +23,8 @@ use Rattle.c_rules.specs.Declarators.{place_of_type, is_void_pointer}
 use Rattle.c_rules.specs.Expressions.{value_at, place_at, callee_meant, callee_bound, callee, access, after_operand, before_operand, unary_rule, infix_rule, cast_rule, tree, trees, type_named, value}
 use Rattle.c_rules.specs.Initialisers.{Slots, copies, each, slots, capacity, takes_list, count_inits, text_of, typed_zero, typed_char, zeros, chars, defined_cell, cell_of, scalar_cell, array_cells, cells_of_one, cells_of_list, after_init, initialised, in_turn, initialised_local, text_fits}
 use Rattle.c_rules.specs.NullCalls.{CallsBelow}
-use Rattle.c_rules.proofs.Below.{Holds, on_holds, both_hold, all_three_hold, Any, anything, demand_holds, after_demands, TypedExpressionBelow, TypedExpressionsBelow, tree_below, valued_below, as_if_below, CalleeBelow, called_below, member_below, address_below, indirection_below, unary_below, size_below, size_type_below, cast_below, null_cast_below, sum_below, operation_below, conjunction_below, disjunction_below, choice_below, assignment_by_below, step_below, assignable_below, trees_below}
+use Rattle.c_rules.proofs.Integers.{integer_cases, size_holds}
+use Rattle.c_rules.proofs.Below.{Holds, on_holds, both_hold, all_three_hold, Any, anything, demand_holds, after_demands, TypedExpressionBelow, TypedExpressionsBelow, tree_below, valued_below, as_if_below, CalleeBelow, called_below, member_below, address_below, indirection_below, unary_below, cast_below, null_cast_below, sum_below, operation_below, conjunction_below, disjunction_below, choice_below, assignment_by_below, step_below, assignable_below, trees_below}
 
 -- every function that may be named has a number below n
 abbrev pub Within : ℕ → Env → Type 0
@@ -48,8 +49,7 @@ module _ (n : ℕ) where
   bound_below e at x (Some b) = meant_below e at x b.means
 
   integer_below : (k : ℕ) (u : Bool) → Holds (TypedExpressionBelow n) (fine (integer_expression k u))
-  integer_below k true = tt
-  integer_below k false = tt
+  integer_below k u = integer_cases (TypedExpressionBelow n) k u (λ _. tt) tt
 
   of_type_below : (at : ℕ) (t : CType) (f : ℕ) → f < n → Holds (CalleeBelow n) (callee_of_type at t f)
   of_type_below at (function t ts) f h = h
@@ -108,7 +108,7 @@ module _ (n : ℕ) where
   before_operand_below : (e : Env) (at place : ℕ) (o : Prefix) (r s : Checked TypedExpression) → Holds (TypedExpressionBelow n) r → Holds (TypedExpressionBelow n) (before_operand e at place o r s)
   before_operand_below e at place pre_increment r s h = on_holds (TypedExpressionBelow n) (TypedExpressionBelow n) (place_at place r) (step e at Add false) (place_at_below place r h) (λ g k. step_below n e at Add false g k)
   before_operand_below e at place pre_decrement r s h = on_holds (TypedExpressionBelow n) (TypedExpressionBelow n) (place_at place r) (step e at Sub false) (place_at_below place r h) (λ g k. step_below n e at Sub false g k)
-  before_operand_below e at place sizeof r s h = after_demands (TypedExpressionBelow n) s (size_of_expression e at) (λ g. size_below n e at g.ctype)
+  before_operand_below e at place sizeof r s h = after_demands (TypedExpressionBelow n) s (size_of_expression e at) (λ g. size_holds (TypedExpressionBelow n) e at at g.ctype (λ _. tt))
 
   if_holds : (t : Bool) (r s : Checked TypedExpression) → Holds (TypedExpressionBelow n) r → Holds (TypedExpressionBelow n) s → Holds (TypedExpressionBelow n) (if t then r else s)
   if_holds true r s h k = h
@@ -135,7 +135,7 @@ module _ (n : ℕ) where
     tree_holds e w b (a_char at c) = tt
     tree_holds e w b (a_str at t) = after_demands (TypedExpressionBelow n) (string_fits e.context at b.cells (suc (length t))) _ (λ _. tt)
     tree_holds e w b (comma at es) = on_holds (TypedExpressionsBelow n) (TypedExpressionBelow n) (trees e b es) (λ gs. fine (comma_of gs)) (trees_hold e w b es) (λ gs k. trees_below n gs k)
-    tree_holds e w b (sizeof_type at t) = after_demands (TypedExpressionBelow n) (type_named e t) (size_of_type e at (place_of_type t)) (λ u. size_type_below n e at (place_of_type t) u)
+    tree_holds e w b (sizeof_type at t) = after_demands (TypedExpressionBelow n) (type_named e t) (size_of_type e at (place_of_type t)) (λ u. size_holds (TypedExpressionBelow n) e at (place_of_type t) u (λ _. tt))
     tree_holds e w b (cast at t x) = cast_rule_below (is_void_pointer t) at (type_named e t) (value_at e (place_of x) (tree e b x)) (value_at_below e (place_of x) (tree e b x) (tree_holds e w b x))
     tree_holds e w b (call at d es) =
         all_three_hold (CalleeBelow n) Any (TypedExpressionsBelow n) (TypedExpressionBelow n) (callee e at d (value_at e (place_of d) (tree e b d))) (site_of e (b.sites + calls d) at) (trees e (after_designator b d) es) (called at)

@@ -26,11 +26,12 @@ use Rattle.c_rules.specs.PrimaryExpressions.{given_number, number_or}
 use Rattle.c_rules.specs.Variables.{Next, number_in, past_names, names_of_decl, names_of_first, names_of_stmt, names_of_stmts}
 use Rattle.c_rules.specs.Blocks.{within_local, behind_named, behind_part, past_part, behind_parts, behind_decl, behind_first, after_part, after_decl, after_first, after_stmt, after_stmts, StatementTree, bare, with_tree, joined, one_more, alone, appended, some_more, laid_variable, local_of, local, local_named, local_part, local_parts, local_decl, is_given}
 use Rattle.c_rules.specs.Statements.{Around, in_loop, in_switch, condition_at, test_of, step_of, first_of, for_of, switched_kind, switched, label_type, labels_of, Labelled, labelled, switch_of, returned, stmt, items_of_block, stmts, groups_of_switch}
-use Rattle.c_rules.specs.Functions.{with_parameter, with_parameters, body_env, body_numbers, body_of, parameters_of, are_named, function_laid, function_declared, items_of_body, declares_function, defined_as}
+use Rattle.c_rules.specs.Functions.{with_parameter, with_parameters, body_env, body_numbers, body_of, parameters_of, are_named, function_laid, function_declared, items_of_body, declares_function, few_variables, defined_as}
 use Rattle.c_rules.specs.Items.{Output, no_output, with_output, struct_definition, one_more_than, enumerator_value, behind_enumerator, behind_enumerators, new_enum, behind_enum_tag, enumerators, tag_declaration, defines, global_declared, global, definition_of, within_global, static_of, declared_part, named_part, behind_declared, behind_named_part, behind_file_part, after_file_part, file_parts, behind_file_parts, file_decl, behind_file_decl, output_of_function, behind_defined, function_named, behind_function_named, item, behind_by_form, behind_item, after_item, items}
 use Rattle.c_rules.specs.Units.{functions_of, functions_of_item, env_before, has_main, program_of, IsTyped}
 use Rattle.c_rules.specs.NullCalls.{CallsBelow, MaybeBelow, InitsBelow, StmtBelow, StmtsBelow, GroupsBelow, FunctionsBelow, CallsNoNullCall}
 use Rattle.c_rules.proofs.Modes.{on_fine, demand_met}
+use Rattle.c_rules.proofs.CheckedLemmas.{items_fine}
 use Rattle.c_rules.proofs.Below.{Holds, held, on_holds, both_hold, all_three_hold, Any, anything, demand_holds, after_demands, TypedExpressionBelow, TypedExpressionsBelow, tree_below, as_if_below, condition_below, converted_below, alone_holds, parts_first_holds}
 use Rattle.c_rules.proofs.BelowExpressions.{Within, value_holds, local_init_holds}
 use Rattle.c_tree.specs.Layout.{cells_of_all}
@@ -203,7 +204,8 @@ module _ (n : ℕ) where
   defined_holds e w b place d x is (array t k) = tt
   defined_holds e w b place d x is (struct s) = tt
   defined_holds e w b place d x is (function t ts) =
-      parts_first_holds FunctionBelow (body_of e b t d ts is) (both (demand (are_named (parameters_of d)) C3 place met) (body_of e b t d ts is) (λ _ p. function_laid e x t ts p)) (both_hold Any ManyBelow FunctionBelow (demand (are_named (parameters_of d)) C3 place met) (body_of e b t d ts is) (λ _ p. function_laid e x t ts p) (anything (demand (are_named (parameters_of d)) C3 place met)) (body_holds e w b t d ts is) (λ _ p _ h. demand_holds FunctionBelow (nat_le (cells_of_all (layout_of e) (variables_of ts p)) (most_local_cells e.whole.mode)) 13 x.at (record { name = x.name; ctype = function t ts; variables = variables_of ts p; body = typed.block p.tree }) h))
+      after_demands FunctionBelow (few_variables e x d is) _ (λ _.
+      parts_first_holds FunctionBelow (body_of e b t d ts is) (both (demand (are_named (parameters_of d)) C3 place met) (body_of e b t d ts is) (λ _ p. function_laid e x t ts p)) (both_hold Any ManyBelow FunctionBelow (demand (are_named (parameters_of d)) C3 place met) (body_of e b t d ts is) (λ _ p. function_laid e x t ts p) (anything (demand (are_named (parameters_of d)) C3 place met)) (body_holds e w b t d ts is) (λ _ p _ h. demand_holds FunctionBelow (nat_le (cells_of_all (layout_of e) (variables_of ts p)) (most_local_cells e.whole.mode)) 13 x.at (record { name = x.name; ctype = function t ts; variables = variables_of ts p; body = typed.block p.tree }) h)))
 
   abbrev OutputBelow : Output → Type 0
   OutputBelow p = FunctionsBelow n p.functions
@@ -380,7 +382,7 @@ program_below u p h k = subst (λ m. FunctionsBelow (m + 24) p.functions) (sym k
 -- a program that is typed in a plain unit calls no null call
 pub no_null_call : (u : Items) (p : Program) → IsTyped u Plain p → CallsNoNullCall p
 no_null_call u p g =
-    let k = on_fine (items (env_before Plain u) nothing_before u) (λ q. demand (has_main Plain u) C9 0 (program_of Plain u q)) p g in
+    let k = on_fine (items (env_before Plain u) nothing_before u) (λ q. demand (has_main Plain u) C9 0 (program_of Plain u q)) p (items_fine u Plain p g) in
     let t : has_main Plain u ≡ true = demand_met (has_main Plain u) 9 0 (program_of Plain u k.0) p k.2 in
     let same : program_of Plain u k.0 ≡ p = (let e : fine (program_of Plain u k.0) ≡ fine p = sym (ap (λ s. demand s C9 0 (program_of Plain u k.0)) t) ∙ k.2 in cc) in
     subst CallsNoNullCall same

@@ -4,8 +4,8 @@ mod TrialDeclared
 mod TrialPrograms
 mod TrialStatics
 mod TrialTypes
-mod CheckedLemmas
 pub mod Modes
+pub mod CheckedLemmas
 pub mod ModeNames
 pub mod ModeExpressions
 pub mod ModeBlocks
@@ -13,5 +13,6 @@ mod ModeStatements
 pub mod ModeFunctions
 pub mod ModeItems
 pub mod Below
+pub mod Integers
 mod BelowExpressions
 mod BelowUnits

@@ -26,6 +26,11 @@ pub on_to : {A B : Type 0} (P : Type 0) (r s : Checked A) (k l : A → Checked B
 on_to P (fine a) s k l h t = with_fact P (k a) (on s l) (subst (λ x. Leads (k a) (on x l)) (sym h.0) (t a refl h.1)) (λ _ _. h.1)
 on_to P (faulty f fs) s k l h t = tt
 
+-- behind a part without a fact
+pub after_to : {A B : Type 0} (P : Type 0) (r s : Checked A) (k l : A → Checked B) → Leads r s → ((a : A) → r ≡ fine a → LeadsTo P (k a) (l a)) → LeadsTo P (on r k) (on s l)
+after_to P (fine a) s k l h t = subst (λ x. LeadsTo P (k a) (on x l)) (sym h.0) (t a refl)
+after_to P (faulty f fs) s k l h t = tt
+
 pub both_to : {A B C : Type 0} (P Q : Type 0) (p p' : Checked A) (q q' : Checked B) (k l : A → B → Checked C) → LeadsTo P p p' → ((a : A) → p ≡ fine a → P → LeadsTo Q q q') → ((a : A) (b : B) → Leads (k a b) (l a b)) → LeadsTo (P × Q) (both p q k) (both p' q' l)
 both_to P Q (fine a) p' (fine b) q' k l g h t =
     with_fact (P × Q) (k a b) (both p' q' l)

@@ -143,8 +143,8 @@ mutual
       let r : Checked CType = on (on (type_of_spec (left env) at s) (λ t. declared (left env) d t)) (parameter_of (place_or at d)) in
       let q : Checked CType = on (on (type_of_spec (right env) at s) (λ t. declared (right env) d t)) (parameter_of (place_or at d)) in
       let h : Leads r q = on_leads (on (type_of_spec (left env) at s) (λ t. declared (left env) d t)) (on (type_of_spec (right env) at s) (λ t. declared (right env) d t)) (parameter_of (place_or at d)) (parameter_of (place_or at d)) (on_leads (type_of_spec (left env) at s) (type_of_spec (right env) at s) (λ t. declared (left env) d t) (λ t. declared (right env) d t) (same_leads (type_of_spec (left env) at s)) (λ t _. declared_leads _ _ (twin env p) d t)) (λ t _. same_leads (parameter_of (place_or at d) t)) in
-      both_leads (with_name_demands (left env) (name_of d) r) (with_name_demands (right env) (name_of d) q) (parameters (behind_parameter (left env) k (name_of d) r) (suc k) ps) (parameters (behind_parameter (right env) k (name_of d) q) (suc k) ps) (λ t ts. fine (more_types t ts)) (λ t ts. fine (more_types t ts))
-      (with_name_leads env (name_of d) r q h) (λ t e. parameters_lead _ _ (behind_twin env p k (name_of d) r q t h e) (suc k) ps) (λ t ts. (refl, tt))
+      both_leads (with_name_demands (left env) (name_of d) r) (with_name_demands (right env) (name_of d) q) (parameters (behind_parameter (left env) k (name_of d) r) k ps) (parameters (behind_parameter (right env) k (name_of d) q) k ps) (λ t ts. fine (more_types t ts)) (λ t ts. fine (more_types t ts))
+      (with_name_leads env (name_of d) r q h) (λ t e. parameters_lead _ _ (behind_twin env p k (name_of d) r q t h e) k ps) (λ t ts. (refl, tt))
 
 pub value_leads : (e f : Env) → Twin e f → (b : Before) (x : Expr) → Leads (value e b x) (value f b x)
 value_leads e f (twin env p) b x = value_at_leads env (place_of x) _ _ (tree_leads _ _ (twin env p) b x)

@@ -1,5 +1,5 @@
 -- Functions in the two modes.
-use Rattle.std.proofs.Common.{◌≡◌, ℕ, suc, ◌≤◌, Bool, true, false, not, ◌&&◌, ◌||◌, List, ◌++◌, length, Option, Some, None, nat_lt, nat_le, ◌<◌, length-append, refl, ap, sym, subst, ◌∙◌, arith}
+use Rattle.std.proofs.Common.{◌≡◌, ℕ, suc, ◌+◌, ◌≤◌, Bool, true, false, not, ◌&&◌, ◌||◌, List, ◌++◌, length, Option, Some, None, nat_lt, nat_le, ◌<◌, length-append, refl, ap, sym, subst, ◌∙◌, arith}
 use Rattle.std.proofs.lemmas.Bool.{le-leb, leb-true}
 use Rattle.std.proofs.lemmas.Option.{slice_get_within, slice_get-get_or, get_or_from_slice_get}
 use Rattle.std.proofs.lemmas.List.{get_or_append_left}
@@ -17,12 +17,13 @@ use Rattle.c_rules.specs.Names.{Name, number_among, is_among, is_reserved, given
 use Rattle.c_rules.specs.Scopes.{Env, Meaning, a_function, inside, Before, layout_of, declared_here}
 use Rattle.c_rules.specs.Declarators.{name_of, place_or, type_of_spec, pointer_to, array_of, function_of, new_name, with_name_demands, behind_parameter}
 use Rattle.c_rules.specs.Expressions.{declared, size_in, parameters, type_declared, type_of_parameter}
+use Rattle.c_rules.specs.Variables.{names_of_block}
 use Rattle.c_rules.specs.Blocks.{StatementTree}
-use Rattle.c_rules.specs.Functions.{declares_function, parameters_of, are_named, with_parameter, with_parameters, body_env, body_numbers, held_by_type, held_by_typed, given_as, is_as_given, may_follow_function, is_defined_by, is_few, function_meaning, behind_function, function_declared, variables_of, function_laid, body_of, defined_as}
+use Rattle.c_rules.specs.Functions.{declares_function, parameters_of, are_named, count_params, with_parameter, with_parameters, body_env, body_numbers, held_by_type, held_by_typed, given_as, is_as_given, may_follow_function, is_defined_by, is_few, function_meaning, behind_function, function_declared, variables_of, function_laid, body_of, few_variables, defined_as}
 use Rattle.c_rules.proofs.Modes.{Leads, LeadsTo, same_leads, fine_leads, on_leads, demand_leads, and_also_leads, first_fine, on_fine, demand_met, below_more, ArePlain, Twin, twin, named_twin, parts_first_leads}
 use Rattle.c_rules.proofs.ModeNames.{left, right, given_same, unreserved, name_leads, new_name_plain}
 use Rattle.c_rules.proofs.ModeExpressions.{type_declared_leads, parameter_leads, behind_twin}
-use Rattle.c_rules.proofs.ModeBlocks.{both_to, weaken}
+use Rattle.c_rules.proofs.ModeBlocks.{both_to, after_to, weaken}
 use Rattle.c_rules.proofs.ModeStatements.{inside_twin, block_leads}
 
 -- ## The scope of a body
@@ -61,8 +62,8 @@ names_plain e f (twin env p) k no_params ts g = tt
 names_plain e f (twin env p) k (more_params at s d ps) ts g =
     let r : Checked CType = type_of_parameter (left env) at s d in
     let q : Checked CType = type_of_parameter (right env) at s d in
-    let h = first_fine (with_name_demands (left env) (name_of d) r) (parameters (behind_parameter (left env) k (name_of d) r) (suc k) ps) (λ t us. fine (typed.more_types t us)) ts g in
-    (name_plain env (name_of d) r h.0 h.2, names_plain (behind_parameter (left env) k (name_of d) r) (behind_parameter (right env) k (name_of d) q) (behind_twin env p k (name_of d) r q h.0 (parameter_leads _ _ (twin env p) at s d) h.2) (suc k) ps h.1 h.3)
+    let h = first_fine (with_name_demands (left env) (name_of d) r) (parameters (behind_parameter (left env) k (name_of d) r) k ps) (λ t us. fine (typed.more_types t us)) ts g in
+    (name_plain env (name_of d) r h.0 h.2, names_plain (behind_parameter (left env) k (name_of d) r) (behind_parameter (right env) k (name_of d) q) (behind_twin env p k (name_of d) r q h.0 (parameter_leads _ _ (twin env p) at s d) h.2) k ps h.1 h.3)
 
 parameter_twin : (env : Env) → ArePlain env.names → (k : ℕ) (n : Option Ident) (t : CType) → PlainName n → Twin (with_parameter (left env) k n t) (with_parameter (right env) k n t)
 parameter_twin env p k None t u = twin env p
@@ -128,11 +129,14 @@ function_twin e f (twin env w) d at s p x m g =
 
 -- ## Definitions
 
+cells_more : (n : ℕ) → nat_le n 65536 ≡ true → nat_le n 262144 ≡ true
+cells_more n e = le-leb n 262144 (let k : n ≤ 65536 = leb-true n 65536 e in omega (arith, k))
+
+variables_lead : (e f : Env) → Twin e f → (x : Ident) (d : Declarator) (is : BlockItems) → Leads (few_variables e x d is) (few_variables f x d is)
+variables_lead e f (twin env w) x d is = demand_leads _ _ 13 x.at met (cells_more (count_params (parameters_of d) + length (names_of_block is)))
+
 laid_leads : (e f : Env) → Twin e f → (x : Ident) (t : CType) (ts : CTypes) (p : StatementTree typed.Stmts) → Leads (function_laid e x t ts p) (function_laid f x t ts p)
 laid_leads e f (twin env w) x t ts p = demand_leads _ _ 13 x.at _ (cells_more (cells_of_all (layout_of env) (variables_of ts p)))
-  where
-    cells_more : (n : ℕ) → nat_le n 65536 ≡ true → nat_le n 262144 ≡ true
-    cells_more n e = le-leb n 262144 (let k : n ≤ 65536 = leb-true n 65536 e in omega (arith, k))
 
 -- a body, where the names of its parameters are unreserved
 body_leads : (e f : Env) → Twin e f → (b : Before) (t : CType) (d : Declarator) (ts : CTypes) (is : BlockItems) → PlainNames (parameters_of d) → LeadsTo (held_by_type e d is (function t ts) ≡ held_by_type f d is (function t ts)) (body_of e b t d ts is) (body_of f b t d ts is)
@@ -146,9 +150,10 @@ defined_leads e f w b place d x is (pointer t) h = tt
 defined_leads e f w b place d x is (array t n) h = tt
 defined_leads e f w b place d x is (struct s) h = tt
 defined_leads e f w b place d x is (function t us) h =
+    after_to _ (few_variables e x d is) (few_variables f x d is) _ _ (variables_lead e f w x d is) (λ _ _.
     parts_first_leads _ (body_of e b t d us is) (body_of f b t d us is) _ _ (weaken (Unit {0} × (held_by_type e d is (function t us) ≡ held_by_type f d is (function t us))) _ _ _ (λ y. y.1)
     (both_to (Unit {0}) (held_by_type e d is (function t us) ≡ held_by_type f d is (function t us)) (demand (are_named (parameters_of d)) C3 place met) (demand (are_named (parameters_of d)) C3 place met) (body_of e b t d us is) (body_of f b t d us is) (λ _ p. function_laid e x t us p) (λ _ p. function_laid f x t us p)
-    (same_leads _) (λ _ _ _. body_leads e f w b t d us is h) (λ _ p. laid_leads e f w x t us p)))
+    (same_leads _) (λ _ _ _. body_leads e f w b t d us is h) (λ _ p. laid_leads e f w x t us p))))
 
 declared_names : (e f : Env) → Twin e f → (at : ℕ) (s : Spec) (d : Declarator) (u : CType) → declares_function d ≡ true → type_declared e at s d ≡ fine u → PlainNames (parameters_of d)
 declared_names e f w at s d u h g =

@@ -24,6 +24,7 @@ use Rattle.c_rules.specs.Names.{number_among}
 use Rattle.std.specs.Prelude.{unwrap_or}
 use Rattle.c_tree.specs.Layout.{Structs}
 use Rattle.c_rules.specs.Units.{env_before, env_behind, is_main_bound, has_main, strings_of, static_string, functions_of, program_of, IsTyped}
+use Rattle.c_rules.proofs.CheckedLemmas.{items_fine, names_fine, items_typed}
 use Rattle.c_rules.proofs.Modes.{fact, Leads, LeadsTo, same_leads, fine_leads, with_fact, without, on_leads, both_leads, gives_leads, demand_leads, and_also_leads, first_fine, on_fine, demand_met, ArePlain, Twin, twin, named_twin}
 use Rattle.c_rules.proofs.ModeNames.{left, right, unreserved, may_more, name_leads, given_leads, new_name_leads, new_name_plain}
 use Rattle.c_rules.proofs.ModeExpressions.{type_declared_leads}
@@ -284,7 +285,7 @@ program_same u p h =
 -- what is typed in a plain unit is typed in an instrumented one
 pub typed_leads : (u : Items) (p : Program) → IsTyped u Plain p → IsTyped u Instrumented p
 typed_leads u p g =
-    let k = on_fine (items (env_before Plain u) nothing_before u) (λ q. demand (has_main Plain u) C9 0 (program_of Plain u q)) p g in
+    let k = on_fine (items (env_before Plain u) nothing_before u) (λ q. demand (has_main Plain u) C9 0 (program_of Plain u q)) p (items_fine u Plain p g) in
     let l = items_lead (env_before Plain u) (env_before Instrumented u) (twin (env_before Plain u) tt) nothing_before u in
     let facts = fact _ _ _ k.0 l k.1 in
     let met' : has_main Plain u ≡ true = demand_met (has_main Plain u) 9 0 (program_of Plain u k.0) p k.2 in
@@ -292,5 +293,6 @@ typed_leads u p g =
     let right_main : has_main Instrumented u ≡ true = sym (main_same _ _ facts.0) ∙ met' in
     let given : demand (has_main Plain u) C9 0 (program_of Plain u k.0) ≡ fine p = k.2 in
     let same : program_of Plain u k.0 ≡ p = (let e : fine (program_of Plain u k.0) ≡ fine p = sym (ap (λ t. demand t C9 0 (program_of Plain u k.0)) met') ∙ given in cc) in
-    ap (λ r. on r (λ q. demand (has_main Instrumented u) C9 0 (program_of Instrumented u q))) right_items
-    ∙ (ap (λ t. demand t C9 0 (program_of Instrumented u k.0)) right_main ∙ ap fine (sym (program_same u k.0 facts) ∙ same))
+    items_typed u Instrumented p (names_fine u Plain p g)
+    (ap (λ r. on r (λ q. demand (has_main Instrumented u) C9 0 (program_of Instrumented u q))) right_items
+    ∙ (ap (λ t. demand t C9 0 (program_of Instrumented u k.0)) right_main ∙ ap fine (sym (program_same u k.0 facts) ∙ same)))

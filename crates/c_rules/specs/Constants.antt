@@ -1,5 +1,5 @@
 -- Constants (6.6): what operators give of constant operands. An operand that isn't evaluated needn't be defined.
-use Rattle.std.specs.Prelude.{ℕ, ◌+◌, ◌-◌, ◌*◌, ◌/◌, ℤ, pos, negsuc, suc, true, false, not, if◌then◌else◌, nat_le, nat_lt}
+use Rattle.std.specs.Prelude.{ℕ, ◌+◌, ◌-◌, ◌*◌, ◌/◌, ℤ, pos, negsuc, suc, Bool, true, false, not, ◌&&◌, if◌then◌else◌, nat_le, nat_lt}
 use Rattle.c_tree.specs.declared.value.IntType.{IntType}
 use Rattle.c_tree.specs.declared.value.UnOp.{UnOp}
 use Rattle.c_tree.specs.declared.value.BinOp.{BinOp}
@@ -8,6 +8,7 @@ use Rattle.c_tree.specs.declared.value.Value.{Value}
 use Rattle.c_tree.specs.declared.value.Value.TheVariants.{Indeterminate, Int, Uint, Char, Uchar, Null, Func, At}
 use Rattle.c_tree.specs.Operators.{Answer, convert, unary, binary, truth}
 use Rattle.c_tree.specs.Operators as operators
+use Rattle.c_rules.specs.Limits.{most_cells}
 use Rattle.c_rules.specs.TypedExpression.{Constant, not_constant, undefined, known, is_zero}
 
 -- the number that an integer is
@@ -83,10 +84,19 @@ address_of_static n cells = At (record {
   index = 0;
 })
 
--- a part of what an address leads to: from this cell of it on, so many elements of so many cells; there is none one past the end
+-- the same, where an object may have so many cells
+abbrev pub static_address : (number cells : ℕ) → Constant
+static_address n cells = if nat_le cells most_cells then known (address_of_static n cells) else undefined
+
+-- an object may have so many elements of so many cells from a cell on
+abbrev pub is_within : (first width elements : ℕ) → Bool
+is_within first width elements = nat_le width most_cells && nat_le (first + elements * width) most_cells
+
+-- A part of what an address leads to: from this cell of it on, so many elements of so many cells. There is none one past the end, nor past
+-- the cells that an object may have.
 abbrev pub part_of : Pointer → (from width elements : ℕ) → Constant
 part_of q from width elements =
-    if nat_lt q.index q.elements
+    if nat_lt q.index q.elements && is_within ((q.first + q.index * q.width) + from) width elements
     then known (At (record {
       name = q.name;
       first = (q.first + q.index * q.width) + from;

@@ -135,12 +135,13 @@ abbrev mutual
   size_in env (there e) =
       on (value_at (in_context env folded) (place_of e) (tree (in_context env folded) nothing_before e)) (array_size (place_of e))
 
-  -- the types of parameters, of which so many stand before; each name is known behind its declarator (6.2.1 paragraph 7)
+  -- The types of parameters; each name is known behind its declarator (6.2.1 paragraph 7). A parameter has its own number in the body of a
+  -- definition alone: in a declarator all have this one, which nothing that is evaluated reads.
   pub parameters : Env → ℕ → Params → Checked CTypes
   parameters env k no_params = fine no_types
   parameters env k (more_params at s d ps) =
       let r : Checked CType = on (on (type_of_spec env at s) (λ t. declared env d t)) (parameter_of (place_or at d)) in
-      both (with_name_demands env (name_of d) r) (parameters (behind_parameter env k (name_of d) r) (suc k) ps) (λ t ts. fine (more_types t ts))
+      both (with_name_demands env (name_of d) r) (parameters (behind_parameter env k (name_of d) r) k ps) (λ t ts. fine (more_types t ts))
 
 -- the value of an expression
 abbrev pub value : Env → Before → Expr → Checked TypedExpression

@@ -1,11 +1,11 @@
 -- Functions (6.9.1): what their names mean, and what their definitions give.
-use Rattle.std.specs.Prelude.{ℕ, suc, Bool, true, false, not, ◌&&◌, ◌||◌, List, [], ◌++◌, length, Option, Some, None, slice_get, nat_le, nat_lt}
+use Rattle.std.specs.Prelude.{ℕ, suc, ◌+◌, Bool, true, false, not, ◌&&◌, ◌||◌, List, [], ◌++◌, length, Option, Some, None, slice_get, nat_le, nat_lt}
 use Rattle.c_tree.specs.Tree.{CType, void, function, CTypes, no_types, more_types, list_of, Function}
 use Rattle.c_tree.specs.Tree as typed
 use Rattle.c_tree.specs.Layout.{cells_of_all}
 use Rattle.c_syntax.specs.Tree.{Ident, Spec, Declarator, Params, no_params, more_params, Stmt, block, BlockItems, no_block_items, block_stmt}
 use Rattle.c_syntax.specs.Tree as syntax
-use Rattle.c_rules.specs.Checked.{Checked, fine, faulty, fault, demand, on, both, and_also, met, parts_first}
+use Rattle.c_rules.specs.Checked.{Checked, fine, faulty, fault, demand, on, both, and_also, Met, met, parts_first}
 use Rattle.c_rules.specs.Codes.{C2, C3, C11, C12, C13}
 use Rattle.c_rules.specs.Limits.{most_functions, most_local_cells}
 use Rattle.c_rules.specs.Names.{Name, number_among, is_among, with_new, may_be_declared, given_names, given_types, is_given_type}
@@ -13,7 +13,7 @@ use Rattle.c_rules.specs.Types.{same_type}
 use Rattle.c_rules.specs.Scopes.{Env, Meaning, a_static, a_local, a_function, unknown, declared_here, with_name, meaning_or_unknown, inside, layout_of, Before}
 use Rattle.c_rules.specs.Declarators.{name_of}
 use Rattle.c_rules.specs.Expressions.{type_declared}
-use Rattle.c_rules.specs.Variables.{Next, first_numbers}
+use Rattle.c_rules.specs.Variables.{Next, first_numbers, names_of_block}
 use Rattle.c_rules.specs.Blocks.{StatementTree, held_by_block}
 use Rattle.c_rules.specs.Statements.{items_of_block}
 
@@ -143,8 +143,13 @@ abbrev pub held_by_typed : Env → Declarator → BlockItems → Checked CType �
 held_by_typed env d is (fine t) = held_by_type env d is t
 held_by_typed env d is (faulty f fs) = []
 
+-- the limit on the variables of a function, each of which has a cell; it is counted from the syntax, before its parts are looked at
+abbrev pub few_variables : Env → Ident → Declarator → BlockItems → Checked Met
+few_variables env x d is =
+    demand (nat_le (count_params (parameters_of d) + length (names_of_block is)) (most_local_cells env.whole.mode)) C13 x.at met
+
 -- a definition of a function of this type; its name is known in its body
 abbrev pub defined_as : Env → Before → (place : ℕ) → Declarator → Ident → BlockItems → CType → Checked Function
 defined_as env b place d x is (function t ts) =
-    parts_first (body_of env b t d ts is) (both (demand (are_named (parameters_of d)) C3 place met) (body_of env b t d ts is) (λ _ p. function_laid env x t ts p))
+    on (few_variables env x d is) (λ _. parts_first (body_of env b t d ts is) (both (demand (are_named (parameters_of d)) C3 place met) (body_of env b t d ts is) (λ _ p. function_laid env x t ts p)))
 defined_as env b place d x is t = fault C3 place

@@ -23,14 +23,15 @@ abbrev pub sized_by_one : (at : ℕ) → CType → Option (List ℕ) → Checked
 sized_by_one at (integer Char) (Some w) = fine (array (integer Char) (suc (length w)))
 sized_by_one at t text = fault C14 at
 
-abbrev pub sized_by_init : CType → Init → Checked CType
-sized_by_init t (one at e) = on (text_fits at (text_of e)) (λ _. sized_by_one at t (text_of e))
-sized_by_init t (list at is) = fine (array t (count_inits is))
+-- a list gives it one element for each of its initialisers (6.7.8 paragraph 22), each of which has a cell
+abbrev pub sized_by_init : (name : ℕ) → CType → Init → Checked CType
+sized_by_init name t (one at e) = on (text_fits at (text_of e)) (λ _. sized_by_one at t (text_of e))
+sized_by_init name t (list at is) = demand (nat_le (count_inits is) most_cells) C13 name (array t (count_inits is))
 
 -- an array without a size has an initialiser
 abbrev pub sized_by : (name : ℕ) → CType → MaybeInit → Checked CType
 sized_by name t no_init = fault C14 name
-sized_by name t (an_init i) = sized_by_init t i
+sized_by name t (an_init i) = sized_by_init name t i
 
 -- the type of an object; an array without a size has the size 0 until here
 abbrev pub with_size : (name : ℕ) → MaybeInit → CType → Checked CType

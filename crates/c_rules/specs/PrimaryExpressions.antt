@@ -1,5 +1,5 @@
 -- Names, constants and strings (6.5.1, 6.4.4, 6.4.5).
-use Rattle.std.specs.Prelude.{ℕ, suc, ◌+◌, ℤ, pos, Bool, true, false, List, length, if◌then◌else◌, Option, Some, None, nat_le}
+use Rattle.std.specs.Prelude.{ℕ, suc, ◌+◌, ◌^◌, ℤ, pos, Bool, true, false, List, length, if◌then◌else◌, Option, Some, None, nat_le, nat_lt}
 use Rattle.c_tree.specs.declared.value.IntType.TheVariants.{Char}
 use Rattle.c_tree.specs.declared.value.Value.TheVariants.{Int, Uint, Func}
 use Rattle.c_tree.specs.Tree.{CType, integer, array, constant, function_name, string_place, variable}
@@ -11,7 +11,7 @@ use Rattle.c_rules.specs.Limits.{most_cells, most_static_cells}
 use Rattle.c_rules.specs.Names.{Name, number_among, is_among, null_calls, given_names}
 use Rattle.c_rules.specs.Scopes.{Env, Binding, Meaning, a_static, a_local, a_function, an_enumerator, unknown, Context, evaluated, sized, folded, Before, layout_of, binding_of}
 use Rattle.c_rules.specs.TypedExpression.{TypedExpression, a_place, not_constant, known, typed_value}
-use Rattle.c_rules.specs.Constants.{address_of_static}
+use Rattle.c_rules.specs.Constants.{address_of_static, static_address}
 
 -- What is used is defined (6.9 paragraph 5). An operand that isn't evaluated is no use, and has a number that nobody reads.
 abbrev pub used : Context → (at : ℕ) → Option ℕ → Checked ℕ
@@ -43,7 +43,7 @@ function_value_number env at x =
 
 abbrev pub static_given : Env → (seen whole : CType) → ℕ → TypedExpression
 static_given env seen whole n =
-    record { ctype = seen; form = a_place (variable whole true n); constant = known (address_of_static n (cells (layout_of env) whole)) }
+    record { ctype = seen; form = a_place (variable whole true n); constant = static_address n (cells (layout_of env) whole) }
 
 abbrev pub local_given : (seen whole : CType) → ℕ → TypedExpression
 local_given seen whole n = record { ctype = seen; form = a_place (variable whole false n); constant = not_constant }
@@ -74,10 +74,10 @@ bound env at x (Some b) = meant env at x b.means
 abbrev pub named_expression : Env → (at : ℕ) → Name → Checked TypedExpression
 named_expression env at x = bound env at x (binding_of env x)
 
--- an integer constant (6.4.4.1)
+-- an integer constant, which is unsigned where no int has its value (6.4.4.1 paragraph 5)
 abbrev pub integer_expression : ℕ → Bool → TypedExpression
 integer_expression n true = typed_unsigned n
-integer_expression n false = typed_int (pos n)
+integer_expression n false = if nat_lt n (2 ^ 31) then typed_int (pos n) else typed_unsigned n
 
 -- the type of a string of so many bytes (6.4.5 paragraph 5)
 abbrev pub string_type : ℕ → CType
@@ -87,11 +87,16 @@ string_type n = array (integer Char) (suc n)
 abbrev pub few_cells : (at cells : ℕ) → Checked Met
 few_cells at cells = demand (nat_le cells most_cells) C13 at met
 
--- the limits on a string; that on all of them is one on those that the program holds
+-- The limit on the cells of all static objects and strings that the program holds. The strings in an operand that isn't evaluated are none of
+-- these; they are numbered among themselves, and no text within the limit on its length has so many.
+abbrev pub most_cells_in : Context → ℕ
+most_cells_in evaluated = most_static_cells
+most_cells_in sized = 2 ^ 31
+most_cells_in folded = 2 ^ 31
+
+-- the limits on a string
 abbrev pub string_fits : Context → (at before cells : ℕ) → Checked Met
-string_fits evaluated at before cells = and_also (few_cells at cells) (demand (nat_le (before + cells) most_static_cells) C13 at met)
-string_fits sized at before cells = few_cells at cells
-string_fits folded at before cells = few_cells at cells
+string_fits c at before cells = and_also (few_cells at cells) (demand (nat_le (before + cells) (most_cells_in c)) C13 at met)
 
 -- strings are numbered after the static objects, in the order of the text
 abbrev pub string_number : Env → Before → ℕ

@@ -8,7 +8,7 @@ use Rattle.c_tree.specs.Tree.{CType, void, integer, pointer, array, address_of, 
 use Rattle.c_tree.specs.Layout.{cells, sizeof}
 use Rattle.c_tree.specs.Functions.{int}
 use Rattle.c_tree.specs.Operands.{promoted}
-use Rattle.c_rules.specs.Checked.{Checked, fine, fault, demand, on, gives, met}
+use Rattle.c_rules.specs.Checked.{Checked, fine, fault, demand, on, met}
 use Rattle.c_rules.specs.Codes.{C3, C4, C13}
 use Rattle.c_rules.specs.Limits.{most_cells}
 use Rattle.c_rules.specs.Types.{is_integer, is_function, is_scalar}
@@ -77,16 +77,18 @@ unary_of_value at op g =
 
 -- ## sizeof (6.5.3.4)
 
-abbrev pub size_of : Env → (at : ℕ) → CType → Checked TypedExpression
-size_of env at t = gives (complete env at t) (λ _. typed_unsigned (sizeof (layout_of env) t))
+-- of a type of known size with few cells
+abbrev pub size_of : Env → (at place : ℕ) → CType → Checked TypedExpression
+size_of env at place t =
+    on (complete env at t) (λ _. demand (nat_le (cells (layout_of env) t) most_cells) C13 place (typed_unsigned (sizeof (layout_of env) t)))
 
 -- of an expression
 abbrev pub size_of_expression : Env → (at : ℕ) → TypedExpression → Checked TypedExpression
-size_of_expression env at g = size_of env at g.ctype
+size_of_expression env at g = size_of env at at g.ctype
 
 -- of the name of a type at a place
 abbrev pub size_of_type : Env → (at place : ℕ) → CType → Checked TypedExpression
-size_of_type env at place t = on (size_of env at t) (λ g. demand (nat_le (cells (layout_of env) t) most_cells) C13 place g)
+size_of_type env at place t = size_of env at place t
 
 -- ## Casts (6.5.4)
 

@@ -1,11 +1,11 @@
 -- Units (6.9): what a unit is typed as, and which demands on it fail.
-use Rattle.std.specs.Prelude.{◌≡◌, ℕ, Bool, true, false, not, ◌&&◌, List, [], ◌∷◌, ◌++◌, map, length, if◌then◌else◌, Option, Some, None, unwrap_or, Contains, codes}
+use Rattle.std.specs.Prelude.{◌≡◌, ℕ, ◌^◌, Bool, true, false, not, ◌&&◌, List, [], ◌∷◌, ◌++◌, map, length, if◌then◌else◌, Option, Some, None, unwrap_or, Contains, codes, nat_lt}
 use Rattle.dm_base.specs.declared.mode.Mode.{Mode}
 use Rattle.c_tree.specs.Tree.{Static, Program}
 use Rattle.c_tree.specs.Functions.{int, of_none}
 use Rattle.c_syntax.specs.Tree.{Storage, Parts, no_parts, more_parts, Decl, decl, Item, decl_item, function_item, Items, no_items, more_items}
-use Rattle.c_rules.specs.Checked.{Checked, fine, faults, demand, on}
-use Rattle.c_rules.specs.Codes.{C9}
+use Rattle.c_rules.specs.Checked.{Checked, fine, faults, demand, on, Met, met}
+use Rattle.c_rules.specs.Codes.{C9, C13}
 use Rattle.c_rules.specs.Names.{Name, number_among, each_once}
 use Rattle.c_rules.specs.Types.{same_type}
 use Rattle.c_rules.specs.Scopes.{Env, Binding, Meaning, a_function, Whole, empty_env, binding_of, layout_of, nothing_before}
@@ -90,9 +90,14 @@ program_of m u p = record {
   statics = p.statics ++ map static_string (strings_of m u);
 }
 
+-- The functions, the static objects and the structs of a unit have numbers below 2^31. No text within the limit on its length has as many.
+abbrev pub few_names : Items → Checked Met
+few_names u =
+    demand (nat_lt (length (functions_of u)) (2 ^ 31) && (nat_lt (length (objects_of u)) (2 ^ 31) && nat_lt (length (tags_of u)) (2 ^ 31))) C13 0 met
+
 -- the program that a unit is typed as, or the demands on it that fail
 abbrev pub checked : Items → Mode → Checked Program
-checked u m = on (items (env_before m u) nothing_before u) (λ p. demand (has_main m u) C9 0 (program_of m u p))
+checked u m = on (few_names u) (λ _. on (items (env_before m u) nothing_before u) (λ p. demand (has_main m u) C9 0 (program_of m u p)))
 
 -- the unit is typed as the program: no demand on it fails
 abbrev pub IsTyped : Items → Mode → Program → Type 0
