@@ -6,7 +6,6 @@ use Rattle.c_syntax.specs.Same.{unplaced_ident, unplaced_spec, unplaced_declarat
 use Rattle.c_rules.specs.Checked.{Checked, fine, faulty, on, Met, gives}
 use Rattle.c_rules.specs.Codes.{C3}
 use Rattle.c_rules.specs.Scopes.{Env, Meaning, a_local, with_name, meaning_or_unknown, Before}
-use Rattle.c_rules.specs.Counts.{strings}
 use Rattle.c_rules.specs.TypedExpression.{tree_of}
 use Rattle.c_rules.specs.Declarators.{name_of, place_or, new_name}
 use Rattle.c_rules.specs.Expressions.{type_declared}

@@ -22,7 +22,7 @@ use Rattle.c_rules.specs.Assignments.{assignable, assignment_by, step, comma_of}
 use Rattle.c_rules.specs.Declarators.{name_of, place_or, place_of_type, is_void_spec, is_bare_pointer, is_void_pointer, array_of, function_of, parameter_of, array_size, behind_parameter}
 use Rattle.c_rules.specs.Expressions.{value_at, place_at, callee_meant, callee_bound, callee, access, after_operand, before_operand, unary_rule, infix_rule, cast_rule, tree, trees, type_named, declared, size_in, parameters, value, folded_value, type_declared, type_of_parameter}
 use Rattle.c_rules_laws.proofs.Alike.{Alike, alike, on_alike, gives_alike, both_alike, three_alike, by_test}
-use Rattle.c_rules_laws.proofs.Operators.{named_alike, string_alike, valued_alike, site_alike, callee_by_name_alike, callee_by_value_alike, called_alike, member_alike, address_alike, indirection_alike, unary_of_value_alike, size_alike, size_of_type_alike, cast_alike, null_cast_alike, sum_alike, operation_alike, conjunction_alike, disjunction_alike, choice_alike, assignable_alike, assignment_by_alike, step_alike}
+use Rattle.c_rules_laws.proofs.Operators.{named_alike, string_alike, valued_alike, site_alike, callee_by_name_alike, callee_by_value_alike, called_alike, member_alike, address_alike, indirection_alike, unary_of_value_alike, size_alike, cast_alike, null_cast_alike, sum_alike, operation_alike, conjunction_alike, disjunction_alike, choice_alike, assignable_alike, assignment_by_alike, step_alike}
 use Rattle.c_rules_laws.proofs.Declared.{spec_alike, pointer_alike, array_alike, function_alike, parameter_alike, array_size_alike, with_name_alike, behind_parameter_same}
 
 -- ## Counts
@@ -142,7 +142,7 @@ postfix_alike env at to here yonder post_decrement r s h = on_alike (step env at
 prefix_alike : (env : Env) (at to here yonder : ℕ) (op : Prefix) (r s q t : Checked TypedExpression) → Alike TypedExpression r s → Alike TypedExpression q t → Alike TypedExpression (before_operand env at here op r q) (before_operand env to yonder op s t)
 prefix_alike env at to here yonder pre_increment r s q t h k = on_alike (step env at Add false) (step env to Add false) (place_at_alike here yonder r s h) (λ g _. step_alike env at to Add false g)
 prefix_alike env at to here yonder pre_decrement r s q t h k = on_alike (step env at Sub false) (step env to Sub false) (place_at_alike here yonder r s h) (λ g _. step_alike env at to Sub false g)
-prefix_alike env at to here yonder sizeof r s q t h k = on_alike (size_of_expression env at) (size_of_expression env to) k (λ g _. size_alike env at to g.ctype)
+prefix_alike env at to here yonder sizeof r s q t h k = on_alike (size_of_expression env at) (size_of_expression env to) k (λ g _. size_alike env at to at to g.ctype)
 
 unary_alike : (env : Env) (at to here yonder op : ℕ) (r s : Checked TypedExpression) → Alike TypedExpression r s → Alike TypedExpression (unary_rule env at here op r) (unary_rule env to yonder op s)
 unary_alike env at to here yonder op r s h =
@@ -197,7 +197,7 @@ mutual
   tree_alike env b c h (comma at es) = gives_alike comma_of (trees_alike env b c h es)
   tree_alike env b c h (sizeof_type at t) =
       on_alike (size_of_type env at (place_of_type t)) (size_of_type env 0 (place_of_type (unplaced_type t))) (type_alike env t)
-      (λ u _. size_of_type_alike env at 0 (place_of_type t) (place_of_type (unplaced_type t)) u)
+      (λ u _. size_alike env at 0 (place_of_type t) (place_of_type (unplaced_type t)) u)
   tree_alike env b c h (cast at t e) =
       subst (λ v. Alike TypedExpression (tree env b (cast at t e)) (cast_rule v 0 (type_named env (unplaced_type t)) (value env c (unplaced e)))) (sym (void_pointer_same t))
       (casts_alike (is_void_pointer t) at 0 (type_named env t) (type_named env (unplaced_type t)) (value env b e) (value env c (unplaced e)) (type_alike env t) (value_of env b c e (tree_alike env b c h e)))
@@ -266,10 +266,10 @@ mutual
       on_alike (parameter_of (place_or at d)) (parameter_of (place_or 0 (unplaced_declarator d)))
       (on_alike (declared env d) (declared env (unplaced_declarator d)) (spec_alike env at 0 s) (λ t _. declared_alike env d t))
       (λ t _. parameter_alike (place_or at d) (place_or 0 (unplaced_declarator d)) t) in
-      both_alike (parameters (behind_parameter env k (name_of d) r) (suc k) ps) (parameters (behind_parameter env k (name_of (unplaced_declarator d)) q) (suc k) (unplaced_params ps))
+      both_alike (parameters (behind_parameter env k (name_of d) r) k ps) (parameters (behind_parameter env k (name_of (unplaced_declarator d)) q) k (unplaced_params ps))
       (λ t ts. fine (more_types t ts)) (λ t ts. fine (more_types t ts)) (with_name_alike env d r q h)
-      (λ t e. subst (λ f. Alike CTypes (parameters (behind_parameter env k (name_of d) r) (suc k) ps) (parameters f (suc k) (unplaced_params ps))) (behind_parameter_same env k d r q t h e)
-      (parameters_alike (behind_parameter env k (name_of d) r) (suc k) ps))
+      (λ t e. subst (λ f. Alike CTypes (parameters (behind_parameter env k (name_of d) r) k ps) (parameters f k (unplaced_params ps))) (behind_parameter_same env k d r q t h e)
+      (parameters_alike (behind_parameter env k (name_of d) r) k ps))
       (λ t ts. alike (fine (more_types t ts)))
 
 pub value_alike : (env : Env) (b c : Before) → c ≡ b → (e : Expr) → Alike TypedExpression (value env b e) (value env c (unplaced e))

@@ -1,23 +1,24 @@
 -- What definitions of functions give without their places.
-use Rattle.std.proofs.Common.{◌≡◌, ℕ, suc, Bool, false, ◌&&◌, Option, Some, None, refl, sym, ap, ap₂, subst, ◌∙◌, nat_le}
+use Rattle.std.proofs.Common.{◌≡◌, ℕ, suc, ◌+◌, Bool, false, ◌&&◌, length, Option, Some, None, refl, sym, ap, ap₂, subst, ◌∙◌, nat_le}
 use Rattle.c_tree.specs.Tree.{CType, void, integer, pointer, array, struct, function, CTypes, no_types, more_types, Function}
 use Rattle.c_tree.specs.Tree as typed
 use Rattle.c_tree.specs.Layout.{cells_of_all}
 use Rattle.c_syntax.specs.Tree.{Ident, Spec, Declarator, Params, no_params, more_params, Stmt, block, empty, evaluate, only_if, if_else, while_loop, do_loop, for_loop, switch_on, break_off, continue_on, return_from, BlockItems}
 use Rattle.c_syntax.specs.Tree as syntax
 use Rattle.c_syntax.specs.Same.{unplaced_ident, unplaced_spec, unplaced_declarator, unplaced_params, unplaced_stmt, unplaced_block_items}
-use Rattle.c_rules.specs.Checked.{Checked, fine, demand, Met, met, both}
+use Rattle.c_rules.specs.Checked.{Checked, fine, demand, Met, met, parts_first}
 use Rattle.c_rules.specs.Codes.{C2, C3, C11, C12, C13}
 use Rattle.c_rules.specs.Limits.{most_local_cells}
 use Rattle.c_rules.specs.Names.{Name, with_new, may_be_declared}
 use Rattle.c_rules.specs.Scopes.{Env, Meaning, a_function, declared_here, with_name, inside, layout_of, Before}
 use Rattle.c_rules.specs.Declarators.{name_of}
-use Rattle.c_rules.specs.Variables.{first_numbers, past_names}
+use Rattle.c_rules.specs.Variables.{first_numbers, past_names, names_of_block}
 use Rattle.c_rules.specs.Blocks.{StatementTree, held_by_block}
 use Rattle.c_rules.specs.Statements.{Around, items_of_block}
-use Rattle.c_rules.specs.Functions.{declares_function, parameters_of, is_named, are_named, count_params, with_parameter, with_parameters, is_as_given, may_follow_function, is_defined_by, is_few, function_meaning, behind_function, function_declared, items_of_body, variables_of, function_laid, body_env, body_numbers, body_of, held_by_type, defined_as}
-use Rattle.c_rules_laws.proofs.Leads.{first_fine, parts_first_fine}
+use Rattle.c_rules.specs.Functions.{declares_function, parameters_of, is_named, are_named, count_params, with_parameter, with_parameters, is_as_given, may_follow_function, is_defined_by, is_few, function_meaning, behind_function, function_declared, items_of_body, variables_of, function_laid, body_env, body_numbers, body_of, held_by_type, few_variables, defined_as}
+use Rattle.c_rules_laws.proofs.Leads.{first_fine}
 use Rattle.c_rules_laws.proofs.Alike.{Alike, alike, on_alike, both_alike, demand_alike, and_alike, fault_alike, parts_first_alike}
+use Rattle.c_rules_laws.proofs.Definitions.{laid_body, definition_fine}
 use Rattle.c_rules_laws.proofs.Declared.{unplaced_name, name_same, meaning_same}
 use Rattle.c_rules_laws.proofs.Expressions.{type_declared_alike}
 use Rattle.c_rules_laws.proofs.Counted.{block_names_same}
@@ -109,6 +110,11 @@ laid_alike env x t ts p =
     demand_alike (nat_le (cells_of_all (layout_of env) (variables_of ts p)) (most_local_cells env.whole.mode)) C13 x.at 0
     (record { name = x.name; ctype = function t ts; variables = variables_of ts p; body = typed.block p.tree })
 
+few_variables_alike : (env : Env) (d : Declarator) (x : Ident) (is : BlockItems) → Alike Met (few_variables env x d is) (few_variables env (unplaced_ident x) (unplaced_declarator d) (unplaced_block_items is))
+few_variables_alike env d x is =
+    subst (λ n. Alike Met (few_variables env x d is) (demand (nat_le n (most_local_cells env.whole.mode)) C13 0 met)) (sym (ap₂ (λ k xs. k + length xs) (ap count_params (parameters_same d) ∙ count_params_same (parameters_of d)) (block_names_same is)))
+    (demand_alike (nat_le (count_params (parameters_of d) + length (names_of_block is)) (most_local_cells env.whole.mode)) C13 x.at 0 met)
+
 pub defined_alike : (env : Env) (b c : Before) → c ≡ b → (here yonder : ℕ) (d : Declarator) (x : Ident) (is : BlockItems) (t : CType) → Alike Function (defined_as env b here d x is t) (defined_as env c yonder (unplaced_declarator d) (unplaced_ident x) (unplaced_block_items is) t)
 defined_alike env b c h here yonder d x is void = fault_alike C3 here yonder
 defined_alike env b c h here yonder d x is (integer i) = fault_alike C3 here yonder
@@ -116,9 +122,11 @@ defined_alike env b c h here yonder d x is (pointer t) = fault_alike C3 here yon
 defined_alike env b c h here yonder d x is (array t n) = fault_alike C3 here yonder
 defined_alike env b c h here yonder d x is (struct s) = fault_alike C3 here yonder
 defined_alike env b c h here yonder d x is (function t ts) =
-    parts_first_alike (body_of env b t d ts is) (body_of env c t (unplaced_declarator d) ts (unplaced_block_items is)) {r = both (demand (are_named (parameters_of d)) C3 here met) (body_of env b t d ts is) (λ _ p. function_laid env x t ts p)} {s = both (demand (are_named (parameters_of (unplaced_declarator d))) C3 yonder met) (body_of env c t (unplaced_declarator d) ts (unplaced_block_items is)) (λ _ p. function_laid env (unplaced_ident x) t ts p)} (both_alike (body_of env b t d ts is) (body_of env c t (unplaced_declarator d) ts (unplaced_block_items is)) (λ _ p. function_laid env x t ts p) (λ _ p. function_laid env (unplaced_ident x) t ts p)
+    on_alike (λ _. parts_first (body_of env b t d ts is) (laid_body env b here d x is t ts)) (λ _. parts_first (body_of env c t (unplaced_declarator d) ts (unplaced_block_items is)) (laid_body env c yonder (unplaced_declarator d) (unplaced_ident x) (unplaced_block_items is) t ts))
+    (few_variables_alike env d x is)
+    (λ _ _. parts_first_alike (body_of env b t d ts is) (body_of env c t (unplaced_declarator d) ts (unplaced_block_items is)) {r = laid_body env b here d x is t ts} {s = laid_body env c yonder (unplaced_declarator d) (unplaced_ident x) (unplaced_block_items is) t ts} (both_alike (body_of env b t d ts is) (body_of env c t (unplaced_declarator d) ts (unplaced_block_items is)) (λ _ p. function_laid env x t ts p) (λ _ p. function_laid env (unplaced_ident x) t ts p)
     (subst (λ w. Alike Met (demand (are_named (parameters_of d)) C3 here met) (demand w C3 yonder met)) (sym (ap are_named (parameters_same d) ∙ all_named_same (parameters_of d))) (demand_alike (are_named (parameters_of d)) C3 here yonder met))
-    (λ _ _. body_alike env b c h t d ts is) (λ _ p. laid_alike env x t ts p))
+    (λ _ _. body_alike env b c h t d ts is) (λ _ p. laid_alike env x t ts p)))
 
 -- the strings in the body of a definition that is fine
 pub held_same : (env : Env) (b : Before) (place : ℕ) (d : Declarator) (x : Ident) (is : BlockItems) (t : CType) (f : Function) → defined_as env b place d x is t ≡ fine f → held_by_type env (unplaced_declarator d) (unplaced_block_items is) t ≡ held_by_type env d is t
@@ -128,7 +136,7 @@ held_same env b place d x is (pointer t) f e = refl
 held_same env b place d x is (array t n) f e = refl
 held_same env b place d x is (struct s) f e = refl
 held_same env b place d x is (function t ts) f e =
-    let g = first_fine (demand (are_named (parameters_of d)) C3 place met) (body_of env b t d ts is) (λ _ p. function_laid env x t ts p) f (parts_first_fine (body_of env b t d ts is) (both (demand (are_named (parameters_of d)) C3 place met) (body_of env b t d ts is) (λ _ p. function_laid env x t ts p)) f e) in
+    let g = first_fine (demand (are_named (parameters_of d)) C3 place met) (body_of env b t d ts is) (λ _ p. function_laid env x t ts p) f (definition_fine env b place d x is t ts f e) in
     ap (λ y. held_by_block y (body_numbers (unplaced_declarator d) (unplaced_block_items is)) (unplaced_block_items is)) (body_env_same env d ts)
     ∙ held_by_block_same (body_env env d ts) (in_body t) b (body_numbers d is) (body_numbers (unplaced_declarator d) (unplaced_block_items is)) (body_numbers_same d is) is g.1 g.3
 

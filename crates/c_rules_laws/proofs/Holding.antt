@@ -1,6 +1,6 @@
 -- What holds of parts that are fine.
-use Rattle.std.proofs.Common.{◌≡◌, ℕ, Bool, true, false, ◌&&◌, if◌then◌else◌, refl, subst}
-use Rattle.c_rules.specs.Checked.{Checked, fine, faulty, on, both, all_three, demand, met, fails_with, parts_first}
+use Rattle.std.proofs.Common.{◌≡◌, ℕ, Bool, true, false, ◌&&◌, if◌then◌else◌, refl}
+use Rattle.c_rules.specs.Checked.{Checked, fine, faulty, on, both, all_three, demand, met, parts_first}
 pub use Rattle.c_rules.proofs.Below.{Holds, held, on_holds, both_hold, Any, anything, all_three_hold, alone_holds, parts_first_holds}
 
 pub holds_map : {A : Type 0} (P Q : A → Type 0) → ((a : A) → P a → Q a) → (r : Checked A) → Holds P r → Holds Q r

@@ -10,7 +10,6 @@ use Rattle.c_rules.specs.Checked.{Checked, fine, on, demand, met, Met}
 use Rattle.c_rules.specs.Codes.{C6, C13, C14}
 use Rattle.c_rules.specs.Limits.{most_cells}
 use Rattle.c_rules.specs.Scopes.{Env, Before, layout_of}
-use Rattle.c_rules.specs.Counts.{strings}
 use Rattle.c_rules.specs.TypedExpression.{TypedExpression, Constant, not_constant, undefined, known}
 use Rattle.c_rules.specs.Conversions.{as_if_assigned}
 use Rattle.c_rules.specs.Declarators.{place_or}
@@ -167,15 +166,17 @@ sized_by_one_alike at to (array t m) o = fault_alike C14 at to
 sized_by_one_alike at to (struct s) o = fault_alike C14 at to
 sized_by_one_alike at to (function t ts) o = fault_alike C14 at to
 
-sized_by_init_alike : (t : CType) (i : Init) → Alike CType (sized_by_init t i) (sized_by_init t (unplaced_init i))
-sized_by_init_alike t (one at e) =
+sized_by_init_alike : (here yonder : ℕ) (t : CType) (i : Init) → Alike CType (sized_by_init here t i) (sized_by_init yonder t (unplaced_init i))
+sized_by_init_alike here yonder t (one at e) =
     subst (λ o. Alike CType (on (text_fits at (text_of e)) (λ _. sized_by_one at t (text_of e))) (on (text_fits 0 o) (λ _. sized_by_one 0 t o))) (sym (text_same e))
     (on_alike (λ _. sized_by_one at t (text_of e)) (λ _. sized_by_one 0 t (text_of e)) (text_fits_alike at 0 (text_of e)) (λ _ _. sized_by_one_alike at 0 t (text_of e)))
-sized_by_init_alike t (list at is) = subst (λ n. Alike CType (fine (array t (count_inits is))) (fine (array t n))) (sym (count_same is)) (alike (fine (array t (count_inits is))))
+sized_by_init_alike here yonder t (list at is) =
+    subst (λ n. Alike CType (demand (nat_le (count_inits is) most_cells) C13 here (array t (count_inits is))) (demand (nat_le n most_cells) C13 yonder (array t n))) (sym (count_same is))
+    (demand_alike (nat_le (count_inits is) most_cells) C13 here yonder (array t (count_inits is)))
 
 sized_by_alike : (at to : ℕ) (t : CType) (m : MaybeInit) → Alike CType (sized_by at t m) (sized_by to t (unplaced_maybe_init m))
 sized_by_alike at to t no_init = fault_alike C14 at to
-sized_by_alike at to t (an_init i) = sized_by_init_alike t i
+sized_by_alike at to t (an_init i) = sized_by_init_alike at to t i
 
 pub with_size_alike : (at to : ℕ) (m : MaybeInit) (t : CType) → Alike CType (with_size at m t) (with_size to (unplaced_maybe_init m) t)
 with_size_alike at to m void = alike (fine void)

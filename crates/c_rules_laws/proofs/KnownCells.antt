@@ -1,5 +1,5 @@
 -- The cells of a static object that is fine are constants with values.
-use Rattle.std.proofs.Common.{◌≡◌, ℕ, zero, suc, ◌-◌, Bool, true, false, List, [], ◌∷◌, ◌++◌, map, replicate, length, Option, Some, None, nat_le, refl, sym, subst}
+use Rattle.std.proofs.Common.{◌≡◌, ℕ, zero, suc, ◌-◌, Bool, true, List, [], ◌∷◌, ◌++◌, map, replicate, length, Option, Some, nat_le, refl, sym, subst}
 use Rattle.c_tree.specs.declared.value.IntType.TheVariants.{Char}
 use Rattle.c_tree.specs.Tree.{CType, void, integer, pointer, array, struct, function}
 use Rattle.c_tree.specs.Layout.{Structs, repeat, flat, flat_all}

@@ -2,6 +2,7 @@ pub mod Leads
 pub mod Names
 pub mod Parts
 pub mod Holding
+pub mod Definitions
 pub mod MadeTypes
 pub mod SoundStructs
 pub mod TypesOfTypedExpressions

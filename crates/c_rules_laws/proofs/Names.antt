@@ -1,12 +1,11 @@
 -- Names in the scopes of the two units.
-use Rattle.std.proofs.Common.{◌≡◌, ℕ, suc, Bool, true, false, not, ◌||◌, cond, if◌then◌else◌, List, [], ◌∷◌, ◌++◌, Option, Some, None, refl, ap, sym, subst, ◌∙◌, arith, codes}
-use Rattle.std.specs.Prelude.{is_some, is_none, option_map, bytes_eq}
-use Rattle.std.proofs.lemmas.Slice.Eq.{bytes_eq-Decides}
-use Rattle.dm_base.specs.declared.mode.Mode.TheVariants.{Plain, Instrumented}
+use Rattle.std.proofs.Common.{◌≡◌, ℕ, true, false, not, cond, if◌then◌else◌, List, [], ◌∷◌, Option, Some, None, refl, ap, sym, subst, arith}
+use Rattle.std.specs.Prelude.{is_none, bytes_eq}
+use Rattle.dm_base.specs.declared.mode.Mode.TheVariants.{Plain}
 use Rattle.c_syntax.specs.Tree.{Ident}
-use Rattle.c_rules.specs.Checked.{Checked, fine, demand, and_also, Met, met}
+use Rattle.c_rules.specs.Checked.{Checked, fine, demand, Met, met}
 use Rattle.c_rules.specs.Codes.{C2, C11, C12}
-use Rattle.c_rules.specs.Names.{Name, number_among, is_among, is_reserved, null_calls, system_calls, given_names, may_be_declared}
+use Rattle.c_rules.specs.Names.{Name, number_among, is_among, is_reserved, null_calls, given_names, may_be_declared}
 use Rattle.c_rules.specs.Scopes.{Env, Binding, Meaning, a_static, a_local, a_function, an_enumerator, unknown, Context, evaluated, sized, folded, lookup, at_depth, declared_here, with_name, meaning_or_unknown}
 use Rattle.c_rules.specs.TypedExpression.{TypedExpression}
 use Rattle.c_rules.specs.Conversions.{valued}
@@ -15,8 +14,8 @@ use Rattle.c_rules.specs.PostfixExpressions.{site_in, site_of, callee_of_type, c
 use Rattle.c_rules.specs.Declarators.{free_name, new_name}
 use Rattle.c_rules.specs.Expressions.{value_at, callee_meant, callee_bound}
 use Rattle.c_rules_laws.specs.TypedAlike.{AreUnreserved, MeanAlike, More, plain_scope, instrumented_scope, TypedAlike, beside}
-use Rattle.c_rules_laws.proofs.Leads.{Leads, same_leads, on_leads, both_leads, gives_leads, demand_leads, and_also_leads, first_fine, demand_met, below_more}
-use Rattle.c_rules.proofs.ModeNames.{found_in, not_first, no_twin, no_null, among_front}
+use Rattle.c_rules_laws.proofs.Leads.{Leads, same_leads, on_leads, both_leads, gives_leads, demand_leads, first_fine, demand_met, below_more}
+use Rattle.c_rules.proofs.ModeNames.{found_in}
 pub use Rattle.c_rules.proofs.ModeNames.{given_same, unreserved, may_more, name_leads, given_leads}
 
 abbrev pub left : Env → Env

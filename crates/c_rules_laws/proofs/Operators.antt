@@ -19,10 +19,10 @@ use Rattle.c_rules.specs.Types.{same_type, is_scalar, is_integer, is_function, i
 use Rattle.c_rules.specs.Scopes.{Env, Struct, incomplete, unknown_struct, defined_struct, Context, evaluated, sized, folded, Meaning, a_static, a_local, a_function, an_enumerator, unknown, Binding, binding_of, struct_of, Member, Before, layout_of}
 use Rattle.c_rules.specs.TypedExpression.{TypedExpression, Form, a_value, a_place, behind, tree_of, typed_value, not_constant, is_place, is_null, integer_constant}
 use Rattle.c_rules.specs.Constants.{constant_unary, constant_and, constant_or}
-use Rattle.c_rules.specs.PrimaryExpressions.{used, object_number, function_number, function_value_number, static_given, local_given, typed_function, typed_int, typed_unsigned, meant, bound, named_expression, string_fits, string_number, typed_string, string_expression, few_cells}
+use Rattle.c_rules.specs.PrimaryExpressions.{most_cells_in, used, object_number, function_number, function_value_number, static_given, local_given, typed_function, typed_int, typed_unsigned, meant, bound, named_expression, string_fits, string_number, typed_string, string_expression, few_cells}
 use Rattle.c_rules.specs.Conversions.{Kind, an_integer, a_pointer, neither, kind_of, few_parts, is_defined, complete, loaded, valued_as, valued, cast_to, null_of, fits, assigned, as_if_assigned, condition}
 use Rattle.c_rules.specs.PostfixExpressions.{site_in, site_of, callee_of_type, callee_by_name, callee_through, callee_by_value, Callee, all_fit, passed, call_of, as_many_as, called, name_of_member, member_given, member_or_undeclared, member_of_struct, member_of_type, member_of}
-use Rattle.c_rules.specs.UnaryExpressions.{address_of_form, address_of_type, address, led_to, indirection, plus_of, operator_of, negation, unary_of_value, size_of, size_of_type, cast_of, null_cast}
+use Rattle.c_rules.specs.UnaryExpressions.{address_of_form, address_of_type, address, led_to, indirection, plus_of, operator_of, negation, unary_of_value, size_of, cast_of, null_cast}
 use Rattle.c_rules.specs.BinaryExpressions.{calculated, compared_integers, compared_pointers, pointer_plus, plus_pointer, pointer_minus, difference, sum_of, sum, minus_of, balanced_of, shift_of, ordered_of, alike_integers, alike_pointers, unlike, equality_of, arithmetic_of, operation_of, operation, both_scalars, conjunction, disjunction, chosen, arms_of, choice}
 use Rattle.c_rules.specs.BinaryExpressions.{Alike as Operands, alike as operands}
 use Rattle.c_rules.specs.Assignments.{assignable, assignment, operator_of_assignment, updated, moves, update_of, assignment_by, step, one_for}
@@ -59,10 +59,8 @@ pub few_cells_alike : (at to n : ℕ) → Alike Met (few_cells at n) (few_cells 
 few_cells_alike at to n = demand_alike (nat_le n 65536) C13 at to met
 
 string_fits_alike : (c : Context) (at to before n : ℕ) → Alike Met (string_fits c at before n) (string_fits c to before n)
-string_fits_alike evaluated at to before n =
-    and_alike (demand_alike (nat_le n most_cells) C13 at to met) (demand_alike (nat_le (before + n) most_static_cells) C13 at to met)
-string_fits_alike sized at to before n = few_cells_alike at to n
-string_fits_alike folded at to before n = few_cells_alike at to n
+string_fits_alike c at to before n =
+    and_alike (demand_alike (nat_le n most_cells) C13 at to met) (demand_alike (nat_le (before + n) (most_cells_in c)) C13 at to met)
 
 pub string_alike : (env : Env) (b : Before) (at to : ℕ) (w : List ℕ) → Alike TypedExpression (string_expression env b at w) (string_expression env b to w)
 string_alike env b at to w = gives_alike (λ _. typed_string (string_number env b) (length w)) (string_fits_alike env.context at to b.cells (suc (length w)))
@@ -220,13 +218,10 @@ unary_of_value_alike at to op g =
     (by_test (nat_eq op MINUS) (operator_alike at to Minus g (kind_of g.ctype))
     (by_test (nat_eq op TILDE) (operator_alike at to Complement g (kind_of g.ctype)) (negation_alike at to g))))
 
-pub size_alike : (env : Env) (at to : ℕ) (t : CType) → Alike TypedExpression (size_of env at t) (size_of env to t)
-size_alike env at to t = gives_alike (λ _. typed_unsigned (sizeof (layout_of env) t)) (complete_alike env at to t)
-
-pub size_of_type_alike : (env : Env) (at to here there : ℕ) (t : CType) → Alike TypedExpression (size_of_type env at here t) (size_of_type env to there t)
-size_of_type_alike env at to here there t =
-    on_alike (λ g. demand (nat_le (cells (layout_of env) t) most_cells) C13 here g) (λ g. demand (nat_le (cells (layout_of env) t) most_cells) C13 there g)
-    (size_alike env at to t) (λ g _. demand_alike (nat_le (cells (layout_of env) t) most_cells) C13 here there g)
+pub size_alike : (env : Env) (at to here there : ℕ) (t : CType) → Alike TypedExpression (size_of env at here t) (size_of env to there t)
+size_alike env at to here there t =
+    on_alike (λ _. demand (nat_le (cells (layout_of env) t) most_cells) C13 here (typed_unsigned (sizeof (layout_of env) t))) (λ _. demand (nat_le (cells (layout_of env) t) most_cells) C13 there (typed_unsigned (sizeof (layout_of env) t)))
+    (complete_alike env at to t) (λ _ _. demand_alike (nat_le (cells (layout_of env) t) most_cells) C13 here there (typed_unsigned (sizeof (layout_of env) t)))
 
 pub cast_alike : (at to : ℕ) (t : CType) (g : TypedExpression) → Alike TypedExpression (cast_of at t g) (cast_of to t g)
 cast_alike at to void g = alike (cast_of at void g)

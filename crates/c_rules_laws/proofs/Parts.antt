@@ -1,5 +1,5 @@
 -- Expressions and declarators in the scopes of the two units.
-use Rattle.std.proofs.Common.{◌≡◌, ℕ, suc, ◌+◌, Bool, true, false, if◌then◌else◌, ◌∷◌, Option, Some, None, nat_eq, refl, sym, subst}
+use Rattle.std.proofs.Common.{◌≡◌, ℕ, suc, ◌+◌, true, false, ◌∷◌, Option, Some, None, nat_eq, refl, sym, subst}
 use Rattle.c_lexer.specs.declared.punctuator.TheConstants.{AMPERSAND}
 use Rattle.c_tree.specs.declared.value.BinOp.TheVariants.{Add, Sub}
 use Rattle.c_tree.specs.Tree.{CType, more_types}
@@ -13,12 +13,12 @@ use Rattle.c_rules.specs.Counts.{place_of, calls, after, after_designator}
 use Rattle.c_rules.specs.TypedExpression.{TypedExpression}
 use Rattle.c_rules.specs.PrimaryExpressions.{string_expression}
 use Rattle.c_rules.specs.PostfixExpressions.{site_of, callee_by_value, called, member_of}
-use Rattle.c_rules.specs.UnaryExpressions.{address, indirection, unary_of_value, size_of_expression, size_of_type, cast_of, null_cast}
+use Rattle.c_rules.specs.UnaryExpressions.{address, indirection, unary_of_value, size_of_expression, size_of_type}
 use Rattle.c_rules.specs.BinaryExpressions.{sum, choice}
-use Rattle.c_rules.specs.Assignments.{assignable, assignment_by, step, comma_of}
+use Rattle.c_rules.specs.Assignments.{assignment_by, step, comma_of}
 use Rattle.c_rules.specs.Declarators.{name_of, place_or, place_of_type, is_void_pointer, type_of_spec, pointer_to, array_of, function_of, parameter_of, array_size, new_name, variable_meaning, with_name_demands, behind_parameter}
 use Rattle.c_rules.specs.Objects.{object_of, object_declared}
-use Rattle.c_rules.specs.Expressions.{value_at, place_at, callee, access, after_operand, before_operand, unary_rule, infix_rule, cast_rule, tree, trees, type_named, declared, size_in, parameters, value, type_declared}
+use Rattle.c_rules.specs.Expressions.{value_at, place_at, callee, access, after_operand, before_operand, unary_rule, infix_rule, tree, trees, type_named, declared, size_in, parameters, value, type_declared}
 use Rattle.c_rules_laws.specs.TypedAlike.{AreUnreserved, MeanAlike, More, TypedAlike, beside}
 use Rattle.c_rules_laws.specs.EnvironmentLaws.{PartsGiveTheSame}
 use Rattle.c_rules_laws.proofs.Leads.{Leads, same_leads, fine_leads, on_leads, both_leads, gives_leads, all_three_lead, first_fine}
@@ -137,8 +137,8 @@ mutual
       let r : Checked CType = on (on (type_of_spec (left env) at s) (λ t. declared (left env) d t)) (parameter_of (place_or at d)) in
       let q : Checked CType = on (on (type_of_spec (right env w) at s) (λ t. declared (right env w) d t)) (parameter_of (place_or at d)) in
       let h : Leads r q = on_leads (on (type_of_spec (left env) at s) (λ t. declared (left env) d t)) (on (type_of_spec (right env w) at s) (λ t. declared (right env w) d t)) (parameter_of (place_or at d)) (parameter_of (place_or at d)) (on_leads (type_of_spec (left env) at s) (type_of_spec (right env w) at s) (λ t. declared (left env) d t) (λ t. declared (right env w) d t) (same_leads (type_of_spec (left env) at s)) (λ t _. declared_leads _ _ (beside env w p m) d t)) (λ t _. same_leads (parameter_of (place_or at d) t)) in
-      both_leads (with_name_demands (left env) (name_of d) r) (with_name_demands (right env w) (name_of d) q) (parameters (behind_parameter (left env) k (name_of d) r) (suc k) ps) (parameters (behind_parameter (right env w) k (name_of d) q) (suc k) ps) (λ t ts. fine (more_types t ts)) (λ t ts. fine (more_types t ts))
-      (with_name_leads env w m (name_of d) r q h) (λ t e. parameters_lead _ _ (behind_beside env w p m k (name_of d) r q t h e) (suc k) ps) (λ t ts. (refl, tt))
+      both_leads (with_name_demands (left env) (name_of d) r) (with_name_demands (right env w) (name_of d) q) (parameters (behind_parameter (left env) k (name_of d) r) k ps) (parameters (behind_parameter (right env w) k (name_of d) q) k ps) (λ t ts. fine (more_types t ts)) (λ t ts. fine (more_types t ts))
+      (with_name_leads env w m (name_of d) r q h) (λ t e. parameters_lead _ _ (behind_beside env w p m k (name_of d) r q t h e) k ps) (λ t ts. (refl, tt))
 
 pub value_leads : (e f : Env) → TypedAlike e f → (b : Before) (x : Expr) → Leads (value e b x) (value f b x)
 value_leads e f (beside env w p m) b x = value_at_leads env w (place_of x) _ _ (tree_leads _ _ (beside env w p m) b x)

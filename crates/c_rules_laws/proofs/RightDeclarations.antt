@@ -73,13 +73,13 @@ module _ (structs : Structs) where
   one_sized at (integer Char) (Some w) h = ((tt, tt, tt), inr (record { element = integer Char; size = suc (length w); seen = refl; whole = refl }))
   one_sized at t o h = tt
 
-  init_sized : (t : CType) (i : Init) → NotArray t × IsComplete structs t × Made structs t → Holds (WithSize (array t 0)) (sized_by_init t i)
-  init_sized t (one at e) h = behind_demands (WithSize (array t 0)) (text_fits at (text_of e)) (λ _. sized_by_one at t (text_of e)) (λ _. one_sized at t (text_of e) h)
-  init_sized t (list at is) h = (h, inr (record { element = t; size = count_inits is; seen = refl; whole = refl }))
+  init_sized : (name : ℕ) (t : CType) (i : Init) → NotArray t × IsComplete structs t × Made structs t → Holds (WithSize (array t 0)) (sized_by_init name t i)
+  init_sized name t (one at e) h = behind_demands (WithSize (array t 0)) (text_fits at (text_of e)) (λ _. sized_by_one at t (text_of e)) (λ _. one_sized at t (text_of e) h)
+  init_sized name t (list at is) h = demand_holds (WithSize (array t 0)) (nat_le (count_inits is) 65536) 13 name (array t (count_inits is)) (λ _. (h, inr (record { element = t; size = count_inits is; seen = refl; whole = refl })))
 
   by_sized : (name : ℕ) (t : CType) (m : MaybeInit) → NotArray t × IsComplete structs t × Made structs t → Holds (WithSize (array t 0)) (sized_by name t m)
   by_sized name t no_init h = tt
-  by_sized name t (an_init i) h = init_sized t i h
+  by_sized name t (an_init i) h = init_sized name t i h
 
   pub size_right : (name : ℕ) (m : MaybeInit) (t : CType) → Made structs t → Holds (WithSize t) (with_size name m t)
   size_right name m void h = (h, inl refl)

@@ -9,36 +9,35 @@ use Rattle.c_tree.specs.declared.value.BinOp.TheVariants.{Add, Sub}
 use Rattle.c_tree.specs.declared.value.Value.TheVariants as v
 use Rattle.c_tree.specs.Tree.{CType, integer, Program}
 use Rattle.c_tree.specs.Layout.{cells}
-use Rattle.c_tree.specs.Layout.{sizeof as bytes_of}
 use Rattle.c_tree.specs.Functions.{int}
-use Rattle.c_tree.specs.Operands.{IsComplete, IsObject}
+use Rattle.c_tree.specs.Operands.{IsObject}
 use Rattle.c_tree.specs.Kinds.{IsConstant}
 use Rattle.c_tree.specs.Typed.{IsStaticOf}
 use Rattle.c_syntax.specs.Tree.{Expr, a_name, an_int, a_char, a_str, comma, sizeof_type, cast, call, member, postfix, prefix, unary, index, binary, assign, conditional, Exprs, no_exprs, more_exprs}
 use Rattle.c_syntax.specs.Tree.{Postfix, post_increment, post_decrement, pre_increment, pre_decrement, sizeof, Access, dot, arrow, Infix, and, or, operator}
-use Rattle.c_rules.specs.Checked.{Checked, fine, faulty, on, both, gives, demand, Met, met}
+use Rattle.c_rules.specs.Checked.{Checked, fine, on, both, gives, demand, met}
 use Rattle.c_rules.specs.Names.{Name, number_among, is_among, null_calls}
 use Rattle.c_rules.specs.Scopes.{Env, Binding, Meaning, a_static, a_local, a_function, an_enumerator, unknown, Member, type_of_member, Context, evaluated, sized, folded, in_context, Before, nothing_before, binding_of, layout_of}
 use Rattle.c_rules.specs.Counts.{place_of, calls, strings, strings_of_all, past, after, after_designator}
 use Rattle.c_rules.specs.TypedExpression.{TypedExpression, is_place}
-use Rattle.c_rules.specs.Conversions.{valued, complete}
-use Rattle.c_rules.specs.PrimaryExpressions.{used, object_number, function_number, function_value_number, typed_unsigned, meant, bound, integer_expression, string_type, string_fits, string_number, typed_string}
+use Rattle.c_rules.specs.Conversions.{valued}
+use Rattle.c_rules.specs.PrimaryExpressions.{used, object_number, function_number, function_value_number, meant, bound, integer_expression, string_type, string_fits, string_number, typed_string}
 use Rattle.c_rules.specs.PostfixExpressions.{site_of, callee_of_type, callee_by_value, called, name_of_member, member_of}
 use Rattle.c_rules.specs.UnaryExpressions.{address, indirection, unary_of_value, size_of_expression, size_of_type, cast_of, null_cast}
 use Rattle.c_rules.specs.BinaryExpressions.{operator_of_code, sum, choice}
 use Rattle.c_rules.specs.Assignments.{assignable, assignment_by, step, comma_of}
 use Rattle.c_rules.specs.Declarators.{place_of_type, is_void_pointer}
 use Rattle.c_rules.specs.Expressions.{value_at, place_at, callee_meant, callee_bound, callee, access, after_operand, unary_rule, infix_rule, cast_rule, tree, trees, type_named, value}
+use Rattle.c_rules.proofs.Integers.{integer_cases}
 use Rattle.c_meaning_laws.proofs.Places.{get_left, get_right, length_repeat}
 use Rattle.c_rules_laws.specs.Lexical.{IsLexical, AreLexical, AreSomeExprs}
 use Rattle.c_rules_laws.specs.MadeTypes.{Made, IsSized}
 use Rattle.c_rules_laws.specs.RightScopes.{MeaningRight, IsRight, StringsIn}
 use Rattle.c_rules_laws.proofs.Holding.{Holds, holds_map, holds_two, on_holds, both_hold, all_three_hold, Any, anything, demand_holds, after_part, if_holds}
-use Rattle.c_rules_laws.proofs.MadeTypes.{complete_known}
-use Rattle.c_rules_laws.proofs.TypesOfTypedExpressions.{TypedExpressionTyped, sized_few, valued_typed, sum_typed}
+use Rattle.c_rules_laws.proofs.TypesOfTypedExpressions.{TypedExpressionTyped, valued_typed, sum_typed}
 use Rattle.c_rules_laws.proofs.TypesOfExpressions.{Sized, CalleeTyped, type_named_made, value_at_typed, callee_typed, tree_typed}
-use Rattle.c_rules_laws.proofs.RightTypedExpressions.{complete_in, cells_in, static_address, TypedExpressionRight, ValueRight, ValuesRight, valued_right}
-use Rattle.c_rules_laws.proofs.RightRules.{sized_bytes, CalleeRight, called_right, callee_type_right, callee_through_right, member_right, address_right, indirection_right, unary_right, number_right, size_right, cast_of_right, null_cast_right, SumRight, sum_right, operation_right, conjunction_right, disjunction_right, choice_right, assignment_by_right, step_right, comma_right}
+use Rattle.c_rules_laws.proofs.RightTypedExpressions.{complete_in, cells_in, static_address_right, static_right, TypedExpressionRight, ValueRight, ValuesRight, valued_right}
+use Rattle.c_rules_laws.proofs.RightRules.{CalleeRight, called_right, callee_type_right, callee_through_right, member_right, address_right, indirection_right, unary_right, number_right, size_right, cast_of_right, null_cast_right, SumRight, sum_right, operation_right, conjunction_right, disjunction_right, choice_right, assignment_by_right, step_right, comma_right}
 
 -- ## Numbers of names
 
@@ -90,7 +89,7 @@ module _ (p : Program) (vars : List CType) where
       (let s = h.4 n e in
       let same = cells_in (layout_of env) p.structs r.within whole h.2 in
       let o : IsObject p.structs whole = record { complete = complete_in (layout_of env) p.structs r.within whole h.2; few = subst (λ k. k ≤ 65536) same h.3 } in
-      (h.0, s, h.1, static_address p false n (cells (layout_of env) whole) whole s o same)))
+      (h.0, s, h.1, static_right p false n (cells (layout_of env) whole) whole s o same)))
   meant_right env r at x (a_local n seen whole) h = (h.0, h.2, h.1, tt)
   meant_right env r at x (a_function t d) h =
       on_holds (λ n. (function_number env x ≡ Some n) × (is_among null_calls x ≡ false)) (TypedExpressionRight p vars) (function_value_number env at x) _ (value_number_right env r.runs at x) (λ n e.
@@ -102,9 +101,12 @@ module _ (p : Program) (vars : List CType) where
   bound_right env r at x None h = tt
   bound_right env r at x (Some b) h = meant_right env r at x b.means (h b refl)
 
-  integer_right : (n : ℕ) (u : Bool) → IsLexical (an_int 0 n u) → TypedExpressionRight p vars (integer_expression n u)
-  integer_right n true h = number_right p vars n h
-  integer_right n false h = (let c : IsConstant int (v.Int (pos n)) = (refl, grind (arith, h)) in (refl, c, tt, c))
+  integer_right : (n : ℕ) (u : Bool) → n < 4294967296 → TypedExpressionRight p vars (integer_expression n u)
+  integer_right n u h = integer_cases (TypedExpressionRight p vars) n u (λ l. (let c : IsConstant int (v.Int (pos n)) = (refl, grind (arith, l)) in (refl, c, tt, c))) (number_right p vars n h)
+
+  constant_below : (n : ℕ) (u : Bool) → IsLexical (an_int 0 n u) → n < 4294967296
+  constant_below n true h = h
+  constant_below n false h = omega (arith, h)
 
   string_right : (env : Env) → IsRight p vars env → (at : ℕ) (b : Before) (w : List ℕ) → StringsIn p vars (string_number env b) (w ∷ []) → Holds (TypedExpressionRight p vars) (gives (string_fits env.context at b.cells (suc (length w))) (λ _. typed_string (string_number env b) (length w)))
   string_right env r at b w h = by_context env.context r.runs
@@ -119,7 +121,7 @@ module _ (p : Program) (vars : List CType) where
       long = (let l = length_repeat (suc (length w)) (integer Char ∷ []) in let m : suc (length w) * 1 ≡ suc (length w) = omega arith in sym (l ∙ m))
 
       given : suc (length w) ≤ 65536 → TypedExpressionRight p vars (typed_string n (length w))
-      given l = (let o : IsObject p.structs (string_type (length w)) = record { complete = (omega arith, tt); few = subst (λ k. k ≤ 65536) long l } in (inl refl, stands, tt, static_address p true n (suc (length w)) (string_type (length w)) stands o long))
+      given l = (let o : IsObject p.structs (string_type (length w)) = record { complete = (omega arith, tt); few = subst (λ k. k ≤ 65536) long l } in (inl refl, stands, tt, static_address_right p true n (suc (length w)) (string_type (length w)) stands o long))
 
       by_context : (c : Context) → c ≡ evaluated → Holds (TypedExpressionRight p vars) (gives (string_fits c at b.cells (suc (length w))) (λ _. typed_string n (length w)))
       by_context evaluated e = on_holds (λ _. suc (length w) ≤ 65536) (TypedExpressionRight p vars) (string_fits evaluated at b.cells (suc (length w))) _ (both_hold (λ _. suc (length w) ≤ 65536) Any (λ _. suc (length w) ≤ 65536) (demand (nat_le (suc (length w)) 65536) 13 at met) _ _ (demand_holds (λ _. suc (length w) ≤ 65536) (nat_le (suc (length w)) 65536) 13 at met (λ q. leb-true (suc (length w)) 65536 q)) (anything _) (λ _ _ k _. k)) (λ _ l. given l)
@@ -190,13 +192,6 @@ module _ (p : Program) (vars : List CType) where
   cast_rule_right env true at t r h = after_part (TypedExpressionRight p vars) r (null_cast at) (λ g. null_cast_right p vars at g)
   cast_rule_right env false at t r h = both_hold Any (ValueBoth env) (TypedExpressionRight p vars) t r (cast_of at) (anything t) h (λ u g _ k. cast_of_right p vars at u g k.1)
 
-  size_type_right : (env : Env) → IsRight p vars env → (at place : ℕ) (t : CType) → Made (layout_of env) t → Holds (TypedExpressionRight p vars) (size_of_type env at place t)
-  size_type_right env w at place t m = by_part (complete env at t) (complete_known env at t m)
-    where
-      by_part : (r : Checked Met) → Holds (λ _. IsComplete (layout_of env) t) r → Holds (TypedExpressionRight p vars) (on (gives r (λ _. typed_unsigned (bytes_of (layout_of env) t))) (λ g. demand (nat_le (cells (layout_of env) t) 65536) 13 place g))
-      by_part (fine a) c = demand_holds (TypedExpressionRight p vars) (nat_le (cells (layout_of env) t) 65536) 13 place _ (λ q. number_right p vars (bytes_of (layout_of env) t) (sized_bytes (layout_of env) w.names_known.sound t (sized_few (layout_of env) t m (leb-true (cells (layout_of env) t) 65536 q)) c))
-      by_part (faulty f fs) c = tt
-
   -- ## Expressions
 
   abbrev pub TreesBoth : Env → Exprs → List TypedExpression → Type 0
@@ -214,11 +209,11 @@ module _ (p : Program) (vars : List CType) where
   mutual
     pub tree_right : (x : Expr) (env : Env) → IsRight p vars env → IsLexical x → (b : Before) → StringsIn p vars (string_number env b) (strings x) → Holds (TypedExpressionRight p vars) (tree env b x)
     tree_right (a_name at x) env w l b s = bound_right env w at x (binding_of env x) (w.meanings x)
-    tree_right (an_int at n u) env w l b s = integer_right n u l
+    tree_right (an_int at n u) env w l b s = integer_right n u (constant_below n u l)
     tree_right (a_char at c) env w l b s = (let k : IsConstant int (v.Int c) = (refl, grind (arith, l)) in (refl, k, tt, k))
     tree_right (a_str at t) env w l b s = string_right env w at b t s
     tree_right (comma at es) env w l b s = on_holds (TreesBoth env es) (TypedExpressionRight p vars) (trees env b es) (λ gs. fine (comma_of gs)) (trees_right es env w l.1 b s) (λ gs k. comma_right p vars gs (some_of env es gs l.0 k) (values_of env es gs k))
-    tree_right (sizeof_type at t) env w l b s = on_holds (Made (layout_of env)) (TypedExpressionRight p vars) (type_named env t) (size_of_type env at (place_of_type t)) (type_named_made env t) (λ u m. size_type_right env w at (place_of_type t) u m)
+    tree_right (sizeof_type at t) env w l b s = on_holds (Made (layout_of env)) (TypedExpressionRight p vars) (type_named env t) (size_of_type env at (place_of_type t)) (type_named_made env t) (λ u m. size_right p vars env w.names_known.sound at (place_of_type t) u m)
     tree_right (cast at t e) env w l b s = cast_rule_right env (is_void_pointer t) at (type_named env t) (value_at env (place_of e) (tree env b e)) (value_at_right env w (place_of e) (tree env b e) (tree_typed e env w.names_known l b) (tree_right e env w l b s))
     tree_right (call at d es) env w l b s =
         all_three_hold (λ f. CalleeTyped env f × CalleeRight p vars f) Any (TreesBoth env es) (TypedExpressionRight p vars) (callee env at d (value_at env (place_of d) (tree env b d))) (site_of env (b.sites + calls d) at) (trees env (after_designator b d) es) (called at)
@@ -234,7 +229,7 @@ module _ (p : Program) (vars : List CType) where
     tree_right (prefix at pre_decrement e) env w l b s =
         on_holds (PlaceBoth env) (TypedExpressionRight p vars) (place_at (place_of e) (tree env b e)) (step env at Sub false) (place_at_right env w (place_of e) (tree env b e) (tree_typed e env w.names_known l b) (tree_right e env w l b s)) (λ g k. step_right p vars env w.within at Sub false g tt k.0.made k.1)
     tree_right (prefix at sizeof e) env w l b s =
-        on_holds (Sized env) (TypedExpressionRight p vars) (tree (in_context env sized) nothing_before e) (size_of_expression env at) (tree_typed e (in_context env sized) w.names_known l nothing_before) (λ g k. size_right p vars env w.names_known.sound at g.ctype k)
+        on_holds (Sized env) (TypedExpressionRight p vars) (tree (in_context env sized) nothing_before e) (size_of_expression env at) (tree_typed e (in_context env sized) w.names_known l nothing_before) (λ g k. size_right p vars env w.names_known.sound at at g.ctype k.made)
     tree_right (unary at o e) env w l b s = unary_rule_right env w at (place_of e) o (tree env b e) (tree_typed e env w.names_known l b) (tree_right e env w l b s)
     tree_right (index at e f) env w l b s =
         on_holds (λ g. Sized env g × SumRight p vars env w.within g) (TypedExpressionRight p vars) (both (value_at env (place_of e) (tree env b e)) (value_at env (place_of f) (tree env (after b e) f)) (sum env at)) (indirection at)

@@ -1,6 +1,7 @@
 -- What the rules on expressions give is right in a program where their parts are.
-use Rattle.std.proofs.Common.{◌≡◌, ◌⊎◌, inl, inr, ℕ, ◌≤◌, ◌<◌, ℤ, pos, Bool, true, false, not, ◌&&◌, ◌||◌, if◌then◌else◌, List, [], ◌∷◌, map, length, get_or, Option, Some, None, slice_get, nat_eq, refl, ap, sym, subst, ◌∙◌, arith}
+use Rattle.std.proofs.Common.{◌≡◌, ◌⊎◌, inl, inr, ℕ, ◌≤◌, ◌<◌, ℤ, pos, Bool, true, false, not, ◌&&◌, ◌||◌, if◌then◌else◌, List, [], ◌∷◌, map, length, get_or, Option, Some, None, slice_get, nat_eq, refl, ap, sym, subst, ◌∙◌, arith, nat_le}
 use Rattle.std.proofs.lemmas.Option.{slice_get-get_or}
+use Rattle.std.proofs.lemmas.Bool.{leb-true}
 use Rattle.c_lexer.specs.declared.punctuator.TheConstants as punctuators
 use Rattle.c_tree.specs.declared.value.IntType.{IntType}
 use Rattle.c_tree.specs.declared.value.IntType.TheVariants as widths
@@ -31,6 +32,7 @@ use Rattle.c_rules.specs.PostfixExpressions.{Designator, direct, through, Callee
 use Rattle.c_rules.specs.UnaryExpressions.{address_of_form, address_of_type, address, led_to, indirection, plus_of, operator_of, negation, unary_of_value, size_of, cast_of, null_cast}
 use Rattle.c_rules.specs.BinaryExpressions.{shifted, compared_integers, compared_pointers, pointer_plus, plus_pointer, pointer_minus, difference, sum_of, sum, minus_of, balanced_of, shift_of, ordered_of, Alike, alike_integers, alike_pointers, unlike, pointers_alike, alike_of, alike, equality_of, arithmetic_of, operation_of, operation, both_scalars, conjunction, disjunction, chosen, arms_of, choice}
 use Rattle.c_rules.specs.Assignments.{assignable, assignment, operator_of_assignment, right_type, updated, moves, update_of, assignment_by, one_for, step, trees_of, last_type, comma_of}
+use Rattle.c_rules.specs.PrimaryExpressions.{typed_unsigned}
 use Rattle.c_meaning_laws.proofs.Places.{struct_is, member_lies, member_few}
 use Rattle.c_rules_laws.specs.MadeTypes.{NotArray, Made, IsSized}
 use Rattle.c_rules_laws.specs.SoundStructs.{AreSound, AreWithin}
@@ -38,7 +40,7 @@ use Rattle.c_rules_laws.proofs.Holding.{Holds, on_holds, demand_holds, behind_de
 use Rattle.c_rules_laws.proofs.MadeTypes.{number_is, scalar_is, type_is, complete_known}
 use Rattle.c_rules_laws.proofs.SoundStructs.{are_structs, struct_few}
 use Rattle.c_rules_laws.proofs.SizeBounds.{size_bound}
-use Rattle.c_rules_laws.proofs.TypesOfTypedExpressions.{kind_pointer, kind_integer, defined_at}
+use Rattle.c_rules_laws.proofs.TypesOfTypedExpressions.{kind_pointer, kind_integer, defined_at, sized_few}
 use Rattle.c_rules_laws.proofs.RightTypedExpressions.{complete_thing, target_scalar, seen_same, integer_type, promoted_is, common_is, complete_in, cells_in, object_in, first_in, ConstRight, not_constant_right, truth_right, unary_constant, binary_constant, and_constant, or_constant, conditional_constant, integer_part, member_constant, moved_constant, FormRight, TypedExpressionRight, ValueRight, ValuesRight, cast_right, converted_right, null_right, assigned_right, fits_scalar}
 
 -- kinds of operators that compare, and that calculate
@@ -309,9 +311,11 @@ module _ (p : Program) (vars : List CType) where
   pub number_right : (n : ℕ) → n < 4294967296 → FormRight p vars unsigned_int (a_value (constant unsigned_int (v.Uint n))) (known (v.Uint n))
   number_right n l = (refl, (refl, l), tt, (refl, l))
 
-  pub size_right : (env : Env) → AreSound (layout_of env) → (at : ℕ) (t : CType) → IsSized (layout_of env) t → Holds (TypedExpressionRight p vars) (size_of env at t)
-  size_right env s at t h =
-      on_holds (λ _. IsComplete (layout_of env) t) (TypedExpressionRight p vars) (complete env at t) _ (complete_known env at t h.made) (λ _ c. number_right (sizeof (layout_of env) t) (sized_bytes (layout_of env) s t h c))
+  pub size_right : (env : Env) → AreSound (layout_of env) → (at place : ℕ) (t : CType) → Made (layout_of env) t → Holds (TypedExpressionRight p vars) (size_of env at place t)
+  size_right env s at place t m =
+      on_holds (λ _. IsComplete (layout_of env) t) (TypedExpressionRight p vars) (complete env at t) _ (complete_known env at t m)
+      (λ _ c. demand_holds (TypedExpressionRight p vars) (nat_le (cells (layout_of env) t) 65536) 13 place (typed_unsigned (sizeof (layout_of env) t))
+      (λ q. number_right (sizeof (layout_of env) t) (sized_bytes (layout_of env) s t (sized_few (layout_of env) t m (leb-true (cells (layout_of env) t) 65536 q)) c)))
 
   pub cast_of_right : (at : ℕ) (t : CType) (g : TypedExpression) → ValueRight p vars g → Holds (TypedExpressionRight p vars) (cast_of at t g)
   cast_of_right at void g h = (refl, (refl, h.1), tt, tt)

@@ -1,5 +1,5 @@
 -- What expressions give is right in a program: conversions and constants.
-use Rattle.std.proofs.Common.{◌≡◌, ◌⊎◌, inl, inr, ℕ, zero, suc, ◌+◌, ◌-◌, ◌*◌, ◌/◌, ◌≤◌, ◌<◌, ℤ, pos, negsuc, Bool, true, false, ◌||◌, if◌then◌else◌, List, [], ◌∷◌, All, length, Option, Some, slice_get, nat_le, nat_lt, refl, ap, ap₂, sym, subst, ◌∙◌, arith}
+use Rattle.std.proofs.Common.{◌≡◌, ◌⊎◌, inl, inr, ℕ, zero, suc, ◌+◌, ◌-◌, ◌*◌, ◌/◌, ◌≤◌, ◌<◌, ℤ, pos, negsuc, Bool, true, false, ◌||◌, if◌then◌else◌, List, [], ◌∷◌, All, length, Option, Some, slice_get, nat_le, nat_lt, refl, ap, ap₂, sym, subst, ◌∙◌, arith, ◌&&◌}
 use Rattle.std.proofs.lemmas.Bool.{leb-true, ltb-true}
 use Rattle.std.proofs.Math.Nat.{mul-div_cancel}
 use Rattle.std.proofs.lemmas.List.Elements.{All-head, All-tail}
@@ -24,14 +24,15 @@ use Rattle.c_tree.proofs.OperatorLemmas.{converted, arithmetic_fits}
 use Rattle.c_rules.specs.Types.{same_type, is_integer, is_scalar}
 use Rattle.c_rules.specs.Scopes.{Env, layout_of}
 use Rattle.c_rules.specs.TypedExpression.{Form, a_value, a_place, behind, Constant, not_constant, undefined, known, TypedExpression, typed_value, tree_of_form, tree_of, is_zero, is_null, integer_constant_if}
-use Rattle.c_rules.specs.Constants.{answered, constant_converted, constant_unary, constant_binary, constant_truth, constant_and, constant_or, constant_conditional, address_of_static, part_of, constant_member, constant_decayed, moved, constant_moved, number_of}
+use Rattle.c_rules.specs.Constants.{answered, constant_converted, constant_unary, constant_binary, constant_truth, constant_and, constant_or, constant_conditional, address_of_static, static_address, is_within, part_of, constant_member, constant_decayed, moved, constant_moved, number_of}
 use Rattle.c_rules.specs.Conversions.{Kind, an_integer, a_pointer, neither, kind_of, few_parts, loaded, valued_as, valued, cast_to, has_integer, converted_to, null_of, fits_kind, fits, assigned_as, assigned, as_if_assigned, condition}
+use Rattle.c_rules.specs.Limits.{most_cells}
 use Rattle.c_meaning_laws.proofs.Places.{lies_in, lies_whole, repeat_lies, lies_once, length_repeat, element_object}
 use Rattle.c_meaning_laws.proofs.Steps.{settled}
 use Rattle.c_rules_laws.specs.MadeTypes.{NotArray, Made}
 use Rattle.c_rules_laws.specs.RightScopes.{Seen, IsThing}
 use Rattle.c_rules_laws.specs.SoundStructs.{AreWithin}
-use Rattle.c_rules_laws.proofs.Holding.{Holds, demand_holds}
+use Rattle.c_rules_laws.proofs.Holding.{Holds, demand_holds, and_left}
 use Rattle.c_rules_laws.proofs.MadeTypes.{integer_is, scalar_is, type_is, complete_kept}
 use Rattle.c_rules_laws.proofs.SoundStructs.{object_is, same_flat}
 use Rattle.c_rules_laws.proofs.SizeBounds.{has_cell}
@@ -302,8 +303,8 @@ module _ (p : Program) where
   static_known : (n : ℕ) (o : Option Static) (s : Static) → slice_get p.statics n ≡ Some s → if_static 0 (cells_where p.structs (slice_get p.statics n)) ≡ Some (flat p.structs s.ctype)
   static_known n o s e = ap (λ x. cells_where p.structs x) e
 
-  pub static_address : (string : Bool) (n k : ℕ) (t : CType) → IsStaticOf p string n t → IsObject p.structs t → k ≡ cells p.structs t → ConstRight (pointer t) (known (address_of_static n k))
-  static_address string n k t h o e = (
+  pub static_address_right : (string : Bool) (n k : ℕ) (t : CType) → IsStaticOf p string n t → IsObject p.structs t → k ≡ cells p.structs t → ConstRight (pointer t) (known (address_of_static n k))
+  static_address_right string n k t h o e = (
     t,
     refl,
     record {
@@ -326,11 +327,15 @@ module _ (p : Program) where
   if_part t true x h = h refl
   if_part t false x h = tt
 
+  -- a static object, where it may have so many cells
+  pub static_right : (string : Bool) (n k : ℕ) (t : CType) → IsStaticOf p string n t → IsObject p.structs t → k ≡ cells p.structs t → ConstRight (pointer t) (static_address n k)
+  static_right string n k t h o e = if_part (pointer t) (nat_le k most_cells) (address_of_static n k) (λ _. static_address_right string n k t h o e)
+
   -- a part of an object: so many elements of a type that lie from a cell on
   part_right : (t u : CType) (q : Pointer) (from width elements : ℕ) → Leads t q → IsObject p.structs u → width ≡ cells p.structs u
       → Lies (flat p.structs t) from (repeat elements (flat p.structs u)) → ConstRight (pointer u) (part_of q from width elements)
   part_right t u q from width elements h o e l =
-      if_part (pointer u) (nat_lt q.index q.elements) _ (λ b. (
+      if_part (pointer u) (nat_lt q.index q.elements && is_within ((q.first + q.index * q.width) + from) width elements) _ (λ b. (
         u,
         refl,
         record {
@@ -339,7 +344,7 @@ module _ (p : Program) where
           known = h.known;
           within = omega arith;
           wide = e;
-          lies = lies_in (h.all) (flat p.structs t) (repeat elements (flat p.structs u)) (q.first + q.index * q.width) from (element_lies t q h (ltb-true q.index q.elements b)) l;
+          lies = lies_in (h.all) (flat p.structs t) (repeat elements (flat p.structs u)) (q.first + q.index * q.width) from (element_lies t q h (ltb-true q.index q.elements (and_left (nat_lt q.index q.elements) _ b))) l;
         },
       ))
 

@@ -23,6 +23,7 @@ use Rattle.c_rules.specs.BinaryExpressions.{operator_of_code, sum, choice}
 use Rattle.c_rules.specs.Assignments.{assignable, assignment_by, step, comma_of}
 use Rattle.c_rules.specs.Declarators.{place_of_type, is_void_pointer}
 use Rattle.c_rules.specs.Expressions.{value_at, place_at, callee_meant, callee_bound, callee, access, after_operand, unary_rule, infix_rule, cast_rule, tree, trees, type_named, value}
+use Rattle.c_rules.proofs.Integers.{integer_cases}
 use Rattle.c_rules_laws.proofs.Holding.{Holds, holds_map, holds_two, on_holds, both_hold, all_three_hold, Any, anything, demand_holds, after_part, if_holds}
 use Rattle.c_rules_laws.proofs.SitesOfTypedExpressions.{SitesAre, TypedExpressionsSites, CalleeSites, valued_sites, called_sites, callee_type_sites, callee_through_sites, member_sites, address_sites, indirection_sites, unary_sites, size_sites, cast_of_sites, null_cast_sites, sum_sites, operation_sites, conjunction_sites, disjunction_sites, assignment_by_sites, step_sites, choice_sites, comma_sites}
 
@@ -93,8 +94,7 @@ bound_sites env at x None = tt
 bound_sites env at x (Some b) = meant_sites env at x b.means
 
 integer_sites : (n : ℕ) (u : Bool) → SitesAre [] (integer_expression n u)
-integer_sites n true = (refl, λ _. refl)
-integer_sites n false = (refl, λ _. refl)
+integer_sites n u = integer_cases (SitesAre []) n u (λ _. (refl, λ _. refl)) (refl, λ _. refl)
 
 string_counted : (c : Context) → c ≡ evaluated → (at n : ℕ) (b : Before) (w : List ℕ) → Holds (Counted b 0 (w ∷ [])) (gives (string_fits c at b.cells (suc (length w))) (λ _. typed_string n (length w)))
 string_counted evaluated e at n b w =
@@ -224,7 +224,7 @@ mutual
   tree_counted (comma at es) env e b =
       on_holds (λ gs. TypedExpressionsSites (Span b (calls_of_all es)) gs × FitsAt b (calls_of_all es) (strings_of_all es)) (Counted b (calls_of_all es) (strings_of_all es)) (trees env b es) (λ gs. fine (comma_of gs)) (trees_counted es env e b) (λ gs h. (comma_sites gs (Span b (calls_of_all es)) h.0, h.1))
   tree_counted (sizeof_type at t) env e b =
-      after_part (Counted b 0 []) (type_named env t) (size_of_type env at (place_of_type t)) (λ u. on_holds (SitesAre []) (Counted b 0 []) (size_of env at u) _ (size_sites env at u) (λ g h. demand_holds (Counted b 0 []) _ 13 (place_of_type t) g (λ _. plain_counted b g h)))
+      after_part (Counted b 0 []) (type_named env t) (size_of_type env at (place_of_type t)) (λ u. holds_with (SitesAre []) (FitsAt b 0 []) (size_of env at (place_of_type t) u) (fits_none b.sites b.cells) (size_sites env at (place_of_type t) u))
   tree_counted (cast at t x) env e b = cast_rule_counted (is_void_pointer t) at (type_named env t) b (calls x) (strings x) (value_at env (place_of x) (tree env b x)) (value_at_counted env (place_of x) b (calls x) (strings x) (tree env b x) (tree_counted x env e b))
   tree_counted (call at d es) env e b =
       all_three_hold (λ f. CalleeSites (Span b (calls d)) f × FitsAt b (calls d) (strings d)) (λ k. (k ≡ b.sites + calls d) × (suc (b.sites + calls d) ≤ 30000)) (λ gs. TypedExpressionsSites (Span (after_designator b d) (calls_of_all es)) gs × FitsAt (after_designator b d) (calls_of_all es) (strings_of_all es)) (Counted b (calls d + suc (calls_of_all es)) (strings d ++ strings_of_all es))
@@ -239,7 +239,7 @@ mutual
   tree_counted (postfix at o x) env e b = after_operand_counted env at (place_of x) o b (calls x) (strings x) (tree env b x) (tree_counted x env e b)
   tree_counted (prefix at pre_increment x) env e b = one_part b (calls x) (strings x) (place_at (place_of x) (tree env b x)) (step env at Add false) (place_at_counted (place_of x) b (calls x) (strings x) (tree env b x) (tree_counted x env e b)) (λ g k. step_sites env at Add false (Span b (calls x)) g k)
   tree_counted (prefix at pre_decrement x) env e b = one_part b (calls x) (strings x) (place_at (place_of x) (tree env b x)) (step env at Sub false) (place_at_counted (place_of x) b (calls x) (strings x) (tree env b x) (tree_counted x env e b)) (λ g k. step_sites env at Sub false (Span b (calls x)) g k)
-  tree_counted (prefix at sizeof x) env e b = after_part (Counted b 0 []) (tree (in_context env sized) nothing_before x) (size_of_expression env at) (λ g. holds_with (SitesAre []) (FitsAt b 0 []) (size_of env at g.ctype) (fits_none b.sites b.cells) (size_sites env at g.ctype))
+  tree_counted (prefix at sizeof x) env e b = after_part (Counted b 0 []) (tree (in_context env sized) nothing_before x) (size_of_expression env at) (λ g. holds_with (SitesAre []) (FitsAt b 0 []) (size_of env at at g.ctype) (fits_none b.sites b.cells) (size_sites env at at g.ctype))
   tree_counted (unary at o x) env e b = unary_rule_counted env at (place_of x) o b (calls x) (strings x) (tree env b x) (tree_counted x env e b)
   tree_counted (index at x y) env e b =
       one_part b (calls x + calls y) (strings x ++ strings y) (both (value_at env (place_of x) (tree env b x)) (value_at env (place_of y) (tree env (after b x) y)) (sum env at)) (indirection at)

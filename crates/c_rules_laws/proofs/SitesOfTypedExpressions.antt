@@ -22,6 +22,7 @@ use Rattle.c_rules.specs.PostfixExpressions.{Designator, direct, through, Callee
 use Rattle.c_rules.specs.UnaryExpressions.{address_of_form, address_of_type, address, led_to, indirection, plus_of, operator_of, unary_of_value, size_of, cast_of, null_cast}
 use Rattle.c_rules.specs.BinaryExpressions.{shifted, compared_integers, sum_of, sum, minus_of, balanced_of, shift_of, ordered_of, Alike, alike_integers, alike_pointers, unlike, pointers_alike, alike_of, alike, equality_of, arithmetic_of, operation_of, operation, both_scalars, conjunction, disjunction, chosen, arms_of, choice}
 use Rattle.c_rules.specs.Assignments.{assignment, operator_of_assignment, moves, right_type, update_of, assignment_by, one_for, step, trees_of, comma_of}
+use Rattle.c_rules.proofs.Integers.{size_holds}
 use Rattle.c_rules_laws.proofs.Holding.{Holds, demand_holds, behind_demand, after_part, if_holds}
 use Rattle.c_rules_laws.proofs.MadeTypes.{number_is}
 
@@ -300,8 +301,8 @@ unary_sites at o xs g h =
     (if_holds (SitesAre xs) (nat_eq o TILDE) _ _ (operator_sites at xs _ g (kind_of g.ctype) h)
     (demand_holds (SitesAre xs) (is_scalar g.ctype) 3 at _ (λ _. (h.0, λ c. h.1 (integer_const (is_integer g.ctype) g.constant (unary_const Not (integer_constant g) c))))))))
 
-pub size_sites : (env : Env) (at : ℕ) (t : CType) → Holds (SitesAre []) (size_of env at t)
-size_sites env at t = after_part (SitesAre []) (complete env at t) _ (λ _. (refl, λ _. refl))
+pub size_sites : (env : Env) (at place : ℕ) (t : CType) → Holds (SitesAre []) (size_of env at place t)
+size_sites env at place t = size_holds (SitesAre []) env at place t (λ _. (refl, λ _. refl))
 
 pub cast_of_sites : (at : ℕ) (xs : List ℕ) (t : CType) (g : TypedExpression) → SitesAre xs g → Holds (SitesAre xs) (cast_of at t g)
 cast_of_sites at xs void g h = (h.0, λ c. absurd c)

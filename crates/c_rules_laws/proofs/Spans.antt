@@ -3,14 +3,13 @@ use Rattle.std.proofs.Common.{◌≡◌, ℕ, zero, suc, ◌+◌, ◌≤◌, Boo
 use Rattle.std.specs.List.{range_with_len}
 use Rattle.c_tree.specs.Tree.{CType, void, integer, pointer, array, struct, function, CTypes, Function}
 use Rattle.c_tree.specs.Tree as typed
-use Rattle.c_tree.specs.Layout.{cells, cells_of_all}
+use Rattle.c_tree.specs.Layout.{cells_of_all}
 use Rattle.c_tree.specs.Sites.{sites_of_function}
 use Rattle.c_syntax.specs.Tree.{Ident, Storage, Spec, Declarator, Params, no_params, more_params, MaybeInit, Parts, no_parts, more_parts, Decl, decl, Stmt, BlockItems, Item, struct_item, enum_item, tag_item, decl_item, function_item, Items, no_items, more_items}
-use Rattle.c_rules.specs.Checked.{Checked, fine, on, both, and_also, demand, met}
+use Rattle.c_rules.specs.Checked.{Checked, fine, on, and_also, demand, met}
 use Rattle.c_rules.specs.Limits.{most_local_cells}
-use Rattle.c_rules.specs.Scopes.{Env, a_static, evaluated, inside, layout_of, declared_here, Before}
+use Rattle.c_rules.specs.Scopes.{Env, evaluated, inside, layout_of, Before}
 use Rattle.c_rules.specs.Counts.{string_cells, past}
-use Rattle.c_rules.specs.TypedExpression.{TypedExpression}
 use Rattle.c_rules.specs.Declarators.{name_of, place_or}
 use Rattle.c_rules.specs.Expressions.{type_declared}
 use Rattle.c_rules.specs.Initialisers.{held_by, calls_of_maybe_init, initialised_static}
@@ -18,17 +17,18 @@ use Rattle.c_rules.specs.Objects.{Object, object_declared}
 use Rattle.c_rules.specs.Variables.{Next, calls_of_block}
 use Rattle.c_rules.specs.Blocks.{StatementTree, held_by_block}
 use Rattle.c_rules.specs.Statements.{Around, items_of_block}
-use Rattle.c_rules.specs.Functions.{declares_function, parameters_of, are_named, with_parameter, with_parameters, variables_of, function_laid, body_env, body_numbers, body_of, held_by_type, held_by_typed, is_defined_by, function_declared, items_of_body, defined_as}
-use Rattle.c_rules.specs.Items.{Output, no_output, with_output, static_of, without_init, output_of_function, defines, object_name, few_static, global_object, global_declared, within_global, after_object, definition_of, global, declared_part, named_part, behind_file_part, after_global, after_declared, after_file_part, file_parts, after_file_parts, file_decl, after_file_decl, behind_defined, function_named, behind_function_named, after_function, item, behind_item, behind_by_form, after_item, items, after_items}
-use Rattle.c_rules_laws.specs.Lexical.{IsItemLexical, IsUnitLexical}
-use Rattle.c_rules_laws.proofs.Holding.{held, first_fine, on_fine, demand_fine, parts_first_fine}
+use Rattle.c_rules.specs.Functions.{declares_function, parameters_of, are_named, with_parameter, with_parameters, variables_of, function_laid, body_env, body_numbers, body_of, held_by_type, held_by_typed, function_declared, items_of_body, defined_as}
+use Rattle.c_rules.specs.Items.{Output, no_output, with_output, static_of, without_init, output_of_function, defines, object_name, few_static, global_object, global_declared, within_global, after_object, definition_of, global, declared_part, named_part, behind_file_part, after_global, after_declared, after_file_part, file_parts, after_file_parts, file_decl, after_file_decl, behind_defined, function_named, behind_function_named, item, behind_item, behind_by_form, after_item, items, after_items}
+use Rattle.c_rules_laws.specs.Lexical.{IsUnitLexical}
+use Rattle.c_rules_laws.proofs.Holding.{held, first_fine, on_fine, demand_fine}
+use Rattle.c_rules_laws.proofs.Definitions.{definition_fine}
 use Rattle.c_rules_laws.proofs.SizeBounds.{has_cell}
 use Rattle.c_rules_laws.proofs.SitesOfExpressions.{AreShort, short_both, FitsAt, Span, range_append}
 use Rattle.c_rules_laws.proofs.RightInitialisers.{AllKnown, known_sites, InitCounted, static_counted}
 use Rattle.c_rules_laws.proofs.SitesOfStatements.{IsSpan, StmtsSpan, held_by_named_same, block_span}
 use Rattle.c_rules_laws.proofs.FileScopes.{IsFileRight}
 use Rattle.c_rules_laws.proofs.FileItems.{IsObjectNamed, object_named, part_step, form_step, tags_step}
-use Rattle.c_rules_laws.proofs.UnitShape.{output_same, type_same}
+use Rattle.c_rules_laws.proofs.UnitShape.{output_same}
 use Rattle.c_rules_laws.proofs.KnownCells.{static_known}
 
 -- what stands before a part, what stands behind it, and what it gives
@@ -173,7 +173,7 @@ params_context (more_params at s d ps) (typed.more_types t ts) env k = params_co
 
 function_span : (env : Env) → env.context ≡ evaluated → (b : Before) (place : ℕ) (d : Declarator) (x : Ident) (is : BlockItems) (u : CType) (f : Function) → defined_as env b place d x is u ≡ fine f → IsSpan b (calls_of_block is) (held_by_type env d is u) (sites_of_function f)
 function_span env c b place d x is (function t ts) f e =
-    let i = first_fine (demand (are_named (parameters_of d)) 3 place met) (body_of env b t d ts is) (λ _ q. function_laid env x t ts q) f (parts_first_fine (body_of env b t d ts is) (both (demand (are_named (parameters_of d)) 3 place met) (body_of env b t d ts is) (λ _ q. function_laid env x t ts q)) f e) in
+    let i = first_fine (demand (are_named (parameters_of d)) 3 place met) (body_of env b t d ts is) (λ _ q. function_laid env x t ts q) f (definition_fine env b place d x is t ts f e) in
     let q : StatementTree typed.Stmts = i.1 in
     let j = demand_fine (nat_le (cells_of_all (layout_of env) (variables_of ts q)) (most_local_cells env.whole.mode)) 13 x.at (record { name = x.name; ctype = function t ts; variables = variables_of ts q; body = typed.block q.tree }) f i.4 in
     let inner : Env = body_env env d ts in

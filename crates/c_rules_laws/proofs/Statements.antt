@@ -7,7 +7,7 @@ use Rattle.c_tree.specs.Tree.{CType}
 use Rattle.c_tree.specs.Tree as typed
 use Rattle.c_tree.specs.Operands.{promoted}
 use Rattle.c_tree.specs.Operators.{value_of}
-use Rattle.c_syntax.specs.Tree.{Expr, Maybe, absent, there, Labels, no_labels, case_label, default_label}
+use Rattle.c_syntax.specs.Tree.{Maybe, absent, there, Labels, no_labels, case_label, default_label}
 use Rattle.c_syntax.specs.Tree.{Stmt, block, empty, evaluate, only_if, if_else, while_loop, do_loop, for_loop, switch_on, break_off, continue_on, return_from}
 use Rattle.c_syntax.specs.Tree.{BlockItems, no_block_items, block_decl, block_stmt, Stmts, no_stmts, more_stmts, Groups, no_groups, more_groups}
 use Rattle.c_syntax.specs.Same.{unplaced, unplaced_maybe, unplaced_decl, unplaced_first, unplaced_labels, unplaced_stmt, unplaced_block_items, unplaced_stmts, unplaced_groups}
@@ -16,7 +16,7 @@ use Rattle.c_rules.specs.Codes.{C3, C7, C8}
 use Rattle.c_rules.specs.Constants.{number_of}
 use Rattle.c_rules.specs.Types.{is_void}
 use Rattle.c_rules.specs.Scopes.{Env, inside, Before}
-use Rattle.c_rules.specs.Counts.{place_of, calls_of_maybe, strings, strings_of_maybe, after, after_maybe}
+use Rattle.c_rules.specs.Counts.{place_of, calls_of_maybe, strings_of_maybe, after, after_maybe}
 use Rattle.c_rules.specs.TypedExpression.{TypedExpression, tree_of}
 use Rattle.c_rules.specs.Conversions.{Kind, an_integer, a_pointer, neither, kind_of, converted_to, as_if_assigned, condition}
 use Rattle.c_rules.specs.Declarators.{constant_value}

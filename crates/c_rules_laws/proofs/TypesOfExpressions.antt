@@ -25,6 +25,7 @@ use Rattle.c_rules.specs.BinaryExpressions.{operator_of_code, sum, choice}
 use Rattle.c_rules.specs.Assignments.{assignable, assignment_by, step, comma_of}
 use Rattle.c_rules.specs.Declarators.{name_of, place_or, place_of_type, is_void_pointer, type_of_spec, within_parts, pointer_to, array_of, function_of, parameter_of, with_name_demands, behind_parameter, new_name}
 use Rattle.c_rules.specs.Expressions.{value_at, place_at, callee_meant, callee_bound, callee, access, after_operand, before_operand, unary_rule, infix_rule, cast_rule, tree, trees, type_named, declared, size_in, parameters, value, type_declared}
+use Rattle.c_rules.proofs.Integers.{integer_cases, size_holds}
 use Rattle.c_meaning_laws.proofs.Places.{length_repeat}
 use Rattle.c_rules_laws.specs.Lexical.{IsLexical, AreLexical}
 use Rattle.c_rules_laws.specs.MadeTypes.{Made, AllMade}
@@ -110,10 +111,10 @@ mutual
   parameters_made no_params env structs e k = tt
   parameters_made (more_params at s d ps) env structs e k =
       let r : Checked CType = on (on (type_of_spec env at s) (λ t. declared env d t)) (parameter_of (place_or at d)) in
-      both_hold (ParameterMade structs) (AllMade structs) (AllMade structs) (with_name_demands env (name_of d) r) (parameters (behind_parameter env k (name_of d) r) (suc k) ps) (λ t ts. fine (more_types t ts))
+      both_hold (ParameterMade structs) (AllMade structs) (AllMade structs) (with_name_demands env (name_of d) r) (parameters (behind_parameter env k (name_of d) r) k ps) (λ t ts. fine (more_types t ts))
       (name_made structs env (name_of d) r (on_holds (Made structs) (ParameterMade structs) (on (type_of_spec env at s) (λ t. declared env d t)) (parameter_of (place_or at d))
       (on_holds (Made structs) (Made structs) (type_of_spec env at s) (λ t. declared env d t) (spec_made structs env at s) (λ t h. declared_made d env structs e t h)) (λ t h. parameter_made structs (place_or at d) t h)))
-      (parameters_made ps (behind_parameter env k (name_of d) r) structs (layout_behind env k (name_of d) r ∙ e) (suc k))
+      (parameters_made ps (behind_parameter env k (name_of d) r) structs (layout_behind env k (name_of d) r ∙ e) k)
       (λ t ts h k. (h.0, h.1, k))
 
 pub type_declared_made : (env : Env) (at : ℕ) (s : Spec) (d : Declarator) → Holds (Made (layout_of env)) (type_declared env at s d)
@@ -142,8 +143,7 @@ bound_typed env at x None h = tt
 bound_typed env at x (Some b) h = meant_typed env at x b.means (h b refl)
 
 integer_typed : (structs : Structs) (n : ℕ) (u : Bool) → TypedExpressionSized structs (integer_expression n u)
-integer_typed structs n true = sized_int structs _
-integer_typed structs n false = sized_int structs _
+integer_typed structs n u = integer_cases (TypedExpressionSized structs) n u (λ _. sized_int structs _) (sized_int structs _)
 
 string_typed : (structs : Structs) (k n : ℕ) → n ≤ 16777216 → TypedExpressionSized structs (typed_string k n)
 string_typed structs k n h = record { made = (tt, tt, tt); few = (let l = length_repeat (suc n) (integer Char ∷ []) in let m : suc n * 1 ≤ 33554432 = omega (arith, h) in subst (λ k. k ≤ 33554432) (sym l) m) }
@@ -183,13 +183,13 @@ after_operand_typed : (env : Env) (at place : ℕ) (o : Postfix) (r : Checked Ty
 after_operand_typed env at place post_increment r h = on_holds (Sized env) (Sized env) (place_at place r) (step env at Add true) (place_at_typed env place r h) (λ g k. step_typed (layout_of env) env at Add true g k)
 after_operand_typed env at place post_decrement r h = on_holds (Sized env) (Sized env) (place_at place r) (step env at Sub true) (place_at_typed env place r h) (λ g k. step_typed (layout_of env) env at Sub true g k)
 
-size_typed : (env : Env) (at : ℕ) (t : CType) → Holds (Sized env) (size_of env at t)
-size_typed env at t = after_part (Sized env) (complete env at t) _ (λ _. sized_int (layout_of env) _)
+size_typed : (env : Env) (at place : ℕ) (t : CType) → Holds (Sized env) (size_of env at place t)
+size_typed env at place t = size_holds (Sized env) env at place t (λ _. sized_int (layout_of env) _)
 
 before_operand_typed : (env : Env) (at place : ℕ) (o : Prefix) (r s : Checked TypedExpression) → Holds (Sized env) r → Holds (Sized env) (before_operand env at place o r s)
 before_operand_typed env at place pre_increment r s h = on_holds (Sized env) (Sized env) (place_at place r) (step env at Add false) (place_at_typed env place r h) (λ g k. step_typed (layout_of env) env at Add false g k)
 before_operand_typed env at place pre_decrement r s h = on_holds (Sized env) (Sized env) (place_at place r) (step env at Sub false) (place_at_typed env place r h) (λ g k. step_typed (layout_of env) env at Sub false g k)
-before_operand_typed env at place sizeof r s h = after_part (Sized env) s (size_of_expression env at) (λ g. size_typed env at g.ctype)
+before_operand_typed env at place sizeof r s h = after_part (Sized env) s (size_of_expression env at) (λ g. size_typed env at at g.ctype)
 
 unary_rule_typed : (env : Env) (at place o : ℕ) (r : Checked TypedExpression) → Holds (Sized env) r → Holds (Sized env) (unary_rule env at place o r)
 unary_rule_typed env at place o r h =
@@ -212,7 +212,7 @@ mutual
   tree_typed (a_char at c) env w l b = sized_int (layout_of env) _
   tree_typed (a_str at s) env w l b = after_part (Sized env) (string_fits env.context at b.cells (suc (length s))) _ (λ _. string_typed (layout_of env) (string_number env b) (length s) l)
   tree_typed (comma at es) env w l b = on_holds (TypedExpressionsTyped (layout_of env)) (Sized env) (trees env b es) (λ gs. fine (comma_of gs)) (trees_typed es env w l.1 b) (λ gs k. comma_typed (layout_of env) gs k)
-  tree_typed (sizeof_type at t) env w l b = after_part (Sized env) (type_named env t) (size_of_type env at (place_of_type t)) (λ u. on_holds (Sized env) (Sized env) (size_of env at u) _ (size_typed env at u) (λ g k. demand_holds (Sized env) _ 13 (place_of_type t) g (λ _. k)))
+  tree_typed (sizeof_type at t) env w l b = after_part (Sized env) (type_named env t) (size_of_type env at (place_of_type t)) (λ u. size_typed env at (place_of_type t) u)
   tree_typed (cast at t e) env w l b = cast_rule_typed env (is_void_pointer t) at (type_named env t) (value_at env (place_of e) (tree env b e))
   tree_typed (call at d es) env w l b =
       all_three_hold (CalleeTyped env) Any (TypedExpressionsTyped (layout_of env)) (Sized env) (callee env at d (value_at env (place_of d) (tree env b d))) (site_of env (b.sites + calls d) at) (trees env (after_designator b d) es) (called at)

@@ -12,7 +12,7 @@ use Rattle.c_tree.specs.Kinds.{Lies}
 use Rattle.c_tree.specs.Program.{IsFunction}
 use Rattle.c_syntax.specs.Tree.{Ident, Spec, Declarator, Params, no_params, more_params, BlockItems}
 use Rattle.c_syntax.specs.Tree as syntax
-use Rattle.c_rules.specs.Checked.{Checked, fine, on, both, demand, met}
+use Rattle.c_rules.specs.Checked.{Checked, fine, on, demand, met}
 use Rattle.c_rules.specs.Limits.{most_local_cells}
 use Rattle.c_rules.specs.Names.{Name, is_added}
 use Rattle.c_rules.specs.Types.{count, is_result}
@@ -29,7 +29,8 @@ use Rattle.c_meaning_laws.proofs.Places.{get_left, get_right, scalar_object}
 use Rattle.c_rules_laws.specs.Lexical.{AreItemsLexical}
 use Rattle.c_rules_laws.specs.MadeTypes.{NotArray, Made, AllMade, IsSized}
 use Rattle.c_rules_laws.specs.RightScopes.{IsRight, StringsIn}
-use Rattle.c_rules_laws.proofs.Holding.{Holds, held, on_holds, both_hold, Any, anything, demand_holds, behind_demand, after_part, first_fine, demand_fine, parts_first_fine}
+use Rattle.c_rules_laws.proofs.Holding.{Holds, held, on_holds, both_hold, Any, anything, demand_holds, behind_demand, after_part, first_fine, demand_fine}
+use Rattle.c_rules_laws.proofs.Definitions.{definition_fine}
 use Rattle.c_rules_laws.proofs.MadeTypes.{few_unless_array}
 use Rattle.c_rules_laws.proofs.SoundStructs.{same_flat_all}
 use Rattle.c_rules_laws.proofs.RightTypedExpressions.{scalar_thing}
@@ -53,7 +54,7 @@ params_long : (ps : Params) (env : Env) (k : ℕ) → Holds (λ ts. length (list
 params_long no_params env k = refl
 params_long (more_params at s d ps) env k =
     let r : Checked CType = on (on (type_of_spec env at s) (λ t. declared env d t)) (parameter_of (place_or at d)) in
-    both_hold Any (λ ts. length (list_of ts) ≡ count_params ps) (λ ts. length (list_of ts) ≡ suc (count_params ps)) (with_name_demands env (name_of d) r) (parameters (behind_parameter env k (name_of d) r) (suc k) ps) (λ t ts. fine (more_types t ts)) (anything _) (params_long ps (behind_parameter env k (name_of d) r) (suc k)) (λ t ts _ h. ap suc h)
+    both_hold Any (λ ts. length (list_of ts) ≡ count_params ps) (λ ts. length (list_of ts) ≡ suc (count_params ps)) (with_name_demands env (name_of d) r) (parameters (behind_parameter env k (name_of d) r) k ps) (λ t ts. fine (more_types t ts)) (anything _) (params_long ps (behind_parameter env k (name_of d) r) k) (λ t ts _ h. ap suc h)
 
 function_fits : (ps : Params) (at : ℕ) (t : CType) (ts : CTypes) → length (list_of ts) ≡ count_params ps → Holds (ParamsFit ps) (function_of at t ts)
 function_fits ps at t ts h = behind_demand (ParamsFit ps) (is_result t) 3 at _ (λ _. behind_demand (ParamsFit ps) (nat_le (count ts) 16) 13 at _ (λ _. demand_holds (ParamsFit ps) (few_parts (function t ts)) 13 at (function t ts) (λ _. h)))
@@ -210,7 +211,7 @@ module _ (p : Program) (last : Env) (table : IsTable p last) where
   pub function_right : (env : Env) → IsFileRight env → Follows env last → (b : Before) (place : ℕ) (d : Declarator) (x : Ident) (is : BlockItems) (u : CType) (f : Function) → Made (layout_of env) u → ParamsFit (parameters_of d) u → AreItemsLexical is
       → StringsIn p [] (string_number env b) (held_by_type env d is u) → defined_as env b place d x is u ≡ fine f → IsFunction p f × (f.name ≡ x.name) × (f.ctype ≡ u)
   function_right env w g b place d x is (function t ts) f m fit l s e =
-      let i = first_fine (demand (are_named (parameters_of d)) 3 place met) (body_of env b t d ts is) (λ _ q. function_laid env x t ts q) f (parts_first_fine (body_of env b t d ts is) (both (demand (are_named (parameters_of d)) 3 place met) (body_of env b t d ts is) (λ _ q. function_laid env x t ts q)) f e) in
+      let i = first_fine (demand (are_named (parameters_of d)) 3 place met) (body_of env b t d ts is) (λ _ q. function_laid env x t ts q) f (definition_fine env b place d x is t ts f e) in
       let q : StatementTree typed.Stmts = i.1 in
       let j = demand_fine (nat_le (cells_of_all (layout_of env) (variables_of ts q)) (most_local_cells env.whole.mode)) 13 x.at (record { name = x.name; ctype = function t ts; variables = variables_of ts q; body = typed.block q.tree }) f i.4 in
       (subst (IsFunction p) j.1 (made_function env w g b d x is t ts q m fit l s i.3 j.0), ap (λ f. f.name) (sym j.1), ap (λ f. f.ctype) (sym j.1))

@@ -6,7 +6,7 @@ use Rattle.c_tree.specs.Tree.{CType, void, integer, pointer, array, struct, func
 use Rattle.dm_base.specs.Name.{IsName}
 use Rattle.c_tree.specs.Tree as typed
 use Rattle.c_syntax.specs.Tree.{Ident, Storage, Spec, Declarator, MaybeInit, Parts, no_parts, more_parts, Decl, decl, Stmt, BlockItems, Item, struct_item, enum_item, tag_item, decl_item, function_item, Items, no_items, more_items}
-use Rattle.c_rules.specs.Checked.{Checked, fine, on, both, demand, met}
+use Rattle.c_rules.specs.Checked.{Checked, fine, on, demand, met}
 use Rattle.c_rules.specs.Names.{Name, with_new}
 use Rattle.c_rules.specs.Scopes.{Env, Binding, Meaning, a_static, a_local, a_function, an_enumerator, unknown, with_name, meaning_or_unknown, lookup, declared_here, Before}
 use Rattle.c_rules.specs.Declarators.{name_of, place_or}
@@ -18,7 +18,8 @@ use Rattle.c_rules.specs.Functions.{function_meaning, declares_function, paramet
 use Rattle.c_rules.specs.Items.{Output, no_output, with_output, static_of, without_init, output_of_function, defines, global_declared, meaning_of_global, behind_global, within_global, after_object, definition_of, global, declared_part, named_part, behind_declared, behind_named_part, behind_file_part, after_file_part, file_parts, behind_file_parts, file_decl, behind_file_decl, behind_defined, function_named, behind_function_named, item, behind_item, behind_by_form, after_item, items, behind_items}
 use Rattle.c_rules.specs.Units.{functions_of_item, functions_of, objects_of_parts, objects_of_decl, objects_of_item, objects_of}
 use Rattle.c_rules_laws.specs.Lexical.{IsNamed, IsItemLexical, IsUnitLexical}
-use Rattle.c_rules_laws.proofs.Holding.{held, first_fine, on_fine, demand_fine, parts_first_fine}
+use Rattle.c_rules_laws.proofs.Holding.{held, first_fine, on_fine, demand_fine}
+use Rattle.c_rules_laws.proofs.Definitions.{definition_fine}
 use Rattle.c_rules_laws.proofs.FileScopes.{IsFileRight, Agrees, Follows, follows_on}
 use Rattle.c_rules_laws.proofs.FileItems.{form_step, function_meant, IsFunctionNamed, items_step, part_step, parts_step, tags_step}
 
@@ -97,7 +98,7 @@ later_object s t d (unknown f fs) h = absurd h
 -- what a definition gives
 function_shape : (env : Env) (b : Before) (place : ℕ) (d : Declarator) (x : Ident) (is : BlockItems) (u : CType) (f : Function) → defined_as env b place d x is u ≡ fine f → (f.name ≡ x.name) × (f.ctype ≡ u)
 function_shape env b place d x is (function t ts) f e =
-    let i = first_fine (demand (are_named (parameters_of d)) 3 place met) (body_of env b t d ts is) (λ _ q. function_laid env x t ts q) f (parts_first_fine (body_of env b t d ts is) (both (demand (are_named (parameters_of d)) 3 place met) (body_of env b t d ts is) (λ _ q. function_laid env x t ts q)) f e) in
+    let i = first_fine (demand (are_named (parameters_of d)) 3 place met) (body_of env b t d ts is) (λ _ q. function_laid env x t ts q) f (definition_fine env b place d x is t ts f e) in
     let j = demand_fine _ 13 x.at (record { name = x.name; ctype = function t ts; variables = variables_of ts i.1; body = typed.block i.1.tree }) f i.4 in
     (ap (λ f. f.name) (sym j.1), ap (λ f. f.ctype) (sym j.1))
 function_shape env b place d x is void f e = absurd (cc)

@@ -16,6 +16,7 @@ use Rattle.c_rules.specs.Scopes.{Binding, a_static, a_function, incomplete, type
 use Rattle.c_rules.specs.PrimaryExpressions.{string_type}
 use Rattle.c_rules.specs.Items.{Output, items}
 use Rattle.c_rules.specs.Units.{functions_of, objects_of, whole_of, env_before, env_behind, strings_of, has_main, static_string, program_of, IsTyped}
+use Rattle.c_rules.proofs.CheckedLemmas.{items_fine}
 use Rattle.c_meaning_laws.proofs.Places.{get_left, get_right}
 use Rattle.c_rules_laws.specs.Lexical.{IsUnitLexical}
 use Rattle.c_rules_laws.specs.SoundStructs.{AreSound}
@@ -152,6 +153,6 @@ module _ (m : Mode) (u : Items) (out : Output) (lexical : IsUnitLexical u) (type
 -- the structs, functions and objects of a unit that is typed
 pub unit_parts : (u : Items) (m : Mode) (p : Program) → IsUnitLexical u → IsTyped u m p → PartsAreRight p
 unit_parts u m p l e =
-    let i = on_fine (items (env_before m u) nothing_before u) (λ q. demand (has_main m u) 9 0 (program_of m u q)) p e in
+    let i = on_fine (items (env_before m u) nothing_before u) (λ q. demand (has_main m u) 9 0 (program_of m u q)) p (items_fine u m p e) in
     let j = demand_fine (has_main m u) 9 0 (program_of m u i.0) p i.2 in
     subst PartsAreRight j.1 (parts_of_program m u i.0 l i.1)

@@ -1,18 +1,19 @@
 -- Units without their places are typed as they are with them.
-use Rattle.std.proofs.Common.{◌≡◌, ℕ, true, false, not, ◌&&◌, if◌then◌else◌, List, [], ◌∷◌, ◌++◌, refl, sym, ap, ap₂, subst, ◌∙◌, codes, map, unwrap_or}
+use Rattle.std.proofs.Common.{◌≡◌, ℕ, true, false, not, ◌&&◌, if◌then◌else◌, List, [], ◌∷◌, ◌++◌, refl, sym, ap, ap₂, subst, ◌∙◌, codes, map, unwrap_or, ◌^◌, length, nat_lt}
 use Rattle.dm_base.specs.declared.mode.Mode.{Mode}
 use Rattle.c_tree.specs.Tree.{Program}
 use Rattle.c_syntax.specs.Tree.{Storage, Parts, no_parts, more_parts, Decl, decl, Item, struct_item, enum_item, tag_item, decl_item, function_item, Items, no_items, more_items}
 use Rattle.c_syntax.specs.Same.{unplaced_declarator, unplaced_maybe_init, unplaced_parts, unplaced_decl, unplaced_item, unplaced_unit}
-use Rattle.c_rules.specs.Checked.{fine, demand}
-use Rattle.c_rules.specs.Codes.{C9}
+use Rattle.c_rules.specs.Checked.{fine, demand, on, met}
+use Rattle.c_rules.specs.Codes.{C9, C13}
 use Rattle.c_rules.specs.Names.{Name, number_among, each_once}
 use Rattle.c_rules.specs.Scopes.{Env, empty_env, binding_of, layout_of, Before, nothing_before}
 use Rattle.c_rules.specs.Declarators.{name_of}
 use Rattle.c_rules.specs.Variables.{name_or_empty}
 use Rattle.c_rules.specs.Functions.{declares_function}
 use Rattle.c_rules.specs.Items.{Output, defines, items, behind_items, after_items}
-use Rattle.c_rules.specs.Units.{functions_of_item, functions_of, objects_of_parts, objects_of_decl, objects_of_item, objects_of, tags_of, whole_of, env_before, env_behind, strings_of, is_main_bound, has_main, static_string, program_of, checked}
+use Rattle.c_rules.specs.Units.{functions_of_item, functions_of, objects_of_parts, objects_of_decl, objects_of_item, objects_of, tags_of, whole_of, env_before, env_behind, strings_of, is_main_bound, has_main, static_string, program_of, checked, few_names}
+use Rattle.c_rules.proofs.CheckedLemmas.{typed_items}
 use Rattle.c_rules_laws.specs.PlaceLaws.{UnitsAreTypedAlike}
 use Rattle.c_rules_laws.proofs.Alike.{Alike, alike, fine_there, fine_here, on_alike}
 use Rattle.c_rules_laws.proofs.Counted.{declared_name_same}
@@ -94,11 +95,21 @@ program_same m u p e =
       statics = p.statics ++ map static_string ws;
     }) (strings_same m u p e)
 
-unit_alike : (m : Mode) (u : Items) → Alike Program (checked u m) (checked (unplaced_unit u) m)
-unit_alike m u =
+items_typed_alike : (m : Mode) (u : Items) → Alike Program (typed_items u m) (typed_items (unplaced_unit u) m)
+items_typed_alike m u =
     on_alike (λ p. demand (has_main m u) C9 0 (program_of m u p)) (λ p. demand (has_main m (unplaced_unit u)) C9 0 (program_of m (unplaced_unit u) p)) (units_items_alike m u)
     (λ p e. subst (λ t. Alike Program (demand (has_main m u) C9 0 (program_of m u p)) (demand t C9 0 (program_of m (unplaced_unit u) p))) (sym (ap (λ (y : Env). is_main_bound (binding_of y (codes "main"))) (behind_same m u p e)))
     (subst (λ q. Alike Program (demand (has_main m u) C9 0 (program_of m u p)) (demand (has_main m u) C9 0 q)) (sym (program_same m u p e)) (alike (demand (has_main m u) C9 0 (program_of m u p)))))
+
+few_names_same : (u : Items) → few_names (unplaced_unit u) ≡ few_names u
+few_names_same u =
+    ap₂ (λ (fs os : List Name). demand (nat_lt (length fs) (2 ^ 31) && (nat_lt (length os) (2 ^ 31) && nat_lt (length (tags_of (unplaced_unit u))) (2 ^ 31))) C13 0 met) (functions_same u) (objects_same u)
+    ∙ ap (λ (ts : List Name). demand (nat_lt (length (functions_of u)) (2 ^ 31) && (nat_lt (length (objects_of u)) (2 ^ 31) && nat_lt (length ts) (2 ^ 31))) C13 0 met) (tags_same u)
+
+unit_alike : (m : Mode) (u : Items) → Alike Program (checked u m) (checked (unplaced_unit u) m)
+unit_alike m u =
+    subst (λ r. Alike Program (checked u m) (on r (λ _. typed_items (unplaced_unit u) m))) (sym (few_names_same u))
+    (on_alike (λ _. typed_items u m) (λ _. typed_items (unplaced_unit u) m) (alike (few_names u)) (λ _ _. items_typed_alike m u))
 
 pub typed_alike : UnitsAreTypedAlike
 typed_alike u v m p same typed =

@@ -1,5 +1,5 @@
 -- A unit that is typed is a well-typed program.
-use Rattle.std.proofs.Common.{◌≡◌, ◌≢◌, ◌⊎◌, inl, inr, ℕ, zero, suc, ◌+◌, ◌≤◌, ◌<◌, Bool, true, false, ◌&&◌, if◌then◌else◌, List, [], ◌∷◌, ◌++◌, All, map, replicate, length, length-append, Option, Some, None, slice_get, slice_index_or, unwrap_or, refl, ap, sym, subst, ◌∙◌, arith}
+use Rattle.std.proofs.Common.{◌≡◌, ◌≢◌, ◌⊎◌, inl, inr, ℕ, zero, suc, ◌<◌, Bool, true, false, if◌then◌else◌, List, [], ◌∷◌, ◌++◌, All, map, replicate, length, length-append, Option, Some, None, slice_get, slice_index_or, unwrap_or, refl, ap, sym, subst, ◌∙◌, arith}
 use Rattle.std.specs.Prelude.{AllPairs, is_some, option_map, bytes_eq, codes}
 use Rattle.std.specs.List.{range_with_len}
 use Rattle.std.proofs.lemmas.List.{length-map}
@@ -8,18 +8,19 @@ use Rattle.std.proofs.lemmas.List.Kept.{AllPairs-cons}
 use Rattle.std.proofs.lemmas.Slice.Eq.{bytes_eq-Decides}
 use Rattle.dm_base.specs.declared.mode.Mode.{Mode}
 use Rattle.dm_base.specs.declared.mode.Mode.TheVariants.{Plain, Instrumented}
-use Rattle.sys_table.specs.Table.{Row, table, row_of, name_of}
+use Rattle.sys_table.specs.Table.{Row, table, name_of}
 use Rattle.c_tree.specs.Tree.{CType, Function, Static, Program}
 use Rattle.c_tree.specs.Functions.{int, of_none}
-use Rattle.c_tree.specs.Program.{IsStatic, HaveNames, IsMain, IsProgram}
+use Rattle.c_tree.specs.Program.{IsStatic, HaveNames, IsProgram}
 use Rattle.c_tree.specs.Sites.{sites_of_program}
 use Rattle.c_syntax.specs.Tree.{Items}
 use Rattle.c_rules.specs.Checked.{fine, demand}
 use Rattle.c_rules.specs.Names.{Name, number_among, is_among, name_of_row, system_calls, null_calls, given_names}
 use Rattle.c_rules.specs.Types.{same_type}
-use Rattle.c_rules.specs.Scopes.{Env, Binding, Meaning, a_static, a_local, a_function, an_enumerator, unknown, incomplete, types_of_struct, Whole, empty_env, lookup, binding_of, Before, nothing_before}
+use Rattle.c_rules.specs.Scopes.{Env, Binding, Meaning, a_static, a_local, a_function, an_enumerator, unknown, incomplete, types_of_struct, Whole, empty_env, lookup, binding_of, nothing_before}
 use Rattle.c_rules.specs.Items.{Output, items, after_items}
 use Rattle.c_rules.specs.Units.{functions_of, objects_of, whole_of, env_before, env_behind, strings_of, is_main_meant, is_main_bound, has_main, static_string, program_of, IsTyped}
+use Rattle.c_rules.proofs.CheckedLemmas.{items_fine}
 use Rattle.c_rules_laws.specs.Lexical.{IsUnitLexical}
 use Rattle.c_rules_laws.specs.SoundStructs.{AreSound}
 use Rattle.c_rules_laws.specs.WellTyped.{IsRightObject, PartsAreRight}
@@ -226,6 +227,6 @@ module _ (m : Mode) (u : Items) (out : Output) (lexical : IsUnitLexical u) (type
 -- a unit that is typed is a program
 pub unit_program : (u : Items) (m : Mode) (p : Program) → IsUnitLexical u → IsTyped u m p → IsProgram p (calls_of_unit m u)
 unit_program u m p l e =
-    let i = on_fine (items (env_before m u) nothing_before u) (λ q. demand (has_main m u) 9 0 (program_of m u q)) p e in
+    let i = on_fine (items (env_before m u) nothing_before u) (λ q. demand (has_main m u) 9 0 (program_of m u q)) p (items_fine u m p e) in
     let j = demand_fine (has_main m u) 9 0 (program_of m u i.0) p i.2 in
     subst (λ q. IsProgram q (calls_of_unit m u)) j.1 (whole_program m u i.0 l i.1 j.0)

@@ -10,7 +10,7 @@ use Rattle.c_tree.specs.Sites.{sites_of_function}
 use Rattle.c_syntax.specs.Tree.{Ident, Storage, Spec, Declarator, Params, no_params, more_params, MaybeInit, Parts, no_parts, more_parts, Decl, decl, Tag, no_tag, tag, Enumerators, no_enumerators, more_enumerators, Stmt, BlockItems, Item, struct_item, enum_item, tag_item, decl_item, function_item, Items, no_items, more_items}
 use Rattle.c_syntax.specs.Tree as syntax
 use Rattle.dm_base.specs.declared.mode.Mode.{Mode}
-use Rattle.c_rules.specs.Checked.{Checked, fine, on, both, demand, met}
+use Rattle.c_rules.specs.Checked.{Checked, fine, on, demand, met}
 use Rattle.c_rules.specs.Limits.{most_local_cells}
 use Rattle.c_rules.specs.Scopes.{Env, evaluated, inside, layout_of, Before, nothing_before}
 use Rattle.c_rules.specs.Declarators.{name_of, place_or}
@@ -23,7 +23,9 @@ use Rattle.c_rules.specs.Statements.{Around, items_of_block}
 use Rattle.c_rules.specs.Functions.{declares_function, parameters_of, are_named, with_parameter, with_parameters, variables_of, function_laid, body_env, body_numbers, body_of, function_declared, items_of_body, defined_as}
 use Rattle.c_rules.specs.Items.{Output, no_output, with_output, static_of, without_init, output_of_function, defines, global_declared, within_global, after_object, definition_of, global, declared_part, named_part, enumerator_value, behind_enumerator, one_more_than, behind_enumerators, behind_enum_tag, behind_declared, behind_named_part, behind_file_part, after_file_part, behind_file_parts, file_parts, file_decl, behind_defined, function_named, behind_function_named, item, behind_item, after_item, items}
 use Rattle.c_rules.specs.Units.{env_before, has_main, program_of, IsTyped}
-use Rattle.c_rules_laws.proofs.Holding.{held, first_fine, on_fine, demand_fine, parts_first_fine}
+use Rattle.c_rules_laws.proofs.Holding.{held, first_fine, on_fine, demand_fine}
+use Rattle.c_rules.proofs.CheckedLemmas.{items_fine}
+use Rattle.c_rules_laws.proofs.Definitions.{definition_fine}
 use Rattle.c_rules_laws.proofs.SitesOfStatements.{StmtsSpan, block_span}
 use Rattle.call_places.specs.CallPlaces.{CallPlace, called_in, declared_name, call_places_of_item, call_places}
 use Rattle.call_places.specs.Places.{places_of_stmt}
@@ -104,7 +106,7 @@ declared_is (syntax.function at d ps) = declared_is d
 -- a definition gives a function of its name with as many sites as calls stand in its body
 function_callers : (env : Env) → env.context ≡ evaluated → (b : Before) (place : ℕ) (d : Declarator) (x : Ident) (is : BlockItems) (u : CType) (f : Function) → defined_as env b place d x is u ≡ fine f → (f.name ≡ x.name) × (length (sites_of_function f) ≡ calls_of_block is)
 function_callers env c b place d x is (function t ts) f e =
-    let i = first_fine (demand (are_named (parameters_of d)) 3 place met) (body_of env b t d ts is) (λ _ q. function_laid env x t ts q) f (parts_first_fine (body_of env b t d ts is) (both (demand (are_named (parameters_of d)) 3 place met) (body_of env b t d ts is) (λ _ q. function_laid env x t ts q)) f e) in
+    let i = first_fine (demand (are_named (parameters_of d)) 3 place met) (body_of env b t d ts is) (λ _ q. function_laid env x t ts q) f (definition_fine env b place d x is t ts f e) in
     let q : StatementTree typed.Stmts = i.1 in
     let j = demand_fine (nat_le (cells_of_all (layout_of env) (variables_of ts q)) (most_local_cells env.whole.mode)) 13 x.at (record { name = x.name; ctype = function t ts; variables = variables_of ts q; body = typed.block q.tree }) f i.4 in
     let inner : Env = body_env env d ts in
@@ -227,7 +229,7 @@ program_long (f ∷ fs) =
 
 pub unit_sites : (u : Items) (m : Mode) (p : Program) → IsTyped u m p → AreSitesOf u p
 unit_sites u m p e =
-    let i = on_fine (items (env_before m u) nothing_before u) (λ q. demand (has_main m u) 9 0 (program_of m u q)) p e in
+    let i = on_fine (items (env_before m u) nothing_before u) (λ q. demand (has_main m u) 9 0 (program_of m u q)) p (items_fine u m p e) in
     let j = demand_fine (has_main m u) 9 0 (program_of m u i.0) p i.2 in
     let callers : map caller_of (call_places u) ≡ callers_of_program p = items_callers u (env_before m u) refl nothing_before i.0 i.1 ∙ ap callers_of_program j.1 in
     record { callers = callers; count = sym (callers_long (call_places u)) ∙ ap length callers ∙ program_long p.functions }

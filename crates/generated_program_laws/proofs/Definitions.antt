@@ -16,7 +16,7 @@ use Rattle.c_rules.specs.Names.{Name, number_among, is_among, system_calls, may_
 use Rattle.c_rules.specs.Scopes.{Binding, Meaning, a_function, Env, empty_env, lookup, at_depth, inside, Before, nothing_before}
 use Rattle.c_rules.specs.Counts.{past}
 use Rattle.c_rules.specs.Tags.{tags_of_block}
-use Rattle.c_rules.specs.Variables.{first_numbers, calls_of_block}
+use Rattle.c_rules.specs.Variables.{first_numbers, names_of_block, calls_of_block}
 use Rattle.c_rules.specs.Blocks.{StatementTree, held_by_block}
 use Rattle.c_rules.specs.Statements.{items_of_block}
 use Rattle.c_rules.specs.Functions.{given_as, may_follow_function, is_defined_by, is_few, behind_function, function_declared, function_laid, defined_as}
@@ -118,16 +118,17 @@ module _ (fs : List Name) (bs : List Binding) (ds : List Name) (x : Name) (new :
       abbrev made : Function
       made = record { name = x; ctype = of_none int; variables = p.plain ++ p.added; body = typed.block p.tree }
 
-      given : items_of_block (inside e_behind) in_function b (first_numbers 0 is) is ≡ fine p → nat_le (cells_of_all [] (p.plain ++ p.added)) 65536 ≡ true → item e b (definition x is) ≡ fine (output_of_function made)
-      given body small =
+      given : nat_le (0 + length (names_of_block is)) 65536 ≡ true → items_of_block (inside e_behind) in_function b (first_numbers 0 is) is ≡ fine p → nat_le (cells_of_all [] (p.plain ++ p.added)) 65536 ≡ true → item e b (definition x is) ≡ fine (output_of_function made)
+      given few body small =
           ap (λ r. both r (on (fine (of_none int)) (defined_as (behind_function e x r) b 0 (of_void x) (ident x) is)) (λ _ f. fine (output_of_function f))) name_meant
           ∙ ap (λ t. both (fine meant) (defined_as (scope fs (function_bound x true ∷ bs) 0 (if t then ds else ds ++ (x ∷ []))) b 0 (of_void x) (ident x) is (of_none int)) (λ _ f. fine (output_of_function f))) new.not_declared
+          ∙ ap (λ t. both (fine meant) (on (demand t C13 0 met) (λ _. parts_first (items_of_block (inside e_behind) in_function b (first_numbers 0 is) is) (both (demand true C3 0 met) (items_of_block (inside e_behind) in_function b (first_numbers 0 is) is) (λ _ p. function_laid e_behind (ident x) int typed.no_types p)))) (λ _ f. fine (output_of_function f))) few
           ∙ ap (λ r. both (fine meant) (parts_first r (both (demand true C3 0 met) r (λ _ p. function_laid e_behind (ident x) int typed.no_types p))) (λ _ f. fine (output_of_function f))) body
           ∙ ap (λ t. both (fine meant) (parts_first (fine p) (demand t C13 0 made)) (λ _ f. fine (output_of_function f))) small
 
   -- a definition with a body that is typed, and has no tags and no strings
-  pub defined_so : (is : BlockItems) (s : ℕ) (p : StatementTree typed.Stmts) → tags_of_block false is ≡ [] → ((f : Env) → held_by_block f (first_numbers 0 is) is ≡ [])
+  pub defined_so : (is : BlockItems) (s : ℕ) (p : StatementTree typed.Stmts) → nat_le (0 + length (names_of_block is)) 65536 ≡ true → tags_of_block false is ≡ [] → ((f : Env) → held_by_block f (first_numbers 0 is) is ≡ [])
       → items_of_block (scope fs (function_bound x true ∷ bs) 1 (ds ++ (x ∷ []))) in_function (at_site s) (first_numbers 0 is) is ≡ fine p → nat_le (cells_of_all [] (p.plain ++ p.added)) 65536 ≡ true
       → IsItem (scope fs bs 0 ds) (at_site s) (definition x is) (output_of_function (record { name = x; ctype = of_none int; variables = p.plain ++ p.added; body = typed.block p.tree }))
       (scope fs (function_bound x true ∷ bs) 0 (ds ++ (x ∷ []))) (at_site (s + calls_of_block is))
-  defined_so is s p tagless held body small = record { gives = given is (at_site s) p body small; known = behind is (at_site s) tagless; before = after is s held }
+  defined_so is s p few tagless held body small = record { gives = given is (at_site s) p few body small; known = behind is (at_site s) tagless; before = after is s held }

@@ -96,7 +96,7 @@ length_behind : (i count : ℕ) → length (names_behind i count (codes "main" �
 length_behind i zero = refl
 length_behind i (suc count) = ap suc (length_behind (suc i) count)
 
-length_all : (last : ℕ) → length (all_names last) ≡ last + 2
+pub length_all : (last : ℕ) → length (all_names last) ≡ last + 2
 length_all last = let k = length_behind 0 last in omega (arith, k)
 
 -- ## What names mean

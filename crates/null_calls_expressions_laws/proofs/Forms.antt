@@ -5,7 +5,7 @@ use Rattle.c_lexer.specs.declared.punctuator.TheConstants.{AMPERSAND, ASTERISK}
 use Rattle.c_tree.specs.declared.value.BinOp.{BinOp}
 use Rattle.c_tree.specs.declared.value.BinOp.TheVariants.{Add, Sub}
 use Rattle.c_tree.specs.Tree.{CType, Program}
-use Rattle.c_syntax.specs.Tree.{Ident, Spec, Expr, a_name, an_int, a_char, a_str, comma, sizeof_type, cast, call, member, postfix, prefix, unary, index, binary, assign, conditional, Exprs, no_exprs, more_exprs}
+use Rattle.c_syntax.specs.Tree.{Ident, Expr, a_name, an_int, a_char, a_str, comma, sizeof_type, cast, call, member, postfix, prefix, unary, index, binary, assign, conditional, Exprs}
 use Rattle.c_syntax.specs.Tree.{Access, dot, arrow, Postfix, post_increment, post_decrement, Prefix, pre_increment, pre_decrement, sizeof, Infix, TypeName}
 use Rattle.c_syntax.specs.Tree as syntax
 use Rattle.c_tree.specs.Tree as typed
@@ -21,6 +21,7 @@ use Rattle.c_rules.specs.BinaryExpressions.{sum, choice}
 use Rattle.c_rules.specs.Assignments.{assignment_by, step}
 use Rattle.c_rules.specs.Declarators.{place_of_type, is_void_pointer}
 use Rattle.c_rules.specs.Expressions.{value_at, place_at, access, after_operand, unary_rule, infix_rule, callee, tree, trees, value, type_named}
+use Rattle.c_rules.proofs.Integers.{integer_cases}
 use Rattle.null_calls_rules.specs.MarkedCalls.{Called, Sites}
 use Rattle.null_calls_rules.specs.Temporaries.{Temporary}
 use Rattle.null_calls_rules.specs.InstrumentedExpressions.{is_address_of_indirection, call_where, expr, kept}
@@ -145,8 +146,7 @@ module _ (p : Program) (sites : Sites) (env : Env) (w : More) where
   -- an operand of & that isn't * of a pointer
   leads_firmly : (e : Expr) (env : Env) (b : Before) → IsNoDereference e → Holds (LeadsFirmly p) (tree env b e)
   leads_firmly (a_name at y) env b h = strong_led p (named_expression env at y) (named_strong p env at y)
-  leads_firmly (an_int at m true) env b h = tt
-  leads_firmly (an_int at m false) env b h = tt
+  leads_firmly (an_int at m u) env b h = integer_cases (LeadsFirmly p) m u (λ _. tt) tt
   leads_firmly (a_char at c) env b h = tt
   leads_firmly (a_str at text) env b h = after_part (LeadsFirmly p) (string_fits env.context at b.cells (suc (length text))) _ (λ _. tt)
   leads_firmly (comma at es) env b h = comma_led p (trees env b es)
@@ -182,11 +182,7 @@ module _ (p : Program) (sites : Sites) (env : Env) (w : More) where
     int_wanted at m u b b' k n t f r = leaf_follows p k (fine (integer_expression m u)) (fine (integer_expression m u)) (refl, tt) (integer_leaf p m u)
 
     pub int_goes : (at m : ℕ) (u : Bool) → Goes p sites env w (an_int at m u)
-    int_goes at m u = record { wanted = int_wanted at m u; unused = λ b b' k n t f r. unused_goes (an_int at m u) (int_wanted at m u) b b' k n t f r (integer_firm u) }
-      where
-        integer_firm : (u : Bool) → IsFirm p (integer_expression m u)
-        integer_firm true = record { types = refl; tree = λ k. refl }
-        integer_firm false = record { types = refl; tree = λ k. refl }
+    int_goes at m u = record { wanted = int_wanted at m u; unused = λ b b' k n t f r. unused_goes (an_int at m u) (int_wanted at m u) b b' k n t f r (integer_cases (IsFirm p) m u (λ _. record { types = refl; tree = λ k. refl }) (record { types = refl; tree = λ k. refl })) }
 
     char_wanted : (at : ℕ) (c : ℤ) → ExprFollows p sites env w (a_char at c)
     char_wanted at c b b' k n t f r = leaf_follows p k (fine (typed_int c)) (fine (typed_int c)) (refl, tt) (record { types = refl; tree = λ k. refl })

@@ -1,11 +1,10 @@
 -- Names, constants and strings, and what isn't evaluated, give the same in both units: there is no call in their trees.
-use Rattle.std.proofs.Common.{◌≡◌, ℕ, suc, ◌+◌, Bool, true, false, List, [], length, Option, Some, None, refl, ap, ap₂, sym, ◌∙◌}
+use Rattle.std.proofs.Common.{◌≡◌, ℕ, suc, ◌+◌, Bool, true, List, [], length, Option, Some, None, refl, ap, ap₂, sym, ◌∙◌}
 use Rattle.c_tree.specs.Tree.{CType, Program}
-use Rattle.c_rules.specs.Checked.{Checked, fine, faulty, demand, on, gives}
+use Rattle.c_rules.specs.Checked.{Checked, fine, faulty, on, gives}
 use Rattle.c_rules.specs.Names.{Name}
 use Rattle.c_rules.specs.Scopes.{Env, Binding, Meaning, a_static, a_local, a_function, an_enumerator, unknown, Before, lookup}
 use Rattle.c_rules.specs.TypedExpression.{Form, a_value, a_place, behind, TypedExpression}
-use Rattle.c_rules.specs.Conversions.{complete}
 use Rattle.c_rules.specs.PrimaryExpressions.{used, object_number, function_value_number, meant, bound, named_expression, integer_expression, string_fits, typed_string, string_expression}
 use Rattle.c_rules.specs.UnaryExpressions.{size_of, size_of_expression, size_of_type}
 use Rattle.null_calls_rules.specs.InstrumentedPrograms.{expr, kept}
@@ -14,6 +13,7 @@ use Rattle.c_rules_laws.specs.TypedAlike.{plain_scope, instrumented_scope, More}
 use Rattle.c_rules_laws.proofs.Leads.{Leads}
 use Rattle.null_calls_expressions_laws.specs.Remade.{inner_of, with_inner, remade, Follows}
 use Rattle.null_calls_counts_laws.specs.Counts.{Near}
+use Rattle.c_rules.proofs.Integers.{integer_cases, size_holds}
 pub use Rattle.c_rules.proofs.Below.{Holds, demand_holds}
 
 pub after_part : {A B : Type 0} (Q : B → Type 0) (r : Checked A) (k : A → Checked B) → ((a : A) → Holds Q (k a)) → Holds Q (on r k)
@@ -53,24 +53,19 @@ module _ (p : Program) where
   named_leaf env at x = bound_leaf env at x (lookup env.names x)
 
   pub integer_leaf : (n : ℕ) (u : Bool) → IsLeaf (integer_expression n u)
-  integer_leaf n true = record { types = refl; tree = λ k. refl }
-  integer_leaf n false = record { types = refl; tree = λ k. refl }
+  integer_leaf n u = integer_cases IsLeaf n u (λ _. record { types = refl; tree = λ k. refl }) (record { types = refl; tree = λ k. refl })
 
   pub string_leaf : (env : Env) (b : Before) (at : ℕ) (text : List ℕ) → Holds IsLeaf (string_expression env b at text)
   string_leaf env b at text = after_part IsLeaf (string_fits env.context at b.cells (suc (length text))) _ (λ _. record { types = refl; tree = λ k. refl })
 
-  size_leaf : (env : Env) (at : ℕ) (t : CType) → Holds IsLeaf (size_of env at t)
-  size_leaf env at t = after_part IsLeaf (complete env at t) _ (λ _. record { types = refl; tree = λ k. refl })
+  size_leaf : (env : Env) (at place : ℕ) (t : CType) → Holds IsLeaf (size_of env at place t)
+  size_leaf env at place t = size_holds IsLeaf env at place t (λ _. record { types = refl; tree = λ k. refl })
 
   pub size_given_leaf : (env : Env) (at : ℕ) (r : Checked TypedExpression) → Holds IsLeaf (on r (size_of_expression env at))
-  size_given_leaf env at r = after_part IsLeaf r (size_of_expression env at) (λ g. size_leaf env at g.ctype)
+  size_given_leaf env at r = after_part IsLeaf r (size_of_expression env at) (λ g. size_leaf env at at g.ctype)
 
   pub size_type_leaf : (env : Env) (at place : ℕ) (r : Checked CType) → Holds IsLeaf (on r (size_of_type env at place))
-  size_type_leaf env at place r = after_part IsLeaf r (size_of_type env at place) (λ t. by_size (size_of env at t) _ (size_leaf env at t))
-    where
-      by_size : (r : Checked TypedExpression) (test : TypedExpression → Bool) → Holds IsLeaf r → Holds IsLeaf (on r (λ g. demand (test g) 13 place g))
-      by_size (fine g) test h = demand_holds IsLeaf (test g) 13 place g h
-      by_size (faulty f fs) test h = tt
+  size_type_leaf env at place r = after_part IsLeaf r (size_of_type env at place) (λ t. size_leaf env at place t)
 
 -- strings have the same numbers in both units
 pub string_same : (env : Env) (w : More) (b b' : Before) (at : ℕ) (text : List ℕ) → Near b b' → string_expression (instrumented_scope env w) b' at text ≡ string_expression (plain_scope env) b at text

@@ -1,5 +1,5 @@
 -- A null pointer constant has an integer type, or is a void *.
-use Rattle.std.proofs.Common.{◌≡◌, ℕ, suc, ◌+◌, ℤ, pos, negsuc, neg_ℤ, map, Bool, true, false, ◌&&◌, ◌||◌, if◌then◌else◌, List, length, Option, Some, None, nat_eq, nat_lt, nat_le, refl, sym, subst, ◌∙◌}
+use Rattle.std.proofs.Common.{◌≡◌, ℕ, suc, ◌+◌, ℤ, pos, negsuc, neg_ℤ, map, Bool, true, false, ◌&&◌, ◌||◌, if◌then◌else◌, List, length, Option, Some, None, nat_eq, nat_lt, nat_le, refl, sym, subst, ◌∙◌, ◌*◌, ◌/◌}
 use Rattle.c_lexer.specs.declared.punctuator.TheConstants.{AMPERSAND, ASTERISK, PLUS, MINUS, TILDE, ASSIGN}
 use Rattle.c_tree.specs.declared.value.UnOp.{UnOp}
 use Rattle.c_tree.specs.declared.value.UnOp.TheVariants.{Minus, Complement}
@@ -21,7 +21,7 @@ use Rattle.c_rules.specs.Types.{same_type, is_function, is_scalar, is_integer, i
 use Rattle.c_rules.specs.Scopes.{Env, Meaning, a_static, a_local, a_function, an_enumerator, unknown, Binding, lookup, Struct, incomplete, unknown_struct, defined_struct, Member, struct_of, layout_of, sized, in_context, Before, nothing_before}
 use Rattle.c_rules.specs.Counts.{place_of, calls, after, after_designator}
 use Rattle.c_rules.specs.TypedExpression.{Form, a_value, a_place, behind, Constant, not_constant, undefined, known, is_zero, is_known_zero, integer_constant_if, integer_constant, TypedExpression, typed_value, tree_of, is_place, is_null}
-use Rattle.c_rules.specs.Constants.{number_of, constant_member, constant_decayed, moved, constant_moved, constant_conditional}
+use Rattle.c_rules.specs.Constants.{number_of, constant_member, constant_decayed, moved, constant_moved, constant_conditional, is_within, address_of_static}
 use Rattle.c_rules.specs.Conversions.{Kind, an_integer, a_pointer, neither, kind_of, complete, few_parts, loaded, valued_as, valued, cast_to, null_of, fits, assigned}
 use Rattle.c_rules.specs.PrimaryExpressions.{used, object_number, function_value_number, meant, bound, string_fits}
 use Rattle.c_rules.specs.PostfixExpressions.{Callee, as_many_as, all_fit, called, site_of, name_of_member, member_or_undeclared, member_of_struct, member_of_type, member_of}
@@ -30,6 +30,8 @@ use Rattle.c_rules.specs.BinaryExpressions.{operator_of_code, sum_of, sum, minus
 use Rattle.c_rules.specs.Assignments.{operator_of_assignment, moves, update_of, assignment_by, one_for, step, comma_of}
 use Rattle.c_rules.specs.Declarators.{place_of_type, is_void_pointer}
 use Rattle.c_rules.specs.Expressions.{value_at, place_at, access, after_operand, unary_rule, infix_rule, cast_rule, callee, tree, trees, type_named}
+use Rattle.c_rules.proofs.Integers.{integer_cases, size_holds}
+use Rattle.c_rules.specs.Limits.{most_cells}
 use Rattle.null_calls_expressions_laws.proofs.Leaves.{Holds, after_part, demand_holds}
 use Rattle.null_calls_expressions_laws.specs.NullTypes.{IsNullType, NullsHaveTheirTypes}
 
@@ -64,7 +66,7 @@ member_no from n (known (v.Char z)) e = no e
 member_no from n (known (v.Uchar z)) e = no e
 member_no from n (known v.Null) e = no e
 member_no from n (known (v.Func f)) e = no e
-member_no from n (known (v.At q)) e = if_no (nat_lt q.index q.elements) _ refl e
+member_no from n (known (v.At q)) e = if_no (nat_lt q.index q.elements && is_within ((q.first + q.index * q.width) + from) n 1) _ refl e
 
 decayed_no : (n : ℕ) (c : Constant) → is_known_zero (constant_decayed n c) ≡ true → ⊥
 decayed_no n not_constant e = no e
@@ -76,7 +78,7 @@ decayed_no n (known (v.Char z)) e = no e
 decayed_no n (known (v.Uchar z)) e = no e
 decayed_no n (known v.Null) e = no e
 decayed_no n (known (v.Func f)) e = no e
-decayed_no n (known (v.At q)) e = if_no (nat_lt q.index q.elements) _ refl e
+decayed_no n (known (v.At q)) e = if_no (nat_lt q.index q.elements && is_within ((q.first + q.index * q.width) + 0) n (q.width / n)) _ refl e
 
 moved_by : (q : Pointer) (z : ℤ) → is_known_zero (moved q z) ≡ true → ⊥
 moved_by q (pos k) e = if_no (nat_le (q.index + k) q.elements) _ refl e
@@ -151,7 +153,7 @@ value_at_typed env at r h = on_holds IsTyped ValueTyped r (valued env at) h (λ 
 -- ## Names and members
 
 meant_typed : (env : Env) (at : ℕ) (x : Name) (m : Meaning) → Holds IsTyped (meant env at x m)
-meant_typed env at x (a_static seen whole d) = after_part IsTyped (used env.context at (object_number env x)) _ (λ n z. no z)
+meant_typed env at x (a_static seen whole d) = after_part IsTyped (used env.context at (object_number env x)) _ (λ n z. if_no (nat_le (cells (layout_of env) whole) most_cells) (address_of_static n (cells (layout_of env) whole)) refl z)
 meant_typed env at x (a_local n seen whole) = λ z. no z
 meant_typed env at x (a_function t d) = after_part IsTyped (function_value_number env at x) _ (λ n z. no z)
 meant_typed env at x (an_enumerator z) = λ _. tt
@@ -250,15 +252,11 @@ cast_typed false at t r = by_parts t r
     by_parts (fine u) (faulty f fs) = tt
     by_parts (faulty e es) r = tt
 
-size_typed : (env : Env) (at : ℕ) (t : CType) → Holds IsTyped (size_of env at t)
-size_typed env at t = after_part IsTyped (complete env at t) _ (λ _ _. tt)
+size_typed : (env : Env) (at place : ℕ) (t : CType) → Holds IsTyped (size_of env at place t)
+size_typed env at place t = size_holds IsTyped env at place t (λ _ _. tt)
 
 size_type_typed : (env : Env) (at place : ℕ) (r : Checked CType) → Holds IsTyped (on r (size_of_type env at place))
-size_type_typed env at place r = after_part IsTyped r (size_of_type env at place) (λ t. by_size (size_of env at t) _ (size_typed env at t))
-  where
-    by_size : (r : Checked TypedExpression) (test : TypedExpression → Bool) → Holds IsTyped r → Holds IsTyped (on r (λ g. demand (test g) 13 place g))
-    by_size (fine g) test h = demand_holds IsTyped (test g) 13 place g h
-    by_size (faulty f fs) test h = tt
+size_type_typed env at place r = after_part IsTyped r (size_of_type env at place) (λ t. size_typed env at place t)
 
 -- ## Operators between two values
 
@@ -431,8 +429,7 @@ comma_typed (faulty f fs) = tt
 
 tree_typed : (x : Expr) (env : Env) (b : Before) → Holds IsTyped (tree env b x)
 tree_typed (a_name at y) env b = bound_typed env at y (lookup env.names y)
-tree_typed (an_int at m true) env b = λ _. tt
-tree_typed (an_int at m false) env b = λ _. tt
+tree_typed (an_int at m u) env b = integer_cases IsTyped m u (λ _ _. tt) (λ _. tt)
 tree_typed (a_char at c) env b = λ _. tt
 tree_typed (a_str at text) env b = after_part IsTyped (string_fits env.context at b.cells (suc (length text))) _ (λ _ z. no z)
 tree_typed (comma at es) env b = comma_typed (trees env b es)
@@ -443,7 +440,7 @@ tree_typed (member at how e y) env b = access_typed env at (place_of e) how y.na
 tree_typed (postfix at o e) env b = after_typed env at (place_of e) o (tree env b e)
 tree_typed (prefix at pre_increment e) env b = step_typed env at (place_of e) op.Add false (tree env b e)
 tree_typed (prefix at pre_decrement e) env b = step_typed env at (place_of e) op.Sub false (tree env b e)
-tree_typed (prefix at sizeof e) env b = after_part IsTyped (tree (in_context env sized) nothing_before e) (size_of_expression env at) (λ g. size_typed env at g.ctype)
+tree_typed (prefix at sizeof e) env b = after_part IsTyped (tree (in_context env sized) nothing_before e) (size_of_expression env at) (λ g. size_typed env at at g.ctype)
 tree_typed (unary at o e) env b = unary_typed env at (place_of e) o (tree env b e) (tree_typed e env b)
 tree_typed (index at e f) env b =
     on_holds ValueTyped IsTyped (both (value_at env (place_of e) (tree env b e)) (value_at env (place_of f) (tree env (after b e) f)) (sum env at)) (indirection at) (two_hold ValueTyped (value_at env (place_of e) (tree env b e)) (value_at env (place_of f) (tree env (after b e) f)) (sum env at) (λ a c. sum_value env at a c (kind_of a.ctype) (kind_of c.ctype)))

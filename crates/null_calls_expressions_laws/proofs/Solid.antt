@@ -22,6 +22,7 @@ use Rattle.c_rules.specs.UnaryExpressions.{address_of_form, address_of_type, add
 use Rattle.c_rules.specs.BinaryExpressions.{operator_of_code, sum_of, sum, minus_of, balanced_of, shift_of, ordered_of, Alike, alike_integers, alike_pointers, unlike, alike, equality_of, arithmetic_of, operation_of, both_scalars, arms_of, choice}
 use Rattle.c_rules.specs.Assignments.{operator_of_assignment, moves, update_of, assignment_by, one_for, step, comma_of}
 use Rattle.c_rules.specs.Expressions.{value_at, place_at, access, after_operand, unary_rule, infix_rule, cast_rule}
+use Rattle.c_rules.proofs.Integers.{size_holds}
 use Rattle.null_calls_rules.specs.InstrumentedPrograms.{expr, kept}
 use Rattle.null_calls_expressions_laws.proofs.Leaves.{Holds, after_part, demand_holds}
 
@@ -354,18 +355,14 @@ module _ (p : Program) where
   choice_strong at (faulty e es) s t = tt
 
   -- sizes and constants
-  pub size_strong : (env : Env) (at : ℕ) (t : CType) → Holds IsStrong (size_of env at t)
-  size_strong env at t = after_part IsStrong (complete env at t) _ (λ _. record { types = refl; tree = λ k. refl })
+  pub size_strong : (env : Env) (at place : ℕ) (t : CType) → Holds IsStrong (size_of env at place t)
+  size_strong env at place t = size_holds IsStrong env at place t (λ _. record { types = refl; tree = λ k. refl })
 
   pub size_type_strong : (env : Env) (at place : ℕ) (r : Checked CType) → Holds IsStrong (on r (size_of_type env at place))
-  size_type_strong env at place r = after_part IsStrong r (size_of_type env at place) (λ t. by_size (size_of env at t) _ (size_strong env at t))
-    where
-      by_size : (r : Checked TypedExpression) (test : TypedExpression → Bool) → Holds IsStrong r → Holds IsStrong (on r (λ g. demand (test g) 13 place g))
-      by_size (fine g) test h = demand_holds IsStrong (test g) 13 place g h
-      by_size (faulty f fs) test h = tt
+  size_type_strong env at place r = after_part IsStrong r (size_of_type env at place) (λ t. size_strong env at place t)
 
   pub size_given_strong : (env : Env) (at : ℕ) (r : Checked TypedExpression) → Holds IsStrong (on r (size_of_expression env at))
-  size_given_strong env at r = after_part IsStrong r (size_of_expression env at) (λ g. size_strong env at g.ctype)
+  size_given_strong env at r = after_part IsStrong r (size_of_expression env at) (λ g. size_strong env at at g.ctype)
 
   -- ## Operands of &
 

@@ -25,6 +25,7 @@ use Rattle.c_rules.specs.BinaryExpressions.{operator_of_code, sum_of, sum, minus
 use Rattle.c_rules.specs.Assignments.{operator_of_assignment, moves, update_of, assignment_by, one_for, step, comma_of}
 use Rattle.c_rules.specs.Declarators.{place_of_type, is_void_pointer}
 use Rattle.c_rules.specs.Expressions.{value_at, place_at, access, after_operand, unary_rule, infix_rule, cast_rule, callee, tree, trees, type_named, value}
+use Rattle.c_rules.proofs.Integers.{integer_cases, size_holds}
 use Rattle.null_calls_expressions_laws.proofs.Leaves.{Holds, after_part, demand_holds}
 
 -- a value's tree has its type, and so has what leads to a place
@@ -169,15 +170,11 @@ cast_typed false at t r = by_parts t r
     by_parts (fine u) (faulty f fs) = tt
     by_parts (faulty e es) r = tt
 
-size_typed : (env : Env) (at : ℕ) (t : CType) → Holds IsTyped (size_of env at t)
-size_typed env at t = after_part IsTyped (complete env at t) _ (λ _. refl)
+size_typed : (env : Env) (at place : ℕ) (t : CType) → Holds IsTyped (size_of env at place t)
+size_typed env at place t = size_holds IsTyped env at place t (λ _. refl)
 
 size_type_typed : (env : Env) (at place : ℕ) (r : Checked CType) → Holds IsTyped (on r (size_of_type env at place))
-size_type_typed env at place r = after_part IsTyped r (size_of_type env at place) (λ t. by_size (size_of env at t) _ (size_typed env at t))
-  where
-    by_size : (r : Checked TypedExpression) (test : TypedExpression → Bool) → Holds IsTyped r → Holds IsTyped (on r (λ g. demand (test g) 13 place g))
-    by_size (fine g) test h = demand_holds IsTyped (test g) 13 place g h
-    by_size (faulty f fs) test h = tt
+size_type_typed env at place r = after_part IsTyped r (size_of_type env at place) (λ t. size_typed env at place t)
 
 -- ## Operators between two values
 
@@ -306,8 +303,7 @@ comma_typed (faulty f fs) = tt
 
 tree_typed : (x : Expr) (env : Env) (b : Before) → Holds IsTyped (tree env b x)
 tree_typed (a_name at y) env b = bound_typed env at y (lookup env.names y)
-tree_typed (an_int at m true) env b = refl
-tree_typed (an_int at m false) env b = refl
+tree_typed (an_int at m u) env b = integer_cases IsTyped m u (λ _. refl) refl
 tree_typed (a_char at c) env b = refl
 tree_typed (a_str at text) env b = after_part IsTyped (string_fits env.context at b.cells (suc (length text))) _ (λ _. tt)
 tree_typed (comma at es) env b = comma_typed (trees env b es)
@@ -318,7 +314,7 @@ tree_typed (member at how e y) env b = access_typed env at (place_of e) how y.na
 tree_typed (postfix at o e) env b = after_typed env at (place_of e) o (tree env b e)
 tree_typed (prefix at pre_increment e) env b = step_typed env at (place_of e) op.Add false (tree env b e)
 tree_typed (prefix at pre_decrement e) env b = step_typed env at (place_of e) op.Sub false (tree env b e)
-tree_typed (prefix at sizeof e) env b = after_part IsTyped (tree (in_context env sized) nothing_before e) (size_of_expression env at) (λ g. size_typed env at g.ctype)
+tree_typed (prefix at sizeof e) env b = after_part IsTyped (tree (in_context env sized) nothing_before e) (size_of_expression env at) (λ g. size_typed env at at g.ctype)
 tree_typed (unary at o e) env b = unary_typed env at (place_of e) o (tree env b e) (tree_typed e env b)
 tree_typed (index at e f) env b =
     on_holds ValueTyped IsTyped (both (value_at env (place_of e) (tree env b e)) (value_at env (place_of f) (tree env (after b e) f)) (sum env at)) (indirection at) (two_hold ValueTyped (value_at env (place_of e) (tree env b e)) (value_at env (place_of f) (tree env (after b e) f)) (sum env at) (λ a c. sum_value env at a c (kind_of a.ctype) (kind_of c.ctype)))

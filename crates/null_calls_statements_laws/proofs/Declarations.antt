@@ -1,9 +1,9 @@
 -- Declarations in blocks follow.
-use Rattle.std.proofs.Common.{◌≡◌, ℕ, zero, suc, ◌+◌, ◌*◌, ◌≤◌, false, List, [], ◌++◌, append-nil, length, Option, Some, None, refl, ap, ap₂, sym, subst, ◌∙◌, arith}
+use Rattle.std.proofs.Common.{◌≡◌, ℕ, zero, suc, ◌+◌, ◌*◌, ◌≤◌, false, List, [], ◌++◌, append-nil, length, Option, Some, None, refl, ap, ap₂, sym, subst, ◌∙◌, arith, nat_le}
 use Rattle.c_tree.specs.Tree.{CType, Program}
 use Rattle.c_tree.specs.Tree as typed
 use Rattle.c_syntax.specs.Tree.{Ident, Spec, Declarator, one, list, MaybeInit, no_init, an_init, Parts, no_parts, more_parts, Decl, decl, first_absent, first_expr, first_decl, no_block_items, block_decl}
-use Rattle.c_rules.specs.Checked.{Checked, fine, fault, on, both, Met, gives}
+use Rattle.c_rules.specs.Checked.{Checked, fine, fault, on, Met, gives, demand}
 use Rattle.c_rules.specs.Names.{Name, is_reserved}
 use Rattle.c_rules.specs.Scopes.{Env, Binding, Meaning, a_local, with_name, meaning_or_unknown, Before}
 use Rattle.c_rules.specs.Counts.{string_cells, past}
@@ -13,6 +13,8 @@ use Rattle.c_rules.specs.Initialisers.{held_by, calls_of_maybe_init, initialised
 use Rattle.c_rules.specs.Objects.{Object, sized_by_one, with_size, of_known_size, object_declared}
 use Rattle.c_rules.specs.Variables.{name_or_empty, Next, number_in, calls_of_decl, names_of_decl, past_names}
 use Rattle.c_rules.specs.Blocks.{seen_meaning, whole_meaning, within_local, behind_local, behind_named, behind_part, past_part, behind_parts, held_by_object, held_by_named, held_by_part, held_by_parts, held_by_decl, after_part, StatementTree, one_more, local_of, local_named, local_part, local_parts, is_given, local}
+use Rattle.c_rules.specs.Codes.{C13}
+use Rattle.c_rules.specs.Limits.{most_cells}
 use Rattle.null_calls_rules.specs.MarkedCalls.{Sites}
 use Rattle.null_calls_rules.specs.Temporaries.{Temporary}
 use Rattle.null_calls_rules.specs.InstrumentedExpressions.{expr, kept}
@@ -48,7 +50,7 @@ module _ (sites : Sites) where
       by_init : (m : MaybeInit) → with_size name (maybe_init sites b m) (typed.array t zero) ≡ with_size name m (typed.array t zero)
       by_init no_init = refl
       by_init (an_init (one at e)) = ap (λ o. on (text_fits at o) (λ _. sized_by_one at t o)) (text_same sites e b)
-      by_init (an_init (list at is)) = ap (λ n. fine (typed.array t n)) (count_same sites is b)
+      by_init (an_init (list at is)) = ap (λ n. demand (nat_le n most_cells) C13 name (typed.array t n)) (count_same sites is b)
   size_same name b m (typed.array t (suc n)) = refl
   size_same name b m typed.void = refl
   size_same name b m (typed.integer i) = refl

@@ -18,7 +18,7 @@ use Rattle.c_rules.specs.Tags.{tags_of_spec, tags_of_expr, tags_of_maybe, tags_o
 use Rattle.c_rules.specs.Variables.{Next, past_names, names_of_decl, names_of_first, names_of_stmt, names_of_stmts}
 use Rattle.c_rules.specs.Blocks.{behind_decl, behind_first, after_decl, after_first, after_stmt, after_stmts, local_named, local_part, local_decl, is_given, local}
 use Rattle.c_rules.specs.Statements.{Around, in_loop, in_switch, condition_at, test_of, step_of, first_of, switched, label_type, labels_of, switch_of, stmt, items_of_block, stmts, groups_of_switch}
-use Rattle.c_rules.specs.Functions.{declares_function, parameters_of, are_named, body_env, body_of, body_numbers, function_laid, defined_as, function_meaning, function_declared, items_of_body}
+use Rattle.c_rules.specs.Functions.{declares_function, parameters_of, are_named, body_env, body_of, body_numbers, function_laid, defined_as, function_meaning, function_declared, items_of_body, few_variables}
 use Rattle.c_rules.specs.Items.{Output, defines, object_name, global_object, global_declared, global, without_init, declared_part, named_part, file_decl, behind_defined, function_named, item, behind_item, after_item, items}
 use Rattle.c_rules_laws.proofs.Holding.{Holds, on_holds, both_hold, all_three_hold, Any, anything, demand_holds, alone_holds, parts_first_holds}
 use Rattle.c_rules_laws.proofs.Holding.{after_part as behind_any}
@@ -187,9 +187,10 @@ defined_aside env e b place d x is l (pointer t) = tt
 defined_aside env e b place d x is l (array t n) = tt
 defined_aside env e b place d x is l (struct s) = tt
 defined_aside env e b place d x is l (function t ts) =
+    behind_any (λ _. tags_of_block true is ≡ tags_of_block false is) (few_variables env x d is) _ (λ _.
     parts_first_holds (λ _. tags_of_block true is ≡ tags_of_block false is) (body_of env b t d ts is) (both (demand (are_named (parameters_of d)) 3 place met) (body_of env b t d ts is) (λ _ q. function_laid env x t ts q)) (both_hold Any (λ _. tags_of_block true is ≡ tags_of_block false is) (λ _. tags_of_block true is ≡ tags_of_block false is) (demand (are_named (parameters_of d)) 3 place met) (body_of env b t d ts is) (λ _ q. function_laid env x t ts q) (anything (demand (are_named (parameters_of d)) 3 place met))
     (block_aside is (body_env env d ts) (ap (λ w. w.mode) (parameters_functions (parameters_of d) ts (inside env) 0) ∙ e) l (record { breaks = false; continues = false; returns = t }) b (body_numbers d is))
-    (λ _ q _ h. always (tags_of_block true is ≡ tags_of_block false is) (function_laid env x t ts q) h))
+    (λ _ q _ h. always (tags_of_block true is ≡ tags_of_block false is) (function_laid env x t ts q) h)))
 
 function_aside : (env : Env) → IsPlain env → (b : Before) (at : ℕ) (s : Spec) (d : Declarator) (body : Stmt) → StmtNamesNoType body → (k : Bool) (o : Option Ident) → Holds (λ _. tags_of_stmt true body ≡ tags_of_stmt false body) (function_named env b at s d body k o)
 function_aside env e b at s d body l false o = tt

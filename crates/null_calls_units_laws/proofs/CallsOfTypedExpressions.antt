@@ -17,13 +17,14 @@ use Rattle.c_tree.specs.Operands.{kind_of as kind_of_operator}
 use Rattle.c_rules.specs.Names.{Name, number_among}
 use Rattle.c_rules.specs.Types.{same_type, is_integer, is_function, is_scalar, is_void, count}
 use Rattle.c_rules.specs.Scopes.{Env, Struct, incomplete, unknown_struct, defined_struct, Member, struct_of, layout_of}
-use Rattle.c_rules.specs.TypedExpression.{Form, a_value, a_place, behind, Constant, not_constant, undefined, known, TypedExpression, tree_of_form, tree_of, is_place, is_known_zero, is_null, integer_constant_if, integer_constant}
-use Rattle.c_rules.specs.Constants.{constant_converted, constant_unary, constant_binary, constant_and, constant_or, constant_conditional, constant_member, constant_decayed, constant_moved}
+use Rattle.c_rules.specs.TypedExpression.{Form, a_value, a_place, behind, Constant, TypedExpression, tree_of_form, tree_of, is_place, is_null, integer_constant}
+use Rattle.c_rules.specs.Constants.{constant_and, constant_or, constant_moved}
 use Rattle.c_rules.specs.Conversions.{Kind, an_integer, a_pointer, neither, kind_of, complete, few_parts, loaded, valued_as, valued, cast_to, has_integer, converted_to, null_of, fits, assigned_as, assigned, as_if_assigned, condition}
 use Rattle.c_rules.specs.PostfixExpressions.{Designator, direct, through, Callee, callee_of_type, callee_through, all_fit, passed, call_of, as_many_as, called, name_of_member, member_or_undeclared, member_of_struct, member_of_type, member_of}
 use Rattle.c_rules.specs.UnaryExpressions.{address_of_form, address_of_type, address, led_to, indirection, plus_of, operator_of, unary_of_value, size_of, cast_of, null_cast}
 use Rattle.c_rules.specs.BinaryExpressions.{shifted, compared_integers, sum_of, sum, minus_of, balanced_of, shift_of, ordered_of, Alike, alike_integers, alike_pointers, unlike, pointers_alike, alike_of, alike, equality_of, arithmetic_of, operation_of, operation, both_scalars, conjunction, disjunction, chosen, arms_of, choice}
 use Rattle.c_rules.specs.Assignments.{assignment, operator_of_assignment, moves, right_type, update_of, assignment_by, one_for, step, trees_of, comma_of}
+use Rattle.c_rules.proofs.Integers.{size_holds}
 use Rattle.c_rules_laws.proofs.Holding.{Holds, demand_holds, behind_demand, after_part, if_holds}
 use Rattle.c_rules_laws.proofs.MadeTypes.{number_is}
 use Rattle.c_rules_laws.proofs.SitesOfTypedExpressions.{converted_const, unary_const, integer_const, decayed_const, member_const, binary_const, and_const, or_const, conditional_const, moved_const, zero_const, and_right_test}
@@ -214,8 +215,8 @@ unary_sites at o xs g h =
     (if_holds (SitesAre xs) (nat_eq o TILDE) _ _ (operator_sites at xs _ g (kind_of g.ctype) h)
     (demand_holds (SitesAre xs) (is_scalar g.ctype) 3 at _ (λ _. (h.0, λ c. h.1 (integer_const (is_integer g.ctype) g.constant (unary_const Not (integer_constant g) c))))))))
 
-pub size_sites : (env : Env) (at : ℕ) (t : CType) → Holds (SitesAre []) (size_of env at t)
-size_sites env at t = after_part (SitesAre []) (complete env at t) _ (λ _. (refl, λ _. refl))
+pub size_sites : (env : Env) (at place : ℕ) (t : CType) → Holds (SitesAre []) (size_of env at place t)
+size_sites env at place t = size_holds (SitesAre []) env at place t (λ _. (refl, λ _. refl))
 
 pub cast_of_sites : (at : ℕ) (xs : List Mention) (t : CType) (g : TypedExpression) → SitesAre xs g → Holds (SitesAre xs) (cast_of at t g)
 cast_of_sites at xs void g h = (h.0, λ c. absurd c)

@@ -83,6 +83,13 @@ held_behind env at plain k (x ∷ xs) is h =
     ∙ (held_behind inner at plain (suc k) xs is h.4
     ∙ ap (λ m. held_by_block (with_temporaries inner (suc k) xs) (record { plain = plain; added = m }) is) e)))
 
+-- the names that it declares
+pub names_long : (tags : List Name) (at : ℕ) (xs : List Temporary) (is : BlockItems) → length (names_of_block (declared_before tags at xs is)) ≡ length xs + length (names_of_block is)
+names_long tags at [] is = (let e : length (names_of_block is) ≡ 0 + length (names_of_block is) = omega arith in e)
+names_long tags at (x ∷ xs) is =
+    (let rest = names_long tags at xs is in
+    let e : suc (length (names_of_block (declared_before tags at xs is))) ≡ suc (length xs) + length (names_of_block is) = omega (arith, rest) in e)
+
 -- its calls
 pub calls_behind : (tags : List Name) (at : ℕ) (xs : List Temporary) (is : BlockItems) → calls_of_block (declared_before tags at xs is) ≡ calls_of_block is
 calls_behind tags at [] is = refl

@@ -3,9 +3,9 @@ use Rattle.std.proofs.Common.{◌≡◌, ℕ, zero, suc, Bool, true, false, not,
 use Rattle.std.specs.Prelude.{nat_le, slice_index_or, unwrap_or, bytes_eq}
 use Rattle.std.proofs.lemmas.Bool.{false≢true}
 use Rattle.std.proofs.lemmas.Slice.Eq.{bytes_eq-Decides}
-use Rattle.c_tree.specs.Tree.{CType, void, integer, array, struct, CTypes, no_types, more_types}
+use Rattle.c_tree.specs.Tree.{CType, void, integer, array, struct, CTypes, more_types}
 use Rattle.c_tree.specs.Tree as typed
-use Rattle.c_syntax.specs.Tree.{Ident, Spec, Declarator, nothing, named, Params, no_params, more_params, MaybeInit, no_init, an_init, Init, one, list}
+use Rattle.c_syntax.specs.Tree.{Ident, Spec, Declarator, nothing, named, Params, no_params, more_params, MaybeInit, no_init, an_init, one, list}
 use Rattle.c_syntax.specs.Tree as syntax
 use Rattle.c_tree.specs.declared.value.IntType.TheVariants.{Char, Uchar, Int, Uint}
 use Rattle.c_rules.specs.Names.{Name, number_among, is_among}
@@ -16,7 +16,7 @@ use Rattle.c_rules.specs.Conversions.{few_parts, complete}
 use Rattle.c_rules.specs.Tags.{tags_of_spec, tags_of_maybe, tags_of_declarator, tags_of_params}
 use Rattle.c_rules.specs.Declarators.{name_of, place_or, type_of_spec, within_parts, pointer_to, array_of, function_of, parameter_of, new_name, with_name_demands, behind_parameter}
 use Rattle.c_rules.specs.Expressions.{declared, size_in, parameters, type_declared}
-use Rattle.c_rules.specs.Initialisers.{text_of, text_fits}
+use Rattle.c_rules.specs.Initialisers.{text_of, text_fits, count_inits}
 use Rattle.c_rules.specs.Objects.{Object, sized_by_one, sized_by, with_size, of_known_size, object_of, object_declared}
 use Rattle.null_calls_units_laws.specs.Spelled.{AreAmong, is_pointee}
 use Rattle.c_rules_laws.proofs.Holding.{Holds, on_holds, both_hold, Any, anything, demand_holds, behind_demand, after_part}
@@ -160,10 +160,10 @@ module _ (enums tags stood : List Name) where
     parameters_written (more_params at s d ps) env w k m =
         let r : Checked CType = on (on (type_of_spec env at s) (λ t. declared env d t)) (parameter_of (place_or at d)) in
         let rest : AreKnownTags (tags_of_declarator d ++ tags_of_params ps) = rest_tags (tags_of_spec s) (tags_of_declarator d ++ tags_of_params ps) m in
-        both_hold Parameter AllW AllW (with_name_demands env (name_of d) r) (parameters (behind_parameter env k (name_of d) r) (suc k) ps) (λ t ts. fine (more_types t ts))
+        both_hold Parameter AllW AllW (with_name_demands env (name_of d) r) (parameters (behind_parameter env k (name_of d) r) k ps) (λ t ts. fine (more_types t ts))
         (name_written env (name_of d) r (on_holds W Parameter (on (type_of_spec env at s) (λ t. declared env d t)) (parameter_of (place_or at d))
         (on_holds W W (type_of_spec env at s) (λ t. declared env d t) (spec_written env w at s (first_tags (tags_of_spec s) (tags_of_declarator d ++ tags_of_params ps) m)) (λ t h. declared_written d env w t (first_tags (tags_of_declarator d) (tags_of_params ps) rest) h)) (λ t h. parameter_written (place_or at d) t h)))
-        (parameters_written ps (behind_parameter env k (name_of d) r) (behind_tags env w k (name_of d) r) (suc k) (rest_tags (tags_of_declarator d) (tags_of_params ps) rest))
+        (parameters_written ps (behind_parameter env k (name_of d) r) (behind_tags env w k (name_of d) r) k (rest_tags (tags_of_declarator d) (tags_of_params ps) rest))
         (λ t ts h l. (h.0, h.1, h.2, l))
 
   pub type_written : (env : Env) → HasTags env → (at : ℕ) (s : Spec) (d : Declarator) → AreKnownTags (tags_of_spec s ++ tags_of_declarator d) → Holds W (type_declared env at s d)
@@ -187,7 +187,7 @@ module _ (enums tags stood : List Name) where
   sized_written : (name : ℕ) (t : CType) (m : MaybeInit) (n : ℕ) → W (array t n) → Holds W (sized_by name t m)
   sized_written name t no_init n h = tt
   sized_written name t (an_init (one at e)) n h = after_part W (text_fits at (text_of e)) (λ _. sized_by_one at t (text_of e)) (λ _. sized_one_written at t (text_of e) n h)
-  sized_written name t (an_init (list at is)) n h = h
+  sized_written name t (an_init (list at is)) n h = demand_holds W _ 13 name (array t (count_inits is)) (λ _. h)
 
   pub with_size_written : (name : ℕ) (m : MaybeInit) (t : CType) → W t → Holds W (with_size name m t)
   with_size_written name m (array t zero) h = sized_written name t m 0 h

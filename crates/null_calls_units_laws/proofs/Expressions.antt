@@ -7,7 +7,7 @@ use Rattle.dm_base.specs.declared.mode.Mode.{Mode}
 use Rattle.dm_base.specs.declared.mode.Mode.TheVariants.{Plain, Instrumented}
 use Rattle.c_lexer.specs.declared.punctuator.TheConstants.{AMPERSAND}
 use Rattle.c_tree.specs.declared.value.BinOp.TheVariants.{Add, Sub}
-use Rattle.c_tree.specs.Tree.{CType, void, integer, pointer, array, struct, function, CTypes, no_types, more_types, Program, type_of}
+use Rattle.c_tree.specs.Tree.{CType, void, integer, pointer, array, struct, function, CTypes, Program, type_of}
 use Rattle.c_tree.specs.Tree as typed
 use Rattle.c_tree.specs.Functions.{defined, value_type, called_type, value_types, type_of_defined, sys_types, null_types}
 use Rattle.c_tree.specs.Operands.{IsResult}
@@ -30,6 +30,7 @@ use Rattle.c_rules.specs.BinaryExpressions.{operator_of_code, sum, choice}
 use Rattle.c_rules.specs.Assignments.{assignable, assignment_by, step, comma_of}
 use Rattle.c_rules.specs.Declarators.{place_of_type, is_void_pointer}
 use Rattle.c_rules.specs.Expressions.{value_at, place_at, callee_meant, callee_bound, callee, access, after_operand, unary_rule, infix_rule, cast_rule, tree, trees, type_named, value}
+use Rattle.c_rules.proofs.Integers.{integer_cases}
 use Rattle.null_calls_rules.specs.MarkedCalls.{Called, Sites, sites_of, called_through, called_by_type, marked_of}
 use Rattle.null_calls_counts_laws.specs.Counts.{IsName, IsDesignator, AreNamed, AllNamed}
 use Rattle.null_calls_expressions_laws.specs.Tabled.{called_by, HasTypes, IsCalledAt, AreTabled, AllTabled}
@@ -139,8 +140,7 @@ module _ (T : Table) where
   bound_tells env at x (Some b) = meant_tells env at x b.means
 
   integer_tells : (n : ℕ) (u : Bool) → SitesAre [] (integer_expression n u)
-  integer_tells n true = (refl, λ _. refl)
-  integer_tells n false = (refl, λ _. refl)
+  integer_tells n u = integer_cases (SitesAre []) n u (λ _. (refl, λ _. refl)) (refl, λ _. refl)
 
 -- ## Callees
 
@@ -375,7 +375,7 @@ module _ (p : Program) (enums tags stood : List Name) where
         on_holds (TypedExpressionsTell (AllPass env b es)) (Tells T (Passes env b (comma at es))) (trees env b es) (λ gs. fine (comma_of gs)) (trees_pass es env w b l) (λ gs k. told T (Passes env b (comma at es)) k.0 (comma_of gs) k.2 (comma_sites gs k.0 k.1))
     tree_passes (sizeof_type at t) env w b l =
         after_part (Tells T (Passes env b (sizeof_type at t))) (type_named env t) (size_of_type env at (place_of_type t))
-        (λ u. on_holds (SitesAre []) (Tells T (Passes env b (sizeof_type at t))) (size_of env at u) _ (size_sites env at u) (λ g k. demand_holds (Tells T (Passes env b (sizeof_type at t))) _ 13 (place_of_type t) g (λ _. none_tells T (Passes env b (sizeof_type at t)) g (tt, tt, tt) k)))
+        (λ u. holds_map (SitesAre []) (Tells T (Passes env b (sizeof_type at t))) (λ g s. none_tells T (Passes env b (sizeof_type at t)) g (tt, tt, tt) s) (size_of env at (place_of_type t) u) (size_sites env at (place_of_type t) u))
     tree_passes (cast at t e) env w b l =
         cast_tells T (Passes env b (cast at t e)) (is_void_pointer t) at (type_named env t) (value_at env (place_of e) (tree env b e))
         (holds_map (Tells T (Passes env b e)) (Tells T (Passes env b (cast at t e))) (λ g k. (k.0, λ z. (let y = k.1 z in ((l.0, y.0), y.1, y.2)))) (value_at env (place_of e) (tree env b e)) (value_tells T (Passes env b e) env (place_of e) (tree env b e) (tree_passes e env w b l.1)))
@@ -386,7 +386,7 @@ module _ (p : Program) (enums tags stood : List Name) where
     tree_passes (prefix at pre_decrement e) env w b l = one_tells T (Passes env b e) (place_at (place_of e) (tree env b e)) (step env at Sub false) (place_tells T (Passes env b e) (place_of e) (tree env b e) (tree_passes e env w b l)) (λ g xs s. step_sites env at Sub false xs g s)
     tree_passes (prefix at sizeof e) env w b l =
         after_part (Tells T (Passes env b (prefix at sizeof e))) (tree (in_context env sized) nothing_before e) (size_of_expression env at)
-        (λ g. holds_map (SitesAre []) (Tells T (Passes env b (prefix at sizeof e))) (λ h s. none_tells T (Passes env b (prefix at sizeof e)) h (tt, tt, tt) s) (size_of env at g.ctype) (size_sites env at g.ctype))
+        (λ g. holds_map (SitesAre []) (Tells T (Passes env b (prefix at sizeof e))) (λ h s. none_tells T (Passes env b (prefix at sizeof e)) h (tt, tt, tt) s) (size_of env at at g.ctype) (size_sites env at at g.ctype))
     tree_passes (unary at o e) env w b l = unary_tells T (Passes env b e) env at (place_of e) o (tree env b e) (tree_passes e env w b l)
     tree_passes (index at e f) env w b l =
         one_tells T (Passes env b (index at e f)) (both (value_at env (place_of e) (tree env b e)) (value_at env (place_of f) (tree env (after b e) f)) (sum env at)) (indirection at)

@@ -27,11 +27,12 @@ use Rattle.null_calls_counts_laws.specs.Statements.{BlockNamed}
 use Rattle.null_calls_statements_laws.specs.Statements.{BlockTabled}
 use Rattle.c_rules_laws.specs.Lexical.{IsStmtLexical, AreItemsLexical, IsItemLexical, IsUnitLexical}
 use Rattle.c_rules_laws.specs.RightScopes.{MeaningRight}
-use Rattle.c_rules_laws.proofs.Holding.{held, first_fine, on_fine, demand_fine, parts_first_fine}
+use Rattle.c_rules_laws.proofs.Holding.{held, first_fine, on_fine, demand_fine}
 use Rattle.c_rules_laws.proofs.FileScopes.{IsFileRight, Follows, follows_on}
 use Rattle.c_rules_laws.proofs.FileItems.{part_step, definition_step, form_step, tags_step, items_step}
 use Rattle.c_rules_laws.proofs.UnitScopes.{IsTable, scope_right}
 use Rattle.c_rules_laws.proofs.UnitShape.{output_same}
+use Rattle.c_rules_laws.proofs.Definitions.{definition_fine}
 use Rattle.alarm_laws.proofs.Lists.{is_later}
 use Rattle.null_calls_units_laws.specs.CallsIn.{calls_in_stmt, calls_in_stmts}
 use Rattle.null_calls_units_laws.specs.AbstractCasts.{StmtNamesNoType, ItemNamesNoType, UnitNamesNoType}
@@ -158,7 +159,7 @@ module _ (p : Program) (tags : List Name) (last : Env) (table : IsTable p last) 
       let around : Around = record { breaks = false; continues = false; returns = t } in
       let next : Next = body_numbers d is in
       let scope : IsWrittenScope p inner.enums tags stood (body_env inner d ts) = parameters_written inner.enums stood (parameters_of d) ts (inside inner) 0 (inside_scope p inner.enums tags stood inner (scope_written inner stood w g v)) written.4 in
-      let k = first_fine (demand (are_named (parameters_of d)) 3 place met) (body_of inner b t d ts is) (λ _ q. function_laid inner x t ts q) f (parts_first_fine (body_of inner b t d ts is) (both (demand (are_named (parameters_of d)) 3 place met) (body_of inner b t d ts is) (λ _ q. function_laid inner x t ts q)) f h) in
+      let k = first_fine (demand (are_named (parameters_of d)) 3 place met) (body_of inner b t d ts is) (λ _ q. function_laid inner x t ts q) f (definition_fine inner b place d x is t ts f h) in
       let q : StatementTree typed.Stmts = k.1 in
       let j = demand_fine _ 13 x.at (record { name = x.name; ctype = function t ts; variables = variables_of ts q; body = typed.block q.tree }) f k.4 in
       let own : AreKnownTags inner.enums tags stood (tags_of_block false is) = subst (AreKnownTags inner.enums tags stood) (sym (body_tags false body)) known in

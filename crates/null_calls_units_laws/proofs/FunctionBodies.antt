@@ -4,8 +4,8 @@ use Rattle.std.proofs.lemmas.Bool.{leb-true, le-leb, false≢true}
 use Rattle.c_tree.specs.Tree.{CType, void, integer, pointer, array, struct, function, CTypes, list_of, Function, Program}
 use Rattle.c_tree.specs.Tree as typed
 use Rattle.c_tree.specs.Layout.{Structs, struct_cells, flat_with, flat_all_with, cells_of_all}
-use Rattle.c_syntax.specs.Tree.{Ident, BlockItems}
-use Rattle.c_rules.specs.Checked.{fine, on, demand}
+use Rattle.c_syntax.specs.Tree.{Ident, BlockItems, Declarator}
+use Rattle.c_rules.specs.Checked.{fine, on, demand, Met, met}
 use Rattle.c_rules.specs.Codes.{C13}
 use Rattle.c_rules.specs.Names.{Name}
 use Rattle.c_rules.specs.Types.{is_scalar}
@@ -14,7 +14,7 @@ use Rattle.c_rules.specs.Counts.{past}
 use Rattle.c_rules.specs.Variables.{Next, past_names, names_of_block, first_numbers, calls_of_block}
 use Rattle.c_rules.specs.Blocks.{StatementTree, with_tree, held_by_block}
 use Rattle.c_rules.specs.Statements.{Around, items_of_block}
-use Rattle.c_rules.specs.Functions.{variables_of, function_laid}
+use Rattle.c_rules.specs.Functions.{variables_of, function_laid, parameters_of, count_params, few_variables}
 use Rattle.null_calls_rules.specs.MarkedCalls.{Sites}
 use Rattle.null_calls_rules.specs.Temporaries.{Temporary, declared_before}
 use Rattle.null_calls_rules.specs.InstrumentedStatements.{kept_of_block}
@@ -196,14 +196,23 @@ temporary_cells structs enums tags stood (x ∷ xs) h =
     let rest = temporary_cells structs enums tags stood xs h.2 in
     omega (arith, one, c, rest)
 
+pub temporaries_count : (enums tags stood : List Name) (lo n : ℕ) (xs : List Temporary) → AreTemporaries enums tags stood lo n xs → lo ≤ 10000 → length xs ≤ 180000
+temporaries_count enums tags stood lo n xs h l = (let few = h.few in let most : lo + n ≤ 10000 = h.within l in omega (arith, few, most))
+
 pub temporaries_few : (structs : Structs) (enums tags stood : List Name) (lo n : ℕ) (xs : List Temporary) → AreTemporaries enums tags stood lo n xs → lo ≤ 10000 → cells_of_all structs (types_of xs) ≤ 180000
 temporaries_few structs enums tags stood lo n xs h l =
     let c = temporary_cells structs enums tags stood xs h.written in
-    let few = h.few in
-    let most : lo + n ≤ 10000 = h.within l in
-    omega (arith, c, few, most)
+    let few = temporaries_count enums tags stood lo n xs h l in
+    omega (arith, c, few)
 
 -- ## Functions
+
+-- the variables of the function in the instrumented unit are few, where so many temporaries are declared in it
+pub variables_right : (e f : Env) → FilesBeside e f → (x : Ident) (d : Declarator) (is js : BlockItems) (added : ℕ) → added ≤ 180000 → length (names_of_block js) ≡ added + length (names_of_block is) → (a : Met) → few_variables e x d is ≡ fine a → few_variables f x d js ≡ fine met
+variables_right e f (files_beside env more u m l) x d is js added few long a h =
+    let count : ℕ = count_params (parameters_of d) in
+    let low = leb-true (count + length (names_of_block is)) 65536 (demand_fine (nat_le (count + length (names_of_block is)) 65536) C13 x.at met a h).0 in
+    ap (λ t. demand t C13 x.at met) (le-leb (count + length (names_of_block js)) 262144 (omega (arith, low, few, long)))
 
 module _ (p : Program) (x : Ident) (t : CType) (ts : CTypes) (k : ℕ) (us : List CType) (tree : typed.Stmts) where
   -- the function in the instrumented unit

@@ -3,7 +3,7 @@ use Rattle.std.proofs.Common.{◌≡◌, ℕ, suc, ◌+◌, ◌*◌, ◌≤◌, 
 use Rattle.c_tree.specs.Tree.{CType, function, CTypes, no_types, more_types, list_of, Function, Program}
 use Rattle.c_tree.specs.Tree as typed
 use Rattle.c_syntax.specs.Tree.{Ident, Storage, Spec, Declarator, Params, no_params, more_params, Stmt, BlockItems, Item, struct_item, enum_item, tag_item, decl_item, function_item}
-use Rattle.c_rules.specs.Checked.{fine, on, both, demand, met, parts_first}
+use Rattle.c_rules.specs.Checked.{fine, on, demand, met, parts_first}
 use Rattle.c_rules.specs.Names.{Name, is_among}
 use Rattle.c_rules.specs.Scopes.{Env, inside, layout_of, Before}
 use Rattle.c_rules.specs.Counts.{past}
@@ -13,7 +13,7 @@ use Rattle.c_rules.specs.Tags.{tags_of_spec, tags_of_declarator, tags_of_stmt, t
 use Rattle.c_rules.specs.Variables.{names_of_block, first_numbers, calls_of_block}
 use Rattle.c_rules.specs.Blocks.{StatementTree, held_by_block}
 use Rattle.c_rules.specs.Statements.{Around}
-use Rattle.c_rules.specs.Functions.{declares_function, parameters_of, are_named, count_params, with_parameter, with_parameters, body_env, body_of, function_laid, defined_as, held_by_typed, function_declared, items_of_body}
+use Rattle.c_rules.specs.Functions.{declares_function, parameters_of, are_named, count_params, with_parameter, with_parameters, body_env, body_of, function_laid, defined_as, held_by_typed, function_declared, items_of_body, few_variables}
 use Rattle.c_rules.specs.Items.{Output, output_of_function, behind_defined, function_named, behind_function_named}
 use Rattle.null_calls_rules.specs.MarkedCalls.{Sites, sites_of}
 use Rattle.null_calls_rules.specs.Temporaries.{Temporary, declared_before}
@@ -23,25 +23,28 @@ use Rattle.null_calls_rules.specs.Instrumented as units
 use Rattle.null_calls_rules.specs.InstrumentedPrograms.{instrumented_function}
 use Rattle.null_calls_rules.specs.WithoutSites.{unsited_function}
 use Rattle.null_calls_units_laws.specs.Spelled.{AreAmong}
-use Rattle.c_rules_laws.proofs.Leads.{first_fine, on_fine, fine_leads, parts_first_fine}
+use Rattle.c_rules_laws.proofs.Leads.{first_fine, on_fine, fine_leads}
 use Rattle.c_rules_laws.proofs.Parts.{type_declared_leads}
 use Rattle.null_calls_expressions_laws.specs.Follow.{types_of}
 use Rattle.null_calls_statements_laws.proofs.Numbers.{numbers_stay}
 use Rattle.null_calls_statements_laws.proofs.Nodes.{both_gives}
 use Rattle.null_calls_counts_laws.proofs.StatementTags.{tags_stay}
+use Rattle.null_calls_counts_laws.proofs.Statements.{blocks_stay}
 use Rattle.null_calls_units_laws.specs.FileScopes.{FilesBeside, at_site}
 use Rattle.null_calls_units_laws.proofs.FileNames.{scopes_of, function_declared_leads, function_files}
 use Rattle.null_calls_units_laws.proofs.Items.{tags_files, files_tags}
 use Rattle.c_rules_laws.proofs.Holding.{held}
 use Rattle.c_rules_laws.proofs.UnitFunctions.{ParamsFit, type_fits}
 use Rattle.c_rules_laws.proofs.UnitShape.{output_same, type_same}
+use Rattle.c_rules_laws.proofs.Definitions.{laid_body, definition_fine}
 use Rattle.null_calls_units_laws.proofs.Declared.{among_left, among_right, among_both}
 use Rattle.null_calls_units_laws.specs.Functions.{HasFunctions, BodyFacts, NamedFacts, FunctionFacts, DefinitionsGo}
 use Rattle.null_calls_units_laws.proofs.Temporaries.{all_free}
-use Rattle.null_calls_units_laws.proofs.FunctionBodies.{BodyGoes, body_goes, temporaries_few, right_laid, right_function, laid_right, function_instrumented}
+use Rattle.null_calls_units_laws.proofs.FunctionBodies.{BodyGoes, body_goes, temporaries_few, right_laid, right_function, laid_right, function_instrumented, temporaries_count, variables_right}
 use Rattle.null_calls_units_laws.proofs.Numbers.{plain_numbers}
 use Rattle.null_calls_units_laws.proofs.Parameters.{declared_names, body_files}
 use Rattle.null_calls_units_laws.proofs.FunctionTags.{declared_stand, declared_aside, body_tags, is_in, among_front, among_itself, among_cases, among_later}
+use Rattle.null_calls_units_laws.proofs.Counted.{names_long}
 
 -- ## Scopes of bodies
 
@@ -129,9 +132,17 @@ module _ (p : Program) (enums tags stood : List Name) (e f : Env) (w : FilesBesi
       ∙ plain_numbers items_left (body_env left_env d ts) around b (first_numbers count_here items_left) q facts.lexical h in
       omega (arith, fit, same)
 
+  -- its variables are few
+  few_right : FilesBeside left_env right_env → (left : Function) → defined_as left_env b (place_or at d) d x items_left (function t ts) ≡ fine left → few_variables right_env x d items_right ≡ fine met
+  few_right files left h =
+      let v = on_fine (few_variables left_env x d items_left) (λ _. parts_first (body_of left_env b t d ts items_left) (laid_body left_env b (place_or at d) d x items_left t ts)) left h in
+      variables_right left_env right_env files x d items_left items_right (length temporaries_here) (temporaries_count enums tags stood b.sites (calls_of_block items_left) temporaries_here facts.temporaries low)
+      (names_long tags at temporaries_here (marked_statements.items_of_block (sites_of p) b.sites items_left) ∙ ap (λ ys. length temporaries_here + length ys) (blocks_stay (sites_of p) b.sites items_left facts.named).names_same)
+      v.0 v.1
+
   definition_goes : FilesBeside left_env right_env → (left : Function) → defined_as left_env b (place_or at d) d x items_left (function t ts) ≡ fine left → DefinedGoes left
   definition_goes files left h =
-      let k = first_fine (demand (are_named (parameters_of d)) 3 (place_or at d) met) (body_of left_env b t d ts items_left) (λ _ q. function_laid left_env x t ts q) left (parts_first_fine (body_of left_env b t d ts items_left) (both (demand (are_named (parameters_of d)) 3 (place_or at d) met) (body_of left_env b t d ts items_left) (λ _ q. function_laid left_env x t ts q)) left h) in
+      let k = first_fine (demand (are_named (parameters_of d)) 3 (place_or at d) met) (body_of left_env b t d ts items_left) (λ _ q. function_laid left_env x t ts q) left (definition_fine left_env b (place_or at d) d x items_left t ts left h) in
       let q : StatementTree typed.Stmts = k.1 in
       let us : List CType = types_of temporaries_here in
       let goes : BodyGoes p (sites_of p) tags (body_env left_env d ts) (body_env right_env d ts) b n at count_here items_left around q =
@@ -140,7 +151,8 @@ module _ (p : Program) (enums tags stood : List Name) (e f : Env) (w : FilesBesi
       record {
         right = right_function p x t ts first_here us goes.tree q;
         follows =
-            ap (parts_first (body_of right_env (at_site b n) t d ts items_right))
+            ap (λ r. on r (λ _. parts_first (body_of right_env (at_site b n) t d ts items_right) (laid_body right_env (at_site b n) (place_or at d) d x items_right t ts))) (few_right files left h)
+            ∙ ap (parts_first (body_of right_env (at_site b n) t d ts items_right))
             (both_gives (demand (are_named (parameters_of d)) 3 (place_or at d) met) (body_of right_env (at_site b n) t d ts items_right) (λ _ q. function_laid right_env x t ts q) k.0 (right_laid p x t ts first_here us goes.tree q) k.2 goes.follows
             ∙ laid.0);
         same = function_instrumented p x t ts first_here us goes.tree q goes.none goes.kept goes.instrumented_tree (number q k.3) ∙ ap (instrumented_function p) laid.1;

@@ -51,8 +51,8 @@ names_plain e f (beside env w p m) k (more_params at s d ps) ts g =
     let r : Checked CType = on (type_declared (left env) at s d) (parameter_of (place_or at d)) in
     let q : Checked CType = on (type_declared (right env w) at s d) (parameter_of (place_or at d)) in
     let l : Leads r q = on_leads (type_declared (left env) at s d) (type_declared (right env w) at s d) (parameter_of (place_or at d)) (parameter_of (place_or at d)) (type_declared_leads _ _ (beside env w p m) at s d) (λ t _. same_leads (parameter_of (place_or at d) t)) in
-    let h = first_fine (with_name_demands (left env) (name_of d) r) (parameters (behind_parameter (left env) k (name_of d) r) (suc k) ps) (λ t us. fine (typed.more_types t us)) ts g in
-    (name_plain env (name_of d) r h.0 h.2, names_plain (behind_parameter (left env) k (name_of d) r) (behind_parameter (right env w) k (name_of d) q) (behind_beside env w p m k (name_of d) r q h.0 l h.2) (suc k) ps h.1 h.3)
+    let h = first_fine (with_name_demands (left env) (name_of d) r) (parameters (behind_parameter (left env) k (name_of d) r) k ps) (λ t us. fine (typed.more_types t us)) ts g in
+    (name_plain env (name_of d) r h.0 h.2, names_plain (behind_parameter (left env) k (name_of d) r) (behind_parameter (right env w) k (name_of d) q) (behind_beside env w p m k (name_of d) r q h.0 l h.2) k ps h.1 h.3)
 
 parameter_files : (env : Env) (w : More) (p : AreUnreserved env.names) (q : MeanAlike env.names w.names) (l : HasNullCalls env w) (k : ℕ) (n : Option Ident) (t : CType) → PlainName n → FilesBeside (with_parameter (left env) k n t) (with_parameter (right env w) k n t)
 parameter_files env w p q l k None t u = files_beside env w p q l

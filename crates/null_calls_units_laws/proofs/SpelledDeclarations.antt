@@ -170,7 +170,7 @@ mutual
   parameters_spelled env k (more_params at s d ps) ts m e =
       let r : Checked CType = on (on (type_of_spec env at s) (λ t. declared env d t)) (parameter_of (place_or at d)) in
       let behind = behind_parameter env k (name_of d) r in
-      let b = both_fine (with_name_demands env (name_of d) r) (parameters behind (suc k) ps) (λ t ts. fine (more_types t ts)) ts e in
+      let b = both_fine (with_name_demands env (name_of d) r) (parameters behind k ps) (λ t ts. fine (more_types t ts)) ts e in
       let o = on_fine (on (type_of_spec env at s) (λ t. declared env d t)) (parameter_of (place_or at d)) b.0 (without_name env (name_of d) r b.0 b.2) in
       let q = on_fine (type_of_spec env at s) (λ t. declared env d t) o.0 o.1 in
       let c = on_fine (demand (is_scalar (adjusted o.0)) C3 (place_or at d) met) (λ _. within_parts (place_or at d) (adjusted o.0)) b.0 o.2 in
@@ -180,7 +180,7 @@ mutual
       let is : IsSpelled env.enums env.whole.tags o.0 = declared_spelled env d q.0 o.0 (among_left env.whole.tags (tags_of_declarator d) (tags_of_params ps) rest) (spec_spelled env at s q.0 (among_left env.whole.tags (tags_of_spec s) (tags_of_declarator d ++ tags_of_params ps) m) q.1) q.2 in
       let w = behind_whole env k (name_of d) r in
       let n = behind_enums env k (name_of d) r in
-      let others : AreSpelled behind.enums behind.whole.tags b.1 = parameters_spelled behind (suc k) ps b.1 (subst (λ w. AreAmong w.tags (tags_of_params ps)) (sym w) (among_right env.whole.tags (tags_of_declarator d) (tags_of_params ps) rest)) b.3 in
+      let others : AreSpelled behind.enums behind.whole.tags b.1 = parameters_spelled behind k ps b.1 (subst (λ w. AreAmong w.tags (tags_of_params ps)) (sym w) (among_right env.whole.tags (tags_of_declarator d) (tags_of_params ps) rest)) b.3 in
       let others : AreSpelled env.enums env.whole.tags b.1 = subst (λ w. AreSpelled env.enums w.tags b.1) w (subst (λ n. AreSpelled n behind.whole.tags b.1) n others) in
       let first : IsSpelled env.enums env.whole.tags (adjusted o.0) = adjusted_spelled env.enums env.whole.tags o.0 f.0 is in
       subst (AreSpelled env.enums env.whole.tags) (same_fine {A = CTypes} (more_types b.0 b.1) ts b.4) (subst (λ t. AreSpelled env.enums env.whole.tags (more_types t b.1)) f.1 ((demand_fine (is_scalar (adjusted o.0)) C3 (place_or at d) met c.0 c.1).0, f.0, first, others))

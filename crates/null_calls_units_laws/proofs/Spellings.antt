@@ -105,7 +105,7 @@ mutual
       let e : name_of (declarator_of env.whole.tags at t nothing) ≡ None = spelled_name env.whole.tags at t nothing in
       let r = on (on (type_of_spec env at (spec_of env.whole.tags at t)) (λ u. declared env (declarator_of env.whole.tags at t nothing) u)) (parameter_of (place_or at (declarator_of env.whole.tags at t nothing))) in
       let is : r ≡ fine t = ap (λ c. on c (parameter_of (place_or at (declarator_of env.whole.tags at t nothing)))) (spelled env at t nothing (scalar_bare t h.0) h.2) ∙ passed (place_or at (declarator_of env.whole.tags at t nothing)) t h.0 h.1 in
-      ap (λ o. both (with_name_demands env o r) (parameters (behind_parameter env k o r) (suc k) (params_of env.whole.tags at ts)) (λ t ts. fine (more_types t ts))) e ∙ (ap (λ r. both r (parameters env (suc k) (params_of env.whole.tags at ts)) (λ t ts. fine (more_types t ts))) is ∙ ap (λ c. both (fine t) c (λ t ts. fine (more_types t ts))) (spelled_parameters env at (suc k) ts h.3))
+      ap (λ o. both (with_name_demands env o r) (parameters (behind_parameter env k o r) k (params_of env.whole.tags at ts)) (λ t ts. fine (more_types t ts))) e ∙ (ap (λ r. both r (parameters env k (params_of env.whole.tags at ts)) (λ t ts. fine (more_types t ts))) is ∙ ap (λ c. both (fine t) c (λ t ts. fine (more_types t ts))) (spelled_parameters env at k ts h.3))
 
 pub spellings_declare : SpellingsDeclare
 spellings_declare env at t d s h = spelled env at t d (scalar_bare t s) h

@@ -10,7 +10,7 @@ use Rattle.c_rules.specs.Names.{Name}
 use Rattle.c_rules.specs.Scopes.{Env, Binding, Meaning, a_static, a_local, a_function, an_enumerator, unknown, sized, in_context, Before, nothing_before, binding_of}
 use Rattle.c_rules.specs.Counts.{place_of, calls, after, after_designator}
 use Rattle.c_rules.specs.TypedExpression.{TypedExpression}
-use Rattle.c_rules.specs.Conversions.{valued, complete}
+use Rattle.c_rules.specs.Conversions.{valued}
 use Rattle.c_rules.specs.PrimaryExpressions.{used, object_number, function_number, function_value_number, meant, bound, integer_expression, string_fits}
 use Rattle.c_rules.specs.PostfixExpressions.{site_of, callee_of_type, callee_by_value, called, member_of}
 use Rattle.c_rules.specs.UnaryExpressions.{address, indirection, unary_of_value, size_of, size_of_expression, size_of_type, cast_of, null_cast}
@@ -18,7 +18,8 @@ use Rattle.c_rules.specs.BinaryExpressions.{operator_of_code, sum, choice}
 use Rattle.c_rules.specs.Assignments.{assignable, assignment_by, step, comma_of}
 use Rattle.c_rules.specs.Declarators.{place_of_type, is_void_pointer}
 use Rattle.c_rules.specs.Expressions.{value_at, place_at, callee_meant, callee_bound, callee, access, after_operand, before_operand, unary_rule, infix_rule, cast_rule, tree, trees, type_named, value}
-use Rattle.c_rules_laws.proofs.Holding.{Holds, on_holds, both_hold, all_three_hold, Any, anything, demand_holds, after_part, if_holds}
+use Rattle.c_rules.proofs.Integers.{integer_cases, size_holds}
+use Rattle.c_rules_laws.proofs.Holding.{Holds, on_holds, both_hold, all_three_hold, Any, anything, after_part, if_holds}
 use Rattle.null_calls_units_laws.specs.ClosedTypes.{AreClosed, MeaningHas, ScopeHas, CalleeHas}
 use Rattle.null_calls_units_laws.proofs.TypesOfTypedExpressions.{TypedExpressionHas, ValueHas, ValuesHave, int_has, given_value, valued_typed, called_typed, callee_type, callee_through_typed, address_typed, indirection_typed, unary_typed, cast_typed, null_cast_typed, sum_typed, operation_typed, conjunction_typed, disjunction_typed, choice_typed, assignable_typed, assignment_by_typed, step_typed, comma_typed, member_typed}
 
@@ -35,8 +36,7 @@ module _ (W V : CType → Type 0) (closed : AreClosed W V) where
   bound_typed env at x (Some b) h = meant_typed env at x b.means (h b refl)
 
   integer_typed : (n : ℕ) (u : Bool) → TypedExpressionHas W V (integer_expression n u)
-  integer_typed n true = int_has W V closed _
-  integer_typed n false = int_has W V closed _
+  integer_typed n u = integer_cases (TypedExpressionHas W V) n u (λ _. int_has W V closed _) (int_has W V closed _)
 
   pub value_at_typed : (env : Env) (place : ℕ) (r : Checked TypedExpression) → Holds (TypedExpressionHas W V) r → Holds (ValueHas V) (value_at env place r)
   value_at_typed env place r h = on_holds (TypedExpressionHas W V) (ValueHas V) r (valued env place) h (λ g k. valued_typed W V closed env place g k)
@@ -70,13 +70,13 @@ module _ (W V : CType → Type 0) (closed : AreClosed W V) where
   after_operand_typed env at place post_increment r h = on_holds (TypedExpressionHas W V) (TypedExpressionHas W V) (place_at place r) (step env at Add true) (place_at_typed env place r h) (λ g k. step_typed W V closed env at Add true g k)
   after_operand_typed env at place post_decrement r h = on_holds (TypedExpressionHas W V) (TypedExpressionHas W V) (place_at place r) (step env at Sub true) (place_at_typed env place r h) (λ g k. step_typed W V closed env at Sub true g k)
 
-  size_typed : (env : Env) (at : ℕ) (t : CType) → Holds (TypedExpressionHas W V) (size_of env at t)
-  size_typed env at t = after_part (TypedExpressionHas W V) (complete env at t) _ (λ _. int_has W V closed _)
+  size_typed : (env : Env) (at place : ℕ) (t : CType) → Holds (TypedExpressionHas W V) (size_of env at place t)
+  size_typed env at place t = size_holds (TypedExpressionHas W V) env at place t (λ _. int_has W V closed _)
 
   before_operand_typed : (env : Env) (at place : ℕ) (o : Prefix) (r s : Checked TypedExpression) → Holds (TypedExpressionHas W V) r → Holds (TypedExpressionHas W V) (before_operand env at place o r s)
   before_operand_typed env at place pre_increment r s h = on_holds (TypedExpressionHas W V) (TypedExpressionHas W V) (place_at place r) (step env at Add false) (place_at_typed env place r h) (λ g k. step_typed W V closed env at Add false g k)
   before_operand_typed env at place pre_decrement r s h = on_holds (TypedExpressionHas W V) (TypedExpressionHas W V) (place_at place r) (step env at Sub false) (place_at_typed env place r h) (λ g k. step_typed W V closed env at Sub false g k)
-  before_operand_typed env at place sizeof r s h = after_part (TypedExpressionHas W V) s (size_of_expression env at) (λ g. size_typed env at g.ctype)
+  before_operand_typed env at place sizeof r s h = after_part (TypedExpressionHas W V) s (size_of_expression env at) (λ g. size_typed env at at g.ctype)
 
   unary_rule_typed : (env : Env) (at place o : ℕ) (r : Checked TypedExpression) → Holds (TypedExpressionHas W V) r → Holds (TypedExpressionHas W V) (unary_rule env at place o r)
   unary_rule_typed env at place o r h =
@@ -99,7 +99,7 @@ module _ (W V : CType → Type 0) (closed : AreClosed W V) where
     tree_typed (a_char at c) env w b = int_has W V closed _
     tree_typed (a_str at s) env w b = after_part (TypedExpressionHas W V) (string_fits env.context at b.cells (suc (length s))) _ (λ _. closed.strings (suc (length s)))
     tree_typed (comma at es) env w b = on_holds (ValuesHave V) (TypedExpressionHas W V) (trees env b es) (λ gs. fine (comma_of gs)) (trees_typed es env w b) (λ gs k. comma_typed W V closed gs k)
-    tree_typed (sizeof_type at t) env w b = after_part (TypedExpressionHas W V) (type_named env t) (size_of_type env at (place_of_type t)) (λ u. on_holds (TypedExpressionHas W V) (TypedExpressionHas W V) (size_of env at u) _ (size_typed env at u) (λ g k. demand_holds (TypedExpressionHas W V) _ 13 (place_of_type t) g (λ _. k)))
+    tree_typed (sizeof_type at t) env w b = after_part (TypedExpressionHas W V) (type_named env t) (size_of_type env at (place_of_type t)) (λ u. size_typed env at (place_of_type t) u)
     tree_typed (cast at t e) env w b = cast_rule_typed env (is_void_pointer t) at (type_named env t) (value_at env (place_of e) (tree env b e))
     tree_typed (call at d es) env w b =
         all_three_hold (CalleeHas V) Any (ValuesHave V) (TypedExpressionHas W V) (callee env at d (value_at env (place_of d) (tree env b d))) (site_of env (b.sites + calls d) at) (trees env (after_designator b d) es) (called at)

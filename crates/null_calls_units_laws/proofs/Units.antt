@@ -1,20 +1,21 @@
 -- The unit with null calls round its marked calls is typed.
-use Rattle.std.proofs.Common.{◌≡◌, ℕ, zero, suc, true, false, List, [], ◌++◌, map, replicate, length, Some, None, slice_get, unwrap_or, codes, refl, ap, ap₂, sym, subst, ◌∙◌, arith}
+use Rattle.std.proofs.Common.{◌≡◌, ℕ, zero, suc, true, false, List, [], ◌++◌, map, replicate, length, slice_get, unwrap_or, codes, refl, ap, ap₂, sym, subst, ◌∙◌, arith, ◌^◌, ◌&&◌, nat_lt}
 use Rattle.dm_base.specs.declared.mode.Mode.TheVariants.{Plain, Instrumented}
-use Rattle.c_tree.specs.Tree.{CType, Program}
+use Rattle.c_tree.specs.Tree.{Program}
 use Rattle.c_tree.specs.Program.{IsProgram}
 use Rattle.c_syntax.specs.Tree.{Items}
-use Rattle.c_rules.specs.Checked.{fine, on, demand}
-use Rattle.c_rules.specs.Codes.{C9}
+use Rattle.c_rules.specs.Checked.{fine, on, demand, met}
+use Rattle.c_rules.specs.Codes.{C9, C13}
 use Rattle.c_rules.specs.Names.{Name, number_among, is_reserved, each_once}
-use Rattle.c_rules.specs.Scopes.{Env, Binding, incomplete, defined_struct, types_of_struct, Member, Whole, empty_env, lookup, binding_of, layout_of, nothing_before}
+use Rattle.c_rules.specs.Scopes.{Env, incomplete, defined_struct, types_of_struct, Member, Whole, empty_env, binding_of, layout_of, nothing_before}
 use Rattle.c_rules.specs.Tags.{tags_of_items}
 use Rattle.c_rules.specs.Items.{Output, items, behind_items, after_items}
-use Rattle.c_rules.specs.Units.{functions_of, objects_of, tags_of, whole_of, env_before, env_behind, strings_of, is_main_bound, has_main, static_string, program_of, IsTyped}
+use Rattle.c_rules.specs.Units.{functions_of, objects_of, tags_of, whole_of, env_before, env_behind, strings_of, is_main_bound, has_main, static_string, program_of, IsTyped, few_names}
+use Rattle.c_rules.proofs.CheckedLemmas.{items_fine, names_fine, items_typed}
 use Rattle.null_calls_rules.specs.MarkedCalls.{sites_of}
 use Rattle.null_calls_rules.specs.Temporaries.{pre_name, post_name}
 use Rattle.null_calls_rules.specs.Instrumented as units
-use Rattle.null_calls_rules.specs.Instrumented.{instrumented_unit, null_prototype}
+use Rattle.null_calls_rules.specs.Instrumented.{instrumented_unit}
 use Rattle.null_calls_rules.specs.IsWithNullCalls.{IsWithNullCalls}
 use Rattle.null_calls_units_laws.specs.Spelled.{AreAmong}
 use Rattle.null_calls_units_laws.specs.FileScopes.{FilesBeside, files_beside}
@@ -82,7 +83,7 @@ same_layout e f (files_beside env w p q l) = refl
 
 -- ## The unit
 
-module _ (u : Items) (out : Output) (lexical : IsUnitLexical u) (names : UnitNamesNoType u) (typed : items (env_before Plain u) nothing_before u ≡ fine out) (main : has_main Plain u ≡ true) (n : ℕ) (program : IsProgram (program_of Plain u out) n) where
+module _ (u : Items) (out : Output) (lexical : IsUnitLexical u) (names : UnitNamesNoType u) (few : few_names u ≡ fine met) (typed : items (env_before Plain u) nothing_before u ≡ fine out) (main : has_main Plain u ≡ true) (n : ℕ) (program : IsProgram (program_of Plain u out) n) where
   abbrev p : Program
   p = program_of Plain u out
 
@@ -157,8 +158,8 @@ module _ (u : Items) (out : Output) (lexical : IsUnitLexical u) (names : UnitNam
   env_is : env_before Instrumented new_unit ≡ new_env (whole_of Plain u)
   env_is = ap (λ w. empty_env w) whole_stays
 
-  items_fine : items (env_before Instrumented new_unit) nothing_before new_unit ≡ fine goes.output
-  items_fine = ap (λ e. items e nothing_before new_unit) env_is ∙ items_start (whole_of Plain u) nothing_before later goes.output goes.follows
+  new_items : items (env_before Instrumented new_unit) nothing_before new_unit ≡ fine goes.output
+  new_items = ap (λ e. items e nothing_before new_unit) env_is ∙ items_start (whole_of Plain u) nothing_before later goes.output goes.follows
 
   behind_is : env_behind Instrumented new_unit ≡ behind_items (start (whole_of Plain u)) nothing_before later
   behind_is = ap (λ e. behind_items e nothing_before new_unit) env_is ∙ env_start (whole_of Plain u) nothing_before later
@@ -174,10 +175,15 @@ module _ (u : Items) (out : Output) (lexical : IsUnitLexical u) (names : UnitNam
   layout_stays : layout_of (env_behind Instrumented new_unit) ≡ layout_of (env_behind Plain u)
   layout_stays = ap layout_of behind_is ∙ same_layout (env_behind Plain u) (behind_items (start (whole_of Plain u)) nothing_before later) goes.files
 
+  few_stay : few_names new_unit ≡ fine met
+  few_stay =
+      (λ i. demand (nat_lt (length (functions_stay i)) (2 ^ 31) && (nat_lt (length (objects_stay i)) (2 ^ 31) && nat_lt (length (tags_stay i)) (2 ^ 31))) C13 0 met) ∙ few
+
   new_typed : IsTyped new_unit Instrumented (program_of Instrumented new_unit goes.output)
   new_typed =
-      ap (λ r. on r (λ o. demand (has_main Instrumented new_unit) C9 0 (program_of Instrumented new_unit o))) items_fine
-      ∙ ap (λ t. demand t C9 0 (program_of Instrumented new_unit goes.output)) main_stays
+      items_typed new_unit Instrumented (program_of Instrumented new_unit goes.output) few_stay
+      (ap (λ r. on r (λ o. demand (has_main Instrumented new_unit) C9 0 (program_of Instrumented new_unit o))) new_items
+      ∙ ap (λ t. demand t C9 0 (program_of Instrumented new_unit goes.output)) main_stays)
 
   new_null_calls : IsWithNullCalls (program_of Plain u out) (program_of Instrumented new_unit goes.output)
   new_null_calls =
@@ -189,15 +195,15 @@ module _ (u : Items) (out : Output) (lexical : IsUnitLexical u) (names : UnitNam
 
 pub instrumented_units_typed : InstrumentedUnitsAreTyped
 instrumented_units_typed u p lexical names typed =
-    let i = on_fine (items (env_before Plain u) nothing_before u) (λ q. demand (has_main Plain u) C9 0 (program_of Plain u q)) p typed in
+    let i = on_fine (items (env_before Plain u) nothing_before u) (λ q. demand (has_main Plain u) C9 0 (program_of Plain u q)) p (items_fine u Plain p typed) in
     let j = demand_fine (has_main Plain u) C9 0 (program_of Plain u i.0) p i.2 in
     let program : IsProgram (program_of Plain u i.0) (after_items (env_before Plain u) nothing_before u).sites = subst (λ z. IsProgram z (after_items (env_before Plain u) nothing_before u).sites) (sym j.1) (unit_program u Plain p lexical typed) in
-    subst (λ z. (q : Program) × IsTyped (instrumented_unit z u) Instrumented q × IsWithNullCalls z q) j.1 (unit_goes u i.0 lexical names i.1 j.0 (after_items (env_before Plain u) nothing_before u).sites program)
+    subst (λ z. (q : Program) × IsTyped (instrumented_unit z u) Instrumented q × IsWithNullCalls z q) j.1 (unit_goes u i.0 lexical names (names_fine u Plain p typed) i.1 j.0 (after_items (env_before Plain u) nothing_before u).sites program)
 
 -- what is known of the bodies of a typed unit
 pub typed_facts : (u : Items) (p : Program) → IsUnitLexical u → UnitNamesNoType u → IsTyped u Plain p → UnitFacts p (tags_of u) (env_before Plain u) nothing_before u
 typed_facts u p lexical names typed =
-    let i = on_fine (items (env_before Plain u) nothing_before u) (λ q. demand (has_main Plain u) C9 0 (program_of Plain u q)) p typed in
+    let i = on_fine (items (env_before Plain u) nothing_before u) (λ q. demand (has_main Plain u) C9 0 (program_of Plain u q)) p (items_fine u Plain p typed) in
     let j = demand_fine (has_main Plain u) C9 0 (program_of Plain u i.0) p i.2 in
     let program : IsProgram (program_of Plain u i.0) (after_items (env_before Plain u) nothing_before u).sites = subst (λ z. IsProgram z (after_items (env_before Plain u) nothing_before u).sites) (sym j.1) (unit_program u Plain p lexical typed) in
-    subst (λ z. UnitFacts z (tags_of u) (env_before Plain u) nothing_before u) j.1 (facts u i.0 lexical names i.1 j.0 (after_items (env_before Plain u) nothing_before u).sites program)
+    subst (λ z. UnitFacts z (tags_of u) (env_before Plain u) nothing_before u) j.1 (facts u i.0 lexical names (names_fine u Plain p typed) i.1 j.0 (after_items (env_before Plain u) nothing_before u).sites program)
