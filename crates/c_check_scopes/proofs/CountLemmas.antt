@@ -1,5 +1,5 @@
 -- Numbers of names in lists.
-use Rattle.std.proofs.Common.{◌≡◌, ℕ, zero, suc, ◌+◌, ◌<◌, List, [], ◌∷◌, ◌++◌, length, Option, Some, None, Bool, true, false, cond, slice_get, refl, ap, sym, subst, ◌∙◌, arith}
+use Rattle.std.proofs.Common.{◌≡◌, ℕ, zero, suc, ◌+◌, ◌<◌, ◌≤◌, List, [], ◌∷◌, ◌++◌, length, Option, Some, None, Bool, true, false, cond, slice_get, length-append, refl, ap, sym, subst, ◌∙◌, arith}
 use Rattle.std.specs.Prelude.{option_map, IfSome, IfNone, bytes_eq, codes}
 use Rattle.std.proofs.lemmas.Slice.Eq.{bytes_eq-Decides}
 use Rattle.std.proofs.lemmas.Option.{slice_get-map, slice_get-get_or, slice_get_within}
@@ -52,6 +52,14 @@ told_by ys x (Some i) None a s e = absurd (a i s)
 -- the number of a name that is found
 pub number_told : (ys : List Name) (x : Name) (r : Option ℕ) → IfSome r (λ i. slice_get ys i ≡ Some x) → ((i : ℕ) → slice_get ys i ≡ Some x → r ≡ Some i) → r ≡ number_among ys x
 number_told ys x r s e = told_by ys x r (number_among ys x) (is_at ys x) s e
+
+few_by : (ys : List Name) (x : Name) (o : Option ℕ) → IsAt ys x o → IfSome o (λ i. i < length ys)
+few_by ys x None a = tt
+few_by ys x (Some i) a = slice_get_within ys i x a
+
+-- a number is below the number of names
+pub number_within : (ys : List Name) (x : Name) (i : ℕ) → number_among ys x ≡ Some i → i < length ys
+number_within ys x i q = slice_get_within ys i x (subst (IsAt ys x) q (is_at ys x))
 
 -- ## System calls
 
@@ -151,3 +159,17 @@ given_null m x i is h k = ap Some (ap (λ n. n + i) (sym calls_length)) ∙ (joi
 
 pub given_none : (m : Mode) (x : Name) → m ≡ Instrumented → None ≡ number_among system_calls x → None ≡ number_among null_calls x → None ≡ number_among (given_names m) x
 given_none m x is h k = joined x None None h k ∙ ap (λ z. number_among (given_names z) x) (sym is)
+
+given_count : (m : Mode) → length (given_names m) ≤ 26
+given_count Plain = omega (arith, calls_length)
+given_count Instrumented = omega (arith, calls_length, length-append system_calls null_calls)
+
+some_below : (o : Option ℕ) (n : ℕ) → n ≤ 26 → IfSome o (λ i. i < n) → IfSome o (λ i. i < 26)
+some_below None n h few = tt
+some_below (Some i) n h few = omega (arith, h, few)
+
+-- the numbers of the functions without a definition
+pub given_few : (m : Mode) (x : Name) (r : Option ℕ) → r ≡ number_among (given_names m) x → IfSome r (λ i. i < 26)
+given_few m x r q =
+    let ys : List Name = given_names m in
+    subst (λ o. IfSome o (λ i. i < 26)) (sym q) (some_below (number_among ys x) (length ys) (given_count m) (few_by ys x (number_among ys x) (is_at ys x)))

@@ -1,19 +1,23 @@
 -- What an object takes is at most four bytes for each of its cells.
-use Rattle.std.proofs.Common.{◌≡◌, ◌⊎◌, inl, inr, ℕ, zero, suc, ◌+◌, ◌-◌, ◌*◌, ◌/◌, ◌≤◌, ◌<◌, max, List, [], ◌∷◌, length, drop, get_or, Option, slice_get, refl, ap, sym, subst, ◌∙◌, arith}
+use Rattle.std.proofs.Common.{◌≡◌, ◌⊎◌, inl, inr, ℕ, zero, suc, ◌+◌, ◌-◌, ◌*◌, ◌/◌, ◌≤◌, ◌<◌, max, List, [], ◌∷◌, length, map, drop, get_or, Option, slice_get, refl, ap, sym, subst, ◌∙◌, arith}
 use Rattle.std.specs.Prelude.{◌^◌}
 use Rattle.c_tree.specs.declared.value.IntType.TheVariants.{Char, Uchar, Int, Uint}
 use Rattle.c_tree.specs.Tree.{CType, void, integer, pointer, array, struct, function}
 use Rattle.c_tree.specs.View.{ctype_of}
-use Rattle.c_tree.specs.Layout.{Structs, Extent, members_of, round_up, put_after, extent_with, extent_after, rounded, cells_of_all}
+use Rattle.c_tree.specs.Layout.{Structs, Extent, members_of, struct_cells, cells, round_up, put_after, extent_with, extent_after, rounded, extent, sizeof, cells_of_all}
 use Rattle.c_rules.specs.Limits.{most_cells}
+use Rattle.c_rules.specs.Scopes.{types_of_struct}
 use Rattle.c_check_scopes.specs.declared.structs.StructMember.{StructMember}
 use Rattle.c_check_scopes.specs.declared.structs.Defined.{Defined}
+use Rattle.c_check_scopes.specs.Known.{Known, layout_of}
 use Rattle.c_check_scopes.specs.Shown.{members_types}
+use Rattle.c_check_scopes.specs.View.{structs_of}
 use Rattle.c_check_scopes.specs.Measured.{cells_kept, counted, counted_all, extent_kept, no_extent}
 use Rattle.c_check_scopes.specs.Laid.{AreLaid}
 use Rattle.c_check_scopes.specs.Fitting.{FitsIn, AreFitting, HasRoom}
 use Rattle.c_check_scopes.proofs.ClosedLemmas.{over}
-use Rattle.c_check_scopes.proofs.MeasuredLemmas.{extent_rule}
+use Rattle.c_check_scopes.proofs.MeasuredLemmas.{counted_is, layout_count, extent_rule, struct_extent_is}
+use Rattle.c_check_scopes.proofs.SeenLemmas.{layout_seen}
 use Rattle.c_check_scopes.proofs.LaidLemmas.{structs_in, cells_over, extents_over, cells_of_all_told}
 use Rattle.c_check_scopes.proofs.TableLemmas.{at_place}
 
@@ -111,6 +115,19 @@ over_fits structs (suc depth) s =
     let q : 0 + n ≡ n = omega arith in
     subst (λ k. FitsIn k (extent_rule (over no_extent extent_rule structs depth) (members_of structs s))) q
     (rounded_fits (extent_after (over no_extent extent_rule structs depth) no_extent (members_of structs s)) (0 + n) (after_fits (over no_extent extent_rule structs depth) (over 0 counted_all structs depth) (over_fits structs depth) no_extent 0 (members_of structs s) begins))
+
+-- at most four bytes for each cell of a type
+size_fits : (structs : Structs) (t : CType) → sizeof structs t ≤ 4 * cells structs t
+size_fits structs t =
+    let f : ℕ → Extent = over no_extent extent_rule structs (length structs) in
+    let g : ℕ → ℕ = over 0 counted_all structs (length structs) in
+    let few : counted g t ≡ cells structs t = counted_is g (struct_cells structs) (λ s. sym (layout_count structs (length structs) s)) t in
+    let same : extent structs t ≡ extent_with f t = ap (λ h. extent_with h t) (λ i s. struct_extent_is structs (length structs) s i) in
+    let w : (extent_with f t).size ≤ 4 * counted g t = (type_fits f g (over_fits structs (length structs)) t).size in
+    omega (arith, few, ap (λ (e : Extent). e.size) same, w)
+
+pub size_small : (v : List (Option (List Known))) (t : CType) → cells (map types_of_struct (structs_of v)) t ≤ most_cells → sizeof (layout_of v) t < 2 ^ 32
+size_small v t few = omega (arith, size_fits (layout_of v) t, ap (λ l. cells l t) (layout_seen v), few)
 
 are_fitting : (xs : List (Option Defined)) → AreLaid xs → AreFitting xs
 are_fitting xs h s =

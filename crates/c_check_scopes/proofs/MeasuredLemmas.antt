@@ -6,7 +6,7 @@ use Rattle.c_check_scopes.specs.Held.{AllIn, AllInAll}
 use Rattle.c_check_scopes.specs.Measured.{counted, counted_all, no_extent}
 use Rattle.c_check_scopes.proofs.ClosedLemmas.{over, Looks}
 
-length_repeat : {A : Type 0} (n : ℕ) (xs : List A) → length (repeat n xs) ≡ n * length xs
+pub length_repeat : {A : Type 0} (n : ℕ) (xs : List A) → length (repeat n xs) ≡ n * length xs
 length_repeat zero xs = omega arith
 length_repeat (suc n) xs =
     let h : length (repeat n xs) ≡ n * length xs = length_repeat n xs in

@@ -1,9 +1,10 @@
 -- The structs of an environment as the layout of objects has them.
 use Rattle.std.proofs.Common.{◌≡◌, ℕ, suc, Bool, true, false, ◌||◌, cond, List, [], ◌∷◌, ◌++◌, length, map, Option, Some, None, slice_get, refl, ap, sym, subst, ◌∙◌, Bor}
-use Rattle.std.specs.Prelude.{◌<◌, ◌^◌, option_map, unwrap_or, is_some, IfSome, SomeIff, bytes_eq, reverse}
-use Rattle.std.proofs.lemmas.List.{reverse-append}
+use Rattle.std.specs.Prelude.{◌<◌, ◌^◌, option_map, unwrap_or, is_some, SomeIff, bytes_eq, reverse}
+use Rattle.std.proofs.lemmas.List.{length-map, reverse-append}
 use Rattle.std.proofs.lemmas.Option.{slice_get-map}
-use Rattle.c_tree.specs.Layout.{Structs, cells_of_all}
+use Rattle.c_tree.specs.Layout.{Structs, cells, cells_of_all}
+use Rattle.c_tree.specs.Tree.{struct}
 use Rattle.c_check_scopes.specs.declared.structs.StructMember.{StructMember}
 use Rattle.c_check_scopes.specs.Shown.{defined_in, knowns_of, members_types}
 use Rattle.c_rules.specs.Names.{Name, number_among, is_among}
@@ -32,12 +33,7 @@ known_or (Some o) = refl
 pub struct_at : (v : List (Option (List Known))) (s : ℕ) → unwrap_or (slice_get (structs_of v) s) incomplete ≡ struct_known (unwrap_or (slice_get v s) None)
 struct_at v s = ap (λ o. unwrap_or o incomplete) (slice_get-map struct_known v s) ∙ known_or (slice_get v s)
 
--- what a table of structs tells of an environment
-pub told_of : (F : Structs → ℕ) (v : List (Option (List Known))) (r : Option ℕ) → SomeIff r (F (layout_of v) < 2 ^ 32) (F (layout_of v)) → IfSome r (λ n. n ≡ F (map types_of_struct (structs_of v)))
-told_of F v None h = tt
-told_of F v (Some n) h = h.1 ∙ ap F (sym (layout_seen v))
-
--- the same of a number that is told where it is below 2^32
+-- what a table of structs tells of an environment, where it is below 2^32
 pub number_told : (F : Structs → ℕ) (v : List (Option (List Known))) (r : Option ℕ) → SomeIff r (F (layout_of v) < 2 ^ 32) (F (layout_of v))
     → SomeIff r (F (map types_of_struct (structs_of v)) < 2 ^ 32) (F (map types_of_struct (structs_of v)))
 number_told F v r h = subst (λ l. SomeIff r (F l < 2 ^ 32) (F l)) (sym (layout_seen v)) h
@@ -54,17 +50,28 @@ same_members xs ys h = cc
 not_defined : (xs : List Member) → incomplete ≡ defined_struct xs → ⊥
 not_defined xs h = cc
 
-defined_there : (o : Option (Option (List Known))) (ks : List Known) → struct_known (unwrap_or o None) ≡ defined_struct (map member_of ks) → (us : List Known) × (o ≡ Some (Some us)) × (map type_of us ≡ map type_of ks)
-defined_there None ks h = absurd (not_defined (map member_of ks) h)
-defined_there (Some None) ks h = absurd (not_defined (map member_of ks) h)
-defined_there (Some (Some us)) ks h = (us, refl, sym (types_seen us) ∙ (ap (λ xs. map type_of_member xs) (same_members (map member_of us) (map member_of ks) h) ∙ types_seen ks))
+members_there : (o : Option (Option (List Known))) (ms : List Member) → struct_known (unwrap_or o None) ≡ defined_struct ms → (us : List Known) × (o ≡ Some (Some us)) × (map type_of us ≡ map type_of_member ms)
+members_there None ms h = absurd (not_defined ms h)
+members_there (Some None) ms h = absurd (not_defined ms h)
+members_there (Some (Some us)) ms h = (us, refl, sym (types_seen us) ∙ ap (λ xs. map type_of_member xs) (same_members (map member_of us) ms h))
 
 -- the members of a struct with a definition have few cells
 pub few_members : (v : List (Option (List Known))) (s : ℕ) (ms : List StructMember) → ((ks : List Known) → slice_get v s ≡ Some (Some ks) → cells_of_all (layout_of v) (map type_of ks) < 2 ^ 32)
     → unwrap_or (slice_get (structs_of v) s) incomplete ≡ defined_struct (map member_of (knowns_of ms)) → cells_of_all (map types_of_struct (structs_of v)) (members_types ms) < 2 ^ 32
 few_members v s ms few is =
-    let w = defined_there (slice_get v s) (knowns_of ms) (sym (struct_at v s) ∙ is) in
-    subst (λ l. cells_of_all l (members_types ms) < 2 ^ 32) (sym (layout_seen v)) (subst (λ ts. cells_of_all (layout_of v) ts < 2 ^ 32) w.2 (few w.0 w.1))
+    let w = members_there (slice_get v s) (map member_of (knowns_of ms)) (sym (struct_at v s) ∙ is) in
+    subst (λ l. cells_of_all l (members_types ms) < 2 ^ 32) (sym (layout_seen v)) (subst (λ ts. cells_of_all (layout_of v) ts < 2 ^ 32) (w.2 ∙ types_seen (knowns_of ms)) (few w.0 w.1))
+
+-- a struct with a definition has the cells of its members
+pub whole_seen : (v : List (Option (List Known))) (s : ℕ) (ms : List Member) → ((ks : List Known) → slice_get v s ≡ Some (Some ks) → cells (layout_of v) (struct s) ≡ cells_of_all (layout_of v) (map type_of ks))
+    → unwrap_or (slice_get (structs_of v) s) incomplete ≡ defined_struct ms → cells (map types_of_struct (structs_of v)) (struct s) ≡ cells_of_all (map types_of_struct (structs_of v)) (map type_of_member ms)
+whole_seen v s ms whole is =
+    let w = members_there (slice_get v s) ms (sym (struct_at v s) ∙ is) in
+    subst (λ l. cells l (struct s) ≡ cells_of_all l (map type_of_member ms)) (sym (layout_seen v)) (whole w.0 w.1 ∙ ap (cells_of_all (layout_of v)) w.2)
+
+-- how many structs there are
+pub count_seen : (v : List (Option (List Known))) (n : ℕ) → n ≡ length v → n ≡ length (map types_of_struct (structs_of v))
+count_seen v n is = is ∙ sym (length-map (structs_of v) types_of_struct ∙ length-map v struct_known)
 
 pub struct_told : (v : List (Option (List Known))) (s : ℕ) (r : Option (Bor (List StructMember))) → defined_in r ≡ unwrap_or (slice_get v s) None → unwrap_or (slice_get (structs_of v) s) incomplete ≡ struct_in r
 struct_told v s r h = struct_at v s ∙ ap struct_known (sym h)

@@ -114,14 +114,21 @@ cells_there xs ys v place n q p h kept =
 few_kept : (n m : ℕ) → n ≡ m → n < 2 ^ 32 → m < 2 ^ 32
 few_kept n m is few = omega (arith, is, few)
 
--- the members of a struct with a definition
-pub few_cells : (xs : List (Option Defined)) (v : List (Option (List Known))) (place n : ℕ) (ks : List Known) → shown xs ≡ v → AreLaid xs → n ≡ cells (layout_of v) (struct place) → n < 2 ^ 32 → slice_get v place ≡ Some (Some ks) → cells_of_all (layout_of v) (map type_of ks) < 2 ^ 32
-few_cells xs v place n ks p h is few there =
+-- a struct with a definition has the cells of its members
+pub whole_there : (xs : List (Option Defined)) (v : List (Option (List Known))) (place : ℕ) (ks : List Known) → shown xs ≡ v → AreLaid xs → slice_get v place ≡ Some (Some ks) → cells (layout_of v) (struct place) ≡ cells_of_all (layout_of v) (map type_of ks)
+whole_there xs v place ks p h there =
     let at : slice_get (layout_of v) place ≡ Some (Some (map type_of ks)) = slice_get-map (option_map (map type_of)) v place ∙ ap (option_map (option_map (map type_of))) there in
     let here : slice_get (layout_of (shown xs)) place ≡ Some (Some (map type_of ks)) = ap (λ z. slice_get (layout_of z) place) p ∙ at in
     let whole : cells_kept (slice_get xs place) ≡ cells_of_all (layout_of v) (map type_of ks) = whole_struct xs h place (map type_of ks) here ∙ ap (λ z. cells_of_all (layout_of z) (map type_of ks)) p in
     let kept : cells (layout_of v) (struct place) ≡ cells_kept (slice_get xs place) = sym (h.cells place ∙ ap (λ z. cells (layout_of z) (struct place)) p) in
-    few_kept n (cells_of_all (layout_of v) (map type_of ks)) (is ∙ (kept ∙ whole)) few
+    kept ∙ whole
+
+pub few_cells : (xs : List (Option Defined)) (v : List (Option (List Known))) (place n : ℕ) (ks : List Known) → shown xs ≡ v → AreLaid xs → n ≡ cells (layout_of v) (struct place) → n < 2 ^ 32 → slice_get v place ≡ Some (Some ks) → cells_of_all (layout_of v) (map type_of ks) < 2 ^ 32
+few_cells xs v place n ks p h is few there = few_kept n (cells_of_all (layout_of v) (map type_of ks)) (is ∙ whole_there xs v place ks p h there) few
+
+-- how many structs a table shows
+pub count_shown : (xs : List (Option Defined)) (v : List (Option (List Known))) (n : ℕ) → shown xs ≡ v → n ≡ length xs → n ≡ length v
+count_shown xs v n p is = is ∙ (sym (length-map xs (option_map defined_members)) ∙ ap length p)
 
 abbrev no_types : List CType
 no_types = []

@@ -1,7 +1,7 @@
--- Read in this order: Bound (the names that scopes hold), Known (the members of structs), Shown (what a table of
+-- Read in this order: Numbers (names and strings as they are seen), Bound (the names that scopes hold), Known (the members of structs), Shown (what a table of
 -- structs shows), View (the parts of an environment, as the rules have them), Held (the structs that objects of a type
 -- hold), Extents (sizes and alignments, as the layout has them).
--- For private contracts and proofs alone: Front, Numbers, Prototypes, Index, Measured, Laid, Fitting.
+-- For private contracts and proofs alone: Front, Prototypes, Index, Measured, Laid, Fitting, Strings.
 pub mod Bound
 pub mod Extents
 pub mod Fitting
@@ -14,4 +14,5 @@ pub mod Measured
 pub mod Numbers
 pub mod Prototypes
 pub mod Shown
+pub mod Strings
 pub mod View

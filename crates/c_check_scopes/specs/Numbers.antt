@@ -1,4 +1,4 @@
--- For private contracts and proofs alone: how a map tells the first places of names.
+-- Names and strings as they are seen. For private contracts and proofs alone: how a map tells the first places of names.
 use Rattle.std.specs.Prelude.{◌≡◌, ℕ, List, map, bytes_eq}
 use Rattle.std.specs.Borrow.{Bor}
 use Rattle.indexmap.specs.IndexMap.{IndexMap, get_by}

@@ -1,5 +1,5 @@
 -- What the parts of an environment in Rust are in the rules.
-use Rattle.std.specs.Prelude.{ℕ, List, map, reverse, Option, Some, None}
+use Rattle.std.specs.Prelude.{List, map, reverse, Option, Some, None}
 use Rattle.std.specs.Borrow.{Bor}
 use Rattle.c_tree.specs.View.{ctype_of}
 use Rattle.c_rules.specs.Scopes as rules
@@ -11,7 +11,6 @@ use Rattle.c_check_scopes.specs.declared.scopes.Entry.{Entry}
 use Rattle.c_check_scopes.specs.declared.environment.Context.{Context}
 use Rattle.c_check_scopes.specs.declared.environment.Context.TheVariants as c
 use Rattle.c_check_scopes.specs.declared.environment.Environment.{Environment}
-use Rattle.c_check_scopes.specs.declared.environment.Before.{Before}
 use Rattle.c_check_scopes.specs.Bound.{binding_of, bindings_of}
 
 -- a declaration that was looked up
@@ -59,9 +58,6 @@ env_of e = record {
   context = context_of e.context;
 }
 
-abbrev pub bytes_of : Bor (List ℕ) → List ℕ
-bytes_of b = b.now
-
--- what stands before
-abbrev pub before_of : Before → rules.Before
-before_of b = record { sites = b.sites; strings = map bytes_of b.strings.items; cells = b.cells }
+-- what stands before, which Rust sees as the rules do
+abbrev pub before_of : rules.Before → rules.Before
+before_of b = b

@@ -1,13 +1,15 @@
-ghost use Rattle.std.specs.Prelude.{◌≡◌, ◌<◌, ◌^◌, List, length, map, slice_index_or, IfSome, SomeIff, is_some};
+ghost use Rattle.std.specs.Prelude.{◌≡◌, ◌<◌, ◌≤◌, ◌^◌, ℕ, List, length, map, slice_index_or, SomeIff, is_some};
 ghost use Rattle.c_check_scopes.specs.Shown.{knowns_of, members_types};
 ghost use Rattle.c_check_scopes.specs.declared.structs.StructMember.{StructMember};
+ghost use Rattle.c_rules.specs.Limits.{most_cells};
 ghost use Rattle.c_rules.specs.Names.{is_among};
-ghost use Rattle.c_rules.specs.Scopes.{declared_here, defined_struct, layout_of, struct_of, tag_number};
+ghost use Rattle.c_rules.specs.Scopes.{Member, declared_here, defined_struct, layout_of, struct_of, tag_number, type_of_member};
 ghost use Rattle.c_check_scopes.specs.View.{env_of, member_of, struct_in};
 ghost use Rattle.c_tree.specs.Layout.{cells, cells_of_all, first_cell, sizeof};
 ghost use Rattle.c_tree.specs.Tree.{struct, void};
 ghost use Rattle.c_tree.specs.View.{ctype_of};
 
+use crate::few_names::FewNames;
 use crate::numbering::Numbering;
 use crate::scopes::Scopes;
 use crate::structs::{StructMember, StructTable};
@@ -32,11 +34,11 @@ pub struct Environment<'t> {
     /// The mode in which the unit is read.
     pub mode: Mode,
     /// The names of the functions that the unit defines, in order.
-    pub defined_functions: Numbering<'t>,
+    pub defined_functions: FewNames<'t>,
     /// The names of the static objects that the unit defines, in order.
-    pub objects: Numbering<'t>,
+    pub objects: FewNames<'t>,
     /// The tags of structs of the whole unit, in the order of their numbers.
-    pub struct_tags: Numbering<'t>,
+    pub struct_tags: FewNames<'t>,
     /// The ordinary names.
     pub names: Scopes<'t>,
     /// How many blocks enclose the part.
@@ -51,17 +53,6 @@ pub struct Environment<'t> {
     pub tags: Numbering<'t>,
     /// Whether the part is evaluated.
     pub context: Context,
-}
-
-/// What stands before a part of a unit.
-#[derive(Drop)]
-pub struct Before<'t> {
-    /// So many calls that are evaluated.
-    pub sites: Count,
-    /// The strings that the typed program holds.
-    pub strings: Vec<&'t [u8]>,
-    /// So many cells of static objects and of such strings.
-    pub cells: Count,
 }
 
 impl<'t> Environment<'t> {
@@ -84,6 +75,20 @@ impl<'t> Environment<'t> {
         ensures { result ≡ cells (layout_of (env_of self.now)) (struct place) }
     {
         self.structs.struct_cells(place)
+    }
+
+    /// How many structs the unit has.
+    pub fn struct_count(&self) -> usize
+        ensures { result ≡ length (layout_of (env_of self.now)) }
+    {
+        self.structs.count()
+    }
+
+    /// A struct whose definition stands before has the cells of its members.
+    pub fn have_cells_of_members(&self)
+        ensures { (s : ℕ) (ms : List Member) → struct_of (env_of self.now) s ≡ defined_struct ms → cells (layout_of (env_of self.now)) (struct s) ≡ cells_of_all (layout_of (env_of self.now)) (map type_of_member ms) }
+    {
+        self.structs.have_cells_of_members();
     }
 
     /// The members of a struct whose definition stands before have fewer than 2^32 cells together.
@@ -127,11 +132,15 @@ impl<'t> Environment<'t> {
         self.structs.member_cells(members, k)
     }
 
-    /// What `sizeof` gives for the type (C99 6.5.3.4), where it is below 2^32.
-    pub fn sizeof(&self, t: &CType) -> Option<u32>
-        ensures { IfSome result (λ n. n ≡ sizeof (layout_of (env_of self.now)) (ctype_of t.now)) }
+    /// What `sizeof` gives for the type (C99 6.5.3.4), which is within the limit on cells.
+    pub fn sizeof(&self, t: &CType) -> u32
+        requires few { cells (layout_of (env_of self.now)) (ctype_of t.now) ≤ most_cells }
+        ensures { result ≡ sizeof (layout_of (env_of self.now)) (ctype_of t.now) }
     {
-        self.structs.sizeof(t)
+        match self.structs.sizeof(t) {
+            Some(size) => size,
+            None => unreachable!(),
+        }
     }
 
     /// Whether the name is declared in the innermost scope (C99 6.2.1 paragraph 4).

@@ -7,8 +7,10 @@
 //!   their number.
 #![tactic(auto)]
 
+mod before;
 mod environment;
 mod extents;
+mod few_names;
 mod fronts;
 mod meaning;
 mod measures;
@@ -19,8 +21,10 @@ mod reserved;
 mod scopes;
 mod structs;
 
-pub use environment::{Before, Context, Environment};
+pub use before::{Before, nothing_before};
+pub use environment::{Context, Environment};
 pub use extents::Extent;
+pub use few_names::FewNames;
 pub use meaning::Meaning;
 pub use numbering::Numbering;
 pub use predeclared::{given_number, is_given, is_null_call};

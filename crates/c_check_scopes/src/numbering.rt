@@ -9,7 +9,7 @@ use std::marker::Model;
 /// A list of names, which tells the first place of each.
 #[derive(Drop)]
 pub struct Numbering<'t> {
-    first: IndexMap<&'t [u8], u32>,
+    first: IndexMap<&'t [u8], usize>,
     names: Vec<&'t [u8]>,
 }
 
@@ -44,7 +44,7 @@ impl<'t> Numbering<'t> {
     }
 
     /// The first place of the name, where it stands there.
-    pub fn number(&self, name: &[u8]) -> Option<u32>
+    pub fn number(&self, name: &[u8]) -> Option<usize>
         ensures { result ≡ number_among self.now name.now }
     {
         match self.first.get(name) {
@@ -60,14 +60,11 @@ impl<'t> Numbering<'t> {
         self.number(name).is_some()
     }
 
-    /// Puts the name at the end. `OutOfMemory` comes too where there are 2^32 names.
+    /// Puts the name at the end. The only error is that memory was refused.
     pub fn push(&mut self, name: &'t [u8]) -> Result<(), OutOfMemory>
         ensures { OnOk result (self.new ≡ self.old ++ name.now ∷ []) }
     {
-        if self.names.len() > 4_294_967_295 {
-            return Err(OutOfMemory);
-        }
-        let place = self.names.len() as u32;
+        let place = self.names.len();
         if self.contains(name) {
             self.names.push(name)?;
             return Ok(());
@@ -82,7 +79,7 @@ impl<'t> Numbering<'t> {
         }
     }
 
-    /// Puts the name at the end, where it isn't there yet. `OutOfMemory` comes too where there are 2^32 names.
+    /// Puts the name at the end, where it isn't there yet. The only error is that memory was refused.
     pub fn add(&mut self, name: &'t [u8]) -> Result<(), OutOfMemory>
         ensures { OnOk result (self.new ≡ with_new self.old name.now) }
     {

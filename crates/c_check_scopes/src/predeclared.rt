@@ -1,4 +1,4 @@
-ghost use Rattle.std.specs.Prelude.{◌≡◌};
+ghost use Rattle.std.specs.Prelude.{◌≡◌, ◌<◌, IfSome};
 ghost use Rattle.c_rules.specs.Names.{number_among, is_among, system_calls, null_calls, given_names};
 
 use dm_base::Mode;
@@ -37,7 +37,8 @@ pub fn is_null_call(name: &[u8]) -> bool
 /// The number among the functions that have no definition of the one with this name: the system calls, and in the mode
 /// Instrumented the two null calls.
 pub fn given_number(mode: Mode, name: &[u8]) -> Option<u32>
-    ensures { result ≡ number_among (given_names mode) name.now }
+    ensures told { result ≡ number_among (given_names mode) name.now }
+    ensures few { IfSome result (λ i. i < 26) }
 {
     match system_call(name) {
         Some(number) => Some(number),

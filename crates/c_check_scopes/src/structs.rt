@@ -149,6 +149,20 @@ impl<'t> StructTable<'t> {
         cells_kept(&self.structs, place)
     }
 
+    /// How many structs there are.
+    pub fn count(&self) -> usize
+        ensures { result ≡ length self.now }
+    {
+        self.structs.len()
+    }
+
+    /// A struct with a definition has the cells of its members.
+    pub fn have_cells_of_members(&self)
+        ensures { (s : ℕ) (ks : List Known) → slice_get self.now s ≡ Some (Some ks) → cells (layout_of self.now) (struct s) ≡ cells_of_all (layout_of self.now) (map type_of ks) }
+    {
+        let _count = self.structs.len();
+    }
+
     /// The members of a struct with a definition have fewer than 2^32 cells together.
     pub fn have_few_cells(&self, place: usize)
         ensures { (ks : List Known) → slice_get self.now place ≡ Some (Some ks) → cells_of_all (layout_of self.now) (map type_of ks) < 2 ^ 32 }
