@@ -201,18 +201,28 @@ pub fn unary_of_value(
     }
 }
 
-// `sizeof` of a type. `OutOfMemory` comes too where the size isn't below 2^32.
-fn size_of(env: &Environment<'_>, at: u32, t: &CType) -> Result<TypedExpression, CheckError>
-    ensures { AgreesWith typed_expression_of result (size_of (env_of env.now) at (ctype_of t.now)) }
+// `sizeof` of a type of known size with few cells.
+fn size_of(
+    env: &Environment<'_>,
+    at: u32,
+    place: u32,
+    t: &CType,
+) -> Result<TypedExpression, CheckError>
+    ensures { AgreesWith typed_expression_of result (size_of (env_of env.now) at place (ctype_of t.now)) }
 {
     complete(env, at, t)?;
-    match env.sizeof(t) {
-        Some(n) => Ok(typed_unsigned(n)),
-        None => Err(CheckError::OutOfMemory),
+    match env.cells(t) {
+        Some(cells) => {
+            if cells > 65_536 {
+                return Err(CheckError::At(C13, place));
+            }
+            Ok(typed_unsigned(env.sizeof(t)))
+        }
+        None => Err(CheckError::At(C13, place)),
     }
 }
 
-/// `sizeof` of an expression (C99 6.5.3.4). `OutOfMemory` comes too where the size isn't below 2^32.
+/// `sizeof` of an expression (C99 6.5.3.4).
 pub fn size_of_expression(
     env: &Environment<'_>,
     at: u32,
@@ -220,7 +230,7 @@ pub fn size_of_expression(
 ) -> Result<TypedExpression, CheckError>
     ensures { AgreesWith typed_expression_of result (size_of_expression (env_of env.now) at (typed_expression_of g.now)) }
 {
-    size_of(env, at, &g.ctype)
+    size_of(env, at, at, &g.ctype)
 }
 
 /// `sizeof` of the name of a type at a place (C99 6.5.3.4).
@@ -232,16 +242,7 @@ pub fn size_of_type(
 ) -> Result<TypedExpression, CheckError>
     ensures { AgreesWith typed_expression_of result (size_of_type (env_of env.now) at place (ctype_of t.now)) }
 {
-    complete(env, at, t)?;
-    match env.cells(t) {
-        Some(cells) => {
-            if cells > 65_536 {
-                return Err(CheckError::At(C13, place));
-            }
-            size_of(env, at, t)
-        }
-        None => Err(CheckError::At(C13, place)),
-    }
+    size_of(env, at, place, t)
 }
 
 /// A cast to void, or of an integer to an integer type (C99 6.5.4).

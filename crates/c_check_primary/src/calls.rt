@@ -92,8 +92,7 @@ pub fn callee_by_name(
 ) -> Result<Callee, CheckError>
     ensures { AgreesWith callee_of result (callee_by_name (env_of env.now) at name.now (ctype_of t.now)) }
 {
-    let number = function_number(env, name)?;
-    let f = used(env.context, at, number)?;
+    let f = used(env.context, at, function_number(env, name))?;
     callee_of_type(alloc, at, t, f)
 }
 

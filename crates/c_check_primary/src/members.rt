@@ -67,7 +67,7 @@ fn member_placed(
 ) -> Result<TypedExpression, OutOfMemory>
     ensures { IfOk result (λ r. typed_expression_of r ≡ record { ctype = ctype_of t.now; form = a_place (field (ctype_of t.now) first (tree_of (typed_expression_of g))); constant = constant_member first cells (typed_expression_of g).constant }) }
 {
-    let constant = constant_member(first, cells, g.constant)?;
+    let constant = constant_member(first, cells, g.constant);
     let ctype = copy_type(alloc, t)?;
     let copied = copy_type(alloc, t)?;
     let tree = g.into_tree(alloc)?;
@@ -81,7 +81,7 @@ fn member_placed(
     })
 }
 
-// The member with this number. `OutOfMemory` comes too where the number of a cell of a constant address isn't below 2^32.
+// The member with this number.
 fn member_given(
     alloc: Global,
     env: &Environment<'_>,

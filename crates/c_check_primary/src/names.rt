@@ -1,15 +1,18 @@
 ghost use Rattle.std.specs.Prelude.{◌≡◌, IfOk};
 ghost use Rattle.c_check_values.specs.Agreement.{AgreesWith};
-ghost use Rattle.c_check_values.specs.View.{typed_expression_of};
+ghost use Rattle.c_check_values.specs.View.{constant_of, typed_expression_of};
+ghost use Rattle.c_rules.specs.Constants.{static_address};
 ghost use Rattle.c_rules.specs.Names.{number_among, given_names};
 ghost use Rattle.c_rules.specs.PrimaryExpressions.{given_number, used, object_number, function_number, function_value_number, static_given, local_given, typed_function, typed_int, meant, named_expression, integer_expression};
+ghost use Rattle.c_rules.specs.Scopes.{layout_of};
 ghost use Rattle.c_check_scopes.specs.Bound.{meaning_of};
 ghost use Rattle.c_check_scopes.specs.View.{context_of, env_of};
+ghost use Rattle.c_tree.specs.Layout.{cells};
 ghost use Rattle.c_tree.specs.View.{ctype_of};
 
 use c_check_scopes::{Context, Environment, Meaning, given_number, is_null_call};
 use c_check_values::{
-    C1, C10, C12, CheckError, Constant, Form, TypedExpression, address_of_static, typed_unsigned,
+    C1, C10, C12, CheckError, Constant, Form, TypedExpression, static_address, typed_unsigned,
 };
 use c_tree::{CType, IntType, TExpr, TExprKind, Value, copy_type};
 use dm_base::OutOfMemory;
@@ -29,31 +32,22 @@ pub fn used(context: Context, at: u32, number: Option<u32>) -> Result<u32, Check
     }
 }
 
-// The number of a function that has no definition. `OutOfMemory` comes too where it isn't below 2^32.
-fn number_of_given(env: &Environment<'_>, name: &[u8]) -> Result<Option<u32>, OutOfMemory>
-    ensures { IfOk result (λ r. r ≡ given_number (env_of env.now) (number_among (given_names env.now.mode) name.now)) }
+// The number of a function that has no definition.
+fn number_of_given(env: &Environment<'_>, name: &[u8]) -> Option<u32>
+    ensures { result ≡ given_number (env_of env.now) (number_among (given_names env.now.mode) name.now) }
 {
     match given_number(env.mode, name) {
-        None => Ok(None),
-        Some(i) => {
-            let count = env.defined_functions.len();
-            let Some(number) = count.checked_add(i as usize) else {
-                return Err(OutOfMemory);
-            };
-            match u32::try_from(number) {
-                Ok(n) => Ok(Some(n)),
-                Err(_) => Err(OutOfMemory),
-            }
-        }
+        Some(i) => Some(env.defined_functions.len() as u32 + i),
+        None => None,
     }
 }
 
 // Functions are numbered in the order of their definitions; after them stand the system calls and the two null calls.
-pub fn function_number(env: &Environment<'_>, name: &[u8]) -> Result<Option<u32>, OutOfMemory>
-    ensures { IfOk result (λ r. r ≡ function_number (env_of env.now) name.now) }
+pub fn function_number(env: &Environment<'_>, name: &[u8]) -> Option<u32>
+    ensures { result ≡ function_number (env_of env.now) name.now }
 {
     match env.defined_functions.number(name) {
-        Some(n) => Ok(Some(n)),
+        Some(n) => Some(n),
         None => number_of_given(env, name),
     }
 }
@@ -65,11 +59,20 @@ fn function_value_number(env: &Environment<'_>, at: u32, name: &[u8]) -> Result<
     if is_null_call(name) {
         return Err(CheckError::At(C12, at));
     }
-    let number = function_number(env, name)?;
-    used(env.context, at, number)
+    used(env.context, at, function_number(env, name))
 }
 
-// A static object. `OutOfMemory` comes too where its cells aren't fewer than 2^32.
+// The address of a static object of this type.
+fn address_of_object(env: &Environment<'_>, whole: &CType, number: u32) -> Constant
+    ensures { constant_of result ≡ static_address number (cells (layout_of (env_of env.now)) (ctype_of whole.now)) }
+{
+    match env.cells(whole) {
+        Some(cells) => static_address(number, cells),
+        None => Constant::Undefined,
+    }
+}
+
+// A static object.
 fn static_given(
     alloc: Global,
     env: &Environment<'_>,
@@ -79,9 +82,7 @@ fn static_given(
 ) -> Result<TypedExpression, OutOfMemory>
     ensures { IfOk result (λ g. typed_expression_of g ≡ static_given (env_of env.now) (ctype_of seen.now) (ctype_of whole.now) number) }
 {
-    let Some(cells) = env.cells(whole) else {
-        return Err(OutOfMemory);
-    };
+    let constant = address_of_object(env, whole, number);
     let ctype = copy_type(alloc, seen)?;
     let whole = copy_type(alloc, whole)?;
     Ok(TypedExpression {
@@ -93,7 +94,7 @@ fn static_given(
                 number,
             },
         }),
-        constant: Constant::Known(address_of_static(number, cells)),
+        constant,
     })
 }
 
@@ -194,15 +195,12 @@ pub fn named_expression(
     }
 }
 
-/// An integer constant (C99 6.4.4.1). `OutOfMemory` comes where the value of an int is above 2^31 − 1.
-pub fn integer_expression(n: u32, unsigned: bool) -> Result<TypedExpression, OutOfMemory>
-    ensures { IfOk result (λ g. typed_expression_of g ≡ integer_expression n unsigned) }
+/// An integer constant (C99 6.4.4.1), which is unsigned where no int has its value.
+pub fn integer_expression(n: u32, unsigned: bool) -> TypedExpression
+    ensures { typed_expression_of result ≡ integer_expression n unsigned }
 {
-    if unsigned {
-        return Ok(typed_unsigned(n));
+    if unsigned || n >= 2_147_483_648 {
+        return typed_unsigned(n);
     }
-    match i32::try_from(n) {
-        Ok(z) => Ok(typed_int(z)),
-        Err(_) => Err(OutOfMemory),
-    }
+    typed_int(n as i32)
 }

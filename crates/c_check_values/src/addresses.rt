@@ -1,13 +1,13 @@
-ghost use Rattle.std.specs.Prelude.{◌≡◌, ◌+◌, ◌*◌, ◌/◌, pos, ◌≤ℤ◌, ◌<ℤ◌, neg_ℤ, IfOk};
+ghost use Rattle.std.specs.Prelude.{◌≡◌, ℕ, ◌<◌, ◌+◌, ◌*◌, ◌/◌, ◌^◌, pos, ◌≤ℤ◌, ◌<ℤ◌, neg_ℤ, SomeIff};
 ghost use Rattle.c_check_values.specs.Moved.{moved_value};
 ghost use Rattle.c_tree.specs.declared.value.Value.TheVariants.{At};
 ghost use Rattle.c_check_values.specs.View.{constant_of};
-ghost use Rattle.c_rules.specs.Constants.{address_of_static, number_of, part_of, constant_member, constant_decayed, moved, constant_moved};
+ghost use Rattle.c_rules.specs.Constants.{address_of_static, static_address, number_of, is_within, part_of, constant_member, constant_decayed, moved, constant_moved};
+ghost use Rattle.c_rules.specs.Limits.{most_cells};
 
 use crate::operators::number_of;
 use crate::typed_expression::Constant;
 use c_tree::{ObjectName, Pointer, Value};
-use dm_base::OutOfMemory;
 
 /// The address of the static object with this number and so many cells (C99 6.6 paragraph 9).
 pub fn address_of_static(number: u32, cells: u32) -> Value
@@ -25,50 +25,73 @@ pub fn address_of_static(number: u32, cells: u32) -> Value
     })
 }
 
-// The cell of an object that stands so many cells behind what an address leads to.
-fn cell_behind(q: &Pointer, from: u32) -> Result<u32, OutOfMemory>
-    ensures { IfOk result (λ n. n ≡ (q.now.first + q.now.index * q.now.width) + from) }
+/// The same, where an object may have so many cells.
+pub fn static_address(number: u32, cells: u32) -> Constant
+    ensures { constant_of result ≡ static_address number cells }
 {
-    let Some(offset) = q.index.checked_mul(q.width) else {
-        return Err(OutOfMemory);
+    if cells > 65_536 {
+        return Constant::Undefined;
+    }
+    Constant::Known(address_of_static(number, cells))
+}
+
+// The cell of an object that stands so many cells behind what an address leads to, where it is below 2^32.
+fn cell_behind(q: &Pointer, from: u32) -> Option<u32>
+    ensures { SomeIff result ((q.now.first + q.now.index * q.now.width) + from < 2 ^ 32) ((q.now.first + q.now.index * q.now.width) + from) }
+{
+    let offset = q.index.checked_mul(q.width)?;
+    let first = q.first.checked_add(offset)?;
+    first.checked_add(from)
+}
+
+// Whether an object may have so many elements of so many cells from a cell on.
+fn is_within(first: u32, width: u32, elements: u32) -> bool
+    ensures { result ≡ is_within first width elements }
+{
+    if width > 65_536 {
+        return false;
+    }
+    let Some(cells) = elements.checked_mul(width) else {
+        return false;
     };
-    let Some(first) = q.first.checked_add(offset) else {
-        return Err(OutOfMemory);
-    };
-    let Some(cell) = first.checked_add(from) else {
-        return Err(OutOfMemory);
-    };
-    Ok(cell)
+    match first.checked_add(cells) {
+        Some(end) => end <= 65_536,
+        None => false,
+    }
 }
 
 // A part of what an address leads to: from this cell of it on, so many elements of so many cells.
-fn part_of(q: &Pointer, from: u32, width: u32, elements: u32) -> Result<Constant, OutOfMemory>
-    ensures { IfOk result (λ c. constant_of c ≡ part_of q.now from width elements) }
+fn part_of(q: &Pointer, from: u32, width: u32, elements: u32) -> Constant
+    ensures { constant_of result ≡ part_of q.now from width elements }
 {
     if q.index >= q.elements {
-        return Ok(Constant::Undefined);
+        return Constant::Undefined;
     }
-    let first = cell_behind(q, from)?;
-    Ok(Constant::Known(Value::At(Pointer {
+    let Some(first) = cell_behind(q, from) else {
+        return Constant::Undefined;
+    };
+    if !is_within(first, width, elements) {
+        return Constant::Undefined;
+    }
+    Constant::Known(Value::At(Pointer {
         name: q.name,
         first,
         width,
         elements,
         index: 0,
-    })))
+    }))
 }
 
-/// The address of a member that begins at this cell of the struct and has so many cells. `OutOfMemory` comes where a
-/// cell's number isn't below 2^32.
-pub fn constant_member(from: u32, cells: u32, c: Constant) -> Result<Constant, OutOfMemory>
-    ensures { IfOk result (λ r. constant_of r ≡ constant_member from cells (constant_of c)) }
+/// The address of a member that begins at this cell of the struct and has so many cells.
+pub fn constant_member(from: u32, cells: u32, c: Constant) -> Constant
+    ensures { constant_of result ≡ constant_member from cells (constant_of c) }
 {
     match c {
-        Constant::Not => Ok(Constant::Not),
-        Constant::Undefined => Ok(Constant::Undefined),
+        Constant::Not => Constant::Not,
+        Constant::Undefined => Constant::Undefined,
         Constant::Known(value) => match value {
             Value::At(q) => part_of(&q, from, cells, 1),
-            _ => Ok(Constant::Undefined),
+            _ => Constant::Undefined,
         },
     }
 }
@@ -84,24 +107,33 @@ fn elements_in(width: u32, cells: u32) -> u32
 }
 
 // An array as a pointer to the first of its elements.
-fn first_element(q: &Pointer, cells: u32) -> Result<Constant, OutOfMemory>
-    ensures { IfOk result (λ r. constant_of r ≡ part_of q.now 0 cells (q.now.width / cells)) }
+fn first_element(q: &Pointer, cells: u32) -> Constant
+    ensures { constant_of result ≡ part_of q.now 0 cells (q.now.width / cells) }
 {
     part_of(q, 0, cells, elements_in(q.width, cells))
 }
 
-/// The address of the first element of an array whose elements have so many cells. `OutOfMemory` comes where a cell's
-/// number isn't below 2^32.
-pub fn constant_decayed(cells: u32, c: Constant) -> Result<Constant, OutOfMemory>
-    ensures { IfOk result (λ r. constant_of r ≡ constant_decayed cells (constant_of c)) }
+/// The address of the first element of an array whose elements have so many cells.
+pub fn constant_decayed(cells: u32, c: Constant) -> Constant
+    ensures { constant_of result ≡ constant_decayed cells (constant_of c) }
 {
     match c {
-        Constant::Not => Ok(Constant::Not),
-        Constant::Undefined => Ok(Constant::Undefined),
+        Constant::Not => Constant::Not,
+        Constant::Undefined => Constant::Undefined,
         Constant::Known(value) => match value {
             Value::At(q) => first_element(&q, cells),
-            _ => Ok(Constant::Undefined),
+            _ => Constant::Undefined,
         },
+    }
+}
+
+/// The same, where its elements have more cells than an object may have.
+pub fn constant_decayed_past(c: Constant) -> Constant
+    ensures { (cells : ℕ) → most_cells < cells → constant_of result ≡ constant_decayed cells (constant_of c) }
+{
+    match c {
+        Constant::Not => Constant::Not,
+        _ => Constant::Undefined,
     }
 }
 

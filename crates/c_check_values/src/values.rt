@@ -1,5 +1,5 @@
 ghost use Rattle.std.specs.Prelude.{◌≡◌, IfOk};
-ghost use Rattle.c_check_values.specs.View.{typed_expression_of};
+ghost use Rattle.c_check_values.specs.View.{constant_of, typed_expression_of};
 ghost use Rattle.c_rules.specs.Constants.{constant_decayed};
 ghost use Rattle.c_rules.specs.Conversions.{loaded, null_of};
 ghost use Rattle.c_rules.specs.TypedExpression.{not_constant, typed_value, tree_of};
@@ -10,7 +10,7 @@ ghost use Rattle.c_tree.specs.Layout.{cells};
 ghost use Rattle.c_tree.specs.Tree.{load, pointer, decay};
 ghost use Rattle.c_tree.specs.View.{ctype_of};
 
-use crate::addresses::constant_decayed;
+use crate::addresses::{constant_decayed, constant_decayed_past};
 use crate::typed_expression::{Constant, Form, TypedExpression, typed_value};
 use crate::types::pointer_to;
 use c_check_scopes::Environment;
@@ -42,8 +42,17 @@ pub fn loaded(alloc: Global, g: TypedExpression) -> Result<TypedExpression, OutO
     }
 }
 
-/// An array of such elements as a pointer to its first element (C99 6.3.2.1 paragraph 3). `OutOfMemory` comes too where
-/// a number of cells isn't below 2^32.
+// The address of the first of such elements of an array.
+fn first_address(env: &Environment<'_>, element: &CType, c: Constant) -> Constant
+    ensures { constant_of result ≡ constant_decayed (cells (layout_of (env_of env.now)) (ctype_of element.now)) (constant_of c) }
+{
+    match env.cells(element) {
+        Some(cells) => constant_decayed(cells, c),
+        None => constant_decayed_past(c),
+    }
+}
+
+/// An array of such elements as a pointer to its first element (C99 6.3.2.1 paragraph 3).
 pub fn decayed_array(
     alloc: Global,
     env: &Environment<'_>,
@@ -52,10 +61,7 @@ pub fn decayed_array(
 ) -> Result<TypedExpression, OutOfMemory>
     ensures { IfOk result (λ r. typed_expression_of r ≡ typed_value (pointer (ctype_of element)) (decay (pointer (ctype_of element)) (tree_of (typed_expression_of g))) (constant_decayed (cells (layout_of (env_of env.now)) (ctype_of element)) (typed_expression_of g).constant)) }
 {
-    let Some(cells) = env.cells(&element) else {
-        return Err(OutOfMemory);
-    };
-    let constant = constant_decayed(cells, g.constant)?;
+    let constant = first_address(env, &element, g.constant);
     let pointer = pointer_to(alloc, &element)?;
     let tree = g.into_tree(alloc)?;
     typed_value(

@@ -4,7 +4,7 @@ use Rattle.c_check_scopes.specs.View.{env_of}
 use Rattle.c_tree.specs.Layout.{cells}
 use Rattle.c_tree.specs.View.{ctype_of}
 use Rattle.c_check_assignments.proofs.SizeLemmas.{complete_and_many}
-use Rattle.c_check_assignments.proofs.operators.size_of_type.Goals as goal
+use Rattle.c_check_assignments.proofs.operators.size_of.Goals as goal
 
 pub returns-then-cells-gt65536 : goal.returns-then-cells-gt65536
 returns-then-cells-gt65536 c =
