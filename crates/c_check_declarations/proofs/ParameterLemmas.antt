@@ -1,15 +1,14 @@
 -- Parameters of Rust, one after another.
-use Rattle.std.proofs.Common.{◌≡◌, ℕ, suc, ◌+◌, ◌-◌, ◌<◌, ◌≤◌, Bool, true, false, List, [], ◌∷◌, length, take, drop, get_or, Bor, Option, Some, None, Vec, Global, Result, Ok, Err, IfOk, OnOk, refl, sym, ap, ◌∙◌, arith}
+use Rattle.std.proofs.Common.{◌≡◌, ℕ, suc, ◌+◌, ◌-◌, ◌<◌, ◌≤◌, Bool, true, false, List, [], ◌∷◌, length, take, drop, get_or, Bor, Option, Some, None, Vec, Global, Result, Ok, Err, IfOk, OnOk, refl, sym, subst, ap, ◌∙◌, arith}
 use Rattle.std.specs.Prelude.{Box, ◌&&◌, is_some, not}
 use Rattle.std.proofs.lemmas.List.{take_all}
 use Rattle.c_check_counts.specs.declared.numbers.Next.{Next as NextTree}
-use Rattle.c_check_counts.specs.Numbered.{next_of}
+use Rattle.c_check_counts.specs.Numbered.{AreFirst}
 use Rattle.c_check_counts.specs.Seen.{ident_seen}
 use Rattle.c_check_counts.proofs.Rows.{function_is}
 use Rattle.c_check_declarations.specs.Named.{name_of_param, stands_alone}
 use Rattle.c_rules.specs.Functions.{parameters_of, is_named, are_named, count_params, with_parameter, with_parameters}
 use Rattle.c_rules.specs.Scopes.{Env}
-use Rattle.c_rules.specs.Variables.{first_numbers}
 use Rattle.c_syntax.specs.declared.tree.Declarator.{Declarator as DeclaratorTree}
 use Rattle.c_syntax.specs.declared.tree.DeclaratorKind.TheVariants.{Function}
 use Rattle.c_syntax.specs.declared.tree.Ident.{Ident as Named}
@@ -21,6 +20,7 @@ use Rattle.c_syntax.specs.Writes.{params_of, declarator_behind}
 use Rattle.c_tree.specs.declared.tree.CType.{CType as TypeTree}
 use Rattle.c_tree.specs.View.{ctype_of, types_of}
 use Rattle.c_check_scopes.proofs.NumberLemmas.{not_so}
+use Rattle.dm_base.specs.declared.mode.Mode.{Mode}
 
 -- ## Those of a declarator
 
@@ -68,11 +68,14 @@ params_count : (ps : List ParamTree) → count_params (params_of ps) ≡ length 
 params_count [] = refl
 params_count (Param' s held at ∷ ps) = ap suc (params_count ps)
 
--- the numbers behind so many parameters
-pub numbers_as : {X : Type 0} (r : Result NextTree X) (n : ℕ) (ps : List ParamTree) (params : Params) (body : BlockItems) → n ≡ length ps → params_of ps ≡ params
-    → IfOk r (λ x. next_of x ≡ first_numbers n body) → IfOk r (λ x. next_of x ≡ first_numbers (count_params params) body)
-numbers_as (Ok x) n ps params body count seen h = h ∙ ap (λ k. first_numbers k body) (count ∙ (sym (params_count ps) ∙ ap count_params seen))
-numbers_as (Err e) n ps params body count seen h = h
+pub params_long : (ps : List ParamTree) (qs : Params) → params_of ps ≡ qs → length ps ≡ count_params qs
+params_long ps qs seen = sym (params_count ps) ∙ ap count_params seen
+
+-- the numbers behind these parameters
+pub numbers_as : {X : Type 0} (r : Result (Option NextTree) X) (m : Mode) (ps : List ParamTree) (qs : Params) (body : BlockItems) → params_of ps ≡ qs → IfOk r (AreFirst m (length ps) body)
+    → IfOk r (AreFirst m (count_params qs) body)
+numbers_as (Ok x) m ps qs body seen h = subst (λ k. AreFirst m k body x) (params_long ps qs seen) h
+numbers_as (Err e) m ps qs body seen h = h
 
 -- ## Scopes
 
@@ -81,29 +84,3 @@ none_declared e k [] ts lt = refl
 none_declared e k (Param' s Param-declarator-None' at ∷ ps) [] lt = refl
 none_declared e k (Param' s (Param-declarator-Some' here kind) at ∷ ps) [] lt = refl
 none_declared e k ps (t ∷ ts) lt = absurd (omega (arith, lt))
-
-declared_more : (e : Env) (k : ℕ) (p : ParamTree) (ps : List ParamTree) (t : TypeTree) (ts : List TypeTree)
-    → with_parameters e k (params_of (p ∷ ps)) (types_of (t ∷ ts)) ≡ with_parameters (with_parameter e k (name_of_param p) (ctype_of t)) (suc k) (params_of ps) (types_of ts)
-unfolding out-Param denote.Hole.Carrier.out
-declared_more e k (Param' s Param-declarator-None' at) ps t ts = refl
-declared_more e k (Param' s (Param-declarator-Some' here kind) at) ps t ts = refl
-
-declared_step : (e e1 new : Env) (k next : ℕ) (ps : List ParamTree) (ts : List TypeTree) (p : ParamTree) (t : TypeTree) → 1 ≤ length ps → 1 ≤ length ts → p ≡ get_or ps 0 p → t ≡ get_or ts 0 t
-    → e1 ≡ with_parameter e k (name_of_param p) (ctype_of t) → next ≡ suc k
-    → new ≡ with_parameters e1 next (params_of (take (length ps - 1) (drop 1 ps))) (types_of (take (length ts - 1) (drop 1 ts))) → new ≡ with_parameters e k (params_of ps) (types_of ts)
-declared_step e e1 new k next [] ts p t lp lt is it first following rest = absurd (omega (arith, lp))
-declared_step e e1 new k next (q ∷ qs) [] p t lp lt is it first following rest = absurd (omega (arith, lt))
-declared_step e e1 new k next (q ∷ qs) (u ∷ us) p t lp lt is it first following rest =
-    rest
-    ∙ (ap (λ xs. with_parameters e1 next (params_of xs) (types_of (take (length (u ∷ us) - 1) (drop 1 (u ∷ us))))) (all_but_one q qs)
-    ∙ (ap (λ ys. with_parameters e1 next (params_of qs) (types_of ys)) (all_but_one u us)
-    ∙ (ap (λ d. with_parameters d next (params_of qs) (types_of us)) first
-    ∙ (ap (λ y. with_parameters (with_parameter e k (name_of_param y) (ctype_of t)) next (params_of qs) (types_of us)) is
-    ∙ (ap (λ y. with_parameters (with_parameter e k (name_of_param q) (ctype_of y)) next (params_of qs) (types_of us)) it
-    ∙ (ap (λ n. with_parameters (with_parameter e k (name_of_param q) (ctype_of u)) n (params_of qs) (types_of us)) following ∙ sym (declared_more e k q qs u us)))))))
-
-pub declared_all : {X : Type 0} (r : Result (Unit {0}) X) (e e1 new : Env) (k next : ℕ) (ps : List ParamTree) (ts : List TypeTree) (p : ParamTree) (t : TypeTree) → 1 ≤ length ps → 1 ≤ length ts → p ≡ get_or ps 0 p → t ≡ get_or ts 0 t
-    → e1 ≡ with_parameter e k (name_of_param p) (ctype_of t) → next ≡ suc k
-    → OnOk r (new ≡ with_parameters e1 next (params_of (take (length ps - 1) (drop 1 ps))) (types_of (take (length ts - 1) (drop 1 ts)))) → OnOk r (new ≡ with_parameters e k (params_of ps) (types_of ts))
-declared_all (Ok x) e e1 new k next ps ts p t lp lt is it first following rest = declared_step e e1 new k next ps ts p t lp lt is it first following rest
-declared_all (Err x) e e1 new k next ps ts p t lp lt is it first following rest = rest

@@ -40,7 +40,7 @@ pub fn count_object(
     ensures { OnOk result (before_of before.new ≡ after_object (env_of env.now) (before_of before.old) (ctype_of t.now)) }
 {
     match env.cells(t) {
-        Some(own) => before.cells.add(own as usize),
+        Some(own) => before.count_cells(own),
         None => unreachable!(),
     }
 }

@@ -33,7 +33,7 @@ fn few_static(
     let Some(own) = env.cells(t) else {
         return Err(CheckError::At(C13, x.at));
     };
-    let Some(cells) = before.cells.number() else {
+    let Some(cells) = before.cells().number() else {
         return Err(CheckError::At(C13, x.at));
     };
     let Some(all) = cells.checked_add(own) else {

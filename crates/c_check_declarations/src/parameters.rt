@@ -1,15 +1,15 @@
-ghost use Rattle.std.specs.Prelude.{◌≡◌, length, IfOk};
-ghost use Rattle.c_check_counts.specs.Numbered.{next_of};
+ghost use Rattle.std.specs.Prelude.{◌≡◌, IfOk};
+ghost use Rattle.c_check_counts.specs.Numbered.{AreFirst};
 ghost use Rattle.c_check_counts.specs.Seen.{ident_seen};
 ghost use Rattle.c_check_declarations.specs.Named.{name_of_param, stands_alone};
-ghost use Rattle.c_rules.specs.Functions.{parameters_of, is_named, are_named, count_params, body_numbers, items_of_body};
+ghost use Rattle.c_rules.specs.Functions.{parameters_of, is_named, are_named, count_params, items_of_body};
 ghost use Rattle.c_syntax.specs.UnitView.{stmt_of};
 ghost use Rattle.c_syntax.specs.View.{declarator_of};
 ghost use Rattle.c_syntax.specs.Writes.{declarator_behind, params_of};
 
 use c_check_counts::{Next, first_numbers, name_of};
 use c_syntax::{Declarator, DeclaratorKind, Ident, Param, Stmt};
-use dm_base::OutOfMemory;
+use dm_base::{Mode, OutOfMemory};
 use std::alloc::Global;
 
 // Whether it is a name alone.
@@ -79,13 +79,15 @@ pub fn are_named(ps: &[Param]) -> bool
     }
 }
 
-/// The first numbers of the variables in the body of the function that the declarator declares. `OutOfMemory` comes too where a number
-/// would be 2^32.
-pub fn body_numbers(alloc: Global, d: &Declarator, body: &Stmt) -> Result<Next, OutOfMemory>
-    ensures { IfOk result (λ n. next_of n ≡ body_numbers (declarator_of d.now) (items_of_body (stmt_of body.now))) }
+/// The first numbers of the variables in the body of the function that the declarator declares, where these and its parameters aren't too
+/// many variables together (C99 5.2.4.1).
+pub fn body_numbers(
+    alloc: Global,
+    mode: Mode,
+    d: &Declarator,
+    body: &Stmt,
+) -> Result<Option<Next>, OutOfMemory>
+    ensures { IfOk result (AreFirst mode (count_params (parameters_of (declarator_of d.now))) (items_of_body (stmt_of body.now))) }
 {
-    let Ok(count) = u32::try_from(parameters_of(d).len()) else {
-        return Err(OutOfMemory);
-    };
-    first_numbers(alloc, count, body)
+    first_numbers(alloc, mode, parameters_of(d), body)
 }

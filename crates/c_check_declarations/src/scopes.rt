@@ -1,6 +1,6 @@
-ghost use Rattle.std.specs.Prelude.{◌≡◌, OnOk};
+ghost use Rattle.std.specs.Prelude.{◌≡◌, ◌+◌, ◌<◌, ◌^◌, length, OnOk};
 ghost use Rattle.c_check_declarations.specs.Named.{name_of_param};
-ghost use Rattle.c_rules.specs.Functions.{with_parameter, with_parameters, body_env};
+ghost use Rattle.c_rules.specs.Functions.{body_env, count_params, parameters_of, with_parameter, with_parameters};
 ghost use Rattle.c_rules.specs.Scopes.{inside};
 ghost use Rattle.c_check_scopes.specs.View.{env_of};
 ghost use Rattle.c_syntax.specs.View.{declarator_of};
@@ -51,6 +51,7 @@ fn declare_parameters<'t>(
     ps: &'t [Param],
     ts: &[CType],
 ) -> Result<(), OutOfMemory>
+    requires { number + length ps.now < 2 ^ 32 }
     ensures { OnOk result (env_of env.new ≡ with_parameters (env_of env.old) number (params_of ps.now) (types_of ts.now)) }
 {
     match ps {
@@ -59,10 +60,7 @@ fn declare_parameters<'t>(
             [] => Ok(()),
             [t, ts @ ..] => {
                 declare_parameter(alloc, env, number, p, t)?;
-                let Some(next) = number.checked_add(1) else {
-                    return Err(OutOfMemory);
-                };
-                declare_parameters(alloc, env, next, ps, ts)
+                declare_parameters(alloc, env, number + 1, ps, ts)
             }
         },
     }
@@ -76,6 +74,7 @@ pub fn enter_body<'t>(
     d: &'t Declarator,
     ts: &[CType],
 ) -> Result<(), OutOfMemory>
+    requires { count_params (parameters_of (declarator_of d.now)) < 2 ^ 32 }
     ensures { OnOk result (env_of env.new ≡ body_env (env_of env.old) (declarator_of d.now) (types_of ts.now)) }
 {
     let depth = env.depth.one_more()?;

@@ -1,16 +1,15 @@
 ghost use Rattle.std.specs.Prelude.{◌≡◌, IfOk};
 ghost use Rattle.c_check_values.specs.Agreement.{AgreesWith};
-ghost use Rattle.c_check_declarations.specs.Texts.{text_seen};
-ghost use Rattle.c_rules.specs.Checked.{met, on};
-ghost use Rattle.c_rules.specs.Initialisers.{count_inits, text_fits, text_of};
+ghost use Rattle.c_check_declarations.specs.Texts.{sized_by_count, text_seen};
+ghost use Rattle.c_rules.specs.Checked.{fine, met, on};
+ghost use Rattle.c_rules.specs.Initialisers.{text_fits, text_of};
 ghost use Rattle.c_rules.specs.Objects.{sized_by_one, sized_by_init, sized_by, with_size};
 ghost use Rattle.c_syntax.specs.UnitView.{init_of, maybe_init_of};
 ghost use Rattle.c_syntax.specs.View.{expr_of};
-ghost use Rattle.c_syntax.specs.WritesUnit.{inits_of};
 ghost use Rattle.c_tree.specs.Tree.{array};
 ghost use Rattle.c_tree.specs.View.{ctype_of};
 
-use c_check_values::{C14, CheckError, few_cells};
+use c_check_values::{C13, C14, CheckError, few_cells};
 use c_syntax::{Expr, ExprKind, Init, InitKind};
 use c_tree::{CType, IntType, copy_type};
 use dm_base::OutOfMemory;
@@ -26,24 +25,6 @@ pub fn text_of(e: &Expr) -> Option<&[u8]>
     }
 }
 
-// So many elements as a number of 32 bits.
-fn counted(count: usize) -> Result<u32, OutOfMemory>
-    ensures { IfOk result (λ n. n ≡ count) }
-{
-    match u32::try_from(count) {
-        Ok(n) => Ok(n),
-        Err(_) => Err(OutOfMemory),
-    }
-}
-
-// The same of the parts of a list of initialisers.
-#[tactic(auto, using(crate::proofs::ObjectLemmas::count_is))]
-fn count_inits(inits: &[Init]) -> Result<u32, OutOfMemory>
-    ensures { IfOk result (λ n. n ≡ count_inits (inits_of inits.now)) }
-{
-    counted(inits.len())
-}
-
 // An array of so many elements.
 fn array_with(alloc: Global, t: CType, size: u32) -> Result<CType, OutOfMemory>
     ensures { IfOk result (λ u. ctype_of u ≡ array (ctype_of t) size) }
@@ -51,17 +32,15 @@ fn array_with(alloc: Global, t: CType, size: u32) -> Result<CType, OutOfMemory>
     Ok(CType::Array(Box::new(alloc, t)?, size))
 }
 
-// The array of char that a string fills, its zero among the elements (C99 6.7.8 paragraphs 14 and 22).
+// The array of char that a string fills, its zero among the elements (C99 6.7.8 paragraphs 14 and 22); the string is within its limit.
 fn sized_by_one(alloc: Global, at: u32, t: &CType, text: Option<&[u8]>) -> Result<CType, CheckError>
+    requires fits { text_fits at (text_seen text) ≡ fine met }
     ensures { AgreesWith ctype_of result (sized_by_one at (ctype_of t.now) (text_seen text.entry)) }
 {
     match t {
         CType::Int(IntType::Char) => match text {
             Some(bytes) => {
-                let length = counted(bytes.len())?;
-                let Some(size) = length.checked_add(1) else {
-                    return Err(CheckError::OutOfMemory);
-                };
+                let size = bytes.len() as u32 + 1;
                 Ok(CType::Array(Box::new(alloc, CType::Int(IntType::Char))?, size))
             }
             None => Err(CheckError::At(C14, at)),
@@ -89,17 +68,23 @@ fn sized_by_text(alloc: Global, at: u32, t: &CType, e: &Expr) -> Result<CType, C
     sized_by_one(alloc, at, t, text)
 }
 
+// An array with so many elements of this type, within the limit on the cells of an object.
+fn sized_by_count(alloc: Global, name: u32, t: CType, count: usize) -> Result<CType, CheckError>
+    ensures { AgreesWith ctype_of result (sized_by_count name (ctype_of t) count) }
+{
+    if count > 65536 {
+        return Err(CheckError::At(C13, name));
+    }
+    Ok(array_with(alloc, t, count as u32)?)
+}
+
 // The array with elements of this type that an initialiser gives its size.
-fn sized_by_init(alloc: Global, t: CType, i: &Init) -> Result<CType, CheckError>
-    ensures { AgreesWith ctype_of result (sized_by_init (ctype_of t) (init_of i.now)) }
+fn sized_by_init(alloc: Global, name: u32, t: CType, i: &Init) -> Result<CType, CheckError>
+    ensures { AgreesWith ctype_of result (sized_by_init name (ctype_of t) (init_of i.now)) }
 {
     match &i.kind {
         InitKind::One(e) => sized_by_text(alloc, i.at, &t, e),
-        InitKind::List(inits) => {
-            let size = count_inits(inits)?;
-            let whole = array_with(alloc, t, size)?;
-            Ok(whole)
-        }
+        InitKind::List(inits) => sized_by_count(alloc, name, t, inits.len()),
     }
 }
 
@@ -108,13 +93,12 @@ fn sized_by(alloc: Global, name: u32, t: CType, m: &Option<Init>) -> Result<CTyp
     ensures { AgreesWith ctype_of result (sized_by name (ctype_of t) (maybe_init_of m.now)) }
 {
     match m {
-        Some(i) => sized_by_init(alloc, t, i),
+        Some(i) => sized_by_init(alloc, name, t, i),
         None => Err(CheckError::At(C14, name)),
     }
 }
 
 /// The type of an object; an array without a size has the size 0 until here, and that of its initialiser behind it (C99 6.7.8 paragraph 22).
-/// `OutOfMemory` comes too where that isn't below 2^32.
 pub fn with_size(alloc: Global, name: u32, m: &Option<Init>, t: CType) -> Result<CType, CheckError>
     ensures { AgreesWith ctype_of result (with_size name (maybe_init_of m.now) (ctype_of t)) }
 {

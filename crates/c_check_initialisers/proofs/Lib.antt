@@ -1,3 +1,4 @@
+pub mod LengthLemmas
 pub mod SlotLemmas
 pub mod StoreLemmas
 pub mod ZeroLemmas

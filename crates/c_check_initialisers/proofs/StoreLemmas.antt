@@ -1,5 +1,5 @@
 -- Stores of cells one after another.
-use Rattle.std.proofs.Common.{◌≡◌, ℕ, zero, suc, ◌+◌, List, [], ◌∷◌, ◌++◌, length, refl, ap, sym, ◌∙◌, arith}
+use Rattle.std.proofs.Common.{◌≡◌, suc, ◌+◌, List, [], ◌∷◌, ◌++◌, length, refl, ap, sym, ◌∙◌, arith}
 use Rattle.std.proofs.lemmas.List.{length_push, nil_from_length}
 use Rattle.c_check_initialisers.specs.CellView.{typed_expressions_of}
 use Rattle.c_check_initialisers.specs.Left.{stores_before}
@@ -8,7 +8,7 @@ use Rattle.c_check_values.specs.View.{typed_expression_of}
 use Rattle.c_rules.specs.TypedExpression.{TypedExpression, tree_of}
 use Rattle.c_rules.specs.Initialisers.{stores_from}
 use Rattle.c_tree.specs.declared.tree.TInit.{TInit}
-use Rattle.c_tree.specs.Tree.{Inits, no_inits, more_inits, Expr}
+use Rattle.c_tree.specs.Tree.{Inits, no_inits, more_inits}
 use Rattle.c_tree.specs.View.{expr_of, inits_of}
 
 pub before_none : (xs : List TInit) → stores_before xs no_inits ≡ inits_of xs
@@ -36,6 +36,9 @@ store_on all xs ys x old rest g is grown before at given =
     (λ i. stores_before (grown i) (stores_from (length (grown i)) (typed_expressions_of rest)))
     ∙ (ap (λ n. stores_before (xs ++ x ∷ []) (stores_from n (typed_expressions_of rest))) (length_push xs x)
     ∙ store_more all xs x (typed_expression_of g) (typed_expressions_of rest) (ap (λ l. stores_before xs (stores_from (length xs) (typed_expressions_of l))) (sym is) ∙ before) at given)
+
+pub store_pushed : (xs ys : List TInit) (x : TInit) → ys ≡ xs ++ x ∷ [] → length ys ≡ length xs + 1
+store_pushed xs ys x grown = ap length grown ∙ length_push xs x
 
 pub store_end : (all : Inits) (xs : List TInit) (old : List TypedExpressionTree) → length old ≡ 0 → stores_before xs (stores_from (length xs) (typed_expressions_of old)) ≡ all → inits_of xs ≡ all
 store_end all xs old none before =

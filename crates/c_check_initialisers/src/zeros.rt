@@ -25,23 +25,22 @@ fn add_zero(alloc: Global, t: &CType, cells: &mut Vec<TypedExpression>) -> Resul
     Ok(())
 }
 
-// Adds the zeros of an object of the type, which holds arrays and structs fewer levels deep than this. `OutOfMemory` comes too where it
-// doesn't.
+// Adds the zeros of an object of the type, with structs at most so many deep.
 #[cycle(zeros)]
 fn add_zeros(
     alloc: Global,
     env: &Environment<'_>,
-    levels: u32,
+    depth: usize,
     t: &CType,
     cells: &mut Vec<TypedExpression>,
 ) -> Result<(), OutOfMemory>
-    ensures { OnOk result (AddsZeros (layout_of (env_of env.now)) levels (ctype_of t.now) (typed_expressions_of cells.old.items) (typed_expressions_of cells.new.items)) }
+    ensures { OnOk result (AddsZeros (layout_of (env_of env.now)) depth (ctype_of t.now) (typed_expressions_of cells.old.items) (typed_expressions_of cells.new.items)) }
 {
     match t {
         CType::Int(_) => add_zero(alloc, t, cells),
         CType::Pointer(_) => add_zero(alloc, t, cells),
-        CType::Array(element, n) => add_copies(alloc, env, levels, element, *n, cells),
-        CType::Struct(s) => add_struct(alloc, env, levels, *s, cells),
+        CType::Array(element, n) => add_copies(alloc, env, depth, element, *n, cells),
+        CType::Struct(s) => add_struct(alloc, env, depth, *s, cells),
         _ => Ok(()),
     }
 }
@@ -51,18 +50,15 @@ fn add_zeros(
 fn add_copies(
     alloc: Global,
     env: &Environment<'_>,
-    levels: u32,
+    depth: usize,
     element: &CType,
     n: u32,
     cells: &mut Vec<TypedExpression>,
 ) -> Result<(), OutOfMemory>
-    ensures { OnOk result (AddsZeros (layout_of (env_of env.now)) levels (array (ctype_of element.now) n) (typed_expressions_of cells.old.items) (typed_expressions_of cells.new.items)) }
+    ensures { OnOk result (AddsZeros (layout_of (env_of env.now)) depth (array (ctype_of element.now) n) (typed_expressions_of cells.old.items) (typed_expressions_of cells.new.items)) }
 {
-    let Some(inner) = levels.checked_sub(1) else {
-        return Err(OutOfMemory);
-    };
     for _ in 0..n {
-        add_zeros(alloc, env, inner, element, cells)?;
+        add_zeros(alloc, env, depth, element, cells)?;
     }
     Ok(())
 }
@@ -72,14 +68,14 @@ fn add_copies(
 fn add_struct(
     alloc: Global,
     env: &Environment<'_>,
-    levels: u32,
+    depth: usize,
     s: u32,
     cells: &mut Vec<TypedExpression>,
 ) -> Result<(), OutOfMemory>
-    ensures { OnOk result (AddsZeros (layout_of (env_of env.now)) levels (struct s) (typed_expressions_of cells.old.items) (typed_expressions_of cells.new.items)) }
+    ensures { OnOk result (AddsZeros (layout_of (env_of env.now)) depth (struct s) (typed_expressions_of cells.old.items) (typed_expressions_of cells.new.items)) }
 {
-    let Some(inner) = levels.checked_sub(1) else {
-        return Err(OutOfMemory);
+    let Some(inner) = depth.checked_sub(1) else {
+        return Ok(());
     };
     match env.members(s) {
         Some(members) => add_members(alloc, env, inner, members, cells),
@@ -92,20 +88,19 @@ fn add_struct(
 fn add_members(
     alloc: Global,
     env: &Environment<'_>,
-    levels: u32,
+    depth: usize,
     members: &[StructMember<'_>],
     cells: &mut Vec<TypedExpression>,
 ) -> Result<(), OutOfMemory>
-    ensures { OnOk result (AddsAllZeros (layout_of (env_of env.now)) levels (members_types members.now) (typed_expressions_of cells.old.items) (typed_expressions_of cells.new.items)) }
+    ensures { OnOk result (AddsAllZeros (layout_of (env_of env.now)) depth (members_types members.now) (typed_expressions_of cells.old.items) (typed_expressions_of cells.new.items)) }
 {
     for member in members {
-        add_zeros(alloc, env, levels, &member.ctype, cells)?;
+        add_zeros(alloc, env, depth, &member.ctype, cells)?;
     }
     Ok(())
 }
 
-/// The cells of an object of the type without an initialiser (C99 6.7.8 paragraphs 10 and 21). `OutOfMemory` comes too where it has 2^32
-/// cells.
+/// The cells of an object of the type without an initialiser (C99 6.7.8 paragraphs 10 and 21).
 pub fn zero_cells(
     alloc: Global,
     env: &Environment<'_>,
@@ -114,12 +109,6 @@ pub fn zero_cells(
     ensures { IfOk result (λ cells. typed_expressions_of cells.items ≡ map typed_zero (flat (layout_of (env_of env.now)) (ctype_of t.now))) }
 {
     let mut cells = Vec::new(alloc);
-    add_zeros(alloc, env, u32::MAX, t, &mut cells)?;
-    let Some(count) = env.cells(t) else {
-        return Err(OutOfMemory);
-    };
-    if cells.len() != count as usize {
-        return Err(OutOfMemory);
-    }
+    add_zeros(alloc, env, env.struct_count(), t, &mut cells)?;
     Ok(cells)
 }
