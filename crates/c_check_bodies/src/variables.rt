@@ -1,14 +1,17 @@
-ghost use Rattle.std.specs.Prelude.{◌≡◌, IfOk};
+ghost use Rattle.std.specs.Prelude.{◌≡◌, ◌≤◌, ◌∷◌, [], length, IfOk};
 ghost use Rattle.c_check_initialisers.specs.CellView.{typed_expressions_of};
-ghost use Rattle.c_check_counts.specs.Numbered.{next_of};
+ghost use Rattle.c_check_counts.specs.Numbered.{HaveNumbers, next_of};
 ghost use Rattle.c_check_bodies.specs.StatementTreeView.{statement_tree_of};
 ghost use Rattle.c_check_bodies.specs.VariablesView.{one_declared, variables_of};
 ghost use Rattle.c_rules.specs.Blocks.{laid_variable, past_part};
+ghost use Rattle.c_rules.specs.Declarators.{name_of};
+ghost use Rattle.c_rules.specs.Limits.{most_cells};
+ghost use Rattle.c_rules.specs.Variables.{name_or_empty};
 ghost use Rattle.c_syntax.specs.View.{declarator_of};
 ghost use Rattle.c_tree.specs.View.{ctype_of};
 
 use crate::statement_tree::{StatementTree, Variables, with_variables};
-use c_check_counts::{Next, name_of};
+use c_check_counts::{Next, bytes_of_name};
 use c_check_initialisers::stores_of;
 use c_check_scopes::is_added;
 use c_check_values::TypedExpression;
@@ -35,7 +38,8 @@ fn one_variable(alloc: Global, name: &[u8], t: CType) -> Result<Variables, OutOf
     })
 }
 
-/// The declaration of a variable with this name, number and type, and its cells (C99 6.7.8).
+/// The declaration of a variable with this name, number and type, and its cells (C99 6.7.8), which are within the limit on those of an
+/// object.
 pub fn laid_variable(
     alloc: Global,
     name: &[u8],
@@ -43,6 +47,7 @@ pub fn laid_variable(
     t: CType,
     cells: Vec<TypedExpression>,
 ) -> Result<StatementTree, OutOfMemory>
+    requires few { length cells.items ≤ most_cells }
     ensures { IfOk result (λ l. statement_tree_of l ≡ laid_variable name.now number (ctype_of t) (typed_expressions_of cells.items)) }
 {
     let variables = one_variable(alloc, name, t)?;
@@ -57,16 +62,10 @@ pub fn laid_variable(
     )
 }
 
-/// The next numbers behind the variable that the declarator declares. `OutOfMemory` comes too where one would be 2^32.
-pub fn past_part(next: Next, d: &Declarator) -> Result<Next, OutOfMemory>
-    ensures { IfOk result (λ n. next_of n ≡ past_part (next_of next) (declarator_of d.now)) }
+/// The next numbers behind the variable that the declarator declares.
+pub fn past_part(next: Next, d: &Declarator) -> Next
+    requires { HaveNumbers (next_of next) (name_or_empty (name_of (declarator_of d.now)) ∷ []) }
+    ensures { next_of result ≡ past_part (next_of next) (declarator_of d.now) }
 {
-    let past = match name_of(d) {
-        Some(x) => next.past(x.name.as_slice()),
-        None => next.past(&[]),
-    };
-    match past {
-        Some(n) => Ok(n),
-        None => Err(OutOfMemory),
-    }
+    next.past(bytes_of_name(d))
 }

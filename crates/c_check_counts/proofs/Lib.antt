@@ -1,4 +1,5 @@
 pub mod Lists
 pub mod NameLemmas
+pub mod NextLemmas
 pub mod Nodes
 pub mod Rows

@@ -1,31 +1,28 @@
 -- What the trees of Rust that hold lists, boxes or optional parts are seen as.
-use Rattle.std.proofs.Common.{◌≡◌, ℕ, List, ◌∷◌, Option, Some, None, Vec, Global, refl, ap, sym, ◌∙◌}
+use Rattle.std.proofs.Common.{◌≡◌, ℕ, Option, Some, None, Vec, Global, refl, ap, sym, ◌∙◌}
 use Rattle.std.specs.Prelude.{Box}
-use mathlib.Core.Former.{Count}
 use Rattle.c_syntax.specs.declared.tree.Expr.{Expr as ExprTree}
-use Rattle.c_syntax.specs.declared.tree.ExprKind.{ExprKind, Comma', Row_of-Expr, end_of-Expr, more_of-Expr, items-the_row-Expr, items_hidden-the_row-Expr-1}
+use Rattle.c_syntax.specs.declared.tree.ExprKind.{items_hidden-the_row-Expr-1}
 use Rattle.c_syntax.specs.declared.tree.ExprKind.TheVariants.{Comma, Call}
 use Rattle.c_syntax.specs.declared.tree.TypeName.{TypeName as TypeTree, TypeName', out-TypeName, Param-declarator-None', Param-declarator-Some'}
 use Rattle.c_syntax.specs.declared.tree.Param.{Param as ParamTree, Param', out-Param}
 use Rattle.c_syntax.specs.declared.tree.Declarator.{Declarator as DeclaratorTree}
-use Rattle.c_syntax.specs.declared.tree.DeclaratorKind.{DeclaratorKind, Function', Row_of-Param, end_of-Param, more_of-Param, items-the_row-Param, items_hidden-the_row-Param-0}
-use Rattle.c_syntax.specs.declared.tree.DeclaratorKind.TheBlock.{back-DeclaratorKind-Pointer-0, back-DeclaratorKind-Array-1}
+use Rattle.c_syntax.specs.declared.tree.DeclaratorKind.TheBlock.{back-DeclaratorKind-Array-1}
 use Rattle.c_syntax.specs.declared.tree.DeclaratorKind.TheVariants.{Pointer, Array, Function}
 use Rattle.c_syntax.specs.declared.tree.Init.{Init as InitTree}
-use Rattle.c_syntax.specs.declared.tree.InitKind.{InitKind, List', Row_of-Init, end_of-Init, more_of-Init, items-the_row-Init, items_hidden-the_row-Init-0}
 use Rattle.c_syntax.specs.declared.tree.InitKind.TheVariants.{List as listed}
 use Rattle.c_syntax.specs.declared.tree.BlockItem.{BlockItem}
 use Rattle.c_syntax.specs.declared.tree.Stmt.{Stmt as StmtTree}
-use Rattle.c_syntax.specs.declared.tree.StmtKind.{StmtKind, Block', Switch', Row_of-BlockItem, end_of-BlockItem, more_of-BlockItem, items-the_row-BlockItem, items_hidden-the_row-BlockItem-0, Row_of-Group, end_of-Group, more_of-Group, items-the_row-Group, items_hidden-the_row-Group-1}
+use Rattle.c_syntax.specs.declared.tree.StmtKind.{items_hidden-the_row-Group-1}
 use Rattle.c_syntax.specs.declared.tree.StmtKind.TheVariants.{Block, If, Switch}
-use Rattle.c_syntax.specs.declared.tree.Group.{Group, Group', out-Group, Row_of-Stmt, end_of-Stmt, more_of-Stmt, items-the_row-Stmt, items_shown-the_row-Stmt-2}
-use Rattle.c_syntax.specs.Tree.{comma, call, more_exprs, type_name, pointer, array, function, Params, more_params, list, more_inits, block, switch_on, Groups, more_stmts, more_groups}
-use Rattle.c_syntax.specs.View.{spec_of, expr_at, expr_of, exprs_of_row, type_name_of, declarator_at, declarator_of, inner_declarator, held_declarator, maybe_size, params_of_row, param_before}
-use Rattle.c_syntax.specs.UnitView.{init_at, inits_of_row, stmt_at, stmt_of, if_with, block_items_of_row, block_item_before, groups_of_row, group_before, stmts_of_row, labels_of}
+use Rattle.c_syntax.specs.declared.tree.Group.{Group, Group', out-Group, items_shown-the_row-Stmt-2}
+use Rattle.c_syntax.specs.Tree.{comma, call, type_name, pointer, array, function, Params, more_params, list, block, switch_on, Groups, more_groups}
+use Rattle.c_syntax.specs.View.{spec_of, expr_at, expr_of, exprs_of_row, type_name_of, declarator_at, maybe_size, params_of_row, param_before}
+use Rattle.c_syntax.specs.UnitView.{init_at, stmt_at, stmt_of, if_with, groups_of_row, group_before, labels_of}
 use Rattle.c_syntax.specs.Writes.{exprs_of, params_of, declarator_in, declarator_behind, expr_behind}
 use Rattle.c_syntax.specs.WritesUnit.{inits_of, block_items_of, stmts_of, groups_of, else_behind}
-use Rattle.c_syntax.proofs.Rows.{exprs_row, row_in, inner_is, params_row, params_row_in, params_in}
-use Rattle.c_syntax.proofs.UnitRows.{inits_row, inits_row_in, inits_in, block_items_row, block_items_row_in, block_items_in, groups_row, groups_row_in, stmts_row}
+use Rattle.c_syntax.proofs.Rows.{exprs_row, row_in, inner_is, params_row_in, params_in}
+use Rattle.c_syntax.proofs.UnitRows.{inits_in, block_items_in, groups_row, groups_row_in, stmts_row}
 
 -- ## Expressions
 

@@ -7,6 +7,6 @@ mod names;
 mod numbers;
 mod units;
 
-pub use names::name_of;
+pub use names::{bytes_of_name, name_of};
 pub use numbers::{Next, first_numbers};
 pub use units::{functions_of, objects_of};

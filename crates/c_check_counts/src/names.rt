@@ -37,7 +37,7 @@ fn inner_name(inner: &Option<Box<Declarator>>) -> Option<&Ident>
     }
 }
 
-// The bytes of the name that a declarator declares; none where no name stands.
+/// The bytes of the name that a declarator declares; none where no name stands.
 pub fn bytes_of_name(d: &Declarator) -> &[u8]
     ensures { result.now ≡ name_or_empty (name_of (declarator_of d.now)) }
 {

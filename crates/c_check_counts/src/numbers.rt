@@ -1,14 +1,15 @@
-ghost use Rattle.std.specs.Prelude.{◌≡◌, ◌<◌, ◌≤◌, IfOk, IfSome, IfNone};
+ghost use Rattle.std.specs.Prelude.{◌≡◌, ◌∷◌, [], ◌≤◌, length, IfOk};
 ghost use Rattle.c_syntax.specs.UnitView.{stmt_of};
 ghost use Rattle.c_rules.specs.Functions.{items_of_body};
-ghost use Rattle.c_rules.specs.Variables.{first_numbers, number_in, past_name, past_names};
-ghost use Rattle.c_check_counts.specs.Numbered.{next_of};
+ghost use Rattle.c_rules.specs.Limits.{most_local_cells};
+ghost use Rattle.c_rules.specs.Variables.{names_of_block, number_in, past_name, past_names};
+ghost use Rattle.c_check_counts.specs.Numbered.{AreFirst, HaveNumbers, next_of};
 ghost use Rattle.c_check_counts.specs.Seen.{seen};
 
 use crate::names::add_names;
 use c_check_scopes::is_added;
-use c_syntax::Stmt;
-use dm_base::OutOfMemory;
+use c_syntax::{Param, Stmt};
+use dm_base::{Mode, OutOfMemory};
 use std::alloc::Global;
 
 /// The numbers that the next variables of a function have. The instrumenter's variables are numbered after all others, so the
@@ -32,58 +33,86 @@ impl Next {
         self.plain
     }
 
-    /// The next numbers behind a variable with this name; None where its own is 2^32 − 1.
-    pub fn past(self, name: &[u8]) -> Option<Next>
-        ensures some { IfSome result (λ n. next_of n ≡ past_name (next_of self) name.now) }
-        ensures none { IfNone result (number_in (next_of self) name.now ≡ 4294967295) }
+    /// The next numbers behind a variable with this name.
+    pub fn past(self, name: &[u8]) -> Next
+        requires { HaveNumbers (next_of self) (name.now ∷ []) }
+        ensures { next_of result ≡ past_name (next_of self) name.now }
     {
         if is_added(name) {
-            return match self.added.checked_add(1) {
-                Some(added) => Some(Next {
-                    plain: self.plain,
-                    added,
-                }),
-                None => None,
+            return Next {
+                plain: self.plain,
+                added: self.added + 1,
             };
         }
-        match self.plain.checked_add(1) {
-            Some(plain) => Some(Next {
-                plain,
-                added: self.added,
-            }),
-            None => None,
+        Next {
+            plain: self.plain + 1,
+            added: self.added,
         }
     }
 }
 
 // The next numbers behind variables with these names.
-fn past_all(next: Next, names: &[&[u8]]) -> Result<Next, OutOfMemory>
-    ensures { IfOk result (λ n. next_of n ≡ past_names (next_of next) (seen names.now)) }
+fn past_all(next: Next, names: &[&[u8]]) -> Next
+    requires { HaveNumbers (next_of next) (seen names.now) }
+    ensures { next_of result ≡ past_names (next_of next) (seen names.now) }
 {
     let mut reached = next;
     for name in names {
-        let Some(past) = reached.past(name) else {
-            return Err(OutOfMemory);
-        };
-        reached = past;
+        reached = reached.past(name);
     }
-    Ok(reached)
+    reached
 }
 
-/// The first numbers of the variables in a function's body, where so many parameters stand before it. `OutOfMemory` comes too
-/// where a number would be 2^32.
-pub fn first_numbers(alloc: Global, parameters: u32, body: &Stmt) -> Result<Next, OutOfMemory>
-    ensures { IfOk result (λ n. next_of n ≡ first_numbers parameters (items_of_body (stmt_of body.now))) }
+// How many variables a function may have.
+fn most_variables(mode: Mode) -> usize
+    ensures exact { result ≡ most_local_cells mode }
+    ensures few { result ≤ 262144 }
 {
-    let mut names = Vec::new(alloc);
-    add_names(&mut names, body)?;
+    match mode {
+        Mode::Plain => 65_536,
+        Mode::Instrumented => 262_144,
+    }
+}
+
+// The first numbers behind so many parameters of variables with these names.
+fn numbers_from(parameters: u32, names: &[&[u8]]) -> Next
+    requires { HaveNumbers (record { plain = parameters; added = 0 }) (seen names.now) }
+    ensures { next_of result ≡ record { plain = parameters; added = (past_names (record { plain = parameters; added = 0 }) (seen names.now)).plain } }
+{
     let start = Next {
         plain: parameters,
         added: 0,
     };
-    let end = past_all(start, &names)?;
-    Ok(Next {
+    let end = past_all(start, names);
+    Next {
         plain: parameters,
         added: end.plain,
-    })
+    }
+}
+
+// The names of the variables that the body of a function declares, in order.
+fn names_of_body<'t>(alloc: Global, body: &'t Stmt) -> Result<Vec<&'t [u8]>, OutOfMemory>
+    ensures { IfOk result (λ names. seen names.items ≡ names_of_block (items_of_body (stmt_of body.now))) }
+{
+    let mut names = Vec::new(alloc);
+    add_names(&mut names, body)?;
+    Ok(names)
+}
+
+/// The first numbers of the variables in a function's body behind these parameters, where these aren't too many variables together (C99
+/// 5.2.4.1).
+pub fn first_numbers(
+    alloc: Global,
+    mode: Mode,
+    parameters: &[Param],
+    body: &Stmt,
+) -> Result<Option<Next>, OutOfMemory>
+    ensures { IfOk result (AreFirst mode (length parameters.now) (items_of_body (stmt_of body.now))) }
+{
+    let names = names_of_body(alloc, body)?;
+    if parameters.len() + names.len() > most_variables(mode) {
+        return Ok(None);
+    }
+    let count = parameters.len() as u32;
+    Ok(Some(numbers_from(count, &names)))
 }

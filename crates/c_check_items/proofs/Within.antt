@@ -1,14 +1,16 @@
 -- Names within others, and more tags.
-use Rattle.std.proofs.Common.{◌≡◌, ℕ, suc, List, [], ◌∷◌, ◌++◌, Option, Some, None, refl, ap, ◌∙◌}
+use Rattle.std.proofs.Common.{◌≡◌, ℕ, suc, ◌<◌, ◌^◌, List, [], ◌∷◌, ◌++◌, Option, Some, None, refl, ap, ◌∙◌, arith}
 use Rattle.std.specs.Prelude.{reverse}
 use Rattle.c_check_units.specs.Scoped.{IsWithin}
 use Rattle.c_rules.specs.Declarators.{name_of}
-use Rattle.c_rules.specs.Functions.{parameters_of, with_parameter, with_parameters, body_env}
+use Rattle.c_rules.specs.Functions.{parameters_of, count_params, with_parameter, with_parameters, body_env, body_numbers}
 use Rattle.c_rules.specs.Names.{Name}
 use Rattle.c_rules.specs.Scopes.{Env, Binding, a_local, inside}
 use Rattle.c_check_scopes.specs.declared.environment.Environment.{Environment}
 use Rattle.c_check_scopes.specs.View.{env_of}
-use Rattle.c_syntax.specs.Tree.{Ident, Declarator, Params, no_params, more_params}
+use Rattle.c_rules.specs.Variables.{Next}
+use Rattle.c_check_counts.specs.Numbered.{HaveNumbers}
+use Rattle.c_syntax.specs.Tree.{Ident, BlockItems, Declarator, Params, no_params, more_params}
 use Rattle.c_tree.specs.Tree.{CType, CTypes, no_types, more_types}
 
 pub itself_within : (e : Env) → IsWithin e e
@@ -41,6 +43,14 @@ parameters_within f e k (more_params at s d ps) (more_types t ts) h = parameters
 
 pub body_within : (e : Env) (d : Declarator) (ts : CTypes) → IsWithin (body_env e d ts) e
 body_within e d ts = parameters_within (inside e) e 0 (parameters_of d) ts ([], suc e.depth, refl)
+
+-- ## Few parameters
+
+-- those before a body whose variables have numbers
+pub few_parameters : (d : Declarator) (is : BlockItems) (next : Next) (names : List Name) → next ≡ body_numbers d is → HaveNumbers next names → count_params (parameters_of d) < 2 ^ 32
+few_parameters d is next names numbered h =
+    let first : next.plain ≡ count_params (parameters_of d) = ap (λ (n : Next). n.plain) numbered in
+    omega (arith, first, h.plain)
 
 -- ## More tags
 

@@ -70,8 +70,7 @@ fn add_item<'t>(
 }
 
 /// What items give, in the order of the text, where so much of the unit stands before them (C99 6.9); `env` and `before` become what is known
-/// behind them and what stands before their end. An error names a demand on them that fails, or is `OutOfMemory`, which comes too where
-/// 2^32 names, tags, cells or calls stand in the unit.
+/// behind them and what stands before their end. An error names a demand on them that fails, or is `OutOfMemory`.
 pub fn items<'t>(
     alloc: Global,
     env: &mut Environment<'t>,

@@ -1,5 +1,5 @@
 ghost use Rattle.std.specs.Prelude.{◌≡◌, true, Some, OnOk, IfOk};
-ghost use Rattle.c_check_counts.specs.Numbered.{next_of};
+ghost use Rattle.c_check_counts.specs.Numbered.{HaveNumbers, next_of};
 ghost use Rattle.c_check_values.specs.Agreement.{AgreesWith};
 ghost use Rattle.c_check_bodies.specs.StatementTreeView.{statement_trees_of};
 ghost use Rattle.c_check_units.specs.OutputView.{output_of};
@@ -8,9 +8,9 @@ ghost use Rattle.c_rules.specs.Checked.{both, demand, fine, gives, met};
 ghost use Rattle.c_rules.specs.Counts.{past};
 ghost use Rattle.c_rules.specs.Declarators.{name_of, place_or};
 ghost use Rattle.c_rules.specs.Expressions.{type_declared};
-ghost use Rattle.c_rules.specs.Functions.{are_named, body_env, body_numbers, body_of, declares_function, defined_as, function_declared, function_laid, held_by_type, held_by_typed, items_of_body, parameters_of};
+ghost use Rattle.c_rules.specs.Functions.{are_named, body_env, body_numbers, body_of, declares_function, defined_as, few_variables, function_declared, function_laid, held_by_type, held_by_typed, items_of_body, parameters_of};
 ghost use Rattle.c_rules.specs.Items.{after_function, behind_defined, behind_function_named, function_named, output_of_function, with_output};
-ghost use Rattle.c_rules.specs.Variables.{calls_of_block};
+ghost use Rattle.c_rules.specs.Variables.{calls_of_block, names_of_block};
 ghost use Rattle.c_check_scopes.specs.View.{before_of, env_of};
 ghost use Rattle.c_syntax.specs.UnitView.{stmt_of};
 ghost use Rattle.c_syntax.specs.View.{declarator_of, ident_of, spec_of};
@@ -18,7 +18,7 @@ ghost use Rattle.c_tree.specs.Tree.{function};
 ghost use Rattle.c_tree.specs.View.{ctype_of, function_of, types_of};
 
 use c_check_bodies::StatementTrees;
-use c_check_counts::name_of;
+use c_check_counts::{Next, name_of};
 use c_check_declarations::{
     are_named, body_numbers, declare_function, enter_body, function_meaning, parameters_of,
 };
@@ -29,11 +29,29 @@ use c_check_units::{
     Output, add_function, count_names, declares_function, function_with, leave,
     place_of_declarator, variables_of,
 };
-use c_check_values::{C3, CheckError};
+use c_check_values::{C3, C13, CheckError};
 use c_syntax::{Declarator, Ident, Spec, Stmt};
 use c_tree::{CType, Function, copy_type, copy_types};
 use dm_base::OutOfMemory;
 use std::alloc::Global;
+
+// The first numbers of the variables in the body of a function, with the limit on these and its parameters (C99 5.2.4.1).
+fn first_numbers(
+    alloc: Global,
+    env: &Environment<'_>,
+    x: &Ident,
+    d: &Declarator,
+    body: &Stmt,
+) -> Result<Next, CheckError>
+    ensures judged { AgreesWith (λ _. met) result (few_variables (env_of env.now) (ident_of x.now) (declarator_of d.now) (items_of_body (stmt_of body.now))) }
+    ensures numbered { IfOk result (λ n. next_of n ≡ body_numbers (declarator_of d.now) (items_of_body (stmt_of body.now))) }
+    ensures left { IfOk result (λ n. HaveNumbers (next_of n) (names_of_block (items_of_body (stmt_of body.now)))) }
+{
+    match body_numbers(alloc, env.mode, d, body)? {
+        Some(numbers) => Ok(numbers),
+        None => Err(CheckError::At(C13, x.at)),
+    }
+}
 
 // The body of a function with parameters of these types (C99 6.9.1).
 fn body_laid<'t>(
@@ -44,14 +62,16 @@ fn body_laid<'t>(
     body: &'t Stmt,
     returns: &CType,
     types: &[CType],
+    numbers: Next,
 ) -> Result<StatementTrees, CheckError>
+    requires numbered { next_of numbers ≡ body_numbers (declarator_of d.now) (items_of_body (stmt_of body.now)) }
+    requires left { HaveNumbers (next_of numbers) (names_of_block (items_of_body (stmt_of body.now))) }
     ensures judged { AgreesWith statement_trees_of result (body_of (env_of env.old) (before_of before.old) (ctype_of returns.now) (declarator_of d.now) (types_of types.now) (items_of_body (stmt_of body.now))) }
     ensures kept { OnOk result (env_of env.new ≡ env_of env.old) }
     ensures counted { OnOk result (before_of before.new ≡ past (before_of before.old) (calls_of_block (items_of_body (stmt_of body.now))) (held_by_block (body_env (env_of env.old) (declarator_of d.now) (types_of types.now)) (body_numbers (declarator_of d.now) (items_of_body (stmt_of body.now))) (items_of_body (stmt_of body.now)))) }
 {
     let count = count_names(env);
     let depth = env.depth.copy()?;
-    let numbers = body_numbers(alloc, d, body)?;
     enter_body(alloc, env, d, types)?;
     let laid = body_of(alloc, env, before, returns, numbers, body)?;
     leave(env, count, depth);
@@ -109,7 +129,8 @@ fn defined_with<'t>(
     ensures kept { OnOk result (env_of env.new ≡ env_of env.old) }
     ensures counted { OnOk result (before_of before.new ≡ past (before_of before.old) (calls_of_block (items_of_body (stmt_of body.now))) (held_by_type (env_of env.old) (declarator_of d.now) (items_of_body (stmt_of body.now)) (function (ctype_of returns.now) (types_of types.now)))) }
 {
-    let laid = body_laid(alloc, env, before, d, body, returns, types)?;
+    let numbers = first_numbers(alloc, env, x, d, body)?;
+    let laid = body_laid(alloc, env, before, d, body, returns, types, numbers)?;
     named_parameters(place, d)?;
     function_laid(alloc, env, x, returns, types, laid)
 }

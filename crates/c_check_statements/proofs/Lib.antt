@@ -1,4 +1,6 @@
 pub mod DeclarationLemmas
+pub mod HavingLemmas
+pub mod LocalLemmas
 pub mod NodeLemmas
 pub mod PartLemmas
 pub mod StatementLemmas

@@ -1,12 +1,12 @@
 ghost use Rattle.std.specs.Prelude.{◌≡◌, false, OnOk};
-ghost use Rattle.c_check_counts.specs.Numbered.{next_of};
+ghost use Rattle.c_check_counts.specs.Numbered.{HaveNumbers, next_of};
 ghost use Rattle.c_check_values.specs.Agreement.{AgreesWith};
 ghost use Rattle.c_check_bodies.specs.StatementTreeView.{statement_trees_of};
 ghost use Rattle.c_rules.specs.Blocks.{held_by_block};
 ghost use Rattle.c_rules.specs.Counts.{past};
 ghost use Rattle.c_rules.specs.Functions.{items_of_body};
 ghost use Rattle.c_rules.specs.Statements.{items_of_block};
-ghost use Rattle.c_rules.specs.Variables.{calls_of_block};
+ghost use Rattle.c_rules.specs.Variables.{calls_of_block, names_of_block, names_of_stmt};
 ghost use Rattle.c_check_scopes.specs.View.{before_of, env_of};
 ghost use Rattle.c_syntax.specs.Tree.{block_stmt, no_block_items};
 ghost use Rattle.c_syntax.specs.UnitView.{stmt_of};
@@ -31,6 +31,7 @@ fn items_of_body<'t>(
     next: Next,
     items: &'t [BlockItem],
 ) -> Result<StatementTrees, CheckError>
+    requires { HaveNumbers (next_of next) (names_of_block (block_items_of items.now)) }
     ensures judged { AgreesWith statement_trees_of result (items_of_block (env_of env.old) (record { breaks = false; continues = false; returns = ctype_of returns.now }) (before_of before.old) (next_of next) (block_items_of items.now)) }
     ensures counted { OnOk result (before_of before.new ≡ past (before_of before.old) (calls_of_block (block_items_of items.now)) (held_by_block (env_of env.old) (next_of next) (block_items_of items.now))) }
     ensures kept { OnOk result (env.new ≡ env.old) }
@@ -56,6 +57,7 @@ fn one_statement<'t>(
     next: Next,
     s: &'t Stmt,
 ) -> Result<StatementTrees, CheckError>
+    requires { HaveNumbers (next_of next) (names_of_stmt (stmt_of s.now)) }
     ensures judged { AgreesWith statement_trees_of result (items_of_block (env_of env.old) (record { breaks = false; continues = false; returns = ctype_of returns.now }) (before_of before.old) (next_of next) (block_stmt (stmt_of s.now) no_block_items)) }
     ensures counted { OnOk result (before_of before.new ≡ past (before_of before.old) (calls_of_block (block_stmt (stmt_of s.now) no_block_items)) (held_by_block (env_of env.old) (next_of next) (block_stmt (stmt_of s.now) no_block_items))) }
     ensures kept { OnOk result (env.new ≡ env.old) }
@@ -80,6 +82,7 @@ pub fn body_of<'t>(
     next: Next,
     body: &'t Stmt,
 ) -> Result<StatementTrees, CheckError>
+    requires { HaveNumbers (next_of next) (names_of_block (items_of_body (stmt_of body.now))) }
     ensures judged { AgreesWith statement_trees_of result (items_of_block (env_of env.old) (record { breaks = false; continues = false; returns = ctype_of returns.now }) (before_of before.old) (next_of next) (items_of_body (stmt_of body.now))) }
     ensures counted { OnOk result (before_of before.new ≡ past (before_of before.old) (calls_of_block (items_of_body (stmt_of body.now))) (held_by_block (env_of env.old) (next_of next) (items_of_body (stmt_of body.now)))) }
     ensures kept { OnOk result (env.new ≡ env.old) }

@@ -1,5 +1,6 @@
-ghost use Rattle.std.specs.Prelude.{◌≡◌, OnOk};
-ghost use Rattle.c_check_counts.specs.Numbered.{next_of};
+ghost use Rattle.std.specs.Prelude.{◌≡◌, ◌∷◌, [], OnOk};
+ghost use Rattle.c_check_counts.specs.Named.{name_of_part};
+ghost use Rattle.c_check_counts.specs.Numbered.{HaveNumbers, next_of};
 ghost use Rattle.c_check_values.specs.Agreement.{AgreesWith};
 ghost use Rattle.c_check_bodies.specs.StatementTreeView.{statement_trees_of, statement_tree_of};
 ghost use Rattle.c_check_bodies.specs.Scoped.{Declares};
@@ -50,6 +51,7 @@ fn local_part<'t>(
     spec: &'t Spec,
     part: &'t DeclPart,
 ) -> Result<StatementTree, CheckError>
+    requires { HaveNumbers (next_of next.old) (name_of_part part.now ∷ []) }
     ensures judged { AgreesWith statement_tree_of result (local_part (env_of env.old) (before_of before.old) (next_of next.old) at (spec_of spec.now) (declarator_of part.now.declarator) (maybe_init_of part.now.init)) }
     ensures counted { OnOk result (before_of before.new ≡ after_part (env_of env.old) (before_of before.old) at (spec_of spec.now) (declarator_of part.now.declarator) (maybe_init_of part.now.init)) }
     ensures meant { OnOk result (env_of env.new ≡ behind_part (env_of env.old) (next_of next.old) at (spec_of spec.now) (declarator_of part.now.declarator) (maybe_init_of part.now.init)) }
@@ -57,8 +59,7 @@ fn local_part<'t>(
     ensures kept { OnOk result (Declares env.old env.new) }
 {
     let own = *next;
-    let behind = past_part(own, &part.declarator)?;
-    *next = behind;
+    *next = past_part(own, &part.declarator);
     named_part(alloc, env, before, own, at, spec, part)
 }
 
@@ -72,6 +73,7 @@ fn local_parts<'t>(
     spec: &'t Spec,
     parts: &'t [DeclPart],
 ) -> Result<StatementTrees, CheckError>
+    requires { HaveNumbers (next_of next.old) (names_of_parts (parts_of parts.now)) }
     ensures judged { AgreesWith statement_trees_of result (local_parts (env_of env.old) (before_of before.old) (next_of next.old) at (spec_of spec.now) (parts_of parts.now)) }
     ensures counted { OnOk result (before_of before.new ≡ past (before_of before.old) (calls_of_parts (parts_of parts.now)) (held_by_parts (env_of env.old) (next_of next.old) at (spec_of spec.now) (parts_of parts.now))) }
     ensures meant { OnOk result (env_of env.new ≡ behind_parts (env_of env.old) (next_of next.old) at (spec_of spec.now) (parts_of parts.now)) }
@@ -94,6 +96,7 @@ pub fn local_decl<'t>(
     next: &mut Next,
     decl: &'t Decl,
 ) -> Result<StatementTrees, CheckError>
+    requires { HaveNumbers (next_of next.old) (names_of_decl (decl_of decl.now)) }
     ensures judged { AgreesWith statement_trees_of result (local_decl (env_of env.old) (before_of before.old) (next_of next.old) (decl_of decl.now)) }
     ensures counted { OnOk result (before_of before.new ≡ after_decl (env_of env.old) (before_of before.old) (next_of next.old) (decl_of decl.now)) }
     ensures meant { OnOk result (env_of env.new ≡ behind_decl (env_of env.old) (next_of next.old) (decl_of decl.now)) }

@@ -1,5 +1,5 @@
 ghost use Rattle.std.specs.Prelude.{◌≡◌, OnOk};
-ghost use Rattle.c_check_counts.specs.Numbered.{next_of};
+ghost use Rattle.c_check_counts.specs.Numbered.{HaveNumbers, next_of};
 ghost use Rattle.c_check_values.specs.Agreement.{AgreesWith};
 ghost use Rattle.c_check_values.specs.View.{typed_expression_of};
 ghost use Rattle.c_check_bodies.specs.StatementTreeView.{statement_trees_of, statement_tree_of};
@@ -160,6 +160,7 @@ pub fn first_of<'t>(
     next: &mut Next,
     first: &'t ForFirst,
 ) -> Result<StatementTrees, CheckError>
+    requires { HaveNumbers (next_of next.old) (names_of_first (first_of_head first.now)) }
     ensures judged { AgreesWith statement_trees_of result (first_of (env_of env.old) (before_of before.old) (next_of next.old) (first_of_head first.now)) }
     ensures counted { OnOk result (before_of before.new ≡ after_first (env_of env.old) (before_of before.old) (next_of next.old) (first_of_head first.now)) }
     ensures meant { OnOk result (env_of env.new ≡ behind_first (env_of env.old) (next_of next.old) (first_of_head first.now)) }

@@ -1,4 +1,4 @@
-ghost use Rattle.std.specs.Prelude.{◌≡◌, Some, OnOk};
+ghost use Rattle.std.specs.Prelude.{◌≡◌, ◌≤◌, Some, OnOk};
 ghost use Rattle.c_check_initialisers.specs.CellView.{cells_of};
 ghost use Rattle.c_check_counts.specs.Numbered.{next_of};
 ghost use Rattle.c_check_values.specs.Agreement.{AgreesWith};
@@ -10,13 +10,15 @@ ghost use Rattle.c_rules.specs.Counts.{past};
 ghost use Rattle.c_rules.specs.Declarators.{place_or};
 ghost use Rattle.c_rules.specs.Expressions.{type_declared};
 ghost use Rattle.c_rules.specs.Initialisers.{calls_of_maybe_init, held_by, initialised_local};
+ghost use Rattle.c_rules.specs.Limits.{most_cells};
 ghost use Rattle.c_rules.specs.Names.{given_names, number_among};
 ghost use Rattle.c_rules.specs.Objects.{object_declared};
-ghost use Rattle.c_rules.specs.Scopes.{a_local, with_name};
+ghost use Rattle.c_rules.specs.Scopes.{a_local, layout_of, with_name};
 ghost use Rattle.c_check_scopes.specs.View.{before_of, env_of};
 ghost use Rattle.c_check_statements.specs.Ruled.{given_seen, local_as};
 ghost use Rattle.c_syntax.specs.UnitView.{maybe_init_of};
 ghost use Rattle.c_syntax.specs.View.{declarator_of, ident_of, spec_of};
+ghost use Rattle.c_tree.specs.Layout.{cells};
 
 use c_check_bodies::{StatementTree, declare_variable, laid_variable, leave_names};
 use c_check_counts::Next;
@@ -79,7 +81,7 @@ fn initialised_within<'t>(
     Ok(cells)
 }
 
-// The declaration of a variable that is this object, where its name is new.
+// The declaration of a variable that is this object with few cells, where its name is new.
 fn local_of<'t>(
     alloc: Global,
     env: &mut Environment<'t>,
@@ -89,11 +91,13 @@ fn local_of<'t>(
     o: Object,
     m: &'t Option<Init>,
 ) -> Result<StatementTree, CheckError>
+    requires few { cells (layout_of (env_of env.old)) (object_seen o).whole ≤ most_cells }
     ensures judged { AgreesWith statement_tree_of result (local_as (env_of env.old) (before_of before.old) number (ident_of x.now) (maybe_init_of m.now) (object_seen o)) }
     ensures counted { OnOk result (before_of before.new ≡ past (before_of before.old) (calls_of_maybe_init (maybe_init_of m.now)) (held_by (env_of env.old) (object_seen o).whole (maybe_init_of m.now))) }
     ensures meant { OnOk result (env_of env.new ≡ with_name (env_of env.old) (ident_of x.now).name (a_local number (object_seen o).whole (object_seen o).whole)) }
     ensures kept { OnOk result (Declares env.old env.new) }
 {
+    env.have_cells_of_members();
     let name = x.name.as_slice();
     let cells = initialised_within(alloc, env, before, number, x, &o, m)?;
     declare_variable(alloc, env, name, number, &o.whole, &o.whole)?;

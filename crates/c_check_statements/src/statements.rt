@@ -1,6 +1,6 @@
 ghost use Rattle.std.specs.Prelude.{◌≡◌, ◌++◌, OnOk};
 ghost use Rattle.c_check_counts.specs.Named.{names_of_block_item, names_of_group};
-ghost use Rattle.c_check_counts.specs.Numbered.{next_of};
+ghost use Rattle.c_check_counts.specs.Numbered.{HaveNumbers, next_of};
 ghost use Rattle.c_check_values.specs.Agreement.{AgreesWith};
 ghost use Rattle.c_check_bodies.specs.AroundView.{around_of};
 ghost use Rattle.c_check_bodies.specs.LabelledView.{labelled_of};
@@ -48,6 +48,7 @@ pub fn statement<'t>(
     next: &mut Next,
     s: &'t Stmt,
 ) -> Result<StatementTree, CheckError>
+    requires { HaveNumbers (next_of next.old) (names_of_stmt (stmt_of s.now)) }
     ensures judged { AgreesWith statement_tree_of result (stmt (env_of env.old) (around_of around.now) (before_of before.old) (next_of next.old) (stmt_of s.now)) }
     ensures counted { OnOk result (before_of before.new ≡ after_stmt (env_of env.old) (before_of before.old) (next_of next.old) (stmt_of s.now)) }
     ensures numbered { OnOk result (next_of next.new ≡ past_names (next_of next.old) (names_of_stmt (stmt_of s.now))) }
@@ -99,6 +100,7 @@ fn block_statement<'t>(
     items: &'t [BlockItem],
     at: u32,
 ) -> Result<StatementTree, CheckError>
+    requires { HaveNumbers (next_of next.old) (names_of_block (block_items_of items.now)) }
     ensures judged { AgreesWith statement_tree_of result (stmt (env_of env.old) (around_of around.now) (before_of before.old) (next_of next.old) (block at (block_items_of items.now))) }
     ensures counted { OnOk result (before_of before.new ≡ after_stmt (env_of env.old) (before_of before.old) (next_of next.old) (block at (block_items_of items.now))) }
     ensures numbered { OnOk result (next_of next.new ≡ past_names (next_of next.old) (names_of_stmt (block at (block_items_of items.now)))) }
@@ -125,6 +127,7 @@ fn tested<'t>(
     at: u32,
     test: &'t Expr,
 ) -> Result<(TExpr, StatementTree), CheckError>
+    requires { HaveNumbers (next_of next.old) (names_of_stmt (stmt_of s.now)) }
     ensures judged { AgreesWith tested_of result (tested (env_of env.old) (around_of around.now) (before_of before.old) (next_of next.old) at (expr_of test.now) (stmt_of s.now)) }
     ensures counted { OnOk result (before_of before.new ≡ after_stmt (env_of env.old) (after (before_of before.old) (expr_of test.now)) (next_of next.old) (stmt_of s.now)) }
     ensures numbered { OnOk result (next_of next.new ≡ past_names (next_of next.old) (names_of_stmt (stmt_of s.now))) }
@@ -147,6 +150,7 @@ fn else_part<'t>(
     test: TExpr,
     yes: StatementTree,
 ) -> Result<StatementTree, CheckError>
+    requires { HaveNumbers (next_of next.old) (names_of_stmt (stmt_of s.now)) }
     ensures judged { AgreesWith statement_tree_of result (on (stmt (env_of env.old) (around_of around.now) (before_of before.old) (next_of next.old) (stmt_of s.now)) (λ q. fine (joined (statement_tree_of yes) q (typed_if (tree_seen test) (statement_tree_of yes).tree q.tree)))) }
     ensures counted { OnOk result (before_of before.new ≡ after_stmt (env_of env.old) (before_of before.old) (next_of next.old) (stmt_of s.now)) }
     ensures numbered { OnOk result (next_of next.new ≡ past_names (next_of next.old) (names_of_stmt (stmt_of s.now))) }
@@ -168,6 +172,7 @@ fn while_statement<'t>(
     at: u32,
     test: &'t Expr,
 ) -> Result<StatementTree, CheckError>
+    requires { HaveNumbers (next_of next.old) (names_of_stmt (stmt_of body.now)) }
     ensures judged { AgreesWith statement_tree_of result (stmt (env_of env.old) (around_of around.now) (before_of before.old) (next_of next.old) (while_loop at (expr_of test.now) (stmt_of body.now))) }
     ensures counted { OnOk result (before_of before.new ≡ after_stmt (env_of env.old) (before_of before.old) (next_of next.old) (while_loop at (expr_of test.now) (stmt_of body.now))) }
     ensures numbered { OnOk result (next_of next.new ≡ past_names (next_of next.old) (names_of_stmt (while_loop at (expr_of test.now) (stmt_of body.now)))) }
@@ -191,6 +196,7 @@ fn do_statement<'t>(
     at: u32,
     test: &'t Expr,
 ) -> Result<StatementTree, CheckError>
+    requires { HaveNumbers (next_of next.old) (names_of_stmt (stmt_of body.now)) }
     ensures judged { AgreesWith statement_tree_of result (stmt (env_of env.old) (around_of around.now) (before_of before.old) (next_of next.old) (do_loop at (stmt_of body.now) (expr_of test.now))) }
     ensures counted { OnOk result (before_of before.new ≡ after_stmt (env_of env.old) (before_of before.old) (next_of next.old) (do_loop at (stmt_of body.now) (expr_of test.now))) }
     ensures numbered { OnOk result (next_of next.new ≡ past_names (next_of next.old) (names_of_stmt (do_loop at (stmt_of body.now) (expr_of test.now)))) }
@@ -216,6 +222,7 @@ fn for_statement<'t>(
     test: &'t Option<Expr>,
     step: &'t Option<Expr>,
 ) -> Result<StatementTree, CheckError>
+    requires { HaveNumbers (next_of next.old) (names_of_first (first_of_head first.now) ++ names_of_stmt (stmt_of body.now)) }
     ensures judged { AgreesWith statement_tree_of result (stmt (env_of env.old) (around_of around.now) (before_of before.old) (next_of next.old) (for_loop at (first_of_head first.now) (maybe_of test.now) (maybe_of step.now) (stmt_of body.now))) }
     ensures counted { OnOk result (before_of before.new ≡ after_stmt (env_of env.old) (before_of before.old) (next_of next.old) (for_loop at (first_of_head first.now) (maybe_of test.now) (maybe_of step.now) (stmt_of body.now))) }
     ensures numbered { OnOk result (next_of next.new ≡ past_names (next_of next.old) (names_of_stmt (for_loop at (first_of_head first.now) (maybe_of test.now) (maybe_of step.now) (stmt_of body.now)))) }
@@ -246,6 +253,7 @@ fn for_parts<'t>(
     test: &'t Option<Expr>,
     step: &'t Option<Expr>,
 ) -> Result<StatementTree, CheckError>
+    requires { HaveNumbers (next_of next.old) (names_of_first (first_of_head first.now) ++ names_of_stmt (stmt_of body.now)) }
     ensures judged { AgreesWith statement_tree_of result (for_inside (env_of env.old) (around_of around.now) (before_of before.old) (next_of next.old) at (first_of_head first.now) (maybe_of test.now) (maybe_of step.now) (stmt_of body.now)) }
     ensures counted { OnOk result (before_of before.new ≡ after_for (env_of env.old) (before_of before.old) (next_of next.old) (first_of_head first.now) (maybe_of test.now) (maybe_of step.now) (stmt_of body.now)) }
     ensures numbered { OnOk result (next_of next.new ≡ past_names (next_of next.old) (names_of_first (first_of_head first.now) ++ names_of_stmt (stmt_of body.now))) }
@@ -271,6 +279,7 @@ fn switch_statement<'t>(
     at: u32,
     e: &'t Expr,
 ) -> Result<StatementTree, CheckError>
+    requires { HaveNumbers (next_of next.old) (names_of_groups (groups_of groups.now)) }
     ensures judged { AgreesWith statement_tree_of result (stmt (env_of env.old) (around_of around.now) (before_of before.old) (next_of next.old) (switch_on at (expr_of e.now) (groups_of groups.now))) }
     ensures counted { OnOk result (before_of before.new ≡ after_stmt (env_of env.old) (before_of before.old) (next_of next.old) (switch_on at (expr_of e.now) (groups_of groups.now))) }
     ensures numbered { OnOk result (next_of next.new ≡ past_names (next_of next.old) (names_of_stmt (switch_on at (expr_of e.now) (groups_of groups.now)))) }
@@ -293,6 +302,7 @@ pub fn items_of_block<'t>(
     next: &mut Next,
     items: &'t [BlockItem],
 ) -> Result<StatementTrees, CheckError>
+    requires { HaveNumbers (next_of next.old) (names_of_block (block_items_of items.now)) }
     ensures judged { AgreesWith statement_trees_of result (items_of_block (env_of env.old) (around_of around.now) (before_of before.old) (next_of next.old) (block_items_of items.now)) }
     ensures counted { OnOk result (before_of before.new ≡ past (before_of before.old) (calls_of_block (block_items_of items.now)) (held_by_block (env_of env.old) (next_of next.old) (block_items_of items.now))) }
     ensures numbered { OnOk result (next_of next.new ≡ past_names (next_of next.old) (names_of_block (block_items_of items.now))) }
@@ -316,6 +326,7 @@ fn block_item<'t>(
     next: &mut Next,
     item: &'t BlockItem,
 ) -> Result<StatementTrees, CheckError>
+    requires { HaveNumbers (next_of next.old) (names_of_block_item item.now) }
     ensures judged { AgreesWith statement_trees_of result (item_alone (env_of env.old) (around_of around.now) (before_of before.old) (next_of next.old) item.now) }
     ensures counted { OnOk result (before_of before.new ≡ after_item (env_of env.old) (before_of before.old) (next_of next.old) item.now) }
     ensures meant { OnOk result (env_of env.new ≡ behind_item (env_of env.old) (next_of next.old) item.now) }
@@ -341,6 +352,7 @@ fn statements<'t>(
     next: &mut Next,
     ss: &'t [Stmt],
 ) -> Result<StatementTrees, CheckError>
+    requires { HaveNumbers (next_of next.old) (names_of_stmts (stmts_of ss.now)) }
     ensures judged { AgreesWith statement_trees_of result (stmts (env_of env.old) (around_of around.now) (before_of before.old) (next_of next.old) (stmts_of ss.now)) }
     ensures counted { OnOk result (before_of before.new ≡ after_stmts (env_of env.old) (before_of before.old) (next_of next.old) (stmts_of ss.now)) }
     ensures numbered { OnOk result (next_of next.new ≡ past_names (next_of next.old) (names_of_stmts (stmts_of ss.now))) }
@@ -365,6 +377,7 @@ fn groups_of_switch<'t>(
     groups: &'t [Group],
     i: IntType,
 ) -> Result<Labelled, CheckError>
+    requires { HaveNumbers (next_of next.old) (names_of_groups (groups_of groups.now)) }
     ensures judged { AgreesWith labelled_of result (groups_of_switch (env_of env.old) (around_of around.now) (before_of before.old) (next_of next.old) i (groups_of groups.now)) }
     ensures counted { OnOk result (before_of before.new ≡ past (before_of before.old) (calls_of_groups (groups_of groups.now)) (held_by_groups (env_of env.old) (next_of next.old) (groups_of groups.now))) }
     ensures numbered { OnOk result (next_of next.new ≡ past_names (next_of next.old) (names_of_groups (groups_of groups.now))) }
@@ -389,6 +402,7 @@ fn group_behind<'t>(
     i: IntType,
     done: Labelled,
 ) -> Result<Labelled, CheckError>
+    requires { HaveNumbers (next_of next.old) (names_of_group group.now) }
     ensures judged { AgreesWith labelled_of result (group_behind (env_of env.old) (around_of around.now) (before_of before.old) (next_of next.old) i (labelled_of done) group.now) }
     ensures counted { OnOk result (before_of before.new ≡ after_stmts (env_of env.old) (before_of before.old) (next_of next.old) (stmts_in group.now)) }
     ensures numbered { OnOk result (next_of next.new ≡ past_names (next_of next.old) (names_of_group group.now)) }

@@ -1,4 +1,4 @@
-use Rattle.std.proofs.Common.{◌≡◌, [], ◌∷◌, ◌++◌, take}
+use Rattle.std.proofs.Common.{◌≡◌, ◌++◌, take}
 use Rattle.std.specs.Prelude.{flat_map}
 use Rattle.c_check_counts.specs.Named.{names_of_block_item, names_of_group}
 use Rattle.c_rules.specs.Variables.{names_of_stmt}

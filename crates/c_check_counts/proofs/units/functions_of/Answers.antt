@@ -1,4 +1,4 @@
-use Rattle.std.proofs.Common.{[], ◌∙◌, sym, ap}
+use Rattle.std.proofs.Common.{◌∙◌, sym, ap}
 use Rattle.std.specs.Prelude.{flat_map}
 use Rattle.std.proofs.lemmas.List.{take_all}
 use Rattle.c_syntax.specs.declared.tree.Item.{Item}

@@ -5,6 +5,7 @@ use Rattle.c_rules.specs.Blocks.{behind_parts, held_by_parts, local_parts}
 use Rattle.c_rules.specs.Counts.{past}
 use Rattle.c_rules.specs.Variables.{calls_of_parts, names_of_parts, past_names}
 use Rattle.c_check_scopes.specs.View.{before_of, env_of}
+use Rattle.c_check_statements.proofs.HavingLemmas.{part_has, parts_left}
 use Rattle.c_check_statements.proofs.NodeLemmas.{declared_more}
 use Rattle.c_check_statements.proofs.DeclarationLemmas.{part_counted, part_fails, part_meant, part_more, part_numbered, parts_end}
 use Rattle.c_syntax.specs.UnitView.{parts_of}
@@ -18,6 +19,7 @@ loop-part-preserved c =
       counted = part_counted c.args.at (spec_of c.args.spec.now) c.args.parts.now c.loop-part.part-index c.part-item.result (env_of c.loop-part.env) (env_of c.local_part.new.env) (before_of c.loop-part.before) (before_of c.local_part.new.before) (past (before_of c.args.before.now) (calls_of_parts (parts_of c.args.parts.now)) (held_by_parts (env_of c.args.env.now) (next_of c.args.next.now) c.args.at (spec_of c.args.spec.now) (parts_of c.args.parts.now))) (next_of c.loop-part.next) (next_of c.local_part.new.next) c.loop-part-test.true c.part-item.is c.loop-part.invariant.counted c.in_ok-one.ensures.meant c.in_ok-one.ensures.counted c.in_ok-one.ensures.numbered;
       meant = part_meant c.args.at (spec_of c.args.spec.now) c.args.parts.now c.loop-part.part-index c.part-item.result (env_of c.loop-part.env) (env_of c.local_part.new.env) (behind_parts (env_of c.args.env.now) (next_of c.args.next.now) c.args.at (spec_of c.args.spec.now) (parts_of c.args.parts.now)) (next_of c.loop-part.next) (next_of c.local_part.new.next) c.loop-part-test.true c.part-item.is c.loop-part.invariant.meant c.in_ok-one.ensures.meant c.in_ok-one.ensures.numbered;
       numbered = part_numbered c.args.at (spec_of c.args.spec.now) c.args.parts.now c.loop-part.part-index c.part-item.result (next_of c.loop-part.next) (next_of c.local_part.new.next) (past_names (next_of c.args.next.now) (names_of_parts (parts_of c.args.parts.now))) c.loop-part-test.true c.part-item.is c.loop-part.invariant.numbered c.in_ok-one.ensures.numbered;
+      left = parts_left c.args.parts.now c.loop-part.part-index c.part-item.result c.loop-part-test.true c.part-item.is (next_of c.loop-part.next) c.loop-part.invariant.left (next_of c.local_part.new.next) c.in_ok-one.ensures.numbered;
       kept = declared_more c.args.env.now c.loop-part.env c.local_part.new.env c.loop-part.invariant.kept c.in_ok-one.ensures.kept;
     }
 
@@ -28,3 +30,7 @@ returns-in_err-one-clause-judged c =
 pub returns-clause-judged : goal.returns-clause-judged
 returns-clause-judged c =
     parts_end (env_of c.loop-part.env) (before_of c.loop-part.before) (next_of c.loop-part.next) c.args.at (spec_of c.args.spec.now) c.args.parts.now c.loop-part.part-index (statement_trees_of c.loop-part.laid) (local_parts (env_of c.args.env.now) (before_of c.args.before.now) (next_of c.args.next.now) c.args.at (spec_of c.args.spec.now) (parts_of c.args.parts.now)) c.loop-part-test.false c.loop-part.invariant.judged
+
+pub local_part-requires : goal.local_part-requires
+local_part-requires c =
+    part_has c.args.parts.now c.loop-part.part-index c.part-item.result c.loop-part-test.true c.part-item.is (next_of c.loop-part.next) c.loop-part.invariant.left

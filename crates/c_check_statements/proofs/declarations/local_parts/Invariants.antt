@@ -1,5 +1,5 @@
 use Rattle.std.proofs.Common.{◌≡◌, drop}
-use Rattle.c_check_counts.specs.Numbered.{next_of}
+use Rattle.c_check_counts.specs.Numbered.{HaveNumbers, next_of}
 use Rattle.c_check_bodies.specs.StatementTreeView.{statement_trees_of}
 use Rattle.c_check_bodies.specs.Scoped.{Declares}
 use Rattle.c_rules.specs.Blocks.{behind_parts, held_by_parts, local_parts}
@@ -19,5 +19,6 @@ invariant-loop-part l = record {
       ≡ past (before_of l.before) (calls_of_parts (parts_of (drop l.part-index l.parts))) (held_by_parts (env_of l.env) (next_of l.next) l.at (spec_of l.spec) (parts_of (drop l.part-index l.parts)));
   meant : behind_parts (env_of l.fn.env) (next_of l.fn.next) l.at (spec_of l.spec) (parts_of l.parts) ≡ behind_parts (env_of l.env) (next_of l.next) l.at (spec_of l.spec) (parts_of (drop l.part-index l.parts));
   numbered : past_names (next_of l.fn.next) (names_of_parts (parts_of l.parts)) ≡ past_names (next_of l.next) (names_of_parts (parts_of (drop l.part-index l.parts)));
+  left : HaveNumbers (next_of l.next) (names_of_parts (parts_of (drop l.part-index l.parts)));
   kept : Declares l.fn.env l.env;
 }

@@ -1,6 +1,7 @@
-use Rattle.std.proofs.Common.{◌≡◌, [], OnOk, refl, ap, sym, subst, ◌∙◌}
-use Rattle.c_check_counts.specs.Named.{names_of_block_item}
-use Rattle.c_check_counts.specs.Numbered.{next_of}
+use Rattle.std.proofs.Common.{rules, ◌≡◌, [], OnOk, refl, ap, sym, subst, ◌∙◌}
+use Rattle.c_check_counts.specs.Named.{names_of_block_item, names_of_group}
+use Rattle.c_check_counts.proofs.NextLemmas.{later_have}
+use Rattle.c_check_counts.specs.Numbered.{HaveNumbers, next_of}
 use Rattle.c_check_values.specs.Agreement.{AgreesWith, Names}
 use Rattle.c_check_values.specs.View.{typed_expression_of}
 use Rattle.c_check_values.proofs.Parts.{names_on, raised}
@@ -19,12 +20,14 @@ use Rattle.c_check_statements.specs.Listed.{after_item, behind_item, item_alone,
 use Rattle.c_check_statements.specs.Ruled.{after_for, for_inside, group_behind, tested}
 use Rattle.c_check_statements.specs.Two.{tested_of}
 use Rattle.c_check_expressions.proofs.Exits.{fails_first, fails_first_of, fails_on, fails_second, fails_second_of, fails_third_of, named_first, on_ok, two_ended}
+use Rattle.c_check_statements.proofs.HavingLemmas.{body_has, group_has, groups_left, item_has, items_left, stmts_left}
 use Rattle.c_check_statements.proofs.NodeLemmas.{after_do, after_else, after_parts, after_switch, after_while, block_seen, declared_as, declared_deeper, declared_more, deeper, gives_as, if_fails, if_seen, numbered_alone, ok_as, switch_seen}
 use Rattle.c_check_statements.proofs.PartLemmas.{names_of_two, two_as}
 use Rattle.c_check_expressions.proofs.NodeLemmas.{past_none}
 use Rattle.c_check_statements.proofs.StatementLemmas.{item_counted, item_fails, item_more, item_numbered, items_counted_end, items_end, items_numbered_end, laid_start, names_append, onto_laid, stmt_counted, stmt_fails, stmt_more, stmt_numbered, stmts_counted_end, stmts_end, stmts_numbered_end}
 use Rattle.c_check_statements.proofs.SwitchLemmas.{group_counted, group_fails, group_more, group_numbered, groups_counted_end, groups_end, groups_numbered_end, groups_start, names_past, onto_groups}
 use Rattle.c_check_statements.proofs.statements.+statement.Goals as goal
+use Rattle.c_syntax.specs.declared.tree.BlockItem.TheViews.{the_lemmas}
 use Rattle.c_syntax.specs.Tree.{block, do_loop, for_loop, if_else, switch_on, while_loop}
 use Rattle.c_syntax.specs.UnitView.{decl_of, first_of_head, if_with, labels_of as labels_seen, maybe_of, stmt_at, stmt_of}
 use Rattle.c_syntax.specs.View.{expr_of}
@@ -183,6 +186,7 @@ items_of_block-loop-item-init t c =
       judged = laid_start (items_of_block (env_of c.args.env.now) (around_of c.args.around.now) (before_of c.args.before.now) (next_of c.args.next.now) (block_items_of c.args.items.now)) ∙ ap (λ d. onto_laid d (items_of_block (env_of c.args.env.now) (around_of c.args.around.now) (before_of c.args.before.now) (next_of c.args.next.now) (block_items_of c.args.items.now))) (sym c.no_statements-laid.ensures);
       counted = refl;
       numbered = refl;
+      left = c.requires;
       kept = ([], refl);
     }
 
@@ -192,6 +196,7 @@ items_of_block-loop-item-preserved t c =
       judged = item_more (env_of c.loop-item.env) (env_of c.block_item.new.env) (around_of c.args.around.now) (before_of c.loop-item.before) (before_of c.block_item.new.before) (next_of c.loop-item.next) (next_of c.block_item.new.next) c.args.items.now c.loop-item.item-index c.item-item.result (statement_trees_of c.loop-item.laid) (statement_trees_of c.in_ok-one.one) (statement_trees_of c.in_ok-laid.laid) (items_of_block (env_of c.args.env.now) (around_of c.args.around.now) (before_of c.args.before.now) (next_of c.args.next.now) (block_items_of c.args.items.now)) c.loop-item-test.true c.item-item.is c.loop-item.invariant.judged c.in_ok-one.ensures.judged c.in_ok-one.ensures.meant c.in_ok-one.ensures.counted c.in_ok-one.ensures.numbered c.in_ok-laid.ensures;
       counted = item_counted (env_of c.loop-item.env) (env_of c.block_item.new.env) (before_of c.loop-item.before) (before_of c.block_item.new.before) (past (before_of c.args.before.now) (calls_of_block (block_items_of c.args.items.now)) (held_by_block (env_of c.args.env.now) (next_of c.args.next.now) (block_items_of c.args.items.now))) (next_of c.loop-item.next) (next_of c.block_item.new.next) c.args.items.now c.loop-item.item-index c.item-item.result c.loop-item-test.true c.item-item.is c.loop-item.invariant.counted c.in_ok-one.ensures.meant c.in_ok-one.ensures.counted c.in_ok-one.ensures.numbered;
       numbered = item_numbered (next_of c.loop-item.next) (next_of c.block_item.new.next) (past_names (next_of c.args.next.now) (names_of_block (block_items_of c.args.items.now))) c.args.items.now c.loop-item.item-index c.item-item.result c.loop-item-test.true c.item-item.is c.loop-item.invariant.numbered c.in_ok-one.ensures.numbered;
+      left = items_left c.args.items.now c.loop-item.item-index c.item-item.result c.loop-item-test.true c.item-item.is (next_of c.loop-item.next) c.loop-item.invariant.left (next_of c.block_item.new.next) c.in_ok-one.ensures.numbered;
       kept = declared_more c.args.env.now c.loop-item.env c.block_item.new.env c.loop-item.invariant.kept c.in_ok-one.ensures.kept;
     }
 
@@ -237,6 +242,7 @@ statements-loop-s-init t c =
       judged = laid_start (stmts (env_of c.args.env.now) (around_of c.args.around.now) (before_of c.args.before.now) (next_of c.args.next.now) (stmts_of c.args.ss.now)) ∙ ap (λ d. onto_laid d (stmts (env_of c.args.env.now) (around_of c.args.around.now) (before_of c.args.before.now) (next_of c.args.next.now) (stmts_of c.args.ss.now))) (sym c.no_statements-laid.ensures);
       counted = refl;
       numbered = refl;
+      left = c.requires;
       kept = refl;
     }
 
@@ -246,6 +252,7 @@ statements-loop-s-preserved t c =
       judged = stmt_more (env_of c.args.env.now) (env_of c.loop-s.env) (around_of c.args.around.now) (before_of c.loop-s.before) (before_of c.statement.new.before) (next_of c.loop-s.next) (next_of c.statement.new.next) c.args.ss.now c.loop-s.s-index c.s-item.result (statement_trees_of c.loop-s.laid) (statement_trees_of c.in_ok-laid.laid) (statement_tree_of c.in_ok-one.one) (stmts (env_of c.args.env.now) (around_of c.args.around.now) (before_of c.args.before.now) (next_of c.args.next.now) (stmts_of c.args.ss.now)) c.loop-s-test.true c.s-item.is (ap env_of c.loop-s.invariant.kept) c.loop-s.invariant.judged c.in_ok-one.ensures.judged c.in_ok-one.ensures.counted c.in_ok-one.ensures.numbered c.in_ok-laid.ensures;
       counted = stmt_counted (env_of c.args.env.now) (env_of c.loop-s.env) (before_of c.loop-s.before) (before_of c.statement.new.before) (past (before_of c.args.before.now) (calls_of_stmts (stmts_of c.args.ss.now)) (held_by_stmts (env_of c.args.env.now) (next_of c.args.next.now) (stmts_of c.args.ss.now))) (next_of c.loop-s.next) (next_of c.statement.new.next) c.args.ss.now c.loop-s.s-index c.s-item.result c.loop-s-test.true c.s-item.is (ap env_of c.loop-s.invariant.kept) c.loop-s.invariant.counted c.in_ok-one.ensures.counted c.in_ok-one.ensures.numbered;
       numbered = stmt_numbered (next_of c.loop-s.next) (next_of c.statement.new.next) (past_names (next_of c.args.next.now) (names_of_stmts (stmts_of c.args.ss.now))) c.args.ss.now c.loop-s.s-index c.s-item.result c.loop-s-test.true c.s-item.is c.loop-s.invariant.numbered c.in_ok-one.ensures.numbered;
+      left = stmts_left c.args.ss.now c.loop-s.s-index c.s-item.result c.loop-s-test.true c.s-item.is (next_of c.loop-s.next) c.loop-s.invariant.left (next_of c.statement.new.next) c.in_ok-one.ensures.numbered;
       kept = c.in_ok-one.ensures.kept ∙ c.loop-s.invariant.kept;
     }
 
@@ -271,6 +278,7 @@ groups_of_switch-loop-group-init t c =
       judged = groups_start (groups_of_switch (env_of c.args.env.now) (around_of c.args.around.now) (before_of c.args.before.now) (next_of c.args.next.now) c.args.i (groups_of c.args.groups.now)) ∙ ap (λ d. onto_groups d (groups_of_switch (env_of c.args.env.now) (around_of c.args.around.now) (before_of c.args.before.now) (next_of c.args.next.now) c.args.i (groups_of c.args.groups.now))) (sym c.no_labelled-laid.ensures);
       counted = refl;
       numbered = refl;
+      left = c.requires;
       kept = refl;
     }
 
@@ -280,6 +288,7 @@ groups_of_switch-loop-group-preserved t c =
       judged = group_more (around_of c.args.around.now) c.args.i c.args.groups.now c.loop-group.group-index c.group-item.result (env_of c.args.env.now) (env_of c.loop-group.env) (before_of c.loop-group.before) (before_of c.group_behind.new.before) (next_of c.loop-group.next) (next_of c.group_behind.new.next) (labelled_of c.loop-group.laid) (labelled_of c.in_ok-laid.laid) (groups_of_switch (env_of c.args.env.now) (around_of c.args.around.now) (before_of c.args.before.now) (next_of c.args.next.now) c.args.i (groups_of c.args.groups.now)) c.loop-group-test.true c.group-item.is (ap env_of c.loop-group.invariant.kept) c.loop-group.invariant.judged c.in_ok-laid.ensures.judged c.in_ok-laid.ensures.counted c.in_ok-laid.ensures.numbered;
       counted = group_counted (around_of c.args.around.now) c.args.i c.args.groups.now c.loop-group.group-index c.group-item.result (env_of c.args.env.now) (env_of c.loop-group.env) (before_of c.loop-group.before) (before_of c.group_behind.new.before) (past (before_of c.args.before.now) (calls_of_groups (groups_of c.args.groups.now)) (held_by_groups (env_of c.args.env.now) (next_of c.args.next.now) (groups_of c.args.groups.now))) (next_of c.loop-group.next) (next_of c.group_behind.new.next) c.loop-group-test.true c.group-item.is (ap env_of c.loop-group.invariant.kept) c.loop-group.invariant.counted c.in_ok-laid.ensures.counted c.in_ok-laid.ensures.numbered;
       numbered = group_numbered (around_of c.args.around.now) c.args.i c.args.groups.now c.loop-group.group-index c.group-item.result (next_of c.loop-group.next) (next_of c.group_behind.new.next) (past_names (next_of c.args.next.now) (names_of_groups (groups_of c.args.groups.now))) c.loop-group-test.true c.group-item.is c.loop-group.invariant.numbered c.in_ok-laid.ensures.numbered;
+      left = groups_left c.args.groups.now c.loop-group.group-index c.group-item.result c.loop-group-test.true c.group-item.is (next_of c.loop-group.next) c.loop-group.invariant.left (next_of c.group_behind.new.next) c.in_ok-laid.ensures.numbered;
       kept = c.in_ok-laid.ensures.kept ∙ c.loop-group.invariant.kept;
     }
 
@@ -446,3 +455,49 @@ statement-returns-in-Some-clause-counted t c =
 pub statement-returns-in-Some-clause-numbered : goal.statement-returns-in-Some-clause-numbered
 statement-returns-in-Some-clause-numbered t c =
     ok_as c.else_part.result _ _ _ c.else_part.ensures.numbered (ap (λ n. past_names n (names_of_stmt (stmt_of c.deref-in-Some.result.now))) c.in_ok-parts-in-If.ensures.numbered ∙ (sym (names_append (next_of c.args.next.now) (names_of_stmt (stmt_of c.deref-in-If.result.now)) (names_of_stmt (stmt_of c.deref-in-Some.result.now))) ∙ ap (λ w. past_names (next_of c.args.next.now) (names_of_stmt w)) (ap (λ w. if_else c.args.s.now.at (expr_of c.in-If.test) (stmt_of c.deref-in-If.result.now) (stmt_of w)) c.deref-in-Some.ensures ∙ (ap (λ o. if_with c.args.s.now.at c.in-If.test (stmt_of c.deref-in-If.result.now) (else_behind o)) (sym c.in-Some.is) ∙ (if_seen c.args.s.now c.in-If.test c.in-If.yes c.in-If.no c.deref-in-If.result.now c.in-If.is c.deref-in-If.ensures)))))
+
+pub for_parts-statement-requires : goal.for_parts-statement-requires
+for_parts-statement-requires t c =
+    let left : HaveNumbers (next_of c.first_of.new.next) (names_of_stmt (stmt_of c.args.body.now)) =
+    later_have (next_of c.args.next.now) (next_of c.first_of.new.next) (names_of_first (first_of_head c.args.first.now)) (names_of_stmt (stmt_of c.args.body.now)) c.in_ok-head.ensures.numbered c.requires in
+    search rules
+
+pub group_behind-statements-requires : goal.group_behind-statements-requires
+group_behind-statements-requires t c =
+    let left : HaveNumbers (next_of c.args.next.now) (names_of_stmts (stmts_of c.deref-2.result.now)) =
+    subst (λ l. HaveNumbers (next_of c.args.next.now) (names_of_stmts (stmts_of l))) (sym c.deref-2.ensures.value) (body_has (next_of c.args.next.now) c.args.group.now c.requires) in
+    search (rules, the_lemmas)
+
+pub groups_of_switch-group_behind-requires : goal.groups_of_switch-group_behind-requires
+groups_of_switch-group_behind-requires t c =
+    let left : HaveNumbers (next_of c.loop-group.next) (names_of_group c.group-item.result) =
+    group_has c.args.groups.now c.loop-group.group-index c.group-item.result c.loop-group-test.true c.group-item.is (next_of c.loop-group.next) c.loop-group.invariant.left in
+    search (rules, the_lemmas)
+
+pub items_of_block-block_item-requires : goal.items_of_block-block_item-requires
+items_of_block-block_item-requires t c =
+    let left : HaveNumbers (next_of c.loop-item.next) (names_of_block_item c.item-item.result) =
+    item_has c.args.items.now c.loop-item.item-index c.item-item.result c.loop-item-test.true c.item-item.is (next_of c.loop-item.next) c.loop-item.invariant.left in
+    search (rules, the_lemmas)
+
+pub statement-block_statement-requires : goal.statement-block_statement-requires
+statement-block_statement-requires t c =
+    let left : HaveNumbers (next_of c.args.next.now) (names_of_block (block_items_of c.deref.result.now)) =
+    subst (λ z. HaveNumbers (next_of c.args.next.now) (names_of_stmt z)) (sym (block_seen c.args.s.now c.in-Block.items c.deref.result.now c.in-Block.is c.deref.ensures.value)) c.requires in
+    search (rules, the_lemmas)
+
+pub statement-else_part-requires : goal.statement-else_part-requires
+statement-else_part-requires t c =
+    let whole : if_else c.args.s.now.at (expr_of c.in-If.test) (stmt_of c.deref-in-If.result.now) (stmt_of c.deref-in-Some.result.now) ≡ stmt_of c.args.s.now =
+    ap (λ w. if_else c.args.s.now.at (expr_of c.in-If.test) (stmt_of c.deref-in-If.result.now) (stmt_of w)) c.deref-in-Some.ensures
+    ∙ (ap (λ o. if_with c.args.s.now.at c.in-If.test (stmt_of c.deref-in-If.result.now) (else_behind o)) (sym c.in-Some.is) ∙ if_seen c.args.s.now c.in-If.test c.in-If.yes c.in-If.no c.deref-in-If.result.now c.in-If.is c.deref-in-If.ensures) in
+    let left : HaveNumbers (next_of c.tested.new.next) (names_of_stmt (stmt_of c.deref-in-Some.result.now)) =
+    later_have (next_of c.args.next.now) (next_of c.tested.new.next) (names_of_stmt (stmt_of c.deref-in-If.result.now)) (names_of_stmt (stmt_of c.deref-in-Some.result.now)) c.in_ok-parts-in-If.ensures.numbered
+    (subst (λ z. HaveNumbers (next_of c.args.next.now) (names_of_stmt z)) (sym whole) c.requires) in
+    search (rules, the_lemmas)
+
+pub statement-switch_statement-requires : goal.statement-switch_statement-requires
+statement-switch_statement-requires t c =
+    let left : HaveNumbers (next_of c.args.next.now) (names_of_groups (groups_of c.deref-in-Switch.result.now)) =
+    subst (λ z. HaveNumbers (next_of c.args.next.now) (names_of_stmt z)) (sym (switch_seen c.args.s.now c.in-Switch.on c.in-Switch.groups c.deref-in-Switch.result.now c.in-Switch.is c.deref-in-Switch.ensures.value)) c.requires in
+    search (rules, the_lemmas)

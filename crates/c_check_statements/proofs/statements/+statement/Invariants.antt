@@ -1,5 +1,5 @@
 use Rattle.std.proofs.Common.{◌≡◌, drop}
-use Rattle.c_check_counts.specs.Numbered.{next_of}
+use Rattle.c_check_counts.specs.Numbered.{HaveNumbers, next_of}
 use Rattle.c_check_bodies.specs.AroundView.{around_of}
 use Rattle.c_check_bodies.specs.LabelledView.{labelled_of}
 use Rattle.c_check_bodies.specs.StatementTreeView.{statement_trees_of}
@@ -21,6 +21,7 @@ invariant-items_of_block-loop-item l = record {
   counted : past (before_of l.fn.before) (calls_of_block (block_items_of l.items)) (held_by_block (env_of l.fn.env) (next_of l.fn.next) (block_items_of l.items))
       ≡ past (before_of l.before) (calls_of_block (block_items_of (drop l.item-index l.items))) (held_by_block (env_of l.env) (next_of l.next) (block_items_of (drop l.item-index l.items)));
   numbered : past_names (next_of l.fn.next) (names_of_block (block_items_of l.items)) ≡ past_names (next_of l.next) (names_of_block (block_items_of (drop l.item-index l.items)));
+  left : HaveNumbers (next_of l.next) (names_of_block (block_items_of (drop l.item-index l.items)));
   kept : Declares l.fn.env l.env;
 }
 
@@ -31,6 +32,7 @@ invariant-statements-loop-s l = record {
   counted : past (before_of l.fn.before) (calls_of_stmts (stmts_of l.ss)) (held_by_stmts (env_of l.fn.env) (next_of l.fn.next) (stmts_of l.ss))
       ≡ past (before_of l.before) (calls_of_stmts (stmts_of (drop l.s-index l.ss))) (held_by_stmts (env_of l.fn.env) (next_of l.next) (stmts_of (drop l.s-index l.ss)));
   numbered : past_names (next_of l.fn.next) (names_of_stmts (stmts_of l.ss)) ≡ past_names (next_of l.next) (names_of_stmts (stmts_of (drop l.s-index l.ss)));
+  left : HaveNumbers (next_of l.next) (names_of_stmts (stmts_of (drop l.s-index l.ss)));
   kept : l.env ≡ l.fn.env;
 }
 
@@ -41,5 +43,6 @@ invariant-groups_of_switch-loop-group l = record {
   counted : past (before_of l.fn.before) (calls_of_groups (groups_of l.groups)) (held_by_groups (env_of l.fn.env) (next_of l.fn.next) (groups_of l.groups))
       ≡ past (before_of l.before) (calls_of_groups (groups_of (drop l.group-index l.groups))) (held_by_groups (env_of l.fn.env) (next_of l.next) (groups_of (drop l.group-index l.groups)));
   numbered : past_names (next_of l.fn.next) (names_of_groups (groups_of l.groups)) ≡ past_names (next_of l.next) (names_of_groups (groups_of (drop l.group-index l.groups)));
+  left : HaveNumbers (next_of l.next) (names_of_groups (groups_of (drop l.group-index l.groups)));
   kept : l.env ≡ l.fn.env;
 }
