@@ -46,8 +46,7 @@ fn checked_items(alloc: Global, listed: &[Item], mode: Mode) -> Result<Program, 
 /// # Errors
 ///
 /// `At` names a demand on the unit that fails, by the number of its code, from 1 to 14, and its place; then the unit is typed as no
-/// program. Where several demands fail it names any of them. `OutOfMemory` comes where memory was refused, and where the number of a
-/// name, a tag, a variable or a string isn't below 2^32.
+/// program. Where several demands fail it names any of them. `OutOfMemory` comes where memory was refused.
 pub fn check(alloc: Global, unit: &Unit, mode: Mode) -> Result<Program, CheckError>
     requires lexical { IsUnitLexical (items_of unit.now.items.items) }
     ensures typed { IfOk result (λ p. IsTyped (items_of unit.now.items.items) mode (program_of p)) }

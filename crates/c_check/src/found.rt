@@ -1,19 +1,19 @@
 ghost use Rattle.std.specs.Prelude.{◌≡◌, IfOk};
 ghost use Rattle.c_check_values.specs.Agreement.{AgreesWith};
 ghost use Rattle.c_check_units.specs.OutputView.{output_of};
+ghost use Rattle.c_rules.specs.Checked.{fine, met, on};
 ghost use Rattle.c_rules.specs.Items.{after_items, items};
 ghost use Rattle.c_rules.specs.Scopes.{nothing_before};
-ghost use Rattle.c_rules.specs.Units.{env_before, env_behind};
+ghost use Rattle.c_rules.specs.Units.{env_before, env_behind, few_names};
 ghost use Rattle.c_check_scopes.specs.View.{before_of, env_of};
 ghost use Rattle.c_syntax.specs.UnitView.{items_of};
 
 use c_check_items::items;
-use c_check_scopes::{Before, Environment};
+use c_check_scopes::{Before, Environment, nothing_before};
 use c_check_units::{Output, environment_before};
 use c_check_values::CheckError;
 use c_syntax::Item;
 use dm_base::Mode;
-use dm_counts::Count;
 use std::alloc::Global;
 
 // What is found of a unit: what is known and what stands before behind its items, and what they define.
@@ -24,20 +24,10 @@ pub struct Found<'t> {
     pub output: Output,
 }
 
-// Nothing stands before.
-fn nothing_before<'t>(alloc: Global) -> Before<'t>
-    ensures { before_of result ≡ nothing_before }
-{
-    Before {
-        sites: Count::zero(alloc),
-        strings: Vec::new(alloc),
-        cells: Count::zero(alloc),
-    }
-}
-
 // What is found of a unit with these items.
 pub fn found_in<'t>(alloc: Global, mode: Mode, listed: &'t [Item]) -> Result<Found<'t>, CheckError>
-    ensures judged { AgreesWith (λ f. output_of f.output) result (items (env_before mode (items_of listed.now)) nothing_before (items_of listed.now)) }
+    ensures judged { AgreesWith (λ f. output_of f.output) result (on (few_names (items_of listed.now)) (λ _. items (env_before mode (items_of listed.now)) nothing_before (items_of listed.now))) }
+    ensures few { IfOk result (λ _. few_names (items_of listed.now) ≡ fine met) }
     ensures behind { IfOk result (λ f. env_of f.env ≡ env_behind mode (items_of listed.now)) }
     ensures counted { IfOk result (λ f. before_of f.before ≡ after_items (env_before mode (items_of listed.now)) nothing_before (items_of listed.now)) }
 {

@@ -84,21 +84,21 @@ onto_type done t (fine ts) = ap fine (before_one done t ts)
 onto_type done t (faulty f fs) = refl
 
 abbrev typed_from : Env → ℕ → Option Ident → Checked CType → Params → Checked CTypes
-typed_from env k n r ps = type_and (with_name_demands env n r) (parameters (behind_parameter env k n r) (suc k) ps)
+typed_from env k n r ps = type_and (with_name_demands env n r) (parameters (behind_parameter env k n r) k ps)
 
 params_at : (env : Env) (k : ℕ) (ps : List ParamTree) (i : ℕ) (p : ParamTree) → i < length ps → p ≡ get_or ps i p → parameters env k (params_of (drop i ps)) ≡ typed_from env k (name_of_param p) (type_of_param env p) (params_of (drop (i + 1) ps))
 params_at env k ps i p h q =
     ap (λ l. parameters env k (params_of l)) (at_place ps i p h q) ∙ ap (parameters env k) (param_is p (params_of (drop (i + 1) ps)))
 
 -- one more parameter
-pub parameter_more : (env env' : Env) (ps : List ParamTree) (i k k' : ℕ) (p : ParamTree) (done : List TypeTree) (t : TypeTree) (all : Checked CTypes) → i < length ps → p ≡ get_or ps i p → all ≡ onto_types done (parameters env k (params_of (drop i ps))) → type_of_param env p ≡ fine (ctype_of t) → with_name_demands env (name_of_param p) (fine (ctype_of t)) ≡ fine (ctype_of t) → env' ≡ behind_parameter env k (name_of_param p) (fine (ctype_of t)) → k' ≡ suc k → all ≡ onto_types (done ++ t ∷ []) (parameters env' k' (params_of (drop (i + 1) ps)))
-parameter_more env env' ps i k k' p done t all h q before v named on next =
+pub parameter_more : (env env' : Env) (ps : List ParamTree) (i k : ℕ) (p : ParamTree) (done : List TypeTree) (t : TypeTree) (all : Checked CTypes) → i < length ps → p ≡ get_or ps i p → all ≡ onto_types done (parameters env k (params_of (drop i ps))) → type_of_param env p ≡ fine (ctype_of t) → with_name_demands env (name_of_param p) (fine (ctype_of t)) ≡ fine (ctype_of t) → env' ≡ behind_parameter env k (name_of_param p) (fine (ctype_of t)) → all ≡ onto_types (done ++ t ∷ []) (parameters env' k (params_of (drop (i + 1) ps)))
+parameter_more env env' ps i k p done t all h q before v named on =
     before
     ∙ ap (onto_types done) (params_at env k ps i p h q)
     ∙ ap (λ r. onto_types done (typed_from env k (name_of_param p) r (params_of (drop (i + 1) ps)))) v
-    ∙ ap (λ r. onto_types done (type_and r (parameters (behind_parameter env k (name_of_param p) (fine (ctype_of t))) (suc k) (params_of (drop (i + 1) ps))))) named
-    ∙ onto_type done t (parameters (behind_parameter env k (name_of_param p) (fine (ctype_of t))) (suc k) (params_of (drop (i + 1) ps)))
-    ∙ (λ j. onto_types (done ++ t ∷ []) (parameters (sym on j) (sym next j) (params_of (drop (i + 1) ps))))
+    ∙ ap (λ r. onto_types done (type_and r (parameters (behind_parameter env k (name_of_param p) (fine (ctype_of t))) k (params_of (drop (i + 1) ps))))) named
+    ∙ onto_type done t (parameters (behind_parameter env k (name_of_param p) (fine (ctype_of t))) k (params_of (drop (i + 1) ps)))
+    ∙ (λ j. onto_types (done ++ t ∷ []) (parameters (sym on j) k (params_of (drop (i + 1) ps))))
 
 -- a demand that fails on the next one: on its type, or on its name
 names_demanded : (err : CheckError) (env : Env) (n : Option Ident) (r : Checked CType) → Names err (faults r) → Names err (faults (with_name_demands env n r))
@@ -108,7 +108,7 @@ names_demanded err env (Some x) r h = names_first err r (new_name env x) (λ t _
 pub parameter_fails : (err : CheckError) (env : Env) (ps : List ParamTree) (i k : ℕ) (p : ParamTree) (done : List TypeTree) (all : Checked CTypes) → i < length ps → p ≡ get_or ps i p → all ≡ onto_types done (parameters env k (params_of (drop i ps))) → Names err (faults (with_name_demands env (name_of_param p) (type_of_param env p))) → Names err (faults all)
 parameter_fails err env ps i k p done all h q before n =
     let demands = with_name_demands env (name_of_param p) (type_of_param env p) in
-    let rest = parameters (behind_parameter env k (name_of_param p) (type_of_param env p)) (suc k) (params_of (drop (i + 1) ps)) in
+    let rest = parameters (behind_parameter env k (name_of_param p) (type_of_param env p)) k (params_of (drop (i + 1) ps)) in
     let here : Names err (faults (type_and demands rest)) = names_first err demands rest (λ t ts. fine (more_types t ts)) n in
     let there : Names err (faults (onto_types done (type_and demands rest))) = names_on err (type_and demands rest) (λ ts. fine (types_before done ts)) here in
     subst (λ r. Names err (faults r)) (sym (before ∙ ap (onto_types done) (params_at env k ps i p h q))) there
@@ -134,9 +134,6 @@ values_begin (faulty f fs) = refl
 pub parameters_begin : (r : Checked CTypes) → r ≡ onto_types [] r
 parameters_begin (fine ts) = refl
 parameters_begin (faulty f fs) = refl
-
-pub one_longer : (done : List TypeTree) (t : TypeTree) (new : List TypeTree) → new ≡ done ++ t ∷ [] → length new ≡ suc (length done)
-one_longer done t new h = ap length h ∙ (length-append done (t ∷ []) ∙ omega arith)
 
 pub declares_none : (a : Environment) → Declares a a
 declares_none a = ([], refl)

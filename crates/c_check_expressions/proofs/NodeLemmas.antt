@@ -154,17 +154,6 @@ after-Call b e d v x es is p q =
 
 -- ## What the code counts
 
-pub past_call : (b : Before) (n : ℕ) → n ≡ b.sites + 1 → (λ (s : ℕ). record b { sites = s }) n ≡ past b 1 []
-past_call b n h =
-    let c : b.cells ≡ b.cells + 0 = omega arith in
-    λ i. record { sites = h i; strings = sym (append-nil b.strings) i; cells = c i }
-
-pub past_string : (b : Before) (w : List ℕ) (ws : List (List ℕ)) (n : ℕ) → ws ≡ b.strings ++ w ∷ [] → n ≡ b.cells + suc (length w) → (λ (s : List (List ℕ)). record b { strings = s; cells = n }) ws ≡ past b 0 (w ∷ [])
-past_string b w ws n h q =
-    let s : b.sites ≡ b.sites + 0 = omega arith in
-    let c : n ≡ b.cells + string_cells (w ∷ []) = omega (arith, q) in
-    λ i. record { sites = s i; strings = h i; cells = c i }
-
 -- behind a designator and the call itself
 pub past_designator : (b : Before) (x : ExprTree) → past (after b (expr_of x)) 1 [] ≡ after_designator b (expr_of x)
 past_designator b x =

@@ -4,54 +4,21 @@ ghost use Rattle.c_check_values.specs.View.{typed_expression_of};
 ghost use Rattle.c_rules.specs.Counts.{past};
 ghost use Rattle.c_rules.specs.PostfixExpressions.{site_of};
 ghost use Rattle.c_rules.specs.PrimaryExpressions.{string_expression};
-ghost use Rattle.c_rules.specs.Scopes.{nothing_before};
 ghost use Rattle.c_check_scopes.specs.View.{before_of, env_of};
 
 use c_check_primary::{site_of, string_expression};
 use c_check_scopes::{Before, Environment};
 use c_check_values::{CheckError, TypedExpression};
-use dm_base::OutOfMemory;
-use dm_counts::Count;
 use std::alloc::Global;
-
-/// Nothing stands before.
-pub fn nothing_before<'t>(alloc: Global) -> Before<'t>
-    ensures { before_of result ≡ nothing_before }
-{
-    Before {
-        sites: Count::zero(alloc),
-        strings: Vec::new(alloc),
-        cells: Count::zero(alloc),
-    }
-}
-
-// One more call stands before.
-fn count_call(before: &mut Before<'_>) -> Result<(), OutOfMemory>
-    ensures { OnOk result (before_of before.new ≡ past (before_of before.old) 1 []) }
-{
-    before.sites.raise()?;
-    Ok(())
-}
 
 // The site of a call, which then stands before.
 pub fn next_site(env: &Environment<'_>, before: &mut Before<'_>, at: u32) -> Result<u32, CheckError>
     ensures judged { AgreesWith (λ n. n) result (site_of (env_of env.now) (before_of before.old).sites at) }
     ensures counted { OnOk result (before_of before.new ≡ past (before_of before.old) 1 []) }
 {
-    let site = site_of(env, &before.sites, at)?;
-    count_call(before)?;
+    let site = site_of(env, before.sites(), at)?;
+    before.count_call()?;
     Ok(site)
-}
-
-// One more string stands before.
-fn count_string<'t>(before: &mut Before<'t>, bytes: &'t [u8]) -> Result<(), OutOfMemory>
-    ensures { OnOk result (before_of before.new ≡ past (before_of before.old) 0 (bytes.now ∷ [])) }
-{
-    before.strings.push(bytes)?;
-    // Its zero is a cell, too.
-    before.cells.raise()?;
-    before.cells.add(bytes.len())?;
-    Ok(())
 }
 
 // A string, which then stands before.
@@ -66,6 +33,6 @@ pub fn next_string<'t>(
     ensures counted { OnOk result (before_of before.new ≡ past (before_of before.old) 0 (bytes.now ∷ [])) }
 {
     let given = string_expression(alloc, env, before, at, bytes)?;
-    count_string(before, bytes)?;
+    before.count_string(bytes)?;
     Ok(given)
 }

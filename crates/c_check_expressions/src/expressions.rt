@@ -14,24 +14,25 @@ ghost use Rattle.c_syntax.specs.View.{expr_of, declarator_of, spec_of, type_name
 ghost use Rattle.c_syntax.specs.Writes.{declarator_behind, declarator_in, expr_behind, exprs_of, params_of};
 ghost use Rattle.c_tree.specs.View.{ctype_of, types_of};
 
-use crate::counting::{next_site, next_string, nothing_before};
+use crate::counting::{next_site, next_string};
 use crate::designators::direct_callee;
 use crate::forms::{declare_parameter, is_void_pointer, place_or};
-use crate::nodes::{comma_given, index_given, integer_given, member_behind, unary_given};
+use crate::nodes::{comma_given, index_given, member_behind, unary_given};
 use c_check_assignments::{
     assignable, assignment_by, cast_of, null_cast, size_of_expression, size_of_type, step,
 };
 use c_check_operators::{choice, conjunction, disjunction, operation, operator_of_code};
-use c_check_primary::{Callee, called, callee_by_value, member_of, named_expression, typed_int};
-use c_check_scopes::{Before, Context, Environment};
+use c_check_primary::{
+    Callee, called, callee_by_value, integer_expression, member_of, named_expression, typed_int,
+};
+use c_check_scopes::{Before, Context, Environment, nothing_before};
 use c_check_types::{array_of, array_size, function_of, parameter_of, pointer_to, type_of_spec};
 use c_check_values::{CheckError, TypedExpression, valued};
 use c_syntax::{Declarator, DeclaratorKind, Expr, ExprKind, Param, Spec, TypeName};
 use c_tree::{BinOp, CType};
 use std::alloc::Global;
 
-/// What an expression gives, where so much of the unit stands before it (C99 6.5). `OutOfMemory` comes too where the number of a string isn't
-/// below 2^32.
+/// What an expression gives, where so much of the unit stands before it (C99 6.5).
 #[cycle(expression)]
 pub fn tree<'t>(
     alloc: Global,
@@ -45,7 +46,7 @@ pub fn tree<'t>(
 {
     match &e.kind {
         ExprKind::Name(name) => named_expression(alloc, env, e.at, name.as_slice()),
-        ExprKind::Int { value, unsigned } => integer_given(*value, *unsigned),
+        ExprKind::Int { value, unsigned } => Ok(integer_expression(*value, *unsigned)),
         ExprKind::Char(c) => Ok(typed_int(*c)),
         ExprKind::Str(bytes) => next_string(alloc, env, before, e.at, bytes.as_slice()),
         ExprKind::Comma(es) => {
@@ -124,7 +125,7 @@ pub fn tree<'t>(
     }
 }
 
-/// The value of an expression (C99 6.3.2.1). `OutOfMemory` comes too where the number of a string isn't below 2^32.
+/// The value of an expression (C99 6.3.2.1).
 #[cycle(expression)]
 pub fn value<'t>(
     alloc: Global,
@@ -378,7 +379,7 @@ fn parameters<'t>(
     let mut types = Vec::new(alloc);
     for p in params {
         let ctype = parameter_type(alloc, env, p)?;
-        declare_parameter(alloc, env, types.len(), p, &ctype)?;
+        declare_parameter(alloc, env, p, &ctype)?;
         types.push(ctype)?;
     }
     Ok(types)

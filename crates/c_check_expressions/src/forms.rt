@@ -94,27 +94,23 @@ fn declare_variable<'t>(
     env.names.declare(x.name.as_slice(), depth, means)
 }
 
-// Declares the name of a parameter of this type, where it has one, which is the variable with this number (C99 6.2.1
-// paragraph 7).
+// Declares the name of a parameter of this type, where it has one (C99 6.2.1 paragraph 7). It has a number of its own in the body of a
+// definition alone.
 pub fn declare_parameter<'t>(
     alloc: Global,
     env: &mut Environment<'t>,
-    number: usize,
     p: &'t Param,
     ctype: &CType,
 ) -> Result<(), CheckError>
     ensures judged { AgreesWith (λ _. ctype_of ctype.now) result (with_name_demands (env_of env.old) (name_of_param p.now) (fine (ctype_of ctype.now))) }
-    ensures meant { OnOk result (env_of env.new ≡ behind_parameter (env_of env.old) number (name_of_param p.now) (fine (ctype_of ctype.now))) }
+    ensures meant { OnOk result (env_of env.new ≡ behind_parameter (env_of env.old) 0 (name_of_param p.now) (fine (ctype_of ctype.now))) }
     ensures kept { OnOk result (Declares env.old env.new) }
 {
     match name_in(&p.declarator) {
         None => Ok(()),
         Some(x) => {
             new_name(env, x)?;
-            let Ok(number) = u32::try_from(number) else {
-                return Err(CheckError::OutOfMemory);
-            };
-            declare_variable(alloc, env, number, x, ctype)?;
+            declare_variable(alloc, env, 0, x, ctype)?;
             Ok(())
         }
     }

@@ -13,6 +13,5 @@ mod nodes;
 mod ones;
 mod whole;
 
-pub use counting::nothing_before;
 pub use expressions::{declared, folded_value, tree, type_declared, type_named, value};
 pub use whole::{initialised_local, initialised_static};

@@ -6,25 +6,16 @@ ghost use Rattle.c_rules.specs.BinaryExpressions.{sum};
 ghost use Rattle.c_rules.specs.Checked.{fine, on};
 ghost use Rattle.c_rules.specs.Expressions.{unary_rule};
 ghost use Rattle.c_rules.specs.PostfixExpressions.{member_of};
-ghost use Rattle.c_rules.specs.PrimaryExpressions.{integer_expression};
 ghost use Rattle.c_rules.specs.UnaryExpressions.{indirection};
 ghost use Rattle.c_check_scopes.specs.View.{env_of};
 
 use c_check_assignments::{address, comma_of, indirection, unary_of_value};
 use c_check_operators::sum;
-use c_check_primary::{integer_expression, member_of};
+use c_check_primary::member_of;
 use c_check_scopes::Environment;
 use c_check_values::{CheckError, TypedExpression, valued};
 use c_lexer::punctuator::AMPERSAND;
 use std::alloc::Global;
-
-// An integer constant (C99 6.4.4.1). `OutOfMemory` comes where the value of an int is above 2^31 − 1.
-pub fn integer_given(value: u32, unsigned: bool) -> Result<TypedExpression, CheckError>
-    ensures { AgreesWith typed_expression_of result (fine (integer_expression value unsigned)) }
-{
-    let given = integer_expression(value, unsigned)?;
-    Ok(given)
-}
 
 // The comma of these values (C99 6.5.17).
 pub fn comma_given(alloc: Global, gs: Vec<TypedExpression>) -> Result<TypedExpression, CheckError>

@@ -1,15 +1,19 @@
 -- What is known before the items of a unit.
-use Rattle.std.proofs.Common.{◌≡◌, ℕ, suc, zero, ◌+◌, ◌<◌, ◌≤◌, List, [], ◌∷◌, ◌++◌, length, map, take, get_or, Bor, Option, None, Result, Ok, Err, IfOk, refl, sym, ap, ◌∙◌}
+use Rattle.std.proofs.Common.{◌≡◌, ℕ, suc, zero, ◌+◌, ◌<◌, ◌≤◌, ◌^◌, Bool, true, false, ◌&&◌, nat_lt, List, [], ◌∷◌, ◌++◌, length, take, get_or, Bor, Option, None, Result, Ok, Err, IfOk, refl, sym, ap, subst, ◌∙◌, arith}
 use Rattle.std.specs.Prelude.{replicate, reverse}
+use Rattle.std.proofs.lemmas.Bool.{and_parts, ltb-true}
 use Rattle.std.proofs.lemmas.List.{take_more, take_all, map-append}
 use Rattle.dm_base.specs.declared.mode.Mode.{Mode}
 use Rattle.c_check_counts.specs.Seen.{bytes_of, seen}
 use Rattle.c_check_scopes.specs.Known.{Known}
+use Rattle.c_check_values.specs.Agreement.{Names}
+use Rattle.c_check_values.specs.declared.error.CheckError.TheVariants as errors
+use Rattle.c_rules.specs.Checked.{faults, demand, met}
 use Rattle.c_rules.specs.Names.{Name}
 use Rattle.c_rules.specs.Scopes.{Env, Struct, incomplete, evaluated, empty_env}
-use Rattle.c_rules.specs.Units.{functions_of, objects_of, tags_of, whole_of, env_before}
+use Rattle.c_rules.specs.Units.{functions_of, objects_of, tags_of, few_names}
 use Rattle.c_check_scopes.specs.Bound.{Bound, bindings_of}
-use Rattle.c_check_scopes.specs.View.{struct_known, structs_of}
+use Rattle.c_check_scopes.specs.View.{structs_of}
 use Rattle.c_syntax.specs.Tree.{Items}
 
 -- ## Names in their order
@@ -47,8 +51,24 @@ begun m fs os ts structs names enums functions tags depth = record {
   context = evaluated;
 }
 
-pub begins : (m : Mode) (u : Items) (fs os ts : List Name) (structs : List Struct) (names : List Bound) (enums functions tags : List Name) (depth : ℕ)
-    → fs ≡ functions_of u → os ≡ objects_of u → ts ≡ tags_of u → structs ≡ replicate (length ts) incomplete → names ≡ [] → enums ≡ [] → functions ≡ [] → tags ≡ [] → depth ≡ 0
-    → begun m fs os ts structs names enums functions tags depth ≡ env_before m u
-begins m u fs os ts structs names enums functions tags depth f o t s n e g k d =
-    ap (λ ss. begun m fs os ts ss names enums functions tags depth) s ∙ (λ i. begun m (f i) (o i) (t i) (replicate (length (t i)) incomplete) (n i) (e i) (g i) (k i) (d i))
+pub begins : (m : Mode) (fs os ts : List Name) (structs : List Struct) (names : List Bound) (enums functions tags : List Name) (depth : ℕ) → structs ≡ replicate (length ts) incomplete → names ≡ [] → enums ≡ [] → functions ≡ [] → tags ≡ [] → depth ≡ 0
+    → begun m fs os ts structs names enums functions tags depth ≡ empty_env (record { mode = m; functions = fs; objects = os; tags = ts })
+begins m fs os ts structs names enums functions tags depth s n e g k d = λ i. begun m fs os ts (s i) (n i) (e i) (g i) (k i) (d i)
+
+-- ## The limit on names
+
+abbrev limited : (functions objects tags : List Name) → Bool
+limited fs os ts = nat_lt (length fs) (2 ^ 31) && (nat_lt (length os) (2 ^ 31) && nat_lt (length ts) (2 ^ 31))
+
+pub each_few : (fs os ts : List Name) (b : Bool) → b ≡ limited fs os ts → b ≡ true → (length fs < 2 ^ 31) × (length os < 2 ^ 31) × (length ts < 2 ^ 31)
+each_few fs os ts b q h =
+    let w = and_parts (nat_lt (length fs) (2 ^ 31)) (nat_lt (length os) (2 ^ 31) && nat_lt (length ts) (2 ^ 31)) (sym q ∙ h) in
+    let v = and_parts (nat_lt (length os) (2 ^ 31)) (nat_lt (length ts) (2 ^ 31)) w.1 in
+    (ltb-true (length fs) (2 ^ 31) w.0, ltb-true (length os) (2 ^ 31) v.0, ltb-true (length ts) (2 ^ 31) v.1)
+
+module _ (u : Items) (fs os ts : List Name) (b : Bool) (f : fs ≡ functions_of u) (o : os ≡ objects_of u) (t : ts ≡ tags_of u) (q : b ≡ limited fs os ts) where
+  told : b ≡ limited (functions_of u) (objects_of u) (tags_of u)
+  told = q ∙ (λ i. limited (f i) (o i) (t i))
+
+  pub many_names : b ≡ false → Names (errors.At 13 0) (faults (few_names u))
+  many_names h = subst (λ d. Names (errors.At 13 0) (faults (demand d 13 0 met))) (sym (sym told ∙ h)) (0, omega arith, refl)

@@ -2,13 +2,13 @@
 use Rattle.std.proofs.Common.{◌≡◌, ℕ, zero, suc, Bool, true, false, ℤ, List, [], ◌∷◌, length, Option, Some, None, slice_set, refl, ap, sym, ◌∙◌}
 use Rattle.std.specs.Prelude.{pos, replicate}
 use Rattle.dm_base.specs.declared.mode.Mode.{Mode}
-use Rattle.c_syntax.specs.Tree.{Ident, Spec, Declarator, Storage, MaybeInit, Parts, no_parts, more_parts, Decl, decl, Enumerators, no_enumerators, more_enumerators, Tag, no_tag, tag}
+use Rattle.c_syntax.specs.Tree.{Ident, Spec, Declarator, Storage, MaybeInit, Parts, no_parts, more_parts, decl, Enumerators, no_enumerators, more_enumerators, Tag, no_tag, tag}
 use Rattle.c_syntax.specs.Tree.{Item, struct_item, enum_item, tag_item, decl_item, function_item, Items, no_items, more_items}
 use Rattle.c_rules.specs.Checked.{Checked, fine}
 use Rattle.c_rules.specs.Declarators.{name_of}
 use Rattle.c_rules.specs.Functions.{declares_function}
 use Rattle.c_rules.specs.Items.{behind_enum_tag, behind_enumerator, behind_enumerators, enumerator_value, one_more_than, behind_declared, behind_named_part, behind_file_part, behind_file_parts, after_file_part, behind_function_named, behind_by_form, struct_definition, struct_or_unknown, behind_item, behind_items, after_item}
-use Rattle.c_rules.specs.Scopes.{Env, Whole, Before, Struct, incomplete, nothing_before, tag_number}
+use Rattle.c_rules.specs.Scopes.{Env, Before, Struct, incomplete, nothing_before, tag_number}
 use Rattle.c_rules.specs.Units.{env_before, env_behind, tags_of, whole_of}
 
 -- the same unit, and as many structs

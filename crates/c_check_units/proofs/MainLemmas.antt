@@ -1,5 +1,5 @@
 -- The type of `main`.
-use Rattle.std.proofs.Common.{◌≡◌, ℕ, ◌≤◌, Bool, true, false, List, [], ◌∷◌, length, Vec, Global, refl, sym, ap, ◌∙◌, arith}
+use Rattle.std.proofs.Common.{◌≡◌, ◌≤◌, Bool, true, false, List, [], ◌∷◌, length, Vec, Global, refl, sym, ap, ◌∙◌, arith}
 use Rattle.std.specs.Prelude.{Box, ◌&&◌}
 use Rattle.c_tree.proofs.Rows.{function_is}
 use Rattle.c_tree.specs.declared.tree.CType.{CType as TypeTree}

@@ -1,7 +1,9 @@
 -- The parts of a program.
-use Rattle.std.proofs.Common.{◌≡◌, ℕ, ◌+◌, ◌<◌, ◌≤◌, List, [], ◌∷◌, ◌++◌, length, map, take, get_or, Bor, refl, ap, sym, subst, ◌∙◌, append_assoc}
+use Rattle.std.proofs.Common.{◌≡◌, ℕ, zero, suc, ◌+◌, ◌<◌, ◌≤◌, All, List, [], ◌∷◌, ◌++◌, length, map, take, get_or, Bor, ap, sym, subst, ◌∙◌, arith, append_assoc}
 use Rattle.std.proofs.lemmas.List.{map-append, take_all, take_more}
+use Rattle.std.proofs.lemmas.List.Elements.{All-head, All-tail}
 use Rattle.c_check_counts.specs.Seen.{seen, bytes_of}
+use Rattle.c_rules.specs.Limits.{most_cells}
 use Rattle.c_rules.specs.Units.{static_string}
 use Rattle.c_tree.specs.Counts.{AreCounts}
 use Rattle.c_tree.specs.declared.tree.Function.{Function as FunctionTree}
@@ -26,6 +28,11 @@ statics_more xs i d start old new s lt before is step =
 
 pub statics_all : (xs : List (Bor (List ℕ))) (i : ℕ) (start all : List Static) → length xs ≤ i → all ≡ start ++ map static_string (seen (take i xs)) → all ≡ start ++ map static_string (seen xs)
 statics_all xs i start all over is = is ∙ ap (λ ys. start ++ map static_string (seen ys)) (take_all i xs over)
+
+pub short_at : (xs : List (Bor (List ℕ))) (i : ℕ) (d : Bor (List ℕ)) → i < length xs → All (λ w. length w < most_cells) (seen xs) → length (get_or xs i d).now < most_cells
+short_at [] i d lt h = absurd (omega (arith, lt))
+short_at (x ∷ xs) zero d lt h = All-head (λ w. length w < most_cells) x.now (seen xs) h
+short_at (x ∷ xs) (suc i) d lt h = short_at xs i d (omega (arith, lt)) (All-tail (λ w. length w < most_cells) x.now (seen xs) h)
 
 -- ## The program
 

@@ -1,13 +1,16 @@
-ghost use Rattle.std.specs.Prelude.{◌≡◌, length, replicate, IfOk};
+ghost use Rattle.std.specs.Prelude.{◌≡◌, ◌&&◌, ◌^◌, length, nat_lt, replicate, IfOk};
 ghost use Rattle.c_check_counts.specs.Seen.{seen};
-ghost use Rattle.c_rules.specs.Scopes.{incomplete};
-ghost use Rattle.c_rules.specs.Units.{env_before, functions_of, objects_of};
+ghost use Rattle.c_check_values.specs.Agreement.{AgreesWith};
+ghost use Rattle.c_rules.specs.Checked.{met};
+ghost use Rattle.c_rules.specs.Scopes.{empty_env, incomplete};
+ghost use Rattle.c_rules.specs.Units.{env_before, few_names, functions_of, objects_of};
 ghost use Rattle.c_check_scopes.specs.View.{env_of, structs_of};
 ghost use Rattle.c_syntax.specs.UnitView.{items_of};
 
 use crate::unit_tags::tags_of;
 use c_check_counts::{functions_of, objects_of};
-use c_check_scopes::{Context, Environment, Numbering, Scopes, StructTable};
+use c_check_scopes::{Context, Environment, FewNames, Numbering, Scopes, StructTable};
+use c_check_values::{C13, CheckError};
 use c_syntax::Item;
 use dm_base::{Mode, OutOfMemory};
 use dm_counts::Count;
@@ -41,23 +44,37 @@ fn objects_in<'t>(alloc: Global, items: &'t [Item]) -> Result<Numbering<'t>, Out
 }
 
 // The structs with these tags, none of them defined.
-fn structs_with<'t>(alloc: Global, tags: &Numbering<'_>) -> Result<StructTable<'t>, OutOfMemory>
+fn structs_with<'t>(alloc: Global, tags: &FewNames<'_>) -> Result<StructTable<'t>, OutOfMemory>
     ensures { IfOk result (λ structs. structs_of structs ≡ replicate (length tags.now) incomplete) }
 {
     StructTable::new(alloc, tags.len())
 }
 
-/// What is known before the items of a unit. `OutOfMemory` comes too where there are 2^32 functions, objects or tags.
-pub fn environment_before<'t>(
+// Whether names of the whole unit are fewer than 2^31.
+fn are_few(names: &Numbering<'_>) -> bool
+    ensures { result ≡ nat_lt (length names.now) (2 ^ 31) }
+{
+    names.len() < 2_147_483_648
+}
+
+// Whether the functions, the objects and the tags of structs of a unit are few.
+fn are_all_few(functions: &Numbering<'_>, objects: &Numbering<'_>, tags: &Numbering<'_>) -> bool
+    ensures { result ≡ (nat_lt (length functions.now) (2 ^ 31) && (nat_lt (length objects.now) (2 ^ 31) && nat_lt (length tags.now) (2 ^ 31))) }
+{
+    are_few(functions) && (are_few(objects) && are_few(tags))
+}
+
+// What is known before all items, where these are the names of the functions and of the objects that the unit defines, and its tags of
+// structs.
+fn environment_with<'t>(
     alloc: Global,
     mode: Mode,
-    items: &'t [Item],
+    defined_functions: FewNames<'t>,
+    objects: FewNames<'t>,
+    struct_tags: FewNames<'t>,
 ) -> Result<Environment<'t>, OutOfMemory>
-    ensures { IfOk result (λ env. env_of env ≡ env_before mode (items_of items.now)) }
+    ensures { IfOk result (λ env. env_of env ≡ empty_env (record { mode = mode; functions = defined_functions.entry; objects = objects.entry; tags = struct_tags.entry })) }
 {
-    let defined_functions = functions_in(alloc, items)?;
-    let objects = objects_in(alloc, items)?;
-    let struct_tags = tags_of(alloc, items)?;
     let structs = structs_with(alloc, &struct_tags)?;
     let names = Scopes::new(alloc);
     let enums = Numbering::new(alloc);
@@ -76,4 +93,25 @@ pub fn environment_before<'t>(
         tags,
         context: Context::Evaluated,
     })
+}
+
+/// What is known before the items of a unit. `At` names the demand that the unit has few names.
+pub fn environment_before<'t>(
+    alloc: Global,
+    mode: Mode,
+    items: &'t [Item],
+) -> Result<Environment<'t>, CheckError>
+    ensures judged { AgreesWith (λ _. met) result (few_names (items_of items.now)) }
+    ensures known { IfOk result (λ env. env_of env ≡ env_before mode (items_of items.now)) }
+{
+    let functions = functions_in(alloc, items)?;
+    let objects = objects_in(alloc, items)?;
+    let tags = tags_of(alloc, items)?;
+    if !are_all_few(&functions, &objects, &tags) {
+        return Err(CheckError::At(C13, 0));
+    }
+    let functions = FewNames::of(functions);
+    let objects = FewNames::of(objects);
+    let tags = FewNames::of(tags);
+    Ok(environment_with(alloc, mode, functions, objects, tags)?)
 }

@@ -1,5 +1,6 @@
-ghost use Rattle.std.specs.Prelude.{◌≡◌, ◌++◌, length, map, unwrap_or, codes, IfOk};
+ghost use Rattle.std.specs.Prelude.{◌≡◌, ◌<◌, ◌++◌, All, length, map, unwrap_or, codes, IfOk};
 ghost use Rattle.c_check_counts.specs.Seen.{seen};
+ghost use Rattle.c_rules.specs.Limits.{most_cells};
 ghost use Rattle.c_rules.specs.Names.{number_among};
 ghost use Rattle.c_rules.specs.Units.{static_string};
 ghost use Rattle.c_check_scopes.specs.View.{before_of, env_of};
@@ -30,6 +31,7 @@ fn statics_with(
     objects: Vec<Static>,
     strings: &[&[u8]],
 ) -> Result<Vec<Static>, OutOfMemory>
+    requires { All (λ w. length w < most_cells) (seen strings.now) }
     ensures { IfOk result (λ statics. map static_of statics.items ≡ map static_of objects.items ++ map static_string (seen strings.now)) }
 {
     let mut statics = objects;
@@ -41,7 +43,6 @@ fn statics_with(
 }
 
 /// The program with these functions, this number of `main` and these static objects, where this is known and stands before behind all items.
-/// `OutOfMemory` comes too where a string has 2^32 cells.
 pub fn program_with(
     alloc: Global,
     env: &Environment<'_>,
@@ -56,8 +57,8 @@ pub fn program_with(
 {
     let structs = structs_of(alloc, env)?;
     let struct_cells = cells_of_structs(alloc, env)?;
-    let statics = statics_with(alloc, objects, &before.strings)?;
-    match before.sites.number() {
+    let statics = statics_with(alloc, objects, before.strings())?;
+    match before.sites().number() {
         Some(sites) => Ok(Program::of(structs, defined, number, statics, sites, struct_cells)),
         None => unreachable!(),
     }

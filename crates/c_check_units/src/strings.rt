@@ -1,4 +1,5 @@
-ghost use Rattle.std.specs.Prelude.{◌≡◌, ◌∷◌, [], ◌++◌, pos, IfOk};
+ghost use Rattle.std.specs.Prelude.{◌≡◌, ◌<◌, ◌∷◌, [], ◌++◌, length, pos, IfOk};
+ghost use Rattle.c_rules.specs.Limits.{most_cells};
 ghost use Rattle.c_rules.specs.PrimaryExpressions.{string_type};
 ghost use Rattle.c_rules.specs.Units.{static_string};
 ghost use Rattle.c_tree.specs.Operators.{value_of};
@@ -40,19 +41,16 @@ fn string_cells(alloc: Global, bytes: &[u8]) -> Result<Vec<Value>, OutOfMemory>
 
 // The type of a string of so many bytes.
 fn string_type(alloc: Global, count: usize) -> Result<CType, OutOfMemory>
+    requires { count < most_cells }
     ensures { IfOk result (λ t. ctype_of t ≡ string_type count) }
 {
-    let Ok(length) = u32::try_from(count) else {
-        return Err(OutOfMemory);
-    };
-    let Some(size) = length.checked_add(1) else {
-        return Err(OutOfMemory);
-    };
+    let size = count as u32 + 1;
     Ok(CType::Array(Box::new(alloc, CType::Int(IntType::Char))?, size))
 }
 
-/// The static object that a string is (C99 6.4.5 paragraph 5). `OutOfMemory` comes too where it has 2^32 cells.
+/// The static object that a string is, which is within the limit on a string (C99 6.4.5 paragraph 5).
 pub fn static_string(alloc: Global, bytes: &[u8]) -> Result<Static, OutOfMemory>
+    requires { length bytes.now < most_cells }
     ensures { IfOk result (λ s. static_of s ≡ static_string bytes.now) }
 {
     let ctype = string_type(alloc, bytes.len())?;

@@ -47,8 +47,7 @@ fn distinct<'t>(alloc: Global, names: &[&'t [u8]]) -> Result<Numbering<'t>, OutO
 }
 
 /// The tags of structs in the order of their numbers (C99 6.7.2.3): that in which they first stand in the unit, where the
-/// declarations of the instrumenter are left aside, and then those that stand in such declarations alone. `OutOfMemory` comes too
-/// where there are 2^32 of them.
+/// declarations of the instrumenter are left aside, and then those that stand in such declarations alone.
 pub fn tags_of<'t>(alloc: Global, items: &'t [Item]) -> Result<Numbering<'t>, OutOfMemory>
     ensures { IfOk result (λ tags. tags ≡ tags_of (items_of items.now)) }
 {
@@ -104,7 +103,7 @@ fn push_backwards<'t>(into: &mut Numbering<'t>, names: Vec<&'t [u8]>) -> Result<
     Ok(())
 }
 
-/// Puts the tags of structs that stand in the item at the end, the last one first. `OutOfMemory` comes too where there are 2^32 names.
+/// Puts the tags of structs that stand in the item at the end, the last one first.
 pub fn push_tags<'t>(
     alloc: Global,
     into: &mut Numbering<'t>,
@@ -117,7 +116,7 @@ pub fn push_tags<'t>(
     push_backwards(into, names)
 }
 
-/// The tags of structs that stand in the list of an enum, the last one first. `OutOfMemory` comes too where there are 2^32 of them.
+/// The tags of structs that stand in the list of an enum, the last one first.
 pub fn tags_within<'t>(alloc: Global, es: &'t [Enumerator]) -> Result<Numbering<'t>, OutOfMemory>
     ensures { IfOk result (λ tags. reverse tags ≡ tags_of_enumerators (enumerators_of es.now) ++ []) }
 {

@@ -25,7 +25,7 @@ use Rattle.c_syntax.specs.declared.tree.TypeName.{out-TypeName}
 use Rattle.c_tree.specs.View.{ctype_of, types_of}
 use Rattle.c_check_expressions.specs.Parts.{name_of_param, onto_givens, onto_types, type_of_param}
 use Rattle.c_check_expressions.proofs.Exits.{same_ok, kept_then, fails_first, fails_first_of, fails_on, fails_second, fails_second_of, fails_third_of, named_first, named_on, on_ended, on_ok, three_ended, two_ended, counted_as}
-use Rattle.c_check_expressions.proofs.Loops.{counted_more, declares_more, declares_none, name_fails, left_again, one_longer, parameter_more, parameters_begin, parameters_end, type_fails, value_fails, value_more, values_begin, values_end}
+use Rattle.c_check_expressions.proofs.Loops.{counted_more, declares_more, declares_none, name_fails, left_again, parameter_more, parameters_begin, parameters_end, type_fails, value_fails, value_more, values_begin, values_end}
 use Rattle.c_check_expressions.proofs.NodeLemmas.{after-And, after-Arrow, after-Assign, after-Binary, after-Call, after-Cast, after-Char, after-Comma, after-Cond, after-Index, after-Int, after-Member, after-Name, after-Or, after-PostDec, after-PostInc, after-PreDec, after-PreInc, after-SizeofExpr, after-SizeofType, after-Str, after-Unary, counted_all, past_designator, place_is}
 use Rattle.c_check_expressions.proofs.Trees.{declared-Array, declared-Function, declared-Pointer, operand_fails, tree-Name, tree-Int, tree-Char, box_place, unary_is, declared-Name, tree-And, tree-Arrow, tree-Assign, tree-Binary, tree-Call, tree-Cast, tree-Comma, tree-Cond, tree-Index, tree-Member, tree-Or, tree-PostDec, tree-PostInc, tree-PreDec, tree-PreInc, tree-SizeofExpr, tree-SizeofType, tree-Str, tree-Unary, type_place}
 use Rattle.c_check_expressions.proofs.expressions.+expression.Goals as goal
@@ -44,15 +44,15 @@ tree-returns-in-Name-clause-kept t c =
 
 pub tree-returns-in-Int-clause-judged : goal.tree-returns-in-Int-clause-judged
 tree-returns-in-Int-clause-judged t c =
-    subst (AgreesWith typed_expression_of c.integer_given.result) (sym (tree-Int (env_of c.args.env.now) (before_of c.args.before.now) c.args.e.now c.in-Int.value c.in-Int.unsigned c.in-Int.is)) c.integer_given.ensures
+    tree-Int (env_of c.args.env.now) (before_of c.args.before.now) c.args.e.now c.in-Int.value c.in-Int.unsigned c.in-Int.is ∙ ap fine (sym c.integer_expression.ensures)
 
 pub tree-returns-in-Int-clause-counted : goal.tree-returns-in-Int-clause-counted
 tree-returns-in-Int-clause-counted t c =
-    on_ok c.integer_given.result _ (sym (after-Int (before_of c.args.before.now) c.args.e.now c.in-Int.value c.in-Int.unsigned c.in-Int.is))
+    sym (after-Int (before_of c.args.before.now) c.args.e.now c.in-Int.value c.in-Int.unsigned c.in-Int.is)
 
 pub tree-returns-in-Int-clause-kept : goal.tree-returns-in-Int-clause-kept
 tree-returns-in-Int-clause-kept t c =
-    same_ok c.integer_given.result c.args.env.now
+    refl
 
 pub tree-returns-in-Char-clause-judged : goal.tree-returns-in-Char-clause-judged
 tree-returns-in-Char-clause-judged t c =
@@ -636,22 +636,22 @@ parameter_type-returns-clause-kept t c =
 
 pub parameters-returns-in_err-ctype-clause-judged : goal.parameters-returns-in_err-ctype-clause-judged
 parameters-returns-in_err-ctype-clause-judged t c =
-    raised (λ v. types_of v.items) _ c.from_residual.result c.in_err-ctype.field-0.0 c.from_residual.ensures (type_fails c.in_err-ctype.field-0.0 (env_of c.loop-p.env) c.args.params.now c.loop-p.p-index (length c.loop-p.types.items) c.p-item.result c.loop-p.types.items (parameters (env_of c.args.env.now) 0 (params_of c.args.params.now)) c.loop-p-test.true c.p-item.is c.loop-p.invariant.found c.in_err-ctype.ensures.judged)
+    raised (λ v. types_of v.items) _ c.from_residual.result c.in_err-ctype.field-0.0 c.from_residual.ensures (type_fails c.in_err-ctype.field-0.0 (env_of c.loop-p.env) c.args.params.now c.loop-p.p-index 0 c.p-item.result c.loop-p.types.items (parameters (env_of c.args.env.now) 0 (params_of c.args.params.now)) c.loop-p-test.true c.p-item.is c.loop-p.invariant.found c.in_err-ctype.ensures.judged)
 
 pub parameters-returns-in_err-declare_parameter-clause-judged : goal.parameters-returns-in_err-declare_parameter-clause-judged
 parameters-returns-in_err-declare_parameter-clause-judged t c =
-    raised (λ v. types_of v.items) _ c.from_residual-in_err-declare_parameter.result c.in_err-declare_parameter.field-0.0 c.from_residual-in_err-declare_parameter.ensures (name_fails c.in_err-declare_parameter.field-0.0 (env_of c.loop-p.env) c.args.params.now c.loop-p.p-index (length c.loop-p.types.items) c.p-item.result c.loop-p.types.items c.in_ok-ctype.ctype (parameters (env_of c.args.env.now) 0 (params_of c.args.params.now)) c.loop-p-test.true c.p-item.is c.loop-p.invariant.found c.in_ok-ctype.ensures.judged (subst (λ r. Names c.in_err-declare_parameter.field-0.0 (faults r)) (λ i. with_name_demands (env_of (c.in_ok-ctype.ensures.kept i)) (name_of_param c.p-item.result) (fine (ctype_of c.in_ok-ctype.ctype))) c.in_err-declare_parameter.ensures.judged))
+    raised (λ v. types_of v.items) _ c.from_residual-in_err-declare_parameter.result c.in_err-declare_parameter.field-0.0 c.from_residual-in_err-declare_parameter.ensures (name_fails c.in_err-declare_parameter.field-0.0 (env_of c.loop-p.env) c.args.params.now c.loop-p.p-index 0 c.p-item.result c.loop-p.types.items c.in_ok-ctype.ctype (parameters (env_of c.args.env.now) 0 (params_of c.args.params.now)) c.loop-p-test.true c.p-item.is c.loop-p.invariant.found c.in_ok-ctype.ensures.judged (subst (λ r. Names c.in_err-declare_parameter.field-0.0 (faults r)) (λ i. with_name_demands (env_of (c.in_ok-ctype.ensures.kept i)) (name_of_param c.p-item.result) (fine (ctype_of c.in_ok-ctype.ctype))) c.in_err-declare_parameter.ensures.judged))
 
 pub parameters-loop-p-preserved : goal.parameters-loop-p-preserved
 parameters-loop-p-preserved t c =
     record {
-      found = parameter_more (env_of c.loop-p.env) (env_of c.declare_parameter.new.env) c.args.params.now c.loop-p.p-index (length c.loop-p.types.items) (length c.push.new.self.items) c.p-item.result c.loop-p.types.items c.in_ok-ctype.ctype (parameters (env_of c.args.env.now) 0 (params_of c.args.params.now)) c.loop-p-test.true c.p-item.is c.loop-p.invariant.found c.in_ok-ctype.ensures.judged (sym (λ i. with_name_demands (env_of (c.in_ok-ctype.ensures.kept i)) (name_of_param c.p-item.result) (fine (ctype_of c.in_ok-ctype.ctype))) ∙ c.in_ok-declare_parameter.ensures.judged) (c.in_ok-declare_parameter.ensures.meant ∙ (λ j. behind_parameter (env_of (c.in_ok-ctype.ensures.kept j)) ((c.len.ensures ∙ c.loop-p.types.ok.0) j) (name_of_param c.p-item.result) (fine (ctype_of c.in_ok-ctype.ctype)))) (one_longer c.loop-p.types.items c.in_ok-ctype.ctype c.push.new.self.items c.in_ok-push.ensures.items) ∙ ap (λ l. onto_types l (parameters (env_of c.declare_parameter.new.env) (length c.push.new.self.items) (params_of (drop (c.loop-p.p-index + 1) c.args.params.now)))) (sym c.in_ok-push.ensures.items);
+      found = parameter_more (env_of c.loop-p.env) (env_of c.declare_parameter.new.env) c.args.params.now c.loop-p.p-index 0 c.p-item.result c.loop-p.types.items c.in_ok-ctype.ctype (parameters (env_of c.args.env.now) 0 (params_of c.args.params.now)) c.loop-p-test.true c.p-item.is c.loop-p.invariant.found c.in_ok-ctype.ensures.judged (sym (λ i. with_name_demands (env_of (c.in_ok-ctype.ensures.kept i)) (name_of_param c.p-item.result) (fine (ctype_of c.in_ok-ctype.ctype))) ∙ c.in_ok-declare_parameter.ensures.judged) (c.in_ok-declare_parameter.ensures.meant ∙ (λ j. behind_parameter (env_of (c.in_ok-ctype.ensures.kept j)) 0 (name_of_param c.p-item.result) (fine (ctype_of c.in_ok-ctype.ctype)))) ∙ ap (λ l. onto_types l (parameters (env_of c.declare_parameter.new.env) 0 (params_of (drop (c.loop-p.p-index + 1) c.args.params.now)))) (sym c.in_ok-push.ensures.items);
       kept = declares_more c.args.env.now c.loop-p.env c.parameter_type.new.env c.declare_parameter.new.env c.loop-p.invariant.kept c.in_ok-ctype.ensures.kept c.in_ok-declare_parameter.ensures.kept;
     }
 
 pub parameters-returns-clause-judged : goal.parameters-returns-clause-judged
 parameters-returns-clause-judged t c =
-    parameters_end (env_of c.loop-p.env) c.args.params.now c.loop-p.p-index (length c.loop-p.types.items) c.loop-p.types.items (parameters (env_of c.args.env.now) 0 (params_of c.args.params.now)) c.loop-p-test.false c.loop-p.invariant.found
+    parameters_end (env_of c.loop-p.env) c.args.params.now c.loop-p.p-index 0 c.loop-p.types.items (parameters (env_of c.args.env.now) 0 (params_of c.args.params.now)) c.loop-p-test.false c.loop-p.invariant.found
 
 pub parameters-returns-clause-kept : goal.parameters-returns-clause-kept
 parameters-returns-clause-kept t c =
@@ -659,7 +659,7 @@ parameters-returns-clause-kept t c =
 
 pub parameters-loop-p-init : goal.parameters-loop-p-init
 parameters-loop-p-init t c =
-    record { found = parameters_begin (parameters (env_of c.args.env.now) 0 (params_of c.args.params.now)) ∙ ap (λ l. onto_types l (parameters (env_of c.args.env.now) (length l) (params_of c.args.params.now))) (sym c.new-types.ensures.items); kept = declares_none c.args.env.now }
+    record { found = parameters_begin (parameters (env_of c.args.env.now) 0 (params_of c.args.params.now)) ∙ ap (λ l. onto_types l (parameters (env_of c.args.env.now) 0 (params_of c.args.params.now))) (sym c.new-types.ensures.items); kept = declares_none c.args.env.now }
 
 pub parameters_apart-returns-in_err-types-clause-judged : goal.parameters_apart-returns-in_err-types-clause-judged
 parameters_apart-returns-in_err-types-clause-judged t c =

@@ -1,4 +1,4 @@
-use Rattle.std.proofs.Common.{◌≡◌, length, drop, map}
+use Rattle.std.proofs.Common.{◌≡◌, drop, map}
 use Rattle.c_check_values.specs.View.{typed_expression_of}
 use Rattle.c_rules.specs.Counts.{calls_of_all, strings_of_all, past}
 use Rattle.c_rules.specs.Expressions.{trees, parameters}
@@ -16,6 +16,6 @@ invariant-values-loop-e l = record {
 
 abbrev pub invariant-parameters-loop-p : goal.invariant-parameters-loop-p
 invariant-parameters-loop-p l = record {
-  found : parameters (env_of l.fn.env) 0 (params_of l.params) ≡ onto_types l.types.items (parameters (env_of l.env) (length l.types.items) (params_of (drop l.p-index l.params)));
+  found : parameters (env_of l.fn.env) 0 (params_of l.params) ≡ onto_types l.types.items (parameters (env_of l.env) 0 (params_of (drop l.p-index l.params)));
   kept : Declares l.fn.env l.env;
 }

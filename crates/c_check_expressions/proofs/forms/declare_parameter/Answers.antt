@@ -1,8 +1,7 @@
-use Rattle.std.proofs.Common.{◌≡◌, Some, sym, ap, ◌∙◌}
+use Rattle.std.proofs.Common.{◌≡◌, Some, sym, ◌∙◌}
 use Rattle.c_check_values.proofs.Parts.{raised}
 use Rattle.c_rules.specs.Checked.{fine}
 use Rattle.c_rules.specs.Declarators.{with_name_demands}
-use Rattle.c_rules.specs.Scopes.{a_local, with_name}
 use Rattle.c_check_scopes.specs.View.{env_of}
 use Rattle.c_syntax.specs.View.{ident_of}
 use Rattle.c_tree.specs.View.{ctype_of}
@@ -25,5 +24,4 @@ pub returns-in_ok-declare_variable-in-Some-clause-meant : goal.returns-in_ok-dec
 returns-in_ok-declare_variable-in-Some-clause-meant c =
     let t = ctype_of c.args.ctype.now in
     c.in_ok-declare_variable-in-Some.ensures.meant
-    ∙ ap (λ k. with_name (env_of c.args.env.now) (ident_of c.in-Some.x.now).name (a_local k t t)) c.in-Ok.ensures.1
-    ∙ sym (behind_named (env_of c.args.env.now) c.args.number (name_of_param c.args.p.now) (ident_of c.in-Some.x.now) t (sym c.in-Some.ensures) c.in_ok-new_name-in-Some.ensures)
+    ∙ sym (behind_named (env_of c.args.env.now) 0 (name_of_param c.args.p.now) (ident_of c.in-Some.x.now) t (sym c.in-Some.ensures) c.in_ok-new_name-in-Some.ensures)

@@ -1,7 +1,10 @@
 use Rattle.std.proofs.Common.{rules, map}
 use Rattle.c_tree.specs.View.{static_of}
-use Rattle.c_check_units.proofs.ProgramLemmas.{statics_more, statics_all}
+use Rattle.c_check_units.proofs.ProgramLemmas.{short_at, statics_more, statics_all}
 use Rattle.c_check_units.proofs.programs.statics_with.Goals as goal
+
+pub static_string-requires : goal.static_string-requires
+static_string-requires c = short_at c.args.strings.now c.loop-bytes.bytes-index _ c.loop-bytes-test.true c.requires
 
 pub loop-bytes-preserved : goal.loop-bytes-preserved
 loop-bytes-preserved c =

@@ -1,4 +1,4 @@
-use Rattle.std.proofs.Common.{◌≡◌, ◌<◌, ap, ◌∙◌, w8, of_z, to_z, arith}
+use Rattle.std.proofs.Common.{◌<◌, ap, ◌∙◌, w8, of_z, to_z, arith}
 use Rattle.std.proofs.lemmas.Int.{of_z-to_z}
 use Rattle.c_tree.specs.declared.value.Value.TheVariants.{Char}
 use Rattle.c_check_units.proofs.StringLemmas.{char_wrapped}

@@ -1,4 +1,4 @@
-use Rattle.std.proofs.Common.{rules, sym, ◌∙◌, length, subst}
+use Rattle.std.proofs.Common.{rules, sym, ◌∙◌, subst}
 use Rattle.std.proofs.lemmas.List.{length-map}
 use Rattle.c_rules.specs.Scopes.{layout_of, types_of_struct}
 use Rattle.c_check_scopes.specs.View.{env_of}
@@ -14,4 +14,4 @@ loop-s-preserved c =
 
 pub returns : goal.returns
 returns c size =
-    cells_all (layout_of (env_of c.args.env.now)) c.len-count.result c.loop-s.s c.loop-s.counts.items c.loop-s-test.false c.loop-s.invariant (length-map (env_of c.args.env.now).structs types_of_struct ∙ (size ∙ sym c.len-count.ensures))
+    cells_all (layout_of (env_of c.args.env.now)) c.len-count.result c.loop-s.s c.loop-s.counts.items c.loop-s-test.false c.loop-s.invariant (length-map (env_of c.args.env.now).structs types_of_struct ∙ (size ∙ sym c.len-count.ensures.is))

@@ -1,14 +1,12 @@
 use Rattle.std.proofs.Common.{◌++◌, ◌∙◌, ap, sym}
-use Rattle.c_syntax.specs.declared.tree.TypeName.{out-TypeName}
-use Rattle.c_syntax.specs.declared.tree.Param.{out-Param}
-use Rattle.c_syntax.specs.View.{spec_of, expr_of, type_name_of, declarator_of}
-use Rattle.c_syntax.specs.Writes.{exprs_of, params_of, declarator_in, declarator_behind}
-use Rattle.c_rules.specs.Tags.{tags_of_spec, tags_of_expr, tags_of_exprs, tags_of_type, tags_of_declarator, tags_of_params}
+use Rattle.c_syntax.specs.View.{expr_of, declarator_of}
+use Rattle.c_syntax.specs.Writes.{exprs_of, params_of, declarator_behind}
+use Rattle.c_rules.specs.Tags.{tags_of_expr, tags_of_exprs, tags_of_declarator, tags_of_params}
 use Rattle.c_check_counts.specs.Seen.{seen}
 use Rattle.c_check_counts.proofs.Lists.{all_flat, on_same, then_on}
 use Rattle.c_check_units.specs.Held.{tags_of_param}
 use Rattle.c_check_units.proofs.TagLists.{exprs_flat, params_flat}
-use Rattle.c_check_units.proofs.TagNodes.{of_comma, of_call, of_type, of_param, of_function}
+use Rattle.c_check_units.proofs.TagNodes.{of_comma, of_call, of_function}
 use Rattle.c_check_units.proofs.tags.+tags_in.Goals as goal
 
 pub add_expr-returns-in-Comma : goal.add_expr-returns-in-Comma

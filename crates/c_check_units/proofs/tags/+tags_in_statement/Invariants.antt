@@ -1,4 +1,4 @@
-use Rattle.std.proofs.Common.{◌≡◌, [], ◌∷◌, ◌++◌, take}
+use Rattle.std.proofs.Common.{◌≡◌, ◌++◌, take}
 use Rattle.std.specs.Prelude.{flat_map}
 use Rattle.c_check_units.specs.Held.{tags_of_block_item, tags_of_group}
 use Rattle.c_rules.specs.Tags.{tags_of_stmt}
