@@ -207,8 +207,7 @@ fn all_items<'p>(
 /// The unit with null calls round the marked calls of the program that it is typed as (Giffin, Jha and Miller 2004): the two null
 /// calls are declared first, each function's body begins with the declarations of its temporaries, and each marked call is a comma
 /// expression that keeps the designator and the arguments, and calls between its null calls. `items` are those of the unit, and
-/// `calls` is the call graph of the program. Takes time that is linear in the unit that it makes. `OutOfMemory` comes too where the
-/// unit has 2^32 tags.
+/// `calls` is the call graph of the program. Takes time that is linear in the unit that it makes.
 pub fn instrument(
     alloc: Global,
     items: &[Item],
