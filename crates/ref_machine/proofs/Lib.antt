@@ -1,4 +1,9 @@
 pub mod Chains
+pub mod HeldExpressions
+pub mod HeldRuns
+pub mod HeldStatements
+pub mod HeldSteps
+pub mod HeldTurns
 pub mod Noting
 pub mod Recording
 pub mod Resuming

@@ -11,9 +11,10 @@ use Rattle.ref_machine_steps.specs.declared.requests.Request.{Request}
 use Rattle.c_tree.specs.View.{program_of}
 use Rattle.c_values.specs.Memory.{Objects}
 use Rattle.c_values.specs.Seen.{seen}
-use Rattle.c_meaning.specs.Runs.{Run, ending, no_marks, world}
+use Rattle.c_meaning.specs.Runs.{Run, ending}
 use Rattle.c_meaning_laws.specs.TypedResults.{IsEnding}
 use Rattle.ref_machine_steps.specs.Requests.{asked_by}
+use Rattle.ref_machine_frames.specs.Held.{world}
 use Rattle.ref_machine_frames.specs.Frames.{place_of, stack, after_value}
 use Rattle.ref_machine_frames.specs.declared.frames.Here.{Here}
 use Rattle.ref_machine_frames.specs.declared.frames.Frame.{Frame}
@@ -56,7 +57,7 @@ goes_alike old f new (Ended o) waiting same h = (λ records. (same records ∙ (
 pub needs_one : (m : Machine) (name : ℕ) (request : Request) (now : Now) (new : Future) → now ≡ Ask name request → ((records : List SysResult) → new records ≡ future_at m (Ask name request) records) → GoesOn (future_at m now) NeedResult new true
 needs_one m name request now new is same =
     let p = program_of m.program.now in
-    (λ records. same records ∙ ap (λ now. future_at m now records) (sym is), ap (λ now. future_at m now []) is, refl, λ one records ends. none_wanted name (asked_by request) one records (state (seen m.memory) m.entries (one ∷ records) m.taken m.turns) (after_value p (world p no_marks m.allowed) (place_of m.here) (stack m.todo.items)) (ap (λ now. future_at m now (one ∷ records)) (sym is) ∙ ends))
+    (λ records. same records ∙ ap (λ now. future_at m now records) (sym is), ap (λ now. future_at m now []) is, refl, λ one records ends. none_wanted name (asked_by request) one records (state (seen m.memory) m.entries (one ∷ records) m.taken m.turns) (after_value p (world p m.allowed) (place_of m.here) (stack m.todo.items)) (ap (λ now. future_at m now (one ∷ records)) (sym is) ∙ ends))
 
 -- the run has ended
 pub has_ended : (old new : Future) (o : Outcome) (pause : Pause) → pause ≡ Ended o → ((records : List SysResult) → old records ≡ only_end o) → ((records : List SysResult) → new records ≡ only_end o) → GoesOn old pause new false

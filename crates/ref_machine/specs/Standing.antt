@@ -6,8 +6,9 @@ use Rattle.c_tree.specs.declared.value.Value.{Value}
 use Rattle.c_tree.specs.Tree.{Program}
 use Rattle.c_values.specs.Memory.{Objects}
 use Rattle.c_meaning.specs.Results.{State, Result}
-use Rattle.c_meaning.specs.Runs.{ending, no_marks, world}
+use Rattle.c_meaning.specs.Runs.{ending}
 use Rattle.c_meaning_laws.specs.TypedResults.{IsEnding}
+use Rattle.ref_machine_frames.specs.Held.{world}
 use Rattle.ref_machine_frames.specs.declared.frames.After.{After}
 use Rattle.ref_machine_frames.specs.declared.frames.After.TheVariants as afters
 use Rattle.ref_machine_frames.specs.declared.frames.Here.{Here}
@@ -33,7 +34,7 @@ pub record Standing : Type 0 where
 -- what is left of the run, with these records to come, of which so many were taken before; n turns are enough
 abbrev pub left_of : Program → ℕ → Standing → List SysResult → ℕ → Result Value
 left_of p n s records taken =
-    rest p (world p no_marks n) (place_of s.here) s.now (stack s.todo) (state s.memory s.entries records taken s.turns)
+    rest p (world p n) (place_of s.here) s.now (stack s.todo) (state s.memory s.entries records taken s.turns)
 
 -- the same is left of the run
 abbrev pub SameLeft : Program → Standing → Standing → Type 0

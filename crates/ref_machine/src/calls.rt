@@ -1,4 +1,4 @@
-ghost use Rattle.std.specs.Prelude.{◌≡◌, ℕ, ◌+◌, ◌-◌, ◌^◌, ◌<◌, ◌≤◌, List, nat_eq, slice_get, IfOk};
+ghost use Rattle.std.specs.Prelude.{◌≡◌, ℕ, ◌+◌, ◌-◌, ◌^◌, ◌<◌, ◌≤◌, List, length, nat_eq, slice_get, IfOk};
 ghost use Rattle.sys_table.specs.declared.sys_result.SysResult.{SysResult as Record};
 ghost use Rattle.c_tree.specs.Functions.{defined};
 ghost use Rattle.c_tree.specs.Tree.{Program as Term};
@@ -7,7 +7,8 @@ ghost use Rattle.c_values.specs.Memory.{Objects};
 ghost use Rattle.c_values.specs.Seen.{seen};
 ghost use Rattle.c_meaning.specs.Meaning.{World, without};
 ghost use Rattle.c_meaning.specs.Results.{State, then_do, with_memory};
-ghost use Rattle.c_meaning.specs.Runs.{no_marks, result_of, run_body, without_value};
+ghost use Rattle.c_meaning.specs.Runs.{result_of, without_value};
+ghost use Rattle.ref_machine_frames.specs.Held.{run_body, run_few};
 ghost use Rattle.ref_machine_frames.specs.declared.frames.Frame.{Frame as Todo};
 ghost use Rattle.ref_machine_frames.specs.Frames.{after_value, exit_in, numbers, out_of_call, place_of, rest, stack};
 ghost use Rattle.ref_machine_frames.specs.Parts.{Does};
@@ -19,7 +20,7 @@ use dm_base::{Kind, OutOfMemory, Outcome};
 use ref_machine_frames::{Call, Frame, Here, Left, Now};
 use ref_machine_steps::set_parameters;
 
-// Enters a function that is defined, once its turn is spent.
+// Enters a function that is defined, with at most 16 arguments, once its turn is spent.
 fn enter_defined<'p>(
     program: &'p Program,
     memory: &mut Memory,
@@ -31,13 +32,11 @@ fn enter_defined<'p>(
     values: &[Value],
 ) -> Result<Now<'p>, OutOfMemory>
     requires known { f < defined (program_of program.now) }
+    requires few { length values.now ≤ 16 }
     requires room { entries.old < 2 ^ 64 - 1 }
-    ensures entered { IfOk result (λ now. (w : World) (rs : List Record) (taken turns : ℕ) → rest (program_of program.now) w (place_of here.new) now (stack todo.new.items) (state (seen memory.new) entries.new rs taken turns) ≡ then_do (run_body (program_of program.now) w no_marks (nat_eq f (program_of program.now).main) wanted (slice_get (program_of program.now).functions f) values.now (state (seen memory.old) entries.old rs taken turns)) (after_value (program_of program.now) w (place_of here.old) (stack todo.old.items))) }
+    ensures entered { IfOk result (λ now. (w : World) (rs : List Record) (taken turns : ℕ) → rest (program_of program.now) w (place_of here.new) now (stack todo.new.items) (state (seen memory.new) entries.new rs taken turns) ≡ then_do (run_body (program_of program.now) w (nat_eq f (program_of program.now).main) wanted (slice_get (program_of program.now).functions f) values.now (state (seen memory.old) entries.old rs taken turns)) (after_value (program_of program.now) w (place_of here.old) (stack todo.old.items))) }
     ensures counted { entries.new ≤ entries.old + 1 }
 {
-    let Ok(parameters) = u32::try_from(values.len()) else {
-        return Err(OutOfMemory);
-    };
     let activation = *entries + 1;
     let function = program.function(f);
     set_parameters(memory, activation, values)?;
@@ -45,7 +44,7 @@ fn enter_defined<'p>(
         caller: *here,
         is_main: f == program.main(),
         wanted,
-        parameters,
+        parameters: values.len() as u32,
     };
     todo.push(Frame::Call(call))?;
     *here = Here {
@@ -68,9 +67,12 @@ pub fn enter<'p>(
     values: &[Value],
 ) -> Result<Now<'p>, OutOfMemory>
     requires { entries.old < 2 ^ 64 - 1 }
-    ensures entered { IfOk result (λ now. (w : World) (rs : List Record) (taken turns : ℕ) → rest (program_of program.now) w (place_of here.new) now (stack todo.new.items) (state (seen memory.new) entries.new rs taken turns) ≡ then_do (run_body (program_of program.now) w no_marks (nat_eq f (program_of program.now).main) wanted (slice_get (program_of program.now).functions f) values.now (state (seen memory.old) entries.old rs taken turns)) (after_value (program_of program.now) w (place_of here.old) (stack todo.old.items))) }
+    ensures entered { IfOk result (λ now. (w : World) (rs : List Record) (taken turns : ℕ) → rest (program_of program.now) w (place_of here.new) now (stack todo.new.items) (state (seen memory.new) entries.new rs taken turns) ≡ then_do (run_few (program_of program.now) w (nat_eq f (program_of program.now).main) wanted (slice_get (program_of program.now).functions f) values.now (state (seen memory.old) entries.old rs taken turns)) (after_value (program_of program.now) w (place_of here.old) (stack todo.old.items))) }
     ensures counted { entries.new ≤ entries.old + 1 }
 {
+    if values.len() > 16 {
+        return Ok(Now::Mistyped);
+    }
     let count = program.defined();
     if f < count {
         let now = enter_defined(program, memory, todo, here, entries, wanted, f, values)?;

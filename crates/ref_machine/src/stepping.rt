@@ -6,7 +6,8 @@ ghost use Rattle.c_values.specs.Memory.{Objects};
 ghost use Rattle.c_values.specs.Seen.{seen};
 ghost use Rattle.c_meaning.specs.Meaning.{World, Frame as Place};
 ghost use Rattle.c_meaning.specs.Results.{State, Stop, then_do, with_memory};
-ghost use Rattle.c_meaning.specs.Runs.{exit_of, no_marks, world};
+ghost use Rattle.c_meaning.specs.Runs.{exit_of};
+ghost use Rattle.ref_machine_frames.specs.Held.{world};
 ghost use Rattle.ref_machine_frames.specs.declared.frames.Here.{Here as Activation};
 ghost use Rattle.ref_machine_frames.specs.declared.frames.Frame.{Frame as Todo};
 ghost use Rattle.ref_machine_frames.specs.Cells.{AreCells};
@@ -137,7 +138,7 @@ fn enter_in_turn<'p>(
     values: &[Value],
 ) -> Result<Now<'p>, OutOfMemory>
     requires { entries.old + turns.old < 2 ^ 32 }
-    ensures same { IfOk result (λ next. (n : ℕ) (records : List Record) (taken : ℕ) → turns.old ≤ n → left_of (program_of program.now) n (record { here = here.new; memory = seen memory.new; entries = entries.new; turns = turns.new; now = next; todo = todo.new.items }) records taken ≡ then_do ((world (program_of program.now) no_marks n).enter wanted f values.now (state (seen memory.old) entries.old records taken turns.old)) (after_value (program_of program.now) (world (program_of program.now) no_marks n) (place_of here.old) (stack todo.old.items))) }
+    ensures same { IfOk result (λ next. (n : ℕ) (records : List Record) (taken : ℕ) → turns.old ≤ n → left_of (program_of program.now) n (record { here = here.new; memory = seen memory.new; entries = entries.new; turns = turns.new; now = next; todo = todo.new.items }) records taken ≡ then_do ((world (program_of program.now) n).enter wanted f values.now (state (seen memory.old) entries.old records taken turns.old)) (after_value (program_of program.now) (world (program_of program.now) n) (place_of here.old) (stack todo.old.items))) }
     ensures fewer { turns.new ≤ turns.old }
     ensures spent { entries.new + turns.new ≤ entries.old + turns.old }
 {
@@ -155,7 +156,7 @@ fn test_in_turn<'p>(
     turns: &mut u32,
     of: &'p TStmt,
 ) -> Result<Now<'p>, OutOfMemory>
-    ensures same { IfOk result (λ next. (p : Term) (h : Activation) (m : Objects) (entries n : ℕ) (records : List Record) (taken : ℕ) → turns.old ≤ n → left_of p n (record { here = h; memory = m; entries = entries; turns = turns.new; now = next; todo = todo.new.items }) records taken ≡ then_do ((world p no_marks n).again (place_of h) (rounds_of (stmt_of of.now)) (state m entries records taken turns.old)) (after_exit p (world p no_marks n) (place_of h) (stack todo.old.items))) }
+    ensures same { IfOk result (λ next. (p : Term) (h : Activation) (m : Objects) (entries n : ℕ) (records : List Record) (taken : ℕ) → turns.old ≤ n → left_of p n (record { here = h; memory = m; entries = entries; turns = turns.new; now = next; todo = todo.new.items }) records taken ≡ then_do ((world p n).again (place_of h) (rounds_of (stmt_of of.now)) (state m entries records taken turns.old)) (after_exit p (world p n) (place_of h) (stack todo.old.items))) }
     ensures fewer { turns.new ≤ turns.old }
 {
     if *turns == 0 {

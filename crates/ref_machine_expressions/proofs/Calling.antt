@@ -7,43 +7,38 @@ use Rattle.c_tree.specs.declared.tree.TExprKind.{TExprKind, Const, StringPlace, 
 use Rattle.c_tree.specs.declared.tree.TExprKind.{Function as FunctionNamed}
 use Rattle.c_tree.specs.Tree.{CType, Expr, Exprs, decay, update, call, call_through, Program, type_of}
 use Rattle.c_tree.specs.View.{ctype_of, expr_of, expr_with}
-use Rattle.c_meaning.specs.Meaning.{Frame as Place, World, with_marks, called, called_through, decayed, wants, eval, eval_all}
-use Rattle.c_meaning.specs.Pointers.{callee, load_place}
+use Rattle.c_meaning.specs.Meaning.{Frame as Place, World, wants}
+use Rattle.c_meaning.specs.Pointers.{load_place}
 use Rattle.c_meaning.specs.Results.{State, Result, Go, then_do, answered}
-use Rattle.c_meaning.specs.Runs.{no_marks}
+use Rattle.ref_machine_frames.specs.Held.{called, decayed, eval, eval_all}
 use Rattle.ref_machine_frames.specs.declared.frames.Callee.TheVariants as callees
 use Rattle.ref_machine_frames.specs.Frames.{made}
 use Rattle.ref_machine_expressions.specs.Renewing.{renewing}
-use Rattle.ref_machine_frames.proofs.Joining.{after_none, then_same, then_nothing}
+use Rattle.ref_machine_frames.proofs.Joining.{after_none}
 
 -- an expression that is seen as another term
-pub begun : (p : Program) (w : World) (fr : Place) (wanted : Bool) (e f : Expr) (st : State) (k : Value → State → Result Value) (x : Result Value) → x ≡ then_do (eval p w no_marks fr wanted e st) k → e ≡ f → x ≡ then_do (eval p w no_marks fr wanted f st) k
-begun p w fr wanted e f st k x h is = h ∙ ap (λ e. then_do (eval p w no_marks fr wanted e st) k) is
+pub begun : (p : Program) (w : World) (fr : Place) (wanted : Bool) (e f : Expr) (st : State) (k : Value → State → Result Value) (x : Result Value) → x ≡ then_do (eval p w fr wanted e st) k → e ≡ f → x ≡ then_do (eval p w fr wanted f st) k
+begun p w fr wanted e f st k x h is = h ∙ ap (λ e. then_do (eval p w fr wanted e st) k) is
 
 -- a value is there at once
 pub at_once : (v : Value) (st : State) (k : Value → State → Result Value) → k v st ≡ then_do (Go v st []) k
 at_once v st k = sym (after_none (k v st))
 
-bracket_none : (site : ℕ) (r : Result Value) → with_marks no_marks site r ≡ r
-bracket_none site r = after_none (then_do r (λ v st. Go v st [])) ∙ then_nothing r
-
 -- the arguments of a call by name are evaluated, and then it is made
-pub call_begins : (p : Program) (w : World) (fr : Place) (wanted : Bool) (t : CType) (site f : ℕ) (es args : Exprs) (st : State) (k : Value → State → Result Value) (x : Result Value) (whether : Bool) (before : List Value) → whether ≡ wants wanted t → before ≡ [] → es ≡ args → x ≡ then_do (then_do (eval_all p w no_marks fr es st) (λ vs st. made p w whether (callees.Named f) (before ++ vs) st)) k → x ≡ then_do (eval p w no_marks fr wanted (call t site f args) st) k
+pub call_begins : (p : Program) (w : World) (fr : Place) (wanted : Bool) (t : CType) (site f : ℕ) (es args : Exprs) (st : State) (k : Value → State → Result Value) (x : Result Value) (whether : Bool) (before : List Value) → whether ≡ wants wanted t → before ≡ [] → es ≡ args → x ≡ then_do (then_do (eval_all p w fr es st) (λ vs st. made p w whether (callees.Named f) (before ++ vs) st)) k → x ≡ then_do (eval p w fr wanted (call t site f args) st) k
 call_begins p w fr wanted t site f es args st k x whether before same none are h =
     h
-    ∙ (ap (λ b. then_do (then_do (eval_all p w no_marks fr es st) (λ vs st. made p w b (callees.Named f) (before ++ vs) st)) k) same
-    ∙ (ap (λ us. then_do (then_do (eval_all p w no_marks fr es st) (λ vs st. made p w (wants wanted t) (callees.Named f) (us ++ vs) st)) k) none
-    ∙ (ap (λ es. then_do (then_do (eval_all p w no_marks fr es st) (λ vs st. called p w (wants wanted t) f vs st)) k) are
-    ∙ ap (λ r. then_do r k) (then_same (eval_all p w no_marks fr args st) _ _ (λ vs st. sym (bracket_none site (called p w (wants wanted t) f vs st)))))))
+    ∙ (ap (λ b. then_do (then_do (eval_all p w fr es st) (λ vs st. made p w b (callees.Named f) (before ++ vs) st)) k) same
+    ∙ (ap (λ us. then_do (then_do (eval_all p w fr es st) (λ vs st. made p w (wants wanted t) (callees.Named f) (us ++ vs) st)) k) none
+    ∙ ap (λ es. then_do (then_do (eval_all p w fr es st) (λ vs st. called p w (wants wanted t) f vs st)) k) are))
 
 -- the designator of a call is evaluated, then the arguments, and then it is made
-pub through_begins : (p : Program) (w : World) (fr : Place) (wanted : Bool) (t : CType) (site : ℕ) (d e : Expr) (es args : Exprs) (st : State) (k : Value → State → Result Value) (x : Result Value) (whether : Bool) → whether ≡ wants wanted t → d ≡ e → es ≡ args → x ≡ then_do (then_do (eval p w no_marks fr true d st) (λ v st. then_do (eval_all p w no_marks fr es st) (λ vs st. made p w whether (callees.Through v) vs st))) k → x ≡ then_do (eval p w no_marks fr wanted (call_through t site e args) st) k
+pub through_begins : (p : Program) (w : World) (fr : Place) (wanted : Bool) (t : CType) (site : ℕ) (d e : Expr) (es args : Exprs) (st : State) (k : Value → State → Result Value) (x : Result Value) (whether : Bool) → whether ≡ wants wanted t → d ≡ e → es ≡ args → x ≡ then_do (then_do (eval p w fr true d st) (λ v st. then_do (eval_all p w fr es st) (λ vs st. made p w whether (callees.Through v) vs st))) k → x ≡ then_do (eval p w fr wanted (call_through t site e args) st) k
 through_begins p w fr wanted t site d e es args st k x whether same is are h =
     h
-    ∙ (ap (λ b. then_do (then_do (eval p w no_marks fr true d st) (λ v st. then_do (eval_all p w no_marks fr es st) (λ vs st. made p w b (callees.Through v) vs st))) k) same
-    ∙ (ap (λ d. then_do (then_do (eval p w no_marks fr true d st) (λ v st. then_do (eval_all p w no_marks fr es st) (λ vs st. made p w (wants wanted t) (callees.Through v) vs st))) k) is
-    ∙ (ap (λ es. then_do (then_do (eval p w no_marks fr true e st) (λ v st. then_do (eval_all p w no_marks fr es st) (λ vs st. made p w (wants wanted t) (callees.Through v) vs st))) k) are
-    ∙ ap (λ r. then_do r k) (then_same (eval p w no_marks fr true e st) _ _ (λ v st. then_same (eval_all p w no_marks fr args st) _ _ (λ vs st. sym (bracket_none site (then_do (answered (callee v) st) (λ f st. called_through p w (wants wanted t) f vs st)))))))))
+    ∙ (ap (λ b. then_do (then_do (eval p w fr true d st) (λ v st. then_do (eval_all p w fr es st) (λ vs st. made p w b (callees.Through v) vs st))) k) same
+    ∙ (ap (λ d. then_do (then_do (eval p w fr true d st) (λ v st. then_do (eval_all p w fr es st) (λ vs st. made p w (wants wanted t) (callees.Through v) vs st))) k) is
+    ∙ ap (λ es. then_do (then_do (eval p w fr true e st) (λ v st. then_do (eval_all p w fr es st) (λ vs st. made p w (wants wanted t) (callees.Through v) vs st))) k) are))
 
 -- the type of an expression is kept beside its form
 type_with : (t : CType) (k : TExprKind) → type_of (expr_with t k) ≡ t
@@ -76,11 +71,11 @@ type_is : (e : TExpr) → type_of (expr_of e) ≡ ctype_of e.ctype
 type_is e = type_with (ctype_of e.ctype) e.kind
 
 -- an array or a function as a pointer
-pub decay_begins : (p : Program) (w : World) (fr : Place) (wanted : Bool) (t : CType) (a : TExpr) (u : CType) (st : State) (k : Value → State → Result Value) (x : Result Value) → u ≡ ctype_of a.ctype → x ≡ then_do (then_do (eval p w no_marks fr true (expr_of a) st) (λ q st. answered (decayed p.structs u q) st)) k → x ≡ then_do (eval p w no_marks fr wanted (decay t (expr_of a)) st) k
+pub decay_begins : (p : Program) (w : World) (fr : Place) (wanted : Bool) (t : CType) (a : TExpr) (u : CType) (st : State) (k : Value → State → Result Value) (x : Result Value) → u ≡ ctype_of a.ctype → x ≡ then_do (then_do (eval p w fr true (expr_of a) st) (λ q st. answered (decayed p.structs u q) st)) k → x ≡ then_do (eval p w fr wanted (decay t (expr_of a)) st) k
 decay_begins p w fr wanted t a u st k x is h =
-    h ∙ ap (λ u. then_do (then_do (eval p w no_marks fr true (expr_of a) st) (λ q st. answered (decayed p.structs u q) st)) k) (is ∙ sym (type_is a))
+    h ∙ ap (λ u. then_do (then_do (eval p w fr true (expr_of a) st) (λ q st. answered (decayed p.structs u q) st)) k) (is ∙ sym (type_is a))
 
 -- a compound assignment
-pub update_begins : (p : Program) (w : World) (fr : Place) (wanted : Bool) (t : CType) (op : BinOp) (old : Bool) (a : Expr) (b : TExpr) (st : State) (k : Value → State → Result Value) (x : Result Value) → x ≡ then_do (then_do (eval p w no_marks fr true a st) (λ q st. then_do (answered (load_place st.memory q) st) (λ before st. then_do (eval p w no_marks fr true (expr_of b) st) (renewing op old t (ctype_of b.ctype) q before)))) k → x ≡ then_do (eval p w no_marks fr wanted (update t op old a (expr_of b)) st) k
+pub update_begins : (p : Program) (w : World) (fr : Place) (wanted : Bool) (t : CType) (op : BinOp) (old : Bool) (a : Expr) (b : TExpr) (st : State) (k : Value → State → Result Value) (x : Result Value) → x ≡ then_do (then_do (eval p w fr true a st) (λ q st. then_do (answered (load_place st.memory q) st) (λ before st. then_do (eval p w fr true (expr_of b) st) (renewing op old t (ctype_of b.ctype) q before)))) k → x ≡ then_do (eval p w fr wanted (update t op old a (expr_of b)) st) k
 update_begins p w fr wanted t op old a b st k x h =
-    h ∙ ap (λ u. then_do (then_do (eval p w no_marks fr true a st) (λ q st. then_do (answered (load_place st.memory q) st) (λ before st. then_do (eval p w no_marks fr true (expr_of b) st) (renewing op old t u q before)))) k) (sym (type_is b))
+    h ∙ ap (λ u. then_do (then_do (eval p w fr true a st) (λ q st. then_do (answered (load_place st.memory q) st) (λ before st. then_do (eval p w fr true (expr_of b) st) (renewing op old t u q before)))) k) (sym (type_is b))

@@ -1,8 +1,8 @@
 -- What follows a step that was answered.
-use Rattle.std.proofs.Common.{◌≡◌, ℕ, ◌<◌, ◌≤◌, ◌-◌, ◌+◌, Bool, true, false, if◌then◌else◌, nat_lt, length, List, [], ◌∷◌, ◌++◌, Option, Some, None, nat_eq, sym, ap, ◌∙◌, subst, refl, append_assoc, append-nil}
+use Rattle.std.proofs.Common.{◌≡◌, ℕ, ◌<◌, ◌≤◌, ◌-◌, Bool, true, false, if◌then◌else◌, nat_lt, length, List, [], ◌∷◌, ◌++◌, Some, None, nat_eq, sym, ap, ◌∙◌, subst, refl, append_assoc, append-nil}
 use Rattle.std.specs.Prelude.{◌==◌}
 use Rattle.std.proofs.Math.Dec.{eqb-suc-zero}
-use Rattle.std.proofs.lemmas.Bool.{lt-ltb, le-ltb, false≢true, true≢false}
+use Rattle.std.proofs.lemmas.Bool.{lt-ltb, le-ltb, le-leb, lt-leb, false≢true, true≢false}
 use Rattle.dm_base.specs.declared.event.Event.{Event}
 use Rattle.dm_base.specs.declared.event.Event.TheVariants.{Pre, Post}
 use Rattle.dm_base.specs.declared.outcome.Outcome.TheVariants.{Undefined}
@@ -14,10 +14,10 @@ use Rattle.c_tree.specs.View.{expr_of, exprs_of}
 use Rattle.c_tree.specs.Functions.{defined}
 use Rattle.c_values.specs.Answers.{Answer, gives, undefined}
 use Rattle.c_values.specs.Memory.{Objects}
-use Rattle.c_meaning.specs.Meaning.{Frame as Place, World, call_undefined, eval, eval_each, eval_all, null_call, system_call_alone}
+use Rattle.c_meaning.specs.Meaning.{Frame as Place, World, null_call}
 use Rattle.c_meaning.specs.Results.{State, with_memory, Result, Go, Stop, then_do, answered, remembered}
-use Rattle.c_meaning.specs.Runs.{no_marks}
-use Rattle.c_meaning.specs.SystemCalls.{system_call}
+use Rattle.c_meaning.specs.SystemCalls as calls
+use Rattle.ref_machine_frames.specs.Held.{call_undefined, eval, eval_all, eval_each, system_call, system_call_alone}
 use Rattle.ref_machine_frames.specs.declared.frames.Callee.{Callee}
 use Rattle.ref_machine_frames.specs.Frames.{asked, made}
 use Rattle.ref_machine_frames.proofs.Joining.{after_none, then_assoc, then_same}
@@ -46,32 +46,32 @@ pub asked_first : {B C : Type 0} (r : Result Value) (f : Bool → State → Resu
 asked_first r f k x h = h ∙ ap (λ r. then_do r k) (sym (then_assoc r asked f))
 
 -- no argument is left
-pub no_argument : (p : Program) (w : World) (wanted : Bool) (whom : Callee) (before : List Value) (st : State) (fr : Place) (es : Exprs) (k : Value → State → Result Value) (x : Result Value) → es ≡ no_exprs → x ≡ then_do (made p w wanted whom before st) k → x ≡ then_do (then_do (eval_all p w no_marks fr es st) (λ vs st. made p w wanted whom (before ++ vs) st)) k
+pub no_argument : (p : Program) (w : World) (wanted : Bool) (whom : Callee) (before : List Value) (st : State) (fr : Place) (es : Exprs) (k : Value → State → Result Value) (x : Result Value) → es ≡ no_exprs → x ≡ then_do (made p w wanted whom before st) k → x ≡ then_do (then_do (eval_all p w fr es st) (λ vs st. made p w wanted whom (before ++ vs) st)) k
 no_argument p w wanted whom before st fr es k x none h =
     h
     ∙ (ap (λ vs. then_do (made p w wanted whom vs st) k) (sym (append-nil before))
     ∙ (ap (λ r. then_do r k) (sym (after_none (made p w wanted whom (before ++ []) st)))
-    ∙ ap (λ es. then_do (then_do (eval_all p w no_marks fr es st) (λ vs st. made p w wanted whom (before ++ vs) st)) k) (sym none)))
+    ∙ ap (λ es. then_do (then_do (eval_all p w fr es st) (λ vs st. made p w wanted whom (before ++ vs) st)) k) (sym none)))
 
 -- the values of the later arguments come after that of the first one
-pub later_values : (p : Program) (w : World) (wanted : Bool) (whom : Callee) (before : List Value) (v : Value) (fr : Place) (rest : Exprs) (st : State) → then_do (then_do (eval_all p w no_marks fr rest st) (λ vs st. Go (v ∷ vs) st [])) (λ vs st. made p w wanted whom (before ++ vs) st) ≡ then_do (eval_all p w no_marks fr rest st) (λ vs st. made p w wanted whom (before ++ (v ∷ vs)) st)
+pub later_values : (p : Program) (w : World) (wanted : Bool) (whom : Callee) (before : List Value) (v : Value) (fr : Place) (rest : Exprs) (st : State) → then_do (then_do (eval_all p w fr rest st) (λ vs st. Go (v ∷ vs) st [])) (λ vs st. made p w wanted whom (before ++ vs) st) ≡ then_do (eval_all p w fr rest st) (λ vs st. made p w wanted whom (before ++ (v ∷ vs)) st)
 later_values p w wanted whom before v fr rest st =
-    then_assoc (eval_all p w no_marks fr rest st) (λ vs st. Go (v ∷ vs) st []) (λ vs st. made p w wanted whom (before ++ vs) st)
-    ∙ then_same (eval_all p w no_marks fr rest st) _ _ (λ vs st. after_none (made p w wanted whom (before ++ (v ∷ vs)) st))
+    then_assoc (eval_all p w fr rest st) (λ vs st. Go (v ∷ vs) st []) (λ vs st. made p w wanted whom (before ++ vs) st)
+    ∙ then_same (eval_all p w fr rest st) _ _ (λ vs st. after_none (made p w wanted whom (before ++ (v ∷ vs)) st))
 
 -- an argument is left
-pub an_argument : (p : Program) (w : World) (wanted : Bool) (whom : Callee) (before : List Value) (st : State) (fr : Place) (es : Exprs) (e : Expr) (rest : Exprs) (k : Value → State → Result Value) (x : Result Value) → es ≡ more_exprs e rest → x ≡ then_do (then_do (eval p w no_marks fr true e st) (λ v st. then_do (eval_all p w no_marks fr rest st) (λ vs st. made p w wanted whom (before ++ (v ∷ vs)) st))) k → x ≡ then_do (then_do (eval_all p w no_marks fr es st) (λ vs st. made p w wanted whom (before ++ vs) st)) k
+pub an_argument : (p : Program) (w : World) (wanted : Bool) (whom : Callee) (before : List Value) (st : State) (fr : Place) (es : Exprs) (e : Expr) (rest : Exprs) (k : Value → State → Result Value) (x : Result Value) → es ≡ more_exprs e rest → x ≡ then_do (then_do (eval p w fr true e st) (λ v st. then_do (eval_all p w fr rest st) (λ vs st. made p w wanted whom (before ++ (v ∷ vs)) st))) k → x ≡ then_do (then_do (eval_all p w fr es st) (λ vs st. made p w wanted whom (before ++ vs) st)) k
 an_argument p w wanted whom before st fr es e rest k x is h =
     h
-    ∙ (ap (λ r. then_do r k) (sym (then_assoc (eval p w no_marks fr true e st) (λ v st. then_do (eval_all p w no_marks fr rest st) (λ vs st. Go (v ∷ vs) st [])) (λ vs st. made p w wanted whom (before ++ vs) st)
-    ∙ then_same (eval p w no_marks fr true e st) _ _ (λ v st. later_values p w wanted whom before v fr rest st)))
-    ∙ ap (λ es. then_do (then_do (eval_all p w no_marks fr es st) (λ vs st. made p w wanted whom (before ++ vs) st)) k) (sym is))
+    ∙ (ap (λ r. then_do r k) (sym (then_assoc (eval p w fr true e st) (λ v st. then_do (eval_all p w fr rest st) (λ vs st. Go (v ∷ vs) st [])) (λ vs st. made p w wanted whom (before ++ vs) st)
+    ∙ then_same (eval p w fr true e st) _ _ (λ v st. later_values p w wanted whom before v fr rest st)))
+    ∙ ap (λ es. then_do (then_do (eval_all p w fr es st) (λ vs st. made p w wanted whom (before ++ vs) st)) k) (sym is))
 
 -- one more value of an argument
-pub one_more_value : (p : Program) (w : World) (wanted : Bool) (whom : Callee) (before all : List Value) (v : Value) (fr : Place) (rest : Exprs) (st : State) (k : Value → State → Result Value) (x : Result Value) → all ≡ before ++ (v ∷ []) → x ≡ then_do (then_do (eval_all p w no_marks fr rest st) (λ vs st. made p w wanted whom (all ++ vs) st)) k → x ≡ then_do (then_do (eval_all p w no_marks fr rest st) (λ vs st. made p w wanted whom (before ++ (v ∷ vs)) st)) k
+pub one_more_value : (p : Program) (w : World) (wanted : Bool) (whom : Callee) (before all : List Value) (v : Value) (fr : Place) (rest : Exprs) (st : State) (k : Value → State → Result Value) (x : Result Value) → all ≡ before ++ (v ∷ []) → x ≡ then_do (then_do (eval_all p w fr rest st) (λ vs st. made p w wanted whom (all ++ vs) st)) k → x ≡ then_do (then_do (eval_all p w fr rest st) (λ vs st. made p w wanted whom (before ++ (v ∷ vs)) st)) k
 one_more_value p w wanted whom before all v fr rest st k x e h =
     h
-    ∙ ap (λ r. then_do r k) (then_same (eval_all p w no_marks fr rest st) _ _ (λ vs st. ap (λ us. made p w wanted whom us st) (ap (λ us. us ++ vs) e ∙ append_assoc before (v ∷ []) vs)))
+    ∙ ap (λ r. then_do r k) (then_same (eval_all p w fr rest st) _ _ (λ vs st. ap (λ us. made p w wanted whom us st) (ap (λ us. us ++ vs) e ∙ append_assoc before (v ∷ []) vs)))
 
 -- the test of a number below another
 pub if_below : {A : Type 0} (a b : ℕ) (x y : A) → a < b → (if nat_lt a b then x else y) ≡ x
@@ -79,6 +79,13 @@ if_below a b x y lt = ap (λ t. if t then x else y) (lt-ltb a b lt)
 
 pub if_not_below : {A : Type 0} (a b : ℕ) (x y : A) → b ≤ a → (if nat_lt a b then x else y) ≡ y
 if_not_below a b x y le = ap (λ t. if t then x else y) (le-ltb a b le)
+
+-- a system call with at most three arguments, and one with more
+pub few_values : (x : ℕ) (vs : List Value) (st : State) → length vs ≤ 3 → system_call x vs st ≡ calls.system_call x vs st
+few_values x vs st le = ap (λ b. if b then calls.system_call x vs st else Stop (Undefined 13) []) (le-leb (length vs) 3 le)
+
+pub many_values : (x : ℕ) (vs : List Value) (st : State) → 3 < length vs → system_call x vs st ≡ Stop (Undefined 13) []
+many_values x vs st lt = ap (λ b. if b then calls.system_call x vs st else Stop (Undefined 13) []) (lt-leb (length vs) 3 lt)
 
 -- a system call by its number
 pub is_system_call : (x : ℕ) (vs : List Value) (st : State) → x < 24 → call_undefined x vs st ≡ system_call_alone x vs st
@@ -104,15 +111,15 @@ other_named p w wanted f vs copy st k count other x e le same h =
     ∙ ap (λ r. then_do r k) (sym (if_not_below f (defined p) (w.enter wanted f vs st) (other (f - defined p) vs st) (subst (λ n. n ≤ f) e le)))))
 
 -- the last member of a comma expression
-pub last_member : (p : Program) (w : World) (fr : Place) (wanted : Bool) (es : List TExpr) (e : TExpr) (rest : List TExpr) (st : State) (k : Value → State → Result Value) → es ≡ e ∷ rest → rest ≡ [] → then_do (eval p w no_marks fr wanted (expr_of e) st) k ≡ then_do (eval_each p w no_marks fr wanted (exprs_of es) st) k
+pub last_member : (p : Program) (w : World) (fr : Place) (wanted : Bool) (es : List TExpr) (e : TExpr) (rest : List TExpr) (st : State) (k : Value → State → Result Value) → es ≡ e ∷ rest → rest ≡ [] → then_do (eval p w fr wanted (expr_of e) st) k ≡ then_do (eval_each p w fr wanted (exprs_of es) st) k
 last_member p w fr wanted es e rest st k is none =
-    sym (ap (λ es. then_do (eval_each p w no_marks fr wanted (exprs_of es) st) k) (is ∙ ap (λ rest. e ∷ rest) none))
+    sym (ap (λ es. then_do (eval_each p w fr wanted (exprs_of es) st) k) (is ∙ ap (λ rest. e ∷ rest) none))
 
 -- an earlier member of a comma expression
-pub more_members : (p : Program) (w : World) (fr : Place) (wanted : Bool) (es : List TExpr) (e : TExpr) (rest : List TExpr) (st : State) (k : Value → State → Result Value) (x : Result Value) → es ≡ e ∷ rest → (rest ≡ [] → ⊥) → x ≡ then_do (then_do (eval p w no_marks fr false (expr_of e) st) (λ v st. eval_each p w no_marks fr wanted (exprs_of rest) st)) k → x ≡ then_do (eval_each p w no_marks fr wanted (exprs_of es) st) k
+pub more_members : (p : Program) (w : World) (fr : Place) (wanted : Bool) (es : List TExpr) (e : TExpr) (rest : List TExpr) (st : State) (k : Value → State → Result Value) (x : Result Value) → es ≡ e ∷ rest → (rest ≡ [] → ⊥) → x ≡ then_do (then_do (eval p w fr false (expr_of e) st) (λ v st. eval_each p w fr wanted (exprs_of rest) st)) k → x ≡ then_do (eval_each p w fr wanted (exprs_of es) st) k
 more_members p w fr wanted es e [] st k x is some h = absurd (some refl)
 more_members p w fr wanted es e (f ∷ rest) st k x is some h =
-    h ∙ sym (ap (λ es. then_do (eval_each p w no_marks fr wanted (exprs_of es) st) k) is)
+    h ∙ sym (ap (λ es. then_do (eval_each p w fr wanted (exprs_of es) st) k) is)
 
 -- whether a list has nothing
 pub nothing_left : (xs : List TExpr) (b : Bool) → b ≡ (length xs == 0) → b ≡ true → xs ≡ []
@@ -166,5 +173,5 @@ with_site site (Func f ∷ us) e = cc
 with_site site (At q ∷ us) e = cc
 
 -- no member of a comma expression
-pub no_member : (p : Program) (w : World) (fr : Place) (wanted : Bool) (es : List TExpr) (st : State) (k : Value → State → Result Value) → es ≡ [] → Stop (Undefined 13) [] ≡ then_do (eval_each p w no_marks fr wanted (exprs_of es) st) k
-no_member p w fr wanted es st k none = sym (ap (λ es. then_do (eval_each p w no_marks fr wanted (exprs_of es) st) k) none)
+pub no_member : (p : Program) (w : World) (fr : Place) (wanted : Bool) (es : List TExpr) (st : State) (k : Value → State → Result Value) → es ≡ [] → Stop (Undefined 13) [] ≡ then_do (eval_each p w fr wanted (exprs_of es) st) k
+no_member p w fr wanted es st k none = sym (ap (λ es. then_do (eval_each p w fr wanted (exprs_of es) st) k) none)

@@ -1,14 +1,13 @@
 ghost use Rattle.std.specs.Prelude.{◌≡◌, IfOk};
-ghost use Rattle.c_tree.specs.Layout.{Structs, cells};
+ghost use Rattle.c_tree.specs.Layout.{Structs};
 ghost use Rattle.c_tree.specs.View.{ctype_of, expr_of, program_of};
-ghost use Rattle.c_values.specs.Answers.{gives};
 ghost use Rattle.c_values.specs.Seen.{seen};
-ghost use Rattle.c_meaning.specs.Meaning.{eval, name_in};
-ghost use Rattle.c_meaning.specs.Pointers.{place};
-ghost use Rattle.c_meaning.specs.Runs.{no_marks};
+ghost use Rattle.c_meaning.specs.Meaning.{name_in};
+ghost use Rattle.ref_machine_steps.specs.Faults.{told};
+ghost use Rattle.ref_machine_frames.specs.Held.{eval, whole};
 ghost use Rattle.ref_machine_frames.specs.Cells.{AreCells};
 ghost use Rattle.ref_machine_frames.specs.Frames.{place_of};
-ghost use Rattle.ref_machine_frames.specs.Parts.{Gives, IsAnswer};
+ghost use Rattle.ref_machine_frames.specs.Parts.{Gives};
 
 use crate::calls::{arguments, wants};
 use crate::values::members;
@@ -16,9 +15,9 @@ use c_tree::{CType, ObjectName, Program, TExpr, TExprKind, Value};
 use c_values::Memory;
 use dm_base::OutOfMemory;
 use ref_machine_frames::{
-    Callee, Choice, Frame, Here, Now, Pair, Step, Storing, ValueFrame, cells_in, wait,
+    Callee, Choice, Frame, Here, Now, Pair, Step, Storing, ValueFrame, cells_in, given, wait,
 };
-use ref_machine_steps::place;
+use ref_machine_steps::{Fault, place};
 use std::alloc::Global;
 
 // The name of a variable: a static one, or one of the activation that runs.
@@ -38,11 +37,11 @@ fn name_in(here: Here, is_static: bool, number: u32) -> ObjectName
 }
 
 // The place of an object of this type.
-fn whole<'p>(counts: &[u32], name: ObjectName, t: &CType) -> Result<Now<'p>, OutOfMemory>
-    ensures { (structs : Structs) → AreCells structs counts.now → IfOk result (λ now. IsAnswer (gives (place name 0 (cells structs (ctype_of t.now)))) now) }
+fn whole(counts: &[u32], name: ObjectName, t: &CType) -> Result<Value, Fault>
+    ensures { (structs : Structs) → AreCells structs counts.now → told result ≡ whole structs name (ctype_of t.now) }
 {
     let width = cells_in(counts, t)?;
-    Ok(Now::Have(place(name, 0, width)))
+    Ok(place(name, 0, width))
 }
 
 /// How the evaluation of an expression begins. `counts` has the number of cells of each struct.
@@ -57,18 +56,16 @@ pub fn begin<'p>(
     e: &'p TExpr,
 ) -> Result<Now<'p>, OutOfMemory>
     requires { AreCells (program_of program.now).structs counts.now }
-    ensures { IfOk result (λ now. Gives (program_of program.now) here.entry (seen memory.now) todo.old.items (λ w st. eval (program_of program.now) w no_marks (place_of here.entry) wanted (expr_of e.now) st) now (seen memory.now) todo.new.items) }
+    ensures { IfOk result (λ now. Gives (program_of program.now) here.entry (seen memory.now) todo.old.items (λ w st. eval (program_of program.now) w (place_of here.entry) wanted (expr_of e.now) st) now (seen memory.now) todo.new.items) }
 {
     match &e.kind {
         TExprKind::Const(value) => Ok(Now::Have(*value)),
         TExprKind::Function(f) => Ok(Now::Have(Value::Func(*f))),
         TExprKind::StringPlace(number) => {
-            let now = whole(counts, name_in(here, true, *number), &e.ctype)?;
-            Ok(now)
+            Ok(given(whole(counts, name_in(here, true, *number), &e.ctype)))
         }
         TExprKind::Variable { is_static, number } => {
-            let now = whole(counts, name_in(here, *is_static, *number), &e.ctype)?;
-            Ok(now)
+            Ok(given(whole(counts, name_in(here, *is_static, *number), &e.ctype)))
         }
         TExprKind::Deref(a) => {
             let now = wait(todo, ValueFrame::One(Step::Deref(&e.ctype)), true, a)?;

@@ -4,13 +4,13 @@ ghost use Rattle.c_tree.specs.Tree.{Program as Term};
 ghost use Rattle.c_tree.specs.View.{ctype_of, exprs_of, program_of};
 ghost use Rattle.c_values.specs.Memory.{Objects};
 ghost use Rattle.c_values.specs.Seen.{seen};
-ghost use Rattle.c_meaning.specs.Meaning.{call_undefined, called, called_through, eval_all, system_call_alone, wants};
+ghost use Rattle.c_meaning.specs.Meaning.{wants};
 ghost use Rattle.c_meaning.specs.Results.{then_do};
-ghost use Rattle.c_meaning.specs.Runs.{no_marks};
-ghost use Rattle.c_meaning.specs.SystemCalls.{Request as Asked, exit_with, system_call};
+ghost use Rattle.c_meaning.specs.SystemCalls.{Request as Asked, exit_with};
 ghost use Rattle.c_values.specs.Answers.{Answer};
 ghost use Rattle.ref_machine_steps.specs.Asking.{IsRefusal};
 ghost use Rattle.ref_machine_steps.specs.Requests.{asked_by};
+ghost use Rattle.ref_machine_frames.specs.Held.{call_undefined, called, called_through, eval_all, system_call, system_call_alone};
 ghost use Rattle.ref_machine_expressions.specs.Asking.{asking, site_of, IsStop};
 ghost use Rattle.ref_machine_frames.specs.Frames.{made, place_of};
 ghost use Rattle.ref_machine_frames.specs.Parts.{Does, Gives};
@@ -84,7 +84,7 @@ fn system_call<'p>(
     ensures { IfOk result (λ now. (p : Term) → Does p (seen memory.now) (λ w st. system_call name values.now st) now) }
 {
     if values.len() > 3 {
-        return Err(OutOfMemory);
+        return Ok(Now::Mistyped);
     }
     match requested(alloc, memory, name, values) {
         Ok(request) => Ok(asking(name, request)),
@@ -249,7 +249,7 @@ pub fn arguments<'p>(
     before: Vec<Value>,
     left: &'p [TExpr],
 ) -> Result<Now<'p>, OutOfMemory>
-    ensures { IfOk result (λ now. (h : Activation) → Gives (program_of program.now) h (seen memory.now) todo.old.items (λ w st. then_do (eval_all (program_of program.now) w no_marks (place_of h) (exprs_of left.now) st) (λ vs st. made (program_of program.now) w wanted whom (before.items ++ vs) st)) now (seen memory.now) todo.new.items) }
+    ensures { IfOk result (λ now. (h : Activation) → Gives (program_of program.now) h (seen memory.now) todo.old.items (λ w st. then_do (eval_all (program_of program.now) w (place_of h) (exprs_of left.now) st) (λ vs st. made (program_of program.now) w wanted whom (before.items ++ vs) st)) now (seen memory.now) todo.new.items) }
 {
     let Some((first, rest)) = left.split_first() else {
         let now = made(alloc, program, memory, wanted, whom, before)?;

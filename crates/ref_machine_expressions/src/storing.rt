@@ -5,11 +5,11 @@ ghost use Rattle.c_values.specs.Seen.{seen};
 ghost use Rattle.c_tree.specs.Operands.{promoted};
 ghost use Rattle.c_tree.specs.Operators.{binary, convert};
 ghost use Rattle.c_values.specs.Answers.{and_then};
-ghost use Rattle.c_meaning.specs.Meaning.{computing, either, eval, is_subtraction, updated};
+ghost use Rattle.c_meaning.specs.Meaning.{computing, either, is_subtraction, updated};
 ghost use Rattle.c_meaning.specs.Pointers.{load_place, store_place};
 ghost use Rattle.c_meaning.specs.Results.{answered, remembered, then_do};
-ghost use Rattle.c_meaning.specs.Runs.{no_marks};
 ghost use Rattle.ref_machine_steps.specs.Faults.{told};
+ghost use Rattle.ref_machine_frames.specs.Held.{eval};
 ghost use Rattle.ref_machine_frames.specs.Frames.{place_of, storing};
 ghost use Rattle.ref_machine_frames.specs.Parts.{Gives};
 ghost use Rattle.ref_machine_expressions.specs.Renewing.{renewing};
@@ -136,7 +136,7 @@ fn loading<'p>(
     right: &'p TExpr,
     place: Value,
 ) -> Result<Now<'p>, OutOfMemory>
-    ensures { IfOk result (λ now. (p : Program) (h : Activation) → Gives p h (seen memory.now) todo.old.items (λ w st. then_do (answered (load_place st.memory place) st) (λ before st. then_do (eval p w no_marks (place_of h) true (expr_of right.now) st) (renewing op old (ctype_of ctype.now) (ctype_of right.now.ctype) place before))) now (seen memory.now) todo.new.items) }
+    ensures { IfOk result (λ now. (p : Program) (h : Activation) → Gives p h (seen memory.now) todo.old.items (λ w st. then_do (answered (load_place st.memory place) st) (λ before st. then_do (eval p w (place_of h) true (expr_of right.now) st) (renewing op old (ctype_of ctype.now) (ctype_of right.now.ctype) place before))) now (seen memory.now) todo.new.items) }
 {
     match load_place(memory, place) {
         Ok(before) => {

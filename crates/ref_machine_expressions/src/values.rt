@@ -3,8 +3,7 @@ ghost use Rattle.c_tree.specs.Tree.{Program as Term};
 ghost use Rattle.c_tree.specs.View.{exprs_of, program_of};
 ghost use Rattle.c_values.specs.Memory.{Objects};
 ghost use Rattle.c_values.specs.Seen.{seen};
-ghost use Rattle.c_meaning.specs.Meaning.{eval_each};
-ghost use Rattle.c_meaning.specs.Runs.{no_marks};
+ghost use Rattle.ref_machine_frames.specs.Held.{eval_each};
 ghost use Rattle.ref_machine_frames.specs.Cells.{AreCells};
 ghost use Rattle.ref_machine_frames.specs.Frames.{place_of, with_value};
 ghost use Rattle.ref_machine_frames.specs.Parts.{Gives};
@@ -17,7 +16,7 @@ use crate::storing::storing;
 use c_tree::{Program, TExpr, Value};
 use c_values::Memory;
 use dm_base::OutOfMemory;
-use ref_machine_frames::{Callee, Frame, Now, ValueFrame, wait};
+use ref_machine_frames::{Callee, Frame, Now, ValueFrame, given, wait};
 use std::alloc::Global;
 
 // The members of a comma expression.
@@ -26,7 +25,7 @@ pub fn members<'p>(
     wanted: bool,
     left: &'p [TExpr],
 ) -> Result<Now<'p>, OutOfMemory>
-    ensures { IfOk result (λ now. (p : Term) (h : Activation) (m : Objects) → Gives p h m todo.old.items (λ w st. eval_each p w no_marks (place_of h) wanted (exprs_of left.now) st) now m todo.new.items) }
+    ensures { IfOk result (λ now. (p : Term) (h : Activation) (m : Objects) → Gives p h m todo.old.items (λ w st. eval_each p w (place_of h) wanted (exprs_of left.now) st) now m todo.new.items) }
 {
     let Some((first, rest)) = left.split_first() else {
         return Ok(Now::Mistyped);
@@ -61,18 +60,12 @@ pub fn with_value<'p>(
     ensures { IfOk result (λ now. (h : Activation) → Gives (program_of program.now) h (seen memory.old) todo.old.items (λ w st. with_value (program_of program.now) w (place_of h) frame.entry v st) now (seen memory.new) todo.new.items) }
 {
     match frame {
-        ValueFrame::One(step) => {
-            let now = one_step(counts, memory, step, v)?;
-            Ok(now)
-        }
+        ValueFrame::One(step) => Ok(given(one_step(counts, memory, step, v))),
         ValueFrame::First(pair, second) => {
             let now = wait(todo, ValueFrame::Second(pair, v), true, second)?;
             Ok(now)
         }
-        ValueFrame::Second(pair, first) => {
-            let now = two_step(memory, pair, first, v)?;
-            Ok(now)
-        }
+        ValueFrame::Second(pair, first) => Ok(given(two_step(memory, pair, first, v))),
         ValueFrame::Store(part) => {
             let now = storing(memory, todo, part, v)?;
             Ok(now)

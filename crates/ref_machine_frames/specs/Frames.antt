@@ -4,17 +4,19 @@ use Rattle.dm_base.specs.declared.outcome.Outcome.TheVariants.{Undefined, Exit a
 use Rattle.c_tree.specs.declared.value.Value.{Value}
 use Rattle.c_tree.specs.declared.value.Value.TheVariants.{Indeterminate}
 use Rattle.c_tree.specs.Operators.{convert, binary}
-use Rattle.c_tree.specs.Layout.{Structs, cells}
+use Rattle.c_tree.specs.Layout.{Structs}
 use Rattle.c_tree.specs.Tree.{Program, Stmt, block, empty, if_else, while_loop, do_loop, for_loop, switch_on, there, absent}
 use Rattle.c_tree.specs.View.{ctype_of, ctypes_of, expr_of, exprs_of, inits_of, stmt_of, stmts_of, groups_of}
 use Rattle.c_values.specs.Answers.{Answer, gives, U13}
 use Rattle.c_values.specs.Memory.{Objects}
-use Rattle.c_meaning.specs.Pointers.{callee, truth_value, load_place, store_place, member, difference, place, test}
-use Rattle.c_meaning.specs.Meaning.{Frame as Place, Loop as Rounds, World, either, behind_of, decayed, operated, comparing, moving, updated, called, called_through, eval, eval_each, eval_all, exec, exec_all, exec_from, perhaps, initialise, name_in, without, declared_in, selected}
+use Rattle.c_meaning.specs.Pointers.{callee, truth_value, load_place, store_place, difference, place, test}
+use Rattle.c_meaning.specs.Meaning.{Frame as Place, Loop as Rounds, World, either, operated, comparing, moving, updated, name_in, without, declared_in, selected}
 use Rattle.c_meaning.specs.Results.{State, with_memory, Result, Go, Stop, after, then_do, answered, remembered, Exit, on, broken, continued, returned, on_exit, on_round, out_of_switch}
-use Rattle.c_meaning.specs.Runs.{no_marks, result_of, exit_of}
+use Rattle.c_meaning.specs.Runs.{result_of, exit_of}
 use Rattle.c_meaning.specs.SystemCalls.{take_record}
 use Rattle.ref_machine_steps.specs.Requests.{asked_by}
+use Rattle.ref_machine_steps.specs.Words.{held}
+use Rattle.ref_machine_frames.specs.Held.{behind_of, called, called_through, decayed, eval, eval_all, eval_each, exec, exec_all, exec_from, initialise, member_of, perhaps}
 use Rattle.ref_machine_frames.specs.declared.frames.Here.{Here}
 use Rattle.ref_machine_frames.specs.declared.frames.Valued.{Valued}
 use Rattle.ref_machine_frames.specs.declared.frames.Valued.TheVariants as valued
@@ -80,7 +82,7 @@ one_step structs (steps.Deref t) m v = behind_of (ctype_of t.now) m v
 one_step structs steps.Load m v = load_place m v
 one_step structs (steps.Decay t) m v = decayed structs (ctype_of t.now) v
 one_step structs steps.Discard m v = gives Indeterminate
-one_step structs (steps.Field first t) m v = member first (cells structs (ctype_of t.now)) v
+one_step structs (steps.Field first t) m v = member_of structs first (ctype_of t.now) v
 one_step structs (steps.Unary op) m v = operated op m v
 one_step structs (steps.Convert to) m v = convert to v
 
@@ -89,16 +91,16 @@ abbrev pub two_step : Pair → Objects → Value → Value → Answer Value
 two_step (pairs.Arith op) m v u = binary op v u
 two_step (pairs.Compare op) m v u = comparing op m v u
 two_step (pairs.PointerAdd first subtracted) m v u = moving first subtracted m v u
-two_step pairs.PointerDiff m v u = difference m v u
+two_step pairs.PointerDiff m v u = held (difference m v u)
 
 -- the later parts of an assignment
 abbrev pub storing : Program → World → Place → Storing → Value → State → Result Value
 storing p w fr (storings.Place e) q st =
-    then_do (eval p w no_marks fr true (expr_of e.now) st) (λ v st. remembered (store_place st.memory q v) v st)
+    then_do (eval p w fr true (expr_of e.now) st) (λ v st. remembered (store_place st.memory q v) v st)
 storing p w fr (storings.Value q) v st = remembered (store_place st.memory q v) v st
 storing p w fr (storings.Old op old t e) q st =
     then_do (answered (load_place st.memory q) st) (λ before st.
-    then_do (eval p w no_marks fr true (expr_of e.now) st) (λ v st. then_do (answered (updated op (ctype_of t.now) (ctype_of e.now.ctype) st.memory before v) st) (λ new st.
+    then_do (eval p w fr true (expr_of e.now) st) (λ v st. then_do (answered (updated op (ctype_of t.now) (ctype_of e.now.ctype) st.memory before v) st) (λ new st.
     remembered (store_place st.memory q new) (either old before new) st)))
 storing p w fr (storings.New op old t u q before) v st =
     then_do (answered (updated op (ctype_of t.now) (ctype_of u.now) st.memory before v) st) (λ new st.
@@ -111,12 +113,12 @@ asked v st = answered (test st.memory v) st
 -- the later parts of what is tested, by whether the value is not 0
 abbrev pub chosen : Program → World → Place → Choice → Bool → State → Result Value
 chosen p w fr (choices.And e) holds st =
-    either holds (then_do (then_do (eval p w no_marks fr true (expr_of e.now) st) asked) (λ holds st. Go (truth_value holds) st [])) (Go (truth_value false) st [])
+    either holds (then_do (then_do (eval p w fr true (expr_of e.now) st) asked) (λ holds st. Go (truth_value holds) st [])) (Go (truth_value false) st [])
 chosen p w fr (choices.Or e) holds st =
-    either holds (Go (truth_value true) st []) (then_do (then_do (eval p w no_marks fr true (expr_of e.now) st) asked) (λ holds st. Go (truth_value holds) st []))
+    either holds (Go (truth_value true) st []) (then_do (then_do (eval p w fr true (expr_of e.now) st) asked) (λ holds st. Go (truth_value holds) st []))
 chosen p w fr choices.Truth holds st = Go (truth_value holds) st []
 chosen p w fr (choices.Cond wanted a b) holds st =
-    either holds (eval p w no_marks fr wanted (expr_of a.now) st) (eval p w no_marks fr wanted (expr_of b.now) st)
+    either holds (eval p w fr wanted (expr_of a.now) st) (eval p w fr wanted (expr_of b.now) st)
 
 -- a call with its arguments
 abbrev pub made : Program → World → Bool → Callee → List Value → State → Result Value
@@ -127,24 +129,24 @@ made p w wanted (callees.Through v) vs st = then_do (answered (callee v) st) (λ
 abbrev pub with_value : Program → World → Place → ValueFrame → Value → State → Result Value
 with_value p w fr (values.One step) v st = answered (one_step p.structs step st.memory v) st
 with_value p w fr (values.First pair e) v st =
-    then_do (eval p w no_marks fr true (expr_of e.now) st) (λ u st. answered (two_step pair st.memory v u) st)
+    then_do (eval p w fr true (expr_of e.now) st) (λ u st. answered (two_step pair st.memory v u) st)
 with_value p w fr (values.Second pair v) u st = answered (two_step pair st.memory v u) st
 with_value p w fr (values.Store s) v st = storing p w fr s v st
 with_value p w fr (values.Test c) v st = then_do (asked v st) (chosen p w fr c)
-with_value p w fr (values.Members wanted rest) v st = eval_each p w no_marks fr wanted (exprs_of rest.now) st
+with_value p w fr (values.Members wanted rest) v st = eval_each p w fr wanted (exprs_of rest.now) st
 with_value p w fr (values.Designator wanted es) v st =
-    then_do (eval_all p w no_marks fr (exprs_of es.now) st) (λ vs st. made p w wanted (callees.Through v) vs st)
+    then_do (eval_all p w fr (exprs_of es.now) st) (λ vs st. made p w wanted (callees.Through v) vs st)
 with_value p w fr (values.Argument wanted f before rest) v st =
-    then_do (eval_all p w no_marks fr (exprs_of rest.now) st) (λ vs st. made p w wanted f (before.items ++ (v ∷ vs)) st)
+    then_do (eval_all p w fr (exprs_of rest.now) st) (λ vs st. made p w wanted f (before.items ++ (v ∷ vs)) st)
 
 -- a round of a loop, and the loop again
 abbrev pub round : Program → World → Place → Rounds → Exit → State → Result Exit
-round p w fr l x st = on_round x st (λ st. then_do (perhaps p w no_marks fr l.step st) (λ y st. w.again fr l st))
+round p w fr l x st = on_round x st (λ st. then_do (perhaps p w fr l.step st) (λ y st. w.again fr l st))
 
 -- the body of a loop where its condition holds
 abbrev pub going_round : Program → World → Place → Rounds → Bool → State → Result Exit
 going_round p w fr l holds st =
-    either holds (then_do (exec p w no_marks fr l.body st) (round p w fr l)) (Go on st [])
+    either holds (then_do (exec p w fr l.body st) (round p w fr l)) (Go on st [])
 
 -- nothing takes a value here, or an exit
 abbrev pub stuck : {A : Type 0} → Result A
@@ -152,13 +154,13 @@ stuck = Stop (Undefined U13) []
 
 -- one of the two statements of an if
 abbrev pub one_of : Program → World → Place → Stmt → Bool → State → Result Exit
-one_of p w fr (if_else e s r) holds st = either holds (exec p w no_marks fr s st) (exec p w no_marks fr r st)
+one_of p w fr (if_else e s r) holds st = either holds (exec p w fr s st) (exec p w fr r st)
 one_of p w fr s holds st = stuck
 
 -- the groups of a switch from the one on that has the value
 abbrev pub switched : Program → World → Place → Stmt → Value → State → Result Exit
 switched p w fr (switch_on e gs) v st =
-    then_do (exec_from p w no_marks fr (selected v gs) gs st) (λ x st. Go (out_of_switch x) st [])
+    then_do (exec_from p w fr (selected v gs) gs st) (λ x st. Go (out_of_switch x) st [])
 switched p w fr s v st = stuck
 
 -- what comes of the value of a part of a statement
@@ -173,7 +175,7 @@ abbrev pub in_statement : Program → World → Place → StatementFrame → Val
 in_statement p w fr statements.Forget v st = Go on st []
 in_statement p w fr statements.Give v st = Go (returned (Some v)) st []
 in_statement p w fr (statements.Initialise x cell rest) v st =
-    then_do (remembered (store_place st.memory (place (name_in fr false x) cell 1) v) v st) (λ v st. initialise p w no_marks fr x (inits_of rest.now) st)
+    then_do (remembered (store_place st.memory (place (name_in fr false x) cell 1) v) v st) (λ v st. initialise p w fr x (inits_of rest.now) st)
 in_statement p w fr (statements.Part part s) v st = with_part p w fr part (stmt_of s.now) v st
 
 -- what comes of the exit of a part of a statement
@@ -185,8 +187,8 @@ after_part p w fr parted.Head s x st = on_exit x st (w.again fr (rounds_of s))
 
 -- what comes of an exit in a statement
 abbrev pub with_exit : Program → World → Place → ExitFrame → Exit → State → Result Exit
-with_exit p w fr (exits.Statements ss) x st = on_exit x st (exec_all p w no_marks fr (stmts_of ss.now))
-with_exit p w fr (exits.Groups gs) x st = on_exit x st (exec_from p w no_marks fr zero (groups_of gs.now))
+with_exit p w fr (exits.Statements ss) x st = on_exit x st (exec_all p w fr (stmts_of ss.now))
+with_exit p w fr (exits.Groups gs) x st = on_exit x st (exec_from p w fr zero (groups_of gs.now))
 with_exit p w fr exits.Switch x st = Go (out_of_switch x) st []
 with_exit p w fr (exits.Part part s) x st = after_part p w fr part (stmt_of s.now) x st
 
@@ -224,9 +226,9 @@ then_comes p w fr (afters.Exited status) k st = Stop (ended_by status) []
 
 -- what is left of the run: what comes next, and then these
 abbrev pub rest : Program → World → Place → Now → List Frame → State → Result Value
-rest p w fr (nows.Eval wanted e) k st = then_do (eval p w no_marks fr wanted (expr_of e.now) st) (after_value p w fr k)
+rest p w fr (nows.Eval wanted e) k st = then_do (eval p w fr wanted (expr_of e.now) st) (after_value p w fr k)
 rest p w fr (nows.Have v) k st = after_value p w fr k v st
-rest p w fr (nows.Exec s) k st = then_do (exec p w no_marks fr (stmt_of s.now) st) (after_exit p w fr k)
+rest p w fr (nows.Exec s) k st = then_do (exec p w fr (stmt_of s.now) st) (after_exit p w fr k)
 rest p w fr (nows.Left x) k st = after_exit p w fr k (exit_in x) st
 rest p w fr (nows.Enter wanted f vs) k st = then_do (w.enter wanted f vs.items st) (after_value p w fr k)
 rest p w fr (nows.Test s) k st = then_do (w.again fr (rounds_of (stmt_of s.now)) st) (after_exit p w fr k)

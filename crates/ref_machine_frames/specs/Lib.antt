@@ -1,3 +1,4 @@
 pub mod Cells
 pub mod Frames
+pub mod Held
 pub mod Parts

@@ -1,85 +1,94 @@
-ghost use Rattle.std.specs.Prelude.{◌≡◌, ◌+◌, ◌↔◌, IsTrue, ℕ, suc, List, Some, IfOk, length, map, slice_get};
+ghost use Rattle.std.specs.Prelude.{◌≡◌, ◌+◌, ◌*◌, ◌↔◌, IsTrue, ℕ, suc, List, Some, IfOk, length, map, get_or};
 ghost use Rattle.c_tree.specs.Layout.{Structs, cells, flat_with, flat_all_with, layout, or_none};
 ghost use Rattle.c_tree.specs.Tree.{CType as Term};
 ghost use Rattle.c_tree.specs.View.{ctype_of, ctypes_of, members_in, program_of};
-ghost use Rattle.ref_machine_frames.specs.Cells.{AreCells, AreCounted};
+ghost use Rattle.ref_machine_steps.specs.Faults.{told};
+ghost use Rattle.ref_machine_frames.specs.Cells.{AreCells, AreCounted, few_cells, kept};
 
 use c_tree::{CType, Program, StructMembers};
 use dm_base::OutOfMemory;
+use ref_machine_steps::Fault;
 use std::alloc::Global;
 
-// The number at this place, or none past the end.
-fn count_at(counts: &[u32], s: u32) -> Option<u32>
-    ensures { result ≡ slice_get counts.now s }
+// The number as it is kept: 65,537 stands for all that are greater.
+fn kept(n: u64) -> u32
+    ensures { result ≡ kept n }
 {
-    counts.get(s as usize).copied()
+    if n < 65_537 { n as u32 } else { 65_537 }
+}
+
+// The number at this place, or 0 past the end.
+fn count_at(counts: &[u32], s: u32) -> u32
+    ensures { result ≡ get_or counts.now s 0 }
+{
+    match counts.get(s as usize) {
+        Some(count) => *count,
+        None => 0,
+    }
+}
+
+// So many elements of so many cells.
+fn times(each: u32, n: u32) -> u32
+    ensures { result ≡ kept (each * n) }
+{
+    kept(each as u64 * n as u64)
 }
 
 // How many cells an object of this type has, where these are the cells of structs.
-fn cells_with(counts: &[u32], t: &CType) -> Result<u32, OutOfMemory>
-    ensures { (types : ℕ → List Term) → AreCounted types counts.now → IfOk result (λ n. n ≡ length (flat_with types (ctype_of t.now))) }
+fn cells_with(counts: &[u32], t: &CType) -> u32
+    ensures { (types : ℕ → List Term) → AreCounted types counts.now → result ≡ kept (length (flat_with types (ctype_of t.now))) }
 {
     match t {
-        CType::Int(_) => Ok(1),
-        CType::Pointer(_) => Ok(1),
+        CType::Int(_) => 1,
+        CType::Pointer(_) => 1,
         CType::Array(element, n) => {
-            let each = cells_with(counts, element)?;
-            match each.checked_mul(*n) {
-                Some(all) => Ok(all),
-                None => Err(OutOfMemory),
-            }
+            let each = cells_with(counts, element);
+            times(each, *n)
         }
-        CType::Struct(s) => match count_at(counts, *s) {
-            Some(count) => Ok(count),
-            None => Err(OutOfMemory),
-        },
-        CType::Void => Ok(0),
-        CType::Function(_, _) => Ok(0),
+        CType::Struct(s) => count_at(counts, *s),
+        CType::Void => 0,
+        CType::Function(_, _) => 0,
     }
 }
 
-/// How many cells an object of this type has, where `counts` has the number of cells of each struct of a program.
-/// Where the number has more than 32 bits, and where a struct has no number, want of memory is answered.
-pub fn cells_in(counts: &[u32], t: &CType) -> Result<u32, OutOfMemory>
-    ensures { (structs : Structs) → AreCells structs counts.now → IfOk result (λ n. n ≡ cells structs (ctype_of t.now)) }
+/// How many cells an object of this type has, where `counts` has the number of cells of each struct of a program. It
+/// refuses a type with more than 65,536, of which a well-typed program has no object.
+pub fn cells_in(counts: &[u32], t: &CType) -> Result<u32, Fault>
+    ensures { (structs : Structs) → AreCells structs counts.now → told result ≡ few_cells (cells structs (ctype_of t.now)) }
 {
-    let count = cells_with(counts, t)?;
+    let count = cells_with(counts, t);
+    if count > 65_536 {
+        return Err(Fault::Mistyped);
+    }
     Ok(count)
 }
 
-// The sum, where it has 32 bits.
-fn added(sum: u32, count: u32) -> Result<u32, OutOfMemory>
-    ensures { IfOk result (λ n. n ≡ sum + count) }
+// The sum as it is kept.
+fn added(sum: u32, count: u32) -> u32
+    ensures { result ≡ kept (sum + count) }
 {
-    match sum.checked_add(count) {
-        Some(more) => Ok(more),
-        None => Err(OutOfMemory),
-    }
+    kept(sum as u64 + count as u64)
 }
 
 // How many cells objects of these types have together.
-fn cells_of_all(counts: &[u32], types: &[CType]) -> Result<u32, OutOfMemory>
-    ensures { (lay : ℕ → List Term) → AreCounted lay counts.now → IfOk result (λ n. n ≡ length (flat_all_with lay (ctypes_of types.now))) }
+fn cells_of_all(counts: &[u32], types: &[CType]) -> u32
+    ensures { (lay : ℕ → List Term) → AreCounted lay counts.now → result ≡ kept (length (flat_all_with lay (ctypes_of types.now))) }
 {
     let mut sum = 0u32;
     for t in types {
-        let count = cells_with(counts, t)?;
-        let more = added(sum, count)?;
-        sum = more;
+        let count = cells_with(counts, t);
+        sum = added(sum, count);
     }
-    Ok(sum)
+    sum
 }
 
 // How many cells a struct with these members has; one without a definition has none.
-fn cells_of_struct(counts: &[u32], members: &StructMembers) -> Result<u32, OutOfMemory>
-    ensures { (lay : ℕ → List Term) → AreCounted lay counts.now → IfOk result (λ n. n ≡ length (flat_all_with lay (or_none (Some (members_in members.now))))) }
+fn cells_of_struct(counts: &[u32], members: &StructMembers) -> u32
+    ensures { (lay : ℕ → List Term) → AreCounted lay counts.now → result ≡ kept (length (flat_all_with lay (or_none (Some (members_in members.now))))) }
 {
     match members {
-        StructMembers::Undefined => Ok(0),
-        StructMembers::Defined(types) => {
-            let count = cells_of_all(counts, types)?;
-            Ok(count)
-        }
+        StructMembers::Undefined => 0,
+        StructMembers::Defined(types) => cells_of_all(counts, types),
     }
 }
 
@@ -89,8 +98,7 @@ fn deeper(alloc: Global, counts: &[u32], structs: &[StructMembers]) -> Result<Ve
 {
     let mut next = Vec::new(alloc);
     for members in structs {
-        let count = cells_of_struct(counts, members)?;
-        next.push(count)?;
+        next.push(cells_of_struct(counts, members))?;
     }
     Ok(next)
 }
@@ -113,7 +121,7 @@ fn are_same(next: &[u32], counts: &[u32]) -> bool
     next == counts
 }
 
-/// The number of cells of each struct of the program.
+/// The number of cells of each struct of the program, up to 65,537, which stands for all that are greater.
 pub fn struct_cells(alloc: Global, program: &Program) -> Result<Vec<u32>, OutOfMemory>
     ensures { IfOk result (λ counts. AreCells (program_of program.now).structs counts.items) }
 {

@@ -7,7 +7,7 @@ mod cells;
 mod frames;
 mod waiting;
 
-pub use answers::{given, given_in_words, stopped};
+pub use answers::{given, stopped};
 pub use cells::{cells_in, struct_cells};
 pub use frames::{
     After, Call, Callee, Choice, ExitFrame, Frame, Here, Left, Now, Pair, Parted, StatementFrame,

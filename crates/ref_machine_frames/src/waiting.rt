@@ -2,9 +2,8 @@ ghost use Rattle.std.specs.Prelude.{IfOk};
 ghost use Rattle.c_tree.specs.Tree.{Program};
 ghost use Rattle.c_tree.specs.View.{expr_of, stmt_of};
 ghost use Rattle.c_values.specs.Memory.{Objects};
-ghost use Rattle.c_meaning.specs.Meaning.{eval, exec};
 ghost use Rattle.c_meaning.specs.Results.{then_do};
-ghost use Rattle.c_meaning.specs.Runs.{no_marks};
+ghost use Rattle.ref_machine_frames.specs.Held.{eval, exec};
 ghost use Rattle.ref_machine_frames.specs.Frames.{place_of, with_value, in_statement, with_exit};
 ghost use Rattle.ref_machine_frames.specs.Parts.{Gives, Leaves};
 ghost use Rattle.ref_machine_frames.specs.declared.frames.Here.{Here as Activation};
@@ -20,7 +19,7 @@ pub fn wait<'p>(
     wanted: bool,
     of: &'p TExpr,
 ) -> Result<Now<'p>, OutOfMemory>
-    ensures { IfOk result (λ now. (p : Program) (h : Activation) (m : Objects) → Gives p h m todo.old.items (λ w st. then_do (eval p w no_marks (place_of h) wanted (expr_of of.now) st) (with_value p w (place_of h) frame.entry)) now m todo.new.items) }
+    ensures { IfOk result (λ now. (p : Program) (h : Activation) (m : Objects) → Gives p h m todo.old.items (λ w st. then_do (eval p w (place_of h) wanted (expr_of of.now) st) (with_value p w (place_of h) frame.entry)) now m todo.new.items) }
 {
     todo.push(Frame::Value(frame))?;
     Ok(Now::Eval { wanted, of })
@@ -33,7 +32,7 @@ pub fn wait_in_statement<'p>(
     wanted: bool,
     of: &'p TExpr,
 ) -> Result<Now<'p>, OutOfMemory>
-    ensures { IfOk result (λ now. (p : Program) (h : Activation) (m : Objects) → Leaves p h m todo.old.items (λ w st. then_do (eval p w no_marks (place_of h) wanted (expr_of of.now) st) (in_statement p w (place_of h) frame.entry)) now m todo.new.items) }
+    ensures { IfOk result (λ now. (p : Program) (h : Activation) (m : Objects) → Leaves p h m todo.old.items (λ w st. then_do (eval p w (place_of h) wanted (expr_of of.now) st) (in_statement p w (place_of h) frame.entry)) now m todo.new.items) }
 {
     todo.push(Frame::Statement(frame))?;
     Ok(Now::Eval { wanted, of })
@@ -45,7 +44,7 @@ pub fn wait_for_statement<'p>(
     frame: ExitFrame<'p>,
     statement: &'p TStmt,
 ) -> Result<Now<'p>, OutOfMemory>
-    ensures { IfOk result (λ now. (p : Program) (h : Activation) (m : Objects) → Leaves p h m todo.old.items (λ w st. then_do (exec p w no_marks (place_of h) (stmt_of statement.now) st) (with_exit p w (place_of h) frame.entry)) now m todo.new.items) }
+    ensures { IfOk result (λ now. (p : Program) (h : Activation) (m : Objects) → Leaves p h m todo.old.items (λ w st. then_do (exec p w (place_of h) (stmt_of statement.now) st) (with_exit p w (place_of h) frame.entry)) now m todo.new.items) }
 {
     todo.push(Frame::Exit(frame))?;
     Ok(Now::Exec(statement))

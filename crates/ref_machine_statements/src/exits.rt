@@ -3,9 +3,8 @@ ghost use Rattle.c_tree.specs.Tree.{Program};
 ghost use Rattle.c_tree.specs.View.{groups_of, stmt_of, stmts_of};
 ghost use Rattle.c_values.specs.Memory.{Objects};
 ghost use Rattle.c_values.specs.Seen.{seen};
-ghost use Rattle.c_meaning.specs.Meaning.{exec_all, exec_from};
 ghost use Rattle.c_meaning.specs.Results.{on_exit, out_of_switch};
-ghost use Rattle.c_meaning.specs.Runs.{no_marks};
+ghost use Rattle.ref_machine_frames.specs.Held.{exec_all, exec_from};
 ghost use Rattle.ref_machine_frames.specs.Frames.{exit_in, place_of, rounds_of, with_exit};
 ghost use Rattle.ref_machine_frames.specs.Parts.{Leaves};
 ghost use Rattle.ref_machine_frames.specs.declared.frames.Frame.{Frame as Todo};
@@ -25,7 +24,7 @@ fn later_statements<'p>(
     rest: &'p [TStmt],
     by: Left,
 ) -> Result<Now<'p>, OutOfMemory>
-    ensures { IfOk result (λ now. (p : Program) (h : Activation) (m : Objects) → Leaves p h m todo.old.items (λ w st. on_exit (exit_in by) st (exec_all p w no_marks (place_of h) (stmts_of rest.now))) now m todo.new.items) }
+    ensures { IfOk result (λ now. (p : Program) (h : Activation) (m : Objects) → Leaves p h m todo.old.items (λ w st. on_exit (exit_in by) st (exec_all p w (place_of h) (stmts_of rest.now))) now m todo.new.items) }
 {
     match by {
         Left::On => statements(todo, rest),
@@ -41,7 +40,7 @@ fn later_groups<'p>(
     rest: &'p [TGroup],
     by: Left,
 ) -> Result<Now<'p>, OutOfMemory>
-    ensures { IfOk result (λ now. (p : Program) (h : Activation) (m : Objects) → Leaves p h m todo.old.items (λ w st. on_exit (exit_in by) st (exec_from p w no_marks (place_of h) 0 (groups_of rest.now))) now m todo.new.items) }
+    ensures { IfOk result (λ now. (p : Program) (h : Activation) (m : Objects) → Leaves p h m todo.old.items (λ w st. on_exit (exit_in by) st (exec_from p w (place_of h) 0 (groups_of rest.now))) now m todo.new.items) }
 {
     match by {
         Left::On => groups(todo, rest),

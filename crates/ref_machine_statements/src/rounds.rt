@@ -2,9 +2,8 @@ ghost use Rattle.std.specs.Prelude.{IfOk};
 ghost use Rattle.c_tree.specs.Tree.{Program};
 ghost use Rattle.c_tree.specs.View.{stmt_of};
 ghost use Rattle.c_values.specs.Memory.{Objects};
-ghost use Rattle.c_meaning.specs.Meaning.{condition, exec, perhaps};
 ghost use Rattle.c_meaning.specs.Results.{then_do};
-ghost use Rattle.c_meaning.specs.Runs.{no_marks};
+ghost use Rattle.ref_machine_frames.specs.Held.{condition, exec, perhaps};
 ghost use Rattle.ref_machine_frames.specs.Frames.{exit_in, going_round, place_of, round, rounds_of};
 ghost use Rattle.ref_machine_frames.specs.Parts.{Leaves};
 ghost use Rattle.ref_machine_frames.specs.declared.frames.Here.{Here as Activation};
@@ -51,7 +50,7 @@ pub fn going_round<'p>(
 /// statement that is no loop has neither a condition nor a body. Where memory is refused, what is left to do may have
 /// been changed.
 pub fn test_loop<'p>(todo: &mut Vec<Frame<'p>>, of: &'p TStmt) -> Result<Now<'p>, OutOfMemory>
-    ensures { IfOk result (λ now. (p : Program) (h : Activation) (m : Objects) → Leaves p h m todo.old.items (λ w st. then_do (condition p w no_marks (place_of h) (rounds_of (stmt_of of.now)).test st) (going_round p w (place_of h) (rounds_of (stmt_of of.now)))) now m todo.new.items) }
+    ensures { IfOk result (λ now. (p : Program) (h : Activation) (m : Objects) → Leaves p h m todo.old.items (λ w st. then_do (condition p w (place_of h) (rounds_of (stmt_of of.now)).test st) (going_round p w (place_of h) (rounds_of (stmt_of of.now)))) now m todo.new.items) }
 {
     match of {
         TStmt::While { test, .. } => wait_in_statement(
@@ -81,7 +80,7 @@ pub fn test_loop<'p>(todo: &mut Vec<Frame<'p>>, of: &'p TStmt) -> Result<Now<'p>
 
 // What is done after a round; then the loop is tested again.
 fn step<'p>(todo: &mut Vec<Frame<'p>>, of: &'p TStmt) -> Result<Now<'p>, OutOfMemory>
-    ensures { IfOk result (λ now. (p : Program) (h : Activation) (m : Objects) → Leaves p h m todo.old.items (λ w st. then_do (perhaps p w no_marks (place_of h) (rounds_of (stmt_of of.now)).step st) (λ y st. w.again (place_of h) (rounds_of (stmt_of of.now)) st)) now m todo.new.items) }
+    ensures { IfOk result (λ now. (p : Program) (h : Activation) (m : Objects) → Leaves p h m todo.old.items (λ w st. then_do (perhaps p w (place_of h) (rounds_of (stmt_of of.now)).step st) (λ y st. w.again (place_of h) (rounds_of (stmt_of of.now)) st)) now m todo.new.items) }
 {
     match of {
         TStmt::For { step, .. } => match step {

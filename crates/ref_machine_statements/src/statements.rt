@@ -3,9 +3,8 @@ ghost use Rattle.c_tree.specs.Tree.{Program};
 ghost use Rattle.c_tree.specs.View.{inits_of, program_of, stmt_of, stmts_of};
 ghost use Rattle.c_values.specs.Memory.{Objects};
 ghost use Rattle.c_values.specs.Seen.{seen};
-ghost use Rattle.c_meaning.specs.Meaning.{exec, exec_all, fresh, initialise};
 ghost use Rattle.c_meaning.specs.Results.{then_do};
-ghost use Rattle.c_meaning.specs.Runs.{no_marks};
+ghost use Rattle.ref_machine_frames.specs.Held.{exec, exec_all, fresh, initialise};
 ghost use Rattle.ref_machine_frames.specs.Cells.{AreCells};
 ghost use Rattle.ref_machine_frames.specs.Frames.{after_part, place_of};
 ghost use Rattle.ref_machine_frames.specs.Parts.{Leaves};
@@ -13,13 +12,13 @@ ghost use Rattle.ref_machine_frames.specs.declared.frames.Here.{Here as Activati
 ghost use Rattle.ref_machine_frames.specs.declared.frames.Parted.TheVariants.{Head, Whole};
 
 use crate::sequences::{initialisers, statements};
-use crate::variables::{name_here, renew};
+use crate::variables::name_here;
 use c_tree::{Program as Checked, TInit, TStmt};
 use c_values::Memory;
 use dm_base::OutOfMemory;
 use ref_machine_frames::{
-    ExitFrame, Frame, Here, Left, Now, Parted, StatementFrame, Valued, wait_for_statement,
-    wait_in_statement,
+    ExitFrame, Frame, Here, Left, Now, Parted, StatementFrame, Valued, cells_in, stopped,
+    wait_for_statement, wait_in_statement,
 };
 
 // A variable has new cells, and these get their values.
@@ -33,13 +32,18 @@ fn declare<'p>(
     init: &'p [TInit],
 ) -> Result<Now<'p>, OutOfMemory>
     requires { AreCells (program_of program.now).structs counts.now }
-    ensures { IfOk result (λ now. Leaves (program_of program.now) here.entry (seen memory.old) todo.old.items (λ w st. then_do (fresh (program_of program.now).structs (place_of here.entry) variable (slice_get (place_of here.entry).types variable) st) (λ y st. initialise (program_of program.now) w no_marks (place_of here.entry) variable (inits_of init.now) st)) now (seen memory.new) todo.new.items) }
+    ensures { IfOk result (λ now. Leaves (program_of program.now) here.entry (seen memory.old) todo.old.items (λ w st. then_do (fresh (program_of program.now).structs (place_of here.entry) variable (slice_get (place_of here.entry).types variable) st) (λ y st. initialise (program_of program.now) w (place_of here.entry) variable (inits_of init.now) st)) now (seen memory.new) todo.new.items) }
 {
     let Some(t) = here.types.get(variable as usize) else {
         return Ok(Now::Mistyped);
     };
-    renew(counts, memory, name_here(here, variable), t)?;
-    initialisers(todo, variable, init)
+    match cells_in(counts, t) {
+        Ok(count) => {
+            memory.declare(name_here(here, variable), count)?;
+            initialisers(todo, variable, init)
+        }
+        Err(fault) => Ok(stopped(fault)),
+    }
 }
 
 // The statements of a block or of the head of a `for`, whose variables end with it.
@@ -48,7 +52,7 @@ fn whole<'p>(
     of: &'p TStmt,
     left: &'p [TStmt],
 ) -> Result<Now<'p>, OutOfMemory>
-    ensures { IfOk result (λ now. (p : Program) (h : Activation) (m : Objects) → Leaves p h m todo.old.items (λ w st. then_do (exec_all p w no_marks (place_of h) (stmts_of left.now) st) (after_part p w (place_of h) Whole (stmt_of of.now))) now m todo.new.items) }
+    ensures { IfOk result (λ now. (p : Program) (h : Activation) (m : Objects) → Leaves p h m todo.old.items (λ w st. then_do (exec_all p w (place_of h) (stmts_of left.now) st) (after_part p w (place_of h) Whole (stmt_of of.now))) now m todo.new.items) }
 {
     todo.push(Frame::Exit(ExitFrame::Part(Parted::Whole, of)))?;
     statements(todo, left)
@@ -60,7 +64,7 @@ fn head<'p>(
     of: &'p TStmt,
     left: &'p [TStmt],
 ) -> Result<Now<'p>, OutOfMemory>
-    ensures { IfOk result (λ now. (p : Program) (h : Activation) (m : Objects) → Leaves p h m todo.old.items (λ w st. then_do (exec_all p w no_marks (place_of h) (stmts_of left.now) st) (after_part p w (place_of h) Head (stmt_of of.now))) now m todo.new.items) }
+    ensures { IfOk result (λ now. (p : Program) (h : Activation) (m : Objects) → Leaves p h m todo.old.items (λ w st. then_do (exec_all p w (place_of h) (stmts_of left.now) st) (after_part p w (place_of h) Head (stmt_of of.now))) now m todo.new.items) }
 {
     todo.push(Frame::Exit(ExitFrame::Part(Parted::Head, of)))?;
     statements(todo, left)
@@ -72,15 +76,14 @@ fn begin_for<'p>(
     of: &'p TStmt,
     left: &'p [TStmt],
 ) -> Result<Now<'p>, OutOfMemory>
-    ensures { IfOk result (λ now. (p : Program) (h : Activation) (m : Objects) → Leaves p h m todo.old.items (λ w st. then_do (then_do (exec_all p w no_marks (place_of h) (stmts_of left.now) st) (after_part p w (place_of h) Head (stmt_of of.now))) (after_part p w (place_of h) Whole (stmt_of of.now))) now m todo.new.items) }
+    ensures { IfOk result (λ now. (p : Program) (h : Activation) (m : Objects) → Leaves p h m todo.old.items (λ w st. then_do (then_do (exec_all p w (place_of h) (stmts_of left.now) st) (after_part p w (place_of h) Head (stmt_of of.now))) (after_part p w (place_of h) Whole (stmt_of of.now))) now m todo.new.items) }
 {
     todo.push(Frame::Exit(ExitFrame::Part(Parted::Whole, of)))?;
     head(todo, of, left)
 }
 
-/// How a statement begins (C99 6.8). `counts` has the number of cells of each struct. A variable of 2^32 cells or more,
-/// which no well-typed program has, is answered as want of memory. Where memory is refused, `memory` and `todo` may have
-/// been changed.
+/// How a statement begins (C99 6.8). `counts` has the number of cells of each struct. Where memory is refused, `memory` and
+/// `todo` may have been changed.
 pub fn begin_statement<'p>(
     program: &Checked,
     counts: &[u32],
@@ -90,7 +93,7 @@ pub fn begin_statement<'p>(
     s: &'p TStmt,
 ) -> Result<Now<'p>, OutOfMemory>
     requires { AreCells (program_of program.now).structs counts.now }
-    ensures { IfOk result (λ now. Leaves (program_of program.now) here.entry (seen memory.old) todo.old.items (λ w st. exec (program_of program.now) w no_marks (place_of here.entry) (stmt_of s.now) st) now (seen memory.new) todo.new.items) }
+    ensures { IfOk result (λ now. Leaves (program_of program.now) here.entry (seen memory.old) todo.old.items (λ w st. exec (program_of program.now) w (place_of here.entry) (stmt_of s.now) st) now (seen memory.new) todo.new.items) }
 {
     match s {
         TStmt::Block(ss) => whole(todo, s, ss),

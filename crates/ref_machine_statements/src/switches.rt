@@ -3,9 +3,9 @@ ghost use Rattle.std.specs.List.{list_any};
 ghost use Rattle.c_tree.specs.Tree.{Program};
 ghost use Rattle.c_tree.specs.View.{groups_of, stmt_of};
 ghost use Rattle.c_values.specs.Memory.{Objects};
-ghost use Rattle.c_meaning.specs.Meaning.{count_groups, exec_from, group_with, is_case, is_default, or_else, same_integer, selected};
+ghost use Rattle.c_meaning.specs.Meaning.{count_groups, group_with, is_case, is_default, or_else, same_integer, selected};
 ghost use Rattle.c_meaning.specs.Results.{Go, out_of_switch, then_do};
-ghost use Rattle.c_meaning.specs.Runs.{no_marks};
+ghost use Rattle.ref_machine_frames.specs.Held.{exec_from};
 ghost use Rattle.ref_machine_frames.specs.Frames.{place_of, switched};
 ghost use Rattle.ref_machine_frames.specs.Parts.{Leaves};
 ghost use Rattle.ref_machine_frames.specs.declared.frames.Here.{Here as Activation};
@@ -130,7 +130,7 @@ fn groups_selected<'p>(
     v: Value,
     all: &'p [TGroup],
 ) -> Result<Now<'p>, OutOfMemory>
-    ensures { IfOk result (λ now. (p : Program) (h : Activation) (m : Objects) → Leaves p h m todo.old.items (λ w st. then_do (exec_from p w no_marks (place_of h) (selected v (groups_of all.now)) (groups_of all.now) st) (λ x st. Go (out_of_switch x) st [])) now m todo.new.items) }
+    ensures { IfOk result (λ now. (p : Program) (h : Activation) (m : Objects) → Leaves p h m todo.old.items (λ w st. then_do (exec_from p w (place_of h) (selected v (groups_of all.now)) (groups_of all.now) st) (λ x st. Go (out_of_switch x) st [])) now m todo.new.items) }
 {
     let from = groups_from(all, selected(v, all));
     todo.push(Frame::Exit(ExitFrame::Switch))?;

@@ -3,10 +3,10 @@ ghost use Rattle.c_tree.specs.Tree.{Program};
 ghost use Rattle.c_tree.specs.View.{inits_of, stmt_of};
 ghost use Rattle.c_values.specs.Memory.{Objects};
 ghost use Rattle.c_values.specs.Seen.{seen};
-ghost use Rattle.c_meaning.specs.Meaning.{initialise, name_in};
+ghost use Rattle.c_meaning.specs.Meaning.{name_in};
 ghost use Rattle.c_meaning.specs.Pointers.{place, store_place};
 ghost use Rattle.c_meaning.specs.Results.{remembered, then_do};
-ghost use Rattle.c_meaning.specs.Runs.{no_marks};
+ghost use Rattle.ref_machine_frames.specs.Held.{initialise};
 ghost use Rattle.ref_machine_frames.specs.Frames.{asked, going_round, in_statement, one_of, place_of, rounds_of};
 ghost use Rattle.ref_machine_frames.specs.Parts.{Leaves};
 ghost use Rattle.ref_machine_frames.specs.declared.frames.Frame.{Frame as Todo};
@@ -32,7 +32,7 @@ fn initialised<'p>(
     rest: &'p [TInit],
     v: Value,
 ) -> Result<Now<'p>, OutOfMemory>
-    ensures { IfOk result (λ now. (p : Program) → Leaves p here.entry (seen memory.old) todo.old.items (λ w st. then_do (remembered (store_place st.memory (place (name_in (place_of here.entry) false variable) cell 1) v) v st) (λ v st. initialise p w no_marks (place_of here.entry) variable (inits_of rest.now) st)) now (seen memory.new) todo.new.items) }
+    ensures { IfOk result (λ now. (p : Program) → Leaves p here.entry (seen memory.old) todo.old.items (λ w st. then_do (remembered (store_place st.memory (place (name_in (place_of here.entry) false variable) cell 1) v) v st) (λ v st. initialise p w (place_of here.entry) variable (inits_of rest.now) st)) now (seen memory.new) todo.new.items) }
 {
     match store_place(memory, place(name_here(here, variable), cell, 1), v) {
         Ok(()) => initialisers(todo, variable, rest),

@@ -1,16 +1,12 @@
-ghost use Rattle.std.specs.Prelude.{◌≡◌, OnOk, false};
-ghost use Rattle.c_tree.specs.Layout.{Structs, cells};
-ghost use Rattle.c_tree.specs.View.{ctype_of, stmt_of, stmts_of};
-ghost use Rattle.c_values.specs.Memory.{declared};
+ghost use Rattle.std.specs.Prelude.{◌≡◌, false};
+ghost use Rattle.c_tree.specs.View.{stmt_of, stmts_of};
 ghost use Rattle.c_values.specs.Seen.{seen};
 ghost use Rattle.c_meaning.specs.Meaning.{declared_by, declared_in, name_in, without};
-ghost use Rattle.ref_machine_frames.specs.Cells.{AreCells};
 ghost use Rattle.ref_machine_frames.specs.Frames.{locals_of, place_of};
 
-use c_tree::{CType, ObjectName, TStmt};
+use c_tree::{ObjectName, TStmt};
 use c_values::Memory;
-use dm_base::OutOfMemory;
-use ref_machine_frames::{Here, cells_in};
+use ref_machine_frames::Here;
 
 /// The name of a variable of the activation that runs.
 pub fn name_here(here: Here, variable: u32) -> ObjectName
@@ -20,20 +16,6 @@ pub fn name_here(here: Here, variable: u32) -> ObjectName
         activation: here.activation,
         variable,
     }
-}
-
-/// A variable of this type has new cells (C99 6.2.4 paragraph 5).
-pub fn renew(
-    counts: &[u32],
-    memory: &mut Memory,
-    name: ObjectName,
-    t: &CType,
-) -> Result<(), OutOfMemory>
-    ensures { (structs : Structs) → AreCells structs counts.now → OnOk result (seen memory.new ≡ declared (seen memory.old) name (cells structs (ctype_of t.now))) }
-{
-    let count = cells_in(counts, t)?;
-    memory.declare(name, count)?;
-    Ok(())
 }
 
 // The variable of a declaration ends.

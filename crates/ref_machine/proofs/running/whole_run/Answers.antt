@@ -1,6 +1,6 @@
 use Rattle.std.proofs.Common.{drop, subst}
 use Rattle.c_tree.specs.View.{program_of}
-use Rattle.c_meaning.specs.Runs.{Run, run}
+use Rattle.c_meaning.specs.Runs.{run}
 use Rattle.ref_machine.specs.declared.next.Next.{Next}
 use Rattle.ref_machine.specs.Futures.{future}
 use Rattle.ref_machine.specs.WholeRuns.{Happens}

@@ -2,7 +2,7 @@ use Rattle.std.proofs.Common.{ap, sym, ◌∙◌}
 use Rattle.c_tree.specs.View.{program_of}
 use Rattle.c_values.specs.Seen.{seen}
 use Rattle.c_meaning.specs.Results.{then_do}
-use Rattle.c_meaning.specs.Runs.{no_marks, world}
+use Rattle.ref_machine_frames.specs.Held.{world}
 use Rattle.ref_machine_frames.specs.Frames.{place_of, stack, after_value, rest}
 use Rattle.ref_machine.specs.Standing.{state}
 use Rattle.ref_machine.proofs.stepping.step.Goals as goal
@@ -10,35 +10,35 @@ use Rattle.ref_machine.proofs.stepping.step.Goals as goal
 pub returns-in_ok-next-in-Eval-clause-same : goal.returns-in_ok-next-in-Eval-clause-same
 returns-in_ok-next-in-Eval-clause-same c n records taken le =
     let p = program_of c.args.program.now in
-    let w = world p no_marks n in
+    let w = world p n in
     let st = state (seen c.args.memory.now) c.args.entries.now records taken c.args.turns.now in
     c.in_ok-next-in-Eval.ensures w st ∙ ap (λ now. rest p w (place_of c.args.here.now) now (stack c.args.todo.now.items) st) (sym c.in-Eval.is)
 
 pub returns-in_ok-next-in-Have-clause-same : goal.returns-in_ok-next-in-Have-clause-same
 returns-in_ok-next-in-Have-clause-same c n records taken le =
     let p = program_of c.args.program.now in
-    let w = world p no_marks n in
+    let w = world p n in
     let st = state (seen c.args.memory.now) c.args.entries.now records taken c.args.turns.now in
     c.in_ok-next-in-Have.ensures w st ∙ ap (λ now. rest p w (place_of c.args.here.now) now (stack c.args.todo.now.items) st) (sym c.in-Have.is)
 
 pub returns-in_ok-next-in-Exec-clause-same : goal.returns-in_ok-next-in-Exec-clause-same
 returns-in_ok-next-in-Exec-clause-same c n records taken le =
     let p = program_of c.args.program.now in
-    let w = world p no_marks n in
+    let w = world p n in
     let st = state (seen c.args.memory.now) c.args.entries.now records taken c.args.turns.now in
     c.in_ok-next-in-Exec.ensures w st ∙ ap (λ now. rest p w (place_of c.args.here.now) now (stack c.args.todo.now.items) st) (sym c.in-Exec.is)
 
 pub returns-in_ok-next-in-Left-clause-same : goal.returns-in_ok-next-in-Left-clause-same
 returns-in_ok-next-in-Left-clause-same c n records taken le =
     let p = program_of c.args.program.now in
-    let w = world p no_marks n in
+    let w = world p n in
     let st = state (seen c.args.memory.now) c.args.entries.now records taken c.args.turns.now in
     c.in_ok-next-in-Left.ensures p w st ∙ ap (λ now. rest p w (place_of c.args.here.now) now (stack c.args.todo.now.items) st) (sym c.in-Left.is)
 
 pub returns-in_ok-next-in-Enter-clause-same : goal.returns-in_ok-next-in-Enter-clause-same
 returns-in_ok-next-in-Enter-clause-same c n records taken le =
     let p = program_of c.args.program.now in
-    let w = world p no_marks n in
+    let w = world p n in
     let st = state (seen c.args.memory.now) c.args.entries.now records taken c.args.turns.now in
     c.in_ok-next-in-Enter.ensures.same n records taken le
     ∙ (ap (λ vs. then_do (w.enter c.in-Enter.wanted c.in-Enter.function vs st) (after_value p w (place_of c.args.here.now) (stack c.args.todo.now.items))) c.deref.ensures.value
@@ -47,6 +47,6 @@ returns-in_ok-next-in-Enter-clause-same c n records taken le =
 pub returns-in_ok-next-in-Test-clause-same : goal.returns-in_ok-next-in-Test-clause-same
 returns-in_ok-next-in-Test-clause-same c n records taken le =
     let p = program_of c.args.program.now in
-    let w = world p no_marks n in
+    let w = world p n in
     let st = state (seen c.args.memory.now) c.args.entries.now records taken c.args.turns.now in
     c.in_ok-next-in-Test.ensures.same p c.args.here.now (seen c.args.memory.now) c.args.entries.now n records taken le ∙ ap (λ now. rest p w (place_of c.args.here.now) now (stack c.args.todo.now.items) st) (sym c.in-Test.is)

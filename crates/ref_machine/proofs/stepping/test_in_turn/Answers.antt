@@ -1,7 +1,7 @@
 use Rattle.std.proofs.Common.{◌≡◌, ◌≤◌, ◌-◌, suc, ap, ◌∙◌, arith}
 use Rattle.c_tree.specs.View.{stmt_of}
 use Rattle.c_meaning.specs.Results.{then_do}
-use Rattle.c_meaning.specs.Runs.{no_marks, world}
+use Rattle.ref_machine_frames.specs.Held.{world}
 use Rattle.ref_machine_frames.specs.Frames.{place_of, stack, after_exit, rounds_of}
 use Rattle.ref_machine.specs.Standing.{state}
 use Rattle.ref_machine.proofs.Turning.{loop_turn, no_turn_to_test}
@@ -9,11 +9,11 @@ use Rattle.ref_machine.proofs.stepping.test_in_turn.Goals as goal
 
 pub returns-then-turns-eq0-clause-same : goal.returns-then-turns-eq0-clause-same
 returns-then-turns-eq0-clause-same c p h m entries n records taken le =
-    no_turn_to_test p n (place_of h) (rounds_of (stmt_of c.args.of.now)) m entries records taken c.args.turns.now (after_exit p (world p no_marks n) (place_of h) (stack c.args.todo.now.items)) (omega arith) le
+    no_turn_to_test p n (place_of h) (rounds_of (stmt_of c.args.of.now)) m entries records taken c.args.turns.now (after_exit p (world p n) (place_of h) (stack c.args.todo.now.items)) (omega arith) le
 
 pub returns-clause-same : goal.returns-clause-same
 returns-clause-same c p h m entries n records taken le =
-    let w = world p no_marks n in
+    let w = world p n in
     let l = rounds_of (stmt_of c.args.of.now) in
     let k = after_exit p w (place_of h) (stack c.args.todo.now.items) in
     let left : suc (c.args.turns.now - 1) ≡ c.args.turns.now = omega arith in

@@ -1,7 +1,7 @@
 use Rattle.std.proofs.Common.{◌≡◌, ◌<◌, ap, sym, ◌∙◌, arith}
 use Rattle.c_values.specs.Seen.{seen}
 use Rattle.c_meaning.specs.Results.{with_memory, then_do}
-use Rattle.c_meaning.specs.SystemCalls.{system_call}
+use Rattle.ref_machine_frames.specs.Held.{system_call}
 use Rattle.ref_machine_frames.specs.Frames.{after_value}
 use Rattle.ref_machine_expressions.proofs.Following.{alone, not_alone}
 use Rattle.ref_machine_expressions.proofs.calls.call_system.Goals as goal

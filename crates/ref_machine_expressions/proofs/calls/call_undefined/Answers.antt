@@ -1,7 +1,7 @@
 use Rattle.std.proofs.Common.{ap, sym, ◌∙◌}
 use Rattle.c_values.specs.Seen.{seen}
-use Rattle.c_meaning.specs.Meaning.{call_undefined}
 use Rattle.c_meaning.specs.Results.{with_memory, then_do}
+use Rattle.ref_machine_frames.specs.Held.{call_undefined}
 use Rattle.ref_machine_frames.specs.Frames.{after_value}
 use Rattle.ref_machine_expressions.proofs.Following.{is_system_call, no_site, with_site}
 use Rattle.ref_machine_expressions.proofs.calls.call_undefined.Goals as goal

@@ -1,9 +1,7 @@
-use Rattle.std.proofs.Common.{◌-◌}
-use Rattle.c_tree.specs.Functions.{defined}
 use Rattle.c_tree.specs.View.{program_of}
 use Rattle.c_values.specs.Seen.{seen}
-use Rattle.c_meaning.specs.Meaning.{call_undefined}
 use Rattle.c_meaning.specs.Results.{with_memory}
+use Rattle.ref_machine_frames.specs.Held.{call_undefined}
 use Rattle.ref_machine_frames.specs.Frames.{after_value}
 use Rattle.ref_machine_expressions.proofs.Following.{function_named, other_named}
 use Rattle.ref_machine_expressions.proofs.calls.called.Goals as goal

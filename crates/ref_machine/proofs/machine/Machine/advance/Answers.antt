@@ -1,4 +1,4 @@
-use Rattle.std.proofs.Common.{ap, sym, ◌∙◌}
+use Rattle.std.proofs.Common.{ap}
 use Rattle.std.specs.Option.{option_copied}
 use Rattle.ref_machine.specs.Futures.{future, is_waiting, records_taken}
 use Rattle.ref_machine.specs.Stages.{waits}

@@ -1,8 +1,9 @@
 use Rattle.std.proofs.Common.{[], ap, sym, ◌∙◌, refl, subst}
 use Rattle.c_tree.specs.View.{program_of}
 use Rattle.c_values.specs.Seen.{seen}
-use Rattle.c_meaning.specs.Runs.{ending, no_marks, world}
+use Rattle.c_meaning.specs.Runs.{ending}
 use Rattle.c_meaning_laws.specs.TypedResults.{IsEnding}
+use Rattle.ref_machine_frames.specs.Held.{world}
 use Rattle.ref_machine_frames.specs.Frames.{place_of, stack, then_comes}
 use Rattle.ref_machine_frames.specs.declared.frames.Now.{Now}
 use Rattle.ref_machine_frames.specs.declared.frames.Now.TheVariants.{Ask, Stopped}
@@ -31,20 +32,20 @@ pub coming-requires : goal.coming-requires
 coming-requires c =
     let m = c.args.self.now in
     let p = program_of m.program.now in
-    exits_fit p (world p no_marks m.allowed) (place_of m.here) c.in-Told.event c.in-Told.then (stack m.todo.items) (state (seen m.memory) m.entries [] m.taken m.turns) (subst (λ (now : Now). IsEnding (future_at m now []).outcome) c.in-Told.is (c.requires.right []))
+    exits_fit p (world p m.allowed) (place_of m.here) c.in-Told.event c.in-Told.then (stack m.todo.items) (state (seen m.memory) m.entries [] m.taken m.turns) (subst (λ (now : Now). IsEnding (future_at m now []).outcome) c.in-Told.is (c.requires.right []))
 
 pub returns-in-Told-clause-goes_on : goal.returns-in-Told-clause-goes_on
 returns-in-Told-clause-goes_on c =
     let m = c.args.self.now in
     let p = program_of m.program.now in
-    let w = world p no_marks m.allowed in
+    let w = world p m.allowed in
     (λ records. let st = state (seen m.memory) m.entries records m.taken m.turns in ap (λ now. future_at m now records) c.in-Told.is ∙ (ended_after c.in-Told.event (then_comes p w (place_of m.here) c.in-Told.then (stack m.todo.items) st) ∙ ap (λ r. event_first c.in-Told.event (ending r)) (sym (c.coming.ensures p w (place_of m.here) (stack m.todo.items) st))), refl)
 
 pub invariant_of-self-in-Told : goal.invariant_of-self-in-Told
 invariant_of-self-in-Told c =
     let m = c.args.self.now in
     let p = program_of m.program.now in
-    let w = world p no_marks m.allowed in
+    let w = world p m.allowed in
     let new : Future = λ records. future_at m c.coming.result records in
     record {
       counted = m.counted;

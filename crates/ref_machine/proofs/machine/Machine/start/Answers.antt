@@ -5,11 +5,13 @@ use Rattle.c_tree.specs.View.{program_of, static_of}
 use Rattle.c_values.specs.Seen.{seen}
 use Rattle.std.proofs.lemmas.List.Elements.{All-nil}
 use Rattle.sys_table.specs.Table.{IsRecorded}
-use Rattle.c_meaning.specs.Runs.{enter, ending, first_objects, no_marks, run, world}
+use Rattle.c_meaning.specs.Runs.{ending, first_objects, no_marks, run}
+use Rattle.ref_machine_frames.specs.Held.{enter, world}
 use Rattle.ref_machine_frames.specs.declared.frames.Now.TheVariants.{Enter}
 use Rattle.ref_machine_frames.specs.Frames.{place_of}
 use Rattle.ref_machine.specs.Futures.{Future}
 use Rattle.ref_machine.specs.Standing.{left_of, state}
+use Rattle.ref_machine.proofs.HeldRuns.{run_same}
 use Rattle.ref_machine.proofs.Starting.{few_statics, small_statics}
 use Rattle.ref_machine.proofs.Resuming.{right_alike}
 use Rattle.ref_machine.proofs.Turning.{started}
@@ -27,7 +29,8 @@ pub returns-clause-future : goal.returns-clause-future
 returns-clause-future c records =
     let p = program_of c.args.program.now in
     started p c.args.turns c.main.result _ _ _ (state (seen c.in_ok-memory.memory) 0 records 0 c.args.turns) c.main.ensures.is c.new-2.ensures.items c.new.ensures.items (omega arith)
-    ∙ ap (λ m. ending (enter p (world p no_marks c.args.turns) no_marks true p.main [] (state m 0 records 0 c.args.turns))) (c.in_ok-memory.ensures ∙ ap (λ ss. first_objects 0 (map static_of ss)) c.statics.ensures)
+    ∙ (ap (λ m. ending (enter p (world p c.args.turns) true p.main [] (state m 0 records 0 c.args.turns))) (c.in_ok-memory.ensures ∙ ap (λ ss. first_objects 0 (map static_of ss)) c.statics.ensures)
+    ∙ run_same p c.sites-sites.result c.sites-sites.ensures.typed records c.args.turns)
 
 pub invariant_of-result : goal.invariant_of-result
 invariant_of-result c =
@@ -40,7 +43,8 @@ invariant_of-result c =
       bounded = omega arith;
       few = search rules;
       right = right_alike whole new (λ records. sym (started p n c.main.result (place_of c.before_main.result) c.new-2.result.items c.new.result.items (state (seen c.in_ok-memory.memory) 0 records 0 n) c.main.ensures.is c.new-2.ensures.items c.new.ensures.items (omega arith)
-          ∙ ap (λ m. ending (enter p (world p no_marks n) no_marks true p.main [] (state m 0 records 0 n))) (c.in_ok-memory.ensures ∙ ap (λ ss. first_objects 0 (map static_of ss)) c.statics.ensures)))
+          ∙ (ap (λ m. ending (enter p (world p n) true p.main [] (state m 0 records 0 n))) (c.in_ok-memory.ensures ∙ ap (λ ss. first_objects 0 (map static_of ss)) c.statics.ensures)
+          ∙ run_same p c.sites-sites.result c.sites-sites.ensures.typed records n)))
           (λ records. (c.values_have_kinds.ensures.runs p c.sites-sites.result c.sites-sites.ensures.typed no_marks (λ site. (All-nil IsRecorded, All-nil IsRecorded)) records n).outcome);
       called = tt;
     }
