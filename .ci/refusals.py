@@ -21,15 +21,7 @@ AGAIN = {'fleet/stepping.rt advance', 'fleet/telling.rt standing_of'}
 # Functions that build it though nothing was refused: where a count of what stands in a C text or a program would pass 32 or 64 bits, or
 # in a case that can't come and of which no proof says so.
 WAITING = {
-    'c_check_assignments/operators.rt size_of', 'c_check_bodies/variables.rt past_part', 'c_check_counts/numbers.rt past_all',
-    'c_check_declarations/parameters.rt body_numbers', 'c_check_declarations/scopes.rt declare_parameters', 'c_check_declarations/sizes.rt counted',
-    'c_check_declarations/sizes.rt sized_by_one', 'c_check_expressions/forms.rt declare_parameter', 'c_check_initialisers/stores.rt store_of',
-    'c_check_initialisers/zeros.rt add_copies', 'c_check_initialisers/zeros.rt add_struct', 'c_check_initialisers/zeros.rt zero_cells',
-    'c_check_primary/names.rt integer_expression', 'c_check_primary/names.rt number_of_given', 'c_check_primary/names.rt static_given',
-    'c_check_primary/strings.rt string_number', 'c_check_scopes/numbering.rt push', 'c_check_units/strings.rt string_type',
-    'c_check_values/addresses.rt cell_behind', 'c_check_values/values.rt decayed_array', 'ref_machine/calls.rt enter_defined',
-    'ref_machine/stepping.rt go_on', 'ref_machine_expressions/calls.rt system_call', 'ref_machine_frames/answers.rt stopped_in_words',
-    'ref_machine_frames/cells.rt added', 'ref_machine_frames/cells.rt cells_with',
+    'ref_machine/stepping.rt go_on',
 }
 # What the impls of `From` for it may take.
 TAKEN = r'OutOfMemory|dm_base::OutOfMemory|AllocError|AllocFailed<\w+>|ReadError|LexError|ParseError|CheckError|SourceError|PhraseError|ReadFail'
