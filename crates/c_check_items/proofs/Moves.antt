@@ -26,7 +26,7 @@ use Rattle.c_syntax.specs.Tree.{Ident, Init, one, list, MaybeInit, no_init, an_i
 use Rattle.c_syntax.specs.Tree as syntax
 use Rattle.c_tree.specs.declared.value.Value.{Value}
 use Rattle.c_tree.specs.Tree.{Static, CType, void, integer, pointer, array, struct, function}
-pub use Rattle.c_check_expressions.proofs.Exits.{on_ok}
+pub use Rattle.c_check_statements.proofs.Exits.{on_ok}
 
 pub same_judged : {X A : Type 0} (view : X → A) (result : Result X CheckError) (r s : Checked A) → r ≡ s → AgreesWith view result r → AgreesWith view result s
 same_judged view result r s same h = subst (AgreesWith view result) same h

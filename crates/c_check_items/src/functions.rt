@@ -1,7 +1,7 @@
 ghost use Rattle.std.specs.Prelude.{◌≡◌, true, Some, OnOk, IfOk};
 ghost use Rattle.c_check_counts.specs.Numbered.{HaveNumbers, next_of};
 ghost use Rattle.c_check_values.specs.Agreement.{AgreesWith};
-ghost use Rattle.c_check_bodies.specs.StatementTreeView.{statement_trees_of};
+ghost use Rattle.c_check_statements.specs.StatementTreeView.{statement_trees_of};
 ghost use Rattle.c_check_units.specs.OutputView.{output_of};
 ghost use Rattle.c_rules.specs.Blocks.{held_by_block};
 ghost use Rattle.c_rules.specs.Checked.{both, demand, fine, gives, met};
@@ -17,14 +17,12 @@ ghost use Rattle.c_syntax.specs.View.{declarator_of, ident_of, spec_of};
 ghost use Rattle.c_tree.specs.Tree.{function};
 ghost use Rattle.c_tree.specs.View.{ctype_of, function_of, types_of};
 
-use c_check_bodies::StatementTrees;
 use c_check_counts::{Next, name_of};
 use c_check_declarations::{
     are_named, body_numbers, declare_function, enter_body, function_meaning, parameters_of,
 };
-use c_check_expressions::type_declared;
 use c_check_scopes::{Before, Environment};
-use c_check_statements::body_of;
+use c_check_statements::{StatementTrees, body_of, type_declared};
 use c_check_units::{
     Output, add_function, count_names, declares_function, function_with, leave,
     place_of_declarator, variables_of,

@@ -14,8 +14,8 @@ use c_check_declarations::{
     Object, declare_behind, declare_function, function_meaning, global_object, object_of,
     without_init,
 };
-use c_check_expressions::type_declared;
 use c_check_scopes::{Before, Environment, Meaning};
+use c_check_statements::type_declared;
 use c_check_units::place_of_declarator;
 use c_check_values::CheckError;
 use c_syntax::{Declarator, Ident, Init, Spec};

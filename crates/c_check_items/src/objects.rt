@@ -17,8 +17,8 @@ ghost use Rattle.c_tree.specs.View.{ctype_of, static_of};
 
 use crate::globals::global_declared;
 use c_check_declarations::{Object, count_object, declare_behind, declare_within, static_object};
-use c_check_expressions::initialised_static;
 use c_check_scopes::{Before, Environment};
+use c_check_statements::initialised_static;
 use c_check_units::{count_names, leave};
 use c_check_values::{CheckError, TypedExpression};
 use c_syntax::{Declarator, Ident, Init, Spec};

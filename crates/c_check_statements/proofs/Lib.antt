@@ -5,3 +5,4 @@ pub mod NodeLemmas
 pub mod PartLemmas
 pub mod StatementLemmas
 pub mod SwitchLemmas
+pub use Rattle.c_check_expressions.proofs.Exits

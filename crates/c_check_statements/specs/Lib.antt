@@ -1,3 +1,4 @@
 pub mod Listed
 pub mod Ruled
 pub mod Two
+pub use Rattle.c_check_bodies.specs.StatementTreeView

@@ -9,5 +9,7 @@ mod locals;
 mod statements;
 
 pub use bodies::body_of;
+pub use c_check_bodies::StatementTrees;
+pub use c_check_expressions::{folded_value, initialised_static, type_declared};
 pub use declarations::local_decl;
 pub use statements::statement;

@@ -13,4 +13,5 @@ mod text_laws;
 
 pub use instrumented_texts::instrumented_texts_are_accepted;
 pub use lexical_units::instrumented_units_are_lexical;
+pub use null_calls_units_laws::instrumented_texts_run_marked;
 pub use text_laws::{instrumented_texts_are_read_back, instrumented_units_are_units};

@@ -10,7 +10,7 @@ use Rattle.c_rules.specs.Accepted.{IsAcceptedAs}
 use Rattle.c_tree.specs.Tree.{Program}
 use Rattle.flow_graph_laws.specs.GraphOfProgram.{graph_of_program}
 use Rattle.tool_steps.specs.Results.{AreSomeResults}
-use Rattle.tool_sources.proofs.SourceLemmas.{one_unit, one_typing}
+use Rattle.tool_steps.proofs.SourceLemmas.{one_unit, one_typing}
 use Rattle.sys_table.specs.declared.results_error.ResultsError.{ResultsError}
 use Rattle.sys_table.specs.declared.results_error.ResultsError.TheVariants as errors
 use Rattle.sys_table.specs.ResultsText.{IsResultsRefusal}

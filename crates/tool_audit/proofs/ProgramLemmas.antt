@@ -11,7 +11,7 @@ use Rattle.headline.specs.AcceptedRuns.{TextsRaiseNoAlarm}
 use Rattle.alarm_laws.specs.MarkedRuns.{null_calls_of, marked_run}
 use Rattle.alarm_laws.specs.Monitors.{IsAcceptedByAll}
 use Rattle.alarm_laws.proofs.TypedRuns.{null_calls_recorded}
-use Rattle.null_calls_units_laws.specs.Units.{InstrumentedTextsRunMarked}
+use Rattle.headline.specs.Units.{InstrumentedTextsRunMarked}
 use Rattle.c_check.specs.Refused.{IsRefused}
 use Rattle.c_check_values.specs.declared.error.CheckError.{CheckError}
 use Rattle.c_check_values.specs.declared.error.CheckError.TheVariants.{At}
@@ -26,14 +26,14 @@ use Rattle.c_tree.specs.Tree.{Program}
 use Rattle.c_tree.specs.View.{program_of}
 use Rattle.flow_model.specs.Graph.{Graph}
 use Rattle.flow_graph_laws.specs.GraphOfProgram.{graph_of_program}
-use Rattle.null_calls_texts_laws.specs.Lexical.{InstrumentedUnitsAreLexical}
+use Rattle.headline.specs.Lexical.{InstrumentedUnitsAreLexical}
 use Rattle.null_calls_rules.specs.Instrumented.{instrumented_unit}
 use Rattle.ref_machine.specs.declared.whole.Run.{Run as Found}
 use Rattle.ref_machine.specs.WholeRuns.{run_of}
 use Rattle.tool_steps.specs.Results.{run_text}
-use Rattle.tool_sources.specs.declared.source.Source.{Source}
-use Rattle.tool_sources.specs.Sources.{IsSourceOf}
-use Rattle.tool_sources.proofs.SourceLemmas.{one_typing, source_accepted}
+use Rattle.tool_steps.specs.Source.{Source}
+use Rattle.tool_steps.specs.Sources.{IsSourceOf}
+use Rattle.tool_steps.proofs.SourceLemmas.{one_typing, source_accepted}
 use Rattle.sys_table.specs.declared.sys_result.SysResult.{SysResult}
 use Rattle.sys_table.specs.Table.{IsRecorded}
 use Rattle.trace_file.specs.EventText.{IsCountedOutcome, IsCountedEnd}

@@ -11,9 +11,9 @@ use Rattle.c_tree.specs.View.{program_of}
 use Rattle.flow_graph_laws.specs.GraphOfProgram.{graph_of_program}
 use Rattle.tool_steps.specs.Results.{AreSomeResults}
 use Rattle.tool_steps.specs.ResultsStops.{RefusesResultsAlone}
-use Rattle.tool_sources.specs.declared.source.Source.{Source}
-use Rattle.tool_sources.specs.Sources.{IsSourceOf, RefusesSource}
-use Rattle.tool_sources.proofs.SourceLemmas.{source_accepted}
+use Rattle.tool_steps.specs.Source.{Source}
+use Rattle.tool_steps.specs.Sources.{IsSourceOf, RefusesSource}
+use Rattle.tool_steps.proofs.SourceLemmas.{source_accepted}
 use Rattle.sys_table.specs.declared.sys_result.SysResult.{SysResult}
 use Rattle.sys_table.specs.ResultsText.{AreResultsWithin, IsResultsRefusal}
 use Rattle.tool_frame.specs.declared.stop.Stop.{Stop}

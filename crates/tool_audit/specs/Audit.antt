@@ -21,7 +21,7 @@ use Rattle.tool_monitors.specs.Judged.{status_of, verdict_lines}
 use Rattle.report.specs.Precision.{IsNext, next_text}
 use Rattle.tool_steps.specs.Results.{run_text, AreSomeResults, results_refusal}
 use Rattle.tool_steps.specs.ModelTexts.{many_nodes}
-use Rattle.tool_sources.specs.Sources.{RefusesSource}
+use Rattle.tool_steps.specs.Sources.{RefusesSource}
 use Rattle.sys_table.specs.declared.results_error.ResultsError.{ResultsError}
 use Rattle.sys_table.specs.declared.results_error.ResultsError.TheVariants.{OutOfMemory}
 use Rattle.sys_table.specs.declared.sys_result.SysResult.{SysResult}

@@ -6,7 +6,7 @@ ghost use Rattle.c_tree.specs.View.{program_of};
 ghost use Rattle.dm_base.specs.declared.mode.Mode.TheVariants.{Plain};
 ghost use Rattle.flow_graph_laws.specs.GraphOfProgram.{graph_of_program};
 ghost use Rattle.ref_machine.specs.WholeRuns.{run_of};
-ghost use Rattle.tool_sources.specs.Sources.{IsSourceOf};
+ghost use Rattle.tool_steps.specs.Sources.{IsSourceOf};
 ghost use Rattle.tool_frame.specs.Stop.{Stops};
 
 use crate::following::{Followed, followed_run};
@@ -21,8 +21,7 @@ use std::alloc::Global;
 use sys_table::SysResult;
 use tool_frame::{Finished, Stop};
 use tool_monitors::{AllMonitors, Listener};
-use tool_sources::{Source, source_in};
-use tool_steps::{model_of, results_in};
+use tool_steps::{Source, model_of, results_in, source_in};
 use trace_file::write_trace;
 
 // One text after another.

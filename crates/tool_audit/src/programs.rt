@@ -4,7 +4,7 @@ ghost use Rattle.c_check_values.specs.declared.error.CheckError.TheVariants.{At}
 ghost use Rattle.c_meaning.specs.Runs.{run};
 ghost use Rattle.c_tree.specs.View.{program_of};
 ghost use Rattle.dm_base.specs.declared.mode.Mode.TheVariants.{Plain};
-ghost use Rattle.tool_sources.specs.Sources.{IsSourceOf};
+ghost use Rattle.tool_steps.specs.Sources.{IsSourceOf};
 ghost use Rattle.sys_table.specs.declared.sys_result.SysResult.{SysResult};
 
 use c_check::check;
@@ -13,11 +13,11 @@ use c_rules_laws::a_spelled_unit_is_lexical;
 use c_syntax::Unit;
 use c_tree::Program;
 use dm_base::{Mode, OutOfMemory};
-use null_calls_texts_laws::{instrumented_units_are_lexical, instrumented_units_are_units};
-use null_calls_units_laws::instrumented_texts_run_marked;
+use headline::{
+    instrumented_texts_run_marked, instrumented_units_are_lexical, instrumented_units_are_units,
+};
 use std::alloc::Global;
-use tool_sources::Source;
-use tool_steps::instrumented_items;
+use tool_steps::{Source, instrumented_items};
 
 // The want of memory, where no demand fails.
 fn memory_of(error: CheckError) -> OutOfMemory

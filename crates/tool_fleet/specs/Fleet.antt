@@ -28,7 +28,7 @@ use Rattle.tool_files.specs.Inputs.{IsAModel, RefusesModel}
 use Rattle.tool_fleet.specs.declared.reports.ProcessReport.{ProcessReport}
 use Rattle.tool_fleet.specs.declared.reports.StandingKind.{StandingKind}
 use Rattle.tool_fleet.specs.declared.reports.StandingKind.TheVariants as kinds
-use Rattle.tool_sources.specs.Sources.{RefusesSource}
+use Rattle.tool_steps.specs.Sources.{RefusesSource}
 use Rattle.tool_steps.specs.Results.{results_refusal}
 
 -- how often the schedule advances the process with this number

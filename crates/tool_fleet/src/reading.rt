@@ -9,7 +9,7 @@ ghost use Rattle.tool_files.specs.Inputs.{RefusesModel};
 ghost use Rattle.tool_fleet.specs.declared.inputs.GroupModel.{GroupModel as GroupModel'};
 ghost use Rattle.tool_fleet.specs.Inputs.{HasGroup, IsGroupModel, LacksOthers, RefusesOthers};
 ghost use Rattle.tool_frame.specs.Stop.{Stops};
-ghost use Rattle.tool_sources.specs.Sources.{RefusesSource};
+ghost use Rattle.tool_steps.specs.Sources.{RefusesSource};
 
 use crate::inputs::GroupModel;
 use crate::names::name_of;
@@ -22,8 +22,7 @@ use std::alloc::Global;
 use sys_table::SysResult;
 use tool_files::model_in;
 use tool_frame::Stop;
-use tool_sources::{Source, source_in};
-use tool_steps::results_in;
+use tool_steps::{Source, results_in, source_in};
 
 /// What a process has beside its program: the number of its group, and its recorded results.
 #[derive(Drop)]

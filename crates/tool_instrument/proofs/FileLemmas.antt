@@ -12,7 +12,7 @@ use Rattle.c_syntax.specs.Statements.{ReadsItems}
 use Rattle.c_syntax.specs.Tree.{Items}
 use Rattle.c_tree.specs.Tree.{Program}
 use Rattle.null_calls_texts_laws.specs.Instrumented.{instrumented_text}
-use Rattle.tool_sources.proofs.SourceLemmas.{one_unit, one_typing}
+use Rattle.tool_steps.proofs.SourceLemmas.{one_unit, one_typing}
 use Rattle.tool_instrument.specs.Instrument.{IsReading, Instruments, RefusesToInstrument, IsReadyToInstrument, longest}
 
 -- a text is read as one unit and one program

@@ -8,8 +8,8 @@ use Rattle.c_syntax.specs.UnitView.{items_of}
 use Rattle.c_tree.specs.Tree.{Program}
 use Rattle.c_tree.specs.View.{program_of}
 use Rattle.null_calls_rules.specs.Instrumented.{instrumented_unit}
-use Rattle.tool_sources.specs.declared.source.Source.{Source}
-use Rattle.tool_sources.specs.Sources.{IsSourceOf}
+use Rattle.tool_steps.specs.Source.{Source}
+use Rattle.tool_steps.specs.Sources.{IsSourceOf}
 use Rattle.tool_frame.specs.declared.stop.Stop.{Stop}
 use Rattle.tool_frame.specs.declared.stop.Stop.TheVariants as stops
 use Rattle.tool_frame.specs.Stop.{Stops}

@@ -7,7 +7,7 @@ ghost use Rattle.dm_io.specs.Store.{IsMissing};
 ghost use Rattle.tool_instrument.specs.Instrument.{Instruments, IsInstrumentedText, RefusesToInstrument};
 ghost use Rattle.tool_instrument.specs.Stopping.{IsStopWith};
 ghost use Rattle.null_calls_rules.specs.Instrumented.{instrumented_unit};
-ghost use Rattle.tool_sources.specs.Sources.{IsSourceOf};
+ghost use Rattle.tool_steps.specs.Sources.{IsSourceOf};
 ghost use Rattle.tool_frame.specs.Stop.{Stops};
 
 use c_syntax::{Item, Unit, print};
@@ -17,8 +17,7 @@ use dm_io::Store;
 use null_calls_texts_laws::{instrumented_texts_are_accepted, instrumented_units_are_units};
 use std::alloc::Global;
 use tool_frame::{Finished, Stop, fixed_line};
-use tool_sources::{Source, source_in};
-use tool_steps::instrumented_items;
+use tool_steps::{Source, instrumented_items, source_in};
 
 // The greatest length of an instrumented text, in bytes.
 const LONGEST: u32 = 16_777_216;

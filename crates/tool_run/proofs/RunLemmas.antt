@@ -6,9 +6,9 @@ use Rattle.dm_io.specs.Faults.{Rose}
 use Rattle.dm_io.specs.Store.{Files, file_at, IsMissing}
 use Rattle.c_meaning.specs.Runs.{run}
 use Rattle.c_tree.specs.View.{program_of}
-use Rattle.tool_sources.specs.declared.source.Source.{Source}
-use Rattle.tool_sources.specs.Sources.{IsSourceOf, RefusesSource}
-use Rattle.tool_sources.proofs.SourceLemmas.{source_accepted}
+use Rattle.tool_steps.specs.Source.{Source}
+use Rattle.tool_steps.specs.Sources.{IsSourceOf, RefusesSource}
+use Rattle.tool_steps.proofs.SourceLemmas.{source_accepted}
 use Rattle.sys_table.specs.declared.sys_result.SysResult.{SysResult}
 use Rattle.sys_table.specs.ResultsText.{AreResultsWithin, IsResultsRefusal}
 use Rattle.tool_frame.specs.declared.stop.Stop.{Stop}

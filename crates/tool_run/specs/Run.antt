@@ -9,7 +9,7 @@ use Rattle.dm_io.specs.Store.{Files, file_at, IsMissing}
 use Rattle.c_meaning.specs.Runs.{run}
 use Rattle.c_rules.specs.Accepted.{IsAcceptedAs}
 use Rattle.c_tree.specs.Tree.{Program}
-use Rattle.tool_sources.specs.Sources.{RefusesSource}
+use Rattle.tool_steps.specs.Sources.{RefusesSource}
 use Rattle.sys_table.specs.declared.results_error.ResultsError.{ResultsError}
 use Rattle.sys_table.specs.declared.results_error.ResultsError.TheVariants.{OutOfMemory}
 use Rattle.sys_table.specs.declared.sys_result.SysResult.{SysResult}

@@ -15,8 +15,7 @@ use ref_machine::run;
 use std::alloc::Global;
 use sys_table::SysResult;
 use tool_frame::{Finished, Stop};
-use tool_sources::source_in;
-use tool_steps::results_in;
+use tool_steps::{results_in, source_in};
 use trace_file::write_trace;
 
 // The text of the trace of the program's run with these recorded results and so many turns.

@@ -1,5 +1,5 @@
-//! What commands on C texts have in common, beside reading one: the records of a file, the model of a program, and the items of an
-//! instrumented unit.
+//! What commands on C texts have in common: reading one (`tool_sources`), the records of a file, the model of a program, and the
+//! items of an instrumented unit.
 #![tactic(auto)]
 
 mod instrumented;
@@ -10,3 +10,4 @@ mod results;
 pub use instrumented::instrumented_items;
 pub use modelling::{graph_text, model_of};
 pub use results::results_in;
+pub use tool_sources::{Source, source_in};

@@ -17,13 +17,13 @@ use Rattle.model_file.specs.Refusal.{longest}
 use Rattle.tool_frame.specs.declared.stop.Stop.{Stop}
 use Rattle.tool_frame.specs.declared.stop.Stop.TheVariants as stops
 use Rattle.tool_frame.specs.Stop.{Stops}
-use Rattle.tool_sources.specs.declared.source.Source.{Source}
+use Rattle.tool_steps.specs.Source.{Source}
 use Rattle.tool_texts.specs.Check.{Checks, checked_text, IsReadyToCheck}
 use Rattle.tool_texts.specs.Modelled.{Models, RefusesToModel, IsReadyToModel}
 use Rattle.tool_steps.specs.ModelTexts.{IsModelOf, IsPastLimit, many_nodes, long_text}
-use Rattle.tool_sources.specs.Sources.{IsSourceOf, RefusesSource}
+use Rattle.tool_steps.specs.Sources.{IsSourceOf, RefusesSource}
 use Rattle.tool_steps.specs.ModelStops.{StopsModelling}
-use Rattle.tool_sources.proofs.SourceLemmas.{one_unit, one_typing, source_accepted}
+use Rattle.tool_steps.proofs.SourceLemmas.{one_unit, one_typing, source_accepted}
 
 -- a text is accepted as one program
 accepted_once : (text : List ℕ) (m : Mode) (p q : Program) → IsAcceptedAs text m p → IsAcceptedAs text m q → p ≡ q

@@ -11,7 +11,7 @@ use Rattle.flow_graph_laws.specs.GraphOfProgram.{graph_of_program}
 use Rattle.model_file.specs.declared.version.ModelVersion.TheVariants.{Two}
 use Rattle.model_file.specs.ModelText.{model_text}
 use Rattle.model_file.specs.Refusal.{longest}
-use Rattle.tool_sources.specs.Sources.{RefusesSource}
+use Rattle.tool_steps.specs.Sources.{RefusesSource}
 
 -- the file's text is accepted as a program, and the text is that of its model
 abbrev pub Models : Files → List ℕ → List ℕ → Type 0

@@ -4,7 +4,7 @@ ghost use Rattle.dm_base.specs.declared.mode.Mode.TheVariants.{Plain};
 ghost use Rattle.dm_io.specs.Store.{IsMissing};
 ghost use Rattle.tool_frame.specs.Stop.{Stops};
 ghost use Rattle.tool_texts.specs.Check.{checked_text, Checks};
-ghost use Rattle.tool_sources.specs.Sources.{RefusesSource};
+ghost use Rattle.tool_steps.specs.Sources.{RefusesSource};
 
 use c_tree::Program;
 use dm_base::{Mode, OutOfMemory, Status};
@@ -12,7 +12,7 @@ use dm_io::Store;
 use line_text::{push_bytes, push_decimal};
 use std::alloc::Global;
 use tool_frame::{Finished, Stop};
-use tool_sources::source_in;
+use tool_steps::source_in;
 
 /// The line that `check` writes of a program: how many functions it defines, and how many call expressions it has.
 pub fn counts_line(alloc: Global, program: &Program) -> Result<Vec<u8>, OutOfMemory>

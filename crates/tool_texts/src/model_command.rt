@@ -7,8 +7,7 @@ use dm_base::{Mode, Status};
 use dm_io::Store;
 use std::alloc::Global;
 use tool_frame::{Finished, Stop};
-use tool_sources::source_in;
-use tool_steps::graph_text;
+use tool_steps::{graph_text, source_in};
 
 /// The text of the model of the C text in a file. A model of more than 200,000 nodes, and a text of more than 16 MiB, are refused.
 pub fn model_of_source<S: Store>(alloc: Global, store: &mut S, name: &str) -> Result<Finished, Stop>

@@ -4,7 +4,7 @@ use Rattle.c_check_counts.specs.Numbered.{next_of}
 use Rattle.c_check_values.proofs.Parts.{raised}
 use Rattle.c_check_items.proofs.Moves.{same_within, same_named}
 use Rattle.c_check_items.proofs.Within.{body_within, few_parameters}
-use Rattle.c_check_bodies.specs.StatementTreeView.{statement_trees_of}
+use Rattle.c_check_statements.specs.StatementTreeView.{statement_trees_of}
 use Rattle.c_check_units.specs.Scoped.{IsWithin}
 use Rattle.c_rules.specs.Blocks.{StatementTree, held_by_block}
 use Rattle.c_rules.specs.Checked.{Checked}
