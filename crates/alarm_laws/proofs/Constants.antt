@@ -38,6 +38,7 @@ use Rattle.c_meaning.specs.Pointers.{truth_value, is_not_zero, number}
 use Rattle.c_meaning.specs.Results.{State, Go, after, then_do, answered}
 use Rattle.c_meaning.specs.SystemCalls.{Request, argument, arguments, room_for, bytes_of_buffer, read_request, write_request, request, size}
 use Rattle.alarm_laws.proofs.Lists.{and_left, and_right, same_some, no_some}
+use Rattle.c_tree.proofs.OperatorLemmas.{fits}
 
 -- what a step gives is so
 abbrev IfGives : {A : Type 0} → (A → Type 0) → Answer A → Type 0
@@ -128,10 +129,6 @@ module _ (p : Program) (w : World) (marks : Marks) (fr : Frame) where
       let r = given_from_two (constant_value a) (constant_value b) (binary op) y h in
       two_is a b r.0 r.1 y st (binary op) (constant_is true a r.0 st r.2) (constant_is true b r.1 st r.3) r.4
   constant_is wanted _ y st h = absurd (no_some y h)
-
--- a constant has a value of its type
-fits : (z : ℤ) → fits_int z ≡ true → FitsSigned w32 z
-fits z h = grind (arith, ints, h)
 
 fitting_gives : (b : Bool) (z : ℤ) (kind : ℕ) → fits_int z ≡ b → IfGives (IsConstant int) (fitting b z kind)
 fitting_gives true z kind e = (refl, fits z e)

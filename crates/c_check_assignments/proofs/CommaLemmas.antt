@@ -11,11 +11,7 @@ use Rattle.c_check_values.specs.declared.typed_expression.TypedExpression.{Typed
 use Rattle.c_check_values.specs.View.{typed_expression_of}
 use Rattle.c_rules.specs.TypedExpression.{TypedExpression, not_constant, typed_value, tree_of}
 use Rattle.c_rules.specs.Assignments.{last_type, trees_of, comma_of}
-
--- an expression behind others
-abbrev pub push : Exprs → Expr → Exprs
-push no_exprs e = more_exprs e no_exprs
-push (more_exprs d ds) e = more_exprs d (push ds e)
+pub use Rattle.c_check_values.proofs.PushLemmas.{push}
 
 pub exprs_push : (ts : List TExpr) (t : TExpr) → exprs_of (ts ++ t ∷ []) ≡ push (exprs_of ts) (expr_of t)
 exprs_push [] t = refl

@@ -9,9 +9,7 @@ use Rattle.c_rules.specs.Conversions.{complete}
 use Rattle.c_rules.specs.PrimaryExpressions.{typed_unsigned}
 use Rattle.c_rules.specs.Scopes.{Env, layout_of}
 use Rattle.c_rules.specs.UnaryExpressions.{size_of}
-
-faulted : {A : Type 0} (code at : ℕ) (found : Checked A) → found ≡ fault code at → Contains (faults found) (record { code = code; at = at })
-faulted code at found p = rw p (0, omega arith, refl)
+use Rattle.c_check_values.proofs.FaultLemmas.{faulted}
 
 pub complete_and_many : (env : Env) (at place : ℕ) (t : CType) → complete env at t ≡ fine met → 65536 < cells (layout_of env) t → Contains (faults (size_of env at place t)) (record { code = 13; at = place })
 complete_and_many env at place t p h =

@@ -15,17 +15,13 @@ use Rattle.c_rules.specs.Names.{Name}
 use Rattle.c_rules.specs.Units.{functions_of_item, functions_of, objects_of_parts, objects_of_item, objects_of}
 use Rattle.c_rules.specs.Variables.{names_of_parts, names_of_decl, names_of_stmt, names_of_block, names_of_stmts, names_of_groups}
 use Rattle.c_check_counts.specs.Named.{name_of_part, names_of_block_item, names_of_group, is_object, objects_of_part}
+pub use Rattle.c_syntax.proofs.Lists.{one_more, on_same}
+pub use Rattle.dm_base.proofs.ListLemmas.{two_parts}
 
 -- ## Parts in turn
 
-pub one_more : {Y : Type 0} (a r s : List Y) → r ≡ s → a ++ r ≡ (a ++ []) ++ s
-one_more a r s e = ap (λ z. a ++ z) e ∙ ap (λ z. z ++ s) (sym (append-nil a))
-
 pub two_more : {Y : Type 0} (a b r s : List Y) → r ≡ s → a ++ (b ++ r) ≡ (a ++ b) ++ s
 two_more a b r s e = ap (λ z. a ++ (b ++ z)) e ∙ sym (append_assoc a b s)
-
-pub two_parts : {Y : Type 0} (old mid new a b : List Y) → mid ≡ old ++ a → new ≡ mid ++ b → new ≡ old ++ (a ++ b)
-two_parts old mid new a b first second = second ∙ ap (λ ys. ys ++ b) first ∙ append_assoc old a b
 
 -- ## Names of variables
 
@@ -78,11 +74,6 @@ module _ {X Y : Type 0} (f : X → List Y) (xs : List X) where
 
   pub all_flat : (i : ℕ) (start new whole : List Y) → length xs ≤ i → whole ≡ flat_map f xs → new ≡ start ++ flat_map f (take i xs) → new ≡ start ++ whole
   all_flat i start new whole over e is = is ∙ ap (λ ys. start ++ flat_map f ys) (take_all i xs over) ∙ ap (λ ys. start ++ ys) (sym e)
-
--- a call's clause by other words
-pub on_same : {E Y : Type 0} (r : Result (Unit {0}) E) (old new m b : List Y) → m ≡ b → OnOk r (new ≡ old ++ b) → OnOk r (new ≡ old ++ m)
-on_same (Ok u) old new m b e is = is ∙ ap (λ ms. old ++ ms) (sym e)
-on_same (Err x) old new m b e is = is
 
 pub then_on : {E Y : Type 0} (r : Result (Unit {0}) E) (old mid new a b m : List Y) → mid ≡ old ++ a → m ≡ a ++ b → OnOk r (new ≡ mid ++ b) → OnOk r (new ≡ old ++ m)
 then_on (Ok u) old mid new a b m first e is = two_parts old mid new a b first is ∙ ap (λ ms. old ++ ms) (sym e)

@@ -23,17 +23,10 @@ use Rattle.c_syntax.specs.Writes.{exprs_of, params_of, declarator_in, declarator
 use Rattle.c_syntax.specs.WritesUnit.{inits_of, block_items_of, stmts_of, groups_of, else_behind}
 use Rattle.c_syntax.proofs.Rows.{exprs_row, row_in, inner_is, params_row_in, params_in}
 use Rattle.c_syntax.proofs.UnitRows.{inits_in, block_items_in, groups_row, groups_row_in, stmts_row}
+use Rattle.c_syntax.proofs.FormRows.{exprs_in, groups_in}
+pub use Rattle.c_syntax.proofs.FormRows.{comma_is, call_is, list_is, block_is, switch_is}
 
 -- ## Expressions
-
-exprs_in : (v : Vec ExprTree Global) → exprs_of_row (row_in (Comma v)).1 ≡ exprs_of v.items
-exprs_in v = exprs_row (row_in (Comma v)).0 (row_in (Comma v)).1 ∙ ap exprs_of (items_hidden-the_row-Expr-1 v)
-
-pub comma_is : (at : ℕ) (v : Vec ExprTree Global) → expr_at at (Comma v) ≡ comma at (exprs_of v.items)
-comma_is at v = ap (comma at) (exprs_in v)
-
-pub call_is : (at : ℕ) (d : Box ExprTree Global) (v : Vec ExprTree Global) → expr_at at (Call d v) ≡ call at (expr_of d.value) (exprs_of v.items)
-call_is at d v = ap (call at (expr_of d.value)) (exprs_in v)
 
 -- ## Names of types and declarators
 
@@ -62,23 +55,11 @@ function_is at d v = ap (λ x. function at x (params_of_row (params_row_in (Func
 
 -- ## Initialisers
 
-pub list_is : (at : ℕ) (v : Vec InitTree Global) → init_at at (listed v) ≡ list at (inits_of v.items)
-list_is at v = ap (list at) (inits_in v)
-
 -- ## Statements
-
-pub block_is : (at : ℕ) (v : Vec BlockItem Global) → stmt_at at (Block v) ≡ block at (block_items_of v.items)
-block_is at v = ap (block at) (block_items_in v)
 
 pub if_is : (at : ℕ) (e : ExprTree) (s : Box StmtTree Global) (o : Option (Box StmtTree Global)) → stmt_at at (If e s o) ≡ if_with at e (stmt_of s.value) (else_behind o)
 if_is at e s None = refl
 if_is at e s (Some b) = refl
-
-groups_in : (e : ExprTree) (v : Vec Group Global) → groups_of_row (groups_row_in (Switch e v)).1 ≡ groups_of v.items
-groups_in e v = groups_row (groups_row_in (Switch e v)).0 (groups_row_in (Switch e v)).1 ∙ ap groups_of (items_hidden-the_row-Group-1 v)
-
-pub switch_is : (at : ℕ) (e : ExprTree) (v : Vec Group Global) → stmt_at at (Switch e v) ≡ switch_on at (expr_of e) (groups_of v.items)
-switch_is at e v = ap (switch_on at (expr_of e)) (groups_in e v)
 
 pub group_is : (g : Group) (rest : Groups) → group_before g rest ≡ more_groups (labels_of (out-Group g).labels.items) (stmts_of (out-Group g).body.items) rest
 unfolding out-Group denote.Hole.Carrier.out

@@ -29,12 +29,9 @@ use Rattle.c_tree.specs.Layout.{cells}
 use Rattle.c_tree.specs.View.{ctype_of}
 use Rattle.c_tree.specs.Tree.{CType, void, integer, pointer, array, struct, function}
 use Rattle.c_check_scopes.proofs.NumberLemmas.{not_so}
+pub use Rattle.c_check_values.proofs.CountingLemmas.{count_is}
 
 -- ## Initialisers
-
-pub count_is : (is : List InitTree) → count_inits (inits_of is) ≡ length is
-count_is [] = refl
-count_is (i ∷ is) = ap suc (count_is is)
 
 -- an array whose list of initialisers gives its size
 pub list_judged : (name : ℕ) (t : CType) (i : InitTree) (v : Vec InitTree Global) (n : ℕ) (result : Result TypeTree CheckError) → i.kind ≡ listed v → n ≡ length v.items

@@ -21,11 +21,9 @@ use Rattle.c_tree.specs.declared.tree.CType.{CType as TypeTree}
 use Rattle.c_tree.specs.View.{ctype_of, types_of}
 use Rattle.c_check_scopes.proofs.NumberLemmas.{not_so}
 use Rattle.dm_base.specs.declared.mode.Mode.{Mode}
+use Rattle.c_check_values.proofs.SameLemmas.{false_not_true}
 
 -- ## Those of a declarator
-
-false_not_true : {A : Type 0} → false ≡ true → A
-false_not_true h = absurd (not_so h)
 
 alone : (at : ℕ) (e : Declarator) (ps : Params) → stands_alone e ≡ true → ps ≡ parameters_of (function at e ps)
 alone at nothing ps h = false_not_true h

@@ -24,6 +24,7 @@ use Rattle.c_syntax.specs.UnitView.{init_at, init_of}
 use Rattle.c_syntax.specs.WritesUnit.{inits_of}
 use Rattle.c_tree.specs.declared.value.IntType.TheVariants.{Char, Uchar, Int, Uint}
 use Rattle.c_tree.specs.Tree.{CType, void, integer, pointer, array, struct, function}
+pub use Rattle.c_check_values.proofs.CountingLemmas.{count_is}
 
 -- ## Arrays of char that a string initialises
 
@@ -225,10 +226,6 @@ counted_ends env whole b1 s is i le before =
 pub all_left : (s : Slots) → left_from s 0 ≡ s
 all_left (copies n t) = let same : n - 0 ≡ n = omega arith in ap (λ m. copies m t) same
 all_left (each ts) = refl
-
-pub count_is : (is : List InitTree) → count_inits (inits_of is) ≡ length is
-count_is [] = refl
-count_is (i ∷ is) = ap suc (count_is is)
 
 onto_none : (r : Checked (List TypedExpression)) → r ≡ on r (λ hs. fine ([] ++ hs))
 onto_none (fine gs) = refl

@@ -6,10 +6,7 @@ use Rattle.c_tree.specs.declared.tree.CType.{CType as TypeTree}
 use Rattle.c_tree.specs.declared.tree.CType.TheVariants.{Function as FunctionVariant}
 use Rattle.c_tree.specs.Tree.{CType, CTypes, function, more_types, no_types}
 use Rattle.c_tree.specs.View.{ctype_of, ctypes_of, types_of}
-
-abbrev packed : List CType → CTypes
-packed [] = no_types
-packed (t ∷ ts) = more_types t (packed ts)
+use Rattle.c_tree.proofs.CopyLemmas.{packed}
 
 packed_types : (ts : List TypeTree) → packed (ctypes_of ts) ≡ types_of ts
 packed_types [] = refl

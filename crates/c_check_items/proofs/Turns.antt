@@ -5,10 +5,7 @@ use Rattle.c_check_values.specs.Agreement.{Names}
 use Rattle.c_check_values.proofs.Parts.{names_on, names_first}
 use Rattle.c_rules.specs.Checked.{Fault, Checked, fine, faulty, faults, both, gives, Met, met}
 use Rattle.c_check_scopes.proofs.NumberLemmas.{not_so}
-
-abbrev is_fine : {A : Type 0} → Checked A → Bool
-is_fine (fine a) = true
-is_fine (faulty f fs) = false
+use Rattle.c_rules.proofs.FineLemmas.{is_fine}
 
 pub not_fine : {A : Type 0} (f : Fault) (fs : List Fault) (a : A) → faulty f fs ≡ fine a → ⊥
 not_fine f fs a h = not_so (ap is_fine h)

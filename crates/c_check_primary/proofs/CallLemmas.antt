@@ -21,13 +21,11 @@ use Rattle.c_rules.specs.TypedExpression.{TypedExpression, not_constant, tree_of
 use Rattle.c_rules.specs.Conversions.{fits, assigned}
 use Rattle.c_rules.specs.Types.{count}
 use Rattle.c_rules.specs.PostfixExpressions.{call_of, all_fit, as_many_as, passed, direct, through, callee_of_type, callee_through}
+use Rattle.c_check_values.proofs.PushLemmas.{push}
+use Rattle.c_tree.proofs.CopyLemmas.{packed, packed_types}
+pub use Rattle.c_tree.proofs.CopyLemmas.{same_types}
 
 -- ## Arguments
-
--- an expression behind others
-abbrev push : Exprs → Expr → Exprs
-push no_exprs e = more_exprs e no_exprs
-push (more_exprs d ds) e = more_exprs d (push ds e)
 
 exprs_push : (es : List TExpr) (e : TExpr) → exprs_of (es ++ e ∷ []) ≡ push (exprs_of es) (expr_of e)
 exprs_push [] e = refl
@@ -57,18 +55,6 @@ pub fit_at : (ts : List TypeTree) (gs : List TypedExpressionTree) (i : ℕ) (t :
 fit_at ts gs i t g h k p q = λ j. all_fit (types_of (at_place ts i t h p j)) (map typed_expression_of (at_place gs i g k q j))
 
 -- ## What is called
-
-abbrev packed : List CType → CTypes
-packed [] = no_types
-packed (t ∷ ts) = more_types t (packed ts)
-
-packed_types : (ts : List TypeTree) → packed (map ctype_of ts) ≡ types_of ts
-packed_types [] = refl
-packed_types (t ∷ ts) = ap (more_types (ctype_of t)) (packed_types ts)
-
--- copied types
-pub same_types : (ts us : List TypeTree) → map ctype_of ts ≡ map ctype_of us → types_of ts ≡ types_of us
-same_types ts us q = sym (packed_types ts) ∙ (ap packed q ∙ packed_types us)
 
 pub named_function : (at f : ℕ) (t : TypeTree) (r : Box TypeTree Global) (v : Vec TypeTree Global) (x : TypeTree) (ys : List TypeTree) → t ≡ Function r v → x ≡ r.value → ys ≡ v.items → callee_of_type at (ctype_of t) f ≡ fine (record { designator = direct f; returns = ctype_of x; parameters = types_of ys })
 named_function at f t r v x ys is p q =

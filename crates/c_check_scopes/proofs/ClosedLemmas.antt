@@ -5,12 +5,8 @@ use Rattle.c_tree.specs.Tree.{CType, void, integer, pointer, array, struct, func
 use Rattle.c_tree.specs.Layout.{Structs, members_of, or_none}
 use Rattle.c_check_scopes.specs.Held.{AllIn, AllInAll}
 use Rattle.c_check_scopes.specs.Laid.{IsClosed, count_defined}
-
-pub none_is_no_list : (ts : List CType) → Some None ≡ Some (Some ts) → ⊥
-none_is_no_list ts q = cc
-
-no_entry : (o : Option (List CType)) → None ≡ Some o → ⊥
-no_entry o q = cc
+use Rattle.c_rules.proofs.EntryLemmas.{no_entry}
+pub use Rattle.c_rules.proofs.EntryLemmas.{none_is_no_list, get_set, get_other}
 
 pub all_map : (P Q : ℕ → Type 0) → ((s : ℕ) → P s → Q s) → (t : CType) → AllIn P t → AllIn Q t
 all_map P Q f void h = tt
@@ -85,18 +81,6 @@ over_none base rule structs zero s e looks q = refl
 over_none base rule structs (suc depth) s e looks q = ap (rule (over base rule structs depth)) q ∙ (looks (over base rule structs depth) (λ _. base) [] tt ∙ e)
 
 -- ## Another definition
-
-pub get_set : {A : Type 0} (xs : List A) (n : ℕ) (v : A) → n < length xs → slice_get (set xs n v) n ≡ Some v
-get_set [] n v h = absurd (omega arith)
-get_set (x ∷ xs) zero v h = refl
-get_set (x ∷ xs) (suc n) v h = get_set xs n v (omega arith)
-
-pub get_other : {A : Type 0} (xs : List A) (n s : ℕ) (v : A) → (s ≡ n → ⊥) → slice_get (set xs n v) s ≡ slice_get xs s
-get_other [] n s v h = refl
-get_other (x ∷ xs) zero zero v h = absurd (h refl)
-get_other (x ∷ xs) zero (suc s) v h = refl
-get_other (x ∷ xs) (suc n) zero v h = refl
-get_other (x ∷ xs) (suc n) (suc s) v h = get_other xs n s v (λ q. h (ap suc q))
 
 -- a struct with a definition is another one than one without
 other_place : (structs : Structs) (n s : ℕ) (ts : List CType) → slice_get structs n ≡ Some None → slice_get structs s ≡ Some (Some ts) → s ≡ n → ⊥

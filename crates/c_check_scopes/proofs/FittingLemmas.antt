@@ -20,16 +20,11 @@ use Rattle.c_check_scopes.proofs.MeasuredLemmas.{counted_is, layout_count, exten
 use Rattle.c_check_scopes.proofs.SeenLemmas.{layout_seen}
 use Rattle.c_check_scopes.proofs.LaidLemmas.{structs_in, cells_over, extents_over, cells_of_all_told}
 use Rattle.c_check_scopes.proofs.TableLemmas.{at_place}
+use Rattle.c_rules.proofs.Greater.{greater}
 
 up_within : (size a n : ℕ) → size ≤ 4 * n → (a ≡ 1) ⊎ (a ≡ 4) → round_up size a ≤ 4 * n
 up_within size a n h (inl e) = subst (λ a. round_up size a ≤ 4 * n) (sym e) (let q : round_up size 1 ≤ 4 * n = omega (arith, h) in q)
 up_within size a n h (inr e) = subst (λ a. round_up size a ≤ 4 * n) (sym e) (let q : (size + (4 - 1)) / 4 * 4 ≤ 4 * n = omega (arith, h) in q)
-
-greater : (a b : ℕ) → (a ≡ 1) ⊎ (a ≡ 4) → (b ≡ 1) ⊎ (b ≡ 4) → (max a b ≡ 1) ⊎ (max a b ≡ 4)
-greater a b (inl e) (inl f) = inl (omega (arith, e, f))
-greater a b (inl e) (inr f) = inr (omega (arith, e, f))
-greater a b (inr e) (inl f) = inr (omega (arith, e, f))
-greater a b (inr e) (inr f) = inr (omega (arith, e, f))
 
 put_fits : (e m : Extent) (n k : ℕ) → FitsIn n e → FitsIn k m → FitsIn (n + k) (put_after e m)
 put_fits e m n k h g = record {

@@ -4,160 +4,11 @@ ghost use Rattle.c_tree.specs.View.{ctype_of, types_of};
 ghost use Rattle.c_rules.specs.Names.{is_given_type};
 ghost use Rattle.c_rules.specs.Names.{given_types};
 ghost use Rattle.c_rules.specs.Types.{is_void, same_type, same_types};
-ghost use Rattle.c_check_scopes.specs.Prototypes.{plain, plain_types, prototype_type, prototype_seen};
+ghost use Rattle.c_tree.specs.Prototypes.{prototype_type, type_meant, types_meant};
+ghost use Rattle.c_check_scopes.specs.Prototypes.{prototype_seen};
 
-use crate::predeclared_type::Plain::{CharPointer, Int, Uint, Void};
-use c_tree::{CType, IntType};
+use c_tree::{CType, IntType, Prototype, PrototypeType, all_prototypes, system_prototypes};
 use dm_base::Mode;
-
-// A type in a prototype.
-#[derive(Clone, Copy)]
-pub enum Plain {
-    Void,
-    Int,
-    Uint,
-    CharPointer,
-}
-
-// What a function without a definition gives and takes.
-pub struct Prototype {
-    pub gives: Plain,
-    pub takes: &'static [Plain],
-}
-
-// The prototypes of the system calls, each at the place of its number, and of the two null calls after them.
-static PROTOTYPES: [Prototype; 26] = [
-    // int read(int, char *, unsigned int)
-    Prototype {
-        gives: Int,
-        takes: &[Int, CharPointer, Uint],
-    },
-    // int write(int, char *, unsigned int)
-    Prototype {
-        gives: Int,
-        takes: &[Int, CharPointer, Uint],
-    },
-    // int open(char *, int, unsigned int)
-    Prototype {
-        gives: Int,
-        takes: &[CharPointer, Int, Uint],
-    },
-    // int close(int)
-    Prototype {
-        gives: Int,
-        takes: &[Int],
-    },
-    // int lseek(int, int, int)
-    Prototype {
-        gives: Int,
-        takes: &[Int, Int, Int],
-    },
-    // int dup(int)
-    Prototype {
-        gives: Int,
-        takes: &[Int],
-    },
-    // int dup2(int, int)
-    Prototype {
-        gives: Int,
-        takes: &[Int, Int],
-    },
-    // int unlink(char *)
-    Prototype {
-        gives: Int,
-        takes: &[CharPointer],
-    },
-    // int rename(char *, char *)
-    Prototype {
-        gives: Int,
-        takes: &[CharPointer, CharPointer],
-    },
-    // int mkdir(char *, unsigned int)
-    Prototype {
-        gives: Int,
-        takes: &[CharPointer, Uint],
-    },
-    // int rmdir(char *)
-    Prototype {
-        gives: Int,
-        takes: &[CharPointer],
-    },
-    // int chdir(char *)
-    Prototype {
-        gives: Int,
-        takes: &[CharPointer],
-    },
-    // int chmod(char *, unsigned int)
-    Prototype {
-        gives: Int,
-        takes: &[CharPointer, Uint],
-    },
-    // int kill(int, int)
-    Prototype {
-        gives: Int,
-        takes: &[Int, Int],
-    },
-    // int getpid(void)
-    Prototype {
-        gives: Int,
-        takes: &[],
-    },
-    // int getppid(void)
-    Prototype {
-        gives: Int,
-        takes: &[],
-    },
-    // unsigned int getuid(void)
-    Prototype {
-        gives: Uint,
-        takes: &[],
-    },
-    // unsigned int geteuid(void)
-    Prototype {
-        gives: Uint,
-        takes: &[],
-    },
-    // unsigned int getgid(void)
-    Prototype {
-        gives: Uint,
-        takes: &[],
-    },
-    // int setuid(unsigned int)
-    Prototype {
-        gives: Int,
-        takes: &[Uint],
-    },
-    // int socket(int, int, int)
-    Prototype {
-        gives: Int,
-        takes: &[Int, Int, Int],
-    },
-    // int listen(int, int)
-    Prototype {
-        gives: Int,
-        takes: &[Int, Int],
-    },
-    // int fork(void)
-    Prototype {
-        gives: Int,
-        takes: &[],
-    },
-    // void _exit(int)
-    Prototype {
-        gives: Void,
-        takes: &[Int],
-    },
-    // void __dyck_pre(unsigned int)
-    Prototype {
-        gives: Void,
-        takes: &[Uint],
-    },
-    // void __dyck_post(unsigned int)
-    Prototype {
-        gives: Void,
-        takes: &[Uint],
-    },
-];
 
 fn is_void(t: &CType) -> bool
     ensures { result ≡ is_void (ctype_of t.now) }
@@ -177,22 +28,22 @@ fn is_integer(t: &CType, i: IntType) -> bool
     }
 }
 
-fn is_plain(t: &CType, p: Plain) -> bool
-    ensures { result ≡ same_type (ctype_of t.now) (plain p) }
+fn is_plain(t: &CType, p: PrototypeType) -> bool
+    ensures { result ≡ same_type (ctype_of t.now) (type_meant p) }
 {
     match p {
-        Plain::Void => is_void(t),
-        Plain::Int => is_integer(t, IntType::Int),
-        Plain::Uint => is_integer(t, IntType::Uint),
-        Plain::CharPointer => match t {
+        PrototypeType::Void => is_void(t),
+        PrototypeType::Int => is_integer(t, IntType::Int),
+        PrototypeType::Uint => is_integer(t, IntType::Uint),
+        PrototypeType::CharPointer => match t {
             CType::Pointer(target) => is_integer(target, IntType::Char),
             _ => false,
         },
     }
 }
 
-fn are_plain(ts: &[CType], ps: &[Plain]) -> bool
-    ensures { result ≡ same_types (types_of ts.now) (plain_types ps.now) }
+fn are_plain(ts: &[CType], ps: &[PrototypeType]) -> bool
+    ensures { result ≡ same_types (types_of ts.now) (types_meant ps.now) }
 {
     match ts {
         [] => ps.is_empty(),
@@ -233,8 +84,8 @@ fn prototype_with(mode: Mode, number: u32) -> Option<&'static Prototype>
     ensures { prototype_seen result ≡ slice_get (given_types mode) number }
 {
     match mode {
-        Mode::Plain => prototype_among(&PROTOTYPES[..24], number),
-        Mode::Instrumented => prototype_among(&PROTOTYPES, number),
+        Mode::Plain => prototype_among(system_prototypes(), number),
+        Mode::Instrumented => prototype_among(all_prototypes(), number),
     }
 }
 

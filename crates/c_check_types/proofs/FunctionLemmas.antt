@@ -12,6 +12,7 @@ use Rattle.c_check_values.specs.Agreement.{AgreesWith}
 use Rattle.c_rules.specs.Checked.{Checked, fault, faults, demand, on, met}
 use Rattle.c_rules.specs.Types.{is_result, count}
 use Rattle.c_rules.specs.Declarators.{within_parts, function_of}
+use Rattle.c_check_values.proofs.FaultLemmas.{faulted}
 
 count_types : (ts : List TypeTree) → count (types_of ts) ≡ length ts
 count_types [] = refl
@@ -22,9 +23,6 @@ few_types ts h = ap (λ n. nat_le n 16) (count_types ts) ∙ le-leb (length ts) 
 
 many_types : (ts : List TypeTree) → 16 < length ts → nat_le (count (types_of ts)) 16 ≡ false
 many_types ts h = ap (λ n. nat_le n 16) (count_types ts) ∙ lt-leb (length ts) 16 h
-
-faulted : {A : Type 0} (code at : ℕ) (found : Checked A) → found ≡ fault code at → Contains (faults found) (record { code = code; at = at })
-faulted code at found p = rw p (0, omega arith, refl)
 
 -- with more than 16 parameters
 pub many : (at : ℕ) (t : CType) (ts : List TypeTree) → is_result t ≡ true → 16 < length ts → Contains (faults (function_of at t (types_of ts))) (record { code = 13; at = at })

@@ -13,6 +13,7 @@ use Rattle.c_tree.specs.declared.tree.StructMembers.{StructMembers}
 use Rattle.c_tree.specs.Layout.{Structs, cells}
 use Rattle.c_tree.specs.Tree.{CType, struct}
 use Rattle.c_tree.specs.View.{ctype_of, ctypes_of, members_in}
+use Rattle.c_rules.proofs.FileScopeLemmas.{within_or}
 
 -- ## Members
 
@@ -67,11 +68,6 @@ none_or_some (Some x) = ⊥
 
 none_some : {A : Type 0} (x : A) → None ≡ Some x → ⊥
 none_some x h = subst none_or_some h tt
-
-within_or : (n m : ℕ) → (n < m) ⊎ (m ≤ n)
-within_or n zero = inr (omega arith)
-within_or zero (suc m) = inl (omega arith)
-within_or (suc n) (suc m) = elim (within_or n m) as (λ _. (suc n < suc m) ⊎ (suc m ≤ suc n)) [ inl h ↦ inl (omega (arith, h)) | inr h ↦ inr (omega (arith, h)) ]
 
 some_within : {A : Type 0} (xs : List A) (i : ℕ) (x : A) → slice_get xs i ≡ Some x → i < length xs
 some_within [] i x h = absurd (none_some x h)

@@ -1,3 +1,6 @@
+pub mod CountingLemmas
+pub mod FaultLemmas
 pub mod Parts
-pub mod SameLemmas
 pub mod PartsOfTypes
+pub mod PushLemmas
+pub mod SameLemmas

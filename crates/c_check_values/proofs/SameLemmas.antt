@@ -7,7 +7,7 @@ use Rattle.c_tree.specs.Tree.{CType, void, integer, pointer, array, struct, func
 use Rattle.c_rules.specs.Types.{same_integer, same_type, same_types}
 use Rattle.c_check_scopes.proofs.NumberLemmas.{not_so}
 
-false_not_true : {A : Type 0} → false ≡ true → A
+pub false_not_true : {A : Type 0} → false ≡ true → A
 false_not_true h = absurd (not_so h)
 
 and_first : (a b : Bool) → a && b ≡ true → a ≡ true

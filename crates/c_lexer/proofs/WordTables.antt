@@ -10,7 +10,7 @@ use Rattle.c_lexer.specs.Words.{IsWord, IsWordByte, keywords, excluded_keywords,
 use Rattle.c_lexer.specs.Parts.{BeginsWith, IsOther}
 
 -- whether each word passes
-abbrev each : (List ℕ → Bool) → List (List ℕ) → Bool
+abbrev pub each : (List ℕ → Bool) → List (List ℕ) → Bool
 each test [] = true
 each test (x ∷ xs) = test x && each test xs
 

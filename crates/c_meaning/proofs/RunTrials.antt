@@ -8,12 +8,10 @@ use Rattle.sys_table.specs.Table.{table}
 use Rattle.c_tree.specs.Tree.{Program}
 use Rattle.c_tree.proofs.TypedTrials.{of_f_and_main, f_of_b, main_of_b}
 use Rattle.c_meaning.specs.Runs.{Run, run}
+pub use Rattle.c_tree.proofs.TypedTrials.{source_b}
 
 abbrev pub the_record : ℕ → SysResult
 the_record n = record { value = pos n; bytes = [] }
-
-abbrev pub source_b : Program
-source_b = of_f_and_main f_of_b main_of_b []
 
 abbrev pub the_call : ℕ → ℕ → Event
 the_call x n = Sys x [] (pos n)

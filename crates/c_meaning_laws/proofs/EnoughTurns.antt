@@ -26,23 +26,23 @@ use Rattle.c_meaning.specs.SystemCalls.{Request, system_call, take_record, reque
 use Rattle.c_meaning_laws.specs.Turns.{TurnsAreEnough}
 
 -- a part leaves at most t turns
-abbrev Under : {A : Type 0} → ℕ → Result A → Type 0
+abbrev pub Under : {A : Type 0} → ℕ → Result A → Type 0
 Under t (Go a st w) = st.turns ≤ t
 Under t (Stop o w) = Unit {0}
 
 -- two parts are the same and leave at most t turns
-abbrev Same : {A : Type 0} → ℕ → Result A → Result A → Type 0
+abbrev pub Same : {A : Type 0} → ℕ → Result A → Result A → Type 0
 Same t r q = (r ≡ q) × Under t r
 
-under_after : {A : Type 0} (t : ℕ) (w : List Event) (r : Result A) → Under t r → Under t (after w r)
+pub under_after : {A : Type 0} (t : ℕ) (w : List Event) (r : Result A) → Under t r → Under t (after w r)
 under_after t w (Go a st u) h = h
 under_after t w (Stop o u) h = h
 
-under_more : {A : Type 0} (t u : ℕ) (r : Result A) → t ≤ u → Under t r → Under u r
+pub under_more : {A : Type 0} (t u : ℕ) (r : Result A) → t ≤ u → Under t r → Under u r
 under_more t u (Go a st w) le h = omega arith
 under_more t u (Stop o w) le h = tt
 
-same_more : {A : Type 0} (t u : ℕ) (r q : Result A) → t ≤ u → Same t r q → Same u r q
+pub same_more : {A : Type 0} (t u : ℕ) (r q : Result A) → t ≤ u → Same t r q → Same u r q
 same_more t u r q le h = (h.0, under_more t u r le h.1)
 
 module _ (p : Program) (marks : Marks) (t : ℕ) where

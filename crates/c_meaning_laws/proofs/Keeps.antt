@@ -46,7 +46,7 @@ defined_at [] xs f t h e = absurd (omega (arith, h))
 defined_at (g ∷ fs) xs zero t h e = let same : g.ctype ≡ t = cc in (g, refl, same)
 defined_at (g ∷ fs) xs (suc f) t h e = defined_at fs xs f t (omega (arith, h)) e
 
-undefined_at : (fs : List Function) (xs : List CType) (f : ℕ) (t : CType) → length fs ≤ f → slice_get (map type_of_defined fs ++ xs) f ≡ Some t → slice_get xs (f - length fs) ≡ Some t
+pub undefined_at : (fs : List Function) (xs : List CType) (f : ℕ) (t : CType) → length fs ≤ f → slice_get (map type_of_defined fs ++ xs) f ≡ Some t → slice_get xs (f - length fs) ≡ Some t
 undefined_at [] xs f t h e = let s : f ≡ f - 0 = omega arith in subst (λ k. slice_get xs k ≡ Some t) s e
 undefined_at (g ∷ fs) xs zero t h e = absurd (omega (arith, h))
 undefined_at (g ∷ fs) xs (suc f) t h e =

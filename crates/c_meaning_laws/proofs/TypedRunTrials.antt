@@ -23,6 +23,7 @@ use Rattle.c_meaning.specs.Runs.{no_marks, run}
 use Rattle.c_meaning_laws.specs.TypedResults.{AreRecorded}
 use Rattle.c_meaning_laws.specs.Laws.{IsTypedRun}
 use Rattle.c_meaning_laws.proofs.Worlds.{runs_are_typed}
+use Rattle.c_tree.proofs.TypedTrials.{int_of_int}
 
 -- struct s { int a[2]; int *q; };
 -- int f(int x) { return x; }
@@ -30,9 +31,6 @@ use Rattle.c_meaning_laws.proofs.Worlds.{runs_are_typed}
 -- int main(void) { struct s v; v.q = v.a + 1; *v.q = 5; return t(*v.q); }
 abbrev members : List CType
 members = array int 2 ∷ pointer int ∷ []
-
-abbrev int_of_int : CType
-int_of_int = pointer (of_one int int)
 
 abbrev whole : Expr
 whole = variable (struct 0) false 0

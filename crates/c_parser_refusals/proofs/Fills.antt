@@ -7,16 +7,7 @@ use Rattle.c_lexer.specs.declared.token.TokenKind.TheVariants.{Name, Keyword, Pu
 use Rattle.c_lexer.proofs.WordTables.{c99_is_fixed}
 use Rattle.c_syntax.specs.Tree.{a_name}
 use Rattle.c_syntax.specs.Grammar.{binary_level, conditional_level, assignment_level, Reads, is_name, with_suffixes, no_suffix, no_prefix, no_cast, no_chain, a_chain, no_operator, no_choice, no_assignment}
-
-pub s_is_name : IsName (115 ∷ [])
-s_is_name =
-    record {
-      some = omega arith;
-      short = omega arith;
-      begins = λ b rest q. let e : 115 ≡ b = cc in inr (inl (omega arith, omega arith));
-      bytes = All-cons (λ b. IsLetter b ⊎ IsDigit b) 115 [] (inl (inr (inl (omega arith, omega arith)))) (All-nil (λ b. IsLetter b ⊎ IsDigit b));
-      free = λ among. let fixed = c99_is_fixed (115 ∷ []) among in omega (arith, fixed.long);
-    }
+pub use Rattle.c_syntax.proofs.LetterNames.{s_is_name}
 
 -- a name at the place
 abbrev pub name_token : ℕ → Token

@@ -1,18 +1,24 @@
+pub mod Below
+mod BelowExpressions
+mod BelowUnits
+pub mod CheckedLemmas
+pub mod EntryLemmas
+pub mod FileScopeLemmas
+pub mod FineLemmas
+pub mod Greater
+pub mod Integers
+pub mod ModeBlocks
+pub mod ModeExpressions
+pub mod ModeFunctions
+pub mod ModeItems
+pub mod ModeNames
+mod ModeStatements
+pub mod Modes
+pub mod NoProgram
+pub mod NothingMore
 pub mod Terms
 mod TrialConstants
 mod TrialDeclared
 mod TrialPrograms
 mod TrialStatics
 mod TrialTypes
-pub mod Modes
-pub mod CheckedLemmas
-pub mod ModeNames
-pub mod ModeExpressions
-pub mod ModeBlocks
-mod ModeStatements
-pub mod ModeFunctions
-pub mod ModeItems
-pub mod Below
-pub mod Integers
-mod BelowExpressions
-mod BelowUnits

@@ -34,6 +34,7 @@ use Rattle.c_rules_laws.proofs.TypesOfTypedExpressions.{sized_few}
 use Rattle.c_rules_laws.proofs.TypesOfExpressions.{type_declared_made}
 use Rattle.c_rules_laws.proofs.RightDeclarations.{IsObjectRight, declared_right}
 use Rattle.c_rules_laws.proofs.FileScopes.{struct_defined, MembersRight, members_right, all_complete, all_made, some_members, FileMeaning, IsFileRight, Agrees, agrees_self, Follows, follows_self, follows_on, file_named, file_structs}
+use Rattle.c_tree.proofs.OperatorLemmas.{fits}
 
 -- ## Types of functions
 
@@ -156,9 +157,6 @@ pub step_on : (a b c : Env) → Step a b → Step b c → Step a c
 step_on a b c h k = (k.0, follows_on a b c h.1 k.1)
 
 -- ## Structs and enums
-
-fits : (z : ℤ) → fits_int z ≡ true → FitsSigned w32 z
-fits z h = grind (arith, ints, h)
 
 same_struct : (s t : Struct) → fine s ≡ fine t → s ≡ t
 same_struct s t e = cc

@@ -28,6 +28,7 @@ use Rattle.c_rules_laws.proofs.MadeTypes.{complete_known, complete_kept, made_ke
 use Rattle.c_rules_laws.proofs.SoundStructs.{grows_same, grows_on, same_flat, set_grows, set_sound}
 use Rattle.c_rules_laws.proofs.TypesOfExpressions.{type_declared_made}
 use Rattle.c_rules_laws.proofs.RightDeclarations.{size_right}
+use Rattle.c_rules.proofs.FileScopeLemmas.{within_or}
 
 -- ## Structs
 
@@ -40,11 +41,6 @@ set_past : {A : Type 0} (xs : List A) (n : ℕ) (v : A) → length xs ≤ n → 
 set_past [] n v h = refl
 set_past (x ∷ xs) zero v h = absurd (omega (arith, h))
 set_past (x ∷ xs) (suc n) v h = ap (λ ys. x ∷ ys) (set_past xs n v (omega (arith, h)))
-
-within_or : (n m : ℕ) → (n < m) ⊎ (m ≤ n)
-within_or n zero = inr (omega arith)
-within_or zero (suc m) = inl (omega arith)
-within_or (suc n) (suc m) = elim (within_or n m) as (λ _. (suc n < suc m) ⊎ (suc m ≤ suc n)) [ inl h ↦ inl (omega (arith, h)) | inr h ↦ inr (omega (arith, h)) ]
 
 not_defined : (s : Struct) → is_incomplete s ≡ true → types_of_struct s ≡ None
 not_defined incomplete e = refl

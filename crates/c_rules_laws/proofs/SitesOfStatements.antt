@@ -26,6 +26,7 @@ use Rattle.c_rules_laws.proofs.Holding.{Holds, on_holds, both_hold, all_three_ho
 use Rattle.c_rules_laws.proofs.SitesOfTypedExpressions.{SitesAre, condition_sites, as_if_sites, converted_sites}
 use Rattle.c_rules_laws.proofs.SitesOfExpressions.{fits_none, fits_both, FitsAt, Span, Counted, holds_with, range_append, value_counted}
 use Rattle.c_rules_laws.proofs.RightInitialisers.{InitCounted, local_counted, stores_sites}
+use Rattle.c_rules.proofs.NothingMore.{nothing_more}
 
 -- these are the sites of a part, with so many calls and these strings
 abbrev pub IsSpan : Before → ℕ → List (List ℕ) → List ℕ → Type 0
@@ -36,10 +37,6 @@ span_both b n m ws vs xs ys h k = (ap₂ (λ x y. x ++ y) h.0 k.0 ∙ sym (range
 
 span_none : (b : Before) → IsSpan b 0 [] []
 span_none b = (refl, fits_none b.sites b.cells)
-
-nothing_more : {A : Type 0} (xs : List A) → xs ++ [] ≡ xs
-nothing_more [] = refl
-nothing_more (x ∷ xs) = ap (λ ys. x ∷ ys) (nothing_more xs)
 
 span_alone : (b : Before) (n : ℕ) (ws : List (List ℕ)) (xs : List ℕ) → IsSpan b n ws xs → IsSpan b n ws (xs ++ [])
 span_alone b n ws xs h = (nothing_more xs ∙ h.0, h.1)

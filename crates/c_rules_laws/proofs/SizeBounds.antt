@@ -9,6 +9,7 @@ use Rattle.c_tree.specs.Program.{IsBelow}
 use Rattle.c_meaning_laws.proofs.Places.{length_repeat, struct_is}
 use Rattle.c_rules_laws.specs.SoundStructs.{AreSound}
 use Rattle.c_rules_laws.proofs.SoundStructs.{are_structs}
+use Rattle.c_rules.proofs.Greater.{greater}
 
 -- an extent beside so many cells
 pub record IsWithin (e : Extent) (n : ℕ) : Type 0 where
@@ -18,12 +19,6 @@ pub record IsWithin (e : Extent) (n : ℕ) : Type 0 where
 rounded_up : (size a n : ℕ) → size ≤ 4 * n → (a ≡ 1) ⊎ (a ≡ 4) → round_up size a ≤ 4 * n
 rounded_up size a n h (inl e) = subst (λ a. round_up size a ≤ 4 * n) (sym e) (let q : round_up size 1 ≤ 4 * n = omega (arith, h) in q)
 rounded_up size a n h (inr e) = subst (λ a. round_up size a ≤ 4 * n) (sym e) (let q : (size + (4 - 1)) / 4 * 4 ≤ 4 * n = omega (arith, h) in q)
-
-greater : (a b : ℕ) → (a ≡ 1) ⊎ (a ≡ 4) → (b ≡ 1) ⊎ (b ≡ 4) → (max a b ≡ 1) ⊎ (max a b ≡ 4)
-greater a b (inl e) (inl f) = inl (omega (arith, e, f))
-greater a b (inl e) (inr f) = inr (omega (arith, e, f))
-greater a b (inr e) (inl f) = inr (omega (arith, e, f))
-greater a b (inr e) (inr f) = inr (omega (arith, e, f))
 
 put_within : (e m : Extent) (n k : ℕ) → IsWithin e n → IsWithin m k → IsWithin (put_after e m) (n + k)
 put_within e m n k h g = record {

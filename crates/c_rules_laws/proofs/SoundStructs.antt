@@ -12,26 +12,9 @@ use Rattle.c_meaning_laws.proofs.Places.{struct_is}
 use Rattle.c_rules_laws.specs.MadeTypes.{NotArray, Made}
 use Rattle.c_rules_laws.specs.SoundStructs.{defined_among, AreSound, Grows}
 use Rattle.c_rules_laws.proofs.MadeTypes.{complete_kept, made_kept}
+use Rattle.c_rules.proofs.EntryLemmas.{none_is_no_list, no_entry, get_set, get_other}
 
 -- ## Lists of structs
-
-none_is_no_list : (ts : List CType) → Some None ≡ Some (Some ts) → ⊥
-none_is_no_list ts q = cc
-
-no_entry : (o : Option (List CType)) → None ≡ Some o → ⊥
-no_entry o q = cc
-
-get_set : {A : Type 0} (xs : List A) (n : ℕ) (v : A) → n < length xs → slice_get (set xs n v) n ≡ Some v
-get_set [] n v h = absurd (omega arith)
-get_set (x ∷ xs) zero v h = refl
-get_set (x ∷ xs) (suc n) v h = get_set xs n v (omega arith)
-
-get_other : {A : Type 0} (xs : List A) (n s : ℕ) (v : A) → (s ≡ n → ⊥) → slice_get (set xs n v) s ≡ slice_get xs s
-get_other [] n s v h = refl
-get_other (x ∷ xs) zero zero v h = absurd (h refl)
-get_other (x ∷ xs) zero (suc s) v h = refl
-get_other (x ∷ xs) (suc n) zero v h = refl
-get_other (x ∷ xs) (suc n) (suc s) v h = get_other xs n s v (λ q. h (ap suc q))
 
 count_below : (structs : Structs) → defined_among structs ≤ length structs
 count_below [] = omega arith

@@ -30,6 +30,7 @@ use Rattle.c_rules_laws.proofs.FileScopes.{IsFileRight}
 use Rattle.c_rules_laws.proofs.FileItems.{IsObjectNamed, object_named, part_step, form_step, tags_step}
 use Rattle.c_rules_laws.proofs.UnitShape.{output_same}
 use Rattle.c_rules_laws.proofs.KnownCells.{static_known}
+use Rattle.c_rules.proofs.NothingMore.{nothing_more}
 
 -- what stands before a part, what stands behind it, and what it gives
 pub record Spans (b a : Before) (q : Output) : Type 0 where
@@ -42,10 +43,6 @@ pub record Spans (b a : Before) (q : Output) : Type 0 where
   pub sites_fit : b.sites ≤ 30000 → a.sites ≤ 30000
   pub cells_fit : b.cells ≤ 1048576 → a.cells ≤ 1048576
   pub many : b.cells + (length q.statics + length more) ≤ a.cells
-
-nothing_more : {A : Type 0} (xs : List A) → xs ++ [] ≡ xs
-nothing_more [] = refl
-nothing_more (x ∷ xs) = ap (λ ys. x ∷ ys) (nothing_more xs)
 
 spans_none : (b : Before) → Spans b b no_output
 spans_none b = record {

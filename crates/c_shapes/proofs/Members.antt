@@ -3,6 +3,7 @@ use Rattle.std.proofs.Common.{◌≡◌, ◌⊎◌, inl, inr, ℕ, zero, suc, �
 use Rattle.std.specs.List.{range_with_len}
 use Rattle.std.proofs.lemmas.Bool.{false≢true}
 use Rattle.std.proofs.lemmas.Bool.Decides.{Decides-ltb, eqb_tells}
+pub use Rattle.dm_base.proofs.Orders.{is_first, is_later}
 
 pub and_left : (a b : Bool) → (a && b) ≡ true → a ≡ true
 and_left true b h = refl
@@ -61,12 +62,6 @@ other_number a b h = by (nat_eq a b) refl
     by : (c : Bool) → nat_eq a b ≡ c → nat_eq a b ≡ false
     by true e = absurd (h (same_number a b e))
     by false e = e
-
-pub is_first : {X : Type 0} (x : X) (xs : List X) → Contains (x ∷ xs) x
-is_first x xs = (0, omega arith, refl)
-
-pub is_later : {X : Type 0} (x : X) (xs : List X) (z : X) → Contains xs z → Contains (x ∷ xs) z
-is_later x xs z (k, lt, is) = (suc k, omega arith, is)
 
 pub cases : {X : Type 0} (x : X) (xs : List X) (z : X) → Contains (x ∷ xs) z → (x ≡ z) ⊎ Contains xs z
 cases x xs z (zero, lt, is) = inl is

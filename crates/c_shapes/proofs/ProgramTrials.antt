@@ -10,10 +10,8 @@ use Rattle.c_tree.proofs.TypedTrials.{f_of_b, main_of_b, f_of_d, main_of_d, g_of
 use Rattle.c_shapes.specs.Shape.{Skip, Sys, Call, Seq, Alt, Return, End, Part}
 use Rattle.c_shapes.specs.CallGraph.{is_taken, candidates, reaches, marked}
 use Rattle.c_shapes.specs.ShapeOf.{shapes_of_functions, names_of_functions, candidate_places}
-
--- int f(void) { return getpid(); } int main(void) { f(); getuid(); f(); return 0; }
-abbrev pub source_b : Program
-source_b = of_f_and_main f_of_b main_of_b []
+use Rattle.c_tree.proofs.TypedTrials.{int_of_int, x_of_parameter}
+pub use Rattle.c_tree.proofs.TypedTrials.{source_b, source_d}
 
 b_takes_nothing : is_taken source_b 0 ≡ false
 b_takes_nothing = refl
@@ -34,24 +32,12 @@ b_shapes = refl
 b_places : candidate_places source_b 0 ∷ candidate_places source_b 1 ∷ candidate_places source_b 2 ∷ candidate_places source_b 3 ∷ candidate_places source_b 4 ∷ [] ≡ [] ∷ (0 ∷ []) ∷ [] ∷ (0 ∷ []) ∷ [] ∷ []
 b_places = refl
 
--- int g; int f(void) { if (g) f(); getpid(); return 0; } int main(void) { f(); return 0; }
-abbrev pub source_d : Program
-source_d = of_f_and_main f_of_d main_of_d (g_of_d ∷ [])
-
 d_marks : marked source_d 0 ∷ marked source_d 1 ∷ marked source_d 2 ∷ [] ≡ true ∷ false ∷ true ∷ []
 d_marks = refl
 
 d_shapes : shapes_of_functions source_d ≡ Seq (Alt (Call 0) Skip) (Part (Sys 14 []) (Part Return End)) ∷ Seq (Call 2) (Part Return End) ∷ []
 unfolding table
 d_shapes = refl
-
--- int a(int x) { getpid(); return x; } int b(int x) { return x; } int c(char *s) { getpid(); return 0; }
--- int (*t[3])(int) = { a, b, close }; int (*u)(char *) = c; int main(void) { return t[1](5); }
-abbrev x_of_parameter : Stmt
-x_of_parameter = return_value (load int (variable int false 0))
-
-abbrev int_of_int : CType
-int_of_int = pointer (of_one int int)
 
 abbrev t_of_one : Expr
 t_of_one =

@@ -9,14 +9,14 @@ use Rattle.c_shapes.specs.Walks.{Point, PartPoint, before, after, left, right, t
 use Rattle.c_shapes.specs.Walks as W
 
 -- where an exit leads
-abbrev target : {S : Shape} → Leave → Target (Point S)
+abbrev pub target : {S : Shape} → Leave → Target (Point S)
 target goes_on = at after
 target breaks = by_break
 target continues = by_continue
 target returns = by_return
 
 -- where the end of the parts leads
-abbrev part_target : {ps : Parts} → Leave → Target (PartPoint ps)
+abbrev pub part_target : {ps : Parts} → Leave → Target (PartPoint ps)
 part_target goes_on = past
 part_target breaks = by_break
 part_target continues = by_continue

@@ -5,6 +5,7 @@ use Rattle.std.proofs.lemmas.Bool.{false≢true, and_parts, not-true, eqb-false}
 use Rattle.std.proofs.lemmas.List.Elements.{All-nil, All-cons, All-head, All-tail}
 use Rattle.dm_base.specs.Name.{IsLetter, IsDigit}
 use Rattle.c_lexer.specs.Words.{keywords, punctuators, IsWord, IsNumber, IsWordByte, IsNumberByte}
+use Rattle.c_lexer.proofs.WordTables.{each}
 
 -- a byte that stands after a printed token
 abbrev pub IsEnd : ℕ → Type 0
@@ -59,11 +60,6 @@ word_solid (b ∷ w) h = All-cons IsSolid b w (letter_solid b h.0) (all_solid Is
 pub number_solid : (w : List ℕ) → IsNumber w → All IsSolid w
 number_solid [] h = absurd h
 number_solid (b ∷ w) h = All-cons IsSolid b w (digit_solid b h.0) (all_solid IsNumberByte number_byte_solid w h.1)
-
--- whether each word passes
-abbrev each : (List ℕ → Bool) → List (List ℕ) → Bool
-each test [] = true
-each test (x ∷ xs) = test x && each test xs
 
 each_at : (test : List ℕ → Bool) (words : List (List ℕ)) (k : ℕ) (w d : List ℕ) → each test words ≡ true → k < length words → get_or words k d ≡ w → test w ≡ true
 each_at test [] k w d h within is = absurd (omega arith)

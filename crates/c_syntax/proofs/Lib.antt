@@ -18,12 +18,14 @@ pub mod HeightLemmas
 pub mod KindsAlike
 pub mod KindsOfUnits
 pub mod KindsPrinted
+pub mod LetterNames
 pub mod LexBack
 pub mod LexBackElements
 pub mod LexBackNumbers
 pub mod LexBackQuoted
 pub mod LexBackTokens
 pub mod LexBackWords
+pub mod Lists
 pub mod MorePairs
 pub mod MorePairsOfUnits
 pub mod One
@@ -40,6 +42,7 @@ pub mod Precedence
 pub mod Ranks
 pub mod ReadBack
 pub mod Rows
+pub mod FormRows
 pub mod StmtCases
 pub mod TokenTexts
 pub mod Trials

@@ -11,16 +11,7 @@ use Rattle.c_syntax.specs.UnitView.{items_of}
 use Rattle.c_syntax.specs.Tree.{Ident, tag_item, no_items, more_items}
 use Rattle.c_syntax.specs.Statements.{ReadsItems, a_tag_alone, last_item}
 use Rattle.c_syntax.specs.Spelling.{IsUnit}
-
-s_is_name : IsName (115 ∷ [])
-s_is_name =
-    record {
-      some = omega arith;
-      short = omega arith;
-      begins = λ b rest q. let e : 115 ≡ b = cc in inr (inl (omega arith, omega arith));
-      bytes = All-cons (λ b. IsLetter b ⊎ IsDigit b) 115 [] (inl (inr (inl (omega arith, omega arith)))) (All-nil (λ b. IsLetter b ⊎ IsDigit b));
-      free = λ among. let fixed = c99_is_fixed (115 ∷ []) among in omega (arith, fixed.long);
-    }
+use Rattle.c_syntax.proofs.LetterNames.{s_is_name}
 
 pub tag_unit : (x : Ident) → x ≡ record { name = 115 ∷ []; at = 7 } → IsUnit (more_items (tag_item 0 x) no_items)
 tag_unit x q =

@@ -7,15 +7,15 @@ use Rattle.c_tree.specs.Tree.{CType, function, CTypes, no_types, more_types}
 use Rattle.c_tree.specs.View.{ctype_of, types_of}
 use Rattle.c_tree.proofs.Rows.{function_is}
 
-abbrev packed : List CType → CTypes
+abbrev pub packed : List CType → CTypes
 packed [] = no_types
 packed (t ∷ ts) = more_types t (packed ts)
 
-packed_types : (ts : List TypeTree) → packed (map ctype_of ts) ≡ types_of ts
+pub packed_types : (ts : List TypeTree) → packed (map ctype_of ts) ≡ types_of ts
 packed_types [] = refl
 packed_types (t ∷ ts) = ap (more_types (ctype_of t)) (packed_types ts)
 
-same_types : (ts us : List TypeTree) → map ctype_of ts ≡ map ctype_of us → types_of ts ≡ types_of us
+pub same_types : (ts us : List TypeTree) → map ctype_of ts ≡ map ctype_of us → types_of ts ≡ types_of us
 same_types ts us q = sym (packed_types ts) ∙ (ap packed q ∙ packed_types us)
 
 -- a function whose parts were copied

@@ -6,7 +6,7 @@ use Rattle.c_tree.specs.Layout.{Structs, repeat, flat, cells}
 use Rattle.c_tree.specs.Counts.{AreCounts}
 use Rattle.c_tree.specs.Operands.{IsComplete, IsObject}
 
-length-repeat : {A : Type 0} (n : ℕ) (xs : List A) → length (repeat n xs) ≡ n * length xs
+pub length-repeat : {A : Type 0} (n : ℕ) (xs : List A) → length (repeat n xs) ≡ n * length xs
 length-repeat zero xs = omega arith
 length-repeat (suc n) xs =
     let h : length (repeat n xs) ≡ n * length xs = length-repeat n xs in

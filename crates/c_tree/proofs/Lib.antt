@@ -1,3 +1,4 @@
+pub mod CalledTypes
 pub mod CopyLemmas
 pub mod CountLemmas
 pub mod LayoutTrials

@@ -15,14 +15,7 @@ use Rattle.c_tree.specs.Operands.{IsPromoted, OperatorKind, balanced, shift, ord
 use Rattle.c_tree.specs.Kinds.{IsConstant}
 use Rattle.c_tree.specs.Operators.{Answer, gives, undefined, and_then, low_bits, fits_int, fitting, settle, value_of, divided, shifted, shift_left, convert, where_shift, table_of, binary}
 use Rattle.c_tree.specs.OperatorTypes.{IsAnswer, IsGiven}
-
-and_left : (a b : Bool) → (a && b) ≡ true → a ≡ true
-and_left true b h = refl
-and_left false b h = cc
-
-and_right : (a b : Bool) → (a && b) ≡ true → b ≡ true
-and_right true b h = h
-and_right false b h = cc
+use Rattle.sys_table.proofs.Names.{and_left, and_right}
 
 -- the number of a type's form
 abbrev form : CType → ℕ
@@ -45,7 +38,7 @@ no_pointer Uchar u q = let e : 2 ≡ 5 = ap form q in omega (arith, e)
 no_pointer Int u q = let e : 3 ≡ 5 = ap form q in omega (arith, e)
 no_pointer Uint u q = let e : 4 ≡ 5 = ap form q in omega (arith, e)
 
-fits : (z : ℤ) → fits_int z ≡ true → FitsSigned w32 z
+pub fits : (z : ℤ) → fits_int z ≡ true → FitsSigned w32 z
 fits z h = grind (arith, ints, h)
 
 pub below_32 : (z : ℤ) → low_bits 32 z < 4294967296

@@ -7,18 +7,8 @@ use Rattle.std.proofs.lemmas.Bool.Decides.{Decides-ltb}
 use Rattle.dm_base.specs.Name.{IsName, IsLetter, IsDigit, keywords}
 use Rattle.dm_base.proofs.Names.{IsName-from_parts}
 use Rattle.sys_table.specs.Table.{Row, table, name_of}
-
-and_left : (a b : Bool) → (a && b) ≡ true → a ≡ true
-and_left true b h = refl
-and_left false b h = cc
-
-and_right : (a b : Bool) → (a && b) ≡ true → b ≡ true
-and_right true b h = h
-and_right false b h = cc
-
--- two texts that differ
-pub no_twin : (a b : List ℕ) → not (bytes_eq a b) ≡ true → a ≡ b → ⊥
-no_twin a b h same = let e : bytes_eq a b ≡ true = (bytes_eq-Decides a b).1 same in let f : false ≡ true = ap not (sym e) ∙ h in cc
+use Rattle.sys_table.proofs.Names.{and_left, and_right}
+pub use Rattle.sys_table.proofs.Names.{no_twin}
 
 -- whether the text is none of these
 abbrev is_absent : List ℕ → List (List ℕ) → Bool

@@ -112,7 +112,7 @@ f_and_main f m q r = record {
   apart = All-cons (λ g. (x : ℕ) → x < 24 → g.name ≢ name_of x) f (m ∷ []) (λ x within e. apart (codes "f") refl x within (sym q ∙ e)) (All-cons (λ g. (x : ℕ) → x < 24 → g.name ≢ name_of x) m [] (λ x within e. apart (codes "main") refl x within (sym r ∙ e)) (All-nil _));
 }
 
-abbrev source_b : Program
+abbrev pub source_b : Program
 source_b = of_f_and_main f_of_b main_of_b []
 
 f_of_b_fits : IsFunction source_b (f_with f_of_b)
@@ -148,7 +148,7 @@ main_of_d = two (evaluate (call int 2 0 no_exprs)) (return_value zero_of_int)
 abbrev pub g_of_d : Static
 g_of_d = record { ctype = int; cells = v.Int (pos 0) ∷ []; string = false }
 
-abbrev source_d : Program
+abbrev pub source_d : Program
 source_d = of_f_and_main f_of_d main_of_d (g_of_d ∷ [])
 
 int_object : (structs : Structs) → IsObject structs int
@@ -182,10 +182,10 @@ source_d_fits = record {
 
 -- int close(int fd); int getpid(void); int a(int x) { getpid(); return x; } int b(int x) { return x; } int c(char *s) { getpid(); return 0; }
 -- int (*t[3])(int) = { a, b, close }; int (*u)(char *) = c; int main(void) { return t[1](5); }
-abbrev x_of_parameter : Stmt
+abbrev pub x_of_parameter : Stmt
 x_of_parameter = return_value (load int (variable int false 0))
 
-abbrev int_of_int : CType
+abbrev pub int_of_int : CType
 int_of_int = pointer (of_one int int)
 
 abbrev t_of_one : Expr

@@ -2,7 +2,7 @@
 -- Operands (their types), Kinds (values of a type), Typed (well-typed expressions and statements), Sites (of calls),
 -- Program (well-typed programs); Operators (what they give on integers, 6.3.1, 6.5), Constants (patterns of system
 -- calls); then the laws OperatorTypes and PatternsRight. By themselves: View (what the trees of Rust are seen as),
--- Counts (of cells).
+-- Counts (of cells), Prototypes (the types of system calls as a table).
 -- For private contracts and proofs alone: Inside.
 pub mod Constants
 pub mod Counts
@@ -15,6 +15,7 @@ pub mod OperatorTypes
 pub mod Operators
 pub mod PatternsRight
 pub mod Program
+pub mod Prototypes
 pub mod Sites
 pub mod Tree
 pub mod Typed

@@ -6,6 +6,7 @@ mod copying;
 mod laws;
 mod layout;
 mod program;
+mod prototypes;
 mod same;
 mod tree;
 mod value;
@@ -14,6 +15,7 @@ pub use copying::{copy_type, copy_types};
 pub use laws::{operators_keep_types, patterns_are_right};
 pub use layout::cells_of;
 pub use program::Program;
+pub use prototypes::{Prototype, PrototypeType, all_prototypes, system_prototypes};
 pub use same::is_same;
 pub use tree::{
     CType, Function, Static, StructMembers, TExpr, TExprKind, TGroup, TInit, TLabel, TStmt,

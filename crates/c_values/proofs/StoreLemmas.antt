@@ -9,7 +9,7 @@ use Rattle.c_values.specs.Answers.{Answer, gives, undefined, and_then}
 use Rattle.c_values.specs.Memory.{same_name, Object, Objects, changed, there, object, element, cell_value, load, writable, set_cell, store, ended}
 use Rattle.c_values.specs.MemoryLaws.{StoredIsLoaded, OthersAreKept, EndedIsUndefined}
 
-same_itself : (x : ObjectName) → same_name x x ≡ true
+pub same_itself : (x : ObjectName) → same_name x x ≡ true
 same_itself x =
     ap (λ b. if b then nat_eq x.variable x.variable else false) (eq-eqb x.activation x.activation refl) ∙ eq-eqb x.variable x.variable refl
 
@@ -20,7 +20,7 @@ same_is x y h = at (nat_eq x.activation y.activation) refl h
     at true e k = let a = eqb-true x.activation y.activation e in let c = eqb-true x.variable y.variable k in λ i. record { activation = a i; variable = c i }
     at false e k = cc
 
-changed_there : (m : Objects) (x : ObjectName) (o : Option Object) → changed m x o x ≡ o
+pub changed_there : (m : Objects) (x : ObjectName) (o : Option Object) → changed m x o x ≡ o
 changed_there m x o = ap (λ b. if b then o else m x) (same_itself x)
 
 changed_elsewhere : (m : Objects) (x y : ObjectName) (o : Option Object) → y ≢ x → changed m x o y ≡ m y

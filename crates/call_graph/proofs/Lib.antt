@@ -1,11 +1,12 @@
 pub mod AddingLemmas
+pub mod BelowOrAt
+pub mod CallersLemmas
+pub mod CallsLemmas
+pub mod MadeLemmas
 pub mod Members
+pub mod NamingLemmas
+pub mod PlaceLemmas
 pub mod ReachingLemmas
 pub mod SayingLemmas
 pub mod SitesLemmas
-pub mod PlaceLemmas
-pub mod NamingLemmas
-pub mod CallersLemmas
 pub mod TypesLemmas
-pub mod CallsLemmas
-pub mod MadeLemmas

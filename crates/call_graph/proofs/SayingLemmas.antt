@@ -22,6 +22,8 @@ use Rattle.c_tree.specs.declared.tree.TGroup.{TGroup}
 use Rattle.c_tree.specs.View.{ctype_of, expr_with, expr_of, exprs_of, maybe_of, inits_of, stmt_of, stmts_of, groups_of, function_of, static_of}
 use Rattle.c_tree.proofs.Rows.{comma_is, call_is, call_through_is, block_is, for_is, switch_is}
 use Rattle.c_shapes.specs.Mentions.{Mention, Calls, Direct, Through, mentions, mentions_of_all, mentions_of_maybe, mentions_of_inits, mentions_of_stmt, mentions_of_stmts, mentions_of_groups}
+use Rattle.c_tree.proofs.CalledTypes.{type_with, type_is}
+pub use Rattle.dm_base.proofs.ListLemmas.{two_parts}
 
 pub all_flat : (es : List TExpr) → mentions_of_all (exprs_of es) ≡ flat_map (λ e. mentions (expr_of e)) es
 all_flat [] = refl
@@ -61,36 +63,6 @@ pub then_on : (r : Result (Unit {0}) OutOfMemory) (old mid new a b m : List Ment
 then_on (Ok u) old mid new a b m first e is = is ∙ ap (λ ms. ms ++ b) first ∙ append_assoc old a b ∙ ap (λ ms. old ++ ms) (sym e)
 then_on (Err x) old mid new a b m first e is = is
 
--- the type of an expression is kept beside its form
-type_with : (t : CType) (k : TExprKind) → type_of (expr_with t k) ≡ t
-type_with t (Const v) = refl
-type_with t (FunctionNamed f) = refl
-type_with t (StringPlace n) = refl
-type_with t (Variable s n) = refl
-type_with t (Deref' p t1 k1) = refl
-type_with t (Load' p t1 k1) = refl
-type_with t (AddressOf' p t1 k1) = refl
-type_with t (Decay' p t1 k1) = refl
-type_with t (Discard' p t1 k1) = refl
-type_with t (Field' p t1 k1 first) = refl
-type_with t (Unary' op p t1 k1) = refl
-type_with t (Convert' to p t1 k1) = refl
-type_with t (Arith' op p t1 k1 q t2 k2) = refl
-type_with t (Compare' op p t1 k1 q t2 k2) = refl
-type_with t (PointerAdd' f s p t1 k1 q t2 k2) = refl
-type_with t (PointerDiff' p t1 k1 q t2 k2) = refl
-type_with t (And' p t1 k1 q t2 k2) = refl
-type_with t (Or' p t1 k1 q t2 k2) = refl
-type_with t (Assign' p t1 k1 q t2 k2) = refl
-type_with t (Update' op o p t1 k1 q t2 k2) = refl
-type_with t (Cond' p t1 k1 q t2 k2 r t3 k3) = refl
-type_with t (Comma' shape row) = refl
-type_with t (Call' s f shape row) = refl
-type_with t (CallThrough' s p t1 k1 shape row) = refl
-
-type_is : (e : TExpr) → type_of (expr_of e) ≡ ctype_of e.ctype
-type_is e = type_with (ctype_of e.ctype) e.kind
-
 -- expressions and statements that hold lists
 pub of_comma : (e : TExpr) (v : Vec TExpr Global) → e.kind ≡ Comma v → mentions (expr_of e) ≡ mentions_of_all (exprs_of v.items)
 of_comma e v is = ap (λ k. mentions (expr_with (ctype_of e.ctype) k)) is ∙ ap mentions (comma_is (ctype_of e.ctype) v)
@@ -110,10 +82,6 @@ of_for s v test step b is = ap (λ s. mentions_of_stmt (stmt_of s)) is ∙ ap me
 
 pub of_switch : (s : TStmt) (e : TExpr) (v : Vec TGroup Global) → s ≡ Switch e v → mentions_of_stmt (stmt_of s) ≡ mentions (expr_of e) ++ mentions_of_groups (groups_of v.items)
 of_switch s e v is = ap (λ s. mentions_of_stmt (stmt_of s)) is ∙ ap mentions_of_stmt (switch_is e v)
-
--- parts that are added in turn
-pub two_parts : {Y : Type 0} (old mid new a b : List Y) → mid ≡ old ++ a → new ≡ mid ++ b → new ≡ old ++ (a ++ b)
-two_parts old mid new a b first second = second ∙ ap (λ ys. ys ++ b) first ∙ append_assoc old a b
 
 pub four_parts : {Y : Type 0} (old one two three new a b c d : List Y) → one ≡ old ++ a → two ≡ one ++ b → three ≡ two ++ c → new ≡ three ++ d → new ≡ old ++ (a ++ (b ++ (c ++ d)))
 four_parts old one two three new a b c d first second third fourth = two_parts old one new a (b ++ (c ++ d)) first (two_parts one two new b (c ++ d) second (two_parts two three new c d third fourth))

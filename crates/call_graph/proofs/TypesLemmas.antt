@@ -13,8 +13,8 @@ use Rattle.c_tree.specs.Functions.{defined, sys_types, type_of_defined, value_ty
 use Rattle.c_shapes.specs.Mentions.{Through}
 use Rattle.c_shapes.specs.CallGraph.{same_type, is_taken, is_typed, functions_of, callees}
 use Rattle.c_shapes.proofs.SameTypes.{types_tell}
-use Rattle.call_graph.specs.declared.sys_types.Plain.{Plain}
-use Rattle.call_graph.specs.Prototypes.{plain, plain_types}
+use Rattle.c_tree.specs.declared.prototypes.PrototypeType.{PrototypeType}
+use Rattle.c_tree.specs.Prototypes.{type_meant, types_meant}
 use Rattle.call_graph.specs.Types.{types_at, first_place}
 use Rattle.call_graph.proofs.Members.{same_answer}
 use Rattle.call_graph.proofs.ReachingLemmas.{map_get}
@@ -145,14 +145,14 @@ pub no_callees : (p : Program) (t : CType) → ((o : Option CType) → is_typed 
 no_callees p t none = filter_none (λ f. is_taken p f && is_typed t (value_type p f)) (functions_of p) (λ f. and_false (is_taken p f) (is_typed t (value_type p f)) (none (value_type p f)))
 
 -- the parameters of a prototype
-pub same_parameters : (made : List TypeTree) (ts : List Plain) → map ctype_of made ≡ map plain ts → types_of made ≡ plain_types ts
+pub same_parameters : (made : List TypeTree) (ts : List PrototypeType) → map ctype_of made ≡ map type_meant ts → types_of made ≡ types_meant ts
 same_parameters [] [] e = refl
 same_parameters [] (t ∷ ts) e = absurd cc
 same_parameters (m ∷ ms) [] e = absurd cc
 same_parameters (m ∷ ms) (t ∷ ts) e =
-    let first : ctype_of m ≡ plain t = cc in
-    let rest : map ctype_of ms ≡ map plain ts = cc in
-    ap (λ u. more_types u (types_of ms)) first ∙ ap (more_types (plain t)) (same_parameters ms ts rest)
+    let first : ctype_of m ≡ type_meant t = cc in
+    let rest : map ctype_of ms ≡ map type_meant ts = cc in
+    ap (λ u. more_types u (types_of ms)) first ∙ ap (more_types (type_meant t)) (same_parameters ms ts rest)
 
 -- a system call has a type
 pub call_bound : (p : Program) (f d : ℕ) (calls : List TypeTree) → ctypes_of calls ≡ sys_types → f < defined p + 24 → d ≡ defined p → d ≤ f → f - d < length calls

@@ -2,7 +2,6 @@
 -- For private contracts and proofs alone: Adding, Types, Callers, Places, Prototypes.
 pub mod Saying
 pub mod Adding
-pub mod Prototypes
 pub mod Types
 pub mod Callers
 pub mod Places

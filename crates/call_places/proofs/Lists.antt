@@ -16,12 +16,9 @@ use Rattle.c_syntax.specs.WritesUnit.{inits_of, block_items_of, stmts_of, groups
 use Rattle.call_places.specs.CallPlaces.{call_places_of_item, call_places}
 use Rattle.call_places.specs.Places.{places, places_of_all, places_of_init, places_of_inits, places_of_maybe_init, places_of_parts, places_of_decl, places_of_stmt, places_of_block, places_of_stmts, places_of_groups}
 use Rattle.call_places.specs.Seen.{places_of_block_item, places_of_group}
-
-one_more : {Y : Type 0} (a r s : List Y) → r ≡ s → a ++ r ≡ (a ++ []) ++ s
-one_more a r s e = ap (λ z. a ++ z) e ∙ ap (λ z. z ++ s) (sym (append-nil a))
-
-two_parts : {Y : Type 0} (old mid new a b : List Y) → mid ≡ old ++ a → new ≡ mid ++ b → new ≡ old ++ (a ++ b)
-two_parts old mid new a b first second = second ∙ ap (λ ys. ys ++ b) first ∙ append_assoc old a b
+use Rattle.c_syntax.proofs.Lists.{one_more}
+pub use Rattle.c_syntax.proofs.Lists.{on_same}
+use Rattle.dm_base.proofs.ListLemmas.{two_parts}
 
 pub exprs_flat : (es : List ExprTree) → places_of_all (exprs_of es) ≡ flat_map (λ e. places (expr_of e)) es
 exprs_flat [] = refl
@@ -60,10 +57,6 @@ module _ {X Y : Type 0} (f : X → List Y) (xs : List X) where
   all_flat i start new whole over e is = is ∙ ap (λ ys. start ++ flat_map f ys) (take_all i xs over) ∙ ap (λ ys. start ++ ys) (sym e)
 
 -- ## Clauses of calls by other words
-
-pub on_same : {E Y : Type 0} (r : Result (Unit {0}) E) (old new m b : List Y) → m ≡ b → OnOk r (new ≡ old ++ b) → OnOk r (new ≡ old ++ m)
-on_same (Ok u) old new m b e is = is ∙ ap (λ ms. old ++ ms) (sym e)
-on_same (Err x) old new m b e is = is
 
 pub then_on : {E Y : Type 0} (r : Result (Unit {0}) E) (old mid new a b m : List Y) → mid ≡ old ++ a → m ≡ a ++ b → OnOk r (new ≡ mid ++ b) → OnOk r (new ≡ old ++ m)
 then_on (Ok u) old mid new a b m first e is = two_parts old mid new a b first is ∙ ap (λ ms. old ++ ms) (sym e)

@@ -9,14 +9,7 @@ use Rattle.certify_steps.specs.Adding.{Has}
 use Rattle.certify_steps.proofs.AddingLemmas.{has_more, has_none}
 use Rattle.certify.specs.contracts.ends.ActivationPartialEq.TheImpl.{eq-value as activation_eq}
 use Rattle.certify.specs.declared.ends.Activation.{Activation}
-
-pub both_true : (a b : Bool) → (a && b) ≡ true → (a ≡ true) × (b ≡ true)
-both_true true b e = (refl, e)
-both_true false b e = absurd cc
-
-pub both_hold : (a b : Bool) → a ≡ true → b ≡ true → (a && b) ≡ true
-both_hold true b p q = q
-both_hold false b p q = absurd cc
+pub use Rattle.flow_model.proofs.BothLemmas.{both_true, both_hold}
 
 pub activation_exact : (x y : Activation) → activation_eq.it x y ≡ true → x ≡ y
 activation_exact x y e =

@@ -12,14 +12,7 @@ use Rattle.certify_facts.specs.declared.fact.FactLine.{FactLine}
 use Rattle.certify_steps.specs.Adding.{Has}
 use Rattle.certify_steps.proofs.AddingLemmas.{has_more}
 use Rattle.certify_steps.proofs.ReadingLemmas.{Contains-cons, Contains-cons_cases, contains_none}
-
-both_true : (a b : Bool) → (a && b) ≡ true → (a ≡ true) × (b ≡ true)
-both_true true b e = (refl, e)
-both_true false b e = absurd cc
-
-both_hold : (a b : Bool) → a ≡ true → b ≡ true → (a && b) ≡ true
-both_hold true b p q = q
-both_hold false b p q = absurd cc
+use Rattle.flow_model.proofs.BothLemmas.{both_true, both_hold}
 
 same_number : (n : ℕ) → nat_eq n n ≡ true
 same_number n = eq-eqb n n refl

@@ -12,6 +12,7 @@ use Rattle.flow_model.specs.Graph.{Graph, HasSilent, HasCall, HasFunction, Owns,
 use Rattle.flow_model.specs.Rules.{IsValid, HasRightEntries}
 use Rattle.flow_model.proofs.OrderLemmas.{lt_from_less}
 use Rattle.certify_facts.specs.Reasons.{LeadsAt, Leads}
+pub use Rattle.flow_model.proofs.AllAt.{all_at}
 
 module _ (functions : List ModelFunction) (nodes : ℕ) (right : HasRightEntries functions nodes) where
   end_before : (f h : ℕ) (one : ModelFunction) → f < h → slice_get functions h ≡ Some one → (slot : Option ModelFunction) → slice_get functions (f + 1) ≡ slot → unwrap_or (option_map (λ o. o.entry) slot) nodes ≤ one.entry
@@ -51,10 +52,6 @@ module _ (functions : List ModelFunction) (nodes : ℕ) (right : HasRightEntries
       | inr ge ↦ omega (arith, le, ge)
     ]
   ]
-
--- what holds of each item holds of one
-pub all_at : {X : Type 0} (P : X → Type 0) (xs : List X) (x : X) → All P xs → Contains xs x → P x
-all_at P xs x all (i, lt, is) = subst P is (all i x lt)
 
 -- a site has one call edge
 pub one_call : (g : Graph) → IsValid g → (c d : Call) → Contains g.calls c → Contains g.calls d → c.site ≡ d.site → c ≡ d

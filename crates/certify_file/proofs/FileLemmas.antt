@@ -26,6 +26,8 @@ use Rattle.certify_file.specs.Lines.{certificate_line, IsCertificateLine, IsAnyJ
 use Rattle.certify_file.proofs.Parts.{IsEnded, has_feed, no_feed_within, free_stands}
 use Rattle.certify_file.proofs.LineLemmas.{fact_line_ended, line_ended, which_ended, verdict_ended}
 use Rattle.certify_file.proofs.FreeLemmas.{end_line, lines_of, which_free, verdict_free, line_free}
+use Rattle.line_text.proofs.FirstLines.{first_of, nonempty_first, nil_front}
+pub use Rattle.line_text.proofs.FirstLines.{first_is_line}
 
 -- what may follow
 
@@ -259,31 +261,6 @@ fact_missed judge verdict ls text rest line later miss counted right few is firs
 
 -- the end line
 
-first_of : (text : List ℕ) → (line : List ℕ) × (rest : List ℕ) × IsFirstLine text line rest
-first_of [] = ([], [], unended (λ has. omega (arith, has.1)) refl refl)
-first_of (b ∷ text) =
-    elim (cases_eq b 10) [
-      | inl is ↦ (b ∷ [], text, ended [] (λ has. omega (arith, has.1)) (ap (λ (c : ℕ). c ∷ []) is) refl)
-      | inr other ↦ let more = first_of text in (b ∷ more.0, more.1, longer b text more.0 more.1 other more.2)
-    ]
-  where
-    lacks_more : (b : ℕ) (text : List ℕ) → (b ≡ 10 → ⊥) → (Contains text 10 → ⊥) → Contains (b ∷ text) 10 → ⊥
-    lacks_more b text other none (zero, within, is) = other is
-    lacks_more b text other none (suc k, within, is) = none (k, omega (arith, within), is)
-
-    longer : (b : ℕ) (text line rest : List ℕ) → (b ≡ 10 → ⊥) → IsFirstLine text line rest → IsFirstLine (b ∷ text) (b ∷ line) rest
-    longer b text line rest other (ended front none is whole) = ended (b ∷ front) (lacks_more b front other none) (ap (λ (t : List ℕ). b ∷ t) is) (ap (λ (t : List ℕ). b ∷ t) whole)
-    longer b text line rest other (unended none end whole) = unended (lacks_more b line other none) end (ap (λ (t : List ℕ). b ∷ t) whole)
-
-nonempty_first : (text line rest : List ℕ) → IsFirstLine text line rest → text ≢ [] → line ≢ []
-nonempty_first text line rest (ended [] none is whole) some empty = let same : ◌≡◌ {A = List ℕ} (10 ∷ []) [] = sym is ∙ empty in cc
-nonempty_first text line rest (ended (b ∷ front) none is whole) some empty = let same : b ∷ (front ++ 10 ∷ []) ≡ [] = sym is ∙ empty in cc
-nonempty_first text line rest (unended none end whole) some empty = some (whole ∙ empty)
-
-nil_front : (a b : List ℕ) → a ++ b ≡ [] → a ≡ []
-nil_front [] b is = refl
-nil_front (c ∷ a) b is = cc
-
 -- bytes after the end line
 pub bytes_after_end : (judge : Judge) (verdict : Verdict) (ls : List FactLine) (text rest later : List ℕ) (n : ℕ) → IsCounted verdict → All (IsRightLine judge) ls → length ls ≤ most → text ≡ lines_of ls ++ rest → rest ≡ end_line ++ later → later ≢ [] → n ≡ length ls → IsLinesRefusal (BadLine (n + 5)) (certificate_head ++ (which_line judge ++ (verdict_line verdict ++ text)))
 bytes_after_end judge verdict ls text rest later n counted right few is stands some count =
@@ -328,9 +305,6 @@ one_too_many judge verdict ls l text rest later counted right right_l full is fi
 pub line_stands : {V : Type 0} (Fits : V → Type 0) (text : V → List ℕ) (v : V) (rest line later : List ℕ) → IsFirstLine rest line later → StandsFirst Fits text line [] v → rest ≡ text v ++ later
 line_stands Fits text v rest line later first stands =
     first_line_whole rest line later first ∙ ap (λ (t : List ℕ). t ++ later) (stands.stands ∙ append-nil (text v))
-
-pub first_is_line : (text line rest : List ℕ) → IsFirstLine text line rest → IsLine line
-first_is_line text line rest first = (rest, subst (λ (t : List ℕ). IsFirstLine t line rest) (first_line_whole text line rest first) first)
 
 -- a text with too many facts is of no certificate within the limits
 pub many_not_within : (text : List ℕ) (c : Told) → IsCertificate text c → length c.lines ≤ most → HasTooManyFacts text → ⊥

@@ -21,6 +21,7 @@ use Rattle.certify_file.specs.CertificateText.{IsSmall, IsRightLine, fact_text, 
 use Rattle.certify_file.specs.Lines.{has_no_feed, AreSmall, pair_word, IsNodeReason, IsAt, IsLink, IsAtLine, IsLinkLine, certificate_line, IsCertificateLine, IsAnyJudge, which_word}
 use Rattle.certify_file.proofs.Parts.{IsPrefixFree, split_free, case_free, one_free, free_same}
 use Rattle.certify_file.proofs.LineLemmas.{pair_split, label_split, label_pair_split, start_case, silent_case, enter_case, event_case, return_case, callgraph_split, IsPlaceAndReason, place_and_reason, place_split, at_split, AreCallers, callers_text, callers_split, link_split, link_case, at_case, end_case, fact_case, which_split, callgraph_case, stack_case, accepted_case, rejected_case}
+pub use Rattle.line_text.proofs.FirstLines.{end_line}
 
 -- numbers
 
@@ -110,9 +111,6 @@ line_free judge (lines.Fact l) w fits fits_w agree = case_free {make = lines.Fac
 line_free judge lines.End w fits fits_w agree = case_free {make = λ u. lines.End} tt tt (end_case judge (codes "end\n") (omega arith) refl) (one_free (codes "end\n")) w fits_w agree
 
 -- whole texts
-
-abbrev pub end_line : List ℕ
-end_line = codes "end\n"
 
 -- the lines of the facts
 abbrev pub lines_of : List FactLine → List ℕ

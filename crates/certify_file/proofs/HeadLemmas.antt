@@ -21,6 +21,7 @@ use Rattle.certify_file.specs.CertificateText.{which_line, verdict_line, certifi
 use Rattle.certify_file.specs.Lines.{HasOtherNumber, IsHeadRefusal, IsLinesRefusal, refusal_of}
 use Rattle.certify_file.proofs.FreeLemmas.{end_line, lines_of, texts_same, same_certificate}
 use Rattle.certify_file.proofs.FileLemmas.{head_ended, some_judged, judged_formed, many_not_bad, many_not_cut, many_not_within, unended_is}
+use Rattle.line_text.proofs.FirstLines.{line_alone, nonempty_rest, through_begins}
 
 abbrev word : List ℕ
 word = codes "dyckmon-certificate "
@@ -55,9 +56,6 @@ head_version = inr (ap (λ (t : List ℕ). word ++ t ++ 10 ∷ []) (sym (decimal
 pub head_no_other : HasOtherNumber certificate_head → ⊥
 head_no_other other = other_number certificate_head 1 (omega arith) head_version other refl
 
-line_alone : (text line rest other more : List ℕ) → IsFirstLine text line rest → IsFirstLine text other more → other ≡ line
-line_alone text line rest other more first second = sym (through_first text other more second) ∙ through_first text line rest first
-
 version_of_text : (text line rest : List ℕ) → IsFirstLine text line rest → HasOtherNumber line → HasOtherCertificateVersion text
 version_of_text text line rest first (n, small, other, stands) = record { line = line; rest = rest; first = first; number = n; small = small; other = other; stands = stands }
 
@@ -84,10 +82,6 @@ head_refused line new Short none memory reads = (none, reads)
 head_refused line new Wrong none memory reads = (refl, none, reads tt tt)
 
 -- the whole text
-
-nonempty_rest : (a b : List ℕ) → a ≢ [] → a ++ b ≢ []
-nonempty_rest [] b some is = some refl
-nonempty_rest (c ∷ a) b some is = cc
 
 -- why a text is refused whose first line is refused
 pub refused_at_head : (error : CertificateError) (text line rest : List ℕ) → length text ≤ longest → IsFirstLine text line rest → IsHeadRefusal error line → IsCertificateRefusal error text
@@ -129,15 +123,6 @@ refused_after_head error text line rest short first is refused = by_error error 
   by_error NoEnd refused = (short, no_version_after_head text line rest first is, refused.0, refused.1)
 
 -- a text within the limits is refused for want of memory alone
-
-through_begins : (k : ℕ) (text : List ℕ) → (rest : List ℕ) × (text ≡ through k text ++ rest)
-through_begins zero text = (text, refl)
-through_begins (suc k) [] = ([], refl)
-through_begins (suc k) (b ∷ text) =
-    elim (nat_eq b 10) as (λ (t : Bool). (rest : List ℕ) × (b ∷ text ≡ (b ∷ (if t then through k text else through (suc k) text)) ++ rest)) [
-      | true ↦ let more = through_begins k text in (more.0, ap (λ (x : List ℕ). b ∷ x) more.1)
-      | false ↦ let more = through_begins (suc k) text in (more.0, ap (λ (x : List ℕ). b ∷ x) more.1)
-    ]
 
 no_version_in : (text : List ℕ) (c : Told) → IsCertificate text c → HasOtherCertificateVersion text → ⊥
 no_version_in text c read has =

@@ -12,6 +12,8 @@ use Rattle.line_text.specs.Words.{is_in_line}
 use Rattle.line_text.proofs.FilesLemmas.{ends_line}
 use Rattle.line_text.proofs.Splits.{IsSplit, IsCase, err_next, ok_both, err_case, ok_case, nothing_left, agree_head, agree_front, agree_next, prefixes_agree}
 use Rattle.certify_file.specs.Lines.{has_no_feed}
+use Rattle.line_text.proofs.Cases.{agree_back}
+pub use Rattle.line_text.proofs.Cases.{first_agrees, cut_at_start, read_case, IsPrefixFree, one_free}
 
 -- words
 
@@ -55,11 +57,6 @@ module _ {V A : Type 0} {Fits : V → Type 0} {text : V → List ℕ} {First : A
   then_next split old mid new a taken (Ok v) reads = ok_both split old mid new a v taken reads
   then_next split old mid new a taken (Err e) reads = err_next split old mid new a taken e reads
 
--- the first byte of a text that agrees
-pub first_agrees : (b : ℕ) (x old : List ℕ) → Agree (b ∷ x) old → 0 < length old → get_or old 0 0 ≡ b
-first_agrees b x [] agree some = absurd (omega (arith, some))
-first_agrees b x (c ∷ y) agree some = sym (agree_head b c x y agree)
-
 -- the second byte of a text that agrees
 pub second_agrees : (b c : ℕ) (x old : List ℕ) → Agree (b ∷ c ∷ x) old → 1 < length old → get_or old 1 0 ≡ c
 second_agrees b c x [] agree some = absurd (omega (arith, some))
@@ -74,16 +71,6 @@ second_agrees b c x (d ∷ e ∷ y) agree some = sym (agree_head c e x y (tails 
     where
       drop_first : (s t : List ℕ) (b d : ℕ) → b ∷ s ≡ d ∷ t → s ≡ t
       drop_first s t b d is = cc
-
--- where no byte is left, a line that ends with its line feed is cut short
-pub cut_at_start : {V : Type 0} (Fits : V → Type 0) (text : V → List ℕ) (old : List ℕ) → length old ≡ 0 → (v : V) → Fits v → text v ≢ [] → IsCutShort Fits text old
-cut_at_start Fits text [] none v fits some = nothing_left v fits some
-cut_at_start Fits text (b ∷ old) none v fits some = cc
-
--- where a value is its part, it is read as that is
-pub read_case : {V : Type 0} {Fits : V → Type 0} {text : V → List ℕ} (F : V → Type 0) (old new : List ℕ) → IsCase Fits text F text (λ v. v) old → (r : Result V Miss) → Reads F text old new r → Reads Fits text old new r
-read_case F old new one (Ok v) reads = ok_case old new one v reads
-read_case F old new one (Err e) reads = err_case old new new one e reads
 
 -- the line has one line feed, at its end
 abbrev pub IsEnded : List ℕ → Type 0
@@ -109,14 +96,6 @@ whole_line Fits text line new ended first (Err OutOfMemory) reads = tt
 whole_line Fits text line new ended first (Err Short) reads = reads
 whole_line Fits text line new ended first (Err Wrong) reads = reads
 
--- of two values that fit, the text of neither begins that of the other
-abbrev pub IsPrefixFree : {V : Type 0} → (V → Type 0) → (V → List ℕ) → Type 0
-IsPrefixFree {V} Fits text = (v w : V) → Fits v → Fits w → Agree (text w) (text v) → w ≡ v
-
-agree_back : (a b c : List ℕ) → Agree a (b ++ c) → Agree a b
-agree_back a b c (rest, inl is) = prefixes_agree a b rest c is
-agree_back a b c (rest, inr is) = (c ++ rest, inr (is ∙ append_assoc b c rest))
-
 module _ {V A B : Type 0} {Fits : V → Type 0} {text : V → List ℕ} {First : A → Type 0} {first : A → List ℕ} {Next : A → B → Type 0} {next : A → B → List ℕ} {join : A → B → V} where
   pub split_free : IsSplit Fits text First first Next next join → IsPrefixFree First first → ((a : A) → First a → IsPrefixFree (Next a) (next a)) → IsPrefixFree Fits text
   split_free split first_free next_free v w fits_v fits_w agree =
@@ -139,9 +118,6 @@ module _ {V A : Type 0} {Fits : V → Type 0} {text : V → List ℕ} {Part : A 
       let w_is : text w ≡ part p.0 = ap text p.2 ∙ (one.made p.0 p.1).1 in
       let both : Agree (part p.0) (part a) = subst (λ (t : List ℕ). Agree t (part a)) w_is (subst (Agree (text w)) (one.made a fits).1 agree) in
       p.2 ∙ ap make (free a p.0 fits p.1 both)
-
-pub one_free : (word : List ℕ) → IsPrefixFree {V = Unit {0}} (λ u. Unit {0}) (λ u. word)
-one_free word v w fits_v fits_w agree = refl
 
 -- of such values one alone stands first in its own text
 pub free_stands : {V : Type 0} (Fits : V → Type 0) (text : V → List ℕ) → IsPrefixFree Fits text → (v : V) → Fits v → StandsFirst Fits text (text v) [] v

@@ -14,6 +14,7 @@ use Rattle.flow_model.specs.Rules.{IsValid, HasRightEntries}
 use Rattle.certify_facts.proofs.Owning.{all_at, one_call}
 use Rattle.certify_steps.specs.Adding.{Has}
 use Rattle.certify_steps.specs.Reading.{IsCallAt}
+pub use Rattle.flow_model.proofs.OwnersBelow.{contains_none, owner_below}
 
 pub Contains-cons : {X : Type 0} (head x : X) (rest : List X) → Contains rest x → Contains (head ∷ rest) x
 Contains-cons head x rest (i, lt, is) = (suc i, omega (arith, lt), is)
@@ -24,9 +25,6 @@ Contains-cons_cases {X} head x rest (i, lt, is) = by_index i lt is
     by_index : (k : ℕ) → k < suc (length rest) → get_or (head ∷ rest) k x ≡ x → (head ≡ x) ⊎ Contains rest x
     by_index zero within found = inl found
     by_index (suc k) within found = inr (k, omega arith, found)
-
-pub contains_none : {X : Type 0} (x : X) → Contains [] x → ⊥
-contains_none x has = omega (arith, has.1)
 
 module _ {X : Type 0} (p : X → Bool) where
   kept_one : (y x : X) (ys : List X) (b : Bool) → p y ≡ b → (Contains (filter p ys) x ↔ (Contains ys x × (p x ≡ true))) → Contains (cond b (y ∷ filter p ys) (filter p ys)) x ↔ (Contains (y ∷ ys) x × (p x ≡ true))
@@ -115,10 +113,6 @@ module _ (functions : List ModelFunction) (nodes : ℕ) (right : HasRightEntries
   owned_below f a owns =
       let most : end_of functions nodes f ≤ nodes = below_by_option (f + 1) (slice_get functions (f + 1)) refl in
       omega (arith, most, owns.to)
-
--- one owner's node
-pub owner_below : (g : Graph) (a b : ℕ) → IsValid g → HaveOneOwner g.functions g.nodes a b → a < g.nodes
-owner_below g a b valid owner = owned_below g.functions g.nodes valid.entries owner.owner a owner.first
 
 pub silent_below : (g : Graph) (e : SilentEdge) → IsValid g → Contains g.silent e → e.from < g.nodes
 silent_below g e valid has = owner_below g e.from e.to valid (all_at (λ e. HaveOneOwner g.functions g.nodes e.from e.to) g.silent e valid.edges.silent has)

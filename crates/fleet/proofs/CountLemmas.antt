@@ -13,12 +13,9 @@ use Rattle.trace_file.specs.Processes.{AreKnown}
 use Rattle.std.specs.FinSet.{len-empty}
 use Rattle.std.specs.Ordering.{nat_cmp}
 use Rattle.trace_file.proofs.ProcessesLemmas.{known_push, known_length}
+use Rattle.dm_base.proofs.Without.{without}
 
 -- the list without a number
-
-without : ℕ → List ℕ → List ℕ
-without n [] = []
-without n (x ∷ xs) = if nat_eq x n then without n xs else x ∷ without n xs
 
 without_le : (n : ℕ) (xs : List ℕ) → length (without n xs) ≤ length xs
 unfolding without

@@ -35,13 +35,9 @@ use Rattle.fleet.specs.Fleets.{Judged, IsMember, StandsFor, Watches, pids}
 use Rattle.fleet.specs.Going.{IsAtStage, IsOpen, IsStarted, numbers}
 use Rattle.fleet.specs.Members.{Group, Member, new_member}
 use Rattle.fleet.proofs.ZipLemmas.{some_same, map_length, zip_length, zip_push, zip_right, zip_weaker}
+use Rattle.watch.proofs.NothingKept.{nothing_kept}
 
 -- the empty history is accepted
-
-nothing_kept : (which : Which) (g : Graph) (bound entry exit : ℕ) → HasFunction g g.start entry exit → IsKept which g bound []
-nothing_kept Callgraph g bound entry exit begins = (entry, exit, entry, begins, walk_over)
-nothing_kept Stack g bound entry exit begins = (entry, exit, entry, [], begins, stack_over)
-nothing_kept Dyck g bound entry exit begins = ((entry, exit, entry, [], begins, dyck_over), let none : depth [] ≡ 0 = refl in omega (arith, none))
 
 -- what stands at a place of a list
 some_there : {X : Type 0} (xs : List X) (i : ℕ) → i < length xs → (x : X) × (slice_get xs i ≡ Some x)

@@ -12,6 +12,7 @@ use Rattle.line_text.proofs.NumberLemmas.{front_same, front_of_shorter, front_le
 use Rattle.fleet_schedule.specs.declared.line.Line.{Line}
 use Rattle.fleet_schedule.specs.Lines.{IsFresh}
 use Rattle.fleet_schedule.specs.ScheduleText.{IsRightLine, pids}
+pub use Rattle.dm_base.proofs.Without.{without}
 
 -- the numbers by their places
 
@@ -28,10 +29,6 @@ pid_place (l ∷ ps) p (suc k, within, is) =
     (suc more.0, omega (arith, more.1), more.2)
 
 -- a number that is not in a list
-
-pub without : ℕ → List ℕ → List ℕ
-without n [] = []
-without n (x ∷ xs) = if nat_eq x n then without n xs else x ∷ without n xs
 
 without_le : (n : ℕ) (xs : List ℕ) → length (without n xs) ≤ length xs
 unfolding without

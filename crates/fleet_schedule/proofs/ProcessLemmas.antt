@@ -17,15 +17,12 @@ use Rattle.fleet_schedule.proofs.ComparedLemmas.{IsTold}
 use Rattle.fleet_schedule.proofs.FileNameLemmas.{name-IsPlain, some_name}
 use Rattle.fleet_schedule.proofs.Narrowing.{IsPart, IsWhole, With}
 use Rattle.fleet_schedule.proofs.PidLemmas.{pid_small, some_fresh}
+use Rattle.line_text.proofs.Separators.{no_feed_space, space, feed}
 
 -- line feeds
 
 pub no_feed_append : (a b : List ℕ) → (Contains a 10 → ⊥) → (Contains b 10 → ⊥) → Contains (a ++ b) 10 → ⊥
 no_feed_append a b in_a in_b has = elim (Contains-append_cases a b 10 has) [ inl front ↦ in_a front | inr back ↦ in_b back ]
-
-no_feed_space : Contains {X = ℕ} (32 ∷ []) 10 → ⊥
-no_feed_space (zero, within, is) = omega (arith, is)
-no_feed_space (suc k, within, is) = omega (arith, within)
 
 no_feed_two : (b : ℕ) → b ≢ 10 → Contains {X = ℕ} (b ∷ 32 ∷ []) 10 → ⊥
 no_feed_two b other (zero, within, is) = other is
@@ -212,12 +209,6 @@ flattened l x = simp append_assoc
 
 behind_word : (b : ℕ) (s t : List ℕ) → b ∷ 32 ∷ s ≡ b ∷ 32 ∷ t → s ≡ t
 behind_word b s t is = cc
-
-space : IsEnd 32
-space = inl refl
-
-feed : IsEnd 10
-feed = inr refl
 
 pub process_told : IsTold IsRightLine process_line
 unfolding flat_process

@@ -28,10 +28,8 @@ use Rattle.fleet_schedule.proofs.ComparedLemmas.{compare}
 use Rattle.fleet_schedule.proofs.LineLemmas.{line_ends}
 use Rattle.fleet_schedule.proofs.PidLemmas.{pid_small}
 use Rattle.fleet_schedule.proofs.ProcessLemmas.{IsSmall, advance_ends, advance_front, advance_no_feed, advance_not_end, advance_told, process_ends, process_front, process_no_feed, process_not_advance, process_not_end, process_told}
-
--- the end line
-abbrev end_line : List ℕ
-end_line = codes "end\n"
+use Rattle.line_text.proofs.FirstLines.{first_of, nonempty_first, nil_front, end_line, line_alone, nonempty_rest, through_begins, lacks, unended_is}
+pub use Rattle.line_text.proofs.FirstLines.{first_is_line}
 
 -- lists of processes and advances
 
@@ -166,10 +164,6 @@ rest_formed : (w : List ℕ) → IsRest [] [] w → IsFormedSchedule (schedule_h
 rest_formed w rest = (record { processes = rest.more; order = rest.later }, record { right = rest.right; is = ap (λ (x : List ℕ). schedule_head ++ x) rest.is })
 
 -- a line feed in a text, told by a test that computes
-
-lacks : List ℕ → Bool
-lacks [] = true
-lacks (b ∷ text) = not (nat_eq b 10) && lacks text
 
 lacks_feed : (text : List ℕ) → lacks text ≡ true → Contains text 10 → ⊥
 unfolding lacks
@@ -393,18 +387,10 @@ wrong_schedule_line text ps order advancing rest line later n reading test first
 
 -- a line that is cut
 
-unended_is : (rest line later : List ℕ) → IsFirstLine rest line later → (Contains line 10 → ⊥) → rest ≡ line
-unended_is rest line later (ended front none is whole) no_feed = absurd (no_feed (subst (λ (t : List ℕ). Contains t 10) (sym is) (Contains-append_right front (10 ∷ []) 10 (0, omega arith, refl))))
-unended_is rest line later (unended none end whole) no_feed = whole
-
 has_feed : (v : ScheduleLine) (after : List ℕ) → Contains (schedule_line v ++ after) 10
 has_feed v after =
     let ends = line_ends v in
     Contains-append_left (schedule_line v) after 10 (subst (λ (t : List ℕ). Contains t 10) (sym ends.1) (Contains-append_right ends.0 (10 ∷ []) 10 (0, omega arith, refl)))
-
-nonempty_rest : (a b : List ℕ) → a ≢ [] → a ++ b ≢ []
-nonempty_rest [] b some is = some refl
-nonempty_rest (c ∷ a) b some is = cc
 
 rest_of_cut : (ps : List Line) (order : List ℕ) (advancing : Bool) (line : List ℕ) → AreRight ps order → Tells advancing order → IsCutShort (MayStand ps advancing) schedule_line line → (w : List ℕ) × (w ≢ []) × IsRest ps order (line ++ w)
 rest_of_cut ps order advancing line right test cut = by_value cut.value cut.fits cut.goes_on where
@@ -448,31 +434,6 @@ finished text ps order rest later reading is none = (
   record { processes = reading.few; order = reading.short },
 )
 
-first_of : (text : List ℕ) → (line : List ℕ) × (rest : List ℕ) × IsFirstLine text line rest
-first_of [] = ([], [], unended (λ has. omega (arith, has.1)) refl refl)
-first_of (b ∷ text) =
-    elim (cases_eq b 10) [
-      | inl is ↦ (b ∷ [], text, ended [] (λ has. omega (arith, has.1)) (ap (λ (c : ℕ). c ∷ []) is) refl)
-      | inr other ↦ let more = first_of text in (b ∷ more.0, more.1, longer b text more.0 more.1 other more.2)
-    ]
-  where
-    lacks_more : (b : ℕ) (text : List ℕ) → (b ≡ 10 → ⊥) → (Contains text 10 → ⊥) → Contains (b ∷ text) 10 → ⊥
-    lacks_more b text other none (zero, within, is) = other is
-    lacks_more b text other none (suc k, within, is) = none (k, omega (arith, within), is)
-
-    longer : (b : ℕ) (text line rest : List ℕ) → (b ≡ 10 → ⊥) → IsFirstLine text line rest → IsFirstLine (b ∷ text) (b ∷ line) rest
-    longer b text line rest other (ended front none is whole) = ended (b ∷ front) (lacks_more b front other none) (ap (λ (t : List ℕ). b ∷ t) is) (ap (λ (t : List ℕ). b ∷ t) whole)
-    longer b text line rest other (unended none end whole) = unended (lacks_more b line other none) end (ap (λ (t : List ℕ). b ∷ t) whole)
-
-nonempty_first : (text line rest : List ℕ) → IsFirstLine text line rest → text ≢ [] → line ≢ []
-nonempty_first text line rest (ended [] none is whole) some empty = let same : ◌≡◌ {A = List ℕ} (10 ∷ []) [] = sym is ∙ empty in cc
-nonempty_first text line rest (ended (b ∷ front) none is whole) some empty = let same : b ∷ (front ++ 10 ∷ []) ≡ [] = sym is ∙ empty in cc
-nonempty_first text line rest (unended none end whole) some empty = some (whole ∙ empty)
-
-nil_front : (a b : List ℕ) → a ++ b ≡ [] → a ≡ []
-nil_front [] b is = refl
-nil_front (c ∷ a) b is = cc
-
 pub end_refused : (text : List ℕ) (ps : List Line) (order : List ℕ) (rest later : List ℕ) (n : ℕ) → IsReading text ps order rest → rest ≡ end_line ++ later → later ≢ [] → n ≡ length ps + length order → (HasTooMany (schedule_head ++ text) → ⊥) × IsBadLine IsFormedSchedule (schedule_head ++ text) (n + 3)
 end_refused text ps order rest later n reading is some count =
     let done : List ℕ = schedule_head ++ (processes_text ps ++ order_text order) in
@@ -495,9 +456,6 @@ later_shorter v rest later is =
 pub line_stands : (ps : List Line) (advancing : Bool) (v : ScheduleLine) (rest line later : List ℕ) → IsFirstLine rest line later → StandsFirst (MayStand ps advancing) schedule_line line [] v → rest ≡ schedule_line v ++ later
 line_stands ps advancing v rest line later first stands =
     first_line_whole rest line later first ∙ ap (λ (t : List ℕ). t ++ later) (stands.stands ∙ append-nil (schedule_line v))
-
-pub first_is_line : (text line rest : List ℕ) → IsFirstLine text line rest → IsLine line
-first_is_line text line rest first = (rest, subst (λ (t : List ℕ). IsFirstLine t line rest) (first_line_whole text line rest first) first)
 
 -- the first line
 
@@ -531,9 +489,6 @@ head_version = inr (ap (λ (t : List ℕ). codes "dyckmon-fleet " ++ t ++ 10 ∷
 -- the right first line has no other number
 head_no_other : HasOtherNumber schedule_head → ⊥
 head_no_other other = other_number schedule_head 1 (omega arith) head_version other refl
-
-line_alone : (text line rest other more : List ℕ) → IsFirstLine text line rest → IsFirstLine text other more → other ≡ line
-line_alone text line rest other more first second = sym (through_first text other more second) ∙ through_first text line rest first
 
 version_of_text : (text line rest : List ℕ) → IsFirstLine text line rest → HasOtherNumber line → HasOtherScheduleVersion text
 version_of_text text line rest first (n, small, other, stands) = record { line = line; rest = rest; first = first; number = n; small = small; other = other; stands = stands }
@@ -600,15 +555,6 @@ read_whole text line rest s short first is read few = record {
 }
 
 -- a formed text is refused for want of memory alone
-
-through_begins : (k : ℕ) (text : List ℕ) → (rest : List ℕ) × (text ≡ through k text ++ rest)
-through_begins zero text = (text, refl)
-through_begins (suc k) [] = ([], refl)
-through_begins (suc k) (b ∷ text) =
-    elim (nat_eq b 10) as (λ (t : Bool). (rest : List ℕ) × (b ∷ text ≡ (b ∷ (if t then through k text else through (suc k) text)) ++ rest)) [
-      | true ↦ let more = through_begins k text in (more.0, ap (λ (x : List ℕ). b ∷ x) more.1)
-      | false ↦ let more = through_begins (suc k) text in (more.0, ap (λ (x : List ℕ). b ∷ x) more.1)
-    ]
 
 end_not_process : (order : List ℕ) (l : Line) (u after : List ℕ) → order_text order ++ (end_line ++ u) ≡ process_line l ++ after → ⊥
 end_not_process [] l u after is = process_not_end l after u (sym is)

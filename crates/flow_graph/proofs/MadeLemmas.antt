@@ -24,6 +24,7 @@ use Rattle.flow_graph.specs.declared.shape.Shape.{Shape as Tree}
 use Rattle.flow_graph.specs.View.{shape_of, shapes_in}
 use Rattle.flow_graph.specs.Places.{call_of}
 use Rattle.flow_graph.proofs.OrderedCalls.{ordered_calls}
+use Rattle.flow_model.proofs.ApartLemmas.{rises_apart}
 
 -- the records of shapes
 abbrev pub records_of : Program → List Shape → Records
@@ -39,12 +40,6 @@ graph_made p n h b fs nodes start are is many first =
     ap₂ (λ k s. graph_of_records b k s) (many ∙ ap (nodes_from 0) are) first
     ∙ ap (λ r. graph_of_records r (nodes_from 0 (shapes_of_functions p)) p.main) (is ∙ ap (records_of p) are)
     ∙ (λ i. record (graph_of_program p) { calls = ordered_calls (shapes_of p) (closed p n h) i })
-
-rises_apart : {X : Type 0} {order : X → X → Ordering} → IsTotalOrder order → (x y : X) → order x y ≡ Less → x ≡ y → ⊥
-rises_apart {order = order} total x y less same = less≢equal (sym less ∙ ap (λ z. order z y) same ∙ tied_itself total y)
-  where
-    less≢equal : Less ≡ Equal → ⊥
-    less≢equal e = absurd (cc)
 
 no_repeats : (g : Graph) → IsInOrder g → HasNoRepeats g
 no_repeats g order = record {

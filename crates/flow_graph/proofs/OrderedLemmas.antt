@@ -14,32 +14,14 @@ use Rattle.flow_graph_laws.specs.Sorted.{sorted}
 use Rattle.flow_graph_laws.proofs.SortedLemmas.{sorted_from, sorted_has}
 use Rattle.flow_graph_laws.proofs.Rising.{pairs_cons, pairs_nil, pairs_head, pairs_tail, of_all, sorted_rises}
 use Rattle.c_shapes.proofs.Members.{cases}
+use Rattle.flow_model.proofs.EquivalenceLemmas.{equivalence, equal_from}
+pub use Rattle.flow_model.proofs.EquivalenceLemmas.{tied}
 
 -- a strictly sorted list rises
 pub rises : {X : Type 0} (order : X → X → Ordering) (xs : List X) → IsStrictlySortedBy order xs → StrictlyRise order xs
 unfolding IsStrictlySortedBy
 rises order [] h = pairs_nil (λ x y. order x y ≡ Less)
 rises order (x ∷ xs) h = pairs_cons (λ x y. order x y ≡ Less) x xs (of_all (λ y. order x y ≡ Less) xs (All-from_recursion (λ y. order x y ≡ Less) xs h.0)) (rises order xs h.1)
-
--- a test that tells what an order ties
-equivalence : {X : Type 0} {order : X → X → Ordering} (total : IsTotalOrder order) (E : X → X → Bool) → ((x y : X) → E x y ≡ eq_by_cmp order x y) → IsEquivalence E
-equivalence total E ties =
-    let laws = eq_by_cmp_equiv total in
-    record {
-      refl = λ x. ties x x ∙ laws.refl x;
-      symm = λ x y. ties x y ∙ laws.symm x y ∙ sym (ties y x);
-      congr = λ x y z e. ties x z ∙ laws.congr x y z (sym (ties x y) ∙ e) ∙ sym (ties y z);
-    }
-
-equal_from : (o : Ordering) → is_eq o ≡ true → o ≡ Equal
-equal_from Less h = absurd cc
-equal_from Equal h = refl
-equal_from Greater h = absurd cc
-
-pub tied : {X : Type 0} {order : X → X → Ordering} (total : IsTotalOrder order) (E : X → X → Bool) → ((x y : X) → E x y ≡ eq_by_cmp order x y) → (xs : List X) (x : X) → Contains xs x → (y : X) × Contains (dedup E xs) y × (order x y ≡ Equal)
-tied {order = order} total E ties xs x has =
-    let (k, y, lt, at, same) = Any-dedup (equivalence total E ties) xs x has in
-    (y, (k, lt, at), equal_from (order x y) (sym (ties x y) ∙ same))
 
 module _ {X : Type 0} (order : X → X → Ordering) (total : IsTotalOrder order) where
   apart : (x y : X) → order x y ≡ Less → order y x ≡ Less → ⊥

@@ -18,6 +18,7 @@ use Rattle.flow_graph.specs.declared.shape.Shape.{Shape as Tree}
 use Rattle.flow_graph.specs.View.{shape_of, shapes_in}
 use Rattle.flow_graph.specs.Sited.{stmt_at}
 use Rattle.flow_graph.proofs.Told.{defined_told}
+pub use Rattle.call_graph.proofs.BelowOrAt.{below_or_at}
 
 past_end : (xs : List Bool) (s : ℕ) → length xs ≤ s → slice_index_or xs s false ≡ false
 past_end [] zero le = refl
@@ -35,11 +36,6 @@ before_end : (xs : List Bool) (b : Bool) (k : ℕ) → k < length xs → slice_i
 before_end [] b k lt = absurd (omega (arith, lt))
 before_end (x ∷ xs) b zero lt = refl
 before_end (x ∷ xs) b (suc k) lt = before_end xs b k (omega (arith, lt))
-
-pub below_or_at : (k n : ℕ) → (k < n) ⊎ (n ≤ k)
-below_or_at k zero = inr (omega arith)
-below_or_at zero (suc n) = inl (omega arith)
-below_or_at (suc k) (suc n) = elim (below_or_at k n) as (λ _. (suc k < suc n) ⊎ (suc n ≤ suc k)) [ inl lt ↦ inl (omega (arith, lt)) | inr le ↦ inr (omega (arith, le)) ]
 
 -- the sites below i have their marks
 pub record AreMarks (mark : ℕ → Bool) (i : ℕ) (xs : List Bool) : Type 0 where

@@ -13,11 +13,7 @@ use Rattle.flow_graph.specs.Edges.{edge_of, edges_in}
 use Rattle.flow_graph_laws.specs.Layout.{Edge, edge}
 use Rattle.flow_graph.specs.declared.sites.SiteEdge.{SiteEdge}
 use Rattle.flow_graph.specs.SiteEdges.{site_edges, site_edge_order}
-
-both_equal : (p q : Ordering) → ordering_then p q ≡ Equal → (p ≡ Equal) × (q ≡ Equal)
-both_equal Less q e = cc
-both_equal Equal q e = (refl, e)
-both_equal Greater q e = cc
+use Rattle.flow_model.proofs.OrderLemmas.{both_equal}
 
 pub site_edge_order_total : IsTotalOrder site_edge_order
 site_edge_order_total = then_total (on_total (λ e. e.site) nat_cmp_total) (then_total (on_total (λ e. e.from) nat_cmp_total) (on_total (λ e. e.to) nat_cmp_total))

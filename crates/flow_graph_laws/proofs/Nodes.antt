@@ -13,6 +13,7 @@ use Rattle.flow_graph_laws.proofs.Edges.{Lays, LaysParts}
 use Rattle.flow_graph_laws.proofs.Edges as L
 use Rattle.flow_graph_laws.proofs.Functions.{g as graph, entry_at, laid_from, one_from}
 use Rattle.flow_graph_laws.proofs.Stray.{allowed}
+use Rattle.c_shapes.proofs.Walking.{target, part_target}
 
 -- silent steps, one step with the label l, and silent steps
 data Path {P : Type 0} (H : P → Label → Target P → Type 0) : P → Label → Target P → Type 0 where
@@ -148,18 +149,6 @@ mutual
     part_head : {S : Shape} {ps : Parts} {i n : ℕ} {p : Places} → PartRep (Part S ps) i n p i (this before)
     r_this : {S : Shape} {ps : Parts} {i n v : ℕ} {p : Places} {x : Point S} → Rep S n (group p ps (i + 1)) v x → PartRep (Part S ps) i n p v (this x)
     r_later : {S : Shape} {ps : Parts} {i n v : ℕ} {p : Places} {k : PartPoint ps} → PartRep ps (i + 1) (n + width S) p v k → PartRep (Part S ps) i n p v (later k)
-
-abbrev target : {S : Shape} → Leave → Target (Point S)
-target goes_on = at after
-target breaks = by_break
-target continues = by_continue
-target returns = by_return
-
-abbrev part_target : {ps : Parts} → Leave → Target (PartPoint ps)
-part_target goes_on = past
-part_target breaks = by_break
-part_target continues = by_continue
-part_target returns = by_return
 
 module _ (env : Shapes) (g : Graph) where
   -- a path of points for an edge to the node w

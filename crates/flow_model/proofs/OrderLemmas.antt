@@ -16,7 +16,7 @@ use Rattle.flow_model.specs.Order.{silent_order, sys_order, site_order}
 record TiesEqual {X : Type 0} (R : X → X → Ordering) : Type 0 where
   at : (x y : X) → R x y ≡ Equal → x ≡ y
 
-both_equal : (p q : Ordering) → ordering_then p q ≡ Equal → (p ≡ Equal) × (q ≡ Equal)
+pub both_equal : (p q : Ordering) → ordering_then p q ≡ Equal → (p ≡ Equal) × (q ≡ Equal)
 both_equal Less q e = cc
 both_equal Equal q e = (refl, e)
 both_equal Greater q e = cc

@@ -29,13 +29,7 @@ use Rattle.inline_model_laws.proofs.Basics.{entry_is}
 use Rattle.inline_model_laws.proofs.InlinedLemmas.{has_copy, node_of}
 use Rattle.inline_model_laws.proofs.Rising.{cons_cases, pairs_nil, pairs_cons}
 use Rattle.inline_model_laws.proofs.Rising.{all_from}
-
--- a model that keeps the rules breaks none
-rises_apart : {X : Type 0} {order : X → X → Ordering} → IsTotalOrder order → (x y : X) → order x y ≡ Less → x ≡ y → ⊥
-rises_apart {order = order} total x y less same = less≢equal (sym less ∙ ap (λ z. order z y) same ∙ tied_itself total y)
-  where
-    less≢equal : Less ≡ Equal → ⊥
-    less≢equal e = absurd (cc)
+use Rattle.flow_model.proofs.ApartLemmas.{rises_apart}
 
 no_repeats : (g : Graph) → IsInOrder g → HasNoRepeats g
 no_repeats g order = record {

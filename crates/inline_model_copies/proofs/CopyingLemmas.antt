@@ -38,6 +38,7 @@ use Rattle.inline_model_copies.specs.Named.IsFrom.{begins, continues}
 use Rattle.inline_model_copies.specs.Copying.{nodes_of, waiting_of, item_of, IsAwaited, AreAwaited, Follow, IsCopying}
 use Rattle.inline_model_copies.specs.Copying.AreAwaited.{none, more}
 use Rattle.inline_model_copies.specs.Copying.Follow.{over, next}
+use Rattle.flow_model.proofs.LessLemmas.{less_from_lt}
 
 slice_get-append : {X : Type 0} (xs ys : List X) (i : ℕ) (x : X) → slice_get xs i ≡ Some x → slice_get (xs ++ ys) i ≡ Some x
 slice_get-append [] ys i x at = absurd (let two : None ≡ Some x = at in cc)
@@ -160,9 +161,6 @@ then_cases a b o h = by_first (nat_cmp a b) refl h
     by_first Less is e = inl (lt_from_less a b is)
     by_first Equal is e = inr ((numbers_tie a b).0 is, e)
     by_first Greater is e = absurd (cc)
-
-less_from_lt : (a b : ℕ) → a < b → nat_cmp a b ≡ Less
-less_from_lt a b lt = sym (nat_cmp_is a b Less lt)
 
 contains_map : {X Y : Type 0} (f : X → Y) (xs : List X) (x : X) → Contains xs x → Contains (map f xs) (f x)
 contains_map f xs x (k, lt, is) = (k, omega (arith, length-map xs f), get_or-map f xs k x (f x) lt ∙ ap f is)

@@ -10,60 +10,21 @@ use Rattle.std.proofs.lemmas.Cmp.{eq_by_cmp_equiv}
 use Rattle.std.proofs.lemmas.List.Elements.{All-from_recursion, Contains-get_or}
 use Rattle.std.proofs.lemmas.List.Kept.{Any-dedup, AllPairs-cons}
 use Rattle.flow_model.specs.Order.{StrictlyRise}
+pub use Rattle.dm_base.proofs.Orders.{is_first, is_later}
+use Rattle.flow_model.proofs.EquivalenceLemmas.{equivalence, equal_from}
+pub use Rattle.flow_model.proofs.EquivalenceLemmas.{tied}
+use Rattle.flow_model.proofs.PairsLemmas.{of_all}
+pub use Rattle.flow_model.proofs.PairsLemmas.{all_from, pairs_cons, pairs_head, pairs_tail, pairs_nil}
 
 pub cons_cases : {X : Type 0} (x : X) (xs : List X) (z : X) → Contains (x ∷ xs) z → (x ≡ z) ⊎ Contains xs z
 cons_cases x xs z (zero, lt, is) = inl is
 cons_cases x xs z (suc k, lt, is) = inr (k, omega arith, is)
-
-pub is_first : {X : Type 0} (x : X) (xs : List X) → Contains (x ∷ xs) x
-is_first x xs = (0, omega arith, refl)
-
-pub is_later : {X : Type 0} (x : X) (xs : List X) (z : X) → Contains xs z → Contains (x ∷ xs) z
-is_later x xs z (k, lt, is) = (suc k, omega arith, is)
-
-pub all_from : {X : Type 0} (P : X → Type 0) (xs : List X) → ((z : X) → Contains xs z → P z) → All P xs
-all_from P xs f k d lt = f (slice_index_or xs k d) (Contains-get_or xs k d lt)
-
-of_all : {X : Type 0} (P : X → Type 0) (xs : List X) → All P xs → (z : X) → Contains xs z → P z
-of_all P xs all z (k, lt, is) = subst P is (all k z lt)
-
-pub pairs_nil : {X : Type 0} (R : X → X → Type 0) → AllPairs R []
-pairs_nil R i j d lt within = absurd (omega (arith, within))
-
-pub pairs_cons : {X : Type 0} (R : X → X → Type 0) (x : X) (xs : List X) → ((z : X) → Contains xs z → R x z) → AllPairs R xs → AllPairs R (x ∷ xs)
-pairs_cons R x xs f pairs = AllPairs-cons R x xs (all_from (R x) xs f) pairs
-
-pub pairs_head : {X : Type 0} (R : X → X → Type 0) (x : X) (xs : List X) → AllPairs R (x ∷ xs) → (z : X) → Contains xs z → R x z
-pairs_head R x xs pairs z (k, lt, is) = subst (λ y. R x y) is (pairs 0 (suc k) z (omega arith) (omega (arith, lt)))
-
-pub pairs_tail : {X : Type 0} (R : X → X → Type 0) (x : X) (xs : List X) → AllPairs R (x ∷ xs) → AllPairs R xs
-pairs_tail R x xs pairs i j d lt within = pairs (suc i) (suc j) d (omega (arith, lt)) (omega (arith, within))
 
 -- a strictly sorted list rises
 pub rises : {X : Type 0} (order : X → X → Ordering) (xs : List X) → IsStrictlySortedBy order xs → StrictlyRise order xs
 unfolding IsStrictlySortedBy
 rises order [] h = pairs_nil (λ x y. order x y ≡ Less)
 rises order (x ∷ xs) h = pairs_cons (λ x y. order x y ≡ Less) x xs (of_all (λ y. order x y ≡ Less) xs (All-from_recursion (λ y. order x y ≡ Less) xs h.0)) (rises order xs h.1)
-
--- a test that tells what an order ties
-equivalence : {X : Type 0} {order : X → X → Ordering} (total : IsTotalOrder order) (E : X → X → Bool) → ((x y : X) → E x y ≡ eq_by_cmp order x y) → IsEquivalence E
-equivalence total E ties =
-    let laws = eq_by_cmp_equiv total in
-    record {
-      refl = λ x. ties x x ∙ laws.refl x;
-      symm = λ x y. ties x y ∙ laws.symm x y ∙ sym (ties y x);
-      congr = λ x y z e. ties x z ∙ laws.congr x y z (sym (ties x y) ∙ e) ∙ sym (ties y z);
-    }
-
-equal_from : (o : Ordering) → is_eq o ≡ true → o ≡ Equal
-equal_from Less h = absurd cc
-equal_from Equal h = refl
-equal_from Greater h = absurd cc
-
-pub tied : {X : Type 0} {order : X → X → Ordering} (total : IsTotalOrder order) (E : X → X → Bool) → ((x y : X) → E x y ≡ eq_by_cmp order x y) → (xs : List X) (x : X) → Contains xs x → (y : X) × Contains (dedup E xs) y × (order x y ≡ Equal)
-tied {order = order} total E ties xs x has =
-    let (k, y, lt, at, same) = Any-dedup (equivalence total E ties) xs x has in
-    (y, (k, lt, at), equal_from (order x y) (sym (ties x y) ∙ same))
 
 -- two lists that strictly rise and have the same items are one
 module _ {X : Type 0} (order : X → X → Ordering) (total : IsTotalOrder order) where

@@ -15,6 +15,8 @@ use Rattle.flow_model.specs.Graph.{Graph, HasSilent}
 use Rattle.inline_model_openings.specs.Growth.{HasOne}
 use Rattle.inline_model_openings.specs.Saturating.{HasExit, MayPass, CallsTo, PassesTo, ReturnsTo}
 use Rattle.inline_model_openings.proofs.Items.{filter-contains, filter-pass, contains-filter}
+use Rattle.flow_model.proofs.EdgeLemmas.{or_true, any_of_contains}
+pub use Rattle.flow_model.proofs.EdgeLemmas.{site_at}
 
 -- the call edges that leave the node
 abbrev pub calls_from : Graph → ℕ → List Call
@@ -73,15 +75,6 @@ module _ (g : Graph) (done : Nodes) (node : ℕ) where
   pub end_of_passes : (b : ℕ) → PassesTo g done node b → HasOne (Passes g done) (calls_from g node) b
   end_of_passes b (c, has, from, may, to) = (c, contains-filter (λ (d : Call). nat_eq d.from node) g.calls c has.0 has.1 has.2 (eq-eqb c.from node from), (may, to))
 
-or_true : (b : Bool) → (b || true) ≡ true
-or_true true = refl
-or_true false = refl
-
-any_of_contains : (f : ℕ) (fs : List ℕ) (k : ℕ) → k < length fs → get_or fs k f ≡ f → list_any (λ h. nat_eq h f) fs ≡ true
-any_of_contains f [] k lt is = absurd (omega arith)
-any_of_contains f (h ∷ fs) zero lt is = rw (eq-eqb h f is) refl
-any_of_contains f (h ∷ fs) (suc k) lt is = let later = any_of_contains f fs k (omega arith) is in rw later (or_true (nat_eq h f))
-
 contains_of_any : (f : ℕ) (fs : List ℕ) → list_any (λ h. nat_eq h f) fs ≡ true → Contains fs f
 contains_of_any f [] any = absurd (false≢true any)
 contains_of_any f (h ∷ fs) any = elim (or_cases (nat_eq h f) (list_any (λ k. nat_eq k f) fs) any) [
@@ -102,7 +95,3 @@ module _ (g : Graph) (done : Nodes) (f : ℕ) where
 
   pub end_of_returns : (b : ℕ) → ReturnsTo g done f b → HasOne (Returns done) (calls_of g f) b
   end_of_returns b (c, has, one, from, to) = (c, contains-filter may_enter g.calls c has.0 has.1 has.2 (any_of_contains f c.candidates one.0 one.1 one.2), (from, to))
-
--- the k-th site is that of the k-th call
-pub site_at : (calls : List Call) (k : ℕ) (d : Call) → k < length calls → (get_or calls k d).site ≡ get_or (map (λ c. c.site) calls) k 0
-site_at calls k d lt = sym (get_or-map (λ (c : Call). c.site) calls k d 0 lt)

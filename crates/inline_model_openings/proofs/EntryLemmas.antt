@@ -22,11 +22,7 @@ use Rattle.inline_model_laws.proofs.Basics.{within_owns, one_owner}
 use Rattle.inline_model_openings.specs.declared.table.Entry.{Entry}
 use Rattle.inline_model_openings.specs.Saturating.{IsWithin}
 use Rattle.inline_model_openings.specs.Entries.{entry_order, IsEntry, AreEntries, HasEntries, AddsCall}
-
-both_equal : (p q : Ordering) → ordering_then p q ≡ Equal → (p ≡ Equal) × (q ≡ Equal)
-both_equal Less q e = cc
-both_equal Equal q e = (refl, e)
-both_equal Greater q e = cc
+use Rattle.flow_model.proofs.OrderLemmas.{both_equal}
 
 pub entry_order_total : IsTotalOrder entry_order
 entry_order_total = then_total (on_total (λ e. e.function) nat_cmp_total) (then_total (on_total (λ e. e.place) nat_cmp_total) (on_total (λ e. e.candidate) nat_cmp_total))

@@ -1,7 +1,11 @@
+pub mod Cases
 pub mod FilesLemmas
+pub mod FirstLines
 pub mod HexadecimalLemmas
 pub mod IntegerLemmas
+pub mod Narrowing
 pub mod NumberLemmas
+pub mod Separators
 pub mod Splits
 pub mod VersionLemmas
 pub mod WordLemmas

@@ -9,6 +9,7 @@ use Rattle.std.proofs.lemmas.List.Elements.{Contains-append_right}
 use Rattle.std.proofs.lemmas.Str.Parse.{IsNumeralModel, numerals_by_value, tells_digits, not_in_digits}
 use lib.Pointwise.{pointwise}
 use Rattle.line_text.specs.Files.{IsVersionLine}
+use Rattle.dm_base.proofs.Decimals.{own}
 
 pub first_part : (word text : List ℕ) → pointwise nat_eq (take (length word) text) word ≡ true → text ≡ word ++ drop (length word) text
 first_part word text same =
@@ -21,14 +22,11 @@ pub last_part : (word text : List ℕ) → pointwise nat_eq (drop (length text -
 last_part word text same =
     sym (take-append-drop (length text - length word) text) ∙ ap (λ (w : List ℕ). take (length text - length word) text ++ w) (same_text (drop (length text - length word) text) word (sym same))
 
-own : IsNumeralModel (AllDigits 10) (digits_value 10)
-own = numerals_by_value (AllDigits 10) tells_digits
-
 pub decimal-no_feed : (n : ℕ) → n < 2 ^ 64 → Contains (decimal n) 10 → ⊥
 decimal-no_feed n small has =
     not_in_digits own (decimal n) 10 (digits_decimal own n small) (λ digit. omega (arith, digit.0)) has.0 has.1 (get_or_default (decimal n) has.0 0 10 has.1 ∙ has.2)
 
-has_last : (front : List ℕ) → Contains (front ++ 10 ∷ []) 10
+pub has_last : (front : List ℕ) → Contains (front ++ 10 ∷ []) 10
 has_last front = Contains-append_right front (10 ∷ []) 10 (0, omega arith, refl)
 
 -- no version stands where there is no number before the line feed

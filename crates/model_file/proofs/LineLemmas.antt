@@ -6,6 +6,7 @@ use Rattle.line_text.specs.Words.{is_in_line, number_word}
 use Rattle.line_text.proofs.VersionLemmas.{decimal-no_feed}
 use Rattle.model_file.specs.ModelText.{IsSmall}
 use Rattle.model_file.proofs.Narrowing.{IsPart}
+pub use Rattle.line_text.proofs.Separators.{no_feed_space}
 
 no_feed_first : (b : ℕ) (later : Bool) → (not (nat_eq b 10) && later) ≡ true → b ≡ 10 → ⊥
 no_feed_first b later both is =
@@ -26,11 +27,6 @@ in_line_word (b ∷ []) in_line = refl
 in_line_word (b ∷ c ∷ word) in_line =
     let both = and_parts (not (nat_eq b 10)) (is_in_line (c ∷ word ++ 32 ∷ [])) in_line in
     ap (λ t. t && is_in_line (c ∷ word)) both.0 ∙ in_line_word (c ∷ word) both.1
-
--- a space is no line feed
-pub no_feed_space : Contains {X = ℕ} (32 ∷ []) 10 → ⊥
-no_feed_space (zero, within, is) = omega (arith, is)
-no_feed_space (suc k, within, is) = omega (arith, within)
 
 -- a number and the space after it have no line feed
 pub plain_number : (n : ℕ) → n < 2 ^ 64 → Contains (number_word 32 n) 10 → ⊥

@@ -6,9 +6,7 @@ use Rattle.std.specs.Ordering.{nat_cmp, ordering_then}
 use Rattle.std.specs.declared.cmp.Ordering.{Ordering}
 use Rattle.std.specs.declared.cmp.Ordering.TheVariants.{Less, Equal, Greater}
 use Rattle.std.proofs.lemmas.Cmp.{ranked, by_ranked}
-
-pub less_from_lt : (a b : ℕ) → a < b → nat_cmp a b ≡ Less
-less_from_lt a b lt = sym (nat_cmp_is a b Less lt)
+pub use Rattle.flow_model.proofs.LessLemmas.{less_from_lt}
 
 pub lt_from_less : (a b : ℕ) → nat_cmp a b ≡ Less → a < b
 lt_from_less a b less = by_ranked _ _ _ (nat_cmp a b) (ranked a b (nat_cmp a b) refl)

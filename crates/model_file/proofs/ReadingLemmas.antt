@@ -29,11 +29,10 @@ use Rattle.model_file.specs.Refusal.{IsModel, IsModelRefusal, HasOtherModelVersi
 use Rattle.model_file.specs.Writing.{IsBroken}
 use Rattle.model_file.specs.States.{IsReadAs}
 use Rattle.model_file.proofs.HeadLemmas.{after_head, text_is}
+use Rattle.flow_model.proofs.ApartLemmas.{rises_apart}
+use Rattle.line_text.proofs.VersionLemmas.{has_last}
 
 -- versions
-
-has_last : (front : List ℕ) → Contains (front ++ 10 ∷ []) 10
-has_last front = Contains-append_right front (10 ∷ []) 10 (0, omega arith, refl)
 
 -- of two decimals one is not the other with a line feed
 no_feed_after : (m n : ℕ) → m < 2 ^ 32 → decimal m ≡ decimal n ++ 10 ∷ [] → ⊥
@@ -118,12 +117,6 @@ has_our_version v text g is has =
     has.other (subst IsOurs (sym n) ours.1)
 
 -- rules
-
-rises_apart : {X : Type 0} {order : X → X → Ordering} → IsTotalOrder order → (x y : X) → order x y ≡ Less → x ≡ y → ⊥
-rises_apart {order = order} total x y less same = less≢equal (sym less ∙ ap (λ z. order z y) same ∙ tied_itself total y)
-  where
-    less≢equal : Less ≡ Equal → ⊥
-    less≢equal e = absurd (cc)
 
 pub no_repeats : (g : Graph) → IsInOrder g → HasNoRepeats g
 no_repeats g order =

@@ -28,14 +28,9 @@ use Rattle.model_file.specs.ModelText.{head_line, functions_line, function_line,
 use Rattle.model_file.proofs.HeadLemmas.{after_head, text_is}
 use Rattle.model_file.proofs.NameLemmas.{name-IsPlain}
 use Rattle.model_file.proofs.OrderLemmas.{all_at, all_more}
+use Rattle.line_text.proofs.Separators.{space, feed}
 
 -- words
-
-space : IsEnd 32
-space = inl refl
-
-feed : IsEnd 10
-feed = inr refl
 
 -- the same word stands first, and the same follows
 word_code : (a b : List ℕ) (d e : ℕ) (r s : List ℕ) → IsPlain a → IsPlain b → IsEnd d → IsEnd e → a ++ d ∷ r ≡ b ++ e ∷ s → (a ≡ b) × (d ≡ e) × (r ≡ s)

@@ -15,10 +15,7 @@ use Rattle.null_calls_expressions_laws.specs.Remade.{inner_of, with_inner, remad
 use Rattle.null_calls_counts_laws.specs.Counts.{Near}
 use Rattle.c_rules.proofs.Integers.{integer_cases, size_holds}
 pub use Rattle.c_rules.proofs.Below.{Holds, demand_holds}
-
-pub after_part : {A B : Type 0} (Q : B → Type 0) (r : Checked A) (k : A → Checked B) → ((a : A) → Holds Q (k a)) → Holds Q (on r k)
-after_part Q (fine a) k h = h a
-after_part Q (faulty f fs) k h = tt
+pub use Rattle.c_rules_laws.proofs.Holding.{after_part}
 
 same_inner : (f : Form) → with_inner f (inner_of f) ≡ f
 same_inner (a_value e) = refl

@@ -45,6 +45,7 @@ use Rattle.null_calls_expressions_laws.proofs.BehindArguments.{behind}
 use Rattle.null_calls_expressions_laws.proofs.KeptArguments.{scalar_fits, first_fine, and_left, and_right, same_list, nothing_more, follows_fine, kept_arguments_go}
 use Rattle.null_calls_expressions_laws.proofs.NullTypes.{nulls_have_their_types}
 use Rattle.null_calls_expressions_laws.proofs.OwnTypes.{type_itself}
+use Rattle.c_lexer.proofs.OneTokenTables.{or_right}
 
 -- ## Lists
 
@@ -103,10 +104,6 @@ if_true false x y e = absurd (let q : false ≡ true = e in cc)
 pub if_false : {A : Type 0} (b : Bool) (x y : A) → b ≡ false → (if b then x else y) ≡ y
 if_false true x y e = absurd (let q : true ≡ false = e in cc)
 if_false false x y e = refl
-
-or_right : (a b : Bool) → b ≡ true → (a || b) ≡ true
-or_right true b e = refl
-or_right false b e = e
 
 -- a marked call as a comma expression beside the plain call
 pub record MarkedGoes (p : Program) (env : Env) (w : More) (b' : Before) (k : ℕ) (wanted : Bool) (ts : List CType) (t : CType) (e : typed.Expr) (x : Expr) : Type 0 where

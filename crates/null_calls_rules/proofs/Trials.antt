@@ -16,13 +16,7 @@ use Rattle.null_calls_rules.specs.Instrumented.{instrumented_unit}
 use Rattle.null_calls_rules.specs.IsWithNullCalls.{IsWithNullCalls}
 use Rattle.alarm_laws.specs.MarkedRuns.{marked_run}
 use Rattle.null_calls_rules.proofs.TrialUnits.{two_calls, every_place, items_of, prototype, of_params, declared, param, getpid_declared, define, of_int, of_void, block_of, returns, name, f_that_asks, a_decl, plus, commas, becomes, call_of, int}
-
-abbrev no_program : Program
-no_program = record { structs = []; functions = []; main = 0; statics = [] }
-
-abbrev program_or_none : Checked Program → Program
-program_or_none (fine p) = p
-program_or_none (faulty f fs) = no_program
+use Rattle.c_rules.proofs.NoProgram.{no_program, program_or_none}
 
 abbrev is_fine : Checked Program → Bool
 is_fine (fine p) = true

@@ -19,6 +19,7 @@ use Rattle.c_meaning_laws.proofs.Steps.{scalars_of}
 use Rattle.alarm_laws.proofs.Lists.{and_left, and_right, from_filter, one_passes}
 use Rattle.null_calls_rules.specs.Temporaries.{is_kept}
 use Rattle.null_calls_rules.specs.InstrumentedPrograms.{parameters_where, of_result, of_direct, of_through, kept, kept_of_all, kept_of_members, kept_of_maybe, kept_of_inits, kept_of_stmt, kept_of_stmts, kept_of_groups}
+use Rattle.c_shapes.proofs.Members.{and_both}
 
 abbrev pub AreScalars : List CType → Type 0
 AreScalars [] = Unit {0}
@@ -46,10 +47,6 @@ gives_result _ = false
 abbrev all_give : List CType → Bool
 all_give [] = true
 all_give (t ∷ ts) = gives_result t && all_give ts
-
-and_both : (a b : Bool) → a ≡ true → b ≡ true → (a && b) ≡ true
-and_both true b h k = k
-and_both false b h k = absurd (false≢true h)
 
 give_both : (xs ys : List CType) → all_give xs ≡ true → all_give ys ≡ true → all_give (xs ++ ys) ≡ true
 give_both [] ys h k = k

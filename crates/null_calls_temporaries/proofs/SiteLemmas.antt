@@ -22,11 +22,7 @@ use Rattle.null_calls_temporaries.specs.declared.marked_sites.MarkedSites.{Marke
 use Rattle.null_calls_temporaries.specs.declared.table.Called.{Called}
 use Rattle.null_calls_temporaries.specs.Callees.{callee_where, callee_after, IsDefinedWhere}
 use Rattle.null_calls_temporaries.specs.Sited.{called_of, called_where, sited}
-
-below_or_at : (k n : ℕ) → (k < n) ⊎ (n ≤ k)
-below_or_at k zero = inr (omega arith)
-below_or_at zero (suc n) = inl (omega arith)
-below_or_at (suc k) (suc n) = elim (below_or_at k n) as (λ _. (suc k < suc n) ⊎ (suc n ≤ suc k)) [ inl lt ↦ inl (omega (arith, lt)) | inr le ↦ inr (omega (arith, le)) ]
+use Rattle.call_graph.proofs.BelowOrAt.{below_or_at}
 
 -- ## What is called at a site
 

@@ -6,17 +6,7 @@ use Rattle.sys_table.specs.Table.{table}
 use Rattle.c_rules.specs.Names.{Name, is_digit, are_digits, is_number, is_rest_of_pair, is_pair}
 use Rattle.null_calls_rules.specs.Temporaries.{digits_within, digits_of}
 use Rattle.null_calls_units_laws.specs.TemporaryNames.{NamesAreFree, NamesDiffer}
-
-and_left : (a b : Bool) → (a && b) ≡ true → a ≡ true
-and_left true b h = refl
-and_left false b h = absurd (false≢true h)
-
-and_right : (a b : Bool) → (a && b) ≡ true → b ≡ true
-and_right true b h = h
-and_right false b h = absurd (false≢true h)
-
-below : (a b : ℕ) → nat_lt a b ≡ true → a < b
-below a b h = (Decides-ltb a b).0 h
+use Rattle.c_shapes.proofs.Members.{and_left, and_right, below}
 
 -- ## Digits are digits
 

@@ -20,12 +20,9 @@ use Rattle.c_rules.specs.Declarators.{name_of, place_or, type_of_spec, within_pa
 use Rattle.c_rules.specs.Expressions.{declared, size_in, parameters}
 use Rattle.null_calls_units_laws.specs.Spelled.{AreAmong, is_pointee, IsSpelled, AreSpelled, DeclaredTypesAreSpelled}
 use Rattle.null_calls_units_laws.proofs.Spellings.{scalar_bare, spelled}
+use Rattle.c_rules.proofs.FineLemmas.{is_fine}
 
 -- ## What is fine
-
-abbrev is_fine : {A : Type 0} → Checked A → Bool
-is_fine (fine a) = true
-is_fine (faulty f fs) = false
 
 abbrev what_or : {A : Type 0} → A → Checked A → A
 what_or a (fine b) = b

@@ -34,9 +34,8 @@ use Rattle.c_meaning_laws.proofs.Expressions.{defined_at}
 use Rattle.ref_machine_frames.specs.Held.{call_undefined, called, called_through, eval, eval_each, eval_all, system_call, system_call_alone}
 use Rattle.ref_machine_frames.proofs.Joining.{after_none, then_nothing}
 use Rattle.ref_machine.proofs.HeldSteps.{whole_same, behind_of_same, decayed_same, member_of_same, difference_same, system_call_same}
-
-pub none_recorded : AreRecorded no_marks
-none_recorded site = (All-nil IsRecorded, All-nil IsRecorded)
+pub use Rattle.alarm_laws.proofs.TypedRuns.{none_recorded}
+use Rattle.c_meaning_laws.proofs.Keeps.{undefined_at}
 
 -- no events stand round a call
 bracket_none : (site : ℕ) (r : Result Value) → with_marks no_marks site r ≡ r
@@ -58,13 +57,6 @@ any_answer (undefined kind) st f g k = refl
 pub either_same : {A : Type 0} (holds : Bool) (a b c d : A) → a ≡ c → b ≡ d → either holds a b ≡ either holds c d
 either_same true a b c d h k = h
 either_same false a b c d h k = k
-
-undefined_at : (fs : List Function) (xs : List CType) (f : ℕ) (t : CType) → length fs ≤ f → slice_get (map type_of_defined fs ++ xs) f ≡ Some t → slice_get xs (f - length fs) ≡ Some t
-undefined_at [] xs f t h e = let s : f ≡ f - 0 = omega arith in subst (λ k. slice_get xs k ≡ Some t) s e
-undefined_at (g ∷ fs) xs zero t h e = absurd (omega (arith, h))
-undefined_at (g ∷ fs) xs (suc f) t h e =
-    let s : f - length fs ≡ suc f - length (g ∷ fs) = omega arith in
-    subst (λ k. slice_get xs k ≡ Some t) s (undefined_at fs xs f t (omega (arith, h)) e)
 
 sys_many : length sys_types ≡ 24
 unfolding sys_types

@@ -25,6 +25,7 @@ use Rattle.ref_machine_frames.proofs.Joining.{then_assoc, pushed}
 use Rattle.ref_machine.specs.Standing.{EndsRightly, state}
 use Rattle.ref_machine.specs.Futures.{event_first}
 use Rattle.ref_machine.proofs.HeldTurns.{enter_enough, again_enough}
+use Rattle.ref_machine_frames.proofs.CellLemmas.{none_there}
 
 pub parameters_are : (x : ℕ) (vs : List Value) → parameters x vs ≡ numbers x (length vs)
 parameters_are x [] = refl
@@ -128,11 +129,6 @@ started p n f fr vs todo st is none nothing le =
 pub ended_after : (e : Event) (r : Result Value) → ending (after (e ∷ []) r) ≡ event_first e (ending r)
 ended_after e (Go v st u) = refl
 ended_after e (Stop o u) = refl
-
-none_there : {A : Type 0} (xs : List A) (i : ℕ) → length xs ≤ i → slice_get xs i ≡ None
-none_there [] i le = refl
-none_there (x ∷ xs) zero le = absurd (omega (arith, le))
-none_there (x ∷ xs) (suc i) le = none_there xs i (omega (arith, le))
 
 -- nothing is left to do
 pub nothing_to_do : (todo : List Frame) (n : ℕ) → n ≡ 0 → n ≡ length todo → [] ≡ todo

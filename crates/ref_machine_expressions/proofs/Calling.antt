@@ -15,6 +15,7 @@ use Rattle.ref_machine_frames.specs.declared.frames.Callee.TheVariants as callee
 use Rattle.ref_machine_frames.specs.Frames.{made}
 use Rattle.ref_machine_expressions.specs.Renewing.{renewing}
 use Rattle.ref_machine_frames.proofs.Joining.{after_none}
+use Rattle.c_tree.proofs.CalledTypes.{type_with, type_is}
 
 -- an expression that is seen as another term
 pub begun : (p : Program) (w : World) (fr : Place) (wanted : Bool) (e f : Expr) (st : State) (k : Value → State → Result Value) (x : Result Value) → x ≡ then_do (eval p w fr wanted e st) k → e ≡ f → x ≡ then_do (eval p w fr wanted f st) k
@@ -39,36 +40,6 @@ through_begins p w fr wanted t site d e es args st k x whether same is are h =
     ∙ (ap (λ b. then_do (then_do (eval p w fr true d st) (λ v st. then_do (eval_all p w fr es st) (λ vs st. made p w b (callees.Through v) vs st))) k) same
     ∙ (ap (λ d. then_do (then_do (eval p w fr true d st) (λ v st. then_do (eval_all p w fr es st) (λ vs st. made p w (wants wanted t) (callees.Through v) vs st))) k) is
     ∙ ap (λ es. then_do (then_do (eval p w fr true e st) (λ v st. then_do (eval_all p w fr es st) (λ vs st. made p w (wants wanted t) (callees.Through v) vs st))) k) are))
-
--- the type of an expression is kept beside its form
-type_with : (t : CType) (k : TExprKind) → type_of (expr_with t k) ≡ t
-type_with t (Const v) = refl
-type_with t (FunctionNamed f) = refl
-type_with t (StringPlace n) = refl
-type_with t (Variable s n) = refl
-type_with t (Deref' p t1 k1) = refl
-type_with t (Load' p t1 k1) = refl
-type_with t (AddressOf' p t1 k1) = refl
-type_with t (Decay' p t1 k1) = refl
-type_with t (Discard' p t1 k1) = refl
-type_with t (Field' p t1 k1 first) = refl
-type_with t (Unary' op p t1 k1) = refl
-type_with t (Convert' to p t1 k1) = refl
-type_with t (Arith' op p t1 k1 q t2 k2) = refl
-type_with t (Compare' op p t1 k1 q t2 k2) = refl
-type_with t (PointerAdd' f s p t1 k1 q t2 k2) = refl
-type_with t (PointerDiff' p t1 k1 q t2 k2) = refl
-type_with t (And' p t1 k1 q t2 k2) = refl
-type_with t (Or' p t1 k1 q t2 k2) = refl
-type_with t (Assign' p t1 k1 q t2 k2) = refl
-type_with t (Update' op o p t1 k1 q t2 k2) = refl
-type_with t (Cond' p t1 k1 q t2 k2 r t3 k3) = refl
-type_with t (Comma' shape row) = refl
-type_with t (Call' s f shape row) = refl
-type_with t (CallThrough' s p t1 k1 shape row) = refl
-
-type_is : (e : TExpr) → type_of (expr_of e) ≡ ctype_of e.ctype
-type_is e = type_with (ctype_of e.ctype) e.kind
 
 -- an array or a function as a pointer
 pub decay_begins : (p : Program) (w : World) (fr : Place) (wanted : Bool) (t : CType) (a : TExpr) (u : CType) (st : State) (k : Value → State → Result Value) (x : Result Value) → u ≡ ctype_of a.ctype → x ≡ then_do (then_do (eval p w fr true (expr_of a) st) (λ q st. answered (decayed p.structs u q) st)) k → x ≡ then_do (eval p w fr wanted (decay t (expr_of a)) st) k

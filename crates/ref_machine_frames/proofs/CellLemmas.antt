@@ -8,14 +8,7 @@ use Rattle.c_tree.specs.Tree.{CType, array}
 use Rattle.c_tree.specs.Layout.{Structs, repeat, flat_with, flat_all_with, layout, or_none}
 use Rattle.c_tree.specs.View.{ctype_of, ctypes_of, members_in}
 use Rattle.ref_machine_frames.specs.Cells.{AreCells, AreCounted, kept}
-
-length-repeat : {A : Type 0} (n : ℕ) (xs : List A) → length (repeat n xs) ≡ n * length xs
-length-repeat zero xs = omega arith
-length-repeat (suc n) xs =
-    let h : length (repeat n xs) ≡ n * length xs = length-repeat n xs in
-    let q : length (xs ++ repeat n xs) ≡ length xs + length (repeat n xs) = length-append xs (repeat n xs) in
-    let r : suc n * length xs ≡ length xs + n * length xs = grind arith in
-    q ∙ (ap (λ k. length xs + k) h ∙ sym r)
+use Rattle.c_tree.proofs.CountLemmas.{length-repeat}
 
 -- a sum of numbers as they are kept
 kept_sum : (a b rest : ℕ) → kept (kept (a + kept b) + rest) ≡ kept (a + (b + rest))
@@ -90,7 +83,7 @@ struct_step structs counts next new i m count lt is many before here grown depth
     let at : count ≡ kept (length (layout S (suc depth) i)) = at_its_place S depth i (members_in m) count (found_at structs i m lt is) (here (layout S depth) h) in
     subst (CountedTo (layout S (suc depth))) (sym grown) (struct_counted (layout S (suc depth)) next count (before depth h) (at ∙ ap (λ k. kept (length (layout S (suc depth) k))) (sym many)))
 
-none_there : {A : Type 0} (xs : List A) (i : ℕ) → length xs ≤ i → slice_get xs i ≡ None
+pub none_there : {A : Type 0} (xs : List A) (i : ℕ) → length xs ≤ i → slice_get xs i ≡ None
 none_there [] i le = refl
 none_there (x ∷ xs) zero le = absurd (omega (arith, le))
 none_there (x ∷ xs) (suc i) le = none_there xs i (omega (arith, le))

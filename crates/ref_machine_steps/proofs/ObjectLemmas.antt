@@ -12,13 +12,8 @@ use Rattle.c_values.specs.Memory.{Object, Objects, same_name, changed, declared,
 use Rattle.c_values.specs.Cells.{with_cell, put}
 use Rattle.c_meaning.specs.Meaning.{static_name}
 use Rattle.c_meaning.specs.Runs.{first_objects}
-
-same_itself : (x : ObjectName) → same_name x x ≡ true
-same_itself x =
-    ap (λ b. if b then nat_eq x.variable x.variable else false) (eq-eqb x.activation x.activation refl) ∙ eq-eqb x.variable x.variable refl
-
-pub changed_there : (m : Objects) (x : ObjectName) (o : Option Object) → changed m x o x ≡ o
-changed_there m x o = ap (λ b. if b then o else m x) (same_itself x)
+use Rattle.c_values.proofs.StoreLemmas.{same_itself}
+pub use Rattle.c_values.proofs.StoreLemmas.{changed_there}
 
 twice : (c : Bool) (a b o : Option Object) → (if c then b else (if c then a else o)) ≡ (if c then b else o)
 twice true a b o = refl

@@ -11,16 +11,9 @@ use Rattle.c_shapes.specs.CallGraph.{is_in, has_one, functions_of, is_taken, is_
 use Rattle.c_shapes.specs.Mentions.{Callee, Direct, Through, mentions_of_program}
 use Rattle.c_shapes.proofs.Rounds.{enough}
 use Rattle.site_lines.specs.SiteLines.{is_system_call, kind_of_site}
+use Rattle.c_shapes.proofs.Members.{or_left, or_right}
 
 -- ## Members
-
-or_left : (a b : Bool) → a ≡ true → (a || b) ≡ true
-or_left true b h = refl
-or_left false b h = absurd (false≢true h)
-
-or_right : (a b : Bool) → b ≡ true → (a || b) ≡ true
-or_right true b h = refl
-or_right false b h = h
 
 or_false : (a b : Bool) → (a || b) ≡ false → a ≡ true → ⊥
 or_false true b h e = false≢true (sym h)

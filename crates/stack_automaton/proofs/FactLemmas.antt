@@ -24,6 +24,8 @@ use Rattle.stack_automaton.specs.contracts.place.EdgePartialEq.TheImpl.{eq-value
 use Rattle.stack_automaton.specs.contracts.place.PlacePartialEq.TheImpl.{eq-value as place_eq}
 use Rattle.stack_automaton.specs.contracts.place.FactPartialEq.TheImpl.{eq-value as fact_eq}
 use Rattle.stack_automaton.specs.Adding.{Adds}
+use Rattle.flow_model.proofs.BothLemmas.{both_hold}
+pub use Rattle.flow_model.proofs.BothLemmas.{both_true}
 
 place_exact : (p q : Place) → place_eq.it p q ≡ true → p ≡ q
 place_exact (Held a) (Held b) e = ap Held (eqb-true a b e)
@@ -34,14 +36,6 @@ place_exact (Entered a) (Entered b) e = ap Entered (eqb-true a b e)
 place_same : (p : Place) → place_eq.it p p ≡ true
 place_same (Held a) = eq-eqb a a refl
 place_same (Entered a) = eq-eqb a a refl
-
-pub both_true : (a b : Bool) → (a && b) ≡ true → (a ≡ true) × (b ≡ true)
-both_true true b e = (refl, e)
-both_true false b e = absurd cc
-
-both_hold : (a b : Bool) → a ≡ true → b ≡ true → (a && b) ≡ true
-both_hold true b p q = q
-both_hold false b p q = absurd cc
 
 pub fact_exact : (x y : Fact) → fact_eq.it x y ≡ true → x ≡ y
 fact_exact x y e =

@@ -15,9 +15,8 @@ use Rattle.flow_model.specs.Rules.{IsValid, HasRightEntries, HasOwnExits}
 use Rattle.flow_model.proofs.OrderLemmas.{lt_from_less}
 use Rattle.stack_automaton.specs.Adding.{Has}
 use Rattle.stack_automaton.specs.Following.{AreBegun, EndsAt, IsCallAt}
-
-pub contains_none : {X : Type 0} (x : X) → Contains [] x → ⊥
-contains_none x has = omega (arith, has.1)
+pub use Rattle.flow_model.proofs.AllAt.{all_at}
+pub use Rattle.flow_model.proofs.OwnersBelow.{contains_none, owner_below}
 
 module _ {X : Type 0} (p : X → Bool) where
   kept_one : (y x : X) (ys : List X) (b : Bool) → p y ≡ b → (Contains (filter p ys) x ↔ (Contains ys x × (p x ≡ true))) → Contains (cond b (y ∷ filter p ys) (filter p ys)) x ↔ (Contains (y ∷ ys) x × (p x ≡ true))
@@ -144,14 +143,6 @@ module _ (functions : List ModelFunction) (nodes : ℕ) (right : HasRightEntries
       | inr ge ↦ omega (arith, le, ge)
     ]
   ]
-
--- what holds of each item holds of one
-pub all_at : {X : Type 0} (P : X → Type 0) (xs : List X) (x : X) → All P xs → Contains xs x → P x
-all_at P xs x all (i, lt, is) = subst P is (all i x lt)
-
--- one owner's node
-pub owner_below : (g : Graph) (a b : ℕ) → IsValid g → HaveOneOwner g.functions g.nodes a b → a < g.nodes
-owner_below g a b valid owner = owned_below g.functions g.nodes valid.entries owner.owner a owner.first
 
 pub silent_below : (g : Graph) (e : SilentEdge) → IsValid g → Contains g.silent e → e.from < g.nodes
 silent_below g e valid has = owner_below g e.from e.to valid (all_at (λ e. HaveOneOwner g.functions g.nodes e.from e.to) g.silent e valid.edges.silent has)

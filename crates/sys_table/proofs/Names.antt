@@ -16,15 +16,15 @@ abbrev are_distinct : List Row → Bool
 are_distinct [] = true
 are_distinct (r ∷ rows) = is_absent r.name rows && are_distinct rows
 
-and_left : (a b : Bool) → (a && b) ≡ true → a ≡ true
+pub and_left : (a b : Bool) → (a && b) ≡ true → a ≡ true
 and_left true b h = refl
 and_left false b h = cc
 
-and_right : (a b : Bool) → (a && b) ≡ true → b ≡ true
+pub and_right : (a b : Bool) → (a && b) ≡ true → b ≡ true
 and_right true b h = h
 and_right false b h = cc
 
-no_twin : (a b : List ℕ) → not (bytes_eq a b) ≡ true → a ≡ b → ⊥
+pub no_twin : (a b : List ℕ) → not (bytes_eq a b) ≡ true → a ≡ b → ⊥
 no_twin a b h same = let e : bytes_eq a b ≡ true = (bytes_eq-Decides a b).1 same in let f : false ≡ true = ap not (sym e) ∙ h in cc
 
 absent_at : (name : List ℕ) (rows : List Row) (i : ℕ) (d : Row) → is_absent name rows ≡ true → i < length rows → name ≡ (slice_index_or rows i d).name → ⊥

@@ -28,10 +28,8 @@ use Rattle.sys_table.specs.declared.results_error.ResultsError.TheVariants.{OutO
 use Rattle.sys_table.specs.ResultsLines.{HasOtherNumber, IsHeadRefusal, IsLinesRefusal, IsResultsLine, head_refusal_of, refusal_of, results_line}
 use Rattle.sys_table.specs.ResultsText.{IsRightResult, data_text, result_text, result_line, results_head, AreResults, AreFormedResults, AreResultsWithin, HasTooManyResults, HasOtherResultsVersion, IsResultsRefusal, longest, most}
 use Rattle.sys_table.proofs.ResultsLineLemmas.{value_fits, value_plain, line_front, line_is}
-
--- the end line
-abbrev end_line : List ℕ
-end_line = codes "end\n"
+use Rattle.line_text.proofs.FirstLines.{first_of, nonempty_first, nil_front, end_line, line_alone, nonempty_rest, through_begins, lacks, unended_is}
+pub use Rattle.line_text.proofs.FirstLines.{first_is_line}
 
 -- the lines of the records
 abbrev lines : List SysResult → List ℕ
@@ -175,10 +173,6 @@ more_read k done read (r ∷ rs) right =
 
 -- a line feed in a text, told by a test that computes
 
-lacks : List ℕ → Bool
-lacks [] = true
-lacks (b ∷ text) = not (nat_eq b 10) && lacks text
-
 lacks_feed : (text : List ℕ) → lacks text ≡ true → Contains text 10 → ⊥
 unfolding lacks
 lacks_feed [] test has = omega (arith, has.1)
@@ -231,10 +225,6 @@ wrong_record_line rs rest line later right few first none = (
 
 -- a line that is cut
 
-unended_is : (rest line later : List ℕ) → IsFirstLine rest line later → (Contains line 10 → ⊥) → rest ≡ line
-unended_is rest line later (ended front none is whole) no_feed = absurd (no_feed (subst (λ (t : List ℕ). Contains t 10) (sym is) (Contains-append_right front (10 ∷ []) 10 (0, omega arith, refl))))
-unended_is rest line later (unended none end whole) no_feed = whole
-
 has_feed : (r : SysResult) (after : List ℕ) → Contains (result_line r ++ after) 10
 has_feed r after = Contains-append_left (result_line r) after 10 (subst (λ (t : List ℕ). Contains t 10) (sym (line_is r)) (Contains-append_right (line_front r) (10 ∷ []) 10 (0, omega arith, refl)))
 
@@ -267,31 +257,6 @@ finished rs rest later right is none = record {
   right = right;
   is = ap (λ (t : List ℕ). results_head ++ (lines rs ++ t)) (is ∙ ap (λ (t : List ℕ). end_line ++ t) none ∙ append-nil end_line);
 }
-
-first_of : (text : List ℕ) → (line : List ℕ) × (rest : List ℕ) × IsFirstLine text line rest
-first_of [] = ([], [], unended (λ has. omega (arith, has.1)) refl refl)
-first_of (b ∷ text) =
-    elim (cases_eq b 10) [
-      | inl is ↦ (b ∷ [], text, ended [] (λ has. omega (arith, has.1)) (ap (λ (c : ℕ). c ∷ []) is) refl)
-      | inr other ↦ let more = first_of text in (b ∷ more.0, more.1, longer b text more.0 more.1 other more.2)
-    ]
-  where
-    lacks_more : (b : ℕ) (text : List ℕ) → (b ≡ 10 → ⊥) → (Contains text 10 → ⊥) → Contains (b ∷ text) 10 → ⊥
-    lacks_more b text other none (zero, within, is) = other is
-    lacks_more b text other none (suc k, within, is) = none (k, omega (arith, within), is)
-
-    longer : (b : ℕ) (text line rest : List ℕ) → (b ≡ 10 → ⊥) → IsFirstLine text line rest → IsFirstLine (b ∷ text) (b ∷ line) rest
-    longer b text line rest other (ended front none is whole) = ended (b ∷ front) (lacks_more b front other none) (ap (λ (t : List ℕ). b ∷ t) is) (ap (λ (t : List ℕ). b ∷ t) whole)
-    longer b text line rest other (unended none end whole) = unended (lacks_more b line other none) end (ap (λ (t : List ℕ). b ∷ t) whole)
-
-nonempty_first : (text line rest : List ℕ) → IsFirstLine text line rest → text ≢ [] → line ≢ []
-nonempty_first text line rest (ended [] none is whole) some empty = let same : ◌≡◌ {A = List ℕ} (10 ∷ []) [] = sym is ∙ empty in cc
-nonempty_first text line rest (ended (b ∷ front) none is whole) some empty = let same : b ∷ (front ++ 10 ∷ []) ≡ [] = sym is ∙ empty in cc
-nonempty_first text line rest (unended none end whole) some empty = some (whole ∙ empty)
-
-nil_front : (a b : List ℕ) → a ++ b ≡ [] → a ≡ []
-nil_front [] b is = refl
-nil_front (c ∷ a) b is = cc
 
 end_after : (w : List ℕ) → IsRest (end_line ++ w) → w ≡ []
 end_after w ([], all, is) = append_cancel_left end_line w [] (is ∙ sym (append-nil end_line))
@@ -344,9 +309,6 @@ pub line_stands : (v : ResultsLine) (rest line later : List ℕ) → IsFirstLine
 line_stands v rest line later first stands =
     first_line_whole rest line later first ∙ ap (λ (t : List ℕ). t ++ later) (stands.stands ∙ append-nil (results_line v))
 
-pub first_is_line : (text line rest : List ℕ) → IsFirstLine text line rest → IsLine line
-first_is_line text line rest first = (rest, subst (λ (t : List ℕ). IsFirstLine t line rest) (first_line_whole text line rest first) first)
-
 -- the first line
 
 version_alone : (word line : List ℕ) (m n : ℕ) → m < 2 ^ 32 → n < 2 ^ 32 → IsVersionLine word m line → IsVersionLine word n line → m ≡ n
@@ -377,9 +339,6 @@ head_version = inr (ap (λ (t : List ℕ). codes "dyckmon-results " ++ t ++ 10 �
 pub head_no_other : HasOtherNumber results_head → ⊥
 head_no_other other = other_number results_head 1 (omega arith) head_version other refl
 
-line_alone : (text line rest other more : List ℕ) → IsFirstLine text line rest → IsFirstLine text other more → other ≡ line
-line_alone text line rest other more first second = sym (through_first text other more second) ∙ through_first text line rest first
-
 pub version_of_text : (text line rest : List ℕ) → IsFirstLine text line rest → HasOtherNumber line → HasOtherResultsVersion text
 version_of_text text line rest first (n, small, other, stands) = record { line = line; rest = rest; first = first; number = n; small = small; other = other; stands = stands }
 
@@ -399,10 +358,6 @@ head_refused line new Short none memory reads = (none, reads)
 head_refused line new Wrong none memory reads = (refl, none, reads tt tt)
 
 -- the whole text
-
-nonempty_rest : (a b : List ℕ) → a ≢ [] → a ++ b ≢ []
-nonempty_rest [] b some is = some refl
-nonempty_rest (c ∷ a) b some is = cc
 
 -- why a text is refused whose first line is refused
 pub refused_at_head : (error : ResultsError) (text line rest : List ℕ) → length text ≤ longest → IsFirstLine text line rest → IsHeadRefusal error line → IsResultsRefusal error text
@@ -449,15 +404,6 @@ read_whole text line rest records short first is read few = record {
 }
 
 -- a formed text is refused for want of memory alone
-
-through_begins : (k : ℕ) (text : List ℕ) → (rest : List ℕ) × (text ≡ through k text ++ rest)
-through_begins zero text = (text, refl)
-through_begins (suc k) [] = ([], refl)
-through_begins (suc k) (b ∷ text) =
-    elim (nat_eq b 10) as (λ (t : Bool). (rest : List ℕ) × (b ∷ text ≡ (b ∷ (if t then through k text else through (suc k) text)) ++ rest)) [
-      | true ↦ let more = through_begins k text in (more.0, ap (λ (x : List ℕ). b ∷ x) more.1)
-      | false ↦ let more = through_begins (suc k) text in (more.0, ap (λ (x : List ℕ). b ∷ x) more.1)
-    ]
 
 pub same_records : (text : List ℕ) (records others : List SysResult) → AreResults text records → AreResults text others → records ≡ others
 same_records text records others read written =

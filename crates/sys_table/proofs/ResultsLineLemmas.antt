@@ -20,6 +20,7 @@ use Rattle.sys_table.specs.declared.results_line.ResultsLine.{ResultsLine}
 use Rattle.sys_table.specs.declared.results_line.ResultsLine.TheVariants.{Record, End}
 use Rattle.sys_table.specs.ResultsLines.{HasData, HasNoData, IsResultsLine, results_line}
 use Rattle.sys_table.specs.ResultsText.{IsRightResult, data_text, result_text, result_line}
+use Rattle.line_text.proofs.Separators.{space, feed}
 
 -- the values of records
 abbrev pub IsValue : ℤ → Type 0
@@ -41,12 +42,6 @@ no_bytes i = omega arith
 one_byte : IsBytes (0 ∷ [])
 one_byte zero = omega arith
 one_byte (suc i) = omega arith
-
-space : IsEnd 32
-space = inl refl
-
-feed : IsEnd 10
-feed = inr refl
 
 some-data_text : (bytes : List ℕ) → bytes ≢ [] → data_text bytes ≡ 32 ∷ encode_lower bytes
 some-data_text [] some = absurd (some refl)

@@ -11,6 +11,7 @@ use Rattle.std.proofs.lemmas.List.Sums.{position_or_len_is}
 use Rattle.std.proofs.lemmas.Str.Parse.{IsNumeralModel, numerals_by_value, tells_digits, digit_at}
 use lib.Pointwise.{bytes_decides}
 use Rattle.text_places.specs.Markers.{FileLine, is_blank, is_tail, is_flag, flags_text, IsMarkerLine, behind_margin, behind, number_of, later_or_first, last_quote, ends_marker, quoted_line, numbered_line, marker_of, MarkersAreTold}
+use Rattle.dm_base.proofs.Decimals.{own}
 
 -- margins
 
@@ -55,9 +56,6 @@ behind_from word bytes rest = at (bytes_eq (take (length word) bytes) word) refl
     at false is told = cc
 
 -- numbers
-
-own : IsNumeralModel (AllDigits 10) (digits_value 10)
-own = numerals_by_value (AllDigits 10) tells_digits
 
 number_at : (digits : List ℕ) (v n : ℕ) → v ≡ n → decimal n ≡ digits → n < 2 ^ 32 → cond (bytes_eq (decimal v) digits && ltb v 4294967296) (Some v) None ≡ Some n
 number_at digits v n is spelt small =

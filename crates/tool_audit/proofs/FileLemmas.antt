@@ -18,13 +18,7 @@ use Rattle.sys_table.proofs.ResultsLemmas.{not_refused}
 use Rattle.tool_audit.specs.Audit.{Audits, IsAuditStatus, RefusesToAudit, IsReadyToAudit}
 use Rattle.tool_audit.proofs.Verdicts.{audit_ends}
 use Rattle.alarm_laws.specs.MarkedRuns.{marked_run}
-
--- a text is accepted as one program
-accepted_once : (text : List ℕ) (m : Mode) (p q : Program) → IsAcceptedAs text m p → IsAcceptedAs text m q → p ≡ q
-accepted_once = one_program one_reading one_unit one_typing
-
-results_or_refused : (told : Files) (name : List ℕ) (error : ResultsError) → AreSomeResults told name → error ≢ errors.OutOfMemory → IsResultsRefusal error (file_at told name) → ⊥
-results_or_refused told name error are named refusal = named (not_refused error (file_at told name) are.0 are.1 refusal)
+use Rattle.tool_steps.proofs.CommandLemmas.{accepted_once, results_or_refused}
 
 module _ (told : Files) (source results : List ℕ) where
   good_files : (status : Status) (line : List ℕ) (p : Program) → IsAcceptedAs (file_at told source) Plain p → (graph_of_program p).nodes ≤ 200000 → AreSomeResults told results → RefusesToAudit (Some told) source results status line → ⊥

@@ -21,6 +21,7 @@ use Rattle.tool_frame.specs.declared.stop.Stop.TheVariants as stops
 use Rattle.tool_frame.specs.Stop.{Stops}
 use Rattle.tool_audit.specs.Audit.{Audits, IsAuditOf, IsPlainProgram, RefusesToAudit, LacksToAudit}
 use Rattle.tool_audit.specs.Stopping.{StopsAuditing}
+use Rattle.tool_frame.proofs.RiseLemmas.{rises}
 
 pub audits : (told : Option Files) (name results : List ℕ) (turns bound : ℕ) (status : Status) (text : List ℕ) (source : Source) (records : List SysResult) → IfSome told (λ files. IsSourceOf (file_at files name) Plain source) → IfSome told (λ files. AreResultsWithin (file_at files results) records) → (graph_of_program (program_of source.program)).nodes ≤ 200000
     → IsAuditOf (graph_of_program (program_of source.program)) bound (marked_run (program_of source.program) records turns) status text → IfSome told (λ files. Audits files name results turns bound status text)
@@ -31,11 +32,6 @@ audits (Some files) name results turns bound status text source records is read 
 plain_program : (told : Option Files) (name : List ℕ) (source : Source) → IfSome told (λ files. IsSourceOf (file_at files name) Plain source) → IfSome told (λ files. IsPlainProgram files name)
 plain_program None name source is = tt
 plain_program (Some files) name source is = (program_of source.program, source_accepted (file_at files name) Plain source is)
-
--- a count that rose from a later place on
-rises : (before between after : ℕ) → before ≤ between → Rose between after → Rose before after
-rises before between after less (inl more) = inl (omega (arith, less, more))
-rises before between after less (inr full) = inr full
 
 both : (P Q : Files → Type 0) (t : Option Files) → IfSome t P → IfSome t Q → IfSome t (λ files. P files × Q files)
 both P Q None p q = tt

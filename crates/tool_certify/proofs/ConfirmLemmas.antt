@@ -26,11 +26,7 @@ use Rattle.tool_frame.specs.declared.stop.Stop.TheVariants as stops
 use Rattle.tool_frame.specs.Stop.{Stops}
 use Rattle.tool_certify.specs.Confirm.{AreJudged, AreRead, IsUnconfirmed, LacksToConfirm, RefusesText, RefusesToConfirm, TellsConfirmed, confirm_refusal, confirmed_text}
 use Rattle.tool_certify.specs.Stopping.{IsRecordStop, IsShown, StopsClaim}
-
--- a count that rose from a later place on
-rises : (before between after : ℕ) → before ≤ between → Rose between after → Rose before after
-rises before between after less (inl more) = inl (omega (arith, less, more))
-rises before between after less (inr full) = inr full
+use Rattle.tool_frame.proofs.RiseLemmas.{rises}
 
 -- a command that stops for what a part of it stops for
 pub stops_more : (Part Whole : Status → List ℕ → Type 0) (Lacked Lacking : Type 0) (stop : Stop) (before between after : ℕ) → before ≤ between

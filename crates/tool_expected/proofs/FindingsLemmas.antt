@@ -24,20 +24,10 @@ use Rattle.tool_monitors.proofs.Judgements.{worse_alone}
 use Rattle.tool_monitors.proofs.Nesting.{verdicts_nested}
 use Rattle.tool_monitors.proofs.PairLemmas.{zip_append, statuses_append}
 use Rattle.tool_expected.specs.Expected.{Finding, IsFinding, AreExpected, finding_text, finding_lines, verdicts_of}
+use Rattle.tool_files.proofs.StatusLemmas.{worse_finished}
+pub use Rattle.tool_files.proofs.StatusLemmas.{status_finished}
 
 -- each verdict ends the work
-
-pub status_finished : (v : Verdict) → IsFinished (status_of v)
-status_finished (verdicts.Accepted n) = inl refl
-status_finished (verdicts.Rejected k) = inr (inl refl)
-status_finished (verdicts.Bound k) = inr (inr refl)
-
-worse_finished : (s t : Status) → IsFinished s → IsFinished t → IsFinished (worse s t)
-worse_finished s t (inl p) finished = subst (λ (x : Status). IsFinished (worse x t)) (sym p) finished
-worse_finished s t (inr (inl p)) finished = subst (λ (x : Status). IsFinished (worse x t)) (sym p) (inr (inl refl))
-worse_finished s t (inr (inr p)) (inl q) = inr (inr (ap (λ (x : Status). worse x t) p ∙ ap (worse Bound) q))
-worse_finished s t (inr (inr p)) (inr (inl q)) = inr (inl (ap (λ (x : Status). worse x t) p ∙ ap (worse Bound) q))
-worse_finished s t (inr (inr p)) (inr (inr q)) = inr (inr (ap (λ (x : Status). worse x t) p ∙ ap (worse Bound) q))
 
 pub both_finished : (first second status : Status) → IsFinished first → IsFinished second → status ≡ worse first second → IsFinished status
 both_finished first second status one other ends = subst IsFinished (sym ends) (worse_finished first second one other)

@@ -2,3 +2,4 @@ pub mod InputFiles
 pub mod InputLemmas
 pub mod ModelFiles
 pub mod ReadingLemmas
+pub mod StatusLemmas

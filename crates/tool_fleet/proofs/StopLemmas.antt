@@ -9,11 +9,7 @@ use Rattle.tool_files.specs.Reading.{StopsModel}
 use Rattle.tool_frame.specs.declared.stop.Stop.{Stop}
 use Rattle.tool_frame.specs.declared.stop.Stop.TheVariants as stops
 use Rattle.tool_frame.specs.Stop.{Stops}
-
--- a count that rose from a later place on
-rises : (before between after : ℕ) → before ≤ between → Rose between after → Rose before after
-rises before between after less (inl more) = inl (omega (arith, less, more))
-rises before between after less (inr full) = inr full
+use Rattle.tool_frame.proofs.RiseLemmas.{rises}
 
 -- a stop for one reason is one for each that follows from it
 pub stops_weaker : (stop : Stop) (R T : Status → List ℕ → Type 0) (L N : Type 0) (before between after : ℕ) → before ≤ between → ((status : Status) (line : List ℕ) → R status line → T status line) → (L → N) → Stops stop R L between after → Stops stop T N before after

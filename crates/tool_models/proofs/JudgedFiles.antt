@@ -19,20 +19,9 @@ use Rattle.tool_monitors.specs.Judged.{AreJudged, status_of, status_of_all, wors
 use Rattle.tool_monitors.specs.Told.{AreTracesTold}
 use Rattle.tool_models.specs.Watch.{Watches}
 use Rattle.tool_models.specs.Watched.{AreAllWatched}
+use Rattle.tool_files.proofs.StatusLemmas.{status_finished, worse_finished}
 
 -- each verdict ends the work
-
-worse_finished : (s t : Status) → IsFinished s → IsFinished t → IsFinished (worse s t)
-worse_finished s t (inl p) finished = subst (λ (x : Status). IsFinished (worse x t)) (sym p) finished
-worse_finished s t (inr (inl p)) finished = subst (λ (x : Status). IsFinished (worse x t)) (sym p) (inr (inl refl))
-worse_finished s t (inr (inr p)) (inl q) = inr (inr (ap (λ (x : Status). worse x t) p ∙ ap (worse Bound) q))
-worse_finished s t (inr (inr p)) (inr (inl q)) = inr (inl (ap (λ (x : Status). worse x t) p ∙ ap (worse Bound) q))
-worse_finished s t (inr (inr p)) (inr (inr q)) = inr (inr (ap (λ (x : Status). worse x t) p ∙ ap (worse Bound) q))
-
-status_finished : (v : Verdict) → IsFinished (status_of v)
-status_finished (verdicts.Accepted n) = inl refl
-status_finished (verdicts.Rejected k) = inr (inl refl)
-status_finished (verdicts.Bound k) = inr (inr refl)
 
 statuses_finished : (vs : List Verdict) → IsFinished (status_of_all vs)
 statuses_finished [] = inl refl

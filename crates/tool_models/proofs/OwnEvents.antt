@@ -25,6 +25,7 @@ use Rattle.trace_file.specs.declared.version.TracesVersion.{TracesVersion}
 use Rattle.trace_file.specs.declared.version.TracesVersion.TheVariants.{One, Two}
 use Rattle.watch.specs.Own.{own, own_forked, is_born}
 use Rattle.watch.specs.Pasts.{refused_event, last_kept}
+use Rattle.watch.proofs.NothingKept.{nothing_kept}
 
 abbrev pub IsOfRecorded : Record → Type 0
 IsOfRecorded r = IsRecorded r.event
@@ -64,11 +65,6 @@ own_recorded One (r ∷ records) p all =
 own_recorded Two records p all = forked_recorded (reverse records) p (reversed records all)
 
 -- a verdict that is not Accepted names an event of the history
-
-nothing_kept : (which : Which) (g : Graph) (bound entry exit : ℕ) → HasFunction g g.start entry exit → IsKept which g bound []
-nothing_kept Callgraph g bound entry exit begins = (entry, exit, entry, begins, walk_over)
-nothing_kept Stack g bound entry exit begins = (entry, exit, entry, [], begins, stack_over)
-nothing_kept Dyck g bound entry exit begins = ((entry, exit, entry, [], begins, dyck_over), let none : depth [] ≡ 0 = refl in omega (arith, none))
 
 -- what stands at a place of a list
 some_there : {X : Type 0} (xs : List X) (i : ℕ) → i < length xs → (x : X) × (slice_get xs i ≡ Some x)

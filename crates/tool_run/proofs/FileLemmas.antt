@@ -8,9 +8,7 @@ use Rattle.sys_table.specs.ResultsText.{IsResultsRefusal}
 use Rattle.sys_table.proofs.ResultsLemmas.{not_refused}
 use Rattle.tool_run.specs.Run.{Runs, RefusesToRun, IsSomeProgram, IsReadyToRun}
 use Rattle.tool_steps.specs.Results.{AreSomeResults}
-
-results_or_refused : (told : Files) (name : List ℕ) (error : ResultsError) → AreSomeResults told name → error ≢ errors.OutOfMemory → IsResultsRefusal error (file_at told name) → ⊥
-results_or_refused told name error are named refusal = named (not_refused error (file_at told name) are.0 are.1 refusal)
+use Rattle.tool_steps.proofs.CommandLemmas.{results_or_refused}
 
 module _ (told : Files) (source results : List ℕ) where
   good_files : (status : Status) (line : List ℕ) → IsSomeProgram told source → AreSomeResults told results → RefusesToRun (Some told) source results status line → ⊥

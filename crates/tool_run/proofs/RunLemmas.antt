@@ -18,6 +18,7 @@ use Rattle.trace_file.specs.Trace.{IsTrace}
 use Rattle.tool_run.specs.Run.{Runs, RefusesToRun, LacksToRun, IsSomeProgram}
 use Rattle.tool_steps.specs.Results.{run_text}
 use Rattle.tool_steps.specs.ResultsStops.{RefusesResultsAlone}
+use Rattle.tool_frame.proofs.RiseLemmas.{rises}
 
 -- what a command makes of files that were read
 
@@ -29,11 +30,6 @@ runs (Some files) name results turns text source records is read writes formed =
 some_program : (told : Option Files) (name : List ℕ) (source : Source) → IfSome told (λ files. IsSourceOf (file_at files name) Instrumented source) → IfSome told (λ files. IsSomeProgram files name)
 some_program None name source is = tt
 some_program (Some files) name source is = (program_of source.program, source_accepted (file_at files name) Instrumented source is)
-
--- a count that rose from a later place on
-rises : (before between after : ℕ) → before ≤ between → Rose between after → Rose before after
-rises before between after less (inl more) = inl (omega (arith, less, more))
-rises before between after less (inr full) = inr full
 
 -- why the results were not read
 at_results : (told : Option Files) (name results : List ℕ) (source : Source) (stop : Stop) (before between after : ℕ) → IfSome told (λ files. IsSourceOf (file_at files name) Instrumented source) → before ≤ between → Stops stop (RefusesResultsAlone told results) (IsMissing told results) between after → Stops stop (RefusesToRun told name results) (LacksToRun told name results) before after

@@ -24,10 +24,7 @@ use Rattle.tool_steps.specs.ModelTexts.{IsModelOf, IsPastLimit, many_nodes, long
 use Rattle.tool_steps.specs.Sources.{IsSourceOf, RefusesSource}
 use Rattle.tool_steps.specs.ModelStops.{StopsModelling}
 use Rattle.tool_steps.proofs.SourceLemmas.{one_unit, one_typing, source_accepted}
-
--- a text is accepted as one program
-accepted_once : (text : List ℕ) (m : Mode) (p q : Program) → IsAcceptedAs text m p → IsAcceptedAs text m q → p ≡ q
-accepted_once = one_program one_reading one_unit one_typing
+use Rattle.tool_steps.proofs.CommandLemmas.{accepted_once}
 
 -- what a command makes of a program that a file was read as
 

@@ -8,6 +8,7 @@ use Rattle.line_text.specs.Reading.{Agree, StandsFirst, IsCutShort, Reads}
 use Rattle.line_text.specs.Words.{is_in_line}
 use Rattle.line_text.proofs.Splits.{IsSplit, IsCase, err_next, ok_both, err_case, ok_case, nothing_left, agree_head}
 use Rattle.trace_file.specs.LineParts.{has_no_feed}
+pub use Rattle.line_text.proofs.Cases.{first_agrees, cut_at_start, read_case}
 
 -- words
 
@@ -54,18 +55,3 @@ module _ {V A : Type 0} {Fits : V → Type 0} {text : V → List ℕ} {First : A
   pub then_next : IsSplit Fits text First first Next next (λ a v. v) → (old mid new : List ℕ) (a : A) → StandsFirst First first old mid a → (r : Result V Miss) → Reads (Next a) (next a) mid new r → Reads Fits text old new r
   then_next split old mid new a taken (Ok v) reads = ok_both split old mid new a v taken reads
   then_next split old mid new a taken (Err e) reads = err_next split old mid new a taken e reads
-
--- the first byte of a text that agrees
-pub first_agrees : (b : ℕ) (x old : List ℕ) → Agree (b ∷ x) old → 0 < length old → get_or old 0 0 ≡ b
-first_agrees b x [] agree some = absurd (omega (arith, some))
-first_agrees b x (c ∷ y) agree some = sym (agree_head b c x y agree)
-
--- where no byte is left, a line that ends with its line feed is cut short
-pub cut_at_start : {V : Type 0} (Fits : V → Type 0) (text : V → List ℕ) (old : List ℕ) → length old ≡ 0 → (v : V) → Fits v → text v ≢ [] → IsCutShort Fits text old
-cut_at_start Fits text [] none v fits some = nothing_left v fits some
-cut_at_start Fits text (b ∷ old) none v fits some = cc
-
--- where a value is its part, it is read as that is
-pub read_case : {V : Type 0} {Fits : V → Type 0} {text : V → List ℕ} (F : V → Type 0) (old new : List ℕ) → IsCase Fits text F text (λ v. v) old → (r : Result V Miss) → Reads F text old new r → Reads Fits text old new r
-read_case F old new one (Ok v) reads = ok_case old new one v reads
-read_case F old new one (Err e) reads = err_case old new new one e reads

@@ -42,16 +42,10 @@ use Rattle.trace_file.proofs.EventLemmas.{call_case, pre_case, post_case, record
 use Rattle.trace_file.proofs.Parts.{word_split}
 use Rattle.trace_file.proofs.PlainWords.{wide_signed, wide_unsigned}
 use Rattle.trace_file.proofs.WholeLines.{event_case, end_case, last_case, record_case, trace_line_ends, traces_line_ends}
-
--- of two values that fit, the text of neither begins that of the other
-abbrev pub IsPrefixFree : {V : Type 0} → (V → Type 0) → (V → List ℕ) → Type 0
-IsPrefixFree {V} Fits text = (v w : V) → Fits v → Fits w → Agree (text w) (text v) → w ≡ v
+use Rattle.line_text.proofs.Cases.{agree_back, one_free}
+pub use Rattle.line_text.proofs.Cases.{IsPrefixFree}
 
 -- two parts
-
-agree_back : (a b c : List ℕ) → Agree a (b ++ c) → Agree a b
-agree_back a b c (rest, inl is) = prefixes_agree a b rest c is
-agree_back a b c (rest, inr is) = (c ++ rest, inr (is ∙ append_assoc b c rest))
 
 module _ {V A B : Type 0} {Fits : V → Type 0} {text : V → List ℕ} {First : A → Type 0} {first : A → List ℕ} {Next : A → B → Type 0} {next : A → B → List ℕ} {join : A → B → V} where
   split_free : IsSplit Fits text First first Next next join → IsPrefixFree First first → ((a : A) → First a → IsPrefixFree (Next a) (next a)) → IsPrefixFree Fits text
@@ -80,9 +74,6 @@ narrower : {V : Type 0} (F G : V → Type 0) (text : V → List ℕ) → ((v : V
 narrower F G text on free v w fits_v fits_w agree = free v w (on v fits_v) (on w fits_w) agree
 
 -- words
-
-one_free : (word : List ℕ) → IsPrefixFree {V = Unit {0}} (λ u. Unit {0}) (λ u. word)
-one_free word v w fits_v fits_w agree = refl
 
 word_free : {V : Type 0} (Fits : V → Type 0) (text : V → List ℕ) (end : ℕ) → IsEnd end → ((v : V) → Fits v → IsPlain (text v)) → ((v w : V) → Fits v → Fits w → text w ≡ text v → w ≡ v) → IsPrefixFree Fits (λ v. text v ++ end ∷ [])
 word_free Fits text end ends plain one v w fits_v fits_w agree =

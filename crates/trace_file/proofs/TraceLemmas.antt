@@ -31,6 +31,7 @@ use Rattle.trace_file.specs.Refusals.{HasRoom, IsLineRefusal, IsHeadRefusal}
 use Rattle.trace_file.proofs.HeadLemmas.{one_first, no_other, none_other}
 use Rattle.trace_file.proofs.PiecesLemmas.{lacks_feed}
 use Rattle.trace_file.proofs.ReachedLemmas.{whole_first, whole_some, unfinished_first, bad_next, prefix_next, line_next}
+use Rattle.line_text.proofs.FirstLines.{nil_front}
 
 -- the first line
 
@@ -73,10 +74,6 @@ head_bad k text line rest first bad =
 pub head_version : (text line rest : List ℕ) → IsFirstLine text line rest → IsHeadRefusal Version line → HasOtherTraceVersion text
 head_version text line rest first version =
     record { line = line; rest = rest; first = first; number = version.0; small = version.1; other = version.2; stands = version.3 }
-
-nil_front : (a b : List ℕ) → a ++ b ≡ [] → a ≡ []
-nil_front [] b is = refl
-nil_front (c ∷ a) b is = cc
 
 -- an unfinished first line is a proper prefix
 pub head_short : (tail : List ℕ) → IsHeadRefusal NoEnd tail → (HasTooManyEvents tail → ⊥) × IsProperPrefix IsFormedTrace tail

@@ -39,6 +39,7 @@ use Rattle.trace_file.proofs.HeadLemmas.{one_first, no_other, none_other}
 use Rattle.trace_file.proofs.PiecesLemmas.{lacks_feed}
 use Rattle.trace_file.proofs.ProcessesLemmas.{known_length, made_push}
 use Rattle.trace_file.proofs.ReachedLemmas.{whole_first, whole_some, unfinished_first, bad_next, prefix_next, line_next}
+use Rattle.line_text.proofs.FirstLines.{nil_front}
 
 -- the first line
 
@@ -114,10 +115,6 @@ head_bad k text line rest first bad =
 pub head_version : (text line rest : List ℕ) → IsFirstLine text line rest → IsTracesHeadRefusal Version line → HasOtherTracesVersion text
 head_version text line rest first version =
     record { line = line; rest = rest; first = first; number = version.0; small = version.1; other = version.2; stands = version.3 }
-
-nil_front : (a b : List ℕ) → a ++ b ≡ [] → a ≡ []
-nil_front [] b is = refl
-nil_front (c ∷ a) b is = cc
 
 -- an unfinished first line is a proper prefix
 pub head_short : (tail : List ℕ) → (Contains tail 10 → ⊥) → IsTracesHeadRefusal NoEnd tail → (HasTooMuch tail → ⊥) × IsProperPrefix AreFormedTraces tail

@@ -1,5 +1,6 @@
 pub mod KeyLemmas
 pub mod MarkLemmas
+pub mod NothingKept
 pub mod OwnLemmas
 pub mod PastLemmas
 pub mod StepLemmas

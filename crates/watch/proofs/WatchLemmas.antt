@@ -40,6 +40,7 @@ use Rattle.watch.proofs.MarkLemmas.{marked_there, marked_from, numbered}
 use Rattle.watch.proofs.PastLemmas.{accepted_is_kept, kept_is_accepted, verdict_told}
 use Rattle.watch.proofs.StepLemmas.{known_alone}
 use Rattle.trace_file.proofs.TracesLemmas.{none_known}
+use Rattle.flow_model.proofs.EdgeLemmas.{or_true}
 
 -- what holds of the watch's own model, bound and version holds of those that it stands for
 pub moved : (Q : Graph → ℕ → TracesVersion → Type 0) (setting : Setting) (g : Graph) (k : ℕ) (version : TracesVersion) → setting.model ≡ g → setting.bound ≡ k → setting.version ≡ version → Q setting.model setting.bound setting.version → Q g k version
@@ -47,10 +48,6 @@ moved Q setting g k version model limit form q =
     subst (λ (x : Graph). Q x k version) model (subst (λ (y : ℕ). Q setting.model y version) limit (subst (λ (z : TracesVersion). Q setting.model setting.bound z) form q))
 
 -- the processes that have a record
-
-or_true : (b : Bool) → (b || true) ≡ true
-or_true true = refl
-or_true false = refl
 
 any_filtered : (test : ℕ → Bool) (p : ℕ) (ks : List ℕ) → test p ≡ true → is_among (filter test ks) p ≡ is_among ks p
 any_filtered test p [] passes = refl

@@ -1,6 +1,6 @@
 use Rattle.std.proofs.Common.{◌≡◌, map, take}
 use Rattle.c_tree.specs.View.{ctypes_of}
-use Rattle.call_graph.specs.Prototypes.{prototype_type}
+use Rattle.c_tree.specs.Prototypes.{prototype_type}
 use Rattle.call_graph.proofs.sys_types.types_by.Given as goal
 
 abbrev pub invariant-loop-p : goal.invariant-loop-p

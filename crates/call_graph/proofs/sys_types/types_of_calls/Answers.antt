@@ -1,6 +1,5 @@
-use Rattle.c_tree.specs.Functions.{sys_types}
+use Rattle.std.proofs.Common.{◌∙◌}
 use Rattle.call_graph.proofs.sys_types.types_of_calls.Goals as goal
 
 pub returns : goal.returns
-unfolding sys_types
-returns c = c.in_ok-made.ensures
+returns c = c.in_ok-made.ensures ∙ c.system_prototypes.ensures
