@@ -17,6 +17,7 @@ use Rattle.c_rules.specs.Variables.{names_of_parts, names_of_decl, names_of_stmt
 use Rattle.c_check_counts.specs.Named.{name_of_part, names_of_block_item, names_of_group, is_object, objects_of_part}
 pub use Rattle.c_syntax.proofs.Lists.{one_more, on_same}
 pub use Rattle.dm_base.proofs.ListLemmas.{two_parts}
+pub use Rattle.c_syntax.proofs.Lists.{then_on}
 
 -- ## Parts in turn
 
@@ -74,7 +75,3 @@ module _ {X Y : Type 0} (f : X → List Y) (xs : List X) where
 
   pub all_flat : (i : ℕ) (start new whole : List Y) → length xs ≤ i → whole ≡ flat_map f xs → new ≡ start ++ flat_map f (take i xs) → new ≡ start ++ whole
   all_flat i start new whole over e is = is ∙ ap (λ ys. start ++ flat_map f ys) (take_all i xs over) ∙ ap (λ ys. start ++ ys) (sym e)
-
-pub then_on : {E Y : Type 0} (r : Result (Unit {0}) E) (old mid new a b m : List Y) → mid ≡ old ++ a → m ≡ a ++ b → OnOk r (new ≡ mid ++ b) → OnOk r (new ≡ old ++ m)
-then_on (Ok u) old mid new a b m first e is = two_parts old mid new a b first is ∙ ap (λ ms. old ++ ms) (sym e)
-then_on (Err x) old mid new a b m first e is = is

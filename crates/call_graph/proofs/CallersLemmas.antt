@@ -9,11 +9,11 @@ use Rattle.std.proofs.lemmas.List.Elements.{Contains-append_left, Contains-push,
 use Rattle.c_tree.specs.Tree.{CType, Function, Program}
 use Rattle.c_shapes.specs.Mentions.{Mention, mentions_of_function}
 use Rattle.call_graph.specs.declared.mention.Mention.{Mention as Told}
-use Rattle.call_graph.specs.Adding.{Has, Adds}
+use Rattle.dm_base.specs.Adding.{Has, Adds, Gains}
 use Rattle.call_graph.specs.Saying.{mention_of, said}
-use Rattle.call_graph.specs.Callers.{Link, Gains, HasCaller, node_called, IsCall, IsCallBelow, IsCandidate, IsCandidateBelow, Leads, IsLedTo, AreFollowed, IsReaching, AreCallers}
+use Rattle.call_graph.specs.Callers.{Link, HasCaller, node_called, IsCall, IsCallBelow, IsCandidate, IsCandidateBelow, Leads, IsLedTo, AreFollowed, IsReaching, AreCallers}
 use Rattle.call_graph.specs.Callers.Leads.{here, on}
-use Rattle.call_graph.proofs.AddingLemmas.{gains_nothing, gains_both}
+use Rattle.dm_base.proofs.AddingLemmas.{gains_nothing, gains_both}
 use Rattle.call_graph.proofs.Members.{contains-map, contains-unmap}
 use Rattle.call_graph.proofs.ReachingLemmas.{map_get}
 

@@ -1,4 +1,3 @@
-pub mod AddingLemmas
 pub mod BelowOrAt
 pub mod CallersLemmas
 pub mod CallsLemmas

@@ -9,10 +9,10 @@ use Rattle.c_tree.specs.Tree.{CType}
 use Rattle.c_tree.specs.View.{ctype_of}
 use Rattle.c_shapes.specs.Mentions.{Callee, Direct, Through, Mention, Named, Calls}
 use Rattle.call_graph.specs.declared.mention.Mention.{Mention as Told}
-use Rattle.call_graph.specs.Adding.{Has, Adds}
+use Rattle.dm_base.specs.Adding.{Has, Adds}
 use Rattle.call_graph.specs.Saying.{mention_of, said}
 use Rattle.call_graph.specs.Types.{types_at, first_place, IsThrough}
-use Rattle.call_graph.proofs.AddingLemmas.{adds_nothing, adds_same, are_all}
+use Rattle.dm_base.proofs.AddingLemmas.{adds_nothing, adds_same, are_all}
 use Rattle.call_graph.proofs.Members.{contains-map, contains-unmap}
 use Rattle.call_graph.proofs.ReachingLemmas.{first_within}
 

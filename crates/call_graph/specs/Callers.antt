@@ -4,17 +4,13 @@ use Rattle.std.specs.Global.{Global}
 use Rattle.c_tree.specs.Tree.{CType, Function, Program}
 use Rattle.c_tree.specs.Functions.{defined}
 use Rattle.c_shapes.specs.Mentions.{Mention, Named, Calls, Direct, Through, mentions_of_function}
-use Rattle.call_graph.specs.Adding.{Has}
+use Rattle.dm_base.specs.Adding.{Has}
 use Rattle.call_graph.specs.Types.{first_place}
 
 -- a node calls another
 pub record Link : Type 0 where
   pub by : ℕ
   pub to : ℕ
-
--- what holds of the new: what held of the old, or P
-abbrev pub Gains : {Y : Type 0} → (Y → Type 0) → (Y → Type 0) → (Y → Type 0) → Type 0
-Gains {Y} Old New P = (y : Y) → New y ↔ (Old y ⊎ P y)
 
 -- the list of the node's callers has the node
 abbrev pub HasCaller : List (Vec ℕ Global) → Link → Type 0

@@ -3,8 +3,8 @@ ghost use Rattle.c_tree.specs.Functions.{defined};
 ghost use Rattle.c_tree.specs.View.{program_of};
 ghost use Rattle.call_graph.specs.Saying.{mention_of};
 ghost use Rattle.call_graph.specs.Types.{types_at, items_of};
-ghost use Rattle.call_graph.specs.Callers.{Link, Gains, HasCaller, node_called, IsCall, IsCallBelow, IsCandidate, IsCandidateBelow, AreCallers};
-ghost use Rattle.call_graph.specs.Adding.{Has};
+ghost use Rattle.dm_base.specs.Adding.{Gains, Has};
+ghost use Rattle.call_graph.specs.Callers.{Link, HasCaller, node_called, IsCall, IsCallBelow, IsCandidate, IsCandidateBelow, AreCallers};
 
 use crate::mention::Mention;
 use crate::saying::said_by;

@@ -1,5 +1,5 @@
 ghost use Rattle.std.specs.Prelude.{◌≡◌, ◌↔◌, ◌+◌, ◌<◌, ◌≤◌, ◌^◌, ℕ, Contains, OnOk, IfOk};
-ghost use Rattle.call_graph.specs.Adding.{Has, Adds};
+ghost use Rattle.dm_base.specs.Adding.{Has, Adds};
 ghost use Rattle.call_graph.specs.Callers.{HasCaller, IsLedTo, IsReaching};
 
 use dm_base::OutOfMemory;

@@ -4,7 +4,7 @@ ghost use Rattle.c_tree.specs.Tree.{CType as TypeTerm, pointer};
 ghost use Rattle.c_tree.specs.View.{ctype_of, ctypes_of, program_of};
 ghost use Rattle.c_shapes.specs.CallGraph.{is_taken, is_typed, callees};
 ghost use Rattle.c_shapes.specs.Mentions.{Calls, Through};
-ghost use Rattle.call_graph.specs.Adding.{Adds};
+ghost use Rattle.dm_base.specs.Adding.{Adds};
 ghost use Rattle.call_graph.specs.Saying.{mention_of, said};
 ghost use Rattle.call_graph.specs.Types.{types_at, items_of, first_place, IsThrough, AreTaken};
 

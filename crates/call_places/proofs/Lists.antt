@@ -19,6 +19,7 @@ use Rattle.call_places.specs.Seen.{places_of_block_item, places_of_group}
 use Rattle.c_syntax.proofs.Lists.{one_more}
 pub use Rattle.c_syntax.proofs.Lists.{on_same}
 use Rattle.dm_base.proofs.ListLemmas.{two_parts}
+pub use Rattle.c_syntax.proofs.Lists.{then_on}
 
 pub exprs_flat : (es : List ExprTree) → places_of_all (exprs_of es) ≡ flat_map (λ e. places (expr_of e)) es
 exprs_flat [] = refl
@@ -57,10 +58,6 @@ module _ {X Y : Type 0} (f : X → List Y) (xs : List X) where
   all_flat i start new whole over e is = is ∙ ap (λ ys. start ++ flat_map f ys) (take_all i xs over) ∙ ap (λ ys. start ++ ys) (sym e)
 
 -- ## Clauses of calls by other words
-
-pub then_on : {E Y : Type 0} (r : Result (Unit {0}) E) (old mid new a b m : List Y) → mid ≡ old ++ a → m ≡ a ++ b → OnOk r (new ≡ mid ++ b) → OnOk r (new ≡ old ++ m)
-then_on (Ok u) old mid new a b m first e is = two_parts old mid new a b first is ∙ ap (λ ms. old ++ ms) (sym e)
-then_on (Err x) old mid new a b m first e is = is
 
 pub two_then_on : {E Y : Type 0} (r : Result (Unit {0}) E) (old mid next new a b d m : List Y) → mid ≡ old ++ a → next ≡ mid ++ b → m ≡ a ++ (b ++ d) → OnOk r (new ≡ next ++ d) → OnOk r (new ≡ old ++ m)
 two_then_on r old mid next new a b d m first second e is =

@@ -12,9 +12,9 @@ use Rattle.flow_model.specs.Graph.{Graph}
 use Rattle.flow_model.specs.Language.{Quiet, Walk}
 use Rattle.flow_model.specs.Language.Walk.{over, quiet, calls}
 use Rattle.flow_model.proofs.Walks.{walk-append}
-use Rattle.callgraph_monitor.specs.Growth.{Adds}
+use Rattle.flow_model.specs.Growth.{Adds}
 use Rattle.callgraph_monitor.specs.Visits.{visit_cost}
-use Rattle.callgraph_monitor.proofs.Grown.{adds-still, adds-cases}
+use Rattle.flow_model.proofs.Grown.{adds-still, adds-cases}
 
 -- where there is no i-th node, i is not below the length
 pub none_from : (xs : List ℕ) (i : ℕ) → slice_get xs i ≡ None → length xs ≤ i

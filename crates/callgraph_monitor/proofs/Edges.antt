@@ -15,10 +15,10 @@ use Rattle.flow_model.specs.Call.{Call}
 use Rattle.flow_model.specs.Graph.{Graph, HasSilent}
 use Rattle.flow_model.specs.Language.{Quiet}
 use Rattle.flow_model.specs.Language.Quiet.{silent, enter, leave}
-use Rattle.callgraph_monitor.specs.Growth.{HasOne}
+use Rattle.flow_model.specs.Growth.{HasOne}
 use Rattle.callgraph_monitor.specs.Ahead.{IsAhead, BeginsAt, Enters, EntersFrom, ReturnsTo, LeavesTo, calls_of}
 use Rattle.callgraph_monitor.specs.Visits.{calls_from}
-use Rattle.callgraph_monitor.proofs.Items.{filter-contains, filter-pass, contains-filter}
+use Rattle.flow_model.proofs.Items.{filter-contains, filter-pass, contains-filter}
 use Rattle.flow_model.proofs.EdgeLemmas.{or_true, any_of_contains}
 pub use Rattle.flow_model.proofs.EdgeLemmas.{site_at}
 

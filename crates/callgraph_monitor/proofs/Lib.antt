@@ -2,8 +2,6 @@ pub mod Bounds
 pub mod Closed
 pub mod Costs
 pub mod Edges
-pub mod Grown
-pub mod Items
 pub mod LaidLemmas
 pub mod Pushed
 pub mod Sites

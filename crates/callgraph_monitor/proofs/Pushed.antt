@@ -4,10 +4,10 @@ use Rattle.std.proofs.lemmas.List.{append-nil, append_assoc, length-append, get_
 use Rattle.std.proofs.lemmas.List.Elements.{Contains-append_left, Contains-append_right, Contains-append_cases, Contains-push_cases}
 use Rattle.flow_model.specs.Graph.{Graph}
 use Rattle.flow_model.specs.Language.{Quiet}
-use Rattle.callgraph_monitor.specs.Growth.{Pushes, HasOne}
+use Rattle.flow_model.specs.Growth.{Pushes, HasOne}
 use Rattle.callgraph_monitor.specs.Space.{AreEnds}
 use Rattle.callgraph_monitor.specs.Visits.{visit_cost}
-use Rattle.callgraph_monitor.proofs.Items.{one_of_none, one_of_more, one_before, one_at}
+use Rattle.flow_model.proofs.Items.{one_of_none, one_of_more, one_before, one_at}
 
 -- the same by other words
 pub pushes-like : {P Q : ℕ → Type 0} (old new : List ℕ) → Pushes old new P → ((b : ℕ) → P b → Q b) → ((b : ℕ) → Q b → P b) → Pushes old new Q

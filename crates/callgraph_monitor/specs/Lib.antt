@@ -1,4 +1,3 @@
-pub mod Growth
 pub mod Laid
 pub mod Ahead
 pub mod Visits

@@ -4,7 +4,7 @@ ghost use Rattle.flow_model.specs.Graph.{HasSilent};
 ghost use Rattle.flow_model.specs.Groups.{sites_of};
 ghost use Rattle.flow_model.specs.Language.{Quiet};
 ghost use Rattle.callgraph_monitor.specs.Ahead.{Enters, EntersFrom, ReturnsTo, LeavesTo};
-ghost use Rattle.callgraph_monitor.specs.Growth.{Pushes};
+ghost use Rattle.flow_model.specs.Growth.{Pushes};
 ghost use Rattle.callgraph_monitor.specs.Space.{AreQuiet};
 ghost use Rattle.callgraph_monitor.specs.Visits.{silent_cost, enter_cost, leave_cost, visit_cost};
 

@@ -2,7 +2,7 @@ ghost use Rattle.std.specs.Prelude.{◌≡◌, ◌+◌, ◌<◌, ◌≤◌, ℕ,
 ghost use Rattle.dm_base.specs.Fits.{Fits};
 ghost use Rattle.dm_sets.specs.Nodes.{Has};
 ghost use Rattle.flow_model.specs.Rules.{IsValid};
-ghost use Rattle.callgraph_monitor.specs.Growth.{Adds};
+ghost use Rattle.flow_model.specs.Growth.{Adds};
 ghost use Rattle.callgraph_monitor.specs.Ahead.{IsAhead, IsAnswer};
 
 use dm_base::{Event, Step, fits};

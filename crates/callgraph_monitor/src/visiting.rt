@@ -1,6 +1,6 @@
 ghost use Rattle.std.specs.Prelude.{◌≡◌, ◌+◌, ◌<◌, ◌≤◌, ℕ, [], length, sum_by, All, Contains};
 ghost use Rattle.flow_model.specs.Language.{Walk};
-ghost use Rattle.callgraph_monitor.specs.Growth.{Adds};
+ghost use Rattle.flow_model.specs.Growth.{Adds};
 ghost use Rattle.callgraph_monitor.specs.Space.{AreQuiet};
 ghost use Rattle.callgraph_monitor.specs.Visits.{visit_cost};
 

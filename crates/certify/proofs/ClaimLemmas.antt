@@ -16,7 +16,8 @@ use Rattle.certify_facts.specs.Confirms.{facts_of, IsAfter, IsWithin, IsClosed, 
 use Rattle.certify_facts.specs.Form.{IsOfModel}
 use Rattle.certify_facts.specs.Reasons.{IsStart, IsExit, IsReturnedAlong, FollowsFrom}
 use Rattle.certify_facts.specs.Reasons.FollowsFrom.{silent, entered, returned, read, linked}
-use Rattle.certify_steps.specs.Adding.{Has, Adds}
+use Rattle.dm_base.specs.Adding.{Has}
+use Rattle.certify_steps.specs.Adding.{Adds}
 use Rattle.certify_steps.specs.Stepping.{GivesBy, Gives}
 use Rattle.certify_steps.proofs.ReadingLemmas.{contains_map, contains_none}
 use Rattle.certify.specs.declared.ends.Ends.{Ends}

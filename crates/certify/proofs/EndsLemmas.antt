@@ -5,7 +5,7 @@ use Rattle.std.proofs.lemmas.List.{take_all, get_or_default}
 use Rattle.std.proofs.lemmas.List.Elements.{Contains-append_left, Contains-push, Contains-push_cases}
 use Rattle.certify_facts.specs.declared.fact.Fact.{Fact}
 use Rattle.certify_facts.specs.declared.fact.FactLine.{FactLine}
-use Rattle.certify_steps.specs.Adding.{Has}
+use Rattle.dm_base.specs.Adding.{Has}
 use Rattle.certify_steps.proofs.AddingLemmas.{has_more, has_none}
 use Rattle.certify.specs.contracts.ends.ActivationPartialEq.TheImpl.{eq-value as activation_eq}
 use Rattle.certify.specs.declared.ends.Activation.{Activation}

@@ -9,7 +9,7 @@ use Rattle.certify_facts.specs.declared.fact.Fact.{Fact}
 use Rattle.certify_facts.specs.declared.fact.Fact.TheVariants.{Callgraph, At, Link}
 use Rattle.certify_facts.specs.contracts.fact.FactPartialEq.TheImpl.{eq-value as fact_eq}
 use Rattle.certify_facts.specs.declared.fact.FactLine.{FactLine}
-use Rattle.certify_steps.specs.Adding.{Has}
+use Rattle.dm_base.specs.Adding.{Has}
 use Rattle.certify_steps.proofs.AddingLemmas.{has_more}
 use Rattle.certify_steps.proofs.ReadingLemmas.{Contains-cons, Contains-cons_cases, contains_none}
 use Rattle.flow_model.proofs.BothLemmas.{both_true, both_hold}

@@ -1,7 +1,7 @@
 -- Loops that look for an item, and loops that test each item.
 use Rattle.std.proofs.Common.{◌≡◌, ◌↔◌, ℕ, ◌+◌, ◌<◌, ◌≤◌, Bool, true, false, IsTrue, List, [], length, take, get_or, Contains, sym, ◌∙◌, subst, inl, inr, arith, refl}
 use Rattle.std.proofs.lemmas.List.{take_all, get_or_default}
-use Rattle.certify_steps.specs.Adding.{Has}
+use Rattle.dm_base.specs.Adding.{Has}
 use Rattle.certify_steps.proofs.AddingLemmas.{has_more, none_more, none_all, found_at}
 
 module _ {X : Type 0} (P : X → Type 0) (xs : List X) where

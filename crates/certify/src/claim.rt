@@ -1,7 +1,7 @@
 ghost use Rattle.std.specs.Prelude.{◌≡◌, ◌↔◌, ◌<◌, ◌^◌, IsTrue, IfOk};
 ghost use Rattle.certify_facts.specs.Confirms.{IsAfter, IsAcceptedBy, IsRejectedBy, IsClaim, facts_of};
 ghost use Rattle.certify_facts.specs.Form.{IsCounted};
-ghost use Rattle.certify_steps.specs.Adding.{Has};
+ghost use Rattle.dm_base.specs.Adding.{Has};
 ghost use Rattle.certify.specs.Closing.{GoesPast};
 
 use crate::closed::is_closed;

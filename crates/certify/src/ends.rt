@@ -1,6 +1,6 @@
 ghost use Rattle.std.specs.Prelude.{◌≡◌, ◌⊎◌, ◌↔◌, Contains, IfOk, OnOk};
 ghost use Rattle.certify_facts.specs.declared.fact.Fact.{Fact as Fact'};
-ghost use Rattle.certify_steps.specs.Adding.{Has};
+ghost use Rattle.dm_base.specs.Adding.{Has};
 ghost use Rattle.certify.specs.declared.ends.Activation.{Activation as Activation'};
 ghost use Rattle.certify.specs.Closing.{EndsActivation};
 ghost use Rattle.certify.specs.Ends.{HasEnd};

@@ -1,7 +1,7 @@
 ghost use Rattle.std.specs.Prelude.{◌≡◌, ◌↔◌, Contains, IsTrue, IfOk};
 ghost use Rattle.certify_facts.specs.declared.fact.Fact.{Fact as Fact'};
 ghost use Rattle.certify_facts.specs.declared.fact.FactLine.{FactLine as Line};
-ghost use Rattle.certify_steps.specs.Adding.{Has};
+ghost use Rattle.dm_base.specs.Adding.{Has};
 ghost use Rattle.certify.specs.Closing.{AreSame};
 
 use certify_facts::{Fact, FactLine};

@@ -6,7 +6,8 @@ use Rattle.certify_facts.specs.declared.fact.FactLine.{FactLine}
 use Rattle.certify_facts.specs.declared.fact.Reason.TheVariants.{Return}
 use Rattle.certify_facts.specs.Confirms.{facts_of}
 use Rattle.certify_facts.specs.Reasons.{IsNamed, IsReturnedAlong}
-use Rattle.certify_steps.specs.Adding.{Has, Adds}
+use Rattle.dm_base.specs.Adding.{Has}
+use Rattle.certify_steps.specs.Adding.{Adds}
 use Rattle.certify_steps.specs.Stepping.{line_of}
 use Rattle.certify_steps.proofs.AddingLemmas.{adds_nothing, adds_push, adds_same}
 use Rattle.certify_making.specs.declared.notes.Key.{Key}

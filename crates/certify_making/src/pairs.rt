@@ -3,7 +3,8 @@ ghost use Rattle.certify_facts.specs.declared.fact.Fact.{Fact as Fact'};
 ghost use Rattle.certify_facts.specs.Confirms.{facts_of};
 ghost use Rattle.certify_facts.specs.Reasons.{IsNamed, IsReturnedAlong};
 ghost use Rattle.certify_facts.specs.declared.fact.Reason.TheVariants.{Return as Return'};
-ghost use Rattle.certify_steps.specs.Adding.{Has, Adds};
+ghost use Rattle.dm_base.specs.Adding.{Has};
+ghost use Rattle.certify_steps.specs.Adding.{Adds};
 ghost use Rattle.certify_making.specs.Pairs.{IsPair, IsPairWith, IsPaired, IsReturnLine};
 
 use crate::notes::{Notes, key_of, other_side};

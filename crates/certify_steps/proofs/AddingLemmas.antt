@@ -2,26 +2,9 @@
 use Rattle.std.proofs.Common.{◌≡◌, ◌⊎◌, ◌↔◌, ℕ, ◌+◌, ◌<◌, ◌≤◌, List, [], ◌∷◌, ◌++◌, length, take, get_or, Contains, sym, ◌∙◌, ap, subst, inl, inr, arith}
 use Rattle.std.proofs.lemmas.List.{take_more, take_all, get_or_default}
 use Rattle.std.proofs.lemmas.List.Elements.{Contains-push, Contains-append_left, Contains-push_cases}
-use Rattle.certify_steps.specs.Adding.{Has, Adds}
-
--- one item more
-pub has_more : {X : Type 0} (P : X → Type 0) (xs : List X) (i : ℕ) (x : X) → i < length xs → x ≡ get_or xs i x → Has P (take (i + 1) xs) ↔ (Has P (take i xs) ⊎ P x)
-has_more {X} P xs i x lt is =
-    let more : take (i + 1) xs ≡ take i xs ++ x ∷ [] = take_more xs i x lt ∙ ap (λ y. take i xs ++ y ∷ []) (sym is) in
-    let Q : List X → Type 0 = λ ys. Has P ys ↔ (Has P (take i xs) ⊎ P x) in
-    subst Q (sym more) (
-      λ has. elim (Contains-push_cases (take i xs) x has.0 has.1) as (λ _. Has P (take i xs) ⊎ P x) [
-        | inl was ↦ inl (has.0, was, has.2)
-        | inr e ↦ inr (subst P (sym e) has.2)
-      ],
-      λ s. elim s as (λ _. Has P (take i xs ++ x ∷ [])) [
-        | inl was ↦ (was.0, Contains-append_left (take i xs) (x ∷ []) was.0 was.1, was.2)
-        | inr p ↦ (x, Contains-push (take i xs) x, p)
-      ],
-    )
-
-pub has_none : {X : Type 0} (P : X → Type 0) → Has P [] → ⊥
-has_none P has = omega (arith, has.1.1)
+use Rattle.dm_base.specs.Adding.{Has}
+use Rattle.certify_steps.specs.Adding.{Adds}
+pub use Rattle.dm_base.proofs.AddingLemmas.{has_more, has_none}
 
 -- A search.
 module _ {X : Type 0} (P : X → Type 0) (xs : List X) (i : ℕ) where

@@ -13,7 +13,7 @@ use Rattle.certify_facts.specs.declared.fact.Fact.{Fact}
 use Rattle.certify_facts.specs.declared.fact.Fact.TheVariants.{Callgraph, At, Link}
 use Rattle.certify_facts.specs.Reasons.{IsCall, IsEntry, IsExit, IsReturn, IsReturnedAlong, IsRead, Leads, LeadsAt}
 use Rattle.certify_facts.proofs.Walking.{null_leads}
-use Rattle.certify_steps.specs.Adding.{Has}
+use Rattle.dm_base.specs.Adding.{Has}
 use Rattle.certify_steps.specs.Reading.{BeginsAt, EndsAt, IsCallAt}
 
 module _ (g : Graph) where

@@ -18,7 +18,8 @@ use Rattle.certify_facts.specs.declared.fact.Reason.{Reason}
 use Rattle.certify_facts.specs.declared.fact.Reason.TheVariants as reasons
 use Rattle.certify_facts.specs.Confirms.{IsWithin}
 use Rattle.certify_facts.specs.Reasons.{IsReturn, Leads, LeadsAt, IsSilent, IsEntered, IsReturned, IsRead, IsLinked}
-use Rattle.certify_steps.specs.Adding.{Has, Adds}
+use Rattle.dm_base.specs.Adding.{Has}
+use Rattle.certify_steps.specs.Adding.{Adds}
 use Rattle.certify_steps.specs.Reading.{BeginsAt, EndsAt, IsCallAt}
 use Rattle.certify_steps.specs.Stepping.{GivesBy, Gives, node_of, moved, entered_at, link_to, line_of, IsCalledBy, IsOfCall, IsOfReturn, IsCallLine}
 use Rattle.certify_steps.proofs.AddingLemmas.{adds_same, adds_nothing}

@@ -12,7 +12,7 @@ use Rattle.flow_model.specs.Graph.{Graph, Owns, HaveOneOwner, end_of}
 use Rattle.flow_model.specs.Groups.{sites_from, sites_of}
 use Rattle.flow_model.specs.Rules.{IsValid, HasRightEntries}
 use Rattle.certify_facts.proofs.Owning.{all_at, one_call}
-use Rattle.certify_steps.specs.Adding.{Has}
+use Rattle.dm_base.specs.Adding.{Has}
 use Rattle.certify_steps.specs.Reading.{IsCallAt}
 pub use Rattle.flow_model.proofs.OwnersBelow.{contains_none, owner_below}
 

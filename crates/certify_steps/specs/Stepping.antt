@@ -11,7 +11,7 @@ use Rattle.certify_facts.specs.declared.fact.Reason.{Reason}
 use Rattle.certify_facts.specs.declared.fact.Reason.TheVariants as reasons
 use Rattle.certify_facts.specs.Confirms.{IsWithin}
 use Rattle.certify_facts.specs.Reasons.{IsSilent, IsEntered, IsReturned, IsRead, IsLinked}
-use Rattle.certify_steps.specs.Adding.{Has}
+use Rattle.dm_base.specs.Adding.{Has}
 use Rattle.certify_steps.specs.Reading.{BeginsAt}
 
 -- From the fact x, which has the number r, follows the fact y by this reason.

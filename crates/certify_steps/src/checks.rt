@@ -3,7 +3,7 @@ ghost use Rattle.dm_base.specs.Fits.{Fits};
 ghost use Rattle.flow_model.specs.Graph.{HasSilent};
 ghost use Rattle.certify_facts.specs.declared.fact.Fact.{Fact as Fact'};
 ghost use Rattle.certify_facts.specs.Reasons.{IsCall, IsEntry, IsExit, IsReturn, IsStart, IsSilent, IsEntered, IsReturned, IsReturnedAlong, IsRead, IsLinked, Leads, LeadsAt};
-ghost use Rattle.certify_steps.specs.Adding.{Has};
+ghost use Rattle.dm_base.specs.Adding.{Has};
 ghost use Rattle.certify_steps.specs.Reading.{BeginsAt};
 ghost use Rattle.certify_steps.specs.Ending.{IsAtExit};
 

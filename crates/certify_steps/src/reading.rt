@@ -2,7 +2,7 @@ ghost use Rattle.std.specs.Prelude.{◌≡◌, ◌↔◌, ◌<◌, ℕ, Contains
 ghost use Rattle.flow_model.specs.declared.records.SilentEdge.{SilentEdge as Silent};
 ghost use Rattle.flow_model.specs.declared.records.SysEdge.{SysEdge as Sys};
 ghost use Rattle.flow_model.specs.Call.{Call};
-ghost use Rattle.certify_steps.specs.Adding.{Has};
+ghost use Rattle.dm_base.specs.Adding.{Has};
 ghost use Rattle.certify_steps.specs.Reading.{BeginsAt, EndsAt, IsCallAt};
 
 use flow_model::{CallEdge, Model, ModelFunction, SilentEdge, SysEdge};

@@ -4,7 +4,8 @@ ghost use Rattle.certify_facts.specs.declared.fact.Fact.{Fact as Fact'};
 ghost use Rattle.certify_facts.specs.declared.fact.Reason.TheVariants.{Silent as Silent', Enter as Enter', Return as Return', Event as Event', Link as Link'};
 ghost use Rattle.certify_facts.specs.Confirms.{IsWithin};
 ghost use Rattle.certify_facts.specs.Reasons.{IsSilent, IsReturned, IsRead, LeadsAt, Leads};
-ghost use Rattle.certify_steps.specs.Adding.{Has, Adds};
+ghost use Rattle.dm_base.specs.Adding.{Has};
+ghost use Rattle.certify_steps.specs.Adding.{Adds};
 ghost use Rattle.certify_steps.specs.Reading.{BeginsAt};
 ghost use Rattle.certify_steps.specs.Stepping.{Gives, moved, node_of, entered_at, link_to, line_of, IsCalledBy, IsCallLine, IsOfCall, IsOfReturn};
 

@@ -1,3 +1,4 @@
+pub mod AddingLemmas
 pub mod Decimals
 pub mod Depth
 pub mod Examples

@@ -16,7 +16,7 @@ use Rattle.dm_sets.specs.Nodes.{Nodes}
 use Rattle.flow_model.specs.declared.records.SysEdge.{SysEdge}
 use Rattle.flow_model.specs.Order.{StrictlyRise}
 use Rattle.flow_model.proofs.OrderLemmas.{sys_edges_tie}
-use Rattle.stack_automaton.specs.Adding.{Has}
+use Rattle.dm_base.specs.Adding.{Has}
 use Rattle.expected_events.specs.declared.called.Called.{Called}
 use Rattle.expected_events.specs.Marked.{IsCalledBy}
 use Rattle.expected_events.specs.Next.{called_order}

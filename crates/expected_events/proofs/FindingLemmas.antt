@@ -10,7 +10,7 @@ use Rattle.flow_model.specs.declared.records.ModelFunction.{ModelFunction}
 use Rattle.flow_model.specs.Call.{Call}
 use Rattle.flow_model.specs.Graph.{Graph}
 use Rattle.flow_model.specs.Rules.{IsValid}
-use Rattle.stack_automaton.specs.Adding.{Has as HasOne}
+use Rattle.dm_base.specs.Adding.{Has as HasOne}
 use Rattle.stack_automaton.specs.Following.{IsCallAt}
 use Rattle.stack_automaton.proofs.ReadingLemmas.{all_at}
 use Rattle.expected_events.specs.Marked.{OwnsOne, IsOpenedBy, EndsAtOne, IsClosedAt}

@@ -11,8 +11,8 @@ use Rattle.dm_sets.specs.Nodes.{Nodes}
 use Rattle.flow_model.specs.Call.{Call}
 use Rattle.flow_model.specs.Order.{StrictlyRise, site_order}
 use Rattle.flow_model.proofs.OrderLemmas.{lt_from_less}
-use Rattle.stack_automaton.specs.Adding.{Adds, Has as HasOne}
-use Rattle.stack_automaton.proofs.AddingLemmas.{adds_init, are_all}
+use Rattle.dm_base.specs.Adding.{Adds, Has as HasOne}
+use Rattle.dm_base.proofs.AddingLemmas.{adds_init, are_all}
 use Rattle.expected_events.specs.Marked.{IsOpenedBy}
 
 -- one item is added, which alone has P

@@ -14,8 +14,8 @@ use Rattle.flow_model.specs.Rules.{IsValid}
 use Rattle.flow_model.proofs.FoundLemmas.{has_insert, has_inserted, has_still, has_none as in_none}
 use Rattle.dyck_monitor.specs.Standing.{IsReached}
 use Rattle.stack_automaton.specs.declared.place.Edge.{Edge}
-use Rattle.stack_automaton.specs.Adding.{Has as HasOne}
-use Rattle.stack_automaton.proofs.AddingLemmas.{has_more, has_none}
+use Rattle.dm_base.specs.Adding.{Has as HasOne}
+use Rattle.dm_base.proofs.AddingLemmas.{has_more, has_none}
 use Rattle.stack_automaton.proofs.ReadingLemmas.{owned_below, sys_below, call_below}
 use Rattle.expected_events.specs.declared.called.Called.{Called}
 use Rattle.expected_events.specs.declared.finding.Found.{Found}

@@ -1,7 +1,7 @@
 ghost use Rattle.std.specs.Prelude.{◌≡◌, ◌↔◌, Contains, IfOk, OnOk};
 ghost use Rattle.std.specs.declared.cmp.Ordering.TheVariants.{Equal};
 ghost use Rattle.flow_model.specs.Order.{StrictlyRise};
-ghost use Rattle.stack_automaton.specs.Adding.{Adds, Has};
+ghost use Rattle.dm_base.specs.Adding.{Adds, Has};
 ghost use Rattle.expected_events.specs.declared.called.Called.{Called as Called'};
 ghost use Rattle.expected_events.specs.Marked.{IsCalledBy};
 ghost use Rattle.expected_events.specs.Next.{called_order};

@@ -2,7 +2,7 @@ ghost use Rattle.std.specs.Prelude.{◌≡◌, ◌<◌, ◌↔◌, ℕ, All, Con
 ghost use Rattle.std.specs.Ordering.{nat_cmp};
 ghost use Rattle.flow_model.specs.Graph.{end_of};
 ghost use Rattle.flow_model.specs.Order.{StrictlyRise, site_order};
-ghost use Rattle.stack_automaton.specs.Adding.{Adds, Has as HasOne};
+ghost use Rattle.dm_base.specs.Adding.{Adds, Has as HasOne};
 ghost use Rattle.expected_events.specs.declared.called.Called.{Called as Called'};
 ghost use Rattle.expected_events.specs.Marked.{OwnsOne, IsCalledBy, IsOpenedBy, EndsAtOne, IsClosedAt};
 ghost use Rattle.expected_events.specs.Next.{called_order};

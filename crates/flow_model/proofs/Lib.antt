@@ -10,7 +10,9 @@ pub mod EquivalenceLemmas
 pub mod Filled
 pub mod FoundLemmas
 pub mod GroupsLemmas
+pub mod Grown
 pub mod Histories
+pub mod Items
 pub mod LessLemmas
 pub mod ModelLemmas
 pub mod Nested

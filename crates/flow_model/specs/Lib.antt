@@ -2,7 +2,7 @@
 -- Jha and Miller 2004), Verdict (what a monitor says of a trace), Order (of a model's edges), Rules (what is valid),
 -- Built (what a builder was given, and its model), Groups (sites by node and by function), Cost (of an event), Found
 -- (nodes found).
--- For private contracts and proofs alone: Ends, Starts, Grouped, Members, Checked, Inside.
+-- For private contracts and proofs alone: Ends, Starts, Grouped, Growth, Members, Checked, Inside.
 pub mod Built
 pub mod Call
 pub mod Checked
@@ -12,6 +12,7 @@ pub mod Found
 pub mod Graph
 pub mod Grouped
 pub mod Groups
+pub mod Growth
 pub mod Inside
 pub mod Language
 pub mod Members

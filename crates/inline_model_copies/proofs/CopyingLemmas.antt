@@ -17,7 +17,7 @@ use Rattle.flow_model.specs.Graph.{Graph}
 use Rattle.flow_model.specs.Order.{site_order, StrictlyRise}
 use Rattle.flow_model.specs.Rules.{IsValid}
 use Rattle.flow_model.proofs.OrderLemmas.{lt_from_less, numbers_tie}
-use Rattle.inline_model_openings.proofs.Items.{contains-filter}
+use Rattle.flow_model.proofs.Items.{contains-filter}
 use Rattle.inline_model_laws.proofs.Basics.{candidate_below, entry_is, has_function, owns_entry}
 use Rattle.inline_model_laws.proofs.Rising.{is_first, is_later}
 use Rattle.inline_model_laws.specs.Within.{Within}

@@ -13,7 +13,7 @@ use Rattle.flow_model.specs.Graph.{Graph, Owns, end_of}
 use Rattle.flow_model.specs.Rules.{IsValid}
 use Rattle.inline_model_laws.specs.Copies.{entry_of}
 use Rattle.inline_model_laws.proofs.Basics.{entry_is, has_function, owns_entry, silent_stays, sys_stays}
-use Rattle.inline_model_openings.proofs.Items.{filter-contains, filter-pass, contains-filter}
+use Rattle.flow_model.proofs.Items.{filter-contains, filter-pass, contains-filter}
 use Rattle.inline_model_copies.specs.declared.copied.Copied.{Copied}
 use Rattle.inline_model_edges.specs.Drawn.{number_in, IsCopiedSilent, IsCopiedSys, IsLink}
 use Rattle.inline_model_edges.specs.Growing.{Adds, HasOne, HasNode, IsNumbered, IsSilentIn, IsSysIn, LeavesSilent, LeavesSys}

@@ -12,9 +12,9 @@ use Rattle.flow_model.specs.declared.records.SilentEdge.{SilentEdge}
 use Rattle.flow_model.specs.declared.records.SysEdge.{SysEdge}
 use Rattle.flow_model.specs.Call.{Call}
 use Rattle.flow_model.specs.Graph.{Graph, HasSilent}
-use Rattle.inline_model_openings.specs.Growth.{HasOne}
+use Rattle.flow_model.specs.Growth.{HasOne}
 use Rattle.inline_model_openings.specs.Saturating.{HasExit, MayPass, CallsTo, PassesTo, ReturnsTo}
-use Rattle.inline_model_openings.proofs.Items.{filter-contains, filter-pass, contains-filter}
+use Rattle.flow_model.proofs.Items.{filter-contains, filter-pass, contains-filter}
 use Rattle.flow_model.proofs.EdgeLemmas.{or_true, any_of_contains}
 pub use Rattle.flow_model.proofs.EdgeLemmas.{site_at}
 

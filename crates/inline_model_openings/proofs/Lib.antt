@@ -1,8 +1,6 @@
 pub mod Bounds
 pub mod Edges
 pub mod EntryLemmas
-pub mod Grown
-pub mod Items
 pub mod RangeLemmas
 pub mod Saturating
 pub mod Sites

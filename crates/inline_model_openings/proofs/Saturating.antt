@@ -15,10 +15,10 @@ use Rattle.flow_model.proofs.FoundLemmas.{has_insert, has_inserted, has_still, h
 use Rattle.inline_model_laws.specs.Within.{Within}
 use Rattle.inline_model_laws.specs.Within.Within.{begins as w_begins, silent as w_silent, sys as w_sys, passes as w_passes}
 use Rattle.inline_model_laws.proofs.Basics.{within_owns, one_owner, function_owns_exit}
-use Rattle.inline_model_openings.specs.Growth.{Adds, HasOne}
+use Rattle.flow_model.specs.Growth.{Adds, HasOne}
 use Rattle.inline_model_openings.specs.Saturating.{IsWithin, HasExit, CallsTo, PassesTo, LeavesTo, LeadsTo, IsSaturating}
 use Rattle.inline_model_openings.specs.Saturating.LeadsTo.{silent as l_silent, sys as l_sys, passes as l_passes, leaves as l_leaves}
-use Rattle.inline_model_openings.proofs.Grown.{adds-still, adds-cases}
+use Rattle.flow_model.proofs.Grown.{adds-still, adds-cases}
 
 -- where there is no i-th node, i is not below the length
 pub none_from : (xs : List ℕ) (i : ℕ) → slice_get xs i ≡ None → length xs ≤ i

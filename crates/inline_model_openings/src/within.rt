@@ -3,7 +3,7 @@ ghost use Rattle.std.specs.FinSet.{empty};
 ghost use Rattle.dm_sets.specs.Nodes.{Nodes, Has};
 ghost use Rattle.flow_model.specs.Call.{Call};
 ghost use Rattle.flow_model.specs.Graph.{HasSilent};
-ghost use Rattle.inline_model_openings.specs.Growth.{Adds};
+ghost use Rattle.flow_model.specs.Growth.{Adds};
 ghost use Rattle.inline_model_openings.specs.Saturating.{IsWithin, HasExit, MayPass, CallsTo, PassesTo, ReturnsTo, LeavesTo, LeadsTo, IsSaturating};
 
 use dm_base::OutOfMemory;

@@ -23,7 +23,7 @@ use Rattle.stack_automaton.specs.declared.place.Edge.{Edge}
 use Rattle.stack_automaton.specs.contracts.place.EdgePartialEq.TheImpl.{eq-value as edge_eq}
 use Rattle.stack_automaton.specs.contracts.place.PlacePartialEq.TheImpl.{eq-value as place_eq}
 use Rattle.stack_automaton.specs.contracts.place.FactPartialEq.TheImpl.{eq-value as fact_eq}
-use Rattle.stack_automaton.specs.Adding.{Adds}
+use Rattle.dm_base.specs.Adding.{Adds}
 use Rattle.flow_model.proofs.BothLemmas.{both_hold}
 pub use Rattle.flow_model.proofs.BothLemmas.{both_true}
 

@@ -9,7 +9,7 @@ use Rattle.flow_model.specs.declared.records.ModelFunction.{ModelFunction}
 use Rattle.flow_model.specs.Call.{Call}
 use Rattle.flow_model.specs.Graph.{Graph}
 use Rattle.stack_automaton.specs.Held.{States}
-use Rattle.stack_automaton.specs.Adding.{Has, Adds}
+use Rattle.dm_base.specs.Adding.{Has, Adds}
 use Rattle.stack_automaton.specs.Links.{HasLink, AddsLinks}
 use Rattle.stack_automaton.specs.Following.{IsCallAt, IsAlong, IsEntry, IsCalled, link_of, IsCallTo, IsLinkOf, EndsAt, IsReturn, IsBack, IsEnd, IsAfterEnd, IsStep}
 use Rattle.stack_automaton.specs.declared.place.Place.{Place}
@@ -18,7 +18,7 @@ use Rattle.stack_automaton.specs.declared.place.Edge.{Edge}
 use Rattle.stack_automaton.specs.declared.place.Fact.{Fact}
 use Rattle.stack_automaton.specs.declared.place.Link.{Link}
 use Rattle.stack_automaton.specs.declared.links.Links.{Links}
-use Rattle.stack_automaton.proofs.AddingLemmas.{adds_same, adds_both, adds_nothing, has_more}
+use Rattle.dm_base.proofs.AddingLemmas.{adds_same, adds_both, adds_nothing, has_more}
 use Rattle.stack_automaton.proofs.LinksLemmas.{links_same}
 
 -- the entry of the function at the place

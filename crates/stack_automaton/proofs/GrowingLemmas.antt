@@ -15,7 +15,7 @@ use Rattle.stack_automaton.specs.declared.place.Fact.{Fact}
 use Rattle.stack_automaton.specs.declared.place.Link.{Link}
 use Rattle.stack_automaton.specs.declared.links.Links.{Links}
 use Rattle.stack_automaton.specs.declared.saturate.Closure.{Closure}
-use Rattle.stack_automaton.specs.Adding.{Has}
+use Rattle.dm_base.specs.Adding.{Has}
 use Rattle.stack_automaton.specs.Held.{States, IsThere, HasEdge}
 use Rattle.stack_automaton.specs.Links.{HasLink, functions_of}
 use Rattle.stack_automaton.specs.Event.{IsFact, IsLink, key_of}

@@ -1,4 +1,3 @@
-pub mod AddingLemmas
 pub mod EventLemmas
 pub mod FactLemmas
 pub mod FollowingLemmas

@@ -1,11 +1,11 @@
 -- Calls that are added one after another.
 use Rattle.std.proofs.Common.{◌≡◌, ◌↔◌, ℕ, ◌+◌, ◌<◌, ◌≤◌, List, [], length, take, get_or}
 use Rattle.std.proofs.lemmas.List.{get_or_default}
-use Rattle.stack_automaton.specs.Adding.{Has}
+use Rattle.dm_base.specs.Adding.{Has, Gains}
 use Rattle.stack_automaton.specs.Links.{HasLink, AddsLinks}
 use Rattle.stack_automaton.specs.declared.place.Link.{Link}
 use Rattle.stack_automaton.specs.declared.links.Links.{Links}
-use Rattle.stack_automaton.proofs.AddingLemmas.{Gains, gains_same, gains_nothing, gains_init, gains_step, gains_end}
+use Rattle.dm_base.proofs.AddingLemmas.{gains_same, gains_nothing, gains_init, gains_step, gains_end}
 
 abbrev pub linked : Links → ℕ × Link → Type 0
 linked links (f, l) = HasLink links f l

@@ -6,7 +6,7 @@ use Rattle.std.proofs.lemmas.Bool.{eq-eqb, eqb-true, false≢true}
 use Rattle.std.proofs.lemmas.List.{get_or-set_same, get_or-set_other}
 use Rattle.std.proofs.lemmas.List.Elements.{Contains-append_left, Contains-push, Contains-push_cases}
 use Rattle.std.proofs.Math.ListN.{set}
-use Rattle.stack_automaton.specs.Adding.{Has, Adds}
+use Rattle.dm_base.specs.Adding.{Has, Adds}
 use Rattle.stack_automaton.specs.declared.place.Fact.{Fact}
 use Rattle.stack_automaton.specs.Marks.{AreMarked}
 

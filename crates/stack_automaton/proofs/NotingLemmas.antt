@@ -6,7 +6,7 @@ use Rattle.std.proofs.lemmas.Bool.{cases_eq}
 use Rattle.stack_automaton.specs.declared.place.Edge.{Edge}
 use Rattle.stack_automaton.specs.Held.{States, IsThere, HasEdge, Leads}
 use Rattle.stack_automaton.specs.Held.Leads.{here, on}
-use Rattle.stack_automaton.specs.Adding.{Has, Adds}
+use Rattle.dm_base.specs.Adding.{Has, Adds}
 use Rattle.stack_automaton.specs.Noting.{IsNextTo, IsLedTo, AreNotedTo}
 use Rattle.stack_automaton.specs.Storing.{IsClosed}
 

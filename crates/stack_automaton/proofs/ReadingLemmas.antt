@@ -13,7 +13,7 @@ use Rattle.flow_model.specs.Graph.{Graph, Owns, HaveOneOwner, end_of}
 use Rattle.flow_model.specs.Groups.{sites_from}
 use Rattle.flow_model.specs.Rules.{IsValid, HasRightEntries, HasOwnExits}
 use Rattle.flow_model.proofs.OrderLemmas.{lt_from_less}
-use Rattle.stack_automaton.specs.Adding.{Has}
+use Rattle.dm_base.specs.Adding.{Has}
 use Rattle.stack_automaton.specs.Following.{AreBegun, EndsAt, IsCallAt}
 pub use Rattle.flow_model.proofs.AllAt.{all_at}
 pub use Rattle.flow_model.proofs.OwnersBelow.{contains_none, owner_below}

@@ -12,7 +12,7 @@ use Rattle.stack_automaton.specs.declared.links.Links.{Links}
 use Rattle.stack_automaton.specs.declared.saturate.Closure.{Closure}
 use Rattle.stack_automaton.specs.declared.place.Fact.{Fact}
 use Rattle.flow_model.specs.Graph.{Graph}
-use Rattle.stack_automaton.specs.Adding.{Adds}
+use Rattle.dm_base.specs.Adding.{Adds}
 use Rattle.stack_automaton.specs.Held.{States, IsThere}
 use Rattle.stack_automaton.specs.Links.{HasLink, functions_of}
 use Rattle.stack_automaton.specs.Resolving.{IsKnown, AreResolved}

@@ -11,13 +11,13 @@ use Rattle.stack_automaton.specs.declared.place.Place.TheVariants.{Held, Entered
 use Rattle.stack_automaton.specs.declared.place.Fact.{Fact}
 use Rattle.stack_automaton.specs.declared.place.Link.{Link}
 use Rattle.stack_automaton.specs.declared.links.Links.{Links}
-use Rattle.stack_automaton.specs.Adding.{Has, Adds}
+use Rattle.dm_base.specs.Adding.{Has, Adds}
 use Rattle.stack_automaton.specs.Held.{States, HasEdge}
 use Rattle.stack_automaton.specs.Links.{HasLink, AddsLinks}
 use Rattle.stack_automaton.specs.Event.{IsFact}
 use Rattle.stack_automaton.specs.Event.IsFact.{first, silent, enter, back, out}
 use Rattle.stack_automaton.specs.Following.{IsAlong, link_of, IsLinkOf, IsInto, IsBack, IsEnd, IsOut, IsOutOfBoth, IsStep, IsAfter, AreFollowed, IsFirst, IsOfEvent, AreHeld, AreLinks, AreFollowedTo}
-use Rattle.stack_automaton.proofs.AddingLemmas.{adds_same, has_more}
+use Rattle.dm_base.proofs.AddingLemmas.{adds_same, has_more}
 use Rattle.stack_automaton.proofs.ReadingLemmas.{all_at, one_call, one_owner}
 
 -- In a valid model, what stands above a function that was entered is one of its own nodes.

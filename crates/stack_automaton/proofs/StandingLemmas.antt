@@ -16,7 +16,7 @@ use Rattle.stack_automaton.specs.declared.place.Place.{Place}
 use Rattle.stack_automaton.specs.declared.place.Place.TheVariants.{Held, Entered}
 use Rattle.stack_automaton.specs.declared.place.Edge.{Edge}
 use Rattle.stack_automaton.specs.declared.place.Fact.{Fact}
-use Rattle.stack_automaton.specs.Adding.{Has}
+use Rattle.dm_base.specs.Adding.{Has}
 use Rattle.stack_automaton.specs.Held.{States, IsThere, HasEdge, Path, IsHeld, Leads}
 use Rattle.stack_automaton.specs.Held.Path.{ends as p_ends, on as p_on}
 use Rattle.stack_automaton.specs.Held.Leads.{here, on}

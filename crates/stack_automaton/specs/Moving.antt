@@ -4,7 +4,7 @@ use Rattle.dm_base.specs.declared.event.Event.{Event}
 use Rattle.dm_base.specs.Fits.{Fits}
 use Rattle.flow_model.specs.declared.records.SysEdge.{SysEdge}
 use Rattle.flow_model.specs.Graph.{Graph}
-use Rattle.stack_automaton.specs.Adding.{Has}
+use Rattle.dm_base.specs.Adding.{Has}
 use Rattle.stack_automaton.specs.Held.{States, IsThere, HasEdge, Path, Leads}
 use Rattle.stack_automaton.specs.Event.{IsNext}
 use Rattle.stack_automaton.specs.Following.{IsFirst}

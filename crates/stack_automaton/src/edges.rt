@@ -1,6 +1,6 @@
 ghost use Rattle.std.specs.Prelude.{◌≡◌, ◌↔◌, ℕ, Contains, IfOk, OnOk};
 ghost use Rattle.stack_automaton.specs.declared.place.Edge.{Edge as Edge'};
-ghost use Rattle.stack_automaton.specs.Adding.{Has, Adds};
+ghost use Rattle.dm_base.specs.Adding.{Has, Adds};
 ghost use Rattle.stack_automaton.specs.Links.{functions_of};
 ghost use Rattle.stack_automaton.specs.Storing.{key_at, IsLinkEdge, IsTopEdge, AreTops};
 

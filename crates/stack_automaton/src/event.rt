@@ -1,7 +1,7 @@
 ghost use Rattle.std.specs.Prelude.{◌≡◌, ◌↔◌, ℕ, Contains, IfOk, OnOk};
 ghost use Rattle.slab.specs.Slab.{get};
 ghost use Rattle.stack_automaton.specs.declared.place.Fact.{Fact as Fact'};
-ghost use Rattle.stack_automaton.specs.Adding.{Has, Adds};
+ghost use Rattle.dm_base.specs.Adding.{Has, Adds};
 ghost use Rattle.stack_automaton.specs.Held.{IsThere};
 ghost use Rattle.stack_automaton.specs.Following.{AreHeld, IsFirst};
 ghost use Rattle.stack_automaton.specs.Moving.{IsRead, IsReadFrom, LeadsBy};

@@ -1,5 +1,5 @@
 ghost use Rattle.std.specs.Prelude.{◌≡◌, ◌↔◌, [], ◌∷◌, ◌++◌, Contains, IsTrue, IfOk, OnOk, OnErr, length};
-ghost use Rattle.stack_automaton.specs.Adding.{Adds};
+ghost use Rattle.dm_base.specs.Adding.{Adds};
 ghost use Rattle.stack_automaton.specs.declared.place.Fact.{Fact as Fact'};
 
 use crate::place::Fact;

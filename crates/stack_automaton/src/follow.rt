@@ -1,6 +1,6 @@
 ghost use Rattle.std.specs.Prelude.{◌≡◌, ◌⊎◌, ◌↔◌, ℕ, Contains, IsTrue, OnOk, IfSome, IfNone};
 ghost use Rattle.slab.specs.Slab.{get};
-ghost use Rattle.stack_automaton.specs.Adding.{Has, Adds};
+ghost use Rattle.dm_base.specs.Adding.{Has, Adds};
 ghost use Rattle.stack_automaton.specs.Links.{AddsLinks};
 ghost use Rattle.stack_automaton.specs.Following.{IsAlong, IsEntry, IsCalled, IsCallTo, IsLinkOf, EndsAt, IsReturn, IsBack, IsEnd, IsAfterEnd, IsStep};
 

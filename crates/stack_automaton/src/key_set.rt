@@ -1,5 +1,5 @@
 ghost use Rattle.std.specs.Prelude.{◌≡◌, ◌↔◌, ◌<◌, ℕ, [], Contains, IsTrue, OnOk, length, false, slice_index_or};
-ghost use Rattle.stack_automaton.specs.Adding.{Adds};
+ghost use Rattle.dm_base.specs.Adding.{Adds};
 
 use dm_base::OutOfMemory;
 use std::alloc::Global;

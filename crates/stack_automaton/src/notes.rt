@@ -1,7 +1,7 @@
 ghost use Rattle.std.specs.Prelude.{◌≡◌, ◌≢◌, ◌⊎◌, ◌↔◌, ℕ, List, Contains, IsTrue, OnOk, Some, None};
 ghost use Rattle.slab.specs.Slab.{get};
 ghost use Rattle.stack_automaton.specs.declared.place.Edge.{Edge as Edge'};
-ghost use Rattle.stack_automaton.specs.Adding.{Has, Adds};
+ghost use Rattle.dm_base.specs.Adding.{Has, Adds};
 ghost use Rattle.stack_automaton.specs.Held.{HasEdge, Leads};
 ghost use Rattle.stack_automaton.specs.Noting.{IsNextTo, IsLedTo};
 

@@ -2,7 +2,7 @@ ghost use Rattle.std.specs.Prelude.{◌≡◌, ◌↔◌, ◌<◌, ℕ, AllPairs
 ghost use Rattle.flow_model.specs.declared.records.SilentEdge.{SilentEdge as Silent};
 ghost use Rattle.flow_model.specs.declared.records.SysEdge.{SysEdge as Sys};
 ghost use Rattle.flow_model.specs.Call.{Call};
-ghost use Rattle.stack_automaton.specs.Adding.{Has};
+ghost use Rattle.dm_base.specs.Adding.{Has};
 ghost use Rattle.stack_automaton.specs.Following.{AreBegun, EndsAt, IsCallAt};
 
 use flow_model::{CallEdge, Model, ModelFunction, SilentEdge, SysEdge};

@@ -2,7 +2,7 @@ ghost use Rattle.std.specs.Prelude.{◌≡◌, ◌≢◌, ◌↔◌, ◌<◌, �
 ghost use Rattle.slab.specs.Slab.{get};
 ghost use Rattle.stack_automaton.specs.declared.place.Link.{Link as Linked};
 ghost use Rattle.stack_automaton.specs.declared.place.Place.TheVariants.{Held};
-ghost use Rattle.stack_automaton.specs.Adding.{Adds};
+ghost use Rattle.dm_base.specs.Adding.{Adds};
 ghost use Rattle.stack_automaton.specs.Held.{IsThere};
 ghost use Rattle.stack_automaton.specs.Links.{HasLink, functions_of};
 ghost use Rattle.stack_automaton.specs.Resolving.{IsKnown, AreResolved};

@@ -2,7 +2,8 @@ use Rattle.std.proofs.Common.{◌≡◌, ◌+◌, length}
 use Rattle.c_tree.specs.Functions.{defined}
 use Rattle.c_tree.specs.View.{program_of}
 use Rattle.call_graph.specs.Types.{types_at}
-use Rattle.call_graph.specs.Callers.{Gains, HasCaller, IsCallBelow}
+use Rattle.dm_base.specs.Adding.{Gains}
+use Rattle.call_graph.specs.Callers.{HasCaller, IsCallBelow}
 use Rattle.call_graph.proofs.callers.add_bodies.Given as goal
 
 abbrev pub invariant-loop-f : goal.invariant-loop-f

@@ -1,8 +1,9 @@
 use Rattle.std.proofs.Common.{length, ◌∙◌, refl, subst}
 use Rattle.call_graph.specs.Saying.{mention_of}
 use Rattle.call_graph.specs.Types.{types_at}
-use Rattle.call_graph.specs.Callers.{HasCaller, IsCall, Gains}
-use Rattle.call_graph.proofs.AddingLemmas.{gains_init, gains_step, gains_end}
+use Rattle.dm_base.specs.Adding.{Gains}
+use Rattle.call_graph.specs.Callers.{HasCaller, IsCall}
+use Rattle.dm_base.proofs.AddingLemmas.{gains_init, gains_step, gains_end}
 use Rattle.call_graph.proofs.callers.add_calls.Goals as goal
 
 pub loop-m-init : goal.loop-m-init

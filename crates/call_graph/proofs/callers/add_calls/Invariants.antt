@@ -1,8 +1,8 @@
 use Rattle.std.proofs.Common.{◌≡◌, length, take}
-use Rattle.call_graph.specs.Adding.{Has}
+use Rattle.dm_base.specs.Adding.{Has, Gains}
 use Rattle.call_graph.specs.Saying.{mention_of}
 use Rattle.call_graph.specs.Types.{types_at}
-use Rattle.call_graph.specs.Callers.{Gains, HasCaller, IsCall}
+use Rattle.call_graph.specs.Callers.{HasCaller, IsCall}
 use Rattle.call_graph.proofs.callers.add_calls.Given as goal
 
 abbrev pub invariant-loop-m : goal.invariant-loop-m

@@ -1,7 +1,8 @@
 use Rattle.std.proofs.Common.{length, get_or, ◌∙◌, refl, subst}
-use Rattle.call_graph.specs.Callers.{HasCaller, IsCandidate, Gains}
+use Rattle.dm_base.specs.Adding.{Gains}
+use Rattle.call_graph.specs.Callers.{HasCaller, IsCandidate}
 use Rattle.std.proofs.lemmas.List.{get_or_default}
-use Rattle.call_graph.proofs.AddingLemmas.{gains_init, gains_step, gains_end}
+use Rattle.dm_base.proofs.AddingLemmas.{gains_init, gains_step, gains_end}
 use Rattle.call_graph.proofs.callers.add_candidates.Goals as goal
 
 pub loop-f-init : goal.loop-f-init

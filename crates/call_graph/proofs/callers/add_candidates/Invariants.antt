@@ -1,6 +1,6 @@
 use Rattle.std.proofs.Common.{◌≡◌, length, take}
-use Rattle.call_graph.specs.Adding.{Has}
-use Rattle.call_graph.specs.Callers.{Gains, HasCaller, IsCandidate}
+use Rattle.dm_base.specs.Adding.{Has, Gains}
+use Rattle.call_graph.specs.Callers.{HasCaller, IsCandidate}
 use Rattle.call_graph.proofs.callers.add_candidates.Given as goal
 
 abbrev pub invariant-loop-f : goal.invariant-loop-f

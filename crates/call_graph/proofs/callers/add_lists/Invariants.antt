@@ -1,6 +1,7 @@
 use Rattle.std.proofs.Common.{◌≡◌, length}
 use Rattle.call_graph.specs.Types.{items_of}
-use Rattle.call_graph.specs.Callers.{Gains, HasCaller, IsCandidateBelow}
+use Rattle.dm_base.specs.Adding.{Gains}
+use Rattle.call_graph.specs.Callers.{HasCaller, IsCandidateBelow}
 use Rattle.call_graph.proofs.callers.add_lists.Given as goal
 
 abbrev pub invariant-loop-k : goal.invariant-loop-k

@@ -1,7 +1,7 @@
 use Rattle.std.proofs.Common.{◌≡◌, []}
 use Rattle.c_shapes.specs.Mentions.{Named}
 use Rattle.call_graph.specs.Saying.{mention_of}
-use Rattle.call_graph.proofs.AddingLemmas.{adds_step, adds_end}
+use Rattle.dm_base.proofs.AddingLemmas.{adds_step, adds_end}
 use Rattle.call_graph.proofs.NamingLemmas.{named_all}
 use Rattle.call_graph.proofs.naming.named_in.Goals as goal
 

@@ -1,6 +1,6 @@
 use Rattle.std.proofs.Common.{◌≡◌, [], take}
 use Rattle.c_shapes.specs.Mentions.{Named}
-use Rattle.call_graph.specs.Adding.{Has, Adds}
+use Rattle.dm_base.specs.Adding.{Has, Adds}
 use Rattle.call_graph.specs.Saying.{mention_of}
 use Rattle.call_graph.proofs.naming.named_in.Given as goal
 

@@ -1,8 +1,8 @@
 use Rattle.std.proofs.Common.{sym, ap, ◌∙◌, Some, subst, ◌≡◌}
 use Rattle.std.proofs.lemmas.Option.{slice_get-get_or, slice_get_past}
 use Rattle.call_graph.specs.Callers.{HasCaller}
-use Rattle.call_graph.specs.Adding.{Has, Adds}
-use Rattle.call_graph.proofs.AddingLemmas.{adds_same, adds_nothing}
+use Rattle.dm_base.specs.Adding.{Has, Adds}
+use Rattle.dm_base.proofs.AddingLemmas.{adds_same, adds_nothing}
 use Rattle.call_graph.proofs.CallersLemmas.{callers_in, no_callers_of}
 use Rattle.call_graph.proofs.reaching.note_callers.Goals as goal
 

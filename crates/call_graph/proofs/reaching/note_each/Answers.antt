@@ -1,5 +1,5 @@
 use Rattle.std.proofs.Common.{◌≡◌}
-use Rattle.call_graph.proofs.AddingLemmas.{adds_step_at, adds_end}
+use Rattle.dm_base.proofs.AddingLemmas.{adds_step_at, adds_end}
 use Rattle.call_graph.proofs.reaching.note_each.Goals as goal
 
 pub loop-node-preserved : goal.loop-node-preserved

@@ -1,5 +1,5 @@
 use Rattle.std.proofs.Common.{◌≡◌, take}
-use Rattle.call_graph.specs.Adding.{Has, Adds}
+use Rattle.dm_base.specs.Adding.{Has, Adds}
 use Rattle.call_graph.proofs.reaching.note_each.Given as goal
 
 abbrev pub invariant-loop-node : goal.invariant-loop-node

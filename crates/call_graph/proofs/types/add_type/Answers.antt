@@ -1,6 +1,6 @@
 use Rattle.std.proofs.Common.{ap, sym, subst, arith, length}
 use Rattle.c_tree.specs.View.{ctype_of}
-use Rattle.call_graph.specs.Adding.{Adds}
+use Rattle.dm_base.specs.Adding.{Adds}
 use Rattle.call_graph.specs.Saying.{mention_of}
 use Rattle.call_graph.specs.Types.{types_at, first_place, IsThrough}
 use Rattle.call_graph.proofs.TypesLemmas.{types_many}

@@ -1,7 +1,7 @@
 use Rattle.std.proofs.Common.{[]}
 use Rattle.call_graph.specs.Saying.{mention_of}
 use Rattle.call_graph.specs.Types.{types_at, IsThrough}
-use Rattle.call_graph.proofs.AddingLemmas.{adds_step, adds_end}
+use Rattle.dm_base.proofs.AddingLemmas.{adds_step, adds_end}
 use Rattle.call_graph.proofs.NamingLemmas.{types_all}
 use Rattle.call_graph.proofs.types.types_in.Goals as goal
 

@@ -1,5 +1,5 @@
 use Rattle.std.proofs.Common.{[], take}
-use Rattle.call_graph.specs.Adding.{Has, Adds}
+use Rattle.dm_base.specs.Adding.{Has, Adds}
 use Rattle.call_graph.specs.Saying.{mention_of}
 use Rattle.call_graph.specs.Types.{types_at, IsThrough}
 use Rattle.call_graph.proofs.types.types_in.Given as goal

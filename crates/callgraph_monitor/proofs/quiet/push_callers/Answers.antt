@@ -3,7 +3,7 @@ use Rattle.std.proofs.lemmas.List.{length-map, length_push}
 use Rattle.std.proofs.lemmas.List.Elements.{Contains-get_or}
 use Rattle.flow_model.specs.Call.{Call}
 use Rattle.callgraph_monitor.specs.Ahead.{calls_of}
-use Rattle.callgraph_monitor.specs.Growth.{Pushes}
+use Rattle.flow_model.specs.Growth.{Pushes}
 use Rattle.callgraph_monitor.proofs.Edges.{call_of, site_at, returns_end, end_of_returns}
 use Rattle.callgraph_monitor.proofs.Pushed.{pushes-start, pushes-more, pushes-end, pushes-like, pushes-one}
 use Rattle.callgraph_monitor.proofs.quiet.push_callers.Goals as goal

@@ -1,6 +1,6 @@
 use Rattle.std.proofs.Common.{◌≡◌, ◌+◌, length, take}
 use Rattle.callgraph_monitor.specs.Ahead.{calls_of}
-use Rattle.callgraph_monitor.specs.Growth.{Pushes, HasOne}
+use Rattle.flow_model.specs.Growth.{Pushes, HasOne}
 use Rattle.callgraph_monitor.proofs.quiet.push_callers.Given as goal
 
 abbrev pub invariant-loop-site : goal.invariant-loop-site

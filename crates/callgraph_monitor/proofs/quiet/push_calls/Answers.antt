@@ -4,7 +4,7 @@ use Rattle.std.proofs.lemmas.List.Elements.{Contains-get_or}
 use Rattle.std.proofs.lemmas.List.Sums.{sum_by_more}
 use Rattle.flow_model.specs.Call.{Call}
 use Rattle.callgraph_monitor.specs.Ahead.{Enters}
-use Rattle.callgraph_monitor.specs.Growth.{Pushes}
+use Rattle.flow_model.specs.Growth.{Pushes}
 use Rattle.callgraph_monitor.specs.Visits.{calls_from}
 use Rattle.callgraph_monitor.proofs.Edges.{call_from, site_at, enters_end, end_of_enters}
 use Rattle.callgraph_monitor.proofs.Pushed.{pushes-start, pushes-more, pushes-end, pushes-like}

@@ -1,6 +1,6 @@
 use Rattle.std.proofs.Common.{◌≤◌, ◌+◌, length, sum_by, take}
 use Rattle.callgraph_monitor.specs.Ahead.{Enters}
-use Rattle.callgraph_monitor.specs.Growth.{Pushes, HasOne}
+use Rattle.flow_model.specs.Growth.{Pushes, HasOne}
 use Rattle.callgraph_monitor.specs.Visits.{calls_from}
 use Rattle.callgraph_monitor.proofs.quiet.push_calls.Given as goal
 

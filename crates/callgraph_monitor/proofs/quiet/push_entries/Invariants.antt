@@ -1,6 +1,6 @@
 use Rattle.std.proofs.Common.{◌≡◌, ◌+◌, length, take}
 use Rattle.callgraph_monitor.specs.Ahead.{BeginsAt}
-use Rattle.callgraph_monitor.specs.Growth.{Pushes, HasOne}
+use Rattle.flow_model.specs.Growth.{Pushes, HasOne}
 use Rattle.callgraph_monitor.proofs.quiet.push_entries.Given as goal
 
 abbrev pub invariant-loop-function : goal.invariant-loop-function

@@ -1,5 +1,5 @@
 use Rattle.std.proofs.Common.{◌≡◌, ◌+◌, length, take}
-use Rattle.callgraph_monitor.specs.Growth.{Pushes, HasOne}
+use Rattle.flow_model.specs.Growth.{Pushes, HasOne}
 use Rattle.callgraph_monitor.proofs.quiet.push_silent.Given as goal
 
 abbrev pub invariant-loop-edge : goal.invariant-loop-edge

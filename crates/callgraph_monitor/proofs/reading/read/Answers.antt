@@ -4,7 +4,7 @@ use Rattle.flow_model.specs.declared.records.SysEdge.{SysEdge}
 use Rattle.flow_model.specs.Found.{Found}
 use Rattle.callgraph_monitor.specs.Ahead.{IsAhead}
 use Rattle.callgraph_monitor.proofs.Costs.{below_and_at, filter-few}
-use Rattle.callgraph_monitor.proofs.Grown.{adds-still, adds-cases}
+use Rattle.flow_model.proofs.Grown.{adds-still, adds-cases}
 use Rattle.callgraph_monitor.proofs.reading.read.Goals as goal
 
 pub loop-node-init : goal.loop-node-init

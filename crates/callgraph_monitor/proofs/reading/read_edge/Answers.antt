@@ -1,4 +1,4 @@
-use Rattle.callgraph_monitor.proofs.Grown.{adds-add, adds-like}
+use Rattle.flow_model.proofs.Grown.{adds-add, adds-like}
 use Rattle.callgraph_monitor.proofs.reading.read_edge.Goals as goal
 
 pub returns-then-fits : goal.returns-then-fits

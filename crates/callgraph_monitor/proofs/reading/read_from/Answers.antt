@@ -2,11 +2,11 @@ use Rattle.std.proofs.Common.{◌≡◌, length, Contains, nat_eq, ap, sym, subs
 use Rattle.std.proofs.lemmas.List.Elements.{Contains-get_or}
 use Rattle.dm_base.specs.Fits.{Fits}
 use Rattle.flow_model.specs.declared.records.SysEdge.{SysEdge}
-use Rattle.callgraph_monitor.specs.Growth.{Adds, HasOne}
+use Rattle.flow_model.specs.Growth.{Adds, HasOne}
 use Rattle.callgraph_monitor.proofs.Bounds.{sys_below}
 use Rattle.callgraph_monitor.proofs.Edges.{sys_end, end_of_sys}
-use Rattle.callgraph_monitor.proofs.Grown.{adds-start, adds-more, adds-end, adds-like}
-use Rattle.callgraph_monitor.proofs.Items.{filter-contains}
+use Rattle.flow_model.proofs.Grown.{adds-start, adds-more, adds-end, adds-like}
+use Rattle.flow_model.proofs.Items.{filter-contains}
 use Rattle.callgraph_monitor.proofs.reading.read_from.Goals as goal
 
 pub read_edge-requires : goal.read_edge-requires

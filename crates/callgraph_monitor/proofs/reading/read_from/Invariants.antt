@@ -1,6 +1,6 @@
 use Rattle.std.proofs.Common.{◌≡◌, ◌+◌, take}
 use Rattle.dm_base.specs.Fits.{Fits}
-use Rattle.callgraph_monitor.specs.Growth.{Adds, HasOne}
+use Rattle.flow_model.specs.Growth.{Adds, HasOne}
 use Rattle.callgraph_monitor.proofs.reading.read_from.Given as goal
 
 abbrev pub invariant-loop-edge : goal.invariant-loop-edge

@@ -1,6 +1,6 @@
 use Rattle.std.proofs.Common.{◌≡◌, ℕ, ◌<◌, get_or, Contains, refl, subst, arith}
 use Rattle.std.proofs.lemmas.List.Elements.{All-get_or}
-use Rattle.callgraph_monitor.proofs.Grown.{adds-start, adds-more_read, adds-end, adds-add, adds-like}
+use Rattle.flow_model.proofs.Grown.{adds-start, adds-more_read, adds-end, adds-add, adds-like}
 use Rattle.callgraph_monitor.proofs.visiting.add_all.Goals as goal
 
 pub add-requires : goal.add-requires

@@ -1,5 +1,5 @@
 use Rattle.std.proofs.Common.{◌≡◌, ◌+◌, take}
-use Rattle.callgraph_monitor.specs.Growth.{Adds, HasOne}
+use Rattle.flow_model.specs.Growth.{Adds, HasOne}
 use Rattle.callgraph_monitor.proofs.visiting.add_all.Given as goal
 
 abbrev pub invariant-loop-end : goal.invariant-loop-end

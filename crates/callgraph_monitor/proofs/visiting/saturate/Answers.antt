@@ -7,7 +7,7 @@ use Rattle.callgraph_monitor.specs.Space.{AreEnds}
 use Rattle.callgraph_monitor.specs.Visits.{visit_cost}
 use Rattle.callgraph_monitor.proofs.Bounds.{quiet_below}
 use Rattle.callgraph_monitor.proofs.Closed.{none_from, closed_walk, turn_long, turn_reached, turn_closed, turn_cost}
-use Rattle.callgraph_monitor.proofs.Grown.{adds-still, adds-like}
+use Rattle.flow_model.proofs.Grown.{adds-still, adds-like}
 use Rattle.callgraph_monitor.proofs.visiting.saturate.Given.{Over}
 use Rattle.callgraph_monitor.proofs.visiting.saturate.Goals as goal
 use Rattle.callgraph_monitor.proofs.visiting.saturate.Goals.{After-from}

@@ -1,6 +1,6 @@
 use Rattle.std.proofs.Common.{take}
 use Rattle.certify_facts.specs.Confirms.{IsAfter}
-use Rattle.certify_steps.specs.Adding.{Has}
+use Rattle.dm_base.specs.Adding.{Has}
 use Rattle.certify.proofs.claim.has_after.Given as goal
 
 abbrev pub invariant-loop-line : goal.invariant-loop-line

@@ -1,5 +1,5 @@
 use Rattle.std.proofs.Common.{take}
-use Rattle.certify_steps.specs.Adding.{Has}
+use Rattle.dm_base.specs.Adding.{Has}
 use Rattle.certify.specs.Closing.{GoesPast}
 use Rattle.certify.proofs.claim.has_past.Given as goal
 

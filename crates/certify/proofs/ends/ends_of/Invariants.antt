@@ -1,6 +1,6 @@
 use Rattle.std.proofs.Common.{◌≡◌, ◌↔◌, take}
 use Rattle.certify_facts.specs.declared.fact.Fact.{Fact}
-use Rattle.certify_steps.specs.Adding.{Has}
+use Rattle.dm_base.specs.Adding.{Has}
 use Rattle.certify.specs.declared.ends.Activation.{Activation}
 use Rattle.certify.specs.Closing.{EndsActivation}
 use Rattle.certify.specs.Ends.{HasEnd}

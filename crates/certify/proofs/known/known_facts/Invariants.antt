@@ -1,6 +1,6 @@
 use Rattle.std.proofs.Common.{◌≡◌, ◌↔◌, take, Contains}
 use Rattle.certify_facts.specs.declared.fact.Fact.{Fact}
-use Rattle.certify_steps.specs.Adding.{Has}
+use Rattle.dm_base.specs.Adding.{Has}
 use Rattle.certify.proofs.known.known_facts.Given as goal
 
 abbrev pub invariant-loop-line : goal.invariant-loop-line

@@ -1,6 +1,7 @@
 use Rattle.std.proofs.Common.{take, ℕ}
 use Rattle.certify_making.specs.Pairs.{IsPairWith}
-use Rattle.certify_steps.specs.Adding.{Has, Adds}
+use Rattle.dm_base.specs.Adding.{Has}
+use Rattle.certify_steps.specs.Adding.{Adds}
 use Rattle.certify_making.proofs.pairs.pair_each.Given as goal
 
 abbrev pub invariant-loop-other : goal.invariant-loop-other

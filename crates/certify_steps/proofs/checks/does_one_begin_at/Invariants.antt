@@ -1,5 +1,5 @@
 use Rattle.std.proofs.Common.{take}
-use Rattle.certify_steps.specs.Adding.{Has}
+use Rattle.dm_base.specs.Adding.{Has}
 use Rattle.certify_steps.specs.Reading.{BeginsAt}
 use Rattle.certify_steps.proofs.checks.does_one_begin_at.Given as goal
 

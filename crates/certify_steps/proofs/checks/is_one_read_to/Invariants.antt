@@ -1,6 +1,6 @@
 use Rattle.std.proofs.Common.{◌≡◌, take}
 use Rattle.dm_base.specs.Fits.{Fits}
-use Rattle.certify_steps.specs.Adding.{Has}
+use Rattle.dm_base.specs.Adding.{Has}
 use Rattle.certify_steps.proofs.checks.is_one_read_to.Given as goal
 
 abbrev pub invariant-loop-edge : goal.invariant-loop-edge

@@ -1,5 +1,5 @@
 use Rattle.std.proofs.Common.{◌≡◌, ◌↔◌, Contains, length, ap, subst, sym, arith}
-use Rattle.certify_steps.specs.Adding.{Has}
+use Rattle.dm_base.specs.Adding.{Has}
 use Rattle.certify_steps.proofs.ReadingLemmas.{sites_of_function, candidate_below, contains_none}
 use Rattle.certify_steps.proofs.reading.sites_into.Goals as goal
 

@@ -1,5 +1,5 @@
 use Rattle.std.proofs.Common.{◌≡◌, ℕ}
-use Rattle.certify_steps.specs.Adding.{Has}
+use Rattle.dm_base.specs.Adding.{Has}
 use Rattle.certify_steps.specs.Stepping.{IsOfCall}
 use Rattle.certify_steps.proofs.AddingLemmas.{adds_init, adds_step_at, adds_end}
 use Rattle.certify_steps.proofs.stepping.call_each_site.Goals as goal

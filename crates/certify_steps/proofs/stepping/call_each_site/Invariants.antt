@@ -1,5 +1,6 @@
 use Rattle.std.proofs.Common.{take, ◌≡◌, ℕ}
-use Rattle.certify_steps.specs.Adding.{Has, Adds}
+use Rattle.dm_base.specs.Adding.{Has}
+use Rattle.certify_steps.specs.Adding.{Adds}
 use Rattle.certify_steps.specs.Stepping.{IsOfCall}
 use Rattle.certify_steps.proofs.stepping.call_each_site.Given as goal
 

@@ -2,7 +2,8 @@ use Rattle.std.proofs.Common.{take, ◌≡◌}
 use Rattle.flow_model.specs.declared.records.SilentEdge.{SilentEdge}
 use Rattle.certify_facts.specs.declared.fact.Reason.TheVariants.{Silent}
 use Rattle.certify_steps.specs.Stepping.{moved, line_of}
-use Rattle.certify_steps.specs.Adding.{Has, Adds}
+use Rattle.dm_base.specs.Adding.{Has}
+use Rattle.certify_steps.specs.Adding.{Adds}
 use Rattle.certify_steps.proofs.stepping.follow_each_silent.Given as goal
 
 abbrev pub invariant-loop-edge : goal.invariant-loop-edge

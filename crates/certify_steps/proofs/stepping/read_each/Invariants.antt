@@ -3,7 +3,8 @@ use Rattle.dm_base.specs.Fits.{Fits}
 use Rattle.flow_model.specs.declared.records.SysEdge.{SysEdge}
 use Rattle.certify_facts.specs.declared.fact.Reason.TheVariants.{Event}
 use Rattle.certify_steps.specs.Stepping.{moved, line_of}
-use Rattle.certify_steps.specs.Adding.{Has, Adds}
+use Rattle.dm_base.specs.Adding.{Has}
+use Rattle.certify_steps.specs.Adding.{Adds}
 use Rattle.certify_steps.proofs.stepping.read_each.Given as goal
 
 abbrev pub invariant-loop-edge : goal.invariant-loop-edge

@@ -1,5 +1,6 @@
 use Rattle.std.proofs.Common.{take, ◌≡◌, ℕ}
-use Rattle.certify_steps.specs.Adding.{Has, Adds}
+use Rattle.dm_base.specs.Adding.{Has}
+use Rattle.certify_steps.specs.Adding.{Adds}
 use Rattle.certify_steps.specs.Stepping.{IsOfReturn}
 use Rattle.certify_steps.proofs.stepping.return_to_each.Given as goal
 

@@ -1,6 +1,6 @@
 use Rattle.std.proofs.Common.{◌↔◌, List, Contains, subst}
 use Rattle.flow_model.specs.declared.records.SysEdge.{SysEdge}
-use Rattle.stack_automaton.specs.Adding.{Has}
+use Rattle.dm_base.specs.Adding.{Has}
 use Rattle.expected_events.specs.declared.called.Called.{Called}
 use Rattle.expected_events.specs.Marked.{IsCalledBy}
 use Rattle.expected_events.proofs.CalledLemmas.{calls_ordered}

@@ -1,5 +1,5 @@
 use Rattle.std.proofs.Common.{[]}
-use Rattle.stack_automaton.proofs.AddingLemmas.{adds_step, adds_end, are_all}
+use Rattle.dm_base.proofs.AddingLemmas.{adds_step, adds_end, are_all}
 use Rattle.expected_events.specs.Marked.{IsCalledBy}
 use Rattle.expected_events.proofs.called.gathered.Goals as goal
 

@@ -1,5 +1,5 @@
 use Rattle.std.proofs.Common.{[], take}
-use Rattle.stack_automaton.specs.Adding.{Adds, Has}
+use Rattle.dm_base.specs.Adding.{Adds, Has}
 use Rattle.expected_events.specs.Marked.{IsCalledBy}
 use Rattle.expected_events.proofs.called.gathered.Given as goal
 

@@ -1,6 +1,6 @@
 use Rattle.std.proofs.Common.{refl}
 use Rattle.std.proofs.lemmas.Bool.{iff_false}
-use Rattle.stack_automaton.proofs.AddingLemmas.{adds_nothing}
+use Rattle.dm_base.proofs.AddingLemmas.{adds_nothing}
 use Rattle.expected_events.specs.Marked.{IsCalledBy}
 use Rattle.expected_events.proofs.RisingLemmas.{adds_pushed}
 use Rattle.expected_events.proofs.called.push_called.Goals as goal

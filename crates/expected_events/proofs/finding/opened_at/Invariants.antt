@@ -1,7 +1,7 @@
 use Rattle.std.proofs.Common.{[], take}
 use Rattle.std.specs.Ordering.{nat_cmp}
 use Rattle.flow_model.specs.Order.{StrictlyRise}
-use Rattle.stack_automaton.specs.Adding.{Adds, Has as HasOne}
+use Rattle.dm_base.specs.Adding.{Adds, Has as HasOne}
 use Rattle.expected_events.specs.Marked.{IsOpenedBy}
 use Rattle.expected_events.proofs.finding.opened_at.Given as goal
 

@@ -1,6 +1,6 @@
 use Rattle.std.proofs.Common.{◌↔◌, ℕ, List, Contains, subst}
 use Rattle.flow_model.specs.Call.{Call}
-use Rattle.stack_automaton.specs.Adding.{Has as HasOne}
+use Rattle.dm_base.specs.Adding.{Has as HasOne}
 use Rattle.expected_events.specs.Marked.{IsOpenedBy}
 use Rattle.expected_events.proofs.FindingLemmas.{opened_all}
 use Rattle.expected_events.proofs.finding.opened_where.Goals as goal

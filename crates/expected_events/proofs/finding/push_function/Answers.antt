@@ -1,6 +1,6 @@
 use Rattle.std.proofs.Common.{◌≡◌, refl, subst}
 use Rattle.std.proofs.lemmas.Bool.{iff_false}
-use Rattle.stack_automaton.proofs.AddingLemmas.{adds_nothing}
+use Rattle.dm_base.proofs.AddingLemmas.{adds_nothing}
 use Rattle.expected_events.specs.Marked.{OwnsOne}
 use Rattle.expected_events.proofs.RisingLemmas.{adds_pushed, rise_pushed}
 use Rattle.expected_events.proofs.finding.push_function.Goals as goal

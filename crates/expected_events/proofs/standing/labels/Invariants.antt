@@ -1,7 +1,7 @@
 use Rattle.std.proofs.Common.{◌≡◌, ◌↔◌, ℕ, ◌<◌, take}
 use Rattle.dm_sets.specs.Nodes.{Has}
 use Rattle.stack_automaton.specs.declared.place.Edge.{Edge}
-use Rattle.stack_automaton.specs.Adding.{Has as HasOne}
+use Rattle.dm_base.specs.Adding.{Has as HasOne}
 use Rattle.expected_events.proofs.standing.labels.Given as goal
 
 abbrev pub invariant-loop-edge : goal.invariant-loop-edge

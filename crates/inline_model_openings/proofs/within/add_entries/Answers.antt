@@ -1,7 +1,7 @@
 use Rattle.std.proofs.Common.{◌≡◌, ℕ, ◌+◌, ◌≤◌, length, take, sym, ap, ◌∙◌, subst, arith}
 use Rattle.flow_model.specs.declared.records.ModelFunction.{ModelFunction}
-use Rattle.inline_model_openings.specs.Growth.{Adds, HasOne}
-use Rattle.inline_model_openings.proofs.Grown.{adds-start, adds-more, adds-end, adds-add}
+use Rattle.flow_model.specs.Growth.{Adds, HasOne}
+use Rattle.flow_model.proofs.Grown.{adds-start, adds-more, adds-end, adds-add}
 use Rattle.inline_model_openings.proofs.Saturating.{begun}
 use Rattle.inline_model_openings.proofs.within.add_entries.Goals as goal
 

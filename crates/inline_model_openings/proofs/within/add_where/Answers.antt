@@ -1,5 +1,5 @@
 use Rattle.std.proofs.Common.{refl}
-use Rattle.inline_model_openings.proofs.Grown.{adds-add, adds-like}
+use Rattle.flow_model.proofs.Grown.{adds-add, adds-like}
 use Rattle.inline_model_openings.proofs.within.add_where.Goals as goal
 
 pub returns-then-condition : goal.returns-then-condition

@@ -1,7 +1,7 @@
 use Rattle.std.proofs.Common.{sym, ◌∙◌, subst}
 use Rattle.std.proofs.lemmas.Option.{none-some, same_Some}
 use Rattle.inline_model_openings.specs.Saturating.{ReturnsTo}
-use Rattle.inline_model_openings.proofs.Grown.{adds-like, adds-none}
+use Rattle.flow_model.proofs.Grown.{adds-like, adds-none}
 use Rattle.inline_model_openings.proofs.within.follow_returns.Goals as goal
 
 pub returns-in-Some : goal.returns-in-Some

@@ -1,5 +1,5 @@
 use Rattle.std.proofs.Common.{◌≡◌, take}
-use Rattle.inline_model_openings.specs.Growth.{Adds, HasOne}
+use Rattle.flow_model.specs.Growth.{Adds, HasOne}
 use Rattle.inline_model_openings.proofs.within.follow_silent.Given as goal
 
 abbrev pub invariant-loop-edge : goal.invariant-loop-edge

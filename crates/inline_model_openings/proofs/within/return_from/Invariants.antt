@@ -1,5 +1,5 @@
 use Rattle.std.proofs.Common.{take}
-use Rattle.inline_model_openings.specs.Growth.{Adds, HasOne}
+use Rattle.flow_model.specs.Growth.{Adds, HasOne}
 use Rattle.inline_model_openings.proofs.Edges.{calls_of, Returns}
 use Rattle.inline_model_openings.proofs.within.return_from.Given as goal
 

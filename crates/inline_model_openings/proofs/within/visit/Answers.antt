@@ -1,5 +1,5 @@
 use Rattle.std.proofs.Common.{inl, inr}
-use Rattle.inline_model_openings.proofs.Grown.{adds-then, adds-like}
+use Rattle.flow_model.proofs.Grown.{adds-then, adds-like}
 use Rattle.inline_model_openings.proofs.Saturating.{leads_of, of_leads}
 use Rattle.inline_model_openings.proofs.within.visit.Goals as goal
 

@@ -2,7 +2,7 @@ use Rattle.std.proofs.Common.{[]}
 use Rattle.stack_automaton.specs.declared.place.Place.TheVariants.{Held}
 use Rattle.stack_automaton.specs.Links.{functions_of}
 use Rattle.stack_automaton.specs.Storing.{IsTopEdge}
-use Rattle.stack_automaton.proofs.AddingLemmas.{adds_step_at, adds_end, are_all}
+use Rattle.dm_base.proofs.AddingLemmas.{adds_step_at, adds_end, are_all}
 use Rattle.stack_automaton.proofs.edges.tops.Goals as goal
 
 pub loop-fact-preserved : goal.loop-fact-preserved

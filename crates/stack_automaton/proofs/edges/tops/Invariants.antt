@@ -1,5 +1,5 @@
 use Rattle.std.proofs.Common.{[], take}
-use Rattle.stack_automaton.specs.Adding.{Has, Adds}
+use Rattle.dm_base.specs.Adding.{Has, Adds}
 use Rattle.stack_automaton.specs.Links.{functions_of}
 use Rattle.stack_automaton.specs.Storing.{IsTopEdge}
 use Rattle.stack_automaton.proofs.edges.tops.Given as goal

@@ -1,6 +1,6 @@
 use Rattle.std.proofs.Common.{[]}
 use Rattle.stack_automaton.specs.Moving.{IsReadFrom}
-use Rattle.stack_automaton.proofs.AddingLemmas.{adds_step_at, adds_end, are_all}
+use Rattle.dm_base.proofs.AddingLemmas.{adds_step_at, adds_end, are_all}
 use Rattle.stack_automaton.proofs.event.first_facts.Goals as goal
 
 pub loop-edge-preserved : goal.loop-edge-preserved

@@ -1,5 +1,5 @@
 use Rattle.stack_automaton.specs.Moving.{IsRead}
-use Rattle.stack_automaton.proofs.AddingLemmas.{adds_step, adds_end}
+use Rattle.dm_base.proofs.AddingLemmas.{adds_step, adds_end}
 use Rattle.stack_automaton.proofs.event.read_each.Goals as goal
 
 pub loop-one-preserved : goal.loop-one-preserved

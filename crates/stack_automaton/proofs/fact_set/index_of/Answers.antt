@@ -1,6 +1,6 @@
 use Rattle.std.proofs.Common.{◌≡◌, []}
 use Rattle.stack_automaton.specs.declared.place.Place.TheVariants.{Held}
-use Rattle.stack_automaton.proofs.AddingLemmas.{adds_step_at, adds_end, are_all}
+use Rattle.dm_base.proofs.AddingLemmas.{adds_step_at, adds_end, are_all}
 use Rattle.stack_automaton.proofs.MarksLemmas.{has_equal}
 use Rattle.stack_automaton.proofs.fact_set.index_of.Goals as goal
 

@@ -1,7 +1,7 @@
 use Rattle.std.proofs.Common.{◌≡◌, ℕ}
 use Rattle.stack_automaton.specs.declared.place.Link.{Link}
 use Rattle.stack_automaton.specs.Following.{IsCalled}
-use Rattle.stack_automaton.proofs.AddingLemmas.{adds_init, adds_step_at, adds_end}
+use Rattle.dm_base.proofs.AddingLemmas.{adds_init, adds_step_at, adds_end}
 use Rattle.stack_automaton.proofs.LinksLemmas.{links_init, links_step_at, links_end}
 use Rattle.stack_automaton.proofs.follow.call_each.Goals as goal
 

@@ -1,5 +1,5 @@
 use Rattle.std.proofs.Common.{◌≡◌, take}
-use Rattle.stack_automaton.specs.Adding.{Has, Adds}
+use Rattle.dm_base.specs.Adding.{Has, Adds}
 use Rattle.stack_automaton.specs.Links.{AddsLinks}
 use Rattle.stack_automaton.specs.Following.{IsCalled}
 use Rattle.stack_automaton.proofs.follow.call_each.Given as goal

@@ -1,8 +1,8 @@
 use Rattle.std.proofs.Common.{◌≡◌, ℕ}
 use Rattle.stack_automaton.specs.declared.place.Link.{Link}
-use Rattle.stack_automaton.specs.Adding.{Has}
+use Rattle.dm_base.specs.Adding.{Has}
 use Rattle.stack_automaton.specs.Following.{IsCallTo, IsLinkOf}
-use Rattle.stack_automaton.proofs.AddingLemmas.{adds_init, adds_step_at, adds_end}
+use Rattle.dm_base.proofs.AddingLemmas.{adds_init, adds_step_at, adds_end}
 use Rattle.stack_automaton.proofs.LinksLemmas.{links_init, links_step_at, links_end}
 use Rattle.stack_automaton.proofs.follow.call_each_site.Goals as goal
 

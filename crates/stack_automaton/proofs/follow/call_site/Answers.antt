@@ -1,7 +1,7 @@
 use Rattle.std.proofs.Common.{◌≡◌, subst}
 use Rattle.stack_automaton.specs.Following.{IsCallTo, IsLinkOf}
-use Rattle.stack_automaton.specs.Adding.{Has, Adds}
-use Rattle.stack_automaton.proofs.AddingLemmas.{adds_nothing}
+use Rattle.dm_base.specs.Adding.{Has, Adds}
+use Rattle.dm_base.proofs.AddingLemmas.{adds_nothing}
 use Rattle.stack_automaton.proofs.LinksLemmas.{links_nothing}
 use Rattle.stack_automaton.proofs.FollowingLemmas.{site_called, site_linked, no_site, same_link}
 use Rattle.stack_automaton.proofs.follow.call_site.Goals as goal

@@ -1,5 +1,5 @@
 use Rattle.stack_automaton.specs.Following.{IsCallTo, IsLinkOf}
-use Rattle.stack_automaton.proofs.AddingLemmas.{adds_same}
+use Rattle.dm_base.proofs.AddingLemmas.{adds_same}
 use Rattle.stack_automaton.proofs.LinksLemmas.{links_same}
 use Rattle.stack_automaton.proofs.ReadingLemmas.{one_call}
 use Rattle.stack_automaton.proofs.FollowingLemmas.{by_sites}

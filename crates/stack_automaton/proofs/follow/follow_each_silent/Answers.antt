@@ -1,5 +1,5 @@
 use Rattle.std.proofs.Common.{◌≡◌}
-use Rattle.stack_automaton.proofs.AddingLemmas.{adds_step_at, adds_end}
+use Rattle.dm_base.proofs.AddingLemmas.{adds_step_at, adds_end}
 use Rattle.stack_automaton.proofs.follow.follow_each_silent.Goals as goal
 
 pub loop-edge-preserved : goal.loop-edge-preserved

@@ -1,6 +1,6 @@
 use Rattle.std.proofs.Common.{subst}
 use Rattle.slab.specs.Slab.{get}
-use Rattle.stack_automaton.specs.Adding.{Adds}
+use Rattle.dm_base.specs.Adding.{Adds}
 use Rattle.stack_automaton.specs.Following.{IsEnd, IsAfterEnd}
 use Rattle.stack_automaton.proofs.FollowingLemmas.{step_added}
 use Rattle.stack_automaton.proofs.follow.follow_fact.Goals as goal

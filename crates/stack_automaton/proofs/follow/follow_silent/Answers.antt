@@ -1,4 +1,4 @@
-use Rattle.stack_automaton.proofs.AddingLemmas.{adds_same}
+use Rattle.dm_base.proofs.AddingLemmas.{adds_same}
 use Rattle.stack_automaton.proofs.follow.follow_silent.Goals as goal
 
 pub returns : goal.returns

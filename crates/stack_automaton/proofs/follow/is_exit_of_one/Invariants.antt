@@ -1,5 +1,5 @@
 use Rattle.std.proofs.Common.{take}
-use Rattle.stack_automaton.specs.Adding.{Has}
+use Rattle.dm_base.specs.Adding.{Has}
 use Rattle.stack_automaton.specs.Following.{EndsAt}
 use Rattle.stack_automaton.proofs.follow.is_exit_of_one.Given as goal
 

@@ -1,7 +1,7 @@
 use Rattle.std.proofs.Common.{rules, ◌≡◌, true, false, refl, sym, subst}
-use Rattle.stack_automaton.specs.Adding.{Has}
+use Rattle.dm_base.specs.Adding.{Has}
 use Rattle.stack_automaton.specs.Following.{EndsAt}
-use Rattle.stack_automaton.proofs.AddingLemmas.{adds_nothing}
+use Rattle.dm_base.proofs.AddingLemmas.{adds_nothing}
 use Rattle.stack_automaton.proofs.FollowingLemmas.{site_returned, site_not_returned}
 use Rattle.stack_automaton.proofs.follow.return_along.Goals as goal
 

@@ -1,6 +1,6 @@
-use Rattle.stack_automaton.specs.Adding.{Has}
+use Rattle.dm_base.specs.Adding.{Has}
 use Rattle.stack_automaton.specs.Following.{IsReturn}
-use Rattle.stack_automaton.proofs.AddingLemmas.{adds_step_at, adds_end}
+use Rattle.dm_base.proofs.AddingLemmas.{adds_step_at, adds_end}
 use Rattle.stack_automaton.proofs.follow.return_along_each.Goals as goal
 
 pub loop-edge-preserved : goal.loop-edge-preserved

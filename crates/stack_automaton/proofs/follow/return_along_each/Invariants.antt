@@ -1,5 +1,5 @@
 use Rattle.std.proofs.Common.{take}
-use Rattle.stack_automaton.specs.Adding.{Has, Adds}
+use Rattle.dm_base.specs.Adding.{Has, Adds}
 use Rattle.stack_automaton.specs.Following.{IsReturn}
 use Rattle.stack_automaton.proofs.follow.return_along_each.Given as goal
 

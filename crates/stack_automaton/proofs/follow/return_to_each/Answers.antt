@@ -1,5 +1,5 @@
 use Rattle.std.proofs.Common.{◌≡◌}
-use Rattle.stack_automaton.proofs.AddingLemmas.{adds_step_at, adds_end}
+use Rattle.dm_base.proofs.AddingLemmas.{adds_step_at, adds_end}
 use Rattle.stack_automaton.specs.declared.place.Place.TheVariants.{Held}
 use Rattle.stack_automaton.proofs.follow.return_to_each.Goals as goal
 

@@ -1,7 +1,7 @@
 use Rattle.std.proofs.Common.{rules, ◌≡◌, [], subst}
-use Rattle.stack_automaton.specs.Adding.{Adds}
+use Rattle.dm_base.specs.Adding.{Adds}
 use Rattle.stack_automaton.specs.declared.place.Place.TheVariants.{Held}
-use Rattle.stack_automaton.proofs.AddingLemmas.{are_all}
+use Rattle.dm_base.proofs.AddingLemmas.{are_all}
 use Rattle.stack_automaton.proofs.monitor.first_fact.Goals as goal
 
 pub returns : goal.returns

@@ -1,6 +1,6 @@
 use Rattle.std.proofs.Common.{rules, ◌≡◌, Some}
 use Rattle.slab.specs.Slab.{get}
-use Rattle.stack_automaton.proofs.AddingLemmas.{adds_same}
+use Rattle.dm_base.proofs.AddingLemmas.{adds_same}
 use Rattle.stack_automaton.proofs.NotingLemmas.{same_next}
 use Rattle.stack_automaton.proofs.notes.note_next.Goals as goal
 

@@ -1,5 +1,5 @@
 use Rattle.std.proofs.Common.{◌≡◌, ◌↔◌, Contains, subst, sym, arith}
-use Rattle.stack_automaton.specs.Adding.{Has}
+use Rattle.dm_base.specs.Adding.{Has}
 use Rattle.stack_automaton.proofs.ReadingLemmas.{sites_at, call_below, contains_none}
 use Rattle.stack_automaton.proofs.reading.sites_from.Goals as goal
 

@@ -1,5 +1,5 @@
 use Rattle.std.proofs.Common.{◌≡◌, sym, subst}
-use Rattle.stack_automaton.specs.Adding.{Adds}
+use Rattle.dm_base.specs.Adding.{Adds}
 use Rattle.stack_automaton.proofs.MarksLemmas.{added_one}
 use Rattle.stack_automaton.proofs.fact_set.FactSet.insert.Goals as goal
 

@@ -1,6 +1,6 @@
 use Rattle.std.proofs.Common.{◌≡◌, true, sym, subst}
 use Rattle.std.proofs.Math.ListN.{set}
-use Rattle.stack_automaton.specs.Adding.{Adds}
+use Rattle.dm_base.specs.Adding.{Adds}
 use Rattle.stack_automaton.specs.Marks.{Keys, AreMarked}
 use Rattle.stack_automaton.proofs.MarksLemmas.{marked_same, marked_more, added_one}
 use Rattle.stack_automaton.proofs.key_set.KeySet.insert.Goals as goal

@@ -3,7 +3,7 @@ use Rattle.std.proofs.Common.{◌≡◌, ℕ, ◌+◌, ◌<◌, ◌⊎◌, Bool,
 use Prim.Native.Nat.{zero, suc}
 use Rattle.std.proofs.lemmas.List.{take_more}
 use Rattle.std.proofs.lemmas.List.Elements.{All-contains, All-filter, All-contains_itself, filter_passes, Contains-append_left, Contains-push, Contains-push_cases}
-use Rattle.inline_model_openings.specs.Growth.{HasOne}
+use Rattle.flow_model.specs.Growth.{HasOne}
 
 module _ {X : Type 0} (p : X → Bool) where
   pub filter-contains : (xs : List X) (x : X) → Contains (filter p xs) x → Contains xs x

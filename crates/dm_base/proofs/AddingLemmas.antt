@@ -2,13 +2,10 @@
 use Rattle.std.proofs.Common.{◌≡◌, ◌⊎◌, ◌↔◌, ℕ, ◌+◌, ◌<◌, ◌≤◌, List, [], ◌∷◌, ◌++◌, length, take, get_or, Contains, sym, ◌∙◌, ap, subst, inl, inr, arith, append-nil}
 use Rattle.std.proofs.lemmas.List.{take_more, take_all, get_or_default, append_assoc}
 use Rattle.std.proofs.lemmas.List.Elements.{Contains-push, Contains-append_left, Contains-push_cases}
-use Rattle.stack_automaton.specs.Adding.{Has, Adds}
+use Rattle.dm_base.specs.Adding.{Has, Adds, Gains}
 
 -- What holds of the new: what held of the old, or P.
 module _ {Y : Type 0} where
-  abbrev pub Gains : (Y → Type 0) → (Y → Type 0) → (Y → Type 0) → Type 0
-  Gains Old New P = (y : Y) → New y ↔ (Old y ⊎ P y)
-
   pub gains_nothing : (Old P : Y → Type 0) → ((y : Y) → P y → ⊥) → Gains Old Old P
   gains_nothing Old P none y = (λ has. inl has, λ s. elim s as (λ _. Old y) [ inl has ↦ has | inr p ↦ absurd (none y p) ])
 

@@ -4,8 +4,8 @@ use Rattle.std.proofs.lemmas.Bool.{cases_Bool, false≢true}
 use Rattle.std.proofs.lemmas.List.{append-nil, append_assoc, get_or_default, take_all}
 use Rattle.std.proofs.lemmas.List.Elements.{Contains-append_left, Contains-append_cases, Contains-push, Contains-push_cases}
 use Rattle.flow_model.specs.Found.{Found}
-use Rattle.callgraph_monitor.specs.Growth.{Adds, HasOne}
-use Rattle.callgraph_monitor.proofs.Items.{one_of_none, one_of_more, one_before, one_at}
+use Rattle.flow_model.specs.Growth.{Adds, HasOne}
+use Rattle.flow_model.proofs.Items.{one_of_none, one_of_more, one_before, one_at}
 
 -- what was found is found still
 pub adds-still : {P : ℕ → Type 0} (old new : Found) → Adds old new P → (b : ℕ) → Contains old.nodes b → Contains new.nodes b
