@@ -33,7 +33,8 @@ use Rattle.c_rules_laws.proofs.Holding.{Holds, holds_map, on_holds, both_hold, d
 use Rattle.c_rules_laws.proofs.SoundStructs.{are_structs}
 use Rattle.c_rules_laws.proofs.RightTypedExpressions.{constant_value, ValueRight, RightAs, null_right, as_if_right}
 use Rattle.c_rules_laws.proofs.RightExpressions.{strings_first, strings_rest, ValueBoth, value_right}
-use Rattle.c_rules_laws.proofs.SitesOfTypedExpressions.{IsConst, SitesAre, TypedExpressionsSites, none_both, as_if_sites}
+use Rattle.c_rules_laws.specs.ConstantForm.{IsConst}
+use Rattle.c_rules_laws.proofs.SitesOfTypedExpressions.{SitesAre, TypedExpressionsSites, none_both, as_if_sites}
 use Rattle.c_rules_laws.proofs.SitesOfExpressions.{fits_none, fits_both, FitsAt, Span, Counted, holds_with, range_append, value_counted}
 
 -- ## Cells

@@ -5,7 +5,6 @@ use Rattle.c_tree.specs.declared.value.UnOp.{UnOp}
 use Rattle.c_tree.specs.declared.value.UnOp.TheVariants.{Not}
 use Rattle.c_tree.specs.declared.value.BinOp.{BinOp}
 use Rattle.c_tree.specs.declared.value.BinOp.TheVariants as op
-use Rattle.c_tree.specs.declared.value.Value.TheVariants as v
 use Rattle.c_lexer.specs.declared.punctuator.TheConstants.{ASTERISK, PLUS, MINUS, TILDE, ASSIGN}
 use Rattle.c_tree.specs.Tree.{CType, void, integer, pointer, array, struct, function, CTypes, no_types, more_types, Expr, Exprs}
 use Rattle.c_tree.specs.Sites.{sites_of, sites_of_all}
@@ -15,8 +14,8 @@ use Rattle.c_tree.specs.Operands.{kind_of as kind_of_operator}
 use Rattle.c_rules.specs.Names.{Name, number_among}
 use Rattle.c_rules.specs.Types.{same_type, is_integer, is_function, is_scalar, is_void, count}
 use Rattle.c_rules.specs.Scopes.{Env, Struct, incomplete, unknown_struct, defined_struct, Member, struct_of, layout_of}
-use Rattle.c_rules.specs.TypedExpression.{Form, a_value, a_place, behind, Constant, not_constant, undefined, known, TypedExpression, tree_of_form, tree_of, is_place, is_known_zero, is_null, integer_constant_if, integer_constant}
-use Rattle.c_rules.specs.Constants.{constant_converted, constant_unary, constant_binary, constant_and, constant_or, constant_conditional, constant_member, constant_decayed, constant_moved}
+use Rattle.c_rules.specs.TypedExpression.{Form, a_value, a_place, behind, Constant, TypedExpression, tree_of_form, tree_of, is_place, is_null, integer_constant}
+use Rattle.c_rules.specs.Constants.{constant_and, constant_or, constant_moved}
 use Rattle.c_rules.specs.Conversions.{Kind, an_integer, a_pointer, neither, kind_of, complete, few_parts, loaded, valued_as, valued, cast_to, has_integer, converted_to, null_of, fits, assigned_as, assigned, as_if_assigned, condition}
 use Rattle.c_rules.specs.PostfixExpressions.{Designator, direct, through, Callee, callee_of_type, callee_through, all_fit, passed, call_of, as_many_as, called, name_of_member, member_or_undeclared, member_of_struct, member_of_type, member_of}
 use Rattle.c_rules.specs.UnaryExpressions.{address_of_form, address_of_type, address, led_to, indirection, plus_of, operator_of, unary_of_value, size_of, cast_of, null_cast}
@@ -25,12 +24,8 @@ use Rattle.c_rules.specs.Assignments.{assignment, operator_of_assignment, moves,
 use Rattle.c_rules.proofs.Integers.{size_holds}
 use Rattle.c_rules_laws.proofs.Holding.{Holds, demand_holds, behind_demand, after_part, if_holds}
 use Rattle.c_rules_laws.proofs.MadeTypes.{number_is}
-
--- constant by its form
-abbrev pub IsConst : Constant → Type 0
-IsConst not_constant = ⊥
-IsConst undefined = Unit {0}
-IsConst (known x) = Unit {0}
+use Rattle.c_rules_laws.specs.ConstantForm.{IsConst}
+use Rattle.c_rules_laws.proofs.ConstantForms.{converted_const, unary_const, integer_const, decayed_const, member_const, binary_const, and_const, or_const, conditional_const, moved_const, zero_const}
 
 -- the sites in the tree, of which a constant has none
 abbrev pub SitesAre : List ℕ → TypedExpression → Type 0
@@ -49,97 +44,6 @@ CalleeSites xs f = DesignatorSites xs f.designator
 
 pub none_both : (xs ys : List ℕ) → xs ≡ [] → ys ≡ [] → xs ++ ys ≡ []
 none_both xs ys e f = ap₂ (λ x y. x ++ y) e f
-
--- ## Constants
-
-pub converted_const : (i : IntType) (c : Constant) → IsConst (constant_converted i c) → IsConst c
-converted_const i not_constant h = h
-converted_const i undefined h = tt
-converted_const i (known x) h = tt
-
-pub unary_const : (o : UnOp) (c : Constant) → IsConst (constant_unary o c) → IsConst c
-unary_const o not_constant h = h
-unary_const o undefined h = tt
-unary_const o (known x) h = tt
-
-pub integer_const : (b : Bool) (c : Constant) → IsConst (integer_constant_if b c) → IsConst c
-integer_const true c h = h
-integer_const false c h = absurd h
-
-pub decayed_const : (n : ℕ) (c : Constant) → IsConst (constant_decayed n c) → IsConst c
-decayed_const n not_constant h = h
-decayed_const n undefined h = tt
-decayed_const n (known x) h = tt
-
-pub member_const : (k n : ℕ) (c : Constant) → IsConst (constant_member k n c) → IsConst c
-member_const k n not_constant h = h
-member_const k n undefined h = tt
-member_const k n (known x) h = tt
-
-pub binary_const : (o : BinOp) (a b : Constant) → IsConst (constant_binary o a b) → IsConst a × IsConst b
-binary_const o not_constant b h = absurd h
-binary_const o undefined not_constant h = absurd h
-binary_const o undefined undefined h = (tt, tt)
-binary_const o undefined (known y) h = (tt, tt)
-binary_const o (known x) not_constant h = absurd h
-binary_const o (known x) undefined h = (tt, tt)
-binary_const o (known x) (known y) h = (tt, tt)
-
-pub and_const : (a b : Constant) → IsConst (constant_and a b) → IsConst a × IsConst b
-and_const not_constant b h = absurd h
-and_const undefined not_constant h = absurd h
-and_const undefined undefined h = (tt, tt)
-and_const undefined (known y) h = (tt, tt)
-and_const (known x) not_constant h = absurd h
-and_const (known x) undefined h = (tt, tt)
-and_const (known x) (known y) h = (tt, tt)
-
-pub or_const : (a b : Constant) → IsConst (constant_or a b) → IsConst a × IsConst b
-or_const not_constant b h = absurd h
-or_const undefined not_constant h = absurd h
-or_const undefined undefined h = (tt, tt)
-or_const undefined (known y) h = (tt, tt)
-or_const (known x) not_constant h = absurd h
-or_const (known x) undefined h = (tt, tt)
-or_const (known x) (known y) h = (tt, tt)
-
-pub conditional_const : (c a b : Constant) → IsConst (constant_conditional c a b) → IsConst c × IsConst a × IsConst b
-conditional_const not_constant a b h = absurd h
-conditional_const undefined not_constant b h = absurd h
-conditional_const undefined undefined not_constant h = absurd h
-conditional_const undefined undefined undefined h = (tt, tt, tt)
-conditional_const undefined undefined (known y) h = (tt, tt, tt)
-conditional_const undefined (known x) not_constant h = absurd h
-conditional_const undefined (known x) undefined h = (tt, tt, tt)
-conditional_const undefined (known x) (known y) h = (tt, tt, tt)
-conditional_const (known z) not_constant b h = absurd h
-conditional_const (known z) undefined not_constant h = absurd h
-conditional_const (known z) undefined undefined h = (tt, tt, tt)
-conditional_const (known z) undefined (known y) h = (tt, tt, tt)
-conditional_const (known z) (known x) not_constant h = absurd h
-conditional_const (known z) (known x) undefined h = (tt, tt, tt)
-conditional_const (known z) (known x) (known y) h = (tt, tt, tt)
-
-pub moved_const : (c : Constant) (s : ℤ → ℤ) (k : Constant) → IsConst (constant_moved c s k) → IsConst c × IsConst k
-moved_const not_constant s k h = absurd h
-moved_const undefined s not_constant h = absurd h
-moved_const undefined s undefined h = (tt, tt)
-moved_const undefined s (known y) h = (tt, tt)
-moved_const (known v.Indeterminate) s not_constant h = absurd h
-moved_const (known (v.Int z)) s not_constant h = absurd h
-moved_const (known (v.Uint n)) s not_constant h = absurd h
-moved_const (known (v.Char z)) s not_constant h = absurd h
-moved_const (known (v.Uchar n)) s not_constant h = absurd h
-moved_const (known v.Null) s not_constant h = absurd h
-moved_const (known (v.Func f)) s not_constant h = absurd h
-moved_const (known (v.At q)) s not_constant h = absurd h
-moved_const (known x) s undefined h = (tt, tt)
-moved_const (known x) s (known y) h = (tt, tt)
-
-pub zero_const : (c : Constant) → is_known_zero c ≡ true → IsConst c
-zero_const not_constant h = absurd (cc)
-zero_const undefined h = tt
-zero_const (known x) h = tt
 
 -- ## Conversions
 

@@ -3,7 +3,7 @@
 -- typed unit are well-typed), Programs (the unit is a well-typed program), PlaceLaws (the places of nodes don't
 -- matter), TypedAlike and EnvironmentLaws (parts that stay as they are in an instrumented unit).
 -- None is for private contracts and proofs alone.
-pub mod TypedAlike
+pub mod ConstantForm
 pub mod EnvironmentLaws
 pub mod Lexical
 pub mod MadeTypes
@@ -11,4 +11,5 @@ pub mod PlaceLaws
 pub mod Programs
 pub mod RightScopes
 pub mod SoundStructs
+pub mod TypedAlike
 pub mod WellTyped

@@ -24,6 +24,7 @@ use Rattle.certify_steps.specs.Reading.{BeginsAt, EndsAt, IsCallAt}
 use Rattle.certify_steps.specs.Stepping.{GivesBy, Gives, node_of, moved, entered_at, link_to, line_of, IsCalledBy, IsOfCall, IsOfReturn, IsCallLine}
 use Rattle.certify_steps.proofs.AddingLemmas.{adds_same, adds_nothing}
 use Rattle.certify_steps.proofs.CheckLemmas.{entry_is, exit_is}
+pub use Rattle.flow_model.proofs.NoSite.{no_site}
 
 -- what `get` finds
 pub item_at : {X : Type 0} (xs : List X) (i : ℕ) (x : X) → true ≡ ltb i (length xs) → x ≡ get_or xs i x → slice_get xs i ≡ Some x
@@ -82,9 +83,6 @@ module _ (g : Graph) (site : ℕ) (c : Call) (at : IsCallAt g site c) where
       let A : Fact → Type 0 = λ z. Adds old new (λ l. l ≡ line_of z (reasons.Return r s)) in
       let B : ℕ → Type 0 = λ n. Adds old new (λ l. l ≡ line_of (moved x c.to) (reasons.Return r n)) in
       adds_same old new _ _ (λ l. at_site (λ d. IsOfReturn r x d l)) (subst B same_site (subst A (same_fact ∙ ap (λ n. moved x n) same_to) adds))
-
-pub no_site : (g : Graph) (site : ℕ) (P : Call → Type 0) → ((c : Call) → Contains g.calls c → c.site ≡ site → ⊥) → Has (λ c. (c.site ≡ site) × P c) g.calls → ⊥
-no_site g site P none (c, has, (is, p)) = none c has is
 
 -- the calls at the sites are the calls that have Q, where the sites are those of the calls that have Q
 pub by_sites : (g : Graph) (sites : List ℕ) (one : (c d : Call) → Contains g.calls c → Contains g.calls d → c.site ≡ d.site → c ≡ d) (Q P : Call → Type 0)

@@ -11,10 +11,11 @@ use Rattle.flow_model.specs.Call.{Call}
 use Rattle.flow_model.specs.Graph.{Graph, Owns, HaveOneOwner, end_of}
 use Rattle.flow_model.specs.Groups.{sites_from, sites_of}
 use Rattle.flow_model.specs.Rules.{IsValid, HasRightEntries}
-use Rattle.certify_facts.proofs.Owning.{all_at, one_call}
+use Rattle.flow_model.proofs.AllAt.{all_at}
+use Rattle.certify_facts.proofs.Owning.{one_call}
 use Rattle.dm_base.specs.Adding.{Has}
 use Rattle.certify_steps.specs.Reading.{IsCallAt}
-pub use Rattle.flow_model.proofs.OwnersBelow.{contains_none, owner_below}
+pub use Rattle.flow_model.proofs.OwnersBelow.{contains_none, owner_below, silent_below, sys_below, call_below}
 
 pub Contains-cons : {X : Type 0} (head x : X) (rest : List X) → Contains rest x → Contains (head ∷ rest) x
 Contains-cons head x rest (i, lt, is) = (suc i, omega (arith, lt), is)
@@ -113,15 +114,6 @@ module _ (functions : List ModelFunction) (nodes : ℕ) (right : HasRightEntries
   owned_below f a owns =
       let most : end_of functions nodes f ≤ nodes = below_by_option (f + 1) (slice_get functions (f + 1)) refl in
       omega (arith, most, owns.to)
-
-pub silent_below : (g : Graph) (e : SilentEdge) → IsValid g → Contains g.silent e → e.from < g.nodes
-silent_below g e valid has = owner_below g e.from e.to valid (all_at (λ e. HaveOneOwner g.functions g.nodes e.from e.to) g.silent e valid.edges.silent has)
-
-pub sys_below : (g : Graph) (e : SysEdge) → IsValid g → Contains g.sys e → e.from < g.nodes
-sys_below g e valid has = owner_below g e.from e.to valid (all_at (λ e. HaveOneOwner g.functions g.nodes e.from e.to) g.sys e valid.edges.sys has)
-
-pub call_below : (g : Graph) (c : Call) → IsValid g → Contains g.calls c → c.from < g.nodes
-call_below g c valid has = owner_below g c.from c.to valid (all_at (λ c. HaveOneOwner g.functions g.nodes c.from c.to) g.calls c valid.edges.calls has)
 
 -- what a search by the site finds
 module _ (g : Graph) (valid : IsValid g) (site : ℕ) where

@@ -8,6 +8,7 @@ pub mod Counting
 pub mod EdgeLemmas
 pub mod EquivalenceLemmas
 pub mod Filled
+pub mod NoSite
 pub mod FoundLemmas
 pub mod GroupsLemmas
 pub mod Grown

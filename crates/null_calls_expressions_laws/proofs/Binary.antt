@@ -22,7 +22,8 @@ use Rattle.c_rules.specs.Assignments.{assignment, operator_of_assignment, right_
 use Rattle.c_rules.specs.Expressions.{place_at, after_operand, infix_rule}
 use Rattle.null_calls_rules.specs.InstrumentedPrograms.{expr, kept}
 use Rattle.null_calls_rules.specs.WithoutSites.{unsited}
-use Rattle.null_calls_expressions_laws.specs.Remade.{remade, IsConst, IsRemade, Follows, IsOperand}
+use Rattle.c_rules_laws.specs.ConstantForm.{IsConst}
+use Rattle.null_calls_expressions_laws.specs.Remade.{remade, IsRemade, Follows, IsOperand}
 use Rattle.null_calls_expressions_laws.proofs.Constants.{none_both, integer_const, binary_const, and_const, or_const, conditional_const, moved_const}
 use Rattle.null_calls_expressions_laws.proofs.Operands.{operand, value_remade, demand_follows, behind_follows, on_follows, if_follows, converted_operand, null_operand, assigned_operand}
 use Rattle.null_calls_expressions_laws.proofs.Unary.{place_at_follows}

@@ -11,19 +11,12 @@ use Rattle.c_rules.specs.Constants.{constant_converted, constant_decayed}
 use Rattle.c_rules.specs.Conversions.{Kind, an_integer, a_pointer, neither, kind_of, few_parts, loaded, valued_as, valued, cast_to, has_integer, converted_to, null_of, fits, assigned_as, assigned, as_if_assigned}
 use Rattle.null_calls_rules.specs.InstrumentedPrograms.{expr, kept}
 use Rattle.null_calls_rules.specs.WithoutSites.{unsited}
-use Rattle.null_calls_expressions_laws.specs.Remade.{inner_of, with_inner, remade, IsConst, IsRemade, Follows, IsOperand}
+use Rattle.c_rules_laws.specs.ConstantForm.{IsConst}
+use Rattle.null_calls_expressions_laws.specs.Remade.{inner_of, with_inner, remade, IsRemade, Follows, IsOperand}
+use Rattle.c_rules_laws.proofs.ConstantForms.{decayed_const}
+pub use Rattle.c_rules_laws.proofs.ConstantForms.{converted_const}
 
 -- ## Constants
-
-pub converted_const : (i : IntType) (c : Constant) → IsConst (constant_converted i c) → IsConst c
-converted_const i not_constant h = h
-converted_const i undefined h = tt
-converted_const i (known x) h = tt
-
-decayed_const : (n : ℕ) (c : Constant) → IsConst (constant_decayed n c) → IsConst c
-decayed_const n not_constant h = h
-decayed_const n undefined h = tt
-decayed_const n (known x) h = tt
 
 pub zero_const : (c : Constant) → is_known_zero c ≡ true → IsConst c
 zero_const not_constant h = absurd (let q : false ≡ true = h in cc)

@@ -23,7 +23,8 @@ use Rattle.c_rules.specs.Assignments.{assignable}
 use Rattle.c_rules.specs.Expressions.{value_at, place_at, access, unary_rule}
 use Rattle.null_calls_rules.specs.InstrumentedPrograms.{expr, kept}
 use Rattle.null_calls_rules.specs.WithoutSites.{unsited}
-use Rattle.null_calls_expressions_laws.specs.Remade.{inner_of, with_inner, remade, IsConst, IsRemade, Follows, IsOperand}
+use Rattle.c_rules_laws.specs.ConstantForm.{IsConst}
+use Rattle.null_calls_expressions_laws.specs.Remade.{inner_of, with_inner, remade, IsRemade, Follows, IsOperand}
 use Rattle.null_calls_expressions_laws.proofs.Constants.{unary_const, integer_const, member_const}
 use Rattle.null_calls_expressions_laws.proofs.Operands.{operand, value_remade, same_remade, demand_follows, behind_follows, on_follows, if_follows, valued_follows, cast_operand, converted_operand, null_operand}
 

@@ -5,6 +5,7 @@ use Rattle.c_rules.specs.Checked.{Checked, fine, faulty}
 use Rattle.c_rules.specs.TypedExpression.{Form, a_value, a_place, behind, Constant, not_constant, undefined, known, TypedExpression, tree_of}
 use Rattle.null_calls_rules.specs.InstrumentedPrograms.{expr, kept}
 use Rattle.null_calls_rules.specs.WithoutSites.{unsited}
+use Rattle.c_rules_laws.specs.ConstantForm.{IsConst}
 
 -- the tree in a form
 abbrev pub inner_of : Form → Expr
@@ -20,12 +21,6 @@ with_inner (behind e) x = behind x
 -- the same with another tree
 abbrev pub remade : TypedExpression → Expr → TypedExpression
 remade g x = record { ctype = g.ctype; form = with_inner g.form x; constant = g.constant }
-
--- a constant by its form
-abbrev pub IsConst : Constant → Type 0
-IsConst not_constant = ⊥
-IsConst undefined = Unit {0}
-IsConst (known x) = Unit {0}
 
 module _ (p : Program) where
   -- the tree with its temporaries, whose numbers begin with k and whose types are ts; a constant has none

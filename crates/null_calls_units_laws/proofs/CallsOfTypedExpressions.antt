@@ -27,8 +27,9 @@ use Rattle.c_rules.specs.Assignments.{assignment, operator_of_assignment, moves,
 use Rattle.c_rules.proofs.Integers.{size_holds}
 use Rattle.c_rules_laws.proofs.Holding.{Holds, demand_holds, behind_demand, after_part, if_holds}
 use Rattle.c_rules_laws.proofs.MadeTypes.{number_is}
-use Rattle.c_rules_laws.proofs.SitesOfTypedExpressions.{converted_const, unary_const, integer_const, decayed_const, member_const, binary_const, and_const, or_const, conditional_const, moved_const, zero_const, and_right_test}
-pub use Rattle.c_rules_laws.proofs.SitesOfTypedExpressions.{IsConst}
+use Rattle.c_rules_laws.proofs.ConstantForms.{converted_const, unary_const, integer_const, decayed_const, member_const, binary_const, and_const, or_const, conditional_const, moved_const, zero_const}
+use Rattle.c_rules_laws.proofs.SitesOfTypedExpressions.{and_right_test}
+pub use Rattle.c_rules_laws.specs.ConstantForm.{IsConst}
 
 -- the sites in the tree, of which a constant has none
 abbrev pub SitesAre : List Mention → TypedExpression → Type 0

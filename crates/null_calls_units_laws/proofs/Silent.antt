@@ -19,7 +19,8 @@ use Rattle.c_rules.specs.Declarators.{is_void_pointer}
 use Rattle.c_rules.specs.Expressions.{value_at, place_at, access, after_operand, before_operand, unary_rule, infix_rule, cast_rule, tree, trees, type_named, value}
 use Rattle.c_rules.specs.Initialisers.{Slots, copies, each, slots, capacity, takes_list, count_inits, text_of, defined_cell, cell_of, scalar_cell, array_cells, cells_of_one, cells_of_list, after_init, calls_of_init, calls_of_inits, calls_of_maybe_init, initialised, in_turn, initialised_static, text_fits}
 use Rattle.c_rules_laws.proofs.Holding.{Holds, on_holds, both_hold, demand_holds, behind_demand, after_part}
-use Rattle.c_rules_laws.proofs.SitesOfTypedExpressions.{IsConst, SitesAre, as_if_sites}
+use Rattle.c_rules_laws.specs.ConstantForm.{IsConst}
+use Rattle.c_rules_laws.proofs.SitesOfTypedExpressions.{SitesAre, as_if_sites}
 use Rattle.c_rules_laws.proofs.SitesOfExpressions.{Span, Counted, value_counted}
 use Rattle.null_calls_units_laws.specs.FileScopes.{at_site}
 

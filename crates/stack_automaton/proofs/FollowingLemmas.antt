@@ -20,6 +20,7 @@ use Rattle.stack_automaton.specs.declared.place.Link.{Link}
 use Rattle.stack_automaton.specs.declared.links.Links.{Links}
 use Rattle.dm_base.proofs.AddingLemmas.{adds_same, adds_both, adds_nothing, has_more}
 use Rattle.stack_automaton.proofs.LinksLemmas.{links_same}
+pub use Rattle.flow_model.proofs.NoSite.{no_site}
 
 -- the entry of the function at the place
 pub entry_added : (old new : List Fact) (functions : List ModelFunction) (f : ℕ) (one : ModelFunction) → slice_get functions f ≡ Some one
@@ -86,10 +87,6 @@ module _ (g : Graph) (site : ℕ) (c : Call) (at : IsCallAt g site c) where
   site_not_returned old functions node e candidates label same not = adds_nothing old _ (λ y (d, has, (is, some, y_is)).
       let one : d ≡ c = at.only d has (is ∙ label) in
       not (subst (Has (EndsAt functions node)) (ap (λ x. x.candidates) one ∙ sym same) some))
-
--- no call has the site
-pub no_site : (g : Graph) (site : ℕ) (P : Call → Type 0) → ((c : Call) → Contains g.calls c → c.site ≡ site → ⊥) → Has (λ c. (c.site ≡ site) × P c) g.calls → ⊥
-no_site g site P none (c, has, (is, p)) = none c has is
 
 -- the calls at the sites of a node are the calls from it
 pub by_sites : (g : Graph) (node : ℕ) (sites : List ℕ) (one : (c d : Call) → Contains g.calls c → Contains g.calls d → c.site ≡ d.site → c ≡ d) (P : Call → Type 0)

@@ -16,7 +16,7 @@ use Rattle.flow_model.proofs.OrderLemmas.{lt_from_less}
 use Rattle.dm_base.specs.Adding.{Has}
 use Rattle.stack_automaton.specs.Following.{AreBegun, EndsAt, IsCallAt}
 pub use Rattle.flow_model.proofs.AllAt.{all_at}
-pub use Rattle.flow_model.proofs.OwnersBelow.{contains_none, owner_below}
+pub use Rattle.flow_model.proofs.OwnersBelow.{contains_none, owner_below, silent_below, sys_below, call_below}
 
 module _ {X : Type 0} (p : X → Bool) where
   kept_one : (y x : X) (ys : List X) (b : Bool) → p y ≡ b → (Contains (filter p ys) x ↔ (Contains ys x × (p x ≡ true))) → Contains (cond b (y ∷ filter p ys) (filter p ys)) x ↔ (Contains (y ∷ ys) x × (p x ≡ true))
@@ -143,15 +143,6 @@ module _ (functions : List ModelFunction) (nodes : ℕ) (right : HasRightEntries
       | inr ge ↦ omega (arith, le, ge)
     ]
   ]
-
-pub silent_below : (g : Graph) (e : SilentEdge) → IsValid g → Contains g.silent e → e.from < g.nodes
-silent_below g e valid has = owner_below g e.from e.to valid (all_at (λ e. HaveOneOwner g.functions g.nodes e.from e.to) g.silent e valid.edges.silent has)
-
-pub sys_below : (g : Graph) (e : SysEdge) → IsValid g → Contains g.sys e → e.from < g.nodes
-sys_below g e valid has = owner_below g e.from e.to valid (all_at (λ e. HaveOneOwner g.functions g.nodes e.from e.to) g.sys e valid.edges.sys has)
-
-pub call_below : (g : Graph) (c : Call) → IsValid g → Contains g.calls c → c.from < g.nodes
-call_below g c valid has = owner_below g c.from c.to valid (all_at (λ c. HaveOneOwner g.functions g.nodes c.from c.to) g.calls c valid.edges.calls has)
 
 -- a site has one call edge
 pub one_call : (g : Graph) → IsValid g → (c d : Call) → Contains g.calls c → Contains g.calls d → c.site ≡ d.site → c ≡ d
