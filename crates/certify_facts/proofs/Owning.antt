@@ -1,80 +1,12 @@
 -- In a valid model a node has one owner, a site one call edge, and an edge stays in one function.
-use Rattle.std.proofs.Common.{◌≡◌, ℕ, ◌+◌, ◌<◌, ◌≤◌, List, length, get_or, Contains, Option, Some, None, slice_get, unwrap_or, refl, sym, ◌∙◌, ap, subst, inl, inr, arith}
-use Rattle.std.specs.Prelude.{All, option_map}
-use Rattle.std.proofs.lemmas.Bool.{cases_lt}
-use Rattle.std.proofs.lemmas.List.{get_or_default}
-use Rattle.std.proofs.lemmas.Option.{slice_get_within, slice_get-get_or}
+use Rattle.std.proofs.Common.{◌≡◌, ℕ, List, Some, sym, ◌∙◌, ap, subst, arith}
 use Rattle.dm_base.specs.declared.event.Event.{Event}
 use Rattle.dm_base.specs.declared.event.Event.TheVariants.{Sys, Pre, Post}
-use Rattle.flow_model.specs.declared.records.ModelFunction.{ModelFunction}
-use Rattle.flow_model.specs.Call.{Call}
-use Rattle.flow_model.specs.Graph.{Graph, HasSilent, HasCall, HasFunction, Owns, HaveOneOwner, end_of}
-use Rattle.flow_model.specs.Rules.{IsValid, HasRightEntries}
-use Rattle.flow_model.proofs.OrderLemmas.{lt_from_less}
+use Rattle.flow_model.specs.Graph.{Graph, HasSilent, HasCall, HasFunction, Owns, HaveOneOwner}
+use Rattle.flow_model.specs.Rules.{IsValid}
 use Rattle.certify_facts.specs.Reasons.{LeadsAt, Leads}
 pub use Rattle.flow_model.proofs.AllAt.{all_at}
-
-module _ (functions : List ModelFunction) (nodes : ℕ) (right : HasRightEntries functions nodes) where
-  end_before : (f h : ℕ) (one : ModelFunction) → f < h → slice_get functions h ≡ Some one → (slot : Option ModelFunction) → slice_get functions (f + 1) ≡ slot → unwrap_or (option_map (λ o. o.entry) slot) nodes ≤ one.entry
-  end_before f h one lt is None none =
-      let within : h < length functions = slice_get_within functions h one is in
-      let next : f + 1 < length functions = omega (arith, within, lt) in
-      let both : None ≡ Some (get_or functions (f + 1) one) = sym none ∙ slice_get-get_or functions (f + 1) one next in
-      absurd cc
-  end_before f h one lt is (Some other) some =
-      let within : h < length functions = slice_get_within functions h one is in
-      let next : f + 1 < length functions = slice_get_within functions (f + 1) other some in
-      let first : Some one ≡ Some (get_or functions h one) = sym is ∙ slice_get-get_or functions h one within in
-      let second : Some other ≡ Some (get_or functions (f + 1) one) = sym some ∙ slice_get-get_or functions (f + 1) one next in
-      let at_h : one ≡ get_or functions h one = cc in
-      let at_f : other ≡ get_or functions (f + 1) one = cc in
-      let entry_h : one.entry ≡ (get_or functions h one).entry = ap (λ o. o.entry) at_h in
-      let entry_f : other.entry ≡ (get_or functions (f + 1) one).entry = ap (λ o. o.entry) at_f in
-      elim (cases_lt (f + 1) h) as (λ _. other.entry ≤ one.entry) [
-        | inl less ↦ let rise : (get_or functions (f + 1) one).entry < (get_or functions h one).entry = right.rise (f + 1) h one less within in omega (arith, rise, entry_h, entry_f)
-        | inr more ↦
-            let equal : f + 1 ≡ h = omega (arith, more, lt) in
-            let same : (get_or functions (f + 1) one).entry ≡ (get_or functions h one).entry = ap (λ i. (get_or functions i one).entry) equal in
-            omega (arith, same, entry_h, entry_f)
-      ]
-
-  owned_not_before : (f h a : ℕ) → Owns functions nodes f a → Owns functions nodes h a → f < h → ⊥
-  owned_not_before f h a one two lt =
-      let before : end_of functions nodes f ≤ two.one.entry = end_before f h two.one lt two.has (slice_get functions (f + 1)) refl in
-      omega (arith, before, one.to, two.from)
-
-  -- a node has one owner
-  pub one_owner : (f h a : ℕ) → Owns functions nodes f a → Owns functions nodes h a → f ≡ h
-  one_owner f h a one two = elim (cases_lt f h) as (λ _. f ≡ h) [
-    | inl lt ↦ absurd (owned_not_before f h a one two lt)
-    | inr le ↦ elim (cases_lt h f) as (λ _. f ≡ h) [
-      | inl lt ↦ absurd (owned_not_before h f a two one lt)
-      | inr ge ↦ omega (arith, le, ge)
-    ]
-  ]
-
--- a site has one call edge
-pub one_call : (g : Graph) → IsValid g → (c d : Call) → Contains g.calls c → Contains g.calls d → c.site ≡ d.site → c ≡ d
-one_call g valid c d (i, i_lt, is_c) (j, j_lt, is_d) same = elim (cases_lt i j) as (λ _. c ≡ d) [
-  | inl lt ↦
-      let less : (get_or g.calls i c).site < (get_or g.calls j c).site = lt_from_less _ _ (valid.order.calls i j c lt j_lt) in
-      let one : (get_or g.calls i c).site ≡ c.site = ap (λ x. x.site) is_c in
-      let two : (get_or g.calls j c).site ≡ d.site = ap (λ x. x.site) (at_other g.calls j c d j_lt is_d) in
-      absurd (omega (arith, less, one, two, same))
-  | inr le ↦ elim (cases_lt j i) as (λ _. c ≡ d) [
-    | inl lt ↦
-        let less : (get_or g.calls j c).site < (get_or g.calls i c).site = lt_from_less _ _ (valid.order.calls j i c lt i_lt) in
-        let one : (get_or g.calls i c).site ≡ c.site = ap (λ x. x.site) is_c in
-        let two : (get_or g.calls j c).site ≡ d.site = ap (λ x. x.site) (at_other g.calls j c d j_lt is_d) in
-        absurd (omega (arith, less, one, two, same))
-    | inr ge ↦
-        let equal : i ≡ j = omega (arith, le, ge) in
-        sym is_c ∙ ap (λ k. get_or g.calls k c) equal ∙ at_other g.calls j c d j_lt is_d
-  ]
-]
-  where
-    at_other : (calls : List Call) (j : ℕ) (c d : Call) → j < length calls → get_or calls j d ≡ d → get_or calls j c ≡ d
-    at_other calls j c d lt is = get_or_default calls j c d lt ∙ is
+pub use Rattle.flow_model.proofs.EdgesFound.{one_owner, one_call}
 
 module _ (g : Graph) (valid : IsValid g) where
   pub owns_exit : (f entry exit : ℕ) → HasFunction g f entry exit → Owns g.functions g.nodes f exit

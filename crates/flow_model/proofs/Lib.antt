@@ -6,9 +6,9 @@ pub mod BuilderLemmas
 pub mod CandidatesLemmas
 pub mod Counting
 pub mod EdgeLemmas
+pub mod EdgesFound
 pub mod EquivalenceLemmas
 pub mod Filled
-pub mod NoSite
 pub mod FoundLemmas
 pub mod GroupsLemmas
 pub mod Grown
@@ -17,6 +17,7 @@ pub mod Items
 pub mod LessLemmas
 pub mod ModelLemmas
 pub mod Nested
+pub mod NoSite
 pub mod NodeBounds
 pub mod OneOrder
 pub mod OrderLemmas

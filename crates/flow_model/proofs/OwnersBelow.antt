@@ -3,6 +3,7 @@ use Rattle.std.proofs.Common.{Contains, [], arith, ℕ, ◌<◌}
 use Rattle.flow_model.specs.Graph.{Graph, HaveOneOwner}
 use Rattle.flow_model.specs.Rules.{IsValid}
 use Rattle.flow_model.proofs.AllAt.{all_at}
+use Rattle.flow_model.proofs.NodeBounds.{owned_below}
 use Rattle.flow_model.specs.Call.{Call}
 use Rattle.flow_model.specs.declared.records.SilentEdge.{SilentEdge}
 use Rattle.flow_model.specs.declared.records.SysEdge.{SysEdge}
@@ -12,7 +13,7 @@ contains_none x has = omega (arith, has.1)
 
 -- one owner's node
 pub owner_below : (g : Graph) (a b : ℕ) → IsValid g → HaveOneOwner g.functions g.nodes a b → a < g.nodes
-owner_below g a b valid owner = owned_below g.functions g.nodes valid.entries owner.owner a owner.first
+owner_below g a b valid owner = owned_below g.functions g.nodes owner.owner a valid.entries owner.first
 
 pub silent_below : (g : Graph) (e : SilentEdge) → IsValid g → Contains g.silent e → e.from < g.nodes
 silent_below g e valid has = owner_below g e.from e.to valid (all_at (λ e. HaveOneOwner g.functions g.nodes e.from e.to) g.silent e valid.edges.silent has)
