@@ -2,10 +2,8 @@
 use Rattle.std.specs.Prelude.{ℕ, List, [], ◌∷◌, ◌++◌, flat_map}
 use Rattle.c_tree.specs.declared.value.Value.{Value}
 use Rattle.c_tree.specs.declared.value.Value.TheVariants as v
-use Rattle.c_tree.specs.Tree.{CType, Expr, constant, function_name, string_place, variable, dereference, load, address_of, decay, discard, field, unary_operation, conversion, arithmetic, comparison, pointer_add, pointer_diff, and, or, assign, update, conditional, comma, call, call_through, type_of}
-use Rattle.c_tree.specs.Tree.{Exprs, no_exprs, more_exprs, Maybe, absent, there, Inits, no_inits, more_inits}
-use Rattle.c_tree.specs.Tree.{Stmt, block, empty, evaluate, declare, if_else, while_loop, do_loop, for_loop, switch_on, break_off, continue_on, return_void, return_value, Stmts, no_stmts, more_stmts, Groups, no_groups, more_groups}
-use Rattle.c_tree.specs.Tree.{Function, Static, Program}
+use Rattle.c_tree.specs.Tree.{CType, Expr, Exprs, Maybe, Inits, Stmt, Stmts, Groups, Function, Static, Program}
+use Rattle.c_tree.specs.Gathered.{Gathering, gathered, gathered_all, gathered_maybe, gathered_inits, gathered_stmt, gathered_stmts, gathered_groups}
 
 -- what a call expression calls: the function with a number by its name, or a pointer of a type
 pub data Callee : Type 0 where
@@ -17,69 +15,33 @@ pub data Mention : Type 0 where
   Named : ℕ → Mention
   Calls : ℕ → Callee → Mention
 
-abbrev mutual
-  pub mentions : Expr → List Mention
-  mentions (constant t v) = []
-  mentions (function_name t f) = Named f ∷ []
-  mentions (string_place t n) = []
-  mentions (variable t is_static n) = []
-  mentions (dereference t a) = mentions a
-  mentions (load t a) = mentions a
-  mentions (address_of t a) = mentions a
-  mentions (decay t a) = mentions a
-  mentions (discard t a) = mentions a
-  mentions (field t first a) = mentions a
-  mentions (unary_operation t op a) = mentions a
-  mentions (conversion t to a) = mentions a
-  mentions (arithmetic t op a b) = mentions a ++ mentions b
-  mentions (comparison t op a b) = mentions a ++ mentions b
-  mentions (pointer_add t first subtracted a b) = mentions a ++ mentions b
-  mentions (pointer_diff t a b) = mentions a ++ mentions b
-  mentions (and t a b) = mentions a ++ mentions b
-  mentions (or t a b) = mentions a ++ mentions b
-  mentions (assign t a b) = mentions a ++ mentions b
-  mentions (update t op old a b) = mentions a ++ mentions b
-  mentions (conditional t c a b) = mentions c ++ (mentions a ++ mentions b)
-  mentions (comma t es) = mentions_of_all es
-  mentions (call t site f es) = Calls site (Direct f) ∷ mentions_of_all es
-  mentions (call_through t site a es) = mentions a ++ Calls site (Through (type_of a)) ∷ mentions_of_all es
+abbrev pub all_mentions : Gathering Mention
+all_mentions = record {
+  named = λ f. Named f ∷ [];
+  direct = λ site f. Calls site (Direct f);
+  through = λ site t. Calls site (Through t);
+}
 
-  pub mentions_of_all : Exprs → List Mention
-  mentions_of_all no_exprs = []
-  mentions_of_all (more_exprs e es) = mentions e ++ mentions_of_all es
+abbrev pub mentions : Expr → List Mention
+mentions e = gathered all_mentions e
+
+abbrev pub mentions_of_all : Exprs → List Mention
+mentions_of_all es = gathered_all all_mentions es
 
 abbrev pub mentions_of_maybe : Maybe → List Mention
-mentions_of_maybe absent = []
-mentions_of_maybe (there e) = mentions e
+mentions_of_maybe e = gathered_maybe all_mentions e
 
 abbrev pub mentions_of_inits : Inits → List Mention
-mentions_of_inits no_inits = []
-mentions_of_inits (more_inits cell e is) = mentions e ++ mentions_of_inits is
+mentions_of_inits is = gathered_inits all_mentions is
 
-abbrev mutual
-  pub mentions_of_stmt : Stmt → List Mention
-  mentions_of_stmt (block ss) = mentions_of_stmts ss
-  mentions_of_stmt empty = []
-  mentions_of_stmt (evaluate e) = mentions e
-  mentions_of_stmt (declare x is) = mentions_of_inits is
-  mentions_of_stmt (if_else e s u) = mentions e ++ (mentions_of_stmt s ++ mentions_of_stmt u)
-  mentions_of_stmt (while_loop e s) = mentions e ++ mentions_of_stmt s
-  mentions_of_stmt (do_loop s e) = mentions_of_stmt s ++ mentions e
-  mentions_of_stmt (for_loop first test step s) =
-      mentions_of_stmts first ++ (mentions_of_maybe test ++ (mentions_of_maybe step ++ mentions_of_stmt s))
-  mentions_of_stmt (switch_on e gs) = mentions e ++ mentions_of_groups gs
-  mentions_of_stmt break_off = []
-  mentions_of_stmt continue_on = []
-  mentions_of_stmt return_void = []
-  mentions_of_stmt (return_value e) = mentions e
+abbrev pub mentions_of_stmt : Stmt → List Mention
+mentions_of_stmt s = gathered_stmt all_mentions s
 
-  pub mentions_of_stmts : Stmts → List Mention
-  mentions_of_stmts no_stmts = []
-  mentions_of_stmts (more_stmts s ss) = mentions_of_stmt s ++ mentions_of_stmts ss
+abbrev pub mentions_of_stmts : Stmts → List Mention
+mentions_of_stmts ss = gathered_stmts all_mentions ss
 
-  pub mentions_of_groups : Groups → List Mention
-  mentions_of_groups no_groups = []
-  mentions_of_groups (more_groups ls ss gs) = mentions_of_stmts ss ++ mentions_of_groups gs
+abbrev pub mentions_of_groups : Groups → List Mention
+mentions_of_groups gs = gathered_groups all_mentions gs
 
 abbrev pub mentions_of_function : Function → List Mention
 mentions_of_function f = mentions_of_stmt f.body
