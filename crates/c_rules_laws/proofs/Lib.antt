@@ -12,6 +12,7 @@ pub mod FileScopes
 pub mod Fine
 pub mod Free
 pub mod Functions
+pub mod GatheredOfTypedExpressions
 pub mod Holding
 pub mod Initialisers
 pub mod Items
@@ -31,7 +32,6 @@ pub mod RightStatements
 pub mod RightTypedExpressions
 pub mod SitesOfExpressions
 pub mod SitesOfStatements
-pub mod SitesOfTypedExpressions
 pub mod SizeBounds
 pub mod SoundStructs
 pub mod Spans

@@ -34,8 +34,12 @@ use Rattle.c_rules_laws.proofs.SoundStructs.{are_structs}
 use Rattle.c_rules_laws.proofs.RightTypedExpressions.{constant_value, ValueRight, RightAs, null_right, as_if_right}
 use Rattle.c_rules_laws.proofs.RightExpressions.{strings_first, strings_rest, ValueBoth, value_right}
 use Rattle.c_rules_laws.specs.ConstantForm.{IsConst}
-use Rattle.c_rules_laws.proofs.SitesOfTypedExpressions.{SitesAre, TypedExpressionsSites, none_both, as_if_sites}
 use Rattle.c_rules_laws.proofs.SitesOfExpressions.{fits_none, fits_both, FitsAt, Span, Counted, holds_with, range_append, value_counted}
+use Rattle.c_rules_laws.proofs.GatheredOfTypedExpressions.{Gathers, AllGather, none_both, as_if_gathered}
+use Rattle.c_tree.specs.Sites.{all_sites}
+
+no_names : (f : ℕ) → all_sites.named f ≡ []
+no_names f = refl
 
 -- ## Cells
 
@@ -59,12 +63,12 @@ known_const undefined h = tt
 known_const (known x) h = tt
 
 -- constants have no sites
-pub known_sites : (gs : List TypedExpression) (xs : List ℕ) → AllKnown gs → TypedExpressionsSites xs gs → xs ≡ []
+pub known_sites : (gs : List TypedExpression) (xs : List ℕ) → AllKnown gs → AllGather all_sites xs gs → xs ≡ []
 known_sites [] xs h k = k
 known_sites (g ∷ gs) xs h k = k.4 ∙ none_both k.0 k.1 (k.2.1 (known_const g.constant h.0)) (known_sites gs k.1 h.1 k.3)
 
-both_givens : (gs hs : List TypedExpression) (xs ys : List ℕ) → TypedExpressionsSites xs gs → TypedExpressionsSites ys hs → TypedExpressionsSites (xs ++ ys) (gs ++ hs)
-both_givens [] hs xs ys h k = subst (λ zs. TypedExpressionsSites (zs ++ ys) hs) (sym h) k
+both_givens : (gs hs : List TypedExpression) (xs ys : List ℕ) → AllGather all_sites xs gs → AllGather all_sites ys hs → AllGather all_sites (xs ++ ys) (gs ++ hs)
+both_givens [] hs xs ys h k = subst (λ zs. AllGather all_sites (zs ++ ys) hs) (sym h) k
 both_givens (g ∷ gs) hs xs ys h k = (h.0, h.1 ++ ys, h.2, both_givens gs hs h.1 ys h.3 k, ap (λ zs. zs ++ ys) h.4 ∙ append_assoc h.0 h.1 ys)
 
 repeat_add : (a b : ℕ) (xs : List CType) → repeat (a + b) xs ≡ repeat a xs ++ repeat b xs
@@ -261,16 +265,16 @@ module _ (p : Program) (vars : List CType) where
       let got : slice_get all k ≡ Some t = subst (λ n. slice_get all n ≡ Some t) e (l 0 t refl) in
       (got ∙ ap Some (sym (h.1.0 ∙ h.0)), h.1.1, stores_right all ts (suc k) gs (λ j u q. (let f : k + suc j ≡ suc k + j = omega arith in subst (λ n. slice_get all n ≡ Some u) f (l (suc j) u q))) h.2)
 
-pub stores_sites : (k : ℕ) (gs : List TypedExpression) (xs : List ℕ) → TypedExpressionsSites xs gs → sites_of_inits (stores_from k gs) ≡ xs
+pub stores_sites : (k : ℕ) (gs : List TypedExpression) (xs : List ℕ) → AllGather all_sites xs gs → sites_of_inits (stores_from k gs) ≡ xs
 stores_sites k [] xs h = sym h
 stores_sites k (g ∷ gs) xs h = ap₂ (λ x y. x ++ y) h.2.0 (stores_sites (suc k) gs h.1 h.3) ∙ sym h.4
 
 -- ## The sites in initialisers
 
 abbrev pub InitCounted : Before → ℕ → List (List ℕ) → List TypedExpression → Type 0
-InitCounted b n ws gs = TypedExpressionsSites (Span b n) gs × FitsAt b n ws
+InitCounted b n ws gs = AllGather all_sites (Span b n) gs × FitsAt b n ws
 
-one_given : (xs : List ℕ) (g : TypedExpression) → SitesAre xs g → TypedExpressionsSites xs (g ∷ [])
+one_given : (xs : List ℕ) (g : TypedExpression) → Gathers all_sites xs g → AllGather all_sites xs (g ∷ [])
 one_given xs g h = (xs, [], h, refl, sym (none xs))
   where
     none : (xs : List ℕ) → xs ++ [] ≡ xs
@@ -289,13 +293,13 @@ cell_counted true at b n ws g h = by_constant g.constant
 scalar_counted : (k : Bool) (at : ℕ) (t : CType) (b : Before) (n : ℕ) (ws : List (List ℕ)) (r : Checked TypedExpression) → Holds (Counted b n ws) r → Holds (InitCounted b n ws) (scalar_cell k at t r)
 scalar_counted k at t b n ws r h =
     on_holds (Counted b n ws) (InitCounted b n ws) (on r (as_if_assigned at t)) (cell_of k at)
-    (on_holds (Counted b n ws) (Counted b n ws) r (as_if_assigned at t) h (λ g l. holds_with (SitesAre (Span b n)) (FitsAt b n ws) (as_if_assigned at t g) l.1 (as_if_sites at (Span b n) t g l.0))) (λ g l. cell_counted k at b n ws g l)
+    (on_holds (Counted b n ws) (Counted b n ws) r (as_if_assigned at t) h (λ g l. holds_with (Gathers all_sites (Span b n)) (FitsAt b n ws) (as_if_assigned at t g) l.1 (as_if_gathered all_sites no_names at (Span b n) t g l.0))) (λ g l. cell_counted k at b n ws g l)
 
-zeros_silent : (ts : List CType) → TypedExpressionsSites [] (map typed_zero ts)
+zeros_silent : (ts : List CType) → AllGather all_sites [] (map typed_zero ts)
 zeros_silent [] = refl
 zeros_silent (t ∷ ts) = ([], [], one t, zeros_silent ts, refl)
   where
-    one : (t : CType) → SitesAre [] (typed_zero t)
+    one : (t : CType) → Gathers all_sites [] (typed_zero t)
     one void = (refl, λ _. refl)
     one (integer i) = (refl, λ _. refl)
     one (pointer t) = (refl, λ _. refl)
@@ -303,18 +307,18 @@ zeros_silent (t ∷ ts) = ([], [], one t, zeros_silent ts, refl)
     one (struct s) = (refl, λ _. refl)
     one (function t ts) = (refl, λ _. refl)
 
-slots_silent : (structs : Structs) (s : Slots) → TypedExpressionsSites [] (zeros structs s)
+slots_silent : (structs : Structs) (s : Slots) → AllGather all_sites [] (zeros structs s)
 slots_silent structs (copies n t) = zeros_silent (repeat n (flat structs t))
 slots_silent structs (each ts) = zeros_silent (flat_all structs ts)
 
-chars_silent : (n : ℕ) (w : List ℕ) → TypedExpressionsSites [] (chars n w)
+chars_silent : (n : ℕ) (w : List ℕ) → AllGather all_sites [] (chars n w)
 chars_silent n w = both_givens (map typed_char w) (replicate (n - length w) (typed_char 0)) [] [] (all w) (ends (n - length w))
   where
-    all : (w : List ℕ) → TypedExpressionsSites [] (map typed_char w)
+    all : (w : List ℕ) → AllGather all_sites [] (map typed_char w)
     all [] = refl
     all (c ∷ w) = ([], [], (refl, λ _. refl), all w, refl)
 
-    ends : (k : ℕ) → TypedExpressionsSites [] (replicate k (typed_char 0))
+    ends : (k : ℕ) → AllGather all_sites [] (replicate k (typed_char 0))
     ends zero = refl
     ends (suc k) = ([], [], (refl, λ _. refl), ends k, refl)
 
@@ -328,7 +332,7 @@ list_counted b n ws takes at most count r h =
 
 init_both : (b : Before) (n m : ℕ) (xs ys : List (List ℕ)) (gs hs : List TypedExpression) → InitCounted b n xs gs → InitCounted (past b n xs) m ys hs → InitCounted b (n + m) (xs ++ ys) (gs ++ hs)
 init_both b n m xs ys gs hs h k =
-    (subst (λ zs. TypedExpressionsSites zs (gs ++ hs)) (sym (range_append b.sites n m)) (both_givens gs hs (Span b n) (range_with_len (b.sites + n) m) h.0 k.0), fits_both b.sites b.cells n m xs ys h.1 k.1)
+    (subst (λ zs. AllGather all_sites zs (gs ++ hs)) (sym (range_append b.sites n m)) (both_givens gs hs (Span b n) (range_with_len (b.sites + n) m) h.0 k.0), fits_both b.sites b.cells n m xs ys h.1 k.1)
 
 mutual
   pub initialised_counted : (i : Init) (env : Env) → env.context ≡ evaluated → (b : Before) (k : Bool) (t : CType) → Holds (InitCounted b (calls_of_init i) (held env t i)) (initialised env b k t i)

@@ -17,7 +17,7 @@ use Rattle.c_rules.specs.Counts.{place_of, calls, calls_of_all, strings, strings
 use Rattle.c_rules.specs.TypedExpression.{TypedExpression}
 use Rattle.c_rules.specs.Conversions.{valued}
 use Rattle.c_rules.specs.PrimaryExpressions.{used, object_number, function_number, function_value_number, typed_int, meant, bound, integer_expression, string_fits, string_number, typed_string}
-use Rattle.c_rules.specs.PostfixExpressions.{Callee, site_in, site_of, callee_of_type, callee_by_value, called, member_of}
+use Rattle.c_rules.specs.PostfixExpressions.{Designator, direct, through, Callee, site_in, site_of, callee_of_type, callee_by_value, called, member_of}
 use Rattle.c_rules.specs.UnaryExpressions.{address, indirection, unary_of_value, size_of, size_of_expression, size_of_type, cast_of, null_cast}
 use Rattle.c_rules.specs.BinaryExpressions.{operator_of_code, sum, choice}
 use Rattle.c_rules.specs.Assignments.{assignable, assignment_by, step, comma_of}
@@ -25,7 +25,16 @@ use Rattle.c_rules.specs.Declarators.{place_of_type, is_void_pointer}
 use Rattle.c_rules.specs.Expressions.{value_at, place_at, callee_meant, callee_bound, callee, access, after_operand, unary_rule, infix_rule, cast_rule, tree, trees, type_named, value}
 use Rattle.c_rules.proofs.Integers.{integer_cases}
 use Rattle.c_rules_laws.proofs.Holding.{Holds, holds_map, holds_two, on_holds, both_hold, all_three_hold, Any, anything, demand_holds, after_part, if_holds}
-use Rattle.c_rules_laws.proofs.SitesOfTypedExpressions.{SitesAre, TypedExpressionsSites, CalleeSites, valued_sites, called_sites, callee_type_sites, callee_through_sites, member_sites, address_sites, indirection_sites, unary_sites, size_sites, cast_of_sites, null_cast_sites, sum_sites, operation_sites, conjunction_sites, disjunction_sites, assignment_by_sites, step_sites, choice_sites, comma_sites}
+use Rattle.c_rules_laws.proofs.GatheredOfTypedExpressions.{called_at, Gathers, AllGather, CalleeGathers, valued_gathered, called_gathered, callee_type_gathered, callee_through_gathered, member_gathered, address_gathered, indirection_gathered, unary_gathered, size_gathered, cast_of_gathered, null_cast_gathered, sum_gathered, operation_gathered, conjunction_gathered, disjunction_gathered, assignment_by_gathered, step_gathered, choice_gathered, comma_gathered}
+use Rattle.c_tree.specs.Sites.{all_sites}
+
+no_names : (f : ℕ) → all_sites.named f ≡ []
+no_names f = refl
+
+-- a call gives its site
+site_called : (site : ℕ) (d : Designator) → called_at all_sites site d ≡ site
+site_called site (direct f) = refl
+site_called site (through e) = refl
 
 -- ## Limits
 
@@ -77,24 +86,24 @@ abbrev pub FitsAt : Before → ℕ → List (List ℕ) → Type 0
 FitsAt b n ws = Fits b.sites b.cells n ws
 
 abbrev pub Counted : Before → ℕ → List (List ℕ) → TypedExpression → Type 0
-Counted b n ws g = SitesAre (Span b n) g × FitsAt b n ws
+Counted b n ws g = Gathers all_sites (Span b n) g × FitsAt b n ws
 
-plain_counted : (b : Before) (g : TypedExpression) → SitesAre [] g → Counted b 0 [] g
+plain_counted : (b : Before) (g : TypedExpression) → Gathers all_sites [] g → Counted b 0 [] g
 plain_counted b g h = (h, fits_none b.sites b.cells)
 
-meant_sites : (env : Env) (at : ℕ) (x : Name) (m : Meaning) → Holds (SitesAre []) (meant env at x m)
-meant_sites env at x (a_static seen whole d) = after_part (SitesAre []) (used env.context at (object_number env x)) _ (λ _. (refl, λ _. refl))
+meant_sites : (env : Env) (at : ℕ) (x : Name) (m : Meaning) → Holds (Gathers all_sites []) (meant env at x m)
+meant_sites env at x (a_static seen whole d) = after_part (Gathers all_sites []) (used env.context at (object_number env x)) _ (λ _. (refl, λ _. refl))
 meant_sites env at x (a_local n seen whole) = (refl, λ _. refl)
-meant_sites env at x (a_function t d) = after_part (SitesAre []) (function_value_number env at x) _ (λ _. (refl, λ _. refl))
+meant_sites env at x (a_function t d) = after_part (Gathers all_sites []) (function_value_number env at x) _ (λ _. (refl, λ _. refl))
 meant_sites env at x (an_enumerator z) = (refl, λ _. refl)
 meant_sites env at x (unknown f fs) = tt
 
-bound_sites : (env : Env) (at : ℕ) (x : Name) (o : Option Binding) → Holds (SitesAre []) (bound env at x o)
+bound_sites : (env : Env) (at : ℕ) (x : Name) (o : Option Binding) → Holds (Gathers all_sites []) (bound env at x o)
 bound_sites env at x None = tt
 bound_sites env at x (Some b) = meant_sites env at x b.means
 
-integer_sites : (n : ℕ) (u : Bool) → SitesAre [] (integer_expression n u)
-integer_sites n u = integer_cases (SitesAre []) n u (λ _. (refl, λ _. refl)) (refl, λ _. refl)
+integer_sites : (n : ℕ) (u : Bool) → Gathers all_sites [] (integer_expression n u)
+integer_sites n u = integer_cases (Gathers all_sites []) n u (λ _. (refl, λ _. refl)) (refl, λ _. refl)
 
 string_counted : (c : Context) → c ≡ evaluated → (at n : ℕ) (b : Before) (w : List ℕ) → Holds (Counted b 0 (w ∷ [])) (gives (string_fits c at b.cells (suc (length w))) (λ _. typed_string n (length w)))
 string_counted evaluated e at n b w =
@@ -116,38 +125,38 @@ site_counted sized e m n at = absurd (cc)
 site_counted folded e m n at = absurd (cc)
 
 pub value_at_counted : (env : Env) (place : ℕ) (b : Before) (n : ℕ) (ws : List (List ℕ)) (r : Checked TypedExpression) → Holds (Counted b n ws) r → Holds (Counted b n ws) (value_at env place r)
-value_at_counted env place b n ws r h = on_holds (Counted b n ws) (Counted b n ws) r (valued env place) h (λ g k. holds_with (SitesAre (Span b n)) (FitsAt b n ws) (valued env place g) k.1 (valued_sites env place (Span b n) g k.0))
+value_at_counted env place b n ws r h = on_holds (Counted b n ws) (Counted b n ws) r (valued env place) h (λ g k. holds_with (Gathers all_sites (Span b n)) (FitsAt b n ws) (valued env place g) k.1 (valued_gathered all_sites no_names env place (Span b n) g k.0))
 
 place_at_counted : (place : ℕ) (b : Before) (n : ℕ) (ws : List (List ℕ)) (r : Checked TypedExpression) → Holds (Counted b n ws) r → Holds (Counted b n ws) (place_at place r)
 place_at_counted place b n ws r h = on_holds (Counted b n ws) (Counted b n ws) r (assignable place) h (λ g k. demand_holds (Counted b n ws) _ 4 place g (λ _. k))
 
 -- a rule on one part
-one_part : (b : Before) (n : ℕ) (ws : List (List ℕ)) (r : Checked TypedExpression) (k : TypedExpression → Checked TypedExpression) → Holds (Counted b n ws) r → ((g : TypedExpression) → SitesAre (Span b n) g → Holds (SitesAre (Span b n)) (k g)) → Holds (Counted b n ws) (on r k)
-one_part b n ws r k h f = on_holds (Counted b n ws) (Counted b n ws) r k h (λ g w. holds_with (SitesAre (Span b n)) (FitsAt b n ws) (k g) w.1 (f g w.0))
+one_part : (b : Before) (n : ℕ) (ws : List (List ℕ)) (r : Checked TypedExpression) (k : TypedExpression → Checked TypedExpression) → Holds (Counted b n ws) r → ((g : TypedExpression) → Gathers all_sites (Span b n) g → Holds (Gathers all_sites (Span b n)) (k g)) → Holds (Counted b n ws) (on r k)
+one_part b n ws r k h f = on_holds (Counted b n ws) (Counted b n ws) r k h (λ g w. holds_with (Gathers all_sites (Span b n)) (FitsAt b n ws) (k g) w.1 (f g w.0))
 
 -- a rule on two parts, one behind the other
 two_parts : (b : Before) (n m : ℕ) (xs ys : List (List ℕ)) (p q : Checked TypedExpression) (k : TypedExpression → TypedExpression → Checked TypedExpression) → Holds (Counted b n xs) p → Holds (Counted (past b n xs) m ys) q
-    → ((g h : TypedExpression) → SitesAre (range_with_len b.sites n) g → SitesAre (range_with_len (b.sites + n) m) h → Holds (SitesAre (range_with_len b.sites n ++ range_with_len (b.sites + n) m)) (k g h)) → Holds (Counted b (n + m) (xs ++ ys)) (both p q k)
+    → ((g h : TypedExpression) → Gathers all_sites (range_with_len b.sites n) g → Gathers all_sites (range_with_len (b.sites + n) m) h → Holds (Gathers all_sites (range_with_len b.sites n ++ range_with_len (b.sites + n) m)) (k g h)) → Holds (Counted b (n + m) (xs ++ ys)) (both p q k)
 two_parts b n m xs ys p q k h g f =
     both_hold (Counted b n xs) (Counted (past b n xs) m ys) (Counted b (n + m) (xs ++ ys)) p q k h g
-    (λ x y v w. holds_with (SitesAre (Span b (n + m))) (FitsAt b (n + m) (xs ++ ys)) (k x y) (fits_both b.sites b.cells n m xs ys v.1 w.1)
-    (subst (λ zs. Holds (SitesAre zs) (k x y)) (sym (range_append b.sites n m)) (f x y v.0 w.0)))
+    (λ x y v w. holds_with (Gathers all_sites (Span b (n + m))) (FitsAt b (n + m) (xs ++ ys)) (k x y) (fits_both b.sites b.cells n m xs ys v.1 w.1)
+    (subst (λ zs. Holds (Gathers all_sites zs) (k x y)) (sym (range_append b.sites n m)) (f x y v.0 w.0)))
 
-by_value_sites : (at : ℕ) (xs : List ℕ) (r : Checked TypedExpression) → Holds (SitesAre xs) r → Holds (CalleeSites xs) (on r (callee_by_value at))
-by_value_sites at xs r h = on_holds (SitesAre xs) (CalleeSites xs) r (callee_by_value at) h (λ g k. callee_through_sites at xs _ g.ctype k.0)
+by_value_sites : (at : ℕ) (xs : List ℕ) (r : Checked TypedExpression) → Holds (Gathers all_sites xs) r → Holds (CalleeGathers all_sites xs) (on r (callee_by_value at))
+by_value_sites at xs r h = on_holds (Gathers all_sites xs) (CalleeGathers all_sites xs) r (callee_by_value at) h (λ g k. callee_through_gathered all_sites no_names at xs _ g.ctype k.0)
 
-callee_meant_sites : (env : Env) (at place : ℕ) (x : Name) (r : Checked TypedExpression) (m : Meaning) → Holds (SitesAre []) r → Holds (CalleeSites []) (callee_meant env at place x r m)
-callee_meant_sites env at place x r (a_function t d) h = after_part (CalleeSites []) (used env.context place (function_number env x)) (callee_of_type place t) (λ f. callee_type_sites place t f)
+callee_meant_sites : (env : Env) (at place : ℕ) (x : Name) (r : Checked TypedExpression) (m : Meaning) → Holds (Gathers all_sites []) r → Holds (CalleeGathers all_sites []) (callee_meant env at place x r m)
+callee_meant_sites env at place x r (a_function t d) h = after_part (CalleeGathers all_sites []) (used env.context place (function_number env x)) (callee_of_type place t) (λ f. callee_type_gathered all_sites no_names place t f)
 callee_meant_sites env at place x r (a_static seen whole d) h = by_value_sites at [] r h
 callee_meant_sites env at place x r (a_local n seen whole) h = by_value_sites at [] r h
 callee_meant_sites env at place x r (an_enumerator z) h = by_value_sites at [] r h
 callee_meant_sites env at place x r (unknown f fs) h = by_value_sites at [] r h
 
-callee_bound_sites : (env : Env) (at place : ℕ) (x : Name) (r : Checked TypedExpression) (o : Option Binding) → Holds (SitesAre []) r → Holds (CalleeSites []) (callee_bound env at place x r o)
+callee_bound_sites : (env : Env) (at place : ℕ) (x : Name) (r : Checked TypedExpression) (o : Option Binding) → Holds (Gathers all_sites []) r → Holds (CalleeGathers all_sites []) (callee_bound env at place x r o)
 callee_bound_sites env at place x r None h = by_value_sites at [] r h
 callee_bound_sites env at place x r (Some b) h = callee_meant_sites env at place x r b.means h
 
-callee_sites : (env : Env) (b : Before) (at : ℕ) (d : Expr) (r : Checked TypedExpression) → Holds (SitesAre (Span b (calls d))) r → Holds (CalleeSites (Span b (calls d))) (callee env at d r)
+callee_sites : (env : Env) (b : Before) (at : ℕ) (d : Expr) (r : Checked TypedExpression) → Holds (Gathers all_sites (Span b (calls d))) r → Holds (CalleeGathers all_sites (Span b (calls d))) (callee env at d r)
 callee_sites env b at (a_name place x) r h = callee_bound_sites env at place x r (binding_of env x) h
 callee_sites env b at d r h = by_value_sites at _ r h
 
@@ -171,37 +180,37 @@ no_calls_fit env b at (a_name place x) r h = holds_any (callee env at (a_name pl
     holds_any (faulty f fs) = tt
 no_calls_fit env b at d r h = by_value_fact at _ r h
 
-callee_counted : (env : Env) (b : Before) (at : ℕ) (d : Expr) (r : Checked TypedExpression) → Holds (Counted b (calls d) (strings d)) r → Holds (λ f. CalleeSites (Span b (calls d)) f × FitsAt b (calls d) (strings d)) (callee env at d r)
+callee_counted : (env : Env) (b : Before) (at : ℕ) (d : Expr) (r : Checked TypedExpression) → Holds (Counted b (calls d) (strings d)) r → Holds (λ f. CalleeGathers all_sites (Span b (calls d)) f × FitsAt b (calls d) (strings d)) (callee env at d r)
 callee_counted env b at d r h =
-    holds_two (CalleeSites (Span b (calls d))) (λ _. FitsAt b (calls d) (strings d)) (callee env at d r) (callee_sites env b at d r (holds_map (Counted b (calls d) (strings d)) (SitesAre (Span b (calls d))) (λ g k. k.0) r h))
-    (no_calls_fit env b at d r (fact_of (SitesAre (Span b (calls d))) (FitsAt b (calls d) (strings d)) r h))
+    holds_two (CalleeGathers all_sites (Span b (calls d))) (λ _. FitsAt b (calls d) (strings d)) (callee env at d r) (callee_sites env b at d r (holds_map (Counted b (calls d) (strings d)) (Gathers all_sites (Span b (calls d))) (λ g k. k.0) r h))
+    (no_calls_fit env b at d r (fact_of (Gathers all_sites (Span b (calls d))) (FitsAt b (calls d) (strings d)) r h))
 
 access_counted : (env : Env) (at place : ℕ) (how : Access) (x : Name) (b : Before) (n : ℕ) (ws : List (List ℕ)) (r : Checked TypedExpression) → Holds (Counted b n ws) r → Holds (Counted b n ws) (access env at place how x r)
-access_counted env at place dot x b n ws r h = one_part b n ws r (member_of env at x) h (λ g k. member_sites env at (Span b n) x g k)
+access_counted env at place dot x b n ws r h = one_part b n ws r (member_of env at x) h (λ g k. member_gathered all_sites no_names env at (Span b n) x g k)
 access_counted env at place arrow x b n ws r h =
     one_part b n ws (on (value_at env place r) (indirection at)) (member_of env at x)
-    (one_part b n ws (value_at env place r) (indirection at) (value_at_counted env place b n ws r h) (λ g k. indirection_sites at (Span b n) g k)) (λ g k. member_sites env at (Span b n) x g k)
+    (one_part b n ws (value_at env place r) (indirection at) (value_at_counted env place b n ws r h) (λ g k. indirection_gathered all_sites no_names at (Span b n) g k)) (λ g k. member_gathered all_sites no_names env at (Span b n) x g k)
 
 after_operand_counted : (env : Env) (at place : ℕ) (o : Postfix) (b : Before) (n : ℕ) (ws : List (List ℕ)) (r : Checked TypedExpression) → Holds (Counted b n ws) r → Holds (Counted b n ws) (after_operand env at place o r)
-after_operand_counted env at place post_increment b n ws r h = one_part b n ws (place_at place r) (step env at Add true) (place_at_counted place b n ws r h) (λ g k. step_sites env at Add true (Span b n) g k)
-after_operand_counted env at place post_decrement b n ws r h = one_part b n ws (place_at place r) (step env at Sub true) (place_at_counted place b n ws r h) (λ g k. step_sites env at Sub true (Span b n) g k)
+after_operand_counted env at place post_increment b n ws r h = one_part b n ws (place_at place r) (step env at Add true) (place_at_counted place b n ws r h) (λ g k. step_gathered all_sites no_names env at Add true (Span b n) g k)
+after_operand_counted env at place post_decrement b n ws r h = one_part b n ws (place_at place r) (step env at Sub true) (place_at_counted place b n ws r h) (λ g k. step_gathered all_sites no_names env at Sub true (Span b n) g k)
 
 if_counted : (b : Before) (n : ℕ) (ws : List (List ℕ)) (t : Bool) (r s : Checked TypedExpression) → Holds (Counted b n ws) r → Holds (Counted b n ws) s → Holds (Counted b n ws) (if t then r else s)
 if_counted b n ws t r s h k = if_holds (Counted b n ws) t r s h k
 
 unary_rule_counted : (env : Env) (at place o : ℕ) (b : Before) (n : ℕ) (ws : List (List ℕ)) (r : Checked TypedExpression) → Holds (Counted b n ws) r → Holds (Counted b n ws) (unary_rule env at place o r)
 unary_rule_counted env at place o b n ws r h =
-    if_counted b n ws (nat_eq o AMPERSAND) _ _ (one_part b n ws r (address at place) h (λ g k. address_sites at place (Span b n) g k))
-    (one_part b n ws (value_at env place r) (unary_of_value at o) (value_at_counted env place b n ws r h) (λ g k. unary_sites at o (Span b n) g k))
+    if_counted b n ws (nat_eq o AMPERSAND) _ _ (one_part b n ws r (address at place) h (λ g k. address_gathered all_sites no_names at place (Span b n) g k))
+    (one_part b n ws (value_at env place r) (unary_of_value at o) (value_at_counted env place b n ws r h) (λ g k. unary_gathered all_sites no_names at o (Span b n) g k))
 
-infix_sites : (env : Env) (at : ℕ) (o : Infix) (xs ys : List ℕ) (g h : TypedExpression) → SitesAre xs g → SitesAre ys h → Holds (SitesAre (xs ++ ys)) (infix_rule env at o g h)
-infix_sites env at and xs ys g h k l = conjunction_sites xs ys at g h k l
-infix_sites env at or xs ys g h k l = disjunction_sites xs ys at g h k l
-infix_sites env at (operator code) xs ys g h k l = operation_sites xs ys env at (operator_of_code code) g h k l
+infix_sites : (env : Env) (at : ℕ) (o : Infix) (xs ys : List ℕ) (g h : TypedExpression) → Gathers all_sites xs g → Gathers all_sites ys h → Holds (Gathers all_sites (xs ++ ys)) (infix_rule env at o g h)
+infix_sites env at and xs ys g h k l = conjunction_gathered all_sites no_names xs ys at g h k l
+infix_sites env at or xs ys g h k l = disjunction_gathered all_sites no_names xs ys at g h k l
+infix_sites env at (operator code) xs ys g h k l = operation_gathered all_sites no_names xs ys env at (operator_of_code code) g h k l
 
 cast_rule_counted : (v : Bool) (at : ℕ) (t : Checked CType) (b : Before) (n : ℕ) (ws : List (List ℕ)) (r : Checked TypedExpression) → Holds (Counted b n ws) r → Holds (Counted b n ws) (cast_rule v at t r)
-cast_rule_counted true at t b n ws r h = one_part b n ws r (null_cast at) h (λ g k. null_cast_sites at (Span b n) g k)
-cast_rule_counted false at t b n ws r h = both_hold Any (Counted b n ws) (Counted b n ws) t r (cast_of at) (anything t) h (λ u g _ k. holds_with (SitesAre (Span b n)) (FitsAt b n ws) (cast_of at u g) k.1 (cast_of_sites at (Span b n) u g k.0))
+cast_rule_counted true at t b n ws r h = one_part b n ws r (null_cast at) h (λ g k. null_cast_gathered all_sites no_names at (Span b n) g k)
+cast_rule_counted false at t b n ws r h = both_hold Any (Counted b n ws) (Counted b n ws) t r (cast_of at) (anything t) h (λ u g _ k. holds_with (Gathers all_sites (Span b n)) (FitsAt b n ws) (cast_of at u g) k.1 (cast_of_gathered all_sites no_names at (Span b n) u g k.0))
 
 call_span : (s n m site : ℕ) → site ≡ s + n → range_with_len s n ++ site ∷ range_with_len (s + suc n) m ≡ range_with_len s (n + suc m)
 call_span s n m site e =
@@ -217,53 +226,53 @@ call_fits s c n m xs ys h l k = record {
 
 mutual
   pub tree_counted : (x : Expr) (env : Env) → env.context ≡ evaluated → (b : Before) → Holds (Counted b (calls x) (strings x)) (tree env b x)
-  tree_counted (a_name at x) env e b = holds_with (SitesAre []) (FitsAt b 0 []) (bound env at x (binding_of env x)) (fits_none b.sites b.cells) (bound_sites env at x (binding_of env x))
+  tree_counted (a_name at x) env e b = holds_with (Gathers all_sites []) (FitsAt b 0 []) (bound env at x (binding_of env x)) (fits_none b.sites b.cells) (bound_sites env at x (binding_of env x))
   tree_counted (an_int at n u) env e b = plain_counted b (integer_expression n u) (integer_sites n u)
   tree_counted (a_char at c) env e b = plain_counted b (typed_int c) (refl, λ _. refl)
   tree_counted (a_str at w) env e b = string_counted env.context e at (string_number env b) b w
   tree_counted (comma at es) env e b =
-      on_holds (λ gs. TypedExpressionsSites (Span b (calls_of_all es)) gs × FitsAt b (calls_of_all es) (strings_of_all es)) (Counted b (calls_of_all es) (strings_of_all es)) (trees env b es) (λ gs. fine (comma_of gs)) (trees_counted es env e b) (λ gs h. (comma_sites gs (Span b (calls_of_all es)) h.0, h.1))
+      on_holds (λ gs. AllGather all_sites (Span b (calls_of_all es)) gs × FitsAt b (calls_of_all es) (strings_of_all es)) (Counted b (calls_of_all es) (strings_of_all es)) (trees env b es) (λ gs. fine (comma_of gs)) (trees_counted es env e b) (λ gs h. (comma_gathered all_sites no_names gs (Span b (calls_of_all es)) h.0, h.1))
   tree_counted (sizeof_type at t) env e b =
-      after_part (Counted b 0 []) (type_named env t) (size_of_type env at (place_of_type t)) (λ u. holds_with (SitesAre []) (FitsAt b 0 []) (size_of env at (place_of_type t) u) (fits_none b.sites b.cells) (size_sites env at (place_of_type t) u))
+      after_part (Counted b 0 []) (type_named env t) (size_of_type env at (place_of_type t)) (λ u. holds_with (Gathers all_sites []) (FitsAt b 0 []) (size_of env at (place_of_type t) u) (fits_none b.sites b.cells) (size_gathered all_sites no_names env at (place_of_type t) u))
   tree_counted (cast at t x) env e b = cast_rule_counted (is_void_pointer t) at (type_named env t) b (calls x) (strings x) (value_at env (place_of x) (tree env b x)) (value_at_counted env (place_of x) b (calls x) (strings x) (tree env b x) (tree_counted x env e b))
   tree_counted (call at d es) env e b =
-      all_three_hold (λ f. CalleeSites (Span b (calls d)) f × FitsAt b (calls d) (strings d)) (λ k. (k ≡ b.sites + calls d) × (suc (b.sites + calls d) ≤ 30000)) (λ gs. TypedExpressionsSites (Span (after_designator b d) (calls_of_all es)) gs × FitsAt (after_designator b d) (calls_of_all es) (strings_of_all es)) (Counted b (calls d + suc (calls_of_all es)) (strings d ++ strings_of_all es))
+      all_three_hold (λ f. CalleeGathers all_sites (Span b (calls d)) f × FitsAt b (calls d) (strings d)) (λ k. (k ≡ b.sites + calls d) × (suc (b.sites + calls d) ≤ 30000)) (λ gs. AllGather all_sites (Span (after_designator b d) (calls_of_all es)) gs × FitsAt (after_designator b d) (calls_of_all es) (strings_of_all es)) (Counted b (calls d + suc (calls_of_all es)) (strings d ++ strings_of_all es))
       (callee env at d (value_at env (place_of d) (tree env b d))) (site_of env (b.sites + calls d) at) (trees env (after_designator b d) es) (called at)
       (callee_counted env b at d (value_at env (place_of d) (tree env b d)) (value_at_counted env (place_of d) b (calls d) (strings d) (tree env b d) (tree_counted d env e b)))
       (site_counted env.context e env.whole.mode (b.sites + calls d) at)
       (trees_counted es env e (after_designator b d))
-      (λ f site gs h l k. holds_with (SitesAre (Span b (calls d + suc (calls_of_all es)))) (FitsAt b (calls d + suc (calls_of_all es)) (strings d ++ strings_of_all es)) (called at f site gs)
+      (λ f site gs h l k. holds_with (Gathers all_sites (Span b (calls d + suc (calls_of_all es)))) (FitsAt b (calls d + suc (calls_of_all es)) (strings d ++ strings_of_all es)) (called at f site gs)
       (call_fits b.sites b.cells (calls d) (calls_of_all es) (strings d) (strings_of_all es) h.1 l.1 k.1)
-      (subst (λ xs. Holds (SitesAre xs) (called at f site gs)) (call_span b.sites (calls d) (calls_of_all es) site l.0) (called_sites at (Span b (calls d)) (Span (after_designator b d) (calls_of_all es)) f site gs h.0 k.0)))
+      (subst (λ xs. Holds (Gathers all_sites xs) (called at f site gs)) (call_span b.sites (calls d) (calls_of_all es) site l.0) (subst (λ k. Holds (Gathers all_sites (Span b (calls d) ++ k ∷ Span (after_designator b d) (calls_of_all es))) (called at f site gs)) (site_called site f.designator) (called_gathered all_sites no_names at (Span b (calls d)) (Span (after_designator b d) (calls_of_all es)) f site gs h.0 k.0))))
   tree_counted (member at how x y) env e b = access_counted env at (place_of x) how y.name b (calls x) (strings x) (tree env b x) (tree_counted x env e b)
   tree_counted (postfix at o x) env e b = after_operand_counted env at (place_of x) o b (calls x) (strings x) (tree env b x) (tree_counted x env e b)
-  tree_counted (prefix at pre_increment x) env e b = one_part b (calls x) (strings x) (place_at (place_of x) (tree env b x)) (step env at Add false) (place_at_counted (place_of x) b (calls x) (strings x) (tree env b x) (tree_counted x env e b)) (λ g k. step_sites env at Add false (Span b (calls x)) g k)
-  tree_counted (prefix at pre_decrement x) env e b = one_part b (calls x) (strings x) (place_at (place_of x) (tree env b x)) (step env at Sub false) (place_at_counted (place_of x) b (calls x) (strings x) (tree env b x) (tree_counted x env e b)) (λ g k. step_sites env at Sub false (Span b (calls x)) g k)
-  tree_counted (prefix at sizeof x) env e b = after_part (Counted b 0 []) (tree (in_context env sized) nothing_before x) (size_of_expression env at) (λ g. holds_with (SitesAre []) (FitsAt b 0 []) (size_of env at at g.ctype) (fits_none b.sites b.cells) (size_sites env at at g.ctype))
+  tree_counted (prefix at pre_increment x) env e b = one_part b (calls x) (strings x) (place_at (place_of x) (tree env b x)) (step env at Add false) (place_at_counted (place_of x) b (calls x) (strings x) (tree env b x) (tree_counted x env e b)) (λ g k. step_gathered all_sites no_names env at Add false (Span b (calls x)) g k)
+  tree_counted (prefix at pre_decrement x) env e b = one_part b (calls x) (strings x) (place_at (place_of x) (tree env b x)) (step env at Sub false) (place_at_counted (place_of x) b (calls x) (strings x) (tree env b x) (tree_counted x env e b)) (λ g k. step_gathered all_sites no_names env at Sub false (Span b (calls x)) g k)
+  tree_counted (prefix at sizeof x) env e b = after_part (Counted b 0 []) (tree (in_context env sized) nothing_before x) (size_of_expression env at) (λ g. holds_with (Gathers all_sites []) (FitsAt b 0 []) (size_of env at at g.ctype) (fits_none b.sites b.cells) (size_gathered all_sites no_names env at at g.ctype))
   tree_counted (unary at o x) env e b = unary_rule_counted env at (place_of x) o b (calls x) (strings x) (tree env b x) (tree_counted x env e b)
   tree_counted (index at x y) env e b =
       one_part b (calls x + calls y) (strings x ++ strings y) (both (value_at env (place_of x) (tree env b x)) (value_at env (place_of y) (tree env (after b x) y)) (sum env at)) (indirection at)
       (two_parts b (calls x) (calls y) (strings x) (strings y) (value_at env (place_of x) (tree env b x)) (value_at env (place_of y) (tree env (after b x) y)) (sum env at) (value_at_counted env (place_of x) b (calls x) (strings x) (tree env b x) (tree_counted x env e b)) (value_at_counted env (place_of y) (after b x) (calls y) (strings y) (tree env (after b x) y) (tree_counted y env e (after b x)))
-      (λ g h k l. sum_sites (Span b (calls x)) (Span (after b x) (calls y)) env at g h k l)) (λ g k. indirection_sites at (Span b (calls x + calls y)) g k)
+      (λ g h k l. sum_gathered all_sites no_names (Span b (calls x)) (Span (after b x) (calls y)) env at g h k l)) (λ g k. indirection_gathered all_sites no_names at (Span b (calls x + calls y)) g k)
   tree_counted (binary at o x y) env e b =
       two_parts b (calls x) (calls y) (strings x) (strings y) (value_at env (place_of x) (tree env b x)) (value_at env (place_of y) (tree env (after b x) y)) (infix_rule env at o) (value_at_counted env (place_of x) b (calls x) (strings x) (tree env b x) (tree_counted x env e b)) (value_at_counted env (place_of y) (after b x) (calls y) (strings y) (tree env (after b x) y) (tree_counted y env e (after b x)))
       (λ g h k l. infix_sites env at o (Span b (calls x)) (Span (after b x) (calls y)) g h k l)
   tree_counted (assign at o x y) env e b =
       two_parts b (calls x) (calls y) (strings x) (strings y) (place_at (place_of x) (tree env b x)) (value_at env (place_of y) (tree env (after b x) y)) (assignment_by env at o) (place_at_counted (place_of x) b (calls x) (strings x) (tree env b x) (tree_counted x env e b)) (value_at_counted env (place_of y) (after b x) (calls y) (strings y) (tree env (after b x) y) (tree_counted y env e (after b x)))
-      (λ g h k l. assignment_by_sites (Span b (calls x)) (Span (after b x) (calls y)) env at o g h k l)
+      (λ g h k l. assignment_by_gathered all_sites no_names (Span b (calls x)) (Span (after b x) (calls y)) env at o g h k l)
   tree_counted (conditional at c x y) env e b =
       all_three_hold (Counted b (calls c) (strings c)) (Counted (after b c) (calls x) (strings x)) (Counted (after (after b c) x) (calls y) (strings y)) (Counted b (calls c + (calls x + calls y)) (strings c ++ (strings x ++ strings y)))
       (value_at env (place_of c) (tree env b c)) (value_at env (place_of x) (tree env (after b c) x)) (value_at env (place_of y) (tree env (after (after b c) x) y)) (choice at)
       (value_at_counted env (place_of c) b (calls c) (strings c) (tree env b c) (tree_counted c env e b)) (value_at_counted env (place_of x) (after b c) (calls x) (strings x) (tree env (after b c) x) (tree_counted x env e (after b c)))
       (value_at_counted env (place_of y) (after (after b c) x) (calls y) (strings y) (tree env (after (after b c) x) y) (tree_counted y env e (after (after b c) x)))
-      (λ f g h i k l. holds_with (SitesAre (Span b (calls c + (calls x + calls y)))) (FitsAt b (calls c + (calls x + calls y)) (strings c ++ (strings x ++ strings y))) (choice at f g h)
+      (λ f g h i k l. holds_with (Gathers all_sites (Span b (calls c + (calls x + calls y)))) (FitsAt b (calls c + (calls x + calls y)) (strings c ++ (strings x ++ strings y))) (choice at f g h)
       (fits_both b.sites b.cells (calls c) (calls x + calls y) (strings c) (strings x ++ strings y) i.1 (fits_both (b.sites + calls c) (b.cells + string_cells (strings c)) (calls x) (calls y) (strings x) (strings y) k.1 l.1))
-      (subst (λ zs. Holds (SitesAre zs) (choice at f g h)) (ap (λ zs. Span b (calls c) ++ zs) (sym (range_append (b.sites + calls c) (calls x) (calls y))) ∙ sym (range_append b.sites (calls c) (calls x + calls y))) (choice_sites (Span b (calls c)) (Span (after b c) (calls x)) (Span (after (after b c) x) (calls y)) at f g h i.0 k.0 l.0)))
+      (subst (λ zs. Holds (Gathers all_sites zs) (choice at f g h)) (ap (λ zs. Span b (calls c) ++ zs) (sym (range_append (b.sites + calls c) (calls x) (calls y))) ∙ sym (range_append b.sites (calls c) (calls x + calls y))) (choice_gathered all_sites no_names (Span b (calls c)) (Span (after b c) (calls x)) (Span (after (after b c) x) (calls y)) at f g h i.0 k.0 l.0)))
 
-  pub trees_counted : (xs : Exprs) (env : Env) → env.context ≡ evaluated → (b : Before) → Holds (λ gs. TypedExpressionsSites (Span b (calls_of_all xs)) gs × FitsAt b (calls_of_all xs) (strings_of_all xs)) (trees env b xs)
+  pub trees_counted : (xs : Exprs) (env : Env) → env.context ≡ evaluated → (b : Before) → Holds (λ gs. AllGather all_sites (Span b (calls_of_all xs)) gs × FitsAt b (calls_of_all xs) (strings_of_all xs)) (trees env b xs)
   trees_counted no_exprs env e b = (refl, fits_none b.sites b.cells)
   trees_counted (more_exprs x xs) env e b =
-      both_hold (Counted b (calls x) (strings x)) (λ gs. TypedExpressionsSites (Span (after b x) (calls_of_all xs)) gs × FitsAt (after b x) (calls_of_all xs) (strings_of_all xs)) (λ gs. TypedExpressionsSites (Span b (calls x + calls_of_all xs)) gs × FitsAt b (calls x + calls_of_all xs) (strings x ++ strings_of_all xs))
+      both_hold (Counted b (calls x) (strings x)) (λ gs. AllGather all_sites (Span (after b x) (calls_of_all xs)) gs × FitsAt (after b x) (calls_of_all xs) (strings_of_all xs)) (λ gs. AllGather all_sites (Span b (calls x + calls_of_all xs)) gs × FitsAt b (calls x + calls_of_all xs) (strings x ++ strings_of_all xs))
       (value_at env (place_of x) (tree env b x)) (trees env (after b x) xs) (λ g gs. fine (g ∷ gs)) (value_at_counted env (place_of x) b (calls x) (strings x) (tree env b x) (tree_counted x env e b)) (trees_counted xs env e (after b x))
       (λ g gs h k. ((Span b (calls x), Span (after b x) (calls_of_all xs), h.0, k.0, range_append b.sites (calls x) (calls_of_all xs)), fits_both b.sites b.cells (calls x) (calls_of_all xs) (strings x) (strings_of_all xs) h.1 k.1))
 

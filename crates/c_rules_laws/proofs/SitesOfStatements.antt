@@ -23,10 +23,14 @@ use Rattle.c_rules.specs.Variables.{Next, number_in, past_names, names_of_decl, 
 use Rattle.c_rules.specs.Blocks.{within_local, behind_named, behind_part, past_part, behind_parts, behind_decl, behind_first, held_by_object, held_by_named, held_by_part, held_by_parts, held_by_decl, held_by_first, held_by_stmt, held_by_block, held_by_stmts, held_by_groups, after_part, after_decl, after_first, after_stmt, after_stmts, StatementTree, bare, with_tree, joined, one_more, alone, appended, some_more, local_of, local, local_named, local_part, local_parts, local_decl, is_given}
 use Rattle.c_rules.specs.Statements.{Around, in_loop, in_switch, condition_at, test_of, step_of, first_of, for_of, switched_kind, switched, label_type, labels_of, Labelled, labelled, switch_of, returned, stmt, items_of_block, stmts, groups_of_switch}
 use Rattle.c_rules_laws.proofs.Holding.{Holds, on_holds, both_hold, all_three_hold, Any, anything, demand_holds, alone_holds}
-use Rattle.c_rules_laws.proofs.SitesOfTypedExpressions.{SitesAre, condition_sites, as_if_sites, converted_sites}
 use Rattle.c_rules_laws.proofs.SitesOfExpressions.{fits_none, fits_both, FitsAt, Span, Counted, holds_with, range_append, value_counted}
 use Rattle.c_rules_laws.proofs.RightInitialisers.{InitCounted, local_counted, stores_sites}
 use Rattle.c_rules.proofs.NothingMore.{nothing_more}
+use Rattle.c_rules_laws.proofs.GatheredOfTypedExpressions.{Gathers, condition_gathered, as_if_gathered, converted_gathered}
+use Rattle.c_tree.specs.Sites.{all_sites}
+
+no_names : (f : ℕ) → all_sites.named f ≡ []
+no_names f = refl
 
 -- these are the sites of a part, with so many calls and these strings
 abbrev pub IsSpan : Before → ℕ → List (List ℕ) → List ℕ → Type 0
@@ -125,7 +129,7 @@ decl_span (decl at class s ps) env c b next = parts_span ps env c b next at s
 condition_span : (env : Env) → env.context ≡ evaluated → (b : Before) (at : ℕ) (x : Expr) → Holds (λ e. IsSpan b (calls x) (strings x) (sites_of e)) (condition_at at (value env b x))
 condition_span env c b at x =
     on_holds (Counted b (calls x) (strings x)) (λ e. IsSpan b (calls x) (strings x) (sites_of e)) (value env b x) (condition at) (value_counted x env c b)
-    (λ g h. holds_with (λ e. sites_of e ≡ Span b (calls x)) (FitsAt b (calls x) (strings x)) (condition at g) h.1 (condition_sites at (Span b (calls x)) g h.0))
+    (λ g h. holds_with (λ e. sites_of e ≡ Span b (calls x)) (FitsAt b (calls x) (strings x)) (condition at g) h.1 (condition_gathered all_sites no_names at (Span b (calls x)) g h.0))
 
 abbrev MaybeSpan : Before → Maybe → typed.Maybe → Type 0
 MaybeSpan b m e = IsSpan b (calls_of_maybe m) (strings_of_maybe m) (sites_of_maybe e)
@@ -147,10 +151,10 @@ returned_span : (m : Maybe) (env : Env) → env.context ≡ evaluated → (b : B
 returned_span absent env c b at t = demand_holds (λ s. IsSpan b 0 [] (sites_of_stmt s)) _ 3 at typed.return_void (λ _. span_none b)
 returned_span (there x) env c b at t =
     on_holds (Counted b (calls x) (strings x)) (λ s. IsSpan b (calls x) (strings x) (sites_of_stmt s)) (on (value env b x) (as_if_assigned at t)) (λ g. fine (typed.return_value (tree_of g)))
-    (on_holds (Counted b (calls x) (strings x)) (Counted b (calls x) (strings x)) (value env b x) (as_if_assigned at t) (value_counted x env c b) (λ g h. holds_with (SitesAre (Span b (calls x))) (FitsAt b (calls x) (strings x)) (as_if_assigned at t g) h.1 (as_if_sites at (Span b (calls x)) t g h.0))) (λ g h. (h.0.0, h.1))
+    (on_holds (Counted b (calls x) (strings x)) (Counted b (calls x) (strings x)) (value env b x) (as_if_assigned at t) (value_counted x env c b) (λ g h. holds_with (Gathers all_sites (Span b (calls x))) (FitsAt b (calls x) (strings x)) (as_if_assigned at t g) h.1 (as_if_gathered all_sites no_names at (Span b (calls x)) t g h.0))) (λ g h. (h.0.0, h.1))
 
-switched_sites : (at : ℕ) (xs : List ℕ) (g : TypedExpression) (k : Kind) → SitesAre xs g → Holds (SitesAre xs) (switched_kind at g k)
-switched_sites at xs g (an_integer i) h = converted_sites xs (promoted i) g h
+switched_sites : (at : ℕ) (xs : List ℕ) (g : TypedExpression) (k : Kind) → Gathers all_sites xs g → Holds (Gathers all_sites xs) (switched_kind at g k)
+switched_sites at xs g (an_integer i) h = converted_gathered all_sites no_names xs (promoted i) g h
 switched_sites at xs g (a_pointer t) h = tt
 switched_sites at xs g neither h = tt
 
@@ -204,7 +208,7 @@ mutual
       let r = switched at (value env b x) in
       both_hold (Counted b (calls x) (strings x)) (GroupsSpan (after b x) (calls_of_groups gs) (held_by_groups env next gs)) (StmtSpan b (calls x + calls_of_groups gs) (strings x ++ held_by_groups env next gs))
       r (groups_of_switch env (in_switch a) (after b x) next (label_type r) gs) (switch_of at)
-      (on_holds (Counted b (calls x) (strings x)) (Counted b (calls x) (strings x)) (value env b x) (λ g. switched_kind at g (kind_of g.ctype)) (value_counted x env c b) (λ g h. holds_with (SitesAre (Span b (calls x))) (FitsAt b (calls x) (strings x)) (switched_kind at g (kind_of g.ctype)) h.1 (switched_sites at (Span b (calls x)) g (kind_of g.ctype) h.0)))
+      (on_holds (Counted b (calls x) (strings x)) (Counted b (calls x) (strings x)) (value env b x) (λ g. switched_kind at g (kind_of g.ctype)) (value_counted x env c b) (λ g h. holds_with (Gathers all_sites (Span b (calls x))) (FitsAt b (calls x) (strings x)) (switched_kind at g (kind_of g.ctype)) h.1 (switched_sites at (Span b (calls x)) g (kind_of g.ctype) h.0)))
       (groups_span gs env c (in_switch a) (after b x) next (label_type r))
       (λ g l h k. demand_holds (StmtSpan b (calls x + calls_of_groups gs) (strings x ++ held_by_groups env next gs)) _ 7 at _ (λ _. span_both b (calls x) (calls_of_groups gs) (strings x) (held_by_groups env next gs) (sites_of (tree_of g)) (sites_of_groups l.groups.tree) (h.0.0, h.1) k))
   stmt_span (break_off at) env c a b next = demand_holds (StmtSpan b 0 []) a.breaks 8 at (bare typed.break_off) (λ _. span_none b)

@@ -12,6 +12,7 @@ use Rattle.c_tree.specs.Tree as typed
 use Rattle.c_tree.specs.Functions.{defined, value_type, called_type, value_types, type_of_defined, sys_types, null_types}
 use Rattle.c_tree.specs.Operands.{IsResult}
 use Rattle.c_shapes.specs.Mentions.{Mention, Calls, Direct, Through, mentions_of_program}
+use Rattle.c_shapes.specs.Mentions.{Callee as Shape}
 use Rattle.c_shapes.specs.CallGraph.{is_marked, reaches, callee_at}
 use Rattle.c_syntax.specs.Tree.{Expr, a_name, an_int, a_char, a_str, comma, sizeof_type, cast, call, member, postfix, prefix, unary, index, binary, assign, conditional, Exprs, no_exprs, more_exprs}
 use Rattle.c_syntax.specs.Tree.{Postfix, post_increment, post_decrement, pre_increment, pre_decrement, sizeof, Access, dot, arrow, Infix, and, or, operator}
@@ -48,7 +49,21 @@ use Rattle.null_calls_units_laws.proofs.Closed.{written_closed}
 use Rattle.null_calls_units_laws.proofs.Kept.{CalledGood, CallsGood, AllGood}
 use Rattle.null_calls_units_laws.proofs.TypesOfExpressions.{callee_typed, value_typed}
 use Rattle.null_calls_units_laws.proofs.Tables.{Table, InTable, in_first, in_rest}
-use Rattle.null_calls_units_laws.proofs.CallsOfTypedExpressions.{IsConst, SitesAre, TypedExpressionsSites, CalleeSites, shape_of, valued_sites, called_sites, callee_type_sites, callee_through_sites, member_sites, address_sites, indirection_sites, unary_sites, size_sites, cast_of_sites, null_cast_sites, sum_sites, operation_sites, conjunction_sites, disjunction_sites, assignment_by_sites, step_sites, choice_sites, comma_sites}
+use Rattle.c_rules_laws.proofs.GatheredOfTypedExpressions.{called_at, Gathers, AllGather, CalleeGathers, valued_gathered, called_gathered, callee_type_gathered, callee_through_gathered, member_gathered, address_gathered, indirection_gathered, unary_gathered, size_gathered, cast_of_gathered, null_cast_gathered, sum_gathered, operation_gathered, conjunction_gathered, disjunction_gathered, assignment_by_gathered, step_gathered, choice_gathered, comma_gathered}
+use Rattle.c_rules_laws.specs.ConstantForm.{IsConst}
+use Rattle.null_calls_units_laws.specs.CallsIn.{all_calls}
+
+no_names : (f : ℕ) → all_calls.named f ≡ []
+no_names f = refl
+
+-- what a call has
+abbrev shape_of : Designator → Shape
+shape_of (direct f) = Direct f
+shape_of (through e) = Through (type_of e)
+
+called_is : (site : ℕ) (d : Designator) → called_at all_calls site d ≡ Calls site (shape_of d)
+called_is site (direct f) = refl
+called_is site (through e) = refl
 
 -- ## Calls in parts
 
@@ -67,80 +82,80 @@ module _ (T : Table) where
   calls_of_given g = calls_in (tree_of g)
 
   -- one part
-  told : (X : Type 0) (xs : List Mention) (g : TypedExpression) → (InTable T xs → X) → SitesAre xs g → Tells X g
+  told : (X : Type 0) (xs : List Mention) (g : TypedExpression) → (InTable T xs → X) → Gathers all_calls xs g → Tells X g
   told X xs g f s = (λ c. s.0 ∙ s.1 c, λ t. f (subst (InTable T) s.0 t))
 
-  as_sites : (X : Type 0) (g : TypedExpression) → Tells X g → SitesAre (calls_in (tree_of g)) g
+  as_sites : (X : Type 0) (g : TypedExpression) → Tells X g → Gathers all_calls (calls_in (tree_of g)) g
   as_sites X g h = (refl, h.0)
 
-  one_tells : (X : Type 0) (r : Checked TypedExpression) (k : TypedExpression → Checked TypedExpression) → Holds (Tells X) r → ((g : TypedExpression) (xs : List Mention) → SitesAre xs g → Holds (SitesAre xs) (k g)) → Holds (Tells X) (on r k)
-  one_tells X r k h f = on_holds (Tells X) (Tells X) r k h (λ g w. holds_map (SitesAre (calls_in (tree_of g))) (Tells X) (λ a s. told X (calls_in (tree_of g)) a w.1 s) (k g) (f g (calls_in (tree_of g)) (as_sites X g w)))
+  one_tells : (X : Type 0) (r : Checked TypedExpression) (k : TypedExpression → Checked TypedExpression) → Holds (Tells X) r → ((g : TypedExpression) (xs : List Mention) → Gathers all_calls xs g → Holds (Gathers all_calls xs) (k g)) → Holds (Tells X) (on r k)
+  one_tells X r k h f = on_holds (Tells X) (Tells X) r k h (λ g w. holds_map (Gathers all_calls (calls_in (tree_of g))) (Tells X) (λ a s. told X (calls_in (tree_of g)) a w.1 s) (k g) (f g (calls_in (tree_of g)) (as_sites X g w)))
 
   value_tells : (X : Type 0) (env : Env) (place : ℕ) (r : Checked TypedExpression) → Holds (Tells X) r → Holds (Tells X) (value_at env place r)
-  value_tells X env place r h = one_tells X r (valued env place) h (λ g xs s. valued_sites env place xs g s)
+  value_tells X env place r h = one_tells X r (valued env place) h (λ g xs s. valued_gathered all_calls no_names env place xs g s)
 
   place_tells : (X : Type 0) (place : ℕ) (r : Checked TypedExpression) → Holds (Tells X) r → Holds (Tells X) (place_at place r)
   place_tells X place r h = on_holds (Tells X) (Tells X) r (assignable place) h (λ g k. demand_holds (Tells X) _ 4 place g (λ _. k))
 
-  two_tell : (X Y Z : Type 0) (r s : Checked TypedExpression) (k : TypedExpression → TypedExpression → Checked TypedExpression) → (X → Y → Z) → Holds (Tells X) r → Holds (Tells Y) s → ((a b : TypedExpression) (xs ys : List Mention) → SitesAre xs a → SitesAre ys b → Holds (SitesAre (xs ++ ys)) (k a b)) → Holds (Tells Z) (both r s k)
+  two_tell : (X Y Z : Type 0) (r s : Checked TypedExpression) (k : TypedExpression → TypedExpression → Checked TypedExpression) → (X → Y → Z) → Holds (Tells X) r → Holds (Tells Y) s → ((a b : TypedExpression) (xs ys : List Mention) → Gathers all_calls xs a → Gathers all_calls ys b → Holds (Gathers all_calls (xs ++ ys)) (k a b)) → Holds (Tells Z) (both r s k)
   two_tell X Y Z r s k z h g f =
       both_hold (Tells X) (Tells Y) (Tells Z) r s k h g
       (λ a b u v.
       (let xs : List Mention = calls_in (tree_of a) in
       let ys : List Mention = calls_in (tree_of b) in
-      holds_map (SitesAre (xs ++ ys)) (Tells Z) (λ c w. told Z (xs ++ ys) c (λ t. z (u.1 (in_first T xs ys t)) (v.1 (in_rest T xs ys t))) w) (k a b) (f a b xs ys (as_sites X a u) (as_sites Y b v))))
+      holds_map (Gathers all_calls (xs ++ ys)) (Tells Z) (λ c w. told Z (xs ++ ys) c (λ t. z (u.1 (in_first T xs ys t)) (v.1 (in_rest T xs ys t))) w) (k a b) (f a b xs ys (as_sites X a u) (as_sites Y b v))))
 
   three_tell : (X Y Z R : Type 0) (q r s : Checked TypedExpression) (k : TypedExpression → TypedExpression → TypedExpression → Checked TypedExpression) → (X → Y → Z → R) → Holds (Tells X) q → Holds (Tells Y) r → Holds (Tells Z) s
-      → ((a b c : TypedExpression) (xs ys zs : List Mention) → SitesAre xs a → SitesAre ys b → SitesAre zs c → Holds (SitesAre (xs ++ (ys ++ zs))) (k a b c)) → Holds (Tells R) (all_three q r s k)
+      → ((a b c : TypedExpression) (xs ys zs : List Mention) → Gathers all_calls xs a → Gathers all_calls ys b → Gathers all_calls zs c → Holds (Gathers all_calls (xs ++ (ys ++ zs))) (k a b c)) → Holds (Tells R) (all_three q r s k)
   three_tell X Y Z R q r s k z h g l f =
       all_three_hold (Tells X) (Tells Y) (Tells Z) (Tells R) q r s k h g l
       (λ a b c u v w.
       (let xs : List Mention = calls_in (tree_of a) in
       let ys : List Mention = calls_in (tree_of b) in
       let zs : List Mention = calls_in (tree_of c) in
-      holds_map (SitesAre (xs ++ (ys ++ zs))) (Tells R) (λ d e. told R (xs ++ (ys ++ zs)) d (λ t. z (u.1 (in_first T xs (ys ++ zs) t)) (v.1 (in_first T ys zs (in_rest T xs (ys ++ zs) t))) (w.1 (in_rest T ys zs (in_rest T xs (ys ++ zs) t)))) e) (k a b c)
+      holds_map (Gathers all_calls (xs ++ (ys ++ zs))) (Tells R) (λ d e. told R (xs ++ (ys ++ zs)) d (λ t. z (u.1 (in_first T xs (ys ++ zs) t)) (v.1 (in_first T ys zs (in_rest T xs (ys ++ zs) t))) (w.1 (in_rest T ys zs (in_rest T xs (ys ++ zs) t)))) e) (k a b c)
       (f a b c xs ys zs (as_sites X a u) (as_sites Y b v) (as_sites Z c w))))
 
-  none_tells : (X : Type 0) (g : TypedExpression) → X → SitesAre [] g → Tells X g
+  none_tells : (X : Type 0) (g : TypedExpression) → X → Gathers all_calls [] g → Tells X g
   none_tells X g x s = told X [] g (λ _. x) s
 
   -- ## Rules
 
   access_tells : (X : Type 0) (env : Env) (at place : ℕ) (how : Access) (x : Name) (r : Checked TypedExpression) → Holds (Tells X) r → Holds (Tells X) (access env at place how x r)
-  access_tells X env at place dot x r h = one_tells X r (member_of env at x) h (λ g xs s. member_sites env at xs x g s)
-  access_tells X env at place arrow x r h = one_tells X (on (value_at env place r) (indirection at)) (member_of env at x) (one_tells X (value_at env place r) (indirection at) (value_tells X env place r h) (λ g xs s. indirection_sites at xs g s)) (λ g xs s. member_sites env at xs x g s)
+  access_tells X env at place dot x r h = one_tells X r (member_of env at x) h (λ g xs s. member_gathered all_calls no_names env at xs x g s)
+  access_tells X env at place arrow x r h = one_tells X (on (value_at env place r) (indirection at)) (member_of env at x) (one_tells X (value_at env place r) (indirection at) (value_tells X env place r h) (λ g xs s. indirection_gathered all_calls no_names at xs g s)) (λ g xs s. member_gathered all_calls no_names env at xs x g s)
 
   after_tells : (X : Type 0) (env : Env) (at place : ℕ) (o : Postfix) (r : Checked TypedExpression) → Holds (Tells X) r → Holds (Tells X) (after_operand env at place o r)
-  after_tells X env at place post_increment r h = one_tells X (place_at place r) (step env at Add true) (place_tells X place r h) (λ g xs s. step_sites env at Add true xs g s)
-  after_tells X env at place post_decrement r h = one_tells X (place_at place r) (step env at Sub true) (place_tells X place r h) (λ g xs s. step_sites env at Sub true xs g s)
+  after_tells X env at place post_increment r h = one_tells X (place_at place r) (step env at Add true) (place_tells X place r h) (λ g xs s. step_gathered all_calls no_names env at Add true xs g s)
+  after_tells X env at place post_decrement r h = one_tells X (place_at place r) (step env at Sub true) (place_tells X place r h) (λ g xs s. step_gathered all_calls no_names env at Sub true xs g s)
 
   unary_tells : (X : Type 0) (env : Env) (at place o : ℕ) (r : Checked TypedExpression) → Holds (Tells X) r → Holds (Tells X) (unary_rule env at place o r)
   unary_tells X env at place o r h =
-      if_holds (Tells X) (nat_eq o AMPERSAND) _ _ (one_tells X r (address at place) h (λ g xs s. address_sites at place xs g s)) (one_tells X (value_at env place r) (unary_of_value at o) (value_tells X env place r h) (λ g xs s. unary_sites at o xs g s))
+      if_holds (Tells X) (nat_eq o AMPERSAND) _ _ (one_tells X r (address at place) h (λ g xs s. address_gathered all_calls no_names at place xs g s)) (one_tells X (value_at env place r) (unary_of_value at o) (value_tells X env place r h) (λ g xs s. unary_gathered all_calls no_names at o xs g s))
 
-  infix_tells : (env : Env) (at : ℕ) (o : Infix) (a b : TypedExpression) (xs ys : List Mention) → SitesAre xs a → SitesAre ys b → Holds (SitesAre (xs ++ ys)) (infix_rule env at o a b)
-  infix_tells env at and a b xs ys g h = conjunction_sites xs ys at a b g h
-  infix_tells env at or a b xs ys g h = disjunction_sites xs ys at a b g h
-  infix_tells env at (operator code) a b xs ys g h = operation_sites xs ys env at (operator_of_code code) a b g h
+  infix_tells : (env : Env) (at : ℕ) (o : Infix) (a b : TypedExpression) (xs ys : List Mention) → Gathers all_calls xs a → Gathers all_calls ys b → Holds (Gathers all_calls (xs ++ ys)) (infix_rule env at o a b)
+  infix_tells env at and a b xs ys g h = conjunction_gathered all_calls no_names xs ys at a b g h
+  infix_tells env at or a b xs ys g h = disjunction_gathered all_calls no_names xs ys at a b g h
+  infix_tells env at (operator code) a b xs ys g h = operation_gathered all_calls no_names xs ys env at (operator_of_code code) a b g h
 
   cast_tells : (X : Type 0) (to_null : Bool) (at : ℕ) (t : Checked CType) (r : Checked TypedExpression) → Holds (Tells X) r → Holds (Tells X) (cast_rule to_null at t r)
-  cast_tells X true at t r h = one_tells X r (null_cast at) h (λ g xs s. null_cast_sites at xs g s)
+  cast_tells X true at t r h = one_tells X r (null_cast at) h (λ g xs s. null_cast_gathered all_calls no_names at xs g s)
   cast_tells X false at t r h =
-      both_hold Any (Tells X) (Tells X) t r (cast_of at) (anything t) h (λ u g _ w. holds_map (SitesAre (calls_in (tree_of g))) (Tells X) (λ a s. told X (calls_in (tree_of g)) a w.1 s) (cast_of at u g) (cast_of_sites at (calls_in (tree_of g)) u g (as_sites X g w)))
+      both_hold Any (Tells X) (Tells X) t r (cast_of at) (anything t) h (λ u g _ w. holds_map (Gathers all_calls (calls_in (tree_of g))) (Tells X) (λ a s. told X (calls_in (tree_of g)) a w.1 s) (cast_of at u g) (cast_of_gathered all_calls no_names at (calls_in (tree_of g)) u g (as_sites X g w)))
 
-  meant_tells : (env : Env) (at : ℕ) (x : Name) (m : Meaning) → Holds (SitesAre []) (meant env at x m)
-  meant_tells env at x (a_static seen whole d) = after_part (SitesAre []) (used env.context at (object_number env x)) _ (λ _. (refl, λ _. refl))
+  meant_tells : (env : Env) (at : ℕ) (x : Name) (m : Meaning) → Holds (Gathers all_calls []) (meant env at x m)
+  meant_tells env at x (a_static seen whole d) = after_part (Gathers all_calls []) (used env.context at (object_number env x)) _ (λ _. (refl, λ _. refl))
   meant_tells env at x (a_local n seen whole) = (refl, λ _. refl)
-  meant_tells env at x (a_function t d) = after_part (SitesAre []) (function_value_number env at x) _ (λ _. (refl, λ _. refl))
+  meant_tells env at x (a_function t d) = after_part (Gathers all_calls []) (function_value_number env at x) _ (λ _. (refl, λ _. refl))
   meant_tells env at x (an_enumerator z) = (refl, λ _. refl)
   meant_tells env at x (unknown f fs) = tt
 
-  bound_tells : (env : Env) (at : ℕ) (x : Name) (o : Option Binding) → Holds (SitesAre []) (bound env at x o)
+  bound_tells : (env : Env) (at : ℕ) (x : Name) (o : Option Binding) → Holds (Gathers all_calls []) (bound env at x o)
   bound_tells env at x None = tt
   bound_tells env at x (Some b) = meant_tells env at x b.means
 
-  integer_tells : (n : ℕ) (u : Bool) → SitesAre [] (integer_expression n u)
-  integer_tells n u = integer_cases (SitesAre []) n u (λ _. (refl, λ _. refl)) (refl, λ _. refl)
+  integer_tells : (n : ℕ) (u : Bool) → Gathers all_calls [] (integer_expression n u)
+  integer_tells n u = integer_cases (Gathers all_calls []) n u (λ _. (refl, λ _. refl)) (refl, λ _. refl)
 
 -- ## Callees
 
@@ -289,17 +304,17 @@ module _ (p : Program) (enums tags stood : List Name) where
   Scope = IsWrittenScope p enums tags stood
 
   abbrev TypedExpressionsTell : Type 0 → List TypedExpression → Type 0
-  TypedExpressionsTell X gs = (xs : List Mention) × TypedExpressionsSites xs gs × (InTable T xs → X)
+  TypedExpressionsTell X gs = (xs : List Mention) × AllGather all_calls xs gs × (InTable T xs → X)
 
   abbrev CalleeTells : Type 0 → Callee → Type 0
-  CalleeTells X f = (xs : List Mention) × CalleeSites xs f × (InTable T xs → X)
+  CalleeTells X f = (xs : List Mention) × CalleeGathers all_calls xs f × (InTable T xs → X)
 
   by_value_tells : (X : Type 0) (at : ℕ) (r : Checked TypedExpression) → Holds (Tells T X) r → Holds (CalleeTells X) (on r (callee_by_value at))
-  by_value_tells X at r h = on_holds (Tells T X) (CalleeTells X) r (callee_by_value at) h (λ g k. holds_map (CalleeSites (calls_in (tree_of g))) (CalleeTells X) (λ f s. (calls_in (tree_of g), s, k.1)) (callee_through at (tree_of g) g.ctype) (callee_through_sites at (calls_in (tree_of g)) (tree_of g) g.ctype refl))
+  by_value_tells X at r h = on_holds (Tells T X) (CalleeTells X) r (callee_by_value at) h (λ g k. holds_map (CalleeGathers all_calls (calls_in (tree_of g))) (CalleeTells X) (λ f s. (calls_in (tree_of g), s, k.1)) (callee_through at (tree_of g) g.ctype) (callee_through_gathered all_calls no_names at (calls_in (tree_of g)) (tree_of g) g.ctype refl))
 
   callee_meant_tells : (X : Type 0) → X → (env : Env) (at place : ℕ) (x : Name) (r : Checked TypedExpression) (m : Meaning) → Holds (Tells T X) r → Holds (CalleeTells X) (callee_meant env at place x r m)
   callee_meant_tells X a env at place x r (a_function t d) h =
-      after_part (CalleeTells X) (used env.context place (function_number env x)) (callee_of_type place t) (λ n. holds_map (CalleeSites []) (CalleeTells X) (λ f s. ([], s, λ _. a)) (callee_of_type place t n) (callee_type_sites place t n))
+      after_part (CalleeTells X) (used env.context place (function_number env x)) (callee_of_type place t) (λ n. holds_map (CalleeGathers all_calls []) (CalleeTells X) (λ f s. ([], s, λ _. a)) (callee_of_type place t n) (callee_type_gathered all_calls no_names place t n))
   callee_meant_tells X a env at place x r (a_static seen whole d) h = by_value_tells X at r h
   callee_meant_tells X a env at place x r (a_local n seen whole) h = by_value_tells X at r h
   callee_meant_tells X a env at place x r (an_enumerator z) h = by_value_tells X at r h
@@ -355,7 +370,7 @@ module _ (p : Program) (enums tags stood : List Name) where
       let g : TypedExpressionsTell (AllPass env b1 es) gs = held (TypedExpressionsTell (AllPass env b1 es)) (trees env b1 es) gs he eg in
       let n = held (λ k. (k ≡ b.sites + calls d) × (b.sites + calls d < 10000)) (site_of env (b.sites + calls d) at) s (site_is env.context w.runs env.whole.mode w.plain (b.sites + calls d) at) es' in
       let later : b.sites + suc (calls d) ≡ suc (b.sites + calls d) = omega arith in
-      holds_map (SitesAre (c.0 ++ Calls s (shape_of f.designator) ∷ g.0)) (Tells T (Passes env b (call at d es)))
+      holds_map (Gathers all_calls (c.0 ++ Calls s (shape_of f.designator) ∷ g.0)) (Tells T (Passes env b (call at d es)))
       (λ h q. told T (Passes env b (call at d es)) (c.0 ++ Calls s (shape_of f.designator) ∷ g.0) h
       (λ t.
       (let x : Passes env b d = c.2 (in_first T c.0 (Calls s (shape_of f.designator) ∷ g.0) t) in
@@ -363,47 +378,47 @@ module _ (p : Program) (enums tags stood : List Name) where
       let z : AllPass env b1 es = g.2 y.1 in
       let entry : T (b.sites + calls d) ≡ Some (shape_of f.designator) = subst (λ k. T k ≡ Some (shape_of f.designator)) n.0 y.0 in
       ((called_there env w b at d f ef entry n.1, x.0, z.0), (named_there env w b at d f ef entry n.1, x.1, subst (λ k. AllNamed sites k es) later z.1), (good_there env w b at d f ef entry n.1, x.2, subst (λ k. AllGood enums tags stood sites k es) later z.2)))) q)
-      (called at f s gs) (called_sites at c.0 g.0 f s gs c.1 g.1)))
+      (called at f s gs) (subst (λ k. Holds (Gathers all_calls (c.0 ++ k ∷ g.0)) (called at f s gs)) (called_is s f.designator) (called_gathered all_calls no_names at c.0 g.0 f s gs c.1 g.1))))
 
   mutual
     pub tree_passes : (x : Expr) (env : Env) → Scope env → (b : Before) → NamesNoType x → Holds (Tells T (Passes env b x)) (tree env b x)
-    tree_passes (a_name at x) env w b l = holds_map (SitesAre []) (Tells T (Passes env b (a_name at x))) (λ g s. none_tells T (Passes env b (a_name at x)) g (tt, tt, tt) s) (tree env b (a_name at x)) (bound_tells T env at x (binding_of env x))
+    tree_passes (a_name at x) env w b l = holds_map (Gathers all_calls []) (Tells T (Passes env b (a_name at x))) (λ g s. none_tells T (Passes env b (a_name at x)) g (tt, tt, tt) s) (tree env b (a_name at x)) (bound_tells T env at x (binding_of env x))
     tree_passes (an_int at n u) env w b l = none_tells T (Passes env b (an_int at n u)) (integer_expression n u) (tt, tt, tt) (integer_tells T n u)
     tree_passes (a_char at c) env w b l = (λ _. refl, λ _. (tt, tt, tt))
     tree_passes (a_str at s) env w b l = after_part (Tells T (Passes env b (a_str at s))) (string_fits env.context at b.cells (suc (length s))) _ (λ _. (λ _. refl, λ _. (tt, tt, tt)))
     tree_passes (comma at es) env w b l =
-        on_holds (TypedExpressionsTell (AllPass env b es)) (Tells T (Passes env b (comma at es))) (trees env b es) (λ gs. fine (comma_of gs)) (trees_pass es env w b l) (λ gs k. told T (Passes env b (comma at es)) k.0 (comma_of gs) k.2 (comma_sites gs k.0 k.1))
+        on_holds (TypedExpressionsTell (AllPass env b es)) (Tells T (Passes env b (comma at es))) (trees env b es) (λ gs. fine (comma_of gs)) (trees_pass es env w b l) (λ gs k. told T (Passes env b (comma at es)) k.0 (comma_of gs) k.2 (comma_gathered all_calls no_names gs k.0 k.1))
     tree_passes (sizeof_type at t) env w b l =
         after_part (Tells T (Passes env b (sizeof_type at t))) (type_named env t) (size_of_type env at (place_of_type t))
-        (λ u. holds_map (SitesAre []) (Tells T (Passes env b (sizeof_type at t))) (λ g s. none_tells T (Passes env b (sizeof_type at t)) g (tt, tt, tt) s) (size_of env at (place_of_type t) u) (size_sites env at (place_of_type t) u))
+        (λ u. holds_map (Gathers all_calls []) (Tells T (Passes env b (sizeof_type at t))) (λ g s. none_tells T (Passes env b (sizeof_type at t)) g (tt, tt, tt) s) (size_of env at (place_of_type t) u) (size_gathered all_calls no_names env at (place_of_type t) u))
     tree_passes (cast at t e) env w b l =
         cast_tells T (Passes env b (cast at t e)) (is_void_pointer t) at (type_named env t) (value_at env (place_of e) (tree env b e))
         (holds_map (Tells T (Passes env b e)) (Tells T (Passes env b (cast at t e))) (λ g k. (k.0, λ z. (let y = k.1 z in ((l.0, y.0), y.1, y.2)))) (value_at env (place_of e) (tree env b e)) (value_tells T (Passes env b e) env (place_of e) (tree env b e) (tree_passes e env w b l.1)))
     tree_passes (call at d es) env w b l = call_passes env w b at d es (tree_passes d env w b l.0) (trees_pass es env w (after_designator b d) l.1)
     tree_passes (member at how e x) env w b l = access_tells T (Passes env b e) env at (place_of e) how x.name (tree env b e) (tree_passes e env w b l)
     tree_passes (postfix at o e) env w b l = after_tells T (Passes env b e) env at (place_of e) o (tree env b e) (tree_passes e env w b l)
-    tree_passes (prefix at pre_increment e) env w b l = one_tells T (Passes env b e) (place_at (place_of e) (tree env b e)) (step env at Add false) (place_tells T (Passes env b e) (place_of e) (tree env b e) (tree_passes e env w b l)) (λ g xs s. step_sites env at Add false xs g s)
-    tree_passes (prefix at pre_decrement e) env w b l = one_tells T (Passes env b e) (place_at (place_of e) (tree env b e)) (step env at Sub false) (place_tells T (Passes env b e) (place_of e) (tree env b e) (tree_passes e env w b l)) (λ g xs s. step_sites env at Sub false xs g s)
+    tree_passes (prefix at pre_increment e) env w b l = one_tells T (Passes env b e) (place_at (place_of e) (tree env b e)) (step env at Add false) (place_tells T (Passes env b e) (place_of e) (tree env b e) (tree_passes e env w b l)) (λ g xs s. step_gathered all_calls no_names env at Add false xs g s)
+    tree_passes (prefix at pre_decrement e) env w b l = one_tells T (Passes env b e) (place_at (place_of e) (tree env b e)) (step env at Sub false) (place_tells T (Passes env b e) (place_of e) (tree env b e) (tree_passes e env w b l)) (λ g xs s. step_gathered all_calls no_names env at Sub false xs g s)
     tree_passes (prefix at sizeof e) env w b l =
         after_part (Tells T (Passes env b (prefix at sizeof e))) (tree (in_context env sized) nothing_before e) (size_of_expression env at)
-        (λ g. holds_map (SitesAre []) (Tells T (Passes env b (prefix at sizeof e))) (λ h s. none_tells T (Passes env b (prefix at sizeof e)) h (tt, tt, tt) s) (size_of env at at g.ctype) (size_sites env at at g.ctype))
+        (λ g. holds_map (Gathers all_calls []) (Tells T (Passes env b (prefix at sizeof e))) (λ h s. none_tells T (Passes env b (prefix at sizeof e)) h (tt, tt, tt) s) (size_of env at at g.ctype) (size_gathered all_calls no_names env at at g.ctype))
     tree_passes (unary at o e) env w b l = unary_tells T (Passes env b e) env at (place_of e) o (tree env b e) (tree_passes e env w b l)
     tree_passes (index at e f) env w b l =
         one_tells T (Passes env b (index at e f)) (both (value_at env (place_of e) (tree env b e)) (value_at env (place_of f) (tree env (after b e) f)) (sum env at)) (indirection at)
         (two_tell T (Passes env b e) (Passes env (after b e) f) (Passes env b (index at e f)) (value_at env (place_of e) (tree env b e)) (value_at env (place_of f) (tree env (after b e) f)) (sum env at) (λ x y. ((x.0, y.0), (x.1, y.1), (x.2, y.2)))
-        (value_tells T (Passes env b e) env (place_of e) (tree env b e) (tree_passes e env w b l.0)) (value_tells T (Passes env (after b e) f) env (place_of f) (tree env (after b e) f) (tree_passes f env w (after b e) l.1)) (λ g h xs ys s t. sum_sites xs ys env at g h s t))
-        (λ g xs s. indirection_sites at xs g s)
+        (value_tells T (Passes env b e) env (place_of e) (tree env b e) (tree_passes e env w b l.0)) (value_tells T (Passes env (after b e) f) env (place_of f) (tree env (after b e) f) (tree_passes f env w (after b e) l.1)) (λ g h xs ys s t. sum_gathered all_calls no_names xs ys env at g h s t))
+        (λ g xs s. indirection_gathered all_calls no_names at xs g s)
     tree_passes (binary at o e f) env w b l =
         two_tell T (Passes env b e) (Passes env (after b e) f) (Passes env b (binary at o e f)) (value_at env (place_of e) (tree env b e)) (value_at env (place_of f) (tree env (after b e) f)) (infix_rule env at o) (λ x y. ((x.0, y.0), (x.1, y.1), (x.2, y.2)))
         (value_tells T (Passes env b e) env (place_of e) (tree env b e) (tree_passes e env w b l.0)) (value_tells T (Passes env (after b e) f) env (place_of f) (tree env (after b e) f) (tree_passes f env w (after b e) l.1)) (λ g h xs ys s t. infix_tells T env at o g h xs ys s t)
     tree_passes (assign at o e f) env w b l =
         two_tell T (Passes env b e) (Passes env (after b e) f) (Passes env b (assign at o e f)) (place_at (place_of e) (tree env b e)) (value_at env (place_of f) (tree env (after b e) f)) (assignment_by env at o) (λ x y. ((x.0, y.0), (x.1, y.1), (x.2, y.2)))
-        (place_tells T (Passes env b e) (place_of e) (tree env b e) (tree_passes e env w b l.0)) (value_tells T (Passes env (after b e) f) env (place_of f) (tree env (after b e) f) (tree_passes f env w (after b e) l.1)) (λ g h xs ys s t. assignment_by_sites xs ys env at o g h s t)
+        (place_tells T (Passes env b e) (place_of e) (tree env b e) (tree_passes e env w b l.0)) (value_tells T (Passes env (after b e) f) env (place_of f) (tree env (after b e) f) (tree_passes f env w (after b e) l.1)) (λ g h xs ys s t. assignment_by_gathered all_calls no_names xs ys env at o g h s t)
     tree_passes (conditional at c e f) env w b l =
         three_tell T (Passes env b c) (Passes env (after b c) e) (Passes env (after (after b c) e) f) (Passes env b (conditional at c e f)) (value_at env (place_of c) (tree env b c)) (value_at env (place_of e) (tree env (after b c) e)) (value_at env (place_of f) (tree env (after (after b c) e) f)) (choice at)
         (λ x y z. ((x.0, y.0, z.0), (x.1, y.1, z.1), (x.2, y.2, z.2)))
         (value_tells T (Passes env b c) env (place_of c) (tree env b c) (tree_passes c env w b l.0)) (value_tells T (Passes env (after b c) e) env (place_of e) (tree env (after b c) e) (tree_passes e env w (after b c) l.1)) (value_tells T (Passes env (after (after b c) e) f) env (place_of f) (tree env (after (after b c) e) f) (tree_passes f env w (after (after b c) e) l.2))
-        (λ g h i xs ys zs s t u. choice_sites xs ys zs at g h i s t u)
+        (λ g h i xs ys zs s t u. choice_gathered all_calls no_names xs ys zs at g h i s t u)
 
     pub trees_pass : (xs : Exprs) (env : Env) → Scope env → (b : Before) → NameNoTypes xs → Holds (TypedExpressionsTell (AllPass env b xs)) (trees env b xs)
     trees_pass no_exprs env w b l = ([], refl, λ _. (tt, tt, tt))

@@ -25,31 +25,35 @@ use Rattle.null_calls_units_laws.specs.AbstractCasts.{InitNamesNoType, InitsName
 use Rattle.null_calls_units_laws.specs.Scopes.{IsWrittenScope, AreTemporaries}
 use Rattle.null_calls_units_laws.proofs.Kept.{none_kept, good_both, kept_good}
 use Rattle.null_calls_units_laws.proofs.Tables.{Table as CallTable, InTable, in_first, in_rest}
-use Rattle.null_calls_units_laws.proofs.CallsOfTypedExpressions.{SitesAre, TypedExpressionsSites, as_if_sites}
 use Rattle.null_calls_units_laws.proofs.Expressions.{Tells, Passes, T, value_passes}
+use Rattle.c_rules_laws.proofs.GatheredOfTypedExpressions.{Gathers, AllGather, as_if_gathered}
+use Rattle.null_calls_units_laws.specs.CallsIn.{all_calls}
+
+no_names : (f : ℕ) → all_calls.named f ≡ []
+no_names f = refl
 
 -- ## Cells
 
-both_givens : (gs hs : List TypedExpression) (xs ys : List Mention) → TypedExpressionsSites xs gs → TypedExpressionsSites ys hs → TypedExpressionsSites (xs ++ ys) (gs ++ hs)
-both_givens [] hs xs ys h k = subst (λ zs. TypedExpressionsSites (zs ++ ys) hs) (sym h) k
+both_givens : (gs hs : List TypedExpression) (xs ys : List Mention) → AllGather all_calls xs gs → AllGather all_calls ys hs → AllGather all_calls (xs ++ ys) (gs ++ hs)
+both_givens [] hs xs ys h k = subst (λ zs. AllGather all_calls (zs ++ ys) hs) (sym h) k
 both_givens (g ∷ gs) hs xs ys h k = (h.0, h.1 ++ ys, h.2, both_givens gs hs h.1 ys h.3 k, ap (λ zs. zs ++ ys) h.4 ∙ append_assoc h.0 h.1 ys)
 
-pub stores_sites : (k : ℕ) (gs : List TypedExpression) (xs : List Mention) → TypedExpressionsSites xs gs → calls_in_inits (stores_from k gs) ≡ xs
+pub stores_sites : (k : ℕ) (gs : List TypedExpression) (xs : List Mention) → AllGather all_calls xs gs → calls_in_inits (stores_from k gs) ≡ xs
 stores_sites k [] xs h = sym h
 stores_sites k (g ∷ gs) xs h = ap₂ (λ x y. x ++ y) h.2.0 (stores_sites (suc k) gs h.1 h.3) ∙ sym h.4
 
-one_given : (xs : List Mention) (g : TypedExpression) → SitesAre xs g → TypedExpressionsSites xs (g ∷ [])
+one_given : (xs : List Mention) (g : TypedExpression) → Gathers all_calls xs g → AllGather all_calls xs (g ∷ [])
 one_given xs g h = (xs, [], h, refl, sym (none xs))
   where
     none : (xs : List Mention) → xs ++ [] ≡ xs
     none [] = refl
     none (x ∷ xs) = ap (λ ys. x ∷ ys) (none xs)
 
-zeros_silent : (ts : List CType) → TypedExpressionsSites [] (map typed_zero ts)
+zeros_silent : (ts : List CType) → AllGather all_calls [] (map typed_zero ts)
 zeros_silent [] = refl
 zeros_silent (t ∷ ts) = ([], [], one_zero t, zeros_silent ts, refl)
   where
-    one_zero : (t : CType) → SitesAre [] (typed_zero t)
+    one_zero : (t : CType) → Gathers all_calls [] (typed_zero t)
     one_zero void = (refl, λ _. refl)
     one_zero (integer i) = (refl, λ _. refl)
     one_zero (pointer t) = (refl, λ _. refl)
@@ -57,18 +61,18 @@ zeros_silent (t ∷ ts) = ([], [], one_zero t, zeros_silent ts, refl)
     one_zero (struct s) = (refl, λ _. refl)
     one_zero (function t ts) = (refl, λ _. refl)
 
-slots_silent : (structs : Structs) (s : Slots) → TypedExpressionsSites [] (zeros structs s)
+slots_silent : (structs : Structs) (s : Slots) → AllGather all_calls [] (zeros structs s)
 slots_silent structs (copies n t) = zeros_silent (repeat n (flat structs t))
 slots_silent structs (each ts) = zeros_silent (flat_all structs ts)
 
-chars_silent : (n : ℕ) (w : List ℕ) → TypedExpressionsSites [] (chars n w)
+chars_silent : (n : ℕ) (w : List ℕ) → AllGather all_calls [] (chars n w)
 chars_silent n w = both_givens (map typed_char w) (replicate (n - length w) (typed_char 0)) [] [] (all w) (ends (n - length w))
   where
-    all : (w : List ℕ) → TypedExpressionsSites [] (map typed_char w)
+    all : (w : List ℕ) → AllGather all_calls [] (map typed_char w)
     all [] = refl
     all (c ∷ w) = ([], [], (refl, λ _. refl), all w, refl)
 
-    ends : (k : ℕ) → TypedExpressionsSites [] (replicate k (typed_char 0))
+    ends : (k : ℕ) → AllGather all_calls [] (replicate k (typed_char 0))
     ends zero = refl
     ends (suc k) = ([], [], (refl, λ _. refl), ends k, refl)
 
@@ -84,7 +88,7 @@ module _ (p : Program) (enums tags stood : List Name) where
 
   -- cells whose calls stand in the table tell the fact
   abbrev pub CellsTell : Type 0 → List TypedExpression → Type 0
-  CellsTell X gs = (xs : List Mention) × TypedExpressionsSites xs gs × (InTable Table xs → X)
+  CellsTell X gs = (xs : List Mention) × AllGather all_calls xs gs × (InTable Table xs → X)
 
   abbrev pub InitPasses : Env → Before → CType → Init → Type 0
   InitPasses env b t i = InitTabled p (sites_of p) env b t i × InitNamed (sites_of p) b.sites i × Good b.sites (calls_of_init i) (kept_of_init (sites_of p) b.sites i)
@@ -103,7 +107,7 @@ module _ (p : Program) (enums tags stood : List Name) where
   scalar_passes env w b at t x h =
       on_holds (Tells Table (Passes p enums tags stood env b x)) (CellsTell (InitPasses env b t (one at x))) (on (value env b x) (as_if_assigned at t)) (cell_of false at)
       (on_holds (Tells Table (Passes p enums tags stood env b x)) (Tells Table (Passes p enums tags stood env b x)) (value env b x) (as_if_assigned at t) h
-      (λ g k. holds_map (SitesAre (calls_in (tree_of g))) (Tells Table (Passes p enums tags stood env b x)) (λ a s. (λ c. s.0 ∙ s.1 c, λ z. k.1 (subst (InTable Table) s.0 z))) (as_if_assigned at t g) (as_if_sites at (calls_in (tree_of g)) t g (refl, k.0))))
+      (λ g k. holds_map (Gathers all_calls (calls_in (tree_of g))) (Tells Table (Passes p enums tags stood env b x)) (λ a s. (λ c. s.0 ∙ s.1 c, λ z. k.1 (subst (InTable Table) s.0 z))) (as_if_assigned at t g) (as_if_gathered all_calls no_names at (calls_in (tree_of g)) t g (refl, k.0))))
       (λ g k. (calls_in (tree_of g), one_given (calls_in (tree_of g)) g (refl, k.0), λ z. one_passes env b t at x (k.1 z)))
 
   array_passes : (env : Env) (b : Before) (at : ℕ) (t : CType) (n : ℕ) (x : Expr) → Holds (CellsTell (InitPasses env b (array t n) (one at x))) (array_cells at t n (text_of x))

@@ -3,7 +3,6 @@ pub mod Declarations
 pub mod SpelledDeclarations
 pub mod Spellings
 pub mod Bodies
-pub mod CallsOfTypedExpressions
 pub mod Closed
 pub mod Declared
 pub mod Expressions

@@ -1,0 +1,399 @@
+-- What is gathered at calls, in what the rules on expressions give, is what is gathered in their parts, in order; a constant has none.
+use Rattle.std.proofs.Common.{◌≡◌, ℕ, ℤ, map, Bool, true, false, ◌&&◌, ◌||◌, if◌then◌else◌, List, [], ◌∷◌, ◌++◌, length, Option, Some, None, nat_eq, refl, ap, ap₂, sym, subst, ◌∙◌, arith}
+use Rattle.c_tree.specs.declared.value.IntType.{IntType}
+use Rattle.c_tree.specs.declared.value.UnOp.{UnOp}
+use Rattle.c_tree.specs.declared.value.UnOp.TheVariants.{Not}
+use Rattle.c_tree.specs.declared.value.BinOp.{BinOp}
+use Rattle.c_tree.specs.declared.value.BinOp.TheVariants as op
+use Rattle.c_lexer.specs.declared.punctuator.TheConstants.{ASTERISK, PLUS, MINUS, TILDE, ASSIGN}
+use Rattle.c_tree.specs.Tree.{CType, void, integer, pointer, array, struct, function, CTypes, no_types, more_types, Expr, Exprs, type_of}
+use Rattle.c_tree.specs.Gathered.{Gathering, gathered, gathered_all}
+use Rattle.c_tree.specs.Layout.{cells}
+use Rattle.c_tree.specs.Operands.{promoted, common, OperatorKind, balanced, shift, ordering, equality}
+use Rattle.c_tree.specs.Operands.{kind_of as kind_of_operator}
+use Rattle.c_rules.specs.Names.{Name, number_among}
+use Rattle.c_rules.specs.Types.{same_type, is_integer, is_function, is_scalar, is_void, count}
+use Rattle.c_rules.specs.Scopes.{Env, Struct, incomplete, unknown_struct, defined_struct, Member, struct_of, layout_of}
+use Rattle.c_rules.specs.TypedExpression.{Form, a_value, a_place, behind, Constant, TypedExpression, tree_of_form, tree_of, is_place, is_null, integer_constant}
+use Rattle.c_rules.specs.Constants.{constant_and, constant_or, constant_moved}
+use Rattle.c_rules.specs.Conversions.{Kind, an_integer, a_pointer, neither, kind_of, complete, few_parts, loaded, valued_as, valued, cast_to, has_integer, converted_to, null_of, fits, assigned_as, assigned, as_if_assigned, condition}
+use Rattle.c_rules.specs.PostfixExpressions.{Designator, direct, through, Callee, callee_of_type, callee_through, all_fit, passed, call_of, as_many_as, called, name_of_member, member_or_undeclared, member_of_struct, member_of_type, member_of}
+use Rattle.c_rules.specs.UnaryExpressions.{address_of_form, address_of_type, address, led_to, indirection, plus_of, operator_of, unary_of_value, size_of, cast_of, null_cast}
+use Rattle.c_rules.specs.BinaryExpressions.{shifted, compared_integers, sum_of, sum, minus_of, balanced_of, shift_of, ordered_of, Alike, alike_integers, alike_pointers, unlike, pointers_alike, alike_of, alike, equality_of, arithmetic_of, operation_of, operation, both_scalars, conjunction, disjunction, chosen, arms_of, choice}
+use Rattle.c_rules.specs.Assignments.{assignment, operator_of_assignment, moves, right_type, update_of, assignment_by, one_for, step, trees_of, comma_of}
+use Rattle.c_rules.proofs.Integers.{size_holds}
+use Rattle.c_rules_laws.proofs.Holding.{Holds, demand_holds, behind_demand, after_part, if_holds}
+use Rattle.c_rules_laws.proofs.MadeTypes.{number_is}
+use Rattle.c_rules_laws.specs.ConstantForm.{IsConst}
+use Rattle.c_rules_laws.proofs.ConstantForms.{converted_const, unary_const, integer_const, decayed_const, member_const, binary_const, and_const, or_const, conditional_const, moved_const, zero_const}
+
+pub none_both : {X : Type 0} (xs ys : List X) → xs ≡ [] → ys ≡ [] → xs ++ ys ≡ []
+none_both xs ys e f = ap₂ (λ x y. x ++ y) e f
+
+pub and_right_test : (a b : Bool) → (a && b) ≡ true → b ≡ true
+and_right_test true b h = h
+and_right_test false b h = absurd (cc)
+
+nothing_more : {X : Type 0} (xs : List X) → xs ++ [] ≡ xs
+nothing_more [] = refl
+nothing_more (x ∷ xs) = ap (λ ys. x ∷ ys) (nothing_more xs)
+
+module _ {X : Type 0} (gathering : Gathering X) where
+  -- the sites in the tree, of which a constant has none
+  abbrev pub Gathers : List X → TypedExpression → Type 0
+  Gathers xs g = (gathered gathering (tree_of g) ≡ xs) × (IsConst g.constant → xs ≡ [])
+
+  abbrev pub AllGather : List X → List TypedExpression → Type 0
+  AllGather xs [] = xs ≡ []
+  AllGather xs (g ∷ gs) = (ys : List X) × (zs : List X) × Gathers ys g × AllGather zs gs × (xs ≡ ys ++ zs)
+
+  abbrev pub DesignatorGathers : List X → Designator → Type 0
+  DesignatorGathers xs (direct f) = xs ≡ []
+  DesignatorGathers xs (through e) = gathered gathering e ≡ xs
+
+  abbrev pub CalleeGathers : List X → Callee → Type 0
+  CalleeGathers xs f = DesignatorGathers xs f.designator
+
+  -- what a call gives, by what it calls
+  abbrev pub called_at : ℕ → Designator → X
+  called_at site (direct f) = gathering.direct site f
+  called_at site (through e) = gathering.through site (type_of e)
+
+module _ {X : Type 0} (gathering : Gathering X) (no_names : (f : ℕ) → gathering.named f ≡ []) where
+  -- ## Conversions
+
+  loaded_gathered : (xs : List X) (g : TypedExpression) (f : Form) → Gathers gathering xs g → Gathers gathering xs (loaded g f)
+  loaded_gathered xs g (a_value e) h = h
+  loaded_gathered xs g (a_place e) h = (h.0, λ c. absurd c)
+  loaded_gathered xs g (behind q) h = (h.0, λ c. absurd c)
+
+  valued_as_gathered : (env : Env) (at : ℕ) (xs : List X) (g : TypedExpression) (t : CType) → Gathers gathering xs g → Holds (Gathers gathering xs) (valued_as env at g t)
+  valued_as_gathered env at xs g void h = loaded_gathered xs g g.form h
+  valued_as_gathered env at xs g (integer i) h = loaded_gathered xs g g.form h
+  valued_as_gathered env at xs g (pointer t) h = loaded_gathered xs g g.form h
+  valued_as_gathered env at xs g (array t n) h = (h.0, λ c. h.1 (decayed_const (cells (layout_of env) t) g.constant c))
+  valued_as_gathered env at xs g (struct s) h = tt
+  valued_as_gathered env at xs g (function t ts) h = demand_holds (Gathers gathering xs) (few_parts (pointer g.ctype)) 13 at _ (λ _. h)
+
+  pub valued_gathered : (env : Env) (at : ℕ) (xs : List X) (g : TypedExpression) → Gathers gathering xs g → Holds (Gathers gathering xs) (valued env at g)
+  valued_gathered env at xs g h = valued_as_gathered env at xs g g.ctype h
+
+  cast_gathered : (xs : List X) (i : IntType) (g : TypedExpression) → Gathers gathering xs g → Gathers gathering xs (cast_to i g)
+  cast_gathered xs i g h = (h.0, λ c. h.1 (converted_const i g.constant c))
+
+  if_gathered : (xs : List X) (b : Bool) (g h : TypedExpression) → Gathers gathering xs g → Gathers gathering xs h → Gathers gathering xs (if b then g else h)
+  if_gathered xs true g h k l = k
+  if_gathered xs false g h k l = l
+
+  pub converted_gathered : (xs : List X) (i : IntType) (g : TypedExpression) → Gathers gathering xs g → Gathers gathering xs (converted_to i g)
+  converted_gathered xs i g h = if_gathered xs (has_integer i g.ctype) g (cast_to i g) h (cast_gathered xs i g h)
+
+  null_gathered : (xs : List X) (t : CType) (g : TypedExpression) → is_null g ≡ true → Gathers gathering xs g → Gathers gathering xs (null_of t)
+  null_gathered xs t g e h = (let n = h.1 (zero_const g.constant e) in (sym n, λ _. n))
+
+  assigned_kind_gathered : (xs : List X) (k : Kind) (t : CType) (g : TypedExpression) → Gathers gathering xs g → Gathers gathering xs (assigned_as k t g)
+  assigned_kind_gathered xs (an_integer i) t g h = converted_gathered xs i g h
+  assigned_kind_gathered xs (a_pointer u) t g h = by_test (is_null g) refl
+    where
+      by_test : (b : Bool) → is_null g ≡ b → Gathers gathering xs (if b then null_of t else g)
+      by_test true e = null_gathered xs t g e h
+      by_test false e = h
+  assigned_kind_gathered xs neither t g h = h
+
+  pub assigned_gathered : (xs : List X) (t : CType) (g : TypedExpression) → Gathers gathering xs g → Gathers gathering xs (assigned t g)
+  assigned_gathered xs t g h = assigned_kind_gathered xs (kind_of t) t g h
+
+  pub as_if_gathered : (at : ℕ) (xs : List X) (t : CType) (g : TypedExpression) → Gathers gathering xs g → Holds (Gathers gathering xs) (as_if_assigned at t g)
+  as_if_gathered at xs t g h = demand_holds (Gathers gathering xs) (fits t g) 3 at (assigned t g) (λ _. assigned_gathered xs t g h)
+
+  pub condition_gathered : (at : ℕ) (xs : List X) (g : TypedExpression) → Gathers gathering xs g → Holds (λ e. gathered gathering e ≡ xs) (condition at g)
+  condition_gathered at xs g h = demand_holds (λ e. gathered gathering e ≡ xs) (is_scalar g.ctype) 3 at (tree_of g) (λ _. h.0)
+
+  -- ## Calls and members
+
+  passed_gathered : (ts : CTypes) (gs : List TypedExpression) (xs : List X) → length gs ≡ count ts → AllGather gathering xs gs → gathered_all gathering (passed ts gs) ≡ xs
+  passed_gathered no_types [] xs l h = sym h
+  passed_gathered no_types (g ∷ gs) xs l h = absurd (omega (arith, l))
+  passed_gathered (more_types t ts) [] xs l h = absurd (omega (arith, l))
+  passed_gathered (more_types t ts) (g ∷ gs) xs l h =
+      let m : length gs ≡ count ts = omega (arith, l) in
+      ap₂ (λ x y. x ++ y) (assigned_gathered h.0 t g h.2).0 (passed_gathered ts gs h.1 m h.3) ∙ sym h.4
+
+  call_gathered : (xs ys : List X) (d : Designator) (t : CType) (site : ℕ) (es : Exprs) → DesignatorGathers gathering xs d → gathered_all gathering es ≡ ys → gathered gathering (call_of d t site es) ≡ xs ++ called_at gathering site d ∷ ys
+  call_gathered xs ys (direct f) t site es h k = ap (λ z. gathering.direct site f ∷ z) k ∙ ap (λ z. z ++ gathering.direct site f ∷ ys) (sym h)
+  call_gathered xs ys (through e) t site es h k = ap₂ (λ x y. x ++ gathering.through site (type_of e) ∷ y) h k
+
+  pub called_gathered : (at : ℕ) (xs ys : List X) (f : Callee) (site : ℕ) (gs : List TypedExpression) → CalleeGathers gathering xs f → AllGather gathering ys gs → Holds (Gathers gathering (xs ++ called_at gathering site f.designator ∷ ys)) (called at f site gs)
+  called_gathered at xs ys f site gs h k =
+      behind_demand (Gathers gathering (xs ++ called_at gathering site f.designator ∷ ys)) (as_many_as f.parameters gs) 5 at _ (λ m. demand_holds (Gathers gathering (xs ++ called_at gathering site f.designator ∷ ys)) (all_fit f.parameters gs) 3 at _ (λ _. (call_gathered xs ys f.designator f.returns site (passed f.parameters gs) h (passed_gathered f.parameters gs ys (number_is (length gs) (count f.parameters) m) k), λ c. absurd c)))
+
+  pub callee_type_gathered : (at : ℕ) (t : CType) (f : ℕ) → Holds (CalleeGathers gathering []) (callee_of_type at t f)
+  callee_type_gathered at void f = tt
+  callee_type_gathered at (integer i) f = tt
+  callee_type_gathered at (pointer t) f = tt
+  callee_type_gathered at (array t n) f = tt
+  callee_type_gathered at (struct s) f = tt
+  callee_type_gathered at (function t ts) f = refl
+
+  pub callee_through_gathered : (at : ℕ) (xs : List X) (e : Expr) (t : CType) → gathered gathering e ≡ xs → Holds (CalleeGathers gathering xs) (callee_through at e t)
+  callee_through_gathered at xs e void h = tt
+  callee_through_gathered at xs e (integer i) h = tt
+  callee_through_gathered at xs e (pointer void) h = tt
+  callee_through_gathered at xs e (pointer (integer i)) h = tt
+  callee_through_gathered at xs e (pointer (pointer t)) h = tt
+  callee_through_gathered at xs e (pointer (array t n)) h = tt
+  callee_through_gathered at xs e (pointer (struct s)) h = tt
+  callee_through_gathered at xs e (pointer (function t ts)) h = h
+  callee_through_gathered at xs e (array t n) h = tt
+  callee_through_gathered at xs e (struct s) h = tt
+  callee_through_gathered at xs e (function t ts) h = tt
+
+  member_or_gathered : (env : Env) (at : ℕ) (xs : List X) (ms : List Member) (g : TypedExpression) (o : Option ℕ) → Gathers gathering xs g → Holds (Gathers gathering xs) (member_or_undeclared env at ms g o)
+  member_or_gathered env at xs ms g None h = tt
+  member_or_gathered env at xs ms g (Some k) h = (h.0, λ c. h.1 (member_const _ _ g.constant c))
+
+  member_struct_gathered : (env : Env) (at : ℕ) (xs : List X) (x : Name) (g : TypedExpression) (s : Struct) → Gathers gathering xs g → Holds (Gathers gathering xs) (member_of_struct env at x g s)
+  member_struct_gathered env at xs x g incomplete h = tt
+  member_struct_gathered env at xs x g (unknown_struct f fs) h = tt
+  member_struct_gathered env at xs x g (defined_struct ms) h = member_or_gathered env at xs ms g (number_among (map name_of_member ms) x) h
+
+  member_type_gathered : (env : Env) (at : ℕ) (xs : List X) (x : Name) (g : TypedExpression) (t : CType) → Gathers gathering xs g → Holds (Gathers gathering xs) (member_of_type env at x g t)
+  member_type_gathered env at xs x g (struct s) h = member_struct_gathered env at xs x g (struct_of env s) h
+  member_type_gathered env at xs x g void h = tt
+  member_type_gathered env at xs x g (integer i) h = tt
+  member_type_gathered env at xs x g (pointer t) h = tt
+  member_type_gathered env at xs x g (array t n) h = tt
+  member_type_gathered env at xs x g (function t ts) h = tt
+
+  pub member_gathered : (env : Env) (at : ℕ) (xs : List X) (x : Name) (g : TypedExpression) → Gathers gathering xs g → Holds (Gathers gathering xs) (member_of env at x g)
+  member_gathered env at xs x g h = member_type_gathered env at xs x g g.ctype h
+
+  -- ## Unary operators
+
+  address_form_gathered : (at : ℕ) (xs : List X) (g : TypedExpression) (f : Form) → gathered gathering (tree_of_form g.ctype f) ≡ xs → (IsConst g.constant → xs ≡ []) → Holds (Gathers gathering xs) (address_of_form at g f)
+  address_form_gathered at xs g (a_value e) h k = tt
+  address_form_gathered at xs g (a_place e) h k = demand_holds (Gathers gathering xs) (few_parts (pointer g.ctype)) 13 at _ (λ _. (h, k))
+  address_form_gathered at xs g (behind q) h k = (h, k)
+
+  address_type_gathered : (at : ℕ) (xs : List X) (g : TypedExpression) (t : CType) → Gathers gathering xs g → Holds (Gathers gathering xs) (address_of_type at g t)
+  address_type_gathered at xs g (array t n) h = tt
+  address_type_gathered at xs g void h = address_form_gathered at xs g g.form h.0 h.1
+  address_type_gathered at xs g (integer i) h = address_form_gathered at xs g g.form h.0 h.1
+  address_type_gathered at xs g (pointer t) h = address_form_gathered at xs g g.form h.0 h.1
+  address_type_gathered at xs g (struct s) h = address_form_gathered at xs g g.form h.0 h.1
+  address_type_gathered at xs g (function t ts) h = address_form_gathered at xs g g.form h.0 h.1
+
+  pub address_gathered : (at place : ℕ) (xs : List X) (g : TypedExpression) → Gathers gathering xs g → Holds (Gathers gathering xs) (address at place g)
+  address_gathered at place xs g h = behind_demand (Gathers gathering xs) (is_place g || is_function g.ctype) 4 place _ (λ _. address_type_gathered at xs g g.ctype h)
+
+  led_gathered : (at : ℕ) (xs : List X) (g : TypedExpression) (t : CType) → Gathers gathering xs g → Holds (Gathers gathering xs) (led_to at g t)
+  led_gathered at xs g (pointer void) h = tt
+  led_gathered at xs g (pointer (integer i)) h = h
+  led_gathered at xs g (pointer (pointer t)) h = h
+  led_gathered at xs g (pointer (array t n)) h = h
+  led_gathered at xs g (pointer (struct s)) h = h
+  led_gathered at xs g (pointer (function t ts)) h = h
+  led_gathered at xs g void h = tt
+  led_gathered at xs g (integer i) h = tt
+  led_gathered at xs g (array t n) h = tt
+  led_gathered at xs g (struct s) h = tt
+  led_gathered at xs g (function t ts) h = tt
+
+  pub indirection_gathered : (at : ℕ) (xs : List X) (g : TypedExpression) → Gathers gathering xs g → Holds (Gathers gathering xs) (indirection at g)
+  indirection_gathered at xs g h = led_gathered at xs g g.ctype h
+
+  plus_gathered : (at : ℕ) (xs : List X) (g : TypedExpression) (k : Kind) → Gathers gathering xs g → Holds (Gathers gathering xs) (plus_of at g k)
+  plus_gathered at xs g (an_integer i) h = cast_gathered xs (promoted i) g h
+  plus_gathered at xs g (a_pointer t) h = tt
+  plus_gathered at xs g neither h = tt
+
+  operator_gathered : (at : ℕ) (xs : List X) (o : UnOp) (g : TypedExpression) (k : Kind) → Gathers gathering xs g → Holds (Gathers gathering xs) (operator_of at o g k)
+  operator_gathered at xs o g (an_integer i) h = (let c = converted_gathered xs (promoted i) g h in (c.0, λ k. c.1 (unary_const o (converted_to (promoted i) g).constant k)))
+  operator_gathered at xs o g (a_pointer t) h = tt
+  operator_gathered at xs o g neither h = tt
+
+  pub unary_gathered : (at o : ℕ) (xs : List X) (g : TypedExpression) → Gathers gathering xs g → Holds (Gathers gathering xs) (unary_of_value at o g)
+  unary_gathered at o xs g h =
+      if_holds (Gathers gathering xs) (nat_eq o ASTERISK) _ _ (indirection_gathered at xs g h)
+      (if_holds (Gathers gathering xs) (nat_eq o PLUS) _ _ (plus_gathered at xs g (kind_of g.ctype) h)
+      (if_holds (Gathers gathering xs) (nat_eq o MINUS) _ _ (operator_gathered at xs _ g (kind_of g.ctype) h)
+      (if_holds (Gathers gathering xs) (nat_eq o TILDE) _ _ (operator_gathered at xs _ g (kind_of g.ctype) h)
+      (demand_holds (Gathers gathering xs) (is_scalar g.ctype) 3 at _ (λ _. (h.0, λ c. h.1 (integer_const (is_integer g.ctype) g.constant (unary_const Not (integer_constant g) c))))))))
+
+  pub size_gathered : (env : Env) (at place : ℕ) (t : CType) → Holds (Gathers gathering []) (size_of env at place t)
+  size_gathered env at place t = size_holds (Gathers gathering []) env at place t (λ _. (refl, λ _. refl))
+
+  pub cast_of_gathered : (at : ℕ) (xs : List X) (t : CType) (g : TypedExpression) → Gathers gathering xs g → Holds (Gathers gathering xs) (cast_of at t g)
+  cast_of_gathered at xs void g h = (h.0, λ c. absurd c)
+  cast_of_gathered at xs (integer i) g h = demand_holds (Gathers gathering xs) (is_integer g.ctype) 3 at (cast_to i g) (λ _. cast_gathered xs i g h)
+  cast_of_gathered at xs (pointer t) g h = tt
+  cast_of_gathered at xs (array t n) g h = tt
+  cast_of_gathered at xs (struct s) g h = tt
+  cast_of_gathered at xs (function t ts) g h = tt
+
+  pub null_cast_gathered : (at : ℕ) (xs : List X) (g : TypedExpression) → Gathers gathering xs g → Holds (Gathers gathering xs) (null_cast at g)
+  null_cast_gathered at xs g h = demand_holds (Gathers gathering xs) (is_integer g.ctype && is_null g) 3 at (null_of (pointer void)) (λ e. null_gathered xs (pointer void) g (and_right_test (is_integer g.ctype) (is_null g) e) h)
+
+  -- ## Operators between two values
+
+  module _ (xs ys : List X) where
+    both_sites : (c a b : Constant) (e f : Expr) → (IsConst c → IsConst a × IsConst b) → (gathered gathering e ≡ xs) × (IsConst a → xs ≡ []) → (gathered gathering f ≡ ys) × (IsConst b → ys ≡ []) → (gathered gathering e ++ gathered gathering f ≡ xs ++ ys) × (IsConst c → xs ++ ys ≡ [])
+    both_sites c a b e f k g h = (ap₂ (λ x y. x ++ y) g.0 h.0, λ z. (let w = k z in none_both xs ys (g.1 w.0) (h.1 w.1)))
+
+    calculated_sites : (o : BinOp) (i j : IntType) (a b : TypedExpression) → Gathers gathering xs a → Gathers gathering ys b → Gathers gathering (xs ++ ys) (shifted o i j a b)
+    calculated_sites o i j a b g h = both_sites _ (converted_to i a).constant (converted_to j b).constant (tree_of (converted_to i a)) (tree_of (converted_to j b)) (binary_const o (converted_to i a).constant (converted_to j b).constant) (converted_gathered xs i a g) (converted_gathered ys j b h)
+
+    compared_sites : (o : BinOp) (i : IntType) (a b : TypedExpression) → Gathers gathering xs a → Gathers gathering ys b → Gathers gathering (xs ++ ys) (compared_integers o i a b)
+    compared_sites o i a b g h = both_sites _ (converted_to i a).constant (converted_to i b).constant (tree_of (converted_to i a)) (tree_of (converted_to i b)) (binary_const o (converted_to i a).constant (converted_to i b).constant) (converted_gathered xs i a g) (converted_gathered ys i b h)
+
+    plain_sites : (e f : Expr) → gathered gathering e ≡ xs → gathered gathering f ≡ ys → (gathered gathering e ++ gathered gathering f ≡ xs ++ ys) × (⊥ → xs ++ ys ≡ [])
+    plain_sites e f g h = (ap₂ (λ x y. x ++ y) g h, λ c. absurd c)
+
+    turned : (c k : Constant) (s : ℤ → ℤ) → IsConst (constant_moved c s k) → IsConst k × IsConst c
+    turned c k s h = (let w = moved_const c s k h in (w.1, w.0))
+
+    sum_of_sites : (env : Env) (at : ℕ) (a b : TypedExpression) (k l : Kind) → Gathers gathering xs a → Gathers gathering ys b → Holds (Gathers gathering (xs ++ ys)) (sum_of env at a b k l)
+    sum_of_sites env at a b (an_integer i) (an_integer j) g h = calculated_sites op.Add (common i j) (common i j) a b g h
+    sum_of_sites env at a b (a_pointer t) (an_integer j) g h = after_part (Gathers gathering (xs ++ ys)) (complete env at t) _ (λ _. both_sites _ a.constant b.constant (tree_of a) (tree_of b) (moved_const a.constant _ b.constant) g h)
+    sum_of_sites env at a b (an_integer i) (a_pointer t) g h = after_part (Gathers gathering (xs ++ ys)) (complete env at t) _ (λ _. both_sites _ a.constant b.constant (tree_of a) (tree_of b) (turned b.constant a.constant _) g h)
+    sum_of_sites env at a b (an_integer i) neither g h = tt
+    sum_of_sites env at a b (a_pointer t) (a_pointer u) g h = tt
+    sum_of_sites env at a b (a_pointer t) neither g h = tt
+    sum_of_sites env at a b neither l g h = tt
+
+    pub sum_sites : (env : Env) (at : ℕ) (a b : TypedExpression) → Gathers gathering xs a → Gathers gathering ys b → Holds (Gathers gathering (xs ++ ys)) (sum env at a b)
+    sum_sites env at a b g h = sum_of_sites env at a b (kind_of a.ctype) (kind_of b.ctype) g h
+
+    minus_sites : (env : Env) (at : ℕ) (a b : TypedExpression) (k l : Kind) → Gathers gathering xs a → Gathers gathering ys b → Holds (Gathers gathering (xs ++ ys)) (minus_of env at a b k l)
+    minus_sites env at a b (an_integer i) (an_integer j) g h = calculated_sites op.Sub (common i j) (common i j) a b g h
+    minus_sites env at a b (a_pointer t) (an_integer j) g h = after_part (Gathers gathering (xs ++ ys)) (complete env at t) _ (λ _. both_sites _ a.constant b.constant (tree_of a) (tree_of b) (moved_const a.constant _ b.constant) g h)
+    minus_sites env at a b (a_pointer t) (a_pointer u) g h = behind_demand (Gathers gathering (xs ++ ys)) (same_type t u) 3 at _ (λ _. after_part (Gathers gathering (xs ++ ys)) (complete env at t) _ (λ _. plain_sites (tree_of a) (tree_of b) g.0 h.0))
+    minus_sites env at a b (an_integer i) (a_pointer t) g h = tt
+    minus_sites env at a b (an_integer i) neither g h = tt
+    minus_sites env at a b (a_pointer t) neither g h = tt
+    minus_sites env at a b neither l g h = tt
+
+    balanced_sites : (at : ℕ) (o : BinOp) (a b : TypedExpression) (k l : Kind) → Gathers gathering xs a → Gathers gathering ys b → Holds (Gathers gathering (xs ++ ys)) (balanced_of at o a b k l)
+    balanced_sites at o a b (an_integer i) (an_integer j) g h = calculated_sites o (common i j) (common i j) a b g h
+    balanced_sites at o a b (an_integer i) (a_pointer t) g h = tt
+    balanced_sites at o a b (an_integer i) neither g h = tt
+    balanced_sites at o a b (a_pointer t) l g h = tt
+    balanced_sites at o a b neither l g h = tt
+
+    shift_sites : (at : ℕ) (o : BinOp) (a b : TypedExpression) (k l : Kind) → Gathers gathering xs a → Gathers gathering ys b → Holds (Gathers gathering (xs ++ ys)) (shift_of at o a b k l)
+    shift_sites at o a b (an_integer i) (an_integer j) g h = calculated_sites o (promoted i) (promoted j) a b g h
+    shift_sites at o a b (an_integer i) (a_pointer t) g h = tt
+    shift_sites at o a b (an_integer i) neither g h = tt
+    shift_sites at o a b (a_pointer t) l g h = tt
+    shift_sites at o a b neither l g h = tt
+
+    ordered_sites : (env : Env) (at : ℕ) (o : BinOp) (a b : TypedExpression) (k l : Kind) → Gathers gathering xs a → Gathers gathering ys b → Holds (Gathers gathering (xs ++ ys)) (ordered_of env at o a b k l)
+    ordered_sites env at o a b (an_integer i) (an_integer j) g h = compared_sites o (common i j) a b g h
+    ordered_sites env at o a b (a_pointer t) (a_pointer u) g h = behind_demand (Gathers gathering (xs ++ ys)) (same_type t u) 3 at _ (λ _. after_part (Gathers gathering (xs ++ ys)) (complete env at t) _ (λ _. plain_sites (tree_of a) (tree_of b) g.0 h.0))
+    ordered_sites env at o a b (an_integer i) (a_pointer t) g h = tt
+    ordered_sites env at o a b (an_integer i) neither g h = tt
+    ordered_sites env at o a b (a_pointer t) (an_integer j) g h = tt
+    ordered_sites env at o a b (a_pointer t) neither g h = tt
+    ordered_sites env at o a b neither l g h = tt
+
+    abbrev AlikeSites : Alike → Type 0
+    AlikeSites (alike_integers i) = Unit {0}
+    AlikeSites (alike_pointers x y) = Gathers gathering xs x × Gathers gathering ys y
+    AlikeSites unlike = Unit {0}
+
+    if_alike : (b : Bool) (x y : Alike) → (b ≡ true → AlikeSites x) → AlikeSites y → AlikeSites (if b then x else y)
+    if_alike true x y h k = h refl
+    if_alike false x y h k = k
+
+    pointers_sites : (a b : TypedExpression) → Gathers gathering xs a → Gathers gathering ys b → AlikeSites (pointers_alike a b)
+    pointers_sites a b g h =
+        if_alike (same_type a.ctype b.ctype) (alike_pointers a b) _ (λ _. (g, h))
+        (if_alike (is_null a) (alike_pointers (null_of b.ctype) b) _ (λ e. (null_gathered xs b.ctype a e g, h))
+        (if_alike (is_null b) (alike_pointers a (null_of a.ctype)) unlike (λ e. (g, null_gathered ys a.ctype b e h)) tt))
+
+    alike_of_sites : (a b : TypedExpression) (k l : Kind) → Gathers gathering xs a → Gathers gathering ys b → AlikeSites (alike_of a b k l)
+    alike_of_sites a b (an_integer i) (an_integer j) g h = tt
+    alike_of_sites a b (a_pointer t) (a_pointer u) g h = pointers_sites a b g h
+    alike_of_sites a b (a_pointer t) (an_integer j) g h = if_alike (is_null b) (alike_pointers a (null_of a.ctype)) unlike (λ e. (g, null_gathered ys a.ctype b e h)) tt
+    alike_of_sites a b (an_integer i) (a_pointer u) g h = if_alike (is_null a) (alike_pointers (null_of b.ctype) b) unlike (λ e. (null_gathered xs b.ctype a e g, h)) tt
+    alike_of_sites a b (an_integer i) neither g h = tt
+    alike_of_sites a b (a_pointer t) neither g h = tt
+    alike_of_sites a b neither l g h = tt
+
+    equality_sites : (at : ℕ) (o : BinOp) (a b : TypedExpression) (x : Alike) → AlikeSites x → Gathers gathering xs a → Gathers gathering ys b → Holds (Gathers gathering (xs ++ ys)) (equality_of at o a b x)
+    equality_sites at o a b (alike_integers i) s g h = compared_sites o i a b g h
+    equality_sites at o a b (alike_pointers x y) s g h = plain_sites (tree_of x) (tree_of y) s.0.0 s.1.0
+    equality_sites at o a b unlike s g h = tt
+
+    arithmetic_sites : (env : Env) (at : ℕ) (o : BinOp) (a b : TypedExpression) → Gathers gathering xs a → Gathers gathering ys b → Holds (Gathers gathering (xs ++ ys)) (arithmetic_of env at o a b)
+    arithmetic_sites env at op.Add a b g h = sum_sites env at a b g h
+    arithmetic_sites env at op.Sub a b g h = minus_sites env at a b (kind_of a.ctype) (kind_of b.ctype) g h
+    arithmetic_sites env at o a b g h = balanced_sites at _ a b (kind_of a.ctype) (kind_of b.ctype) g h
+
+    operation_of_sites : (env : Env) (at : ℕ) (o : BinOp) (a b : TypedExpression) (k : OperatorKind) → Gathers gathering xs a → Gathers gathering ys b → Holds (Gathers gathering (xs ++ ys)) (operation_of env at o a b k)
+    operation_of_sites env at o a b balanced g h = arithmetic_sites env at o a b g h
+    operation_of_sites env at o a b shift g h = shift_sites at o a b (kind_of a.ctype) (kind_of b.ctype) g h
+    operation_of_sites env at o a b ordering g h = ordered_sites env at o a b (kind_of a.ctype) (kind_of b.ctype) g h
+    operation_of_sites env at o a b equality g h = equality_sites at o a b (alike a b) (alike_of_sites a b (kind_of a.ctype) (kind_of b.ctype) g h) g h
+
+    pub operation_sites : (env : Env) (at : ℕ) (o : BinOp) (a b : TypedExpression) → Gathers gathering xs a → Gathers gathering ys b → Holds (Gathers gathering (xs ++ ys)) (operation env at o a b)
+    operation_sites env at o a b g h = operation_of_sites env at o a b (kind_of_operator o) g h
+
+    two_parts : (a b : TypedExpression) (f : Constant → Constant → Constant) → ((c d : Constant) → IsConst (f c d) → IsConst c × IsConst d) → IsConst (f (integer_constant a) (integer_constant b)) → IsConst a.constant × IsConst b.constant
+    two_parts a b f k h = (let w = k (integer_constant a) (integer_constant b) h in (integer_const (is_integer a.ctype) a.constant w.0, integer_const (is_integer b.ctype) b.constant w.1))
+
+    pub conjunction_sites : (at : ℕ) (a b : TypedExpression) → Gathers gathering xs a → Gathers gathering ys b → Holds (Gathers gathering (xs ++ ys)) (conjunction at a b)
+    conjunction_sites at a b g h = demand_holds (Gathers gathering (xs ++ ys)) (both_scalars a b) 3 at _ (λ _. both_sites _ a.constant b.constant (tree_of a) (tree_of b) (two_parts a b constant_and and_const) g h)
+
+    pub disjunction_sites : (at : ℕ) (a b : TypedExpression) → Gathers gathering xs a → Gathers gathering ys b → Holds (Gathers gathering (xs ++ ys)) (disjunction at a b)
+    disjunction_sites at a b g h = demand_holds (Gathers gathering (xs ++ ys)) (both_scalars a b) 3 at _ (λ _. both_sites _ a.constant b.constant (tree_of a) (tree_of b) (two_parts a b constant_or or_const) g h)
+
+    assignment_sites : (at : ℕ) (a b : TypedExpression) → Gathers gathering xs a → Gathers gathering ys b → Holds (Gathers gathering (xs ++ ys)) (assignment at a b)
+    assignment_sites at a b g h = demand_holds (Gathers gathering (xs ++ ys)) (fits a.ctype b) 3 at _ (λ _. plain_sites (tree_of a) (tree_of (assigned a.ctype b)) g.0 (assigned_gathered ys a.ctype b h).0)
+
+    update_sites : (env : Env) (at : ℕ) (o : BinOp) (old : Bool) (a b : TypedExpression) (k l : Kind) → Gathers gathering xs a → Gathers gathering ys b → Holds (Gathers gathering (xs ++ ys)) (update_of env at o old a b k l)
+    update_sites env at o old a b (an_integer i) (an_integer j) g h = (let r : IntType = right_type (kind_of_operator o) i j in plain_sites (tree_of a) (tree_of (converted_to r b)) g.0 (converted_gathered ys r b h).0)
+    update_sites env at o old a b (a_pointer t) (an_integer j) g h = behind_demand (Gathers gathering (xs ++ ys)) (moves o) 3 at _ (λ _. after_part (Gathers gathering (xs ++ ys)) (complete env at t) _ (λ _. plain_sites (tree_of a) (tree_of b) g.0 h.0))
+    update_sites env at o old a b (an_integer i) (a_pointer t) g h = tt
+    update_sites env at o old a b (an_integer i) neither g h = tt
+    update_sites env at o old a b (a_pointer t) (a_pointer u) g h = tt
+    update_sites env at o old a b (a_pointer t) neither g h = tt
+    update_sites env at o old a b neither l g h = tt
+
+    pub assignment_by_sites : (env : Env) (at code : ℕ) (a b : TypedExpression) → Gathers gathering xs a → Gathers gathering ys b → Holds (Gathers gathering (xs ++ ys)) (assignment_by env at code a b)
+    assignment_by_sites env at code a b g h =
+        if_holds (Gathers gathering (xs ++ ys)) (nat_eq code ASSIGN) _ _ (assignment_sites at a b g h) (update_sites env at (operator_of_assignment code) false a b (kind_of a.ctype) (kind_of b.ctype) g h)
+
+  one_gathered : (k : Kind) → Gathers gathering [] (one_for k)
+  one_gathered (an_integer i) = (refl, λ c. absurd c)
+  one_gathered (a_pointer t) = (refl, λ c. absurd c)
+  one_gathered neither = (refl, λ c. absurd c)
+
+  pub step_gathered : (env : Env) (at : ℕ) (o : BinOp) (old : Bool) (xs : List X) (a : TypedExpression) → Gathers gathering xs a → Holds (Gathers gathering xs) (step env at o old a)
+  step_gathered env at o old xs a h =
+      subst (λ ys. Holds (Gathers gathering ys) (step env at o old a)) (nothing_more xs) (update_sites xs [] env at o old a (one_for (kind_of a.ctype)) (kind_of a.ctype) (kind_of (one_for (kind_of a.ctype)).ctype) h (one_gathered (kind_of a.ctype)))
+
+  -- ## ?: and the comma
+
+  module _ (zs xs ys : List X) where
+    chosen_sites : (t : CType) (c a b : TypedExpression) → Gathers gathering zs c → Gathers gathering xs a → Gathers gathering ys b → Gathers gathering (zs ++ (xs ++ ys)) (chosen t c a b)
+    chosen_sites t c a b f g h = (
+      ap₂ (λ x y. x ++ y) f.0 (ap₂ (λ x y. x ++ y) g.0 h.0),
+      λ k. (let w = conditional_const (integer_constant c) (integer_constant a) (integer_constant b) k in
+          none_both zs (xs ++ ys) (f.1 (integer_const (is_integer c.ctype) c.constant w.0)) (none_both xs ys (g.1 (integer_const (is_integer a.ctype) a.constant w.1)) (h.1 (integer_const (is_integer b.ctype) b.constant w.2)))),
+    )
+
+    arms_sites : (at : ℕ) (c a b : TypedExpression) (x : Alike) → AlikeSites xs ys x → Gathers gathering zs c → Gathers gathering xs a → Gathers gathering ys b → Holds (Gathers gathering (zs ++ (xs ++ ys))) (arms_of at c a b x)
+    arms_sites at c a b (alike_integers i) s f g h = chosen_sites (integer i) c (converted_to i a) (converted_to i b) f (converted_gathered xs i a g) (converted_gathered ys i b h)
+    arms_sites at c a b (alike_pointers x y) s f g h = chosen_sites x.ctype c x y f s.0 s.1
+    arms_sites at c a b unlike s f g h = demand_holds (Gathers gathering (zs ++ (xs ++ ys))) (is_void a.ctype && is_void b.ctype) 3 at _ (λ _. chosen_sites void c a b f g h)
+
+    pub choice_sites : (at : ℕ) (c a b : TypedExpression) → Gathers gathering zs c → Gathers gathering xs a → Gathers gathering ys b → Holds (Gathers gathering (zs ++ (xs ++ ys))) (choice at c a b)
+    choice_sites at c a b f g h = behind_demand (Gathers gathering (zs ++ (xs ++ ys))) (is_scalar c.ctype) 3 at _ (λ _. arms_sites at c a b (alike a b) (alike_of_sites xs ys a b (kind_of a.ctype) (kind_of b.ctype) g h) f g h)
+
+  trees_gathered : (gs : List TypedExpression) (xs : List X) → AllGather gathering xs gs → gathered_all gathering (trees_of gs) ≡ xs
+  trees_gathered [] xs h = sym h
+  trees_gathered (g ∷ gs) xs h = ap₂ (λ x y. x ++ y) h.2.0 (trees_gathered gs h.1 h.3) ∙ sym h.4
+
+  pub comma_gathered : (gs : List TypedExpression) (xs : List X) → AllGather gathering xs gs → Gathers gathering xs (comma_of gs)
+  comma_gathered gs xs h = (trees_gathered gs xs h, λ c. absurd c)
