@@ -54,6 +54,19 @@ IsPausing (Told e next) = Unit {0}
 IsPausing (Stopped o) = Unit {0}
 IsPausing Mistyped = Unit {0}
 
+-- the next step costs a turn
+abbrev pub IsCostly : Now → Type 0
+IsCostly (Eval wanted e) = ⊥
+IsCostly (Have v) = ⊥
+IsCostly (Exec s) = ⊥
+IsCostly (Left x) = ⊥
+IsCostly (Enter wanted f vs) = Unit {0}
+IsCostly (Test s) = Unit {0}
+IsCostly (Ask x q) = ⊥
+IsCostly (Told e next) = ⊥
+IsCostly (Stopped o) = ⊥
+IsCostly Mistyped = ⊥
+
 -- a record is needed
 abbrev pub IsAsk : Now → Type 0
 IsAsk (Eval wanted e) = ⊥

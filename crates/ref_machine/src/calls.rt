@@ -13,6 +13,7 @@ ghost use Rattle.ref_machine_frames.specs.declared.frames.Frame.{Frame as Todo};
 ghost use Rattle.ref_machine_frames.specs.Frames.{after_value, exit_in, numbers, out_of_call, place_of, rest, stack};
 ghost use Rattle.ref_machine_frames.specs.Parts.{Does};
 ghost use Rattle.ref_machine.specs.Standing.{state};
+ghost use Rattle.ref_machine_frames.specs.Work.{of_now};
 
 use c_tree::{ObjectName, Program, Value};
 use c_values::Memory;
@@ -95,7 +96,8 @@ fn end_parameters(memory: &mut Memory, activation: u64, count: u32)
 
 // Undefined behaviour of a function that ends without its value (C99 6.9.1 paragraph 12).
 fn without_value<'p>(is_main: bool, wanted: bool) -> Now<'p>
-    ensures { (p : Term) (m : Objects) → Does p m (λ w st. without_value is_main wanted st) result }
+    ensures same { (p : Term) (m : Objects) → Does p m (λ w st. without_value is_main wanted st) result }
+    ensures done { of_now result ≡ 0 }
 {
     if is_main {
         return Now::Have(Value::Int(0));
@@ -111,7 +113,8 @@ fn without_value<'p>(is_main: bool, wanted: bool) -> Now<'p>
 
 // What a call gives, by how its function is left.
 fn value_of<'p>(is_main: bool, wanted: bool, by: Left) -> Now<'p>
-    ensures { (p : Term) (m : Objects) → Does p m (λ w st. result_of is_main wanted (exit_in by) st) result }
+    ensures same { (p : Term) (m : Objects) → Does p m (λ w st. result_of is_main wanted (exit_in by) st) result }
+    ensures done { of_now result ≡ 0 }
 {
     match by {
         Left::Returned(given) => match given {
@@ -126,7 +129,8 @@ fn value_of<'p>(is_main: bool, wanted: bool, by: Left) -> Now<'p>
 
 // A function is left: its parameters end, and the call gives its value to the caller.
 pub fn leave_call<'p>(memory: &mut Memory, here: &mut Here<'p>, call: Call<'p>, by: Left) -> Now<'p>
-    ensures { (p : Term) (w : World) (todo : List Todo) (st : State) → rest p w (place_of here.new) result (stack todo) (with_memory st (seen memory.new)) ≡ then_do (out_of_call (place_of here.old) call.entry (exit_in by) (with_memory st (seen memory.old))) (after_value p w (place_of call.entry.caller) (stack todo)) }
+    ensures same { (p : Term) (w : World) (todo : List Todo) (st : State) → rest p w (place_of here.new) result (stack todo) (with_memory st (seen memory.new)) ≡ then_do (out_of_call (place_of here.old) call.entry (exit_in by) (with_memory st (seen memory.old))) (after_value p w (place_of call.entry.caller) (stack todo)) }
+    ensures done { of_now result ≡ 0 }
 {
     end_parameters(memory, here.activation, call.parameters);
     *here = call.caller;

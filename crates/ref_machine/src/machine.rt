@@ -242,8 +242,7 @@ impl<'p> Machine<'p> {
     /// ends for want of it. A result that does not answer its call ends the run with its number, counted from 1. After the end it
     /// answers the same again.
     ///
-    /// The error is that memory was refused; from then on each call answers so. It is answered, too, where more than 2^64 − 1
-    /// steps lie between two pauses.
+    /// The error is that memory was refused; from then on each call answers so.
     pub fn advance(&mut self, given: Option<&SysResult>) -> Result<Pause, OutOfMemory>
         requires waiting { IsSome given → is_waiting self.old ≡ true }
         requires few { IsSome given → records_taken self.old < 2 ^ 64 - 1 }

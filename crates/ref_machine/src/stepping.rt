@@ -14,7 +14,8 @@ ghost use Rattle.ref_machine_frames.specs.Cells.{AreCells};
 ghost use Rattle.ref_machine_frames.specs.Frames.{after_exit, after_value, exit_in, place_of, rest, rounds_of, stack, then_comes};
 ghost use Rattle.ref_machine_frames.specs.Parts.{IsAnswer};
 ghost use Rattle.ref_machine_steps.specs.Faults.{told};
-ghost use Rattle.ref_machine.specs.Standing.{EndsRightly, IsPausing, SameLeft, Standing, left_of, state};
+ghost use Rattle.ref_machine.specs.Standing.{EndsRightly, IsCostly, IsPausing, SameLeft, Standing, left_of, state};
+ghost use Rattle.ref_machine_frames.specs.Work.{of_all, of_bit, of_frame, of_now, work};
 
 use crate::calls::{enter, leave_call};
 use c_tree::{Program, TStmt, Value};
@@ -28,7 +29,8 @@ use std::alloc::Global;
 
 // The end of the run with the value of main.
 fn end<'p>(v: Value) -> Now<'p>
-    ensures { (p : Term) (w : World) (fr : Place) (todo : List Todo) (st : State) → rest p w fr result todo st ≡ Stop (exit_of v) [] }
+    ensures same { (p : Term) (w : World) (fr : Place) (todo : List Todo) (st : State) → rest p w fr result todo st ≡ Stop (exit_of v) [] }
+    ensures ended { of_now result + of_bit result ≡ 0 }
 {
     match v {
         Value::Int(status) => Now::Stopped(Outcome::Exit(status)),
@@ -48,7 +50,8 @@ fn with_frame<'p>(
     v: Value,
 ) -> Result<Now<'p>, OutOfMemory>
     requires { AreCells (program_of program.now).structs counts.now }
-    ensures { IfOk result (λ now. (w : World) (st : State) → rest (program_of program.now) w (place_of here.entry) now (stack todo.new.items) (with_memory st (seen memory.new)) ≡ after_value (program_of program.now) w (place_of here.entry) (frame.entry ∷ stack todo.old.items) v (with_memory st (seen memory.old))) }
+    ensures same { IfOk result (λ now. (w : World) (st : State) → rest (program_of program.now) w (place_of here.entry) now (stack todo.new.items) (with_memory st (seen memory.new)) ≡ after_value (program_of program.now) w (place_of here.entry) (frame.entry ∷ stack todo.old.items) v (with_memory st (seen memory.old))) }
+    ensures less { IfOk result (λ now. work now todo.new.items + of_bit now ≤ of_frame frame.entry + of_all todo.old.items) }
 {
     match frame {
         Frame::Value(frame) => {
@@ -75,7 +78,8 @@ fn have<'p>(
     v: Value,
 ) -> Result<Now<'p>, OutOfMemory>
     requires { AreCells (program_of program.now).structs counts.now }
-    ensures { IfOk result (λ now. (w : World) (st : State) → rest (program_of program.now) w (place_of here.entry) now (stack todo.new.items) (with_memory st (seen memory.new)) ≡ after_value (program_of program.now) w (place_of here.entry) (stack todo.old.items) v (with_memory st (seen memory.old))) }
+    ensures same { IfOk result (λ now. (w : World) (st : State) → rest (program_of program.now) w (place_of here.entry) now (stack todo.new.items) (with_memory st (seen memory.new)) ≡ after_value (program_of program.now) w (place_of here.entry) (stack todo.old.items) v (with_memory st (seen memory.old))) }
+    ensures less { IfOk result (λ now. work now todo.new.items + of_bit now ≤ of_all todo.old.items) }
 {
     match todo.pop() {
         None => Ok(end(v)),
@@ -94,7 +98,8 @@ fn left_with<'p>(
     frame: Frame<'p>,
     by: Left,
 ) -> Result<Now<'p>, OutOfMemory>
-    ensures { IfOk result (λ now. (p : Term) (w : World) (st : State) → rest p w (place_of here.new) now (stack todo.new.items) (with_memory st (seen memory.new)) ≡ after_exit p w (place_of here.old) (frame.entry ∷ stack todo.old.items) (exit_in by) (with_memory st (seen memory.old))) }
+    ensures same { IfOk result (λ now. (p : Term) (w : World) (st : State) → rest p w (place_of here.new) now (stack todo.new.items) (with_memory st (seen memory.new)) ≡ after_exit p w (place_of here.old) (frame.entry ∷ stack todo.old.items) (exit_in by) (with_memory st (seen memory.old))) }
+    ensures less { IfOk result (λ now. work now todo.new.items + of_bit now ≤ of_frame frame.entry + of_all todo.old.items) }
 {
     match &frame {
         Frame::Exit(frame) => {
@@ -114,7 +119,8 @@ fn left<'p>(
     here: &mut Here<'p>,
     by: Left,
 ) -> Result<Now<'p>, OutOfMemory>
-    ensures { IfOk result (λ now. (p : Term) (w : World) (st : State) → rest p w (place_of here.new) now (stack todo.new.items) (with_memory st (seen memory.new)) ≡ after_exit p w (place_of here.old) (stack todo.old.items) (exit_in by) (with_memory st (seen memory.old))) }
+    ensures same { IfOk result (λ now. (p : Term) (w : World) (st : State) → rest p w (place_of here.new) now (stack todo.new.items) (with_memory st (seen memory.new)) ≡ after_exit p w (place_of here.old) (stack todo.old.items) (exit_in by) (with_memory st (seen memory.old))) }
+    ensures less { IfOk result (λ now. work now todo.new.items + of_bit now ≤ of_all todo.old.items) }
 {
     match todo.pop() {
         None => Ok(Now::Mistyped),
@@ -141,6 +147,7 @@ fn enter_in_turn<'p>(
     ensures same { IfOk result (λ next. (n : ℕ) (records : List Record) (taken : ℕ) → turns.old ≤ n → left_of (program_of program.now) n (record { here = here.new; memory = seen memory.new; entries = entries.new; turns = turns.new; now = next; todo = todo.new.items }) records taken ≡ then_do ((world (program_of program.now) n).enter wanted f values.now (state (seen memory.old) entries.old records taken turns.old)) (after_value (program_of program.now) (world (program_of program.now) n) (place_of here.old) (stack todo.old.items))) }
     ensures fewer { turns.new ≤ turns.old }
     ensures spent { entries.new + turns.new ≤ entries.old + turns.old }
+    ensures spends { 0 < turns.old → turns.new < turns.old }
 {
     if *turns == 0 {
         return Ok(Now::Stopped(Outcome::Turns));
@@ -158,6 +165,7 @@ fn test_in_turn<'p>(
 ) -> Result<Now<'p>, OutOfMemory>
     ensures same { IfOk result (λ next. (p : Term) (h : Activation) (m : Objects) (entries n : ℕ) (records : List Record) (taken : ℕ) → turns.old ≤ n → left_of p n (record { here = h; memory = m; entries = entries; turns = turns.new; now = next; todo = todo.new.items }) records taken ≡ then_do ((world p n).again (place_of h) (rounds_of (stmt_of of.now)) (state m entries records taken turns.old)) (after_exit p (world p n) (place_of h) (stack todo.old.items))) }
     ensures fewer { turns.new ≤ turns.old }
+    ensures spends { 0 < turns.old → turns.new < turns.old }
 {
     if *turns == 0 {
         return Ok(Now::Stopped(Outcome::Turns));
@@ -167,33 +175,36 @@ fn test_in_turn<'p>(
     Ok(now)
 }
 
-// Whether the run is at an event, at a need of a record, or at its end.
-fn is_pause(now: &Now) -> bool
-    ensures { IsTrue result ↔ IsPausing now.now }
+// Whether the next step costs no turn.
+fn is_free(now: &Now) -> bool
+    ensures { IsTrue result ↔ (of_bit now.now ≡ 1) }
 {
     matches!(
         now,
-        Now::Ask { .. } | Now::Told { .. } | Now::Stopped(_) | Now::Mistyped
+        Now::Eval { .. } | Now::Have(_) | Now::Exec(_) | Now::Left(_)
     )
 }
 
-// One step.
-fn step<'p>(
+// Whether it costs a turn.
+fn is_costly(now: &Now) -> bool
+    ensures { IsTrue result ↔ IsCostly now.now }
+{
+    matches!(now, Now::Enter { .. } | Now::Test(_))
+}
+
+// One step that costs no turn.
+fn free_step<'p>(
     alloc: Global,
     program: &'p Program,
     counts: &[u32],
     memory: &mut Memory,
     todo: &mut Vec<Frame<'p>>,
     here: &mut Here<'p>,
-    entries: &mut u64,
-    turns: &mut u32,
     now: Now<'p>,
 ) -> Result<Now<'p>, OutOfMemory>
-    requires counted { AreCells (program_of program.now).structs counts.now }
-    requires few { entries.old + turns.old < 2 ^ 32 }
-    ensures same { IfOk result (λ next. SameLeft (program_of program.now) (record { here = here.old; memory = seen memory.old; entries = entries.old; turns = turns.old; now = now.entry; todo = todo.old.items }) (record { here = here.new; memory = seen memory.new; entries = entries.new; turns = turns.new; now = next; todo = todo.new.items })) }
-    ensures fewer { turns.new ≤ turns.old }
-    ensures spent { entries.new + turns.new ≤ entries.old + turns.old }
+    requires { AreCells (program_of program.now).structs counts.now }
+    ensures same { IfOk result (λ next. (entries turns : ℕ) → SameLeft (program_of program.now) (record { here = here.old; memory = seen memory.old; entries = entries; turns = turns; now = now.entry; todo = todo.old.items }) (record { here = here.new; memory = seen memory.new; entries = entries; turns = turns; now = next; todo = todo.new.items })) }
+    ensures less { IfOk result (λ next. of_bit now.entry ≡ 1 → work next todo.new.items + of_bit next < work now.entry todo.old.items + of_bit now.entry) }
 {
     match now {
         Now::Eval { wanted, of } => {
@@ -212,6 +223,49 @@ fn step<'p>(
             let next = left(memory, todo, here, by)?;
             Ok(next)
         }
+        other => Ok(other),
+    }
+}
+
+// Goes on to the next step that costs a turn, or to the next event, need of a record or end.
+fn freely<'p>(
+    alloc: Global,
+    program: &'p Program,
+    counts: &[u32],
+    memory: &mut Memory,
+    todo: &mut Vec<Frame<'p>>,
+    here: &mut Here<'p>,
+    now: Now<'p>,
+) -> Result<Now<'p>, OutOfMemory>
+    requires { AreCells (program_of program.now).structs counts.now }
+    ensures same { IfOk result (λ next. (entries turns : ℕ) → SameLeft (program_of program.now) (record { here = here.old; memory = seen memory.old; entries = entries; turns = turns; now = now.entry; todo = todo.old.items }) (record { here = here.new; memory = seen memory.new; entries = entries; turns = turns; now = next; todo = todo.new.items })) }
+    ensures rests { IfOk result (λ next. of_bit next ≡ 1 → ⊥) }
+{
+    let mut next = now;
+    'steps: while is_free(&next) {
+        next = free_step(alloc, program, counts, memory, todo, here, next)?;
+    }
+    Ok(next)
+}
+
+// One step that costs a turn.
+fn costly_step<'p>(
+    program: &'p Program,
+    memory: &mut Memory,
+    todo: &mut Vec<Frame<'p>>,
+    here: &mut Here<'p>,
+    entries: &mut u64,
+    turns: &mut u32,
+    now: Now<'p>,
+) -> Result<Now<'p>, OutOfMemory>
+    requires costly { IsCostly now }
+    requires some { 0 < turns.old }
+    requires few { entries.old + turns.old < 2 ^ 32 }
+    ensures same { IfOk result (λ next. SameLeft (program_of program.now) (record { here = here.old; memory = seen memory.old; entries = entries.old; turns = turns.old; now = now.entry; todo = todo.old.items }) (record { here = here.new; memory = seen memory.new; entries = entries.new; turns = turns.new; now = next; todo = todo.new.items })) }
+    ensures fewer { turns.new < turns.old }
+    ensures spent { entries.new + turns.new ≤ entries.old + turns.old }
+{
+    match now {
         Now::Enter {
             wanted,
             function,
@@ -226,7 +280,7 @@ fn step<'p>(
             let next = test_in_turn(todo, turns, of)?;
             Ok(next)
         }
-        other => Ok(other),
+        _ => unreachable!(),
     }
 }
 
@@ -249,16 +303,15 @@ pub fn go_on<'p>(
     ensures spent { entries.new + turns.new ≤ entries.old + turns.old }
     ensures pausing { IfOk result (λ next. IsPausing next) }
 {
-    let mut next = now;
-    for _step in 0..u64::MAX {
-        if is_pause(&next) {
-            return Ok(next);
+    let mut next = freely(alloc, program, counts, memory, todo, here, now)?;
+    'turns: while is_costly(&next) {
+        if *turns == 0 {
+            return Ok(Now::Stopped(Outcome::Turns));
         }
-        next = step(
-            alloc, program, counts, memory, todo, here, entries, turns, next,
-        )?;
+        next = costly_step(program, memory, todo, here, entries, turns, next)?;
+        next = freely(alloc, program, counts, memory, todo, here, next)?;
     }
-    Err(OutOfMemory)
+    Ok(next)
 }
 
 // What comes after the event of a system call.

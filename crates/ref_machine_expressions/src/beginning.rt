@@ -1,4 +1,4 @@
-ghost use Rattle.std.specs.Prelude.{◌≡◌, IfOk};
+ghost use Rattle.std.specs.Prelude.{◌<◌, ◌+◌, ◌≡◌, IfOk};
 ghost use Rattle.c_tree.specs.Layout.{Structs};
 ghost use Rattle.c_tree.specs.View.{ctype_of, expr_of, program_of};
 ghost use Rattle.c_values.specs.Seen.{seen};
@@ -8,6 +8,7 @@ ghost use Rattle.ref_machine_frames.specs.Held.{eval, whole};
 ghost use Rattle.ref_machine_frames.specs.Cells.{AreCells};
 ghost use Rattle.ref_machine_frames.specs.Frames.{place_of};
 ghost use Rattle.ref_machine_frames.specs.Parts.{Gives};
+ghost use Rattle.ref_machine_frames.specs.Work.{of_all, of_expr, work};
 
 use crate::calls::{arguments, wants};
 use crate::values::members;
@@ -56,7 +57,8 @@ pub fn begin<'p>(
     e: &'p TExpr,
 ) -> Result<Now<'p>, OutOfMemory>
     requires { AreCells (program_of program.now).structs counts.now }
-    ensures { IfOk result (λ now. Gives (program_of program.now) here.entry (seen memory.now) todo.old.items (λ w st. eval (program_of program.now) w (place_of here.entry) wanted (expr_of e.now) st) now (seen memory.now) todo.new.items) }
+    ensures same { IfOk result (λ now. Gives (program_of program.now) here.entry (seen memory.now) todo.old.items (λ w st. eval (program_of program.now) w (place_of here.entry) wanted (expr_of e.now) st) now (seen memory.now) todo.new.items) }
+    ensures less { IfOk result (λ now. work now todo.new.items < of_expr (expr_of e.now) + of_all todo.old.items) }
 {
     match &e.kind {
         TExprKind::Const(value) => Ok(Now::Have(*value)),

@@ -1,4 +1,4 @@
-ghost use Rattle.std.specs.Prelude.{◌≡◌, ◌++◌, ◌∷◌, [], ◌≤◌, IfOk, length};
+ghost use Rattle.std.specs.Prelude.{◌+◌, ◌≡◌, ◌++◌, ◌∷◌, [], ◌≤◌, IfOk, length};
 ghost use Rattle.c_tree.specs.declared.value.Value.TheVariants.{Uint};
 ghost use Rattle.c_tree.specs.Tree.{Program as Term};
 ghost use Rattle.c_tree.specs.View.{ctype_of, exprs_of, program_of};
@@ -15,6 +15,7 @@ ghost use Rattle.ref_machine_expressions.specs.Asking.{asking, site_of, IsStop};
 ghost use Rattle.ref_machine_frames.specs.Frames.{made, place_of};
 ghost use Rattle.ref_machine_frames.specs.Parts.{Does, Gives};
 ghost use Rattle.ref_machine_frames.specs.declared.frames.Here.{Here as Activation};
+ghost use Rattle.ref_machine_frames.specs.Work.{of_all, of_exprs, of_now, work};
 
 use c_tree::{CType, Program, TExpr, Value};
 use c_values::Memory;
@@ -39,7 +40,8 @@ pub fn wants(wanted: bool, t: &CType) -> bool
 // `_exit` ends the run with its argument.
 fn exit<'p>(name: SysName, request: Request) -> Now<'p>
     requires { name ≡ 23 }
-    ensures { (p : Term) (m : Objects) → Does p m (λ w st. exit_with request.arguments) result }
+    ensures same { (p : Term) (m : Objects) → Does p m (λ w st. exit_with request.arguments) result }
+    ensures done { of_now result ≡ 0 }
 {
     let Some(status) = exit_status(&request) else {
         return Now::Mistyped;
@@ -56,7 +58,8 @@ fn exit<'p>(name: SysName, request: Request) -> Now<'p>
 
 // A system call that has asked for this needs a record, but for `_exit`.
 fn asking<'p>(name: SysName, request: Request) -> Now<'p>
-    ensures { (p : Term) (m : Objects) → Does p m (λ w st. asking name (asked_by request) st) result }
+    ensures same { (p : Term) (m : Objects) → Does p m (λ w st. asking name (asked_by request) st) result }
+    ensures done { of_now result ≡ 0 }
 {
     if name.index() == EXIT {
         return exit(name, request);
@@ -66,7 +69,8 @@ fn asking<'p>(name: SysName, request: Request) -> Now<'p>
 
 // Why a system call asks for nothing.
 fn refused<'p>(error: StepError) -> Result<Now<'p>, OutOfMemory>
-    ensures { IfOk result (λ now. (answer : Answer Asked) → IsRefusal error answer → IsStop answer now) }
+    ensures same { IfOk result (λ now. (answer : Answer Asked) → IsRefusal error answer → IsStop answer now) }
+    ensures done { IfOk result (λ now. of_now now ≡ 0) }
 {
     match error {
         StepError::Faulty(fault) => Ok(stopped(fault)),
@@ -81,7 +85,8 @@ fn system_call<'p>(
     name: SysName,
     values: &[Value],
 ) -> Result<Now<'p>, OutOfMemory>
-    ensures { IfOk result (λ now. (p : Term) → Does p (seen memory.now) (λ w st. system_call name values.now st) now) }
+    ensures same { IfOk result (λ now. (p : Term) → Does p (seen memory.now) (λ w st. system_call name values.now st) now) }
+    ensures done { IfOk result (λ now. of_now now ≡ 0) }
 {
     if values.len() > 3 {
         return Ok(Now::Mistyped);
@@ -102,7 +107,8 @@ fn call_system<'p>(
     x: u32,
     values: &[Value],
 ) -> Result<Now<'p>, OutOfMemory>
-    ensures { IfOk result (λ now. (p : Term) → Does p (seen memory.now) (λ w st. system_call_alone x values.now st) now) }
+    ensures same { IfOk result (λ now. (p : Term) → Does p (seen memory.now) (λ w st. system_call_alone x values.now st) now) }
+    ensures done { IfOk result (λ now. of_now now ≡ 0) }
 {
     if x >= 24 {
         return Ok(Now::Mistyped);
@@ -130,7 +136,8 @@ fn site_in(values: &[Value]) -> Option<u32>
 // A null call, of which 24 is that before a call, and 25 that after it.
 fn null_call<'p>(x: u32, site: u32) -> Now<'p>
     requires { 24 ≤ x }
-    ensures { (p : Term) (m : Objects) → Does p m (λ w st. call_undefined x (Uint site ∷ []) st) result }
+    ensures same { (p : Term) (m : Objects) → Does p m (λ w st. call_undefined x (Uint site ∷ []) st) result }
+    ensures done { of_now result ≡ 0 }
 {
     if x == 24 {
         return Now::Told {
@@ -154,7 +161,8 @@ fn call_undefined<'p>(
     x: u32,
     values: &[Value],
 ) -> Result<Now<'p>, OutOfMemory>
-    ensures { IfOk result (λ now. (p : Term) → Does p (seen memory.now) (λ w st. call_undefined x values.now st) now) }
+    ensures same { IfOk result (λ now. (p : Term) → Does p (seen memory.now) (λ w st. call_undefined x values.now st) now) }
+    ensures done { IfOk result (λ now. of_now now ≡ 0) }
 {
     if x < 24 {
         let now = call_system(alloc, memory, x, values)?;
@@ -175,7 +183,8 @@ fn called<'p>(
     f: u32,
     values: Vec<Value>,
 ) -> Result<Now<'p>, OutOfMemory>
-    ensures { IfOk result (λ now. Does (program_of program.now) (seen memory.now) (λ w st. called (program_of program.now) w wanted f values.items st) now) }
+    ensures same { IfOk result (λ now. Does (program_of program.now) (seen memory.now) (λ w st. called (program_of program.now) w wanted f values.items st) now) }
+    ensures less { IfOk result (λ now. of_now now ≤ 1) }
 {
     let count = program.defined();
     if f < count {
@@ -198,7 +207,8 @@ fn called_through<'p>(
     f: u32,
     values: Vec<Value>,
 ) -> Result<Now<'p>, OutOfMemory>
-    ensures { IfOk result (λ now. Does (program_of program.now) (seen memory.now) (λ w st. called_through (program_of program.now) w wanted f values.items st) now) }
+    ensures same { IfOk result (λ now. Does (program_of program.now) (seen memory.now) (λ w st. called_through (program_of program.now) w wanted f values.items st) now) }
+    ensures less { IfOk result (λ now. of_now now ≤ 1) }
 {
     let count = program.defined();
     if f < count {
@@ -221,7 +231,8 @@ fn made<'p>(
     whom: Callee,
     values: Vec<Value>,
 ) -> Result<Now<'p>, OutOfMemory>
-    ensures { IfOk result (λ now. Does (program_of program.now) (seen memory.now) (λ w st. made (program_of program.now) w wanted whom values.items st) now) }
+    ensures same { IfOk result (λ now. Does (program_of program.now) (seen memory.now) (λ w st. made (program_of program.now) w wanted whom values.items st) now) }
+    ensures less { IfOk result (λ now. of_now now ≤ 1) }
 {
     match whom {
         Callee::Named(f) => {
@@ -249,7 +260,8 @@ pub fn arguments<'p>(
     before: Vec<Value>,
     left: &'p [TExpr],
 ) -> Result<Now<'p>, OutOfMemory>
-    ensures { IfOk result (λ now. (h : Activation) → Gives (program_of program.now) h (seen memory.now) todo.old.items (λ w st. then_do (eval_all (program_of program.now) w (place_of h) (exprs_of left.now) st) (λ vs st. made (program_of program.now) w wanted whom (before.items ++ vs) st)) now (seen memory.now) todo.new.items) }
+    ensures same { IfOk result (λ now. (h : Activation) → Gives (program_of program.now) h (seen memory.now) todo.old.items (λ w st. then_do (eval_all (program_of program.now) w (place_of h) (exprs_of left.now) st) (λ vs st. made (program_of program.now) w wanted whom (before.items ++ vs) st)) now (seen memory.now) todo.new.items) }
+    ensures less { IfOk result (λ now. work now todo.new.items ≤ 1 + (of_exprs (exprs_of left.now) + of_all todo.old.items)) }
 {
     let Some((first, rest)) = left.split_first() else {
         let now = made(alloc, program, memory, wanted, whom, before)?;

@@ -1,4 +1,4 @@
-ghost use Rattle.std.specs.Prelude.{IfOk};
+ghost use Rattle.std.specs.Prelude.{◌≤◌, ◌+◌, IfOk};
 ghost use Rattle.c_tree.specs.Tree.{Program};
 ghost use Rattle.c_values.specs.Memory.{Objects};
 ghost use Rattle.c_values.specs.Seen.{seen};
@@ -6,6 +6,7 @@ ghost use Rattle.c_meaning.specs.Results.{then_do};
 ghost use Rattle.ref_machine_frames.specs.Frames.{place_of, asked, chosen};
 ghost use Rattle.ref_machine_frames.specs.Parts.{Gives};
 ghost use Rattle.ref_machine_frames.specs.declared.frames.Here.{Here as Activation};
+ghost use Rattle.ref_machine_frames.specs.Work.{of_all, of_choice, work};
 
 use c_tree::Value;
 use c_values::Memory;
@@ -19,7 +20,8 @@ fn chosen<'p>(
     choice: Choice<'p>,
     holds: bool,
 ) -> Result<Now<'p>, OutOfMemory>
-    ensures { IfOk result (λ now. (p : Program) (h : Activation) (m : Objects) → Gives p h m todo.old.items (λ w st. chosen p w (place_of h) choice.entry holds st) now m todo.new.items) }
+    ensures same { IfOk result (λ now. (p : Program) (h : Activation) (m : Objects) → Gives p h m todo.old.items (λ w st. chosen p w (place_of h) choice.entry holds st) now m todo.new.items) }
+    ensures less { IfOk result (λ now. work now todo.new.items ≤ of_choice choice.entry + of_all todo.old.items) }
 {
     match choice {
         Choice::And(second) => {
@@ -53,7 +55,8 @@ pub fn choosing<'p>(
     choice: Choice<'p>,
     v: Value,
 ) -> Result<Now<'p>, OutOfMemory>
-    ensures { IfOk result (λ now. (p : Program) (h : Activation) → Gives p h (seen memory.now) todo.old.items (λ w st. then_do (asked v st) (chosen p w (place_of h) choice.entry)) now (seen memory.now) todo.new.items) }
+    ensures same { IfOk result (λ now. (p : Program) (h : Activation) → Gives p h (seen memory.now) todo.old.items (λ w st. then_do (asked v st) (chosen p w (place_of h) choice.entry)) now (seen memory.now) todo.new.items) }
+    ensures less { IfOk result (λ now. work now todo.new.items ≤ of_choice choice.entry + of_all todo.old.items) }
 {
     match test(memory, v) {
         Ok(holds) => {

@@ -1,4 +1,4 @@
-ghost use Rattle.std.specs.Prelude.{◌≡◌, true, IfOk};
+ghost use Rattle.std.specs.Prelude.{◌≤◌, ◌<◌, ◌+◌, ◌≡◌, true, IfOk};
 ghost use Rattle.c_tree.specs.Tree.{Program};
 ghost use Rattle.c_tree.specs.View.{ctype_of, expr_of};
 ghost use Rattle.c_values.specs.Seen.{seen};
@@ -14,6 +14,7 @@ ghost use Rattle.ref_machine_frames.specs.Frames.{place_of, storing};
 ghost use Rattle.ref_machine_frames.specs.Parts.{Gives};
 ghost use Rattle.ref_machine_expressions.specs.Renewing.{renewing};
 ghost use Rattle.ref_machine_frames.specs.declared.frames.Here.{Here as Activation};
+ghost use Rattle.ref_machine_frames.specs.Work.{of_all, of_expr, of_storing, work};
 
 use c_tree::{BinOp, CType, IntType, TExpr, Value};
 use c_values::Memory;
@@ -96,7 +97,8 @@ fn stored<'p>(
     value: Value,
     gives: Value,
 ) -> Result<Now<'p>, OutOfMemory>
-    ensures { IfOk result (λ now. (p : Program) (h : Activation) → Gives p h (seen memory.old) todo.old.items (λ w st. remembered (store_place st.memory place value) gives st) now (seen memory.new) todo.new.items) }
+    ensures same { IfOk result (λ now. (p : Program) (h : Activation) → Gives p h (seen memory.old) todo.old.items (λ w st. remembered (store_place st.memory place value) gives st) now (seen memory.new) todo.new.items) }
+    ensures less { IfOk result (λ now. work now todo.new.items ≤ of_all todo.old.items) }
 {
     match store_place(memory, place, value) {
         Ok(()) => Ok(Now::Have(gives)),
@@ -120,7 +122,8 @@ fn renewed<'p>(
     before: Value,
     new: Value,
 ) -> Result<Now<'p>, OutOfMemory>
-    ensures { IfOk result (λ now. (p : Program) (h : Activation) → Gives p h (seen memory.old) todo.old.items (λ w st. remembered (store_place st.memory place new) (either old before new) st) now (seen memory.new) todo.new.items) }
+    ensures same { IfOk result (λ now. (p : Program) (h : Activation) → Gives p h (seen memory.old) todo.old.items (λ w st. remembered (store_place st.memory place new) (either old before new) st) now (seen memory.new) todo.new.items) }
+    ensures less { IfOk result (λ now. work now todo.new.items ≤ of_all todo.old.items) }
 {
     let now = stored(memory, todo, place, new, typed_value(old, before, new))?;
     Ok(now)
@@ -136,7 +139,8 @@ fn loading<'p>(
     right: &'p TExpr,
     place: Value,
 ) -> Result<Now<'p>, OutOfMemory>
-    ensures { IfOk result (λ now. (p : Program) (h : Activation) → Gives p h (seen memory.now) todo.old.items (λ w st. then_do (answered (load_place st.memory place) st) (λ before st. then_do (eval p w (place_of h) true (expr_of right.now) st) (renewing op old (ctype_of ctype.now) (ctype_of right.now.ctype) place before))) now (seen memory.now) todo.new.items) }
+    ensures same { IfOk result (λ now. (p : Program) (h : Activation) → Gives p h (seen memory.now) todo.old.items (λ w st. then_do (answered (load_place st.memory place) st) (λ before st. then_do (eval p w (place_of h) true (expr_of right.now) st) (renewing op old (ctype_of ctype.now) (ctype_of right.now.ctype) place before))) now (seen memory.now) todo.new.items) }
+    ensures less { IfOk result (λ now. work now todo.new.items ≤ 1 + (of_expr (expr_of right.now) + of_all todo.old.items)) }
 {
     match load_place(memory, place) {
         Ok(before) => {
@@ -167,7 +171,8 @@ fn renewing<'p>(
     before: Value,
     v: Value,
 ) -> Result<Now<'p>, OutOfMemory>
-    ensures { IfOk result (λ now. (p : Program) (h : Activation) → Gives p h (seen memory.old) todo.old.items (λ w st. renewing op old (ctype_of ctype.now) (ctype_of right.now) place before v st) now (seen memory.new) todo.new.items) }
+    ensures same { IfOk result (λ now. (p : Program) (h : Activation) → Gives p h (seen memory.old) todo.old.items (λ w st. renewing op old (ctype_of ctype.now) (ctype_of right.now) place before v st) now (seen memory.new) todo.new.items) }
+    ensures less { IfOk result (λ now. work now todo.new.items ≤ of_all todo.old.items) }
 {
     match updated(memory, op, ctype, right, before, v) {
         Ok(new) => {
@@ -185,7 +190,8 @@ pub fn storing<'p>(
     part: Storing<'p>,
     v: Value,
 ) -> Result<Now<'p>, OutOfMemory>
-    ensures { IfOk result (λ now. (p : Program) (h : Activation) → Gives p h (seen memory.old) todo.old.items (λ w st. storing p w (place_of h) part.entry v st) now (seen memory.new) todo.new.items) }
+    ensures same { IfOk result (λ now. (p : Program) (h : Activation) → Gives p h (seen memory.old) todo.old.items (λ w st. storing p w (place_of h) part.entry v st) now (seen memory.new) todo.new.items) }
+    ensures less { IfOk result (λ now. work now todo.new.items < of_storing part.entry + of_all todo.old.items) }
 {
     match part {
         Storing::Place(right) => {

@@ -1,4 +1,4 @@
-ghost use Rattle.std.specs.Prelude.{◌≡◌, ◌++◌, ◌∷◌, [], IfOk};
+ghost use Rattle.std.specs.Prelude.{◌≤◌, ◌<◌, ◌+◌, ◌≡◌, ◌++◌, ◌∷◌, [], IfOk};
 ghost use Rattle.c_tree.specs.Tree.{Program as Term};
 ghost use Rattle.c_tree.specs.View.{exprs_of, program_of};
 ghost use Rattle.c_values.specs.Memory.{Objects};
@@ -8,6 +8,7 @@ ghost use Rattle.ref_machine_frames.specs.Cells.{AreCells};
 ghost use Rattle.ref_machine_frames.specs.Frames.{place_of, with_value};
 ghost use Rattle.ref_machine_frames.specs.Parts.{Gives};
 ghost use Rattle.ref_machine_frames.specs.declared.frames.Here.{Here as Activation};
+ghost use Rattle.ref_machine_frames.specs.Work.{of_all, of_exprs, of_value_frame, work};
 
 use crate::calls::arguments;
 use crate::choices::choosing;
@@ -25,7 +26,8 @@ pub fn members<'p>(
     wanted: bool,
     left: &'p [TExpr],
 ) -> Result<Now<'p>, OutOfMemory>
-    ensures { IfOk result (λ now. (p : Term) (h : Activation) (m : Objects) → Gives p h m todo.old.items (λ w st. eval_each p w (place_of h) wanted (exprs_of left.now) st) now m todo.new.items) }
+    ensures same { IfOk result (λ now. (p : Term) (h : Activation) (m : Objects) → Gives p h m todo.old.items (λ w st. eval_each p w (place_of h) wanted (exprs_of left.now) st) now m todo.new.items) }
+    ensures less { IfOk result (λ now. work now todo.new.items ≤ of_exprs (exprs_of left.now) + of_all todo.old.items) }
 {
     let Some((first, rest)) = left.split_first() else {
         return Ok(Now::Mistyped);
@@ -57,7 +59,8 @@ pub fn with_value<'p>(
     v: Value,
 ) -> Result<Now<'p>, OutOfMemory>
     requires { AreCells (program_of program.now).structs counts.now }
-    ensures { IfOk result (λ now. (h : Activation) → Gives (program_of program.now) h (seen memory.old) todo.old.items (λ w st. with_value (program_of program.now) w (place_of h) frame.entry v st) now (seen memory.new) todo.new.items) }
+    ensures same { IfOk result (λ now. (h : Activation) → Gives (program_of program.now) h (seen memory.old) todo.old.items (λ w st. with_value (program_of program.now) w (place_of h) frame.entry v st) now (seen memory.new) todo.new.items) }
+    ensures less { IfOk result (λ now. work now todo.new.items < of_value_frame frame.entry + of_all todo.old.items) }
 {
     match frame {
         ValueFrame::One(step) => Ok(given(one_step(counts, memory, step, v))),

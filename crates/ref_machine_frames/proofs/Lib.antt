@@ -1,3 +1,4 @@
 pub mod Answering
 pub mod CellLemmas
 pub mod Joining
+pub mod Working

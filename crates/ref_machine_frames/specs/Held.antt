@@ -1,4 +1,6 @@
--- For private contracts and proofs alone: what the parts of a program do in a machine. It is what they mean (c_meaning), but that the run stops with U13 where a type has more than 65,536 cells, a pointer or an int has a number that a machine can't hold, and a call has more arguments than a function or a system call takes. No run of a well-typed program comes to that.
+-- For private contracts and proofs alone: what the parts of a program do in a machine. It is what they mean (c_meaning), but that the run
+-- stops with U13 where a type has more than 65,536 cells, where a pointer or an int has a number that a machine can't hold, and where a call
+-- has more arguments than a function or a system call takes. No run of a well-typed program comes to that.
 use Rattle.std.specs.Prelude.{ℕ, zero, suc, ◌-◌, nat_lt, nat_le, nat_eq, if◌then◌else◌, Bool, true, false, List, [], ◌∷◌, length, Option, Some, None, slice_get}
 use Rattle.dm_base.specs.declared.event.Event.TheVariants.{Pre, Post}
 use Rattle.dm_base.specs.declared.outcome.Outcome.TheVariants.{Undefined, Turns}

@@ -1,4 +1,5 @@
 pub mod Beginnings
 pub mod Endings
 pub mod FirstGroups
+pub mod Lessening
 pub mod Stepping

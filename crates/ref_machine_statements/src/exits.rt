@@ -1,4 +1,4 @@
-ghost use Rattle.std.specs.Prelude.{◌≡◌, IfOk, List};
+ghost use Rattle.std.specs.Prelude.{◌≤◌, ◌<◌, ◌+◌, ◌≡◌, IfOk, List};
 ghost use Rattle.c_tree.specs.Tree.{Program};
 ghost use Rattle.c_tree.specs.View.{groups_of, stmt_of, stmts_of};
 ghost use Rattle.c_values.specs.Memory.{Objects};
@@ -9,6 +9,7 @@ ghost use Rattle.ref_machine_frames.specs.Frames.{exit_in, place_of, rounds_of, 
 ghost use Rattle.ref_machine_frames.specs.Parts.{Leaves};
 ghost use Rattle.ref_machine_frames.specs.declared.frames.Frame.{Frame as Todo};
 ghost use Rattle.ref_machine_frames.specs.declared.frames.Here.{Here as Activation};
+ghost use Rattle.ref_machine_frames.specs.Work.{of_all, of_exit_frame, of_groups, of_now, of_stmts, work};
 
 use crate::rounds::round;
 use crate::sequences::{groups, statements};
@@ -24,7 +25,8 @@ fn later_statements<'p>(
     rest: &'p [TStmt],
     by: Left,
 ) -> Result<Now<'p>, OutOfMemory>
-    ensures { IfOk result (λ now. (p : Program) (h : Activation) (m : Objects) → Leaves p h m todo.old.items (λ w st. on_exit (exit_in by) st (exec_all p w (place_of h) (stmts_of rest.now))) now m todo.new.items) }
+    ensures same { IfOk result (λ now. (p : Program) (h : Activation) (m : Objects) → Leaves p h m todo.old.items (λ w st. on_exit (exit_in by) st (exec_all p w (place_of h) (stmts_of rest.now))) now m todo.new.items) }
+    ensures less { IfOk result (λ now. work now todo.new.items ≤ of_stmts (stmts_of rest.now) + of_all todo.old.items) }
 {
     match by {
         Left::On => statements(todo, rest),
@@ -40,7 +42,8 @@ fn later_groups<'p>(
     rest: &'p [TGroup],
     by: Left,
 ) -> Result<Now<'p>, OutOfMemory>
-    ensures { IfOk result (λ now. (p : Program) (h : Activation) (m : Objects) → Leaves p h m todo.old.items (λ w st. on_exit (exit_in by) st (exec_from p w (place_of h) 0 (groups_of rest.now))) now m todo.new.items) }
+    ensures same { IfOk result (λ now. (p : Program) (h : Activation) (m : Objects) → Leaves p h m todo.old.items (λ w st. on_exit (exit_in by) st (exec_from p w (place_of h) 0 (groups_of rest.now))) now m todo.new.items) }
+    ensures less { IfOk result (λ now. work now todo.new.items ≤ of_groups (groups_of rest.now) + of_all todo.old.items) }
 {
     match by {
         Left::On => groups(todo, rest),
@@ -52,7 +55,8 @@ fn later_groups<'p>(
 
 // A loop after the head of its `for`, where that goes on.
 fn begin_loop<'p>(of: &'p TStmt, by: Left) -> Now<'p>
-    ensures { (p : Program) (h : Activation) (m : Objects) (todo : List Todo) → Leaves p h m todo (λ w st. on_exit (exit_in by) st (w.again (place_of h) (rounds_of (stmt_of of.now)))) result m todo }
+    ensures same { (p : Program) (h : Activation) (m : Objects) (todo : List Todo) → Leaves p h m todo (λ w st. on_exit (exit_in by) st (w.again (place_of h) (rounds_of (stmt_of of.now)))) result m todo }
+    ensures less { of_now result ≤ 1 }
 {
     match by {
         Left::On => Now::Test(of),
@@ -83,7 +87,8 @@ pub fn with_exit<'p>(
     frame: ExitFrame<'p>,
     by: Left,
 ) -> Result<Now<'p>, OutOfMemory>
-    ensures { IfOk result (λ now. (p : Program) → Leaves p here.entry (seen memory.old) todo.old.items (λ w st. with_exit p w (place_of here.entry) frame.entry (exit_in by) st) now (seen memory.new) todo.new.items) }
+    ensures same { IfOk result (λ now. (p : Program) → Leaves p here.entry (seen memory.old) todo.old.items (λ w st. with_exit p w (place_of here.entry) frame.entry (exit_in by) st) now (seen memory.new) todo.new.items) }
+    ensures less { IfOk result (λ now. work now todo.new.items < of_exit_frame frame.entry + of_all todo.old.items) }
 {
     match frame {
         ExitFrame::Statements(rest) => later_statements(todo, rest, by),

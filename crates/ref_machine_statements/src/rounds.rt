@@ -1,4 +1,4 @@
-ghost use Rattle.std.specs.Prelude.{IfOk};
+ghost use Rattle.std.specs.Prelude.{◌≤◌, ◌<◌, ◌+◌, IfOk};
 ghost use Rattle.c_tree.specs.Tree.{Program};
 ghost use Rattle.c_tree.specs.View.{stmt_of};
 ghost use Rattle.c_values.specs.Memory.{Objects};
@@ -7,6 +7,7 @@ ghost use Rattle.ref_machine_frames.specs.Held.{condition, exec, perhaps};
 ghost use Rattle.ref_machine_frames.specs.Frames.{exit_in, going_round, place_of, round, rounds_of};
 ghost use Rattle.ref_machine_frames.specs.Parts.{Leaves};
 ghost use Rattle.ref_machine_frames.specs.declared.frames.Here.{Here as Activation};
+ghost use Rattle.ref_machine_frames.specs.Work.{of_all, of_round, of_step, work};
 
 use c_tree::TStmt;
 use dm_base::OutOfMemory;
@@ -21,7 +22,8 @@ pub fn going_round<'p>(
     of: &'p TStmt,
     holds: bool,
 ) -> Result<Now<'p>, OutOfMemory>
-    ensures { IfOk result (λ now. (p : Program) (h : Activation) (m : Objects) → Leaves p h m todo.old.items (λ w st. going_round p w (place_of h) (rounds_of (stmt_of of.now)) holds st) now m todo.new.items) }
+    ensures same { IfOk result (λ now. (p : Program) (h : Activation) (m : Objects) → Leaves p h m todo.old.items (λ w st. going_round p w (place_of h) (rounds_of (stmt_of of.now)) holds st) now m todo.new.items) }
+    ensures less { IfOk result (λ now. work now todo.new.items ≤ of_round (rounds_of (stmt_of of.now)) + of_all todo.old.items) }
 {
     if !holds {
         return Ok(Now::Left(Left::On));
@@ -80,7 +82,8 @@ pub fn test_loop<'p>(todo: &mut Vec<Frame<'p>>, of: &'p TStmt) -> Result<Now<'p>
 
 // What is done after a round; then the loop is tested again.
 fn step<'p>(todo: &mut Vec<Frame<'p>>, of: &'p TStmt) -> Result<Now<'p>, OutOfMemory>
-    ensures { IfOk result (λ now. (p : Program) (h : Activation) (m : Objects) → Leaves p h m todo.old.items (λ w st. then_do (perhaps p w (place_of h) (rounds_of (stmt_of of.now)).step st) (λ y st. w.again (place_of h) (rounds_of (stmt_of of.now)) st)) now m todo.new.items) }
+    ensures same { IfOk result (λ now. (p : Program) (h : Activation) (m : Objects) → Leaves p h m todo.old.items (λ w st. then_do (perhaps p w (place_of h) (rounds_of (stmt_of of.now)).step st) (λ y st. w.again (place_of h) (rounds_of (stmt_of of.now)) st)) now m todo.new.items) }
+    ensures less { IfOk result (λ now. work now todo.new.items < of_step (rounds_of (stmt_of of.now)) + of_all todo.old.items) }
 {
     match of {
         TStmt::For { step, .. } => match step {
@@ -98,7 +101,8 @@ fn step<'p>(todo: &mut Vec<Frame<'p>>, of: &'p TStmt) -> Result<Now<'p>, OutOfMe
 
 /// What comes of a round.
 pub fn round<'p>(todo: &mut Vec<Frame<'p>>, of: &'p TStmt, by: Left) -> Result<Now<'p>, OutOfMemory>
-    ensures { IfOk result (λ now. (p : Program) (h : Activation) (m : Objects) → Leaves p h m todo.old.items (λ w st. round p w (place_of h) (rounds_of (stmt_of of.now)) (exit_in by) st) now m todo.new.items) }
+    ensures same { IfOk result (λ now. (p : Program) (h : Activation) (m : Objects) → Leaves p h m todo.old.items (λ w st. round p w (place_of h) (rounds_of (stmt_of of.now)) (exit_in by) st) now m todo.new.items) }
+    ensures less { IfOk result (λ now. work now todo.new.items < of_step (rounds_of (stmt_of of.now)) + of_all todo.old.items) }
 {
     match by {
         Left::On => step(todo, of),

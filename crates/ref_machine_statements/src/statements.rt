@@ -1,4 +1,4 @@
-ghost use Rattle.std.specs.Prelude.{IfOk, slice_get};
+ghost use Rattle.std.specs.Prelude.{◌≤◌, ◌<◌, ◌+◌, IfOk, slice_get};
 ghost use Rattle.c_tree.specs.Tree.{Program};
 ghost use Rattle.c_tree.specs.View.{inits_of, program_of, stmt_of, stmts_of};
 ghost use Rattle.c_values.specs.Memory.{Objects};
@@ -10,6 +10,7 @@ ghost use Rattle.ref_machine_frames.specs.Frames.{after_part, place_of};
 ghost use Rattle.ref_machine_frames.specs.Parts.{Leaves};
 ghost use Rattle.ref_machine_frames.specs.declared.frames.Here.{Here as Activation};
 ghost use Rattle.ref_machine_frames.specs.declared.frames.Parted.TheVariants.{Head, Whole};
+ghost use Rattle.ref_machine_frames.specs.Work.{of_all, of_inits, of_stmt, of_stmts, work};
 
 use crate::sequences::{initialisers, statements};
 use crate::variables::name_here;
@@ -32,7 +33,8 @@ fn declare<'p>(
     init: &'p [TInit],
 ) -> Result<Now<'p>, OutOfMemory>
     requires { AreCells (program_of program.now).structs counts.now }
-    ensures { IfOk result (λ now. Leaves (program_of program.now) here.entry (seen memory.old) todo.old.items (λ w st. then_do (fresh (program_of program.now).structs (place_of here.entry) variable (slice_get (place_of here.entry).types variable) st) (λ y st. initialise (program_of program.now) w (place_of here.entry) variable (inits_of init.now) st)) now (seen memory.new) todo.new.items) }
+    ensures same { IfOk result (λ now. Leaves (program_of program.now) here.entry (seen memory.old) todo.old.items (λ w st. then_do (fresh (program_of program.now).structs (place_of here.entry) variable (slice_get (place_of here.entry).types variable) st) (λ y st. initialise (program_of program.now) w (place_of here.entry) variable (inits_of init.now) st)) now (seen memory.new) todo.new.items) }
+    ensures less { IfOk result (λ now. work now todo.new.items ≤ of_inits (inits_of init.now) + of_all todo.old.items) }
 {
     let Some(t) = here.types.get(variable as usize) else {
         return Ok(Now::Mistyped);
@@ -52,7 +54,8 @@ fn whole<'p>(
     of: &'p TStmt,
     left: &'p [TStmt],
 ) -> Result<Now<'p>, OutOfMemory>
-    ensures { IfOk result (λ now. (p : Program) (h : Activation) (m : Objects) → Leaves p h m todo.old.items (λ w st. then_do (exec_all p w (place_of h) (stmts_of left.now) st) (after_part p w (place_of h) Whole (stmt_of of.now))) now m todo.new.items) }
+    ensures same { IfOk result (λ now. (p : Program) (h : Activation) (m : Objects) → Leaves p h m todo.old.items (λ w st. then_do (exec_all p w (place_of h) (stmts_of left.now) st) (after_part p w (place_of h) Whole (stmt_of of.now))) now m todo.new.items) }
+    ensures less { IfOk result (λ now. work now todo.new.items ≤ 1 + (of_stmts (stmts_of left.now) + of_all todo.old.items)) }
 {
     todo.push(Frame::Exit(ExitFrame::Part(Parted::Whole, of)))?;
     statements(todo, left)
@@ -64,7 +67,8 @@ fn head<'p>(
     of: &'p TStmt,
     left: &'p [TStmt],
 ) -> Result<Now<'p>, OutOfMemory>
-    ensures { IfOk result (λ now. (p : Program) (h : Activation) (m : Objects) → Leaves p h m todo.old.items (λ w st. then_do (exec_all p w (place_of h) (stmts_of left.now) st) (after_part p w (place_of h) Head (stmt_of of.now))) now m todo.new.items) }
+    ensures same { IfOk result (λ now. (p : Program) (h : Activation) (m : Objects) → Leaves p h m todo.old.items (λ w st. then_do (exec_all p w (place_of h) (stmts_of left.now) st) (after_part p w (place_of h) Head (stmt_of of.now))) now m todo.new.items) }
+    ensures less { IfOk result (λ now. work now todo.new.items ≤ 2 + (of_stmts (stmts_of left.now) + of_all todo.old.items)) }
 {
     todo.push(Frame::Exit(ExitFrame::Part(Parted::Head, of)))?;
     statements(todo, left)
@@ -76,7 +80,8 @@ fn begin_for<'p>(
     of: &'p TStmt,
     left: &'p [TStmt],
 ) -> Result<Now<'p>, OutOfMemory>
-    ensures { IfOk result (λ now. (p : Program) (h : Activation) (m : Objects) → Leaves p h m todo.old.items (λ w st. then_do (then_do (exec_all p w (place_of h) (stmts_of left.now) st) (after_part p w (place_of h) Head (stmt_of of.now))) (after_part p w (place_of h) Whole (stmt_of of.now))) now m todo.new.items) }
+    ensures same { IfOk result (λ now. (p : Program) (h : Activation) (m : Objects) → Leaves p h m todo.old.items (λ w st. then_do (then_do (exec_all p w (place_of h) (stmts_of left.now) st) (after_part p w (place_of h) Head (stmt_of of.now))) (after_part p w (place_of h) Whole (stmt_of of.now))) now m todo.new.items) }
+    ensures less { IfOk result (λ now. work now todo.new.items ≤ 3 + (of_stmts (stmts_of left.now) + of_all todo.old.items)) }
 {
     todo.push(Frame::Exit(ExitFrame::Part(Parted::Whole, of)))?;
     head(todo, of, left)
@@ -93,7 +98,8 @@ pub fn begin_statement<'p>(
     s: &'p TStmt,
 ) -> Result<Now<'p>, OutOfMemory>
     requires { AreCells (program_of program.now).structs counts.now }
-    ensures { IfOk result (λ now. Leaves (program_of program.now) here.entry (seen memory.old) todo.old.items (λ w st. exec (program_of program.now) w (place_of here.entry) (stmt_of s.now) st) now (seen memory.new) todo.new.items) }
+    ensures same { IfOk result (λ now. Leaves (program_of program.now) here.entry (seen memory.old) todo.old.items (λ w st. exec (program_of program.now) w (place_of here.entry) (stmt_of s.now) st) now (seen memory.new) todo.new.items) }
+    ensures less { IfOk result (λ now. work now todo.new.items < of_stmt (stmt_of s.now) + of_all todo.old.items) }
 {
     match s {
         TStmt::Block(ss) => whole(todo, s, ss),

@@ -1,4 +1,4 @@
-ghost use Rattle.std.specs.Prelude.{◌≡◌, [], drop, IfOk};
+ghost use Rattle.std.specs.Prelude.{◌≤◌, ◌+◌, ◌≡◌, [], drop, IfOk};
 ghost use Rattle.std.specs.List.{list_any};
 ghost use Rattle.c_tree.specs.Tree.{Program};
 ghost use Rattle.c_tree.specs.View.{groups_of, stmt_of};
@@ -9,6 +9,7 @@ ghost use Rattle.ref_machine_frames.specs.Held.{exec_from};
 ghost use Rattle.ref_machine_frames.specs.Frames.{place_of, switched};
 ghost use Rattle.ref_machine_frames.specs.Parts.{Leaves};
 ghost use Rattle.ref_machine_frames.specs.declared.frames.Here.{Here as Activation};
+ghost use Rattle.ref_machine_frames.specs.Work.{of_all, of_cases, of_groups, work};
 
 use crate::sequences::groups;
 use c_tree::{TGroup, TLabel, TStmt, Value};
@@ -130,7 +131,8 @@ fn groups_selected<'p>(
     v: Value,
     all: &'p [TGroup],
 ) -> Result<Now<'p>, OutOfMemory>
-    ensures { IfOk result (λ now. (p : Program) (h : Activation) (m : Objects) → Leaves p h m todo.old.items (λ w st. then_do (exec_from p w (place_of h) (selected v (groups_of all.now)) (groups_of all.now) st) (λ x st. Go (out_of_switch x) st [])) now m todo.new.items) }
+    ensures same { IfOk result (λ now. (p : Program) (h : Activation) (m : Objects) → Leaves p h m todo.old.items (λ w st. then_do (exec_from p w (place_of h) (selected v (groups_of all.now)) (groups_of all.now) st) (λ x st. Go (out_of_switch x) st [])) now m todo.new.items) }
+    ensures less { IfOk result (λ now. work now todo.new.items ≤ 1 + (of_groups (groups_of all.now) + of_all todo.old.items)) }
 {
     let from = groups_from(all, selected(v, all));
     todo.push(Frame::Exit(ExitFrame::Switch))?;
@@ -143,7 +145,8 @@ pub fn switched<'p>(
     v: Value,
     of: &'p TStmt,
 ) -> Result<Now<'p>, OutOfMemory>
-    ensures { IfOk result (λ now. (p : Program) (h : Activation) (m : Objects) → Leaves p h m todo.old.items (λ w st. switched p w (place_of h) (stmt_of of.now) v st) now m todo.new.items) }
+    ensures same { IfOk result (λ now. (p : Program) (h : Activation) (m : Objects) → Leaves p h m todo.old.items (λ w st. switched p w (place_of h) (stmt_of of.now) v st) now m todo.new.items) }
+    ensures less { IfOk result (λ now. work now todo.new.items ≤ 1 + (of_cases (stmt_of of.now) + of_all todo.old.items)) }
 {
     match of {
         TStmt::Switch { groups, .. } => groups_selected(todo, v, groups),

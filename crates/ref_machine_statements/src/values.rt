@@ -1,4 +1,4 @@
-ghost use Rattle.std.specs.Prelude.{IfOk, List, false};
+ghost use Rattle.std.specs.Prelude.{◌≤◌, ◌<◌, ◌+◌, IfOk, List, false};
 ghost use Rattle.c_tree.specs.Tree.{Program};
 ghost use Rattle.c_tree.specs.View.{inits_of, stmt_of};
 ghost use Rattle.c_values.specs.Memory.{Objects};
@@ -11,6 +11,7 @@ ghost use Rattle.ref_machine_frames.specs.Frames.{asked, going_round, in_stateme
 ghost use Rattle.ref_machine_frames.specs.Parts.{Leaves};
 ghost use Rattle.ref_machine_frames.specs.declared.frames.Frame.{Frame as Todo};
 ghost use Rattle.ref_machine_frames.specs.declared.frames.Here.{Here as Activation};
+ghost use Rattle.ref_machine_frames.specs.Work.{of_all, of_branches, of_inits, of_now, of_round, of_statement_frame, work};
 
 use crate::rounds::going_round;
 use crate::sequences::initialisers;
@@ -32,7 +33,8 @@ fn initialised<'p>(
     rest: &'p [TInit],
     v: Value,
 ) -> Result<Now<'p>, OutOfMemory>
-    ensures { IfOk result (λ now. (p : Program) → Leaves p here.entry (seen memory.old) todo.old.items (λ w st. then_do (remembered (store_place st.memory (place (name_in (place_of here.entry) false variable) cell 1) v) v st) (λ v st. initialise p w (place_of here.entry) variable (inits_of rest.now) st)) now (seen memory.new) todo.new.items) }
+    ensures same { IfOk result (λ now. (p : Program) → Leaves p here.entry (seen memory.old) todo.old.items (λ w st. then_do (remembered (store_place st.memory (place (name_in (place_of here.entry) false variable) cell 1) v) v st) (λ v st. initialise p w (place_of here.entry) variable (inits_of rest.now) st)) now (seen memory.new) todo.new.items) }
+    ensures less { IfOk result (λ now. work now todo.new.items ≤ of_inits (inits_of rest.now) + of_all todo.old.items) }
 {
     match store_place(memory, place(name_here(here, variable), cell, 1), v) {
         Ok(()) => initialisers(todo, variable, rest),
@@ -42,7 +44,8 @@ fn initialised<'p>(
 
 // One of the two statements of an `if`.
 fn one_of<'p>(of: &'p TStmt, holds: bool) -> Now<'p>
-    ensures { (p : Program) (h : Activation) (m : Objects) (todo : List Todo) → Leaves p h m todo (λ w st. one_of p w (place_of h) (stmt_of of.now) holds st) result m todo }
+    ensures same { (p : Program) (h : Activation) (m : Objects) (todo : List Todo) → Leaves p h m todo (λ w st. one_of p w (place_of h) (stmt_of of.now) holds st) result m todo }
+    ensures less { of_now result ≤ of_branches (stmt_of of.now) }
 {
     let TStmt::If { yes, no, .. } = of else {
         return Now::Mistyped;
@@ -58,7 +61,8 @@ fn one_of<'p>(of: &'p TStmt, holds: bool) -> Now<'p>
 
 // What comes of the condition of an `if`.
 fn tested<'p>(memory: &Memory, of: &'p TStmt, v: Value) -> Now<'p>
-    ensures { (p : Program) (h : Activation) (todo : List Todo) → Leaves p h (seen memory.now) todo (λ w st. then_do (asked v st) (one_of p w (place_of h) (stmt_of of.now))) result (seen memory.now) todo }
+    ensures same { (p : Program) (h : Activation) (todo : List Todo) → Leaves p h (seen memory.now) todo (λ w st. then_do (asked v st) (one_of p w (place_of h) (stmt_of of.now))) result (seen memory.now) todo }
+    ensures less { of_now result ≤ of_branches (stmt_of of.now) }
 {
     match test(memory, v) {
         Ok(holds) => one_of(of, holds),
@@ -73,7 +77,8 @@ fn tested_loop<'p>(
     of: &'p TStmt,
     v: Value,
 ) -> Result<Now<'p>, OutOfMemory>
-    ensures { IfOk result (λ now. (p : Program) (h : Activation) → Leaves p h (seen memory.now) todo.old.items (λ w st. then_do (asked v st) (going_round p w (place_of h) (rounds_of (stmt_of of.now)))) now (seen memory.now) todo.new.items) }
+    ensures same { IfOk result (λ now. (p : Program) (h : Activation) → Leaves p h (seen memory.now) todo.old.items (λ w st. then_do (asked v st) (going_round p w (place_of h) (rounds_of (stmt_of of.now)))) now (seen memory.now) todo.new.items) }
+    ensures less { IfOk result (λ now. work now todo.new.items ≤ of_round (rounds_of (stmt_of of.now)) + of_all todo.old.items) }
 {
     match test(memory, v) {
         Ok(holds) => going_round(todo, of, holds),
@@ -89,7 +94,8 @@ pub fn in_statement<'p>(
     frame: StatementFrame<'p>,
     v: Value,
 ) -> Result<Now<'p>, OutOfMemory>
-    ensures { IfOk result (λ now. (p : Program) → Leaves p here.entry (seen memory.old) todo.old.items (λ w st. in_statement p w (place_of here.entry) frame.entry v st) now (seen memory.new) todo.new.items) }
+    ensures same { IfOk result (λ now. (p : Program) → Leaves p here.entry (seen memory.old) todo.old.items (λ w st. in_statement p w (place_of here.entry) frame.entry v st) now (seen memory.new) todo.new.items) }
+    ensures less { IfOk result (λ now. work now todo.new.items < of_statement_frame frame.entry + of_all todo.old.items) }
 {
     match frame {
         StatementFrame::Forget => Ok(Now::Left(Left::On)),

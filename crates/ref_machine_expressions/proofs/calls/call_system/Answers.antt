@@ -6,15 +6,15 @@ use Rattle.ref_machine_frames.specs.Frames.{after_value}
 use Rattle.ref_machine_expressions.proofs.Following.{alone, not_alone}
 use Rattle.ref_machine_expressions.proofs.calls.call_system.Goals as goal
 
-pub returns : goal.returns
-returns c p w fr todo st =
+pub returns-clause-same : goal.returns-clause-same
+returns-clause-same c p w fr todo st =
     let at = with_memory st (seen c.args.memory.now) in
     let below : c.args.x < 24 = omega arith in
     let name : c.in-Some.name ≡ c.args.x = c.in-Some.ensures.name in
-    c.in_ok-now.ensures p w fr todo st
+    c.in_ok-now.ensures.same p w fr todo st
     ∙ (ap (λ x. then_do (system_call x c.args.values.now at) (after_value p w fr todo)) name
     ∙ ap (λ r. then_do r (after_value p w fr todo)) (sym (alone c.args.x c.args.values.now at below)))
 
-pub returns-then-x-ge24 : goal.returns-then-x-ge24
-returns-then-x-ge24 c p w fr todo st =
+pub returns-then-x-ge24-clause-same : goal.returns-then-x-ge24-clause-same
+returns-then-x-ge24-clause-same c p w fr todo st =
     ap (λ r. then_do r (after_value p w fr todo)) (sym (not_alone c.args.x c.args.values.now (with_memory st (seen c.args.memory.now)) c.if-x-ge24.true))

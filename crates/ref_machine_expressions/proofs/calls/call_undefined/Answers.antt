@@ -6,17 +6,17 @@ use Rattle.ref_machine_frames.specs.Frames.{after_value}
 use Rattle.ref_machine_expressions.proofs.Following.{is_system_call, no_site, with_site}
 use Rattle.ref_machine_expressions.proofs.calls.call_undefined.Goals as goal
 
-pub returns-then-x-lt24 : goal.returns-then-x-lt24
-returns-then-x-lt24 c p w fr todo st =
+pub returns-then-x-lt24-clause-same : goal.returns-then-x-lt24-clause-same
+returns-then-x-lt24-clause-same c p w fr todo st =
     let at = with_memory st (seen c.args.memory.now) in
-    c.in_ok-now.ensures p w fr todo st ∙ ap (λ r. then_do r (after_value p w fr todo)) (sym (is_system_call c.args.x c.args.values.now at c.if-x-lt24.true))
+    c.in_ok-now.ensures.same p w fr todo st ∙ ap (λ r. then_do r (after_value p w fr todo)) (sym (is_system_call c.args.x c.args.values.now at c.if-x-lt24.true))
 
-pub returns-in-Some : goal.returns-in-Some
-returns-in-Some c p w fr todo st =
+pub returns-in-Some-clause-same : goal.returns-in-Some-clause-same
+returns-in-Some-clause-same c p w fr todo st =
     let at = with_memory st (seen c.args.memory.now) in
-    c.null_call.ensures p (seen c.args.memory.now) w fr todo st ∙ ap (λ vs. then_do (call_undefined c.args.x vs at) (after_value p w fr todo)) (with_site c.in-Some.site c.args.values.now c.in-Some.ensures)
+    c.null_call.ensures.same p (seen c.args.memory.now) w fr todo st ∙ ap (λ vs. then_do (call_undefined c.args.x vs at) (after_value p w fr todo)) (with_site c.in-Some.site c.args.values.now c.in-Some.ensures)
 
-pub returns-in-None : goal.returns-in-None
-returns-in-None c p w fr todo st =
+pub returns-in-None-clause-same : goal.returns-in-None-clause-same
+returns-in-None-clause-same c p w fr todo st =
     let at = with_memory st (seen c.args.memory.now) in
     ap (λ r. then_do r (after_value p w fr todo)) (sym (no_site c.args.x c.args.values.now at c.if-x-lt24.false c.in-None.ensures))

@@ -6,12 +6,12 @@ use Rattle.ref_machine_frames.specs.Frames.{after_value}
 use Rattle.ref_machine_expressions.proofs.Following.{function_named, other_named}
 use Rattle.ref_machine_expressions.proofs.calls.called.Goals as goal
 
-pub returns-then-f-count : goal.returns-then-f-count
-returns-then-f-count c w fr todo st =
+pub returns-then-f-count-clause-same : goal.returns-then-f-count-clause-same
+returns-then-f-count-clause-same c w fr todo st =
     let p = program_of c.args.program.now in
     function_named p w c.args.wanted c.args.f c.args.values.items (with_memory st (seen c.args.memory.now)) (after_value p w fr todo) c.defined-count.result call_undefined c.defined-count.ensures c.if-f-count.true
 
-pub returns : goal.returns
-returns c w fr todo st =
+pub returns-clause-same : goal.returns-clause-same
+returns-clause-same c w fr todo st =
     let p = program_of c.args.program.now in
-    other_named p w c.args.wanted c.args.f c.args.values.items c.deref.result.now (with_memory st (seen c.args.memory.now)) (after_value p w fr todo) c.defined-count.result call_undefined _ c.defined-count.ensures c.if-f-count.false c.deref.ensures.value (c.in_ok-now.ensures p w fr todo st)
+    other_named p w c.args.wanted c.args.f c.args.values.items c.deref.result.now (with_memory st (seen c.args.memory.now)) (after_value p w fr todo) c.defined-count.result call_undefined _ c.defined-count.ensures c.if-f-count.false c.deref.ensures.value (c.in_ok-now.ensures.same p w fr todo st)

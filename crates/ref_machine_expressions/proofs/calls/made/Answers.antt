@@ -9,22 +9,22 @@ use Rattle.ref_machine_frames.specs.Frames.{after_value, made}
 use Rattle.ref_machine_expressions.proofs.Following.{goes_on_with, stops_with}
 use Rattle.ref_machine_expressions.proofs.calls.made.Goals as goal
 
-pub returns-in_ok-now-in-Named : goal.returns-in_ok-now-in-Named
-returns-in_ok-now-in-Named c w fr todo st =
+pub returns-in_ok-now-in-Named-clause-same : goal.returns-in_ok-now-in-Named-clause-same
+returns-in_ok-now-in-Named-clause-same c w fr todo st =
     let p = program_of c.args.program.now in
-    c.in_ok-now-in-Named.ensures w fr todo st ∙ ap (λ f. then_do (made p w c.args.wanted f c.args.values.items (with_memory st (seen c.args.memory.now))) (after_value p w fr todo)) (sym c.in-Named.is)
+    c.in_ok-now-in-Named.ensures.same w fr todo st ∙ ap (λ f. then_do (made p w c.args.wanted f c.args.values.items (with_memory st (seen c.args.memory.now))) (after_value p w fr todo)) (sym c.in-Named.is)
 
-pub returns-in_ok-now-in-Ok : goal.returns-in_ok-now-in-Ok
-returns-in_ok-now-in-Ok c w fr todo st =
+pub returns-in_ok-now-in-Ok-clause-same : goal.returns-in_ok-now-in-Ok-clause-same
+returns-in_ok-now-in-Ok-clause-same c w fr todo st =
     let p = program_of c.args.program.now in
     let at = with_memory st (seen c.args.memory.now) in
-    goes_on_with (callee c.in-Through.v) c.in-Ok.f at (λ f st. called_through p w c.args.wanted f c.args.values.items st) (after_value p w fr todo) _ c.in-Ok.ensures (c.in_ok-now-in-Ok.ensures w fr todo st)
+    goes_on_with (callee c.in-Through.v) c.in-Ok.f at (λ f st. called_through p w c.args.wanted f c.args.values.items st) (after_value p w fr todo) _ c.in-Ok.ensures (c.in_ok-now-in-Ok.ensures.same w fr todo st)
     ∙ ap (λ f. then_do (made p w c.args.wanted f c.args.values.items at) (after_value p w fr todo)) (sym c.in-Through.is)
 
-pub returns-in-Err : goal.returns-in-Err
-returns-in-Err c w fr todo st =
+pub returns-in-Err-clause-same : goal.returns-in-Err-clause-same
+returns-in-Err-clause-same c w fr todo st =
     let p = program_of c.args.program.now in
     let at = with_memory st (seen c.args.memory.now) in
     let k = after_value p w fr todo in
-    stops_with (callee c.in-Through.v) (number_of c.in-Err.fault) at (λ f st. called_through p w c.args.wanted f c.args.values.items st) k _ k c.in-Err.ensures (c.stopped.ensures p w fr todo at)
+    stops_with (callee c.in-Through.v) (number_of c.in-Err.fault) at (λ f st. called_through p w c.args.wanted f c.args.values.items st) k _ k c.in-Err.ensures (c.stopped.ensures.same p w fr todo at)
     ∙ ap (λ f. then_do (made p w c.args.wanted f c.args.values.items at) k) (sym c.in-Through.is)

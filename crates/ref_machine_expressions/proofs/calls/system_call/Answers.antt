@@ -8,19 +8,19 @@ use Rattle.ref_machine_expressions.specs.Asking.{asking}
 use Rattle.ref_machine_expressions.proofs.Following.{goes_on_with, few_values, many_values}
 use Rattle.ref_machine_expressions.proofs.calls.system_call.Goals as goal
 
-pub returns-in-Ok : goal.returns-in-Ok
-returns-in-Ok c p w fr todo st =
+pub returns-in-Ok-clause-same : goal.returns-in-Ok-clause-same
+returns-in-Ok-clause-same c p w fr todo st =
     let m = seen c.args.memory.now in
-    goes_on_with (request c.args.name m c.args.values.now) (asked_by c.in-Ok.request) (with_memory st m) (asking c.args.name) (after_value p w fr todo) _ c.in-Ok.ensures (c.asking.ensures p m w fr todo st)
+    goes_on_with (request c.args.name m c.args.values.now) (asked_by c.in-Ok.request) (with_memory st m) (asking c.args.name) (after_value p w fr todo) _ c.in-Ok.ensures (c.asking.ensures.same p m w fr todo st)
     ∙ ap (λ r. then_do r (after_value p w fr todo)) (sym (few_values c.args.name c.args.values.now (with_memory st m) (omega arith)))
 
-pub returns-in_ok-now-in-Err : goal.returns-in_ok-now-in-Err
-returns-in_ok-now-in-Err c p w fr todo st =
+pub returns-in_ok-now-in-Err-clause-same : goal.returns-in_ok-now-in-Err-clause-same
+returns-in_ok-now-in-Err-clause-same c p w fr todo st =
     let m = seen c.args.memory.now in
-    c.in_ok-now-in-Err.ensures (request c.args.name m c.args.values.now) c.in-Err.ensures p w fr todo (with_memory st m) (asking c.args.name)
+    c.in_ok-now-in-Err.ensures.same (request c.args.name m c.args.values.now) c.in-Err.ensures p w fr todo (with_memory st m) (asking c.args.name)
     ∙ ap (λ r. then_do r (after_value p w fr todo)) (sym (few_values c.args.name c.args.values.now (with_memory st m) (omega arith)))
 
-pub returns-then-values-gt3 : goal.returns-then-values-gt3
-returns-then-values-gt3 c p w fr todo st =
+pub returns-then-values-gt3-clause-same : goal.returns-then-values-gt3-clause-same
+returns-then-values-gt3-clause-same c p w fr todo st =
     let m = seen c.args.memory.now in
     ap (λ r. then_do r (after_value p w fr todo)) (sym (many_values c.args.name c.args.values.now (with_memory st m) (omega arith)))

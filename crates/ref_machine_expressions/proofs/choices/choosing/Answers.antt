@@ -6,13 +6,13 @@ use Rattle.ref_machine_frames.specs.Frames.{place_of, stack, after_value, chosen
 use Rattle.ref_machine_expressions.proofs.Following.{goes_on_with, stops_with}
 use Rattle.ref_machine_expressions.proofs.choices.choosing.Goals as goal
 
-pub returns-in_ok-now-in-Ok : goal.returns-in_ok-now-in-Ok
-returns-in_ok-now-in-Ok c p h w st =
+pub returns-in_ok-now-in-Ok-clause-same : goal.returns-in_ok-now-in-Ok-clause-same
+returns-in_ok-now-in-Ok-clause-same c p h w st =
     let m = seen c.args.memory.now in
-    goes_on_with (test m c.args.v) c.in-Ok.holds (with_memory st m) (chosen p w (place_of h) c.args.choice) (after_value p w (place_of h) (stack c.args.todo.now.items)) _ c.in-Ok.ensures (c.in_ok-now-in-Ok.ensures p h m w st)
+    goes_on_with (test m c.args.v) c.in-Ok.holds (with_memory st m) (chosen p w (place_of h) c.args.choice) (after_value p w (place_of h) (stack c.args.todo.now.items)) _ c.in-Ok.ensures (c.in_ok-now-in-Ok.ensures.same p h m w st)
 
-pub returns-in-Err : goal.returns-in-Err
-returns-in-Err c p h w st =
+pub returns-in-Err-clause-same : goal.returns-in-Err-clause-same
+returns-in-Err-clause-same c p h w st =
     let m = seen c.args.memory.now in
     let k = after_value p w (place_of h) (stack c.args.todo.now.items) in
-    stops_with (test m c.args.v) (number_of c.in-Err.fault) (with_memory st m) (chosen p w (place_of h) c.args.choice) k _ k c.in-Err.ensures (c.stopped.ensures p w (place_of h) (stack c.args.todo.now.items) (with_memory st m))
+    stops_with (test m c.args.v) (number_of c.in-Err.fault) (with_memory st m) (chosen p w (place_of h) c.args.choice) k _ k c.in-Err.ensures (c.stopped.ensures.same p w (place_of h) (stack c.args.todo.now.items) (with_memory st m))

@@ -5,6 +5,6 @@ use Rattle.c_meaning.specs.Results.{with_memory, then_do, remembered}
 use Rattle.ref_machine_frames.specs.Frames.{place_of, stack, after_value}
 use Rattle.ref_machine_expressions.proofs.storing.renewed.Goals as goal
 
-pub returns : goal.returns
-returns c p h w st =
-    c.in_ok-now.ensures p h w st ∙ ap (λ v. then_do (remembered (store_place (seen c.args.memory.now) c.args.place c.args.new) v (with_memory st (seen c.args.memory.now))) (after_value p w (place_of h) (stack c.args.todo.now.items))) c.typed_value.ensures
+pub returns-clause-same : goal.returns-clause-same
+returns-clause-same c p h w st =
+    c.in_ok-now.ensures.same p h w st ∙ ap (λ v. then_do (remembered (store_place (seen c.args.memory.now) c.args.place c.args.new) v (with_memory st (seen c.args.memory.now))) (after_value p w (place_of h) (stack c.args.todo.now.items))) c.typed_value.ensures

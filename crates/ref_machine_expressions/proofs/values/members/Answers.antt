@@ -4,14 +4,14 @@ use Rattle.ref_machine_frames.specs.Frames.{place_of, stack, after_value}
 use Rattle.ref_machine_expressions.proofs.Following.{last_member, more_members, no_member, nothing_left, something_left}
 use Rattle.ref_machine_expressions.proofs.values.members.Goals as goal
 
-pub returns-then-is_empty : goal.returns-then-is_empty
-returns-then-is_empty c p h m w st =
+pub returns-then-is_empty-clause-same : goal.returns-then-is_empty-clause-same
+returns-then-is_empty-clause-same c p h m w st =
     last_member p w (place_of h) c.args.wanted c.args.left.now c.in-Some.first.now c.in-Some.rest.now (with_memory st m) (after_value p w (place_of h) (stack c.args.todo.now.items)) c.in-Some.ensures.cases.0 (nothing_left c.in-Some.rest.now c.is_empty.result c.is_empty.ensures c.if-is_empty.true)
 
-pub returns : goal.returns
-returns c p h m w st =
-    more_members p w (place_of h) c.args.wanted c.args.left.now c.in-Some.first.now c.in-Some.rest.now (with_memory st m) (after_value p w (place_of h) (stack c.args.todo.now.items)) _ c.in-Some.ensures.cases.0 (something_left c.in-Some.rest.now c.is_empty.result c.is_empty.ensures c.if-is_empty.false) (c.in_ok-now.ensures p h m w st)
+pub returns-clause-same : goal.returns-clause-same
+returns-clause-same c p h m w st =
+    more_members p w (place_of h) c.args.wanted c.args.left.now c.in-Some.first.now c.in-Some.rest.now (with_memory st m) (after_value p w (place_of h) (stack c.args.todo.now.items)) _ c.in-Some.ensures.cases.0 (something_left c.in-Some.rest.now c.is_empty.result c.is_empty.ensures c.if-is_empty.false) (c.in_ok-now.ensures.same p h m w st)
 
-pub returns-in_default : goal.returns-in_default
-returns-in_default c p h m w st =
+pub returns-in_default-clause-same : goal.returns-in_default-clause-same
+returns-in_default-clause-same c p h m w st =
     no_member p w (place_of h) c.args.wanted c.args.left.now (with_memory st m) (after_value p w (place_of h) (stack c.args.todo.now.items)) (nil_from_length c.args.left.now c.in_default.ensures.cases)

@@ -1,75 +1,116 @@
-use Rattle.std.proofs.Common.{ap, sym, ◌∙◌, ◌++◌}
-use Rattle.c_tree.specs.View.{exprs_of, program_of}
+use Rattle.std.proofs.Common.{ap, sym, ◌∙◌, ◌++◌, ◌≡◌, ◌+◌, arith}
+use Rattle.c_tree.specs.View.{exprs_of, program_of, expr_of}
 use Rattle.c_values.specs.Seen.{seen}
 use Rattle.c_meaning.specs.Results.{with_memory, then_do, answered}
 use Rattle.ref_machine_frames.specs.Held.{eval_all}
 use Rattle.ref_machine_frames.specs.declared.frames.Callee.TheVariants as callees
 use Rattle.ref_machine_frames.specs.Frames.{place_of, stack, after_value, made, with_value}
 use Rattle.ref_machine_expressions.proofs.Following.{one_more_value}
+use Rattle.ref_machine_frames.specs.Work.{of_choice, of_expr, of_exprs, of_storing, of_value_frame}
 use Rattle.ref_machine_expressions.proofs.values.with_value.Goals as goal
 
-pub returns-in-One : goal.returns-in-One
-returns-in-One c h w st =
+pub returns-in-One-clause-same : goal.returns-in-One-clause-same
+returns-in-One-clause-same c h w st =
     let p = program_of c.args.program.now in
     let m = seen c.args.memory.now in
     let fr = place_of h in
     let k = after_value p w fr (stack c.args.todo.now.items) in
-    c.given.ensures p w fr (stack c.args.todo.now.items) (with_memory st m) ∙ (ap (λ a. then_do (answered a (with_memory st m)) k) (c.one_step.ensures p.structs c.requires) ∙ ap (λ f. then_do (with_value p w fr f c.args.v (with_memory st m)) k) (sym c.in-One.is))
+    c.given.ensures.same p w fr (stack c.args.todo.now.items) (with_memory st m) ∙ (ap (λ a. then_do (answered a (with_memory st m)) k) (c.one_step.ensures p.structs c.requires) ∙ ap (λ f. then_do (with_value p w fr f c.args.v (with_memory st m)) k) (sym c.in-One.is))
 
-pub returns-in_ok-now-in-First : goal.returns-in_ok-now-in-First
-returns-in_ok-now-in-First c h w st =
+pub returns-in_ok-now-in-First-clause-same : goal.returns-in_ok-now-in-First-clause-same
+returns-in_ok-now-in-First-clause-same c h w st =
     let p = program_of c.args.program.now in
     let m = seen c.args.memory.now in
     let fr = place_of h in
     let k = after_value p w fr (stack c.args.todo.now.items) in
-    c.in_ok-now-in-First.ensures p h m w st ∙ ap (λ f. then_do (with_value p w fr f c.args.v (with_memory st m)) k) (sym c.in-First.is)
+    c.in_ok-now-in-First.ensures.same p h m w st ∙ ap (λ f. then_do (with_value p w fr f c.args.v (with_memory st m)) k) (sym c.in-First.is)
 
-pub returns-in-Second : goal.returns-in-Second
-returns-in-Second c h w st =
+pub returns-in-Second-clause-same : goal.returns-in-Second-clause-same
+returns-in-Second-clause-same c h w st =
     let p = program_of c.args.program.now in
     let m = seen c.args.memory.now in
     let fr = place_of h in
     let k = after_value p w fr (stack c.args.todo.now.items) in
-    c.given-in-Second.ensures p w fr (stack c.args.todo.now.items) (with_memory st m) ∙ (ap (λ a. then_do (answered a (with_memory st m)) k) c.two_step.ensures ∙ ap (λ f. then_do (with_value p w fr f c.args.v (with_memory st m)) k) (sym c.in-Second.is))
+    c.given-in-Second.ensures.same p w fr (stack c.args.todo.now.items) (with_memory st m) ∙ (ap (λ a. then_do (answered a (with_memory st m)) k) c.two_step.ensures ∙ ap (λ f. then_do (with_value p w fr f c.args.v (with_memory st m)) k) (sym c.in-Second.is))
 
-pub returns-in_ok-now-in-Store : goal.returns-in_ok-now-in-Store
-returns-in_ok-now-in-Store c h w st =
+pub returns-in_ok-now-in-Store-clause-same : goal.returns-in_ok-now-in-Store-clause-same
+returns-in_ok-now-in-Store-clause-same c h w st =
     let p = program_of c.args.program.now in
     let m = seen c.args.memory.now in
     let fr = place_of h in
     let k = after_value p w fr (stack c.args.todo.now.items) in
-    c.in_ok-now-in-Store.ensures p h w st ∙ ap (λ f. then_do (with_value p w fr f c.args.v (with_memory st m)) k) (sym c.in-Store.is)
+    c.in_ok-now-in-Store.ensures.same p h w st ∙ ap (λ f. then_do (with_value p w fr f c.args.v (with_memory st m)) k) (sym c.in-Store.is)
 
-pub returns-in_ok-now-in-Test : goal.returns-in_ok-now-in-Test
-returns-in_ok-now-in-Test c h w st =
+pub returns-in_ok-now-in-Test-clause-same : goal.returns-in_ok-now-in-Test-clause-same
+returns-in_ok-now-in-Test-clause-same c h w st =
     let p = program_of c.args.program.now in
     let m = seen c.args.memory.now in
     let fr = place_of h in
     let k = after_value p w fr (stack c.args.todo.now.items) in
-    c.in_ok-now-in-Test.ensures p h w st ∙ ap (λ f. then_do (with_value p w fr f c.args.v (with_memory st m)) k) (sym c.in-Test.is)
+    c.in_ok-now-in-Test.ensures.same p h w st ∙ ap (λ f. then_do (with_value p w fr f c.args.v (with_memory st m)) k) (sym c.in-Test.is)
 
-pub returns-in_ok-now-in-Members : goal.returns-in_ok-now-in-Members
-returns-in_ok-now-in-Members c h w st =
+pub returns-in_ok-now-in-Members-clause-same : goal.returns-in_ok-now-in-Members-clause-same
+returns-in_ok-now-in-Members-clause-same c h w st =
     let p = program_of c.args.program.now in
     let m = seen c.args.memory.now in
     let fr = place_of h in
     let k = after_value p w fr (stack c.args.todo.now.items) in
-    c.in_ok-now-in-Members.ensures p h m w st ∙ ap (λ f. then_do (with_value p w fr f c.args.v (with_memory st m)) k) (sym c.in-Members.is)
+    c.in_ok-now-in-Members.ensures.same p h m w st ∙ ap (λ f. then_do (with_value p w fr f c.args.v (with_memory st m)) k) (sym c.in-Members.is)
 
-pub returns-in_ok-now-in-Designator : goal.returns-in_ok-now-in-Designator
-returns-in_ok-now-in-Designator c h w st =
+pub returns-in_ok-now-in-Designator-clause-same : goal.returns-in_ok-now-in-Designator-clause-same
+returns-in_ok-now-in-Designator-clause-same c h w st =
     let p = program_of c.args.program.now in
     let m = seen c.args.memory.now in
     let fr = place_of h in
     let k = after_value p w fr (stack c.args.todo.now.items) in
-    c.in_ok-now-in-Designator.ensures h w st
+    c.in_ok-now-in-Designator.ensures.same h w st
     ∙ (ap (λ us. then_do (then_do (eval_all p w fr (exprs_of c.in-Designator.left.now) (with_memory st m)) (λ vs st. made p w c.in-Designator.wanted (callees.Through c.args.v) (us ++ vs) st)) k) c.new-none.ensures.items
     ∙ ap (λ f. then_do (with_value p w fr f c.args.v (with_memory st m)) k) (sym c.in-Designator.is))
 
-pub returns-in_ok-now-in-Argument : goal.returns-in_ok-now-in-Argument
-returns-in_ok-now-in-Argument c h w st =
+pub returns-in_ok-now-in-Argument-clause-same : goal.returns-in_ok-now-in-Argument-clause-same
+returns-in_ok-now-in-Argument-clause-same c h w st =
     let p = program_of c.args.program.now in
     let m = seen c.args.memory.now in
     let fr = place_of h in
     let k = after_value p w fr (stack c.args.todo.now.items) in
-    one_more_value p w c.in-Argument.wanted c.in-Argument.callee c.in-Argument.before.items c.in_ok-all-in-Argument.all.items c.args.v fr (exprs_of c.in-Argument.rest.now) (with_memory st m) k _ c.in_ok-all-in-Argument.ensures (c.in_ok-now-in-Argument.ensures h w st) ∙ ap (λ f. then_do (with_value p w fr f c.args.v (with_memory st m)) k) (sym c.in-Argument.is)
+    one_more_value p w c.in-Argument.wanted c.in-Argument.callee c.in-Argument.before.items c.in_ok-all-in-Argument.all.items c.args.v fr (exprs_of c.in-Argument.rest.now) (with_memory st m) k _ c.in_ok-all-in-Argument.ensures (c.in_ok-now-in-Argument.ensures.same h w st) ∙ ap (λ f. then_do (with_value p w fr f c.args.v (with_memory st m)) k) (sym c.in-Argument.is)
+
+pub returns-in-One-clause-less : goal.returns-in-One-clause-less
+returns-in-One-clause-less c =
+    let is : of_value_frame c.args.frame ≡ 1 = ap of_value_frame c.in-One.is in
+    omega (arith, is, c.given.ensures.done)
+
+pub returns-in-Second-clause-less : goal.returns-in-Second-clause-less
+returns-in-Second-clause-less c =
+    let is : of_value_frame c.args.frame ≡ 1 = ap of_value_frame c.in-Second.is in
+    omega (arith, is, c.given-in-Second.ensures.done)
+
+pub returns-in_ok-now-in-First-clause-less : goal.returns-in_ok-now-in-First-clause-less
+returns-in_ok-now-in-First-clause-less c =
+    let is : of_value_frame c.args.frame ≡ 2 + of_expr (expr_of c.in-First.second.now) = ap of_value_frame c.in-First.is in
+    omega (arith, is, c.in_ok-now-in-First.ensures.less)
+
+pub returns-in_ok-now-in-Store-clause-less : goal.returns-in_ok-now-in-Store-clause-less
+returns-in_ok-now-in-Store-clause-less c =
+    let is : of_value_frame c.args.frame ≡ of_storing c.in-Store.part = ap of_value_frame c.in-Store.is in
+    omega (arith, is, c.in_ok-now-in-Store.ensures.less)
+
+pub returns-in_ok-now-in-Test-clause-less : goal.returns-in_ok-now-in-Test-clause-less
+returns-in_ok-now-in-Test-clause-less c =
+    let is : of_value_frame c.args.frame ≡ 1 + of_choice c.in-Test.choice = ap of_value_frame c.in-Test.is in
+    omega (arith, is, c.in_ok-now-in-Test.ensures.less)
+
+pub returns-in_ok-now-in-Members-clause-less : goal.returns-in_ok-now-in-Members-clause-less
+returns-in_ok-now-in-Members-clause-less c =
+    let is : of_value_frame c.args.frame ≡ 1 + of_exprs (exprs_of c.in-Members.rest.now) = ap of_value_frame c.in-Members.is in
+    omega (arith, is, c.in_ok-now-in-Members.ensures.less)
+
+pub returns-in_ok-now-in-Designator-clause-less : goal.returns-in_ok-now-in-Designator-clause-less
+returns-in_ok-now-in-Designator-clause-less c =
+    let is : of_value_frame c.args.frame ≡ 2 + of_exprs (exprs_of c.in-Designator.left.now) = ap of_value_frame c.in-Designator.is in
+    omega (arith, is, c.in_ok-now-in-Designator.ensures.less)
+
+pub returns-in_ok-now-in-Argument-clause-less : goal.returns-in_ok-now-in-Argument-clause-less
+returns-in_ok-now-in-Argument-clause-less c =
+    let is : of_value_frame c.args.frame ≡ 2 + of_exprs (exprs_of c.in-Argument.rest.now) = ap of_value_frame c.in-Argument.is in
+    omega (arith, is, c.in_ok-now-in-Argument.ensures.less)
