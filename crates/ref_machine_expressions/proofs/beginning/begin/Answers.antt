@@ -157,7 +157,7 @@ returns-in-Variable-clause-less c =
 pub returns-in_ok-now-in-Deref-clause-less : goal.returns-in_ok-now-in-Deref-clause-less
 returns-in_ok-now-in-Deref-clause-less c =
     let is : of_expr (expr_of c.args.e.now) ≡ 2 + of_expr (expr_of c.in-Deref.a.value) = ap (λ k. of_expr (expr_with (ctype_of c.args.e.now.ctype) k)) c.in-Deref.is in
-    let d1 : of_expr (expr_of c.deref-in-Deref.result.now) ≡ of_expr (expr_of c.in-Deref.a.value) = ap (λ (x : TExpr). of_expr (expr_of x)) c.deref-in-Deref.ensures in
+    let d1 : of_expr (expr_of c.deref.result.now) ≡ of_expr (expr_of c.in-Deref.a.value) = ap (λ (x : TExpr). of_expr (expr_of x)) c.deref.ensures in
     omega (arith, is, d1, c.in_ok-now-in-Deref.ensures.less)
 
 pub returns-in_ok-now-in-Load-clause-less : goal.returns-in_ok-now-in-Load-clause-less
@@ -280,7 +280,7 @@ returns-in_ok-now-in-Call-clause-less c =
 
 pub returns-in_ok-now-in-CallThrough-clause-less : goal.returns-in_ok-now-in-CallThrough-clause-less
 returns-in_ok-now-in-CallThrough-clause-less c =
-    let is : of_expr (expr_of c.args.e.now) ≡ 3 + (of_expr (expr_of c.in-CallThrough.designator.value) + of_exprs (exprs_of c.in-CallThrough.left.items)) = ap of_expr (ap (expr_with (ctype_of c.args.e.now.ctype)) c.in-CallThrough.is ∙ call_through_is (ctype_of c.args.e.now.ctype) _ _ _) in
+    let is : of_expr (expr_of c.args.e.now) ≡ 3 + (of_expr (expr_of c.in-CallThrough.designator.value) + of_exprs (exprs_of c.in-CallThrough.left.items)) = ap of_expr (ap (expr_with (ctype_of c.args.e.now.ctype)) c.in-CallThrough.is ∙ call_through_is (ctype_of c.args.e.now.ctype) _ c.in-CallThrough.designator c.in-CallThrough.left) in
     let same : of_exprs (exprs_of c.deref-in-CallThrough.result.now) ≡ of_exprs (exprs_of c.in-CallThrough.left.items) = ap (λ es. of_exprs (exprs_of es)) c.deref-in-CallThrough.ensures.value in
     let d2 : of_expr (expr_of c.deref-in-CallThrough-2.result.now) ≡ of_expr (expr_of c.in-CallThrough.designator.value) = ap (λ (x : TExpr). of_expr (expr_of x)) c.deref-in-CallThrough-2.ensures in
     omega (arith, is, same, d2, c.in_ok-now-in-CallThrough.ensures.less)
