@@ -1,5 +1,5 @@
 -- What is left to do after a frame was pushed.
-use Rattle.std.proofs.Common.{◌≡◌, ℕ, ◌+◌, List, [], ◌∷◌, ◌++◌, ap, ◌∙◌, refl, arith}
+use Rattle.std.proofs.Common.{◌≡◌, ◌+◌, List, [], ◌∷◌, ◌++◌, ap, ◌∙◌, refl, arith}
 use Rattle.ref_machine_frames.specs.declared.frames.Frame.{Frame}
 use Rattle.ref_machine_frames.specs.Work.{of_all, of_frame}
 
