@@ -12,7 +12,7 @@ use Rattle.line_text.proofs.NumberLemmas.{front_same, front_of_shorter, front_le
 use Rattle.fleet_schedule.specs.declared.line.Line.{Line}
 use Rattle.fleet_schedule.specs.Lines.{IsFresh}
 use Rattle.fleet_schedule.specs.ScheduleText.{IsRightLine, pids}
-pub use Rattle.dm_base.proofs.Without.{without}
+use Rattle.dm_base.proofs.Without.{without, without_le, without_less, in_without}
 
 -- the numbers by their places
 
@@ -30,39 +30,8 @@ pid_place (l ∷ ps) p (suc k, within, is) =
 
 -- a number that is not in a list
 
-without_le : (n : ℕ) (xs : List ℕ) → length (without n xs) ≤ length xs
-unfolding without
-without_le n [] = omega arith
-without_le n (x ∷ xs) =
-    let more = without_le n xs in
-    elim (nat_eq x n) as (λ (t : Bool). length (if t then without n xs else x ∷ without n xs) ≤ suc (length xs)) [ true ↦ omega arith | false ↦ omega arith ]
-
-without_less : (n : ℕ) (xs : List ℕ) → Contains xs n → length (without n xs) < length xs
-unfolding without
-without_less n [] (k, within, is) = absurd (omega (arith, within))
-without_less n (x ∷ xs) (zero, within, is) =
-    let more = without_le n xs in
-    subst (λ (t : Bool). length (if t then without n xs else x ∷ without n xs) < suc (length xs)) (sym (eq-eqb x n is)) (omega arith)
-without_less n (x ∷ xs) (suc k, within, is) =
-    let more = without_less n xs (k, omega (arith, within), is) in
-    elim (nat_eq x n) as (λ (t : Bool). length (if t then without n xs else x ∷ without n xs) < suc (length xs)) [ true ↦ omega arith | false ↦ omega arith ]
-
 later_in : (x y : ℕ) (xs : List ℕ) → Contains xs y → Contains (x ∷ xs) y
 later_in x y xs (k, within, is) = (suc k, omega (arith, within), is)
-
-in_without : (n y : ℕ) (xs : List ℕ) → y ≢ n → Contains xs y → Contains (without n xs) y
-unfolding without
-in_without n y [] other (k, within, is) = absurd (omega (arith, within))
-in_without n y (x ∷ xs) other (zero, within, is) = by_test (nat_eq x n) refl where
-  by_test : (t : Bool) → nat_eq x n ≡ t → Contains (if t then without n xs else x ∷ without n xs) y
-  by_test true same = absurd (other (sym is ∙ eqb-true x n same))
-  by_test false same = (0, omega arith, is)
-in_without n y (x ∷ xs) other (suc k, within, is) =
-    let more = in_without n y xs other (k, omega (arith, within), is) in
-    elim (nat_eq x n) as (λ (t : Bool). Contains (if t then without n xs else x ∷ without n xs) y) [
-      | true ↦ more
-      | false ↦ later_in x y (without n xs) more
-    ]
 
 has_or_not : (xs : List ℕ) (n : ℕ) → Contains xs n ⊎ (Contains xs n → ⊥)
 has_or_not [] n = inr (λ has. omega (arith, has.1))

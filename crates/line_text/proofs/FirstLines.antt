@@ -55,7 +55,7 @@ through_begins (suc k) (b ∷ text) =
       | false ↦ let more = through_begins (suc k) text in (more.0, ap (λ (x : List ℕ). b ∷ x) more.1)
     ]
 
-pub lacks : List ℕ → Bool
+unfoldable pub lacks : List ℕ → Bool
 lacks [] = true
 lacks (b ∷ text) = not (nat_eq b 10) && lacks text
 
