@@ -1,137 +1,22 @@
 -- Each function that a call calls is a candidate of its site, since each site stands once.
-use Rattle.std.proofs.Common.{◌≡◌, ℕ, zero, suc, ◌+◌, ◌<◌, ◌≤◌, nat_eq, if◌then◌else◌, Bool, true, false, ◌&&◌, List, [], ◌∷◌, ◌++◌, map, filter, flat_map, Contains, Some, length, length-append, sym, ap, ap₂, ◌∙◌, subst, refl, arith}
+use Rattle.std.proofs.Common.{◌≡◌, ℕ, zero, suc, ◌+◌, ◌<◌, ◌≤◌, nat_eq, if◌then◌else◌, Bool, true, false, ◌&&◌, List, [], ◌∷◌, map, filter, Contains, Some, length, length-append, sym, ap, ap₂, ◌∙◌, subst, refl, arith}
 use Rattle.std.specs.List.{range_with_len}
 use Rattle.std.specs.Cmp.{nat_eq_equiv}
 use Rattle.std.proofs.lemmas.Bool.{false≢true}
 use Rattle.std.proofs.lemmas.Bool.Decides.{nat_tests}
 use Rattle.std.proofs.lemmas.Option.{slice_get_within}
-use Rattle.c_tree.specs.declared.value.Value.{Value}
-use Rattle.c_tree.specs.declared.value.Value.TheVariants.{Indeterminate, Int, Uint, Char, Uchar, Null, Func, At}
-use Rattle.c_tree.specs.Tree.{CType, pointer, Function, Static, Program, type_of}
-use Rattle.c_tree.specs.Tree.{Expr, constant, function_name, string_place, variable, dereference, load, address_of, decay, discard, field, unary_operation, conversion, arithmetic, comparison, pointer_add, pointer_diff, and, or, assign, update, conditional, comma, call, call_through}
-use Rattle.c_tree.specs.Tree.{Exprs, no_exprs, more_exprs, Maybe, absent, there, Inits, no_inits, more_inits}
-use Rattle.c_tree.specs.Tree.{Stmt, block, empty, evaluate, declare, if_else, while_loop, do_loop, for_loop, switch_on, break_off, continue_on, return_void, return_value, Stmts, no_stmts, more_stmts, Groups, no_groups, more_groups}
+use Rattle.c_tree.specs.declared.value.Value.TheVariants.{Func}
+use Rattle.c_tree.specs.Tree.{CType, pointer, Function, Program}
+use Rattle.c_tree.specs.Tree.{call}
 use Rattle.c_tree.specs.Functions.{sys_types, defined, type_of_defined, value_types, value_type}
 use Rattle.c_tree.specs.Kinds.{Objects}
-use Rattle.c_tree.specs.Sites.{sites_of, sites_of_all, sites_of_maybe, sites_of_inits, sites_of_stmt, sites_of_stmts, sites_of_groups, sites_of_function, sites_of_program}
-use Rattle.c_shapes.specs.Mentions.{Callee, Direct, Through, Mention, Named, Calls, mentions, mentions_of_all, mentions_of_maybe, mentions_of_inits, mentions_of_stmt, mentions_of_stmts, mentions_of_groups, mentions_of_function, mention_of_cell, mentions_of_static, mentions_of_program}
+use Rattle.c_shapes.specs.Mentions.{Callee, Direct, Through, Mention, Named, Calls, mentions_of_program}
 use Rattle.c_shapes.specs.CallGraph.{is_taken, is_typed, functions_of, callees, callee_at, called_where, candidates}
 use Rattle.c_shapes.proofs.SameTypes.{types_tell}
 use Rattle.c_meaning_laws.specs.StoreTyping.{HasKind}
 use Rattle.c_meaning_laws.specs.Callees.{CalleesAreCandidates}
 use Rattle.c_meaning_laws.proofs.Standing.{is_first, is_later}
-
--- the sites of the calls among mentions
-abbrev called : List Mention → List ℕ
-called [] = []
-called (Named f ∷ ms) = called ms
-called (Calls s c ∷ ms) = s ∷ called ms
-
-called_both : (xs ys : List Mention) → called (xs ++ ys) ≡ called xs ++ called ys
-called_both [] ys = refl
-called_both (Named f ∷ xs) ys = called_both xs ys
-called_both (Calls s c ∷ xs) ys = ap (λ zs. s ∷ zs) (called_both xs ys)
-
--- two parts whose sites are these
-two : (xs ys : List Mention) (ss rs : List ℕ) → called xs ≡ ss → called ys ≡ rs → called (xs ++ ys) ≡ ss ++ rs
-two xs ys ss rs h k = called_both xs ys ∙ ap₂ (λ a b. a ++ b) h k
-
-three : (xs ys zs : List Mention) (ss rs qs : List ℕ) → called xs ≡ ss → called ys ≡ rs → called zs ≡ qs → called (xs ++ (ys ++ zs)) ≡ ss ++ (rs ++ qs)
-three xs ys zs ss rs qs h k l = two xs (ys ++ zs) ss (rs ++ qs) h (two ys zs rs qs k l)
-
-mutual
-  expr_sites : (e : Expr) → called (mentions e) ≡ sites_of e
-  expr_sites (constant t v) = refl
-  expr_sites (function_name t f) = refl
-  expr_sites (string_place t x) = refl
-  expr_sites (variable t is_static x) = refl
-  expr_sites (dereference t a) = expr_sites a
-  expr_sites (load t a) = expr_sites a
-  expr_sites (address_of t a) = expr_sites a
-  expr_sites (decay t a) = expr_sites a
-  expr_sites (discard t a) = expr_sites a
-  expr_sites (field t first a) = expr_sites a
-  expr_sites (unary_operation t op a) = expr_sites a
-  expr_sites (conversion t to a) = expr_sites a
-  expr_sites (arithmetic t op a b) = two (mentions a) (mentions b) (sites_of a) (sites_of b) (expr_sites a) (expr_sites b)
-  expr_sites (comparison t op a b) = two (mentions a) (mentions b) (sites_of a) (sites_of b) (expr_sites a) (expr_sites b)
-  expr_sites (pointer_add t first subtracted a b) = two (mentions a) (mentions b) (sites_of a) (sites_of b) (expr_sites a) (expr_sites b)
-  expr_sites (pointer_diff t a b) = two (mentions a) (mentions b) (sites_of a) (sites_of b) (expr_sites a) (expr_sites b)
-  expr_sites (and t a b) = two (mentions a) (mentions b) (sites_of a) (sites_of b) (expr_sites a) (expr_sites b)
-  expr_sites (or t a b) = two (mentions a) (mentions b) (sites_of a) (sites_of b) (expr_sites a) (expr_sites b)
-  expr_sites (assign t a b) = two (mentions a) (mentions b) (sites_of a) (sites_of b) (expr_sites a) (expr_sites b)
-  expr_sites (update t op old a b) = two (mentions a) (mentions b) (sites_of a) (sites_of b) (expr_sites a) (expr_sites b)
-  expr_sites (conditional t c a b) = three (mentions c) (mentions a) (mentions b) (sites_of c) (sites_of a) (sites_of b) (expr_sites c) (expr_sites a) (expr_sites b)
-  expr_sites (comma t es) = all_sites es
-  expr_sites (call t site f es) = ap (λ ss. site ∷ ss) (all_sites es)
-  expr_sites (call_through t site a es) = two (mentions a) (Calls site (Through (type_of a)) ∷ mentions_of_all es) (sites_of a) (site ∷ sites_of_all es) (expr_sites a) (ap (λ ss. site ∷ ss) (all_sites es))
-
-  all_sites : (es : Exprs) → called (mentions_of_all es) ≡ sites_of_all es
-  all_sites no_exprs = refl
-  all_sites (more_exprs e es) = two (mentions e) (mentions_of_all es) (sites_of e) (sites_of_all es) (expr_sites e) (all_sites es)
-
-maybe_sites : (e : Maybe) → called (mentions_of_maybe e) ≡ sites_of_maybe e
-maybe_sites absent = refl
-maybe_sites (there e) = expr_sites e
-
-inits_sites : (is : Inits) → called (mentions_of_inits is) ≡ sites_of_inits is
-inits_sites no_inits = refl
-inits_sites (more_inits cell e is) = two (mentions e) (mentions_of_inits is) (sites_of e) (sites_of_inits is) (expr_sites e) (inits_sites is)
-
-mutual
-  stmt_sites : (s : Stmt) → called (mentions_of_stmt s) ≡ sites_of_stmt s
-  stmt_sites (block ss) = stmts_sites ss
-  stmt_sites empty = refl
-  stmt_sites (evaluate e) = expr_sites e
-  stmt_sites (declare x is) = inits_sites is
-  stmt_sites (if_else e s u) = three (mentions e) (mentions_of_stmt s) (mentions_of_stmt u) (sites_of e) (sites_of_stmt s) (sites_of_stmt u) (expr_sites e) (stmt_sites s) (stmt_sites u)
-  stmt_sites (while_loop e s) = two (mentions e) (mentions_of_stmt s) (sites_of e) (sites_of_stmt s) (expr_sites e) (stmt_sites s)
-  stmt_sites (do_loop s e) = two (mentions_of_stmt s) (mentions e) (sites_of_stmt s) (sites_of e) (stmt_sites s) (expr_sites e)
-  stmt_sites (for_loop first test step s) =
-      two (mentions_of_stmts first) (mentions_of_maybe test ++ (mentions_of_maybe step ++ mentions_of_stmt s)) (sites_of_stmts first) (sites_of_maybe test ++ (sites_of_maybe step ++ sites_of_stmt s)) (stmts_sites first) (three (mentions_of_maybe test) (mentions_of_maybe step) (mentions_of_stmt s) (sites_of_maybe test) (sites_of_maybe step) (sites_of_stmt s) (maybe_sites test) (maybe_sites step) (stmt_sites s))
-  stmt_sites (switch_on e gs) = two (mentions e) (mentions_of_groups gs) (sites_of e) (sites_of_groups gs) (expr_sites e) (groups_sites gs)
-  stmt_sites break_off = refl
-  stmt_sites continue_on = refl
-  stmt_sites return_void = refl
-  stmt_sites (return_value e) = expr_sites e
-
-  stmts_sites : (ss : Stmts) → called (mentions_of_stmts ss) ≡ sites_of_stmts ss
-  stmts_sites no_stmts = refl
-  stmts_sites (more_stmts s ss) = two (mentions_of_stmt s) (mentions_of_stmts ss) (sites_of_stmt s) (sites_of_stmts ss) (stmt_sites s) (stmts_sites ss)
-
-  groups_sites : (gs : Groups) → called (mentions_of_groups gs) ≡ sites_of_groups gs
-  groups_sites no_groups = refl
-  groups_sites (more_groups ls ss gs) = two (mentions_of_stmts ss) (mentions_of_groups gs) (sites_of_stmts ss) (sites_of_groups gs) (stmts_sites ss) (groups_sites gs)
-
-functions_sites : (fs : List Function) → called (flat_map mentions_of_function fs) ≡ flat_map sites_of_function fs
-functions_sites [] = refl
-functions_sites (f ∷ fs) = two (mentions_of_function f) (flat_map mentions_of_function fs) (sites_of_function f) (flat_map sites_of_function fs) (stmt_sites f.body) (functions_sites fs)
-
--- static objects call nothing
-cell_calls : (v : Value) → called (mention_of_cell v) ≡ []
-cell_calls Indeterminate = refl
-cell_calls (Int z) = refl
-cell_calls (Uint n) = refl
-cell_calls (Char z) = refl
-cell_calls (Uchar n) = refl
-cell_calls Null = refl
-cell_calls (Func f) = refl
-cell_calls (At q) = refl
-
-cells_call : (vs : List Value) → called (flat_map mention_of_cell vs) ≡ []
-cells_call [] = refl
-cells_call (v ∷ vs) = two (mention_of_cell v) (flat_map mention_of_cell vs) [] [] (cell_calls v) (cells_call vs)
-
-statics_call : (ss : List Static) → called (flat_map mentions_of_static ss) ≡ []
-statics_call [] = refl
-statics_call (s ∷ ss) = two (mentions_of_static s) (flat_map mentions_of_static ss) [] [] (cells_call s.cells) (statics_call ss)
-
-append_none : (xs : List ℕ) → xs ++ [] ≡ xs
-append_none [] = refl
-append_none (x ∷ xs) = ap (λ ys. x ∷ ys) (append_none xs)
-
-program_sites : (p : Program) → called (mentions_of_program p) ≡ sites_of_program p
-program_sites p = two (flat_map mentions_of_function p.functions) (flat_map mentions_of_static p.statics) (flat_map sites_of_function p.functions) [] (functions_sites p.functions) (statics_call p.statics) ∙ append_none (sites_of_program p)
+use Rattle.c_shapes.proofs.SitesSaid.{sites_in as called, in_program as program_sites}
 
 abbrev is_call : Mention → Bool
 is_call (Named f) = false

@@ -4,13 +4,11 @@ use Rattle.std.specs.Cmp.{nat_eq_equiv}
 use Rattle.std.specs.List.{range_with_len}
 use Rattle.c_tree.specs.declared.value.Value.{Value}
 use Rattle.c_tree.specs.declared.value.Value.TheVariants as v
-use Rattle.c_tree.specs.Tree.{Expr, constant, function_name, string_place, variable, dereference, load, address_of, decay, discard, field, unary_operation, conversion, arithmetic, comparison, pointer_add, pointer_diff, and, or, assign, update, conditional, comma, call, call_through, type_of}
-use Rattle.c_tree.specs.Tree.{Exprs, no_exprs, more_exprs, Maybe, absent, there, Inits, no_inits, more_inits}
-use Rattle.c_tree.specs.Tree.{Stmt, block, empty, evaluate, declare, if_else, while_loop, do_loop, for_loop, switch_on, break_off, continue_on, return_void, return_value, Stmts, no_stmts, more_stmts, Groups, no_groups, more_groups}
 use Rattle.c_tree.specs.Tree.{Function, Static, Program}
 use Rattle.c_tree.specs.Program.{IsProgram}
-use Rattle.c_tree.specs.Sites.{sites_of, sites_of_all, sites_of_maybe, sites_of_inits, sites_of_stmt, sites_of_stmts, sites_of_groups, sites_of_function, sites_of_program}
-use Rattle.c_shapes.specs.Mentions.{Callee, Through, Mention, Named, Calls, mentions, mentions_of_all, mentions_of_maybe, mentions_of_inits, mentions_of_stmt, mentions_of_stmts, mentions_of_groups, mentions_of_function, mention_of_cell, mentions_of_static, mentions_of_program}
+use Rattle.c_tree.specs.Sites.{all_sites, sites_of_function, sites_of_program}
+use Rattle.c_tree.proofs.GatheredLemmas.{Becomes, stmt_becomes}
+use Rattle.c_shapes.specs.Mentions.{all_mentions, Callee, Mention, Named, Calls, mentions_of_function, mention_of_cell, mentions_of_static, mentions_of_program}
 use Rattle.c_shapes.specs.CallGraph.{callee_at}
 use Rattle.c_shapes.proofs.Members.{is_later, cases, none_in, other_number, from_range}
 
@@ -28,76 +26,19 @@ sites_append (Calls s callee ∷ xs) ys = ap (λ z. s ∷ z) (sites_append xs ys
 both : (xs ys : List Mention) (ss rs : List ℕ) → sites_in xs ≡ ss → sites_in ys ≡ rs → sites_in (xs ++ ys) ≡ ss ++ rs
 both xs ys ss rs h k = sites_append xs ys ∙ (ap (λ z. z ++ sites_in ys) h ∙ ap (λ z. ss ++ z) k)
 
-mutual
-  in_expr : (e : Expr) → sites_in (mentions e) ≡ sites_of e
-  in_expr (constant t v) = refl
-  in_expr (function_name t f) = refl
-  in_expr (string_place t n) = refl
-  in_expr (variable t is_static n) = refl
-  in_expr (dereference t a) = in_expr a
-  in_expr (load t a) = in_expr a
-  in_expr (address_of t a) = in_expr a
-  in_expr (decay t a) = in_expr a
-  in_expr (discard t a) = in_expr a
-  in_expr (field t first a) = in_expr a
-  in_expr (unary_operation t op a) = in_expr a
-  in_expr (conversion t to a) = in_expr a
-  in_expr (arithmetic t op a b) = both (mentions a) (mentions b) (sites_of a) (sites_of b) (in_expr a) (in_expr b)
-  in_expr (comparison t op a b) = both (mentions a) (mentions b) (sites_of a) (sites_of b) (in_expr a) (in_expr b)
-  in_expr (pointer_add t first subtracted a b) = both (mentions a) (mentions b) (sites_of a) (sites_of b) (in_expr a) (in_expr b)
-  in_expr (pointer_diff t a b) = both (mentions a) (mentions b) (sites_of a) (sites_of b) (in_expr a) (in_expr b)
-  in_expr (and t a b) = both (mentions a) (mentions b) (sites_of a) (sites_of b) (in_expr a) (in_expr b)
-  in_expr (or t a b) = both (mentions a) (mentions b) (sites_of a) (sites_of b) (in_expr a) (in_expr b)
-  in_expr (assign t a b) = both (mentions a) (mentions b) (sites_of a) (sites_of b) (in_expr a) (in_expr b)
-  in_expr (update t op old a b) = both (mentions a) (mentions b) (sites_of a) (sites_of b) (in_expr a) (in_expr b)
-  in_expr (conditional t c a b) =
-      both (mentions c) (mentions a ++ mentions b) (sites_of c) (sites_of a ++ sites_of b) (in_expr c) (both (mentions a) (mentions b) (sites_of a) (sites_of b) (in_expr a) (in_expr b))
-  in_expr (comma t es) = in_exprs es
-  in_expr (call t site f es) = ap (λ z. site ∷ z) (in_exprs es)
-  in_expr (call_through t site a es) =
-      both (mentions a) (Calls site (Through (type_of a)) ∷ mentions_of_all es) (sites_of a) (site ∷ sites_of_all es) (in_expr a) (ap (λ z. site ∷ z) (in_exprs es))
-
-  in_exprs : (es : Exprs) → sites_in (mentions_of_all es) ≡ sites_of_all es
-  in_exprs no_exprs = refl
-  in_exprs (more_exprs e es) = both (mentions e) (mentions_of_all es) (sites_of e) (sites_of_all es) (in_expr e) (in_exprs es)
-
-in_maybe : (e : Maybe) → sites_in (mentions_of_maybe e) ≡ sites_of_maybe e
-in_maybe absent = refl
-in_maybe (there e) = in_expr e
-
-in_inits : (is : Inits) → sites_in (mentions_of_inits is) ≡ sites_of_inits is
-in_inits no_inits = refl
-in_inits (more_inits cell e is) = both (mentions e) (mentions_of_inits is) (sites_of e) (sites_of_inits is) (in_expr e) (in_inits is)
-
-mutual
-  in_stmt : (s : Stmt) → sites_in (mentions_of_stmt s) ≡ sites_of_stmt s
-  in_stmt (block ss) = in_stmts ss
-  in_stmt empty = refl
-  in_stmt (evaluate e) = in_expr e
-  in_stmt (declare x is) = in_inits is
-  in_stmt (if_else e s u) =
-      both (mentions e) (mentions_of_stmt s ++ mentions_of_stmt u) (sites_of e) (sites_of_stmt s ++ sites_of_stmt u) (in_expr e) (both (mentions_of_stmt s) (mentions_of_stmt u) (sites_of_stmt s) (sites_of_stmt u) (in_stmt s) (in_stmt u))
-  in_stmt (while_loop e s) = both (mentions e) (mentions_of_stmt s) (sites_of e) (sites_of_stmt s) (in_expr e) (in_stmt s)
-  in_stmt (do_loop s e) = both (mentions_of_stmt s) (mentions e) (sites_of_stmt s) (sites_of e) (in_stmt s) (in_expr e)
-  in_stmt (for_loop first test step s) =
-      both (mentions_of_stmts first) (mentions_of_maybe test ++ (mentions_of_maybe step ++ mentions_of_stmt s)) (sites_of_stmts first) (sites_of_maybe test ++ (sites_of_maybe step ++ sites_of_stmt s)) (in_stmts first) (both (mentions_of_maybe test) (mentions_of_maybe step ++ mentions_of_stmt s) (sites_of_maybe test) (sites_of_maybe step ++ sites_of_stmt s) (in_maybe test) (both (mentions_of_maybe step) (mentions_of_stmt s) (sites_of_maybe step) (sites_of_stmt s) (in_maybe step) (in_stmt s)))
-  in_stmt (switch_on e gs) = both (mentions e) (mentions_of_groups gs) (sites_of e) (sites_of_groups gs) (in_expr e) (in_groups gs)
-  in_stmt break_off = refl
-  in_stmt continue_on = refl
-  in_stmt return_void = refl
-  in_stmt (return_value e) = in_expr e
-
-  in_stmts : (ss : Stmts) → sites_in (mentions_of_stmts ss) ≡ sites_of_stmts ss
-  in_stmts no_stmts = refl
-  in_stmts (more_stmts s ss) = both (mentions_of_stmt s) (mentions_of_stmts ss) (sites_of_stmt s) (sites_of_stmts ss) (in_stmt s) (in_stmts ss)
-
-  in_groups : (gs : Groups) → sites_in (mentions_of_groups gs) ≡ sites_of_groups gs
-  in_groups no_groups = refl
-  in_groups (more_groups ls ss gs) = both (mentions_of_stmts ss) (mentions_of_groups gs) (sites_of_stmts ss) (sites_of_groups gs) (in_stmts ss) (in_groups gs)
+-- what is mentioned at a call has its site
+mentions_become_sites : Becomes all_mentions all_sites sites_in
+mentions_become_sites = record {
+  none = refl;
+  joined = sites_append;
+  named = λ n. refl;
+  direct = λ site n xs ys e. ap (λ z. site ∷ z) e;
+  through = λ site t xs ys e. ap (λ z. site ∷ z) e;
+}
 
 in_functions : (fs : List Function) → sites_in (flat_map mentions_of_function fs) ≡ flat_map sites_of_function fs
 in_functions [] = refl
-in_functions (f ∷ fs) = both (mentions_of_function f) (flat_map mentions_of_function fs) (sites_of_function f) (flat_map sites_of_function fs) (in_stmt f.body) (in_functions fs)
+in_functions (f ∷ fs) = both (mentions_of_function f) (flat_map mentions_of_function fs) (sites_of_function f) (flat_map sites_of_function fs) (stmt_becomes all_mentions all_sites sites_in mentions_become_sites f.body) (in_functions fs)
 
 in_cell : (x : Value) → sites_in (mention_of_cell x) ≡ []
 in_cell (v.Func f) = refl

@@ -1,6 +1,7 @@
 pub mod CalledTypes
 pub mod CopyLemmas
 pub mod CountLemmas
+pub mod GatheredLemmas
 pub mod LayoutTrials
 pub mod OperatorLemmas
 pub mod OperatorTrials
