@@ -11,6 +11,7 @@ use Rattle.flow_model.specs.Groups.{sites_from}
 use Rattle.flow_model.specs.Rules.{IsValid, HasRightEntries}
 use Rattle.flow_model.proofs.OrderLemmas.{lt_from_less}
 use Rattle.dm_base.specs.Adding.{Has}
+use Rattle.flow_model.proofs.OwnersBelow.{contains_none}
 
 pub Contains-cons : {X : Type 0} (head x : X) (rest : List X) → Contains rest x → Contains (head ∷ rest) x
 Contains-cons head x rest (i, lt, is) = (suc i, omega (arith, lt), is)
