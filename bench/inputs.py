@@ -1,13 +1,15 @@
 #!/usr/bin/env python3
-"""inputs.py FOLDER [EVENTS]: writes the models and the traces that bench/run measures into the folder, in the forms of
-docs/FILES.md and docs/RECORDING.md. The long traces have EVENTS events, 1,000 to 1,000,000, or 1,000,000.
+"""inputs.py FOLDER [EVENTS]: writes the models, the traces and the C text that bench/run measures into the folder, in the
+forms of docs/FILES.md, docs/RECORDING.md and docs/LANGUAGE.md. The long traces have EVENTS events, 1,000 to 1,000,000,
+or 1,000,000.
 
     server.model             2,004 nodes: a loop that may call any of 200 functions, each nine system calls with arguments
     server_bare_N.trace      N events of it, where N is EVENTS, a tenth and a hundredth of that; no null calls
     server_marked_N.trace    N events of it, null calls among them
     deep.model, .trace       a function that calls itself between two system calls, up to 50,000 times; with null calls
     hostile.model, .trace    200,000 nodes, all of which an event may lead to, in many ways; a ten-thousandth of EVENTS
-    server.traces            EVENTS records, or 24,576, of 4,096 processes of server.model; half are forked, 64 rejected"""
+    server.traces            EVENTS records, or 24,576, of 4,096 processes of server.model; half are forked, 64 rejected
+    text.c                   950,000 bytes of functions with loops, a switch, a struct and arrays, each of which calls getpid"""
 import pathlib
 import random
 import sys
@@ -146,6 +148,53 @@ def besieged(events, sites):
     return found[:events]
 
 
+# One function of the C text, of its number.
+FUNCTION = '''int f%(n)d(int a, int b) {
+    int total = 0;
+    int i;
+    struct point p;
+    int local[4] = { %(n)d %% 100, 2, 3 };
+    p.x = a * %(n)d + (b << 2);
+    p.y = (a ^ b) & 255;
+    p.name[0] = 'n';
+    for (i = 0; i < 16; i++) {
+        table[i %% 16] = table[i & 15] + p.x * local[i %% 4] - p.y;
+        if (table[i & 15] > 1000 && i != 7) {
+            total = total + i;
+            continue;
+        } else {
+            total -= 1;
+        }
+    }
+    while (total > 100) {
+        total = total / 2;
+    }
+    switch (a) {
+    case 1:
+        total += getpid();
+        break;
+    case 2:
+    default:
+        total = -total;
+    }
+    return total ? total : p.x;
+}
+'''
+
+
+def text_of(size):
+    """A C text of the profile, of so many bytes or a few less."""
+    first = 'int getpid(void);\nstruct point { int x; int y; char name[8]; };\nstatic int table[16];\n'
+    last = 'int main(void) {\n    return f0(3, 4);\n}\n'
+    found, left = [first], size - len(first) - len(last)
+    while True:
+        function = FUNCTION % {'n': len(found) - 1}
+        left -= len(function)
+        if left < 0:
+            return ''.join([*found, last])
+        found.append(function)
+
+
 def main():
     folder, events = pathlib.Path(sys.argv[1]), int(sys.argv[2]) if len(sys.argv) > 2 else 1_000_000
     if not 1_000 <= events <= 1_000_000:
@@ -161,6 +210,7 @@ def main():
     (folder / 'hostile.model').write_text(text)
     (folder / 'hostile.trace').write_text(trace(besieged(max(20, events // 10_000), sites)))
     (folder / 'server.traces').write_text(watched(events))
+    (folder / 'text.c').write_text(text_of(950_000))
 
 
 if __name__ == '__main__':
