@@ -2,7 +2,7 @@
 use Rattle.std.proofs.Common.{◌≡◌, ℕ, zero, suc, ◌<◌, Bool, true, false, not, ◌&&◌, List, [], ◌∷◌, ℤ, pos, negsuc, ◌-ℤ◌, Option, Some, None, slice_get, slice_index_or, refl, ap, sym, ◌∙◌, subst, arith}
 use Rattle.std.specs.Int.{w32, int_wrap}
 use Rattle.std.specs.Ordering.{int_eq}
-use Rattle.std.specs.Prelude.{drop, neg_ℤ, FitsSigned}
+use Rattle.std.specs.Prelude.{drop, neg_ℤ}
 use Rattle.std.proofs.lemmas.Bool.Decides.{Decides-int_eq}
 use Rattle.std.proofs.lemmas.Int.{ints, int_wrap_fits}
 use Rattle.dm_base.specs.declared.event.Arg.{Arg}

@@ -4,7 +4,7 @@ use Rattle.std.proofs.lemmas.List.{map-append}
 use Rattle.c_tree.specs.declared.tree.CType.{CType as TypeTree}
 use Rattle.c_tree.specs.declared.tree.TExpr.{TExpr}
 use Rattle.c_tree.specs.declared.tree.TExprKind.TheVariants.{Comma}
-use Rattle.c_tree.specs.Tree.{CType, void, Expr, Exprs, no_exprs, more_exprs, comma}
+use Rattle.c_tree.specs.Tree.{CType, void, more_exprs, comma}
 use Rattle.c_tree.specs.View.{ctype_of, expr_of, expr_with, exprs_of}
 use Rattle.c_tree.proofs.Rows.{comma_is}
 use Rattle.c_check_values.specs.declared.typed_expression.TypedExpression.{TypedExpression as TypedExpressionTree}

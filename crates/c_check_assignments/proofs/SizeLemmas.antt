@@ -1,10 +1,10 @@
 -- A type of too many cells under sizeof.
-use Rattle.std.proofs.Common.{◌≡◌, ℕ, ◌<◌, false, refl, ap, ◌∙◌, arith}
+use Rattle.std.proofs.Common.{◌≡◌, ℕ, ◌<◌, false, ap, ◌∙◌, arith}
 use Rattle.std.specs.Prelude.{nat_le, Contains}
 use Rattle.std.proofs.lemmas.Bool.{lt-leb}
 use Rattle.c_tree.specs.Tree.{CType}
 use Rattle.c_tree.specs.Layout.{cells, sizeof}
-use Rattle.c_rules.specs.Checked.{Checked, fine, fault, faults, demand, on, met}
+use Rattle.c_rules.specs.Checked.{fine, faults, demand, on, met}
 use Rattle.c_rules.specs.Conversions.{complete}
 use Rattle.c_rules.specs.PrimaryExpressions.{typed_unsigned}
 use Rattle.c_rules.specs.Scopes.{Env, layout_of}

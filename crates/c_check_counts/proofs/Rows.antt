@@ -2,28 +2,21 @@
 use Rattle.std.proofs.Common.{◌≡◌, ℕ, Option, Some, None, Vec, Global, refl, ap, sym, ◌∙◌}
 use Rattle.std.specs.Prelude.{Box}
 use Rattle.c_syntax.specs.declared.tree.Expr.{Expr as ExprTree}
-use Rattle.c_syntax.specs.declared.tree.ExprKind.{items_hidden-the_row-Expr-1}
-use Rattle.c_syntax.specs.declared.tree.ExprKind.TheVariants.{Comma, Call}
 use Rattle.c_syntax.specs.declared.tree.TypeName.{TypeName as TypeTree, TypeName', out-TypeName, Param-declarator-None', Param-declarator-Some'}
 use Rattle.c_syntax.specs.declared.tree.Param.{Param as ParamTree, Param', out-Param}
 use Rattle.c_syntax.specs.declared.tree.Declarator.{Declarator as DeclaratorTree}
 use Rattle.c_syntax.specs.declared.tree.DeclaratorKind.TheBlock.{back-DeclaratorKind-Array-1}
 use Rattle.c_syntax.specs.declared.tree.DeclaratorKind.TheVariants.{Pointer, Array, Function}
-use Rattle.c_syntax.specs.declared.tree.Init.{Init as InitTree}
-use Rattle.c_syntax.specs.declared.tree.InitKind.TheVariants.{List as listed}
-use Rattle.c_syntax.specs.declared.tree.BlockItem.{BlockItem}
 use Rattle.c_syntax.specs.declared.tree.Stmt.{Stmt as StmtTree}
-use Rattle.c_syntax.specs.declared.tree.StmtKind.{items_hidden-the_row-Group-1}
-use Rattle.c_syntax.specs.declared.tree.StmtKind.TheVariants.{Block, If, Switch}
+use Rattle.c_syntax.specs.declared.tree.StmtKind.TheVariants.{If}
 use Rattle.c_syntax.specs.declared.tree.Group.{Group, Group', out-Group, items_shown-the_row-Stmt-2}
-use Rattle.c_syntax.specs.Tree.{comma, call, type_name, pointer, array, function, Params, more_params, list, block, switch_on, Groups, more_groups}
-use Rattle.c_syntax.specs.View.{spec_of, expr_at, expr_of, exprs_of_row, type_name_of, declarator_at, maybe_size, params_of_row, param_before}
-use Rattle.c_syntax.specs.UnitView.{init_at, stmt_at, stmt_of, if_with, groups_of_row, group_before, labels_of}
-use Rattle.c_syntax.specs.Writes.{exprs_of, params_of, declarator_in, declarator_behind, expr_behind}
-use Rattle.c_syntax.specs.WritesUnit.{inits_of, block_items_of, stmts_of, groups_of, else_behind}
-use Rattle.c_syntax.proofs.Rows.{exprs_row, row_in, inner_is, params_row_in, params_in}
-use Rattle.c_syntax.proofs.UnitRows.{inits_in, block_items_in, groups_row, groups_row_in, stmts_row}
-use Rattle.c_syntax.proofs.FormRows.{exprs_in, groups_in}
+use Rattle.c_syntax.specs.Tree.{type_name, pointer, array, function, Params, more_params, Groups, more_groups}
+use Rattle.c_syntax.specs.View.{spec_of, type_name_of, declarator_at, maybe_size, params_of_row, param_before}
+use Rattle.c_syntax.specs.UnitView.{stmt_at, stmt_of, if_with, group_before, labels_of}
+use Rattle.c_syntax.specs.Writes.{params_of, declarator_in, declarator_behind, expr_behind}
+use Rattle.c_syntax.specs.WritesUnit.{stmts_of, else_behind}
+use Rattle.c_syntax.proofs.Rows.{inner_is, params_row_in, params_in}
+use Rattle.c_syntax.proofs.UnitRows.{stmts_row}
 pub use Rattle.c_syntax.proofs.FormRows.{comma_is, call_is, list_is, block_is, switch_is}
 
 -- ## Expressions

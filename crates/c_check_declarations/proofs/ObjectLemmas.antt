@@ -1,5 +1,5 @@
 -- Types, sizes and demands of declared objects.
-use Rattle.std.proofs.Common.{◌≡◌, ℕ, zero, suc, ◌≤◌, Bool, true, false, List, [], ◌∷◌, length, Option, Some, Result, Vec, Global, nat_le, refl, sym, ap, subst, ◌∙◌, arith}
+use Rattle.std.proofs.Common.{◌≡◌, ℕ, zero, suc, ◌≤◌, Bool, true, false, List, length, Option, Some, Result, Vec, Global, nat_le, refl, sym, ap, subst, ◌∙◌, arith}
 use Rattle.std.proofs.lemmas.Bool.{leb-true}
 use Rattle.c_check_values.specs.declared.error.CheckError.{CheckError}
 use Rattle.c_check_values.specs.declared.error.CheckError.TheVariants as errors
@@ -10,7 +10,6 @@ use Rattle.c_check_declarations.specs.Texts.{is_unsized, sized_by_count}
 use Rattle.c_rules.specs.Checked.{Checked, fine, faults, demand, on, and_also, gives, Met, met}
 use Rattle.c_rules.specs.Codes.{C13, C14}
 use Rattle.c_rules.specs.Conversions.{complete}
-use Rattle.c_rules.specs.Initialisers.{count_inits}
 use Rattle.c_rules.specs.Limits.{most_cells}
 use Rattle.c_rules.specs.Items.{member_typed, without_init}
 use Rattle.c_rules.specs.Objects.{Object, sized_by_init, with_size, of_known_size, object_of, object_declared}
@@ -22,7 +21,6 @@ use Rattle.c_syntax.specs.declared.tree.InitKind.{InitKind, One, List'}
 use Rattle.c_syntax.specs.declared.tree.InitKind.TheVariants.{List as listed}
 use Rattle.c_syntax.specs.Tree.{Spec, Declarator, Ident, MaybeInit, no_init, an_init}
 use Rattle.c_syntax.specs.UnitView.{init_at, init_of, maybe_init_of}
-use Rattle.c_syntax.specs.WritesUnit.{inits_of}
 use Rattle.c_rules.proofs.Below.{Holds, held, on_holds, Any, anything}
 use Rattle.c_tree.specs.declared.tree.CType.{CType as TypeTree}
 use Rattle.c_tree.specs.Layout.{cells}

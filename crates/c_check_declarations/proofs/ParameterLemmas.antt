@@ -1,5 +1,5 @@
 -- Parameters of Rust, one after another.
-use Rattle.std.proofs.Common.{◌≡◌, ℕ, suc, ◌+◌, ◌-◌, ◌<◌, ◌≤◌, Bool, true, false, List, [], ◌∷◌, length, take, drop, get_or, Bor, Option, Some, None, Vec, Global, Result, Ok, Err, IfOk, OnOk, refl, sym, subst, ap, ◌∙◌, arith}
+use Rattle.std.proofs.Common.{◌≡◌, ℕ, suc, ◌-◌, ◌<◌, ◌≤◌, Bool, true, false, List, [], ◌∷◌, length, take, drop, get_or, Bor, Option, Some, None, Vec, Global, Result, Ok, Err, IfOk, refl, sym, subst, ap, ◌∙◌, arith}
 use Rattle.std.specs.Prelude.{Box, ◌&&◌, is_some, not}
 use Rattle.std.proofs.lemmas.List.{take_all}
 use Rattle.c_check_counts.specs.declared.numbers.Next.{Next as NextTree}
@@ -7,7 +7,7 @@ use Rattle.c_check_counts.specs.Numbered.{AreFirst}
 use Rattle.c_check_counts.specs.Seen.{ident_seen}
 use Rattle.c_check_counts.proofs.Rows.{function_is}
 use Rattle.c_check_declarations.specs.Named.{name_of_param, stands_alone}
-use Rattle.c_rules.specs.Functions.{parameters_of, is_named, are_named, count_params, with_parameter, with_parameters}
+use Rattle.c_rules.specs.Functions.{parameters_of, is_named, are_named, count_params, with_parameters}
 use Rattle.c_rules.specs.Scopes.{Env}
 use Rattle.c_syntax.specs.declared.tree.Declarator.{Declarator as DeclaratorTree}
 use Rattle.c_syntax.specs.declared.tree.DeclaratorKind.TheVariants.{Function}
@@ -18,8 +18,7 @@ use Rattle.c_syntax.specs.Tree.{Ident, Declarator, nothing, named, pointer, arra
 use Rattle.c_syntax.specs.View.{declarator_at, declarator_of}
 use Rattle.c_syntax.specs.Writes.{params_of, declarator_behind}
 use Rattle.c_tree.specs.declared.tree.CType.{CType as TypeTree}
-use Rattle.c_tree.specs.View.{ctype_of, types_of}
-use Rattle.c_check_scopes.proofs.NumberLemmas.{not_so}
+use Rattle.c_tree.specs.View.{types_of}
 use Rattle.dm_base.specs.declared.mode.Mode.{Mode}
 use Rattle.c_check_values.proofs.SameLemmas.{false_not_true}
 

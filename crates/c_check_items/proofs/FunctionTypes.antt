@@ -4,7 +4,7 @@ use Rattle.std.specs.Prelude.{Box}
 use Rattle.c_tree.proofs.Rows.{function_is}
 use Rattle.c_tree.specs.declared.tree.CType.{CType as TypeTree}
 use Rattle.c_tree.specs.declared.tree.CType.TheVariants.{Function as FunctionVariant}
-use Rattle.c_tree.specs.Tree.{CType, CTypes, function, more_types, no_types}
+use Rattle.c_tree.specs.Tree.{function, more_types}
 use Rattle.c_tree.specs.View.{ctype_of, ctypes_of, types_of}
 use Rattle.c_tree.proofs.CopyLemmas.{packed}
 

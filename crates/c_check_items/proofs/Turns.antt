@@ -1,5 +1,5 @@
 -- Parts that are checked in turn, where what they give is put behind what was given before.
-use Rattle.std.proofs.Common.{◌≡◌, Bool, true, false, List, [], ◌∷◌, ◌++◌, refl, ap, sym, subst, ◌∙◌}
+use Rattle.std.proofs.Common.{◌≡◌, List, [], ◌∷◌, ◌++◌, refl, ap, sym, subst, ◌∙◌}
 use Rattle.c_check_values.specs.declared.error.CheckError.{CheckError}
 use Rattle.c_check_values.specs.Agreement.{Names}
 use Rattle.c_check_values.proofs.Parts.{names_on, names_first}

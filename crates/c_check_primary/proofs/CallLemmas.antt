@@ -5,7 +5,7 @@ use Rattle.std.proofs.lemmas.List.{length-append, length-map, drop_all}
 use Rattle.c_tree.specs.declared.tree.CType.{CType as TypeTree}
 use Rattle.c_tree.specs.declared.tree.CType.TheVariants.{Function}
 use Rattle.c_tree.specs.declared.tree.TExpr.{TExpr}
-use Rattle.c_tree.specs.Tree.{CType, call_through, pointer, CTypes, no_types, more_types, Expr, Exprs, no_exprs, more_exprs}
+use Rattle.c_tree.specs.Tree.{CType, call_through, pointer, CTypes, no_types, more_types, Expr, no_exprs, more_exprs}
 use Rattle.c_tree.specs.declared.tree.TExprKind.TheVariants.{Call, CallThrough}
 use Rattle.c_tree.specs.View.{ctype_of, types_of, expr_of, expr_with, exprs_of}
 use Rattle.c_tree.proofs.Rows.{call_is, call_through_is, function_is}
@@ -22,7 +22,6 @@ use Rattle.c_rules.specs.Conversions.{fits, assigned}
 use Rattle.c_rules.specs.Types.{count}
 use Rattle.c_rules.specs.PostfixExpressions.{call_of, all_fit, as_many_as, passed, direct, through, callee_of_type, callee_through}
 use Rattle.c_check_values.proofs.PushLemmas.{push}
-use Rattle.c_tree.proofs.CopyLemmas.{packed, packed_types}
 pub use Rattle.c_tree.proofs.CopyLemmas.{same_types}
 
 -- ## Arguments

@@ -1,6 +1,6 @@
 -- Structs that hold others with definitions alone: what is computed of them stays the same at greater depths, and when another
 -- struct gets its definition.
-use Rattle.std.proofs.Common.{◌≡◌, ℕ, zero, suc, ◌+◌, ◌-◌, ◌≤◌, ◌<◌, List, [], ◌∷◌, length, Option, Some, None, slice_get, set, refl, ap, sym, subst, ◌∙◌, arith}
+use Rattle.std.proofs.Common.{◌≡◌, ℕ, zero, suc, ◌+◌, ◌-◌, ◌≤◌, List, [], ◌∷◌, length, Option, Some, None, slice_get, set, refl, ap, sym, subst, ◌∙◌, arith}
 use Rattle.c_tree.specs.Tree.{CType, void, integer, pointer, array, struct, function}
 use Rattle.c_tree.specs.Layout.{Structs, members_of, or_none}
 use Rattle.c_check_scopes.specs.Held.{AllIn, AllInAll}

@@ -9,7 +9,7 @@ use Rattle.c_tree.specs.View.{ctype_of, types_of}
 use Rattle.c_tree.proofs.Rows.{function_is}
 use Rattle.c_check_values.specs.declared.error.CheckError.{CheckError}
 use Rattle.c_check_values.specs.Agreement.{AgreesWith}
-use Rattle.c_rules.specs.Checked.{Checked, fault, faults, demand, on, met}
+use Rattle.c_rules.specs.Checked.{faults, demand, on, met}
 use Rattle.c_rules.specs.Types.{is_result, count}
 use Rattle.c_rules.specs.Declarators.{within_parts, function_of}
 use Rattle.c_check_values.proofs.FaultLemmas.{faulted}

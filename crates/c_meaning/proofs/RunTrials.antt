@@ -5,8 +5,6 @@ use Rattle.dm_base.specs.declared.event.Event.TheVariants.{Sys}
 use Rattle.dm_base.specs.declared.outcome.Outcome.TheVariants as outcomes
 use Rattle.sys_table.specs.declared.sys_result.SysResult.{SysResult}
 use Rattle.sys_table.specs.Table.{table}
-use Rattle.c_tree.specs.Tree.{Program}
-use Rattle.c_tree.proofs.TypedTrials.{of_f_and_main, f_of_b, main_of_b}
 use Rattle.c_meaning.specs.Runs.{Run, run}
 pub use Rattle.c_tree.proofs.TypedTrials.{source_b}
 

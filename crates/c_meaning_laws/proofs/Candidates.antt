@@ -7,7 +7,6 @@ use Rattle.std.proofs.lemmas.Bool.Decides.{nat_tests}
 use Rattle.std.proofs.lemmas.Option.{slice_get_within}
 use Rattle.c_tree.specs.declared.value.Value.TheVariants.{Func}
 use Rattle.c_tree.specs.Tree.{CType, pointer, Function, Program}
-use Rattle.c_tree.specs.Tree.{call}
 use Rattle.c_tree.specs.Functions.{sys_types, defined, type_of_defined, value_types, value_type}
 use Rattle.c_tree.specs.Kinds.{Objects}
 use Rattle.c_shapes.specs.Mentions.{Callee, Direct, Through, Mention, Named, Calls, mentions_of_program}

@@ -17,7 +17,7 @@ use Rattle.c_meaning.specs.Results.{State, Result, Go, Stop, then_do, spend_at, 
 use Rattle.c_meaning.specs.Runs.{entered, enter, loop, world, run_body}
 use Rattle.c_meaning.specs.SystemCalls.{Request, system_call, request, exit_call}
 use Rattle.c_meaning_laws.specs.Turns.{TurnsAreEnough}
-use Rattle.c_meaning_laws.proofs.Agreeing.{Same, same_more, after_agree, then_agree, answered_agree, remembered_agree, either_agree, if_agree, tested_agree, spend_agree, exit_agree, round_agree, null_agree, without_agree, result_agree, take_agree, ended_agree}
+use Rattle.c_meaning_laws.proofs.Agreeing.{Same, same_more, after_agree, then_agree, answered_agree, remembered_agree, either_agree, if_agree, tested_agree, spend_agree, exit_agree, round_agree, null_agree, result_agree, take_agree, ended_agree}
 
 module _ (p : Program) (marks : Marks) (left : ℕ) where
   abbrev Agree : {A : Type 0} → Result A → Result A → Type 0

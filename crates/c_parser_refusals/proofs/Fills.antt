@@ -1,10 +1,7 @@
 -- Tokens with which phrases can go on.
-use Rattle.std.proofs.Common.{◌≡◌, ◌⊎◌, ◌<◌, zero, suc, List, ◌∷◌, refl, inl, inr, arith, ℕ, []}
-use Rattle.std.proofs.lemmas.List.Elements.{All-cons, All-nil}
-use Rattle.dm_base.specs.Name.{IsName, IsLetter, IsDigit}
+use Rattle.std.proofs.Common.{◌<◌, zero, suc, List, ◌∷◌, refl, arith, ℕ, []}
 use Rattle.c_lexer.specs.declared.token.Token.{Token}
 use Rattle.c_lexer.specs.declared.token.TokenKind.TheVariants.{Name, Keyword, Punct}
-use Rattle.c_lexer.proofs.WordTables.{c99_is_fixed}
 use Rattle.c_syntax.specs.Tree.{a_name}
 use Rattle.c_syntax.specs.Grammar.{binary_level, conditional_level, assignment_level, Reads, is_name, with_suffixes, no_suffix, no_prefix, no_cast, no_chain, a_chain, no_operator, no_choice, no_assignment}
 pub use Rattle.c_syntax.proofs.LetterNames.{s_is_name}

@@ -1,7 +1,7 @@
 -- The sites in statements are the numbers from that of the calls before them on; and the limits on calls and strings hold.
 use Rattle.std.proofs.Common.{◌≡◌, ℕ, zero, suc, ◌+◌, Bool, true, false, if◌then◌else◌, List, [], ◌∷◌, ◌++◌, append_assoc, Option, Some, None, refl, ap, ap₂, sym, subst, ◌∙◌}
 use Rattle.c_tree.specs.declared.value.IntType.{IntType}
-use Rattle.c_tree.specs.Tree.{CType, void, integer, pointer, array, struct, function}
+use Rattle.c_tree.specs.Tree.{CType}
 use Rattle.c_tree.specs.Tree as typed
 use Rattle.c_tree.specs.Sites.{sites_of, sites_of_maybe, sites_of_inits, sites_of_stmt, sites_of_stmts, sites_of_groups}
 use Rattle.c_tree.specs.Operands.{promoted}

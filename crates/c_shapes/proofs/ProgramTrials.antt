@@ -2,11 +2,11 @@
 use Rattle.std.proofs.Common.{◌≡◌, pos, true, false, [], ◌∷◌, None, codes, refl}
 use Rattle.sys_table.specs.Table.{table}
 use Rattle.c_tree.specs.declared.value.Value.TheVariants as v
-use Rattle.c_tree.specs.Tree.{CType, pointer, array, Program}
+use Rattle.c_tree.specs.Tree.{pointer, array, Program}
 use Rattle.c_tree.specs.Tree.{Expr, constant, function_name, variable, dereference, load, address_of, decay, pointer_add, call, call_through, no_exprs, more_exprs}
-use Rattle.c_tree.specs.Tree.{Stmt, block, empty, evaluate, if_else, return_value, no_stmts, more_stmts}
+use Rattle.c_tree.specs.Tree.{block, empty, evaluate, if_else, return_value, no_stmts, more_stmts}
 use Rattle.c_tree.specs.Functions.{int, char_pointer, of_none, of_one, sys_types}
-use Rattle.c_tree.proofs.TypedTrials.{f_of_b, main_of_b, f_of_d, main_of_d, g_of_d, of_f_and_main, function_with, main_with, zero_of_int, two}
+use Rattle.c_tree.proofs.TypedTrials.{f_of_b, of_f_and_main, function_with, main_with, zero_of_int, two}
 use Rattle.c_shapes.specs.Shape.{Skip, Sys, Call, Seq, Alt, Return, End, Part}
 use Rattle.c_shapes.specs.CallGraph.{is_taken, candidates, reaches, marked}
 use Rattle.c_shapes.specs.ShapeOf.{shapes_of_functions, names_of_functions, candidate_places}

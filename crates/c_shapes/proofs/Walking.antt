@@ -3,9 +3,9 @@ use Rattle.std.proofs.Common.{◌≡◌, ℕ, ℤ, Bool, List, [], ◌∷◌, Op
 use Rattle.dm_base.specs.declared.event.Event.{Event}
 use Rattle.dm_base.specs.Fits.{Fits}
 use Rattle.c_shapes.specs.Shape.{Shape, Seq, Alt, Loop, Do, Cases, Parts, End, Part, Shapes, shape_of, Leave, goes_on, breaks, continues, returns, IsDone, IsNext, IsAway}
-use Rattle.c_shapes.specs.Words.{Marks, no_brackets, Whole, Rounds, Again, Falls, Picks, Front, FrontFalls, FrontPicks}
+use Rattle.c_shapes.specs.Words.{no_brackets, Whole, Rounds, Again, Falls, Picks, Front, FrontFalls, FrontPicks}
 use Rattle.c_shapes.specs.Words as F
-use Rattle.c_shapes.specs.Walks.{Point, PartPoint, before, after, left, right, test, inner, step, do_inner, do_test, parts, case, this, later, Target, at, by_break, by_continue, by_return, past, stopped, apply, plain, of_body, of_do, of_seq, of_cases, Starts, starts_this, starts_later, Label, Silent, System, Site, Hop, PartHop, Walks}
+use Rattle.c_shapes.specs.Walks.{Point, PartPoint, before, after, left, right, test, inner, step, do_inner, do_test, parts, case, this, later, Target, at, by_break, by_continue, by_return, past, stopped, apply, plain, of_body, of_do, of_seq, of_cases, Starts, starts_this, starts_later, Label, Silent, System, Hop, PartHop, Walks}
 use Rattle.c_shapes.specs.Walks as W
 
 -- where an exit leads

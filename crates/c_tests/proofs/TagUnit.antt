@@ -1,10 +1,7 @@
 -- The unit of the text `struct s;`, with its places.
-use Rattle.std.proofs.Common.{◌≡◌, ◌⊎◌, ℕ, List, [], ◌∷◌, ◌++◌, refl, ap, sym, ◌∙◌, subst, inl, inr, arith, lit<}
-use Rattle.std.proofs.lemmas.List.Elements.{All-cons, All-nil}
-use Rattle.dm_base.specs.Name.{IsName, IsLetter, IsDigit}
+use Rattle.std.proofs.Common.{◌≡◌, ℕ, List, [], ◌∷◌, ◌++◌, refl, ap, sym, ◌∙◌, subst, arith, lit<}
 use Rattle.c_lexer.specs.declared.token.Token.{Token}
 use Rattle.c_lexer.specs.declared.token.TokenKind.TheVariants.{Name, Keyword, Punct}
-use Rattle.c_lexer.proofs.WordTables.{c99_is_fixed}
 use Rattle.c_syntax.specs.declared.tree.Item.{Item as ItemTree}
 use Rattle.c_syntax.specs.declared.tree.ItemKind.TheVariants as o
 use Rattle.c_syntax.specs.UnitView.{items_of}

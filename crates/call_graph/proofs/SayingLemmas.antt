@@ -13,16 +13,13 @@ use Rattle.std.specs.Prelude.{Box}
 use Rattle.c_tree.specs.declared.tree.TExpr.{TExpr}
 use Rattle.c_tree.specs.declared.tree.TExprKind.TheVariants.{Comma, Call, CallThrough}
 use Rattle.c_tree.specs.declared.tree.TStmt.TheVariants.{Block, If, For, Switch}
-use Rattle.c_tree.specs.declared.tree.TExprKind.{TExprKind, Const, StringPlace, Variable, Deref', Load', AddressOf', Decay', Discard', Field', Unary', Convert', Arith', Compare', PointerAdd', PointerDiff', And', Or', Assign', Update', Cond', Comma', Call', CallThrough'}
-use Rattle.c_tree.specs.declared.tree.TExprKind.{Function as FunctionNamed}
-use Rattle.c_tree.specs.Tree.{CType, type_of}
 use Rattle.c_tree.specs.declared.tree.TInit.{TInit}
 use Rattle.c_tree.specs.declared.tree.TStmt.{TStmt}
 use Rattle.c_tree.specs.declared.tree.TGroup.{TGroup}
 use Rattle.c_tree.specs.View.{ctype_of, expr_with, expr_of, exprs_of, maybe_of, inits_of, stmt_of, stmts_of, groups_of, function_of, static_of}
 use Rattle.c_tree.proofs.Rows.{comma_is, call_is, call_through_is, block_is, for_is, switch_is}
 use Rattle.c_shapes.specs.Mentions.{Mention, Calls, Direct, Through, mentions, mentions_of_all, mentions_of_maybe, mentions_of_inits, mentions_of_stmt, mentions_of_stmts, mentions_of_groups}
-use Rattle.c_tree.proofs.CalledTypes.{type_with, type_is}
+use Rattle.c_tree.proofs.CalledTypes.{type_is}
 pub use Rattle.dm_base.proofs.ListLemmas.{two_parts}
 
 pub all_flat : (es : List TExpr) → mentions_of_all (exprs_of es) ≡ flat_map (λ e. mentions (expr_of e)) es

@@ -1,17 +1,13 @@
 -- The nodes of a valid model are below its number of nodes.
-use Rattle.std.proofs.Common.{◌≡◌, ℕ, ◌+◌, ◌<◌, ◌≤◌, List, length, get_or, Contains, Option, Some, None, unwrap_or, refl, subst, arith}
-use Rattle.std.specs.Prelude.{slice_get, option_map}
-use Rattle.std.proofs.lemmas.Option.{slice_get_within, get_or_from_slice_get}
+use Rattle.std.proofs.Common.{ℕ, ◌<◌, length, get_or, Contains, arith}
 use Rattle.std.proofs.lemmas.List.Elements.{All-contains}
-use Rattle.flow_model.specs.declared.records.ModelFunction.{ModelFunction}
 use Rattle.flow_model.specs.declared.records.SilentEdge.{SilentEdge}
 use Rattle.flow_model.specs.declared.records.SysEdge.{SysEdge}
 use Rattle.flow_model.specs.Call.{Call}
-use Rattle.flow_model.specs.Graph.{Graph, Owns, HaveOneOwner}
+use Rattle.flow_model.specs.Graph.{Graph, HaveOneOwner}
 use Rattle.flow_model.specs.Language.{Quiet}
 use Rattle.flow_model.specs.Language.Quiet.{silent, enter, leave}
-use Rattle.flow_model.specs.Rules.{IsValid, HasRightEntries}
-use Rattle.flow_model.proofs.NodeBounds.{end_within}
+use Rattle.flow_model.specs.Rules.{IsValid}
 pub use Rattle.flow_model.proofs.NodeBounds.{entry_below, owned_below}
 
 module _ (g : Graph) (valid : IsValid g) where

@@ -1,10 +1,9 @@
 -- The edges that leave a node, and the nodes to which they lead.
-use Rattle.std.proofs.Common.{◌≡◌, ℕ, ◌<◌, ◌⊎◌, Bool, true, false, ◌||◌, nat_eq, List, [], ◌∷◌, length, get_or, filter, map, Contains, Some, refl, sym, ap, ◌∙◌, subst, inl, inr, arith}
-use Prim.Native.Nat.{zero, suc}
+use Rattle.std.proofs.Common.{◌≡◌, ℕ, ◌<◌, ◌⊎◌, Bool, true, false, nat_eq, List, [], ◌∷◌, length, get_or, filter, Contains, Some, refl, sym, ap, ◌∙◌, subst, inl, inr, arith}
+use Prim.Native.Nat.{suc}
 use Rattle.std.specs.Prelude.{slice_get}
 use Rattle.std.specs.List.{list_any}
 use Rattle.std.proofs.lemmas.Bool.{eqb-true, eq-eqb, or_cases, false≢true}
-use Rattle.std.proofs.lemmas.List.{get_or-map}
 use Rattle.std.proofs.lemmas.Option.{same_Some, slice_get-get_or}
 use Rattle.dm_base.specs.declared.event.Event.{Event}
 use Rattle.dm_base.specs.Fits.{Fits}
@@ -19,7 +18,7 @@ use Rattle.flow_model.specs.Growth.{HasOne}
 use Rattle.callgraph_monitor.specs.Ahead.{IsAhead, BeginsAt, Enters, EntersFrom, ReturnsTo, LeavesTo, calls_of}
 use Rattle.callgraph_monitor.specs.Visits.{calls_from}
 use Rattle.flow_model.proofs.Items.{filter-contains, filter-pass, contains-filter}
-use Rattle.flow_model.proofs.EdgeLemmas.{or_true, any_of_contains}
+use Rattle.flow_model.proofs.EdgeLemmas.{any_of_contains}
 pub use Rattle.flow_model.proofs.EdgeLemmas.{site_at}
 
 -- The silent edges that leave a node.

@@ -1,7 +1,6 @@
 -- How the text of a certificate is read line by line.
-use Rattle.std.proofs.Common.{◌≡◌, ◌≢◌, ℕ, zero, suc, ◌+◌, ◌≤◌, List, [], ◌∷◌, ◌++◌, length, Err, refl, sym, ◌∙◌, ap, subst, inl, inr, append_assoc, Contains, All, arith}
+use Rattle.std.proofs.Common.{◌≡◌, ◌≢◌, ℕ, suc, ◌+◌, ◌≤◌, List, [], ◌∷◌, ◌++◌, length, Err, refl, sym, ◌∙◌, ap, subst, append_assoc, Contains, All, arith}
 use Rattle.std.specs.Prelude.{codes}
-use Rattle.std.proofs.lemmas.Bool.{cases_eq}
 use Rattle.std.proofs.lemmas.List.{append_cancel_left, append-nil, flat_map_more}
 use Rattle.std.proofs.lemmas.List.Elements.{Contains-append_right, All-nil, All-cons, All-head, All-tail}
 use Rattle.dm_base.specs.declared.verdict.Verdict.{Verdict}
@@ -10,7 +9,6 @@ use Rattle.line_text.specs.declared.miss.Miss.{Miss}
 use Rattle.line_text.specs.declared.miss.Miss.TheVariants.{OutOfMemory as NoMemory, Short, Wrong}
 use Rattle.line_text.specs.Files.{through, IsFirstLine, IsBadLine}
 use Rattle.line_text.specs.Files.IsFirstLine.{ended, unended}
-use Rattle.line_text.specs.OneLine.{IsLine}
 use Rattle.line_text.specs.Reading.{StandsFirst, Reads}
 use Rattle.line_text.proofs.FilesLemmas.{through_front, first_line_whole, HasRead, nothing_read, one_more, bad_line, proper_prefix, GoesOn, wrong_line, short_line, after_line, before_line}
 use Rattle.certify_facts.specs.declared.fact.FactLine.{FactLine}

@@ -1,17 +1,17 @@
 -- The first line of a certificate, and what a whole text is refused for.
-use Rattle.std.proofs.Common.{◌≡◌, ◌≢◌, ℕ, zero, suc, ◌<◌, ◌≤◌, ◌^◌, Bool, true, false, not, nat_eq, List, [], ◌∷◌, ◌++◌, length, Result, Ok, Err, decimal, refl, sym, ◌∙◌, ap, subst, inl, inr, append_assoc, Contains, arith}
-use Rattle.std.specs.Prelude.{IfErr, IfOk, MatchResult, ◌↔◌, if◌then◌else◌, codes}
+use Rattle.std.proofs.Common.{◌≡◌, ℕ, ◌<◌, ◌≤◌, ◌^◌, true, not, nat_eq, List, [], ◌∷◌, ◌++◌, length, Result, Ok, Err, decimal, refl, sym, ◌∙◌, ap, subst, inl, inr, append_assoc, Contains, arith}
+use Rattle.std.specs.Prelude.{IfErr, IfOk, MatchResult, ◌↔◌, codes}
 use Rattle.std.proofs.lemmas.Bool.{both_ways, not-true, not-false, eq-eqb, eqb-true, true_from_ne_false}
 use Rattle.std.proofs.lemmas.Fmt.{decimal_digit, decimal_injective}
 use Rattle.std.proofs.lemmas.List.{append_cancel_left, append_cancel_right, append-nil}
 use Rattle.std.proofs.lemmas.List.Elements.{Contains-append_right}
 use Rattle.line_text.specs.declared.miss.Miss.{Miss}
 use Rattle.line_text.specs.declared.miss.Miss.TheVariants.{OutOfMemory as NoMemory, Short, Wrong}
-use Rattle.line_text.specs.Files.{through, IsFirstLine, IsProperPrefix, IsBadLine, IsVersionLine}
+use Rattle.line_text.specs.Files.{IsFirstLine, IsProperPrefix, IsBadLine, IsVersionLine}
 use Rattle.line_text.specs.Files.IsFirstLine.{ended}
 use Rattle.line_text.specs.OneLine.{IsLine}
 use Rattle.line_text.specs.Reading.{Reads}
-use Rattle.line_text.proofs.FilesLemmas.{through_first, first_line_whole, nothing_read, bad_line, ends_line}
+use Rattle.line_text.proofs.FilesLemmas.{first_line_whole, nothing_read, bad_line, ends_line}
 use Rattle.line_text.proofs.Splits.{prefixes_agree}
 use Rattle.line_text.proofs.VersionLemmas.{decimal-no_feed}
 use Rattle.certify_facts.specs.Told.{Told}

@@ -7,10 +7,10 @@ use Rattle.std.proofs.lemmas.List.Elements.{Contains-append_cases, Contains-appe
 use Rattle.line_text.specs.declared.miss.Miss.{Miss}
 use Rattle.line_text.specs.declared.miss.Miss.TheVariants.{OutOfMemory, Short, Wrong}
 use Rattle.line_text.specs.OneLine.{IsLine}
-use Rattle.line_text.specs.Reading.{Agree, StandsFirst, IsCutShort, Reads}
+use Rattle.line_text.specs.Reading.{Agree, StandsFirst, Reads}
 use Rattle.line_text.specs.Words.{is_in_line}
 use Rattle.line_text.proofs.FilesLemmas.{ends_line}
-use Rattle.line_text.proofs.Splits.{IsSplit, IsCase, err_next, ok_both, err_case, ok_case, nothing_left, agree_head, agree_front, agree_next, prefixes_agree}
+use Rattle.line_text.proofs.Splits.{IsSplit, IsCase, err_next, ok_both, agree_head, agree_front, agree_next, prefixes_agree}
 use Rattle.certify_file.specs.Lines.{has_no_feed}
 use Rattle.line_text.proofs.Cases.{agree_back}
 pub use Rattle.line_text.proofs.Cases.{first_agrees, cut_at_start, read_case, IsPrefixFree, one_free}

@@ -1,8 +1,8 @@
 -- How many processes the records of a group make known.
-use Rattle.std.proofs.Common.{◌≡◌, ◌≢◌, ℕ, zero, suc, ◌<◌, ◌≤◌, Bool, true, false, ◌||◌, nat_eq, List, [], ◌∷◌, ◌++◌, length, refl, sym, ◌∙◌, ap, subst, inl, inr, append_assoc, Contains, All, arith}
+use Rattle.std.proofs.Common.{◌≡◌, ◌≢◌, ℕ, zero, suc, ◌≤◌, Bool, true, false, ◌||◌, nat_eq, List, [], ◌∷◌, ◌++◌, length, refl, sym, ap, subst, inl, inr, append_assoc, Contains, All, arith}
 use Rattle.std.specs.Prelude.{flat_map, if◌then◌else◌}
 use Rattle.std.specs.List.{list_any}
-use Rattle.std.proofs.lemmas.Bool.{eqb-true, eq-eqb, false≢true, true≢false}
+use Rattle.std.proofs.lemmas.Bool.{eq-eqb, false≢true, true≢false}
 use Rattle.std.proofs.lemmas.List.{append-nil}
 use Rattle.std.proofs.lemmas.List.Elements.{All-nil, All-cons, All-head, All-tail, All-push, Contains-push_cases}
 use Rattle.indexmap.specs.IndexSet.{insert_key}
@@ -13,7 +13,7 @@ use Rattle.trace_file.specs.Processes.{AreKnown}
 use Rattle.std.specs.FinSet.{len-empty}
 use Rattle.std.specs.Ordering.{nat_cmp}
 use Rattle.trace_file.proofs.ProcessesLemmas.{known_push, known_length}
-use Rattle.dm_base.proofs.Without.{without, without_le, without_less, in_without}
+use Rattle.dm_base.proofs.Without.{without, without_less, in_without}
 
 -- numbers that differ
 

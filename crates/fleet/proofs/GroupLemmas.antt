@@ -7,20 +7,15 @@ use Rattle.std.proofs.lemmas.List.{get_or_default, map-append}
 use Rattle.std.proofs.lemmas.List.Elements.{All-nil, All-head, All-tail, All-weaker, Contains-append_left}
 use Rattle.std.proofs.lemmas.List.Quantifiers.{all_pairs_push}
 use Rattle.std.proofs.lemmas.Option.{get_or_from_slice_get, slice_get_within}
-use Rattle.dm_base.specs.Trace.{depth}
 use Rattle.sys_table.specs.declared.sys_result.SysResult.{SysResult}
 use Rattle.c_tree.specs.Tree.{Program}
 use Rattle.c_meaning.specs.Runs.{run}
 use Rattle.c_meaning_laws.specs.Laws.{IsTypedRun}
 use Rattle.flow_model.specs.declared.monitor.Monitor as monitor
 use Rattle.flow_model.specs.declared.which.Which.{Which}
-use Rattle.flow_model.specs.declared.which.Which.TheVariants.{Callgraph, Stack, Dyck}
-use Rattle.flow_model.specs.Graph.{Graph, HasFunction}
-use Rattle.flow_model.specs.Language.Walk.{over as walk_over}
-use Rattle.flow_model.specs.Language.StackRun.{over as stack_over}
-use Rattle.flow_model.specs.Language.DyckRun.{over as dyck_over}
+use Rattle.flow_model.specs.Graph.{Graph}
 use Rattle.flow_model.specs.Rules.{IsValid}
-use Rattle.flow_model.specs.Verdict.{IsAccepted, IsKept}
+use Rattle.flow_model.specs.Verdict.{IsAccepted}
 use Rattle.flow_model.proofs.Histories.{accepted_nothing}
 use Rattle.ref_machine.specs.Futures.{future}
 use Rattle.trace_file.specs.declared.record.Record.{Record}

@@ -1,20 +1,15 @@
 -- A list that is sorted, and of which each item is left once, is the list of its items in order.
-use Rattle.std.proofs.Common.{◌≡◌, ◌↔◌, inl, inr, suc, Bool, true, List, [], ◌∷◌, Contains, refl, sym, ◌∙◌, ap₂, subst, arith}
-use Rattle.std.specs.Cmp.{IsTotalOrder, IsEquivalence}
-use Rattle.std.specs.Ordering.{eq_by_cmp, is_eq}
+use Rattle.std.proofs.Common.{◌≡◌, ◌↔◌, inl, inr, suc, List, [], ◌∷◌, Contains, refl, sym, ◌∙◌, ap₂, subst, arith}
+use Rattle.std.specs.Cmp.{IsTotalOrder}
 use Rattle.std.specs.declared.cmp.Ordering.{Ordering}
-use Rattle.std.specs.declared.cmp.Ordering.TheVariants.{Less, Equal, Greater}
-use Rattle.std.specs.List.{dedup}
+use Rattle.std.specs.declared.cmp.Ordering.TheVariants.{Less, Equal}
 use Rattle.std.specs.List.Sorted.{IsStrictlySortedBy}
-use Rattle.std.proofs.lemmas.Cmp.{eq_by_cmp_equiv}
 use Rattle.std.proofs.lemmas.List.Elements.{All-from_recursion}
-use Rattle.std.proofs.lemmas.List.Kept.{Any-dedup}
 use Rattle.flow_model.specs.Order.{StrictlyRise}
 use Rattle.flow_graph_laws.specs.Sorted.{sorted}
 use Rattle.flow_graph_laws.proofs.SortedLemmas.{sorted_from, sorted_has}
 use Rattle.flow_graph_laws.proofs.Rising.{pairs_cons, pairs_nil, pairs_head, pairs_tail, of_all, sorted_rises}
 use Rattle.c_shapes.proofs.Members.{cases}
-use Rattle.flow_model.proofs.EquivalenceLemmas.{equivalence, equal_from}
 pub use Rattle.flow_model.proofs.EquivalenceLemmas.{tied}
 
 -- a strictly sorted list rises

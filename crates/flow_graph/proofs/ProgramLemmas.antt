@@ -1,5 +1,5 @@
 -- The marks of sites, and the functions of a program one after another.
-use Rattle.std.proofs.Common.{◌≡◌, ◌⊎◌, inl, inr, ℕ, zero, suc, ◌+◌, ◌<◌, ◌≤◌, Bool, true, false, if◌then◌else◌, List, [], ◌∷◌, ◌++◌, map, filter, length, take, get_or, replicate, Option, Some, None, slice_get, slice_index_or, ℤ, refl, sym, ap, ap₂, ◌∙◌, arith}
+use Rattle.std.proofs.Common.{◌≡◌, inl, inr, ℕ, zero, suc, ◌+◌, ◌<◌, ◌≤◌, Bool, true, false, if◌then◌else◌, List, [], ◌∷◌, ◌++◌, map, filter, length, take, get_or, replicate, Option, Some, None, slice_get, slice_index_or, ℤ, refl, sym, ap, ap₂, ◌∙◌, arith}
 use Rattle.std.specs.List.{range_with_len}
 use Rattle.std.proofs.lemmas.List.Elements.{filter-append}
 use Rattle.std.proofs.lemmas.List.{append_assoc, append-nil, take_more, take_all, map-append}
@@ -11,8 +11,8 @@ use Rattle.c_tree.specs.Functions.{defined}
 use Rattle.c_tree.specs.Program.{IsProgram}
 use Rattle.c_tree.specs.View.{stmt_of, function_of}
 use Rattle.c_shapes.specs.Shape.{Shape}
-use Rattle.c_shapes.specs.CallGraph.{is_taken, marked, marked_where}
-use Rattle.c_shapes.specs.ShapeOf.{any_call, shape_of_function, taken_calls, shapes_of_functions}
+use Rattle.c_shapes.specs.CallGraph.{marked, marked_where}
+use Rattle.c_shapes.specs.ShapeOf.{any_call, taken_calls, shapes_of_functions}
 use Rattle.call_graph.proofs.SitesLemmas.{no_site}
 use Rattle.flow_graph.specs.declared.shape.Shape.{Shape as Tree}
 use Rattle.flow_graph.specs.View.{shape_of, shapes_in}

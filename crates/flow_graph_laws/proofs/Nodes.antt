@@ -7,7 +7,7 @@ use Rattle.c_shapes.specs.Walks.{Point, PartPoint, before, after, left, right, t
 use Rattle.c_shapes.specs.Walks as W
 use Rattle.flow_graph_laws.specs.Layout.{edge, Places, ends, body, width, count, group, switch}
 use Rattle.flow_graph_laws.specs.Premises.{AreClosed}
-use Rattle.flow_graph_laws.proofs.Laid.{Graph, Laid, LaidParts, no_part, one_part, LaidFrom, First, Heads, Only, OrSilent, out, into, TwoSilent, to_a, to_b, leads, NodeWalk}
+use Rattle.flow_graph_laws.proofs.Laid.{Graph, Laid, LaidParts, one_part, LaidFrom, First, Heads, Only, OrSilent, out, into, TwoSilent, to_a, to_b, leads, NodeWalk}
 use Rattle.flow_graph_laws.proofs.Laid as G
 use Rattle.flow_graph_laws.proofs.Edges.{Lays, LaysParts}
 use Rattle.flow_graph_laws.proofs.Edges as L

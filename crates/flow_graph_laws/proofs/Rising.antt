@@ -1,11 +1,9 @@
 -- A sorted list strictly rises.
-use Rattle.std.proofs.Common.{◌≡◌, suc, List, [], ◌∷◌, Contains, AllPairs, All, slice_index_or, ◌⊎◌, inl, inr, ap, ◌∙◌, subst, refl, arith}
+use Rattle.std.proofs.Common.{◌≡◌, List, [], ◌∷◌, Contains, AllPairs, ◌⊎◌, inl, inr, ap, ◌∙◌, subst, refl, arith}
 use Rattle.std.specs.Cmp.{IsTotalOrder}
 use Rattle.std.specs.Ordering.{ordering_reverse}
 use Rattle.std.specs.declared.cmp.Ordering.{Ordering}
 use Rattle.std.specs.declared.cmp.Ordering.TheVariants.{Less, Equal, Greater}
-use Rattle.std.proofs.lemmas.List.Elements.{Contains-get_or}
-use Rattle.std.proofs.lemmas.List.Kept.{AllPairs-cons}
 use Rattle.flow_graph_laws.specs.Sorted.{placed, insert, sorted}
 use Rattle.flow_graph_laws.proofs.SortedLemmas.{insert_from}
 use Rattle.c_shapes.proofs.Members.{cases}

@@ -1,17 +1,12 @@
 -- Lists that strictly rise, and lists that are sorted and of which each item is left once.
-use Rattle.std.proofs.Common.{◌≡◌, ◌⊎◌, inl, inr, zero, suc, Bool, true, List, [], ◌∷◌, Contains, AllPairs, All, slice_index_or, refl, sym, ◌∙◌, ap₂, subst, arith}
-use Rattle.std.specs.Cmp.{IsTotalOrder, IsEquivalence}
-use Rattle.std.specs.Ordering.{eq_by_cmp, is_eq}
+use Rattle.std.proofs.Common.{◌≡◌, ◌⊎◌, inl, inr, zero, suc, List, [], ◌∷◌, Contains, refl, sym, ◌∙◌, ap₂, subst, arith}
+use Rattle.std.specs.Cmp.{IsTotalOrder}
 use Rattle.std.specs.declared.cmp.Ordering.{Ordering}
-use Rattle.std.specs.declared.cmp.Ordering.TheVariants.{Less, Equal, Greater}
-use Rattle.std.specs.List.{dedup}
+use Rattle.std.specs.declared.cmp.Ordering.TheVariants.{Less}
 use Rattle.std.specs.List.Sorted.{IsStrictlySortedBy}
-use Rattle.std.proofs.lemmas.Cmp.{eq_by_cmp_equiv}
-use Rattle.std.proofs.lemmas.List.Elements.{All-from_recursion, Contains-get_or}
-use Rattle.std.proofs.lemmas.List.Kept.{Any-dedup, AllPairs-cons}
+use Rattle.std.proofs.lemmas.List.Elements.{All-from_recursion}
 use Rattle.flow_model.specs.Order.{StrictlyRise}
 pub use Rattle.dm_base.proofs.Orders.{is_first, is_later}
-use Rattle.flow_model.proofs.EquivalenceLemmas.{equivalence, equal_from}
 pub use Rattle.flow_model.proofs.EquivalenceLemmas.{tied}
 use Rattle.flow_model.proofs.PairsLemmas.{of_all}
 pub use Rattle.flow_model.proofs.PairsLemmas.{all_from, pairs_cons, pairs_head, pairs_tail, pairs_nil}

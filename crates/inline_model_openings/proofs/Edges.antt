@@ -1,21 +1,17 @@
 -- The edges that leave a node, and the nodes to which they lead.
-use Rattle.std.proofs.Common.{◌≡◌, ℕ, ℤ, ◌<◌, ◌⊎◌, Bool, true, false, IsTrue, ◌||◌, ◌↔◌, nat_eq, List, [], ◌∷◌, length, get_or, filter, map, Option, Contains, Some, refl, sym, ap, ◌∙◌, subst, inl, inr, arith}
-use Prim.Native.Nat.{zero, suc}
-use Rattle.std.specs.Prelude.{slice_get}
+use Rattle.std.proofs.Common.{◌≡◌, ℕ, Bool, true, false, nat_eq, List, [], ◌∷◌, filter, Contains, refl, subst, inl, inr, arith}
+use Prim.Native.Nat.{suc}
 use Rattle.std.specs.List.{list_any}
 use Rattle.std.proofs.lemmas.Bool.{eqb-true, eq-eqb, or_cases, false≢true}
-use Rattle.std.proofs.lemmas.List.{get_or-map}
-use Rattle.std.proofs.lemmas.Option.{same_Some, slice_get-get_or}
 use Rattle.dm_sets.specs.Nodes.{Nodes, Has}
-use Rattle.flow_model.specs.declared.records.ModelFunction.{ModelFunction}
 use Rattle.flow_model.specs.declared.records.SilentEdge.{SilentEdge}
 use Rattle.flow_model.specs.declared.records.SysEdge.{SysEdge}
 use Rattle.flow_model.specs.Call.{Call}
 use Rattle.flow_model.specs.Graph.{Graph, HasSilent}
 use Rattle.flow_model.specs.Growth.{HasOne}
-use Rattle.inline_model_openings.specs.Saturating.{HasExit, MayPass, CallsTo, PassesTo, ReturnsTo}
+use Rattle.inline_model_openings.specs.Saturating.{MayPass, CallsTo, PassesTo, ReturnsTo}
 use Rattle.flow_model.proofs.Items.{filter-contains, filter-pass, contains-filter}
-use Rattle.flow_model.proofs.EdgeLemmas.{or_true, any_of_contains}
+use Rattle.flow_model.proofs.EdgeLemmas.{any_of_contains}
 pub use Rattle.flow_model.proofs.EdgeLemmas.{site_at}
 
 -- the call edges that leave the node

@@ -1,5 +1,5 @@
 -- The turn of one node, and what stands at the end.
-use Rattle.std.proofs.Common.{◌≡◌, ℕ, ℤ, ◌+◌, ◌<◌, ◌≤◌, ◌⊎◌, ◌↔◌, Option, List, [], ◌∷◌, ◌++◌, length, take, drop, get_or, Contains, Some, None, refl, sym, ap, ◌∙◌, subst, inl, inr, arith}
+use Rattle.std.proofs.Common.{◌≡◌, ℕ, ◌+◌, ◌<◌, ◌≤◌, ◌⊎◌, ◌↔◌, List, [], ◌∷◌, ◌++◌, length, take, drop, get_or, Contains, Some, None, refl, sym, ap, ◌∙◌, subst, inl, inr, arith}
 use Rattle.std.specs.Prelude.{slice_get}
 use Rattle.std.specs.FinSet.{insert, empty}
 use Rattle.std.proofs.lemmas.Bool.{cases_lt}
@@ -9,14 +9,14 @@ use Rattle.std.proofs.lemmas.Option.{none-some, slice_get-get_or, slice_get_with
 use Rattle.dm_sets.specs.Nodes.{Nodes, Has}
 use Rattle.flow_model.specs.declared.records.ModelFunction.{ModelFunction}
 use Rattle.flow_model.specs.Found.{Found}
-use Rattle.flow_model.specs.Graph.{Graph, HasSilent, HasSys, HasCall, HasFunction}
+use Rattle.flow_model.specs.Graph.{Graph, HasSilent, HasCall, HasFunction}
 use Rattle.flow_model.specs.Rules.{IsValid}
 use Rattle.flow_model.proofs.FoundLemmas.{has_insert, has_inserted, has_still, has_none}
 use Rattle.inline_model_laws.specs.Within.{Within}
 use Rattle.inline_model_laws.specs.Within.Within.{begins as w_begins, silent as w_silent, sys as w_sys, passes as w_passes}
 use Rattle.inline_model_laws.proofs.Basics.{within_owns, one_owner, function_owns_exit}
 use Rattle.flow_model.specs.Growth.{Adds, HasOne}
-use Rattle.inline_model_openings.specs.Saturating.{IsWithin, HasExit, CallsTo, PassesTo, LeavesTo, LeadsTo, IsSaturating}
+use Rattle.inline_model_openings.specs.Saturating.{IsWithin, CallsTo, PassesTo, LeavesTo, LeadsTo, IsSaturating}
 use Rattle.inline_model_openings.specs.Saturating.LeadsTo.{silent as l_silent, sys as l_sys, passes as l_passes, leaves as l_leaves}
 use Rattle.flow_model.proofs.Grown.{adds-still, adds-cases}
 

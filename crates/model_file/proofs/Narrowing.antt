@@ -1,13 +1,11 @@
 -- How a line is read part by part: after each part, the values that are left are those with the parts that were read.
 use Rattle.std.proofs.Common.{◌≡◌, ◌≢◌, ℕ, List, [], ◌∷◌, ◌++◌, refl, sym, ◌∙◌, ap, subst, Contains, append_assoc, inl, inr, arith, rules}
-use Rattle.std.specs.Prelude.{◌⊎◌, Result, Ok, Err}
+use Rattle.std.specs.Prelude.{Result, Ok, Err}
 use Rattle.std.proofs.lemmas.List.{append-nil}
 use Rattle.std.proofs.lemmas.List.Elements.{Contains-append_cases}
 use Rattle.line_text.specs.declared.miss.Miss.{Miss}
 use Rattle.line_text.specs.declared.miss.Miss.TheVariants.{OutOfMemory, Short, Wrong}
-use Rattle.line_text.specs.OneLine.{IsLine}
-use Rattle.line_text.specs.Reading.{Agree, StandsFirst, IsCutShort, Reads}
-use Rattle.line_text.proofs.FilesLemmas.{ends_line}
+use Rattle.line_text.specs.Reading.{Agree, StandsFirst, Reads}
 use Rattle.line_text.proofs.Splits.{IsSplit, IsCase, err_first, err_next, ok_both, err_case, ok_case, agree_front, agree_next}
 pub use Rattle.line_text.proofs.Narrowing.{Leads, With, IsPart, IsWhole, leads_start, whole_line}
 

@@ -1,24 +1,24 @@
 -- Rules with two operands and more, where the operands have other trees.
-use Rattle.std.proofs.Common.{◌≡◌, ℕ, ◌+◌, ℤ, Bool, true, false, ◌&&◌, if◌then◌else◌, List, [], ◌∷◌, ◌++◌, length, nat_eq, refl, ap, ap₂, sym, subst, ◌∙◌, arith}
+use Rattle.std.proofs.Common.{◌≡◌, ℕ, ◌+◌, Bool, true, false, ◌&&◌, if◌then◌else◌, List, [], ◌∷◌, ◌++◌, length, nat_eq, refl, ap, ap₂, sym, subst, ◌∙◌, arith}
 use Rattle.std.specs.Prelude.{neg_ℤ}
 use Rattle.c_lexer.specs.declared.punctuator.TheConstants.{ASSIGN}
 use Rattle.c_tree.specs.declared.value.IntType.{IntType}
 use Rattle.c_tree.specs.declared.value.BinOp.{BinOp}
 use Rattle.c_tree.specs.declared.value.BinOp.TheVariants as op
-use Rattle.c_tree.specs.Tree.{CType, void, integer, pointer, array, struct, function, Expr, Program}
+use Rattle.c_tree.specs.Tree.{CType, void, integer, pointer, Expr, Program}
 use Rattle.c_tree.specs.Tree as typed
 use Rattle.c_tree.specs.Functions.{int}
 use Rattle.c_tree.specs.Operands.{promoted, common, OperatorKind, balanced, shift, ordering, equality}
 use Rattle.c_tree.specs.Operands.{kind_of as kind_of_operator}
 use Rattle.c_syntax.specs.Tree.{Infix, and, or, operator, Postfix, post_increment, post_decrement}
-use Rattle.c_rules.specs.Checked.{Checked, fine, faulty, demand, on, both, beside, all_three, gives, met}
+use Rattle.c_rules.specs.Checked.{Checked, fine, faulty, demand, on, both, all_three, gives, met}
 use Rattle.c_rules.specs.Types.{same_type, is_integer, is_scalar, is_void}
 use Rattle.c_rules.specs.Scopes.{Env}
 use Rattle.c_rules.specs.TypedExpression.{Constant, not_constant, TypedExpression, typed_value, tree_of, is_null, integer_constant_if, integer_constant}
 use Rattle.c_rules.specs.Constants.{constant_binary, constant_and, constant_or, constant_conditional, constant_moved}
 use Rattle.c_rules.specs.Conversions.{Kind, an_integer, a_pointer, neither, kind_of, complete, converted_to, null_of, fits_kind, fits, assigned}
-use Rattle.c_rules.specs.BinaryExpressions.{operator_of_code, calculated, shifted, compared_integers, compared_pointers, pointer_plus, plus_pointer, pointer_minus, difference, sum_of, sum, minus_of, balanced_of, shift_of, ordered_of, Alike, alike_integers, alike_pointers, unlike, pointers_alike, alike_of, alike, equality_of, arithmetic_of, operation_of, operation, both_scalars, conjunction, disjunction, chosen, arms_of, choice}
-use Rattle.c_rules.specs.Assignments.{assignment, operator_of_assignment, right_type, updated, moves, update_of, compound_assignment, assignment_by, one_for, step}
+use Rattle.c_rules.specs.BinaryExpressions.{operator_of_code, shifted, compared_integers, compared_pointers, pointer_plus, plus_pointer, pointer_minus, difference, sum_of, sum, minus_of, balanced_of, shift_of, ordered_of, Alike, alike_integers, alike_pointers, unlike, pointers_alike, alike_of, alike, equality_of, arithmetic_of, operation_of, both_scalars, chosen, arms_of, choice}
+use Rattle.c_rules.specs.Assignments.{assignment, operator_of_assignment, right_type, updated, moves, update_of, assignment_by, one_for, step}
 use Rattle.c_rules.specs.Expressions.{place_at, after_operand, infix_rule}
 use Rattle.null_calls_rules.specs.InstrumentedPrograms.{expr, kept}
 use Rattle.null_calls_rules.specs.WithoutSites.{unsited}

@@ -1,14 +1,13 @@
 -- Operands that have another tree: conversions keep that they are the same but for it.
-use Rattle.std.proofs.Common.{◌≡◌, ℕ, ◌+◌, ℤ, Bool, true, false, ◌&&◌, if◌then◌else◌, List, [], ◌∷◌, ◌++◌, length, refl, ap, ap₂, sym, subst, ◌∙◌, arith}
+use Rattle.std.proofs.Common.{◌≡◌, ℕ, Bool, true, false, if◌then◌else◌, List, [], refl, ap, sym, subst, ◌∙◌, arith}
 use Rattle.c_tree.specs.declared.value.IntType.{IntType}
-use Rattle.c_tree.specs.declared.value.Value.TheVariants.{Null}
 use Rattle.c_tree.specs.Tree.{CType, void, integer, pointer, array, struct, function, Expr, constant, load, decay, conversion, dereference, Program}
 use Rattle.c_tree.specs.Layout.{cells}
-use Rattle.c_rules.specs.Checked.{Checked, fine, faulty, fault, demand, on}
+use Rattle.c_rules.specs.Checked.{Checked, fine, faulty, demand, on}
 use Rattle.c_rules.specs.Scopes.{Env, layout_of}
-use Rattle.c_rules.specs.TypedExpression.{Form, a_value, a_place, behind, Constant, not_constant, undefined, known, TypedExpression, typed_value, tree_of_form, tree_of, is_known_zero, is_null, integer_constant_if, integer_constant}
+use Rattle.c_rules.specs.TypedExpression.{Form, a_value, a_place, behind, Constant, not_constant, undefined, known, TypedExpression, typed_value, tree_of_form, tree_of, is_known_zero, is_null}
 use Rattle.c_rules.specs.Constants.{constant_converted, constant_decayed}
-use Rattle.c_rules.specs.Conversions.{Kind, an_integer, a_pointer, neither, kind_of, few_parts, loaded, valued_as, valued, cast_to, has_integer, converted_to, null_of, fits, assigned_as, assigned, as_if_assigned}
+use Rattle.c_rules.specs.Conversions.{Kind, an_integer, a_pointer, neither, kind_of, few_parts, loaded, valued_as, valued, cast_to, has_integer, converted_to, null_of, assigned_as, assigned}
 use Rattle.null_calls_rules.specs.InstrumentedPrograms.{expr, kept}
 use Rattle.null_calls_rules.specs.WithoutSites.{unsited}
 use Rattle.c_rules_laws.specs.ConstantForm.{IsConst}

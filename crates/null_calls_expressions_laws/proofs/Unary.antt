@@ -1,30 +1,30 @@
 -- Rules with one operand, where the operand has another tree.
-use Rattle.std.proofs.Common.{◌≡◌, ℕ, map, Bool, true, false, ◌&&◌, ◌||◌, if◌then◌else◌, List, [], ◌∷◌, ◌++◌, length, Option, Some, None, nat_eq, refl, ap, sym, subst, ◌∙◌}
+use Rattle.std.proofs.Common.{◌≡◌, ℕ, map, Bool, true, false, ◌&&◌, ◌||◌, List, [], Option, Some, None, nat_eq, refl, ap, sym, subst}
 use Rattle.std.specs.Prelude.{not, slice_index_or}
 use Rattle.c_lexer.specs.declared.punctuator.TheConstants.{AMPERSAND, ASTERISK, PLUS, MINUS, TILDE}
 use Rattle.c_tree.specs.declared.value.IntType.{IntType}
 use Rattle.c_tree.specs.declared.value.UnOp.{UnOp}
 use Rattle.c_tree.specs.declared.value.UnOp.TheVariants.{Minus, Complement, Not}
-use Rattle.c_tree.specs.Tree.{CType, void, integer, pointer, array, struct, function, Expr, address_of, discard, field, unary_operation, Program}
+use Rattle.c_tree.specs.Tree.{CType, void, integer, pointer, array, struct, function, Expr, address_of, field, unary_operation, Program}
 use Rattle.c_tree.specs.Layout.{cells, first_cell}
 use Rattle.c_tree.specs.Functions.{int}
 use Rattle.c_tree.specs.Operands.{promoted}
 use Rattle.c_syntax.specs.Tree.{Access, dot, arrow}
-use Rattle.c_rules.specs.Checked.{Checked, fine, faulty, fault, demand, on, met}
+use Rattle.c_rules.specs.Checked.{Checked, fine, demand, on, met}
 use Rattle.c_rules.specs.Names.{Name, number_among}
 use Rattle.c_rules.specs.Types.{is_integer, is_function, is_scalar}
 use Rattle.c_rules.specs.Scopes.{Env, Struct, incomplete, unknown_struct, defined_struct, Member, type_of_member, struct_of, layout_of}
-use Rattle.c_rules.specs.TypedExpression.{Form, a_value, a_place, behind, Constant, not_constant, TypedExpression, typed_value, tree_of, is_value, is_place, is_null, integer_constant}
-use Rattle.c_rules.specs.Constants.{constant_unary, constant_member}
+use Rattle.c_rules.specs.TypedExpression.{Form, a_value, a_place, behind, TypedExpression, typed_value, tree_of, is_value, is_place, is_null, integer_constant}
+use Rattle.c_rules.specs.Constants.{constant_unary}
 use Rattle.c_rules.specs.Conversions.{Kind, an_integer, a_pointer, neither, kind_of, few_parts, valued, cast_to, converted_to, null_of}
-use Rattle.c_rules.specs.PostfixExpressions.{name_of_member, member_given, member_or_undeclared, member_of_struct, member_of_type, member_of}
-use Rattle.c_rules.specs.UnaryExpressions.{address_of_form, address_of_type, address, led_to, indirection, plus_of, operated, operator_of, negation, unary_of_value, cast_of, null_cast}
+use Rattle.c_rules.specs.PostfixExpressions.{name_of_member, member_or_undeclared, member_of_struct, member_of_type, member_of}
+use Rattle.c_rules.specs.UnaryExpressions.{address_of_form, address_of_type, address, led_to, indirection, plus_of, operator_of, negation, unary_of_value, cast_of, null_cast}
 use Rattle.c_rules.specs.Assignments.{assignable}
 use Rattle.c_rules.specs.Expressions.{value_at, place_at, access, unary_rule}
 use Rattle.null_calls_rules.specs.InstrumentedPrograms.{expr, kept}
 use Rattle.null_calls_rules.specs.WithoutSites.{unsited}
 use Rattle.c_rules_laws.specs.ConstantForm.{IsConst}
-use Rattle.null_calls_expressions_laws.specs.Remade.{inner_of, with_inner, remade, IsRemade, Follows, IsOperand}
+use Rattle.null_calls_expressions_laws.specs.Remade.{inner_of, with_inner, remade, IsRemade, Follows}
 use Rattle.null_calls_expressions_laws.proofs.Constants.{unary_const, integer_const, member_const}
 use Rattle.null_calls_expressions_laws.proofs.Operands.{operand, value_remade, same_remade, demand_follows, behind_follows, on_follows, if_follows, valued_follows, cast_operand, converted_operand, null_operand}
 

@@ -6,7 +6,7 @@ use Rattle.dm_base.specs.declared.mode.Mode.TheVariants.{Plain, Instrumented}
 use Rattle.sys_table.specs.Table.{table}
 use Rattle.c_tree.specs.Tree.{Program}
 use Rattle.c_tree.specs.Functions.{sys_types}
-use Rattle.c_syntax.specs.Tree.{an_int, Expr, call, more_exprs, no_exprs, a_name, block_decl, no_init, more_params, no_params, unsigned_int, void, nothing, Items}
+use Rattle.c_syntax.specs.Tree.{an_int, Expr, call, more_exprs, no_exprs, a_name, block_decl, no_init, unsigned_int, void, nothing, Items}
 use Rattle.c_syntax.specs.Tree as syntax
 use Rattle.c_rules.specs.Checked.{Checked, fine, faulty}
 use Rattle.c_rules.specs.Units.{checked}
@@ -16,7 +16,7 @@ use Rattle.null_calls_rules.specs.Instrumented.{instrumented_unit}
 use Rattle.null_calls_rules.specs.IsWithNullCalls.{IsWithNullCalls}
 use Rattle.alarm_laws.specs.MarkedRuns.{marked_run}
 use Rattle.null_calls_rules.proofs.TrialUnits.{two_calls, every_place, items_of, prototype, of_params, declared, param, getpid_declared, define, of_int, of_void, block_of, returns, name, f_that_asks, a_decl, plus, commas, becomes, call_of, int}
-use Rattle.c_rules.proofs.NoProgram.{no_program, program_or_none}
+use Rattle.c_rules.proofs.NoProgram.{program_or_none}
 
 abbrev is_fine : Checked Program → Bool
 is_fine (fine p) = true

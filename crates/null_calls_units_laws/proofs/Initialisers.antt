@@ -5,7 +5,7 @@ use Rattle.c_tree.specs.declared.value.IntType.TheVariants.{Char}
 use Rattle.c_tree.specs.Tree.{CType, void, integer, pointer, array, struct, function, Program}
 use Rattle.c_tree.specs.Layout.{Structs, flat, flat_all, repeat}
 use Rattle.c_shapes.specs.Mentions.{Mention}
-use Rattle.c_syntax.specs.Tree.{Expr, a_name, an_int, a_char, a_str, comma, sizeof_type, cast, call, member, postfix, prefix, unary, index, binary, assign, conditional, Init, one, list, MaybeInit, no_init, an_init}
+use Rattle.c_syntax.specs.Tree.{Expr, a_str, Init, one, list, MaybeInit, no_init, an_init}
 use Rattle.c_syntax.specs.Tree as syntax
 use Rattle.c_rules.specs.Checked.{Checked, fine, on}
 use Rattle.c_rules.specs.Names.{Name}

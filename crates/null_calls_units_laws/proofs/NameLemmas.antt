@@ -1,7 +1,7 @@
 -- Names of temporaries are read back, and may be declared.
 use Rattle.std.proofs.Common.{◌≡◌, ℕ, zero, suc, ◌+◌, ◌-◌, ◌*◌, ◌/◌, ◌%◌, ◌<◌, nat_lt, nat_le, nat_eq, if◌then◌else◌, Bool, true, false, ◌&&◌, ◌||◌, [], ◌∷◌, ◌++◌, sym, ap, ◌∙◌, refl, arith}
 use Rattle.std.proofs.lemmas.Bool.{false≢true}
-use Rattle.std.proofs.lemmas.Bool.Decides.{Decides-ltb, nat_tests}
+use Rattle.std.proofs.lemmas.Bool.Decides.{nat_tests}
 use Rattle.sys_table.specs.Table.{table}
 use Rattle.c_rules.specs.Names.{Name, is_digit, are_digits, is_number, is_rest_of_pair, is_pair}
 use Rattle.null_calls_rules.specs.Temporaries.{digits_within, digits_of}

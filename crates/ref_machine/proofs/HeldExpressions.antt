@@ -2,11 +2,10 @@
 use Rattle.std.proofs.Common.{◌≡◌, ℕ, zero, suc, ◌-◌, ◌<◌, ◌≤◌, nat_lt, nat_eq, if◌then◌else◌, Bool, true, false, List, [], ◌∷◌, ◌++◌, map, Some, slice_get, length, append_assoc, sym, ap, ◌∙◌, subst, refl, arith}
 use Rattle.std.specs.List.{AllZip}
 use Rattle.std.proofs.lemmas.Bool.Decides.{nat_tests}
-use Rattle.std.proofs.lemmas.List.Elements.{All-nil, All-head, All-tail}
+use Rattle.std.proofs.lemmas.List.Elements.{All-head, All-tail}
 use Rattle.std.specs.Prelude.{All}
 use Rattle.dm_base.specs.declared.event.Event.TheVariants.{Pre, Post}
 use Rattle.dm_base.specs.declared.outcome.Outcome.TheVariants.{Undefined}
-use Rattle.sys_table.specs.Table.{IsRecorded}
 use Rattle.c_tree.specs.declared.value.Value.{Value}
 use Rattle.c_tree.specs.Tree.{CType, pointer, function, CTypes, no_types, more_types, list_of, Function, Static, Program, type_of}
 use Rattle.c_tree.specs.Tree.{Expr, constant, function_name, string_place, variable, dereference, load, address_of, decay, discard, field, unary_operation, conversion, arithmetic, comparison, pointer_add, pointer_diff, and, or, assign, update, conditional, comma, call, call_through}
@@ -25,7 +24,7 @@ use Rattle.c_meaning.specs.Results.{State, Result, Go, Stop, after, then_do, ans
 use Rattle.c_meaning.specs.Runs.{no_marks}
 use Rattle.c_meaning.specs.SystemCalls as calls
 use Rattle.c_meaning_laws.specs.StoreTyping.{HasKind, IsPlaced, IsTypedState, Grows, TellsOfStatics, IsTypedFrame}
-use Rattle.c_meaning_laws.specs.TypedResults.{EndsTyped, Gives, GiveAll, StandsIn, IsTypedWorld, AreRecorded}
+use Rattle.c_meaning_laws.specs.TypedResults.{EndsTyped, Gives, GiveAll, StandsIn, IsTypedWorld}
 use Rattle.c_meaning_laws.proofs.Places.{get_left, get_before, grows_on, carry}
 use Rattle.c_meaning_laws.proofs.Steps.{Right, IsCallee, callee_right}
 use Rattle.c_meaning_laws.proofs.Keeps.{Holds, scalar_kind, stands_on, arguments_kind, value_ends, where_ends, all_end, condition_tested}

@@ -1,12 +1,10 @@
 -- How the evaluation of an expression begins.
-use Rattle.std.proofs.Common.{◌≡◌, ℕ, Bool, true, List, [], ◌++◌, sym, ap, ◌∙◌, refl}
+use Rattle.std.proofs.Common.{◌≡◌, ℕ, Bool, true, List, [], ◌++◌, sym, ap, ◌∙◌}
 use Rattle.c_tree.specs.declared.value.Value.{Value}
 use Rattle.c_tree.specs.declared.value.BinOp.{BinOp}
 use Rattle.c_tree.specs.declared.tree.TExpr.{TExpr}
-use Rattle.c_tree.specs.declared.tree.TExprKind.{TExprKind, Const, StringPlace, Variable, Deref', Load', AddressOf', Decay', Discard', Field', Unary', Convert', Arith', Compare', PointerAdd', PointerDiff', And', Or', Assign', Update', Cond', Comma', Call', CallThrough'}
-use Rattle.c_tree.specs.declared.tree.TExprKind.{Function as FunctionNamed}
-use Rattle.c_tree.specs.Tree.{CType, Expr, Exprs, decay, update, call, call_through, Program, type_of}
-use Rattle.c_tree.specs.View.{ctype_of, expr_of, expr_with}
+use Rattle.c_tree.specs.Tree.{CType, Expr, Exprs, decay, update, call, call_through, Program}
+use Rattle.c_tree.specs.View.{ctype_of, expr_of}
 use Rattle.c_meaning.specs.Meaning.{Frame as Place, World, wants}
 use Rattle.c_meaning.specs.Pointers.{load_place}
 use Rattle.c_meaning.specs.Results.{State, Result, Go, then_do, answered}
@@ -15,7 +13,7 @@ use Rattle.ref_machine_frames.specs.declared.frames.Callee.TheVariants as callee
 use Rattle.ref_machine_frames.specs.Frames.{made}
 use Rattle.ref_machine_expressions.specs.Renewing.{renewing}
 use Rattle.ref_machine_frames.proofs.Joining.{after_none}
-use Rattle.c_tree.proofs.CalledTypes.{type_with, type_is}
+use Rattle.c_tree.proofs.CalledTypes.{type_is}
 
 -- an expression that is seen as another term
 pub begun : (p : Program) (w : World) (fr : Place) (wanted : Bool) (e f : Expr) (st : State) (k : Value → State → Result Value) (x : Result Value) → x ≡ then_do (eval p w fr wanted e st) k → e ≡ f → x ≡ then_do (eval p w fr wanted f st) k

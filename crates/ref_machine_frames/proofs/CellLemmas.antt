@@ -5,7 +5,7 @@ use Rattle.std.proofs.lemmas.List.{length-map, drop_all}
 use Rattle.c_tree.specs.declared.tree.CType.{CType as TypeTree}
 use Rattle.c_tree.specs.declared.tree.StructMembers.{StructMembers}
 use Rattle.c_tree.specs.Tree.{CType, array}
-use Rattle.c_tree.specs.Layout.{Structs, repeat, flat_with, flat_all_with, layout, or_none}
+use Rattle.c_tree.specs.Layout.{Structs, flat_with, flat_all_with, layout, or_none}
 use Rattle.c_tree.specs.View.{ctype_of, ctypes_of, members_in}
 use Rattle.ref_machine_frames.specs.Cells.{AreCells, AreCounted, kept}
 use Rattle.c_tree.proofs.CountLemmas.{length-repeat}

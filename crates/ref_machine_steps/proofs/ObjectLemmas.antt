@@ -1,8 +1,7 @@
 -- Objects whose cells get their values one after the other.
-use Rattle.std.proofs.Common.{◌≡◌, ℕ, zero, suc, ◌+◌, ◌<◌, ◌≤◌, Bool, true, false, if◌then◌else◌, nat_eq, List, [], ◌∷◌, length, drop, get_or, drop-cons, Option, Some, None, slice_set, ap, sym, ◌∙◌, refl, arith}
+use Rattle.std.proofs.Common.{◌≡◌, ℕ, zero, suc, ◌+◌, ◌<◌, ◌≤◌, Bool, true, false, if◌then◌else◌, List, [], ◌∷◌, length, drop, get_or, drop-cons, Option, Some, slice_set, ap, sym, ◌∙◌, refl, arith}
 use Rattle.std.specs.Prelude.{replicate, map}
 use Rattle.std.proofs.lemmas.List.{drop-map}
-use Rattle.std.proofs.lemmas.Bool.{eq-eqb}
 use Rattle.c_tree.specs.declared.value.ObjectName.{ObjectName}
 use Rattle.c_tree.specs.declared.value.Value.{Value}
 use Rattle.c_tree.specs.declared.value.Value.TheVariants.{Indeterminate}
@@ -12,7 +11,6 @@ use Rattle.c_values.specs.Memory.{Object, Objects, same_name, changed, declared,
 use Rattle.c_values.specs.Cells.{with_cell, put}
 use Rattle.c_meaning.specs.Meaning.{static_name}
 use Rattle.c_meaning.specs.Runs.{first_objects}
-use Rattle.c_values.proofs.StoreLemmas.{same_itself}
 pub use Rattle.c_values.proofs.StoreLemmas.{changed_there}
 
 twice : (c : Bool) (a b o : Option Object) → (if c then b else (if c then a else o)) ≡ (if c then b else o)

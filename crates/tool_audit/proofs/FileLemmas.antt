@@ -1,20 +1,13 @@
 -- What `audit` makes of its files and why it refuses them never hold both, and they are refused with one status.
-use Rattle.std.proofs.Common.{◌≡◌, ◌≢◌, ℕ, ◌<◌, ◌≤◌, List, Option, Some, None, inl, inr, sym, ◌∙◌, subst, arith}
-use Rattle.dm_base.specs.declared.mode.Mode.{Mode}
+use Rattle.std.proofs.Common.{◌≡◌, ℕ, ◌<◌, ◌≤◌, List, Option, Some, None, inl, inr, sym, ◌∙◌, subst, arith}
 use Rattle.dm_base.specs.declared.mode.Mode.TheVariants.{Plain}
 use Rattle.dm_base.specs.declared.verdict.Status.{Status}
 use Rattle.dm_io.specs.Store.{Files, file_at}
-use Rattle.c_rules_laws.proofs.Texts.{one_program}
-use Rattle.c_lexer.proofs.OneTokenText.{one_reading}
 use Rattle.c_rules.specs.Accepted.{IsAcceptedAs}
 use Rattle.c_tree.specs.Tree.{Program}
 use Rattle.flow_graph_laws.specs.GraphOfProgram.{graph_of_program}
 use Rattle.tool_steps.specs.Results.{AreSomeResults}
-use Rattle.tool_steps.proofs.SourceLemmas.{one_unit, one_typing}
-use Rattle.sys_table.specs.declared.results_error.ResultsError.{ResultsError}
 use Rattle.sys_table.specs.declared.results_error.ResultsError.TheVariants as errors
-use Rattle.sys_table.specs.ResultsText.{IsResultsRefusal}
-use Rattle.sys_table.proofs.ResultsLemmas.{not_refused}
 use Rattle.tool_audit.specs.Audit.{Audits, IsAuditStatus, RefusesToAudit, IsReadyToAudit}
 use Rattle.tool_audit.proofs.Verdicts.{audit_ends}
 use Rattle.alarm_laws.specs.MarkedRuns.{marked_run}

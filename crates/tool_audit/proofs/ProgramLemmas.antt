@@ -3,8 +3,6 @@
 use Rattle.std.proofs.Common.{◌≡◌, ℕ, List, ◌++◌, All, sym, ◌∙◌, ap, subst}
 use Rattle.dm_base.specs.declared.event.Event.{Event}
 use Rattle.dm_base.specs.declared.mode.Mode.TheVariants.{Plain, Instrumented}
-use Rattle.dm_base.specs.declared.outcome.Outcome.{Outcome}
-use Rattle.dm_base.specs.declared.outcome.Outcome.TheVariants.{Exit, Undefined, Turns, Results, BadResult}
 use Rattle.dm_base.specs.declared.outcome.TraceEnd.TheVariants.{Ended}
 use Rattle.dm_base.specs.declared.verdict.Status.{Status}
 use Rattle.headline.specs.AcceptedRuns.{TextsRaiseNoAlarm}
@@ -36,7 +34,7 @@ use Rattle.tool_steps.specs.Sources.{IsSourceOf}
 use Rattle.tool_steps.proofs.SourceLemmas.{one_typing, source_accepted}
 use Rattle.sys_table.specs.declared.sys_result.SysResult.{SysResult}
 use Rattle.sys_table.specs.Table.{IsRecorded}
-use Rattle.trace_file.specs.EventText.{IsCountedOutcome, IsCountedEnd}
+use Rattle.trace_file.specs.EventText.{IsCountedEnd}
 use Rattle.trace_file.specs.Trace.{trace_text, IsTrace}
 use Rattle.c_rules_laws.specs.Lexical.{IsUnitLexical}
 use Rattle.c_rules_laws.specs.WellTyped.{SpelledUnitsAreLexical}

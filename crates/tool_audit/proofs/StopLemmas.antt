@@ -2,7 +2,6 @@
 use Rattle.std.proofs.Common.{◌≡◌, ℕ, ◌<◌, ◌≤◌, List, Option, Some, None, IfSome, inl, inr, refl, subst, arith}
 use Rattle.dm_base.specs.declared.mode.Mode.TheVariants.{Plain}
 use Rattle.dm_base.specs.declared.verdict.Status.{Status}
-use Rattle.dm_io.specs.Faults.{Rose}
 use Rattle.dm_io.specs.Store.{Files, file_at, IsMissing}
 use Rattle.alarm_laws.specs.MarkedRuns.{marked_run}
 use Rattle.c_rules.specs.Accepted.{IsAcceptedAs}

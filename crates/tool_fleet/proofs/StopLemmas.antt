@@ -2,7 +2,6 @@
 use Rattle.std.proofs.Common.{ℕ, ◌≤◌, List, Option, Some, None, IfSome, inl, inr, arith}
 use Rattle.dm_base.specs.declared.verdict.Status.{Status}
 use Rattle.dm_base.specs.declared.verdict.Status.TheVariants as statuses
-use Rattle.dm_io.specs.Faults.{Rose}
 use Rattle.dm_io.specs.Store.{Files, IsMissing}
 use Rattle.tool_files.specs.Inputs.{RefusesModel}
 use Rattle.tool_files.specs.Reading.{StopsModel}

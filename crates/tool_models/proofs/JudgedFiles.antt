@@ -1,9 +1,8 @@
 -- What `judge` makes of two files that were read.
-use Rattle.std.proofs.Common.{ℕ, List, [], ◌∷◌, Option, Some, None, IfSome, inl, inr, refl, sym, ◌∙◌, ap, subst}
+use Rattle.std.proofs.Common.{ℕ, List, [], ◌∷◌, Option, Some, None, IfSome, inl, refl, sym, subst}
 use Rattle.dm_base.specs.declared.event.Event.{Event}
 use Rattle.dm_base.specs.declared.outcome.TraceEnd.{TraceEnd}
 use Rattle.dm_base.specs.declared.verdict.Status.{Status}
-use Rattle.dm_base.specs.declared.verdict.Status.TheVariants.{Bound}
 use Rattle.dm_base.specs.declared.verdict.Verdict.{Verdict}
 use Rattle.dm_base.specs.declared.verdict.Verdict.TheVariants as verdicts
 use Rattle.dm_io.specs.Store.{Files, file_at}
@@ -15,7 +14,7 @@ use Rattle.trace_file.specs.declared.version.TracesVersion.{TracesVersion}
 use Rattle.trace_file.specs.Trace.{IsTraceWithin}
 use Rattle.tool_frame.specs.Stop.{IsFinished}
 use Rattle.tool_models.specs.Judge.{Judges}
-use Rattle.tool_monitors.specs.Judged.{AreJudged, status_of, status_of_all, worse}
+use Rattle.tool_monitors.specs.Judged.{AreJudged, status_of, status_of_all}
 use Rattle.tool_monitors.specs.Told.{AreTracesTold}
 use Rattle.tool_models.specs.Watch.{Watches}
 use Rattle.tool_models.specs.Watched.{AreAllWatched}

@@ -8,13 +8,8 @@ use Rattle.std.proofs.lemmas.Option.{slice_get_cases, slice_get_within, get_or_f
 use Rattle.dm_base.specs.declared.event.Event.{Event}
 use Rattle.dm_base.specs.declared.verdict.Verdict.{Verdict}
 use Rattle.dm_base.specs.declared.verdict.Verdict.TheVariants.{Accepted, Rejected, Bound}
-use Rattle.dm_base.specs.Trace.{depth}
 use Rattle.flow_model.specs.declared.which.Which.{Which}
-use Rattle.flow_model.specs.declared.which.Which.TheVariants.{Callgraph, Stack, Dyck}
-use Rattle.flow_model.specs.Graph.{Graph, HasFunction}
-use Rattle.flow_model.specs.Language.Walk.{over as walk_over}
-use Rattle.flow_model.specs.Language.StackRun.{over as stack_over}
-use Rattle.flow_model.specs.Language.DyckRun.{over as dyck_over}
+use Rattle.flow_model.specs.Graph.{Graph}
 use Rattle.flow_model.specs.Rules.{IsValid}
 use Rattle.flow_model.specs.Verdict.{IsKept, IsVerdict}
 use Rattle.flow_model.proofs.Verdicts.{kept-reads}

@@ -1,11 +1,8 @@
 -- What `run` makes of its files and why it refuses them never hold both, and they are refused with one status.
-use Rattle.std.proofs.Common.{◌≡◌, ◌≢◌, ℕ, List, Option, Some, None, inl, inr, sym, ◌∙◌}
+use Rattle.std.proofs.Common.{◌≡◌, ℕ, List, Option, Some, None, inl, inr, sym, ◌∙◌}
 use Rattle.dm_base.specs.declared.verdict.Status.{Status}
-use Rattle.dm_io.specs.Store.{Files, file_at}
-use Rattle.sys_table.specs.declared.results_error.ResultsError.{ResultsError}
+use Rattle.dm_io.specs.Store.{Files}
 use Rattle.sys_table.specs.declared.results_error.ResultsError.TheVariants as errors
-use Rattle.sys_table.specs.ResultsText.{IsResultsRefusal}
-use Rattle.sys_table.proofs.ResultsLemmas.{not_refused}
 use Rattle.tool_run.specs.Run.{Runs, RefusesToRun, IsSomeProgram, IsReadyToRun}
 use Rattle.tool_steps.specs.Results.{AreSomeResults}
 use Rattle.tool_steps.proofs.CommandLemmas.{results_or_refused}

@@ -2,7 +2,6 @@
 use Rattle.std.proofs.Common.{◌≡◌, ℕ, ◌≤◌, List, Option, Some, None, IfSome, inl, inr, subst, arith}
 use Rattle.dm_base.specs.declared.mode.Mode.TheVariants.{Instrumented}
 use Rattle.dm_base.specs.declared.outcome.TraceEnd.TheVariants.{Ended}
-use Rattle.dm_io.specs.Faults.{Rose}
 use Rattle.dm_io.specs.Store.{Files, file_at, IsMissing}
 use Rattle.c_meaning.specs.Runs.{run}
 use Rattle.c_tree.specs.View.{program_of}

@@ -5,8 +5,6 @@ use Rattle.dm_base.specs.declared.mode.Mode.TheVariants.{Plain}
 use Rattle.dm_base.specs.declared.verdict.Status.{Status}
 use Rattle.dm_base.specs.declared.verdict.Status.TheVariants as statuses
 use Rattle.dm_io.specs.Store.{Files, file_at, IsMissing}
-use Rattle.c_rules_laws.proofs.Texts.{one_program}
-use Rattle.c_lexer.proofs.OneTokenText.{one_reading}
 use Rattle.c_rules.specs.Accepted.{IsAcceptedAs}
 use Rattle.c_tree.specs.Tree.{Program}
 use Rattle.c_tree.specs.View.{program_of}
@@ -23,7 +21,7 @@ use Rattle.tool_texts.specs.Modelled.{Models, RefusesToModel, IsReadyToModel}
 use Rattle.tool_steps.specs.ModelTexts.{IsModelOf, IsPastLimit, many_nodes, long_text}
 use Rattle.tool_steps.specs.Sources.{IsSourceOf, RefusesSource}
 use Rattle.tool_steps.specs.ModelStops.{StopsModelling}
-use Rattle.tool_steps.proofs.SourceLemmas.{one_unit, one_typing, source_accepted}
+use Rattle.tool_steps.proofs.SourceLemmas.{source_accepted}
 use Rattle.tool_steps.proofs.CommandLemmas.{accepted_once}
 
 -- what a command makes of a program that a file was read as

@@ -1,12 +1,9 @@
 -- What a watch answers of the records that it stands for.
-use Rattle.std.proofs.Common.{◌≡◌, ◌||◌, not, ℕ, ◌+◌, ◌<◌, ◌≤◌, Bool, true, false, cond, nat_eq, List, [], ◌∷◌, ◌++◌, map, filter, Option, Some, None, is_some, Contains, length, Vec, Global, drop, get_or, append_assoc, refl, sym, ◌∙◌, ap, subst, true≢false, arith, length-append, append-nil, inl, inr}
-use Rattle.std.specs.Prelude.{◌⊎◌, ◌↔◌, if◌then◌else◌, flat_map, All, IfSome, IsSome, IsTrue, Result, Ok, Err, IfOk, OnOk, IsOk}
+use Rattle.std.proofs.Common.{◌≡◌, ◌||◌, not, ℕ, ◌+◌, ◌<◌, ◌≤◌, Bool, true, false, nat_eq, List, [], ◌∷◌, ◌++◌, map, filter, Option, Some, None, is_some, Contains, length, Vec, Global, drop, get_or, append_assoc, refl, sym, ◌∙◌, ap, subst, true≢false, arith, length-append, append-nil, inl, inr}
+use Rattle.std.specs.Prelude.{◌⊎◌, ◌↔◌, if◌then◌else◌, flat_map, All, IsSome, IsTrue, Result, Ok, Err, IfOk, IsOk}
 use Rattle.std.specs.Cmp.{nat_eq_equiv}
-use Rattle.std.specs.List.{list_any}
-use Rattle.std.specs.Map.{keys_of, values_of, lookup}
-use Rattle.std.specs.FinSet.{len-empty}
+use Rattle.std.specs.Map.{keys_of, lookup}
 use Rattle.std.specs.Option.{option_map, option_map_or}
-use Rattle.std.specs.Ordering.{nat_cmp}
 use Rattle.std.proofs.lemmas.Bool.{cases_Bool, eqb-true, eq-eqb, leb-true, le-leb}
 use Rattle.std.proofs.Math.Dec.{leb}
 use Rattle.std.proofs.lemmas.List.{drop_more, drop_all}
@@ -34,7 +31,7 @@ use Rattle.watch.specs.declared.watch.Watch.{Watch}
 use Rattle.watch.specs.Keeping.{IsNewborn, accepted_of, verdicts_told, verdict_of}
 use Rattle.watch.specs.Own.{is_among, is_known, has_record, own_forked, own, firsts, record_of}
 use Rattle.watch.specs.Standing.{IsBound, IsAt, HasHistory, AreWatched}
-use Rattle.watch.specs.Watching.{StandsFor, AreAccepted, HoldsNeeded, monitor_of}
+use Rattle.watch.specs.Watching.{StandsFor, HoldsNeeded, monitor_of}
 use Rattle.watch.proofs.KeyLemmas.{among_keys, among_self, among_kept, keys_known}
 use Rattle.watch.proofs.MarkLemmas.{marked_there, marked_from, numbered}
 use Rattle.watch.proofs.PastLemmas.{accepted_is_kept, kept_is_accepted, verdict_told}
