@@ -4,5 +4,4 @@ pub mod Costs
 pub mod Edges
 pub mod LaidLemmas
 pub mod Pushed
-pub mod Sites
 pub mod Stands

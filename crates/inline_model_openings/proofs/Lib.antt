@@ -3,4 +3,3 @@ pub mod Edges
 pub mod EntryLemmas
 pub mod RangeLemmas
 pub mod Saturating
-pub mod Sites

@@ -1,7 +1,7 @@
 use Rattle.std.proofs.Common.{ap, sym, ◌∙◌}
 use Rattle.std.specs.Option.{option_copied}
 use Rattle.std.proofs.lemmas.Option.{none-some, same_Some}
-use Rattle.inline_model_openings.proofs.Sites.{find_site}
+use Rattle.flow_model.proofs.SitesFound.{find_site}
 use Rattle.inline_model_openings.proofs.within.call_at.Goals as goal
 
 pub unreachable-requires : goal.unreachable-requires
