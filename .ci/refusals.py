@@ -5,8 +5,8 @@ It is an answer to an allocation that was refused. So it is built by the `From` 
 the few functions of ALLOCATING, which call an allocating function whose error isn't of this kind. Everywhere else it is only
 handed on: by `?`, in an arm whose pattern has it (`Err(OutOfMemory) => Err(X::OutOfMemory)`), below a test that an error is
 it, or in an arm `Err(_)` of a call whose error is the type OutOfMemory. A line that does none of this is named, unless it is
-one of the functions of AGAIN or of WAITING, and so is a function of a list that builds it nowhere: the lists only get
-shorter. The status is 0 where no line is named."""
+one of the functions of AGAIN, and so is a function of a list that builds it nowhere: the lists only get shorter. The status
+is 0 where no line is named."""
 import pathlib
 import re
 import sys
@@ -18,11 +18,6 @@ ALLOCATING = {
 }
 # Functions that answer again what was answered before: memory was refused to the process.
 AGAIN = {'fleet/stepping.rt advance', 'fleet/telling.rt standing_of'}
-# Functions that build it though nothing was refused: where a count of what stands in a C text or a program would pass 32 or 64 bits, or
-# in a case that can't come and of which no proof says so.
-WAITING = {
-    'ref_machine/stepping.rt go_on',
-}
 # What the impls of `From` for it may take.
 TAKEN = r'OutOfMemory|dm_base::OutOfMemory|AllocError|AllocFailed<\w+>|ReadError|LexError|ParseError|CheckError|SourceError|PhraseError|ReadFail'
 
@@ -103,14 +98,14 @@ def main():
             where = f'{source.name} {source.function(at)}'
             if is_from(source, at) or is_handed_on(source, at, errors):
                 continue
-            if where in ALLOCATING | AGAIN | WAITING:
+            if where in ALLOCATING | AGAIN:
                 named.add(where)
                 continue
             wrong.append(f'{source.name}:{at + 1}: in {source.function(at)}: {line.strip()}')
-    wrong += [f'{where} builds it nowhere: take it out of the list' for where in sorted((ALLOCATING | AGAIN | WAITING) - named)]
+    wrong += [f'{where} builds it nowhere: take it out of the list' for where in sorted((ALLOCATING | AGAIN) - named)]
     for line in wrong:
         print(f'refusals.py: {line}')
-    print(f'{len(sources)} files of code, {len(ALLOCATING | AGAIN)} functions tell of a refused allocation, {len(WAITING)} of none, {len(wrong)} wrong')
+    print(f'{len(sources)} files of code, {len(ALLOCATING | AGAIN)} functions tell of a refused allocation, {len(wrong)} wrong')
     return 1 if wrong else 0
 
 

@@ -4,6 +4,7 @@ pub mod HeldRuns
 pub mod HeldStatements
 pub mod HeldSteps
 pub mod HeldTurns
+pub mod NextSteps
 pub mod Noting
 pub mod Recording
 pub mod Resuming

@@ -12,8 +12,8 @@ ghost use Rattle.ref_machine_frames.specs.Held.{run_body, run_few};
 ghost use Rattle.ref_machine_frames.specs.declared.frames.Frame.{Frame as Todo};
 ghost use Rattle.ref_machine_frames.specs.Frames.{after_value, exit_in, numbers, out_of_call, place_of, rest, stack};
 ghost use Rattle.ref_machine_frames.specs.Parts.{Does};
-ghost use Rattle.ref_machine.specs.Standing.{state};
 ghost use Rattle.ref_machine_frames.specs.Work.{of_now};
+ghost use Rattle.ref_machine.specs.Standing.{state};
 
 use c_tree::{ObjectName, Program, Value};
 use c_values::Memory;

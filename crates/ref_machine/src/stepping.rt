@@ -13,9 +13,9 @@ ghost use Rattle.ref_machine_frames.specs.declared.frames.Frame.{Frame as Todo};
 ghost use Rattle.ref_machine_frames.specs.Cells.{AreCells};
 ghost use Rattle.ref_machine_frames.specs.Frames.{after_exit, after_value, exit_in, place_of, rest, rounds_of, stack, then_comes};
 ghost use Rattle.ref_machine_frames.specs.Parts.{IsAnswer};
+ghost use Rattle.ref_machine_frames.specs.Work.{of_all, of_bit, of_frame, of_now, work};
 ghost use Rattle.ref_machine_steps.specs.Faults.{told};
 ghost use Rattle.ref_machine.specs.Standing.{EndsRightly, IsCostly, IsPausing, SameLeft, Standing, left_of, state};
-ghost use Rattle.ref_machine_frames.specs.Work.{of_all, of_bit, of_frame, of_now, work};
 
 use crate::calls::{enter, leave_call};
 use c_tree::{Program, TStmt, Value};
@@ -131,7 +131,7 @@ fn left<'p>(
     }
 }
 
-// A function is entered, where there is a turn for it.
+// A function is entered, which costs a turn.
 fn enter_in_turn<'p>(
     program: &'p Program,
     memory: &mut Memory,
@@ -143,33 +143,27 @@ fn enter_in_turn<'p>(
     f: u32,
     values: &[Value],
 ) -> Result<Now<'p>, OutOfMemory>
-    requires { entries.old + turns.old < 2 ^ 32 }
+    requires some { 0 < turns.old }
+    requires few { entries.old + turns.old < 2 ^ 32 }
     ensures same { IfOk result (λ next. (n : ℕ) (records : List Record) (taken : ℕ) → turns.old ≤ n → left_of (program_of program.now) n (record { here = here.new; memory = seen memory.new; entries = entries.new; turns = turns.new; now = next; todo = todo.new.items }) records taken ≡ then_do ((world (program_of program.now) n).enter wanted f values.now (state (seen memory.old) entries.old records taken turns.old)) (after_value (program_of program.now) (world (program_of program.now) n) (place_of here.old) (stack todo.old.items))) }
-    ensures fewer { turns.new ≤ turns.old }
+    ensures fewer { turns.new < turns.old }
     ensures spent { entries.new + turns.new ≤ entries.old + turns.old }
-    ensures spends { 0 < turns.old → turns.new < turns.old }
 {
-    if *turns == 0 {
-        return Ok(Now::Stopped(Outcome::Turns));
-    }
     *turns -= 1;
     let now = enter(program, memory, todo, here, entries, wanted, f, values)?;
     Ok(now)
 }
 
-// A loop is tested, where there is a turn for it.
+// A loop is tested, which costs a turn.
 fn test_in_turn<'p>(
     todo: &mut Vec<Frame<'p>>,
     turns: &mut u32,
     of: &'p TStmt,
 ) -> Result<Now<'p>, OutOfMemory>
+    requires { 0 < turns.old }
     ensures same { IfOk result (λ next. (p : Term) (h : Activation) (m : Objects) (entries n : ℕ) (records : List Record) (taken : ℕ) → turns.old ≤ n → left_of p n (record { here = h; memory = m; entries = entries; turns = turns.new; now = next; todo = todo.new.items }) records taken ≡ then_do ((world p n).again (place_of h) (rounds_of (stmt_of of.now)) (state m entries records taken turns.old)) (after_exit p (world p n) (place_of h) (stack todo.old.items))) }
-    ensures fewer { turns.new ≤ turns.old }
-    ensures spends { 0 < turns.old → turns.new < turns.old }
+    ensures fewer { turns.new < turns.old }
 {
-    if *turns == 0 {
-        return Ok(Now::Stopped(Outcome::Turns));
-    }
     *turns -= 1;
     let now = test_loop(todo, of)?;
     Ok(now)

@@ -5,13 +5,8 @@ use Rattle.c_meaning.specs.Results.{then_do}
 use Rattle.ref_machine_frames.specs.Held.{world}
 use Rattle.ref_machine_frames.specs.Frames.{place_of, stack, after_value}
 use Rattle.ref_machine.specs.Standing.{state}
-use Rattle.ref_machine.proofs.Turning.{enter_turn, no_turn_to_enter}
+use Rattle.ref_machine.proofs.Turning.{enter_turn}
 use Rattle.ref_machine.proofs.stepping.enter_in_turn.Goals as goal
-
-pub returns-then-turns-eq0-clause-same : goal.returns-then-turns-eq0-clause-same
-returns-then-turns-eq0-clause-same c n records taken le =
-    let p = program_of c.args.program.now in
-    no_turn_to_enter p n c.args.wanted c.args.f c.args.values.now (seen c.args.memory.now) c.args.entries.now records taken c.args.turns.now (after_value p (world p n) (place_of c.args.here.now) (stack c.args.todo.now.items)) (omega arith) le
 
 pub returns-clause-same : goal.returns-clause-same
 returns-clause-same c n records taken le =

@@ -4,12 +4,8 @@ use Rattle.c_meaning.specs.Results.{then_do}
 use Rattle.ref_machine_frames.specs.Held.{world}
 use Rattle.ref_machine_frames.specs.Frames.{place_of, stack, after_exit, rounds_of}
 use Rattle.ref_machine.specs.Standing.{state}
-use Rattle.ref_machine.proofs.Turning.{loop_turn, no_turn_to_test}
+use Rattle.ref_machine.proofs.Turning.{loop_turn}
 use Rattle.ref_machine.proofs.stepping.test_in_turn.Goals as goal
-
-pub returns-then-turns-eq0-clause-same : goal.returns-then-turns-eq0-clause-same
-returns-then-turns-eq0-clause-same c p h m entries n records taken le =
-    no_turn_to_test p n (place_of h) (rounds_of (stmt_of c.args.of.now)) m entries records taken c.args.turns.now (after_exit p (world p n) (place_of h) (stack c.args.todo.now.items)) (omega arith) le
 
 pub returns-clause-same : goal.returns-clause-same
 returns-clause-same c p h m entries n records taken le =
