@@ -62,7 +62,7 @@ fn answered(
 }
 
 /// Goes on to the next event of a run or to its end, where the results from this number on are left: the next of them is given
-/// where the machine needs one. The error is that memory was refused, as of `Machine::advance`; from then on each call answers so.
+/// where the machine needs one. The error is that memory was refused; from then on each call answers so.
 pub fn next_event(
     machine: &mut Machine,
     results: &[SysResult],
@@ -107,8 +107,7 @@ fn whole_run(
 /// The run of the program with these recorded results and so many turns (C99 5.1.2.3): how it ended, and its events, in order.
 /// Results that the run did not come to are left. However it ended, its trace is a word of the program's stack and of its
 /// callgraph language (Wagner and Dean 2001), for null calls that the program makes itself are left aside there; each event can be recorded;
-/// and no value of another kind than its type was met. The error is that memory was refused; so it answers, too, where
-/// `Machine::advance` does.
+/// and no value of another kind than its type was met. The error is that memory was refused.
 pub fn run(
     alloc: Global,
     program: &Program,
