@@ -302,18 +302,11 @@ expression-returns-in_ok-made-in-Member-clause-tree t c =
 
 pub expression-returns-in_ok-made-in-Member-clause-keeps : goal.expression-returns-in_ok-made-in-Member-clause-keeps
 expression-returns-in_ok-made-in-Member-clause-keeps t c =
-    let s = sited c.args.table.now in
-    let b = c.args.next.now in
-    let at = c.args.e.now.at in
-    let old = temporaries_of c.args.kept.now.items in
-    c.in_ok-object-in-Member.ensures.keeps ∙ (ap (λ x. old ++ marks.kept s b true (expr_of x)) c.deref-in-Member.ensures ∙ sym (ap (λ k. old ++ marks.kept s b c.args.wanted (expr_at at k)) c.in-Member.is))
+    c.in_ok-object-in-Member.ensures.keeps ∙ (ap (λ x. (temporaries_of c.args.kept.now.items) ++ marks.kept (sited c.args.table.now) c.args.next.now true (expr_of x)) c.deref-in-Member.ensures ∙ sym (ap (λ k. (temporaries_of c.args.kept.now.items) ++ marks.kept (sited c.args.table.now) c.args.next.now c.args.wanted (expr_at c.args.e.now.at k)) c.in-Member.is))
 
 pub expression-returns-in_ok-made-in-Member-clause-counts : goal.expression-returns-in_ok-made-in-Member-clause-counts
 expression-returns-in_ok-made-in-Member-clause-counts t c =
-    let s = sited c.args.table.now in
-    let b = c.args.next.now in
-    let at = c.args.e.now.at in
-    c.in_ok-object-in-Member.ensures.counts ∙ (ap (λ x. b + calls (expr_of x)) c.deref-in-Member.ensures ∙ sym (ap (λ k. b + calls (expr_at at k)) c.in-Member.is))
+    c.in_ok-object-in-Member.ensures.counts ∙ (ap (λ x. c.args.next.now + calls (expr_of x)) c.deref-in-Member.ensures ∙ sym (ap (λ k. c.args.next.now + calls (expr_at c.args.e.now.at k)) c.in-Member.is))
 
 pub expression-returns-in_ok-made-in-Arrow-clause-tree : goal.expression-returns-in_ok-made-in-Arrow-clause-tree
 expression-returns-in_ok-made-in-Arrow-clause-tree t c =
@@ -325,113 +318,63 @@ expression-returns-in_ok-made-in-Arrow-clause-tree t c =
 
 pub expression-returns-in_ok-made-in-Arrow-clause-keeps : goal.expression-returns-in_ok-made-in-Arrow-clause-keeps
 expression-returns-in_ok-made-in-Arrow-clause-keeps t c =
-    let s = sited c.args.table.now in
-    let b = c.args.next.now in
-    let at = c.args.e.now.at in
-    let old = temporaries_of c.args.kept.now.items in
-    c.in_ok-object-in-Arrow.ensures.keeps ∙ (ap (λ x. old ++ marks.kept s b true (expr_of x)) c.deref-in-Arrow.ensures ∙ sym (ap (λ k. old ++ marks.kept s b c.args.wanted (expr_at at k)) c.in-Arrow.is))
+    c.in_ok-object-in-Arrow.ensures.keeps ∙ (ap (λ x. (temporaries_of c.args.kept.now.items) ++ marks.kept (sited c.args.table.now) c.args.next.now true (expr_of x)) c.deref-in-Arrow.ensures ∙ sym (ap (λ k. (temporaries_of c.args.kept.now.items) ++ marks.kept (sited c.args.table.now) c.args.next.now c.args.wanted (expr_at c.args.e.now.at k)) c.in-Arrow.is))
 
 pub expression-returns-in_ok-made-in-Arrow-clause-counts : goal.expression-returns-in_ok-made-in-Arrow-clause-counts
 expression-returns-in_ok-made-in-Arrow-clause-counts t c =
-    let s = sited c.args.table.now in
-    let b = c.args.next.now in
-    let at = c.args.e.now.at in
-    c.in_ok-object-in-Arrow.ensures.counts ∙ (ap (λ x. b + calls (expr_of x)) c.deref-in-Arrow.ensures ∙ sym (ap (λ k. b + calls (expr_at at k)) c.in-Arrow.is))
+    c.in_ok-object-in-Arrow.ensures.counts ∙ (ap (λ x. c.args.next.now + calls (expr_of x)) c.deref-in-Arrow.ensures ∙ sym (ap (λ k. c.args.next.now + calls (expr_at c.args.e.now.at k)) c.in-Arrow.is))
 
 pub expression-returns-in_ok-made-in-PostInc-clause-tree : goal.expression-returns-in_ok-made-in-PostInc-clause-tree
 expression-returns-in_ok-made-in-PostInc-clause-tree t c =
-    let s = sited c.args.table.now in
-    let b = c.args.next.now in
-    let at = c.args.e.now.at in
-    c.in_ok-made-in-PostInc.ensures ∙ (ap (postfix at post_increment) (c.in_ok-operand-in-PostInc.ensures.tree ∙ ap (λ x. marks.expr s b true (expr_of x)) c.deref-in-PostInc.ensures) ∙ sym (ap (λ k. marks.expr s b c.args.wanted (expr_at at k)) c.in-PostInc.is))
+    c.in_ok-made-in-PostInc.ensures ∙ (ap (postfix c.args.e.now.at post_increment) (c.in_ok-operand-in-PostInc.ensures.tree ∙ ap (λ x. marks.expr (sited c.args.table.now) c.args.next.now true (expr_of x)) c.deref-in-PostInc.ensures) ∙ sym (ap (λ k. marks.expr (sited c.args.table.now) c.args.next.now c.args.wanted (expr_at c.args.e.now.at k)) c.in-PostInc.is))
 
 pub expression-returns-in_ok-made-in-PostInc-clause-keeps : goal.expression-returns-in_ok-made-in-PostInc-clause-keeps
 expression-returns-in_ok-made-in-PostInc-clause-keeps t c =
-    let s = sited c.args.table.now in
-    let b = c.args.next.now in
-    let at = c.args.e.now.at in
-    let old = temporaries_of c.args.kept.now.items in
-    c.in_ok-operand-in-PostInc.ensures.keeps ∙ (ap (λ x. old ++ marks.kept s b true (expr_of x)) c.deref-in-PostInc.ensures ∙ sym (ap (λ k. old ++ marks.kept s b c.args.wanted (expr_at at k)) c.in-PostInc.is))
+    c.in_ok-operand-in-PostInc.ensures.keeps ∙ (ap (λ x. (temporaries_of c.args.kept.now.items) ++ marks.kept (sited c.args.table.now) c.args.next.now true (expr_of x)) c.deref-in-PostInc.ensures ∙ sym (ap (λ k. (temporaries_of c.args.kept.now.items) ++ marks.kept (sited c.args.table.now) c.args.next.now c.args.wanted (expr_at c.args.e.now.at k)) c.in-PostInc.is))
 
 pub expression-returns-in_ok-made-in-PostInc-clause-counts : goal.expression-returns-in_ok-made-in-PostInc-clause-counts
 expression-returns-in_ok-made-in-PostInc-clause-counts t c =
-    let s = sited c.args.table.now in
-    let b = c.args.next.now in
-    let at = c.args.e.now.at in
-    c.in_ok-operand-in-PostInc.ensures.counts ∙ (ap (λ x. b + calls (expr_of x)) c.deref-in-PostInc.ensures ∙ sym (ap (λ k. b + calls (expr_at at k)) c.in-PostInc.is))
+    c.in_ok-operand-in-PostInc.ensures.counts ∙ (ap (λ x. c.args.next.now + calls (expr_of x)) c.deref-in-PostInc.ensures ∙ sym (ap (λ k. c.args.next.now + calls (expr_at c.args.e.now.at k)) c.in-PostInc.is))
 
 pub expression-returns-in_ok-made-in-PostDec-clause-tree : goal.expression-returns-in_ok-made-in-PostDec-clause-tree
 expression-returns-in_ok-made-in-PostDec-clause-tree t c =
-    let s = sited c.args.table.now in
-    let b = c.args.next.now in
-    let at = c.args.e.now.at in
-    c.in_ok-made-in-PostDec.ensures ∙ (ap (postfix at post_decrement) (c.in_ok-operand-in-PostDec.ensures.tree ∙ ap (λ x. marks.expr s b true (expr_of x)) c.deref-in-PostDec.ensures) ∙ sym (ap (λ k. marks.expr s b c.args.wanted (expr_at at k)) c.in-PostDec.is))
+    c.in_ok-made-in-PostDec.ensures ∙ (ap (postfix c.args.e.now.at post_decrement) (c.in_ok-operand-in-PostDec.ensures.tree ∙ ap (λ x. marks.expr (sited c.args.table.now) c.args.next.now true (expr_of x)) c.deref-in-PostDec.ensures) ∙ sym (ap (λ k. marks.expr (sited c.args.table.now) c.args.next.now c.args.wanted (expr_at c.args.e.now.at k)) c.in-PostDec.is))
 
 pub expression-returns-in_ok-made-in-PostDec-clause-keeps : goal.expression-returns-in_ok-made-in-PostDec-clause-keeps
 expression-returns-in_ok-made-in-PostDec-clause-keeps t c =
-    let s = sited c.args.table.now in
-    let b = c.args.next.now in
-    let at = c.args.e.now.at in
-    let old = temporaries_of c.args.kept.now.items in
-    c.in_ok-operand-in-PostDec.ensures.keeps ∙ (ap (λ x. old ++ marks.kept s b true (expr_of x)) c.deref-in-PostDec.ensures ∙ sym (ap (λ k. old ++ marks.kept s b c.args.wanted (expr_at at k)) c.in-PostDec.is))
+    c.in_ok-operand-in-PostDec.ensures.keeps ∙ (ap (λ x. (temporaries_of c.args.kept.now.items) ++ marks.kept (sited c.args.table.now) c.args.next.now true (expr_of x)) c.deref-in-PostDec.ensures ∙ sym (ap (λ k. (temporaries_of c.args.kept.now.items) ++ marks.kept (sited c.args.table.now) c.args.next.now c.args.wanted (expr_at c.args.e.now.at k)) c.in-PostDec.is))
 
 pub expression-returns-in_ok-made-in-PostDec-clause-counts : goal.expression-returns-in_ok-made-in-PostDec-clause-counts
 expression-returns-in_ok-made-in-PostDec-clause-counts t c =
-    let s = sited c.args.table.now in
-    let b = c.args.next.now in
-    let at = c.args.e.now.at in
-    c.in_ok-operand-in-PostDec.ensures.counts ∙ (ap (λ x. b + calls (expr_of x)) c.deref-in-PostDec.ensures ∙ sym (ap (λ k. b + calls (expr_at at k)) c.in-PostDec.is))
+    c.in_ok-operand-in-PostDec.ensures.counts ∙ (ap (λ x. c.args.next.now + calls (expr_of x)) c.deref-in-PostDec.ensures ∙ sym (ap (λ k. c.args.next.now + calls (expr_at c.args.e.now.at k)) c.in-PostDec.is))
 
 pub expression-returns-in_ok-made-in-PreInc-clause-tree : goal.expression-returns-in_ok-made-in-PreInc-clause-tree
 expression-returns-in_ok-made-in-PreInc-clause-tree t c =
-    let s = sited c.args.table.now in
-    let b = c.args.next.now in
-    let at = c.args.e.now.at in
-    c.in_ok-made-in-PreInc.ensures ∙ (ap (prefix at pre_increment) (c.in_ok-operand-in-PreInc.ensures.tree ∙ ap (λ x. marks.expr s b true (expr_of x)) c.deref-in-PreInc.ensures) ∙ sym (ap (λ k. marks.expr s b c.args.wanted (expr_at at k)) c.in-PreInc.is))
+    c.in_ok-made-in-PreInc.ensures ∙ (ap (prefix c.args.e.now.at pre_increment) (c.in_ok-operand-in-PreInc.ensures.tree ∙ ap (λ x. marks.expr (sited c.args.table.now) c.args.next.now true (expr_of x)) c.deref-in-PreInc.ensures) ∙ sym (ap (λ k. marks.expr (sited c.args.table.now) c.args.next.now c.args.wanted (expr_at c.args.e.now.at k)) c.in-PreInc.is))
 
 pub expression-returns-in_ok-made-in-PreInc-clause-keeps : goal.expression-returns-in_ok-made-in-PreInc-clause-keeps
 expression-returns-in_ok-made-in-PreInc-clause-keeps t c =
-    let s = sited c.args.table.now in
-    let b = c.args.next.now in
-    let at = c.args.e.now.at in
-    let old = temporaries_of c.args.kept.now.items in
-    c.in_ok-operand-in-PreInc.ensures.keeps ∙ (ap (λ x. old ++ marks.kept s b true (expr_of x)) c.deref-in-PreInc.ensures ∙ sym (ap (λ k. old ++ marks.kept s b c.args.wanted (expr_at at k)) c.in-PreInc.is))
+    c.in_ok-operand-in-PreInc.ensures.keeps ∙ (ap (λ x. (temporaries_of c.args.kept.now.items) ++ marks.kept (sited c.args.table.now) c.args.next.now true (expr_of x)) c.deref-in-PreInc.ensures ∙ sym (ap (λ k. (temporaries_of c.args.kept.now.items) ++ marks.kept (sited c.args.table.now) c.args.next.now c.args.wanted (expr_at c.args.e.now.at k)) c.in-PreInc.is))
 
 pub expression-returns-in_ok-made-in-PreInc-clause-counts : goal.expression-returns-in_ok-made-in-PreInc-clause-counts
 expression-returns-in_ok-made-in-PreInc-clause-counts t c =
-    let s = sited c.args.table.now in
-    let b = c.args.next.now in
-    let at = c.args.e.now.at in
-    c.in_ok-operand-in-PreInc.ensures.counts ∙ (ap (λ x. b + calls (expr_of x)) c.deref-in-PreInc.ensures ∙ sym (ap (λ k. b + calls (expr_at at k)) c.in-PreInc.is))
+    c.in_ok-operand-in-PreInc.ensures.counts ∙ (ap (λ x. c.args.next.now + calls (expr_of x)) c.deref-in-PreInc.ensures ∙ sym (ap (λ k. c.args.next.now + calls (expr_at c.args.e.now.at k)) c.in-PreInc.is))
 
 pub expression-returns-in_ok-made-in-PreDec-clause-tree : goal.expression-returns-in_ok-made-in-PreDec-clause-tree
 expression-returns-in_ok-made-in-PreDec-clause-tree t c =
-    let s = sited c.args.table.now in
-    let b = c.args.next.now in
-    let at = c.args.e.now.at in
-    c.in_ok-made-in-PreDec.ensures ∙ (ap (prefix at pre_decrement) (c.in_ok-operand-in-PreDec.ensures.tree ∙ ap (λ x. marks.expr s b true (expr_of x)) c.deref-in-PreDec.ensures) ∙ sym (ap (λ k. marks.expr s b c.args.wanted (expr_at at k)) c.in-PreDec.is))
+    c.in_ok-made-in-PreDec.ensures ∙ (ap (prefix c.args.e.now.at pre_decrement) (c.in_ok-operand-in-PreDec.ensures.tree ∙ ap (λ x. marks.expr (sited c.args.table.now) c.args.next.now true (expr_of x)) c.deref-in-PreDec.ensures) ∙ sym (ap (λ k. marks.expr (sited c.args.table.now) c.args.next.now c.args.wanted (expr_at c.args.e.now.at k)) c.in-PreDec.is))
 
 pub expression-returns-in_ok-made-in-PreDec-clause-keeps : goal.expression-returns-in_ok-made-in-PreDec-clause-keeps
 expression-returns-in_ok-made-in-PreDec-clause-keeps t c =
-    let s = sited c.args.table.now in
-    let b = c.args.next.now in
-    let at = c.args.e.now.at in
-    let old = temporaries_of c.args.kept.now.items in
-    c.in_ok-operand-in-PreDec.ensures.keeps ∙ (ap (λ x. old ++ marks.kept s b true (expr_of x)) c.deref-in-PreDec.ensures ∙ sym (ap (λ k. old ++ marks.kept s b c.args.wanted (expr_at at k)) c.in-PreDec.is))
+    c.in_ok-operand-in-PreDec.ensures.keeps ∙ (ap (λ x. (temporaries_of c.args.kept.now.items) ++ marks.kept (sited c.args.table.now) c.args.next.now true (expr_of x)) c.deref-in-PreDec.ensures ∙ sym (ap (λ k. (temporaries_of c.args.kept.now.items) ++ marks.kept (sited c.args.table.now) c.args.next.now c.args.wanted (expr_at c.args.e.now.at k)) c.in-PreDec.is))
 
 pub expression-returns-in_ok-made-in-PreDec-clause-counts : goal.expression-returns-in_ok-made-in-PreDec-clause-counts
 expression-returns-in_ok-made-in-PreDec-clause-counts t c =
-    let s = sited c.args.table.now in
-    let b = c.args.next.now in
-    let at = c.args.e.now.at in
-    c.in_ok-operand-in-PreDec.ensures.counts ∙ (ap (λ x. b + calls (expr_of x)) c.deref-in-PreDec.ensures ∙ sym (ap (λ k. b + calls (expr_at at k)) c.in-PreDec.is))
+    c.in_ok-operand-in-PreDec.ensures.counts ∙ (ap (λ x. c.args.next.now + calls (expr_of x)) c.deref-in-PreDec.ensures ∙ sym (ap (λ k. c.args.next.now + calls (expr_at c.args.e.now.at k)) c.in-PreDec.is))
 
 pub expression-returns-in_ok-made-in-Cast-clause-counts : goal.expression-returns-in_ok-made-in-Cast-clause-counts
 expression-returns-in_ok-made-in-Cast-clause-counts t c =
-    let s = sited c.args.table.now in
-    let b = c.args.next.now in
-    let at = c.args.e.now.at in
-    c.in_ok-operand-in-Cast.ensures.counts ∙ (ap (λ x. b + calls (expr_of x)) c.deref-in-Cast.ensures ∙ sym (ap (λ k. b + calls (expr_at at k)) c.in-Cast.is))
+    c.in_ok-operand-in-Cast.ensures.counts ∙ (ap (λ x. c.args.next.now + calls (expr_of x)) c.deref-in-Cast.ensures ∙ sym (ap (λ k. c.args.next.now + calls (expr_at c.args.e.now.at k)) c.in-Cast.is))
 
 pub expression-returns-in_ok-made-in-Index-clause-counts : goal.expression-returns-in_ok-made-in-Index-clause-counts
 expression-returns-in_ok-made-in-Index-clause-counts t c =
@@ -496,135 +439,75 @@ expression-returns-in_ok-made-in-Cond-clause-counts t c =
 
 pub expression-returns-in-Name-clause-tree : goal.expression-returns-in-Name-clause-tree
 expression-returns-in-Name-clause-tree t c =
-    let s = sited c.args.table.now in
-    let b = c.args.next.now in
-    let at = c.args.e.now.at in
-    made_as expr_of c.copy_expr.result _ _ (ap (λ k. expr_at at k) c.in-Name.is ∙ sym (ap (λ k. marks.expr s b c.args.wanted (expr_at at k)) c.in-Name.is)) c.copy_expr.ensures
+    made_as expr_of c.copy_expr.result _ _ (ap (λ k. expr_at c.args.e.now.at k) c.in-Name.is ∙ sym (ap (λ k. marks.expr (sited c.args.table.now) c.args.next.now c.args.wanted (expr_at c.args.e.now.at k)) c.in-Name.is)) c.copy_expr.ensures
 
 pub expression-returns-in-Name-clause-keeps : goal.expression-returns-in-Name-clause-keeps
 expression-returns-in-Name-clause-keeps t c =
-    let s = sited c.args.table.now in
-    let b = c.args.next.now in
-    let at = c.args.e.now.at in
-    let old = temporaries_of c.args.kept.now.items in
-    on_any c.copy_expr.result (none_new old _ (ap (λ k. marks.kept s b c.args.wanted (expr_at at k)) c.in-Name.is))
+    on_any c.copy_expr.result (none_new (temporaries_of c.args.kept.now.items) _ (ap (λ k. marks.kept (sited c.args.table.now) c.args.next.now c.args.wanted (expr_at c.args.e.now.at k)) c.in-Name.is))
 
 pub expression-returns-in-Name-clause-counts : goal.expression-returns-in-Name-clause-counts
 expression-returns-in-Name-clause-counts t c =
-    let s = sited c.args.table.now in
-    let b = c.args.next.now in
-    let at = c.args.e.now.at in
-    on_any c.copy_expr.result (no_calls b _ (ap (λ k. calls (expr_at at k)) c.in-Name.is))
+    on_any c.copy_expr.result (no_calls c.args.next.now _ (ap (λ k. calls (expr_at c.args.e.now.at k)) c.in-Name.is))
 
 pub expression-returns-in-Int-clause-tree : goal.expression-returns-in-Int-clause-tree
 expression-returns-in-Int-clause-tree t c =
-    let s = sited c.args.table.now in
-    let b = c.args.next.now in
-    let at = c.args.e.now.at in
-    made_as expr_of c.copy_expr-in-Int.result _ _ (ap (λ k. expr_at at k) c.in-Int.is ∙ sym (ap (λ k. marks.expr s b c.args.wanted (expr_at at k)) c.in-Int.is)) c.copy_expr-in-Int.ensures
+    made_as expr_of c.copy_expr-in-Int.result _ _ (ap (λ k. expr_at c.args.e.now.at k) c.in-Int.is ∙ sym (ap (λ k. marks.expr (sited c.args.table.now) c.args.next.now c.args.wanted (expr_at c.args.e.now.at k)) c.in-Int.is)) c.copy_expr-in-Int.ensures
 
 pub expression-returns-in-Int-clause-keeps : goal.expression-returns-in-Int-clause-keeps
 expression-returns-in-Int-clause-keeps t c =
-    let s = sited c.args.table.now in
-    let b = c.args.next.now in
-    let at = c.args.e.now.at in
-    let old = temporaries_of c.args.kept.now.items in
-    on_any c.copy_expr-in-Int.result (none_new old _ (ap (λ k. marks.kept s b c.args.wanted (expr_at at k)) c.in-Int.is))
+    on_any c.copy_expr-in-Int.result (none_new (temporaries_of c.args.kept.now.items) _ (ap (λ k. marks.kept (sited c.args.table.now) c.args.next.now c.args.wanted (expr_at c.args.e.now.at k)) c.in-Int.is))
 
 pub expression-returns-in-Int-clause-counts : goal.expression-returns-in-Int-clause-counts
 expression-returns-in-Int-clause-counts t c =
-    let s = sited c.args.table.now in
-    let b = c.args.next.now in
-    let at = c.args.e.now.at in
-    on_any c.copy_expr-in-Int.result (no_calls b _ (ap (λ k. calls (expr_at at k)) c.in-Int.is))
+    on_any c.copy_expr-in-Int.result (no_calls c.args.next.now _ (ap (λ k. calls (expr_at c.args.e.now.at k)) c.in-Int.is))
 
 pub expression-returns-in-Char-clause-tree : goal.expression-returns-in-Char-clause-tree
 expression-returns-in-Char-clause-tree t c =
-    let s = sited c.args.table.now in
-    let b = c.args.next.now in
-    let at = c.args.e.now.at in
-    made_as expr_of c.copy_expr-in-Char.result _ _ (ap (λ k. expr_at at k) c.in-Char.is ∙ sym (ap (λ k. marks.expr s b c.args.wanted (expr_at at k)) c.in-Char.is)) c.copy_expr-in-Char.ensures
+    made_as expr_of c.copy_expr-in-Char.result _ _ (ap (λ k. expr_at c.args.e.now.at k) c.in-Char.is ∙ sym (ap (λ k. marks.expr (sited c.args.table.now) c.args.next.now c.args.wanted (expr_at c.args.e.now.at k)) c.in-Char.is)) c.copy_expr-in-Char.ensures
 
 pub expression-returns-in-Char-clause-keeps : goal.expression-returns-in-Char-clause-keeps
 expression-returns-in-Char-clause-keeps t c =
-    let s = sited c.args.table.now in
-    let b = c.args.next.now in
-    let at = c.args.e.now.at in
-    let old = temporaries_of c.args.kept.now.items in
-    on_any c.copy_expr-in-Char.result (none_new old _ (ap (λ k. marks.kept s b c.args.wanted (expr_at at k)) c.in-Char.is))
+    on_any c.copy_expr-in-Char.result (none_new (temporaries_of c.args.kept.now.items) _ (ap (λ k. marks.kept (sited c.args.table.now) c.args.next.now c.args.wanted (expr_at c.args.e.now.at k)) c.in-Char.is))
 
 pub expression-returns-in-Char-clause-counts : goal.expression-returns-in-Char-clause-counts
 expression-returns-in-Char-clause-counts t c =
-    let s = sited c.args.table.now in
-    let b = c.args.next.now in
-    let at = c.args.e.now.at in
-    on_any c.copy_expr-in-Char.result (no_calls b _ (ap (λ k. calls (expr_at at k)) c.in-Char.is))
+    on_any c.copy_expr-in-Char.result (no_calls c.args.next.now _ (ap (λ k. calls (expr_at c.args.e.now.at k)) c.in-Char.is))
 
 pub expression-returns-in-Str-clause-tree : goal.expression-returns-in-Str-clause-tree
 expression-returns-in-Str-clause-tree t c =
-    let s = sited c.args.table.now in
-    let b = c.args.next.now in
-    let at = c.args.e.now.at in
-    made_as expr_of c.copy_expr-in-Str.result _ _ (ap (λ k. expr_at at k) c.in-Str.is ∙ sym (ap (λ k. marks.expr s b c.args.wanted (expr_at at k)) c.in-Str.is)) c.copy_expr-in-Str.ensures
+    made_as expr_of c.copy_expr-in-Str.result _ _ (ap (λ k. expr_at c.args.e.now.at k) c.in-Str.is ∙ sym (ap (λ k. marks.expr (sited c.args.table.now) c.args.next.now c.args.wanted (expr_at c.args.e.now.at k)) c.in-Str.is)) c.copy_expr-in-Str.ensures
 
 pub expression-returns-in-Str-clause-keeps : goal.expression-returns-in-Str-clause-keeps
 expression-returns-in-Str-clause-keeps t c =
-    let s = sited c.args.table.now in
-    let b = c.args.next.now in
-    let at = c.args.e.now.at in
-    let old = temporaries_of c.args.kept.now.items in
-    on_any c.copy_expr-in-Str.result (none_new old _ (ap (λ k. marks.kept s b c.args.wanted (expr_at at k)) c.in-Str.is))
+    on_any c.copy_expr-in-Str.result (none_new (temporaries_of c.args.kept.now.items) _ (ap (λ k. marks.kept (sited c.args.table.now) c.args.next.now c.args.wanted (expr_at c.args.e.now.at k)) c.in-Str.is))
 
 pub expression-returns-in-Str-clause-counts : goal.expression-returns-in-Str-clause-counts
 expression-returns-in-Str-clause-counts t c =
-    let s = sited c.args.table.now in
-    let b = c.args.next.now in
-    let at = c.args.e.now.at in
-    on_any c.copy_expr-in-Str.result (no_calls b _ (ap (λ k. calls (expr_at at k)) c.in-Str.is))
+    on_any c.copy_expr-in-Str.result (no_calls c.args.next.now _ (ap (λ k. calls (expr_at c.args.e.now.at k)) c.in-Str.is))
 
 pub expression-returns-in-SizeofType-clause-tree : goal.expression-returns-in-SizeofType-clause-tree
 expression-returns-in-SizeofType-clause-tree t c =
-    let s = sited c.args.table.now in
-    let b = c.args.next.now in
-    let at = c.args.e.now.at in
-    made_as expr_of c.copy_expr-in-SizeofType.result _ _ (ap (λ k. expr_at at k) c.in-SizeofType.is ∙ sym (ap (λ k. marks.expr s b c.args.wanted (expr_at at k)) c.in-SizeofType.is)) c.copy_expr-in-SizeofType.ensures
+    made_as expr_of c.copy_expr-in-SizeofType.result _ _ (ap (λ k. expr_at c.args.e.now.at k) c.in-SizeofType.is ∙ sym (ap (λ k. marks.expr (sited c.args.table.now) c.args.next.now c.args.wanted (expr_at c.args.e.now.at k)) c.in-SizeofType.is)) c.copy_expr-in-SizeofType.ensures
 
 pub expression-returns-in-SizeofType-clause-keeps : goal.expression-returns-in-SizeofType-clause-keeps
 expression-returns-in-SizeofType-clause-keeps t c =
-    let s = sited c.args.table.now in
-    let b = c.args.next.now in
-    let at = c.args.e.now.at in
-    let old = temporaries_of c.args.kept.now.items in
-    on_any c.copy_expr-in-SizeofType.result (none_new old _ (ap (λ k. marks.kept s b c.args.wanted (expr_at at k)) c.in-SizeofType.is))
+    on_any c.copy_expr-in-SizeofType.result (none_new (temporaries_of c.args.kept.now.items) _ (ap (λ k. marks.kept (sited c.args.table.now) c.args.next.now c.args.wanted (expr_at c.args.e.now.at k)) c.in-SizeofType.is))
 
 pub expression-returns-in-SizeofType-clause-counts : goal.expression-returns-in-SizeofType-clause-counts
 expression-returns-in-SizeofType-clause-counts t c =
-    let s = sited c.args.table.now in
-    let b = c.args.next.now in
-    let at = c.args.e.now.at in
-    on_any c.copy_expr-in-SizeofType.result (no_calls b _ (ap (λ k. calls (expr_at at k)) c.in-SizeofType.is))
+    on_any c.copy_expr-in-SizeofType.result (no_calls c.args.next.now _ (ap (λ k. calls (expr_at c.args.e.now.at k)) c.in-SizeofType.is))
 
 pub expression-returns-in-SizeofExpr-clause-tree : goal.expression-returns-in-SizeofExpr-clause-tree
 expression-returns-in-SizeofExpr-clause-tree t c =
-    let s = sited c.args.table.now in
-    let b = c.args.next.now in
-    let at = c.args.e.now.at in
-    made_as expr_of c.copy_expr-in-SizeofExpr.result _ _ (ap (λ k. expr_at at k) c.in-SizeofExpr.is ∙ sym (ap (λ k. marks.expr s b c.args.wanted (expr_at at k)) c.in-SizeofExpr.is)) c.copy_expr-in-SizeofExpr.ensures
+    made_as expr_of c.copy_expr-in-SizeofExpr.result _ _ (ap (λ k. expr_at c.args.e.now.at k) c.in-SizeofExpr.is ∙ sym (ap (λ k. marks.expr (sited c.args.table.now) c.args.next.now c.args.wanted (expr_at c.args.e.now.at k)) c.in-SizeofExpr.is)) c.copy_expr-in-SizeofExpr.ensures
 
 pub expression-returns-in-SizeofExpr-clause-keeps : goal.expression-returns-in-SizeofExpr-clause-keeps
 expression-returns-in-SizeofExpr-clause-keeps t c =
-    let s = sited c.args.table.now in
-    let b = c.args.next.now in
-    let at = c.args.e.now.at in
-    let old = temporaries_of c.args.kept.now.items in
-    on_any c.copy_expr-in-SizeofExpr.result (none_new old _ (ap (λ k. marks.kept s b c.args.wanted (expr_at at k)) c.in-SizeofExpr.is))
+    on_any c.copy_expr-in-SizeofExpr.result (none_new (temporaries_of c.args.kept.now.items) _ (ap (λ k. marks.kept (sited c.args.table.now) c.args.next.now c.args.wanted (expr_at c.args.e.now.at k)) c.in-SizeofExpr.is))
 
 pub expression-returns-in-SizeofExpr-clause-counts : goal.expression-returns-in-SizeofExpr-clause-counts
 expression-returns-in-SizeofExpr-clause-counts t c =
-    let s = sited c.args.table.now in
-    let b = c.args.next.now in
-    let at = c.args.e.now.at in
-    on_any c.copy_expr-in-SizeofExpr.result (no_calls b _ (ap (λ k. calls (expr_at at k)) c.in-SizeofExpr.is))
+    on_any c.copy_expr-in-SizeofExpr.result (no_calls c.args.next.now _ (ap (λ k. calls (expr_at c.args.e.now.at k)) c.in-SizeofExpr.is))
 
 pub expression-returns-in_ok-made-in-Unary-clause-tree : goal.expression-returns-in_ok-made-in-Unary-clause-tree
 expression-returns-in_ok-made-in-Unary-clause-tree t c =
@@ -647,9 +530,7 @@ expression-returns-in_ok-made-in-Unary-clause-keeps t c =
 
 pub expression-returns-in_ok-made-in-Unary-clause-counts : goal.expression-returns-in_ok-made-in-Unary-clause-counts
 expression-returns-in_ok-made-in-Unary-clause-counts t c =
-    let b = c.args.next.now in
-    let at = c.args.e.now.at in
-    c.in_ok-operand-in-Unary.ensures.counts ∙ (ap (λ x. b + calls (expr_of x)) c.deref-in-Unary-2.ensures ∙ sym (ap (λ k. b + calls (expr_at at k)) c.in-Unary.is))
+    c.in_ok-operand-in-Unary.ensures.counts ∙ (ap (λ x. c.args.next.now + calls (expr_of x)) c.deref-in-Unary-2.ensures ∙ sym (ap (λ k. c.args.next.now + calls (expr_at c.args.e.now.at k)) c.in-Unary.is))
 
 pub expression-unreachable-requires : goal.expression-unreachable-requires
 expression-unreachable-requires t c =
