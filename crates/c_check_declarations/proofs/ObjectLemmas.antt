@@ -1,5 +1,5 @@
 -- Types, sizes and demands of declared objects.
-use Rattle.std.proofs.Common.{◌≡◌, ℕ, zero, suc, ◌≤◌, Bool, true, false, List, length, Option, Some, Result, Vec, Global, nat_le, refl, sym, ap, subst, ◌∙◌, arith}
+use Rattle.std.proofs.Common.{◌≡◌, ℕ, zero, suc, ◌≤◌, Bool, true, false, List, length, Option, Some, Result, Vec, Global, nat_le, refl, sym, ap, subst, ◌∙◌, arith, [], ◌∷◌}
 use Rattle.std.proofs.lemmas.Bool.{leb-true}
 use Rattle.c_check_values.specs.declared.error.CheckError.{CheckError}
 use Rattle.c_check_values.specs.declared.error.CheckError.TheVariants as errors
@@ -27,7 +27,12 @@ use Rattle.c_tree.specs.Layout.{cells}
 use Rattle.c_tree.specs.View.{ctype_of}
 use Rattle.c_tree.specs.Tree.{CType, void, integer, pointer, array, struct, function}
 use Rattle.c_check_scopes.proofs.NumberLemmas.{not_so}
-pub use Rattle.c_check_values.proofs.CountingLemmas.{count_is}
+use Rattle.c_rules.specs.Initialisers.{count_inits}
+use Rattle.c_syntax.specs.WritesUnit.{inits_of}
+
+pub count_is : (is : List InitTree) → count_inits (inits_of is) ≡ length is
+count_is [] = refl
+count_is (i ∷ is) = ap suc (count_is is)
 
 -- ## Initialisers
 

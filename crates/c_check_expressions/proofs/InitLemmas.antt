@@ -24,7 +24,10 @@ use Rattle.c_syntax.specs.UnitView.{init_at, init_of}
 use Rattle.c_syntax.specs.WritesUnit.{inits_of}
 use Rattle.c_tree.specs.declared.value.IntType.TheVariants.{Char, Uchar, Int, Uint}
 use Rattle.c_tree.specs.Tree.{CType, void, integer, pointer, array, struct, function}
-pub use Rattle.c_check_values.proofs.CountingLemmas.{count_is}
+
+pub count_is : (is : List InitTree) → count_inits (inits_of is) ≡ length is
+count_is [] = refl
+count_is (i ∷ is) = ap suc (count_is is)
 
 -- ## Arrays of char that a string initialises
 

@@ -1,4 +1,3 @@
-pub mod CountingLemmas
 pub mod FaultLemmas
 pub mod Parts
 pub mod PartsOfTypes

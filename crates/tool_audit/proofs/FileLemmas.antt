@@ -11,7 +11,8 @@ use Rattle.sys_table.specs.declared.results_error.ResultsError.TheVariants as er
 use Rattle.tool_audit.specs.Audit.{Audits, IsAuditStatus, RefusesToAudit, IsReadyToAudit}
 use Rattle.tool_audit.proofs.Verdicts.{audit_ends}
 use Rattle.alarm_laws.specs.MarkedRuns.{marked_run}
-use Rattle.tool_steps.proofs.CommandLemmas.{accepted_once, results_or_refused}
+use Rattle.tool_steps.proofs.ResultsRefused.{results_or_refused}
+use Rattle.tool_steps.proofs.SourceLemmas.{accepted_once}
 
 module _ (told : Files) (source results : List ℕ) where
   good_files : (status : Status) (line : List ℕ) (p : Program) → IsAcceptedAs (file_at told source) Plain p → (graph_of_program p).nodes ≤ 200000 → AreSomeResults told results → RefusesToAudit (Some told) source results status line → ⊥

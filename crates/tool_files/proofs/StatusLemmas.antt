@@ -2,7 +2,8 @@
 use Rattle.std.proofs.Common.{ap, inl, inr, refl, subst, sym, ◌∙◌}
 use Rattle.dm_base.specs.declared.verdict.Status.{Status}
 use Rattle.dm_base.specs.declared.verdict.Status.TheVariants.{Bound}
-use Rattle.dm_base.specs.declared.verdict.Verdict.{TheVariants as verdicts, Verdict}
+use Rattle.dm_base.specs.declared.verdict.Verdict.{Verdict}
+use Rattle.dm_base.specs.declared.verdict.Verdict.TheVariants as verdicts
 use Rattle.tool_frame.specs.Stop.{IsFinished}
 use Rattle.tool_monitors.specs.Judged.{status_of, worse}
 

@@ -5,7 +5,7 @@ use Rattle.dm_io.specs.Store.{Files}
 use Rattle.sys_table.specs.declared.results_error.ResultsError.TheVariants as errors
 use Rattle.tool_run.specs.Run.{Runs, RefusesToRun, IsSomeProgram, IsReadyToRun}
 use Rattle.tool_steps.specs.Results.{AreSomeResults}
-use Rattle.tool_steps.proofs.CommandLemmas.{results_or_refused}
+use Rattle.tool_steps.proofs.ResultsRefused.{results_or_refused}
 
 module _ (told : Files) (source results : List ℕ) where
   good_files : (status : Status) (line : List ℕ) → IsSomeProgram told source → AreSomeResults told results → RefusesToRun (Some told) source results status line → ⊥

@@ -27,6 +27,7 @@ use Rattle.c_tree.specs.View.{program_of}
 use Rattle.tool_sources.specs.declared.source.Source.{Source}
 use Rattle.tool_sources.specs.Errors.{of_lexer, of_parser, of_checker}
 use Rattle.tool_sources.specs.Sources.{IsSourceOf, IsSourceCause, HasNoProgram}
+use Rattle.c_rules_laws.proofs.Texts.{one_program}
 
 -- one list of tokens, one unit, one program
 
@@ -80,3 +81,7 @@ module _ (text : List ℕ) (m : Mode) (tokens : List Token) (lexed : SpellsToken
   typed_none unit (checks.At code place) spelled refused = λ named p is.
       let same : is.unit ≡ unit = one_unit most_pairs most_pairs is.unit unit tokens (same_tokens p is).reads spelled.reads in
       refused.1 p (subst (λ (u : Items). IsTyped u m p) same is.typed)
+
+-- a text is accepted as one program
+pub accepted_once : (text : List ℕ) (m : Mode) (p q : Program) → IsAcceptedAs text m p → IsAcceptedAs text m q → p ≡ q
+accepted_once = one_program one_reading one_unit one_typing

@@ -2,4 +2,4 @@ pub mod ModelLemmas
 pub mod RecordedRuns
 pub mod ResultsFiles
 pub use Rattle.tool_sources.proofs.SourceLemmas
-pub mod CommandLemmas
+pub mod ResultsRefused

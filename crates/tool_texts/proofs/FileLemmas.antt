@@ -21,8 +21,7 @@ use Rattle.tool_texts.specs.Modelled.{Models, RefusesToModel, IsReadyToModel}
 use Rattle.tool_steps.specs.ModelTexts.{IsModelOf, IsPastLimit, many_nodes, long_text}
 use Rattle.tool_steps.specs.Sources.{IsSourceOf, RefusesSource}
 use Rattle.tool_steps.specs.ModelStops.{StopsModelling}
-use Rattle.tool_steps.proofs.SourceLemmas.{source_accepted}
-use Rattle.tool_steps.proofs.CommandLemmas.{accepted_once}
+use Rattle.tool_steps.proofs.SourceLemmas.{source_accepted, accepted_once}
 
 -- what a command makes of a program that a file was read as
 
