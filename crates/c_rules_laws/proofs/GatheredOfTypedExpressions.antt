@@ -237,64 +237,64 @@ module _ {X : Type 0} (gathering : Gathering X) (no_names : (f : ℕ) → gather
   -- ## Operators between two values
 
   module _ (xs ys : List X) where
-    both_sites : (c a b : Constant) (e f : Expr) → (IsConst c → IsConst a × IsConst b) → (gathered gathering e ≡ xs) × (IsConst a → xs ≡ []) → (gathered gathering f ≡ ys) × (IsConst b → ys ≡ []) → (gathered gathering e ++ gathered gathering f ≡ xs ++ ys) × (IsConst c → xs ++ ys ≡ [])
-    both_sites c a b e f k g h = (ap₂ (λ x y. x ++ y) g.0 h.0, λ z. (let w = k z in none_both xs ys (g.1 w.0) (h.1 w.1)))
+    both_gathered : (c a b : Constant) (e f : Expr) → (IsConst c → IsConst a × IsConst b) → (gathered gathering e ≡ xs) × (IsConst a → xs ≡ []) → (gathered gathering f ≡ ys) × (IsConst b → ys ≡ []) → (gathered gathering e ++ gathered gathering f ≡ xs ++ ys) × (IsConst c → xs ++ ys ≡ [])
+    both_gathered c a b e f k g h = (ap₂ (λ x y. x ++ y) g.0 h.0, λ z. (let w = k z in none_both xs ys (g.1 w.0) (h.1 w.1)))
 
-    calculated_sites : (o : BinOp) (i j : IntType) (a b : TypedExpression) → Gathers gathering xs a → Gathers gathering ys b → Gathers gathering (xs ++ ys) (shifted o i j a b)
-    calculated_sites o i j a b g h = both_sites _ (converted_to i a).constant (converted_to j b).constant (tree_of (converted_to i a)) (tree_of (converted_to j b)) (binary_const o (converted_to i a).constant (converted_to j b).constant) (converted_gathered xs i a g) (converted_gathered ys j b h)
+    calculated_gathered : (o : BinOp) (i j : IntType) (a b : TypedExpression) → Gathers gathering xs a → Gathers gathering ys b → Gathers gathering (xs ++ ys) (shifted o i j a b)
+    calculated_gathered o i j a b g h = both_gathered _ (converted_to i a).constant (converted_to j b).constant (tree_of (converted_to i a)) (tree_of (converted_to j b)) (binary_const o (converted_to i a).constant (converted_to j b).constant) (converted_gathered xs i a g) (converted_gathered ys j b h)
 
-    compared_sites : (o : BinOp) (i : IntType) (a b : TypedExpression) → Gathers gathering xs a → Gathers gathering ys b → Gathers gathering (xs ++ ys) (compared_integers o i a b)
-    compared_sites o i a b g h = both_sites _ (converted_to i a).constant (converted_to i b).constant (tree_of (converted_to i a)) (tree_of (converted_to i b)) (binary_const o (converted_to i a).constant (converted_to i b).constant) (converted_gathered xs i a g) (converted_gathered ys i b h)
+    compared_gathered : (o : BinOp) (i : IntType) (a b : TypedExpression) → Gathers gathering xs a → Gathers gathering ys b → Gathers gathering (xs ++ ys) (compared_integers o i a b)
+    compared_gathered o i a b g h = both_gathered _ (converted_to i a).constant (converted_to i b).constant (tree_of (converted_to i a)) (tree_of (converted_to i b)) (binary_const o (converted_to i a).constant (converted_to i b).constant) (converted_gathered xs i a g) (converted_gathered ys i b h)
 
-    plain_sites : (e f : Expr) → gathered gathering e ≡ xs → gathered gathering f ≡ ys → (gathered gathering e ++ gathered gathering f ≡ xs ++ ys) × (⊥ → xs ++ ys ≡ [])
-    plain_sites e f g h = (ap₂ (λ x y. x ++ y) g h, λ c. absurd c)
+    plain_gathered : (e f : Expr) → gathered gathering e ≡ xs → gathered gathering f ≡ ys → (gathered gathering e ++ gathered gathering f ≡ xs ++ ys) × (⊥ → xs ++ ys ≡ [])
+    plain_gathered e f g h = (ap₂ (λ x y. x ++ y) g h, λ c. absurd c)
 
     turned : (c k : Constant) (s : ℤ → ℤ) → IsConst (constant_moved c s k) → IsConst k × IsConst c
     turned c k s h = (let w = moved_const c s k h in (w.1, w.0))
 
-    sum_of_sites : (env : Env) (at : ℕ) (a b : TypedExpression) (k l : Kind) → Gathers gathering xs a → Gathers gathering ys b → Holds (Gathers gathering (xs ++ ys)) (sum_of env at a b k l)
-    sum_of_sites env at a b (an_integer i) (an_integer j) g h = calculated_sites op.Add (common i j) (common i j) a b g h
-    sum_of_sites env at a b (a_pointer t) (an_integer j) g h = after_part (Gathers gathering (xs ++ ys)) (complete env at t) _ (λ _. both_sites _ a.constant b.constant (tree_of a) (tree_of b) (moved_const a.constant _ b.constant) g h)
-    sum_of_sites env at a b (an_integer i) (a_pointer t) g h = after_part (Gathers gathering (xs ++ ys)) (complete env at t) _ (λ _. both_sites _ a.constant b.constant (tree_of a) (tree_of b) (turned b.constant a.constant _) g h)
-    sum_of_sites env at a b (an_integer i) neither g h = tt
-    sum_of_sites env at a b (a_pointer t) (a_pointer u) g h = tt
-    sum_of_sites env at a b (a_pointer t) neither g h = tt
-    sum_of_sites env at a b neither l g h = tt
+    sum_of_gathered : (env : Env) (at : ℕ) (a b : TypedExpression) (k l : Kind) → Gathers gathering xs a → Gathers gathering ys b → Holds (Gathers gathering (xs ++ ys)) (sum_of env at a b k l)
+    sum_of_gathered env at a b (an_integer i) (an_integer j) g h = calculated_gathered op.Add (common i j) (common i j) a b g h
+    sum_of_gathered env at a b (a_pointer t) (an_integer j) g h = after_part (Gathers gathering (xs ++ ys)) (complete env at t) _ (λ _. both_gathered _ a.constant b.constant (tree_of a) (tree_of b) (moved_const a.constant _ b.constant) g h)
+    sum_of_gathered env at a b (an_integer i) (a_pointer t) g h = after_part (Gathers gathering (xs ++ ys)) (complete env at t) _ (λ _. both_gathered _ a.constant b.constant (tree_of a) (tree_of b) (turned b.constant a.constant _) g h)
+    sum_of_gathered env at a b (an_integer i) neither g h = tt
+    sum_of_gathered env at a b (a_pointer t) (a_pointer u) g h = tt
+    sum_of_gathered env at a b (a_pointer t) neither g h = tt
+    sum_of_gathered env at a b neither l g h = tt
 
-    pub sum_sites : (env : Env) (at : ℕ) (a b : TypedExpression) → Gathers gathering xs a → Gathers gathering ys b → Holds (Gathers gathering (xs ++ ys)) (sum env at a b)
-    sum_sites env at a b g h = sum_of_sites env at a b (kind_of a.ctype) (kind_of b.ctype) g h
+    pub sum_gathered : (env : Env) (at : ℕ) (a b : TypedExpression) → Gathers gathering xs a → Gathers gathering ys b → Holds (Gathers gathering (xs ++ ys)) (sum env at a b)
+    sum_gathered env at a b g h = sum_of_gathered env at a b (kind_of a.ctype) (kind_of b.ctype) g h
 
-    minus_sites : (env : Env) (at : ℕ) (a b : TypedExpression) (k l : Kind) → Gathers gathering xs a → Gathers gathering ys b → Holds (Gathers gathering (xs ++ ys)) (minus_of env at a b k l)
-    minus_sites env at a b (an_integer i) (an_integer j) g h = calculated_sites op.Sub (common i j) (common i j) a b g h
-    minus_sites env at a b (a_pointer t) (an_integer j) g h = after_part (Gathers gathering (xs ++ ys)) (complete env at t) _ (λ _. both_sites _ a.constant b.constant (tree_of a) (tree_of b) (moved_const a.constant _ b.constant) g h)
-    minus_sites env at a b (a_pointer t) (a_pointer u) g h = behind_demand (Gathers gathering (xs ++ ys)) (same_type t u) 3 at _ (λ _. after_part (Gathers gathering (xs ++ ys)) (complete env at t) _ (λ _. plain_sites (tree_of a) (tree_of b) g.0 h.0))
-    minus_sites env at a b (an_integer i) (a_pointer t) g h = tt
-    minus_sites env at a b (an_integer i) neither g h = tt
-    minus_sites env at a b (a_pointer t) neither g h = tt
-    minus_sites env at a b neither l g h = tt
+    minus_gathered : (env : Env) (at : ℕ) (a b : TypedExpression) (k l : Kind) → Gathers gathering xs a → Gathers gathering ys b → Holds (Gathers gathering (xs ++ ys)) (minus_of env at a b k l)
+    minus_gathered env at a b (an_integer i) (an_integer j) g h = calculated_gathered op.Sub (common i j) (common i j) a b g h
+    minus_gathered env at a b (a_pointer t) (an_integer j) g h = after_part (Gathers gathering (xs ++ ys)) (complete env at t) _ (λ _. both_gathered _ a.constant b.constant (tree_of a) (tree_of b) (moved_const a.constant _ b.constant) g h)
+    minus_gathered env at a b (a_pointer t) (a_pointer u) g h = behind_demand (Gathers gathering (xs ++ ys)) (same_type t u) 3 at _ (λ _. after_part (Gathers gathering (xs ++ ys)) (complete env at t) _ (λ _. plain_gathered (tree_of a) (tree_of b) g.0 h.0))
+    minus_gathered env at a b (an_integer i) (a_pointer t) g h = tt
+    minus_gathered env at a b (an_integer i) neither g h = tt
+    minus_gathered env at a b (a_pointer t) neither g h = tt
+    minus_gathered env at a b neither l g h = tt
 
-    balanced_sites : (at : ℕ) (o : BinOp) (a b : TypedExpression) (k l : Kind) → Gathers gathering xs a → Gathers gathering ys b → Holds (Gathers gathering (xs ++ ys)) (balanced_of at o a b k l)
-    balanced_sites at o a b (an_integer i) (an_integer j) g h = calculated_sites o (common i j) (common i j) a b g h
-    balanced_sites at o a b (an_integer i) (a_pointer t) g h = tt
-    balanced_sites at o a b (an_integer i) neither g h = tt
-    balanced_sites at o a b (a_pointer t) l g h = tt
-    balanced_sites at o a b neither l g h = tt
+    balanced_gathered : (at : ℕ) (o : BinOp) (a b : TypedExpression) (k l : Kind) → Gathers gathering xs a → Gathers gathering ys b → Holds (Gathers gathering (xs ++ ys)) (balanced_of at o a b k l)
+    balanced_gathered at o a b (an_integer i) (an_integer j) g h = calculated_gathered o (common i j) (common i j) a b g h
+    balanced_gathered at o a b (an_integer i) (a_pointer t) g h = tt
+    balanced_gathered at o a b (an_integer i) neither g h = tt
+    balanced_gathered at o a b (a_pointer t) l g h = tt
+    balanced_gathered at o a b neither l g h = tt
 
-    shift_sites : (at : ℕ) (o : BinOp) (a b : TypedExpression) (k l : Kind) → Gathers gathering xs a → Gathers gathering ys b → Holds (Gathers gathering (xs ++ ys)) (shift_of at o a b k l)
-    shift_sites at o a b (an_integer i) (an_integer j) g h = calculated_sites o (promoted i) (promoted j) a b g h
-    shift_sites at o a b (an_integer i) (a_pointer t) g h = tt
-    shift_sites at o a b (an_integer i) neither g h = tt
-    shift_sites at o a b (a_pointer t) l g h = tt
-    shift_sites at o a b neither l g h = tt
+    shift_gathered : (at : ℕ) (o : BinOp) (a b : TypedExpression) (k l : Kind) → Gathers gathering xs a → Gathers gathering ys b → Holds (Gathers gathering (xs ++ ys)) (shift_of at o a b k l)
+    shift_gathered at o a b (an_integer i) (an_integer j) g h = calculated_gathered o (promoted i) (promoted j) a b g h
+    shift_gathered at o a b (an_integer i) (a_pointer t) g h = tt
+    shift_gathered at o a b (an_integer i) neither g h = tt
+    shift_gathered at o a b (a_pointer t) l g h = tt
+    shift_gathered at o a b neither l g h = tt
 
-    ordered_sites : (env : Env) (at : ℕ) (o : BinOp) (a b : TypedExpression) (k l : Kind) → Gathers gathering xs a → Gathers gathering ys b → Holds (Gathers gathering (xs ++ ys)) (ordered_of env at o a b k l)
-    ordered_sites env at o a b (an_integer i) (an_integer j) g h = compared_sites o (common i j) a b g h
-    ordered_sites env at o a b (a_pointer t) (a_pointer u) g h = behind_demand (Gathers gathering (xs ++ ys)) (same_type t u) 3 at _ (λ _. after_part (Gathers gathering (xs ++ ys)) (complete env at t) _ (λ _. plain_sites (tree_of a) (tree_of b) g.0 h.0))
-    ordered_sites env at o a b (an_integer i) (a_pointer t) g h = tt
-    ordered_sites env at o a b (an_integer i) neither g h = tt
-    ordered_sites env at o a b (a_pointer t) (an_integer j) g h = tt
-    ordered_sites env at o a b (a_pointer t) neither g h = tt
-    ordered_sites env at o a b neither l g h = tt
+    ordered_gathered : (env : Env) (at : ℕ) (o : BinOp) (a b : TypedExpression) (k l : Kind) → Gathers gathering xs a → Gathers gathering ys b → Holds (Gathers gathering (xs ++ ys)) (ordered_of env at o a b k l)
+    ordered_gathered env at o a b (an_integer i) (an_integer j) g h = compared_gathered o (common i j) a b g h
+    ordered_gathered env at o a b (a_pointer t) (a_pointer u) g h = behind_demand (Gathers gathering (xs ++ ys)) (same_type t u) 3 at _ (λ _. after_part (Gathers gathering (xs ++ ys)) (complete env at t) _ (λ _. plain_gathered (tree_of a) (tree_of b) g.0 h.0))
+    ordered_gathered env at o a b (an_integer i) (a_pointer t) g h = tt
+    ordered_gathered env at o a b (an_integer i) neither g h = tt
+    ordered_gathered env at o a b (a_pointer t) (an_integer j) g h = tt
+    ordered_gathered env at o a b (a_pointer t) neither g h = tt
+    ordered_gathered env at o a b neither l g h = tt
 
     abbrev AlikeSites : Alike → Type 0
     AlikeSites (alike_integers i) = Unit {0}
@@ -305,64 +305,64 @@ module _ {X : Type 0} (gathering : Gathering X) (no_names : (f : ℕ) → gather
     if_alike true x y h k = h refl
     if_alike false x y h k = k
 
-    pointers_sites : (a b : TypedExpression) → Gathers gathering xs a → Gathers gathering ys b → AlikeSites (pointers_alike a b)
-    pointers_sites a b g h =
+    pointers_gathered : (a b : TypedExpression) → Gathers gathering xs a → Gathers gathering ys b → AlikeSites (pointers_alike a b)
+    pointers_gathered a b g h =
         if_alike (same_type a.ctype b.ctype) (alike_pointers a b) _ (λ _. (g, h))
         (if_alike (is_null a) (alike_pointers (null_of b.ctype) b) _ (λ e. (null_gathered xs b.ctype a e g, h))
         (if_alike (is_null b) (alike_pointers a (null_of a.ctype)) unlike (λ e. (g, null_gathered ys a.ctype b e h)) tt))
 
-    alike_of_sites : (a b : TypedExpression) (k l : Kind) → Gathers gathering xs a → Gathers gathering ys b → AlikeSites (alike_of a b k l)
-    alike_of_sites a b (an_integer i) (an_integer j) g h = tt
-    alike_of_sites a b (a_pointer t) (a_pointer u) g h = pointers_sites a b g h
-    alike_of_sites a b (a_pointer t) (an_integer j) g h = if_alike (is_null b) (alike_pointers a (null_of a.ctype)) unlike (λ e. (g, null_gathered ys a.ctype b e h)) tt
-    alike_of_sites a b (an_integer i) (a_pointer u) g h = if_alike (is_null a) (alike_pointers (null_of b.ctype) b) unlike (λ e. (null_gathered xs b.ctype a e g, h)) tt
-    alike_of_sites a b (an_integer i) neither g h = tt
-    alike_of_sites a b (a_pointer t) neither g h = tt
-    alike_of_sites a b neither l g h = tt
+    alike_of_gathered : (a b : TypedExpression) (k l : Kind) → Gathers gathering xs a → Gathers gathering ys b → AlikeSites (alike_of a b k l)
+    alike_of_gathered a b (an_integer i) (an_integer j) g h = tt
+    alike_of_gathered a b (a_pointer t) (a_pointer u) g h = pointers_gathered a b g h
+    alike_of_gathered a b (a_pointer t) (an_integer j) g h = if_alike (is_null b) (alike_pointers a (null_of a.ctype)) unlike (λ e. (g, null_gathered ys a.ctype b e h)) tt
+    alike_of_gathered a b (an_integer i) (a_pointer u) g h = if_alike (is_null a) (alike_pointers (null_of b.ctype) b) unlike (λ e. (null_gathered xs b.ctype a e g, h)) tt
+    alike_of_gathered a b (an_integer i) neither g h = tt
+    alike_of_gathered a b (a_pointer t) neither g h = tt
+    alike_of_gathered a b neither l g h = tt
 
-    equality_sites : (at : ℕ) (o : BinOp) (a b : TypedExpression) (x : Alike) → AlikeSites x → Gathers gathering xs a → Gathers gathering ys b → Holds (Gathers gathering (xs ++ ys)) (equality_of at o a b x)
-    equality_sites at o a b (alike_integers i) s g h = compared_sites o i a b g h
-    equality_sites at o a b (alike_pointers x y) s g h = plain_sites (tree_of x) (tree_of y) s.0.0 s.1.0
-    equality_sites at o a b unlike s g h = tt
+    equality_gathered : (at : ℕ) (o : BinOp) (a b : TypedExpression) (x : Alike) → AlikeSites x → Gathers gathering xs a → Gathers gathering ys b → Holds (Gathers gathering (xs ++ ys)) (equality_of at o a b x)
+    equality_gathered at o a b (alike_integers i) s g h = compared_gathered o i a b g h
+    equality_gathered at o a b (alike_pointers x y) s g h = plain_gathered (tree_of x) (tree_of y) s.0.0 s.1.0
+    equality_gathered at o a b unlike s g h = tt
 
-    arithmetic_sites : (env : Env) (at : ℕ) (o : BinOp) (a b : TypedExpression) → Gathers gathering xs a → Gathers gathering ys b → Holds (Gathers gathering (xs ++ ys)) (arithmetic_of env at o a b)
-    arithmetic_sites env at op.Add a b g h = sum_sites env at a b g h
-    arithmetic_sites env at op.Sub a b g h = minus_sites env at a b (kind_of a.ctype) (kind_of b.ctype) g h
-    arithmetic_sites env at o a b g h = balanced_sites at _ a b (kind_of a.ctype) (kind_of b.ctype) g h
+    arithmetic_gathered : (env : Env) (at : ℕ) (o : BinOp) (a b : TypedExpression) → Gathers gathering xs a → Gathers gathering ys b → Holds (Gathers gathering (xs ++ ys)) (arithmetic_of env at o a b)
+    arithmetic_gathered env at op.Add a b g h = sum_gathered env at a b g h
+    arithmetic_gathered env at op.Sub a b g h = minus_gathered env at a b (kind_of a.ctype) (kind_of b.ctype) g h
+    arithmetic_gathered env at o a b g h = balanced_gathered at _ a b (kind_of a.ctype) (kind_of b.ctype) g h
 
-    operation_of_sites : (env : Env) (at : ℕ) (o : BinOp) (a b : TypedExpression) (k : OperatorKind) → Gathers gathering xs a → Gathers gathering ys b → Holds (Gathers gathering (xs ++ ys)) (operation_of env at o a b k)
-    operation_of_sites env at o a b balanced g h = arithmetic_sites env at o a b g h
-    operation_of_sites env at o a b shift g h = shift_sites at o a b (kind_of a.ctype) (kind_of b.ctype) g h
-    operation_of_sites env at o a b ordering g h = ordered_sites env at o a b (kind_of a.ctype) (kind_of b.ctype) g h
-    operation_of_sites env at o a b equality g h = equality_sites at o a b (alike a b) (alike_of_sites a b (kind_of a.ctype) (kind_of b.ctype) g h) g h
+    operation_of_gathered : (env : Env) (at : ℕ) (o : BinOp) (a b : TypedExpression) (k : OperatorKind) → Gathers gathering xs a → Gathers gathering ys b → Holds (Gathers gathering (xs ++ ys)) (operation_of env at o a b k)
+    operation_of_gathered env at o a b balanced g h = arithmetic_gathered env at o a b g h
+    operation_of_gathered env at o a b shift g h = shift_gathered at o a b (kind_of a.ctype) (kind_of b.ctype) g h
+    operation_of_gathered env at o a b ordering g h = ordered_gathered env at o a b (kind_of a.ctype) (kind_of b.ctype) g h
+    operation_of_gathered env at o a b equality g h = equality_gathered at o a b (alike a b) (alike_of_gathered a b (kind_of a.ctype) (kind_of b.ctype) g h) g h
 
-    pub operation_sites : (env : Env) (at : ℕ) (o : BinOp) (a b : TypedExpression) → Gathers gathering xs a → Gathers gathering ys b → Holds (Gathers gathering (xs ++ ys)) (operation env at o a b)
-    operation_sites env at o a b g h = operation_of_sites env at o a b (kind_of_operator o) g h
+    pub operation_gathered : (env : Env) (at : ℕ) (o : BinOp) (a b : TypedExpression) → Gathers gathering xs a → Gathers gathering ys b → Holds (Gathers gathering (xs ++ ys)) (operation env at o a b)
+    operation_gathered env at o a b g h = operation_of_gathered env at o a b (kind_of_operator o) g h
 
     two_parts : (a b : TypedExpression) (f : Constant → Constant → Constant) → ((c d : Constant) → IsConst (f c d) → IsConst c × IsConst d) → IsConst (f (integer_constant a) (integer_constant b)) → IsConst a.constant × IsConst b.constant
     two_parts a b f k h = (let w = k (integer_constant a) (integer_constant b) h in (integer_const (is_integer a.ctype) a.constant w.0, integer_const (is_integer b.ctype) b.constant w.1))
 
-    pub conjunction_sites : (at : ℕ) (a b : TypedExpression) → Gathers gathering xs a → Gathers gathering ys b → Holds (Gathers gathering (xs ++ ys)) (conjunction at a b)
-    conjunction_sites at a b g h = demand_holds (Gathers gathering (xs ++ ys)) (both_scalars a b) 3 at _ (λ _. both_sites _ a.constant b.constant (tree_of a) (tree_of b) (two_parts a b constant_and and_const) g h)
+    pub conjunction_gathered : (at : ℕ) (a b : TypedExpression) → Gathers gathering xs a → Gathers gathering ys b → Holds (Gathers gathering (xs ++ ys)) (conjunction at a b)
+    conjunction_gathered at a b g h = demand_holds (Gathers gathering (xs ++ ys)) (both_scalars a b) 3 at _ (λ _. both_gathered _ a.constant b.constant (tree_of a) (tree_of b) (two_parts a b constant_and and_const) g h)
 
-    pub disjunction_sites : (at : ℕ) (a b : TypedExpression) → Gathers gathering xs a → Gathers gathering ys b → Holds (Gathers gathering (xs ++ ys)) (disjunction at a b)
-    disjunction_sites at a b g h = demand_holds (Gathers gathering (xs ++ ys)) (both_scalars a b) 3 at _ (λ _. both_sites _ a.constant b.constant (tree_of a) (tree_of b) (two_parts a b constant_or or_const) g h)
+    pub disjunction_gathered : (at : ℕ) (a b : TypedExpression) → Gathers gathering xs a → Gathers gathering ys b → Holds (Gathers gathering (xs ++ ys)) (disjunction at a b)
+    disjunction_gathered at a b g h = demand_holds (Gathers gathering (xs ++ ys)) (both_scalars a b) 3 at _ (λ _. both_gathered _ a.constant b.constant (tree_of a) (tree_of b) (two_parts a b constant_or or_const) g h)
 
-    assignment_sites : (at : ℕ) (a b : TypedExpression) → Gathers gathering xs a → Gathers gathering ys b → Holds (Gathers gathering (xs ++ ys)) (assignment at a b)
-    assignment_sites at a b g h = demand_holds (Gathers gathering (xs ++ ys)) (fits a.ctype b) 3 at _ (λ _. plain_sites (tree_of a) (tree_of (assigned a.ctype b)) g.0 (assigned_gathered ys a.ctype b h).0)
+    assignment_gathered : (at : ℕ) (a b : TypedExpression) → Gathers gathering xs a → Gathers gathering ys b → Holds (Gathers gathering (xs ++ ys)) (assignment at a b)
+    assignment_gathered at a b g h = demand_holds (Gathers gathering (xs ++ ys)) (fits a.ctype b) 3 at _ (λ _. plain_gathered (tree_of a) (tree_of (assigned a.ctype b)) g.0 (assigned_gathered ys a.ctype b h).0)
 
-    update_sites : (env : Env) (at : ℕ) (o : BinOp) (old : Bool) (a b : TypedExpression) (k l : Kind) → Gathers gathering xs a → Gathers gathering ys b → Holds (Gathers gathering (xs ++ ys)) (update_of env at o old a b k l)
-    update_sites env at o old a b (an_integer i) (an_integer j) g h = (let r : IntType = right_type (kind_of_operator o) i j in plain_sites (tree_of a) (tree_of (converted_to r b)) g.0 (converted_gathered ys r b h).0)
-    update_sites env at o old a b (a_pointer t) (an_integer j) g h = behind_demand (Gathers gathering (xs ++ ys)) (moves o) 3 at _ (λ _. after_part (Gathers gathering (xs ++ ys)) (complete env at t) _ (λ _. plain_sites (tree_of a) (tree_of b) g.0 h.0))
-    update_sites env at o old a b (an_integer i) (a_pointer t) g h = tt
-    update_sites env at o old a b (an_integer i) neither g h = tt
-    update_sites env at o old a b (a_pointer t) (a_pointer u) g h = tt
-    update_sites env at o old a b (a_pointer t) neither g h = tt
-    update_sites env at o old a b neither l g h = tt
+    update_gathered : (env : Env) (at : ℕ) (o : BinOp) (old : Bool) (a b : TypedExpression) (k l : Kind) → Gathers gathering xs a → Gathers gathering ys b → Holds (Gathers gathering (xs ++ ys)) (update_of env at o old a b k l)
+    update_gathered env at o old a b (an_integer i) (an_integer j) g h = (let r : IntType = right_type (kind_of_operator o) i j in plain_gathered (tree_of a) (tree_of (converted_to r b)) g.0 (converted_gathered ys r b h).0)
+    update_gathered env at o old a b (a_pointer t) (an_integer j) g h = behind_demand (Gathers gathering (xs ++ ys)) (moves o) 3 at _ (λ _. after_part (Gathers gathering (xs ++ ys)) (complete env at t) _ (λ _. plain_gathered (tree_of a) (tree_of b) g.0 h.0))
+    update_gathered env at o old a b (an_integer i) (a_pointer t) g h = tt
+    update_gathered env at o old a b (an_integer i) neither g h = tt
+    update_gathered env at o old a b (a_pointer t) (a_pointer u) g h = tt
+    update_gathered env at o old a b (a_pointer t) neither g h = tt
+    update_gathered env at o old a b neither l g h = tt
 
-    pub assignment_by_sites : (env : Env) (at code : ℕ) (a b : TypedExpression) → Gathers gathering xs a → Gathers gathering ys b → Holds (Gathers gathering (xs ++ ys)) (assignment_by env at code a b)
-    assignment_by_sites env at code a b g h =
-        if_holds (Gathers gathering (xs ++ ys)) (nat_eq code ASSIGN) _ _ (assignment_sites at a b g h) (update_sites env at (operator_of_assignment code) false a b (kind_of a.ctype) (kind_of b.ctype) g h)
+    pub assignment_by_gathered : (env : Env) (at code : ℕ) (a b : TypedExpression) → Gathers gathering xs a → Gathers gathering ys b → Holds (Gathers gathering (xs ++ ys)) (assignment_by env at code a b)
+    assignment_by_gathered env at code a b g h =
+        if_holds (Gathers gathering (xs ++ ys)) (nat_eq code ASSIGN) _ _ (assignment_gathered at a b g h) (update_gathered env at (operator_of_assignment code) false a b (kind_of a.ctype) (kind_of b.ctype) g h)
 
   one_gathered : (k : Kind) → Gathers gathering [] (one_for k)
   one_gathered (an_integer i) = (refl, λ c. absurd c)
@@ -371,25 +371,25 @@ module _ {X : Type 0} (gathering : Gathering X) (no_names : (f : ℕ) → gather
 
   pub step_gathered : (env : Env) (at : ℕ) (o : BinOp) (old : Bool) (xs : List X) (a : TypedExpression) → Gathers gathering xs a → Holds (Gathers gathering xs) (step env at o old a)
   step_gathered env at o old xs a h =
-      subst (λ ys. Holds (Gathers gathering ys) (step env at o old a)) (nothing_more xs) (update_sites xs [] env at o old a (one_for (kind_of a.ctype)) (kind_of a.ctype) (kind_of (one_for (kind_of a.ctype)).ctype) h (one_gathered (kind_of a.ctype)))
+      subst (λ ys. Holds (Gathers gathering ys) (step env at o old a)) (nothing_more xs) (update_gathered xs [] env at o old a (one_for (kind_of a.ctype)) (kind_of a.ctype) (kind_of (one_for (kind_of a.ctype)).ctype) h (one_gathered (kind_of a.ctype)))
 
   -- ## ?: and the comma
 
   module _ (zs xs ys : List X) where
-    chosen_sites : (t : CType) (c a b : TypedExpression) → Gathers gathering zs c → Gathers gathering xs a → Gathers gathering ys b → Gathers gathering (zs ++ (xs ++ ys)) (chosen t c a b)
-    chosen_sites t c a b f g h = (
+    chosen_gathered : (t : CType) (c a b : TypedExpression) → Gathers gathering zs c → Gathers gathering xs a → Gathers gathering ys b → Gathers gathering (zs ++ (xs ++ ys)) (chosen t c a b)
+    chosen_gathered t c a b f g h = (
       ap₂ (λ x y. x ++ y) f.0 (ap₂ (λ x y. x ++ y) g.0 h.0),
       λ k. (let w = conditional_const (integer_constant c) (integer_constant a) (integer_constant b) k in
           none_both zs (xs ++ ys) (f.1 (integer_const (is_integer c.ctype) c.constant w.0)) (none_both xs ys (g.1 (integer_const (is_integer a.ctype) a.constant w.1)) (h.1 (integer_const (is_integer b.ctype) b.constant w.2)))),
     )
 
-    arms_sites : (at : ℕ) (c a b : TypedExpression) (x : Alike) → AlikeSites xs ys x → Gathers gathering zs c → Gathers gathering xs a → Gathers gathering ys b → Holds (Gathers gathering (zs ++ (xs ++ ys))) (arms_of at c a b x)
-    arms_sites at c a b (alike_integers i) s f g h = chosen_sites (integer i) c (converted_to i a) (converted_to i b) f (converted_gathered xs i a g) (converted_gathered ys i b h)
-    arms_sites at c a b (alike_pointers x y) s f g h = chosen_sites x.ctype c x y f s.0 s.1
-    arms_sites at c a b unlike s f g h = demand_holds (Gathers gathering (zs ++ (xs ++ ys))) (is_void a.ctype && is_void b.ctype) 3 at _ (λ _. chosen_sites void c a b f g h)
+    arms_gathered : (at : ℕ) (c a b : TypedExpression) (x : Alike) → AlikeSites xs ys x → Gathers gathering zs c → Gathers gathering xs a → Gathers gathering ys b → Holds (Gathers gathering (zs ++ (xs ++ ys))) (arms_of at c a b x)
+    arms_gathered at c a b (alike_integers i) s f g h = chosen_gathered (integer i) c (converted_to i a) (converted_to i b) f (converted_gathered xs i a g) (converted_gathered ys i b h)
+    arms_gathered at c a b (alike_pointers x y) s f g h = chosen_gathered x.ctype c x y f s.0 s.1
+    arms_gathered at c a b unlike s f g h = demand_holds (Gathers gathering (zs ++ (xs ++ ys))) (is_void a.ctype && is_void b.ctype) 3 at _ (λ _. chosen_gathered void c a b f g h)
 
-    pub choice_sites : (at : ℕ) (c a b : TypedExpression) → Gathers gathering zs c → Gathers gathering xs a → Gathers gathering ys b → Holds (Gathers gathering (zs ++ (xs ++ ys))) (choice at c a b)
-    choice_sites at c a b f g h = behind_demand (Gathers gathering (zs ++ (xs ++ ys))) (is_scalar c.ctype) 3 at _ (λ _. arms_sites at c a b (alike a b) (alike_of_sites xs ys a b (kind_of a.ctype) (kind_of b.ctype) g h) f g h)
+    pub choice_gathered : (at : ℕ) (c a b : TypedExpression) → Gathers gathering zs c → Gathers gathering xs a → Gathers gathering ys b → Holds (Gathers gathering (zs ++ (xs ++ ys))) (choice at c a b)
+    choice_gathered at c a b f g h = behind_demand (Gathers gathering (zs ++ (xs ++ ys))) (is_scalar c.ctype) 3 at _ (λ _. arms_gathered at c a b (alike a b) (alike_of_gathered xs ys a b (kind_of a.ctype) (kind_of b.ctype) g h) f g h)
 
   trees_gathered : (gs : List TypedExpression) (xs : List X) → AllGather gathering xs gs → gathered_all gathering (trees_of gs) ≡ xs
   trees_gathered [] xs h = sym h
