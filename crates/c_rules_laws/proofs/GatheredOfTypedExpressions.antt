@@ -39,7 +39,7 @@ nothing_more [] = refl
 nothing_more (x ∷ xs) = ap (λ ys. x ∷ ys) (nothing_more xs)
 
 module _ {X : Type 0} (gathering : Gathering X) where
-  -- the sites in the tree, of which a constant has none
+  -- what is gathered from the tree, of which a constant has none
   abbrev pub Gathers : List X → TypedExpression → Type 0
   Gathers xs g = (gathered gathering (tree_of g) ≡ xs) × (IsConst g.constant → xs ≡ [])
 
