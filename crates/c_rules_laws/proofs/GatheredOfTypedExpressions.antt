@@ -59,7 +59,7 @@ module _ {X : Type 0} (gathering : Gathering X) where
   called_at site (direct f) = gathering.direct site f
   called_at site (through e) = gathering.through site (type_of e)
 
-module _ {X : Type 0} (gathering : Gathering X) (no_names : (f : ℕ) → gathering.named f ≡ []) where
+module _ {X : Type 0} (gathering : Gathering X) where
   -- ## Conversions
 
   loaded_gathered : (xs : List X) (g : TypedExpression) (f : Form) → Gathers gathering xs g → Gathers gathering xs (loaded g f)

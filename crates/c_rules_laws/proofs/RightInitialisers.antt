@@ -38,9 +38,6 @@ use Rattle.c_rules_laws.proofs.SitesOfExpressions.{fits_none, fits_both, FitsAt,
 use Rattle.c_rules_laws.proofs.GatheredOfTypedExpressions.{Gathers, AllGather, none_both, as_if_gathered}
 use Rattle.c_tree.specs.Sites.{all_sites}
 
-no_names : (f : ℕ) → all_sites.named f ≡ []
-no_names f = refl
-
 -- ## Cells
 
 -- a constant with a value
@@ -293,7 +290,7 @@ cell_counted true at b n ws g h = by_constant g.constant
 scalar_counted : (k : Bool) (at : ℕ) (t : CType) (b : Before) (n : ℕ) (ws : List (List ℕ)) (r : Checked TypedExpression) → Holds (Counted b n ws) r → Holds (InitCounted b n ws) (scalar_cell k at t r)
 scalar_counted k at t b n ws r h =
     on_holds (Counted b n ws) (InitCounted b n ws) (on r (as_if_assigned at t)) (cell_of k at)
-    (on_holds (Counted b n ws) (Counted b n ws) r (as_if_assigned at t) h (λ g l. holds_with (Gathers all_sites (Span b n)) (FitsAt b n ws) (as_if_assigned at t g) l.1 (as_if_gathered all_sites no_names at (Span b n) t g l.0))) (λ g l. cell_counted k at b n ws g l)
+    (on_holds (Counted b n ws) (Counted b n ws) r (as_if_assigned at t) h (λ g l. holds_with (Gathers all_sites (Span b n)) (FitsAt b n ws) (as_if_assigned at t g) l.1 (as_if_gathered all_sites at (Span b n) t g l.0))) (λ g l. cell_counted k at b n ws g l)
 
 zeros_silent : (ts : List CType) → AllGather all_sites [] (map typed_zero ts)
 zeros_silent [] = refl

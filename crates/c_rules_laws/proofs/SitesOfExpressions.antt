@@ -28,9 +28,6 @@ use Rattle.c_rules_laws.proofs.Holding.{Holds, holds_map, holds_two, on_holds, b
 use Rattle.c_rules_laws.proofs.GatheredOfTypedExpressions.{called_at, Gathers, AllGather, CalleeGathers, valued_gathered, called_gathered, callee_type_gathered, callee_through_gathered, member_gathered, address_gathered, indirection_gathered, unary_gathered, size_gathered, cast_of_gathered, null_cast_gathered, sum_gathered, operation_gathered, conjunction_gathered, disjunction_gathered, assignment_by_gathered, step_gathered, choice_gathered, comma_gathered}
 use Rattle.c_tree.specs.Sites.{all_sites}
 
-no_names : (f : ℕ) → all_sites.named f ≡ []
-no_names f = refl
-
 -- a call gives its site
 site_called : (site : ℕ) (d : Designator) → called_at all_sites site d ≡ site
 site_called site (direct f) = refl
@@ -125,7 +122,7 @@ site_counted sized e m n at = absurd (cc)
 site_counted folded e m n at = absurd (cc)
 
 pub value_at_counted : (env : Env) (place : ℕ) (b : Before) (n : ℕ) (ws : List (List ℕ)) (r : Checked TypedExpression) → Holds (Counted b n ws) r → Holds (Counted b n ws) (value_at env place r)
-value_at_counted env place b n ws r h = on_holds (Counted b n ws) (Counted b n ws) r (valued env place) h (λ g k. holds_with (Gathers all_sites (Span b n)) (FitsAt b n ws) (valued env place g) k.1 (valued_gathered all_sites no_names env place (Span b n) g k.0))
+value_at_counted env place b n ws r h = on_holds (Counted b n ws) (Counted b n ws) r (valued env place) h (λ g k. holds_with (Gathers all_sites (Span b n)) (FitsAt b n ws) (valued env place g) k.1 (valued_gathered all_sites env place (Span b n) g k.0))
 
 place_at_counted : (place : ℕ) (b : Before) (n : ℕ) (ws : List (List ℕ)) (r : Checked TypedExpression) → Holds (Counted b n ws) r → Holds (Counted b n ws) (place_at place r)
 place_at_counted place b n ws r h = on_holds (Counted b n ws) (Counted b n ws) r (assignable place) h (λ g k. demand_holds (Counted b n ws) _ 4 place g (λ _. k))
@@ -143,10 +140,10 @@ two_parts b n m xs ys p q k h g f =
     (subst (λ zs. Holds (Gathers all_sites zs) (k x y)) (sym (range_append b.sites n m)) (f x y v.0 w.0)))
 
 by_value_sites : (at : ℕ) (xs : List ℕ) (r : Checked TypedExpression) → Holds (Gathers all_sites xs) r → Holds (CalleeGathers all_sites xs) (on r (callee_by_value at))
-by_value_sites at xs r h = on_holds (Gathers all_sites xs) (CalleeGathers all_sites xs) r (callee_by_value at) h (λ g k. callee_through_gathered all_sites no_names at xs _ g.ctype k.0)
+by_value_sites at xs r h = on_holds (Gathers all_sites xs) (CalleeGathers all_sites xs) r (callee_by_value at) h (λ g k. callee_through_gathered all_sites at xs _ g.ctype k.0)
 
 callee_meant_sites : (env : Env) (at place : ℕ) (x : Name) (r : Checked TypedExpression) (m : Meaning) → Holds (Gathers all_sites []) r → Holds (CalleeGathers all_sites []) (callee_meant env at place x r m)
-callee_meant_sites env at place x r (a_function t d) h = after_part (CalleeGathers all_sites []) (used env.context place (function_number env x)) (callee_of_type place t) (λ f. callee_type_gathered all_sites no_names place t f)
+callee_meant_sites env at place x r (a_function t d) h = after_part (CalleeGathers all_sites []) (used env.context place (function_number env x)) (callee_of_type place t) (λ f. callee_type_gathered all_sites place t f)
 callee_meant_sites env at place x r (a_static seen whole d) h = by_value_sites at [] r h
 callee_meant_sites env at place x r (a_local n seen whole) h = by_value_sites at [] r h
 callee_meant_sites env at place x r (an_enumerator z) h = by_value_sites at [] r h
@@ -186,31 +183,31 @@ callee_counted env b at d r h =
     (no_calls_fit env b at d r (fact_of (Gathers all_sites (Span b (calls d))) (FitsAt b (calls d) (strings d)) r h))
 
 access_counted : (env : Env) (at place : ℕ) (how : Access) (x : Name) (b : Before) (n : ℕ) (ws : List (List ℕ)) (r : Checked TypedExpression) → Holds (Counted b n ws) r → Holds (Counted b n ws) (access env at place how x r)
-access_counted env at place dot x b n ws r h = one_part b n ws r (member_of env at x) h (λ g k. member_gathered all_sites no_names env at (Span b n) x g k)
+access_counted env at place dot x b n ws r h = one_part b n ws r (member_of env at x) h (λ g k. member_gathered all_sites env at (Span b n) x g k)
 access_counted env at place arrow x b n ws r h =
     one_part b n ws (on (value_at env place r) (indirection at)) (member_of env at x)
-    (one_part b n ws (value_at env place r) (indirection at) (value_at_counted env place b n ws r h) (λ g k. indirection_gathered all_sites no_names at (Span b n) g k)) (λ g k. member_gathered all_sites no_names env at (Span b n) x g k)
+    (one_part b n ws (value_at env place r) (indirection at) (value_at_counted env place b n ws r h) (λ g k. indirection_gathered all_sites at (Span b n) g k)) (λ g k. member_gathered all_sites env at (Span b n) x g k)
 
 after_operand_counted : (env : Env) (at place : ℕ) (o : Postfix) (b : Before) (n : ℕ) (ws : List (List ℕ)) (r : Checked TypedExpression) → Holds (Counted b n ws) r → Holds (Counted b n ws) (after_operand env at place o r)
-after_operand_counted env at place post_increment b n ws r h = one_part b n ws (place_at place r) (step env at Add true) (place_at_counted place b n ws r h) (λ g k. step_gathered all_sites no_names env at Add true (Span b n) g k)
-after_operand_counted env at place post_decrement b n ws r h = one_part b n ws (place_at place r) (step env at Sub true) (place_at_counted place b n ws r h) (λ g k. step_gathered all_sites no_names env at Sub true (Span b n) g k)
+after_operand_counted env at place post_increment b n ws r h = one_part b n ws (place_at place r) (step env at Add true) (place_at_counted place b n ws r h) (λ g k. step_gathered all_sites env at Add true (Span b n) g k)
+after_operand_counted env at place post_decrement b n ws r h = one_part b n ws (place_at place r) (step env at Sub true) (place_at_counted place b n ws r h) (λ g k. step_gathered all_sites env at Sub true (Span b n) g k)
 
 if_counted : (b : Before) (n : ℕ) (ws : List (List ℕ)) (t : Bool) (r s : Checked TypedExpression) → Holds (Counted b n ws) r → Holds (Counted b n ws) s → Holds (Counted b n ws) (if t then r else s)
 if_counted b n ws t r s h k = if_holds (Counted b n ws) t r s h k
 
 unary_rule_counted : (env : Env) (at place o : ℕ) (b : Before) (n : ℕ) (ws : List (List ℕ)) (r : Checked TypedExpression) → Holds (Counted b n ws) r → Holds (Counted b n ws) (unary_rule env at place o r)
 unary_rule_counted env at place o b n ws r h =
-    if_counted b n ws (nat_eq o AMPERSAND) _ _ (one_part b n ws r (address at place) h (λ g k. address_gathered all_sites no_names at place (Span b n) g k))
-    (one_part b n ws (value_at env place r) (unary_of_value at o) (value_at_counted env place b n ws r h) (λ g k. unary_gathered all_sites no_names at o (Span b n) g k))
+    if_counted b n ws (nat_eq o AMPERSAND) _ _ (one_part b n ws r (address at place) h (λ g k. address_gathered all_sites at place (Span b n) g k))
+    (one_part b n ws (value_at env place r) (unary_of_value at o) (value_at_counted env place b n ws r h) (λ g k. unary_gathered all_sites at o (Span b n) g k))
 
 infix_sites : (env : Env) (at : ℕ) (o : Infix) (xs ys : List ℕ) (g h : TypedExpression) → Gathers all_sites xs g → Gathers all_sites ys h → Holds (Gathers all_sites (xs ++ ys)) (infix_rule env at o g h)
-infix_sites env at and xs ys g h k l = conjunction_gathered all_sites no_names xs ys at g h k l
-infix_sites env at or xs ys g h k l = disjunction_gathered all_sites no_names xs ys at g h k l
-infix_sites env at (operator code) xs ys g h k l = operation_gathered all_sites no_names xs ys env at (operator_of_code code) g h k l
+infix_sites env at and xs ys g h k l = conjunction_gathered all_sites xs ys at g h k l
+infix_sites env at or xs ys g h k l = disjunction_gathered all_sites xs ys at g h k l
+infix_sites env at (operator code) xs ys g h k l = operation_gathered all_sites xs ys env at (operator_of_code code) g h k l
 
 cast_rule_counted : (v : Bool) (at : ℕ) (t : Checked CType) (b : Before) (n : ℕ) (ws : List (List ℕ)) (r : Checked TypedExpression) → Holds (Counted b n ws) r → Holds (Counted b n ws) (cast_rule v at t r)
-cast_rule_counted true at t b n ws r h = one_part b n ws r (null_cast at) h (λ g k. null_cast_gathered all_sites no_names at (Span b n) g k)
-cast_rule_counted false at t b n ws r h = both_hold Any (Counted b n ws) (Counted b n ws) t r (cast_of at) (anything t) h (λ u g _ k. holds_with (Gathers all_sites (Span b n)) (FitsAt b n ws) (cast_of at u g) k.1 (cast_of_gathered all_sites no_names at (Span b n) u g k.0))
+cast_rule_counted true at t b n ws r h = one_part b n ws r (null_cast at) h (λ g k. null_cast_gathered all_sites at (Span b n) g k)
+cast_rule_counted false at t b n ws r h = both_hold Any (Counted b n ws) (Counted b n ws) t r (cast_of at) (anything t) h (λ u g _ k. holds_with (Gathers all_sites (Span b n)) (FitsAt b n ws) (cast_of at u g) k.1 (cast_of_gathered all_sites at (Span b n) u g k.0))
 
 call_span : (s n m site : ℕ) → site ≡ s + n → range_with_len s n ++ site ∷ range_with_len (s + suc n) m ≡ range_with_len s (n + suc m)
 call_span s n m site e =
@@ -231,9 +228,9 @@ mutual
   tree_counted (a_char at c) env e b = plain_counted b (typed_int c) (refl, λ _. refl)
   tree_counted (a_str at w) env e b = string_counted env.context e at (string_number env b) b w
   tree_counted (comma at es) env e b =
-      on_holds (λ gs. AllGather all_sites (Span b (calls_of_all es)) gs × FitsAt b (calls_of_all es) (strings_of_all es)) (Counted b (calls_of_all es) (strings_of_all es)) (trees env b es) (λ gs. fine (comma_of gs)) (trees_counted es env e b) (λ gs h. (comma_gathered all_sites no_names gs (Span b (calls_of_all es)) h.0, h.1))
+      on_holds (λ gs. AllGather all_sites (Span b (calls_of_all es)) gs × FitsAt b (calls_of_all es) (strings_of_all es)) (Counted b (calls_of_all es) (strings_of_all es)) (trees env b es) (λ gs. fine (comma_of gs)) (trees_counted es env e b) (λ gs h. (comma_gathered all_sites gs (Span b (calls_of_all es)) h.0, h.1))
   tree_counted (sizeof_type at t) env e b =
-      after_part (Counted b 0 []) (type_named env t) (size_of_type env at (place_of_type t)) (λ u. holds_with (Gathers all_sites []) (FitsAt b 0 []) (size_of env at (place_of_type t) u) (fits_none b.sites b.cells) (size_gathered all_sites no_names env at (place_of_type t) u))
+      after_part (Counted b 0 []) (type_named env t) (size_of_type env at (place_of_type t)) (λ u. holds_with (Gathers all_sites []) (FitsAt b 0 []) (size_of env at (place_of_type t) u) (fits_none b.sites b.cells) (size_gathered all_sites env at (place_of_type t) u))
   tree_counted (cast at t x) env e b = cast_rule_counted (is_void_pointer t) at (type_named env t) b (calls x) (strings x) (value_at env (place_of x) (tree env b x)) (value_at_counted env (place_of x) b (calls x) (strings x) (tree env b x) (tree_counted x env e b))
   tree_counted (call at d es) env e b =
       all_three_hold (λ f. CalleeGathers all_sites (Span b (calls d)) f × FitsAt b (calls d) (strings d)) (λ k. (k ≡ b.sites + calls d) × (suc (b.sites + calls d) ≤ 30000)) (λ gs. AllGather all_sites (Span (after_designator b d) (calls_of_all es)) gs × FitsAt (after_designator b d) (calls_of_all es) (strings_of_all es)) (Counted b (calls d + suc (calls_of_all es)) (strings d ++ strings_of_all es))
@@ -243,23 +240,23 @@ mutual
       (trees_counted es env e (after_designator b d))
       (λ f site gs h l k. holds_with (Gathers all_sites (Span b (calls d + suc (calls_of_all es)))) (FitsAt b (calls d + suc (calls_of_all es)) (strings d ++ strings_of_all es)) (called at f site gs)
       (call_fits b.sites b.cells (calls d) (calls_of_all es) (strings d) (strings_of_all es) h.1 l.1 k.1)
-      (subst (λ xs. Holds (Gathers all_sites xs) (called at f site gs)) (call_span b.sites (calls d) (calls_of_all es) site l.0) (subst (λ k. Holds (Gathers all_sites (Span b (calls d) ++ k ∷ Span (after_designator b d) (calls_of_all es))) (called at f site gs)) (site_called site f.designator) (called_gathered all_sites no_names at (Span b (calls d)) (Span (after_designator b d) (calls_of_all es)) f site gs h.0 k.0))))
+      (subst (λ xs. Holds (Gathers all_sites xs) (called at f site gs)) (call_span b.sites (calls d) (calls_of_all es) site l.0) (subst (λ k. Holds (Gathers all_sites (Span b (calls d) ++ k ∷ Span (after_designator b d) (calls_of_all es))) (called at f site gs)) (site_called site f.designator) (called_gathered all_sites at (Span b (calls d)) (Span (after_designator b d) (calls_of_all es)) f site gs h.0 k.0))))
   tree_counted (member at how x y) env e b = access_counted env at (place_of x) how y.name b (calls x) (strings x) (tree env b x) (tree_counted x env e b)
   tree_counted (postfix at o x) env e b = after_operand_counted env at (place_of x) o b (calls x) (strings x) (tree env b x) (tree_counted x env e b)
-  tree_counted (prefix at pre_increment x) env e b = one_part b (calls x) (strings x) (place_at (place_of x) (tree env b x)) (step env at Add false) (place_at_counted (place_of x) b (calls x) (strings x) (tree env b x) (tree_counted x env e b)) (λ g k. step_gathered all_sites no_names env at Add false (Span b (calls x)) g k)
-  tree_counted (prefix at pre_decrement x) env e b = one_part b (calls x) (strings x) (place_at (place_of x) (tree env b x)) (step env at Sub false) (place_at_counted (place_of x) b (calls x) (strings x) (tree env b x) (tree_counted x env e b)) (λ g k. step_gathered all_sites no_names env at Sub false (Span b (calls x)) g k)
-  tree_counted (prefix at sizeof x) env e b = after_part (Counted b 0 []) (tree (in_context env sized) nothing_before x) (size_of_expression env at) (λ g. holds_with (Gathers all_sites []) (FitsAt b 0 []) (size_of env at at g.ctype) (fits_none b.sites b.cells) (size_gathered all_sites no_names env at at g.ctype))
+  tree_counted (prefix at pre_increment x) env e b = one_part b (calls x) (strings x) (place_at (place_of x) (tree env b x)) (step env at Add false) (place_at_counted (place_of x) b (calls x) (strings x) (tree env b x) (tree_counted x env e b)) (λ g k. step_gathered all_sites env at Add false (Span b (calls x)) g k)
+  tree_counted (prefix at pre_decrement x) env e b = one_part b (calls x) (strings x) (place_at (place_of x) (tree env b x)) (step env at Sub false) (place_at_counted (place_of x) b (calls x) (strings x) (tree env b x) (tree_counted x env e b)) (λ g k. step_gathered all_sites env at Sub false (Span b (calls x)) g k)
+  tree_counted (prefix at sizeof x) env e b = after_part (Counted b 0 []) (tree (in_context env sized) nothing_before x) (size_of_expression env at) (λ g. holds_with (Gathers all_sites []) (FitsAt b 0 []) (size_of env at at g.ctype) (fits_none b.sites b.cells) (size_gathered all_sites env at at g.ctype))
   tree_counted (unary at o x) env e b = unary_rule_counted env at (place_of x) o b (calls x) (strings x) (tree env b x) (tree_counted x env e b)
   tree_counted (index at x y) env e b =
       one_part b (calls x + calls y) (strings x ++ strings y) (both (value_at env (place_of x) (tree env b x)) (value_at env (place_of y) (tree env (after b x) y)) (sum env at)) (indirection at)
       (two_parts b (calls x) (calls y) (strings x) (strings y) (value_at env (place_of x) (tree env b x)) (value_at env (place_of y) (tree env (after b x) y)) (sum env at) (value_at_counted env (place_of x) b (calls x) (strings x) (tree env b x) (tree_counted x env e b)) (value_at_counted env (place_of y) (after b x) (calls y) (strings y) (tree env (after b x) y) (tree_counted y env e (after b x)))
-      (λ g h k l. sum_gathered all_sites no_names (Span b (calls x)) (Span (after b x) (calls y)) env at g h k l)) (λ g k. indirection_gathered all_sites no_names at (Span b (calls x + calls y)) g k)
+      (λ g h k l. sum_gathered all_sites (Span b (calls x)) (Span (after b x) (calls y)) env at g h k l)) (λ g k. indirection_gathered all_sites at (Span b (calls x + calls y)) g k)
   tree_counted (binary at o x y) env e b =
       two_parts b (calls x) (calls y) (strings x) (strings y) (value_at env (place_of x) (tree env b x)) (value_at env (place_of y) (tree env (after b x) y)) (infix_rule env at o) (value_at_counted env (place_of x) b (calls x) (strings x) (tree env b x) (tree_counted x env e b)) (value_at_counted env (place_of y) (after b x) (calls y) (strings y) (tree env (after b x) y) (tree_counted y env e (after b x)))
       (λ g h k l. infix_sites env at o (Span b (calls x)) (Span (after b x) (calls y)) g h k l)
   tree_counted (assign at o x y) env e b =
       two_parts b (calls x) (calls y) (strings x) (strings y) (place_at (place_of x) (tree env b x)) (value_at env (place_of y) (tree env (after b x) y)) (assignment_by env at o) (place_at_counted (place_of x) b (calls x) (strings x) (tree env b x) (tree_counted x env e b)) (value_at_counted env (place_of y) (after b x) (calls y) (strings y) (tree env (after b x) y) (tree_counted y env e (after b x)))
-      (λ g h k l. assignment_by_gathered all_sites no_names (Span b (calls x)) (Span (after b x) (calls y)) env at o g h k l)
+      (λ g h k l. assignment_by_gathered all_sites (Span b (calls x)) (Span (after b x) (calls y)) env at o g h k l)
   tree_counted (conditional at c x y) env e b =
       all_three_hold (Counted b (calls c) (strings c)) (Counted (after b c) (calls x) (strings x)) (Counted (after (after b c) x) (calls y) (strings y)) (Counted b (calls c + (calls x + calls y)) (strings c ++ (strings x ++ strings y)))
       (value_at env (place_of c) (tree env b c)) (value_at env (place_of x) (tree env (after b c) x)) (value_at env (place_of y) (tree env (after (after b c) x) y)) (choice at)
@@ -267,7 +264,7 @@ mutual
       (value_at_counted env (place_of y) (after (after b c) x) (calls y) (strings y) (tree env (after (after b c) x) y) (tree_counted y env e (after (after b c) x)))
       (λ f g h i k l. holds_with (Gathers all_sites (Span b (calls c + (calls x + calls y)))) (FitsAt b (calls c + (calls x + calls y)) (strings c ++ (strings x ++ strings y))) (choice at f g h)
       (fits_both b.sites b.cells (calls c) (calls x + calls y) (strings c) (strings x ++ strings y) i.1 (fits_both (b.sites + calls c) (b.cells + string_cells (strings c)) (calls x) (calls y) (strings x) (strings y) k.1 l.1))
-      (subst (λ zs. Holds (Gathers all_sites zs) (choice at f g h)) (ap (λ zs. Span b (calls c) ++ zs) (sym (range_append (b.sites + calls c) (calls x) (calls y))) ∙ sym (range_append b.sites (calls c) (calls x + calls y))) (choice_gathered all_sites no_names (Span b (calls c)) (Span (after b c) (calls x)) (Span (after (after b c) x) (calls y)) at f g h i.0 k.0 l.0)))
+      (subst (λ zs. Holds (Gathers all_sites zs) (choice at f g h)) (ap (λ zs. Span b (calls c) ++ zs) (sym (range_append (b.sites + calls c) (calls x) (calls y))) ∙ sym (range_append b.sites (calls c) (calls x + calls y))) (choice_gathered all_sites (Span b (calls c)) (Span (after b c) (calls x)) (Span (after (after b c) x) (calls y)) at f g h i.0 k.0 l.0)))
 
   pub trees_counted : (xs : Exprs) (env : Env) → env.context ≡ evaluated → (b : Before) → Holds (λ gs. AllGather all_sites (Span b (calls_of_all xs)) gs × FitsAt b (calls_of_all xs) (strings_of_all xs)) (trees env b xs)
   trees_counted no_exprs env e b = (refl, fits_none b.sites b.cells)

@@ -29,9 +29,6 @@ use Rattle.c_rules.proofs.NothingMore.{nothing_more}
 use Rattle.c_rules_laws.proofs.GatheredOfTypedExpressions.{Gathers, condition_gathered, as_if_gathered, converted_gathered}
 use Rattle.c_tree.specs.Sites.{all_sites}
 
-no_names : (f : ℕ) → all_sites.named f ≡ []
-no_names f = refl
-
 -- these are the sites of a part, with so many calls and these strings
 abbrev pub IsSpan : Before → ℕ → List (List ℕ) → List ℕ → Type 0
 IsSpan b n ws xs = (xs ≡ Span b n) × FitsAt b n ws
@@ -129,7 +126,7 @@ decl_span (decl at class s ps) env c b next = parts_span ps env c b next at s
 condition_span : (env : Env) → env.context ≡ evaluated → (b : Before) (at : ℕ) (x : Expr) → Holds (λ e. IsSpan b (calls x) (strings x) (sites_of e)) (condition_at at (value env b x))
 condition_span env c b at x =
     on_holds (Counted b (calls x) (strings x)) (λ e. IsSpan b (calls x) (strings x) (sites_of e)) (value env b x) (condition at) (value_counted x env c b)
-    (λ g h. holds_with (λ e. sites_of e ≡ Span b (calls x)) (FitsAt b (calls x) (strings x)) (condition at g) h.1 (condition_gathered all_sites no_names at (Span b (calls x)) g h.0))
+    (λ g h. holds_with (λ e. sites_of e ≡ Span b (calls x)) (FitsAt b (calls x) (strings x)) (condition at g) h.1 (condition_gathered all_sites at (Span b (calls x)) g h.0))
 
 abbrev MaybeSpan : Before → Maybe → typed.Maybe → Type 0
 MaybeSpan b m e = IsSpan b (calls_of_maybe m) (strings_of_maybe m) (sites_of_maybe e)
@@ -151,10 +148,10 @@ returned_span : (m : Maybe) (env : Env) → env.context ≡ evaluated → (b : B
 returned_span absent env c b at t = demand_holds (λ s. IsSpan b 0 [] (sites_of_stmt s)) _ 3 at typed.return_void (λ _. span_none b)
 returned_span (there x) env c b at t =
     on_holds (Counted b (calls x) (strings x)) (λ s. IsSpan b (calls x) (strings x) (sites_of_stmt s)) (on (value env b x) (as_if_assigned at t)) (λ g. fine (typed.return_value (tree_of g)))
-    (on_holds (Counted b (calls x) (strings x)) (Counted b (calls x) (strings x)) (value env b x) (as_if_assigned at t) (value_counted x env c b) (λ g h. holds_with (Gathers all_sites (Span b (calls x))) (FitsAt b (calls x) (strings x)) (as_if_assigned at t g) h.1 (as_if_gathered all_sites no_names at (Span b (calls x)) t g h.0))) (λ g h. (h.0.0, h.1))
+    (on_holds (Counted b (calls x) (strings x)) (Counted b (calls x) (strings x)) (value env b x) (as_if_assigned at t) (value_counted x env c b) (λ g h. holds_with (Gathers all_sites (Span b (calls x))) (FitsAt b (calls x) (strings x)) (as_if_assigned at t g) h.1 (as_if_gathered all_sites at (Span b (calls x)) t g h.0))) (λ g h. (h.0.0, h.1))
 
 switched_sites : (at : ℕ) (xs : List ℕ) (g : TypedExpression) (k : Kind) → Gathers all_sites xs g → Holds (Gathers all_sites xs) (switched_kind at g k)
-switched_sites at xs g (an_integer i) h = converted_gathered all_sites no_names xs (promoted i) g h
+switched_sites at xs g (an_integer i) h = converted_gathered all_sites xs (promoted i) g h
 switched_sites at xs g (a_pointer t) h = tt
 switched_sites at xs g neither h = tt
 

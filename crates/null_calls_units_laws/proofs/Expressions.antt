@@ -53,9 +53,6 @@ use Rattle.c_rules_laws.proofs.GatheredOfTypedExpressions.{called_at, Gathers, A
 use Rattle.c_rules_laws.specs.ConstantForm.{IsConst}
 use Rattle.null_calls_units_laws.specs.CallsIn.{all_calls}
 
-no_names : (f : ℕ) → all_calls.named f ≡ []
-no_names f = refl
-
 -- what a call has
 abbrev shape_of : Designator → Shape
 shape_of (direct f) = Direct f
@@ -92,7 +89,7 @@ module _ (T : Table) where
   one_tells X r k h f = on_holds (Tells X) (Tells X) r k h (λ g w. holds_map (Gathers all_calls (calls_in (tree_of g))) (Tells X) (λ a s. told X (calls_in (tree_of g)) a w.1 s) (k g) (f g (calls_in (tree_of g)) (as_sites X g w)))
 
   value_tells : (X : Type 0) (env : Env) (place : ℕ) (r : Checked TypedExpression) → Holds (Tells X) r → Holds (Tells X) (value_at env place r)
-  value_tells X env place r h = one_tells X r (valued env place) h (λ g xs s. valued_gathered all_calls no_names env place xs g s)
+  value_tells X env place r h = one_tells X r (valued env place) h (λ g xs s. valued_gathered all_calls env place xs g s)
 
   place_tells : (X : Type 0) (place : ℕ) (r : Checked TypedExpression) → Holds (Tells X) r → Holds (Tells X) (place_at place r)
   place_tells X place r h = on_holds (Tells X) (Tells X) r (assignable place) h (λ g k. demand_holds (Tells X) _ 4 place g (λ _. k))
@@ -122,26 +119,26 @@ module _ (T : Table) where
   -- ## Rules
 
   access_tells : (X : Type 0) (env : Env) (at place : ℕ) (how : Access) (x : Name) (r : Checked TypedExpression) → Holds (Tells X) r → Holds (Tells X) (access env at place how x r)
-  access_tells X env at place dot x r h = one_tells X r (member_of env at x) h (λ g xs s. member_gathered all_calls no_names env at xs x g s)
-  access_tells X env at place arrow x r h = one_tells X (on (value_at env place r) (indirection at)) (member_of env at x) (one_tells X (value_at env place r) (indirection at) (value_tells X env place r h) (λ g xs s. indirection_gathered all_calls no_names at xs g s)) (λ g xs s. member_gathered all_calls no_names env at xs x g s)
+  access_tells X env at place dot x r h = one_tells X r (member_of env at x) h (λ g xs s. member_gathered all_calls env at xs x g s)
+  access_tells X env at place arrow x r h = one_tells X (on (value_at env place r) (indirection at)) (member_of env at x) (one_tells X (value_at env place r) (indirection at) (value_tells X env place r h) (λ g xs s. indirection_gathered all_calls at xs g s)) (λ g xs s. member_gathered all_calls env at xs x g s)
 
   after_tells : (X : Type 0) (env : Env) (at place : ℕ) (o : Postfix) (r : Checked TypedExpression) → Holds (Tells X) r → Holds (Tells X) (after_operand env at place o r)
-  after_tells X env at place post_increment r h = one_tells X (place_at place r) (step env at Add true) (place_tells X place r h) (λ g xs s. step_gathered all_calls no_names env at Add true xs g s)
-  after_tells X env at place post_decrement r h = one_tells X (place_at place r) (step env at Sub true) (place_tells X place r h) (λ g xs s. step_gathered all_calls no_names env at Sub true xs g s)
+  after_tells X env at place post_increment r h = one_tells X (place_at place r) (step env at Add true) (place_tells X place r h) (λ g xs s. step_gathered all_calls env at Add true xs g s)
+  after_tells X env at place post_decrement r h = one_tells X (place_at place r) (step env at Sub true) (place_tells X place r h) (λ g xs s. step_gathered all_calls env at Sub true xs g s)
 
   unary_tells : (X : Type 0) (env : Env) (at place o : ℕ) (r : Checked TypedExpression) → Holds (Tells X) r → Holds (Tells X) (unary_rule env at place o r)
   unary_tells X env at place o r h =
-      if_holds (Tells X) (nat_eq o AMPERSAND) _ _ (one_tells X r (address at place) h (λ g xs s. address_gathered all_calls no_names at place xs g s)) (one_tells X (value_at env place r) (unary_of_value at o) (value_tells X env place r h) (λ g xs s. unary_gathered all_calls no_names at o xs g s))
+      if_holds (Tells X) (nat_eq o AMPERSAND) _ _ (one_tells X r (address at place) h (λ g xs s. address_gathered all_calls at place xs g s)) (one_tells X (value_at env place r) (unary_of_value at o) (value_tells X env place r h) (λ g xs s. unary_gathered all_calls at o xs g s))
 
   infix_tells : (env : Env) (at : ℕ) (o : Infix) (a b : TypedExpression) (xs ys : List Mention) → Gathers all_calls xs a → Gathers all_calls ys b → Holds (Gathers all_calls (xs ++ ys)) (infix_rule env at o a b)
-  infix_tells env at and a b xs ys g h = conjunction_gathered all_calls no_names xs ys at a b g h
-  infix_tells env at or a b xs ys g h = disjunction_gathered all_calls no_names xs ys at a b g h
-  infix_tells env at (operator code) a b xs ys g h = operation_gathered all_calls no_names xs ys env at (operator_of_code code) a b g h
+  infix_tells env at and a b xs ys g h = conjunction_gathered all_calls xs ys at a b g h
+  infix_tells env at or a b xs ys g h = disjunction_gathered all_calls xs ys at a b g h
+  infix_tells env at (operator code) a b xs ys g h = operation_gathered all_calls xs ys env at (operator_of_code code) a b g h
 
   cast_tells : (X : Type 0) (to_null : Bool) (at : ℕ) (t : Checked CType) (r : Checked TypedExpression) → Holds (Tells X) r → Holds (Tells X) (cast_rule to_null at t r)
-  cast_tells X true at t r h = one_tells X r (null_cast at) h (λ g xs s. null_cast_gathered all_calls no_names at xs g s)
+  cast_tells X true at t r h = one_tells X r (null_cast at) h (λ g xs s. null_cast_gathered all_calls at xs g s)
   cast_tells X false at t r h =
-      both_hold Any (Tells X) (Tells X) t r (cast_of at) (anything t) h (λ u g _ w. holds_map (Gathers all_calls (calls_in (tree_of g))) (Tells X) (λ a s. told X (calls_in (tree_of g)) a w.1 s) (cast_of at u g) (cast_of_gathered all_calls no_names at (calls_in (tree_of g)) u g (as_sites X g w)))
+      both_hold Any (Tells X) (Tells X) t r (cast_of at) (anything t) h (λ u g _ w. holds_map (Gathers all_calls (calls_in (tree_of g))) (Tells X) (λ a s. told X (calls_in (tree_of g)) a w.1 s) (cast_of at u g) (cast_of_gathered all_calls at (calls_in (tree_of g)) u g (as_sites X g w)))
 
   meant_tells : (env : Env) (at : ℕ) (x : Name) (m : Meaning) → Holds (Gathers all_calls []) (meant env at x m)
   meant_tells env at x (a_static seen whole d) = after_part (Gathers all_calls []) (used env.context at (object_number env x)) _ (λ _. (refl, λ _. refl))
@@ -310,11 +307,11 @@ module _ (p : Program) (enums tags stood : List Name) where
   CalleeTells X f = (xs : List Mention) × CalleeGathers all_calls xs f × (InTable T xs → X)
 
   by_value_tells : (X : Type 0) (at : ℕ) (r : Checked TypedExpression) → Holds (Tells T X) r → Holds (CalleeTells X) (on r (callee_by_value at))
-  by_value_tells X at r h = on_holds (Tells T X) (CalleeTells X) r (callee_by_value at) h (λ g k. holds_map (CalleeGathers all_calls (calls_in (tree_of g))) (CalleeTells X) (λ f s. (calls_in (tree_of g), s, k.1)) (callee_through at (tree_of g) g.ctype) (callee_through_gathered all_calls no_names at (calls_in (tree_of g)) (tree_of g) g.ctype refl))
+  by_value_tells X at r h = on_holds (Tells T X) (CalleeTells X) r (callee_by_value at) h (λ g k. holds_map (CalleeGathers all_calls (calls_in (tree_of g))) (CalleeTells X) (λ f s. (calls_in (tree_of g), s, k.1)) (callee_through at (tree_of g) g.ctype) (callee_through_gathered all_calls at (calls_in (tree_of g)) (tree_of g) g.ctype refl))
 
   callee_meant_tells : (X : Type 0) → X → (env : Env) (at place : ℕ) (x : Name) (r : Checked TypedExpression) (m : Meaning) → Holds (Tells T X) r → Holds (CalleeTells X) (callee_meant env at place x r m)
   callee_meant_tells X a env at place x r (a_function t d) h =
-      after_part (CalleeTells X) (used env.context place (function_number env x)) (callee_of_type place t) (λ n. holds_map (CalleeGathers all_calls []) (CalleeTells X) (λ f s. ([], s, λ _. a)) (callee_of_type place t n) (callee_type_gathered all_calls no_names place t n))
+      after_part (CalleeTells X) (used env.context place (function_number env x)) (callee_of_type place t) (λ n. holds_map (CalleeGathers all_calls []) (CalleeTells X) (λ f s. ([], s, λ _. a)) (callee_of_type place t n) (callee_type_gathered all_calls place t n))
   callee_meant_tells X a env at place x r (a_static seen whole d) h = by_value_tells X at r h
   callee_meant_tells X a env at place x r (a_local n seen whole) h = by_value_tells X at r h
   callee_meant_tells X a env at place x r (an_enumerator z) h = by_value_tells X at r h
@@ -378,7 +375,7 @@ module _ (p : Program) (enums tags stood : List Name) where
       let z : AllPass env b1 es = g.2 y.1 in
       let entry : T (b.sites + calls d) ≡ Some (shape_of f.designator) = subst (λ k. T k ≡ Some (shape_of f.designator)) n.0 y.0 in
       ((called_there env w b at d f ef entry n.1, x.0, z.0), (named_there env w b at d f ef entry n.1, x.1, subst (λ k. AllNamed sites k es) later z.1), (good_there env w b at d f ef entry n.1, x.2, subst (λ k. AllGood enums tags stood sites k es) later z.2)))) q)
-      (called at f s gs) (subst (λ k. Holds (Gathers all_calls (c.0 ++ k ∷ g.0)) (called at f s gs)) (called_is s f.designator) (called_gathered all_calls no_names at c.0 g.0 f s gs c.1 g.1))))
+      (called at f s gs) (subst (λ k. Holds (Gathers all_calls (c.0 ++ k ∷ g.0)) (called at f s gs)) (called_is s f.designator) (called_gathered all_calls at c.0 g.0 f s gs c.1 g.1))))
 
   mutual
     pub tree_passes : (x : Expr) (env : Env) → Scope env → (b : Before) → NamesNoType x → Holds (Tells T (Passes env b x)) (tree env b x)
@@ -387,38 +384,38 @@ module _ (p : Program) (enums tags stood : List Name) where
     tree_passes (a_char at c) env w b l = (λ _. refl, λ _. (tt, tt, tt))
     tree_passes (a_str at s) env w b l = after_part (Tells T (Passes env b (a_str at s))) (string_fits env.context at b.cells (suc (length s))) _ (λ _. (λ _. refl, λ _. (tt, tt, tt)))
     tree_passes (comma at es) env w b l =
-        on_holds (TypedExpressionsTell (AllPass env b es)) (Tells T (Passes env b (comma at es))) (trees env b es) (λ gs. fine (comma_of gs)) (trees_pass es env w b l) (λ gs k. told T (Passes env b (comma at es)) k.0 (comma_of gs) k.2 (comma_gathered all_calls no_names gs k.0 k.1))
+        on_holds (TypedExpressionsTell (AllPass env b es)) (Tells T (Passes env b (comma at es))) (trees env b es) (λ gs. fine (comma_of gs)) (trees_pass es env w b l) (λ gs k. told T (Passes env b (comma at es)) k.0 (comma_of gs) k.2 (comma_gathered all_calls gs k.0 k.1))
     tree_passes (sizeof_type at t) env w b l =
         after_part (Tells T (Passes env b (sizeof_type at t))) (type_named env t) (size_of_type env at (place_of_type t))
-        (λ u. holds_map (Gathers all_calls []) (Tells T (Passes env b (sizeof_type at t))) (λ g s. none_tells T (Passes env b (sizeof_type at t)) g (tt, tt, tt) s) (size_of env at (place_of_type t) u) (size_gathered all_calls no_names env at (place_of_type t) u))
+        (λ u. holds_map (Gathers all_calls []) (Tells T (Passes env b (sizeof_type at t))) (λ g s. none_tells T (Passes env b (sizeof_type at t)) g (tt, tt, tt) s) (size_of env at (place_of_type t) u) (size_gathered all_calls env at (place_of_type t) u))
     tree_passes (cast at t e) env w b l =
         cast_tells T (Passes env b (cast at t e)) (is_void_pointer t) at (type_named env t) (value_at env (place_of e) (tree env b e))
         (holds_map (Tells T (Passes env b e)) (Tells T (Passes env b (cast at t e))) (λ g k. (k.0, λ z. (let y = k.1 z in ((l.0, y.0), y.1, y.2)))) (value_at env (place_of e) (tree env b e)) (value_tells T (Passes env b e) env (place_of e) (tree env b e) (tree_passes e env w b l.1)))
     tree_passes (call at d es) env w b l = call_passes env w b at d es (tree_passes d env w b l.0) (trees_pass es env w (after_designator b d) l.1)
     tree_passes (member at how e x) env w b l = access_tells T (Passes env b e) env at (place_of e) how x.name (tree env b e) (tree_passes e env w b l)
     tree_passes (postfix at o e) env w b l = after_tells T (Passes env b e) env at (place_of e) o (tree env b e) (tree_passes e env w b l)
-    tree_passes (prefix at pre_increment e) env w b l = one_tells T (Passes env b e) (place_at (place_of e) (tree env b e)) (step env at Add false) (place_tells T (Passes env b e) (place_of e) (tree env b e) (tree_passes e env w b l)) (λ g xs s. step_gathered all_calls no_names env at Add false xs g s)
-    tree_passes (prefix at pre_decrement e) env w b l = one_tells T (Passes env b e) (place_at (place_of e) (tree env b e)) (step env at Sub false) (place_tells T (Passes env b e) (place_of e) (tree env b e) (tree_passes e env w b l)) (λ g xs s. step_gathered all_calls no_names env at Sub false xs g s)
+    tree_passes (prefix at pre_increment e) env w b l = one_tells T (Passes env b e) (place_at (place_of e) (tree env b e)) (step env at Add false) (place_tells T (Passes env b e) (place_of e) (tree env b e) (tree_passes e env w b l)) (λ g xs s. step_gathered all_calls env at Add false xs g s)
+    tree_passes (prefix at pre_decrement e) env w b l = one_tells T (Passes env b e) (place_at (place_of e) (tree env b e)) (step env at Sub false) (place_tells T (Passes env b e) (place_of e) (tree env b e) (tree_passes e env w b l)) (λ g xs s. step_gathered all_calls env at Sub false xs g s)
     tree_passes (prefix at sizeof e) env w b l =
         after_part (Tells T (Passes env b (prefix at sizeof e))) (tree (in_context env sized) nothing_before e) (size_of_expression env at)
-        (λ g. holds_map (Gathers all_calls []) (Tells T (Passes env b (prefix at sizeof e))) (λ h s. none_tells T (Passes env b (prefix at sizeof e)) h (tt, tt, tt) s) (size_of env at at g.ctype) (size_gathered all_calls no_names env at at g.ctype))
+        (λ g. holds_map (Gathers all_calls []) (Tells T (Passes env b (prefix at sizeof e))) (λ h s. none_tells T (Passes env b (prefix at sizeof e)) h (tt, tt, tt) s) (size_of env at at g.ctype) (size_gathered all_calls env at at g.ctype))
     tree_passes (unary at o e) env w b l = unary_tells T (Passes env b e) env at (place_of e) o (tree env b e) (tree_passes e env w b l)
     tree_passes (index at e f) env w b l =
         one_tells T (Passes env b (index at e f)) (both (value_at env (place_of e) (tree env b e)) (value_at env (place_of f) (tree env (after b e) f)) (sum env at)) (indirection at)
         (two_tell T (Passes env b e) (Passes env (after b e) f) (Passes env b (index at e f)) (value_at env (place_of e) (tree env b e)) (value_at env (place_of f) (tree env (after b e) f)) (sum env at) (λ x y. ((x.0, y.0), (x.1, y.1), (x.2, y.2)))
-        (value_tells T (Passes env b e) env (place_of e) (tree env b e) (tree_passes e env w b l.0)) (value_tells T (Passes env (after b e) f) env (place_of f) (tree env (after b e) f) (tree_passes f env w (after b e) l.1)) (λ g h xs ys s t. sum_gathered all_calls no_names xs ys env at g h s t))
-        (λ g xs s. indirection_gathered all_calls no_names at xs g s)
+        (value_tells T (Passes env b e) env (place_of e) (tree env b e) (tree_passes e env w b l.0)) (value_tells T (Passes env (after b e) f) env (place_of f) (tree env (after b e) f) (tree_passes f env w (after b e) l.1)) (λ g h xs ys s t. sum_gathered all_calls xs ys env at g h s t))
+        (λ g xs s. indirection_gathered all_calls at xs g s)
     tree_passes (binary at o e f) env w b l =
         two_tell T (Passes env b e) (Passes env (after b e) f) (Passes env b (binary at o e f)) (value_at env (place_of e) (tree env b e)) (value_at env (place_of f) (tree env (after b e) f)) (infix_rule env at o) (λ x y. ((x.0, y.0), (x.1, y.1), (x.2, y.2)))
         (value_tells T (Passes env b e) env (place_of e) (tree env b e) (tree_passes e env w b l.0)) (value_tells T (Passes env (after b e) f) env (place_of f) (tree env (after b e) f) (tree_passes f env w (after b e) l.1)) (λ g h xs ys s t. infix_tells T env at o g h xs ys s t)
     tree_passes (assign at o e f) env w b l =
         two_tell T (Passes env b e) (Passes env (after b e) f) (Passes env b (assign at o e f)) (place_at (place_of e) (tree env b e)) (value_at env (place_of f) (tree env (after b e) f)) (assignment_by env at o) (λ x y. ((x.0, y.0), (x.1, y.1), (x.2, y.2)))
-        (place_tells T (Passes env b e) (place_of e) (tree env b e) (tree_passes e env w b l.0)) (value_tells T (Passes env (after b e) f) env (place_of f) (tree env (after b e) f) (tree_passes f env w (after b e) l.1)) (λ g h xs ys s t. assignment_by_gathered all_calls no_names xs ys env at o g h s t)
+        (place_tells T (Passes env b e) (place_of e) (tree env b e) (tree_passes e env w b l.0)) (value_tells T (Passes env (after b e) f) env (place_of f) (tree env (after b e) f) (tree_passes f env w (after b e) l.1)) (λ g h xs ys s t. assignment_by_gathered all_calls xs ys env at o g h s t)
     tree_passes (conditional at c e f) env w b l =
         three_tell T (Passes env b c) (Passes env (after b c) e) (Passes env (after (after b c) e) f) (Passes env b (conditional at c e f)) (value_at env (place_of c) (tree env b c)) (value_at env (place_of e) (tree env (after b c) e)) (value_at env (place_of f) (tree env (after (after b c) e) f)) (choice at)
         (λ x y z. ((x.0, y.0, z.0), (x.1, y.1, z.1), (x.2, y.2, z.2)))
         (value_tells T (Passes env b c) env (place_of c) (tree env b c) (tree_passes c env w b l.0)) (value_tells T (Passes env (after b c) e) env (place_of e) (tree env (after b c) e) (tree_passes e env w (after b c) l.1)) (value_tells T (Passes env (after (after b c) e) f) env (place_of f) (tree env (after (after b c) e) f) (tree_passes f env w (after (after b c) e) l.2))
-        (λ g h i xs ys zs s t u. choice_gathered all_calls no_names xs ys zs at g h i s t u)
+        (λ g h i xs ys zs s t u. choice_gathered all_calls xs ys zs at g h i s t u)
 
     pub trees_pass : (xs : Exprs) (env : Env) → Scope env → (b : Before) → NameNoTypes xs → Holds (TypedExpressionsTell (AllPass env b xs)) (trees env b xs)
     trees_pass no_exprs env w b l = ([], refl, λ _. (tt, tt, tt))

@@ -29,9 +29,6 @@ use Rattle.null_calls_units_laws.proofs.Expressions.{Tells, Passes, T, value_pas
 use Rattle.c_rules_laws.proofs.GatheredOfTypedExpressions.{Gathers, AllGather, as_if_gathered}
 use Rattle.null_calls_units_laws.specs.CallsIn.{all_calls}
 
-no_names : (f : ℕ) → all_calls.named f ≡ []
-no_names f = refl
-
 -- ## Cells
 
 both_givens : (gs hs : List TypedExpression) (xs ys : List Mention) → AllGather all_calls xs gs → AllGather all_calls ys hs → AllGather all_calls (xs ++ ys) (gs ++ hs)
@@ -107,7 +104,7 @@ module _ (p : Program) (enums tags stood : List Name) where
   scalar_passes env w b at t x h =
       on_holds (Tells Table (Passes p enums tags stood env b x)) (CellsTell (InitPasses env b t (one at x))) (on (value env b x) (as_if_assigned at t)) (cell_of false at)
       (on_holds (Tells Table (Passes p enums tags stood env b x)) (Tells Table (Passes p enums tags stood env b x)) (value env b x) (as_if_assigned at t) h
-      (λ g k. holds_map (Gathers all_calls (calls_in (tree_of g))) (Tells Table (Passes p enums tags stood env b x)) (λ a s. (λ c. s.0 ∙ s.1 c, λ z. k.1 (subst (InTable Table) s.0 z))) (as_if_assigned at t g) (as_if_gathered all_calls no_names at (calls_in (tree_of g)) t g (refl, k.0))))
+      (λ g k. holds_map (Gathers all_calls (calls_in (tree_of g))) (Tells Table (Passes p enums tags stood env b x)) (λ a s. (λ c. s.0 ∙ s.1 c, λ z. k.1 (subst (InTable Table) s.0 z))) (as_if_assigned at t g) (as_if_gathered all_calls at (calls_in (tree_of g)) t g (refl, k.0))))
       (λ g k. (calls_in (tree_of g), one_given (calls_in (tree_of g)) g (refl, k.0), λ z. one_passes env b t at x (k.1 z)))
 
   array_passes : (env : Env) (b : Before) (at : ℕ) (t : CType) (n : ℕ) (x : Expr) → Holds (CellsTell (InitPasses env b (array t n) (one at x))) (array_cells at t n (text_of x))

@@ -25,9 +25,6 @@ use Rattle.null_calls_units_laws.specs.FileScopes.{at_site}
 use Rattle.c_rules_laws.proofs.GatheredOfTypedExpressions.{Gathers, as_if_gathered}
 use Rattle.c_tree.specs.Sites.{all_sites}
 
-no_names : (f : ℕ) → all_sites.named f ≡ []
-no_names f = refl
-
 -- ## Static initialisers
 
 no_span : (a n : ℕ) → range_with_len a n ≡ [] → n ≡ 0
@@ -49,7 +46,7 @@ array_silent at t n x = tt
 scalar_silent : (env : Env) → env.context ≡ evaluated → (b : Before) (at : ℕ) (t : CType) (x : Expr) → Holds (λ _. calls x ≡ 0) (scalar_cell true at t (value env b x))
 scalar_silent env e b at t x =
     on_holds (Gathers all_sites (Span b (calls x))) (λ _. calls x ≡ 0) (on (value env b x) (as_if_assigned at t)) (cell_of true at)
-    (on_holds (Counted b (calls x) (strings x)) (Gathers all_sites (Span b (calls x))) (value env b x) (as_if_assigned at t) (value_counted x env e b) (λ g h. as_if_gathered all_sites no_names at (Span b (calls x)) t g h.0)) (λ g h. known_silent at b (calls x) g h)
+    (on_holds (Counted b (calls x) (strings x)) (Gathers all_sites (Span b (calls x))) (value env b x) (as_if_assigned at t) (value_counted x env e b) (λ g h. as_if_gathered all_sites at (Span b (calls x)) t g h.0)) (λ g h. known_silent at b (calls x) g h)
 
 list_silent : (n : ℕ) (takes : Bool) (at most count : ℕ) (r : Checked (List TypedExpression)) → Holds (λ _. count ≤ most → n ≡ 0) r → Holds (λ _. n ≡ 0) (cells_of_list takes at most count r)
 list_silent n takes at most count r h = behind_demand (λ _. n ≡ 0) takes 14 at _ (λ _. on_holds (λ _. count ≤ most → n ≡ 0) (λ _. n ≡ 0) r _ h (λ gs k. demand_holds (λ _. n ≡ 0) (nat_le count most) 14 at gs (λ q. k (leb-true count most q))))

@@ -50,9 +50,6 @@ use Rattle.null_calls_units_laws.proofs.Initialisers.{CellsTell, MaybeInitPasses
 use Rattle.c_rules_laws.proofs.GatheredOfTypedExpressions.{Gathers, as_if_gathered, converted_gathered}
 use Rattle.null_calls_units_laws.specs.CallsIn.{all_calls}
 
-no_names : (f : ℕ) → all_calls.named f ≡ []
-no_names f = refl
-
 -- ## Scopes
 
 abbrev pub NoFunction : Meaning → Type 0
@@ -241,7 +238,7 @@ module _ (p : Program) (enums tags stood : List Name) where
   returned_fits (there x) env w b at t l =
       on_holds (Tells Table (ExprFits true env b x)) (TypedTells (MaybeFits true env b (there x))) (on (value env b x) (as_if_assigned at t)) (λ g. fine (typed.return_value (tree_of g)))
       (on_holds (Tells Table (ExprFits true env b x)) (Tells Table (ExprFits true env b x)) (value env b x) (as_if_assigned at t) (value_fits true env w b x l)
-      (λ g h. holds_map (Gathers all_calls (calls_in (tree_of g))) (Tells Table (ExprFits true env b x)) (λ a s. ((λ c. s.0 ∙ s.1 c), λ z. h.1 (subst (InTable Table) s.0 z))) (as_if_assigned at t g) (as_if_gathered all_calls no_names at (calls_in (tree_of g)) t g (refl, h.0))))
+      (λ g h. holds_map (Gathers all_calls (calls_in (tree_of g))) (Tells Table (ExprFits true env b x)) (λ a s. ((λ c. s.0 ∙ s.1 c), λ z. h.1 (subst (InTable Table) s.0 z))) (as_if_assigned at t g) (as_if_gathered all_calls at (calls_in (tree_of g)) t g (refl, h.0))))
       (λ g h. h.1)
 
   abbrev FirstPasses : Env → Before → Next → First → Type 0
@@ -254,7 +251,7 @@ module _ (p : Program) (enums tags stood : List Name) where
   first_passes (first_decl d) env w b next k l = decl_passes d env w b next k l
 
   switched_fits : (X : Type 0) (at : ℕ) (g : TypedExpression) (k : Kind) → Tells Table X g → Holds (Tells Table X) (switched_kind at g k)
-  switched_fits X at g (an_integer i) h = (let s = converted_gathered all_calls no_names (calls_in (tree_of g)) (promoted i) g (refl, h.0) in ((λ c. s.0 ∙ s.1 c), λ z. h.1 (subst (InTable Table) s.0 z)))
+  switched_fits X at g (an_integer i) h = (let s = converted_gathered all_calls (calls_in (tree_of g)) (promoted i) g (refl, h.0) in ((λ c. s.0 ∙ s.1 c), λ z. h.1 (subst (InTable Table) s.0 z)))
   switched_fits X at g (a_pointer t) h = tt
   switched_fits X at g neither h = tt
 
