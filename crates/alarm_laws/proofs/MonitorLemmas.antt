@@ -3,8 +3,8 @@ use Rattle.std.proofs.Common.{◌≡◌, ℕ, zero, suc, ◌≤◌, List, [], �
 use Rattle.dm_base.specs.declared.event.Event.{Event}
 use Rattle.dm_base.specs.declared.event.Event.TheVariants.{Sys, Pre, Post}
 use Rattle.dm_base.specs.Trace.{depth}
-use Rattle.flow_model.specs.declared.which.Which.TheVariants as which
-use Rattle.flow_model.specs.Language.{Reads}
+use Rattle.flow_graph_laws.specs.Which.TheVariants as which
+use Rattle.flow_graph_laws.specs.Language.{Reads}
 use Rattle.c_tree.specs.Tree.{Program}
 use Rattle.c_tree.specs.Program.{IsProgram}
 use Rattle.c_shapes.specs.ProgramLanguages.{Dyck, Stack, Callgraph}

@@ -4,9 +4,9 @@ use Rattle.dm_base.specs.declared.event.Event.{Event}
 use Rattle.dm_base.specs.declared.verdict.Verdict.TheVariants.{Accepted}
 use Rattle.dm_base.specs.Trace.{depth}
 use Rattle.sys_table.specs.declared.sys_result.SysResult.{SysResult}
-use Rattle.flow_model.specs.declared.which.Which.TheVariants.{Callgraph, Stack, Dyck}
-use Rattle.flow_model.specs.Graph.{Graph}
-use Rattle.flow_model.specs.Verdict.{IsRejectedAt, IsVerdict}
+use Rattle.flow_graph_laws.specs.Which.TheVariants.{Callgraph, Stack, Dyck}
+use Rattle.flow_graph_laws.specs.Graph.{Graph}
+use Rattle.flow_graph_laws.specs.Verdict.{IsRejectedAt, IsVerdict}
 use Rattle.c_tree.specs.Tree.{Program}
 use Rattle.c_tree.specs.Program.{IsProgram}
 use Rattle.c_meaning.specs.Runs.{run}

@@ -1,1 +1,2 @@
 pub mod Answered
+pub use Rattle.c_rules_laws.proofs.Texts

@@ -5,4 +5,5 @@ mod checking;
 mod found;
 
 pub use c_check_values::CheckError;
+pub use c_rules_laws::a_spelled_unit_is_lexical;
 pub use checking::check;

@@ -1,11 +1,7 @@
 -- Labels that are repeated.
-use Rattle.std.proofs.Common.{◌≡◌, ℕ, zero, suc, ◌+◌, ◌<◌, ◌≤◌, ℤ, pos, negsuc, Bool, true, false, not, ◌&&◌, ◌||◌, cond, nat_eq, List, [], ◌∷◌, length, drop, Option, Some, None, slice_get, refl, ap, sym, subst, ◌∙◌, arith}
-use Rattle.std.specs.Bool.{Decides}
+use Rattle.std.proofs.Common.{◌≡◌, ℕ, zero, suc, ◌+◌, ℤ, Bool, true, false, not, ◌&&◌, ◌||◌, cond, List, [], ◌∷◌, drop, Some, None, slice_get, refl, ap, sym, subst, ◌∙◌, arith}
 use Rattle.std.specs.List.{list_any}
 use Rattle.std.specs.Ordering.{int_eq}
-use Rattle.std.proofs.lemmas.Bool.{eqb-true, eq-eqb}
-use Rattle.std.proofs.lemmas.Bool.Decides.{same_from_decides, Decides-int_eq}
-use Rattle.std.proofs.lemmas.List.{drop_all}
 use Rattle.c_check_bodies.specs.Repeated.{AddsNumber, HasSeen, is_number, is_repeated}
 use Rattle.c_check_bodies.specs.declared.labels.Seen.{Seen}
 use Rattle.c_rules.specs.Constants.{number_of}
@@ -13,30 +9,8 @@ use Rattle.c_rules.specs.Statements.{are_distinct, has_default, is_case_of, same
 use Rattle.c_tree.specs.declared.tree.TLabel.{TLabel}
 use Rattle.c_tree.specs.declared.tree.TLabel.TheVariants.{Case, Default}
 use Rattle.c_tree.specs.declared.value.Value.{Value}
-use Rattle.c_check_scopes.proofs.NumberLemmas.{not_so}
 
 -- ## Equal numbers
-
-pos_apart : (m n : ℕ) → pos m ≡ negsuc n → false ≡ true
-pos_apart m n h = cc
-
-neg_apart : (m n : ℕ) → negsuc m ≡ pos n → false ≡ true
-neg_apart m n h = cc
-
-pos_same : (m n : ℕ) → pos m ≡ pos n → m ≡ n
-pos_same m n h = cc
-
-neg_same : (m n : ℕ) → negsuc m ≡ negsuc n → m ≡ n
-neg_same m n h = cc
-
-same_decides : (z w : ℤ) → Decides (same_number z w) (w ≡ z)
-same_decides (pos m) (pos n) = (λ h. ap pos (sym (eqb-true m n h)), λ h. eq-eqb m n (sym (pos_same n m h)))
-same_decides (pos m) (negsuc n) = (λ h. absurd (not_so h), λ h. neg_apart n m h)
-same_decides (negsuc m) (pos n) = (λ h. absurd (not_so h), λ h. pos_apart n m h)
-same_decides (negsuc m) (negsuc n) = (λ h. ap negsuc (sym (eqb-true m n h)), λ h. eq-eqb m n (sym (neg_same n m h)))
-
-same_tests : (n z : ℤ) → int_eq n z ≡ same_number z n
-same_tests n z = same_from_decides (int_eq n z) (same_number z n) (Decides-int_eq n z) (same_decides z n)
 
 -- ## What was seen
 
@@ -51,18 +25,6 @@ either false b = refl
 
 pub none_seen : (seen : Seen) → seen.numbers.keys ≡ [] → seen.default ≡ false → HasSeen seen []
 none_seen seen none off = record { numbers = λ z. ap (list_any (int_eq z)) none; defaults = off }
-
-pub case_seen : (old new : Seen) (v : Value) (ls : List TLabel) → AddsNumber old.numbers.keys (number_of v) new.numbers.keys → new.default ≡ old.default → HasSeen old ls → HasSeen new (Case v ∷ ls)
-case_seen old new v ls adds off seen = record {
-  numbers = λ z. adds z ∙ (either (int_eq (number_of v) z) (list_any (int_eq z) old.numbers.keys) ∙ (λ i. same_tests (number_of v) z i || seen.numbers z i));
-  defaults = off ∙ seen.defaults;
-}
-
-pub default_seen : (old new : Seen) (ls : List TLabel) → new.numbers.keys ≡ old.numbers.keys → new.default ≡ true → HasSeen old ls → HasSeen new (Default ∷ ls)
-default_seen old new ls same on seen = record {
-  numbers = λ z. ap (list_any (int_eq z)) same ∙ seen.numbers z;
-  defaults = on;
-}
 
 -- ## One label after another, from the last one
 
@@ -109,15 +71,6 @@ seen_on ls left i l seen at there h = record {
   numbers = λ z. h.numbers z ∙ ap (is_number z) (ap (λ n. l ∷ drop n ls) at ∙ sym (label_there ls i l (sym there)));
   defaults = h.defaults ∙ ap has_default (ap (λ n. l ∷ drop n ls) at ∙ sym (label_there ls i l (sym there)));
 }
-
-pub seen_first : (ls : List TLabel) (n : ℕ) (seen : Seen) → length ls ≤ n → HasSeen seen [] → HasSeen seen (drop n ls)
-seen_first ls n seen le h = subst (HasSeen seen) (sym (drop_all n ls le)) h
-
-pub distinct_first : (ls : List TLabel) (n : ℕ) → length ls ≤ n → are_distinct (drop n ls) ≡ true
-distinct_first ls n le = ap are_distinct (drop_all n ls le)
-
-pub distinct_all : (ls : List TLabel) (n : ℕ) → n ≡ 0 → are_distinct (drop n ls) ≡ true → true ≡ are_distinct ls
-distinct_all ls n none h = sym (ap (λ k. are_distinct (drop k ls)) (sym none) ∙ h)
 
 pub adds_as : (old new : List ℤ) (n m : ℤ) → m ≡ n → AddsNumber old m new → AddsNumber old n new
 adds_as old new n m is h = subst (λ k. AddsNumber old k new) is h

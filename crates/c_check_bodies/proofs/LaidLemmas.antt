@@ -1,15 +1,15 @@
 -- Statements and groups of a switch one after another.
-use Rattle.std.proofs.Common.{◌≡◌, ℕ, List, [], ◌∷◌, ◌++◌, map, length, take, get_or, Result, Ok, Err, IfOk, refl, ap, sym, ◌∙◌, append_assoc, append-nil}
+use Rattle.std.proofs.Common.{◌≡◌, List, [], ◌∷◌, ◌++◌, Result, Ok, Err, IfOk, refl, ap, sym, ◌∙◌, append-nil}
 use Rattle.std.proofs.lemmas.List.{map-append}
 use Rattle.c_check_bodies.specs.LabelledView.{groups_before, labelled_before}
-use Rattle.c_check_bodies.specs.VariablesView.{Declared, both_declared, laid_with, none_declared}
+use Rattle.c_check_bodies.specs.VariablesView.{Declared, both_declared, laid_with}
 use Rattle.c_rules.specs.Blocks.{StatementTree, appended, some_more}
 use Rattle.c_rules.specs.Statements.{labelled, no_labelled}
 use Rattle.c_tree.specs.declared.tree.CType.{CType as TypeTree}
 use Rattle.c_tree.specs.declared.tree.TGroup.{TGroup}
 use Rattle.c_tree.specs.declared.tree.TLabel.{TLabel}
 use Rattle.c_tree.specs.declared.tree.TStmt.{TStmt}
-use Rattle.c_tree.specs.Tree.{CType, Stmts, no_stmts, more_stmts, Groups, no_groups, more_groups}
+use Rattle.c_tree.specs.Tree.{Stmts, more_stmts, Groups, no_groups, more_groups}
 use Rattle.c_tree.specs.View.{ctype_of, ctypes_of, stmt_of, stmts_of, groups_of}
 
 -- ## Lists
@@ -26,9 +26,6 @@ pub types_append : (xs ys : List TypeTree) → ctypes_of (xs ++ ys) ≡ ctypes_o
 types_append xs ys = map-append ctype_of xs ys
 
 -- ## Trees with their variables
-
-pub same_laid : {A : Type 0} (p q : Declared) (a b : A) → p ≡ q → a ≡ b → laid_with p a ≡ laid_with q b
-same_laid p q a b x y = λ i. laid_with (x i) (y i)
 
 -- a call's clause by an equal tree
 pub laid_as : {X E A : Type 0} (f : X → StatementTree A) (r : Result X E) (a b : StatementTree A) → a ≡ b → IfOk r (λ l. f l ≡ a) → IfOk r (λ l. f l ≡ b)

@@ -1,5 +1,5 @@
 -- That variables have numbers: those of a part, those behind it, and those of a body.
-use Rattle.std.proofs.Common.{◌≡◌, ℕ, ◌+◌, ◌<◌, ◌≤◌, suc, Bool, true, false, List, [], ◌∷◌, ◌++◌, length, drop, get_or, Bor, sym, ap, subst, ◌∙◌, arith, length-append, append-nil}
+use Rattle.std.proofs.Common.{◌≡◌, ℕ, ◌+◌, ◌<◌, ◌≤◌, suc, Bool, true, false, List, [], ◌∷◌, ◌++◌, length, drop, get_or, Bor, sym, ap, subst, ◌∙◌, arith, length-append}
 use Rattle.std.specs.Prelude.{if◌then◌else◌, Some, None, nat_le}
 use Rattle.std.proofs.lemmas.Bool.{le-leb, lt-leb}
 use Rattle.std.proofs.lemmas.List.{drop_more, length-map}
@@ -38,9 +38,6 @@ second_have next (x ∷ xs) ys h = second_have (past_name next x) xs ys (past_ha
 -- behind a first part, by what the next numbers are there
 pub later_have : (next later : Next) (xs ys : List Name) → later ≡ past_names next xs → HaveNumbers next (xs ++ ys) → HaveNumbers later ys
 later_have next later xs ys is h = subst (λ n. HaveNumbers n ys) (sym is) (second_have next xs ys h)
-
-pub alone_have : (next : Next) (xs : List Name) → HaveNumbers next xs → HaveNumbers next (xs ++ [])
-alone_have next xs h = subst (HaveNumbers next) (sym (append-nil xs)) h
 
 -- ## Along a list
 

@@ -15,10 +15,10 @@ use Rattle.c_rules.specs.Checked.{Fault, Checked, fine, faulty, faults, both, de
 use Rattle.c_rules.specs.Codes.{C14}
 use Rattle.c_rules.specs.Counts.{calls, strings, past}
 use Rattle.c_rules.specs.TypedExpression.{TypedExpression}
-use Rattle.c_rules.specs.Initialisers.{Slots, copies, each, after_init, array_cells, calls_of_init, calls_of_inits, capacity, cells_of_list, cells_of_one, count_inits, held, held_by_one, held_in_turn, in_turn, initialised, slots, takes_list, text_of, zeros, text_fits}
-use Rattle.c_rules.specs.Scopes.{Env, Before, layout_of}
+use Rattle.c_rules.specs.Initialisers.{Slots, copies, each, after_init, array_cells, calls_of_init, calls_of_inits, capacity, cells_of_list, cells_of_one, count_inits, held, held_by_one, held_in_turn, in_turn, initialised, slots, takes_list, text_of, text_fits}
+use Rattle.c_rules.specs.Scopes.{Env, Before}
 use Rattle.c_syntax.specs.declared.tree.Init.{Init as InitTree}
-use Rattle.c_syntax.specs.Tree.{Expr, a_str, Init, Inits, no_inits, more_inits}
+use Rattle.c_syntax.specs.Tree.{Expr, a_str, Init, Inits, more_inits}
 use Rattle.c_syntax.specs.declared.tree.InitKind.TheVariants.{List as listed}
 use Rattle.c_syntax.specs.UnitView.{init_at, init_of}
 use Rattle.c_syntax.specs.WritesUnit.{inits_of}
@@ -199,31 +199,6 @@ turn_stops env b1 k s is i x done all lt at none before =
     before
     ∙ (ap (λ r. onto_cells done (in_turn env b1 k (left_from s i) r)) (inits_at is i x lt at)
     ∙ (ap (onto_cells done) (missing_turn env b1 k s i (init_of x) (inits_of (drop (i + 1) is)) none) ∙ ap fine (append-nil done)))
-
--- all initialisers are done
-pub turn_ends : (env : Env) (b1 : Before) (k : Bool) (s : Slots) (is : List InitTree) (i place : ℕ) (done new : List TypedExpression) (all : Checked (List TypedExpression)) → length is ≤ i → place ≡ i
-    → all ≡ on (in_turn env b1 k (left_from s i) (inits_of (drop i is))) (λ hs. fine (done ++ hs)) → new ≡ done ++ zeros (layout_of env) (left_from s place) → all ≡ fine new
-turn_ends env b1 k s is i place done new all le at before grown =
-    before
-    ∙ (ap (λ l. onto_cells done (in_turn env b1 k (left_from s i) (inits_of l))) (drop_all i is le)
-    ∙ (no_more env b1 k (left_from s i) done ∙ (ap (λ n. fine (done ++ zeros (layout_of env) (left_from s n))) (sym at) ∙ ap fine (sym grown))))
-  where
-    no_more : (env : Env) (b : Before) (k : Bool) (s : Slots) (done : List TypedExpression) → onto_cells done (in_turn env b k s no_inits) ≡ fine (done ++ zeros (layout_of env) s)
-    no_more env b k (copies zero t) done = refl
-    no_more env b k (copies (suc n) t) done = refl
-    no_more env b k (each []) done = refl
-    no_more env b k (each (t ∷ ts)) done = refl
-
-pub counted_ends : (env : Env) (whole b1 : Before) (s : Slots) (is : List InitTree) (i : ℕ) → length is ≤ i
-    → whole ≡ past b1 (calls_of_inits (inits_of (drop i is))) (held_in_turn env (left_from s i) (inits_of (drop i is))) → b1 ≡ whole
-counted_ends env whole b1 s is i le before =
-    sym (before ∙ (ap (λ l. past b1 (calls_of_inits (inits_of l)) (held_in_turn env (left_from s i) (inits_of l))) (drop_all i is le) ∙ (none_held env b1 (left_from s i) ∙ past_none b1)))
-  where
-    none_held : (env : Env) (b : Before) (s : Slots) → past b 0 (held_in_turn env s no_inits) ≡ past b 0 []
-    none_held env b (copies zero t) = refl
-    none_held env b (copies (suc n) t) = refl
-    none_held env b (each []) = refl
-    none_held env b (each (t ∷ ts)) = refl
 
 -- at the beginning, nothing is left out
 pub all_left : (s : Slots) → left_from s 0 ≡ s

@@ -5,3 +5,4 @@ pub mod NodeLemmas
 pub mod Parameters
 pub mod Trees
 pub mod InitLemmas
+pub use Rattle.c_check_initialisers.proofs.LengthLemmas

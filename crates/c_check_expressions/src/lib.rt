@@ -13,5 +13,7 @@ mod nodes;
 mod ones;
 mod whole;
 
+pub use c_check_initialisers::value_of_number;
+pub use c_check_types::{constant_value, new_name};
 pub use expressions::{declared, folded_value, tree, type_declared, type_named, value};
 pub use whole::{initialised_local, initialised_static};

@@ -15,7 +15,7 @@ use Rattle.c_rules.specs.Limits.{most_static_cells}
 use Rattle.c_tree.specs.Layout.{cells}
 use Rattle.c_rules.proofs.Modes.{demand_met, first_fine as parts_fine}
 use Rattle.c_check_scopes.proofs.NumberLemmas.{not_so}
-use Rattle.c_check_declarations.specs.ObjectView.{cells_seen}
+use Rattle.c_check_statements.specs.ObjectView.{cells_seen}
 use Rattle.c_rules.specs.TypedExpression.{TypedExpression}
 use Rattle.c_rules.specs.Initialisers.{Slots, copies, each, slots, members_of_struct, held, held_in_turn, held_by, initialised_static, value_of_cell}
 use Rattle.c_rules.specs.Items.{Output, after_object, few_static, free_tag, global, global_declared, global_object, is_incomplete, object_name, members, new_struct, static_of, struct_definition, struct_laid, within_global}
@@ -46,9 +46,6 @@ node_fails e p k a r is node h = same_named e r (on p k) (sym (on_is p k a r is 
 
 pub both_is : {A B C : Type 0} (p : Checked A) (q : Checked B) (k : A → B → Checked C) (a : A) (b : B) (s : Checked B) → p ≡ fine a → s ≡ q → s ≡ fine b → both p q k ≡ k a b
 both_is p q k a b s first node second = λ i. both (first i) ((sym node ∙ second) i) k
-
-pub second_fails : {A B C : Type 0} (e : CheckError) (p : Checked A) (q : Checked B) (k : A → B → Checked C) (s : Checked B) → s ≡ q → Names e (faults s) → Names e (faults (both p q k))
-second_fails e p q k s node h = names_second e p q k (same_named e s q node h)
 
 -- ## Strings that an initialiser holds, where the same structs are known
 

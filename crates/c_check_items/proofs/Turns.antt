@@ -25,10 +25,6 @@ pub given_twice : {A B C : Type 0} (r : Checked A) (f : A → B) (g : B → C) �
 given_twice (fine a) f g = refl
 given_twice (faulty x xs) f g = refl
 
-pub given_itself : {A : Type 0} (r : Checked A) → gives r (λ a. a) ≡ r
-given_itself (fine a) = refl
-given_itself (faulty x xs) = refl
-
 module _ {A : Type 0} (join : A → A → A) where
   abbrev pub two : Checked A → Checked A → Checked A
   two p q = both p q (λ a b. fine (join a b))

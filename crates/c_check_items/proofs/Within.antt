@@ -13,9 +13,6 @@ use Rattle.c_check_counts.specs.Numbered.{HaveNumbers}
 use Rattle.c_syntax.specs.Tree.{Ident, BlockItems, Declarator, Params, no_params, more_params}
 use Rattle.c_tree.specs.Tree.{CType, CTypes, no_types, more_types}
 
-pub itself_within : (e : Env) → IsWithin e e
-itself_within e = ([], e.depth, refl)
-
 -- one more name
 pub within_more : (f e : Env) (b : Binding) (h : IsWithin f e) → record f { names = b ∷ f.names } ≡ record e { names = (b ∷ h.0) ++ e.names; depth = f.depth }
 within_more f e b h =

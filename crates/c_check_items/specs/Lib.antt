@@ -1,1 +1,2 @@
 pub mod Views
+pub use Rattle.c_check_units.specs.OutputView

@@ -1,6 +1,6 @@
 ghost use Rattle.std.specs.Prelude.{◌≡◌, false, IfOk, OnOk};
 ghost use Rattle.c_check_values.specs.Agreement.{AgreesWith};
-ghost use Rattle.c_check_declarations.specs.ObjectView.{object_seen};
+ghost use Rattle.c_check_statements.specs.ObjectView.{object_seen};
 ghost use Rattle.c_rules.specs.Checked.{fine};
 ghost use Rattle.c_rules.specs.Functions.{behind_function, function_declared};
 ghost use Rattle.c_rules.specs.Items.{behind_global, global, global_declared, no_output, prototype};
@@ -10,12 +10,8 @@ ghost use Rattle.c_check_scopes.specs.View.{before_of, env_of};
 ghost use Rattle.c_syntax.specs.UnitView.{maybe_init_of};
 ghost use Rattle.c_syntax.specs.View.{declarator_of, ident_of, spec_of};
 
-use c_check_declarations::{
-    Object, declare_behind, declare_function, function_meaning, global_object, object_of,
-    without_init,
-};
+use c_check_statements::{Object, declare_behind, declare_function, function_meaning, global_object, object_of, type_declared, without_init};
 use c_check_scopes::{Before, Environment, Meaning};
-use c_check_statements::type_declared;
 use c_check_units::place_of_declarator;
 use c_check_values::CheckError;
 use c_syntax::{Declarator, Ident, Init, Spec};

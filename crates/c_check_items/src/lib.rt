@@ -10,4 +10,5 @@ mod objects;
 mod parts;
 mod structs;
 
+pub use c_check_units::{Output, environment_before, typed_program};
 pub use file_scope::items;

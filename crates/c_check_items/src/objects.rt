@@ -1,7 +1,7 @@
 ghost use Rattle.std.specs.Prelude.{◌≡◌, ◌+◌, ◌≤◌, [], ◌∷◌, true, OnOk};
 ghost use Rattle.c_check_values.specs.Agreement.{AgreesWith};
 ghost use Rattle.c_check_initialisers.specs.CellView.{typed_expressions_of};
-ghost use Rattle.c_check_declarations.specs.ObjectView.{object_seen};
+ghost use Rattle.c_check_statements.specs.ObjectView.{object_seen};
 ghost use Rattle.c_rules.specs.Checked.{fine};
 ghost use Rattle.c_rules.specs.Counts.{past};
 ghost use Rattle.c_rules.specs.Initialisers.{calls_of_maybe_init, held_by, initialised_static};
@@ -16,9 +16,8 @@ ghost use Rattle.c_tree.specs.Layout.{cells};
 ghost use Rattle.c_tree.specs.View.{ctype_of, static_of};
 
 use crate::globals::global_declared;
-use c_check_declarations::{Object, count_object, declare_behind, declare_within, static_object};
+use c_check_statements::{Object, count_object, declare_behind, declare_within, initialised_static, static_object};
 use c_check_scopes::{Before, Environment};
-use c_check_statements::initialised_static;
 use c_check_units::{count_names, leave};
 use c_check_values::{CheckError, TypedExpression};
 use c_syntax::{Declarator, Ident, Init, Spec};

@@ -45,10 +45,6 @@ this i t o h = ap (λ b. chosen b i o) h ∙ ap Some (omega arith)
 pub another : (ms : List StructMember) (x : Name) (i : ℕ) (m : StructMember) → i < length ms → m ≡ get_or ms i m → bytes_eq m.name.now x ≡ false → number_from i (drop i ms) x ≡ number_from (i + 1) (drop (i + 1) ms) x
 another ms x i m h q e = ap (λ l. number_from i l x) (at_place ms i m h q) ∙ not_this i (bytes_eq m.name.now x) (number_among (names (drop (i + 1) ms)) x) e
 
--- the member with this number has the name
-pub this_one : (ms : List StructMember) (x : Name) (i : ℕ) (m : StructMember) → i < length ms → m ≡ get_or ms i m → bytes_eq m.name.now x ≡ true → number_from i (drop i ms) x ≡ Some i
-this_one ms x i m h q e = ap (λ l. number_from i l x) (at_place ms i m h q) ∙ this i (bytes_eq m.name.now x) (number_among (names (drop (i + 1) ms)) x) e
-
 pub no_more : (ms : List StructMember) (x : Name) (i : ℕ) → length ms ≤ i → number_from i (drop i ms) x ≡ None
 no_more ms x i h = ap (λ l. number_from i l x) (drop_all i ms h)
 

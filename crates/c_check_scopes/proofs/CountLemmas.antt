@@ -5,8 +5,8 @@ use Rattle.std.proofs.lemmas.Slice.Eq.{bytes_eq-Decides}
 use Rattle.std.proofs.lemmas.Option.{slice_get-map, slice_get-get_or, slice_get_within}
 use Rattle.sys_table.specs.declared.kinds.ResultKind.TheVariants.{Void}
 use Rattle.sys_table.specs.Table.{row, table, name_of}
-use Rattle.dm_base.specs.declared.mode.Mode.{Mode}
-use Rattle.dm_base.specs.declared.mode.Mode.TheVariants.{Plain, Instrumented}
+use Rattle.dm_counts.specs.Mode.{Mode}
+use Rattle.dm_counts.specs.Mode.TheVariants.{Plain, Instrumented}
 use Rattle.c_rules.specs.Names.{Name, number_among, name_of_row, system_calls, null_calls, given_names}
 
 same_name : (a b : List ℕ) → bytes_eq a b ≡ true → a ≡ b

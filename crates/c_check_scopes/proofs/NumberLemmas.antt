@@ -69,9 +69,6 @@ new_pushed first after names x n k l u h = record {
 pub added : (ys zs : List Name) (x : Name) → is_among ys x ≡ false → zs ≡ ys ++ x ∷ [] → zs ≡ with_new ys x
 added ys zs x h q = q ∙ sym (rw h refl)
 
-pub there_already : (ys : List Name) (x : Name) → is_among ys x ≡ true → ys ≡ with_new ys x
-there_already ys x h = sym (rw h refl)
-
 pub not_so : false ≡ true → ⊥
 not_so h = cc
 

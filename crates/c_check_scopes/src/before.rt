@@ -5,8 +5,7 @@ ghost use Rattle.c_rules.specs.Counts.{past};
 ghost use Rattle.c_rules.specs.Limits.{most_cells};
 ghost use Rattle.c_rules.specs.Scopes.{nothing_before};
 
-use dm_base::OutOfMemory;
-use dm_counts::Count;
+use dm_counts::{Count, OutOfMemory};
 use std::alloc::Global;
 use std::marker::Model;
 

@@ -14,8 +14,7 @@ use crate::numbering::Numbering;
 use crate::scopes::Scopes;
 use crate::structs::{StructMember, StructTable};
 use c_tree::CType;
-use dm_base::Mode;
-use dm_counts::Count;
+use dm_counts::{Count, Mode};
 
 /// Whether what stands here is evaluated when the program runs.
 #[derive(Clone, Copy, Debug, PartialEq, Eq)]

@@ -1,7 +1,7 @@
 ghost use Rattle.std.specs.Prelude.{◌≡◌, ◌<◌, IfSome};
 ghost use Rattle.c_rules.specs.Names.{number_among, is_among, system_calls, null_calls, given_names};
 
-use dm_base::Mode;
+use dm_counts::Mode;
 use sys_table::find;
 
 // The number of the system call with this name.

@@ -8,7 +8,7 @@ ghost use Rattle.c_tree.specs.Prototypes.{prototype_type, type_meant, types_mean
 ghost use Rattle.c_check_scopes.specs.Prototypes.{prototype_seen};
 
 use c_tree::{CType, IntType, Prototype, PrototypeType, all_prototypes, system_prototypes};
-use dm_base::Mode;
+use dm_counts::Mode;
 
 fn is_void(t: &CType) -> bool
     ensures { result ≡ is_void (ctype_of t.now) }

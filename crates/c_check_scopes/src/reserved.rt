@@ -3,7 +3,7 @@ ghost use Rattle.c_rules.specs.Names.{is_reserved, is_added, is_temporary, is_in
 
 use crate::fronts::{after_front, is_number, is_pair};
 use crate::predeclared::is_null_call;
-use dm_base::Mode;
+use dm_counts::Mode;
 
 /// Whether the name begins with two underscores, which reserve it (C99 7.1.3).
 pub fn is_reserved(name: &[u8]) -> bool

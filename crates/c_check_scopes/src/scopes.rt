@@ -4,8 +4,7 @@ ghost use Rattle.c_check_scopes.specs.Bound.{Bound, bound, bindings_of};
 ghost use Rattle.c_check_scopes.specs.View.{found};
 
 use crate::meaning::Meaning;
-use dm_base::OutOfMemory;
-use dm_counts::Count;
+use dm_counts::{Count, OutOfMemory};
 use indexmap::IndexMap;
 use std::alloc::Global;
 use std::marker::Model;

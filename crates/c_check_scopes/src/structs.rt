@@ -13,7 +13,7 @@ ghost use Rattle.c_check_scopes.specs.Shown.{knowns_of, members_types, defined_i
 use crate::extents::Extent;
 use crate::measures::{cells_in, cells_kept, cells_of_members, extent_of_members, size_in};
 use c_tree::CType;
-use dm_base::OutOfMemory;
+use dm_counts::OutOfMemory;
 use std::alloc::Global;
 use std::marker::Model;
 

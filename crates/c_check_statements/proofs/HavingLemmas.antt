@@ -95,6 +95,3 @@ module _ (gs : List Group) (i : ℕ) (g : Group) (lt : i < length gs) (is : g �
 pub if_has : (next : Next) (at : ℕ) (e : ExprTree) (s : Stmt) (o : Option Stmt) → HaveNumbers next (names_of_stmt (if_with at e s o)) → HaveNumbers next (names_of_stmt s)
 if_has next at e s None h = h
 if_has next at e s (Some t) h = first_have next (names_of_stmt s) (names_of_stmt t) h
-
-pub decl_has : (next : Next) (names : List Name) → HaveNumbers next (names ++ []) → HaveNumbers next names
-decl_has next names h = subst (HaveNumbers next) (append-nil names) h

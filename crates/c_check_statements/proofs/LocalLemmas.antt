@@ -1,8 +1,8 @@
 -- The first cells of a variable are within the limit on those of an object.
 use Rattle.std.proofs.Common.{◌≡◌, ◌≤◌, List, length, arith}
 use Rattle.std.proofs.lemmas.List.{length-map}
-use Rattle.c_check_initialisers.proofs.LengthLemmas.{AreWhole, local_few}
-use Rattle.c_check_initialisers.specs.CellView.{typed_expressions_of}
+use Rattle.c_check_expressions.proofs.LengthLemmas.{AreWhole, local_few}
+use Rattle.c_check_expressions.specs.CellView.{typed_expressions_of}
 use Rattle.c_check_values.specs.declared.typed_expression.TypedExpression.{TypedExpression as TypedExpressionTree}
 use Rattle.c_check_values.specs.View.{typed_expression_of}
 use Rattle.c_rules.specs.Checked.{fine}

@@ -88,9 +88,6 @@ deeper env d h = λ i. env_of (record env { depth = h i })
 pub declared_deeper : (outer old : Environment) (d : ℕ) → d ≡ suc outer.depth → Declares (record outer { depth = d }) old → Declares (record outer { depth = suc outer.depth }) old
 declared_deeper outer old d h q = subst (λ n. Declares (record outer { depth = n }) old) h q
 
-pub declared_same : (a b : Environment) → b ≡ a → Declares a b
-declared_same a b h = ([], h)
-
 pub declared_as : (a b c : Environment) → Declares a b → c ≡ b → Declares a c
 declared_as a b c d h = (d.0, h ∙ d.1)
 

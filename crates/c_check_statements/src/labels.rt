@@ -10,10 +10,8 @@ ghost use Rattle.c_check_statements.specs.Listed.{items_of_labels, label_alone};
 ghost use Rattle.c_syntax.specs.UnitView.{labels_of as labels_seen};
 ghost use Rattle.c_syntax.specs.View.{expr_of};
 
-use c_check_expressions::folded_value;
-use c_check_initialisers::value_of_number;
+use c_check_expressions::{constant_value, folded_value, value_of_number};
 use c_check_scopes::Environment;
-use c_check_types::constant_value;
 use c_check_values::CheckError;
 use c_syntax::{Expr, Label, LabelKind};
 use c_tree::{IntType, TLabel, Value};

@@ -1,7 +1,6 @@
 -- Names, each once.
 use Rattle.std.proofs.Common.{◌≡◌, ℕ, ◌+◌, ◌<◌, ◌≤◌, List, [], ◌∷◌, ◌++◌, length, take, get_or, Bor, refl, sym, ap, ◌∙◌}
-use Rattle.std.specs.Prelude.{reverse}
-use Rattle.std.proofs.lemmas.List.{take_more, take_all, append_assoc, map-append, reverse-append}
+use Rattle.std.proofs.lemmas.List.{take_more, take_all, map-append}
 use Rattle.c_rules.specs.Names.{Name, with_new, each_once}
 use Rattle.c_check_counts.specs.Seen.{bytes_of, seen}
 
@@ -17,11 +16,3 @@ once_more xs i d old new lt before step =
 
 pub once_all : (xs : List (Bor (List ℕ))) (i : ℕ) (ys : List Name) → length xs ≤ i → ys ≡ each_once [] (seen (take i xs)) → ys ≡ each_once [] (seen xs)
 once_all xs i ys over is = is ∙ ap (λ zs. each_once [] (seen zs)) (take_all i xs over)
-
--- the last of some names, put before those that stand backwards
-pub put_back : (left rest : List (Bor (List ℕ))) (x : Bor (List ℕ)) (old new whole : List Name) → left ≡ rest ++ x ∷ [] → seen left ++ reverse old ≡ whole → new ≡ old ++ x.now ∷ [] → seen rest ++ reverse new ≡ whole
-put_back left rest x old new whole is before step =
-    ap (λ ys. seen rest ++ reverse ys) step
-    ∙ (ap (λ ys. seen rest ++ ys) (reverse-append old (x.now ∷ []))
-    ∙ (sym (append_assoc (seen rest) (x.now ∷ []) (reverse old))
-    ∙ (ap (λ ys. ys ++ reverse old) (sym (map-append bytes_of rest (x ∷ [])) ∙ ap seen (sym is)) ∙ before)))

@@ -1,10 +1,9 @@
 -- The tags in a node with lists, boxes or optional parts in it.
-use Rattle.std.proofs.Common.{◌≡◌, Bool, ◌++◌, Option, Some, None, Vec, Global, refl, ap, ◌∙◌, append-nil}
+use Rattle.std.proofs.Common.{◌≡◌, Bool, ◌++◌, Option, Some, None, Vec, Global, ap, ◌∙◌, append-nil}
 use Rattle.std.specs.Prelude.{Box}
 use Rattle.c_syntax.specs.declared.tree.Expr.{Expr as ExprTree}
 use Rattle.c_syntax.specs.declared.tree.ExprKind.TheVariants.{Comma, Call}
-use Rattle.c_syntax.specs.declared.tree.TypeName.{TypeName as TypeTree, out-TypeName, Param-declarator-None', Param-declarator-Some'}
-use Rattle.c_syntax.specs.declared.tree.Param.{Param as ParamTree, Param', out-Param}
+use Rattle.c_syntax.specs.declared.tree.Param.{Param as ParamTree}
 use Rattle.c_syntax.specs.declared.tree.Declarator.{Declarator as DeclaratorTree}
 use Rattle.c_syntax.specs.declared.tree.DeclaratorKind.TheVariants.{Pointer, Array, Function}
 use Rattle.c_syntax.specs.declared.tree.Init.{Init as InitTree}
@@ -14,27 +13,19 @@ use Rattle.c_syntax.specs.declared.tree.Stmt.{Stmt as StmtTree}
 use Rattle.c_syntax.specs.declared.tree.StmtKind.TheVariants.{Block, If, Switch}
 use Rattle.c_syntax.specs.declared.tree.Group.{Group, out-Group}
 use Rattle.c_syntax.specs.Tree.{no_groups}
-use Rattle.c_syntax.specs.View.{spec_of, expr_at, expr_of, type_name_of, declarator_at, declarator_of}
+use Rattle.c_syntax.specs.View.{expr_at, expr_of, declarator_at, declarator_of}
 use Rattle.c_syntax.specs.UnitView.{init_at, init_of, stmt_at, stmt_of, labels_of}
-use Rattle.c_syntax.specs.Writes.{exprs_of, params_of, declarator_in, declarator_behind, expr_behind}
+use Rattle.c_syntax.specs.Writes.{exprs_of, params_of, declarator_behind, expr_behind}
 use Rattle.c_syntax.specs.WritesUnit.{inits_of, block_items_of, stmts_of, groups_of}
-use Rattle.c_rules.specs.Tags.{tags_of_spec, tags_of_expr, tags_of_exprs, tags_of_maybe, tags_of_type, tags_of_declarator, tags_of_params, tags_of_init, tags_of_inits, tags_of_labels, tags_of_stmt, tags_of_block, tags_of_stmts, tags_of_groups}
-use Rattle.c_check_units.specs.Held.{tags_of_param, tags_of_group}
-use Rattle.c_check_counts.proofs.Rows.{comma_is, call_is, type_name_is, pointer_is, array_is, function_is, list_is, block_is, switch_is, group_is}
+use Rattle.c_rules.specs.Tags.{tags_of_expr, tags_of_exprs, tags_of_maybe, tags_of_declarator, tags_of_params, tags_of_init, tags_of_inits, tags_of_labels, tags_of_stmt, tags_of_block, tags_of_stmts, tags_of_groups}
+use Rattle.c_check_units.specs.Held.{tags_of_group}
+use Rattle.c_check_counts.proofs.Rows.{comma_is, call_is, pointer_is, array_is, function_is, list_is, block_is, switch_is, group_is}
 
 pub of_comma : (e : ExprTree) (v : Vec ExprTree Global) → e.kind ≡ Comma v → tags_of_expr (expr_of e) ≡ tags_of_exprs (exprs_of v.items)
 of_comma e v is = ap (λ k. tags_of_expr (expr_at e.at k)) is ∙ ap tags_of_expr (comma_is e.at v)
 
 pub of_call : (e : ExprTree) (d : Box ExprTree Global) (v : Vec ExprTree Global) → e.kind ≡ Call d v → tags_of_expr (expr_of e) ≡ tags_of_expr (expr_of d.value) ++ tags_of_exprs (exprs_of v.items)
 of_call e d v is = ap (λ k. tags_of_expr (expr_at e.at k)) is ∙ ap tags_of_expr (call_is e.at d v)
-
-pub of_type : (n : TypeTree) → tags_of_type (type_name_of n) ≡ tags_of_spec (spec_of (out-TypeName n).spec) ++ tags_of_declarator (declarator_in (out-TypeName n).declarator)
-of_type n = ap tags_of_type (type_name_is n)
-
-pub of_param : (p : ParamTree) → tags_of_param p ≡ tags_of_spec (spec_of (out-Param p).spec) ++ tags_of_declarator (declarator_in (out-Param p).declarator)
-unfolding out-Param denote.Hole.Carrier.out
-of_param (Param' s Param-declarator-None' at) = refl
-of_param (Param' s (Param-declarator-Some' p kind) at) = refl
 
 pub of_pointer : (d : DeclaratorTree) (i : Option (Box DeclaratorTree Global)) → d.kind ≡ Pointer i → tags_of_declarator (declarator_of d) ≡ tags_of_declarator (declarator_behind i)
 of_pointer d i is = ap (λ k. tags_of_declarator (declarator_at d.at k)) is ∙ ap tags_of_declarator (pointer_is d.at i)

@@ -59,11 +59,3 @@ parts_judged view (Err e) q r a is h = names_node e q r a is h
 -- by `?`, after an error of a part
 pub raised : {X A : Type 0} (view : X → A) (found : Checked A) (result : Result X CheckError) (e : CheckError) → IsErr result × IsErrAnd result (λ y. y ≡ e) → Names e (faults found) → AgreesWith view result found
 raised view found result e h n = let w = err_from_is_err_and result h.1 in rw (w.1, w.2) n
-
--- by the last part of one
-pub ended_on : {X A B : Type 0} (view : X → B) (result : Result X CheckError) (r : Checked A) (k : A → Checked B) (a : A) → r ≡ fine a → AgreesWith view result (k a) → AgreesWith view result (on r k)
-ended_on view result r k a p h = rw p h
-
--- by the last part of two
-pub ended_both : {X A B C : Type 0} (view : X → C) (result : Result X CheckError) (r : Checked A) (s : Checked B) (k : A → B → Checked C) (a : A) (b : B) → r ≡ fine a → s ≡ fine b → AgreesWith view result (k a b) → AgreesWith view result (both r s k)
-ended_both view result r s k a b p q h = rw (p, q) h

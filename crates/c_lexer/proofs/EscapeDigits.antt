@@ -1,18 +1,12 @@
 -- The digits that stand first in a text, and which bytes are digits.
-use Rattle.std.proofs.Common.{◌≡◌, ◌≢◌, ◌⊎◌, ℕ, zero, suc, ◌+◌, ◌*◌, ◌<◌, ◌≤◌, List, [], ◌∷◌, ◌++◌, length, get_or, drop, refl, subst, inl, inr, arith}
+use Rattle.std.proofs.Common.{◌≡◌, ◌≢◌, ◌⊎◌, ℕ, ◌+◌, ◌<◌, ◌≤◌, List, [], ◌∷◌, ◌++◌, length, refl, subst, inl, inr, arith}
 use Rattle.std.specs.Char.{digit_value}
 use Rattle.std.specs.Str.Parse.{AllDigits}
-use Rattle.std.proofs.Math.Nat.{mul-le-mul_left}
 use Rattle.std.proofs.lemmas.Bool.{cases_lt}
 use Rattle.std.proofs.lemmas.Bool.Decides.{nat_tests}
-use Rattle.c_lexer.specs.Elements.{HasNoDigit, IsQuote}
+use Rattle.c_lexer.specs.Elements.{HasNoDigit}
 use Rattle.c_lexer.specs.Literals.{IsSimple}
 use Rattle.c_lexer.specs.Literals.IsSimple.{single_quote, double_quote, question, backslash, alert, backspace, form_feed, new_line, carriage_return, horizontal_tab, vertical_tab}
-
--- a quote is no hexadecimal digit
-pub quote_no_digit : (q : ℕ) → IsQuote q → 16 ≤ digit_value q
-quote_no_digit q (inl e) = rw e (omega arith)
-quote_no_digit q (inr e) = rw e (omega arith)
 
 -- an octal digit is a byte from 0 to 7
 pub octal_range : (c : ℕ) → digit_value c < 8 → (48 ≤ c) × (c ≤ 55)
@@ -65,18 +59,3 @@ pub digit_first : (radix : ℕ) (j : List ℕ) → HasNoDigit radix j ⊎ ((b : 
 digit_first radix [] = inl tt
 digit_first radix (b ∷ rest) =
     elim (cases_lt (digit_value b) radix) [ inl low ↦ inr (b, rest, refl, low) | inr high ↦ inl high ]
-
-pub no_digit_at : (radix : ℕ) (i : List ℕ) (n : ℕ) → n < length i → radix ≤ digit_value (get_or i n 0) → HasNoDigit radix (drop n i)
-no_digit_at radix [] n within high = absurd (omega arith)
-no_digit_at radix (b ∷ i) zero within high = high
-no_digit_at radix (b ∷ i) (suc n) within high = no_digit_at radix i n (omega arith) high
-
-pub no_digit_end : (radix : ℕ) (i : List ℕ) → HasNoDigit radix (drop (length i) i)
-no_digit_end radix [] = tt
-no_digit_end radix (b ∷ i) = no_digit_end radix i
-
--- a value above 255 stays so with more digits
-pub large_step : (v r d : ℕ) → 1 ≤ r → 255 < v → 255 < v * r + d
-large_step v r d one large =
-    let most : v * 1 ≤ v * r = mul-le-mul_left v one in
-    omega arith

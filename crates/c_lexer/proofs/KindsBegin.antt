@@ -13,7 +13,7 @@ use Rattle.c_lexer.specs.declared.token.TokenKind.TheVariants.{Name, Keyword, In
 use Rattle.c_lexer.specs.Words.{keywords, punctuators, IsWord, IsNumber, IsRun, IsWordByte, IsNumberByte}
 use Rattle.c_lexer.specs.Literals.{IsConstant, IsDecimal, IsOctal, IsHexadecimal, HasNumber, IsSuffix, IsCharacter, IsString, IsLongest}
 use Rattle.c_lexer.specs.Kinds.{Spells, IsLexeme}
-use Rattle.c_lexer.specs.Spelling.{IsToken}
+use Rattle.c_lexer.specs.TokenSpelling.{IsToken}
 use Rattle.c_lexer.specs.Parts.{BeginsWith, IsOther}
 use Rattle.c_lexer.proofs.WordTables.{keyword_is_fixed, punctuator_begins, number_Contains}
 

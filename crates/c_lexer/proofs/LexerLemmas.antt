@@ -7,7 +7,7 @@ use Rattle.c_lexer.specs.declared.token.TokenKind.{TokenKind}
 use Rattle.c_lexer.specs.declared.token.Token.{Token}
 use Rattle.c_lexer.specs.declared.error.LexError.{LexError}
 use Rattle.c_lexer.specs.declared.error.LexError.TheVariants.{OutOfMemory, At}
-use Rattle.c_lexer.specs.Spelling.{IsWhite, IsToken, Stand, SpellsFrom, nothing, white, token}
+use Rattle.c_lexer.specs.TokenSpelling.{IsWhite, IsToken, Stand, SpellsFrom, nothing, white, token}
 use Rattle.c_lexer.specs.Refusals.{Stops, HasNoTokens}
 use Rattle.c_lexer.specs.LexerParts.{Takes, HasStopped}
 use Rattle.c_lexer.proofs.OneTokenText.{goes_on}

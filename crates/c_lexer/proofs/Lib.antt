@@ -32,3 +32,4 @@ pub mod WhiteMarkers
 pub mod WhiteReads
 pub mod WordLemmas
 pub mod WordTables
+pub use Rattle.dm_base.proofs.ListLemmas

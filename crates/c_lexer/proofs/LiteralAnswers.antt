@@ -7,7 +7,7 @@ use Rattle.c_lexer.specs.declared.token.TokenKind.TheVariants.{Char, Str}
 use Rattle.c_lexer.specs.declared.error.Cause.TheVariants.{Malformed, TooLarge}
 use Rattle.c_lexer.specs.Literals.{char_value}
 use Rattle.c_lexer.specs.Elements.{KeepsByte, HasNoElement, HasValues, ReadsElement, ReadsElements}
-use Rattle.c_lexer.specs.Spelling.{IsToken}
+use Rattle.c_lexer.specs.TokenSpelling.{IsToken}
 use Rattle.c_lexer.specs.Reading.{IsMisfit}
 use Rattle.c_lexer.proofs.LiteralReads.{At, malformed_string, malformed_character, large_string, large_character, string_token, character_token, string_found, character_found, no_string, no_character, no_first, token_at}
 

@@ -13,7 +13,7 @@ use Rattle.c_lexer.specs.Literals.{IsPlain, HasElement, HasElements, IsCharacter
 use Rattle.c_lexer.specs.Literals.HasElements.{none}
 use Rattle.c_lexer.specs.Elements.{IsQuote, HasNoElement}
 use Rattle.c_lexer.specs.Kinds.{IsByte, Spells}
-use Rattle.c_lexer.specs.Spelling.{IsToken}
+use Rattle.c_lexer.specs.TokenSpelling.{IsToken}
 use Rattle.c_lexer.specs.Refusals.{BeginsNoToken, Holds}
 use Rattle.c_lexer.specs.Reading.{IsMisfit}
 use Rattle.c_lexer.proofs.EscapeFronts.{has_element}

@@ -16,9 +16,6 @@ pub record IsLongestSoFar (words : List (List ℕ)) (i : List ℕ) (n : ℕ) (fo
   pub found_it : IsFound words i found long
   pub longest : (k : ℕ) (x y : List ℕ) → k < n → slice_get words k ≡ Some x → i ≡ x ++ y → length x ≤ long
 
-pub longest_none : (words : List (List ℕ)) (i : List ℕ) → IsLongestSoFar words i 0 None 0
-longest_none words i = record { found_it = refl; longest = λ k x y before. absurd (omega arith) }
-
 same_word : (words : List (List ℕ)) (n k : ℕ) (w x : List ℕ) → k ≡ n → slice_get words n ≡ Some w → slice_get words k ≡ Some x → w ≡ x
 same_word words n k w x same at other = let e : slice_get words n ≡ Some x = subst (λ m. slice_get words m ≡ Some x) same other in cc
 

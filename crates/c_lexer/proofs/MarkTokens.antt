@@ -7,7 +7,7 @@ use Rattle.c_lexer.specs.declared.error.Cause.TheVariants.{ForeignByte, OpenComm
 use Rattle.c_lexer.specs.Codes.{code_of}
 use Rattle.c_lexer.specs.Words.{punctuators}
 use Rattle.c_lexer.specs.Kinds.{IsLexeme}
-use Rattle.c_lexer.specs.Spelling.{IsToken}
+use Rattle.c_lexer.specs.TokenSpelling.{IsToken}
 use Rattle.c_lexer.specs.Reading.{IsClear, IsMisfit}
 use Rattle.c_lexer.specs.Refusals.{Holds}
 use Rattle.c_lexer.specs.Parts.{BeginsWith, IsOther, HasNoFront, IsLongestFront}

@@ -79,19 +79,6 @@ unsuffixed_with w body u is marks = record {
   whole = λ n decimal number. record { digits = body; suffix = u ∷ []; is = is; number = number; ended = suffix_at u marks };
 }
 
-plain_parts : (w : List ℕ) (n : ℕ) (decimal other : Bool) → ((body : List ℕ) (u : ℕ) → w ≡ body ++ u ∷ [] → IsNoSuffix u) → IsConstant w n decimal other → (other ≡ false) × HasNumber w n decimal
-plain_parts w n decimal true none c =
-    ⊎_elim (λ e. absurd (none c.digits 117 (c.is ∙ ap (λ v. c.digits ++ v) e) (inl refl))) (λ e. absurd (none c.digits 85 (c.is ∙ ap (λ v. c.digits ++ v) e) (inr refl))) c.ended
-plain_parts w n decimal false none c =
-    let whole : w ≡ c.digits = c.is ∙ ap (λ v. c.digits ++ v) c.ended ∙ append-nil c.digits in
-    (refl, subst (λ v. HasNumber v n decimal) (sym whole) c.number)
-
-pub unsuffixed_without : (w : List ℕ) → ((body : List ℕ) (u : ℕ) → w ≡ body ++ u ∷ [] → IsNoSuffix u) → IsUnsuffixed w w false
-unsuffixed_without w none = record {
-  parts = λ n decimal other c. plain_parts w n decimal other none c;
-  whole = λ n decimal number. record { digits = w; suffix = []; is = sym (append-nil w); number = number; ended = refl };
-}
-
 pub last_split : (w : List ℕ) → 1 ≤ length w → w ≡ take (length w - 1) w ++ get_or w (length w - 1) 0 ∷ []
 last_split w some =
     let all : length w - 1 + 1 ≡ length w = omega arith in
@@ -102,12 +89,6 @@ last_is w body u is =
     let all : length w ≡ length (body ++ u ∷ []) = ap length is in
     let long : length (body ++ u ∷ []) ≡ length body + 1 = length_push body u in
     ap (λ v. get_or v (length w - 1) 0) is ∙ get_or_at body u [] 0 (length w - 1) (omega arith)
-
-pub no_last : (body : List ℕ) (u : ℕ) (w : List ℕ) → length w ≤ 0 → w ≡ body ++ u ∷ [] → ⊥
-no_last body u w none is =
-    let all : length w ≡ length (body ++ u ∷ []) = ap length is in
-    let long : length (body ++ u ∷ []) ≡ length body + 1 = length_push body u in
-    omega arith
 
 -- what a constant without a suffix, with its base and its digits, spells
 module _ {w body : List ℕ} {suffixed : Bool} (bare : IsUnsuffixed w body suffixed) {base : ℕ} {digits : List ℕ} (based : IsBased body base digits) where

@@ -3,7 +3,7 @@ use Rattle.std.proofs.Common.{◌≡◌, ℕ, ◌<◌, List, [], ◌∷◌, ◌+
 use Rattle.std.proofs.lemmas.List.{append-nil}
 use Rattle.dm_base.specs.declared.mode.Mode.{Mode}
 use Rattle.c_lexer.specs.declared.token.Token.{Token}
-use Rattle.c_lexer.specs.Spelling.{IsWhite, Stand, SpellsFrom, nothing, white, token, SpellsTokens}
+use Rattle.c_lexer.specs.TokenSpelling.{IsWhite, Stand, SpellsFrom, nothing, white, token, SpellsTokens}
 use Rattle.c_lexer.proofs.OneTokenSame.{token_same}
 use Rattle.c_lexer.proofs.OneTokenWhite.{one_white, no_token_in_white, one_token, white_some, token_some}
 

@@ -3,7 +3,7 @@ use Rattle.std.proofs.Common.{◌≡◌, ℕ, suc, ◌+◌, ◌<◌, ◌≤◌, 
 use Rattle.std.proofs.lemmas.Bool.{cases_lt}
 use Rattle.c_lexer.specs.declared.token.TokenKind.{TokenKind}
 use Rattle.c_lexer.specs.Kinds.{Spells}
-use Rattle.c_lexer.specs.Spelling.{IsBlank, IsInLine, IsLineEnd, IsLineComment, IsBlockComment, HasEndAfter, IsLineMarker, IsWhite, blank, line_comment, block_comment, line_marker, IsToken}
+use Rattle.c_lexer.specs.TokenSpelling.{IsBlank, IsInLine, IsLineEnd, IsLineComment, IsBlockComment, HasEndAfter, IsLineMarker, IsWhite, blank, line_comment, block_comment, line_marker, IsToken}
 use Rattle.c_lexer.proofs.OneTokenBegins.{begins as begins_by, FirstOf, first_no_marker, first_no_blank, lexeme_from_spells}
 use Rattle.c_lexer.proofs.OneTokenKinds.{one_kind}
 use Rattle.c_lexer.proofs.OneTokenLiterals.{same_front}

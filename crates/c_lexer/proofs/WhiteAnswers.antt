@@ -10,7 +10,7 @@ use Rattle.c_lexer.specs.declared.error.Cause.{Cause}
 use Rattle.c_lexer.specs.declared.error.Cause.TheVariants.{ForeignByte, OpenComment, Malformed, TooLarge, NoLineMarker, ExcludedKeyword}
 use Rattle.c_lexer.specs.Codes.{code_of}
 use Rattle.c_lexer.specs.Words.{punctuators, IsRun, IsWordByte, IsNumberByte}
-use Rattle.c_lexer.specs.Spelling.{IsBlank, IsInLine, IsLineEnd, BeginsBlockComment, HasEndAfter, EndsInMargin, blank, line_comment, block_comment, line_marker, IsToken}
+use Rattle.c_lexer.specs.TokenSpelling.{IsBlank, IsInLine, IsLineEnd, BeginsBlockComment, HasEndAfter, EndsInMargin, blank, line_comment, block_comment, line_marker, IsToken}
 use Rattle.c_lexer.specs.Refusals.{BeginsNoToken, Holds}
 use Rattle.c_lexer.specs.Reading.{HasNoWhite, ReadsWhite}
 use Rattle.c_lexer.specs.WhiteParts.{IsLine, IsCommentEnd, IsMarkerHead, BeginsMarker}

@@ -3,7 +3,7 @@ use Rattle.std.proofs.Common.{◌≡◌, ◌≢◌, ℕ, ◌+◌, ◌-◌, ◌<�
 use Rattle.std.specs.Prelude.{All, ◌⊎◌}
 use Rattle.std.proofs.lemmas.Bool.{cases_lt, cases_eq}
 use Rattle.std.proofs.lemmas.List.{drop_more, get_or-drop, take-append-drop, get_or_at, get_or-append_right, length-drop}
-use Rattle.c_lexer.specs.Spelling.{EndsInMargin}
+use Rattle.c_lexer.specs.TokenSpelling.{EndsInMargin}
 
 abbrev IsMarginByte : ℕ → Type 0
 IsMarginByte b = (b ≡ 32) ⊎ (b ≡ 9)

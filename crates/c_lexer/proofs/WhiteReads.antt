@@ -1,9 +1,9 @@
 -- What a loop over a text's bytes shows.
-use Rattle.std.proofs.Common.{◌≡◌, ◌≢◌, ℕ, ◌+◌, ◌<◌, ◌≤◌, List, [], ◌∷◌, ◌++◌, length, get_or, take, drop, refl, sym, ap, ◌∙◌, ⊎_elim, arith, append_assoc, length-append}
+use Rattle.std.proofs.Common.{◌≡◌, ◌≢◌, ℕ, ◌+◌, ◌<◌, ◌≤◌, List, [], ◌∷◌, ◌++◌, length, get_or, take, drop, refl, sym, ap, ◌∙◌, ⊎_elim, arith}
 use Rattle.std.specs.Prelude.{◌==◌, false}
 use Rattle.std.proofs.lemmas.Bool.{cases_order}
-use Rattle.std.proofs.lemmas.List.{drop_more, take-append-drop, get_or_at}
-use Rattle.c_lexer.specs.Spelling.{IsLineEnd, HasEndAfter}
+use Rattle.std.proofs.lemmas.List.{drop_more, take-append-drop}
+use Rattle.c_lexer.specs.TokenSpelling.{IsLineEnd, HasEndAfter}
 use Rattle.c_lexer.specs.Runs.{IsRunLength}
 use Rattle.c_lexer.specs.WhiteParts.{IsLine, IsCommentEnd}
 
@@ -24,13 +24,6 @@ pub record EndsAt (i : List ℕ) (n : ℕ) : Type 0 where
   pub within : n + 1 < length i
   pub star : get_or i n 0 ≡ 42
   pub slash : get_or i (n + 1) 0 ≡ 47
-
-pub EndsAt-from_end : (i front : List ℕ) → HasEndAfter front i → EndsAt i (length front)
-EndsAt-from_end i front (rest, is) = record {
-  within = rw is (omega (arith, length-append front (42 ∷ 47 ∷ rest)));
-  star = rw is (get_or_at front 42 (47 ∷ rest) 0 (length front) refl);
-  slash = rw is (let e : front ++ 42 ∷ 47 ∷ rest ≡ (front ++ 42 ∷ []) ++ 47 ∷ rest = sym (append_assoc front (42 ∷ []) (47 ∷ rest)) in rw e (get_or_at (front ++ 42 ∷ []) 47 rest 0 (length front + 1) (omega (arith, length-append front (42 ∷ [])))));
-}
 
 pub end_from_EndsAt : (i : List ℕ) (n : ℕ) → EndsAt i n → HasEndAfter (take n i) i
 end_from_EndsAt i n at =

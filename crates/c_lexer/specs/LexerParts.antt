@@ -5,7 +5,7 @@ use Rattle.c_lexer.specs.declared.error.Cause.{Cause}
 use Rattle.c_lexer.specs.declared.error.LexError.{LexError}
 use Rattle.c_lexer.specs.declared.error.LexError.TheVariants.{OutOfMemory, At}
 use Rattle.c_lexer.specs.Codes.{code_of}
-use Rattle.c_lexer.specs.Spelling.{SpellsFrom}
+use Rattle.c_lexer.specs.TokenSpelling.{SpellsFrom}
 use Rattle.c_lexer.specs.Reading.{HasNoWhite, IsMisfit}
 use Rattle.c_lexer.specs.Refusals.{StopsBy}
 

@@ -6,7 +6,7 @@ use Rattle.c_lexer.specs.declared.misfit.Lexeme.{Lexeme}
 use Rattle.c_lexer.specs.declared.misfit.Misfit.{Misfit}
 use Rattle.c_lexer.specs.declared.misfit.Misfit.TheVariants.{OutOfMemory, By}
 use Rattle.c_lexer.specs.Codes.{code_of}
-use Rattle.c_lexer.specs.Spelling.{IsBlank, BeginsLineComment, BeginsBlockComment, IsWhite, IsToken}
+use Rattle.c_lexer.specs.TokenSpelling.{IsBlank, BeginsLineComment, BeginsBlockComment, IsWhite, IsToken}
 use Rattle.c_lexer.specs.Refusals.{Holds}
 
 -- something stands first that is neither white space nor begins any

@@ -11,7 +11,7 @@ use Rattle.c_lexer.specs.Codes.{code_of}
 use Rattle.c_lexer.specs.Words.{excluded_keywords, IsWord, IsNumber}
 use Rattle.c_lexer.specs.Literals.{IsLongest, IsConstant, type_of, IsCharacter, IsString}
 use Rattle.c_lexer.specs.Kinds.{Spells}
-use Rattle.c_lexer.specs.Spelling.{longest_text, BeginsBlockComment, HasEndAfter, IsWhite, IsToken, Stand, SpellsFrom, SpellsTokens}
+use Rattle.c_lexer.specs.TokenSpelling.{longest_text, BeginsBlockComment, HasEndAfter, IsWhite, IsToken, Stand, SpellsFrom, SpellsTokens}
 
 -- no token's text begins with the byte
 abbrev pub BeginsNoToken : ℕ → Type 0

@@ -1,7 +1,7 @@
 -- For private contracts and proofs alone: what the parts of the reader of white space answer.
 use Rattle.std.specs.Prelude.{◌≡◌, ◌≢◌, ◌≤◌, ◌+◌, ℕ, List, [], ◌∷◌, ◌++◌, All, length, take, drop}
 use Rattle.dm_base.specs.Name.{IsDigit}
-use Rattle.c_lexer.specs.Spelling.{IsBlank, IsInLine, IsLineEnd, HasEndAfter}
+use Rattle.c_lexer.specs.TokenSpelling.{IsBlank, IsInLine, IsLineEnd, HasEndAfter}
 
 -- so many bytes stand before the line's end
 pub record IsLine (i : List ℕ) (n : ℕ) : Type 0 where

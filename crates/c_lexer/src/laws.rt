@@ -3,7 +3,7 @@ ghost use Rattle.dm_base.specs.declared.mode.Mode.{Mode};
 ghost use Rattle.c_lexer.specs.declared.token.TokenKind.{TokenKind};
 ghost use Rattle.c_lexer.specs.declared.token.Token.{Token};
 ghost use Rattle.c_lexer.specs.Kinds.{Spells, SpellsSome, IsKind};
-ghost use Rattle.c_lexer.specs.Spelling.{SpellsTokens};
+ghost use Rattle.c_lexer.specs.TokenSpelling.{SpellsTokens};
 ghost use Rattle.c_lexer.specs.Words.{keywords, punctuators};
 ghost use Rattle.c_lexer.specs.Names.{AreNumbersIn, named_keywords, named_punctuators};
 

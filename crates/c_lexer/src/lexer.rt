@@ -1,6 +1,6 @@
 ghost use Rattle.std.specs.Prelude.{◌≡◌, ◌<◌, ◌^◌, IfOk, IfErr, length, take, drop};
 ghost use Rattle.c_lexer.specs.LexerParts.{Takes, IsStuckAt, HasStopped};
-ghost use Rattle.c_lexer.specs.Spelling.{longest_text as longest_length, SpellsFrom, SpellsTokens};
+ghost use Rattle.c_lexer.specs.TokenSpelling.{longest_text as longest_length, SpellsFrom, SpellsTokens};
 ghost use Rattle.c_lexer.specs.Reading.{IsClear, HasNoWhite};
 ghost use Rattle.c_lexer.specs.Refusals.{IsRefused, HasNoTokens};
 

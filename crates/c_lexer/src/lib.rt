@@ -18,6 +18,7 @@ mod white;
 mod word;
 mod words;
 
+pub use dm_base::{Bytes, OutOfMemory};
 pub use error::LexError;
 pub use laws::{
     a_keyword_has_the_number_of_its_name, a_punctuator_has_the_number_of_its_name,

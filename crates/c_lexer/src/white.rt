@@ -1,5 +1,5 @@
 ghost use Rattle.std.specs.Prelude.{◌≡◌, ◌≤◌, ◌<◌, ◌^◌, ◌↔◌, ℕ, List, ◌∷◌, IsTrue, MatchOption, length, take, drop};
-ghost use Rattle.c_lexer.specs.Spelling.{IsBlank, EndsInMargin, HasEndAfter};
+ghost use Rattle.c_lexer.specs.TokenSpelling.{IsBlank, EndsInMargin, HasEndAfter};
 ghost use Rattle.c_lexer.specs.Reading.{ReadsWhite};
 ghost use Rattle.c_lexer.specs.WhiteParts.{IsCommentEnd, IsMarkerHead, BeginsMarker, IsInk};
 

@@ -11,3 +11,4 @@ pub mod Plain
 pub mod RunTrials
 pub mod TrialTerms
 pub mod UndefinedTrials
+pub use Rattle.c_values.proofs.StoreLemmas

@@ -13,3 +13,10 @@ pub mod Results
 pub mod Runs
 pub mod SystemCalls
 pub mod WithoutNullCalls
+pub use Rattle.c_values.specs.Answers
+pub use Rattle.c_values.specs.Memory
+pub use Rattle.sys_table.specs.Answering
+pub use Rattle.sys_table.specs.Table
+pub use Rattle.sys_table.specs.declared.kinds.ArgKind
+pub use Rattle.sys_table.specs.declared.kinds.ResultKind
+pub use Rattle.sys_table.specs.declared.sys_result.SysResult

@@ -4,12 +4,12 @@ use Rattle.dm_base.specs.declared.event.Arg.{Arg}
 use Rattle.dm_base.specs.declared.event.Arg.TheVariants as args
 use Rattle.dm_base.specs.declared.event.Event.{Event}
 use Rattle.dm_base.specs.declared.event.Event.TheVariants.{Sys}
-use Rattle.sys_table.specs.declared.sys_result.SysResult.{SysResult}
-use Rattle.sys_table.specs.Table.{result_of as result_kind}
+use Rattle.c_meaning.specs.SysResult.{SysResult}
+use Rattle.c_meaning.specs.Table.{result_of as result_kind}
 use Rattle.c_tree.specs.declared.value.Value.{Value}
 use Rattle.c_tree.specs.declared.value.Value.TheVariants.{Indeterminate, Int, Uint, Char, Uchar, Null, Func, At}
-use Rattle.c_values.specs.Answers.{Answer, gives, undefined}
-use Rattle.c_values.specs.Memory.{Objects}
+use Rattle.c_meaning.specs.Answers.{Answer, gives, undefined}
+use Rattle.c_meaning.specs.Memory.{Objects}
 use Rattle.c_meaning.specs.Meaning.{either, tested, null_call}
 use Rattle.c_meaning.specs.Pointers.{test}
 use Rattle.c_meaning.specs.Results.{State, Result, Go, Stop, after, then_do, spend_at, answered, remembered, Exit, on, broken, continued, returned, on_exit, on_round}

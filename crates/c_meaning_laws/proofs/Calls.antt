@@ -10,13 +10,13 @@ use Rattle.dm_base.specs.declared.event.Arg.{Arg}
 use Rattle.dm_base.specs.declared.event.Arg.TheVariants as args
 use Rattle.dm_base.specs.declared.event.Event.TheVariants.{Sys}
 use Rattle.dm_base.specs.declared.outcome.Outcome.TheVariants.{BadResult}
-use Rattle.sys_table.specs.declared.kinds.ArgKind.{ArgKind}
-use Rattle.sys_table.specs.declared.kinds.ArgKind.TheVariants.{Signed, Unsigned, Bytes}
-use Rattle.sys_table.specs.declared.kinds.ResultKind.{ResultKind}
-use Rattle.sys_table.specs.declared.kinds.ResultKind.TheVariants as kinds
-use Rattle.sys_table.specs.declared.sys_result.SysResult.{SysResult}
-use Rattle.sys_table.specs.Table.{Row, table, recorded_of, result_of, FitsArgument, FitsResult, IsRecorded}
-use Rattle.sys_table.specs.Answering.{AnswersRead, AnswersWrite, AnswersOther}
+use Rattle.c_meaning.specs.ArgKind.{ArgKind}
+use Rattle.c_meaning.specs.ArgKind.TheVariants.{Signed, Unsigned, Bytes}
+use Rattle.c_meaning.specs.ResultKind.{ResultKind}
+use Rattle.c_meaning.specs.ResultKind.TheVariants as kinds
+use Rattle.c_meaning.specs.SysResult.{SysResult}
+use Rattle.c_meaning.specs.Table.{Row, table, recorded_of, result_of, FitsArgument, FitsResult, IsRecorded}
+use Rattle.c_meaning.specs.Answering.{AnswersRead, AnswersWrite, AnswersOther}
 use Rattle.c_tree.specs.declared.value.IntType.TheVariants as i
 use Rattle.c_tree.specs.declared.value.Pointer.{Pointer}
 use Rattle.c_tree.specs.declared.value.Value.{Value}
@@ -28,8 +28,8 @@ use Rattle.c_tree.specs.Operands.{IsObject}
 use Rattle.c_tree.specs.Kinds.{Objects, IsPointer}
 use Rattle.c_tree.specs.Program.{IsProgram}
 use Rattle.c_tree.specs.Operators.{Answer, gives, undefined, and_then}
-use Rattle.c_values.specs.Memory.{Object}
-use Rattle.c_values.specs.Memory.{Objects as Memory}
+use Rattle.c_meaning.specs.Memory.{Object}
+use Rattle.c_meaning.specs.Memory.{Objects as Memory}
 use Rattle.c_meaning.specs.Pointers.{number}
 use Rattle.c_meaning.specs.Pointers.{pointer as pointed}
 use Rattle.c_meaning.specs.Results.{State, Stop, after, remembered}

@@ -12,8 +12,8 @@ use Rattle.c_tree.specs.Functions.{int}
 use Rattle.c_tree.specs.Operands.{IsComplete, IsObject}
 use Rattle.c_tree.specs.Kinds.{Objects, IsPointer}
 use Rattle.c_tree.specs.Program.{IsBelow, AreStructs, IsProgram}
-use Rattle.c_values.specs.Memory.{IsInside}
-use Rattle.c_values.specs.Memory.{Objects as Memory}
+use Rattle.c_meaning.specs.Memory.{IsInside}
+use Rattle.c_meaning.specs.Memory.{Objects as Memory}
 use Rattle.c_meaning.specs.Pointers.{difference}
 use Rattle.c_meaning_laws.specs.StoreTyping.{HasKind, IsCell, IsTypedMemory}
 use Rattle.c_meaning_laws.proofs.Places.{length_repeat, lies_within, struct_is, zip_long}

@@ -3,11 +3,11 @@ use Rattle.std.proofs.Common.{refl, ℕ, zero, suc, Bool, true, false, List, [],
 use Rattle.std.proofs.lemmas.Bool.{false≢true}
 use Rattle.std.proofs.lemmas.List.Elements.{All-nil, All-append}
 use Rattle.dm_base.specs.declared.event.Event.{Event}
-use Rattle.sys_table.specs.Table.{IsRecorded}
+use Rattle.c_meaning.specs.Table.{IsRecorded}
 use Rattle.c_tree.specs.Tree.{CType, Program}
 use Rattle.c_tree.specs.Kinds.{Objects}
-use Rattle.c_values.specs.Answers.{Answer, gives, undefined}
-use Rattle.c_values.specs.Memory.{Objects as Memory}
+use Rattle.c_meaning.specs.Answers.{Answer, gives, undefined}
+use Rattle.c_meaning.specs.Memory.{Objects as Memory}
 use Rattle.c_meaning.specs.Meaning.{either}
 use Rattle.c_meaning.specs.Results.{State, with_memory, Result, Go, Stop, after, then_do, spend_at, answered, remembered, Exit, on, broken, continued, returned, on_exit, on_round}
 use Rattle.c_meaning_laws.specs.StoreTyping.{IsTypedMemory, IsTypedState, Grows, TellsAlike}

@@ -10,7 +10,7 @@ use Rattle.c_tree.specs.Tree.{Stmt, block, empty, evaluate, declare, if_else, wh
 use Rattle.c_tree.specs.Functions.{defined}
 use Rattle.c_tree.specs.Operators.{convert, binary}
 use Rattle.c_tree.specs.Layout.{cells}
-use Rattle.c_values.specs.Answers.{Answer}
+use Rattle.c_meaning.specs.Answers.{Answer}
 use Rattle.c_meaning.specs.Meaning.{Marks, Frame, Loop, World, either, with_marks, tested, called, call_undefined, called_through, wants, eval, eval_each, eval_all, condition, perhaps, initialise, fresh, leaving, declared_in, exec, exec_all, exec_from, selected, behind_of, decayed, operated, comparing, moving, updated, name_in}
 use Rattle.c_meaning.specs.Pointers.{test, callee, place, load_place, store_place, member, difference}
 use Rattle.c_meaning.specs.Results.{State, Result, Go, Stop, then_do, spend_at, answered, remembered, Exit}

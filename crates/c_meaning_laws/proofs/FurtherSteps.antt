@@ -10,8 +10,8 @@ use Rattle.c_tree.specs.declared.value.Value.{Value}
 use Rattle.c_tree.specs.declared.value.Value.TheVariants.{Indeterminate, Int, Uint, Char, Uchar, Null, Func, At}
 use Rattle.c_tree.specs.Tree.{CType, void, integer, pointer, array, struct, function}
 use Rattle.c_tree.specs.Operators.{Answer, gives, undefined, and_then}
-use Rattle.c_values.specs.Memory.{there, element, cell_value, writable}
-use Rattle.c_values.specs.Memory.{Objects as Memory}
+use Rattle.c_meaning.specs.Memory.{there, element, cell_value, writable}
+use Rattle.c_meaning.specs.Memory.{Objects as Memory}
 use Rattle.c_meaning.specs.Meaning.{behind_of, operated, comparing, moving, is_subtraction, updated}
 use Rattle.c_meaning.specs.Pointers.{number, truth_value, place, behind, load_place, at_index, offset, moved, same_array, in_one_array, difference, alive, equal_pointers, equality, compared, test}
 use Rattle.c_meaning.specs.SystemCalls.{bytes_in, cells_from, before_zero, bytes_where, has_room, bytes_of_buffer, room_for, size, Request, request_of, argument, arguments, read_request, write_request, request}

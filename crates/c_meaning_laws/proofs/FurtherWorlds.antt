@@ -9,7 +9,7 @@ use Rattle.c_tree.specs.Kinds.{Objects, static_objects}
 use Rattle.c_tree.specs.Functions.{int}
 use Rattle.c_tree.specs.Program.{IsProgram}
 use Rattle.c_tree.specs.Typed.{IsTest, IsStep, IsStmt}
-use Rattle.c_values.specs.Memory.{Objects as Memory}
+use Rattle.c_meaning.specs.Memory.{Objects as Memory}
 use Rattle.c_shapes.specs.Mentions.{mentions_of_maybe}
 use Rattle.c_meaning.specs.Meaning.{Marks, Frame, Loop, World, condition, perhaps, without, exec, either}
 use Rattle.c_meaning.specs.Results.{State, with_memory, Result, Go, Stop, then_do, Exit, on, broken, continued, returned, on_round}

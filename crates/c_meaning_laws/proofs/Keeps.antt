@@ -7,7 +7,7 @@ use Rattle.std.proofs.lemmas.List.Elements.{All-nil, All-cons, All-head, All-tai
 use Rattle.dm_base.specs.declared.event.Event.{Event}
 use Rattle.dm_base.specs.declared.event.Event.TheVariants.{Pre, Post}
 use Rattle.dm_base.specs.declared.outcome.Outcome.TheVariants.{Undefined}
-use Rattle.sys_table.specs.Table.{IsRecorded}
+use Rattle.c_meaning.specs.Table.{IsRecorded}
 use Rattle.c_tree.specs.declared.value.IntType.{IntType}
 use Rattle.c_tree.specs.declared.value.UnOp.{UnOp}
 use Rattle.c_tree.specs.declared.value.UnOp.TheVariants.{Minus, Complement, Not}
@@ -24,8 +24,8 @@ use Rattle.c_tree.specs.Kinds.{Objects, IsPointer}
 use Rattle.c_tree.specs.Operators.{Answer, gives, undefined, convert, binary}
 use Rattle.c_tree.specs.Program.{IsStatic, IsProgram}
 use Rattle.c_tree.specs.Typed.{IsStaticOf, IsVariableOf, IsValue, IsPlace, AreMembers, AreArguments, IsCondition, IsTest, IsStep, AreInits, IsDeclare, IsFirst, AreFirst, IsStmt, AreStmts, AreGroups}
-use Rattle.c_values.specs.Memory.{declared}
-use Rattle.c_values.specs.Memory.{Objects as Memory}
+use Rattle.c_meaning.specs.Memory.{declared}
+use Rattle.c_meaning.specs.Memory.{Objects as Memory}
 use Rattle.c_shapes.specs.Mentions.{Calls, Direct, Through, mentions, mentions_of_all, mentions_of_maybe, mentions_of_inits, mentions_of_stmt, mentions_of_stmts, mentions_of_groups}
 use Rattle.c_meaning.specs.Meaning.{Marks, Frame, World, either, static_name, name_in, behind_of, decayed, operated, comparing, moving, updated, with_marks, wants, null_call, call_undefined, called, system_call_alone, called_through, tested, eval, eval_each, eval_all, condition, perhaps, initialise, fresh, declared_in, without, leaving, selected, exec, exec_all, exec_from}
 use Rattle.c_meaning.specs.Pointers.{callee, truth_value, place, load_place, store_place, member, difference, test}

@@ -11,9 +11,9 @@ use Rattle.c_tree.specs.Layout.{Structs, or_none, repeat, flat_with, flat_all_wi
 use Rattle.c_tree.specs.Operands.{IsScalar, IsObject}
 use Rattle.c_tree.specs.Kinds.{Objects, Lies}
 use Rattle.c_tree.specs.Program.{IsBelow, AreStructs}
-use Rattle.c_values.specs.Memory.{Object, same_name, changed, ended}
-use Rattle.c_values.specs.Memory.{Objects as Memory}
-use Rattle.c_values.proofs.StoreLemmas.{same_is}
+use Rattle.c_meaning.specs.Memory.{Object, same_name, changed, ended}
+use Rattle.c_meaning.specs.Memory.{Objects as Memory}
+use Rattle.c_meaning.proofs.StoreLemmas.{same_is}
 use Rattle.c_meaning_laws.specs.StoreTyping.{HasKind, IsCell, IsGiven, IsPlaced, IsTypedMemory, Grows}
 
 pub get_left : {A : Type 0} (xs ys : List A) (k : ℕ) (t : A) → slice_get xs k ≡ Some t → slice_get (xs ++ ys) k ≡ Some t

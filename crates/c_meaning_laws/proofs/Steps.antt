@@ -25,8 +25,8 @@ use Rattle.c_tree.specs.Operators.{Answer, gives, undefined, and_then, fits_int,
 use Rattle.c_tree.specs.Program.{IsFunction, IsProgram}
 use Rattle.c_tree.specs.Typed.{IsMemberOf}
 use Rattle.c_tree.proofs.OperatorLemmas.{converted, arithmetic_fits, below_32}
-use Rattle.c_values.specs.Memory.{Object, there, element, cell_value, load, set_cell, store, changed}
-use Rattle.c_values.specs.Memory.{Objects as Memory}
+use Rattle.c_meaning.specs.Memory.{Object, there, element, cell_value, load, set_cell, store, changed}
+use Rattle.c_meaning.specs.Memory.{Objects as Memory}
 use Rattle.c_meaning.specs.Meaning.{behind_of, decayed, operated, comparing, moving, computing, is_subtraction, updated}
 use Rattle.c_meaning.specs.Pointers.{callee, number, truth_value, behind, function_behind, load_place, store_place, member, to_first, at_index, offset, moved, same_array, in_one_array, alive, equal_pointers, compared, test}
 use Rattle.c_meaning.specs.Pointers.{pointer as pointed}

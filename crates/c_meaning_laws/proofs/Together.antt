@@ -3,8 +3,8 @@ use Rattle.std.proofs.Common.{◌≡◌, ℕ, zero, suc, ◌*◌, ◌+◌, ◌�
 use Rattle.dm_base.specs.declared.event.Event.{Event}
 use Rattle.dm_base.specs.declared.event.Event.TheVariants.{Pre, Post, Sys}
 use Rattle.dm_base.specs.declared.outcome.Outcome.TheVariants.{Undefined, BadResult}
-use Rattle.sys_table.specs.declared.sys_result.SysResult.{SysResult}
-use Rattle.sys_table.specs.Table.{result_of}
+use Rattle.c_meaning.specs.SysResult.{SysResult}
+use Rattle.c_meaning.specs.Table.{result_of}
 use Rattle.dm_base.specs.declared.event.Arg.{Arg}
 use Rattle.dm_base.specs.declared.event.Arg.TheVariants as args
 use Rattle.c_tree.specs.declared.value.ObjectName.{ObjectName}
@@ -14,9 +14,9 @@ use Rattle.c_tree.specs.declared.value.Value.TheVariants.{Indeterminate, Int, Ui
 use Rattle.c_tree.specs.Tree.{CType, Program}
 use Rattle.c_tree.specs.Kinds.{Objects}
 use Rattle.c_tree.specs.Operators.{Answer, gives, undefined, and_then}
-use Rattle.c_values.specs.Memory.{Object, same_name, changed, there, element, writable, set_cell, store}
-use Rattle.c_values.specs.Memory.{Objects as Memory}
-use Rattle.c_values.proofs.StoreLemmas.{same_is}
+use Rattle.c_meaning.specs.Memory.{Object, same_name, changed, there, element, writable, set_cell, store}
+use Rattle.c_meaning.specs.Memory.{Objects as Memory}
+use Rattle.c_meaning.proofs.StoreLemmas.{same_is}
 use Rattle.c_meaning.specs.Meaning.{Marks, either, with_marks, null_call, call_undefined, system_call_alone}
 use Rattle.c_meaning.specs.Pointers.{number, store_place}
 use Rattle.c_meaning.specs.Results.{State, with_memory, Result, Go, Stop, after, then_do, spend_at, answered, remembered, Exit, on, broken, continued, returned, on_exit, on_round}

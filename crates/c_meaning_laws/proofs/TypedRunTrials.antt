@@ -5,7 +5,7 @@ use Rattle.std.proofs.lemmas.List.Elements.{All-nil, All-cons}
 use Rattle.std.proofs.lemmas.List.Kept.{AllPairs-cons}
 use Rattle.dm_base.specs.Name.{IsName}
 use Rattle.dm_base.specs.declared.outcome.Outcome.TheVariants as outcomes
-use Rattle.sys_table.specs.Table.{IsRecorded, table, name_of}
+use Rattle.c_meaning.specs.Table.{IsRecorded, table, name_of}
 use Rattle.c_tree.specs.declared.value.IntType.TheVariants.{Int}
 use Rattle.c_tree.specs.declared.value.Value.TheVariants as v
 use Rattle.c_tree.specs.Tree.{CType, pointer, array, struct, no_types, more_types, Function, Static, Program}

@@ -7,8 +7,8 @@ use Rattle.std.proofs.lemmas.Int.{ints}
 use Rattle.std.proofs.lemmas.List.Elements.{All-nil, All-head, All-tail}
 use Rattle.std.proofs.lemmas.Option.{slice_get_past}
 use Rattle.std.specs.Cmp.{nat_eq_equiv}
-use Rattle.sys_table.specs.declared.sys_result.SysResult.{SysResult}
-use Rattle.sys_table.specs.Table.{IsRecorded}
+use Rattle.c_meaning.specs.SysResult.{SysResult}
+use Rattle.c_meaning.specs.Table.{IsRecorded}
 use Rattle.c_tree.specs.declared.value.ObjectName.{ObjectName}
 use Rattle.c_tree.specs.declared.value.Value.{Value}
 use Rattle.c_tree.specs.declared.value.Value.TheVariants.{Indeterminate, Int, Uint, Char, Uchar, Null, Func, At}
@@ -20,7 +20,7 @@ use Rattle.c_tree.specs.Kinds.{Objects, HasType, cells_where, if_static, static_
 use Rattle.c_tree.specs.Program.{IsFunction, IsStatic, IsProgram}
 use Rattle.c_tree.specs.Typed.{IsTest, IsStep, IsStmt}
 use Rattle.c_shapes.specs.CallGraph.{is_taken}
-use Rattle.c_values.specs.Memory.{Objects as Memory}
+use Rattle.c_meaning.specs.Memory.{Objects as Memory}
 use Rattle.c_meaning.specs.Meaning.{Marks, Frame, Loop, World, static_name, perhaps, without}
 use Rattle.c_meaning.specs.Results.{State, with_memory, Result, Go, Stop, then_do, Exit, on, broken, continued, returned}
 use Rattle.c_meaning.specs.Runs.{with_parameters, parameters, entered, without_value, result_of, run_body, enter, loop, world, first_objects, beginning, exit_of, ending, run_with}

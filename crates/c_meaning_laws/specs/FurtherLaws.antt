@@ -6,11 +6,11 @@ use Rattle.c_tree.specs.Tree.{CType, function, CTypes, list_of, Expr, Exprs, Stm
 use Rattle.c_tree.specs.Typed.{IsValue, IsPlace, AreArguments, IsTest, IsStep, IsStmt}
 use Rattle.c_tree.specs.Kinds.{Objects, static_objects}
 use Rattle.c_tree.specs.Program.{IsProgram}
-use Rattle.c_values.specs.Memory.{Objects as Memory}
+use Rattle.c_meaning.specs.Memory.{Objects as Memory}
 use Rattle.c_shapes.specs.Mentions.{mentions, mentions_of_all, mentions_of_stmt}
 use Rattle.c_meaning.specs.Meaning.{Marks, Frame, Loop, World, eval, eval_all, exec}
 use Rattle.c_meaning.specs.Results.{State, with_memory, Exit}
-use Rattle.sys_table.specs.declared.sys_result.SysResult.{SysResult}
+use Rattle.c_meaning.specs.SysResult.{SysResult}
 use Rattle.c_meaning.specs.Runs.{world, enter, beginning, ending, run_with}
 use Rattle.c_meaning_laws.specs.StoreTyping.{HasKind, IsTypedState, TellsOfStatics, IsTypedFrame}
 use Rattle.c_meaning_laws.specs.TypedResults.{StandsIn, StandsRound, AreRecorded}

@@ -1,14 +1,14 @@
 -- The laws on well-typed programs: values have the kinds of their types, and pointers lie in their objects.
 use Rattle.std.specs.Prelude.{ℕ, ◌<◌, ◌*◌, List, All}
-use Rattle.sys_table.specs.declared.sys_result.SysResult.{SysResult}
-use Rattle.sys_table.specs.Table.{IsRecorded}
+use Rattle.c_meaning.specs.SysResult.{SysResult}
+use Rattle.c_meaning.specs.Table.{IsRecorded}
 use Rattle.c_tree.specs.declared.value.Pointer.{Pointer}
 use Rattle.c_tree.specs.declared.value.Value.TheVariants.{At}
 use Rattle.c_tree.specs.Tree.{CType, Program}
 use Rattle.c_tree.specs.Kinds.{Objects, static_objects}
 use Rattle.c_tree.specs.Program.{IsProgram}
-use Rattle.c_values.specs.Memory.{IsInside}
-use Rattle.c_values.specs.Memory.{Objects as Memory}
+use Rattle.c_meaning.specs.Memory.{IsInside}
+use Rattle.c_meaning.specs.Memory.{Objects as Memory}
 use Rattle.c_meaning.specs.Meaning.{Marks}
 use Rattle.c_meaning.specs.Runs.{Run, world, beginning, run_with}
 use Rattle.c_meaning_laws.specs.StoreTyping.{HasKind, IsPlaced, IsTypedMemory, IsTypedState, TellsOfStatics}

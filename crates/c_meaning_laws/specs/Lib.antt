@@ -10,3 +10,4 @@ pub mod Laws
 pub mod StoreTyping
 pub mod Turns
 pub mod TypedResults
+pub use Rattle.c_meaning.specs.WithoutNullCalls

@@ -10,8 +10,8 @@ use Rattle.c_tree.specs.Layout.{Structs, flat, cells}
 use Rattle.c_tree.specs.Functions.{value_type}
 use Rattle.c_tree.specs.Operands.{IsObject}
 use Rattle.c_tree.specs.Kinds.{Objects, Lies, IsPointer, IsConstant}
-use Rattle.c_values.specs.Memory.{Object}
-use Rattle.c_values.specs.Memory.{Objects as Memory}
+use Rattle.c_meaning.specs.Memory.{Object}
+use Rattle.c_meaning.specs.Memory.{Objects as Memory}
 use Rattle.c_shapes.specs.CallGraph.{is_taken}
 use Rattle.c_meaning.specs.Meaning.{Frame, static_name, name_in}
 use Rattle.c_meaning.specs.Results.{State}

@@ -45,16 +45,6 @@ some_taken {d} {at} {a} {e} {bs} {t} {u} {i} {j} {k} {m} {z} y h r c q s =
 pub suffix_is : {s z : Suffix} (t : Token) → s ≡ z → IsSuffix s t → IsSuffix z t
 suffix_is t q h = let P : Suffix → Type 0 = λ x. IsSuffix x t in subst P q h
 
--- an operand, and the suffixes that were read of it, with one more
-pub suffix_more :
-    {d at : ℕ} {b w : Expr} {t : Token} {s i m n : List Token}
-    → ((a : Expr) × (j : List Token) × Reads d primary_level a s j × Stops primary_level j × ((e : Expr) (k : List Token) → Suffixes d at b e i k → Suffixes d at a e j k))
-    → i ≡ t ∷ m
-    → ((e : Expr) (k : List Token) → Suffixes d at w e n k → Suffixes d at b e (t ∷ m) k)
-    → (a : Expr) × (j : List Token) × Reads d primary_level a s j × Stops primary_level j × ((e : Expr) (k : List Token) → Suffixes d at w e n k → Suffixes d at a e j k)
-suffix_more {d} {at} {b} {w} {t} {s} {i} {m} {n} h q f =
-    (h.0, h.1, h.2, h.3, λ e k z. let P : List Token → Type 0 = λ y. Suffixes d at b e y k in h.4 e k (subst P (sym q) (f e k z)))
-
 -- an operand with each suffix that was read
 pub suffixes_read :
     {d at : ℕ} {b : Expr} {s i : List Token}

@@ -94,23 +94,6 @@ fails_second {A} {B} f b = fails_as (λ k j m w. only (f k j m) w) b
     only f (first a) = absurd (f a)
     only f (second b) = b
 
-pub fails_else : {A B : List Token → List Token → Type 0} {i r : List Token} → ((k j : List Token) → Meets i k → B k j → ⊥) → Fails A i r → Fails (Or A B) i r
-fails_else {A} {B} f a = fails_as (λ k j m w. only (f k j m) w) a
-  where
-    only : {k j : List Token} → (B k j → ⊥) → Or A B k j → A k j
-    only f (first a) = a
-    only f (second b) = absurd (f b)
-
--- of two phrases each fails
-pub fails_both : {A B : List Token → List Token → Type 0} {i r : List Token} → Fails A i r → Fails B i r → Fails (Or A B) i r
-fails_both {A} {B} {i} {r} a b =
-    let e : b.front ≡ a.front = append_cancel_right b.front a.front r (sym b.is ∙ a.is) in
-    record { front = a.front; is = a.is; none = λ s m j w. neither (a.none s m) (subst (λ z. (j : List Token) → B (z ++ s) j → ⊥) e (b.none s m)) w }
-  where
-    neither : {k j : List Token} → ((j : List Token) → A k j → ⊥) → ((j : List Token) → B k j → ⊥) → Or A B k j → ⊥
-    neither f g (first h) = f _ h
-    neither f g (second h) = g _ h
-
 no_token : {P : Token → Type 0} {j : List Token} → One P [] j → ⊥
 no_token h = elim h [ ]
 

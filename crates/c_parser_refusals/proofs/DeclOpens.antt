@@ -6,7 +6,7 @@ use Rattle.c_lexer.specs.declared.keyword.TheConstants.{VOID}
 use Rattle.c_syntax.specs.Tree.{Ident, Spec, void, absent, there, type_name, Declarator, named, pointer, array, function, no_params}
 use Rattle.c_syntax.specs.Tokens.{Is}
 use Rattle.c_syntax.specs.Specifiers.{Names, Consts, no_const, ReadsSpec, is_void}
-use Rattle.c_syntax.specs.Grammar.{conditional_level, IsThere, HasName, HasNoName, no_size, a_size, a_type}
+use Rattle.c_syntax.specs.Grammar.{conditional_level, IsThere, HasNoName, no_size, a_size, a_type}
 use Rattle.c_syntax.specs.Grammar.{Declares, a_pointer, a_direct, ReadsCore, a_declared, declarator_in_parentheses, no_core, Lengthens, no_more, an_array, a_function, are_none}
 use Rattle.c_syntax.proofs.Twins.{On}
 use Rattle.c_syntax.proofs.FrameSpecifiers.{consts_on, spec_on}
@@ -23,12 +23,6 @@ close_paren = punctuator RIGHT_PARENTHESIS (omega arith)
 
 abbrev pub close_bracket : Token
 close_bracket = punctuator RIGHT_BRACKET (omega arith)
-
-pub builds_name : Builds HasName
-builds_name = record { pointers = λ at e n. n; arrays = λ at e s n. n; functions = λ at e ps n. n }
-
-pub builds_no_name : Builds HasNoName
-builds_no_name = record { pointers = λ at e n. n; arrays = λ at e s n. n; functions = λ at e ps n. n }
 
 -- what is deep is there
 
@@ -116,9 +110,6 @@ lengthens_pair at n (a_function o s c v) w y = inr (lengthens_pair at n v w y)
 
 rooted : {d x y : ℕ} {a e : Declarator} {i j : List Token} → x ≡ y → Lengthens d y a e i j → Lengthens d x a e i j
 rooted q v = rw q v
-
-direct_reads : {d q : ℕ} {e : Declarator} {i j : List Token} → Direct d q e i j → Declares d e i j
-direct_reads a = a_direct a.begins a.stands a.lengthens
 
 pub lengthens_open : {N : Declarator → Type 0} {at p n q : ℕ} {e : Declarator} {i j r : List Token} → N e → ((k : List Token) → On (Direct (suc p) q e) i j k) → Opens (DeepLengthens N at p n q e) j r → Opens (DeepDeclarator N at p n) i r
 lengthens_open {N} {at} {p} {n} {q} {e} g f o = opens_as (λ k m v. whole v) (opens_later f o)

@@ -11,7 +11,7 @@ use Rattle.c_syntax.specs.Limits.{height}
 use Rattle.c_syntax.proofs.Precedence.{Stops}
 use Rattle.c_syntax.proofs.Ranks.{ranked, apart, not_name, ranked_access, ranked_postfix, postfix_apart, access_apart, step_apart}
 use Rattle.c_syntax.proofs.Ends.{start, started, started_word, started_int, started_char, started_unary, started_prefix, parenthesis_ends_declarator}
-use Rattle.c_syntax.proofs.Begins.{strings_begin, primary_begins, prefixed_inside}
+use Rattle.c_syntax.proofs.Begins.{strings_begin, prefixed_inside}
 use Rattle.c_syntax.proofs.OneOperand.{suffix_stops}
 use Rattle.c_syntax.proofs.OneChain.{chain_stops}
 use Rattle.c_parser_refusals.specs.Fails.{Then, then, first, second, one}
@@ -38,9 +38,6 @@ chain_rises no_operator = omega arith
 chain_rises (an_operator l h r c) = omega (arith, chain_rises c)
 
 -- primary expressions (C99 6.5.1)
-
-pub no_primary : {b : Bound} {i j : List Token} → (3 ≤ start i → start i ≤ 5 → ⊥) → AnExpr b primary_level i j → ⊥
-no_primary f a = f (primary_begins a.reads).0 (primary_begins a.reads).1
 
 paren_reads : (b : Bound) {d : ℕ} {e : Expr} {t : Token} {i j : List Token} → Is LEFT_PARENTHESIS t → Reads d primary_level e (t ∷ i) j → Fits b d (height e) → ParenthesisTail (enclosed b) i j
 paren_reads b h (is_name n) f = absurd (not_name h n)
@@ -110,9 +107,6 @@ step_reads b p h (a_call o r c w) s f = absurd (omega (arith, postfix_apart p h 
 step_reads b p {t = t} h (a_member {access = x} o n w) s f = absurd (step_apart t p x h o)
 step_reads b p h (a_postfix o w) s f = some_suffixes b w s f
 
-pub step_form : (b : Bound) (p : Postfix) {t : Token} {i j : List Token} → IsPostfix p t → SomeSuffixes b (t ∷ i) j → SomeSuffixes b i j
-step_form b p h a = step_reads b p h a.reads a.stops a.fits
-
 -- unary expressions (C99 6.5.3)
 
 bare_reads : (b : Bound) {d : ℕ} {e : Expr} {i j : List Token} → (3 ≤ start i) → Reads d unary_level e i j → Stops unary_level j → Fits b d (height e) → AnExpr b postfix_level i j
@@ -120,10 +114,6 @@ bare_reads b h (no_prefix r) s f = record { depth = _; tree = _; reads = r; stop
 bare_reads b h (a_prefix {p = p} {t = t} o r) s f = absurd (omega (arith, started_prefix t p o))
 bare_reads b h (a_unary o u r) s f = absurd (omega (arith, started_unary o u))
 bare_reads b h (a_sizeof_type o l r c) s f = absurd (omega (arith, started_word o))
-
--- where no prefix operator stands
-pub bare_form : (b : Bound) {i j : List Token} → 3 ≤ start i → AnExpr b unary_level i j → AnExpr b postfix_level i j
-bare_form b h a = bare_reads b h a.reads a.stops a.fits
 
 -- cast expressions (C99 6.5.4)
 

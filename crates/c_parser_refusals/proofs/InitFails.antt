@@ -10,8 +10,8 @@ use Rattle.c_syntax.specs.Limits.{height_of_init, height_of_inits}
 use Rattle.c_syntax.proofs.Ranks.{ranked, apart}
 use Rattle.c_syntax.proofs.Precedence.{Stops}
 use Rattle.c_syntax.proofs.Heads.{headed, expression_head}
-use Rattle.c_parser_refusals.specs.Fails.{Meets, Fails, Then, then, first, second, one, NotAt}
-use Rattle.c_parser_refusals.specs.Phrases.{Bound, within, Fits, inner, AnExpr, AnInit, Punctuator}
+use Rattle.c_parser_refusals.specs.Fails.{Fails, Then, then, first, second, one, NotAt}
+use Rattle.c_parser_refusals.specs.Phrases.{Bound, within, Fits, inner, AnExpr, AnInit}
 use Rattle.c_parser_refusals.specs.Initialisers.{InList, brace_ends, comma_ends, ListEnd}
 use Rattle.c_parser_refusals.proofs.Combine.{fails_here, fails_as, fails_first, fails_later, fails_under, fails_under_alike, not_at_alike}
 use Rattle.c_parser_refusals.proofs.Fixed.{init_fixes}
@@ -67,9 +67,6 @@ first_init_fails {b} f = fails_as (λ k j m a. list_form b a) (fails_first f)
 -- the first initialiser of a list stands
 pub first_init_leads : {b c : Bound} {i j r : List Token} → AnInit c i j → Fails (ListEnd b) j r → Fails (InList b) i r
 first_init_leads {b} {c} a f = fails_as (λ k j m a. list_form b a) (fails_later (init_fixes c b) a f)
-
-no_brace_read : {j k l : List Token} → NotAt (Is RIGHT_BRACE) j → Meets j k → Punctuator RIGHT_BRACE k l → ⊥
-no_brace_read f m (one h) = not_at_alike m f _ _ refl h
 
 -- neither a comma nor a brace follows
 pub list_unclosed : {b : Bound} (i : List Token) → NotAt (Is COMMA) i → NotAt (Is RIGHT_BRACE) i → Fails (ListEnd b) i i

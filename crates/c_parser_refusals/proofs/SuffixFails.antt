@@ -4,7 +4,7 @@ use Rattle.c_lexer.specs.declared.token.Token.{Token}
 use Rattle.c_lexer.specs.declared.punctuator.TheConstants.{LEFT_PARENTHESIS, RIGHT_PARENTHESIS}
 use Rattle.c_syntax.specs.Tree.{Ident, Access, Expr, call, member, postfix, index}
 use Rattle.c_syntax.specs.Tokens.{Is, place}
-use Rattle.c_syntax.specs.Grammar.{primary_level, postfix_level, expression_level}
+use Rattle.c_syntax.specs.Grammar.{primary_level, postfix_level}
 use Rattle.c_syntax.specs.Grammar.{Reads, with_suffixes, Suffixes, no_suffix, an_index, an_empty_call, a_call, a_member, a_postfix}
 use Rattle.c_syntax.specs.Limits.{height}
 use Rattle.c_syntax.proofs.Precedence.{rank, Stops}
@@ -12,13 +12,13 @@ use Rattle.c_syntax.proofs.Twins.{glue, On}
 use Rattle.c_syntax.proofs.Ranks.{ranked, heads, apart, one_ident, ranked_postfix, ranked_access, one_postfix, one_access, postfix_apart, access_apart, step_apart}
 use Rattle.c_syntax.proofs.Ends.{started}
 use Rattle.c_syntax.proofs.Begins.{list_begins}
-use Rattle.c_syntax.proofs.FrameGrammar.{reads_on, list_on, suffixes_on}
+use Rattle.c_syntax.proofs.FrameGrammar.{reads_on, suffixes_on}
 use Rattle.c_syntax.proofs.OneOperand.{suffix_stops}
 use Rattle.c_syntax.proofs.One.{same, only_list}
 use Rattle.c_parser_refusals.specs.Fails.{Meets, at_end, at_token, Fails, Then, then, Or, first, second, one, NotAt}
 use Rattle.c_parser_refusals.specs.Phrases.{Bound, within, inner, AnExpr, Punctuator}
 use Rattle.c_parser_refusals.specs.Operands.{SomeExprs, SomeSuffixes, SomeArguments, Postfixed}
-use Rattle.c_parser_refusals.proofs.Combine.{Fixes, fails_here, fails_second, fails_under_begun, fails_beside, fails_past, not_at_alike, twin_alike, Begins}
+use Rattle.c_parser_refusals.proofs.Combine.{fails_here, fails_second, fails_under_begun, fails_beside, fails_past, not_at_alike, twin_alike, Begins}
 use Rattle.c_parser_refusals.proofs.Fixed.{rank_alike, stops_alike}
 use Rattle.c_parser_refusals.proofs.ExprForms.{suffixes_rise, call_form}
 use Rattle.c_parser_refusals.proofs.PrefixFails.{fits_low}
@@ -128,14 +128,6 @@ postfixed_too_high {p} {n} {d} {e} a q g =
     (λ h k l m v y. let w = postfixed_passes v y.reads y.stops in omega (arith, g, (fits_low y.fits).1, suffix_rises (sym (rank_alike m) ∙ q) w.1 y.stops))
 
 -- the arguments of a call
-
-exprs_fixes : (b c : Bound) → Fixes (SomeExprs b) (SomeExprs c)
-exprs_fixes b c = record {
-  moves = λ i j a k m.
-      let x = list_on a.reads k in
-      record { tokens = x.tokens; twin = x.twin; reads = record { depth = a.depth; trees = a.trees; reads = x.reads; stops = stops_alike expression_level m a.stops; fits = a.fits } };
-  once = λ i j k a e. ((only_list a.reads a.stops).is _ _ _ e.reads e.stops).1;
-}
 
 no_end_at : {j k l : List Token} → NotAt (Is RIGHT_PARENTHESIS) j → Meets j k → Punctuator RIGHT_PARENTHESIS k l → ⊥
 no_end_at f m (one h) = not_at_alike m f _ _ refl h

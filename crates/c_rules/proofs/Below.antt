@@ -4,7 +4,7 @@ use Rattle.c_tree.specs.declared.value.IntType.{IntType}
 use Rattle.c_tree.specs.declared.value.UnOp.{UnOp}
 use Rattle.c_tree.specs.declared.value.BinOp.{BinOp}
 use Rattle.c_tree.specs.declared.value.BinOp.TheVariants as op
-use Rattle.c_lexer.specs.declared.punctuator.TheConstants.{ASTERISK, PLUS, MINUS, TILDE, ASSIGN}
+use Rattle.c_syntax.specs.TheConstants.{ASTERISK, PLUS, MINUS, TILDE, ASSIGN}
 use Rattle.c_tree.specs.Tree.{CType, void, integer, pointer, array, struct, function, CTypes, no_types, more_types}
 use Rattle.c_tree.specs.Operands.{promoted, common, OperatorKind, balanced, shift, ordering, equality}
 use Rattle.c_tree.specs.Operands.{kind_of as kind_of_operator}

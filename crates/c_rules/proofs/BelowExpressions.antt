@@ -1,6 +1,6 @@
 -- What expressions, initialisers and statements give calls functions of the unit and system calls alone.
 use Rattle.std.proofs.Common.{◌≡◌, ℕ, zero, suc, ◌+◌, ◌<◌, Bool, true, false, if◌then◌else◌, List, [], ◌∷◌, ◌++◌, map, length, replicate, Option, Some, None, nat_eq, nat_le, refl}
-use Rattle.c_lexer.specs.declared.punctuator.TheConstants.{AMPERSAND}
+use Rattle.c_syntax.specs.TheConstants.{AMPERSAND}
 use Rattle.c_tree.specs.declared.value.IntType.TheVariants.{Char}
 use Rattle.c_tree.specs.declared.value.BinOp.TheVariants.{Add, Sub}
 use Rattle.c_tree.specs.Tree.{CType, void, integer, pointer, array, struct, function}

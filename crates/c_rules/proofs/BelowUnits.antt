@@ -1,8 +1,8 @@
 -- A program that is typed in a plain unit calls no null call.
 use Rattle.std.proofs.Common.{◌≡◌, ℕ, suc, ◌+◌, ◌<◌, Bool, true, false, if◌then◌else◌, List, [], ◌∷◌, ◌++◌, length, Option, Some, None, nat_le, length-append, refl, ap, sym, subst, ◌∙◌, arith}
 use Rattle.std.specs.Prelude.{option_map, bytes_eq}
-use Rattle.dm_base.specs.declared.mode.Mode.TheVariants.{Plain}
-use Rattle.sys_table.specs.Table.{table}
+use Rattle.c_tree.specs.Mode.TheVariants.{Plain}
+use Rattle.c_tree.specs.Table.{table}
 use Rattle.c_tree.specs.declared.value.IntType.{IntType}
 use Rattle.c_tree.specs.Tree.{CType, void, integer, pointer, array, struct, function, CTypes, Function, Program}
 use Rattle.c_tree.specs.Tree as typed

@@ -1,6 +1,6 @@
 -- What is fine gives something, and in what is faulty a demand fails.
 use Rattle.std.proofs.Common.{◌≡◌, ◌⊎◌, inl, inr, ℕ, Contains, refl, ap, ◌∙◌, arith}
-use Rattle.dm_base.specs.declared.mode.Mode.{Mode}
+use Rattle.c_tree.specs.Mode.{Mode}
 use Rattle.c_tree.specs.Tree.{Program}
 use Rattle.c_syntax.specs.Tree.{Items}
 use Rattle.c_rules.specs.Checked.{Checked, fine, faulty, faults, demand, on, Met, met}

@@ -4,7 +4,7 @@ use Rattle.std.proofs.lemmas.Bool.{le-leb, leb-true}
 use Rattle.std.proofs.lemmas.Option.{slice_get_within, slice_get-get_or, get_or_from_slice_get}
 use Rattle.std.proofs.lemmas.List.{get_or_append_left}
 use Rattle.std.specs.Prelude.{slice_get}
-use Rattle.dm_base.specs.declared.mode.Mode.TheVariants.{Plain}
+use Rattle.c_tree.specs.Mode.TheVariants.{Plain}
 use Rattle.c_tree.specs.Functions.{sys_types, null_types}
 use Rattle.c_tree.specs.Layout.{cells_of_all}
 use Rattle.c_tree.specs.Tree.{CType, void, integer, pointer, array, struct, function, CTypes, Function}

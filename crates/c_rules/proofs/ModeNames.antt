@@ -2,7 +2,7 @@
 use Rattle.std.proofs.Common.{◌≡◌, ℕ, suc, Bool, true, false, not, ◌||◌, cond, if◌then◌else◌, List, [], ◌∷◌, ◌++◌, Option, Some, None, refl, ap, sym, subst, ◌∙◌, arith, codes}
 use Rattle.std.specs.Prelude.{is_some, is_none, option_map, bytes_eq}
 use Rattle.std.proofs.lemmas.Slice.Eq.{bytes_eq-Decides}
-use Rattle.dm_base.specs.declared.mode.Mode.TheVariants.{Plain, Instrumented}
+use Rattle.c_tree.specs.Mode.TheVariants.{Plain, Instrumented}
 use Rattle.c_syntax.specs.Tree.{Ident}
 use Rattle.c_rules.specs.Checked.{Checked, fine, demand, and_also, Met, met}
 use Rattle.c_rules.specs.Codes.{C2, C11, C12}

@@ -1,8 +1,8 @@
 -- The two modes side by side: what is fine in a plain unit is fine in an instrumented one and gives the same.
 use Rattle.std.proofs.Common.{◌≡◌, ℕ, ◌<◌, ◌≤◌, Bool, true, false, List, [], ◌∷◌, refl, ap, sym, subst, arith, nat_lt}
 use Rattle.std.proofs.lemmas.Bool.Decides.{Decides-ltb}
-use Rattle.dm_base.specs.declared.mode.Mode.{Mode}
-use Rattle.dm_base.specs.declared.mode.Mode.TheVariants.{Plain, Instrumented}
+use Rattle.c_tree.specs.Mode.{Mode}
+use Rattle.c_tree.specs.Mode.TheVariants.{Plain, Instrumented}
 use Rattle.c_rules.specs.Checked.{Checked, fine, faulty, on, both, beside, all_three, gives, demand, and_also, Met, met, fails_with, parts_first}
 use Rattle.c_rules.specs.Names.{Name, is_reserved}
 use Rattle.c_rules.specs.Scopes.{Env, Binding, Meaning, with_name, meaning_or_unknown}

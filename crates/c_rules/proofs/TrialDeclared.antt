@@ -1,8 +1,8 @@
 -- Names that are not declared, or twice, or not defined (C1, C2, C9 to C12): each unit beside its text, and the demands on it that fail.
 use Rattle.std.proofs.Common.{◌≡◌, true, false, [], codes, refl}
 use Rattle.std.specs.Int.{int_wrap}
-use Rattle.dm_base.specs.declared.mode.Mode.TheVariants.{Plain, Instrumented}
-use Rattle.sys_table.specs.Table.{table}
+use Rattle.c_tree.specs.Mode.TheVariants.{Plain, Instrumented}
+use Rattle.c_tree.specs.Table.{table}
 use Rattle.c_tree.specs.Functions.{sys_types}
 use Rattle.c_syntax.specs.Tree.{Items}
 use Rattle.c_syntax.specs.Tree as s

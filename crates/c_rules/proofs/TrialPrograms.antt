@@ -1,8 +1,8 @@
 -- Small units that are typed, with their typed programs.
 use Rattle.std.proofs.Common.{ℕ, pos, true, false, List, [], ◌∷◌, codes, refl}
-use Rattle.dm_base.specs.declared.mode.Mode.TheVariants.{Plain, Instrumented}
+use Rattle.c_tree.specs.Mode.TheVariants.{Plain, Instrumented}
 use Rattle.std.specs.Int.{int_wrap}
-use Rattle.sys_table.specs.Table.{table}
+use Rattle.c_tree.specs.Table.{table}
 use Rattle.c_tree.specs.declared.value.Value.TheVariants as values
 use Rattle.c_tree.specs.Functions.{sys_types, of_none}
 use Rattle.c_tree.specs.Functions as functions

@@ -1,8 +1,8 @@
 -- Units with structs, static objects, strings and the variables of the instrumenter, with their typed programs.
 use Rattle.std.proofs.Common.{ℕ, ◌+◌, pos, true, false, List, [], ◌∷◌, codes, Some, None, refl}
 use Rattle.std.specs.Int.{int_wrap}
-use Rattle.dm_base.specs.declared.mode.Mode.TheVariants.{Plain, Instrumented}
-use Rattle.sys_table.specs.Table.{table}
+use Rattle.c_tree.specs.Mode.TheVariants.{Plain, Instrumented}
+use Rattle.c_tree.specs.Table.{table}
 use Rattle.c_tree.specs.declared.value.IntType.TheVariants.{Char, Uchar}
 use Rattle.c_tree.specs.declared.value.BinOp.TheVariants.{Add}
 use Rattle.c_tree.specs.declared.value.Value.{Value}

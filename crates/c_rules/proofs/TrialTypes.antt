@@ -1,8 +1,8 @@
 -- Types, places and arguments (C3 to C5, C8, C13): each unit beside its text, and the demands on it that fail.
 use Rattle.std.proofs.Common.{◌≡◌, false, [], codes, refl}
 use Rattle.std.specs.Int.{int_wrap}
-use Rattle.dm_base.specs.declared.mode.Mode.TheVariants.{Plain}
-use Rattle.sys_table.specs.Table.{table}
+use Rattle.c_tree.specs.Mode.TheVariants.{Plain}
+use Rattle.c_tree.specs.Table.{table}
 use Rattle.c_tree.specs.Functions.{sys_types}
 use Rattle.c_syntax.specs.Tree.{Items}
 use Rattle.c_syntax.specs.Tree as s

@@ -1,8 +1,8 @@
 -- Texts that the profile accepts.
 use Rattle.std.specs.Prelude.{ℕ, List}
-use Rattle.dm_base.specs.declared.mode.Mode.{Mode}
-use Rattle.c_lexer.specs.declared.token.Token.{Token}
-use Rattle.c_lexer.specs.Spelling.{SpellsTokens}
+use Rattle.c_tree.specs.Mode.{Mode}
+use Rattle.c_syntax.specs.Token.{Token}
+use Rattle.c_syntax.specs.TokenSpelling.{SpellsTokens}
 use Rattle.c_syntax.specs.Tree.{Items}
 use Rattle.c_syntax.specs.Spelling.{SpellsUnit}
 use Rattle.c_tree.specs.Tree.{Program}

@@ -5,7 +5,7 @@ use Rattle.c_tree.specs.declared.value.IntType.TheVariants as widths
 use Rattle.c_tree.specs.declared.value.Value.TheVariants.{Int}
 use Rattle.c_tree.specs.declared.value.BinOp.{BinOp}
 use Rattle.c_tree.specs.declared.value.BinOp.TheVariants.{Mul, Div, Rem, Add, Sub, ShiftLeft, ShiftRight, BitAnd, BitXor, BitOr}
-use Rattle.c_lexer.specs.declared.punctuator.TheConstants as punctuators
+use Rattle.c_syntax.specs.TheConstants as punctuators
 use Rattle.c_tree.specs.Tree.{CType, void, integer, Expr, Exprs, no_exprs, more_exprs, constant, assign, update, comma}
 use Rattle.c_tree.specs.Functions.{int}
 use Rattle.c_tree.specs.Operands.{promoted, common, OperatorKind, shift}

@@ -3,7 +3,7 @@ use Rattle.std.specs.Prelude.{ℕ, neg_ℤ, Bool, true, false, ◌&&◌, if◌th
 use Rattle.c_tree.specs.declared.value.IntType.{IntType}
 use Rattle.c_tree.specs.declared.value.BinOp.{BinOp}
 use Rattle.c_tree.specs.declared.value.BinOp.TheVariants.{Mul, Div, Rem, Add, Sub, ShiftLeft, ShiftRight, BitAnd, BitXor, BitOr, Less, Greater, LessEqual, GreaterEqual, Equal, NotEqual}
-use Rattle.c_lexer.specs.declared.punctuator.TheConstants as punctuators
+use Rattle.c_syntax.specs.TheConstants as punctuators
 use Rattle.c_tree.specs.Tree.{CType, void, integer, pointer, arithmetic, comparison, pointer_add, pointer_diff, and, or, conditional}
 use Rattle.c_tree.specs.Functions.{int}
 use Rattle.c_tree.specs.Operands.{promoted, common, OperatorKind, balanced, shift, ordering, equality}

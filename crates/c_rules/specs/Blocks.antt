@@ -1,6 +1,6 @@
 -- Declarations in blocks (6.7): the scopes behind them, the strings in them, and what they give.
 use Rattle.std.specs.Prelude.{ℕ, Bool, false, List, [], ◌∷◌, ◌++◌, if◌then◌else◌, Option, Some, None, slice_get}
-use Rattle.dm_base.specs.declared.mode.Mode.{Mode}
+use Rattle.c_tree.specs.Mode.{Mode}
 use Rattle.c_tree.specs.Tree.{CType}
 use Rattle.c_tree.specs.Tree as typed
 use Rattle.c_syntax.specs.Tree.{Ident, Spec, Declarator, MaybeInit, Parts, no_parts, more_parts, Decl, decl}

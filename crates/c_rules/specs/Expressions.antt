@@ -1,7 +1,7 @@
 -- What expressions, names of types and declarators give: the recursion on the syntax, one rule for each form (6.5, 6.7.5, 6.7.6).
 use Rattle.std.specs.Prelude.{ℕ, suc, ◌+◌, Bool, true, false, List, [], ◌∷◌, if◌then◌else◌, Option, Some, None, nat_eq}
 use Rattle.c_tree.specs.declared.value.BinOp.TheVariants.{Add, Sub}
-use Rattle.c_lexer.specs.declared.punctuator.TheConstants.{AMPERSAND}
+use Rattle.c_syntax.specs.TheConstants.{AMPERSAND}
 use Rattle.c_tree.specs.Tree.{CType, CTypes, no_types, more_types}
 use Rattle.c_syntax.specs.Tree.{Spec, Expr, a_name, an_int, a_char, a_str, comma, sizeof_type, cast, call, member, postfix, prefix, unary, index, binary, assign, conditional, Exprs, no_exprs, more_exprs, Maybe, absent, there}
 use Rattle.c_syntax.specs.Tree.{Postfix, post_increment, post_decrement, Prefix, pre_increment, pre_decrement, sizeof, Access, dot, arrow, Infix, and, or, operator}

@@ -1,7 +1,7 @@
 -- The limits of a unit (5.2.4.1).
 use Rattle.std.specs.Prelude.{ℕ}
-use Rattle.dm_base.specs.declared.mode.Mode.{Mode}
-use Rattle.dm_base.specs.declared.mode.Mode.TheVariants.{Plain, Instrumented}
+use Rattle.c_tree.specs.Mode.{Mode}
+use Rattle.c_tree.specs.Mode.TheVariants.{Plain, Instrumented}
 
 -- functions that are declared or defined; an instrumented unit has the two null calls beside those of the plain one
 abbrev pub most_functions : Mode → ℕ

@@ -1,8 +1,8 @@
 -- Names: lists of them, those of system calls, and those that are reserved (7.1.3).
 use Rattle.std.specs.Prelude.{ℕ, suc, Bool, true, false, not, ◌&&◌, ◌||◌, List, [], ◌∷◌, ◌++◌, map, if◌then◌else◌, Option, Some, None, is_some, option_map, nat_eq, nat_le, codes, bytes_eq}
-use Rattle.dm_base.specs.declared.mode.Mode.{Mode}
-use Rattle.dm_base.specs.declared.mode.Mode.TheVariants.{Plain, Instrumented}
-use Rattle.sys_table.specs.Table.{Row, table}
+use Rattle.c_tree.specs.Mode.{Mode}
+use Rattle.c_tree.specs.Mode.TheVariants.{Plain, Instrumented}
+use Rattle.c_tree.specs.Table.{Row, table}
 use Rattle.c_tree.specs.Functions.{sys_types, null_types}
 use Rattle.c_tree.specs.Tree.{CType}
 use Rattle.c_rules.specs.Types.{same_type}

@@ -1,6 +1,6 @@
 -- Scopes (6.2.1): what names mean where a part of the unit stands.
 use Rattle.std.specs.Prelude.{ℕ, suc, ℤ, Bool, List, [], ◌∷◌, map, length, replicate, Option, Some, None, if◌then◌else◌, cond, nat_eq, bytes_eq, slice_get, slice_set, unwrap_or}
-use Rattle.dm_base.specs.declared.mode.Mode.{Mode}
+use Rattle.c_tree.specs.Mode.{Mode}
 use Rattle.c_tree.specs.Tree.{CType}
 use Rattle.c_tree.specs.Layout.{Structs}
 use Rattle.c_rules.specs.Checked.{Fault, Checked, fine, faulty}

@@ -3,7 +3,7 @@ use Rattle.std.specs.Prelude.{ℕ, ◌&&◌, ◌||◌, if◌then◌else◌, nat_
 use Rattle.c_tree.specs.declared.value.IntType.{IntType}
 use Rattle.c_tree.specs.declared.value.UnOp.{UnOp}
 use Rattle.c_tree.specs.declared.value.UnOp.TheVariants.{Minus, Complement, Not}
-use Rattle.c_lexer.specs.declared.punctuator.TheConstants.{ASTERISK, PLUS, MINUS, TILDE}
+use Rattle.c_syntax.specs.TheConstants.{ASTERISK, PLUS, MINUS, TILDE}
 use Rattle.c_tree.specs.Tree.{CType, void, integer, pointer, array, address_of, discard, unary_operation}
 use Rattle.c_tree.specs.Layout.{cells, sizeof}
 use Rattle.c_tree.specs.Functions.{int}

@@ -1,6 +1,6 @@
 -- Units (6.9): what a unit is typed as, and which demands on it fail.
 use Rattle.std.specs.Prelude.{◌≡◌, ℕ, ◌^◌, Bool, true, false, not, ◌&&◌, List, [], ◌∷◌, ◌++◌, map, length, if◌then◌else◌, Option, Some, None, unwrap_or, Contains, codes, nat_lt}
-use Rattle.dm_base.specs.declared.mode.Mode.{Mode}
+use Rattle.c_tree.specs.Mode.{Mode}
 use Rattle.c_tree.specs.Tree.{Static, Program}
 use Rattle.c_tree.specs.Functions.{int, of_none}
 use Rattle.c_syntax.specs.Tree.{Storage, Parts, no_parts, more_parts, Decl, decl, Item, decl_item, function_item, Items, no_items, more_items}

@@ -1,6 +1,6 @@
 ghost use Rattle.std.specs.Prelude.{◌≡◌, ◌⊎◌, ℕ};
-ghost use Rattle.dm_base.specs.declared.mode.Mode.{Mode};
-ghost use Rattle.dm_base.specs.declared.mode.Mode.TheVariants.{Plain, Instrumented};
+ghost use Rattle.c_tree.specs.Mode.{Mode};
+ghost use Rattle.c_tree.specs.Mode.TheVariants.{Plain, Instrumented};
 ghost use Rattle.c_syntax.specs.Tree.{Items};
 ghost use Rattle.c_tree.specs.Tree.{Program};
 ghost use Rattle.c_rules.specs.Units.{IsTyped, IsViolated};

@@ -8,7 +8,7 @@ use Rattle.c_lexer.specs.declared.token.TokenKind.TheVariants.{Name, Keyword, In
 use Rattle.c_lexer.specs.declared.token.Token.{Token}
 use Rattle.c_lexer.specs.Kinds.{Spells, IsKind}
 use Rattle.c_lexer.specs.Literals.{IsElement, plain, simple, octal, hexadecimal, HasElements, none, more}
-use Rattle.c_lexer.specs.Spelling.{SpellsFrom, nothing, white, token, SpellsTokens}
+use Rattle.c_lexer.specs.TokenSpelling.{SpellsFrom, nothing, white, token, SpellsTokens}
 use Rattle.c_lexer.proofs.KindsLemmas.{kind_of_spelled}
 use Rattle.c_syntax.specs.Tree.{Ident, Spec, Storage, Expr, Exprs, Maybe, absent, there, TypeName, Declarator, Params, Init, Inits, MaybeInit, Parts, Decl, First, Labels, Stmt, BlockItems, Stmts, Groups, Declarators, Members, Enumerators, Tag, Item, Items}
 use Rattle.c_syntax.specs.Tree as syntax

@@ -4,7 +4,7 @@ use Rattle.std.specs.List.{range_with_len}
 use Rattle.dm_base.specs.Name.{IsName}
 use Rattle.dm_base.specs.declared.mode.Mode.{Mode}
 use Rattle.c_lexer.specs.declared.token.Token.{Token}
-use Rattle.c_lexer.specs.Spelling.{SpellsTokens}
+use Rattle.c_lexer.specs.TokenSpelling.{SpellsTokens}
 use Rattle.c_tree.specs.Tree.{CType, Static, Program, type_of}
 use Rattle.c_tree.specs.Tree as typed
 use Rattle.c_tree.specs.Operands.{IsResult}

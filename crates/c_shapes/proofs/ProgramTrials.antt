@@ -1,6 +1,6 @@
 -- Call graphs and shapes of small programs.
 use Rattle.std.proofs.Common.{◌≡◌, pos, true, false, [], ◌∷◌, None, codes, refl}
-use Rattle.sys_table.specs.Table.{table}
+use Rattle.c_tree.specs.Table.{table}
 use Rattle.c_tree.specs.declared.value.Value.TheVariants as v
 use Rattle.c_tree.specs.Tree.{pointer, array, Program}
 use Rattle.c_tree.specs.Tree.{Expr, constant, function_name, variable, dereference, load, address_of, decay, pointer_add, call, call_through, no_exprs, more_exprs}

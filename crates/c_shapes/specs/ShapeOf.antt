@@ -1,7 +1,7 @@
 -- The shape of each form of C, by a table: expressions are read in the order of their evaluation (C99 6.5, 6.8).
 use Rattle.std.specs.Prelude.{ℕ, ◌+◌, ◌-◌, Bool, true, false, ◌||◌, nat_eq, nat_lt, List, [], ◌∷◌, ◌++◌, map, length, filter, Option, None, ℤ, if◌then◌else◌}
 use Rattle.std.specs.List.{range_with_len}
-use Rattle.sys_table.specs.Table.{recorded_of, name_of}
+use Rattle.c_tree.specs.Table.{recorded_of, name_of}
 use Rattle.c_tree.specs.declared.tree.TLabel.{TLabel}
 use Rattle.c_tree.specs.declared.tree.TLabel.TheVariants.{Case, Default}
 use Rattle.c_tree.specs.Tree.{Expr, constant, function_name, string_place, variable, dereference, load, address_of, decay, discard, field, unary_operation, conversion, arithmetic, comparison, pointer_add, pointer_diff, and, or, assign, update, conditional, comma, call, call_through, type_of}

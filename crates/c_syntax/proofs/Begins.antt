@@ -64,10 +64,6 @@ pub list_begins : {d : ℕ} {es : Exprs} {i j : List Token} → ReadsList d es i
 list_begins (last_expr r) = assigning_begins r
 list_begins (next_expr r h b) = assigning_begins r
 
--- so no expression begins where the number is 0
-pub no_expression_begins : {d : ℕ} {e : Expr} {i j : List Token} → Reads d expression_level e i j → start i ≡ 0 → ⊥
-no_expression_begins r z = omega (arith, (expression_begins r).0)
-
 -- what stands in parentheses at the front of an operand begins with no word of specifiers
 pub primary_inside : {d : ℕ} {e : Expr} {t : Token} {i j : List Token} → Reads d primary_level e (t ∷ i) j → Is LEFT_PARENTHESIS t → start i ≤ 5
 primary_inside (is_name h) o = absurd (omega (arith, started_name h, started o))

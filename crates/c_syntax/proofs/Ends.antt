@@ -1,9 +1,9 @@
 -- What a phrase begins with, by a number for each token, and what a phrase of which more could be read does not end at.
-use Rattle.std.proofs.Common.{◌≡◌, ◌≤◌, ℕ, ℤ, Bool, zero, suc, List, [], ◌∷◌, ap, arith, slice_index_or}
+use Rattle.std.proofs.Common.{◌≡◌, ◌≤◌, ℕ, ℤ, Bool, List, [], ◌∷◌, ap, arith, slice_index_or}
 use Rattle.c_lexer.specs.declared.token.Token.{Token}
 use Rattle.c_lexer.specs.declared.token.TokenKind.{TokenKind}
 use Rattle.c_lexer.specs.declared.token.TokenKind.TheVariants.{Name, Keyword, Int, Char, Str, Punct}
-use Rattle.c_lexer.specs.declared.punctuator.TheConstants.{COMMA, SEMICOLON, ASSIGN, RIGHT_PARENTHESIS, LEFT_BRACE}
+use Rattle.c_lexer.specs.declared.punctuator.TheConstants.{COMMA, SEMICOLON, RIGHT_PARENTHESIS, LEFT_BRACE}
 use Rattle.c_syntax.specs.Tree.{Prefix, pre_increment, pre_decrement, sizeof}
 use Rattle.c_syntax.specs.Tokens.{Is, IsKeyword, IsNameToken, IsInt, IsChar, IsStr, IsUnary, takes_address, indirects, keeps_sign, changes_sign, complements, negates, IsPrefix}
 
@@ -89,40 +89,6 @@ started_prefix t pre_increment h = started h
 started_prefix t pre_decrement h = started h
 started_prefix t sizeof h = started_word h
 
--- what ends a declarator ends specifiers and storage classes
-pub ends_both : (ts : List Token) → EndsDeclarator ts → EndsSpec ts
-ends_both ts s = omega arith
-
-pub ends_storage_too : (ts : List Token) → EndsSpec ts → EndsStorage ts
-ends_storage_too ts s = omega arith
-
--- the number of any punctuator
-code_starts : (k : ℕ) → start_of_code k ≤ 6
-code_starts zero = omega arith
-code_starts (suc zero) = omega arith
-code_starts (suc (suc zero)) = omega arith
-code_starts (suc (suc (suc zero))) = omega arith
-code_starts (suc (suc (suc (suc zero)))) = omega arith
-code_starts (suc (suc (suc (suc (suc zero))))) = omega arith
-code_starts (suc (suc (suc (suc (suc (suc zero)))))) = omega arith
-code_starts (suc (suc (suc (suc (suc (suc (suc zero))))))) = omega arith
-code_starts (suc (suc (suc (suc (suc (suc (suc (suc zero)))))))) = omega arith
-code_starts (suc (suc (suc (suc (suc (suc (suc (suc (suc zero))))))))) = omega arith
-code_starts (suc (suc (suc (suc (suc (suc (suc (suc (suc (suc zero)))))))))) = omega arith
-code_starts (suc (suc (suc (suc (suc (suc (suc (suc (suc (suc (suc zero))))))))))) = omega arith
-code_starts (suc (suc (suc (suc (suc (suc (suc (suc (suc (suc (suc (suc zero)))))))))))) = omega arith
-code_starts (suc (suc (suc (suc (suc (suc (suc (suc (suc (suc (suc (suc (suc zero))))))))))))) = omega arith
-code_starts (suc (suc (suc (suc (suc (suc (suc (suc (suc (suc (suc (suc (suc (suc zero)))))))))))))) = omega arith
-code_starts (suc (suc (suc (suc (suc (suc (suc (suc (suc (suc (suc (suc (suc (suc (suc zero))))))))))))))) = omega arith
-code_starts (suc (suc (suc (suc (suc (suc (suc (suc (suc (suc (suc (suc (suc (suc (suc (suc k)))))))))))))))) = omega arith
-
--- a punctuator and a name end specifiers and storage classes: EndsSpec and EndsStorage of a list that begins so
-pub punctuator_ends_spec : {code : ℕ} {t : Token} → Is code t → start_of_kind t.kind ≤ 6
-punctuator_ends_spec {code} h = omega (arith, started h, code_starts code)
-
-pub punctuator_ends_storage : {code : ℕ} {t : Token} → Is code t → start_of_kind t.kind ≤ 14
-punctuator_ends_storage {code} h = omega (arith, started h, code_starts code)
-
 pub name_ends_spec : {name : List ℕ} {t : Token} → IsNameToken name t → start_of_kind t.kind ≤ 6
 name_ends_spec h = omega (arith, started_name h)
 
@@ -132,9 +98,6 @@ comma_ends_declarator h = omega (arith, started h)
 
 pub semicolon_ends_declarator : {t : Token} → Is SEMICOLON t → start_of_kind t.kind ≤ 1
 semicolon_ends_declarator h = omega (arith, started h)
-
-pub assign_ends_declarator : {t : Token} → Is ASSIGN t → start_of_kind t.kind ≤ 1
-assign_ends_declarator h = omega (arith, started h)
 
 pub parenthesis_ends_declarator : {t : Token} → Is RIGHT_PARENTHESIS t → start_of_kind t.kind ≤ 1
 parenthesis_ends_declarator h = omega (arith, started h)

@@ -2,7 +2,7 @@
 use Rattle.std.proofs.Common.{[], arith, inl, inr, ◌∷◌, ◌≡◌, ◌⊎◌}
 use Rattle.std.proofs.lemmas.List.Elements.{All-cons, All-nil}
 use Rattle.c_lexer.proofs.WordTables.{c99_is_fixed}
-use Rattle.dm_base.specs.Name.{IsDigit, IsLetter, IsName}
+use Rattle.c_lexer.specs.Name.{IsDigit, IsLetter, IsName}
 
 pub s_is_name : IsName (115 ∷ [])
 s_is_name =

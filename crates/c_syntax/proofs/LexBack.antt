@@ -3,13 +3,13 @@ use Rattle.std.proofs.Common.{◌≡◌, ◌≤◌, ◌+◌, ℕ, Bool, true, fa
 use Rattle.std.specs.Prelude.{if◌then◌else◌}
 use Rattle.std.proofs.lemmas.List.{drop_at, length-append}
 use Rattle.std.proofs.lemmas.List.Elements.{All-head, All-tail}
-use Rattle.dm_base.specs.declared.mode.Mode.TheVariants.{Instrumented}
+use Rattle.c_lexer.specs.Mode.TheVariants.{Instrumented}
 use Rattle.c_lexer.specs.declared.token.TokenKind.{TokenKind}
 use Rattle.c_lexer.specs.declared.token.Token.{Token}
 use Rattle.c_lexer.specs.Kinds.{IsKind}
-use Rattle.c_lexer.specs.Spelling.{IsBlank, IsToken, Stand, SpellsFrom, SpellsTokens}
-use Rattle.c_lexer.specs.Spelling.IsWhite.{blank}
-use Rattle.c_lexer.specs.Spelling.SpellsFrom.{nothing, white, token}
+use Rattle.c_lexer.specs.TokenSpelling.{IsBlank, IsToken, Stand, SpellsFrom, SpellsTokens}
+use Rattle.c_lexer.specs.TokenSpelling.IsWhite.{blank}
+use Rattle.c_lexer.specs.TokenSpelling.SpellsFrom.{nothing, white, token}
 use Rattle.c_syntax.specs.Text.{kind_text, ends_line, space_after, kinds_text}
 use Rattle.c_syntax.proofs.BackTokens.{kinds}
 use Rattle.c_syntax.proofs.LexBackWords.{IsEnd}

@@ -1,10 +1,10 @@
 -- The printed text of a kind is a whole token before a blank.
 use Rattle.std.proofs.Common.{◌≡◌, ◌≢◌, ◌⊎◌, ◌≤◌, ℕ, List, [], ◌∷◌, ◌++◌, length, All, refl, ap, sym, ◌∙◌, subst, inl, inr, ⊎_elim, arith}
-use Rattle.dm_base.specs.Name.{IsName}
+use Rattle.c_lexer.specs.Name.{IsName}
 use Rattle.c_lexer.specs.declared.token.TokenKind.{TokenKind}
 use Rattle.c_lexer.specs.declared.token.TokenKind.TheVariants.{Name, Keyword, Int, Char, Str, Punct}
 use Rattle.c_lexer.specs.Kinds.{Spells, IsLexeme, IsKind}
-use Rattle.c_lexer.specs.Spelling.{IsToken}
+use Rattle.c_lexer.specs.TokenSpelling.{IsToken}
 use Rattle.c_syntax.specs.Text.{kind_text}
 use Rattle.c_syntax.proofs.LexBackWords.{IsEnd, IsSolid, IsNoSecond, Bare, solid_short, word_solid, number_solid, punctuator_solid, keyword_found, punctuator_found, keyword_bare, punctuator_bare, letter_bare}
 use Rattle.c_syntax.proofs.LexBackQuoted.{IsMark, Quoted, character_quoted, string_quoted, quoted_short}
@@ -101,15 +101,6 @@ quoted_token q kind w rest b mark spells quoted end = record {
 name_bare : (w : List ℕ) → IsName w → Bare w
 name_bare [] name = absurd (omega (arith, name.some))
 name_bare (b ∷ w) name = letter_bare b w (name.begins b w refl)
-
--- the printed text of a kind spells it
-pub text_spells : (kind : TokenKind) → IsKind kind → Spells kind (kind_text kind)
-text_spells (Name name) h = (refl, h)
-text_spells (Keyword k) h = keyword_found k h
-text_spells (Int value unsigned) h = constant_spelled value unsigned h
-text_spells (Char c) h = char_spelled c h
-text_spells (Str bytes) h = string_spelled bytes h
-text_spells (Punct p) h = punctuator_found p h
 
 -- and is a whole token before a blank
 pub printed_token : (kind : TokenKind) → IsKind kind → (b : ℕ) (rest : List ℕ) → IsEnd b → IsToken kind (kind_text kind) (b ∷ rest)

@@ -3,7 +3,7 @@ use Rattle.std.proofs.Common.{◌≡◌, ◌≢◌, ◌⊎◌, ◌≤◌, ◌<�
 use Rattle.std.specs.Prelude.{unwrap_or}
 use Rattle.std.proofs.lemmas.Bool.{false≢true, and_parts, not-true, eqb-false}
 use Rattle.std.proofs.lemmas.List.Elements.{All-nil, All-cons, All-head, All-tail}
-use Rattle.dm_base.specs.Name.{IsLetter, IsDigit}
+use Rattle.c_lexer.specs.Name.{IsLetter, IsDigit}
 use Rattle.c_lexer.specs.Words.{keywords, punctuators, IsWord, IsNumber, IsWordByte, IsNumberByte}
 use Rattle.c_lexer.proofs.WordTables.{each}
 

@@ -1,6 +1,6 @@
 -- Lemmas that several crates above use.
 use Rattle.std.proofs.Common.{Err, List, Ok, OnOk, Result, [], ap, append-nil, sym, ◌++◌, ◌∙◌, ◌≡◌}
-use Rattle.dm_base.proofs.ListLemmas.{two_parts}
+use Rattle.c_lexer.proofs.ListLemmas.{two_parts}
 
 pub one_more : {Y : Type 0} (a r s : List Y) → r ≡ s → a ++ r ≡ (a ++ []) ++ s
 one_more a r s e = ap (λ z. a ++ z) e ∙ ap (λ z. z ++ s) (sym (append-nil a))

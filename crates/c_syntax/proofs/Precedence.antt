@@ -114,11 +114,3 @@ unary_low keeps_sign = omega arith
 unary_low changes_sign = omega arith
 unary_low complements = omega arith
 unary_low negates = omega arith
-
-pub unary_high : {code : ℕ} → IsUnary code → code ≤ 15
-unary_high takes_address = omega arith
-unary_high indirects = omega arith
-unary_high keeps_sign = omega arith
-unary_high changes_sign = omega arith
-unary_high complements = omega arith
-unary_high negates = omega arith

@@ -33,11 +33,6 @@ pub ranked_str : {bytes : List ℕ} {t : Token} → IsStr bytes t → rank_of_ki
 unfolding rank_of_kind
 ranked_str h = ap rank_of_kind h.kind
 
--- the rank of a keyword
-pub ranked_word : {code : ℕ} {t : Token} → IsKeyword code t → rank_of_kind t.kind ≡ 100
-unfolding rank_of_kind
-ranked_word h = ap rank_of_kind h.kind
-
 -- the ranks of what is one list
 pub ranks : {i j : List Token} → i ≡ j → rank i ≡ rank j
 ranks e = ap rank e

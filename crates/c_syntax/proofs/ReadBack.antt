@@ -2,10 +2,10 @@
 use Rattle.std.proofs.Common.{◌≡◌, ◌≤◌, ℕ, List, [], ◌∷◌, All, length, ap, sym, subst, ◌∙◌, arith}
 use Rattle.std.proofs.Math.Logic.{∥∥₁_map}
 use Rattle.std.proofs.lemmas.List.Elements.{All-cons}
-use Rattle.dm_base.specs.declared.mode.Mode.TheVariants.{Instrumented}
+use Rattle.c_lexer.specs.Mode.TheVariants.{Instrumented}
 use Rattle.c_lexer.specs.declared.token.Token.{Token}
 use Rattle.c_lexer.specs.declared.token.TokenKind.{TokenKind}
-use Rattle.c_lexer.specs.Spelling.{SpellsTokens}
+use Rattle.c_lexer.specs.TokenSpelling.{SpellsTokens}
 use Rattle.c_lexer.specs.Kinds.{IsKind}
 use Rattle.c_syntax.specs.Tree.{Items}
 use Rattle.c_syntax.specs.Print.{unit_kinds}

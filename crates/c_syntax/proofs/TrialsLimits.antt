@@ -1,6 +1,6 @@
 -- The two limits of nesting tried: blocks within each other, and a name in pairs of parentheses.
 use Rattle.std.proofs.Common.{◌≡◌, ◌≤◌, ℕ, zero, suc, ◌+◌, List, [], ◌∷◌, refl, arith}
-use Rattle.dm_base.specs.declared.mode.Mode.TheVariants.{Plain, Instrumented}
+use Rattle.c_lexer.specs.Mode.TheVariants.{Plain, Instrumented}
 use Rattle.c_lexer.specs.declared.token.Token.{Token}
 use Rattle.c_lexer.specs.declared.punctuator.TheConstants as p
 use Rattle.c_lexer.specs.declared.keyword.TheConstants as w

@@ -39,10 +39,6 @@ written_as {a = a} g e x = record { same = λ k. x.same k ∙ ap (λ w. a ++ kin
 pub on_ok_as : {T E : Type 0} (r : Result T E) (a b : List ℕ) (f g : Kinds → Kinds) → ((k : Kinds) → f k ≡ g k) → OnOk r (Writes a b f) → OnOk r (Writes a b g)
 on_ok_as r a b f g e = on_ok_weaker r (written_as g e)
 
--- nothing was written
-pub nothing_written : (a : List ℕ) → Writes a a (λ k. k)
-nothing_written a = record { same = λ k. refl }
-
 -- Lists. The whole list is to come before its first item.
 pub all_left : {X : Type 0} (left : List X → Kinds → Kinds) (xs : List X) (a : List ℕ) → Leaves a (left xs) a (left (drop 0 xs))
 all_left left xs a = record { same = λ k. refl }

@@ -19,3 +19,6 @@ pub mod UnitView
 pub mod View
 pub mod Writes
 pub mod WritesUnit
+pub use Rattle.c_lexer.specs.TokenSpelling
+pub use Rattle.c_lexer.specs.declared.punctuator.TheConstants
+pub use Rattle.c_lexer.specs.declared.token.Token

@@ -1,8 +1,8 @@
 -- How deep the counted nodes of a tree stand in each other: statements, expressions, declarators and initialisers in braces.
 -- What stands inside one counted node, and inside no other below it, has the depth 1 more.
 use Rattle.std.specs.Prelude.{ℕ, suc, max}
-use Rattle.dm_base.specs.declared.mode.Mode.{Mode}
-use Rattle.dm_base.specs.declared.mode.Mode.TheVariants.{Plain, Instrumented}
+use Rattle.c_lexer.specs.Mode.{Mode}
+use Rattle.c_lexer.specs.Mode.TheVariants.{Plain, Instrumented}
 use Rattle.c_syntax.specs.Tree.{Expr, a_name, an_int, a_char, a_str, comma, sizeof_type, cast, call, member, postfix, prefix, unary, index, binary, assign, conditional}
 use Rattle.c_syntax.specs.Tree.{Exprs, no_exprs, more_exprs, Maybe, absent, there, TypeName, type_name, Declarator, nothing, named, pointer, array, function, Params, no_params, more_params}
 use Rattle.c_syntax.specs.Tree.{Init, one, list, Inits, no_inits, more_inits, MaybeInit, no_init, an_init, Parts, no_parts, more_parts, Decl, decl}

@@ -1,8 +1,8 @@
 -- Which tokens spell a unit.
 use Rattle.std.specs.Prelude.{ℕ, ◌≤◌, List, []}
-use Rattle.dm_base.specs.declared.mode.Mode.{Mode}
-use Rattle.dm_base.specs.declared.mode.Mode.TheVariants.{Instrumented}
-use Rattle.c_lexer.specs.Spelling.{SpellsTokens}
+use Rattle.c_lexer.specs.Mode.{Mode}
+use Rattle.c_lexer.specs.Mode.TheVariants.{Instrumented}
+use Rattle.c_lexer.specs.TokenSpelling.{SpellsTokens}
 use Rattle.c_syntax.specs.Same.{AreSame}
 use Rattle.c_lexer.specs.declared.token.Token.{Token}
 use Rattle.c_syntax.specs.Tree.{Items}

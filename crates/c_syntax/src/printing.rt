@@ -11,7 +11,7 @@ mod tokens;
 
 use crate::Unit;
 use crate::printing::items::write_items;
-use dm_base::OutOfMemory;
+use c_lexer::OutOfMemory;
 use std::alloc::Global;
 
 /// The text of a unit: its tokens with one space between two tokens of a line, and a line ends after

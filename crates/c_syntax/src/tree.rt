@@ -1,4 +1,4 @@
-use dm_base::Bytes;
+use c_lexer::Bytes;
 
 /// A name that is declared or used, and its place.
 #[derive(Drop)]

@@ -25,9 +25,6 @@ rises_then a n b m c x y = record {
       ap capped e ∙ x.same (m + k) ∙ y.same k;
 }
 
-pub rises_by : (a n m b : ℕ) → n ≡ m → Rises a n b → Rises a m b
-rises_by a n m b e x = subst (λ w. Rises a w b) e x
-
 -- the text of a token and others
 with_token : (kind : TokenKind) (k : Kinds) → length (kinds_text (kind ∷ k)) ≡ (length (kind_text kind) + 1) + length (kinds_text k)
 with_token kind k = length-append (kind_text kind) (space_after kind ∷ kinds_text k) ∙ omega arith

@@ -21,3 +21,5 @@ pub mod Sites
 pub mod Tree
 pub mod Typed
 pub mod View
+pub use Rattle.sys_table.specs.Table
+pub use Rattle.dm_base.specs.declared.mode.Mode

@@ -12,6 +12,7 @@ mod tree;
 mod value;
 
 pub use copying::{copy_type, copy_types};
+pub use dm_base::{Kind, OutOfMemory};
 pub use laws::{operators_keep_types, patterns_are_right};
 pub use layout::cells_of;
 pub use program::Program;

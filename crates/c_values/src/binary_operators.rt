@@ -5,8 +5,7 @@ ghost use Rattle.c_values.specs.OperandValues.{AreBinaryOperands};
 
 use crate::int_operators::{on_ints, shift_int};
 use crate::unsigned_operators::{on_unsigned, shift_unsigned};
-use c_tree::{BinOp, Value};
-use dm_base::Kind;
+use c_tree::{BinOp, Kind, Value};
 
 /// The value of a binary operator on integers of one promoted type, or for a shift of two (C99 6.5.5 to 6.5.12). It
 /// refuses with kind 1 an int result of `+`, `-` or `*` that is out of range and the least int by −1, with kind 2 a

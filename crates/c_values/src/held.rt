@@ -6,8 +6,7 @@ ghost use Rattle.c_values.specs.Cells.{with_cell};
 ghost use Rattle.c_values.specs.Held.{held_object, LiesIn, load_from, store_to};
 
 use crate::kinds::kind;
-use c_tree::{Pointer, Value};
-use dm_base::Kind;
+use c_tree::{Kind, Pointer, Value};
 
 // An object: the values of its cells, and whether it is a string literal.
 #[derive(Drop)]

@@ -9,8 +9,7 @@ use crate::conversions::truth;
 use crate::kinds::kind;
 use crate::shifts::shift_amount;
 use crate::unary_operators::in_range;
-use c_tree::{BinOp, Value};
-use dm_base::Kind;
+use c_tree::{BinOp, Kind, Value};
 
 // `/` on ints.
 fn divide(x: i32, y: i32) -> Result<Value, Kind>

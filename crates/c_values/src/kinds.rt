@@ -1,6 +1,6 @@
 ghost use Rattle.std.specs.Prelude.{◌≡◌, ◌≤◌};
 
-use dm_base::Kind;
+use c_tree::Kind;
 
 // The kind with this number.
 pub fn kind(number: u8) -> Kind

@@ -7,8 +7,7 @@ ghost use Rattle.c_values.specs.Seen.{seen};
 
 use crate::held::Held;
 use crate::kinds::kind;
-use c_tree::{ObjectName, Pointer, Value};
-use dm_base::{Kind, OutOfMemory};
+use c_tree::{Kind, ObjectName, OutOfMemory, Pointer, Value};
 use indexmap::IndexMap;
 use std::alloc::Global;
 

@@ -3,7 +3,7 @@ ghost use Rattle.c_values.specs.Ranges.{bits_of_shift};
 ghost use Rattle.c_values.specs.Told.{told};
 
 use crate::kinds::kind;
-use dm_base::Kind;
+use c_tree::Kind;
 
 // The number of bits of a shift, which is 0 to 31.
 pub fn shift_amount(bits: i64) -> Result<u32, Kind>

@@ -7,8 +7,7 @@ ghost use Rattle.c_values.specs.OperandValues.{IsUnaryOperand};
 
 use crate::conversions::{number, truth};
 use crate::kinds::kind;
-use c_tree::{UnOp, Value};
-use dm_base::Kind;
+use c_tree::{Kind, UnOp, Value};
 
 // The int, where one is in range.
 pub fn in_range(number: Option<i32>) -> Result<Value, Kind>

@@ -8,8 +8,7 @@ ghost use Rattle.c_values.specs.Told.{told};
 use crate::conversions::truth;
 use crate::kinds::kind;
 use crate::shifts::shift_amount;
-use c_tree::{BinOp, Value};
-use dm_base::Kind;
+use c_tree::{BinOp, Kind, Value};
 
 // `/` on unsigned ints.
 fn divide(m: u32, n: u32) -> Result<Value, Kind>

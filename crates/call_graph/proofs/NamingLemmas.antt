@@ -7,12 +7,12 @@ use Rattle.std.proofs.lemmas.Option.{get_or_from_slice_get}
 use Rattle.c_tree.specs.declared.tree.CType.{CType as TypeTree}
 use Rattle.c_tree.specs.Tree.{CType}
 use Rattle.c_tree.specs.View.{ctype_of}
-use Rattle.c_shapes.specs.Mentions.{Callee, Direct, Through, Mention, Named, Calls}
+use Rattle.c_shapes.specs.Mentions.{Callee, Through, Mention, Named, Calls}
 use Rattle.call_graph.specs.declared.mention.Mention.{Mention as Told}
 use Rattle.dm_base.specs.Adding.{Has, Adds}
 use Rattle.call_graph.specs.Saying.{mention_of, said}
 use Rattle.call_graph.specs.Types.{types_at, first_place, IsThrough}
-use Rattle.dm_base.proofs.AddingLemmas.{adds_nothing, adds_same, are_all}
+use Rattle.dm_base.proofs.AddingLemmas.{adds_same, are_all}
 use Rattle.call_graph.proofs.Members.{contains-map, contains-unmap}
 use Rattle.call_graph.proofs.ReachingLemmas.{first_within}
 
@@ -25,15 +25,9 @@ no_name e = cc
 same_type_called : {s r : ℕ} {t u : CType} → Calls s (Through t) ≡ Calls r (Through u) → t ≡ u
 same_type_called e = cc
 
-no_type_called : {s r f : ℕ} {t : CType} → Calls s (Direct f) ≡ Calls r (Through t) → ⊥
-no_type_called e = cc
-
 -- a mention that names f
 pub adds_name : (old new : List ℕ) (m : Mention) (f : ℕ) → m ≡ Named f → Adds old new (λ g. g ≡ f) → Adds old new (λ g. m ≡ Named g)
 adds_name old new m f is adds = adds_same old new (λ g. g ≡ f) (λ g. m ≡ Named g) (λ g. (λ e. is ∙ ap Named (sym e), λ e. same_name (sym e ∙ is))) adds
-
-pub adds_no_name : (old : List ℕ) (m : Mention) (s : ℕ) (callee : Callee) → m ≡ Calls s callee → Adds old old (λ g. m ≡ Named g)
-adds_no_name old m s callee is = adds_nothing old (λ g. m ≡ Named g) (λ g e. no_name (sym e ∙ is))
 
 pub named_all : (ms : List Told) (keys : List ℕ) → Adds [] keys (λ g. Has (λ m. mention_of m ≡ Named g) ms) → (f : ℕ) → Contains keys f ↔ Contains (said ms) (Named f)
 named_all ms keys adds f =
@@ -71,12 +65,6 @@ adds_known_type types t m s is within =
         λ either. elim either as (λ _. Contains types u) [ inl was ↦ was | inr called ↦ subst (Contains types) (same_type_called (sym is ∙ called.1)) here ],
       );
     }
-
-pub adds_no_type_of_name : (types : List CType) (m : Mention) (f : ℕ) → m ≡ Named f → Adds types types (λ u. IsThrough u m)
-adds_no_type_of_name types m f is = adds_nothing types (λ u. IsThrough u m) (λ u called. no_name (sym is ∙ called.1))
-
-pub adds_no_type_of_call : (types : List CType) (m : Mention) (s f : ℕ) → m ≡ Calls s (Direct f) → Adds types types (λ u. IsThrough u m)
-adds_no_type_of_call types m s f is = adds_nothing types (λ u. IsThrough u m) (λ u called. no_type_called (sym is ∙ called.1))
 
 pub types_all : (ms : List Told) (types : List CType) → Adds [] types (λ t. Has (λ m. IsThrough t (mention_of m)) ms) → (s : ℕ) (t : CType) → Contains (said ms) (Calls s (Through t)) → Contains types t
 types_all ms types adds s t has =

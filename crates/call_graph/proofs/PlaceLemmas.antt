@@ -7,9 +7,8 @@ use Rattle.c_shapes.specs.Mentions.{Callee, Direct, Through, Mention, Named, Cal
 use Rattle.c_shapes.specs.CallGraph.{callee_at}
 use Rattle.call_graph.specs.declared.mention.Mention.{Mention as Said}
 use Rattle.call_graph.specs.declared.sites.Place.{Place}
-use Rattle.call_graph.specs.declared.sites.Place.TheVariants.{Function, Pointer}
 use Rattle.call_graph.specs.Saying.{mention_of, said}
-use Rattle.call_graph.specs.Places.{first_of, place_or_none, placed, single}
+use Rattle.call_graph.specs.Places.{first_of, placed, single}
 
 some_first : (types : List CType) (c : Callee) (y : Option Place) → placed types (Some c) ≡ first_of (placed types (Some c)) y
 some_first types (Direct f) y = refl
@@ -25,27 +24,9 @@ next_place types s [] m = refl
 next_place types s (Named f ∷ xs) m = next_place types s xs m
 next_place types s (Calls r c ∷ xs) m = next_by types c (callee_at s (xs ++ m ∷ [])) (callee_at s xs) (callee_at s (single m)) (nat_eq s r) (next_place types s xs m)
 
--- a call at a site, alone
-pub direct_placed : (types : List CType) (s r f : ℕ) → place_or_none (nat_eq s r) (Function f) ≡ placed types (callee_at s (single (Calls r (Direct f))))
-direct_placed types s r f = by (nat_eq s r)
-  where
-    by : (b : Bool) → place_or_none b (Function f) ≡ placed types (if b then Some (Direct f) else None)
-    by true = refl
-    by false = refl
-
-pub through_placed : (types : List CType) (s r k : ℕ) (t : CType) → Some (Pointer k) ≡ placed types (Some (Through t)) → place_or_none (nat_eq s r) (Pointer k) ≡ placed types (callee_at s (single (Calls r (Through t))))
-through_placed types s r k t is = by (nat_eq s r)
-  where
-    by : (b : Bool) → place_or_none b (Pointer k) ≡ placed types (if b then Some (Through t) else None)
-    by true = is
-    by false = refl
-
 first_none : (x : Option Place) → x ≡ first_of x None
 first_none None = refl
 first_none (Some x) = refl
-
-pub name_placed : (types : List CType) (s f : ℕ) (x : Option Place) → x ≡ first_of x (placed types (callee_at s (single (Named f))))
-name_placed types s f x = first_none x
 
 -- a step of the loop, and its end
 pub places_more : (types : List CType) (ms : List Said) (i : ℕ) (m : Said) (s : ℕ) (old new : Option Place) → i < length ms → m ≡ get_or ms i m

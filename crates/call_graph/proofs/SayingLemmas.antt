@@ -80,9 +80,6 @@ of_for s v test step b is = ap (λ s. mentions_of_stmt (stmt_of s)) is ∙ ap me
 pub of_switch : (s : TStmt) (e : TExpr) (v : Vec TGroup Global) → s ≡ Switch e v → mentions_of_stmt (stmt_of s) ≡ mentions (expr_of e) ++ mentions_of_groups (groups_of v.items)
 of_switch s e v is = ap (λ s. mentions_of_stmt (stmt_of s)) is ∙ ap mentions_of_stmt (switch_is e v)
 
-pub four_parts : {Y : Type 0} (old one two three new a b c d : List Y) → one ≡ old ++ a → two ≡ one ++ b → three ≡ two ++ c → new ≡ three ++ d → new ≡ old ++ (a ++ (b ++ (c ++ d)))
-four_parts old one two three new a b c d first second third fourth = two_parts old one new a (b ++ (c ++ d)) first (two_parts one two new b (c ++ d) second (two_parts two three new c d third fourth))
-
 pub of_if_none : (s : TStmt) (e : TExpr) (y : Box TStmt Global) (o : Option (Box TStmt Global)) → s ≡ If e y o → o ≡ None → mentions_of_stmt (stmt_of s) ≡ mentions (expr_of e) ++ mentions_of_stmt (stmt_of y.value)
 of_if_none s e y o is none = ap (λ s. mentions_of_stmt (stmt_of s)) (is ∙ ap (λ o. If e y o) none) ∙ ap (λ ms. mentions (expr_of e) ++ ms) (append-nil (mentions_of_stmt (stmt_of y.value)))
 

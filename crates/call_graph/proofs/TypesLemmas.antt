@@ -61,9 +61,6 @@ not_same : (b : Bool) → (b ≡ true → ⊥) → b ≡ false
 not_same true h = absurd (h refl)
 not_same false h = refl
 
-pub place_none : (t : CType) (us : List (Bor TypeTree)) → first_place t (types_at us) ≡ 0 + first_place t (types_at (drop 0 us))
-place_none t us = omega arith
-
 dropped : (us : List (Bor TypeTree)) (k : ℕ) (u : Bor TypeTree) → k < length us → u ≡ get_or us k u → types_at (drop k us) ≡ ctype_of u.now ∷ types_at (drop (k + 1) us)
 dropped us k u lt is =
     let n : k + 1 ≡ suc k = omega arith in
@@ -85,11 +82,6 @@ dropped_all [] zero le = refl
 dropped_all [] (suc k) le = refl
 dropped_all (u ∷ us) zero le = absurd (omega (arith, le))
 dropped_all (u ∷ us) (suc k) le = dropped_all us k (omega (arith, le))
-
-pub place_past : (t : CType) (us : List (Bor TypeTree)) (k : ℕ) → k ≡ length us → first_place t (types_at us) ≡ k + first_place t (types_at (drop k us)) → length us ≡ first_place t (types_at us)
-place_past t us k over before =
-    let at : first_place t (types_at (drop k us)) ≡ 0 = ap (first_place t) (dropped_all us k (omega (arith, over))) in
-    omega (arith, before, at, over)
 
 pub place_most : (t : CType) (us : List CType) → first_place t us ≤ length us
 place_most t [] = omega arith

@@ -38,9 +38,6 @@ accepted_by t n lines b whole is = (
   λ claim. is.1 ((facts_has (IsAfter n) lines).1 claim.last),
 )
 
-pub not_whole : (t : List Event) (n : ℕ) (lines : List FactLine) → (n ≡ length t → ⊥) → IsTrue false ↔ IsAcceptedBy t n (facts_of lines)
-not_whole t n lines other = (λ yes. absurd cc, λ claim. absurd (other claim.whole))
-
 module _ (judge : Judge) (g : Graph) (t : List Event) (n : ℕ) (lines : List FactLine) where
   no_claim : (IsRejectedBy judge g t n (facts_of lines) → ⊥) → IsTrue false ↔ IsRejectedBy judge g t n (facts_of lines)
   no_claim not = (λ yes. absurd cc, λ claim. absurd (not claim))

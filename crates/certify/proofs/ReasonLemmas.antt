@@ -10,8 +10,6 @@ use Rattle.certify_facts.specs.declared.fact.Fact.{Fact}
 use Rattle.certify_facts.specs.declared.fact.FactLine.{FactLine}
 use Rattle.certify_facts.specs.Confirms.{HoldsAt, facts_of}
 use Rattle.certify_facts.specs.Reasons.{IsNamed, HasReason, IsReturnedAlong}
-use Rattle.certify_facts.proofs.Lines.{line_at}
-use Rattle.certify_facts.proofs.Places.{in_whole}
 
 -- the fact with a number among the first lines
 pub named_at : (lines : List FactLine) (before r : ℕ) (d : FactLine) → 1 ≤ r → r ≤ before → before ≤ length lines → (x : Fact) → (Some (get_or lines (r - 1) d).fact ≡ Some x) ↔ IsNamed (facts_of (take before lines)) r x
@@ -21,18 +19,6 @@ named_at lines before r d some le within x =
     let there : slice_get (take before lines) (r - 1) ≡ Some (get_or lines (r - 1) d) = slice_get-get_or (take before lines) (r - 1) d short ∙ ap Some (get_or-take before lines (r - 1) d lt) in
     let at : slice_get (facts_of (take before lines)) (r - 1) ≡ Some (get_or lines (r - 1) d).fact = slice_get-map (λ l. l.fact) (take before lines) (r - 1) ∙ ap (λ o. option_map (λ (l : FactLine). l.fact) o) there in
     (λ same. (some, at ∙ same), λ named. sym at ∙ named.1)
-
-pub named_zero : (lines : List FactLine) (before r : ℕ) → r ≡ 0 → (x : Fact) → (None ≡ Some x) ↔ IsNamed (facts_of (take before lines)) r x
-named_zero lines before r zero x = (λ same. absurd cc, λ named. absurd (omega (arith, named.0, zero)))
-
-pub named_past : (lines : List FactLine) (before r : ℕ) → before < r → (x : Fact) → (None ≡ Some x) ↔ IsNamed (facts_of (take before lines)) r x
-named_past lines before r past x = (
-  λ same. absurd cc,
-  λ named.
-      let there = line_at (take before lines) (r - 1) x named.1 in
-      let lt : r - 1 < before = (in_whole lines before (r - 1) there.line there.at).0 in
-      absurd (omega (arith, lt, past, named.0)),
-)
 
 -- a reason that names one fact
 module _ (earlier : List Fact) (r : ℕ) (P : Fact → Type 0) where

@@ -21,9 +21,7 @@ use Rattle.certify_facts.specs.Reasons.Follows.{begins, one, both}
 use Rattle.certify_facts.specs.Reasons.FollowsFrom.{read}
 use Rattle.certify_facts.specs.Told.{Told}
 use Rattle.certify_facts.proofs.Lines.{confirmed, line_at, lines_follow}
-use Rattle.certify_making.specs.declared.error.CertifyError.{CertifyError}
-use Rattle.certify_making.specs.declared.error.CertifyError.TheVariants.{OutOfMemory, TooLarge}
-use Rattle.certify_making.specs.Adding.{AddsOne, CannotAdd, HasFact}
+use Rattle.certify_making.specs.Adding.{AddsOne, HasFact}
 use Rattle.certify_making.specs.Ahead.{AreClosed, IsBegun, IsDeepest, events_of, verdict_at}
 use Rattle.certify_making.specs.Made.{most, reach, IsMade, HasTooMany}
 use Rattle.certify_making.proofs.AheadLemmas.{fact_at}
@@ -158,10 +156,6 @@ begun_by judge g x old new empty adds model start only = record {
     by : AddsOne (record { fact = x; reason = Start }) old new → new ≡ record { fact = x; reason = Start } ∷ []
     by (inl (known, same)) = let has : HasFact [] x = subst (λ ls. HasFact ls x) empty known in absurd (omega (arith, has.1))
     by (inr (unknown, is)) = is ∙ ap (λ ls. ls ++ record { fact = x; reason = Start } ∷ []) empty
-
-pub memory_alone : (l : FactLine) (lines : List FactLine) (error : CertifyError) → lines ≡ [] → CannotAdd l lines error → error ≡ OutOfMemory
-memory_alone l lines OutOfMemory empty why = refl
-memory_alone l lines TooLarge empty why = absurd (omega (arith, why.1, ap length empty))
 
 -- a certificate was made only where not too many facts follow
 pub few_follow : (judge : Judge) (g : Graph) (t : List Event) (c : Told) → IsMade judge g t c → HasTooMany judge g t → ⊥

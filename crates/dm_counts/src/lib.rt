@@ -4,3 +4,4 @@
 mod count;
 
 pub use count::Count;
+pub use dm_base::{Mode, OutOfMemory};

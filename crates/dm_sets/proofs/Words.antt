@@ -63,22 +63,6 @@ first_place word low fits less some =
       least = λ j le lt. let below : j - low < place = omega arith in sym (shifted word low j le) ∙ tz.2 (j - low) below;
     }
 
--- the number that stands at a place of a word
-pub bit_in : (words : List ℕ) (i place : ℕ) → place < 64 → bit words (64 * i + place) ≡ bit_at (get_or words i 0) place
-bit_in words i place lt =
-    let word : (64 * i + place) / 64 ≡ i = omega arith in
-    let rest : (64 * i + place) % 64 ≡ place = omega arith in
-    ap (λ k. bit_at (get_or words k 0) ((64 * i + place) % 64)) word ∙ ap (bit_at (get_or words i 0)) rest
-
--- numbers of a word, by their places in it
-pub none_in_word : (words : List ℕ) (i low upto : ℕ) → upto ≤ 64 → ((k : ℕ) → low ≤ k → k < upto → bit_at (get_or words i 0) k ≡ 0) → (j : ℕ) → 64 * i + low ≤ j → j < 64 * i + upto → bit words j ≡ 0
-none_in_word words i low upto le none j ge lt =
-    let whole : 64 * i + (j - 64 * i) ≡ j = omega arith in
-    let inside : j - 64 * i < 64 = omega arith in
-    let from : low ≤ j - 64 * i = omega arith in
-    let below : j - 64 * i < upto = omega arith in
-    subst (λ k. bit words k ≡ 0) whole (bit_in words i (j - 64 * i) inside ∙ none (j - 64 * i) from below)
-
 -- past the last word there is no bit
 pub none_past : (words : List ℕ) (j : ℕ) → 64 * length words ≤ j → bit words j ≡ 0
 none_past words j ge =

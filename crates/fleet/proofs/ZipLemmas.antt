@@ -27,11 +27,6 @@ set_elsewhere (a ∷ xs) zero (suc j) y other = refl
 set_elsewhere (a ∷ xs) (suc i) zero y other = refl
 set_elsewhere (a ∷ xs) (suc i) (suc j) y other = set_elsewhere xs i j y (λ same. other (ap suc same))
 
-pub set_same : {A : Type 0} (xs : List A) (i : ℕ) (x : A) → slice_get xs i ≡ Some x → set xs i x ≡ xs
-set_same [] i x is = refl
-set_same (a ∷ xs) zero x is = ap (λ (y : _). y ∷ xs) (sym (some_same a x is))
-set_same (a ∷ xs) (suc i) x is = ap (λ (ys : List _). a ∷ ys) (set_same xs i x is)
-
 pub map-set : {A B : Type 0} (f : A → B) (xs : List A) (i : ℕ) (x y : A) → slice_get xs i ≡ Some x → f y ≡ f x → map f (set xs i y) ≡ map f xs
 map-set f [] i x y is same = refl
 map-set f (a ∷ xs) zero x y is same = ap (λ b. b ∷ map f xs) (same ∙ ap f (sym (some_same a x is)))

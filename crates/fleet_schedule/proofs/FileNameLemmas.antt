@@ -28,9 +28,6 @@ some_name = record {
 pub front_is_name : (text : List ℕ) → text ≢ [] → IsFileFront text → IsFileName text
 front_is_name text some front = record { some = some; short = front.short; bytes = front.bytes }
 
-pub name_is_front : (text : List ℕ) → IsFileName text → IsFileFront text
-name_is_front text name = record { short = name.short; bytes = name.bytes }
-
 pub name_of_front : (text : List ℕ) → IsFileFront text → BeginsOne IsFileName (λ name. name) text
 name_of_front [] front = (97 ∷ [], 97 ∷ [], some_name, refl)
 name_of_front (b ∷ text) front = (b ∷ text, [], front_is_name (b ∷ text) (λ none. cc) front, sym (append-nil (b ∷ text)))

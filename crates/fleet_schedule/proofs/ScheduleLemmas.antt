@@ -1,20 +1,20 @@
 -- How a schedule is read line by line.
-use Rattle.std.proofs.Common.{◌≡◌, ◌≢◌, ℕ, zero, suc, ◌+◌, ◌<◌, ◌≤◌, ◌^◌, Bool, true, false, not, ◌&&◌, nat_eq, List, [], ◌∷◌, ◌++◌, length, get_or, Result, Ok, Err, decimal, refl, sym, ◌∙◌, ap, subst, inl, inr, append_assoc, length-append, Contains, All, arith}
-use Rattle.std.specs.Prelude.{◌⊎◌, ◌↔◌, AllPairs, IfErr, IfOk, MatchResult, if◌then◌else◌, codes}
-use Rattle.std.proofs.lemmas.Bool.{cases_eq, both_ways, not-true, not-false, and_parts, eq-eqb, eqb-true, true_from_ne_false}
+use Rattle.std.proofs.Common.{◌≡◌, ◌≢◌, ℕ, zero, suc, ◌+◌, ◌<◌, ◌≤◌, ◌^◌, Bool, true, false, not, nat_eq, List, [], ◌∷◌, ◌++◌, length, get_or, Result, Ok, Err, decimal, refl, sym, ◌∙◌, ap, subst, inl, inr, append_assoc, length-append, Contains, All, arith}
+use Rattle.std.specs.Prelude.{◌⊎◌, ◌↔◌, AllPairs, IfErr, IfOk, MatchResult, codes}
+use Rattle.std.proofs.lemmas.Bool.{both_ways, not-true, not-false, and_parts, eq-eqb, eqb-true, true_from_ne_false}
 use Rattle.std.proofs.lemmas.Fmt.{decimal_digit, decimal_injective}
 use Rattle.std.proofs.lemmas.List.{append_cancel_left, append_cancel_right, append-nil, flat_map_more, map-append, get_or_append_left, get_or_default}
 use Rattle.std.proofs.Math.Seq.{get_or-append_seam}
-use Rattle.std.proofs.lemmas.List.Elements.{Contains-append_left, Contains-append_right, All-push, All-nil, All-cons, All-head}
+use Rattle.std.proofs.lemmas.List.Elements.{Contains-append_left, Contains-append_right, All-push, All-nil, All-head}
 use Rattle.std.proofs.lemmas.List.Quantifiers.{all_pairs_push}
 use Rattle.line_text.specs.declared.miss.Miss.{Miss}
 use Rattle.line_text.specs.declared.miss.Miss.TheVariants.{OutOfMemory as NoMemory, Short, Wrong}
-use Rattle.line_text.specs.Files.{through, IsFirstLine, IsProperPrefix, IsBadLine, IsVersionLine}
+use Rattle.line_text.specs.Files.{IsFirstLine, IsProperPrefix, IsBadLine, IsVersionLine}
 use Rattle.line_text.specs.OneLine.{IsLine}
 use Rattle.line_text.specs.Files.IsFirstLine.{ended, unended}
 use Rattle.line_text.specs.Reading.{Agree, StandsFirst, IsCutShort, Reads}
 use Rattle.line_text.proofs.Splits.{prefixes_agree}
-use Rattle.line_text.proofs.FilesLemmas.{ends_line, through_first, first_line_whole, HasRead, nothing_read, one_more, bad_line, proper_prefix}
+use Rattle.line_text.proofs.FilesLemmas.{ends_line, first_line_whole, HasRead, nothing_read, one_more, bad_line, proper_prefix}
 use Rattle.line_text.proofs.VersionLemmas.{decimal-no_feed}
 use Rattle.fleet_schedule.specs.declared.error.ScheduleError.{ScheduleError}
 use Rattle.fleet_schedule.specs.declared.error.ScheduleError.TheVariants.{OutOfMemory, BadLine, NoEnd, TooLong, Version}
@@ -43,10 +43,6 @@ push_not_nil (y ∷ xs) x is = cc
 
 pids-append : (ps qs : List Line) → pids (ps ++ qs) ≡ pids ps ++ pids qs
 pids-append ps qs = map-append (λ l. l.pid) ps qs
-
-All-front : {V : Type 0} (P : V → Type 0) (xs ys : List V) → All P (xs ++ ys) → All P xs
-All-front P [] ys all = All-nil P
-All-front P (x ∷ xs) ys all = All-cons P x xs (All-head P x (xs ++ ys) all) (All-front P xs ys (λ k d within. all (suc k) d (omega arith)))
 
 All-at : {V : Type 0} (P : V → Type 0) (xs ys : List V) (y : V) → All P (xs ++ y ∷ ys) → P y
 All-at P [] ys y all = All-head P y ys all

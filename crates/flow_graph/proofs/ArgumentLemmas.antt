@@ -1,12 +1,12 @@
 -- Recorded arguments by their places, and the entries of a pattern one after another.
-use Rattle.std.proofs.Common.{◌≡◌, ◌≢◌, ℕ, zero, suc, ◌+◌, ◌<◌, ◌≤◌, List, [], ◌∷◌, length, get_or, replicate, Option, Some, None, ℤ, refl, sym, ap, ap₂, ◌∙◌, arith}
+use Rattle.std.proofs.Common.{◌≡◌, ◌≢◌, ℕ, zero, suc, ◌+◌, ◌<◌, ◌≤◌, List, [], ◌∷◌, length, get_or, replicate, Option, None, ℤ, refl, ap, ap₂, ◌∙◌, arith}
 use Rattle.std.specs.Prelude.{slice_get}
 use Rattle.sys_table.specs.declared.kinds.ArgKind.{ArgKind}
 use Rattle.sys_table.specs.declared.kinds.ArgKind.TheVariants.{Signed}
 use Rattle.sys_table.specs.Table.{recorded_of}
 use Rattle.c_tree.specs.declared.tree.TExpr.{TExpr}
-use Rattle.c_tree.specs.View.{expr_of, exprs_of}
-use Rattle.c_tree.specs.Constants.{entry, entries, recorded_arguments, pattern_of}
+use Rattle.c_tree.specs.View.{exprs_of}
+use Rattle.c_tree.specs.Constants.{entries, recorded_arguments, pattern_of}
 use Rattle.flow_graph.specs.Recorded.{recorded, entry_where}
 
 pub other_place : (name : ℕ) (i : ℕ) → name ≢ 0 → (es : List TExpr) → slice_get es i ≡ slice_get (recorded name es) i
@@ -18,13 +18,6 @@ first_place zero [] = refl
 first_place zero (descriptor ∷ []) = refl
 first_place zero (descriptor ∷ (buffer ∷ es)) = refl
 first_place (suc name) es = refl
-
-pub later_place : (name i : ℕ) → name ≡ 0 → i ≢ 0 → (es : List TExpr) → slice_get es (i + 1) ≡ slice_get (recorded name es) i
-later_place (suc name) i e h es = absurd (omega (arith, e))
-later_place zero zero e h es = absurd (h refl)
-later_place zero (suc i) e h [] = let n : suc i + 1 ≡ suc (suc i) = omega arith in ap (slice_get []) n
-later_place zero (suc i) e h (descriptor ∷ []) = let n : suc i + 1 ≡ suc (suc i) = omega arith in ap (slice_get (descriptor ∷ [])) n
-later_place zero (suc i) e h (descriptor ∷ (buffer ∷ es)) = let n : suc i + 1 ≡ suc (suc i) = omega arith in ap (slice_get (descriptor ∷ (buffer ∷ es))) n
 
 recorded_are : (name : ℕ) (es : List TExpr) → exprs_of (recorded name es) ≡ recorded_arguments name (exprs_of es)
 recorded_are zero [] = refl

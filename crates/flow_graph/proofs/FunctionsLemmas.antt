@@ -1,6 +1,6 @@
 -- Functions that are laid one after another.
 use Rattle.std.proofs.Common.{◌≡◌, ℕ, zero, suc, ◌+◌, ◌<◌, ◌≤◌, min, List, [], ◌∷◌, ◌++◌, length, take, drop, get_or, refl, sym, ap, ◌∙◌, arith, drop-cons}
-use Rattle.std.proofs.lemmas.List.{append-nil, append_assoc, take_more, take_all, map-append}
+use Rattle.std.proofs.lemmas.List.{append-nil, append_assoc, take_more, map-append}
 use Rattle.flow_graph.specs.declared.shape.Shape.{Shape as Tree}
 use Rattle.flow_graph.specs.View.{shape_of, shapes_in}
 use Rattle.c_shapes.specs.Shape.{Shape}
@@ -17,9 +17,6 @@ nodes_more ts i t sum one wide new most lt is before w o step =
     let e : nodes_from 0 (shapes_in (take (i + 1) ts)) ≡ nodes_from 0 (shapes_in (take i ts)) + 2 + width (shape_of t) =
     ap (λ us. nodes_from 0 (shapes_in us)) more ∙ ap (nodes_from 0) (map-append shape_of (take i ts) (t ∷ [])) ∙ nodes_append 0 (shapes_in (take i ts)) (shape_of t) in
     omega (arith, e, before, w, o, step)
-
-pub nodes_end : (ts : List Tree) (i sum most : ℕ) → length ts ≤ i → sum ≡ min (nodes_from 0 (shapes_in (take i ts))) most → sum ≡ min (nodes_from 0 (shapes_in ts)) most
-nodes_end ts i sum most over is = is ∙ ap (λ us. min (nodes_from 0 (shapes_in us)) most) (take_all i ts over)
 
 dropped : (ts : List Tree) (k : ℕ) (s : Tree) → k < length ts → s ≡ get_or ts k s → shapes_in (drop k ts) ≡ shape_of s ∷ shapes_in (drop (k + 1) ts)
 dropped ts k s lt is =

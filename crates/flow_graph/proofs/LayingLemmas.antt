@@ -57,19 +57,6 @@ fresh_more ts k s n next new lt is before step =
     let e : widths (parts_of (drop k ts)) ≡ width (shape_of s) + widths (parts_of (drop (k + 1) ts)) = ap widths (dropped ts k s lt is) in
     omega (arith, e, before, step)
 
--- what is left for a part where there is room for all
-pub fresh_room : (ts : List Tree) (k : ℕ) (s : Tree) (n next most : ℕ) → k < length ts → s ≡ get_or ts k s → next + widths (parts_of (drop k ts)) ≡ n + widths (parts_of ts) → n + widths (parts_of ts) < most → next + width (shape_of s) < most
-fresh_room ts k s n next most lt is before room =
-    let e : widths (parts_of (drop k ts)) ≡ width (shape_of s) + widths (parts_of (drop (k + 1) ts)) = ap widths (dropped ts k s lt is) in
-    omega (arith, e, before, room)
-
-pub laid_end : (ts : List Tree) (k : ℕ) (old new : List Edge) (i n node next : ℕ) (p : Places) → length ts ≤ k → new ++ edges_of_parts (parts_of (drop k ts)) node next p ≡ old ++ edges_of_parts (parts_of ts) i n p → new ≡ old ++ edges_of_parts (parts_of ts) i n p
-laid_end ts k old new i n node next p over is =
-    sym (append-nil new) ∙ ap (λ ps. new ++ edges_of_parts ps node next p) (sym (dropped_all ts k over)) ∙ is
-
-pub fresh_end : (ts : List Tree) (k n next : ℕ) → length ts ≤ k → next + widths (parts_of (drop k ts)) ≡ n + widths (parts_of ts) → next ≡ n + widths (parts_of ts)
-fresh_end ts k n next over is = let e : widths (parts_of (drop k ts)) ≡ 0 = ap widths (dropped_all ts k over) in omega (arith, e, is)
-
 -- an edge to one part more
 pub each_more : (ts : List Tree) (k : ℕ) (s : Tree) (old mid new : List Edge) (a i node following : ℕ) → k < length ts → s ≡ get_or ts k s → following ≡ node + 1
     → mid ++ to_each a (parts_of (drop k ts)) node ≡ old ++ to_each a (parts_of ts) i → new ≡ mid ++ edge a Silent node ∷ [] → new ++ to_each a (parts_of (drop (k + 1) ts)) following ≡ old ++ to_each a (parts_of ts) i

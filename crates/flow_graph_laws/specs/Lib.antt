@@ -8,3 +8,7 @@ pub mod GraphOf
 pub mod Premises
 pub mod Equal
 pub mod GraphOfProgram
+pub use Rattle.flow_model.specs.Graph
+pub use Rattle.flow_model.specs.Language
+pub use Rattle.flow_model.specs.Verdict
+pub use Rattle.flow_model.specs.declared.which.Which

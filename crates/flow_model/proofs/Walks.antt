@@ -85,9 +85,6 @@ same_entry one two =
 pub reads_from_walk : {g : Graph} {entry exit a : ℕ} (t : List Event) → HasFunction g g.start entry exit → Walk g entry (erase t) a → Reads Callgraph g t
 reads_from_walk {entry = entry} {exit = exit} {a = a} t start walk = (entry, exit, a, start, walk)
 
-pub walk_from_reads : {g : Graph} {entry exit : ℕ} (t : List Event) → HasFunction g g.start entry exit → Reads Callgraph g t → (a : ℕ) × Walk g entry (erase t) a
-walk_from_reads {g} t start (other, end, a, found, walk) = (a, subst (λ n. Walk g n (erase t) a) (same_entry found start) walk)
-
 -- without call edges only silent edges are quiet
 pub quiet_is_silent : {g : Graph} {a b : ℕ} → g.calls ≡ [] → Quiet g a b → HasSilent g a b
 quiet_is_silent none (silent has) = has

@@ -111,10 +111,6 @@ module _ (g : Graph) (entries own : List Entry) (f : ℕ) (are : AreEntries g en
     all = all_below n greatest;
   }
 
--- the greatest of the first entries
-pub greatest_none : (heights : List (Option ℕ)) → IsGreatestAbove [] heights 0
-greatest_none heights = record { all = λ e has. absurd (omega (arith, has.1)); some = inl refl }
-
 pub greatest_more : (entries : List Entry) (heights : List (Option ℕ)) (k n m : ℕ) (e : Entry) (r : ℕ) → k < length entries → e ≡ get_or entries k e → IsGreatestAbove (take k entries) heights n → slice_get heights e.candidate ≡ Some (Some m) → r ≡ max n (m + 1) → IsGreatestAbove (take (k + 1) entries) heights r
 greatest_more entries heights k n m e r lt at before known is =
     let more : take (k + 1) entries ≡ take k entries ++ e ∷ [] = take_more entries k e lt ∙ ap (λ x. take k entries ++ x ∷ []) (sym at) in

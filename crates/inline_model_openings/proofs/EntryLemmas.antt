@@ -2,10 +2,8 @@
 use Rattle.std.proofs.Common.{◌≡◌, inl, inr, ℕ, ◌+◌, ◌-◌, ◌<◌, ◌≤◌, List, [], ◌++◌, length, get_or, map, Some, Contains, sym, ap, ◌∙◌, subst, arith}
 use Rattle.std.specs.Prelude.{slice_get}
 use Rattle.std.specs.declared.cmp.Ordering.TheVariants.{Equal}
-use Rattle.std.specs.Cmp.{IsTotalOrder, nat_cmp_total}
 use Rattle.std.specs.Ordering.{nat_cmp}
 use Rattle.std.proofs.lemmas.Bool.{cases_eq}
-use Rattle.std.proofs.lemmas.Cmp.{on_total, then_total}
 use Rattle.std.proofs.lemmas.List.{get_or-map, length-map, get_or_default}
 use Rattle.std.proofs.lemmas.List.Elements.{Contains-append_left, Contains-append_right, Contains-append_cases}
 use Rattle.std.proofs.lemmas.Option.{slice_get_within}
@@ -22,9 +20,6 @@ use Rattle.inline_model_openings.specs.declared.table.Entry.{Entry}
 use Rattle.inline_model_openings.specs.Saturating.{IsWithin}
 use Rattle.inline_model_openings.specs.Entries.{entry_order, AreEntries, HasEntries, AddsCall}
 use Rattle.flow_model.proofs.OrderLemmas.{both_equal}
-
-pub entry_order_total : IsTotalOrder entry_order
-entry_order_total = then_total (on_total (λ e. e.function) nat_cmp_total) (then_total (on_total (λ e. e.place) nat_cmp_total) (on_total (λ e. e.candidate) nat_cmp_total))
 
 pub entries_tie : (d e : Entry) → entry_order d e ≡ Equal → d ≡ e
 entries_tie d e h =

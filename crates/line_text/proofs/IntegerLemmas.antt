@@ -1,5 +1,5 @@
 -- Integers whose decimals begin with given bytes.
-use Rattle.std.proofs.Common.{◌≡◌, ◌≢◌, ℕ, zero, suc, ◌<◌, ◌≤◌, ◌^◌, ℤ, pos, negsuc, ◌≤ℤ◌, Bool, IsTrue, List, [], ◌∷◌, ◌++◌, length, get_or, decimal, refl, sym, ap, inl, inr, arith}
+use Rattle.std.proofs.Common.{◌≡◌, ℕ, zero, suc, ◌<◌, ◌≤◌, ◌^◌, ℤ, pos, negsuc, ◌≤ℤ◌, Bool, IsTrue, List, [], ◌∷◌, ◌++◌, get_or, decimal, refl, sym, ap, inl, inr, arith}
 use Rattle.std.specs.Prelude.{◌↔◌, FitsSigned}
 use Rattle.std.specs.Int.{w64}
 use Rattle.std.specs.Fmt.{signed_decimal}
@@ -52,16 +52,6 @@ begins_after_minus b least most digits fits_least fits_most tells = (
       let fits = fits_between least most (pos n) fits_least fits_most low high in
       absurd (decimal-no_minus n (digits ++ rest) (omega (arith, fits.sfits)) is)
   negative_of (negsuc n) rest low high is = (n, rest, low, high, cc)
-
-pub begins_natural_number : (b : Bool) (least most : ℤ) (text : List ℕ) → 0 < length text → get_or text 0 0 ≢ 45 → (IsTrue b ↔ ((n : ℕ) × (rest : List ℕ) × (least ≤ℤ pos n) × (pos n ≤ℤ most) × (decimal n ≡ text ++ rest))) → IsTrue b ↔ BeginsOne (λ z. (least ≤ℤ z) × (z ≤ℤ most)) signed_decimal text
-begins_natural_number b least most [] some plain tells = absurd (omega arith)
-begins_natural_number b least most (c ∷ text) some plain tells = (
-  λ holds. (let found = tells.0 holds in (pos found.0, found.1, (found.2, found.3), found.4)),
-  λ (z, rest, within, is). tells.1 (natural_of z rest within.0 within.1 is),
-) where
-  natural_of : (z : ℤ) (rest : List ℕ) → least ≤ℤ z → z ≤ℤ most → signed_decimal z ≡ c ∷ (text ++ rest) → (n : ℕ) × (rest : List ℕ) × (least ≤ℤ pos n) × (pos n ≤ℤ most) × (decimal n ≡ (c ∷ text) ++ rest)
-  natural_of (pos n) rest low high is = (n, rest, low, high, is)
-  natural_of (negsuc n) rest low high is = absurd (plain (sym (ap (λ w. get_or w 0 0) is)))
 
 -- the readers of integers
 

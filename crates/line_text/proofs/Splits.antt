@@ -1,7 +1,7 @@
 -- How a text in parts is read part by part.
 use Rattle.std.proofs.Common.{◌≡◌, ◌≢◌, ℕ, List, [], ◌∷◌, ◌++◌, refl, sym, ◌∙◌, ap, subst, inl, inr, append_assoc, Contains, arith}
 use Rattle.std.specs.Prelude.{Err}
-use Rattle.std.proofs.lemmas.List.{append_cancel_left, append-nil}
+use Rattle.std.proofs.lemmas.List.{append_cancel_left}
 use Rattle.std.proofs.lemmas.List.Elements.{Contains-append_cases}
 use Rattle.line_text.specs.declared.miss.Miss.{Miss}
 use Rattle.line_text.specs.declared.miss.Miss.TheVariants.{OutOfMemory, Short, Wrong}
@@ -33,9 +33,6 @@ agree_next a more new (rest, inr is) = (rest, inr (append_cancel_left a more (ne
 pub agree_head : (b c : ℕ) (x y : List ℕ) → Agree (b ∷ x) (c ∷ y) → b ≡ c
 agree_head b c x y (rest, inl is) = cc
 agree_head b c x y (rest, inr is) = cc
-
-pub agree_same : (a : List ℕ) → Agree a a
-agree_same a = ([], inl (append-nil a))
 
 nil_of_append : (a b : List ℕ) → a ++ b ≡ [] → a ≡ []
 nil_of_append [] b is = refl

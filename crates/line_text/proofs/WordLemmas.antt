@@ -13,10 +13,6 @@ use Rattle.line_text.specs.declared.miss.Miss.{Miss}
 use Rattle.line_text.specs.declared.miss.Miss.TheVariants.{OutOfMemory, Short, Wrong}
 use Rattle.line_text.specs.Words.{IsEnd, IsPlain, ended_word, is_in_line}
 
-pub IsPlain-front : (a b : List ℕ) → IsPlain (a ++ b) → IsPlain a
-IsPlain-front [] b plain = tt
-IsPlain-front (x ∷ a) b plain = (plain.0, IsPlain-front a b plain.1)
-
 pub IsPlain-append : (a b : List ℕ) → IsPlain a → IsPlain b → IsPlain (a ++ b)
 IsPlain-append [] b in_a in_b = in_b
 IsPlain-append (x ∷ a) b in_a in_b = (in_a.0, IsPlain-append a b in_a.1 in_b)

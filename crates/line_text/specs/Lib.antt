@@ -8,3 +8,5 @@ pub mod OneLine
 pub mod Reading
 pub mod Spelling
 pub mod Words
+pub use Rattle.dm_base.specs.declared.event.Arg
+pub use Rattle.dm_base.specs.declared.event.Event

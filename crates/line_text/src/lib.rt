@@ -13,6 +13,7 @@ mod push;
 mod version;
 
 pub use cursor::Cursor;
+pub use dm_base::{Arg, ArgList, Bytes, Event, OutOfMemory, Pattern, SysName};
 pub use line::first_line;
 pub use miss::Miss;
 pub use push::{push_bytes, push_decimal, push_hexadecimal, push_signed};

@@ -1,6 +1,6 @@
 -- The lines of call edges.
 use Rattle.std.proofs.Common.{◌≡◌, ℕ, ◌+◌, ◌≤◌, List, [], ◌∷◌, ◌++◌, decimal, flat_map, refl, sym, ◌∙◌, ap, subst, append_assoc, arith}
-use Rattle.std.specs.Prelude.{Option, Some, None, codes}
+use Rattle.std.specs.Prelude.{Option, codes}
 use Rattle.std.proofs.lemmas.List.Elements.{All-nil}
 use Rattle.flow_model.specs.Call.{Call}
 use Rattle.line_text.specs.Words.{number_word}
@@ -11,16 +11,6 @@ use Rattle.model_file.specs.Words.{numbers_text, IsCallEnd, call_end}
 use Rattle.model_file.proofs.CandidateLemmas.{call_of}
 use Rattle.model_file.proofs.LineLemmas.{first_word, plain_number, plain_word}
 use Rattle.model_file.proofs.Narrowing.{IsPart, With}
-use Rattle.model_file.proofs.Orders.{less_from_lt, lt_from_less}
-
-pub least_site_free : IsLeast (IsAfterSite None) 0
-least_site_free = record { above = λ n from small. tt; below = λ n after. omega arith }
-
-pub least_site_past : (site : ℕ) → IsLeast (IsAfterSite (Some site)) (site + 1)
-least_site_past site = record {
-  above = λ n from small. less_from_lt site n (omega arith);
-  below = λ n after. let past = lt_from_less site n after in omega arith;
-}
 
 -- parts
 

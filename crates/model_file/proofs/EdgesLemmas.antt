@@ -124,13 +124,6 @@ spelled_read v given n start (sections.Call last) g w is at small =
 
 -- the next section
 
-into_calls : (v : ModelVersion) (given : Records) (last : Option SysEdge) (g : Graph) (w : List ℕ) → given.calls ≡ [] → g.sys ≡ given.sys → g.silent ≡ given.silent → w ≡ calls_text g → MoreCalls given g w
-into_calls v given last g w none sys silent rest =
-    record { silent = silent; sys = sys; more = g.calls; calls = all_more g.calls given.calls none; rest = rest }
-
-into_sys : (v : ModelVersion) (given : Records) (g : Graph) (w : List ℕ) → given.sys ≡ [] → g.silent ≡ given.silent → w ≡ sys_text v g → MoreSys v given g w
-into_sys v given g w none silent rest = record { silent = silent; more = g.sys; sys = all_more g.sys given.sys none; rest = rest }
-
 from_calls : (v : ModelVersion) (given : Records) (g : Graph) (w : List ℕ) → given.calls ≡ [] → MoreCalls given g w → MoreSys v given g w
 from_calls v given g w none left =
     record {

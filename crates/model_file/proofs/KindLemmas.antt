@@ -1,16 +1,14 @@
 -- What the first bytes of a line leave.
-use Rattle.std.proofs.Common.{◌≡◌, ◌≢◌, ℕ, zero, suc, ◌+◌, ◌<◌, ◌≤◌, ◌^◌, List, [], ◌∷◌, ◌++◌, decimal, refl, sym, ◌∙◌, ap, subst, inl, inr, Contains, arith}
-use Rattle.std.specs.Prelude.{◌⊎◌, Option, Some, None, Err, codes, flat_map}
+use Rattle.std.proofs.Common.{◌≡◌, ◌≢◌, ℕ, zero, suc, ◌+◌, List, [], ◌∷◌, ◌++◌, decimal, refl, sym, ap, subst, inl, inr, Contains, arith}
+use Rattle.std.specs.Prelude.{Option, None, codes, flat_map}
 use Rattle.sys_table.specs.Table.{name_of}
 use Rattle.flow_model.specs.declared.records.SilentEdge.{SilentEdge}
 use Rattle.flow_model.specs.declared.records.SysEdge.{SysEdge}
 use Rattle.flow_model.specs.Call.{Call}
-use Rattle.line_text.specs.declared.miss.Miss.TheVariants.{Short, Wrong}
-use Rattle.line_text.specs.Reading.{Agree, StandsFirst, IsCutShort, Reads}
+use Rattle.line_text.specs.Reading.{Agree, IsCutShort}
 use Rattle.line_text.proofs.Splits.{IsCase, agree_head}
 use Rattle.model_file.specs.declared.lines.ModelLine.{ModelLine}
 use Rattle.model_file.specs.declared.lines.ModelLine.TheVariants as lines
-use Rattle.model_file.specs.declared.lines.Kind.{Kind}
 use Rattle.model_file.specs.declared.lines.Kind.TheVariants as kinds
 use Rattle.model_file.specs.declared.lines.Section.{Section}
 use Rattle.model_file.specs.declared.lines.Section.TheVariants as sections
@@ -79,11 +77,6 @@ silent_case version last old (rest, is) = record {
 pub no_silent : (version : ModelVersion) (section : Section) (old : List ℕ) → HasKind kinds.Silent old → ((e : SilentEdge) → MayFollow version section (lines.Silent e) → ⊥) → (w : ModelLine) → MayFollow version section w → Agree (model_line version w) old → ⊥
 no_silent version section old (rest, is) none w fits agree =
     let found = only_silent version rest w (subst (Agree (model_line version w)) is agree) in
-    none found.0 (subst (MayFollow version section) found.1 fits)
-
-pub no_sys_edge : (version : ModelVersion) (section : Section) (old : List ℕ) → HasKind kinds.Sys old → ((e : SysEdge) → MayFollow version section (lines.Sys e) → ⊥) → (w : ModelLine) → MayFollow version section w → Agree (model_line version w) old → ⊥
-no_sys_edge version section old (rest, is) none w fits agree =
-    let found = only_sys version rest w (subst (Agree (model_line version w)) is agree) in
     none found.0 (subst (MayFollow version section) found.1 fits)
 
 pub first_sys_case : (version : ModelVersion) (last : Option SilentEdge) (old : List ℕ) → HasKind kinds.Sys old → IsCase (MayFollow version (sections.Silent last)) (model_line version) (IsNextSys version None) (sys_line version) lines.Sys old

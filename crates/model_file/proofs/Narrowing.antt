@@ -63,10 +63,6 @@ pub leads_all : {V : Type 0} {Fits : V → Type 0} {text : V → List ℕ} {Left
 leads_all old mid new leads (Ok v) reads = leads.ok new v reads
 leads_all old mid new leads (Err miss) reads = leads.err new miss reads
 
--- where nothing fits
-pub nothing_fits : {V : Type 0} {Fits : V → Type 0} (text : V → List ℕ) (old new : List ℕ) → ((v : V) → Fits v → ⊥) → Reads Fits text old new (Err Wrong)
-nothing_fits text old new none = λ w fits agree. none w fits
-
 -- what is read of the values that are left is read of those that they make
 pub record LeadsInto {V W : Type 0} (Fits : V → Type 0) (text : V → List ℕ) (old : List ℕ) (Left : W → Type 0) (left : W → List ℕ) (mid : List ℕ) (make : W → V) : Type 0 where
   pub err : (new : List ℕ) (miss : Miss) → Reads Left left mid new (Err miss) → Reads Fits text old new (Err miss)

@@ -1,10 +1,10 @@
 -- Patterns: which entries go after those of another.
 use Rattle.std.proofs.Common.{◌≡◌, ◌≢◌, ℕ, zero, suc, ◌+◌, ◌<◌, ◌≤◌, List, [], ◌∷◌, ◌++◌, replicate, length, take, drop, get_or, ◌-◌, true, false, refl, sym, ◌∙◌, ap, ap₂, subst, inl, inr, All, arith}
 use Rattle.std.proofs.lemmas.Int.{ints}
-use Rattle.std.specs.Prelude.{◌⊎◌, ◌↔◌, ◌≤ℤ◌, Option, Some, None, ℤ, pos, negsuc, slice_get, slice_set, IfSome, FitsSigned, decimal}
+use Rattle.std.specs.Prelude.{◌⊎◌, ◌↔◌, Option, Some, None, ℤ, pos, negsuc, slice_get, slice_set, IfSome, FitsSigned, decimal}
 use Rattle.std.specs.List.{AllZip}
 use Rattle.std.specs.Cmp.{int_cmp_total}
-use Rattle.std.specs.Cmp.Lexicographic.{slice_cmp, options_total}
+use Rattle.std.specs.Cmp.Lexicographic.{options_total}
 use Rattle.std.specs.Option.{option_cmp}
 use Rattle.std.specs.declared.cmp.Ordering.{Ordering}
 use Rattle.std.specs.declared.cmp.Ordering.TheVariants.{Less, Equal, Greater}
@@ -14,18 +14,17 @@ use Rattle.std.proofs.lemmas.Bool.{false≢true}
 use Rattle.std.proofs.lemmas.Fmt.{decimal_nonempty, digits_decimal}
 use Rattle.std.proofs.lemmas.Str.Parse.{not_in_digits}
 use Rattle.flow_model.specs.declared.records.SysEdge.{SysEdge}
-use Rattle.line_text.specs.Reading.{Agree, StandsFirst, IsCutShort, Reads}
+use Rattle.line_text.specs.Reading.{Agree, StandsFirst, IsCutShort}
 use Rattle.line_text.specs.Words.{integer_word}
 use Rattle.dm_base.proofs.Decimals.{own}
 use Rattle.line_text.proofs.Splits.{IsCase, agree_head, nothing_left}
 use Rattle.sys_table.specs.declared.kinds.ArgKind.TheVariants.{Signed, Unsigned, Bytes}
-use Rattle.model_file.proofs.Narrowing.{IsWhole}
 use Rattle.std.proofs.lemmas.Cmp.{tied_itself, int_ranked, by_ranked}
 use Rattle.std.proofs.lemmas.List.Elements.{All-head, All-tail}
 use Rattle.dm_base.specs.Pattern.{pattern_cmp}
 use Rattle.sys_table.specs.declared.kinds.ArgKind.{ArgKind}
 use Rattle.sys_table.specs.Table.{FitsEntry, FitsNumber, recorded_of}
-use Rattle.model_file.specs.declared.version.ModelVersion.TheVariants.{One, Two}
+use Rattle.model_file.specs.declared.version.ModelVersion.TheVariants.{One}
 use Rattle.model_file.specs.SysBounds.{entry_word, pattern_rest, IsNextPattern, AreEntries, IsFrom, HasEntriesAfter, HasEntryAfter, HasPatternAfter, IsPattern}
 use Rattle.model_file.proofs.SysLemmas.{nones, free_entries, all_none}
 
@@ -263,15 +262,6 @@ integer_case kind end first rest old is other = record {
   only : (x : Option ℤ) → FitsEntry kind x → Agree (entry_word end x) old → (z : ℤ) × (FitsNumber kind z × IsFrom None (Some z)) × (x ≡ Some z)
   only None fits agree = absurd (other (sym (agree_head 42 first (end ∷ []) rest (subst (Agree (entry_word end None)) is agree))))
   only (Some z) fits agree = (z, (fits, tt), refl)
-
-pub number_whole : (kind : ArgKind) (end : ℕ) (n : ℤ) → IsWhole (λ x. FitsEntry kind x × IsFrom (Some n) x) (entry_word end) (λ z. FitsNumber kind z × IsFrom (Some n) (Some z)) (integer_word end) Some
-number_whole kind end n = record {
-  made = λ z fits. (fits, refl);
-  only = only;
-} where
-  only : (x : Option ℤ) → FitsEntry kind x × IsFrom (Some n) x → (z : ℤ) × (FitsNumber kind z × IsFrom (Some n) (Some z)) × (x ≡ Some z)
-  only None fits = absurd fits.1
-  only (Some z) fits = (z, fits, refl)
 
 pub first_parts : (text : List ℕ) → 1 ≤ length text → text ≡ get_or text 0 0 ∷ drop 1 text
 first_parts [] some = absurd (omega arith)

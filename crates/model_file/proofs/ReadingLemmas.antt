@@ -19,8 +19,8 @@ use Rattle.model_file.specs.declared.error.ModelError.{ModelError}
 use Rattle.model_file.specs.declared.error.ModelError.TheVariants.{OutOfMemory, BadLine, Invalid, Truncated, TooLarge, Version}
 use Rattle.model_file.specs.declared.version.ModelVersion.{ModelVersion}
 use Rattle.model_file.specs.declared.version.ModelVersion.TheVariants.{One, Two}
-use Rattle.model_file.specs.ModelText.{head_line, IsSpelled, IsModelText, IsFormedModel}
-use Rattle.model_file.specs.Progress.{Spelling, IsStop}
+use Rattle.model_file.specs.ModelText.{head_line, IsSpelled, IsModelText}
+use Rattle.model_file.specs.Progress.{Spelling}
 use Rattle.model_file.specs.Refusal.{IsModel, IsModelRefusal, HasOtherModelVersion, longest}
 use Rattle.model_file.specs.Writing.{IsBroken}
 use Rattle.model_file.specs.States.{IsReadAs}
@@ -146,34 +146,6 @@ pub right_patterns : (v : ModelVersion) (g : Graph) → IsSpelled v g → HasRig
 right_patterns v g spelled k d within = (spelled.sys k d within).right
 
 -- what read_model answers
-
--- a text that is stopped at is refused, and is no model's
-pub stop_refused : (text : List ℕ) (error : ModelError) → length text ≤ longest → (HasOtherModelVersion text → ⊥) → IsStop error text → IsModelRefusal error text
-stop_refused text OutOfMemory short ours stop = tt
-stop_refused text (BadLine k) short ours stop = (short, ours, stop.0)
-stop_refused text Truncated short ours stop = (short, stop.0)
-stop_refused text TooLarge short ours stop = absurd stop
-stop_refused text Version short ours stop = absurd stop
-stop_refused text (Invalid rule) short ours stop = absurd stop
-
-pub stop_no_rule : (text : List ℕ) (error : ModelError) (k : ℕ) → IsStop error text → error ≡ Invalid k → k ≤ 5
-stop_no_rule text OutOfMemory k stop is = absurd (cc)
-stop_no_rule text (BadLine j) k stop is = absurd (cc)
-stop_no_rule text Truncated k stop is = absurd (cc)
-stop_no_rule text TooLarge k stop is = absurd stop
-stop_no_rule text Version k stop is = absurd stop
-stop_no_rule text (Invalid rule) k stop is = absurd stop
-
-formed_model : (text : List ℕ) (g : Graph) → IsModel text g → IsFormedModel text
-formed_model text g is = (is.version, g, is.is)
-
-pub stop_no_model : (text : List ℕ) (error : ModelError) (g : Graph) → IsStop error text → IsModel text g → error ≡ OutOfMemory
-stop_no_model text OutOfMemory g stop is = refl
-stop_no_model text (BadLine k) g stop is = absurd (stop.1 (formed_model text g is))
-stop_no_model text Truncated g stop is = absurd (stop.1 (formed_model text g is))
-stop_no_model text TooLarge g stop is = absurd stop
-stop_no_model text Version g stop is = absurd stop
-stop_no_model text (Invalid rule) g stop is = absurd stop
 
 -- the lists of the text are read
 module _ (text : List ℕ) (v : ModelVersion) (read : Graph) (is_read : IsReadAs text v read) where

@@ -1,5 +1,5 @@
 -- The lines of silent edges.
-use Rattle.std.proofs.Common.{◌≡◌, ◌≢◌, ℕ, ◌+◌, ◌<◌, ◌≤◌, List, ◌++◌, refl, subst, inl, inr, append_assoc, arith}
+use Rattle.std.proofs.Common.{◌≡◌, ℕ, ◌+◌, ◌<◌, ◌≤◌, List, ◌++◌, refl, subst, inl, inr, append_assoc, arith}
 use Rattle.std.specs.Prelude.{Option, Some, None, codes}
 use Rattle.std.proofs.lemmas.Bool.{cases_lt}
 use Rattle.std.specs.Ordering.{nat_cmp}
@@ -55,31 +55,6 @@ least_past d no_more = record {
         let small = fits.spelled.to in
         absurd (omega arith)
   ]
-
-pub least_to_free : (n : ℕ) → BeginsSilent None n → IsLeast (JoinsSilent None n) 0
-least_to_free n (e, fits, is) = record {
-  above = λ m from small. joined None n m (subst IsSmall is fits.spelled.from) small tt;
-  below = λ m in_m. omega arith;
-}
-
-pub least_to_tied : (d : SilentEdge) (n : ℕ) → BeginsSilent (Some d) n → d.from ≡ n → IsLeast (JoinsSilent (Some d) n) (d.to + 1)
-least_to_tied d n (e, fits, is) same = record {
-  above = λ m from small. joined (Some d) n m (subst IsSmall is fits.spelled.from) small (less_next d.from n (nat_cmp d.to m) same (less_from_lt d.to m (omega arith)));
-  below = later;
-} where
-  later : (m : ℕ) → JoinsSilent (Some d) n m → d.to + 1 ≤ m
-  later m joins = elim (less_cases d.from n (nat_cmp d.to m) joins.after) [
-    | inl lt ↦ absurd (omega arith)
-    | inr tied ↦ let to = lt_from_less d.to m tied.1 in omega arith
-  ]
-
-pub least_to_past : (d : SilentEdge) (n : ℕ) → BeginsSilent (Some d) n → d.from ≢ n → IsLeast (JoinsSilent (Some d) n) 0
-least_to_past d n (e, fits, is) other = record {
-  above = λ m from small.
-      let low = begins_from d e fits.after in
-      joined (Some d) n m (subst IsSmall is fits.spelled.from) small (less_first d.from n (nat_cmp d.to m) (omega arith));
-  below = λ m in_m. omega arith;
-}
 
 -- parts
 

@@ -2,7 +2,7 @@
 use Rattle.std.proofs.Common.{◌≡◌, ◌≢◌, ℕ, ◌+◌, ◌-◌, ◌<◌, ◌≤◌, List, [], ◌∷◌, ◌++◌, length, take, drop, refl, sym, ◌∙◌, ap, subst, inr, arith}
 use Rattle.std.specs.Prelude.{Result, Ok, Err, IsTrue, codes}
 use Rattle.std.proofs.Math.Seq.{take-add, take-append_seam}
-use Rattle.std.proofs.lemmas.List.{append-nil, length-append, length-drop, drop_at, drop-drop}
+use Rattle.std.proofs.lemmas.List.{append-nil, length-append, drop_at, drop-drop}
 use Rattle.std.proofs.lemmas.Bool.{eqb-true}
 use Rattle.line_text.specs.declared.miss.Miss.{Miss}
 use Rattle.line_text.specs.declared.miss.Miss.TheVariants.{OutOfMemory as no_memory, Short, Wrong}
@@ -11,13 +11,12 @@ use Rattle.line_text.specs.OneLine.{IsLine}
 use Rattle.line_text.specs.Files.IsFirstLine.{ended, unended}
 use Rattle.line_text.specs.Reading.{Agree, StandsFirst, Reads}
 use Rattle.line_text.proofs.FilesLemmas.{first_line_whole, ends_line}
-use Rattle.line_text.proofs.Splits.{agree_next, agree_head}
 use Rattle.model_file.specs.declared.error.ModelError.{ModelError}
 use Rattle.model_file.specs.declared.place.Place.{Place}
 use Rattle.model_file.specs.declared.version.ModelVersion.{ModelVersion}
 use Rattle.model_file.specs.declared.version.ModelVersion.TheVariants.{One, Two}
 use Rattle.model_file.specs.ModelText.{head_line}
-use Rattle.model_file.specs.Progress.{IsPlace, IsNext, Takes, refusal_of, is_ended}
+use Rattle.model_file.specs.Progress.{IsNext, Takes, refusal_of, is_ended}
 
 -- nothing was read of the line
 pub missed : {V : Type 0} (Fits : V → Type 0) (spelled : V → List ℕ) (text : List ℕ) (old new : Place) (line : List ℕ) (miss : Miss) (error : ModelError) → error ≡ refusal_of miss new.line → IsNext text old new line → Reads Fits spelled line [] (Err miss) → Takes Fits spelled text old new (Err error)
@@ -54,15 +53,6 @@ next_place text line rest old new within some first byte number =
       further = omega (arith, byte, line_is_some (drop old.byte text) line rest first some);
     }
 
-pub place_after : (text line rest : List ℕ) (old new : Place) → IsPlace text old → drop old.byte text ≢ [] → IsFirstLine (drop old.byte text) line rest → new.byte ≡ old.byte + length line → new.line ≡ old.line + 1 → IsPlace text new
-place_after text line rest old new place some first byte number =
-    let whole : drop old.byte text ≡ line ++ rest = first_line_whole (drop old.byte text) line rest first in
-    let more : 0 < length line = line_is_some (drop old.byte text) line rest first some in
-    let within : old.byte ≤ length text = place.within in
-    let lines : old.line ≤ old.byte = place.lines in
-    let long : length text - old.byte ≡ length line + length rest = sym (length-drop old.byte text) ∙ ap length whole ∙ length-append line rest in
-    record { within = omega arith; lines = omega arith; short = place.short }
-
 -- the line is one word
 
 word_ends : (word : List ℕ) → IsTrue (is_ended word) → (front : List ℕ) × (word ≡ front ++ 10 ∷ [])
@@ -84,30 +74,6 @@ Word word line found = Reads (λ (_ : Unit {0}). Unit {0}) (λ (_ : Unit {0}). w
 front_is : (v : ModelVersion) → (digit : ℕ) × (head_line v ≡ codes "dyckmon-model " ++ digit ∷ 10 ∷ [])
 front_is One = (49, refl)
 front_is Two = (50, refl)
-
-one_not_two : Agree (head_line Two) (head_line One) → ⊥
-one_not_two agree = absurd (omega (arith, agree_head 50 49 (10 ∷ []) (10 ∷ []) (agree_next (codes "dyckmon-model ") (50 ∷ 10 ∷ []) (49 ∷ 10 ∷ []) agree)))
-
-two_not_one : Agree (head_line One) (head_line Two) → ⊥
-two_not_one agree = absurd (omega (arith, agree_head 49 50 (10 ∷ []) (10 ∷ []) (agree_next (codes "dyckmon-model ") (49 ∷ 10 ∷ []) (50 ∷ 10 ∷ []) agree)))
-
-pub first_version : (line : List ℕ) (x : Unit {0}) → Word (codes "dyckmon-model 1\n") line (Ok x) → Reads (λ (_ : ModelVersion). Unit {0}) head_line line [] (Ok One)
-first_version line x stands =
-    let is : line ≡ head_line One = stands.stands ∙ append-nil (head_line One) in
-    record { fits = tt; stands = stands.stands; only = λ w fits agree. only w (subst (Agree (head_line w)) is agree) }
-  where
-    only : (w : ModelVersion) → Agree (head_line w) (head_line One) → w ≡ One
-    only One agree = refl
-    only Two agree = absurd (one_not_two agree)
-
-pub second_version : (line : List ℕ) (x : Unit {0}) → Word (codes "dyckmon-model 2\n") line (Ok x) → Reads (λ (_ : ModelVersion). Unit {0}) head_line line [] (Ok Two)
-second_version line x stands =
-    let is : line ≡ head_line Two = stands.stands ∙ append-nil (head_line Two) in
-    record { fits = tt; stands = stands.stands; only = λ w fits agree. only w (subst (Agree (head_line w)) is agree) }
-  where
-    only : (w : ModelVersion) → Agree (head_line w) (head_line Two) → w ≡ Two
-    only One agree = absurd (two_not_one agree)
-    only Two agree = refl
 
 pub short_version : (line : List ℕ) (v : ModelVersion) → Word (head_line v) line (Err Short) → Reads (λ (_ : ModelVersion). Unit {0}) head_line line [] (Err Short)
 short_version line v cut = record { value = v; rest = cut.rest; fits = tt; more = cut.more; goes_on = cut.goes_on; unended = cut.unended }

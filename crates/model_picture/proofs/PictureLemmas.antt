@@ -1,7 +1,7 @@
 -- The lines of numbers that follow one another, and those of one function.
-use Rattle.std.proofs.Common.{◌≡◌, ℕ, ◌+◌, Bool, List, [], ◌∷◌, ◌++◌, Option, None, Some, flat_map, nat_eq, slice_get, refl, sym, ◌∙◌, ap}
+use Rattle.std.proofs.Common.{◌≡◌, ℕ, ◌+◌, Bool, List, [], ◌∷◌, ◌++◌, Some, flat_map, nat_eq, slice_get, sym, ◌∙◌, ap}
 use Rattle.std.specs.List.{range_with_len}
-use Rattle.std.proofs.lemmas.List.{append-nil, append_assoc, flat_map_more, map-id}
+use Rattle.std.proofs.lemmas.List.{append_assoc, flat_map_more, map-id}
 use Rattle.std.proofs.lemmas.List.FromFn.{map-range_with_len_more}
 use Rattle.flow_model.specs.declared.records.ModelFunction.{ModelFunction}
 use Rattle.flow_model.specs.Graph.{Graph, end_of}
@@ -34,7 +34,3 @@ function_there g number starts past one old new there is_start is_past is =
     is
     ∙ ap (λ (t : List ℕ). old ++ t)
     (ap (λ (s : Bool). function_lines number s past one) is_start ∙ ap (λ (p : ℕ). function_lines number (nat_eq number g.start) p one) is_past ∙ ap (subgraph_where g number) (sym there))
-
--- no function has the number
-pub function_absent : (g : Graph) (number : ℕ) (old : List ℕ) → slice_get g.functions number ≡ None → old ≡ old ++ subgraph g number
-function_absent g number old there = sym (append-nil old) ∙ ap (λ (t : List ℕ). old ++ t) (ap (subgraph_where g number) (sym there))

@@ -1,7 +1,7 @@
 -- Lists of trees that are made in turn, each with more calls before it.
 use Rattle.std.proofs.Common.{◌≡◌, ℕ, ◌+◌, ◌<◌, ◌≤◌, List, [], ◌∷◌, ◌++◌, length, drop, get_or, refl, sym, ap, ◌∙◌, arith}
 use Rattle.std.proofs.lemmas.List.{append_assoc, append-nil}
-use Rattle.null_calls_temporaries.proofs.KeptLemmas.{at_place, all_gone}
+use Rattle.null_calls_expressions.proofs.KeptLemmas.{at_place, all_gone}
 
 -- trees, and then others
 abbrev pub onto : {T L : Type 0} → (T → L → L) → List T → L → L

@@ -11,7 +11,7 @@ use Rattle.null_calls_rules.specs.Temporaries.{Temporary, pre_name, post_name, d
 use Rattle.null_calls_rules.specs.Instrumented as marks
 use Rattle.null_calls_rules.specs.Instrumented.{instrumented_unit, calls_of_item, null_prototype}
 use Rattle.null_calls_rules.specs.InstrumentedStatements as parts
-use Rattle.null_calls_temporaries.specs.Kept.{alone}
+use Rattle.null_calls_expressions.specs.Kept.{alone}
 use Rattle.null_calls.proofs.TreeLemmas.{item_before}
 
 pub body_made : (sites : Sites) (tags : List Name) (at b : ℕ) (is : BlockItems) (kept : List Temporary) (made whole : BlockItems)

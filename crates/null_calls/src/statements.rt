@@ -5,9 +5,9 @@ ghost use Rattle.c_syntax.specs.Tree.{no_block_items, no_groups};
 ghost use Rattle.c_syntax.specs.UnitView.{first_of_head, stmt_of, block_item_before, group_before};
 ghost use Rattle.c_syntax.specs.WritesUnit.{block_items_of, stmts_of, groups_of};
 ghost use Rattle.c_rules.specs.Variables.{calls_of_first, calls_of_stmt, calls_of_block, calls_of_stmts, calls_of_groups};
-ghost use Rattle.null_calls_temporaries.specs.Sited.{sited};
+ghost use Rattle.null_calls_expressions.specs.Sited.{sited};
 ghost use Rattle.null_calls_rules.specs.InstrumentedStatements as marks;
-ghost use Rattle.null_calls_temporaries.specs.Kept.{temporaries_of};
+ghost use Rattle.null_calls_expressions.specs.Kept.{temporaries_of};
 ghost use Rattle.null_calls.specs.Parts.{item_of, group_of};
 
 use crate::declarations::{declaration, maybe};
@@ -18,8 +18,7 @@ use c_syntax::{BlockItem, ForFirst, Group, Stmt, StmtKind};
 use c_syntax_nodes::copy_labels;
 use dm_base::OutOfMemory;
 use dm_counts::Count;
-use null_calls_expressions::expression;
-use null_calls_temporaries::{MarkedSites, Temporary};
+use null_calls_expressions::{MarkedSites, Temporary, expression};
 use std::alloc::Global;
 
 // What stands first in the head of a for; the value of an expression there isn't wanted.

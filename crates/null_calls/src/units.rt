@@ -9,11 +9,11 @@ ghost use Rattle.c_rules.specs.Functions.{items_of_body};
 ghost use Rattle.c_rules.specs.Variables.{calls_of_block};
 ghost use Rattle.c_check_counts.specs.Seen.{seen};
 ghost use Rattle.call_graph.specs.Calls.{AreCallsOf};
-ghost use Rattle.null_calls_temporaries.specs.Sited.{sited};
+ghost use Rattle.null_calls_expressions.specs.Sited.{sited};
 ghost use Rattle.null_calls_rules.specs.Instrumented as marks;
 ghost use Rattle.null_calls_rules.specs.InstrumentedStatements as parts;
 ghost use Rattle.null_calls_rules.specs.Instrumented.{instrumented_unit, calls_of_item};
-ghost use Rattle.null_calls_temporaries.specs.Kept.{temporaries_of};
+ghost use Rattle.null_calls_expressions.specs.Kept.{temporaries_of};
 ghost use Rattle.null_calls.specs.Parts.{items_where};
 
 use crate::statement_nodes::block_node;
@@ -28,7 +28,7 @@ use c_tree::Program;
 use call_graph::Calls;
 use dm_base::{Bytes, OutOfMemory};
 use dm_counts::Count;
-use null_calls_temporaries::{
+use null_calls_expressions::{
     MarkedSites, Temporary, declared, declared_alone, post_name, pre_name,
 };
 use std::alloc::Global;

@@ -1,5 +1,5 @@
-pub mod Expressions
-pub mod Statements
+pub mod ExpressionCounts
+pub mod StatementCounts
 pub mod ExpressionHeights
 pub mod StatementHeights
 pub mod ExpressionTags

@@ -1,2 +1,4 @@
 pub mod Wanted
 pub mod Lists
+pub use Rattle.null_calls_temporaries.specs.Kept
+pub use Rattle.null_calls_temporaries.specs.Sited

@@ -30,7 +30,7 @@ use Rattle.null_calls_expressions_laws.specs.MarkedCalls.{NullCallsStand}
 use Rattle.null_calls_expressions_laws.proofs.AddedParts.{null_site, null_calls_are_made, temporaries_are_read, temporaries_are_set}
 use Rattle.null_calls_expressions_laws.proofs.KeptValues.{kept_values_are_given}
 use Rattle.null_calls_expressions_laws.proofs.OwnTypes.{values_fit}
-use Rattle.null_calls_counts_laws.proofs.Expressions.{names_calls}
+use Rattle.null_calls_counts_laws.proofs.ExpressionCounts.{names_calls}
 
 pub result_value : (env : Env) (at : ℕ) (t : CType) (e : typed.Expr) → IsResult t → value_at env at (fine (typed_value t e not_constant)) ≡ fine (typed_value t e not_constant)
 result_value env at void e h = refl

@@ -21,7 +21,7 @@ use Rattle.c_rules_laws.specs.TypedAlike.{More, plain_scope, instrumented_scope}
 use Rattle.null_calls_expressions_laws.specs.Remade.{remade, Follows}
 use Rattle.null_calls_expressions_laws.proofs.Operands.{operand}
 use Rattle.null_calls_counts_laws.specs.Counts.{AreNamed, AllNamed, Near}
-use Rattle.null_calls_counts_laws.proofs.Expressions.{places_near}
+use Rattle.null_calls_counts_laws.proofs.ExpressionCounts.{places_near}
 use Rattle.null_calls_expressions_laws.specs.Tabled.{AreTabled, AllTabled, AreFound}
 use Rattle.null_calls_expressions_laws.specs.Follow.{types_of, UnusedFollows, Goes, AllGo}
 use Rattle.null_calls_expressions_laws.proofs.Leaves.{Holds, demand_holds}

@@ -34,7 +34,7 @@ use Rattle.null_calls_expressions_laws.proofs.Operands.{operand, on_follows}
 use Rattle.null_calls_expressions_laws.proofs.Unary.{indirection_follows, value_at_follows, place_at_follows, access_follows, unary_follows}
 use Rattle.null_calls_expressions_laws.proofs.Binary.{sum_follows, infix_follows, assignment_by_follows, both_follow, stepped_follows, after_follows, choice_follows, three_follow}
 use Rattle.null_calls_counts_laws.specs.Counts.{AreNamed, Near}
-use Rattle.null_calls_counts_laws.proofs.Expressions.{places_near}
+use Rattle.null_calls_counts_laws.proofs.ExpressionCounts.{places_near}
 use Rattle.null_calls_expressions_laws.specs.Tabled.{AreTabled, AreFound}
 use Rattle.null_calls_expressions_laws.specs.Follow.{types_of, UnusedFollows, ExprFollows, UnusedExprFollows, Goes}
 use Rattle.null_calls_expressions_laws.proofs.Leaves.{Holds, after_part, leaf_follows, named_leaf, integer_leaf, string_leaf, size_given_leaf, size_type_leaf, string_same}

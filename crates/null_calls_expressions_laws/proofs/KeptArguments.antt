@@ -21,7 +21,7 @@ use Rattle.null_calls_expressions_laws.specs.Remade.{remade, IsRemade, Follows}
 use Rattle.null_calls_expressions_laws.proofs.Operands.{assigned_operand}
 use Rattle.null_calls_expressions_laws.proofs.Binary.{fits_same}
 use Rattle.null_calls_counts_laws.specs.Counts.{AllNamed, Near}
-use Rattle.null_calls_counts_laws.proofs.Expressions.{counts_stay}
+use Rattle.null_calls_counts_laws.proofs.ExpressionCounts.{counts_stay}
 use Rattle.null_calls_expressions_laws.specs.Tabled.{AllTabled, AreFound}
 use Rattle.null_calls_expressions_laws.specs.Follow.{types_of, AllGo}
 use Rattle.null_calls_expressions_laws.proofs.Forms.{types_both, found_first, found_rest, value_goes}

@@ -20,3 +20,5 @@ pub mod MostCalls
 pub mod NullTypes
 pub mod OwnTypes
 pub mod PlainCalls
+pub use Rattle.null_calls_counts_laws.proofs.ExpressionCounts
+pub use Rattle.null_calls_counts_laws.proofs.StatementCounts

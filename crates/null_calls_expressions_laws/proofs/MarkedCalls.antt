@@ -28,7 +28,7 @@ use Rattle.c_rules_laws.proofs.Names.{named_callee_leads}
 use Rattle.null_calls_expressions_laws.specs.Remade.{remade}
 use Rattle.null_calls_expressions_laws.proofs.Operands.{operand}
 use Rattle.null_calls_counts_laws.specs.Counts.{AreNamed, AllNamed, Near}
-use Rattle.null_calls_counts_laws.proofs.Expressions.{counts_stay}
+use Rattle.null_calls_counts_laws.proofs.ExpressionCounts.{counts_stay}
 use Rattle.null_calls_expressions_laws.specs.Tabled.{AreTabled, AllTabled, AreFound}
 use Rattle.null_calls_expressions_laws.specs.Follow.{types_of, Goes, AllGo}
 use Rattle.null_calls_expressions_laws.proofs.Leaves.{Holds}

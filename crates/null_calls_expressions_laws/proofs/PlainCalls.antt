@@ -30,7 +30,7 @@ use Rattle.null_calls_expressions_laws.proofs.Operands.{operand, value_remade, d
 use Rattle.null_calls_expressions_laws.proofs.Unary.{value_at_follows}
 use Rattle.null_calls_expressions_laws.proofs.Binary.{fits_same}
 use Rattle.null_calls_counts_laws.specs.Counts.{AreNamed, AllNamed, Near}
-use Rattle.null_calls_counts_laws.proofs.Expressions.{places_near, counts_stay}
+use Rattle.null_calls_counts_laws.proofs.ExpressionCounts.{places_near, counts_stay}
 use Rattle.null_calls_expressions_laws.specs.Tabled.{called_by, AreTabled, AllTabled, AreFound}
 use Rattle.null_calls_expressions_laws.specs.Follow.{types_of, ExprFollows, Goes, AllGo}
 use Rattle.null_calls_expressions_laws.proofs.Leaves.{Holds, after_part, leaf_follows, named_leaf}

@@ -16,3 +16,5 @@ pub mod OwnTypes
 pub mod PlainCalls
 pub mod Remade
 pub mod Tabled
+pub use Rattle.null_calls_counts_laws.specs.Counts
+pub use Rattle.null_calls_counts_laws.specs.Statements

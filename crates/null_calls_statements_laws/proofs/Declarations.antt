@@ -23,10 +23,10 @@ use Rattle.c_rules_laws.specs.TypedAlike.{More, plain_scope, instrumented_scope,
 use Rattle.c_rules_laws.proofs.Leads.{Leads, fine_leads, first_fine, on_fine, alone_fine}
 use Rattle.c_rules_laws.proofs.Names.{new_name_leads, new_name_plain}
 use Rattle.c_rules_laws.proofs.Parts.{object_leads}
-use Rattle.null_calls_counts_laws.specs.Counts.{Near}
-use Rattle.null_calls_counts_laws.specs.Statements.{MaybeInitNamed, PartsNamed, DeclNamed}
-use Rattle.null_calls_counts_laws.proofs.Expressions.{places_near}
-use Rattle.null_calls_counts_laws.proofs.Statements.{blocks_stay}
+use Rattle.null_calls_expressions_laws.specs.Counts.{Near}
+use Rattle.null_calls_expressions_laws.specs.Statements.{MaybeInitNamed, PartsNamed, DeclNamed}
+use Rattle.null_calls_expressions_laws.proofs.ExpressionCounts.{places_near}
+use Rattle.null_calls_expressions_laws.proofs.StatementCounts.{blocks_stay}
 use Rattle.null_calls_expressions_laws.specs.Tabled.{AreFound}
 use Rattle.null_calls_expressions_laws.specs.Follow.{types_of}
 use Rattle.null_calls_expressions_laws.proofs.Forms.{types_both, found_first, found_rest}

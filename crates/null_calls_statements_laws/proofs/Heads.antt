@@ -17,7 +17,7 @@ use Rattle.c_rules_laws.specs.TypedAlike.{More, plain_scope, instrumented_scope}
 use Rattle.null_calls_expressions_laws.specs.Remade.{remade, Follows}
 use Rattle.null_calls_expressions_laws.proofs.Operands.{operand, converted_operand, assigned_operand}
 use Rattle.null_calls_expressions_laws.proofs.Binary.{fits_same}
-use Rattle.null_calls_counts_laws.specs.Counts.{Near}
+use Rattle.null_calls_expressions_laws.specs.Counts.{Near}
 use Rattle.null_calls_expressions_laws.specs.Follow.{types_of, UnusedFollows, Goes}
 use Rattle.null_calls_expressions_laws.proofs.Forms.{value_goes}
 use Rattle.null_calls_expressions_laws.proofs.AllCalls.{all_expressions_go}

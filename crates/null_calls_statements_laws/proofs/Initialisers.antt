@@ -16,10 +16,10 @@ use Rattle.null_calls_rules.specs.Temporaries.{Temporary}
 use Rattle.null_calls_rules.specs.InstrumentedExpressions.{call_where, expr, arguments, kept}
 use Rattle.null_calls_rules.specs.InstrumentedStatements.{init, inits, kept_of_init, kept_of_inits}
 use Rattle.c_rules_laws.specs.TypedAlike.{More, plain_scope, instrumented_scope}
-use Rattle.null_calls_counts_laws.specs.Counts.{Near}
-use Rattle.null_calls_counts_laws.specs.Statements.{InitNamed, InitsNamed}
-use Rattle.null_calls_counts_laws.proofs.Expressions.{counts_stay}
-use Rattle.null_calls_counts_laws.proofs.Statements.{blocks_stay}
+use Rattle.null_calls_expressions_laws.specs.Counts.{Near}
+use Rattle.null_calls_expressions_laws.specs.Statements.{InitNamed, InitsNamed}
+use Rattle.null_calls_expressions_laws.proofs.ExpressionCounts.{counts_stay}
+use Rattle.null_calls_expressions_laws.proofs.StatementCounts.{blocks_stay}
 use Rattle.null_calls_expressions_laws.specs.Tabled.{AreFound}
 use Rattle.null_calls_expressions_laws.specs.Follow.{types_of, Goes}
 use Rattle.null_calls_expressions_laws.proofs.Forms.{types_both, found_first, found_rest, value_goes}

@@ -8,3 +8,4 @@ pub mod StatementTree
 pub mod Numbers
 pub mod Nodes
 pub mod Statements
+pub use Rattle.null_calls_expressions_laws.proofs.TreeTypes

@@ -26,10 +26,10 @@ use Rattle.null_calls_rules.specs.InstrumentedStatements as with_null_calls
 use Rattle.c_rules_laws.specs.TypedAlike.{TypedAlike, beside as scopes_beside}
 use Rattle.c_rules_laws.proofs.Leads.{Leads, same_leads, fine_leads, on_leads, both_leads, gives_leads, first_fine, on_fine}
 use Rattle.c_rules_laws.proofs.Parts.{value_leads}
-use Rattle.null_calls_counts_laws.specs.Counts.{AreNamed, Near}
-use Rattle.null_calls_counts_laws.specs.Statements.{MaybeNamed, StmtNamed, BlockNamed, StmtsNamed, GroupsNamed}
-use Rattle.null_calls_counts_laws.proofs.Expressions.{places_near}
-use Rattle.null_calls_counts_laws.proofs.Statements.{statements_stay}
+use Rattle.null_calls_expressions_laws.specs.Counts.{AreNamed, Near}
+use Rattle.null_calls_expressions_laws.specs.Statements.{MaybeNamed, StmtNamed, BlockNamed, StmtsNamed, GroupsNamed}
+use Rattle.null_calls_expressions_laws.proofs.ExpressionCounts.{places_near}
+use Rattle.null_calls_expressions_laws.proofs.StatementCounts.{statements_stay}
 use Rattle.null_calls_expressions_laws.specs.Tabled.{AreTabled, AreFound}
 use Rattle.null_calls_expressions_laws.specs.Follow.{types_of}
 use Rattle.null_calls_expressions_laws.proofs.Forms.{types_both, found_first, found_rest}

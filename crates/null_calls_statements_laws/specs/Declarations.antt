@@ -15,8 +15,8 @@ use Rattle.null_calls_rules.specs.MarkedCalls.{Sites}
 use Rattle.null_calls_rules.specs.InstrumentedStatements.{declaration, kept_of_decl, first, kept_of_first}
 use Rattle.null_calls_rules.specs.InstrumentedPrograms as with_null_calls
 use Rattle.null_calls_rules.specs.WithoutSites.{unsited_stmts}
-use Rattle.null_calls_counts_laws.specs.Counts.{Near}
-use Rattle.null_calls_counts_laws.specs.Statements.{DeclNamed, FirstNamed}
+use Rattle.null_calls_expressions_laws.specs.Counts.{Near}
+use Rattle.null_calls_expressions_laws.specs.Statements.{DeclNamed, FirstNamed}
 use Rattle.null_calls_expressions_laws.specs.Tabled.{AreTabled, AreFound}
 use Rattle.null_calls_expressions_laws.specs.Follow.{types_of}
 use Rattle.null_calls_statements_laws.specs.Standing.{StandBeside}

@@ -10,8 +10,8 @@ use Rattle.null_calls_rules.specs.MarkedCalls.{Sites}
 use Rattle.null_calls_rules.specs.InstrumentedStatements.{init, kept_of_init}
 use Rattle.null_calls_rules.specs.InstrumentedPrograms as with_null_calls
 use Rattle.null_calls_rules.specs.WithoutSites.{unsited_inits}
-use Rattle.null_calls_counts_laws.specs.Counts.{Near}
-use Rattle.null_calls_counts_laws.specs.Statements.{InitNamed}
+use Rattle.null_calls_expressions_laws.specs.Counts.{Near}
+use Rattle.null_calls_expressions_laws.specs.Statements.{InitNamed}
 use Rattle.null_calls_expressions_laws.specs.Tabled.{AreTabled, AreFound}
 use Rattle.null_calls_expressions_laws.specs.Follow.{types_of}
 use Rattle.null_calls_statements_laws.specs.Standing.{StandBeside}

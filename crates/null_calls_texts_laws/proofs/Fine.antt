@@ -16,7 +16,7 @@ use Rattle.null_calls_rules.specs.MarkedCalls.{Called, Sites}
 use Rattle.null_calls_rules.specs.Temporaries.{pre_name, designator_name, argument_name, is_kept}
 use Rattle.null_calls_rules.specs.InstrumentedExpressions.{is_void_type, kept_in, keep_designator, keep_arguments, kept_arguments, kept_designator, null_call, call_and_post, call_where, expr, arguments, members, maybe}
 use Rattle.null_calls_rules.specs.InstrumentedStatements as new
-use Rattle.null_calls_counts_laws.proofs.ExpressionHeights.{Operand, by_type, by_unary}
+use Rattle.null_calls_units_laws.proofs.ExpressionHeights.{Operand, by_type, by_unary}
 
 -- ## A marked call
 

@@ -13,7 +13,7 @@ use Rattle.null_calls_rules.specs.Temporaries.{pre_name, is_kept}
 use Rattle.null_calls_rules.specs.InstrumentedExpressions.{is_void_type, keep_designator, keep_arguments, kept_arguments, kept_designator, null_call, call_and_post, call_where, expr, arguments, members, maybe}
 use Rattle.null_calls_rules.specs.InstrumentedStatements as new
 use Rattle.c_rules_laws.specs.Lexical.{AreSomeExprs, IsLexical, AreLexical, IsMaybeLexical, IsInitLexical, AreInitsLexical, IsMaybeInitLexical, ArePartsLexical, IsDeclLexical, IsFirstLexical, IsStmtLexical, AreItemsLexical, AreStmtsLexical, AreGroupsLexical}
-use Rattle.null_calls_counts_laws.proofs.ExpressionHeights.{Operand, by_type, by_unary}
+use Rattle.null_calls_units_laws.proofs.ExpressionHeights.{Operand, by_type, by_unary}
 use Rattle.null_calls_texts_laws.proofs.Writable.{FitsWhere}
 
 -- ## A marked call

@@ -1,7 +1,7 @@
 -- The instrumented units of texts are units.
 use Rattle.std.proofs.Common.{ℕ, List}
 use Rattle.dm_base.specs.declared.mode.Mode.TheVariants.{Plain}
-use Rattle.c_lexer.specs.Spelling.{SpellsTokens}
+use Rattle.c_lexer.specs.TokenSpelling.{SpellsTokens}
 use Rattle.c_lexer.specs.declared.token.Token.{Token}
 use Rattle.c_syntax.specs.Spelling.{SpellsUnit}
 use Rattle.c_syntax.specs.Tree.{Items, no_items, more_items}

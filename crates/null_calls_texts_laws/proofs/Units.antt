@@ -17,7 +17,7 @@ use Rattle.null_calls_rules.specs.Instrumented as units
 use Rattle.null_calls_rules.specs.Instrumented.{calls_of_item, null_prototype}
 use Rattle.c_syntax_laws.specs.Writable.{IsWritableStmt, AreWritableBlockItems, IsWritableItem, AreWritableItems}
 use Rattle.dm_base.specs.Name.{IsName}
-use Rattle.null_calls_counts_laws.proofs.StatementHeights.{block_low}
+use Rattle.null_calls_units_laws.proofs.StatementHeights.{block_low}
 use Rattle.null_calls_units_laws.specs.Functions.{FunctionFacts}
 use Rattle.null_calls_units_laws.proofs.FileWritten.{form_tags}
 use Rattle.null_calls_units_laws.proofs.Facts.{UnitFacts}

@@ -16,7 +16,7 @@ use Rattle.null_calls_rules.specs.Temporaries.{pre_name, is_kept}
 use Rattle.null_calls_rules.specs.InstrumentedExpressions.{is_void_type, keep_designator, keep_arguments, kept_arguments, kept_designator, null_call, call_and_post, call_where, expr, arguments, members, maybe}
 use Rattle.null_calls_rules.specs.InstrumentedStatements as new
 use Rattle.c_syntax_laws.specs.Writable.{IsWritable, AreWritable, IsWritableMaybe, IsWritableInit, AreWritableInits, IsWritableMaybeInit, AreWritableParts, IsWritableDecl, IsWritableFirst, IsWritableStmt, AreWritableBlockItems, AreWritableStmts, AreWritableGroups}
-use Rattle.null_calls_counts_laws.proofs.ExpressionHeights.{Operand, by_type, by_unary}
+use Rattle.null_calls_units_laws.proofs.ExpressionHeights.{Operand, by_type, by_unary}
 use Rattle.null_calls_texts_laws.proofs.Names.{pre_named, post_named, designator_named, argument_named, result_named}
 
 -- the number of a marked site is an unsigned constant

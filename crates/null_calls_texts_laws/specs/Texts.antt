@@ -2,7 +2,7 @@
 use Rattle.std.specs.Prelude.{ℕ, ◌≤◌, List, length}
 use Rattle.dm_base.specs.declared.mode.Mode.TheVariants.{Plain}
 use Rattle.c_lexer.specs.declared.token.Token.{Token}
-use Rattle.c_lexer.specs.Spelling.{SpellsTokens}
+use Rattle.c_lexer.specs.TokenSpelling.{SpellsTokens}
 use Rattle.c_tree.specs.Tree.{Program}
 use Rattle.c_syntax.specs.Tree.{Items}
 use Rattle.c_syntax.specs.Spelling.{SpellsUnit, IsUnit, IsReadAs}

@@ -34,9 +34,9 @@ use Rattle.c_rules.specs.Expressions.{value_at, place_at, callee_meant, callee_b
 use Rattle.c_rules.proofs.Integers.{integer_cases}
 use Rattle.null_calls_rules.specs.MarkedCalls.{Called, Sites, sites_of, called_through, called_by_type, marked_of}
 use Rattle.null_calls_counts_laws.specs.Counts.{IsName, IsDesignator, AreNamed, AllNamed}
-use Rattle.null_calls_expressions_laws.specs.Tabled.{called_by, HasTypes, IsCalledAt, AreTabled, AllTabled}
-use Rattle.null_calls_expressions_laws.proofs.TreeTypes.{ValueTyped}
-use Rattle.null_calls_expressions_laws.proofs.TreeTypes.{value_typed as trees_have_types}
+use Rattle.null_calls_statements_laws.specs.Tabled.{called_by, HasTypes, IsCalledAt, AreTabled, AllTabled}
+use Rattle.null_calls_statements_laws.proofs.TreeTypes.{ValueTyped}
+use Rattle.null_calls_statements_laws.proofs.TreeTypes.{value_typed as trees_have_types}
 use Rattle.c_rules_laws.proofs.Holding.{Holds, held, holds_map, on_holds, both_hold, all_three_hold, Any, anything, demand_holds, after_part, if_holds, and_left}
 use Rattle.c_rules_laws.proofs.MadeTypes.{result_is}
 use Rattle.alarm_laws.proofs.Places.{get_left}

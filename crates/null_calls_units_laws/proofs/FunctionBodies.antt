@@ -24,10 +24,10 @@ use Rattle.null_calls_rules.specs.WithoutSites.{unsited_stmts, unsited_function}
 use Rattle.null_calls_units_laws.specs.Declarations.{type_of_temporary, with_temporaries, AreNew, behind_declarations}
 use Rattle.null_calls_units_laws.proofs.Declarations.{temporaries_are_declared}
 use Rattle.c_rules_laws.specs.TypedAlike.{More, plain_scope, instrumented_scope, AreUnreserved, MeanAlike}
-use Rattle.null_calls_expressions_laws.specs.Follow.{types_of}
+use Rattle.null_calls_statements_laws.specs.Follow.{types_of}
 use Rattle.null_calls_counts_laws.specs.Counts.{Near}
 use Rattle.null_calls_counts_laws.specs.Statements.{BlockNamed}
-use Rattle.null_calls_counts_laws.proofs.Statements.{blocks_stay}
+use Rattle.null_calls_counts_laws.proofs.StatementCounts.{blocks_stay}
 use Rattle.null_calls_statements_laws.specs.Declarations.{StatementTreeFollow}
 use Rattle.null_calls_statements_laws.proofs.Numbers.{numbers_stay}
 use Rattle.null_calls_statements_laws.specs.Statements.{BlockTabled, BlockGoes, after_block}
@@ -44,10 +44,6 @@ use Rattle.null_calls_units_laws.proofs.Counted.{held_behind, calls_behind, plai
 types_same : (xs : List Temporary) → map type_of_temporary xs ≡ types_of xs
 types_same [] = refl
 types_same (x ∷ xs) = ap (λ ts. x.ctype ∷ ts) (types_same xs)
-
-types_long : (xs : List Temporary) → length (types_of xs) ≡ length xs
-types_long [] = refl
-types_long (x ∷ xs) = ap suc (types_long xs)
 
 -- ## Trees
 

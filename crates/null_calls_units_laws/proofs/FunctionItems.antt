@@ -25,11 +25,11 @@ use Rattle.null_calls_rules.specs.WithoutSites.{unsited_function}
 use Rattle.null_calls_units_laws.specs.Spelled.{AreAmong}
 use Rattle.c_rules_laws.proofs.Leads.{first_fine, on_fine, fine_leads}
 use Rattle.c_rules_laws.proofs.Parts.{type_declared_leads}
-use Rattle.null_calls_expressions_laws.specs.Follow.{types_of}
+use Rattle.null_calls_statements_laws.specs.Follow.{types_of}
 use Rattle.null_calls_statements_laws.proofs.Numbers.{numbers_stay}
 use Rattle.null_calls_statements_laws.proofs.Nodes.{both_gives}
 use Rattle.null_calls_counts_laws.proofs.StatementTags.{tags_stay}
-use Rattle.null_calls_counts_laws.proofs.Statements.{blocks_stay}
+use Rattle.null_calls_counts_laws.proofs.StatementCounts.{blocks_stay}
 use Rattle.null_calls_units_laws.specs.FileScopes.{FilesBeside, at_site}
 use Rattle.null_calls_units_laws.proofs.FileNames.{scopes_of, function_declared_leads, function_files}
 use Rattle.null_calls_units_laws.proofs.Items.{tags_files, files_tags}

@@ -58,10 +58,6 @@ pub among_front : (ts us xs : List Name) → AreAmong ts xs → AreAmong (ts ++ 
 among_front ts us [] h = tt
 among_front ts us (x ∷ xs) h = (among_first ts us x h.0, among_front ts us xs h.1)
 
-pub among_behind : (ts us xs : List Name) → AreAmong us xs → AreAmong (ts ++ us) xs
-among_behind ts us [] h = tt
-among_behind ts us (x ∷ xs) h = (among_later ts us x h.0, among_behind ts us xs h.1)
-
 rest_is : (o : Option ℕ) → is_some (option_map suc o) ≡ true → is_some o ≡ true
 rest_is None k = k
 rest_is (Some j) k = refl

@@ -32,3 +32,5 @@ pub mod Prototypes
 pub mod SpelledCasts
 pub mod Texts
 pub mod Units
+pub use Rattle.null_calls_counts_laws.proofs.ExpressionHeights
+pub use Rattle.null_calls_counts_laws.proofs.StatementHeights

@@ -5,13 +5,12 @@ use Rattle.dm_base.specs.declared.mode.Mode.TheVariants.{Plain, Instrumented}
 use Rattle.sys_table.specs.Table.{table}
 use Rattle.c_tree.specs.Tree.{CType, void}
 use Rattle.c_tree.specs.Functions.{unsigned_int, of_one, sys_types}
-use Rattle.c_syntax.specs.Tree.{Ident, Declarator, no_init, more_params, no_params, nothing, Item, Items, more_items}
+use Rattle.c_syntax.specs.Tree.{Ident, Declarator, no_init, more_params, no_params, nothing, Items, more_items}
 use Rattle.c_syntax.specs.Tree as syntax
 use Rattle.c_rules.specs.Checked.{fine, on, both, demand, and_also, met}
 use Rattle.c_rules.specs.Codes.{C2, C11, C12, C13}
 use Rattle.c_rules.specs.Names.{Name, number_among, is_among, given_names, given_types, may_be_declared, with_new, is_given_type}
 use Rattle.c_rules.specs.Scopes.{Env, Binding, a_function, Whole, empty_env, lookup, at_depth, Before}
-use Rattle.c_rules.specs.Expressions.{type_declared}
 use Rattle.c_rules.specs.Functions.{given_as, is_few, may_follow_function, is_defined_by, behind_function, function_declared}
 use Rattle.c_rules.specs.Items.{Output, no_output, with_output, prototype, item, behind_item, items, behind_items, after_items, with_tags}
 use Rattle.null_calls_rules.specs.Temporaries.{pre_name, post_name}
@@ -31,9 +30,6 @@ declarator x = syntax.function 0 (syntax.named 0 (record { name = x; at = 0 })) 
 
 abbrev ident : Name → Ident
 ident x = record { name = x; at = 0 }
-
-null_declared : (env : Env) (x : Name) → type_declared env 0 syntax.void (declarator x) ≡ fine null_type
-null_declared env x = refl
 
 pre_given : number_among (given_names Instrumented) pre_name ≡ Some 24
 unfolding table

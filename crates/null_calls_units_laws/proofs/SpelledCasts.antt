@@ -8,7 +8,7 @@ use Rattle.c_syntax.specs.Grammar.{Level, HasNoName, Reads, ReadsList, Suffixes,
 use Rattle.c_syntax.specs.Statements as stmts
 use Rattle.c_syntax.specs.Statements.{ReadsInit, ReadsInits, ReadsMaybeInit, ReadsParts, ReadsDecl, ReadsMaybe, ReadsFirst, ReadsStmt, ReadsBlockItems, ReadsStmts, ReadsGroups, ReadsItem, ReadsItems}
 use Rattle.c_rules.specs.Declarators.{name_of}
-use Rattle.null_calls_expressions_laws.specs.Tabled.{IsAbstract}
+use Rattle.null_calls_statements_laws.specs.Tabled.{IsAbstract}
 use Rattle.null_calls_units_laws.specs.AbstractCasts.{AreThere, NamesNoType, NameNoTypes, MaybeNamesNoType, InitNamesNoType, InitsNameNoType, MaybeInitNamesNoType, PartsNameNoType, DeclNamesNoType, FirstNamesNoType, StmtNamesNoType, BlockNamesNoType, StmtsNameNoType, GroupsNameNoType, ItemNamesNoType, UnitNamesNoType}
 use Rattle.c_syntax.specs.Spelling.{SpellsUnit}
 

@@ -32,7 +32,7 @@ use Rattle.null_calls_rules.specs.InstrumentedExpressions.{kept, kept_of_maybe}
 use Rattle.null_calls_rules.specs.InstrumentedStatements.{kept_of_maybe_init, kept_of_parts, kept_of_decl, kept_of_first, kept_of_stmt, kept_of_block, kept_of_stmts, kept_of_groups}
 use Rattle.null_calls_counts_laws.specs.Statements.{MaybeInitNamed, PartsNamed, DeclNamed, FirstNamed, MaybeNamed, StmtNamed, BlockNamed, StmtsNamed, GroupsNamed}
 use Rattle.null_calls_counts_laws.specs.Counts.{AreNamed}
-use Rattle.null_calls_expressions_laws.specs.Tabled.{AreTabled}
+use Rattle.null_calls_statements_laws.specs.Tabled.{AreTabled}
 use Rattle.null_calls_statements_laws.specs.Initialisers.{MaybeInitTabled}
 use Rattle.null_calls_statements_laws.specs.Declarations.{NamedTabled, PartsTabled, DeclTabled, FirstTabled}
 use Rattle.null_calls_statements_laws.specs.Statements.{MaybeTabled, StmtTabled, BlockTabled, StmtsTabled, GroupsTabled}

@@ -13,7 +13,7 @@ use Rattle.null_calls_units_laws.specs.Declarations.{with_temporaries, AreNew}
 use Rattle.null_calls_units_laws.specs.TemporaryNames.{IsFreeName}
 use Rattle.null_calls_units_laws.proofs.NameLemmas.{names_are_free}
 use Rattle.c_rules_laws.specs.TypedAlike.{More, plain_scope, instrumented_scope, AreUnreserved, MeanAlike}
-use Rattle.null_calls_expressions_laws.specs.Tabled.{AreFound, IsNullCall}
+use Rattle.null_calls_statements_laws.specs.Tabled.{AreFound, IsNullCall}
 use Rattle.null_calls_statements_laws.specs.Standing.{StandBeside, stand_beside}
 use Rattle.null_calls_statements_laws.proofs.Scopes.{unadded}
 use Rattle.null_calls_units_laws.specs.FileScopes.{HasNullCalls}

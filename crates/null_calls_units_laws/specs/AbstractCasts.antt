@@ -4,7 +4,7 @@ use Rattle.c_syntax.specs.Tree.{Init, one, list, Inits, no_inits, more_inits, Ma
 use Rattle.c_syntax.specs.Tree.{First, first_absent, first_expr, first_decl}
 use Rattle.c_syntax.specs.Tree.{Stmt, block, empty, evaluate, only_if, if_else, while_loop, do_loop, for_loop, switch_on, break_off, continue_on, return_from}
 use Rattle.c_syntax.specs.Tree.{BlockItems, no_block_items, block_decl, block_stmt, Stmts, no_stmts, more_stmts, Groups, no_groups, more_groups, Item, decl_item, function_item, Items, no_items, more_items}
-use Rattle.null_calls_expressions_laws.specs.Tabled.{IsAbstract}
+use Rattle.null_calls_statements_laws.specs.Tabled.{IsAbstract}
 
 abbrev mutual
   pub NamesNoType : Expr → Type 0

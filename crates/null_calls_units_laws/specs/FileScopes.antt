@@ -4,7 +4,7 @@ use Rattle.c_rules.specs.Names.{Name, is_among, is_reserved, null_calls}
 use Rattle.c_rules.specs.Scopes.{Env, evaluated, lookup, Before}
 use Rattle.null_calls_rules.specs.Temporaries.{pre_name, post_name}
 use Rattle.c_rules_laws.specs.TypedAlike.{More, plain_scope, instrumented_scope, AreUnreserved, MeanAlike}
-use Rattle.null_calls_expressions_laws.specs.Tabled.{AreNullCalls}
+use Rattle.null_calls_statements_laws.specs.Tabled.{AreNullCalls}
 
 -- In the second one there are the null calls, which are the first functions that are counted, and no other names that are reserved. Tags that stand before in it stand before
 -- in the first one.

@@ -2,7 +2,7 @@
 use Rattle.std.specs.Prelude.{◌≡◌, ℕ, List}
 use Rattle.dm_base.specs.declared.mode.Mode.TheVariants.{Plain, Instrumented}
 use Rattle.c_lexer.specs.declared.token.Token.{Token}
-use Rattle.c_lexer.specs.Spelling.{SpellsTokens}
+use Rattle.c_lexer.specs.TokenSpelling.{SpellsTokens}
 use Rattle.sys_table.specs.declared.sys_result.SysResult.{SysResult}
 use Rattle.c_tree.specs.Tree.{Program}
 use Rattle.c_syntax.specs.Tree.{Items}

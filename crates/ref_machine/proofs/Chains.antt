@@ -45,9 +45,6 @@ joined_end es o = λ i. record { outcome = o; trace = append-nil es i }
 joined_event : (es : List Event) (e : Event) (r : Run) → joined es (event_first e r) ≡ joined (es ++ (e ∷ [])) r
 joined_event es e r = λ i. record { outcome = r.outcome; trace = sym (append_assoc es (e ∷ []) r.trace) i }
 
-joined_none : (es : List Event) (r : Run) → joined (es ++ []) r ≡ joined es r
-joined_none es r = ap (λ es. joined es r) (append-nil es)
-
 module _ (p : Program) (n : ℕ) where
   -- what is kept along the calls
   record Exact (gs : List SysResult) (es : List Event) (waited : Bool) (o : Option Outcome) (f : Future) : Type 0 where

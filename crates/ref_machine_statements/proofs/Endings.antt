@@ -7,17 +7,12 @@ use Rattle.c_tree.specs.declared.tree.TStmt.TheVariants.{Block, For}
 use Rattle.c_tree.specs.View.{stmt_of, stmts_of}
 use Rattle.c_tree.proofs.Rows.{block_is, for_is}
 use Rattle.c_values.specs.Memory.{Objects, ended}
-use Rattle.c_meaning.specs.Meaning.{declared_by, declared_in, without}
+use Rattle.c_meaning.specs.Meaning.{declared_in, without}
 use Rattle.ref_machine_frames.specs.Frames.{locals_of}
 
 without_both : (a : ℕ) (xs ys : List ℕ) (m : Objects) → without a (xs ++ ys) m ≡ without a ys (without a xs m)
 without_both a [] ys m = refl
 without_both a (x ∷ xs) ys m = without_both a xs ys (ended m (record { activation = a; variable = x }))
-
--- one statement more
-pub ended_more : (a : ℕ) (s : TStmt) (left rest : List TStmt) (old new all : Objects) → left ≡ s ∷ rest → new ≡ without a (declared_by (stmt_of s)) old → without a (declared_in (stmts_of left)) old ≡ all → without a (declared_in (stmts_of rest)) new ≡ all
-ended_more a s left rest old new all is e h =
-    ap (without a (declared_in (stmts_of rest))) e ∙ (sym (without_both a (declared_by (stmt_of s)) (declared_in (stmts_of rest)) old) ∙ (ap (λ ss. without a (declared_in (stmts_of ss)) old) (sym is) ∙ h))
 
 -- where a block or the head of a for is left
 pub left_block : (a : ℕ) (v : Vec TStmt Global) (of : TStmt) (ss : List TStmt) (old new : Objects) → of ≡ Block v → ss ≡ v.items → new ≡ without a (declared_in (stmts_of ss)) old → new ≡ without a (locals_of (stmt_of of)) old

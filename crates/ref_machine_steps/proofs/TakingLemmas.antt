@@ -1,21 +1,19 @@
 -- What a recorded result comes to.
 use Rattle.std.proofs.Common.{◌≡◌, ℕ, zero, suc, Bool, true, false, if◌then◌else◌, List, [], ◌∷◌, FitsSigned, w32, ap, sym, ◌∙◌, subst, refl, arith, inl, inr}
-use Rattle.std.specs.Prelude.{Ok, Err}
+use Rattle.std.specs.Prelude.{Ok}
 use Rattle.std.proofs.lemmas.Int.{ints}
 use Rattle.dm_base.specs.declared.event.Event.TheVariants.{Sys}
 use Rattle.sys_table.specs.declared.sys_result.SysResult.{SysResult}
 use Rattle.sys_table.specs.Table.{table, result_of, FitsResult}
 use Rattle.sys_table.specs.Answering.{Answers}
 use Rattle.c_tree.specs.declared.value.Value.{Value}
-use Rattle.c_values.specs.Answers.{gives, undefined}
+use Rattle.c_values.specs.Answers.{gives}
 use Rattle.c_values.specs.Memory.{Objects}
 use Rattle.c_meaning.specs.Results.{State, Stop, after, remembered}
 use Rattle.c_meaning.specs.SystemCalls.{Request as Asked, does_answer, result_value, filled_where, with_records, take_record}
 use Rattle.dm_base.specs.declared.outcome.Outcome.TheVariants.{BadResult as bad_result}
 use Rattle.c_meaning.proofs.Answering.{records_are_judged}
-use Rattle.ref_machine_steps.specs.declared.fault.Fault.{Fault}
 use Rattle.ref_machine_steps.specs.declared.records.Called.TheVariants.{Answered, BadResult}
-use Rattle.ref_machine_steps.specs.Faults.{number_of}
 use Rattle.ref_machine_steps.specs.Taking.{comes_to, Takes}
 
 -- a result that answers is in the range of the call's result
@@ -49,11 +47,6 @@ taken x q r old new v h fills value st rest is =
     by_answer x q r rest st true old (does x q.asked r h) is
     ∙ (ap (λ a. after (Sys x q.arguments r.value ∷ []) (remembered a (result_value (result_of x) r.value) (with_records st rest))) (sym fills)
     ∙ ap (λ v. comes_to (Answered (Sys x q.arguments r.value) (Ok v)) new rest st) (sym value))
-
-pub taken_in_vain : (x : ℕ) (q : Asked) (r : SysResult) (old new : Objects) (fault : Fault) → Answers x q.asked r → undefined (number_of fault) ≡ filled_where q.buffer r.bytes old → Takes old new x q r (Answered (Sys x q.arguments r.value) (Err fault))
-taken_in_vain x q r old new fault h fills st rest is =
-    by_answer x q r rest st true old (does x q.asked r h) is
-    ∙ ap (λ a. after (Sys x q.arguments r.value ∷ []) (remembered a (result_value (result_of x) r.value) (with_records st rest))) (sym fills)
 
 pub not_taken : (x : ℕ) (q : Asked) (r : SysResult) (old new : Objects) → (Answers x q.asked r → ⊥) → Takes old new x q r BadResult
 not_taken x q r old new h st rest is = by_answer x q r rest st false old (does_not x q.asked r h) is

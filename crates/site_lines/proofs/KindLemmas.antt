@@ -1,9 +1,9 @@
 -- The word for a site, told from whether it is marked and from its first candidate.
-use Rattle.std.proofs.Common.{◌≡◌, inl, inr, ℕ, zero, suc, ◌+◌, ◌<◌, ◌≤◌, Bool, true, false, ◌||◌, ◌&&◌, nat_eq, nat_lt, nat_le, if◌then◌else◌, List, [], ◌∷◌, filter, slice_get, Option, Some, None, refl, sym, ap, ◌∙◌, subst, arith}
+use Rattle.std.proofs.Common.{◌≡◌, inl, inr, ℕ, zero, suc, ◌+◌, ◌<◌, ◌≤◌, Bool, true, false, ◌||◌, ◌&&◌, nat_eq, if◌then◌else◌, List, [], ◌∷◌, filter, slice_get, Option, Some, None, refl, sym, ap, ◌∙◌, subst, arith}
 use Rattle.std.specs.Prelude.{codes}
 use Rattle.std.specs.List.{range_with_len}
 use Rattle.std.specs.Cmp.{nat_eq_equiv}
-use Rattle.std.proofs.lemmas.Bool.{false≢true, ltb-true, le-leb, lt-leb}
+use Rattle.std.proofs.lemmas.Bool.{false≢true, le-leb}
 use Rattle.std.proofs.lemmas.Bool.Decides.{eqb_tells}
 use Rattle.c_tree.specs.Functions.{defined, value_type}
 use Rattle.c_tree.specs.Tree.{Program}
@@ -58,25 +58,6 @@ call_reaches p f l k = enough p 0 f (in_range (defined p) 24 f l k)
 abbrev kind_with : Program → Option Callee → List ℕ
 kind_with p o = if is_system_call p o then codes "system" else if marked_where p o then codes "marked" else codes "silent"
 
-less_and_most : (a b : ℕ) (c : Bool) → (nat_lt a b && c) ≡ true → nat_le b a ≡ false
-less_and_most a b c h = by (nat_lt a b) refl h
-  where
-    by : (x : Bool) → nat_lt a b ≡ x → (x && c) ≡ true → nat_le b a ≡ false
-    by true e h = lt-leb b a (ltb-true a b e)
-    by false e h = absurd (false≢true h)
-
-is_marked_kind : (p : Program) (o : Option Callee) → marked_where p o ≡ true → kind_with p o ≡ codes "marked"
-is_marked_kind p None h = absurd (false≢true h)
-is_marked_kind p (Some (Direct f)) h =
-    ap (λ b. if b then codes "system" else if marked_where p (Some (Direct f)) then codes "marked" else codes "silent") (less_and_most f (defined p) (reaches p f) h)
-    ∙ ap (λ b. if b then codes "marked" else codes "silent") h
-is_marked_kind p (Some (Through t)) h = ap (λ b. if b then codes "marked" else codes "silent") h
-
-silent_where : (p : Program) (o : Option Callee) → is_system_call p o ≡ false → marked_where p o ≡ false → kind_with p o ≡ codes "silent"
-silent_where p o e h =
-    ap (λ b. if b then codes "system" else if marked_where p o then codes "marked" else codes "silent") e
-    ∙ ap (λ b. if b then codes "marked" else codes "silent") h
-
 -- a site that isn't marked, whose first candidate is a system call
 is_system_kind : (p : Program) (o : Option Callee) (f : ℕ) (fs : List ℕ) → marked_where p o ≡ false → called_where p o ≡ f ∷ fs → defined p ≤ f → kind_with p o ≡ codes "system"
 is_system_kind p None f fs h e l = absurd (let r : [] ≡ f ∷ fs = e in cc)
@@ -88,33 +69,10 @@ is_system_kind p (Some (Through t)) f fs h e l =
     let comes : reaches p f ≡ true = call_reaches p f l (omega (arith, known)) in
     absurd (or_false (reaches p f) (has_one (reaches p) fs) (sym (ap (has_one (reaches p)) e) ∙ h) comes)
 
--- one whose first candidate is a defined function
-is_defined_kind : (p : Program) (o : Option Callee) (f : ℕ) (fs : List ℕ) → marked_where p o ≡ false → called_where p o ≡ f ∷ fs → f < defined p → kind_with p o ≡ codes "silent"
-is_defined_kind p None f fs h e l = absurd (let r : [] ≡ f ∷ fs = e in cc)
-is_defined_kind p (Some (Direct g)) f fs h e l =
-    let same : g ≡ f = (let r : g ∷ [] ≡ f ∷ fs = e in cc) in
-    silent_where p (Some (Direct g)) (lt-leb (defined p) g (subst (λ x. x < defined p) (sym same) l)) h
-is_defined_kind p (Some (Through t)) f fs h e l = silent_where p (Some (Through t)) refl h
-
--- one without candidates
-is_empty_kind : (p : Program) (o : Option Callee) → marked_where p o ≡ false → called_where p o ≡ [] → kind_with p o ≡ codes "silent"
-is_empty_kind p None h e = refl
-is_empty_kind p (Some (Direct g)) h e = absurd (let r : g ∷ [] ≡ [] = e in cc)
-is_empty_kind p (Some (Through t)) h e = silent_where p (Some (Through t)) refl h
-
 -- ## The same of a site
-
-pub marked_kind : (p : Program) (n : ℕ) → marked p n ≡ true → kind_of_site p n ≡ codes "marked"
-marked_kind p n h = is_marked_kind p (callee_at n (mentions_of_program p)) h
 
 pub system_kind : (p : Program) (n f : ℕ) (fs : List ℕ) → marked p n ≡ false → candidates p n ≡ f ∷ fs → defined p ≤ f → kind_of_site p n ≡ codes "system"
 system_kind p n f fs h e l = is_system_kind p (callee_at n (mentions_of_program p)) f fs h e l
-
-pub defined_kind : (p : Program) (n f : ℕ) (fs : List ℕ) → marked p n ≡ false → candidates p n ≡ f ∷ fs → f < defined p → kind_of_site p n ≡ codes "silent"
-defined_kind p n f fs h e l = is_defined_kind p (callee_at n (mentions_of_program p)) f fs h e l
-
-pub empty_kind : (p : Program) (n : ℕ) → marked p n ≡ false → candidates p n ≡ [] → kind_of_site p n ≡ codes "silent"
-empty_kind p n h e = is_empty_kind p (callee_at n (mentions_of_program p)) h e
 
 from_first : (xs : List ℕ) (f : ℕ) → slice_get xs 0 ≡ Some f → (fs : List ℕ) × (xs ≡ f ∷ fs)
 from_first [] f e = absurd (let r : None ≡ Some f = e in cc)

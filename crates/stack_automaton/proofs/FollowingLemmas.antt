@@ -113,16 +113,6 @@ back_added old new g s x q edges place found adds = adds_same old new _ _ (λ y.
       subst (λ es. Has (λ e. Has (IsReturn g.functions x.node e y) g.calls) es) equal is,
 )) adds
 
-pub no_state : (old : List Fact) (g : Graph) (s : States) (x : Fact) (q : ℕ) → x.place ≡ Held q → s q ≡ None → Adds old old (IsBack g s x)
-no_state old g s x q place none = adds_nothing old _ (λ y (r, at, others, is_others, is).
-    let both : ◌≡◌ {A = Place} (Held r) (Held q) = sym at ∙ place in
-    let same : r ≡ q = cc in
-    let here : Some others ≡ None = sym is_others ∙ ap s same ∙ none in
-    absurd cc)
-
-pub not_held : (old : List Fact) (g : Graph) (s : States) (x : Fact) → ((q : ℕ) → x.place ≡ Held q → ⊥) → Adds old old (IsBack g s x)
-not_held old g s x not = adds_nothing old _ (λ y is. not is.0 is.1)
-
 -- a function ends once
 pub one_end : (functions : List ModelFunction) (x : Fact) (f h : ℕ) → IsEnd functions f x → IsEnd functions h x → f ≡ h
 one_end functions x f h one two = let both : ◌≡◌ {A = Place} (Entered f) (Entered h) = sym one.0 ∙ two.0 in cc

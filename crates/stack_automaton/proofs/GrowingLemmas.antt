@@ -341,10 +341,6 @@ stored_kept mid new done keys grows stored = record {
   };
 }
 
--- a state without edges grows the pool
-pub grows_empty : (old mid new : States) (state : List Edge) → state ≡ [] → Grows old mid → (((e : Edge) → Contains state e → IsThere mid e.to) → Grows mid new) → Grows old new
-grows_empty old mid new state empty before grows = grows_trans old mid new before (grows (λ e has. absurd (let none : Contains [] e = subst (λ es. Contains es e) empty has in omega (arith, none.1))))
-
 -- The event's own state, put under a new key.
 module _ (old mid new : States) (done : Closure) (keys ks : List ℕ) (facts : List Fact) (edges state : List Edge) (same_keys : ks ≡ keys) (same_facts : facts ≡ done.facts.keys) (same_edges : state ≡ edges)
     (grown : Grows old mid) (stored : AreStored mid done keys) (tops : AreTops (functions_of done.links) ks facts edges) (grows : ((e : Edge) → Contains state e → IsThere mid e.to) → Grows mid new) where

@@ -6,7 +6,7 @@ use Rattle.std.specs.FinMap as map
 use Rattle.slab.proofs.SlabLemmas.{Contains-cons, Contains-cons_cases}
 use Rattle.dm_base.specs.declared.event.Event.{Event}
 use Rattle.dm_base.specs.declared.verdict.Step.{Step}
-use Rattle.dm_base.specs.declared.verdict.Step.TheVariants.{Kept, Rejected, Bound}
+use Rattle.dm_base.specs.declared.verdict.Step.TheVariants.{Kept, Rejected}
 use Rattle.dm_base.specs.Trace.{erase}
 use Rattle.flow_model.specs.declared.which.Which.TheVariants.{Stack}
 use Rattle.flow_model.specs.Graph.{Graph, HasFunction}
@@ -58,9 +58,6 @@ noted_nothing p none = record {
   there = λ k has. absurd (none k has);
 }
 
-pub noted_empty : (p : Contents) → p.noted ≡ [] → AreNoted p []
-noted_empty p empty = noted_nothing p (λ k has. let none : Contains [] k = subst (λ ns. Contains ns k) empty has in omega (arith, none.1))
-
 pub notes_still : (old new : Contents) → new.noted ≡ old.noted → AreNoted old [] → AreNoted new []
 notes_still old new same notes = noted_nothing new (λ k has. no_notes old notes k (subst (λ ns. Contains ns k) same has))
 
@@ -81,10 +78,6 @@ key_live m p g bound h key was same stands = subst (IsLive (edges_at p) p.final)
 pub refused : (m : Position) (p : Contents) (g : Graph) (bound : ℕ) (h : List Event) (e : Event) → m.answer ≡ Rejected → StandsFor m p g bound h → StandsFor m p g bound (h ++ e ∷ [])
 refused m p g bound h e same (kept is holds) = let both : Kept ≡ Rejected = sym is ∙ same in absurd cc
 refused m p g bound h e same (rejected k is at) = rejected k is (rejected_stays Stack g bound h e k at)
-
-pub never_bound : (m : Position) (p : Contents) (g : Graph) (bound : ℕ) (h : List Event) → m.answer ≡ Bound → StandsFor m p g bound h → ⊥
-never_bound m p g bound h same (kept is holds) = let both : Kept ≡ Bound = sym is ∙ same in absurd cc
-never_bound m p g bound h same (rejected k is at) = let both : Rejected ≡ Bound = sym is ∙ same in absurd cc
 
 -- One event more.
 module _ (m n : Position) (old new : Contents) (g : Graph) (bound : ℕ) (h : List Event) (e : Event) (pool : IsPool old) (final : new.final ≡ old.final) (was : m.answer ≡ Kept) (stands : StandsFor m old g bound h) where

@@ -2,10 +2,10 @@
 use Rattle.std.specs.Prelude.{◌≡◌, ℕ, ℤ, pos, List, [], ◌∷◌, ◌++◌, Option, None, Some, codes, slice_index_or, FitsSigned}
 use Rattle.std.specs.Int.{FitsUnsigned, w32}
 use Rattle.std.specs.List.{AllZip}
-use Rattle.dm_base.specs.declared.event.Arg.{Arg}
-use Rattle.dm_base.specs.declared.event.Arg.TheVariants as args
-use Rattle.dm_base.specs.declared.event.Event.{Event}
-use Rattle.dm_base.specs.declared.event.Event.TheVariants.{Sys, Pre, Post}
+use Rattle.line_text.specs.Arg.{Arg}
+use Rattle.line_text.specs.Arg.TheVariants as args
+use Rattle.line_text.specs.Event.{Event}
+use Rattle.line_text.specs.Event.TheVariants.{Sys, Pre, Post}
 use Rattle.sys_table.specs.declared.kinds.ArgKind.{ArgKind}
 use Rattle.sys_table.specs.declared.kinds.ArgKind.TheVariants.{Signed, Unsigned, Bytes}
 use Rattle.sys_table.specs.declared.kinds.ResultKind.{ResultKind}

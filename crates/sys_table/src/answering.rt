@@ -2,7 +2,7 @@ ghost use Rattle.std.specs.Prelude.{◌↔◌, IsTrue};
 ghost use Rattle.sys_table.specs.Answering.{Answers, AnswersRead, AnswersWrite, AnswersOther};
 
 use crate::{SysResult, result_kind};
-use dm_base::SysName;
+use line_text::SysName;
 
 /// Whether the record answers the system call. `read` and `write` asked for `asked` bytes; for other
 /// calls that number is of no account. A record answers `read` where it is −1 without data, or its

@@ -3,7 +3,7 @@ ghost use Rattle.std.specs.List.{AllZip};
 ghost use Rattle.sys_table.specs.Table.{FitsArgument, IsRecorded};
 
 use crate::{ArgKind, argument_kinds, result_kind};
-use dm_base::{ArgList, Event};
+use line_text::{ArgList, Event};
 
 /// Whether a trace records the event: a null call, or a system call with as many arguments as the
 /// table says, each of its kind and in its range, and with a result in the range of the result's

@@ -1,7 +1,7 @@
 ghost use Rattle.std.specs.Prelude.{◌↔◌, IsTrue};
 ghost use Rattle.sys_table.specs.Table.{FitsArgument, FitsNumber, FitsResult};
 
-use dm_base::Arg;
+use line_text::Arg;
 
 /// The kind of an argument that a trace records of a system call.
 #[derive(Clone, Copy, Debug, PartialEq, Eq)]

@@ -5,8 +5,7 @@ ghost use Rattle.line_text.specs.declared.miss.Miss.TheVariants.{OutOfMemory as 
 ghost use Rattle.sys_table.specs.Table.{name_of, name_word};
 
 use crate::{find, name_text};
-use dm_base::SysName;
-use line_text::{Cursor, Miss};
+use line_text::{Cursor, Miss, SysName};
 
 /// Takes the name of a system call whose number in the table is at least `least`, and the space after
 /// it.

@@ -3,7 +3,7 @@ ghost use Rattle.std.specs.List.{AllZip};
 ghost use Rattle.sys_table.specs.Table.{FitsEntry, IsRight};
 
 use crate::{ArgKind, argument_kinds};
-use dm_base::{Pattern, SysName};
+use line_text::{Pattern, SysName};
 
 /// Whether the pattern is right for the system call: it has as many entries as the call has
 /// recorded arguments, bytes have None, and each number is in its argument's range. It takes no

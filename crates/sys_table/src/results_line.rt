@@ -6,8 +6,7 @@ ghost use Rattle.sys_table.specs.ResultsLines.{HasData, HasNoData, IsResultsLine
 ghost use Rattle.sys_table.specs.ResultsText.{IsRightResult, result_line, result_text};
 
 use crate::SysResult;
-use dm_base::Bytes;
-use line_text::{Cursor, Miss};
+use line_text::{Bytes, Cursor, Miss};
 use std::alloc::Global;
 
 /// A line of a file of results after the first.

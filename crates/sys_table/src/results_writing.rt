@@ -3,8 +3,7 @@ ghost use Rattle.hex.specs.Hex.{IsBytes};
 ghost use Rattle.sys_table.specs.ResultsText.{AreResults, IsValueInRange, data_text, result_line};
 
 use crate::SysResult;
-use dm_base::OutOfMemory;
-use line_text::push_signed;
+use line_text::{OutOfMemory, push_signed};
 use std::alloc::Global;
 
 /// The text of a file with these records.

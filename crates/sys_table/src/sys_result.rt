@@ -1,4 +1,4 @@
-use dm_base::Bytes;
+use line_text::Bytes;
 
 /// The recorded result of a system call.
 #[derive(Drop)]

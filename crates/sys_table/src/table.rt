@@ -4,7 +4,7 @@ ghost use Rattle.sys_table.specs.Table.{name_of, recorded_of, result_of};
 use crate::ArgKind::{Bytes, Signed, Unsigned};
 use crate::ResultKind::{Int, UnsignedInt, Void};
 use crate::{ArgKind, ResultKind};
-use dm_base::SysName;
+use line_text::SysName;
 
 // One system call of the table.
 struct SysCall {

@@ -3,7 +3,7 @@ use Rattle.std.proofs.Common.{◌≡◌, ℕ, ◌+◌, ◌-◌, ◌<◌, ◌≤�
 use Rattle.std.proofs.lemmas.Bool.{true≢false, ne_eqb, eq-eqb}
 use Rattle.std.proofs.lemmas.List.{take_more, drop-append-le, length-take-le, drop_all, at_drop_more, at_drop_all, take_all, take_min, drop_min}
 use Rattle.std.specs.List.{list_any}
-use Rattle.text_places.specs.Lines.{is_feed, begun_with, ended_lines, last_line, first_line, part_before, part_from}
+use Rattle.text_places.specs.Lines.{is_feed, begun_with, ended_lines, last_line, first_line, part_from}
 
 -- bytes without a line feed end no line, and are all behind the last one
 
@@ -128,11 +128,6 @@ pub first_line_all : (bytes : List ℕ) (i : ℕ) → length bytes ≤ i → tak
 first_line_all bytes i all = ap (λ w. take i bytes ++ w) (at_drop_all first_line bytes i all) ∙ append-nil (take i bytes) ∙ take_all i bytes all
 
 -- the parts of a line round a place, by cuts within the text
-
-pub part_before_cut : (text front : List ℕ) (p end begin : ℕ) → end ≡ min p (length text) → front ≡ take end text → begin ≡ min (p - 60) (length front) → last_line (drop begin front) ≡ part_before text p
-part_before_cut text front p end begin is_end is_front is_begin =
-    let whole : front ≡ take p text = is_front ∙ ap (λ n. take n text) is_end ∙ take_min p text in
-    ap last_line (ap (λ n. drop n front) is_begin ∙ drop_min (p - 60) front ∙ ap (drop (p - 60)) whole)
 
 pub part_from_cut : (text rest : List ℕ) (p end count : ℕ) → end ≡ min p (length text) → rest ≡ drop end text → count ≡ min (length rest) 60 → first_line (take count rest) ≡ part_from text p
 part_from_cut text rest p end count is_end is_rest is_count =

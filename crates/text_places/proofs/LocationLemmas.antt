@@ -1,7 +1,7 @@
 -- How far a text has been passed, and that a location is of one place.
 use Rattle.std.proofs.Common.{◌≡◌, ◌⊎◌, ℕ, zero, suc, ◌+◌, ◌-◌, ◌<◌, ◌≤◌, ◌^◌, Bool, true, false, cond, List, [], ◌∷◌, ◌++◌, length, take, drop, get_or, None, fold, Contains, refl, sym, ◌∙◌, ap, subst, inl, inr, arith}
 use Rattle.std.specs.List.{list_any}
-use Rattle.std.proofs.lemmas.List.{take_more, take-append-drop, length-take-le, length-drop, drop-take}
+use Rattle.std.proofs.lemmas.List.{take_more, take-append-drop, length-take-le, drop-take}
 use Rattle.std.proofs.lemmas.List.Sums.{fold_push}
 use Rattle.text_places.specs.Lines.{is_feed, begun_with, ended_lines, last_line}
 use Rattle.text_places.specs.Locations.{SourceLocation, told_or_next, next_line, line_behind, located, HasNoMarker, LocationsArePlaces}
@@ -41,12 +41,6 @@ module _ (first text file : List ℕ) (line begin seen : ℕ) (passed : HasPasse
 
 pub none_passed : (file text : List ℕ) → HasPassed file text file 1 0 0
 none_passed file text = record { within = omega arith; begun = omega arith; last = refl; told = refl; small = omega arith }
-
--- where the bytes end that have been passed
-pub located_here : (first text file : List ℕ) (line begin seen : ℕ) → HasPassed first text file line begin seen → record { file = file; line = line; column = seen - begin + 1 } ≡ located first text seen
-located_here first text file line begin seen passed =
-    let long : length (last_line (take seen text)) ≡ seen - begin = ap length passed.last ∙ length-drop begin (take seen text) ∙ ap (λ n. n - begin) (length-take-le seen text passed.within) in
-    λ i. record { file = (sym passed.told i).file; line = (sym passed.told i).line; column = sym long i + 1 }
 
 -- lines of which none is a line marker line
 counted : (lines : List (List ℕ)) (here : FileLine) → ((line : List ℕ) → Contains lines line → marker_of line ≡ None) → (fold next_line here lines).line ≡ here.line + length lines

@@ -8,7 +8,7 @@ use Rattle.std.proofs.lemmas.Bool.{and_parts, and_from, or_cases, ltb-true, lt-l
 use Rattle.std.proofs.lemmas.Fmt.{digits_decimal, digits_value-decimal}
 use Rattle.std.proofs.lemmas.List.{take-append-drop, take_more, drop_more, at_drop_more, length-take-le, take_at, drop_at, get_or_append_left, get_or_at, length-append}
 use Rattle.std.proofs.lemmas.List.Sums.{position_or_len_is}
-use Rattle.std.proofs.lemmas.Str.Parse.{IsNumeralModel, numerals_by_value, tells_digits, digit_at}
+use Rattle.std.proofs.lemmas.Str.Parse.{digit_at}
 use lib.Pointwise.{bytes_decides}
 use Rattle.text_places.specs.Markers.{FileLine, is_blank, is_tail, is_flag, flags_text, IsMarkerLine, behind_margin, behind, number_of, later_or_first, last_quote, ends_marker, quoted_line, numbered_line, marker_of, MarkersAreTold}
 use Rattle.dm_base.proofs.Decimals.{own}
@@ -42,9 +42,6 @@ margin_ends line i within ink =
     at_drop_more behind_margin line i 0 within ∙ ap (λ t. cond t (behind_margin (drop (i + 1) line)) (get_or line i 0 ∷ drop (i + 1) line)) ink ∙ sym (drop_more line i 0 within)
 
 -- words
-
-pub behind_at : (word bytes : List ℕ) (t : Bool) → bytes_eq (take (length word) bytes) word ≡ t → behind word bytes ≡ cond t (Some (drop (length word) bytes)) None
-behind_at word bytes t is = ap (λ u. cond u (Some (drop (length word) bytes)) None) is
 
 pub behind_from : (word bytes rest : List ℕ) → behind word bytes ≡ Some rest → bytes ≡ word ++ rest
 behind_from word bytes rest = at (bytes_eq (take (length word) bytes) word) refl

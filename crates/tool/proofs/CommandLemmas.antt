@@ -6,8 +6,8 @@ use Rattle.dm_base.specs.declared.mode.Mode.TheVariants.{Plain}
 use Rattle.dm_base.specs.declared.verdict.Status.{Status}
 use Rattle.dm_base.specs.declared.verdict.Status.TheVariants as statuses
 use Rattle.dm_io.specs.Store.{Files}
-use Rattle.tool_audit.proofs.FileLemmas.{audit_ready, audit_apart, audit_status, audit_made}
-use Rattle.tool_audit.specs.Audit.{IsAuditStatus}
+use Rattle.tool_selftest.proofs.FileLemmas.{audit_ready, audit_apart, audit_status, audit_made}
+use Rattle.tool_selftest.specs.Audit.{IsAuditStatus}
 use Rattle.certify_facts.specs.declared.fact.Judge.{Judge as CertifiedModel}
 use Rattle.certify_facts.specs.declared.fact.Judge.TheVariants as judges
 use Rattle.flow_model.specs.declared.which.Which.{Which}
@@ -28,7 +28,7 @@ use Rattle.tool_reading.proofs.FileLemmas.{picture_ready, picture_apart, picture
 use Rattle.tool_run.proofs.FileLemmas.{run_ready, run_apart, run_status}
 use Rattle.tool_explain.proofs.ExplainLemmas.{explain_ready, explained_apart, explain_status}
 use Rattle.tool_sites.proofs.FileLemmas.{sites_ready, sites_apart}
-use Rattle.tool_texts.proofs.FileLemmas.{check_ready, checked_apart, check_status, model_ready, modelled_apart, model_status}
+use Rattle.tool_explain.proofs.FileLemmas.{check_ready, checked_apart, check_status, model_ready, modelled_apart, model_status}
 use Rattle.tool.specs.Command.{Command, IsCommandLine, IsAskedBy, judge_word}
 use Rattle.tool.specs.Command.{FileCommand, TraceCommand, file_word, trace_word, WordCommand, command_word}
 use Rattle.tool.specs.Command.FileCommand.{Check, Depth, Explain, Inline, Instrument, Model, Picture, Sites, Upgrade}

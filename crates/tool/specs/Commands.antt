@@ -13,7 +13,7 @@ use Rattle.tool.specs.Command.WordCommand.{Help, Codes}
 use Rattle.tool.specs.Command.TraceCommand.{Expected, Judge, Watch}
 use Rattle.tool_certify.specs.Certify.{TellsCertificate, RefusesToCertify, IsReadyToCertify}
 use Rattle.tool_certify.specs.Confirm.{TellsConfirmed, RefusesToConfirm, LacksToConfirm, IsReadyToConfirm}
-use Rattle.tool_audit.specs.Audit.{Audits, IsAuditStatus, RefusesToAudit, LacksToAudit, IsReadyToAudit}
+use Rattle.tool_selftest.specs.Audit.{Audits, IsAuditStatus, RefusesToAudit, LacksToAudit, IsReadyToAudit}
 use Rattle.tool_instrument.specs.Instrument.{Instruments, RefusesToInstrument, IsReadyToInstrument}
 use Rattle.tool_fleet.specs.Fleet.{RunsFleet, RefusesFleet, LacksForFleet, IsReadyForFleet}
 use Rattle.tool_inline.specs.Depth.{TellsDepth, IsReadyToTellDepth}
@@ -30,9 +30,9 @@ use Rattle.tool_run.specs.Run.{Runs, RefusesToRun, LacksToRun, IsReadyToRun}
 use Rattle.tool_selftest.specs.Selftest.{TellsSelftest}
 use Rattle.tool_explain.specs.Explained.{RefusesToExplain}
 use Rattle.tool_sites.specs.Sites.{TellsSites, IsReadyToTellSites}
-use Rattle.tool_texts.specs.Check.{Checks, IsReadyToCheck}
-use Rattle.tool_texts.specs.Modelled.{Models, RefusesToModel, IsReadyToModel}
-use Rattle.tool_sources.specs.Sources.{RefusesSource}
+use Rattle.tool_explain.specs.Check.{Checks, IsReadyToCheck}
+use Rattle.tool_explain.specs.Modelled.{Models, RefusesToModel, IsReadyToModel}
+use Rattle.tool_explain.specs.Sources.{RefusesSource}
 
 abbrev pub version_text : List ℕ
 version_text = codes "dyckmon 1\n"

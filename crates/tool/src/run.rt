@@ -9,10 +9,10 @@ use crate::command::{Command, command_of};
 use dm_base::{OutOfMemory, Status};
 use dm_io::{HonestSink, HonestStore, Sink, Store, write_whole};
 use std::alloc::Global;
-use tool_audit::audit_source;
+use tool_selftest::{audit_source, self_test};
 use tool_certify::{certify_trace, confirm_certificate};
 use tool_expected::expected_command;
-use tool_explain::explain_source;
+use tool_explain::{check_source, explain_source, model_of_source};
 use tool_fleet::run_fleet;
 use tool_frame::{Finished, Stop, refuse};
 use tool_inline::{depth_of_model, inlined_model};
@@ -20,9 +20,7 @@ use tool_instrument::instrument_source;
 use tool_models::{judge, measure, upgrade, watch_traces};
 use tool_reading::{picture_of_model, tell_codes};
 use tool_run::run_source;
-use tool_selftest::self_test;
 use tool_sites::sites_of_source;
-use tool_texts::{check_source, model_of_source};
 
 const VERSION_TEXT: &[u8] = b"dyckmon 1\n";
 

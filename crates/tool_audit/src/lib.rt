@@ -8,3 +8,4 @@ mod programs;
 mod reports;
 
 pub use audit::{Audited, audit_program, audit_source};
+pub use headline::texts_raise_no_alarm;

@@ -4,7 +4,7 @@ use Rattle.std.proofs.Common.{◌≡◌, ◌≢◌, ◌⊎◌, ℕ, ◌+◌, ◌
 use Rattle.std.specs.Prelude.{codes, replicate}
 use Rattle.code_reasons.specs.Reasons.{reason_of}
 use Rattle.std.proofs.lemmas.List.{take_all, take-take, drop-take, length-take}
-use Rattle.c_lexer.specs.Spelling.{longest_text}
+use Rattle.c_lexer.specs.TokenSpelling.{longest_text}
 use Rattle.c_rules.specs.Accepted.{IsAcceptedAs}
 use Rattle.c_tree.specs.Tree.{Program}
 use Rattle.dm_base.specs.declared.mode.Mode.TheVariants.{Plain}

@@ -7,3 +7,4 @@ mod laws;
 
 pub use explain_command::explain_source;
 pub use laws::explain_refuses_as_check;
+pub use tool_texts::{check_source, model_of_source};

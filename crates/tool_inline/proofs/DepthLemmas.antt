@@ -1,20 +1,11 @@
 -- What `depth` makes of its file and why it refuses it never hold both, and it is refused with one status.
-use Rattle.std.proofs.Common.{◌≡◌, ℕ, List, Option, Some, None, IfSome}
+use Rattle.std.proofs.Common.{◌≡◌, ℕ, List, Option, Some, None}
 use Rattle.dm_base.specs.declared.verdict.Status.{Status}
 use Rattle.dm_base.specs.declared.verdict.Status.TheVariants as statuses
-use Rattle.dm_io.specs.Store.{Files, file_at}
-use Rattle.flow_model.specs.Graph.{Graph}
-use Rattle.inline_model.specs.declared.depths.Depth.{Depth}
-use Rattle.inline_model.specs.Depth.{HasLength, HasCycle, HasDepth}
-use Rattle.model_file.specs.Refusal.{IsModel}
+use Rattle.dm_io.specs.Store.{Files}
 use Rattle.tool_files.specs.Inputs.{RefusesModel}
 use Rattle.tool_files.proofs.InputLemmas.{model_or_refused}
-use Rattle.tool_inline.specs.Depth.{TellsDepth, IsReadyToTellDepth, depth_text}
-
-pub tells_depth : (told : Option Files) (name text : List ℕ) (g : Graph) (d : Depth) → IfSome told (λ files. IsModel (file_at files name) g) → HasLength g d → HasCycle g d → HasDepth g d → text ≡ depth_text d → IfSome told (λ files. TellsDepth files name text)
-tells_depth None name text g d is_model length cycle words is = tt
-tells_depth (Some files) name text g d is_model length cycle words is =
-    record { graph = g; depth = d; is_model = is_model; length = length; cycle = cycle; words = words; is = is }
+use Rattle.tool_inline.specs.Depth.{TellsDepth, IsReadyToTellDepth}
 
 pub depth_ready : (told : Option Files) (name line : List ℕ) (status : Status) → IsReadyToTellDepth told name → RefusesModel told name status line → ⊥
 depth_ready None name line status ready refuses = ready

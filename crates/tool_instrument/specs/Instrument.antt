@@ -5,7 +5,7 @@ use Rattle.dm_base.specs.declared.verdict.Status.{Status}
 use Rattle.dm_base.specs.declared.verdict.Status.TheVariants as statuses
 use Rattle.dm_io.specs.Store.{Files, file_at}
 use Rattle.c_lexer.specs.declared.token.Token.{Token}
-use Rattle.c_lexer.specs.Spelling.{SpellsTokens}
+use Rattle.c_lexer.specs.TokenSpelling.{SpellsTokens}
 use Rattle.c_syntax.specs.Spelling.{SpellsUnit}
 use Rattle.c_syntax.specs.Tree.{Items}
 use Rattle.c_rules.specs.Accepted.{IsAcceptedAs}

@@ -1,5 +1,5 @@
 -- What is found of processes, one after another.
-use Rattle.std.proofs.Common.{◌≡◌, ℕ, ◌+◌, ◌-◌, ◌<◌, true, nat_eq, List, [], ◌∷◌, ◌++◌, length, take, get_or, map, Option, refl, sym, ◌∙◌, ap, subst, append-nil, append_assoc}
+use Rattle.std.proofs.Common.{◌≡◌, ℕ, ◌+◌, ◌-◌, ◌<◌, true, nat_eq, List, [], ◌∷◌, ◌++◌, length, take, get_or, Option, refl, sym, ◌∙◌, ap, subst, append-nil, append_assoc}
 use Rattle.std.specs.Prelude.{codes, decimal}
 use Rattle.std.specs.List.{AllZip}
 use Rattle.std.proofs.lemmas.List.{take_more, map-append}
@@ -101,14 +101,6 @@ statuses_next vs i d status one next less is single ends =
     ∙ ap (worse (status_of_all (take i vs))) (sym (worse_alone (get_or vs i d)))
     ∙ sym (statuses_append (take i vs) (get_or vs i d ∷ []))
     ∙ ap status_of_all (sym (take_more vs i d less))
-
--- the processes of one verdict more
-pub processes_next : (vs : List (ℕ × Verdict)) (i : ℕ) (d : ℕ × Verdict) (old new : List ℕ) → i < length vs → old ≡ map (λ v. v.0) (take i vs) → new ≡ old ++ (get_or vs i d).0 ∷ [] → new ≡ map (λ v. v.0) (take (i + 1) vs)
-processes_next vs i d old new less is grown =
-    grown
-    ∙ ap (λ (ps : List ℕ). ps ++ (get_or vs i d).0 ∷ []) is
-    ∙ sym (map-append (λ v. v.0) (take i vs) (get_or vs i d ∷ []))
-    ∙ ap (map (λ v. v.0)) (sym (take_more vs i d less))
 
 -- what was found of all processes, and its sum
 pub all_watched : (monitors : List Which) (g : Graph) (bound : ℕ) (version : TracesVersion) (records : List Record) (found : Findings) (status : Status) (text : List ℕ) → AreFound g bound (λ p. own version p records) (asked_about monitors (firsts records)) found → status ≡ status_of_all found.verdicts.items → text ≡ found.text.items ++ sum_text found.verdicts.items → AreAllWatched monitors g bound version records status text

@@ -26,9 +26,6 @@ statuses_finished : (vs : List Verdict) → IsFinished (status_of_all vs)
 statuses_finished [] = inl refl
 statuses_finished (v ∷ vs) = worse_finished (status_of v) (status_of_all vs) (status_finished v) (statuses_finished vs)
 
-pub judged_finished : (monitors : List Which) (g : Graph) (bound : ℕ) (t : List Event) (status : Status) (text : List ℕ) → AreJudged monitors g bound t status text → IsFinished status
-judged_finished monitors g bound t status text judged = subst IsFinished (sym judged.ends) (statuses_finished judged.verdicts)
-
 -- the model and the trace of the files
 pub judges : (told : Option Files) (model trace text : List ℕ) (g : Graph) (monitors : List Which) (bound : ℕ) (status : Status) (events : List Event)
     → IfSome told (λ files. IsModel (file_at files model) g)

@@ -81,6 +81,3 @@ pub measures : (told : Option Files) (model trace text : List ℕ) (g : Graph) (
 measures None model trace text g monitors status events is_model is_trace measured = tt
 measures (Some files) model trace text g monitors status events is_model is_trace measured =
     record { graph = g; events = events; end = is_trace.0; is_model = is_model; is_trace = is_trace.1; measured = measured }
-
-pub measured_done : (monitors : List Which) (g : Graph) (t : List Event) (status : Status) (text : List ℕ) → AreMeasured monitors g t status text → status ≡ Done
-measured_done monitors g t status text measured = measured.ends

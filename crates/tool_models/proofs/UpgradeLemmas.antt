@@ -1,20 +1,13 @@
 -- What `upgrade` makes of a file that was read.
-use Rattle.std.proofs.Common.{◌≡◌, ℕ, ◌<◌, ◌≤◌, List, length, Option, Some, None, IfSome, inl, inr, refl}
+use Rattle.std.proofs.Common.{◌≡◌, ℕ, ◌<◌, List, length, Option, Some, None, IfSome, inr, refl}
 use Rattle.dm_base.specs.declared.verdict.Status.TheVariants as statuses
-use Rattle.dm_io.specs.Store.{Files, file_at, IsMissing}
+use Rattle.dm_io.specs.Store.{Files, file_at}
 use Rattle.flow_model.specs.Graph.{Graph}
 use Rattle.model_file.specs.declared.version.ModelVersion.TheVariants.{Two}
 use Rattle.model_file.specs.ModelText.{model_text}
 use Rattle.model_file.specs.Refusal.{longest, IsModel}
-use Rattle.tool_frame.specs.declared.stop.Stop.{Stop}
 use Rattle.tool_frame.specs.declared.stop.Stop.TheVariants as stops
-use Rattle.tool_files.specs.Reading.{StopsModel}
-use Rattle.tool_frame.specs.Stop.{Stops}
-use Rattle.tool_models.specs.Upgrade.{Upgrades, RefusesToUpgrade, too_long}
-
-pub upgrades : (told : Option Files) (name text : List ℕ) (g : Graph) → IfSome told (λ files. IsModel (file_at files name) g) → text ≡ model_text Two g → length text ≤ longest → IfSome told (λ files. Upgrades files name text)
-upgrades None name text g is_model is short = tt
-upgrades (Some files) name text g is_model is short = (g, is_model, is, short)
+use Rattle.tool_models.specs.Upgrade.{RefusesToUpgrade, too_long}
 
 pub is_too_long : (told : Option Files) (name line : List ℕ) (g : Graph) → IfSome told (λ files. IsModel (file_at files name) g) → longest < length (model_text Two g) → line ≡ too_long → RefusesToUpgrade told name statuses.ModelRefused line
 is_too_long told name line g is_model long is = inr (refl, is, with_model told is_model)
@@ -22,13 +15,3 @@ is_too_long told name line g is_model long is = inr (refl, is, with_model told i
     with_model : (t : Option Files) → IfSome t (λ files. IsModel (file_at files name) g) → IfSome t (λ files. (h : Graph) × IsModel (file_at files name) h × (longest < length (model_text Two h)))
     with_model None is = tt
     with_model (Some files) is = (g, is, long)
-
--- why upgrading stopped before the model was read
-pub stops_upgrading : (told : Option Files) (name : List ℕ) (stop : Stop) (before after : ℕ) → StopsModel stop told name before after → Stops stop (RefusesToUpgrade told name) (IsMissing told name) before after
-stops_upgrading told name stops.Usage before after why = why
-stops_upgrading told name (stops.Source line) before after why = absurd why
-stops_upgrading told name (stops.Model line) before after why = inl why
-stops_upgrading told name (stops.Record line) before after why = absurd why
-stops_upgrading told name stops.Read before after why = why
-stops_upgrading told name stops.Write before after why = why
-stops_upgrading told name stops.OutOfMemory before after why = tt

@@ -1,14 +1,11 @@
 -- What `picture` makes of a file that was read.
-use Rattle.std.proofs.Common.{◌≡◌, ℕ, ◌<◌, ◌≤◌, List, length, Option, Some, None, IfSome, inl, inr, refl}
+use Rattle.std.proofs.Common.{◌≡◌, ℕ, ◌<◌, ◌≤◌, List, length, Option, Some, None, IfSome, inr, refl}
 use Rattle.dm_base.specs.declared.verdict.Status.TheVariants as statuses
-use Rattle.dm_io.specs.Store.{Files, file_at, IsMissing}
+use Rattle.dm_io.specs.Store.{Files, file_at}
 use Rattle.flow_model.specs.Graph.{Graph}
 use Rattle.model_file.specs.Refusal.{longest, IsModel}
 use Rattle.model_picture.specs.Picture.{picture}
-use Rattle.tool_frame.specs.declared.stop.Stop.{Stop}
 use Rattle.tool_frame.specs.declared.stop.Stop.TheVariants as stops
-use Rattle.tool_files.specs.Reading.{StopsModel}
-use Rattle.tool_frame.specs.Stop.{Stops}
 use Rattle.tool_reading.specs.Picture.{Pictures, RefusesToPicture, too_long}
 
 pub pictures : (told : Option Files) (name text : List ℕ) (g : Graph) → IfSome told (λ files. IsModel (file_at files name) g) → text ≡ picture g → length text ≤ longest → IfSome told (λ files. Pictures files name text)
@@ -21,13 +18,3 @@ is_too_long told name line g is_model long is = inr (refl, is, with_model told i
     with_model : (t : Option Files) → IfSome t (λ files. IsModel (file_at files name) g) → IfSome t (λ files. (h : Graph) × IsModel (file_at files name) h × (longest < length (picture h)))
     with_model None is = tt
     with_model (Some files) is = (g, is, long)
-
--- why no picture was made before the model was read
-pub stops_picturing : (told : Option Files) (name : List ℕ) (stop : Stop) (before after : ℕ) → StopsModel stop told name before after → Stops stop (RefusesToPicture told name) (IsMissing told name) before after
-stops_picturing told name stops.Usage before after why = why
-stops_picturing told name (stops.Source line) before after why = absurd why
-stops_picturing told name (stops.Model line) before after why = inl why
-stops_picturing told name (stops.Record line) before after why = absurd why
-stops_picturing told name stops.Read before after why = why
-stops_picturing told name stops.Write before after why = why
-stops_picturing told name stops.OutOfMemory before after why = tt

@@ -16,7 +16,7 @@ use Rattle.generated_program.specs.Generator.{generated_source, generated_result
 use Rattle.generated_program.specs.Typed.{generated_program}
 use Rattle.generated_program_bounds_laws.specs.Bounds.{GeneratedCallsAreFew, GeneratedProgramsAreSmall}
 use Rattle.generated_program_laws.specs.Accepted.{GeneratedTextsAreAccepted}
-use Rattle.headline.specs.AcceptedRuns.{TextsRaiseNoAlarm}
+use Rattle.tool_audit.specs.AcceptedRuns.{TextsRaiseNoAlarm}
 use Rattle.report.specs.Precision.{next_text}
 use Rattle.sys_table.specs.declared.sys_result.SysResult.{SysResult}
 use Rattle.tool_audit.specs.Audit.{AreReported, AreVerdicts, IsAcceptedOrBound, lines_of}

@@ -1,2 +1,3 @@
 pub mod Selftest
 pub mod Summary
+pub use Rattle.tool_audit.specs.Audit

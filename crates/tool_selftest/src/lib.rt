@@ -5,3 +5,4 @@ mod selftest;
 mod summary;
 
 pub use selftest::self_test;
+pub use tool_audit::audit_source;

@@ -4,7 +4,7 @@ use Rattle.std.proofs.lemmas.List.{take_all, length-take}
 use Rattle.dm_base.specs.declared.mode.Mode.TheVariants.{Plain}
 use Rattle.dm_base.specs.declared.verdict.Status.{Status}
 use Rattle.dm_io.specs.Store.{Files, file_at, ReadsWhole}
-use Rattle.c_lexer.specs.Spelling.{longest_text}
+use Rattle.c_lexer.specs.TokenSpelling.{longest_text}
 use Rattle.c_syntax.specs.UnitView.{items_of}
 use Rattle.c_tree.specs.View.{program_of}
 use Rattle.tool_sources.specs.declared.source.Source.{Source}

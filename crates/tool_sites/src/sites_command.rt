@@ -1,5 +1,5 @@
 ghost use Rattle.std.specs.Prelude.{◌≡◌, ◌≤◌, ◌+◌, IfOk, IfErr, IfSome};
-ghost use Rattle.c_lexer.specs.Spelling.{longest_text};
+ghost use Rattle.c_lexer.specs.TokenSpelling.{longest_text};
 ghost use Rattle.dm_base.specs.declared.mode.Mode.TheVariants.{Plain};
 ghost use Rattle.dm_io.specs.Store.{IsMissing};
 ghost use Rattle.tool_frame.specs.Stop.{Stops};

@@ -3,7 +3,7 @@ use Rattle.std.proofs.Common.{◌≡◌, ◌≢◌, ℕ, ◌+◌, ◌≤◌, Lis
 use Rattle.std.proofs.lemmas.List.{take_all, length-take}
 use Rattle.dm_base.specs.declared.mode.Mode.{Mode}
 use Rattle.dm_io.specs.Store.{Files, file_at, ReadsWhole}
-use Rattle.c_lexer.specs.Spelling.{longest_text}
+use Rattle.c_lexer.specs.TokenSpelling.{longest_text}
 use Rattle.c_rules.specs.Accepted.{IsAcceptedAs}
 use Rattle.c_tree.specs.Tree.{Program}
 use Rattle.tool_frame.specs.declared.stop.Stop.{Stop}

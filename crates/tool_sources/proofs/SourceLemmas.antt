@@ -8,7 +8,7 @@ use Rattle.c_lexer.specs.declared.error.LexError.{LexError}
 use Rattle.c_lexer.specs.declared.error.LexError.TheVariants as lexes
 use Rattle.c_lexer.specs.declared.token.Token.{Token}
 use Rattle.c_lexer.specs.Refusals as lexer
-use Rattle.c_lexer.specs.Spelling.{SpellsTokens}
+use Rattle.c_lexer.specs.TokenSpelling.{SpellsTokens}
 use Rattle.c_lexer.proofs.OneTokenText.{one_reading}
 use Rattle.c_parser.specs.declared.error.ParseError.{ParseError}
 use Rattle.c_parser.specs.declared.error.ParseError.TheVariants as parses
@@ -27,7 +27,7 @@ use Rattle.c_tree.specs.View.{program_of}
 use Rattle.tool_sources.specs.declared.source.Source.{Source}
 use Rattle.tool_sources.specs.Errors.{of_lexer, of_parser, of_checker}
 use Rattle.tool_sources.specs.Sources.{IsSourceOf, IsSourceCause, HasNoProgram}
-use Rattle.c_rules_laws.proofs.Texts.{one_program}
+use Rattle.c_check.proofs.Texts.{one_program}
 
 -- one list of tokens, one unit, one program
 

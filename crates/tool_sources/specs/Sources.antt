@@ -7,7 +7,7 @@ use Rattle.dm_io.specs.Store.{Files, file_at}
 use Rattle.c_lexer.specs.declared.error.LexError.TheVariants as lexes
 use Rattle.c_lexer.specs.declared.token.Token.{Token}
 use Rattle.c_lexer.specs.Refusals as lexer
-use Rattle.c_lexer.specs.Spelling.{SpellsTokens}
+use Rattle.c_lexer.specs.TokenSpelling.{SpellsTokens}
 use Rattle.c_parser.specs.declared.error.ParseError.{ParseError}
 use Rattle.c_parser.specs.declared.error.ParseError.TheVariants as parses
 use Rattle.c_parser.specs.Refused as parser

@@ -1,5 +1,5 @@
 ghost use Rattle.std.specs.Prelude.{◌≡◌, ◌≤◌, ◌+◌, ℕ, List, IfOk, IfErr, IfSome};
-ghost use Rattle.c_lexer.specs.Spelling.{longest_text};
+ghost use Rattle.c_lexer.specs.TokenSpelling.{longest_text};
 ghost use Rattle.dm_io.specs.Store.{file_at, IsMissing};
 ghost use Rattle.tool_frame.specs.Stop.{Stops};
 ghost use Rattle.tool_sources.specs.Sources.{IsSourceOf, IsSourceCause, HasNoProgram, RefusesSource};
@@ -7,10 +7,9 @@ ghost use Rattle.tool_sources.specs.Sources.{IsSourceOf, IsSourceCause, HasNoPro
 use crate::error::{SourceError, lexical, syntactic, untyped};
 use crate::refusals::refused_with;
 use crate::source::Source;
-use c_check::check;
+use c_check::{a_spelled_unit_is_lexical, check};
 use c_lexer::tokens;
 use c_parser::parse;
-use c_rules_laws::a_spelled_unit_is_lexical;
 use dm_base::Mode;
 use dm_io::{Store, read_whole};
 use std::alloc::Global;

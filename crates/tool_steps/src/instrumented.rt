@@ -1,7 +1,7 @@
 ghost use Rattle.std.specs.Prelude.{◌≡◌, IfOk};
 ghost use Rattle.c_syntax.specs.UnitView.{items_of};
 ghost use Rattle.c_tree.specs.View.{program_of};
-ghost use Rattle.null_calls_rules.specs.Instrumented.{instrumented_unit};
+ghost use Rattle.null_calls.specs.Instrumented.{instrumented_unit};
 
 use c_syntax::Item;
 use call_graph::Calls;

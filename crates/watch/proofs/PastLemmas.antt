@@ -1,8 +1,8 @@
 -- What is kept and refused of a history, and of the same history with one event more.
-use Rattle.std.proofs.Common.{◌≡◌, ℕ, ◌+◌, ◌-◌, ◌<◌, ◌≤◌, List, [], ◌∷◌, ◌++◌, length, take, drop, get_or, Option, Some, None, slice_get, Vec, Global, refl, sym, ◌∙◌, ap, subst, inl, inr, arith, length-append}
+use Rattle.std.proofs.Common.{◌≡◌, ℕ, ◌+◌, ◌-◌, ◌<◌, ◌≤◌, List, [], ◌∷◌, ◌++◌, length, take, drop, Option, Some, None, slice_get, Vec, Global, refl, sym, ◌∙◌, ap, subst, inl, inr, arith, length-append}
 use Rattle.std.specs.Prelude.{IfOk, Result, Ok, Err}
 use Rattle.std.proofs.lemmas.Bool.{cases_lt}
-use Rattle.std.proofs.lemmas.List.{take-append-le, take_all, take-take, get_or_append_left, length-drop, drop-drop, drop-append-le}
+use Rattle.std.proofs.lemmas.List.{take-append-le, take_all, get_or_append_left, length-drop, drop-drop, drop-append-le}
 use Rattle.std.proofs.lemmas.Option.{slice_get_within, get_or_from_slice_get, slice_get_read}
 use Rattle.std.proofs.Math.Seq.{get_or-append_seam, take-append_seam}
 use Rattle.circular_buffer.specs.Buffer.{Buffer, buffer, keep_last}
@@ -17,11 +17,11 @@ use Rattle.flow_model.specs.Graph.{Graph}
 use Rattle.flow_model.specs.Language.{Reads}
 use Rattle.flow_model.specs.Verdict.{IsKept, IsAccepted, IsRejectedAt, IsBoundAt, IsStep, IsVerdict}
 use Rattle.flow_model.proofs.Histories.{rejected_stays, bound_stays}
-use Rattle.flow_model.proofs.Verdicts.{rejected_next, bound_next, rejected_after, bound_after, kept-reads, kept-within}
+use Rattle.flow_model.proofs.Verdicts.{rejected_next, bound_next, kept-reads, kept-within}
 use Rattle.watch.specs.declared.past.Past.{Past}
 use Rattle.watch.specs.declared.past.Refusal.{Refusal}
 use Rattle.watch.specs.Keeping.{verdict_of, told}
-use Rattle.watch.specs.Pasts.{kept_events, last_kept, refused_event, IsRefusalAt, IsKeptWhole, IsRefused, HasCome, IsPast}
+use Rattle.watch.specs.Pasts.{kept_events, last_kept, IsRefusalAt, IsKeptWhole, IsRefused, HasCome, IsPast}
 
 -- windows
 
@@ -36,10 +36,6 @@ keep_push n xs y =
     ap (λ (w : List _). drop (length (drop a xs ++ y ∷ []) - n) w) (sym part)
     ∙ drop-drop (length (drop a xs ++ y ∷ []) - n) a (xs ++ y ∷ [])
     ∙ ap (λ (m : ℕ). drop m (xs ++ y ∷ [])) more
-
--- no more than so many are all kept
-pub keep_few : {X : Type 0} (n : ℕ) (xs : List X) → length xs ≤ n → keep_last n xs ≡ xs
-keep_few n xs le = let none : length xs - n ≡ 0 = omega arith in ap (λ (m : ℕ). drop m xs) none
 
 module _ (which : Which) (g : Graph) (bound : ℕ) where
   -- how many events were kept

@@ -10,7 +10,7 @@ use crate::printing::tokens::{push_keyword, push_punctuator, push_separator};
 use crate::tree::{Decl, DeclPart, Expr, Init, InitKind, Storage};
 use c_lexer::keyword::{EXTERN, STATIC};
 use c_lexer::punctuator::{ASSIGN, LEFT_BRACE, RIGHT_BRACE, SEMICOLON};
-use dm_base::OutOfMemory;
+use c_lexer::OutOfMemory;
 
 // Writes the storage class.
 pub fn write_storage(out: &mut Vec<u8>, storage: Storage) -> Result<(), OutOfMemory>

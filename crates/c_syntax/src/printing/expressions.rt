@@ -12,7 +12,7 @@ use c_lexer::punctuator::{
     AND, ARROW, ASTERISK, COLON, DECREMENT, DOT, INCREMENT, LEFT_BRACKET, LEFT_PARENTHESIS, OR,
     QUESTION, RIGHT_BRACKET, RIGHT_PARENTHESIS,
 };
-use dm_base::OutOfMemory;
+use c_lexer::OutOfMemory;
 
 // Writes the specifiers.
 pub fn write_spec(out: &mut Vec<u8>, spec: &Spec) -> Result<(), OutOfMemory>

@@ -12,7 +12,7 @@ use crate::printing::tokens::{push_keyword, push_name, push_punctuator, push_sep
 use crate::tree::{Declarator, Enumerator, Expr, Ident, Item, ItemKind, Member};
 use c_lexer::keyword::{ENUM, STRUCT};
 use c_lexer::punctuator::{ASSIGN, LEFT_BRACE, RIGHT_BRACE, SEMICOLON};
-use dm_base::OutOfMemory;
+use c_lexer::OutOfMemory;
 
 // Writes what stands at file scope, in order.
 pub fn write_items(out: &mut Vec<u8>, items: &[Item]) -> Result<(), OutOfMemory>

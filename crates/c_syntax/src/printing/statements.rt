@@ -14,7 +14,7 @@ use c_lexer::keyword::{BREAK, CASE, CONTINUE, DEFAULT, DO, ELSE, FOR, IF, RETURN
 use c_lexer::punctuator::{
     COLON, LEFT_BRACE, LEFT_PARENTHESIS, RIGHT_BRACE, RIGHT_PARENTHESIS, SEMICOLON,
 };
-use dm_base::OutOfMemory;
+use c_lexer::OutOfMemory;
 
 // Writes what stands first in the head of a `for`, and the semicolon after it.
 fn write_first(out: &mut Vec<u8>, first: &ForFirst) -> Result<(), OutOfMemory>

@@ -3,8 +3,7 @@ ghost use Rattle.c_syntax.specs.Text.{byte_of as byte_of_char, element_text, ele
 ghost use Rattle.c_syntax.specs.Writes.{Writes, WritesToken, octal_text, separator};
 
 use c_lexer::punctuator::{COMMA, LEFT_BRACE, RIGHT_BRACE, SEMICOLON};
-use c_lexer::{TokenKind, keyword_text, punctuator_text};
-use dm_base::OutOfMemory;
+use c_lexer::{OutOfMemory, TokenKind, keyword_text, punctuator_text};
 use itoa::Buffer;
 
 // Writes the keyword with the number.

@@ -1,7 +1,7 @@
 use Rattle.std.proofs.Common.{◌≡◌, ◌∙◌}
 use Rattle.c_check_values.proofs.Parts.{raised}
 use Rattle.c_check_items.proofs.Moves.{node_fails, on_is}
-use Rattle.c_check_declarations.specs.ObjectView.{object_seen}
+use Rattle.c_check_statements.specs.ObjectView.{object_seen}
 use Rattle.c_rules.specs.Checked.{Checked, on}
 use Rattle.c_rules.specs.Items.{global_object}
 use Rattle.c_rules.specs.Objects.{Object, object_declared}

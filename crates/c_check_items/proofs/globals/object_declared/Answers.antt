@@ -1,6 +1,6 @@
 use Rattle.std.proofs.Common.{◌≡◌, sym}
 use Rattle.c_check_items.proofs.Moves.{on_is, same_judged}
-use Rattle.c_check_declarations.specs.ObjectView.{object_seen}
+use Rattle.c_check_statements.specs.ObjectView.{object_seen}
 use Rattle.c_rules.specs.Checked.{Checked, on}
 use Rattle.c_rules.specs.Declarators.{place_or}
 use Rattle.c_rules.specs.Expressions.{type_declared}

@@ -7,7 +7,7 @@ use Rattle.c_rules.specs.Items.{members_declared, names_behind}
 use Rattle.c_rules.specs.Names.{Name}
 use Rattle.c_rules.specs.Scopes.{Member}
 use Rattle.c_check_scopes.specs.View.{env_of}
-use Rattle.c_check_declarations.specs.Members.{members_of}
+use Rattle.c_check_statements.specs.Members.{members_of}
 use Rattle.c_syntax.specs.UnitView.{declarators_of}
 use Rattle.c_syntax.specs.View.{spec_of}
 use Rattle.c_check_items.proofs.members.add_members.Goals as goal

@@ -2,7 +2,7 @@ use Rattle.std.proofs.Common.{◌≡◌, ◌+◌, ◌≤◌, List, ap, sym, subs
 use Rattle.std.specs.Prelude.{[], ◌∷◌, true}
 use Rattle.c_check_values.proofs.Parts.{names_on, raised}
 use Rattle.c_check_items.proofs.Moves.{definition_fails, definition_is, same_named, within_limit}
-use Rattle.c_check_declarations.specs.ObjectView.{object_seen}
+use Rattle.c_check_statements.specs.ObjectView.{object_seen}
 use Rattle.c_rules.specs.Checked.{Checked, fine}
 use Rattle.c_rules.specs.Counts.{past}
 use Rattle.c_rules.specs.TypedExpression.{TypedExpression}

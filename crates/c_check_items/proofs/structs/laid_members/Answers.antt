@@ -5,7 +5,7 @@ use Rattle.c_rules.specs.Checked.{Checked, fine, on}
 use Rattle.c_rules.specs.Items.{members, struct_laid}
 use Rattle.c_rules.specs.Scopes.{Member, Struct, defined_struct}
 use Rattle.c_check_scopes.specs.View.{env_of}
-use Rattle.c_check_declarations.specs.Members.{members_of}
+use Rattle.c_check_statements.specs.Members.{members_of}
 use Rattle.c_syntax.specs.UnitView as syntax
 use Rattle.c_syntax.specs.View.{ident_of}
 use Rattle.c_check_items.proofs.structs.laid_members.Goals as goal

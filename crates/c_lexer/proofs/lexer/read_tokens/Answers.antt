@@ -1,5 +1,5 @@
 use Rattle.std.proofs.Common.{arith}
-use Rattle.c_lexer.specs.Spelling.{nothing}
+use Rattle.c_lexer.specs.TokenSpelling.{nothing}
 use Rattle.c_lexer.proofs.lexer.read_tokens.Goals as goal
 use Rattle.c_lexer.proofs.LexerLemmas.{read_more}
 

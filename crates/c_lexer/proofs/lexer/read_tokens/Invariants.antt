@@ -1,5 +1,5 @@
 use Rattle.std.proofs.Common.{◌≤◌, ◌-◌, length}
-use Rattle.c_lexer.specs.Spelling.{SpellsFrom}
+use Rattle.c_lexer.specs.TokenSpelling.{SpellsFrom}
 use Rattle.c_lexer.proofs.lexer.read_tokens.Given as goal
 
 abbrev pub invariant-loop-at : goal.invariant-loop-at

@@ -1,7 +1,7 @@
 use Rattle.std.proofs.Common.{◌≡◌, drop}
 use Rattle.c_syntax.specs.UnitView.{items_of}
 use Rattle.c_check_counts.specs.Seen.{seen}
-use Rattle.null_calls_temporaries.specs.Sited.{sited}
+use Rattle.null_calls_expressions.specs.Sited.{sited}
 use Rattle.null_calls_rules.specs.Instrumented as marks
 use Rattle.null_calls.proofs.Turns.{onto}
 use Rattle.null_calls.proofs.TreeLemmas.{item_before}

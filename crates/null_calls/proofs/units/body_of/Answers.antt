@@ -3,10 +3,10 @@ use Rattle.c_syntax.specs.UnitView.{stmt_of}
 use Rattle.c_syntax.specs.WritesUnit.{block_items_of}
 use Rattle.c_rules.specs.Functions.{items_of_body}
 use Rattle.c_check_counts.specs.Seen.{seen}
-use Rattle.null_calls_temporaries.specs.Sited.{sited}
+use Rattle.null_calls_expressions.specs.Sited.{sited}
 use Rattle.null_calls_rules.specs.Temporaries.{declared_before}
 use Rattle.null_calls_rules.specs.InstrumentedStatements as parts
-use Rattle.null_calls_temporaries.specs.Kept.{temporaries_of}
+use Rattle.null_calls_expressions.specs.Kept.{temporaries_of}
 use Rattle.null_calls.proofs.UnitLemmas.{body_made}
 use Rattle.null_calls.proofs.units.body_of.Goals as goal
 

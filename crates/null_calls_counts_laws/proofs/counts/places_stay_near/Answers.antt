@@ -1,4 +1,4 @@
-use Rattle.null_calls_counts_laws.proofs.Expressions.{places_near}
+use Rattle.null_calls_counts_laws.proofs.ExpressionCounts.{places_near}
 use Rattle.null_calls_counts_laws.proofs.counts.places_stay_near.Goals as goal
 
 pub returns : goal.returns

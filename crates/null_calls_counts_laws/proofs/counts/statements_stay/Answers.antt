@@ -1,4 +1,4 @@
-use Rattle.null_calls_counts_laws.proofs.Statements.{statements_stay}
+use Rattle.null_calls_counts_laws.proofs.StatementCounts.{statements_stay}
 use Rattle.null_calls_counts_laws.proofs.counts.statements_stay.Goals as goal
 
 pub returns : goal.returns

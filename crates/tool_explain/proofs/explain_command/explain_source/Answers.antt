@@ -1,5 +1,5 @@
 use Rattle.std.proofs.Common.{ℕ, ◌+◌, List, take, refl, ◌∙◌, ap, subst}
-use Rattle.c_lexer.specs.Spelling.{longest_text}
+use Rattle.c_lexer.specs.TokenSpelling.{longest_text}
 use Rattle.dm_base.specs.declared.mode.Mode.TheVariants.{Plain}
 use Rattle.dm_io.specs.Store.{IsMissing, ReadsWhole}
 use Rattle.tool_explain.specs.Stopping.{IsStopOfExplained}

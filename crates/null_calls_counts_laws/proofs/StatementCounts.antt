@@ -13,7 +13,7 @@ use Rattle.null_calls_rules.specs.InstrumentedExpressions.{expr, maybe}
 use Rattle.null_calls_rules.specs.InstrumentedStatements.{init, inits, maybe_init, parts, declaration, first, stmt, items_of_block, stmts, groups}
 use Rattle.null_calls_counts_laws.specs.Counts.{AreNamed}
 use Rattle.null_calls_counts_laws.specs.Statements.{InitNamed, InitsNamed, MaybeInitNamed, PartsNamed, DeclNamed, FirstNamed, MaybeNamed, StmtNamed, BlockNamed, StmtsNamed, GroupsNamed, StatementsCountAlike, BlocksCountAlike}
-use Rattle.null_calls_counts_laws.proofs.Expressions.{counts_stay}
+use Rattle.null_calls_counts_laws.proofs.ExpressionCounts.{counts_stay}
 
 module _ (sites : Sites) where
   -- ## Names

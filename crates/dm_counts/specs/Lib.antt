@@ -1,0 +1,1 @@
+pub use Rattle.dm_base.specs.declared.mode.Mode
