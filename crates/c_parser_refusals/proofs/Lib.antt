@@ -16,7 +16,6 @@ pub mod SuffixFails
 pub mod DeclaratorFails
 pub mod InitFails
 pub mod PartFails
-pub mod OneItem
 pub mod ItemFails
 pub mod Opening
 pub mod ExprOpens

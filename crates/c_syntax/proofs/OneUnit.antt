@@ -97,7 +97,7 @@ same_tag (a_tag n) no_name s z = absurd (omega (arith, name_head n))
 same_tag (a_tag n) (a_tag m) s z = let o = one_ident n m in (cc, refl)
 
 -- the front of a definition
-abbrev defines : {d : ℕ} {st : Storage} {s : Spec} {e : Declarator} {t : Token} {i j k m : List Token} → ReadsStorage st i j → ReadsSpec s j k → Declares d e k (t ∷ m) → HasName e → Is LEFT_BRACE t → Leads i
+abbrev pub defines : {d : ℕ} {st : Storage} {s : Spec} {e : Declarator} {t : Token} {i j k m : List Token} → ReadsStorage st i j → ReadsSpec s j k → Declares d e k (t ∷ m) → HasName e → Is LEFT_BRACE t → Leads i
 defines {d} {st} {s} {e} {t} {i} {j} {k} {m} r z c n h = record {
   depth = d;
   storage = st;
@@ -201,7 +201,7 @@ definition_case p r s e n h f c (a_definition q v z g m o b l) =
     let k = heads y.3 in
     let w = same_block_items f (moved_block_items k.1 b) (headed c) (headed l) in (same_function (p ∙ sym q) y.0 y.1 y.2 k.0 w.0, (heads w.1).1)
 
-same_item : {d x : ℕ} {a b : Item} {i j k : List Token} → ReadsItem d a i j → ReadsItem x b i k → (a ≡ b) × (j ≡ k)
+pub same_item : {d x : ℕ} {a b : Item} {i j k : List Token} → ReadsItem d a i j → ReadsItem x b i k → (a ≡ b) × (j ≡ k)
 same_item (a_struct w n l f c u) v = struct_case w n l f c v
 same_item (an_enum w r l f c u) v = enum_case w r l f c v
 same_item (an_enum_with_comma w r l f e c u) v = enum_with_comma_case w r l f e c v
