@@ -29,7 +29,7 @@ use Rattle.c_rules.proofs.ModeStatements.{inside_twin, block_leads}
 -- ## The scope of a body
 
 -- where a declarator of a function is fine, its parameters are
-parameters_fine : (e : Env) (d : Declarator) (t u : CType) → declares_function d ≡ true → declared e d t ≡ fine u → (ts : CTypes) × (parameters (inside e) 0 (parameters_of d) ≡ fine ts)
+pub parameters_fine : (e : Env) (d : Declarator) (t u : CType) → declares_function d ≡ true → declared e d t ≡ fine u → (ts : CTypes) × (parameters (inside e) 0 (parameters_of d) ≡ fine ts)
 parameters_fine e syntax.nothing t u h g = cc
 parameters_fine e (syntax.named at x) t u h g = cc
 parameters_fine e (syntax.pointer at d) t u h g = let k = on_fine (pointer_to at t) (λ v. declared e d v) u g in parameters_fine e d k.0 u h k.2

@@ -12,6 +12,7 @@ use Rattle.c_shapes.specs.CallGraph.{is_taken, candidates, reaches, marked}
 use Rattle.c_shapes.specs.ShapeOf.{shapes_of_functions, names_of_functions, candidate_places}
 use Rattle.c_tree.proofs.TypedTrials.{int_of_int, x_of_parameter}
 pub use Rattle.c_tree.proofs.TypedTrials.{source_b, source_d}
+use Rattle.c_tree.proofs.TypedTrials.{t_of_one}
 
 b_takes_nothing : is_taken source_b 0 ≡ false
 b_takes_nothing = refl
@@ -38,10 +39,6 @@ d_marks = refl
 d_shapes : shapes_of_functions source_d ≡ Seq (Alt (Call 0) Skip) (Part (Sys 14 []) (Part Return End)) ∷ Seq (Call 2) (Part Return End) ∷ []
 unfolding table
 d_shapes = refl
-
-abbrev t_of_one : Expr
-t_of_one =
-    load int_of_int (dereference int_of_int (pointer_add (pointer int_of_int) true false (decay (pointer int_of_int) (variable (array int_of_int 3) true 0)) (constant int (v.Int (pos 1)))))
 
 abbrev pub indirect : Program
 indirect = record {

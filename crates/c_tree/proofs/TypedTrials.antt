@@ -188,7 +188,7 @@ x_of_parameter = return_value (load int (variable int false 0))
 abbrev pub int_of_int : CType
 int_of_int = pointer (of_one int int)
 
-abbrev t_of_one : Expr
+abbrev pub t_of_one : Expr
 t_of_one =
     load int_of_int (dereference int_of_int (pointer_add (pointer int_of_int) true false (decay (pointer int_of_int) (variable (array int_of_int 3) true 0)) (constant int (v.Int (pos 1)))))
 

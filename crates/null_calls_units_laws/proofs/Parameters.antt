@@ -18,28 +18,13 @@ use Rattle.null_calls_units_laws.specs.FileScopes.{HasNullCalls, FilesBeside, fi
 use Rattle.null_calls_units_laws.proofs.FileNames.{scopes_of, named_files}
 use Rattle.c_rules.proofs.ModeFunctions.{PlainName}
 pub use Rattle.c_rules.proofs.ModeFunctions.{PlainNames}
+use Rattle.c_rules.proofs.ModeFunctions.{parameters_fine}
 
 pub inside_files : (e f : Env) → FilesBeside e f → FilesBeside (inside e) (inside f)
 inside_files e f (files_beside env w p q l) = files_beside (inside env) w p q (record { runs = l.runs; nulls = l.nulls; fresh = l.fresh; functions = l.functions; tags = l.tags })
 
 inside_beside : (e f : Env) → TypedAlike e f → TypedAlike (inside e) (inside f)
 inside_beside e f (beside env w p q) = beside (inside env) w p q
-
--- where a declarator of a function is fine, its parameters are
-parameters_fine : (e : Env) (d : Declarator) (t u : CType) → declares_function d ≡ true → declared e d t ≡ fine u → (ts : CTypes) × (parameters (inside e) 0 (parameters_of d) ≡ fine ts)
-parameters_fine e syntax.nothing t u h g = cc
-parameters_fine e (syntax.named at x) t u h g = cc
-parameters_fine e (syntax.pointer at d) t u h g = let k = on_fine (pointer_to at t) (λ v. declared e d v) u g in parameters_fine e d k.0 u h k.2
-parameters_fine e (syntax.array at d size) t u h g = let k = on_fine (on (size_in e size) (array_of e at t)) (λ v. declared e d v) u g in parameters_fine e d k.0 u h k.2
-parameters_fine e (syntax.function at (syntax.named here x) ps) t u h g =
-    let k = on_fine (on (parameters (inside e) 0 ps) (function_of at t)) (λ v. fine v) u g in let l = on_fine (parameters (inside e) 0 ps) (function_of at t) k.0 k.1 in (l.0, l.1)
-parameters_fine e (syntax.function at syntax.nothing ps) t u h g = cc
-parameters_fine e (syntax.function at (syntax.pointer here d) ps) t u h g =
-    let k = on_fine (on (parameters (inside e) 0 ps) (function_of at t)) (λ v. declared e (syntax.pointer here d) v) u g in parameters_fine e (syntax.pointer here d) k.0 u h k.2
-parameters_fine e (syntax.function at (syntax.array here d size) ps) t u h g =
-    let k = on_fine (on (parameters (inside e) 0 ps) (function_of at t)) (λ v. declared e (syntax.array here d size) v) u g in parameters_fine e (syntax.array here d size) k.0 u h k.2
-parameters_fine e (syntax.function at (syntax.function here d qs) ps) t u h g =
-    let k = on_fine (on (parameters (inside e) 0 ps) (function_of at t)) (λ v. declared e (syntax.function here d qs) v) u g in parameters_fine e (syntax.function here d qs) k.0 u h k.2
 
 name_plain : (env : Env) (n : Option Ident) (r : Checked CType) (t : CType) → with_name_demands (left env) n r ≡ fine t → PlainName n
 name_plain env None r t g = tt
