@@ -1,11 +1,10 @@
 -- Lists of nodes that are closed under the steps that read nothing.
-use Rattle.std.proofs.Common.{◌≡◌, ℕ, ◌+◌, ◌<◌, ◌≤◌, List, [], ◌∷◌, ◌++◌, length, take, get_or, sum_by, Contains, Some, None, sym, ap, ◌∙◌, subst, inl, inr, arith}
+use Rattle.std.proofs.Common.{◌≡◌, ℕ, ◌+◌, ◌<◌, ◌≤◌, List, [], ◌∷◌, ◌++◌, length, take, sum_by, Contains, Some, sym, ap, ◌∙◌, subst, inl, inr, arith}
 use Rattle.std.specs.Prelude.{slice_get}
-use Rattle.std.proofs.lemmas.Bool.{cases_lt}
 use Rattle.std.proofs.lemmas.List.{take_more, take-append-le, length-append}
 use Rattle.std.proofs.lemmas.List.Elements.{Contains-get_or, Contains-push_cases}
 use Rattle.std.proofs.lemmas.List.Sums.{sum_by_push}
-use Rattle.std.proofs.lemmas.Option.{none-some, slice_get-get_or, slice_get_within, get_or_from_slice_get}
+use Rattle.std.proofs.lemmas.Option.{slice_get_within, get_or_from_slice_get}
 use Rattle.dm_base.specs.declared.event.Event.{Event}
 use Rattle.flow_model.specs.Found.{Found}
 use Rattle.flow_model.specs.Graph.{Graph}
@@ -15,13 +14,6 @@ use Rattle.flow_model.proofs.Walks.{walk-append}
 use Rattle.flow_model.specs.Growth.{Adds}
 use Rattle.callgraph_monitor.specs.Visits.{visit_cost}
 use Rattle.flow_model.proofs.Grown.{adds-still, adds-cases}
-
--- where there is no i-th node, i is not below the length
-pub none_from : (xs : List ℕ) (i : ℕ) → slice_get xs i ≡ None → length xs ≤ i
-none_from xs i none = elim (cases_lt i (length xs)) [
-  | inl lt ↦ absurd (none-some (get_or xs i 0) (sym none ∙ slice_get-get_or xs i 0 lt))
-  | inr ge ↦ ge
-]
 
 -- a walk that reads nothing stays in the list
 pub closed_walk : (g : Graph) (xs : List ℕ) → ((b c : ℕ) → Contains xs b → Quiet g b c → Contains xs c) → {b c : ℕ} {t : List Event} → Contains xs b → Walk g b t c → t ≡ [] → Contains xs c

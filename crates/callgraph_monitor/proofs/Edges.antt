@@ -1,14 +1,12 @@
 -- The edges that leave a node, and the nodes to which they lead.
-use Rattle.std.proofs.Common.{◌≡◌, ℕ, ◌<◌, ◌⊎◌, Bool, true, false, nat_eq, List, [], ◌∷◌, length, get_or, filter, Contains, Some, refl, sym, ap, ◌∙◌, subst, inl, inr, arith}
-use Prim.Native.Nat.{suc}
+use Rattle.std.proofs.Common.{◌≡◌, ℕ, ◌<◌, ◌⊎◌, Bool, nat_eq, List, length, get_or, filter, Contains, Some, refl, sym, ap, ◌∙◌, subst, inl, inr, arith}
 use Rattle.std.specs.Prelude.{slice_get}
 use Rattle.std.specs.List.{list_any}
-use Rattle.std.proofs.lemmas.Bool.{eqb-true, eq-eqb, or_cases, false≢true}
+use Rattle.std.proofs.lemmas.Bool.{eqb-true, eq-eqb}
 use Rattle.std.proofs.lemmas.Option.{same_Some, slice_get-get_or}
 use Rattle.dm_base.specs.declared.event.Event.{Event}
 use Rattle.dm_base.specs.Fits.{Fits}
 use Rattle.flow_model.specs.declared.records.ModelFunction.{ModelFunction}
-use Rattle.flow_model.specs.declared.records.SilentEdge.{SilentEdge}
 use Rattle.flow_model.specs.declared.records.SysEdge.{SysEdge}
 use Rattle.flow_model.specs.Call.{Call}
 use Rattle.flow_model.specs.Graph.{Graph, HasSilent}
@@ -19,21 +17,8 @@ use Rattle.callgraph_monitor.specs.Ahead.{IsAhead, BeginsAt, Enters, EntersFrom,
 use Rattle.callgraph_monitor.specs.Visits.{calls_from}
 use Rattle.flow_model.proofs.Items.{filter-contains, filter-pass, contains-filter}
 use Rattle.flow_model.proofs.EdgeLemmas.{any_of_contains}
+use Rattle.flow_model.proofs.SilentEnds.{contains_of_any}
 pub use Rattle.flow_model.proofs.EdgeLemmas.{site_at}
-
--- The silent edges that leave a node.
-module _ (g : Graph) (node : ℕ) where
-  abbrev leaves : SilentEdge → Bool
-  leaves e = nat_eq e.from node
-
-  pub silent_end : (b : ℕ) → HasOne (λ e n. e.to ≡ n) (filter leaves g.silent) b → HasSilent g node b
-  silent_end b (e, has, to) =
-      let from : e.from ≡ node = eqb-true e.from node (filter-pass leaves g.silent e has) in
-      let same : e ≡ record { from = node; to = b } = λ i. record { from = from i; to = to i } in
-      subst (Contains g.silent) same (filter-contains leaves g.silent e has)
-
-  pub end_of_silent : (b : ℕ) → HasSilent g node b → HasOne (λ e n. e.to ≡ n) (filter leaves g.silent) b
-  end_of_silent b has = (record { from = node; to = b }, contains-filter leaves g.silent (record { from = node; to = b }) has.0 has.1 has.2 (eq-eqb node node refl), refl)
 
 -- The system-call edges that leave a node.
 module _ (g : Graph) (event : Event) (node : ℕ) where
@@ -68,13 +53,6 @@ module _ (g : Graph) (node : ℕ) where
 
   pub end_of_enters : (b : ℕ) → EntersFrom g node b → HasOne (Enters g) (calls_from g node) b
   end_of_enters b (c, has, from, is) = (c, contains-filter (λ (d : Call). nat_eq d.from node) g.calls c has.0 has.1 has.2 (eq-eqb c.from node from), is)
-
-contains_of_any : (f : ℕ) (fs : List ℕ) → list_any (λ h. nat_eq h f) fs ≡ true → Contains fs f
-contains_of_any f [] any = absurd (false≢true any)
-contains_of_any f (h ∷ fs) any = elim (or_cases (nat_eq h f) (list_any (λ k. nat_eq k f) fs) any) [
-  | inl here ↦ (0, omega arith, eqb-true h f here)
-  | inr later ↦ (let there = contains_of_any f fs later in (suc there.0, omega (arith, there.1), there.2))
-]
 
 -- The call edges that may enter a function.
 module _ (g : Graph) (f : ℕ) where

@@ -1,6 +1,5 @@
 -- The records of a builder are the graph of the program, which breaks no rule.
 use Rattle.std.proofs.Common.{◌≡◌, ℕ, ◌<◌, ◌≤◌, min, List, length, map, sym, ap, ap₂, ◌∙◌, subst, arith}
-use Rattle.std.specs.Cmp.{nat_cmp_total}
 use Rattle.c_tree.specs.Tree.{Program}
 use Rattle.c_tree.specs.Program.{IsProgram}
 use Rattle.c_shapes.specs.Shape.{Shape}
@@ -9,9 +8,7 @@ use Rattle.flow_graph.specs.SiteEdges.{site_edges, site_edge_order}
 use Rattle.flow_model.specs.Built.{Records, graph_of_records}
 use Rattle.flow_model.specs.Graph.{Graph}
 use Rattle.flow_model.specs.Order.{silent_order, sys_order}
-use Rattle.flow_model.specs.Rules.{HasNoRepeats, IsInOrder, IsValid, IsLeastBroken}
-use Rattle.flow_model.specs.Rules.IsLeastBroken.{entries as broken_entries, exits as broken_exits, names as broken_names, edges as broken_edges, functions as broken_functions, repeats as broken_repeats, patterns as broken_patterns}
-use Rattle.flow_model.proofs.OrderLemmas.{silent_order_total, sys_order_total}
+use Rattle.flow_model.specs.Rules.{IsInOrder, IsValid, IsLeastBroken}
 use Rattle.flow_graph_laws.specs.GraphOf.{functions_from, edges_from, nodes_from, silent_edges, sys_edges}
 use Rattle.flow_graph_laws.specs.GraphOfProgram.{graph_of_program}
 use Rattle.flow_graph_laws.specs.Sorted.{sorted}
@@ -21,7 +18,7 @@ use Rattle.flow_graph.specs.declared.shape.Shape.{Shape as Tree}
 use Rattle.flow_graph.specs.View.{shape_of, shapes_in}
 use Rattle.flow_graph.specs.Places.{call_of}
 use Rattle.flow_graph.proofs.OrderedCalls.{ordered_calls}
-use Rattle.flow_model.proofs.ApartLemmas.{rises_apart}
+use Rattle.flow_model.proofs.ValidModels.{none_broken}
 
 -- the records of shapes
 abbrev pub records_of : Program → List Shape → Records
@@ -37,23 +34,6 @@ graph_made p n h b fs nodes start are is many first =
     ap₂ (λ k s. graph_of_records b k s) (many ∙ ap (nodes_from 0) are) first
     ∙ ap (λ r. graph_of_records r (nodes_from 0 (shapes_of_functions p)) p.main) (is ∙ ap (records_of p) are)
     ∙ (λ i. record (graph_of_program p) { calls = ordered_calls (shapes_of p) (closed p n h) i })
-
-no_repeats : (g : Graph) → IsInOrder g → HasNoRepeats g
-no_repeats g order = record {
-  silent = λ i j d before within same. rises_apart silent_order_total _ _ (order.silent i j d before within) same;
-  sys = λ i j d before within same. rises_apart sys_order_total _ _ (order.sys i j d before within) same;
-  sites = λ i j d before within same. rises_apart nat_cmp_total _ _ (order.calls i j d before within) same;
-  candidates = λ k d within i j e before inside same. rises_apart nat_cmp_total _ _ (order.candidates k d within i j e before inside) same;
-}
-
-none_broken : (g : Graph) (k : ℕ) → IsValid g → IsLeastBroken g k → ⊥
-none_broken g k valid (broken_entries is not_so) = not_so valid.entries
-none_broken g k valid (broken_exits is entries not_so) = not_so valid.exits
-none_broken g k valid (broken_names is entries exits not_so) = not_so valid.names
-none_broken g k valid (broken_edges is entries exits names not_so) = not_so valid.edges
-none_broken g k valid (broken_functions is entries exits names edges not_so) = not_so valid.functions
-none_broken g k valid (broken_repeats is entries exits names edges functions not_so) = not_so (no_repeats g valid.order)
-none_broken g k valid (broken_patterns is entries exits names edges functions repeats not_so) = not_so valid.patterns
 
 pub made_unbroken : (g given : Graph) (k : ℕ) → given ≡ g → IsValid g → IsLeastBroken given k → ⊥
 made_unbroken g given k is valid broken = none_broken g k valid (subst (λ x. IsLeastBroken x k) is broken)

@@ -1,67 +1,19 @@
 -- A list that is sorted, and of which each item is left once, is the list of its items in order.
-use Rattle.std.proofs.Common.{◌≡◌, ◌↔◌, inl, inr, suc, List, [], ◌∷◌, Contains, refl, sym, ◌∙◌, ap₂, subst, arith}
+use Rattle.std.proofs.Common.{◌≡◌, ◌↔◌, List, Contains, sym, subst}
 use Rattle.std.specs.Cmp.{IsTotalOrder}
 use Rattle.std.specs.declared.cmp.Ordering.{Ordering}
-use Rattle.std.specs.declared.cmp.Ordering.TheVariants.{Less, Equal}
-use Rattle.std.specs.List.Sorted.{IsStrictlySortedBy}
-use Rattle.std.proofs.lemmas.List.Elements.{All-from_recursion}
+use Rattle.std.specs.declared.cmp.Ordering.TheVariants.{Equal}
 use Rattle.flow_model.specs.Order.{StrictlyRise}
 use Rattle.flow_graph_laws.specs.Sorted.{sorted}
 use Rattle.flow_graph_laws.proofs.SortedLemmas.{sorted_from, sorted_has}
-use Rattle.flow_graph_laws.proofs.Rising.{pairs_cons, pairs_nil, pairs_head, pairs_tail, of_all, sorted_rises}
-use Rattle.c_shapes.proofs.Members.{cases}
-pub use Rattle.flow_model.proofs.EquivalenceLemmas.{tied}
-
--- a strictly sorted list rises
-pub rises : {X : Type 0} (order : X → X → Ordering) (xs : List X) → IsStrictlySortedBy order xs → StrictlyRise order xs
-unfolding IsStrictlySortedBy
-rises order [] h = pairs_nil (λ x y. order x y ≡ Less)
-rises order (x ∷ xs) h = pairs_cons (λ x y. order x y ≡ Less) x xs (of_all (λ y. order x y ≡ Less) xs (All-from_recursion (λ y. order x y ≡ Less) xs h.0)) (rises order xs h.1)
+use Rattle.flow_graph_laws.proofs.Rising.{sorted_rises}
+use Rattle.flow_model.proofs.Rising.{same_members}
+pub use Rattle.flow_model.proofs.Rising.{rises, tied}
 
 module _ {X : Type 0} (order : X → X → Ordering) (total : IsTotalOrder order) where
-  apart : (x y : X) → order x y ≡ Less → order y x ≡ Less → ⊥
-  apart x y less back = let other = total.antisymm x y in cc
-
-  is_first : (x : X) (xs : List X) → Contains (x ∷ xs) x
-  is_first x xs = (0, omega arith, refl)
-
-  is_later : (x : X) (xs : List X) (z : X) → Contains xs z → Contains (x ∷ xs) z
-  is_later x xs z (k, lt, is) = (suc k, omega arith, is)
-
-  -- the first items are the same, since each is before all others
-  heads : (x y : X) (xs ys : List X) → StrictlyRise order (x ∷ xs) → StrictlyRise order (y ∷ ys) → ((z : X) → Contains (x ∷ xs) z → Contains (y ∷ ys) z) → ((z : X) → Contains (y ∷ ys) z → Contains (x ∷ xs) z) → x ≡ y
-  heads x y xs ys rise_x rise_y into back = elim (cases y ys x (into x (is_first x xs))) as (λ _. x ≡ y) [
-    | inl same ↦ sym same
-    | inr after_y ↦ elim (cases x xs y (back y (is_first y ys))) as (λ _. x ≡ y) [
-      | inl same ↦ same
-      | inr after_x ↦ absurd (apart x y (pairs_head (λ a b. order a b ≡ Less) x xs rise_x y after_x) (pairs_head (λ a b. order a b ≡ Less) y ys rise_y x after_y))
-    ]
-  ]
-
-  tails : (x y : X) (xs ys : List X) → x ≡ y → StrictlyRise order (x ∷ xs) → ((z : X) → Contains (x ∷ xs) z → Contains (y ∷ ys) z) → (z : X) → Contains xs z → Contains ys z
-  tails x y xs ys same rise into z has = elim (cases y ys z (into z (is_later x xs z has))) as (λ _. Contains ys z) [
-    | inl is ↦
-        let before : order x z ≡ Less = pairs_head (λ a b. order a b ≡ Less) x xs rise z has in
-        let self : order z z ≡ Less = subst (λ w. order w z ≡ Less) (same ∙ is) before in
-        absurd (apart z z self self)
-    | inr there ↦ there
-  ]
-
-  none_of_empty : (x : X) (xs : List X) → ((z : X) → Contains (x ∷ xs) z → Contains [] z) → ⊥
-  none_of_empty x xs into = let none = into x (is_first x xs) in omega (arith, none.1)
-
-  same_members : (xs ys : List X) → StrictlyRise order xs → StrictlyRise order ys → ((z : X) → Contains xs z → Contains ys z) → ((z : X) → Contains ys z → Contains xs z) → xs ≡ ys
-  same_members [] [] rise_x rise_y into back = refl
-  same_members [] (y ∷ ys) rise_x rise_y into back = absurd (none_of_empty y ys back)
-  same_members (x ∷ xs) [] rise_x rise_y into back = absurd (none_of_empty x xs into)
-  same_members (x ∷ xs) (y ∷ ys) rise_x rise_y into back =
-      let same : x ≡ y = heads x y xs ys rise_x rise_y into back in
-      ap₂ (λ z zs. z ∷ zs) same (same_members xs ys (pairs_tail (λ a b. order a b ≡ Less) x xs rise_x) (pairs_tail (λ a b. order a b ≡ Less) y ys rise_y)
-      (tails x y xs ys same rise_x into) (tails y x ys xs (sym same) rise_y back))
-
   -- where the order ties only what is equal
   pub ordered : ((x y : X) → order x y ≡ Equal ↔ x ≡ y) → (old new : List X) → StrictlyRise order new → ((x : X) → Contains new x → Contains old x) → ((x : X) → Contains old x → (y : X) × Contains new y × (order x y ≡ Equal)) → new ≡ sorted order old
   ordered tie old new rise from all =
-      same_members new (sorted order old) rise (sorted_rises order total old)
+      same_members order total new (sorted order old) rise (sorted_rises order total old)
       (λ z has. sorted_has order old (λ x y h k e. (tie x y).0 e) z (from z has))
       (λ z has. let (y, there, same) = all z (sorted_from order old z has) in subst (Contains new) (sym ((tie z y).0 same)) there)

@@ -1,5 +1,5 @@
 -- Where the sites tell which calls are marked, the shapes are those of the program.
-use Rattle.std.proofs.Common.{◌≡◌, inl, inr, ℕ, zero, suc, ◌+◌, ◌-◌, ◌<◌, Bool, false, nat_lt, if◌then◌else◌, List, [], ◌∷◌, ◌++◌, map, flat_map, Contains, Some, slice_index_or, refl, sym, ap, ap₂, ◌∙◌, arith}
+use Rattle.std.proofs.Common.{◌≡◌, ℕ, zero, suc, ◌+◌, ◌-◌, Bool, false, nat_lt, if◌then◌else◌, List, [], ◌∷◌, ◌++◌, map, flat_map, Contains, slice_index_or, refl, ap, ap₂, ◌∙◌, arith}
 use Rattle.c_tree.specs.Tree.{Expr, constant, function_name, string_place, variable, dereference, load, address_of, decay, discard, field, unary_operation, conversion, arithmetic, comparison, pointer_add, pointer_diff, and, or, assign, update, conditional, comma, call, call_through, type_of}
 use Rattle.c_tree.specs.Tree.{Exprs, no_exprs, more_exprs, Maybe, absent, there, Inits, no_inits, more_inits}
 use Rattle.c_tree.specs.Tree.{Stmt, block, empty, evaluate, declare, if_else, while_loop, do_loop, for_loop, switch_on, break_off, continue_on, return_void, return_value, Stmts, no_stmts, more_stmts, Groups, no_groups, more_groups}
@@ -7,9 +7,9 @@ use Rattle.c_tree.specs.Tree.{Function, Program}
 use Rattle.c_tree.specs.Functions.{defined}
 use Rattle.c_tree.specs.Constants.{pattern_of}
 use Rattle.c_tree.specs.Program.{IsProgram}
-use Rattle.c_shapes.specs.Shape.{Shape, Skip, Call, Loop, Do, Cases, Return, Parts, End, Part}
-use Rattle.c_shapes.specs.Mentions.{Callee, Direct, Through, Mention, Named, Calls, mentions, mentions_of_all, mentions_of_maybe, mentions_of_inits, mentions_of_stmt, mentions_of_stmts, mentions_of_groups, mentions_of_function, mentions_of_static, mentions_of_program}
-use Rattle.c_shapes.specs.CallGraph.{is_marked, marked, marked_where, callee_at}
+use Rattle.c_shapes.specs.Shape.{Skip, Call, Loop, Do, Cases, Return, Parts, End, Part}
+use Rattle.c_shapes.specs.Mentions.{Callee, Direct, Through, Mention, Calls, mentions, mentions_of_all, mentions_of_maybe, mentions_of_inits, mentions_of_stmt, mentions_of_stmts, mentions_of_groups, mentions_of_function, mentions_of_static, mentions_of_program}
+use Rattle.c_shapes.specs.CallGraph.{is_marked, marked, marked_where}
 use Rattle.c_shapes.specs.ShapeOf.{seq, seq_two, alt, system_call, marked_call, direct_call, has_default, shape, shapes_before, shape_of_maybe, shapes_of_inits, shape_of_stmt, shapes_of_stmts, shapes_of_groups, shape_of_function}
 use Rattle.flow_graph.specs.Sited.{call_at, direct_at, expr_at, exprs_at, maybe_at, inits_at, stmt_at, stmts_at, groups_at}
 use Rattle.c_shapes.proofs.SitesSaid.{callee_found}

@@ -3,7 +3,7 @@ use Rattle.std.proofs.Common.{◌≡◌, ℕ, Bool, List, Option, Some, None, Ve
 use Rattle.std.specs.Prelude.{Box}
 use Rattle.dm_base.specs.declared.memory.OutOfMemory.{OutOfMemory}
 use Rattle.flow_graph.specs.declared.shape.Shape.{Shape as Tree}
-use Rattle.flow_graph.specs.View.{shape_of, parts_of}
+use Rattle.flow_graph.specs.View.{shape_of}
 use Rattle.c_tree.specs.declared.tree.TExpr.{TExpr}
 use Rattle.c_tree.specs.declared.tree.TExprKind.TheVariants.{Comma, Call, CallThrough}
 use Rattle.c_tree.specs.declared.tree.TStmt.{TStmt}

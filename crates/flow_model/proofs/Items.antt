@@ -1,7 +1,10 @@
 -- Items of lists: those that pass a test, and those of a first part.
-use Rattle.std.proofs.Common.{◌≡◌, ℕ, ◌+◌, ◌<◌, ◌⊎◌, Bool, true, false, cond, List, [], ◌∷◌, ◌++◌, length, take, get_or, filter, Contains, sym, ap, ◌∙◌, subst, inl, inr, arith}
+use Rattle.std.proofs.Common.{◌≡◌, ℕ, ◌+◌, ◌<◌, ◌≤◌, ◌⊎◌, Bool, true, false, cond, List, [], ◌∷◌, ◌++◌, length, take, get_or, filter, Contains, None, sym, ap, ◌∙◌, subst, inl, inr, arith}
 use Prim.Native.Nat.{zero, suc}
+use Rattle.std.specs.Prelude.{slice_get}
+use Rattle.std.proofs.lemmas.Bool.{cases_lt}
 use Rattle.std.proofs.lemmas.List.{take_more}
+use Rattle.std.proofs.lemmas.Option.{none-some, slice_get-get_or}
 use Rattle.std.proofs.lemmas.List.Elements.{All-contains, All-filter, All-contains_itself, filter_passes, Contains-append_left, Contains-push, Contains-push_cases}
 use Rattle.flow_model.specs.Growth.{HasOne}
 
@@ -41,3 +44,10 @@ module _ {X : Type 0} (P : X → ℕ → Type 0) (xs : List X) where
 
   pub one_at : (k : ℕ) (x : X) → k < length xs → x ≡ get_or xs k x → (b : ℕ) → P x b → HasOne P (take (k + 1) xs) b
   one_at k x lt at b is = (x, subst (λ ys. Contains ys x) (sym (take_more xs k x lt)) (subst (λ z. Contains (take k xs ++ z ∷ []) x) at (Contains-push (take k xs) x)), is)
+
+-- where there is no i-th node, i is not below the length
+pub none_from : (xs : List ℕ) (i : ℕ) → slice_get xs i ≡ None → length xs ≤ i
+none_from xs i none = elim (cases_lt i (length xs)) [
+  | inl lt ↦ absurd (none-some (get_or xs i 0) (sym none ∙ slice_get-get_or xs i 0 lt))
+  | inr ge ↦ ge
+]

@@ -5,6 +5,7 @@ pub mod BothLemmas
 pub mod BuilderLemmas
 pub mod CandidatesLemmas
 pub mod Counting
+pub mod EdgeBounds
 pub mod EdgeLemmas
 pub mod EdgesFound
 pub mod EquivalenceLemmas
@@ -25,8 +26,11 @@ pub mod OwnersBelow
 pub mod OwnersLemmas
 pub mod PairsLemmas
 pub mod Rebuilt
+pub mod Rising
 pub mod RulesLemmas
+pub mod SilentEnds
 pub mod SitesFound
 pub mod SortingLemmas
+pub mod ValidModels
 pub mod Verdicts
 pub mod Walks

@@ -11,7 +11,7 @@ use Rattle.flow_model.specs.Rules.{IsValid}
 use Rattle.flow_model.proofs.ModelLemmas.{functions_few}
 use Rattle.inline_model_laws.proofs.Basics.{candidate_below}
 use Rattle.inline_model_laws.specs.Within.{Within}
-use Rattle.inline_model_laws.proofs.Rising.{cons_cases, is_first, is_later}
+use Rattle.flow_model.proofs.Rising.{cons_cases, is_first, is_later}
 use Rattle.inline_model.specs.declared.path.Frame.{Frame}
 use Rattle.inline_model.specs.declared.search.Mark.{Mark}
 use Rattle.inline_model.specs.declared.search.Mark.TheVariants.{Unseen, Open, Done}

@@ -15,7 +15,7 @@ use Rattle.inline_model_laws.specs.Within.{Within}
 use Rattle.inline_model_laws.specs.Chains.{Opening, Opens, IsChain, IsRecursion}
 use Rattle.inline_model_laws.specs.Chains.IsChain.{empty}
 use Rattle.inline_model_laws.proofs.ChainLemmas.{FromFunction, stays, goes, chain_from}
-use Rattle.inline_model_laws.proofs.Rising.{cons_cases, is_first, pairs_nil, pairs_cons}
+use Rattle.flow_model.proofs.Rising.{cons_cases, is_first, pairs_nil, pairs_cons}
 use Rattle.inline_model_openings.specs.Entries.{IsEntry}
 use Rattle.inline_model.specs.declared.path.Frame.{Frame}
 use Rattle.inline_model.specs.declared.search.Mark.{Mark}

@@ -2,7 +2,6 @@
 use Rattle.std.proofs.Common.{◌≡◌, ◌≢◌, inl, inr, ℕ, ℤ, zero, suc, ◌+◌, ◌-◌, ◌<◌, ◌≤◌, List, [], ◌∷◌, length, Option, Some, Contains, All, AllPairs, refl, sym, ◌∙◌, ap, subst, arith}
 use Rattle.std.specs.Prelude.{slice_get}
 use Rattle.std.specs.Ordering.{nat_cmp}
-use Rattle.std.specs.Cmp.{nat_cmp_total}
 use Rattle.std.specs.declared.cmp.Ordering.TheVariants.{Less}
 use Rattle.std.proofs.lemmas.List.Elements.{All-contains, All-nil}
 use Rattle.std.proofs.lemmas.List.Sums.{sum_by-append, sum_by-cons}
@@ -15,9 +14,7 @@ use Rattle.flow_model.specs.declared.records.SysEdge.{SysEdge}
 use Rattle.flow_model.specs.Call.{Call}
 use Rattle.flow_model.specs.Graph.{Graph, Owns, HaveOneOwner, end_of}
 use Rattle.flow_model.specs.Order.{site_order, StrictlyRise}
-use Rattle.flow_model.specs.Rules.{HasRightEntries, HasOwnExits, HasRightNames, HasNoRepeats, HasRightPatterns, IsInOrder, IsValid, IsLeastBroken}
-use Rattle.flow_model.specs.Rules.IsLeastBroken.{entries as broken_entries, exits as broken_exits, names as broken_names, edges as broken_edges, functions as broken_functions, repeats as broken_repeats, patterns as broken_patterns}
-use Rattle.flow_model.proofs.OrderLemmas.{silent_order_total, sys_order_total}
+use Rattle.flow_model.specs.Rules.{HasRightEntries, HasOwnExits, HasRightNames, HasRightPatterns, IsInOrder, IsValid}
 use Rattle.inline_model_laws.specs.Copies.{Opened, function_of, entry_of, size_of, node_count}
 use Rattle.inline_model_laws.specs.Copies.IsCopy.{of_start}
 use Rattle.inline_model_laws.specs.Inlined.{IsNodeOf, HasInlinedSilent, HasInlinedSys, IsInlined}
@@ -25,26 +22,8 @@ use Rattle.inline_model_laws.specs.Inlined.HasInlinedSilent.{copied, enters, lea
 use Rattle.inline_model_laws.specs.Inlined.HasInlinedSys.{copied as copied_sys}
 use Rattle.inline_model_laws.proofs.Basics.{entry_is}
 use Rattle.inline_model_laws.proofs.InlinedLemmas.{has_copy, node_of}
-use Rattle.inline_model_laws.proofs.Rising.{cons_cases, pairs_nil, pairs_cons}
-use Rattle.inline_model_laws.proofs.Rising.{all_from}
-use Rattle.flow_model.proofs.ApartLemmas.{rises_apart}
-
-no_repeats : (g : Graph) → IsInOrder g → HasNoRepeats g
-no_repeats g order = record {
-  silent = λ i j d before within same. rises_apart silent_order_total _ _ (order.silent i j d before within) same;
-  sys = λ i j d before within same. rises_apart sys_order_total _ _ (order.sys i j d before within) same;
-  sites = λ i j d before within same. rises_apart nat_cmp_total _ _ (order.calls i j d before within) same;
-  candidates = λ k d within i j e before inside same. rises_apart nat_cmp_total _ _ (order.candidates k d within i j e before inside) same;
-}
-
-pub none_broken : (g : Graph) (k : ℕ) → IsValid g → IsLeastBroken g k → ⊥
-none_broken g k valid (broken_entries is not_so) = not_so valid.entries
-none_broken g k valid (broken_exits is entries not_so) = not_so valid.exits
-none_broken g k valid (broken_names is entries exits not_so) = not_so valid.names
-none_broken g k valid (broken_edges is entries exits names not_so) = not_so valid.edges
-none_broken g k valid (broken_functions is entries exits names edges not_so) = not_so valid.functions
-none_broken g k valid (broken_repeats is entries exits names edges functions not_so) = not_so (no_repeats g valid.order)
-none_broken g k valid (broken_patterns is entries exits names edges functions repeats not_so) = not_so valid.patterns
+use Rattle.flow_model.proofs.Rising.{cons_cases, pairs_nil, pairs_cons}
+use Rattle.flow_model.proofs.Rising.{all_from}
 
 -- a list of one function
 one_only : (P : ModelFunction → Type 0) (only : ModelFunction) → P only → All P (only ∷ [])

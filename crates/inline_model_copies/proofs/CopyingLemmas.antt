@@ -18,7 +18,7 @@ use Rattle.flow_model.specs.Rules.{IsValid}
 use Rattle.flow_model.proofs.OrderLemmas.{lt_from_less, numbers_tie}
 use Rattle.flow_model.proofs.Items.{contains-filter}
 use Rattle.inline_model_laws.proofs.Basics.{candidate_below, entry_is, has_function, owns_entry}
-use Rattle.inline_model_laws.proofs.Rising.{is_first, is_later}
+use Rattle.flow_model.proofs.Rising.{is_first, is_later}
 use Rattle.inline_model_laws.specs.Within.{Within}
 use Rattle.inline_model_laws.specs.Chains.{Opening, IsGreatest}
 use Rattle.inline_model_laws.specs.Copies.{Opened, function_of, opened_order, IsCopy, AreOpenings, Copies, Branches, AreCopies, size_of, node_count}

@@ -1,15 +1,15 @@
 -- No copy stands twice in the list of copies.
-use Rattle.std.proofs.Common.{◌≡◌, ◌≢◌, ◌⊎◌, inl, inr, ℕ, ◌+◌, ◌<◌, List, [], ◌∷◌, ◌++◌, length, Contains, AllPairs, refl, sym, ◌∙◌, ap, subst, arith}
+use Rattle.std.proofs.Common.{◌≡◌, ◌≢◌, inl, inr, ◌+◌, List, [], ◌∷◌, ◌++◌, length, Contains, AllPairs, refl, sym, ◌∙◌, ap, subst, arith}
 use Rattle.std.specs.declared.cmp.Ordering.TheVariants.{Less}
 use Rattle.std.proofs.lemmas.List.{append-nil, append_assoc, length-append}
-use Rattle.std.proofs.lemmas.List.Elements.{Contains-append_left, Contains-append_right, Contains-append_cases}
+use Rattle.std.proofs.lemmas.List.Elements.{Contains-append_cases}
 use Rattle.flow_model.specs.Graph.{Graph}
 use Rattle.flow_model.specs.Order.{StrictlyRise}
 use Rattle.inline_model_laws.specs.Copies.{Opened, opened_order, Copies, Branches, AreCopies}
 use Rattle.inline_model_laws.specs.Copies.Copies.{unfolds}
 use Rattle.inline_model_laws.specs.Copies.Branches.{over, branch}
 use Rattle.inline_model_laws.proofs.OneInlined.{opened_order_total}
-use Rattle.inline_model_laws.proofs.Rising.{cons_cases, is_first, is_later, pairs_nil, pairs_cons, pairs_head, pairs_tail}
+use Rattle.flow_model.proofs.Rising.{cons_cases, is_first, is_later, pairs_nil, pairs_cons, pairs_head, pairs_tail}
 
 pairs_append : {X : Type 0} (R : X → X → Type 0) (xs ys : List X) → AllPairs R xs → AllPairs R ys → ((x y : X) → Contains xs x → Contains ys y → R x y) → AllPairs R (xs ++ ys)
 pairs_append R [] ys one two across = two

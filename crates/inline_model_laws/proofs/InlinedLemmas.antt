@@ -29,7 +29,7 @@ use Rattle.inline_model_laws.specs.Inlined.HasInlinedSilent.{copied, enters, lea
 use Rattle.inline_model_laws.specs.Inlined.HasInlinedSys.{copied as copied_sys}
 use Rattle.inline_model_laws.proofs.Basics.{within_owns, function_owns_entry, entry_is, silent_stays, sys_stays, same_function}
 use Rattle.inline_model_laws.proofs.DepthLemmas.{the_start}
-use Rattle.inline_model_laws.proofs.Rising.{cons_cases, is_first, is_later}
+use Rattle.flow_model.proofs.Rising.{cons_cases, is_first, is_later}
 use Rattle.inline_model_laws.proofs.Standing.{Stands, Leaves as GoesBack, stands_first, leaves, within_caller, sites_of}
 
 -- The copies that stand in a list before its rest: they have all copies that go on from one of them.

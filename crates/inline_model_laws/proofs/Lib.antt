@@ -5,5 +5,4 @@ pub mod DistinctCopies
 pub mod InlinedLemmas
 pub mod OneInlined
 pub mod RecursionLemmas
-pub mod Rising
 pub mod Standing

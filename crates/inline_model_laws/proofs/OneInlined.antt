@@ -12,7 +12,7 @@ use Rattle.inline_model_laws.specs.Copies.{Opened, function_of, opened_order, no
 use Rattle.inline_model_laws.specs.Copies.Copies.{unfolds}
 use Rattle.inline_model_laws.specs.Copies.Branches.{over, branch}
 use Rattle.inline_model_laws.specs.Inlined.{HasInlinedSilent, HasInlinedSys, IsInlined}
-use Rattle.inline_model_laws.proofs.Rising.{same_members}
+use Rattle.flow_model.proofs.Rising.{same_members}
 
 pub opened_order_total : IsTotalOrder opened_order
 opened_order_total = then_total (on_total (λ e. e.site) nat_cmp_total) (on_total (λ e. e.candidate) nat_cmp_total)

@@ -1,4 +1,3 @@
-pub mod Bounds
 pub mod Edges
 pub mod EntryLemmas
 pub mod RangeLemmas

@@ -1,11 +1,10 @@
 -- The turn of one node, and what stands at the end.
-use Rattle.std.proofs.Common.{◌≡◌, ℕ, ◌+◌, ◌<◌, ◌≤◌, ◌⊎◌, ◌↔◌, List, [], ◌∷◌, ◌++◌, length, take, drop, get_or, Contains, Some, None, refl, sym, ap, ◌∙◌, subst, inl, inr, arith}
+use Rattle.std.proofs.Common.{◌≡◌, ℕ, ◌+◌, ◌<◌, ◌≤◌, ◌⊎◌, ◌↔◌, List, [], ◌∷◌, ◌++◌, length, take, drop, Contains, Some, refl, sym, ap, ◌∙◌, subst, inl, inr, arith}
 use Rattle.std.specs.Prelude.{slice_get}
 use Rattle.std.specs.FinSet.{insert, empty}
-use Rattle.std.proofs.lemmas.Bool.{cases_lt}
 use Rattle.std.proofs.lemmas.List.{take_more, take-append-le, length-append, take_all, take-append-drop}
 use Rattle.std.proofs.lemmas.List.Elements.{Contains-get_or, Contains-push, Contains-push_cases, Contains-append_left}
-use Rattle.std.proofs.lemmas.Option.{none-some, slice_get-get_or, slice_get_within, get_or_from_slice_get}
+use Rattle.std.proofs.lemmas.Option.{slice_get-get_or, slice_get_within, get_or_from_slice_get}
 use Rattle.dm_sets.specs.Nodes.{Nodes, Has}
 use Rattle.flow_model.specs.declared.records.ModelFunction.{ModelFunction}
 use Rattle.flow_model.specs.Found.{Found}
@@ -19,13 +18,6 @@ use Rattle.flow_model.specs.Growth.{Adds, HasOne}
 use Rattle.inline_model_openings.specs.Saturating.{IsWithin, CallsTo, PassesTo, LeavesTo, LeadsTo, IsSaturating}
 use Rattle.inline_model_openings.specs.Saturating.LeadsTo.{silent as l_silent, sys as l_sys, passes as l_passes, leaves as l_leaves}
 use Rattle.flow_model.proofs.Grown.{adds-still, adds-cases}
-
--- where there is no i-th node, i is not below the length
-pub none_from : (xs : List ℕ) (i : ℕ) → slice_get xs i ≡ None → length xs ≤ i
-none_from xs i none = elim (cases_lt i (length xs)) [
-  | inl lt ↦ absurd (none-some (get_or xs i 0) (sym none ∙ slice_get-get_or xs i 0 lt))
-  | inr ge ↦ ge
-]
 
 front_has : (i : ℕ) (xs : List ℕ) (a : ℕ) → Contains (take i xs) a → Contains xs a
 front_has i xs a has = subst (λ ys. Contains ys a) (take-append-drop i xs) (Contains-append_left (take i xs) (drop i xs) a has)

@@ -1,6 +1,6 @@
 -- The entries of a pattern, word by word.
-use Rattle.std.proofs.Common.{◌≡◌, ◌≢◌, ℕ, zero, suc, ◌+◌, ◌-◌, ◌<◌, ◌≤◌, List, [], ◌∷◌, ◌++◌, length, take, drop, get_or, refl, sym, ◌∙◌, ap, subst, inl, inr, Contains, arith}
-use Rattle.std.specs.Prelude.{◌⊎◌, ◌↔◌, Option, Some, None, ℤ, Result, Ok, Err, IfSome, IfNone, slice_get}
+use Rattle.std.proofs.Common.{◌≡◌, ◌≢◌, ℕ, zero, suc, ◌+◌, ◌-◌, ◌<◌, List, [], ◌∷◌, ◌++◌, length, drop, refl, sym, ◌∙◌, ap, subst, inl, inr, Contains, arith}
+use Rattle.std.specs.Prelude.{Option, Some, None, ℤ, Err, IfSome, IfNone, slice_get}
 use Rattle.std.specs.List.{AllZip}
 use Rattle.std.specs.declared.cmp.Ordering.TheVariants.{Less, Equal}
 use Rattle.std.specs.Option.{option_cmp}
@@ -18,7 +18,7 @@ use Rattle.model_file.specs.ModelText.{entry_text}
 use Rattle.model_file.specs.SysBounds.{AreEntries, IsFrom, end_after, entry_word, entries_words}
 use Rattle.model_file.specs.declared.version.ModelVersion.TheVariants.{Two}
 use Rattle.model_file.proofs.LineLemmas.{no_feed_space}
-use Rattle.model_file.proofs.Narrowing.{Leads, IsEndedPart, IsWhole, With, leads_start, ends_on, ends_miss, whole_miss, whole_stands, reads_same}
+use Rattle.model_file.proofs.Narrowing.{Leads, IsEndedPart, IsWhole, With, leads_start, ends_on, ends_miss, whole_miss, whole_stands}
 use Rattle.model_file.proofs.PatternLemmas.{IsLeastEntry, wide, then_cases, entries_tie, entry_ties, drop_next, none_after}
 
 abbrev pub head_of : List (Option ℤ) → Option ℤ

@@ -8,7 +8,8 @@ use Rattle.model_file.specs.declared.error.ModelError.{ModelError}
 use Rattle.model_file.specs.declared.error.ModelError.TheVariants.{OutOfMemory, BadLine, Invalid, Truncated, TooLarge, Version}
 use Rattle.model_file.specs.ModelText.{IsFormedModel}
 use Rattle.model_file.specs.Refusal.{IsModel, IsModelRefusal}
-use Rattle.model_file.proofs.ReadingLemmas.{has_our_version, none_broken}
+use Rattle.flow_model.proofs.ValidModels.{none_broken}
+use Rattle.model_file.proofs.ReadingLemmas.{has_our_version}
 use Rattle.model_file.proofs.UniqueLemmas.{one_graph, no_longer}
 
 -- what goes through a line is a first part

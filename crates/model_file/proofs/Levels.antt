@@ -1,14 +1,13 @@
 -- Edges ordered by one number and then by the rest: which numbers may follow, and what is left once one was read.
-use Rattle.std.proofs.Common.{◌≡◌, ◌≢◌, ℕ, ◌+◌, ◌<◌, ◌≤◌, List, [], ◌∷◌, ◌++◌, refl, sym, ◌∙◌, ap, subst, inl, inr, Contains, arith}
-use Rattle.std.specs.Prelude.{◌⊎◌, Option, Some, None, IfSome, IfNone, Err}
+use Rattle.std.proofs.Common.{◌≡◌, ◌≢◌, ℕ, ◌+◌, ◌<◌, ◌≤◌, List, ◌++◌, refl, sym, ◌∙◌, subst, inl, inr, Contains, arith}
+use Rattle.std.specs.Prelude.{Option, Some, None, IfSome, IfNone}
 use Rattle.std.specs.declared.cmp.Ordering.{Ordering}
 use Rattle.std.specs.declared.cmp.Ordering.TheVariants.{Less}
 use Rattle.std.specs.Ordering.{nat_cmp, ordering_then}
 use Rattle.std.proofs.lemmas.Bool.{cases_lt}
 use Rattle.flow_model.specs.declared.records.SysEdge.{SysEdge}
-use Rattle.line_text.specs.Reading.{StandsFirst}
 use Rattle.model_file.specs.SysBounds.{IsAfter, HasNumber, IsLeastBelow}
-use Rattle.model_file.proofs.Narrowing.{IsPart, Leads, With, leads_on, leads_same}
+use Rattle.model_file.proofs.Narrowing.{IsPart, Leads, With, leads_same}
 use Rattle.model_file.proofs.Orders.{less_first, less_next, less_cases}
 
 -- by the number, then by the rest

@@ -4,7 +4,6 @@ use Rattle.std.specs.Prelude.{◌⊎◌, ◌↔◌, IsTrue, Result, Ok, Err, IfO
 use Rattle.std.specs.List.{list_any}
 use Rattle.std.proofs.lemmas.Bool.{true≢false, false≢true}
 use Rattle.std.proofs.lemmas.Bool.Decides.{eqb_tells}
-use Rattle.std.proofs.lemmas.Cmp.{nat_cmp_total}
 use Rattle.std.proofs.lemmas.Fmt.{decimal_injective, decimal_digit}
 use Rattle.std.proofs.lemmas.List.{append_cancel_left, append_cancel_right}
 use Rattle.line_text.specs.Files.{IsFirstLine, IsVersionLine}
@@ -12,9 +11,8 @@ use Rattle.line_text.specs.Files.IsFirstLine.{ended}
 use Rattle.line_text.proofs.FilesLemmas.{through_first}
 use Rattle.line_text.proofs.VersionLemmas.{decimal-no_feed}
 use Rattle.flow_model.specs.Graph.{Graph}
-use Rattle.flow_model.specs.Rules.{IsInOrder, HasNoRepeats, HasRightPatterns, IsValid, IsLeastBroken}
+use Rattle.flow_model.specs.Rules.{IsInOrder, HasRightPatterns, IsValid, IsLeastBroken}
 use Rattle.flow_model.specs.Rules.IsLeastBroken.{entries as broken_entries, exits as broken_exits, names as broken_names, edges as broken_edges, functions as broken_functions, repeats as broken_repeats, patterns as broken_patterns}
-use Rattle.flow_model.proofs.OrderLemmas.{silent_order_total, sys_order_total}
 use Rattle.model_file.specs.declared.error.ModelError.{ModelError}
 use Rattle.model_file.specs.declared.error.ModelError.TheVariants.{OutOfMemory, BadLine, Invalid, Truncated, TooLarge, Version}
 use Rattle.model_file.specs.declared.version.ModelVersion.{ModelVersion}
@@ -25,7 +23,7 @@ use Rattle.model_file.specs.Refusal.{IsModel, IsModelRefusal, HasOtherModelVersi
 use Rattle.model_file.specs.Writing.{IsBroken}
 use Rattle.model_file.specs.States.{IsReadAs}
 use Rattle.model_file.proofs.HeadLemmas.{after_head, text_is}
-use Rattle.flow_model.proofs.ApartLemmas.{rises_apart}
+use Rattle.flow_model.proofs.ValidModels.{no_repeats, none_broken}
 use Rattle.line_text.proofs.VersionLemmas.{has_last}
 
 -- versions
@@ -114,15 +112,6 @@ has_our_version v text g is has =
 
 -- rules
 
-pub no_repeats : (g : Graph) → IsInOrder g → HasNoRepeats g
-no_repeats g order =
-    record {
-      silent = λ i j d before within same. rises_apart silent_order_total _ _ (order.silent i j d before within) same;
-      sys = λ i j d before within same. rises_apart sys_order_total _ _ (order.sys i j d before within) same;
-      sites = λ i j d before within same. rises_apart nat_cmp_total _ _ (order.calls i j d before within) same;
-      candidates = λ k d within i j e before inside same. rises_apart nat_cmp_total _ _ (order.candidates k d within i j e before inside) same;
-    }
-
 -- lists that are in order and have right patterns break one of the first five rules, if any
 pub one_of_five : (g : Graph) (k : ℕ) → IsInOrder g → HasRightPatterns g → IsLeastBroken g k → k ≤ 5
 one_of_five g k order patterns (broken_entries is not_so) = omega (arith, is)
@@ -132,15 +121,6 @@ one_of_five g k order patterns (broken_edges is entries exits names not_so) = om
 one_of_five g k order patterns (broken_functions is entries exits names edges not_so) = omega (arith, is)
 one_of_five g k order patterns (broken_repeats is entries exits names edges functions not_so) = absurd (not_so (no_repeats g order))
 one_of_five g k order patterns (broken_patterns is entries exits names edges functions repeats not_so) = absurd (not_so patterns)
-
-pub none_broken : (g : Graph) (k : ℕ) → IsValid g → IsLeastBroken g k → ⊥
-none_broken g k valid (broken_entries is not_so) = not_so valid.entries
-none_broken g k valid (broken_exits is entries not_so) = not_so valid.exits
-none_broken g k valid (broken_names is entries exits not_so) = not_so valid.names
-none_broken g k valid (broken_edges is entries exits names not_so) = not_so valid.edges
-none_broken g k valid (broken_functions is entries exits names edges not_so) = not_so valid.functions
-none_broken g k valid (broken_repeats is entries exits names edges functions not_so) = not_so (no_repeats g valid.order)
-none_broken g k valid (broken_patterns is entries exits names edges functions repeats not_so) = not_so valid.patterns
 
 pub right_patterns : (v : ModelVersion) (g : Graph) → IsSpelled v g → HasRightPatterns g
 right_patterns v g spelled k d within = (spelled.sys k d within).right

@@ -1,8 +1,7 @@
 -- The lines of system-call edges.
-use Rattle.std.proofs.Common.{◌≡◌, ◌≢◌, ℕ, ◌+◌, ◌<◌, ◌≤◌, ◌^◌, List, [], ◌∷◌, ◌++◌, decimal, flat_map, replicate, length, refl, sym, ◌∙◌, ap, subst, inl, inr, Contains, append_assoc, All, arith}
-use Rattle.std.specs.Prelude.{◌⊎◌, Option, Some, None, ℤ, codes}
+use Rattle.std.proofs.Common.{◌≡◌, ◌≢◌, ℕ, ◌+◌, ◌<◌, ◌≤◌, List, [], ◌∷◌, ◌++◌, decimal, refl, sym, ◌∙◌, ap, subst, inl, inr, Contains, append_assoc, All, arith}
+use Rattle.std.specs.Prelude.{Option, Some, None, ℤ, codes}
 use Rattle.std.specs.List.{AllZip}
-use Rattle.std.specs.declared.cmp.Ordering.TheVariants.{Less}
 use Rattle.std.specs.Ordering.{nat_cmp, ordering_then}
 use Rattle.dm_base.specs.Pattern.{pattern_cmp}
 use Rattle.std.proofs.lemmas.List.{append-nil}
@@ -18,9 +17,8 @@ use Rattle.sys_table.proofs.Names.{name_of-IsPlain}
 use Rattle.model_file.specs.declared.version.ModelVersion.{ModelVersion}
 use Rattle.model_file.specs.declared.version.ModelVersion.TheVariants.{One, Two}
 use Rattle.model_file.specs.Bounds.{IsNextSys}
-use Rattle.model_file.specs.Lines.{IsAfterSys}
-use Rattle.model_file.specs.ModelText.{sys_line, entries_text, entry_text, pattern_text, HasPattern, IsSmall, IsSpelledSys}
-use Rattle.model_file.specs.SysBounds.{pattern_order, end_order, name_order, IsAfter, BeginsAt, IsNamed, EndsAt, HasNameAfter, HasEndAfter, HasPatternAfter, IsPattern, IsNextPattern, HasNumber, IsLeastBelow, end_after, entry_word, entries_words, pattern_rest}
+use Rattle.model_file.specs.ModelText.{sys_line, entries_text, entry_text, pattern_text, IsSpelledSys}
+use Rattle.model_file.specs.SysBounds.{pattern_order, end_order, name_order, IsAfter, BeginsAt, IsNamed, EndsAt, HasNameAfter, HasEndAfter, HasPatternAfter, IsPattern, IsNextPattern, HasNumber, IsLeastBelow, end_after, entries_words, pattern_rest}
 use Rattle.model_file.proofs.LineLemmas.{first_word, plain_number, plain_word, no_feed_space}
 use Rattle.model_file.proofs.Levels.{Fitting, IsFree, IsTied, step, rest_after, number_part, least_none, least_room, least_full}
 use Rattle.model_file.proofs.Orders.{less_first, less_next, less_cases}

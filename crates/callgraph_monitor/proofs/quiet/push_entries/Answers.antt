@@ -3,7 +3,7 @@ use Rattle.std.proofs.lemmas.List.{length_push}
 use Rattle.std.proofs.lemmas.List.Elements.{Contains-get_or}
 use Rattle.callgraph_monitor.specs.Ahead.{BeginsAt}
 use Rattle.flow_model.specs.Growth.{Pushes, HasOne}
-use Rattle.callgraph_monitor.proofs.Bounds.{candidate_below}
+use Rattle.flow_model.proofs.EdgeBounds.{candidate_below}
 use Rattle.callgraph_monitor.proofs.Edges.{begins_at, begins_only, function_at}
 use Rattle.callgraph_monitor.proofs.Pushed.{pushes-start, pushes-more, pushes-end, pushes-like, pushes-one}
 use Rattle.callgraph_monitor.proofs.quiet.push_entries.Goals as goal

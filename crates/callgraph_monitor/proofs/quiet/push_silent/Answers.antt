@@ -2,7 +2,7 @@ use Rattle.std.proofs.Common.{◌≡◌, length, get_or, ap, subst, arith}
 use Rattle.std.proofs.lemmas.List.{length_push}
 use Rattle.flow_model.specs.declared.records.SilentEdge.{SilentEdge}
 use Rattle.flow_model.specs.Growth.{Pushes, HasOne}
-use Rattle.callgraph_monitor.proofs.Edges.{silent_end, end_of_silent}
+use Rattle.flow_model.proofs.SilentEnds.{silent_end, end_of_silent}
 use Rattle.callgraph_monitor.proofs.Pushed.{pushes-start, pushes-more, pushes-end, pushes-like, pushes-one}
 use Rattle.callgraph_monitor.proofs.quiet.push_silent.Goals as goal
 

@@ -3,7 +3,7 @@ use Rattle.std.proofs.lemmas.List.Elements.{Contains-get_or}
 use Rattle.dm_base.specs.Fits.{Fits}
 use Rattle.flow_model.specs.declared.records.SysEdge.{SysEdge}
 use Rattle.flow_model.specs.Growth.{Adds, HasOne}
-use Rattle.callgraph_monitor.proofs.Bounds.{sys_below}
+use Rattle.flow_model.proofs.EdgeBounds.{sys_below}
 use Rattle.callgraph_monitor.proofs.Edges.{sys_end, end_of_sys}
 use Rattle.flow_model.proofs.Grown.{adds-start, adds-more, adds-end, adds-like}
 use Rattle.flow_model.proofs.Items.{filter-contains}

@@ -6,7 +6,8 @@ use Rattle.flow_model.specs.Language.Walk.{over}
 use Rattle.callgraph_monitor.specs.Space.{AreEnds}
 use Rattle.callgraph_monitor.specs.Visits.{visit_cost}
 use Rattle.callgraph_monitor.proofs.Bounds.{quiet_below}
-use Rattle.callgraph_monitor.proofs.Closed.{none_from, closed_walk, turn_long, turn_reached, turn_closed, turn_cost}
+use Rattle.flow_model.proofs.Items.{none_from}
+use Rattle.callgraph_monitor.proofs.Closed.{closed_walk, turn_long, turn_reached, turn_closed, turn_cost}
 use Rattle.flow_model.proofs.Grown.{adds-still, adds-like}
 use Rattle.callgraph_monitor.proofs.visiting.saturate.Given.{Over}
 use Rattle.callgraph_monitor.proofs.visiting.saturate.Goals as goal

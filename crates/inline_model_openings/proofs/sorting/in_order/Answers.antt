@@ -1,7 +1,7 @@
 use Rattle.std.proofs.lemmas.List.Filters.{dedup_is}
 use Rattle.std.proofs.lemmas.List.Kept.{Contains-from_dedup, IsStrictlySortedBy-dedup}
 use Rattle.std.proofs.lemmas.List.Sorted.{Contains-permutation, IsPermutation-sym}
-use Rattle.inline_model_laws.proofs.Rising.{rises, tied}
+use Rattle.flow_model.proofs.Rising.{rises, tied}
 use Rattle.inline_model_openings.proofs.sorting.in_order.Goals as goal
 
 pub returns-clause-rise : goal.returns-clause-rise

@@ -3,7 +3,7 @@ use Rattle.std.proofs.lemmas.List.{length-map}
 use Rattle.std.proofs.lemmas.List.Elements.{Contains-get_or}
 use Rattle.flow_model.specs.Call.{Call}
 use Rattle.flow_model.specs.Growth.{Adds}
-use Rattle.inline_model_openings.proofs.Bounds.{call_below}
+use Rattle.flow_model.proofs.EdgeBounds.{call_below}
 use Rattle.inline_model_openings.proofs.Edges.{calls_from, call_from, site_at, passes_end, end_of_passes, Passes}
 use Rattle.flow_model.proofs.Grown.{adds-start, adds-more_read, adds-end, adds-add, adds-like}
 use Rattle.inline_model_openings.proofs.within.follow_calls.Goals as goal

@@ -3,8 +3,8 @@ use Rattle.flow_model.specs.declared.records.SilentEdge.{SilentEdge}
 use Rattle.std.specs.Prelude.{Contains}
 use Rattle.std.proofs.lemmas.List.Elements.{Contains-get_or}
 use Rattle.flow_model.specs.Growth.{Adds, HasOne}
-use Rattle.inline_model_openings.proofs.Bounds.{silent_below}
-use Rattle.inline_model_openings.proofs.Edges.{silent_end, end_of_silent}
+use Rattle.flow_model.proofs.EdgeBounds.{silent_below}
+use Rattle.flow_model.proofs.SilentEnds.{silent_end, end_of_silent}
 use Rattle.flow_model.proofs.Grown.{adds-start, adds-more_read, adds-end, adds-add, adds-like}
 use Rattle.flow_model.proofs.Items.{filter-contains}
 use Rattle.inline_model_openings.proofs.within.follow_silent.Goals as goal

@@ -2,7 +2,7 @@ use Rattle.std.proofs.Common.{◌≡◌, sym, subst, arith}
 use Rattle.flow_model.specs.declared.records.SysEdge.{SysEdge}
 use Rattle.std.specs.Prelude.{Contains}
 use Rattle.flow_model.specs.Growth.{Adds, HasOne}
-use Rattle.inline_model_openings.proofs.Bounds.{sys_below}
+use Rattle.flow_model.proofs.EdgeBounds.{sys_below}
 use Rattle.inline_model_openings.proofs.Edges.{sys_end, end_of_sys}
 use Rattle.flow_model.proofs.Grown.{adds-start, adds-more, adds-end, adds-add, adds-like}
 use Rattle.flow_model.proofs.Items.{filter-contains}

@@ -1,7 +1,8 @@
 use Rattle.std.proofs.Common.{◌≡◌, sym, ap, ◌∙◌, Some, arith}
 use Rattle.std.specs.Prelude.{slice_get}
 use Rattle.dm_sets.specs.Nodes.{Nodes}
-use Rattle.inline_model_openings.proofs.Saturating.{none_from, turn, saturated}
+use Rattle.inline_model_openings.proofs.Saturating.{turn, saturated}
+use Rattle.flow_model.proofs.Items.{none_from}
 use Rattle.inline_model_openings.proofs.within.nodes_within.Goals as goal
 
 pub loop-node-init : goal.loop-node-init

@@ -4,7 +4,7 @@ use Rattle.std.proofs.lemmas.List.Elements.{Contains-get_or}
 use Rattle.dm_sets.specs.Nodes.{Has}
 use Rattle.flow_model.specs.Call.{Call}
 use Rattle.flow_model.specs.Growth.{Adds}
-use Rattle.inline_model_openings.proofs.Bounds.{call_below}
+use Rattle.flow_model.proofs.EdgeBounds.{call_below}
 use Rattle.inline_model_openings.proofs.Edges.{calls_of, call_of, site_at, returns_end, end_of_returns, Returns}
 use Rattle.flow_model.proofs.Grown.{adds-start, adds-more_read, adds-end, adds-add, adds-like}
 use Rattle.inline_model_openings.proofs.within.return_from.Goals as goal

@@ -1,4 +1,4 @@
--- The nodes of a valid model are below its number of nodes.
+-- The nodes to which the edges of a valid model lead are below its number of nodes.
 use Rattle.std.proofs.Common.{ℕ, ◌<◌, length, get_or, Contains, arith}
 use Rattle.std.proofs.lemmas.List.Elements.{All-contains}
 use Rattle.flow_model.specs.declared.records.SilentEdge.{SilentEdge}
@@ -6,7 +6,7 @@ use Rattle.flow_model.specs.declared.records.SysEdge.{SysEdge}
 use Rattle.flow_model.specs.Call.{Call}
 use Rattle.flow_model.specs.Graph.{Graph, HaveOneOwner}
 use Rattle.flow_model.specs.Rules.{IsValid}
-pub use Rattle.flow_model.proofs.NodeBounds.{entry_below, owned_below}
+use Rattle.flow_model.proofs.NodeBounds.{owned_below}
 
 module _ (g : Graph) (valid : IsValid g) where
   second_below : (a b : ℕ) → HaveOneOwner g.functions g.nodes a b → b < g.nodes
