@@ -8,8 +8,11 @@ ghost use Rattle.c_check_scopes.specs.View.{env_of};
 ghost use Rattle.c_syntax.specs.UnitView.{enumerators_of, maybe_of, tag_of};
 ghost use Rattle.c_syntax.specs.View.{ident_of};
 
-use c_check_statements::{declare, declare_enum, enumerator_constant, enumerator_value, folded_value, new_enum, next_value};
 use c_check_scopes::{Environment, Meaning};
+use c_check_statements::{
+    declare, declare_enum, enumerator_constant, enumerator_value, folded_value, new_enum,
+    next_value,
+};
 use c_check_types::new_name;
 use c_check_units::{place_of_expression, tags_within};
 use c_check_values::CheckError;

@@ -18,8 +18,11 @@ ghost use Rattle.c_tree.specs.Tree.{function};
 ghost use Rattle.c_tree.specs.View.{ctype_of, function_of, types_of};
 
 use c_check_counts::{Next, name_of};
-use c_check_statements::{StatementTrees, are_named, body_numbers, body_of, declare_function, enter_body, function_meaning, parameters_of, type_declared};
 use c_check_scopes::{Before, Environment};
+use c_check_statements::{
+    StatementTrees, are_named, body_numbers, body_of, declare_function, enter_body,
+    function_meaning, parameters_of, type_declared,
+};
 use c_check_units::{
     Output, add_function, count_names, declares_function, function_with, leave,
     place_of_declarator, variables_of,

@@ -10,8 +10,11 @@ ghost use Rattle.c_check_scopes.specs.View.{before_of, env_of};
 ghost use Rattle.c_syntax.specs.UnitView.{maybe_init_of};
 ghost use Rattle.c_syntax.specs.View.{declarator_of, ident_of, spec_of};
 
-use c_check_statements::{Object, declare_behind, declare_function, function_meaning, global_object, object_of, type_declared, without_init};
 use c_check_scopes::{Before, Environment, Meaning};
+use c_check_statements::{
+    Object, declare_behind, declare_function, function_meaning, global_object, object_of,
+    type_declared, without_init,
+};
 use c_check_units::place_of_declarator;
 use c_check_values::CheckError;
 use c_syntax::{Declarator, Ident, Init, Spec};

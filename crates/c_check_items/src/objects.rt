@@ -16,8 +16,10 @@ ghost use Rattle.c_tree.specs.Layout.{cells};
 ghost use Rattle.c_tree.specs.View.{ctype_of, static_of};
 
 use crate::globals::global_declared;
-use c_check_statements::{Object, count_object, declare_behind, declare_within, initialised_static, static_object};
 use c_check_scopes::{Before, Environment};
+use c_check_statements::{
+    Object, count_object, declare_behind, declare_within, initialised_static, static_object,
+};
 use c_check_units::{count_names, leave};
 use c_check_values::{CheckError, TypedExpression};
 use c_syntax::{Declarator, Ident, Init, Spec};

@@ -9,8 +9,8 @@ ghost use Rattle.c_syntax.specs.UnitView.{members_of as listed_members};
 ghost use Rattle.c_syntax.specs.View.{ident_of};
 
 use crate::members::members;
-use c_check_statements::{define_struct, new_struct, struct_laid, tag_declaration};
 use c_check_scopes::{Environment, StructMember};
+use c_check_statements::{define_struct, new_struct, struct_laid, tag_declaration};
 use c_check_values::CheckError;
 use c_syntax::{Ident, Member};
 use std::alloc::Global;

@@ -53,7 +53,7 @@ abbrev pub PlainNames : Params → Type 0
 PlainNames no_params = Unit {0}
 PlainNames (more_params at s d ps) = PlainName (name_of d) × PlainNames ps
 
-name_plain : (env : Env) (n : Option Ident) (r : Checked CType) (t : CType) → with_name_demands (left env) n r ≡ fine t → PlainName n
+pub name_plain : (env : Env) (n : Option Ident) (r : Checked CType) (t : CType) → with_name_demands (left env) n r ≡ fine t → PlainName n
 name_plain env None r t g = tt
 name_plain env (Some x) r t g = let k = first_fine r (new_name (left env) x) (λ u _. fine u) t g in new_name_plain env x k.1 k.3
 

@@ -10,7 +10,7 @@ use Rattle.c_lexer.specs.Kinds.{Spells, IsKind}
 use Rattle.c_lexer.specs.Literals.{IsElement, plain, simple, octal, hexadecimal, HasElements, none, more}
 use Rattle.c_lexer.specs.TokenSpelling.{SpellsFrom, nothing, white, token, SpellsTokens}
 use Rattle.c_lexer.proofs.KindsLemmas.{kind_of_spelled}
-use Rattle.c_syntax.specs.Tree.{Ident, Spec, Storage, Expr, Exprs, Maybe, absent, there, TypeName, Declarator, Params, Init, Inits, MaybeInit, Parts, Decl, First, Labels, Stmt, BlockItems, Stmts, Groups, Declarators, Members, Enumerators, Tag, Item, Items}
+use Rattle.c_syntax.specs.Tree.{Ident, Spec, Storage, Expr, Exprs, Maybe, TypeName, Declarator, Params, Init, Inits, MaybeInit, Parts, Decl, First, Labels, Stmt, BlockItems, Stmts, Groups, Declarators, Members, Enumerators, Tag, Item, Items}
 use Rattle.c_syntax.specs.Tree as syntax
 use Rattle.c_syntax.specs.Specifiers.{Names, ReadsStorage, no_storage_stands, static_stands, extern_stands, Consts, no_const, a_const, ReadsSpec}
 use Rattle.c_syntax.specs.Grammar as grammar

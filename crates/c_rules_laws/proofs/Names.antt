@@ -1,11 +1,10 @@
 -- Names in the scopes of the two units.
-use Rattle.std.proofs.Common.{◌≡◌, ℕ, true, false, not, cond, if◌then◌else◌, List, [], ◌∷◌, Option, Some, None, refl, ap, sym, subst, arith}
+use Rattle.std.proofs.Common.{◌≡◌, ℕ, true, false, cond, if◌then◌else◌, List, [], ◌∷◌, Option, Some, None, refl, ap, sym, subst, arith}
 use Rattle.std.specs.Prelude.{is_none, bytes_eq}
-use Rattle.dm_base.specs.declared.mode.Mode.TheVariants.{Plain}
 use Rattle.c_syntax.specs.Tree.{Ident}
-use Rattle.c_rules.specs.Checked.{Checked, fine, demand, Met, met}
-use Rattle.c_rules.specs.Codes.{C2, C11, C12}
-use Rattle.c_rules.specs.Names.{Name, number_among, is_among, is_reserved, null_calls, given_names, may_be_declared}
+use Rattle.c_rules.specs.Checked.{Checked, fine, demand, met}
+use Rattle.c_rules.specs.Codes.{C2, C12}
+use Rattle.c_rules.specs.Names.{Name, number_among, is_among, is_reserved, null_calls}
 use Rattle.c_rules.specs.Scopes.{Env, Binding, Meaning, a_static, a_local, a_function, an_enumerator, unknown, Context, evaluated, sized, folded, lookup, at_depth, declared_here, with_name, meaning_or_unknown}
 use Rattle.c_rules.specs.TypedExpression.{TypedExpression}
 use Rattle.c_rules.specs.Conversions.{valued}
@@ -13,13 +12,10 @@ use Rattle.c_rules.specs.PrimaryExpressions.{used, given_number, number_or, func
 use Rattle.c_rules.specs.PostfixExpressions.{site_in, site_of, callee_of_type, callee_by_value}
 use Rattle.c_rules.specs.Declarators.{free_name, new_name}
 use Rattle.c_rules.specs.Expressions.{value_at, callee_meant, callee_bound}
-use Rattle.c_rules_laws.specs.TypedAlike.{AreUnreserved, MeanAlike, More, plain_scope, instrumented_scope, TypedAlike, beside}
-use Rattle.c_rules_laws.proofs.Leads.{Leads, same_leads, on_leads, both_leads, gives_leads, demand_leads, first_fine, demand_met, below_more}
+use Rattle.c_rules_laws.specs.TypedAlike.{AreUnreserved, MeanAlike, More, instrumented_scope, TypedAlike, beside}
+use Rattle.c_rules_laws.proofs.Leads.{Leads, same_leads, on_leads, both_leads, gives_leads, demand_leads, below_more}
 use Rattle.c_rules.proofs.ModeNames.{found_in}
-pub use Rattle.c_rules.proofs.ModeNames.{given_same, unreserved, may_more, name_leads, given_leads}
-
-abbrev pub left : Env → Env
-left env = plain_scope env
+pub use Rattle.c_rules.proofs.ModeNames.{left, given_same, unreserved, may_more, name_leads, given_leads, free_name_plain, new_name_plain}
 
 abbrev pub right : Env → More → Env
 right env w = instrumented_scope env w
@@ -98,16 +94,10 @@ named_callee_leads env w p m at place x = callee_bound_leads env w at place x (l
 pub free_name_leads : (env : Env) (w : More) (x : Ident) → Leads (free_name (left env) x) (free_name (right env w) x)
 free_name_leads env w x = name_leads x.name x.at _ _ (given_leads x)
 
-pub free_name_plain : (env : Env) (x : Ident) (a : Met) → free_name (left env) x ≡ fine a → is_reserved x.name ≡ false
-free_name_plain env x a e = let k = first_fine (demand (may_be_declared Plain x.name) C12 x.at met) (demand (not (is_among (given_names Plain) x.name)) C11 x.at met) (λ _ _. fine met) a e in unreserved x.name (demand_met _ 12 x.at met k.0 k.2)
-
 pub new_name_leads : (env : Env) (w : More) → MeanAlike env.names w.names → (x : Ident) → Leads (new_name (left env) x) (new_name (right env w) x)
 new_name_leads env w m x =
     both_leads (free_name (left env) x) (free_name (right env w) x) (demand (is_none (declared_here (left env) x.name)) C2 x.at met) (demand (is_none (declared_here (right env w) x.name)) C2 x.at met) (λ _ _. fine met) (λ _ _. fine met) (free_name_leads env w x)
     (λ a e. subst (λ o. Leads (demand (is_none (declared_here (left env) x.name)) C2 x.at met) (demand (is_none (at_depth env.depth o)) C2 x.at met)) (sym (m x.name (free_name_plain env x a e))) (same_leads _)) (λ _ _. (refl, tt))
-
-pub new_name_plain : (env : Env) (x : Ident) (a : Met) → new_name (left env) x ≡ fine a → is_reserved x.name ≡ false
-new_name_plain env x a e = let k = first_fine (free_name (left env) x) (demand (is_none (declared_here env x.name)) C2 x.at met) (λ _ _. fine met) a e in free_name_plain env x k.0 k.2
 
 -- ## Scopes behind declared names
 

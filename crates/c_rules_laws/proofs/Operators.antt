@@ -13,7 +13,7 @@ use Rattle.c_tree.specs.Operands.{promoted, common, OperatorKind, balanced, shif
 use Rattle.c_tree.specs.Operands.{kind_of as kind_of_operator}
 use Rattle.c_rules.specs.Checked.{fine, faulty, on, gives, demand, Met, met}
 use Rattle.c_rules.specs.Codes.{C1, C3, C4, C5, C6, C10, C12, C13}
-use Rattle.c_rules.specs.Limits.{most_cells, most_static_cells, most_calls}
+use Rattle.c_rules.specs.Limits.{most_cells, most_calls}
 use Rattle.c_rules.specs.Names.{Name, number_among, is_among, null_calls}
 use Rattle.c_rules.specs.Types.{same_type, is_scalar, is_integer, is_function, is_void}
 use Rattle.c_rules.specs.Scopes.{Env, Struct, incomplete, unknown_struct, defined_struct, Context, evaluated, sized, folded, Meaning, a_static, a_local, a_function, an_enumerator, unknown, Binding, binding_of, struct_of, Member, Before, layout_of}

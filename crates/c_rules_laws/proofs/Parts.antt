@@ -1,5 +1,5 @@
 -- Expressions and declarators in the scopes of the two units.
-use Rattle.std.proofs.Common.{◌≡◌, ℕ, suc, ◌+◌, true, false, ◌∷◌, Option, Some, None, nat_eq, refl, sym, subst}
+use Rattle.std.proofs.Common.{◌≡◌, ℕ, ◌+◌, true, false, ◌∷◌, Option, Some, None, nat_eq, refl, sym, subst}
 use Rattle.c_lexer.specs.declared.punctuator.TheConstants.{AMPERSAND}
 use Rattle.c_tree.specs.declared.value.BinOp.TheVariants.{Add, Sub}
 use Rattle.c_tree.specs.Tree.{CType, more_types}

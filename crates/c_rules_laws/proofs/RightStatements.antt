@@ -6,7 +6,7 @@ use Rattle.c_tree.specs.declared.value.IntType.{IntType}
 use Rattle.c_tree.specs.declared.value.Value.{Value}
 use Rattle.c_tree.specs.declared.tree.TLabel.{TLabel}
 use Rattle.c_tree.specs.declared.tree.TLabel.TheVariants.{Case, Default}
-use Rattle.c_tree.specs.Tree.{CType, void, integer, pointer, array, struct, function, Program, type_of}
+use Rattle.c_tree.specs.Tree.{CType, void, integer, pointer, array, struct, function, Program}
 use Rattle.c_tree.specs.Tree as typed
 use Rattle.c_tree.specs.Operands.{IsScalar, IsPromoted, promoted}
 use Rattle.c_tree.specs.Operators.{value_of}

@@ -15,7 +15,7 @@ use Rattle.c_tree.specs.Tree.{CType, void, integer, pointer, array, struct, func
 use Rattle.c_tree.specs.Layout.{Structs, repeat, flat, cells, first_cell}
 use Rattle.c_tree.specs.Functions.{int}
 use Rattle.c_tree.specs.Operands.{IsScalar, IsResult, IsComplete, IsObject, IsTarget, IsIntegerType, IsPromoted, promoted, common, Decays, FitsArithmetic}
-use Rattle.c_tree.specs.Operators.{Answer, convert, unary, binary, truth, value_of, negated, on_number, settle}
+use Rattle.c_tree.specs.Operators.{Answer, convert, unary, binary, truth, negated}
 use Rattle.c_tree.specs.Operators as operators
 use Rattle.c_tree.specs.OperatorTypes.{IsAnswer, IsGiven}
 use Rattle.c_tree.specs.Kinds.{Lies, IsPointer, IsConstant, HasType, static_objects, cells_where, if_static}

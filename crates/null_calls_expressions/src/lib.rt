@@ -6,4 +6,6 @@ mod marked;
 mod wanted;
 
 pub use expressions::expression;
-pub use null_calls_temporaries::{MarkedSites, Temporary, declared, declared_alone, post_name, pre_name};
+pub use null_calls_temporaries::{
+    MarkedSites, Temporary, declared, declared_alone, post_name, pre_name,
+};

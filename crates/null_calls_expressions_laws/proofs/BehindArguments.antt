@@ -1,5 +1,5 @@
 -- What stands behind the kept arguments of a marked call: the null call before it, the call, and the null call after it.
-use Rattle.std.proofs.Common.{◌≡◌, ℕ, suc, ◌+◌, ◌≤◌, ◌<◌, Bool, true, false, List, [], ◌∷◌, length, Some, refl, ap, ap₂, ◌∙◌, arith}
+use Rattle.std.proofs.Common.{◌≡◌, ℕ, ◌+◌, ◌≤◌, ◌<◌, Bool, true, false, List, [], ◌∷◌, length, Some, refl, ap, ap₂, ◌∙◌, arith}
 use Rattle.std.proofs.lemmas.Bool.Decides.{Decides-eqb}
 use Rattle.sys_table.specs.Table.{table}
 use Rattle.dm_base.specs.declared.mode.Mode.TheVariants.{Instrumented}
@@ -13,7 +13,7 @@ use Rattle.c_rules.specs.Checked.{Checked, fine, demand, on, both, all_three, me
 use Rattle.c_rules.specs.Types.{count}
 use Rattle.c_rules.specs.Names.{number_among, given_names}
 use Rattle.c_rules.specs.Scopes.{Env, Before}
-use Rattle.c_rules.specs.Counts.{calls, calls_of_all, after, after_designator}
+use Rattle.c_rules.specs.Counts.{calls, after, after_designator}
 use Rattle.c_rules.specs.TypedExpression.{not_constant, TypedExpression, typed_value, tree_of}
 use Rattle.c_rules.specs.PostfixExpressions.{site_of, Designator, all_fit, passed, call_of, called}
 use Rattle.c_rules.specs.Assignments.{trees_of, last_type}

@@ -4,7 +4,7 @@ use Rattle.c_tree.specs.Tree.{CType, void, integer, pointer, array, struct, func
 use Rattle.c_tree.specs.Tree as typed
 use Rattle.c_tree.specs.Operands.{IsScalar}
 use Rattle.c_syntax.specs.Tree.{Expr, a_name, Exprs, no_exprs, more_exprs}
-use Rattle.c_rules.specs.Checked.{Checked, fine, faulty, both}
+use Rattle.c_rules.specs.Checked.{Checked, fine, both}
 use Rattle.c_rules.specs.Types.{count}
 use Rattle.c_rules.specs.Scopes.{Env, Before}
 use Rattle.c_rules.specs.Counts.{calls, after, string_cells}

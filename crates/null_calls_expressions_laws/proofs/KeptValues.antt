@@ -1,6 +1,6 @@
 -- The temporaries of the arguments of a marked call are passed to it.
 use Rattle.std.proofs.Common.{suc, false, ◌&&◌, ◌∷◌, refl, ap, ap₂}
-use Rattle.c_tree.specs.Tree.{CType, CTypes, no_types, more_types, list_of}
+use Rattle.c_tree.specs.Tree.{no_types, more_types}
 use Rattle.c_tree.specs.Tree as typed
 use Rattle.c_syntax.specs.Tree.{a_name, no_exprs, more_exprs}
 use Rattle.c_rules.specs.Checked.{fine, both}

@@ -3,7 +3,7 @@ use Rattle.std.proofs.Common.{◌≡◌, ℕ, Bool, true, false, not, Some, None
 use Rattle.c_tree.specs.declared.value.IntType.TheVariants.{Int}
 use Rattle.c_tree.specs.Tree.{CType, void, integer, CTypes}
 use Rattle.c_tree.specs.Tree as typed
-use Rattle.c_syntax.specs.Tree.{Ident, Spec, Declarator, nothing, named, pointer, array, function, TypeName, type_name}
+use Rattle.c_syntax.specs.Tree.{Spec, Declarator, nothing, named, pointer, array, function, TypeName, type_name}
 use Rattle.c_syntax.specs.Tree as syntax
 use Rattle.c_rules.specs.Checked.{Checked, fine, faulty, demand, on, met}
 use Rattle.c_rules.specs.Scopes.{Env, inside, tag_number}

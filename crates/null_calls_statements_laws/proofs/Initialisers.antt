@@ -3,7 +3,7 @@ use Rattle.std.proofs.Common.{◌≡◌, ℕ, zero, suc, ◌+◌, ◌*◌, ◌�
 use Rattle.std.proofs.lemmas.Bool.{leb-true}
 use Rattle.c_tree.specs.Tree.{CType, Program}
 use Rattle.c_syntax.specs.Tree.{Expr, a_name, an_int, a_char, a_str, comma, sizeof_type, cast, call, member, postfix, prefix, unary, index, binary, assign, conditional, Exprs}
-use Rattle.c_syntax.specs.Tree.{Init, one, list, Inits, no_inits, more_inits, MaybeInit, no_init, an_init, no_parts, more_parts, decl, no_storage, nothing, no_block_items, block_decl}
+use Rattle.c_syntax.specs.Tree.{Init, one, list, Inits, no_inits, more_inits, an_init, no_parts, more_parts, decl, no_storage, nothing, no_block_items, block_decl}
 use Rattle.c_syntax.specs.Tree as syntax
 use Rattle.c_rules.specs.Checked.{Checked, fine, both}
 use Rattle.c_rules.specs.Scopes.{Env, Before, layout_of}

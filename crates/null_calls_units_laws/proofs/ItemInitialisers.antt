@@ -1,20 +1,18 @@
 -- Initialisers in scopes of the two units that are beside each other, where they have no calls.
-use Rattle.std.proofs.Common.{◌≡◌, ℕ, zero, suc, Bool, true, List, [], ◌∷◌, ◌++◌, Option, nat_le, refl, ap, sym, subst, ◌∙◌}
-use Rattle.c_tree.specs.Tree.{CType, void, integer, pointer, array, struct, function}
+use Rattle.std.proofs.Common.{◌≡◌, zero, suc, Bool, true, [], ◌∷◌, ◌++◌, refl, ap}
+use Rattle.c_tree.specs.Tree.{CType}
 use Rattle.c_syntax.specs.Tree.{Init, one, list, MaybeInit, no_init, an_init}
 use Rattle.c_syntax.specs.Tree as syntax
-use Rattle.c_rules.specs.Checked.{Checked, fine, faulty, on, both, gives, demand, met}
+use Rattle.c_rules.specs.Checked.{fine}
 use Rattle.c_rules.specs.Scopes.{Env, Before, layout_of}
 use Rattle.c_rules.specs.Counts.{past}
-use Rattle.c_rules.specs.TypedExpression.{TypedExpression}
-use Rattle.c_rules.specs.Conversions.{as_if_assigned}
 use Rattle.c_rules.specs.Expressions.{value}
-use Rattle.c_rules.specs.Initialisers.{Slots, copies, each, slots, capacity, takes_list, count_inits, text_of, zeros, cell_of, scalar_cell, array_cells, cells_of_one, cells_of_list, held, held_in_turn, held_by, calls_of_init, after_init, initialised, in_turn, initialised_static, text_fits}
+use Rattle.c_rules.specs.Initialisers.{Slots, copies, each, slots, capacity, takes_list, count_inits, text_of, zeros, held, held_in_turn, held_by, calls_of_init, after_init, initialised, in_turn, initialised_static}
 use Rattle.c_rules_laws.specs.TypedAlike.{More, TypedAlike, beside}
-use Rattle.c_rules_laws.proofs.Leads.{Leads, LeadsTo, same_leads, with_fact, on_leads, both_leads}
+use Rattle.c_rules_laws.proofs.Leads.{Leads, same_leads, both_leads}
 use Rattle.c_rules_laws.proofs.Names.{left, right}
 use Rattle.c_rules_laws.proofs.Parts.{value_leads}
-use Rattle.c_rules.proofs.ModeBlocks.{scalar_leads, one_leads, list_leads}
+use Rattle.c_rules.proofs.ModeBlocks.{one_leads, list_leads}
 pub use Rattle.c_rules.proofs.ModeBlocks.{on_to, both_to, gives_to, weaken, always, moved, both_lists}
 
 -- ## Parts with facts

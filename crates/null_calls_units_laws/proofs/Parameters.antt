@@ -1,22 +1,21 @@
 -- The scope of a body in the instrumented unit beside that in the plain one.
-use Rattle.std.proofs.Common.{◌≡◌, ℕ, suc, true, false, Option, Some, None, refl}
+use Rattle.std.proofs.Common.{◌≡◌, ℕ, suc, true, Option, Some, None, refl}
 use Rattle.c_tree.specs.Tree.{CType, CTypes}
 use Rattle.c_tree.specs.Tree as typed
 use Rattle.c_syntax.specs.Tree.{Ident, Spec, Declarator, Params, no_params, more_params}
 use Rattle.c_syntax.specs.Tree as syntax
 use Rattle.c_rules.specs.Checked.{Checked, fine, on}
-use Rattle.c_rules.specs.Names.{is_reserved}
 use Rattle.c_rules.specs.Scopes.{Env, a_local, inside}
-use Rattle.c_rules.specs.Declarators.{name_of, place_or, type_of_spec, pointer_to, array_of, function_of, parameter_of, new_name, with_name_demands, behind_parameter}
-use Rattle.c_rules.specs.Expressions.{declared, size_in, parameters, type_declared}
+use Rattle.c_rules.specs.Declarators.{name_of, place_or, type_of_spec, parameter_of, with_name_demands, behind_parameter}
+use Rattle.c_rules.specs.Expressions.{declared, parameters, type_declared}
 use Rattle.c_rules.specs.Functions.{declares_function, parameters_of, with_parameter, with_parameters, body_env}
 use Rattle.c_rules_laws.specs.TypedAlike.{More, TypedAlike, beside, AreUnreserved, MeanAlike}
 use Rattle.c_rules_laws.proofs.Leads.{Leads, same_leads, on_leads, first_fine, on_fine}
-use Rattle.c_rules_laws.proofs.Names.{left, right, new_name_plain}
+use Rattle.c_rules_laws.proofs.Names.{left, right}
 use Rattle.c_rules_laws.proofs.Parts.{behind_beside, type_declared_leads}
 use Rattle.null_calls_units_laws.specs.FileScopes.{HasNullCalls, FilesBeside, files_beside}
 use Rattle.null_calls_units_laws.proofs.FileNames.{scopes_of, named_files}
-use Rattle.c_rules.proofs.ModeFunctions.{PlainName}
+use Rattle.c_rules.proofs.ModeFunctions.{name_plain, PlainName}
 pub use Rattle.c_rules.proofs.ModeFunctions.{PlainNames}
 use Rattle.c_rules.proofs.ModeFunctions.{parameters_fine}
 
@@ -25,10 +24,6 @@ inside_files e f (files_beside env w p q l) = files_beside (inside env) w p q (r
 
 inside_beside : (e f : Env) → TypedAlike e f → TypedAlike (inside e) (inside f)
 inside_beside e f (beside env w p q) = beside (inside env) w p q
-
-name_plain : (env : Env) (n : Option Ident) (r : Checked CType) (t : CType) → with_name_demands (left env) n r ≡ fine t → PlainName n
-name_plain env None r t g = tt
-name_plain env (Some x) r t g = let k = first_fine r (new_name (left env) x) (λ u _. fine u) t g in new_name_plain env x k.1 k.3
 
 names_plain : (e f : Env) → TypedAlike e f → (k : ℕ) (ps : Params) (ts : CTypes) → parameters e k ps ≡ fine ts → PlainNames ps
 names_plain e f (beside env w p m) k no_params ts g = tt

@@ -1,11 +1,11 @@
 -- The spelling of a type declares it.
-use Rattle.std.proofs.Common.{◌≡◌, ℕ, suc, Bool, true, false, not, List, [], None, ap, ◌∙◌, refl}
+use Rattle.std.proofs.Common.{◌≡◌, ℕ, Bool, true, false, not, List, [], None, ap, ◌∙◌, refl}
 use Rattle.std.proofs.lemmas.Bool.{false≢true}
 use Rattle.std.specs.Prelude.{nat_le, slice_index_or, unwrap_or}
 use Rattle.c_tree.specs.declared.value.IntType.TheVariants.{Char, Uchar, Int, Uint}
 use Rattle.c_tree.specs.Tree.{CType, void, integer, array, struct, CTypes, no_types, more_types}
 use Rattle.c_tree.specs.Tree as typed
-use Rattle.c_syntax.specs.Tree.{Ident, Spec, Declarator, nothing, there, an_int}
+use Rattle.c_syntax.specs.Tree.{Declarator, nothing, there, an_int}
 use Rattle.c_syntax.specs.Tree as syntax
 use Rattle.c_rules.specs.Names.{Name, number_among}
 use Rattle.c_rules.specs.Limits.{most_parameters}

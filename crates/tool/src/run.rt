@@ -9,7 +9,6 @@ use crate::command::{Command, command_of};
 use dm_base::{OutOfMemory, Status};
 use dm_io::{HonestSink, HonestStore, Sink, Store, write_whole};
 use std::alloc::Global;
-use tool_selftest::{audit_source, self_test};
 use tool_certify::{certify_trace, confirm_certificate};
 use tool_expected::expected_command;
 use tool_explain::{check_source, explain_source, model_of_source};
@@ -20,6 +19,7 @@ use tool_instrument::instrument_source;
 use tool_models::{judge, measure, upgrade, watch_traces};
 use tool_reading::{picture_of_model, tell_codes};
 use tool_run::run_source;
+use tool_selftest::{audit_source, self_test};
 use tool_sites::sites_of_source;
 
 const VERSION_TEXT: &[u8] = b"dyckmon 1\n";

@@ -11,10 +11,10 @@ use c_meaning_laws::values_have_kinds;
 use c_tree::Program;
 use dm_base::{Mode, OutOfMemory, Status, TraceEnd};
 use dm_io::Store;
-use tool_steps::{results_in, run, source_in};
 use std::alloc::Global;
 use sys_table::SysResult;
 use tool_frame::{Finished, Stop};
+use tool_steps::{results_in, run, source_in};
 use trace_file::write_trace;
 
 // The text of the trace of the program's run with these recorded results and so many turns.

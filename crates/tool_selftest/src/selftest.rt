@@ -18,9 +18,9 @@ use dm_base::{Mode, OutOfMemory, Status};
 use generated_program::{generated_results, generated_text};
 use generated_program_bounds_laws::{generated_calls_descend, generated_programs_are_small};
 use generated_program_laws::generated_texts_are_accepted;
-use tool_audit::{Audited, audit_program, texts_raise_no_alarm};
 use line_text::push_bytes;
 use std::alloc::Global;
+use tool_audit::{Audited, audit_program, texts_raise_no_alarm};
 use tool_frame::{Finished, Stop};
 use tool_sources::{Source, SourceError, read_source};
 

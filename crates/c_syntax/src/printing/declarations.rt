@@ -8,9 +8,9 @@ ghost use Rattle.c_syntax.specs.WritesUnit.{inits_of};
 use crate::printing::expressions::{write_declarator, write_expr, write_operand, write_spec};
 use crate::printing::tokens::{push_keyword, push_punctuator, push_separator};
 use crate::tree::{Decl, DeclPart, Expr, Init, InitKind, Storage};
+use c_lexer::OutOfMemory;
 use c_lexer::keyword::{EXTERN, STATIC};
 use c_lexer::punctuator::{ASSIGN, LEFT_BRACE, RIGHT_BRACE, SEMICOLON};
-use c_lexer::OutOfMemory;
 
 // Writes the storage class.
 pub fn write_storage(out: &mut Vec<u8>, storage: Storage) -> Result<(), OutOfMemory>

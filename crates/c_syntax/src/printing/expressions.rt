@@ -7,12 +7,12 @@ use crate::printing::tokens::{
     push_char, push_int, push_keyword, push_name, push_punctuator, push_separator, push_str,
 };
 use crate::tree::{Declarator, DeclaratorKind, Expr, ExprKind, Param, Spec};
+use c_lexer::OutOfMemory;
 use c_lexer::keyword::{CHAR, ENUM, INT, SIZEOF, STRUCT, UNSIGNED, VOID};
 use c_lexer::punctuator::{
     AND, ARROW, ASTERISK, COLON, DECREMENT, DOT, INCREMENT, LEFT_BRACKET, LEFT_PARENTHESIS, OR,
     QUESTION, RIGHT_BRACKET, RIGHT_PARENTHESIS,
 };
-use c_lexer::OutOfMemory;
 
 // Writes the specifiers.
 pub fn write_spec(out: &mut Vec<u8>, spec: &Spec) -> Result<(), OutOfMemory>

@@ -10,9 +10,9 @@ use crate::printing::expressions::{write_declarator, write_operand, write_spec};
 use crate::printing::statements::write_stmt;
 use crate::printing::tokens::{push_keyword, push_name, push_punctuator, push_separator};
 use crate::tree::{Declarator, Enumerator, Expr, Ident, Item, ItemKind, Member};
+use c_lexer::OutOfMemory;
 use c_lexer::keyword::{ENUM, STRUCT};
 use c_lexer::punctuator::{ASSIGN, LEFT_BRACE, RIGHT_BRACE, SEMICOLON};
-use c_lexer::OutOfMemory;
 
 // Writes what stands at file scope, in order.
 pub fn write_items(out: &mut Vec<u8>, items: &[Item]) -> Result<(), OutOfMemory>

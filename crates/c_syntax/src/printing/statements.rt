@@ -10,11 +10,11 @@ use crate::printing::declarations::{write_decl, write_maybe};
 use crate::printing::expressions::{write_expr, write_operand};
 use crate::printing::tokens::{push_keyword, push_punctuator};
 use crate::tree::{BlockItem, Expr, ForFirst, Group, Label, LabelKind, Stmt, StmtKind};
+use c_lexer::OutOfMemory;
 use c_lexer::keyword::{BREAK, CASE, CONTINUE, DEFAULT, DO, ELSE, FOR, IF, RETURN, SWITCH, WHILE};
 use c_lexer::punctuator::{
     COLON, LEFT_BRACE, LEFT_PARENTHESIS, RIGHT_BRACE, RIGHT_PARENTHESIS, SEMICOLON,
 };
-use c_lexer::OutOfMemory;
 
 // Writes what stands first in the head of a `for`, and the semicolon after it.
 fn write_first(out: &mut Vec<u8>, first: &ForFirst) -> Result<(), OutOfMemory>
