@@ -19,7 +19,7 @@ zeros_append whole xs ys old mid new first second is =
     second
     ∙ (ap (λ z. z ++ map typed_zero ys) first ∙ (append_assoc old (map typed_zero xs) (map typed_zero ys) ∙ ap (λ z. old ++ z) (sym (map-append typed_zero xs ys) ∙ ap (map typed_zero) (sym is))))
 
-repeat_more : (k : ℕ) (xs : List CType) → repeat k xs ++ xs ≡ repeat (k + 1) xs
+pub repeat_more : (k : ℕ) (xs : List CType) → repeat k xs ++ xs ≡ repeat (k + 1) xs
 repeat_more zero xs = sym (append-nil xs)
 repeat_more (suc k) xs =
     let one : suc (k + 1) ≡ suc k + 1 = omega arith in append_assoc xs (repeat k xs) xs ∙ (ap (λ z. xs ++ z) (repeat_more k xs) ∙ ap (λ n. repeat n xs) one)
@@ -56,7 +56,7 @@ pub members_step : (ms : List StructMember) (i : ℕ) (m : StructMember) (ts : L
     → ctypes_of new ≡ members_types (take (i + 1) ms)
 members_step ms i m ts t new lt is before copied grown = ap ctypes_of grown ∙ member_more ms i m ts t lt is before copied
 
-types_are : (ms : List StructMember) → map type_of_member (map member_of (knowns_of ms)) ≡ members_types ms
+pub types_are : (ms : List StructMember) → map type_of_member (map member_of (knowns_of ms)) ≡ members_types ms
 types_are [] = refl
 types_are (m ∷ ms) = ap (λ ts. ctype_of m.ctype ∷ ts) (types_are ms)
 

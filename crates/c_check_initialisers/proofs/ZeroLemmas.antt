@@ -14,13 +14,9 @@ use Rattle.c_check_scopes.specs.View.{member_of}
 use Rattle.c_tree.specs.Layout.{Structs, flat, flat_with, flat_all_with, layout, members_of, or_none, repeat}
 use Rattle.c_tree.specs.Tree.{CType, void, integer, pointer, array, struct, function}
 use Rattle.c_tree.specs.View.{ctype_of}
+use Rattle.c_check_initialisers.proofs.SlotLemmas.{repeat_more, types_are}
 
 -- ## Steps
-
-repeat_more : (k : ℕ) (xs : List CType) → repeat k xs ++ xs ≡ repeat (k + 1) xs
-repeat_more zero xs = sym (append-nil xs)
-repeat_more (suc k) xs =
-    let one : suc (k + 1) ≡ suc k + 1 = omega arith in append_assoc xs (repeat k xs) xs ∙ (ap (λ z. xs ++ z) (repeat_more k xs) ∙ ap (λ n. repeat n xs) one)
 
 zeros_append : (start xs ys : List CType) (old mid new : List TypedExpression) → mid ≡ old ++ map typed_zero xs → new ≡ mid ++ map typed_zero ys → start ≡ xs ++ ys → new ≡ old ++ map typed_zero start
 zeros_append start xs ys old mid new first second is =
@@ -75,10 +71,6 @@ known_at (Some (defined_struct ms)) = refl
 
 members_known : (env : Env) (s : ℕ) → members_of (layout_of env) s ≡ types_in (struct_of env s)
 members_known env s = ap or_none (slice_get-map types_of_struct env.structs s) ∙ known_at (slice_get env.structs s)
-
-types_are : (ms : List StructMember) → map type_of_member (map member_of (knowns_of ms)) ≡ members_types ms
-types_are [] = refl
-types_are (m ∷ ms) = ap (λ ts. ctype_of m.ctype ∷ ts) (types_are ms)
 
 -- the members of a struct with a definition
 pub members_are : (env : Env) (s : ℕ) (ms : List StructMember) → struct_of env s ≡ defined_struct (map member_of (knowns_of ms)) → members_of (layout_of env) s ≡ members_types ms

@@ -50,7 +50,7 @@ items_on b f (a_block_stmt r w) c g =
 block_goes : (b : Bound) {i j : List Token} → (head i ≡ 5 → ⊥) → InBlock b i j → Then (ABlockItem b) (InBlock b) i j
 block_goes b f (in_block r c g) = items_on b f r c g
 
-not_alike : {n : ℕ} {i k : List Token} → Meets i k → (head i ≡ n → ⊥) → head k ≡ n → ⊥
+pub not_alike : {n : ℕ} {i k : List Token} → Meets i k → (head i ≡ n → ⊥) → head k ≡ n → ⊥
 not_alike m f h = f (head_alike m ∙ h)
 
 -- the next item fails, where no brace ends the block

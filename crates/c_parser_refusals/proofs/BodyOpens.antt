@@ -22,26 +22,22 @@ use Rattle.c_parser_refusals.proofs.Fixed.{expr_on}
 use Rattle.c_parser_refusals.proofs.ExprOpens.{either}
 use Rattle.c_syntax.proofs.Ends.{start_of_kind}
 use Rattle.c_parser_refusals.proofs.Begun.{expression_begins}
+use Rattle.c_parser_refusals.proofs.ExprOpens.{colon}
+pub use Rattle.c_parser_refusals.proofs.ExprOpens.{close_paren}
 
-abbrev open_paren : Token
+abbrev pub open_paren : Token
 open_paren = punctuator LEFT_PARENTHESIS (omega arith)
 
-abbrev pub close_paren : Token
-close_paren = punctuator RIGHT_PARENTHESIS (omega arith)
-
-abbrev open_brace : Token
+abbrev pub open_brace : Token
 open_brace = punctuator LEFT_BRACE (omega arith)
 
-abbrev close_brace : Token
+abbrev pub close_brace : Token
 close_brace = punctuator RIGHT_BRACE (omega arith)
 
-abbrev semicolon : Token
+abbrev pub semicolon : Token
 semicolon = punctuator SEMICOLON (omega arith)
 
-abbrev colon : Token
-colon = punctuator COLON (omega arith)
-
-no_statement : {d : ℕ} (m : List Token) → Filled (ReadsStmt d (empty 0)) m
+pub no_statement : {d : ℕ} (m : List Token) → Filled (ReadsStmt d (empty 0)) m
 no_statement m = record { tokens = semicolon ∷ m; reads = an_empty (record { kind = refl }) }
 
 -- an expression in parentheses

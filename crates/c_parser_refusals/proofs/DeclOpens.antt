@@ -17,12 +17,8 @@ use Rattle.c_parser_refusals.specs.Opens.{Opens, DeepExpr, DeepType, DeepDeclara
 use Rattle.c_parser_refusals.proofs.Opening.{opens_as, opens_under, opens_first, opens_later, opens_here, closed_by}
 use Rattle.c_parser_refusals.proofs.Fills.{punctuator, word}
 use Rattle.c_parser_refusals.proofs.ExprOpens.{either}
-
-abbrev close_paren : Token
-close_paren = punctuator RIGHT_PARENTHESIS (omega arith)
-
-abbrev pub close_bracket : Token
-close_bracket = punctuator RIGHT_BRACKET (omega arith)
+use Rattle.c_parser_refusals.proofs.ExprOpens.{close_paren}
+pub use Rattle.c_parser_refusals.proofs.ExprOpens.{close_bracket}
 
 -- what is deep is there
 

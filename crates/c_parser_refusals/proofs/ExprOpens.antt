@@ -25,7 +25,7 @@ pub either : {A B C D : Type 0} → (A → C) → (B → D) → A ⊎ B → C �
 either f g (inl a) = inl (f a)
 either f g (inr b) = inr (g b)
 
-abbrev close_paren : Token
+abbrev pub close_paren : Token
 close_paren = punctuator RIGHT_PARENTHESIS (omega arith)
 
 -- to levels that bind less
@@ -195,7 +195,7 @@ suffixes_open {at} {p} {n} {a = a} {i = i} l w o = opens_as (λ k m v. whole v) 
     whole : {k m : List Token} → Then (Placed (place i) (suc p) postfix_level a) (DeepSuffixes at p n (place i) a) k m → DeepExpr at p n postfix_level k m
     whole (then b c) = suffixed_deep b.reads b.begins c
 
-abbrev close_bracket : Token
+abbrev pub close_bracket : Token
 close_bracket = punctuator RIGHT_BRACKET (omega arith)
 
 pub index_opens : {at p n q : ℕ} {a : Expr} {t : Token} {i r : List Token} → Is LEFT_BRACKET t → Opens (DeepExpr at p n expression_level) i r → Opens (DeepSuffixes at p (suc n) q a) (t ∷ i) r
@@ -277,7 +277,7 @@ operator_opens_left o (suc l) most g h z m c w x = level_up_opens (suc l) most m
 
 -- conditional expressions (6.5.15)
 
-abbrev colon : Token
+abbrev pub colon : Token
 colon = punctuator COLON (omega arith)
 
 pub yes_opens : {at p n d : ℕ} {a : Expr} {t : Token} {i j r : List Token} → d ≤ suc p → Is QUESTION t → Reads d (binary_level 10) a i (t ∷ j) → Opens (DeepExpr at p n expression_level) j r → Opens (DeepExpr at p (suc n) conditional_level) i r

@@ -16,6 +16,7 @@ use Rattle.c_parser_refusals.specs.Groups.{InGroup, in_group, GroupRest}
 use Rattle.c_parser_refusals.proofs.Combine.{Fixes, fails_as, fails_first, fails_later}
 use Rattle.c_parser_refusals.proofs.Fixed.{head_alike, stmt_fixes}
 use Rattle.c_parser_refusals.proofs.BlockForms.{fits_under}
+use Rattle.c_parser_refusals.proofs.BlockForms.{not_alike}
 
 pub labels_fixes : (b c : Bound) → Fixes (SomeLabels b) (SomeLabels c)
 labels_fixes b c = record {
@@ -62,9 +63,6 @@ rest_ends b l (second g) = absurd (no_group_at b l g)
 pub rest_goes : (b : Bound) {i j : List Token} → 20 ≤ head i → GroupRest b i j → InGroup b i j
 rest_goes b l (first s) = absurd (no_switch_at b l s)
 rest_goes b l (second g) = g
-
-not_alike : {n : ℕ} {i k : List Token} → Meets i k → (head i ≡ n → ⊥) → head k ≡ n → ⊥
-not_alike m f h = f (head_alike m ∙ h)
 
 pub labels_fail : (b : Bound) {i r : List Token} → (head i ≡ 5 → ⊥) → Fails (SomeLabels b) i r → Fails (InSwitch b) i r
 labels_fail b h f = fails_as (λ k j m a. switch_goes b (not_alike m h) a) (fails_first f)

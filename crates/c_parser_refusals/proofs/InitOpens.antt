@@ -14,9 +14,7 @@ use Rattle.c_parser_refusals.specs.Opens.{Opens, DeepExpr, DeepInit, DeepInits}
 use Rattle.c_parser_refusals.proofs.Opening.{opens_as, opens_under, opens_first, opens_later, opens_here, closed_by}
 use Rattle.c_parser_refusals.proofs.Fills.{name_token, punctuator, name_reads}
 use Rattle.c_parser_refusals.proofs.ExprOpens.{either}
-
-abbrev close_brace : Token
-close_brace = punctuator RIGHT_BRACE (omega arith)
+use Rattle.c_parser_refusals.proofs.BodyOpens.{close_brace}
 
 pub init_value_opens : {at p n : ℕ} {i r : List Token} → Opens (DeepExpr at p n assignment_level) i r → Opens (DeepInit at p n) i r
 init_value_opens o = opens_as (λ k m a. record { tree = one_init _ a.tree; reads = an_expression a.reads refl; deep = either in_one (λ y. y) a.deep }) o

@@ -36,6 +36,7 @@ use Rattle.c_parser_refusals.proofs.DeclForms.{parts_reads}
 use Rattle.c_parser_refusals.proofs.Fills.{name_token, punctuator}
 use Rattle.c_parser_refusals.proofs.SpecFails.{struct_tail, enum_tail}
 use Rattle.c_syntax.proofs.OneUnit.{same_declarators, semicolon_ends, declarators_end_spec, enum_leads, same_item, defines}
+use Rattle.c_parser_refusals.proofs.BodyOpens.{semicolon}
 
 -- declarators in a row
 
@@ -338,9 +339,6 @@ pub other_fails : {b : Bound} {i r : List Token} → NotAt (IsKeyword STRUCT) i 
 other_fails {b} s e f = fails_as (λ k j m a. other_or b a.reads a.fits (not_at_alike m s) (not_at_alike m e)) f
 
 -- a name declared with the tag stands after `struct` and after `enum`
-
-abbrev semicolon : Token
-semicolon = punctuator SEMICOLON (omega arith)
 
 declares_name : (b : Bound) → Fits b 0 1 → Then (ADeclarator b) (OtherRest b) (name_token 0 ∷ semicolon ∷ []) []
 declares_name b f =

@@ -20,14 +20,9 @@ use Rattle.c_parser_refusals.specs.Deep.{DeepDeclarators, DeepMembers, DeepEnume
 use Rattle.c_parser_refusals.proofs.Opening.{opens_as, opens_under, opens_first, opens_later, closed_by, filled_then}
 use Rattle.c_parser_refusals.proofs.Fills.{punctuator}
 use Rattle.c_parser_refusals.proofs.ExprOpens.{either}
+use Rattle.c_parser_refusals.proofs.BodyOpens.{close_brace, semicolon}
 
-abbrev semicolon : Token
-semicolon = punctuator SEMICOLON (omega arith)
-
-abbrev close_brace : Token
-close_brace = punctuator RIGHT_BRACE (omega arith)
-
-moved_spec : {s : Spec} {i j : List Token} → ReadsSpec s i j → (k : List Token) → On (ReadsSpec s) i j k
+pub moved_spec : {s : Spec} {i j : List Token} → ReadsSpec s i j → (k : List Token) → On (ReadsSpec s) i j k
 moved_spec w k = let x = spec_on w k in record { tokens = x.tokens; twin = x.twin; reads = x.reads }
 
 wide_declarators : {d x : ℕ} {es : Declarators} {i j : List Token} → ReadsDeclarators d es i j → d ≤ x → ReadsDeclarators x es i j

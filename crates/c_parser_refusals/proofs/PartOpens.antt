@@ -26,15 +26,9 @@ use Rattle.c_parser_refusals.proofs.Opening.{opens_as, opens_under, opens_first,
 use Rattle.c_parser_refusals.proofs.Fills.{name_token, punctuator, word}
 use Rattle.c_parser_refusals.proofs.ExprOpens.{either}
 use Rattle.c_parser_refusals.proofs.DeclOpens.{node_there, pair_there}
-
-abbrev close_paren : Token
-close_paren = punctuator RIGHT_PARENTHESIS (omega arith)
-
-abbrev semicolon : Token
-semicolon = punctuator SEMICOLON (omega arith)
-
-moved_spec : {s : Spec} {i j : List Token} → ReadsSpec s i j → (k : List Token) → On (ReadsSpec s) i j k
-moved_spec w k = let x = spec_on w k in record { tokens = x.tokens; twin = x.twin; reads = x.reads }
+use Rattle.c_parser_refusals.proofs.BodyOpens.{semicolon}
+use Rattle.c_parser_refusals.proofs.ExprOpens.{close_paren}
+use Rattle.c_parser_refusals.proofs.MemberOpens.{moved_spec}
 
 -- parameters (6.7.5.3)
 

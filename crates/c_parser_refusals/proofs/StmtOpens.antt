@@ -16,22 +16,8 @@ use Rattle.c_parser_refusals.specs.Opens.{Opens, DeepExpr, DeepDecl, DeepStmt, D
 use Rattle.c_parser_refusals.proofs.Opening.{opens_as, opens_under, opens_first, opens_later, opens_here, closed_by, filled_then}
 use Rattle.c_parser_refusals.proofs.Fills.{name_token, punctuator, name_reads}
 use Rattle.c_parser_refusals.proofs.ExprOpens.{either}
-
-abbrev open_paren : Token
-open_paren = punctuator LEFT_PARENTHESIS (omega arith)
-
-abbrev close_paren : Token
-close_paren = punctuator RIGHT_PARENTHESIS (omega arith)
-
-abbrev close_brace : Token
-close_brace = punctuator RIGHT_BRACE (omega arith)
-
-abbrev semicolon : Token
-semicolon = punctuator SEMICOLON (omega arith)
-
--- a semicolon alone is a statement
-no_statement : {d : ℕ} (m : List Token) → Filled (ReadsStmt d (empty 0)) m
-no_statement m = record { tokens = semicolon ∷ m; reads = an_empty (record { kind = refl }) }
+use Rattle.c_parser_refusals.proofs.BodyOpens.{no_statement, open_paren, close_brace, semicolon}
+use Rattle.c_parser_refusals.proofs.ExprOpens.{close_paren}
 
 -- a statement for which no node is left
 

@@ -22,6 +22,7 @@ use Rattle.c_parser_refusals.proofs.Combine.{fails_here, fails_second, fails_und
 use Rattle.c_parser_refusals.proofs.Fixed.{rank_alike, stops_alike}
 use Rattle.c_parser_refusals.proofs.ExprForms.{suffixes_rise, call_form}
 use Rattle.c_parser_refusals.proofs.PrefixFails.{fits_low}
+use Rattle.c_parser_refusals.proofs.DeclaratorFails.{place_alike}
 
 moved_suffixes : {d at : ℕ} {a b e : Expr} {i j k : List Token} → a ≡ b → i ≡ j → Suffixes d at b e j k → Suffixes d at a e i k
 moved_suffixes p q r = rw (p, q) r
@@ -64,10 +65,6 @@ suffixes_pass (a_postfix {p = y} o v) (an_empty_call q p w) z = absurd (omega (a
 suffixes_pass (a_postfix {p = y} o v) (a_call q s p w) z = absurd (omega (arith, (postfix_apart y o q).0))
 suffixes_pass (a_postfix {p = y} o v) (a_member {access = b} q n w) z = absurd (step_apart _ y b o q)
 suffixes_pass {at = at} {a = a} (a_postfix {p = y} o v) (a_postfix {p = p} q w) z = suffixes_pass v (moved_suffixes (ap (λ p. postfix at p a) (one_postfix _ y p o q)) refl w) z
-
-place_alike : {i k : List Token} → Meets i k → place i ≡ place k
-place_alike at_end = refl
-place_alike at_token = refl
 
 postfixed_on : {d : ℕ} {e : Expr} {i j : List Token} → Postfixed d e i j → (k : List Token) → Meets j k → On (Postfixed d e) i j k
 postfixed_on a k m =

@@ -14,13 +14,7 @@ use Rattle.c_parser_refusals.specs.Opens.{Opens, DeepExpr}
 use Rattle.c_parser_refusals.proofs.Opening.{opens_as, opens_under, opens_later, opens_here}
 use Rattle.c_parser_refusals.proofs.Fixed.{expr_on}
 use Rattle.c_parser_refusals.proofs.ExprOpens.{either}
-
-record Placed (q d : ℕ) (l : Level) (e : Expr) (i j : List Token) : Type 0 where
-  reads : Reads d l e i j
-  begins : q ≡ place i
-
-placed_on : {d x : ℕ} {l : Level} {e : Expr} {i j : List Token} → Reads d l e i j → d ≤ x → (k : List Token) → On (Placed (place i) x l e) i j k
-placed_on r l k = let x = reads_on (wide r l) k in record { tokens = x.tokens; twin = x.twin; reads = record { reads = x.reads; begins = x.same } }
+use Rattle.c_parser_refusals.proofs.ExprOpens.{placed_on, Placed}
 
 pub char_too_deep : {p : ℕ} {c : ℤ} {t : Token} {i : List Token} → IsChar c t → Opens (DeepExpr t.from p 0 primary_level) (t ∷ i) (t ∷ i)
 char_too_deep h = opens_here (λ m. record { tokens = m; reads = record { tree = _; reads = is_char h; deep = inl (expr_here refl) } })

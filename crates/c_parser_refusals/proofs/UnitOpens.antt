@@ -23,18 +23,8 @@ use Rattle.c_parser_refusals.proofs.Combine.{fronted}
 use Rattle.c_parser_refusals.proofs.Opening.{opens_as, opens_under, opens_first, opens_later, closed_by, filled_then}
 use Rattle.c_parser_refusals.proofs.Fills.{punctuator}
 use Rattle.c_parser_refusals.proofs.ExprOpens.{either}
-
-abbrev semicolon : Token
-semicolon = punctuator SEMICOLON (omega arith)
-
-abbrev close_brace : Token
-close_brace = punctuator RIGHT_BRACE (omega arith)
-
-abbrev open_brace : Token
-open_brace = punctuator LEFT_BRACE (omega arith)
-
-moved_spec : {s : Spec} {i j : List Token} → ReadsSpec s i j → (k : List Token) → On (ReadsSpec s) i j k
-moved_spec w k = let x = spec_on w k in record { tokens = x.tokens; twin = x.twin; reads = x.reads }
+use Rattle.c_parser_refusals.proofs.BodyOpens.{close_brace, open_brace, semicolon}
+use Rattle.c_parser_refusals.proofs.MemberOpens.{moved_spec}
 
 -- declarations and functions
 

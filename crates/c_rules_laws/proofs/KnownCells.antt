@@ -13,10 +13,7 @@ use Rattle.c_rules.specs.Expressions.{value}
 use Rattle.c_rules.specs.Initialisers.{Slots, copies, each, slots, capacity, takes_list, count_inits, text_of, typed_zero, typed_char, zeros, chars, defined_cell, cell_of, scalar_cell, array_cells, cells_of_list, after_init, initialised, in_turn, initialised_static, text_fits}
 use Rattle.c_rules_laws.proofs.Holding.{Holds, on_holds, both_hold, demand_holds, behind_demand, after_part}
 use Rattle.c_rules_laws.proofs.RightInitialisers.{IsKnownConstant, AllKnown}
-
-known_both : (gs hs : List TypedExpression) → AllKnown gs → AllKnown hs → AllKnown (gs ++ hs)
-known_both [] hs h k = k
-known_both (g ∷ gs) hs h k = (h.0, known_both gs hs h.1 k)
+use Rattle.c_rules_laws.proofs.RightInitialisers.{known_both}
 
 zeros_known : (ts : List CType) → AllKnown (map typed_zero ts)
 zeros_known [] = tt

@@ -102,7 +102,7 @@ module _ (env : Env) (x : Ident) (r : Checked Meaning) (m : Meaning) (e : r ≡ 
       older y d (inr q) = inl (d.0, d.1, q, d.3)
 
 -- a definition
-defined_true : (o : Option Meaning) → is_defined_by true o ≡ true
+pub defined_true : (o : Option Meaning) → is_defined_by true o ≡ true
 defined_true None = refl
 defined_true (Some (a_static s t d)) = refl
 defined_true (Some (a_local n s t)) = refl

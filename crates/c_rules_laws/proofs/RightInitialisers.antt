@@ -50,7 +50,7 @@ abbrev pub AllKnown : List TypedExpression → Type 0
 AllKnown [] = Unit {0}
 AllKnown (g ∷ gs) = IsKnownConstant g.constant × AllKnown gs
 
-known_both : (gs hs : List TypedExpression) → AllKnown gs → AllKnown hs → AllKnown (gs ++ hs)
+pub known_both : (gs hs : List TypedExpression) → AllKnown gs → AllKnown hs → AllKnown (gs ++ hs)
 known_both [] hs h k = k
 known_both (g ∷ gs) hs h k = (h.0, known_both gs hs h.1 k)
 

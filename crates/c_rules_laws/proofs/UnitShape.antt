@@ -22,6 +22,8 @@ use Rattle.c_rules_laws.proofs.Holding.{held, first_fine, on_fine, demand_fine}
 use Rattle.c_rules_laws.proofs.Definitions.{definition_fine}
 use Rattle.c_rules_laws.proofs.FileScopes.{IsFileRight, Agrees, Follows, follows_on}
 use Rattle.c_rules_laws.proofs.FileItems.{form_step, function_meant, IsFunctionNamed, items_step, part_step, parts_step, tags_step}
+use Rattle.c_rules_laws.proofs.DistinctNames.{itself}
+use Rattle.c_rules_laws.proofs.NamesOfItems.{defined_true}
 
 -- two lists side by side
 abbrev pub Zip : {A B : Type 0} → (A → B → Type 0) → List A → List B → Type 0
@@ -65,20 +67,8 @@ shape_none last = record { functions = tt; statics = tt }
 shape_both : (last : Env) (xs ys zs ws : List Name) (p q : Output) → HasShape last xs ys p → HasShape last zs ws q → HasShape last (xs ++ zs) (ys ++ ws) (with_output p q)
 shape_both last xs ys zs ws p q h k = record { functions = zip_both (IsFunctionOf last) xs zs p.functions q.functions h.functions k.functions; statics = zip_both (IsObjectOf last) ys ws p.statics q.statics h.statics k.statics }
 
--- a name that was just declared
-itself : (x : Name) → bytes_eq x x ≡ true
-itself x = (bytes_eq-Decides x x).1 refl
-
 pub just_declared : (env : Env) (x : Name) (m : Meaning) → lookup (with_name env x m).names x ≡ Some (record { name = x; depth = env.depth; means = m })
 just_declared env x m = ap (λ b. cond b (Some (record { name = x; depth = env.depth; means = m })) (lookup env.names x)) (itself x)
-
-defined_true : (o : Option Meaning) → is_defined_by true o ≡ true
-defined_true None = refl
-defined_true (Some (a_static s t d)) = refl
-defined_true (Some (a_local n s t)) = refl
-defined_true (Some (a_function t d)) = refl
-defined_true (Some (an_enumerator z)) = refl
-defined_true (Some (unknown f fs)) = refl
 
 -- what a function's name means later
 later_function : (t : CType) (d : Bool) (m : Meaning) → Agrees (a_function t d) m → d ≡ true → m ≡ a_function t true

@@ -61,11 +61,11 @@ before_right w = record {
 
 -- ## What names mean behind all items
 
-suc_some : (o : Option ℕ) (i : ℕ) → option_map suc o ≡ Some i → (j : ℕ) × (o ≡ Some j) × (i ≡ suc j)
+pub suc_some : (o : Option ℕ) (i : ℕ) → option_map suc o ≡ Some i → (j : ℕ) × (o ≡ Some j) × (i ≡ suc j)
 suc_some None i e = absurd (let q : None ≡ Some i = e in cc)
 suc_some (Some j) i e = (j, refl, (let q : Some (suc j) ≡ Some i = e in cc))
 
-name_at : (xs : List Name) (x : Name) (i : ℕ) → number_among xs x ≡ Some i → slice_get xs i ≡ Some x
+pub name_at : (xs : List Name) (x : Name) (i : ℕ) → number_among xs x ≡ Some i → slice_get xs i ≡ Some x
 name_at [] x i e = absurd (let q : None ≡ Some i = e in cc)
 name_at (y ∷ ys) x i e = by_test (bytes_eq y x) refl (λ k. name_at ys x k) e
   where
@@ -73,10 +73,10 @@ name_at (y ∷ ys) x i e = by_test (bytes_eq y x) refl (λ k. name_at ys x k) e
     by_test true q h e = (let z : 0 ≡ i = (let r : Some 0 ≡ Some i = e in cc) in subst (λ n. slice_get (y ∷ ys) n ≡ Some x) z (ap Some ((bytes_eq-Decides y x).0 q)))
     by_test false q h e = (let k = suc_some (number_among ys x) i e in subst (λ n. slice_get (y ∷ ys) n ≡ Some x) (sym k.2) (h k.0 k.1))
 
-one_binding : (o : Option Binding) (b c : Binding) → o ≡ Some b → o ≡ Some c → c ≡ b
+pub one_binding : (o : Option Binding) (b c : Binding) → o ≡ Some b → o ≡ Some c → c ≡ b
 one_binding o b c e f = (let q : Some c ≡ Some b = sym f ∙ e in cc)
 
-same_function : (t u : CType) (d e : Bool) → a_function t d ≡ a_function u e → u ≡ t
+pub same_function : (t u : CType) (d e : Bool) → a_function t d ≡ a_function u e → u ≡ t
 same_function t u d e q = cc
 
 same_object : (s t r u : CType) (d e : Bool) → a_static s t d ≡ a_static r u e → u ≡ t

@@ -36,13 +36,9 @@ use Rattle.c_rules_laws.proofs.StaticStrings.{strings_static}
 use Rattle.c_rules_laws.proofs.DistinctNames.{Each, Differ, among_first, among_rest, among_left, few_names}
 use Rattle.c_rules_laws.proofs.DefinedNames.{IsDefined, Defines}
 use Rattle.c_rules_laws.proofs.NamesOfItems.{items_define}
+use Rattle.c_rules_laws.proofs.UnitTable.{name_at, none_defined, suc_some, one_binding, no_binding, same_function}
 
 -- ## Before all items
-
-none_defined : (n s : ℕ) (ts : List CType) → slice_get (map types_of_struct (replicate n incomplete)) s ≡ Some (Some ts) → ⊥
-none_defined zero s ts e = (let q : None ≡ Some (Some ts) = e in cc)
-none_defined (suc n) zero ts e = (let q : Some None ≡ Some (Some ts) = e in cc)
-none_defined (suc n) (suc s) ts e = none_defined n s ts e
 
 nothing_sound : (n : ℕ) → AreSound (map types_of_struct (replicate n incomplete))
 nothing_sound n = record {
@@ -55,9 +51,6 @@ nothing_sound n = record {
   few = λ s ts e. absurd (none_defined n s ts e);
 }
 
-no_binding : (x : Name) (b : Binding) → lookup [] x ≡ Some b → ⊥
-no_binding x b e = (let q : None ≡ Some b = e in cc)
-
 before_right : (w : Whole) → IsFileRight (empty_env w)
 before_right w = record {
   runs = refl;
@@ -69,27 +62,9 @@ before_right w = record {
 
 -- ## Places of names
 
-suc_some : (o : Option ℕ) (i : ℕ) → option_map suc o ≡ Some i → (j : ℕ) × (o ≡ Some j) × (i ≡ suc j)
-suc_some None i e = absurd (let q : None ≡ Some i = e in cc)
-suc_some (Some j) i e = (j, refl, (let q : Some (suc j) ≡ Some i = e in cc))
-
-name_at : (xs : List Name) (x : Name) (i : ℕ) → number_among xs x ≡ Some i → slice_get xs i ≡ Some x
-name_at [] x i e = absurd (let q : None ≡ Some i = e in cc)
-name_at (y ∷ ys) x i e = by_test (bytes_eq y x) refl (λ k. name_at ys x k) e
-  where
-    by_test : (b : Bool) → bytes_eq y x ≡ b → ((k : ℕ) → number_among ys x ≡ Some k → slice_get ys k ≡ Some x) → (if b then Some 0 else option_map suc (number_among ys x)) ≡ Some i → slice_get (y ∷ ys) i ≡ Some x
-    by_test true q h e = (let z : 0 ≡ i = (let r : Some 0 ≡ Some i = e in cc) in subst (λ n. slice_get (y ∷ ys) n ≡ Some x) z (ap Some ((bytes_eq-Decides y x).0 q)))
-    by_test false q h e = (let k = suc_some (number_among ys x) i e in subst (λ n. slice_get (y ∷ ys) n ≡ Some x) (sym k.2) (h k.0 k.1))
-
 some_is : (o : Option ℕ) → is_some o ≡ true → (i : ℕ) × (o ≡ Some i)
 some_is None e = absurd (let q : false ≡ true = e in cc)
 some_is (Some i) e = (i, refl)
-
-one_binding : (o : Option Binding) (b c : Binding) → o ≡ Some b → o ≡ Some c → c ≡ b
-one_binding o b c e f = (let q : Some c ≡ Some b = sym f ∙ e in cc)
-
-same_function : (t u : CType) (d e : Bool) → a_function t d ≡ a_function u e → u ≡ t
-same_function t u d e q = cc
 
 -- ## Names of system calls
 

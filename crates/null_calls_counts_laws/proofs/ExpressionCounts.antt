@@ -73,7 +73,7 @@ name_calls (assign at op e f) h = absurd h
 name_calls (conditional at c e f) h = absurd h
 
 -- the name of what is called stays a name
-named_stays : (sites : Sites) (b : ℕ) (d : Expr) → IsName d → IsName (expr sites b true d)
+pub named_stays : (sites : Sites) (b : ℕ) (d : Expr) → IsName d → IsName (expr sites b true d)
 named_stays sites b (a_name at x) h = tt
 named_stays sites b (an_int at n u) h = absurd h
 named_stays sites b (a_char at c) h = absurd h
@@ -130,22 +130,22 @@ call_calls : (at site : ℕ) (wanted : Bool) (o : Option Called) (d : Expr) (es 
 call_calls at site wanted None d es h = omega arith
 call_calls at site wanted (Some c) d es h = (let r = marked_calls at site (is_kept wanted c.returns) c.pointer_type d es h in omega (arith, r))
 
-designator_stays : (sites : Sites) (b : ℕ) (o : Option Called) (d : Expr) → IsDesignator o d → IsDesignator o (expr sites b true d)
+pub designator_stays : (sites : Sites) (b : ℕ) (o : Option Called) (d : Expr) → IsDesignator o d → IsDesignator o (expr sites b true d)
 designator_stays sites b None d h = tt
 designator_stays sites b (Some c) d h = λ e. named_stays sites b d (h e)
 
 -- ## Expressions
 
-by_type : (P : Expr → Type 0) (t : Bool) (x y : Expr) → P x → P y → P (if t then x else y)
+pub by_type : (P : Expr → Type 0) (t : Bool) (x y : Expr) → P x → P y → P (if t then x else y)
 by_type P true x y h k = h
 by_type P false x y h k = k
 
 -- what holds of the operand of an operator whose value isn't wanted, where the operand is unary: for it may be left out with the operator
-abbrev Operand : (P : Expr → Type 0) (sites : Sites) (b : ℕ) → Expr → Type 0
+abbrev pub Operand : (P : Expr → Type 0) (sites : Sites) (b : ℕ) → Expr → Type 0
 Operand P sites b (unary place inner e) = P (expr sites b false e)
 Operand P sites b e = Unit {0}
 
-by_unary : (P : Expr → Type 0) (sites : Sites) (at op : ℕ) (x : Expr) (b : ℕ) (wanted : Bool) → P (unary at op (expr sites b true x)) → Operand P sites b x → P (expr sites b wanted (unary at op x))
+pub by_unary : (P : Expr → Type 0) (sites : Sites) (at op : ℕ) (x : Expr) (b : ℕ) (wanted : Bool) → P (unary at op (expr sites b true x)) → Operand P sites b x → P (expr sites b wanted (unary at op x))
 by_unary P sites at op (a_name site x) b true h k = h
 by_unary P sites at op (an_int site n u) b true h k = h
 by_unary P sites at op (a_char site c) b true h k = h

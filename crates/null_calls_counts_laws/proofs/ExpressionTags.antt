@@ -10,6 +10,7 @@ use Rattle.null_calls_rules.specs.Temporaries.{pre_name, is_kept}
 use Rattle.null_calls_rules.specs.InstrumentedExpressions.{is_void_type, keep_designator, keep_arguments, kept_arguments, kept_designator, null_call, call_and_post, call_where, is_address_of_indirection, expr, arguments, members}
 use Rattle.null_calls_counts_laws.specs.Counts.{IsName, IsDesignator, AreNamed, AllNamed}
 use Rattle.c_rules.proofs.NothingMore.{nothing_more}
+use Rattle.null_calls_counts_laws.proofs.ExpressionCounts.{by_unary, named_stays, designator_stays, Operand, by_type}
 
 -- ## A marked call
 
@@ -43,25 +44,6 @@ name_tags (binary at op e f) h = absurd h
 name_tags (assign at op e f) h = absurd h
 name_tags (conditional at c e f) h = absurd h
 
--- the name of what is called stays a name
-named_stays : (sites : Sites) (b : ℕ) (d : Expr) → IsName d → IsName (expr sites b true d)
-named_stays sites b (a_name at x) h = tt
-named_stays sites b (an_int at n u) h = absurd h
-named_stays sites b (a_char at c) h = absurd h
-named_stays sites b (a_str at w) h = absurd h
-named_stays sites b (comma at es) h = absurd h
-named_stays sites b (sizeof_type at t) h = absurd h
-named_stays sites b (cast at t e) h = absurd h
-named_stays sites b (call at d es) h = absurd h
-named_stays sites b (member at how e x) h = absurd h
-named_stays sites b (postfix at op e) h = absurd h
-named_stays sites b (prefix at op e) h = absurd h
-named_stays sites b (unary at op e) h = absurd h
-named_stays sites b (index at e f) h = absurd h
-named_stays sites b (binary at op e f) h = absurd h
-named_stays sites b (assign at op e f) h = absurd h
-named_stays sites b (conditional at c e f) h = absurd h
-
 behind_tags : (at site : ℕ) (k : Bool) (d : Expr) (es : Exprs) → tags_of_exprs (more_exprs (null_call at pre_name site) (call_and_post at site k (call at d (kept_arguments at site 0 es)))) ≡ tags_of_expr d
 behind_tags at site k d es = post_tags at site k (call at d (kept_arguments at site 0 es)) ∙ (ap (λ ws. tags_of_expr d ++ ws) (names_tags at site 0 es) ∙ nothing_more (tags_of_expr d))
 
@@ -81,54 +63,7 @@ call_tags : (at site : ℕ) (wanted : Bool) (o : Option Called) (d : Expr) (es :
 call_tags at site wanted None d es h = refl
 call_tags at site wanted (Some c) d es h = marked_tags at site (is_kept wanted c.returns) c.pointer_type d es h
 
-designator_stays : (sites : Sites) (b : ℕ) (o : Option Called) (d : Expr) → IsDesignator o d → IsDesignator o (expr sites b true d)
-designator_stays sites b None d h = tt
-designator_stays sites b (Some c) d h = λ e. named_stays sites b d (h e)
-
 -- ## Expressions
-
-by_type : (P : Expr → Type 0) (t : Bool) (x y : Expr) → P x → P y → P (if t then x else y)
-by_type P true x y h k = h
-by_type P false x y h k = k
-
--- what holds of the operand of an operator whose value isn't wanted, where the operand is unary: for it may be left out with the operator
-abbrev Operand : (P : Expr → Type 0) (sites : Sites) (b : ℕ) → Expr → Type 0
-Operand P sites b (unary place inner e) = P (expr sites b false e)
-Operand P sites b e = Unit {0}
-
-by_unary : (P : Expr → Type 0) (sites : Sites) (at op : ℕ) (x : Expr) (b : ℕ) (wanted : Bool) → P (unary at op (expr sites b true x)) → Operand P sites b x → P (expr sites b wanted (unary at op x))
-by_unary P sites at op (a_name site x) b true h k = h
-by_unary P sites at op (an_int site n u) b true h k = h
-by_unary P sites at op (a_char site c) b true h k = h
-by_unary P sites at op (a_str site w) b true h k = h
-by_unary P sites at op (comma site es) b true h k = h
-by_unary P sites at op (sizeof_type site t) b true h k = h
-by_unary P sites at op (cast site t e) b true h k = h
-by_unary P sites at op (call site d es) b true h k = h
-by_unary P sites at op (member site how e x) b true h k = h
-by_unary P sites at op (postfix site o e) b true h k = h
-by_unary P sites at op (prefix site o e) b true h k = h
-by_unary P sites at op (unary place inner e) b true h k = h
-by_unary P sites at op (index site e f) b true h k = h
-by_unary P sites at op (binary site o e f) b true h k = h
-by_unary P sites at op (assign site o e f) b true h k = h
-by_unary P sites at op (conditional site c e f) b true h k = h
-by_unary P sites at op (a_name site x) b false h k = h
-by_unary P sites at op (an_int site n u) b false h k = h
-by_unary P sites at op (a_char site c) b false h k = h
-by_unary P sites at op (a_str site w) b false h k = h
-by_unary P sites at op (comma site es) b false h k = h
-by_unary P sites at op (sizeof_type site t) b false h k = h
-by_unary P sites at op (cast site t e) b false h k = h
-by_unary P sites at op (call site d es) b false h k = h
-by_unary P sites at op (member site how e x) b false h k = h
-by_unary P sites at op (postfix site o e) b false h k = h
-by_unary P sites at op (prefix site o e) b false h k = h
-by_unary P sites at op (unary place inner e) b false h k = by_type P (is_address_of_indirection op inner) (expr sites b false e) (unary at op (unary place inner (expr sites b true e))) k h
-by_unary P sites at op (index site e f) b false h k = h
-by_unary P sites at op (binary site o e f) b false h k = h
-by_unary P sites at op (assign site o e f) b false h k = h
-by_unary P sites at op (conditional site c e f) b false h k = h
 
 module _ (sites : Sites) where
   mutual

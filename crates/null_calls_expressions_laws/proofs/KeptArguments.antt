@@ -28,6 +28,7 @@ use Rattle.null_calls_expressions_laws.proofs.Forms.{types_both, found_first, fo
 use Rattle.null_calls_expressions_laws.specs.KeptArguments.{NearBy, ArgumentsAreKept, KeptArgumentsGo}
 use Rattle.null_calls_expressions_laws.proofs.AddedParts.{temporaries_are_set}
 pub use Rattle.c_rules_laws.proofs.Holding.{first_fine}
+pub use Rattle.null_calls_expressions_laws.proofs.Unary.{and_right}
 
 -- what may be assigned to has a scalar type
 pub scalar_fits : (t : CType) (g : TypedExpression) → fits t g ≡ true → IsScalar t
@@ -49,10 +50,6 @@ scalar_value env at (function t ts) e h = absurd h
 pub and_left : (a b : Bool) → (a && b) ≡ true → a ≡ true
 and_left true b h = refl
 and_left false b h = absurd (let q : false ≡ true = h in cc)
-
-pub and_right : (a b : Bool) → (a && b) ≡ true → b ≡ true
-and_right true b h = h
-and_right false b h = absurd (let q : false ≡ true = h in cc)
 
 pub same_list : (xs ys : List TypedExpression) → fine xs ≡ fine ys → xs ≡ ys
 same_list xs ys e = cc

@@ -114,16 +114,16 @@ moved_no (known (v.At q)) sign not_constant e = no e
 moved_no (known (v.At q)) sign undefined e = no e
 moved_no (known (v.At q)) sign (known y) e = moved_by q (sign (number_of y)) e
 
-on_holds : {A : Type 0} (P : A → Type 0) (Q : TypedExpression → Type 0) (r : Checked A) (f : A → Checked TypedExpression) → Holds P r → ((a : A) → P a → Holds Q (f a)) → Holds Q (on r f)
+pub on_holds : {A : Type 0} (P : A → Type 0) (Q : TypedExpression → Type 0) (r : Checked A) (f : A → Checked TypedExpression) → Holds P r → ((a : A) → P a → Holds Q (f a)) → Holds Q (on r f)
 on_holds P Q (fine a) f h l = l a h
 on_holds P Q (faulty e es) f h l = tt
 
-two_hold : (P : TypedExpression → Type 0) (r s : Checked TypedExpression) (f : TypedExpression → TypedExpression → Checked TypedExpression) → ((a b : TypedExpression) → Holds P (f a b)) → Holds P (both r s f)
+pub two_hold : (P : TypedExpression → Type 0) (r s : Checked TypedExpression) (f : TypedExpression → TypedExpression → Checked TypedExpression) → ((a b : TypedExpression) → Holds P (f a b)) → Holds P (both r s f)
 two_hold P (fine a) (fine b) f h = h a b
 two_hold P (fine a) (faulty e es) f h = tt
 two_hold P (faulty e es) s f h = tt
 
-if_holds : (P : TypedExpression → Type 0) (t : Bool) (r s : Checked TypedExpression) → Holds P r → Holds P s → Holds P (if t then r else s)
+pub if_holds : (P : TypedExpression → Type 0) (t : Bool) (r s : Checked TypedExpression) → Holds P r → Holds P s → Holds P (if t then r else s)
 if_holds P true r s h l = h
 if_holds P false r s h l = l
 

@@ -36,6 +36,7 @@ use Rattle.null_calls_expressions_laws.specs.Follow.{types_of, ExprFollows, Goes
 use Rattle.null_calls_expressions_laws.proofs.Leaves.{Holds, after_part, leaf_follows, named_leaf}
 use Rattle.null_calls_expressions_laws.proofs.Forms.{types_both, found_first, found_rest, value_goes}
 use Rattle.null_calls_expressions_laws.specs.PlainCalls.{UnmarkedCallsGo}
+use Rattle.null_calls_expressions_laws.proofs.MarkedCalls.{if_false}
 
 -- ## Designators
 
@@ -89,10 +90,6 @@ same_given g h e = cc
 entry_none : (b : Bool) (c : Called) → (if b then Some c else None) ≡ None → b ≡ false
 entry_none true c e = absurd (let q : Some c ≡ None = e in cc)
 entry_none false c e = refl
-
-if_false : {A : Type 0} (b : Bool) (x y : A) → b ≡ false → (if b then x else y) ≡ y
-if_false true x y e = absurd (let q : true ≡ false = e in cc)
-if_false false x y e = refl
 
 module _ (p : Program) where
   abbrev DesignatorGoes : ℕ → List CType → Designator → Designator → Type 0

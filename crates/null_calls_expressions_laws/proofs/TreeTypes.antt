@@ -27,6 +27,7 @@ use Rattle.c_rules.specs.Declarators.{place_of_type, is_void_pointer}
 use Rattle.c_rules.specs.Expressions.{value_at, place_at, access, after_operand, unary_rule, infix_rule, cast_rule, callee, tree, trees, type_named, value}
 use Rattle.c_rules.proofs.Integers.{integer_cases, size_holds}
 use Rattle.null_calls_expressions_laws.proofs.Leaves.{Holds, after_part, demand_holds}
+use Rattle.null_calls_expressions_laws.proofs.NullTypes.{two_hold, on_holds, if_holds}
 
 -- a value's tree has its type, and so has what leads to a place
 abbrev FormTyped : CType → Form → Type 0
@@ -39,19 +40,6 @@ IsTyped g = FormTyped g.ctype g.form
 
 abbrev pub ValueTyped : TypedExpression → Type 0
 ValueTyped g = type_of (tree_of g) ≡ g.ctype
-
-on_holds : {A : Type 0} (P : A → Type 0) (Q : TypedExpression → Type 0) (r : Checked A) (f : A → Checked TypedExpression) → Holds P r → ((a : A) → P a → Holds Q (f a)) → Holds Q (on r f)
-on_holds P Q (fine a) f h l = l a h
-on_holds P Q (faulty e es) f h l = tt
-
-two_hold : (P : TypedExpression → Type 0) (r s : Checked TypedExpression) (f : TypedExpression → TypedExpression → Checked TypedExpression) → ((a b : TypedExpression) → Holds P (f a b)) → Holds P (both r s f)
-two_hold P (fine a) (fine b) f h = h a b
-two_hold P (fine a) (faulty e es) f h = tt
-two_hold P (faulty e es) s f h = tt
-
-if_holds : (P : TypedExpression → Type 0) (t : Bool) (r s : Checked TypedExpression) → Holds P r → Holds P s → Holds P (if t then r else s)
-if_holds P true r s h l = h
-if_holds P false r s h l = l
 
 -- ## Values
 

@@ -28,7 +28,7 @@ use Rattle.null_calls_expressions_laws.specs.Remade.{inner_of, with_inner, remad
 use Rattle.null_calls_expressions_laws.proofs.Constants.{unary_const, integer_const, member_const}
 use Rattle.null_calls_expressions_laws.proofs.Operands.{operand, value_remade, same_remade, demand_follows, behind_follows, on_follows, if_follows, valued_follows, cast_operand, converted_operand, null_operand}
 
-and_right : (a b : Bool) → (a && b) ≡ true → b ≡ true
+pub and_right : (a b : Bool) → (a && b) ≡ true → b ≡ true
 and_right true b h = h
 and_right false b h = absurd (let q : false ≡ true = h in cc)
 

@@ -24,10 +24,7 @@ use Rattle.c_meaning.specs.Results.{State, with_memory, Result, Go, Stop, after,
 use Rattle.null_calls_rules.specs.Temporaries.{is_kept}
 use Rattle.null_calls_rules.specs.InstrumentedPrograms.{keep, kept_value, kept_values, marked_type, type_of_members, kept_of_stmt, kept_of_stmts, expr, stmt, stmts, groups, declared_from, instrumented_function, instrumented_program}
 use Rattle.null_calls_runs_laws.specs.Pieces.{IsKept, IsSet, AreKept, NullCallsAreEvents, KeepingSets, KeptIsGiven, KeptAreGiven, declaring, DeclarationsDeclare, TypesStay, ShapesStay}
-
-after_none : {A : Type 0} (r : Result A) → after [] r ≡ r
-after_none (Go a st w) = refl
-after_none (Stop e w) = refl
+use Rattle.null_calls_runs_laws.proofs.Beside.{after_none}
 
 -- ## Shapes
 

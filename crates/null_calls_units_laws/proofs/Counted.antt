@@ -19,7 +19,7 @@ use Rattle.null_calls_units_laws.specs.Declarations.{with_temporaries, AreNew}
 use Rattle.null_calls_units_laws.proofs.Spellings.{scalar_bare, spelled_name, spelled}
 use Rattle.null_calls_units_laws.proofs.Temporaries.{AllFree}
 
-scalar_object : (env : Env) (place name : ℕ) (t : CType) → is_scalar t ≡ true → object_of env place name no_init t ≡ fine (record { seen = t; whole = t })
+pub scalar_object : (env : Env) (place name : ℕ) (t : CType) → is_scalar t ≡ true → object_of env place name no_init t ≡ fine (record { seen = t; whole = t })
 scalar_object env place name void h = absurd (false≢true h)
 scalar_object env place name (integer i) h = refl
 scalar_object env place name (typed.pointer t) h = refl

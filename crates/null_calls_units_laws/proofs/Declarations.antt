@@ -20,15 +20,7 @@ use Rattle.null_calls_rules.specs.Temporaries.{Temporary, declaration_of, declar
 use Rattle.null_calls_units_laws.specs.Spelled.{IsSpelled}
 use Rattle.null_calls_units_laws.specs.Declarations.{type_of_temporary, with_temporaries, behind_declarations, TemporariesAreDeclared}
 use Rattle.null_calls_units_laws.proofs.Spellings.{scalar_bare, spelled_name, spelled}
-
--- a scalar is the type of an object
-scalar_object : (env : Env) (place name : ℕ) (t : CType) → is_scalar t ≡ true → object_of env place name no_init t ≡ fine (record { seen = t; whole = t })
-scalar_object env place name void h = absurd (false≢true h)
-scalar_object env place name (integer i) h = refl
-scalar_object env place name (typed.pointer t) h = refl
-scalar_object env place name (array t n) h = absurd (false≢true h)
-scalar_object env place name (struct s) h = absurd (false≢true h)
-scalar_object env place name (typed.function r ts) h = absurd (false≢true h)
+use Rattle.null_calls_units_laws.proofs.Counted.{scalar_object}
 
 past_none : (b : Before) → past b 0 [] ≡ b
 past_none b =

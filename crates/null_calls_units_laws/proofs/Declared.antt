@@ -36,11 +36,11 @@ pub among_both : (tags xs ys : List Name) → AreAmong tags xs → AreAmong tags
 among_both tags [] ys h k = k
 among_both tags (x ∷ xs) ys h k = (h.0, among_both tags xs ys h.1 k)
 
-found_after : (y x : Name) (ys : List Name) (c : Option ℕ) → (is_some c ≡ true → slice_index_or ys (unwrap_or c 0) [] ≡ x) → is_some (option_map suc c) ≡ true → slice_index_or (y ∷ ys) (unwrap_or (option_map suc c) 0) [] ≡ x
+pub found_after : (y x : Name) (ys : List Name) (c : Option ℕ) → (is_some c ≡ true → slice_index_or ys (unwrap_or c 0) [] ≡ x) → is_some (option_map suc c) ≡ true → slice_index_or (y ∷ ys) (unwrap_or (option_map suc c) 0) [] ≡ x
 found_after y x ys None f h = absurd (false≢true h)
 found_after y x ys (Some k) f h = f refl
 
-found_by : (y x : Name) (ys : List Name) (b : Bool) (c : Option ℕ) → bytes_eq y x ≡ b → (is_some c ≡ true → slice_index_or ys (unwrap_or c 0) [] ≡ x) → is_some (if b then Some 0 else option_map suc c) ≡ true → slice_index_or (y ∷ ys) (unwrap_or (if b then Some 0 else option_map suc c) 0) [] ≡ x
+pub found_by : (y x : Name) (ys : List Name) (b : Bool) (c : Option ℕ) → bytes_eq y x ≡ b → (is_some c ≡ true → slice_index_or ys (unwrap_or c 0) [] ≡ x) → is_some (if b then Some 0 else option_map suc c) ≡ true → slice_index_or (y ∷ ys) (unwrap_or (if b then Some 0 else option_map suc c) 0) [] ≡ x
 found_by y x ys true c e f h = (bytes_eq-Decides y x).0 e
 found_by y x ys false c e f h = found_after y x ys c f h
 
@@ -49,7 +49,7 @@ pub found : (tags : List Name) (x : Name) → is_among tags x ≡ true → slice
 found [] x h = absurd (false≢true h)
 found (y ∷ ys) x h = found_by y x ys (bytes_eq y x) (number_among ys x) refl (found ys x) h
 
-is_not : (b : Bool) → not b ≡ true → b ≡ false
+pub is_not : (b : Bool) → not b ≡ true → b ≡ false
 is_not true h = absurd (false≢true h)
 is_not false h = refl
 

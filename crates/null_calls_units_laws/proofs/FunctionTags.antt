@@ -21,7 +21,7 @@ use Rattle.null_calls_units_laws.proofs.Temporaries.{AllFree}
 
 -- ## Lists of names
 
-among_by : (t : Bool) (o q : Option ℕ) → (is_some o ≡ true → is_some q ≡ true) → is_some (if t then Some 0 else option_map suc o) ≡ true → is_some (if t then Some 0 else option_map suc q) ≡ true
+pub among_by : (t : Bool) (o q : Option ℕ) → (is_some o ≡ true → is_some q ≡ true) → is_some (if t then Some 0 else option_map suc o) ≡ true → is_some (if t then Some 0 else option_map suc q) ≡ true
 among_by true o q h e = refl
 among_by false None q h e = absurd (true≢false (sym e))
 among_by false (Some k) None h e = absurd (true≢false (sym (h refl)))

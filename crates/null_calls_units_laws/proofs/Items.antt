@@ -30,6 +30,7 @@ use Rattle.null_calls_units_laws.proofs.FileNames.{scopes_of, named_files, here_
 use Rattle.null_calls_units_laws.proofs.ItemInitialisers.{both_to, weaken, always, moved, held_same, static_init_leads}
 use Rattle.null_calls_units_laws.proofs.Silent.{static_silent, static_alone}
 use Rattle.c_rules.proofs.ModeItems.{one_more_leads, global_fine}
+use Rattle.null_calls_units_laws.proofs.FunctionTags.{among_by}
 
 -- ## Structs
 
@@ -260,12 +261,6 @@ decl_leads : (d : Decl) (e f : Env) → FilesBeside e f → (b : Before) (n : �
 decl_leads (decl at class s ps) e f w b n = parts_lead ps e f w b n at class s
 
 -- ## Items that are no functions
-
-among_by : (t : Bool) (o q : Option ℕ) → (is_some o ≡ true → is_some q ≡ true) → is_some (if t then Some 0 else option_map suc o) ≡ true → is_some (if t then Some 0 else option_map suc q) ≡ true
-among_by true o q h e = refl
-among_by false None q h e = absurd (true≢false (sym e))
-among_by false (Some k) None h e = absurd (true≢false (sym (h refl)))
-among_by false (Some k) (Some j) h e = refl
 
 pub more_among : (xs ys zs : List Name) (x : Name) → (is_among ys x ≡ true → is_among zs x ≡ true) → is_among (xs ++ ys) x ≡ true → is_among (xs ++ zs) x ≡ true
 more_among [] ys zs x h e = h e

@@ -21,6 +21,7 @@ use Rattle.c_rules.specs.Expressions.{declared, size_in, parameters}
 use Rattle.null_calls_units_laws.specs.Spelled.{AreAmong, is_pointee, IsSpelled, AreSpelled, DeclaredTypesAreSpelled}
 use Rattle.null_calls_units_laws.proofs.Spellings.{scalar_bare, spelled}
 use Rattle.c_rules.proofs.FineLemmas.{is_fine}
+use Rattle.null_calls_units_laws.proofs.Declared.{found_by, found_after, found, among_left, among_right, is_not}
 
 -- ## What is fine
 
@@ -48,31 +49,6 @@ demand_fine {A} true code at a c h = (refl, same_fine {A = A} a c h)
 demand_fine {A} false code at a c h = absurd (no_fault {A = A} (fault code at) c refl h)
 
 -- ## Tags
-
-among_left : (tags xs ys : List Name) → AreAmong tags (xs ++ ys) → AreAmong tags xs
-among_left tags [] ys h = tt
-among_left tags (x ∷ xs) ys h = (h.0, among_left tags xs ys h.1)
-
-among_right : (tags xs ys : List Name) → AreAmong tags (xs ++ ys) → AreAmong tags ys
-among_right tags [] ys h = h
-among_right tags (x ∷ xs) ys h = among_right tags xs ys h.1
-
-found_after : (y x : Name) (ys : List Name) (c : Option ℕ) → (is_some c ≡ true → slice_index_or ys (unwrap_or c 0) [] ≡ x) → is_some (option_map suc c) ≡ true → slice_index_or (y ∷ ys) (unwrap_or (option_map suc c) 0) [] ≡ x
-found_after y x ys None f h = absurd (false≢true h)
-found_after y x ys (Some k) f h = f refl
-
-found_by : (y x : Name) (ys : List Name) (b : Bool) (c : Option ℕ) → bytes_eq y x ≡ b → (is_some c ≡ true → slice_index_or ys (unwrap_or c 0) [] ≡ x) → is_some (if b then Some 0 else option_map suc c) ≡ true → slice_index_or (y ∷ ys) (unwrap_or (if b then Some 0 else option_map suc c) 0) [] ≡ x
-found_by y x ys true c e f h = (bytes_eq-Decides y x).0 e
-found_by y x ys false c e f h = found_after y x ys c f h
-
--- a name at its number
-found : (tags : List Name) (x : Name) → is_among tags x ≡ true → slice_index_or tags (unwrap_or (number_among tags x) 0) [] ≡ x
-found [] x h = absurd (false≢true h)
-found (y ∷ ys) x h = found_by y x ys (bytes_eq y x) (number_among ys x) refl (found ys x) h
-
-is_not : (b : Bool) → not b ≡ true → b ≡ false
-is_not true h = absurd (false≢true h)
-is_not false h = refl
 
 -- ## Types
 
