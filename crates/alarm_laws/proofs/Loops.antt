@@ -11,7 +11,7 @@ use Rattle.c_tree.specs.Tree.{Groups, no_groups, more_groups}
 use Rattle.c_meaning.specs.Meaning.{either, is_case, is_default, group_with, count_groups, or_else, selected}
 use Rattle.c_meaning.specs.Results.{State, Result, Go, Stop, then_do, Exit, on, broken, continued, returned, on_round}
 use Rattle.c_shapes.specs.Shape.{Shape, Skip, Loop, Do, Shapes, Leave, goes_on, breaks, continues, returns, IsNext}
-use Rattle.c_shapes.specs.Words.{Marks, Whole, Picks, Front, FrontPicks}
+use Rattle.c_shapes.specs.Words.{Marks, Whole, Front}
 use Rattle.c_shapes.specs.Words as F
 use Rattle.c_shapes.specs.ShapeOf.{has_default_label, has_default}
 use Rattle.alarm_laws.proofs.Words.{loop_whole, loop_front, do_whole, do_front}

@@ -9,7 +9,7 @@ use Rattle.c_meaning.specs.Pointers.{test}
 use Rattle.c_meaning.specs.Results.{State, Result, Go, Stop, after, then_do, spend_at, answered, remembered, Exit, on, broken, continued, returned, on_exit}
 use Rattle.std.specs.Prelude.{ℕ, zero, suc}
 use Rattle.c_shapes.specs.Shape.{Shape, Parts, End, Part, Shapes, Leave, goes_on, breaks, continues, returns}
-use Rattle.c_shapes.specs.Words.{Marks, Whole, Falls, Picks, Front, FrontPicks}
+use Rattle.c_shapes.specs.Words.{Marks, Whole, Falls, Front}
 use Rattle.c_shapes.specs.Words as F
 use Rattle.c_shapes.specs.ShapeOf.{seq, alt}
 use Rattle.alarm_laws.proofs.Words.{Stands, here, inside, beyond, one_falls, one_stands, seq_whole, seq_front, left_whole, right_whole, left_front, right_front}

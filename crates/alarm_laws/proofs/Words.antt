@@ -2,7 +2,7 @@
 use Rattle.std.proofs.Common.{◌≡◌, List, sym, subst, refl}
 use Rattle.dm_base.specs.declared.event.Event.{Event}
 use Rattle.c_shapes.specs.Shape.{Shape, Skip, Loop, Do, Cases, Parts, End, Part, Shapes, Leave, goes_on, breaks, continues, returns, IsNext, IsAway}
-use Rattle.c_shapes.specs.Words.{Marks, Whole, Rounds, Again, Falls, Picks, Front, FrontFalls, FrontPicks}
+use Rattle.c_shapes.specs.Words.{Marks, Whole, Rounds, Again, Falls, Picks, Front, FrontFalls}
 use Rattle.c_shapes.specs.Words as F
 use Rattle.c_shapes.specs.ShapeOf.{before_parts, without_skips, in_turn, seq, alt}
 use Rattle.std.specs.Prelude.{Bool}

@@ -1,5 +1,5 @@
 -- What an answer that is right for what is found says of the unit.
-use Rattle.std.proofs.Common.{◌≡◌, ℕ, IfErr, IfOk, Result, Ok, Err, subst, sym}
+use Rattle.std.proofs.Common.{◌≡◌, ℕ, IfErr, IfOk, Result, Ok, Err, subst}
 use Rattle.dm_base.specs.declared.mode.Mode.{Mode}
 use Rattle.dm_base.specs.declared.mode.Mode.TheVariants.{Plain}
 use Rattle.c_check.specs.Refused.{IsRefused}

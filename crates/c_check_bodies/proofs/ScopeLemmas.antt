@@ -1,5 +1,5 @@
 -- Scopes in which names were declared, and which are left.
-use Rattle.std.proofs.Common.{◌≡◌, ℕ, suc, List, [], ◌∷◌, ◌++◌, length, Result, Ok, Err, OnOk, refl, ap, sym}
+use Rattle.std.proofs.Common.{◌≡◌, ℕ, suc, List, [], ◌∷◌, Result, Ok, Err, OnOk}
 use Rattle.c_check_bodies.specs.Scoped.{Declares}
 use Rattle.c_check_scopes.specs.Bound.{Bound}
 use Rattle.c_check_scopes.specs.declared.environment.Environment.{Environment}

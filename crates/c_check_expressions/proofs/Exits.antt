@@ -4,7 +4,7 @@ use Rattle.c_check_values.specs.declared.error.CheckError.{CheckError}
 use Rattle.c_check_values.specs.Agreement.{Names, AgreesWith}
 use Rattle.c_check_values.proofs.Parts.{names_on, names_first, names_second, raised}
 use Rattle.c_rules.specs.Scopes.{Before}
-use Rattle.c_rules.specs.Checked.{Checked, fine, faults, on, both, beside, all_three, Two}
+use Rattle.c_rules.specs.Checked.{Checked, fine, faults, on, both, beside, all_three}
 
 -- a clause on Ok alone
 pub on_ok : {X E : Type 0} (r : Result X E) (A : Type 0) → A → OnOk r A

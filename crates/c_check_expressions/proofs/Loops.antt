@@ -1,6 +1,6 @@
 -- Lists of expressions and of parameters, one after the other.
-use Rattle.std.proofs.Common.{◌≡◌, ℕ, ◌+◌, ◌<◌, ◌≤◌, suc, List, [], ◌∷◌, ◌++◌, length, drop, get_or, map, Option, Some, None, refl, ap, sym, subst, ◌∙◌, arith, append_assoc, append-nil}
-use Rattle.std.proofs.lemmas.List.{drop_all, map-append, length-append}
+use Rattle.std.proofs.Common.{◌≡◌, ℕ, ◌+◌, ◌<◌, ◌≤◌, List, [], ◌∷◌, ◌++◌, length, drop, get_or, map, Option, Some, None, refl, ap, sym, subst, ◌∙◌, arith, append_assoc, append-nil}
+use Rattle.std.proofs.lemmas.List.{drop_all, map-append}
 use Rattle.c_syntax.specs.declared.tree.Expr.{Expr as ExprTree}
 use Rattle.c_syntax.specs.declared.tree.Param.{Param as ParamTree}
 use Rattle.c_syntax.specs.Tree.{Ident, Params}

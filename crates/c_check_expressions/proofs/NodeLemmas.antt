@@ -7,11 +7,9 @@ use Rattle.c_syntax.specs.declared.tree.Ident.{Ident as Named}
 use Rattle.c_syntax.specs.declared.tree.TypeName.{TypeName as TypeTree}
 use Rattle.c_syntax.specs.declared.tree.ExprKind.{ExprKind, Name, Int, Char, Str, Comma', SizeofType, Cast', Call', Member', Arrow', PostInc', PostDec', PreInc', PreDec', SizeofExpr', Unary', Index', And', Or', Binary', Assign', Cond'}
 use Rattle.c_syntax.specs.declared.tree.ExprKind.TheVariants as k
-use Rattle.c_syntax.specs.Tree.{and}
 use Rattle.c_syntax.specs.View.{expr_of, expr_at}
 use Rattle.c_syntax.specs.Writes.{exprs_of}
 use Rattle.c_check_counts.proofs.Rows.{comma_is, call_is}
-use Rattle.c_rules.specs.Checked.{gives}
 use Rattle.c_rules.specs.Counts.{place_of, calls, strings, calls_of_all, strings_of_all, string_cells, past, after, after_designator}
 use Rattle.c_rules.specs.Scopes.{Before}
 use Rattle.c_rules.specs.Expressions.{value}

@@ -9,10 +9,10 @@ use Rattle.dm_counts.specs.Mode.{Mode}
 use Rattle.dm_counts.specs.Mode.TheVariants.{Plain, Instrumented}
 use Rattle.c_rules.specs.Names.{Name, number_among, name_of_row, system_calls, null_calls, given_names}
 
-same_name : (a b : List ℕ) → bytes_eq a b ≡ true → a ≡ b
+pub same_name : (a b : List ℕ) → bytes_eq a b ≡ true → a ≡ b
 same_name a b h = grind (arith, bytes_eq-Decides a b)
 
-self_eq : (x : List ℕ) → bytes_eq x x ≡ true
+pub self_eq : (x : List ℕ) → bytes_eq x x ≡ true
 self_eq x = grind (arith, bytes_eq-Decides x x)
 
 pub none_not_some : (i : ℕ) → None ≡ Some i → ⊥

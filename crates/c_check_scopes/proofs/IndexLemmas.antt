@@ -7,13 +7,13 @@ use Rattle.std.specs.List.{HoldsAt}
 use Rattle.std.proofs.lemmas.Option.{slice_get_past, slice_get-get_or}
 use Rattle.std.proofs.lemmas.Bool.{eq-eqb}
 use Rattle.std.proofs.lemmas.Bool.Decides.{eqb_tells}
-use Rattle.std.proofs.lemmas.Slice.Eq.{bytes_eq-Decides}
 use Rattle.indexmap.specs.IndexMap.{IndexMap, get_by}
 use Rattle.c_rules.specs.Scopes.{Binding, lookup}
 use Rattle.c_check_scopes.specs.declared.scopes.Entry.{Entry}
 use Rattle.c_check_scopes.specs.Bound.{Bound, binding_of, bindings_of, place}
 use Rattle.c_check_scopes.specs.View.{found}
 use Rattle.c_check_scopes.specs.Index.{bound_of, onto, Hides, joined, IsIndex}
+use Rattle.c_check_scopes.proofs.CountLemmas.{same_name, self_eq, none_not_some}
 
 pub onto_push : (es : List Entry) (e : Entry) (bs : List Bound) → onto (es ++ e ∷ []) bs ≡ bound_of e ∷ onto es bs
 onto_push [] e bs = refl
@@ -44,9 +44,6 @@ at_place bs (Some i) = option_map binding_of (nth bs i)
 
 some_same : (n i : ℕ) → Some n ≡ Some i → n ≡ i
 some_same n i q = cc
-
-none_not_some : (i : ℕ) → None ≡ Some i → ⊥
-none_not_some i q = cc
 
 nth_none : (bs : List Bound) (i : ℕ) → length bs ≤ i → nth bs i ≡ None
 nth_none [] i h = refl
@@ -111,9 +108,6 @@ hidden_there : (t : Bool) (n : ℕ) (h l : Option ℕ) → (t ≡ true → h ≡
 hidden_there true n h l q = q refl
 hidden_there false n h l q = refl
 
-same_name : (a b : List ℕ) → bytes_eq a b ≡ true → a ≡ b
-same_name a b h = grind (arith, bytes_eq-Decides a b)
-
 place_pushed : (es : List Entry) (e : Entry) (x : List ℕ) → place (onto (es ++ e ∷ []) []) x ≡ cond (bytes_eq e.name.now x) (Some (length (onto es []))) (place (onto es []) x)
 place_pushed es e x = ap (λ bs. place bs x) (onto_push es e [])
 
@@ -123,9 +117,6 @@ undone m n es e i u = let p = hides_pop [] es e i.hides in record {
       ∙ hidden_there (bytes_eq e.name.now x) (length (onto es [])) e.hidden (place (onto es []) x) (λ t. p.0 ∙ ap (place (onto es [])) (same_name e.name.now x t));
   hides = p.1;
 }
-
-self_eq : (x : List ℕ) → bytes_eq x x ≡ true
-self_eq x = grind (arith, bytes_eq-Decides x x)
 
 pub there : {S : Type 0} (m : IndexMap (Bor (List ℕ)) (Option ℕ) S) (es : List Entry) (e : Entry) → IsIndex m (es ++ e ∷ []) → get_by (λ b. bytes_eq e.name.now b.now) m ≡ None → ⊥
 there m es e i g =

@@ -1,10 +1,10 @@
 -- The map as the first places of names, after one more.
 use Rattle.std.proofs.Common.{◌≡◌, ℕ, suc, List, [], ◌∷◌, ◌++◌, Option, Some, None, Bool, true, false, cond, length, refl, ap, sym, ◌∙◌, arith, Bor}
 use Rattle.std.specs.Prelude.{option_map, is_some, bytes_eq}
-use Rattle.std.proofs.lemmas.Slice.Eq.{bytes_eq-Decides}
 use Rattle.indexmap.specs.IndexMap.{IndexMap, get_by}
 use Rattle.c_rules.specs.Names.{Name, number_among, is_among, with_new}
 use Rattle.c_check_scopes.specs.Numbers.{seen, AreNumbers}
+use Rattle.c_check_scopes.proofs.CountLemmas.{same_name, none_not_some}
 
 pub length_seen : (names : List (Bor (List ℕ))) → length (seen names) ≡ length names
 length_seen [] = refl
@@ -32,12 +32,6 @@ pub number_pushed : (ys : List Name) (x y : Name) → number_among (ys ++ x ∷ 
 number_pushed [] x y = refl
 number_pushed (z ∷ ys) x y =
     ap (λ o. cond (bytes_eq z y) (Some 0) (option_map suc o)) (number_pushed ys x y) ∙ (ap (cond (bytes_eq z y) (Some 0)) (or_new_map (number_among ys y) (bytes_eq x y) (length ys)) ∙ or_new_cond (bytes_eq z y) (option_map suc (number_among ys y)) (bytes_eq x y) (suc (length ys)))
-
-same_name : (a b : List ℕ) → bytes_eq a b ≡ true → a ≡ b
-same_name a b h = grind (arith, bytes_eq-Decides a b)
-
-none_not_some : (i : ℕ) → None ≡ Some i → ⊥
-none_not_some i q = cc
 
 old_stays : (o : Option ℕ) (t : Bool) (n : ℕ) → (t ≡ true → (i : ℕ) × (o ≡ Some i)) → o ≡ or_new o t n
 old_stays (Some i) t n h = refl

@@ -16,7 +16,7 @@ use Rattle.c_meaning_laws.proofs.Places.{grows_on, grows_none}
 use Rattle.c_meaning_laws.proofs.Steps.{Right}
 
 -- of the activations before, as much is told after two parts as after none
-alike_on : (start later : ℕ) (o u v : Objects) → start ≤ later → TellsAlike start o u → TellsAlike later u v → TellsAlike start o v
+pub alike_on : (start later : ℕ) (o u v : Objects) → start ≤ later → TellsAlike start o u → TellsAlike later u v → TellsAlike start o v
 alike_on start later o u v less h k x l = k x (omega (arith, l, less)) ∙ h x l
 
 module _ (p : Program) where

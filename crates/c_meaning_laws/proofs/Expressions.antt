@@ -1,5 +1,5 @@
 -- Expressions do alike where memory has further objects.
-use Rattle.std.proofs.Common.{◌≡◌, ℕ, zero, suc, ◌+◌, ◌-◌, ◌<◌, nat_lt, if◌then◌else◌, Bool, true, false, List, [], ◌∷◌, ◌++◌, map, Some, slice_get, length, append_assoc, sym, ap, ◌∙◌, subst, refl, arith}
+use Rattle.std.proofs.Common.{◌≡◌, ℕ, ◌+◌, ◌-◌, ◌<◌, nat_lt, if◌then◌else◌, Bool, true, false, List, [], ◌∷◌, ◌++◌, map, Some, slice_get, length, append_assoc, sym, ap, ◌∙◌, subst, refl, arith}
 use Rattle.std.specs.List.{AllZip}
 use Rattle.std.proofs.lemmas.Bool.Decides.{nat_tests}
 use Rattle.c_tree.specs.declared.value.Value.{Value}
@@ -26,12 +26,7 @@ use Rattle.c_meaning_laws.proofs.Keeps.{Holds, stands_on, arguments_kind, value_
 use Rattle.c_meaning_laws.proofs.Standing.{left_part, right_part}
 use Rattle.c_meaning_laws.proofs.FurtherSteps.{Sees, test_same, behind_of_same, load_place_same, moving_same, difference_same, comparing_same, operated_same, updated_same}
 use Rattle.c_meaning_laws.proofs.Together.{Does, Shown, AllShown, sees, store_place_remembers, here, answered_does, remembered_does, Whenever, answered_then, either_does, instrumented_does, undefined_does, alone_does, Now, kind_shown, given_shown, place_shown, then_does}
-
--- a call of a function that is defined
-pub defined_at : (fs : List Function) (xs : List CType) (f : ℕ) (t : CType) → f < length fs → slice_get (map type_of_defined fs ++ xs) f ≡ Some t → (g : Function) × (slice_get fs f ≡ Some g) × (g.ctype ≡ t)
-defined_at [] xs f t h e = absurd (omega (arith, h))
-defined_at (g ∷ fs) xs zero t h e = let same : g.ctype ≡ t = cc in (g, refl, same)
-defined_at (g ∷ fs) xs (suc f) t h e = defined_at fs xs f t (omega (arith, h)) e
+pub use Rattle.c_meaning_laws.proofs.Keeps.{defined_at}
 
 pub right_whenever : (ok : Value → Type 0) (r : Answer Value) → Right {A = Value} ok r → Whenever {A = Value} ok r
 right_whenever ok (gives v) h = h

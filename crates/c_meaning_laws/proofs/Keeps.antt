@@ -41,7 +41,7 @@ use Rattle.c_meaning_laws.proofs.Calls.{system_call_ends}
 use Rattle.c_meaning_laws.proofs.Standing.{taken_there, left_part, right_part, stands_empty}
 
 -- a call of a function that is defined, or of another
-defined_at : (fs : List Function) (xs : List CType) (f : ℕ) (t : CType) → f < length fs → slice_get (map type_of_defined fs ++ xs) f ≡ Some t → (g : Function) × (slice_get fs f ≡ Some g) × (g.ctype ≡ t)
+pub defined_at : (fs : List Function) (xs : List CType) (f : ℕ) (t : CType) → f < length fs → slice_get (map type_of_defined fs ++ xs) f ≡ Some t → (g : Function) × (slice_get fs f ≡ Some g) × (g.ctype ≡ t)
 defined_at [] xs f t h e = absurd (omega (arith, h))
 defined_at (g ∷ fs) xs zero t h e = let same : g.ctype ≡ t = cc in (g, refl, same)
 defined_at (g ∷ fs) xs (suc f) t h e = defined_at fs xs f t (omega (arith, h)) e

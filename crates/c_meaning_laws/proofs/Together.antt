@@ -25,10 +25,7 @@ use Rattle.c_meaning_laws.specs.StoreTyping.{HasKind, IsCell, IsGiven, IsPlaced,
 use Rattle.c_meaning_laws.specs.TypedResults.{EndsTyped}
 use Rattle.c_meaning_laws.specs.FurtherObjects.{IsHidden, IsBeside, Stay, DoesAlike}
 use Rattle.c_meaning_laws.proofs.FurtherSteps.{Sees, AllSee, request_same}
-
--- of the activations before, as much is told after two parts as after none
-pub alike_on : (start later : ℕ) (o u v : Objects) → start ≤ later → TellsAlike start o u → TellsAlike later u v → TellsAlike start o v
-alike_on start later o u v less h k x l = k x (omega (arith, l, less)) ∙ h x l
+pub use Rattle.c_meaning_laws.proofs.Ends.{alike_on}
 
 -- what holds of what an answer gives
 abbrev pub Whenever : {A : Type 0} → (A → Type 0) → Answer A → Type 0

@@ -13,7 +13,7 @@ use Rattle.c_syntax.specs.Tree.{Spec, Declarator, nothing, named, pointer, Param
 use Rattle.c_syntax.specs.Tokens.{Is, place}
 use Rattle.c_syntax.specs.Specifiers.{Consts}
 use Rattle.c_syntax.specs.Limits.{height_of_params}
-use Rattle.c_syntax.specs.Grammar.{HasName, IsThere, AreSome, Declares, a_pointer, a_direct, ReadsCore, a_declared, declarator_in_parentheses, no_core, Lengthens, no_more, an_array, a_function, ReadsParams, are_some, ReadsEach}
+use Rattle.c_syntax.specs.Grammar.{HasName, IsThere, AreSome, Declares, a_pointer, a_direct, ReadsCore, a_declared, declarator_in_parentheses, no_core, ReadsParams, are_some, ReadsEach}
 use Rattle.c_syntax.specs.View.{ident_of, param_before, declarator_at, declarator_of}
 use Rattle.c_syntax.specs.Writes.{params_of, declarator_behind}
 use Rattle.c_syntax.proofs.Ends.{start, started, started_name, EndsDeclarator}

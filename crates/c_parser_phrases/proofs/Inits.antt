@@ -6,7 +6,7 @@ use Rattle.c_lexer.specs.declared.token.Token.{Token}
 use Rattle.c_lexer.specs.declared.punctuator.TheConstants.{COMMA, LEFT_BRACE, RIGHT_BRACE}
 use Rattle.c_syntax.specs.declared.tree.ExprKind.{ExprKind, Name, Int, Char, Str, Comma', SizeofType, Cast', Call', Member', Arrow', PostInc', PostDec', PreInc', PreDec', SizeofExpr', Unary', Index', And', Or', Binary', Assign', Cond'}
 use Rattle.c_syntax.specs.declared.tree.Init.{Init as InitTree}
-use Rattle.c_syntax.specs.declared.tree.InitKind.{InitKind, List', Row_of-Init, end_of-Init, more_of-Init, items-the_row-Init, items_hidden-the_row-Init-0}
+use Rattle.c_syntax.specs.declared.tree.InitKind.{InitKind, List', Row_of-Init, end_of-Init, items_hidden-the_row-Init-0}
 use Rattle.c_syntax.specs.declared.tree.InitKind.TheVariants.{List as listed}
 use Rattle.c_syntax.specs.Tree.{Expr, Init, one, list, Inits, no_inits, more_inits}
 use Rattle.c_syntax.specs.Tokens.{Is, place}
@@ -14,7 +14,7 @@ use Rattle.c_syntax.specs.Grammar.{assignment_level}
 use Rattle.c_syntax.specs.Limits.{height_of_init, height_of_inits}
 use Rattle.c_syntax.specs.Statements.{place_of, ReadsInit, an_expression, a_list, a_list_with_comma, ReadsInits, last_init, next_init}
 use Rattle.c_syntax.specs.View.{expr_at}
-use Rattle.c_syntax.specs.UnitView.{init_at, init_of, inits_of_row}
+use Rattle.c_syntax.specs.UnitView.{init_at, init_of}
 use Rattle.c_syntax.specs.WritesUnit.{inits_of}
 use Rattle.c_syntax.proofs.Precedence.{rank}
 use Rattle.c_parser_phrases.specs.declared.room.Room.{Room}

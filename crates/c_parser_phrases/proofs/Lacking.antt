@@ -48,7 +48,7 @@ opens_other form {t} {j = j} false h n q f g = inr (n, λ u k e. let x = (heads 
 pub part_wrong : {deepest : ℕ} {i : List Token} → (IsAt LEFT_BRACKET i → ⊥) → (IsAt LEFT_PARENTHESIS i → ⊥) → IsDeepOrWrong deepest Syntax i
 part_wrong f g = record { wrong = λ q. (f, g); deep = λ at q. absurd (let p : Syntax ≡ Nesting at = q in cc) }
 
-nesting_same : {a b : ℕ} → Nesting a ≡ Nesting b → a ≡ b
+pub nesting_same : {a b : ℕ} → Nesting a ≡ Nesting b → a ≡ b
 nesting_same q = cc
 
 pub part_deep : {deepest : ℕ} {i : List Token} → IsAt LEFT_BRACKET i ⊎ IsAt LEFT_PARENTHESIS i → IsDeepOrWrong deepest (Nesting deepest) i

@@ -8,11 +8,9 @@ use Rattle.c_lexer.specs.declared.keyword.TheConstants.{SIZEOF}
 use Rattle.c_lexer.specs.declared.punctuator.TheConstants.{LEFT_PARENTHESIS, RIGHT_PARENTHESIS, QUESTION, COLON, COMMA}
 use Rattle.c_syntax.specs.Tree.{Expr, TypeName, conditional, dot, arrow, post_increment, post_decrement}
 use Rattle.c_syntax.specs.Tokens.{Is, IsKeyword, IsChar, place}
-use Rattle.c_syntax.specs.Grammar.{Level, primary_level, postfix_level, unary_level, cast_level, binary_level, conditional_level, assignment_level, expression_level, Reads, with_suffixes, a_choice, ReadsType, no_suffix}
+use Rattle.c_syntax.specs.Grammar.{primary_level, postfix_level, unary_level, cast_level, binary_level, conditional_level, assignment_level, expression_level, Reads, with_suffixes, a_choice, ReadsType, no_suffix}
 use Rattle.c_syntax.specs.Grammar.Reads.{is_char as char_stands}
 use Rattle.c_syntax.proofs.Ends.{start, start_of_kind, EndsDeclarator}
-use Rattle.c_syntax.proofs.Twins.{On}
-use Rattle.c_syntax.proofs.FrameGrammar.{reads_on}
 use Rattle.c_syntax.proofs.MorePairs.{wide}
 use Rattle.c_parser_refusals.specs.Fails.{Then, then, One, one}
 use Rattle.c_parser_refusals.specs.Nodes.{InExpr, expr_here, in_no}
@@ -129,7 +127,7 @@ pub cast_deep : {at p n : ℕ} {i : List Token} → IsAtCast i → at ≡ place 
 cast_deep {i = []} h q z = absurd h
 cast_deep {at} {p} {i = t ∷ i} h q z = subst (λ m. Opens (DeepExpr at p m cast_level) (t ∷ i) (t ∷ i)) (sym z) (subst (λ m. Opens (DeepExpr m p 0 cast_level) (t ∷ i) (t ∷ i)) (sym q) (cast_too_deep h.0))
 
-moved_open : {A : List Token → List Token → Type 0} {i j r : List Token} → i ≡ j → Opens A j r → Opens A i r
+pub moved_open : {A : List Token → List Token → Type 0} {i j r : List Token} → i ≡ j → Opens A j r → Opens A i r
 moved_open {A} {r = r} q o = subst (λ z. Opens A z r) (sym q) o
 
 pub cast_name_opens : {at p n : ℕ} {k r : List Token} (i : List Token) → IsAtCast i → k ≡ drop 1 i → Opens (DeepType at p n) k r → Opens (DeepExpr at p (suc n) cast_level) i r

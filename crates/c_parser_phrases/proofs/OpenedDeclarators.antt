@@ -2,23 +2,23 @@
 use Rattle.std.proofs.Common.{◌≡◌, ◌≤◌, ◌<◌, ◌⊎◌, inl, inr, ℕ, zero, suc, Bool, true, List, [], ◌∷◌, ◌++◌, drop, length, length-append, refl, sym, ap, ◌∙◌, subst, arith}
 use Rattle.c_lexer.specs.declared.token.Token.{Token}
 use Rattle.c_lexer.specs.declared.keyword.TheConstants.{VOID}
-use Rattle.c_lexer.specs.declared.punctuator.TheConstants.{LEFT_BRACKET, RIGHT_BRACKET, LEFT_PARENTHESIS, RIGHT_PARENTHESIS, LEFT_BRACE, ASTERISK, COMMA}
+use Rattle.c_lexer.specs.declared.punctuator.TheConstants.{LEFT_BRACKET, LEFT_PARENTHESIS, RIGHT_PARENTHESIS, LEFT_BRACE, ASTERISK, COMMA}
 use Rattle.c_syntax.specs.declared.tree.Param.{Param as ParamTree}
 use Rattle.c_syntax.specs.Tree.{Ident, Spec, Declarator, nothing, named, pointer, array, function, absent, no_params, Init}
 use Rattle.c_syntax.specs.Tokens.{Is, place}
 use Rattle.c_syntax.specs.Specifiers.{Names, Consts, no_const, is_void}
 use Rattle.c_syntax.specs.Grammar.{conditional_level, IsThere, no_size, Declares, a_pointer, a_direct, ReadsCore, a_declared, declarator_in_parentheses, no_core, Lengthens, no_more, an_array, a_function, are_none}
 use Rattle.c_syntax.specs.Statements.{ReadsInit}
-use Rattle.c_syntax.proofs.Twins.{here, along, after, glue, On}
+use Rattle.c_syntax.proofs.Twins.{after, glue, On}
 use Rattle.c_syntax.proofs.Ends.{start}
 use Rattle.c_syntax.proofs.FrontLemmas.{front_of_all}
 use Rattle.c_syntax.proofs.FrameGrammar.{declares_on, lengthens_on}
 use Rattle.c_syntax.proofs.MorePairs.{wide_core, wide_lengthens}
-use Rattle.c_parser_refusals.specs.Fails.{Meets, at_end, at_token, Then, then, One, one}
+use Rattle.c_parser_refusals.specs.Fails.{Then, then, One, one}
 use Rattle.c_parser_refusals.specs.Nodes.{InDeclarator, declarator_here}
 use Rattle.c_parser_refusals.specs.Opens.{Opens, DeepExpr, DeepType, DeepDeclarator, DeepLengthens, DeepEach, DeepInit, DeepInits, Builds, Writes, Filled, Direct}
 use Rattle.c_parser_refusals.proofs.Combine.{fronted, twin_alike}
-use Rattle.c_parser_refusals.proofs.Fills.{name_token, punctuator, word}
+use Rattle.c_parser_refusals.proofs.Fills.{name_token, word}
 use Rattle.c_parser_refusals.proofs.Opening.{opens_under, opens_first, opens_here, closed_by}
 use Rattle.c_parser_refusals.proofs.DeclOpens.{type_opens, pointer_opens, pointer_too_deep, named_too_deep, declarator_parentheses_open, lengthens_open, size_opens, array_too_high, function_too_high}
 use Rattle.c_parser_refusals.proofs.PartOpens.{first_param_opens, later_param_opens, params_open}
@@ -38,9 +38,7 @@ use Rattle.c_parser_phrases.proofs.RefusalsOfDeclarators.{Read, unmoved, bare_le
 use Rattle.c_parser_refusals.proofs.BodyOpens.{close_paren}
 use Rattle.c_parser_refusals.proofs.DeclOpens.{close_bracket}
 use Rattle.c_parser_refusals.proofs.DeclaratorFails.{core_on, place_alike}
-
-moved_open : {A : List Token → List Token → Type 0} {i j r : List Token} → i ≡ j → Opens A j r → Opens A i r
-moved_open {A} {r = r} q o = subst (λ z. Opens A z r) (sym q) o
+use Rattle.c_parser_phrases.proofs.Opened.{moved_open}
 
 abbrev some_name : Ident
 some_name = record { name = 115 ∷ []; at = 0 }

@@ -12,6 +12,7 @@ use Rattle.c_syntax.specs.Tokens.{Is, IsKeyword}
 use Rattle.c_parser_phrases.specs.Standing.{IsAt, IsAtKeyword}
 use Rattle.c_parser_phrases.specs.Refusing.{bound_of, Refuses, RefusesDeep, RefusedFlat}
 use Rattle.c_parser_phrases.specs.Reading.{IsNested, Refused, Lacks, LacksPast}
+use Rattle.c_parser_phrases.proofs.Lacking.{nesting_same}
 
 wrong_is : {at : ℕ} → Nesting at ≡ Syntax → ⊥
 wrong_is q = cc
@@ -32,9 +33,6 @@ no_memory = record { wrong = λ q. absurd (no_memory_is q); deep = λ at q. absu
 -- it fails where the cursor stands
 pub wrong_here : {Q : Bound → List Token → List Token → Type 0} {O : ℕ → ℕ → ℕ → List Token → List Token → Type 0} {room : Room} {i j : List Token} → Q any i j → Refused Q O room Syntax i j
 wrong_here f = record { wrong = λ q. f; deep = λ at q. absurd (deep_is q) }
-
-nesting_same : {a b : ℕ} → Nesting a ≡ Nesting b → a ≡ b
-nesting_same q = cc
 
 -- within the limits it fails at the token, and past them it goes on
 pub deep_at : {Q : Bound → List Token → List Token → Type 0} {O : ℕ → ℕ → ℕ → List Token → List Token → Type 0} {room : Room} {at : ℕ} {i j : List Token} (q : List Token) → Q (bound_of room) i q → O at room.pairs room.nodes i q → 0 < length q → Refused Q O room (Nesting at) i j

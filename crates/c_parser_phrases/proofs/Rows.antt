@@ -1,21 +1,17 @@
 -- Nodes with a list: as the terms that they are seen as.
 use Rattle.std.proofs.Common.{◌≡◌, ℕ, suc, max, sym, Option, Some, None, Vec, Global, refl, ap, ◌∙◌}
 use Rattle.std.specs.Prelude.{Box}
-use mathlib.Core.Former.{Count}
 use Rattle.c_syntax.specs.declared.tree.Expr.{Expr as Tree}
 use Rattle.c_syntax.specs.declared.tree.Param.{Param as ParamTree}
 use Rattle.c_syntax.specs.declared.tree.Declarator.{Declarator as DeclaratorTree}
-use Rattle.c_syntax.specs.declared.tree.ExprKind.{ExprKind, Comma', Row_of-Expr, end_of-Expr, more_of-Expr, items-the_row-Expr, items_hidden-the_row-Expr-1}
 use Rattle.c_syntax.specs.declared.tree.ExprKind.TheVariants.{Comma, Call}
-use Rattle.c_syntax.specs.declared.tree.DeclaratorKind.{DeclaratorKind, Function', Row_of-Param, end_of-Param, more_of-Param, items-the_row-Param, items_hidden-the_row-Param-0}
-use Rattle.c_syntax.specs.declared.tree.DeclaratorKind.TheBlock.{back-DeclaratorKind-Pointer-0}
 use Rattle.c_syntax.specs.declared.tree.DeclaratorKind.TheVariants.{Function, Pointer, Array}
-use Rattle.c_syntax.specs.Tree.{Expr, Exprs, more_exprs, comma, call, Declarator, Params, function, pointer, array}
+use Rattle.c_syntax.specs.Tree.{Expr, Exprs, comma, call, Declarator, Params, function, pointer, array}
 use Rattle.c_syntax.specs.Limits.{height, height_of_exprs, height_of_declarator, height_of_params}
-use Rattle.c_syntax.specs.View.{exprs_of_row, params_of_row, expr_at, expr_of, param_before, declarator_at, inner_declarator}
+use Rattle.c_syntax.specs.View.{params_of_row, expr_at, expr_of, declarator_at}
 use Rattle.c_syntax.specs.Writes.{exprs_of, params_of, declarator_behind, expr_behind}
 use Rattle.c_syntax.proofs.HeightLemmas.{both}
-use Rattle.c_syntax.proofs.Rows.{exprs_row, row_in, inner_is, params_row, params_row_in, params_in, exprs_in}
+use Rattle.c_syntax.proofs.Rows.{inner_is, params_row_in, params_in, exprs_in}
 
 pub comma_is : (at : ℕ) (v : Vec Tree Global) → expr_at at (Comma v) ≡ comma at (exprs_of v.items)
 comma_is at v = ap (comma at) (exprs_in v)

@@ -1,12 +1,12 @@
 -- Some expression begins with each token that can begin one.
-use Rattle.std.proofs.Common.{◌≡◌, ◌⊎◌, inl, inr, ◌≤◌, ℕ, zero, suc, List, [], ◌∷◌, refl, sym, ap, subst, arith}
+use Rattle.std.proofs.Common.{◌≡◌, ◌⊎◌, inl, inr, ◌≤◌, ℕ, zero, suc, List, ◌∷◌, refl, subst, arith}
 use Rattle.c_lexer.specs.declared.token.Token.{Token}
 use Rattle.c_lexer.specs.declared.token.TokenKind.{TokenKind}
 use Rattle.c_lexer.specs.declared.token.TokenKind.TheVariants.{Name, Keyword, Int, Char, Str, Punct}
-use Rattle.c_lexer.specs.declared.punctuator.TheConstants.{LEFT_PARENTHESIS, RIGHT_PARENTHESIS}
+use Rattle.c_lexer.specs.declared.punctuator.TheConstants.{RIGHT_PARENTHESIS}
 use Rattle.c_lexer.specs.declared.keyword.TheConstants.{INT}
 use Rattle.c_syntax.specs.Tree.{Expr, pre_increment, pre_decrement, sizeof}
-use Rattle.c_syntax.specs.Tokens.{Is, IsUnary, takes_address, indirects, keeps_sign, changes_sign, complements, negates}
+use Rattle.c_syntax.specs.Tokens.{IsUnary, takes_address, indirects, keeps_sign, changes_sign, complements, negates}
 use Rattle.c_syntax.specs.Specifiers.{no_const, is_int}
 use Rattle.c_syntax.specs.Grammar.{primary_level, unary_level, cast_level, binary_level, expression_level}
 use Rattle.c_syntax.specs.Grammar.{Reads, is_name, is_char, are_strings, last_string, with_suffixes, no_suffix, no_prefix, a_prefix, a_unary, no_cast, a_cast, no_chain, a_chain, no_operator, no_choice, no_assignment, no_comma, a_type, a_direct, no_core, no_more}

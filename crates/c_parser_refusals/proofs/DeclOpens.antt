@@ -15,7 +15,7 @@ use Rattle.c_parser_refusals.specs.Nodes.{InDeclarator, declarator_here, in_poin
 use Rattle.c_parser_refusals.specs.Pairs.{PairInDeclarator, PairInCore, PairInLengthens}
 use Rattle.c_parser_refusals.specs.Opens.{Opens, DeepExpr, DeepType, DeepDeclarator, Builds, Writes, DeepLengthens, Direct}
 use Rattle.c_parser_refusals.proofs.Opening.{opens_as, opens_under, opens_first, opens_later, opens_here, closed_by}
-use Rattle.c_parser_refusals.proofs.Fills.{punctuator, word}
+use Rattle.c_parser_refusals.proofs.Fills.{word}
 use Rattle.c_parser_refusals.proofs.ExprOpens.{either}
 use Rattle.c_parser_refusals.proofs.ExprOpens.{close_paren}
 pub use Rattle.c_parser_refusals.proofs.ExprOpens.{close_bracket}

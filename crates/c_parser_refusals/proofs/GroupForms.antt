@@ -1,5 +1,5 @@
 -- Where the groups of a switch fail.
-use Rattle.std.proofs.Common.{◌≡◌, ◌≤◌, ℕ, max, List, ◌∷◌, subst, ◌∙◌, arith}
+use Rattle.std.proofs.Common.{◌≡◌, ◌≤◌, ℕ, max, List, ◌∷◌, subst, arith}
 use Rattle.c_lexer.specs.declared.token.Token.{Token}
 use Rattle.c_lexer.specs.declared.punctuator.TheConstants.{RIGHT_BRACE}
 use Rattle.c_syntax.specs.Tree.{Stmts, Groups}
@@ -10,7 +10,7 @@ use Rattle.c_syntax.proofs.Heads.{head, headed}
 use Rattle.c_syntax.proofs.FrameStatements.{labels_on}
 use Rattle.c_syntax.proofs.OneDecl.{same_labels}
 use Rattle.c_syntax.proofs.StmtCases.{stmts_head, groups_head}
-use Rattle.c_parser_refusals.specs.Fails.{Meets, Fails, Then, then, first, second}
+use Rattle.c_parser_refusals.specs.Fails.{Fails, Then, then, first, second}
 use Rattle.c_parser_refusals.specs.Phrases.{Bound, Fits, AStmt, SomeLabels, InSwitch, in_switch}
 use Rattle.c_parser_refusals.specs.Groups.{InGroup, in_group, GroupRest}
 use Rattle.c_parser_refusals.proofs.Combine.{Fixes, fails_as, fails_first, fails_later}

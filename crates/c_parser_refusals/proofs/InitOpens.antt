@@ -12,7 +12,7 @@ use Rattle.c_parser_refusals.specs.Fails.{Then, then, One, one}
 use Rattle.c_parser_refusals.specs.Nodes.{in_one, list_here, in_list, in_first_init, in_later_init}
 use Rattle.c_parser_refusals.specs.Opens.{Opens, DeepExpr, DeepInit, DeepInits}
 use Rattle.c_parser_refusals.proofs.Opening.{opens_as, opens_under, opens_first, opens_later, opens_here, closed_by}
-use Rattle.c_parser_refusals.proofs.Fills.{name_token, punctuator, name_reads}
+use Rattle.c_parser_refusals.proofs.Fills.{name_token, name_reads}
 use Rattle.c_parser_refusals.proofs.ExprOpens.{either}
 use Rattle.c_parser_refusals.proofs.BodyOpens.{close_brace}
 

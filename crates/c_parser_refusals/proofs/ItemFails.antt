@@ -33,7 +33,7 @@ use Rattle.c_parser_refusals.proofs.Fixed.{start_alike, spec_fixes, declarator_f
 use Rattle.c_parser_refusals.proofs.StmtForms.{fits_part}
 use Rattle.c_parser_refusals.proofs.BlockForms.{fits_under}
 use Rattle.c_parser_refusals.proofs.DeclForms.{parts_reads}
-use Rattle.c_parser_refusals.proofs.Fills.{name_token, punctuator}
+use Rattle.c_parser_refusals.proofs.Fills.{name_token}
 use Rattle.c_parser_refusals.proofs.SpecFails.{struct_tail, enum_tail}
 use Rattle.c_syntax.proofs.OneUnit.{same_declarators, semicolon_ends, declarators_end_spec, enum_leads, same_item, defines}
 use Rattle.c_parser_refusals.proofs.BodyOpens.{semicolon}

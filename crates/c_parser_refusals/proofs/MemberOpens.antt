@@ -18,7 +18,6 @@ use Rattle.c_parser_refusals.specs.Nodes.{in_first_declarator, in_later_declarat
 use Rattle.c_parser_refusals.specs.Opens.{Opens, DeepExpr, DeepDeclarator, DeepItem}
 use Rattle.c_parser_refusals.specs.Deep.{DeepDeclarators, DeepMembers, DeepEnumerators}
 use Rattle.c_parser_refusals.proofs.Opening.{opens_as, opens_under, opens_first, opens_later, closed_by, filled_then}
-use Rattle.c_parser_refusals.proofs.Fills.{punctuator}
 use Rattle.c_parser_refusals.proofs.ExprOpens.{either}
 use Rattle.c_parser_refusals.proofs.BodyOpens.{close_brace, semicolon}
 

@@ -1,29 +1,27 @@
 -- Where parameters and declarations open past the limits (C99 6.7).
-use Rattle.std.proofs.Common.{◌≡◌, ◌⊎◌, inl, inr, ◌≤◌, ℕ, zero, suc, List, [], ◌∷◌, refl, subst, arith}
+use Rattle.std.proofs.Common.{◌≡◌, ◌⊎◌, inl, inr, ◌≤◌, ℕ, zero, suc, List, [], ◌∷◌, refl, arith}
 use Rattle.c_lexer.specs.declared.token.Token.{Token}
 use Rattle.c_lexer.specs.declared.token.TokenKind.{TokenKind}
 use Rattle.c_lexer.specs.declared.token.TokenKind.TheVariants.{Name, Keyword, Int, Char, Str, Punct}
 use Rattle.c_lexer.specs.declared.punctuator.TheConstants.{LEFT_PARENTHESIS, RIGHT_PARENTHESIS, COMMA, SEMICOLON, ASSIGN}
 use Rattle.c_lexer.specs.declared.keyword.TheConstants.{INT}
-use Rattle.c_syntax.specs.Tree.{Ident, Spec, void, char, unsigned_char, int, unsigned_int, struct, enum, Declarator, nothing, named, pointer, array, function, Params, no_params, more_params, Init, MaybeInit, no_init, an_init, Parts, no_parts, more_parts, no_storage, decl}
-use Rattle.c_syntax.specs.Tokens.{Is, place}
+use Rattle.c_syntax.specs.Tree.{Ident, Spec, void, char, unsigned_char, int, unsigned_int, struct, enum, Declarator, nothing, named, pointer, array, function, Params, no_params, more_params, MaybeInit, no_init, an_init, no_parts, more_parts, no_storage, decl}
+use Rattle.c_syntax.specs.Tokens.{Is}
 use Rattle.c_syntax.specs.Specifiers.{no_const, a_const, no_storage_stands, ReadsSpec, is_void, is_char, is_int, is_signed, is_unsigned, is_struct, is_enum}
 use Rattle.c_syntax.specs.Grammar.{IsThere, HasName, AreSome, Declares, a_direct, a_declared, no_more, a_function, are_some, ReadsEach, last_param, next_param}
 use Rattle.c_syntax.specs.Statements.{ReadsMaybeInit, no_initialiser, an_initialiser, last_part, next_part, a_declaration}
-use Rattle.c_syntax.proofs.Twins.{On}
 use Rattle.c_syntax.proofs.Ends.{start_of_kind, start_of_code, start_of_word}
-use Rattle.c_syntax.proofs.FrameSpecifiers.{spec_on}
 use Rattle.c_syntax.proofs.FrameGrammar.{declares_on}
 use Rattle.c_syntax.proofs.FrameStatements.{maybe_init_on}
 use Rattle.c_syntax.proofs.MorePairs.{wide_declarator}
 use Rattle.c_syntax.proofs.MorePairsOfUnits.{wide_init}
 use Rattle.c_parser_refusals.specs.Fails.{Then, then, One, one}
-use Rattle.c_parser_refusals.specs.Nodes.{InParams, in_first_param, in_later_param, in_params, InParts, in_part_declarator, in_part_init, in_later_part, in_an_init, in_decl, declarator_here}
+use Rattle.c_parser_refusals.specs.Nodes.{InParams, in_first_param, in_later_param, in_params, in_part_declarator, in_part_init, in_later_part, in_an_init, in_decl, declarator_here}
 use Rattle.c_parser_refusals.specs.Pairs.{PairInEach}
 use Rattle.c_parser_refusals.specs.Declarators.{AnyName}
 use Rattle.c_parser_refusals.specs.Opens.{Opens, Filled, Builds, DeepDeclarator, DeepEach, DeepLengthens, DeepInit, DeepParts, DeepDecl}
 use Rattle.c_parser_refusals.proofs.Opening.{opens_as, opens_under, opens_first, opens_later, opens_here, closed_by}
-use Rattle.c_parser_refusals.proofs.Fills.{name_token, punctuator, word}
+use Rattle.c_parser_refusals.proofs.Fills.{name_token, word}
 use Rattle.c_parser_refusals.proofs.ExprOpens.{either}
 use Rattle.c_parser_refusals.proofs.DeclOpens.{node_there, pair_there}
 use Rattle.c_parser_refusals.proofs.BodyOpens.{semicolon}

@@ -12,7 +12,7 @@ use Rattle.c_syntax.proofs.FrameStatements.{stmt_on, decl_on}
 use Rattle.c_syntax.proofs.MorePairsOfUnits.{wide_stmt, wide_decl}
 use Rattle.c_parser_refusals.specs.Fails.{Then, then, One, one}
 use Rattle.c_parser_refusals.specs.Nodes.{stmt_here, in_block, in_evaluation, in_if_test, in_while_test, in_switch_test, in_return, in_there, in_block_decl, after_block_decl, in_block_stmt, after_block_stmt, expr_here}
-use Rattle.c_parser_refusals.specs.Opens.{Opens, DeepExpr, DeepDecl, DeepStmt, DeepBlock, Filled}
+use Rattle.c_parser_refusals.specs.Opens.{Opens, DeepExpr, DeepDecl, DeepStmt, DeepBlock}
 use Rattle.c_parser_refusals.proofs.Opening.{opens_as, opens_under, opens_first, opens_later, opens_here, closed_by, filled_then}
 use Rattle.c_parser_refusals.proofs.Fills.{name_token, punctuator, name_reads}
 use Rattle.c_parser_refusals.proofs.ExprOpens.{either}

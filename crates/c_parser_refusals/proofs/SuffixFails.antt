@@ -3,7 +3,7 @@ use Rattle.std.proofs.Common.{◌≡◌, ◌≤◌, suc, List, ◌∷◌, refl, 
 use Rattle.c_lexer.specs.declared.token.Token.{Token}
 use Rattle.c_lexer.specs.declared.punctuator.TheConstants.{LEFT_PARENTHESIS, RIGHT_PARENTHESIS}
 use Rattle.c_syntax.specs.Tree.{Ident, Access, Expr, call, member, postfix, index}
-use Rattle.c_syntax.specs.Tokens.{Is, place}
+use Rattle.c_syntax.specs.Tokens.{Is}
 use Rattle.c_syntax.specs.Grammar.{primary_level, postfix_level}
 use Rattle.c_syntax.specs.Grammar.{Reads, with_suffixes, Suffixes, no_suffix, an_index, an_empty_call, a_call, a_member, a_postfix}
 use Rattle.c_syntax.specs.Limits.{height}
@@ -15,7 +15,7 @@ use Rattle.c_syntax.proofs.Begins.{list_begins}
 use Rattle.c_syntax.proofs.FrameGrammar.{reads_on, suffixes_on}
 use Rattle.c_syntax.proofs.OneOperand.{suffix_stops}
 use Rattle.c_syntax.proofs.One.{same, only_list}
-use Rattle.c_parser_refusals.specs.Fails.{Meets, at_end, at_token, Fails, Then, then, Or, first, second, one, NotAt}
+use Rattle.c_parser_refusals.specs.Fails.{Meets, Fails, Then, then, Or, first, second, one, NotAt}
 use Rattle.c_parser_refusals.specs.Phrases.{Bound, within, inner, AnExpr, Punctuator}
 use Rattle.c_parser_refusals.specs.Operands.{SomeExprs, SomeSuffixes, SomeArguments, Postfixed}
 use Rattle.c_parser_refusals.proofs.Combine.{fails_here, fails_second, fails_under_begun, fails_beside, fails_past, not_at_alike, twin_alike, Begins}

@@ -1,12 +1,10 @@
 -- Where character constants and the third part of a conditional expression open past the limits (C99 6.4.4.4, 6.5.15).
-use Rattle.std.proofs.Common.{◌≡◌, inl, inr, ◌≤◌, suc, List, ◌∷◌, refl, ℕ, ℤ}
+use Rattle.std.proofs.Common.{inl, inr, ◌≤◌, suc, List, ◌∷◌, refl, ℕ, ℤ}
 use Rattle.c_lexer.specs.declared.token.Token.{Token}
 use Rattle.c_lexer.specs.declared.punctuator.TheConstants.{COLON, QUESTION}
 use Rattle.c_syntax.specs.Tree.{Expr, conditional}
 use Rattle.c_syntax.specs.Tokens.{Is, IsChar, place}
-use Rattle.c_syntax.specs.Grammar.{Level, primary_level, binary_level, conditional_level, expression_level, Reads, is_char, a_choice}
-use Rattle.c_syntax.proofs.Twins.{On}
-use Rattle.c_syntax.proofs.FrameGrammar.{reads_on}
+use Rattle.c_syntax.specs.Grammar.{primary_level, binary_level, conditional_level, expression_level, Reads, is_char, a_choice}
 use Rattle.c_syntax.proofs.MorePairs.{wide}
 use Rattle.c_parser_refusals.specs.Fails.{Then, then, One, one}
 use Rattle.c_parser_refusals.specs.Nodes.{expr_here, in_no}

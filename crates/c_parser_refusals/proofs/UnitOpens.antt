@@ -1,29 +1,26 @@
 -- Where items and units open past the limits (C99 6.9).
-use Rattle.std.proofs.Common.{◌≡◌, ◌⊎◌, inl, inr, ◌≤◌, ℕ, suc, List, [], ◌∷◌, ◌++◌, refl, sym, ◌∙◌, subst, arith}
+use Rattle.std.proofs.Common.{◌≡◌, inr, ◌≤◌, ℕ, suc, List, [], ◌∷◌, ◌++◌, refl, sym, ◌∙◌, subst, arith}
 use Rattle.std.proofs.lemmas.List.{append_cancel_right}
 use Rattle.c_lexer.specs.declared.token.Token.{Token}
-use Rattle.c_lexer.specs.declared.punctuator.TheConstants.{LEFT_BRACE, RIGHT_BRACE, SEMICOLON, COMMA, ASSIGN}
-use Rattle.c_lexer.specs.declared.keyword.TheConstants.{ENUM, STRUCT}
-use Rattle.c_syntax.specs.Tree.{Ident, Storage, Spec, Declarator, Maybe, there, decl, block, no_block_items, Declarators, no_declarators, more_declarators, Members, no_members, more_members, Enumerators, no_enumerators, more_enumerators, Tag, Item, struct_item, enum_item, decl_item, function_item, Items, no_items, more_items}
-use Rattle.c_syntax.specs.Tokens.{Is, IsKeyword, place}
-use Rattle.c_syntax.specs.Specifiers.{Names, ReadsStorage, ReadsSpec}
-use Rattle.c_syntax.specs.Grammar.{conditional_level, HasName, Declares}
-use Rattle.c_syntax.specs.Statements.{a_declaration, no_block_item, ReadsDeclarators, last_declarator, next_declarator, ReadsMembers, last_member, next_member, ReadsEnumeratorValue, an_enumerator_value, ReadsEnumerators, last_enumerator, next_enumerator, ReadsTag}
-use Rattle.c_syntax.specs.Statements.{ReadsItem, a_struct, an_enum, an_item_declaration, a_definition, ReadsItems, last_item, next_item, ReadsStmt, a_block}
-use Rattle.c_syntax.proofs.Twins.{Twin, here, along, On}
-use Rattle.c_syntax.proofs.FrameSpecifiers.{spec_on, storage_on}
+use Rattle.c_lexer.specs.declared.punctuator.TheConstants.{LEFT_BRACE, RIGHT_BRACE, SEMICOLON}
+use Rattle.c_syntax.specs.Tree.{Storage, Spec, Declarator, decl, block, Item, decl_item, function_item, no_items, more_items}
+use Rattle.c_syntax.specs.Tokens.{Is}
+use Rattle.c_syntax.specs.Specifiers.{ReadsStorage, ReadsSpec}
+use Rattle.c_syntax.specs.Grammar.{HasName, Declares}
+use Rattle.c_syntax.specs.Statements.{a_declaration}
+use Rattle.c_syntax.specs.Statements.{ReadsItem, an_item_declaration, a_definition, last_item, next_item}
+use Rattle.c_syntax.proofs.FrameSpecifiers.{storage_on}
 use Rattle.c_syntax.proofs.FrameGrammar.{declares_on}
 use Rattle.c_syntax.proofs.FrameStatements.{item_on}
 use Rattle.c_syntax.proofs.MorePairs.{wide_declarator}
 use Rattle.c_syntax.proofs.MorePairsOfUnits.{wide_item}
 use Rattle.c_parser_refusals.specs.Fails.{Meets, Then, then, One, one}
-use Rattle.c_parser_refusals.specs.Nodes.{InMembers, in_first_member, in_first_declarator, in_struct_item, in_decl_item, in_decl, in_function_declarator, in_function_body, in_block, in_first_item, in_later_item}
-use Rattle.c_parser_refusals.specs.Opens.{Opens, Filled, DeepDeclarator, DeepParts, DeepBlock, DeepItem, DeepUnit, GoesOn}
+use Rattle.c_parser_refusals.specs.Nodes.{in_decl_item, in_decl, in_function_body, in_block, in_first_item, in_later_item}
+use Rattle.c_parser_refusals.specs.Opens.{Opens, DeepParts, DeepBlock, DeepItem, DeepUnit, GoesOn}
 use Rattle.c_parser_refusals.proofs.Combine.{fronted}
-use Rattle.c_parser_refusals.proofs.Opening.{opens_as, opens_under, opens_first, opens_later, closed_by, filled_then}
-use Rattle.c_parser_refusals.proofs.Fills.{punctuator}
+use Rattle.c_parser_refusals.proofs.Opening.{opens_as, opens_under, opens_first, opens_later, closed_by}
 use Rattle.c_parser_refusals.proofs.ExprOpens.{either}
-use Rattle.c_parser_refusals.proofs.BodyOpens.{close_brace, open_brace, semicolon}
+use Rattle.c_parser_refusals.proofs.BodyOpens.{close_brace, semicolon}
 use Rattle.c_parser_refusals.proofs.MemberOpens.{moved_spec}
 
 -- declarations and functions

@@ -1,5 +1,5 @@
 -- Expressions and declarators in the two modes.
-use Rattle.std.proofs.Common.{◌≡◌, ℕ, suc, ◌+◌, Bool, true, false, if◌then◌else◌, ◌∷◌, Option, Some, None, nat_eq, refl, sym, subst}
+use Rattle.std.proofs.Common.{◌≡◌, ℕ, ◌+◌, Bool, true, false, if◌then◌else◌, ◌∷◌, Option, Some, None, nat_eq, refl, sym, subst}
 use Rattle.c_syntax.specs.TheConstants.{AMPERSAND}
 use Rattle.c_tree.specs.declared.value.BinOp.TheVariants.{Add, Sub}
 use Rattle.c_tree.specs.Tree.{CType, more_types}

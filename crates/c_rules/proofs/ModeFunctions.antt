@@ -7,9 +7,9 @@ use Rattle.std.specs.Prelude.{slice_get}
 use Rattle.c_tree.specs.Mode.TheVariants.{Plain}
 use Rattle.c_tree.specs.Functions.{sys_types, null_types}
 use Rattle.c_tree.specs.Layout.{cells_of_all}
-use Rattle.c_tree.specs.Tree.{CType, void, integer, pointer, array, struct, function, CTypes, Function}
+use Rattle.c_tree.specs.Tree.{CType, void, integer, pointer, array, struct, function, CTypes}
 use Rattle.c_tree.specs.Tree as typed
-use Rattle.c_syntax.specs.Tree.{Ident, Spec, Declarator, Params, no_params, more_params, Stmt, BlockItems}
+use Rattle.c_syntax.specs.Tree.{Ident, Spec, Declarator, Params, no_params, more_params, BlockItems}
 use Rattle.c_syntax.specs.Tree as syntax
 use Rattle.c_rules.specs.Checked.{Checked, fine, faulty, on, demand, and_also, Met, met}
 use Rattle.c_rules.specs.Codes.{C2, C3, C11, C12, C13}

@@ -1,7 +1,7 @@
 -- Short words for units written as terms, for trials.
 use Rattle.std.proofs.Common.{ℕ, ◌+◌, false, List, [], ◌∷◌, codes}
-use Rattle.c_syntax.specs.Tree.{Ident, Storage, no_storage, static, extern, Spec, Expr, a_name, an_int, call, Exprs, no_exprs, more_exprs, Maybe, absent, there, Declarator, named, function, Params, no_params, more_params}
-use Rattle.c_syntax.specs.Tree.{MaybeInit, no_init, an_init, Parts, no_parts, more_parts, Decl, decl, Stmt, block, evaluate, return_from, BlockItems, no_block_items, block_decl, block_stmt, Item, decl_item, function_item, Items, no_items, more_items}
+use Rattle.c_syntax.specs.Tree.{Ident, no_storage, Spec, Expr, a_name, an_int, call, no_exprs, more_exprs, there, Declarator, named, function, no_params}
+use Rattle.c_syntax.specs.Tree.{no_init, an_init, Parts, no_parts, more_parts, Decl, decl, Stmt, block, evaluate, return_from, BlockItems, no_block_items, block_stmt, Item, decl_item, function_item, Items, no_items, more_items}
 use Rattle.c_syntax.specs.Tree as syntax
 use Rattle.c_rules.specs.Checked.{Fault}
 

@@ -4,7 +4,6 @@ use Rattle.std.specs.Int.{int_wrap}
 use Rattle.c_tree.specs.Mode.TheVariants.{Plain, Instrumented}
 use Rattle.c_tree.specs.Table.{table}
 use Rattle.c_tree.specs.Functions.{sys_types}
-use Rattle.c_syntax.specs.Tree.{Items}
 use Rattle.c_syntax.specs.Tree as s
 use Rattle.c_rules.specs.Checked.{faults}
 use Rattle.c_rules.specs.Units.{checked}

@@ -6,7 +6,7 @@ use Rattle.c_tree.specs.Table.{table}
 use Rattle.c_tree.specs.declared.value.Value.TheVariants as values
 use Rattle.c_tree.specs.Functions.{sys_types, of_none}
 use Rattle.c_tree.specs.Functions as functions
-use Rattle.c_tree.specs.Tree.{CType, Program, Function, Static}
+use Rattle.c_tree.specs.Tree.{Program, Function}
 use Rattle.c_tree.specs.Tree as typed
 use Rattle.c_syntax.specs.Tree.{Items, no_items, more_items, only_if, block_stmt, evaluate}
 use Rattle.c_syntax.specs.Tree as syntax

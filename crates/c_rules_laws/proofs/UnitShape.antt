@@ -1,7 +1,5 @@
 -- What the items of a unit give, in the order of the unit: the functions and objects that it defines, with the types that their names have behind all items.
 use Rattle.std.proofs.Common.{◌≡◌, ℕ, zero, suc, Bool, true, false, not, ◌&&◌, if◌then◌else◌, cond, List, [], ◌∷◌, ◌++◌, length, Option, Some, None, slice_get, refl, ap, ap₂, sym, subst, ◌∙◌}
-use Rattle.std.specs.Prelude.{bytes_eq}
-use Rattle.std.proofs.lemmas.Slice.Eq.{bytes_eq-Decides}
 use Rattle.c_tree.specs.Tree.{CType, void, integer, pointer, array, struct, function, Function, Static}
 use Rattle.dm_base.specs.Name.{IsName}
 use Rattle.c_tree.specs.Tree as typed

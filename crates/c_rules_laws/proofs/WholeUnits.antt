@@ -1,6 +1,6 @@
 -- A unit that is typed is a well-typed program.
-use Rattle.std.proofs.Common.{◌≡◌, ◌≢◌, ◌⊎◌, inl, inr, ℕ, zero, suc, ◌<◌, Bool, true, false, if◌then◌else◌, List, [], ◌∷◌, ◌++◌, All, map, replicate, length, length-append, Option, Some, None, slice_get, slice_index_or, unwrap_or, refl, ap, sym, subst, ◌∙◌, arith}
-use Rattle.std.specs.Prelude.{AllPairs, is_some, option_map, bytes_eq, codes}
+use Rattle.std.proofs.Common.{◌≡◌, ◌≢◌, ◌⊎◌, inl, inr, ℕ, zero, suc, ◌<◌, true, false, List, [], ◌∷◌, ◌++◌, All, map, replicate, length, length-append, Option, Some, None, slice_get, slice_index_or, unwrap_or, refl, ap, sym, subst, ◌∙◌, arith}
+use Rattle.std.specs.Prelude.{AllPairs, is_some, codes}
 use Rattle.std.specs.List.{range_with_len}
 use Rattle.std.proofs.lemmas.List.{length-map}
 use Rattle.std.proofs.lemmas.List.Elements.{All-nil, All-cons, All-head, All-tail}
@@ -9,7 +9,7 @@ use Rattle.std.proofs.lemmas.Slice.Eq.{bytes_eq-Decides}
 use Rattle.dm_base.specs.declared.mode.Mode.{Mode}
 use Rattle.dm_base.specs.declared.mode.Mode.TheVariants.{Plain, Instrumented}
 use Rattle.sys_table.specs.Table.{Row, table, name_of}
-use Rattle.c_tree.specs.Tree.{CType, Function, Static, Program}
+use Rattle.c_tree.specs.Tree.{Function, Static, Program}
 use Rattle.c_tree.specs.Functions.{int, of_none}
 use Rattle.c_tree.specs.Program.{IsStatic, HaveNames, IsProgram}
 use Rattle.c_tree.specs.Sites.{sites_of_program}
@@ -36,7 +36,7 @@ use Rattle.c_rules_laws.proofs.StaticStrings.{strings_static}
 use Rattle.c_rules_laws.proofs.DistinctNames.{Each, Differ, among_first, among_rest, among_left, few_names}
 use Rattle.c_rules_laws.proofs.DefinedNames.{IsDefined, Defines}
 use Rattle.c_rules_laws.proofs.NamesOfItems.{items_define}
-use Rattle.c_rules_laws.proofs.UnitTable.{name_at, none_defined, suc_some, one_binding, no_binding, same_function}
+use Rattle.c_rules_laws.proofs.UnitTable.{name_at, none_defined, one_binding, no_binding, same_function}
 
 -- ## Before all items
 

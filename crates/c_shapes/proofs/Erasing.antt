@@ -5,7 +5,7 @@ use Rattle.dm_base.specs.declared.event.Event.TheVariants as events
 use Rattle.dm_base.specs.Fits.{Fits}
 use Rattle.dm_base.specs.Trace.{erase}
 use Rattle.c_shapes.specs.Shape.{Shape, Shapes, Sys, Exit, Parts, Leave, goes_on, exit_call}
-use Rattle.c_shapes.specs.Words.{Marks, brackets, no_brackets, Whole, Rounds, Again, Falls, Picks, Front, FrontFalls, FrontPicks}
+use Rattle.c_shapes.specs.Words.{brackets, no_brackets, Whole, Rounds, Again, Falls, Picks, Front, FrontFalls, FrontPicks}
 use Rattle.c_shapes.specs.Words as F
 
 module _ (env : Shapes) where

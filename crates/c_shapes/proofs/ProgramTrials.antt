@@ -3,7 +3,7 @@ use Rattle.std.proofs.Common.{◌≡◌, pos, true, false, [], ◌∷◌, None, 
 use Rattle.c_tree.specs.Table.{table}
 use Rattle.c_tree.specs.declared.value.Value.TheVariants as v
 use Rattle.c_tree.specs.Tree.{pointer, array, Program}
-use Rattle.c_tree.specs.Tree.{Expr, constant, function_name, variable, dereference, load, address_of, decay, pointer_add, call, call_through, no_exprs, more_exprs}
+use Rattle.c_tree.specs.Tree.{constant, function_name, dereference, address_of, decay, call, call_through, no_exprs, more_exprs}
 use Rattle.c_tree.specs.Tree.{block, empty, evaluate, if_else, return_value, no_stmts, more_stmts}
 use Rattle.c_tree.specs.Functions.{int, char_pointer, of_none, of_one, sys_types}
 use Rattle.c_tree.proofs.TypedTrials.{f_of_b, of_f_and_main, function_with, main_with, zero_of_int, two}

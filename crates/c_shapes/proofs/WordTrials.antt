@@ -7,7 +7,7 @@ use Rattle.dm_base.specs.Fits.{Fits}
 use Rattle.c_shapes.specs.Shape.{Shape, Sys, Call, Seq, Alt, Return, Parts, End, Part, Shapes, shape_of, Leave, goes_on, returns}
 use Rattle.c_shapes.specs.Words.{Marks, brackets, no_brackets, Whole, Front}
 use Rattle.c_shapes.specs.Words as F
-use Rattle.c_shapes.specs.Walks.{Point, before, after, parts, this, later, Walks}
+use Rattle.c_shapes.specs.Walks.{before, after, parts, this, Walks}
 use Rattle.c_shapes.specs.Walks as W
 use Rattle.c_shapes.specs.Languages.{Dyck, Stack, Callgraph}
 use Rattle.c_shapes.proofs.Erasing.{front as erased}

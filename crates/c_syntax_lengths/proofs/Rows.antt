@@ -1,35 +1,29 @@
 -- The tokens of lists of trees that a node holds.
-use Rattle.std.proofs.Common.{◌≡◌, ℕ, Bool, true, false, List, [], ◌∷◌, Option, Some, None, Vec, Global, length, drop, ◌≤◌, refl, ap, sym, subst, ◌∙◌}
+use Rattle.std.proofs.Common.{◌≡◌, ℕ, Bool, false, List, ◌∷◌, Option, Vec, Global, length, drop, ◌≤◌, ap, sym, subst, ◌∙◌}
 use Rattle.std.specs.Prelude.{Box, ◌==◌}
-use mathlib.Core.Former.{Count}
 use Rattle.c_lexer.specs.declared.token.TokenKind.TheVariants.{Punct}
 use Rattle.c_lexer.specs.declared.punctuator.TheConstants.{LEFT_PARENTHESIS, RIGHT_PARENTHESIS, LEFT_BRACE, RIGHT_BRACE}
 use Rattle.c_lexer.specs.declared.keyword.TheConstants.{SWITCH}
 use Rattle.c_syntax.specs.declared.tree.Expr.{Expr as Tree}
-use Rattle.c_syntax.specs.declared.tree.Param.{Param as ParamTree, Param'}
+use Rattle.c_syntax.specs.declared.tree.Param.{Param as ParamTree}
 use Rattle.c_syntax.specs.declared.tree.Declarator.{Declarator as DeclaratorTree}
-use Rattle.c_syntax.specs.declared.tree.ExprKind.{ExprKind, Comma', Row_of-Expr, end_of-Expr, more_of-Expr, items-the_row-Expr, items_hidden-the_row-Expr-1}
 use Rattle.c_syntax.specs.declared.tree.ExprKind.TheVariants.{Comma, Call}
-use Rattle.c_syntax.specs.declared.tree.DeclaratorKind.{DeclaratorKind, Function', Row_of-Param, end_of-Param, more_of-Param, items-the_row-Param, items_hidden-the_row-Param-0}
 use Rattle.c_syntax.specs.declared.tree.DeclaratorKind.TheBlock.{back-DeclaratorKind-Pointer-0}
 use Rattle.c_syntax.specs.declared.tree.DeclaratorKind.TheVariants.{Function}
 use Rattle.c_syntax.specs.declared.tree.Init.{Init as InitTree}
-use Rattle.c_syntax.specs.declared.tree.InitKind.{InitKind, List', Row_of-Init, end_of-Init, more_of-Init, items-the_row-Init, items_hidden-the_row-Init-0}
 use Rattle.c_syntax.specs.declared.tree.InitKind.TheVariants.{List as listed}
 use Rattle.c_syntax.specs.declared.tree.BlockItem.{BlockItem}
-use Rattle.c_syntax.specs.declared.tree.StmtKind.{StmtKind, Block', Switch', Row_of-BlockItem, end_of-BlockItem, more_of-BlockItem, items-the_row-BlockItem, items_hidden-the_row-BlockItem-0, Row_of-Group, end_of-Group, more_of-Group, items-the_row-Group, items_hidden-the_row-Group-1}
 use Rattle.c_syntax.specs.declared.tree.StmtKind.TheVariants.{Block, Switch}
 use Rattle.c_syntax.specs.declared.tree.Group.{Group}
-use Rattle.c_syntax.specs.Tree.{more_exprs, more_inits}
-use Rattle.c_syntax.specs.View.{exprs_of_row, params_of_row, expr_at, expr_of, param_before, declarator_at, inner_declarator}
-use Rattle.c_syntax.specs.UnitView.{init_at, inits_of_row, stmt_at, block_items_of_row, block_item_before, groups_of_row, group_before}
+use Rattle.c_syntax.specs.View.{expr_at, expr_of, declarator_at, inner_declarator}
+use Rattle.c_syntax.specs.UnitView.{init_at, stmt_at}
 use Rattle.c_syntax.specs.Print.{Kinds, params_kinds, list_kinds, expr_kinds, operand_kinds, declarator_kinds, init_kinds, inits_kinds, stmt_kinds, block_items_kinds, groups_kinds}
 use Rattle.c_syntax.specs.Writes.{exprs_of, params_of, left_params, head_params, declarator_behind, direct_kinds}
 use Rattle.c_syntax.specs.WritesUnit.{inits_of, block_items_of, groups_of, worded_kinds}
 use Rattle.c_syntax_lengths.specs.Counted.{Leaves, Counts}
 use Rattle.c_syntax_lengths.proofs.Counting.{all_counted, counted_as}
-use Rattle.c_syntax.proofs.Rows.{exprs_row, row_in, inner_is, params_row, params_row_in, params_in, exprs_in, no_params_left, head_is_all}
-use Rattle.c_syntax.proofs.UnitRows.{inits_row, inits_row_in, inits_in, block_items_row, block_items_row_in, block_items_in, groups_row, groups_row_in, groups_in}
+use Rattle.c_syntax.proofs.Rows.{inner_is, params_in, exprs_in, no_params_left, head_is_all}
+use Rattle.c_syntax.proofs.UnitRows.{inits_in, block_items_in, groups_in}
 
 -- the same operand
 pub operand_is : {a b : ℕ} (x y : Tree) → x ≡ y → Counts a (operand_kinds (expr_of x)) b → Counts a (operand_kinds (expr_of y)) b

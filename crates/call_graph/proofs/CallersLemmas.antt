@@ -16,6 +16,7 @@ use Rattle.call_graph.specs.Callers.Leads.{here, on}
 use Rattle.dm_base.proofs.AddingLemmas.{gains_nothing, gains_both}
 use Rattle.call_graph.proofs.Members.{contains-map, contains-unmap}
 use Rattle.call_graph.proofs.ReachingLemmas.{map_get}
+use Rattle.call_graph.proofs.ReachingLemmas.{leads_more}
 
 -- what stands in a list where one place was set
 get_set_here : {X : Type 0} (xs : List X) (i : ℕ) (x : X) → i < length xs → slice_get (set xs i x) i ≡ Some x
@@ -154,11 +155,6 @@ both_kinds none mid all P Q empty first second e = (
     | inr is ↦ (second e).1 (inr is)
   ],
 )
-
--- The nodes that are found, one after another.
-leads_more : {callers : List (Vec ℕ Global)} {j k l : ℕ} → Leads callers j k → HasCaller callers (record { by = l; to = k }) → Leads callers j l
-leads_more here link = on link here
-leads_more (on first rest) link = on first (leads_more rest link)
 
 leads_closed : {callers : List (Vec ℕ Global)} {j k : ℕ} (P : ℕ → Type 0) → ((j k : ℕ) → P j → HasCaller callers (record { by = k; to = j }) → P k) → Leads callers j k → P j → P k
 leads_closed P closed here is = is

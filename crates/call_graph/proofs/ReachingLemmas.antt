@@ -111,7 +111,7 @@ node_direct f n lt = ap (λ b. if b then Some f else None) (lt-ltb f n lt)
 some_same : {a b : ℕ} → Some a ≡ Some b → a ≡ b
 some_same e = cc
 
-leads_more : {callers : List (Vec ℕ Global)} {j k l : ℕ} → Leads callers j k → HasCaller callers (record { by = l; to = k }) → Leads callers j l
+pub leads_more : {callers : List (Vec ℕ Global)} {j k l : ℕ} → Leads callers j k → HasCaller callers (record { by = l; to = k }) → Leads callers j l
 leads_more here link = on link here
 leads_more (on first rest) link = on first (leads_more rest link)
 

@@ -1,5 +1,5 @@
 -- The marks of sites, and the functions of a program one after another.
-use Rattle.std.proofs.Common.{◌≡◌, inl, inr, ℕ, zero, suc, ◌+◌, ◌<◌, ◌≤◌, Bool, true, false, if◌then◌else◌, List, [], ◌∷◌, ◌++◌, map, filter, length, take, get_or, replicate, Option, Some, None, slice_get, slice_index_or, ℤ, refl, sym, ap, ap₂, ◌∙◌, arith}
+use Rattle.std.proofs.Common.{◌≡◌, inl, inr, ℕ, zero, suc, ◌+◌, ◌<◌, ◌≤◌, Bool, true, false, if◌then◌else◌, List, [], ◌∷◌, ◌++◌, map, filter, length, take, get_or, replicate, Some, None, slice_get, slice_index_or, refl, sym, ap, ap₂, ◌∙◌, arith}
 use Rattle.std.specs.List.{range_with_len}
 use Rattle.std.proofs.lemmas.List.Elements.{filter-append}
 use Rattle.std.proofs.lemmas.List.{append_assoc, append-nil, take_more, take_all, map-append}
@@ -19,6 +19,7 @@ use Rattle.flow_graph.specs.View.{shape_of, shapes_in}
 use Rattle.flow_graph.specs.Sited.{stmt_at}
 use Rattle.flow_graph.proofs.Told.{defined_told}
 pub use Rattle.call_graph.proofs.BelowOrAt.{below_or_at}
+pub use Rattle.flow_graph.proofs.ArgumentLemmas.{nothing}
 
 past_end : (xs : List Bool) (s : ℕ) → length xs ≤ s → slice_index_or xs s false ≡ false
 past_end [] zero le = refl
@@ -84,10 +85,6 @@ pub length_functions : (fs : List FunctionTree) → length (map function_of fs) 
 length_functions [] = refl
 length_functions (f ∷ fs) = let k = length_functions fs in omega (arith, k)
 
--- any arguments
-abbrev pub nothing : Option ℤ
-nothing = None
-
 pub any_pattern : (kinds : List ArgKind) → replicate (length kinds) nothing ≡ map (λ kind. None) kinds
 any_pattern [] = refl
 any_pattern (kind ∷ kinds) = ap (λ xs. None ∷ xs) (any_pattern kinds)
@@ -100,7 +97,7 @@ call_added b x old new s taken shape is =
 pub call_left : (b : Bool) (x : ℕ) (old : List Tree) → b ≡ false → shapes_in old ≡ shapes_in old ++ map any_call (if b then x ∷ [] else [])
 call_left b x old taken = sym (append-nil (shapes_in old)) ∙ sym (ap (λ b. shapes_in old ++ map any_call (if b then x ∷ [] else [])) taken)
 
-range_more : (a n : ℕ) → range_with_len a (n + 1) ≡ range_with_len a n ++ (a + n) ∷ []
+pub range_more : (a n : ℕ) → range_with_len a (n + 1) ≡ range_with_len a n ++ (a + n) ∷ []
 range_more a zero = ap (λ m. m ∷ []) (omega arith)
 range_more a (suc n) =
     let e : suc n + 1 ≡ suc (n + 1) = omega arith in

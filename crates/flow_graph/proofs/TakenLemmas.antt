@@ -10,13 +10,7 @@ use Rattle.c_shapes.specs.ShapeOf.{taken_calls, place_of, candidate_places}
 use Rattle.flow_graph_laws.specs.Sorted.{sorted}
 use Rattle.std.specs.Ordering.{nat_cmp}
 use Rattle.flow_graph.specs.Places.{place_at}
-
-range_more : (a n : ℕ) → range_with_len a (n + 1) ≡ range_with_len a n ++ (a + n) ∷ []
-range_more a zero = ap (λ m. m ∷ []) (omega arith)
-range_more a (suc n) =
-    let e : suc n + 1 ≡ suc (n + 1) = omega arith in
-    let f : a + 1 + n ≡ a + suc n = omega arith in
-    ap (range_with_len a) e ∙ ap (λ xs. a ∷ xs) (range_more (a + 1) n ∙ ap (λ m. range_with_len (a + 1) n ++ m ∷ []) f)
+use Rattle.flow_graph.proofs.ProgramLemmas.{range_more}
 
 pub taken_more : (test : ℕ → Bool) (k : ℕ) (old new : List ℕ) (b : Bool) → old ≡ filter test (range_with_len 0 k) → b ≡ test k → new ≡ old ++ (if b then k ∷ [] else []) → new ≡ filter test (range_with_len 0 (k + 1))
 taken_more test k old new b before is step =

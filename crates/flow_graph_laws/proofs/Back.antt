@@ -3,12 +3,12 @@ use Rattle.std.proofs.Common.{◌≡◌, ℕ, Bool, ◌+◌, ◌<◌, List, [], 
 use Rattle.dm_base.specs.declared.event.Event.{Event}
 use Rattle.c_shapes.specs.Shape.{Shape, Call, Seq, Alt, Loop, Do, Cases, Parts, End, Part, Shapes, shape_of, Leave, goes_on, breaks, continues, returns, IsDone, IsNext, IsAway}
 use Rattle.c_shapes.specs.Bodies.{IsExpression}
-use Rattle.c_shapes.specs.Words.{Marks, Whole, Rounds, Again, Falls, Picks, Front}
+use Rattle.c_shapes.specs.Words.{Marks, Whole, Rounds, Again, Front}
 use Rattle.c_shapes.specs.Words as F
 use Rattle.c_shapes.specs.Walks.{Label, Site}
 use Rattle.c_shapes.proofs.Leaving.{straight}
 use Rattle.flow_graph_laws.specs.Layout.{Places, ends, body, width, count, group, switch}
-use Rattle.flow_graph_laws.proofs.Laid.{Graph, Step, Run, Via, along, leave, over, then, silent, system, enter, LaidFrom, Only, First, OrSilent, out, into, TwoSilent, to_a, to_b, leads, Laid, LaidParts, no_part, one_part, Heads}
+use Rattle.flow_graph_laws.proofs.Laid.{Graph, Step, Run, Via, along, leave, over, then, silent, system, enter, LaidFrom, Only, First, OrSilent, out, into, TwoSilent, to_a, to_b, leads, Laid, LaidParts, one_part, Heads}
 use Rattle.flow_graph_laws.proofs.Laid as G
 use Rattle.flow_graph_laws.proofs.Positions.{Inside, Goes, at_end, entered, within, returned, in_left, in_right, at_head, in_test, at_body, in_body, at_step, in_step, at_do, in_do, at_until, in_until, at_choice, still, gone, in_cases, in_seq, in_rest, InFalls, InPicks, at_part, in_part, in_next, from_this, from_later, GoesFalls, GoesPicks, still_falls, gone_falls, still_picks, gone_picks}
 

@@ -6,7 +6,7 @@ use Rattle.c_shapes.specs.Words.{Marks, Whole, Rounds, Again, Falls, Picks, Fron
 use Rattle.c_shapes.specs.Words as F
 use Rattle.c_shapes.specs.Walks.{Silent}
 use Rattle.flow_graph_laws.specs.Layout.{Places, ends, body, head}
-use Rattle.flow_graph_laws.proofs.Laid.{Graph, Step, Run, Via, along, leave, over, then, silent, system, enter, LaidFrom, Only, leads, Laid, LaidParts, no_part, one_part, Heads}
+use Rattle.flow_graph_laws.proofs.Laid.{Graph, Run, along, leave, over, then, silent, system, enter, LaidFrom, leads, Laid, LaidParts, one_part, Heads}
 use Rattle.flow_graph_laws.proofs.Laid as G
 
 module _ (env : Shapes) (g : Graph) (m : Marks) (base : ℕ → ℕ) (from : LaidFrom env g base) where

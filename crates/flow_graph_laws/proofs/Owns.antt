@@ -4,7 +4,7 @@ use Rattle.c_shapes.specs.Shape.{Shape, Skip, Sys, Exit, Call, Seq, Alt, Loop, D
 use Rattle.c_shapes.specs.Bodies.{IsExpression, AreExpressions, IsStatement, AreStatements}
 use Rattle.c_shapes.specs.Walks.{Label, Silent, System, Site}
 use Rattle.flow_graph_laws.specs.Layout.{Places, body, width, widths, count, group, switch}
-use Rattle.flow_graph_laws.proofs.Laid.{Graph, Laid, Only, First, OrSilent, out, into, TwoSilent, to_a, to_b, Heads, LaidParts, no_part, one_part}
+use Rattle.flow_graph_laws.proofs.Laid.{Graph, Laid, First, OrSilent, out, into, TwoSilent, to_a, to_b, LaidParts, no_part, one_part}
 use Rattle.flow_graph_laws.proofs.Laid as G
 use Rattle.flow_graph_laws.proofs.Edges.{Lays, skip, sys, exit, call, in_left, in_right, to_loop, loop_ends, in_test, in_body, in_step, to_do, do_again, do_ends, in_do, in_until, break_out, continue_on, return_now, in_cases, in_seq, in_rest, to_case, no_default, LaysParts, in_part, in_later}
 

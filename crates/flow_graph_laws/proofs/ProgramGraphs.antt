@@ -1,5 +1,5 @@
 -- The graphs of small programs.
-use Rattle.std.proofs.Common.{◌≡◌, List, [], ◌∷◌, None, codes, refl}
+use Rattle.std.proofs.Common.{◌≡◌, [], ◌∷◌, None, codes, refl}
 use Rattle.sys_table.specs.Table.{table}
 use Rattle.c_tree.specs.Functions.{sys_types}
 use Rattle.c_shapes.proofs.ProgramTrials.{source_b, source_d, indirect}

@@ -17,7 +17,7 @@ use Rattle.flow_model.specs.Language.Walk.{over as w_over, quiet as w_quiet, cal
 use Rattle.flow_graph_laws.specs.GraphOf.{graph_of}
 use Rattle.flow_graph_laws.specs.Premises.{AreClosed}
 use Rattle.flow_graph_laws.specs.Equal.{AreEqual}
-use Rattle.flow_graph_laws.proofs.Laid.{Step, Run, Via, NodeWalk, along, leave, over, then, silent, system, enter}
+use Rattle.flow_graph_laws.proofs.Laid.{Run, NodeWalk, along, leave, over, then, silent, system, enter}
 use Rattle.flow_graph_laws.proofs.Laid as G
 use Rattle.flow_graph_laws.proofs.Functions.{g, entry_at, laid_from}
 use Rattle.flow_graph_laws.proofs.Forth.{fronts}

@@ -2,7 +2,7 @@
 use Rattle.std.proofs.Common.{◌≡◌, Bool, true}
 use Rattle.c_shapes.specs.Shape.{Shape, Parts, Part}
 use Rattle.c_shapes.specs.Bodies.{IsStatement, AreStatements}
-use Rattle.c_shapes.specs.Walks.{Point, PartPoint, before, after, left, right, test, inner, step, do_inner, do_test, parts, case, this, later, Target, at, by_break, by_continue, by_return, past, stopped, Map, apply, plain, of_body, of_do, of_seq, of_cases, Starts, starts_this, starts_later, Label, Silent, System, Site, Hop, PartHop, skip, sys, exit, call, to_left, to_right, left_out, right_out, in_left, in_right, loop_in, loop_on, loop_out, loop_next, loop_again, in_test, in_inner, in_step, do_in, do_on, do_again, do_out, in_do, in_until, seq_in, in_seq, case_in, no_case, in_case, break_out, continue_on, return_now, in_this, in_later, case_on, case_out, Walks}
+use Rattle.c_shapes.specs.Walks.{Point, PartPoint, left, right, test, step, do_test, this, later, Target, at, by_break, by_continue, by_return, past, stopped, apply, plain, of_body, of_do, of_seq, of_cases, Label, Hop, PartHop, skip, sys, exit, call, to_left, to_right, left_out, right_out, in_left, in_right, loop_in, loop_on, loop_out, loop_next, loop_again, in_test, in_inner, in_step, do_in, do_on, do_again, do_out, in_do, in_until, seq_in, in_seq, case_in, no_case, in_case, break_out, continue_on, return_now, in_this, in_later, case_on, case_out}
 use Rattle.c_shapes.specs.Walks as W
 use Rattle.flow_graph_laws.proofs.Owns.{statement}
 

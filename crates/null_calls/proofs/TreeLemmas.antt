@@ -9,7 +9,7 @@ use Rattle.c_syntax.specs.declared.tree.DeclPart.{DeclPart}
 use Rattle.c_syntax.specs.declared.tree.BlockItem.{BlockItem, Declaration, Statement'}
 use Rattle.c_syntax.specs.declared.tree.Stmt.{Stmt as StmtTree}
 use Rattle.c_syntax.specs.declared.tree.StmtKind.TheVariants.{Block, If, Switch}
-use Rattle.c_syntax.specs.declared.tree.Group.{Group, Group', out-Group, roll-Group, Row_of-Stmt, end_of-Stmt, more_of-Stmt, items-the_row-Stmt, items_hidden-the_row-Stmt-2}
+use Rattle.c_syntax.specs.declared.tree.Group.{Group, Group', out-Group, roll-Group, Row_of-Stmt, items_hidden-the_row-Stmt-2}
 use Rattle.c_syntax.specs.declared.tree.Label.{Label}
 use mathlib.Core.Former.{Count}
 use Rattle.c_syntax.specs.declared.tree.Item.{Item as ItemTree}

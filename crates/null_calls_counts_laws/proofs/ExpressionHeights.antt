@@ -1,5 +1,5 @@
 -- How deep the nodes of expressions with null calls round their marked calls stand in each other.
-use Rattle.std.proofs.Common.{◌≡◌, ℕ, suc, ◌+◌, ◌*◌, ◌≤◌, max, Bool, true, false, if◌then◌else◌, Option, None, Some, refl, arith}
+use Rattle.std.proofs.Common.{◌≡◌, ℕ, suc, ◌+◌, ◌*◌, ◌≤◌, max, Bool, true, false, Option, None, Some, refl, arith}
 use Rattle.c_tree.specs.Tree.{CType}
 use Rattle.c_syntax.specs.Tree.{Expr, a_name, an_int, a_char, a_str, comma, sizeof_type, cast, call, member, postfix, prefix, unary, index, binary, assign, conditional, Exprs, no_exprs, more_exprs}
 use Rattle.c_syntax.specs.Tree.{pre_increment, pre_decrement, sizeof}
@@ -7,10 +7,10 @@ use Rattle.c_syntax.specs.Limits.{height, height_of_exprs}
 use Rattle.c_rules.specs.Counts.{calls}
 use Rattle.null_calls_rules.specs.MarkedCalls.{Called, Sites}
 use Rattle.null_calls_rules.specs.Temporaries.{pre_name, is_kept}
-use Rattle.null_calls_rules.specs.InstrumentedExpressions.{is_void_type, keep_designator, keep_arguments, kept_arguments, kept_designator, null_call, call_and_post, call_where, is_address_of_indirection, expr, arguments, members}
+use Rattle.null_calls_rules.specs.InstrumentedExpressions.{is_void_type, keep_designator, keep_arguments, kept_arguments, kept_designator, null_call, call_and_post, call_where, expr, arguments, members}
 use Rattle.null_calls_counts_laws.specs.Counts.{IsName, IsDesignator, AreNamed, AllNamed}
 use Rattle.null_calls_counts_laws.specs.Heights.{ExpressionsStayLow}
-use Rattle.null_calls_counts_laws.proofs.ExpressionCounts.{named_stays, designator_stays}
+use Rattle.null_calls_counts_laws.proofs.ExpressionCounts.{designator_stays}
 pub use Rattle.null_calls_counts_laws.proofs.ExpressionCounts.{by_unary, Operand, by_type}
 
 some_height : (x : Expr) → 1 ≤ height x

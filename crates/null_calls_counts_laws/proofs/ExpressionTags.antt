@@ -1,5 +1,5 @@
 -- Tags of structs in expressions with null calls round their marked calls.
-use Rattle.std.proofs.Common.{◌≡◌, ℕ, suc, ◌+◌, Bool, true, false, if◌then◌else◌, [], ◌++◌, append_assoc, Option, None, Some, refl, ap, ap₂, sym, ◌∙◌}
+use Rattle.std.proofs.Common.{◌≡◌, ℕ, suc, ◌+◌, Bool, true, false, [], ◌++◌, append_assoc, Option, None, Some, refl, ap, ap₂, sym, ◌∙◌}
 use Rattle.c_tree.specs.Tree.{CType}
 use Rattle.c_syntax.specs.Tree.{Expr, a_name, an_int, a_char, a_str, comma, sizeof_type, cast, call, member, postfix, prefix, unary, index, binary, assign, conditional, Exprs, no_exprs, more_exprs}
 use Rattle.c_syntax.specs.Tree.{pre_increment, pre_decrement, sizeof}
@@ -7,10 +7,10 @@ use Rattle.c_rules.specs.Counts.{calls}
 use Rattle.c_rules.specs.Tags.{tags_of_expr, tags_of_exprs, tags_of_type}
 use Rattle.null_calls_rules.specs.MarkedCalls.{Called, Sites}
 use Rattle.null_calls_rules.specs.Temporaries.{pre_name, is_kept}
-use Rattle.null_calls_rules.specs.InstrumentedExpressions.{is_void_type, keep_designator, keep_arguments, kept_arguments, kept_designator, null_call, call_and_post, call_where, is_address_of_indirection, expr, arguments, members}
+use Rattle.null_calls_rules.specs.InstrumentedExpressions.{is_void_type, keep_designator, keep_arguments, kept_arguments, kept_designator, null_call, call_and_post, call_where, expr, arguments, members}
 use Rattle.null_calls_counts_laws.specs.Counts.{IsName, IsDesignator, AreNamed, AllNamed}
 use Rattle.c_rules.proofs.NothingMore.{nothing_more}
-use Rattle.null_calls_counts_laws.proofs.ExpressionCounts.{by_unary, named_stays, designator_stays, Operand, by_type}
+use Rattle.null_calls_counts_laws.proofs.ExpressionCounts.{by_unary, designator_stays, Operand, by_type}
 
 -- ## A marked call
 

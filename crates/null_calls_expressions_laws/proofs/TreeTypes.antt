@@ -1,5 +1,5 @@
 -- The tree of a value has the value's type.
-use Rattle.std.proofs.Common.{◌≡◌, ℕ, suc, ◌+◌, map, Bool, true, false, ◌&&◌, ◌||◌, if◌then◌else◌, List, length, Option, Some, None, nat_eq, refl, sym, subst}
+use Rattle.std.proofs.Common.{◌≡◌, ℕ, suc, ◌+◌, map, Bool, true, false, ◌&&◌, ◌||◌, List, length, Option, Some, None, nat_eq, refl, sym, subst}
 use Rattle.c_lexer.specs.declared.punctuator.TheConstants.{AMPERSAND, ASTERISK, PLUS, MINUS, TILDE, ASSIGN}
 use Rattle.c_tree.specs.declared.value.UnOp.{UnOp}
 use Rattle.c_tree.specs.declared.value.UnOp.TheVariants.{Minus, Complement}

@@ -20,7 +20,7 @@ use Rattle.c_shapes.specs.Mentions.{Direct, Through}
 use Rattle.c_shapes.specs.CallGraph.{is_marked}
 use Rattle.c_meaning.specs.Meaning.{Marks, Frame, World, name_in, wants, call_undefined, called, eval, eval_all, fresh, initialise, exec_all, declared_by, declared_in, is_case, is_default, group_with, count_groups, or_else, selected}
 use Rattle.c_meaning.specs.Pointers.{store_place}
-use Rattle.c_meaning.specs.Results.{State, with_memory, Result, Go, Stop, after, then_do, answered, remembered, Exit, on_exit}
+use Rattle.c_meaning.specs.Results.{State, with_memory, Go, after, then_do, answered, remembered, Exit, on_exit}
 use Rattle.null_calls_rules.specs.Temporaries.{is_kept}
 use Rattle.null_calls_rules.specs.InstrumentedPrograms.{keep, kept_value, kept_values, marked_type, type_of_members, kept_of_stmt, kept_of_stmts, expr, stmt, stmts, groups, declared_from, instrumented_function, instrumented_program}
 use Rattle.null_calls_runs_laws.specs.Pieces.{IsKept, IsSet, AreKept, NullCallsAreEvents, KeepingSets, KeptIsGiven, KeptAreGiven, declaring, DeclarationsDeclare, TypesStay, ShapesStay}

@@ -1,8 +1,7 @@
 -- The declarations of temporaries declare them.
 use Rattle.std.proofs.Common.{◌≡◌, ℕ, suc, ◌+◌, true, List, [], ◌∷◌, ◌++◌, map, length, append-nil, if◌then◌else◌, Some, ap, ◌∙◌, refl, arith}
-use Rattle.c_tree.specs.Tree.{CType, void, integer, array, struct, Program}
+use Rattle.c_tree.specs.Tree.{CType, Program}
 use Rattle.c_tree.specs.Tree as typed
-use Rattle.std.proofs.lemmas.Bool.{false≢true}
 use Rattle.c_syntax.specs.Tree.{Ident, Spec, Declarator, named, no_init, Decl}
 use Rattle.c_rules.specs.Names.{is_added}
 use Rattle.c_rules.specs.Types.{is_scalar}

@@ -1,8 +1,6 @@
 -- What specifiers and declarators give is spelled.
-use Rattle.std.proofs.Common.{◌≡◌, ℕ, suc, Bool, true, false, not, List, [], ◌∷◌, ◌++◌, Option, Some, None, is_some, option_map, if◌then◌else◌, sym, ap, ◌∙◌, subst, refl, true≢false}
-use Rattle.std.specs.Prelude.{nat_le, slice_index_or, unwrap_or, bytes_eq}
-use Rattle.std.proofs.lemmas.Bool.{false≢true}
-use Rattle.std.proofs.lemmas.Slice.Eq.{bytes_eq-Decides}
+use Rattle.std.proofs.Common.{◌≡◌, ℕ, Bool, true, false, not, List, ◌++◌, Option, Some, None, sym, ap, ◌∙◌, subst, refl, true≢false}
+use Rattle.std.specs.Prelude.{nat_le, unwrap_or}
 use Rattle.c_tree.specs.declared.value.IntType.TheVariants.{Char, Uchar, Int, Uint}
 use Rattle.c_tree.specs.Tree.{CType, void, integer, array, struct, CTypes, no_types, more_types}
 use Rattle.c_tree.specs.Tree as typed
@@ -21,7 +19,7 @@ use Rattle.c_rules.specs.Expressions.{declared, size_in, parameters}
 use Rattle.null_calls_units_laws.specs.Spelled.{AreAmong, is_pointee, IsSpelled, AreSpelled, DeclaredTypesAreSpelled}
 use Rattle.null_calls_units_laws.proofs.Spellings.{scalar_bare, spelled}
 use Rattle.c_rules.proofs.FineLemmas.{is_fine}
-use Rattle.null_calls_units_laws.proofs.Declared.{found_by, found_after, found, among_left, among_right, is_not}
+use Rattle.null_calls_units_laws.proofs.Declared.{found, among_left, among_right, is_not}
 
 -- ## What is fine
 

@@ -13,10 +13,10 @@ use Rattle.c_tree.specs.Kinds.{Objects, static_objects}
 use Rattle.c_tree.specs.Program.{IsFunction, IsProgram}
 use Rattle.c_tree.specs.Typed.{IsTest, IsStep, IsStmt}
 use Rattle.c_meaning.specs.Meaning as executing
-use Rattle.c_meaning.specs.Meaning.{Frame, Loop, World, either}
+use Rattle.c_meaning.specs.Meaning.{Frame, Loop, World}
 use Rattle.c_meaning.specs.Results.{State, Result, Stop, then_do, spend_at, Exit, on_round}
 use Rattle.c_meaning.specs.Runs as meaning
-use Rattle.c_meaning.specs.Runs.{Run, no_marks, beginning, ending, entered, parameters, result_of}
+use Rattle.c_meaning.specs.Runs.{no_marks, beginning, ending, entered}
 use Rattle.c_meaning_laws.specs.StoreTyping.{HasKind, IsTypedState, Grows, TellsOfStatics, IsTypedFrame}
 use Rattle.c_meaning_laws.specs.TypedResults.{IsExit, StandsRound, IsTypedWorld}
 use Rattle.c_meaning_laws.proofs.Places.{grows_on}

@@ -12,7 +12,7 @@ use Rattle.c_values.specs.Answers.{gives}
 use Rattle.c_values.specs.Memory.{declared}
 use Rattle.c_shapes.specs.Mentions.{mentions, mentions_of_maybe, mentions_of_inits, mentions_of_stmt, mentions_of_stmts, mentions_of_groups}
 use Rattle.c_meaning.specs.Meaning as meaning
-use Rattle.c_meaning.specs.Meaning.{Frame, Loop, World, either, name_in, leaving, declared_in, selected, tested}
+use Rattle.c_meaning.specs.Meaning.{Frame, Loop, World, name_in, leaving, declared_in, selected, tested}
 use Rattle.c_meaning.specs.Results.{State, with_memory, Result, Go, then_do, answered, Exit, on, broken, continued, returned, on_exit, on_round}
 use Rattle.c_meaning.specs.Runs.{no_marks}
 use Rattle.c_meaning_laws.specs.StoreTyping.{IsTypedState, Grows, IsTypedFrame}

@@ -1,9 +1,9 @@
 -- What `explain` makes of a file and why it refuses it never hold both, and it is refused with one status; what is said of the bytes
 -- that were read is said of the file.
-use Rattle.std.proofs.Common.{◌≡◌, ◌≢◌, ◌⊎◌, ℕ, ◌+◌, ◌-◌, ◌≤◌, List, ◌++◌, length, take, drop, Option, Some, None, IfSome, inl, inr, refl, sym, ◌∙◌, ap, subst, arith}
+use Rattle.std.proofs.Common.{◌≡◌, ◌≢◌, ℕ, ◌+◌, ◌-◌, ◌≤◌, List, ◌++◌, length, take, drop, Option, Some, None, IfSome, inl, inr, refl, sym, ◌∙◌, ap, arith}
 use Rattle.std.specs.Prelude.{codes, replicate}
 use Rattle.code_reasons.specs.Reasons.{reason_of}
-use Rattle.std.proofs.lemmas.List.{take_all, take-take, drop-take, length-take}
+use Rattle.std.proofs.lemmas.List.{take_all, take-take, drop-take}
 use Rattle.c_lexer.specs.TokenSpelling.{longest_text}
 use Rattle.c_rules.specs.Accepted.{IsAcceptedAs}
 use Rattle.c_tree.specs.Tree.{Program}
@@ -13,14 +13,14 @@ use Rattle.dm_base.specs.declared.verdict.Status.TheVariants as statuses
 use Rattle.dm_io.specs.Store.{Files, file_at, ReadsWhole}
 use Rattle.text_places.specs.Lines.{ended_lines, first_line, last_line, part_before, part_from, shown}
 use Rattle.text_places.specs.Locations.{SourceLocation, line_behind, located, location_text}
-use Rattle.tool_explain.specs.Explained.{code_text, place_of, explanation, RefusesToExplain, ExplainsRefusal, ExplainsWhatChecks}
+use Rattle.tool_explain.specs.Explained.{code_text, place_of, explanation, RefusesToExplain, ExplainsWhatChecks}
 use Rattle.tool_explain.specs.Stopping.{IsStopOfExplained}
 use Rattle.tool_frame.specs.declared.stop.Stop.{Stop}
 use Rattle.tool_frame.specs.declared.stop.Stop.TheVariants as stops
 use Rattle.tool_frame.specs.Stop.{Stops}
 use Rattle.tool_sources.specs.declared.error.SourceError.{SourceError}
 use Rattle.tool_sources.specs.declared.error.SourceError.TheVariants.{OutOfMemory, Lexical, Syntax, Nesting, Rule}
-use Rattle.tool_sources.specs.Sources.{IsSourceCause, HasNoProgram, RefusesSource, source_refusal}
+use Rattle.tool_sources.specs.Sources.{IsSourceCause, HasNoProgram, source_refusal}
 use Rattle.tool_sources.proofs.SourceFiles.{refusal_told}
 use Rattle.tool_texts.specs.Check.{Checks, IsReadyToCheck}
 

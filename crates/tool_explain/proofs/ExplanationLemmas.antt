@@ -1,5 +1,5 @@
 -- The lines of an explanation, put together of their parts.
-use Rattle.std.proofs.Common.{◌≡◌, ℕ, List, [], ◌++◌, length, replicate, codes, refl, ◌∙◌, ap}
+use Rattle.std.proofs.Common.{◌≡◌, ℕ, List, ◌++◌, length, replicate, codes, ◌∙◌, ap}
 use Rattle.code_reasons.specs.Reasons.{reason_of}
 use Rattle.text_places.specs.Lines.{part_before, part_from, shown}
 use Rattle.text_places.specs.Locations.{SourceLocation, located, location_text}

@@ -1,11 +1,7 @@
 -- Watches that follow a file of interleaved traces.
-use Rattle.std.proofs.Common.{◌≡◌, ℕ, ◌+◌, ◌<◌, ◌≤◌, true, false, Bool, cond, List, [], ◌∷◌, ◌++◌, length, take, drop, get_or, Option, Some, None, is_some, refl, sym, ◌∙◌, ap, subst, append-nil, append_assoc, arith, length-append, true≢false}
-use Rattle.std.specs.Prelude.{All, flat_map, codes, slice_index_or}
-use Rattle.std.specs.Cmp.{nat_cmp_total}
-use Rattle.std.specs.FinSet.{from_list, len, contains, len-insert, from_list_push, nat_cmp-IsAntisymmetric}
-use Rattle.std.specs.Ordering.{nat_cmp}
+use Rattle.std.proofs.Common.{◌≡◌, ℕ, ◌+◌, ◌<◌, ◌≤◌, true, false, List, [], ◌∷◌, ◌++◌, length, take, drop, get_or, Option, Some, None, is_some, refl, sym, ◌∙◌, ap, subst, append_assoc, arith, length-append, true≢false}
+use Rattle.std.specs.Prelude.{All, codes, slice_index_or}
 use Rattle.std.proofs.lemmas.List.{take_more, take-append-drop}
-use Rattle.std.proofs.lemmas.List.Concat.{flat_map-append}
 use Rattle.sys_table.specs.Table.{IsRecorded}
 use Rattle.trace_file.specs.declared.record.Record.{Record}
 use Rattle.trace_file.specs.declared.traces_place.TracesPlace.{TracesPlace}
@@ -14,12 +10,12 @@ use Rattle.trace_file.specs.declared.traces_place.TracesStage.TheVariants as sta
 use Rattle.trace_file.specs.declared.version.TracesVersion.{TracesVersion}
 use Rattle.trace_file.specs.declared.version.TracesVersion.TheVariants.{One, Two}
 use Rattle.trace_file.specs.Held.{Held}
-use Rattle.trace_file.specs.Known.{made_known, known_count}
+use Rattle.trace_file.specs.Known.{known_count}
 use Rattle.trace_file.specs.Traces.{most_processes, traces_head, AreTracesWithin, AreTracesOf}
 use Rattle.trace_file.specs.TracesReading.{StandForTraces, ReachesStage, stage_version, traces_version}
 use Rattle.tool_models.specs.Following.{AreFew, HasBegun}
 use Rattle.tool_files.proofs.ReadingLemmas.{written_recorded}
-use Rattle.trace_file.proofs.OneReading.{len_more, known_more}
+use Rattle.trace_file.proofs.OneReading.{known_more}
 
 -- how many processes are known
 

@@ -1,26 +1,21 @@
 -- The monitors that are marked, and what a sweep leaves.
-use Rattle.std.proofs.Common.{◌≡◌, ◌||◌, ℕ, ◌+◌, ◌<◌, Bool, true, false, cond, nat_eq, List, [], ◌∷◌, ◌++◌, Option, Some, None, is_some, is_none, Contains, length, refl, sym, ◌∙◌, ap, subst, true≢false, arith, inl, inr, append_assoc}
-use Rattle.std.specs.Prelude.{◌⊎◌, IfSome, All, Result, Ok, Err, OnOk, OnErr}
+use Rattle.std.proofs.Common.{◌≡◌, ℕ, ◌+◌, Bool, true, false, cond, nat_eq, List, [], ◌∷◌, ◌++◌, Option, Some, None, is_none, Contains, refl, sym, ◌∙◌, ap, subst, true≢false, arith, inl, inr, append_assoc}
+use Rattle.std.specs.Prelude.{IfSome, All}
 use Rattle.std.specs.Cmp.{nat_eq_equiv}
-use Rattle.std.specs.List.{list_any, IsDistinct}
-use Rattle.std.specs.Map.{keys_of, values_of, lookup}
-use Rattle.std.proofs.lemmas.Bool.{cases_Bool, eqb-true}
-use Rattle.std.proofs.lemmas.List.Elements.{All-contains, All-head, All-same, All-rest, All-weaker, Contains-append_right, Contains-append_cases, Contains-push, Contains-push_cases, All-contains_itself}
-use Rattle.std.proofs.lemmas.Map.Views.{All-values_from_lookup, lookup-from_Contains}
+use Rattle.std.specs.Map.{values_of, lookup}
+use Rattle.std.proofs.lemmas.List.Elements.{All-head, All-same, All-rest, All-weaker, Contains-append_right, Contains-append_cases, Contains-push_cases}
+use Rattle.std.proofs.lemmas.Map.Views.{All-values_from_lookup}
 use Rattle.dm_base.specs.declared.event.Event.{Event}
 use Rattle.flow_model.specs.declared.monitor.Monitor as monitor
-use Rattle.flow_model.specs.declared.which.Which.{Which}
 use Rattle.flow_model.specs.Graph.{Graph}
 use Rattle.flow_model.specs.Verdict.{IsAccepted}
-use Rattle.indexmap.specs.IndexMap.{IndexMap, get, keys, values, IsUnique}
+use Rattle.indexmap.specs.IndexMap.{IndexMap, get, values, IsUnique}
 use Rattle.trace_file.specs.declared.record.Record.{Record}
 use Rattle.watch.specs.declared.process.Process.{Process}
 use Rattle.watch.specs.declared.process.Setting.{Setting}
-use Rattle.watch.specs.declared.past.Past.{Past}
 use Rattle.watch.specs.declared.past.Refusal.{Refusal}
 use Rattle.watch.specs.Keeping.{accepted_of}
 use Rattle.watch.specs.Own.{own}
-use Rattle.watch.specs.Pasts.{HasCome}
 use Rattle.watch.specs.Standing.{IsAt, HasHistory, AreWatched}
 use Rattle.watch.proofs.PastLemmas.{refused_is_not}
 

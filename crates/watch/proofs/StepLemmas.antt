@@ -1,6 +1,6 @@
 -- The next record, among the processes of a table.
-use Rattle.std.proofs.Common.{◌≡◌, ◌||◌, ℕ, ◌+◌, ◌<◌, ◌≤◌, ◌^◌, Bool, true, false, cond, nat_eq, List, [], ◌∷◌, ◌++◌, Option, Some, None, is_some, length, refl, sym, ◌∙◌, ap, subst, true≢false, arith, inl, inr}
-use Rattle.std.specs.Prelude.{◌⊎◌, ℤ, pos, negsuc, nat_lt, ◌&&◌, if◌then◌else◌, flat_map, IsSome, Result, Ok, Err, IfOk, OnErr}
+use Rattle.std.proofs.Common.{◌≡◌, ◌||◌, ℕ, ◌+◌, ◌<◌, ◌^◌, true, false, nat_eq, List, [], ◌∷◌, ◌++◌, Option, Some, None, is_some, length, refl, sym, ◌∙◌, ap, subst, true≢false, arith, inl, inr}
+use Rattle.std.specs.Prelude.{◌⊎◌, pos, negsuc, nat_lt, ◌&&◌, if◌then◌else◌, flat_map, Result, Ok, Err, OnErr}
 use Rattle.std.specs.Cmp.{nat_eq_equiv}
 use Rattle.std.proofs.lemmas.Bool.{cases_Bool, eqb-true, eq-eqb}
 use Rattle.dm_base.specs.declared.event.Event.{Event}
