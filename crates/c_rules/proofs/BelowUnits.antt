@@ -353,11 +353,11 @@ first_or : (t : Bool) (o : Option ℕ) (k i : ℕ) → ((j : ℕ) → o ≡ Some
 first_or true o k i h e = let z : i ≡ 0 = cc in omega (arith, z)
 first_or false o k i h e = let m = map_some o i e in let below : m.0 < k = h m.0 m.1 in let same : i ≡ suc m.0 = m.2 in omega (arith, below, same)
 
-number_below : (xs : List Name) (x : Name) (i : ℕ) → number_among xs x ≡ Some i → i < length xs
+pub number_below : (xs : List Name) (x : Name) (i : ℕ) → number_among xs x ≡ Some i → i < length xs
 number_below [] x i e = cc
 number_below (y ∷ ys) x i e = first_or (bytes_eq y x) (number_among ys x) (length ys) i (number_below ys x) e
 
-twenty_four : length system_calls ≡ 24
+pub twenty_four : length system_calls ≡ 24
 unfolding table
 twenty_four = refl
 

@@ -1,6 +1,6 @@
 pub mod Below
 mod BelowExpressions
-mod BelowUnits
+pub mod BelowUnits
 pub mod CheckedLemmas
 pub mod EntryLemmas
 pub mod FileScopeLemmas

@@ -1,6 +1,5 @@
 -- Expressions that the rules type where each name is right in a program give what is right in it.
 use Rattle.std.proofs.Common.{◌≡◌, inl, ℕ, suc, ◌+◌, ◌*◌, ◌≤◌, ◌<◌, pos, Bool, true, false, if◌then◌else◌, List, [], ◌∷◌, ◌++◌, map, length, length-append, Option, Some, None, nat_le, nat_eq, refl, sym, subst, ◌∙◌, arith}
-use Rattle.std.specs.Prelude.{option_map, bytes_eq}
 use Rattle.std.proofs.lemmas.List.{length-map}
 use Rattle.std.proofs.lemmas.Bool.{leb-true}
 use Rattle.c_lexer.specs.declared.punctuator.TheConstants.{AMPERSAND}
@@ -16,7 +15,7 @@ use Rattle.c_tree.specs.Typed.{IsStaticOf}
 use Rattle.c_syntax.specs.Tree.{Expr, a_name, an_int, a_char, a_str, comma, sizeof_type, cast, call, member, postfix, prefix, unary, index, binary, assign, conditional, Exprs, no_exprs, more_exprs}
 use Rattle.c_syntax.specs.Tree.{Postfix, post_increment, post_decrement, pre_increment, pre_decrement, sizeof, Access, dot, arrow, Infix, and, or, operator}
 use Rattle.c_rules.specs.Checked.{Checked, fine, on, both, gives, demand, met}
-use Rattle.c_rules.specs.Names.{Name, number_among, is_among, null_calls}
+use Rattle.c_rules.specs.Names.{Name, is_among, null_calls}
 use Rattle.c_rules.specs.Scopes.{Env, Binding, Meaning, a_static, a_local, a_function, an_enumerator, unknown, Member, type_of_member, Context, evaluated, sized, folded, in_context, Before, nothing_before, binding_of, layout_of}
 use Rattle.c_rules.specs.Counts.{place_of, calls, strings, strings_of_all, past, after, after_designator}
 use Rattle.c_rules.specs.TypedExpression.{TypedExpression, is_place}
@@ -38,20 +37,9 @@ use Rattle.c_rules_laws.proofs.TypesOfTypedExpressions.{TypedExpressionTyped, va
 use Rattle.c_rules_laws.proofs.TypesOfExpressions.{Sized, CalleeTyped, type_named_made, value_at_typed, callee_typed, tree_typed}
 use Rattle.c_rules_laws.proofs.RightTypedExpressions.{complete_in, cells_in, static_address_right, static_right, TypedExpressionRight, ValueRight, ValuesRight, valued_right}
 use Rattle.c_rules_laws.proofs.RightRules.{CalleeRight, called_right, callee_type_right, callee_through_right, member_right, address_right, indirection_right, unary_right, number_right, size_right, cast_of_right, null_cast_right, SumRight, sum_right, operation_right, conjunction_right, disjunction_right, choice_right, assignment_by_right, step_right, comma_right}
+pub use Rattle.c_rules.proofs.BelowUnits.{number_below}
 
 -- ## Numbers of names
-
-map_some : (o : Option ℕ) (i : ℕ) → option_map suc o ≡ Some i → (j : ℕ) × (o ≡ Some j) × (i ≡ suc j)
-map_some None i e = absurd (cc)
-map_some (Some j) i e = (j, refl, cc)
-
-first_or : (t : Bool) (o : Option ℕ) (k i : ℕ) → ((j : ℕ) → o ≡ Some j → j < k) → (if t then Some 0 else option_map suc o) ≡ Some i → i < suc k
-first_or true o k i h e = let z : i ≡ 0 = cc in omega (arith, z)
-first_or false o k i h e = let m = map_some o i e in let below : m.0 < k = h m.0 m.1 in let same : i ≡ suc m.0 = m.2 in omega (arith, below, same)
-
-pub number_below : (xs : List Name) (x : Name) (i : ℕ) → number_among xs x ≡ Some i → i < length xs
-number_below [] x i e = absurd (cc)
-number_below (y ∷ ys) x i e = first_or (bytes_eq y x) (number_among ys x) (length ys) i (number_below ys x) e
 
 as_long : (ms : List Member) → length (map name_of_member ms) ≡ length (map type_of_member ms)
 as_long ms = length-map ms name_of_member ∙ sym (length-map ms type_of_member)

@@ -5,7 +5,6 @@ use Rattle.std.proofs.lemmas.Option.{slice_get-map}
 use Rattle.std.proofs.lemmas.List.{length-map}
 use Rattle.dm_base.specs.declared.mode.Mode.{Mode}
 use Rattle.dm_base.specs.declared.mode.Mode.TheVariants.{Plain, Instrumented}
-use Rattle.sys_table.specs.Table.{table}
 use Rattle.c_tree.specs.Tree.{CType, Function, Program}
 use Rattle.c_tree.specs.Functions.{sys_types, null_types, type_of_defined, value_types, called_types, value_type, called_type}
 use Rattle.c_tree.specs.Typed.{IsStaticOf}
@@ -19,6 +18,7 @@ use Rattle.c_rules_laws.proofs.RightTypedExpressions.{complete_thing}
 use Rattle.c_meaning_laws.proofs.Places.{get_left, get_right, get_before}
 use Rattle.c_rules_laws.proofs.RightExpressions.{number_below}
 use Rattle.c_rules_laws.proofs.FileScopes.{FileMeaning, IsFileRight, Agrees, Follows}
+use Rattle.c_rules.proofs.BelowUnits.{twenty_four}
 
 -- what the names mean behind all items is what the program has
 pub record IsTable (p : Program) (last : Env) : Type 0 where
@@ -29,10 +29,6 @@ pub record IsTable (p : Program) (last : Env) : Type 0 where
   pub objects : (x : Name) (b : Binding) (s t : CType) (d : Bool) (n : ℕ) → lookup last.names x ≡ Some b → b.means ≡ a_static s t d → number_among last.whole.objects x ≡ Some n → IsStaticOf p false n t
 
 -- ## Numbers of given functions
-
-twenty_four : length system_calls ≡ 24
-unfolding table
-twenty_four = refl
 
 as_many : length sys_types ≡ 24
 unfolding sys_types

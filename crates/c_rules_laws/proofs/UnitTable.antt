@@ -50,7 +50,7 @@ nothing_sound n = record {
 pub no_binding : (x : Name) (b : Binding) → lookup [] x ≡ Some b → ⊥
 no_binding x b e = (let q : None ≡ Some b = e in cc)
 
-before_right : (w : Whole) → IsFileRight (empty_env w)
+pub before_right : (w : Whole) → IsFileRight (empty_env w)
 before_right w = record {
   runs = refl;
   shallow = refl;

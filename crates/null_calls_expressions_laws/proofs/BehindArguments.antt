@@ -40,11 +40,11 @@ result_value env at (array t n) e h = absurd h
 result_value env at (struct s) e h = absurd h
 result_value env at (function t ts) e h = absurd h
 
-pre_given : number_among (given_names Instrumented) pre_name ≡ Some 24
+pub pre_given : number_among (given_names Instrumented) pre_name ≡ Some 24
 unfolding table
 pre_given = refl
 
-post_given : number_among (given_names Instrumented) post_name ≡ Some 25
+pub post_given : number_among (given_names Instrumented) post_name ≡ Some 25
 unfolding table
 post_given = refl
 

@@ -9,3 +9,4 @@ pub mod Numbers
 pub mod Nodes
 pub mod Statements
 pub use Rattle.null_calls_expressions_laws.proofs.TreeTypes
+pub use Rattle.null_calls_expressions_laws.proofs.BehindArguments

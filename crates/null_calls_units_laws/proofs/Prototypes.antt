@@ -2,7 +2,6 @@
 use Rattle.std.proofs.Common.{◌≡◌, ℕ, suc, Bool, true, false, not, ◌&&◌, cond, if◌then◌else◌, List, [], ◌∷◌, Option, Some, None, refl, ap, ◌∙◌, true≢false}
 use Rattle.std.specs.Prelude.{is_some, option_map, bytes_eq, slice_get}
 use Rattle.dm_base.specs.declared.mode.Mode.TheVariants.{Plain, Instrumented}
-use Rattle.sys_table.specs.Table.{table}
 use Rattle.c_tree.specs.Tree.{CType, void}
 use Rattle.c_tree.specs.Functions.{unsigned_int, of_one, sys_types}
 use Rattle.c_syntax.specs.Tree.{Ident, Declarator, no_init, more_params, no_params, nothing, Items, more_items}
@@ -19,6 +18,7 @@ use Rattle.c_rules_laws.specs.TypedAlike.{plain_scope, instrumented_scope}
 use Rattle.null_calls_statements_laws.proofs.Nodes.{both_gives}
 use Rattle.null_calls_units_laws.specs.FileScopes.{FilesBeside, files_beside}
 use Rattle.null_calls_units_laws.proofs.FileNames.{other_way}
+use Rattle.null_calls_statements_laws.proofs.BehindArguments.{pre_given, post_given}
 
 -- ## A prototype
 
@@ -30,14 +30,6 @@ declarator x = syntax.function 0 (syntax.named 0 (record { name = x; at = 0 })) 
 
 abbrev ident : Name → Ident
 ident x = record { name = x; at = 0 }
-
-pre_given : number_among (given_names Instrumented) pre_name ≡ Some 24
-unfolding table
-pre_given = refl
-
-post_given : number_among (given_names Instrumented) post_name ≡ Some 25
-unfolding table
-post_given = refl
 
 pre_typed : slice_get (given_types Instrumented) 24 ≡ Some null_type
 unfolding sys_types

@@ -7,7 +7,7 @@ use Rattle.c_syntax.specs.Tree.{Items}
 use Rattle.c_rules.specs.Checked.{fine, on, demand, met}
 use Rattle.c_rules.specs.Codes.{C9, C13}
 use Rattle.c_rules.specs.Names.{Name, number_among, is_reserved, each_once}
-use Rattle.c_rules.specs.Scopes.{Env, incomplete, defined_struct, types_of_struct, Member, Whole, empty_env, binding_of, layout_of, nothing_before}
+use Rattle.c_rules.specs.Scopes.{Env, incomplete, defined_struct, Member, empty_env, binding_of, layout_of, nothing_before}
 use Rattle.c_rules.specs.Tags.{tags_of_items}
 use Rattle.c_rules.specs.Items.{Output, items, behind_items, after_items}
 use Rattle.c_rules.specs.Units.{functions_of, objects_of, tags_of, whole_of, env_before, env_behind, strings_of, is_main_bound, has_main, static_string, program_of, IsTyped, few_names}
@@ -20,7 +20,6 @@ use Rattle.null_calls_rules.specs.IsWithNullCalls.{IsWithNullCalls}
 use Rattle.null_calls_units_laws.specs.Spelled.{AreAmong}
 use Rattle.null_calls_units_laws.specs.FileScopes.{FilesBeside, files_beside}
 use Rattle.c_rules_laws.specs.Lexical.{IsUnitLexical}
-use Rattle.c_rules_laws.specs.SoundStructs.{AreSound}
 use Rattle.c_rules_laws.proofs.Holding.{held, on_fine, demand_fine}
 use Rattle.c_rules_laws.proofs.FileScopes.{IsFileRight, Follows, follows_self}
 use Rattle.c_rules_laws.proofs.FileItems.{items_step}
@@ -38,29 +37,9 @@ use Rattle.null_calls_units_laws.proofs.Facts.{UnitFacts, unit_facts, all_in}
 use Rattle.null_calls_units_laws.proofs.Names.{each_app, each_none, each_has, tags_go, functions_same, objects_same, AllPlain, functions_plain, none_reserved}
 use Rattle.null_calls_units_laws.proofs.UnitItems.{ItemsGo, items_go}
 use Rattle.null_calls_units_laws.proofs.Prototypes.{start, new_env, items_start, env_start, strings_start, start_files}
-use Rattle.c_rules_laws.proofs.UnitTable.{none_defined, no_binding}
+use Rattle.c_rules_laws.proofs.UnitTable.{no_binding, before_right}
 
 -- ## Before all items
-
-nothing_sound : (n : ℕ) → AreSound (map types_of_struct (replicate n incomplete))
-nothing_sound n = record {
-  rank = λ s. 0;
-  ranked = λ s ts e. absurd (none_defined n s ts e);
-  below = λ s ts e. absurd (none_defined n s ts e);
-  complete = λ s ts e. absurd (none_defined n s ts e);
-  members = λ s ts e. absurd (none_defined n s ts e);
-  made = λ s ts e. absurd (none_defined n s ts e);
-  few = λ s ts e. absurd (none_defined n s ts e);
-}
-
-before_right : (w : Whole) → IsFileRight (empty_env w)
-before_right w = record {
-  runs = refl;
-  shallow = refl;
-  names_known = record { sound = nothing_sound (length w.tags); meanings = λ x b e. absurd (no_binding x b e) };
-  shallow_names = λ x b e. absurd (no_binding x b e);
-  meanings = λ x b e. absurd (no_binding x b e);
-}
 
 all_incomplete : (n s : ℕ) → unwrap_or (slice_get (replicate n incomplete) s) incomplete ≡ incomplete
 all_incomplete zero s = refl
