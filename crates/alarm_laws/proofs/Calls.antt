@@ -17,8 +17,8 @@ use Rattle.c_tree.specs.Constants.{pattern_of}
 use Rattle.c_tree.specs.Program.{IsProgram}
 use Rattle.c_tree.specs.Typed.{AreArguments}
 use Rattle.dm_base.specs.declared.outcome.Outcome.TheVariants.{Undefined}
-use Rattle.c_values.specs.Answers.{Answer, gives, undefined, U13}
-use Rattle.c_values.specs.Memory.{Objects}
+use Rattle.c_meaning.specs.Answers.{Answer, gives, undefined, U13}
+use Rattle.c_meaning.specs.Memory.{Objects}
 use Rattle.c_shapes.specs.Shape.{Shape, Skip, Sys as SysShape, Exit, Call, Shapes, shape_of, Leave, goes_on, IsDone}
 use Rattle.c_shapes.specs.Words.{Whole, Front}
 use Rattle.c_shapes.specs.Words as F

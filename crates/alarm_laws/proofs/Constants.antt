@@ -32,7 +32,7 @@ use Rattle.c_tree.specs.Constants.{given, given_of, given_of_two, constant_value
 use Rattle.c_tree.proofs.OperatorLemmas.{converted, arithmetic_fits, below_32}
 use Rattle.c_shapes.specs.CallGraph.{same_type}
 use Rattle.c_shapes.proofs.SameTypes.{types_tell}
-use Rattle.c_values.specs.Memory.{Objects}
+use Rattle.c_meaning.specs.Memory.{Objects}
 use Rattle.c_meaning.specs.Meaning.{Marks, Frame, World, eval, operated}
 use Rattle.c_meaning.specs.Pointers.{truth_value, is_not_zero, number}
 use Rattle.c_meaning.specs.Results.{State, Go, after, then_do, answered}

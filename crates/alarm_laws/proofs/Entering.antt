@@ -11,7 +11,7 @@ use Rattle.c_tree.specs.Layout.{cells, flat, repeat}
 use Rattle.c_tree.specs.Operands.{IsScalar, IsObject}
 use Rattle.c_tree.specs.Kinds.{Objects, IsPointer}
 use Rattle.c_tree.specs.Program.{IsFunction, IsProgram}
-use Rattle.c_values.specs.Memory.{Objects as Memory}
+use Rattle.c_meaning.specs.Memory.{Objects as Memory}
 use Rattle.c_meaning.specs.Meaning.{Frame, static_name, name_in}
 use Rattle.c_meaning.specs.Results.{State}
 use Rattle.c_meaning.specs.Runs.{with_parameters, entered}

@@ -11,7 +11,7 @@ use Rattle.c_tree.specs.Layout.{cells}
 use Rattle.c_tree.specs.Operators.{convert, binary}
 use Rattle.c_tree.specs.Program.{IsProgram}
 use Rattle.c_tree.specs.Typed.{IsValue, IsPlace, AreMembers, AreArguments, IsTest, IsStep, IsStmt}
-use Rattle.c_values.specs.Answers.{Answer, gives}
+use Rattle.c_meaning.specs.Answers.{Answer, gives}
 use Rattle.c_shapes.specs.Shape.{Shape, Skip, Loop, Parts, End, Part, Shapes, Leave}
 use Rattle.c_shapes.specs.Words.{Whole, Falls, Front}
 use Rattle.c_shapes.specs.Words as F

@@ -10,8 +10,8 @@ use Rattle.c_tree.specs.Tree.{CType, pointer, function, CTypes, no_types, Expr, 
 use Rattle.c_tree.specs.Functions.{defined}
 use Rattle.c_tree.specs.Layout.{flat, cells}
 use Rattle.c_tree.specs.Typed.{IsValue, IsPlace, AreArguments, IsStmt}
-use Rattle.c_values.specs.Answers.{gives}
-use Rattle.c_values.specs.Memory.{declared}
+use Rattle.c_meaning.specs.Answers.{gives}
+use Rattle.c_meaning.specs.Memory.{declared}
 use Rattle.c_shapes.specs.Mentions.{Mention, Direct, Through, Calls, mentions, mentions_of_all, mentions_of_stmt, mentions_of_program}
 use Rattle.c_shapes.specs.CallGraph.{callees, marked}
 use Rattle.c_shapes.specs.Words as words

@@ -17,3 +17,4 @@ pub mod Silent
 pub mod Statements
 pub mod TypedRuns
 pub mod Words
+pub use Rattle.c_meaning.proofs.RunTrials

@@ -11,7 +11,7 @@ use Rattle.c_tree.specs.Functions.{int}
 use Rattle.c_tree.specs.Program.{IsProgram, IsFunction}
 use Rattle.c_tree.specs.Typed.{IsTest, IsStep, IsStmt}
 use Rattle.std.specs.Prelude.{pos}
-use Rattle.c_values.specs.Answers.{U11, U13}
+use Rattle.c_meaning.specs.Answers.{U11, U13}
 use Rattle.c_shapes.specs.Shape.{Shape, Loop, Shapes, Leave, goes_on, breaks, continues, returns, IsDone}
 use Rattle.c_shapes.specs.Words.{Whole, Front}
 use Rattle.c_shapes.specs.Words as F

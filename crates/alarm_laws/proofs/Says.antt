@@ -2,8 +2,8 @@
 use Rattle.std.proofs.Common.{◌≡◌, Bool, true, false, List, [], ◌∷◌, ◌++◌, sym, ap, ◌∙◌, subst, refl, append_assoc, append-nil}
 use Rattle.dm_base.specs.declared.event.Event.{Event}
 use Rattle.c_tree.specs.declared.value.Value.{Value}
-use Rattle.c_values.specs.Answers.{Answer, gives, undefined}
-use Rattle.c_values.specs.Memory.{Objects}
+use Rattle.c_meaning.specs.Answers.{Answer, gives, undefined}
+use Rattle.c_meaning.specs.Memory.{Objects}
 use Rattle.c_meaning.specs.Meaning.{either, tested}
 use Rattle.c_meaning.specs.Pointers.{test}
 use Rattle.c_meaning.specs.Results.{State, Result, Go, Stop, after, then_do, spend_at, answered, remembered, Exit, on, broken, continued, returned, on_exit}

@@ -10,9 +10,9 @@ use Rattle.c_tree.specs.Kinds.{Objects, static_objects}
 use Rattle.c_tree.specs.Layout.{cells}
 use Rattle.c_tree.specs.Operands.{IsScalar}
 use Rattle.c_tree.specs.Program.{IsProgram}
-use Rattle.c_values.specs.Answers.{Answer, gives, undefined}
-use Rattle.c_values.specs.Memory.{declared}
-use Rattle.c_values.specs.Memory.{Objects as Memory}
+use Rattle.c_meaning.specs.Answers.{Answer, gives, undefined}
+use Rattle.c_meaning.specs.Memory.{declared}
+use Rattle.c_meaning.specs.Memory.{Objects as Memory}
 use Rattle.c_shapes.specs.Mentions.{Calls, Through, mentions_of_program}
 use Rattle.c_shapes.specs.CallGraph.{callees, called_where, marked}
 use Rattle.c_meaning.specs.Meaning.{Marks, Frame, static_name, name_in, fresh}

@@ -1,3 +1,9 @@
 pub mod MarkedRuns
 pub mod Monitors
 pub mod NoFalseAlarm
+pub use Rattle.c_meaning.specs.Meaning
+pub use Rattle.c_meaning.specs.Pointers
+pub use Rattle.c_meaning.specs.Results
+pub use Rattle.c_meaning.specs.Runs
+pub use Rattle.c_shapes.specs.CallGraph
+pub use Rattle.c_shapes.specs.Mentions

@@ -8,7 +8,7 @@ use Rattle.c_tree.specs.Tree.{CType, void, more_exprs, comma}
 use Rattle.c_tree.specs.View.{ctype_of, expr_of, expr_with, exprs_of}
 use Rattle.c_tree.proofs.Rows.{comma_is}
 use Rattle.c_check_values.specs.declared.typed_expression.TypedExpression.{TypedExpression as TypedExpressionTree}
-use Rattle.c_check_values.specs.View.{typed_expression_of}
+use Rattle.c_check_values.specs.TypedExpressionView.{typed_expression_of}
 use Rattle.c_rules.specs.TypedExpression.{TypedExpression, not_constant, typed_value, tree_of}
 use Rattle.c_rules.specs.Assignments.{last_type, trees_of, comma_of}
 pub use Rattle.c_check_values.proofs.PushLemmas.{push}

@@ -1,16 +1,17 @@
 ghost use Rattle.std.specs.Prelude.{◌≡◌, IfOk};
 ghost use Rattle.c_check_values.specs.Agreement.{AgreesWith};
-ghost use Rattle.c_check_values.specs.View.{typed_expression_of};
+ghost use Rattle.c_check_values.specs.TypedExpressionView.{typed_expression_of};
 ghost use Rattle.c_rules.specs.Assignments.{assignable, assignment, operator_of_assignment, assignment_by};
 ghost use Rattle.c_rules.specs.Conversions.{assigned};
 ghost use Rattle.c_rules.specs.TypedExpression.{not_constant, tree_of, typed_value};
-ghost use Rattle.c_check_scopes.specs.View.{env_of};
+ghost use Rattle.c_check_values.specs.View.{env_of};
 ghost use Rattle.c_tree.specs.Tree.{assign};
 
 use crate::sides::{Sides, sides_of};
 use crate::updates::update;
-use c_check_scopes::Environment;
-use c_check_values::{C3, C4, CheckError, Constant, TypedExpression, assigned, fits, typed_value};
+use c_check_values::{
+    C3, C4, CheckError, Constant, Environment, TypedExpression, assigned, fits, typed_value,
+};
 use c_lexer::punctuator;
 use c_tree::{BinOp, TExprKind};
 use dm_base::OutOfMemory;

@@ -1,5 +1,5 @@
 ghost use Rattle.std.specs.Prelude.{◌≡◌, map, IfOk};
-ghost use Rattle.c_check_values.specs.View.{typed_expression_of};
+ghost use Rattle.c_check_values.specs.TypedExpressionView.{typed_expression_of};
 ghost use Rattle.c_rules.specs.Assignments.{comma_of, last_type, trees_of};
 ghost use Rattle.c_rules.specs.TypedExpression.{tree_of};
 ghost use Rattle.c_tree.specs.Tree.{void};

@@ -1,18 +1,17 @@
 ghost use Rattle.std.specs.Prelude.{◌≡◌, ◌||◌, IfOk};
 ghost use Rattle.c_check_values.specs.Agreement.{AgreesWith};
-ghost use Rattle.c_check_values.specs.View.{typed_expression_of};
+ghost use Rattle.c_check_values.specs.TypedExpressionView.{typed_expression_of};
 ghost use Rattle.c_rules.specs.Conversions.{kind_of};
 ghost use Rattle.c_rules.specs.TypedExpression.{behind, is_place, tree_of};
 ghost use Rattle.c_rules.specs.Types.{is_function};
 ghost use Rattle.c_rules.specs.UnaryExpressions.{address_of_form, address_of_type, address, indirection, plus_of, operated, operator_of, negation, unary_of_value, size_of, size_of_expression, size_of_type, cast_of, null_cast};
-ghost use Rattle.c_check_scopes.specs.View.{env_of};
+ghost use Rattle.c_check_values.specs.View.{env_of};
 ghost use Rattle.c_tree.specs.View.{ctype_of};
 
-use c_check_scopes::Environment;
 use c_check_values::{
-    C3, C4, C13, CheckError, Constant, Form, TypedExpression, cast_to, complete, constant_unary,
-    converted_to, few_parts, is_function, is_integer, is_scalar, null_of, pointer_to, promoted,
-    typed_unsigned, typed_value,
+    C3, C4, C13, CheckError, Constant, Environment, Form, TypedExpression, cast_to, complete,
+    constant_unary, converted_to, few_parts, is_function, is_integer, is_scalar, null_of,
+    pointer_to, promoted, typed_unsigned, typed_value,
 };
 use c_lexer::punctuator::{ASTERISK, MINUS, PLUS, TILDE};
 use c_tree::{CType, IntType, TExprKind, UnOp, copy_type};

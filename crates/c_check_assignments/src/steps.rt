@@ -1,10 +1,10 @@
 ghost use Rattle.std.specs.Prelude.{pos, ◌≡◌};
 ghost use Rattle.c_check_values.specs.Agreement.{AgreesWith};
-ghost use Rattle.c_check_values.specs.View.{typed_expression_of};
+ghost use Rattle.c_check_values.specs.TypedExpressionView.{typed_expression_of};
 ghost use Rattle.c_rules.specs.Assignments.{one_for, step};
 ghost use Rattle.c_rules.specs.Conversions.{kind_of};
 ghost use Rattle.c_rules.specs.TypedExpression.{not_constant, typed_value};
-ghost use Rattle.c_check_scopes.specs.View.{env_of};
+ghost use Rattle.c_check_values.specs.View.{env_of};
 ghost use Rattle.c_tree.specs.Functions.{int};
 ghost use Rattle.c_tree.specs.Operators.{value_of};
 ghost use Rattle.c_tree.specs.Tree.{constant, integer};
@@ -12,8 +12,7 @@ ghost use Rattle.c_tree.specs.View.{ctype_of};
 ghost use Rattle.c_tree.specs.declared.value.Value.TheVariants.{Int};
 
 use crate::updates::update;
-use c_check_scopes::Environment;
-use c_check_values::{CheckError, Constant, Form, TypedExpression, common};
+use c_check_values::{CheckError, Constant, Environment, Form, TypedExpression, common};
 use c_tree::{BinOp, CType, IntType, TExpr, TExprKind, Value};
 use std::alloc::Global;
 

@@ -1,18 +1,17 @@
 ghost use Rattle.std.specs.Prelude.{◌≡◌, IfOk};
 ghost use Rattle.c_check_assignments.specs.Found.{update_as};
 ghost use Rattle.c_check_values.specs.Agreement.{AgreesWith};
-ghost use Rattle.c_check_values.specs.View.{typed_expression_of};
+ghost use Rattle.c_check_values.specs.TypedExpressionView.{typed_expression_of};
 ghost use Rattle.c_rules.specs.Assignments.{moves, right_type, update_of, updated};
 ghost use Rattle.c_rules.specs.Conversions.{kind_of};
 ghost use Rattle.c_rules.specs.TypedExpression.{tree_of};
-ghost use Rattle.c_check_scopes.specs.View.{env_of};
+ghost use Rattle.c_check_values.specs.View.{env_of};
 ghost use Rattle.c_tree.specs.Operands.{kind_of as kind_of_operator};
 
 use crate::sides::{Sides, sides_of};
-use c_check_scopes::Environment;
 use c_check_values::{
-    C3, CheckError, Constant, TypedExpression, common, complete, converted_to, promoted,
-    typed_value,
+    C3, CheckError, Constant, Environment, TypedExpression, common, complete, converted_to,
+    promoted, typed_value,
 };
 use c_tree::{BinOp, CType, IntType, TExprKind};
 use dm_base::OutOfMemory;

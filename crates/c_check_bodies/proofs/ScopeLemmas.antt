@@ -1,8 +1,8 @@
 -- Scopes in which names were declared, and which are left.
 use Rattle.std.proofs.Common.{◌≡◌, ℕ, suc, List, [], ◌∷◌, Result, Ok, Err, OnOk}
 use Rattle.c_check_bodies.specs.Scoped.{Declares}
-use Rattle.c_check_scopes.specs.Bound.{Bound}
-use Rattle.c_check_scopes.specs.declared.environment.Environment.{Environment}
+use Rattle.c_check_counts.specs.Bound.{Bound}
+use Rattle.c_check_counts.specs.Environment.{Environment}
 
 pub declared_one : {E : Type 0} (r : Result (Unit {0}) E) (old : Environment) (names : List Bound) (b : Bound) → OnOk r (names ≡ b ∷ old.names) → OnOk r (Declares old (record old { names = names }))
 declared_one (Ok u) old names b h = (b ∷ [], λ i. record old { names = h i })

@@ -1,7 +1,7 @@
 -- Scopes in which names were declared.
 use Rattle.std.specs.Prelude.{◌≡◌, List, ◌++◌}
-use Rattle.c_check_scopes.specs.Bound.{Bound}
-use Rattle.c_check_scopes.specs.declared.environment.Environment.{Environment}
+use Rattle.c_check_counts.specs.Bound.{Bound}
+use Rattle.c_check_counts.specs.Environment.{Environment}
 
 -- names were declared, and nothing else changed
 abbrev pub Declares : Environment → Environment → Type 0

@@ -1,5 +1,5 @@
 ghost use Rattle.c_check_values.specs.Agreement.{AgreesWith};
-ghost use Rattle.c_check_values.specs.View.{typed_expression_of};
+ghost use Rattle.c_check_values.specs.TypedExpressionView.{typed_expression_of};
 ghost use Rattle.c_check_bodies.specs.AroundView.{around_of};
 ghost use Rattle.c_check_bodies.specs.StatementTreeView.{statement_tree_of};
 ghost use Rattle.c_rules.specs.Blocks.{bare};

@@ -1,11 +1,11 @@
 ghost use Rattle.std.specs.Prelude.{◌≡◌, suc, length, OnOk};
 ghost use Rattle.c_check_bodies.specs.Scoped.{Declares};
 ghost use Rattle.c_rules.specs.Scopes.{a_local, with_name};
-ghost use Rattle.c_check_scopes.specs.View.{env_of};
-ghost use Rattle.c_check_scopes.specs.declared.environment.Environment.{Environment};
+ghost use Rattle.c_check_counts.specs.View.{env_of};
+ghost use Rattle.c_check_counts.specs.Environment.{Environment};
 ghost use Rattle.c_tree.specs.View.{ctype_of};
 
-use c_check_scopes::{Environment, Meaning};
+use c_check_counts::{Environment, Meaning};
 use c_tree::{CType, copy_type};
 use dm_base::OutOfMemory;
 use dm_counts::Count;

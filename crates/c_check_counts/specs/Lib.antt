@@ -1,3 +1,7 @@
 pub mod Named
 pub mod Numbered
 pub mod Seen
+pub use Rattle.c_check_scopes.specs.Bound
+pub use Rattle.c_check_scopes.specs.View
+pub use Rattle.c_check_scopes.specs.declared.environment.Environment
+pub use Rattle.c_check_scopes.specs.declared.meaning.Meaning

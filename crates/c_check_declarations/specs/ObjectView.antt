@@ -1,7 +1,7 @@
 -- Objects of Rust as those of the rules.
 use Rattle.std.specs.Prelude.{List, map}
 use Rattle.c_check_values.specs.declared.typed_expression.TypedExpression.{TypedExpression as TypedExpressionTree}
-use Rattle.c_check_values.specs.View.{typed_expression_of}
+use Rattle.c_check_values.specs.TypedExpressionView.{typed_expression_of}
 use Rattle.c_check_declarations.specs.declared.types.Object.{Object as ObjectTree}
 use Rattle.c_rules.specs.Initialisers.{value_of_cell}
 use Rattle.c_rules.specs.Objects.{Object}

@@ -1,6 +1,6 @@
 ghost use Rattle.std.specs.Prelude.{◌≡◌, ◌+◌, ◌≤◌, map, false, IfOk, OnOk};
 ghost use Rattle.c_check_values.specs.Agreement.{AgreesWith};
-ghost use Rattle.c_check_values.specs.View.{constant_of, typed_expression_of};
+ghost use Rattle.c_check_values.specs.TypedExpressionView.{constant_of, typed_expression_of};
 ghost use Rattle.c_check_declarations.specs.ObjectView.{cells_seen, object_seen};
 ghost use Rattle.c_rules.specs.Checked.{met};
 ghost use Rattle.c_rules.specs.Initialisers.{value_of_constant, value_of_cell};

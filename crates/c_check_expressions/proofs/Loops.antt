@@ -12,7 +12,7 @@ use Rattle.c_tree.specs.Tree.{CType, CTypes, no_types, more_types}
 use Rattle.c_tree.specs.View.{ctype_of, types_of}
 use Rattle.c_check_values.specs.declared.error.CheckError.{CheckError}
 use Rattle.c_check_values.specs.declared.typed_expression.TypedExpression.{TypedExpression as TypedExpressionTree}
-use Rattle.c_check_values.specs.View.{typed_expression_of}
+use Rattle.c_check_values.specs.TypedExpressionView.{typed_expression_of}
 use Rattle.c_check_values.specs.Agreement.{Names}
 use Rattle.c_check_values.proofs.Parts.{names_on, names_first}
 use Rattle.c_check_values.proofs.PartsOfTypes.{at_place}

@@ -1,7 +1,7 @@
 ghost use Rattle.std.specs.Prelude.{◌≡◌, map, OnOk};
 ghost use Rattle.c_check_expressions.specs.Parts.{Declares, type_of_param};
 ghost use Rattle.c_check_values.specs.Agreement.{AgreesWith};
-ghost use Rattle.c_check_values.specs.View.{typed_expression_of};
+ghost use Rattle.c_check_values.specs.TypedExpressionView.{typed_expression_of};
 ghost use Rattle.c_check_primary.specs.CalleeView.{callee_of};
 ghost use Rattle.c_rules.specs.Assignments.{step};
 ghost use Rattle.c_rules.specs.Checked.{on};

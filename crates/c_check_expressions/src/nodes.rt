@@ -1,6 +1,6 @@
 ghost use Rattle.std.specs.Prelude.{map};
 ghost use Rattle.c_check_values.specs.Agreement.{AgreesWith};
-ghost use Rattle.c_check_values.specs.View.{typed_expression_of};
+ghost use Rattle.c_check_values.specs.TypedExpressionView.{typed_expression_of};
 ghost use Rattle.c_rules.specs.Assignments.{comma_of};
 ghost use Rattle.c_rules.specs.BinaryExpressions.{sum};
 ghost use Rattle.c_rules.specs.Checked.{fine, on};

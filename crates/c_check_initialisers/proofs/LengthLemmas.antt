@@ -16,7 +16,7 @@ use Rattle.c_rules.specs.Conversions.{as_if_assigned}
 use Rattle.c_rules.specs.Expressions.{value}
 use Rattle.c_rules.specs.Initialisers.{Slots, copies, each, members_of_struct, slots, capacity, takes_list, count_inits, text_of, text_fits, typed_zero, typed_char, zeros, chars, defined_cell, cell_of, scalar_cell, array_cells, cells_of_one, cells_of_list, after_init, initialised, in_turn, initialised_local}
 use Rattle.c_rules.proofs.Below.{Holds, held, on_holds, both_hold, Any, anything}
-use Rattle.c_check_scopes.proofs.MeasuredLemmas.{length_repeat}
+use Rattle.c_check_values.proofs.MeasuredLemmas.{length_repeat}
 
 -- each struct with a definition has the cells of its members
 abbrev pub AreWhole : Env → Type 0

@@ -1,14 +1,14 @@
 -- Elements and members one after another.
 use Rattle.std.proofs.Common.{◌≡◌, ℕ, zero, suc, ◌+◌, ◌-◌, ◌<◌, List, [], ◌∷◌, ◌++◌, length, take, drop, get_or, map, Result, Ok, Err, OnOk, refl, ap, sym, ◌∙◌, arith, append_assoc, append-nil}
 use Rattle.std.proofs.lemmas.List.{length-drop, map-append, map_push, take_all, take_more}
-use Rattle.c_check_scopes.specs.declared.structs.StructMember.{StructMember}
-use Rattle.c_check_scopes.specs.Known.{type_of}
-use Rattle.c_check_scopes.specs.Shown.{known_of, knowns_of, members_types}
+use Rattle.c_check_values.specs.StructMember.{StructMember}
+use Rattle.c_check_values.specs.Known.{type_of}
+use Rattle.c_check_values.specs.Shown.{known_of, knowns_of, members_types}
 use Rattle.c_rules.specs.TypedExpression.{TypedExpression}
 use Rattle.c_check_initialisers.specs.SlotsLeft.{left_from}
 use Rattle.c_rules.specs.Initialisers.{Slots, each, members_of_struct, typed_zero, zeros}
 use Rattle.c_rules.specs.Scopes.{Struct, defined_struct, type_of_member}
-use Rattle.c_check_scopes.specs.View.{member_of}
+use Rattle.c_check_values.specs.View.{member_of}
 use Rattle.c_tree.specs.declared.tree.CType.{CType as TypeTree}
 use Rattle.c_tree.specs.Layout.{Structs, flat, flat_all, repeat}
 use Rattle.c_tree.specs.Tree.{CType}

@@ -4,7 +4,7 @@ use Rattle.std.proofs.lemmas.List.{length_push, nil_from_length}
 use Rattle.c_check_initialisers.specs.CellView.{typed_expressions_of}
 use Rattle.c_check_initialisers.specs.Left.{stores_before}
 use Rattle.c_check_values.specs.declared.typed_expression.TypedExpression.{TypedExpression as TypedExpressionTree}
-use Rattle.c_check_values.specs.View.{typed_expression_of}
+use Rattle.c_check_values.specs.TypedExpressionView.{typed_expression_of}
 use Rattle.c_rules.specs.TypedExpression.{TypedExpression, tree_of}
 use Rattle.c_rules.specs.Initialisers.{stores_from}
 use Rattle.c_tree.specs.declared.tree.TInit.{TInit}

@@ -4,13 +4,13 @@ use Rattle.std.specs.Prelude.{option_map, unwrap_or}
 use Rattle.std.proofs.lemmas.List.{map-append, map_push, take_all, take_more}
 use Rattle.std.proofs.lemmas.Option.{slice_get-map}
 use Rattle.c_check_initialisers.specs.Left.{AddsZeros, AddsAllZeros}
-use Rattle.c_check_scopes.specs.declared.structs.StructMember.{StructMember}
-use Rattle.c_check_scopes.specs.Known.{type_of}
-use Rattle.c_check_scopes.specs.Shown.{known_of, knowns_of, members_types}
+use Rattle.c_check_values.specs.StructMember.{StructMember}
+use Rattle.c_check_values.specs.Known.{type_of}
+use Rattle.c_check_values.specs.Shown.{known_of, knowns_of, members_types}
 use Rattle.c_rules.specs.TypedExpression.{TypedExpression}
 use Rattle.c_rules.specs.Initialisers.{typed_zero}
 use Rattle.c_rules.specs.Scopes.{Env, Struct, incomplete, unknown_struct, defined_struct, struct_of, types_of_struct, type_of_member, layout_of}
-use Rattle.c_check_scopes.specs.View.{member_of}
+use Rattle.c_check_values.specs.View.{member_of}
 use Rattle.c_tree.specs.Layout.{Structs, flat, flat_with, flat_all_with, layout, members_of, or_none, repeat}
 use Rattle.c_tree.specs.Tree.{CType, void, integer, pointer, array, struct, function}
 use Rattle.c_tree.specs.View.{ctype_of}

@@ -4,7 +4,7 @@ use Rattle.std.specs.Global.{Global}
 use Rattle.c_check_initialisers.specs.declared.slots.Slots.{Slots as SlotsTree}
 use Rattle.c_check_initialisers.specs.declared.slots.Slots.TheVariants as s
 use Rattle.c_check_values.specs.declared.typed_expression.TypedExpression.{TypedExpression as TypedExpressionTree}
-use Rattle.c_check_values.specs.View.{typed_expression_of}
+use Rattle.c_check_values.specs.TypedExpressionView.{typed_expression_of}
 use Rattle.c_rules.specs.TypedExpression.{TypedExpression}
 use Rattle.c_rules.specs.Initialisers.{Slots, copies, each}
 use Rattle.c_tree.specs.View.{ctype_of, ctypes_of}

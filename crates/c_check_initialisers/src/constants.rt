@@ -1,14 +1,13 @@
 ghost use Rattle.std.specs.Prelude.{◌≡◌, IfOk};
-ghost use Rattle.c_check_values.specs.View.{typed_expression_of};
+ghost use Rattle.c_check_values.specs.TypedExpressionView.{typed_expression_of};
 ghost use Rattle.c_rules.specs.Constants.{number_of};
 ghost use Rattle.c_rules.specs.Initialisers.{constant_given, typed_zero, typed_char};
 ghost use Rattle.c_tree.specs.Operators.{value_of};
 ghost use Rattle.c_tree.specs.Tree.{integer};
 ghost use Rattle.c_tree.specs.View.{ctype_of};
 
-use c_check_values::{Constant, TypedExpression, null_of, typed_value};
+use c_check_values::{Constant, TypedExpression, convert, null_of, typed_value};
 use c_tree::{CType, IntType, TExprKind, Value};
-use c_values::convert;
 use dm_base::OutOfMemory;
 use std::alloc::Global;
 

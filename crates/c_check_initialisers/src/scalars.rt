@@ -1,7 +1,7 @@
 ghost use Rattle.std.specs.Prelude.{◌≡◌, ◌∷◌, [], IfOk};
 ghost use Rattle.c_check_initialisers.specs.CellView.{cells_of, typed_expressions_of};
 ghost use Rattle.c_check_values.specs.Agreement.{AgreesWith};
-ghost use Rattle.c_check_values.specs.View.{typed_expression_of};
+ghost use Rattle.c_check_values.specs.TypedExpressionView.{typed_expression_of};
 ghost use Rattle.c_rules.specs.Checked.{fine};
 ghost use Rattle.c_rules.specs.Initialisers.{cell_of, scalar_cell};
 ghost use Rattle.c_tree.specs.View.{ctype_of};

@@ -1,16 +1,15 @@
 ghost use Rattle.std.specs.Prelude.{◌≡◌, ◌++◌, map, IfOk, OnOk};
 ghost use Rattle.c_check_initialisers.specs.CellView.{typed_expressions_of, slots_of};
 ghost use Rattle.c_check_initialisers.specs.SlotsLeft.{ctype_seen, left_from, slot_at};
-ghost use Rattle.c_check_scopes.specs.Shown.{members_types};
+ghost use Rattle.c_check_values.specs.Shown.{members_types};
 ghost use Rattle.c_rules.specs.Initialisers.{capacity, copies, each, members_of_struct, slots, takes_list, typed_zero, zeros};
 ghost use Rattle.c_rules.specs.Scopes.{layout_of, struct_of};
-ghost use Rattle.c_check_scopes.specs.View.{env_of};
+ghost use Rattle.c_check_values.specs.View.{env_of};
 ghost use Rattle.c_tree.specs.Layout.{flat};
 ghost use Rattle.c_tree.specs.View.{ctype_of, ctypes_of};
 
 use crate::zeros::zero_cells;
-use c_check_scopes::{Environment, StructMember};
-use c_check_values::TypedExpression;
+use c_check_values::{Environment, StructMember, TypedExpression};
 use c_tree::{CType, copy_type};
 use dm_base::OutOfMemory;
 use std::alloc::Global;

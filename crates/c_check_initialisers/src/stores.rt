@@ -1,6 +1,6 @@
 ghost use Rattle.std.specs.Prelude.{◌≡◌, ◌≤◌, length, IfOk};
 ghost use Rattle.c_check_initialisers.specs.CellView.{typed_expressions_of};
-ghost use Rattle.c_check_values.specs.View.{typed_expression_of};
+ghost use Rattle.c_check_values.specs.TypedExpressionView.{typed_expression_of};
 ghost use Rattle.c_rules.specs.Limits.{most_cells};
 ghost use Rattle.c_rules.specs.TypedExpression.{tree_of};
 ghost use Rattle.c_rules.specs.Initialisers.{stores_from};

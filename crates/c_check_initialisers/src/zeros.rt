@@ -1,17 +1,16 @@
 ghost use Rattle.std.specs.Prelude.{◌≡◌, ◌∷◌, [], ◌++◌, map, IfOk, OnOk};
 ghost use Rattle.c_check_initialisers.specs.CellView.{typed_expressions_of};
 ghost use Rattle.c_check_initialisers.specs.Left.{AddsZeros, AddsAllZeros};
-ghost use Rattle.c_check_scopes.specs.Shown.{members_types};
+ghost use Rattle.c_check_values.specs.Shown.{members_types};
 ghost use Rattle.c_rules.specs.Initialisers.{typed_zero};
 ghost use Rattle.c_rules.specs.Scopes.{layout_of};
-ghost use Rattle.c_check_scopes.specs.View.{env_of};
+ghost use Rattle.c_check_values.specs.View.{env_of};
 ghost use Rattle.c_tree.specs.Layout.{flat};
 ghost use Rattle.c_tree.specs.Tree.{array, struct};
 ghost use Rattle.c_tree.specs.View.{ctype_of};
 
 use crate::constants::typed_zero;
-use c_check_scopes::{Environment, StructMember};
-use c_check_values::TypedExpression;
+use c_check_values::{Environment, StructMember, TypedExpression};
 use c_tree::CType;
 use dm_base::OutOfMemory;
 use std::alloc::Global;

@@ -4,7 +4,7 @@ use Rattle.std.specs.Prelude.{nat_le, slice_get, unwrap_or}
 use Rattle.std.proofs.lemmas.Bool.Decides.{nat_tests}
 use Rattle.c_check_values.specs.declared.error.CheckError.{CheckError}
 use Rattle.c_check_values.specs.declared.typed_expression.TypedExpression.{TypedExpression as TypedExpressionTree}
-use Rattle.c_check_values.specs.View.{typed_expression_of}
+use Rattle.c_check_values.specs.TypedExpressionView.{typed_expression_of}
 use Rattle.c_check_values.specs.Agreement.{AgreesWith, Names}
 use Rattle.c_check_values.proofs.Parts.{names_on, names_first, names_second}
 use Rattle.c_check_items.proofs.Turns.{not_fine}

@@ -9,7 +9,7 @@ use Rattle.c_rules.specs.Scopes.{Env, Binding, a_local, inside}
 use Rattle.c_check_scopes.specs.declared.environment.Environment.{Environment}
 use Rattle.c_check_scopes.specs.View.{env_of}
 use Rattle.c_rules.specs.Variables.{Next}
-use Rattle.c_check_counts.specs.Numbered.{HaveNumbers}
+use Rattle.c_check_units.specs.Numbered.{HaveNumbers}
 use Rattle.c_syntax.specs.Tree.{Ident, BlockItems, Declarator, Params, no_params, more_params}
 use Rattle.c_tree.specs.Tree.{CType, CTypes, no_types, more_types}
 

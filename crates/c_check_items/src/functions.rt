@@ -1,5 +1,5 @@
 ghost use Rattle.std.specs.Prelude.{◌≡◌, true, Some, OnOk, IfOk};
-ghost use Rattle.c_check_counts.specs.Numbered.{HaveNumbers, next_of};
+ghost use Rattle.c_check_units.specs.Numbered.{HaveNumbers, next_of};
 ghost use Rattle.c_check_values.specs.Agreement.{AgreesWith};
 ghost use Rattle.c_check_statements.specs.StatementTreeView.{statement_trees_of};
 ghost use Rattle.c_check_units.specs.OutputView.{output_of};
@@ -17,14 +17,13 @@ ghost use Rattle.c_syntax.specs.View.{declarator_of, ident_of, spec_of};
 ghost use Rattle.c_tree.specs.Tree.{function};
 ghost use Rattle.c_tree.specs.View.{ctype_of, function_of, types_of};
 
-use c_check_counts::{Next, name_of};
 use c_check_scopes::{Before, Environment};
 use c_check_statements::{
     StatementTrees, are_named, body_numbers, body_of, declare_function, enter_body,
     function_meaning, parameters_of, type_declared,
 };
 use c_check_units::{
-    Output, add_function, count_names, declares_function, function_with, leave,
+    Next, Output, add_function, count_names, declares_function, function_with, leave, name_of,
     place_of_declarator, variables_of,
 };
 use c_check_values::{C3, C13, CheckError};

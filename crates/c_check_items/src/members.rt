@@ -12,10 +12,9 @@ ghost use Rattle.c_syntax.specs.UnitView.{members_of as listed_members};
 ghost use Rattle.c_syntax.specs.View.{declarator_of, ident_of, spec_of};
 ghost use Rattle.c_tree.specs.View.{ctype_of};
 
-use c_check_counts::name_of;
 use c_check_scopes::{Environment, Numbering, StructMember};
 use c_check_statements::{member_typed, new_member, type_declared};
-use c_check_units::place_of_declarator;
+use c_check_units::{name_of, place_of_declarator};
 use c_check_values::{C3, CheckError};
 use c_syntax::{Declarator, Ident, Member, Spec};
 use c_tree::CType;

@@ -11,9 +11,8 @@ ghost use Rattle.c_syntax.specs.View.{declarator_of, ident_of, spec_of};
 
 use crate::globals::{global_declaration, prototype};
 use crate::objects::global_definition;
-use c_check_counts::name_of;
 use c_check_scopes::{Before, Environment};
-use c_check_units::{Output, add_object, declares_function, defines, place_of_declarator};
+use c_check_units::{Output, add_object, declares_function, defines, name_of, place_of_declarator};
 use c_check_values::{C3, CheckError};
 use c_syntax::{DeclPart, Declarator, Ident, Init, Spec, Storage};
 use c_tree::Static;

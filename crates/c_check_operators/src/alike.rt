@@ -1,5 +1,5 @@
 ghost use Rattle.std.specs.Prelude.{◌≡◌, IfOk};
-ghost use Rattle.c_check_values.specs.View.{typed_expression_of};
+ghost use Rattle.c_check_values.specs.TypedExpressionView.{typed_expression_of};
 ghost use Rattle.c_check_operators.specs.Alike.{alike_as, pointer_left, pointer_right};
 ghost use Rattle.c_rules.specs.BinaryExpressions.{pointers_alike, alike};
 

@@ -1,6 +1,6 @@
 ghost use Rattle.std.specs.Prelude.{◌≡◌, ◌&&◌, IfOk};
 ghost use Rattle.c_check_values.specs.Agreement.{AgreesWith};
-ghost use Rattle.c_check_values.specs.View.{typed_expression_of};
+ghost use Rattle.c_check_values.specs.TypedExpressionView.{typed_expression_of};
 ghost use Rattle.c_check_operators.specs.Arms.{void_arms};
 ghost use Rattle.c_check_operators.specs.Alike.{pointer_left, pointer_right};
 ghost use Rattle.c_rules.specs.BinaryExpressions.{alike, arms_of, choice, chosen};

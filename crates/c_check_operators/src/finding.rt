@@ -1,14 +1,15 @@
 ghost use Rattle.std.specs.Prelude.{◌≡◌};
 ghost use Rattle.c_check_values.specs.Agreement.{AgreesWith};
-ghost use Rattle.c_check_values.specs.View.{typed_expression_of};
+ghost use Rattle.c_check_values.specs.TypedExpressionView.{typed_expression_of};
 ghost use Rattle.c_check_operators.specs.Found.{operation_as};
 ghost use Rattle.c_rules.specs.BinaryExpressions.{operator_of_code, sum, minus_of, balanced_of, shift_of, ordered_of, alike, equality_of, operation};
 ghost use Rattle.c_rules.specs.Conversions.{kind_of};
-ghost use Rattle.c_check_scopes.specs.View.{env_of};
+ghost use Rattle.c_check_values.specs.View.{env_of};
 
 use crate::alike::{Alike, NullSide, alike_of};
-use c_check_scopes::Environment;
-use c_check_values::{C3, CheckError, TypedExpression, common, complete, promoted, same_type};
+use c_check_values::{
+    C3, CheckError, Environment, TypedExpression, common, complete, promoted, same_type,
+};
 use c_lexer::punctuator;
 use c_tree::{BinOp, CType, IntType};
 

@@ -1,5 +1,5 @@
 ghost use Rattle.std.specs.Prelude.{◌≡◌, IfOk};
-ghost use Rattle.c_check_values.specs.View.{typed_expression_of};
+ghost use Rattle.c_check_values.specs.TypedExpressionView.{typed_expression_of};
 ghost use Rattle.c_rules.specs.BinaryExpressions.{calculated, shifted, compared_integers};
 ghost use Rattle.c_rules.specs.Constants.{constant_binary};
 ghost use Rattle.c_rules.specs.TypedExpression.{tree_of, typed_value};

@@ -1,6 +1,6 @@
 ghost use Rattle.std.specs.Prelude.{◌≡◌, IfOk};
 ghost use Rattle.c_check_values.specs.Agreement.{AgreesWith};
-ghost use Rattle.c_check_values.specs.View.{typed_expression_of};
+ghost use Rattle.c_check_values.specs.TypedExpressionView.{typed_expression_of};
 ghost use Rattle.c_rules.specs.BinaryExpressions.{both_scalars, conjunction, disjunction};
 ghost use Rattle.c_rules.specs.Constants.{constant_and, constant_or};
 ghost use Rattle.c_rules.specs.TypedExpression.{integer_constant, tree_of, typed_value};

@@ -1,16 +1,15 @@
 ghost use Rattle.std.specs.Prelude.{◌≡◌, IfOk};
 ghost use Rattle.c_check_values.specs.Agreement.{AgreesWith};
-ghost use Rattle.c_check_values.specs.View.{typed_expression_of};
+ghost use Rattle.c_check_values.specs.TypedExpressionView.{typed_expression_of};
 ghost use Rattle.c_check_operators.specs.Found.{operation_as};
 ghost use Rattle.c_rules.specs.BinaryExpressions.{operation, sum};
-ghost use Rattle.c_check_scopes.specs.View.{env_of};
+ghost use Rattle.c_check_values.specs.View.{env_of};
 
 use crate::comparisons::compared_pointers;
 use crate::finding::{Operation, addition, operation_of};
 use crate::integers::{calculated, compared_integers, shifted};
 use crate::pointers::{difference, moved_back, moved_on};
-use c_check_scopes::Environment;
-use c_check_values::{CheckError, TypedExpression};
+use c_check_values::{CheckError, Environment, TypedExpression};
 use c_tree::BinOp;
 use dm_base::OutOfMemory;
 use std::alloc::Global;

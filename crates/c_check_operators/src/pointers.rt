@@ -1,5 +1,5 @@
 ghost use Rattle.std.specs.Prelude.{◌≡◌, IfOk};
-ghost use Rattle.c_check_values.specs.View.{constant_of, typed_expression_of};
+ghost use Rattle.c_check_values.specs.TypedExpressionView.{constant_of, typed_expression_of};
 ghost use Rattle.c_check_operators.specs.Found.{moved_on, moved_back};
 ghost use Rattle.c_rules.specs.BinaryExpressions.{difference};
 ghost use Rattle.c_rules.specs.TypedExpression.{tree_of, typed_value};

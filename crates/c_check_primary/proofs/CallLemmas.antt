@@ -10,7 +10,7 @@ use Rattle.c_tree.specs.declared.tree.TExprKind.TheVariants.{Call, CallThrough}
 use Rattle.c_tree.specs.View.{ctype_of, types_of, expr_of, expr_with, exprs_of}
 use Rattle.c_tree.proofs.Rows.{call_is, call_through_is, function_is}
 use Rattle.c_check_values.specs.declared.typed_expression.TypedExpression.{TypedExpression as TypedExpressionTree}
-use Rattle.c_check_values.specs.View.{typed_expression_of}
+use Rattle.c_check_values.specs.TypedExpressionView.{typed_expression_of}
 use Rattle.c_check_values.proofs.PartsOfTypes.{at_place}
 use Rattle.c_rules.specs.Checked.{fine}
 use Rattle.dm_base.specs.declared.memory.OutOfMemory.{OutOfMemory}

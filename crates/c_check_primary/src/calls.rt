@@ -1,6 +1,6 @@
 ghost use Rattle.std.specs.Prelude.{◌≡◌, ◌≤◌, map, IfOk};
 ghost use Rattle.c_check_values.specs.Agreement.{AgreesWith};
-ghost use Rattle.c_check_values.specs.View.{typed_expression_of};
+ghost use Rattle.c_check_values.specs.TypedExpressionView.{typed_expression_of};
 ghost use Rattle.c_check_primary.specs.CalleeView.{callee_of, designator_of};
 ghost use Rattle.c_rules.specs.TypedExpression.{typed_value, not_constant};
 ghost use Rattle.c_rules.specs.Limits.{most_calls};

@@ -1,6 +1,6 @@
 ghost use Rattle.std.specs.Prelude.{◌≡◌, ◌<◌, ◌^◌, length, map, IfOk, IfSome, slice_index_or};
 ghost use Rattle.c_check_values.specs.Agreement.{AgreesWith};
-ghost use Rattle.c_check_values.specs.View.{typed_expression_of};
+ghost use Rattle.c_check_values.specs.TypedExpressionView.{typed_expression_of};
 ghost use Rattle.c_check_scopes.specs.Shown.{knowns_of, members_types};
 ghost use Rattle.c_rules.specs.Constants.{constant_member};
 ghost use Rattle.c_rules.specs.TypedExpression.{a_place, tree_of};

@@ -1,6 +1,6 @@
 ghost use Rattle.std.specs.Prelude.{◌≡◌, IfOk};
 ghost use Rattle.c_check_values.specs.Agreement.{AgreesWith};
-ghost use Rattle.c_check_values.specs.View.{constant_of, typed_expression_of};
+ghost use Rattle.c_check_values.specs.TypedExpressionView.{constant_of, typed_expression_of};
 ghost use Rattle.c_rules.specs.Constants.{static_address};
 ghost use Rattle.c_rules.specs.Names.{number_among, given_names};
 ghost use Rattle.c_rules.specs.PrimaryExpressions.{given_number, used, object_number, function_number, function_value_number, static_given, local_given, typed_function, typed_int, meant, named_expression, integer_expression};

@@ -1,5 +1,5 @@
 ghost use Rattle.std.specs.Prelude.{◌≡◌, ◌≤◌, length, map, nat_eq, IfOk};
-ghost use Rattle.c_check_values.specs.View.{typed_expression_of};
+ghost use Rattle.c_check_values.specs.TypedExpressionView.{typed_expression_of};
 ghost use Rattle.c_rules.specs.PostfixExpressions.{all_fit, as_many_as, passed};
 ghost use Rattle.c_tree.specs.View.{exprs_of, types_of};
 

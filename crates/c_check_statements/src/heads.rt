@@ -1,7 +1,7 @@
 ghost use Rattle.std.specs.Prelude.{◌≡◌, OnOk};
 ghost use Rattle.c_check_counts.specs.Numbered.{HaveNumbers, next_of};
 ghost use Rattle.c_check_values.specs.Agreement.{AgreesWith};
-ghost use Rattle.c_check_values.specs.View.{typed_expression_of};
+ghost use Rattle.c_check_values.specs.TypedExpressionView.{typed_expression_of};
 ghost use Rattle.c_check_bodies.specs.StatementTreeView.{statement_trees_of, statement_tree_of};
 ghost use Rattle.c_check_bodies.specs.Scoped.{Declares};
 ghost use Rattle.c_rules.specs.Blocks.{after_first, alone, bare, behind_first};

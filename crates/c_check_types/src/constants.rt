@@ -1,6 +1,6 @@
 ghost use Rattle.std.specs.Prelude.{◌≡◌, pos};
 ghost use Rattle.c_check_values.specs.Agreement.{AgreesWith};
-ghost use Rattle.c_check_values.specs.View.{constant_of, typed_expression_of};
+ghost use Rattle.c_check_values.specs.TypedExpressionView.{constant_of, typed_expression_of};
 ghost use Rattle.c_rules.specs.Constants.{number_of};
 ghost use Rattle.c_rules.specs.Declarators.{defined_value, constant_value, positive, array_size};
 

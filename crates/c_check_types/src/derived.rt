@@ -2,11 +2,10 @@ ghost use Rattle.std.specs.Prelude.{◌≡◌, IfOk};
 ghost use Rattle.c_check_values.specs.Agreement.{AgreesWith};
 ghost use Rattle.c_rules.specs.Declarators.{within_parts, pointer_to, array_of, function_of, parameter_of};
 ghost use Rattle.c_rules.specs.Types.{adjusted};
-ghost use Rattle.c_check_scopes.specs.View.{env_of};
+ghost use Rattle.c_check_values.specs.View.{env_of};
 ghost use Rattle.c_tree.specs.View.{ctype_of, types_of};
 
-use c_check_scopes::Environment;
-use c_check_values::{C3, C13, CheckError, complete, few_parts, is_result, is_scalar};
+use c_check_values::{C3, C13, CheckError, Environment, complete, few_parts, is_result, is_scalar};
 use c_tree::{CType, copy_type};
 use dm_base::OutOfMemory;
 use std::alloc::Global;

@@ -3,11 +3,10 @@ ghost use Rattle.c_check_values.specs.Agreement.{AgreesWith};
 ghost use Rattle.c_rules.specs.Checked.{met};
 ghost use Rattle.c_rules.specs.Declarators.{free_name, new_name};
 ghost use Rattle.c_rules.specs.Scopes.{declared_here};
-ghost use Rattle.c_check_scopes.specs.View.{env_of};
+ghost use Rattle.c_check_values.specs.View.{env_of};
 ghost use Rattle.c_syntax.specs.View.{ident_of};
 
-use c_check_scopes::{Environment, is_given, may_be_declared};
-use c_check_values::{C2, C11, C12, CheckError};
+use c_check_values::{C2, C11, C12, CheckError, Environment, is_given, may_be_declared};
 use c_syntax::Ident;
 
 /// A name that may be declared, and that isn't a system call's or a null call's.

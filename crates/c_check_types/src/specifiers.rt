@@ -3,12 +3,11 @@ ghost use Rattle.c_check_values.specs.Agreement.{AgreesWith};
 ghost use Rattle.c_rules.specs.Declarators.{type_of_spec};
 ghost use Rattle.c_rules.specs.Names.{is_among};
 ghost use Rattle.c_rules.specs.Scopes.{tag_number};
-ghost use Rattle.c_check_scopes.specs.View.{env_of};
+ghost use Rattle.c_check_values.specs.View.{env_of};
 ghost use Rattle.c_syntax.specs.View.{spec_of};
 ghost use Rattle.c_tree.specs.View.{ctype_of};
 
-use c_check_scopes::Environment;
-use c_check_values::{C1, C2, CheckError};
+use c_check_values::{C1, C2, CheckError, Environment};
 use c_syntax::Spec;
 use c_tree::{CType, IntType};
 

@@ -7,3 +7,4 @@ pub mod Held
 pub mod Made
 pub mod OutputView
 pub mod Scoped
+pub use Rattle.c_check_counts.specs.Numbered

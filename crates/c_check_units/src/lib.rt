@@ -22,6 +22,7 @@ mod unit_tags;
 mod units;
 
 pub use bodies::{function_with, variables_of};
+pub use c_check_counts::{Next, name_of};
 pub use environments::environment_before;
 pub use forms::{declares_function, defines, place_of_declarator, place_of_expression};
 pub use mains::has_main;

@@ -1,7 +1,7 @@
 ghost use Rattle.std.specs.Prelude.{◌≡◌, ℕ, ◌<◌, ◌+◌, ◌*◌, ◌/◌, ◌^◌, pos, ◌≤ℤ◌, ◌<ℤ◌, neg_ℤ, SomeIff};
 ghost use Rattle.c_check_values.specs.Moved.{moved_value};
 ghost use Rattle.c_tree.specs.declared.value.Value.TheVariants.{At};
-ghost use Rattle.c_check_values.specs.View.{constant_of};
+ghost use Rattle.c_check_values.specs.TypedExpressionView.{constant_of};
 ghost use Rattle.c_rules.specs.Constants.{address_of_static, static_address, number_of, is_within, part_of, constant_member, constant_decayed, moved, constant_moved};
 ghost use Rattle.c_rules.specs.Limits.{most_cells};
 

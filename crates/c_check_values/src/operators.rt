@@ -1,5 +1,5 @@
 ghost use Rattle.std.specs.Prelude.{◌≡◌, ◌≤ℤ◌, pos, negsuc};
-ghost use Rattle.c_check_values.specs.View.{constant_of};
+ghost use Rattle.c_check_values.specs.TypedExpressionView.{constant_of};
 ghost use Rattle.c_rules.specs.Constants.{answered, number_of, constant_converted, constant_unary, constant_binary, constant_truth, constant_and, constant_or, constant_conditional};
 ghost use Rattle.c_rules.specs.TypedExpression.{not_constant};
 ghost use Rattle.c_tree.specs.Operands.{kind_of, shift};

@@ -1,7 +1,7 @@
 ghost use Rattle.std.specs.Prelude.{◌≡◌, IfOk};
 ghost use Rattle.c_rules.specs.TypedExpression.{is_place, is_null, is_zero, is_known_zero, tree_of, typed_value, integer_constant};
 ghost use Rattle.c_tree.specs.View.{ctype_of, expr_of, expr_with};
-ghost use Rattle.c_check_values.specs.View.{typed_expression_of, constant_of};
+ghost use Rattle.c_check_values.specs.TypedExpressionView.{typed_expression_of, constant_of};
 
 use crate::types::{is_function, is_integer};
 use c_tree::{CType, TExpr, TExprKind, Value, copy_type};

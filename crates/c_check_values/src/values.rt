@@ -1,5 +1,5 @@
 ghost use Rattle.std.specs.Prelude.{◌≡◌, IfOk};
-ghost use Rattle.c_check_values.specs.View.{constant_of, typed_expression_of};
+ghost use Rattle.c_check_values.specs.TypedExpressionView.{constant_of, typed_expression_of};
 ghost use Rattle.c_rules.specs.Constants.{constant_decayed};
 ghost use Rattle.c_rules.specs.Conversions.{loaded, null_of};
 ghost use Rattle.c_rules.specs.TypedExpression.{not_constant, typed_value, tree_of};

@@ -11,9 +11,9 @@ use Rattle.c_rules.specs.Accepted.{IsAcceptedAs}
 use Rattle.c_meaning.specs.Runs.{run}
 use Rattle.flow_graph_laws.specs.Equal.{AreEqual}
 use Rattle.flow_graph_laws.specs.GraphOfProgram.{graph_of_program}
-use Rattle.alarm_laws.specs.MarkedRuns.{marked_run}
-use Rattle.alarm_laws.specs.NoFalseAlarm.{RunsAreWords, MarkedRunsAreWords}
-use Rattle.alarm_laws.specs.Monitors.{IsAcceptedByBoth, IsAcceptedByAll}
+use Rattle.null_calls_texts_laws.specs.MarkedRuns.{marked_run}
+use Rattle.null_calls_texts_laws.specs.NoFalseAlarm.{RunsAreWords, MarkedRunsAreWords}
+use Rattle.null_calls_texts_laws.specs.Monitors.{IsAcceptedByBoth, IsAcceptedByAll}
 
 -- the graph of the program has the program's three languages
 pub record HasTheWords (p : Program) : Type 0 where

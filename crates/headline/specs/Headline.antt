@@ -15,7 +15,7 @@ use Rattle.c_rules.specs.Accepted.{IsAcceptedAs}
 use Rattle.c_meaning.specs.Runs.{Run, run}
 use Rattle.flow_graph_laws.specs.Equal.{AreEqual}
 use Rattle.flow_graph_laws.specs.GraphOfProgram.{graph_of_program}
-use Rattle.alarm_laws.specs.MarkedRuns.{marked_run}
+use Rattle.null_calls_texts_laws.specs.MarkedRuns.{marked_run}
 use Rattle.null_calls_texts_laws.specs.Instrumented.{instrumented_text}
 
 -- a run does what another one does once null calls are erased

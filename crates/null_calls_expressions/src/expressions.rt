@@ -9,14 +9,13 @@ ghost use Rattle.null_calls_temporaries.specs.Kept.{temporaries_of};
 use crate::marked::{add_where, call_where};
 use crate::wanted::{is_void, is_wanted_at, is_without};
 use c_syntax::{Expr, ExprKind};
-use c_syntax_nodes::{
-    and_node, arrow_node, assign_node, binary_node, cast_node, comma_node, cond_node, copy_expr,
-    copy_ident, copy_type_name, index_node, member_node, or_node, post_dec_node, post_inc_node,
-    pre_dec_node, pre_inc_node, unary_node,
-};
 use dm_base::OutOfMemory;
 use dm_counts::Count;
-use null_calls_temporaries::{MarkedSites, Temporary};
+use null_calls_temporaries::{
+    MarkedSites, Temporary, and_node, arrow_node, assign_node, binary_node, cast_node, comma_node,
+    cond_node, copy_expr, copy_ident, copy_type_name, index_node, member_node, or_node,
+    post_dec_node, post_inc_node, pre_dec_node, pre_inc_node, unary_node,
+};
 use std::alloc::Global;
 
 /// The expression with null calls round its marked calls (C99 6.5), where `next` calls stand before it in the unit and its value is

@@ -13,12 +13,11 @@ ghost use Rattle.null_calls_expressions.specs.Lists.{exprs_onto};
 
 use c_lexer::punctuator::ASSIGN;
 use c_syntax::Expr;
-use c_syntax_nodes::{assign_node, call_node, comma_node, int_node, name_node};
 use c_tree::CType;
 use dm_base::{Bytes, OutOfMemory};
 use null_calls_temporaries::{
-    Called, Marked, Temporary, add_temporaries, argument_name, designator_name, is_kept, post_name,
-    pre_name, result_name,
+    Called, Marked, Temporary, add_temporaries, argument_name, assign_node, call_node, comma_node,
+    designator_name, int_node, is_kept, name_node, post_name, pre_name, result_name,
 };
 use std::alloc::Global;
 

@@ -10,8 +10,8 @@ use Rattle.c_syntax.specs.Tree.{an_int, Expr, call, more_exprs, no_exprs, a_name
 use Rattle.c_syntax.specs.Tree as syntax
 use Rattle.c_rules.specs.Checked.{Checked, fine, faulty}
 use Rattle.c_rules.specs.Units.{checked}
-use Rattle.c_meaning.specs.Runs.{Run, run}
-use Rattle.c_meaning.proofs.RunTrials.{the_record, the_call, ended}
+use Rattle.alarm_laws.specs.Runs.{Run, run}
+use Rattle.alarm_laws.proofs.RunTrials.{the_record, the_call, ended}
 use Rattle.null_calls_rules.specs.Instrumented.{instrumented_unit}
 use Rattle.null_calls_rules.specs.IsWithNullCalls.{IsWithNullCalls}
 use Rattle.alarm_laws.specs.MarkedRuns.{marked_run}

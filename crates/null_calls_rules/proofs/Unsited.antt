@@ -14,10 +14,10 @@ use Rattle.c_tree.specs.Tree.{Function, Program}
 use Rattle.c_tree.specs.Layout.{cells}
 use Rattle.c_tree.specs.Functions.{defined}
 use Rattle.c_tree.specs.Operators.{convert, binary}
-use Rattle.c_meaning.specs.Pointers.{callee, truth_value, place, load_place, store_place, member, difference}
-use Rattle.c_meaning.specs.Meaning.{Frame, Loop, World, either, name_in, behind_of, decayed, operated, comparing, moving, updated, with_marks, wants, call_undefined, called, system_call_alone, called_through, tested, eval, eval_each, eval_all, condition, perhaps, initialise, fresh, declared_by, declared_in, leaving, group_with, is_case, is_default, count_groups, or_else, selected, exec, exec_all, exec_from, without}
-use Rattle.c_meaning.specs.Results.{State, with_memory, Go, then_do, answered, remembered, spend, on, returned, on_exit, on_round, out_of_switch}
-use Rattle.c_meaning.specs.Runs.{no_marks, entered, parameters, result_of, run_body, enter, loop, world, beginning, ending, run}
+use Rattle.alarm_laws.specs.Pointers.{callee, truth_value, place, load_place, store_place, member, difference}
+use Rattle.alarm_laws.specs.Meaning.{Frame, Loop, World, either, name_in, behind_of, decayed, operated, comparing, moving, updated, with_marks, wants, call_undefined, called, system_call_alone, called_through, tested, eval, eval_each, eval_all, condition, perhaps, initialise, fresh, declared_by, declared_in, leaving, group_with, is_case, is_default, count_groups, or_else, selected, exec, exec_all, exec_from, without}
+use Rattle.alarm_laws.specs.Results.{State, with_memory, Go, then_do, answered, remembered, spend, on, returned, on_exit, on_round, out_of_switch}
+use Rattle.alarm_laws.specs.Runs.{no_marks, entered, parameters, result_of, run_body, enter, loop, world, beginning, ending, run}
 use Rattle.null_calls_rules.specs.IsWithNullCalls.{IsWithNullCalls}
 use Rattle.null_calls_rules.specs.InstrumentedPrograms.{instrumented_program}
 use Rattle.null_calls_rules.specs.WithoutSites.{unsited, unsited_all, unsited_maybe, unsited_inits, unsited_stmt, unsited_stmts, unsited_groups, unsited_function, without_sites}

@@ -9,8 +9,8 @@ use Rattle.c_tree.specs.Tree.{Exprs, no_exprs, more_exprs, Maybe, absent, there,
 use Rattle.c_tree.specs.Tree.{Stmt, block, empty, evaluate, declare, if_else, while_loop, do_loop, for_loop, switch_on, break_off, continue_on, return_void, return_value, Stmts, no_stmts, more_stmts, Groups, no_groups, more_groups}
 use Rattle.c_tree.specs.Tree.{Function, Program}
 use Rattle.c_tree.specs.Functions.{defined, unsigned_int, called_type}
-use Rattle.c_shapes.specs.Mentions.{Direct, Through}
-use Rattle.c_shapes.specs.CallGraph.{is_marked}
+use Rattle.alarm_laws.specs.Mentions.{Direct, Through}
+use Rattle.alarm_laws.specs.CallGraph.{is_marked}
 use Rattle.null_calls_rules.specs.Temporaries.{is_kept}
 
 -- ## Temporaries

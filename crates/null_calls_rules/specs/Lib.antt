@@ -13,3 +13,5 @@ pub mod SitesLaw
 pub mod SpelledTypes
 pub mod Temporaries
 pub mod WithoutSites
+pub use Rattle.alarm_laws.specs.MarkedRuns
+pub use Rattle.alarm_laws.specs.Monitors

@@ -2,8 +2,8 @@
 use Rattle.std.specs.Prelude.{ℕ, Option, None, Some, if◌then◌else◌}
 use Rattle.c_tree.specs.Tree.{CType, pointer, function, CTypes, Program}
 use Rattle.c_tree.specs.Functions.{value_type}
-use Rattle.c_shapes.specs.Mentions.{Callee, Direct, Through, mentions_of_program}
-use Rattle.c_shapes.specs.CallGraph.{callee_at, is_marked}
+use Rattle.alarm_laws.specs.Mentions.{Callee, Direct, Through, mentions_of_program}
+use Rattle.alarm_laws.specs.CallGraph.{callee_at, is_marked}
 
 -- What a marked call calls: the type of its pointer where it calls through one, and the types of its result and parameters.
 pub record Called : Type 0 where

@@ -2,7 +2,7 @@
 use Rattle.std.specs.Prelude.{◌≡◌, ℕ, List}
 use Rattle.sys_table.specs.declared.sys_result.SysResult.{SysResult}
 use Rattle.c_tree.specs.Tree.{Program}
-use Rattle.c_meaning.specs.Runs.{run}
+use Rattle.alarm_laws.specs.Runs.{run}
 use Rattle.null_calls_rules.specs.IsWithNullCalls.{IsWithNullCalls}
 use Rattle.null_calls_rules.specs.InstrumentedPrograms.{instrumented_program}
 use Rattle.null_calls_rules.specs.WithoutSites.{without_sites}

@@ -24,9 +24,9 @@ use Rattle.c_meaning_laws.specs.FurtherObjects.{IsHidden, IsBeside, Stay, DoesAl
 use Rattle.c_meaning_laws.proofs.Together.{Now}
 use Rattle.c_meaning_laws.proofs.Statements.{AreShown, without_beside, without_stays}
 use Rattle.c_meaning_laws.proofs.FurtherWorlds.{later_shown}
-use Rattle.alarm_laws.specs.MarkedRuns.{null_calls_of}
-use Rattle.alarm_laws.proofs.Lists.{below, not_below, same_number, no_some}
-use Rattle.alarm_laws.proofs.TypedRuns.{null_calls_recorded}
+use Rattle.null_calls_rules.specs.MarkedRuns.{null_calls_of}
+use Rattle.null_calls_rules.proofs.Lists.{below, not_below, same_number, no_some}
+use Rattle.null_calls_rules.proofs.TypedRuns.{null_calls_recorded}
 use Rattle.null_calls_rules.specs.InstrumentedPrograms.{kept_of_stmt, kept_of_stmts, stmts, declared_from, items_of, body_from, instrumented_program}
 use Rattle.null_calls_runs_laws.specs.Pieces.{declaring}
 use Rattle.null_calls_runs_laws.proofs.PieceLemmas.{declarations_declare, shapes_stay}

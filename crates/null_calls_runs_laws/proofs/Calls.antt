@@ -34,10 +34,10 @@ use Rattle.c_meaning_laws.proofs.Keeps.{arguments_kind}
 use Rattle.c_meaning_laws.specs.FurtherObjects.{IsHidden, DoesAlike}
 use Rattle.c_meaning_laws.proofs.Together.{Whenever, Now, alike_on, Does as Alike, undefined_does, alone_does, answered_then as then_alike}
 use Rattle.c_meaning_laws.proofs.Expressions.{defined_at, zip_shown}
-use Rattle.alarm_laws.specs.MarkedRuns.{null_calls_of}
-use Rattle.alarm_laws.proofs.Lists.{is_first}
+use Rattle.null_calls_rules.specs.MarkedRuns.{null_calls_of}
+use Rattle.null_calls_rules.proofs.Lists.{is_first}
 use Rattle.c_shapes.proofs.SitesSaid.{callee_found}
-use Rattle.alarm_laws.proofs.TypedRuns.{null_calls_recorded}
+use Rattle.null_calls_rules.proofs.TypedRuns.{null_calls_recorded}
 use Rattle.null_calls_rules.specs.Temporaries.{is_kept}
 use Rattle.null_calls_rules.specs.InstrumentedPrograms.{keep, kept_value, keep_all, null_call, call_and_post, pre_number, post_number, instrumented_program}
 use Rattle.null_calls_runs_laws.specs.Pieces.{IsKept, IsSet}

@@ -29,8 +29,8 @@ use Rattle.c_meaning_laws.specs.FurtherObjects.{DoesAlike}
 use Rattle.c_meaning_laws.proofs.FurtherSteps.{Sees, test_same, behind_of_same, load_place_same, moving_same, difference_same, comparing_same, operated_same, updated_same}
 use Rattle.c_meaning_laws.proofs.Together.{Shown, sees, store_place_remembers, answered_does, remembered_does, kind_shown, given_shown, place_shown}
 use Rattle.c_meaning_laws.proofs.Expressions.{right_whenever, any_whenever}
-use Rattle.alarm_laws.specs.MarkedRuns.{null_calls_of}
-use Rattle.alarm_laws.proofs.TypedRuns.{null_calls_recorded}
+use Rattle.null_calls_rules.specs.MarkedRuns.{null_calls_of}
+use Rattle.null_calls_rules.proofs.TypedRuns.{null_calls_recorded}
 use Rattle.null_calls_rules.specs.Temporaries.{is_kept}
 use Rattle.null_calls_rules.specs.InstrumentedPrograms.{parameters_where, parameters_behind, of_result, of_through, keep, kept_value, kept_values, keep_all, null_call, call_and_post, pre_number, post_number, marked_type, marked_members, marked_through, kept, kept_of_all, kept_of_members, expr, arguments, members, instrumented_program}
 use Rattle.null_calls_runs_laws.specs.Pieces.{IsKept, IsSet, AreKept}

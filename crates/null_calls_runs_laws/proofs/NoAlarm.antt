@@ -2,9 +2,9 @@
 use Rattle.std.proofs.Common.{sym, subst}
 use Rattle.c_shapes.specs.ProgramLanguages.{Dyck}
 use Rattle.flow_graph_laws.specs.GraphOfProgram.{graph_of_program}
-use Rattle.alarm_laws.specs.Monitors.{IsAcceptedByAll}
-use Rattle.alarm_laws.proofs.MonitorLemmas.{accept_marked_runs}
-use Rattle.alarm_laws.proofs.NoAlarm.{marked_runs_raise_none}
+use Rattle.null_calls_rules.specs.Monitors.{IsAcceptedByAll}
+use Rattle.null_calls_rules.proofs.MonitorLemmas.{accept_marked_runs}
+use Rattle.null_calls_rules.proofs.NoAlarm.{marked_runs_raise_none}
 use Rattle.null_calls_runs_laws.specs.NoFalseAlarm.{InstrumentedRunsAreWords, MonitorsAcceptInstrumentedRuns}
 use Rattle.null_calls_runs_laws.proofs.Worlds.{instrumented_run_marked}
 

@@ -16,7 +16,7 @@ use Rattle.c_shapes.specs.CallGraph.{is_taken, is_typed, functions_of, callees, 
 use Rattle.c_shapes.proofs.SameTypes.{types_tell}
 use Rattle.c_meaning_laws.proofs.Places.{get_left}
 use Rattle.c_meaning_laws.proofs.Steps.{scalars_of}
-use Rattle.alarm_laws.proofs.Lists.{and_left, and_right, from_filter, one_passes}
+use Rattle.null_calls_rules.proofs.Lists.{and_left, and_right, from_filter, one_passes}
 use Rattle.null_calls_rules.specs.Temporaries.{is_kept}
 use Rattle.null_calls_rules.specs.InstrumentedPrograms.{parameters_where, of_result, of_direct, of_through, kept, kept_of_all, kept_of_members, kept_of_maybe, kept_of_inits, kept_of_stmt, kept_of_stmts, kept_of_groups}
 use Rattle.c_shapes.proofs.Members.{and_both}

@@ -22,8 +22,8 @@ use Rattle.c_meaning_laws.proofs.Keeps.{scalar_kind, cell_ends, fresh_ends, firs
 use Rattle.c_meaning_laws.proofs.Standing.{left_part, right_part, stands_empty}
 use Rattle.c_meaning_laws.proofs.Together.{Hidden, beside_changed, stay_changed, told_shown}
 use Rattle.c_meaning_laws.proofs.Statements.{AreShown, shown_both, without_beside, without_stays}
-use Rattle.alarm_laws.specs.MarkedRuns.{null_calls_of}
-use Rattle.alarm_laws.proofs.TypedRuns.{null_calls_recorded}
+use Rattle.null_calls_rules.specs.MarkedRuns.{null_calls_of}
+use Rattle.null_calls_rules.proofs.TypedRuns.{null_calls_recorded}
 use Rattle.null_calls_rules.specs.InstrumentedPrograms.{kept, kept_of_maybe, kept_of_inits, kept_of_stmt, kept_of_stmts, kept_of_groups, expr, maybe, inits, stmt, stmts, groups, instrumented_program}
 use Rattle.null_calls_runs_laws.proofs.PieceLemmas.{shapes_stay}
 use Rattle.null_calls_runs_laws.proofs.Beside.{Does, here, wider, lift, either_does, exit_does, round_does, Here, then_same}

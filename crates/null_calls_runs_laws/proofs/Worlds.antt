@@ -25,9 +25,9 @@ use Rattle.c_meaning_laws.specs.FurtherObjects.{IsBeside, DoesAlike}
 use Rattle.c_meaning_laws.proofs.Together.{Does as Alike, Now, then_does as then_alike, later_does as later_alike, spend_does as spend_alike}
 use Rattle.c_meaning_laws.proofs.Statements.{without_beside, without_stays}
 use Rattle.c_meaning_laws.proofs.FurtherWorlds.{parameters_shown, parameters_beside, parameters_stay, result_does}
-use Rattle.alarm_laws.specs.MarkedRuns.{null_calls_of}
-use Rattle.alarm_laws.proofs.Marking.{marked_runs_differ, erased_marked_runs}
-use Rattle.alarm_laws.proofs.TypedRuns.{null_calls_recorded}
+use Rattle.null_calls_rules.specs.MarkedRuns.{null_calls_of}
+use Rattle.null_calls_rules.proofs.Marking.{marked_runs_differ, erased_marked_runs}
+use Rattle.null_calls_rules.proofs.TypedRuns.{null_calls_recorded}
 use Rattle.null_calls_rules.specs.InstrumentedPrograms.{kept_of_maybe, kept_of_stmt, expr, maybe, stmt, instrumented_function, instrumented_program}
 use Rattle.null_calls_rules.proofs.Unsited.{instrumented_runs_are_one}
 use Rattle.null_calls_runs_laws.proofs.PieceLemmas.{shapes_stay}

@@ -7,7 +7,7 @@ use Rattle.c_tree.specs.Program.{IsProgram}
 use Rattle.c_meaning.specs.NullCalls.{DifferInNullCalls}
 use Rattle.c_meaning.specs.Runs.{run}
 use Rattle.c_meaning.specs.WithoutNullCalls.{MakesNoNullCall}
-use Rattle.alarm_laws.specs.MarkedRuns.{marked_run}
+use Rattle.null_calls_rules.specs.MarkedRuns.{marked_run}
 use Rattle.null_calls_rules.specs.IsWithNullCalls.{IsWithNullCalls}
 use Rattle.null_calls_rules.specs.InstrumentedPrograms.{instrumented_program}
 

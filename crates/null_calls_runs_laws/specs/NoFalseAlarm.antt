@@ -8,7 +8,7 @@ use Rattle.c_shapes.specs.ProgramLanguages.{Dyck}
 use Rattle.c_meaning.specs.Runs.{run}
 use Rattle.c_meaning.specs.WithoutNullCalls.{MakesNoNullCall}
 use Rattle.flow_graph_laws.specs.GraphOfProgram.{graph_of_program}
-use Rattle.alarm_laws.specs.Monitors.{IsAcceptedByAll}
+use Rattle.null_calls_rules.specs.Monitors.{IsAcceptedByAll}
 use Rattle.null_calls_rules.specs.IsWithNullCalls.{IsWithNullCalls}
 
 -- the trace of each of its runs is a word of the program's Dyck language

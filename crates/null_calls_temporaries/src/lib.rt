@@ -12,6 +12,11 @@ mod spelled;
 mod table;
 mod temporaries;
 
+pub use c_syntax_nodes::{
+    and_node, arrow_node, assign_node, binary_node, call_node, cast_node, comma_node, cond_node,
+    copy_expr, copy_ident, copy_type_name, index_node, int_node, member_node, name_node, or_node,
+    post_dec_node, post_inc_node, pre_dec_node, pre_inc_node, unary_node,
+};
 pub use declaring::{declared, declared_alone};
 pub use marked_sites::{Marked, MarkedSites};
 pub use names::{argument_name, designator_name, post_name, pre_name, result_name};

@@ -11,6 +11,7 @@ mod instrumented_texts;
 mod lexical_units;
 mod text_laws;
 
+pub use alarm_laws::{marked_runs_are_runs, monitors_accept_runs, runs_raise_no_alarm};
 pub use instrumented_texts::instrumented_texts_are_accepted;
 pub use lexical_units::instrumented_units_are_lexical;
 pub use null_calls_units_laws::instrumented_texts_run_marked;

@@ -39,7 +39,7 @@ use Rattle.null_calls_statements_laws.proofs.TreeTypes.{ValueTyped}
 use Rattle.null_calls_statements_laws.proofs.TreeTypes.{value_typed as trees_have_types}
 use Rattle.c_rules_laws.proofs.Holding.{Holds, held, holds_map, on_holds, both_hold, all_three_hold, Any, anything, demand_holds, after_part, if_holds, and_left}
 use Rattle.c_rules_laws.proofs.MadeTypes.{result_is}
-use Rattle.alarm_laws.proofs.Places.{get_left}
+use Rattle.null_calls_rules.proofs.Places.{get_left}
 use Rattle.null_calls_units_laws.specs.CallsIn.{calls_in}
 use Rattle.null_calls_units_laws.specs.ClosedTypes.{CalledTypeHas, CalleeHas}
 use Rattle.null_calls_units_laws.specs.WrittenTypes.{Written, IsValueType}

@@ -33,7 +33,7 @@ use Rattle.c_rules_laws.proofs.FileItems.{part_step, definition_step, form_step,
 use Rattle.c_rules_laws.proofs.UnitScopes.{IsTable, scope_right}
 use Rattle.c_rules_laws.proofs.UnitShape.{output_same}
 use Rattle.c_rules_laws.proofs.Definitions.{definition_fine}
-use Rattle.alarm_laws.proofs.Lists.{is_later}
+use Rattle.null_calls_rules.proofs.Lists.{is_later}
 use Rattle.null_calls_units_laws.specs.CallsIn.{calls_in_stmt, calls_in_stmts}
 use Rattle.null_calls_units_laws.specs.AbstractCasts.{StmtNamesNoType, ItemNamesNoType, UnitNamesNoType}
 use Rattle.null_calls_units_laws.specs.WrittenTypes.{Written, AllWritten}

@@ -20,7 +20,7 @@ use Rattle.c_rules_laws.proofs.Leads.{Leads, same_leads, fine_leads, on_leads, d
 use Rattle.c_rules_laws.proofs.Names.{left, right, given_same, unreserved, name_leads}
 use Rattle.c_rules_laws.proofs.Parts.{type_declared_leads}
 use Rattle.null_calls_statements_laws.specs.Tabled.{IsNullCall, AreNullCalls}
-use Rattle.alarm_laws.proofs.Places.{get_left}
+use Rattle.null_calls_rules.proofs.Places.{get_left}
 use Rattle.null_calls_units_laws.specs.FileScopes.{HasNullCalls, FilesBeside, files_beside}
 
 -- ## Lists of names

@@ -7,7 +7,7 @@ use Rattle.c_tree.specs.Tree.{Function, Program}
 use Rattle.c_tree.specs.Program.{IsProgram}
 use Rattle.c_shapes.specs.Mentions.{Callee, Through, Mention, Named, Calls, mentions, mentions_of_all, mentions_of_maybe, mentions_of_inits, mentions_of_stmt, mentions_of_stmts, mentions_of_groups, mentions_of_function, mentions_of_static, mentions_of_program}
 use Rattle.c_shapes.specs.CallGraph.{callee_at}
-use Rattle.alarm_laws.proofs.Lists.{is_later, cases, none_in}
+use Rattle.null_calls_rules.proofs.Lists.{is_later, cases, none_in}
 use Rattle.c_shapes.proofs.SitesSaid.{callee_found}
 use Rattle.null_calls_units_laws.specs.CallsIn.{calls_in, calls_in_all, calls_in_maybe, calls_in_inits, calls_in_stmt, calls_in_stmts, calls_in_groups}
 

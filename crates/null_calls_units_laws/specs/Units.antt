@@ -9,7 +9,7 @@ use Rattle.c_syntax.specs.Tree.{Items}
 use Rattle.c_syntax.specs.Spelling.{SpellsUnit}
 use Rattle.c_rules.specs.Units.{IsTyped}
 use Rattle.c_meaning.specs.Runs.{run}
-use Rattle.alarm_laws.specs.MarkedRuns.{marked_run}
+use Rattle.null_calls_rules.specs.MarkedRuns.{marked_run}
 use Rattle.null_calls_rules.specs.Instrumented.{instrumented_unit}
 use Rattle.null_calls_rules.specs.IsWithNullCalls.{IsWithNullCalls}
 use Rattle.c_rules_laws.specs.Lexical.{IsUnitLexical}

@@ -3,7 +3,7 @@ ghost use Rattle.c_tree.specs.Layout.{Structs};
 ghost use Rattle.c_tree.specs.View.{ctype_of, expr_of, program_of};
 ghost use Rattle.c_values.specs.Seen.{seen};
 ghost use Rattle.c_meaning.specs.Meaning.{name_in};
-ghost use Rattle.ref_machine_steps.specs.Faults.{told};
+ghost use Rattle.ref_machine_frames.specs.Faults.{told};
 ghost use Rattle.ref_machine_frames.specs.Held.{eval, whole};
 ghost use Rattle.ref_machine_frames.specs.Cells.{AreCells};
 ghost use Rattle.ref_machine_frames.specs.Frames.{place_of};
@@ -16,9 +16,9 @@ use c_tree::{CType, ObjectName, Program, TExpr, TExprKind, Value};
 use c_values::Memory;
 use dm_base::OutOfMemory;
 use ref_machine_frames::{
-    Callee, Choice, Frame, Here, Now, Pair, Step, Storing, ValueFrame, cells_in, given, wait,
+    Callee, Choice, Fault, Frame, Here, Now, Pair, Step, Storing, ValueFrame, cells_in, given,
+    place, wait,
 };
-use ref_machine_steps::{Fault, place};
 use std::alloc::Global;
 
 // The name of a variable: a static one, or one of the activation that runs.

@@ -8,8 +8,8 @@ ghost use Rattle.c_meaning.specs.Meaning.{wants};
 ghost use Rattle.c_meaning.specs.Results.{then_do};
 ghost use Rattle.c_meaning.specs.SystemCalls.{Request as Asked, exit_with};
 ghost use Rattle.c_values.specs.Answers.{Answer};
-ghost use Rattle.ref_machine_steps.specs.Asking.{IsRefusal};
-ghost use Rattle.ref_machine_steps.specs.Requests.{asked_by};
+ghost use Rattle.ref_machine_frames.specs.Asking.{IsRefusal};
+ghost use Rattle.ref_machine_frames.specs.Requests.{asked_by};
 ghost use Rattle.ref_machine_frames.specs.Held.{call_undefined, called, called_through, eval_all, system_call, system_call_alone};
 ghost use Rattle.ref_machine_expressions.specs.Asking.{asking, site_of, IsStop};
 ghost use Rattle.ref_machine_frames.specs.Frames.{made, place_of};
@@ -20,8 +20,10 @@ ghost use Rattle.ref_machine_frames.specs.Work.{of_all, of_exprs, of_now, work};
 use c_tree::{CType, Program, TExpr, Value};
 use c_values::Memory;
 use dm_base::{Event, OutOfMemory, SysName};
-use ref_machine_frames::{After, Callee, Frame, Now, ValueFrame, stopped, wait};
-use ref_machine_steps::{Request, StepError, callee, exit_status, requested};
+use ref_machine_frames::{
+    After, Callee, Frame, Now, Request, StepError, ValueFrame, callee, exit_status, requested,
+    stopped, wait,
+};
 use std::alloc::Global;
 
 // The number of `_exit`.

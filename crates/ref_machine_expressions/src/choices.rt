@@ -11,8 +11,7 @@ ghost use Rattle.ref_machine_frames.specs.Work.{of_all, of_choice, work};
 use c_tree::Value;
 use c_values::Memory;
 use dm_base::OutOfMemory;
-use ref_machine_frames::{Choice, Frame, Now, ValueFrame, stopped, wait};
-use ref_machine_steps::{test, truth_value};
+use ref_machine_frames::{Choice, Frame, Now, ValueFrame, stopped, test, truth_value, wait};
 
 // What comes of an operand that was tested.
 fn chosen<'p>(

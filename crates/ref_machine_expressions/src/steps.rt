@@ -5,17 +5,16 @@ ghost use Rattle.c_values.specs.Answers.{and_then};
 ghost use Rattle.c_values.specs.Seen.{seen};
 ghost use Rattle.c_meaning.specs.Meaning.{moving};
 ghost use Rattle.c_meaning.specs.Pointers.{to_first};
-ghost use Rattle.ref_machine_steps.specs.Faults.{told};
+ghost use Rattle.ref_machine_frames.specs.Faults.{told};
 ghost use Rattle.ref_machine_frames.specs.Cells.{AreCells, few_cells};
 ghost use Rattle.ref_machine_frames.specs.Frames.{one_step, two_step};
 ghost use Rattle.ref_machine_frames.specs.Held.{behind_of, decayed, member_of};
 
 use c_tree::{CType, Value};
 use c_values::Memory;
-use ref_machine_frames::{Pair, Step, cells_in};
-use ref_machine_steps::{
-    Fault, behind, comparing, computed, convert_value, difference, function_behind, load_place,
-    member, moved, operated, to_first,
+use ref_machine_frames::{
+    Fault, Pair, Step, behind, cells_in, comparing, computed, convert_value, difference,
+    function_behind, load_place, member, moved, operated, to_first,
 };
 
 // What is behind a pointer to this type.

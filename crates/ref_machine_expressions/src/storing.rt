@@ -8,7 +8,7 @@ ghost use Rattle.c_values.specs.Answers.{and_then};
 ghost use Rattle.c_meaning.specs.Meaning.{computing, either, is_subtraction, updated};
 ghost use Rattle.c_meaning.specs.Pointers.{load_place, store_place};
 ghost use Rattle.c_meaning.specs.Results.{answered, remembered, then_do};
-ghost use Rattle.ref_machine_steps.specs.Faults.{told};
+ghost use Rattle.ref_machine_frames.specs.Faults.{told};
 ghost use Rattle.ref_machine_frames.specs.Held.{eval};
 ghost use Rattle.ref_machine_frames.specs.Frames.{place_of, storing};
 ghost use Rattle.ref_machine_frames.specs.Parts.{Gives};
@@ -19,8 +19,10 @@ ghost use Rattle.ref_machine_frames.specs.Work.{of_all, of_expr, of_storing, wor
 use c_tree::{BinOp, CType, IntType, TExpr, Value};
 use c_values::Memory;
 use dm_base::OutOfMemory;
-use ref_machine_frames::{Frame, Now, Storing, ValueFrame, stopped, wait};
-use ref_machine_steps::{Fault, computed, convert_value, load_place, moved, store_place};
+use ref_machine_frames::{
+    Fault, Frame, Now, Storing, ValueFrame, computed, convert_value, load_place, moved, stopped,
+    store_place, wait,
+};
 
 // The integer promotions (6.3.1.1 paragraph 2).
 fn promoted(t: IntType) -> IntType

@@ -20,8 +20,9 @@ use crate::variables::name_here;
 use c_tree::{TInit, TStmt, Value};
 use c_values::Memory;
 use dm_base::OutOfMemory;
-use ref_machine_frames::{Frame, Here, Left, Now, StatementFrame, Valued, stopped};
-use ref_machine_steps::{place, store_place, test};
+use ref_machine_frames::{
+    Frame, Here, Left, Now, StatementFrame, Valued, place, stopped, store_place, test,
+};
 
 // A cell of a variable gets the value, and then the later ones theirs.
 fn initialised<'p>(

@@ -13,8 +13,8 @@ use Rattle.tool_monitors.specs.declared.hearing.Heard.{Heard}
 use Rattle.tool_monitors.specs.Heard.{AreNextNames}
 use Rattle.tool_monitors.specs.Judged.{status_of, status_of_all, verdict_lines, worse}
 use Rattle.tool_monitors.proofs.Judgements.{worse_alone}
-use Rattle.ref_machine.specs.Futures.{event_first}
-use Rattle.ref_machine.specs.WholeRuns.{joined}
+use Rattle.tool_steps.specs.Futures.{event_first}
+use Rattle.tool_steps.specs.WholeRuns.{joined}
 use Rattle.report.specs.Precision.{IsNext, next_text}
 use Rattle.report.specs.VerdictLine.{verdict_text, event_at}
 use Rattle.sys_table.specs.Table.{IsRecorded}

@@ -26,8 +26,8 @@ use Rattle.flow_model.specs.Graph.{Graph}
 use Rattle.flow_graph_laws.specs.GraphOfProgram.{graph_of_program}
 use Rattle.headline.specs.Lexical.{InstrumentedUnitsAreLexical}
 use Rattle.null_calls_rules.specs.Instrumented.{instrumented_unit}
-use Rattle.ref_machine.specs.declared.whole.Run.{Run as Found}
-use Rattle.ref_machine.specs.WholeRuns.{run_of}
+use Rattle.tool_steps.specs.Run.{Run as Found}
+use Rattle.tool_steps.specs.WholeRuns.{run_of}
 use Rattle.tool_steps.specs.Results.{run_text}
 use Rattle.tool_steps.specs.Source.{Source}
 use Rattle.tool_steps.specs.Sources.{IsSourceOf}

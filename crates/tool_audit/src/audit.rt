@@ -5,7 +5,7 @@ ghost use Rattle.tool_audit.specs.Stopping.{StopsAuditing};
 ghost use Rattle.c_tree.specs.View.{program_of};
 ghost use Rattle.dm_base.specs.declared.mode.Mode.TheVariants.{Plain};
 ghost use Rattle.flow_graph_laws.specs.GraphOfProgram.{graph_of_program};
-ghost use Rattle.ref_machine.specs.WholeRuns.{run_of};
+ghost use Rattle.tool_steps.specs.WholeRuns.{run_of};
 ghost use Rattle.tool_steps.specs.Sources.{IsSourceOf};
 ghost use Rattle.tool_frame.specs.Stop.{Stops};
 
@@ -16,12 +16,11 @@ use c_meaning_laws::values_have_kinds;
 use dm_base::{Mode, OutOfMemory, Status, TraceEnd};
 use dm_io::Store;
 use headline::texts_raise_no_alarm;
-use ref_machine::Run;
 use std::alloc::Global;
 use sys_table::SysResult;
 use tool_frame::{Finished, Stop};
 use tool_monitors::{AllMonitors, Listener};
-use tool_steps::{Source, model_of, results_in, source_in};
+use tool_steps::{Run, Source, model_of, results_in, source_in};
 use trace_file::write_trace;
 
 // One text after another.

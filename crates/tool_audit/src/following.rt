@@ -1,16 +1,16 @@
 ghost use Rattle.std.specs.Prelude.{◌≡◌, ◌≤◌, ◌<◌, ◌^◌, IfOk};
 ghost use Rattle.c_meaning.specs.Runs.{run};
 ghost use Rattle.c_tree.specs.View.{program_of};
-ghost use Rattle.ref_machine.specs.WholeRuns.{run_of};
+ghost use Rattle.tool_steps.specs.WholeRuns.{run_of};
 
 use c_meaning_laws::values_have_kinds;
 use c_tree::Program;
 use dm_base::OutOfMemory;
 use flow_model::Model;
-use ref_machine::{Machine, Next, Run, next_event};
 use std::alloc::Global;
 use sys_table::SysResult;
 use tool_monitors::Listener;
+use tool_steps::{Machine, Next, Run, next_event};
 
 /// A run, and the monitors that heard it.
 #[derive(Drop)]

@@ -15,7 +15,7 @@ use Rattle.flow_model.specs.declared.which.Which.{Which}
 use Rattle.flow_model.specs.declared.which.Which.TheVariants.{Dyck}
 use Rattle.headline.specs.Headline.{IsWithinBound}
 use Rattle.model_file.specs.Refusal.{IsModel}
-use Rattle.null_calls_texts_laws.specs.Instrumented.{instrumented_text}
+use Rattle.headline.specs.Instrumented.{instrumented_text}
 use Rattle.tool_fleet.specs.declared.reports.ProcessReport.{ProcessReport}
 use Rattle.tool_fleet.specs.Fleet.{IsReportOf}
 

@@ -1,8 +1,8 @@
 -- A text is accepted as one program, or it is refused.
 use Rattle.std.proofs.Common.{◌≡◌, ℕ, List, [], Err, refl, sym, ◌∙◌, subst}
 use Rattle.dm_base.specs.declared.mode.Mode.{Mode}
-use Rattle.c_check_values.specs.declared.error.CheckError.{CheckError}
-use Rattle.c_check_values.specs.declared.error.CheckError.TheVariants as checks
+use Rattle.c_check.specs.CheckError.{CheckError}
+use Rattle.c_check.specs.CheckError.TheVariants as checks
 use Rattle.c_check.specs.Refused.{IsRefused}
 use Rattle.c_lexer.specs.declared.error.LexError.{LexError}
 use Rattle.c_lexer.specs.declared.error.LexError.TheVariants as lexes

@@ -1,6 +1,6 @@
 -- For private contracts and proofs alone: the errors of the lexer, the parser and the checker as errors of a text.
-use Rattle.c_check_values.specs.declared.error.CheckError.{CheckError}
-use Rattle.c_check_values.specs.declared.error.CheckError.TheVariants as checks
+use Rattle.c_check.specs.CheckError.{CheckError}
+use Rattle.c_check.specs.CheckError.TheVariants as checks
 use Rattle.c_lexer.specs.declared.error.LexError.{LexError}
 use Rattle.c_lexer.specs.declared.error.LexError.TheVariants as lexes
 use Rattle.c_parser.specs.declared.error.ParseError.{ParseError}

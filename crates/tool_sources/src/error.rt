@@ -1,7 +1,7 @@
 ghost use Rattle.std.specs.Prelude.{◌≡◌};
 ghost use Rattle.tool_sources.specs.Errors.{of_lexer, of_parser, of_checker};
 
-use c_check_values::CheckError;
+use c_check::CheckError;
 use c_lexer::LexError;
 use c_parser::ParseError;
 

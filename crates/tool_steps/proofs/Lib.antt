@@ -3,3 +3,4 @@ pub mod RecordedRuns
 pub mod ResultsFiles
 pub use Rattle.tool_sources.proofs.SourceLemmas
 pub mod ResultsRefused
+pub use Rattle.ref_machine.proofs.Noting

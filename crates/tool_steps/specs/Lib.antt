@@ -4,3 +4,7 @@ pub mod Results
 pub mod ResultsStops
 pub use Rattle.tool_sources.specs.Sources
 pub use Rattle.tool_sources.specs.declared.source.Source
+pub use Rattle.ref_machine.specs.Futures
+pub use Rattle.ref_machine.specs.WholeRuns
+pub use Rattle.ref_machine.specs.declared.next.Next
+pub use Rattle.ref_machine.specs.declared.whole.Run

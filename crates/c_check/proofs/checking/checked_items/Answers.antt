@@ -4,7 +4,7 @@ use Rattle.c_rules.specs.Codes.{C9}
 use Rattle.c_rules.specs.Items.{items}
 use Rattle.c_rules.specs.Scopes.{nothing_before}
 use Rattle.c_rules.specs.Units.{IsTyped, checked, env_before, few_names, has_main, program_of as typed_program}
-use Rattle.c_check_scopes.specs.View.{before_of}
+use Rattle.c_check_values.specs.View.{before_of}
 use Rattle.c_check_values.proofs.Parts.{raised}
 use Rattle.c_syntax.specs.UnitView.{items_of}
 use Rattle.c_tree.specs.Program.{IsProgram}

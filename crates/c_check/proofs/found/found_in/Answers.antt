@@ -6,7 +6,7 @@ use Rattle.c_rules.specs.Checked.{Checked, Met, faults, on}
 use Rattle.c_rules.specs.Items.{Output, items}
 use Rattle.c_rules.specs.Scopes.{nothing_before}
 use Rattle.c_rules.specs.Units.{env_before, few_names}
-use Rattle.c_check_scopes.specs.View.{before_of, env_of}
+use Rattle.c_check_values.specs.View.{before_of, env_of}
 use Rattle.c_syntax.specs.UnitView.{items_of}
 use Rattle.c_check.proofs.found.found_in.Goals as goal
 

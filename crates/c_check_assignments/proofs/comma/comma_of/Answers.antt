@@ -1,5 +1,5 @@
 use Rattle.std.proofs.Common.{rules, ◌≡◌, map, IfOk, subst}
-use Rattle.c_check_values.specs.View.{typed_expression_of}
+use Rattle.c_check_values.specs.TypedExpressionView.{typed_expression_of}
 use Rattle.c_check_assignments.proofs.CommaLemmas.{comma_made}
 use Rattle.c_check_assignments.proofs.comma.comma_of.Goals as goal
 

@@ -1,5 +1,5 @@
 use Rattle.std.proofs.Common.{◌≡◌, map}
-use Rattle.c_check_values.specs.View.{typed_expression_of}
+use Rattle.c_check_values.specs.TypedExpressionView.{typed_expression_of}
 use Rattle.c_rules.specs.Assignments.{last_type, trees_of}
 use Rattle.c_tree.specs.Tree.{void}
 use Rattle.c_tree.specs.View.{ctype_of, exprs_of}

@@ -1,6 +1,6 @@
 use Rattle.std.proofs.Common.{◌<◌, arith}
 use Rattle.c_rules.specs.Scopes.{layout_of}
-use Rattle.c_check_scopes.specs.View.{env_of}
+use Rattle.c_check_values.specs.View.{env_of}
 use Rattle.c_tree.specs.Layout.{cells}
 use Rattle.c_tree.specs.View.{ctype_of}
 use Rattle.c_check_assignments.proofs.SizeLemmas.{complete_and_many}

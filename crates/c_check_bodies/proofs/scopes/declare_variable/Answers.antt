@@ -1,7 +1,7 @@
 use Rattle.c_check_bodies.proofs.ScopeLemmas.{declared_one}
 use Rattle.c_check_bodies.proofs.scopes.declare_variable.Goals as goal
-use Rattle.c_check_scopes.specs.Bound.{bound}
-use Rattle.c_check_scopes.specs.declared.meaning.Meaning.TheVariants.{Local}
+use Rattle.c_check_counts.specs.Bound.{bound}
+use Rattle.c_check_counts.specs.Meaning.TheVariants.{Local}
 
 pub returns-clause-kept : goal.returns-clause-kept
 returns-clause-kept c =

@@ -2,7 +2,7 @@ use Rattle.std.proofs.Common.{◌≡◌, ◌+◌, [], ◌∷◌, true, false, ru
 use Rattle.std.proofs.lemmas.Int.{to_z-of_z}
 use Rattle.c_check_counts.proofs.Rows.{type_name_is}
 use Rattle.c_check_values.specs.Agreement.{AgreesWith, Names}
-use Rattle.c_check_values.specs.View.{typed_expression_of}
+use Rattle.c_check_values.specs.TypedExpressionView.{typed_expression_of}
 use Rattle.c_check_values.proofs.Parts.{raised, names_on, names_first, names_second}
 use Rattle.c_check_primary.specs.CalleeView.{callee_of}
 use Rattle.c_rules.specs.Assignments.{assignable, assignment_by, comma_of, step}

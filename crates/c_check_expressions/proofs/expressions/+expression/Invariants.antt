@@ -1,5 +1,5 @@
 use Rattle.std.proofs.Common.{◌≡◌, drop, map}
-use Rattle.c_check_values.specs.View.{typed_expression_of}
+use Rattle.c_check_values.specs.TypedExpressionView.{typed_expression_of}
 use Rattle.c_rules.specs.Counts.{calls_of_all, strings_of_all, past}
 use Rattle.c_rules.specs.Expressions.{trees, parameters}
 use Rattle.c_check_scopes.specs.View.{before_of, env_of}

@@ -2,7 +2,7 @@ use Rattle.c_check_initialisers.proofs.SlotLemmas.{copy_more}
 use Rattle.c_check_initialisers.proofs.slots.add_copies.Goals as goal
 use Rattle.c_check_initialisers.specs.CellView.{typed_expressions_of}
 use Rattle.c_rules.specs.Scopes.{layout_of}
-use Rattle.c_check_scopes.specs.View.{env_of}
+use Rattle.c_check_values.specs.View.{env_of}
 use Rattle.c_tree.specs.View.{ctype_of}
 
 pub loop-preserved : goal.loop-preserved

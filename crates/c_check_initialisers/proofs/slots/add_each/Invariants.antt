@@ -3,7 +3,7 @@ use Rattle.c_check_initialisers.proofs.slots.add_each.Given as goal
 use Rattle.c_check_initialisers.specs.CellView.{typed_expressions_of}
 use Rattle.c_rules.specs.Initialisers.{typed_zero}
 use Rattle.c_rules.specs.Scopes.{layout_of}
-use Rattle.c_check_scopes.specs.View.{env_of}
+use Rattle.c_check_values.specs.View.{env_of}
 use Rattle.c_tree.specs.Layout.{flat_all}
 use Rattle.c_tree.specs.View.{ctypes_of}
 

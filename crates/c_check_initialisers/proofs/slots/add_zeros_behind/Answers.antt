@@ -3,7 +3,7 @@ use Rattle.c_check_initialisers.proofs.SlotLemmas.{each_behind}
 use Rattle.c_check_initialisers.proofs.slots.add_zeros_behind.Goals as goal
 use Rattle.c_check_initialisers.specs.CellView.{typed_expressions_of, slots_of}
 use Rattle.c_rules.specs.Scopes.{layout_of}
-use Rattle.c_check_scopes.specs.View.{env_of}
+use Rattle.c_check_values.specs.View.{env_of}
 
 pub returns-in-Some : goal.returns-in-Some
 returns-in-Some c =

@@ -1,7 +1,7 @@
 use Rattle.c_check_initialisers.proofs.SlotLemmas.{members_slots}
 use Rattle.c_check_initialisers.proofs.slots.members_of_struct.Goals as goal
 use Rattle.c_rules.specs.Scopes.{struct_of}
-use Rattle.c_check_scopes.specs.View.{env_of}
+use Rattle.c_check_values.specs.View.{env_of}
 
 pub returns-in_ok-types-in-Some : goal.returns-in_ok-types-in-Some
 returns-in_ok-types-in-Some c =

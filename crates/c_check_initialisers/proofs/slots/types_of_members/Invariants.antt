@@ -1,6 +1,6 @@
 use Rattle.std.proofs.Common.{◌≡◌, take}
 use Rattle.c_check_initialisers.proofs.slots.types_of_members.Given as goal
-use Rattle.c_check_scopes.specs.Shown.{members_types}
+use Rattle.c_check_values.specs.Shown.{members_types}
 use Rattle.c_tree.specs.View.{ctypes_of}
 
 abbrev pub invariant-loop-member : goal.invariant-loop-member

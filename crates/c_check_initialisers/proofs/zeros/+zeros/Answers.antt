@@ -3,7 +3,7 @@ use Rattle.c_check_initialisers.proofs.ZeroLemmas.{added_as, copies_more, copies
 use Rattle.c_check_initialisers.proofs.zeros.+zeros.Goals as goal
 use Rattle.c_check_initialisers.specs.CellView.{typed_expressions_of}
 use Rattle.c_rules.specs.Scopes.{layout_of}
-use Rattle.c_check_scopes.specs.View.{env_of}
+use Rattle.c_check_values.specs.View.{env_of}
 use Rattle.c_tree.specs.Tree.{array}
 use Rattle.c_tree.specs.View.{ctype_of}
 

@@ -1,10 +1,10 @@
 use Rattle.std.proofs.Common.{◌≡◌, ◌+◌, ◌*◌, ◌++◌, map, take}
 use Rattle.c_check_initialisers.specs.CellView.{typed_expressions_of}
 use Rattle.c_check_initialisers.proofs.ZeroLemmas.{rank, ranks}
-use Rattle.c_check_scopes.specs.Shown.{members_types}
+use Rattle.c_check_values.specs.Shown.{members_types}
 use Rattle.c_rules.specs.Initialisers.{typed_zero}
 use Rattle.c_rules.specs.Scopes.{layout_of}
-use Rattle.c_check_scopes.specs.View.{env_of}
+use Rattle.c_check_values.specs.View.{env_of}
 use Rattle.c_tree.specs.Layout.{flat_with, flat_all_with, layout, repeat}
 use Rattle.c_tree.specs.Tree.{struct}
 use Rattle.c_tree.specs.View.{ctype_of}

@@ -1,6 +1,6 @@
 use Rattle.std.proofs.Common.{◌≡◌, ap, sym, ◌∙◌}
 use Rattle.std.specs.Prelude.{false}
-use Rattle.c_check_counts.specs.Numbered.{next_of}
+use Rattle.c_check_units.specs.Numbered.{next_of}
 use Rattle.c_check_values.proofs.Parts.{raised}
 use Rattle.c_check_items.proofs.Moves.{same_within, same_named}
 use Rattle.c_check_items.proofs.Within.{body_within, few_parameters}

@@ -1,5 +1,5 @@
 use Rattle.std.proofs.Common.{◌≡◌, true, false, sym, ◌∙◌, arith, rules}
-use Rattle.c_check_values.specs.View.{typed_expression_of}
+use Rattle.c_check_values.specs.TypedExpressionView.{typed_expression_of}
 use Rattle.c_rules.specs.Conversions.{fits}
 use Rattle.c_tree.specs.View.{ctype_of}
 use Rattle.c_check_primary.proofs.CallLemmas.{fit_at, fit_end, fit_false, fit_none, fit_true}

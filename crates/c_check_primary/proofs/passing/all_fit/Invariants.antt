@@ -1,5 +1,5 @@
 use Rattle.std.proofs.Common.{◌≡◌, drop, map}
-use Rattle.c_check_values.specs.View.{typed_expression_of}
+use Rattle.c_check_values.specs.TypedExpressionView.{typed_expression_of}
 use Rattle.c_rules.specs.PostfixExpressions.{all_fit}
 use Rattle.c_tree.specs.View.{types_of}
 use Rattle.c_check_primary.proofs.passing.all_fit.Given as goal

@@ -1,5 +1,5 @@
 use Rattle.std.proofs.Common.{◌≡◌, ◌+◌, ◌≤◌, map, length}
-use Rattle.c_check_values.specs.View.{typed_expression_of}
+use Rattle.c_check_values.specs.TypedExpressionView.{typed_expression_of}
 use Rattle.c_rules.specs.PostfixExpressions.{passed}
 use Rattle.c_tree.specs.View.{types_of, exprs_of}
 use Rattle.c_check_primary.proofs.passing.passed.Given as goal

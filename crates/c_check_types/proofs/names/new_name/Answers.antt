@@ -3,7 +3,7 @@ use Rattle.c_check_values.proofs.Parts.{raised, names_first}
 use Rattle.c_rules.specs.Checked.{fine, demand, met}
 use Rattle.c_rules.specs.Declarators.{free_name, new_name}
 use Rattle.c_rules.specs.Scopes.{declared_here}
-use Rattle.c_check_scopes.specs.View.{env_of}
+use Rattle.c_check_values.specs.View.{env_of}
 use Rattle.c_syntax.specs.View.{ident_of}
 use Rattle.c_check_types.proofs.names.new_name.Goals as goal
 

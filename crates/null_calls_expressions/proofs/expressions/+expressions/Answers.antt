@@ -5,7 +5,7 @@ use Rattle.c_syntax.specs.Tree.{cast, member, dot, arrow, postfix, post_incremen
 use Rattle.c_syntax.specs.View.{ident_of, expr_at, expr_of, type_name_of}
 use Rattle.c_syntax.specs.Writes.{exprs_of}
 use Rattle.c_rules.specs.Counts.{calls, calls_of_all}
-use Rattle.c_syntax_nodes.proofs.CopyLemmas.{made_as}
+use Rattle.null_calls_temporaries.proofs.CopyLemmas.{made_as}
 use Rattle.null_calls_temporaries.specs.Sited.{sited}
 use Rattle.null_calls_rules.specs.InstrumentedExpressions as marks
 use Rattle.null_calls_temporaries.specs.Kept.{temporaries_of}

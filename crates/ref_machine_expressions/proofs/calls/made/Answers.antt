@@ -3,7 +3,7 @@ use Rattle.c_tree.specs.View.{program_of}
 use Rattle.c_values.specs.Seen.{seen}
 use Rattle.c_meaning.specs.Pointers.{callee}
 use Rattle.c_meaning.specs.Results.{with_memory, then_do}
-use Rattle.ref_machine_steps.specs.Faults.{number_of}
+use Rattle.ref_machine_frames.specs.Faults.{number_of}
 use Rattle.ref_machine_frames.specs.Held.{called_through}
 use Rattle.ref_machine_frames.specs.Frames.{after_value, made}
 use Rattle.ref_machine_expressions.proofs.Following.{goes_on_with, stops_with}

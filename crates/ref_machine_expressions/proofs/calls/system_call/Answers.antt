@@ -2,7 +2,7 @@ use Rattle.std.proofs.Common.{ap, sym, ◌∙◌, arith}
 use Rattle.c_values.specs.Seen.{seen}
 use Rattle.c_meaning.specs.Results.{with_memory, then_do}
 use Rattle.c_meaning.specs.SystemCalls.{request}
-use Rattle.ref_machine_steps.specs.Requests.{asked_by}
+use Rattle.ref_machine_frames.specs.Requests.{asked_by}
 use Rattle.ref_machine_frames.specs.Frames.{after_value}
 use Rattle.ref_machine_expressions.specs.Asking.{asking}
 use Rattle.ref_machine_expressions.proofs.Following.{goes_on_with, few_values, many_values}

@@ -1,7 +1,7 @@
 use Rattle.c_values.specs.Seen.{seen}
 use Rattle.c_meaning.specs.Pointers.{test}
 use Rattle.c_meaning.specs.Results.{with_memory}
-use Rattle.ref_machine_steps.specs.Faults.{number_of}
+use Rattle.ref_machine_frames.specs.Faults.{number_of}
 use Rattle.ref_machine_frames.specs.Frames.{place_of, stack, after_value, chosen}
 use Rattle.ref_machine_expressions.proofs.Following.{goes_on_with, stops_with}
 use Rattle.ref_machine_expressions.proofs.choices.choosing.Goals as goal

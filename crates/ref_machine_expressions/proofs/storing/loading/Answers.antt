@@ -3,7 +3,7 @@ use Rattle.c_tree.specs.View.{ctype_of, expr_of}
 use Rattle.c_values.specs.Seen.{seen}
 use Rattle.c_meaning.specs.Pointers.{load_place}
 use Rattle.c_meaning.specs.Results.{with_memory, then_do}
-use Rattle.ref_machine_steps.specs.Faults.{number_of}
+use Rattle.ref_machine_frames.specs.Faults.{number_of}
 use Rattle.ref_machine_frames.specs.Held.{eval}
 use Rattle.ref_machine_frames.specs.Frames.{place_of, stack, after_value}
 use Rattle.ref_machine_expressions.specs.Renewing.{renewing}

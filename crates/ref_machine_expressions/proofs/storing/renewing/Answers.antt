@@ -3,7 +3,7 @@ use Rattle.c_values.specs.Seen.{seen}
 use Rattle.c_meaning.specs.Meaning.{either, updated}
 use Rattle.c_meaning.specs.Pointers.{store_place}
 use Rattle.c_meaning.specs.Results.{with_memory, remembered}
-use Rattle.ref_machine_steps.specs.Faults.{number_of}
+use Rattle.ref_machine_frames.specs.Faults.{number_of}
 use Rattle.ref_machine_frames.specs.Frames.{place_of, stack, after_value}
 use Rattle.ref_machine_expressions.proofs.Following.{goes_on_with, stops_with}
 use Rattle.ref_machine_expressions.proofs.storing.renewing.Goals as goal

@@ -1,7 +1,7 @@
 use Rattle.c_values.specs.Seen.{seen}
 use Rattle.c_meaning.specs.Pointers.{store_place}
 use Rattle.c_meaning.specs.Results.{with_memory}
-use Rattle.ref_machine_steps.specs.Faults.{number_of}
+use Rattle.ref_machine_frames.specs.Faults.{number_of}
 use Rattle.ref_machine_frames.specs.Frames.{place_of, stack, after_value}
 use Rattle.ref_machine_expressions.proofs.Following.{stored_on, not_stored}
 use Rattle.ref_machine_expressions.proofs.storing.stored.Goals as goal

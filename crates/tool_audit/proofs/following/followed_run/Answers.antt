@@ -2,10 +2,10 @@ use Rattle.std.proofs.Common.{drop, ◌∙◌, ap, subst}
 use Rattle.std.proofs.lemmas.List.Elements.{All-nil}
 use Rattle.c_tree.specs.View.{program_of}
 use Rattle.c_meaning.specs.Runs.{Run, run, no_marks}
-use Rattle.ref_machine.specs.declared.next.Next.{Next}
-use Rattle.ref_machine.specs.Futures.{future}
-use Rattle.ref_machine.specs.WholeRuns.{Happens, joined}
-use Rattle.ref_machine.proofs.Noting.{end_told, event_on, fewer_to_come}
+use Rattle.tool_steps.specs.Next.{Next}
+use Rattle.tool_steps.specs.Futures.{future}
+use Rattle.tool_steps.specs.WholeRuns.{Happens, joined}
+use Rattle.tool_steps.proofs.Noting.{end_told, event_on, fewer_to_come}
 use Rattle.sys_table.specs.Table.{IsRecorded}
 use Rattle.tool_audit.proofs.FollowLemmas.{next_recorded}
 use Rattle.tool_audit.proofs.following.followed_run.Goals as goal

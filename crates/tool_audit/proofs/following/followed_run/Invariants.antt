@@ -1,8 +1,8 @@
 use Rattle.std.proofs.Common.{◌≡◌, drop, length}
 use Rattle.c_tree.specs.View.{program_of}
 use Rattle.c_meaning.specs.Runs.{run}
-use Rattle.ref_machine.specs.Futures.{future, records_taken}
-use Rattle.ref_machine.specs.WholeRuns.{joined}
+use Rattle.tool_steps.specs.Futures.{future, records_taken}
+use Rattle.tool_steps.specs.WholeRuns.{joined}
 use Rattle.tool_audit.proofs.following.followed_run.Given as goal
 
 -- the events so far begin the run, and were heard
