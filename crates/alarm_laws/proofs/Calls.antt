@@ -6,9 +6,9 @@ use Rattle.dm_base.specs.declared.event.Arg.TheVariants as args
 use Rattle.dm_base.specs.declared.event.Event.{Event}
 use Rattle.dm_base.specs.declared.event.Event.TheVariants.{Sys, Pre, Post}
 use Rattle.dm_base.specs.Fits.{FitArguments}
-use Rattle.sys_table.specs.declared.kinds.ArgKind.{ArgKind}
-use Rattle.sys_table.specs.declared.sys_result.SysResult.{SysResult}
-use Rattle.sys_table.specs.Table.{recorded_of}
+use Rattle.flow_graph_laws.specs.ArgKind.{ArgKind}
+use Rattle.flow_graph_laws.specs.SysResult.{SysResult}
+use Rattle.flow_graph_laws.specs.Table.{recorded_of}
 use Rattle.c_tree.specs.declared.value.Value.{Value}
 use Rattle.c_tree.specs.declared.value.Value.TheVariants.{Indeterminate, Int, Uint, Char, Uchar, Null, Func, At}
 use Rattle.c_tree.specs.Tree.{CType, pointer, function, CTypes, Exprs, Function, Program}
@@ -29,7 +29,7 @@ use Rattle.c_meaning.specs.Meaning.{Marks, World, with_marks, called, call_undef
 use Rattle.c_meaning.specs.Pointers.{callee}
 use Rattle.c_meaning.specs.Results.{State, Result, Go, Stop, after, then_do, answered, remembered}
 use Rattle.c_meaning.specs.SystemCalls.{Request, request, filled_where, result_value, does_answer, with_records, take_record, exit_call, exit_with, system_call}
-use Rattle.sys_table.specs.Table.{result_of}
+use Rattle.flow_graph_laws.specs.Table.{result_of}
 use Rattle.alarm_laws.proofs.Lists.{is_first, below, not_below, same_number, if_has, in_map, none_passes, one_passes}
 use Rattle.c_shapes.proofs.SitesSaid.{callee_found}
 use Rattle.alarm_laws.proofs.Silent.{IsSilent, whole_quiet, front_quiet, silent_body, system_reaches}

@@ -8,10 +8,10 @@ use Rattle.std.proofs.lemmas.Int.{ints, int_wrap_fits}
 use Rattle.dm_base.specs.declared.event.Arg.{Arg}
 use Rattle.dm_base.specs.declared.event.Arg.TheVariants as args
 use Rattle.dm_base.specs.Fits.{IsNumber, FitArguments}
-use Rattle.sys_table.specs.declared.kinds.ArgKind.{ArgKind}
-use Rattle.sys_table.specs.declared.kinds.ArgKind.TheVariants.{Signed, Unsigned, Bytes}
-use Rattle.sys_table.specs.declared.kinds.ResultKind.TheVariants.{Void}
-use Rattle.sys_table.specs.Table.{Row, row, table, recorded_of}
+use Rattle.flow_graph_laws.specs.ArgKind.{ArgKind}
+use Rattle.flow_graph_laws.specs.ArgKind.TheVariants.{Signed, Unsigned, Bytes}
+use Rattle.flow_graph_laws.specs.ResultKind.TheVariants.{Void}
+use Rattle.flow_graph_laws.specs.Table.{Row, row, table, recorded_of}
 use Rattle.c_tree.specs.declared.value.IntType.{IntType}
 use Rattle.c_tree.specs.declared.value.IntType.TheVariants as i
 use Rattle.c_tree.specs.declared.value.UnOp.{UnOp}

@@ -4,7 +4,7 @@ use Rattle.dm_base.specs.declared.event.Arg.{Arg}
 use Rattle.dm_base.specs.declared.event.Event.{Event}
 use Rattle.dm_base.specs.declared.event.Event.TheVariants.{Sys, Pre, Post}
 use Rattle.std.specs.Prelude.{ℤ}
-use Rattle.sys_table.specs.declared.sys_result.SysResult.{SysResult}
+use Rattle.flow_graph_laws.specs.SysResult.{SysResult}
 use Rattle.c_tree.specs.declared.value.Value.{Value}
 use Rattle.c_tree.specs.Tree.{CType, pointer, function, CTypes, no_types, Expr, Exprs, Stmt, Function, Program, type_of}
 use Rattle.c_tree.specs.Functions.{defined}

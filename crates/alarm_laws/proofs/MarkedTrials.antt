@@ -2,7 +2,7 @@
 use Rattle.std.proofs.Common.{◌≡◌, pos, [], ◌∷◌, refl}
 use Rattle.dm_base.specs.declared.event.Event.TheVariants.{Pre, Post}
 use Rattle.dm_base.specs.declared.outcome.Outcome.TheVariants.{Turns, Results}
-use Rattle.sys_table.specs.Table.{table}
+use Rattle.flow_graph_laws.specs.Table.{table}
 use Rattle.c_tree.specs.Functions.{sys_types}
 use Rattle.c_shapes.proofs.ProgramTrials.{source_b, indirect}
 use Rattle.c_meaning.proofs.RunTrials.{the_record, the_call, ended}

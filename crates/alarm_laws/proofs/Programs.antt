@@ -3,7 +3,7 @@ use Rattle.std.proofs.Common.{◌≡◌, ℕ, zero, suc, Bool, true, false, nat_
 use Rattle.std.proofs.lemmas.List.Elements.{Contains-append_left, All-contains}
 use Rattle.dm_base.specs.declared.event.Event.{Event}
 use Rattle.dm_base.specs.declared.outcome.Outcome.TheVariants.{Undefined}
-use Rattle.sys_table.specs.declared.sys_result.SysResult.{SysResult}
+use Rattle.flow_graph_laws.specs.SysResult.{SysResult}
 use Rattle.c_tree.specs.declared.value.Value.{Value}
 use Rattle.c_tree.specs.declared.value.Value.TheVariants.{Indeterminate, Int}
 use Rattle.c_tree.specs.Tree.{CType, function, CTypes, no_types, Function, Program}

@@ -7,3 +7,10 @@ pub use Rattle.c_meaning.specs.Results
 pub use Rattle.c_meaning.specs.Runs
 pub use Rattle.c_shapes.specs.CallGraph
 pub use Rattle.c_shapes.specs.Mentions
+pub use Rattle.c_tree.specs.Functions
+pub use Rattle.c_tree.specs.Layout
+pub use Rattle.c_tree.specs.Operators
+pub use Rattle.c_tree.specs.Tree
+pub use Rattle.c_tree.specs.declared.tree.TLabel
+pub use Rattle.c_tree.specs.declared.value.IntType
+pub use Rattle.c_tree.specs.declared.value.Value

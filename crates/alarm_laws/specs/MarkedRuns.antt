@@ -2,7 +2,7 @@
 use Rattle.std.specs.Prelude.{◌≡◌, ℕ, List, [], ◌∷◌, if◌then◌else◌}
 use Rattle.dm_base.specs.declared.event.Event.TheVariants.{Pre, Post}
 use Rattle.dm_base.specs.Trace.{erase}
-use Rattle.sys_table.specs.declared.sys_result.SysResult.{SysResult}
+use Rattle.flow_graph_laws.specs.SysResult.{SysResult}
 use Rattle.c_tree.specs.Tree.{Program}
 use Rattle.c_shapes.specs.CallGraph.{marked}
 use Rattle.c_meaning.specs.Meaning.{Marks}

@@ -3,7 +3,7 @@ use Rattle.std.specs.Prelude.{ℕ, ◌≤◌, List, length}
 use Rattle.dm_base.specs.declared.event.Event.{Event}
 use Rattle.dm_base.specs.declared.verdict.Verdict.TheVariants.{Accepted}
 use Rattle.dm_base.specs.Trace.{depth}
-use Rattle.sys_table.specs.declared.sys_result.SysResult.{SysResult}
+use Rattle.flow_graph_laws.specs.SysResult.{SysResult}
 use Rattle.flow_graph_laws.specs.Which.TheVariants.{Callgraph, Stack, Dyck}
 use Rattle.flow_graph_laws.specs.Graph.{Graph}
 use Rattle.flow_graph_laws.specs.Verdict.{IsRejectedAt, IsVerdict}

@@ -1,6 +1,6 @@
 -- No false alarm: what a well-typed program does is in its languages, however the run ends (Wagner and Dean 2001).
 use Rattle.std.specs.Prelude.{ℕ, List}
-use Rattle.sys_table.specs.declared.sys_result.SysResult.{SysResult}
+use Rattle.flow_graph_laws.specs.SysResult.{SysResult}
 use Rattle.c_tree.specs.Tree.{Program}
 use Rattle.c_tree.specs.Program.{IsProgram}
 use Rattle.c_shapes.specs.ProgramLanguages.{Dyck, Stack, Callgraph}

@@ -8,3 +8,5 @@ pub mod StatementTreeView
 pub mod Repeated
 pub mod Scoped
 pub mod VariablesView
+pub use Rattle.c_check_counts.specs.Named
+pub use Rattle.c_check_counts.specs.Numbered

@@ -1,5 +1,5 @@
-ghost use Rattle.c_check_values.specs.Agreement.{AgreesWith};
-ghost use Rattle.c_check_values.specs.TypedExpressionView.{typed_expression_of};
+ghost use Rattle.c_check_initialisers.specs.Agreement.{AgreesWith};
+ghost use Rattle.c_check_initialisers.specs.TypedExpressionView.{typed_expression_of};
 ghost use Rattle.c_check_bodies.specs.AroundView.{around_of};
 ghost use Rattle.c_check_bodies.specs.StatementTreeView.{statement_tree_of};
 ghost use Rattle.c_rules.specs.Blocks.{bare};
@@ -13,7 +13,7 @@ ghost use Rattle.c_tree.specs.View.{ctype_of};
 
 use crate::around::Around;
 use crate::statement_tree::{StatementTree, bare};
-use c_check_values::{C3, C8, CheckError, TypedExpression, as_if_assigned, is_void};
+use c_check_initialisers::{C3, C8, CheckError, TypedExpression, as_if_assigned, is_void};
 use c_tree::{CType, TStmt};
 use std::alloc::Global;
 

@@ -3,7 +3,7 @@ ghost use Rattle.c_check_bodies.specs.Repeated.{AddsNumber, HasSeen, is_repeated
 ghost use Rattle.c_rules.specs.Statements.{are_distinct};
 ghost use Rattle.c_tree.specs.declared.tree.TLabel.{TLabel};
 
-use c_check_values::number_of;
+use c_check_initialisers::number_of;
 use c_tree::TLabel;
 use dm_base::OutOfMemory;
 use indexmap::IndexSet;

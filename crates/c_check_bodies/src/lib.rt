@@ -13,6 +13,7 @@ mod switches;
 mod variables;
 
 pub use around::{Around, in_loop, in_switch};
+pub use c_check_counts::{Next, name_of};
 pub use jumps::{broken_off, continued, returned_value, returned_void};
 pub use labels::are_distinct;
 pub use loops::{do_loop, for_loop, while_loop};

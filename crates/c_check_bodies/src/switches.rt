@@ -1,6 +1,6 @@
 ghost use Rattle.std.specs.Prelude.{◌≡◌, ◌++◌, IfOk};
-ghost use Rattle.c_check_values.specs.Agreement.{AgreesWith};
-ghost use Rattle.c_check_values.specs.TypedExpressionView.{typed_expression_of};
+ghost use Rattle.c_check_initialisers.specs.Agreement.{AgreesWith};
+ghost use Rattle.c_check_initialisers.specs.TypedExpressionView.{typed_expression_of};
 ghost use Rattle.c_check_bodies.specs.LabelledView.{labelled_before, labelled_of};
 ghost use Rattle.c_check_bodies.specs.StatementTreeView.{statement_trees_of, statement_tree_of};
 ghost use Rattle.c_rules.specs.Blocks.{with_tree};
@@ -14,7 +14,7 @@ use crate::labels::are_distinct;
 use crate::statement_tree::{
     StatementTree, StatementTrees, Variables, no_variables, variables_of_both, with_variables,
 };
-use c_check_values::{C3, C7, CheckError, TypedExpression, converted_to, promoted};
+use c_check_initialisers::{C3, C7, CheckError, TypedExpression, converted_to, promoted};
 use c_tree::{CType, IntType, TGroup, TLabel, TStmt};
 use dm_base::OutOfMemory;
 use std::alloc::Global;

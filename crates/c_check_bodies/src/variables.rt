@@ -12,8 +12,7 @@ ghost use Rattle.c_tree.specs.View.{ctype_of};
 
 use crate::statement_tree::{StatementTree, Variables, with_variables};
 use c_check_counts::{Next, bytes_of_name, is_added};
-use c_check_initialisers::stores_of;
-use c_check_values::TypedExpression;
+use c_check_initialisers::{TypedExpression, stores_of};
 use c_syntax::Declarator;
 use c_tree::{CType, TStmt};
 use dm_base::OutOfMemory;

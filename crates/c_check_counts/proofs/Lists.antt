@@ -11,9 +11,9 @@ use Rattle.c_syntax.specs.declared.tree.Item.{Item as ItemTree}
 use Rattle.c_syntax.specs.Tree as syntax
 use Rattle.c_syntax.specs.UnitView.{parts_of, decl_of, stmt_at, stmt_of, stmts_of_row, items_of, item_at}
 use Rattle.c_syntax.specs.WritesUnit.{block_items_of, stmts_of, groups_of}
-use Rattle.c_rules.specs.Names.{Name}
-use Rattle.c_rules.specs.Units.{functions_of_item, functions_of, objects_of_parts, objects_of_item, objects_of}
-use Rattle.c_rules.specs.Variables.{names_of_parts, names_of_decl, names_of_stmt, names_of_block, names_of_stmts, names_of_groups}
+use Rattle.c_check_scopes.specs.Names.{Name}
+use Rattle.c_check_scopes.specs.Units.{functions_of_item, functions_of, objects_of_parts, objects_of_item, objects_of}
+use Rattle.c_check_scopes.specs.Variables.{names_of_parts, names_of_decl, names_of_stmt, names_of_block, names_of_stmts, names_of_groups}
 use Rattle.c_check_counts.specs.Named.{name_of_part, names_of_block_item, names_of_group, is_object, objects_of_part}
 pub use Rattle.c_syntax.proofs.Lists.{one_more, on_same}
 pub use Rattle.dm_base.proofs.ListLemmas.{two_parts}

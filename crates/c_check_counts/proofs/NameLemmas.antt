@@ -1,8 +1,8 @@
 -- The names of the variables in a body.
 use Rattle.std.proofs.Common.{◌≡◌, refl, append-nil}
 use Rattle.c_syntax.specs.Tree.{Stmt, block, empty, evaluate, only_if, if_else, while_loop, do_loop, for_loop, switch_on, break_off, continue_on, return_from}
-use Rattle.c_rules.specs.Functions.{items_of_body}
-use Rattle.c_rules.specs.Variables.{names_of_stmt, names_of_block}
+use Rattle.c_check_scopes.specs.Functions.{items_of_body}
+use Rattle.c_check_scopes.specs.Variables.{names_of_stmt, names_of_block}
 
 -- the names in a body
 pub names_in_body : (s : Stmt) → names_of_block (items_of_body s) ≡ names_of_stmt s

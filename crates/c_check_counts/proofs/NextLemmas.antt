@@ -3,9 +3,9 @@ use Rattle.std.proofs.Common.{◌≡◌, ℕ, ◌+◌, ◌<◌, ◌≤◌, suc, 
 use Rattle.std.specs.Prelude.{if◌then◌else◌, Some, None, nat_le}
 use Rattle.std.proofs.lemmas.Bool.{le-leb, lt-leb}
 use Rattle.std.proofs.lemmas.List.{drop_more, length-map}
-use Rattle.c_rules.specs.Limits.{most_local_cells}
-use Rattle.c_rules.specs.Names.{Name, is_added}
-use Rattle.c_rules.specs.Variables.{Next, first_numbers, names_of_block, past_name, past_names}
+use Rattle.c_check_scopes.specs.Limits.{most_local_cells}
+use Rattle.c_check_scopes.specs.Names.{Name, is_added}
+use Rattle.c_check_scopes.specs.Variables.{Next, first_numbers, names_of_block, past_name, past_names}
 use Rattle.c_check_counts.specs.declared.numbers.Next.{Next as NextTree}
 use Rattle.c_check_counts.specs.Numbered.{AreFirst, HaveNumbers, next_of}
 use Rattle.c_check_counts.specs.Seen.{bytes_of, seen}

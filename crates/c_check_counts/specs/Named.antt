@@ -7,11 +7,11 @@ use Rattle.c_syntax.specs.Tree as syntax
 use Rattle.c_syntax.specs.Tree.{Declarator, no_block_items, no_groups}
 use Rattle.c_syntax.specs.View.{declarator_of}
 use Rattle.c_syntax.specs.UnitView.{block_item_before, group_before, maybe_init_of}
-use Rattle.c_rules.specs.Names.{Name}
-use Rattle.c_rules.specs.Declarators.{name_of}
-use Rattle.c_rules.specs.Functions.{declares_function}
-use Rattle.c_rules.specs.Items.{defines}
-use Rattle.c_rules.specs.Variables as variables
+use Rattle.c_check_scopes.specs.Names.{Name}
+use Rattle.c_check_scopes.specs.Declarators.{name_of}
+use Rattle.c_check_scopes.specs.Functions.{declares_function}
+use Rattle.c_check_scopes.specs.Items.{defines}
+use Rattle.c_check_scopes.specs.Variables as variables
 
 abbrev pub name_of_part : DeclPart → Name
 name_of_part p = variables.name_or_empty (name_of (declarator_of p.declarator))

@@ -1,9 +1,9 @@
 -- The next numbers of variables.
 use Rattle.std.specs.Prelude.{◌≡◌, ℕ, ◌+◌, ◌<◌, ◌^◌, true, false, List, length, Option, Some, None, nat_le}
 use Rattle.c_check_counts.specs.declared.numbers.Next.{Next as NextTree}
-use Rattle.c_rules.specs.Limits.{most_local_cells}
-use Rattle.c_rules.specs.Names.{Name}
-use Rattle.c_rules.specs.Variables.{Next, first_numbers, names_of_block}
+use Rattle.c_check_scopes.specs.Limits.{most_local_cells}
+use Rattle.c_check_scopes.specs.Names.{Name}
+use Rattle.c_check_scopes.specs.Variables.{Next, first_numbers, names_of_block}
 use Rattle.c_syntax.specs.Tree.{BlockItems}
 use Rattle.dm_base.specs.declared.mode.Mode.{Mode}
 

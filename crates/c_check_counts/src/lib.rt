@@ -7,7 +7,7 @@ mod names;
 mod numbers;
 mod units;
 
-pub use c_check_scopes::{Environment, Meaning, is_added};
+pub use c_check_scopes::{Before, Context, Environment, Meaning, is_added, nothing_before};
 pub use names::{bytes_of_name, name_of};
 pub use numbers::{Next, first_numbers};
 pub use units::{functions_of, objects_of};

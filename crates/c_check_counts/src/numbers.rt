@@ -1,8 +1,8 @@
 ghost use Rattle.std.specs.Prelude.{◌≡◌, ◌∷◌, [], ◌≤◌, length, IfOk};
 ghost use Rattle.c_syntax.specs.UnitView.{stmt_of};
-ghost use Rattle.c_rules.specs.Functions.{items_of_body};
-ghost use Rattle.c_rules.specs.Limits.{most_local_cells};
-ghost use Rattle.c_rules.specs.Variables.{names_of_block, number_in, past_name, past_names};
+ghost use Rattle.c_check_scopes.specs.Functions.{items_of_body};
+ghost use Rattle.c_check_scopes.specs.Limits.{most_local_cells};
+ghost use Rattle.c_check_scopes.specs.Variables.{names_of_block, number_in, past_name, past_names};
 ghost use Rattle.c_check_counts.specs.Numbered.{AreFirst, HaveNumbers, next_of};
 ghost use Rattle.c_check_counts.specs.Seen.{seen};
 

@@ -2,9 +2,9 @@ ghost use Rattle.std.specs.Prelude.{◌≡◌, ◌++◌, IfOk, OnOk};
 ghost use Rattle.c_syntax.specs.View.{declarator_of};
 ghost use Rattle.c_syntax.specs.UnitView.{storage_of, maybe_init_of, parts_of, items_of, item_at};
 ghost use Rattle.c_syntax.specs.Writes.{declarator_behind};
-ghost use Rattle.c_rules.specs.Functions.{declares_function};
-ghost use Rattle.c_rules.specs.Items.{defines};
-ghost use Rattle.c_rules.specs.Units.{functions_of_item, functions_of, objects_of_parts, objects_of_item, objects_of};
+ghost use Rattle.c_check_scopes.specs.Functions.{declares_function};
+ghost use Rattle.c_check_scopes.specs.Items.{defines};
+ghost use Rattle.c_check_scopes.specs.Units.{functions_of_item, functions_of, objects_of_parts, objects_of_item, objects_of};
 ghost use Rattle.c_check_counts.specs.Named.{is_named, is_object, objects_of_part};
 ghost use Rattle.c_check_counts.specs.Seen.{seen};
 

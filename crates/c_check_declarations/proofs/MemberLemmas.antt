@@ -2,15 +2,15 @@
 use Rattle.std.proofs.Common.{◌≡◌, ℕ, zero, suc, ◌≤◌, List, [], ◌∷◌, length, map, Option, Some, None, slice_get, slice_set, refl, sym, ap, subst, ◌∙◌}
 use Rattle.std.specs.Prelude.{unwrap_or}
 use Rattle.std.proofs.lemmas.List.{length-map, map-set}
-use Rattle.c_check_scopes.specs.declared.structs.StructMember.{StructMember}
-use Rattle.c_check_scopes.specs.Known.{Known, layout_of}
-use Rattle.c_check_scopes.specs.Shown.{known_of, knowns_of, members_types}
+use Rattle.c_check_values.specs.StructMember.{StructMember}
+use Rattle.c_check_values.specs.Known.{Known, layout_of}
+use Rattle.c_check_values.specs.Shown.{known_of, knowns_of, members_types}
 use Rattle.c_rules.specs.Scopes.{Env, defined_struct, incomplete, type_of_member, types_of_struct, tag_number, with_struct}
 use Rattle.c_rules.specs.Limits.{most_cells}
-use Rattle.c_check_scopes.specs.Held.{AllInAll, IsDefined}
-use Rattle.c_check_scopes.proofs.SeenLemmas.{layout_seen}
+use Rattle.c_check_values.specs.Held.{AllInAll, IsDefined}
+use Rattle.c_check_values.proofs.SeenLemmas.{layout_seen}
 use Rattle.c_tree.specs.Layout.{cells_of_all}
-use Rattle.c_check_scopes.specs.View.{member_of, struct_known, structs_of}
+use Rattle.c_check_values.specs.View.{member_of, struct_known, structs_of}
 use Rattle.c_check_declarations.specs.Members.{members_of}
 use Rattle.c_tree.specs.View.{ctype_of}
 

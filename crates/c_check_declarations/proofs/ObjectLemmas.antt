@@ -26,7 +26,7 @@ use Rattle.c_tree.specs.declared.tree.CType.{CType as TypeTree}
 use Rattle.c_tree.specs.Layout.{cells}
 use Rattle.c_tree.specs.View.{ctype_of}
 use Rattle.c_tree.specs.Tree.{CType, void, integer, pointer, array, struct, function}
-use Rattle.c_check_scopes.proofs.NumberLemmas.{not_so}
+use Rattle.c_check_values.proofs.NumberLemmas.{not_so}
 use Rattle.c_rules.specs.Initialisers.{count_inits}
 use Rattle.c_syntax.specs.WritesUnit.{inits_of}
 

@@ -3,3 +3,7 @@ pub mod Members
 pub mod Named
 pub mod ObjectView
 pub mod Texts
+pub use Rattle.c_check_values.specs.Agreement
+pub use Rattle.c_check_values.specs.TypedExpressionView
+pub use Rattle.c_check_values.specs.declared.error.CheckError
+pub use Rattle.c_check_values.specs.declared.typed_expression.TypedExpression

@@ -1,10 +1,10 @@
 ghost use Rattle.std.specs.Prelude.{◌≡◌, OnOk};
 ghost use Rattle.c_rules.specs.Scopes.{declared_here, with_name};
 ghost use Rattle.c_check_declarations.specs.Found.{meaning_found};
-ghost use Rattle.c_check_scopes.specs.Bound.{meaning_of};
-ghost use Rattle.c_check_scopes.specs.View.{env_of};
+ghost use Rattle.c_check_values.specs.Bound.{meaning_of};
+ghost use Rattle.c_check_values.specs.View.{env_of};
 
-use c_check_scopes::{Environment, Meaning};
+use c_check_values::{Environment, Meaning};
 use dm_base::OutOfMemory;
 
 /// What the name means, where it is declared in the innermost scope (C99 6.2.1 paragraph 4).

@@ -7,14 +7,13 @@ ghost use Rattle.c_rules.specs.Initialisers.{value_of_constant, value_of_cell};
 ghost use Rattle.c_rules.specs.Items.{after_object, without_init};
 ghost use Rattle.c_rules.specs.Limits.{most_static_cells};
 ghost use Rattle.c_rules.specs.Scopes.{layout_of};
-ghost use Rattle.c_check_scopes.specs.View.{before_of, env_of};
+ghost use Rattle.c_check_values.specs.View.{before_of, env_of};
 ghost use Rattle.c_syntax.specs.UnitView.{maybe_init_of};
 ghost use Rattle.c_tree.specs.Layout.{cells};
 ghost use Rattle.c_tree.specs.View.{ctype_of, static_of};
 
 use crate::types::Object;
-use c_check_scopes::{Before, Environment};
-use c_check_values::{C14, CheckError, Constant, TypedExpression};
+use c_check_values::{Before, C14, CheckError, Constant, Environment, TypedExpression};
 use c_syntax::{Init, InitKind};
 use c_tree::{CType, Static, Value};
 use dm_base::OutOfMemory;

@@ -4,14 +4,16 @@ ghost use Rattle.c_check_declarations.specs.Found.{meaning_found};
 ghost use Rattle.c_rules.specs.Checked.{fine};
 ghost use Rattle.c_rules.specs.Functions.{is_as_given, may_follow_function, is_defined_by, is_few, function_meaning, behind_function};
 ghost use Rattle.c_rules.specs.Limits.{most_functions};
-ghost use Rattle.c_check_scopes.specs.Bound.{meaning_of};
-ghost use Rattle.c_check_scopes.specs.View.{env_of};
+ghost use Rattle.c_check_values.specs.Bound.{meaning_of};
+ghost use Rattle.c_check_values.specs.View.{env_of};
 ghost use Rattle.c_syntax.specs.View.{ident_of};
 ghost use Rattle.c_tree.specs.View.{ctype_of};
 
 use crate::declared::{declare, declared_here};
-use c_check_scopes::{Environment, Meaning, given_number, has_given_type, may_be_declared};
-use c_check_values::{C2, C11, C12, C13, CheckError, same_type};
+use c_check_values::{
+    C2, C11, C12, C13, CheckError, Environment, Meaning, given_number, has_given_type,
+    may_be_declared, same_type,
+};
 use c_syntax::Ident;
 use c_tree::CType;
 use dm_base::{Mode, OutOfMemory};

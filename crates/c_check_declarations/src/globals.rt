@@ -3,15 +3,14 @@ ghost use Rattle.c_check_values.specs.Agreement.{AgreesWith};
 ghost use Rattle.c_check_declarations.specs.ObjectView.{object_seen};
 ghost use Rattle.c_rules.specs.Checked.{fine, met};
 ghost use Rattle.c_rules.specs.Items.{few_static, global_object, behind_global, within_global};
-ghost use Rattle.c_check_scopes.specs.View.{before_of, env_of};
+ghost use Rattle.c_check_values.specs.View.{before_of, env_of};
 ghost use Rattle.c_syntax.specs.View.{ident_of};
 ghost use Rattle.c_tree.specs.View.{ctype_of};
 
 use crate::declared::declare;
 use crate::objects::{is_defined_behind, object_name};
 use crate::types::Object;
-use c_check_scopes::{Before, Environment, Meaning};
-use c_check_values::{C13, CheckError};
+use c_check_values::{Before, C13, CheckError, Environment, Meaning};
 use c_syntax::Ident;
 use c_tree::{CType, copy_type};
 use dm_base::OutOfMemory;

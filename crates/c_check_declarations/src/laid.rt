@@ -3,14 +3,13 @@ ghost use Rattle.c_check_values.specs.Agreement.{AgreesWith};
 ghost use Rattle.c_rules.specs.Items.{struct_laid};
 ghost use Rattle.c_rules.specs.Limits.{most_cells, most_members};
 ghost use Rattle.c_rules.specs.Scopes.{defined_struct, incomplete, layout_of, struct_of, tag_number, type_of_member, with_struct};
-ghost use Rattle.c_check_scopes.specs.Held.{AllInAll, IsDefined};
-ghost use Rattle.c_check_scopes.specs.View.{env_of};
+ghost use Rattle.c_check_values.specs.Held.{AllInAll, IsDefined};
+ghost use Rattle.c_check_values.specs.View.{env_of};
 ghost use Rattle.c_check_declarations.specs.Members.{members_of};
 ghost use Rattle.c_syntax.specs.View.{ident_of};
 ghost use Rattle.c_tree.specs.Layout.{cells_of_all};
 
-use c_check_scopes::{Environment, StructMember};
-use c_check_values::{C13, CheckError};
+use c_check_values::{C13, CheckError, Environment, StructMember};
 use c_syntax::Ident;
 
 // Whether there aren't too many members.

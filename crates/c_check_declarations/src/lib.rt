@@ -23,6 +23,7 @@ mod sizes;
 mod tags;
 mod types;
 
+pub use c_check_values::{C3, CheckError, TypedExpression, condition};
 pub use declared::{declare, declared_here};
 pub use definitions::{count_object, static_object, without_init};
 pub use enumerators::{enumerator_constant, enumerator_value, next_value};

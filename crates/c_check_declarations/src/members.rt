@@ -3,11 +3,10 @@ ghost use Rattle.c_check_values.specs.Agreement.{AgreesWith};
 ghost use Rattle.c_rules.specs.Checked.{met};
 ghost use Rattle.c_rules.specs.Items.{new_member};
 ghost use Rattle.c_rules.specs.Names.{is_among};
-ghost use Rattle.c_check_scopes.specs.View.{env_of};
+ghost use Rattle.c_check_values.specs.View.{env_of};
 ghost use Rattle.c_syntax.specs.View.{ident_of};
 
-use c_check_scopes::{Environment, Numbering, may_be_declared};
-use c_check_values::{C2, C12, CheckError};
+use c_check_values::{C2, C12, CheckError, Environment, Numbering, may_be_declared};
 use c_syntax::Ident;
 
 // Whether an earlier member has the name.

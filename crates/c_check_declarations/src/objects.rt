@@ -5,14 +5,15 @@ ghost use Rattle.c_rules.specs.Checked.{met};
 ghost use Rattle.c_rules.specs.Functions.{is_defined_by};
 ghost use Rattle.c_rules.specs.Items.{may_follow_object, object_name};
 ghost use Rattle.c_rules.specs.Scopes.{declared_here};
-ghost use Rattle.c_check_scopes.specs.View.{env_of};
+ghost use Rattle.c_check_values.specs.View.{env_of};
 ghost use Rattle.c_syntax.specs.View.{ident_of};
 ghost use Rattle.c_tree.specs.View.{ctype_of};
 
 use crate::declared::declared_here;
 use crate::functions::is_defined_by;
-use c_check_scopes::{Environment, Meaning, is_given, may_be_declared};
-use c_check_values::{C2, C11, C12, CheckError, same_type};
+use c_check_values::{
+    C2, C11, C12, CheckError, Environment, Meaning, is_given, may_be_declared, same_type,
+};
 use c_syntax::Ident;
 use c_tree::CType;
 

@@ -2,14 +2,14 @@ ghost use Rattle.std.specs.Prelude.{◌≡◌, ◌+◌, ◌<◌, ◌^◌, length
 ghost use Rattle.c_check_declarations.specs.Named.{name_of_param};
 ghost use Rattle.c_rules.specs.Functions.{body_env, count_params, parameters_of, with_parameter, with_parameters};
 ghost use Rattle.c_rules.specs.Scopes.{inside};
-ghost use Rattle.c_check_scopes.specs.View.{env_of};
+ghost use Rattle.c_check_values.specs.View.{env_of};
 ghost use Rattle.c_syntax.specs.View.{declarator_of};
 ghost use Rattle.c_syntax.specs.Writes.{params_of};
 ghost use Rattle.c_tree.specs.View.{ctype_of, types_of};
 
 use crate::declared::declare;
 use crate::parameters::{name_of_param, parameters_of};
-use c_check_scopes::{Environment, Meaning};
+use c_check_values::{Environment, Meaning};
 use c_syntax::{Declarator, Param};
 use c_tree::{CType, copy_type};
 use dm_base::OutOfMemory;

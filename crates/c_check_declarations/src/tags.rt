@@ -4,13 +4,12 @@ ghost use Rattle.c_rules.specs.Checked.{met};
 ghost use Rattle.c_rules.specs.Items.{is_incomplete, new_struct, tag_declaration, new_enum, behind_enum_tag};
 ghost use Rattle.c_rules.specs.Names.{is_among};
 ghost use Rattle.c_rules.specs.Scopes.{struct_of, tag_number};
-ghost use Rattle.c_check_scopes.specs.View.{env_of};
+ghost use Rattle.c_check_values.specs.View.{env_of};
 ghost use Rattle.c_syntax.specs.Tree.{tag};
 ghost use Rattle.c_syntax.specs.UnitView.{tag_of};
 ghost use Rattle.c_syntax.specs.View.{ident_of};
 
-use c_check_scopes::{Environment, Numbering, may_be_declared};
-use c_check_values::{C2, C12, CheckError};
+use c_check_values::{C2, C12, CheckError, Environment, Numbering, may_be_declared};
 use c_syntax::Ident;
 use dm_base::OutOfMemory;
 

@@ -4,13 +4,12 @@ ghost use Rattle.c_check_declarations.specs.ObjectView.{object_seen};
 ghost use Rattle.c_check_declarations.specs.Texts.{is_unsized};
 ghost use Rattle.c_rules.specs.Items.{member_typed};
 ghost use Rattle.c_rules.specs.Objects.{of_known_size, object_of};
-ghost use Rattle.c_check_scopes.specs.View.{env_of};
+ghost use Rattle.c_check_values.specs.View.{env_of};
 ghost use Rattle.c_syntax.specs.UnitView.{maybe_init_of};
 ghost use Rattle.c_tree.specs.View.{ctype_of};
 
 use crate::sizes::with_size;
-use c_check_scopes::Environment;
-use c_check_values::{C13, C14, CheckError, complete};
+use c_check_values::{C13, C14, CheckError, Environment, complete};
 use c_syntax::Init;
 use c_tree::{CType, copy_type};
 use std::alloc::Global;

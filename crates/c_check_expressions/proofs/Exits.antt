@@ -1,8 +1,8 @@
 -- How a node that is checked part by part ends.
 use Rattle.std.proofs.Common.{◌≡◌, Result, Ok, Err, OnOk, IsErr, IsErrAnd, refl, ap, sym, subst, ◌∙◌}
-use Rattle.c_check_values.specs.declared.error.CheckError.{CheckError}
-use Rattle.c_check_values.specs.Agreement.{Names, AgreesWith}
-use Rattle.c_check_values.proofs.Parts.{names_on, names_first, names_second, raised}
+use Rattle.c_check_types.specs.CheckError.{CheckError}
+use Rattle.c_check_types.specs.Agreement.{Names, AgreesWith}
+use Rattle.c_check_types.proofs.Parts.{names_on, names_first, names_second, raised}
 use Rattle.c_rules.specs.Scopes.{Before}
 use Rattle.c_rules.specs.Checked.{Checked, fine, faults, on, both, beside, all_three}
 

@@ -7,10 +7,10 @@ use Rattle.std.proofs.lemmas.List.{drop_all, drop_more}
 use Rattle.c_check_initialisers.specs.SlotsLeft.{left_from, slot_at}
 use Rattle.c_check_counts.proofs.Rows.{list_is}
 use Rattle.c_check_expressions.proofs.NodeLemmas.{past_none, past_past}
-use Rattle.c_check_values.specs.declared.error.CheckError.{CheckError}
-use Rattle.c_check_values.specs.declared.error.CheckError.TheVariants as errors
-use Rattle.c_check_values.specs.Agreement.{Names, AgreesWith}
-use Rattle.c_check_values.proofs.Parts.{names_on, names_first}
+use Rattle.c_check_types.specs.CheckError.{CheckError}
+use Rattle.c_check_types.specs.CheckError.TheVariants as errors
+use Rattle.c_check_types.specs.Agreement.{Names, AgreesWith}
+use Rattle.c_check_types.proofs.Parts.{names_on, names_first}
 use Rattle.c_rules.specs.Checked.{Fault, Checked, fine, faulty, faults, both, demand, met, on}
 use Rattle.c_rules.specs.Codes.{C14}
 use Rattle.c_rules.specs.Counts.{calls, strings, past}

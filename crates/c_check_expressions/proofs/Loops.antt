@@ -10,12 +10,12 @@ use Rattle.c_check_counts.proofs.Rows.{param_is}
 use Rattle.c_tree.specs.declared.tree.CType.{CType as TypeTree}
 use Rattle.c_tree.specs.Tree.{CType, CTypes, no_types, more_types}
 use Rattle.c_tree.specs.View.{ctype_of, types_of}
-use Rattle.c_check_values.specs.declared.error.CheckError.{CheckError}
-use Rattle.c_check_values.specs.declared.typed_expression.TypedExpression.{TypedExpression as TypedExpressionTree}
-use Rattle.c_check_values.specs.TypedExpressionView.{typed_expression_of}
-use Rattle.c_check_values.specs.Agreement.{Names}
-use Rattle.c_check_values.proofs.Parts.{names_on, names_first}
-use Rattle.c_check_values.proofs.PartsOfTypes.{at_place}
+use Rattle.c_check_types.specs.CheckError.{CheckError}
+use Rattle.c_check_types.specs.TypedExpression.{TypedExpression as TypedExpressionTree}
+use Rattle.c_check_types.specs.TypedExpressionView.{typed_expression_of}
+use Rattle.c_check_types.specs.Agreement.{Names}
+use Rattle.c_check_types.proofs.Parts.{names_on, names_first}
+use Rattle.c_check_types.proofs.PartsOfTypes.{at_place}
 use Rattle.c_rules.specs.Checked.{Checked, fine, faulty, faults, both}
 use Rattle.c_rules.specs.Counts.{calls, strings, calls_of_all, strings_of_all, past, after}
 use Rattle.c_rules.specs.Scopes.{Env, Before}
@@ -23,8 +23,8 @@ use Rattle.c_rules.specs.TypedExpression.{TypedExpression}
 use Rattle.c_rules.specs.Declarators.{new_name, with_name_demands, behind_parameter}
 use Rattle.c_rules.specs.Expressions.{value, trees, parameters}
 use Rattle.c_check_expressions.specs.Parts.{Declares, type_of_param, name_of_param, types_before, onto_types, onto_givens}
-use Rattle.c_check_scopes.specs.Bound.{Bound}
-use Rattle.c_check_scopes.specs.declared.environment.Environment.{Environment}
+use Rattle.c_check_counts.specs.Bound.{Bound}
+use Rattle.c_check_counts.specs.Environment.{Environment}
 use Rattle.c_check_expressions.proofs.NodeLemmas.{past_past}
 
 -- ## Expressions

@@ -11,13 +11,13 @@ use Rattle.c_syntax.specs.Tree.{Ident, pointer}
 use Rattle.c_syntax.specs.View.{spec_of, type_name_of, declarator_at, declarator_of}
 use Rattle.c_syntax.specs.Writes.{declarator_in, declarator_behind}
 use Rattle.c_tree.specs.Tree.{CType}
-use Rattle.c_check_values.specs.declared.error.CheckError.{CheckError}
-use Rattle.c_check_values.specs.Agreement.{Names}
-use Rattle.c_check_values.proofs.Parts.{names_second}
+use Rattle.c_check_types.specs.CheckError.{CheckError}
+use Rattle.c_check_types.specs.Agreement.{Names}
+use Rattle.c_check_types.proofs.Parts.{names_second}
 use Rattle.c_rules.specs.Checked.{fine, faults, both, met}
 use Rattle.c_rules.specs.Declarators.{behind_parameter, is_bare_pointer, is_void_pointer, is_void_spec, new_name, place_or, with_name_demands}
-use Rattle.c_check_scopes.specs.Bound.{Bound}
-use Rattle.c_check_scopes.specs.declared.environment.Environment.{Environment}
+use Rattle.c_check_counts.specs.Bound.{Bound}
+use Rattle.c_check_counts.specs.Environment.{Environment}
 use Rattle.c_check_expressions.specs.Parts.{Declares}
 use Rattle.c_rules.specs.Scopes.{Env, a_local, meaning_or_unknown, with_name}
 

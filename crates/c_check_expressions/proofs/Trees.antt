@@ -6,9 +6,9 @@ use Rattle.c_syntax.specs.declared.tree.Declarator.{Declarator as DeclaratorTree
 use Rattle.c_syntax.specs.declared.tree.Param.{Param as ParamTree}
 use Rattle.c_syntax.specs.declared.tree.DeclaratorKind.TheVariants as dk
 use Rattle.c_tree.specs.Tree.{CType}
-use Rattle.c_check_values.specs.declared.error.CheckError.{CheckError}
-use Rattle.c_check_values.specs.Agreement.{Names}
-use Rattle.c_check_values.proofs.Parts.{names_on, names_second}
+use Rattle.c_check_types.specs.CheckError.{CheckError}
+use Rattle.c_check_types.specs.Agreement.{Names}
+use Rattle.c_check_types.proofs.Parts.{names_on, names_second}
 use Rattle.c_rules.specs.TypedExpression.{TypedExpression}
 use Rattle.c_rules.specs.Declarators.{pointer_to, array_of, function_of}
 use Rattle.c_syntax.specs.declared.tree.Expr.{Expr as ExprTree}

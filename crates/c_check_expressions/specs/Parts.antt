@@ -14,8 +14,8 @@ use Rattle.c_rules.specs.Scopes.{Env, Binding, Meaning, a_function}
 use Rattle.c_rules.specs.TypedExpression.{TypedExpression}
 use Rattle.c_rules.specs.Declarators.{name_of}
 use Rattle.c_rules.specs.Expressions.{type_of_parameter}
-use Rattle.c_check_scopes.specs.declared.environment.Environment.{Environment}
-use Rattle.c_check_scopes.specs.Bound.{Bound}
+use Rattle.c_check_counts.specs.Environment.{Environment}
+use Rattle.c_check_counts.specs.Bound.{Bound}
 
 -- the type and the name of a parameter
 abbrev pub type_of_param : Env → ParamTree → Checked CType

@@ -1,14 +1,14 @@
 ghost use Rattle.std.specs.Prelude.{◌≡◌, [], ◌∷◌, OnOk};
-ghost use Rattle.c_check_values.specs.Agreement.{AgreesWith};
-ghost use Rattle.c_check_values.specs.TypedExpressionView.{typed_expression_of};
+ghost use Rattle.c_check_types.specs.Agreement.{AgreesWith};
+ghost use Rattle.c_check_types.specs.TypedExpressionView.{typed_expression_of};
 ghost use Rattle.c_rules.specs.Counts.{past};
 ghost use Rattle.c_rules.specs.PostfixExpressions.{site_of};
 ghost use Rattle.c_rules.specs.PrimaryExpressions.{string_expression};
-ghost use Rattle.c_check_scopes.specs.View.{before_of, env_of};
+ghost use Rattle.c_check_counts.specs.View.{before_of, env_of};
 
+use c_check_counts::{Before, Environment};
 use c_check_primary::{site_of, string_expression};
-use c_check_scopes::{Before, Environment};
-use c_check_values::{CheckError, TypedExpression};
+use c_check_types::{CheckError, TypedExpression};
 use std::alloc::Global;
 
 // The site of a call, which then stands before.

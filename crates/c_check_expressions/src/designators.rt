@@ -1,6 +1,6 @@
 ghost use Rattle.std.specs.Prelude.{◌≡◌, IfNone, IfSome};
 ghost use Rattle.c_check_expressions.specs.Parts.{function_meant, name_seen, named_by, type_seen};
-ghost use Rattle.c_check_values.specs.Agreement.{AgreesWith};
+ghost use Rattle.c_check_types.specs.Agreement.{AgreesWith};
 ghost use Rattle.c_check_primary.specs.CalleeView.{callee_of};
 ghost use Rattle.c_rules.specs.Checked.{Checked, on};
 ghost use Rattle.c_rules.specs.Counts.{after};
@@ -8,12 +8,12 @@ ghost use Rattle.c_rules.specs.Expressions.{callee};
 ghost use Rattle.c_rules.specs.TypedExpression.{TypedExpression};
 ghost use Rattle.c_rules.specs.PostfixExpressions.{callee_by_value};
 ghost use Rattle.c_rules.specs.Scopes.{Before, binding_of};
-ghost use Rattle.c_check_scopes.specs.View.{env_of};
+ghost use Rattle.c_check_counts.specs.View.{env_of};
 ghost use Rattle.c_syntax.specs.View.{expr_of};
 
+use c_check_counts::{Environment, Meaning};
 use c_check_primary::{Callee, callee_by_name};
-use c_check_scopes::{Environment, Meaning};
-use c_check_values::CheckError;
+use c_check_types::CheckError;
 use c_syntax::{Expr, ExprKind};
 use c_tree::CType;
 use std::alloc::Global;

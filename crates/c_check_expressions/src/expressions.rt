@@ -1,7 +1,7 @@
 ghost use Rattle.std.specs.Prelude.{◌≡◌, map, OnOk};
 ghost use Rattle.c_check_expressions.specs.Parts.{Declares, type_of_param};
-ghost use Rattle.c_check_values.specs.Agreement.{AgreesWith};
-ghost use Rattle.c_check_values.specs.TypedExpressionView.{typed_expression_of};
+ghost use Rattle.c_check_types.specs.Agreement.{AgreesWith};
+ghost use Rattle.c_check_types.specs.TypedExpressionView.{typed_expression_of};
 ghost use Rattle.c_check_primary.specs.CalleeView.{callee_of};
 ghost use Rattle.c_rules.specs.Assignments.{step};
 ghost use Rattle.c_rules.specs.Checked.{on};
@@ -9,7 +9,7 @@ ghost use Rattle.c_rules.specs.Counts.{after, calls_of_all, strings_of_all, past
 ghost use Rattle.c_rules.specs.Declarators.{type_of_spec};
 ghost use Rattle.c_rules.specs.Expressions.{tree, trees, value, place_at, callee, type_named, declared, size_in, parameters, folded_value, type_declared};
 ghost use Rattle.c_rules.specs.Scopes.{in_context, inside, nothing_before, sized};
-ghost use Rattle.c_check_scopes.specs.View.{before_of, env_of};
+ghost use Rattle.c_check_counts.specs.View.{before_of, env_of};
 ghost use Rattle.c_syntax.specs.View.{expr_of, declarator_of, spec_of, type_name_of};
 ghost use Rattle.c_syntax.specs.Writes.{declarator_behind, declarator_in, expr_behind, exprs_of, params_of};
 ghost use Rattle.c_tree.specs.View.{ctype_of, types_of};
@@ -21,13 +21,15 @@ use crate::nodes::{comma_given, index_given, member_behind, unary_given};
 use c_check_assignments::{
     assignable, assignment_by, cast_of, null_cast, size_of_expression, size_of_type, step,
 };
+use c_check_counts::{Before, Context, Environment, nothing_before};
 use c_check_operators::{choice, conjunction, disjunction, operation, operator_of_code};
 use c_check_primary::{
     Callee, called, callee_by_value, integer_expression, member_of, named_expression, typed_int,
 };
-use c_check_scopes::{Before, Context, Environment, nothing_before};
-use c_check_types::{array_of, array_size, function_of, parameter_of, pointer_to, type_of_spec};
-use c_check_values::{CheckError, TypedExpression, valued};
+use c_check_types::{
+    CheckError, TypedExpression, array_of, array_size, function_of, parameter_of, pointer_to,
+    type_of_spec, valued,
+};
 use c_syntax::{Declarator, DeclaratorKind, Expr, ExprKind, Param, Spec, TypeName};
 use c_tree::{BinOp, CType};
 use std::alloc::Global;

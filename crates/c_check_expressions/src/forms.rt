@@ -1,19 +1,17 @@
 ghost use Rattle.std.specs.Prelude.{◌≡◌, suc, IfOk, OnOk};
 ghost use Rattle.c_check_counts.specs.Seen.{ident_seen};
 ghost use Rattle.c_check_expressions.specs.Parts.{Declares, name_of_param};
-ghost use Rattle.c_check_values.specs.Agreement.{AgreesWith};
+ghost use Rattle.c_check_types.specs.Agreement.{AgreesWith};
 ghost use Rattle.c_rules.specs.Checked.{fine};
 ghost use Rattle.c_rules.specs.Declarators.{behind_parameter, is_bare_pointer, is_void_pointer, name_of, place_or, with_name_demands};
 ghost use Rattle.c_rules.specs.Scopes.{a_local, with_name};
-ghost use Rattle.c_check_scopes.specs.View.{env_of};
+ghost use Rattle.c_check_counts.specs.View.{env_of};
 ghost use Rattle.c_syntax.specs.View.{declarator_of, type_name_of};
 ghost use Rattle.c_syntax.specs.Writes.{declarator_in};
 ghost use Rattle.c_tree.specs.View.{ctype_of};
 
-use c_check_counts::name_of;
-use c_check_scopes::{Environment, Meaning};
-use c_check_types::new_name;
-use c_check_values::CheckError;
+use c_check_counts::{Environment, Meaning, name_of};
+use c_check_types::{CheckError, new_name};
 use c_syntax::{Declarator, DeclaratorKind, Ident, Param, Spec, TypeName};
 use c_tree::{CType, copy_type};
 use dm_base::OutOfMemory;

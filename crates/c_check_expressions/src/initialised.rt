@@ -1,17 +1,17 @@
 ghost use Rattle.std.specs.Prelude.{◌≡◌, ◌≤◌, length, OnOk};
 ghost use Rattle.c_check_initialisers.specs.CellView.{cells_of, slots_of};
-ghost use Rattle.c_check_values.specs.Agreement.{AgreesWith};
+ghost use Rattle.c_check_types.specs.Agreement.{AgreesWith};
 ghost use Rattle.c_rules.specs.Counts.{past};
 ghost use Rattle.c_rules.specs.Initialisers.{after_init, calls_of_inits, capacity, cells_of_list, count_inits, held_in_turn, in_turn, initialised, slots, takes_list};
-ghost use Rattle.c_check_scopes.specs.View.{before_of, env_of};
+ghost use Rattle.c_check_counts.specs.View.{before_of, env_of};
 ghost use Rattle.c_syntax.specs.UnitView.{init_of};
 ghost use Rattle.c_syntax.specs.WritesUnit.{inits_of};
 ghost use Rattle.c_tree.specs.View.{ctype_of};
 
 use crate::ones::one_initialised;
+use c_check_counts::{Before, Environment};
 use c_check_initialisers::{Slots, add_zeros_behind, capacity, slot_at, slots_of_type, takes_list};
-use c_check_scopes::{Before, Environment};
-use c_check_values::{C14, CheckError, TypedExpression};
+use c_check_types::{C14, CheckError, TypedExpression};
 use c_syntax::{Init, InitKind};
 use c_tree::CType;
 use std::alloc::Global;

@@ -1,19 +1,19 @@
 ghost use Rattle.std.specs.Prelude.{map};
-ghost use Rattle.c_check_values.specs.Agreement.{AgreesWith};
-ghost use Rattle.c_check_values.specs.TypedExpressionView.{typed_expression_of};
+ghost use Rattle.c_check_types.specs.Agreement.{AgreesWith};
+ghost use Rattle.c_check_types.specs.TypedExpressionView.{typed_expression_of};
 ghost use Rattle.c_rules.specs.Assignments.{comma_of};
 ghost use Rattle.c_rules.specs.BinaryExpressions.{sum};
 ghost use Rattle.c_rules.specs.Checked.{fine, on};
 ghost use Rattle.c_rules.specs.Expressions.{unary_rule};
 ghost use Rattle.c_rules.specs.PostfixExpressions.{member_of};
 ghost use Rattle.c_rules.specs.UnaryExpressions.{indirection};
-ghost use Rattle.c_check_scopes.specs.View.{env_of};
+ghost use Rattle.c_check_counts.specs.View.{env_of};
 
 use c_check_assignments::{address, comma_of, indirection, unary_of_value};
+use c_check_counts::Environment;
 use c_check_operators::sum;
 use c_check_primary::member_of;
-use c_check_scopes::Environment;
-use c_check_values::{CheckError, TypedExpression, valued};
+use c_check_types::{CheckError, TypedExpression, valued};
 use c_lexer::punctuator::AMPERSAND;
 use std::alloc::Global;
 

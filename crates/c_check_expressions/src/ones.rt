@@ -1,17 +1,17 @@
 ghost use Rattle.std.specs.Prelude.{◌≡◌, OnOk};
 ghost use Rattle.c_check_initialisers.specs.CellView.{cells_of};
-ghost use Rattle.c_check_values.specs.Agreement.{AgreesWith};
+ghost use Rattle.c_check_types.specs.Agreement.{AgreesWith};
 ghost use Rattle.c_rules.specs.Counts.{after, calls, past};
 ghost use Rattle.c_rules.specs.Expressions.{value};
 ghost use Rattle.c_rules.specs.Initialisers.{cells_of_one, held_by_one, scalar_cell, text_of};
-ghost use Rattle.c_check_scopes.specs.View.{before_of, env_of};
+ghost use Rattle.c_check_counts.specs.View.{before_of, env_of};
 ghost use Rattle.c_syntax.specs.View.{expr_of};
 ghost use Rattle.c_tree.specs.View.{ctype_of};
 
 use crate::expressions::value;
+use c_check_counts::{Before, Environment};
 use c_check_initialisers::{array_cells, scalar_cells};
-use c_check_scopes::{Before, Environment};
-use c_check_values::{C14, CheckError, TypedExpression};
+use c_check_types::{C14, CheckError, TypedExpression};
 use c_syntax::Expr;
 use c_tree::CType;
 use std::alloc::Global;

@@ -1,16 +1,16 @@
 ghost use Rattle.std.specs.Prelude.{◌≡◌, OnOk};
 ghost use Rattle.c_check_initialisers.specs.CellView.{cells_of};
-ghost use Rattle.c_check_values.specs.Agreement.{AgreesWith};
+ghost use Rattle.c_check_types.specs.Agreement.{AgreesWith};
 ghost use Rattle.c_rules.specs.Counts.{past};
 ghost use Rattle.c_rules.specs.Initialisers.{calls_of_maybe_init, held_by, initialised_local, initialised_static};
-ghost use Rattle.c_check_scopes.specs.View.{before_of, env_of};
+ghost use Rattle.c_check_counts.specs.View.{before_of, env_of};
 ghost use Rattle.c_syntax.specs.UnitView.{maybe_init_of};
 ghost use Rattle.c_tree.specs.View.{ctype_of};
 
 use crate::initialised::initialised;
+use c_check_counts::{Before, Environment};
 use c_check_initialisers::zero_cells;
-use c_check_scopes::{Before, Environment};
-use c_check_values::{CheckError, TypedExpression};
+use c_check_types::{CheckError, TypedExpression};
 use c_syntax::Init;
 use c_tree::CType;
 use std::alloc::Global;

@@ -1,3 +1,5 @@
 pub mod CellView
 pub mod Left
 pub mod SlotsLeft
+pub use Rattle.c_check_values.specs.Agreement
+pub use Rattle.c_check_values.specs.TypedExpressionView

@@ -2,10 +2,10 @@
 use Rattle.std.proofs.Common.{◌≡◌, ℕ, ℤ, ◌+◌, ◌<◌, ◌≤◌, List, length, drop, get_or, ap, sym, subst, ◌∙◌}
 use Rattle.std.specs.Prelude.{pos, ◌+ℤ◌}
 use Rattle.std.proofs.lemmas.List.{drop_all}
-use Rattle.c_check_values.specs.declared.error.CheckError.{CheckError}
-use Rattle.c_check_values.specs.Agreement.{Names}
-use Rattle.c_check_values.proofs.Parts.{names_first}
-use Rattle.c_check_values.proofs.PartsOfTypes.{at_place}
+use Rattle.c_check_units.specs.CheckError.{CheckError}
+use Rattle.c_check_units.specs.Agreement.{Names}
+use Rattle.c_check_units.proofs.Parts.{names_first}
+use Rattle.c_check_units.proofs.PartsOfTypes.{at_place}
 use Rattle.c_rules.specs.Checked.{Checked, fine, faults, both, Met, met}
 use Rattle.c_rules.specs.Items.{enumerator_value, enumerator_meaning, behind_enumerator, enumerators, behind_enumerators, one_more_than}
 use Rattle.c_rules.specs.Scopes.{Env, Meaning}

@@ -3,7 +3,7 @@ use Rattle.std.proofs.Common.{◌≡◌, ◌≤◌, ℕ, zero, suc, List, [], �
 use Rattle.std.specs.Prelude.{nat_le, not, unwrap_or}
 use Rattle.c_check_items.proofs.Moves.{at_most}
 use Rattle.c_check_items.proofs.Turns.{not_fine, same_value}
-use Rattle.c_check_scopes.specs.Held.{AllIn, AllInAll, IsDefined}
+use Rattle.c_check_statements.specs.Held.{AllIn, AllInAll, IsDefined}
 use Rattle.c_rules.specs.Checked.{fine, and_also, demand, on, gives, Met, met}
 use Rattle.c_rules.specs.Codes.{C1, C2, C3, C13}
 use Rattle.c_rules.specs.Conversions.{complete, few_parts, is_defined}

@@ -1,9 +1,9 @@
 -- Members, declarators and items, one after another.
 use Rattle.std.proofs.Common.{◌≡◌, ℕ, ◌+◌, ◌<◌, ◌≤◌, List, [], ◌∷◌, ◌++◌, length, drop, get_or, ap, sym, subst, ◌∙◌, append_assoc, append-nil}
 use Rattle.std.proofs.lemmas.List.{drop_all}
-use Rattle.c_check_values.specs.declared.error.CheckError.{CheckError}
-use Rattle.c_check_values.specs.Agreement.{Names}
-use Rattle.c_check_values.proofs.PartsOfTypes.{at_place}
+use Rattle.c_check_units.specs.CheckError.{CheckError}
+use Rattle.c_check_units.specs.Agreement.{Names}
+use Rattle.c_check_units.proofs.PartsOfTypes.{at_place}
 use Rattle.c_rules.specs.Checked.{Checked, fine, faults, both, gives}
 use Rattle.c_rules.specs.Declarators.{name_of}
 use Rattle.c_rules.specs.Items.{Output, no_output, with_output, member_declared, members_declared, members, with_option, names_behind, named_part, behind_file_part, after_file_part, file_parts, behind_file_parts, after_file_parts, item, behind_item, after_item, items, behind_items, after_items}

@@ -2,11 +2,11 @@
 use Rattle.std.proofs.Common.{◌≡◌, ◌+◌, ◌≤◌, ℕ, zero, suc, arith, List, [], ◌∷◌, ◌++◌, map, Bool, true, false, not, ◌&&◌, Result, Ok, Err, OnOk, refl, ap, sym, subst, ◌∙◌, append-nil}
 use Rattle.std.specs.Prelude.{nat_le, slice_get, unwrap_or}
 use Rattle.std.proofs.lemmas.Bool.Decides.{nat_tests}
-use Rattle.c_check_values.specs.declared.error.CheckError.{CheckError}
-use Rattle.c_check_values.specs.declared.typed_expression.TypedExpression.{TypedExpression as TypedExpressionTree}
-use Rattle.c_check_values.specs.TypedExpressionView.{typed_expression_of}
-use Rattle.c_check_values.specs.Agreement.{AgreesWith, Names}
-use Rattle.c_check_values.proofs.Parts.{names_on, names_first, names_second}
+use Rattle.c_check_units.specs.CheckError.{CheckError}
+use Rattle.c_check_units.specs.TypedExpression.{TypedExpression as TypedExpressionTree}
+use Rattle.c_check_units.specs.TypedExpressionView.{typed_expression_of}
+use Rattle.c_check_units.specs.Agreement.{AgreesWith, Names}
+use Rattle.c_check_units.proofs.Parts.{names_on, names_first, names_second}
 use Rattle.c_check_items.proofs.Turns.{not_fine}
 use Rattle.c_check_units.specs.Scoped.{IsWithin}
 use Rattle.c_rules.specs.Checked.{Checked, fine, faulty, faults, and_also, demand, on, both, gives, Met, met}
@@ -14,7 +14,7 @@ use Rattle.c_rules.specs.Codes.{C2, C13}
 use Rattle.c_rules.specs.Limits.{most_static_cells}
 use Rattle.c_tree.specs.Layout.{cells}
 use Rattle.c_rules.proofs.Modes.{demand_met, first_fine as parts_fine}
-use Rattle.c_check_scopes.proofs.NumberLemmas.{not_so}
+use Rattle.c_check_statements.proofs.NumberLemmas.{not_so}
 use Rattle.c_check_statements.specs.ObjectView.{cells_seen}
 use Rattle.c_rules.specs.TypedExpression.{TypedExpression}
 use Rattle.c_rules.specs.Initialisers.{Slots, copies, each, slots, members_of_struct, held, held_in_turn, held_by, initialised_static, value_of_cell}

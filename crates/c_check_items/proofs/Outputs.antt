@@ -1,8 +1,8 @@
 -- What items give, where some of them give nothing.
 use Rattle.std.proofs.Common.{◌≡◌, Result, Ok, Err, ap, ◌∙◌, append_assoc}
-use Rattle.c_check_values.specs.declared.error.CheckError.{CheckError}
-use Rattle.c_check_values.specs.Agreement.{AgreesWith}
-use Rattle.c_check_values.proofs.Parts.{names_on}
+use Rattle.c_check_units.specs.CheckError.{CheckError}
+use Rattle.c_check_units.specs.Agreement.{AgreesWith}
+use Rattle.c_check_units.proofs.Parts.{names_on}
 use Rattle.c_check_units.proofs.OutputLemmas.{with_nothing}
 use Rattle.c_rules.specs.Checked.{Checked, fine, gives}
 use Rattle.c_rules.specs.Items.{Output, no_output, with_output}

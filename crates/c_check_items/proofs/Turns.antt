@@ -1,10 +1,10 @@
 -- Parts that are checked in turn, where what they give is put behind what was given before.
 use Rattle.std.proofs.Common.{◌≡◌, List, [], ◌∷◌, ◌++◌, refl, ap, sym, subst, ◌∙◌}
-use Rattle.c_check_values.specs.declared.error.CheckError.{CheckError}
-use Rattle.c_check_values.specs.Agreement.{Names}
-use Rattle.c_check_values.proofs.Parts.{names_on, names_first}
+use Rattle.c_check_units.specs.CheckError.{CheckError}
+use Rattle.c_check_units.specs.Agreement.{Names}
+use Rattle.c_check_units.proofs.Parts.{names_on, names_first}
 use Rattle.c_rules.specs.Checked.{Fault, Checked, fine, faulty, faults, both, gives, Met, met}
-use Rattle.c_check_scopes.proofs.NumberLemmas.{not_so}
+use Rattle.c_check_statements.proofs.NumberLemmas.{not_so}
 use Rattle.c_rules.proofs.FineLemmas.{is_fine}
 
 pub not_fine : {A : Type 0} (f : Fault) (fs : List Fault) (a : A) → faulty f fs ≡ fine a → ⊥

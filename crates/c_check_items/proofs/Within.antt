@@ -6,8 +6,8 @@ use Rattle.c_rules.specs.Declarators.{name_of}
 use Rattle.c_rules.specs.Functions.{parameters_of, count_params, with_parameter, with_parameters, body_env, body_numbers}
 use Rattle.c_rules.specs.Names.{Name}
 use Rattle.c_rules.specs.Scopes.{Env, Binding, a_local, inside}
-use Rattle.c_check_scopes.specs.declared.environment.Environment.{Environment}
-use Rattle.c_check_scopes.specs.View.{env_of}
+use Rattle.c_check_statements.specs.Environment.{Environment}
+use Rattle.c_check_statements.specs.View.{env_of}
 use Rattle.c_rules.specs.Variables.{Next}
 use Rattle.c_check_units.specs.Numbered.{HaveNumbers}
 use Rattle.c_syntax.specs.Tree.{Ident, BlockItems, Declarator, Params, no_params, more_params}

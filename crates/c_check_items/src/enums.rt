@@ -1,21 +1,19 @@
 ghost use Rattle.std.specs.Prelude.{◌≡◌, pos, IfOk, OnOk};
-ghost use Rattle.c_check_values.specs.Agreement.{AgreesWith};
+ghost use Rattle.c_check_units.specs.Agreement.{AgreesWith};
 ghost use Rattle.c_rules.specs.Checked.{both, fine, met};
 ghost use Rattle.c_rules.specs.Items.{behind_enum_tag, behind_enumerator, behind_enumerators, enumerator_meaning, enumerator_value, enumerators, new_enum, no_output};
 ghost use Rattle.c_rules.specs.Scopes.{an_enumerator};
 ghost use Rattle.c_rules.specs.Tags.{tags_of_enumerators};
-ghost use Rattle.c_check_scopes.specs.View.{env_of};
+ghost use Rattle.c_check_statements.specs.View.{env_of};
 ghost use Rattle.c_syntax.specs.UnitView.{enumerators_of, maybe_of, tag_of};
 ghost use Rattle.c_syntax.specs.View.{ident_of};
 
-use c_check_scopes::{Environment, Meaning};
 use c_check_statements::{
-    declare, declare_enum, enumerator_constant, enumerator_value, folded_value, new_enum,
-    next_value,
+    Environment, Meaning, declare, declare_enum, enumerator_constant, enumerator_value,
+    folded_value, new_enum, next_value,
 };
 use c_check_types::new_name;
-use c_check_units::{place_of_expression, tags_within};
-use c_check_values::CheckError;
+use c_check_units::{CheckError, place_of_expression, tags_within};
 use c_syntax::{Enumerator, Expr, Ident};
 use std::alloc::Global;
 

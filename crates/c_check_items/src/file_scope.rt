@@ -1,18 +1,17 @@
 ghost use Rattle.std.specs.Prelude.{◌≡◌, OnOk};
-ghost use Rattle.c_check_values.specs.Agreement.{AgreesWith};
+ghost use Rattle.c_check_units.specs.Agreement.{AgreesWith};
 ghost use Rattle.c_check_units.specs.OutputView.{output_of};
 ghost use Rattle.c_rules.specs.Checked.{gives};
 ghost use Rattle.c_rules.specs.Items.{after_item, after_items, behind_by_form, behind_item, behind_items, item, items, with_output};
-ghost use Rattle.c_check_scopes.specs.View.{before_of, env_of};
+ghost use Rattle.c_check_statements.specs.View.{before_of, env_of};
 ghost use Rattle.c_syntax.specs.UnitView.{item_at, items_of};
 
 use crate::enums::enum_item;
 use crate::functions::function_item;
 use crate::parts::add_parts;
 use crate::structs::{struct_item, tag_item};
-use c_check_scopes::{Before, Environment};
-use c_check_units::{Output, no_output, push_tags};
-use c_check_values::CheckError;
+use c_check_statements::{Before, Environment};
+use c_check_units::{CheckError, Output, no_output, push_tags};
 use c_syntax::{Item, ItemKind};
 use std::alloc::Global;
 

@@ -1,6 +1,6 @@
 ghost use Rattle.std.specs.Prelude.{◌≡◌, true, Some, OnOk, IfOk};
 ghost use Rattle.c_check_units.specs.Numbered.{HaveNumbers, next_of};
-ghost use Rattle.c_check_values.specs.Agreement.{AgreesWith};
+ghost use Rattle.c_check_units.specs.Agreement.{AgreesWith};
 ghost use Rattle.c_check_statements.specs.StatementTreeView.{statement_trees_of};
 ghost use Rattle.c_check_units.specs.OutputView.{output_of};
 ghost use Rattle.c_rules.specs.Blocks.{held_by_block};
@@ -11,22 +11,20 @@ ghost use Rattle.c_rules.specs.Expressions.{type_declared};
 ghost use Rattle.c_rules.specs.Functions.{are_named, body_env, body_numbers, body_of, declares_function, defined_as, few_variables, function_declared, function_laid, held_by_type, held_by_typed, items_of_body, parameters_of};
 ghost use Rattle.c_rules.specs.Items.{after_function, behind_defined, behind_function_named, function_named, output_of_function, with_output};
 ghost use Rattle.c_rules.specs.Variables.{calls_of_block, names_of_block};
-ghost use Rattle.c_check_scopes.specs.View.{before_of, env_of};
+ghost use Rattle.c_check_statements.specs.View.{before_of, env_of};
 ghost use Rattle.c_syntax.specs.UnitView.{stmt_of};
 ghost use Rattle.c_syntax.specs.View.{declarator_of, ident_of, spec_of};
 ghost use Rattle.c_tree.specs.Tree.{function};
 ghost use Rattle.c_tree.specs.View.{ctype_of, function_of, types_of};
 
-use c_check_scopes::{Before, Environment};
 use c_check_statements::{
-    StatementTrees, are_named, body_numbers, body_of, declare_function, enter_body,
-    function_meaning, parameters_of, type_declared,
+    Before, Environment, StatementTrees, are_named, body_numbers, body_of, declare_function,
+    enter_body, function_meaning, parameters_of, type_declared,
 };
 use c_check_units::{
-    Next, Output, add_function, count_names, declares_function, function_with, leave, name_of,
-    place_of_declarator, variables_of,
+    C3, C13, CheckError, Next, Output, add_function, count_names, declares_function, function_with,
+    leave, name_of, place_of_declarator, variables_of,
 };
-use c_check_values::{C3, C13, CheckError};
 use c_syntax::{Declarator, Ident, Spec, Stmt};
 use c_tree::{CType, Function, copy_type, copy_types};
 use dm_base::OutOfMemory;

@@ -1,22 +1,20 @@
 ghost use Rattle.std.specs.Prelude.{◌≡◌, false, IfOk, OnOk};
-ghost use Rattle.c_check_values.specs.Agreement.{AgreesWith};
+ghost use Rattle.c_check_units.specs.Agreement.{AgreesWith};
 ghost use Rattle.c_check_statements.specs.ObjectView.{object_seen};
 ghost use Rattle.c_rules.specs.Checked.{fine};
 ghost use Rattle.c_rules.specs.Functions.{behind_function, function_declared};
 ghost use Rattle.c_rules.specs.Items.{behind_global, global, global_declared, no_output, prototype};
 ghost use Rattle.c_rules.specs.Objects.{object_declared};
-ghost use Rattle.c_check_scopes.specs.Bound.{meaning_of};
-ghost use Rattle.c_check_scopes.specs.View.{before_of, env_of};
+ghost use Rattle.c_check_statements.specs.Bound.{meaning_of};
+ghost use Rattle.c_check_statements.specs.View.{before_of, env_of};
 ghost use Rattle.c_syntax.specs.UnitView.{maybe_init_of};
 ghost use Rattle.c_syntax.specs.View.{declarator_of, ident_of, spec_of};
 
-use c_check_scopes::{Before, Environment, Meaning};
 use c_check_statements::{
-    Object, declare_behind, declare_function, function_meaning, global_object, object_of,
-    type_declared, without_init,
+    Before, Environment, Meaning, Object, declare_behind, declare_function, function_meaning,
+    global_object, object_of, type_declared, without_init,
 };
-use c_check_units::place_of_declarator;
-use c_check_values::CheckError;
+use c_check_units::{CheckError, place_of_declarator};
 use c_syntax::{Declarator, Ident, Init, Spec};
 use std::alloc::Global;
 

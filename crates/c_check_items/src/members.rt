@@ -1,21 +1,21 @@
 ghost use Rattle.std.specs.Prelude.{◌≡◌, [], ◌∷◌, ◌++◌, reverse, Some, OnOk};
-ghost use Rattle.c_check_values.specs.Agreement.{AgreesWith};
+ghost use Rattle.c_check_units.specs.Agreement.{AgreesWith};
 ghost use Rattle.c_check_items.specs.Views.{member_seen};
 ghost use Rattle.c_rules.specs.Checked.{gives, on};
 ghost use Rattle.c_rules.specs.Declarators.{name_of, place_or};
 ghost use Rattle.c_rules.specs.Expressions.{type_declared};
 ghost use Rattle.c_rules.specs.Items.{member_declared, member_named, member_typed, members, members_declared, names_behind, with_option};
-ghost use Rattle.c_check_scopes.specs.View.{env_of};
+ghost use Rattle.c_check_statements.specs.View.{env_of};
 ghost use Rattle.c_check_statements.specs.Members.{members_of};
 ghost use Rattle.c_syntax.specs.UnitView.{declarators_of};
 ghost use Rattle.c_syntax.specs.UnitView.{members_of as listed_members};
 ghost use Rattle.c_syntax.specs.View.{declarator_of, ident_of, spec_of};
 ghost use Rattle.c_tree.specs.View.{ctype_of};
 
-use c_check_scopes::{Environment, Numbering, StructMember};
-use c_check_statements::{member_typed, new_member, type_declared};
-use c_check_units::{name_of, place_of_declarator};
-use c_check_values::{C3, CheckError};
+use c_check_statements::{
+    Environment, Numbering, StructMember, member_typed, new_member, type_declared,
+};
+use c_check_units::{C3, CheckError, name_of, place_of_declarator};
 use c_syntax::{Declarator, Ident, Member, Spec};
 use c_tree::CType;
 use std::alloc::Global;

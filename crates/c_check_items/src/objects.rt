@@ -1,5 +1,5 @@
 ghost use Rattle.std.specs.Prelude.{◌≡◌, ◌+◌, ◌≤◌, [], ◌∷◌, true, OnOk};
-ghost use Rattle.c_check_values.specs.Agreement.{AgreesWith};
+ghost use Rattle.c_check_units.specs.Agreement.{AgreesWith};
 ghost use Rattle.c_check_initialisers.specs.CellView.{typed_expressions_of};
 ghost use Rattle.c_check_statements.specs.ObjectView.{object_seen};
 ghost use Rattle.c_rules.specs.Checked.{fine};
@@ -9,19 +9,18 @@ ghost use Rattle.c_rules.specs.Items.{after_global, after_object, behind_global,
 ghost use Rattle.c_rules.specs.Limits.{most_static_cells};
 ghost use Rattle.c_rules.specs.Objects.{object_declared};
 ghost use Rattle.c_rules.specs.Scopes.{layout_of};
-ghost use Rattle.c_check_scopes.specs.View.{before_of, env_of};
+ghost use Rattle.c_check_statements.specs.View.{before_of, env_of};
 ghost use Rattle.c_syntax.specs.UnitView.{maybe_init_of};
 ghost use Rattle.c_syntax.specs.View.{declarator_of, ident_of, spec_of};
 ghost use Rattle.c_tree.specs.Layout.{cells};
 ghost use Rattle.c_tree.specs.View.{ctype_of, static_of};
 
 use crate::globals::global_declared;
-use c_check_scopes::{Before, Environment};
 use c_check_statements::{
-    Object, count_object, declare_behind, declare_within, initialised_static, static_object,
+    Before, Environment, Object, count_object, declare_behind, declare_within, initialised_static,
+    static_object,
 };
-use c_check_units::{count_names, leave};
-use c_check_values::{CheckError, TypedExpression};
+use c_check_units::{CheckError, TypedExpression, count_names, leave};
 use c_syntax::{Declarator, Ident, Init, Spec};
 use c_tree::Static;
 use std::alloc::Global;

@@ -1,19 +1,20 @@
 ghost use Rattle.std.specs.Prelude.{◌≡◌, ◌&&◌, not, false, Some, OnOk};
-ghost use Rattle.c_check_values.specs.Agreement.{AgreesWith};
+ghost use Rattle.c_check_units.specs.Agreement.{AgreesWith};
 ghost use Rattle.c_check_units.specs.OutputView.{object_output, output_of};
 ghost use Rattle.c_rules.specs.Checked.{gives};
 ghost use Rattle.c_rules.specs.Declarators.{name_of};
 ghost use Rattle.c_rules.specs.Functions.{declares_function};
 ghost use Rattle.c_rules.specs.Items.{after_declared, after_file_part, after_file_parts, behind_declared, behind_file_part, behind_file_parts, declared_part, defines, file_parts, named_part, with_output};
-ghost use Rattle.c_check_scopes.specs.View.{before_of, env_of};
+ghost use Rattle.c_check_statements.specs.View.{before_of, env_of};
 ghost use Rattle.c_syntax.specs.UnitView.{maybe_init_of, parts_of, storage_of};
 ghost use Rattle.c_syntax.specs.View.{declarator_of, ident_of, spec_of};
 
 use crate::globals::{global_declaration, prototype};
 use crate::objects::global_definition;
-use c_check_scopes::{Before, Environment};
-use c_check_units::{Output, add_object, declares_function, defines, name_of, place_of_declarator};
-use c_check_values::{C3, CheckError};
+use c_check_statements::{Before, Environment};
+use c_check_units::{
+    C3, CheckError, Output, add_object, declares_function, defines, name_of, place_of_declarator,
+};
 use c_syntax::{DeclPart, Declarator, Ident, Init, Spec, Storage};
 use c_tree::Static;
 use std::alloc::Global;

@@ -1,17 +1,18 @@
 ghost use Rattle.std.specs.Prelude.{◌≡◌, [], OnOk};
-ghost use Rattle.c_check_values.specs.Agreement.{AgreesWith};
+ghost use Rattle.c_check_units.specs.Agreement.{AgreesWith};
 ghost use Rattle.c_rules.specs.Checked.{gives, on};
 ghost use Rattle.c_rules.specs.Items.{members, no_output, struct_definition, struct_laid, struct_or_unknown, tag_declaration};
 ghost use Rattle.c_rules.specs.Scopes.{defined_struct, with_struct};
-ghost use Rattle.c_check_scopes.specs.View.{env_of};
+ghost use Rattle.c_check_statements.specs.View.{env_of};
 ghost use Rattle.c_check_statements.specs.Members.{members_of};
 ghost use Rattle.c_syntax.specs.UnitView.{members_of as listed_members};
 ghost use Rattle.c_syntax.specs.View.{ident_of};
 
 use crate::members::members;
-use c_check_scopes::{Environment, StructMember};
-use c_check_statements::{define_struct, new_struct, struct_laid, tag_declaration};
-use c_check_values::CheckError;
+use c_check_statements::{
+    Environment, StructMember, define_struct, new_struct, struct_laid, tag_declaration,
+};
+use c_check_units::CheckError;
 use c_syntax::{Ident, Member};
 use std::alloc::Global;
 

@@ -2,9 +2,9 @@
 use Rattle.std.proofs.Common.{◌≡◌, ℕ, ◌+◌, ◌<◌, ◌≤◌, Bool, true, false, cond, zero, suc, List, [], ◌∷◌, length, map, drop, get_or, Option, Some, None, refl, ap, sym, ◌∙◌, arith}
 use Rattle.std.specs.Prelude.{option_map, bytes_eq, slice_index_or}
 use Rattle.std.proofs.lemmas.List.{drop_all}
-use Rattle.c_check_scopes.specs.declared.structs.StructMember.{StructMember}
-use Rattle.c_check_scopes.specs.Known.{Known, type_of}
-use Rattle.c_check_scopes.specs.Shown.{knowns_of, members_types}
+use Rattle.c_check_values.specs.StructMember.{StructMember}
+use Rattle.c_check_values.specs.Known.{Known, type_of}
+use Rattle.c_check_values.specs.Shown.{knowns_of, members_types}
 use Rattle.c_rules.specs.Scopes.{type_of_member}
 use Rattle.c_tree.specs.Layout.{Structs, cells, first_cell}
 use Rattle.c_tree.specs.Tree.{void}
@@ -12,7 +12,7 @@ use Rattle.c_tree.specs.View.{ctype_of}
 use Rattle.c_check_values.proofs.PartsOfTypes.{at_place}
 use Rattle.c_rules.specs.Names.{Name, number_among}
 use Rattle.c_rules.specs.PostfixExpressions.{name_of_member}
-use Rattle.c_check_scopes.specs.View.{member_of as member_seen}
+use Rattle.c_check_values.specs.View.{member_of as member_seen}
 
 abbrev pub names : List StructMember → List Name
 names ms = map name_of_member (map member_seen (knowns_of ms))

@@ -5,15 +5,16 @@ ghost use Rattle.c_check_primary.specs.CalleeView.{callee_of, designator_of};
 ghost use Rattle.c_rules.specs.TypedExpression.{typed_value, not_constant};
 ghost use Rattle.c_rules.specs.Limits.{most_calls};
 ghost use Rattle.c_rules.specs.PostfixExpressions.{site_of, callee_of_type, callee_by_name, callee_through, callee_by_value, call_of, called};
-ghost use Rattle.c_check_scopes.specs.View.{env_of};
+ghost use Rattle.c_check_values.specs.View.{env_of};
 ghost use Rattle.c_tree.specs.Tree.{pointer};
 ghost use Rattle.c_tree.specs.View.{ctype_of, expr_of, exprs_of, types_of};
 
 use crate::callee::{Callee, Designator};
 use crate::names::{function_number, used};
 use crate::passing::{all_fit, as_many, passed};
-use c_check_scopes::{Context, Environment};
-use c_check_values::{C3, C5, C6, C13, CheckError, Constant, TypedExpression, typed_value};
+use c_check_values::{
+    C3, C5, C6, C13, CheckError, Constant, Context, Environment, TypedExpression, typed_value,
+};
 use c_tree::{CType, TExpr, TExprKind, copy_type, copy_types};
 use dm_base::{Mode, OutOfMemory};
 use dm_counts::Count;

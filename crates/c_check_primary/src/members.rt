@@ -1,19 +1,20 @@
 ghost use Rattle.std.specs.Prelude.{◌≡◌, ◌<◌, ◌^◌, length, map, IfOk, IfSome, slice_index_or};
 ghost use Rattle.c_check_values.specs.Agreement.{AgreesWith};
 ghost use Rattle.c_check_values.specs.TypedExpressionView.{typed_expression_of};
-ghost use Rattle.c_check_scopes.specs.Shown.{knowns_of, members_types};
+ghost use Rattle.c_check_values.specs.Shown.{knowns_of, members_types};
 ghost use Rattle.c_rules.specs.Constants.{constant_member};
 ghost use Rattle.c_rules.specs.TypedExpression.{a_place, tree_of};
 ghost use Rattle.c_rules.specs.Names.{number_among};
 ghost use Rattle.c_rules.specs.PostfixExpressions.{name_of_member, member_given, member_of_struct, member_of};
 ghost use Rattle.c_rules.specs.Scopes.{layout_of, struct_of, type_of_member};
-ghost use Rattle.c_check_scopes.specs.View.{env_of, member_of as member_seen};
+ghost use Rattle.c_check_values.specs.View.{env_of, member_of as member_seen};
 ghost use Rattle.c_tree.specs.Layout.{cells, cells_of_all, first_cell};
 ghost use Rattle.c_tree.specs.Tree.{field, void};
 ghost use Rattle.c_tree.specs.View.{ctype_of};
 
-use c_check_scopes::{Environment, StructMember};
-use c_check_values::{C1, C3, CheckError, Form, TypedExpression, constant_member};
+use c_check_values::{
+    C1, C3, CheckError, Environment, Form, StructMember, TypedExpression, constant_member,
+};
 use c_tree::{CType, TExpr, TExprKind, copy_type};
 use dm_base::OutOfMemory;
 use std::alloc::Global;

@@ -5,14 +5,14 @@ ghost use Rattle.c_rules.specs.Constants.{static_address};
 ghost use Rattle.c_rules.specs.Names.{number_among, given_names};
 ghost use Rattle.c_rules.specs.PrimaryExpressions.{given_number, used, object_number, function_number, function_value_number, static_given, local_given, typed_function, typed_int, meant, named_expression, integer_expression};
 ghost use Rattle.c_rules.specs.Scopes.{layout_of};
-ghost use Rattle.c_check_scopes.specs.Bound.{meaning_of};
-ghost use Rattle.c_check_scopes.specs.View.{context_of, env_of};
+ghost use Rattle.c_check_values.specs.Bound.{meaning_of};
+ghost use Rattle.c_check_values.specs.View.{context_of, env_of};
 ghost use Rattle.c_tree.specs.Layout.{cells};
 ghost use Rattle.c_tree.specs.View.{ctype_of};
 
-use c_check_scopes::{Context, Environment, Meaning, given_number, is_null_call};
 use c_check_values::{
-    C1, C10, C12, CheckError, Constant, Form, TypedExpression, static_address, typed_unsigned,
+    C1, C10, C12, CheckError, Constant, Context, Environment, Form, Meaning, TypedExpression,
+    given_number, is_null_call, static_address, typed_unsigned,
 };
 use c_tree::{CType, IntType, TExpr, TExprKind, Value, copy_type};
 use dm_base::OutOfMemory;

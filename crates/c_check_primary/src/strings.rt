@@ -6,13 +6,15 @@ ghost use Rattle.c_rules.specs.Constants.{address_of_static};
 ghost use Rattle.c_rules.specs.Limits.{most_cells};
 ghost use Rattle.c_rules.specs.TypedExpression.{a_place, known};
 ghost use Rattle.c_rules.specs.PrimaryExpressions.{most_cells_in, string_fits, string_number, string_expression};
-ghost use Rattle.c_check_scopes.specs.View.{before_of, context_of, env_of};
+ghost use Rattle.c_check_values.specs.View.{before_of, context_of, env_of};
 ghost use Rattle.c_tree.specs.Tree.{array, integer, string_place};
 ghost use Rattle.c_tree.specs.View.{ctype_of};
 ghost use Rattle.c_tree.specs.declared.value.IntType.TheVariants.{Char};
 
-use c_check_scopes::{Before, Context, Environment};
-use c_check_values::{C13, CheckError, Constant, Form, TypedExpression, address_of_static};
+use c_check_values::{
+    Before, C13, CheckError, Constant, Context, Environment, Form, TypedExpression,
+    address_of_static,
+};
 use c_tree::{CType, IntType, TExpr, TExprKind};
 use dm_base::OutOfMemory;
 use dm_counts::Count;

@@ -16,3 +16,17 @@ pub mod Prototypes
 pub mod Shown
 pub mod Strings
 pub mod View
+pub use Rattle.c_rules.specs.Checked
+pub use Rattle.c_rules.specs.Constants
+pub use Rattle.c_rules.specs.Conversions
+pub use Rattle.c_rules.specs.Limits
+pub use Rattle.c_rules.specs.PrimaryExpressions
+pub use Rattle.c_rules.specs.Scopes
+pub use Rattle.c_rules.specs.TypedExpression
+pub use Rattle.c_rules.specs.Types
+pub use Rattle.c_rules.specs.Declarators
+pub use Rattle.c_rules.specs.Functions
+pub use Rattle.c_rules.specs.Items
+pub use Rattle.c_rules.specs.Names
+pub use Rattle.c_rules.specs.Units
+pub use Rattle.c_rules.specs.Variables

@@ -2,9 +2,9 @@
 use Rattle.std.proofs.Common.{◌≡◌, ℕ, zero, suc, ◌+◌, ◌<◌, ◌≤◌, Bool, true, false, not, List, [], ◌∷◌, ◌++◌, length, drop, get_or, Option, Some, None, Result, slice_get, refl, ap, sym, subst, ◌∙◌}
 use Rattle.std.specs.Prelude.{is_some, is_none}
 use Rattle.std.proofs.lemmas.List.{drop_all, drop_more}
-use Rattle.c_check_values.specs.declared.error.CheckError.{CheckError}
-use Rattle.c_check_values.specs.Agreement.{Names, AgreesWith}
-use Rattle.c_check_values.proofs.Parts.{names_on, names_first, names_second}
+use Rattle.c_check_declarations.specs.CheckError.{CheckError}
+use Rattle.c_check_declarations.specs.Agreement.{Names, AgreesWith}
+use Rattle.c_check_declarations.proofs.Parts.{names_on, names_first, names_second}
 use Rattle.c_check_bodies.specs.declared.statement_tree.StatementTree.{StatementTree as StatementTreeOfCode}
 use Rattle.c_check_bodies.specs.StatementTreeView.{statement_tree_of}
 use Rattle.c_check_statements.specs.Ruled.{given_seen}

@@ -1,10 +1,10 @@
 -- That the variables of a part have numbers, and those of the parts behind it.
 use Rattle.std.proofs.Common.{◌≡◌, ℕ, ◌+◌, ◌<◌, List, [], ◌∷◌, ◌++◌, length, drop, get_or, Option, Some, None, ap, sym, subst, ◌∙◌, append-nil}
 use Rattle.std.proofs.lemmas.List.{drop_more}
-use Rattle.c_check_counts.proofs.NextLemmas.{first_have, later_have}
-use Rattle.c_check_counts.proofs.Rows.{group_is}
-use Rattle.c_check_counts.specs.Named.{name_of_part, names_of_block_item, names_of_group}
-use Rattle.c_check_counts.specs.Numbered.{HaveNumbers}
+use Rattle.c_check_bodies.proofs.NextLemmas.{first_have, later_have}
+use Rattle.c_check_bodies.proofs.Rows.{group_is}
+use Rattle.c_check_bodies.specs.Named.{name_of_part, names_of_block_item, names_of_group}
+use Rattle.c_check_bodies.specs.Numbered.{HaveNumbers}
 use Rattle.c_rules.specs.Names.{Name}
 use Rattle.c_rules.specs.Variables.{Next, names_of_block, names_of_decl, names_of_groups, names_of_parts, names_of_stmt, names_of_stmts, past_names}
 use Rattle.c_check_statements.specs.Listed.{stmts_in}

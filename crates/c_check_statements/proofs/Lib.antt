@@ -6,3 +6,4 @@ pub mod PartLemmas
 pub mod StatementLemmas
 pub mod SwitchLemmas
 pub use Rattle.c_check_expressions.proofs.Exits
+pub use Rattle.c_check_scopes.proofs.NumberLemmas

@@ -3,8 +3,8 @@ use Rattle.std.proofs.Common.{◌≡◌, ◌≤◌, List, length, arith}
 use Rattle.std.proofs.lemmas.List.{length-map}
 use Rattle.c_check_expressions.proofs.LengthLemmas.{AreWhole, local_few}
 use Rattle.c_check_expressions.specs.CellView.{typed_expressions_of}
-use Rattle.c_check_values.specs.declared.typed_expression.TypedExpression.{TypedExpression as TypedExpressionTree}
-use Rattle.c_check_values.specs.TypedExpressionView.{typed_expression_of}
+use Rattle.c_check_declarations.specs.TypedExpression.{TypedExpression as TypedExpressionTree}
+use Rattle.c_check_declarations.specs.TypedExpressionView.{typed_expression_of}
 use Rattle.c_rules.specs.Checked.{fine}
 use Rattle.c_rules.specs.Initialisers.{initialised_local}
 use Rattle.c_rules.specs.Limits.{most_cells}

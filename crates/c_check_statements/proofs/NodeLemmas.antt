@@ -2,9 +2,9 @@
 use Rattle.std.proofs.Common.{◌≡◌, ℕ, suc, ◌+◌, List, [], ◌++◌, Vec, Option, Some, None, Result, Ok, Err, OnOk, ap, sym, subst, ◌∙◌, append_assoc, append-nil, arith}
 use Rattle.std.specs.Prelude.{Box}
 use Rattle.std.specs.Global.{Global}
-use Rattle.c_check_counts.proofs.Rows.{block_is, if_is, switch_is}
-use Rattle.c_check_values.specs.declared.error.CheckError.{CheckError}
-use Rattle.c_check_values.specs.Agreement.{Names}
+use Rattle.c_check_bodies.proofs.Rows.{block_is, if_is, switch_is}
+use Rattle.c_check_declarations.specs.CheckError.{CheckError}
+use Rattle.c_check_declarations.specs.Agreement.{Names}
 use Rattle.c_check_bodies.specs.Scoped.{Declares}
 use Rattle.c_rules.specs.Blocks.{StatementTree, after_first, after_stmt, alone, bare, behind_first, held_by_block, held_by_first, held_by_groups, held_by_stmt, joined, one_more, with_tree}
 use Rattle.c_rules.specs.Checked.{Checked, fine, faulty, faults, both, gives}

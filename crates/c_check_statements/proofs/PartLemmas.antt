@@ -1,8 +1,8 @@
 -- Parts that are checked one after another, and what their faults are.
 use Rattle.std.proofs.Common.{◌≡◌, [], ◌∷◌, ◌++◌, refl, ap, sym, subst, ◌∙◌, append_assoc}
-use Rattle.c_check_values.specs.declared.error.CheckError.{CheckError}
-use Rattle.c_check_values.specs.Agreement.{Names}
-use Rattle.c_check_values.proofs.Parts.{named_left}
+use Rattle.c_check_declarations.specs.CheckError.{CheckError}
+use Rattle.c_check_declarations.specs.Agreement.{Names}
+use Rattle.c_check_declarations.proofs.Parts.{named_left}
 use Rattle.c_rules.specs.Checked.{Checked, fine, faulty, faults, all_three, beside, both, Two}
 pub use Rattle.c_check_expressions.proofs.InitLemmas.{faulty_not_fine}
 

@@ -1,10 +1,10 @@
 -- Statements one after another, and what stands before what follows them.
 use Rattle.std.proofs.Common.{◌≡◌, ℕ, ◌+◌, ◌<◌, ◌≤◌, List, [], ◌∷◌, ◌++◌, length, drop, get_or, refl, ap, sym, subst, ◌∙◌, append_assoc, append-nil}
 use Rattle.std.proofs.lemmas.List.{drop_all, drop_more}
-use Rattle.c_check_counts.specs.Named.{names_of_block_item}
-use Rattle.c_check_values.specs.declared.error.CheckError.{CheckError}
-use Rattle.c_check_values.specs.Agreement.{Names}
-use Rattle.c_check_values.proofs.Parts.{names_on, names_first}
+use Rattle.c_check_bodies.specs.Named.{names_of_block_item}
+use Rattle.c_check_declarations.specs.CheckError.{CheckError}
+use Rattle.c_check_declarations.specs.Agreement.{Names}
+use Rattle.c_check_declarations.proofs.Parts.{names_on, names_first}
 use Rattle.c_check_expressions.proofs.NodeLemmas.{past_none, past_past}
 use Rattle.c_rules.specs.Blocks.{StatementTree, after_decl, after_stmt, alone, appended, bare, behind_decl, held_by_block, held_by_decl, held_by_stmt, held_by_stmts, local_decl, one_more, some_more}
 use Rattle.c_rules.specs.Checked.{Checked, fine, faulty, faults, both, gives, on}

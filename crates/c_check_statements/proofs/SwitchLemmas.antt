@@ -1,11 +1,11 @@
 -- Labels and groups of a switch, one after another.
 use Rattle.std.proofs.Common.{◌≡◌, ℕ, ◌+◌, ◌<◌, ◌≤◌, List, [], ◌∷◌, ◌++◌, length, drop, get_or, refl, ap, sym, subst, ◌∙◌, append_assoc, append-nil}
 use Rattle.std.proofs.lemmas.List.{drop_all, drop_more}
-use Rattle.c_check_counts.proofs.Rows.{group_is}
-use Rattle.c_check_counts.specs.Named.{names_of_group}
-use Rattle.c_check_values.specs.declared.error.CheckError.{CheckError}
-use Rattle.c_check_values.specs.Agreement.{Names}
-use Rattle.c_check_values.proofs.Parts.{names_on, names_first}
+use Rattle.c_check_bodies.proofs.Rows.{group_is}
+use Rattle.c_check_bodies.specs.Named.{names_of_group}
+use Rattle.c_check_declarations.specs.CheckError.{CheckError}
+use Rattle.c_check_declarations.specs.Agreement.{Names}
+use Rattle.c_check_declarations.proofs.Parts.{names_on, names_first}
 use Rattle.c_check_bodies.specs.LabelledView.{groups_before, labelled_before}
 use Rattle.c_rules.specs.Blocks.{StatementTree, after_stmts, held_by_groups, held_by_stmts}
 use Rattle.c_rules.specs.Checked.{Checked, fine, faulty, faults, all_three, both, gives, on}

@@ -4,3 +4,9 @@ pub mod Two
 pub use Rattle.c_check_bodies.specs.StatementTreeView
 pub use Rattle.c_check_declarations.specs.Members
 pub use Rattle.c_check_declarations.specs.ObjectView
+pub use Rattle.c_check_scopes.specs.Bound
+pub use Rattle.c_check_scopes.specs.Held
+pub use Rattle.c_check_scopes.specs.Shown
+pub use Rattle.c_check_scopes.specs.View
+pub use Rattle.c_check_scopes.specs.declared.environment.Environment
+pub use Rattle.c_check_scopes.specs.declared.structs.StructMember

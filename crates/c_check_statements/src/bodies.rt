@@ -1,6 +1,6 @@
 ghost use Rattle.std.specs.Prelude.{◌≡◌, false, OnOk};
-ghost use Rattle.c_check_counts.specs.Numbered.{HaveNumbers, next_of};
-ghost use Rattle.c_check_values.specs.Agreement.{AgreesWith};
+ghost use Rattle.c_check_bodies.specs.Numbered.{HaveNumbers, next_of};
+ghost use Rattle.c_check_declarations.specs.Agreement.{AgreesWith};
 ghost use Rattle.c_check_bodies.specs.StatementTreeView.{statement_trees_of};
 ghost use Rattle.c_rules.specs.Blocks.{held_by_block};
 ghost use Rattle.c_rules.specs.Counts.{past};
@@ -14,10 +14,9 @@ ghost use Rattle.c_syntax.specs.WritesUnit.{block_items_of};
 ghost use Rattle.c_tree.specs.View.{ctype_of};
 
 use crate::statements::{items_of_block, statement};
-use c_check_bodies::{Around, StatementTrees, alone, leave_names};
-use c_check_counts::Next;
+use c_check_bodies::{Around, Next, StatementTrees, alone, leave_names};
+use c_check_declarations::CheckError;
 use c_check_scopes::{Before, Environment};
-use c_check_values::CheckError;
 use c_syntax::{BlockItem, Stmt, StmtKind};
 use c_tree::CType;
 use std::alloc::Global;

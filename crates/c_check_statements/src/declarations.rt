@@ -1,7 +1,7 @@
 ghost use Rattle.std.specs.Prelude.{◌≡◌, ◌∷◌, [], OnOk};
-ghost use Rattle.c_check_counts.specs.Named.{name_of_part};
-ghost use Rattle.c_check_counts.specs.Numbered.{HaveNumbers, next_of};
-ghost use Rattle.c_check_values.specs.Agreement.{AgreesWith};
+ghost use Rattle.c_check_bodies.specs.Named.{name_of_part};
+ghost use Rattle.c_check_bodies.specs.Numbered.{HaveNumbers, next_of};
+ghost use Rattle.c_check_declarations.specs.Agreement.{AgreesWith};
 ghost use Rattle.c_check_bodies.specs.StatementTreeView.{statement_trees_of, statement_tree_of};
 ghost use Rattle.c_check_bodies.specs.Scoped.{Declares};
 ghost use Rattle.c_rules.specs.Blocks.{after_decl, after_part, behind_decl, behind_part, behind_parts, held_by_parts, local_decl, local_part, local_parts, past_part};
@@ -12,10 +12,11 @@ ghost use Rattle.c_syntax.specs.UnitView.{decl_of, maybe_init_of, parts_of};
 ghost use Rattle.c_syntax.specs.View.{declarator_of, spec_of};
 
 use crate::locals::{local_named, place_of};
-use c_check_bodies::{StatementTree, StatementTrees, no_statements, past_part, pushed};
-use c_check_counts::{Next, name_of};
+use c_check_bodies::{
+    Next, StatementTree, StatementTrees, name_of, no_statements, past_part, pushed,
+};
+use c_check_declarations::{C3, CheckError};
 use c_check_scopes::{Before, Environment};
-use c_check_values::{C3, CheckError};
 use c_syntax::{Decl, DeclPart, Spec};
 use std::alloc::Global;
 

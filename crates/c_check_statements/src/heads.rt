@@ -1,7 +1,7 @@
 ghost use Rattle.std.specs.Prelude.{◌≡◌, OnOk};
-ghost use Rattle.c_check_counts.specs.Numbered.{HaveNumbers, next_of};
-ghost use Rattle.c_check_values.specs.Agreement.{AgreesWith};
-ghost use Rattle.c_check_values.specs.TypedExpressionView.{typed_expression_of};
+ghost use Rattle.c_check_bodies.specs.Numbered.{HaveNumbers, next_of};
+ghost use Rattle.c_check_declarations.specs.Agreement.{AgreesWith};
+ghost use Rattle.c_check_declarations.specs.TypedExpressionView.{typed_expression_of};
 ghost use Rattle.c_check_bodies.specs.StatementTreeView.{statement_trees_of, statement_tree_of};
 ghost use Rattle.c_check_bodies.specs.Scoped.{Declares};
 ghost use Rattle.c_rules.specs.Blocks.{after_first, alone, bare, behind_first};
@@ -21,13 +21,12 @@ ghost use Rattle.c_tree.specs.View.{ctype_of, expr_of as tree_seen, maybe_of as 
 
 use crate::declarations::local_decl;
 use c_check_bodies::{
-    StatementTree, StatementTrees, alone, bare, no_statements, returned_value, returned_void,
+    Next, StatementTree, StatementTrees, alone, bare, no_statements, returned_value, returned_void,
     switched,
 };
-use c_check_counts::Next;
+use c_check_declarations::{CheckError, TypedExpression, condition};
 use c_check_expressions::value;
 use c_check_scopes::{Before, Environment};
-use c_check_values::{CheckError, TypedExpression, condition};
 use c_syntax::{Expr, ForFirst};
 use c_tree::{CType, TExpr, TStmt};
 use std::alloc::Global;

@@ -1,5 +1,5 @@
 ghost use Rattle.std.specs.Prelude.{◌≡◌, OnOk};
-ghost use Rattle.c_check_values.specs.Agreement.{AgreesWith};
+ghost use Rattle.c_check_declarations.specs.Agreement.{AgreesWith};
 ghost use Rattle.c_rules.specs.Checked.{on};
 ghost use Rattle.c_rules.specs.Counts.{place_of};
 ghost use Rattle.c_rules.specs.Declarators.{constant_value};
@@ -10,9 +10,9 @@ ghost use Rattle.c_check_statements.specs.Listed.{items_of_labels, label_alone};
 ghost use Rattle.c_syntax.specs.UnitView.{labels_of as labels_seen};
 ghost use Rattle.c_syntax.specs.View.{expr_of};
 
+use c_check_declarations::CheckError;
 use c_check_expressions::{constant_value, folded_value, value_of_number};
 use c_check_scopes::Environment;
-use c_check_values::CheckError;
 use c_syntax::{Expr, Label, LabelKind};
 use c_tree::{IntType, TLabel, Value};
 use std::alloc::Global;

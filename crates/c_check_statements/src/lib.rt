@@ -18,5 +18,6 @@ pub use c_check_declarations::{
     without_init,
 };
 pub use c_check_expressions::{folded_value, initialised_static, type_declared};
+pub use c_check_scopes::{Before, Environment, Meaning, Numbering, StructMember};
 pub use declarations::local_decl;
 pub use statements::statement;

@@ -1,7 +1,7 @@
 ghost use Rattle.std.specs.Prelude.{◌≡◌, ◌≤◌, Some, OnOk};
 ghost use Rattle.c_check_expressions.specs.CellView.{cells_of};
-ghost use Rattle.c_check_counts.specs.Numbered.{next_of};
-ghost use Rattle.c_check_values.specs.Agreement.{AgreesWith};
+ghost use Rattle.c_check_bodies.specs.Numbered.{next_of};
+ghost use Rattle.c_check_declarations.specs.Agreement.{AgreesWith};
 ghost use Rattle.c_check_bodies.specs.StatementTreeView.{statement_tree_of};
 ghost use Rattle.c_check_bodies.specs.Scoped.{Declares};
 ghost use Rattle.c_check_declarations.specs.ObjectView.{object_seen};
@@ -20,12 +20,10 @@ ghost use Rattle.c_syntax.specs.UnitView.{maybe_init_of};
 ghost use Rattle.c_syntax.specs.View.{declarator_of, ident_of, spec_of};
 ghost use Rattle.c_tree.specs.Layout.{cells};
 
-use c_check_bodies::{StatementTree, declare_variable, laid_variable, leave_names};
-use c_check_counts::Next;
-use c_check_declarations::{Object, object_of};
+use c_check_bodies::{Next, StatementTree, declare_variable, laid_variable, leave_names};
+use c_check_declarations::{C3, CheckError, Object, TypedExpression, object_of};
 use c_check_expressions::{initialised_local, new_name, type_declared};
 use c_check_scopes::{Before, Environment, given_number, has_given_type};
-use c_check_values::{C3, CheckError, TypedExpression};
 use c_syntax::{Declarator, DeclaratorKind, Ident, Init, Spec};
 use std::alloc::Global;
 

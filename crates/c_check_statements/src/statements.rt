@@ -1,7 +1,7 @@
 ghost use Rattle.std.specs.Prelude.{◌≡◌, ◌++◌, OnOk};
-ghost use Rattle.c_check_counts.specs.Named.{names_of_block_item, names_of_group};
-ghost use Rattle.c_check_counts.specs.Numbered.{HaveNumbers, next_of};
-ghost use Rattle.c_check_values.specs.Agreement.{AgreesWith};
+ghost use Rattle.c_check_bodies.specs.Named.{names_of_block_item, names_of_group};
+ghost use Rattle.c_check_bodies.specs.Numbered.{HaveNumbers, next_of};
+ghost use Rattle.c_check_declarations.specs.Agreement.{AgreesWith};
 ghost use Rattle.c_check_bodies.specs.AroundView.{around_of};
 ghost use Rattle.c_check_bodies.specs.LabelledView.{labelled_of};
 ghost use Rattle.c_check_bodies.specs.StatementTreeView.{statement_trees_of, statement_tree_of};
@@ -26,13 +26,12 @@ use crate::declarations::local_decl;
 use crate::heads::{condition_of, evaluated, first_of, returned, switched_value, tests_of};
 use crate::labels::labels_of;
 use c_check_bodies::{
-    Around, Labelled, StatementTree, StatementTrees, alone, appended, bare, block, broken_off,
-    continued, do_loop, for_loop, group_added, if_else, in_loop, in_switch, label_type,
+    Around, Labelled, Next, StatementTree, StatementTrees, alone, appended, bare, block,
+    broken_off, continued, do_loop, for_loop, group_added, if_else, in_loop, in_switch, label_type,
     leave_block, no_labelled, no_statements, only_if, pushed, switch_laid, while_loop,
 };
-use c_check_counts::Next;
+use c_check_declarations::CheckError;
 use c_check_scopes::{Before, Environment};
-use c_check_values::CheckError;
 use c_syntax::{BlockItem, Expr, ForFirst, Group, Stmt, StmtKind};
 use c_tree::{IntType, TExpr, TStmt};
 use std::alloc::Global;

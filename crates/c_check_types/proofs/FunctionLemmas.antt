@@ -2,11 +2,11 @@
 use Rattle.std.proofs.Common.{◌≡◌, ℕ, ◌<◌, ◌≤◌, true, false, suc, List, [], ◌∷◌, length, Vec, Global, refl, ap, sym, subst, ◌∙◌, arith}
 use Rattle.std.specs.Prelude.{Box, nat_le, Result, Contains}
 use Rattle.std.proofs.lemmas.Bool.{le-leb, lt-leb}
-use Rattle.c_tree.specs.declared.tree.CType.{CType as TypeTree}
-use Rattle.c_tree.specs.declared.tree.CType.TheVariants.{Function}
-use Rattle.c_tree.specs.Tree.{CType, function}
+use Rattle.c_check_values.specs.CType.{CType as TypeTree}
+use Rattle.c_check_values.specs.CType.TheVariants.{Function}
+use Rattle.c_check_values.specs.Tree.{CType, function}
 use Rattle.c_tree.specs.View.{ctype_of, types_of}
-use Rattle.c_tree.proofs.Rows.{function_is}
+use Rattle.c_check_values.proofs.Rows.{function_is}
 use Rattle.c_check_values.specs.declared.error.CheckError.{CheckError}
 use Rattle.c_check_values.specs.Agreement.{AgreesWith}
 use Rattle.c_rules.specs.Checked.{faults, demand, on, met}

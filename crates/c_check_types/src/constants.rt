@@ -4,8 +4,7 @@ ghost use Rattle.c_check_values.specs.TypedExpressionView.{constant_of, typed_ex
 ghost use Rattle.c_rules.specs.Constants.{number_of};
 ghost use Rattle.c_rules.specs.Declarators.{defined_value, constant_value, positive, array_size};
 
-use c_check_values::{C6, CheckError, Constant, TypedExpression};
-use c_tree::Value;
+use c_check_values::{C6, CheckError, Constant, TypedExpression, Value};
 
 // A constant that is defined.
 fn defined_value(place: u32, c: Constant) -> Result<Value, CheckError>

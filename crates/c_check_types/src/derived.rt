@@ -5,8 +5,9 @@ ghost use Rattle.c_rules.specs.Types.{adjusted};
 ghost use Rattle.c_check_values.specs.View.{env_of};
 ghost use Rattle.c_tree.specs.View.{ctype_of, types_of};
 
-use c_check_values::{C3, C13, CheckError, Environment, complete, few_parts, is_result, is_scalar};
-use c_tree::{CType, copy_type};
+use c_check_values::{
+    C3, C13, CType, CheckError, Environment, complete, copy_type, few_parts, is_result, is_scalar,
+};
 use dm_base::OutOfMemory;
 use std::alloc::Global;
 

@@ -6,6 +6,7 @@ mod derived;
 mod names;
 mod specifiers;
 
+pub use c_check_values::{C14, CheckError, TypedExpression, valued};
 pub use constants::{array_size, constant_value};
 pub use derived::{array_of, function_of, parameter_of, pointer_to};
 pub use names::{free_name, new_name};

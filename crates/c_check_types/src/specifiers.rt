@@ -7,9 +7,8 @@ ghost use Rattle.c_check_values.specs.View.{env_of};
 ghost use Rattle.c_syntax.specs.View.{spec_of};
 ghost use Rattle.c_tree.specs.View.{ctype_of};
 
-use c_check_values::{C1, C2, CheckError, Environment};
+use c_check_values::{C1, C2, CType, CheckError, Environment, IntType};
 use c_syntax::Spec;
-use c_tree::{CType, IntType};
 
 /// The type that specifiers name (C99 6.7.2). A tag that is mentioned names a struct or an enum throughout (6.7.2.3
 /// paragraph 1). An enumerated type is int, and its tag is declared before.

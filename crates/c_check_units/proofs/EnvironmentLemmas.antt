@@ -5,15 +5,15 @@ use Rattle.std.proofs.lemmas.Bool.{and_parts, ltb-true}
 use Rattle.std.proofs.lemmas.List.{take_more, take_all, map-append}
 use Rattle.dm_base.specs.declared.mode.Mode.{Mode}
 use Rattle.c_check_counts.specs.Seen.{bytes_of, seen}
-use Rattle.c_check_scopes.specs.Known.{Known}
+use Rattle.c_check_values.specs.Known.{Known}
 use Rattle.c_check_values.specs.Agreement.{Names}
 use Rattle.c_check_values.specs.declared.error.CheckError.TheVariants as errors
 use Rattle.c_rules.specs.Checked.{faults, demand, met}
 use Rattle.c_rules.specs.Names.{Name}
 use Rattle.c_rules.specs.Scopes.{Env, Struct, incomplete, evaluated, empty_env}
 use Rattle.c_rules.specs.Units.{functions_of, objects_of, tags_of, few_names}
-use Rattle.c_check_scopes.specs.Bound.{Bound, bindings_of}
-use Rattle.c_check_scopes.specs.View.{structs_of}
+use Rattle.c_check_values.specs.Bound.{Bound, bindings_of}
+use Rattle.c_check_values.specs.View.{structs_of}
 use Rattle.c_syntax.specs.Tree.{Items}
 
 -- ## Names in their order

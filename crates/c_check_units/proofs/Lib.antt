@@ -12,3 +12,5 @@ pub mod ProgramLemmas
 pub mod StringLemmas
 pub mod StructLemmas
 pub mod TypedLemmas
+pub use Rattle.c_check_values.proofs.Parts
+pub use Rattle.c_check_values.proofs.PartsOfTypes

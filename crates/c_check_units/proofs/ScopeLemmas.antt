@@ -3,9 +3,9 @@ use Rattle.std.proofs.Common.{◌≡◌, ℕ, zero, suc, List, [], ◌∷◌, �
 use Rattle.std.proofs.lemmas.List.{length-map}
 use Rattle.c_check_units.specs.Scoped.{IsWithin}
 use Rattle.c_rules.specs.Scopes.{Env, Binding}
-use Rattle.c_check_scopes.specs.declared.environment.Environment.{Environment}
-use Rattle.c_check_scopes.specs.Bound.{Bound, binding_of, bindings_of}
-use Rattle.c_check_scopes.specs.View.{env_of}
+use Rattle.c_check_values.specs.Environment.{Environment}
+use Rattle.c_check_values.specs.Bound.{Bound, binding_of, bindings_of}
+use Rattle.c_check_values.specs.View.{env_of}
 
 pub names_counted : (e : Environment) (n : ℕ) → n ≡ length e.names → length (env_of e).names ≡ n
 names_counted e n is = length-map e.names binding_of ∙ sym is

@@ -2,11 +2,11 @@
 use Rattle.std.proofs.Common.{◌≡◌, inl, inr, ℕ, zero, suc, ◌+◌, ◌<◌, ◌≤◌, List, [], ◌∷◌, ◌++◌, length, map, take, get_or, Option, Some, None, slice_get, refl, ap, sym, subst, ◌∙◌, arith}
 use Rattle.std.specs.Prelude.{unwrap_or}
 use Rattle.std.proofs.lemmas.List.{length-map, map-append, length_push, take_all, take_more}
-use Rattle.c_check_scopes.specs.declared.structs.StructMember.{StructMember}
-use Rattle.c_check_scopes.specs.Known.{Known, type_of}
-use Rattle.c_check_scopes.specs.Shown.{knowns_of, members_types}
+use Rattle.c_check_values.specs.StructMember.{StructMember}
+use Rattle.c_check_values.specs.Known.{Known, type_of}
+use Rattle.c_check_values.specs.Shown.{knowns_of, members_types}
 use Rattle.c_rules.specs.Scopes.{Struct, incomplete, types_of_struct, type_of_member}
-use Rattle.c_check_scopes.specs.View.{member_of}
+use Rattle.c_check_values.specs.View.{member_of}
 use Rattle.c_tree.specs.Counts.{AreCounts}
 use Rattle.c_tree.specs.declared.tree.CType.{CType as TypeTree}
 use Rattle.c_tree.specs.declared.tree.StructMembers.{StructMembers}

@@ -8,3 +8,7 @@ pub mod Made
 pub mod OutputView
 pub mod Scoped
 pub use Rattle.c_check_counts.specs.Numbered
+pub use Rattle.c_check_values.specs.Agreement
+pub use Rattle.c_check_values.specs.TypedExpressionView
+pub use Rattle.c_check_values.specs.declared.error.CheckError
+pub use Rattle.c_check_values.specs.declared.typed_expression.TypedExpression

@@ -3,13 +3,12 @@ ghost use Rattle.c_check_values.specs.Agreement.{AgreesWith};
 ghost use Rattle.c_rules.specs.Checked.{demand};
 ghost use Rattle.c_rules.specs.Limits.{most_local_cells};
 ghost use Rattle.c_rules.specs.Scopes.{layout_of};
-ghost use Rattle.c_check_scopes.specs.View.{env_of};
+ghost use Rattle.c_check_values.specs.View.{env_of};
 ghost use Rattle.c_tree.specs.Layout.{cells_of_all};
 ghost use Rattle.c_tree.specs.Tree.{block, list_of};
 ghost use Rattle.c_tree.specs.View.{ctype_of, ctypes_of, function_of, stmts_of, types_of};
 
-use c_check_scopes::Environment;
-use c_check_values::{C13, CheckError};
+use c_check_values::{C13, CheckError, Environment};
 use c_syntax::Ident;
 use c_tree::{CType, Function, TStmt, copy_types};
 use dm_base::{Bytes, Mode, OutOfMemory};

@@ -4,13 +4,14 @@ ghost use Rattle.c_check_values.specs.Agreement.{AgreesWith};
 ghost use Rattle.c_rules.specs.Checked.{met};
 ghost use Rattle.c_rules.specs.Scopes.{empty_env, incomplete};
 ghost use Rattle.c_rules.specs.Units.{env_before, few_names, functions_of, objects_of};
-ghost use Rattle.c_check_scopes.specs.View.{env_of, structs_of};
+ghost use Rattle.c_check_values.specs.View.{env_of, structs_of};
 ghost use Rattle.c_syntax.specs.UnitView.{items_of};
 
 use crate::unit_tags::tags_of;
 use c_check_counts::{functions_of, objects_of};
-use c_check_scopes::{Context, Environment, FewNames, Numbering, Scopes, StructTable};
-use c_check_values::{C13, CheckError};
+use c_check_values::{
+    C13, CheckError, Context, Environment, FewNames, Numbering, Scopes, StructTable,
+};
 use c_syntax::Item;
 use dm_base::{Mode, OutOfMemory};
 use dm_counts::Count;

@@ -23,6 +23,7 @@ mod units;
 
 pub use bodies::{function_with, variables_of};
 pub use c_check_counts::{Next, name_of};
+pub use c_check_values::{C3, C13, CheckError, TypedExpression};
 pub use environments::environment_before;
 pub use forms::{declares_function, defines, place_of_declarator, place_of_expression};
 pub use mains::has_main;

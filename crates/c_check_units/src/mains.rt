@@ -2,13 +2,13 @@ ghost use Rattle.std.specs.Prelude.{◌≡◌, codes};
 ghost use Rattle.c_rules.specs.Scopes.{binding_of};
 ghost use Rattle.c_rules.specs.Types.{same_type, same_types};
 ghost use Rattle.c_rules.specs.Units.{is_main_meant, is_main_bound};
-ghost use Rattle.c_check_scopes.specs.Bound.{meaning_of};
-ghost use Rattle.c_check_scopes.specs.View.{env_of};
+ghost use Rattle.c_check_values.specs.Bound.{meaning_of};
+ghost use Rattle.c_check_values.specs.View.{env_of};
 ghost use Rattle.c_tree.specs.Functions.{int, of_none};
 ghost use Rattle.c_tree.specs.Tree.{no_types};
 ghost use Rattle.c_tree.specs.View.{ctype_of, types_of};
 
-use c_check_scopes::{Environment, Meaning};
+use c_check_values::{Environment, Meaning};
 use c_tree::{CType, IntType};
 
 fn is_int(t: &CType) -> bool

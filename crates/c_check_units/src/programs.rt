@@ -3,14 +3,14 @@ ghost use Rattle.c_check_counts.specs.Seen.{seen};
 ghost use Rattle.c_rules.specs.Limits.{most_cells};
 ghost use Rattle.c_rules.specs.Names.{number_among};
 ghost use Rattle.c_rules.specs.Units.{static_string};
-ghost use Rattle.c_check_scopes.specs.View.{before_of, env_of};
+ghost use Rattle.c_check_values.specs.View.{before_of, env_of};
 ghost use Rattle.c_tree.specs.Program.{IsProgram};
 ghost use Rattle.c_tree.specs.View.{program_of, static_of};
 ghost use Rattle.c_check_units.specs.Made.{output_of, program_made};
 
 use crate::strings::static_string;
 use crate::structs::{cells_of_structs, structs_of};
-use c_check_scopes::{Before, Environment};
+use c_check_values::{Before, Environment};
 use c_tree::{Function, Program, Static};
 use dm_base::OutOfMemory;
 use std::alloc::Global;

@@ -1,9 +1,9 @@
 ghost use Rattle.std.specs.Prelude.{◌≡◌, length};
 ghost use Rattle.c_check_units.specs.Scoped.{IsWithin};
 ghost use Rattle.c_rules.specs.Scopes.{Env};
-ghost use Rattle.c_check_scopes.specs.View.{env_of};
+ghost use Rattle.c_check_values.specs.View.{env_of};
 
-use c_check_scopes::Environment;
+use c_check_values::Environment;
 use dm_counts::Count;
 
 /// Leaves scopes and names that were entered since so many names were declared at this depth.

@@ -1,11 +1,11 @@
 ghost use Rattle.std.specs.Prelude.{◌≡◌, length, map, IfOk};
-ghost use Rattle.c_check_scopes.specs.Shown.{members_types};
+ghost use Rattle.c_check_values.specs.Shown.{members_types};
 ghost use Rattle.c_rules.specs.Scopes.{layout_of, struct_of, types_of_struct};
-ghost use Rattle.c_check_scopes.specs.View.{env_of};
+ghost use Rattle.c_check_values.specs.View.{env_of};
 ghost use Rattle.c_tree.specs.Counts.{AreCounts};
 ghost use Rattle.c_tree.specs.View.{ctypes_of, members_in};
 
-use c_check_scopes::{Environment, StructMember};
+use c_check_values::{Environment, StructMember};
 use c_tree::{CType, StructMembers, copy_type};
 use dm_base::OutOfMemory;
 use std::alloc::Global;

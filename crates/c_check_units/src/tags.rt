@@ -10,7 +10,7 @@ ghost use Rattle.c_check_counts.specs.Seen.{seen};
 
 use crate::gather::add;
 use c_check_counts::name_of;
-use c_check_scopes::is_added;
+use c_check_values::is_added;
 use c_syntax::{
     BlockItem, Decl, DeclPart, Declarator, DeclaratorKind, Enumerator, Expr, ExprKind, ForFirst,
     Group, Init, InitKind, Item, ItemKind, Label, LabelKind, Member, Param, Spec, Stmt, StmtKind,

@@ -7,7 +7,7 @@ ghost use Rattle.c_check_counts.specs.Seen.{seen};
 
 use crate::gather::add;
 use crate::tags::{add_enumerators, add_tags};
-use c_check_scopes::Numbering;
+use c_check_values::Numbering;
 use c_syntax::{Enumerator, Item};
 use dm_base::OutOfMemory;
 use std::alloc::Global;

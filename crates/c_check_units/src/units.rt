@@ -4,7 +4,7 @@ ghost use Rattle.c_rules.specs.Checked.{fine, met};
 ghost use Rattle.c_rules.specs.Items.{after_items, items};
 ghost use Rattle.c_rules.specs.Scopes.{nothing_before};
 ghost use Rattle.c_rules.specs.Units.{IsTyped, checked, env_before, env_behind, few_names};
-ghost use Rattle.c_check_scopes.specs.View.{before_of, env_of};
+ghost use Rattle.c_check_values.specs.View.{before_of, env_of};
 ghost use Rattle.c_syntax.specs.UnitView.{items_of};
 ghost use Rattle.c_tree.specs.Program.{IsProgram};
 ghost use Rattle.c_tree.specs.Tree.{Program as ProgramTerm};
@@ -13,8 +13,7 @@ ghost use Rattle.c_check_units.specs.Made.{output_of};
 
 use crate::mains::has_main;
 use crate::programs::{main_number, program_with};
-use c_check_scopes::{Before, Environment};
-use c_check_values::{C9, CheckError};
+use c_check_values::{Before, C9, CheckError, Environment};
 use c_syntax::Item;
 use c_tree::{Function, Program, Static};
 use dm_base::Mode;

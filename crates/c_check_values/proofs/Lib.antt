@@ -4,3 +4,6 @@ pub mod PartsOfTypes
 pub mod PushLemmas
 pub mod SameLemmas
 pub use Rattle.c_check_scopes.proofs.MeasuredLemmas
+pub use Rattle.c_check_scopes.proofs.NumberLemmas
+pub use Rattle.c_check_scopes.proofs.SeenLemmas
+pub use Rattle.c_tree.proofs.Rows

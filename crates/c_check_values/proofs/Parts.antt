@@ -4,7 +4,7 @@ use Rattle.std.proofs.lemmas.Result.{err_from_is_err_and}
 use Rattle.std.proofs.lemmas.List.Elements.{Contains-append_left, Contains-append_right}
 use Rattle.c_check_values.specs.declared.error.CheckError.{CheckError}
 use Rattle.c_check_values.specs.declared.error.CheckError.TheVariants as errors
-use Rattle.c_rules.specs.Checked.{Fault, Checked, fine, faulty, faults, on, both, parts_first}
+use Rattle.c_check_scopes.specs.Checked.{Fault, Checked, fine, faulty, faults, on, both, parts_first}
 use Rattle.c_check_values.specs.Agreement.{Names, AgreesWith}
 
 -- ## Errors: a demand that fails in a part fails in the whole

@@ -5,7 +5,7 @@ use Rattle.c_tree.specs.declared.tree.CType.{CType as TypeTree}
 use Rattle.c_tree.specs.declared.tree.CType.TheVariants.{Function}
 use Rattle.c_tree.specs.View.{ctype_of, types_of}
 use Rattle.c_tree.proofs.Rows.{function_is}
-use Rattle.c_rules.specs.Types.{parts, parts_of_all}
+use Rattle.c_check_scopes.specs.Types.{parts, parts_of_all}
 pub use Rattle.c_check_scopes.proofs.TableLemmas.{at_place}
 
 pub rest_parts : (ts : List TypeTree) (i : ℕ) (t : TypeTree) → i < length ts → t ≡ get_or ts i t → parts_of_all (types_of (drop i ts)) ≡ 1 + (parts (ctype_of t) + parts_of_all (types_of (drop (i + 1) ts)))

@@ -4,7 +4,7 @@ use Rattle.std.proofs.lemmas.Bool.{eqb-true, eq-eqb}
 use Rattle.c_tree.specs.declared.value.IntType.{IntType}
 use Rattle.c_tree.specs.declared.value.IntType.TheVariants.{Char, Uchar, Int, Uint}
 use Rattle.c_tree.specs.Tree.{CType, void, integer, pointer, array, struct, function, CTypes, no_types, more_types}
-use Rattle.c_rules.specs.Types.{same_integer, same_type, same_types}
+use Rattle.c_check_scopes.specs.Types.{same_integer, same_type, same_types}
 use Rattle.c_check_scopes.proofs.NumberLemmas.{not_so}
 
 pub false_not_true : {A : Type 0} → false ≡ true → A

@@ -2,7 +2,7 @@
 use Rattle.std.specs.Prelude.{◌≡◌, List, Result, Ok, Err, Contains}
 use Rattle.c_check_values.specs.declared.error.CheckError.{CheckError}
 use Rattle.c_check_values.specs.declared.error.CheckError.TheVariants as errors
-use Rattle.c_rules.specs.Checked.{Fault, Checked, fine, faults}
+use Rattle.c_check_scopes.specs.Checked.{Fault, Checked, fine, faults}
 
 -- the error names one of these demands, unless memory was refused
 abbrev pub Names : CheckError → List Fault → Type 0

@@ -6,3 +6,9 @@ pub use Rattle.c_check_scopes.specs.Known
 pub use Rattle.c_check_scopes.specs.Shown
 pub use Rattle.c_check_scopes.specs.View
 pub use Rattle.c_check_scopes.specs.declared.structs.StructMember
+pub use Rattle.c_check_scopes.specs.Bound
+pub use Rattle.c_check_scopes.specs.declared.environment.Environment
+pub use Rattle.c_check_scopes.specs.Held
+pub use Rattle.c_check_scopes.specs.declared.meaning.Meaning
+pub use Rattle.c_tree.specs.Tree
+pub use Rattle.c_tree.specs.declared.tree.CType

@@ -5,7 +5,7 @@ use Rattle.c_check_values.specs.declared.typed_expression.Form.{Form as FormTree
 use Rattle.c_check_values.specs.declared.typed_expression.Form.TheVariants as forms
 use Rattle.c_check_values.specs.declared.typed_expression.Constant.{Constant as ConstantTree}
 use Rattle.c_check_values.specs.declared.typed_expression.Constant.TheVariants as constants
-use Rattle.c_rules.specs.TypedExpression.{TypedExpression, Form, a_value, a_place, behind, Constant, not_constant, undefined, known}
+use Rattle.c_check_scopes.specs.TypedExpression.{TypedExpression, Form, a_value, a_place, behind, Constant, not_constant, undefined, known}
 
 abbrev pub form_of : FormTree → Form
 form_of (forms.Value e) = a_value (expr_of e)

@@ -2,8 +2,8 @@ ghost use Rattle.std.specs.Prelude.{◌≡◌, ℕ, ◌<◌, ◌+◌, ◌*◌, �
 ghost use Rattle.c_check_values.specs.Moved.{moved_value};
 ghost use Rattle.c_tree.specs.declared.value.Value.TheVariants.{At};
 ghost use Rattle.c_check_values.specs.TypedExpressionView.{constant_of};
-ghost use Rattle.c_rules.specs.Constants.{address_of_static, static_address, number_of, is_within, part_of, constant_member, constant_decayed, moved, constant_moved};
-ghost use Rattle.c_rules.specs.Limits.{most_cells};
+ghost use Rattle.c_check_scopes.specs.Constants.{address_of_static, static_address, number_of, is_within, part_of, constant_member, constant_decayed, moved, constant_moved};
+ghost use Rattle.c_check_scopes.specs.Limits.{most_cells};
 
 use crate::operators::number_of;
 use crate::typed_expression::Constant;

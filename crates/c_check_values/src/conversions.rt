@@ -1,9 +1,9 @@
 ghost use Rattle.std.specs.Prelude.{◌≡◌, IfOk};
 ghost use Rattle.c_check_values.specs.Agreement.{AgreesWith};
 ghost use Rattle.c_check_values.specs.TypedExpressionView.{typed_expression_of};
-ghost use Rattle.c_rules.specs.Checked.{met};
-ghost use Rattle.c_rules.specs.Conversions.{is_defined, complete, valued, null_of, fits, assigned, as_if_assigned, condition};
-ghost use Rattle.c_rules.specs.Scopes.{struct_of};
+ghost use Rattle.c_check_scopes.specs.Checked.{met};
+ghost use Rattle.c_check_scopes.specs.Conversions.{is_defined, complete, valued, null_of, fits, assigned, as_if_assigned, condition};
+ghost use Rattle.c_check_scopes.specs.Scopes.{struct_of};
 ghost use Rattle.c_check_scopes.specs.View.{env_of};
 ghost use Rattle.c_tree.specs.View.{ctype_of, expr_of};
 

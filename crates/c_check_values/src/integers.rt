@@ -1,6 +1,6 @@
 ghost use Rattle.std.specs.Prelude.{◌≡◌, IfOk};
 ghost use Rattle.c_check_values.specs.TypedExpressionView.{typed_expression_of};
-ghost use Rattle.c_rules.specs.Conversions.{has_integer, cast_to, converted_to};
+ghost use Rattle.c_check_scopes.specs.Conversions.{has_integer, cast_to, converted_to};
 ghost use Rattle.c_tree.specs.Operands.{promoted, common};
 ghost use Rattle.c_tree.specs.View.{ctype_of};
 

@@ -20,8 +20,11 @@ pub use addresses::{
     address_of_static, constant_member, constant_moved_back, constant_moved_on, static_address,
 };
 pub use c_check_scopes::{
-    Before, Environment, StructMember, is_given, may_be_declared, nothing_before,
+    Before, Context, Environment, FewNames, Meaning, Numbering, Scopes, StructMember, StructTable,
+    given_number, has_given_type, is_added, is_given, is_null_call, may_be_declared,
+    nothing_before,
 };
+pub use c_tree::{CType, IntType, Value, copy_type};
 pub use c_values::convert;
 pub use codes::{C1, C2, C3, C4, C5, C6, C7, C8, C9, C10, C11, C12, C13, C14};
 pub use conversions::{as_if_assigned, assigned, complete, condition, fits, valued};

@@ -1,7 +1,7 @@
 ghost use Rattle.std.specs.Prelude.{suc};
 ghost use Rattle.c_check_values.specs.Agreement.{AgreesWith};
-ghost use Rattle.c_rules.specs.Checked.{met};
-ghost use Rattle.c_rules.specs.PrimaryExpressions.{few_cells};
+ghost use Rattle.c_check_scopes.specs.Checked.{met};
+ghost use Rattle.c_check_scopes.specs.PrimaryExpressions.{few_cells};
 
 use crate::codes::C13;
 use crate::error::CheckError;

@@ -1,7 +1,7 @@
 ghost use Rattle.std.specs.Prelude.{◌≡◌, ◌≤ℤ◌, pos, negsuc};
 ghost use Rattle.c_check_values.specs.TypedExpressionView.{constant_of};
-ghost use Rattle.c_rules.specs.Constants.{answered, number_of, constant_converted, constant_unary, constant_binary, constant_truth, constant_and, constant_or, constant_conditional};
-ghost use Rattle.c_rules.specs.TypedExpression.{not_constant};
+ghost use Rattle.c_check_scopes.specs.Constants.{answered, number_of, constant_converted, constant_unary, constant_binary, constant_truth, constant_and, constant_or, constant_conditional};
+ghost use Rattle.c_check_scopes.specs.TypedExpression.{not_constant};
 ghost use Rattle.c_tree.specs.Operands.{kind_of, shift};
 ghost use Rattle.c_tree.specs.Operators.{truth, convert, unary, binary, where_shift};
 ghost use Rattle.c_check_values.specs.Shifts.{shifts};

@@ -1,5 +1,5 @@
 ghost use Rattle.std.specs.Prelude.{◌≡◌, IfOk};
-ghost use Rattle.c_rules.specs.TypedExpression.{is_place, is_null, is_zero, is_known_zero, tree_of, typed_value, integer_constant};
+ghost use Rattle.c_check_scopes.specs.TypedExpression.{is_place, is_null, is_zero, is_known_zero, tree_of, typed_value, integer_constant};
 ghost use Rattle.c_tree.specs.View.{ctype_of, expr_of, expr_with};
 ghost use Rattle.c_check_values.specs.TypedExpressionView.{typed_expression_of, constant_of};
 
@@ -79,7 +79,7 @@ impl Constant {
 impl TypedExpression {
     // Whether it is a value.
     fn is_value(&self) -> bool
-        ensures { result ≡ Rattle.c_rules.specs.TypedExpression.is_value (typed_expression_of self.now).form }
+        ensures { result ≡ Rattle.c_check_scopes.specs.TypedExpression.is_value (typed_expression_of self.now).form }
     {
         match &self.form {
             Form::Value(_) => true,

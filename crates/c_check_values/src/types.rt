@@ -1,6 +1,6 @@
 ghost use Rattle.std.specs.Prelude.{◌≡◌, ◌+◌, ◌<◌, IfOk, IfSome, IfNone};
-ghost use Rattle.c_rules.specs.Conversions.{few_parts};
-ghost use Rattle.c_rules.specs.Types.{is_integer, is_void, is_function, is_scalar, is_result, same_type, parts, parts_of_all};
+ghost use Rattle.c_check_scopes.specs.Conversions.{few_parts};
+ghost use Rattle.c_check_scopes.specs.Types.{is_integer, is_void, is_function, is_scalar, is_result, same_type, parts, parts_of_all};
 ghost use Rattle.c_tree.specs.Tree.{pointer};
 ghost use Rattle.c_tree.specs.View.{ctype_of, types_of};
 

@@ -1,10 +1,10 @@
 ghost use Rattle.std.specs.Prelude.{◌≡◌, IfOk};
 ghost use Rattle.c_check_values.specs.TypedExpressionView.{constant_of, typed_expression_of};
-ghost use Rattle.c_rules.specs.Constants.{constant_decayed};
-ghost use Rattle.c_rules.specs.Conversions.{loaded, null_of};
-ghost use Rattle.c_rules.specs.TypedExpression.{not_constant, typed_value, tree_of};
-ghost use Rattle.c_rules.specs.PrimaryExpressions.{typed_unsigned};
-ghost use Rattle.c_rules.specs.Scopes.{layout_of};
+ghost use Rattle.c_check_scopes.specs.Constants.{constant_decayed};
+ghost use Rattle.c_check_scopes.specs.Conversions.{loaded, null_of};
+ghost use Rattle.c_check_scopes.specs.TypedExpression.{not_constant, typed_value, tree_of};
+ghost use Rattle.c_check_scopes.specs.PrimaryExpressions.{typed_unsigned};
+ghost use Rattle.c_check_scopes.specs.Scopes.{layout_of};
 ghost use Rattle.c_check_scopes.specs.View.{env_of};
 ghost use Rattle.c_tree.specs.Layout.{cells};
 ghost use Rattle.c_tree.specs.Tree.{load, pointer, decay};

@@ -32,3 +32,5 @@ pub mod Types
 pub mod UnaryExpressions
 pub mod Units
 pub mod Variables
+pub use Rattle.c_syntax.specs.Tree
+pub use Rattle.c_syntax.specs.View

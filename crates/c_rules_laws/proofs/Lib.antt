@@ -48,3 +48,4 @@ pub mod UnitShape
 pub mod UnitTable
 pub mod Units
 pub mod WholeUnits
+pub use Rattle.c_meaning_laws.proofs.Places

@@ -10,3 +10,4 @@ pub mod Rounds
 pub mod SameTypes
 pub mod Members
 pub mod SitesSaid
+pub use Rattle.c_tree.proofs.PatternLemmas

@@ -13,3 +13,10 @@ pub mod Mentions
 pub mod CallGraph
 pub mod ShapeOf
 pub mod ProgramLanguages
+pub use Rattle.c_tree.specs.Constants
+pub use Rattle.c_tree.specs.Functions
+pub use Rattle.c_tree.specs.Program
+pub use Rattle.c_tree.specs.Sites
+pub use Rattle.c_tree.specs.Tree
+pub use Rattle.c_tree.specs.Typed
+pub use Rattle.c_tree.specs.declared.value.IntType

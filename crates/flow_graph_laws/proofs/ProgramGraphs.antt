@@ -1,7 +1,7 @@
 -- The graphs of small programs.
 use Rattle.std.proofs.Common.{◌≡◌, [], ◌∷◌, None, codes, refl}
 use Rattle.sys_table.specs.Table.{table}
-use Rattle.c_tree.specs.Functions.{sys_types}
+use Rattle.c_shapes.specs.Functions.{sys_types}
 use Rattle.c_shapes.proofs.ProgramTrials.{source_b, source_d, indirect}
 use Rattle.flow_graph_laws.specs.GraphOfProgram.{graph_of_program}
 

@@ -7,9 +7,9 @@ use Rattle.std.proofs.lemmas.List.Elements.{All-append, Contains-append_cases}
 use Rattle.dm_base.specs.Name.{IsName}
 use Rattle.sys_table.specs.Table.{name_of}
 use Rattle.sys_table.proofs.Names.{same_call}
-use Rattle.c_tree.specs.Tree.{CType, Function, Program}
-use Rattle.c_tree.specs.Functions.{defined, value_type}
-use Rattle.c_tree.specs.Program.{IsProgram, IsFunction}
+use Rattle.c_shapes.specs.Tree.{CType, Function, Program}
+use Rattle.c_shapes.specs.Functions.{defined, value_type}
+use Rattle.c_shapes.specs.Program.{IsProgram, IsFunction}
 use Rattle.c_shapes.specs.Bodies.{IsBody}
 use Rattle.c_shapes.specs.Mentions.{Callee, Direct, Through, mentions_of_program}
 use Rattle.c_shapes.specs.CallGraph.{is_taken, is_typed, functions_of, callees, reaches, is_marked, marked, callee_at, called_where, marked_where, candidates}

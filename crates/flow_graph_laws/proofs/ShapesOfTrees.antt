@@ -5,15 +5,15 @@ use Rattle.std.proofs.lemmas.Bool.Decides.{eqb_tells}
 use Rattle.sys_table.specs.Table.{IsRight, recorded_of, FitsEntry}
 use Rattle.sys_table.specs.declared.kinds.ArgKind.{ArgKind}
 use Rattle.std.specs.List.{AllZip}
-use Rattle.c_tree.specs.Tree.{CType, Expr, constant, function_name, string_place, variable, dereference, load, address_of, decay, discard, field, unary_operation, conversion, arithmetic, comparison, pointer_add, pointer_diff, and, or, assign, update, conditional, comma, call, call_through, type_of}
-use Rattle.c_tree.specs.Tree.{Exprs, no_exprs, more_exprs, Maybe, absent, there, Inits, no_inits, more_inits}
-use Rattle.c_tree.specs.Tree.{Stmt, block, empty, evaluate, declare, if_else, while_loop, do_loop, for_loop, switch_on, break_off, continue_on, return_void, return_value, Stmts, no_stmts, more_stmts, Groups, no_groups, more_groups}
-use Rattle.c_tree.specs.Tree.{Program}
-use Rattle.c_tree.specs.Functions.{defined}
-use Rattle.c_tree.specs.Constants.{pattern_of}
-use Rattle.c_tree.specs.Typed.{IsStmt, AreStmts, AreGroups, AreFirst, IsFirst}
-use Rattle.c_tree.specs.declared.value.IntType.{IntType}
-use Rattle.c_tree.proofs.PatternLemmas.{patterns_right}
+use Rattle.c_shapes.specs.Tree.{CType, Expr, constant, function_name, string_place, variable, dereference, load, address_of, decay, discard, field, unary_operation, conversion, arithmetic, comparison, pointer_add, pointer_diff, and, or, assign, update, conditional, comma, call, call_through, type_of}
+use Rattle.c_shapes.specs.Tree.{Exprs, no_exprs, more_exprs, Maybe, absent, there, Inits, no_inits, more_inits}
+use Rattle.c_shapes.specs.Tree.{Stmt, block, empty, evaluate, declare, if_else, while_loop, do_loop, for_loop, switch_on, break_off, continue_on, return_void, return_value, Stmts, no_stmts, more_stmts, Groups, no_groups, more_groups}
+use Rattle.c_shapes.specs.Tree.{Program}
+use Rattle.c_shapes.specs.Functions.{defined}
+use Rattle.c_shapes.specs.Constants.{pattern_of}
+use Rattle.c_shapes.specs.Typed.{IsStmt, AreStmts, AreGroups, AreFirst, IsFirst}
+use Rattle.c_shapes.specs.IntType.{IntType}
+use Rattle.c_shapes.proofs.PatternLemmas.{patterns_right}
 use Rattle.c_shapes.specs.Shape.{Shape, Skip, Sys, Exit, Call, Seq, Alt, Loop, Cases, Return, Parts, End, Part, exit_call}
 use Rattle.c_shapes.specs.Bodies.{IsExpression, AreExpressions, IsStatement, AreStatements, IsBody}
 use Rattle.c_shapes.specs.Mentions.{Callee, Direct, Through}

@@ -1,5 +1,5 @@
 -- The graph of a program: that of its shapes.
-use Rattle.c_tree.specs.Tree.{Program}
+use Rattle.c_shapes.specs.Tree.{Program}
 use Rattle.c_shapes.specs.ShapeOf.{shapes_of, names_of_functions}
 use Rattle.flow_model.specs.Graph.{Graph}
 use Rattle.flow_graph_laws.specs.GraphOf.{graph_of}

@@ -12,3 +12,7 @@ pub use Rattle.flow_model.specs.Graph
 pub use Rattle.flow_model.specs.Language
 pub use Rattle.flow_model.specs.Verdict
 pub use Rattle.flow_model.specs.declared.which.Which
+pub use Rattle.sys_table.specs.Table
+pub use Rattle.sys_table.specs.declared.kinds.ArgKind
+pub use Rattle.sys_table.specs.declared.kinds.ResultKind
+pub use Rattle.sys_table.specs.declared.sys_result.SysResult

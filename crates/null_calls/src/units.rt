@@ -7,7 +7,7 @@ ghost use Rattle.c_syntax.specs.UnitView.{stmt_of, item_at, items_of};
 ghost use Rattle.c_syntax.specs.WritesUnit.{block_items_of};
 ghost use Rattle.c_rules.specs.Functions.{items_of_body};
 ghost use Rattle.c_rules.specs.Variables.{calls_of_block};
-ghost use Rattle.c_check_counts.specs.Seen.{seen};
+ghost use Rattle.null_calls_expressions.specs.Seen.{seen};
 ghost use Rattle.call_graph.specs.Calls.{AreCallsOf};
 ghost use Rattle.null_calls_expressions.specs.Sited.{sited};
 ghost use Rattle.null_calls_rules.specs.Instrumented as marks;

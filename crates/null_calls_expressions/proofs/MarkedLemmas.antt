@@ -5,9 +5,9 @@ use Rattle.c_syntax.specs.declared.tree.Expr.{Expr as ExprTree}
 use Rattle.c_syntax.specs.Tree.{Expr, a_name, comma, call, Exprs, no_exprs, more_exprs}
 use Rattle.c_syntax.specs.View.{expr_of}
 use Rattle.c_syntax.specs.Writes.{exprs_of}
-use Rattle.null_calls_rules.specs.MarkedCalls.{Called}
-use Rattle.null_calls_rules.specs.Temporaries.{pre_name, post_name, designator_name, argument_name, result_name, is_kept}
-use Rattle.null_calls_rules.specs.InstrumentedExpressions.{kept_in, null_call, keep_designator, keep_arguments, kept_arguments, kept_designator, call_and_post, marked_call}
+use Rattle.null_calls_temporaries.specs.MarkedCalls.{Called}
+use Rattle.null_calls_temporaries.specs.Temporaries.{pre_name, post_name, designator_name, argument_name, result_name, is_kept}
+use Rattle.null_calls_temporaries.specs.InstrumentedExpressions.{kept_in, null_call, keep_designator, keep_arguments, kept_arguments, kept_designator, call_and_post, marked_call}
 use Rattle.null_calls_expressions.specs.Lists.{exprs_onto}
 
 pub onto_more : (es : List ExprTree) (e : ExprTree) (rest : Exprs) → exprs_onto (es ++ e ∷ []) rest ≡ exprs_onto es (more_exprs (expr_of e) rest)

@@ -14,9 +14,9 @@ use Rattle.c_check_counts.proofs.Rows.{type_name_is}
 use Rattle.c_syntax.specs.Tree.{Spec, void, char, unsigned_char, int, unsigned_int, struct, enum, type_name, nothing}
 use Rattle.c_syntax.specs.Tree.{Expr, a_name, an_int, a_char, a_str, comma, sizeof_type, cast, call, member, postfix, prefix, unary, index, binary, assign, conditional, TypeName}
 use Rattle.c_rules.specs.Counts.{calls}
-use Rattle.null_calls_rules.specs.MarkedCalls.{Sites}
-use Rattle.null_calls_rules.specs.Temporaries.{Temporary}
-use Rattle.null_calls_rules.specs.InstrumentedExpressions.{is_void_type, expr, kept}
+use Rattle.null_calls_temporaries.specs.MarkedCalls.{Sites}
+use Rattle.null_calls_temporaries.specs.Temporaries.{Temporary}
+use Rattle.null_calls_temporaries.specs.InstrumentedExpressions.{is_void_type, expr, kept}
 use Rattle.null_calls_expressions.specs.Wanted.{is_left_out}
 
 -- the operand of a cast

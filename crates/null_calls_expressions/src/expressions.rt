@@ -3,7 +3,7 @@ ghost use Rattle.c_syntax.specs.View.{expr_of};
 ghost use Rattle.c_syntax.specs.Writes.{exprs_of};
 ghost use Rattle.c_rules.specs.Counts.{calls, calls_of_all};
 ghost use Rattle.null_calls_temporaries.specs.Sited.{sited};
-ghost use Rattle.null_calls_rules.specs.InstrumentedExpressions as marks;
+ghost use Rattle.null_calls_temporaries.specs.InstrumentedExpressions as marks;
 ghost use Rattle.null_calls_temporaries.specs.Kept.{temporaries_of};
 
 use crate::marked::{add_where, call_where};

@@ -5,9 +5,9 @@ ghost use Rattle.c_syntax.specs.Tree.{Exprs, more_exprs};
 ghost use Rattle.c_syntax.specs.View.{expr_of};
 ghost use Rattle.c_syntax.specs.Writes.{exprs_of};
 ghost use Rattle.null_calls_temporaries.specs.Sited.{type_where, called_of, IsCallAt};
-ghost use Rattle.null_calls_rules.specs.InstrumentedExpressions as marks;
-ghost use Rattle.null_calls_rules.specs.MarkedCalls as term;
-ghost use Rattle.null_calls_rules.specs.Temporaries as temporaries;
+ghost use Rattle.null_calls_temporaries.specs.InstrumentedExpressions as marks;
+ghost use Rattle.null_calls_temporaries.specs.MarkedCalls as term;
+ghost use Rattle.null_calls_temporaries.specs.Temporaries as temporaries;
 ghost use Rattle.null_calls_temporaries.specs.Kept.{temporaries_of};
 ghost use Rattle.null_calls_expressions.specs.Lists.{exprs_onto};
 

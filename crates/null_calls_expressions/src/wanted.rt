@@ -3,7 +3,7 @@
 ghost use Rattle.std.specs.Prelude.{◌≡◌, ℕ, ◌+◌, ◌<◌, ◌&&◌, nat_eq};
 ghost use Rattle.c_syntax.specs.Tree.{type_name, nothing};
 ghost use Rattle.c_syntax.specs.View.{spec_of, expr_of, type_name_of};
-ghost use Rattle.null_calls_rules.specs.InstrumentedExpressions.{is_void_type};
+ghost use Rattle.null_calls_temporaries.specs.InstrumentedExpressions.{is_void_type};
 ghost use Rattle.null_calls_expressions.specs.Wanted.{is_left_out};
 
 use c_lexer::punctuator::{AMPERSAND, ASTERISK};

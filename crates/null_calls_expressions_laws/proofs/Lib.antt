@@ -22,3 +22,6 @@ pub mod OwnTypes
 pub mod PlainCalls
 pub use Rattle.null_calls_counts_laws.proofs.ExpressionCounts
 pub use Rattle.null_calls_counts_laws.proofs.StatementCounts
+pub use Rattle.c_rules_laws.proofs.Leads
+pub use Rattle.c_rules_laws.proofs.Names
+pub use Rattle.c_rules_laws.proofs.Parts

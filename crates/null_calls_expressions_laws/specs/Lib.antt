@@ -18,3 +18,4 @@ pub mod Remade
 pub mod Tabled
 pub use Rattle.null_calls_counts_laws.specs.Counts
 pub use Rattle.null_calls_counts_laws.specs.Statements
+pub use Rattle.c_rules_laws.specs.TypedAlike

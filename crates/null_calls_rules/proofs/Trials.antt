@@ -4,10 +4,10 @@ use Rattle.std.specs.Int.{int_wrap}
 use Rattle.dm_base.specs.declared.event.Event.TheVariants.{Pre, Post}
 use Rattle.dm_base.specs.declared.mode.Mode.TheVariants.{Plain, Instrumented}
 use Rattle.sys_table.specs.Table.{table}
-use Rattle.c_tree.specs.Tree.{Program}
-use Rattle.c_tree.specs.Functions.{sys_types}
-use Rattle.c_syntax.specs.Tree.{an_int, Expr, call, more_exprs, no_exprs, a_name, block_decl, no_init, unsigned_int, void, nothing, Items}
-use Rattle.c_syntax.specs.Tree as syntax
+use Rattle.alarm_laws.specs.Tree.{Program}
+use Rattle.alarm_laws.specs.Functions.{sys_types}
+use Rattle.c_rules.specs.Tree.{an_int, Expr, call, more_exprs, no_exprs, a_name, block_decl, no_init, unsigned_int, void, nothing, Items}
+use Rattle.c_rules.specs.Tree as syntax
 use Rattle.c_rules.specs.Checked.{Checked, fine, faulty}
 use Rattle.c_rules.specs.Units.{checked}
 use Rattle.alarm_laws.specs.Runs.{Run, run}

@@ -1,9 +1,9 @@
 -- The instrumented unit: the two null calls are declared, each function declares its temporaries, and each marked call stands between its
 -- null calls.
 use Rattle.std.specs.Prelude.{ℕ, ◌+◌, List}
-use Rattle.c_tree.specs.Tree.{Program}
-use Rattle.c_syntax.specs.Tree.{no_storage, unsigned_int, void, nothing, named, function, no_params, more_params, no_init, no_parts, more_parts, decl}
-use Rattle.c_syntax.specs.Tree.{Stmt, block, BlockItems, Item, struct_item, enum_item, tag_item, decl_item, function_item, Items, no_items, more_items}
+use Rattle.alarm_laws.specs.Tree.{Program}
+use Rattle.c_rules.specs.Tree.{no_storage, unsigned_int, void, nothing, named, function, no_params, more_params, no_init, no_parts, more_parts, decl}
+use Rattle.c_rules.specs.Tree.{Stmt, block, BlockItems, Item, struct_item, enum_item, tag_item, decl_item, function_item, Items, no_items, more_items}
 use Rattle.c_rules.specs.Names.{Name}
 use Rattle.c_rules.specs.Functions.{items_of_body}
 use Rattle.c_rules.specs.Variables.{calls_of_block}

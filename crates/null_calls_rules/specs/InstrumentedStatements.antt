@@ -1,9 +1,9 @@
 -- Statements with null calls round their marked calls, and the temporaries of these.
 use Rattle.std.specs.Prelude.{ℕ, ◌+◌, true, false, List, [], ◌++◌}
-use Rattle.c_syntax.specs.Tree.{Init, one, list, Inits, no_inits, more_inits, MaybeInit, no_init, an_init, Parts, no_parts, more_parts, Decl, decl}
-use Rattle.c_syntax.specs.Tree.{First, first_absent, first_expr, first_decl}
-use Rattle.c_syntax.specs.Tree.{Stmt, block, empty, evaluate, only_if, if_else, while_loop, do_loop, for_loop, switch_on, break_off, continue_on, return_from}
-use Rattle.c_syntax.specs.Tree.{BlockItems, no_block_items, block_decl, block_stmt, Stmts, no_stmts, more_stmts, Groups, no_groups, more_groups}
+use Rattle.c_rules.specs.Tree.{Init, one, list, Inits, no_inits, more_inits, MaybeInit, no_init, an_init, Parts, no_parts, more_parts, Decl, decl}
+use Rattle.c_rules.specs.Tree.{First, first_absent, first_expr, first_decl}
+use Rattle.c_rules.specs.Tree.{Stmt, block, empty, evaluate, only_if, if_else, while_loop, do_loop, for_loop, switch_on, break_off, continue_on, return_from}
+use Rattle.c_rules.specs.Tree.{BlockItems, no_block_items, block_decl, block_stmt, Stmts, no_stmts, more_stmts, Groups, no_groups, more_groups}
 use Rattle.c_rules.specs.Counts.{calls, calls_of_maybe}
 use Rattle.c_rules.specs.Initialisers.{calls_of_init, calls_of_maybe_init}
 use Rattle.c_rules.specs.Variables.{calls_of_decl, calls_of_first, calls_of_stmt, calls_of_stmts}

@@ -1,6 +1,6 @@
 -- When a program is another one with null calls round its marked calls.
 use Rattle.std.specs.Prelude.{◌≡◌}
-use Rattle.c_tree.specs.Tree.{Program}
+use Rattle.alarm_laws.specs.Tree.{Program}
 use Rattle.null_calls_rules.specs.InstrumentedPrograms.{instrumented_program}
 use Rattle.null_calls_rules.specs.WithoutSites.{without_sites}
 

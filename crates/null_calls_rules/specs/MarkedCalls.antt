@@ -1,7 +1,7 @@
 -- What the instrumenter has to know of a program: at which sites null calls are to stand, and what is called there.
 use Rattle.std.specs.Prelude.{ℕ, Option, None, Some, if◌then◌else◌}
-use Rattle.c_tree.specs.Tree.{CType, pointer, function, CTypes, Program}
-use Rattle.c_tree.specs.Functions.{value_type}
+use Rattle.alarm_laws.specs.Tree.{CType, pointer, function, CTypes, Program}
+use Rattle.alarm_laws.specs.Functions.{value_type}
 use Rattle.alarm_laws.specs.Mentions.{Callee, Direct, Through, mentions_of_program}
 use Rattle.alarm_laws.specs.CallGraph.{callee_at, is_marked}
 

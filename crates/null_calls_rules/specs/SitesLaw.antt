@@ -1,7 +1,7 @@
 -- What a program does doesn't depend on the numbers of its sites.
 use Rattle.std.specs.Prelude.{◌≡◌, ℕ, List}
 use Rattle.sys_table.specs.declared.sys_result.SysResult.{SysResult}
-use Rattle.c_tree.specs.Tree.{Program}
+use Rattle.alarm_laws.specs.Tree.{Program}
 use Rattle.alarm_laws.specs.Runs.{run}
 use Rattle.null_calls_rules.specs.IsWithNullCalls.{IsWithNullCalls}
 use Rattle.null_calls_rules.specs.InstrumentedPrograms.{instrumented_program}

@@ -1,8 +1,8 @@
 -- The names of the instrumenter, and the temporaries of a marked call: where the designator, the arguments and the result are kept.
 use Rattle.std.specs.Prelude.{ℕ, zero, suc, ◌+◌, ◌/◌, ◌%◌, Bool, false, List, [], ◌∷◌, ◌++◌, Option, None, Some, codes, nat_lt, if◌then◌else◌}
-use Rattle.c_tree.specs.Tree.{CType, void, CTypes, no_types, more_types}
+use Rattle.alarm_laws.specs.Tree.{CType, void, CTypes, no_types, more_types}
 use Rattle.c_rules.specs.Names.{Name}
-use Rattle.c_syntax.specs.Tree.{named, no_storage, Decl, decl, more_parts, no_parts, no_init, BlockItems, block_decl}
+use Rattle.c_rules.specs.Tree.{named, no_storage, Decl, decl, more_parts, no_parts, no_init, BlockItems, block_decl}
 use Rattle.null_calls_rules.specs.MarkedCalls.{Called}
 use Rattle.null_calls_rules.specs.SpelledTypes.{spec_of, declarator_of}
 

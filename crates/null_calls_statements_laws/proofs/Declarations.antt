@@ -19,10 +19,10 @@ use Rattle.null_calls_rules.specs.MarkedCalls.{Sites}
 use Rattle.null_calls_rules.specs.Temporaries.{Temporary}
 use Rattle.null_calls_rules.specs.InstrumentedExpressions.{expr, kept}
 use Rattle.null_calls_rules.specs.InstrumentedStatements.{maybe_init, parts, declaration, kept_of_maybe_init, kept_of_parts}
-use Rattle.c_rules_laws.specs.TypedAlike.{More, plain_scope, instrumented_scope, AreUnreserved, MeanAlike, beside}
-use Rattle.c_rules_laws.proofs.Leads.{Leads, fine_leads, first_fine, on_fine, alone_fine}
-use Rattle.c_rules_laws.proofs.Names.{new_name_leads, new_name_plain}
-use Rattle.c_rules_laws.proofs.Parts.{object_leads}
+use Rattle.null_calls_expressions_laws.specs.TypedAlike.{More, plain_scope, instrumented_scope, AreUnreserved, MeanAlike, beside}
+use Rattle.null_calls_expressions_laws.proofs.Leads.{Leads, fine_leads, first_fine, on_fine, alone_fine}
+use Rattle.null_calls_expressions_laws.proofs.Names.{new_name_leads, new_name_plain}
+use Rattle.null_calls_expressions_laws.proofs.Parts.{object_leads}
 use Rattle.null_calls_expressions_laws.specs.Counts.{Near}
 use Rattle.null_calls_expressions_laws.specs.Statements.{MaybeInitNamed, PartsNamed, DeclNamed}
 use Rattle.null_calls_expressions_laws.proofs.ExpressionCounts.{places_near}

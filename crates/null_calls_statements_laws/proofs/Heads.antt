@@ -13,7 +13,7 @@ use Rattle.c_rules.specs.Expressions.{value}
 use Rattle.c_rules.specs.Statements.{condition_at, test_of, step_of, switched_kind, switched, returned}
 use Rattle.null_calls_rules.specs.MarkedCalls.{Sites}
 use Rattle.null_calls_rules.specs.InstrumentedExpressions.{expr, maybe, kept, kept_of_maybe}
-use Rattle.c_rules_laws.specs.TypedAlike.{More, plain_scope, instrumented_scope}
+use Rattle.null_calls_expressions_laws.specs.TypedAlike.{More, plain_scope, instrumented_scope}
 use Rattle.null_calls_expressions_laws.specs.Remade.{remade, Follows}
 use Rattle.null_calls_expressions_laws.proofs.Operands.{operand, converted_operand, assigned_operand}
 use Rattle.null_calls_expressions_laws.proofs.Binary.{fits_same}

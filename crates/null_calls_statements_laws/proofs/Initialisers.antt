@@ -15,7 +15,7 @@ use Rattle.null_calls_rules.specs.MarkedCalls.{Called, Sites}
 use Rattle.null_calls_rules.specs.Temporaries.{Temporary}
 use Rattle.null_calls_rules.specs.InstrumentedExpressions.{call_where, expr, arguments, kept}
 use Rattle.null_calls_rules.specs.InstrumentedStatements.{init, inits, kept_of_init, kept_of_inits}
-use Rattle.c_rules_laws.specs.TypedAlike.{More, plain_scope, instrumented_scope}
+use Rattle.null_calls_expressions_laws.specs.TypedAlike.{More, plain_scope, instrumented_scope}
 use Rattle.null_calls_expressions_laws.specs.Counts.{Near}
 use Rattle.null_calls_expressions_laws.specs.Statements.{InitNamed, InitsNamed}
 use Rattle.null_calls_expressions_laws.proofs.ExpressionCounts.{counts_stay}

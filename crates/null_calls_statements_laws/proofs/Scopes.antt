@@ -6,7 +6,7 @@ use Rattle.c_tree.specs.Tree.{Program}
 use Rattle.c_rules.specs.Names.{Name, after_front, begins_with, is_reserved, is_added}
 use Rattle.c_rules.specs.Scopes.{Env, Binding, Meaning, lookup, with_name, inside}
 use Rattle.null_calls_rules.specs.Temporaries.{pre_name, post_name}
-use Rattle.c_rules_laws.specs.TypedAlike.{More, plain_scope, instrumented_scope, AreUnreserved, MeanAlike}
+use Rattle.null_calls_expressions_laws.specs.TypedAlike.{More, plain_scope, instrumented_scope, AreUnreserved, MeanAlike}
 use Rattle.null_calls_expressions_laws.specs.Tabled.{IsNullCall}
 use Rattle.null_calls_expressions_laws.specs.MarkedCalls.{NullCallsStand}
 use Rattle.null_calls_statements_laws.specs.Standing.{ReservedMeanAlike, StandBeside, stand_beside, BlocksStandBeside}

@@ -9,7 +9,7 @@ use Rattle.c_rules.specs.Initialisers.{stores_from}
 use Rattle.c_rules.specs.Blocks.{StatementTree, with_tree, bare, alone, one_more, laid_variable}
 use Rattle.null_calls_rules.specs.InstrumentedPrograms as with_null_calls
 use Rattle.null_calls_rules.specs.WithoutSites.{unsited_stmt}
-use Rattle.c_rules_laws.proofs.Leads.{Leads}
+use Rattle.null_calls_expressions_laws.proofs.Leads.{Leads}
 use Rattle.null_calls_expressions_laws.proofs.Constants.{none_both}
 use Rattle.null_calls_expressions_laws.specs.Follow.{UnusedFollows}
 use Rattle.null_calls_statements_laws.specs.Initialisers.{CellsFollow}

@@ -23,9 +23,9 @@ use Rattle.null_calls_rules.specs.MarkedCalls.{Sites}
 use Rattle.null_calls_rules.specs.Temporaries.{Temporary}
 use Rattle.null_calls_rules.specs.InstrumentedExpressions.{expr, maybe, kept, kept_of_maybe}
 use Rattle.null_calls_rules.specs.InstrumentedStatements as with_null_calls
-use Rattle.c_rules_laws.specs.TypedAlike.{TypedAlike, beside as scopes_beside}
-use Rattle.c_rules_laws.proofs.Leads.{Leads, same_leads, fine_leads, on_leads, both_leads, gives_leads, first_fine, on_fine}
-use Rattle.c_rules_laws.proofs.Parts.{value_leads}
+use Rattle.null_calls_expressions_laws.specs.TypedAlike.{TypedAlike, beside as scopes_beside}
+use Rattle.null_calls_expressions_laws.proofs.Leads.{Leads, same_leads, fine_leads, on_leads, both_leads, gives_leads, first_fine, on_fine}
+use Rattle.null_calls_expressions_laws.proofs.Parts.{value_leads}
 use Rattle.null_calls_expressions_laws.specs.Counts.{AreNamed, Near}
 use Rattle.null_calls_expressions_laws.specs.Statements.{MaybeNamed, StmtNamed, BlockNamed, StmtsNamed, GroupsNamed}
 use Rattle.null_calls_expressions_laws.proofs.ExpressionCounts.{places_near}

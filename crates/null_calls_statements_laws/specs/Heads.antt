@@ -12,7 +12,7 @@ use Rattle.null_calls_rules.specs.MarkedCalls.{Sites}
 use Rattle.null_calls_rules.specs.InstrumentedExpressions.{expr, maybe, kept, kept_of_maybe}
 use Rattle.null_calls_rules.specs.InstrumentedPrograms as with_null_calls
 use Rattle.null_calls_rules.specs.WithoutSites.{unsited, unsited_maybe, unsited_stmt}
-use Rattle.c_rules_laws.specs.TypedAlike.{More, plain_scope, instrumented_scope, AreUnreserved, MeanAlike}
+use Rattle.null_calls_expressions_laws.specs.TypedAlike.{More, plain_scope, instrumented_scope, AreUnreserved, MeanAlike}
 use Rattle.null_calls_expressions_laws.specs.Remade.{IsOperand}
 use Rattle.null_calls_expressions_laws.specs.Counts.{AreNamed, Near}
 use Rattle.null_calls_expressions_laws.specs.Tabled.{AreTabled, AreFound}

@@ -6,7 +6,7 @@ use Rattle.c_rules.specs.Names.{Name, is_reserved}
 use Rattle.c_rules.specs.Scopes.{Env, Binding, lookup, inside}
 use Rattle.null_calls_rules.specs.MarkedCalls.{Sites}
 use Rattle.null_calls_rules.specs.InstrumentedExpressions.{kept}
-use Rattle.c_rules_laws.specs.TypedAlike.{More, plain_scope, instrumented_scope, AreUnreserved, MeanAlike}
+use Rattle.null_calls_expressions_laws.specs.TypedAlike.{More, plain_scope, instrumented_scope, AreUnreserved, MeanAlike}
 use Rattle.null_calls_expressions_laws.specs.Tabled.{AreFound}
 use Rattle.null_calls_expressions_laws.specs.MarkedCalls.{NullCallsStand}
 

@@ -12,10 +12,10 @@ use Rattle.c_syntax.proofs.FineUnits.{IsFineInit, AreSomeInits, AreFineInits, Is
 use Rattle.c_rules.specs.Counts.{calls, calls_of_maybe}
 use Rattle.c_rules.specs.Initialisers.{calls_of_init, calls_of_maybe_init}
 use Rattle.c_rules.specs.Variables.{calls_of_decl, calls_of_first, calls_of_stmt, calls_of_stmts}
-use Rattle.null_calls_rules.specs.MarkedCalls.{Called, Sites}
-use Rattle.null_calls_rules.specs.Temporaries.{pre_name, designator_name, argument_name, is_kept}
-use Rattle.null_calls_rules.specs.InstrumentedExpressions.{is_void_type, kept_in, keep_designator, keep_arguments, kept_arguments, kept_designator, null_call, call_and_post, call_where, expr, arguments, members, maybe}
-use Rattle.null_calls_rules.specs.InstrumentedStatements as new
+use Rattle.null_calls_units_laws.specs.MarkedCalls.{Called, Sites}
+use Rattle.null_calls_units_laws.specs.Temporaries.{pre_name, designator_name, argument_name, is_kept}
+use Rattle.null_calls_units_laws.specs.InstrumentedExpressions.{is_void_type, kept_in, keep_designator, keep_arguments, kept_arguments, kept_designator, null_call, call_and_post, call_where, expr, arguments, members, maybe}
+use Rattle.null_calls_units_laws.specs.InstrumentedStatements as new
 use Rattle.null_calls_units_laws.proofs.ExpressionHeights.{Operand, by_type, by_unary}
 
 -- ## A marked call

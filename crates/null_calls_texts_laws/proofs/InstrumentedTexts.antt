@@ -12,8 +12,8 @@ use Rattle.c_meaning.specs.NullCalls.{DifferInNullCalls}
 use Rattle.c_meaning.specs.Runs.{Run, run}
 use Rattle.c_meaning.specs.WithoutNullCalls.{MakesNoNullCall}
 use Rattle.alarm_laws.specs.MarkedRuns.{marked_run, MarkedRunsDifferInNullCalls, ErasedMarkedRunsAreRuns}
-use Rattle.null_calls_rules.specs.IsWithNullCalls.{IsWithNullCalls}
-use Rattle.c_rules_laws.specs.PlaceLaws.{UnitsAreTypedAlike}
+use Rattle.null_calls_units_laws.specs.IsWithNullCalls.{IsWithNullCalls}
+use Rattle.null_calls_units_laws.specs.PlaceLaws.{UnitsAreTypedAlike}
 use Rattle.null_calls_texts_laws.specs.Instrumented.{DoesAsMarked}
 
 pub does_as_marked : MarkedRunsDifferInNullCalls → ErasedMarkedRunsAreRuns → (p q : Program) → MakesNoNullCall p → IsWithNullCalls p q → ((records : List SysResult) (turns : ℕ) → run q records turns ≡ marked_run p records turns) → DoesAsMarked p q

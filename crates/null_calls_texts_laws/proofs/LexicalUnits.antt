@@ -8,13 +8,13 @@ use Rattle.c_rules.specs.Scopes.{nothing_before}
 use Rattle.c_rules.specs.Items.{after_items}
 use Rattle.c_rules.specs.Units.{tags_of, env_before}
 use Rattle.dm_base.specs.declared.mode.Mode.TheVariants.{Plain}
-use Rattle.null_calls_rules.specs.MarkedCalls.{Sites, sites_of}
-use Rattle.null_calls_rules.specs.Temporaries.{Temporary, declared_before}
-use Rattle.null_calls_rules.specs.Instrumented as units
-use Rattle.null_calls_rules.specs.Instrumented.{calls_of_item}
-use Rattle.null_calls_rules.specs.InstrumentedStatements.{items_of_block, kept_of_block}
-use Rattle.c_rules_laws.specs.Lexical.{IsStmtLexical, AreItemsLexical, IsItemLexical, IsUnitLexical}
-use Rattle.c_rules_laws.proofs.WholeUnits.{unit_program}
+use Rattle.null_calls_units_laws.specs.MarkedCalls.{Sites, sites_of}
+use Rattle.null_calls_units_laws.specs.Temporaries.{Temporary, declared_before}
+use Rattle.null_calls_units_laws.specs.Instrumented as units
+use Rattle.null_calls_units_laws.specs.Instrumented.{calls_of_item}
+use Rattle.null_calls_units_laws.specs.InstrumentedStatements.{items_of_block, kept_of_block}
+use Rattle.null_calls_units_laws.specs.Lexical.{IsStmtLexical, AreItemsLexical, IsItemLexical, IsUnitLexical}
+use Rattle.null_calls_units_laws.proofs.WholeUnits.{unit_program}
 use Rattle.null_calls_texts_laws.proofs.Sites.{sites_fit}
 use Rattle.null_calls_texts_laws.proofs.Writable.{FitsWhere}
 use Rattle.null_calls_texts_laws.specs.Lexical.{InstrumentedUnitsAreLexical}

@@ -5,7 +5,7 @@ use Rattle.std.proofs.lemmas.List.{length-append}
 use Rattle.std.proofs.lemmas.List.Elements.{All-nil, All-cons, All-append, All-from_recursion}
 use Rattle.dm_base.specs.Name.{IsName, keywords}
 use Rattle.c_lexer.specs.Words.{IsWordByte}
-use Rattle.null_calls_rules.specs.Temporaries.{digits_within, digits_of, pre_name, post_name, designator_name, argument_name, result_name}
+use Rattle.null_calls_units_laws.specs.Temporaries.{digits_within, digits_of, pre_name, post_name, designator_name, argument_name, result_name}
 use Rattle.alarm_laws.proofs.Lists.{cases, none_in, and_left, and_right}
 
 -- ## No keyword begins with two underscores

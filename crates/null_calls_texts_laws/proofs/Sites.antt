@@ -3,7 +3,7 @@ use Rattle.std.proofs.Common.{◌≡◌, ℕ, ◌≤◌, ◌<◌, nat_lt, Bool, 
 use Rattle.std.proofs.lemmas.Bool.Decides.{nat_tests}
 use Rattle.c_tree.specs.Tree.{Program}
 use Rattle.c_tree.specs.Program.{IsProgram}
-use Rattle.null_calls_rules.specs.MarkedCalls.{Called, marked_of, sites_of}
+use Rattle.null_calls_units_laws.specs.MarkedCalls.{Called, marked_of, sites_of}
 use Rattle.call_graph.proofs.SitesLemmas.{no_site}
 use Rattle.null_calls_texts_laws.proofs.Writable.{FitsWhere}
 

@@ -17,10 +17,10 @@ use Rattle.c_syntax.proofs.FineUnits.{AreFineBlockItems}
 use Rattle.c_rules.specs.Limits.{most_parts}
 use Rattle.c_rules.specs.Names.{Name}
 use Rattle.c_rules.specs.Types.{is_scalar, is_result, parts, parts_of_all}
-use Rattle.null_calls_rules.specs.SpelledTypes.{integer_spec, spec_of, declarator_of, params_of}
-use Rattle.null_calls_rules.specs.Temporaries.{Temporary, declared_before, designator_name, argument_name, result_name}
+use Rattle.null_calls_units_laws.specs.SpelledTypes.{integer_spec, spec_of, declarator_of, params_of}
+use Rattle.null_calls_units_laws.specs.Temporaries.{Temporary, declared_before, designator_name, argument_name, result_name}
 use Rattle.null_calls_units_laws.specs.Spelled.{is_pointee}
-use Rattle.c_rules_laws.specs.MadeTypes.{NotArray}
+use Rattle.null_calls_units_laws.specs.MadeTypes.{NotArray}
 use Rattle.c_syntax_laws.specs.Writable.{IsWritableSpec, IsWritableDeclarator, AreWritableParams, AreWritableBlockItems}
 use Rattle.null_calls_units_laws.specs.WrittenTypes.{Written, AllWritten}
 use Rattle.null_calls_units_laws.specs.Scopes.{AreWrittenTemporaries, AreOfSites}

@@ -10,14 +10,14 @@ use Rattle.c_rules.specs.Scopes.{nothing_before}
 use Rattle.c_rules.specs.Items.{after_items}
 use Rattle.c_rules.specs.Units.{IsTyped, tags_of, env_before}
 use Rattle.c_tree.specs.Tree.{Program}
-use Rattle.null_calls_rules.specs.MarkedCalls.{sites_of}
-use Rattle.null_calls_rules.specs.Temporaries.{pre_name, post_name}
-use Rattle.null_calls_rules.specs.Instrumented as units
-use Rattle.null_calls_rules.specs.Instrumented.{instrumented_unit, null_prototype}
+use Rattle.null_calls_units_laws.specs.MarkedCalls.{sites_of}
+use Rattle.null_calls_units_laws.specs.Temporaries.{pre_name, post_name}
+use Rattle.null_calls_units_laws.specs.Instrumented as units
+use Rattle.null_calls_units_laws.specs.Instrumented.{instrumented_unit, null_prototype}
 use Rattle.c_syntax_laws.proofs.ReadBack.{spelled_writable, writable_read_back}
 use Rattle.c_syntax_laws.proofs.Tokens.{writable_are_units}
-use Rattle.c_rules_laws.proofs.Fine.{spelled_lexical}
-use Rattle.c_rules_laws.proofs.WholeUnits.{unit_program}
+use Rattle.null_calls_units_laws.proofs.Fine.{spelled_lexical}
+use Rattle.null_calls_units_laws.proofs.WholeUnits.{unit_program}
 use Rattle.null_calls_units_laws.proofs.SpelledCasts.{spelled_names}
 use Rattle.null_calls_units_laws.proofs.Units.{typed_facts}
 use Rattle.null_calls_texts_laws.specs.Texts.{InstrumentedUnitsAreUnits, InstrumentedTextsAreReadBack}

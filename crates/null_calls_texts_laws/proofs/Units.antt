@@ -10,11 +10,11 @@ use Rattle.c_rules.specs.Scopes.{Env, Before}
 use Rattle.c_rules.specs.Tags.{tags_of_item}
 use Rattle.c_rules.specs.Functions.{items_of_body}
 use Rattle.c_rules.specs.Items.{behind_item, after_item}
-use Rattle.null_calls_rules.specs.MarkedCalls.{sites_of}
-use Rattle.null_calls_rules.specs.Temporaries.{Temporary}
-use Rattle.null_calls_rules.specs.InstrumentedStatements.{items_of_block, kept_of_block}
-use Rattle.null_calls_rules.specs.Instrumented as units
-use Rattle.null_calls_rules.specs.Instrumented.{calls_of_item, null_prototype}
+use Rattle.null_calls_units_laws.specs.MarkedCalls.{sites_of}
+use Rattle.null_calls_units_laws.specs.Temporaries.{Temporary}
+use Rattle.null_calls_units_laws.specs.InstrumentedStatements.{items_of_block, kept_of_block}
+use Rattle.null_calls_units_laws.specs.Instrumented as units
+use Rattle.null_calls_units_laws.specs.Instrumented.{calls_of_item, null_prototype}
 use Rattle.c_syntax_laws.specs.Writable.{IsWritableStmt, AreWritableBlockItems, IsWritableItem, AreWritableItems}
 use Rattle.dm_base.specs.Name.{IsName}
 use Rattle.null_calls_units_laws.proofs.StatementHeights.{block_low}

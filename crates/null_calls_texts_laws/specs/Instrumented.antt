@@ -14,8 +14,8 @@ use Rattle.c_rules.specs.Units.{IsTyped}
 use Rattle.c_meaning.specs.NullCalls.{DifferInNullCalls}
 use Rattle.c_meaning.specs.Runs.{run}
 use Rattle.alarm_laws.specs.MarkedRuns.{marked_run}
-use Rattle.null_calls_rules.specs.Instrumented.{instrumented_unit}
-use Rattle.null_calls_rules.specs.IsWithNullCalls.{IsWithNullCalls}
+use Rattle.null_calls_units_laws.specs.Instrumented.{instrumented_unit}
+use Rattle.null_calls_units_laws.specs.IsWithNullCalls.{IsWithNullCalls}
 
 -- the printed unit with null calls round the marked calls of the program that the unit is typed as
 abbrev pub instrumented_text : Program → Items → List ℕ

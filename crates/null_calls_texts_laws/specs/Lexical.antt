@@ -3,8 +3,8 @@ use Rattle.dm_base.specs.declared.mode.Mode.TheVariants.{Plain}
 use Rattle.c_tree.specs.Tree.{Program}
 use Rattle.c_syntax.specs.Tree.{Items}
 use Rattle.c_rules.specs.Units.{IsTyped}
-use Rattle.null_calls_rules.specs.Instrumented.{instrumented_unit}
-use Rattle.c_rules_laws.specs.Lexical.{IsUnitLexical}
+use Rattle.null_calls_units_laws.specs.Instrumented.{instrumented_unit}
+use Rattle.null_calls_units_laws.specs.Lexical.{IsUnitLexical}
 
 -- With null calls round its marked calls, a typed unit whose constants are in range, whose strings are no longer than a text, and whose
 -- commas, structs and functions have what texts give them, is such a unit too.

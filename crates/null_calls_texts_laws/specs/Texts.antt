@@ -8,7 +8,7 @@ use Rattle.c_syntax.specs.Tree.{Items}
 use Rattle.c_syntax.specs.Spelling.{SpellsUnit, IsUnit, IsReadAs}
 use Rattle.c_syntax.specs.Text.{unit_text}
 use Rattle.c_rules.specs.Units.{IsTyped}
-use Rattle.null_calls_rules.specs.Instrumented.{instrumented_unit}
+use Rattle.null_calls_units_laws.specs.Instrumented.{instrumented_unit}
 
 -- the unit with null calls round the marked calls of a typed unit that a text spells is, apart from places, one that some tokens spell
 -- within the widest limits

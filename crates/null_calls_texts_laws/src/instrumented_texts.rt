@@ -2,8 +2,10 @@ ghost use Rattle.null_calls_texts_laws.specs.Instrumented.{InstrumentedTextsAreA
 
 use crate::text_laws::instrumented_texts_are_read_back;
 use alarm_laws::marked_runs_are_runs;
-use c_rules_laws::{a_plain_text_makes_no_null_call, units_are_typed_alike_apart_from_places};
-use null_calls_units_laws::instrumented_texts_run_marked;
+use null_calls_units_laws::{
+    a_plain_text_makes_no_null_call, instrumented_texts_run_marked,
+    units_are_typed_alike_apart_from_places,
+};
 
 /// A law on texts: where the instrumented text of a text that is accepted in the mode Plain has at most 16 MiB, it is accepted in the mode
 /// Instrumented, as the program with null calls round its marked calls (Giffin, Jha and Miller 2004); for all recorded results and

@@ -34,3 +34,5 @@ pub mod Texts
 pub mod Units
 pub use Rattle.null_calls_counts_laws.proofs.ExpressionHeights
 pub use Rattle.null_calls_counts_laws.proofs.StatementHeights
+pub use Rattle.c_rules_laws.proofs.Fine
+pub use Rattle.c_rules_laws.proofs.WholeUnits

@@ -13,7 +13,7 @@ use Rattle.c_rules.specs.Variables.{Next, past_names, names_of_block}
 use Rattle.c_rules.specs.Blocks.{StatementTree, held_by_block}
 use Rattle.c_rules.specs.Statements.{Around, items_of_block}
 use Rattle.c_rules.specs.Units.{static_string}
-use Rattle.c_meaning_laws.proofs.Places.{get_right}
+use Rattle.c_rules_laws.proofs.Places.{get_right}
 use Rattle.c_rules_laws.specs.Lexical.{AreItemsLexical}
 use Rattle.c_rules_laws.specs.RightScopes.{StringsIn}
 use Rattle.c_rules_laws.proofs.Holding.{held}

@@ -16,3 +16,13 @@ pub mod Spelled
 pub mod TemporaryNames
 pub mod Units
 pub mod WrittenTypes
+pub use Rattle.null_calls_rules.specs.Instrumented
+pub use Rattle.null_calls_rules.specs.InstrumentedExpressions
+pub use Rattle.null_calls_rules.specs.InstrumentedStatements
+pub use Rattle.null_calls_rules.specs.IsWithNullCalls
+pub use Rattle.null_calls_rules.specs.MarkedCalls
+pub use Rattle.null_calls_rules.specs.SpelledTypes
+pub use Rattle.null_calls_rules.specs.Temporaries
+pub use Rattle.c_rules_laws.specs.Lexical
+pub use Rattle.c_rules_laws.specs.MadeTypes
+pub use Rattle.c_rules_laws.specs.PlaceLaws

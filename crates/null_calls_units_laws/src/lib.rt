@@ -18,6 +18,7 @@ mod spelled_types;
 mod temporary_names;
 mod unit_laws;
 
+pub use c_rules_laws::{a_plain_text_makes_no_null_call, units_are_typed_alike_apart_from_places};
 pub use call_sites::bodies_are_tabled;
 pub use functions::definitions_go;
 pub use item_laws::other_items_go;

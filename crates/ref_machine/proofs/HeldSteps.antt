@@ -27,7 +27,7 @@ use Rattle.c_meaning_laws.specs.StoreTyping.{HasKind, IsPlaced}
 use Rattle.c_meaning_laws.proofs.Differences.{has_cell, difference_right}
 use Rattle.c_meaning_laws.proofs.Places.{element_object, lies_within}
 use Rattle.c_meaning_laws.proofs.Steps.{Right, behind_of_right, field_right}
-use Rattle.ref_machine_steps.specs.Words.{in_words, held}
+use Rattle.ref_machine_frames.specs.Words.{in_words, held}
 use Rattle.ref_machine_frames.specs.Cells.{few_cells}
 use Rattle.ref_machine_frames.specs.Held.{whole, behind_of, decayed, member_of, system_call}
 

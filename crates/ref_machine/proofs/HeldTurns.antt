@@ -16,7 +16,7 @@ use Rattle.c_meaning.specs.Pointers.{test, callee, place, load_place, store_plac
 use Rattle.c_meaning.specs.Results.{State, Result, Stop, then_do, spend_at, answered, remembered, Exit}
 use Rattle.c_meaning.specs.Runs.{entered}
 use Rattle.c_meaning.specs.SystemCalls.{Request, request, exit_call}
-use Rattle.ref_machine_steps.specs.Words.{held}
+use Rattle.ref_machine_frames.specs.Words.{held}
 use Rattle.ref_machine_frames.specs.Cells.{few_cells}
 use Rattle.ref_machine_frames.specs.Held.{whole, behind_of, decayed, member_of, system_call, call_undefined, called, called_through, eval, eval_each, eval_all, condition, perhaps, initialise, fresh, exec, exec_all, exec_from, run_body, enter, loop, world}
 use Rattle.c_meaning_laws.proofs.Agreeing.{Same, same_more, then_agree, answered_agree, remembered_agree, either_agree, if_agree, tested_agree, spend_agree, exit_agree, round_agree, null_agree, result_agree, take_agree, ended_agree}

@@ -14,10 +14,10 @@ use Rattle.c_meaning.specs.Meaning.{Frame as Place, World}
 use Rattle.c_meaning.specs.Results.{State, Result, Go, Stop, after, then_do, answered, remembered}
 use Rattle.c_meaning.specs.Runs.{Run, ending}
 use Rattle.c_meaning.specs.SystemCalls.{Request as Asked, take_record, does_answer, filled_where, result_value, with_records}
-use Rattle.ref_machine_steps.specs.declared.fault.Fault.{Fault}
-use Rattle.ref_machine_steps.specs.declared.records.Called.TheVariants as calls
-use Rattle.ref_machine_steps.specs.Faults.{told}
-use Rattle.ref_machine_steps.specs.Taking.{goes_on, Takes}
+use Rattle.ref_machine_frames.specs.Fault.{Fault}
+use Rattle.ref_machine_frames.specs.Called.TheVariants as calls
+use Rattle.ref_machine_frames.specs.Faults.{told}
+use Rattle.ref_machine_frames.specs.Taking.{goes_on, Takes}
 use Rattle.ref_machine_frames.specs.declared.frames.Frame.{Frame}
 use Rattle.ref_machine_frames.specs.declared.frames.Now.{Now}
 use Rattle.ref_machine_frames.specs.Frames.{after_value, rest}

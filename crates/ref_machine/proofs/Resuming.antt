@@ -7,13 +7,13 @@ use Rattle.std.specs.Prelude.{IsSome}
 use Rattle.std.specs.Borrow.{Bor}
 use Rattle.std.specs.Option.{option_copied}
 use Rattle.sys_table.specs.declared.sys_result.SysResult.{SysResult}
-use Rattle.ref_machine_steps.specs.declared.requests.Request.{Request}
+use Rattle.ref_machine_frames.specs.Request.{Request}
 use Rattle.c_tree.specs.View.{program_of}
 use Rattle.c_values.specs.Memory.{Objects}
 use Rattle.c_values.specs.Seen.{seen}
 use Rattle.c_meaning.specs.Runs.{Run, ending}
 use Rattle.c_meaning_laws.specs.TypedResults.{IsEnding}
-use Rattle.ref_machine_steps.specs.Requests.{asked_by}
+use Rattle.ref_machine_frames.specs.Requests.{asked_by}
 use Rattle.ref_machine_frames.specs.Held.{world}
 use Rattle.ref_machine_frames.specs.Frames.{place_of, stack, after_value}
 use Rattle.ref_machine_frames.specs.declared.frames.Here.{Here}

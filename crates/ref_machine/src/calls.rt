@@ -18,8 +18,7 @@ ghost use Rattle.ref_machine.specs.Standing.{state};
 use c_tree::{ObjectName, Program, Value};
 use c_values::Memory;
 use dm_base::{Kind, OutOfMemory, Outcome};
-use ref_machine_frames::{Call, Frame, Here, Left, Now};
-use ref_machine_steps::set_parameters;
+use ref_machine_frames::{Call, Frame, Here, Left, Now, set_parameters};
 
 // Enters a function that is defined, with at most 16 arguments, once its turn is spent.
 fn enter_defined<'p>(

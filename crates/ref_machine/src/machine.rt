@@ -14,8 +14,9 @@ use c_meaning_laws::values_have_kinds;
 use c_tree::Program;
 use c_values::Memory;
 use dm_base::{OutOfMemory, Outcome, SysName};
-use ref_machine_frames::{Frame, Here, Now, struct_cells};
-use ref_machine_steps::{Called, Request, static_objects, take_record};
+use ref_machine_frames::{
+    Called, Frame, Here, Now, Request, static_objects, struct_cells, take_record,
+};
 use std::alloc::Global;
 use std::mem;
 use sys_table::SysResult;

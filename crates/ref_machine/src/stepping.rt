@@ -14,7 +14,7 @@ ghost use Rattle.ref_machine_frames.specs.Cells.{AreCells};
 ghost use Rattle.ref_machine_frames.specs.Frames.{after_exit, after_value, exit_in, place_of, rest, rounds_of, stack, then_comes};
 ghost use Rattle.ref_machine_frames.specs.Parts.{IsAnswer};
 ghost use Rattle.ref_machine_frames.specs.Work.{of_all, of_bit, of_frame, of_now, work};
-ghost use Rattle.ref_machine_steps.specs.Faults.{told};
+ghost use Rattle.ref_machine_frames.specs.Faults.{told};
 ghost use Rattle.ref_machine.specs.Standing.{EndsRightly, IsCostly, IsPausing, SameLeft, Standing, left_of, state};
 
 use crate::calls::{enter, leave_call};
@@ -22,9 +22,8 @@ use c_tree::{Program, TStmt, Value};
 use c_values::Memory;
 use dm_base::{OutOfMemory, Outcome};
 use ref_machine_expressions::{begin, with_value};
-use ref_machine_frames::{After, Frame, Here, Left, Now, given};
+use ref_machine_frames::{After, Fault, Frame, Here, Left, Now, given};
 use ref_machine_statements::{begin_statement, in_statement, test_loop, with_exit};
-use ref_machine_steps::Fault;
 use std::alloc::Global;
 
 // The end of the run with the value of main.

@@ -6,3 +6,8 @@ pub mod Work
 pub use Rattle.ref_machine_steps.specs.Asking
 pub use Rattle.ref_machine_steps.specs.Faults
 pub use Rattle.ref_machine_steps.specs.Requests
+pub use Rattle.ref_machine_steps.specs.Taking
+pub use Rattle.ref_machine_steps.specs.Words
+pub use Rattle.ref_machine_steps.specs.declared.fault.Fault
+pub use Rattle.ref_machine_steps.specs.declared.records.Called
+pub use Rattle.ref_machine_steps.specs.declared.requests.Request

@@ -14,8 +14,9 @@ pub use frames::{
     Step, Storing, ValueFrame, Valued,
 };
 pub use ref_machine_steps::{
-    Fault, Request, StepError, behind, callee, comparing, computed, convert_value, difference,
-    exit_status, function_behind, load_place, member, moved, operated, place, requested,
-    store_place, test, to_first, truth_value,
+    Called, Fault, Request, StepError, behind, callee, comparing, computed, convert_value,
+    difference, exit_status, function_behind, load_place, member, moved, operated, place,
+    requested, set_parameters, static_objects, store_place, take_record, test, to_first,
+    truth_value,
 };
 pub use waiting::{wait, wait_for_statement, wait_in_statement};

@@ -10,7 +10,7 @@ use Rattle.tool_steps.specs.Results.{AreSomeResults}
 use Rattle.sys_table.specs.declared.results_error.ResultsError.TheVariants as errors
 use Rattle.tool_audit.specs.Audit.{Audits, IsAuditStatus, RefusesToAudit, IsReadyToAudit}
 use Rattle.tool_audit.proofs.Verdicts.{audit_ends}
-use Rattle.alarm_laws.specs.MarkedRuns.{marked_run}
+use Rattle.null_calls_rules.specs.MarkedRuns.{marked_run}
 use Rattle.tool_steps.proofs.ResultsRefused.{results_or_refused}
 use Rattle.tool_steps.proofs.SourceLemmas.{accepted_once}
 

@@ -6,9 +6,9 @@ use Rattle.dm_base.specs.declared.mode.Mode.TheVariants.{Plain, Instrumented}
 use Rattle.dm_base.specs.declared.outcome.TraceEnd.TheVariants.{Ended}
 use Rattle.dm_base.specs.declared.verdict.Status.{Status}
 use Rattle.headline.specs.AcceptedRuns.{TextsRaiseNoAlarm}
-use Rattle.alarm_laws.specs.MarkedRuns.{null_calls_of, marked_run}
-use Rattle.alarm_laws.specs.Monitors.{IsAcceptedByAll}
-use Rattle.alarm_laws.proofs.TypedRuns.{null_calls_recorded}
+use Rattle.null_calls_rules.specs.MarkedRuns.{null_calls_of, marked_run}
+use Rattle.null_calls_rules.specs.Monitors.{IsAcceptedByAll}
+use Rattle.null_calls_rules.proofs.TypedRuns.{null_calls_recorded}
 use Rattle.headline.specs.Units.{InstrumentedTextsRunMarked}
 use Rattle.c_check.specs.Refused.{IsRefused}
 use Rattle.c_check_values.specs.declared.error.CheckError.{CheckError}

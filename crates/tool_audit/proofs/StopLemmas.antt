@@ -3,7 +3,7 @@ use Rattle.std.proofs.Common.{◌≡◌, ℕ, ◌<◌, ◌≤◌, List, Option, 
 use Rattle.dm_base.specs.declared.mode.Mode.TheVariants.{Plain}
 use Rattle.dm_base.specs.declared.verdict.Status.{Status}
 use Rattle.dm_io.specs.Store.{Files, file_at, IsMissing}
-use Rattle.alarm_laws.specs.MarkedRuns.{marked_run}
+use Rattle.null_calls_rules.specs.MarkedRuns.{marked_run}
 use Rattle.c_rules.specs.Accepted.{IsAcceptedAs}
 use Rattle.c_tree.specs.Tree.{Program}
 use Rattle.c_tree.specs.View.{program_of}

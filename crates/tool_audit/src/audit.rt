@@ -1,5 +1,5 @@
 ghost use Rattle.std.specs.Prelude.{◌≡◌, ◌++◌, ◌≤◌, ◌<◌, ◌^◌, ℕ, List, IfOk, IfErr, IfSome, OnOk};
-ghost use Rattle.alarm_laws.specs.MarkedRuns.{marked_run};
+ghost use Rattle.null_calls_rules.specs.MarkedRuns.{marked_run};
 ghost use Rattle.tool_audit.specs.Audit.{AreReported, Audits, IsAuditOf, IsAuditStatus, LacksToAudit, RefusesToAudit};
 ghost use Rattle.tool_audit.specs.Stopping.{StopsAuditing};
 ghost use Rattle.c_tree.specs.View.{program_of};

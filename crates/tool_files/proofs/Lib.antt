@@ -3,3 +3,5 @@ pub mod InputLemmas
 pub mod ModelFiles
 pub mod ReadingLemmas
 pub mod StatusLemmas
+pub use Rattle.tool_monitors.proofs.Judgements
+pub use Rattle.tool_monitors.proofs.PairLemmas

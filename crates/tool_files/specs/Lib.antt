@@ -1,2 +1,5 @@
 pub mod Inputs
 pub mod Reading
+pub use Rattle.tool_monitors.specs.Judged
+pub use Rattle.tool_monitors.specs.Monitors
+pub use Rattle.tool_monitors.specs.Told

@@ -13,3 +13,4 @@ pub use follower::Follower;
 pub use following::{events_in, follow_by};
 pub use models::model_in;
 pub use reading::{read_to_end, refused_with};
+pub use tool_monitors::{AllMonitors, Asked, Judging, Pair, Panel, status_of, worse};

@@ -8,9 +8,9 @@ use Rattle.alarm_laws.specs.MarkedRuns.{marked_run}
 use Rattle.alarm_laws.specs.Monitors.{IsAcceptedByAll}
 use Rattle.c_meaning.specs.Runs.{Run, run}
 use Rattle.c_rules.specs.Accepted.{IsAcceptedAs}
-use Rattle.fleet.specs.declared.standing.Standing.{Standing}
-use Rattle.fleet.specs.declared.standing.Standing.TheVariants as standings
-use Rattle.fleet.specs.Alone.{IsAlone}
+use Rattle.tool_fleet.specs.Standing.{Standing}
+use Rattle.tool_fleet.specs.Standing.TheVariants as standings
+use Rattle.tool_fleet.specs.Alone.{IsAlone}
 use Rattle.flow_graph_laws.specs.GraphOfProgram.{graph_of_program}
 use Rattle.flow_model.specs.declared.which.Which.{Which}
 use Rattle.flow_model.specs.declared.which.Which.TheVariants.{Callgraph, Stack, Dyck}

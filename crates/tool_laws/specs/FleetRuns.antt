@@ -7,8 +7,8 @@ use Rattle.dm_io.specs.Store.{Files, file_at}
 use Rattle.c_meaning.specs.Runs.{run}
 use Rattle.c_rules.specs.Accepted.{IsAcceptedAs}
 use Rattle.c_tree.specs.Tree.{Program}
-use Rattle.fleet.specs.declared.standing.Standing.{Standing}
-use Rattle.fleet.specs.declared.standing.Standing.TheVariants as standings
+use Rattle.tool_fleet.specs.Standing.{Standing}
+use Rattle.tool_fleet.specs.Standing.TheVariants as standings
 use Rattle.fleet_schedule.specs.declared.line.Line.{Line}
 use Rattle.flow_graph_laws.specs.GraphOfProgram.{graph_of_program}
 use Rattle.flow_model.specs.declared.which.Which.{Which}

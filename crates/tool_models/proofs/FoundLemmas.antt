@@ -21,10 +21,10 @@ use Rattle.watch.specs.Own.{is_among, firsts, has_record, own}
 use Rattle.watch.proofs.WatchLemmas.{firsts_has}
 use Rattle.tool_models.specs.declared.findings.Findings.{Findings}
 use Rattle.tool_models.specs.Found.{AreFound}
-use Rattle.tool_monitors.specs.Judged.{status_of, status_of_all, worse}
+use Rattle.tool_files.specs.Judged.{status_of, status_of_all, worse}
 use Rattle.tool_models.specs.Watched.{asked_of, asked_about, window_text, process_text, process_lines, AreOwnVerdicts, AreAllWatched}
-use Rattle.tool_monitors.proofs.Judgements.{worse_alone}
-use Rattle.tool_monitors.proofs.PairLemmas.{statuses_append}
+use Rattle.tool_files.proofs.Judgements.{worse_alone}
+use Rattle.tool_files.proofs.PairLemmas.{statuses_append}
 
 zip_append : {X Y : Type 0} (R : X → Y → Type 0) (xs more : List X) (ys others : List Y) → AllZip R xs ys → AllZip R more others → AllZip R (xs ++ more) (ys ++ others)
 zip_append R [] more [] others all rest = rest

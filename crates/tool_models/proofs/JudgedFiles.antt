@@ -14,8 +14,8 @@ use Rattle.trace_file.specs.declared.version.TracesVersion.{TracesVersion}
 use Rattle.trace_file.specs.Trace.{IsTraceWithin}
 use Rattle.tool_frame.specs.Stop.{IsFinished}
 use Rattle.tool_models.specs.Judge.{Judges}
-use Rattle.tool_monitors.specs.Judged.{AreJudged, status_of, status_of_all}
-use Rattle.tool_monitors.specs.Told.{AreTracesTold}
+use Rattle.tool_files.specs.Judged.{AreJudged, status_of, status_of_all}
+use Rattle.tool_files.specs.Told.{AreTracesTold}
 use Rattle.tool_models.specs.Watch.{Watches}
 use Rattle.tool_models.specs.Watched.{AreAllWatched}
 use Rattle.tool_files.proofs.StatusLemmas.{status_finished, worse_finished}

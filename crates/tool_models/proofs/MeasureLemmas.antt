@@ -14,9 +14,9 @@ use Rattle.report.specs.declared.precision.Precision.{Precision}
 use Rattle.report.specs.Precision.{IsPrecision, precision_text}
 use Rattle.trace_file.specs.Trace.{IsTraceWithin}
 use Rattle.tool_frame.specs.declared.finished.Finished.{Finished}
-use Rattle.tool_monitors.specs.Judged.{worse}
+use Rattle.tool_files.specs.Judged.{worse}
 use Rattle.tool_models.specs.Measure.{AreMeasured, Measures, precision_lines}
-use Rattle.tool_monitors.specs.Told.{AreBothTold, IsTraceTold}
+use Rattle.tool_files.specs.Told.{AreBothTold, IsTraceTold}
 
 -- the line of one monitor
 pub one_measured : (which : Which) (p : Precision) (g : Graph) (t : List Event) (status : Status) (text : List ℕ) → IsPrecision which g t p → status ≡ Done → text ≡ precision_text which p → AreMeasured (which ∷ []) g t status text

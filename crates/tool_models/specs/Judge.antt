@@ -8,7 +8,7 @@ use Rattle.flow_model.specs.declared.which.Which.{Which}
 use Rattle.flow_model.specs.Graph.{Graph}
 use Rattle.model_file.specs.Refusal.{IsModel}
 use Rattle.trace_file.specs.Trace.{IsTraceWithin}
-use Rattle.tool_monitors.specs.Judged.{AreJudged}
+use Rattle.tool_files.specs.Judged.{AreJudged}
 
 -- the text is that of the verdicts of the monitors of the model in the one file on the trace in the other
 pub record Judges (files : Files) (model trace : List ℕ) (monitors : List Which) (bound : ℕ) (status : Status) (text : List ℕ) : Type 0 where

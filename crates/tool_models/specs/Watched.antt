@@ -14,7 +14,7 @@ use Rattle.trace_file.specs.declared.record.Record.{Record}
 use Rattle.trace_file.specs.declared.version.TracesVersion.{TracesVersion}
 use Rattle.watch.specs.Own.{own, firsts}
 use Rattle.watch.specs.Pasts.{last_kept}
-use Rattle.tool_monitors.specs.Judged.{status_of_all}
+use Rattle.tool_files.specs.Judged.{status_of_all}
 
 -- a process with each of the monitors
 abbrev pub asked_of : List Which → ℕ → List (ℕ × Which)

@@ -1,12 +1,12 @@
 ghost use Rattle.std.specs.Prelude.{◌≡◌, ◌++◌, [], IfOk};
 ghost use Rattle.report.specs.ProcessLines.{sum_text};
-ghost use Rattle.tool_monitors.specs.Judged.{status_of_all};
+ghost use Rattle.tool_files.specs.Judged.{status_of_all};
 
 use dm_base::{OutOfMemory, Status, Verdict};
 use report::sum_line;
 use std::alloc::Global;
+use tool_files::{status_of, worse};
 use tool_frame::Finished;
-use tool_monitors::{status_of, worse};
 
 /// What was found of processes: the lines, and the verdicts that they tell.
 #[derive(Drop)]

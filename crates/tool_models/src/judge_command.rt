@@ -1,12 +1,12 @@
 ghost use Rattle.std.specs.Prelude.{◌≡◌, ◌≤◌, ◌<◌, ◌^◌, IfOk, IfErr, IfSome};
-ghost use Rattle.tool_monitors.specs.Monitors.{monitors_of};
+ghost use Rattle.tool_files.specs.Monitors.{monitors_of};
 ghost use Rattle.tool_frame.specs.Stop.{IsFinished};
 ghost use Rattle.tool_models.specs.Judge.{Judges};
 ghost use Rattle.tool_files.specs.Inputs.{RefusesToJudge, LacksToJudge};
-ghost use Rattle.tool_monitors.specs.Judged.{AreJudged};
+ghost use Rattle.tool_files.specs.Judged.{AreJudged};
 ghost use Rattle.tool_files.specs.Reading.{StopsTrace};
 ghost use Rattle.tool_frame.specs.Stop.{Stops};
-ghost use Rattle.tool_monitors.specs.Told.{IsTraceTold};
+ghost use Rattle.tool_files.specs.Told.{IsTraceTold};
 
 use callgraph_monitor::CallgraphMonitor;
 use dm_io::Store;
@@ -14,9 +14,8 @@ use dyck_monitor::DyckMonitor;
 use flow_model::Model;
 use stack_automaton::StackMonitor;
 use std::alloc::Global;
-use tool_files::{follow_by, model_in};
+use tool_files::{AllMonitors, Asked, Judging, follow_by, model_in};
 use tool_frame::{Finished, Stop};
-use tool_monitors::{AllMonitors, Asked, Judging};
 
 // Has the monitors that are asked for judge the trace in a file.
 fn judge_asked<S: Store>(

@@ -1,10 +1,10 @@
 ghost use Rattle.std.specs.Prelude.{◌≡◌, ◌≤◌, IfOk, IfErr, IfSome};
-ghost use Rattle.tool_monitors.specs.Monitors.{monitors_of};
+ghost use Rattle.tool_files.specs.Monitors.{monitors_of};
 ghost use Rattle.tool_files.specs.Inputs.{RefusesToJudge, LacksToJudge};
 ghost use Rattle.tool_models.specs.Measure.{AreMeasured, Measures};
 ghost use Rattle.tool_files.specs.Reading.{StopsTrace};
 ghost use Rattle.tool_frame.specs.Stop.{Stops};
-ghost use Rattle.tool_monitors.specs.Told.{IsTraceTold};
+ghost use Rattle.tool_files.specs.Told.{IsTraceTold};
 
 use crate::metering::Metering;
 use callgraph_monitor::CallgraphMonitor;
@@ -14,9 +14,8 @@ use dyck_monitor::DyckMonitor;
 use flow_model::Model;
 use stack_automaton::StackMonitor;
 use std::alloc::Global;
-use tool_files::{follow_by, model_in};
+use tool_files::{Asked, Pair, follow_by, model_in};
 use tool_frame::{Finished, Stop};
-use tool_monitors::{Asked, Pair};
 
 // The three monitors, in the order of their lines.
 type All = Pair<Metering<CallgraphMonitor>, Pair<Metering<StackMonitor>, Metering<DyckMonitor>>>;

@@ -8,8 +8,8 @@ use dm_base::{Event, OutOfMemory, Status};
 use flow_model::{Model, Monitor, Which};
 use report::{Meter, Precision, precision_line};
 use std::alloc::Global;
+use tool_files::Panel;
 use tool_frame::Finished;
-use tool_monitors::Panel;
 
 /// One monitor by which the precision of its model along a trace is measured.
 #[derive(Drop)]

@@ -1,10 +1,10 @@
 ghost use Rattle.std.specs.Prelude.{◌≡◌, ◌≤◌, ◌<◌, ◌^◌, IfOk, IfErr, IfSome};
-ghost use Rattle.tool_monitors.specs.Monitors.{monitors_of};
+ghost use Rattle.tool_files.specs.Monitors.{monitors_of};
 ghost use Rattle.tool_frame.specs.Stop.{IsFinished};
 ghost use Rattle.tool_files.specs.Inputs.{LacksToJudge};
 ghost use Rattle.tool_files.specs.Reading.{StopsTraces};
 ghost use Rattle.tool_frame.specs.Stop.{Stops};
-ghost use Rattle.tool_monitors.specs.Told.{AreTracesTold};
+ghost use Rattle.tool_files.specs.Told.{AreTracesTold};
 ghost use Rattle.tool_models.specs.Watch.{Watches as WatchesTraces, RefusesToWatch};
 ghost use Rattle.tool_models.specs.Watched.{AreAllWatched};
 
@@ -17,9 +17,8 @@ use dyck_monitor::DyckMonitor;
 use flow_model::Model;
 use stack_automaton::StackMonitor;
 use std::alloc::Global;
-use tool_files::{model_in, read_to_end};
+use tool_files::{Asked, model_in, read_to_end};
 use tool_frame::{Finished, Stop};
-use tool_monitors::Asked;
 use watch::Watch;
 
 // The watches of the three monitors, in the order of their lines.

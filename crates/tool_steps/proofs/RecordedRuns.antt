@@ -5,7 +5,7 @@ use Rattle.dm_base.specs.declared.outcome.Outcome.{Outcome}
 use Rattle.dm_base.specs.declared.outcome.Outcome.TheVariants.{Exit, Undefined, Turns, Results, BadResult}
 use Rattle.dm_base.specs.declared.outcome.TraceEnd.TheVariants.{Ended}
 use Rattle.dm_io.specs.Store.{Files, file_at}
-use Rattle.c_meaning.specs.Runs.{Run, run, no_marks}
+use Rattle.ref_machine.specs.Runs.{Run, run, no_marks}
 use Rattle.c_tree.specs.Program.{IsProgram}
 use Rattle.c_tree.specs.Tree.{Program}
 use Rattle.ref_machine.specs.declared.whole.Run.{Run as Found}
@@ -14,8 +14,8 @@ use Rattle.sys_table.specs.declared.sys_result.SysResult.{SysResult}
 use Rattle.sys_table.specs.ResultsText.{AreResultsWithin}
 use Rattle.sys_table.specs.Table.{IsRecorded}
 use Rattle.trace_file.specs.EventText.{IsCountedOutcome, IsCountedEnd}
-use Rattle.c_meaning_laws.specs.Laws.{IsTypedRun, RunsAreTyped}
-use Rattle.c_meaning_laws.specs.TypedResults.{IsEnding}
+use Rattle.ref_machine.specs.Laws.{IsTypedRun, RunsAreTyped}
+use Rattle.ref_machine.specs.TypedResults.{IsEnding}
 
 -- what the run is, which was found so
 typed_run : (typed : RunsAreTyped) (p : Program) (n : ℕ) → IsProgram p n → (records : List SysResult) (turns : ℕ) → IsTypedRun (run p records turns)

@@ -5,8 +5,8 @@ use Rattle.c_tree.specs.Tree.{Program}
 use Rattle.flow_model.specs.declared.which.Which.TheVariants.{Callgraph, Stack, Dyck}
 use Rattle.flow_model.specs.Graph.{Graph}
 use Rattle.flow_model.specs.Language.{Reads}
-use Rattle.flow_graph_laws.specs.Equal.{AreEqual}
-use Rattle.flow_graph_laws.specs.GraphOfProgram.{graph_of_program}
+use Rattle.flow_graph.specs.Equal.{AreEqual}
+use Rattle.flow_graph.specs.GraphOfProgram.{graph_of_program}
 use Rattle.model_file.specs.declared.version.ModelVersion.TheVariants.{Two}
 use Rattle.model_file.specs.ModelText.{model_text}
 use Rattle.model_file.specs.Refusal.{longest, IsModel}

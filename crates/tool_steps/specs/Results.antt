@@ -2,7 +2,7 @@
 use Rattle.std.specs.Prelude.{ℕ, List, ◌++◌, codes, decimal}
 use Rattle.dm_base.specs.declared.outcome.TraceEnd.TheVariants.{Ended}
 use Rattle.dm_io.specs.Store.{Files, file_at}
-use Rattle.c_meaning.specs.Runs.{Run}
+use Rattle.ref_machine.specs.Runs.{Run}
 use Rattle.sys_table.specs.declared.results_error.ResultsError.{ResultsError}
 use Rattle.sys_table.specs.declared.results_error.ResultsError.TheVariants.{OutOfMemory, BadLine, NoEnd, TooLong, Version}
 use Rattle.sys_table.specs.declared.sys_result.SysResult.{SysResult}

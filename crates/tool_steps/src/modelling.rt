@@ -1,6 +1,6 @@
 ghost use Rattle.std.specs.Prelude.{◌≡◌, ◌≤◌, IfOk, IfErr, OnOk};
 ghost use Rattle.c_tree.specs.View.{program_of};
-ghost use Rattle.flow_graph_laws.specs.GraphOfProgram.{graph_of_program};
+ghost use Rattle.flow_graph.specs.GraphOfProgram.{graph_of_program};
 ghost use Rattle.tool_steps.specs.ModelTexts.{HasLanguagesOf, IsModelOf, IsModelText};
 ghost use Rattle.tool_steps.specs.ModelStops.{IsStopWith, StopsBuilding, StopsWriting, StopsModelling};
 

@@ -1,5 +1,5 @@
 use Rattle.std.proofs.Common.{ap, ◌∙◌}
-use Rattle.c_check_values.specs.TypedExpressionView.{typed_expression_of}
+use Rattle.c_check_initialisers.specs.TypedExpressionView.{typed_expression_of}
 use Rattle.c_check_bodies.proofs.LaidLemmas.{laid_as}
 use Rattle.c_check_bodies.proofs.switches.laid_switch.Goals as goal
 use Rattle.c_check_bodies.specs.StatementTreeView.{statement_tree_of}

@@ -1,7 +1,7 @@
 use Rattle.std.proofs.Common.{◌≡◌, ◌++◌, take}
 use Rattle.std.specs.Prelude.{flat_map}
 use Rattle.c_check_counts.specs.Named.{names_of_block_item, names_of_group}
-use Rattle.c_rules.specs.Variables.{names_of_stmt}
+use Rattle.c_check_scopes.specs.Variables.{names_of_stmt}
 use Rattle.c_syntax.specs.UnitView.{stmt_of}
 use Rattle.c_check_counts.specs.Seen.{seen}
 use Rattle.c_check_counts.proofs.names.+names_in.Given as goal

@@ -1,6 +1,6 @@
 use Rattle.std.proofs.Common.{◌∷◌, []}
 use Rattle.c_syntax.specs.UnitView.{parts_of}
-use Rattle.c_rules.specs.Variables.{names_of_parts}
+use Rattle.c_check_scopes.specs.Variables.{names_of_parts}
 use Rattle.c_check_counts.specs.Named.{name_of_part}
 use Rattle.c_check_counts.specs.Seen.{seen}
 use Rattle.c_check_counts.proofs.Lists.{names_of_parts_flat, all_flat}

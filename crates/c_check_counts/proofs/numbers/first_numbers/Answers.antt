@@ -1,6 +1,6 @@
 use Rattle.std.proofs.Common.{◌≡◌, length, arith, ap, ◌∙◌}
-use Rattle.c_rules.specs.Functions.{items_of_body}
-use Rattle.c_rules.specs.Variables.{names_of_block}
+use Rattle.c_check_scopes.specs.Functions.{items_of_body}
+use Rattle.c_check_scopes.specs.Variables.{names_of_block}
 use Rattle.c_syntax.specs.UnitView.{stmt_of}
 use Rattle.c_check_counts.specs.Seen.{seen}
 use Rattle.c_check_counts.proofs.NextLemmas.{few_started, first_are, none_first}

@@ -1,7 +1,7 @@
 use Rattle.std.proofs.Common.{ap, sym, ◌∙◌, ◌++◌}
 use Rattle.c_check_counts.specs.Seen.{seen}
 use Rattle.c_check_counts.proofs.NameLemmas.{names_in_body}
-use Rattle.c_rules.specs.Variables.{names_of_stmt}
+use Rattle.c_check_scopes.specs.Variables.{names_of_stmt}
 use Rattle.c_syntax.specs.UnitView.{stmt_of}
 use Rattle.c_check_counts.proofs.numbers.names_of_body.Goals as goal
 

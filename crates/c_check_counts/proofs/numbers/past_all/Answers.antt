@@ -1,4 +1,4 @@
-use Rattle.c_rules.specs.Variables.{past_names}
+use Rattle.c_check_scopes.specs.Variables.{past_names}
 use Rattle.c_check_counts.specs.Numbered.{next_of}
 use Rattle.c_check_counts.specs.Seen.{seen}
 use Rattle.c_check_counts.proofs.NextLemmas.{one_has, others_have, past_more}

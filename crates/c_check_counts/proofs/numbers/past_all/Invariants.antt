@@ -1,5 +1,5 @@
 use Rattle.std.proofs.Common.{◌≡◌, drop}
-use Rattle.c_rules.specs.Variables.{past_names}
+use Rattle.c_check_scopes.specs.Variables.{past_names}
 use Rattle.c_check_counts.specs.Numbered.{HaveNumbers, next_of}
 use Rattle.c_check_counts.specs.Seen.{seen}
 use Rattle.c_check_counts.proofs.numbers.past_all.Given as goal

@@ -3,7 +3,7 @@ use Rattle.std.specs.Prelude.{flat_map}
 use Rattle.std.proofs.lemmas.List.{take_all}
 use Rattle.c_syntax.specs.declared.tree.Item.{Item}
 use Rattle.c_syntax.specs.UnitView.{item_at}
-use Rattle.c_rules.specs.Units.{objects_of_item}
+use Rattle.c_check_scopes.specs.Units.{objects_of_item}
 use Rattle.c_check_counts.proofs.Lists.{objects_flat}
 use Rattle.c_check_counts.proofs.units.objects_of.Goals as goal
 

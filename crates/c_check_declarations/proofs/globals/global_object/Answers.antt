@@ -3,7 +3,7 @@ use Rattle.c_check_declarations.specs.ObjectView.{object_seen}
 use Rattle.c_check_declarations.proofs.ObjectLemmas.{name_fails}
 use Rattle.c_check_declarations.proofs.globals.global_object.Goals as goal
 use Rattle.c_rules.specs.Items.{object_name, few_static, global_object}
-use Rattle.c_check_scopes.specs.View.{before_of, env_of}
+use Rattle.c_check_values.specs.View.{before_of, env_of}
 use Rattle.c_syntax.specs.View.{ident_of}
 use Rattle.c_tree.specs.View.{ctype_of}
 

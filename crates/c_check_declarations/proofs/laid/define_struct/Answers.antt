@@ -1,7 +1,7 @@
 use Rattle.std.proofs.Common.{◌∙◌, ap, refl}
-use Rattle.c_check_scopes.specs.Shown.{knowns_of}
+use Rattle.c_check_values.specs.Shown.{knowns_of}
 use Rattle.c_rules.specs.Scopes.{struct_of}
-use Rattle.c_check_scopes.specs.View.{env_of}
+use Rattle.c_check_values.specs.View.{env_of}
 use Rattle.c_check_declarations.proofs.MemberLemmas.{put_is, still_open, members_known, members_few}
 use Rattle.c_check_declarations.proofs.laid.define_struct.Goals as goal
 

@@ -1,5 +1,5 @@
 use Rattle.std.proofs.Common.{sym, ◌∙◌}
-use Rattle.c_check_scopes.proofs.SeenLemmas.{among_reverse}
+use Rattle.c_check_values.proofs.SeenLemmas.{among_reverse}
 use Rattle.c_check_declarations.proofs.tags.is_within.Goals as goal
 
 pub returns : goal.returns

@@ -1,7 +1,7 @@
 use Rattle.std.proofs.Common.{sym, subst}
-use Rattle.c_check_values.specs.Agreement.{AgreesWith}
+use Rattle.c_check_types.specs.Agreement.{AgreesWith}
 use Rattle.c_check_primary.specs.CalleeView.{callee_of}
-use Rattle.c_check_scopes.specs.View.{env_of}
+use Rattle.c_check_counts.specs.View.{env_of}
 use Rattle.c_syntax.specs.View.{expr_of}
 use Rattle.c_tree.specs.View.{ctype_of}
 use Rattle.c_check_expressions.proofs.DesignatorLemmas.{direct, indirect, named_counts, unnamed_callee}

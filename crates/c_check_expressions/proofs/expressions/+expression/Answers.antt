@@ -1,9 +1,9 @@
 use Rattle.std.proofs.Common.{◌≡◌, ◌+◌, [], ◌∷◌, true, false, rules, length, drop, map, refl, sym, ap, subst, ◌∙◌, w32}
 use Rattle.std.proofs.lemmas.Int.{to_z-of_z}
 use Rattle.c_check_counts.proofs.Rows.{type_name_is}
-use Rattle.c_check_values.specs.Agreement.{AgreesWith, Names}
-use Rattle.c_check_values.specs.TypedExpressionView.{typed_expression_of}
-use Rattle.c_check_values.proofs.Parts.{raised, names_on, names_first, names_second}
+use Rattle.c_check_types.specs.Agreement.{AgreesWith, Names}
+use Rattle.c_check_types.specs.TypedExpressionView.{typed_expression_of}
+use Rattle.c_check_types.proofs.Parts.{raised, names_on, names_first, names_second}
 use Rattle.c_check_primary.specs.CalleeView.{callee_of}
 use Rattle.c_rules.specs.Assignments.{assignable, assignment_by, comma_of, step}
 use Rattle.c_rules.specs.BinaryExpressions.{choice, conjunction, disjunction, operation, operator_of_code, sum}
@@ -16,8 +16,8 @@ use Rattle.c_rules.specs.PostfixExpressions.{called, callee_by_value, member_of,
 use Rattle.c_rules.specs.PrimaryExpressions.{typed_int, named_expression, string_expression}
 use Rattle.c_rules.specs.Scopes.{Env, folded, in_context, inside, nothing_before, sized}
 use Rattle.c_rules.specs.UnaryExpressions.{cast_of, indirection, null_cast, size_of_expression, size_of_type}
-use Rattle.c_check_scopes.specs.View.{before_of, env_of}
-use Rattle.c_check_scopes.specs.declared.environment.Environment.{Environment}
+use Rattle.c_check_counts.specs.View.{before_of, env_of}
+use Rattle.c_check_counts.specs.Environment.{Environment}
 use Rattle.c_syntax.specs.View.{declarator_of, expr_of, ident_of, spec_of, type_name_of}
 use Rattle.c_syntax.specs.Writes.{declarator_behind, declarator_in, expr_behind, exprs_of, params_of}
 use Rattle.c_syntax.specs.declared.tree.Param.{out-Param}

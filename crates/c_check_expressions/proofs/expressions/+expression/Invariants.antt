@@ -1,8 +1,8 @@
 use Rattle.std.proofs.Common.{◌≡◌, drop, map}
-use Rattle.c_check_values.specs.TypedExpressionView.{typed_expression_of}
+use Rattle.c_check_types.specs.TypedExpressionView.{typed_expression_of}
 use Rattle.c_rules.specs.Counts.{calls_of_all, strings_of_all, past}
 use Rattle.c_rules.specs.Expressions.{trees, parameters}
-use Rattle.c_check_scopes.specs.View.{before_of, env_of}
+use Rattle.c_check_counts.specs.View.{before_of, env_of}
 use Rattle.c_syntax.specs.Writes.{exprs_of, params_of}
 use Rattle.c_check_expressions.specs.Parts.{Declares, onto_givens, onto_types}
 use Rattle.c_check_expressions.proofs.expressions.+expression.Given as goal

@@ -1,8 +1,8 @@
 use Rattle.std.proofs.Common.{◌≡◌, Some, sym, ◌∙◌}
-use Rattle.c_check_values.proofs.Parts.{raised}
+use Rattle.c_check_types.proofs.Parts.{raised}
 use Rattle.c_rules.specs.Checked.{fine}
 use Rattle.c_rules.specs.Declarators.{with_name_demands}
-use Rattle.c_check_scopes.specs.View.{env_of}
+use Rattle.c_check_counts.specs.View.{env_of}
 use Rattle.c_syntax.specs.View.{ident_of}
 use Rattle.c_tree.specs.View.{ctype_of}
 use Rattle.c_check_expressions.specs.Parts.{name_of_param}

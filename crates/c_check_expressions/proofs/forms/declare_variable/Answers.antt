@@ -1,5 +1,5 @@
-use Rattle.c_check_scopes.specs.Bound.{bound}
-use Rattle.c_check_scopes.specs.declared.meaning.Meaning.TheVariants.{Local}
+use Rattle.c_check_counts.specs.Bound.{bound}
+use Rattle.c_check_counts.specs.Meaning.TheVariants.{Local}
 use Rattle.c_check_expressions.proofs.Parameters.{declared_one}
 use Rattle.c_check_expressions.proofs.forms.declare_variable.Goals as goal
 

@@ -2,13 +2,13 @@ use Rattle.std.proofs.Common.{◌≡◌, ◌∙◌, ◌++◌, ap, sym, arith, re
 use Rattle.std.proofs.lemmas.List.{map-append}
 use Rattle.c_check_initialisers.specs.CellView.{cells_of, typed_expressions_of, slots_of}
 use Rattle.c_check_initialisers.specs.SlotsLeft.{ctype_seen, slot_at}
-use Rattle.c_check_values.proofs.Parts.{raised}
-use Rattle.c_check_values.specs.TypedExpressionView.{typed_expression_of}
+use Rattle.c_check_types.proofs.Parts.{raised}
+use Rattle.c_check_types.specs.TypedExpressionView.{typed_expression_of}
 use Rattle.c_check_expressions.proofs.InitLemmas.{counted_more_in, counted_starts, list_counted, list_fits, list_judged, list_many, none_there, turn_fails_in, turn_more_in, turn_starts, turn_stops}
 use Rattle.c_check_expressions.proofs.initialised.+initialiser.Goals as goal
 use Rattle.c_rules.specs.Counts.{past}
 use Rattle.c_rules.specs.Initialisers.{calls_of_inits, held_in_turn, in_turn, takes_list}
-use Rattle.c_check_scopes.specs.View.{before_of, env_of}
+use Rattle.c_check_counts.specs.View.{before_of, env_of}
 use Rattle.c_syntax.specs.WritesUnit.{inits_of}
 use Rattle.c_tree.specs.View.{ctype_of}
 

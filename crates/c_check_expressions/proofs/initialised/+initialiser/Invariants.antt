@@ -4,7 +4,7 @@ use Rattle.c_check_initialisers.specs.SlotsLeft.{left_from}
 use Rattle.c_rules.specs.Checked.{fine, on}
 use Rattle.c_rules.specs.Counts.{past}
 use Rattle.c_rules.specs.Initialisers.{calls_of_inits, held_in_turn, in_turn}
-use Rattle.c_check_scopes.specs.View.{before_of, env_of}
+use Rattle.c_check_counts.specs.View.{before_of, env_of}
 use Rattle.c_syntax.specs.WritesUnit.{inits_of}
 use Rattle.c_check_expressions.proofs.initialised.+initialiser.Given as goal
 

@@ -4,7 +4,7 @@ use Rattle.c_check_expressions.proofs.InitLemmas.{array_counted, array_judged}
 use Rattle.c_check_expressions.proofs.ones.one_initialised.Goals as goal
 use Rattle.c_rules.specs.Expressions.{value}
 use Rattle.c_rules.specs.Initialisers.{text_of}
-use Rattle.c_check_scopes.specs.View.{before_of, env_of}
+use Rattle.c_check_counts.specs.View.{before_of, env_of}
 use Rattle.c_syntax.specs.View.{expr_of}
 use Rattle.c_tree.specs.Tree.{array}
 use Rattle.c_tree.specs.View.{ctype_of}

@@ -3,7 +3,7 @@ use Rattle.std.proofs.lemmas.Int.{to_z-of_z}
 use Rattle.c_rules.specs.Checked.{Checked, fine}
 use Rattle.c_rules.specs.Items.{enumerator_meaning, enumerator_value}
 use Rattle.c_rules.specs.Scopes.{Env, Meaning, an_enumerator, meaning_or_unknown, with_name}
-use Rattle.c_check_scopes.specs.View.{env_of}
+use Rattle.c_check_statements.specs.View.{env_of}
 use Rattle.c_syntax.specs.UnitView.{maybe_of}
 use Rattle.c_syntax.specs.View.{ident_of}
 use Rattle.c_check_items.proofs.enums.declare_enumerator.Goals as goal

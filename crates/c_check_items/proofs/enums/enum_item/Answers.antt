@@ -1,12 +1,12 @@
 use Rattle.std.proofs.Common.{◌≡◌, List, [], ◌++◌, append-nil, ap, sym, subst, ◌∙◌}
 use Rattle.std.specs.Prelude.{pos}
-use Rattle.c_check_values.specs.Agreement.{Names}
-use Rattle.c_check_values.proofs.Parts.{raised, names_first, names_second}
+use Rattle.c_check_units.specs.Agreement.{Names}
+use Rattle.c_check_units.proofs.Parts.{raised, names_first, names_second}
 use Rattle.c_rules.specs.Checked.{Checked, Met, met, both, fine, faults}
 use Rattle.c_rules.specs.Items.{behind_enum_tag, enumerators, new_enum, no_output}
 use Rattle.c_rules.specs.Names.{Name}
 use Rattle.c_rules.specs.Tags.{tags_of_enumerators}
-use Rattle.c_check_scopes.specs.View.{env_of}
+use Rattle.c_check_statements.specs.View.{env_of}
 use Rattle.c_syntax.specs.UnitView.{enumerators_of, tag_of}
 use Rattle.c_check_items.proofs.enums.enum_item.Goals as goal
 

@@ -1,13 +1,13 @@
 use Rattle.std.proofs.Common.{◌≡◌, ℤ, refl, ap, sym, subst, ◌∙◌, rules, w32, w64}
 use Rattle.std.proofs.lemmas.Int.{to_z-of_z}
-use Rattle.c_check_values.specs.Agreement.{Names}
-use Rattle.c_check_values.proofs.Parts.{raised, names_first, names_second}
+use Rattle.c_check_units.specs.Agreement.{Names}
+use Rattle.c_check_units.proofs.Parts.{raised, names_first, names_second}
 use Rattle.c_check_items.proofs.Moves.{both_is}
 use Rattle.c_rules.specs.Checked.{Checked, Met, met, fine, faults}
 use Rattle.c_rules.specs.Declarators.{new_name}
 use Rattle.c_rules.specs.Items.{enumerator_meaning, enumerator_value}
 use Rattle.c_rules.specs.Scopes.{Meaning, an_enumerator}
-use Rattle.c_check_scopes.specs.View.{env_of}
+use Rattle.c_check_statements.specs.View.{env_of}
 use Rattle.c_syntax.specs.UnitView.{maybe_of}
 use Rattle.c_syntax.specs.View.{ident_of}
 use Rattle.c_check_items.proofs.enums.enumerator_meaning.Goals as goal

@@ -1,12 +1,12 @@
 use Rattle.std.proofs.Common.{◌≡◌, ap, sym, ◌∙◌, rules, of_z, to_z, w32, w64}
 use Rattle.std.proofs.lemmas.Int.{to_z-of_z}
 use Rattle.std.specs.Prelude.{pos, ◌+ℤ◌}
-use Rattle.c_check_values.proofs.Parts.{raised}
+use Rattle.c_check_units.proofs.Parts.{raised}
 use Rattle.c_check_items.proofs.Enumerators.{enumerator_more, enumerator_fails, enumerators_end, behind_more, behind_end}
 use Rattle.c_rules.specs.Checked.{Checked, Met, fine, met}
 use Rattle.c_rules.specs.Items.{behind_enumerators, enumerators}
 use Rattle.c_rules.specs.Scopes.{Env, an_enumerator}
-use Rattle.c_check_scopes.specs.View.{env_of}
+use Rattle.c_check_statements.specs.View.{env_of}
 use Rattle.c_syntax.specs.UnitView.{enumerators_of}
 use Rattle.c_check_items.proofs.enums.enumerators.Goals as goal
 

@@ -2,7 +2,7 @@ use Rattle.std.proofs.Common.{◌≡◌, drop}
 use Rattle.std.specs.Prelude.{pos}
 use Rattle.c_rules.specs.Checked.{fine}
 use Rattle.c_rules.specs.Items.{behind_enumerators, enumerators}
-use Rattle.c_check_scopes.specs.View.{env_of}
+use Rattle.c_check_statements.specs.View.{env_of}
 use Rattle.c_syntax.specs.UnitView.{enumerators_of}
 use Rattle.c_check_items.proofs.enums.enumerators.Given as goal
 

@@ -1,12 +1,12 @@
 use Rattle.std.proofs.Common.{◌≡◌, ℤ, ap, sym, ◌∙◌}
-use Rattle.c_check_values.specs.TypedExpressionView.{typed_expression_of}
+use Rattle.c_check_units.specs.TypedExpressionView.{typed_expression_of}
 use Rattle.c_check_items.proofs.Moves.{on_ok, same_judged}
 use Rattle.c_rules.specs.Checked.{Checked, fine, on}
 use Rattle.c_rules.specs.Constants.{number_of}
 use Rattle.c_rules.specs.Counts.{place_of}
 use Rattle.c_rules.specs.Declarators.{constant_value}
 use Rattle.c_rules.specs.Items.{enumerator_value, int_value}
-use Rattle.c_check_scopes.specs.View.{env_of}
+use Rattle.c_check_statements.specs.View.{env_of}
 use Rattle.c_syntax.specs.UnitView.{maybe_of}
 use Rattle.c_syntax.specs.View.{expr_of, ident_of}
 use Rattle.c_check_items.proofs.enums.value_of_enumerator.Goals as goal

@@ -2,7 +2,7 @@ use Rattle.std.specs.Prelude.{false}
 use Rattle.c_check_items.proofs.Within.{tagged}
 use Rattle.c_rules.specs.Items.{behind_by_form}
 use Rattle.c_rules.specs.Tags.{tags_of_item}
-use Rattle.c_check_scopes.specs.View.{before_of, env_of}
+use Rattle.c_check_statements.specs.View.{before_of, env_of}
 use Rattle.c_syntax.specs.Tree.{Item}
 use Rattle.c_syntax.specs.UnitView.{item_at}
 use Rattle.c_check_items.proofs.file_scope.add_item.Goals as goal

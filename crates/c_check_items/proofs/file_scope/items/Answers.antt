@@ -1,11 +1,11 @@
 use Rattle.std.proofs.Common.{sym}
-use Rattle.c_check_values.proofs.Parts.{raised}
+use Rattle.c_check_units.proofs.Parts.{raised}
 use Rattle.c_check_units.specs.OutputView.{output_of}
 use Rattle.c_check_items.proofs.Loops.{item_more, item_fails, item_behind, item_after, items_end, past_end, counted_end}
 use Rattle.c_rules.specs.Checked.{Checked}
 use Rattle.c_rules.specs.Items.{Output, after_items, behind_items, items}
 use Rattle.c_rules.specs.Scopes.{Env, Before}
-use Rattle.c_check_scopes.specs.View.{before_of, env_of}
+use Rattle.c_check_statements.specs.View.{before_of, env_of}
 use Rattle.c_syntax.specs.UnitView.{items_of}
 use Rattle.c_check_items.proofs.file_scope.items.Goals as goal
 

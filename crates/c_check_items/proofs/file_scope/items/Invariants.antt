@@ -2,7 +2,7 @@ use Rattle.std.proofs.Common.{◌≡◌, drop}
 use Rattle.c_check_units.specs.OutputView.{output_of}
 use Rattle.c_rules.specs.Checked.{gives}
 use Rattle.c_rules.specs.Items.{after_items, behind_items, items, with_output}
-use Rattle.c_check_scopes.specs.View.{before_of, env_of}
+use Rattle.c_check_statements.specs.View.{before_of, env_of}
 use Rattle.c_syntax.specs.UnitView.{items_of}
 use Rattle.c_check_items.proofs.file_scope.items.Given as goal
 

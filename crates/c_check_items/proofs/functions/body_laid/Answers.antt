@@ -1,7 +1,7 @@
 use Rattle.std.proofs.Common.{◌≡◌, ap, sym, ◌∙◌}
 use Rattle.std.specs.Prelude.{false}
 use Rattle.c_check_units.specs.Numbered.{next_of}
-use Rattle.c_check_values.proofs.Parts.{raised}
+use Rattle.c_check_units.proofs.Parts.{raised}
 use Rattle.c_check_items.proofs.Moves.{same_within, same_named}
 use Rattle.c_check_items.proofs.Within.{body_within, few_parameters}
 use Rattle.c_check_statements.specs.StatementTreeView.{statement_trees_of}
@@ -13,7 +13,7 @@ use Rattle.c_rules.specs.Functions.{body_env, body_numbers, body_of, items_of_bo
 use Rattle.c_rules.specs.Scopes.{Env}
 use Rattle.c_rules.specs.Statements.{Around, items_of_block}
 use Rattle.c_rules.specs.Variables.{calls_of_block, names_of_block}
-use Rattle.c_check_scopes.specs.View.{before_of, env_of}
+use Rattle.c_check_statements.specs.View.{before_of, env_of}
 use Rattle.c_syntax.specs.Tree.{BlockItems}
 use Rattle.c_syntax.specs.UnitView.{stmt_of}
 use Rattle.c_syntax.specs.View.{declarator_of}

@@ -1,13 +1,13 @@
 use Rattle.std.proofs.Common.{◌≡◌, refl, sym, ◌∙◌}
 use Rattle.std.specs.Prelude.{true}
-use Rattle.c_check_values.proofs.Parts.{raised, names_first, names_second}
+use Rattle.c_check_units.proofs.Parts.{raised, names_first, names_second}
 use Rattle.c_check_items.proofs.Moves.{both_is, node_fails, on_is}
 use Rattle.c_rules.specs.Checked.{Checked, both, fine, on}
 use Rattle.c_rules.specs.Expressions.{type_declared}
 use Rattle.c_rules.specs.Functions.{behind_function, function_meaning}
 use Rattle.c_rules.specs.Scopes.{Meaning}
-use Rattle.c_check_scopes.specs.Bound.{meaning_of}
-use Rattle.c_check_scopes.specs.View.{env_of}
+use Rattle.c_check_statements.specs.Bound.{meaning_of}
+use Rattle.c_check_statements.specs.View.{env_of}
 use Rattle.c_syntax.specs.View.{declarator_of, ident_of, spec_of}
 use Rattle.c_tree.specs.Tree.{CType}
 use Rattle.c_tree.specs.View.{ctype_of}

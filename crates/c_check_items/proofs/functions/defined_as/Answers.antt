@@ -5,7 +5,7 @@ use Rattle.c_rules.specs.Checked.{Checked}
 use Rattle.c_rules.specs.Counts.{past}
 use Rattle.c_rules.specs.Functions.{defined_as, held_by_type, items_of_body}
 use Rattle.c_rules.specs.Variables.{calls_of_block}
-use Rattle.c_check_scopes.specs.View.{before_of, env_of}
+use Rattle.c_check_statements.specs.View.{before_of, env_of}
 use Rattle.c_syntax.specs.UnitView.{stmt_of}
 use Rattle.c_syntax.specs.View.{declarator_of, ident_of}
 use Rattle.c_tree.specs.Tree.{CType, Function, function}

@@ -1,11 +1,11 @@
 use Rattle.std.proofs.Common.{◌≡◌, refl, sym, ◌∙◌}
-use Rattle.c_check_values.proofs.Parts.{names_first, names_node, names_on, names_parts, parts_judged, raised}
+use Rattle.c_check_units.proofs.Parts.{names_first, names_node, names_on, names_parts, parts_judged, raised}
 use Rattle.c_check_items.proofs.Moves.{both_is, node_fails, on_is, on_ok, same_judged}
 use Rattle.c_check_statements.specs.StatementTreeView.{statement_trees_of}
 use Rattle.c_rules.specs.Blocks.{StatementTree}
 use Rattle.c_rules.specs.Checked.{Checked, fine, faulty, Met, met, both, demand, on, parts_first}
 use Rattle.c_rules.specs.Functions.{are_named, body_of, few_variables, function_laid, items_of_body, parameters_of}
-use Rattle.c_check_scopes.specs.View.{before_of, env_of}
+use Rattle.c_check_statements.specs.View.{before_of, env_of}
 use Rattle.c_syntax.specs.UnitView.{stmt_of}
 use Rattle.c_syntax.specs.View.{declarator_of, ident_of}
 use Rattle.c_tree.specs.Tree.{Function, Stmts}

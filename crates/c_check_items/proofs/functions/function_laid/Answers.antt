@@ -6,7 +6,7 @@ use Rattle.c_rules.specs.Checked.{Checked, demand}
 use Rattle.c_rules.specs.Functions.{function_laid}
 use Rattle.c_rules.specs.Limits.{most_local_cells}
 use Rattle.c_rules.specs.Scopes.{layout_of}
-use Rattle.c_check_scopes.specs.View.{env_of}
+use Rattle.c_check_statements.specs.View.{env_of}
 use Rattle.c_syntax.specs.View.{ident_of}
 use Rattle.c_tree.specs.Layout.{cells_of_all}
 use Rattle.c_tree.specs.Tree.{CType, Function, block}

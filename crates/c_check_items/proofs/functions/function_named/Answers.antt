@@ -1,6 +1,6 @@
 use Rattle.std.proofs.Common.{◌≡◌, sym, ◌∙◌}
 use Rattle.std.specs.Prelude.{true}
-use Rattle.c_check_values.proofs.Parts.{raised}
+use Rattle.c_check_units.proofs.Parts.{raised}
 use Rattle.c_check_items.proofs.Moves.{IsFine, first_fine, on_is, on_more, same_judged, viewed_ends, wider_fails}
 use Rattle.c_rules.specs.Checked.{Checked, both, fine, on}
 use Rattle.c_rules.specs.Counts.{past}
@@ -10,7 +10,7 @@ use Rattle.c_rules.specs.Functions.{defined_as, function_declared, held_by_type,
 use Rattle.c_rules.specs.Items.{Output, behind_defined, output_of_function}
 use Rattle.c_rules.specs.Scopes.{Env, Before, Meaning}
 use Rattle.c_rules.specs.Variables.{calls_of_block}
-use Rattle.c_check_scopes.specs.View.{before_of, env_of}
+use Rattle.c_check_statements.specs.View.{before_of, env_of}
 use Rattle.c_syntax.specs.Tree.{BlockItems}
 use Rattle.c_syntax.specs.UnitView.{stmt_of}
 use Rattle.c_syntax.specs.View.{declarator_of, ident_of, spec_of}

@@ -5,8 +5,8 @@ use Rattle.c_rules.specs.Checked.{Checked, on}
 use Rattle.c_rules.specs.Expressions.{type_declared}
 use Rattle.c_rules.specs.Functions.{function_meaning}
 use Rattle.c_rules.specs.Scopes.{Meaning}
-use Rattle.c_check_scopes.specs.Bound.{meaning_of}
-use Rattle.c_check_scopes.specs.View.{env_of}
+use Rattle.c_check_statements.specs.Bound.{meaning_of}
+use Rattle.c_check_statements.specs.View.{env_of}
 use Rattle.c_syntax.specs.View.{declarator_of, ident_of, spec_of}
 use Rattle.c_tree.specs.Tree.{CType}
 use Rattle.c_tree.specs.View.{ctype_of}

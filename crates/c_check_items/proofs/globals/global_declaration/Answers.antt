@@ -1,10 +1,10 @@
 use Rattle.std.proofs.Common.{sym, ◌∙◌}
 use Rattle.std.specs.Prelude.{false}
-use Rattle.c_check_values.proofs.Parts.{names_on, raised}
+use Rattle.c_check_units.proofs.Parts.{names_on, raised}
 use Rattle.c_rules.specs.Checked.{Checked, fine, gives}
 use Rattle.c_rules.specs.Items.{behind_global, global_declared, no_output}
 use Rattle.c_rules.specs.Objects.{Object}
-use Rattle.c_check_scopes.specs.View.{before_of, env_of}
+use Rattle.c_check_statements.specs.View.{before_of, env_of}
 use Rattle.c_syntax.specs.UnitView.{maybe_init_of}
 use Rattle.c_syntax.specs.View.{declarator_of, ident_of, spec_of}
 use Rattle.c_check_items.proofs.globals.global_declaration.Goals as goal

@@ -1,11 +1,11 @@
 use Rattle.std.proofs.Common.{◌≡◌, ◌∙◌}
-use Rattle.c_check_values.proofs.Parts.{raised}
+use Rattle.c_check_units.proofs.Parts.{raised}
 use Rattle.c_check_items.proofs.Moves.{node_fails, on_is}
 use Rattle.c_check_statements.specs.ObjectView.{object_seen}
 use Rattle.c_rules.specs.Checked.{Checked, on}
 use Rattle.c_rules.specs.Items.{global_object}
 use Rattle.c_rules.specs.Objects.{Object, object_declared}
-use Rattle.c_check_scopes.specs.View.{before_of, env_of}
+use Rattle.c_check_statements.specs.View.{before_of, env_of}
 use Rattle.c_syntax.specs.UnitView.{maybe_init_of}
 use Rattle.c_syntax.specs.View.{declarator_of, ident_of, spec_of}
 use Rattle.c_check_items.proofs.globals.global_declared.Goals as goal

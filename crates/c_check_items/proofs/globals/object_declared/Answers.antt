@@ -5,7 +5,7 @@ use Rattle.c_rules.specs.Checked.{Checked, on}
 use Rattle.c_rules.specs.Declarators.{place_or}
 use Rattle.c_rules.specs.Expressions.{type_declared}
 use Rattle.c_rules.specs.Objects.{Object, object_of}
-use Rattle.c_check_scopes.specs.View.{env_of}
+use Rattle.c_check_statements.specs.View.{env_of}
 use Rattle.c_syntax.specs.UnitView.{maybe_init_of}
 use Rattle.c_syntax.specs.View.{declarator_of, spec_of}
 use Rattle.c_tree.specs.Tree.{CType}

@@ -1,12 +1,12 @@
 use Rattle.std.proofs.Common.{◌++◌, List, ap, sym, ◌∙◌}
 use Rattle.std.specs.Prelude.{reverse}
-use Rattle.c_check_values.proofs.Parts.{raised}
+use Rattle.c_check_units.proofs.Parts.{raised}
 use Rattle.c_check_items.proofs.Loops.{member_more, member_fails, member_end, names_more, names_end}
 use Rattle.c_rules.specs.Checked.{Checked, gives}
 use Rattle.c_rules.specs.Items.{members_declared, names_behind}
 use Rattle.c_rules.specs.Names.{Name}
 use Rattle.c_rules.specs.Scopes.{Member}
-use Rattle.c_check_scopes.specs.View.{env_of}
+use Rattle.c_check_statements.specs.View.{env_of}
 use Rattle.c_check_statements.specs.Members.{members_of}
 use Rattle.c_syntax.specs.UnitView.{declarators_of}
 use Rattle.c_syntax.specs.View.{spec_of}

@@ -1,6 +1,6 @@
 use Rattle.std.proofs.Common.{ℕ, List, refl, ap, sym, ◌∙◌}
 use Rattle.std.specs.Prelude.{reverse, Some}
-use Rattle.c_check_values.proofs.Parts.{raised, names_first, names_second}
+use Rattle.c_check_units.proofs.Parts.{raised, names_first, names_second}
 use Rattle.c_check_items.proofs.Moves.{both_is}
 use Rattle.c_check_items.specs.Views.{member_seen}
 use Rattle.c_rules.specs.Checked.{Checked, Met, met, fine, on}
@@ -8,7 +8,7 @@ use Rattle.c_rules.specs.Declarators.{place_or}
 use Rattle.c_rules.specs.Expressions.{type_declared}
 use Rattle.c_rules.specs.Items.{member_named, member_typed, new_member}
 use Rattle.c_rules.specs.Scopes.{Member}
-use Rattle.c_check_scopes.specs.View.{env_of}
+use Rattle.c_check_statements.specs.View.{env_of}
 use Rattle.c_syntax.specs.View.{declarator_of, ident_of, spec_of}
 use Rattle.c_tree.specs.Tree.{CType}
 use Rattle.c_tree.specs.View.{ctype_of}

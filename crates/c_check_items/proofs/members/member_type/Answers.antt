@@ -1,11 +1,11 @@
 use Rattle.std.proofs.Common.{◌≡◌, ◌∙◌}
 use Rattle.c_check_items.proofs.Moves.{node_fails, on_is}
-use Rattle.c_check_values.proofs.Parts.{raised}
+use Rattle.c_check_units.proofs.Parts.{raised}
 use Rattle.c_rules.specs.Checked.{Checked, on}
 use Rattle.c_rules.specs.Declarators.{place_or}
 use Rattle.c_rules.specs.Expressions.{type_declared}
 use Rattle.c_rules.specs.Items.{member_typed}
-use Rattle.c_check_scopes.specs.View.{env_of}
+use Rattle.c_check_statements.specs.View.{env_of}
 use Rattle.c_syntax.specs.View.{declarator_of, spec_of}
 use Rattle.c_tree.specs.Tree.{CType}
 use Rattle.c_tree.specs.View.{ctype_of}

@@ -1,12 +1,12 @@
 use Rattle.std.proofs.Common.{[], ◌++◌, List, ap, sym, subst, ◌∙◌}
 use Rattle.std.specs.Prelude.{reverse}
-use Rattle.c_check_values.proofs.Parts.{raised}
-use Rattle.c_check_values.specs.Agreement.{Names}
+use Rattle.c_check_units.proofs.Parts.{raised}
+use Rattle.c_check_units.specs.Agreement.{Names}
 use Rattle.c_check_items.proofs.Loops.{members_more, members_fail, members_end}
 use Rattle.c_rules.specs.Checked.{Checked, faults, gives}
 use Rattle.c_rules.specs.Items.{members, members_declared, names_behind}
 use Rattle.c_rules.specs.Scopes.{Member}
-use Rattle.c_check_scopes.specs.View.{env_of}
+use Rattle.c_check_statements.specs.View.{env_of}
 use Rattle.c_check_statements.specs.Members.{members_of}
 use Rattle.c_syntax.specs.UnitView as syntax
 use Rattle.c_syntax.specs.View.{spec_of}

@@ -2,7 +2,7 @@ use Rattle.std.proofs.Common.{◌≡◌, [], ◌++◌, drop}
 use Rattle.std.specs.Prelude.{reverse}
 use Rattle.c_rules.specs.Checked.{gives}
 use Rattle.c_rules.specs.Items.{members}
-use Rattle.c_check_scopes.specs.View.{env_of}
+use Rattle.c_check_statements.specs.View.{env_of}
 use Rattle.c_check_statements.specs.Members.{members_of}
 use Rattle.c_syntax.specs.UnitView as syntax
 use Rattle.c_check_items.proofs.members.members.Given as goal

@@ -1,6 +1,6 @@
 use Rattle.std.proofs.Common.{◌≡◌, ◌+◌, ◌≤◌, List, ap, sym, subst, ◌∙◌}
 use Rattle.std.specs.Prelude.{true}
-use Rattle.c_check_values.proofs.Parts.{raised}
+use Rattle.c_check_units.proofs.Parts.{raised}
 use Rattle.c_check_items.proofs.Moves.{held_by_same, named_within, same_within, same_named}
 use Rattle.c_check_units.specs.Scoped.{IsWithin}
 use Rattle.c_check_initialisers.specs.CellView.{typed_expressions_of}
@@ -12,7 +12,7 @@ use Rattle.c_rules.specs.Initialisers.{calls_of_maybe_init, held_by, initialised
 use Rattle.c_rules.specs.Items.{after_object, seen_of_global, within_global}
 use Rattle.c_rules.specs.Limits.{most_static_cells}
 use Rattle.c_rules.specs.Scopes.{Env, Before, layout_of, meaning_or_unknown}
-use Rattle.c_check_scopes.specs.View.{before_of, env_of}
+use Rattle.c_check_statements.specs.View.{before_of, env_of}
 use Rattle.c_syntax.specs.UnitView.{maybe_init_of}
 use Rattle.c_syntax.specs.View.{ident_of}
 use Rattle.c_tree.specs.Layout.{cells}

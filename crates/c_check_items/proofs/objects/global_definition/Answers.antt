@@ -1,6 +1,6 @@
 use Rattle.std.proofs.Common.{◌≡◌, ◌+◌, ◌≤◌, List, ap, sym, subst, ◌∙◌, rules}
 use Rattle.std.specs.Prelude.{[], ◌∷◌, true}
-use Rattle.c_check_values.proofs.Parts.{names_on, raised}
+use Rattle.c_check_units.proofs.Parts.{names_on, raised}
 use Rattle.c_check_items.proofs.Moves.{definition_fails, definition_is, same_named, within_limit}
 use Rattle.c_check_statements.specs.ObjectView.{object_seen}
 use Rattle.c_rules.specs.Checked.{Checked, fine}
@@ -11,7 +11,7 @@ use Rattle.c_rules.specs.Items.{after_global, after_object, behind_global, defin
 use Rattle.c_rules.specs.Objects.{Object}
 use Rattle.c_rules.specs.Limits.{most_static_cells}
 use Rattle.c_rules.specs.Scopes.{Env, layout_of}
-use Rattle.c_check_scopes.specs.View.{before_of, env_of}
+use Rattle.c_check_statements.specs.View.{before_of, env_of}
 use Rattle.c_syntax.specs.UnitView.{maybe_init_of}
 use Rattle.c_syntax.specs.View.{declarator_of, ident_of, spec_of}
 use Rattle.c_tree.specs.Layout.{cells}

@@ -1,11 +1,11 @@
 use Rattle.std.proofs.Common.{sym}
-use Rattle.c_check_values.proofs.Parts.{raised}
+use Rattle.c_check_units.proofs.Parts.{raised}
 use Rattle.c_check_units.specs.OutputView.{output_of}
 use Rattle.c_check_items.proofs.Loops.{part_more, part_fails, part_behind, part_after, parts_end, behind_end, after_end}
 use Rattle.c_rules.specs.Checked.{Checked, gives}
 use Rattle.c_rules.specs.Items.{Output, after_file_parts, behind_file_parts, file_parts, with_output}
 use Rattle.c_rules.specs.Scopes.{Env, Before}
-use Rattle.c_check_scopes.specs.View.{before_of, env_of}
+use Rattle.c_check_statements.specs.View.{before_of, env_of}
 use Rattle.c_syntax.specs.UnitView.{parts_of, storage_of}
 use Rattle.c_syntax.specs.View.{spec_of}
 use Rattle.c_check_items.proofs.parts.add_parts.Goals as goal

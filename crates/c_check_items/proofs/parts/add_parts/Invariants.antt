@@ -2,7 +2,7 @@ use Rattle.std.proofs.Common.{◌≡◌, drop}
 use Rattle.c_check_units.specs.OutputView.{output_of}
 use Rattle.c_rules.specs.Checked.{gives}
 use Rattle.c_rules.specs.Items.{after_file_parts, behind_file_parts, file_parts, with_output}
-use Rattle.c_check_scopes.specs.View.{before_of, env_of}
+use Rattle.c_check_statements.specs.View.{before_of, env_of}
 use Rattle.c_syntax.specs.UnitView.{parts_of, storage_of}
 use Rattle.c_syntax.specs.View.{spec_of}
 use Rattle.c_check_items.proofs.parts.add_parts.Given as goal

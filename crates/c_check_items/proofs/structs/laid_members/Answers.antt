@@ -1,10 +1,10 @@
 use Rattle.std.proofs.Common.{◌≡◌, [], List, ap, ◌∙◌}
-use Rattle.c_check_values.proofs.Parts.{raised}
+use Rattle.c_check_units.proofs.Parts.{raised}
 use Rattle.c_check_items.proofs.Moves.{node_fails, on_is}
 use Rattle.c_rules.specs.Checked.{Checked, fine, on}
 use Rattle.c_rules.specs.Items.{members, struct_laid}
 use Rattle.c_rules.specs.Scopes.{Member, Struct, defined_struct}
-use Rattle.c_check_scopes.specs.View.{env_of}
+use Rattle.c_check_statements.specs.View.{env_of}
 use Rattle.c_check_statements.specs.Members.{members_of}
 use Rattle.c_syntax.specs.UnitView as syntax
 use Rattle.c_syntax.specs.View.{ident_of}

@@ -1,15 +1,15 @@
 use Rattle.std.proofs.Common.{◌≡◌, ◌≤◌, map, ap, sym, subst, ◌∙◌}
-use Rattle.c_check_values.proofs.Parts.{names_on, raised}
+use Rattle.c_check_units.proofs.Parts.{names_on, raised}
 use Rattle.c_rules.specs.Checked.{Checked, fine, gives}
 use Rattle.c_rules.specs.Items.{no_output, struct_definition, struct_or_unknown}
 use Rattle.c_rules.specs.Scopes.{Struct, defined_struct, incomplete, layout_of, struct_of, tag_number, type_of_member, with_struct}
 use Rattle.c_check_statements.specs.Members.{members_of as seen_members}
 use Rattle.c_check_items.proofs.HeldStructs.{struct_known}
 use Rattle.c_rules.specs.Limits.{most_cells}
-use Rattle.c_check_scopes.specs.Held.{AllInAll, IsDefined}
+use Rattle.c_check_statements.specs.Held.{AllInAll, IsDefined}
 use Rattle.c_tree.specs.Layout.{cells_of_all}
 use Rattle.c_check_items.proofs.Moves.{was_open}
-use Rattle.c_check_scopes.specs.View.{env_of}
+use Rattle.c_check_statements.specs.View.{env_of}
 use Rattle.c_syntax.specs.UnitView.{members_of}
 use Rattle.c_syntax.specs.View.{ident_of}
 use Rattle.c_check_items.proofs.structs.struct_item.Goals as goal

@@ -1,7 +1,7 @@
-use Rattle.c_check_values.proofs.Parts.{names_on, raised}
+use Rattle.c_check_units.proofs.Parts.{names_on, raised}
 use Rattle.c_rules.specs.Checked.{Checked, Met, fine, gives}
 use Rattle.c_rules.specs.Items.{no_output, tag_declaration}
-use Rattle.c_check_scopes.specs.View.{env_of}
+use Rattle.c_check_statements.specs.View.{env_of}
 use Rattle.c_syntax.specs.View.{ident_of}
 use Rattle.c_check_items.proofs.structs.tag_item.Goals as goal
 

@@ -1,5 +1,5 @@
 use Rattle.c_rules.specs.Scopes.{layout_of}
-use Rattle.c_check_scopes.specs.View.{env_of}
+use Rattle.c_check_values.specs.View.{env_of}
 use Rattle.c_check_primary.proofs.MemberLemmas.{cell_told}
 use Rattle.c_check_primary.proofs.members.cell_at.Goals as goal
 

@@ -1,5 +1,5 @@
 use Rattle.std.proofs.Common.{sym, ap, ◌∙◌, arith}
-use Rattle.c_check_scopes.specs.declared.structs.StructMember.{StructMember}
+use Rattle.c_check_values.specs.StructMember.{StructMember}
 use Rattle.c_tree.specs.View.{ctype_of}
 use Rattle.c_check_primary.proofs.MemberLemmas.{type_is}
 use Rattle.c_check_primary.proofs.members.type_at.Goals as goal

@@ -1,6 +1,6 @@
 use Rattle.std.proofs.Common.{◌≡◌, false, OnOk, subst, sym}
-use Rattle.c_check_counts.specs.Numbered.{HaveNumbers, next_of}
-use Rattle.c_check_values.specs.Agreement.{AgreesWith}
+use Rattle.c_check_bodies.specs.Numbered.{HaveNumbers, next_of}
+use Rattle.c_check_declarations.specs.Agreement.{AgreesWith}
 use Rattle.c_check_bodies.specs.StatementTreeView.{statement_trees_of}
 use Rattle.c_rules.specs.Blocks.{held_by_block}
 use Rattle.c_rules.specs.Counts.{past}

@@ -1,7 +1,7 @@
 use Rattle.std.proofs.Common.{false, sym, subst, ◌∙◌}
-use Rattle.c_check_counts.specs.Numbered.{next_of}
-use Rattle.c_check_values.specs.Agreement.{Names}
-use Rattle.c_check_values.proofs.Parts.{names_on, raised}
+use Rattle.c_check_bodies.specs.Numbered.{next_of}
+use Rattle.c_check_declarations.specs.Agreement.{Names}
+use Rattle.c_check_declarations.proofs.Parts.{names_on, raised}
 use Rattle.c_check_bodies.specs.StatementTreeView.{statement_trees_of, statement_tree_of}
 use Rattle.c_rules.specs.Blocks.{alone}
 use Rattle.c_rules.specs.Checked.{faults, fine}

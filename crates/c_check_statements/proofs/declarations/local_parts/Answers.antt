@@ -1,5 +1,5 @@
-use Rattle.c_check_counts.specs.Numbered.{next_of}
-use Rattle.c_check_values.proofs.Parts.{raised}
+use Rattle.c_check_bodies.specs.Numbered.{next_of}
+use Rattle.c_check_declarations.proofs.Parts.{raised}
 use Rattle.c_check_bodies.specs.StatementTreeView.{statement_trees_of, statement_tree_of}
 use Rattle.c_rules.specs.Blocks.{behind_parts, held_by_parts, local_parts}
 use Rattle.c_rules.specs.Counts.{past}

@@ -1,5 +1,5 @@
 use Rattle.std.proofs.Common.{refl, sym}
-use Rattle.c_check_values.specs.TypedExpressionView.{typed_expression_of}
+use Rattle.c_check_declarations.specs.TypedExpressionView.{typed_expression_of}
 use Rattle.c_rules.specs.Checked.{on}
 use Rattle.c_rules.specs.Counts.{place_of}
 use Rattle.c_rules.specs.Declarators.{constant_value}

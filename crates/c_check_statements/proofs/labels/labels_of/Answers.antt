@@ -1,5 +1,5 @@
 use Rattle.std.proofs.Common.{ap, ◌∙◌}
-use Rattle.c_check_values.proofs.Parts.{raised}
+use Rattle.c_check_declarations.proofs.Parts.{raised}
 use Rattle.c_rules.specs.Statements.{labels_of}
 use Rattle.c_check_scopes.specs.View.{env_of}
 use Rattle.c_check_statements.specs.Listed.{items_of_labels}

@@ -1,8 +1,8 @@
 use Rattle.std.proofs.Common.{◌≤◌, subst, sym}
-use Rattle.c_check_counts.specs.Numbered.{next_of}
+use Rattle.c_check_bodies.specs.Numbered.{next_of}
 use Rattle.c_check_declarations.proofs.ObjectLemmas.{object_few}
 use Rattle.c_check_declarations.specs.ObjectView.{object_seen}
-use Rattle.c_check_values.proofs.Parts.{raised}
+use Rattle.c_check_declarations.proofs.Parts.{raised}
 use Rattle.c_check_bodies.specs.StatementTreeView.{statement_tree_of}
 use Rattle.c_rules.specs.Blocks.{local}
 use Rattle.c_rules.specs.Limits.{most_cells}

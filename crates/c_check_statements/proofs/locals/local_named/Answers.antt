@@ -1,7 +1,7 @@
 use Rattle.std.proofs.Common.{◌≡◌, [], ◌∷◌, Some, true, false, Contains, refl, sym, subst, ◌∙◌, arith}
-use Rattle.c_check_counts.specs.Numbered.{next_of}
-use Rattle.c_check_values.specs.Agreement.{AgreesWith}
-use Rattle.c_check_values.proofs.Parts.{raised}
+use Rattle.c_check_bodies.specs.Numbered.{next_of}
+use Rattle.c_check_declarations.specs.Agreement.{AgreesWith}
+use Rattle.c_check_declarations.proofs.Parts.{raised}
 use Rattle.c_check_bodies.specs.StatementTreeView.{statement_tree_of}
 use Rattle.c_rules.specs.Blocks.{is_given, local, local_named}
 use Rattle.c_rules.specs.Declarators.{place_or}

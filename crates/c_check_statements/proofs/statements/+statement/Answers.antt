@@ -1,10 +1,10 @@
 use Rattle.std.proofs.Common.{rules, ◌≡◌, [], OnOk, refl, ap, sym, subst, ◌∙◌}
-use Rattle.c_check_counts.specs.Named.{names_of_block_item, names_of_group}
-use Rattle.c_check_counts.proofs.NextLemmas.{later_have}
-use Rattle.c_check_counts.specs.Numbered.{HaveNumbers, next_of}
-use Rattle.c_check_values.specs.Agreement.{AgreesWith, Names}
-use Rattle.c_check_values.specs.TypedExpressionView.{typed_expression_of}
-use Rattle.c_check_values.proofs.Parts.{names_on, raised}
+use Rattle.c_check_bodies.specs.Named.{names_of_block_item, names_of_group}
+use Rattle.c_check_bodies.proofs.NextLemmas.{later_have}
+use Rattle.c_check_bodies.specs.Numbered.{HaveNumbers, next_of}
+use Rattle.c_check_declarations.specs.Agreement.{AgreesWith, Names}
+use Rattle.c_check_declarations.specs.TypedExpressionView.{typed_expression_of}
+use Rattle.c_check_declarations.proofs.Parts.{names_on, raised}
 use Rattle.c_check_bodies.specs.AroundView.{around_of}
 use Rattle.c_check_bodies.specs.LabelledView.{labelled_before, labelled_of}
 use Rattle.c_check_bodies.specs.StatementTreeView.{statement_trees_of, statement_tree_of}

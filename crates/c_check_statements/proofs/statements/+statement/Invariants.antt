@@ -1,5 +1,5 @@
 use Rattle.std.proofs.Common.{◌≡◌, drop}
-use Rattle.c_check_counts.specs.Numbered.{HaveNumbers, next_of}
+use Rattle.c_check_bodies.specs.Numbered.{HaveNumbers, next_of}
 use Rattle.c_check_bodies.specs.AroundView.{around_of}
 use Rattle.c_check_bodies.specs.LabelledView.{labelled_of}
 use Rattle.c_check_bodies.specs.StatementTreeView.{statement_trees_of}

@@ -1,6 +1,6 @@
 use Rattle.std.proofs.Common.{rules}
 use Rattle.c_rules.specs.Scopes.{layout_of}
-use Rattle.c_check_scopes.specs.View.{env_of}
+use Rattle.c_check_values.specs.View.{env_of}
 use Rattle.c_check_units.proofs.LaidLemmas.{cells_on, cells_end, no_type, none_behind}
 use Rattle.c_check_units.proofs.bodies.cells_of_types.Goals as goal
 

@@ -1,6 +1,6 @@
 use Rattle.std.proofs.Common.{◌≡◌, ◌+◌, ◌<◌, ◌^◌, drop}
 use Rattle.c_rules.specs.Scopes.{layout_of}
-use Rattle.c_check_scopes.specs.View.{env_of}
+use Rattle.c_check_values.specs.View.{env_of}
 use Rattle.c_tree.specs.Layout.{cells_of_all}
 use Rattle.c_tree.specs.View.{ctypes_of}
 use Rattle.c_check_units.proofs.bodies.cells_of_types.Given as goal

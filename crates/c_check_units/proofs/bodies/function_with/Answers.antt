@@ -2,7 +2,7 @@ use Rattle.std.proofs.Common.{◌∙◌}
 use Rattle.c_check_units.proofs.LaidLemmas.{laid_within, same_function}
 use Rattle.c_rules.specs.Limits.{most_local_cells}
 use Rattle.c_rules.specs.Scopes.{layout_of}
-use Rattle.c_check_scopes.specs.View.{env_of}
+use Rattle.c_check_values.specs.View.{env_of}
 use Rattle.c_tree.specs.View.{ctype_of, ctypes_of}
 use Rattle.c_check_units.proofs.bodies.function_with.Goals as goal
 

@@ -1,4 +1,4 @@
-use Rattle.c_check_scopes.specs.View.{structs_of}
+use Rattle.c_check_values.specs.View.{structs_of}
 use Rattle.c_check_units.proofs.EnvironmentLemmas.{begins}
 use Rattle.c_check_units.proofs.environments.environment_with.Goals as goal
 

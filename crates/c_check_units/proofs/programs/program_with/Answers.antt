@@ -1,7 +1,7 @@
 use Rattle.std.proofs.Common.{◌++◌, map, ap, sym, subst, ◌∙◌}
 use Rattle.c_rules.specs.Scopes.{layout_of}
 use Rattle.c_rules.specs.Units.{static_string}
-use Rattle.c_check_scopes.specs.View.{before_of, env_of}
+use Rattle.c_check_values.specs.View.{before_of, env_of}
 use Rattle.c_tree.specs.Program.{IsProgram}
 use Rattle.c_tree.specs.View.{program_of, static_of}
 use Rattle.c_check_units.specs.Made.{output_of, program_made}

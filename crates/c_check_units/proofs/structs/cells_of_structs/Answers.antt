@@ -1,7 +1,7 @@
 use Rattle.std.proofs.Common.{rules, sym, ◌∙◌, subst}
 use Rattle.std.proofs.lemmas.List.{length-map}
 use Rattle.c_rules.specs.Scopes.{layout_of, types_of_struct}
-use Rattle.c_check_scopes.specs.View.{env_of}
+use Rattle.c_check_values.specs.View.{env_of}
 use Rattle.c_check_units.proofs.StructLemmas.{HaveCells, cells_none, cells_more, cells_all}
 use Rattle.c_check_units.proofs.structs.cells_of_structs.Goals as goal
 

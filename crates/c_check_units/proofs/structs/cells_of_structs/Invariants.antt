@@ -1,5 +1,5 @@
 use Rattle.c_rules.specs.Scopes.{layout_of}
-use Rattle.c_check_scopes.specs.View.{env_of}
+use Rattle.c_check_values.specs.View.{env_of}
 use Rattle.c_check_units.proofs.StructLemmas.{HaveCells}
 use Rattle.c_check_units.proofs.structs.cells_of_structs.Given as goal
 

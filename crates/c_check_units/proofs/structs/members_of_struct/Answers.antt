@@ -1,6 +1,6 @@
 use Rattle.std.proofs.Common.{sym, ap, ◌∙◌}
 use Rattle.c_rules.specs.Scopes.{types_of_struct}
-use Rattle.c_check_scopes.specs.View.{struct_in}
+use Rattle.c_check_values.specs.View.{struct_in}
 use Rattle.c_tree.specs.View.{ctypes_of}
 use Rattle.c_check_units.proofs.StructLemmas.{types_shown}
 use Rattle.c_check_units.proofs.structs.members_of_struct.Goals as goal

@@ -1,5 +1,5 @@
 use Rattle.std.proofs.Common.{rules, sym, ◌∙◌}
-use Rattle.c_check_scopes.specs.View.{env_of}
+use Rattle.c_check_values.specs.View.{env_of}
 use Rattle.c_check_units.proofs.StructLemmas.{structs_more, structs_all}
 use Rattle.c_check_units.proofs.structs.structs_of.Goals as goal
 

@@ -1,6 +1,6 @@
 use Rattle.std.proofs.Common.{◌≡◌, length, map, take}
 use Rattle.c_rules.specs.Scopes.{layout_of}
-use Rattle.c_check_scopes.specs.View.{env_of}
+use Rattle.c_check_values.specs.View.{env_of}
 use Rattle.c_tree.specs.View.{members_in}
 use Rattle.c_check_units.proofs.structs.structs_of.Given as goal
 

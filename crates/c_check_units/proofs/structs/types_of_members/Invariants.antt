@@ -1,5 +1,5 @@
 use Rattle.std.proofs.Common.{◌≡◌, take}
-use Rattle.c_check_scopes.specs.Shown.{members_types}
+use Rattle.c_check_values.specs.Shown.{members_types}
 use Rattle.c_tree.specs.View.{ctypes_of}
 use Rattle.c_check_units.proofs.structs.types_of_members.Given as goal
 

@@ -2,7 +2,7 @@ use Rattle.std.proofs.Common.{◌≡◌, ap, true, false, rules, refl, sym, ◌�
 use Rattle.std.specs.Prelude.{codes, unwrap_or}
 use Rattle.c_rules.specs.Checked.{fine}
 use Rattle.c_rules.specs.Names.{number_among}
-use Rattle.c_check_scopes.specs.View.{before_of, env_of}
+use Rattle.c_check_values.specs.View.{before_of, env_of}
 use Rattle.c_syntax.specs.UnitView.{items_of}
 use Rattle.c_check_units.specs.Made.{output_of}
 use Rattle.c_check_units.proofs.TypedLemmas.{as_many, no_main, typed}

@@ -1,6 +1,6 @@
 use Rattle.std.proofs.Common.{arith, ap}
 use Rattle.c_tree.specs.View.{ctype_of, types_of}
-use Rattle.c_rules.specs.Types.{parts, parts_of_all}
+use Rattle.c_check_scopes.specs.Types.{parts, parts_of_all}
 use Rattle.c_check_values.proofs.PartsOfTypes.{function_parts, some_left, none_left}
 use Rattle.c_check_values.proofs.types.+parts.Goals as goal
 

@@ -1,4 +1,4 @@
-use Rattle.c_check_counts.proofs.Rows.{list_is}
+use Rattle.null_calls_expressions.proofs.Rows.{list_is}
 use Rattle.null_calls.proofs.declarations.list_node.Goals as goal
 
 pub returns : goal.returns

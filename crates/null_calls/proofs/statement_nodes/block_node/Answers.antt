@@ -1,4 +1,4 @@
-use Rattle.c_check_counts.proofs.Rows.{block_is}
+use Rattle.null_calls_expressions.proofs.Rows.{block_is}
 use Rattle.null_calls.proofs.statement_nodes.block_node.Goals as goal
 
 pub returns : goal.returns

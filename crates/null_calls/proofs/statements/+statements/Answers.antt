@@ -4,7 +4,7 @@ use Rattle.c_syntax.specs.declared.tree.Group.{out-Group}
 use Rattle.c_syntax.specs.Tree.{block, evaluate, only_if, if_else, while_loop, do_loop, for_loop, switch_on, return_from, block_decl, block_stmt, no_block_items, more_groups, no_groups}
 use Rattle.c_syntax.specs.View.{expr_of}
 use Rattle.c_rules.specs.Counts.{calls, calls_of_maybe}
-use Rattle.c_check_counts.proofs.Lists.{two_parts}
+use Rattle.null_calls_expressions.proofs.Lists.{two_parts}
 use Rattle.null_calls_rules.specs.InstrumentedExpressions.{expr, kept, maybe, kept_of_maybe}
 use Rattle.c_syntax.specs.UnitView.{maybe_of, decl_of, stmt_at, stmt_of, labels_of, block_item_before, group_before}
 use Rattle.c_syntax.specs.WritesUnit.{block_items_of, stmts_of, groups_of}

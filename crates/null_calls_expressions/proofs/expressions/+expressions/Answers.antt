@@ -7,7 +7,7 @@ use Rattle.c_syntax.specs.Writes.{exprs_of}
 use Rattle.c_rules.specs.Counts.{calls, calls_of_all}
 use Rattle.null_calls_temporaries.proofs.CopyLemmas.{made_as}
 use Rattle.null_calls_temporaries.specs.Sited.{sited}
-use Rattle.null_calls_rules.specs.InstrumentedExpressions as marks
+use Rattle.null_calls_temporaries.specs.InstrumentedExpressions as marks
 use Rattle.null_calls_temporaries.specs.Kept.{temporaries_of}
 use Rattle.null_calls_expressions.specs.Wanted.{is_left_out}
 use Rattle.null_calls_expressions.proofs.ExprLemmas.{comma_tree, comma_kept, comma_calls, call_tree, call_kept, call_calls, arguments_more, kept_more, calls_more, arguments_end, kept_end, members_end, members_kept_end, calls_end, members_more, members_kept_more, two_tree, two_kept, three_tree, three_kept, two_calls, three_calls, on_any, on_like, none_new, no_calls}

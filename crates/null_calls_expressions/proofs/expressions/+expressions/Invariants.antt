@@ -2,7 +2,7 @@ use Rattle.std.proofs.Common.{◌≡◌, ◌+◌, ◌++◌, drop}
 use Rattle.c_syntax.specs.Writes.{exprs_of}
 use Rattle.c_rules.specs.Counts.{calls_of_all}
 use Rattle.null_calls_temporaries.specs.Sited.{sited}
-use Rattle.null_calls_rules.specs.InstrumentedExpressions as marks
+use Rattle.null_calls_temporaries.specs.InstrumentedExpressions as marks
 use Rattle.null_calls_temporaries.specs.Kept.{temporaries_of}
 use Rattle.null_calls_expressions.specs.Lists.{exprs_onto}
 use Rattle.null_calls_expressions.proofs.expressions.+expressions.Given as goal

@@ -1,8 +1,8 @@
 use Rattle.std.proofs.Common.{◌≡◌, ◌∙◌, length, ap, arith}
 use Rattle.c_syntax.specs.Tree.{a_name}
 use Rattle.c_syntax.specs.View.{expr_of}
-use Rattle.null_calls_rules.specs.Temporaries.{argument_name}
-use Rattle.null_calls_rules.specs.InstrumentedExpressions as marks
+use Rattle.null_calls_temporaries.specs.Temporaries.{argument_name}
+use Rattle.null_calls_temporaries.specs.InstrumentedExpressions as marks
 use Rattle.null_calls_expressions.proofs.MarkedLemmas.{none_kept, none_passed, keeps_more, passes_more, all_kept, all_passed}
 use Rattle.null_calls_expressions.proofs.marked.add_arguments.Goals as goal
 

@@ -1,7 +1,7 @@
 use Rattle.std.proofs.Common.{◌≡◌, length}
 use Rattle.c_syntax.specs.Tree.{Exprs}
 use Rattle.c_syntax.specs.Writes.{exprs_of}
-use Rattle.null_calls_rules.specs.InstrumentedExpressions as marks
+use Rattle.null_calls_temporaries.specs.InstrumentedExpressions as marks
 use Rattle.null_calls_expressions.specs.Lists.{exprs_onto}
 use Rattle.null_calls_expressions.proofs.marked.add_arguments.Given as goal
 

@@ -1,5 +1,5 @@
 use Rattle.std.proofs.Common.{ap, ◌∙◌}
-use Rattle.null_calls_rules.specs.InstrumentedExpressions as marks
+use Rattle.null_calls_temporaries.specs.InstrumentedExpressions as marks
 use Rattle.null_calls_expressions.proofs.MarkedLemmas.{post_unwanted}
 use Rattle.null_calls_expressions.proofs.marked.add_bare_call.Goals as goal
 

@@ -2,7 +2,7 @@ use Rattle.std.proofs.Common.{ap, ◌∙◌}
 use Rattle.c_syntax.specs.Tree.{a_name}
 use Rattle.c_syntax.specs.View.{expr_of}
 use Rattle.null_calls_temporaries.specs.Sited.{type_where}
-use Rattle.null_calls_rules.specs.InstrumentedExpressions as marks
+use Rattle.null_calls_temporaries.specs.InstrumentedExpressions as marks
 use Rattle.null_calls_expressions.proofs.MarkedLemmas.{keeps_some, gives_some}
 use Rattle.null_calls_expressions.proofs.marked.add_designator.Goals as goal
 

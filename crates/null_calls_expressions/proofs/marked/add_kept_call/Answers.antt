@@ -1,7 +1,7 @@
 use Rattle.std.proofs.Common.{ap, ◌∙◌}
 use Rattle.c_syntax.specs.Tree.{a_name}
 use Rattle.c_syntax.specs.View.{expr_of}
-use Rattle.null_calls_rules.specs.InstrumentedExpressions as marks
+use Rattle.null_calls_temporaries.specs.InstrumentedExpressions as marks
 use Rattle.null_calls_expressions.proofs.MarkedLemmas.{post_wanted}
 use Rattle.null_calls_expressions.proofs.marked.add_kept_call.Goals as goal
 

@@ -2,7 +2,7 @@ use Rattle.std.proofs.Common.{◌≡◌, ◌++◌, ◌∙◌, None, Some, ap, sy
 use Rattle.std.proofs.lemmas.List.{append-nil}
 use Rattle.std.proofs.lemmas.Result.{IfOk-equal}
 use Rattle.null_calls_temporaries.specs.Sited.{IsCallAt}
-use Rattle.null_calls_rules.specs.Temporaries.{temporaries_where}
+use Rattle.null_calls_temporaries.specs.Temporaries.{temporaries_where}
 use Rattle.null_calls_temporaries.specs.Kept.{temporaries_of}
 use Rattle.null_calls_expressions.proofs.marked.add_where.Goals as goal
 

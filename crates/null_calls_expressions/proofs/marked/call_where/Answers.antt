@@ -3,7 +3,7 @@ use Rattle.c_syntax.specs.View.{expr_of}
 use Rattle.c_syntax.specs.Writes.{exprs_of}
 use Rattle.null_calls_temporaries.proofs.CopyLemmas.{made_as}
 use Rattle.null_calls_temporaries.specs.Sited.{called_of, IsCallAt}
-use Rattle.null_calls_rules.specs.InstrumentedExpressions as marks
+use Rattle.null_calls_temporaries.specs.InstrumentedExpressions as marks
 use Rattle.null_calls_expressions.proofs.marked.call_where.Goals as goal
 
 pub returns-in-None : goal.returns-in-None

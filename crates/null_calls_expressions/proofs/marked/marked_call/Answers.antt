@@ -2,7 +2,7 @@ use Rattle.std.proofs.Common.{ap, ◌∙◌}
 use Rattle.c_syntax.specs.View.{expr_of}
 use Rattle.c_syntax.specs.Writes.{exprs_of}
 use Rattle.null_calls_temporaries.specs.Sited.{type_where, called_of}
-use Rattle.null_calls_rules.specs.InstrumentedExpressions as marks
+use Rattle.null_calls_temporaries.specs.InstrumentedExpressions as marks
 use Rattle.null_calls_expressions.specs.Lists.{exprs_onto}
 use Rattle.null_calls_expressions.proofs.MarkedLemmas.{marked_made}
 use Rattle.null_calls_expressions.proofs.marked.marked_call.Goals as goal

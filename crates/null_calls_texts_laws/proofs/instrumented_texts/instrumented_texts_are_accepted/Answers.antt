@@ -1,4 +1,4 @@
-use Rattle.null_calls_rules.specs.Instrumented.{instrumented_unit}
+use Rattle.null_calls_units_laws.specs.Instrumented.{instrumented_unit}
 use Rattle.null_calls_texts_laws.specs.Instrumented.{instrumented_text}
 use Rattle.null_calls_texts_laws.proofs.InstrumentedTexts.{accepted, does_as_marked}
 use Rattle.null_calls_texts_laws.proofs.instrumented_texts.instrumented_texts_are_accepted.Goals as goal

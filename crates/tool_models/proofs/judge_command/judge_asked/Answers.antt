@@ -1,4 +1,4 @@
-use Rattle.tool_monitors.proofs.PairLemmas.{all_judged_of_file}
+use Rattle.tool_files.proofs.PairLemmas.{all_judged_of_file}
 use Rattle.tool_models.proofs.judge_command.judge_asked.Goals as goal
 
 pub returns-in-All-clause-judged : goal.returns-in-All-clause-judged

@@ -1,4 +1,4 @@
-use Rattle.tool_monitors.specs.Monitors.{monitors_of}
+use Rattle.tool_files.specs.Monitors.{monitors_of}
 use Rattle.tool_models.proofs.JudgedFiles.{watched_finished}
 use Rattle.tool_models.proofs.watch_command.watch_traces.Goals as goal
 

@@ -1,6 +1,6 @@
 use Rattle.std.proofs.Common.{◌≡◌, ℕ, ◌<◌, List}
 use Rattle.c_tree.specs.View.{program_of}
-use Rattle.flow_graph_laws.specs.GraphOfProgram.{graph_of_program}
+use Rattle.flow_graph.specs.GraphOfProgram.{graph_of_program}
 use Rattle.tool_steps.specs.ModelTexts.{many_nodes}
 use Rattle.tool_steps.proofs.ModelLemmas.{stop_by}
 use Rattle.tool_steps.proofs.modelling.model_of.Goals as goal
