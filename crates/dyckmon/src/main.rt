@@ -1,12 +1,6 @@
-//! The program `dyckmon`: the tool over the files and the streams of this machine. Its tests are those of the top call over stores and
-//! sinks in memory, of which each read and each write fails in turn; what the commands make of their words and files stands in `.ci/cases`,
-//! which the built program runs.
+//! The program `dyckmon`: the tool over the files and the streams of this machine. What the commands make of their words and
+//! files stands in `.ci/cases`, which the built program runs; `.ci/faults.py` lets each of its reads and writes fail.
 #![tactic(auto)]
-
-#[cfg(test)]
-mod faults;
-#[cfg(test)]
-mod running;
 
 use dm_base::Status;
 use dm_io::{FolderStore, StdSink, write_whole};
