@@ -33,27 +33,3 @@ fn a_set_has_what_was_inserted(rt: HostRuntime) -> Result<(), Fail> {
     assert!(rt; copied.contains(2));
     Ok(())
 }
-
-#[test]
-fn the_next_member_is_found_past_empty_words(rt: HostRuntime) -> Result<(), Fail> {
-    let mut set = NodeSet::new(rt.alloc(), 1000)?;
-    set.insert(999);
-    set.insert(300);
-    set.insert(64);
-    set.insert(63);
-    let expected = [
-        (0, Some(63)),
-        (63, Some(63)),
-        (64, Some(64)),
-        (65, Some(300)),
-        (301, Some(999)),
-        (1000, None),
-        (5000, None),
-    ];
-    for (from, next) in expected {
-        assert_eq!(rt; set.next(from), next, "from {from}");
-    }
-    assert!(rt; !set.contains(65));
-    assert!(rt; !set.contains(4_000_000_000));
-    Ok(())
-}
