@@ -10,3 +10,4 @@ pub mod Scoped
 pub mod VariablesView
 pub use Rattle.c_check_counts.specs.Named
 pub use Rattle.c_check_counts.specs.Numbered
+pub use Rattle.c_check_counts.specs.declared.numbers.Next

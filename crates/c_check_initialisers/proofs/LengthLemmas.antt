@@ -6,8 +6,8 @@ use Rattle.std.proofs.lemmas.List.{length-map, length-replicate}
 use Rattle.c_tree.specs.declared.value.IntType.TheVariants.{Char, Uchar, Int, Uint}
 use Rattle.c_tree.specs.Tree.{CType, void, integer, pointer, array, struct, function}
 use Rattle.c_tree.specs.Layout.{Structs, cells, cells_of_all, flat, flat_all, repeat}
-use Rattle.c_rules.specs.Tree.{Init, one, list, MaybeInit, no_init, an_init}
-use Rattle.c_rules.specs.Tree as syntax
+use Rattle.c_syntax.specs.Tree.{Init, one, list, MaybeInit, no_init, an_init}
+use Rattle.c_syntax.specs.Tree as syntax
 use Rattle.c_rules.specs.Checked.{Checked, fine, on, demand}
 use Rattle.c_rules.specs.Codes.{C14}
 use Rattle.c_rules.specs.Scopes.{Env, Struct, incomplete, unknown_struct, defined_struct, Member, type_of_member, struct_of, layout_of, Before}

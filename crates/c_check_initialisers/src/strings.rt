@@ -3,14 +3,14 @@ ghost use Rattle.c_check_initialisers.specs.CellView.{cells_of, typed_expression
 ghost use Rattle.c_check_values.specs.Agreement.{AgreesWith};
 ghost use Rattle.c_rules.specs.Checked.{met, on};
 ghost use Rattle.c_rules.specs.Initialisers.{array_cells, typed_char, chars, text_fits, text_of};
-ghost use Rattle.c_rules.specs.View.{expr_of};
+ghost use Rattle.c_syntax.specs.View.{expr_of};
 ghost use Rattle.c_tree.specs.Tree.{integer};
 ghost use Rattle.c_tree.specs.declared.value.IntType.TheVariants.{Char};
 ghost use Rattle.c_tree.specs.View.{ctype_of};
 
 use crate::constants::typed_char;
 use c_check_values::{C14, CheckError, TypedExpression, few_cells};
-use c_rules::{Expr, ExprKind};
+use c_syntax::{Expr, ExprKind};
 use c_tree::{CType, IntType};
 use dm_base::OutOfMemory;
 use std::alloc::Global;

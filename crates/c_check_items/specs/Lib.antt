@@ -1,2 +1,3 @@
 pub mod Views
 pub use Rattle.c_check_units.specs.OutputView
+pub use Rattle.c_check_units.specs.declared.outputs.Output

@@ -10,9 +10,8 @@ ghost use Rattle.c_syntax.specs.View.{ident_of};
 
 use c_check_statements::{
     Environment, Meaning, declare, declare_enum, enumerator_constant, enumerator_value,
-    folded_value, new_enum, next_value,
+    folded_value, new_enum, new_name, next_value,
 };
-use c_check_types::new_name;
 use c_check_units::{CheckError, place_of_expression, tags_within};
 use c_syntax::{Enumerator, Expr, Ident};
 use std::alloc::Global;

@@ -1,6 +1,6 @@
 ghost use Rattle.std.specs.Prelude.{◌≡◌, ◌+◌, ◌≤◌, [], ◌∷◌, true, OnOk};
 ghost use Rattle.c_check_units.specs.Agreement.{AgreesWith};
-ghost use Rattle.c_check_initialisers.specs.CellView.{typed_expressions_of};
+ghost use Rattle.c_check_statements.specs.CellView.{typed_expressions_of};
 ghost use Rattle.c_check_statements.specs.ObjectView.{object_seen};
 ghost use Rattle.c_rules.specs.Checked.{fine};
 ghost use Rattle.c_rules.specs.Counts.{past};

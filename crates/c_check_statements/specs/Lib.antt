@@ -10,3 +10,5 @@ pub use Rattle.c_check_scopes.specs.Shown
 pub use Rattle.c_check_scopes.specs.View
 pub use Rattle.c_check_scopes.specs.declared.environment.Environment
 pub use Rattle.c_check_scopes.specs.declared.structs.StructMember
+pub use Rattle.c_check_expressions.specs.CellView
+pub use Rattle.c_check_declarations.specs.declared.types.Object

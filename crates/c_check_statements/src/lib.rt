@@ -17,7 +17,7 @@ pub use c_check_declarations::{
     new_struct, next_value, object_of, parameters_of, static_object, struct_laid, tag_declaration,
     without_init,
 };
-pub use c_check_expressions::{folded_value, initialised_static, type_declared};
+pub use c_check_expressions::{folded_value, initialised_static, new_name, type_declared};
 pub use c_check_scopes::{Before, Environment, Meaning, Numbering, StructMember};
 pub use declarations::local_decl;
 pub use statements::statement;

@@ -12,3 +12,4 @@ pub use Rattle.c_check_values.specs.Agreement
 pub use Rattle.c_check_values.specs.TypedExpressionView
 pub use Rattle.c_check_values.specs.declared.error.CheckError
 pub use Rattle.c_check_values.specs.declared.typed_expression.TypedExpression
+pub use Rattle.c_check_counts.specs.declared.numbers.Next

@@ -6,11 +6,11 @@ use Rattle.c_syntax.specs.Tree.{Declarator, Decl, Params, named, function, no_pa
 use Rattle.c_syntax.specs.UnitView.{item_at, items_of}
 use Rattle.c_rules.specs.Names.{Name}
 use Rattle.c_rules.specs.Units.{tags_of}
-use Rattle.null_calls_rules.specs.MarkedCalls.{Sites, sites_of}
-use Rattle.null_calls_rules.specs.Temporaries.{Temporary, pre_name, post_name, declared_before}
-use Rattle.null_calls_rules.specs.Instrumented as marks
-use Rattle.null_calls_rules.specs.Instrumented.{instrumented_unit, calls_of_item, null_prototype}
-use Rattle.null_calls_rules.specs.InstrumentedStatements as parts
+use Rattle.null_calls_expressions.specs.MarkedCalls.{Sites, sites_of}
+use Rattle.null_calls_expressions.specs.Temporaries.{Temporary, pre_name, post_name, declared_before}
+use Rattle.null_calls_expressions.specs.Instrumented as marks
+use Rattle.null_calls_expressions.specs.Instrumented.{instrumented_unit, calls_of_item, null_prototype}
+use Rattle.null_calls_expressions.specs.InstrumentedStatements as parts
 use Rattle.null_calls_expressions.specs.Kept.{alone}
 use Rattle.null_calls.proofs.TreeLemmas.{item_before}
 

@@ -8,16 +8,15 @@ ghost use Rattle.c_rules.specs.Counts.{calls_of_maybe};
 ghost use Rattle.c_rules.specs.Initialisers.{calls_of_init, calls_of_inits, calls_of_maybe_init};
 ghost use Rattle.c_rules.specs.Variables.{calls_of_parts, calls_of_decl};
 ghost use Rattle.null_calls_expressions.specs.Sited.{sited};
-ghost use Rattle.null_calls_rules.specs.InstrumentedExpressions as marked;
-ghost use Rattle.null_calls_rules.specs.InstrumentedStatements as marks;
+ghost use Rattle.null_calls_expressions.specs.InstrumentedExpressions as marked;
+ghost use Rattle.null_calls_expressions.specs.InstrumentedStatements as marks;
 ghost use Rattle.null_calls_expressions.specs.Kept.{temporaries_of};
 ghost use Rattle.null_calls.specs.Parts.{part_of};
 
 use c_syntax::{Decl, DeclPart, Expr, Init, InitKind};
-use c_syntax_nodes::{copy_declarator, copy_spec};
 use dm_base::OutOfMemory;
 use dm_counts::Count;
-use null_calls_expressions::{MarkedSites, Temporary, expression};
+use null_calls_expressions::{MarkedSites, Temporary, copy_declarator, copy_spec, expression};
 use std::alloc::Global;
 
 // An expression where one may be left out.

@@ -6,7 +6,7 @@ ghost use Rattle.c_syntax.specs.UnitView.{first_of_head, stmt_of, block_item_bef
 ghost use Rattle.c_syntax.specs.WritesUnit.{block_items_of, stmts_of, groups_of};
 ghost use Rattle.c_rules.specs.Variables.{calls_of_first, calls_of_stmt, calls_of_block, calls_of_stmts, calls_of_groups};
 ghost use Rattle.null_calls_expressions.specs.Sited.{sited};
-ghost use Rattle.null_calls_rules.specs.InstrumentedStatements as marks;
+ghost use Rattle.null_calls_expressions.specs.InstrumentedStatements as marks;
 ghost use Rattle.null_calls_expressions.specs.Kept.{temporaries_of};
 ghost use Rattle.null_calls.specs.Parts.{item_of, group_of};
 
@@ -15,10 +15,9 @@ use crate::statement_nodes::{
     block_node, do_node, for_node, group_node, if_else_node, if_node, switch_node, while_node,
 };
 use c_syntax::{BlockItem, ForFirst, Group, Stmt, StmtKind};
-use c_syntax_nodes::copy_labels;
 use dm_base::OutOfMemory;
 use dm_counts::Count;
-use null_calls_expressions::{MarkedSites, Temporary, expression};
+use null_calls_expressions::{MarkedSites, Temporary, copy_labels, expression};
 use std::alloc::Global;
 
 // What stands first in the head of a for; the value of an expression there isn't wanted.

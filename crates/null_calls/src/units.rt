@@ -10,9 +10,9 @@ ghost use Rattle.c_rules.specs.Variables.{calls_of_block};
 ghost use Rattle.null_calls_expressions.specs.Seen.{seen};
 ghost use Rattle.call_graph.specs.Calls.{AreCallsOf};
 ghost use Rattle.null_calls_expressions.specs.Sited.{sited};
-ghost use Rattle.null_calls_rules.specs.Instrumented as marks;
-ghost use Rattle.null_calls_rules.specs.InstrumentedStatements as parts;
-ghost use Rattle.null_calls_rules.specs.Instrumented.{instrumented_unit, calls_of_item};
+ghost use Rattle.null_calls_expressions.specs.Instrumented as marks;
+ghost use Rattle.null_calls_expressions.specs.InstrumentedStatements as parts;
+ghost use Rattle.null_calls_expressions.specs.Instrumented.{instrumented_unit, calls_of_item};
 ghost use Rattle.null_calls_expressions.specs.Kept.{temporaries_of};
 ghost use Rattle.null_calls.specs.Parts.{items_where};
 
@@ -20,16 +20,14 @@ use crate::statement_nodes::block_node;
 use crate::statements::{block_items, statement};
 use c_check_units::tag_names;
 use c_syntax::{BlockItem, Ident, Item, ItemKind, Spec, Stmt, StmtKind};
-use c_syntax_nodes::{
-    copy_decl, copy_declarator, copy_enumerators, copy_ident, copy_members, copy_spec, copy_tag,
-    declared_node, function_node, param_node,
-};
 use c_tree::Program;
 use call_graph::Calls;
 use dm_base::{Bytes, OutOfMemory};
 use dm_counts::Count;
 use null_calls_expressions::{
-    MarkedSites, Temporary, declared, declared_alone, post_name, pre_name,
+    MarkedSites, Temporary, copy_decl, copy_declarator, copy_enumerators, copy_ident, copy_members,
+    copy_spec, copy_tag, declared, declared_alone, declared_node, function_node, param_node,
+    post_name, pre_name,
 };
 use std::alloc::Global;
 

@@ -4,3 +4,4 @@ pub mod WantedLemmas
 pub use Rattle.null_calls_temporaries.proofs.KeptLemmas
 pub use Rattle.c_check_counts.proofs.Lists
 pub use Rattle.c_check_counts.proofs.Rows
+pub use Rattle.null_calls_temporaries.proofs.CopyLemmas

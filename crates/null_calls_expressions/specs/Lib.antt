@@ -3,3 +3,10 @@ pub mod Lists
 pub use Rattle.null_calls_temporaries.specs.Kept
 pub use Rattle.null_calls_temporaries.specs.Sited
 pub use Rattle.c_check_counts.specs.Seen
+pub use Rattle.null_calls_temporaries.specs.Instrumented
+pub use Rattle.null_calls_temporaries.specs.InstrumentedExpressions
+pub use Rattle.null_calls_temporaries.specs.InstrumentedStatements
+pub use Rattle.null_calls_temporaries.specs.MarkedCalls
+pub use Rattle.null_calls_temporaries.specs.Temporaries
+pub use Rattle.null_calls_temporaries.specs.declared.marked_sites.MarkedSites
+pub use Rattle.null_calls_temporaries.specs.declared.temporaries.Temporary

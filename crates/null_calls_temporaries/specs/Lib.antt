@@ -5,3 +5,5 @@ pub mod Spelled
 pub use Rattle.null_calls_rules.specs.InstrumentedExpressions
 pub use Rattle.null_calls_rules.specs.MarkedCalls
 pub use Rattle.null_calls_rules.specs.Temporaries
+pub use Rattle.null_calls_rules.specs.Instrumented
+pub use Rattle.null_calls_rules.specs.InstrumentedStatements

@@ -14,8 +14,10 @@ mod temporaries;
 
 pub use c_syntax_nodes::{
     and_node, arrow_node, assign_node, binary_node, call_node, cast_node, comma_node, cond_node,
-    copy_expr, copy_ident, copy_type_name, index_node, int_node, member_node, name_node, or_node,
-    post_dec_node, post_inc_node, pre_dec_node, pre_inc_node, unary_node,
+    copy_decl, copy_declarator, copy_enumerators, copy_expr, copy_ident, copy_labels, copy_members,
+    copy_spec, copy_tag, copy_type_name, declared_node, function_node, index_node, int_node,
+    member_node, name_node, or_node, param_node, post_dec_node, post_inc_node, pre_dec_node,
+    pre_inc_node, unary_node,
 };
 pub use declaring::{declared, declared_alone};
 pub use marked_sites::{Marked, MarkedSites};

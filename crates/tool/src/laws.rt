@@ -1,6 +1,6 @@
-ghost use Rattle.headline.specs.Headline.{TheHeadline};
+ghost use Rattle.tool_selftest.specs.Headline.{TheHeadline};
 
-use headline::texts_keep_the_headline;
+use tool_selftest::texts_keep_the_headline;
 
 /// The headline of the tool, on definitions alone: for every C text that the checker accepts, all recorded results and every bound of
 /// turns, the instrumented program does what the plain one does once null calls are erased; the program's models contain the trace of

@@ -10,7 +10,7 @@ use Rattle.null_calls_rules.specs.MarkedRuns.{null_calls_of, marked_run}
 use Rattle.null_calls_rules.specs.Monitors.{IsAcceptedByAll}
 use Rattle.null_calls_rules.proofs.TypedRuns.{null_calls_recorded}
 use Rattle.headline.specs.Units.{InstrumentedTextsRunMarked}
-use Rattle.c_check.specs.Refused.{IsRefused}
+use Rattle.tool_steps.specs.Refused.{IsRefused}
 use Rattle.c_check_values.specs.declared.error.CheckError.{CheckError}
 use Rattle.c_check_values.specs.declared.error.CheckError.TheVariants.{At}
 use Rattle.c_meaning.specs.Runs.{Run, run}

@@ -2,3 +2,8 @@ pub mod Audit
 pub mod Heard
 pub mod Stopping
 pub use Rattle.headline.specs.AcceptedRuns
+pub use Rattle.headline.specs.Headline
+pub use Rattle.tool_steps.specs.WholeRuns
+pub use Rattle.tool_steps.specs.Sources
+pub use Rattle.tool_steps.specs.SourceError
+pub use Rattle.tool_steps.specs.Source

@@ -8,4 +8,5 @@ mod programs;
 mod reports;
 
 pub use audit::{Audited, audit_program, audit_source};
-pub use headline::texts_raise_no_alarm;
+pub use headline::{texts_keep_the_headline, texts_raise_no_alarm};
+pub use tool_steps::{Source, SourceError, read_source};

@@ -7,7 +7,6 @@ ghost use Rattle.dm_base.specs.declared.mode.Mode.TheVariants.{Plain};
 ghost use Rattle.tool_steps.specs.Sources.{IsSourceOf};
 ghost use Rattle.sys_table.specs.declared.sys_result.SysResult.{SysResult};
 
-use c_check::check;
 use c_check_values::CheckError;
 use c_rules_laws::a_spelled_unit_is_lexical;
 use c_syntax::Unit;
@@ -17,7 +16,7 @@ use headline::{
     instrumented_texts_run_marked, instrumented_units_are_lexical, instrumented_units_are_units,
 };
 use std::alloc::Global;
-use tool_steps::{Source, instrumented_items};
+use tool_steps::{Source, check, instrumented_items};
 
 // The want of memory, where no demand fails.
 fn memory_of(error: CheckError) -> OutOfMemory

@@ -18,10 +18,10 @@ use Rattle.tool_explain.specs.Stopping.{IsStopOfExplained}
 use Rattle.tool_frame.specs.declared.stop.Stop.{Stop}
 use Rattle.tool_frame.specs.declared.stop.Stop.TheVariants as stops
 use Rattle.tool_frame.specs.Stop.{Stops}
-use Rattle.tool_sources.specs.declared.error.SourceError.{SourceError}
-use Rattle.tool_sources.specs.declared.error.SourceError.TheVariants.{OutOfMemory, Lexical, Syntax, Nesting, Rule}
-use Rattle.tool_sources.specs.Sources.{IsSourceCause, HasNoProgram, source_refusal}
-use Rattle.tool_sources.proofs.SourceFiles.{refusal_told}
+use Rattle.tool_texts.specs.SourceError.{SourceError}
+use Rattle.tool_texts.specs.SourceError.TheVariants.{OutOfMemory, Lexical, Syntax, Nesting, Rule}
+use Rattle.tool_texts.specs.Sources.{IsSourceCause, HasNoProgram, source_refusal}
+use Rattle.tool_texts.proofs.SourceFiles.{refusal_told}
 use Rattle.tool_texts.specs.Check.{Checks, IsReadyToCheck}
 
 -- the part that is checked is the file up to one byte past its limit

@@ -4,7 +4,7 @@ use Rattle.code_reasons.specs.Reasons.{reason_of}
 use Rattle.text_places.specs.Lines.{part_before, part_from, shown}
 use Rattle.text_places.specs.Locations.{SourceLocation, located, location_text}
 use Rattle.tool_explain.specs.Explained.{code_text, place_of, explanation}
-use Rattle.tool_sources.specs.declared.error.SourceError.{SourceError}
+use Rattle.tool_texts.specs.SourceError.{SourceError}
 
 pub put_together : (name text : List ℕ) (error : SourceError) (place : ℕ) (location : SourceLocation) (code before from first both : List ℕ)
     → place ≡ place_of error → location ≡ located name text place → code ≡ code_text error → before ≡ part_before text place → from ≡ part_from text place

@@ -9,9 +9,9 @@ use Rattle.c_rules.specs.Accepted.{IsAcceptedAs}
 use Rattle.c_tree.specs.Tree.{Program}
 use Rattle.text_places.specs.Lines.{part_before, part_from, shown}
 use Rattle.text_places.specs.Locations.{located, location_text}
-use Rattle.tool_sources.specs.declared.error.SourceError.{SourceError}
-use Rattle.tool_sources.specs.declared.error.SourceError.TheVariants.{OutOfMemory, Lexical, Syntax, Nesting, Rule}
-use Rattle.tool_sources.specs.Sources.{IsSourceCause, RefusesSource, source_refusal}
+use Rattle.tool_texts.specs.SourceError.{SourceError}
+use Rattle.tool_texts.specs.SourceError.TheVariants.{OutOfMemory, Lexical, Syntax, Nesting, Rule}
+use Rattle.tool_texts.specs.Sources.{IsSourceCause, RefusesSource, source_refusal}
 
 -- the code of an error
 abbrev pub code_text : SourceError → List ℕ

@@ -3,4 +3,4 @@ pub mod Explained
 pub mod Stopping
 pub use Rattle.tool_texts.specs.Check
 pub use Rattle.tool_texts.specs.Modelled
-pub use Rattle.tool_sources.specs.Sources
+pub use Rattle.tool_texts.specs.Sources

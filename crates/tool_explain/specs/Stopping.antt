@@ -3,8 +3,8 @@ use Rattle.std.specs.Prelude.{◌≡◌, ◌≢◌, ℕ, List}
 use Rattle.tool_explain.specs.Explained.{explanation}
 use Rattle.tool_frame.specs.declared.stop.Stop.{Stop}
 use Rattle.tool_frame.specs.declared.stop.Stop.TheVariants as stops
-use Rattle.tool_sources.specs.declared.error.SourceError.{SourceError}
-use Rattle.tool_sources.specs.declared.error.SourceError.TheVariants as errors
+use Rattle.tool_texts.specs.SourceError.{SourceError}
+use Rattle.tool_texts.specs.SourceError.TheVariants as errors
 
 -- the stop of a text of a file that was refused so
 abbrev pub IsStopOfExplained : Stop → List ℕ → List ℕ → SourceError → Type 0

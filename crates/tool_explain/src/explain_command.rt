@@ -12,8 +12,7 @@ use dm_base::{Mode, Status};
 use dm_io::{Store, read_whole};
 use std::alloc::Global;
 use tool_frame::{Finished, Stop};
-use tool_sources::{SourceError, read_source};
-use tool_texts::counts_line;
+use tool_texts::{SourceError, counts_line, read_source};
 
 // The most bytes that are read: so the part of the line at which a text passes its limit is known as far as it is shown.
 fn most_read() -> usize

@@ -11,7 +11,7 @@ use line_text::{push_bytes, push_decimal};
 use std::alloc::Global;
 use text_places::{Excerpt, Location, excerpt_at, locate, push_location, push_shown};
 use tool_frame::fixed_line;
-use tool_sources::SourceError;
+use tool_texts::SourceError;
 
 // A letter and a number.
 fn numbered_code(alloc: Global, letter: &[u8], number: u8) -> Result<Vec<u8>, OutOfMemory>

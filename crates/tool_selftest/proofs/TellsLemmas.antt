@@ -23,13 +23,13 @@ use Rattle.tool_audit.specs.Audit.{AreReported, AreVerdicts, IsAcceptedOrBound, 
 use Rattle.tool_monitors.specs.Judged.{status_of}
 use Rattle.tool_selftest.specs.Selftest.{TellsSelftest, generated_run, summary_text}
 use Rattle.tool_selftest.specs.Summary.{counts_text}
-use Rattle.tool_sources.specs.declared.source.Source.{Source}
+use Rattle.tool_audit.specs.Source.{Source}
 use Rattle.tool_audit.specs.Stopping.{StopsAuditing}
 use Rattle.tool_frame.specs.declared.stop.Stop.{Stop}
 use Rattle.tool_frame.specs.declared.stop.Stop.TheVariants as stops
-use Rattle.tool_sources.specs.declared.error.SourceError.{SourceError}
-use Rattle.tool_sources.specs.declared.error.SourceError.TheVariants as errors
-use Rattle.tool_sources.specs.Sources.{IsSourceOf, HasNoProgram}
+use Rattle.tool_audit.specs.SourceError.{SourceError}
+use Rattle.tool_audit.specs.SourceError.TheVariants as errors
+use Rattle.tool_audit.specs.Sources.{IsSourceOf, HasNoProgram}
 
 -- a text that was passed on and read
 pub read_so : (text seen again : List ℕ) (source : Source) → seen ≡ text → again ≡ seen → IsSourceOf again Plain source → IsSourceOf text Plain source

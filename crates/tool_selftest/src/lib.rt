@@ -5,4 +5,4 @@ mod selftest;
 mod summary;
 
 pub use selftest::self_test;
-pub use tool_audit::audit_source;
+pub use tool_audit::{audit_source, texts_keep_the_headline};

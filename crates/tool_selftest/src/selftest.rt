@@ -5,12 +5,12 @@ ghost use Rattle.dm_base.specs.declared.mode.Mode.TheVariants.{Plain};
 ghost use Rattle.flow_graph_laws.specs.GraphOfProgram.{graph_of_program};
 ghost use Rattle.generated_program.specs.Generator.{generated_source, generated_results as results};
 ghost use Rattle.generated_program.specs.Typed.{generated_program};
-ghost use Rattle.ref_machine.specs.WholeRuns.{run_of};
+ghost use Rattle.tool_audit.specs.WholeRuns.{run_of};
 ghost use Rattle.tool_audit.specs.Audit.{AreReported};
 ghost use Rattle.tool_frame.specs.declared.stop.Stop.TheVariants as stops;
 ghost use Rattle.tool_selftest.specs.Selftest.{TellsSelftest};
-ghost use Rattle.tool_sources.specs.Sources.{IsSourceOf};
-ghost use Rattle.tool_sources.specs.declared.error.SourceError.TheVariants as errors;
+ghost use Rattle.tool_audit.specs.Sources.{IsSourceOf};
+ghost use Rattle.tool_audit.specs.SourceError.TheVariants as errors;
 
 use crate::summary::summary_line;
 use c_rules_laws::a_text_is_accepted_as_one_program;
@@ -20,9 +20,8 @@ use generated_program_bounds_laws::{generated_calls_descend, generated_programs_
 use generated_program_laws::generated_texts_are_accepted;
 use line_text::push_bytes;
 use std::alloc::Global;
-use tool_audit::{Audited, audit_program, texts_raise_no_alarm};
+use tool_audit::{Audited, Source, SourceError, audit_program, read_source, texts_raise_no_alarm};
 use tool_frame::{Finished, Stop};
-use tool_sources::{Source, SourceError, read_source};
 
 // The want of memory, where a text is refused for nothing else.
 fn refused_memory(error: SourceError) -> OutOfMemory

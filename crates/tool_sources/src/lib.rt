@@ -6,6 +6,7 @@ mod reading;
 mod refusals;
 mod source;
 
+pub use c_check::check;
 pub use error::SourceError;
 pub use reading::{read_source, source_in};
 pub use refusals::refused_with;

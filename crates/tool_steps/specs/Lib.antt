@@ -8,3 +8,6 @@ pub use Rattle.ref_machine.specs.Futures
 pub use Rattle.ref_machine.specs.WholeRuns
 pub use Rattle.ref_machine.specs.declared.next.Next
 pub use Rattle.ref_machine.specs.declared.whole.Run
+pub use Rattle.tool_sources.specs.Refused
+pub use Rattle.tool_sources.specs.declared.error.SourceError
+pub use Rattle.ref_machine.specs.declared.machine.Machine

@@ -11,4 +11,4 @@ pub use instrumented::instrumented_items;
 pub use modelling::{graph_text, model_of};
 pub use ref_machine::{Machine, Next, Run, next_event, run};
 pub use results::results_in;
-pub use tool_sources::{Source, source_in};
+pub use tool_sources::{Source, SourceError, check, read_source, source_in};

@@ -1,1 +1,2 @@
 pub mod FileLemmas
+pub use Rattle.tool_steps.proofs.SourceFiles

@@ -6,3 +6,4 @@ mod model_command;
 
 pub use check_command::{check_source, counts_line};
 pub use model_command::model_of_source;
+pub use tool_steps::{SourceError, read_source};

@@ -3,7 +3,7 @@ use Rattle.std.specs.Prelude.{true}
 use Rattle.c_check_units.proofs.Parts.{raised}
 use Rattle.c_check_items.proofs.Moves.{held_by_same, named_within, same_within, same_named}
 use Rattle.c_check_units.specs.Scoped.{IsWithin}
-use Rattle.c_check_initialisers.specs.CellView.{typed_expressions_of}
+use Rattle.c_check_statements.specs.CellView.{typed_expressions_of}
 use Rattle.c_check_statements.specs.ObjectView.{object_seen}
 use Rattle.c_rules.specs.Checked.{Checked, fine}
 use Rattle.c_rules.specs.Counts.{past}

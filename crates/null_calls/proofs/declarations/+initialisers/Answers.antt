@@ -4,7 +4,7 @@ use Rattle.c_syntax.specs.UnitView.{init_of}
 use Rattle.c_syntax.specs.WritesUnit.{inits_of}
 use Rattle.c_rules.specs.Initialisers.{calls_of_init, calls_of_inits}
 use Rattle.null_calls_expressions.specs.Sited.{sited}
-use Rattle.null_calls_rules.specs.InstrumentedStatements as marks
+use Rattle.null_calls_expressions.specs.InstrumentedStatements as marks
 use Rattle.null_calls_expressions.specs.Kept.{temporaries_of}
 use Rattle.null_calls.proofs.Turns.{tree_more, keeps_more, counts_more, tree_end, keeps_end, counts_end}
 use Rattle.null_calls.proofs.TreeLemmas.{init_before, inits_seen, init_tree, init_kept, is_list, by_tree, by_kept, by_count}

@@ -2,7 +2,7 @@ use Rattle.std.proofs.Common.{◌≡◌, ◌+◌, ◌++◌, drop}
 use Rattle.c_syntax.specs.WritesUnit.{inits_of}
 use Rattle.c_rules.specs.Initialisers.{calls_of_inits}
 use Rattle.null_calls_expressions.specs.Sited.{sited}
-use Rattle.null_calls_rules.specs.InstrumentedStatements as marks
+use Rattle.null_calls_expressions.specs.InstrumentedStatements as marks
 use Rattle.null_calls_expressions.specs.Kept.{temporaries_of}
 use Rattle.null_calls.proofs.Turns.{onto}
 use Rattle.null_calls.proofs.TreeLemmas.{init_before}

@@ -3,7 +3,7 @@ use Rattle.c_syntax.specs.UnitView.{maybe_init_of, parts_of}
 use Rattle.c_rules.specs.Initialisers.{calls_of_maybe_init}
 use Rattle.c_rules.specs.Variables.{calls_of_parts}
 use Rattle.null_calls_expressions.specs.Sited.{sited}
-use Rattle.null_calls_rules.specs.InstrumentedStatements as marks
+use Rattle.null_calls_expressions.specs.InstrumentedStatements as marks
 use Rattle.null_calls_expressions.specs.Kept.{temporaries_of}
 use Rattle.null_calls.proofs.Turns.{tree_more, keeps_more, counts_more, tree_end, keeps_end, counts_end}
 use Rattle.null_calls.proofs.TreeLemmas.{part_before, parts_seen, part_tree, part_kept}

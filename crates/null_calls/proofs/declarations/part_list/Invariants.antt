@@ -2,7 +2,7 @@ use Rattle.std.proofs.Common.{◌≡◌, ◌+◌, ◌++◌, drop}
 use Rattle.c_syntax.specs.UnitView.{parts_of}
 use Rattle.c_rules.specs.Variables.{calls_of_parts}
 use Rattle.null_calls_expressions.specs.Sited.{sited}
-use Rattle.null_calls_rules.specs.InstrumentedStatements as marks
+use Rattle.null_calls_expressions.specs.InstrumentedStatements as marks
 use Rattle.null_calls_expressions.specs.Kept.{temporaries_of}
 use Rattle.null_calls.proofs.Turns.{onto}
 use Rattle.null_calls.proofs.TreeLemmas.{part_before}

@@ -5,13 +5,13 @@ use Rattle.c_syntax.specs.Tree.{block, evaluate, only_if, if_else, while_loop, d
 use Rattle.c_syntax.specs.View.{expr_of}
 use Rattle.c_rules.specs.Counts.{calls, calls_of_maybe}
 use Rattle.null_calls_expressions.proofs.Lists.{two_parts}
-use Rattle.null_calls_rules.specs.InstrumentedExpressions.{expr, kept, maybe, kept_of_maybe}
+use Rattle.null_calls_expressions.specs.InstrumentedExpressions.{expr, kept, maybe, kept_of_maybe}
 use Rattle.c_syntax.specs.UnitView.{maybe_of, decl_of, stmt_at, stmt_of, labels_of, block_item_before, group_before}
 use Rattle.c_syntax.specs.WritesUnit.{block_items_of, stmts_of, groups_of}
 use Rattle.c_rules.specs.Variables.{calls_of_stmt, calls_of_block, calls_of_stmts, calls_of_groups}
 use Rattle.null_calls.specs.Parts.{item_of, group_of}
 use Rattle.null_calls_expressions.specs.Sited.{sited}
-use Rattle.null_calls_rules.specs.InstrumentedStatements as marks
+use Rattle.null_calls_expressions.specs.InstrumentedStatements as marks
 use Rattle.null_calls_expressions.specs.Kept.{temporaries_of}
 use Rattle.null_calls.proofs.Turns.{tree_more, keeps_more, counts_more, tree_end, keeps_end, counts_end, calls_then, two_trees, two_keeps, three_trees, three_keeps, four_trees, four_keeps, none_new, no_calls, calls_joined}
 use Rattle.null_calls.proofs.TreeLemmas.{block_seen, stmts_seen, groups_seen, stmt_before, item_tree, item_kept, item_count, stmt_tree, stmt_kept, group_tree, group_kept, group_count, is_block, is_if_else, is_only_if, is_switch, is_group, by_tree, by_kept, by_count}

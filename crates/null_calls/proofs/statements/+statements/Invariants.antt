@@ -3,7 +3,7 @@ use Rattle.c_syntax.specs.UnitView.{block_item_before, group_before}
 use Rattle.c_syntax.specs.WritesUnit.{block_items_of, stmts_of, groups_of}
 use Rattle.c_rules.specs.Variables.{calls_of_block, calls_of_stmts, calls_of_groups}
 use Rattle.null_calls_expressions.specs.Sited.{sited}
-use Rattle.null_calls_rules.specs.InstrumentedStatements as marks
+use Rattle.null_calls_expressions.specs.InstrumentedStatements as marks
 use Rattle.null_calls_expressions.specs.Kept.{temporaries_of}
 use Rattle.null_calls.proofs.Turns.{onto}
 use Rattle.null_calls.proofs.TreeLemmas.{stmt_before}

@@ -2,7 +2,7 @@ use Rattle.std.proofs.Common.{◌+◌, drop}
 use Rattle.c_syntax.specs.UnitView.{items_of}
 use Rattle.null_calls_expressions.specs.Seen.{seen}
 use Rattle.null_calls_expressions.specs.Sited.{sited}
-use Rattle.null_calls_rules.specs.Instrumented as marks
+use Rattle.null_calls_expressions.specs.Instrumented as marks
 use Rattle.null_calls.proofs.Turns.{tree_more, tree_end}
 use Rattle.null_calls.proofs.TreeLemmas.{item_before, items_seen}
 use Rattle.null_calls.proofs.UnitLemmas.{one_item}

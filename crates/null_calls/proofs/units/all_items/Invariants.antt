@@ -2,7 +2,7 @@ use Rattle.std.proofs.Common.{◌≡◌, drop}
 use Rattle.c_syntax.specs.UnitView.{items_of}
 use Rattle.null_calls_expressions.specs.Seen.{seen}
 use Rattle.null_calls_expressions.specs.Sited.{sited}
-use Rattle.null_calls_rules.specs.Instrumented as marks
+use Rattle.null_calls_expressions.specs.Instrumented as marks
 use Rattle.null_calls.proofs.Turns.{onto}
 use Rattle.null_calls.proofs.TreeLemmas.{item_before}
 use Rattle.null_calls.proofs.units.all_items.Given as goal

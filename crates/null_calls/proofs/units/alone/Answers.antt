@@ -5,7 +5,7 @@ use Rattle.c_syntax.specs.Tree.{block_stmt, no_block_items}
 use Rattle.c_syntax.specs.UnitView.{stmt_of}
 use Rattle.c_syntax.specs.WritesUnit.{block_items_of}
 use Rattle.null_calls_expressions.specs.Sited.{sited}
-use Rattle.null_calls_rules.specs.InstrumentedStatements.{kept_of_stmt}
+use Rattle.null_calls_expressions.specs.InstrumentedStatements.{kept_of_stmt}
 use Rattle.null_calls_expressions.specs.Kept.{temporaries_of}
 use Rattle.null_calls.proofs.units.alone.Goals as goal
 

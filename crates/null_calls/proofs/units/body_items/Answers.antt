@@ -2,9 +2,9 @@ use Rattle.std.proofs.Common.{◌+◌, ◌++◌, ap, sym}
 use Rattle.std.proofs.lemmas.Result.{IfOk-equal}
 use Rattle.c_syntax.specs.WritesUnit.{block_items_of}
 use Rattle.c_rules.specs.Variables.{calls_of_block}
-use Rattle.c_syntax_nodes.proofs.CopyLemmas.{made_as}
+use Rattle.null_calls_expressions.proofs.CopyLemmas.{made_as}
 use Rattle.null_calls_expressions.specs.Sited.{sited}
-use Rattle.null_calls_rules.specs.InstrumentedStatements as parts
+use Rattle.null_calls_expressions.specs.InstrumentedStatements as parts
 use Rattle.null_calls_expressions.specs.Kept.{temporaries_of}
 use Rattle.null_calls.proofs.units.body_items.Goals as goal
 

@@ -4,8 +4,8 @@ use Rattle.c_syntax.specs.WritesUnit.{block_items_of}
 use Rattle.c_rules.specs.Functions.{items_of_body}
 use Rattle.null_calls_expressions.specs.Seen.{seen}
 use Rattle.null_calls_expressions.specs.Sited.{sited}
-use Rattle.null_calls_rules.specs.Temporaries.{declared_before}
-use Rattle.null_calls_rules.specs.InstrumentedStatements as parts
+use Rattle.null_calls_expressions.specs.Temporaries.{declared_before}
+use Rattle.null_calls_expressions.specs.InstrumentedStatements as parts
 use Rattle.null_calls_expressions.specs.Kept.{temporaries_of}
 use Rattle.null_calls.proofs.UnitLemmas.{body_made}
 use Rattle.null_calls.proofs.units.body_of.Goals as goal

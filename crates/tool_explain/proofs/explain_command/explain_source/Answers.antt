@@ -4,7 +4,7 @@ use Rattle.dm_base.specs.declared.mode.Mode.TheVariants.{Plain}
 use Rattle.dm_io.specs.Store.{IsMissing, ReadsWhole}
 use Rattle.tool_explain.specs.Stopping.{IsStopOfExplained}
 use Rattle.tool_explain.proofs.ExplainLemmas.{reads_checked, stops_explained}
-use Rattle.tool_sources.proofs.SourceFiles.{source_of_file}
+use Rattle.tool_texts.proofs.SourceFiles.{source_of_file}
 use Rattle.tool_texts.proofs.FileLemmas.{checks}
 use Rattle.tool_explain.proofs.explain_command.explain_source.Goals as goal
 

@@ -1,7 +1,7 @@
 use Rattle.std.proofs.Common.{◌∙◌}
 use Rattle.c_tree.specs.View.{program_of}
 use Rattle.generated_program.specs.Generator.{generated_results}
-use Rattle.ref_machine.specs.WholeRuns.{run_of}
+use Rattle.tool_audit.specs.WholeRuns.{run_of}
 use Rattle.tool_selftest.proofs.TellsLemmas.{ran_with, reported_with, never_stopped}
 use Rattle.tool_selftest.proofs.selftest.audit_of.Goals as goal
 

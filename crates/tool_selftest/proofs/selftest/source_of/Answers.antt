@@ -2,7 +2,7 @@ use Rattle.c_tree.specs.View.{program_of}
 use Rattle.dm_base.specs.declared.mode.Mode.TheVariants.{Plain}
 use Rattle.generated_program.specs.Generator.{generated_source}
 use Rattle.generated_program.specs.Typed.{generated_program}
-use Rattle.tool_sources.proofs.SourceLemmas.{source_accepted}
+use Rattle.tool_audit.proofs.SourceLemmas.{source_accepted}
 use Rattle.tool_selftest.proofs.TellsLemmas.{read_so, never_refused}
 use Rattle.tool_selftest.proofs.selftest.source_of.Goals as goal
 
