@@ -1,12 +1,9 @@
 -- What tokens spell is writable.
-use Rattle.std.proofs.Common.{ℕ, ℤ, Bool, List, subst, sym}
-use Rattle.std.proofs.lemmas.List.Elements.{All-append}
+use Rattle.std.proofs.Common.{ℕ, List}
 use Rattle.c_lexer.specs.declared.token.Token.{Token}
-use Rattle.c_lexer.specs.declared.token.TokenKind.TheVariants.{Name, Int, Char, Str}
-use Rattle.c_lexer.specs.Kinds.{IsKind, IsByte}
 use Rattle.c_syntax.specs.Tree.{Spec, Expr, Exprs, Maybe, TypeName, Declarator, Params, Init, Inits, MaybeInit, Parts, Decl, First, Labels, Stmt, BlockItems, Stmts, Groups, Declarators, Members, Enumerators, Tag, Item, Items}
 use Rattle.c_syntax.specs.Specifiers.{ReadsSpec, is_void, is_char, is_unsigned_char, is_int, is_signed, is_signed_int, is_unsigned, is_unsigned_int, is_struct, is_enum}
-use Rattle.c_syntax.specs.Grammar.{Level, ReadsStrings, last_string, next_string}
+use Rattle.c_syntax.specs.Grammar.{Level}
 use Rattle.c_syntax.specs.Grammar.{Reads, is_name, is_int, is_char, are_strings, in_parentheses, with_suffixes, no_prefix, a_prefix, a_unary, a_sizeof_type, no_cast, a_cast, no_chain, a_chain, no_choice, a_choice, no_assignment, an_assignment, no_comma, a_comma}
 use Rattle.c_syntax.specs.Grammar.{ReadsList, last_expr, next_expr, Suffixes, no_suffix, an_index, an_empty_call, a_call, a_member, a_postfix, Chain, no_operator, an_operator}
 use Rattle.c_syntax.specs.Grammar.{ReadsSize, no_size, a_size, ReadsType, a_type, Declares, a_pointer, a_direct, ReadsCore, a_declared, declarator_in_parentheses, no_core, Lengthens, no_more, an_array, a_function, ReadsParams, are_none, are_some, ReadsEach, last_param, next_param}
@@ -16,10 +13,9 @@ use Rattle.c_syntax.specs.Statements.{ReadsStmt, a_block, an_empty, an_evaluatio
 use Rattle.c_syntax.specs.Statements.{ReadsBlockItems, no_block_item, a_block_decl, a_block_stmt, ReadsStmts, last_stmt, next_stmt, ReadsGroups, no_group, a_group}
 use Rattle.c_syntax.specs.Statements.{ReadsDeclarators, last_declarator, next_declarator, ReadsMembers, last_member, next_member, ReadsEnumeratorValue, no_enumerator_value, an_enumerator_value, ReadsEnumerators, last_enumerator, next_enumerator, ReadsTag, no_name, a_tag}
 use Rattle.c_syntax.specs.Statements.{ReadsItem, a_struct, an_enum, an_enum_with_comma, a_tag_alone, an_item_declaration, a_definition, ReadsItems, last_item, next_item}
-use Rattle.c_syntax.specs.Tokens.{IsNameToken, IsInt, IsChar, IsStr}
 use Rattle.c_syntax.proofs.KindsPrinted.{mark_kind, name_kind}
 use Rattle.c_syntax_laws.specs.Writable.{IsWritableSpec, IsWritable, AreWritable, IsWritableMaybe, IsWritableType, IsWritableDeclarator, AreWritableParams, IsWritableInit, AreWritableInits, IsWritableMaybeInit, AreWritableParts, IsWritableDecl, IsWritableFirst, AreWritableLabels, IsWritableStmt, AreWritableBlockItems, AreWritableStmts, AreWritableGroups, AreWritableDeclarators, AreWritableMembers, AreWritableEnumerators, IsWritableTag, IsWritableItem, AreWritableItems}
-use Rattle.c_syntax.proofs.KindsPrinted.{named_kind, int_kind, char_kind, str_kind, strings_kind}
+use Rattle.c_syntax.proofs.KindsPrinted.{named_kind, int_kind, char_kind, strings_kind}
 
 spec : {s : Spec} {i j : List Token} → ReadsSpec s i j → IsWritableSpec s
 spec (is_void a g b) = tt

@@ -1,11 +1,7 @@
 -- The printed text of a writable unit is read back.
-use Rattle.std.proofs.Common.{◌≤◌, ℕ, List, [], ◌∷◌, All, sym, subst, arith}
-use Rattle.std.proofs.lemmas.List.Elements.{All-cons}
-use Rattle.c_lexer.specs.declared.token.TokenKind.{TokenKind}
-use Rattle.c_lexer.specs.Kinds.{IsKind}
+use Rattle.std.proofs.Common.{◌≤◌, ℕ, [], sym, subst, arith}
 use Rattle.c_syntax.specs.Print.{unit_kinds}
 use Rattle.c_syntax.proofs.BackUnits.{BackUnit, back_unit}
-use Rattle.c_syntax.proofs.KindsPrinted.{AreKinds}
 use Rattle.c_syntax.proofs.HeightLemmas.{same_height}
 use Rattle.c_syntax.proofs.LexBack.{LexedBack, lexed_back}
 use Rattle.c_syntax_laws.specs.Laws.{SpelledUnitsAreWritable, WritableUnitsAreReadBack}

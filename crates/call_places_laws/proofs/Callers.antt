@@ -3,11 +3,11 @@ use Rattle.std.proofs.Common.{◌≡◌, ℕ, ℤ, pos, zero, suc, ◌+◌, Bool
 use Rattle.std.specs.Prelude.{flat_map}
 use Rattle.std.specs.List.{range_with_len}
 use Rattle.std.proofs.lemmas.Grind.{flat_map-append}
-use Rattle.c_tree.specs.Tree.{CType, void, integer, pointer, array, struct, function, CTypes, Function, Program}
+use Rattle.c_tree.specs.Tree.{CType, void, integer, pointer, array, struct, function, Function, Program}
 use Rattle.c_tree.specs.Tree as typed
 use Rattle.c_tree.specs.Layout.{cells_of_all}
 use Rattle.c_tree.specs.Sites.{sites_of_function}
-use Rattle.c_syntax.specs.Tree.{Ident, Storage, Spec, Declarator, Params, no_params, more_params, MaybeInit, Parts, no_parts, more_parts, Decl, decl, Tag, no_tag, tag, Enumerators, no_enumerators, more_enumerators, Stmt, BlockItems, Item, struct_item, enum_item, tag_item, decl_item, function_item, Items, no_items, more_items}
+use Rattle.c_syntax.specs.Tree.{Ident, Storage, Spec, Declarator, MaybeInit, Parts, no_parts, more_parts, Decl, decl, Tag, no_tag, tag, Enumerators, no_enumerators, more_enumerators, Stmt, BlockItems, Item, struct_item, enum_item, tag_item, decl_item, function_item, Items, no_items, more_items}
 use Rattle.c_syntax.specs.Tree as syntax
 use Rattle.dm_base.specs.declared.mode.Mode.{Mode}
 use Rattle.c_rules.specs.Checked.{Checked, fine, on, demand, met}
@@ -20,7 +20,7 @@ use Rattle.c_rules.specs.Objects.{Object}
 use Rattle.c_rules.specs.Variables.{Next, name_or_empty, calls_of_stmt, calls_of_block}
 use Rattle.c_rules.specs.Blocks.{StatementTree, held_by_block}
 use Rattle.c_rules.specs.Statements.{Around, items_of_block}
-use Rattle.c_rules.specs.Functions.{declares_function, parameters_of, are_named, with_parameter, with_parameters, variables_of, function_laid, body_env, body_numbers, body_of, function_declared, items_of_body, defined_as}
+use Rattle.c_rules.specs.Functions.{declares_function, parameters_of, are_named, variables_of, function_laid, body_env, body_numbers, body_of, function_declared, items_of_body, defined_as}
 use Rattle.c_rules.specs.Items.{Output, no_output, with_output, static_of, without_init, output_of_function, defines, global_declared, within_global, after_object, definition_of, global, declared_part, named_part, enumerator_value, behind_enumerator, one_more_than, behind_enumerators, behind_enum_tag, behind_declared, behind_named_part, behind_file_part, after_file_part, behind_file_parts, file_parts, file_decl, behind_defined, function_named, behind_function_named, item, behind_item, after_item, items}
 use Rattle.c_rules.specs.Units.{env_before, has_main, program_of, IsTyped}
 use Rattle.c_rules_laws.proofs.Holding.{held, first_fine, on_fine, demand_fine}
@@ -31,7 +31,7 @@ use Rattle.call_places.specs.CallPlaces.{CallPlace, called_in, declared_name, ca
 use Rattle.call_places.specs.Places.{places_of_stmt}
 use Rattle.call_places_laws.specs.AreSites.{caller_of, callers_of_function, callers_of_program, AreSitesOf}
 use Rattle.call_places_laws.proofs.Counted.{stmt_counted, block_counted}
-use Rattle.c_rules_laws.proofs.Spans.{parameter_context, params_context}
+use Rattle.c_rules_laws.proofs.Spans.{params_context}
 use Rattle.c_rules_laws.proofs.UnitShape.{output_same}
 
 -- ## Lists

@@ -17,7 +17,7 @@ use Rattle.flow_model.specs.Language.Steps.{sys}
 use Rattle.flow_model.specs.Language.{StackRun as stack, DyckRun as dyck, Walk as walk}
 use Rattle.flow_model.specs.Rules.{IsValid}
 use Rattle.flow_model.specs.Verdict.{IsAccepted, IsKept, IsRejectedAt}
-use Rattle.flow_model.proofs.Histories.{erase-append, take_next, accepted_more, accepted_whole}
+use Rattle.flow_model.proofs.Histories.{take_next, accepted_more, accepted_whole}
 use Rattle.flow_model.proofs.Walks.{last_call as last_of_walk, walk-append}
 use Rattle.stack_automaton.proofs.EventLemmas.{last_call as last_of_stack, run_call}
 use Rattle.dyck_monitor.proofs.DyckRuns.{last_event, run-append, calls_edge}

@@ -1,8 +1,7 @@
 -- Why no process of an instrumented program raises an alarm in a fleet.
-use Rattle.std.proofs.Common.{◌≡◌, ℕ, ◌+◌, ◌<◌, ◌≤◌, List, length, take, sym, ap, subst}
+use Rattle.std.proofs.Common.{◌≡◌, ℕ, List, take, sym, subst}
 use Rattle.dm_base.specs.declared.event.Event.{Event}
 use Rattle.dm_base.specs.declared.mode.Mode.TheVariants.{Instrumented}
-use Rattle.dm_base.specs.Trace.{depth}
 use Rattle.dm_io.specs.Store.{file_at}
 use Rattle.alarm_laws.specs.MarkedRuns.{marked_run}
 use Rattle.alarm_laws.specs.Monitors.{IsAcceptedByAll}
@@ -17,7 +16,7 @@ use Rattle.flow_model.specs.declared.which.Which.TheVariants.{Callgraph, Stack, 
 use Rattle.flow_model.specs.Graph.{Graph}
 use Rattle.flow_model.specs.Verdict.{IsAccepted, IsRejectedAt, IsBoundAt}
 use Rattle.flow_model.proofs.Histories.{accepted_whole}
-use Rattle.flow_model.proofs.Verdicts.{kept-reads, kept-within}
+use Rattle.flow_model.proofs.Verdicts.{kept-within}
 use Rattle.headline.specs.AcceptedRuns.{TextsRaiseNoAlarm}
 use Rattle.headline.specs.Headline.{IsWithinBound, TheHeadline}
 use Rattle.model_file.specs.Refusal.{IsModel}
