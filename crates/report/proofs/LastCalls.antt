@@ -1,5 +1,5 @@
 -- Where the event of a system call is the last of a word, any event that fits the same edge may stand in its place.
-use Rattle.std.proofs.Common.{◌≡◌, ℕ, List, [], ◌∷◌, ◌++◌, ℤ, Option, Contains, refl, sym, subst}
+use Rattle.std.proofs.Common.{◌≡◌, ℕ, List, [], ◌∷◌, ◌++◌, ℤ, Option, Contains, refl, sym, ◌∙◌, ap, subst}
 use Rattle.dm_base.specs.declared.event.Event.{Event}
 use Rattle.dm_base.specs.declared.event.Event.TheVariants.{Sys, Pre, Post}
 use Rattle.dm_base.specs.Fits.{Fits}
@@ -8,7 +8,8 @@ use Rattle.flow_model.specs.declared.records.SysEdge.{SysEdge}
 use Rattle.flow_model.specs.declared.which.Which.{Which}
 use Rattle.flow_model.specs.declared.which.Which.TheVariants.{Callgraph, Stack, Dyck}
 use Rattle.flow_model.specs.Graph.{Graph}
-use Rattle.flow_model.specs.Language.{StackRun, DyckRun, Walk, Reads}
+use Rattle.flow_model.specs.Language.{Steps, StackRun, DyckRun, Walk, Reads}
+use Rattle.flow_model.specs.Language.Move.{Inside, Calls, Enters, Leaves}
 use Rattle.flow_model.specs.Language.Steps.{sys}
 use Rattle.flow_model.specs.Language.{StackRun as stack, DyckRun as dyck, Walk as walk}
 use Rattle.flow_model.proofs.Histories.{erase-append}

@@ -1,8 +1,8 @@
 -- How many names may come next: what a monitor keeps of the trials tells it.
-use Rattle.std.proofs.Common.{◌≡◌, ℕ, ℤ, Bool, true, false, Option, ◌+◌, ◌-◌, ◌<◌, List, [], ◌∷◌, ◌++◌, length, take, get_or, Contains, refl, sym, ◌∙◌, ap, subst, inl, inr, arith, length-append}
+use Rattle.std.proofs.Common.{◌≡◌, ◌⊎◌, ℕ, ℤ, Bool, true, false, Option, zero, suc, ◌+◌, ◌-◌, ◌<◌, ◌≤◌, List, [], ◌∷◌, ◌++◌, length, take, get_or, Contains, slice_index_or, refl, sym, ◌∙◌, ap, subst, inl, inr, arith, length-append}
 use Rattle.std.specs.Prelude.{◌↔◌, AllPairs, IsTrue}
 use Rattle.std.proofs.lemmas.Bool.{cases_lt}
-use Rattle.std.proofs.lemmas.List.{get_or_push, get_or_append_left, take-append-le}
+use Rattle.std.proofs.lemmas.List.{get_or_push, get_or_append_left, take_all, take-append-le}
 use Rattle.std.proofs.lemmas.List.Elements.{Contains-append_left, Contains-get_or, Contains-push, Contains-push_cases}
 use Rattle.dm_base.specs.declared.event.Event.{Event}
 use Rattle.dm_base.specs.declared.event.Event.TheVariants.{Sys, Pre, Post}
@@ -10,6 +10,7 @@ use Rattle.dm_base.specs.declared.verdict.Step.{Step}
 use Rattle.dm_base.specs.declared.verdict.Step.TheVariants as steps
 use Rattle.dm_base.specs.Fits.{Fits}
 use Rattle.dm_base.specs.Trace.{depth}
+use Rattle.flow_model.specs.declared.records.SysEdge.{SysEdge}
 use Rattle.flow_model.specs.declared.which.Which.{Which}
 use Rattle.flow_model.specs.declared.which.Which.TheVariants.{Callgraph, Stack, Dyck}
 use Rattle.flow_model.specs.Graph.{Graph}
@@ -20,7 +21,7 @@ use Rattle.flow_model.proofs.Verdicts.{kept-reads, kept-within}
 use Rattle.sys_table.specs.Table.{IsRecorded}
 use Rattle.report.specs.Precision.{IsNumberOf, IsCall, MayComeNext, IsNext}
 use Rattle.report.specs.Trials.{AreTrials, Comes, IsNamed, KeepsPool}
-use Rattle.report.proofs.LastCalls.{last_fits}
+use Rattle.report.proofs.LastCalls.{FitsLast, last_fits}
 
 -- numbers that are counted one after another
 

@@ -3,11 +3,11 @@ use Rattle.std.proofs.Common.{◌≡◌, ℕ, ◌+◌, ◌<◌, ◌≤◌, ℤ, 
 use Rattle.std.specs.List.{AllZip}
 use Rattle.dm_base.specs.declared.event.Arg.{Arg}
 use Rattle.dm_base.specs.declared.event.Event.{Event}
-use Rattle.dm_base.specs.Fits.{FitArguments}
+use Rattle.dm_base.specs.Fits.{Fits, FitArguments}
 use Rattle.sys_table.specs.declared.kinds.ArgKind.{ArgKind}
 use Rattle.sys_table.specs.declared.kinds.ResultKind.{ResultKind}
 use Rattle.sys_table.specs.declared.kinds.ResultKind.TheVariants.{Int, UnsignedInt, Void}
-use Rattle.sys_table.specs.Table.{FitsArgument, FitsResult, IsRecorded}
+use Rattle.sys_table.specs.Table.{FitsArgument, FitsEntry, FitsResult, IsRecorded, result_of, recorded_of}
 use Rattle.flow_model.specs.declared.records.SysEdge.{SysEdge}
 use Rattle.flow_model.specs.Graph.{Graph}
 use Rattle.std.proofs.lemmas.Bool.{cases_lt}
