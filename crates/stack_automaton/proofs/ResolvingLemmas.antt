@@ -144,3 +144,15 @@ module _ (g : Graph) (done : Closure) (old mid : States) (found known keys ks : 
     pub others_stored : (new : States) → Filled mid new ks known done.links (length ks) → AreStored new done keys
     others_stored new filled =
         subst (AreStored new done) equal (entered_stored g s begin done event closed mid ks (grows_trans s old mid before planned.grown) has_key new known (planned.long ∙ resolved.long) filled)
+
+-- Where all keys are known the states are stored already.
+module _ (g : Graph) (done : Closure) (old : States) (found known : List ℕ) (resolved : AreResolved old found known done.links) (all : (i : ℕ) → i < length found → Contains known i)
+    (s : States) (begin : List Fact) (event : IsEvent g s begin done) (closed : IsClosed s) (before : Grows s old) where
+  is_known : (i : ℕ) → i < length (functions_of done.links) → Contains known i
+  is_known i lt = all i (let long = resolved.long in omega (arith, lt, long))
+
+  pub all_stored : AreStored old done found
+  all_stored = record {
+    filled = λ i lt. resolved.filled i (is_known i lt);
+    targets = targets g s begin done event closed old found before (λ i lt. resolved.there i (is_known i lt));
+  }

@@ -55,6 +55,18 @@ fn are_known(links: &Links, known: &KeySet, list: &[Link]) -> bool
     true
 }
 
+// Whether the keys at the first places are known.
+pub fn are_all_known(known: &KeySet, count: usize) -> bool
+    ensures { IsTrue result → (i : ℕ) → i < count → Contains known.now.keys i }
+{
+    for place in 0..count {
+        if !is_among(known, place) {
+            return false;
+        }
+    }
+    true
+}
+
 // Notes the key at the place.
 fn note_key(
     keys: &mut Vec<usize>,

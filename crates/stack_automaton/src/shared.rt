@@ -15,6 +15,9 @@ use std::alloc::Global;
 #[derive(Drop)]
 pub struct Shared {
     keys: IndexMap<u64, usize>,
+    // The key behind the last one that was told. It is tried first, since a trace that does again what it
+    // did before mostly comes to states in the order in which they were stored.
+    next: usize,
 }
 
 impl Shared {
@@ -22,6 +25,7 @@ impl Shared {
     pub fn new(alloc: Global) -> Shared {
         Shared {
             keys: IndexMap::new(alloc),
+            next: 0,
         }
     }
 
@@ -29,16 +33,14 @@ impl Shared {
     pub fn find(&self, states: &Slab<State>, edges: &[Edge]) -> Option<usize>
         ensures { IfSome result (λ key. get states.now key ≡ Some edges.now) }
     {
+        if has_edges(states, self.next, edges) {
+            return Some(self.next);
+        }
         let key = self.known(edges)?;
-        match states.get(key) {
-            Some(state) => {
-                if are_equal(state.edges(), edges) {
-                    Some(key)
-                } else {
-                    None
-                }
-            }
-            None => None,
+        if has_edges(states, key, edges) {
+            Some(key)
+        } else {
+            None
         }
     }
 
@@ -48,6 +50,11 @@ impl Shared {
             Some(key) => Some(*key),
             None => None,
         }
+    }
+
+    // The key was told.
+    pub fn go_on_from(&mut self, key: usize) {
+        self.next = key.wrapping_add(1);
     }
 
     // Notes the key of a state with this digest.
@@ -66,6 +73,16 @@ fn are_equal(a: &[Edge], b: &[Edge]) -> bool
     ensures { IsTrue result → a.now ≡ b.now }
 {
     a == b
+}
+
+// Whether the state at the key is there, with just these edges.
+fn has_edges(states: &Slab<State>, key: usize, edges: &[Edge]) -> bool
+    ensures { IsTrue result → get states.now key ≡ Some edges.now }
+{
+    match states.get(key) {
+        Some(state) => are_equal(state.edges(), edges),
+        None => false,
+    }
 }
 
 // The digest of the edges (the hash FNV-1a over whole numbers).
@@ -99,10 +116,12 @@ pub fn share(
 {
     let slice: &[Edge] = &edges;
     if let Some(key) = shared.find(states, slice) {
+        shared.go_on_from(key);
         return Ok(key);
     }
     let digest = digest(slice);
     let key = insert(states, State::new(edges))?;
     shared.note(digest, key)?;
+    shared.go_on_from(key);
     Ok(key)
 }

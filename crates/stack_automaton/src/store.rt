@@ -11,7 +11,7 @@ use crate::edges::{link_edges, tops};
 use crate::key_set::KeySet;
 use crate::links::Links;
 use crate::place::State;
-use crate::resolve::{is_among, resolve};
+use crate::resolve::{Resolved, are_all_known, is_among, resolve};
 use crate::saturate::Closure;
 use crate::shared::{Shared, insert, share};
 use dm_base::OutOfMemory;
@@ -153,8 +153,11 @@ fn store_entered(
     ensures grows { Grows (get states.old) (get states.new) }
     ensures entered { IfOk result (λ keys. AreStored (get states.new) done.now keys.items) }
 {
-    let found = resolve(alloc, states, shared, &done.links)?;
-    let keys = store_others(alloc, states, model, done, &found.keys, &found.known)?;
+    let Resolved { keys: found, known } = resolve(alloc, states, shared, &done.links)?;
+    if are_all_known(&known, found.len()) {
+        return Ok(found);
+    }
+    let keys = store_others(alloc, states, model, done, &found, &known)?;
     Ok(keys)
 }
 

@@ -1,5 +1,7 @@
+use Rattle.std.proofs.Common.{rules}
 use Rattle.slab.specs.Slab.{get}
 use Rattle.stack_automaton.proofs.GrowingLemmas.{grows_trans, held_there}
+use Rattle.stack_automaton.proofs.ResolvingLemmas.{all_stored}
 use Rattle.stack_automaton.proofs.store.store_entered.Goals as goal
 
 pub resolve-requires : goal.resolve-requires
@@ -10,3 +12,8 @@ returns-in_err-keys-clause-grows c = grows_trans (get c.args.states.now) (get c.
 
 pub returns-clause-grows : goal.returns-clause-grows
 returns-clause-grows c = grows_trans (get c.args.states.now) (get c.resolve.new.states) (get c.store_others.new.states) c.resolve.ensures.grows c.store_others.ensures.grows
+
+pub returns-then-are_all_known-clause-entered : goal.returns-then-are_all_known-clause-entered
+returns-then-are_all_known-clause-entered c =
+    let (begin, event) = c.requires.event in
+    all_stored c.args.model.now c.args.done.now (get c.resolve.new.states) c.in_ok-found.field-0.keys.items c.in_ok-found.field-0.known.keys c.in_ok-found.ensures.resolved (search rules) (get c.args.states.now) begin event c.requires.closed c.resolve.ensures.grows
