@@ -51,7 +51,7 @@ fn sweep<M: Monitor>(monitor: &M, pool: &mut M::Pool)
     }
 }
 
-// Sweeps a pool that holds at least twice the keys that the last sweep left. Answers how many keys the
+// Sweeps a pool that holds at least four times the keys that the last sweep left. Answers how many keys the
 // last sweep left now.
 fn sweep_if_grown<M: Monitor>(monitor: &M, pool: &mut M::Pool, left: usize) -> usize
     requires { (g : Graph) × (k : ℕ) × (h : List Event) × M.is_pool pool.old g × M.stands monitor.now pool.old g k h × M.noted pool.old g [] }
@@ -59,7 +59,7 @@ fn sweep_if_grown<M: Monitor>(monitor: &M, pool: &mut M::Pool, left: usize) -> u
     ensures stands { (g : Graph) (k : ℕ) (h : List Event) → M.is_pool pool.old g → M.noted pool.old g [] → M.stands monitor.now pool.old g k h → M.stands monitor.now pool.new g k h }
     ensures notes { (g : Graph) → M.is_pool pool.old g → M.noted pool.old g [] → M.noted pool.new g [] }
 {
-    if M::held(pool) / 2 < left {
+    if M::held(pool) / 4 < left {
         return left;
     }
     sweep(monitor, pool);
