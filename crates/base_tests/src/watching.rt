@@ -39,8 +39,8 @@ struct Row {
     rejected: Option<(u32, u64)>,
     // How many events of each other process are accepted.
     events: u64,
-    // The most keys that the pool holds behind each record, where that is looked at.
-    swept: Option<usize>,
+    // How many records there are, and the most keys that the pool holds behind each of them, where that is looked at.
+    swept: Option<(usize, usize)>,
 }
 
 const ROWS: [Row; 5] = [
@@ -53,7 +53,7 @@ const ROWS: [Row; 5] = [
         processes: 2,
         rejected: None,
         events: 1,
-        swept: Some(2),
+        swept: Some((2, 2)),
     },
     // One that is rejected needs none.
     Row {
@@ -64,7 +64,7 @@ const ROWS: [Row; 5] = [
         processes: 3,
         rejected: Some((3, 1)),
         events: 1,
-        swept: Some(2),
+        swept: Some((3, 2)),
     },
     // One that goes down, turns and comes up again: steps sweep by themselves.
     Row {
@@ -114,7 +114,7 @@ const ROWS: [Row; 5] = [
         processes: 5,
         rejected: Some((3, 2)),
         events: 3,
-        swept: Some(5),
+        swept: Some((15, 5)),
     },
 ];
 
@@ -193,17 +193,6 @@ fn found(alloc: Global, row: &Row) -> Result<(usize, usize, bool), Fail> {
     Ok((watch.pool().live(), verdicts.len(), wanted))
 }
 
-// How many records the rounds have.
-fn count_of(rounds: &[Rounds]) -> usize {
-    let mut count: usize = 0;
-    for one in rounds {
-        for _ in one.1..=one.2 {
-            count = count.saturating_add(one.0);
-        }
-    }
-    count
-}
-
 #[test]
 fn what_no_process_needs_is_freed(rt: HostRuntime) -> Result<(), Fail> {
     for (i, row) in ROWS.iter().enumerate() {
@@ -219,8 +208,8 @@ fn what_no_process_needs_is_freed(rt: HostRuntime) -> Result<(), Fail> {
 #[test]
 fn a_sweep_after_each_step_leaves_few_states(rt: HostRuntime) -> Result<(), Fail> {
     for (i, row) in ROWS.iter().enumerate() {
-        if let Some(most) = row.swept {
-            for given in 1..=count_of(row.rounds) {
+        if let Some((records, most)) = row.swept {
+            for given in 1..=records {
                 let watch = watched::<StackMonitor>(rt.alloc(), row, given)?;
                 let live = watch.pool().live();
                 assert!(rt;

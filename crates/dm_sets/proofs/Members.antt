@@ -1,11 +1,12 @@
 -- The members of a set, by the bits of its words.
 use Prim.Native.Nat.{zero, suc}
-use Rattle.std.proofs.Common.{◌≡◌, ℕ, ◌<◌, Bool, true, false, ◌&&◌, ◌||◌, cond, List, eqb, ltb, refl, sym, ap, ◌∙◌, arith, subst}
+use Rattle.std.proofs.Common.{◌≡◌, ℕ, ◌<◌, ◌≤◌, max, Bool, true, false, ◌&&◌, ◌||◌, cond, List, eqb, ltb, refl, sym, ap, ◌∙◌, arith, subst}
+use Rattle.std.proofs.Math.Nat.{max-le}
 use Rattle.std.specs.Cmp.{nat_cmp_total, unsigned_tied}
 use Rattle.std.specs.Ordering.{nat_cmp}
 use Rattle.std.specs.FinSet.{FinSet, empty, insert, contains, contains-empty, contains-insert, same_set, nat_cmp-IsAntisymmetric}
 use Rattle.std.proofs.lemmas.Bool.Decides.{nat_tests}
-use Rattle.dm_sets.specs.Bits.{bit, members_below}
+use Rattle.dm_sets.specs.Bits.{bit, members_below, AreBetween}
 use Rattle.dm_sets.specs.Nodes.{Nodes, Has}
 use Rattle.dm_sets.proofs.Words.{bit_cases}
 
@@ -64,3 +65,9 @@ module _ (words : List ℕ) (n : ℕ) (s : Nodes) (seen : record { size = n; mem
 
   pub bit_of_none : (q : ℕ) → q < n → (Has s q → ⊥) → bit words q ≡ 0
   bit_of_none q lt none = bit_cases words q (λ on. none (has_of_bit q lt on))
+
+  -- a member that is not below a number is between the bounds of the members, seen from there
+  pub between : (low high from m : ℕ) → AreBetween words low high → m ≡ max from low → (q : ℕ) → from ≤ q → Has s q → (m ≤ q) × (q < high)
+  between low high from m within is q le has =
+      let found = within q ((has_bit_of q has).1) in
+      (subst (λ k. k ≤ q) (sym is) (max-le le found.0), found.1)

@@ -1,7 +1,7 @@
-ghost use Rattle.std.specs.Prelude.{◌≡◌, ◌+◌, ◌*◌, ◌/◌, ◌^◌, ◌<◌, ◌≤◌, ◌↔◌, ℕ, length, IsTrue, IfOk, IfSome, IfNone};
+ghost use Rattle.std.specs.Prelude.{◌≡◌, ◌+◌, ◌*◌, ◌/◌, ◌<◌, ◌≤◌, ◌↔◌, ℕ, length, IsTrue, IfOk, IfSome, IfNone};
 ghost use Rattle.std.specs.FinSet.{empty, insert};
-ghost use Rattle.std.specs.Int.{bit_at};
-ghost use Rattle.dm_sets.specs.Bits.{bit};
+ghost use Rattle.std.specs.Int.{bit_at, div_ceil};
+ghost use Rattle.dm_sets.specs.Bits.{bit, AreBetween};
 ghost use Rattle.dm_sets.specs.Nodes.{Has};
 
 use dm_base::OutOfMemory;
@@ -12,17 +12,22 @@ use std::marker::Model;
 const WORD: u32 = 64;
 
 /// A set of numbers below its size, seen as its size and its members. It is a bit set: each member is
-/// a bit of a machine word.
+/// a bit of a machine word. It knows between which numbers its members are, so that members that stand
+/// close together cost no more than the words between them.
 #[derive(Drop)]
 pub struct NodeSet {
     limit: u32,
+    // No member is below it.
+    low: u32,
+    // All members are below it.
+    high: u32,
     words: Vec<u64>,
 }
 
 impl Model for NodeSet {
-    ghost use Rattle.std.specs.Prelude.{◌≡◌, length};
+    ghost use Rattle.std.specs.Prelude.{◌≡◌, ◌≤◌, length};
     ghost use Rattle.std.specs.Int.{div_ceil};
-    ghost use Rattle.dm_sets.specs.Bits.{members_below};
+    ghost use Rattle.dm_sets.specs.Bits.{members_below, AreBetween};
     ghost use Rattle.dm_sets.specs.Nodes.{Nodes, nodes_code};
 
     ghost Value = { Nodes };
@@ -31,7 +36,7 @@ impl Model for NodeSet {
 
     ghost view = { λ s. record { size = s.limit; members = members_below s.words.items s.limit } };
 
-    ghost invariant = { λ s. length s.words.items ≡ div_ceil s.limit 64 };
+    ghost invariant = { λ s. (length s.words.items ≡ div_ceil s.limit 64) × (s.high ≤ s.limit) × AreBetween s.words.items s.low s.high };
 }
 
 // So many words without a bit.
@@ -79,21 +84,33 @@ fn first_in_word(word: u64, low: u32) -> Option<u32>
     Some(low + rest.trailing_zeros())
 }
 
-// The least number, not below `from`, whose bit is 1.
-fn next_bit(words: &[u64], from: u32) -> Option<u32>
-    requires { length words.now ≤ 2 ^ 26 }
+// The least number, not below `from`, whose bit is 1, among the numbers of the words of those below
+// `end`.
+fn next_bit(words: &[u64], from: u32, end: u32) -> Option<u32>
+    requires { div_ceil end 64 ≤ length words.now }
     ensures some { IfSome result (λ k. (from ≤ k) × (bit words.now k ≡ 1)) }
     ensures least { IfSome result (λ k. (j : ℕ) → from ≤ j → j < k → bit words.now j ≡ 0) }
-    ensures none { IfNone result ((j : ℕ) → from ≤ j → bit words.now j ≡ 0) }
+    ensures none { IfNone result ((j : ℕ) → from ≤ j → j < end → bit words.now j ≡ 0) }
 {
     let mut low = from % WORD;
-    for i in (from / WORD) as usize..words.len() {
+    for i in (from / WORD) as usize..end.div_ceil(WORD) as usize {
         if let Some(place) = first_in_word(words[i], low) {
             return Some(WORD * i as u32 + place);
         }
         low = 0;
     }
     None
+}
+
+// Takes the bits of the words from that of the first number to that of the last below `end`.
+fn clear_between(words: &mut [u64], first: u32, end: u32)
+    requires within { div_ceil end 64 ≤ length words.old }
+    requires between { AreBetween words.old first end }
+    ensures { (k : ℕ) → bit words.new k ≡ 0 }
+{
+    for i in (first / WORD) as usize..end.div_ceil(WORD) as usize {
+        words[i] = 0;
+    }
 }
 
 impl NodeSet {
@@ -103,6 +120,8 @@ impl NodeSet {
     {
         Ok(NodeSet {
             limit: n,
+            low: n,
+            high: 0,
             words: zeros(alloc, n.div_ceil(WORD) as usize)?,
         })
     }
@@ -120,6 +139,8 @@ impl NodeSet {
         ensures added { self.new ≡ record self.old { members = insert self.old.members node } }
         ensures new { IsTrue result ↔ (Has self.old node → ⊥) }
     {
+        self.low = self.low.min(node);
+        self.high = self.high.max(node + 1);
         set_bit(&mut self.words, node)
     }
 
@@ -130,11 +151,14 @@ impl NodeSet {
         node < self.limit && has_bit(&self.words, node)
     }
 
-    /// Takes all members away. It costs no more than the words that the set has.
+    /// Takes all members away. It costs no more than the words from the least member that was added to
+    /// the greatest.
     pub fn clear(&mut self)
         ensures { self.new ≡ record self.old { members = empty } }
     {
-        self.words.fill(0);
+        clear_between(&mut self.words, self.low, self.high);
+        self.low = self.limit;
+        self.high = 0;
     }
 
     /// The least member not below `from`, or None where there is none. Words without members are
@@ -145,7 +169,7 @@ impl NodeSet {
         ensures none { IfNone result ((j : ℕ) → from ≤ j → Has self.now j → ⊥) }
     {
         let limit = self.limit;
-        match next_bit(&self.words, from) {
+        match next_bit(&self.words, from.max(self.low), self.high) {
             Some(node) if node < limit => Some(node),
             _ => None,
         }
@@ -157,6 +181,8 @@ impl NodeSet {
     {
         Ok(NodeSet {
             limit: self.limit,
+            low: self.low,
+            high: self.high,
             words: self.words.clone()?,
         })
     }
