@@ -1,11 +1,44 @@
 -- Calls that are added one after another.
-use Rattle.std.proofs.Common.{◌≡◌, ◌↔◌, ℕ, ◌+◌, ◌<◌, ◌≤◌, List, [], length, take, get_or}
+use Rattle.std.proofs.Common.{◌≡◌, ◌⊎◌, ◌↔◌, ℕ, ◌+◌, ◌<◌, ◌≤◌, List, [], ◌∷◌, ◌++◌, Option, Some, Contains, IsSomeAnd, cond, nat_eq, inl, inr, length, take, get_or, subst, sym, ap, ◌∙◌}
+use Rattle.std.proofs.lemmas.Bool.Decides.{eqb_tells}
 use Rattle.std.proofs.lemmas.List.{get_or_default}
+use Rattle.std.proofs.lemmas.List.Elements.{Contains-push, Contains-append_left, Contains-push_cases}
 use Rattle.dm_base.specs.Adding.{Has, Gains}
 use Rattle.stack_automaton.specs.Links.{HasLink, AddsLinks}
 use Rattle.stack_automaton.specs.declared.place.Link.{Link}
 use Rattle.stack_automaton.specs.declared.links.Links.{Links}
 use Rattle.dm_base.proofs.AddingLemmas.{gains_same, gains_nothing, gains_init, gains_step, gains_end}
+
+-- a call behind the others of its function is added
+pub links_pushed : {V : Type 0} (items : V → List Link) (old new : ℕ → Option V) (function : ℕ) (link : Link) (held written : V)
+    → old function ≡ Some held → items written ≡ items held ++ link ∷ [] → ((q : ℕ) → new q ≡ cond (nat_eq function q) (Some written) (old q))
+    → (f : ℕ) (l : Link) → IsSomeAnd (new f) (λ v. Contains (items v) l) ↔ (IsSomeAnd (old f) (λ v. Contains (items v) l) ⊎ ((f ≡ function) × (l ≡ link)))
+links_pushed {V} items old new function link held written was more is f l =
+    subst (λ o. IsSomeAnd o P ↔ (IsSomeAnd (old f) P ⊎ ((f ≡ function) × (l ≡ link)))) (sym (is f)) (elim (eqb_tells function f) [
+      | inl (e, same) ↦
+          let here : old f ≡ Some held = ap old (sym same) ∙ was in
+          subst (λ b. IsSomeAnd (cond b (Some written) (old f)) P ↔ (IsSomeAnd (old f) P ⊎ ((f ≡ function) × (l ≡ link)))) (sym e) (
+            λ has. elim (Contains-push_cases (items held) link l (subst (λ xs. Contains xs l) more has)) [
+              | inl before ↦ inl (subst (λ o. IsSomeAnd o P) (sym here) before)
+              | inr last ↦ inr (sym same, sym last)
+            ],
+            λ has. subst (λ xs. Contains xs l) (sym more) (elim has [
+              | inl before ↦ Contains-append_left (items held) (link ∷ []) l (subst (λ o. IsSomeAnd o P) here before)
+              | inr last ↦ subst (Contains (items held ++ link ∷ [])) (sym last.1) (Contains-push (items held) link)
+            ]),
+          )
+      | inr (e, other) ↦
+          subst (λ b. IsSomeAnd (cond b (Some written) (old f)) P ↔ (IsSomeAnd (old f) P ⊎ ((f ≡ function) × (l ≡ link)))) (sym e) (
+            λ has. inl has,
+            λ has. elim has [
+              | inl before ↦ before
+              | inr last ↦ absurd (other (sym last.0))
+            ],
+          )
+    ])
+  where
+    P : V → Type 0
+    P v = Contains (items v) l
 
 abbrev pub linked : Links → ℕ × Link → Type 0
 linked links (f, l) = HasLink links f l

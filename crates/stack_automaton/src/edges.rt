@@ -7,7 +7,6 @@ ghost use Rattle.stack_automaton.specs.Storing.{key_at, IsLinkEdge, IsTopEdge, A
 use crate::links::Links;
 use crate::place::{Edge, Fact, Link, Place};
 use dm_base::OutOfMemory;
-use std::alloc::Global;
 
 // The key of a place, where the new states of the entered functions have these keys.
 pub fn key_of(links: &Links, keys: &[usize], place: Place) -> usize
@@ -47,21 +46,21 @@ fn push_link(
     Ok(())
 }
 
-// The edges of some calls, in order and each once.
+// Makes the list that of the edges of some calls, in order and each once.
 pub fn link_edges(
-    alloc: Global,
+    edges: &mut Vec<Edge>,
     links: &Links,
     keys: &[usize],
     list: &[Link],
-) -> Result<Vec<Edge>, OutOfMemory>
-    ensures { IfOk result (λ edges. (e : Edge') → Contains edges.items e ↔ Has (λ l. IsLinkEdge (functions_of links.now) keys.now l e) list.now) }
+) -> Result<(), OutOfMemory>
+    ensures { OnOk result ((e : Edge') → Contains edges.new.items e ↔ Has (λ l. IsLinkEdge (functions_of links.now) keys.now l e) list.now) }
 {
-    let mut edges = Vec::with_capacity(alloc, list.len())?;
+    edges.clear();
     for link in list {
-        push_link(&mut edges, links, keys, *link)?;
+        push_link(edges, links, keys, *link)?;
     }
-    put_in_order(&mut edges);
-    Ok(edges)
+    put_in_order(edges);
+    Ok(())
 }
 
 fn push_top(
@@ -80,19 +79,19 @@ fn push_top(
     Ok(())
 }
 
-// The edges of the event's own state, in order and each once.
+// Makes the list that of the edges of the event's own state, in order and each once.
 pub fn tops(
-    alloc: Global,
+    edges: &mut Vec<Edge>,
     links: &Links,
     keys: &[usize],
     facts: &[Fact],
-) -> Result<Vec<Edge>, OutOfMemory>
-    ensures { IfOk result (λ edges. AreTops (functions_of links.now) keys.now facts.now edges.items) }
+) -> Result<(), OutOfMemory>
+    ensures { OnOk result (AreTops (functions_of links.now) keys.now facts.now edges.new.items) }
 {
-    let mut edges = Vec::with_capacity(alloc, facts.len())?;
+    edges.clear();
     for fact in facts {
-        push_top(&mut edges, links, keys, *fact)?;
+        push_top(edges, links, keys, *fact)?;
     }
-    put_in_order(&mut edges);
-    Ok(edges)
+    put_in_order(edges);
+    Ok(())
 }

@@ -12,16 +12,18 @@ use crate::follow::add;
 use crate::links::Links;
 use crate::place::{Edge, Fact, Place, State};
 use crate::reading::sys_from;
+use crate::resolve::Resolved;
 use crate::saturate::{Closure, saturate};
 use crate::shared::Shared;
 use crate::store::store;
 use dm_base::{Event, OutOfMemory, fits};
 use flow_model::{Model, SysEdge};
+use indexmap::IndexSet;
 use slab::Slab;
 use std::alloc::Global;
 use std::mem;
 
-// The most functions for whose calls the room is kept.
+// The most facts and the most functions of an event whose room is kept.
 const MOST: usize = 64;
 
 // Adds where the edge of the model leads, if the event is read along it.
@@ -72,42 +74,65 @@ fn read_from(
     Ok(())
 }
 
-// Where the event leads from the edges of a state.
+// Makes the facts those to which the event leads from the edges of a state.
 fn first_facts(
-    alloc: Global,
+    facts: &mut FactSet,
     model: &Model,
     edges: &[Edge],
     event: &Event,
-) -> Result<FactSet, OutOfMemory>
-    ensures { IfOk result (λ facts. (x : Fact') → Contains facts.keys x ↔ Has (λ e. IsReadFrom model.now event.now e x) edges.now) }
+) -> Result<(), OutOfMemory>
+    ensures { OnOk result ((x : Fact') → Contains facts.new.keys x ↔ Has (λ e. IsReadFrom model.now event.now e x) edges.now) }
 {
-    let mut facts = FactSet::new(alloc);
+    facts.clear();
     for edge in edges {
-        read_from(&mut facts, model, *edge, event)?;
+        read_from(facts, model, *edge, event)?;
     }
-    Ok(facts)
+    Ok(())
 }
 
-// Keeps the room of an event's calls for the next event, where it is small.
-fn give_back(room: &mut Links, done: Closure) {
-    let Closure {
-        facts: _facts,
-        links,
-    } = done;
-    if links.len() <= MOST {
-        *room = links;
+// What an event uses. The next event uses it again, where this one was small.
+#[derive(Drop)]
+pub struct Room {
+    pub facts: FactSet,
+    pub links: Links,
+    pub ended: IndexSet<u32>,
+    pub found: Resolved,
+    pub edges: Vec<Edge>,
+}
+
+impl Room {
+    // It holds nothing.
+    pub fn new(alloc: Global) -> Room {
+        Room {
+            facts: FactSet::new(alloc),
+            links: Links::new(alloc),
+            ended: IndexSet::new(alloc),
+            found: Resolved::new(alloc),
+            edges: Vec::new(alloc),
+        }
+    }
+
+    // Keeps what the event used for the next one.
+    fn take_back(&mut self, alloc: Global, done: Closure) {
+        let Closure { facts, links } = done;
+        if facts.len() > MOST || links.len() > MOST {
+            *self = Room::new(alloc);
+            return;
+        }
+        self.facts = facts;
+        self.links = links;
     }
 }
 
-// Stores the states of the event that begins with these facts, and gives the key of its own. The room of the calls of an earlier event is
-// used again.
+// Stores the states of the event that begins with these facts, and gives the key of its own. The room of
+// an earlier event is used again.
 pub fn settle(
     alloc: Global,
     states: &mut Slab<State>,
     shared: &mut Shared,
     model: &Model,
     begin: FactSet,
-    room: &mut Links,
+    room: &mut Room,
 ) -> Result<usize, OutOfMemory>
     requires held { AreHeld begin.keys }
     requires there { (b q : ℕ) → IsFirst begin.keys b q → IsThere (get states.old) q }
@@ -116,30 +141,38 @@ pub fn settle(
     ensures stored { IfOk result (λ key. IsStored model.now (get states.old) (get states.new) begin.keys key) }
     ensures there { IfOk result (λ key. IsThere (get states.new) key) }
 {
-    let links = mem::replace(room, Links::new(alloc));
-    let done = saturate(alloc, model, states, begin, links)?;
-    let key = store(alloc, states, shared, model, &done)?;
-    give_back(room, done);
+    let links = mem::replace(&mut room.links, Links::new(alloc));
+    let done = saturate(model, states, begin, links, &mut room.ended)?;
+    let key = store(
+        alloc,
+        states,
+        shared,
+        model,
+        &done,
+        &mut room.found,
+        &mut room.edges,
+    )?;
+    room.take_back(alloc, done);
     Ok(key)
 }
 
-// The facts with which the event begins at the key.
+// Makes the facts those with which the event begins at the key.
 pub fn begin_at(
-    alloc: Global,
+    facts: &mut FactSet,
     states: &Slab<State>,
     model: &Model,
     key: usize,
     event: &Event,
-) -> Result<FactSet, OutOfMemory>
+) -> Result<(), OutOfMemory>
     requires { IsThere (get states.now) key }
-    ensures leads { IfOk result (λ facts. LeadsBy model.now (get states.now) key event.now facts.keys) }
-    ensures held { IfOk result (λ facts. AreHeld facts.keys) }
+    ensures leads { OnOk result (LeadsBy model.now (get states.now) key event.now facts.new.keys) }
+    ensures held { OnOk result (AreHeld facts.new.keys) }
 {
     match states.get(key) {
         Some(state) => {
-            let facts = first_facts(alloc, model, state.edges(), event)?;
-            Ok(facts)
+            first_facts(facts, model, state.edges(), event)?;
         }
-        None => Ok(FactSet::new(alloc)),
+        None => facts.clear(),
     }
+    Ok(())
 }

@@ -96,6 +96,19 @@ impl FactSet {
         }
     }
 
+    // Takes all facts away.
+    pub fn clear(&mut self)
+        ensures { self.new.keys ≡ [] }
+    {
+        self.list.clear();
+        self.index.clear();
+    }
+
+    // How many facts there are.
+    pub fn len(&self) -> usize {
+        self.list.len()
+    }
+
     // The facts.
     pub fn as_slice(&self) -> &[Fact]
         ensures { result.now ≡ self.now.keys }

@@ -1,4 +1,4 @@
-ghost use Rattle.std.specs.Prelude.{◌≡◌, ◌⊎◌, ◌↔◌, ℕ, Contains, OnOk, length, slice_get, nat_eq};
+ghost use Rattle.std.specs.Prelude.{◌≡◌, ◌⊎◌, ◌↔◌, [], ◌∷◌, ◌++◌, ℕ, Contains, OnOk, length, slice_get, nat_eq};
 ghost use Rattle.std.specs.List.{position_or_len};
 ghost use Rattle.stack_automaton.specs.declared.place.Link.{Link as Linked};
 ghost use Rattle.stack_automaton.specs.Links.{HasLink, AddsLinks, functions_of};
@@ -6,14 +6,26 @@ ghost use Rattle.stack_automaton.specs.Links.{HasLink, AddsLinks, functions_of};
 use crate::place::Link;
 use dm_base::OutOfMemory;
 use indexmap::IndexMap;
+use smallvec::SmallVec;
 use std::alloc::Global;
+
+// So many calls of a function need no memory of their own.
+const INLINE: usize = 1;
 
 // The functions that are entered at an event, in the order in which they were found, and for each the
 // calls that enter it.
 #[derive(Drop)]
 pub struct Links {
     alloc: Global,
-    lists: IndexMap<u32, Vec<Link>>,
+    lists: IndexMap<u32, SmallVec<Link, INLINE>>,
+}
+
+// Puts a call behind the others.
+fn put(links: &mut SmallVec<Link, INLINE>, link: Link) -> Result<(), OutOfMemory>
+    ensures { OnOk result (links.new.items ≡ links.old.items ++ link ∷ []) }
+{
+    links.push(link)?;
+    Ok(())
 }
 
 impl Links {
@@ -39,10 +51,10 @@ impl Links {
         ensures { OnOk result (AddsLinks self.old self.new (λ f l. (f ≡ function) × (l ≡ link))) }
     {
         if let Some(links) = self.lists.get_mut(&function) {
-            links.push(link)?;
+            put(links, link)?;
             return Ok(());
         }
-        let mut links = Vec::new(self.alloc);
+        let mut links = SmallVec::new(self.alloc);
         links.push(link)?;
         self.lists.insert(function, links)?;
         Ok(())
@@ -80,7 +92,7 @@ impl Links {
         ensures { (l : Linked) → Contains result.now l ↔ HasLink self.now function l }
     {
         match self.lists.get(&function) {
-            Some(links) => links,
+            Some(links) => links.as_slice(),
             None => &[],
         }
     }

@@ -1,10 +1,15 @@
-ghost use Rattle.std.specs.Prelude.{◌≡◌, []};
+ghost use Rattle.std.specs.Prelude.{◌≡◌, [], IfOk};
 
+use dm_base::OutOfMemory;
+use smallvec::SmallVec;
 use std::alloc::Global;
+
+// So many edges of a state need no memory of their own.
+const INLINE: usize = 2;
 
 /// An edge of a state of the pool: its label, which is a node or a site, and the key of the state to
 /// which it leads.
-#[derive(Clone, Copy, Debug, PartialEq, Eq, PartialOrd, Ord, Hash)]
+#[derive(Clone, Copy, Debug, Default, PartialEq, Eq, PartialOrd, Ord, Hash)]
 pub struct Edge {
     pub label: u32,
     pub to: usize,
@@ -18,6 +23,12 @@ pub enum Place {
     Entered(u32),
 }
 
+impl Default for Place {
+    fn default() -> Self {
+        Place::Held(0)
+    }
+}
+
 // A node that is reached at an event, and what stands below it.
 #[derive(Clone, Copy, Debug, PartialEq, Eq, Hash)]
 pub struct Fact {
@@ -26,7 +37,7 @@ pub struct Fact {
 }
 
 // A call that is made at an event: its site, the node to which it returns, and what stands below.
-#[derive(Clone, Copy, Debug, PartialEq, Eq)]
+#[derive(Clone, Copy, Debug, Default, PartialEq, Eq)]
 pub struct Link {
     pub site: u32,
     pub to: u32,
@@ -36,7 +47,7 @@ pub struct Link {
 // A state of the pool, seen as its edges.
 #[derive(Drop)]
 pub struct State {
-    edges: Vec<Edge>,
+    edges: SmallVec<Edge, INLINE>,
 }
 
 impl std::marker::Model for State {
@@ -54,15 +65,17 @@ impl State {
         ensures { result ≡ [] }
     {
         State {
-            edges: Vec::new(alloc),
+            edges: SmallVec::new(alloc),
         }
     }
 
     // The state with these edges.
-    pub fn new(edges: Vec<Edge>) -> State
-        ensures { result ≡ edges.items }
+    pub fn of(alloc: Global, edges: &[Edge]) -> Result<State, OutOfMemory>
+        ensures { IfOk result (λ state. state ≡ edges.now) }
     {
-        State { edges }
+        Ok(State {
+            edges: SmallVec::from_slice(alloc, edges)?,
+        })
     }
 
     // The edges of the state.

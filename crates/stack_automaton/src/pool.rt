@@ -9,10 +9,9 @@ ghost use Rattle.stack_automaton.specs.Seen.{Memory, edges_at};
 ghost use Rattle.stack_automaton.specs.Standing.{IsPool, IsPoolOf, IsKeyOf, IsLive};
 ghost use Rattle.stack_automaton.specs.Storing.{Grows, IsStored};
 
-use crate::event::{begin_at, settle};
+use crate::event::{Room, begin_at, settle};
 use crate::fact_set::FactSet;
 use crate::key_set::KeySet;
-use crate::links::Links;
 use crate::memo::{Memo, copied};
 use crate::notes::{note_from, sweep_states};
 use crate::place::{Edge, Fact, State};
@@ -21,6 +20,7 @@ use dm_base::{Event, OutOfMemory};
 use flow_model::Model;
 use slab::Slab;
 use std::alloc::Global;
+use std::mem;
 
 // Of so many events one after another that aren't remembered ..
 const ROUND: u32 = 16_384;
@@ -40,8 +40,8 @@ pub struct Pool {
     last: usize,
     notes: KeySet,
     memo: Memo,
-    // Room for the calls of the next event.
-    room: Links,
+    // What the next event uses.
+    room: Room,
     // How many of the last events, one after another, weren't remembered.
     misses: u32,
 }
@@ -78,7 +78,7 @@ impl Pool {
             last,
             notes,
             memo,
-            room: Links::new(alloc),
+            room: Room::new(alloc),
             misses: 0,
         })
     }
@@ -138,12 +138,14 @@ impl Pool {
     }
 
     // The facts with which the event begins at the key.
-    fn begin_at(&self, model: &Model, key: usize, event: &Event) -> Result<FactSet, OutOfMemory>
-        requires { IsThere (edges_at self.now) key }
-        ensures leads { IfOk result (λ facts. LeadsBy model.now (edges_at self.now) key event.now facts.keys) }
+    fn begin_at(&mut self, model: &Model, key: usize, event: &Event) -> Result<FactSet, OutOfMemory>
+        requires { IsThere (edges_at self.old) key }
+        ensures same { self.new ≡ self.old }
+        ensures leads { IfOk result (λ facts. LeadsBy model.now (edges_at self.old) key event.now facts.keys) }
         ensures held { IfOk result (λ facts. AreHeld facts.keys) }
     {
-        let facts = begin_at(self.alloc, &self.states, model, key, event)?;
+        let mut facts = mem::replace(&mut self.room.facts, FactSet::new(self.alloc));
+        begin_at(&mut facts, &self.states, model, key, event)?;
         Ok(facts)
     }
 

@@ -12,7 +12,7 @@ use crate::edges::link_edges;
 use crate::key_set::KeySet;
 use crate::links::Links;
 use crate::order::order;
-use crate::place::{Link, Place, State};
+use crate::place::{Edge, Link, Place, State};
 use crate::shared::{Shared, share};
 use dm_base::OutOfMemory;
 use slab::Slab;
@@ -24,6 +24,16 @@ use std::alloc::Global;
 pub struct Resolved {
     pub keys: Vec<usize>,
     pub known: KeySet,
+}
+
+impl Resolved {
+    // No key is known.
+    pub fn new(alloc: Global) -> Resolved {
+        Resolved {
+            keys: Vec::new(alloc),
+            known: KeySet::new(alloc),
+        }
+    }
 }
 
 // Whether the key at the place is known.
@@ -90,6 +100,7 @@ fn resolve_one(
     alloc: Global,
     states: &mut Slab<State>,
     shared: &mut Shared,
+    edges: &mut Vec<Edge>,
     keys: &mut Vec<usize>,
     known: &mut KeySet,
     links: &Links,
@@ -109,8 +120,8 @@ fn resolve_one(
     if !are_known(links, known, links.of(function)) {
         return Ok(());
     }
-    let edges = link_edges(alloc, links, keys, links.of(function))?;
-    let key = share(states, shared, edges)?;
+    link_edges(edges, links, keys, links.of(function))?;
+    let key = share(alloc, states, shared, edges)?;
     note_key(keys, known, place, key)?;
     Ok(())
 }
@@ -121,6 +132,7 @@ fn resolve_as_found(
     alloc: Global,
     states: &mut Slab<State>,
     shared: &mut Shared,
+    edges: &mut Vec<Edge>,
     keys: &mut Vec<usize>,
     known: &mut KeySet,
     links: &Links,
@@ -131,7 +143,7 @@ fn resolve_as_found(
     ensures resolved { OnOk result (AreResolved (get states.new) keys.new.items known.new.keys links.now) }
 {
     for place in 0..links.len() {
-        resolve_one(alloc, states, shared, keys, known, links, place)?;
+        resolve_one(alloc, states, shared, edges, keys, known, links, place)?;
     }
     Ok(())
 }
@@ -141,6 +153,7 @@ fn resolve_in_order(
     alloc: Global,
     states: &mut Slab<State>,
     shared: &mut Shared,
+    edges: &mut Vec<Edge>,
     keys: &mut Vec<usize>,
     known: &mut KeySet,
     links: &Links,
@@ -152,7 +165,7 @@ fn resolve_in_order(
     ensures resolved { OnOk result (AreResolved (get states.new) keys.new.items known.new.keys links.now) }
 {
     for place in order {
-        resolve_one(alloc, states, shared, keys, known, links, *place)?;
+        resolve_one(alloc, states, shared, edges, keys, known, links, *place)?;
     }
     Ok(())
 }
@@ -163,19 +176,23 @@ pub fn resolve(
     alloc: Global,
     states: &mut Slab<State>,
     shared: &mut Shared,
+    edges: &mut Vec<Edge>,
+    found: &mut Resolved,
     links: &Links,
-) -> Result<Resolved, OutOfMemory>
+) -> Result<(), OutOfMemory>
     requires held { (f q : ℕ) (l : Linked) → HasLink links.now f l → l.place ≡ Held q → IsThere (get states.old) q }
     ensures grows { Grows (get states.old) (get states.new) }
-    ensures resolved { IfOk result (λ r. AreResolved (get states.new) r.keys.items r.known.keys links.now) }
+    ensures resolved { OnOk result (AreResolved (get states.new) found.new.keys.items found.new.known.keys links.now) }
 {
-    let mut keys = vec![in alloc; 0; links.len()]?;
-    let mut known = KeySet::new(alloc);
-    resolve_as_found(alloc, states, shared, &mut keys, &mut known, links)?;
+    let Resolved { keys, known } = found;
+    keys.clear();
+    keys.resize(links.len(), 0)?;
+    known.clear();
+    resolve_as_found(alloc, states, shared, edges, keys, known, links)?;
     if known.len() == links.len() {
-        return Ok(Resolved { keys, known });
+        return Ok(());
     }
     let order = order(alloc, links)?;
-    resolve_in_order(alloc, states, shared, &mut keys, &mut known, links, &order)?;
-    Ok(Resolved { keys, known })
+    resolve_in_order(alloc, states, shared, edges, keys, known, links, &order)?;
+    Ok(())
 }

@@ -10,7 +10,6 @@ use dm_base::OutOfMemory;
 use flow_model::Model;
 use indexmap::IndexSet;
 use slab::Slab;
-use std::alloc::Global;
 
 // All facts of an event, and the calls that are made at it.
 #[derive(Drop)]
@@ -19,14 +18,14 @@ pub struct Closure {
     pub links: Links,
 }
 
-// All facts of the event that begins with these. Each fact is followed once. The calls are put into the room of those of an earlier
-// event.
+// All facts of the event that begins with these. Each fact is followed once. The calls and the functions
+// that end are put into the room of those of an earlier event.
 pub fn saturate(
-    alloc: Global,
     model: &Model,
     states: &Slab<State>,
     begin: FactSet,
     room: Links,
+    ended: &mut IndexSet<u32>,
 ) -> Result<Closure, OutOfMemory>
     requires { AreHeld begin.keys }
     ensures { IfOk result (λ done. IsClosure model.now (get states.now) begin.keys done) }
@@ -34,12 +33,12 @@ pub fn saturate(
     let mut facts = begin;
     let mut links = room;
     links.clear();
-    let mut ended = IndexSet::new(alloc);
+    ended.clear();
     // It tells that the model is valid.
     let _nodes = model.nodes();
     let mut i = 0;
     while let Some(&fact) = facts.as_slice().get(i) {
-        follow_fact(&mut facts, &mut links, &mut ended, model, states, fact)?;
+        follow_fact(&mut facts, &mut links, ended, model, states, fact)?;
         i += 1;
     }
     Ok(Closure { facts, links })

@@ -52,7 +52,7 @@ impl Shared {
         }
     }
 
-    // The key was told.
+    // The key behind this one is tried first next time.
     pub fn go_on_from(&mut self, key: usize) {
         self.next = key.wrapping_add(1);
     }
@@ -107,21 +107,20 @@ pub fn insert(states: &mut Slab<State>, state: State) -> Result<usize, OutOfMemo
 
 // The key of the state with these edges: that of an equal state, where one is known, or else a new key.
 pub fn share(
+    alloc: Global,
     states: &mut Slab<State>,
     shared: &mut Shared,
-    edges: Vec<Edge>,
+    edges: &[Edge],
 ) -> Result<usize, OutOfMemory>
-    ensures grows { ((e : Edge') → Contains edges.items e → IsThere (get states.old) e.to) → Grows (get states.old) (get states.new) }
-    ensures found { IfOk result (λ key. get states.new key ≡ Some edges.items) }
+    ensures grows { ((e : Edge') → Contains edges.now e → IsThere (get states.old) e.to) → Grows (get states.old) (get states.new) }
+    ensures found { IfOk result (λ key. get states.new key ≡ Some edges.now) }
 {
-    let slice: &[Edge] = &edges;
-    if let Some(key) = shared.find(states, slice) {
+    if let Some(key) = shared.find(states, edges) {
         shared.go_on_from(key);
         return Ok(key);
     }
-    let digest = digest(slice);
-    let key = insert(states, State::new(edges))?;
-    shared.note(digest, key)?;
+    let key = insert(states, State::of(alloc, edges)?)?;
+    shared.note(digest(edges), key)?;
     shared.go_on_from(key);
     Ok(key)
 }

@@ -10,7 +10,7 @@ ghost use Rattle.stack_automaton.specs.Storing.{IsClosed, Grows, IsPut, key_at, 
 use crate::edges::{link_edges, tops};
 use crate::key_set::KeySet;
 use crate::links::Links;
-use crate::place::State;
+use crate::place::{Edge, State};
 use crate::resolve::{Resolved, are_all_known, is_among, resolve};
 use crate::saturate::Closure;
 use crate::shared::{Shared, insert, share};
@@ -73,6 +73,7 @@ fn plan(
 fn fill_one(
     alloc: Global,
     states: &mut Slab<State>,
+    edges: &mut Vec<Edge>,
     keys: &[usize],
     known: &KeySet,
     links: &Links,
@@ -91,8 +92,8 @@ fn fill_one(
         return Ok(());
     }
     if let Some(function) = links.function(place) {
-        let edges = link_edges(alloc, links, keys, links.of(function))?;
-        put(states, keys[place], State::new(edges));
+        link_edges(edges, links, keys, links.of(function))?;
+        put(states, keys[place], State::of(alloc, edges)?);
     }
     Ok(())
 }
@@ -101,6 +102,7 @@ fn fill_one(
 fn fill(
     alloc: Global,
     states: &mut Slab<State>,
+    edges: &mut Vec<Edge>,
     keys: &[usize],
     known: &KeySet,
     links: &Links,
@@ -113,7 +115,7 @@ fn fill(
     ensures filled { OnOk result (Filled (get states.old) (get states.new) keys.now known.now.keys links.now (length keys.now)) }
 {
     for place in 0..keys.len() {
-        fill_one(alloc, states, keys, known, links, place)?;
+        fill_one(alloc, states, edges, keys, known, links, place)?;
     }
     Ok(())
 }
@@ -124,6 +126,7 @@ fn store_others(
     states: &mut Slab<State>,
     model: &Model,
     done: &Closure,
+    edges: &mut Vec<Edge>,
     found: &[usize],
     known: &KeySet,
 ) -> Result<Vec<usize>, OutOfMemory>
@@ -135,7 +138,7 @@ fn store_others(
     let links = &done.links;
     let vec = plan(alloc, states, found, known)?;
     let keys: &[usize] = &vec;
-    fill(alloc, states, keys, known, links)?;
+    fill(alloc, states, edges, keys, known, links)?;
     Ok(vec)
 }
 
@@ -147,18 +150,21 @@ fn store_entered(
     shared: &mut Shared,
     model: &Model,
     done: &Closure,
-) -> Result<Vec<usize>, OutOfMemory>
+    found: &mut Resolved,
+    edges: &mut Vec<Edge>,
+) -> Result<(), OutOfMemory>
     requires event { (begin : List Fact') × IsEvent model.now (get states.old) begin done.now }
     requires closed { IsClosed (get states.old) }
     ensures grows { Grows (get states.old) (get states.new) }
-    ensures entered { IfOk result (λ keys. AreStored (get states.new) done.now keys.items) }
+    ensures entered { OnOk result (AreStored (get states.new) done.now found.new.keys.items) }
 {
-    let Resolved { keys: found, known } = resolve(alloc, states, shared, &done.links)?;
-    if are_all_known(&known, found.len()) {
-        return Ok(found);
+    resolve(alloc, states, shared, edges, found, &done.links)?;
+    let Resolved { keys, known } = found;
+    if are_all_known(known, keys.len()) {
+        return Ok(());
     }
-    let keys = store_others(alloc, states, model, done, &found, &known)?;
-    Ok(keys)
+    *keys = store_others(alloc, states, model, done, edges, keys, known)?;
+    Ok(())
 }
 
 // Stores the states of an event, and gives the key of its own.
@@ -168,6 +174,8 @@ pub fn store(
     shared: &mut Shared,
     model: &Model,
     done: &Closure,
+    found: &mut Resolved,
+    edges: &mut Vec<Edge>,
 ) -> Result<usize, OutOfMemory>
     requires event { (begin : List Fact') × IsEvent model.now (get states.old) begin done.now }
     requires closed { IsClosed (get states.old) }
@@ -175,8 +183,8 @@ pub fn store(
     ensures stored { IfOk result (λ key. (begin : List Fact') → IsEvent model.now (get states.old) begin done.now → IsStored model.now (get states.old) (get states.new) begin key) }
     ensures there { IfOk result (λ key. IsThere (get states.new) key) }
 {
-    let keys = store_entered(alloc, states, shared, model, done)?;
-    let edges = tops(alloc, &done.links, &keys, done.facts.as_slice())?;
-    let key = share(states, shared, edges)?;
+    store_entered(alloc, states, shared, model, done, found, edges)?;
+    tops(edges, &done.links, &found.keys, done.facts.as_slice())?;
+    let key = share(alloc, states, shared, edges)?;
     Ok(key)
 }

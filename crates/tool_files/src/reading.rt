@@ -13,14 +13,14 @@ use tool_frame::Stop;
 use trace_file::TraceError;
 
 // The most bytes that one read is asked for.
-const PIECE: usize = 16_384;
+const PIECE: usize = 4_096;
 
 // One byte more than a trace, or interleaved traces, may have.
 const MOST: usize = 67_108_865;
 
 // Room for one piece.
 fn room(alloc: Global) -> Result<Vec<u8>, OutOfMemory>
-    ensures { IfOk result (λ room. vec_len room ≡ 16384) }
+    ensures { IfOk result (λ room. vec_len room ≡ 4096) }
 {
     Ok(vec![in alloc; 0u8; PIECE]?)
 }

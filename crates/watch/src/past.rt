@@ -28,8 +28,9 @@ pub struct Refusal {
 #[derive(Drop)]
 pub struct Past {
     pub kept: u64,
-    pub refusal: Option<Refusal>,
     pub window: HeapCircularBuffer<Event>,
+    // It stands last, since a record of a process that isn't refused touches no more of it than its first word.
+    pub refusal: Option<Refusal>,
 }
 
 impl Past {

@@ -3,10 +3,10 @@ use Rattle.slab.specs.Slab.{get}
 use Rattle.stack_automaton.proofs.StandingLemmas.{leads_by, are_held}
 use Rattle.stack_automaton.proofs.event.begin_at.Goals as goal
 
-pub returns-in_ok-facts-in-Some-clause-leads : goal.returns-in_ok-facts-in-Some-clause-leads
-returns-in_ok-facts-in-Some-clause-leads c =
+pub returns-in_ok-first_facts-in-Some-clause-leads : goal.returns-in_ok-first_facts-in-Some-clause-leads
+returns-in_ok-first_facts-in-Some-clause-leads c =
     let at : get c.args.states.now c.args.key ≡ Some c.edges.result.now = search rules in
-    leads_by c.args.model.now (get c.args.states.now) c.args.key c.args.event.now c.in_ok-facts-in-Some.facts.keys c.edges.result.now at c.in_ok-facts-in-Some.ensures
+    leads_by c.args.model.now (get c.args.states.now) c.args.key c.args.event.now c.first_facts.new.facts.keys c.edges.result.now at c.in_ok-first_facts-in-Some.ensures
 
-pub returns-in_ok-facts-in-Some-clause-held : goal.returns-in_ok-facts-in-Some-clause-held
-returns-in_ok-facts-in-Some-clause-held c = are_held c.args.model.now c.args.event.now c.in_ok-facts-in-Some.facts.keys c.edges.result.now c.in_ok-facts-in-Some.ensures
+pub returns-in_ok-first_facts-in-Some-clause-held : goal.returns-in_ok-first_facts-in-Some-clause-held
+returns-in_ok-first_facts-in-Some-clause-held c = are_held c.args.model.now c.args.event.now c.first_facts.new.facts.keys c.edges.result.now c.in_ok-first_facts-in-Some.ensures

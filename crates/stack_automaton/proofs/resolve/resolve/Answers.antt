@@ -7,8 +7,8 @@ use Rattle.stack_automaton.proofs.resolve.resolve.Goals as goal
 
 pub resolve_as_found-requires-clause-resolved : goal.resolve_as_found-requires-clause-resolved
 resolve_as_found-requires-clause-resolved c =
-    let long : length c.in_ok-keys.keys.items ≡ length (functions_of c.args.links.now) = omega (arith, c.in_ok-keys.ensures.len, c.len.ensures, c.in_ok-keys.keys.ok) in
-    resolved_none (get c.args.states.now) c.in_ok-keys.keys.items c.new-known.result.keys c.args.links.now long c.new-known.ensures
+    let long : length c.resize.new.self.items ≡ length (functions_of c.args.links.now) = omega (arith, c.in_ok-resize.ensures.len, c.len.ensures, c.resize.new.self.ok) in
+    resolved_none (get c.args.states.now) c.resize.new.self.items c.clear-2.new.self.keys c.args.links.now long c.clear-2.ensures
 
 pub resolve_in_order-requires-clause-held : goal.resolve_in_order-requires-clause-held
 resolve_in_order-requires-clause-held c = λ f q l has at.

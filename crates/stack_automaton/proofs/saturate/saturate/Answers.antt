@@ -1,10 +1,10 @@
-use Rattle.std.proofs.Common.{◌≡◌, ◌<◌, ◌≤◌, length, get_or, subst}
+use Rattle.std.proofs.Common.{◌≡◌, ap, ◌<◌, ◌≤◌, length, get_or, subst}
 use Rattle.slab.specs.Slab.{get}
 use Rattle.stack_automaton.proofs.SaturationLemmas.{followed_none, followed_more, followed_facts, followed_links}
 use Rattle.stack_automaton.proofs.saturate.saturate.Goals as goal
 
 pub loop-fact-init : goal.loop-fact-init
-loop-fact-init c = followed_none c.args.model.now (get c.args.states.now) c.args.begin.keys c.clear.new.self c.new-ended.result.keys c.requires c.clear.ensures c.new-ended.ensures.len
+loop-fact-init c = followed_none c.args.model.now (get c.args.states.now) c.args.begin.keys c.clear.new.self c.clear-2.new.self.keys c.requires c.clear.ensures (ap length c.clear-2.ensures.empty)
 
 pub loop-fact-preserved : goal.loop-fact-preserved
 loop-fact-preserved c =

@@ -5,20 +5,20 @@ use Rattle.stack_automaton.proofs.GrowingLemmas.{put_closed, links_there, list_e
 use Rattle.stack_automaton.proofs.store.fill_one.Goals as goal
 use Rattle.stack_automaton.proofs.store.fill_one.Goals.{After-put}
 
-edges_at : (c : After-put) → AreLinkEdges c.args.links.now c.args.keys.now c.in-Some.function c.in_ok-edges.edges.items
-edges_at c = list_edges c.args.links.now c.args.keys.now c.in-Some.function c.of.result.now c.in_ok-edges.edges.items c.of.ensures c.in_ok-edges.ensures
+edges_at : (c : After-put) → AreLinkEdges c.args.links.now c.args.keys.now c.in-Some.function c.link_edges.new.edges.items
+edges_at c = list_edges c.args.links.now c.args.keys.now c.in-Some.function c.of.result.now c.link_edges.new.edges.items c.of.ensures c.in_ok-link_edges.ensures
 
-pub returns-in_ok-edges-clause-filled : goal.returns-in_ok-edges-clause-filled
-returns-in_ok-edges-clause-filled c = λ f at.
+pub returns-in_ok-of-clause-filled : goal.returns-in_ok-of-clause-filled
+returns-in_ok-of-clause-filled c = λ f at.
     let both : Some c.in-Some.function ≡ Some f = c.in-Some.ensures ∙ at in
     let same : c.in-Some.function ≡ f = cc in (
-      c.in_ok-edges.edges.items,
-      subst (λ es. get c.put.new.states (get_or c.args.keys.now c.args.place 0) ≡ Some es) c.new.ensures c.put.ensures.changed,
-      subst (λ h. AreLinkEdges c.args.links.now c.args.keys.now h c.in_ok-edges.edges.items) same (edges_at c),
+      c.link_edges.new.edges.items,
+      subst (λ es. get c.put.new.states (get_or c.args.keys.now c.args.place 0) ≡ Some es) (c.in_ok-of.ensures ∙ c.deref.ensures.value) c.put.ensures.changed,
+      subst (λ h. AreLinkEdges c.args.links.now c.args.keys.now h c.link_edges.new.edges.items) same (edges_at c),
     )
 
-pub returns-in_ok-edges-clause-closed : goal.returns-in_ok-edges-clause-closed
-returns-in_ok-edges-clause-closed c =
-    put_closed (get c.args.states.now) (get c.put.new.states) (get_or c.args.keys.now c.args.place 0) c.in_ok-edges.edges.items
-    (subst (λ es. IsPut (get c.args.states.now) (get c.put.new.states) (get_or c.args.keys.now c.args.place 0) (Some es)) c.new.ensures c.put.ensures)
-    (links_there (get c.args.states.now) c.args.keys.now c.args.links.now c.in-Some.function c.in_ok-edges.edges.items (edges_at c) (c.requires.targets c.in-Some.function))
+pub returns-in_ok-of-clause-closed : goal.returns-in_ok-of-clause-closed
+returns-in_ok-of-clause-closed c =
+    put_closed (get c.args.states.now) (get c.put.new.states) (get_or c.args.keys.now c.args.place 0) c.link_edges.new.edges.items
+    (subst (λ es. IsPut (get c.args.states.now) (get c.put.new.states) (get_or c.args.keys.now c.args.place 0) (Some es)) (c.in_ok-of.ensures ∙ c.deref.ensures.value) c.put.ensures)
+    (links_there (get c.args.states.now) c.args.keys.now c.args.links.now c.in-Some.function c.link_edges.new.edges.items (edges_at c) (c.requires.targets c.in-Some.function))

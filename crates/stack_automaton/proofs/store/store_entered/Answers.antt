@@ -16,4 +16,4 @@ returns-clause-grows c = grows_trans (get c.args.states.now) (get c.resolve.new.
 pub returns-then-are_all_known-clause-entered : goal.returns-then-are_all_known-clause-entered
 returns-then-are_all_known-clause-entered c =
     let (begin, event) = c.requires.event in
-    all_stored c.args.model.now c.args.done.now (get c.resolve.new.states) c.in_ok-found.field-0.keys.items c.in_ok-found.field-0.known.keys c.in_ok-found.ensures.resolved (search rules) (get c.args.states.now) begin event c.requires.closed c.resolve.ensures.grows
+    all_stored c.args.model.now c.args.done.now (get c.resolve.new.states) c.resolve.new.found.keys.items c.resolve.new.found.known.keys c.in_ok-resolve.ensures.resolved (search rules) (get c.args.states.now) begin event c.requires.closed c.resolve.ensures.grows

@@ -7,7 +7,7 @@ use Rattle.tool_files.proofs.reading.read_to_end.Given as goal
 abbrev pub invariant-loop-given : goal.invariant-loop-given
 invariant-loop-given g l = record {
   given : l.given ≤ 67108865;
-  room : vec_len l.room ≡ 16384;
+  room : vec_len l.room ≡ 4096;
   same : g.S.Store.files l.store ≡ g.S.Store.files l.fn.store;
   faults : g.S.Store.faults l.fn.store ≤ g.S.Store.faults l.store;
   read : (k : ℕ) → g.F.Follower.followed l.fn.follower l.fn.model k []

@@ -8,4 +8,4 @@ pub begin_at-requires : goal.begin_at-requires
 begin_at-requires c = one_seen c.args.self.now c.self.inside.states c.self.inside.last c.self.inside.notes.keys (values c.self.inside.memo.entries) c.self.view_is (λ s. IsThere s c.args.key) c.requires
 
 pub returns-clause-leads : goal.returns-clause-leads
-returns-clause-leads c = seen_one c.args.self.now c.self.inside.states c.self.inside.last c.self.inside.notes.keys (values c.self.inside.memo.entries) c.self.view_is (λ s. LeadsBy c.args.model.now s c.args.key c.args.event.now c.in_ok-facts.facts.keys) c.in_ok-facts.ensures.leads
+returns-clause-leads c = seen_one c.args.self.now c.self.inside.states c.self.inside.last c.self.inside.notes.keys (values c.self.inside.memo.entries) c.self.view_is (λ s. LeadsBy c.args.model.now s c.args.key c.args.event.now c.begin_at.new.facts.keys) c.in_ok-begin_at.ensures.leads
