@@ -32,20 +32,14 @@ module _ (env : Env) (w : More) where
   temporary_named at x k t h = ap (bound R at x) h.1 ∙ ap (meant R at x) h.2
 
   temporary_value : (at k : ℕ) (t : CType) → IsScalar t → value_at R at (fine (local_given t t k)) ≡ fine (typed_value t (typed.load t (typed.variable t false k)) not_constant)
-  temporary_value at k void h = absurd h
   temporary_value at k (integer i) h = refl
   temporary_value at k (pointer t) h = refl
-  temporary_value at k (array t n) h = absurd h
-  temporary_value at k (struct s) h = absurd h
-  temporary_value at k (function t ts) h = absurd h
+  temporary_value at k t h = absurd h
 
   temporary_place : (at k : ℕ) (t : CType) → IsScalar t → place_at at (fine (local_given t t k)) ≡ fine (local_given t t k)
-  temporary_place at k void h = absurd h
   temporary_place at k (integer i) h = refl
   temporary_place at k (pointer t) h = refl
-  temporary_place at k (array t n) h = absurd h
-  temporary_place at k (struct s) h = absurd h
-  temporary_place at k (function t ts) h = absurd h
+  temporary_place at k t h = absurd h
 
 pub temporaries_are_read : TemporariesAreRead
 temporaries_are_read env w b at x k t s h = ap (value_at (instrumented_scope env w) at) (temporary_named env w at x k t h) ∙ temporary_value env w at k t s

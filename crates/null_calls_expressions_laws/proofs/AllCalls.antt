@@ -29,7 +29,8 @@ use Rattle.null_calls_expressions_laws.specs.Tabled.{called_by, HasTypes, AreTab
 use Rattle.null_calls_expressions_laws.specs.Follow.{types_of, UnusedFollows, ExprFollows, UnusedExprFollows, Goes, AllGo}
 use Rattle.null_calls_expressions_laws.proofs.Expressions.{expressions_go}
 use Rattle.null_calls_expressions_laws.proofs.Leaves.{Holds}
-use Rattle.null_calls_expressions_laws.proofs.Solid.{IsSolid, SolidValue}
+use Rattle.null_calls_expressions_laws.proofs.Solid.{SolidValue}
+use Rattle.null_calls_expressions_laws.proofs.Given.{IsSolid}
 use Rattle.null_calls_expressions_laws.proofs.Forms.{unused_same}
 use Rattle.null_calls_expressions_laws.specs.MarkedCalls.{NullCallsStand, AllCallsGo, AllExpressionsGo}
 use Rattle.null_calls_expressions_laws.proofs.BehindArguments.{result_value}
@@ -56,31 +57,18 @@ module _ (at : ℕ) (e : typed.Expr) (t : CType) (ps : CTypes) where
   pointed_to = record { designator = through e; returns = t; parameters = ps }
 
   by_type : (g : TypedExpression) (u : CType) → g.ctype ≡ u → callee_through at (tree_of g) u ≡ fine pointed_to → IsPointer (fine g) e t ps
-  by_type g void q h = absurd (cc)
-  by_type g (integer i) q h = absurd (cc)
-  by_type g (pointer void) q h = absurd (cc)
-  by_type g (pointer (integer i)) q h = absurd (cc)
-  by_type g (pointer (pointer u)) q h = absurd (cc)
-  by_type g (pointer (array u n)) q h = absurd (cc)
-  by_type g (pointer (struct s)) q h = absurd (cc)
   by_type g (pointer (function u us)) q h =
       let c = same_callee (record { designator = through (tree_of g); returns = u; parameters = us }) pointed_to h in
       record { given = g; value = refl; tree = same_through (tree_of g) e (ap (λ f. f.designator) c); pointed = q ∙ ap (λ f. pointer (function f.returns f.parameters)) c }
-  by_type g (array u n) q h = absurd (cc)
-  by_type g (struct s) q h = absurd (cc)
-  by_type g (function u us) q h = absurd (cc)
+  by_type g u q h = absurd (cc)
 
   by_value : (r : Checked TypedExpression) → on r (callee_by_value at) ≡ fine pointed_to → IsPointer r e t ps
   by_value (fine g) h = by_type g g.ctype refl h
   by_value (faulty f fs) h = absurd (cc)
 
   no_function : (place : ℕ) (u : CType) (n : ℕ) → callee_of_type place u n ≡ fine pointed_to → ⊥
-  no_function place void n h = cc
-  no_function place (integer i) n h = cc
-  no_function place (pointer u) n h = cc
-  no_function place (array u m) n h = cc
-  no_function place (struct s) n h = cc
   no_function place (function u us) n h = (let c : direct n ≡ through e = ap (λ f. f.designator) (same_callee (record { designator = direct n; returns = u; parameters = us }) pointed_to h) in cc)
+  no_function place u n h = cc
 
   no_use : (place : ℕ) (u : CType) (r : Checked ℕ) → on r (callee_of_type place u) ≡ fine pointed_to → ⊥
   no_use place u (fine n) h = no_function place u n h
@@ -88,10 +76,7 @@ module _ (at : ℕ) (e : typed.Expr) (t : CType) (ps : CTypes) where
 
   by_meaning : (env : Env) (place : ℕ) (y : Name) (r : Checked TypedExpression) (m : Meaning) → callee_meant env at place y r m ≡ fine pointed_to → IsPointer r e t ps
   by_meaning env place y r (a_function u d) h = absurd (no_use place u (used env.context place (function_number env y)) h)
-  by_meaning env place y r (a_static s u d) h = by_value r h
-  by_meaning env place y r (a_local n s u) h = by_value r h
-  by_meaning env place y r (an_enumerator z) h = by_value r h
-  by_meaning env place y r (unknown f fs) h = by_value r h
+  by_meaning env place y r m h = by_value r h
 
   by_binding : (env : Env) (place : ℕ) (y : Name) (r : Checked TypedExpression) (o : Option Binding) → callee_bound env at place y r o ≡ fine pointed_to → IsPointer r e t ps
   by_binding env place y r None h = by_value r h
@@ -99,21 +84,7 @@ module _ (at : ℕ) (e : typed.Expr) (t : CType) (ps : CTypes) where
 
   through_value : (env : Env) (d : Expr) (r : Checked TypedExpression) → callee env at d r ≡ fine pointed_to → IsPointer r e t ps
   through_value env (a_name q y) r h = by_binding env q y r (binding_of env y) h
-  through_value env (an_int q i u) r h = by_value r h
-  through_value env (a_char q i) r h = by_value r h
-  through_value env (a_str q text) r h = by_value r h
-  through_value env (comma q vs) r h = by_value r h
-  through_value env (sizeof_type q u) r h = by_value r h
-  through_value env (cast q u v) r h = by_value r h
-  through_value env (call q v vs) r h = by_value r h
-  through_value env (member q how v y) r h = by_value r h
-  through_value env (postfix q o v) r h = by_value r h
-  through_value env (prefix q o v) r h = by_value r h
-  through_value env (unary q o v) r h = by_value r h
-  through_value env (index q v x) r h = by_value r h
-  through_value env (binary q o v x) r h = by_value r h
-  through_value env (assign q o v x) r h = by_value r h
-  through_value env (conditional q z v x) r h = by_value r h
+  through_value env d r h = by_value r h
 
 -- ## What the plain call gives
 
@@ -135,9 +106,7 @@ module _ (P : Checked TypedExpression → Type 0) (at : ℕ) (faults : (r : Chec
 
   by_parts : (r : Checked Callee) (s : Checked ℕ) (q : Checked (List TypedExpression)) → ((f : Callee) (site : ℕ) (gs : List TypedExpression) → r ≡ fine f → s ≡ fine site → q ≡ fine gs → length gs ≡ count f.parameters → all_fit f.parameters gs ≡ true → P (fine (given_by f site gs))) → P (all_three r s q (called at))
   by_parts (fine f) (fine site) (fine gs) h = by_number (as_many_as f.parameters gs) (all_fit f.parameters gs) (given_by f site gs) (λ a b. h f site gs refl refl refl ((Decides-eqb (length gs) (count f.parameters)).0 a) b)
-  by_parts (fine f) (fine site) (faulty e es) h = faults _ tt
-  by_parts (fine f) (faulty e es) q h = faults _ tt
-  by_parts (faulty e es) s q h = faults _ tt
+  by_parts r s q h = faults _ tt
 
 record IsSite (m site : ℕ) : Type 0 where
   pub same : site ≡ m
@@ -171,17 +140,11 @@ marked_result : (t : CType) → IsResult t → with_null_calls.marked_type (is_k
 marked_result void h = refl
 marked_result (integer i) h = refl
 marked_result (pointer t) h = refl
-marked_result (array t n) h = absurd h
-marked_result (struct s) h = absurd h
-marked_result (function t ts) h = absurd h
+marked_result t h = absurd h
 
 unused_result : (t : CType) → IsResult (with_null_calls.marked_type (is_kept false t) t)
 unused_result void = tt
-unused_result (integer i) = tt
-unused_result (pointer t) = tt
-unused_result (array t n) = tt
-unused_result (struct s) = tt
-unused_result (function t ts) = tt
+unused_result t = tt
 
 module _ (p : Program) (sites : Sites) (env : Env) (w : More) (plain : AreUnreserved env.names) (alike : MeanAlike env.names w.names) (stand : NullCallsStand p env w) where
   abbrev L : Env
@@ -198,21 +161,7 @@ module _ (p : Program) (sites : Sites) (env : Env) (w : More) (plain : AreUnrese
       → MarkedGoes p env w b' k wanted (types_of (kept sites b.sites true d ++ ((arguments_kept (b.sites + calls d) 0 ps ++ result_kept (b.sites + calls d) wanted t) ++ kept_of_arguments sites (suc (b.sites + calls d)) es))) t (typed.call t (b.sites + calls d) f (passed ps gs))
       (marked_call at (b.sites + calls d) wanted (record { pointer_type = None; returns = t; parameters = ps }) (expr sites b.sites true d) (arguments sites (suc (b.sites + calls d)) es))
   direct_any (a_name q y) h at es l b b' k wanted f t ps gs n tabled found r c marked types result given long fit within = direct_goes p sites env w stand plain alike at q y es l b b' k wanted f t ps gs n tabled found r c marked types result given long fit within
-  direct_any (an_int q i u) h at es l b b' k wanted f t ps gs n tabled found r called_fine marked types result given long fit within = absurd h
-  direct_any (a_char q i) h at es l b b' k wanted f t ps gs n tabled found r called_fine marked types result given long fit within = absurd h
-  direct_any (a_str q text) h at es l b b' k wanted f t ps gs n tabled found r called_fine marked types result given long fit within = absurd h
-  direct_any (comma q vs) h at es l b b' k wanted f t ps gs n tabled found r called_fine marked types result given long fit within = absurd h
-  direct_any (sizeof_type q u) h at es l b b' k wanted f t ps gs n tabled found r called_fine marked types result given long fit within = absurd h
-  direct_any (cast q u v) h at es l b b' k wanted f t ps gs n tabled found r called_fine marked types result given long fit within = absurd h
-  direct_any (call q v vs) h at es l b b' k wanted f t ps gs n tabled found r called_fine marked types result given long fit within = absurd h
-  direct_any (member q how v y) h at es l b b' k wanted f t ps gs n tabled found r called_fine marked types result given long fit within = absurd h
-  direct_any (postfix q o v) h at es l b b' k wanted f t ps gs n tabled found r called_fine marked types result given long fit within = absurd h
-  direct_any (prefix q o v) h at es l b b' k wanted f t ps gs n tabled found r called_fine marked types result given long fit within = absurd h
-  direct_any (unary q o v) h at es l b b' k wanted f t ps gs n tabled found r called_fine marked types result given long fit within = absurd h
-  direct_any (index q v x) h at es l b b' k wanted f t ps gs n tabled found r called_fine marked types result given long fit within = absurd h
-  direct_any (binary q o v x) h at es l b b' k wanted f t ps gs n tabled found r called_fine marked types result given long fit within = absurd h
-  direct_any (assign q o v x) h at es l b b' k wanted f t ps gs n tabled found r called_fine marked types result given long fit within = absurd h
-  direct_any (conditional q z v x) h at es l b b' k wanted f t ps gs n tabled found r called_fine marked types result given long fit within = absurd h
+  direct_any d h at es l b b' k wanted f t ps gs n tabled found r called_fine marked types result given long fit within = absurd h
 
   marked_goes : (at : ℕ) (d : Expr) (es : Exprs) → Goes p sites env w d → AllGo p sites env w es → (b b' : Before) (k : ℕ) (wanted : Bool) (c : Called) → sites (b.sites + calls d) ≡ Some c → AreNamed sites b.sites (call at d es) → AreTabled p sites L b (call at d es) → AreFound w.names k (kept sites b.sites wanted (call at d es)) → Near b b'
       → (f : Designator) (t : CType) (ps : CTypes) (gs : List TypedExpression) → callee L at d (value L b d) ≡ fine (record { designator = f; returns = t; parameters = ps }) → sites (b.sites + calls d) ≡ called_by p f t ps → HasTypes p f t ps → IsResult t → trees L (after_designator b d) es ≡ fine gs → length gs ≡ count ps → all_fit ps gs ≡ true → (b.sites + calls d) + suc (calls_of_all es) ≤ 10000

@@ -36,9 +36,7 @@ pub result_value : (env : Env) (at : ℕ) (t : CType) (e : typed.Expr) → IsRes
 result_value env at void e h = refl
 result_value env at (integer i) e h = refl
 result_value env at (pointer t) e h = refl
-result_value env at (array t n) e h = absurd h
-result_value env at (struct s) e h = absurd h
-result_value env at (function t ts) e h = absurd h
+result_value env at t e h = absurd h
 
 pub pre_given : number_among (given_names Instrumented) pre_name ≡ Some 24
 unfolding table

@@ -1,5 +1,6 @@
 -- Rules with two operands and more, where the operands have other trees.
 use Rattle.std.proofs.Common.{◌≡◌, ℕ, ◌+◌, Bool, true, false, ◌&&◌, if◌then◌else◌, List, [], ◌∷◌, ◌++◌, length, nat_eq, refl, ap, ap₂, sym, subst, ◌∙◌, arith}
+use Rattle.std.proofs.lemmas.List.{append-nil}
 use Rattle.std.specs.Prelude.{neg_ℤ}
 use Rattle.c_lexer.specs.declared.punctuator.TheConstants.{ASSIGN}
 use Rattle.c_tree.specs.declared.value.IntType.{IntType}
@@ -52,90 +53,55 @@ module _ (p : Program) (k : ℕ) (ts us : List CType) where
   second : (g : TypedExpression) (x : Expr) → SameSecond g x → Second g (remade g x)
   second g x h = operand p (k + length ts) us g x h
 
-  two_types : (a a' b b' : TypedExpression) → First a a' → Second b b' → kept p true (tree_of a) ++ kept p true (tree_of b) ≡ ts ++ us
-  two_types a a' b b' g h = ap₂ (λ x y. x ++ y) g.types h.types
-
-  two_trees : (c : Expr → Expr → Expr) (a a' b b' : TypedExpression) → First a a' → Second b b'
-      → c (unsited (tree_of a')) (unsited (tree_of b')) ≡ c (expr p k true (tree_of a)) (expr p (k + length (kept p true (tree_of a))) true (tree_of b))
-  two_trees c a a' b b' g h = ap₂ c g.tree (h.tree ∙ ap (λ vs. expr p (k + length vs) true (tree_of b)) (sym g.types))
-
-  two_none : (a a' b b' : TypedExpression) (c : Constant) → First a a' → Second b b' → (IsConst c → IsConst a.constant × IsConst b.constant) → IsConst c → ts ++ us ≡ []
-  two_none a a' b b' c g h f z = (let w = f z in none_both ts us (g.none w.0) (h.none w.1))
-
-  converted_first : (i : IntType) (g : TypedExpression) (x : Expr) → SameFirst g x → First (converted_to i g) (converted_to i (remade g x))
-  converted_first i g x h = converted_operand p k ts i g x h
-
-  converted_second : (i : IntType) (g : TypedExpression) (x : Expr) → SameSecond g x → Second (converted_to i g) (converted_to i (remade g x))
-  converted_second i g x h = converted_operand p (k + length ts) us i g x h
+  -- a form whose temporaries are those of its two operands
+  operated_follows : (t : CType) (c : Expr → Expr → Expr) → ((v w : Expr) → kept p true (c v w) ≡ kept p true v ++ kept p true w) → ((v w : Expr) → unsited (c v w) ≡ c (unsited v) (unsited w))
+      → ((v w : Expr) → expr p k true (c v w) ≡ c (expr p k true v) (expr p (k + length (kept p true v)) true w)) → (a a' b b' : TypedExpression) (z z' : Constant) → First a a' → Second b b' → (IsConst z → IsConst a.constant × IsConst b.constant) → z' ≡ z
+      → Goes (fine (typed_value t (c (tree_of a) (tree_of b)) z)) (fine (typed_value t (c (tree_of a') (tree_of b')) z'))
+  operated_follows t c q r s a a' b b' z z' g h f e =
+      value_remade p k (ts ++ us) t (c (tree_of a) (tree_of b)) (c (tree_of a') (tree_of b')) z z' (q (tree_of a) (tree_of b) ∙ ap₂ (λ v w. v ++ w) g.types h.types)
+      (r (tree_of a') (tree_of b') ∙ (ap₂ c g.tree (h.tree ∙ ap (λ vs. expr p (k + length vs) true (tree_of b)) (sym g.types)) ∙ sym (s (tree_of a) (tree_of b)))) (λ v. (let w = f v in none_both ts us (g.none w.0) (h.none w.1))) e
 
   -- ## Integers
 
   shifted_follows : (o : BinOp) (i j : IntType) (a b : TypedExpression) (x y : Expr) → SameFirst a x → SameSecond b y → Goes (fine (shifted o i j a b)) (fine (shifted o i j (remade a x) (remade b y)))
   shifted_follows o i j a b x y g h =
       let a1 : TypedExpression = converted_to i a in
-      let a2 : TypedExpression = converted_to i (remade a x) in
       let b1 : TypedExpression = converted_to j b in
-      let b2 : TypedExpression = converted_to j (remade b y) in
-      let m = converted_first i a x g in
-      let n = converted_second j b y h in
-      value_remade p k (ts ++ us) (integer i) (typed.arithmetic (integer i) o (tree_of a1) (tree_of b1)) (typed.arithmetic (integer i) o (tree_of a2) (tree_of b2)) (constant_binary o a1.constant b1.constant) (constant_binary o a2.constant b2.constant)
-      (two_types a1 a2 b1 b2 m n) (two_trees (typed.arithmetic (integer i) o) a1 a2 b1 b2 m n) (two_none a1 a2 b1 b2 (constant_binary o a1.constant b1.constant) m n (binary_const o a1.constant b1.constant)) (ap₂ (constant_binary o) m.constant n.constant)
+      let m = converted_operand p k ts i a x g in
+      let n = converted_operand p (k + length ts) us j b y h in
+      operated_follows (integer i) (typed.arithmetic (integer i) o) (λ _ _. refl) (λ _ _. refl) (λ _ _. refl) a1 (converted_to i (remade a x)) b1 (converted_to j (remade b y)) _ _ m n (binary_const o a1.constant b1.constant) (ap₂ (constant_binary o) m.constant n.constant)
 
   compared_follows : (o : BinOp) (i : IntType) (a b : TypedExpression) (x y : Expr) → SameFirst a x → SameSecond b y → Goes (fine (compared_integers o i a b)) (fine (compared_integers o i (remade a x) (remade b y)))
   compared_follows o i a b x y g h =
       let a1 : TypedExpression = converted_to i a in
-      let a2 : TypedExpression = converted_to i (remade a x) in
       let b1 : TypedExpression = converted_to i b in
-      let b2 : TypedExpression = converted_to i (remade b y) in
-      let m = converted_first i a x g in
-      let n = converted_second i b y h in
-      value_remade p k (ts ++ us) int (typed.comparison int o (tree_of a1) (tree_of b1)) (typed.comparison int o (tree_of a2) (tree_of b2)) (constant_binary o a1.constant b1.constant) (constant_binary o a2.constant b2.constant)
-      (two_types a1 a2 b1 b2 m n) (two_trees (typed.comparison int o) a1 a2 b1 b2 m n) (two_none a1 a2 b1 b2 (constant_binary o a1.constant b1.constant) m n (binary_const o a1.constant b1.constant)) (ap₂ (constant_binary o) m.constant n.constant)
+      let m = converted_operand p k ts i a x g in
+      let n = converted_operand p (k + length ts) us i b y h in
+      operated_follows int (typed.comparison int o) (λ _ _. refl) (λ _ _. refl) (λ _ _. refl) a1 (converted_to i (remade a x)) b1 (converted_to i (remade b y)) _ _ m n (binary_const o a1.constant b1.constant) (ap₂ (constant_binary o) m.constant n.constant)
 
   -- ## Pointers
 
   pointers_follow : (o : BinOp) (a a' b b' : TypedExpression) → First a a' → Second b b' → Goes (fine (compared_pointers o a b)) (fine (compared_pointers o a' b'))
-  pointers_follow o a a' b b' g h =
-      value_remade p k (ts ++ us) int (typed.comparison int o (tree_of a) (tree_of b)) (typed.comparison int o (tree_of a') (tree_of b')) not_constant not_constant (two_types a a' b b' g h) (two_trees (typed.comparison int o) a a' b b' g h) (λ c. absurd c) refl
+  pointers_follow o a a' b b' g h = operated_follows int (typed.comparison int o) (λ _ _. refl) (λ _ _. refl) (λ _ _. refl) a a' b b' not_constant not_constant g h (λ c. absurd c) refl
 
   plus_follows : (t : CType) (a b : TypedExpression) (x y : Expr) → SameFirst a x → SameSecond b y → Goes (fine (pointer_plus t a b)) (fine (pointer_plus t (remade a x) (remade b y)))
-  plus_follows t a b x y g h =
-      let m = first a x g in
-      let n = second b y h in
-      let c : Constant = constant_moved a.constant (λ z. z) b.constant in
-      value_remade p k (ts ++ us) (pointer t) (typed.pointer_add (pointer t) true false (tree_of a) (tree_of b)) (typed.pointer_add (pointer t) true false (tree_of (remade a x)) (tree_of (remade b y))) c c
-      (two_types a (remade a x) b (remade b y) m n) (two_trees (typed.pointer_add (pointer t) true false) a (remade a x) b (remade b y) m n) (two_none a (remade a x) b (remade b y) c m n (moved_const a.constant (λ z. z) b.constant)) refl
+  plus_follows t a b x y g h = operated_follows (pointer t) (typed.pointer_add (pointer t) true false) (λ _ _. refl) (λ _ _. refl) (λ _ _. refl) a (remade a x) b (remade b y) _ _ (first a x g) (second b y h) (moved_const a.constant (λ z. z) b.constant) refl
 
   turned_follows : (t : CType) (a b : TypedExpression) (x y : Expr) → SameFirst a x → SameSecond b y → Goes (fine (plus_pointer t a b)) (fine (plus_pointer t (remade a x) (remade b y)))
   turned_follows t a b x y g h =
-      let m = first a x g in
-      let n = second b y h in
-      let c : Constant = constant_moved b.constant (λ z. z) a.constant in
-      value_remade p k (ts ++ us) (pointer t) (typed.pointer_add (pointer t) false false (tree_of a) (tree_of b)) (typed.pointer_add (pointer t) false false (tree_of (remade a x)) (tree_of (remade b y))) c c
-      (two_types a (remade a x) b (remade b y) m n) (two_trees (typed.pointer_add (pointer t) false false) a (remade a x) b (remade b y) m n) (two_none a (remade a x) b (remade b y) c m n (λ z. (let w = moved_const b.constant (λ z. z) a.constant z in (w.1, w.0)))) refl
+      operated_follows (pointer t) (typed.pointer_add (pointer t) false false) (λ _ _. refl) (λ _ _. refl) (λ _ _. refl) a (remade a x) b (remade b y) _ _ (first a x g) (second b y h) (λ z. (let w = moved_const b.constant (λ z. z) a.constant z in (w.1, w.0))) refl
 
   less_follows : (t : CType) (a b : TypedExpression) (x y : Expr) → SameFirst a x → SameSecond b y → Goes (fine (pointer_minus t a b)) (fine (pointer_minus t (remade a x) (remade b y)))
-  less_follows t a b x y g h =
-      let m = first a x g in
-      let n = second b y h in
-      let c : Constant = constant_moved a.constant (λ z. neg_ℤ z) b.constant in
-      value_remade p k (ts ++ us) (pointer t) (typed.pointer_add (pointer t) true true (tree_of a) (tree_of b)) (typed.pointer_add (pointer t) true true (tree_of (remade a x)) (tree_of (remade b y))) c c
-      (two_types a (remade a x) b (remade b y) m n) (two_trees (typed.pointer_add (pointer t) true true) a (remade a x) b (remade b y) m n) (two_none a (remade a x) b (remade b y) c m n (moved_const a.constant (λ z. neg_ℤ z) b.constant)) refl
+  less_follows t a b x y g h = operated_follows (pointer t) (typed.pointer_add (pointer t) true true) (λ _ _. refl) (λ _ _. refl) (λ _ _. refl) a (remade a x) b (remade b y) _ _ (first a x g) (second b y h) (moved_const a.constant (λ z. neg_ℤ z) b.constant) refl
 
   difference_follows : (a b : TypedExpression) (x y : Expr) → SameFirst a x → SameSecond b y → Goes (fine (difference a b)) (fine (difference (remade a x) (remade b y)))
-  difference_follows a b x y g h =
-      let m = first a x g in
-      let n = second b y h in
-      value_remade p k (ts ++ us) int (typed.pointer_diff int (tree_of a) (tree_of b)) (typed.pointer_diff int (tree_of (remade a x)) (tree_of (remade b y))) not_constant not_constant (two_types a (remade a x) b (remade b y) m n) (two_trees (typed.pointer_diff int) a (remade a x) b (remade b y) m n) (λ c. absurd c) refl
+  difference_follows a b x y g h = operated_follows int (typed.pointer_diff int) (λ _ _. refl) (λ _ _. refl) (λ _ _. refl) a (remade a x) b (remade b y) not_constant not_constant (first a x g) (second b y h) (λ c. absurd c) refl
 
   sum_of_follows : (env : Env) (at : ℕ) (a b : TypedExpression) (x y : Expr) (d e : Kind) → SameFirst a x → SameSecond b y → Goes (sum_of env at a b d e) (sum_of env at (remade a x) (remade b y) d e)
   sum_of_follows env at a b x y (an_integer i) (an_integer j) g h = shifted_follows op.Add (common i j) (common i j) a b x y g h
   sum_of_follows env at a b x y (a_pointer t) (an_integer j) g h = behind_follows p k (ts ++ us) (complete env at t) _ _ (λ _. plus_follows t a b x y g h)
   sum_of_follows env at a b x y (an_integer i) (a_pointer t) g h = behind_follows p k (ts ++ us) (complete env at t) _ _ (λ _. turned_follows t a b x y g h)
-  sum_of_follows env at a b x y (an_integer i) neither g h = tt
-  sum_of_follows env at a b x y (a_pointer t) (a_pointer u) g h = tt
-  sum_of_follows env at a b x y (a_pointer t) neither g h = tt
-  sum_of_follows env at a b x y neither e g h = tt
+  sum_of_follows env at a b x y d e g h = tt
 
   pub sum_follows : (env : Env) (at : ℕ) (a b : TypedExpression) (x y : Expr) → SameFirst a x → SameSecond b y → Goes (sum env at a b) (sum env at (remade a x) (remade b y))
   sum_follows env at a b x y g h = sum_of_follows env at a b x y (kind_of a.ctype) (kind_of b.ctype) g h
@@ -145,35 +111,22 @@ module _ (p : Program) (k : ℕ) (ts us : List CType) where
   minus_follows env at a b x y (a_pointer t) (an_integer j) g h = behind_follows p k (ts ++ us) (complete env at t) _ _ (λ _. less_follows t a b x y g h)
   minus_follows env at a b x y (a_pointer t) (a_pointer u) g h =
       behind_follows p k (ts ++ us) (demand (same_type t u) 3 at met) (λ _. gives (complete env at t) (λ _. difference a b)) (λ _. gives (complete env at t) (λ _. difference (remade a x) (remade b y))) (λ _. behind_follows p k (ts ++ us) (complete env at t) _ _ (λ _. difference_follows a b x y g h))
-  minus_follows env at a b x y (an_integer i) (a_pointer t) g h = tt
-  minus_follows env at a b x y (an_integer i) neither g h = tt
-  minus_follows env at a b x y (a_pointer t) neither g h = tt
-  minus_follows env at a b x y neither e g h = tt
+  minus_follows env at a b x y d e g h = tt
 
   balanced_follows : (at : ℕ) (o : BinOp) (a b : TypedExpression) (x y : Expr) (d e : Kind) → SameFirst a x → SameSecond b y → Goes (balanced_of at o a b d e) (balanced_of at o (remade a x) (remade b y) d e)
   balanced_follows at o a b x y (an_integer i) (an_integer j) g h = shifted_follows o (common i j) (common i j) a b x y g h
-  balanced_follows at o a b x y (an_integer i) (a_pointer t) g h = tt
-  balanced_follows at o a b x y (an_integer i) neither g h = tt
-  balanced_follows at o a b x y (a_pointer t) e g h = tt
-  balanced_follows at o a b x y neither e g h = tt
+  balanced_follows at o a b x y d e g h = tt
 
   shift_follows : (at : ℕ) (o : BinOp) (a b : TypedExpression) (x y : Expr) (d e : Kind) → SameFirst a x → SameSecond b y → Goes (shift_of at o a b d e) (shift_of at o (remade a x) (remade b y) d e)
   shift_follows at o a b x y (an_integer i) (an_integer j) g h = shifted_follows o (promoted i) (promoted j) a b x y g h
-  shift_follows at o a b x y (an_integer i) (a_pointer t) g h = tt
-  shift_follows at o a b x y (an_integer i) neither g h = tt
-  shift_follows at o a b x y (a_pointer t) e g h = tt
-  shift_follows at o a b x y neither e g h = tt
+  shift_follows at o a b x y d e g h = tt
 
   ordered_follows : (env : Env) (at : ℕ) (o : BinOp) (a b : TypedExpression) (x y : Expr) (d e : Kind) → SameFirst a x → SameSecond b y → Goes (ordered_of env at o a b d e) (ordered_of env at o (remade a x) (remade b y) d e)
   ordered_follows env at o a b x y (an_integer i) (an_integer j) g h = compared_follows o (common i j) a b x y g h
   ordered_follows env at o a b x y (a_pointer t) (a_pointer u) g h =
       behind_follows p k (ts ++ us) (demand (same_type t u) 3 at met) (λ _. gives (complete env at t) (λ _. compared_pointers o a b)) (λ _. gives (complete env at t) (λ _. compared_pointers o (remade a x) (remade b y)))
       (λ _. behind_follows p k (ts ++ us) (complete env at t) _ _ (λ _. pointers_follow o a (remade a x) b (remade b y) (first a x g) (second b y h)))
-  ordered_follows env at o a b x y (an_integer i) (a_pointer t) g h = tt
-  ordered_follows env at o a b x y (an_integer i) neither g h = tt
-  ordered_follows env at o a b x y (a_pointer t) (an_integer j) g h = tt
-  ordered_follows env at o a b x y (a_pointer t) neither g h = tt
-  ordered_follows env at o a b x y neither e g h = tt
+  ordered_follows env at o a b x y d e g h = tt
 
   -- ## Operands that are made alike
 
@@ -203,13 +156,10 @@ module _ (p : Program) (k : ℕ) (ts us : List CType) where
         (if_alike (is_null b) (alike_pointers a (null_of a.ctype)) unlike (alike_pointers (remade a x) (null_of a.ctype)) unlike null_second refl))
 
     alike_of_remade : (d e : Kind) → AlikeRemade (alike_of a b d e) (alike_of (remade a x) (remade b y) d e)
-    alike_of_remade (an_integer i) (an_integer j) = refl
     alike_of_remade (a_pointer t) (a_pointer u) = pointers_alike_remade
     alike_of_remade (a_pointer t) (an_integer j) = if_alike (is_null b) (alike_pointers a (null_of a.ctype)) unlike (alike_pointers (remade a x) (null_of a.ctype)) unlike null_second refl
     alike_of_remade (an_integer i) (a_pointer u) = if_alike (is_null a) (alike_pointers (null_of b.ctype) b) unlike (alike_pointers (null_of b.ctype) (remade b y)) unlike null_first refl
-    alike_of_remade (an_integer i) neither = refl
-    alike_of_remade (a_pointer t) neither = refl
-    alike_of_remade neither e = refl
+    alike_of_remade d e = refl
 
     pub alike_remade : AlikeRemade (alike a b) (alike (remade a x) (remade b y))
     alike_remade = alike_of_remade (kind_of a.ctype) (kind_of b.ctype)
@@ -235,48 +185,31 @@ module _ (p : Program) (k : ℕ) (ts us : List CType) where
   two_scalars : (a b : TypedExpression) (f : Constant → Constant → Constant) → ((c d : Constant) → IsConst (f c d) → IsConst c × IsConst d) → IsConst (f (integer_constant a) (integer_constant b)) → IsConst a.constant × IsConst b.constant
   two_scalars a b f l c = (let w = l (integer_constant a) (integer_constant b) c in (integer_const (is_integer a.ctype) a.constant w.0, integer_const (is_integer b.ctype) b.constant w.1))
 
-  logical_follows : (c : CType → Expr → Expr → Expr) (f : Constant → Constant → Constant) → ((d e : Constant) → IsConst (f d e) → IsConst d × IsConst e) → (at : ℕ) (a b : TypedExpression) (x y : Expr) → SameFirst a x → SameSecond b y
-      → (kept p true (c int (tree_of a) (tree_of b)) ≡ kept p true (tree_of a) ++ kept p true (tree_of b))
-      → (unsited (c int (tree_of (remade a x)) (tree_of (remade b y))) ≡ c int (unsited (tree_of (remade a x))) (unsited (tree_of (remade b y))))
-      → (expr p k true (c int (tree_of a) (tree_of b)) ≡ c int (expr p k true (tree_of a)) (expr p (k + length (kept p true (tree_of a))) true (tree_of b)))
-      → Goes (demand (both_scalars a b) 3 at (typed_value int (c int (tree_of a) (tree_of b)) (f (integer_constant a) (integer_constant b)))) (demand (both_scalars a b) 3 at (typed_value int (c int (tree_of (remade a x)) (tree_of (remade b y))) (f (integer_constant a) (integer_constant b))))
-  logical_follows c f l at a b x y g h q r s =
-      let m = first a x g in
-      let n = second b y h in
-      let z : Constant = f (integer_constant a) (integer_constant b) in
-      demand_follows p k (ts ++ us) (both_scalars a b) 3 at (typed_value int (c int (tree_of a) (tree_of b)) z) (typed_value int (c int (tree_of (remade a x)) (tree_of (remade b y))) z)
-      (value_remade p k (ts ++ us) int (c int (tree_of a) (tree_of b)) (c int (tree_of (remade a x)) (tree_of (remade b y))) z z (q ∙ two_types a (remade a x) b (remade b y) m n) (r ∙ (two_trees (c int) a (remade a x) b (remade b y) m n ∙ sym s)) (two_none a (remade a x) b (remade b y) z m n (two_scalars a b f l)) refl)
-
   pub infix_follows : (env : Env) (at : ℕ) (o : Infix) (a b : TypedExpression) (x y : Expr) → SameFirst a x → SameSecond b y → Goes (infix_rule env at o a b) (infix_rule env at o (remade a x) (remade b y))
-  infix_follows env at and a b x y g h = logical_follows typed.and constant_and and_const at a b x y g h refl refl refl
-  infix_follows env at or a b x y g h = logical_follows typed.or constant_or or_const at a b x y g h refl refl refl
+  infix_follows env at and a b x y g h =
+      demand_follows p k (ts ++ us) (both_scalars a b) 3 at _ _ (operated_follows int (typed.and int) (λ _ _. refl) (λ _ _. refl) (λ _ _. refl) a (remade a x) b (remade b y) _ _ (first a x g) (second b y h) (two_scalars a b constant_and and_const) refl)
+  infix_follows env at or a b x y g h =
+      demand_follows p k (ts ++ us) (both_scalars a b) 3 at _ _ (operated_follows int (typed.or int) (λ _ _. refl) (λ _ _. refl) (λ _ _. refl) a (remade a x) b (remade b y) _ _ (first a x g) (second b y h) (two_scalars a b constant_or or_const) refl)
   infix_follows env at (operator code) a b x y g h = operation_of_follows env at (operator_of_code code) a b x y (kind_of_operator (operator_of_code code)) g h
 
   -- ## Assignments
 
   pub fits_same : (t : CType) (d : Kind) (g : TypedExpression) (x : Expr) → fits_kind d t (remade g x) ≡ fits_kind d t g
   fits_same t (an_integer i) g x = refl
-  fits_same t (a_pointer u) g x = refl
-  fits_same t neither g x = refl
+  fits_same t d g x = refl
 
   assignment_follows : (at : ℕ) (a b : TypedExpression) (x y : Expr) → SameFirst a x → SameSecond b y → Goes (assignment at a b) (assignment at (remade a x) (remade b y))
   assignment_follows at a b x y g h =
-      let m = first a x g in
-      let n = assigned_operand p (k + length ts) us a.ctype b y h in
-      let b1 : TypedExpression = assigned a.ctype b in
       let b2 : TypedExpression = assigned a.ctype (remade b y) in
       subst (λ z. Goes (assignment at a b) (demand z 3 at (typed_value a.ctype (typed.assign a.ctype (tree_of (remade a x)) (tree_of b2)) not_constant))) (sym (fits_same a.ctype (kind_of a.ctype) b y))
-      (demand_follows p k (ts ++ us) (fits a.ctype b) 3 at (typed_value a.ctype (typed.assign a.ctype (tree_of a) (tree_of b1)) not_constant) (typed_value a.ctype (typed.assign a.ctype (tree_of (remade a x)) (tree_of b2)) not_constant)
-      (value_remade p k (ts ++ us) a.ctype (typed.assign a.ctype (tree_of a) (tree_of b1)) (typed.assign a.ctype (tree_of (remade a x)) (tree_of b2)) not_constant not_constant (two_types a (remade a x) b1 b2 m n) (two_trees (typed.assign a.ctype) a (remade a x) b1 b2 m n) (λ c. absurd c) refl))
+      (demand_follows p k (ts ++ us) (fits a.ctype b) 3 at _ _ (operated_follows a.ctype (typed.assign a.ctype) (λ _ _. refl) (λ _ _. refl) (λ _ _. refl) a (remade a x) (assigned a.ctype b) b2 not_constant not_constant (first a x g) (assigned_operand p (k + length ts) us a.ctype b y h) (λ c. absurd c) refl))
 
   updated_follows : (o : BinOp) (old : Bool) (a b b' : TypedExpression) (x : Expr) → SameFirst a x → Second b b' → Goes (fine (updated o old a (tree_of b))) (fine (updated o old (remade a x) (tree_of b')))
-  updated_follows o old a b b' x g n =
-      let m = first a x g in
-      value_remade p k (ts ++ us) a.ctype (typed.update a.ctype o old (tree_of a) (tree_of b)) (typed.update a.ctype o old (tree_of (remade a x)) (tree_of b')) not_constant not_constant (two_types a (remade a x) b b' m n) (two_trees (typed.update a.ctype o old) a (remade a x) b b' m n) (λ c. absurd c) refl
+  updated_follows o old a b b' x g n = operated_follows a.ctype (typed.update a.ctype o old) (λ _ _. refl) (λ _ _. refl) (λ _ _. refl) a (remade a x) b b' not_constant not_constant (first a x g) n (λ c. absurd c) refl
 
   update_follows : (env : Env) (at : ℕ) (o : BinOp) (old : Bool) (a b : TypedExpression) (x y : Expr) (d e : Kind) → SameFirst a x → SameSecond b y → Goes (update_of env at o old a b d e) (update_of env at o old (remade a x) (remade b y) d e)
   update_follows env at o old a b x y (an_integer i) (an_integer j) g h =
-      (let r : IntType = right_type (kind_of_operator o) i j in updated_follows o old a (converted_to r b) (converted_to r (remade b y)) x g (converted_second r b y h))
+      (let r : IntType = right_type (kind_of_operator o) i j in updated_follows o old a (converted_to r b) (converted_to r (remade b y)) x g (converted_operand p (k + length ts) us r b y h))
   update_follows env at o old a b x y (a_pointer t) (an_integer j) g h =
       behind_follows p k (ts ++ us) (demand (moves o) 3 at met) (λ _. gives (complete env at t) (λ _. updated o old a (tree_of b))) (λ _. gives (complete env at t) (λ _. updated o old (remade a x) (tree_of (remade b y))))
       (λ _. behind_follows p k (ts ++ us) (complete env at t) _ _ (λ _. updated_follows o old a b (remade b y) x g (second b y h)))
@@ -301,22 +234,17 @@ module _ (p : Program) (k : ℕ) (ts us : List CType) where
 
 -- ## Steps
 
-nothing_more : (xs : List CType) → xs ++ [] ≡ xs
-nothing_more [] = refl
-nothing_more (x ∷ xs) = ap (λ ys. x ∷ ys) (nothing_more xs)
-
 module _ (p : Program) (k : ℕ) (ts : List CType) where
   one_remade : (d : Kind) → (x : Expr) × (remade (one_for d) x ≡ one_for d) × IsRemade p (k + length ts) [] (one_for d) x
   one_remade (an_integer i) = (tree_of (one_for (an_integer i)), refl, record { types = refl; tree = refl; none = λ _. refl })
-  one_remade (a_pointer t) = (tree_of (one_for (a_pointer t)), refl, record { types = refl; tree = refl; none = λ _. refl })
-  one_remade neither = (tree_of (one_for neither), refl, record { types = refl; tree = refl; none = λ _. refl })
+  one_remade d = (tree_of (one_for d), refl, record { types = refl; tree = refl; none = λ _. refl })
 
   pub step_follows : (env : Env) (at : ℕ) (o : BinOp) (old : Bool) (a : TypedExpression) (x : Expr) → IsRemade p k ts a x → Follows p k ts (step env at o old a) (step env at o old (remade a x))
   step_follows env at o old a x h =
       let d : Kind = kind_of a.ctype in
       let one = one_remade d in
       let e : Kind = kind_of (one_for d).ctype in
-      subst (λ us. Follows p k us (step env at o old a) (step env at o old (remade a x))) (nothing_more ts)
+      subst (λ us. Follows p k us (step env at o old a) (step env at o old (remade a x))) (append-nil ts)
       (subst (λ z. Follows p k (ts ++ []) (update_of env at o old a (one_for d) d e) (update_of env at o old (remade a x) z d e)) one.1 (update_follows p k ts [] env at o old a (one_for d) x one.0 d e h one.2))
 
   pub stepped_follows : (env : Env) (at place : ℕ) (o : BinOp) (old : Bool) (r s : Checked TypedExpression) → Follows p k ts r s → Follows p k ts (on (place_at place r) (step env at o old)) (on (place_at place s) (step env at o old))

@@ -2,6 +2,7 @@
 use Rattle.std.proofs.Common.{◌≡◌, ℕ, ◌+◌, Bool, true, false, if◌then◌else◌, List, [], ◌∷◌, ◌++◌, length, refl, ap, ap₂, sym, subst, ◌∙◌}
 use Rattle.c_tree.specs.Tree.{CType, void, integer, pointer, array, struct, function, type_of, Program}
 use Rattle.c_tree.specs.Tree as typed
+use Rattle.c_tree.specs.Operands.{IsResult}
 use Rattle.c_syntax.specs.Tree.{Expr, comma, Exprs, no_exprs, more_exprs}
 use Rattle.c_rules.specs.Checked.{Checked, fine, faulty, both, gives}
 use Rattle.c_rules.specs.Scopes.{Env, Before}
@@ -25,76 +26,35 @@ use Rattle.null_calls_counts_laws.proofs.ExpressionCounts.{places_near}
 use Rattle.null_calls_expressions_laws.specs.Tabled.{AreTabled, AllTabled, AreFound}
 use Rattle.null_calls_expressions_laws.specs.Follow.{types_of, UnusedFollows, Goes, AllGo}
 use Rattle.null_calls_expressions_laws.proofs.Leaves.{Holds, demand_holds}
+use Rattle.null_calls_expressions_laws.proofs.BehindArguments.{result_value}
 use Rattle.null_calls_expressions_laws.proofs.TreeTypes.{ValueTyped, value_typed}
 use Rattle.null_calls_expressions_laws.proofs.Forms.{types_both, found_first, found_rest, value_goes}
 
 -- ## Types of values
 
 -- the type of a value
-abbrev IsPlain : CType → Type 0
-IsPlain void = Unit {0}
-IsPlain (integer i) = Unit {0}
-IsPlain (pointer t) = Unit {0}
-IsPlain (array t n) = ⊥
-IsPlain (struct s) = ⊥
-IsPlain (function t ts) = ⊥
-
 abbrev HasPlainType : TypedExpression → Type 0
-HasPlainType g = IsPlain g.ctype
+HasPlainType g = IsResult g.ctype
 
-loaded_type : (g : TypedExpression) (f : Form) → IsPlain g.ctype → HasPlainType (loaded g f)
+loaded_type : (g : TypedExpression) (f : Form) → IsResult g.ctype → HasPlainType (loaded g f)
 loaded_type g (a_value e) h = h
-loaded_type g (a_place e) h = h
-loaded_type g (behind e) h = h
+loaded_type g f h = h
 
 valued_plain : (env : Env) (at : ℕ) (g : TypedExpression) (t : CType) → g.ctype ≡ t → Holds HasPlainType (valued_as env at g t)
-valued_plain env at g void q = loaded_type g g.form (subst IsPlain (sym q) tt)
-valued_plain env at g (integer i) q = loaded_type g g.form (subst IsPlain (sym q) tt)
-valued_plain env at g (pointer t) q = loaded_type g g.form (subst IsPlain (sym q) tt)
 valued_plain env at g (array t n) q = tt
 valued_plain env at g (struct s) q = tt
 valued_plain env at g (function t ts) q = demand_holds HasPlainType (few_parts (pointer g.ctype)) 13 at (typed_value (pointer g.ctype) (typed.decay (pointer g.ctype) (tree_of g)) g.constant) tt
+valued_plain env at g t q = loaded_type g g.form (subst IsResult (sym q) tt)
 
 value_plain : (env : Env) (at : ℕ) (r : Checked TypedExpression) → Holds HasPlainType (value_at env at r)
 value_plain env at (fine g) = valued_plain env at g g.ctype refl
 value_plain env at (faulty f fs) = tt
 
--- a value stays as it is
-valued_same : (env : Env) (at : ℕ) (t : CType) (e : typed.Expr) (c : Constant) → IsPlain t → valued env at (typed_value t e c) ≡ fine (typed_value t e c)
-valued_same env at void e c h = refl
-valued_same env at (integer i) e c h = refl
-valued_same env at (pointer t) e c h = refl
-valued_same env at (array t n) e c h = absurd h
-valued_same env at (struct s) e c h = absurd h
-valued_same env at (function t ts) e c h = absurd h
-
 -- ## Types of trees
 
 pub type_unsited : (e : typed.Expr) → type_of (unsited e) ≡ type_of e
 type_unsited (typed.constant t v) = refl
-type_unsited (typed.function_name t f) = refl
-type_unsited (typed.string_place t n) = refl
-type_unsited (typed.variable t s n) = refl
-type_unsited (typed.dereference t a) = refl
-type_unsited (typed.load t a) = refl
-type_unsited (typed.address_of t a) = refl
-type_unsited (typed.decay t a) = refl
-type_unsited (typed.discard t a) = refl
-type_unsited (typed.field t n a) = refl
-type_unsited (typed.unary_operation t o a) = refl
-type_unsited (typed.conversion t i a) = refl
-type_unsited (typed.arithmetic t o a b) = refl
-type_unsited (typed.comparison t o a b) = refl
-type_unsited (typed.pointer_add t x y a b) = refl
-type_unsited (typed.pointer_diff t a b) = refl
-type_unsited (typed.and t a b) = refl
-type_unsited (typed.or t a b) = refl
-type_unsited (typed.assign t a b) = refl
-type_unsited (typed.update t o x a b) = refl
-type_unsited (typed.conditional t c a b) = refl
-type_unsited (typed.comma t es) = refl
-type_unsited (typed.call t s f es) = refl
-type_unsited (typed.call_through t s a es) = refl
+type_unsited e = refl
 
 module _ (p : Program) where
   by_mark : (b : Bool) (x y z v : typed.Expr) → type_of x ≡ type_of z → type_of y ≡ type_of v → type_of (if b then x else y) ≡ type_of (if b then z else v)
@@ -103,30 +63,9 @@ module _ (p : Program) where
 
   -- it doesn't depend on the numbers of temporaries
   type_anywhere : (e : typed.Expr) (k : ℕ) (wanted : Bool) → type_of (with_null_calls.expr p k wanted e) ≡ type_of (with_null_calls.expr p 0 wanted e)
-  type_anywhere (typed.constant t v) k wanted = refl
-  type_anywhere (typed.function_name t f) k wanted = refl
-  type_anywhere (typed.string_place t n) k wanted = refl
-  type_anywhere (typed.variable t s n) k wanted = refl
-  type_anywhere (typed.dereference t a) k wanted = refl
-  type_anywhere (typed.load t a) k wanted = refl
-  type_anywhere (typed.address_of t a) k wanted = refl
-  type_anywhere (typed.decay t a) k wanted = refl
-  type_anywhere (typed.discard t a) k wanted = refl
-  type_anywhere (typed.field t n a) k wanted = refl
-  type_anywhere (typed.unary_operation t o a) k wanted = refl
-  type_anywhere (typed.conversion t i a) k wanted = refl
-  type_anywhere (typed.arithmetic t o a b) k wanted = refl
-  type_anywhere (typed.comparison t o a b) k wanted = refl
-  type_anywhere (typed.pointer_add t x y a b) k wanted = refl
-  type_anywhere (typed.pointer_diff t a b) k wanted = refl
-  type_anywhere (typed.and t a b) k wanted = refl
-  type_anywhere (typed.or t a b) k wanted = refl
-  type_anywhere (typed.assign t a b) k wanted = refl
-  type_anywhere (typed.update t o x a b) k wanted = refl
-  type_anywhere (typed.conditional t c a b) k wanted = refl
-  type_anywhere (typed.comma t es) k wanted = refl
   type_anywhere (typed.call t s f es) k wanted = by_mark (is_marked p (Direct f)) _ _ _ _ refl refl
   type_anywhere (typed.call_through t s a es) k wanted = by_mark (is_marked p (Through (type_of a))) _ _ _ _ refl refl
+  type_anywhere e k wanted = refl
 
   -- ## Members
 
@@ -154,8 +93,8 @@ module _ (p : Program) where
     pub trees : unsited_all (trees_of hs) ≡ with_null_calls.members p k wanted (trees_of (g ∷ gs))
     pub last : (t u : CType) → with_null_calls.type_of_members p wanted t (trees_of (g ∷ gs)) ≡ last_type u hs
     pub same : wanted ≡ true → (t u : CType) → last_type t hs ≡ last_type u (g ∷ gs)
-    pub plain : (t : CType) → IsPlain (last_type t (g ∷ gs))
-    pub plain_too : (t : CType) → IsPlain (last_type t hs)
+    pub plain : (t : CType) → IsResult (last_type t (g ∷ gs))
+    pub plain_too : (t : CType) → IsResult (last_type t hs)
 
   abbrev ListFollows : Bool → ℕ → List CType → Checked (List TypedExpression) → Checked (List TypedExpression) → Type 0
   ListFollows wanted k ts (fine gs) s = (g : TypedExpression) × (rest : List TypedExpression) × (hs : List TypedExpression) × (gs ≡ g ∷ rest) × (s ≡ fine hs) × MembersGo wanted k ts g rest hs
@@ -257,8 +196,8 @@ module _ (p : Program) (sites : Sites) (env : Env) (w : More) where
       let hs : List TypedExpression = h.2 in
       let m = h.5 in
       let g0 : TypedExpression = comma_of (h.0 ∷ h.1) in
-      let left : value_at Left at (fine g0) ≡ fine g0 = valued_same Left at (last_type void (h.0 ∷ h.1)) (typed.comma (last_type void (h.0 ∷ h.1)) (trees_of (h.0 ∷ h.1))) not_constant (m.plain void) in
-      let right : value_at Right at (fine (comma_of hs)) ≡ fine (comma_of hs) = valued_same Right at (last_type void hs) (typed.comma (last_type void hs) (trees_of hs)) not_constant (m.plain_too void) in
+      let left : value_at Left at (fine g0) ≡ fine g0 = result_value Left at (last_type void (h.0 ∷ h.1)) (typed.comma (last_type void (h.0 ∷ h.1)) (trees_of (h.0 ∷ h.1))) (m.plain void) in
+      let right : value_at Right at (fine (comma_of hs)) ≡ fine (comma_of hs) = result_value Right at (last_type void hs) (typed.comma (last_type void hs) (trees_of hs)) (m.plain_too void) in
       subst (λ z. UnusedFollows p k ts (value_at Left at (fine (comma_of z))) (value_at Right at (gives s comma_of))) (sym h.3)
       (subst (λ z. UnusedFollows p k ts z (value_at Right at (gives s comma_of))) (sym left)
       (comma_of hs, ap (λ z. value_at Right at (gives z comma_of)) h.4 ∙ right, m.types, ap₂ (λ t es. typed.comma t es) (sym (m.last (last_type void (h.0 ∷ h.1)) void)) m.trees))

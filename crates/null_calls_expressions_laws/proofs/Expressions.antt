@@ -20,9 +20,8 @@ use Rattle.null_calls_expressions_laws.specs.Tabled.{AreFound}
 use Rattle.null_calls_expressions_laws.specs.Follow.{types_of, UnusedFollows, ExprFollows, Goes, AllGo, CallsGo, ExpressionsGo}
 use Rattle.null_calls_expressions_laws.proofs.Leaves.{Holds}
 use Rattle.null_calls_expressions_laws.proofs.Types.{IsThing, void_named, thing_named}
-use Rattle.null_calls_expressions_laws.proofs.Solid.{strong_firm, cast_strong}
 use Rattle.null_calls_expressions_laws.proofs.Commas.{comma_goes}
-use Rattle.null_calls_expressions_laws.proofs.Forms.{OperandGoes, value_goes, unused_goes, name_goes, int_goes, char_goes, string_goes, size_type_goes, prefix_goes, postfix_goes, member_goes, unary_goes, index_goes, binary_goes, assign_goes, choice_goes}
+use Rattle.null_calls_expressions_laws.proofs.Forms.{OperandGoes, value_goes, goes_simply, name_goes, int_goes, char_goes, string_goes, size_type_goes, prefix_goes, postfix_goes, member_goes, unary_goes, index_goes, binary_goes, assign_goes, choice_goes}
 
 -- ## Casts
 
@@ -68,10 +67,7 @@ module _ (p : Program) (sites : Sites) (env : Env) (w : More) (plain : AreUnrese
           rule_cast p k (types_of (kept sites b.sites true e)) (is_void_pointer u) at (type_named Left u) (type_named Right u) (value Left b e) (value Right b' (expr sites b.sites true e)) (type_named_leads Left Right (beside env w plain alike) u) (thing_named u Left t.0 q) (value_goes p sites env w e h.wanted b b' k n t.1 f r)
 
   cast_goes : (at : ℕ) (u : TypeName) (e : Expr) → Goes p sites env w e → Goes p sites env w (cast at u e)
-  cast_goes at u e h = record {
-    wanted = cast_wanted at u e h;
-    unused = λ b b' k n t f r. unused_goes p sites env w (cast at u e) (cast_wanted at u e h) b b' k n t f r (strong_firm p _ (cast_strong p (is_void_pointer u) at (type_named Left u) (value Left b e)));
-  }
+  cast_goes at u e h = goes_simply p sites env w (cast at u e) tt (cast_wanted at u e h)
 
   -- ## All forms
 
@@ -97,22 +93,8 @@ module _ (p : Program) (sites : Sites) (env : Env) (w : More) (plain : AreUnrese
 
       -- the operand of a unary operator that is the operand of another one
       operand_goes : (x : Expr) → OperandGoes p sites env w x
-      operand_goes (a_name at y) = tt
-      operand_goes (an_int at n u) = tt
-      operand_goes (a_char at c) = tt
-      operand_goes (a_str at text) = tt
-      operand_goes (comma at es) = tt
-      operand_goes (sizeof_type at t) = tt
-      operand_goes (cast at t e) = tt
-      operand_goes (call at d es) = tt
-      operand_goes (member at how e y) = tt
-      operand_goes (postfix at o e) = tt
-      operand_goes (prefix at o e) = tt
       operand_goes (unary at o e) = (goes e).unused
-      operand_goes (index at e f) = tt
-      operand_goes (binary at o e f) = tt
-      operand_goes (assign at o e f) = tt
-      operand_goes (conditional at c e f) = tt
+      operand_goes x = tt
 
       all_go : (es : Exprs) → AllGo p sites env w es
       all_go no_exprs = tt

@@ -1,5 +1,6 @@
 -- The arguments of a marked call are kept in temporaries, one after the other.
 use Rattle.std.proofs.Common.{◌≡◌, ℕ, suc, ◌+◌, Bool, true, false, ◌&&◌, List, [], ◌∷◌, ◌++◌, length, refl, ap, ap₂, sym, subst, ◌∙◌, arith}
+use Rattle.std.proofs.lemmas.List.{append-nil}
 use Rattle.c_tree.specs.Tree.{CType, void, integer, pointer, array, struct, function, CTypes, no_types, more_types, list_of, Program}
 use Rattle.c_tree.specs.Tree as typed
 use Rattle.c_tree.specs.Operands.{IsScalar}
@@ -27,36 +28,21 @@ use Rattle.null_calls_expressions_laws.specs.Follow.{types_of, AllGo}
 use Rattle.null_calls_expressions_laws.proofs.Forms.{types_both, found_first, found_rest, value_goes}
 use Rattle.null_calls_expressions_laws.specs.KeptArguments.{NearBy, ArgumentsAreKept, KeptArgumentsGo}
 use Rattle.null_calls_expressions_laws.proofs.AddedParts.{temporaries_are_set}
-pub use Rattle.c_rules_laws.proofs.Holding.{first_fine}
-pub use Rattle.null_calls_expressions_laws.proofs.Unary.{and_right}
+pub use Rattle.c_rules_laws.proofs.Holding.{first_fine, and_left, and_right}
 
 -- what may be assigned to has a scalar type
 pub scalar_fits : (t : CType) (g : TypedExpression) → fits t g ≡ true → IsScalar t
-scalar_fits void g e = absurd (let q : false ≡ true = e in cc)
 scalar_fits (integer i) g e = tt
 scalar_fits (pointer t) g e = tt
-scalar_fits (array t n) g e = absurd (let q : false ≡ true = e in cc)
-scalar_fits (struct s) g e = absurd (let q : false ≡ true = e in cc)
-scalar_fits (function t ts) g e = absurd (let q : false ≡ true = e in cc)
+scalar_fits t g e = absurd (let q : false ≡ true = e in cc)
 
 scalar_value : (env : Env) (at : ℕ) (t : CType) (e : typed.Expr) → IsScalar t → value_at env at (fine (typed_value t e not_constant)) ≡ fine (typed_value t e not_constant)
-scalar_value env at void e h = absurd h
 scalar_value env at (integer i) e h = refl
 scalar_value env at (pointer t) e h = refl
-scalar_value env at (array t n) e h = absurd h
-scalar_value env at (struct s) e h = absurd h
-scalar_value env at (function t ts) e h = absurd h
-
-pub and_left : (a b : Bool) → (a && b) ≡ true → a ≡ true
-and_left true b h = refl
-and_left false b h = absurd (let q : false ≡ true = h in cc)
+scalar_value env at t e h = absurd h
 
 pub same_list : (xs ys : List TypedExpression) → fine xs ≡ fine ys → xs ≡ ys
 same_list xs ys e = cc
-
-pub nothing_more : (ws : List (List ℕ)) → ws ++ [] ≡ ws
-nothing_more [] = refl
-nothing_more (w ∷ ws) = ap (λ vs. w ∷ vs) (nothing_more ws)
 
 pub follows_fine : (p : Program) (k : ℕ) (ts : List CType) (r s : Checked TypedExpression) (g : TypedExpression) → Follows p k ts r s → r ≡ fine g → (x : typed.Expr) × (s ≡ fine (remade g x)) × IsRemade p k ts g x
 follows_fine p k ts r s g h e = subst (λ z. Follows p k ts z s) e h
@@ -90,7 +76,7 @@ module _ (p : Program) (sites : Sites) (env : Env) (w : More) where
       let a1 : Expr = expr sites b.sites true a in
       let name = argument_name site i in
       let b1 : Before = after b' (a_name at name) in
-      let near1 : Near b b1 = record { sites = (let q = r.sites in omega (arith, q)); strings = nothing_more b'.strings ∙ r.strings; cells = (let q = r.cells in omega (arith, q)) } in
+      let near1 : Near b b1 = record { sites = (let q = r.sites in omega (arith, q)); strings = append-nil b'.strings ∙ r.strings; cells = (let q = r.cells in omega (arith, q)) } in
       let h = follows_fine p k (types_of xs) (value L b a) (value R b1 a1) g (value_goes p sites env w a l.0.wanted b b1 k n.0 t.0 (found_first w.names k xs ys found) near1) c.2 in
       let x : typed.Expr = h.0 in
       let fits_too : fits u (remade g x) ≡ true = fits_same p k [] [] u (kind_of u) g x ∙ fits_one in

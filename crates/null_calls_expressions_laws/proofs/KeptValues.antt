@@ -14,8 +14,6 @@ use Rattle.null_calls_expressions_laws.proofs.OwnTypes.{values_fit}
 
 pub kept_values_are_given : KeptValuesAreGiven
 kept_values_are_given env w no_exprs no_types c at site i j m s f = record { given = refl; many = refl; fitting = refl; kept = refl }
-kept_values_are_given env w no_exprs (more_types t ps) c at site i j m s f = absurd m
-kept_values_are_given env w (more_exprs e es) no_types c at site i j m s f = absurd m
 kept_values_are_given env w (more_exprs e es) (more_types t ps) c at site i j m s f =
     let one = temporaries_are_read env w c at (argument_name site i) j t s.0 f.0 in
     let rest = kept_values_are_given env w es ps (after c (a_name at (argument_name site i))) at site (suc i) (suc j) m s.1 f.1 in
@@ -27,3 +25,4 @@ kept_values_are_given env w (more_exprs e es) (more_types t ps) c at site i j m 
       fitting = ap₂ (λ a b. a && b) own.fitting rest.fitting;
       kept = ap₂ (λ g es. typed.more_exprs (unsited (tree_of g)) es) own.same rest.kept;
     }
+kept_values_are_given env w es ps c at site i j m s f = absurd m

@@ -19,8 +19,7 @@ pub use Rattle.c_rules_laws.proofs.Holding.{after_part}
 
 same_inner : (f : Form) → with_inner f (inner_of f) ≡ f
 same_inner (a_value e) = refl
-same_inner (a_place e) = refl
-same_inner (behind e) = refl
+same_inner f = refl
 
 module _ (p : Program) where
   -- no call stands in the tree
@@ -37,10 +36,9 @@ module _ (p : Program) where
 
   meant_leaf : (env : Env) (at : ℕ) (x : Name) (m : Meaning) → Holds IsLeaf (meant env at x m)
   meant_leaf env at x (a_static seen whole d) = after_part IsLeaf (used env.context at (object_number env x)) _ (λ n. record { types = refl; tree = λ k. refl })
-  meant_leaf env at x (a_local n seen whole) = record { types = refl; tree = λ k. refl }
   meant_leaf env at x (a_function t d) = after_part IsLeaf (function_value_number env at x) _ (λ n. record { types = refl; tree = λ k. refl })
-  meant_leaf env at x (an_enumerator z) = record { types = refl; tree = λ k. refl }
   meant_leaf env at x (unknown f fs) = tt
+  meant_leaf env at x m = record { types = refl; tree = λ k. refl }
 
   bound_leaf : (env : Env) (at : ℕ) (x : Name) (o : Option Binding) → Holds IsLeaf (bound env at x o)
   bound_leaf env at x None = tt

@@ -17,7 +17,7 @@ pub mod KeptArguments
 pub mod KeptValues
 pub mod MarkedCalls
 pub mod MostCalls
-pub mod NullTypes
+pub mod Given
 pub mod OwnTypes
 pub mod PlainCalls
 pub use Rattle.null_calls_counts_laws.proofs.ExpressionCounts

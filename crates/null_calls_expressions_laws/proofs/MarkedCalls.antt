@@ -1,5 +1,6 @@
 -- A marked call between its null calls.
 use Rattle.std.proofs.Common.{◌≡◌, ℕ, suc, ◌+◌, ◌≤◌, Bool, true, false, if◌then◌else◌, List, [], ◌∷◌, ◌++◌, length, None, Some, refl, ap, ap₂, sym, subst, ◌∙◌, arith}
+use Rattle.std.proofs.lemmas.List.{append-nil}
 use Rattle.c_tree.specs.Tree.{CType, void, integer, pointer, array, struct, function, CTypes, no_types, more_types, list_of, type_of, Program}
 use Rattle.c_tree.specs.Tree as typed
 use Rattle.c_tree.specs.Functions.{called_type}
@@ -32,7 +33,7 @@ use Rattle.null_calls_counts_laws.proofs.ExpressionCounts.{counts_stay}
 use Rattle.null_calls_expressions_laws.specs.Tabled.{AreTabled, AllTabled, AreFound}
 use Rattle.null_calls_expressions_laws.specs.Follow.{types_of, Goes, AllGo}
 use Rattle.null_calls_expressions_laws.proofs.Leaves.{Holds}
-use Rattle.null_calls_expressions_laws.proofs.TreeTypes.{ValueTyped, value_typed}
+use Rattle.null_calls_expressions_laws.proofs.TreeTypes.{ValueTyped, value_typed, nulls_have_their_types}
 use Rattle.null_calls_expressions_laws.proofs.Commas.{type_unsited}
 use Rattle.null_calls_expressions_laws.proofs.Forms.{types_both, found_first, found_rest, value_goes}
 use Rattle.null_calls_expressions_laws.specs.AddedParts.{IsTemporary}
@@ -42,8 +43,7 @@ use Rattle.null_calls_expressions_laws.specs.MarkedCalls.{NullCallsStand}
 use Rattle.null_calls_expressions_laws.specs.NullTypes.{IsNullType}
 use Rattle.null_calls_expressions_laws.proofs.AddedParts.{temporaries_are_read, temporaries_are_set}
 use Rattle.null_calls_expressions_laws.proofs.BehindArguments.{behind}
-use Rattle.null_calls_expressions_laws.proofs.KeptArguments.{scalar_fits, first_fine, and_left, and_right, same_list, nothing_more, follows_fine, kept_arguments_go}
-use Rattle.null_calls_expressions_laws.proofs.NullTypes.{nulls_have_their_types}
+use Rattle.null_calls_expressions_laws.proofs.KeptArguments.{scalar_fits, first_fine, and_left, and_right, same_list, follows_fine, kept_arguments_go}
 use Rattle.null_calls_expressions_laws.proofs.OwnTypes.{type_itself}
 use Rattle.c_lexer.proofs.OneTokenTables.{or_right}
 
@@ -89,9 +89,7 @@ kept_scalar : (wanted : Bool) (t : CType) → IsResult t → is_kept wanted t �
 kept_scalar wanted void h e = absurd (let q : false ≡ true = e in cc)
 kept_scalar wanted (integer i) h e = tt
 kept_scalar wanted (pointer t) h e = tt
-kept_scalar wanted (array t n) h e = absurd h
-kept_scalar wanted (struct s) h e = absurd h
-kept_scalar wanted (function t ts) h e = absurd h
+kept_scalar wanted t h e = absurd h
 
 result_found : (w : More) (kept : Bool) (site j : ℕ) (t : CType) → AreFound w.names j (if kept then record { name = result_name site; ctype = t } ∷ [] else []) → kept ≡ true → IsTemporary w (result_name site) j t
 result_found w true site j t f e = f.0
@@ -166,7 +164,7 @@ module _ (p : Program) (sites : Sites) (env : Env) (w : More) (stand : NullCalls
         let b2 : Before = after_designator b (a_name place y) in
         let first : AreFound w.names k (xs ++ rs) = found_first w.names k (xs ++ rs) ys found in
         let fr : AreFound w.names (k + length (list_of ps)) rs = subst (λ ts. AreFound w.names (k + length ts) rs) (types_of_arguments m 0 ps) (found_rest w.names k xs rs first) in
-        let near : NearBy 3 b2 b' = record { sites = (let q = r.sites in omega (arith, q)); strings = r.strings ∙ sym (nothing_more b.strings); cells = (let q = r.cells in omega (arith, q)) } in
+        let near : NearBy 3 b2 b' = record { sites = (let q = r.sites in omega (arith, q)); strings = r.strings ∙ sym (append-nil b.strings); cells = (let q = r.cells in omega (arith, q)) } in
         let e : b2.sites ≡ suc m = omega arith in
         let h = join b2 b' at m k (k + length (types_of (xs ++ rs))) wanted t ps es gs (a_name place y) (direct f) l e n tabled (found_first w.names k xs rs first) fr (found_rest w.names k (xs ++ rs) ys found) near given fit long (omega (arith, within)) result refl (λ c. fine_leads _ _ _ (named_callee_leads env w plain alike at place y) callee_fine) (λ site vs. refl) in
         let both_types : types_of (xs ++ rs) ≡ list_of ps ++ with_null_calls.of_result wanted t = types_both xs rs ∙ ap₂ (λ us vs. us ++ vs) (types_of_arguments m 0 ps) (types_of_result m wanted t) in
@@ -211,7 +209,7 @@ module _ (p : Program) (sites : Sites) (env : Env) (w : More) (stand : NullCalls
         let fzz : AreFound w.names j zs = found_first w.names j zs ys fz in
         let temporary : IsTemporary w name j F = subst (λ u. IsTemporary w name j u) typ fzz.0 in
         let fr : AreFound w.names (suc j + length (list_of ps)) rs = subst (λ ts. AreFound w.names (suc j + length ts) rs) (types_of_arguments m 0 ps) (found_rest w.names (suc j) xs rs fzz.1) in
-        let near1 : Near b b1 = record { sites = (let q = r.sites in omega (arith, q)); strings = nothing_more b'.strings ∙ r.strings; cells = (let q = r.cells in omega (arith, q)) } in
+        let near1 : Near b b1 = record { sites = (let q = r.sites in omega (arith, q)); strings = append-nil b'.strings ∙ r.strings; cells = (let q = r.cells in omega (arith, q)) } in
         let counted = counts_stay sites b.sites true d n in
         let near : NearBy 3 b2 c = record { sites = (let q = r.sites in let u = counted.calls_most in omega (arith, q, u)); strings = ap₂ (λ u v. u ++ v) r.strings counted.strings_same; cells = ap₂ (λ c ws. c + string_cells ws) r.cells counted.strings_same } in
         let f = follows_fine p k (types_of ds) (value L b d) (value R b1 d1) g (value_goes p sites env w d l.wanted b b1 k n td (found_first w.names k ds (zs ++ ys) found) near1) v in

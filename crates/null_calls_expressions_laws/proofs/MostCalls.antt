@@ -18,35 +18,25 @@ use Rattle.c_rules.specs.BinaryExpressions.{sum, choice}
 use Rattle.c_rules.specs.Assignments.{assignable, assignment_by, step, comma_of}
 use Rattle.c_rules.specs.Declarators.{is_void_pointer}
 use Rattle.c_rules.specs.Expressions.{value_at, place_at, infix_rule, cast_rule, callee, tree, trees, type_named}
+use Rattle.c_rules_laws.proofs.Holding.{Holds, on_holds, both_hold, all_three_hold, if_holds}
 use Rattle.null_calls_expressions_laws.specs.MostCalls.{CallsAreWithin}
 
 -- what holds where a part is fine
 abbrev Where : {A : Type 0} → Type 0 → Checked A → Type 0
-Where P (fine a) = P
-Where P (faulty f fs) = Unit {0}
+Where P r = Holds (λ _. P) r
 
 where_any : {A : Type 0} (P : Type 0) (r : Checked A) → P → Where P r
 where_any P (fine a) h = h
 where_any P (faulty f fs) h = tt
 
 where_on : {A B : Type 0} (P : Type 0) (r : Checked A) (f : A → Checked B) → Where P r → Where P (on r f)
-where_on P (fine a) f h = where_any P (f a) h
-where_on P (faulty e es) f h = tt
+where_on P r f h = on_holds (λ _. P) (λ _. P) r f h (λ a k. where_any P (f a) k)
 
 where_both : {A B C : Type 0} (P Q R : Type 0) (r : Checked A) (s : Checked B) (f : A → B → Checked C) → (P → Q → R) → Where P r → Where Q s → Where R (both r s f)
-where_both P Q R (fine a) (fine b) f k h l = where_any R (f a b) (k h l)
-where_both P Q R (fine a) (faulty e es) f k h l = tt
-where_both P Q R (faulty e es) s f k h l = tt
+where_both P Q R r s f k h l = both_hold (λ _. P) (λ _. Q) (λ _. R) r s f h l (λ a b x y. where_any R (f a b) (k x y))
 
 where_three : {A B C D : Type 0} (P Q R S : Type 0) (r : Checked A) (s : Checked B) (t : Checked C) (f : A → B → C → Checked D) → (P → Q → R → S) → Where P r → Where Q s → Where R t → Where S (all_three r s t f)
-where_three P Q R S (fine a) (fine b) (fine c) f k h l m = where_any S (f a b c) (k h l m)
-where_three P Q R S (fine a) (fine b) (faulty e es) f k h l m = tt
-where_three P Q R S (fine a) (faulty e es) t f k h l m = tt
-where_three P Q R S (faulty e es) s t f k h l m = tt
-
-where_if : {A : Type 0} (P : Type 0) (b : Bool) (r s : Checked A) → Where P r → Where P s → Where P (if b then r else s)
-where_if P true r s h l = h
-where_if P false r s h l = l
+where_three P Q R S r s t f k h l m = all_three_hold (λ _. P) (λ _. Q) (λ _. R) (λ _. S) r s t f h l m (λ a b c x y z. where_any S (f a b c) (k x y z))
 
 -- so many calls behind so many others pass no limit
 abbrev Within : ℕ → ℕ → ℕ → Type 0
@@ -89,12 +79,9 @@ module _ (env : Env) (runs : env.context ≡ evaluated) where
 
   mutual
     tree_within : (x : Expr) (b : Before) → Where (Within most b.sites (calls x)) (tree env b x)
-    tree_within (a_name at y) b = where_any (Within most b.sites 0) (tree env b (a_name at y)) (within_none most b.sites)
     tree_within (an_int at n u) b = within_none most b.sites
     tree_within (a_char at c) b = within_none most b.sites
-    tree_within (a_str at text) b = where_any (Within most b.sites 0) (tree env b (a_str at text)) (within_none most b.sites)
     tree_within (comma at es) b = where_on (Within most b.sites (calls_of_all es)) (trees env b es) (λ gs. fine (comma_of gs)) (trees_within es b)
-    tree_within (sizeof_type at t) b = where_any (Within most b.sites 0) (tree env b (sizeof_type at t)) (within_none most b.sites)
     tree_within (cast at t e) b = cast_within (is_void_pointer t) at (type_named env t) (value_at env (place_of e) (tree env b e)) (Within most b.sites (calls e)) (value_within (Within most b.sites (calls e)) (place_of e) (tree env b e) (tree_within e b))
     tree_within (call at d es) b =
         where_three (Unit {0}) (b.sites + calls d < most) (Within most (after_designator b d).sites (calls_of_all es)) (Within most b.sites (calls d + suc (calls_of_all es))) (callee env at d (value_at env (place_of d) (tree env b d))) (site_of env (b.sites + calls d) at) (trees env (after_designator b d) es) (called at)
@@ -107,9 +94,8 @@ module _ (env : Env) (runs : env.context ≡ evaluated) where
     tree_within (postfix at post_decrement e) b = where_on (Within most b.sites (calls e)) (place_at (place_of e) (tree env b e)) (step env at Sub true) (place_within (Within most b.sites (calls e)) (place_of e) (tree env b e) (tree_within e b))
     tree_within (prefix at pre_increment e) b = where_on (Within most b.sites (calls e)) (place_at (place_of e) (tree env b e)) (step env at Add false) (place_within (Within most b.sites (calls e)) (place_of e) (tree env b e) (tree_within e b))
     tree_within (prefix at pre_decrement e) b = where_on (Within most b.sites (calls e)) (place_at (place_of e) (tree env b e)) (step env at Sub false) (place_within (Within most b.sites (calls e)) (place_of e) (tree env b e) (tree_within e b))
-    tree_within (prefix at sizeof e) b = where_any (Within most b.sites 0) (tree env b (prefix at sizeof e)) (within_none most b.sites)
     tree_within (unary at o e) b =
-        where_if (Within most b.sites (calls e)) (nat_eq o AMPERSAND) _ _ (where_on (Within most b.sites (calls e)) (tree env b e) (address at (place_of e)) (tree_within e b))
+        if_holds (λ _. Within most b.sites (calls e)) (nat_eq o AMPERSAND) _ _ (where_on (Within most b.sites (calls e)) (tree env b e) (address at (place_of e)) (tree_within e b))
         (where_on (Within most b.sites (calls e)) (value_at env (place_of e) (tree env b e)) (unary_of_value at o) (value_within (Within most b.sites (calls e)) (place_of e) (tree env b e) (tree_within e b)))
     tree_within (index at e f) b =
         where_on (Within most b.sites (calls e + calls f)) (both (value_at env (place_of e) (tree env b e)) (value_at env (place_of f) (tree env (after b e) f)) (sum env at)) (indirection at)
@@ -123,6 +109,7 @@ module _ (env : Env) (runs : env.context ≡ evaluated) where
         (value_at env (place_of c) (tree env b c)) (value_at env (place_of e) (tree env (after b c) e)) (value_at env (place_of f) (tree env (after (after b c) e) f)) (choice at)
         (λ h k m. within_both most b.sites (calls c) (calls e + calls f) h (within_both most (b.sites + calls c) (calls e) (calls f) k m))
         (value_within (Within most b.sites (calls c)) (place_of c) (tree env b c) (tree_within c b)) (value_within (Within most (after b c).sites (calls e)) (place_of e) (tree env (after b c) e) (tree_within e (after b c))) (value_within (Within most (after (after b c) e).sites (calls f)) (place_of f) (tree env (after (after b c) e) f) (tree_within f (after (after b c) e)))
+    tree_within x b = where_any (Within most b.sites 0) (tree env b x) (within_none most b.sites)
 
     trees_within : (es : Exprs) (b : Before) → Where (Within most b.sites (calls_of_all es)) (trees env b es)
     trees_within no_exprs b = within_none most b.sites

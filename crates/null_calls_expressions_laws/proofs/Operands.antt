@@ -19,21 +19,18 @@ pub use Rattle.c_rules_laws.proofs.ConstantForms.{converted_const}
 
 pub zero_const : (c : Constant) → is_known_zero c ≡ true → IsConst c
 zero_const not_constant h = absurd (let q : false ≡ true = h in cc)
-zero_const undefined h = tt
-zero_const (known x) h = tt
+zero_const c h = tt
 
 module _ (p : Program) where
   -- ## Trees
 
   form_types : (t : CType) (f : Form) → kept p true (tree_of_form t f) ≡ kept p true (inner_of f)
   form_types t (a_value e) = refl
-  form_types t (a_place e) = refl
-  form_types t (behind e) = refl
+  form_types t f = refl
 
   form_tree : (t : CType) (k : ℕ) (f : Form) (x : Expr) → unsited x ≡ expr p k true (inner_of f) → unsited (tree_of_form t (with_inner f x)) ≡ expr p k true (tree_of_form t f)
-  form_tree t k (a_value e) x h = h
-  form_tree t k (a_place e) x h = h
   form_tree t k (behind e) x h = ap (dereference t) h
+  form_tree t k f x h = h
 
   pub operand : (k : ℕ) (ts : List CType) (g : TypedExpression) (x : Expr) → IsRemade p k ts g x → IsOperand p k ts g (remade g x)
   operand k ts g x h = record { types = form_types g.ctype g.form ∙ h.types; tree = form_tree g.ctype k g.form x h.tree; none = h.none; constant = refl; ctype = refl }
@@ -67,19 +64,16 @@ module _ (p : Program) where
 
   loaded_follows : (k : ℕ) (ts : List CType) (g : TypedExpression) (x : Expr) (f : Form) → g.form ≡ f → IsRemade p k ts g x → Follows p k ts (fine (loaded g f)) (fine (loaded (remade g x) (with_inner f x)))
   loaded_follows k ts g x (a_value e) q h = same_remade k ts g x h
-  loaded_follows k ts g x (a_place e) q h = (let o = operand k ts g x h in value_remade k ts g.ctype (load g.ctype (tree_of g)) (load g.ctype (tree_of (remade g x))) not_constant not_constant o.types (ap (load g.ctype) o.tree) (λ c. absurd c) refl)
-  loaded_follows k ts g x (behind e) q h = (let o = operand k ts g x h in value_remade k ts g.ctype (load g.ctype (tree_of g)) (load g.ctype (tree_of (remade g x))) not_constant not_constant o.types (ap (load g.ctype) o.tree) (λ c. absurd c) refl)
+  loaded_follows k ts g x f q h = (let o = operand k ts g x h in value_remade k ts g.ctype (load g.ctype (tree_of g)) (load g.ctype (tree_of (remade g x))) not_constant not_constant o.types (ap (load g.ctype) o.tree) (λ c. absurd c) refl)
 
   valued_as_follows : (env : Env) (at k : ℕ) (ts : List CType) (g : TypedExpression) (x : Expr) (t : CType) → IsRemade p k ts g x → Follows p k ts (valued_as env at g t) (valued_as env at (remade g x) t)
-  valued_as_follows env at k ts g x void h = loaded_follows k ts g x g.form refl h
-  valued_as_follows env at k ts g x (integer i) h = loaded_follows k ts g x g.form refl h
-  valued_as_follows env at k ts g x (pointer t) h = loaded_follows k ts g x g.form refl h
   valued_as_follows env at k ts g x (array t n) h =
       (let o = operand k ts g x h in value_remade k ts (pointer t) (decay (pointer t) (tree_of g)) (decay (pointer t) (tree_of (remade g x))) (constant_decayed (cells (layout_of env) t) g.constant) (constant_decayed (cells (layout_of env) t) g.constant) o.types (ap (decay (pointer t)) o.tree) (λ c. h.none (decayed_const (cells (layout_of env) t) g.constant c)) refl)
   valued_as_follows env at k ts g x (struct s) h = tt
   valued_as_follows env at k ts g x (function t us) h =
       (let o = operand k ts g x h in demand_follows k ts (few_parts (pointer g.ctype)) 13 at (typed_value (pointer g.ctype) (decay (pointer g.ctype) (tree_of g)) g.constant) (typed_value (pointer g.ctype) (decay (pointer g.ctype) (tree_of (remade g x))) g.constant)
       (value_remade k ts (pointer g.ctype) (decay (pointer g.ctype) (tree_of g)) (decay (pointer g.ctype) (tree_of (remade g x))) g.constant g.constant o.types (ap (decay (pointer g.ctype)) o.tree) h.none refl))
+  valued_as_follows env at k ts g x t h = loaded_follows k ts g x g.form refl h
 
   pub valued_follows : (env : Env) (at k : ℕ) (ts : List CType) (g : TypedExpression) (x : Expr) → IsRemade p k ts g x → Follows p k ts (valued env at g) (valued env at (remade g x))
   valued_follows env at k ts g x h = valued_as_follows env at k ts g x g.ctype h

@@ -46,21 +46,7 @@ IsNoName e = Unit {0}
 
 callee_other : (env : Env) (at : ℕ) (d : Expr) (r : Checked TypedExpression) → IsNoName d → callee env at d r ≡ on r (callee_by_value at)
 callee_other env at (a_name place x) r h = absurd h
-callee_other env at (an_int place n u) r h = refl
-callee_other env at (a_char place c) r h = refl
-callee_other env at (a_str place text) r h = refl
-callee_other env at (comma place es) r h = refl
-callee_other env at (sizeof_type place t) r h = refl
-callee_other env at (cast place t e) r h = refl
-callee_other env at (call place d es) r h = refl
-callee_other env at (member place how e x) r h = refl
-callee_other env at (postfix place op e) r h = refl
-callee_other env at (prefix place op e) r h = refl
-callee_other env at (unary place op e) r h = refl
-callee_other env at (index place e f) r h = refl
-callee_other env at (binary place op e f) r h = refl
-callee_other env at (assign place op e f) r h = refl
-callee_other env at (conditional place c e f) r h = refl
+callee_other env at d r h = refl
 
 call_no_name : (at site : ℕ) (wanted : Bool) (o : Option Called) (d : Expr) (es : Exprs) → IsNoName (call_where at site wanted o d es)
 call_no_name at site wanted None d es = tt
@@ -68,21 +54,8 @@ call_no_name at site wanted (Some c) d es = tt
 
 stays_no_name : (sites : Sites) (b : ℕ) (d : Expr) → IsNoName d → IsNoName (expr sites b true d)
 stays_no_name sites b (a_name place x) h = absurd h
-stays_no_name sites b (an_int place n u) h = tt
-stays_no_name sites b (a_char place c) h = tt
-stays_no_name sites b (a_str place text) h = tt
-stays_no_name sites b (comma place es) h = tt
-stays_no_name sites b (sizeof_type place t) h = tt
-stays_no_name sites b (cast place t e) h = tt
 stays_no_name sites b (call place d es) h = call_no_name place (b + calls d) true (sites (b + calls d)) _ _
-stays_no_name sites b (member place how e x) h = tt
-stays_no_name sites b (postfix place op e) h = tt
-stays_no_name sites b (prefix place op e) h = tt
-stays_no_name sites b (unary place op e) h = tt
-stays_no_name sites b (index place e f) h = tt
-stays_no_name sites b (binary place op e f) h = tt
-stays_no_name sites b (assign place op e f) h = tt
-stays_no_name sites b (conditional place c e f) h = tt
+stays_no_name sites b d h = tt
 
 same_given : (g h : TypedExpression) → fine g ≡ fine h → g ≡ h
 same_given g h e = cc
@@ -101,17 +74,8 @@ module _ (p : Program) where
   CalleeFollows k ts (faulty f fs) s = Unit {0}
 
   through_follows : (k : ℕ) (ts : List CType) (at : ℕ) (e e' : typed.Expr) (t : CType) → with_null_calls.kept p true e ≡ ts → unsited e' ≡ with_null_calls.expr p k true e → CalleeFollows k ts (callee_through at e t) (callee_through at e' t)
-  through_follows k ts at e e' void h l = tt
-  through_follows k ts at e e' (integer i) h l = tt
-  through_follows k ts at e e' (pointer void) h l = tt
-  through_follows k ts at e e' (pointer (integer i)) h l = tt
-  through_follows k ts at e e' (pointer (pointer t)) h l = tt
-  through_follows k ts at e e' (pointer (array t n)) h l = tt
-  through_follows k ts at e e' (pointer (struct s)) h l = tt
   through_follows k ts at e e' (pointer (function t us)) h l = (through e', refl, (e', refl, h, l))
-  through_follows k ts at e e' (array t n) h l = tt
-  through_follows k ts at e e' (struct s) h l = tt
-  through_follows k ts at e e' (function t us) h l = tt
+  through_follows k ts at e e' t h l = tt
 
   by_value_follows : (k : ℕ) (ts : List CType) (at : ℕ) (r s : Checked TypedExpression) → Follows p k ts r s → CalleeFollows k ts (on r (callee_by_value at)) (on s (callee_by_value at))
   by_value_follows k ts at (fine g) s h =
@@ -123,25 +87,12 @@ module _ (p : Program) where
   CalleeLeaf k f = DesignatorGoes k [] f.designator f.designator
 
   type_leaf : (k at : ℕ) (t : CType) (n : ℕ) → Holds (CalleeLeaf k) (callee_of_type at t n)
-  type_leaf k at void n = tt
-  type_leaf k at (integer i) n = tt
-  type_leaf k at (pointer t) n = tt
-  type_leaf k at (array t m) n = tt
-  type_leaf k at (struct s) n = tt
   type_leaf k at (function t us) n = (refl, refl)
+  type_leaf k at t n = tt
 
   through_leaf : (k at : ℕ) (e : typed.Expr) (t : CType) → with_null_calls.kept p true e ≡ [] → unsited e ≡ with_null_calls.expr p k true e → Holds (CalleeLeaf k) (callee_through at e t)
-  through_leaf k at e void h l = tt
-  through_leaf k at e (integer i) h l = tt
-  through_leaf k at e (pointer void) h l = tt
-  through_leaf k at e (pointer (integer i)) h l = tt
-  through_leaf k at e (pointer (pointer t)) h l = tt
-  through_leaf k at e (pointer (array t n)) h l = tt
-  through_leaf k at e (pointer (struct s)) h l = tt
   through_leaf k at e (pointer (function t us)) h l = (e, refl, h, l)
-  through_leaf k at e (array t n) h l = tt
-  through_leaf k at e (struct s) h l = tt
-  through_leaf k at e (function t us) h l = tt
+  through_leaf k at e t h l = tt
 
   value_leaf : (k at : ℕ) (r : Checked TypedExpression) → Follows p k [] r r → Holds (CalleeLeaf k) (on r (callee_by_value at))
   value_leaf k at (fine g) h =
@@ -150,10 +101,7 @@ module _ (p : Program) where
 
   meant_callee : (env : Env) (k at place : ℕ) (y : Name) (r : Checked TypedExpression) (m : Meaning) → Follows p k [] r r → Holds (CalleeLeaf k) (callee_meant env at place y r m)
   meant_callee env k at place y r (a_function t d) h = after_part (CalleeLeaf k) (used env.context place (function_number env y)) (callee_of_type place t) (λ n. type_leaf k place t n)
-  meant_callee env k at place y r (a_static s u d) h = value_leaf k at r h
-  meant_callee env k at place y r (a_local n s u) h = value_leaf k at r h
-  meant_callee env k at place y r (an_enumerator z) h = value_leaf k at r h
-  meant_callee env k at place y r (unknown f fs) h = value_leaf k at r h
+  meant_callee env k at place y r m h = value_leaf k at r h
 
   bound_callee : (env : Env) (k at place : ℕ) (y : Name) (r : Checked TypedExpression) (o : Option Binding) → Follows p k [] r r → Holds (CalleeLeaf k) (callee_bound env at place y r o)
   bound_callee env k at place y r None h = value_leaf k at r h
@@ -178,8 +126,7 @@ module _ (p : Program) where
 
   more_args : (k : ℕ) (us vs : List CType) (r s : Checked TypedExpression) (q v : Checked (List TypedExpression)) → Follows p k us r s → ArgsFollow (k + length us) vs q v → ArgsFollow k (us ++ vs) (both r q cons) (both s v cons)
   more_args k us vs (fine g) s (fine gs) v h l = (remade g h.0 ∷ l.0, ap (λ z. both z v cons) h.1 ∙ ap (λ z. both (fine (remade g h.0)) z cons) l.1, (us, vs, h.0, l.0, refl, h.2, l.2, refl))
-  more_args k us vs (fine g) s (faulty f fs) v h l = tt
-  more_args k us vs (faulty f fs) s q v h l = tt
+  more_args k us vs r s q v h l = tt
 
   args_long : (k : ℕ) (ts : List CType) (gs hs : List TypedExpression) → AllRemade k ts gs hs → length hs ≡ length gs
   args_long k ts [] hs h = ap length h.0
@@ -192,14 +139,13 @@ module _ (p : Program) where
 
   args_passed : (ps : CTypes) (k : ℕ) (ts : List CType) (gs hs : List TypedExpression) → length gs ≡ count ps → AllRemade k ts gs hs → (with_null_calls.kept_of_all p (passed ps gs) ≡ ts) × (unsited_all (passed ps hs) ≡ with_null_calls.arguments p k (passed ps gs))
   args_passed no_types k ts [] hs l h = (sym h.1, refl)
-  args_passed no_types k ts (g ∷ gs) hs l h = absurd (omega (arith, l))
-  args_passed (more_types t ps) k ts [] hs l h = absurd (omega (arith, l))
   args_passed (more_types t ps) k ts (g ∷ gs) hs l h =
       let o = assigned_operand p k h.0 t g h.2 h.5 in
       let r = args_passed ps (k + length h.0) h.1 gs h.3 (omega (arith, l)) h.6 in (
         ap₂ (λ xs ys. xs ++ ys) o.types r.0 ∙ sym h.7,
         ap (λ z. unsited_all (passed (more_types t ps) z)) h.4 ∙ ap₂ (λ e es. typed.more_exprs e es) o.tree (r.1 ∙ ap (λ vs. with_null_calls.arguments p (k + length vs) (passed ps gs)) (sym o.types)),
       )
+  args_passed ps k ts gs hs l h = absurd (omega (arith, l))
 
   -- ## The call
 

@@ -14,21 +14,13 @@ use Rattle.c_rules.specs.Declarators.{name_of, is_void_pointer, type_of_spec, wi
 use Rattle.c_rules.specs.Expressions.{declared, size_in, parameters, type_named}
 use Rattle.null_calls_rules.specs.InstrumentedExpressions.{is_void_type}
 use Rattle.null_calls_expressions_laws.specs.Tabled.{IsAbstract}
-use Rattle.null_calls_expressions_laws.proofs.Leaves.{Holds}
+use Rattle.null_calls_expressions_laws.proofs.Leaves.{Holds, after_part}
 use Rattle.c_rules.proofs.Below.{on_holds}
 
 -- no void
 abbrev pub IsThing : CType → Type 0
 IsThing void = ⊥
-IsThing (typed.integer i) = Unit {0}
-IsThing (typed.pointer t) = Unit {0}
-IsThing (typed.array t n) = Unit {0}
-IsThing (typed.struct s) = Unit {0}
-IsThing (typed.function t ts) = Unit {0}
-
-any : {A : Type 0} (r : Checked A) → Holds (λ a. Unit {0}) r
-any (fine a) = tt
-any (faulty f fs) = tt
+IsThing t = Unit {0}
 
 demand_thing : (t : Bool) (code at : ℕ) (u : CType) → IsThing u → Holds IsThing (demand t code at u)
 demand_thing true code at u h = h
@@ -36,72 +28,52 @@ demand_thing false code at u h = tt
 
 pointer_thing : (at : ℕ) (t : CType) → Holds IsThing (pointer_to at t)
 pointer_thing at void = tt
-pointer_thing at (typed.integer i) = demand_thing (few_parts (typed.pointer (typed.integer i))) 13 at (typed.pointer (typed.integer i)) tt
-pointer_thing at (typed.pointer t) = demand_thing (few_parts (typed.pointer (typed.pointer t))) 13 at (typed.pointer (typed.pointer t)) tt
 pointer_thing at (typed.array t n) = tt
-pointer_thing at (typed.struct s) = demand_thing (few_parts (typed.pointer (typed.struct s))) 13 at (typed.pointer (typed.struct s)) tt
-pointer_thing at (typed.function t ts) = demand_thing (few_parts (typed.pointer (typed.function t ts))) 13 at (typed.pointer (typed.function t ts)) tt
+pointer_thing at t = demand_thing (few_parts (typed.pointer t)) 13 at (typed.pointer t) tt
 
 array_thing : (env : Env) (at : ℕ) (t : CType) (n : ℕ) → Holds IsThing (array_of env at t n)
-array_thing env at void n = tt
 array_thing env at (typed.integer i) n = demand_thing (few_parts (typed.array (typed.integer i) n)) 13 at (typed.array (typed.integer i) n) tt
 array_thing env at (typed.pointer t) n = demand_thing (few_parts (typed.array (typed.pointer t) n)) 13 at (typed.array (typed.pointer t) n) tt
-array_thing env at (typed.array t m) n = tt
-array_thing env at (typed.struct s) n = on_holds (λ _. Unit {0}) IsThing (complete env at (typed.struct s)) (λ _. within_parts at (typed.array (typed.struct s) n)) (any (complete env at (typed.struct s))) (λ _ _. demand_thing (few_parts (typed.array (typed.struct s) n)) 13 at (typed.array (typed.struct s) n) tt)
-array_thing env at (typed.function t ts) n = tt
+array_thing env at (typed.struct s) n = after_part IsThing (complete env at (typed.struct s)) (λ _. within_parts at (typed.array (typed.struct s) n)) (λ _. demand_thing (few_parts (typed.array (typed.struct s) n)) 13 at (typed.array (typed.struct s) n) tt)
+array_thing env at t n = tt
 
 function_thing : (at : ℕ) (t : CType) (ts : CTypes) → Holds IsThing (function_of at t ts)
-function_thing at t ts =
-    on_holds (λ _. Unit {0}) IsThing (demand (is_result t) 3 at met) _ (any (demand (is_result t) 3 at met)) (λ _ _. on_holds (λ _. Unit {0}) IsThing (demand _ 13 at met) _ (any (demand _ 13 at met)) (λ _ _. demand_thing (few_parts (typed.function t ts)) 13 at (typed.function t ts) tt))
+function_thing at t ts = after_part IsThing (demand (is_result t) 3 at met) _ (λ _. after_part IsThing (demand _ 13 at met) _ (λ _. demand_thing (few_parts (typed.function t ts)) 13 at (typed.function t ts) tt))
 
--- what a declarator makes of a type that isn't void isn't void
-declared_thing : (d : Declarator) (env : Env) (t : CType) → IsThing t → Holds IsThing (declared env d t)
+-- what a declarator makes of a type that isn't void, or of any where it makes another one, isn't void
+abbrev IsMade : Declarator → CType → Type 0
+IsMade nothing t = IsThing t
+IsMade (named at x) t = IsThing t
+IsMade d t = Unit {0}
+
+thing_made : (d : Declarator) (t : CType) → IsThing t → IsMade d t
+thing_made nothing t h = h
+thing_made (named at x) t h = h
+thing_made d t h = tt
+
+declared_thing : (d : Declarator) (env : Env) (t : CType) → IsMade d t → Holds IsThing (declared env d t)
 declared_thing nothing env t h = h
 declared_thing (named at x) env t h = h
-declared_thing (pointer at d) env t h = on_holds IsThing IsThing (pointer_to at t) (λ u. declared env d u) (pointer_thing at t) (λ u k. declared_thing d env u k)
+declared_thing (pointer at d) env t h = on_holds IsThing IsThing (pointer_to at t) (λ u. declared env d u) (pointer_thing at t) (λ u k. declared_thing d env u (thing_made d u k))
 declared_thing (array at d size) env t h =
-    on_holds IsThing IsThing (on (size_in env size) (array_of env at t)) (λ u. declared env d u) (on_holds (λ _. Unit {0}) IsThing (size_in env size) (array_of env at t) (any (size_in env size)) (λ n _. array_thing env at t n)) (λ u k. declared_thing d env u k)
+    on_holds IsThing IsThing (on (size_in env size) (array_of env at t)) (λ u. declared env d u) (after_part IsThing (size_in env size) (array_of env at t) (λ n. array_thing env at t n)) (λ u k. declared_thing d env u (thing_made d u k))
 declared_thing (function at d ps) env t h =
-    on_holds IsThing IsThing (on (parameters (inside env) 0 ps) (function_of at t)) (λ u. declared env d u) (on_holds (λ _. Unit {0}) IsThing (parameters (inside env) 0 ps) (function_of at t) (any (parameters (inside env) 0 ps)) (λ ts _. function_thing at t ts)) (λ u k. declared_thing d env u k)
-
--- a declarator without a name that is something makes no void
-derived_thing : (d : Declarator) (env : Env) (t : CType) → name_of d ≡ None → (d ≡ nothing → ⊥) → Holds IsThing (declared env d t)
-derived_thing nothing env t e n = absurd (n refl)
-derived_thing (named at x) env t e n = absurd (let q : Some x ≡ None = e in cc)
-derived_thing (pointer at d) env t e n = on_holds IsThing IsThing (pointer_to at t) (λ u. declared env d u) (pointer_thing at t) (λ u k. declared_thing d env u k)
-derived_thing (array at d size) env t e n =
-    on_holds IsThing IsThing (on (size_in env size) (array_of env at t)) (λ u. declared env d u) (on_holds (λ _. Unit {0}) IsThing (size_in env size) (array_of env at t) (any (size_in env size)) (λ m _. array_thing env at t m)) (λ u k. declared_thing d env u k)
-derived_thing (function at d ps) env t e n =
-    on_holds IsThing IsThing (on (parameters (inside env) 0 ps) (function_of at t)) (λ u. declared env d u) (on_holds (λ _. Unit {0}) IsThing (parameters (inside env) 0 ps) (function_of at t) (any (parameters (inside env) 0 ps)) (λ ts _. function_thing at t ts)) (λ u k. declared_thing d env u k)
+    on_holds IsThing IsThing (on (parameters (inside env) 0 ps) (function_of at t)) (λ u. declared env d u) (after_part IsThing (parameters (inside env) 0 ps) (function_of at t) (λ ts. function_thing at t ts)) (λ u k. declared_thing d env u (thing_made d u k))
 
 -- ## Casts to void
 
 -- a cast to void is told by its syntax
 pub void_named : (u : TypeName) → is_void_type u ≡ true → ((env : Env) → type_named env u ≡ fine void) × (is_void_pointer u ≡ false)
 void_named (type_name at syntax.void nothing) e = (λ env. refl, refl)
-void_named (type_name at syntax.void (named here x)) e = absurd (let q : false ≡ true = e in cc)
-void_named (type_name at syntax.void (pointer here d)) e = absurd (let q : false ≡ true = e in cc)
-void_named (type_name at syntax.void (array here d size)) e = absurd (let q : false ≡ true = e in cc)
-void_named (type_name at syntax.void (function here d ps)) e = absurd (let q : false ≡ true = e in cc)
-void_named (type_name at syntax.char d) e = absurd (let q : false ≡ true = e in cc)
-void_named (type_name at syntax.unsigned_char d) e = absurd (let q : false ≡ true = e in cc)
-void_named (type_name at syntax.int d) e = absurd (let q : false ≡ true = e in cc)
-void_named (type_name at syntax.unsigned_int d) e = absurd (let q : false ≡ true = e in cc)
-void_named (type_name at (syntax.struct x) d) e = absurd (let q : false ≡ true = e in cc)
-void_named (type_name at (syntax.enum x) d) e = absurd (let q : false ≡ true = e in cc)
+void_named u e = absurd (let q : false ≡ true = e in cc)
 
 spec_thing : (env : Env) (at : ℕ) (s : Spec) (d : Declarator) → Holds IsThing (type_of_spec env at s) → Holds IsThing (on (type_of_spec env at s) (λ t. declared env d t))
-spec_thing env at s d h = on_holds IsThing IsThing (type_of_spec env at s) (λ t. declared env d t) h (λ t k. declared_thing d env t k)
+spec_thing env at s d h = on_holds IsThing IsThing (type_of_spec env at s) (λ t. declared env d t) h (λ t k. declared_thing d env t (thing_made d t k))
 
 pub thing_named : (u : TypeName) (env : Env) → IsAbstract u → is_void_type u ≡ false → Holds IsThing (type_named env u)
 thing_named (type_name at syntax.void nothing) env a e = absurd (let q : true ≡ false = e in cc)
 thing_named (type_name at syntax.void (named here x)) env a e = absurd (let q : Some x ≡ None = a in cc)
-thing_named (type_name at syntax.void (pointer here d)) env a e = derived_thing (pointer here d) env void a (λ q. cc)
-thing_named (type_name at syntax.void (array here d size)) env a e = derived_thing (array here d size) env void a (λ q. cc)
-thing_named (type_name at syntax.void (function here d ps)) env a e = derived_thing (function here d ps) env void a (λ q. cc)
-thing_named (type_name at syntax.char d) env a e = spec_thing env at syntax.char d tt
-thing_named (type_name at syntax.unsigned_char d) env a e = spec_thing env at syntax.unsigned_char d tt
-thing_named (type_name at syntax.int d) env a e = spec_thing env at syntax.int d tt
-thing_named (type_name at syntax.unsigned_int d) env a e = spec_thing env at syntax.unsigned_int d tt
+thing_named (type_name at syntax.void d) env a e = declared_thing d env void tt
 thing_named (type_name at (syntax.struct x) d) env a e = spec_thing env at (syntax.struct x) d (demand_thing (not (is_among env.enums x.name)) 2 x.at (typed.struct (tag_number env x.name)) tt)
 thing_named (type_name at (syntax.enum x) d) env a e = spec_thing env at (syntax.enum x) d (demand_thing (is_among env.enums x.name) 1 at (typed.integer Int) tt)
+thing_named (type_name at s d) env a e = spec_thing env at s d tt

@@ -24,13 +24,10 @@ use Rattle.c_rules.specs.Expressions.{value_at, place_at, access, unary_rule}
 use Rattle.null_calls_rules.specs.InstrumentedPrograms.{expr, kept}
 use Rattle.null_calls_rules.specs.WithoutSites.{unsited}
 use Rattle.c_rules_laws.specs.ConstantForm.{IsConst}
+use Rattle.c_rules_laws.proofs.Holding.{and_right}
 use Rattle.null_calls_expressions_laws.specs.Remade.{inner_of, with_inner, remade, IsRemade, Follows}
 use Rattle.null_calls_expressions_laws.proofs.Constants.{unary_const, integer_const, member_const}
 use Rattle.null_calls_expressions_laws.proofs.Operands.{operand, value_remade, same_remade, demand_follows, behind_follows, on_follows, if_follows, valued_follows, cast_operand, converted_operand, null_operand}
-
-pub and_right : (a b : Bool) → (a && b) ≡ true → b ≡ true
-and_right true b h = h
-and_right false b h = absurd (let q : false ≡ true = h in cc)
 
 module _ (p : Program) (k : ℕ) (ts : List CType) where
   abbrev Same : TypedExpression → Expr → Type 0
@@ -50,17 +47,12 @@ module _ (p : Program) (k : ℕ) (ts : List CType) where
       (field t first (tree_of (remade g x)), refl, record { types = o.types; tree = ap (field t first) o.tree; none = λ c. h.none (member_const first (cells (layout_of env) t) g.constant c) })
 
   member_struct_follows : (env : Env) (at : ℕ) (y : Name) (g : TypedExpression) (x : Expr) (s : Struct) → Same g x → Goes (member_of_struct env at y g s) (member_of_struct env at y (remade g x) s)
-  member_struct_follows env at y g x incomplete h = tt
-  member_struct_follows env at y g x (unknown_struct f fs) h = tt
   member_struct_follows env at y g x (defined_struct ms) h = member_or_follows env at ms g x (number_among (map name_of_member ms) y) h
+  member_struct_follows env at y g x s h = tt
 
   member_type_follows : (env : Env) (at : ℕ) (y : Name) (g : TypedExpression) (x : Expr) (t : CType) → Same g x → Goes (member_of_type env at y g t) (member_of_type env at y (remade g x) t)
   member_type_follows env at y g x (struct s) h = member_struct_follows env at y g x (struct_of env s) h
-  member_type_follows env at y g x void h = tt
-  member_type_follows env at y g x (integer i) h = tt
-  member_type_follows env at y g x (pointer t) h = tt
-  member_type_follows env at y g x (array t n) h = tt
-  member_type_follows env at y g x (function t us) h = tt
+  member_type_follows env at y g x t h = tt
 
   pub member_follows : (env : Env) (at : ℕ) (y : Name) (g : TypedExpression) (x : Expr) → Same g x → Goes (member_of env at y g) (member_of env at y (remade g x))
   member_follows env at y g x h = member_type_follows env at y g x g.ctype h
@@ -76,17 +68,12 @@ module _ (p : Program) (k : ℕ) (ts : List CType) where
 
   address_type_follows : (at : ℕ) (g : TypedExpression) (x : Expr) (t : CType) → Same g x → Goes (address_of_type at g t) (address_of_type at (remade g x) t)
   address_type_follows at g x (array t n) h = tt
-  address_type_follows at g x void h = address_form_follows at g x g.form h.types h.tree h.none
-  address_type_follows at g x (integer i) h = address_form_follows at g x g.form h.types h.tree h.none
-  address_type_follows at g x (pointer t) h = address_form_follows at g x g.form h.types h.tree h.none
-  address_type_follows at g x (struct s) h = address_form_follows at g x g.form h.types h.tree h.none
-  address_type_follows at g x (function t us) h = address_form_follows at g x g.form h.types h.tree h.none
+  address_type_follows at g x t h = address_form_follows at g x g.form h.types h.tree h.none
 
   -- a test that looks at the form alone
   value_same : (f : Form) (x : Expr) → is_value (with_inner f x) ≡ is_value f
   value_same (a_value e) x = refl
-  value_same (a_place e) x = refl
-  value_same (behind e) x = refl
+  value_same f x = refl
 
   place_same : (g : TypedExpression) (x : Expr) → is_place (remade g x) ≡ is_place g
   place_same g x = ap (λ b. not b && not (is_function g.ctype)) (value_same g.form x)
@@ -110,16 +97,8 @@ module _ (p : Program) (k : ℕ) (ts : List CType) where
 
   led_follows : (at : ℕ) (g : TypedExpression) (x : Expr) (t : CType) → Same g x → Goes (led_to at g t) (led_to at (remade g x) t)
   led_follows at g x (pointer void) h = tt
-  led_follows at g x (pointer (integer i)) h = led_remade g x (integer i) h
-  led_follows at g x (pointer (pointer t)) h = led_remade g x (pointer t) h
-  led_follows at g x (pointer (array t n)) h = led_remade g x (array t n) h
-  led_follows at g x (pointer (struct s)) h = led_remade g x (struct s) h
-  led_follows at g x (pointer (function t us)) h = led_remade g x (function t us) h
-  led_follows at g x void h = tt
-  led_follows at g x (integer i) h = tt
-  led_follows at g x (array t n) h = tt
-  led_follows at g x (struct s) h = tt
-  led_follows at g x (function t us) h = tt
+  led_follows at g x (pointer t) h = led_remade g x t h
+  led_follows at g x t h = tt
 
   pub indirection_follows : (at : ℕ) (g : TypedExpression) (x : Expr) → Same g x → Goes (indirection at g) (indirection at (remade g x))
   indirection_follows at g x h = led_follows at g x g.ctype h
@@ -131,8 +110,7 @@ module _ (p : Program) (k : ℕ) (ts : List CType) where
 
   plus_follows : (at : ℕ) (g : TypedExpression) (x : Expr) (d : Kind) → Same g x → Goes (plus_of at g d) (plus_of at (remade g x) d)
   plus_follows at g x (an_integer i) h = cast_follows (promoted i) g x h
-  plus_follows at g x (a_pointer t) h = tt
-  plus_follows at g x neither h = tt
+  plus_follows at g x d h = tt
 
   operator_follows : (at : ℕ) (o : UnOp) (g : TypedExpression) (x : Expr) (d : Kind) → Same g x → Goes (operator_of at o g d) (operator_of at o (remade g x) d)
   operator_follows at o g x (an_integer i) h =
@@ -169,10 +147,7 @@ module _ (p : Program) (k : ℕ) (ts : List CType) where
   pub cast_of_follows : (at : ℕ) (t : CType) (g : TypedExpression) (x : Expr) → (t ≡ void → ⊥) → Same g x → Goes (cast_of at t g) (cast_of at t (remade g x))
   cast_of_follows at void g x n h = absurd (n refl)
   cast_of_follows at (integer i) g x n h = demand_follows p k ts (is_integer g.ctype) 3 at (cast_to i g) (cast_to i (remade g x)) (cast_follows i g x h)
-  cast_of_follows at (pointer t) g x n h = tt
-  cast_of_follows at (array t m) g x n h = tt
-  cast_of_follows at (struct s) g x n h = tt
-  cast_of_follows at (function t us) g x n h = tt
+  cast_of_follows at t g x n h = tt
 
 -- ## Rules on what an operand gives
 
