@@ -3,7 +3,7 @@ use Rattle.std.proofs.Common.{◌≡◌, ℕ, ◌+◌, ◌<◌, Bool, true, fals
 use Rattle.std.proofs.lemmas.Bool.Decides.{Decides-ltb}
 use Rattle.dm_base.specs.declared.mode.Mode.TheVariants.{Instrumented}
 use Rattle.c_lexer.specs.declared.punctuator.TheConstants.{ASSIGN}
-use Rattle.c_tree.specs.Tree.{CType, void, integer, pointer, array, struct, function, no_types, more_types}
+use Rattle.c_tree.specs.Tree.{CType, void, integer, pointer, no_types, more_types}
 use Rattle.c_tree.specs.Tree as typed
 use Rattle.c_tree.specs.Functions.{unsigned_int, of_one}
 use Rattle.c_tree.specs.Operands.{IsScalar}

@@ -1,17 +1,17 @@
 -- Every call of an instrumented unit goes where its designator and its arguments do.
 use Rattle.std.proofs.Common.{◌≡◌, ℕ, suc, ◌+◌, ◌≤◌, ◌<◌, Bool, true, false, List, [], ◌∷◌, ◌++◌, length, Option, None, Some, nat_lt, refl, ap, sym, subst, ◌∙◌, arith}
 use Rattle.std.proofs.lemmas.Bool.Decides.{Decides-ltb, Decides-eqb}
-use Rattle.c_tree.specs.Tree.{CType, void, integer, pointer, array, struct, function, CTypes, type_of, Program}
+use Rattle.c_tree.specs.Tree.{CType, void, integer, pointer, function, CTypes, type_of, Program}
 use Rattle.c_tree.specs.Tree as typed
 use Rattle.c_tree.specs.Functions.{called_type}
 use Rattle.c_tree.specs.Operands.{IsResult}
 use Rattle.c_shapes.specs.Mentions.{Direct, Through}
 use Rattle.c_shapes.specs.CallGraph.{is_marked}
-use Rattle.c_syntax.specs.Tree.{Expr, a_name, an_int, a_char, a_str, comma, sizeof_type, cast, call, member, postfix, prefix, unary, index, binary, assign, conditional, Exprs}
+use Rattle.c_syntax.specs.Tree.{Expr, a_name, call, Exprs}
 use Rattle.c_rules.specs.Checked.{Checked, fine, faulty, demand, on, all_three, met}
 use Rattle.c_rules.specs.Types.{count}
 use Rattle.c_rules.specs.Names.{Name}
-use Rattle.c_rules.specs.Scopes.{Env, Binding, Meaning, a_static, a_local, a_function, an_enumerator, unknown, evaluated, Before, binding_of}
+use Rattle.c_rules.specs.Scopes.{Env, Binding, Meaning, a_function, evaluated, Before, binding_of}
 use Rattle.c_rules.specs.Counts.{place_of, calls, calls_of_all, after_designator}
 use Rattle.c_rules.specs.TypedExpression.{not_constant, TypedExpression, typed_value, tree_of}
 use Rattle.c_rules.specs.PrimaryExpressions.{used, function_number}

@@ -4,7 +4,7 @@ use Rattle.std.proofs.lemmas.Bool.Decides.{Decides-eqb}
 use Rattle.sys_table.specs.Table.{table}
 use Rattle.dm_base.specs.declared.mode.Mode.TheVariants.{Instrumented}
 use Rattle.c_tree.specs.declared.value.Value.TheVariants.{Uint}
-use Rattle.c_tree.specs.Tree.{CType, void, integer, pointer, array, struct, function, CTypes, list_of, Program}
+use Rattle.c_tree.specs.Tree.{CType, void, integer, pointer, CTypes, list_of, Program}
 use Rattle.c_tree.specs.Tree as typed
 use Rattle.c_tree.specs.Functions.{unsigned_int}
 use Rattle.c_tree.specs.Operands.{IsScalar, IsResult}

@@ -1,5 +1,5 @@
 -- Rules with two operands and more, where the operands have other trees.
-use Rattle.std.proofs.Common.{◌≡◌, ℕ, ◌+◌, Bool, true, false, ◌&&◌, if◌then◌else◌, List, [], ◌∷◌, ◌++◌, length, nat_eq, refl, ap, ap₂, sym, subst, ◌∙◌, arith}
+use Rattle.std.proofs.Common.{◌≡◌, ℕ, ◌+◌, Bool, true, false, ◌&&◌, if◌then◌else◌, List, [], ◌++◌, length, nat_eq, refl, ap, ap₂, sym, subst, ◌∙◌}
 use Rattle.std.proofs.lemmas.List.{append-nil}
 use Rattle.std.specs.Prelude.{neg_ℤ}
 use Rattle.c_lexer.specs.declared.punctuator.TheConstants.{ASSIGN}
@@ -12,12 +12,12 @@ use Rattle.c_tree.specs.Functions.{int}
 use Rattle.c_tree.specs.Operands.{promoted, common, OperatorKind, balanced, shift, ordering, equality}
 use Rattle.c_tree.specs.Operands.{kind_of as kind_of_operator}
 use Rattle.c_syntax.specs.Tree.{Infix, and, or, operator, Postfix, post_increment, post_decrement}
-use Rattle.c_rules.specs.Checked.{Checked, fine, faulty, demand, on, both, all_three, gives, met}
+use Rattle.c_rules.specs.Checked.{Checked, fine, demand, on, both, all_three, gives, met}
 use Rattle.c_rules.specs.Types.{same_type, is_integer, is_scalar, is_void}
 use Rattle.c_rules.specs.Scopes.{Env}
 use Rattle.c_rules.specs.TypedExpression.{Constant, not_constant, TypedExpression, typed_value, tree_of, is_null, integer_constant_if, integer_constant}
-use Rattle.c_rules.specs.Constants.{constant_binary, constant_and, constant_or, constant_conditional, constant_moved}
-use Rattle.c_rules.specs.Conversions.{Kind, an_integer, a_pointer, neither, kind_of, complete, converted_to, null_of, fits_kind, fits, assigned}
+use Rattle.c_rules.specs.Constants.{constant_binary, constant_and, constant_or, constant_conditional}
+use Rattle.c_rules.specs.Conversions.{Kind, an_integer, a_pointer, kind_of, complete, converted_to, null_of, fits_kind, fits, assigned}
 use Rattle.c_rules.specs.BinaryExpressions.{operator_of_code, shifted, compared_integers, compared_pointers, pointer_plus, plus_pointer, pointer_minus, difference, sum_of, sum, minus_of, balanced_of, shift_of, ordered_of, Alike, alike_integers, alike_pointers, unlike, pointers_alike, alike_of, alike, equality_of, arithmetic_of, operation_of, both_scalars, chosen, arms_of, choice}
 use Rattle.c_rules.specs.Assignments.{assignment, operator_of_assignment, right_type, updated, moves, update_of, assignment_by, one_for, step}
 use Rattle.c_rules.specs.Expressions.{place_at, after_operand, infix_rule}
@@ -213,11 +213,7 @@ module _ (p : Program) (k : ℕ) (ts us : List CType) where
   update_follows env at o old a b x y (a_pointer t) (an_integer j) g h =
       behind_follows p k (ts ++ us) (demand (moves o) 3 at met) (λ _. gives (complete env at t) (λ _. updated o old a (tree_of b))) (λ _. gives (complete env at t) (λ _. updated o old (remade a x) (tree_of (remade b y))))
       (λ _. behind_follows p k (ts ++ us) (complete env at t) _ _ (λ _. updated_follows o old a b (remade b y) x g (second b y h)))
-  update_follows env at o old a b x y (an_integer i) (a_pointer t) g h = tt
-  update_follows env at o old a b x y (an_integer i) neither g h = tt
-  update_follows env at o old a b x y (a_pointer t) (a_pointer u) g h = tt
-  update_follows env at o old a b x y (a_pointer t) neither g h = tt
-  update_follows env at o old a b x y neither e g h = tt
+  update_follows env at o old a b x y d e g h = tt
 
   pub assignment_by_follows : (env : Env) (at code : ℕ) (a b : TypedExpression) (x y : Expr) → SameFirst a x → SameSecond b y → Goes (assignment_by env at code a b) (assignment_by env at code (remade a x) (remade b y))
   assignment_by_follows env at code a b x y g h =
@@ -229,8 +225,7 @@ module _ (p : Program) (k : ℕ) (ts us : List CType) where
       → ((a b : TypedExpression) (x y : Expr) → SameFirst a x → SameSecond b y → Follows p k vs (f a b) (g (remade a x) (remade b y))) → Follows p k vs (both r s f) (both r' s' g)
   both_follow vs (fine a) (fine b) r' s' f g h l t =
       subst (λ z. Follows p k vs (f a b) (both z s' g)) (sym h.1) (subst (λ z. Follows p k vs (f a b) (both (fine (remade a h.0)) z g)) (sym l.1) (t a b h.0 l.0 h.2 l.2))
-  both_follow vs (fine a) (faulty e es) r' s' f g h l t = tt
-  both_follow vs (faulty e es) s r' s' f g h l t = tt
+  both_follow vs r s r' s' f g h l t = tt
 
 -- ## Steps
 
@@ -297,6 +292,4 @@ module _ (p : Program) (k : ℕ) (zs ts us : List CType) where
   three_follow vs (fine c) (fine a) (fine b) r' s' t' f g h l m n =
       subst (λ z. Follows p k vs (f c a b) (all_three z s' t' g)) (sym h.1) (subst (λ z. Follows p k vs (f c a b) (all_three (fine (remade c h.0)) z t' g)) (sym l.1)
       (subst (λ z. Follows p k vs (f c a b) (all_three (fine (remade c h.0)) (fine (remade a l.0)) z g)) (sym m.1) (n c a b h.0 l.0 m.0 h.2 l.2 m.2)))
-  three_follow vs (fine c) (fine a) (faulty e es) r' s' t' f g h l m n = tt
-  three_follow vs (fine c) (faulty e es) t r' s' t' f g h l m n = tt
-  three_follow vs (faulty e es) s t r' s' t' f g h l m n = tt
+  three_follow vs r s t r' s' t' f g h l m n = tt

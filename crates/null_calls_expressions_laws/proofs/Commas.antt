@@ -1,14 +1,14 @@
 -- A comma expression goes where its members do.
 use Rattle.std.proofs.Common.{◌≡◌, ℕ, ◌+◌, Bool, true, false, if◌then◌else◌, List, [], ◌∷◌, ◌++◌, length, refl, ap, ap₂, sym, subst, ◌∙◌}
-use Rattle.c_tree.specs.Tree.{CType, void, integer, pointer, array, struct, function, type_of, Program}
+use Rattle.c_tree.specs.Tree.{CType, void, pointer, array, struct, function, type_of, Program}
 use Rattle.c_tree.specs.Tree as typed
 use Rattle.c_tree.specs.Operands.{IsResult}
 use Rattle.c_syntax.specs.Tree.{Expr, comma, Exprs, no_exprs, more_exprs}
 use Rattle.c_rules.specs.Checked.{Checked, fine, faulty, both, gives}
 use Rattle.c_rules.specs.Scopes.{Env, Before}
 use Rattle.c_rules.specs.Counts.{place_of, calls, after}
-use Rattle.c_rules.specs.TypedExpression.{Form, a_value, a_place, behind, not_constant, Constant, TypedExpression, typed_value, tree_of}
-use Rattle.c_rules.specs.Conversions.{few_parts, loaded, valued_as, valued}
+use Rattle.c_rules.specs.TypedExpression.{Form, a_value, not_constant, TypedExpression, typed_value, tree_of}
+use Rattle.c_rules.specs.Conversions.{few_parts, loaded, valued_as}
 use Rattle.c_rules.specs.Assignments.{trees_of, last_type, comma_of}
 use Rattle.c_rules.specs.Expressions.{value_at, tree, trees, value}
 use Rattle.c_shapes.specs.Mentions.{Direct, Through}
@@ -143,8 +143,7 @@ module _ (p : Program) where
           plain_too = λ t. m.plain_too h0.ctype;
         },
       )
-  join wanted k ts us (fine g) s (faulty f fs) v h l = tt
-  join wanted k ts us (faulty f fs) s q v h l = tt
+  join wanted k ts us r s q v h l = tt
 
 module _ (p : Program) (sites : Sites) (env : Env) (w : More) where
   abbrev Left : Env

@@ -34,8 +34,7 @@ module _ (p : Program) (k : ℕ) (ts : List CType) where
   named_cast : (at : ℕ) (t u : Checked CType) (r s : Checked TypedExpression) → Leads t u → Holds IsThing t → Follows p k ts r s → Follows p k ts (both t r (cast_of at)) (both u s (cast_of at))
   named_cast at (fine v) u (fine g) s l n h =
       subst (λ z. Follows p k ts (cast_of at v g) (both z s (cast_of at))) (sym l.0) (subst (λ z. Follows p k ts (cast_of at v g) (both (fine v) z (cast_of at))) (sym h.1) (cast_of_follows p k ts at v g h.0 (λ q. subst IsThing q n) h.2))
-  named_cast at (fine v) u (faulty f fs) s l n h = tt
-  named_cast at (faulty e es) u r s l n h = tt
+  named_cast at t u r s l n h = tt
 
   rule_cast : (v : Bool) (at : ℕ) (t u : Checked CType) (r s : Checked TypedExpression) → Leads t u → Holds IsThing t → Follows p k ts r s → Follows p k ts (cast_rule v at t r) (cast_rule v at u s)
   rule_cast true at t u r s l n h = on_follows p k ts ts r s (null_cast at) (null_cast at) h (λ g x m. null_cast_follows p k ts at g x m)

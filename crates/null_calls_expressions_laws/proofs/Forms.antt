@@ -5,8 +5,8 @@ use Rattle.c_lexer.specs.declared.punctuator.TheConstants.{AMPERSAND, ASTERISK}
 use Rattle.c_tree.specs.declared.value.BinOp.{BinOp}
 use Rattle.c_tree.specs.declared.value.BinOp.TheVariants.{Add, Sub}
 use Rattle.c_tree.specs.Tree.{CType, Program}
-use Rattle.c_syntax.specs.Tree.{Ident, Expr, a_name, an_int, a_char, a_str, comma, sizeof_type, cast, call, member, postfix, prefix, unary, index, binary, assign, conditional, Exprs}
-use Rattle.c_syntax.specs.Tree.{Access, dot, arrow, Postfix, post_increment, post_decrement, Prefix, pre_increment, pre_decrement, sizeof, Infix, TypeName}
+use Rattle.c_syntax.specs.Tree.{Ident, Expr, a_name, an_int, a_char, a_str, comma, sizeof_type, call, member, postfix, prefix, unary, index, binary, assign, conditional, Exprs}
+use Rattle.c_syntax.specs.Tree.{Access, dot, Postfix, post_increment, Prefix, pre_increment, pre_decrement, sizeof, Infix, TypeName}
 use Rattle.c_syntax.specs.Tree as syntax
 use Rattle.c_tree.specs.Tree as typed
 use Rattle.c_rules.specs.Checked.{Checked, fine, faulty, demand, on, both, met}
@@ -14,14 +14,13 @@ use Rattle.c_rules.specs.Names.{Name}
 use Rattle.c_rules.specs.Scopes.{Env, Binding, sized, in_context, Before, nothing_before}
 use Rattle.c_rules.specs.Counts.{place_of, calls, after, after_designator}
 use Rattle.c_rules.specs.TypedExpression.{TypedExpression}
-use Rattle.c_rules.specs.PrimaryExpressions.{typed_int, integer_expression, named_expression, string_fits, string_expression}
+use Rattle.c_rules.specs.PrimaryExpressions.{typed_int, integer_expression, named_expression, string_expression}
 use Rattle.c_rules.specs.PostfixExpressions.{as_many_as, all_fit, called, site_of}
 use Rattle.c_rules.specs.UnaryExpressions.{led_to, indirection, address}
 use Rattle.c_rules.specs.BinaryExpressions.{sum, choice}
 use Rattle.c_rules.specs.Assignments.{assignment_by, step, comma_of}
-use Rattle.c_rules.specs.Declarators.{place_of_type, is_void_pointer}
+use Rattle.c_rules.specs.Declarators.{place_of_type}
 use Rattle.c_rules.specs.Expressions.{value_at, place_at, access, after_operand, unary_rule, infix_rule, callee, tree, trees, value, type_named}
-use Rattle.c_rules.proofs.Integers.{integer_cases}
 use Rattle.null_calls_rules.specs.MarkedCalls.{Called, Sites}
 use Rattle.null_calls_rules.specs.Temporaries.{Temporary}
 use Rattle.null_calls_rules.specs.InstrumentedExpressions.{is_address_of_indirection, call_where, expr, kept}
@@ -119,27 +118,21 @@ module _ (p : Program) (sites : Sites) (env : Env) (w : More) where
   unused_goes x h b b' k n t f r m = unused_same k (Types b x) (value L b x) (value R b' (Made b x)) (value_goes x h b b' k n t f r) (value_solid p L (place_of x) (tree L b x) m)
 
   -- a form that is the same whether its value is wanted or not
-  goes_firmly : (x : Expr) → ((n : ℕ) → kept sites n false x ≡ kept sites n true x) → ((n : ℕ) → expr sites n false x ≡ expr sites n true x) → ((b : Before) → Holds (IsFirm p) (tree L b x)) → ExprFollows p sites env w x → Goes p sites env w x
-  goes_firmly x e q m h = record {
+  goes_firmly : (x : Expr) → ((n : ℕ) → (kept sites n false x ≡ kept sites n true x) × (expr sites n false x ≡ expr sites n true x)) → ((b : Before) → Holds (IsFirm p) (tree L b x)) → ExprFollows p sites env w x → Goes p sites env w x
+  goes_firmly x e m h = record {
     wanted = h;
-    unused = λ b b' k n t f r. subst (λ ts. UnusedFollows p k (types_of ts) (value L b x) (value R b' (expr sites b.sites false x))) (sym (e b.sites))
-        (subst (λ y. UnusedFollows p k (Types b x) (value L b x) (value R b' y)) (sym (q b.sites)) (unused_goes x h b b' k n t (subst (AreFound w.names k) (e b.sites) f) r (m b)));
+    unused = λ b b' k n t f r. subst (λ ts. UnusedFollows p k (types_of ts) (value L b x) (value R b' (expr sites b.sites false x))) (sym (e b.sites).0)
+        (subst (λ y. UnusedFollows p k (Types b x) (value L b x) (value R b' y)) (sym (e b.sites).1) (unused_goes x h b b' k n t (subst (AreFound w.names k) (e b.sites).0 f) r (m b)));
   }
 
-  same_kept : (x : Expr) → IsSimple x → (n : ℕ) → kept sites n false x ≡ kept sites n true x
-  same_kept (comma at es) s n = absurd s
-  same_kept (call at d es) s n = absurd s
-  same_kept (unary at o e) s n = absurd s
-  same_kept x s n = refl
-
-  same_made : (x : Expr) → IsSimple x → (n : ℕ) → expr sites n false x ≡ expr sites n true x
-  same_made (comma at es) s n = absurd s
-  same_made (call at d es) s n = absurd s
-  same_made (unary at o e) s n = absurd s
-  same_made x s n = refl
+  same_simple : (x : Expr) → IsSimple x → (n : ℕ) → (kept sites n false x ≡ kept sites n true x) × (expr sites n false x ≡ expr sites n true x)
+  same_simple (comma at es) s n = absurd s
+  same_simple (call at d es) s n = absurd s
+  same_simple (unary at o e) s n = absurd s
+  same_simple x s n = (refl, refl)
 
   pub goes_simply : (x : Expr) → IsSimple x → ExprFollows p sites env w x → Goes p sites env w x
-  goes_simply x s h = goes_firmly x (same_kept x s) (same_made x s) (λ b. given_firm p (tree L b x) (tree_given x s L b)) h
+  goes_simply x s h = goes_firmly x (same_simple x s) (λ b. given_firm p (tree L b x) (tree_given x s L b)) h
 
   -- an operand of & that isn't * of a pointer
   leads_firmly : (e : Expr) (env : Env) (b : Before) → IsNoDereference e → Holds (LeadsFirmly p) (tree env b e)
@@ -255,7 +248,7 @@ module _ (p : Program) (sites : Sites) (env : Env) (w : More) where
 
     pub index_goes : (at : ℕ) (e f : Expr) → Goes p sites env w e → Goes p sites env w f → Goes p sites env w (index at e f)
     index_goes at e f h l =
-        goes_firmly (index at e f) (λ n. refl) (λ n. refl) (λ b. index_firm p L at (value L b e) (value L (after b e) f)) (λ b b' k n t fo r.
+        goes_firmly (index at e f) (λ n. (refl, refl)) (λ b. index_firm p L at (value L b e) (value L (after b e) f)) (λ b b' k n t fo r.
         (let ts : List CType = types_of (kept sites b.sites true e ++ kept sites (b.sites + calls e) true f) in
         on_follows p k ts ts (both (value L b e) (value L (after b e) f) (sum L at)) (both (value R b' (Made b e)) (value R (after b' (Made b e)) (Made (after b e) f)) (sum R at)) (indirection at) (indirection at)
         (two_parts e f l.wanted b b' k n.0 n.1 t.1 fo r (value L b e) (value R b' (Made b e)) (λ fe. value_goes e h.wanted b b' k n.0 t.0 fe r) (sum L at) (sum R at) (λ a c x y g m. sum_follows p k (Types b e) (Types (after b e) f) L at a c x y g m)) (λ g x m. indirection_follows p k ts at g x m)))

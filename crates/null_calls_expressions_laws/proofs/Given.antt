@@ -11,26 +11,26 @@ use Rattle.c_tree.specs.declared.value.Pointer.{Pointer}
 use Rattle.c_tree.specs.declared.value.Value.{Value}
 use Rattle.c_tree.specs.declared.value.Value.TheVariants as v
 use Rattle.c_tree.specs.Layout.{cells}
-use Rattle.c_tree.specs.Tree.{CType, void, integer, pointer, array, struct, function, type_of, Program}
+use Rattle.c_tree.specs.Tree.{CType, void, integer, pointer, struct, type_of, Program}
 use Rattle.c_tree.specs.Tree as typed
 use Rattle.c_tree.specs.Functions.{int}
 use Rattle.c_tree.specs.Operands.{OperatorKind, balanced, shift, ordering, equality}
 use Rattle.c_tree.specs.Operands.{kind_of as kind_of_operator}
-use Rattle.c_syntax.specs.Tree.{Expr, a_name, an_int, a_char, a_str, comma, sizeof_type, cast, call, member, postfix, prefix, unary, index, binary, assign, conditional, Exprs}
-use Rattle.c_syntax.specs.Tree.{Infix, and, or, operator, Access, dot, arrow, post_increment, post_decrement, pre_increment, pre_decrement, sizeof}
-use Rattle.c_rules.specs.Checked.{Checked, fine, faulty, demand, on, both, all_three, met}
+use Rattle.c_syntax.specs.Tree.{Expr, a_name, an_int, a_char, a_str, comma, sizeof_type, cast, call, member, postfix, prefix, unary, index, binary, assign, conditional}
+use Rattle.c_syntax.specs.Tree.{Infix, operator, Access, dot, arrow, post_increment, post_decrement, pre_increment, pre_decrement, sizeof}
+use Rattle.c_rules.specs.Checked.{Checked, fine, demand, on, both, all_three, met}
 use Rattle.c_rules.specs.Limits.{most_cells}
 use Rattle.c_rules.specs.Names.{Name, number_among}
-use Rattle.c_rules.specs.Types.{same_type, is_function, is_scalar, is_integer, is_void}
+use Rattle.c_rules.specs.Types.{same_type, is_scalar, is_integer, is_void}
 use Rattle.c_rules.specs.Scopes.{Env, Meaning, a_static, a_local, a_function, an_enumerator, unknown, Binding, lookup, Struct, incomplete, unknown_struct, defined_struct, Member, struct_of, layout_of, sized, in_context, Before, nothing_before}
 use Rattle.c_rules.specs.Counts.{place_of, after}
 use Rattle.c_rules.specs.TypedExpression.{Form, a_value, a_place, behind, Constant, not_constant, undefined, known, is_zero, is_known_zero, integer_constant_if, integer_constant, TypedExpression, typed_value, tree_of, is_null}
 use Rattle.c_rules.specs.Constants.{number_of, constant_member, constant_decayed, moved, constant_moved, constant_conditional, is_within, address_of_static}
-use Rattle.c_rules.specs.Conversions.{Kind, an_integer, a_pointer, neither, kind_of, complete, few_parts, cast_to, null_of, fits, assigned}
+use Rattle.c_rules.specs.Conversions.{Kind, an_integer, a_pointer, kind_of, complete, cast_to, null_of, fits, assigned}
 use Rattle.c_rules.specs.PrimaryExpressions.{used, object_number, function_value_number, meant, bound, integer_expression, string_fits}
 use Rattle.c_rules.specs.PostfixExpressions.{name_of_member, member_or_undeclared, member_of_struct, member_of_type, member_of}
 use Rattle.c_rules.specs.UnaryExpressions.{indirection, plus_of, operator_of, negation, size_of, size_of_expression, size_of_type, cast_of, null_cast}
-use Rattle.c_rules.specs.BinaryExpressions.{operator_of_code, sum_of, sum, minus_of, balanced_of, shift_of, ordered_of, Alike, alike_integers, alike_pointers, unlike, alike, equality_of, arithmetic_of, operation_of, both_scalars, chosen, arms_of, choice}
+use Rattle.c_rules.specs.BinaryExpressions.{operator_of_code, sum_of, minus_of, balanced_of, shift_of, ordered_of, Alike, alike_integers, alike_pointers, unlike, alike, equality_of, arithmetic_of, operation_of, both_scalars, chosen, arms_of, choice}
 use Rattle.c_rules.specs.Assignments.{operator_of_assignment, moves, update_of, assignment_by, one_for, step}
 use Rattle.c_rules.specs.Declarators.{place_of_type, is_void_pointer}
 use Rattle.c_rules.specs.Expressions.{value_at, place_at, access, infix_rule, cast_rule, tree, type_named}
@@ -68,13 +68,22 @@ FormGiven t c (behind e) = ⊥
 abbrev pub IsGiven : TypedExpression → Type 0
 IsGiven g = FormGiven g.ctype g.constant g.form
 
-pub own_given : (r : Checked TypedExpression) → Holds IsOwn r → Holds IsGiven r
-own_given r h = holds_map IsOwn IsGiven (λ g l. by_form g.ctype g.constant g.form l) r h
+-- what holds where they are known so
+pub by_own : (P : CType → Constant → Form → Type 0) → ((t : CType) (c : Constant) (e : typed.Expr) → IsValue t c e → P t c (a_value e)) → (t : CType) (c : Constant) (f : Form) → FormOwn t c f → P t c f
+by_own P v t c (a_value e) h = v t c e h
+by_own P v t c f h = absurd h
+
+pub by_given : (P : CType → Constant → Form → Type 0) → ((t : CType) (c : Constant) (e : typed.Expr) → IsValue t c e → P t c (a_value e)) → ((t : CType) (c : Constant) (e : typed.Expr) → (is_known_zero c ≡ true → ⊥) → P t c (a_place e))
+    → (r : Checked TypedExpression) → Holds IsGiven r → Holds (λ g. P g.ctype g.constant g.form) r
+by_given P v w r h = holds_map IsGiven (λ g. P g.ctype g.constant g.form) (λ g l. by_form g.ctype g.constant g.form l) r h
   where
-    by_form : (t : CType) (c : Constant) (f : Form) → FormOwn t c f → FormGiven t c f
-    by_form t c (a_value e) h = h
-    by_form t c (a_place e) h = absurd h
-    by_form t c (behind e) h = absurd h
+    by_form : (t : CType) (c : Constant) (f : Form) → FormGiven t c f → P t c f
+    by_form t c (a_value e) l = v t c e l
+    by_form t c (a_place e) l = w t c e l
+    by_form t c (behind e) l = absurd l
+
+pub own_given : (r : Checked TypedExpression) → Holds IsOwn r → Holds IsGiven r
+own_given r h = holds_map IsOwn IsGiven (λ g l. by_own FormGiven (λ t c e m. m) g.ctype g.constant g.form l) r h
 
 -- behind parts of which nothing is known
 pub after_two : {A B C : Type 0} (P : C → Type 0) (r : Checked A) (s : Checked B) (f : A → B → Checked C) → ((a : A) (b : B) → Holds P (f a b)) → Holds P (both r s f)

@@ -3,8 +3,8 @@ use Rattle.std.proofs.Common.{◌≡◌, ℕ, suc, ◌+◌, Bool, true, List, []
 use Rattle.c_tree.specs.Tree.{CType, Program}
 use Rattle.c_rules.specs.Checked.{Checked, fine, faulty, on, gives}
 use Rattle.c_rules.specs.Names.{Name}
-use Rattle.c_rules.specs.Scopes.{Env, Binding, Meaning, a_static, a_local, a_function, an_enumerator, unknown, Before, lookup}
-use Rattle.c_rules.specs.TypedExpression.{Form, a_value, a_place, behind, TypedExpression}
+use Rattle.c_rules.specs.Scopes.{Env, Binding, Meaning, a_static, a_function, unknown, Before, lookup}
+use Rattle.c_rules.specs.TypedExpression.{Form, a_value, TypedExpression}
 use Rattle.c_rules.specs.PrimaryExpressions.{used, object_number, function_value_number, meant, bound, named_expression, integer_expression, string_fits, typed_string, string_expression}
 use Rattle.c_rules.specs.UnaryExpressions.{size_of, size_of_expression, size_of_type}
 use Rattle.null_calls_rules.specs.InstrumentedPrograms.{expr, kept}

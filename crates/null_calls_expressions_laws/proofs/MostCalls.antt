@@ -1,11 +1,11 @@
 -- The calls of an expression that is fine are within the limit.
-use Rattle.std.proofs.Common.{◌≡◌, ℕ, suc, ◌+◌, ◌≤◌, ◌<◌, Bool, true, false, if◌then◌else◌, ◌∷◌, nat_lt, nat_eq, refl, subst, arith}
+use Rattle.std.proofs.Common.{◌≡◌, ℕ, suc, ◌+◌, ◌≤◌, ◌<◌, Bool, true, false, ◌∷◌, nat_lt, nat_eq, refl, subst, arith}
 use Rattle.std.proofs.lemmas.Bool.Decides.{Decides-ltb}
 use Rattle.c_lexer.specs.declared.punctuator.TheConstants.{AMPERSAND}
 use Rattle.c_tree.specs.declared.value.BinOp.TheVariants.{Add, Sub}
 use Rattle.c_tree.specs.Tree.{CType}
-use Rattle.c_syntax.specs.Tree.{Expr, a_name, an_int, a_char, a_str, comma, sizeof_type, cast, call, member, postfix, prefix, unary, index, binary, assign, conditional, Exprs, no_exprs, more_exprs}
-use Rattle.c_syntax.specs.Tree.{dot, arrow, post_increment, post_decrement, pre_increment, pre_decrement, sizeof}
+use Rattle.c_syntax.specs.Tree.{Expr, an_int, a_char, comma, cast, call, member, postfix, prefix, unary, index, binary, assign, conditional, Exprs, no_exprs, more_exprs}
+use Rattle.c_syntax.specs.Tree.{dot, arrow, post_increment, post_decrement, pre_increment, pre_decrement}
 use Rattle.c_rules.specs.Checked.{Checked, fine, faulty, on, both, all_three, demand}
 use Rattle.c_rules.specs.Limits.{most_calls}
 use Rattle.c_rules.specs.Scopes.{Env, Context, evaluated, sized, folded, Before}

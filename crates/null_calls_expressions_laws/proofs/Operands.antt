@@ -1,11 +1,11 @@
 -- Operands that have another tree: conversions keep that they are the same but for it.
-use Rattle.std.proofs.Common.{◌≡◌, ℕ, Bool, true, false, if◌then◌else◌, List, [], refl, ap, sym, subst, ◌∙◌, arith}
+use Rattle.std.proofs.Common.{◌≡◌, ℕ, Bool, true, false, if◌then◌else◌, List, [], refl, ap, sym, subst, ◌∙◌}
 use Rattle.c_tree.specs.declared.value.IntType.{IntType}
-use Rattle.c_tree.specs.Tree.{CType, void, integer, pointer, array, struct, function, Expr, constant, load, decay, conversion, dereference, Program}
+use Rattle.c_tree.specs.Tree.{CType, integer, pointer, array, struct, function, Expr, constant, load, decay, conversion, dereference, Program}
 use Rattle.c_tree.specs.Layout.{cells}
 use Rattle.c_rules.specs.Checked.{Checked, fine, faulty, demand, on}
 use Rattle.c_rules.specs.Scopes.{Env, layout_of}
-use Rattle.c_rules.specs.TypedExpression.{Form, a_value, a_place, behind, Constant, not_constant, undefined, known, TypedExpression, typed_value, tree_of_form, tree_of, is_known_zero, is_null}
+use Rattle.c_rules.specs.TypedExpression.{Form, a_value, behind, Constant, not_constant, TypedExpression, typed_value, tree_of_form, tree_of, is_known_zero, is_null}
 use Rattle.c_rules.specs.Constants.{constant_converted, constant_decayed}
 use Rattle.c_rules.specs.Conversions.{Kind, an_integer, a_pointer, neither, kind_of, few_parts, loaded, valued_as, valued, cast_to, has_integer, converted_to, null_of, assigned_as, assigned}
 use Rattle.null_calls_rules.specs.InstrumentedPrograms.{expr, kept}

@@ -1,16 +1,16 @@
 -- Calls that are not marked go where their designators and arguments do.
 use Rattle.std.proofs.Common.{◌≡◌, ℕ, suc, ◌+◌, ◌*◌, ◌≤◌, ◌<◌, Bool, true, false, ◌&&◌, if◌then◌else◌, List, [], ◌∷◌, ◌++◌, length, Option, None, Some, nat_lt, nat_eq, refl, ap, ap₂, sym, subst, ◌∙◌, arith}
 use Rattle.std.proofs.lemmas.Bool.Decides.{Decides-ltb, Decides-eqb}
-use Rattle.c_tree.specs.Tree.{CType, void, integer, pointer, array, struct, function, CTypes, no_types, more_types, type_of, Program}
+use Rattle.c_tree.specs.Tree.{CType, pointer, function, CTypes, no_types, more_types, type_of, Program}
 use Rattle.c_tree.specs.Tree as typed
 use Rattle.c_tree.specs.Functions.{called_type}
 use Rattle.c_shapes.specs.Mentions.{Direct, Through}
 use Rattle.c_shapes.specs.CallGraph.{is_marked}
-use Rattle.c_syntax.specs.Tree.{Expr, a_name, an_int, a_char, a_str, comma, sizeof_type, cast, call, member, postfix, prefix, unary, index, binary, assign, conditional, Exprs, no_exprs, more_exprs}
-use Rattle.c_rules.specs.Checked.{Checked, fine, faulty, demand, on, both, all_three, met}
+use Rattle.c_syntax.specs.Tree.{Expr, a_name, call, Exprs, no_exprs, more_exprs}
+use Rattle.c_rules.specs.Checked.{Checked, fine, faulty, demand, on, both, all_three}
 use Rattle.c_rules.specs.Names.{Name}
 use Rattle.c_rules.specs.Types.{count}
-use Rattle.c_rules.specs.Scopes.{Env, Binding, Meaning, a_static, a_local, a_function, an_enumerator, unknown, Context, evaluated, sized, folded, lookup, Before}
+use Rattle.c_rules.specs.Scopes.{Env, Binding, Meaning, a_function, Context, evaluated, sized, folded, lookup, Before}
 use Rattle.c_rules.specs.Counts.{calls, after, after_designator}
 use Rattle.c_rules.specs.TypedExpression.{not_constant, TypedExpression, typed_value, tree_of}
 use Rattle.c_rules.specs.Conversions.{kind_of}
@@ -27,7 +27,7 @@ use Rattle.c_rules_laws.proofs.Leads.{Leads, same_leads}
 use Rattle.c_rules_laws.proofs.Names.{named_callee_leads}
 use Rattle.null_calls_expressions_laws.specs.Remade.{remade, IsRemade, Follows}
 use Rattle.null_calls_expressions_laws.proofs.Operands.{operand, value_remade, demand_follows, assigned_operand}
-use Rattle.null_calls_expressions_laws.proofs.Unary.{value_at_follows}
+use Rattle.null_calls_expressions_laws.proofs.Unary.{behind_test, value_at_follows}
 use Rattle.null_calls_expressions_laws.proofs.Binary.{fits_same}
 use Rattle.null_calls_counts_laws.specs.Counts.{AreNamed, AllNamed, Near}
 use Rattle.null_calls_counts_laws.proofs.ExpressionCounts.{places_near, counts_stay}
@@ -167,31 +167,15 @@ module _ (p : Program) where
 
   called_goes : (k : ℕ) (ts us : List CType) (at : ℕ) (f : Callee) (d' : Designator) (site site' : ℕ) (gs hs : List TypedExpression) → marks f.designator ≡ false → DesignatorGoes k ts f.designator d' → AllRemade (k + length ts) us gs hs
       → Follows p k (ts ++ us) (called at f site gs) (called at (record f { designator = d' }) site' hs)
-  called_goes k ts us at f d' site site' gs hs m h l = by_count (as_many_as f.parameters gs) refl
-    where
-      long : as_many_as f.parameters hs ≡ as_many_as f.parameters gs
-      long = ap (λ n. nat_eq n (count f.parameters)) (args_long (k + length ts) us gs hs l)
-
-      right : Checked TypedExpression
-      right = demand (all_fit f.parameters hs) 3 at (typed_value f.returns (call_of d' f.returns site' (passed f.parameters hs)) not_constant)
-
-      left : Checked TypedExpression
-      left = demand (all_fit f.parameters gs) 3 at (typed_value f.returns (call_of f.designator f.returns site (passed f.parameters gs)) not_constant)
-
-      goes : as_many_as f.parameters gs ≡ true → Follows p k (ts ++ us) (demand (all_fit f.parameters gs) 3 at (typed_value f.returns (call_of f.designator f.returns site (passed f.parameters gs)) not_constant)) (demand (all_fit f.parameters hs) 3 at (typed_value f.returns (call_of d' f.returns site' (passed f.parameters hs)) not_constant))
-      goes q =
-          let a = args_passed f.parameters (k + length ts) us gs hs ((Decides-eqb (length gs) (count f.parameters)).0 q) l in
-          let e : typed.Expr = call_of f.designator f.returns site (passed f.parameters gs) in
-          let e' : typed.Expr = call_of d' f.returns site' (passed f.parameters hs) in
-          subst (λ z. Follows p k (ts ++ us) (demand (all_fit f.parameters gs) 3 at (typed_value f.returns e not_constant)) (demand z 3 at (typed_value f.returns e' not_constant))) (sym (args_fit f.parameters (k + length ts) us gs hs l))
-          (demand_follows p k (ts ++ us) (all_fit f.parameters gs) 3 at (typed_value f.returns e not_constant) (typed_value f.returns e' not_constant)
-          (value_remade p k (ts ++ us) f.returns e e' not_constant not_constant (call_types k ts us f.designator d' f.returns site (passed f.parameters gs) m h a.0) (call_tree k ts f.designator d' f.returns site site' (passed f.parameters gs) (passed f.parameters hs) m h a.1) (λ c. absurd c) refl))
-
-      by_count : (t : Bool) → as_many_as f.parameters gs ≡ t → Follows p k (ts ++ us) (called at f site gs) (called at (record f { designator = d' }) site' hs)
-      by_count true q =
-          subst (λ z. Follows p k (ts ++ us) (on (demand z 5 at met) (λ _. demand (all_fit f.parameters gs) 3 at (typed_value f.returns (call_of f.designator f.returns site (passed f.parameters gs)) not_constant))) (called at (record f { designator = d' }) site' hs)) (sym q)
-          (subst (λ z. Follows p k (ts ++ us) (demand (all_fit f.parameters gs) 3 at (typed_value f.returns (call_of f.designator f.returns site (passed f.parameters gs)) not_constant)) (on (demand z 5 at met) (λ _. demand (all_fit f.parameters hs) 3 at (typed_value f.returns (call_of d' f.returns site' (passed f.parameters hs)) not_constant)))) (sym (long ∙ q)) (goes q))
-      by_count false q = subst (λ z. Follows p k (ts ++ us) (on (demand z 5 at met) (λ _. demand (all_fit f.parameters gs) 3 at (typed_value f.returns (call_of f.designator f.returns site (passed f.parameters gs)) not_constant))) (called at (record f { designator = d' }) site' hs)) (sym q) tt
+  called_goes k ts us at f d' site site' gs hs m h l =
+      let e : typed.Expr = call_of f.designator f.returns site (passed f.parameters gs) in
+      let e' : typed.Expr = call_of d' f.returns site' (passed f.parameters hs) in
+      let left : Checked TypedExpression = demand (all_fit f.parameters gs) 3 at (typed_value f.returns e not_constant) in
+      behind_test p k (ts ++ us) (as_many_as f.parameters gs) (as_many_as f.parameters hs) (ap (λ n. nat_eq n (count f.parameters)) (args_long (k + length ts) us gs hs l)) 5 at left (demand (all_fit f.parameters hs) 3 at (typed_value f.returns e' not_constant))
+      (λ q. (let a = args_passed f.parameters (k + length ts) us gs hs ((Decides-eqb (length gs) (count f.parameters)).0 q) l in
+      subst (λ z. Follows p k (ts ++ us) left (demand z 3 at (typed_value f.returns e' not_constant))) (sym (args_fit f.parameters (k + length ts) us gs hs l))
+      (demand_follows p k (ts ++ us) (all_fit f.parameters gs) 3 at (typed_value f.returns e not_constant) (typed_value f.returns e' not_constant)
+      (value_remade p k (ts ++ us) f.returns e e' not_constant not_constant (call_types k ts us f.designator d' f.returns site (passed f.parameters gs) m h a.0) (call_tree k ts f.designator d' f.returns site site' (passed f.parameters gs) (passed f.parameters hs) m h a.1) (λ c. absurd c) refl))))
 
   abbrev SiteFollows : Checked ℕ → Checked ℕ → Type 0
   SiteFollows (fine n) s = (m : ℕ) × (s ≡ fine m)
@@ -212,9 +196,7 @@ module _ (p : Program) where
       subst (λ z. Follows p k (ts ++ us) (called at f n gs) (all_three z s' q' (called at))) (sym h.1)
       (subst (λ z. Follows p k (ts ++ us) (called at f n gs) (all_three (fine (record f { designator = h.0 })) z q' (called at))) (sym l.1)
       (subst (λ z. Follows p k (ts ++ us) (called at f n gs) (all_three (fine (record f { designator = h.0 })) (fine l.0) z (called at))) (sym a.1) (called_goes k ts us at f h.0 n l.0 gs a.0 (m f refl) h.2 a.2)))
-  combined k ts us at (fine f) r' (fine n) s' (faulty e es) q' h l a m = tt
-  combined k ts us at (fine f) r' (faulty e es) s' q q' h l a m = tt
-  combined k ts us at (faulty e es) r' s s' q q' h l a m = tt
+  combined k ts us at r r' s s' q q' h l a m = tt
 
   -- a site without an entry has no marked call
   pub no_entry : (d : Designator) (t : CType) (ts : CTypes) → called_by p d t ts ≡ None → marks d ≡ false

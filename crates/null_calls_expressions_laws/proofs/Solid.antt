@@ -6,14 +6,14 @@ use Rattle.c_tree.specs.Tree.{CType, void, pointer, array, struct, function, Pro
 use Rattle.c_rules.specs.Checked.{Checked, demand, on, both, met}
 use Rattle.c_rules.specs.Types.{is_function}
 use Rattle.c_rules.specs.Scopes.{Env}
-use Rattle.c_rules.specs.TypedExpression.{Form, a_value, a_place, behind, Constant, TypedExpression, tree_of_form, tree_of, is_place}
+use Rattle.c_rules.specs.TypedExpression.{Form, a_value, a_place, behind, TypedExpression, tree_of_form, tree_of, is_place}
 use Rattle.c_rules.specs.Conversions.{kind_of, few_parts, loaded, valued_as, valued}
 use Rattle.c_rules.specs.UnaryExpressions.{address_of_form, address_of_type, address, led_to, indirection, unary_of_value}
 use Rattle.c_rules.specs.BinaryExpressions.{sum}
 use Rattle.c_rules.specs.Expressions.{value_at, unary_rule}
-use Rattle.c_rules_laws.proofs.Holding.{on_holds, holds_map, if_holds}
+use Rattle.c_rules_laws.proofs.Holding.{on_holds, if_holds}
 use Rattle.null_calls_expressions_laws.proofs.Leaves.{Holds, after_part, demand_holds}
-use Rattle.null_calls_expressions_laws.proofs.Given.{IsSolid, FormOwn, IsOwn, FormGiven, IsGiven, own_given, after_two, rest_own, sum_own}
+use Rattle.null_calls_expressions_laws.proofs.Given.{IsSolid, IsOwn, IsGiven, by_own, by_given, own_given, after_two, rest_own, sum_own}
 
 module _ (p : Program) where
   -- what leads to a place by a tree that is so
@@ -33,28 +33,16 @@ module _ (p : Program) where
   IsFirm g = FirmForm g.form
 
   pub given_firm : (r : Checked TypedExpression) → Holds IsGiven r → Holds IsFirm r
-  given_firm r h = holds_map IsGiven IsFirm (λ g l. by_form g.ctype g.constant g.form l) r h
-    where
-      by_form : (t : CType) (c : Constant) (f : Form) → FormGiven t c f → FirmForm f
-      by_form t c (a_value e) h = h.solid p
-      by_form t c f h = tt
+  given_firm r h = by_given (λ t c f. FirmForm f) (λ t c e l. l.solid p) (λ t c e l. tt) r h
 
   pub given_led : (r : Checked TypedExpression) → Holds IsGiven r → Holds LeadsFirmly r
-  given_led r h = holds_map IsGiven LeadsFirmly (λ g l. by_form g.ctype g.constant g.form l) r h
-    where
-      by_form : (t : CType) (c : Constant) (f : Form) → FormGiven t c f → FirmBehind f
-      by_form t c (behind e) h = absurd h
-      by_form t c f h = tt
+  given_led r h = by_given (λ t c f. FirmBehind f) (λ t c e l. tt) (λ t c e l. tt) r h
 
   abbrev pub SolidValue : TypedExpression → Type 0
   SolidValue g = IsSolid p (tree_of g)
 
   own_solid : (g : TypedExpression) → IsOwn g → SolidValue g
-  own_solid g h = by_form g.ctype g.constant g.form h
-    where
-      by_form : (t : CType) (c : Constant) (f : Form) → FormOwn t c f → IsSolid p (tree_of_form t f)
-      by_form t c (a_value e) h = h.solid p
-      by_form t c f h = absurd h
+  own_solid g h = by_own (λ t c f. IsSolid p (tree_of_form t f)) (λ t c e l. l.solid p) g.ctype g.constant g.form h
 
   loaded_solid : (g : TypedExpression) (f : Form) → g.form ≡ f → FirmForm f → SolidValue (loaded g f)
   loaded_solid g (a_value e) q h = subst (λ z. IsSolid p (tree_of_form g.ctype z)) (sym q) h

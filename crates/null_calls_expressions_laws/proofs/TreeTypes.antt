@@ -19,7 +19,7 @@ use Rattle.c_rules.specs.Expressions.{value_at, unary_rule, callee, tree, trees,
 use Rattle.c_rules_laws.proofs.Holding.{held, on_holds, holds_map, if_holds}
 use Rattle.null_calls_expressions_laws.specs.NullTypes.{IsNullType, NullsHaveTheirTypes}
 use Rattle.null_calls_expressions_laws.proofs.Leaves.{Holds, after_part, demand_holds}
-use Rattle.null_calls_expressions_laws.proofs.Given.{FormOwn, IsOwn, FormGiven, IsGiven, own_given, after_two, after_three, no, decayed_no, rest_own, sum_own, tree_given}
+use Rattle.null_calls_expressions_laws.proofs.Given.{IsOwn, IsGiven, by_own, by_given, own_given, after_two, after_three, no, decayed_no, rest_own, sum_own, tree_given}
 
 -- a value's tree has its type, and so has what leads to a place; no place is a null pointer constant
 abbrev FormSound : CType → Constant → Form → Type 0
@@ -37,19 +37,10 @@ abbrev ValueSound : TypedExpression → Type 0
 ValueSound g = ValueTyped g × (is_null g ≡ true → IsNullType g.ctype)
 
 given_sound : (r : Checked TypedExpression) → Holds IsGiven r → Holds IsSound r
-given_sound r h = holds_map IsGiven IsSound (λ g l. by_form g.ctype g.constant g.form l) r h
-  where
-    by_form : (t : CType) (c : Constant) (f : Form) → FormGiven t c f → FormSound t c f
-    by_form t c (a_value e) h = (h.ctype, h.null)
-    by_form t c (a_place e) h = h
-    by_form t c (behind e) h = absurd h
+given_sound r h = by_given FormSound (λ t c e l. (l.ctype, l.null)) (λ t c e l. l) r h
 
 own_sound : (g : TypedExpression) → IsOwn g → ValueSound g
-own_sound g h = by_form g.ctype g.constant g.form h
-  where
-    by_form : (t : CType) (c : Constant) (f : Form) → FormOwn t c f → (type_of (tree_of_form t f) ≡ t) × (is_known_zero c ≡ true → IsNullType t)
-    by_form t c (a_value e) h = (h.ctype, h.null)
-    by_form t c f h = absurd h
+own_sound g h = by_own (λ t c f. (type_of (tree_of_form t f) ≡ t) × (is_known_zero c ≡ true → IsNullType t)) (λ t c e l. (l.ctype, l.null)) g.ctype g.constant g.form h
 
 -- ## Values
 

@@ -5,12 +5,12 @@ use Rattle.c_tree.specs.Tree.{CType, void, integer, CTypes}
 use Rattle.c_tree.specs.Tree as typed
 use Rattle.c_syntax.specs.Tree.{Spec, Declarator, nothing, named, pointer, array, function, TypeName, type_name}
 use Rattle.c_syntax.specs.Tree as syntax
-use Rattle.c_rules.specs.Checked.{Checked, fine, faulty, demand, on, met}
+use Rattle.c_rules.specs.Checked.{fine, demand, on, met}
 use Rattle.c_rules.specs.Scopes.{Env, inside, tag_number}
 use Rattle.c_rules.specs.Names.{is_among}
 use Rattle.c_rules.specs.Conversions.{few_parts, complete}
 use Rattle.c_rules.specs.Types.{is_result}
-use Rattle.c_rules.specs.Declarators.{name_of, is_void_pointer, type_of_spec, within_parts, pointer_to, array_of, function_of}
+use Rattle.c_rules.specs.Declarators.{is_void_pointer, type_of_spec, within_parts, pointer_to, array_of, function_of}
 use Rattle.c_rules.specs.Expressions.{declared, size_in, parameters, type_named}
 use Rattle.null_calls_rules.specs.InstrumentedExpressions.{is_void_type}
 use Rattle.null_calls_expressions_laws.specs.Tabled.{IsAbstract}

@@ -5,7 +5,7 @@ use Rattle.c_lexer.specs.declared.punctuator.TheConstants.{AMPERSAND, ASTERISK, 
 use Rattle.c_tree.specs.declared.value.IntType.{IntType}
 use Rattle.c_tree.specs.declared.value.UnOp.{UnOp}
 use Rattle.c_tree.specs.declared.value.UnOp.TheVariants.{Minus, Complement, Not}
-use Rattle.c_tree.specs.Tree.{CType, void, integer, pointer, array, struct, function, Expr, address_of, field, unary_operation, Program}
+use Rattle.c_tree.specs.Tree.{CType, void, integer, pointer, array, struct, Expr, address_of, field, unary_operation, Program}
 use Rattle.c_tree.specs.Layout.{cells, first_cell}
 use Rattle.c_tree.specs.Functions.{int}
 use Rattle.c_tree.specs.Operands.{promoted}
@@ -13,10 +13,10 @@ use Rattle.c_syntax.specs.Tree.{Access, dot, arrow}
 use Rattle.c_rules.specs.Checked.{Checked, fine, demand, on, met}
 use Rattle.c_rules.specs.Names.{Name, number_among}
 use Rattle.c_rules.specs.Types.{is_integer, is_function, is_scalar}
-use Rattle.c_rules.specs.Scopes.{Env, Struct, incomplete, unknown_struct, defined_struct, Member, type_of_member, struct_of, layout_of}
+use Rattle.c_rules.specs.Scopes.{Env, Struct, defined_struct, Member, type_of_member, struct_of, layout_of}
 use Rattle.c_rules.specs.TypedExpression.{Form, a_value, a_place, behind, TypedExpression, typed_value, tree_of, is_value, is_place, is_null, integer_constant}
 use Rattle.c_rules.specs.Constants.{constant_unary}
-use Rattle.c_rules.specs.Conversions.{Kind, an_integer, a_pointer, neither, kind_of, few_parts, valued, cast_to, converted_to, null_of}
+use Rattle.c_rules.specs.Conversions.{Kind, an_integer, kind_of, few_parts, valued, cast_to, converted_to, null_of}
 use Rattle.c_rules.specs.PostfixExpressions.{name_of_member, member_or_undeclared, member_of_struct, member_of_type, member_of}
 use Rattle.c_rules.specs.UnaryExpressions.{address_of_form, address_of_type, address, led_to, indirection, plus_of, operator_of, negation, unary_of_value, cast_of, null_cast}
 use Rattle.c_rules.specs.Assignments.{assignable}
@@ -27,7 +27,7 @@ use Rattle.c_rules_laws.specs.ConstantForm.{IsConst}
 use Rattle.c_rules_laws.proofs.Holding.{and_right}
 use Rattle.null_calls_expressions_laws.specs.Remade.{inner_of, with_inner, remade, IsRemade, Follows}
 use Rattle.null_calls_expressions_laws.proofs.Constants.{unary_const, integer_const, member_const}
-use Rattle.null_calls_expressions_laws.proofs.Operands.{operand, value_remade, same_remade, demand_follows, behind_follows, on_follows, if_follows, valued_follows, cast_operand, converted_operand, null_operand}
+use Rattle.null_calls_expressions_laws.proofs.Operands.{operand, value_remade, same_remade, demand_follows, on_follows, if_follows, valued_follows, cast_operand, converted_operand, null_operand}
 
 module _ (p : Program) (k : ℕ) (ts : List CType) where
   abbrev Same : TypedExpression → Expr → Type 0
@@ -78,12 +78,13 @@ module _ (p : Program) (k : ℕ) (ts : List CType) where
   place_same : (g : TypedExpression) (x : Expr) → is_place (remade g x) ≡ is_place g
   place_same g x = ap (λ b. not b && not (is_function g.ctype)) (value_same g.form x)
 
-  behind_test : (b c : Bool) → c ≡ b → (code at : ℕ) (r s : Checked TypedExpression) → Goes r s → Goes (on (demand b code at met) (λ _. r)) (on (demand c code at met) (λ _. s))
-  behind_test b c q code at r s h = subst (λ z. Goes (on (demand b code at met) (λ _. r)) (on (demand z code at met) (λ _. s))) (sym q) (behind_follows p k ts (demand b code at met) (λ _. r) (λ _. s) (λ _. h))
+  pub behind_test : (b c : Bool) → c ≡ b → (code at : ℕ) (r s : Checked TypedExpression) → (b ≡ true → Goes r s) → Goes (on (demand b code at met) (λ _. r)) (on (demand c code at met) (λ _. s))
+  behind_test true c q code at r s h = subst (λ z. Goes r (on (demand z code at met) (λ _. s))) (sym q) (h refl)
+  behind_test false c q code at r s h = tt
 
   pub address_follows : (at place : ℕ) (g : TypedExpression) (x : Expr) → Same g x → Goes (address at place g) (address at place (remade g x))
   address_follows at place g x h =
-      behind_test (is_place g || is_function g.ctype) (is_place (remade g x) || is_function g.ctype) (ap (λ b. b || is_function g.ctype) (place_same g x)) 4 place (address_of_type at g g.ctype) (address_of_type at (remade g x) g.ctype) (address_type_follows at g x g.ctype h)
+      behind_test (is_place g || is_function g.ctype) (is_place (remade g x) || is_function g.ctype) (ap (λ b. b || is_function g.ctype) (place_same g x)) 4 place (address_of_type at g g.ctype) (address_of_type at (remade g x) g.ctype) (λ _. address_type_follows at g x g.ctype h)
 
   -- an operand that designates an object
   pub assignable_follows : (at : ℕ) (g : TypedExpression) (x : Expr) → Same g x → Goes (assignable at g) (assignable at (remade g x))
@@ -118,8 +119,7 @@ module _ (p : Program) (k : ℕ) (ts : List CType) where
       let a : TypedExpression = converted_to (promoted i) g in
       let b : TypedExpression = converted_to (promoted i) (remade g x) in
       value_remade p k ts (integer (promoted i)) (unary_operation (integer (promoted i)) o (tree_of a)) (unary_operation (integer (promoted i)) o (tree_of b)) (constant_unary o a.constant) (constant_unary o b.constant) c.types (ap (unary_operation (integer (promoted i)) o) c.tree) (λ z. c.none (unary_const o a.constant z)) (ap (constant_unary o) c.constant)
-  operator_follows at o g x (a_pointer t) h = tt
-  operator_follows at o g x neither h = tt
+  operator_follows at o g x d h = tt
 
   negation_follows : (at : ℕ) (g : TypedExpression) (x : Expr) → Same g x → Goes (negation at g) (negation at (remade g x))
   negation_follows at g x h =
