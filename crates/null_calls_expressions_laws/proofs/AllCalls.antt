@@ -28,7 +28,7 @@ use Rattle.null_calls_counts_laws.specs.Counts.{IsName, IsDesignator, AreNamed, 
 use Rattle.null_calls_expressions_laws.specs.Tabled.{called_by, HasTypes, AreTabled, AllTabled, AreFound}
 use Rattle.null_calls_expressions_laws.specs.Follow.{types_of, UnusedFollows, ExprFollows, UnusedExprFollows, Goes, AllGo}
 use Rattle.null_calls_expressions_laws.proofs.Expressions.{expressions_go}
-use Rattle.null_calls_expressions_laws.proofs.Leaves.{Holds}
+use Rattle.null_calls_expressions_laws.proofs.Leaves.{Holds, same_fine}
 use Rattle.null_calls_expressions_laws.proofs.Solid.{SolidValue}
 use Rattle.null_calls_expressions_laws.proofs.Given.{IsSolid}
 use Rattle.null_calls_expressions_laws.proofs.Forms.{unused_same}
@@ -46,9 +46,6 @@ record IsPointer (r : Checked TypedExpression) (e : typed.Expr) (t : CType) (ps 
   pub tree : tree_of given ≡ e
   pub pointed : given.ctype ≡ pointer (function t ps)
 
-same_callee : (f g : Callee) → fine f ≡ fine g → f ≡ g
-same_callee f g e = cc
-
 same_through : (e f : typed.Expr) → through e ≡ through f → e ≡ f
 same_through e f q = cc
 
@@ -58,7 +55,7 @@ module _ (at : ℕ) (e : typed.Expr) (t : CType) (ps : CTypes) where
 
   by_type : (g : TypedExpression) (u : CType) → g.ctype ≡ u → callee_through at (tree_of g) u ≡ fine pointed_to → IsPointer (fine g) e t ps
   by_type g (pointer (function u us)) q h =
-      let c = same_callee (record { designator = through (tree_of g); returns = u; parameters = us }) pointed_to h in
+      let c = same_fine {A = Callee} (record { designator = through (tree_of g); returns = u; parameters = us }) pointed_to h in
       record { given = g; value = refl; tree = same_through (tree_of g) e (ap (λ f. f.designator) c); pointed = q ∙ ap (λ f. pointer (function f.returns f.parameters)) c }
   by_type g u q h = absurd (cc)
 
@@ -67,7 +64,7 @@ module _ (at : ℕ) (e : typed.Expr) (t : CType) (ps : CTypes) where
   by_value (faulty f fs) h = absurd (cc)
 
   no_function : (place : ℕ) (u : CType) (n : ℕ) → callee_of_type place u n ≡ fine pointed_to → ⊥
-  no_function place (function u us) n h = (let c : direct n ≡ through e = ap (λ f. f.designator) (same_callee (record { designator = direct n; returns = u; parameters = us }) pointed_to h) in cc)
+  no_function place (function u us) n h = (let c : direct n ≡ through e = ap (λ f. f.designator) (same_fine {A = Callee} (record { designator = direct n; returns = u; parameters = us }) pointed_to h) in cc)
   no_function place u n h = cc
 
   no_use : (place : ℕ) (u : CType) (r : Checked ℕ) → on r (callee_of_type place u) ≡ fine pointed_to → ⊥

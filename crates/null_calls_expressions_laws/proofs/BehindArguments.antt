@@ -46,7 +46,7 @@ pub post_given : number_among (given_names Instrumented) post_name ≡ Some 25
 unfolding table
 post_given = refl
 
-abbrev cons : TypedExpression → List TypedExpression → Checked (List TypedExpression)
+abbrev pub cons : TypedExpression → List TypedExpression → Checked (List TypedExpression)
 cons g gs = fine (g ∷ gs)
 
 three_same : {A B C : Type 0} (r r' : Checked A) (s s' : Checked B) (t t' : Checked C) (k : A → B → C → Checked TypedExpression) → r ≡ r' → s ≡ s' → t ≡ t' → all_three r s t k ≡ all_three r' s' t' k

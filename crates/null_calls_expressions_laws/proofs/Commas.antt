@@ -26,7 +26,7 @@ use Rattle.null_calls_counts_laws.proofs.ExpressionCounts.{places_near}
 use Rattle.null_calls_expressions_laws.specs.Tabled.{AreTabled, AllTabled, AreFound}
 use Rattle.null_calls_expressions_laws.specs.Follow.{types_of, UnusedFollows, Goes, AllGo}
 use Rattle.null_calls_expressions_laws.proofs.Leaves.{Holds, demand_holds}
-use Rattle.null_calls_expressions_laws.proofs.BehindArguments.{result_value}
+use Rattle.null_calls_expressions_laws.proofs.BehindArguments.{cons, result_value}
 use Rattle.null_calls_expressions_laws.proofs.TreeTypes.{ValueTyped, value_typed}
 use Rattle.null_calls_expressions_laws.proofs.Forms.{types_both, found_first, found_rest, value_goes}
 
@@ -99,9 +99,6 @@ module _ (p : Program) where
   abbrev ListFollows : Bool → ℕ → List CType → Checked (List TypedExpression) → Checked (List TypedExpression) → Type 0
   ListFollows wanted k ts (fine gs) s = (g : TypedExpression) × (rest : List TypedExpression) × (hs : List TypedExpression) × (gs ≡ g ∷ rest) × (s ≡ fine hs) × MembersGo wanted k ts g rest hs
   ListFollows wanted k ts (faulty f fs) s = Unit {0}
-
-  abbrev cons : TypedExpression → List TypedExpression → Checked (List TypedExpression)
-  cons g gs = fine (g ∷ gs)
 
   last_goes : (wanted : Bool) (k : ℕ) (ts : List CType) (r s : Checked TypedExpression) → PartFollows wanted k ts r s → Holds ValueTyped s → Holds HasPlainType r → Holds HasPlainType s → ListFollows wanted k ts (both r (fine []) cons) (both s (fine []) cons)
   last_goes wanted k ts (fine g) s h n l m =

@@ -92,6 +92,10 @@ after_two P r s f h = both_hold Any Any P r s f (anything r) (anything s) (λ a 
 pub after_three : {A B C D : Type 0} (P : D → Type 0) (r : Checked A) (s : Checked B) (t : Checked C) (f : A → B → C → Checked D) → ((a : A) (b : B) (c : C) → Holds P (f a b c)) → Holds P (all_three r s t f)
 after_three P r s t f h = all_three_hold Any Any Any P r s t f (anything r) (anything s) (anything t) (λ a b c _ _ _. h a b c)
 
+pub if_known : (P : TypedExpression → Type 0) (t : Bool) (r s : Checked TypedExpression) → (t ≡ true → Holds P r) → Holds P s → Holds P (if t then r else s)
+if_known P true r s h l = h refl
+if_known P false r s h l = l
+
 -- ## Addresses are no null pointers
 
 pub no : {A : Type 0} → false ≡ true → A

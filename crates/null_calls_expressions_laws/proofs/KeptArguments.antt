@@ -29,6 +29,7 @@ use Rattle.null_calls_expressions_laws.proofs.Forms.{types_both, found_first, fo
 use Rattle.null_calls_expressions_laws.specs.KeptArguments.{NearBy, ArgumentsAreKept, KeptArgumentsGo}
 use Rattle.null_calls_expressions_laws.proofs.AddedParts.{temporaries_are_set}
 pub use Rattle.c_rules_laws.proofs.Holding.{first_fine, and_left, and_right}
+pub use Rattle.null_calls_expressions_laws.proofs.Leaves.{same_fine}
 
 -- what may be assigned to has a scalar type
 pub scalar_fits : (t : CType) (g : TypedExpression) → fits t g ≡ true → IsScalar t
@@ -40,9 +41,6 @@ scalar_value : (env : Env) (at : ℕ) (t : CType) (e : typed.Expr) → IsScalar 
 scalar_value env at (integer i) e h = refl
 scalar_value env at (pointer t) e h = refl
 scalar_value env at t e h = absurd h
-
-pub same_list : (xs ys : List TypedExpression) → fine xs ≡ fine ys → xs ≡ ys
-same_list xs ys e = cc
 
 pub follows_fine : (p : Program) (k : ℕ) (ts : List CType) (r s : Checked TypedExpression) (g : TypedExpression) → Follows p k ts r s → r ≡ fine g → (x : typed.Expr) × (s ≡ fine (remade g x)) × IsRemade p k ts g x
 follows_fine p k ts r s g h e = subst (λ z. Follows p k ts z s) e h
@@ -57,16 +55,16 @@ module _ (p : Program) (sites : Sites) (env : Env) (w : More) where
   kept_go : (es : Exprs) (ps : CTypes) (slack : ℕ) → AllGo p sites env w es → (b b' : Before) (at site i j k : ℕ) (rest : Exprs) (gs : List TypedExpression) → AllNamed sites b.sites es → AllTabled p sites L b es → AreFound w.names j (arguments_kept site i ps) → AreFound w.names k (kept_of_arguments sites b.sites es) → NearBy slack b b'
       → trees L b es ≡ fine gs → all_fit ps gs ≡ true → length gs ≡ count ps → ArgumentsAreKept p sites env w slack b b' at site i j k es rest ps gs
   kept_go no_exprs no_types slack l b b' at site i j k rest gs n t f found r e fit long =
-      let none : gs ≡ [] = same_list gs [] (sym e) in
+      let none : gs ≡ [] = same_fine gs [] (sym e) in
       subst (λ z. ArgumentsAreKept p sites env w slack b b' at site i j k no_exprs rest no_types z) (sym none) (record { given = []; last = b'; near = r; chain = λ hs q. q; types = refl; trees_kept = λ typed_rest hs q. q })
-  kept_go no_exprs (more_types u ps) slack l b b' at site i j k rest gs n t f found r e fit long = absurd (let q : length gs ≡ 0 = ap length (same_list gs [] (sym e)) in omega (arith, q, long))
+  kept_go no_exprs (more_types u ps) slack l b b' at site i j k rest gs n t f found r e fit long = absurd (let q : length gs ≡ 0 = ap length (same_fine gs [] (sym e)) in omega (arith, q, long))
   kept_go (more_exprs a es) no_types slack l b b' at site i j k rest gs n t f found r e fit long =
-      (let c = first_fine (value L b a) (trees L (after b a) es) (λ g gs. fine (g ∷ gs)) gs e in absurd (let q : length gs ≡ suc (length c.1) = ap length (same_list gs (c.0 ∷ c.1) (sym c.4)) in omega (arith, q, long)))
+      (let c = first_fine (value L b a) (trees L (after b a) es) (λ g gs. fine (g ∷ gs)) gs e in absurd (let q : length gs ≡ suc (length c.1) = ap length (same_fine gs (c.0 ∷ c.1) (sym c.4)) in omega (arith, q, long)))
   kept_go (more_exprs a es) (more_types u ps) slack l b b' at site i j k rest gs n t f found r e fit long =
       let c = first_fine (value L b a) (trees L (after b a) es) (λ g gs. fine (g ∷ gs)) gs e in
       let g : TypedExpression = c.0 in
       let gs2 : List TypedExpression = c.1 in
-      let same : gs ≡ g ∷ gs2 = same_list gs (g ∷ gs2) (sym c.4) in
+      let same : gs ≡ g ∷ gs2 = same_fine gs (g ∷ gs2) (sym c.4) in
       let fits_all : (fits u g && all_fit ps gs2) ≡ true = subst (λ z. all_fit (more_types u ps) z ≡ true) same fit in
       let fits_one : fits u g ≡ true = and_left (fits u g) (all_fit ps gs2) fits_all in
       let scalar : IsScalar u = scalar_fits u g fits_one in

@@ -1,5 +1,5 @@
 -- Names, constants and strings, and what isn't evaluated, give the same in both units: there is no call in their trees.
-use Rattle.std.proofs.Common.{◌≡◌, ℕ, suc, ◌+◌, Bool, true, List, [], length, Option, Some, None, refl, ap, ap₂, sym, ◌∙◌}
+use Rattle.std.proofs.Common.{◌≡◌, ℕ, suc, ◌+◌, Bool, true, List, [], length, Option, Some, None, refl, ap, ap₂, sym, subst, ◌∙◌}
 use Rattle.c_tree.specs.Tree.{CType, Program}
 use Rattle.c_rules.specs.Checked.{Checked, fine, faulty, on, gives}
 use Rattle.c_rules.specs.Names.{Name}
@@ -16,6 +16,9 @@ use Rattle.null_calls_counts_laws.specs.Counts.{Near}
 use Rattle.c_rules.proofs.Integers.{integer_cases, size_holds}
 pub use Rattle.c_rules.proofs.Below.{Holds, demand_holds}
 pub use Rattle.c_rules_laws.proofs.Holding.{after_part}
+
+pub same_fine : {A : Type 0} (x y : A) → fine x ≡ fine y → x ≡ y
+same_fine x y e = subst (Holds (λ z. x ≡ z)) e refl
 
 same_inner : (f : Form) → with_inner f (inner_of f) ≡ f
 same_inner (a_value e) = refl

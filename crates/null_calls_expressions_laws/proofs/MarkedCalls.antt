@@ -43,7 +43,7 @@ use Rattle.null_calls_expressions_laws.specs.MarkedCalls.{NullCallsStand}
 use Rattle.null_calls_expressions_laws.specs.NullTypes.{IsNullType}
 use Rattle.null_calls_expressions_laws.proofs.AddedParts.{temporaries_are_read, temporaries_are_set}
 use Rattle.null_calls_expressions_laws.proofs.BehindArguments.{behind}
-use Rattle.null_calls_expressions_laws.proofs.KeptArguments.{scalar_fits, first_fine, and_left, and_right, same_list, follows_fine, kept_arguments_go}
+use Rattle.null_calls_expressions_laws.proofs.KeptArguments.{scalar_fits, first_fine, and_left, and_right, same_fine, follows_fine, kept_arguments_go}
 use Rattle.null_calls_expressions_laws.proofs.OwnTypes.{type_itself}
 use Rattle.c_lexer.proofs.OneTokenTables.{or_right}
 
@@ -75,12 +75,12 @@ scalars_of (more_types t ps) (g ∷ gs) h l = (scalar_fits t g (and_left (fits t
 
 pub many_of : (sites : Sites) (env : Env) (es : Exprs) (i : ℕ) (b : Before) (gs : List TypedExpression) (ps : CTypes) → trees env b es ≡ fine gs → length gs ≡ count ps → AreAsMany (arguments sites i es) ps
 many_of sites env no_exprs i b gs no_types e l = tt
-many_of sites env no_exprs i b gs (more_types t ps) e l = (let q : length gs ≡ 0 = ap length (same_list gs [] (sym e)) in omega (arith, q, l))
+many_of sites env no_exprs i b gs (more_types t ps) e l = (let q : length gs ≡ 0 = ap length (same_fine gs [] (sym e)) in omega (arith, q, l))
 many_of sites env (more_exprs a es) i b gs no_types e l =
-    (let c = first_fine (value env b a) (trees env (after b a) es) (λ g gs. fine (g ∷ gs)) gs e in let q : length gs ≡ suc (length c.1) = ap length (same_list gs (c.0 ∷ c.1) (sym c.4)) in omega (arith, q, l))
+    (let c = first_fine (value env b a) (trees env (after b a) es) (λ g gs. fine (g ∷ gs)) gs e in let q : length gs ≡ suc (length c.1) = ap length (same_fine gs (c.0 ∷ c.1) (sym c.4)) in omega (arith, q, l))
 many_of sites env (more_exprs a es) i b gs (more_types t ps) e l =
     (let c = first_fine (value env b a) (trees env (after b a) es) (λ g gs. fine (g ∷ gs)) gs e in
-    let q : length gs ≡ suc (length c.1) = ap length (same_list gs (c.0 ∷ c.1) (sym c.4)) in
+    let q : length gs ≡ suc (length c.1) = ap length (same_fine gs (c.0 ∷ c.1) (sym c.4)) in
     many_of sites env es (i + calls a) (after b a) c.1 ps c.3 (omega (arith, q, l)))
 
 -- ## Results
@@ -96,12 +96,10 @@ result_found w true site j t f e = f.0
 result_found w false site j t f e = absurd (let q : false ≡ true = e in cc)
 
 pub if_true : {A : Type 0} (b : Bool) (x y : A) → b ≡ true → (if b then x else y) ≡ x
-if_true true x y e = refl
-if_true false x y e = absurd (let q : false ≡ true = e in cc)
+if_true b x y e = ap (λ c. if c then x else y) e
 
 pub if_false : {A : Type 0} (b : Bool) (x y : A) → b ≡ false → (if b then x else y) ≡ y
-if_false true x y e = absurd (let q : true ≡ false = e in cc)
-if_false false x y e = refl
+if_false b x y e = ap (λ c. if c then x else y) e
 
 -- a marked call as a comma expression beside the plain call
 pub record MarkedGoes (p : Program) (env : Env) (w : More) (b' : Before) (k : ℕ) (wanted : Bool) (ts : List CType) (t : CType) (e : typed.Expr) (x : Expr) : Type 0 where

@@ -33,9 +33,10 @@ use Rattle.null_calls_counts_laws.specs.Counts.{AreNamed, AllNamed, Near}
 use Rattle.null_calls_counts_laws.proofs.ExpressionCounts.{places_near, counts_stay}
 use Rattle.null_calls_expressions_laws.specs.Tabled.{called_by, AreTabled, AllTabled, AreFound}
 use Rattle.null_calls_expressions_laws.specs.Follow.{types_of, ExprFollows, Goes, AllGo}
-use Rattle.null_calls_expressions_laws.proofs.Leaves.{Holds, after_part, leaf_follows, named_leaf}
+use Rattle.null_calls_expressions_laws.proofs.Leaves.{Holds, same_fine, after_part, leaf_follows, named_leaf}
 use Rattle.null_calls_expressions_laws.proofs.Forms.{types_both, found_first, found_rest, value_goes}
 use Rattle.null_calls_expressions_laws.specs.PlainCalls.{UnmarkedCallsGo}
+use Rattle.null_calls_expressions_laws.proofs.BehindArguments.{cons}
 use Rattle.null_calls_expressions_laws.proofs.MarkedCalls.{if_false}
 
 -- ## Designators
@@ -56,9 +57,6 @@ stays_no_name : (sites : Sites) (b : ℕ) (d : Expr) → IsNoName d → IsNoName
 stays_no_name sites b (a_name place x) h = absurd h
 stays_no_name sites b (call place d es) h = call_no_name place (b + calls d) true (sites (b + calls d)) _ _
 stays_no_name sites b d h = tt
-
-same_given : (g h : TypedExpression) → fine g ≡ fine h → g ≡ h
-same_given g h e = cc
 
 entry_none : (b : Bool) (c : Called) → (if b then Some c else None) ≡ None → b ≡ false
 entry_none true c e = absurd (let q : Some c ≡ None = e in cc)
@@ -96,7 +94,7 @@ module _ (p : Program) where
 
   value_leaf : (k at : ℕ) (r : Checked TypedExpression) → Follows p k [] r r → Holds (CalleeLeaf k) (on r (callee_by_value at))
   value_leaf k at (fine g) h =
-      (let o = operand p k [] g h.0 h.2 in let q = same_given g (remade g h.0) h.1 in through_leaf k at (tree_of g) g.ctype o.types (subst (λ z. unsited (tree_of z) ≡ with_null_calls.expr p k true (tree_of g)) (sym q) o.tree))
+      (let o = operand p k [] g h.0 h.2 in let q = same_fine g (remade g h.0) h.1 in through_leaf k at (tree_of g) g.ctype o.types (subst (λ z. unsited (tree_of z) ≡ with_null_calls.expr p k true (tree_of g)) (sym q) o.tree))
   value_leaf k at (faulty f fs) h = tt
 
   meant_callee : (env : Env) (k at place : ℕ) (y : Name) (r : Checked TypedExpression) (m : Meaning) → Follows p k [] r r → Holds (CalleeLeaf k) (callee_meant env at place y r m)
@@ -120,9 +118,6 @@ module _ (p : Program) where
   abbrev ArgsFollow : ℕ → List CType → Checked (List TypedExpression) → Checked (List TypedExpression) → Type 0
   ArgsFollow k ts (fine gs) s = (hs : List TypedExpression) × (s ≡ fine hs) × AllRemade k ts gs hs
   ArgsFollow k ts (faulty f fs) s = Unit {0}
-
-  abbrev cons : TypedExpression → List TypedExpression → Checked (List TypedExpression)
-  cons g gs = fine (g ∷ gs)
 
   more_args : (k : ℕ) (us vs : List CType) (r s : Checked TypedExpression) (q v : Checked (List TypedExpression)) → Follows p k us r s → ArgsFollow (k + length us) vs q v → ArgsFollow k (us ++ vs) (both r q cons) (both s v cons)
   more_args k us vs (fine g) s (fine gs) v h l = (remade g h.0 ∷ l.0, ap (λ z. both z v cons) h.1 ∙ ap (λ z. both (fine (remade g h.0)) z cons) l.1, (us, vs, h.0, l.0, refl, h.2, l.2, refl))

@@ -1,5 +1,5 @@
 -- Trees that have the same temporaries whether their value is wanted or not.
-use Rattle.std.proofs.Common.{◌≡◌, ℕ, Bool, true, false, ◌||◌, if◌then◌else◌, nat_eq, refl, sym, subst}
+use Rattle.std.proofs.Common.{◌≡◌, ℕ, ◌||◌, nat_eq, refl, sym, subst}
 use Rattle.std.proofs.lemmas.Bool.Decides.{Decides-eqb}
 use Rattle.c_lexer.specs.declared.punctuator.TheConstants.{AMPERSAND, ASTERISK}
 use Rattle.c_tree.specs.Tree.{CType, void, pointer, array, struct, function, Program}
@@ -13,7 +13,7 @@ use Rattle.c_rules.specs.BinaryExpressions.{sum}
 use Rattle.c_rules.specs.Expressions.{value_at, unary_rule}
 use Rattle.c_rules_laws.proofs.Holding.{on_holds, if_holds}
 use Rattle.null_calls_expressions_laws.proofs.Leaves.{Holds, after_part, demand_holds}
-use Rattle.null_calls_expressions_laws.proofs.Given.{IsSolid, IsOwn, IsGiven, by_own, by_given, own_given, after_two, rest_own, sum_own}
+use Rattle.null_calls_expressions_laws.proofs.Given.{IsSolid, IsOwn, IsGiven, by_own, by_given, own_given, after_two, if_known, rest_own, sum_own}
 
 module _ (p : Program) where
   -- what leads to a place by a tree that is so
@@ -76,11 +76,9 @@ module _ (p : Program) where
   address_firm at place g h = after_part IsFirm (demand (is_place g || is_function g.ctype) 4 place met) _ (λ _. address_type_firm at g g.ctype h)
 
   pub unary_firm : (env : Env) (at place code : ℕ) (r : Checked TypedExpression) → (code ≡ AMPERSAND → Holds LeadsFirmly r) → Holds IsFirm (unary_rule env at place code r)
-  unary_firm env at place code r h = by_test (nat_eq code AMPERSAND) (λ e. h ((Decides-eqb code AMPERSAND).0 e))
-    where
-      by_test : (t : Bool) → (t ≡ true → Holds LeadsFirmly r) → Holds IsFirm (if t then on r (address at place) else on (value_at env place r) (unary_of_value at code))
-      by_test true l = on_holds LeadsFirmly IsFirm r (address at place) (l refl) (λ g m. address_firm at place g m)
-      by_test false l = after_part IsFirm (value_at env place r) (unary_of_value at code) (λ g. if_holds IsFirm (nat_eq code ASTERISK) _ _ (led_firm at g g.ctype) (given_firm _ (own_given _ (rest_own at code g))))
+  unary_firm env at place code r h =
+      if_known IsFirm (nat_eq code AMPERSAND) _ _ (λ e. on_holds LeadsFirmly IsFirm r (address at place) (h ((Decides-eqb code AMPERSAND).0 e)) (λ g m. address_firm at place g m))
+      (after_part IsFirm (value_at env place r) (unary_of_value at code) (λ g. if_holds IsFirm (nat_eq code ASTERISK) _ _ (led_firm at g g.ctype) (given_firm _ (own_given _ (rest_own at code g)))))
 
   -- ## Indices
 
@@ -109,11 +107,7 @@ module _ (p : Program) where
       by_type t = by_form g.form
 
   unary_value_led : (at code : ℕ) (g : TypedExpression) → (code ≡ ASTERISK → ⊥) → Holds LeadsFirmly (unary_of_value at code g)
-  unary_value_led at code g n = no_star (nat_eq code ASTERISK) (λ e. n ((Decides-eqb code ASTERISK).0 e)) _ _ (given_led _ (own_given _ (rest_own at code g)))
-    where
-      no_star : (t : Bool) → (t ≡ true → ⊥) → (r s : Checked TypedExpression) → Holds LeadsFirmly s → Holds LeadsFirmly (if t then r else s)
-      no_star true h r s l = absurd (h refl)
-      no_star false h r s l = l
+  unary_value_led at code g n = if_known LeadsFirmly (nat_eq code ASTERISK) _ _ (λ e. absurd (n ((Decides-eqb code ASTERISK).0 e))) (given_led _ (own_given _ (rest_own at code g)))
 
   pub unary_led : (env : Env) (at place code : ℕ) (r : Checked TypedExpression) → (code ≡ ASTERISK → ⊥) → Holds LeadsFirmly (unary_rule env at place code r)
   unary_led env at place code r n =
