@@ -8,7 +8,7 @@ use Rattle.c_tree.specs.Operands.{IsResult}
 use Rattle.c_shapes.specs.Mentions.{Direct, Through}
 use Rattle.c_shapes.specs.CallGraph.{is_marked}
 use Rattle.c_syntax.specs.Tree.{Expr, a_name, call, Exprs}
-use Rattle.c_rules.specs.Checked.{Checked, fine, faulty, demand, on, all_three, met}
+use Rattle.c_rules.specs.Checked.{Fault, Checked, fine, faulty, demand, on, all_three, met}
 use Rattle.c_rules.specs.Types.{count}
 use Rattle.c_rules.specs.Names.{Name}
 use Rattle.c_rules.specs.Scopes.{Env, Binding, Meaning, a_function, evaluated, Before, binding_of}
@@ -24,8 +24,8 @@ use Rattle.null_calls_rules.specs.InstrumentedPrograms as with_null_calls
 use Rattle.c_rules_laws.specs.TypedAlike.{More, plain_scope, instrumented_scope, AreUnreserved, MeanAlike}
 use Rattle.null_calls_expressions_laws.specs.Remade.{Follows}
 use Rattle.null_calls_expressions_laws.proofs.Unary.{value_at_follows}
-use Rattle.null_calls_counts_laws.specs.Counts.{IsName, IsDesignator, AreNamed, AllNamed, Near}
-use Rattle.null_calls_expressions_laws.specs.Tabled.{called_by, HasTypes, AreTabled, AllTabled, AreFound}
+use Rattle.null_calls_counts_laws.specs.Counts.{IsName, IsDesignator, AreNamed, Near}
+use Rattle.null_calls_expressions_laws.specs.Tabled.{called_by, HasTypes, AreTabled, AreFound}
 use Rattle.null_calls_expressions_laws.specs.Follow.{types_of, UnusedFollows, ExprFollows, UnusedExprFollows, Goes, AllGo}
 use Rattle.null_calls_expressions_laws.proofs.Expressions.{expressions_go}
 use Rattle.null_calls_expressions_laws.proofs.Leaves.{Holds, same_fine}
@@ -85,25 +85,21 @@ module _ (at : ℕ) (e : typed.Expr) (t : CType) (ps : CTypes) where
 
 -- ## What the plain call gives
 
-abbrev IsFaulty : Checked TypedExpression → Type 0
-IsFaulty (fine g) = ⊥
-IsFaulty (faulty f fs) = Unit {0}
-
 abbrev given_by : Callee → ℕ → List TypedExpression → TypedExpression
 given_by f site gs = typed_value f.returns (call_of f.designator f.returns site (passed f.parameters gs)) not_constant
 
-module _ (P : Checked TypedExpression → Type 0) (at : ℕ) (faults : (r : Checked TypedExpression) → IsFaulty r → P r) where
+module _ (P : Checked TypedExpression → Type 0) (at : ℕ) (faults : (f : Fault) (fs : List Fault) → P (faulty f fs)) where
   by_fitting : (b : Bool) (g : TypedExpression) → (b ≡ true → P (fine g)) → P (demand b 3 at g)
   by_fitting true g h = h refl
-  by_fitting false g h = faults _ tt
+  by_fitting false g h = faults _ _
 
   by_number : (a b : Bool) (g : TypedExpression) → (a ≡ true → b ≡ true → P (fine g)) → P (on (demand a 5 at met) (λ _. demand b 3 at g))
   by_number true b g h = by_fitting b g (h refl)
-  by_number false b g h = faults _ tt
+  by_number false b g h = faults _ _
 
   by_parts : (r : Checked Callee) (s : Checked ℕ) (q : Checked (List TypedExpression)) → ((f : Callee) (site : ℕ) (gs : List TypedExpression) → r ≡ fine f → s ≡ fine site → q ≡ fine gs → length gs ≡ count f.parameters → all_fit f.parameters gs ≡ true → P (fine (given_by f site gs))) → P (all_three r s q (called at))
   by_parts (fine f) (fine site) (fine gs) h = by_number (as_many_as f.parameters gs) (all_fit f.parameters gs) (given_by f site gs) (λ a b. h f site gs refl refl refl ((Decides-eqb (length gs) (count f.parameters)).0 a) b)
-  by_parts r s q h = faults _ tt
+  by_parts r s q h = faults _ _
 
 record IsSite (m site : ℕ) : Type 0 where
   pub same : site ≡ m
@@ -152,14 +148,6 @@ module _ (p : Program) (sites : Sites) (env : Env) (w : More) (plain : AreUnrese
 
   -- ## Marked calls
 
-  direct_any : (d : Expr) → IsName d → (at : ℕ) (es : Exprs) → AllGo p sites env w es → (b b' : Before) (k : ℕ) (wanted : Bool) (f : ℕ) (t : CType) (ps : CTypes) (gs : List TypedExpression) → AllNamed sites (suc (b.sites + calls d)) es → AllTabled p sites L (after_designator b d) es
-      → AreFound w.names k (kept sites b.sites true d ++ ((arguments_kept (b.sites + calls d) 0 ps ++ result_kept (b.sites + calls d) wanted t) ++ kept_of_arguments sites (suc (b.sites + calls d)) es)) → Near b b' → callee L at d (value L b d) ≡ fine (record { designator = direct f; returns = t; parameters = ps }) → is_marked p (Direct f) ≡ true
-      → called_type p f ≡ Some (function t ps) → IsResult t → trees L (after_designator b d) es ≡ fine gs → length gs ≡ count ps → all_fit ps gs ≡ true → (b.sites + calls d) + suc (calls_of_all es) ≤ 10000
-      → MarkedGoes p env w b' k wanted (types_of (kept sites b.sites true d ++ ((arguments_kept (b.sites + calls d) 0 ps ++ result_kept (b.sites + calls d) wanted t) ++ kept_of_arguments sites (suc (b.sites + calls d)) es))) t (typed.call t (b.sites + calls d) f (passed ps gs))
-      (marked_call at (b.sites + calls d) wanted (record { pointer_type = None; returns = t; parameters = ps }) (expr sites b.sites true d) (arguments sites (suc (b.sites + calls d)) es))
-  direct_any (a_name q y) h at es l b b' k wanted f t ps gs n tabled found r c marked types result given long fit within = direct_goes p sites env w stand plain alike at q y es l b b' k wanted f t ps gs n tabled found r c marked types result given long fit within
-  direct_any d h at es l b b' k wanted f t ps gs n tabled found r called_fine marked types result given long fit within = absurd h
-
   marked_goes : (at : ℕ) (d : Expr) (es : Exprs) → Goes p sites env w d → AllGo p sites env w es → (b b' : Before) (k : ℕ) (wanted : Bool) (c : Called) → sites (b.sites + calls d) ≡ Some c → AreNamed sites b.sites (call at d es) → AreTabled p sites L b (call at d es) → AreFound w.names k (kept sites b.sites wanted (call at d es)) → Near b b'
       → (f : Designator) (t : CType) (ps : CTypes) (gs : List TypedExpression) → callee L at d (value L b d) ≡ fine (record { designator = f; returns = t; parameters = ps }) → sites (b.sites + calls d) ≡ called_by p f t ps → HasTypes p f t ps → IsResult t → trees L (after_designator b d) es ≡ fine gs → length gs ≡ count ps → all_fit ps gs ≡ true → (b.sites + calls d) + suc (calls_of_all es) ≤ 10000
       → MarkedGoes p env w b' k wanted (types_of (kept sites b.sites wanted (call at d es))) t (call_of f t (b.sites + calls d) (passed ps gs)) (expr sites b.sites wanted (call at d es))
@@ -170,7 +158,7 @@ module _ (p : Program) (sites : Sites) (env : Env) (w : More) (plain : AreUnrese
           let e : sites (b.sites + calls d) ≡ Some (record { pointer_type = None; returns = t; parameters = ps }) = entry ∙ if_true (is_marked p (Direct i)) _ _ q in
           let name : IsName d = (let k = subst (λ o. IsDesignator o d) e n.0 in k refl) in
           subst (λ o. MarkedGoes p env w b' k wanted (types_of (kept sites b.sites true d ++ (temporaries_where (b.sites + calls d) wanted o ++ kept_of_arguments sites (suc (b.sites + calls d)) es))) t (typed.call t (b.sites + calls d) i (passed ps gs)) (call_where at (b.sites + calls d) wanted o (expr sites b.sites true d) (arguments sites (suc (b.sites + calls d)) es))) (sym e)
-          (direct_any d name at es la b b' k wanted i t ps gs n.2 tabled.2 (subst (λ o. AreFound w.names k (kept sites b.sites true d ++ (temporaries_where (b.sites + calls d) wanted o ++ kept_of_arguments sites (suc (b.sites + calls d)) es))) e found) r called q types result given long fit within)
+          (direct_goes p sites env w stand plain alike d name at es la b b' k wanted i t ps gs n.2 tabled.2 (subst (λ o. AreFound w.names k (kept sites b.sites true d ++ (temporaries_where (b.sites + calls d) wanted o ++ kept_of_arguments sites (suc (b.sites + calls d)) es))) e found) r called q types result given long fit within)
       by_mark false q = absurd (let z : Some c ≡ None = sym some ∙ (entry ∙ if_false (is_marked p (Direct i)) _ _ q) in cc)
   marked_goes at d es l la b b' k wanted c some n tabled found r (through x) t ps gs called entry types result given long fit within = by_mark (is_marked p (Through (type_of x))) refl
     where
@@ -185,18 +173,6 @@ module _ (p : Program) (sites : Sites) (env : Env) (w : More) (plain : AreUnrese
           (λ marked typ found. through_goes p sites env w stand plain alike at d es l la b b' k wanted v.given t ps gs n.1 n.2 tabled.1 tabled.2 found r v.value v.pointed marked typ result given long fit within) q types
           (subst (λ o. AreFound w.names k (kept sites b.sites true d ++ (temporaries_where (b.sites + calls d) wanted o ++ kept_of_arguments sites (suc (b.sites + calls d)) es))) e found))
       by_mark false q = absurd (let z : Some c ≡ None = sym some ∙ (entry ∙ if_false (is_marked p (Through (type_of x))) _ _ q) in cc)
-
-  faulty_follows : (k : ℕ) (ts : List CType) (r s : Checked TypedExpression) → IsFaulty r → Follows p k ts r s
-  faulty_follows k ts (fine g) s h = absurd h
-  faulty_follows k ts (faulty f fs) s h = tt
-
-  faulty_unused : (at k : ℕ) (ts : List CType) (r s : Checked TypedExpression) → IsFaulty r → UnusedFollows p k ts (value_at L at r) s
-  faulty_unused at k ts (fine g) s h = absurd h
-  faulty_unused at k ts (faulty f fs) s h = tt
-
-  faulty_solid : (at : ℕ) (r : Checked TypedExpression) → IsFaulty r → Holds (SolidValue p) (value_at L at r)
-  faulty_solid at (fine g) h = absurd h
-  faulty_solid at (faulty f fs) h = tt
 
   -- a marked call whose value is wanted, and one whose value isn't
   marked_follows : (b' : Before) (k : ℕ) (ts : List CType) (t : CType) (e : typed.Expr) (x : Expr) → IsResult t → MarkedGoes p env w b' k true ts t e x → Follows p k ts (fine (typed_value t e not_constant)) (tree R b' x)
@@ -227,10 +203,10 @@ module _ (p : Program) (sites : Sites) (env : Env) (w : More) (plain : AreUnrese
     abbrev Types : Bool → Before → List CType
     Types wanted b = types_of (kept sites b.sites wanted (call at d es))
 
-    marked_case : (wanted : Bool) (b b' : Before) (k : ℕ) (c : Called) → sites (b.sites + calls d) ≡ Some c → AreNamed sites b.sites (call at d es) → AreTabled p sites L b (call at d es) → AreFound w.names k (kept sites b.sites wanted (call at d es)) → Near b b' → (P : Checked TypedExpression → Type 0) → ((r : Checked TypedExpression) → IsFaulty r → P r)
+    marked_case : (wanted : Bool) (b b' : Before) (k : ℕ) (c : Called) → sites (b.sites + calls d) ≡ Some c → AreNamed sites b.sites (call at d es) → AreTabled p sites L b (call at d es) → AreFound w.names k (kept sites b.sites wanted (call at d es)) → Near b b' → (P : Checked TypedExpression → Type 0) → ((first : Fault) (others : List Fault) → P (faulty first others))
         → ((t : CType) (e : typed.Expr) → IsResult t → MarkedGoes p env w b' k wanted (Types wanted b) t e (expr sites b.sites wanted (call at d es)) → P (fine (typed_value t e not_constant))) → P (tree L b (call at d es))
     marked_case wanted b b' k c some n t f r P faults fines =
-        by_parts (λ z. tree L b (call at d es) ≡ z → P z) at (λ z h e. faults z h) (callee L at d (value L b d)) (site_of L (b.sites + calls d) at) (trees L (after_designator b d) es)
+        by_parts (λ z. tree L b (call at d es) ≡ z → P z) at (λ first others e. faults first others) (callee L at d (value L b d)) (site_of L (b.sites + calls d) at) (trees L (after_designator b d) es)
         (λ g site gs c_fine s_fine g_fine long fit e.
         (let here = is_here b at d es site (given_by g site gs) s_fine e in
         let k0 = t.0 g c_fine in
@@ -245,13 +221,13 @@ module _ (p : Program) (sites : Sites) (env : Env) (w : More) (plain : AreUnrese
         by_entry : (o : Option Called) → sites (b.sites + calls d) ≡ o → Follows p k (Types true b) (tree L b (call at d es)) (tree R b' (expr sites b.sites true (call at d es)))
         by_entry None q = unmarked_calls_go p sites env w plain alike at d es l la b b' k q n t f r
         by_entry (Some c) q =
-            marked_case true b b' k c q n t f r (λ z. Follows p k (Types true b) z (tree R b' (expr sites b.sites true (call at d es)))) (λ z h. faulty_follows k (Types true b) z (tree R b' (expr sites b.sites true (call at d es))) h)
+            marked_case true b b' k c q n t f r (λ z. Follows p k (Types true b) z (tree R b' (expr sites b.sites true (call at d es)))) (λ _ _. tt)
             (λ u e result h. marked_follows b' k (Types true b) u e (expr sites b.sites true (call at d es)) result h)
 
     -- a call that isn't marked is the same whether its value is wanted or not
     plain_solid : (b : Before) → sites (b.sites + calls d) ≡ None → AreTabled p sites L b (call at d es) → Holds (SolidValue p) (value L b (call at d es))
     plain_solid b q t =
-        by_parts (λ z. Holds (SolidValue p) (value_at L at z)) at (faulty_solid at) (callee L at d (value L b d)) (site_of L (b.sites + calls d) at) (trees L (after_designator b d) es)
+        by_parts (λ z. Holds (SolidValue p) (value_at L at z)) at (λ _ _. tt) (callee L at d (value L b d)) (site_of L (b.sites + calls d) at) (trees L (after_designator b d) es)
         (λ g site gs c_fine s_fine g_fine long fit.
         (let k0 = t.0 g c_fine in
         subst (Holds (SolidValue p)) (sym (result_value L at g.returns (call_of g.designator g.returns site (passed g.parameters gs)) k0.result)) (call_solid p g.designator g.returns site (passed g.parameters gs) (no_entry p g.designator g.returns g.parameters (sym k0.entry ∙ q)))))
@@ -275,7 +251,7 @@ module _ (p : Program) (sites : Sites) (env : Env) (w : More) (plain : AreUnrese
             (subst (λ ts. UnusedFollows p k (types_of ts) (value L b (call at d es)) (value R b' (call at d1 es1))) (sym same_kept)
             (unused_same p sites env w k (Types true b) (value L b (call at d es)) (value R b' (call at d1 es1)) (value_at_follows p k (Types true b) L at (tree L b (call at d es)) (tree R b' (call at d1 es1)) goes_too) (plain_solid b q t)))
         by_entry (Some c) q =
-            marked_case false b b' k c q n t f r (λ z. UnusedFollows p k (Types false b) (value_at L at z) (value R b' (expr sites b.sites false (call at d es)))) (λ z h. faulty_unused at k (Types false b) z (value R b' (expr sites b.sites false (call at d es))) h)
+            marked_case false b b' k c q n t f r (λ z. UnusedFollows p k (Types false b) (value_at L at z) (value R b' (expr sites b.sites false (call at d es)))) (λ _ _. tt)
             (λ u e result h. marked_unused at b' k (Types false b) u e (expr sites b.sites false (call at d es)) result h)
 
 pub all_calls_go : AllCallsGo

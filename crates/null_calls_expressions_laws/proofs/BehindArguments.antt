@@ -8,7 +8,7 @@ use Rattle.c_tree.specs.Tree.{CType, void, integer, pointer, CTypes, list_of, Pr
 use Rattle.c_tree.specs.Tree as typed
 use Rattle.c_tree.specs.Functions.{unsigned_int}
 use Rattle.c_tree.specs.Operands.{IsScalar, IsResult}
-use Rattle.c_syntax.specs.Tree.{Expr, a_name, call, Exprs, no_exprs, more_exprs}
+use Rattle.c_syntax.specs.Tree.{Expr, a_name, call, Exprs, more_exprs}
 use Rattle.c_rules.specs.Checked.{Checked, fine, demand, on, both, all_three, met}
 use Rattle.c_rules.specs.Types.{count}
 use Rattle.c_rules.specs.Names.{number_among, given_names}

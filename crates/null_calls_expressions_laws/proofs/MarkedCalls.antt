@@ -28,7 +28,7 @@ use Rattle.c_rules_laws.proofs.Leads.{fine_leads}
 use Rattle.c_rules_laws.proofs.Names.{named_callee_leads}
 use Rattle.null_calls_expressions_laws.specs.Remade.{remade}
 use Rattle.null_calls_expressions_laws.proofs.Operands.{operand}
-use Rattle.null_calls_counts_laws.specs.Counts.{AreNamed, AllNamed, Near}
+use Rattle.null_calls_counts_laws.specs.Counts.{IsName, AreNamed, AllNamed, Near}
 use Rattle.null_calls_counts_laws.proofs.ExpressionCounts.{counts_stay}
 use Rattle.null_calls_expressions_laws.specs.Tabled.{AreTabled, AllTabled, AreFound}
 use Rattle.null_calls_expressions_laws.specs.Follow.{types_of, Goes, AllGo}
@@ -148,11 +148,12 @@ module _ (p : Program) (sites : Sites) (env : Env) (w : More) (stand : NullCalls
   -- ## Direct calls
 
   module _ (plain : AreUnreserved env.names) (alike : MeanAlike env.names w.names) where
-    pub direct_goes : (at place : ℕ) (y : Name) (es : Exprs) → AllGo p sites env w es → (b b' : Before) (k : ℕ) (wanted : Bool) (f : ℕ) (t : CType) (ps : CTypes) (gs : List TypedExpression) → AllNamed sites (suc (b.sites + 0)) es → AllTabled p sites L (after_designator b (a_name place y)) es
-        → AreFound w.names k ((arguments_kept (b.sites + 0) 0 ps ++ result_kept (b.sites + 0) wanted t) ++ kept_of_arguments sites (suc (b.sites + 0)) es) → Near b b' → callee L at (a_name place y) (value L b (a_name place y)) ≡ fine (record { designator = direct f; returns = t; parameters = ps }) → is_marked p (Direct f) ≡ true
-        → called_type p f ≡ Some (function t ps) → IsResult t → trees L (after_designator b (a_name place y)) es ≡ fine gs → length gs ≡ count ps → all_fit ps gs ≡ true → (b.sites + 0) + suc (calls_of_all es) ≤ 10000
-        → MarkedGoes p env w b' k wanted (types_of ((arguments_kept (b.sites + 0) 0 ps ++ result_kept (b.sites + 0) wanted t) ++ kept_of_arguments sites (suc (b.sites + 0)) es)) t (typed.call t (b.sites + 0) f (passed ps gs)) (marked_call at (b.sites + 0) wanted (record { pointer_type = None; returns = t; parameters = ps }) (a_name place y) (arguments sites (suc (b.sites + 0)) es))
-    direct_goes at place y es l b b' k wanted f t ps gs n tabled found r callee_fine marked types result given long fit within =
+    pub direct_goes : (d : Expr) → IsName d → (at : ℕ) (es : Exprs) → AllGo p sites env w es → (b b' : Before) (k : ℕ) (wanted : Bool) (f : ℕ) (t : CType) (ps : CTypes) (gs : List TypedExpression) → AllNamed sites (suc (b.sites + calls d)) es → AllTabled p sites L (after_designator b d) es
+        → AreFound w.names k (kept sites b.sites true d ++ ((arguments_kept (b.sites + calls d) 0 ps ++ result_kept (b.sites + calls d) wanted t) ++ kept_of_arguments sites (suc (b.sites + calls d)) es)) → Near b b' → callee L at d (value L b d) ≡ fine (record { designator = direct f; returns = t; parameters = ps }) → is_marked p (Direct f) ≡ true
+        → called_type p f ≡ Some (function t ps) → IsResult t → trees L (after_designator b d) es ≡ fine gs → length gs ≡ count ps → all_fit ps gs ≡ true → (b.sites + calls d) + suc (calls_of_all es) ≤ 10000
+        → MarkedGoes p env w b' k wanted (types_of (kept sites b.sites true d ++ ((arguments_kept (b.sites + calls d) 0 ps ++ result_kept (b.sites + calls d) wanted t) ++ kept_of_arguments sites (suc (b.sites + calls d)) es))) t (typed.call t (b.sites + calls d) f (passed ps gs))
+        (marked_call at (b.sites + calls d) wanted (record { pointer_type = None; returns = t; parameters = ps }) (expr sites b.sites true d) (arguments sites (suc (b.sites + calls d)) es))
+    direct_goes (a_name place y) name at es l b b' k wanted f t ps gs n tabled found r callee_fine marked types result given long fit within =
         let m : ℕ = b.sites + 0 in
         let xs : List Temporary = arguments_kept m 0 ps in
         let rs : List Temporary = result_kept m wanted t in
@@ -178,6 +179,7 @@ module _ (p : Program) (sites : Sites) (env : Env) (w : More) (stand : NullCalls
               ∙ (ap₂ (λ us vs. typed.comma T (with_null_calls.marked_members p m wanted t k us (with_null_calls.arguments p (k + length vs) (passed ps gs)) (λ ws. typed.call t 0 f ws))) (sym parameters) (sym direct_types)
               ∙ sym (if_true (is_marked p (Direct f)) (with_null_calls.marked_direct p m wanted t f k (with_null_calls.arguments p (k + length (with_null_calls.of_direct p wanted t f)) (passed ps gs))) (typed.call t 0 f (with_null_calls.arguments p k (passed ps gs))) marked));
         }
+    direct_goes d h at es l b b' k wanted f t ps gs n tabled found r callee_fine marked types result given long fit within = absurd h
 
     -- ## Calls through a pointer
 

@@ -1,7 +1,7 @@
 -- Operands that have another tree: conversions keep that they are the same but for it.
 use Rattle.std.proofs.Common.{◌≡◌, ℕ, Bool, true, false, if◌then◌else◌, List, [], refl, ap, sym, subst, ◌∙◌}
 use Rattle.c_tree.specs.declared.value.IntType.{IntType}
-use Rattle.c_tree.specs.Tree.{CType, integer, pointer, array, struct, function, Expr, constant, load, decay, conversion, dereference, Program}
+use Rattle.c_tree.specs.Tree.{CType, integer, pointer, array, struct, function, Expr, load, decay, conversion, dereference, Program}
 use Rattle.c_tree.specs.Layout.{cells}
 use Rattle.c_rules.specs.Checked.{Checked, fine, faulty, demand, on}
 use Rattle.c_rules.specs.Scopes.{Env, layout_of}
