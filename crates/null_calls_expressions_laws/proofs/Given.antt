@@ -141,9 +141,8 @@ member_or_given env at ms g None = tt
 member_or_given env at ms g (Some n) = λ z. member_no _ _ g.constant z
 
 member_struct_given : (env : Env) (at : ℕ) (y : Name) (g : TypedExpression) (s : Struct) → Holds IsGiven (member_of_struct env at y g s)
-member_struct_given env at y g incomplete = tt
-member_struct_given env at y g (unknown_struct f fs) = tt
 member_struct_given env at y g (defined_struct ms) = member_or_given env at ms g (number_among (map name_of_member ms) y)
+member_struct_given env at y g s = tt
 
 member_type_given : (env : Env) (at : ℕ) (y : Name) (g : TypedExpression) (t : CType) → Holds IsGiven (member_of_type env at y g t)
 member_type_given env at y g (struct s) = member_struct_given env at y g (struct_of env s)
@@ -223,9 +222,8 @@ ordered_own env at o a b (a_pointer t) (a_pointer u) = after_part IsOwn (demand 
 ordered_own env at o a b d e = tt
 
 equality_own : (at : ℕ) (o : BinOp) (a b : TypedExpression) (z : Alike) → Holds IsOwn (equality_of at o a b z)
-equality_own at o a b (alike_integers i) = compared_own _ _ _ _
-equality_own at o a b (alike_pointers x y) = compared_own _ _ _ _
 equality_own at o a b unlike = tt
+equality_own at o a b z = compared_own _ _ _ _
 
 arithmetic_own : (env : Env) (at : ℕ) (o : BinOp) (a b : TypedExpression) → Holds IsOwn (arithmetic_of env at o a b)
 arithmetic_own env at op.Add a b = sum_own env at a b (kind_of a.ctype) (kind_of b.ctype)
@@ -301,19 +299,16 @@ tree_given (a_name at y) s env b = bound_given env at y (lookup env.names y)
 tree_given (an_int at m u) s env b = own_given (fine (integer_expression m u)) (integer_cases IsOwn m u (λ _. record { ctype = refl; null = λ _. tt; solid = λ p. record { types = refl; tree = λ k. refl } }) (record { ctype = refl; null = λ _. tt; solid = λ p. record { types = refl; tree = λ k. refl } }))
 tree_given (a_char at c) s env b = record { ctype = refl; null = λ _. tt; solid = λ p. record { types = refl; tree = λ k. refl } }
 tree_given (a_str at text) s env b = after_part IsGiven (string_fits env.context at b.cells (suc (length text))) _ (λ _ z. no z)
-tree_given (comma at es) s env b = absurd s
 tree_given (sizeof_type at u) s env b = own_given _ (after_part IsOwn (type_named env u) (size_of_type env at (place_of_type u)) (λ t. size_own env at (place_of_type u) t))
 tree_given (cast at u e) s env b = own_given _ (cast_own (is_void_pointer u) at (type_named env u) (value_at env (place_of e) (tree env b e)))
-tree_given (call at d es) s env b = absurd s
 tree_given (member at how e y) s env b = access_given env at (place_of e) how y.name (tree env b e)
 tree_given (postfix at post_increment e) s env b = own_given _ (step_own env at (place_of e) op.Add true (tree env b e))
 tree_given (postfix at post_decrement e) s env b = own_given _ (step_own env at (place_of e) op.Sub true (tree env b e))
 tree_given (prefix at pre_increment e) s env b = own_given _ (step_own env at (place_of e) op.Add false (tree env b e))
 tree_given (prefix at pre_decrement e) s env b = own_given _ (step_own env at (place_of e) op.Sub false (tree env b e))
 tree_given (prefix at sizeof e) s env b = own_given _ (after_part IsOwn (tree (in_context env sized) nothing_before e) (size_of_expression env at) (λ g. size_own env at at g.ctype))
-tree_given (unary at o e) s env b = absurd s
-tree_given (index at e f) s env b = absurd s
 tree_given (binary at o e f) s env b = own_given _ (after_two IsOwn (value_at env (place_of e) (tree env b e)) (value_at env (place_of f) (tree env (after b e) f)) (infix_rule env at o) (infix_own env at o))
 tree_given (assign at o e f) s env b = own_given _ (after_two IsOwn (place_at (place_of e) (tree env b e)) (value_at env (place_of f) (tree env (after b e) f)) (assignment_by env at o) (assignment_own env at o))
 tree_given (conditional at c e f) s env b =
     own_given _ (after_three IsOwn (value_at env (place_of c) (tree env b c)) (value_at env (place_of e) (tree env (after b c) e)) (value_at env (place_of f) (tree env (after (after b c) e) f)) (choice at) (choice_own at))
+tree_given x s env b = absurd s

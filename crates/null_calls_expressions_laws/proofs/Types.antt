@@ -52,13 +52,12 @@ thing_made (named at x) t h = h
 thing_made d t h = tt
 
 declared_thing : (d : Declarator) (env : Env) (t : CType) → IsMade d t → Holds IsThing (declared env d t)
-declared_thing nothing env t h = h
-declared_thing (named at x) env t h = h
 declared_thing (pointer at d) env t h = on_holds IsThing IsThing (pointer_to at t) (λ u. declared env d u) (pointer_thing at t) (λ u k. declared_thing d env u (thing_made d u k))
 declared_thing (array at d size) env t h =
     on_holds IsThing IsThing (on (size_in env size) (array_of env at t)) (λ u. declared env d u) (after_part IsThing (size_in env size) (array_of env at t) (λ n. array_thing env at t n)) (λ u k. declared_thing d env u (thing_made d u k))
 declared_thing (function at d ps) env t h =
     on_holds IsThing IsThing (on (parameters (inside env) 0 ps) (function_of at t)) (λ u. declared env d u) (after_part IsThing (parameters (inside env) 0 ps) (function_of at t) (λ ts. function_thing at t ts)) (λ u k. declared_thing d env u (thing_made d u k))
+declared_thing d env t h = h
 
 -- ## Casts to void
 
