@@ -22,7 +22,7 @@ use Rattle.c_rules.specs.Checked.{Checked, fine, demand, on, both, all_three, me
 use Rattle.c_rules.specs.Limits.{most_cells}
 use Rattle.c_rules.specs.Names.{Name, number_among}
 use Rattle.c_rules.specs.Types.{same_type, is_scalar, is_integer, is_void}
-use Rattle.c_rules.specs.Scopes.{Env, Meaning, a_static, a_local, a_function, an_enumerator, unknown, Binding, lookup, Struct, incomplete, unknown_struct, defined_struct, Member, struct_of, layout_of, sized, in_context, Before, nothing_before}
+use Rattle.c_rules.specs.Scopes.{Env, Meaning, a_static, a_local, a_function, an_enumerator, unknown, Binding, lookup, Struct, defined_struct, Member, struct_of, layout_of, sized, in_context, Before, nothing_before}
 use Rattle.c_rules.specs.Counts.{place_of, after}
 use Rattle.c_rules.specs.TypedExpression.{Form, a_value, a_place, behind, Constant, not_constant, undefined, known, is_zero, is_known_zero, integer_constant_if, integer_constant, TypedExpression, typed_value, tree_of, is_null}
 use Rattle.c_rules.specs.Constants.{number_of, constant_member, constant_decayed, moved, constant_moved, constant_conditional, is_within, address_of_static}
