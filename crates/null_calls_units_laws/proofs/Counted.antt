@@ -1,31 +1,36 @@
 -- Declarations of temporaries count nothing but them.
-use Rattle.std.proofs.Common.{◌≡◌, ℕ, suc, ◌+◌, true, List, [], ◌∷◌, ◌++◌, length, Some, if◌then◌else◌, refl, ap, ◌∙◌, arith}
+use Rattle.std.proofs.Common.{◌≡◌, ℕ, suc, ◌+◌, true, List, [], ◌∷◌, ◌++◌, length, Some, if◌then◌else◌, refl, ap, ◌∙◌, arith, append-nil}
 use Rattle.std.proofs.lemmas.Bool.{false≢true}
-use Rattle.c_tree.specs.Tree.{CType, void, integer, array, struct}
+use Rattle.c_tree.specs.Tree.{CType, integer}
 use Rattle.c_tree.specs.Tree as typed
 use Rattle.c_syntax.specs.Tree.{Ident, Spec, Declarator, named, no_init, Decl, BlockItems}
-use Rattle.c_rules.specs.Checked.{fine, on, met, gives}
+use Rattle.c_rules.specs.Checked.{fine, on, met, gives, Checked, both, fails_with}
 use Rattle.c_rules.specs.Names.{Name, is_added}
 use Rattle.c_rules.specs.Types.{is_scalar}
-use Rattle.c_rules.specs.Scopes.{Env, a_local, with_name, meaning_or_unknown}
+use Rattle.c_rules.specs.Scopes.{Env, a_local, with_name, meaning_or_unknown, Before}
 use Rattle.c_rules.specs.Declarators.{name_of, place_or, new_name}
 use Rattle.c_rules.specs.Objects.{Object, object_of, object_declared}
 use Rattle.c_rules.specs.Variables.{name_or_empty, Next, number_in, past_names, names_of_decl, names_of_block, calls_of_block}
-use Rattle.c_rules.specs.Blocks.{behind_named, behind_decl, held_by_object, held_by_named, held_by_decl, held_by_block}
+use Rattle.c_rules.specs.Blocks.{behind_named, behind_decl, held_by_object, held_by_named, held_by_decl, held_by_block, within_local, after_decl, StatementTree, bare, one_more, laid_variable, local_of, local_named, local_decl, is_given}
 use Rattle.null_calls_rules.specs.SpelledTypes.{spec_of, declarator_of}
 use Rattle.null_calls_rules.specs.Temporaries.{Temporary, declaration_of, declared_before}
 use Rattle.null_calls_units_laws.specs.Spelled.{IsSpelled}
 use Rattle.null_calls_units_laws.specs.Declarations.{with_temporaries, AreNew}
 use Rattle.null_calls_units_laws.proofs.Spellings.{scalar_bare, spelled_name, spelled}
 use Rattle.null_calls_units_laws.proofs.Temporaries.{AllFree}
+use Rattle.c_rules.specs.Counts.{past}
+use Rattle.c_rules.specs.Expressions.{type_declared}
 
 pub scalar_object : (env : Env) (place name : ℕ) (t : CType) → is_scalar t ≡ true → object_of env place name no_init t ≡ fine (record { seen = t; whole = t })
-scalar_object env place name void h = absurd (false≢true h)
 scalar_object env place name (integer i) h = refl
 scalar_object env place name (typed.pointer t) h = refl
-scalar_object env place name (array t n) h = absurd (false≢true h)
-scalar_object env place name (struct s) h = absurd (false≢true h)
-scalar_object env place name (typed.function r ts) h = absurd (false≢true h)
+scalar_object env place name t h = absurd (false≢true h)
+
+past_none : (b : Before) → past b 0 [] ≡ b
+past_none b =
+    let e : b.sites + 0 ≡ b.sites = omega arith in
+    let f : b.cells + 0 ≡ b.cells = omega arith in
+    λ i. record { sites = e i; strings = append-nil b.strings i; cells = f i }
 
 module _ (env : Env) (plain k at : ℕ) (x : Temporary) (scalar : is_scalar x.ctype ≡ true) (is : IsSpelled env.enums env.whole.tags x.ctype) (added : is_added x.name ≡ true) (new : new_name env (record { name = x.name; at = at }) ≡ fine met) where
   abbrev ident : Ident
@@ -53,17 +58,27 @@ module _ (env : Env) (plain k at : ℕ) (x : Temporary) (scalar : is_scalar x.ct
   is_object =
       ap (λ r. on r (object_of env (place_or at the_declarator) at no_init)) (spelled env at x.ctype (named at ident) (scalar_bare x.ctype scalar) is) ∙ scalar_object env (place_or at the_declarator) at x.ctype scalar
 
-  behind : behind_decl env next declaration ≡ with_name env x.name (a_local k x.ctype x.ctype)
+  pub behind : behind_decl env next declaration ≡ with_name env x.name (a_local k x.ctype x.ctype)
   behind =
       ap (λ o. behind_named env next at the_spec the_declarator no_init o) name ∙ (ap (λ r. with_name env x.name (meaning_or_unknown (on r (λ o. gives (new_name env ident) (λ _. a_local (number_in next x.name) o.whole o.whole))))) is_object ∙ (ap (λ n. with_name env x.name (meaning_or_unknown (gives n (λ _. a_local (number_in next x.name) x.ctype x.ctype)))) new ∙ ap (λ c. with_name env x.name (a_local (if c then k else plain) x.ctype x.ctype)) added))
 
-  numbered : past_names next (names_of_decl declaration) ≡ record { plain = plain; added = suc k }
+  pub numbered : past_names next (names_of_decl declaration) ≡ record { plain = plain; added = suc k }
   numbered =
       ap (λ o. past_names next (name_or_empty o ∷ [])) name ∙ ap (λ c. if c then record { plain = plain; added = suc k } else record { plain = suc plain; added = k }) added
 
   holds_none : held_by_decl env next declaration ≡ []
   holds_none =
       ap (λ o. held_by_named env at the_spec the_declarator no_init o ++ []) name ∙ ap (λ r. held_by_object env no_init r ++ []) is_object
+
+  abbrev alone : Checked (StatementTree typed.Stmt) → Checked (StatementTree typed.Stmt)
+  alone r = fails_with (is_given env x.name (type_declared env at the_spec the_declarator)) 3 (place_or at the_declarator) r
+
+  pub declares : (b : Before) → local_decl env b next declaration ≡ fine (record { tree = typed.more_stmts (typed.declare k typed.no_inits) typed.no_stmts; plain = []; added = x.ctype ∷ [] })
+  declares b =
+      ap (λ o. both (local_named env b next at the_spec the_declarator no_init o) (fine (bare typed.no_stmts)) (λ p q. fine (one_more p q))) name ∙ (ap (λ r. both (alone (both (new_name env ident) (on r (local_of (within_local env next ident r) b next ident no_init)) (λ _ p. fine p))) (fine (bare typed.no_stmts)) (λ p q. fine (one_more p q))) is_object ∙ (ap (λ n. both (alone (both n (fine (laid_variable x.name (number_in next x.name) x.ctype [])) (λ _ p. fine p))) (fine (bare typed.no_stmts)) (λ p q. fine (one_more p q))) new ∙ ap (λ c. fine (one_more (if c then record { tree = typed.declare (if c then k else plain) typed.no_inits; plain = []; added = x.ctype ∷ [] } else record { tree = typed.declare (if c then k else plain) typed.no_inits; plain = x.ctype ∷ []; added = [] }) (bare typed.no_stmts))) added))
+
+  pub counts_none : (b : Before) → after_decl env b next declaration ≡ b
+  counts_none b = ap (past b 0) holds_none ∙ past_none b
 
 -- the strings that a body holds
 pub held_behind : (env : Env) (at plain k : ℕ) (xs : List Temporary) (is : BlockItems) → AreNew env at k xs
