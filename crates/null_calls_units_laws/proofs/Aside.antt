@@ -2,10 +2,9 @@
 use Rattle.std.proofs.Common.{◌≡◌, ℕ, Bool, true, false, ◌&&◌, if◌then◌else◌, [], ◌++◌, Option, Some, None, refl, ap, ap₂, sym, subst, ◌∙◌}
 use Rattle.dm_base.specs.declared.mode.Mode.TheVariants.{Plain}
 use Rattle.c_tree.specs.declared.value.IntType.{IntType}
-use Rattle.c_tree.specs.Tree.{CType, void, integer, pointer, array, struct, function}
-use Rattle.c_tree.specs.Tree.{Program}
-use Rattle.c_syntax.specs.Tree.{Ident, Storage, Spec, Declarator, MaybeInit, no_parts, more_parts, Decl, decl, First, first_absent, first_expr, first_decl, Item, struct_item, enum_item, tag_item, decl_item, function_item, Items, no_items, more_items}
-use Rattle.c_syntax.specs.Tree.{Stmt, block, empty, evaluate, only_if, if_else, while_loop, do_loop, for_loop, switch_on, break_off, continue_on, return_from}
+use Rattle.c_tree.specs.Tree.{CType, function, Program}
+use Rattle.c_syntax.specs.Tree.{Ident, Storage, Spec, Declarator, MaybeInit, no_parts, more_parts, Decl, decl, First, first_absent, first_expr, first_decl, Item, decl_item, function_item, Items, no_items, more_items}
+use Rattle.c_syntax.specs.Tree.{Stmt, block, only_if, if_else, while_loop, do_loop, for_loop, switch_on}
 use Rattle.c_syntax.specs.Tree.{BlockItems, no_block_items, block_decl, block_stmt, Stmts, no_stmts, more_stmts, Groups, no_groups, more_groups}
 use Rattle.c_rules.specs.Checked.{Checked, fine, faulty, on, both, demand, and_also, Met, met, beside}
 use Rattle.c_rules.specs.Names.{is_reserved, may_be_declared}
@@ -20,8 +19,7 @@ use Rattle.c_rules.specs.Blocks.{behind_decl, behind_first, after_decl, after_fi
 use Rattle.c_rules.specs.Statements.{Around, in_loop, in_switch, condition_at, test_of, step_of, first_of, switched, label_type, labels_of, switch_of, stmt, items_of_block, stmts, groups_of_switch}
 use Rattle.c_rules.specs.Functions.{declares_function, parameters_of, are_named, body_env, body_of, body_numbers, function_laid, defined_as, function_meaning, function_declared, items_of_body, few_variables}
 use Rattle.c_rules.specs.Items.{Output, defines, object_name, global_object, global_declared, global, without_init, declared_part, named_part, file_decl, behind_defined, function_named, item, behind_item, after_item, items}
-use Rattle.c_rules_laws.proofs.Holding.{Holds, on_holds, both_hold, all_three_hold, Any, anything, demand_holds, alone_holds, parts_first_holds}
-use Rattle.c_rules_laws.proofs.Holding.{after_part as behind_any}
+use Rattle.c_rules_laws.proofs.Holding.{Holds, on_holds, both_hold, all_three_hold, Any, anything, demand_holds, alone_holds, parts_first_holds, after_part as behind_any}
 use Rattle.c_rules_laws.proofs.RightDeclarations.{decl_whole}
 use Rattle.c_rules_laws.proofs.Names.{unreserved}
 use Rattle.null_calls_statements_laws.proofs.Scopes.{unadded}
@@ -77,17 +75,14 @@ behind_plain : (d : Decl) (env : Env) (next : Next) → IsPlain env → IsPlain 
 behind_plain d env next e = ap (λ w. w.mode) (decl_whole no_program [] d env next) ∙ e
 
 first_plain : (f : First) (env : Env) (next : Next) → IsPlain env → IsPlain (behind_first env next f)
-first_plain first_absent env next e = e
-first_plain (first_expr x) env next e = e
 first_plain (first_decl d) env next e = behind_plain d env next e
+first_plain f env next e = e
 
 -- ## Statements
 
 mutual
   stmt_aside : (s : Stmt) (env : Env) → IsPlain env → StmtNamesNoType s → (a : Around) (b : Before) (next : Next) → Holds (λ _. tags_of_stmt true s ≡ tags_of_stmt false s) (stmt env a b next s)
   stmt_aside (block at is) env e l a b next = on_holds (λ _. tags_of_block true is ≡ tags_of_block false is) (λ _. tags_of_block true is ≡ tags_of_block false is) (items_of_block (inside env) a b next is) _ (block_aside is (inside env) e l a b next) (λ _ h. h)
-  stmt_aside (empty at) env e l a b next = refl
-  stmt_aside (evaluate at x) env e l a b next = always (tags_of_expr x ≡ tags_of_expr x) (stmt env a b next (evaluate at x)) refl
   stmt_aside (only_if at x s) env e l a b next =
       both_hold Any (λ _. tags_of_stmt true s ≡ tags_of_stmt false s) (λ _. tags_of_stmt true (only_if at x s) ≡ tags_of_stmt false (only_if at x s)) (condition_at at (value env b x)) (stmt env a (after b x) next s) _ (anything _) (stmt_aside s env e l.1 a (after b x) next) (λ _ _ _ h. ap (λ ts. tags_of_expr x ++ ts) h)
   stmt_aside (if_else at x s t) env e l a b next =
@@ -109,9 +104,7 @@ mutual
   stmt_aside (switch_on at x gs) env e l a b next =
       both_hold Any (λ _. tags_of_groups true gs ≡ tags_of_groups false gs) (λ _. tags_of_stmt true (switch_on at x gs) ≡ tags_of_stmt false (switch_on at x gs)) (switched at (value env b x)) (groups_of_switch env (in_switch a) (after b x) next (label_type (switched at (value env b x))) gs) (switch_of at)
       (anything _) (groups_aside gs env e l.1 (in_switch a) (after b x) next (label_type (switched at (value env b x)))) (λ g m _ h. always (tags_of_stmt true (switch_on at x gs) ≡ tags_of_stmt false (switch_on at x gs)) (switch_of at g m) (ap (λ ts. tags_of_expr x ++ ts) h))
-  stmt_aside (break_off at) env e l a b next = always ([] ≡ []) (stmt env a b next (break_off at)) refl
-  stmt_aside (continue_on at) env e l a b next = always ([] ≡ []) (stmt env a b next (continue_on at)) refl
-  stmt_aside (return_from at m) env e l a b next = always (tags_of_maybe m ≡ tags_of_maybe m) (stmt env a b next (return_from at m)) refl
+  stmt_aside s env e l a b next = always (tags_of_stmt true s ≡ tags_of_stmt false s) (stmt env a b next s) refl
 
   block_aside : (is : BlockItems) (env : Env) → IsPlain env → BlockNamesNoType is → (a : Around) (b : Before) (next : Next) → Holds (λ _. tags_of_block true is ≡ tags_of_block false is) (items_of_block env a b next is)
   block_aside no_block_items env e l a b next = refl
@@ -168,49 +161,32 @@ file_decl_aside (decl at class s (more_parts d m ps)) env e l b =
 
 pub names_in_body : (body : Stmt) → StmtNamesNoType body → BlockNamesNoType (items_of_body body)
 names_in_body (block at is) h = h
-names_in_body (empty at) h = (h, tt)
-names_in_body (evaluate at x) h = (h, tt)
-names_in_body (only_if at x s) h = (h, tt)
-names_in_body (if_else at x s t) h = (h, tt)
-names_in_body (while_loop at x s) h = (h, tt)
-names_in_body (do_loop at s x) h = (h, tt)
-names_in_body (for_loop at f t u s) h = (h, tt)
-names_in_body (switch_on at x gs) h = (h, tt)
-names_in_body (break_off at) h = (h, tt)
-names_in_body (continue_on at) h = (h, tt)
-names_in_body (return_from at m) h = (h, tt)
+names_in_body body h = (h, tt)
 
 defined_aside : (env : Env) → IsPlain env → (b : Before) (place : ℕ) (d : Declarator) (x : Ident) (is : BlockItems) → BlockNamesNoType is → (u : CType) → Holds (λ _. tags_of_block true is ≡ tags_of_block false is) (defined_as env b place d x is u)
-defined_aside env e b place d x is l void = tt
-defined_aside env e b place d x is l (integer i) = tt
-defined_aside env e b place d x is l (pointer t) = tt
-defined_aside env e b place d x is l (array t n) = tt
-defined_aside env e b place d x is l (struct s) = tt
 defined_aside env e b place d x is l (function t ts) =
     behind_any (λ _. tags_of_block true is ≡ tags_of_block false is) (few_variables env x d is) _ (λ _.
     parts_first_holds (λ _. tags_of_block true is ≡ tags_of_block false is) (body_of env b t d ts is) (both (demand (are_named (parameters_of d)) 3 place met) (body_of env b t d ts is) (λ _ q. function_laid env x t ts q)) (both_hold Any (λ _. tags_of_block true is ≡ tags_of_block false is) (λ _. tags_of_block true is ≡ tags_of_block false is) (demand (are_named (parameters_of d)) 3 place met) (body_of env b t d ts is) (λ _ q. function_laid env x t ts q) (anything (demand (are_named (parameters_of d)) 3 place met))
     (block_aside is (body_env env d ts) (ap (λ w. w.mode) (parameters_functions (parameters_of d) ts (inside env) 0) ∙ e) l (record { breaks = false; continues = false; returns = t }) b (body_numbers d is))
     (λ _ q _ h. always (tags_of_block true is ≡ tags_of_block false is) (function_laid env x t ts q) h)))
+defined_aside env e b place d x is l u = tt
 
 function_aside : (env : Env) → IsPlain env → (b : Before) (at : ℕ) (s : Spec) (d : Declarator) (body : Stmt) → StmtNamesNoType body → (k : Bool) (o : Option Ident) → Holds (λ _. tags_of_stmt true body ≡ tags_of_stmt false body) (function_named env b at s d body k o)
-function_aside env e b at s d body l false o = tt
-function_aside env e b at s d body l true None = tt
 function_aside env e b at s d body l true (Some x) =
     let is : BlockItems = items_of_body body in
     both_hold Any (λ _. tags_of_block true is ≡ tags_of_block false is) (λ _. tags_of_stmt true body ≡ tags_of_stmt false body) (function_declared env true at s d x) (on (type_declared env at s d) (defined_as (behind_defined env at s d x) b (place_or at d) d x is)) _ (anything _)
     (behind_any (λ _. tags_of_block true is ≡ tags_of_block false is) (type_declared env at s d) (defined_as (behind_defined env at s d x) b (place_or at d) d x is) (λ u. defined_aside (behind_defined env at s d x) e b (place_or at d) d x is (names_in_body body l) u))
     (λ _ _ _ h. sym (body_tags true body) ∙ (h ∙ body_tags false body))
+function_aside env e b at s d body l k o = tt
 
 item_aside : (i : Item) (env : Env) → IsPlain env → ItemNamesNoType i → (b : Before) → Holds (λ _. tags_of_item true i ≡ tags_of_item false i) (item env b i)
-item_aside (struct_item at x ms) env e l b = always (tags_of_item true (struct_item at x ms) ≡ tags_of_item false (struct_item at x ms)) (item env b (struct_item at x ms)) refl
-item_aside (enum_item at x es) env e l b = always (tags_of_item true (enum_item at x es) ≡ tags_of_item false (enum_item at x es)) (item env b (enum_item at x es)) refl
-item_aside (tag_item at x) env e l b = always (tags_of_item true (tag_item at x) ≡ tags_of_item false (tag_item at x)) (item env b (tag_item at x)) refl
 item_aside (decl_item at d) env e l b = file_decl_aside d env e l b
 item_aside (function_item at class s d body) env e l b = holds_ap (item env b (function_item at class s d body)) (function_aside env e b at s d body l (declares_function d) (name_of d))
   where
     holds_ap : (r : Checked Output) → Holds (λ _. tags_of_stmt true body ≡ tags_of_stmt false body) r → Holds (λ _. tags_of_item true (function_item at class s d body) ≡ tags_of_item false (function_item at class s d body)) r
     holds_ap (fine a) h = ap (λ ts. tags_of_spec s ++ (tags_of_declarator d ++ ts)) h
     holds_ap (faulty f fs) h = tt
+item_aside i env e l b = always (tags_of_item true i ≡ tags_of_item false i) (item env b i) refl
 
 pub items_aside : (is : Items) (env : Env) → IsPlain env → UnitNamesNoType is → (b : Before) → Holds (λ _. tags_of_items true is ≡ tags_of_items false is) (items env b is)
 items_aside no_items env e l b = refl

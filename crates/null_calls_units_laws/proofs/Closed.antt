@@ -1,6 +1,6 @@
 -- Types of objects and of values that declarators make are closed under what the rules on expressions do with them.
 use Rattle.std.proofs.Common.{◌≡◌, ℕ, true, false, List, refl}
-use Rattle.c_tree.specs.Tree.{CType, void, integer, pointer, array, struct, function, CTypes, no_types, more_types}
+use Rattle.c_tree.specs.Tree.{CType, void, pointer, array, struct, function, CTypes, no_types, more_types}
 use Rattle.c_rules.specs.Names.{Name, is_among}
 use Rattle.c_rules.specs.Conversions.{few_parts}
 use Rattle.c_rules_laws.specs.MadeTypes.{NotArray}
@@ -17,41 +17,21 @@ module _ (enums tags stood : List Name) where
   V = IsValueType enums tags stood
 
   pub may_stand : (t : CType) → W t → V t
-  may_stand void h = h
-  may_stand (integer i) h = h
   may_stand (pointer void) h = tt
-  may_stand (pointer (integer i)) h = h
-  may_stand (pointer (pointer t)) h = h
-  may_stand (pointer (array t n)) h = h
-  may_stand (pointer (struct s)) h = h
-  may_stand (pointer (function t ts)) h = h
-  may_stand (array t n) h = h
-  may_stand (struct s) h = h
-  may_stand (function t ts) h = h
+  may_stand t h = h
 
   decayed : (t : CType) (n : ℕ) → V (array t n) → V (pointer t)
   decayed void n h = tt
-  decayed (integer i) n h = h
-  decayed (pointer t) n h = h
-  decayed (array t k) n h = h
-  decayed (struct s) n h = h
-  decayed (function t ts) n h = h
+  decayed t n h = h
 
   led : (t : CType) → IsThing t → V (pointer t) → W t
   led void k h = absurd k
-  led (integer i) k h = h.2
-  led (pointer t) k h = h.2
-  led (array t n) k h = h.2
-  led (struct s) k h = h.2
-  led (function t ts) k h = h.2
+  led t k h = h.2
 
   pointers : (t : CType) → NotArray t → W t → few_parts (pointer t) ≡ true → V (pointer t)
   pointers void n h f = tt
-  pointers (integer i) n h f = (refl, f, h)
-  pointers (pointer t) n h f = (refl, f, h)
   pointers (array t k) n h f = absurd n
-  pointers (struct s) n h f = (refl, f, h)
-  pointers (function t ts) n h f = (refl, f, h)
+  pointers t n h f = (refl, f, h)
 
   pub written_closed : AreClosed W V
   written_closed = record {
@@ -69,12 +49,11 @@ module _ (enums tags stood : List Name) where
 
   mutual
     pub spelled : (t : CType) → W t → IsSpelled enums tags t
-    spelled void h = tt
-    spelled (integer i) h = tt
     spelled (struct s) h = (h.0, h.1)
     spelled (pointer t) h = (h.0, h.1, spelled t h.2)
     spelled (array t n) h = (h.0, spelled t h.2)
     spelled (function r ts) h = (h.0, h.1, h.2, spelled r h.3, all_spelled ts h.4)
+    spelled t h = tt
 
     pub all_spelled : (ts : CTypes) → AllWritten enums tags stood ts → AreSpelled enums tags ts
     all_spelled no_types h = tt
@@ -84,12 +63,11 @@ module _ (enums tags stood : List Name) where
 module _ (enums others tags stood more : List Name) (apart : (x : Name) → is_among stood x ≡ true → is_among enums x ≡ false → is_among others x ≡ false) (later : (x : Name) → is_among stood x ≡ true → is_among more x ≡ true) where
   mutual
     pub written_later : (t : CType) → Written enums tags stood t → Written others tags more t
-    written_later void h = tt
-    written_later (integer i) h = tt
     written_later (struct s) h = (h.0, apart _ h.2 h.1, later _ h.2)
     written_later (pointer t) h = (h.0, h.1, written_later t h.2)
     written_later (array t n) h = (h.0, h.1, written_later t h.2)
     written_later (function r ts) h = (h.0, h.1, h.2, written_later r h.3, all_written_later ts h.4)
+    written_later t h = tt
 
     pub all_written_later : (ts : CTypes) → AllWritten enums tags stood ts → AllWritten others tags more ts
     all_written_later no_types h = tt

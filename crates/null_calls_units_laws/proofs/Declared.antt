@@ -5,9 +5,9 @@ use Rattle.std.proofs.lemmas.Bool.{false≢true}
 use Rattle.std.proofs.lemmas.Slice.Eq.{bytes_eq-Decides}
 use Rattle.c_tree.specs.Tree.{CType, void, integer, array, struct, CTypes, more_types}
 use Rattle.c_tree.specs.Tree as typed
-use Rattle.c_syntax.specs.Tree.{Ident, Spec, Declarator, nothing, named, Params, no_params, more_params, MaybeInit, no_init, an_init, one, list}
+use Rattle.c_syntax.specs.Tree.{Ident, Spec, Declarator, Params, no_params, more_params, MaybeInit, no_init, an_init, one, list}
 use Rattle.c_syntax.specs.Tree as syntax
-use Rattle.c_tree.specs.declared.value.IntType.TheVariants.{Char, Uchar, Int, Uint}
+use Rattle.c_tree.specs.declared.value.IntType.TheVariants.{Char, Int}
 use Rattle.c_rules.specs.Names.{Name, number_among, is_among}
 use Rattle.c_rules.specs.Types.{is_scalar, is_result, count, adjusted}
 use Rattle.c_rules.specs.Scopes.{Env, inside, tag_number}
@@ -86,36 +86,27 @@ module _ (enums tags stood : List Name) where
       (ap (λ y. unwrap_or (number_among tags y) 0) q, ap (is_among enums) q ∙ (ap (λ zs. is_among zs x) (sym e) ∙ n), ap (is_among stood) q ∙ k)
 
   spec_written : (env : Env) → HasTags env → (at : ℕ) (s : Spec) → AreKnownTags (tags_of_spec s) → Holds W (type_of_spec env at s)
-  spec_written env w at syntax.void h = tt
-  spec_written env w at syntax.char h = tt
-  spec_written env w at syntax.unsigned_char h = tt
-  spec_written env w at syntax.int h = tt
-  spec_written env w at syntax.unsigned_int h = tt
   spec_written env w at (syntax.struct x) h =
       demand_holds W (not (is_among env.enums x.name)) 2 x.at (struct (tag_number env x.name)) (λ q. struct_written env.enums env.whole.tags w.enums_are w.tags_are x.name h.numbered.0 h.stand.0 (is_not (is_among env.enums x.name) q))
   spec_written env w at (syntax.enum x) h = demand_holds W (is_among env.enums x.name) 1 at (integer Int) (λ _. tt)
+  spec_written env w at s h = tt
 
   pointer_as : (at : ℕ) (t : CType) → is_pointee t ≡ true → W t → Holds W (within_parts at (typed.pointer t))
   pointer_as at t b h = demand_holds W (few_parts (typed.pointer t)) 13 at (typed.pointer t) (λ f. (b, f, h))
 
   pointer_written : (at : ℕ) (t : CType) → W t → Holds W (pointer_to at t)
   pointer_written at void h = tt
-  pointer_written at (integer i) h = pointer_as at (integer i) refl h
-  pointer_written at (typed.pointer t) h = pointer_as at (typed.pointer t) refl h
   pointer_written at (array t n) h = tt
-  pointer_written at (struct s) h = pointer_as at (struct s) refl h
-  pointer_written at (typed.function r ts) h = pointer_as at (typed.function r ts) refl h
+  pointer_written at t h = pointer_as at t refl h
 
   array_as : (env : Env) (at : ℕ) (t : CType) (n : ℕ) → is_pointee t ≡ true → W t → Holds W (on (complete env at t) (λ _. within_parts at (array t n)))
   array_as env at t n b h = after_part W (complete env at t) (λ _. within_parts at (array t n)) (λ _. demand_holds W (few_parts (array t n)) 13 at (array t n) (λ f. (b, f, h)))
 
   array_written : (env : Env) (at : ℕ) (t : CType) (n : ℕ) → W t → Holds W (array_of env at t n)
-  array_written env at void n h = tt
   array_written env at (integer i) n h = array_as env at (integer i) n refl h
   array_written env at (typed.pointer t) n h = array_as env at (typed.pointer t) n refl h
-  array_written env at (array t k) n h = tt
   array_written env at (struct s) n h = array_as env at (struct s) n refl h
-  array_written env at (typed.function r ts) n h = tt
+  array_written env at t n h = tt
 
   function_written : (at : ℕ) (r : CType) (ts : CTypes) → W r → AllW ts → Holds W (function_of at r ts)
   function_written at r ts h k =
@@ -125,12 +116,8 @@ module _ (enums tags stood : List Name) where
   Parameter t = (is_scalar t ≡ true) × (few_parts t ≡ true) × W t
 
   adjusted_written : (t : CType) → few_parts (adjusted t) ≡ true → W t → W (adjusted t)
-  adjusted_written void f h = h
-  adjusted_written (integer i) f h = h
-  adjusted_written (typed.pointer t) f h = h
-  adjusted_written (array t n) f h = h
-  adjusted_written (struct s) f h = h
   adjusted_written (typed.function r ts) f h = (refl, f, h)
+  adjusted_written t f h = h
 
   parameter_written : (at : ℕ) (t : CType) → W t → Holds Parameter (parameter_of at t)
   parameter_written at t h = behind_demand Parameter (is_scalar (adjusted t)) 3 at _ (λ s. demand_holds Parameter (few_parts (adjusted t)) 13 at (adjusted t) (λ f. (s, f, adjusted_written t f h)))
@@ -145,8 +132,6 @@ module _ (enums tags stood : List Name) where
 
   mutual
     declared_written : (d : Declarator) (env : Env) → HasTags env → (t : CType) → AreKnownTags (tags_of_declarator d) → W t → Holds W (declared env d t)
-    declared_written nothing env w t m h = h
-    declared_written (named at x) env w t m h = h
     declared_written (syntax.pointer at d) env w t m h = on_holds W W (pointer_to at t) (λ u. declared env d u) (pointer_written at t h) (λ u k. declared_written d env w u m k)
     declared_written (syntax.array at d size) env w t m h =
         on_holds W W (on (size_in env size) (array_of env at t)) (λ u. declared env d u) (after_part W (size_in env size) (array_of env at t) (λ n. array_written env at t n h)) (λ u k. declared_written d env w u (first_tags (tags_of_declarator d) (tags_of_maybe size) m) k)
@@ -154,6 +139,7 @@ module _ (enums tags stood : List Name) where
         on_holds W W (on (parameters (inside env) 0 ps) (function_of at t)) (λ u. declared env d u)
         (on_holds AllW W (parameters (inside env) 0 ps) (function_of at t) (parameters_written ps (inside env) (record { enums_are = w.enums_are; tags_are = w.tags_are }) 0 (rest_tags (tags_of_declarator d) (tags_of_params ps) m)) (λ ts k. function_written at t ts h k))
         (λ u k. declared_written d env w u (first_tags (tags_of_declarator d) (tags_of_params ps) m) k)
+    declared_written d env w t m h = h
 
     parameters_written : (ps : Params) (env : Env) → HasTags env → (k : ℕ) → AreKnownTags (tags_of_params ps) → Holds AllW (parameters env k ps)
     parameters_written no_params env w k m = tt
@@ -174,15 +160,7 @@ module _ (enums tags stood : List Name) where
 
   sized_one_written : (at : ℕ) (t : CType) (text : Option (List ℕ)) (n : ℕ) → W (array t n) → Holds W (sized_by_one at t text)
   sized_one_written at (integer Char) (Some w) n h = h
-  sized_one_written at (integer Char) None n h = tt
-  sized_one_written at (integer Uchar) text n h = tt
-  sized_one_written at (integer Int) text n h = tt
-  sized_one_written at (integer Uint) text n h = tt
-  sized_one_written at void text n h = tt
-  sized_one_written at (typed.pointer t) text n h = tt
-  sized_one_written at (array t k) text n h = tt
-  sized_one_written at (struct s) text n h = tt
-  sized_one_written at (typed.function r ts) text n h = tt
+  sized_one_written at t text n h = tt
 
   sized_written : (name : ℕ) (t : CType) (m : MaybeInit) (n : ℕ) → W (array t n) → Holds W (sized_by name t m)
   sized_written name t no_init n h = tt
@@ -191,12 +169,7 @@ module _ (enums tags stood : List Name) where
 
   pub with_size_written : (name : ℕ) (m : MaybeInit) (t : CType) → W t → Holds W (with_size name m t)
   with_size_written name m (array t zero) h = sized_written name t m 0 h
-  with_size_written name m (array t (suc n)) h = h
-  with_size_written name m void h = h
-  with_size_written name m (integer i) h = h
-  with_size_written name m (typed.pointer t) h = h
-  with_size_written name m (struct s) h = h
-  with_size_written name m (typed.function r ts) h = h
+  with_size_written name m t h = h
 
   abbrev pub ObjectWritten : Object → Type 0
   ObjectWritten o = W o.seen × W o.whole

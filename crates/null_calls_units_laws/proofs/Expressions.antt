@@ -1,18 +1,17 @@
 -- The calls of an expression that is fine stand at their sites, where those of its tree stand in the table of the program.
 use Rattle.std.proofs.Common.{◌≡◌, ℕ, suc, ◌+◌, ◌<◌, Bool, true, false, if◌then◌else◌, List, [], ◌∷◌, ◌++◌, length, Option, Some, None, map, length-append, nat_eq, nat_lt, refl, ap, sym, subst, ◌∙◌, arith}
-use Rattle.std.proofs.lemmas.Bool.{leb-true}
+use Rattle.std.proofs.lemmas.Bool.{leb-true, cond_both}
 use Rattle.std.proofs.lemmas.Bool.Decides.{Decides-ltb}
 use Rattle.std.proofs.lemmas.List.{length-map}
 use Rattle.dm_base.specs.declared.mode.Mode.{Mode}
-use Rattle.dm_base.specs.declared.mode.Mode.TheVariants.{Plain, Instrumented}
+use Rattle.dm_base.specs.declared.mode.Mode.TheVariants.{Plain}
 use Rattle.c_lexer.specs.declared.punctuator.TheConstants.{AMPERSAND}
 use Rattle.c_tree.specs.declared.value.BinOp.TheVariants.{Add, Sub}
-use Rattle.c_tree.specs.Tree.{CType, void, integer, pointer, array, struct, function, CTypes, Program, type_of}
+use Rattle.c_tree.specs.Tree.{CType, pointer, function, CTypes, Program, type_of}
 use Rattle.c_tree.specs.Tree as typed
 use Rattle.c_tree.specs.Functions.{defined, value_type, called_type, value_types, type_of_defined, sys_types, null_types}
 use Rattle.c_tree.specs.Operands.{IsResult}
-use Rattle.c_shapes.specs.Mentions.{Mention, Calls, Direct, Through, mentions_of_program}
-use Rattle.c_shapes.specs.Mentions.{Callee as Shape}
+use Rattle.c_shapes.specs.Mentions.{Mention, Calls, Direct, Through, mentions_of_program, Callee as Shape}
 use Rattle.c_shapes.specs.CallGraph.{is_marked, reaches, callee_at}
 use Rattle.c_syntax.specs.Tree.{Expr, a_name, an_int, a_char, a_str, comma, sizeof_type, cast, call, member, postfix, prefix, unary, index, binary, assign, conditional, Exprs, no_exprs, more_exprs}
 use Rattle.c_syntax.specs.Tree.{Postfix, post_increment, post_decrement, pre_increment, pre_decrement, sizeof, Access, dot, arrow, Infix, and, or, operator}
@@ -20,7 +19,7 @@ use Rattle.c_rules.specs.Checked.{Checked, fine, faulty, on, both, all_three}
 use Rattle.c_rules.specs.Names.{Name}
 use Rattle.c_rules.specs.Limits.{most_calls}
 use Rattle.c_rules.specs.Types.{is_scalar, count}
-use Rattle.c_rules.specs.Scopes.{Env, Binding, Meaning, a_static, a_local, a_function, an_enumerator, unknown, Context, evaluated, sized, folded, in_context, Before, nothing_before, binding_of}
+use Rattle.c_rules.specs.Scopes.{Env, Binding, Meaning, a_static, a_function, unknown, Context, evaluated, sized, in_context, Before, nothing_before, binding_of}
 use Rattle.c_rules.specs.Counts.{place_of, calls, after, after_designator}
 use Rattle.c_rules.specs.TypedExpression.{TypedExpression, tree_of}
 use Rattle.c_rules.specs.Conversions.{valued}
@@ -30,28 +29,26 @@ use Rattle.c_rules.specs.UnaryExpressions.{address, indirection, unary_of_value,
 use Rattle.c_rules.specs.BinaryExpressions.{operator_of_code, sum, choice}
 use Rattle.c_rules.specs.Assignments.{assignable, assignment_by, step, comma_of}
 use Rattle.c_rules.specs.Declarators.{place_of_type, is_void_pointer}
-use Rattle.c_rules.specs.Expressions.{value_at, place_at, callee_meant, callee_bound, callee, access, after_operand, unary_rule, infix_rule, cast_rule, tree, trees, type_named, value}
+use Rattle.c_rules.specs.Expressions.{value_at, place_at, callee, access, after_operand, unary_rule, infix_rule, cast_rule, tree, trees, type_named, value}
 use Rattle.c_rules.proofs.Integers.{integer_cases}
 use Rattle.null_calls_rules.specs.MarkedCalls.{Called, Sites, sites_of, called_through, called_by_type, marked_of}
 use Rattle.null_calls_counts_laws.specs.Counts.{IsName, IsDesignator, AreNamed, AllNamed}
 use Rattle.null_calls_statements_laws.specs.Tabled.{called_by, HasTypes, IsCalledAt, AreTabled, AllTabled}
-use Rattle.null_calls_statements_laws.proofs.TreeTypes.{ValueTyped}
-use Rattle.null_calls_statements_laws.proofs.TreeTypes.{value_typed as trees_have_types}
+use Rattle.null_calls_statements_laws.proofs.TreeTypes.{ValueTyped, value_typed as trees_have_types}
 use Rattle.c_rules_laws.proofs.Holding.{Holds, held, holds_map, on_holds, both_hold, all_three_hold, Any, anything, demand_holds, after_part, if_holds, and_left}
 use Rattle.c_rules_laws.proofs.MadeTypes.{result_is}
 use Rattle.null_calls_rules.proofs.Places.{get_left}
-use Rattle.null_calls_units_laws.specs.CallsIn.{calls_in}
+use Rattle.null_calls_units_laws.specs.CallsIn.{calls_in, all_calls}
 use Rattle.null_calls_units_laws.specs.ClosedTypes.{CalledTypeHas, CalleeHas}
 use Rattle.null_calls_units_laws.specs.WrittenTypes.{Written, IsValueType}
 use Rattle.null_calls_units_laws.specs.AbstractCasts.{NamesNoType, NameNoTypes}
 use Rattle.null_calls_units_laws.specs.Scopes.{IsWrittenScope}
 use Rattle.null_calls_units_laws.proofs.Closed.{written_closed}
 use Rattle.null_calls_units_laws.proofs.Kept.{CalledGood, CallsGood, AllGood}
-use Rattle.null_calls_units_laws.proofs.TypesOfExpressions.{callee_typed, value_typed}
+use Rattle.null_calls_units_laws.proofs.TypesOfExpressions.{callee_holds, callee_typed, value_typed}
 use Rattle.null_calls_units_laws.proofs.Tables.{Table, InTable, in_first, in_rest}
 use Rattle.c_rules_laws.proofs.GatheredOfTypedExpressions.{called_at, Gathers, AllGather, CalleeGathers, valued_gathered, called_gathered, callee_type_gathered, callee_through_gathered, member_gathered, address_gathered, indirection_gathered, unary_gathered, size_gathered, cast_of_gathered, null_cast_gathered, sum_gathered, operation_gathered, conjunction_gathered, disjunction_gathered, assignment_by_gathered, step_gathered, choice_gathered, comma_gathered}
 use Rattle.c_rules_laws.specs.ConstantForm.{IsConst}
-use Rattle.null_calls_units_laws.specs.CallsIn.{all_calls}
 
 -- what a call has
 abbrev shape_of : Designator → Shape
@@ -66,17 +63,12 @@ called_is site (through e) = refl
 
 all_three_known : {A B C D : Type 0} (S : D → Type 0) (p : Checked A) (q : Checked B) (r : Checked C) (k : A → B → C → Checked D) → ((a : A) (b : B) (c : C) → p ≡ fine a → q ≡ fine b → r ≡ fine c → Holds S (k a b c)) → Holds S (all_three p q r k)
 all_three_known S (fine a) (fine b) (fine c) k h = h a b c refl refl refl
-all_three_known S (fine a) (fine b) (faulty f fs) k h = tt
-all_three_known S (fine a) (faulty f fs) r k h = tt
-all_three_known S (faulty f fs) q r k h = tt
+all_three_known S p q r k h = tt
 
 module _ (T : Table) where
   -- a constant has no calls; and where those of the tree stand in the table, the fact holds
   abbrev pub Tells : Type 0 → TypedExpression → Type 0
   Tells X g = (IsConst g.constant → calls_in (tree_of g) ≡ []) × (InTable T (calls_in (tree_of g)) → X)
-
-  calls_of_given : TypedExpression → List Mention
-  calls_of_given g = calls_in (tree_of g)
 
   -- one part
   told : (X : Type 0) (xs : List Mention) (g : TypedExpression) → (InTable T xs → X) → Gathers all_calls xs g → Tells X g
@@ -142,10 +134,9 @@ module _ (T : Table) where
 
   meant_tells : (env : Env) (at : ℕ) (x : Name) (m : Meaning) → Holds (Gathers all_calls []) (meant env at x m)
   meant_tells env at x (a_static seen whole d) = after_part (Gathers all_calls []) (used env.context at (object_number env x)) _ (λ _. (refl, λ _. refl))
-  meant_tells env at x (a_local n seen whole) = (refl, λ _. refl)
   meant_tells env at x (a_function t d) = after_part (Gathers all_calls []) (function_value_number env at x) _ (λ _. (refl, λ _. refl))
-  meant_tells env at x (an_enumerator z) = (refl, λ _. refl)
   meant_tells env at x (unknown f fs) = tt
+  meant_tells env at x m = (refl, λ _. refl)
 
   bound_tells : (env : Env) (at : ℕ) (x : Name) (o : Option Binding) → Holds (Gathers all_calls []) (bound env at x o)
   bound_tells env at x None = tt
@@ -161,67 +152,33 @@ module _ (p : Program) where
   Right f = HasTypes p f.designator f.returns f.parameters
 
   through_right : (at : ℕ) (e : typed.Expr) (t : CType) → type_of e ≡ t → Holds Right (callee_through at e t)
-  through_right at e void h = tt
-  through_right at e (integer i) h = tt
-  through_right at e (pointer void) h = tt
-  through_right at e (pointer (integer i)) h = tt
-  through_right at e (pointer (pointer t)) h = tt
-  through_right at e (pointer (array t n)) h = tt
-  through_right at e (pointer (struct s)) h = tt
   through_right at e (pointer (function t ts)) h = h
-  through_right at e (array t n) h = tt
-  through_right at e (struct s) h = tt
-  through_right at e (function t ts) h = tt
+  through_right at e t h = tt
 
   by_value_right : (at : ℕ) (r : Checked TypedExpression) → Holds ValueTyped r → Holds Right (on r (callee_by_value at))
   by_value_right at r h = on_holds ValueTyped Right r (callee_by_value at) h (λ g k. through_right at (tree_of g) g.ctype k)
 
   type_right : (place : ℕ) (t : CType) (n : ℕ) → called_type p n ≡ Some t → Holds Right (callee_of_type place t n)
-  type_right place void n h = tt
-  type_right place (integer i) n h = tt
-  type_right place (pointer t) n h = tt
-  type_right place (array t k) n h = tt
-  type_right place (struct s) n h = tt
   type_right place (function t ts) n h = h
+  type_right place t n h = tt
 
   used_right : (c : Context) → c ≡ evaluated → (place : ℕ) (o : Option ℕ) (t : CType) → ((n : ℕ) → o ≡ Some n → called_type p n ≡ Some t) → Holds Right (on (used c place o) (callee_of_type place t))
   used_right c e place (Some n) t h = type_right place t n (h n refl)
   used_right evaluated e place None t h = tt
-  used_right sized e place None t h = absurd (cc)
-  used_right folded e place None t h = absurd (cc)
-
-  meant_right : (env : Env) → env.context ≡ evaluated → (at place : ℕ) (x : Name) (r : Checked TypedExpression) (m : Meaning) → ((t : CType) (d : Bool) (n : ℕ) → m ≡ a_function t d → function_number env x ≡ Some n → called_type p n ≡ Some t) → Holds ValueTyped r → Holds Right (callee_meant env at place x r m)
-  meant_right env c at place x r (a_function t d) h k = used_right env.context c place (function_number env x) t (λ n e. h t d n refl e)
-  meant_right env c at place x r (a_static seen whole d) h k = by_value_right at r k
-  meant_right env c at place x r (a_local n seen whole) h k = by_value_right at r k
-  meant_right env c at place x r (an_enumerator z) h k = by_value_right at r k
-  meant_right env c at place x r (unknown f fs) h k = by_value_right at r k
-
-  bound_right : (env : Env) → env.context ≡ evaluated → (at place : ℕ) (x : Name) (r : Checked TypedExpression) (o : Option Binding) → ((b : Binding) (t : CType) (d : Bool) (n : ℕ) → o ≡ Some b → b.means ≡ a_function t d → function_number env x ≡ Some n → called_type p n ≡ Some t) → Holds ValueTyped r → Holds Right (callee_bound env at place x r o)
-  bound_right env c at place x r None h k = by_value_right at r k
-  bound_right env c at place x r (Some b) h k = meant_right env c at place x r b.means (λ t d n e f. h b t d n refl e f) k
+  used_right c e place None t h = absurd (cc)
 
   -- what is called has its types
   callee_right : (enums tags stood : List Name) (env : Env) → IsWrittenScope p enums tags stood env → (at : ℕ) (d : Expr) (r : Checked TypedExpression) → Holds ValueTyped r → Holds Right (callee env at d r)
-  callee_right enums tags stood env w at (a_name place x) r h = bound_right env w.runs at place x r (binding_of env x) (λ b t d n e f g. w.functions x b t d n e f g) h
-  callee_right enums tags stood env w at d r h = by_value_right at r h
+  callee_right enums tags stood env w at d r h =
+      callee_holds Right env at d r (by_value_right at r h) (λ place x b t k _ e q. used_right env.context w.runs place (function_number env x) t (λ n f. w.functions x b t k n e q f))
 
 abbrev IsDirect : Designator → Type 0
 IsDirect (direct n) = Unit {0}
 IsDirect (through e) = ⊥
 
 no_direct : (P : Type 0) (at : ℕ) (e : typed.Expr) (t : CType) → Holds (λ f. IsDirect f.designator → P) (callee_through at e t)
-no_direct P at e void = tt
-no_direct P at e (integer i) = tt
-no_direct P at e (pointer void) = tt
-no_direct P at e (pointer (integer i)) = tt
-no_direct P at e (pointer (pointer t)) = tt
-no_direct P at e (pointer (array t n)) = tt
-no_direct P at e (pointer (struct s)) = tt
 no_direct P at e (pointer (function t ts)) = λ k. absurd k
-no_direct P at e (array t n) = tt
-no_direct P at e (struct s) = tt
-no_direct P at e (function t ts) = tt
+no_direct P at e t = tt
 
 whatever : {A : Type 0} (P : A → Type 0) (r : Checked A) → ((a : A) → P a) → Holds P r
 whatever P (fine a) h = h a
@@ -256,27 +213,19 @@ module _ (p : Program) where
     abbrev V : CType → Type 0
     V = IsValueType enums tags stood
 
-    if_good : (site : ℕ) (b : Bool) (c : Called) → CalledGood enums tags stood site (Some c) → CalledGood enums tags stood site (if b then Some c else None)
-    if_good site true c h = h
-    if_good site false c h = h.5
-
     good_of : (site : ℕ) → site < 10000 → (d : Designator) (t : CType) (ts : CTypes) → HasTypes p d t ts → CalledTypeHas V d (function t ts) → CalledGood enums tags stood site (called_by p d t ts)
-    good_of site l (direct n) t ts h k = if_good site (is_marked p (Direct n)) (record { pointer_type = None; returns = t; parameters = ts }) (tt, k.4, k.3, k.0, leb-true (count ts) 16 k.1, l)
+    good_of site l (direct n) t ts h k = cond_both (is_marked p (Direct n)) (Some (record { pointer_type = None; returns = t; parameters = ts })) None (CalledGood enums tags stood site) (λ _. (tt, k.4, k.3, k.0, leb-true (count ts) 16 k.1, l)) (λ _. l)
     good_of site l (through e) t ts h k =
-        if_good site (is_marked p (Through (type_of e))) (record { pointer_type = Some (type_of e); returns = t; parameters = ts })
-        (subst (λ u. (is_scalar u ≡ true) × Written enums tags stood u) (sym h) (refl, k), k.2.4, k.2.3, k.2.0, leb-true (count ts) 16 k.2.1, l)
+        cond_both (is_marked p (Through (type_of e))) (Some (record { pointer_type = Some (type_of e); returns = t; parameters = ts })) None (CalledGood enums tags stood site)
+        (λ _. (subst (λ u. (is_scalar u ≡ true) × Written enums tags stood u) (sym h) (refl, k), k.2.4, k.2.3, k.2.0, leb-true (count ts) 16 k.2.1, l)) (λ _. l)
 
     result_of : (d : Designator) (t : CType) (ts : CTypes) → CalledTypeHas V d (function t ts) → IsResult t
     result_of (direct n) t ts k = result_is t k.0
     result_of (through e) t ts k = result_is t k.2.0
 
-  if_designator : (b : Bool) (c : Called) (d : Expr) → (c.pointer_type ≡ None → IsName d) → IsDesignator (if b then Some c else None) d
-  if_designator true c d h = h
-  if_designator false c d h = tt
-
   designator_of : (x : Designator) (t : CType) (ts : CTypes) (d : Expr) → (IsDirect x → IsName d) → IsDesignator (called_by p x t ts) d
-  designator_of (direct n) t ts d h = if_designator (is_marked p (Direct n)) (record { pointer_type = None; returns = t; parameters = ts }) d (λ _. h tt)
-  designator_of (through e) t ts d h = if_designator (is_marked p (Through (type_of e))) (record { pointer_type = Some (type_of e); returns = t; parameters = ts }) d (λ q. absurd (let z : Some (type_of e) ≡ None = q in cc))
+  designator_of (direct n) t ts d h = cond_both (is_marked p (Direct n)) (Some (record { pointer_type = None; returns = t; parameters = ts })) None (λ o. IsDesignator o d) (λ _ _. h tt) (λ _. tt)
+  designator_of (through e) t ts d h = cond_both (is_marked p (Through (type_of e))) (Some (record { pointer_type = Some (type_of e); returns = t; parameters = ts })) None (λ o. IsDesignator o d) (λ _ q. absurd (let z : Some (type_of e) ≡ None = q in cc)) (λ _. tt)
 
 -- ## Expressions
 
@@ -309,27 +258,15 @@ module _ (p : Program) (enums tags stood : List Name) where
   by_value_tells : (X : Type 0) (at : ℕ) (r : Checked TypedExpression) → Holds (Tells T X) r → Holds (CalleeTells X) (on r (callee_by_value at))
   by_value_tells X at r h = on_holds (Tells T X) (CalleeTells X) r (callee_by_value at) h (λ g k. holds_map (CalleeGathers all_calls (calls_in (tree_of g))) (CalleeTells X) (λ f s. (calls_in (tree_of g), s, k.1)) (callee_through at (tree_of g) g.ctype) (callee_through_gathered all_calls at (calls_in (tree_of g)) (tree_of g) g.ctype refl))
 
-  callee_meant_tells : (X : Type 0) → X → (env : Env) (at place : ℕ) (x : Name) (r : Checked TypedExpression) (m : Meaning) → Holds (Tells T X) r → Holds (CalleeTells X) (callee_meant env at place x r m)
-  callee_meant_tells X a env at place x r (a_function t d) h =
-      after_part (CalleeTells X) (used env.context place (function_number env x)) (callee_of_type place t) (λ n. holds_map (CalleeGathers all_calls []) (CalleeTells X) (λ f s. ([], s, λ _. a)) (callee_of_type place t n) (callee_type_gathered all_calls place t n))
-  callee_meant_tells X a env at place x r (a_static seen whole d) h = by_value_tells X at r h
-  callee_meant_tells X a env at place x r (a_local n seen whole) h = by_value_tells X at r h
-  callee_meant_tells X a env at place x r (an_enumerator z) h = by_value_tells X at r h
-  callee_meant_tells X a env at place x r (unknown f fs) h = by_value_tells X at r h
-
-  callee_bound_tells : (X : Type 0) → X → (env : Env) (at place : ℕ) (x : Name) (r : Checked TypedExpression) (o : Option Binding) → Holds (Tells T X) r → Holds (CalleeTells X) (callee_bound env at place x r o)
-  callee_bound_tells X a env at place x r None h = by_value_tells X at r h
-  callee_bound_tells X a env at place x r (Some b) h = callee_meant_tells X a env at place x r b.means h
-
   callee_tells : (env : Env) (b : Before) (at : ℕ) (d : Expr) (r : Checked TypedExpression) → Holds (Tells T (Passes env b d)) r → Holds (CalleeTells (Passes env b d)) (callee env at d r)
-  callee_tells env b at (a_name place x) r h = callee_bound_tells (Passes env b (a_name place x)) (tt, tt, tt) env at place x r (binding_of env x) h
-  callee_tells env b at d r h = by_value_tells (Passes env b d) at r h
+  callee_tells env b at d r h =
+      callee_holds (CalleeTells (Passes env b d)) env at d r (by_value_tells (Passes env b d) at r h)
+      (λ place x c t k q _ _. after_part (CalleeTells (Passes env b d)) (used env.context place (function_number env x)) (callee_of_type place t)
+      (λ n. holds_map (CalleeGathers all_calls []) (CalleeTells (Passes env b d)) (λ f s. ([], s, λ _. subst (Passes env b) (sym q) (tt, tt, tt))) (callee_of_type place t n) (callee_type_gathered all_calls place t n)))
 
   site_is : (c : Context) → c ≡ evaluated → (m : Mode) → m ≡ Plain → (n at : ℕ) → Holds (λ k. (k ≡ n) × (n < 10000)) (site_in c (most_calls m) n at)
   site_is evaluated e Plain f n at = demand_holds (λ k. (k ≡ n) × (n < 10000)) (nat_lt n 10000) 13 at n (λ q. (refl, (Decides-ltb n 10000).0 q))
-  site_is evaluated e Instrumented f n at = absurd (cc)
-  site_is sized e m f n at = absurd (cc)
-  site_is folded e m f n at = absurd (cc)
+  site_is c e m f n at = absurd (cc)
 
   same_callee : (f g : Callee) → fine f ≡ fine g → f ≡ g
   same_callee f g e = cc

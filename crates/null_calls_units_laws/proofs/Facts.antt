@@ -1,24 +1,22 @@
 -- What is known of the bodies in a plain unit that is typed.
-use Rattle.std.proofs.Common.{◌≡◌, ℕ, suc, ◌+◌, Bool, true, false, not, ◌&&◌, List, [], ◌∷◌, ◌++◌, Contains, Option, Some, None, refl, sym, subst, ◌∙◌, arith}
-use Rattle.c_tree.specs.Tree.{CType, void, integer, pointer, array, struct, function, CTypes, no_types, more_types, Function, Program}
+use Rattle.std.proofs.Common.{◌≡◌, ℕ, suc, ◌+◌, Bool, true, false, List, [], ◌∷◌, ◌++◌, Contains, Option, Some, None, refl, sym, subst, ◌∙◌, arith, ap, ap₂, flat_map}
+use Rattle.c_tree.specs.Tree.{CType, function, CTypes, more_types, Function, Program}
 use Rattle.c_tree.specs.Tree as typed
 use Rattle.c_shapes.specs.Mentions.{mentions_of_program}
 use Rattle.c_shapes.specs.CallGraph.{callee_at}
-use Rattle.c_syntax.specs.Tree.{Ident, Storage, Spec, Declarator, MaybeInit, Parts, no_parts, more_parts, Decl, decl, Params, no_params, more_params, Stmt, BlockItems, Item, struct_item, enum_item, tag_item, decl_item, function_item, Items, no_items, more_items}
+use Rattle.c_syntax.specs.Tree.{Ident, Storage, Spec, Declarator, MaybeInit, Parts, no_parts, more_parts, Decl, decl, Params, more_params, Stmt, BlockItems, Item, decl_item, function_item, Items, no_items, more_items}
 use Rattle.c_syntax.specs.Tree as syntax
-use Rattle.c_rules.specs.Checked.{Checked, fine, faulty, on, both, demand, met}
+use Rattle.c_rules.specs.Checked.{Checked, fine, on, both, demand, met}
 use Rattle.c_rules.specs.Names.{Name}
 use Rattle.c_rules.specs.Scopes.{Env, a_local, inside, Before}
 use Rattle.c_rules.specs.Declarators.{name_of, place_or}
 use Rattle.c_rules.specs.Expressions.{type_declared}
-use Rattle.c_rules.specs.Initialisers.{calls_of_maybe_init, initialised_static}
-use Rattle.c_rules.specs.Objects.{Object, object_declared}
 use Rattle.c_rules.specs.Tags.{tags_of_spec, tags_of_declarator, tags_of_stmt, tags_of_block, tags_of_item, tags_of_items}
 use Rattle.c_rules.specs.Variables.{Next, calls_of_block}
 use Rattle.c_rules.specs.Blocks.{StatementTree}
 use Rattle.c_rules.specs.Statements.{Around, items_of_block}
 use Rattle.c_rules.specs.Functions.{declares_function, parameters_of, are_named, with_parameter, with_parameters, body_env, body_numbers, body_of, variables_of, function_laid, defined_as, function_declared, items_of_body, count_params}
-use Rattle.c_rules.specs.Items.{Output, with_output, static_of, output_of_function, defines, global_declared, within_global, after_object, definition_of, global, declared_part, named_part, behind_file_part, after_global, after_declared, after_file_part, file_parts, after_file_parts, file_decl, after_file_decl, behind_defined, function_named, behind_function_named, item, behind_item, behind_by_form, after_item, items, behind_items}
+use Rattle.c_rules.specs.Items.{Output, with_output, static_of, output_of_function, defines, global_declared, within_global, definition_of, global, declared_part, named_part, behind_file_part, after_file_part, file_parts, file_decl, behind_defined, function_named, behind_function_named, item, behind_item, behind_by_form, after_item, items, behind_items, no_output, without_init}
 use Rattle.null_calls_rules.specs.MarkedCalls.{sites_of}
 use Rattle.null_calls_rules.specs.Instrumented.{calls_of_item}
 use Rattle.null_calls_rules.specs.InstrumentedStatements.{kept_of_block}
@@ -27,9 +25,9 @@ use Rattle.null_calls_counts_laws.specs.Statements.{BlockNamed}
 use Rattle.null_calls_statements_laws.specs.Statements.{BlockTabled}
 use Rattle.c_rules_laws.specs.Lexical.{IsStmtLexical, AreItemsLexical, IsItemLexical, IsUnitLexical}
 use Rattle.c_rules_laws.specs.RightScopes.{MeaningRight}
-use Rattle.c_rules_laws.proofs.Holding.{held, first_fine, on_fine, demand_fine}
+use Rattle.c_rules_laws.proofs.Holding.{held, first_fine, on_fine, demand_fine, Holds, both_hold, Any, anything, after_part as behind_any}
 use Rattle.c_rules_laws.proofs.FileScopes.{IsFileRight, Follows, follows_on}
-use Rattle.c_rules_laws.proofs.FileItems.{part_step, definition_step, form_step, tags_step, items_step}
+use Rattle.c_rules_laws.proofs.FileItems.{definition_step, form_step, tags_step, items_step}
 use Rattle.c_rules_laws.proofs.UnitScopes.{IsTable, scope_right}
 use Rattle.c_rules_laws.proofs.UnitShape.{output_same}
 use Rattle.c_rules_laws.proofs.Definitions.{definition_fine}
@@ -41,73 +39,62 @@ use Rattle.null_calls_units_laws.specs.Scopes.{IsWrittenScope, AreTemporaries}
 use Rattle.null_calls_units_laws.proofs.Declared.{AreKnownTags, first_tags, rest_tags, both_tags, among_left, among_right, type_written}
 use Rattle.null_calls_units_laws.proofs.Tables.{InTable}
 use Rattle.null_calls_units_laws.proofs.Statements.{named_scope, inside_scope, block_passes}
-use Rattle.null_calls_units_laws.proofs.Silent.{static_silent}
-use Rattle.null_calls_units_laws.proofs.FunctionTags.{body_tags, among_later, among_itself, among_front}
+use Rattle.null_calls_units_laws.proofs.Silent.{no_span}
+use Rattle.c_rules_laws.proofs.DistinctNames.{among_right as among_later}
+use Rattle.null_calls_units_laws.proofs.FunctionTags.{body_tags, among_itself, among_front}
 use Rattle.null_calls_units_laws.specs.Functions.{BodyFacts, NamedFacts, FunctionFacts}
 use Rattle.null_calls_units_laws.proofs.FileWritten.{IsWrittenFile, more_stand, file_tags, function_file, item_file}
 use Rattle.null_calls_units_laws.proofs.Aside.{names_in_body}
+use Rattle.c_tree.specs.Sites.{sites_of_function}
+use Rattle.c_rules_laws.proofs.Spans.{Spans, items_span}
 
 body_lexical : (body : Stmt) → IsStmtLexical body → AreItemsLexical (items_of_body body)
 body_lexical (syntax.block at is) h = h
-body_lexical (syntax.empty at) h = (h, tt)
-body_lexical (syntax.evaluate at e) h = (h, tt)
-body_lexical (syntax.only_if at e s) h = (h, tt)
-body_lexical (syntax.if_else at e s t) h = (h, tt)
-body_lexical (syntax.while_loop at e s) h = (h, tt)
-body_lexical (syntax.do_loop at s e) h = (h, tt)
-body_lexical (syntax.for_loop at f t u s) h = (h, tt)
-body_lexical (syntax.switch_on at e gs) h = (h, tt)
-body_lexical (syntax.break_off at) h = (h, tt)
-body_lexical (syntax.continue_on at) h = (h, tt)
-body_lexical (syntax.return_from at m) h = (h, tt)
+body_lexical body h = (h, tt)
 
--- ## Calls of static objects
+-- ## Items that define no function
 
-global_calls : (e : Env) → IsFileRight e → (b : Before) (at : ℕ) (s : Spec) (d : Declarator) (x : Ident) (m : MaybeInit) (c : Output) → global e true b x m (global_declared e true b at s d x m) ≡ fine c → calls_of_maybe_init m ≡ 0
-global_calls e w b at s d x m c g =
-    let r : Checked Object = global_declared e true b at s d x m in
-    let k = on_fine r (definition_of (within_global e true x r) b m) c g in
-    let inner : Env = within_global e true x r in
-    let j = on_fine (initialised_static inner (after_object inner b k.0.whole) k.0.whole m) (λ gs. fine (static_of k.0 gs)) c k.2 in
-    held (λ _. calls_of_maybe_init m ≡ 0) (initialised_static inner (after_object inner b k.0.whole) k.0.whole m) j.0 (static_silent m inner w.runs (after_object inner b k.0.whole) k.0.whole) j.1
+abbrev pub NoFunctions : Output → Type 0
+NoFunctions o = o.functions ≡ []
 
-after_global_sites : (e : Env) (b : Before) (m : MaybeInit) (r : Checked Object) → calls_of_maybe_init m ≡ 0 → (after_global e b m r).sites ≡ b.sites
-after_global_sites e b m (fine o) z = (let c : calls_of_maybe_init m ≡ 0 = z in omega (arith, c))
-after_global_sites e b m (faulty f fs) z = refl
-
-part_sites : (e : Env) → IsFileRight e → (b : Before) (at : ℕ) (class : Storage) (s : Spec) (d : Declarator) (m : MaybeInit) (o : Option Ident) (c : Output) → named_part e b at class s d m o ≡ fine c → (after_declared e b at s d m (not (declares_function d) && defines class m) o).sites ≡ b.sites
-part_sites e w b at class s d m None c h = absurd (cc)
-part_sites e w b at class s d m (Some x) c h = by_kind (declares_function d) h
+part_none : (e : Env) (b : Before) (at : ℕ) (class : Storage) (s : Spec) (d : Declarator) (m : MaybeInit) (o : Option Ident) → Holds NoFunctions (named_part e b at class s d m o)
+part_none e b at class s d m None = tt
+part_none e b at class s d m (Some x) = by_kind (declares_function d)
   where
-    by_object : (k : Bool) → global e k b x m (global_declared e k b at s d x m) ≡ fine c → (after_declared e b at s d m k (Some x)).sites ≡ b.sites
-    by_object false g = refl
-    by_object true g = after_global_sites e b m (object_declared e at s d x m) (global_calls e w b at s d x m c g)
+    by_global : (k : Bool) (r : Checked _) → Holds NoFunctions (global e k b x m r)
+    by_global false r = behind_any NoFunctions r (λ _. fine no_output) (λ _. refl)
+    by_global true r = behind_any NoFunctions r (definition_of (within_global e true x r) b m) (λ o. behind_any NoFunctions _ (λ gs. fine (static_of o gs)) (λ _. refl))
 
-    by_kind : (t : Bool) → declared_part e b at class s d m t x ≡ fine c → (after_declared e b at s d m (not t && defines class m) (Some x)).sites ≡ b.sites
-    by_kind true g = refl
-    by_kind false g = by_object (defines class m) g
+    by_kind : (t : Bool) → Holds NoFunctions (declared_part e b at class s d m t x)
+    by_kind true = both_hold Any Any NoFunctions (function_declared e false at s d x) (without_init m) (λ _ _. fine no_output) (anything _) (anything _) (λ _ _ _ _. refl)
+    by_kind false = by_global (defines class m) (global_declared e (defines class m) b at s d x m)
 
-parts_sites : (ps : Parts) (e : Env) → IsFileRight e → (b : Before) (at : ℕ) (class : Storage) (s : Spec) (c : Output) → file_parts e b at class s ps ≡ fine c → (after_file_parts e b at class s ps).sites ≡ b.sites
-parts_sites no_parts e w b at class s c h = refl
-parts_sites (more_parts d m ps) e w b at class s c h =
-    let inner : Env = behind_file_part e b at class s d m in
-    let after : Before = after_file_part e b at class s d m in
-    let i = first_fine (named_part e b at class s d m (name_of d)) (file_parts inner after at class s ps) (λ p q. fine (with_output p q)) c h in
-    let step = part_step e b at class s d m (name_of d) i.0 w i.2 in
-    parts_sites ps inner step.0 after at class s i.1 i.3 ∙ part_sites e w b at class s d m (name_of d) i.0 i.2
+parts_none : (ps : Parts) (e : Env) (b : Before) (at : ℕ) (class : Storage) (s : Spec) → Holds NoFunctions (file_parts e b at class s ps)
+parts_none no_parts e b at class s = refl
+parts_none (more_parts d m ps) e b at class s =
+    both_hold NoFunctions NoFunctions NoFunctions (named_part e b at class s d m (name_of d)) (file_parts (behind_file_part e b at class s d m) (after_file_part e b at class s d m) at class s ps) (λ p q. fine (with_output p q))
+    (part_none e b at class s d m (name_of d)) (parts_none ps (behind_file_part e b at class s d m) (after_file_part e b at class s d m) at class s) (λ p q h k. ap₂ (λ xs ys. xs ++ ys) h k)
 
-decl_sites : (d : Decl) (e : Env) → IsFileRight e → (b : Before) (c : Output) → file_decl e b d ≡ fine c → (after_file_decl e b d).sites ≡ b.sites
-decl_sites (decl at class s ps) e w b c h = parts_sites ps e w b at class s c h
+pub decl_none : (d : Decl) (e : Env) (b : Before) → Holds NoFunctions (file_decl e b d)
+decl_none (decl at class s ps) e b = parts_none ps e b at class s
+
+-- so they have no calls
+decl_sites : (d : Decl) (at : ℕ) (e : Env) → IsFileRight e → (b : Before) (c : Output) → IsItemLexical (decl_item at d) → item e b (decl_item at d) ≡ fine c → (after_item e b (decl_item at d)).sites ≡ b.sites
+decl_sites d at e w b c l h =
+    let all : Spans b (after_item e b (decl_item at d)) (with_output c no_output) =
+    items_span (more_items (decl_item at d) no_items) e w b (with_output c no_output) (l, tt) (ap (λ r. both r (fine no_output) (λ p q. fine (with_output p q))) h) in
+    let none : c.functions ≡ [] = held NoFunctions (file_decl e b d) c (decl_none d e b) h in
+    let counted = all.counted in
+    let count : all.count ≡ 0 = no_span b.sites all.count (sym all.sites ∙ ap (λ fs. flat_map sites_of_function (fs ++ [])) none) in
+    omega (arith, counted, count)
 
 none_more : (n m : ℕ) → m ≡ n → m ≡ n + 0
 none_more n m e = omega (arith, e)
 
-item_sites : (i : Item) (e : Env) → IsFileRight e → (b : Before) (c : Output) → item e b i ≡ fine c → (after_item e b i).sites ≡ b.sites + calls_of_item i
-item_sites (struct_item at x ms) e w b c h = none_more b.sites b.sites refl
-item_sites (enum_item at x es) e w b c h = none_more b.sites b.sites refl
-item_sites (tag_item at x) e w b c h = none_more b.sites b.sites refl
-item_sites (decl_item at d) e w b c h = none_more b.sites (after_file_decl e b d).sites (decl_sites d e w b c h)
-item_sites (function_item at class s d body) e w b c h = refl
+item_sites : (i : Item) (e : Env) → IsFileRight e → (b : Before) (c : Output) → IsItemLexical i → item e b i ≡ fine c → (after_item e b i).sites ≡ b.sites + calls_of_item i
+item_sites (decl_item at d) e w b c l h = none_more b.sites (after_item e b (decl_item at d)).sites (decl_sites d at e w b c l h)
+item_sites (function_item at class s d body) e w b c l h = refl
+item_sites i e w b c l h = none_more b.sites b.sites refl
 
 -- ## Bodies
 
@@ -146,9 +133,8 @@ module _ (p : Program) (tags : List Name) (last : Env) (table : IsTable p last) 
   parameter_written enums stood env k (Some x) t w h = named_scope p enums tags stood env x.name (a_local k t t) w h tt
 
   parameters_written : (enums stood : List Name) (ps : Params) (ts : CTypes) (env : Env) (k : ℕ) → IsWrittenScope p enums tags stood env → AllWritten enums tags stood ts → IsWrittenScope p enums tags stood (with_parameters env k ps ts)
-  parameters_written enums stood no_params ts env k w h = w
-  parameters_written enums stood (more_params at s d ps) no_types env k w h = w
   parameters_written enums stood (more_params at s d ps) (more_types t ts) env k w h = parameters_written enums stood ps ts (with_parameter env k (name_of d) t) (suc k) (parameter_written enums stood env k (name_of d) t w h.2) h.3
+  parameters_written enums stood ps ts env k w h = w
 
   -- a body, in the scope behind its function's name
   body_known : (inner : Env) (stood : List Name) → IsFileRight inner → Follows inner last → IsWrittenFile tags stood inner → (b : Before) (place : ℕ) (d : Declarator) (x : Ident) (body : Stmt) → AreKnownTags inner.enums tags stood (tags_of_stmt false body) → StmtNamesNoType body → IsStmtLexical body
@@ -182,8 +168,6 @@ module _ (p : Program) (tags : List Name) (last : Env) (table : IsTable p last) 
   named_facts : (env : Env) → IsFileRight env → IsWrittenFile tags env.tags env → (b : Before) (at : ℕ) (class : Storage) (s : Spec) (d : Declarator) (body : Stmt) (k : Bool) (o : Option Ident) (out : Output) → declares_function d ≡ k
       → AreAmong tags (tags_of_item false (function_item at class s d body)) → StmtNamesNoType body → IsStmtLexical body → function_named env b at s d body k o ≡ fine out → Follows (behind_function_named env at s d o) last → AllIn p out.functions
       → NamedFacts p env.enums tags (tags_of_item false (function_item at class s d body) ++ env.tags) env b at s d body o
-  named_facts env w v b at class s d body false o out n among names lexical e g all = absurd (cc)
-  named_facts env w v b at class s d body true None out n among names lexical e g all = absurd (cc)
   named_facts env w v b at class s d body true (Some x) out n among names lexical e g all =
       let is : BlockItems = items_of_body body in
       let item_tags : List Name = tags_of_item false (function_item at class s d body) in
@@ -209,18 +193,12 @@ module _ (p : Program) (tags : List Name) (last : Env) (table : IsTable p last) 
           → NamedFacts p env.enums tags (tags_of_item false (function_item at class s d body) ++ env.tags) env b at s d body (Some x)
       by_type inner r file (function t ts) q written f h in_table known =
           (t, ts, q, body_known (behind_defined env at s d x) (tags_of_item false (function_item at class s d body) ++ env.tags) r g file b (place_or at d) d x body known names lexical t ts written f h in_table)
-      by_type inner r file void q written f h in_table known = absurd (cc)
-      by_type inner r file (integer k) q written f h in_table known = absurd (cc)
-      by_type inner r file (pointer t) q written f h in_table known = absurd (cc)
-      by_type inner r file (array t k) q written f h in_table known = absurd (cc)
-      by_type inner r file (struct k) q written f h in_table known = absurd (cc)
+      by_type inner r file u q written f h in_table known = absurd (cc)
+  named_facts env w v b at class s d body k o out n among names lexical e g all = absurd (cc)
 
   item_facts : (i : Item) (env : Env) → IsFileRight env → IsWrittenFile tags env.tags env → (b : Before) (out : Output) → AreAmong tags (tags_of_item false i) → ItemNamesNoType i → IsItemLexical i → item env b i ≡ fine out → Follows (behind_by_form env b i) last → AllIn p out.functions → FunctionFacts p tags env b i
-  item_facts (struct_item at x ms) env w v b out among names lexical e g all = tt
-  item_facts (enum_item at x es) env w v b out among names lexical e g all = tt
-  item_facts (tag_item at x) env w v b out among names lexical e g all = tt
-  item_facts (decl_item at d) env w v b out among names lexical e g all = tt
   item_facts (function_item at class s d body) env w v b out among names lexical e g all = named_facts env w v b at class s d body (declares_function d) (name_of d) out refl among names lexical.1 e g all
+  item_facts i env w v b out among names lexical e g all = tt
 
   -- ## Units
 
@@ -237,6 +215,6 @@ module _ (p : Program) (tags : List Name) (last : Env) (table : IsTable p last) 
       let own : AreAmong tags (tags_of_item false i) = among_left tags (tags_of_item false i) (tags_of_items false is) among in
       let both = in_both p f.0.functions f.1.functions (subst (λ o. AllIn p o.functions) (sym (output_same (with_output f.0 f.1) out f.4)) all) in (
         item_facts i env w v b f.0 own names.0 lexical.0 f.2 here both.0,
-        item_sites i env w b f.0 f.2,
+        item_sites i env w b f.0 lexical.0 f.2,
         unit_facts is inner step.0 (item_file tags i env b f.0 v (known_here env i own) f.2) after f.1 (among_right tags (tags_of_item false i) (tags_of_items false is) among) names.1 lexical.1 f.3 g both.1,
       )

@@ -1,6 +1,7 @@
 -- Names at file scope in the two units.
 use Rattle.std.proofs.Common.{◌≡◌, ℕ, suc, ◌<◌, Bool, true, false, not, ◌&&◌, ◌||◌, cond, if◌then◌else◌, List, [], ◌∷◌, ◌++◌, length, Option, Some, None, slice_get, nat_lt, refl, ap, sym, subst, ◌∙◌, arith, true≢false}
-use Rattle.std.specs.Prelude.{is_some, option_map, bytes_eq}
+use Rattle.std.proofs.lemmas.Bool.{false_from_ne_true}
+use Rattle.std.specs.Prelude.{bytes_eq}
 use Rattle.std.proofs.lemmas.Bool.Decides.{Decides-ltb}
 use Rattle.std.proofs.lemmas.Option.{slice_get_within}
 use Rattle.std.proofs.lemmas.Slice.Eq.{bytes_eq-Decides}
@@ -16,6 +17,7 @@ use Rattle.c_rules.specs.Expressions.{type_declared}
 use Rattle.c_rules.specs.Functions.{given_as, is_as_given, may_follow_function, is_defined_by, is_few, function_meaning, behind_function, function_declared}
 use Rattle.null_calls_rules.specs.Temporaries.{pre_name, post_name}
 use Rattle.c_rules_laws.specs.TypedAlike.{More, TypedAlike, beside, AreUnreserved, MeanAlike}
+use Rattle.c_rules_laws.proofs.DistinctNames.{among_split}
 use Rattle.c_rules_laws.proofs.Leads.{Leads, same_leads, fine_leads, on_leads, demand_leads, and_also_leads, first_fine, on_fine, demand_met}
 use Rattle.c_rules_laws.proofs.Names.{left, right, given_same, unreserved, name_leads}
 use Rattle.c_rules_laws.proofs.Parts.{type_declared_leads}
@@ -25,27 +27,19 @@ use Rattle.null_calls_units_laws.specs.FileScopes.{HasNullCalls, FilesBeside, fi
 
 -- ## Lists of names
 
+-- names that differ
+pub other : (x y : Name) → (x ≡ y → ⊥) → bytes_eq x y ≡ false
+other x y h = false_from_ne_true (bytes_eq x y) (λ e. h ((bytes_eq-Decides x y).0 e))
+
 pub other_name : (x y : Name) → is_reserved x ≡ false → is_reserved y ≡ true → bytes_eq x y ≡ false
-other_name x y u r = by_test (bytes_eq x y) refl
-  where
-    by_test : (t : Bool) → bytes_eq x y ≡ t → t ≡ false
-    by_test true e = absurd (true≢false (sym r ∙ (ap is_reserved (sym ((bytes_eq-Decides x y).0 e)) ∙ u)))
-    by_test false e = refl
+other_name x y u r = other x y (λ e. true≢false (sym r ∙ (ap is_reserved (sym e) ∙ u)))
 
 pub other_way : (x y : Name) → is_reserved x ≡ false → is_reserved y ≡ true → bytes_eq y x ≡ false
-other_way x y u r = by_test (bytes_eq y x) refl
-  where
-    by_test : (t : Bool) → bytes_eq y x ≡ t → t ≡ false
-    by_test true e = absurd (true≢false (sym r ∙ (ap is_reserved ((bytes_eq-Decides y x).0 e) ∙ u)))
-    by_test false e = refl
-
-some_suc : (o : Option ℕ) → is_some (option_map suc o) ≡ is_some o
-some_suc None = refl
-some_suc (Some k) = refl
+other_way x y u r = other y x (λ e. true≢false (sym r ∙ (ap is_reserved e ∙ u)))
 
 -- a name that isn't the first one stands among the others
 pub among_past : (y x : Name) (ys : List Name) → bytes_eq y x ≡ false → is_among (y ∷ ys) x ≡ is_among ys x
-among_past y x ys e = ap (λ t. is_some (if t then Some 0 else option_map suc (number_among ys x))) e ∙ some_suc (number_among ys x)
+among_past y x ys e = among_split y x ys ∙ ap (λ t. t || is_among ys x) e
 
 among_nulls : (x : Name) (ys : List Name) → is_reserved x ≡ false → is_among (pre_name ∷ post_name ∷ ys) x ≡ is_among ys x
 among_nulls x ys u = among_past pre_name x (post_name ∷ ys) (other_way x pre_name u refl) ∙ among_past post_name x ys (other_way x post_name u refl)

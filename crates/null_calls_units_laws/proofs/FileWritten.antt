@@ -1,13 +1,12 @@
 -- Types at file scope are written with tags that stand before.
-use Rattle.std.proofs.Common.{◌≡◌, ℕ, zero, suc, Bool, true, false, not, ◌&&◌, cond, if◌then◌else◌, List, [], ◌∷◌, ◌++◌, map, Option, Some, None, slice_get, slice_set, unwrap_or, refl, ap, sym, subst, ◌∙◌, true≢false}
-use Rattle.std.specs.Prelude.{is_some, option_map, bytes_eq}
-use Rattle.std.proofs.lemmas.Slice.Eq.{bytes_eq-Decides}
+use Rattle.std.proofs.Common.{◌≡◌, ℕ, zero, suc, Bool, true, false, not, ◌&&◌, cond, List, [], ◌∷◌, ◌++◌, map, Option, Some, None, slice_get, slice_set, unwrap_or, refl, ap, sym, subst, ◌∙◌, true≢false}
+use Rattle.std.specs.Prelude.{bytes_eq}
 use Rattle.dm_base.specs.declared.mode.Mode.TheVariants.{Plain}
 use Rattle.c_tree.specs.Tree.{CType}
 use Rattle.c_syntax.specs.Tree.{Ident, Storage, Spec, Declarator, MaybeInit, no_init, Parts, no_parts, more_parts, Decl, decl, Declarators, no_declarators, more_declarators, Members, no_members, more_members, Enumerators, no_enumerators, more_enumerators, Tag, no_tag, tag, Item, struct_item, enum_item, tag_item, decl_item, function_item}
 use Rattle.c_rules.specs.Checked.{Checked, fine, faulty, on, demand, met}
-use Rattle.c_rules.specs.Names.{Name, number_among, is_among, with_new}
-use Rattle.c_rules.specs.Scopes.{Env, Binding, Meaning, a_static, a_local, a_function, an_enumerator, unknown, Struct, incomplete, unknown_struct, defined_struct, Member, type_of_member, lookup, with_name, meaning_or_unknown, struct_of, with_struct, tag_number, Before}
+use Rattle.c_rules.specs.Names.{Name, is_among, with_new}
+use Rattle.c_rules.specs.Scopes.{Whole, Env, Binding, Meaning, a_static, a_local, a_function, an_enumerator, Struct, incomplete, defined_struct, Member, type_of_member, lookup, with_name, meaning_or_unknown, struct_of, with_struct, tag_number, Before}
 use Rattle.c_rules.specs.Conversions.{complete}
 use Rattle.c_rules.specs.Declarators.{name_of, place_or, new_name}
 use Rattle.c_rules.specs.Expressions.{type_declared}
@@ -19,8 +18,9 @@ use Rattle.c_rules_laws.proofs.Holding.{Holds, held, on_holds, both_hold, Any, a
 use Rattle.null_calls_units_laws.specs.ClosedTypes.{MeaningHas, AllHave, ScopeHas}
 use Rattle.null_calls_units_laws.specs.WrittenTypes.{Written}
 use Rattle.null_calls_units_laws.proofs.Closed.{written_later}
-use Rattle.null_calls_units_laws.proofs.Declared.{AreKnownTags, first_tags, rest_tags, both_tags, HasTags, type_written, with_size_written, ObjectWritten, object_written}
-use Rattle.null_calls_units_laws.proofs.FunctionTags.{among_later}
+use Rattle.null_calls_units_laws.proofs.FileNames.{other, among_past}
+use Rattle.null_calls_units_laws.proofs.Declared.{is_not, AreKnownTags, first_tags, rest_tags, both_tags, HasTags, type_written, with_size_written, ObjectWritten, object_written}
+use Rattle.c_rules_laws.proofs.DistinctNames.{among_right as among_later}
 
 -- a scope at file scope of a plain unit
 pub record IsWrittenFile (tags stood : List Name) (env : Env) : Type 0 where
@@ -34,8 +34,7 @@ meaning_map : (W V : CType → Type 0) → ((t : CType) → W t → V t) → (m 
 meaning_map W V f (a_static seen whole d) h = f seen h
 meaning_map W V f (a_local n seen whole) h = f seen h
 meaning_map W V f (a_function t d) h = f t h
-meaning_map W V f (an_enumerator z) h = tt
-meaning_map W V f (unknown k ks) h = tt
+meaning_map W V f m h = tt
 
 all_map : (W V : CType → Type 0) → ((t : CType) → W t → V t) → (ts : List CType) → AllHave W ts → AllHave V ts
 all_map W V f [] h = tt
@@ -48,6 +47,17 @@ meant_has : (W : CType → Type 0) (r : Checked Meaning) → Holds (MeaningHas W
 meant_has W (fine m) h = h
 meant_has W (faulty f fs) h = tt
 
+-- behind a name of such a type
+pub scope_named : (W : CType → Type 0) (env : Env) (x : Name) (m : Meaning) → ScopeHas W env → MeaningHas W m → ScopeHas W (with_name env x m)
+scope_named W env x m w h = record { names = λ y b e. by_test (bytes_eq x y) y b e; members = w.members }
+  where
+    same : (b c : Binding) → Some b ≡ Some c → b ≡ c
+    same b c e = cc
+
+    by_test : (t : Bool) (y : Name) (b : Binding) → cond t (Some (record { name = x; depth = env.depth; means = m })) (lookup env.names y) ≡ Some b → MeaningHas W b.means
+    by_test true y b e = subst (λ c. MeaningHas W c.means) (same (record { name = x; depth = env.depth; means = m }) b e) h
+    by_test false y b e = w.names y b e
+
 -- ## More tags, and more enums
 
 pub more_stand : (tags stood more : List Name) (env : Env) → ((x : Name) → is_among stood x ≡ true → is_among more x ≡ true) → IsWrittenFile tags stood env → IsWrittenFile tags more env
@@ -57,19 +67,8 @@ more_stand tags stood more env f w = record {
   has = scope_map (Written env.enums tags stood) (Written env.enums tags more) (λ t h. written_later env.enums env.enums tags stood more (λ x _ n. n) f t h) env w.has;
 }
 
-other_among : (y x : Name) (ys : List Name) → bytes_eq y x ≡ false → is_among ys x ≡ false → is_among (y ∷ ys) x ≡ false
-other_among y x ys q e = ap (λ t. is_some (if t then Some 0 else option_map suc (number_among ys x))) q ∙ none (number_among ys x) e
-  where
-    none : (o : Option ℕ) → is_some o ≡ false → is_some (option_map suc o) ≡ false
-    none None k = refl
-    none (Some j) k = k
-
 enum_apart : (y : Name) (enums stood : List Name) → is_among stood y ≡ false → (x : Name) → is_among stood x ≡ true → is_among enums x ≡ false → is_among (y ∷ enums) x ≡ false
-enum_apart y enums stood n x s e = other_among y x enums (by_test (bytes_eq y x) refl) e
-  where
-    by_test : (t : Bool) → bytes_eq y x ≡ t → t ≡ false
-    by_test true q = absurd (true≢false (sym s ∙ (ap (is_among stood) (sym ((bytes_eq-Decides y x).0 q)) ∙ n)))
-    by_test false q = refl
+enum_apart y enums stood n x s e = among_past y x enums (other y x (λ q. true≢false (sym s ∙ (ap (is_among stood) (sym q) ∙ n)))) ∙ e
 
 enum_stands : (tags stood : List Name) (env : Env) (x : Tag) → ((y : Ident) → x ≡ tag y → is_among stood y.name ≡ false) → IsWrittenFile tags stood env → IsWrittenFile tags stood (behind_enum_tag env x)
 enum_stands tags stood env no_tag n w = w
@@ -83,15 +82,8 @@ module _ (tags stood : List Name) where
 
   -- ## Names
 
-  same_binding : (b c : Binding) → Some b ≡ Some c → b ≡ c
-  same_binding b c e = cc
-
   named_file : (env : Env) (x : Name) (m : Meaning) → File env → MeaningHas (Written env.enums tags stood) m → File (with_name env x m)
-  named_file env x m w h = record { plain = w.plain; tags_are = w.tags_are; has = record { names = λ y b e. by_test (bytes_eq x y) y b e; members = w.has.members } }
-    where
-      by_test : (t : Bool) (y : Name) (b : Binding) → cond t (Some (record { name = x; depth = env.depth; means = m })) (lookup env.names y) ≡ Some b → MeaningHas (Written env.enums tags stood) b.means
-      by_test true y b e = subst (λ (c : Binding). MeaningHas (Written env.enums tags stood) c.means) (same_binding (record { name = x; depth = env.depth; means = m }) b e) h
-      by_test false y b e = w.has.names y b e
+  named_file env x m w h = record { plain = w.plain; tags_are = w.tags_are; has = scope_named (Written env.enums tags stood) env x m w.has h }
 
   functions_file : (env : Env) (fs : List Name) → File env → File (record env { functions = fs })
   functions_file env fs w = record { plain = w.plain; tags_are = w.tags_are; has = record { names = w.has.names; members = w.has.members } }
@@ -130,14 +122,6 @@ module _ (tags stood : List Name) where
       by_kind true = function_file env w false at s d x h
       by_kind false = global_file env w (defines class m) b at s d x m h
 
-  part_enums : (env : Env) (b : Before) (at : ℕ) (class : Storage) (s : Spec) (d : Declarator) (m : MaybeInit) (o : Option Ident) → (behind_named_part env b at class s d m o).enums ≡ env.enums
-  part_enums env b at class s d m None = refl
-  part_enums env b at class s d m (Some x) = by_kind (declares_function d)
-    where
-      by_kind : (t : Bool) → (behind_declared env b at class s d m t x).enums ≡ env.enums
-      by_kind true = refl
-      by_kind false = refl
-
   known : (enums others : List Name) (xs : List Name) → AreKnownTags enums tags stood xs → AreKnownTags others tags stood xs
   known enums others xs h = record { numbered = h.numbered; stand = h.stand }
 
@@ -157,21 +141,17 @@ module _ (tags stood : List Name) where
   -- ## Structs
 
   abbrev StructHas : (enums : List Name) → Struct → Type 0
-  StructHas enums incomplete = Unit {0}
-  StructHas enums (unknown_struct f fs) = Unit {0}
   StructHas enums (defined_struct ms) = AllHave (Written enums tags stood) (map type_of_member ms)
+  StructHas enums s = Unit {0}
 
   set_entry : (P : Struct → Type 0) (xs : List Struct) (n k : ℕ) (v : Struct) → P v → P (unwrap_or (slice_get xs k) incomplete) → P (unwrap_or (slice_get (slice_set xs n v) k) incomplete)
-  set_entry P [] n k v h l = l
   set_entry P (x ∷ xs) zero zero v h l = h
-  set_entry P (x ∷ xs) zero (suc k) v h l = l
-  set_entry P (x ∷ xs) (suc n) zero v h l = l
   set_entry P (x ∷ xs) (suc n) (suc k) v h l = set_entry P xs n k v h l
+  set_entry P xs n k v h l = l
 
   struct_has : (enums : List Name) (s : Struct) → ((ms : List Member) → s ≡ defined_struct ms → AllHave (Written enums tags stood) (map type_of_member ms)) → StructHas enums s
-  struct_has enums incomplete h = tt
-  struct_has enums (unknown_struct f fs) h = tt
   struct_has enums (defined_struct ms) h = h ms refl
+  struct_has enums s h = tt
 
   struct_file : (env : Env) (x : Name) (s : Struct) → File env → StructHas env.enums s → File (with_struct env x s)
   struct_file env x s w h = record { plain = w.plain; tags_are = w.tags_are; has = record { names = w.has.names; members = λ k ms e. subst (StructHas env.enums) e (set_entry (StructHas env.enums) env.structs (tag_number env x) k s h (struct_has env.enums (struct_of env k) (w.has.members k))) } }
@@ -248,10 +228,6 @@ new_enum_apart env (tag x) ts =
     (λ q y e. subst (λ z. is_among env.tags z.name ≡ false) (same y e) (is_not (is_among env.tags x.name) (and_left apart within (and_right new (apart && within) q)))))
     (λ _ _ _ k. k)
   where
-    is_not : (t : Bool) → not t ≡ true → t ≡ false
-    is_not true e = absurd (true≢false (sym e))
-    is_not false e = refl
-
     same : (y : Ident) → tag x ≡ tag y → x ≡ y
     same y e = cc
 
@@ -280,75 +256,48 @@ form_file tags (function_item at class s d body) env b out w k e =
     by_name None v h = v
     by_name (Some x) v h = function_file tags (tags_of_item false (function_item at class s d body) ++ env.tags) env v true at s d x h
 
--- the tags that stand before aren't changed by the form
-parts_same : (ps : Parts) (env : Env) (b : Before) (at : ℕ) (class : Storage) (s : Spec) → (behind_file_parts env b at class s ps).tags ≡ env.tags
+-- the form changes neither the tags that stand before nor what is known of the whole unit
+abbrev pub kept : Env → List Name × Whole
+kept env = (env.tags, env.whole)
+
+parts_same : (ps : Parts) (env : Env) (b : Before) (at : ℕ) (class : Storage) (s : Spec) → kept (behind_file_parts env b at class s ps) ≡ kept env
 parts_same no_parts env b at class s = refl
 parts_same (more_parts d m ps) env b at class s = parts_same ps (behind_file_part env b at class s d m) (after_file_part env b at class s d m) at class s ∙ by_name (name_of d)
   where
-    by_kind : (x : Ident) (t : Bool) → (behind_declared env b at class s d m t x).tags ≡ env.tags
+    by_kind : (x : Ident) (t : Bool) → kept (behind_declared env b at class s d m t x) ≡ kept env
     by_kind x true = refl
     by_kind x false = refl
 
-    by_name : (o : Option Ident) → (behind_named_part env b at class s d m o).tags ≡ env.tags
+    by_name : (o : Option Ident) → kept (behind_named_part env b at class s d m o) ≡ kept env
     by_name None = refl
     by_name (Some x) = by_kind x (declares_function d)
 
-enumerators_same : (es : Enumerators) (env : Env) (before : Checked _) → (behind_enumerators env before es).tags ≡ env.tags
+enumerators_same : (es : Enumerators) (env : Env) (before : Checked _) → kept (behind_enumerators env before es) ≡ kept env
 enumerators_same no_enumerators env before = refl
 enumerators_same (more_enumerators x m es) env before = enumerators_same es (behind_enumerator env x (enumerator_value env before x m)) (one_more_than (enumerator_value env before x m))
 
-enum_same : (env : Env) (x : Tag) → (behind_enum_tag env x).tags ≡ env.tags
+enum_same : (env : Env) (x : Tag) → kept (behind_enum_tag env x) ≡ kept env
 enum_same env no_tag = refl
 enum_same env (tag x) = refl
 
-decl_same : (d : Decl) (env : Env) (b : Before) → (behind_file_decl env b d).tags ≡ env.tags
+decl_same : (d : Decl) (env : Env) (b : Before) → kept (behind_file_decl env b d) ≡ kept env
 decl_same (decl at class s ps) env b = parts_same ps env b at class s
 
-function_same : (env : Env) (at : ℕ) (s : Spec) (d : Declarator) (o : Option Ident) → (behind_function_named env at s d o).tags ≡ env.tags
+pub function_same : (env : Env) (at : ℕ) (s : Spec) (d : Declarator) (o : Option Ident) → kept (behind_function_named env at s d o) ≡ kept env
 function_same env at s d None = refl
 function_same env at s d (Some x) = refl
 
+form_same : (i : Item) (env : Env) (b : Before) → kept (behind_by_form env b i) ≡ kept env
+form_same (enum_item at x es) env b = enum_same (behind_enumerators env (fine _) es) x ∙ enumerators_same es env (fine _)
+form_same (decl_item at d) env b = decl_same d env b
+form_same (function_item at class s d body) env b = function_same env at s d (name_of d)
+form_same i env b = refl
+
 pub form_tags : (i : Item) (env : Env) (b : Before) → (behind_by_form env b i).tags ≡ env.tags
-form_tags (struct_item at x ms) env b = refl
-form_tags (enum_item at x es) env b = enum_same (behind_enumerators env (fine _) es) x ∙ enumerators_same es env (fine _)
-form_tags (tag_item at x) env b = refl
-form_tags (decl_item at d) env b = decl_same d env b
-form_tags (function_item at class s d body) env b = function_same env at s d (name_of d)
-
--- nor is what is known of the whole unit
-parts_whole : (ps : Parts) (env : Env) (b : Before) (at : ℕ) (class : Storage) (s : Spec) → (behind_file_parts env b at class s ps).whole ≡ env.whole
-parts_whole no_parts env b at class s = refl
-parts_whole (more_parts d m ps) env b at class s = parts_whole ps (behind_file_part env b at class s d m) (after_file_part env b at class s d m) at class s ∙ by_name (name_of d)
-  where
-    by_kind : (x : Ident) (t : Bool) → (behind_declared env b at class s d m t x).whole ≡ env.whole
-    by_kind x true = refl
-    by_kind x false = refl
-
-    by_name : (o : Option Ident) → (behind_named_part env b at class s d m o).whole ≡ env.whole
-    by_name None = refl
-    by_name (Some x) = by_kind x (declares_function d)
-
-enumerators_whole : (es : Enumerators) (env : Env) (before : Checked _) → (behind_enumerators env before es).whole ≡ env.whole
-enumerators_whole no_enumerators env before = refl
-enumerators_whole (more_enumerators x m es) env before = enumerators_whole es (behind_enumerator env x (enumerator_value env before x m)) (one_more_than (enumerator_value env before x m))
-
-enum_whole : (env : Env) (x : Tag) → (behind_enum_tag env x).whole ≡ env.whole
-enum_whole env no_tag = refl
-enum_whole env (tag x) = refl
-
-decl_whole : (d : Decl) (env : Env) (b : Before) → (behind_file_decl env b d).whole ≡ env.whole
-decl_whole (decl at class s ps) env b = parts_whole ps env b at class s
-
-function_whole : (env : Env) (at : ℕ) (s : Spec) (d : Declarator) (o : Option Ident) → (behind_function_named env at s d o).whole ≡ env.whole
-function_whole env at s d None = refl
-function_whole env at s d (Some x) = refl
+form_tags i env b = ap (λ k. k.0) (form_same i env b)
 
 pub form_whole : (i : Item) (env : Env) (b : Before) → (behind_by_form env b i).whole ≡ env.whole
-form_whole (struct_item at x ms) env b = refl
-form_whole (enum_item at x es) env b = enum_whole (behind_enumerators env (fine _) es) x ∙ enumerators_whole es env (fine _)
-form_whole (tag_item at x) env b = refl
-form_whole (decl_item at d) env b = decl_whole d env b
-form_whole (function_item at class s d body) env b = function_whole env at s d (name_of d)
+form_whole i env b = ap (λ k. k.1) (form_same i env b)
 
 -- behind an item that is fine
 pub item_file : (tags : List Name) (i : Item) (env : Env) (b : Before) (out : Output) → IsWrittenFile tags env.tags env → AreKnownTags env.enums tags (tags_of_item false i ++ env.tags) (tags_of_item false i) → item env b i ≡ fine out → IsWrittenFile tags (behind_item env b i).tags (behind_item env b i)

@@ -1,7 +1,7 @@
 -- The body of a function with its temporaries declared before it, beside the plain one.
 use Rattle.std.proofs.Common.{◌≡◌, ℕ, suc, ◌+◌, ◌*◌, ◌≤◌, true, List, [], ◌∷◌, ◌++◌, map, length, length-append, append_assoc, append-nil, nat_le, refl, ap, sym, subst, ◌∙◌, arith}
 use Rattle.std.proofs.lemmas.Bool.{leb-true, le-leb, false≢true}
-use Rattle.c_tree.specs.Tree.{CType, void, integer, pointer, array, struct, function, CTypes, list_of, Function, Program}
+use Rattle.c_tree.specs.Tree.{CType, integer, pointer, function, CTypes, list_of, Function, Program}
 use Rattle.c_tree.specs.Tree as typed
 use Rattle.c_tree.specs.Layout.{Structs, struct_cells, flat_with, flat_all_with, cells_of_all}
 use Rattle.c_syntax.specs.Tree.{Ident, BlockItems, Declarator}
@@ -58,9 +58,6 @@ module _ (p : Program) (sites : Sites) (tags : List Name) (e f : Env) (b : Befor
   temporaries = kept_of_block sites b.sites is
 
   -- the body with null calls, and with the declarations before it
-  abbrev pub inner_items : BlockItems
-  inner_items = marked_statements.items_of_block sites b.sites is
-
   abbrev pub all_items : BlockItems
   all_items = declared_before tags at (kept_of_block sites b.sites is) (marked_statements.items_of_block sites b.sites is)
 
@@ -177,12 +174,9 @@ cells_both structs (x ∷ xs) ys =
     omega (arith, one, two, rest)
 
 scalar_one : (layout : ℕ → List CType) (t : CType) → is_scalar t ≡ true → length (flat_with layout t) ≡ 1
-scalar_one layout void h = absurd (false≢true h)
 scalar_one layout (integer i) h = refl
 scalar_one layout (pointer t) h = refl
-scalar_one layout (array t n) h = absurd (false≢true h)
-scalar_one layout (struct s) h = absurd (false≢true h)
-scalar_one layout (function r ts) h = absurd (false≢true h)
+scalar_one layout t h = absurd (false≢true h)
 
 temporary_cells : (structs : Structs) (enums tags stood : List Name) (xs : List Temporary) → AreWrittenTemporaries enums tags stood xs → cells_of_all structs (types_of xs) ≡ length xs
 temporary_cells structs enums tags stood [] h = refl

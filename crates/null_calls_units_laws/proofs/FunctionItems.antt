@@ -1,8 +1,8 @@
 -- A definition of a function in the instrumented unit beside that in the plain one.
 use Rattle.std.proofs.Common.{◌≡◌, ℕ, suc, ◌+◌, ◌*◌, ◌≤◌, Bool, true, false, List, [], ◌∷◌, ◌++◌, map, length, Option, Some, None, refl, ap, sym, subst, ◌∙◌, arith}
-use Rattle.c_tree.specs.Tree.{CType, function, CTypes, no_types, more_types, list_of, Function, Program}
+use Rattle.c_tree.specs.Tree.{CType, function, CTypes, more_types, list_of, Function, Program}
 use Rattle.c_tree.specs.Tree as typed
-use Rattle.c_syntax.specs.Tree.{Ident, Storage, Spec, Declarator, Params, no_params, more_params, Stmt, BlockItems, Item, struct_item, enum_item, tag_item, decl_item, function_item}
+use Rattle.c_syntax.specs.Tree.{Ident, Storage, Spec, Declarator, Params, more_params, Stmt, BlockItems, Item, function_item}
 use Rattle.c_rules.specs.Checked.{fine, on, demand, met, parts_first}
 use Rattle.c_rules.specs.Names.{Name, is_among}
 use Rattle.c_rules.specs.Scopes.{Env, inside, layout_of, Before}
@@ -43,7 +43,9 @@ use Rattle.null_calls_units_laws.proofs.Temporaries.{all_free}
 use Rattle.null_calls_units_laws.proofs.FunctionBodies.{BodyGoes, body_goes, temporaries_few, right_laid, right_function, laid_right, function_instrumented, temporaries_count, variables_right}
 use Rattle.null_calls_units_laws.proofs.Numbers.{plain_numbers}
 use Rattle.null_calls_units_laws.proofs.Parameters.{declared_names, body_files}
-use Rattle.null_calls_units_laws.proofs.FunctionTags.{declared_stand, declared_aside, body_tags, is_in, among_front, among_itself, among_cases, among_later}
+use Rattle.null_calls_units_laws.proofs.FileWritten.{function_same}
+use Rattle.c_rules_laws.proofs.DistinctNames.{among_right as among_later}
+use Rattle.null_calls_units_laws.proofs.FunctionTags.{declared_stand, declared_aside, body_tags, is_in, among_front, among_itself, among_cases}
 use Rattle.null_calls_units_laws.proofs.Counted.{names_long}
 
 -- ## Scopes of bodies
@@ -53,17 +55,8 @@ parameter_functions env k None t = refl
 parameter_functions env k (Some x) t = refl
 
 pub parameters_functions : (ps : Params) (ts : CTypes) (env : Env) (k : ℕ) → (with_parameters env k ps ts).whole ≡ env.whole
-parameters_functions no_params ts env k = refl
-parameters_functions (more_params at s d ps) no_types env k = refl
 parameters_functions (more_params at s d ps) (more_types t ts) env k = parameters_functions ps ts (with_parameter env k (name_of d) t) (suc k) ∙ parameter_functions env k (name_of d) t
-
-named_tags : (e : Env) (at : ℕ) (s : Spec) (d : Declarator) (o : Option Ident) → (behind_function_named e at s d o).tags ≡ e.tags
-named_tags e at s d None = refl
-named_tags e at s d (Some x) = refl
-
-named_whole : (e : Env) (at : ℕ) (s : Spec) (d : Declarator) (o : Option Ident) → (behind_function_named e at s d o).whole ≡ e.whole
-named_whole e at s d None = refl
-named_whole e at s d (Some x) = refl
+parameters_functions ps ts env k = refl
 
 -- ## Definitions
 
@@ -217,17 +210,13 @@ definition_tags p enums tags more e b count at class s d body facts =
 -- each item with its tags
 pub item_tags : (p : Program) (tags : List Name) (e : Env) (b : Before) (i : Item) → FunctionFacts p tags e b i → TagsGo (tags_of_item false i ++ e.tags) i (units.item (sites_of p) tags b.sites i)
 item_tags p tags e b (function_item at class s d body) h = definition_tags p e.enums tags e.tags (body_env (behind_function_named e at s d (name_of d)) d h.1) b (count_params (parameters_of d)) at class s d body h.3
-item_tags p tags e b (struct_item at x ms) h = record { aside = refl; stand = among_front (tags_of_item false (struct_item at x ms)) e.tags (tags_of_item false (struct_item at x ms)) (among_itself (tags_of_item false (struct_item at x ms))) }
-item_tags p tags e b (enum_item at x es) h = record { aside = refl; stand = among_front (tags_of_item false (enum_item at x es)) e.tags (tags_of_item false (enum_item at x es)) (among_itself (tags_of_item false (enum_item at x es))) }
-item_tags p tags e b (tag_item at x) h = record { aside = refl; stand = among_front (tags_of_item false (tag_item at x)) e.tags (tags_of_item false (tag_item at x)) (among_itself (tags_of_item false (tag_item at x))) }
-item_tags p tags e b (decl_item at d) h = record { aside = refl; stand = among_front (tags_of_item false (decl_item at d)) e.tags (tags_of_item false (decl_item at d)) (among_itself (tags_of_item false (decl_item at d))) }
+item_tags p tags e b i h = record { aside = refl; stand = among_front (tags_of_item false i) e.tags (tags_of_item false i) (among_itself (tags_of_item false i)) }
 
 by_name : (p : Program) (enums tags stood : List Name) (e f : Env) → FilesBeside e f → HasFunctions p e.whole.functions → (b : Before) (n at : ℕ) (s : Spec) (d : Declarator) (body : Stmt) (k : Bool) (o : Option Ident) (out : Output)
     → declares_function d ≡ k → NamedFacts p enums tags stood e b at s d body o → n ≤ 3 * b.sites → b.sites ≤ 10000 → function_named e b at s d body k o ≡ fine out
     → (k ≡ true) × NamedGoes p e f b n at s d body (new_body (sites_of p) tags at b.sites body) o out
-by_name p enums tags stood e f w g b n at s d body false o out q h few low r = absurd (cc)
-by_name p enums tags stood e f w g b n at s d body true None out q h few low r = absurd (cc)
 by_name p enums tags stood e f w g b n at s d body true (Some x) out q h few low r = (refl, named_goes p enums tags stood e f w g b n at s d body x h.0 h.1 h.2 q few low h.3 out r)
+by_name p enums tags stood e f w g b n at s d body k o out q h few low r = absurd (cc)
 
 pub function_item_goes : DefinitionsGo
 function_item_goes p tags e f w g b n at class s d body out h few low r =
@@ -245,7 +234,7 @@ function_item_goes p tags e f w g b n at class s d body out h few low r =
       functions = goes.functions;
       statics = goes.statics;
       files = tags_files e1 f1 goes.files i j (λ x k. among_cases (is_among (tags_of_item false i ++ e1.tags) x ≡ true) (tags_of_item false j) f1.tags x k
-          (λ l. subst (λ ts. is_among (tags_of_item false i ++ ts) x ≡ true) (sym (named_tags e at s d (name_of d))) (is_in (tags_of_item false i ++ e.tags) (tags_of_item false j) stand x l))
+          (λ l. subst (λ ts. is_among (tags_of_item false i ++ ts) x ≡ true) (sym (ap (λ k. k.0) (function_same e at s d (name_of d)))) (is_in (tags_of_item false i ++ e.tags) (tags_of_item false j) stand x l))
           (λ l. among_later (tags_of_item false i) e1.tags x (files_tags e1 f1 goes.files x l)));
       after = goes.after;
       few = goes.few;

@@ -2,7 +2,7 @@
 use Rattle.std.proofs.Common.{◌≡◌, ℕ, zero, suc, ◌+◌, ◌-◌, ◌≤◌, Bool, true, false, List, [], ◌∷◌, ◌++◌, map, length, replicate, append_assoc, nat_le, refl, ap, ap₂, sym, subst, ◌∙◌, arith}
 use Rattle.std.proofs.lemmas.Bool.{leb-true}
 use Rattle.c_tree.specs.declared.value.IntType.TheVariants.{Char}
-use Rattle.c_tree.specs.Tree.{CType, void, integer, pointer, array, struct, function, Program}
+use Rattle.c_tree.specs.Tree.{CType, integer, pointer, array, Program}
 use Rattle.c_tree.specs.Layout.{Structs, flat, flat_all, repeat}
 use Rattle.c_shapes.specs.Mentions.{Mention}
 use Rattle.c_syntax.specs.Tree.{Expr, a_str, Init, one, list, MaybeInit, no_init, an_init}
@@ -20,14 +20,13 @@ use Rattle.null_calls_rules.specs.InstrumentedStatements.{kept_of_init, kept_of_
 use Rattle.null_calls_counts_laws.specs.Statements.{InitNamed, InitsNamed, MaybeInitNamed}
 use Rattle.null_calls_statements_laws.specs.Initialisers.{InitTabled, InitsTabled, MaybeInitTabled}
 use Rattle.c_rules_laws.proofs.Holding.{Holds, holds_map, on_holds, both_hold, demand_holds, behind_demand, after_part}
-use Rattle.null_calls_units_laws.specs.CallsIn.{calls_in, calls_in_inits}
+use Rattle.null_calls_units_laws.specs.CallsIn.{calls_in, calls_in_inits, all_calls}
 use Rattle.null_calls_units_laws.specs.AbstractCasts.{InitNamesNoType, InitsNameNoType, MaybeInitNamesNoType}
 use Rattle.null_calls_units_laws.specs.Scopes.{IsWrittenScope, AreTemporaries}
 use Rattle.null_calls_units_laws.proofs.Kept.{none_kept, good_both, kept_good}
 use Rattle.null_calls_units_laws.proofs.Tables.{Table as CallTable, InTable, in_first, in_rest}
 use Rattle.null_calls_units_laws.proofs.Expressions.{Tells, Passes, T, value_passes}
 use Rattle.c_rules_laws.proofs.GatheredOfTypedExpressions.{Gathers, AllGather, as_if_gathered}
-use Rattle.null_calls_units_laws.specs.CallsIn.{all_calls}
 
 -- ## Cells
 
@@ -51,12 +50,8 @@ zeros_silent [] = refl
 zeros_silent (t ∷ ts) = ([], [], one_zero t, zeros_silent ts, refl)
   where
     one_zero : (t : CType) → Gathers all_calls [] (typed_zero t)
-    one_zero void = (refl, λ _. refl)
     one_zero (integer i) = (refl, λ _. refl)
-    one_zero (pointer t) = (refl, λ _. refl)
-    one_zero (array t n) = (refl, λ _. refl)
-    one_zero (struct s) = (refl, λ _. refl)
-    one_zero (function t ts) = (refl, λ _. refl)
+    one_zero t = (refl, λ _. refl)
 
 slots_silent : (structs : Structs) (s : Slots) → AllGather all_calls [] (zeros structs s)
 slots_silent structs (copies n t) = zeros_silent (repeat n (flat structs t))
@@ -119,26 +114,23 @@ module _ (p : Program) (enums tags stood : List Name) where
 
   mutual
     initialised_passes : (i : Init) (env : Env) → Scope env → (b : Before) (t : CType) → InitNamesNoType i → Holds (CellsTell (InitPasses env b t i)) (initialised env b false t i)
-    initialised_passes (one at x) env w b void l = tt
     initialised_passes (one at x) env w b (integer i) l = scalar_passes env w b at (integer i) x (value_passes p enums tags stood x env w b l)
     initialised_passes (one at x) env w b (pointer t) l = scalar_passes env w b at (pointer t) x (value_passes p enums tags stood x env w b l)
     initialised_passes (one at x) env w b (array t n) l = after_part (CellsTell (InitPasses env b (array t n) (one at x))) (text_fits at (text_of x)) (λ _. array_cells at t n (text_of x)) (λ _. array_passes env b at t n x)
-    initialised_passes (one at x) env w b (struct s) l = tt
-    initialised_passes (one at x) env w b (function t ts) l = tt
     initialised_passes (list at is) env w b t l = list_passes (InitPasses env b t (list at is)) (takes_list t) at (capacity (slots env t)) (count_inits is) (in_turn env b false (slots env t) is) (in_turn_passes is env w b (slots env t) l)
+    initialised_passes (one at x) env w b t l = tt
 
     in_turn_passes : (is : syntax.Inits) (env : Env) → Scope env → (b : Before) (s : Slots) → InitsNameNoType is → Holds (λ gs. count_inits is ≤ capacity s → CellsTell (InitsPass env b s is) gs) (in_turn env b false s is)
     in_turn_passes syntax.no_inits env w b s l = λ _. ([], slots_silent (layout_of env) s, λ _. (tt, tt, none_kept enums tags stood))
-    in_turn_passes (syntax.more_inits i is) env w b (copies zero t) l = λ n. absurd (omega (arith, n))
     in_turn_passes (syntax.more_inits i is) env w b (copies (suc n) t) l =
         both_hold (CellsTell (InitPasses env b t i)) (λ hs. count_inits is ≤ n → CellsTell (InitsPass env (after_init env b t i) (copies n t) is) hs) (λ gs. count_inits (syntax.more_inits i is) ≤ suc n → CellsTell (InitsPass env b (copies (suc n) t) (syntax.more_inits i is)) gs)
         (initialised env b false t i) (in_turn env (after_init env b t i) false (copies n t) is) (λ gs hs. fine (gs ++ hs)) (initialised_passes i env w b t l.0) (in_turn_passes is env w (after_init env b t i) (copies n t) l.1)
         (λ gs hs x y m. init_both (InitPasses env b t i) (InitsPass env (after_init env b t i) (copies n t) is) (InitsPass env b (copies (suc n) t) (syntax.more_inits i is)) gs hs (λ u v. ((u.0, v.0), (u.1, v.1), good_both enums tags stood (kept_of_init (sites_of p) b.sites i) (kept_of_inits (sites_of p) (b.sites + calls_of_init i) is) u.2 v.2)) x (y (omega (arith, m))))
-    in_turn_passes (syntax.more_inits i is) env w b (each []) l = λ n. absurd (omega (arith, n))
     in_turn_passes (syntax.more_inits i is) env w b (each (t ∷ ts)) l =
         both_hold (CellsTell (InitPasses env b t i)) (λ hs. count_inits is ≤ length ts → CellsTell (InitsPass env (after_init env b t i) (each ts) is) hs) (λ gs. count_inits (syntax.more_inits i is) ≤ suc (length ts) → CellsTell (InitsPass env b (each (t ∷ ts)) (syntax.more_inits i is)) gs)
         (initialised env b false t i) (in_turn env (after_init env b t i) false (each ts) is) (λ gs hs. fine (gs ++ hs)) (initialised_passes i env w b t l.0) (in_turn_passes is env w (after_init env b t i) (each ts) l.1)
         (λ gs hs x y m. init_both (InitPasses env b t i) (InitsPass env (after_init env b t i) (each ts) is) (InitsPass env b (each (t ∷ ts)) (syntax.more_inits i is)) gs hs (λ u v. ((u.0, v.0), (u.1, v.1), good_both enums tags stood (kept_of_init (sites_of p) b.sites i) (kept_of_inits (sites_of p) (b.sites + calls_of_init i) is) u.2 v.2)) x (y (omega (arith, m))))
+    in_turn_passes (syntax.more_inits i is) env w b s l = λ n. absurd (omega (arith, n))
 
   pub local_passes : (m : MaybeInit) (env : Env) → Scope env → (b : Before) (t : CType) → MaybeInitNamesNoType m → Holds (CellsTell (MaybeInitPasses env b t m)) (initialised_local env b t m)
   local_passes no_init env w b t l = ([], refl, λ _. (tt, tt, none_kept enums tags stood))

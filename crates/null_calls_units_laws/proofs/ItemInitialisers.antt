@@ -1,5 +1,5 @@
 -- Initialisers in scopes of the two units that are beside each other, where they have no calls.
-use Rattle.std.proofs.Common.{◌≡◌, zero, suc, Bool, true, [], ◌∷◌, ◌++◌, refl, ap}
+use Rattle.std.proofs.Common.{◌≡◌, suc, Bool, true, ◌∷◌, ◌++◌, refl, ap}
 use Rattle.c_tree.specs.Tree.{CType}
 use Rattle.c_syntax.specs.Tree.{Init, one, list, MaybeInit, no_init, an_init}
 use Rattle.c_syntax.specs.Tree as syntax
@@ -28,10 +28,9 @@ mutual
 
   held_turn : (env : Env) (more : More) (s : Slots) (is : syntax.Inits) → held_in_turn (left env) s is ≡ held_in_turn (right env more) s is
   held_turn env more s syntax.no_inits = refl
-  held_turn env more (copies zero t) (syntax.more_inits i is) = refl
   held_turn env more (copies (suc n) t) (syntax.more_inits i is) = both_lists _ _ _ _ (held_init env more t i) (held_turn env more (copies n t) is)
-  held_turn env more (each []) (syntax.more_inits i is) = refl
   held_turn env more (each (t ∷ ts)) (syntax.more_inits i is) = both_lists _ _ _ _ (held_init env more t i) (held_turn env more (each ts) is)
+  held_turn env more s (syntax.more_inits i is) = refl
 
 held_maybe : (env : Env) (more : More) (t : CType) (m : MaybeInit) → held_by (left env) t m ≡ held_by (right env more) t m
 held_maybe env more t no_init = refl
@@ -54,14 +53,13 @@ mutual
 
   pub in_turn_leads : (e f : Env) → TypedAlike e f → (b : Before) (k : Bool) (s : Slots) (is : syntax.Inits) → Leads (in_turn e b k s is) (in_turn f b k s is)
   in_turn_leads e f (beside env more p q) b k s syntax.no_inits = same_leads (fine (zeros (layout_of (left env)) s))
-  in_turn_leads e f (beside env more p q) b k (copies zero t) (syntax.more_inits i is) = (refl, tt)
   in_turn_leads e f (beside env more p q) b k (copies (suc n) t) (syntax.more_inits i is) =
       both_leads (initialised (left env) b k t i) (initialised (right env more) b k t i) (in_turn (left env) (after_init (left env) b t i) k (copies n t) is) (in_turn (right env more) (after_init (right env more) b t i) k (copies n t) is) (λ gs hs. fine (gs ++ hs)) (λ gs hs. fine (gs ++ hs))
       (initialised_leads _ _ (beside env more p q) b k t i) (λ _ _. moved (Unit {0}) (in_turn (left env) (after_init (left env) b t i) k (copies n t) is) (λ y. in_turn (right env more) y k (copies n t) is) (after_init (left env) b t i) (after_init (right env more) b t i) (after_same env more b t i) (in_turn_leads _ _ (beside env more p q) (after_init (left env) b t i) k (copies n t) is)) (λ gs hs. (refl, tt))
-  in_turn_leads e f (beside env more p q) b k (each []) (syntax.more_inits i is) = (refl, tt)
   in_turn_leads e f (beside env more p q) b k (each (t ∷ ts)) (syntax.more_inits i is) =
       both_leads (initialised (left env) b k t i) (initialised (right env more) b k t i) (in_turn (left env) (after_init (left env) b t i) k (each ts) is) (in_turn (right env more) (after_init (right env more) b t i) k (each ts) is) (λ gs hs. fine (gs ++ hs)) (λ gs hs. fine (gs ++ hs))
       (initialised_leads _ _ (beside env more p q) b k t i) (λ _ _. moved (Unit {0}) (in_turn (left env) (after_init (left env) b t i) k (each ts) is) (λ y. in_turn (right env more) y k (each ts) is) (after_init (left env) b t i) (after_init (right env more) b t i) (after_same env more b t i) (in_turn_leads _ _ (beside env more p q) (after_init (left env) b t i) k (each ts) is)) (λ gs hs. (refl, tt))
+  in_turn_leads e f (beside env more p q) b k s (syntax.more_inits i is) = (refl, tt)
 
 pub static_init_leads : (e f : Env) → TypedAlike e f → (b : Before) (t : CType) (m : MaybeInit) → Leads (initialised_static e b t m) (initialised_static f b t m)
 static_init_leads e f (beside env more p q) b t no_init = same_leads (initialised_static (left env) b t no_init)

@@ -1,6 +1,5 @@
 -- What stands at file scope, functions aside, gives the same in both units.
 use Rattle.std.proofs.Common.{◌≡◌, ℕ, ◌+◌, ℤ, pos, Bool, true, false, not, ◌&&◌, List, [], ◌∷◌, ◌++◌, Option, Some, None, refl, ap, sym, subst, ◌∙◌, arith, true≢false}
-use Rattle.std.specs.Prelude.{bytes_eq}
 use Rattle.dm_base.specs.declared.mode.Mode.TheVariants.{Plain}
 use Rattle.c_tree.specs.Tree.{CType}
 use Rattle.c_syntax.specs.Tree.{Ident, Storage, Spec, Declarator, MaybeInit, Parts, no_parts, more_parts, Decl, decl, Expr, Maybe, absent, there}
@@ -8,7 +7,7 @@ use Rattle.c_syntax.specs.Tree.{Declarators, no_declarators, more_declarators, M
 use Rattle.c_syntax.specs.Tree.{Tag, no_tag, tag, Item, struct_item, enum_item, tag_item, decl_item, function_item}
 use Rattle.c_rules.specs.Checked.{Checked, fine, faulty, on, gives, demand, and_also, met}
 use Rattle.c_rules.specs.Codes.{C2, C11, C12}
-use Rattle.c_rules.specs.Names.{Name, number_among, is_among, is_reserved, given_names, may_be_declared}
+use Rattle.c_rules.specs.Names.{Name, is_among, is_reserved, given_names, may_be_declared}
 use Rattle.c_rules.specs.Scopes.{Env, a_static, an_enumerator, evaluated, folded, in_context, Struct, Before, nothing_before, struct_of, tag_number, declared_here, with_struct}
 use Rattle.c_rules.specs.Counts.{place_of, past, string_cells}
 use Rattle.c_rules.specs.Tags.{tags_of_enumerators, tags_of_item}
@@ -28,9 +27,10 @@ use Rattle.null_calls_units_laws.specs.OtherItems.{IsOther, OtherItemsGo}
 use Rattle.null_calls_units_laws.specs.FileScopes.{HasNullCalls, FilesBeside, files_beside, at_site}
 use Rattle.null_calls_units_laws.proofs.FileNames.{scopes_of, named_files, here_same, function_declared_leads, function_files}
 use Rattle.null_calls_units_laws.proofs.ItemInitialisers.{both_to, weaken, always, moved, held_same, static_init_leads}
-use Rattle.null_calls_units_laws.proofs.Silent.{static_silent, static_alone}
+use Rattle.null_calls_units_laws.proofs.Silent.{static_silent, static_alone, global_silent}
 use Rattle.c_rules.proofs.ModeItems.{one_more_leads, global_fine}
-use Rattle.null_calls_units_laws.proofs.FunctionTags.{among_by}
+use Rattle.c_rules_laws.proofs.DistinctNames.{among_left, among_right}
+use Rattle.null_calls_units_laws.proofs.FunctionTags.{among_cases}
 
 -- ## Structs
 
@@ -75,10 +75,9 @@ tag_declaration_leads e f (files_beside env more p q l) x = and_also_leads _ _ _
 -- ## Enums
 
 not_both : (a b c d : Bool) → (c ≡ true → b ≡ true) → (not a && (not b && d)) ≡ true → (not a && (not c && d)) ≡ true
-not_both true b c d h e = e
 not_both false true c d h e = absurd (true≢false (sym e))
 not_both false false true d h e = absurd (true≢false (sym (h refl)))
-not_both false false false d h e = e
+not_both a b c d h e = e
 
 new_enum_leads : (e f : Env) → FilesBeside e f → (t : Tag) (ts : List Name) → Leads (new_enum e t ts) (new_enum f t ts)
 new_enum_leads e f (files_beside env more p q l) no_tag ts = (refl, tt)
@@ -187,15 +186,6 @@ global_leads e f (files_beside env more p q l) true b n at s c x m =
     on_leads r z (definition_of (within_global (left env) true x r) b m) (definition_of (within_global (right env more) true x z) (at_site b n) m) h
     (λ o g. static_leads (within_global (left env) true x r) (within_global (right env more) true x z) (seen_files env more p q l true x r z o h g (global_plain env true b at s c x m o g)) b n m o)
 
--- what a definition says of its calls
-global_silent : (e f : Env) → FilesBeside e f → (b : Before) (at : ℕ) (s : Spec) (d : Declarator) (x : Ident) (m : MaybeInit) (c : Output) → global e true b x m (global_declared e true b at s d x m) ≡ fine c → calls_of_maybe_init m ≡ 0
-global_silent e f w b at s d x m c g =
-    let r : Checked Object = global_declared e true b at s d x m in
-    let k = on_fine r (definition_of (within_global e true x r) b m) c g in
-    let inner : Env = within_global e true x r in
-    let j = on_fine (initialised_static inner (after_object inner b k.0.whole) k.0.whole m) (λ gs. fine (static_of k.0 gs)) c k.2 in
-    held (λ _. calls_of_maybe_init m ≡ 0) (initialised_static inner (after_object inner b k.0.whole) k.0.whole m) j.0 (static_silent m inner (files_run e f w) (after_object inner b k.0.whole) k.0.whole) j.1
-
 -- What stands behind a part, and how much before what follows it: as many calls as before the part, on both sides.
 abbrev FileFacts : Env → Env → (start n : ℕ) → Before → Before → Type 0
 FileFacts e f start n b c = FilesBeside e f × (c ≡ at_site b n) × (b.sites ≡ start)
@@ -225,7 +215,7 @@ object_after e f w b n at s d m x false c g = (refl, refl)
 object_after e f w b n at s d m x true c g =
     let k = global_fine e true b x m (global_declared e true b at s d x m) c g in
     let o : object_declared e at s d x m ≡ fine k.0 = same_object e true b at s d x m k.0 k.1 in
-    after_fine e f w b n m (object_declared e at s d x m) (object_declared f at s d x m) k.0 (global_silent e f w b at s d x m c g) o (fine_leads _ _ k.0 (object_leads e f (scopes_of e f w) at s d x m) o)
+    after_fine e f w b n m (object_declared e at s d x m) (object_declared f at s d x m) k.0 (global_silent e (files_run e f w) b at s d x m c g) o (fine_leads _ _ k.0 (object_leads e f (scopes_of e f w) at s d x m) o)
 
 declared_part_leads : (e f : Env) → FilesBeside e f → (b : Before) (n at : ℕ) (class : Storage) (s : Spec) (d : Declarator) (m : MaybeInit) (x : Ident) (t : Bool)
     → LeadsTo (FileFacts (behind_declared e b at class s d m t x) (behind_declared f (at_site b n) at class s d m t x) b.sites n (after_declared e b at s d m (not t && defines class m) (Some x)) (after_declared f (at_site b n) at s d m (not t && defines class m) (Some x))) (declared_part e b at class s d m t x) (declared_part f (at_site b n) at class s d m t x)
@@ -263,8 +253,7 @@ decl_leads (decl at class s ps) e f w b n = parts_lead ps e f w b n at class s
 -- ## Items that are no functions
 
 pub more_among : (xs ys zs : List Name) (x : Name) → (is_among ys x ≡ true → is_among zs x ≡ true) → is_among (xs ++ ys) x ≡ true → is_among (xs ++ zs) x ≡ true
-more_among [] ys zs x h e = h e
-more_among (y ∷ xs) ys zs x h e = among_by (bytes_eq y x) (number_among (xs ++ ys) x) (number_among (xs ++ zs) x) (more_among xs ys zs x h) e
+more_among xs ys zs x h e = among_cases (is_among (xs ++ zs) x ≡ true) xs ys x e (among_left xs zs x) (λ k. among_right xs zs x (h k))
 
 -- with tags that stand in an item
 pub tags_files : (e f : Env) → FilesBeside e f → (i j : Item) → ((x : Name) → is_among (tags_of_item false j ++ f.tags) x ≡ true → is_among (tags_of_item false i ++ e.tags) x ≡ true) → FilesBeside (with_tags e i) (with_tags f j)

@@ -1,8 +1,8 @@
 -- The temporaries of an expression whose marked calls call something of a type that declarators make.
 use Rattle.std.proofs.Common.{◌≡◌, ◌≢◌, ◌⊎◌, inl, inr, ℕ, suc, ◌+◌, ◌≤◌, ◌<◌, length, length-append, arith, Bool, true, false, if◌then◌else◌, List, [], ◌∷◌, ◌++◌, Option, Some, None, append-nil, refl, ap, sym, subst, ◌∙◌, true≢false}
-use Rattle.c_tree.specs.Tree.{CType, void, integer, pointer, array, struct, function, CTypes, no_types, more_types}
-use Rattle.c_syntax.specs.Tree.{Expr, a_name, an_int, a_char, a_str, comma, sizeof_type, cast, call, member, postfix, prefix, unary, index, binary, assign, conditional, Exprs, no_exprs, more_exprs}
-use Rattle.c_syntax.specs.Tree.{pre_increment, pre_decrement, sizeof}
+use Rattle.std.proofs.lemmas.Bool.{cond_both}
+use Rattle.c_tree.specs.Tree.{CType, void, integer, pointer, CTypes, no_types, more_types}
+use Rattle.c_syntax.specs.Tree.{Expr, comma, cast, call, member, postfix, prefix, unary, index, binary, assign, conditional, Exprs, no_exprs, more_exprs, pre_increment, pre_decrement}
 use Rattle.c_rules.specs.Names.{Name}
 use Rattle.c_rules.specs.Types.{is_scalar, is_result, count}
 use Rattle.c_rules.specs.Counts.{calls, calls_of_all}
@@ -99,15 +99,9 @@ module _ (enums tags stood : List Name) where
   result_scalar wanted void h k = absurd (true≢false (sym k))
   result_scalar wanted (integer i) h k = refl
   result_scalar wanted (pointer t) h k = refl
-  result_scalar wanted (array t n) h k = absurd (true≢false (sym h))
-  result_scalar wanted (struct s) h k = absurd (true≢false (sym h))
-  result_scalar wanted (function t ts) h k = absurd (true≢false (sym h))
+  result_scalar wanted t h k = absurd (true≢false (sym h))
 
   -- a temporary of a call alone
-  record IsAt (site i : ℕ) (x : Temporary) : Type 0 where
-    pub small : i < limit
-    pub called : (x.name ≡ designator_name site) ⊎ ((x.name ≡ argument_name site i) ⊎ (x.name ≡ result_name site))
-
   at_site : (site i : ℕ) (x : Temporary) → site < limit → i < limit → (x.name ≡ designator_name site) ⊎ ((x.name ≡ argument_name site i) ⊎ (x.name ≡ result_name site)) → IsOfSite site 1 x
   at_site site i x l m h = record { site = site; argument = i; least = omega arith; most = omega arith; low = l; few = m; named = h }
 
@@ -180,24 +174,19 @@ module _ (enums tags stood : List Name) where
     abbrev mutual
       -- what is called at each site of an expression
       pub CallsGood : (before : ℕ) → Expr → Type 0
-      CallsGood b (a_name at x) = Unit {0}
-      CallsGood b (an_int at n u) = Unit {0}
-      CallsGood b (a_char at c) = Unit {0}
-      CallsGood b (a_str at w) = Unit {0}
       CallsGood b (comma at es) = AllGood b es
-      CallsGood b (sizeof_type at t) = Unit {0}
       CallsGood b (cast at t e) = CallsGood b e
       CallsGood b (call at d es) = CalledGood (b + calls d) (sites (b + calls d)) × CallsGood b d × AllGood (suc (b + calls d)) es
       CallsGood b (member at how e x) = CallsGood b e
       CallsGood b (postfix at op e) = CallsGood b e
       CallsGood b (prefix at pre_increment e) = CallsGood b e
       CallsGood b (prefix at pre_decrement e) = CallsGood b e
-      CallsGood b (prefix at sizeof e) = Unit {0}
       CallsGood b (unary at op e) = CallsGood b e
       CallsGood b (index at e f) = CallsGood b e × CallsGood (b + calls e) f
       CallsGood b (binary at op e f) = CallsGood b e × CallsGood (b + calls e) f
       CallsGood b (assign at op e f) = CallsGood b e × CallsGood (b + calls e) f
       CallsGood b (conditional at c e f) = CallsGood b c × CallsGood (b + calls c) e × CallsGood (b + calls c + calls e) f
+      CallsGood b x = Unit {0}
 
       pub AllGood : (before : ℕ) → Exprs → Type 0
       AllGood b no_exprs = Unit {0}
@@ -208,38 +197,15 @@ module _ (enums tags stood : List Name) where
     Operand b (unary at op e) = Good b (calls e) (kept sites b false e)
     Operand b e = Unit {0}
 
-    by_choice : (lo n : ℕ) (c : Bool) (xs ys : List Temporary) → Good lo n xs → Good lo n ys → Good lo n (if c then xs else ys)
-    by_choice lo n true xs ys h k = h
-    by_choice lo n false xs ys h k = k
-
     unary_good : (at op : ℕ) (e : Expr) (b : ℕ) (wanted : Bool) → Good b (calls e) (kept sites b true e) → Operand b e → Good b (calls e) (kept sites b wanted (unary at op e))
     unary_good at op e b true h k = h
-    unary_good at op (a_name p x) b false h k = h
-    unary_good at op (an_int p n u) b false h k = h
-    unary_good at op (a_char p c) b false h k = h
-    unary_good at op (a_str p w) b false h k = h
-    unary_good at op (comma p es) b false h k = h
-    unary_good at op (sizeof_type p t) b false h k = h
-    unary_good at op (cast p t e) b false h k = h
-    unary_good at op (call p d es) b false h k = h
-    unary_good at op (member p how e x) b false h k = h
-    unary_good at op (postfix p o e) b false h k = h
-    unary_good at op (prefix p o e) b false h k = h
-    unary_good at op (unary p o e) b false h k = by_choice b (calls e) (is_address_of_indirection op o) (kept sites b false e) (kept sites b true e) k h
-    unary_good at op (index p e f) b false h k = h
-    unary_good at op (binary p o e f) b false h k = h
-    unary_good at op (assign p o e f) b false h k = h
-    unary_good at op (conditional p c e f) b false h k = h
+    unary_good at op (unary p o e) b false h k = cond_both (is_address_of_indirection op o) (kept sites b false e) (kept sites b true e) (Good b (calls e)) (λ _. k) (λ _. h)
+    unary_good at op e b false h k = h
 
     mutual
       pub kept_good : (x : Expr) (b : ℕ) (wanted : Bool) → CallsGood b x → Good b (calls x) (kept sites b wanted x)
-      kept_good (a_name at x) b wanted h = none_kept
-      kept_good (an_int at n u) b wanted h = none_kept
-      kept_good (a_char at c) b wanted h = none_kept
-      kept_good (a_str at w) b wanted h = none_kept
       kept_good (comma at es) b wanted h = members_good es b wanted h
-      kept_good (sizeof_type at t) b wanted h = none_kept
-      kept_good (cast at t e) b wanted h = by_choice b (calls e) (is_void_type t) (kept sites b false e) (kept sites b true e) (kept_good e b false h) (kept_good e b true h)
+      kept_good (cast at t e) b wanted h = cond_both (is_void_type t) (kept sites b false e) (kept sites b true e) (Good b (calls e)) (λ _. kept_good e b false h) (λ _. kept_good e b true h)
       kept_good (call at d es) b wanted h =
           let s : ℕ = b + calls d in
           let one : s + 1 ≡ suc s = omega arith in
@@ -251,7 +217,6 @@ module _ (enums tags stood : List Name) where
       kept_good (postfix at op e) b wanted h = kept_good e b true h
       kept_good (prefix at pre_increment e) b wanted h = kept_good e b true h
       kept_good (prefix at pre_decrement e) b wanted h = kept_good e b true h
-      kept_good (prefix at sizeof e) b wanted h = none_kept
       kept_good (unary at op e) b wanted h = unary_good at op e b wanted (kept_good e b true h) (operand_good e b h)
       kept_good (index at e f) b wanted h = good_both (kept sites b true e) (kept sites (b + calls e) true f) (kept_good e b true h.0) (kept_good f (b + calls e) true h.1)
       kept_good (binary at op e f) b wanted h = good_both (kept sites b true e) (kept sites (b + calls e) true f) (kept_good e b true h.0) (kept_good f (b + calls e) true h.1)
@@ -259,24 +224,11 @@ module _ (enums tags stood : List Name) where
       kept_good (conditional at c e f) b wanted h =
           good_both (kept sites b true c) (kept sites (b + calls c) true e ++ kept sites (b + calls c + calls e) true f) (kept_good c b true h.0)
           (good_both (kept sites (b + calls c) true e) (kept sites (b + calls c + calls e) true f) (kept_good e (b + calls c) true h.1) (kept_good f (b + calls c + calls e) true h.2))
+      kept_good x b wanted h = none_kept
 
       operand_good : (x : Expr) (b : ℕ) → CallsGood b x → Operand b x
-      operand_good (a_name at x) b h = tt
-      operand_good (an_int at n u) b h = tt
-      operand_good (a_char at c) b h = tt
-      operand_good (a_str at w) b h = tt
-      operand_good (comma at es) b h = tt
-      operand_good (sizeof_type at t) b h = tt
-      operand_good (cast at t e) b h = tt
-      operand_good (call at d es) b h = tt
-      operand_good (member at how e x) b h = tt
-      operand_good (postfix at op e) b h = tt
-      operand_good (prefix at op e) b h = tt
       operand_good (unary at op e) b h = kept_good e b false h
-      operand_good (index at e f) b h = tt
-      operand_good (binary at op e f) b h = tt
-      operand_good (assign at op e f) b h = tt
-      operand_good (conditional at c e f) b h = tt
+      operand_good x b h = tt
 
       arguments_good : (es : Exprs) (b : ℕ) → AllGood b es → Good b (calls_of_all es) (kept_of_arguments sites b es)
       arguments_good no_exprs b h = none_kept

@@ -1,21 +1,17 @@
 -- Names of temporaries are read back, and may be declared.
 use Rattle.std.proofs.Common.{◌≡◌, ℕ, zero, suc, ◌+◌, ◌-◌, ◌*◌, ◌/◌, ◌%◌, ◌<◌, nat_lt, nat_le, nat_eq, if◌then◌else◌, Bool, true, false, ◌&&◌, ◌||◌, [], ◌∷◌, ◌++◌, sym, ap, ◌∙◌, refl, arith}
-use Rattle.std.proofs.lemmas.Bool.{false≢true}
+use Rattle.std.proofs.lemmas.Bool.{false≢true, false_from_ne_true}
 use Rattle.std.proofs.lemmas.Bool.Decides.{nat_tests}
 use Rattle.sys_table.specs.Table.{table}
 use Rattle.c_rules.specs.Names.{Name, is_digit, are_digits, is_number, is_rest_of_pair, is_pair}
 use Rattle.null_calls_rules.specs.Temporaries.{digits_within, digits_of}
 use Rattle.null_calls_units_laws.specs.TemporaryNames.{NamesAreFree, NamesDiffer}
-use Rattle.c_shapes.proofs.Members.{and_left, and_right, below}
+use Rattle.c_shapes.proofs.Members.{and_both, and_left, and_right, below}
 
 -- ## Digits are digits
 
 digit : (d : ℕ) → d < 10 → is_digit (48 + d) ≡ true
-digit d h = both (nat_le 48 (48 + d)) (nat_le (48 + d) 57) (grind (arith, nat_tests)) (grind (arith, nat_tests))
-  where
-    both : (a b : Bool) → a ≡ true → b ≡ true → (a && b) ≡ true
-    both true b h k = k
-    both false b h k = absurd (false≢true h)
+digit d h = and_both (nat_le 48 (48 + d)) (nat_le (48 + d) 57) (grind (arith, nat_tests)) (grind (arith, nat_tests))
 
 one_more : (xs : Name) (d : ℕ) → are_digits xs ≡ true → is_digit d ≡ true → are_digits (xs ++ d ∷ []) ≡ true
 one_more [] d h k = ap (λ b. b && true) k
@@ -55,11 +51,7 @@ digits_number n = number (digits_of n) (digits_there n) (digits_are 10 n)
 
 -- a digit is no underscore
 no_underscore : (d : ℕ) → is_digit d ≡ true → nat_eq d 95 ≡ false
-no_underscore d h = let high = and_right (nat_le 48 d) (nat_le d 57) h in by (nat_eq d 95) refl high
-  where
-    by : (b : Bool) → nat_eq d 95 ≡ b → nat_le d 57 ≡ true → b ≡ false
-    by true e k = absurd (grind (arith, nat_tests))
-    by false e k = refl
+no_underscore d h = let high : nat_le d 57 ≡ true = and_right (nat_le 48 d) (nat_le d 57) h in false_from_ne_true (nat_eq d 95) (λ e. grind (arith, nat_tests))
 
 rest_of_pair : (xs ys : Name) → are_digits xs ≡ true → is_number ys ≡ true → is_rest_of_pair (xs ++ 95 ∷ ys) ≡ true
 rest_of_pair [] ys h k = k

@@ -1,7 +1,7 @@
 -- Names of functions and tags of a unit with null calls round its marked calls.
 use Rattle.std.proofs.Common.{◌≡◌, ℕ, suc, ◌+◌, Bool, true, false, if◌then◌else◌, List, [], ◌∷◌, ◌++◌, Option, Some, None, refl, ap, ap₂, sym, subst, ◌∙◌}
 use Rattle.std.specs.Prelude.{option_map}
-use Rattle.c_syntax.specs.Tree.{Ident, Spec, Declarator, Stmt, Item, struct_item, enum_item, tag_item, decl_item, function_item, Items, no_items, more_items}
+use Rattle.c_syntax.specs.Tree.{Ident, Spec, Declarator, Stmt, Item, struct_item, function_item, Items, no_items, more_items}
 use Rattle.c_rules.specs.Checked.{on}
 use Rattle.c_rules.specs.Names.{Name, number_among, is_among, is_reserved, with_new, each_once}
 use Rattle.c_rules.specs.Scopes.{Env, Before}
@@ -20,7 +20,8 @@ use Rattle.null_calls_units_laws.specs.Spelled.{AreAmong}
 use Rattle.null_calls_units_laws.proofs.FileNames.{other_name}
 use Rattle.c_rules_laws.proofs.Holding.{Holds, both_hold, Any, anything}
 use Rattle.null_calls_units_laws.proofs.Declared.{among_left, among_right, among_both}
-use Rattle.null_calls_units_laws.proofs.FunctionTags.{is_in, among_on, among_itself, among_front, among_later}
+use Rattle.c_rules_laws.proofs.DistinctNames.{among_right as among_later}
+use Rattle.null_calls_units_laws.proofs.FunctionTags.{is_in, among_on, among_itself, among_front}
 use Rattle.null_calls_units_laws.proofs.FunctionItems.{item_tags}
 use Rattle.null_calls_units_laws.proofs.FileWritten.{form_tags, form_whole}
 use Rattle.null_calls_units_laws.proofs.Aside.{IsPlain, always, function_plain}
@@ -72,27 +73,16 @@ tags_go p tags (more_items i is) e b facts S among here =
 
 -- ## Functions and objects
 
-item_functions : (sites : Sites) (tags : List Name) (b : ℕ) (i : Item) → functions_of_item (units.item sites tags b i) ≡ functions_of_item i
-item_functions sites tags b (struct_item at x ms) = refl
-item_functions sites tags b (enum_item at x es) = refl
-item_functions sites tags b (tag_item at x) = refl
-item_functions sites tags b (decl_item at d) = refl
-item_functions sites tags b (function_item at class s d body) = refl
+item_names : (sites : Sites) (tags : List Name) (b : ℕ) (i : Item) → (functions_of_item (units.item sites tags b i) ≡ functions_of_item i) × (objects_of_item (units.item sites tags b i) ≡ objects_of_item i)
+item_names sites tags b (struct_item at x ms) = (refl, refl)
+item_names sites tags b i = (refl, refl)
 
-pub functions_same : (sites : Sites) (tags : List Name) (is : Items) (b : ℕ) → functions_of (units.items sites tags b is) ≡ functions_of is
-functions_same sites tags no_items b = refl
-functions_same sites tags (more_items i is) b = ap₂ (λ xs ys. xs ++ ys) (item_functions sites tags b i) (functions_same sites tags is (b + calls_of_item i))
-
-item_objects : (sites : Sites) (tags : List Name) (b : ℕ) (i : Item) → objects_of_item (units.item sites tags b i) ≡ objects_of_item i
-item_objects sites tags b (struct_item at x ms) = refl
-item_objects sites tags b (enum_item at x es) = refl
-item_objects sites tags b (tag_item at x) = refl
-item_objects sites tags b (decl_item at d) = refl
-item_objects sites tags b (function_item at class s d body) = refl
-
-pub objects_same : (sites : Sites) (tags : List Name) (is : Items) (b : ℕ) → objects_of (units.items sites tags b is) ≡ objects_of is
-objects_same sites tags no_items b = refl
-objects_same sites tags (more_items i is) b = ap₂ (λ xs ys. xs ++ ys) (item_objects sites tags b i) (objects_same sites tags is (b + calls_of_item i))
+pub names_same : (sites : Sites) (tags : List Name) (is : Items) (b : ℕ) → (functions_of (units.items sites tags b is) ≡ functions_of is) × (objects_of (units.items sites tags b is) ≡ objects_of is)
+names_same sites tags no_items b = (refl, refl)
+names_same sites tags (more_items i is) b =
+    let first = item_names sites tags b i in
+    let rest = names_same sites tags is (b + calls_of_item i) in
+    (ap₂ (λ xs ys. xs ++ ys) first.0 rest.0, ap₂ (λ xs ys. xs ++ ys) first.1 rest.1)
 
 -- ## No function of the unit has a name that is reserved
 
@@ -105,17 +95,13 @@ plain_both [] ys h k = k
 plain_both (x ∷ xs) ys h k = (h.0, plain_both xs ys h.1 k)
 
 named_functions : (env : Env) → IsPlain env → (b : Before) (at : ℕ) (s : Spec) (d : Declarator) (body : Stmt) (k : Bool) (o : Option Ident) → Holds (λ _. AllPlain (name_or_empty o ∷ [])) (function_named env b at s d body k o)
-named_functions env e b at s d body false o = tt
-named_functions env e b at s d body true None = tt
 named_functions env e b at s d body true (Some x) =
     both_hold (λ _. is_reserved x.name ≡ false) Any (λ _. AllPlain (x.name ∷ [])) (function_declared env true at s d x) (on (type_declared env at s d) (defined_as (behind_defined env at s d x) b (place_or at d) d x (items_of_body body))) _ (function_plain env e true at s d x) (anything _) (λ _ _ h _. (h, tt))
+named_functions env e b at s d body k o = tt
 
 item_plain : (i : Item) (env : Env) → IsPlain env → (b : Before) → Holds (λ _. AllPlain (functions_of_item i)) (item env b i)
-item_plain (struct_item at x ms) env e b = always (AllPlain []) (item env b (struct_item at x ms)) tt
-item_plain (enum_item at x es) env e b = always (AllPlain []) (item env b (enum_item at x es)) tt
-item_plain (tag_item at x) env e b = always (AllPlain []) (item env b (tag_item at x)) tt
-item_plain (decl_item at d) env e b = always (AllPlain []) (item env b (decl_item at d)) tt
 item_plain (function_item at class s d body) env e b = named_functions env e b at s d body (declares_function d) (name_of d)
+item_plain i env e b = always (AllPlain []) (item env b i) tt
 
 pub functions_plain : (is : Items) (env : Env) → IsPlain env → (b : Before) → Holds (λ _. AllPlain (functions_of is)) (items env b is)
 functions_plain no_items env e b = tt

@@ -3,7 +3,6 @@ use Rattle.std.proofs.Common.{◌≡◌, ℕ, suc, true, Option, Some, None, ref
 use Rattle.c_tree.specs.Tree.{CType, CTypes}
 use Rattle.c_tree.specs.Tree as typed
 use Rattle.c_syntax.specs.Tree.{Ident, Spec, Declarator, Params, no_params, more_params}
-use Rattle.c_syntax.specs.Tree as syntax
 use Rattle.c_rules.specs.Checked.{Checked, fine, on}
 use Rattle.c_rules.specs.Scopes.{Env, a_local, inside}
 use Rattle.c_rules.specs.Declarators.{name_of, place_or, type_of_spec, parameter_of, with_name_demands, behind_parameter}
@@ -15,9 +14,8 @@ use Rattle.c_rules_laws.proofs.Names.{left, right}
 use Rattle.c_rules_laws.proofs.Parts.{behind_beside, type_declared_leads}
 use Rattle.null_calls_units_laws.specs.FileScopes.{HasNullCalls, FilesBeside, files_beside}
 use Rattle.null_calls_units_laws.proofs.FileNames.{scopes_of, named_files}
-use Rattle.c_rules.proofs.ModeFunctions.{name_plain, PlainName}
+use Rattle.c_rules.proofs.ModeFunctions.{name_plain, PlainName, parameters_fine}
 pub use Rattle.c_rules.proofs.ModeFunctions.{PlainNames}
-use Rattle.c_rules.proofs.ModeFunctions.{parameters_fine}
 
 pub inside_files : (e f : Env) → FilesBeside e f → FilesBeside (inside e) (inside f)
 inside_files e f (files_beside env w p q l) = files_beside (inside env) w p q (record { runs = l.runs; nulls = l.nulls; fresh = l.fresh; functions = l.functions; tags = l.tags })
@@ -39,10 +37,9 @@ parameter_files env w p q l k None t u = files_beside env w p q l
 parameter_files env w p q l k (Some x) t u = named_files env w p q l x.name (fine (a_local k t t)) (fine (a_local k t t)) (a_local k t t) u refl refl
 
 parameters_files : (e f : Env) → FilesBeside e f → (k : ℕ) (ps : Params) (ts : CTypes) → PlainNames ps → FilesBeside (with_parameters e k ps ts) (with_parameters f k ps ts)
-parameters_files e f w k no_params ts u = w
-parameters_files e f w k (more_params at s d ps) typed.no_types u = w
 parameters_files e f (files_beside env w p q l) k (more_params at s d ps) (typed.more_types t ts) u =
     parameters_files (with_parameter (left env) k (name_of d) t) (with_parameter (right env w) k (name_of d) t) (parameter_files env w p q l k (name_of d) t u.0) (suc k) ps ts u.1
+parameters_files e f w k ps ts u = w
 
 pub declared_names : (e f : Env) → FilesBeside e f → (at : ℕ) (s : Spec) (d : Declarator) (u : CType) → declares_function d ≡ true → type_declared e at s d ≡ fine u → PlainNames (parameters_of d)
 declared_names e f w at s d u h g =

@@ -1,6 +1,6 @@
 -- The prototypes of the null calls, which begin a unit with null calls round its marked calls.
-use Rattle.std.proofs.Common.{◌≡◌, ℕ, suc, Bool, true, false, not, ◌&&◌, cond, if◌then◌else◌, List, [], ◌∷◌, Option, Some, None, refl, ap, ◌∙◌, true≢false}
-use Rattle.std.specs.Prelude.{is_some, option_map, bytes_eq, slice_get}
+use Rattle.std.proofs.Common.{◌≡◌, ℕ, Bool, true, false, not, ◌&&◌, ◌||◌, cond, List, [], ◌∷◌, Option, Some, None, refl, ap, sym, ◌∙◌, true≢false}
+use Rattle.std.specs.Prelude.{bytes_eq, slice_get}
 use Rattle.dm_base.specs.declared.mode.Mode.TheVariants.{Plain, Instrumented}
 use Rattle.c_tree.specs.Tree.{CType, void}
 use Rattle.c_tree.specs.Functions.{unsigned_int, of_one, sys_types}
@@ -15,6 +15,7 @@ use Rattle.c_rules.specs.Items.{Output, no_output, with_output, prototype, item,
 use Rattle.null_calls_rules.specs.Temporaries.{pre_name, post_name}
 use Rattle.null_calls_rules.specs.Instrumented.{null_prototype}
 use Rattle.c_rules_laws.specs.TypedAlike.{plain_scope, instrumented_scope}
+use Rattle.c_rules_laws.proofs.DistinctNames.{among_split}
 use Rattle.null_calls_statements_laws.proofs.Nodes.{both_gives}
 use Rattle.null_calls_units_laws.specs.FileScopes.{FilesBeside, files_beside}
 use Rattle.null_calls_units_laws.proofs.FileNames.{other_way}
@@ -106,12 +107,11 @@ strings_start w b rest =
     ∙ strings_behind w one_name (pre_name ∷ []) post_name 25 refl post_given post_typed refl refl b rest
 
 not_first : (y x : Name) (ys : List Name) → is_among (y ∷ ys) x ≡ false → (bytes_eq y x ≡ false) × (is_among ys x ≡ false)
-not_first y x ys e = by_test (bytes_eq y x) (number_among ys x) e
+not_first y x ys e = by_test (bytes_eq y x) (is_among ys x) (sym (among_split y x ys) ∙ e)
   where
-    by_test : (t : Bool) (o : Option ℕ) → is_some (if t then Some 0 else option_map suc o) ≡ false → (t ≡ false) × (is_some o ≡ false)
-    by_test true o h = absurd (true≢false h)
-    by_test false None h = (refl, refl)
-    by_test false (Some k) h = (refl, h)
+    by_test : (t u : Bool) → (t || u) ≡ false → (t ≡ false) × (u ≡ false)
+    by_test true u h = absurd (true≢false h)
+    by_test false u h = (refl, h)
 
 two_names : (x : Name) (a c : Binding) → bytes_eq a.name x ≡ false → bytes_eq c.name x ≡ false → lookup (a ∷ c ∷ []) x ≡ None
 two_names x a c h k = ap (λ t. cond t (Some a) (lookup (c ∷ []) x)) h ∙ ap (λ t. cond t (Some c) None) k

@@ -24,16 +24,11 @@ type_abstract (grammar.a_type {e = e} p r x n) = no_name e n
 
 mutual
   expr_abstract : {d : ℕ} {l : Level} {e : Expr} {i j : List Token} → Reads d l e i j → NamesNoType e
-  expr_abstract (grammar.is_name k) = tt
-  expr_abstract (grammar.is_int k) = tt
-  expr_abstract (grammar.is_char k) = tt
-  expr_abstract (grammar.are_strings p r) = tt
   expr_abstract (grammar.in_parentheses k r u) = expr_abstract r
   expr_abstract (grammar.with_suffixes p r x) = suffixes_abstract x (expr_abstract r)
   expr_abstract (grammar.no_prefix r) = expr_abstract r
   expr_abstract (grammar.a_prefix k r) = expr_abstract r
   expr_abstract (grammar.a_unary k u r) = expr_abstract r
-  expr_abstract (grammar.a_sizeof_type k o r c) = tt
   expr_abstract (grammar.no_cast r) = expr_abstract r
   expr_abstract (grammar.a_cast k r u x) = (type_abstract r, expr_abstract x)
   expr_abstract (grammar.no_chain r) = expr_abstract r
@@ -44,6 +39,7 @@ mutual
   expr_abstract (grammar.an_assignment p a k o b) = (expr_abstract a, expr_abstract b)
   expr_abstract (grammar.no_comma r) = expr_abstract r
   expr_abstract (grammar.a_comma p a k r) = (expr_abstract a, list_abstract r)
+  expr_abstract r = tt
 
   list_abstract : {d : ℕ} {es : Exprs} {i j : List Token} → ReadsList d es i j → NameNoTypes es
   list_abstract (grammar.last_expr r) = (expr_abstract r, tt)
@@ -98,7 +94,6 @@ first_abstract (stmts.first_declaration r p) = decl_abstract r
 mutual
   stmt_abstract : {d : ℕ} {x : Stmt} {i j : List Token} → ReadsStmt d x i j → StmtNamesNoType x
   stmt_abstract (stmts.a_block k r u) = items_abstract r
-  stmt_abstract (stmts.an_empty k) = tt
   stmt_abstract (stmts.an_evaluation p r k) = expr_abstract r
   stmt_abstract (stmts.an_if k o r c x) = (expr_abstract r, stmt_abstract x)
   stmt_abstract (stmts.an_if_else k o r c x q u y) = (expr_abstract r, stmt_abstract x, stmt_abstract y)
@@ -106,9 +101,8 @@ mutual
   stmt_abstract (stmts.a_do k x w o r c u) = (stmt_abstract x, expr_abstract r)
   stmt_abstract (stmts.a_for k o f r u q c x) = (first_abstract f, maybe_abstract r, maybe_abstract q, stmt_abstract x)
   stmt_abstract (stmts.a_switch k o r c l x y) = (expr_abstract r, groups_abstract x)
-  stmt_abstract (stmts.a_break k u) = tt
-  stmt_abstract (stmts.a_continue k u) = tt
   stmt_abstract (stmts.a_return k r u) = maybe_abstract r
+  stmt_abstract r = tt
 
   items_abstract : {d : ℕ} {x : BlockItems} {i j : List Token} → ReadsBlockItems d x i j → BlockNamesNoType x
   items_abstract stmts.no_block_item = tt
@@ -124,12 +118,9 @@ mutual
   groups_abstract (stmts.a_group ls r rest) = (stmts_abstract r, groups_abstract rest)
 
 item_abstract : {d : ℕ} {x : Item} {i j : List Token} → ReadsItem d x i j → ItemNamesNoType x
-item_abstract (stmts.a_struct k n l r a u) = tt
-item_abstract (stmts.an_enum k g l r a u) = tt
-item_abstract (stmts.an_enum_with_comma k g l r c a u) = tt
-item_abstract (stmts.a_tag_alone k n u) = tt
 item_abstract (stmts.an_item_declaration p r) = decl_abstract r
 item_abstract (stmts.a_definition p c r x n k items u) = items_abstract items
+item_abstract r = tt
 
 unit_abstract : {d : ℕ} {x : Items} {i j : List Token} → ReadsItems d x i j → UnitNamesNoType x
 unit_abstract (stmts.last_item r) = (item_abstract r, tt)

@@ -2,7 +2,7 @@
 use Rattle.std.proofs.Common.{◌≡◌, ℕ, Bool, true, false, not, List, [], None, ap, ◌∙◌, refl}
 use Rattle.std.proofs.lemmas.Bool.{false≢true}
 use Rattle.std.specs.Prelude.{nat_le, slice_index_or, unwrap_or}
-use Rattle.c_tree.specs.declared.value.IntType.TheVariants.{Char, Uchar, Int, Uint}
+use Rattle.c_tree.specs.declared.value.IntType.TheVariants.{Char}
 use Rattle.c_tree.specs.Tree.{CType, void, integer, array, struct, CTypes, no_types, more_types}
 use Rattle.c_tree.specs.Tree as typed
 use Rattle.c_syntax.specs.Tree.{Declarator, nothing, there, an_int}
@@ -24,47 +24,32 @@ is_bare (array t n) = false
 is_bare t = true
 
 pointee_bare : (t : CType) → is_pointee t ≡ true → is_bare t ≡ true
-pointee_bare void h = refl
-pointee_bare (integer i) h = refl
-pointee_bare (typed.pointer t) h = refl
 pointee_bare (array t n) h = absurd (false≢true h)
-pointee_bare (struct s) h = refl
-pointee_bare (typed.function r ts) h = refl
+pointee_bare t h = refl
 
 result_bare : (t : CType) → is_result t ≡ true → is_bare t ≡ true
-result_bare void h = refl
-result_bare (integer i) h = refl
-result_bare (typed.pointer t) h = refl
 result_bare (array t n) h = absurd (false≢true h)
 result_bare (struct s) h = absurd (false≢true h)
 result_bare (typed.function r ts) h = absurd (false≢true h)
+result_bare t h = refl
 
 pub scalar_bare : (t : CType) → is_scalar t ≡ true → is_bare t ≡ true
-scalar_bare void h = absurd (false≢true h)
 scalar_bare (integer i) h = refl
 scalar_bare (typed.pointer t) h = refl
-scalar_bare (array t n) h = absurd (false≢true h)
-scalar_bare (struct s) h = absurd (false≢true h)
-scalar_bare (typed.function r ts) h = absurd (false≢true h)
+scalar_bare t h = absurd (false≢true h)
 
 scalar_stays : (t : CType) → is_scalar t ≡ true → adjusted t ≡ t
-scalar_stays void h = absurd (false≢true h)
 scalar_stays (integer i) h = refl
 scalar_stays (typed.pointer t) h = refl
-scalar_stays (array t n) h = absurd (false≢true h)
-scalar_stays (struct s) h = absurd (false≢true h)
-scalar_stays (typed.function r ts) h = absurd (false≢true h)
+scalar_stays t h = absurd (false≢true h)
 
 within : (at : ℕ) (t : CType) → few_parts t ≡ true → within_parts at t ≡ fine t
 within at t h = ap (λ b. demand b C13 at t) h
 
 pointed : (at : ℕ) (t : CType) → is_pointee t ≡ true → few_parts (typed.pointer t) ≡ true → pointer_to at t ≡ fine (typed.pointer t)
 pointed at void h k = absurd (false≢true h)
-pointed at (integer i) h k = within at (typed.pointer (integer i)) k
-pointed at (typed.pointer t) h k = within at (typed.pointer (typed.pointer t)) k
 pointed at (array t n) h k = absurd (false≢true h)
-pointed at (struct s) h k = within at (typed.pointer (struct s)) k
-pointed at (typed.function r ts) h k = within at (typed.pointer (typed.function r ts)) k
+pointed at t h k = within at (typed.pointer t) k
 
 returned : (at : ℕ) (r : CType) (ts : CTypes) → is_result r ≡ true → nat_le (count ts) most_parameters ≡ true → few_parts (typed.function r ts) ≡ true → function_of at r ts ≡ fine (typed.function r ts)
 returned at r ts h k f =
@@ -76,20 +61,13 @@ passed at t h f =
     ap (λ u. on (demand (is_scalar u) C3 at met) (λ _. within_parts at u)) (scalar_stays t h) ∙ (ap (λ b. on (demand b C3 at met) (λ _. within_parts at t)) h ∙ within at t f)
 
 pub spelled_name : (tags : List Name) (at : ℕ) (t : CType) (d : Declarator) → name_of (declarator_of tags at t d) ≡ name_of d
-spelled_name tags at void d = refl
-spelled_name tags at (integer i) d = refl
-spelled_name tags at (struct s) d = refl
 spelled_name tags at (typed.pointer t) d = spelled_name tags at t (syntax.pointer at d)
 spelled_name tags at (array t n) d = spelled_name tags at t (syntax.array at d (there (an_int at n false)))
 spelled_name tags at (typed.function r ts) d = spelled_name tags at r (syntax.function at d (params_of tags at ts))
+spelled_name tags at t d = refl
 
 mutual
   pub spelled : (env : Env) (at : ℕ) (t : CType) (d : Declarator) → is_bare t ≡ true → IsSpelled env.enums env.whole.tags t → type_declared env at (spec_of env.whole.tags at t) (declarator_of env.whole.tags at t d) ≡ declared env d t
-  spelled env at void d b h = refl
-  spelled env at (integer Char) d b h = refl
-  spelled env at (integer Uchar) d b h = refl
-  spelled env at (integer Int) d b h = refl
-  spelled env at (integer Uint) d b h = refl
   spelled env at (struct s) d b h =
       ap (λ c. on (demand (not c) C2 at (struct (unwrap_or (number_among env.whole.tags (slice_index_or env.whole.tags s [])) 0))) (λ t. declared env d t)) h.1 ∙ ap (λ k. declared env d (struct k)) h.0
   spelled env at (typed.pointer t) d b h =
@@ -97,6 +75,8 @@ mutual
   spelled env at (array t n) d b h = absurd (false≢true b)
   spelled env at (typed.function r ts) d b h =
       spelled env at r (syntax.function at d (params_of env.whole.tags at ts)) (result_bare r h.0) h.3 ∙ (ap (λ c. on (on c (function_of at r)) (λ u. declared env d u)) (spelled_parameters (inside env) at 0 ts h.4) ∙ ap (λ c. on c (λ u. declared env d u)) (returned at r ts h.0 h.1 h.2))
+  spelled env at (integer Char) d b h = refl
+  spelled env at t d b h = refl
 
   spelled_parameters : (env : Env) (at k : ℕ) (ts : CTypes) → AreSpelled env.enums env.whole.tags ts → parameters env k (params_of env.whole.tags at ts) ≡ fine ts
   spelled_parameters env at k no_types h = refl

@@ -1,5 +1,6 @@
 -- The calls of declarations and statements that are fine stand at their sites.
-use Rattle.std.proofs.Common.{◌≡◌, ℕ, ◌+◌, Bool, true, false, cond, if◌then◌else◌, List, [], ◌∷◌, ◌++◌, append_assoc, Option, Some, None, refl, ap, sym, subst, ◌∙◌}
+use Rattle.std.proofs.Common.{◌≡◌, ℕ, ◌+◌, Bool, true, false, cond, List, [], ◌∷◌, ◌++◌, append_assoc, Option, Some, None, refl, ap, sym, subst, ◌∙◌}
+use Rattle.std.proofs.lemmas.Bool.{cond_both}
 use Rattle.std.specs.Prelude.{bytes_eq}
 use Rattle.c_tree.specs.declared.value.IntType.{IntType}
 use Rattle.c_tree.specs.Tree.{CType, Program}
@@ -13,11 +14,11 @@ use Rattle.c_syntax.specs.Tree.{BlockItems, no_block_items, block_decl, block_st
 use Rattle.c_rules.specs.Checked.{Checked, fine, faulty, on, both, beside, Met, gives}
 use Rattle.c_rules.specs.Names.{Name, is_added}
 use Rattle.c_rules.specs.Types.{is_scalar, is_void}
-use Rattle.c_rules.specs.Scopes.{Env, Binding, Meaning, a_static, a_local, a_function, an_enumerator, unknown, inside, with_name, lookup, meaning_or_unknown, Before}
+use Rattle.c_rules.specs.Scopes.{Env, Binding, Meaning, a_local, a_function, unknown, inside, with_name, lookup, meaning_or_unknown, Before}
 use Rattle.c_rules.specs.Counts.{calls, calls_of_maybe, after, after_maybe}
 use Rattle.c_rules.specs.Tags.{tags_of_spec, tags_of_expr, tags_of_maybe, tags_of_declarator, tags_of_maybe_init, tags_of_parts, tags_of_decl, tags_of_first, tags_of_labels, tags_of_stmt, tags_of_block, tags_of_stmts, tags_of_groups}
 use Rattle.c_rules.specs.TypedExpression.{TypedExpression, tree_of}
-use Rattle.c_rules.specs.Conversions.{Kind, an_integer, a_pointer, neither, kind_of, as_if_assigned, condition}
+use Rattle.c_rules.specs.Conversions.{Kind, an_integer, kind_of, as_if_assigned, condition}
 use Rattle.c_rules.specs.PrimaryExpressions.{function_number}
 use Rattle.c_rules.specs.Declarators.{name_of, new_name, place_or}
 use Rattle.c_rules.specs.Expressions.{value, type_declared}
@@ -37,27 +38,24 @@ use Rattle.null_calls_statements_laws.specs.Initialisers.{MaybeInitTabled}
 use Rattle.null_calls_statements_laws.specs.Declarations.{NamedTabled, PartsTabled, DeclTabled, FirstTabled}
 use Rattle.null_calls_statements_laws.specs.Statements.{MaybeTabled, StmtTabled, BlockTabled, StmtsTabled, GroupsTabled}
 use Rattle.c_rules_laws.proofs.Holding.{Holds, holds_map, on_holds, both_hold, all_three_hold, Any, anything, demand_holds, alone_holds}
-use Rattle.null_calls_units_laws.specs.CallsIn.{calls_in, calls_in_maybe, calls_in_stmt, calls_in_stmts, calls_in_groups}
+use Rattle.null_calls_units_laws.specs.CallsIn.{calls_in_inits, calls_in, calls_in_maybe, calls_in_stmt, calls_in_stmts, calls_in_groups, all_calls}
 use Rattle.null_calls_units_laws.specs.ClosedTypes.{MeaningHas}
 use Rattle.null_calls_units_laws.specs.WrittenTypes.{Written}
 use Rattle.null_calls_units_laws.specs.AbstractCasts.{MaybeInitNamesNoType, PartsNameNoType, DeclNamesNoType, FirstNamesNoType, MaybeNamesNoType, NamesNoType, StmtNamesNoType, BlockNamesNoType, StmtsNameNoType, GroupsNameNoType}
 use Rattle.null_calls_units_laws.specs.Scopes.{IsWrittenScope, AreTemporaries}
+use Rattle.null_calls_units_laws.proofs.FileWritten.{scope_named}
 use Rattle.null_calls_units_laws.proofs.Declared.{AreKnownTags, first_tags, rest_tags, both_tags, HasTags, ObjectWritten, object_written}
 use Rattle.null_calls_units_laws.proofs.Kept.{none_kept, good_both, kept_good}
 use Rattle.null_calls_units_laws.proofs.Tables.{Table as CallTable, InTable, in_first, in_rest}
 use Rattle.null_calls_units_laws.proofs.Expressions.{Tells, Passes, T, value_passes}
 use Rattle.null_calls_units_laws.proofs.Initialisers.{CellsTell, MaybeInitPasses, stores_sites, local_passes}
 use Rattle.c_rules_laws.proofs.GatheredOfTypedExpressions.{Gathers, as_if_gathered, converted_gathered}
-use Rattle.null_calls_units_laws.specs.CallsIn.{all_calls}
 
 -- ## Scopes
 
 abbrev pub NoFunction : Meaning → Type 0
-NoFunction (a_static seen whole d) = Unit {0}
-NoFunction (a_local n seen whole) = Unit {0}
 NoFunction (a_function t d) = ⊥
-NoFunction (an_enumerator z) = Unit {0}
-NoFunction (unknown f fs) = Unit {0}
+NoFunction m = Unit {0}
 
 module _ (p : Program) (enums tags stood : List Name) where
   abbrev W : CType → Type 0
@@ -73,16 +71,12 @@ module _ (p : Program) (enums tags stood : List Name) where
     runs = w.runs;
     enums_are = w.enums_are;
     tags_are = w.tags_are;
-    has = record { names = λ y b e. name_by (bytes_eq x y) y b e; members = w.has.members };
+    has = scope_named W env x m w.has h;
     functions = λ y b t d f e q r. function_by (bytes_eq x y) y b t d f e q r;
   }
     where
       same_binding : (b c : Binding) → Some b ≡ Some c → b ≡ c
       same_binding b c e = cc
-
-      name_by : (t : Bool) (y : Name) (b : Binding) → cond t (Some (record { name = x; depth = env.depth; means = m })) (lookup env.names y) ≡ Some b → MeaningHas W b.means
-      name_by true y b e = subst (λ c. MeaningHas W c.means) (same_binding (record { name = x; depth = env.depth; means = m }) b e) h
-      name_by false y b e = w.has.names y b e
 
       function_by : (k : Bool) (y : Name) (b : Binding) (t : CType) (d : Bool) (f : ℕ) → cond k (Some (record { name = x; depth = env.depth; means = m })) (lookup env.names y) ≡ Some b → b.means ≡ a_function t d → function_number env y ≡ Some f → called_type p f ≡ Some t
       function_by true y b t d f e q r = absurd (subst NoFunction (ap (λ c. c.means) (same_binding (record { name = x; depth = env.depth; means = m }) b e) ∙ q) n)
@@ -97,19 +91,14 @@ module _ (p : Program) (enums tags stood : List Name) where
   abbrev ObjectGood : Object → Type 0
   ObjectGood = ObjectWritten enums tags stood
 
-  whole_good : (env : Env) (k : ℕ) (x : Ident) (r : Checked Object) (n : Checked Met) → Scope env → Holds ObjectGood r → Scope (with_name env x.name (meaning_or_unknown (on r (λ (o : Object). gives n (λ _. a_local k o.whole o.whole)))))
-  whole_good env k x (fine o) (fine a) w h = named_scope env x.name (a_local k o.whole o.whole) w h.1 tt
-  whole_good env k x (fine o) (faulty f fs) w h = named_scope env x.name (unknown f fs) w tt tt
-  whole_good env k x (faulty f fs) n w h = named_scope env x.name (unknown f fs) w tt tt
-
-  seen_good : (env : Env) (k : ℕ) (x : Ident) (r : Checked Object) (n : Checked Met) → Scope env → Holds ObjectGood r → Scope (with_name env x.name (meaning_or_unknown (on r (λ (o : Object). gives n (λ _. a_local k o.seen o.whole)))))
-  seen_good env k x (fine o) (fine a) w h = named_scope env x.name (a_local k o.seen o.whole) w h.0 tt
-  seen_good env k x (fine o) (faulty f fs) w h = named_scope env x.name (unknown f fs) w tt tt
-  seen_good env k x (faulty f fs) n w h = named_scope env x.name (unknown f fs) w tt tt
+  object_good : (part : Object → CType) → ((o : Object) → ObjectGood o → W (part o)) → (env : Env) (k : ℕ) (x : Ident) (r : Checked Object) (n : Checked Met) → Scope env → Holds ObjectGood r → Scope (with_name env x.name (meaning_or_unknown (on r (λ o. gives n (λ _. a_local k (part o) o.whole)))))
+  object_good part f env k x (fine o) (fine a) w h = named_scope env x.name (a_local k (part o) o.whole) w (f o h) tt
+  object_good part f env k x (fine o) (faulty g gs) w h = named_scope env x.name (unknown g gs) w tt tt
+  object_good part f env k x (faulty g gs) n w h = named_scope env x.name (unknown g gs) w tt tt
 
   named_behind : (env : Env) → Scope env → (next : Next) (at : ℕ) (s : Spec) (d : Declarator) (m : MaybeInit) (o : Option Ident) → AreKnownTags enums tags stood (tags_of_spec s ++ tags_of_declarator d) → Scope (behind_named env next at s d m o)
   named_behind env w next at s d m None k = w
-  named_behind env w next at s d m (Some x) k = whole_good env (number_in next x.name) x (object_declared env at s d x m) (new_name env x) w (object_written enums tags stood env (scope_tags env w) at s d x m k)
+  named_behind env w next at s d m (Some x) k = object_good (λ o. o.whole) (λ _ h. h.1) env (number_in next x.name) x (object_declared env at s d x m) (new_name env x) w (object_written enums tags stood env (scope_tags env w) at s d x m k)
 
   declarator_tags : (s : Spec) (d : Declarator) (m : MaybeInit) (ps : Parts) → AreKnownTags enums tags stood (tags_of_spec s ++ (tags_of_declarator d ++ (tags_of_maybe_init m ++ tags_of_parts ps))) → AreKnownTags enums tags stood (tags_of_spec s ++ tags_of_declarator d)
   declarator_tags s d m ps k =
@@ -129,9 +118,8 @@ module _ (p : Program) (enums tags stood : List Name) where
   decl_behind (decl at class s ps) env w next k = parts_behind ps env w next at s k
 
   first_behind : (x : First) (env : Env) → Scope env → (next : Next) → AreKnownTags enums tags stood (tags_of_first false x) → Scope (behind_first env next x)
-  first_behind first_absent env w next k = w
-  first_behind (first_expr x) env w next k = w
   first_behind (first_decl d) env w next k = decl_behind d env w next k
+  first_behind x env w next k = w
 
   -- ## Declarations
 
@@ -143,6 +131,14 @@ module _ (p : Program) (enums tags stood : List Name) where
 
   abbrev Known : List Name → Type 0
   Known = AreKnownTags enums tags stood
+
+  -- what two parts pass, one behind the other
+  two_pass : {A B C D : Type 0} {lo m n : ℕ} (xs ys : List Temporary) → A × B × Good lo m xs → C × D × Good (lo + m) n ys → (A × C) × (B × D) × Good lo (m + n) (xs ++ ys)
+  two_pass xs ys h k = ((h.0, k.0), (h.1, k.1), good_both enums tags stood xs ys h.2 k.2)
+
+  -- where the calls of two parts stand in the table, both facts hold
+  two_told : {X Y Z : Type 0} (xs ys : List Mention) → (X → Y → Z) → (InTable Table xs → X) → (InTable Table ys → Y) → InTable Table (xs ++ ys) → Z
+  two_told xs ys f h k t = f (h (in_first Table xs ys t)) (k (in_rest Table xs ys t))
 
   -- where the calls of a tree stand in the table, the fact holds
   abbrev StmtTells : Type 0 → StatementTree typed.Stmt → Type 0
@@ -158,11 +154,9 @@ module _ (p : Program) (enums tags stood : List Name) where
   PartsPass env b next at s ps = PartsTabled p (sites_of p) env b next at s ps × PartsNamed (sites_of p) b.sites ps × Good b.sites (calls_of_parts ps) (kept_of_parts (sites_of p) b.sites ps)
 
   laid_tells : (X : Type 0) (x : Name) (k : ℕ) (t : CType) (gs : List TypedExpression) → CellsTell p enums tags stood X gs → StmtTells X (laid_variable x k t gs)
-  laid_tells X x k t gs h = by_test (is_added x)
-    where
-      by_test : (b : Bool) → StmtTells X (if b then record { tree = typed.declare k (stores_from 0 gs); plain = []; added = t ∷ [] } else record { tree = typed.declare k (stores_from 0 gs); plain = t ∷ []; added = [] })
-      by_test true z = h.2 (subst (InTable Table) (stores_sites 0 gs h.0 h.1) z)
-      by_test false z = h.2 (subst (InTable Table) (stores_sites 0 gs h.0 h.1) z)
+  laid_tells X x k t gs h =
+      let told : InTable Table (calls_in_inits (stores_from 0 gs)) → X = λ z. h.2 (subst (InTable Table) (stores_sites 0 gs h.0 h.1) z) in
+      cond_both {A = StatementTree typed.Stmt} (is_added x) (record { tree = typed.declare k (stores_from 0 gs); plain = []; added = t ∷ [] }) (record { tree = typed.declare k (stores_from 0 gs); plain = t ∷ []; added = [] }) (StmtTells X) (λ _. told) (λ _. told)
 
   object_same : (o q : Object) → fine o ≡ fine q → o ≡ q
   object_same o q e = cc
@@ -176,7 +170,7 @@ module _ (p : Program) (enums tags stood : List Name) where
       by_object : (q : Checked Object) → object_declared env at s d x m ≡ q → Holds (StmtTells (NamedPasses env b next at s d m (Some x))) (both (new_name env x) (on q (local_of (within_local env next x (object_declared env at s d x m)) b next x m)) (λ _ p. fine p))
       by_object (fine o) e =
           let inner : Env = within_local env next x (object_declared env at s d x m) in
-          let z : Scope inner = seen_good env (number_in next x.name) x (object_declared env at s d x m) (new_name env x) w (object_written enums tags stood env (scope_tags env w) at s d x m k) in
+          let z : Scope inner = object_good (λ o. o.seen) (λ _ h. h.0) env (number_in next x.name) x (object_declared env at s d x m) (new_name env x) w (object_written enums tags stood env (scope_tags env w) at s d x m k) in
           both_hold Any (StmtTells (NamedPasses env b next at s d m (Some x))) (StmtTells (NamedPasses env b next at s d m (Some x))) (new_name env x) (local_of inner b next x m o) (λ _ p. fine p) (anything (new_name env x))
           (on_holds (CellsTell p enums tags stood (MaybeInitPasses p enums tags stood inner b o.whole m)) (StmtTells (NamedPasses env b next at s d m (Some x))) (initialised_local inner b o.whole m) _ (local_passes p enums tags stood m inner z b o.whole l)
           (λ gs h. laid_tells (NamedPasses env b next at s d m (Some x)) x.name (number_in next x.name) o.whole gs
@@ -191,7 +185,7 @@ module _ (p : Program) (enums tags stood : List Name) where
       let b1 : Before = after_part env b at s d m in
       both_hold (StmtTells (NamedPasses env b next at s d m (name_of d))) (StmtsTell (PartsPass inner b1 (past_part next d) at s ps)) (StmtsTell (PartsPass env b next at s (more_parts d m ps))) (local_part env b next at s d m) (local_parts inner b1 (past_part next d) at s ps) (λ p q. fine (one_more p q))
       (named_passes env w b next at s d m (name_of d) (declarator_tags s d m ps k) l.0) (parts_pass ps inner (named_behind env w next at s d m (name_of d) (declarator_tags s d m ps k)) b1 (past_part next d) at s (other_tags s d m ps k) l.1)
-      (λ q r h g t. (let y = h (in_first Table (calls_in_stmt q.tree) (calls_in_stmts r.tree) t) in let z = g (in_rest Table (calls_in_stmt q.tree) (calls_in_stmts r.tree) t) in ((y.0, z.0), (y.1, z.1), good_both enums tags stood (kept_of_maybe_init (sites_of p) b.sites m) (kept_of_parts (sites_of p) (b.sites + calls_of_maybe_init m) ps) y.2 z.2)))
+      (λ q r. two_told (calls_in_stmt q.tree) (calls_in_stmts r.tree) (two_pass (kept_of_maybe_init (sites_of p) b.sites m) (kept_of_parts (sites_of p) (b.sites + calls_of_maybe_init m) ps)))
 
   abbrev DeclPasses : Env → Before → Next → Decl → Type 0
   DeclPasses env b next d = DeclTabled p (sites_of p) env b next d × DeclNamed (sites_of p) b.sites d × Good b.sites (calls_of_decl d) (kept_of_decl (sites_of p) b.sites d)
@@ -252,8 +246,7 @@ module _ (p : Program) (enums tags stood : List Name) where
 
   switched_fits : (X : Type 0) (at : ℕ) (g : TypedExpression) (k : Kind) → Tells Table X g → Holds (Tells Table X) (switched_kind at g k)
   switched_fits X at g (an_integer i) h = (let s = converted_gathered all_calls (calls_in (tree_of g)) (promoted i) g (refl, h.0) in ((λ c. s.0 ∙ s.1 c), λ z. h.1 (subst (InTable Table) s.0 z)))
-  switched_fits X at g (a_pointer t) h = tt
-  switched_fits X at g neither h = tt
+  switched_fits X at g k h = tt
 
   calls_appended : (ss us : typed.Stmts) → calls_in_stmts (appended ss us) ≡ calls_in_stmts ss ++ calls_in_stmts us
   calls_appended typed.no_stmts us = refl
@@ -276,9 +269,6 @@ module _ (p : Program) (enums tags stood : List Name) where
   abbrev GroupsTell : Type 0 → Labelled → Type 0
   GroupsTell X l = InTable Table (calls_in_groups l.groups.tree) → X
 
-  two_good : {lo m n : ℕ} (xs ys : List Temporary) → Good lo m xs → Good (lo + m) n ys → Good lo (m + n) (xs ++ ys)
-  two_good xs ys h k = good_both enums tags stood xs ys h k
-
   first_known : (xs ys : List Name) → Known (xs ++ ys) → Known xs
   first_known xs ys k = first_tags enums tags stood xs ys k
 
@@ -294,10 +284,7 @@ module _ (p : Program) (enums tags stood : List Name) where
     stmt_passes (only_if at x s) env w a b next k l =
         both_hold (TreeTells (ExprFits true env b x)) (StmtTells (StmtPasses env (after b x) next s)) (StmtTells (StmtPasses env b next (only_if at x s))) (condition_at at (value env b x)) (stmt env a (after b x) next s) (λ c q. fine (with_tree q (typed.if_else c q.tree typed.empty)))
         (condition_fits env w b at x l.0) (stmt_passes s env w a (after b x) next (rest_known (tags_of_expr x) (tags_of_stmt false s) k) l.1)
-        (λ c q h g t.
-        (let y = h (in_first Table (calls_in c) (calls_in_stmt q.tree ++ []) t) in
-        let z = g (in_first Table (calls_in_stmt q.tree) [] (in_rest Table (calls_in c) (calls_in_stmt q.tree ++ []) t)) in
-        ((y.0, z.0), (y.1, z.1), two_good (kept (sites_of p) b.sites true x) (kept_of_stmt (sites_of p) (b.sites + calls x) s) y.2 z.2)))
+        (λ c q h g. two_told (calls_in c) (calls_in_stmt q.tree ++ []) (two_pass (kept (sites_of p) b.sites true x) (kept_of_stmt (sites_of p) (b.sites + calls x) s)) h (λ t. g (in_first Table (calls_in_stmt q.tree) [] t)))
     stmt_passes (if_else at x s u) env w a b next k l =
         let later : Next = past_names next (names_of_stmt s) in
         let b2 : Before = after_stmt env (after b x) next s in
@@ -312,22 +299,16 @@ module _ (p : Program) (enums tags stood : List Name) where
         let x1 = h (in_first Table (calls_in c) (ys ++ zs) t) in
         let y = g (in_first Table ys zs t1) in
         let z = i (in_rest Table ys zs t1) in
-        ((x1.0, y.0, z.0), (x1.1, y.1, z.1), two_good (kept (sites_of p) b.sites true x) (kept_of_stmt (sites_of p) (b.sites + calls x) s ++ kept_of_stmt (sites_of p) (b.sites + calls x + calls_of_stmt s) u) x1.2 (two_good (kept_of_stmt (sites_of p) (b.sites + calls x) s) (kept_of_stmt (sites_of p) (b.sites + calls x + calls_of_stmt s) u) y.2 z.2))))
+        ((x1.0, y.0, z.0), (x1.1, y.1, z.1), good_both enums tags stood (kept (sites_of p) b.sites true x) (kept_of_stmt (sites_of p) (b.sites + calls x) s ++ kept_of_stmt (sites_of p) (b.sites + calls x + calls_of_stmt s) u) x1.2 (good_both enums tags stood (kept_of_stmt (sites_of p) (b.sites + calls x) s) (kept_of_stmt (sites_of p) (b.sites + calls x + calls_of_stmt s) u) y.2 z.2))))
     stmt_passes (while_loop at x s) env w a b next k l =
         both_hold (TreeTells (ExprFits true env b x)) (StmtTells (StmtPasses env (after b x) next s)) (StmtTells (StmtPasses env b next (while_loop at x s))) (condition_at at (value env b x)) (stmt env (in_loop a) (after b x) next s) (λ c q. fine (with_tree q (typed.while_loop c q.tree)))
         (condition_fits env w b at x l.0) (stmt_passes s env w (in_loop a) (after b x) next (rest_known (tags_of_expr x) (tags_of_stmt false s) k) l.1)
-        (λ c q h g t.
-        (let y = h (in_first Table (calls_in c) (calls_in_stmt q.tree) t) in
-        let z = g (in_rest Table (calls_in c) (calls_in_stmt q.tree) t) in
-        ((y.0, z.0), (y.1, z.1), two_good (kept (sites_of p) b.sites true x) (kept_of_stmt (sites_of p) (b.sites + calls x) s) y.2 z.2)))
+        (λ c q. two_told (calls_in c) (calls_in_stmt q.tree) (two_pass (kept (sites_of p) b.sites true x) (kept_of_stmt (sites_of p) (b.sites + calls x) s)))
     stmt_passes (do_loop at s x) env w a b next k l =
         let b1 : Before = after_stmt env b next s in
         both_hold (StmtTells (StmtPasses env b next s)) (TreeTells (ExprFits true env b1 x)) (StmtTells (StmtPasses env b next (do_loop at s x))) (stmt env (in_loop a) b next s) (condition_at at (value env b1 x)) (λ q c. fine (with_tree q (typed.do_loop q.tree c)))
         (stmt_passes s env w (in_loop a) b next (first_known (tags_of_stmt false s) (tags_of_expr x) k) l.0) (condition_fits env w b1 at x l.1)
-        (λ q c h g t.
-        (let y = h (in_first Table (calls_in_stmt q.tree) (calls_in c) t) in
-        let z = g (in_rest Table (calls_in_stmt q.tree) (calls_in c) t) in
-        ((y.0, z.0), (y.1, z.1), two_good (kept_of_stmt (sites_of p) b.sites s) (kept (sites_of p) (b.sites + calls_of_stmt s) true x) y.2 z.2)))
+        (λ q c. two_told (calls_in_stmt q.tree) (calls_in c) (two_pass (kept_of_stmt (sites_of p) b.sites s) (kept (sites_of p) (b.sites + calls_of_stmt s) true x)))
     stmt_passes (for_loop at first test step s) env w a b next k l =
         let outer : Env = inside env in
         let inner : Env = behind_first outer next first in
@@ -356,9 +337,9 @@ module _ (p : Program) (enums tags stood : List Name) where
         let z = i (in_rest Table ys zs t2) in (
           (u.0, x.0, y.0, z.0),
           (u.1, x.1, y.1, z.1),
-          two_good (kept_of_first (sites_of p) b.sites first) (kept_of_maybe (sites_of p) (b.sites + calls_of_first first) true test ++ (kept_of_maybe (sites_of p) (b.sites + calls_of_first first + calls_of_maybe test) false step ++ kept_of_stmt (sites_of p) (b.sites + calls_of_first first + calls_of_maybe test + calls_of_maybe step) s)) u.2
-              (two_good (kept_of_maybe (sites_of p) (b.sites + calls_of_first first) true test) (kept_of_maybe (sites_of p) (b.sites + calls_of_first first + calls_of_maybe test) false step ++ kept_of_stmt (sites_of p) (b.sites + calls_of_first first + calls_of_maybe test + calls_of_maybe step) s) x.2
-              (two_good (kept_of_maybe (sites_of p) (b.sites + calls_of_first first + calls_of_maybe test) false step) (kept_of_stmt (sites_of p) (b.sites + calls_of_first first + calls_of_maybe test + calls_of_maybe step) s) y.2 z.2)),
+          good_both enums tags stood (kept_of_first (sites_of p) b.sites first) (kept_of_maybe (sites_of p) (b.sites + calls_of_first first) true test ++ (kept_of_maybe (sites_of p) (b.sites + calls_of_first first + calls_of_maybe test) false step ++ kept_of_stmt (sites_of p) (b.sites + calls_of_first first + calls_of_maybe test + calls_of_maybe step) s)) u.2
+              (good_both enums tags stood (kept_of_maybe (sites_of p) (b.sites + calls_of_first first) true test) (kept_of_maybe (sites_of p) (b.sites + calls_of_first first + calls_of_maybe test) false step ++ kept_of_stmt (sites_of p) (b.sites + calls_of_first first + calls_of_maybe test + calls_of_maybe step) s) x.2
+              (good_both enums tags stood (kept_of_maybe (sites_of p) (b.sites + calls_of_first first + calls_of_maybe test) false step) (kept_of_stmt (sites_of p) (b.sites + calls_of_first first + calls_of_maybe test + calls_of_maybe step) s) y.2 z.2)),
         )))
     stmt_passes (switch_on at x gs) env w a b next k l =
         let r : Checked TypedExpression = switched at (value env b x) in
@@ -366,10 +347,7 @@ module _ (p : Program) (enums tags stood : List Name) where
         (on_holds (Tells Table (ExprFits true env b x)) (Tells Table (ExprFits true env b x)) (value env b x) (λ g. switched_kind at g (kind_of g.ctype)) (value_fits true env w b x l.0) (λ g h. switched_fits (ExprFits true env b x) at g (kind_of g.ctype) h))
         (groups_pass gs env w (in_switch a) (after b x) next (label_type r) (rest_known (tags_of_expr x) (tags_of_groups false gs) k) l.1)
         (λ g m h i. demand_holds (StmtTells (StmtPasses env b next (switch_on at x gs))) _ 7 at _
-        (λ _ t.
-        (let y = h.1 (in_first Table (calls_in (tree_of g)) (calls_in_groups m.groups.tree) t) in
-        let z = i (in_rest Table (calls_in (tree_of g)) (calls_in_groups m.groups.tree) t) in
-        ((y.0, z.0), (y.1, z.1), two_good (kept (sites_of p) b.sites true x) (kept_of_groups (sites_of p) (b.sites + calls x) gs) y.2 z.2))))
+        (λ _. two_told (calls_in (tree_of g)) (calls_in_groups m.groups.tree) (two_pass (kept (sites_of p) b.sites true x) (kept_of_groups (sites_of p) (b.sites + calls x) gs)) h.1 i))
     stmt_passes (break_off at) env w a b next k l = demand_holds (StmtTells (StmtPasses env b next (break_off at))) a.breaks 8 at (bare typed.break_off) (λ _ _. (tt, tt, none_kept enums tags stood))
     stmt_passes (continue_on at) env w a b next k l = demand_holds (StmtTells (StmtPasses env b next (continue_on at))) a.continues 8 at (bare typed.continue_on) (λ _ _. (tt, tt, none_kept enums tags stood))
     stmt_passes (return_from at m) env w a b next k l = on_holds (TypedTells (MaybeFits true env b m)) (StmtTells (StmtPasses env b next (return_from at m))) (returned env b at a.returns m) (λ s. fine (bare s)) (returned_fits m env w b at a.returns l) (λ s h. h)
@@ -383,20 +361,13 @@ module _ (p : Program) (enums tags stood : List Name) where
         let kd : Known (tags_of_decl false d) = first_known (tags_of_decl false d) (tags_of_block false is) k in
         both_hold (StmtsTell (DeclPasses env b next d)) (StmtsTell (BlockPasses inner b1 later is)) (StmtsTell (BlockPasses env b next (block_decl d is))) (local_decl env b next d) (items_of_block inner a b1 later is) (λ q r. fine (some_more q r))
         (decl_passes d env w b next kd l.0) (block_passes is inner (decl_behind d env w next kd) a b1 later (rest_known (tags_of_decl false d) (tags_of_block false is) k) l.1)
-        (λ q r h g t.
-        (let t1 : InTable Table (calls_in_stmts q.tree ++ calls_in_stmts r.tree) = subst (InTable Table) (calls_appended q.tree r.tree) t in
-        let y = h (in_first Table (calls_in_stmts q.tree) (calls_in_stmts r.tree) t1) in
-        let z = g (in_rest Table (calls_in_stmts q.tree) (calls_in_stmts r.tree) t1) in
-        ((y.0, z.0), (y.1, z.1), two_good (kept_of_decl (sites_of p) b.sites d) (kept_of_block (sites_of p) (b.sites + calls_of_decl d) is) y.2 z.2)))
+        (λ q r h g t. two_told (calls_in_stmts q.tree) (calls_in_stmts r.tree) (two_pass (kept_of_decl (sites_of p) b.sites d) (kept_of_block (sites_of p) (b.sites + calls_of_decl d) is)) h g (subst (InTable Table) (calls_appended q.tree r.tree) t))
     block_passes (block_stmt s is) env w a b next k l =
         let later : Next = past_names next (names_of_stmt s) in
         let b1 : Before = after_stmt env b next s in
         both_hold (StmtTells (StmtPasses env b next s)) (StmtsTell (BlockPasses env b1 later is)) (StmtsTell (BlockPasses env b next (block_stmt s is))) (stmt env a b next s) (items_of_block env a b1 later is) (λ q r. fine (one_more q r))
         (stmt_passes s env w a b next (first_known (tags_of_stmt false s) (tags_of_block false is) k) l.0) (block_passes is env w a b1 later (rest_known (tags_of_stmt false s) (tags_of_block false is) k) l.1)
-        (λ q r h g t.
-        (let y = h (in_first Table (calls_in_stmt q.tree) (calls_in_stmts r.tree) t) in
-        let z = g (in_rest Table (calls_in_stmt q.tree) (calls_in_stmts r.tree) t) in
-        ((y.0, z.0), (y.1, z.1), two_good (kept_of_stmt (sites_of p) b.sites s) (kept_of_block (sites_of p) (b.sites + calls_of_stmt s) is) y.2 z.2)))
+        (λ q r. two_told (calls_in_stmt q.tree) (calls_in_stmts r.tree) (two_pass (kept_of_stmt (sites_of p) b.sites s) (kept_of_block (sites_of p) (b.sites + calls_of_stmt s) is)))
 
     stmts_pass : (ss : Stmts) (env : Env) → Scope env → (a : Around) (b : Before) (next : Next) → Known (tags_of_stmts false ss) → StmtsNameNoType ss → Holds (StmtsTell (StmtsPass env b next ss)) (stmts env a b next ss)
     stmts_pass no_stmts env w a b next k l = λ _. (tt, tt, none_kept enums tags stood)
@@ -405,10 +376,7 @@ module _ (p : Program) (enums tags stood : List Name) where
         let b1 : Before = after_stmt env b next s in
         both_hold (StmtTells (StmtPasses env b next s)) (StmtsTell (StmtsPass env b1 later ss)) (StmtsTell (StmtsPass env b next (more_stmts s ss))) (stmt env a b next s) (stmts env a b1 later ss) (λ q r. fine (one_more q r))
         (stmt_passes s env w a b next (first_known (tags_of_stmt false s) (tags_of_stmts false ss) k) l.0) (stmts_pass ss env w a b1 later (rest_known (tags_of_stmt false s) (tags_of_stmts false ss) k) l.1)
-        (λ q r h g t.
-        (let y = h (in_first Table (calls_in_stmt q.tree) (calls_in_stmts r.tree) t) in
-        let z = g (in_rest Table (calls_in_stmt q.tree) (calls_in_stmts r.tree) t) in
-        ((y.0, z.0), (y.1, z.1), two_good (kept_of_stmt (sites_of p) b.sites s) (kept_of_stmts (sites_of p) (b.sites + calls_of_stmt s) ss) y.2 z.2)))
+        (λ q r. two_told (calls_in_stmt q.tree) (calls_in_stmts r.tree) (two_pass (kept_of_stmt (sites_of p) b.sites s) (kept_of_stmts (sites_of p) (b.sites + calls_of_stmt s) ss)))
 
     groups_pass : (gs : Groups) (env : Env) → Scope env → (a : Around) (b : Before) (next : Next) (i : IntType) → Known (tags_of_groups false gs) → GroupsNameNoType gs → Holds (GroupsTell (GroupsPass env b next gs)) (groups_of_switch env a b next i gs)
     groups_pass no_groups env w a b next i k l = λ _. (tt, tt, none_kept enums tags stood)
@@ -418,7 +386,4 @@ module _ (p : Program) (enums tags stood : List Name) where
         let k1 : Known (tags_of_stmts false ss ++ tags_of_groups false gs) = rest_known (tags_of_labels ls) (tags_of_stmts false ss ++ tags_of_groups false gs) k in
         all_three_hold Any (StmtsTell (StmtsPass env b next ss)) (GroupsTell (GroupsPass env b1 later gs)) (GroupsTell (GroupsPass env b next (more_groups ls ss gs))) (labels_of env i ls) (stmts env a b next ss) (groups_of_switch env a b1 later i gs) (λ vs q rest. fine (labelled vs q rest))
         (anything (labels_of env i ls)) (stmts_pass ss env w a b next (first_known (tags_of_stmts false ss) (tags_of_groups false gs) k1) l.0) (groups_pass gs env w a b1 later i (rest_known (tags_of_stmts false ss) (tags_of_groups false gs) k1) l.1)
-        (λ vs q m _ h g t.
-        (let y = h (in_first Table (calls_in_stmts q.tree) (calls_in_groups m.groups.tree) t) in
-        let z = g (in_rest Table (calls_in_stmts q.tree) (calls_in_groups m.groups.tree) t) in
-        ((y.0, z.0), (y.1, z.1), two_good (kept_of_stmts (sites_of p) b.sites ss) (kept_of_groups (sites_of p) (b.sites + calls_of_stmts ss) gs) y.2 z.2)))
+        (λ vs q m _. two_told (calls_in_stmts q.tree) (calls_in_groups m.groups.tree) (two_pass (kept_of_stmts (sites_of p) b.sites ss) (kept_of_groups (sites_of p) (b.sites + calls_of_stmts ss) gs)))

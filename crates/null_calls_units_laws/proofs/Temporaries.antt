@@ -1,11 +1,11 @@
 -- The temporaries of a body are new names, and mean the variables that their declarations declare.
-use Rattle.std.proofs.Common.{◌≡◌, ◌⊎◌, inl, inr, ℕ, suc, Bool, true, false, not, cond, if◌then◌else◌, List, [], ◌∷◌, ◌++◌, Option, Some, None, refl, ap, sym, subst, ◌∙◌, true≢false}
-use Rattle.std.specs.Prelude.{is_some, is_none, option_map, bytes_eq}
-use Rattle.std.proofs.lemmas.Slice.Eq.{bytes_eq-Decides}
+use Rattle.std.proofs.Common.{◌≡◌, ◌⊎◌, inl, inr, ℕ, suc, Bool, true, false, not, cond, List, [], ◌∷◌, ◌++◌, Some, None, refl, ap, sym, subst, ◌∙◌, true≢false}
+use Rattle.std.proofs.lemmas.Bool.{false_from_ne_true, true_from_ne_false}
+use Rattle.std.specs.Prelude.{is_none, bytes_eq}
 use Rattle.c_tree.specs.Tree.{Program}
 use Rattle.c_rules.specs.Checked.{Checked, fine, demand, and_also, Met, met}
 use Rattle.c_rules.specs.Codes.{C2, C11, C12}
-use Rattle.c_rules.specs.Names.{Name, number_among, is_among, is_reserved, is_added, null_calls, system_calls}
+use Rattle.c_rules.specs.Names.{Name, is_among, is_reserved, is_added, null_calls, system_calls}
 use Rattle.c_rules.specs.Scopes.{Env, Binding, a_local, lookup, at_depth}
 use Rattle.c_rules.specs.Declarators.{new_name}
 use Rattle.null_calls_rules.specs.Temporaries.{Temporary, pre_name, post_name, designator_name, argument_name, result_name}
@@ -20,25 +20,16 @@ use Rattle.null_calls_units_laws.specs.FileScopes.{HasNullCalls}
 use Rattle.null_calls_units_laws.specs.Functions.{HasFunctions}
 use Rattle.null_calls_units_laws.specs.Scopes.{AreWrittenTemporaries, AreOfSites, DiffersFrom, AllDiffer}
 use Rattle.null_calls_units_laws.proofs.Closed.{spelled}
-use Rattle.c_rules_laws.proofs.DistinctNames.{itself}
+use Rattle.c_rules_laws.proofs.DistinctNames.{itself, among_right}
+use Rattle.null_calls_units_laws.proofs.FileNames.{other}
 
 -- ## Names of temporaries
 
 among_rest : (xs ys : List Name) (x : Name) → is_among (xs ++ ys) x ≡ false → is_among ys x ≡ false
-among_rest [] ys x h = h
-among_rest (z ∷ xs) ys x h = among_rest xs ys x (by_test (bytes_eq z x) (number_among (xs ++ ys) x) h)
-  where
-    by_test : (t : Bool) (o : Option ℕ) → is_some (if t then Some 0 else option_map suc o) ≡ false → is_some o ≡ false
-    by_test true o e = absurd (true≢false e)
-    by_test false None e = refl
-    by_test false (Some k) e = e
+among_rest xs ys x h = false_from_ne_true (is_among ys x) (λ e. true≢false (sym (among_right xs ys x e) ∙ h))
 
 reserved : (x : Name) → is_added x ≡ true → is_reserved x ≡ true
-reserved x h = by_test (is_reserved x) refl
-  where
-    by_test : (t : Bool) → is_reserved x ≡ t → t ≡ true
-    by_test true e = refl
-    by_test false e = absurd (true≢false (sym h ∙ unadded x e))
+reserved x h = true_from_ne_false (is_reserved x) (λ e. true≢false (sym h ∙ unadded x e))
 
 free_by : (x : Temporary) (s i : ℕ) → (x.name ≡ designator_name s) ⊎ ((x.name ≡ argument_name s i) ⊎ (x.name ≡ result_name s)) → IsFreeName x.name
 free_by x s i (inl e) = subst IsFreeName (sym e) (names_are_free s i).designator
@@ -73,13 +64,6 @@ OtherThan y (x ∷ xs) = (bytes_eq x.name y ≡ false) × OtherThan y xs
 past_all : (y : Name) (d k : ℕ) (xs : List Temporary) (ns : List Binding) → OtherThan y xs → lookup (names_behind d k xs ns) y ≡ lookup ns y
 past_all y d k [] ns h = refl
 past_all y d k (x ∷ xs) ns h = past_all y d (suc k) xs (temporary_binding d k x ∷ ns) h.1 ∙ ap (λ t. cond t (Some (temporary_binding d k x)) (lookup ns y)) h.0
-
-other : (x y : Name) → (x ≡ y → ⊥) → bytes_eq x y ≡ false
-other x y h = by_test (bytes_eq x y) refl
-  where
-    by_test : (t : Bool) → bytes_eq x y ≡ t → t ≡ false
-    by_test true e = absurd (h ((bytes_eq-Decides x y).0 e))
-    by_test false e = refl
 
 others : (x : Temporary) (xs : List Temporary) → DiffersFrom x xs → OtherThan x.name xs
 others x [] h = tt

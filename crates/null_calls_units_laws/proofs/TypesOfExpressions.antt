@@ -1,5 +1,5 @@
 -- The types of expressions have a property that names and members have.
-use Rattle.std.proofs.Common.{◌≡◌, ℕ, suc, ◌+◌, Bool, true, false, ◌∷◌, length, Option, Some, None, nat_eq, refl}
+use Rattle.std.proofs.Common.{◌≡◌, ℕ, suc, ◌+◌, Bool, true, false, ◌∷◌, length, Option, Some, None, nat_eq, refl, subst}
 use Rattle.c_lexer.specs.declared.punctuator.TheConstants.{AMPERSAND}
 use Rattle.c_tree.specs.declared.value.BinOp.TheVariants.{Add, Sub}
 use Rattle.c_tree.specs.Tree.{CType}
@@ -12,7 +12,7 @@ use Rattle.c_rules.specs.Counts.{place_of, calls, after, after_designator}
 use Rattle.c_rules.specs.TypedExpression.{TypedExpression}
 use Rattle.c_rules.specs.Conversions.{valued}
 use Rattle.c_rules.specs.PrimaryExpressions.{used, object_number, function_number, function_value_number, meant, bound, integer_expression, string_fits}
-use Rattle.c_rules.specs.PostfixExpressions.{site_of, callee_of_type, callee_by_value, called, member_of}
+use Rattle.c_rules.specs.PostfixExpressions.{Callee, site_of, callee_of_type, callee_by_value, called, member_of}
 use Rattle.c_rules.specs.UnaryExpressions.{address, indirection, unary_of_value, size_of, size_of_expression, size_of_type, cast_of, null_cast}
 use Rattle.c_rules.specs.BinaryExpressions.{operator_of_code, sum, choice}
 use Rattle.c_rules.specs.Assignments.{assignable, assignment_by, step, comma_of}
@@ -22,6 +22,21 @@ use Rattle.c_rules.proofs.Integers.{integer_cases, size_holds}
 use Rattle.c_rules_laws.proofs.Holding.{Holds, on_holds, both_hold, all_three_hold, Any, anything, after_part, if_holds}
 use Rattle.null_calls_units_laws.specs.ClosedTypes.{AreClosed, MeaningHas, ScopeHas, CalleeHas}
 use Rattle.null_calls_units_laws.proofs.TypesOfTypedExpressions.{TypedExpressionHas, ValueHas, ValuesHave, int_has, given_value, valued_typed, called_typed, callee_type, callee_through_typed, address_typed, indirection_typed, unary_typed, cast_typed, null_cast_typed, sum_typed, operation_typed, conjunction_typed, disjunction_typed, choice_typed, assignable_typed, assignment_by_typed, step_typed, comma_typed, member_typed}
+
+-- what holds of a callee by its value, and of each function that a name means, holds of what is called
+pub callee_holds : (P : Callee → Type 0) (env : Env) (at : ℕ) (d : Expr) (r : Checked TypedExpression) → Holds P (on r (callee_by_value at))
+    → ((place : ℕ) (x : Name) (b : Binding) (t : CType) (k : Bool) → d ≡ a_name place x → binding_of env x ≡ Some b → b.means ≡ a_function t k → Holds P (on (used env.context place (function_number env x)) (callee_of_type place t)))
+    → Holds P (callee env at d r)
+callee_holds P env at (a_name place x) r v f = by_binding (binding_of env x) refl
+  where
+    by_meaning : (b : Binding) (m : Meaning) → binding_of env x ≡ Some b → b.means ≡ m → Holds P (callee_meant env at place x r m)
+    by_meaning b (a_function t k) e q = f place x b t k refl e q
+    by_meaning b m e q = v
+
+    by_binding : (o : Option Binding) → binding_of env x ≡ o → Holds P (callee_bound env at place x r o)
+    by_binding None e = v
+    by_binding (Some b) e = by_meaning b b.means e refl
+callee_holds P env at d r v f = v
 
 module _ (W V : CType → Type 0) (closed : AreClosed W V) where
   meant_typed : (env : Env) (at : ℕ) (x : Name) (m : Meaning) → MeaningHas W m → Holds (TypedExpressionHas W V) (meant env at x m)
@@ -47,20 +62,10 @@ module _ (W V : CType → Type 0) (closed : AreClosed W V) where
   by_value_typed : (env : Env) (at : ℕ) (r : Checked TypedExpression) → Holds (ValueHas V) r → Holds (CalleeHas V) (on r (callee_by_value at))
   by_value_typed env at r h = on_holds (ValueHas V) (CalleeHas V) r (callee_by_value at) h (λ g k. callee_through_typed W V closed at _ g.ctype k)
 
-  callee_meant_typed : (env : Env) (at place : ℕ) (x : Name) (r : Checked TypedExpression) (m : Meaning) → MeaningHas W m → Holds (ValueHas V) r → Holds (CalleeHas V) (callee_meant env at place x r m)
-  callee_meant_typed env at place x r (a_function t d) h k = after_part (CalleeHas V) (used env.context place (function_number env x)) (callee_of_type place t) (λ f. callee_type W V closed place t f (closed.loaded t h))
-  callee_meant_typed env at place x r (a_static seen whole d) h k = by_value_typed env at r k
-  callee_meant_typed env at place x r (a_local n seen whole) h k = by_value_typed env at r k
-  callee_meant_typed env at place x r (an_enumerator z) h k = by_value_typed env at r k
-  callee_meant_typed env at place x r (unknown f fs) h k = by_value_typed env at r k
-
-  callee_bound_typed : (env : Env) (at place : ℕ) (x : Name) (r : Checked TypedExpression) (o : Option Binding) → ((b : Binding) → o ≡ Some b → MeaningHas W b.means) → Holds (ValueHas V) r → Holds (CalleeHas V) (callee_bound env at place x r o)
-  callee_bound_typed env at place x r None h k = by_value_typed env at r k
-  callee_bound_typed env at place x r (Some b) h k = callee_meant_typed env at place x r b.means (h b refl) k
-
   pub callee_typed : (env : Env) → ScopeHas W env → (at : ℕ) (d : Expr) (r : Checked TypedExpression) → Holds (ValueHas V) r → Holds (CalleeHas V) (callee env at d r)
-  callee_typed env w at (a_name place x) r h = callee_bound_typed env at place x r (binding_of env x) (w.names x) h
-  callee_typed env w at d r h = by_value_typed env at r h
+  callee_typed env w at d r h =
+      callee_holds (CalleeHas V) env at d r (by_value_typed env at r h)
+      (λ place x b t k _ e q. after_part (CalleeHas V) (used env.context place (function_number env x)) (callee_of_type place t) (λ f. callee_type W V closed place t f (closed.loaded t (subst (MeaningHas W) q (w.names x b e)))))
 
   access_typed : (env : Env) → ScopeHas W env → (at place : ℕ) (how : Access) (x : Name) (r : Checked TypedExpression) → Holds (TypedExpressionHas W V) (access env at place how x r)
   access_typed env w at place dot x r = after_part (TypedExpressionHas W V) r (member_of env at x) (λ g. member_typed W V closed env w.members at x g)

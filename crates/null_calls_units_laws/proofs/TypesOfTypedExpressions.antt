@@ -1,18 +1,18 @@
 -- The types that the rules on expressions give have a property that their operands' types have.
-use Rattle.std.proofs.Common.{◌≡◌, ℕ, zero, suc, Bool, true, false, ◌&&◌, ◌||◌, if◌then◌else◌, List, [], ◌∷◌, map, get_or, Option, Some, None, nat_eq, refl, sym, subst, ◌∙◌}
+use Rattle.std.proofs.Common.{◌≡◌, ℕ, zero, suc, Bool, true, false, ◌&&◌, ◌||◌, List, [], ◌∷◌, map, get_or, Option, Some, None, nat_eq, refl, sym, subst, ◌∙◌}
+use Rattle.std.proofs.lemmas.Bool.{cond_both}
 use Rattle.c_tree.specs.declared.value.IntType.{IntType}
 use Rattle.c_tree.specs.declared.value.UnOp.{UnOp}
 use Rattle.c_tree.specs.declared.value.BinOp.{BinOp}
 use Rattle.c_tree.specs.declared.value.BinOp.TheVariants as op
 use Rattle.c_lexer.specs.declared.punctuator.TheConstants.{ASTERISK, PLUS, MINUS, TILDE, ASSIGN}
 use Rattle.c_tree.specs.Tree.{CType, void, integer, pointer, array, struct, function, CTypes, Expr}
-use Rattle.c_tree.specs.Operands.{promoted, common, OperatorKind, balanced, shift, ordering, equality}
-use Rattle.c_tree.specs.Operands.{kind_of as kind_of_operator}
+use Rattle.c_tree.specs.Operands.{promoted, common, OperatorKind, balanced, shift, ordering, equality, kind_of as kind_of_operator}
 use Rattle.c_rules.specs.Names.{Name, number_among}
 use Rattle.c_rules.specs.Types.{is_void, is_integer, is_function, is_scalar, same_type}
-use Rattle.c_rules.specs.Scopes.{Env, Struct, incomplete, unknown_struct, defined_struct, Member, struct_of, type_of_member}
+use Rattle.c_rules.specs.Scopes.{Env, Struct, defined_struct, Member, struct_of, type_of_member}
 use Rattle.c_rules.specs.TypedExpression.{Form, a_value, a_place, behind, TypedExpression, is_place, is_null}
-use Rattle.c_rules.specs.Conversions.{Kind, an_integer, a_pointer, neither, kind_of, complete, few_parts, valued_as, valued, cast_to, has_integer, converted_to, null_of, fits}
+use Rattle.c_rules.specs.Conversions.{Kind, an_integer, a_pointer, kind_of, complete, few_parts, valued_as, valued, cast_to, null_of, fits}
 use Rattle.c_rules.specs.PostfixExpressions.{Designator, direct, through, Callee, callee_of_type, callee_through, all_fit, as_many_as, called, name_of_member, member_or_undeclared, member_of_struct, member_of_type, member_of}
 use Rattle.c_rules.specs.UnaryExpressions.{address_of_form, address_of_type, address, led_to, indirection, plus_of, operator_of, unary_of_value, cast_of, null_cast}
 use Rattle.c_rules.specs.BinaryExpressions.{sum_of, sum, minus_of, balanced_of, shift_of, ordered_of, Alike, alike_integers, alike_pointers, unlike, pointers_alike, alike_of, alike, equality_of, arithmetic_of, operation_of, operation, conjunction, disjunction, both_scalars, arms_of, choice}
@@ -57,27 +57,14 @@ module _ (W V : CType → Type 0) (closed : AreClosed W V) where
   given_value g h = form_value g.form g.ctype h
 
   valued_as_typed : (env : Env) (at : ℕ) (g : TypedExpression) (t : CType) → g.ctype ≡ t → V t → Holds (ValueHas V) (valued_as env at g t)
-  valued_as_typed env at g void e h = subst V (sym (loaded_type g g.form ∙ e)) h
-  valued_as_typed env at g (integer i) e h = subst V (sym (loaded_type g g.form ∙ e)) h
-  valued_as_typed env at g (pointer t) e h = subst V (sym (loaded_type g g.form ∙ e)) h
   valued_as_typed env at g (array t n) e h = closed.decayed t n h
   valued_as_typed env at g (struct s) e h = tt
   valued_as_typed env at g (function t ts) e h =
       demand_holds (ValueHas V) (few_parts (pointer g.ctype)) 13 at _ (λ f. subst (λ u. V (pointer u)) (sym e) (closed.functions t ts h (subst (λ u. few_parts (pointer u) ≡ true) e f)))
+  valued_as_typed env at g t e h = subst V (sym (loaded_type g g.form ∙ e)) h
 
   pub valued_typed : (env : Env) (at : ℕ) (g : TypedExpression) → TypedExpressionHas W V g → Holds (ValueHas V) (valued env at g)
   valued_typed env at g h = valued_as_typed env at g g.ctype refl (given_value g h)
-
-  if_typed : (t : Bool) (g h : TypedExpression) → ValueHas V g → ValueHas V h → ValueHas V (if t then g else h)
-  if_typed true g h k l = k
-  if_typed false g h k l = l
-
-  pub converted_typed : (i : IntType) (g : TypedExpression) → ValueHas V g → ValueHas V (converted_to i g)
-  converted_typed i g h = if_typed (has_integer i g.ctype) g (cast_to i g) h (int_has i)
-
-  if_assigned : (t : Bool) (u : CType) (g : TypedExpression) → ValueHas V g → V u → ValueHas V (if t then null_of u else g)
-  if_assigned true u g h k = k
-  if_assigned false u g h k = h
 
   -- ## Calls
 
@@ -90,25 +77,12 @@ module _ (W V : CType → Type 0) (closed : AreClosed W V) where
       behind_demand (TypedExpressionHas W V) (as_many_as f.parameters gs) 5 at _ (λ _. demand_holds (TypedExpressionHas W V) (all_fit f.parameters gs) 3 at _ (λ _. callee_result f.designator f.returns f.parameters h))
 
   pub callee_type : (at : ℕ) (t : CType) (f : ℕ) → V t → Holds (CalleeHas V) (callee_of_type at t f)
-  callee_type at void f h = tt
-  callee_type at (integer i) f h = tt
-  callee_type at (pointer t) f h = tt
-  callee_type at (array t n) f h = tt
-  callee_type at (struct s) f h = tt
   callee_type at (function t ts) f h = h
+  callee_type at t f h = tt
 
   pub callee_through_typed : (at : ℕ) (e : Expr) (t : CType) → V t → Holds (CalleeHas V) (callee_through at e t)
-  callee_through_typed at e void h = tt
-  callee_through_typed at e (integer i) h = tt
-  callee_through_typed at e (pointer void) h = tt
-  callee_through_typed at e (pointer (integer i)) h = tt
-  callee_through_typed at e (pointer (pointer t)) h = tt
-  callee_through_typed at e (pointer (array t n)) h = tt
-  callee_through_typed at e (pointer (struct s)) h = tt
   callee_through_typed at e (pointer (function t ts)) h = h
-  callee_through_typed at e (array t n) h = tt
-  callee_through_typed at e (struct s) h = tt
-  callee_through_typed at e (function t ts) h = tt
+  callee_through_typed at e t h = tt
 
   -- ## Unary operators
 
@@ -118,41 +92,30 @@ module _ (W V : CType → Type 0) (closed : AreClosed W V) where
   address_form_typed at g (behind p) n h = h.1
 
   address_type_typed : (at : ℕ) (g : TypedExpression) (t : CType) → g.ctype ≡ t → TypedExpressionHas W V g → Holds (TypedExpressionHas W V) (address_of_type at g t)
-  address_type_typed at g void e h = address_form_typed at g g.form (subst NotArray (sym e) tt) h
-  address_type_typed at g (integer i) e h = address_form_typed at g g.form (subst NotArray (sym e) tt) h
-  address_type_typed at g (pointer t) e h = address_form_typed at g g.form (subst NotArray (sym e) tt) h
   address_type_typed at g (array t n) e h = tt
-  address_type_typed at g (struct s) e h = address_form_typed at g g.form (subst NotArray (sym e) tt) h
-  address_type_typed at g (function t ts) e h = address_form_typed at g g.form (subst NotArray (sym e) tt) h
+  address_type_typed at g t e h = address_form_typed at g g.form (subst NotArray (sym e) tt) h
 
   pub address_typed : (at place : ℕ) (g : TypedExpression) → TypedExpressionHas W V g → Holds (TypedExpressionHas W V) (address at place g)
   address_typed at place g h = behind_demand (TypedExpressionHas W V) (is_place g || is_function g.ctype) 4 place _ (λ _. address_type_typed at g g.ctype refl h)
 
+  led_pointer : (at : ℕ) (g : TypedExpression) (t : CType) → V (pointer t) → Holds (TypedExpressionHas W V) (led_to at g (pointer t))
+  led_pointer at g void h = tt
+  led_pointer at g t h = (closed.led t tt h, h)
+
   led_typed : (at : ℕ) (g : TypedExpression) (t : CType) → V t → Holds (TypedExpressionHas W V) (led_to at g t)
-  led_typed at g (pointer void) h = tt
-  led_typed at g (pointer (integer i)) h = (closed.led (integer i) tt h, h)
-  led_typed at g (pointer (pointer t)) h = (closed.led (pointer t) tt h, h)
-  led_typed at g (pointer (array t k)) h = (closed.led (array t k) tt h, h)
-  led_typed at g (pointer (struct s)) h = (closed.led (struct s) tt h, h)
-  led_typed at g (pointer (function t ts)) h = (closed.led (function t ts) tt h, h)
-  led_typed at g void h = tt
-  led_typed at g (integer i) h = tt
-  led_typed at g (array t k) h = tt
-  led_typed at g (struct s) h = tt
-  led_typed at g (function t ts) h = tt
+  led_typed at g (pointer t) h = led_pointer at g t h
+  led_typed at g t h = tt
 
   pub indirection_typed : (at : ℕ) (g : TypedExpression) → V g.ctype → Holds (TypedExpressionHas W V) (indirection at g)
   indirection_typed at g h = led_typed at g g.ctype h
 
   plus_typed : (at : ℕ) (g : TypedExpression) (k : Kind) → Holds (TypedExpressionHas W V) (plus_of at g k)
   plus_typed at g (an_integer i) = int_has (promoted i)
-  plus_typed at g (a_pointer t) = tt
-  plus_typed at g neither = tt
+  plus_typed at g k = tt
 
   operator_typed : (at : ℕ) (o : UnOp) (g : TypedExpression) (k : Kind) → Holds (TypedExpressionHas W V) (operator_of at o g k)
   operator_typed at o g (an_integer i) = int_has (promoted i)
-  operator_typed at o g (a_pointer t) = tt
-  operator_typed at o g neither = tt
+  operator_typed at o g k = tt
 
   pub unary_typed : (at o : ℕ) (g : TypedExpression) → ValueHas V g → Holds (TypedExpressionHas W V) (unary_of_value at o g)
   unary_typed at o g h =
@@ -164,10 +127,7 @@ module _ (W V : CType → Type 0) (closed : AreClosed W V) where
   pub cast_typed : (at : ℕ) (t : CType) (g : TypedExpression) → Holds (TypedExpressionHas W V) (cast_of at t g)
   cast_typed at void g = nothing_has
   cast_typed at (integer i) g = demand_holds (TypedExpressionHas W V) (is_integer g.ctype) 3 at (cast_to i g) (λ _. int_has i)
-  cast_typed at (pointer t) g = tt
-  cast_typed at (array t n) g = tt
-  cast_typed at (struct s) g = tt
-  cast_typed at (function t ts) g = tt
+  cast_typed at t g = tt
 
   pub null_cast_typed : (at : ℕ) (g : TypedExpression) → Holds (TypedExpressionHas W V) (null_cast at g)
   null_cast_typed at g = demand_holds (TypedExpressionHas W V) (is_integer g.ctype && is_null g) 3 at (null_of (pointer void)) (λ _. closed.null)
@@ -181,10 +141,7 @@ module _ (W V : CType → Type 0) (closed : AreClosed W V) where
   sum_of_typed env at a b (an_integer i) (an_integer j) e f g h = int_has (common i j)
   sum_of_typed env at a b (a_pointer t) (an_integer j) e f g h = after_part (TypedExpressionHas W V) (complete env at t) _ (λ _. moved_typed a.ctype t (kind_pointer a.ctype t e) g)
   sum_of_typed env at a b (an_integer i) (a_pointer t) e f g h = after_part (TypedExpressionHas W V) (complete env at t) _ (λ _. moved_typed b.ctype t (kind_pointer b.ctype t f) h)
-  sum_of_typed env at a b (an_integer i) neither e f g h = tt
-  sum_of_typed env at a b (a_pointer t) (a_pointer u) e f g h = tt
-  sum_of_typed env at a b (a_pointer t) neither e f g h = tt
-  sum_of_typed env at a b neither l e f g h = tt
+  sum_of_typed env at a b k l e f g h = tt
 
   pub sum_typed : (env : Env) (at : ℕ) (a b : TypedExpression) → ValueHas V a → ValueHas V b → Holds (TypedExpressionHas W V) (sum env at a b)
   sum_typed env at a b g h = sum_of_typed env at a b (kind_of a.ctype) (kind_of b.ctype) refl refl g h
@@ -193,38 +150,24 @@ module _ (W V : CType → Type 0) (closed : AreClosed W V) where
   minus_typed env at a b (an_integer i) (an_integer j) e g = int_has (common i j)
   minus_typed env at a b (a_pointer t) (an_integer j) e g = after_part (TypedExpressionHas W V) (complete env at t) _ (λ _. moved_typed a.ctype t (kind_pointer a.ctype t e) g)
   minus_typed env at a b (a_pointer t) (a_pointer u) e g = behind_demand (TypedExpressionHas W V) (same_type t u) 3 at _ (λ _. after_part (TypedExpressionHas W V) (complete env at t) _ (λ _. int_has _))
-  minus_typed env at a b (an_integer i) (a_pointer t) e g = tt
-  minus_typed env at a b (an_integer i) neither e g = tt
-  minus_typed env at a b (a_pointer t) neither e g = tt
-  minus_typed env at a b neither l e g = tt
+  minus_typed env at a b k l e g = tt
 
   balanced_typed : (at : ℕ) (o : BinOp) (a b : TypedExpression) (k l : Kind) → Holds (TypedExpressionHas W V) (balanced_of at o a b k l)
   balanced_typed at o a b (an_integer i) (an_integer j) = int_has (common i j)
-  balanced_typed at o a b (an_integer i) (a_pointer t) = tt
-  balanced_typed at o a b (an_integer i) neither = tt
-  balanced_typed at o a b (a_pointer t) l = tt
-  balanced_typed at o a b neither l = tt
+  balanced_typed at o a b k l = tt
 
   shift_typed : (at : ℕ) (o : BinOp) (a b : TypedExpression) (k l : Kind) → Holds (TypedExpressionHas W V) (shift_of at o a b k l)
   shift_typed at o a b (an_integer i) (an_integer j) = int_has (promoted i)
-  shift_typed at o a b (an_integer i) (a_pointer t) = tt
-  shift_typed at o a b (an_integer i) neither = tt
-  shift_typed at o a b (a_pointer t) l = tt
-  shift_typed at o a b neither l = tt
+  shift_typed at o a b k l = tt
 
   ordered_typed : (env : Env) (at : ℕ) (o : BinOp) (a b : TypedExpression) (k l : Kind) → Holds (TypedExpressionHas W V) (ordered_of env at o a b k l)
   ordered_typed env at o a b (an_integer i) (an_integer j) = int_has _
   ordered_typed env at o a b (a_pointer t) (a_pointer u) = behind_demand (TypedExpressionHas W V) (same_type t u) 3 at _ (λ _. after_part (TypedExpressionHas W V) (complete env at t) _ (λ _. int_has _))
-  ordered_typed env at o a b (an_integer i) (a_pointer t) = tt
-  ordered_typed env at o a b (an_integer i) neither = tt
-  ordered_typed env at o a b (a_pointer t) (an_integer j) = tt
-  ordered_typed env at o a b (a_pointer t) neither = tt
-  ordered_typed env at o a b neither l = tt
+  ordered_typed env at o a b k l = tt
 
   equality_typed : (at : ℕ) (o : BinOp) (a b : TypedExpression) (x : Alike) → Holds (TypedExpressionHas W V) (equality_of at o a b x)
-  equality_typed at o a b (alike_integers i) = int_has _
-  equality_typed at o a b (alike_pointers x y) = int_has _
   equality_typed at o a b unlike = tt
+  equality_typed at o a b x = int_has _
 
   arithmetic_typed : (env : Env) (at : ℕ) (o : BinOp) (a b : TypedExpression) → ValueHas V a → ValueHas V b → Holds (TypedExpressionHas W V) (arithmetic_of env at o a b)
   arithmetic_typed env at op.Add a b g h = sum_typed env at a b g h
@@ -248,28 +191,20 @@ module _ (W V : CType → Type 0) (closed : AreClosed W V) where
 
   -- operands that are made alike
   abbrev AlikeTyped : Alike → Type 0
-  AlikeTyped (alike_integers i) = Unit {0}
   AlikeTyped (alike_pointers x y) = V x.ctype
-  AlikeTyped unlike = Unit {0}
-
-  if_alike : (t : Bool) (x y : Alike) → AlikeTyped x → AlikeTyped y → AlikeTyped (if t then x else y)
-  if_alike true x y h k = h
-  if_alike false x y h k = k
+  AlikeTyped x = Unit {0}
 
   pointers_typed : (a b : TypedExpression) → ValueHas V a → ValueHas V b → AlikeTyped (pointers_alike a b)
   pointers_typed a b g h =
-      if_alike (same_type a.ctype b.ctype) (alike_pointers a b) _ g
-      (if_alike (is_null a) (alike_pointers (null_of b.ctype) b) _ h
-      (if_alike (is_null b) (alike_pointers a (null_of a.ctype)) unlike g tt))
+      cond_both (same_type a.ctype b.ctype) (alike_pointers a b) _ AlikeTyped (λ _. g)
+      (λ _. cond_both (is_null a) (alike_pointers (null_of b.ctype) b) _ AlikeTyped (λ _. h)
+      (λ _. cond_both (is_null b) (alike_pointers a (null_of a.ctype)) unlike AlikeTyped (λ _. g) (λ _. tt)))
 
   alike_of_typed : (a b : TypedExpression) (k l : Kind) → ValueHas V a → ValueHas V b → AlikeTyped (alike_of a b k l)
-  alike_of_typed a b (an_integer i) (an_integer j) g h = tt
   alike_of_typed a b (a_pointer t) (a_pointer u) g h = pointers_typed a b g h
-  alike_of_typed a b (a_pointer t) (an_integer j) g h = if_alike (is_null b) (alike_pointers a (null_of a.ctype)) unlike g tt
-  alike_of_typed a b (an_integer i) (a_pointer u) g h = if_alike (is_null a) (alike_pointers (null_of b.ctype) b) unlike h tt
-  alike_of_typed a b (an_integer i) neither g h = tt
-  alike_of_typed a b (a_pointer t) neither g h = tt
-  alike_of_typed a b neither l g h = tt
+  alike_of_typed a b (a_pointer t) (an_integer j) g h = cond_both (is_null b) (alike_pointers a (null_of a.ctype)) unlike AlikeTyped (λ _. g) (λ _. tt)
+  alike_of_typed a b (an_integer i) (a_pointer u) g h = cond_both (is_null a) (alike_pointers (null_of b.ctype) b) unlike AlikeTyped (λ _. h) (λ _. tt)
+  alike_of_typed a b k l g h = tt
 
   arms_typed : (at : ℕ) (c a b : TypedExpression) (x : Alike) → AlikeTyped x → Holds (TypedExpressionHas W V) (arms_of at c a b x)
   arms_typed at c a b (alike_integers i) h = int_has i
@@ -290,11 +225,7 @@ module _ (W V : CType → Type 0) (closed : AreClosed W V) where
   update_typed : (env : Env) (at : ℕ) (o : BinOp) (old : Bool) (p v : TypedExpression) (k l : Kind) → TypedExpressionHas W V p → Holds (TypedExpressionHas W V) (update_of env at o old p v k l)
   update_typed env at o old p v (an_integer i) (an_integer j) h = given_value p h
   update_typed env at o old p v (a_pointer t) (an_integer j) h = behind_demand (TypedExpressionHas W V) (moves o) 3 at _ (λ _. after_part (TypedExpressionHas W V) (complete env at t) _ (λ _. given_value p h))
-  update_typed env at o old p v (an_integer i) (a_pointer t) h = tt
-  update_typed env at o old p v (an_integer i) neither h = tt
-  update_typed env at o old p v (a_pointer t) (a_pointer u) h = tt
-  update_typed env at o old p v (a_pointer t) neither h = tt
-  update_typed env at o old p v neither l h = tt
+  update_typed env at o old p v k l h = tt
 
   pub assignment_by_typed : (env : Env) (at o : ℕ) (p v : TypedExpression) → TypedExpressionHas W V p → Holds (TypedExpressionHas W V) (assignment_by env at o p v)
   assignment_by_typed env at o p v h =
@@ -322,17 +253,12 @@ module _ (W V : CType → Type 0) (closed : AreClosed W V) where
   member_or_typed env at ms g (Some k) h = all_got (map type_of_member ms) k h
 
   member_struct_typed : (env : Env) (at : ℕ) (x : Name) (g : TypedExpression) (m : Struct) → ((ms : List Member) → m ≡ defined_struct ms → AllHave W (map type_of_member ms)) → Holds (TypedExpressionHas W V) (member_of_struct env at x g m)
-  member_struct_typed env at x g incomplete h = tt
-  member_struct_typed env at x g (unknown_struct f fs) h = tt
   member_struct_typed env at x g (defined_struct ms) h = member_or_typed env at ms g (number_among (map name_of_member ms) x) (h ms refl)
+  member_struct_typed env at x g m h = tt
 
   member_type_typed : (env : Env) → ((s : ℕ) (ms : List Member) → struct_of env s ≡ defined_struct ms → AllHave W (map type_of_member ms)) → (at : ℕ) (x : Name) (g : TypedExpression) (t : CType) → Holds (TypedExpressionHas W V) (member_of_type env at x g t)
   member_type_typed env h at x g (struct s) = member_struct_typed env at x g (struct_of env s) (h s)
-  member_type_typed env h at x g void = tt
-  member_type_typed env h at x g (integer i) = tt
-  member_type_typed env h at x g (pointer t) = tt
-  member_type_typed env h at x g (array t k) = tt
-  member_type_typed env h at x g (function t ts) = tt
+  member_type_typed env h at x g t = tt
 
   pub member_typed : (env : Env) → ((s : ℕ) (ms : List Member) → struct_of env s ≡ defined_struct ms → AllHave W (map type_of_member ms)) → (at : ℕ) (x : Name) (g : TypedExpression) → Holds (TypedExpressionHas W V) (member_of env at x g)
   member_typed env h at x g = member_type_typed env h at x g g.ctype

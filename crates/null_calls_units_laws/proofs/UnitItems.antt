@@ -1,13 +1,11 @@
 -- The items of a unit with null calls round its marked calls beside those of the plain one.
-use Rattle.std.proofs.Common.{◌≡◌, ℕ, ◌+◌, ◌*◌, ◌≤◌, Bool, true, false, List, [], ◌∷◌, ◌++◌, map, Option, Some, None, refl, ap, ap₂, sym, subst, ◌∙◌, arith}
+use Rattle.std.proofs.Common.{◌≡◌, ℕ, ◌+◌, ◌*◌, ◌≤◌, List, [], ◌∷◌, ◌++◌, map, refl, ap, ap₂, sym, subst, ◌∙◌, arith}
 use Rattle.c_tree.specs.Tree.{Function, Program}
-use Rattle.c_syntax.specs.Tree.{Ident, Storage, Spec, Declarator, MaybeInit, Parts, no_parts, more_parts, Decl, decl, Item, struct_item, enum_item, tag_item, decl_item, function_item, Items, no_items, more_items}
-use Rattle.c_rules.specs.Checked.{Checked, fine}
+use Rattle.c_syntax.specs.Tree.{Item, struct_item, enum_item, tag_item, decl_item, function_item, Items, no_items, more_items}
+use Rattle.c_rules.specs.Checked.{fine}
 use Rattle.c_rules.specs.Names.{Name}
 use Rattle.c_rules.specs.Scopes.{Env, Before}
-use Rattle.c_rules.specs.Declarators.{name_of}
-use Rattle.c_rules.specs.Functions.{declares_function, function_declared}
-use Rattle.c_rules.specs.Items.{Output, no_output, with_output, static_of, struct_definition, tag_declaration, new_enum, enumerators, defines, global_declared, definition_of, within_global, global, without_init, declared_part, named_part, behind_file_part, after_file_part, file_parts, file_decl, item, behind_item, after_item, items, behind_items, after_items}
+use Rattle.c_rules.specs.Items.{Output, no_output, with_output, struct_definition, tag_declaration, new_enum, enumerators, item, behind_item, after_item, items, behind_items, after_items}
 use Rattle.null_calls_rules.specs.MarkedCalls.{sites_of}
 use Rattle.null_calls_rules.specs.Instrumented as units
 use Rattle.null_calls_rules.specs.Instrumented.{calls_of_item}
@@ -17,39 +15,14 @@ use Rattle.null_calls_statements_laws.proofs.Nodes.{both_gives}
 use Rattle.null_calls_units_laws.specs.FileScopes.{FilesBeside, at_site}
 use Rattle.null_calls_units_laws.specs.OtherItems.{IsOther}
 use Rattle.null_calls_units_laws.proofs.Items.{other_items_go}
-use Rattle.c_rules_laws.proofs.Holding.{Holds, held, both_hold, Any, anything, first_fine}
-use Rattle.c_rules_laws.proofs.Holding.{after_part as behind_any}
+use Rattle.c_rules_laws.proofs.Holding.{Holds, held, both_hold, Any, anything, first_fine, after_part as behind_any}
 use Rattle.c_rules_laws.proofs.UnitShape.{output_same}
 use Rattle.null_calls_units_laws.specs.Functions.{HasFunctions, FunctionFacts, ItemGoes}
 use Rattle.null_calls_units_laws.proofs.FunctionItems.{function_item_goes}
 use Rattle.null_calls_units_laws.proofs.FileWritten.{form_whole}
-use Rattle.null_calls_units_laws.proofs.Facts.{UnitFacts}
+use Rattle.null_calls_units_laws.proofs.Facts.{NoFunctions, decl_none, UnitFacts}
 
 -- ## Items that define no function
-
-abbrev NoFunctions : Output → Type 0
-NoFunctions o = o.functions ≡ []
-
-part_none : (e : Env) (b : Before) (at : ℕ) (class : Storage) (s : Spec) (d : Declarator) (m : MaybeInit) (o : Option Ident) → Holds NoFunctions (named_part e b at class s d m o)
-part_none e b at class s d m None = tt
-part_none e b at class s d m (Some x) = by_kind (declares_function d)
-  where
-    by_global : (k : Bool) (r : Checked _) → Holds NoFunctions (global e k b x m r)
-    by_global false r = behind_any NoFunctions r (λ _. fine no_output) (λ _. refl)
-    by_global true r = behind_any NoFunctions r (definition_of (within_global e true x r) b m) (λ o. behind_any NoFunctions _ (λ gs. fine (static_of o gs)) (λ _. refl))
-
-    by_kind : (t : Bool) → Holds NoFunctions (declared_part e b at class s d m t x)
-    by_kind true = both_hold Any Any NoFunctions (function_declared e false at s d x) (without_init m) (λ _ _. fine no_output) (anything _) (anything _) (λ _ _ _ _. refl)
-    by_kind false = by_global (defines class m) (global_declared e (defines class m) b at s d x m)
-
-parts_none : (ps : Parts) (e : Env) (b : Before) (at : ℕ) (class : Storage) (s : Spec) → Holds NoFunctions (file_parts e b at class s ps)
-parts_none no_parts e b at class s = refl
-parts_none (more_parts d m ps) e b at class s =
-    both_hold NoFunctions NoFunctions NoFunctions (named_part e b at class s d m (name_of d)) (file_parts (behind_file_part e b at class s d m) (after_file_part e b at class s d m) at class s ps) (λ p q. fine (with_output p q))
-    (part_none e b at class s d m (name_of d)) (parts_none ps (behind_file_part e b at class s d m) (after_file_part e b at class s d m) at class s) (λ p q h k. ap₂ (λ xs ys. xs ++ ys) h k)
-
-decl_none : (d : Decl) (e : Env) (b : Before) → Holds NoFunctions (file_decl e b d)
-decl_none (decl at class s ps) e b = parts_none ps e b at class s
 
 other_none : (i : Item) → IsOther i → (e : Env) (b : Before) → Holds NoFunctions (item e b i)
 other_none (struct_item at x ms) o e b = behind_any NoFunctions (struct_definition e x ms) (λ _. fine no_output) (λ _. refl)
@@ -75,18 +48,12 @@ other_goes p e f w b n i o out few h =
 
 item_goes : (p : Program) (tags : List Name) (e f : Env) → FilesBeside e f → HasFunctions p e.whole.functions → (b : Before) (n : ℕ) (i : Item) (out : Output) → FunctionFacts p tags e b i → n ≤ 3 * b.sites → b.sites ≤ 10000 → item e b i ≡ fine out
     → ItemGoes p e f b n i (units.item (sites_of p) tags b.sites i) out
-item_goes p tags e f w g b n (struct_item at x ms) out facts few low h = other_goes p e f w b n (struct_item at x ms) tt out few h
-item_goes p tags e f w g b n (enum_item at x es) out facts few low h = other_goes p e f w b n (enum_item at x es) tt out few h
-item_goes p tags e f w g b n (tag_item at x) out facts few low h = other_goes p e f w b n (tag_item at x) tt out few h
-item_goes p tags e f w g b n (decl_item at d) out facts few low h = other_goes p e f w b n (decl_item at d) tt out few h
 item_goes p tags e f w g b n (function_item at class s d body) out facts few low h = function_item_goes p tags e f w g b n at class s d body out facts few low h
+item_goes p tags e f w g b n i out facts few low h = other_goes p e f w b n i tt out few h
 
 item_low : (p : Program) (tags : List Name) (e : Env) (b : Before) (i : Item) → FunctionFacts p tags e b i → b.sites ≤ 10000 → b.sites + calls_of_item i ≤ 10000
-item_low p tags e b (struct_item at x ms) facts low = omega (arith, low)
-item_low p tags e b (enum_item at x es) facts low = omega (arith, low)
-item_low p tags e b (tag_item at x) facts low = omega (arith, low)
-item_low p tags e b (decl_item at d) facts low = omega (arith, low)
 item_low p tags e b (function_item at class s d body) facts low = facts.3.temporaries.within low
+item_low p tags e b i facts low = omega (arith, low)
 
 -- ## All items
 

@@ -1,5 +1,5 @@
 -- The unit with null calls round its marked calls is typed.
-use Rattle.std.proofs.Common.{◌≡◌, ℕ, zero, suc, true, false, List, [], ◌++◌, map, replicate, length, slice_get, unwrap_or, codes, refl, ap, ap₂, sym, subst, ◌∙◌, arith, ◌^◌, ◌&&◌, nat_lt}
+use Rattle.std.proofs.Common.{◌≡◌, ℕ, suc, true, false, List, [], ◌++◌, map, replicate, length, slice_get, unwrap_or, codes, refl, ap, ap₂, sym, subst, ◌∙◌, arith, ◌^◌, ◌&&◌, nat_lt}
 use Rattle.dm_base.specs.declared.mode.Mode.TheVariants.{Plain, Instrumented}
 use Rattle.c_tree.specs.Tree.{Program}
 use Rattle.c_tree.specs.Program.{IsProgram}
@@ -24,7 +24,7 @@ use Rattle.c_rules_laws.proofs.Holding.{held, on_fine, demand_fine}
 use Rattle.c_rules_laws.proofs.FileScopes.{IsFileRight, Follows, follows_self}
 use Rattle.c_rules_laws.proofs.FileItems.{items_step}
 use Rattle.c_rules_laws.proofs.UnitScopes.{IsTable}
-use Rattle.c_rules_laws.proofs.UnitTable.{table}
+use Rattle.c_rules_laws.proofs.UnitTable.{table, no_binding, before_right}
 use Rattle.c_rules_laws.proofs.WholeUnits.{unit_program}
 use Rattle.null_calls_units_laws.specs.AbstractCasts.{UnitNamesNoType}
 use Rattle.null_calls_units_laws.proofs.Declared.{among_right}
@@ -34,17 +34,15 @@ use Rattle.null_calls_units_laws.specs.Units.{InstrumentedUnitsAreTyped}
 use Rattle.null_calls_units_laws.proofs.FileWritten.{IsWrittenFile}
 use Rattle.null_calls_units_laws.proofs.Aside.{items_aside}
 use Rattle.null_calls_units_laws.proofs.Facts.{UnitFacts, unit_facts, all_in}
-use Rattle.null_calls_units_laws.proofs.Names.{each_app, each_none, each_has, tags_go, functions_same, objects_same, AllPlain, functions_plain, none_reserved}
+use Rattle.null_calls_units_laws.proofs.Names.{each_app, each_none, each_has, tags_go, names_same, AllPlain, functions_plain, none_reserved}
 use Rattle.null_calls_units_laws.proofs.UnitItems.{ItemsGo, items_go}
 use Rattle.null_calls_units_laws.proofs.Prototypes.{start, new_env, items_start, env_start, strings_start, start_files}
-use Rattle.c_rules_laws.proofs.UnitTable.{no_binding, before_right}
 
 -- ## Before all items
 
 all_incomplete : (n s : ℕ) → unwrap_or (slice_get (replicate n incomplete) s) incomplete ≡ incomplete
-all_incomplete zero s = refl
-all_incomplete (suc n) zero = refl
 all_incomplete (suc n) (suc s) = all_incomplete n s
+all_incomplete n s = refl
 
 no_struct : (n s : ℕ) (ms : List Member) → unwrap_or (slice_get (replicate n incomplete) s) incomplete ≡ defined_struct ms → ⊥
 no_struct n s ms e = (let q : incomplete ≡ defined_struct ms = sym (all_incomplete n s) ∙ e in cc)
@@ -109,10 +107,10 @@ module _ (u : Items) (out : Output) (lexical : IsUnitLexical u) (names : UnitNam
       ∙ (each_app [] (tags_of_items true u) (tags_of_items false later) ∙ (each_none S (tags_of_items false later) gone.1 ∙ sym tags_here))
 
   functions_stay : functions_of new_unit ≡ functions_of u
-  functions_stay = functions_same (sites_of (program_of Plain u out)) (tags_of u) u 0
+  functions_stay = (names_same (sites_of (program_of Plain u out)) (tags_of u) u 0).0
 
   objects_stay : objects_of new_unit ≡ objects_of u
-  objects_stay = objects_same (sites_of (program_of Plain u out)) (tags_of u) u 0
+  objects_stay = (names_same (sites_of (program_of Plain u out)) (tags_of u) u 0).1
 
   whole_stays : whole_of Instrumented new_unit ≡ record (whole_of Plain u) { mode = Instrumented }
   whole_stays = λ i. record { mode = Instrumented; functions = functions_stay i; objects = objects_stay i; tags = tags_stay i }
