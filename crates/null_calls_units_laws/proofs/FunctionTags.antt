@@ -22,17 +22,17 @@ use Rattle.null_calls_units_laws.proofs.Temporaries.{AllFree}
 
 -- ## Lists of names
 
-each_later : (y : Name) (ts xs : List Name) → AreAmong ts xs → AreAmong (y ∷ ts) xs
-each_later y ts [] h = tt
-each_later y ts (x ∷ xs) h = (among_rest y x ts h.0, each_later y ts xs h.1)
+-- where names of one list stand in another
+pub among_each : (us vs : List Name) → ((x : Name) → is_among us x ≡ true → is_among vs x ≡ true) → (xs : List Name) → AreAmong us xs → AreAmong vs xs
+among_each us vs f [] h = tt
+among_each us vs f (x ∷ xs) h = (f x h.0, among_each us vs f xs h.1)
 
 pub among_itself : (xs : List Name) → AreAmong xs xs
 among_itself [] = tt
-among_itself (x ∷ xs) = (among_first x x xs (itself x), each_later x xs xs (among_itself xs))
+among_itself (x ∷ xs) = (among_first x x xs (itself x), among_each xs (x ∷ xs) (λ y. among_rest x y xs) xs (among_itself xs))
 
 pub among_front : (ts us xs : List Name) → AreAmong ts xs → AreAmong (ts ++ us) xs
-among_front ts us [] h = tt
-among_front ts us (x ∷ xs) h = (among_left ts us x h.0, among_front ts us xs h.1)
+among_front ts us xs h = among_each ts (ts ++ us) (among_left ts us) xs h
 
 -- a name of a list is its first one, or stands behind it
 first_or_rest : (P : Type 0) (y x : Name) (ys : List Name) → is_among (y ∷ ys) x ≡ true → (y ≡ x → P) → (is_among ys x ≡ true → P) → P
@@ -53,8 +53,7 @@ among_cases P [] ys x e h k = k e
 among_cases P (y ∷ xs) ys x e h k = first_or_rest P y x (xs ++ ys) e (λ q. h (among_first y x xs ((bytes_eq-Decides y x).1 q))) (λ q. among_cases P xs ys x q (λ r. h (among_rest y x xs r)) k)
 
 pub among_on : (ts us xs : List Name) → AreAmong ts us → AreAmong us xs → AreAmong ts xs
-among_on ts us [] h k = tt
-among_on ts us (x ∷ xs) h k = (is_in ts us h x k.0, among_on ts us xs h k.1)
+among_on ts us xs h k = among_each us ts (is_in ts us h) xs k
 
 -- ## Spellings
 

@@ -15,10 +15,6 @@ use Rattle.c_rules_laws.proofs.Parts.{value_leads}
 use Rattle.c_rules.proofs.ModeBlocks.{one_leads, list_leads}
 pub use Rattle.c_rules.proofs.ModeBlocks.{on_to, both_to, gives_to, weaken, always, moved, both_lists}
 
--- ## Parts with facts
-
--- ## Strings that initialisers hold
-
 -- ## Strings that initialisers hold
 
 mutual

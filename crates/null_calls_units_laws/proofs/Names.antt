@@ -20,8 +20,8 @@ use Rattle.null_calls_units_laws.specs.Spelled.{AreAmong}
 use Rattle.null_calls_units_laws.proofs.FileNames.{other_name}
 use Rattle.c_rules_laws.proofs.Holding.{Holds, both_hold, Any, anything}
 use Rattle.null_calls_units_laws.proofs.Declared.{among_left, among_right, among_both}
-use Rattle.c_rules_laws.proofs.DistinctNames.{among_right as among_later}
-use Rattle.null_calls_units_laws.proofs.FunctionTags.{is_in, among_on, among_itself, among_front}
+use Rattle.c_rules_laws.proofs.DistinctNames.{new_kept, new_there}
+use Rattle.null_calls_units_laws.proofs.FunctionTags.{among_each, is_in, among_on, among_itself}
 use Rattle.null_calls_units_laws.proofs.FunctionItems.{item_tags}
 use Rattle.null_calls_units_laws.proofs.FileWritten.{form_tags, form_whole}
 use Rattle.null_calls_units_laws.proofs.Aside.{IsPlain, always, function_plain}
@@ -38,11 +38,7 @@ each_none ys [] h = refl
 each_none ys (x ∷ xs) h = ap (λ t. each_once (if t then ys else ys ++ x ∷ []) xs) h.0 ∙ each_none ys xs h.1
 
 with_has : (ys : List Name) (x : Name) → AreAmong (with_new ys x) ys × (is_among (with_new ys x) x ≡ true)
-with_has ys x = by_test (is_among ys x) refl
-  where
-    by_test : (t : Bool) → is_among ys x ≡ t → AreAmong (if t then ys else ys ++ x ∷ []) ys × (is_among (if t then ys else ys ++ x ∷ []) x ≡ true)
-    by_test true e = (among_itself ys, e)
-    by_test false e = (among_front ys (x ∷ []) ys (among_itself ys), among_later ys (x ∷ []) x (among_itself (x ∷ [])).0)
+with_has ys x = (among_each ys (with_new ys x) (new_kept ys x) ys (among_itself ys), new_there ys x)
 
 pub each_has : (ys xs : List Name) → AreAmong (each_once ys xs) ys × AreAmong (each_once ys xs) xs
 each_has ys [] = (among_itself ys, tt)
