@@ -4,7 +4,6 @@ use Rattle.c_tree.specs.Tree.{CType, Program}
 use Rattle.c_tree.specs.Tree as typed
 use Rattle.c_rules.specs.Scopes.{a_local, with_name}
 use Rattle.c_rules.specs.Checked.{Checked, fine, faulty, on, both}
-use Rattle.c_rules.specs.Counts.{past}
 use Rattle.c_rules.specs.Variables.{names_of_decl, past_names}
 use Rattle.c_rules.specs.Blocks.{behind_decl, after_decl, StatementTree, some_more}
 use Rattle.c_rules.specs.Statements.{items_of_block}
