@@ -97,11 +97,7 @@ module _ (p : Program) where
 
   zero_bare : (t : CType) → IsBare (typed_zero t)
   zero_bare void = record { types = refl; tree = λ k. refl }
-  zero_bare (integer i) = record { types = refl; tree = λ k. refl }
-  zero_bare (pointer t) = record { types = refl; tree = λ k. refl }
-  zero_bare (array t n) = record { types = refl; tree = λ k. refl }
-  zero_bare (struct s) = record { types = refl; tree = λ k. refl }
-  zero_bare (function t ts) = record { types = refl; tree = λ k. refl }
+  zero_bare t = record { types = refl; tree = λ k. refl }
 
   all_zero : (ts : List CType) → AllBare (map typed_zero ts)
   all_zero [] = tt
@@ -149,28 +145,19 @@ module _ (p : Program) where
 
     -- an array takes a string, which has no temporaries
     array_goes : (at n : ℕ) (t : CType) (text : Option (List ℕ)) → ((w : List ℕ) → text ≡ Some w → ts ≡ []) → CellsGo k ts (array_cells at t n text) (array_cells at t n text)
-    array_goes at n void text h = tt
     array_goes at n (integer Char) None h = tt
     array_goes at n (integer Char) (Some w) h = chars_in at n w (nat_le (length w) n) (h w refl)
-    array_goes at n (integer Uchar) text h = tt
-    array_goes at n (integer Int) text h = tt
-    array_goes at n (integer Uint) text h = tt
-    array_goes at n (pointer t) text h = tt
-    array_goes at n (array t m) text h = tt
-    array_goes at n (struct s) text h = tt
-    array_goes at n (function t us) text h = tt
+    array_goes at n x text h = tt
 
     behind_goes : (q : Checked Met) (r : Checked (List TypedExpression)) → CellsGo k ts r r → CellsGo k ts (on q (λ _. r)) (on q (λ _. r))
     behind_goes (fine a) r h = h
     behind_goes (faulty f fs) r h = tt
 
     pub expression_goes : (at : ℕ) (t : CType) (text : Option (List ℕ)) (r s : Checked TypedExpression) → ((w : List ℕ) → text ≡ Some w → ts ≡ []) → Follows p k ts r s → CellsGo k ts (cells_of_one false at t text r) (cells_of_one false at t text s)
-    expression_goes at void text r s h l = tt
     expression_goes at (integer i) text r s h l = scalar_goes at (integer i) r s l
     expression_goes at (pointer t) text r s h l = scalar_goes at (pointer t) r s l
     expression_goes at (array t n) text r s h l = behind_goes (text_fits at text) (array_cells at t n text) (array_goes at n t text h)
-    expression_goes at (struct i) text r s h l = tt
-    expression_goes at (function t us) text r s h l = tt
+    expression_goes at x text r s h l = tt
 
     -- a list in braces, which has no more initialisers than there are elements or members
     pub list_goes : (takes : Bool) (at most n : ℕ) (r s : Checked (List TypedExpression)) → (nat_le n most ≡ true → CellsGo k ts r s) → CellsGo k ts (cells_of_list takes at most n r) (cells_of_list takes at most n s)

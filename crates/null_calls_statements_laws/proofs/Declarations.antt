@@ -51,12 +51,7 @@ module _ (sites : Sites) where
       by_init no_init = refl
       by_init (an_init (one at e)) = ap (λ o. on (text_fits at o) (λ _. sized_by_one at t o)) (text_same sites e b)
       by_init (an_init (list at is)) = ap (λ n. demand (nat_le n most_cells) C13 name (typed.array t n)) (count_same sites is b)
-  size_same name b m (typed.array t (suc n)) = refl
-  size_same name b m typed.void = refl
-  size_same name b m (typed.integer i) = refl
-  size_same name b m (typed.pointer t) = refl
-  size_same name b m (typed.struct s) = refl
-  size_same name b m (typed.function t ts) = refl
+  size_same name b m x = refl
 
   -- the object is the same with the instrumented initialiser
   object_same : (env : Env) (b at : ℕ) (s : Spec) (d : Declarator) (x : Ident) (m : MaybeInit) → object_declared env at s d x (maybe_init sites b m) ≡ object_declared env at s d x m

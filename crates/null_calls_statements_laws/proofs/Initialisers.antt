@@ -37,41 +37,13 @@ text_of_call at site (Some c) d es = refl
 
 module _ (sites : Sites) where
   pub text_same : (x : Expr) (b : ℕ) → text_of (expr sites b true x) ≡ text_of x
-  text_same (a_name at x) b = refl
-  text_same (an_int at n u) b = refl
-  text_same (a_char at c) b = refl
-  text_same (a_str at w) b = refl
-  text_same (comma at es) b = refl
-  text_same (sizeof_type at t) b = refl
-  text_same (cast at t e) b = refl
   text_same (call at d es) b = text_of_call at (b + calls d) (sites (b + calls d)) (expr sites b true d) (arguments sites (suc (b + calls d)) es)
-  text_same (member at how e x) b = refl
-  text_same (postfix at op e) b = refl
-  text_same (prefix at op e) b = refl
-  text_same (unary at op e) b = refl
-  text_same (index at e f) b = refl
-  text_same (binary at op e f) b = refl
-  text_same (assign at op e f) b = refl
-  text_same (conditional at c e f) b = refl
+  text_same d b = refl
 
   -- a string has no temporaries
   string_alone : (x : Expr) (b : ℕ) (w : List ℕ) → text_of x ≡ Some w → types_of (kept sites b true x) ≡ []
-  string_alone (a_name at x) b w h = cc
-  string_alone (an_int at n u) b w h = cc
-  string_alone (a_char at c) b w h = cc
   string_alone (a_str at v) b w h = refl
-  string_alone (comma at es) b w h = cc
-  string_alone (sizeof_type at t) b w h = cc
-  string_alone (cast at t e) b w h = cc
-  string_alone (call at d es) b w h = cc
-  string_alone (member at how e x) b w h = cc
-  string_alone (postfix at op e) b w h = cc
-  string_alone (prefix at op e) b w h = cc
-  string_alone (unary at op e) b w h = cc
-  string_alone (index at e f) b w h = cc
-  string_alone (binary at op e f) b w h = cc
-  string_alone (assign at op e f) b w h = cc
-  string_alone (conditional at c e f) b w h = cc
+  string_alone y b w h = cc
 
   pub count_same : (is : Inits) (b : ℕ) → count_inits (inits sites b is) ≡ count_inits is
   count_same no_inits b = refl
@@ -106,10 +78,9 @@ module _ (sites : Sites) (env : Env) (w : More) where
 
     held_in_turn_same : (is : Inits) (s : Slots) (b : ℕ) → InitsNamed sites b is → held_in_turn R s (inits sites b is) ≡ held_in_turn L s is
     held_in_turn_same no_inits s b h = refl
-    held_in_turn_same (more_inits i is) (copies zero t) b h = refl
     held_in_turn_same (more_inits i is) (copies (suc n) t) b h = ap₂ (λ ws vs. ws ++ vs) (held_same i t b h.0) (held_in_turn_same is (copies n t) (b + calls_of_init i) h.1)
-    held_in_turn_same (more_inits i is) (each []) b h = refl
     held_in_turn_same (more_inits i is) (each (t ∷ ts)) b h = ap₂ (λ ws vs. ws ++ vs) (held_same i t b h.0) (held_in_turn_same is (each ts) (b + calls_of_init i) h.1)
+    held_in_turn_same (more_inits i is) x b h = refl
 
   near_init : (i : Init) (t : CType) (b b' : Before) → InitNamed sites b.sites i → Near b b' → Near (after_init L b t i) (after_init R b' t (init sites b.sites i))
   near_init i t b b' h n =
@@ -148,20 +119,19 @@ module _ (p : Program) (sites : Sites) (env : Env) (w : More) (goes : (x : Expr)
 
     inits_go : (is : Inits) (s : Slots) (b b' : Before) (k : ℕ) → InitsNamed sites b.sites is → InitsTabled p sites Left b s is → AreFound w.names k (kept_of_inits sites b.sites is) → Near b b' → count_inits is ≤ capacity s → CellsGo p k (types_of (kept_of_inits sites b.sites is)) (in_turn Left b false s is) (in_turn Right b' false s (inits sites b.sites is))
     inits_go no_inits s b b' k n c f r few = zeros_go p k (layout_of Left) s
-    inits_go (more_inits i is) (copies zero t) b b' k n c f r few = absurd (omega (arith, few))
     inits_go (more_inits i is) (copies (suc m) t) b b' k n c f r few =
         let xs : List Temporary = kept_of_init sites b.sites i in
         let ys : List Temporary = kept_of_inits sites (b.sites + calls_of_init i) is in
         more_go k xs ys (initialised Left b false t i) (initialised Right b' false t (init sites b.sites i)) (in_turn Left (after_init Left b t i) false (copies m t) is) (in_turn Right (after_init Right b' t (init sites b.sites i)) false (copies m t) (inits sites (b.sites + calls_of_init i) is))
         (init_goes i t b b' k n.0 c.0 (found_first w.names k xs ys f) r)
         (inits_go is (copies m t) (after_init Left b t i) (after_init Right b' t (init sites b.sites i)) (k + length (types_of xs)) n.1 c.1 (found_rest w.names k xs ys f) (near_init sites env w i t b b' n.0 r) (omega (arith, few)))
-    inits_go (more_inits i is) (each []) b b' k n c f r few = absurd (omega (arith, few))
     inits_go (more_inits i is) (each (t ∷ ts)) b b' k n c f r few =
         let xs : List Temporary = kept_of_init sites b.sites i in
         let ys : List Temporary = kept_of_inits sites (b.sites + calls_of_init i) is in
         more_go k xs ys (initialised Left b false t i) (initialised Right b' false t (init sites b.sites i)) (in_turn Left (after_init Left b t i) false (each ts) is) (in_turn Right (after_init Right b' t (init sites b.sites i)) false (each ts) (inits sites (b.sites + calls_of_init i) is))
         (init_goes i t b b' k n.0 c.0 (found_first w.names k xs ys f) r)
         (inits_go is (each ts) (after_init Left b t i) (after_init Right b' t (init sites b.sites i)) (k + length (types_of xs)) n.1 c.1 (found_rest w.names k xs ys f) (near_init sites env w i t b b' n.0 r) (omega (arith, few)))
+    inits_go (more_inits i is) x b b' k n c f r few = absurd (omega (arith, few))
 
 pub initialisers_go : InitialisersGo
 initialisers_go p sites names e f (stand_beside env w u m n s) b b' k t i named tabled found near =

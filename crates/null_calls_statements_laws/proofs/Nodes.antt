@@ -23,7 +23,7 @@ three_give p q r k a b c g h i = both_gives p (beside q r) (λ x t. k x t.first 
 
 gives_twice : {A B C : Type 0} (r : Checked A) (f : A → B) (g : B → C) → gives r (λ a. g (f a)) ≡ gives (gives r f) g
 gives_twice (fine a) f g = refl
-gives_twice (faulty x xs) f g = refl
+gives_twice (faulty e es) f g = refl
 
 -- ## Lists of statements
 

@@ -59,48 +59,14 @@ Operand sites b (unary place inner e) = AreReserved (kept sites b false e)
 Operand sites b e = Unit {0}
 
 by_unary : (sites : Sites) (at op : ℕ) (x : Expr) (b : ℕ) (wanted : Bool) → AreReserved (kept sites b true x) → Operand sites b x → AreReserved (kept sites b wanted (unary at op x))
-by_unary sites at op (a_name site x) b true h k = h
-by_unary sites at op (an_int site n u) b true h k = h
-by_unary sites at op (a_char site c) b true h k = h
-by_unary sites at op (a_str site w) b true h k = h
-by_unary sites at op (comma site es) b true h k = h
-by_unary sites at op (sizeof_type site t) b true h k = h
-by_unary sites at op (cast site t e) b true h k = h
-by_unary sites at op (call site d es) b true h k = h
-by_unary sites at op (member site how e x) b true h k = h
-by_unary sites at op (postfix site o e) b true h k = h
-by_unary sites at op (prefix site o e) b true h k = h
-by_unary sites at op (unary place inner e) b true h k = h
-by_unary sites at op (index site e f) b true h k = h
-by_unary sites at op (binary site o e f) b true h k = h
-by_unary sites at op (assign site o e f) b true h k = h
-by_unary sites at op (conditional site c e f) b true h k = h
-by_unary sites at op (a_name site x) b false h k = h
-by_unary sites at op (an_int site n u) b false h k = h
-by_unary sites at op (a_char site c) b false h k = h
-by_unary sites at op (a_str site w) b false h k = h
-by_unary sites at op (comma site es) b false h k = h
-by_unary sites at op (sizeof_type site t) b false h k = h
-by_unary sites at op (cast site t e) b false h k = h
-by_unary sites at op (call site d es) b false h k = h
-by_unary sites at op (member site how e x) b false h k = h
-by_unary sites at op (postfix site o e) b false h k = h
-by_unary sites at op (prefix site o e) b false h k = h
 by_unary sites at op (unary place inner e) b false h k = by_type AreReserved (is_address_of_indirection op inner) (kept sites b false e) (kept sites b true e) k h
-by_unary sites at op (index site e f) b false h k = h
-by_unary sites at op (binary site o e f) b false h k = h
-by_unary sites at op (assign site o e f) b false h k = h
-by_unary sites at op (conditional site c e f) b false h k = h
+by_unary sites at op y b true h k = h
+by_unary sites at op y b false h k = h
 
 module _ (sites : Sites) where
   mutual
     pub expr_reserved : (x : Expr) (b : ℕ) (wanted : Bool) → AreReserved (kept sites b wanted x)
-    expr_reserved (a_name at x) b wanted = tt
-    expr_reserved (an_int at n u) b wanted = tt
-    expr_reserved (a_char at c) b wanted = tt
-    expr_reserved (a_str at w) b wanted = tt
     expr_reserved (comma at es) b wanted = members_reserved es b wanted
-    expr_reserved (sizeof_type at t) b wanted = tt
     expr_reserved (cast at t e) b wanted = by_type AreReserved (is_void_type t) (kept sites b false e) (kept sites b true e) (expr_reserved e b false) (expr_reserved e b true)
     expr_reserved (call at d es) b wanted =
         reserved_both (kept sites b true d) (temporaries_where (b + calls d) wanted (sites (b + calls d)) ++ kept_of_arguments sites (suc (b + calls d)) es) (expr_reserved d b true)
@@ -109,7 +75,6 @@ module _ (sites : Sites) where
     expr_reserved (postfix at op e) b wanted = expr_reserved e b true
     expr_reserved (prefix at pre_increment e) b wanted = expr_reserved e b true
     expr_reserved (prefix at pre_decrement e) b wanted = expr_reserved e b true
-    expr_reserved (prefix at sizeof e) b wanted = tt
     expr_reserved (unary at op e) b wanted = by_unary sites at op e b wanted (expr_reserved e b true) (operand_reserved e b)
     expr_reserved (index at e f) b wanted = reserved_both (kept sites b true e) (kept sites (b + calls e) true f) (expr_reserved e b true) (expr_reserved f (b + calls e) true)
     expr_reserved (binary at op e f) b wanted = reserved_both (kept sites b true e) (kept sites (b + calls e) true f) (expr_reserved e b true) (expr_reserved f (b + calls e) true)
@@ -117,24 +82,11 @@ module _ (sites : Sites) where
     expr_reserved (conditional at c e f) b wanted =
         reserved_both (kept sites b true c) (kept sites (b + calls c) true e ++ kept sites (b + calls c + calls e) true f) (expr_reserved c b true)
         (reserved_both (kept sites (b + calls c) true e) (kept sites (b + calls c + calls e) true f) (expr_reserved e (b + calls c) true) (expr_reserved f (b + calls c + calls e) true))
+    expr_reserved d b wanted = tt
 
     operand_reserved : (x : Expr) (b : ℕ) → Operand sites b x
-    operand_reserved (a_name at x) b = tt
-    operand_reserved (an_int at n u) b = tt
-    operand_reserved (a_char at c) b = tt
-    operand_reserved (a_str at w) b = tt
-    operand_reserved (comma at es) b = tt
-    operand_reserved (sizeof_type at t) b = tt
-    operand_reserved (cast at t e) b = tt
-    operand_reserved (call at d es) b = tt
-    operand_reserved (member at how e x) b = tt
-    operand_reserved (postfix at op e) b = tt
-    operand_reserved (prefix at op e) b = tt
     operand_reserved (unary at op e) b = expr_reserved e b false
-    operand_reserved (index at e f) b = tt
-    operand_reserved (binary at op e f) b = tt
-    operand_reserved (assign at op e f) b = tt
-    operand_reserved (conditional at c e f) b = tt
+    operand_reserved y b = tt
 
     all_reserved : (es : Exprs) (b : ℕ) → AreReserved (kept_of_arguments sites b es)
     all_reserved no_exprs b = tt
