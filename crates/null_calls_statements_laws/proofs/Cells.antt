@@ -50,8 +50,7 @@ module _ (p : Program) where
   pub both_go : (k : ℕ) (ts us : List CType) (r r' s s' : Checked (List TypedExpression)) → CellsGo k ts r r' → CellsGo (k + length ts) us s s' → CellsGo k (ts ++ us) (both r s (λ gs hs. fine (gs ++ hs))) (both r' s' (λ gs hs. fine (gs ++ hs)))
   both_go k ts us (fine gs) r' (fine cs) s' g h =
       (g.0 ++ h.0, ap₂ (λ y z. both y z (λ gs hs. fine (gs ++ hs))) g.1 h.1, kept_both gs cs ∙ ap₂ (λ xs ys. xs ++ ys) g.2 h.2, cells_both gs g.0 cs h.0 k g.3 (subst (λ xs. Cells (k + length xs) cs h.0) (sym g.2) h.3))
-  both_go k ts us (fine gs) r' (faulty f fs) s' g h = tt
-  both_go k ts us (faulty f fs) r' s s' g h = tt
+  both_go k ts us r r' s s' g h = tt
 
   -- ## The trees of cells
 

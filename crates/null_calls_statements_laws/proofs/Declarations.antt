@@ -38,7 +38,9 @@ use Rattle.null_calls_statements_laws.proofs.Initialisers.{text_same, count_same
 use Rattle.null_calls_statements_laws.proofs.Reserved.{temporaries_stay}
 use Rattle.null_calls_statements_laws.proofs.Scopes.{named_stand, unadded}
 use Rattle.null_calls_statements_laws.specs.Declarations.{NamedTabled, PartsTabled, StatementTreeFollow, SameNumber, DeclarationsGo, FirstsGo}
-use Rattle.null_calls_statements_laws.proofs.StatementTree.{OneFollows, named_follows, behind_part_follows, variable_follows, nothing_follows, more_follow, expression_follows, alone_follows}
+use Rattle.null_calls_statements_laws.proofs.StatementTree.{named_follows, behind_part_follows, variable_follows, nothing_follows, expression_follows, alone_follows}
+use Rattle.null_calls_statements_laws.proofs.Nodes.{one_follows}
+use Rattle.null_calls_statements_laws.specs.Statements.{StatementTreeFollows}
 use Rattle.null_calls_statements_laws.proofs.Numbers.{past_same, numbers_stay, number_same}
 
 -- ## What is declared
@@ -139,7 +141,7 @@ near_past b b' c c' ws vs n few h = record {
 
 -- where the plain one is fine, the scopes behind the two stand beside each other, and what is held is the same
 record NamedGoes (p : Program) (sites : Sites) (names : List Binding) (e f : Env) (b b' : Before) (next next' : Next) (k at : ℕ) (s : Spec) (d : Declarator) (m : MaybeInit) (o : Option Ident) : Type 0 where
-  laid : OneFollows p k (types_of (kept_of_maybe_init sites b.sites m)) (local_named e b next at s d m o) (local_named f b' next' at s d (maybe_init sites b.sites m) o)
+  laid : StatementTreeFollows p k (types_of (kept_of_maybe_init sites b.sites m)) (local_named e b next at s d m o) (local_named f b' next' at s d (maybe_init sites b.sites m) o)
   scopes : (q : StatementTree typed.Stmt) → local_named e b next at s d m o ≡ fine q → StandBeside p names (behind_named e next at s d m o) (behind_named f next' at s d (maybe_init sites b.sites m) o)
   held : (q : StatementTree typed.Stmt) → local_named e b next at s d m o ≡ fine q → held_by_named f at s d (maybe_init sites b.sites m) o ≡ held_by_named e at s d m o
 
@@ -216,7 +218,7 @@ module _ (p : Program) (sites : Sites) (names : List Binding) where
       let q : Checked (StatementTree typed.Stmts) = local_parts (behind_part e next at s d m) (after_part e b at s d m) (past_part next d) at s ps in
       record {
         laid = subst (λ ts. StatementTreeFollow p k ts (local_parts e b next at s (more_parts d m ps)) (local_parts f b' next' at s (more_parts d m' ps'))) (sym (types_both xs ys))
-            (more_follow p k (types_of xs) (types_of ys) r (local_part f b' next' at s d m') q (local_parts (behind_part f next' at s d m') (after_part f b' at s d m') (past_part next' d) at s ps') one.laid (λ o h. (others o h).laid));
+            (one_follows p k (types_of xs) (types_of ys) r (local_part f b' next' at s d m') q (local_parts (behind_part f next' at s d m') (after_part f b' at s d m') (past_part next' d) at s ps') one.laid (λ o h. (others o h).laid));
         scopes = λ o h. (let c = first_fine r q (λ y z. fine (one_more y z)) o h in (others c.0 c.2).scopes c.1 c.3);
         held = λ o h. (let c = first_fine r q (λ y z. fine (one_more y z)) o h in ap₂ (λ vs ws. vs ++ ws) (one.held c.0 c.2) ((others c.0 c.2).held c.1 c.3));
       }

@@ -64,32 +64,22 @@ module _ (p : Program) where
 
   -- ## A condition and statements
 
-  module _ (k : ℕ) (ts us : List CType) where
-    pub if_follows : (r r' : Checked typed.Expr) (s s' : Checked (StatementTree typed.Stmt)) → TreeFollows p k ts r r' → ((c : typed.Expr) → r ≡ fine c → StatementTreeFollows p (k + length ts) us s s')
-        → StatementTreeFollows p k (ts ++ us) (both r s (λ c q. fine (with_tree q (typed.if_else c q.tree typed.empty)))) (both r' s' (λ c q. fine (with_tree q (typed.if_else c q.tree typed.empty))))
-    if_follows (fine c) r' (fine q) s' h g =
-        let i = g c refl in (
-          typed.if_else h.0 i.0 typed.empty,
-          both_gives r' s' (λ x y. fine (with_tree y (typed.if_else x y.tree typed.empty))) h.0 (with_tree q i.0) h.1 i.1,
-          i.2,
-          ap (λ zs. with_null_calls.kept p true c ++ zs) (append-nil (with_null_calls.kept_of_stmt p q.tree)) ∙ ap₂ (λ xs ys. xs ++ ys) h.2 i.3,
-          ap₂ (λ x y. typed.if_else x y typed.empty) h.3 (i.4 ∙ ap (λ zs. with_null_calls.stmt p (k + length zs) q.tree) (sym h.2)),
-        )
-    if_follows (fine c) r' (faulty f fs) s' h g = tt
-    if_follows (faulty f fs) r' s s' h g = tt
+  pub if_kept : (e : typed.Expr) (s : typed.Stmt) → with_null_calls.kept_of_stmt p (typed.if_else e s typed.empty) ≡ with_null_calls.kept p true e ++ with_null_calls.kept_of_stmt p s
+  if_kept e s = ap (λ zs. with_null_calls.kept p true e ++ zs) (append-nil (with_null_calls.kept_of_stmt p s))
 
-    pub while_follows : (r r' : Checked typed.Expr) (s s' : Checked (StatementTree typed.Stmt)) → TreeFollows p k ts r r' → ((c : typed.Expr) → r ≡ fine c → StatementTreeFollows p (k + length ts) us s s')
-        → StatementTreeFollows p k (ts ++ us) (both r s (λ c q. fine (with_tree q (typed.while_loop c q.tree)))) (both r' s' (λ c q. fine (with_tree q (typed.while_loop c q.tree))))
-    while_follows (fine c) r' (fine q) s' h g =
-        let i = g c refl in (
-          typed.while_loop h.0 i.0,
-          both_gives r' s' (λ x y. fine (with_tree y (typed.while_loop x y.tree))) h.0 (with_tree q i.0) h.1 i.1,
+  module _ (k : ℕ) (ts us : List CType) where
+    pub head_follows : (c : typed.Expr → typed.Stmt → typed.Stmt) → ((e : typed.Expr) (s : typed.Stmt) → with_null_calls.kept_of_stmt p (c e s) ≡ with_null_calls.kept p true e ++ with_null_calls.kept_of_stmt p s) → ((e : typed.Expr) (s : typed.Stmt) → unsited_stmt (c e s) ≡ c (unsited e) (unsited_stmt s))
+        → ((e : typed.Expr) (s : typed.Stmt) → c (with_null_calls.expr p k true e) (with_null_calls.stmt p (k + length (with_null_calls.kept p true e)) s) ≡ with_null_calls.stmt p k (c e s)) → (r r' : Checked typed.Expr) (s s' : Checked (StatementTree typed.Stmt)) → TreeFollows p k ts r r'
+        → ((e : typed.Expr) → r ≡ fine e → StatementTreeFollows p (k + length ts) us s s') → StatementTreeFollows p k (ts ++ us) (both r s (λ e q. fine (with_tree q (c e q.tree)))) (both r' s' (λ e q. fine (with_tree q (c e q.tree))))
+    head_follows c kept unsites made (fine e) r' (fine q) s' h g =
+        let i = g e refl in (
+          c h.0 i.0,
+          both_gives r' s' (λ x y. fine (with_tree y (c x y.tree))) h.0 (with_tree q i.0) h.1 i.1,
           i.2,
-          ap₂ (λ xs ys. xs ++ ys) h.2 i.3,
-          ap₂ (λ x y. typed.while_loop x y) h.3 (i.4 ∙ ap (λ zs. with_null_calls.stmt p (k + length zs) q.tree) (sym h.2)),
+          kept e q.tree ∙ ap₂ (λ xs ys. xs ++ ys) h.2 i.3,
+          unsites h.0 i.0 ∙ (ap₂ c h.3 (i.4 ∙ ap (λ zs. with_null_calls.stmt p (k + length zs) q.tree) (sym h.2)) ∙ made e q.tree),
         )
-    while_follows (fine c) r' (faulty f fs) s' h g = tt
-    while_follows (faulty f fs) r' s s' h g = tt
+    head_follows c kept unsites made r r' s s' h g = tt
 
     pub do_follows : (s s' : Checked (StatementTree typed.Stmt)) (r r' : Checked typed.Expr) → StatementTreeFollows p k ts s s' → ((q : StatementTree typed.Stmt) → s ≡ fine q → TreeFollows p (k + length ts) us r r')
         → StatementTreeFollows p k (ts ++ us) (both s r (λ q c. fine (with_tree q (typed.do_loop q.tree c)))) (both s' r' (λ q c. fine (with_tree q (typed.do_loop q.tree c))))
@@ -101,8 +91,7 @@ module _ (p : Program) where
           ap₂ (λ xs ys. xs ++ ys) h.3 i.2,
           ap₂ (λ x y. typed.do_loop x y) h.4 (i.3 ∙ ap (λ zs. with_null_calls.expr p (k + length zs) true c) (sym h.3)),
         )
-    do_follows (fine q) s' (faulty f fs) r' h g = tt
-    do_follows (faulty f fs) s' r r' h g = tt
+    do_follows s s' r r' h g = tt
 
     -- ## A switch
 
@@ -137,8 +126,7 @@ module _ (p : Program) where
           ap₂ (λ xs ys. xs ++ ys) h.3 i.3,
           ap₂ (λ x y. typed.more_stmts x y) h.4 (i.4 ∙ ap (λ zs. with_null_calls.stmts p (k + length zs) u.tree) (sym h.3)),
         )
-    one_follows (fine q) s' (faulty f fs) r' h g = tt
-    one_follows (faulty f fs) s' r r' h g = tt
+    one_follows s s' r r' h g = tt
 
     pub some_follow : (s s' : Checked (StatementTree typed.Stmts)) (r r' : Checked (StatementTree typed.Stmts)) → StatementTreeFollow p k ts s s' → ((q : StatementTree typed.Stmts) → s ≡ fine q → StatementTreeFollow p (k + length ts) us r r') → StatementTreeFollow p k (ts ++ us) (both s r (λ x y. fine (some_more x y))) (both s' r' (λ x y. fine (some_more x y)))
     some_follow (fine q) s' (fine u) r' h g =
@@ -149,8 +137,7 @@ module _ (p : Program) where
           appended_kept p q.tree u.tree ∙ ap₂ (λ xs ys. xs ++ ys) h.3 i.3,
           appended_unsited h.0 i.0 ∙ (ap₂ (λ x y. appended x y) h.4 (i.4 ∙ ap (λ zs. with_null_calls.stmts p (k + length zs) u.tree) (sym h.3)) ∙ sym (appended_instrumented p k q.tree u.tree)),
         )
-    some_follow (fine q) s' (faulty f fs) r' h g = tt
-    some_follow (faulty f fs) s' r r' h g = tt
+    some_follow s s' r r' h g = tt
 
     pub group_follows : (vs vs' : Checked (List TLabel)) (s s' : Checked (StatementTree typed.Stmts)) (r r' : Checked Labelled) → ((l : List TLabel) → vs ≡ fine l → vs' ≡ fine l) → StatementTreeFollow p k ts s s' → ((q : StatementTree typed.Stmts) → s ≡ fine q → GroupsFollow p (k + length ts) us r r')
         → GroupsFollow p k (ts ++ us) (all_three vs s r (λ x y z. fine (labelled x y z))) (all_three vs' s' r' (λ x y z. fine (labelled x y z)))
@@ -162,9 +149,7 @@ module _ (p : Program) where
           ap₂ (λ xs ys. xs ++ ys) h.3 i.3,
           ap₂ (λ x y. typed.more_groups l x y) h.4 (i.4 ∙ ap (λ zs. with_null_calls.groups p (k + length zs) m.groups.tree) (sym h.3)),
         )
-    group_follows (fine l) vs' (fine q) s' (faulty f fs) r' e h g = tt
-    group_follows (fine l) vs' (faulty f fs) s' r r' e h g = tt
-    group_follows (faulty f fs) vs' s s' r r' e h g = tt
+    group_follows vs vs' s s' r r' e h g = tt
 
   pub block_follows : (k : ℕ) (ts : List CType) (s s' : Checked (StatementTree typed.Stmts)) → StatementTreeFollow p k ts s s' → StatementTreeFollows p k ts (gives s (λ q. with_tree q (typed.block q.tree))) (gives s' (λ q. with_tree q (typed.block q.tree)))
   block_follows k ts (fine q) s' h = (typed.block h.0, ap (λ z. gives z (λ y. with_tree y (typed.block y.tree))) h.1, h.2, h.3, ap typed.block h.4)
@@ -191,9 +176,7 @@ module _ (p : Program) where
         else_tree : (x : typed.Expr) (y z : typed.Stmt) (c : typed.Expr) (m n : typed.Stmt) → unsited x ≡ with_null_calls.expr p k true c → unsited_stmt y ≡ with_null_calls.stmt p (k + length (with_null_calls.kept p true c)) m → unsited_stmt z ≡ with_null_calls.stmt p (k + length (with_null_calls.kept p true c) + length (with_null_calls.kept_of_stmt p m)) n
             → unsited_stmt (typed.if_else x y z) ≡ with_null_calls.stmt p k (typed.if_else c m n)
         else_tree x y z c m n e f g = λ i. typed.if_else (e i) (f i) (g i)
-    else_follows (fine c) r' (fine q) s' (faulty f fs) t' h g l = tt
-    else_follows (fine c) r' (faulty f fs) s' t t' h g l = tt
-    else_follows (faulty f fs) r' s s' t t' h g l = tt
+    else_follows r r' s s' t t' h g l = tt
 
   module _ (k : ℕ) (ts us vs ws : List CType) where
     abbrev For : StatementTree typed.Stmts → Two typed.Maybe typed.Maybe → StatementTree typed.Stmt → Checked (StatementTree typed.Stmt)
@@ -220,7 +203,4 @@ module _ (p : Program) where
             → unsited_maybe z ≡ with_null_calls.maybe p (k + length (with_null_calls.kept_of_stmts p q) + length (with_null_calls.kept_of_maybe p true m)) false n
             → unsited_stmt v ≡ with_null_calls.stmt p (k + length (with_null_calls.kept_of_stmts p q) + length (with_null_calls.kept_of_maybe p true m) + length (with_null_calls.kept_of_maybe p false n)) u → unsited_stmt (typed.for_loop x y z v) ≡ with_null_calls.stmt p k (typed.for_loop q m n u)
         for_tree x y z v q m n u e f g h = λ i. typed.for_loop (e i) (f i) (g i) (h i)
-    for_follows (fine q) r' (fine m) s' (fine n) t' (faulty f fs) o' h a b c = tt
-    for_follows (fine q) r' (fine m) s' (faulty f fs) t' o o' h a b c = tt
-    for_follows (fine q) r' (faulty f fs) s' t t' o o' h a b c = tt
-    for_follows (faulty f fs) r' s s' t t' o o' h a b c = tt
+    for_follows r r' s s' t t' o o' h a b c = tt

@@ -14,6 +14,7 @@ use Rattle.null_calls_expressions_laws.proofs.Constants.{none_both}
 use Rattle.null_calls_expressions_laws.specs.Follow.{UnusedFollows}
 use Rattle.null_calls_statements_laws.specs.Initialisers.{CellsFollow}
 use Rattle.null_calls_statements_laws.specs.Declarations.{StatementTreeFollow}
+use Rattle.null_calls_statements_laws.specs.Statements.{StatementTreeFollows}
 
 -- a variable, by whether it is the instrumenter's
 abbrev pub laid_if : Bool → (number : ℕ) → CType → List TypedExpression → StatementTree typed.Stmt
@@ -23,30 +24,24 @@ laid_if b n t cs =
     else record { tree = typed.declare n (stores_from 0 cs); plain = t ∷ []; added = [] }
 
 module _ (p : Program) (k : ℕ) (ts : List CType) where
-  -- one statement
-  abbrev pub OneFollows : Checked (StatementTree typed.Stmt) → Checked (StatementTree typed.Stmt) → Type 0
-  OneFollows (fine q) s = (x : typed.Stmt) × (s ≡ fine (with_tree q x)) × (q.added ≡ []) × (with_null_calls.kept_of_stmt p q.tree ≡ ts) × (unsited_stmt x ≡ with_null_calls.stmt p k q.tree)
-  OneFollows (faulty f fs) s = Unit {0}
-
   -- a demand beside the statement
-  pub named_follows : (c d : Checked Met) (r s : Checked (StatementTree typed.Stmt)) → Leads c d → ((a : Met) → c ≡ fine a → OneFollows r s) → OneFollows (both c r (λ _ q. fine q)) (both d s (λ _ q. fine q))
+  pub named_follows : (c d : Checked Met) (r s : Checked (StatementTree typed.Stmt)) → Leads c d → ((a : Met) → c ≡ fine a → StatementTreeFollows p k ts r s) → StatementTreeFollows p k ts (both c r (λ _ q. fine q)) (both d s (λ _ q. fine q))
   named_follows (fine a) d (fine q) s h l =
       (let m = l a refl in (m.0, ap₂ (λ y z. both y z (λ _ q. fine q)) h.0 m.1, m.2, m.3, m.4))
-  named_follows (fine a) d (faulty f fs) s h l = tt
-  named_follows (faulty f fs) d r s h l = tt
+  named_follows c d r s h l = tt
 
   -- with one demand in place of what fails
-  pub alone_follows : (t u : Bool) (code at to : ℕ) (r s : Checked (StatementTree typed.Stmt)) → OneFollows r s → OneFollows (fails_with t code at r) (fails_with u code to s)
+  pub alone_follows : (t u : Bool) (code at to : ℕ) (r s : Checked (StatementTree typed.Stmt)) → StatementTreeFollows p k ts r s → StatementTreeFollows p k ts (fails_with t code at r) (fails_with u code to s)
   alone_follows t u code at to (fine q) s h = (h.0, ap (fails_with u code to) h.1, h.2, h.3, h.4)
   alone_follows true u code at to (faulty f fs) s h = tt
   alone_follows false u code at to (faulty f fs) s h = tt
 
-  pub behind_part_follows : {A : Type 0} (r s : Checked A) (g h : A → Checked (StatementTree typed.Stmt)) → Leads r s → ((a : A) → r ≡ fine a → OneFollows (g a) (h a)) → OneFollows (on r g) (on s h)
-  behind_part_follows (fine a) s g h l m = subst (λ z. OneFollows (g a) (on z h)) (sym l.0) (m a refl)
+  pub behind_part_follows : {A : Type 0} (r s : Checked A) (g h : A → Checked (StatementTree typed.Stmt)) → Leads r s → ((a : A) → r ≡ fine a → StatementTreeFollows p k ts (g a) (h a)) → StatementTreeFollows p k ts (on r g) (on s h)
+  behind_part_follows (fine a) s g h l m = subst (λ z. StatementTreeFollows p k ts (g a) (on z h)) (sym l.0) (m a refl)
   behind_part_follows (faulty f fs) s g h l m = tt
 
   -- a variable with its cells
-  pub variable_follows : (x : Name) (n m : ℕ) (t : CType) (r s : Checked (List TypedExpression)) → is_added x ≡ false → m ≡ n → CellsFollow p k ts r s → OneFollows (gives r (laid_variable x n t)) (gives s (laid_variable x m t))
+  pub variable_follows : (x : Name) (n m : ℕ) (t : CType) (r s : Checked (List TypedExpression)) → is_added x ≡ false → m ≡ n → CellsFollow p k ts r s → StatementTreeFollows p k ts (gives r (laid_variable x n t)) (gives s (laid_variable x m t))
   variable_follows x n m t (fine cs) s a e h =
       (typed.declare n (stores_from 0 h.0), ap₂ (λ i z. gives z (laid_variable x i t)) e h.1 ∙ variable_is (is_added x), no_added (is_added x) a, kept_is (is_added x), tree_is (is_added x))
     where
@@ -70,20 +65,6 @@ module _ (p : Program) (k : ℕ) (ts : List CType) where
 -- no statement
 pub nothing_follows : (p : Program) (k : ℕ) → StatementTreeFollow p k [] (fine (bare typed.no_stmts)) (fine (bare typed.no_stmts))
 nothing_follows p k = (typed.no_stmts, refl, refl, refl, refl)
-
--- one statement, and others behind it
-pub more_follow : (p : Program) (k : ℕ) (ts us : List CType) (r r' : Checked (StatementTree typed.Stmt)) (s s' : Checked (StatementTree typed.Stmts)) → OneFollows p k ts r r' → ((q : StatementTree typed.Stmt) → r ≡ fine q → StatementTreeFollow p (k + length ts) us s s')
-    → StatementTreeFollow p k (ts ++ us) (both r s (λ a b. fine (one_more a b))) (both r' s' (λ a b. fine (one_more a b)))
-more_follow p k ts us (fine q) r' (fine o) s' g h =
-    let l = h q refl in (
-      typed.more_stmts g.0 l.0,
-      ap₂ (λ y z. both y z (λ a b. fine (one_more a b))) g.1 l.1,
-      none_both q.added o.added g.2 l.2,
-      ap₂ (λ xs ys. xs ++ ys) g.3 l.3,
-      ap₂ (λ x xs. typed.more_stmts x xs) g.4 (l.4 ∙ ap (λ xs. with_null_calls.stmts p (k + length xs) o.tree) (sym g.3)),
-    )
-more_follow p k ts us (fine q) r' (faulty f fs) s' g h = tt
-more_follow p k ts us (faulty f fs) r' s s' g h = tt
 
 -- an expression in the head of a for
 pub expression_follows : (p : Program) (k : ℕ) (ts : List CType) (r s : Checked TypedExpression) → UnusedFollows p k ts r s

@@ -33,16 +33,16 @@ use Rattle.null_calls_expressions_laws.proofs.StatementCounts.{statements_stay}
 use Rattle.null_calls_expressions_laws.specs.Tabled.{AreTabled, AreFound}
 use Rattle.null_calls_expressions_laws.specs.Follow.{types_of}
 use Rattle.null_calls_expressions_laws.proofs.Forms.{types_both, found_first, found_rest}
-use Rattle.null_calls_statements_laws.specs.Heads.{TreeFollows, MaybeFollows, OperandFollows, StmtFollows, HeadsGo}
+use Rattle.null_calls_statements_laws.specs.Heads.{TreeFollows, MaybeFollows, OperandFollows, StmtFollows, IfThere, Stands, HeadsGo}
 use Rattle.null_calls_statements_laws.proofs.Heads.{all_heads_go}
-use Rattle.null_calls_statements_laws.specs.Standing.{StandBeside, stand_beside, BlocksStandBeside, TemporariesStay}
+use Rattle.null_calls_statements_laws.specs.Standing.{StandBeside, stand_beside}
 use Rattle.null_calls_statements_laws.proofs.Reserved.{temporaries_stay}
 use Rattle.null_calls_statements_laws.proofs.Scopes.{blocks_stand_beside}
-use Rattle.null_calls_statements_laws.specs.Declarations.{StatementTreeFollow, SameNumber, NumbersStay, DeclGoes, FirstGoes, DeclarationsGo, FirstsGo}
+use Rattle.null_calls_statements_laws.specs.Declarations.{StatementTreeFollow, SameNumber, DeclGoes, FirstGoes}
 use Rattle.null_calls_statements_laws.proofs.Declarations.{declarations_go, firsts_go}
 use Rattle.null_calls_statements_laws.proofs.Numbers.{numbers_stay}
 use Rattle.null_calls_statements_laws.specs.Statements.{after_groups, MaybeTabled, StmtTabled, BlockTabled, StmtsTabled, GroupsTabled, StatementTreeFollows, GroupsFollow, StmtGoes, BlockGoes, StatementsGo, BlocksGo}
-use Rattle.null_calls_statements_laws.proofs.Nodes.{evaluate_follows, bare_follows, jump_follows, if_follows, while_follows, do_follows, switch_follows, one_follows, some_follow, group_follows, block_follows, else_follows, for_follows}
+use Rattle.null_calls_statements_laws.proofs.Nodes.{evaluate_follows, bare_follows, jump_follows, if_kept, head_follows, do_follows, switch_follows, one_follows, some_follow, group_follows, block_follows, else_follows, for_follows}
 
 -- ## What stands before
 
@@ -91,7 +91,7 @@ stand_scopes p names e f (stand_beside env w plain alike stand same) = scopes_be
 -- ## Expressions of statements
 
 -- heads in scopes that stand beside each other
-module _ (stay : TemporariesStay) (p : Program) (sites : Sites) (names : List Binding) where
+module _ (p : Program) (sites : Sites) (names : List Binding) where
   record HeadsStand (e f : Env) (b b' : Before) (k : ℕ) : Type 0 where
     pub conditions : (at : ℕ) (x : Expr) → AreNamed sites b.sites x → AreTabled p sites e b x → AreFound names k (kept sites b.sites true x) → TreeFollows p k (types_of (kept sites b.sites true x)) (condition_at at (value e b x)) (condition_at at (value f b' (expr sites b.sites true x)))
     pub tests : (at : ℕ) (m : Maybe) → MaybeNamed sites b.sites m → MaybeTabled p sites e b m → AreFound names k (kept_of_maybe sites b.sites true m) → MaybeFollows p k (types_of (kept_of_maybe sites b.sites true m)) true (test_of e b at m) (test_of f b' at (maybe sites b.sites true m))
@@ -105,25 +105,17 @@ module _ (stay : TemporariesStay) (p : Program) (sites : Sites) (names : List Bi
   heads_stand e f (stand_beside env w plain alike stand same) b b' k near =
       let go : HeadsGo p sites env w b b' k = all_heads_go p sites env w plain alike stand b b' k near in
       record {
-        conditions = λ at x n t h. go.conditions at x (record { named = n; tabled = t; found = stay sites names w.names same b.sites k true x h });
-        tests = tests_at go;
-        steps = steps_at go;
-        switches = λ at x n t h. go.switches at x (record { named = n; tabled = t; found = stay sites names w.names same b.sites k true x h });
-        returns = returns_at go;
-        evaluated = λ x n t h. go.evaluated x (record { named = n; tabled = t; found = stay sites names w.names same b.sites k false x h });
+        conditions = λ at x n t h. go.conditions at x (stands true (there x) n t h);
+        tests = λ at m n t h. go.tests at m (stands true m n t h);
+        steps = λ m n t h. go.steps m (stands false m n t h);
+        switches = λ at x n t h. go.switches at x (stands true (there x) n t h);
+        returns = λ at t m n u h. go.returns at t m (stands true m n u h);
+        evaluated = λ x n t h. go.evaluated x (stands false (there x) n t h);
       }
     where
-      tests_at : HeadsGo p sites env w b b' k → (at : ℕ) (m : Maybe) → MaybeNamed sites b.sites m → MaybeTabled p sites e b m → AreFound names k (kept_of_maybe sites b.sites true m) → MaybeFollows p k (types_of (kept_of_maybe sites b.sites true m)) true (test_of e b at m) (test_of f b' at (maybe sites b.sites true m))
-      tests_at go at absent n t h = go.tests at absent tt
-      tests_at go at (there x) n t h = go.tests at (there x) (record { named = n; tabled = t; found = stay sites names w.names same b.sites k true x h })
-
-      steps_at : HeadsGo p sites env w b b' k → (m : Maybe) → MaybeNamed sites b.sites m → MaybeTabled p sites e b m → AreFound names k (kept_of_maybe sites b.sites false m) → MaybeFollows p k (types_of (kept_of_maybe sites b.sites false m)) false (step_of e b m) (step_of f b' (maybe sites b.sites false m))
-      steps_at go absent n t h = go.steps absent tt
-      steps_at go (there x) n t h = go.steps (there x) (record { named = n; tabled = t; found = stay sites names w.names same b.sites k false x h })
-
-      returns_at : HeadsGo p sites env w b b' k → (at : ℕ) (t : CType) (m : Maybe) → MaybeNamed sites b.sites m → MaybeTabled p sites e b m → AreFound names k (kept_of_maybe sites b.sites true m) → StmtFollows p k (types_of (kept_of_maybe sites b.sites true m)) (returned e b at t m) (returned f b' at t (maybe sites b.sites true m))
-      returns_at go at t absent n u h = go.returns at t absent tt
-      returns_at go at t (there x) n u h = go.returns at t (there x) (record { named = n; tabled = u; found = stay sites names w.names same b.sites k true x h })
+      stands : (wanted : Bool) (m : Maybe) → MaybeNamed sites b.sites m → MaybeTabled p sites e b m → AreFound names k (kept_of_maybe sites b.sites wanted m) → IfThere (Stands p sites env w b k wanted) m
+      stands wanted absent n t h = tt
+      stands wanted (there x) n t h = record { named = n; tabled = t; found = temporaries_stay sites names w.names same b.sites k wanted x h }
 
 maybe_near : (sites : Sites) (b b' : Before) (wanted : Bool) (m : Maybe) → MaybeNamed sites b.sites m → Near b b' → Near (after_maybe b m) (after_maybe b' (maybe sites b.sites wanted m))
 maybe_near sites b b' wanted absent n h = near_none b b' h
@@ -137,7 +129,7 @@ three_near p q r k P h d e = both_near p (beside q r) (λ a t. k a t.first t.sec
 
 -- ## Statements
 
-module _ (blocks : BlocksStandBeside) (stay : TemporariesStay) (numbers : NumbersStay) (decls : DeclarationsGo) (firsts : FirstsGo) (p : Program) (sites : Sites) (names : List Binding) where
+module _ (p : Program) (sites : Sites) (names : List Binding) where
   record StmtsGoes (e f : Env) (a : Around) (b b' : Before) (next next' : Next) (k : ℕ) (ss : Stmts) : Type 0 where
     pub laid : StatementTreeFollow p k (types_of (with_null_calls.kept_of_stmts sites b.sites ss)) (stmts e a b next ss) (stmts f a b' next' (with_null_calls.stmts sites b.sites ss))
     pub near : (q : StatementTree typed.Stmts) → stmts e a b next ss ≡ fine q → Near (after_stmts e b next ss) (after_stmts f b' next' (with_null_calls.stmts sites b.sites ss))
@@ -148,7 +140,7 @@ module _ (blocks : BlocksStandBeside) (stay : TemporariesStay) (numbers : Number
 
   -- the next numbers of variables stay the same
   stmt_numbers : (b : ℕ) (s : Stmt) (next next' : Next) → StmtNamed sites b s → SameNumber next next' → SameNumber (past_names next (names_of_stmt s)) (past_names next' (names_of_stmt (with_null_calls.stmt sites b s)))
-  stmt_numbers b s next next' n m = subst (λ xs. SameNumber (past_names next (names_of_stmt s)) (past_names next' xs)) (sym (statements_stay sites b s n).names_same) (numbers next next' (names_of_stmt s) m)
+  stmt_numbers b s next next' n m = subst (λ xs. SameNumber (past_names next (names_of_stmt s)) (past_names next' xs)) (sym (statements_stay sites b s n).names_same) (numbers_stay next next' (names_of_stmt s) m)
 
   stmts_numbers : (ss : Stmts) (b : ℕ) (next next' : Next) → StmtsNamed sites b ss → SameNumber next next' → SameNumber (past_names next (names_of_stmts ss)) (past_names next' (names_of_stmts (with_null_calls.stmts sites b ss)))
   stmts_numbers no_stmts b next next' n m = m
@@ -170,14 +162,14 @@ module _ (blocks : BlocksStandBeside) (stay : TemporariesStay) (numbers : Number
   mutual
     stmt_goes : (s : Stmt) (e f : Env) → StandBeside p names e f → (a : Around) (b b' : Before) (next next' : Next) (k : ℕ) → StmtNamed sites b.sites s → StmtTabled p sites e b next s → AreFound names k (with_null_calls.kept_of_stmt sites b.sites s) → Near b b' → SameNumber next next' → StmtGoes p sites e f a b b' next next' k s
     stmt_goes (block at is) e f w a b b' next next' k n t h r m =
-        let i : BlockGoes p sites (inside e) (inside f) a b b' next next' k is = block_goes is (inside e) (inside f) (blocks p names e f w) a b b' next next' k n t h r m in
+        let i : BlockGoes p sites (inside e) (inside f) a b b' next next' k is = block_goes is (inside e) (inside f) (blocks_stand_beside p names e f w) a b b' next next' k n t h r m in
         record {
           laid = block_follows p k (types_of (with_null_calls.kept_of_block sites b.sites is)) (items_of_block (inside e) a b next is) (items_of_block (inside f) a b' next' (with_null_calls.items_of_block sites b.sites is)) i.laid;
           near = λ q g. (let v = on_fine (items_of_block (inside e) a b next is) (λ q. fine (with_tree q (typed.block q.tree))) q g in i.near v.0 v.1);
         }
     stmt_goes (empty at) e f w a b b' next next' k n t h r m = record { laid = (typed.empty, refl, refl, refl, refl); near = λ q g. near_none b b' r }
     stmt_goes (evaluate at x) e f w a b b' next next' k n t h r m = record {
-      laid = evaluate_follows p k (types_of (kept sites b.sites false x)) (value e b x) (value f b' (expr sites b.sites false x)) ((heads_stand stay p sites names e f w b b' k r).evaluated x n t h);
+      laid = evaluate_follows p k (types_of (kept sites b.sites false x)) (value e b x) (value f b' (expr sites b.sites false x)) ((heads_stand p sites names e f w b b' k r).evaluated x n t h);
       near = λ q g. places_near sites b b' false x n r;
     }
     stmt_goes (only_if at x s) e f w a b b' next next' k n t h r m =
@@ -186,7 +178,7 @@ module _ (blocks : BlocksStandBeside) (stay : TemporariesStay) (numbers : Number
         let i : StmtGoes p sites e f a (after b x) (after b' (X b x)) next next' (k + length (types_of xs)) s = stmt_goes s e f w a (after b x) (after b' (X b x)) next next' (k + length (types_of xs)) n.1 t.1 (found_rest names k xs ys h) (places_near sites b b' true x n.0 r) m in
         record {
           laid = subst (λ ts. StatementTreeFollows p k ts (stmt e a b next (only_if at x s)) (stmt f a b' next' (S b (only_if at x s)))) (sym (types_both xs ys))
-              (if_follows p k (types_of xs) (types_of ys) (condition_at at (value e b x)) (condition_at at (value f b' (X b x))) (stmt e a (after b x) next s) (stmt f a (after b' (X b x)) next' (S (after b x) s)) ((heads_stand stay p sites names e f w b b' k r).conditions at x n.0 t.0 (found_first names k xs ys h)) (λ _ _. i.laid));
+              (head_follows p k (types_of xs) (types_of ys) (λ c q. typed.if_else c q typed.empty) (if_kept p) (λ _ _. refl) (λ _ _. refl) (condition_at at (value e b x)) (condition_at at (value f b' (X b x))) (stmt e a (after b x) next s) (stmt f a (after b' (X b x)) next' (S (after b x) s)) ((heads_stand p sites names e f w b b' k r).conditions at x n.0 t.0 (found_first names k xs ys h)) (λ _ _. i.laid));
           near = both_near (condition_at at (value e b x)) (stmt e a (after b x) next s) _ _
               (λ c q _ g. near_both b b' (calls x) (calls_of_stmt s) (calls (X b x)) (calls_of_stmt (S (after b x) s)) (strings x) (held_by_stmt e next s) (strings (X b x)) (held_by_stmt f next' (S (after b x) s)) (i.near q g));
         }
@@ -205,7 +197,7 @@ module _ (blocks : BlocksStandBeside) (stay : TemporariesStay) (numbers : Number
         record {
           laid = subst (λ ts. StatementTreeFollows p k ts (stmt e a b next (if_else at x s u)) (stmt f a b' next' (S b (if_else at x s u)))) (sym (types_both xs (ys ++ zs) ∙ ap (λ ts. types_of xs ++ ts) (types_both ys zs)))
               (else_follows p k (types_of xs) (types_of ys) (types_of zs) (condition_at at (value e b x)) (condition_at at (value f b' (X b x))) (stmt e a b1 next s) (stmt f a c1 next' (S b1 s)) (stmt e a b2 (past_names next (names_of_stmt s)) u) (stmt f a c2 (past_names next' (names_of_stmt (S b1 s))) (S b2 u))
-              ((heads_stand stay p sites names e f w b b' k r).conditions at x n.0 t.0 (found_first names k xs (ys ++ zs) h)) (λ _ _. i.laid) (λ _ q _ g. (j (i.near q g)).laid));
+              ((heads_stand p sites names e f w b b' k r).conditions at x n.0 t.0 (found_first names k xs (ys ++ zs) h)) (λ _ _. i.laid) (λ _ q _ g. (j (i.near q g)).laid));
           near = three_near (condition_at at (value e b x)) (stmt e a b1 next s) (stmt e a b2 (past_names next (names_of_stmt s)) u) _ _
               (λ c q v _ g l. near_both b b' (calls x) (calls_of_stmt s + calls_of_stmt u) (calls (X b x)) (calls_of_stmt (S b1 s) + calls_of_stmt (S b2 u)) (strings x) (held_by_stmt e next s ++ held_by_stmt e (past_names next (names_of_stmt s)) u) (strings (X b x)) (held_by_stmt f next' (S b1 s) ++ held_by_stmt f (past_names next' (names_of_stmt (S b1 s))) (S b2 u))
               (near_both b1 c1 (calls_of_stmt s) (calls_of_stmt u) (calls_of_stmt (S b1 s)) (calls_of_stmt (S b2 u)) (held_by_stmt e next s) (held_by_stmt e (past_names next (names_of_stmt s)) u) (held_by_stmt f next' (S b1 s)) (held_by_stmt f (past_names next' (names_of_stmt (S b1 s))) (S b2 u)) ((j (i.near q g)).near v l)));
@@ -216,7 +208,7 @@ module _ (blocks : BlocksStandBeside) (stay : TemporariesStay) (numbers : Number
         let i : StmtGoes p sites e f (in_loop a) (after b x) (after b' (X b x)) next next' (k + length (types_of xs)) s = stmt_goes s e f w (in_loop a) (after b x) (after b' (X b x)) next next' (k + length (types_of xs)) n.1 t.1 (found_rest names k xs ys h) (places_near sites b b' true x n.0 r) m in
         record {
           laid = subst (λ ts. StatementTreeFollows p k ts (stmt e a b next (while_loop at x s)) (stmt f a b' next' (S b (while_loop at x s)))) (sym (types_both xs ys))
-              (while_follows p k (types_of xs) (types_of ys) (condition_at at (value e b x)) (condition_at at (value f b' (X b x))) (stmt e (in_loop a) (after b x) next s) (stmt f (in_loop a) (after b' (X b x)) next' (S (after b x) s)) ((heads_stand stay p sites names e f w b b' k r).conditions at x n.0 t.0 (found_first names k xs ys h)) (λ _ _. i.laid));
+              (head_follows p k (types_of xs) (types_of ys) typed.while_loop (λ _ _. refl) (λ _ _. refl) (λ _ _. refl) (condition_at at (value e b x)) (condition_at at (value f b' (X b x))) (stmt e (in_loop a) (after b x) next s) (stmt f (in_loop a) (after b' (X b x)) next' (S (after b x) s)) ((heads_stand p sites names e f w b b' k r).conditions at x n.0 t.0 (found_first names k xs ys h)) (λ _ _. i.laid));
           near = both_near (condition_at at (value e b x)) (stmt e (in_loop a) (after b x) next s) _ _
               (λ c q _ g. near_both b b' (calls x) (calls_of_stmt s) (calls (X b x)) (calls_of_stmt (S (after b x) s)) (strings x) (held_by_stmt e next s) (strings (X b x)) (held_by_stmt f next' (S (after b x) s)) (i.near q g));
         }
@@ -229,7 +221,7 @@ module _ (blocks : BlocksStandBeside) (stay : TemporariesStay) (numbers : Number
         record {
           laid = subst (λ ts. StatementTreeFollows p k ts (stmt e a b next (do_loop at s x)) (stmt f a b' next' (S b (do_loop at s x)))) (sym (types_both xs ys))
               (do_follows p k (types_of xs) (types_of ys) (stmt e (in_loop a) b next s) (stmt f (in_loop a) b' next' (S b s)) (condition_at at (value e b1 x)) (condition_at at (value f c1 (X b1 x))) i.laid
-              (λ q g. (heads_stand stay p sites names e f w b1 c1 (k + length (types_of xs)) (i.near q g)).conditions at x n.1 t.1 (found_rest names k xs ys h)));
+              (λ q g. (heads_stand p sites names e f w b1 c1 (k + length (types_of xs)) (i.near q g)).conditions at x n.1 t.1 (found_rest names k xs ys h)));
           near = both_near (stmt e (in_loop a) b next s) (condition_at at (value e b1 x)) _ _
               (λ q c g _. near_both b b' (calls_of_stmt s) (calls x) (calls_of_stmt (S b s)) (calls (X b1 x)) (held_by_stmt e next s) (strings x) (held_by_stmt f next' (S b s)) (strings (X b1 x)) (places_near sites b1 c1 true x n.1 (i.near q g)));
         }
@@ -253,7 +245,7 @@ module _ (blocks : BlocksStandBeside) (stay : TemporariesStay) (numbers : Number
         let later' : Next = past_names next' (names_of_first first') in
         let g1 : AreFound names (k + length (types_of ws)) (xs ++ (ys ++ zs)) = found_rest names k ws (xs ++ (ys ++ zs)) h in
         let g2 : AreFound names (k + length (types_of ws) + length (types_of xs)) (ys ++ zs) = found_rest names (k + length (types_of ws)) xs (ys ++ zs) g1 in
-        let d : FirstGoes p sites names eo fo b b' next next' k first = firsts p sites names eo fo (blocks p names e f w) b b' next next' k first n.0 t.0 (found_first names k ws (xs ++ (ys ++ zs)) h) r m in
+        let d : FirstGoes p sites names eo fo b b' next next' k first = firsts_go p sites names eo fo (blocks_stand_beside p names e f w) b b' next next' k first n.0 t.0 (found_first names k ws (xs ++ (ys ++ zs)) h) r m in
         let r2 : Near b1 c1 → Near b2 c2 = maybe_near sites b1 c1 true test n.1 in
         let r3 : Near b1 c1 → Near b3 c3 = (λ v. maybe_near sites b2 c2 false step n.2 (r2 v)) in
         let i : StandBeside p names ei fi → Near b1 c1 → StmtGoes p sites ei fi (in_loop a) b3 c3 later later' (k + length (types_of ws) + length (types_of xs) + length (types_of ys)) s
@@ -261,8 +253,8 @@ module _ (blocks : BlocksStandBeside) (stay : TemporariesStay) (numbers : Number
         record {
           laid = subst (λ ts. StatementTreeFollows p k ts (stmt e a b next (for_loop at first test step s)) (stmt f a b' next' (S b (for_loop at first test step s)))) (sym (types_both ws (xs ++ (ys ++ zs)) ∙ ap (λ ts. types_of ws ++ ts) (types_both xs (ys ++ zs) ∙ ap (λ ts. types_of xs ++ ts) (types_both ys zs))))
               (for_follows p k (types_of ws) (types_of xs) (types_of ys) (types_of zs) (first_of eo b next first) (first_of fo b' next' first') (test_of ei b1 at test) (test_of fi c1 at (M b1 true test)) (step_of ei b2 step) (step_of fi c2 (M b2 false step)) (stmt ei (in_loop a) b3 later s) (stmt fi (in_loop a) c3 later' (S b3 s)) d.laid
-              (λ q g. (heads_stand stay p sites names ei fi (d.scopes q g) b1 c1 (k + length (types_of ws)) (d.near q g)).tests at test n.1 t.1 (found_first names (k + length (types_of ws)) xs (ys ++ zs) g1))
-              (λ q g. (heads_stand stay p sites names ei fi (d.scopes q g) b2 c2 (k + length (types_of ws) + length (types_of xs)) (r2 (d.near q g))).steps step n.2 t.2 (found_first names (k + length (types_of ws) + length (types_of xs)) ys zs g2))
+              (λ q g. (heads_stand p sites names ei fi (d.scopes q g) b1 c1 (k + length (types_of ws)) (d.near q g)).tests at test n.1 t.1 (found_first names (k + length (types_of ws)) xs (ys ++ zs) g1))
+              (λ q g. (heads_stand p sites names ei fi (d.scopes q g) b2 c2 (k + length (types_of ws) + length (types_of xs)) (r2 (d.near q g))).steps step n.2 t.2 (found_first names (k + length (types_of ws) + length (types_of xs)) ys zs g2))
               (λ q g. (i (d.scopes q g) (d.near q g)).laid));
           near = three_near (first_of eo b next first) (beside (test_of ei b1 at test) (step_of ei b2 step)) (stmt ei (in_loop a) b3 later s) _ _
               (λ q _ v g _ l. near_both b b' (calls_of_first first) (calls_of_maybe test + (calls_of_maybe step + calls_of_stmt s)) (calls_of_first first') (calls_of_maybe (M b1 true test) + (calls_of_maybe (M b2 false step) + calls_of_stmt (S b3 s)))
@@ -280,14 +272,14 @@ module _ (blocks : BlocksStandBeside) (stay : TemporariesStay) (numbers : Number
         record {
           laid = subst (λ ts. StatementTreeFollows p k ts (stmt e a b next (switch_on at x gs)) (stmt f a b' next' (S b (switch_on at x gs)))) (sym (types_both xs ys))
               (switch_follows p k (types_of xs) (types_of ys) at (switched at (value e b x)) (switched at (value f b' (X b x))) (λ j. groups_of_switch e (in_switch a) (after b x) next j gs) (λ j. groups_of_switch f (in_switch a) (after b' (X b x)) next' j gs')
-              ((heads_stand stay p sites names e f w b b' k r).switches at x n.0 t.0 (found_first names k xs ys h)) (λ g _. (i (label_type (switched at (value e b x)))).laid));
+              ((heads_stand p sites names e f w b b' k r).switches at x n.0 t.0 (found_first names k xs ys h)) (λ g _. (i (label_type (switched at (value e b x)))).laid));
           near = both_near (switched at (value e b x)) (groups_of_switch e (in_switch a) (after b x) next (label_type (switched at (value e b x))) gs) (switch_of at) _
               (λ c q _ g. near_both b b' (calls x) (calls_of_groups gs) (calls (X b x)) (calls_of_groups gs') (strings x) (held_by_groups e next gs) (strings (X b x)) (held_by_groups f next' gs') ((i (label_type (switched at (value e b x)))).near q g));
         }
     stmt_goes (break_off at) e f w a b b' next next' k n t h r m = record { laid = jump_follows p k a.breaks 8 at typed.break_off refl refl; near = λ q g. near_none b b' r }
     stmt_goes (continue_on at) e f w a b b' next next' k n t h r m = record { laid = jump_follows p k a.continues 8 at typed.continue_on refl refl; near = λ q g. near_none b b' r }
     stmt_goes (return_from at o) e f w a b b' next next' k n t h r m = record {
-      laid = bare_follows p k (types_of (kept_of_maybe sites b.sites true o)) (returned e b at a.returns o) (returned f b' at a.returns (M b true o)) ((heads_stand stay p sites names e f w b b' k r).returns at a.returns o n t h);
+      laid = bare_follows p k (types_of (kept_of_maybe sites b.sites true o)) (returned e b at a.returns o) (returned f b' at a.returns (M b true o)) ((heads_stand p sites names e f w b b' k r).returns at a.returns o n t h);
       near = λ q g. maybe_near sites b b' true o n r;
     }
 
@@ -304,7 +296,7 @@ module _ (blocks : BlocksStandBeside) (stay : TemporariesStay) (numbers : Number
         let c1 : Before = after_decl f b' next' d' in
         let later : Next = past_names next (names_of_decl d) in
         let later' : Next = past_names next' (names_of_decl d') in
-        let j : DeclGoes p sites names e f b b' next next' k d = decls p sites names e f w b b' next next' k d n.0 t.0 (found_first names k xs ys h) r m in
+        let j : DeclGoes p sites names e f b b' next next' k d = declarations_go p sites names e f w b b' next next' k d n.0 t.0 (found_first names k xs ys h) r m in
         let i : StandBeside p names ei fi → Near b1 c1 → BlockGoes p sites ei fi a b1 c1 later later' (k + length (types_of xs)) is = (λ u v. block_goes is ei fi u a b1 c1 later later' (k + length (types_of xs)) n.1 t.1 (found_rest names k xs ys h) v j.numbers) in
         record {
           laid = subst (λ ts. StatementTreeFollow p k ts (items_of_block e a b next (block_decl d is)) (items_of_block f a b' next' (block_decl d' is'))) (sym (types_both xs ys))
@@ -369,15 +361,8 @@ module _ (blocks : BlocksStandBeside) (stay : TemporariesStay) (numbers : Number
               (λ _ q v _ g o. near_both b b' (calls_of_stmts ss) (calls_of_groups gs) (calls_of_stmts ss') (calls_of_groups gs') (held_by_stmts e next ss) (held_by_groups e later gs) (held_by_stmts f next' ss') (held_by_groups f later' gs') ((l (j.near q g)).near v o));
         }
 
--- where declarations go
-pub statements_go_with : BlocksStandBeside → TemporariesStay → NumbersStay → DeclarationsGo → FirstsGo → StatementsGo
-statements_go_with blocks stay numbers decls firsts p sites names e f w a b b' next next' k s n t h r m = stmt_goes blocks stay numbers decls firsts p sites names s e f w a b b' next next' k n t h r m
-
-pub blocks_go_with : BlocksStandBeside → TemporariesStay → NumbersStay → DeclarationsGo → FirstsGo → BlocksGo
-blocks_go_with blocks stay numbers decls firsts p sites names e f w a b b' next next' k is n t h r m = block_goes blocks stay numbers decls firsts p sites names is e f w a b b' next next' k n t h r m
-
 pub statements_go : StatementsGo
-statements_go = statements_go_with blocks_stand_beside temporaries_stay numbers_stay declarations_go firsts_go
+statements_go p sites names e f w a b b' next next' k s n t h r m = stmt_goes p sites names s e f w a b b' next next' k n t h r m
 
 pub blocks_go : BlocksGo
-blocks_go = blocks_go_with blocks_stand_beside temporaries_stay numbers_stay declarations_go firsts_go
+blocks_go p sites names e f w a b b' next next' k is n t h r m = block_goes p sites names is e f w a b b' next next' k n t h r m
