@@ -217,8 +217,7 @@ module _ (p : Program) (sites : Sites) (names : List Binding) where
       let r : Checked (StatementTree typed.Stmt) = local_part e b next at s d m in
       let q : Checked (StatementTree typed.Stmts) = local_parts (behind_part e next at s d m) (after_part e b at s d m) (past_part next d) at s ps in
       record {
-        laid = subst (λ ts. StatementTreeFollow p k ts (local_parts e b next at s (more_parts d m ps)) (local_parts f b' next' at s (more_parts d m' ps'))) (sym (types_both xs ys))
-            (one_follows p k (types_of xs) (types_of ys) r (local_part f b' next' at s d m') q (local_parts (behind_part f next' at s d m') (after_part f b' at s d m') (past_part next' d) at s ps') one.laid (λ o h. (others o h).laid));
+        laid = one_follows p k (types_of xs) (types_of ys) _ (sym (types_both xs ys)) r (local_part f b' next' at s d m') q (local_parts (behind_part f next' at s d m') (after_part f b' at s d m') (past_part next' d) at s ps') one.laid (λ o h. (others o h).laid);
         scopes = λ o h. (let c = first_fine r q (λ y z. fine (one_more y z)) o h in (others c.0 c.2).scopes c.1 c.3);
         held = λ o h. (let c = first_fine r q (λ y z. fine (one_more y z)) o h in ap₂ (λ vs ws. vs ++ ws) (one.held c.0 c.2) ((others c.0 c.2).held c.1 c.3));
       }

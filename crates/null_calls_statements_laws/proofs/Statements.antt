@@ -58,7 +58,7 @@ past_past b m n ws vs =
     λ i. record { sites = s i; strings = l i; cells = c i }
 
 -- two parts are one
-pub near_both : (b b' : Before) (m n m' n' : ℕ) (ws vs ws' vs' : List (List ℕ)) → Near (past (past b m ws) n vs) (past (past b' m' ws') n' vs') → Near (past b (m + n) (ws ++ vs)) (past b' (m' + n') (ws' ++ vs'))
+near_both : (b b' : Before) (m n m' n' : ℕ) (ws vs ws' vs' : List (List ℕ)) → Near (past (past b m ws) n vs) (past (past b' m' ws') n' vs') → Near (past b (m + n) (ws ++ vs)) (past b' (m' + n') (ws' ++ vs'))
 near_both b b' m n m' n' ws vs ws' vs' h = subst (λ x. Near x (past b' (m' + n') (ws' ++ vs'))) (past_past b m n ws vs) (subst (λ x. Near (past (past b m ws) n vs) x) (past_past b' m' n' ws' vs') h)
 
 past_none : (b : Before) → b ≡ past b 0 []
@@ -121,11 +121,11 @@ maybe_near : (sites : Sites) (b b' : Before) (wanted : Bool) (m : Maybe) → May
 maybe_near sites b b' wanted absent n h = near_none b b' h
 maybe_near sites b b' wanted (there x) n h = places_near sites b b' wanted x n h
 
-both_near : {A B C : Type 0} (p : Checked A) (q : Checked B) (k : A → B → Checked C) (P : Type 0) → ((a : A) (b : B) → p ≡ fine a → q ≡ fine b → P) → (c : C) → both p q k ≡ fine c → P
-both_near p q k P h c e = let v = first_fine p q k c e in h v.0 v.1 v.2 v.3
+both_near : {A B C P : Type 0} {p : Checked A} {q : Checked B} (k : A → B → Checked C) → ((a : A) (b : B) → p ≡ fine a → q ≡ fine b → P) → (c : C) → both p q k ≡ fine c → P
+both_near {p = p} {q = q} k h c e = let v = first_fine p q k c e in h v.0 v.1 v.2 v.3
 
-three_near : {A B C D : Type 0} (p : Checked A) (q : Checked B) (r : Checked C) (k : A → B → C → Checked D) (P : Type 0) → ((a : A) (b : B) (c : C) → p ≡ fine a → q ≡ fine b → r ≡ fine c → P) → (d : D) → all_three p q r k ≡ fine d → P
-three_near p q r k P h d e = both_near p (beside q r) (λ a t. k a t.first t.second) P (λ a t g l. both_near q r (λ b c. fine (record { first = b; second = c })) P (λ b c m n. h a b c g m n) t l) d e
+three_near : {A B C D P : Type 0} {p : Checked A} {q : Checked B} {r : Checked C} (k : A → B → C → Checked D) → ((a : A) (b : B) (c : C) → p ≡ fine a → q ≡ fine b → r ≡ fine c → P) → (d : D) → all_three p q r k ≡ fine d → P
+three_near {q = q} {r = r} k h d e = both_near {q = beside q r} (λ a t. k a t.first t.second) (λ a t g l. both_near (λ b c. fine (record { first = b; second = c })) (λ b c m n. h a b c g m n) t l) d e
 
 -- ## Statements
 
@@ -177,10 +177,9 @@ module _ (p : Program) (sites : Sites) (names : List Binding) where
         let ys : List Temporary = with_null_calls.kept_of_stmt sites (b.sites + calls x) s in
         let i : StmtGoes p sites e f a (after b x) (after b' (X b x)) next next' (k + length (types_of xs)) s = stmt_goes s e f w a (after b x) (after b' (X b x)) next next' (k + length (types_of xs)) n.1 t.1 (found_rest names k xs ys h) (places_near sites b b' true x n.0 r) m in
         record {
-          laid = subst (λ ts. StatementTreeFollows p k ts (stmt e a b next (only_if at x s)) (stmt f a b' next' (S b (only_if at x s)))) (sym (types_both xs ys))
-              (head_follows p k (types_of xs) (types_of ys) (λ c q. typed.if_else c q typed.empty) (if_kept p) (λ _ _. refl) (λ _ _. refl) (condition_at at (value e b x)) (condition_at at (value f b' (X b x))) (stmt e a (after b x) next s) (stmt f a (after b' (X b x)) next' (S (after b x) s)) ((heads_stand p sites names e f w b b' k r).conditions at x n.0 t.0 (found_first names k xs ys h)) (λ _ _. i.laid));
-          near = both_near (condition_at at (value e b x)) (stmt e a (after b x) next s) _ _
-              (λ c q _ g. near_both b b' (calls x) (calls_of_stmt s) (calls (X b x)) (calls_of_stmt (S (after b x) s)) (strings x) (held_by_stmt e next s) (strings (X b x)) (held_by_stmt f next' (S (after b x) s)) (i.near q g));
+          laid = head_follows p k (types_of xs) (types_of ys) _ (sym (types_both xs ys)) (λ c q. typed.if_else c q typed.empty) (if_kept p) (λ _ _. refl) (λ _ _. refl) _ _ _ _
+              ((heads_stand p sites names e f w b b' k r).conditions at x n.0 t.0 (found_first names k xs ys h)) (λ _ _. i.laid);
+          near = both_near _ (λ c q _ g. near_both _ _ _ _ _ _ _ _ _ _ (i.near q g));
         }
     stmt_goes (if_else at x s u) e f w a b b' next next' k n t h r m =
         let xs : List Temporary = kept sites b.sites true x in
@@ -195,22 +194,18 @@ module _ (p : Program) (sites : Sites) (names : List Binding) where
         let j : Near b2 c2 → StmtGoes p sites e f a b2 c2 (past_names next (names_of_stmt s)) (past_names next' (names_of_stmt (S b1 s))) (k + length (types_of xs) + length (types_of ys)) u
         = (λ v. stmt_goes u e f w a b2 c2 (past_names next (names_of_stmt s)) (past_names next' (names_of_stmt (S b1 s))) (k + length (types_of xs) + length (types_of ys)) n.2 t.2 (found_rest names (k + length (types_of xs)) ys zs rest) v (stmt_numbers b1.sites s next next' n.1 m)) in
         record {
-          laid = subst (λ ts. StatementTreeFollows p k ts (stmt e a b next (if_else at x s u)) (stmt f a b' next' (S b (if_else at x s u)))) (sym (types_both xs (ys ++ zs) ∙ ap (λ ts. types_of xs ++ ts) (types_both ys zs)))
-              (else_follows p k (types_of xs) (types_of ys) (types_of zs) (condition_at at (value e b x)) (condition_at at (value f b' (X b x))) (stmt e a b1 next s) (stmt f a c1 next' (S b1 s)) (stmt e a b2 (past_names next (names_of_stmt s)) u) (stmt f a c2 (past_names next' (names_of_stmt (S b1 s))) (S b2 u))
-              ((heads_stand p sites names e f w b b' k r).conditions at x n.0 t.0 (found_first names k xs (ys ++ zs) h)) (λ _ _. i.laid) (λ _ q _ g. (j (i.near q g)).laid));
-          near = three_near (condition_at at (value e b x)) (stmt e a b1 next s) (stmt e a b2 (past_names next (names_of_stmt s)) u) _ _
-              (λ c q v _ g l. near_both b b' (calls x) (calls_of_stmt s + calls_of_stmt u) (calls (X b x)) (calls_of_stmt (S b1 s) + calls_of_stmt (S b2 u)) (strings x) (held_by_stmt e next s ++ held_by_stmt e (past_names next (names_of_stmt s)) u) (strings (X b x)) (held_by_stmt f next' (S b1 s) ++ held_by_stmt f (past_names next' (names_of_stmt (S b1 s))) (S b2 u))
-              (near_both b1 c1 (calls_of_stmt s) (calls_of_stmt u) (calls_of_stmt (S b1 s)) (calls_of_stmt (S b2 u)) (held_by_stmt e next s) (held_by_stmt e (past_names next (names_of_stmt s)) u) (held_by_stmt f next' (S b1 s)) (held_by_stmt f (past_names next' (names_of_stmt (S b1 s))) (S b2 u)) ((j (i.near q g)).near v l)));
+          laid = else_follows p k (types_of xs) (types_of ys) (types_of zs) _ (sym (types_both xs (ys ++ zs) ∙ ap (λ ts. types_of xs ++ ts) (types_both ys zs))) _ _ _ _ _ _
+              ((heads_stand p sites names e f w b b' k r).conditions at x n.0 t.0 (found_first names k xs (ys ++ zs) h)) (λ _ _. i.laid) (λ _ q _ g. (j (i.near q g)).laid);
+          near = three_near _ (λ c q v _ g l. near_both _ _ _ _ _ _ _ _ _ _ (near_both _ _ _ _ _ _ _ _ _ _ ((j (i.near q g)).near v l)));
         }
     stmt_goes (while_loop at x s) e f w a b b' next next' k n t h r m =
         let xs : List Temporary = kept sites b.sites true x in
         let ys : List Temporary = with_null_calls.kept_of_stmt sites (b.sites + calls x) s in
         let i : StmtGoes p sites e f (in_loop a) (after b x) (after b' (X b x)) next next' (k + length (types_of xs)) s = stmt_goes s e f w (in_loop a) (after b x) (after b' (X b x)) next next' (k + length (types_of xs)) n.1 t.1 (found_rest names k xs ys h) (places_near sites b b' true x n.0 r) m in
         record {
-          laid = subst (λ ts. StatementTreeFollows p k ts (stmt e a b next (while_loop at x s)) (stmt f a b' next' (S b (while_loop at x s)))) (sym (types_both xs ys))
-              (head_follows p k (types_of xs) (types_of ys) typed.while_loop (λ _ _. refl) (λ _ _. refl) (λ _ _. refl) (condition_at at (value e b x)) (condition_at at (value f b' (X b x))) (stmt e (in_loop a) (after b x) next s) (stmt f (in_loop a) (after b' (X b x)) next' (S (after b x) s)) ((heads_stand p sites names e f w b b' k r).conditions at x n.0 t.0 (found_first names k xs ys h)) (λ _ _. i.laid));
-          near = both_near (condition_at at (value e b x)) (stmt e (in_loop a) (after b x) next s) _ _
-              (λ c q _ g. near_both b b' (calls x) (calls_of_stmt s) (calls (X b x)) (calls_of_stmt (S (after b x) s)) (strings x) (held_by_stmt e next s) (strings (X b x)) (held_by_stmt f next' (S (after b x) s)) (i.near q g));
+          laid = head_follows p k (types_of xs) (types_of ys) _ (sym (types_both xs ys)) typed.while_loop (λ _ _. refl) (λ _ _. refl) (λ _ _. refl) _ _ _ _
+              ((heads_stand p sites names e f w b b' k r).conditions at x n.0 t.0 (found_first names k xs ys h)) (λ _ _. i.laid);
+          near = both_near _ (λ c q _ g. near_both _ _ _ _ _ _ _ _ _ _ (i.near q g));
         }
     stmt_goes (do_loop at s x) e f w a b b' next next' k n t h r m =
         let xs : List Temporary = with_null_calls.kept_of_stmt sites b.sites s in
@@ -219,11 +214,8 @@ module _ (p : Program) (sites : Sites) (names : List Binding) where
         let c1 : Before = after_stmt f b' next' (S b s) in
         let i : StmtGoes p sites e f (in_loop a) b b' next next' k s = stmt_goes s e f w (in_loop a) b b' next next' k n.0 t.0 (found_first names k xs ys h) r m in
         record {
-          laid = subst (λ ts. StatementTreeFollows p k ts (stmt e a b next (do_loop at s x)) (stmt f a b' next' (S b (do_loop at s x)))) (sym (types_both xs ys))
-              (do_follows p k (types_of xs) (types_of ys) (stmt e (in_loop a) b next s) (stmt f (in_loop a) b' next' (S b s)) (condition_at at (value e b1 x)) (condition_at at (value f c1 (X b1 x))) i.laid
-              (λ q g. (heads_stand p sites names e f w b1 c1 (k + length (types_of xs)) (i.near q g)).conditions at x n.1 t.1 (found_rest names k xs ys h)));
-          near = both_near (stmt e (in_loop a) b next s) (condition_at at (value e b1 x)) _ _
-              (λ q c g _. near_both b b' (calls_of_stmt s) (calls x) (calls_of_stmt (S b s)) (calls (X b1 x)) (held_by_stmt e next s) (strings x) (held_by_stmt f next' (S b s)) (strings (X b1 x)) (places_near sites b1 c1 true x n.1 (i.near q g)));
+          laid = do_follows p k (types_of xs) (types_of ys) _ (sym (types_both xs ys)) _ _ _ _ i.laid (λ q g. (heads_stand p sites names e f w b1 c1 (k + length (types_of xs)) (i.near q g)).conditions at x n.1 t.1 (found_rest names k xs ys h));
+          near = both_near _ (λ q c g _. near_both _ _ _ _ _ _ _ _ _ _ (places_near sites b1 c1 true x n.1 (i.near q g)));
         }
     stmt_goes (for_loop at first test step s) e f w a b b' next next' k n t h r m =
         let ws : List Temporary = with_null_calls.kept_of_first sites b.sites first in
@@ -251,17 +243,12 @@ module _ (p : Program) (sites : Sites) (names : List Binding) where
         let i : StandBeside p names ei fi → Near b1 c1 → StmtGoes p sites ei fi (in_loop a) b3 c3 later later' (k + length (types_of ws) + length (types_of xs) + length (types_of ys)) s
         = (λ u v. stmt_goes s ei fi u (in_loop a) b3 c3 later later' (k + length (types_of ws) + length (types_of xs) + length (types_of ys)) n.3 t.3 (found_rest names (k + length (types_of ws) + length (types_of xs)) ys zs g2) (r3 v) d.numbers) in
         record {
-          laid = subst (λ ts. StatementTreeFollows p k ts (stmt e a b next (for_loop at first test step s)) (stmt f a b' next' (S b (for_loop at first test step s)))) (sym (types_both ws (xs ++ (ys ++ zs)) ∙ ap (λ ts. types_of ws ++ ts) (types_both xs (ys ++ zs) ∙ ap (λ ts. types_of xs ++ ts) (types_both ys zs))))
-              (for_follows p k (types_of ws) (types_of xs) (types_of ys) (types_of zs) (first_of eo b next first) (first_of fo b' next' first') (test_of ei b1 at test) (test_of fi c1 at (M b1 true test)) (step_of ei b2 step) (step_of fi c2 (M b2 false step)) (stmt ei (in_loop a) b3 later s) (stmt fi (in_loop a) c3 later' (S b3 s)) d.laid
+          laid = for_follows p k (types_of ws) (types_of xs) (types_of ys) (types_of zs) _ (sym (types_both ws (xs ++ (ys ++ zs)) ∙ ap (λ ts. types_of ws ++ ts) (types_both xs (ys ++ zs) ∙ ap (λ ts. types_of xs ++ ts) (types_both ys zs)))) _ _ _ _ _ _ _ _
+              d.laid
               (λ q g. (heads_stand p sites names ei fi (d.scopes q g) b1 c1 (k + length (types_of ws)) (d.near q g)).tests at test n.1 t.1 (found_first names (k + length (types_of ws)) xs (ys ++ zs) g1))
               (λ q g. (heads_stand p sites names ei fi (d.scopes q g) b2 c2 (k + length (types_of ws) + length (types_of xs)) (r2 (d.near q g))).steps step n.2 t.2 (found_first names (k + length (types_of ws) + length (types_of xs)) ys zs g2))
-              (λ q g. (i (d.scopes q g) (d.near q g)).laid));
-          near = three_near (first_of eo b next first) (beside (test_of ei b1 at test) (step_of ei b2 step)) (stmt ei (in_loop a) b3 later s) _ _
-              (λ q _ v g _ l. near_both b b' (calls_of_first first) (calls_of_maybe test + (calls_of_maybe step + calls_of_stmt s)) (calls_of_first first') (calls_of_maybe (M b1 true test) + (calls_of_maybe (M b2 false step) + calls_of_stmt (S b3 s)))
-              (held_by_first eo next first) (strings_of_maybe test ++ (strings_of_maybe step ++ held_by_stmt ei later s)) (held_by_first fo next' first') (strings_of_maybe (M b1 true test) ++ (strings_of_maybe (M b2 false step) ++ held_by_stmt fi later' (S b3 s)))
-              (near_both b1 c1 (calls_of_maybe test) (calls_of_maybe step + calls_of_stmt s) (calls_of_maybe (M b1 true test)) (calls_of_maybe (M b2 false step) + calls_of_stmt (S b3 s)) (strings_of_maybe test) (strings_of_maybe step ++ held_by_stmt ei later s) (strings_of_maybe (M b1 true test)) (strings_of_maybe (M b2 false step) ++ held_by_stmt fi later' (S b3 s))
-              (near_both b2 c2 (calls_of_maybe step) (calls_of_stmt s) (calls_of_maybe (M b2 false step)) (calls_of_stmt (S b3 s)) (strings_of_maybe step) (held_by_stmt ei later s) (strings_of_maybe (M b2 false step)) (held_by_stmt fi later' (S b3 s))
-              ((i (d.scopes q g) (d.near q g)).near v l))));
+              (λ q g. (i (d.scopes q g) (d.near q g)).laid);
+          near = three_near _ (λ q _ v g _ l. near_both _ _ _ _ _ _ _ _ _ _ (near_both _ _ _ _ _ _ _ _ _ _ (near_both _ _ _ _ _ _ _ _ _ _ ((i (d.scopes q g) (d.near q g)).near v l))));
         }
     stmt_goes (switch_on at x gs) e f w a b b' next next' k n t h r m =
         let xs : List Temporary = kept sites b.sites true x in
@@ -270,11 +257,9 @@ module _ (p : Program) (sites : Sites) (names : List Binding) where
         let i : (j : IntType) → GroupsGoes e f (in_switch a) (after b x) (after b' (X b x)) next next' (k + length (types_of xs)) j gs
         = (λ j. groups_go gs e f w (in_switch a) (after b x) (after b' (X b x)) next next' (k + length (types_of xs)) j n.1 t.1 (found_rest names k xs ys h) (places_near sites b b' true x n.0 r) m) in
         record {
-          laid = subst (λ ts. StatementTreeFollows p k ts (stmt e a b next (switch_on at x gs)) (stmt f a b' next' (S b (switch_on at x gs)))) (sym (types_both xs ys))
-              (switch_follows p k (types_of xs) (types_of ys) at (switched at (value e b x)) (switched at (value f b' (X b x))) (λ j. groups_of_switch e (in_switch a) (after b x) next j gs) (λ j. groups_of_switch f (in_switch a) (after b' (X b x)) next' j gs')
-              ((heads_stand p sites names e f w b b' k r).switches at x n.0 t.0 (found_first names k xs ys h)) (λ g _. (i (label_type (switched at (value e b x)))).laid));
-          near = both_near (switched at (value e b x)) (groups_of_switch e (in_switch a) (after b x) next (label_type (switched at (value e b x))) gs) (switch_of at) _
-              (λ c q _ g. near_both b b' (calls x) (calls_of_groups gs) (calls (X b x)) (calls_of_groups gs') (strings x) (held_by_groups e next gs) (strings (X b x)) (held_by_groups f next' gs') ((i (label_type (switched at (value e b x)))).near q g));
+          laid = switch_follows p k (types_of xs) (types_of ys) _ (sym (types_both xs ys)) at _ _
+              (λ j. groups_of_switch e (in_switch a) (after b x) next j gs) (λ j. groups_of_switch f (in_switch a) (after b' (X b x)) next' j gs') ((heads_stand p sites names e f w b b' k r).switches at x n.0 t.0 (found_first names k xs ys h)) (λ g _. (i (label_type (switched at (value e b x)))).laid);
+          near = both_near _ (λ c q _ g. near_both _ _ _ _ _ _ _ _ _ _ ((i (label_type (switched at (value e b x)))).near q g));
         }
     stmt_goes (break_off at) e f w a b b' next next' k n t h r m = record { laid = jump_follows p k a.breaks 8 at typed.break_off refl refl; near = λ q g. near_none b b' r }
     stmt_goes (continue_on at) e f w a b b' next next' k n t h r m = record { laid = jump_follows p k a.continues 8 at typed.continue_on refl refl; near = λ q g. near_none b b' r }
@@ -299,10 +284,8 @@ module _ (p : Program) (sites : Sites) (names : List Binding) where
         let j : DeclGoes p sites names e f b b' next next' k d = declarations_go p sites names e f w b b' next next' k d n.0 t.0 (found_first names k xs ys h) r m in
         let i : StandBeside p names ei fi → Near b1 c1 → BlockGoes p sites ei fi a b1 c1 later later' (k + length (types_of xs)) is = (λ u v. block_goes is ei fi u a b1 c1 later later' (k + length (types_of xs)) n.1 t.1 (found_rest names k xs ys h) v j.numbers) in
         record {
-          laid = subst (λ ts. StatementTreeFollow p k ts (items_of_block e a b next (block_decl d is)) (items_of_block f a b' next' (block_decl d' is'))) (sym (types_both xs ys))
-              (some_follow p k (types_of xs) (types_of ys) (local_decl e b next d) (local_decl f b' next' d') (items_of_block ei a b1 later is) (items_of_block fi a c1 later' is') j.laid (λ q g. (i (j.scopes q g) (j.near q g)).laid));
-          near = both_near (local_decl e b next d) (items_of_block ei a b1 later is) _ _
-              (λ q v g l. near_both b b' (calls_of_decl d) (calls_of_block is) (calls_of_decl d') (calls_of_block is') (held_by_decl e next d) (held_by_block ei later is) (held_by_decl f next' d') (held_by_block fi later' is') ((i (j.scopes q g) (j.near q g)).near v l));
+          laid = some_follow p k (types_of xs) (types_of ys) _ (sym (types_both xs ys)) _ _ _ _ j.laid (λ q g. (i (j.scopes q g) (j.near q g)).laid);
+          near = both_near _ (λ q v g l. near_both _ _ _ _ _ _ _ _ _ _ ((i (j.scopes q g) (j.near q g)).near v l));
         }
     block_goes (block_stmt s is) e f w a b b' next next' k n t h r m =
         let xs : List Temporary = with_null_calls.kept_of_stmt sites b.sites s in
@@ -315,10 +298,8 @@ module _ (p : Program) (sites : Sites) (names : List Binding) where
         let j : StmtGoes p sites e f a b b' next next' k s = stmt_goes s e f w a b b' next next' k n.0 t.0 (found_first names k xs ys h) r m in
         let i : Near b1 c1 → BlockGoes p sites e f a b1 c1 later later' (k + length (types_of xs)) is = (λ v. block_goes is e f w a b1 c1 later later' (k + length (types_of xs)) n.1 t.1 (found_rest names k xs ys h) v (stmt_numbers b.sites s next next' n.0 m)) in
         record {
-          laid = subst (λ ts. StatementTreeFollow p k ts (items_of_block e a b next (block_stmt s is)) (items_of_block f a b' next' (block_stmt (S b s) is'))) (sym (types_both xs ys))
-              (one_follows p k (types_of xs) (types_of ys) (stmt e a b next s) (stmt f a b' next' (S b s)) (items_of_block e a b1 later is) (items_of_block f a c1 later' is') j.laid (λ q g. (i (j.near q g)).laid));
-          near = both_near (stmt e a b next s) (items_of_block e a b1 later is) _ _
-              (λ q v g l. near_both b b' (calls_of_stmt s) (calls_of_block is) (calls_of_stmt (S b s)) (calls_of_block is') (held_by_stmt e next s) (held_by_block e later is) (held_by_stmt f next' (S b s)) (held_by_block f later' is') ((i (j.near q g)).near v l));
+          laid = one_follows p k (types_of xs) (types_of ys) _ (sym (types_both xs ys)) _ _ _ _ j.laid (λ q g. (i (j.near q g)).laid);
+          near = both_near _ (λ q v g l. near_both _ _ _ _ _ _ _ _ _ _ ((i (j.near q g)).near v l));
         }
 
     stmts_go : (ss : Stmts) (e f : Env) → StandBeside p names e f → (a : Around) (b b' : Before) (next next' : Next) (k : ℕ) → StmtsNamed sites b.sites ss → StmtsTabled p sites e b next ss → AreFound names k (with_null_calls.kept_of_stmts sites b.sites ss) → Near b b' → SameNumber next next' → StmtsGoes e f a b b' next next' k ss
@@ -334,10 +315,8 @@ module _ (p : Program) (sites : Sites) (names : List Binding) where
         let j : StmtGoes p sites e f a b b' next next' k s = stmt_goes s e f w a b b' next next' k n.0 t.0 (found_first names k xs ys h) r m in
         let i : Near b1 c1 → StmtsGoes e f a b1 c1 later later' (k + length (types_of xs)) ss = (λ v. stmts_go ss e f w a b1 c1 later later' (k + length (types_of xs)) n.1 t.1 (found_rest names k xs ys h) v (stmt_numbers b.sites s next next' n.0 m)) in
         record {
-          laid = subst (λ ts. StatementTreeFollow p k ts (stmts e a b next (more_stmts s ss)) (stmts f a b' next' (more_stmts (S b s) ss'))) (sym (types_both xs ys))
-              (one_follows p k (types_of xs) (types_of ys) (stmt e a b next s) (stmt f a b' next' (S b s)) (stmts e a b1 later ss) (stmts f a c1 later' ss') j.laid (λ q g. (i (j.near q g)).laid));
-          near = both_near (stmt e a b next s) (stmts e a b1 later ss) _ _
-              (λ q v g l. near_both b b' (calls_of_stmt s) (calls_of_stmts ss) (calls_of_stmt (S b s)) (calls_of_stmts ss') (held_by_stmt e next s) (held_by_stmts e later ss) (held_by_stmt f next' (S b s)) (held_by_stmts f later' ss') ((i (j.near q g)).near v l));
+          laid = one_follows p k (types_of xs) (types_of ys) _ (sym (types_both xs ys)) _ _ _ _ j.laid (λ q g. (i (j.near q g)).laid);
+          near = both_near _ (λ q v g l. near_both _ _ _ _ _ _ _ _ _ _ ((i (j.near q g)).near v l));
         }
 
     groups_go : (gs : Groups) (e f : Env) → StandBeside p names e f → (a : Around) (b b' : Before) (next next' : Next) (k : ℕ) (i : IntType) → GroupsNamed sites b.sites gs → GroupsTabled p sites e b next gs → AreFound names k (with_null_calls.kept_of_groups sites b.sites gs) → Near b b' → SameNumber next next' → GroupsGoes e f a b b' next next' k i gs
@@ -354,11 +333,9 @@ module _ (p : Program) (sites : Sites) (names : List Binding) where
         let j : StmtsGoes e f a b b' next next' k ss = stmts_go ss e f w a b b' next next' k n.0 t.0 (found_first names k xs ys h) r m in
         let l : Near b1 c1 → GroupsGoes e f a b1 c1 later later' (k + length (types_of xs)) i gs = (λ v. groups_go gs e f w a b1 c1 later later' (k + length (types_of xs)) i n.1 t.1 (found_rest names k xs ys h) v (stmts_numbers ss b.sites next next' n.0 m)) in
         record {
-          laid = subst (λ ts. GroupsFollow p k ts (groups_of_switch e a b next i (more_groups ls ss gs)) (groups_of_switch f a b' next' i (more_groups ls ss' gs'))) (sym (types_both xs ys))
-              (group_follows p k (types_of xs) (types_of ys) (labels_of e i ls) (labels_of f i ls) (stmts e a b next ss) (stmts f a b' next' ss') (groups_of_switch e a b1 later i gs) (groups_of_switch f a c1 later' i gs')
-              (λ vs q. fine_leads (labels_of e i ls) (labels_of f i ls) vs (labels_lead e f (stand_scopes p names e f w) i ls) q) j.laid (λ q g. (l (j.near q g)).laid));
-          near = three_near (labels_of e i ls) (stmts e a b next ss) (groups_of_switch e a b1 later i gs) _ _
-              (λ _ q v _ g o. near_both b b' (calls_of_stmts ss) (calls_of_groups gs) (calls_of_stmts ss') (calls_of_groups gs') (held_by_stmts e next ss) (held_by_groups e later gs) (held_by_stmts f next' ss') (held_by_groups f later' gs') ((l (j.near q g)).near v o));
+          laid = group_follows p k (types_of xs) (types_of ys) _ (sym (types_both xs ys)) _ _ _ _ _ _
+              (λ vs q. fine_leads (labels_of e i ls) (labels_of f i ls) vs (labels_lead e f (stand_scopes p names e f w) i ls) q) j.laid (λ q g. (l (j.near q g)).laid);
+          near = three_near _ (λ _ q v _ g o. near_both _ _ _ _ _ _ _ _ _ _ ((l (j.near q g)).near v o));
         }
 
 pub statements_go : StatementsGo
