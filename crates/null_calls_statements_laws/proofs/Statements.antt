@@ -187,12 +187,10 @@ module _ (p : Program) (sites : Sites) (names : List Binding) where
         let zs : List Temporary = with_null_calls.kept_of_stmt sites (b.sites + calls x + calls_of_stmt s) u in
         let b1 : Before = after b x in
         let c1 : Before = after b' (X b x) in
-        let b2 : Before = after_stmt e b1 next s in
-        let c2 : Before = after_stmt f c1 next' (S b1 s) in
         let rest : AreFound names (k + length (types_of xs)) (ys ++ zs) = found_rest names k xs (ys ++ zs) h in
         let i : StmtGoes p sites e f a b1 c1 next next' (k + length (types_of xs)) s = stmt_goes s e f w a b1 c1 next next' (k + length (types_of xs)) n.1 t.1 (found_first names (k + length (types_of xs)) ys zs rest) (places_near sites b b' true x n.0 r) m in
-        let j : Near b2 c2 → StmtGoes p sites e f a b2 c2 (past_names next (names_of_stmt s)) (past_names next' (names_of_stmt (S b1 s))) (k + length (types_of xs) + length (types_of ys)) u
-        = (λ v. stmt_goes u e f w a b2 c2 (past_names next (names_of_stmt s)) (past_names next' (names_of_stmt (S b1 s))) (k + length (types_of xs) + length (types_of ys)) n.2 t.2 (found_rest names (k + length (types_of xs)) ys zs rest) v (stmt_numbers b1.sites s next next' n.1 m)) in
+        let j : Near (after_stmt e b1 next s) (after_stmt f c1 next' (S b1 s)) → StmtGoes p sites e f a _ _ (past_names next (names_of_stmt s)) (past_names next' (names_of_stmt (S b1 s))) (k + length (types_of xs) + length (types_of ys)) u
+        = (λ v. stmt_goes u e f w a _ _ _ _ _ n.2 t.2 (found_rest names (k + length (types_of xs)) ys zs rest) v (stmt_numbers b1.sites s next next' n.1 m)) in
         record {
           laid = else_follows p k (types_of xs) (types_of ys) (types_of zs) _ (sym (types_both xs (ys ++ zs) ∙ ap (λ ts. types_of xs ++ ts) (types_both ys zs))) _ _ _ _ _ _
               ((heads_stand p sites names e f w b b' k r).conditions at x n.0 t.0 (found_first names k xs (ys ++ zs) h)) (λ _ _. i.laid) (λ _ q _ g. (j (i.near q g)).laid);
@@ -210,38 +208,29 @@ module _ (p : Program) (sites : Sites) (names : List Binding) where
     stmt_goes (do_loop at s x) e f w a b b' next next' k n t h r m =
         let xs : List Temporary = with_null_calls.kept_of_stmt sites b.sites s in
         let ys : List Temporary = kept sites (b.sites + calls_of_stmt s) true x in
-        let b1 : Before = after_stmt e b next s in
-        let c1 : Before = after_stmt f b' next' (S b s) in
         let i : StmtGoes p sites e f (in_loop a) b b' next next' k s = stmt_goes s e f w (in_loop a) b b' next next' k n.0 t.0 (found_first names k xs ys h) r m in
         record {
-          laid = do_follows p k (types_of xs) (types_of ys) _ (sym (types_both xs ys)) _ _ _ _ i.laid (λ q g. (heads_stand p sites names e f w b1 c1 (k + length (types_of xs)) (i.near q g)).conditions at x n.1 t.1 (found_rest names k xs ys h));
-          near = both_near _ (λ q c g _. near_both _ _ _ _ _ _ _ _ _ _ (places_near sites b1 c1 true x n.1 (i.near q g)));
+          laid = do_follows p k (types_of xs) (types_of ys) _ (sym (types_both xs ys)) _ _ _ _ i.laid (λ q g. (heads_stand p sites names e f w _ _ (k + length (types_of xs)) (i.near q g)).conditions at x n.1 t.1 (found_rest names k xs ys h));
+          near = both_near _ (λ q c g _. near_both _ _ _ _ _ _ _ _ _ _ (places_near sites _ _ true x n.1 (i.near q g)));
         }
     stmt_goes (for_loop at first test step s) e f w a b b' next next' k n t h r m =
         let ws : List Temporary = with_null_calls.kept_of_first sites b.sites first in
         let xs : List Temporary = kept_of_maybe sites (b.sites + calls_of_first first) true test in
         let ys : List Temporary = kept_of_maybe sites (b.sites + calls_of_first first + calls_of_maybe test) false step in
         let zs : List Temporary = with_null_calls.kept_of_stmt sites (b.sites + calls_of_first first + calls_of_maybe test + calls_of_maybe step) s in
-        let eo : Env = inside e in
-        let fo : Env = inside f in
         let first' : First = with_null_calls.first sites b.sites first in
-        let ei : Env = behind_first eo next first in
-        let fi : Env = behind_first fo next' first' in
-        let b1 : Before = after_first eo b next first in
-        let c1 : Before = after_first fo b' next' first' in
+        let ei : Env = behind_first (inside e) next first in
+        let fi : Env = behind_first (inside f) next' first' in
+        let b1 : Before = after_first (inside e) b next first in
+        let c1 : Before = after_first (inside f) b' next' first' in
         let b2 : Before = after_maybe b1 test in
         let c2 : Before = after_maybe c1 (M b1 true test) in
-        let b3 : Before = after_maybe b2 step in
-        let c3 : Before = after_maybe c2 (M b2 false step) in
-        let later : Next = past_names next (names_of_first first) in
-        let later' : Next = past_names next' (names_of_first first') in
         let g1 : AreFound names (k + length (types_of ws)) (xs ++ (ys ++ zs)) = found_rest names k ws (xs ++ (ys ++ zs)) h in
         let g2 : AreFound names (k + length (types_of ws) + length (types_of xs)) (ys ++ zs) = found_rest names (k + length (types_of ws)) xs (ys ++ zs) g1 in
-        let d : FirstGoes p sites names eo fo b b' next next' k first = firsts_go p sites names eo fo (blocks_stand_beside p names e f w) b b' next next' k first n.0 t.0 (found_first names k ws (xs ++ (ys ++ zs)) h) r m in
+        let d : FirstGoes p sites names (inside e) (inside f) b b' next next' k first = firsts_go p sites names _ _ (blocks_stand_beside p names e f w) b b' next next' k first n.0 t.0 (found_first names k ws (xs ++ (ys ++ zs)) h) r m in
         let r2 : Near b1 c1 → Near b2 c2 = maybe_near sites b1 c1 true test n.1 in
-        let r3 : Near b1 c1 → Near b3 c3 = (λ v. maybe_near sites b2 c2 false step n.2 (r2 v)) in
-        let i : StandBeside p names ei fi → Near b1 c1 → StmtGoes p sites ei fi (in_loop a) b3 c3 later later' (k + length (types_of ws) + length (types_of xs) + length (types_of ys)) s
-        = (λ u v. stmt_goes s ei fi u (in_loop a) b3 c3 later later' (k + length (types_of ws) + length (types_of xs) + length (types_of ys)) n.3 t.3 (found_rest names (k + length (types_of ws) + length (types_of xs)) ys zs g2) (r3 v) d.numbers) in
+        let i : StandBeside p names ei fi → Near b1 c1 → StmtGoes p sites ei fi (in_loop a) (after_maybe b2 step) (after_maybe c2 (M b2 false step)) (past_names next (names_of_first first)) (past_names next' (names_of_first first')) (k + length (types_of ws) + length (types_of xs) + length (types_of ys)) s
+        = (λ u v. stmt_goes s ei fi u (in_loop a) _ _ _ _ _ n.3 t.3 (found_rest names (k + length (types_of ws) + length (types_of xs)) ys zs g2) (maybe_near sites b2 c2 false step n.2 (r2 v)) d.numbers) in
         record {
           laid = for_follows p k (types_of ws) (types_of xs) (types_of ys) (types_of zs) _ (sym (types_both ws (xs ++ (ys ++ zs)) ∙ ap (λ ts. types_of ws ++ ts) (types_both xs (ys ++ zs) ∙ ap (λ ts. types_of xs ++ ts) (types_both ys zs)))) _ _ _ _ _ _ _ _
               d.laid
@@ -255,7 +244,7 @@ module _ (p : Program) (sites : Sites) (names : List Binding) where
         let ys : List Temporary = with_null_calls.kept_of_groups sites (b.sites + calls x) gs in
         let gs' : Groups = with_null_calls.groups sites (b.sites + calls x) gs in
         let i : (j : IntType) → GroupsGoes e f (in_switch a) (after b x) (after b' (X b x)) next next' (k + length (types_of xs)) j gs
-        = (λ j. groups_go gs e f w (in_switch a) (after b x) (after b' (X b x)) next next' (k + length (types_of xs)) j n.1 t.1 (found_rest names k xs ys h) (places_near sites b b' true x n.0 r) m) in
+        = (λ j. groups_go gs e f w (in_switch a) _ _ _ _ _ j n.1 t.1 (found_rest names k xs ys h) (places_near sites b b' true x n.0 r) m) in
         record {
           laid = switch_follows p k (types_of xs) (types_of ys) _ (sym (types_both xs ys)) at _ _
               (λ j. groups_of_switch e (in_switch a) (after b x) next j gs) (λ j. groups_of_switch f (in_switch a) (after b' (X b x)) next' j gs') ((heads_stand p sites names e f w b b' k r).switches at x n.0 t.0 (found_first names k xs ys h)) (λ g _. (i (label_type (switched at (value e b x)))).laid);
@@ -274,15 +263,9 @@ module _ (p : Program) (sites : Sites) (names : List Binding) where
         let xs : List Temporary = with_null_calls.kept_of_decl sites b.sites d in
         let ys : List Temporary = with_null_calls.kept_of_block sites (b.sites + calls_of_decl d) is in
         let d' : Decl = with_null_calls.declaration sites b.sites d in
-        let is' : BlockItems = with_null_calls.items_of_block sites (b.sites + calls_of_decl d) is in
-        let ei : Env = behind_decl e next d in
-        let fi : Env = behind_decl f next' d' in
-        let b1 : Before = after_decl e b next d in
-        let c1 : Before = after_decl f b' next' d' in
-        let later : Next = past_names next (names_of_decl d) in
-        let later' : Next = past_names next' (names_of_decl d') in
         let j : DeclGoes p sites names e f b b' next next' k d = declarations_go p sites names e f w b b' next next' k d n.0 t.0 (found_first names k xs ys h) r m in
-        let i : StandBeside p names ei fi → Near b1 c1 → BlockGoes p sites ei fi a b1 c1 later later' (k + length (types_of xs)) is = (λ u v. block_goes is ei fi u a b1 c1 later later' (k + length (types_of xs)) n.1 t.1 (found_rest names k xs ys h) v j.numbers) in
+        let i : StandBeside p names (behind_decl e next d) (behind_decl f next' d') → Near (after_decl e b next d) (after_decl f b' next' d') → BlockGoes p sites _ _ a _ _ (past_names next (names_of_decl d)) (past_names next' (names_of_decl d')) (k + length (types_of xs)) is
+        = (λ u v. block_goes is _ _ u a _ _ _ _ _ n.1 t.1 (found_rest names k xs ys h) v j.numbers) in
         record {
           laid = some_follow p k (types_of xs) (types_of ys) _ (sym (types_both xs ys)) _ _ _ _ j.laid (λ q g. (i (j.scopes q g) (j.near q g)).laid);
           near = both_near _ (λ q v g l. near_both _ _ _ _ _ _ _ _ _ _ ((i (j.scopes q g) (j.near q g)).near v l));
@@ -290,13 +273,9 @@ module _ (p : Program) (sites : Sites) (names : List Binding) where
     block_goes (block_stmt s is) e f w a b b' next next' k n t h r m =
         let xs : List Temporary = with_null_calls.kept_of_stmt sites b.sites s in
         let ys : List Temporary = with_null_calls.kept_of_block sites (b.sites + calls_of_stmt s) is in
-        let is' : BlockItems = with_null_calls.items_of_block sites (b.sites + calls_of_stmt s) is in
-        let b1 : Before = after_stmt e b next s in
-        let c1 : Before = after_stmt f b' next' (S b s) in
-        let later : Next = past_names next (names_of_stmt s) in
-        let later' : Next = past_names next' (names_of_stmt (S b s)) in
         let j : StmtGoes p sites e f a b b' next next' k s = stmt_goes s e f w a b b' next next' k n.0 t.0 (found_first names k xs ys h) r m in
-        let i : Near b1 c1 → BlockGoes p sites e f a b1 c1 later later' (k + length (types_of xs)) is = (λ v. block_goes is e f w a b1 c1 later later' (k + length (types_of xs)) n.1 t.1 (found_rest names k xs ys h) v (stmt_numbers b.sites s next next' n.0 m)) in
+        let i : Near (after_stmt e b next s) (after_stmt f b' next' (S b s)) → BlockGoes p sites e f a _ _ (past_names next (names_of_stmt s)) (past_names next' (names_of_stmt (S b s))) (k + length (types_of xs)) is
+        = (λ v. block_goes is e f w a _ _ _ _ _ n.1 t.1 (found_rest names k xs ys h) v (stmt_numbers b.sites s next next' n.0 m)) in
         record {
           laid = one_follows p k (types_of xs) (types_of ys) _ (sym (types_both xs ys)) _ _ _ _ j.laid (λ q g. (i (j.near q g)).laid);
           near = both_near _ (λ q v g l. near_both _ _ _ _ _ _ _ _ _ _ ((i (j.near q g)).near v l));
@@ -307,13 +286,9 @@ module _ (p : Program) (sites : Sites) (names : List Binding) where
     stmts_go (more_stmts s ss) e f w a b b' next next' k n t h r m =
         let xs : List Temporary = with_null_calls.kept_of_stmt sites b.sites s in
         let ys : List Temporary = with_null_calls.kept_of_stmts sites (b.sites + calls_of_stmt s) ss in
-        let ss' : Stmts = with_null_calls.stmts sites (b.sites + calls_of_stmt s) ss in
-        let b1 : Before = after_stmt e b next s in
-        let c1 : Before = after_stmt f b' next' (S b s) in
-        let later : Next = past_names next (names_of_stmt s) in
-        let later' : Next = past_names next' (names_of_stmt (S b s)) in
         let j : StmtGoes p sites e f a b b' next next' k s = stmt_goes s e f w a b b' next next' k n.0 t.0 (found_first names k xs ys h) r m in
-        let i : Near b1 c1 → StmtsGoes e f a b1 c1 later later' (k + length (types_of xs)) ss = (λ v. stmts_go ss e f w a b1 c1 later later' (k + length (types_of xs)) n.1 t.1 (found_rest names k xs ys h) v (stmt_numbers b.sites s next next' n.0 m)) in
+        let i : Near (after_stmt e b next s) (after_stmt f b' next' (S b s)) → StmtsGoes e f a _ _ (past_names next (names_of_stmt s)) (past_names next' (names_of_stmt (S b s))) (k + length (types_of xs)) ss
+        = (λ v. stmts_go ss e f w a _ _ _ _ _ n.1 t.1 (found_rest names k xs ys h) v (stmt_numbers b.sites s next next' n.0 m)) in
         record {
           laid = one_follows p k (types_of xs) (types_of ys) _ (sym (types_both xs ys)) _ _ _ _ j.laid (λ q g. (i (j.near q g)).laid);
           near = both_near _ (λ q v g l. near_both _ _ _ _ _ _ _ _ _ _ ((i (j.near q g)).near v l));
@@ -325,13 +300,9 @@ module _ (p : Program) (sites : Sites) (names : List Binding) where
         let xs : List Temporary = with_null_calls.kept_of_stmts sites b.sites ss in
         let ys : List Temporary = with_null_calls.kept_of_groups sites (b.sites + calls_of_stmts ss) gs in
         let ss' : Stmts = with_null_calls.stmts sites b.sites ss in
-        let gs' : Groups = with_null_calls.groups sites (b.sites + calls_of_stmts ss) gs in
-        let b1 : Before = after_stmts e b next ss in
-        let c1 : Before = after_stmts f b' next' ss' in
-        let later : Next = past_names next (names_of_stmts ss) in
-        let later' : Next = past_names next' (names_of_stmts ss') in
         let j : StmtsGoes e f a b b' next next' k ss = stmts_go ss e f w a b b' next next' k n.0 t.0 (found_first names k xs ys h) r m in
-        let l : Near b1 c1 → GroupsGoes e f a b1 c1 later later' (k + length (types_of xs)) i gs = (λ v. groups_go gs e f w a b1 c1 later later' (k + length (types_of xs)) i n.1 t.1 (found_rest names k xs ys h) v (stmts_numbers ss b.sites next next' n.0 m)) in
+        let l : Near (after_stmts e b next ss) (after_stmts f b' next' ss') → GroupsGoes e f a _ _ (past_names next (names_of_stmts ss)) (past_names next' (names_of_stmts ss')) (k + length (types_of xs)) i gs
+        = (λ v. groups_go gs e f w a _ _ _ _ _ i n.1 t.1 (found_rest names k xs ys h) v (stmts_numbers ss b.sites next next' n.0 m)) in
         record {
           laid = group_follows p k (types_of xs) (types_of ys) _ (sym (types_both xs ys)) _ _ _ _ _ _
               (λ vs q. fine_leads (labels_of e i ls) (labels_of f i ls) vs (labels_lead e f (stand_scopes p names e f w) i ls) q) j.laid (λ q g. (l (j.near q g)).laid);
