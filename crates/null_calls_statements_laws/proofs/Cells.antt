@@ -47,10 +47,10 @@ module _ (p : Program) where
       let e : k + length (kept p true (tree_of g) ++ kept_of_cells gs) ≡ (k + length (kept p true (tree_of g))) + length (kept_of_cells gs) = omega (arith, l) in
       (c.0, cells_both gs hs cs ds (k + length (kept p true (tree_of g))) c.1 (subst (λ n. Cells n cs ds) e d))
 
-  pub both_go : (k : ℕ) (ts us : List CType) (r r' s s' : Checked (List TypedExpression)) → CellsGo k ts r r' → CellsGo (k + length ts) us s s' → CellsGo k (ts ++ us) (both r s (λ gs hs. fine (gs ++ hs))) (both r' s' (λ gs hs. fine (gs ++ hs)))
-  both_go k ts us (fine gs) r' (fine cs) s' g h =
-      (g.0 ++ h.0, ap₂ (λ y z. both y z (λ gs hs. fine (gs ++ hs))) g.1 h.1, kept_both gs cs ∙ ap₂ (λ xs ys. xs ++ ys) g.2 h.2, cells_both gs g.0 cs h.0 k g.3 (subst (λ xs. Cells (k + length xs) cs h.0) (sym g.2) h.3))
-  both_go k ts us r r' s s' g h = tt
+  pub both_go : (k : ℕ) (ts us all : List CType) → ts ++ us ≡ all → (r r' s s' : Checked (List TypedExpression)) → CellsGo k ts r r' → CellsGo (k + length ts) us s s' → CellsGo k all (both r s (λ gs hs. fine (gs ++ hs))) (both r' s' (λ gs hs. fine (gs ++ hs)))
+  both_go k ts us all joint (fine gs) r' (fine cs) s' g h =
+      (g.0 ++ h.0, ap₂ (λ y z. both y z (λ gs hs. fine (gs ++ hs))) g.1 h.1, kept_both gs cs ∙ (ap₂ (λ xs ys. xs ++ ys) g.2 h.2 ∙ joint), cells_both gs g.0 cs h.0 k g.3 (subst (λ xs. Cells (k + length xs) cs h.0) (sym g.2) h.3))
+  both_go k ts us all joint r r' s s' g h = tt
 
   -- ## The trees of cells
 
@@ -98,28 +98,24 @@ module _ (p : Program) where
   zero_bare void = record { types = refl; tree = λ k. refl }
   zero_bare t = record { types = refl; tree = λ k. refl }
 
-  all_zero : (ts : List CType) → AllBare (map typed_zero ts)
-  all_zero [] = tt
-  all_zero (t ∷ ts) = (zero_bare t, all_zero ts)
+  all_made : {A : Type 0} (f : A → TypedExpression) → ((a : A) → IsBare (f a)) → (xs : List A) → AllBare (map f xs)
+  all_made f h [] = tt
+  all_made f h (x ∷ xs) = (h x, all_made f h xs)
 
   -- zeros for elements or members without an initialiser
   pub zeros_go : (k : ℕ) (structs : Structs) (s : Slots) → CellsGo k [] (fine (zeros structs s)) (fine (zeros structs s))
-  zeros_go k structs (copies n t) = bare_go k (map typed_zero (repeat n (flat structs t))) (all_zero (repeat n (flat structs t)))
-  zeros_go k structs (each ts) = bare_go k (map typed_zero (flat_all structs ts)) (all_zero (flat_all structs ts))
+  zeros_go k structs (copies n t) = bare_go k (map typed_zero (repeat n (flat structs t))) (all_made typed_zero zero_bare (repeat n (flat structs t)))
+  zeros_go k structs (each ts) = bare_go k (map typed_zero (flat_all structs ts)) (all_made typed_zero zero_bare (flat_all structs ts))
 
   char_bare : (b : ℕ) → IsBare (typed_char b)
   char_bare b = record { types = refl; tree = λ k. refl }
-
-  all_chars : (w : List ℕ) → AllBare (map typed_char w)
-  all_chars [] = tt
-  all_chars (b ∷ w) = (char_bare b, all_chars w)
 
   all_alike : (n : ℕ) (g : TypedExpression) → IsBare g → AllBare (replicate n g)
   all_alike zero g h = tt
   all_alike (suc n) g h = (h, all_alike n g h)
 
   chars_go : (k n : ℕ) (w : List ℕ) → CellsGo k [] (fine (chars n w)) (fine (chars n w))
-  chars_go k n w = bare_go k (chars n w) (bare_both (map typed_char w) (replicate (n - length w) (typed_char 0)) (all_chars w) (all_alike (n - length w) (typed_char 0) (char_bare 0)))
+  chars_go k n w = bare_go k (chars n w) (bare_both (map typed_char w) (replicate (n - length w) (typed_char 0)) (all_made typed_char char_bare w) (all_alike (n - length w) (typed_char 0) (char_bare 0)))
 
   -- ## One expression
 
@@ -162,15 +158,8 @@ module _ (p : Program) where
     pub list_goes : (takes : Bool) (at most n : ℕ) (r s : Checked (List TypedExpression)) → (nat_le n most ≡ true → CellsGo k ts r s) → CellsGo k ts (cells_of_list takes at most n r) (cells_of_list takes at most n s)
     list_goes true at most n r s h = by_test (nat_le n most) r h
       where
-        met_goes : (r : Checked (List TypedExpression)) → CellsGo k ts r s → CellsGo k ts (on r (λ gs. demand true 14 at gs)) (on s (λ gs. demand true 14 at gs))
-        met_goes (fine gs) l = (l.0, ap (λ z. on z (λ gs. demand true 14 at gs)) l.1, l.2, l.3)
-        met_goes (faulty f fs) l = tt
-
-        unmet_goes : (r : Checked (List TypedExpression)) → CellsGo k ts (on r (λ gs. demand false 14 at gs)) (on s (λ gs. demand false 14 at gs))
-        unmet_goes (fine gs) = tt
-        unmet_goes (faulty f fs) = tt
-
         by_test : (b : Bool) (r : Checked (List TypedExpression)) → (b ≡ true → CellsGo k ts r s) → CellsGo k ts (on r (λ gs. demand b 14 at gs)) (on s (λ gs. demand b 14 at gs))
-        by_test true r h = met_goes r (h refl)
-        by_test false r h = unmet_goes r
+        by_test true (fine gs) h = (let l = h refl in (l.0, ap (λ z. on z (λ gs. demand true 14 at gs)) l.1, l.2, l.3))
+        by_test false (fine gs) h = tt
+        by_test b (faulty f fs) h = tt
     list_goes false at most n r s h = tt

@@ -83,11 +83,8 @@ module _ (sites : Sites) where
 -- ## Scopes
 
 -- what a name means within its initialiser and behind it, where it is fine
-seen_fine : (env : Env) (n : ℕ) (x : Ident) (r : Checked Object) (o : Object) (a : Met) → r ≡ fine o → new_name env x ≡ fine a → seen_meaning env n x r ≡ fine (a_local n o.seen o.whole)
-seen_fine env n x r o a g h = ap₂ (λ y z. on y (λ q. gives z (λ _. a_local n q.seen q.whole))) g h
-
-whole_fine : (env : Env) (n : ℕ) (x : Ident) (r : Checked Object) (o : Object) (a : Met) → r ≡ fine o → new_name env x ≡ fine a → whole_meaning env n x r ≡ fine (a_local n o.whole o.whole)
-whole_fine env n x r o a g h = ap₂ (λ y z. on y (λ q. gives z (λ _. a_local n q.whole q.whole))) g h
+meaning_fine : (pick : Object → CType) (env : Env) (n : ℕ) (x : Ident) (r : Checked Object) (o : Object) (a : Met) → r ≡ fine o → new_name env x ≡ fine a → on r (λ q. gives (new_name env x) (λ _. a_local n (pick q) q.whole)) ≡ fine (a_local n (pick o) o.whole)
+meaning_fine pick env n x r o a g h = ap₂ (λ y z. on y (λ q. gives z (λ _. a_local n (pick q) q.whole))) g h
 
 module _ (p : Program) (names : List Binding) (env : Env) (w : More) (u : AreUnreserved env.names) (m : MeanAlike env.names w.names) (stand : NullCallsStand p env w) (s : ReservedMeanAlike names w.names) where
   abbrev L : Env
@@ -112,15 +109,10 @@ module _ (p : Program) (names : List Binding) (env : Env) (w : More) (u : AreUnr
     number : number_in next' x.name ≡ number_in next x.name
     number = number_same next next' x.name (unadded x.name plain) same
 
-    within_stand : StandBeside p names (within_local L next x r) (within_local R next' x r')
-    within_stand =
-        meant_stand x.name (a_local (number_in next x.name) o.seen o.whole) (seen_meaning L (number_in next x.name) x r) (seen_meaning R (number_in next' x.name) x r') plain
-        (seen_fine L (number_in next x.name) x r o a e new) (seen_fine R (number_in next' x.name) x r' o a e' new' ∙ ap (λ n. fine (a_local n o.seen o.whole)) number)
-
-    behind_stand : StandBeside p names (behind_local L next x r) (behind_local R next' x r')
-    behind_stand =
-        meant_stand x.name (a_local (number_in next x.name) o.whole o.whole) (whole_meaning L (number_in next x.name) x r) (whole_meaning R (number_in next' x.name) x r') plain
-        (whole_fine L (number_in next x.name) x r o a e new) (whole_fine R (number_in next' x.name) x r' o a e' new' ∙ ap (λ n. fine (a_local n o.whole o.whole)) number)
+    local_stand : (pick : Object → CType)
+        → StandBeside p names (with_name L x.name (meaning_or_unknown (on r (λ q. gives (new_name L x) (λ _. a_local (number_in next x.name) (pick q) q.whole))))) (with_name R x.name (meaning_or_unknown (on r' (λ q. gives (new_name R x) (λ _. a_local (number_in next' x.name) (pick q) q.whole)))))
+    local_stand pick =
+        meant_stand x.name (a_local (number_in next x.name) (pick o) o.whole) _ _ plain (meaning_fine pick L (number_in next x.name) x r o a e new) (meaning_fine pick R (number_in next' x.name) x r' o a e' new' ∙ ap (λ n. fine (a_local n (pick o) o.whole)) number)
 
 -- ## Initialisers that may be left out
 
@@ -182,8 +174,8 @@ module _ (p : Program) (sites : Sites) (names : List Binding) (env : Env) (w : M
             (λ t new. behind_part_follows p k ts object made_object (local_of (within_local left next x object) b next x m) (local_of (within_local right next' x made_object) b' next' x made) lead
             (λ o e. variable_follows p k ts x.name (number_in next x.name) (number_in next' x.name) o.whole (initialised_local (within_local left next x object) b o.whole m) (initialised_local (within_local right next' x made_object) b' o.whole made) (unadded x.name (new_name_plain env x t new))
             (number p names env w u a n z next next' same x object made_object o t e (fine_leads object made_object o lead e) new)
-            (local_cells p sites names (within_local left next x object) (within_local right next' x made_object) (within_stand p names env w u a n z next next' same x object made_object o t e (fine_leads object made_object o lead e) new) b b' k o.whole m named (tabled o e) found near))));
-        scopes = λ q h. (let c = found_fine q h in behind_stand p names env w u a n z next next' same x object made_object c.0 c.1 c.2 (fine_leads object made_object c.0 lead c.2) c.3);
+            (local_cells p sites names (within_local left next x object) (within_local right next' x made_object) (local_stand p names env w u a n z next next' same x object made_object o t e (fine_leads object made_object o lead e) new (λ q. q.seen)) b b' k o.whole m named (tabled o e) found near))));
+        scopes = λ q h. (let c = found_fine q h in local_stand p names env w u a n z next next' same x object made_object c.0 c.1 c.2 (fine_leads object made_object c.0 lead c.2) c.3 (λ q. q.whole));
         held = λ q h. (let c = found_fine q h in ap (held_by_object right made) (fine_leads object made_object c.0 lead c.2) ∙ (held_by_same sites env w m c.0.whole b.sites named ∙ sym (ap (held_by_object left m) c.2)));
       }
 
@@ -208,18 +200,15 @@ module _ (p : Program) (sites : Sites) (names : List Binding) where
       let xs : List Temporary = kept_of_maybe_init sites b.sites m in
       let ys : List Temporary = kept_of_parts sites (b.sites + calls_of_maybe_init m) ps in
       let m' : MaybeInit = maybe_init sites b.sites m in
-      let ps' : Parts = parts sites (b.sites + calls_of_maybe_init m) ps in
       let one : NamedGoes p sites names e f b b' next next' k at s d m (name_of d) = named_goes e f st b b' next next' k at s d m (name_of d) named.0 tabled.0 (found_first names k xs ys found) near same in
       let others : (q : StatementTree typed.Stmt) → local_part e b next at s d m ≡ fine q → PartsGo (behind_part e next at s d m) (behind_part f next' at s d m') (after_part e b at s d m) (after_part f b' at s d m') (past_part next d) (past_part next' d) (k + length (types_of xs)) at s ps =
       λ q h. parts_go ps (behind_part e next at s d m) (behind_part f next' at s d m') (one.scopes q h) (after_part e b at s d m) (after_part f b' at s d m') (past_part next d) (past_part next' d) (k + length (types_of xs)) at s named.1 tabled.1 (found_rest names k xs ys found)
       (near_past b b' (calls_of_maybe_init m) (calls_of_maybe_init m') (held_by_part e at s d m) (held_by_part f at s d m') near (maybe_few sites m b.sites named.0) (one.held q h)) (past_same next next' (name_or_empty (name_of d)) same)
       in
-      let r : Checked (StatementTree typed.Stmt) = local_part e b next at s d m in
-      let q : Checked (StatementTree typed.Stmts) = local_parts (behind_part e next at s d m) (after_part e b at s d m) (past_part next d) at s ps in
       record {
-        laid = one_follows p k (types_of xs) (types_of ys) _ (sym (types_both xs ys)) r (local_part f b' next' at s d m') q (local_parts (behind_part f next' at s d m') (after_part f b' at s d m') (past_part next' d) at s ps') one.laid (λ o h. (others o h).laid);
-        scopes = λ o h. (let c = first_fine r q (λ y z. fine (one_more y z)) o h in (others c.0 c.2).scopes c.1 c.3);
-        held = λ o h. (let c = first_fine r q (λ y z. fine (one_more y z)) o h in ap₂ (λ vs ws. vs ++ ws) (one.held c.0 c.2) ((others c.0 c.2).held c.1 c.3));
+        laid = one_follows p k (types_of xs) (types_of ys) _ (sym (types_both xs ys)) _ _ _ _ one.laid (λ o h. (others o h).laid);
+        scopes = λ o h. (let c = first_fine _ _ (λ y z. fine (one_more y z)) o h in (others c.0 c.2).scopes c.1 c.3);
+        held = λ o h. (let c = first_fine _ _ (λ y z. fine (one_more y z)) o h in ap₂ (λ vs ws. vs ++ ws) (one.held c.0 c.2) ((others c.0 c.2).held c.1 c.3));
       }
 
 -- ## Declarations, and what stands first in the head of a for

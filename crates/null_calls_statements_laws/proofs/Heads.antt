@@ -86,9 +86,7 @@ module _ (p : Program) (sites : Sites) (env : Env) (w : More) (goes : (x : Expr)
 
   tests_go : (at : ℕ) (m : Maybe) → IfThere (Stands p sites env w b k true) m → MaybeFollows p k (types_of (kept_of_maybe sites b.sites true m)) true (test_of L b at m) (test_of R b' at (maybe sites b.sites true m))
   tests_go at absent h = (typed.absent, refl, refl, refl)
-  tests_go at (there x) h =
-      let ts : List CType = types_of (kept sites b.sites true x) in
-      there_follows p k ts (condition_at at (value L b x)) (condition_at at (value R b' (expr sites b.sites true x))) (condition_follows p k ts at (value L b x) (value R b' (expr sites b.sites true x)) (wanted x h))
+  tests_go at (there x) h = there_follows p k _ _ _ (condition_follows p k _ at _ _ (wanted x h))
 
   steps_go : (m : Maybe) → IfThere (Stands p sites env w b k false) m → MaybeFollows p k (types_of (kept_of_maybe sites b.sites false m)) false (step_of L b m) (step_of R b' (maybe sites b.sites false m))
   steps_go absent h = (typed.absent, refl, refl, refl)

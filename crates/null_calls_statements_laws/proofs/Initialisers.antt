@@ -100,12 +100,6 @@ module _ (p : Program) (sites : Sites) (env : Env) (w : More) (goes : (x : Expr)
   abbrev Right : Env
   Right = instrumented_scope env w
 
-  -- one, and then the others
-  more_go : (k : ℕ) (xs ys : List Temporary) (r r' s s' : Checked (List TypedExpression)) → CellsGo p k (types_of xs) r r' → CellsGo p (k + length (types_of xs)) (types_of ys) s s'
-      → CellsGo p k (types_of (xs ++ ys)) (both r s (λ gs hs. fine (gs ++ hs))) (both r' s' (λ gs hs. fine (gs ++ hs)))
-  more_go k xs ys r r' s s' g h =
-      subst (λ ts. CellsGo p k ts (both r s (λ gs hs. fine (gs ++ hs))) (both r' s' (λ gs hs. fine (gs ++ hs)))) (sym (types_both xs ys)) (both_go p k (types_of xs) (types_of ys) r r' s s' g h)
-
   mutual
     init_goes : (i : Init) (t : CType) (b b' : Before) (k : ℕ) → InitNamed sites b.sites i → InitTabled p sites Left b t i → AreFound w.names k (kept_of_init sites b.sites i) → Near b b' → CellsGo p k (types_of (kept_of_init sites b.sites i)) (initialised Left b false t i) (initialised Right b' false t (init sites b.sites i))
     init_goes (one at e) t b b' k n c f r =
@@ -122,15 +116,11 @@ module _ (p : Program) (sites : Sites) (env : Env) (w : More) (goes : (x : Expr)
     inits_go (more_inits i is) (copies (suc m) t) b b' k n c f r few =
         let xs : List Temporary = kept_of_init sites b.sites i in
         let ys : List Temporary = kept_of_inits sites (b.sites + calls_of_init i) is in
-        more_go k xs ys (initialised Left b false t i) (initialised Right b' false t (init sites b.sites i)) (in_turn Left (after_init Left b t i) false (copies m t) is) (in_turn Right (after_init Right b' t (init sites b.sites i)) false (copies m t) (inits sites (b.sites + calls_of_init i) is))
-        (init_goes i t b b' k n.0 c.0 (found_first w.names k xs ys f) r)
-        (inits_go is (copies m t) (after_init Left b t i) (after_init Right b' t (init sites b.sites i)) (k + length (types_of xs)) n.1 c.1 (found_rest w.names k xs ys f) (near_init sites env w i t b b' n.0 r) (omega (arith, few)))
+        both_go p k _ _ _ (sym (types_both xs ys)) _ _ _ _ (init_goes i t b b' k n.0 c.0 (found_first w.names k xs ys f) r) (inits_go is (copies m t) _ _ _ n.1 c.1 (found_rest w.names k xs ys f) (near_init sites env w i t b b' n.0 r) (omega (arith, few)))
     inits_go (more_inits i is) (each (t ∷ ts)) b b' k n c f r few =
         let xs : List Temporary = kept_of_init sites b.sites i in
         let ys : List Temporary = kept_of_inits sites (b.sites + calls_of_init i) is in
-        more_go k xs ys (initialised Left b false t i) (initialised Right b' false t (init sites b.sites i)) (in_turn Left (after_init Left b t i) false (each ts) is) (in_turn Right (after_init Right b' t (init sites b.sites i)) false (each ts) (inits sites (b.sites + calls_of_init i) is))
-        (init_goes i t b b' k n.0 c.0 (found_first w.names k xs ys f) r)
-        (inits_go is (each ts) (after_init Left b t i) (after_init Right b' t (init sites b.sites i)) (k + length (types_of xs)) n.1 c.1 (found_rest w.names k xs ys f) (near_init sites env w i t b b' n.0 r) (omega (arith, few)))
+        both_go p k _ _ _ (sym (types_both xs ys)) _ _ _ _ (init_goes i t b b' k n.0 c.0 (found_first w.names k xs ys f) r) (inits_go is (each ts) _ _ _ n.1 c.1 (found_rest w.names k xs ys f) (near_init sites env w i t b b' n.0 r) (omega (arith, few)))
     inits_go (more_inits i is) x b b' k n c f r few = absurd (omega (arith, few))
 
 pub initialisers_go : InitialisersGo

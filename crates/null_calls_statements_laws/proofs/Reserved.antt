@@ -43,9 +43,7 @@ result_reserved site wanted t = by_test (is_kept wanted t)
 
 call_reserved : (site : ℕ) (wanted : Bool) (o : Option Called) → AreReserved (temporaries_where site wanted o)
 call_reserved site wanted None = tt
-call_reserved site wanted (Some c) =
-    reserved_both (designator_kept site c.pointer_type) (arguments_kept site 0 c.parameters ++ result_kept site wanted c.returns) (designator_reserved site c.pointer_type)
-    (reserved_both (arguments_kept site 0 c.parameters) (result_kept site wanted c.returns) (arguments_reserved site 0 c.parameters) (result_reserved site wanted c.returns))
+call_reserved site wanted (Some c) = reserved_both _ _ (designator_reserved site c.pointer_type) (reserved_both _ _ (arguments_reserved site 0 c.parameters) (result_reserved site wanted c.returns))
 
 -- ## Expressions
 
@@ -68,20 +66,16 @@ module _ (sites : Sites) where
     pub expr_reserved : (x : Expr) (b : ℕ) (wanted : Bool) → AreReserved (kept sites b wanted x)
     expr_reserved (comma at es) b wanted = members_reserved es b wanted
     expr_reserved (cast at t e) b wanted = by_type AreReserved (is_void_type t) (kept sites b false e) (kept sites b true e) (expr_reserved e b false) (expr_reserved e b true)
-    expr_reserved (call at d es) b wanted =
-        reserved_both (kept sites b true d) (temporaries_where (b + calls d) wanted (sites (b + calls d)) ++ kept_of_arguments sites (suc (b + calls d)) es) (expr_reserved d b true)
-        (reserved_both (temporaries_where (b + calls d) wanted (sites (b + calls d))) (kept_of_arguments sites (suc (b + calls d)) es) (call_reserved (b + calls d) wanted (sites (b + calls d))) (all_reserved es (suc (b + calls d))))
+    expr_reserved (call at d es) b wanted = reserved_both _ _ (expr_reserved d b true) (reserved_both _ _ (call_reserved (b + calls d) wanted (sites (b + calls d))) (all_reserved es (suc (b + calls d))))
     expr_reserved (member at how e x) b wanted = expr_reserved e b true
     expr_reserved (postfix at op e) b wanted = expr_reserved e b true
     expr_reserved (prefix at pre_increment e) b wanted = expr_reserved e b true
     expr_reserved (prefix at pre_decrement e) b wanted = expr_reserved e b true
     expr_reserved (unary at op e) b wanted = by_unary sites at op e b wanted (expr_reserved e b true) (operand_reserved e b)
-    expr_reserved (index at e f) b wanted = reserved_both (kept sites b true e) (kept sites (b + calls e) true f) (expr_reserved e b true) (expr_reserved f (b + calls e) true)
-    expr_reserved (binary at op e f) b wanted = reserved_both (kept sites b true e) (kept sites (b + calls e) true f) (expr_reserved e b true) (expr_reserved f (b + calls e) true)
-    expr_reserved (assign at op e f) b wanted = reserved_both (kept sites b true e) (kept sites (b + calls e) true f) (expr_reserved e b true) (expr_reserved f (b + calls e) true)
-    expr_reserved (conditional at c e f) b wanted =
-        reserved_both (kept sites b true c) (kept sites (b + calls c) true e ++ kept sites (b + calls c + calls e) true f) (expr_reserved c b true)
-        (reserved_both (kept sites (b + calls c) true e) (kept sites (b + calls c + calls e) true f) (expr_reserved e (b + calls c) true) (expr_reserved f (b + calls c + calls e) true))
+    expr_reserved (index at e f) b wanted = reserved_both _ _ (expr_reserved e b true) (expr_reserved f (b + calls e) true)
+    expr_reserved (binary at op e f) b wanted = reserved_both _ _ (expr_reserved e b true) (expr_reserved f (b + calls e) true)
+    expr_reserved (assign at op e f) b wanted = reserved_both _ _ (expr_reserved e b true) (expr_reserved f (b + calls e) true)
+    expr_reserved (conditional at c e f) b wanted = reserved_both _ _ (expr_reserved c b true) (reserved_both _ _ (expr_reserved e (b + calls c) true) (expr_reserved f (b + calls c + calls e) true))
     expr_reserved d b wanted = tt
 
     operand_reserved : (x : Expr) (b : ℕ) → Operand sites b x
@@ -95,8 +89,7 @@ module _ (sites : Sites) where
     members_reserved : (es : Exprs) (b : ℕ) (wanted : Bool) → AreReserved (kept_of_members sites b wanted es)
     members_reserved no_exprs b wanted = tt
     members_reserved (more_exprs e no_exprs) b wanted = expr_reserved e b wanted
-    members_reserved (more_exprs e (more_exprs f es)) b wanted =
-        reserved_both (kept sites b false e) (kept_of_members sites (b + calls e) wanted (more_exprs f es)) (expr_reserved e b false) (members_reserved (more_exprs f es) (b + calls e) wanted)
+    members_reserved (more_exprs e (more_exprs f es)) b wanted = reserved_both _ _ (expr_reserved e b false) (members_reserved (more_exprs f es) (b + calls e) wanted)
 
 pub temporaries_stay : TemporariesStay
 temporaries_stay sites names ns alike b k wanted x f = found_stay names ns alike k (kept sites b wanted x) (expr_reserved sites x b wanted) f

@@ -42,24 +42,11 @@ module _ (p : Program) (k : ℕ) (ts : List CType) where
 
   -- a variable with its cells
   pub variable_follows : (x : Name) (n m : ℕ) (t : CType) (r s : Checked (List TypedExpression)) → is_added x ≡ false → m ≡ n → CellsFollow p k ts r s → StatementTreeFollows p k ts (gives r (laid_variable x n t)) (gives s (laid_variable x m t))
-  variable_follows x n m t (fine cs) s a e h =
-      (typed.declare n (stores_from 0 h.0), ap₂ (λ i z. gives z (laid_variable x i t)) e h.1 ∙ variable_is (is_added x), no_added (is_added x) a, kept_is (is_added x), tree_is (is_added x))
+  variable_follows x n m t (fine cs) s a e h = by_test (is_added x) a
     where
-      variable_is : (b : Bool) → fine (laid_if b n t h.0) ≡ fine (with_tree (laid_if b n t cs) (typed.declare n (stores_from 0 h.0)))
-      variable_is true = refl
-      variable_is false = refl
-
-      no_added : (b : Bool) → b ≡ false → (laid_if b n t cs).added ≡ []
-      no_added true e = (let no : true ≡ false = e in cc)
-      no_added false e = refl
-
-      kept_is : (b : Bool) → with_null_calls.kept_of_stmt p (laid_if b n t cs).tree ≡ ts
-      kept_is true = h.2.types 0
-      kept_is false = h.2.types 0
-
-      tree_is : (b : Bool) → unsited_stmt (typed.declare n (stores_from 0 h.0)) ≡ with_null_calls.stmt p k (laid_if b n t cs).tree
-      tree_is true = ap (typed.declare n) (h.2.trees 0)
-      tree_is false = ap (typed.declare n) (h.2.trees 0)
+      by_test : (b : Bool) → b ≡ false → StatementTreeFollows p k ts (fine (laid_if b n t cs)) (gives s (laid_if b m t))
+      by_test true a = absurd (let no : true ≡ false = a in cc)
+      by_test false a = (typed.declare n (stores_from 0 h.0), ap₂ (λ i z. gives z (laid_if false i t)) e h.1, refl, h.2.types 0, ap (typed.declare n) (h.2.trees 0))
   variable_follows x n m t (faulty f fs) s a e h = tt
 
 -- no statement
