@@ -34,7 +34,7 @@ use Rattle.null_calls_expressions_laws.specs.MarkedCalls.{NullCallsStand}
 use Rattle.null_calls_expressions_laws.proofs.AllCalls.{all_expressions_go}
 use Rattle.null_calls_statements_laws.specs.Standing.{ReservedMeanAlike, StandBeside, stand_beside}
 use Rattle.null_calls_statements_laws.specs.Initialisers.{MaybeInitTabled, CellsFollow}
-use Rattle.null_calls_statements_laws.proofs.Initialisers.{text_same, count_same, init_few, held_same, initialisers_go}
+use Rattle.null_calls_statements_laws.proofs.Initialisers.{text_same, count_same, init_few, held_same, near_past, initialisers_go}
 use Rattle.null_calls_statements_laws.proofs.Reserved.{temporaries_stay}
 use Rattle.null_calls_statements_laws.proofs.Scopes.{named_stand, unadded}
 use Rattle.null_calls_statements_laws.specs.Declarations.{NamedTabled, PartsTabled, StatementTreeFollow, SameNumber, DeclarationsGo, FirstsGo}
@@ -121,14 +121,6 @@ local_cells : (p : Program) (sites : Sites) (names : List Binding) (e f : Env) �
 local_cells p sites names e f st b b' k t no_init n c h r = ([], refl, record { types = λ cell. refl; trees = λ cell. refl })
 local_cells p sites names e f st b b' k t (an_init i) n c h r = (initialisers_go p sites names e f st b b' k t i n c h r).cells
 
--- so much stands before what follows these calls and strings in both
-near_past : (b b' : Before) (c c' : ℕ) (ws vs : List (List ℕ)) → Near b b' → c' ≤ 3 * c → vs ≡ ws → Near (past b c ws) (past b' c' vs)
-near_past b b' c c' ws vs n few h = record {
-  sites = (let l = n.sites in omega (arith, few, l));
-  strings = ap₂ (λ xs ys. xs ++ ys) n.strings h;
-  cells = ap₂ (λ i xs. i + string_cells xs) n.cells h;
-}
-
 -- ## One declarator
 
 -- where the plain one is fine, the scopes behind the two stand beside each other, and what is held is the same
@@ -153,16 +145,13 @@ module _ (p : Program) (sites : Sites) (names : List Binding) (env : Env) (w : M
   abbrev made_object : Checked Object
   made_object = object_declared right at s d x made
 
-  abbrev laid_by : Checked (StatementTree typed.Stmt)
-  laid_by = on object (local_of (within_local left next x object) b next x m)
-
   lead : Leads object made_object
   lead = object_alike sites env w u a b.sites at s d x m
 
   -- where it is fine, the object and its name are
   found_fine : (q : StatementTree typed.Stmt) → local_named left b next at s d m (Some x) ≡ fine q → (o : Object) × (t : Met) × (object ≡ fine o) × (new_name left x ≡ fine t)
   found_fine q h =
-      let c = first_fine (new_name left x) laid_by (λ _ q. fine q) q (alone_fine (is_given left x.name (type_declared left at s d)) 3 (place_or at d) (local left b next x m object) q h) in
+      let c = first_fine (new_name left x) _ (λ _ q. fine q) q (alone_fine (is_given left x.name (type_declared left at s d)) 3 (place_or at d) (local left b next x m object) q h) in
       let o = on_fine object (local_of (within_local left next x object) b next x m) c.1 c.3 in
       (o.0, c.0, o.1, c.2)
 
@@ -170,11 +159,10 @@ module _ (p : Program) (sites : Sites) (names : List Binding) (env : Env) (w : M
   variable_goes named tabled found near same =
       let ts : List CType = types_of (kept_of_maybe_init sites b.sites m) in
       record {
-        laid = alone_follows p k ts (is_given left x.name (type_declared left at s d)) (is_given right x.name (type_declared right at s d)) 3 (place_or at d) (place_or at d) (local left b next x m object) (local right b' next' x made made_object) (named_follows p k ts (new_name left x) (new_name right x) laid_by (on made_object (local_of (within_local right next' x made_object) b' next' x made)) (new_name_leads env w a x)
-            (λ t new. behind_part_follows p k ts object made_object (local_of (within_local left next x object) b next x m) (local_of (within_local right next' x made_object) b' next' x made) lead
-            (λ o e. variable_follows p k ts x.name (number_in next x.name) (number_in next' x.name) o.whole (initialised_local (within_local left next x object) b o.whole m) (initialised_local (within_local right next' x made_object) b' o.whole made) (unadded x.name (new_name_plain env x t new))
-            (number p names env w u a n z next next' same x object made_object o t e (fine_leads object made_object o lead e) new)
-            (local_cells p sites names (within_local left next x object) (within_local right next' x made_object) (local_stand p names env w u a n z next next' same x object made_object o t e (fine_leads object made_object o lead e) new (λ q. q.seen)) b b' k o.whole m named (tabled o e) found near))));
+        laid = alone_follows p k ts (is_given left x.name (type_declared left at s d)) _ 3 _ _ _ _ (named_follows p k ts _ _ _ _ (new_name_leads env w a x)
+            (λ t new. behind_part_follows p k ts object made_object _ _ lead
+            (λ o e. let q = fine_leads object made_object o lead e in variable_follows p k ts x.name _ _ o.whole _ _ (unadded x.name (new_name_plain env x t new)) (number p names env w u a n z next next' same x object made_object o t e q new)
+            (local_cells p sites names _ _ (local_stand p names env w u a n z next next' same x object made_object o t e q new (λ q. q.seen)) b b' k o.whole m named (tabled o e) found near))));
         scopes = λ q h. (let c = found_fine q h in local_stand p names env w u a n z next next' same x object made_object c.0 c.1 c.2 (fine_leads object made_object c.0 lead c.2) c.3 (λ q. q.whole));
         held = λ q h. (let c = found_fine q h in ap (held_by_object right made) (fine_leads object made_object c.0 lead c.2) ∙ (held_by_same sites env w m c.0.whole b.sites named ∙ sym (ap (held_by_object left m) c.2)));
       }

@@ -7,7 +7,7 @@ use Rattle.c_syntax.specs.Tree.{Init, one, list, Inits, no_inits, more_inits, an
 use Rattle.c_syntax.specs.Tree as syntax
 use Rattle.c_rules.specs.Checked.{Checked, fine, both}
 use Rattle.c_rules.specs.Scopes.{Env, Before, layout_of}
-use Rattle.c_rules.specs.Counts.{calls, string_cells}
+use Rattle.c_rules.specs.Counts.{calls, string_cells, past}
 use Rattle.c_rules.specs.TypedExpression.{TypedExpression}
 use Rattle.c_rules.specs.Expressions.{value}
 use Rattle.c_rules.specs.Initialisers.{Slots, copies, each, slots, capacity, takes_list, count_inits, text_of, is_char_array, held, held_in_turn, calls_of_init, after_init, cells_of_one, cells_of_list, initialised, in_turn}
@@ -62,6 +62,14 @@ module _ (sites : Sites) where
     inits_reserved no_inits b = tt
     inits_reserved (more_inits i is) b = reserved_both (kept_of_init sites b i) (kept_of_inits sites (b + calls_of_init i) is) (init_reserved i b) (inits_reserved is (b + calls_of_init i))
 
+-- so much stands before what follows these calls and strings in both
+pub near_past : (b b' : Before) (c c' : ℕ) (ws vs : List (List ℕ)) → Near b b' → c' ≤ 3 * c → vs ≡ ws → Near (past b c ws) (past b' c' vs)
+near_past b b' c c' ws vs n few h = record {
+  sites = (let l = n.sites in omega (arith, few, l));
+  strings = ap₂ (λ xs ys. xs ++ ys) n.strings h;
+  cells = ap₂ (λ i xs. i + string_cells xs) n.cells h;
+}
+
 module _ (sites : Sites) (env : Env) (w : More) where
   abbrev L : Env
   L = plain_scope env
@@ -83,13 +91,7 @@ module _ (sites : Sites) (env : Env) (w : More) where
     held_in_turn_same (more_inits i is) x b h = refl
 
   near_init : (i : Init) (t : CType) (b b' : Before) → InitNamed sites b.sites i → Near b b' → Near (after_init L b t i) (after_init R b' t (init sites b.sites i))
-  near_init i t b b' h n =
-      let s = held_same i t b.sites h in
-      record {
-        sites = (let c = init_few sites i b.sites h in let l = n.sites in omega (arith, c, l));
-        strings = ap₂ (λ ws vs. ws ++ vs) n.strings s;
-        cells = ap₂ (λ c ws. c + string_cells ws) n.cells s;
-      }
+  near_init i t b b' h n = near_past b b' _ _ _ _ n (init_few sites i b.sites h) (held_same i t b.sites h)
 
 -- ## Initialisers
 

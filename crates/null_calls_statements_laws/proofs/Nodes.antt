@@ -21,10 +21,6 @@ pub use Rattle.c_rules.proofs.ModeBlocks.{both_gives}
 pub three_give : {A B C D : Type 0} (p : Checked A) (q : Checked B) (r : Checked C) (k : A → B → C → Checked D) (a : A) (b : B) (c : C) → p ≡ fine a → q ≡ fine b → r ≡ fine c → all_three p q r k ≡ k a b c
 three_give p q r k a b c g h i = both_gives p (beside q r) (λ x t. k x t.first t.second) a (record { first = b; second = c }) g (both_gives q r (λ x y. fine (record { first = x; second = y })) b c h i)
 
-gives_twice : {A B C : Type 0} (r : Checked A) (f : A → B) (g : B → C) → gives r (λ a. g (f a)) ≡ gives (gives r f) g
-gives_twice (fine a) f g = refl
-gives_twice (faulty e es) f g = refl
-
 -- ## Lists of statements
 
 appended_kept : (p : Program) (xs ys : typed.Stmts) → with_null_calls.kept_of_stmts p (appended xs ys) ≡ with_null_calls.kept_of_stmts p xs ++ with_null_calls.kept_of_stmts p ys
@@ -53,10 +49,9 @@ module _ (p : Program) where
 
   pub evaluate_follows : (k : ℕ) (ts : List CType) (r r' : Checked TypedExpression) → StmtFollows p k ts (gives r (λ g. typed.evaluate (tree_of g))) (gives r' (λ g. typed.evaluate (tree_of g)))
       → StatementTreeFollows p k ts (gives r (λ g. bare (typed.evaluate (tree_of g)))) (gives r' (λ g. bare (typed.evaluate (tree_of g))))
-  evaluate_follows k ts r r' h =
-      subst (λ z. StatementTreeFollows p k ts z (gives r' (λ g. bare (typed.evaluate (tree_of g))))) (sym (gives_twice r (λ g. typed.evaluate (tree_of g)) bare))
-      (subst (λ z. StatementTreeFollows p k ts (gives (gives r (λ g. typed.evaluate (tree_of g))) bare) z) (sym (gives_twice r' (λ g. typed.evaluate (tree_of g)) bare))
-      (bare_follows k ts (gives r (λ g. typed.evaluate (tree_of g))) (gives r' (λ g. typed.evaluate (tree_of g))) h))
+  evaluate_follows k ts (fine g) (fine h) l = bare_follows k ts (fine (typed.evaluate (tree_of g))) (fine (typed.evaluate (tree_of h))) l
+  evaluate_follows k ts (fine g) (faulty f fs) l = bare_follows k ts (fine (typed.evaluate (tree_of g))) (faulty f fs) l
+  evaluate_follows k ts (faulty f fs) r' l = tt
 
   pub jump_follows : (k : ℕ) (t : Bool) (code at : ℕ) (s : typed.Stmt) → with_null_calls.kept_of_stmt p s ≡ [] → unsited_stmt s ≡ with_null_calls.stmt p k s → StatementTreeFollows p k [] (demand t code at (bare s)) (demand t code at (bare s))
   jump_follows k true code at s g h = (s, refl, refl, g, h)
