@@ -41,7 +41,7 @@ use Rattle.null_calls_statements_laws.proofs.Scopes.{blocks_stand_beside}
 use Rattle.null_calls_statements_laws.specs.Declarations.{StatementTreeFollow, SameNumber, DeclGoes, FirstGoes}
 use Rattle.null_calls_statements_laws.proofs.Declarations.{declarations_go, firsts_go}
 use Rattle.null_calls_statements_laws.proofs.Numbers.{numbers_stay}
-use Rattle.null_calls_statements_laws.specs.Statements.{after_groups, MaybeTabled, StmtTabled, BlockTabled, StmtsTabled, GroupsTabled, StatementTreeFollows, GroupsFollow, StmtGoes, BlockGoes, StatementsGo, BlocksGo}
+use Rattle.null_calls_statements_laws.specs.Statements.{after_block, after_groups, MaybeTabled, StmtTabled, BlockTabled, StmtsTabled, GroupsTabled, StatementTreeFollows, GroupsFollow, StmtGoes, BlockGoes, StatementsGo, BlocksGo}
 use Rattle.null_calls_statements_laws.proofs.Nodes.{evaluate_follows, bare_follows, jump_follows, if_kept, head_follows, do_follows, switch_follows, one_follows, some_follow, group_follows, block_follows, else_follows, for_follows}
 
 -- ## What stands before
@@ -127,16 +127,32 @@ both_near {p = p} {q = q} k h c e = let v = first_fine p q k c e in h v.0 v.1 v.
 three_near : {A B C D P : Type 0} {p : Checked A} {q : Checked B} {r : Checked C} (k : A → B → C → Checked D) → ((a : A) (b : B) (c : C) → p ≡ fine a → q ≡ fine b → r ≡ fine c → P) → (d : D) → all_three p q r k ≡ fine d → P
 three_near {q = q} {r = r} k h d e = both_near {q = beside q r} (λ a t. k a t.first t.second) (λ a t g l. both_near (λ b c. fine (record { first = b; second = c })) (λ b c m n. h a b c g m n) t l) d e
 
+-- what a part gives, and what holds behind it where it is fine
+record Going {A : Type 0} (F : Type 0) (r : Checked A) (N : Type 0) : Type 0 where
+  laid : F
+  near : (a : A) → r ≡ fine a → N
+
+in_turn : {A B C F F1 F2 N N2 : Type 0} {r : Checked A} {s : Checked B} (k : A → B → Checked C) → (F1 → ((a : A) → r ≡ fine a → F2) → F) → (N2 → N) → F1 → ((a : A) → r ≡ fine a → Going F2 s N2) → Going F (both r s k) N
+in_turn k l m f g = record { laid = l f (λ a e. (g a e).laid); near = both_near k (λ a b e h. m ((g a e).near b h)) }
+
 -- ## Statements
 
 module _ (p : Program) (sites : Sites) (names : List Binding) where
-  record StmtsGoes (e f : Env) (a : Around) (b b' : Before) (next next' : Next) (k : ℕ) (ss : Stmts) : Type 0 where
-    pub laid : StatementTreeFollow p k (types_of (with_null_calls.kept_of_stmts sites b.sites ss)) (stmts e a b next ss) (stmts f a b' next' (with_null_calls.stmts sites b.sites ss))
-    pub near : (q : StatementTree typed.Stmts) → stmts e a b next ss ≡ fine q → Near (after_stmts e b next ss) (after_stmts f b' next' (with_null_calls.stmts sites b.sites ss))
+  abbrev StmtGo : (e f : Env) (a : Around) (b b' : Before) (next next' : Next) (k : ℕ) → Stmt → Type 0
+  StmtGo e f a b b' next next' k s =
+      Going (StatementTreeFollows p k (types_of (with_null_calls.kept_of_stmt sites b.sites s)) (stmt e a b next s) (stmt f a b' next' (with_null_calls.stmt sites b.sites s))) (stmt e a b next s) (Near (after_stmt e b next s) (after_stmt f b' next' (with_null_calls.stmt sites b.sites s)))
 
-  record GroupsGoes (e f : Env) (a : Around) (b b' : Before) (next next' : Next) (k : ℕ) (i : IntType) (gs : Groups) : Type 0 where
-    pub laid : GroupsFollow p k (types_of (with_null_calls.kept_of_groups sites b.sites gs)) (groups_of_switch e a b next i gs) (groups_of_switch f a b' next' i (with_null_calls.groups sites b.sites gs))
-    pub near : (l : Labelled) → groups_of_switch e a b next i gs ≡ fine l → Near (after_groups e b next gs) (after_groups f b' next' (with_null_calls.groups sites b.sites gs))
+  abbrev BlockGo : (e f : Env) (a : Around) (b b' : Before) (next next' : Next) (k : ℕ) → BlockItems → Type 0
+  BlockGo e f a b b' next next' k is =
+      Going (StatementTreeFollow p k (types_of (with_null_calls.kept_of_block sites b.sites is)) (items_of_block e a b next is) (items_of_block f a b' next' (with_null_calls.items_of_block sites b.sites is))) (items_of_block e a b next is) (Near (after_block e b next is) (after_block f b' next' (with_null_calls.items_of_block sites b.sites is)))
+
+  abbrev StmtsGo : (e f : Env) (a : Around) (b b' : Before) (next next' : Next) (k : ℕ) → Stmts → Type 0
+  StmtsGo e f a b b' next next' k ss =
+      Going (StatementTreeFollow p k (types_of (with_null_calls.kept_of_stmts sites b.sites ss)) (stmts e a b next ss) (stmts f a b' next' (with_null_calls.stmts sites b.sites ss))) (stmts e a b next ss) (Near (after_stmts e b next ss) (after_stmts f b' next' (with_null_calls.stmts sites b.sites ss)))
+
+  abbrev GroupsGo : (e f : Env) (a : Around) (b b' : Before) (next next' : Next) (k : ℕ) (i : IntType) → Groups → Type 0
+  GroupsGo e f a b b' next next' k i gs =
+      Going (GroupsFollow p k (types_of (with_null_calls.kept_of_groups sites b.sites gs)) (groups_of_switch e a b next i gs) (groups_of_switch f a b' next' i (with_null_calls.groups sites b.sites gs))) (groups_of_switch e a b next i gs) (Near (after_groups e b next gs) (after_groups f b' next' (with_null_calls.groups sites b.sites gs)))
 
   -- the next numbers of variables stay the same
   stmt_numbers : (b : ℕ) (s : Stmt) (next next' : Next) → StmtNamed sites b s → SameNumber next next' → SameNumber (past_names next (names_of_stmt s)) (past_names next' (names_of_stmt (with_null_calls.stmt sites b s)))
@@ -160,9 +176,9 @@ module _ (p : Program) (sites : Sites) (names : List Binding) where
   S b s = with_null_calls.stmt sites b.sites s
 
   mutual
-    stmt_goes : (s : Stmt) (e f : Env) → StandBeside p names e f → (a : Around) (b b' : Before) (next next' : Next) (k : ℕ) → StmtNamed sites b.sites s → StmtTabled p sites e b next s → AreFound names k (with_null_calls.kept_of_stmt sites b.sites s) → Near b b' → SameNumber next next' → StmtGoes p sites e f a b b' next next' k s
+    stmt_goes : (s : Stmt) (e f : Env) → StandBeside p names e f → (a : Around) (b b' : Before) (next next' : Next) (k : ℕ) → StmtNamed sites b.sites s → StmtTabled p sites e b next s → AreFound names k (with_null_calls.kept_of_stmt sites b.sites s) → Near b b' → SameNumber next next' → StmtGo e f a b b' next next' k s
     stmt_goes (block at is) e f w a b b' next next' k n t h r m =
-        let i : BlockGoes p sites (inside e) (inside f) a b b' next next' k is = block_goes is (inside e) (inside f) (blocks_stand_beside p names e f w) a b b' next next' k n t h r m in
+        let i : BlockGo (inside e) (inside f) a b b' next next' k is = block_goes is (inside e) (inside f) (blocks_stand_beside p names e f w) a b b' next next' k n t h r m in
         record {
           laid = block_follows p k (types_of (with_null_calls.kept_of_block sites b.sites is)) (items_of_block (inside e) a b next is) (items_of_block (inside f) a b' next' (with_null_calls.items_of_block sites b.sites is)) i.laid;
           near = λ q g. (let v = on_fine (items_of_block (inside e) a b next is) (λ q. fine (with_tree q (typed.block q.tree))) q g in i.near v.0 v.1);
@@ -175,12 +191,8 @@ module _ (p : Program) (sites : Sites) (names : List Binding) where
     stmt_goes (only_if at x s) e f w a b b' next next' k n t h r m =
         let xs : List Temporary = kept sites b.sites true x in
         let ys : List Temporary = with_null_calls.kept_of_stmt sites (b.sites + calls x) s in
-        let i : StmtGoes p sites e f a (after b x) (after b' (X b x)) next next' (k + length (types_of xs)) s = stmt_goes s e f w a (after b x) (after b' (X b x)) next next' (k + length (types_of xs)) n.1 t.1 (found_rest names k xs ys h) (places_near sites b b' true x n.0 r) m in
-        record {
-          laid = head_follows p k (types_of xs) (types_of ys) _ (sym (types_both xs ys)) (λ c q. typed.if_else c q typed.empty) (if_kept p) (λ _ _. refl) (λ _ _. refl) _ _ _ _
-              ((heads_stand p sites names e f w b b' k r).conditions at x n.0 t.0 (found_first names k xs ys h)) (λ _ _. i.laid);
-          near = both_near _ (λ c q _ g. near_both _ _ _ _ _ _ _ _ _ _ (i.near q g));
-        }
+        in_turn _ (head_follows p k (types_of xs) (types_of ys) _ (sym (types_both xs ys)) (λ c q. typed.if_else c q typed.empty) (if_kept p) (λ _ _. refl) (λ _ _. refl) _ _ _ _) (near_both _ _ _ _ _ _ _ _ _ _)
+        ((heads_stand p sites names e f w b b' k r).conditions at x n.0 t.0 (found_first names k xs ys h)) (λ _ _. stmt_goes s e f w a _ _ _ _ _ n.1 t.1 (found_rest names k xs ys h) (places_near sites b b' true x n.0 r) m)
     stmt_goes (if_else at x s u) e f w a b b' next next' k n t h r m =
         let xs : List Temporary = kept sites b.sites true x in
         let ys : List Temporary = with_null_calls.kept_of_stmt sites (b.sites + calls x) s in
@@ -188,8 +200,8 @@ module _ (p : Program) (sites : Sites) (names : List Binding) where
         let b1 : Before = after b x in
         let c1 : Before = after b' (X b x) in
         let rest : AreFound names (k + length (types_of xs)) (ys ++ zs) = found_rest names k xs (ys ++ zs) h in
-        let i : StmtGoes p sites e f a b1 c1 next next' (k + length (types_of xs)) s = stmt_goes s e f w a b1 c1 next next' (k + length (types_of xs)) n.1 t.1 (found_first names (k + length (types_of xs)) ys zs rest) (places_near sites b b' true x n.0 r) m in
-        let j : Near (after_stmt e b1 next s) (after_stmt f c1 next' (S b1 s)) → StmtGoes p sites e f a _ _ (past_names next (names_of_stmt s)) (past_names next' (names_of_stmt (S b1 s))) (k + length (types_of xs) + length (types_of ys)) u
+        let i : StmtGo e f a b1 c1 next next' (k + length (types_of xs)) s = stmt_goes s e f w a b1 c1 next next' (k + length (types_of xs)) n.1 t.1 (found_first names (k + length (types_of xs)) ys zs rest) (places_near sites b b' true x n.0 r) m in
+        let j : Near (after_stmt e b1 next s) (after_stmt f c1 next' (S b1 s)) → StmtGo e f a _ _ (past_names next (names_of_stmt s)) (past_names next' (names_of_stmt (S b1 s))) (k + length (types_of xs) + length (types_of ys)) u
         = (λ v. stmt_goes u e f w a _ _ _ _ _ n.2 t.2 (found_rest names (k + length (types_of xs)) ys zs rest) v (stmt_numbers b1.sites s next next' n.1 m)) in
         record {
           laid = else_follows p k (types_of xs) (types_of ys) (types_of zs) _ (sym (types_both xs (ys ++ zs) ∙ ap (λ ts. types_of xs ++ ts) (types_both ys zs))) _ _ _ _ _ _
@@ -199,16 +211,12 @@ module _ (p : Program) (sites : Sites) (names : List Binding) where
     stmt_goes (while_loop at x s) e f w a b b' next next' k n t h r m =
         let xs : List Temporary = kept sites b.sites true x in
         let ys : List Temporary = with_null_calls.kept_of_stmt sites (b.sites + calls x) s in
-        let i : StmtGoes p sites e f (in_loop a) (after b x) (after b' (X b x)) next next' (k + length (types_of xs)) s = stmt_goes s e f w (in_loop a) (after b x) (after b' (X b x)) next next' (k + length (types_of xs)) n.1 t.1 (found_rest names k xs ys h) (places_near sites b b' true x n.0 r) m in
-        record {
-          laid = head_follows p k (types_of xs) (types_of ys) _ (sym (types_both xs ys)) typed.while_loop (λ _ _. refl) (λ _ _. refl) (λ _ _. refl) _ _ _ _
-              ((heads_stand p sites names e f w b b' k r).conditions at x n.0 t.0 (found_first names k xs ys h)) (λ _ _. i.laid);
-          near = both_near _ (λ c q _ g. near_both _ _ _ _ _ _ _ _ _ _ (i.near q g));
-        }
+        in_turn _ (head_follows p k (types_of xs) (types_of ys) _ (sym (types_both xs ys)) typed.while_loop (λ _ _. refl) (λ _ _. refl) (λ _ _. refl) _ _ _ _) (near_both _ _ _ _ _ _ _ _ _ _)
+        ((heads_stand p sites names e f w b b' k r).conditions at x n.0 t.0 (found_first names k xs ys h)) (λ _ _. stmt_goes s e f w (in_loop a) _ _ _ _ _ n.1 t.1 (found_rest names k xs ys h) (places_near sites b b' true x n.0 r) m)
     stmt_goes (do_loop at s x) e f w a b b' next next' k n t h r m =
         let xs : List Temporary = with_null_calls.kept_of_stmt sites b.sites s in
         let ys : List Temporary = kept sites (b.sites + calls_of_stmt s) true x in
-        let i : StmtGoes p sites e f (in_loop a) b b' next next' k s = stmt_goes s e f w (in_loop a) b b' next next' k n.0 t.0 (found_first names k xs ys h) r m in
+        let i : StmtGo e f (in_loop a) b b' next next' k s = stmt_goes s e f w (in_loop a) b b' next next' k n.0 t.0 (found_first names k xs ys h) r m in
         record {
           laid = do_follows p k (types_of xs) (types_of ys) _ (sym (types_both xs ys)) _ _ _ _ i.laid (λ q g. (heads_stand p sites names e f w _ _ (k + length (types_of xs)) (i.near q g)).conditions at x n.1 t.1 (found_rest names k xs ys h));
           near = both_near _ (λ q c g _. near_both _ _ _ _ _ _ _ _ _ _ (places_near sites _ _ true x n.1 (i.near q g)));
@@ -229,7 +237,7 @@ module _ (p : Program) (sites : Sites) (names : List Binding) where
         let g2 : AreFound names (k + length (types_of ws) + length (types_of xs)) (ys ++ zs) = found_rest names (k + length (types_of ws)) xs (ys ++ zs) g1 in
         let d : FirstGoes p sites names (inside e) (inside f) b b' next next' k first = firsts_go p sites names _ _ (blocks_stand_beside p names e f w) b b' next next' k first n.0 t.0 (found_first names k ws (xs ++ (ys ++ zs)) h) r m in
         let r2 : Near b1 c1 → Near b2 c2 = maybe_near sites b1 c1 true test n.1 in
-        let i : StandBeside p names ei fi → Near b1 c1 → StmtGoes p sites ei fi (in_loop a) (after_maybe b2 step) (after_maybe c2 (M b2 false step)) (past_names next (names_of_first first)) (past_names next' (names_of_first first')) (k + length (types_of ws) + length (types_of xs) + length (types_of ys)) s
+        let i : StandBeside p names ei fi → Near b1 c1 → StmtGo ei fi (in_loop a) (after_maybe b2 step) (after_maybe c2 (M b2 false step)) (past_names next (names_of_first first)) (past_names next' (names_of_first first')) (k + length (types_of ws) + length (types_of xs) + length (types_of ys)) s
         = (λ u v. stmt_goes s ei fi u (in_loop a) _ _ _ _ _ n.3 t.3 (found_rest names (k + length (types_of ws) + length (types_of xs)) ys zs g2) (maybe_near sites b2 c2 false step n.2 (r2 v)) d.numbers) in
         record {
           laid = for_follows p k (types_of ws) (types_of xs) (types_of ys) (types_of zs) _ (sym (types_both ws (xs ++ (ys ++ zs)) ∙ ap (λ ts. types_of ws ++ ts) (types_both xs (ys ++ zs) ∙ ap (λ ts. types_of xs ++ ts) (types_both ys zs)))) _ _ _ _ _ _ _ _
@@ -243,7 +251,7 @@ module _ (p : Program) (sites : Sites) (names : List Binding) where
         let xs : List Temporary = kept sites b.sites true x in
         let ys : List Temporary = with_null_calls.kept_of_groups sites (b.sites + calls x) gs in
         let gs' : Groups = with_null_calls.groups sites (b.sites + calls x) gs in
-        let i : (j : IntType) → GroupsGoes e f (in_switch a) (after b x) (after b' (X b x)) next next' (k + length (types_of xs)) j gs
+        let i : (j : IntType) → GroupsGo e f (in_switch a) (after b x) (after b' (X b x)) next next' (k + length (types_of xs)) j gs
         = (λ j. groups_go gs e f w (in_switch a) _ _ _ _ _ j n.1 t.1 (found_rest names k xs ys h) (places_near sites b b' true x n.0 r) m) in
         record {
           laid = switch_follows p k (types_of xs) (types_of ys) _ (sym (types_both xs ys)) at _ _
@@ -257,51 +265,35 @@ module _ (p : Program) (sites : Sites) (names : List Binding) where
       near = λ q g. maybe_near sites b b' true o n r;
     }
 
-    block_goes : (is : BlockItems) (e f : Env) → StandBeside p names e f → (a : Around) (b b' : Before) (next next' : Next) (k : ℕ) → BlockNamed sites b.sites is → BlockTabled p sites e b next is → AreFound names k (with_null_calls.kept_of_block sites b.sites is) → Near b b' → SameNumber next next' → BlockGoes p sites e f a b b' next next' k is
+    block_goes : (is : BlockItems) (e f : Env) → StandBeside p names e f → (a : Around) (b b' : Before) (next next' : Next) (k : ℕ) → BlockNamed sites b.sites is → BlockTabled p sites e b next is → AreFound names k (with_null_calls.kept_of_block sites b.sites is) → Near b b' → SameNumber next next' → BlockGo e f a b b' next next' k is
     block_goes no_block_items e f w a b b' next next' k n t h r m = record { laid = (typed.no_stmts, refl, refl, refl, refl); near = λ q g. near_none b b' r }
     block_goes (block_decl d is) e f w a b b' next next' k n t h r m =
         let xs : List Temporary = with_null_calls.kept_of_decl sites b.sites d in
         let ys : List Temporary = with_null_calls.kept_of_block sites (b.sites + calls_of_decl d) is in
-        let d' : Decl = with_null_calls.declaration sites b.sites d in
         let j : DeclGoes p sites names e f b b' next next' k d = declarations_go p sites names e f w b b' next next' k d n.0 t.0 (found_first names k xs ys h) r m in
-        let i : StandBeside p names (behind_decl e next d) (behind_decl f next' d') → Near (after_decl e b next d) (after_decl f b' next' d') → BlockGoes p sites _ _ a _ _ (past_names next (names_of_decl d)) (past_names next' (names_of_decl d')) (k + length (types_of xs)) is
-        = (λ u v. block_goes is _ _ u a _ _ _ _ _ n.1 t.1 (found_rest names k xs ys h) v j.numbers) in
-        record {
-          laid = some_follow p k (types_of xs) (types_of ys) _ (sym (types_both xs ys)) _ _ _ _ j.laid (λ q g. (i (j.scopes q g) (j.near q g)).laid);
-          near = both_near _ (λ q v g l. near_both _ _ _ _ _ _ _ _ _ _ ((i (j.scopes q g) (j.near q g)).near v l));
-        }
+        in_turn _ (some_follow p k (types_of xs) (types_of ys) _ (sym (types_both xs ys)) _ _ _ _) (near_both _ _ _ _ _ _ _ _ _ _) j.laid (λ q g. block_goes is _ _ (j.scopes q g) a _ _ _ _ _ n.1 t.1 (found_rest names k xs ys h) (j.near q g) j.numbers)
     block_goes (block_stmt s is) e f w a b b' next next' k n t h r m =
         let xs : List Temporary = with_null_calls.kept_of_stmt sites b.sites s in
         let ys : List Temporary = with_null_calls.kept_of_block sites (b.sites + calls_of_stmt s) is in
-        let j : StmtGoes p sites e f a b b' next next' k s = stmt_goes s e f w a b b' next next' k n.0 t.0 (found_first names k xs ys h) r m in
-        let i : Near (after_stmt e b next s) (after_stmt f b' next' (S b s)) → BlockGoes p sites e f a _ _ (past_names next (names_of_stmt s)) (past_names next' (names_of_stmt (S b s))) (k + length (types_of xs)) is
-        = (λ v. block_goes is e f w a _ _ _ _ _ n.1 t.1 (found_rest names k xs ys h) v (stmt_numbers b.sites s next next' n.0 m)) in
-        record {
-          laid = one_follows p k (types_of xs) (types_of ys) _ (sym (types_both xs ys)) _ _ _ _ j.laid (λ q g. (i (j.near q g)).laid);
-          near = both_near _ (λ q v g l. near_both _ _ _ _ _ _ _ _ _ _ ((i (j.near q g)).near v l));
-        }
+        let j : StmtGo e f a b b' next next' k s = stmt_goes s e f w a b b' next next' k n.0 t.0 (found_first names k xs ys h) r m in
+        in_turn _ (one_follows p k (types_of xs) (types_of ys) _ (sym (types_both xs ys)) _ _ _ _) (near_both _ _ _ _ _ _ _ _ _ _) j.laid (λ q g. block_goes is e f w a _ _ _ _ _ n.1 t.1 (found_rest names k xs ys h) (j.near q g) (stmt_numbers b.sites s next next' n.0 m))
 
-    stmts_go : (ss : Stmts) (e f : Env) → StandBeside p names e f → (a : Around) (b b' : Before) (next next' : Next) (k : ℕ) → StmtsNamed sites b.sites ss → StmtsTabled p sites e b next ss → AreFound names k (with_null_calls.kept_of_stmts sites b.sites ss) → Near b b' → SameNumber next next' → StmtsGoes e f a b b' next next' k ss
+    stmts_go : (ss : Stmts) (e f : Env) → StandBeside p names e f → (a : Around) (b b' : Before) (next next' : Next) (k : ℕ) → StmtsNamed sites b.sites ss → StmtsTabled p sites e b next ss → AreFound names k (with_null_calls.kept_of_stmts sites b.sites ss) → Near b b' → SameNumber next next' → StmtsGo e f a b b' next next' k ss
     stmts_go no_stmts e f w a b b' next next' k n t h r m = record { laid = (typed.no_stmts, refl, refl, refl, refl); near = λ q g. near_none b b' r }
     stmts_go (more_stmts s ss) e f w a b b' next next' k n t h r m =
         let xs : List Temporary = with_null_calls.kept_of_stmt sites b.sites s in
         let ys : List Temporary = with_null_calls.kept_of_stmts sites (b.sites + calls_of_stmt s) ss in
-        let j : StmtGoes p sites e f a b b' next next' k s = stmt_goes s e f w a b b' next next' k n.0 t.0 (found_first names k xs ys h) r m in
-        let i : Near (after_stmt e b next s) (after_stmt f b' next' (S b s)) → StmtsGoes e f a _ _ (past_names next (names_of_stmt s)) (past_names next' (names_of_stmt (S b s))) (k + length (types_of xs)) ss
-        = (λ v. stmts_go ss e f w a _ _ _ _ _ n.1 t.1 (found_rest names k xs ys h) v (stmt_numbers b.sites s next next' n.0 m)) in
-        record {
-          laid = one_follows p k (types_of xs) (types_of ys) _ (sym (types_both xs ys)) _ _ _ _ j.laid (λ q g. (i (j.near q g)).laid);
-          near = both_near _ (λ q v g l. near_both _ _ _ _ _ _ _ _ _ _ ((i (j.near q g)).near v l));
-        }
+        let j : StmtGo e f a b b' next next' k s = stmt_goes s e f w a b b' next next' k n.0 t.0 (found_first names k xs ys h) r m in
+        in_turn _ (one_follows p k (types_of xs) (types_of ys) _ (sym (types_both xs ys)) _ _ _ _) (near_both _ _ _ _ _ _ _ _ _ _) j.laid (λ q g. stmts_go ss e f w a _ _ _ _ _ n.1 t.1 (found_rest names k xs ys h) (j.near q g) (stmt_numbers b.sites s next next' n.0 m))
 
-    groups_go : (gs : Groups) (e f : Env) → StandBeside p names e f → (a : Around) (b b' : Before) (next next' : Next) (k : ℕ) (i : IntType) → GroupsNamed sites b.sites gs → GroupsTabled p sites e b next gs → AreFound names k (with_null_calls.kept_of_groups sites b.sites gs) → Near b b' → SameNumber next next' → GroupsGoes e f a b b' next next' k i gs
+    groups_go : (gs : Groups) (e f : Env) → StandBeside p names e f → (a : Around) (b b' : Before) (next next' : Next) (k : ℕ) (i : IntType) → GroupsNamed sites b.sites gs → GroupsTabled p sites e b next gs → AreFound names k (with_null_calls.kept_of_groups sites b.sites gs) → Near b b' → SameNumber next next' → GroupsGo e f a b b' next next' k i gs
     groups_go no_groups e f w a b b' next next' k i n t h r m = record { laid = (typed.no_groups, refl, refl, refl, refl); near = λ q g. near_none b b' r }
     groups_go (more_groups ls ss gs) e f w a b b' next next' k i n t h r m =
         let xs : List Temporary = with_null_calls.kept_of_stmts sites b.sites ss in
         let ys : List Temporary = with_null_calls.kept_of_groups sites (b.sites + calls_of_stmts ss) gs in
         let ss' : Stmts = with_null_calls.stmts sites b.sites ss in
-        let j : StmtsGoes e f a b b' next next' k ss = stmts_go ss e f w a b b' next next' k n.0 t.0 (found_first names k xs ys h) r m in
-        let l : Near (after_stmts e b next ss) (after_stmts f b' next' ss') → GroupsGoes e f a _ _ (past_names next (names_of_stmts ss)) (past_names next' (names_of_stmts ss')) (k + length (types_of xs)) i gs
+        let j : StmtsGo e f a b b' next next' k ss = stmts_go ss e f w a b b' next next' k n.0 t.0 (found_first names k xs ys h) r m in
+        let l : Near (after_stmts e b next ss) (after_stmts f b' next' ss') → GroupsGo e f a _ _ (past_names next (names_of_stmts ss)) (past_names next' (names_of_stmts ss')) (k + length (types_of xs)) i gs
         = (λ v. groups_go gs e f w a _ _ _ _ _ i n.1 t.1 (found_rest names k xs ys h) v (stmts_numbers ss b.sites next next' n.0 m)) in
         record {
           laid = group_follows p k (types_of xs) (types_of ys) _ (sym (types_both xs ys)) _ _ _ _ _ _
@@ -310,7 +302,7 @@ module _ (p : Program) (sites : Sites) (names : List Binding) where
         }
 
 pub statements_go : StatementsGo
-statements_go p sites names e f w a b b' next next' k s n t h r m = stmt_goes p sites names s e f w a b b' next next' k n t h r m
+statements_go p sites names e f w a b b' next next' k s n t h r m = (let g = stmt_goes p sites names s e f w a b b' next next' k n t h r m in record { laid = g.laid; near = g.near })
 
 pub blocks_go : BlocksGo
-blocks_go p sites names e f w a b b' next next' k is n t h r m = block_goes p sites names is e f w a b b' next next' k n t h r m
+blocks_go p sites names e f w a b b' next next' k is n t h r m = (let g = block_goes p sites names is e f w a b b' next next' k n t h r m in record { laid = g.laid; near = g.near })
