@@ -87,21 +87,15 @@ meaning_fine : (pick : Object → CType) (env : Env) (n : ℕ) (x : Ident) (r : 
 meaning_fine pick env n x r o a g h = ap₂ (λ y z. on y (λ q. gives z (λ _. a_local n (pick q) q.whole))) g h
 
 module _ (p : Program) (names : List Binding) (env : Env) (w : More) (u : AreUnreserved env.names) (m : MeanAlike env.names w.names) (stand : NullCallsStand p env w) (s : ReservedMeanAlike names w.names) where
-  abbrev L : Env
-  L = plain_scope env
-
-  abbrev R : Env
-  R = instrumented_scope env w
-
   -- with a name that means the same on both sides
-  meant_stand : (x : Name) (n : Meaning) (q r : Checked Meaning) → is_reserved x ≡ false → q ≡ fine n → r ≡ fine n → StandBeside p names (with_name L x (meaning_or_unknown q)) (with_name R x (meaning_or_unknown r))
+  meant_stand : (x : Name) (n : Meaning) (q r : Checked Meaning) → is_reserved x ≡ false → q ≡ fine n → r ≡ fine n → StandBeside p names (with_name (plain_scope env) x (meaning_or_unknown q)) (with_name (instrumented_scope env w) x (meaning_or_unknown r))
   meant_stand x n q r h e f =
-      subst (λ y. StandBeside p names (with_name L x (meaning_or_unknown y)) (with_name R x (meaning_or_unknown r))) (sym e)
-      (subst (λ z. StandBeside p names (with_name L x n) (with_name R x (meaning_or_unknown z))) (sym f) (named_stand p names env w u m stand s x n h))
+      subst (λ y. StandBeside p names (with_name (plain_scope env) x (meaning_or_unknown y)) (with_name (instrumented_scope env w) x (meaning_or_unknown r))) (sym e)
+      (subst (λ z. StandBeside p names (with_name (plain_scope env) x n) (with_name (instrumented_scope env w) x (meaning_or_unknown z))) (sym f) (named_stand p names env w u m stand s x n h))
 
-  module _ (next next' : Next) (same : SameNumber next next') (x : Ident) (r r' : Checked Object) (o : Object) (a : Met) (e : r ≡ fine o) (e' : r' ≡ fine o) (new : new_name L x ≡ fine a) where
-    new' : new_name R x ≡ fine a
-    new' = fine_leads (new_name L x) (new_name R x) a (new_name_leads env w m x) new
+  module _ (next next' : Next) (same : SameNumber next next') (x : Ident) (r r' : Checked Object) (o : Object) (a : Met) (e : r ≡ fine o) (e' : r' ≡ fine o) (new : new_name (plain_scope env) x ≡ fine a) where
+    new' : new_name (instrumented_scope env w) x ≡ fine a
+    new' = fine_leads (new_name (plain_scope env) x) (new_name (instrumented_scope env w) x) a (new_name_leads env w m x) new
 
     plain : is_reserved x.name ≡ false
     plain = new_name_plain env x a new
@@ -110,9 +104,9 @@ module _ (p : Program) (names : List Binding) (env : Env) (w : More) (u : AreUnr
     number = number_same next next' x.name (unadded x.name plain) same
 
     local_stand : (pick : Object → CType)
-        → StandBeside p names (with_name L x.name (meaning_or_unknown (on r (λ q. gives (new_name L x) (λ _. a_local (number_in next x.name) (pick q) q.whole))))) (with_name R x.name (meaning_or_unknown (on r' (λ q. gives (new_name R x) (λ _. a_local (number_in next' x.name) (pick q) q.whole)))))
+        → StandBeside p names (with_name (plain_scope env) x.name (meaning_or_unknown (on r (λ q. gives (new_name (plain_scope env) x) (λ _. a_local (number_in next x.name) (pick q) q.whole))))) (with_name (instrumented_scope env w) x.name (meaning_or_unknown (on r' (λ q. gives (new_name (instrumented_scope env w) x) (λ _. a_local (number_in next' x.name) (pick q) q.whole)))))
     local_stand pick =
-        meant_stand x.name (a_local (number_in next x.name) (pick o) o.whole) _ _ plain (meaning_fine pick L (number_in next x.name) x r o a e new) (meaning_fine pick R (number_in next' x.name) x r' o a e' new' ∙ ap (λ n. fine (a_local n (pick o) o.whole)) number)
+        meant_stand x.name (a_local (number_in next x.name) (pick o) o.whole) _ _ plain (meaning_fine pick (plain_scope env) (number_in next x.name) x r o a e new) (meaning_fine pick (instrumented_scope env w) (number_in next' x.name) x r' o a e' new' ∙ ap (λ n. fine (a_local n (pick o) o.whole)) number)
 
 -- ## Initialisers that may be left out
 
@@ -130,41 +124,35 @@ record NamedGoes (p : Program) (sites : Sites) (names : List Binding) (e f : Env
   held : (q : StatementTree typed.Stmt) → local_named e b next at s d m o ≡ fine q → held_by_named f at s d (maybe_init sites b.sites m) o ≡ held_by_named e at s d m o
 
 module _ (p : Program) (sites : Sites) (names : List Binding) (env : Env) (w : More) (u : AreUnreserved env.names) (a : MeanAlike env.names w.names) (n : NullCallsStand p env w) (z : ReservedMeanAlike names w.names) (b b' : Before) (next next' : Next) (k at : ℕ) (s : Spec) (d : Declarator) (m : MaybeInit) (x : Ident) where
-  abbrev left : Env
-  left = plain_scope env
-
-  abbrev right : Env
-  right = instrumented_scope env w
-
   abbrev made : MaybeInit
   made = maybe_init sites b.sites m
 
   abbrev object : Checked Object
-  object = object_declared left at s d x m
+  object = object_declared (plain_scope env) at s d x m
 
   abbrev made_object : Checked Object
-  made_object = object_declared right at s d x made
+  made_object = object_declared (instrumented_scope env w) at s d x made
 
   lead : Leads object made_object
   lead = object_alike sites env w u a b.sites at s d x m
 
   -- where it is fine, the object and its name are
-  found_fine : (q : StatementTree typed.Stmt) → local_named left b next at s d m (Some x) ≡ fine q → (o : Object) × (t : Met) × (object ≡ fine o) × (new_name left x ≡ fine t)
+  found_fine : (q : StatementTree typed.Stmt) → local_named (plain_scope env) b next at s d m (Some x) ≡ fine q → (o : Object) × (t : Met) × (object ≡ fine o) × (new_name (plain_scope env) x ≡ fine t)
   found_fine q h =
-      let c = first_fine (new_name left x) _ (λ _ q. fine q) q (alone_fine (is_given left x.name (type_declared left at s d)) 3 (place_or at d) (local left b next x m object) q h) in
-      let o = on_fine object (local_of (within_local left next x object) b next x m) c.1 c.3 in
+      let c = first_fine (new_name (plain_scope env) x) _ (λ _ q. fine q) q (alone_fine (is_given (plain_scope env) x.name (type_declared (plain_scope env) at s d)) 3 (place_or at d) (local (plain_scope env) b next x m object) q h) in
+      let o = on_fine object (local_of (within_local (plain_scope env) next x object) b next x m) c.1 c.3 in
       (o.0, c.0, o.1, c.2)
 
-  variable_goes : MaybeInitNamed sites b.sites m → NamedTabled p sites left b next at s d m (Some x) → AreFound names k (kept_of_maybe_init sites b.sites m) → Near b b' → SameNumber next next' → NamedGoes p sites names left right b b' next next' k at s d m (Some x)
+  variable_goes : MaybeInitNamed sites b.sites m → NamedTabled p sites (plain_scope env) b next at s d m (Some x) → AreFound names k (kept_of_maybe_init sites b.sites m) → Near b b' → SameNumber next next' → NamedGoes p sites names (plain_scope env) (instrumented_scope env w) b b' next next' k at s d m (Some x)
   variable_goes named tabled found near same =
       let ts : List CType = types_of (kept_of_maybe_init sites b.sites m) in
       record {
-        laid = alone_follows p k ts (is_given left x.name (type_declared left at s d)) _ 3 _ _ _ _ (named_follows p k ts _ _ _ _ (new_name_leads env w a x)
+        laid = alone_follows p k ts (is_given (plain_scope env) x.name (type_declared (plain_scope env) at s d)) _ 3 _ _ _ _ (named_follows p k ts _ _ _ _ (new_name_leads env w a x)
             (λ t new. behind_part_follows p k ts object made_object _ _ lead
             (λ o e. let q = fine_leads object made_object o lead e in variable_follows p k ts x.name _ _ o.whole _ _ (unadded x.name (new_name_plain env x t new)) (number p names env w u a n z next next' same x object made_object o t e q new)
             (local_cells p sites names _ _ (local_stand p names env w u a n z next next' same x object made_object o t e q new (λ q. q.seen)) b b' k o.whole m named (tabled o e) found near))));
         scopes = λ q h. (let c = found_fine q h in local_stand p names env w u a n z next next' same x object made_object c.0 c.1 c.2 (fine_leads object made_object c.0 lead c.2) c.3 (λ q. q.whole));
-        held = λ q h. (let c = found_fine q h in ap (held_by_object right made) (fine_leads object made_object c.0 lead c.2) ∙ (held_by_same sites env w m c.0.whole b.sites named ∙ sym (ap (held_by_object left m) c.2)));
+        held = λ q h. (let c = found_fine q h in ap (held_by_object (instrumented_scope env w) made) (fine_leads object made_object c.0 lead c.2) ∙ (held_by_same sites env w m c.0.whole b.sites named ∙ sym (ap (held_by_object (plain_scope env) m) c.2)));
       }
 
 module _ (p : Program) (sites : Sites) (names : List Binding) where

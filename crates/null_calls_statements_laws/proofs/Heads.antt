@@ -72,38 +72,32 @@ no_value p k true at = (typed.return_void, refl, refl, refl)
 no_value p k false at = tt
 
 module _ (p : Program) (sites : Sites) (env : Env) (w : More) (goes : (x : Expr) → Goes p sites env w x) (b b' : Before) (k : ℕ) (near : Near b b') where
-  abbrev L : Env
-  L = plain_scope env
-
-  abbrev R : Env
-  R = instrumented_scope env w
-
-  wanted : (x : Expr) → Stands p sites env w b k true x → Follows p k (types_of (kept sites b.sites true x)) (value L b x) (value R b' (expr sites b.sites true x))
+  wanted : (x : Expr) → Stands p sites env w b k true x → Follows p k (types_of (kept sites b.sites true x)) (value (plain_scope env) b x) (value (instrumented_scope env w) b' (expr sites b.sites true x))
   wanted x h = value_goes p sites env w x (goes x).wanted b b' k h.named h.tabled h.found near
 
-  unused : (x : Expr) → Stands p sites env w b k false x → UnusedFollows p k (types_of (kept sites b.sites false x)) (value L b x) (value R b' (expr sites b.sites false x))
+  unused : (x : Expr) → Stands p sites env w b k false x → UnusedFollows p k (types_of (kept sites b.sites false x)) (value (plain_scope env) b x) (value (instrumented_scope env w) b' (expr sites b.sites false x))
   unused x h = (goes x).unused b b' k h.named h.tabled h.found near
 
-  tests_go : (at : ℕ) (m : Maybe) → IfThere (Stands p sites env w b k true) m → MaybeFollows p k (types_of (kept_of_maybe sites b.sites true m)) true (test_of L b at m) (test_of R b' at (maybe sites b.sites true m))
+  tests_go : (at : ℕ) (m : Maybe) → IfThere (Stands p sites env w b k true) m → MaybeFollows p k (types_of (kept_of_maybe sites b.sites true m)) true (test_of (plain_scope env) b at m) (test_of (instrumented_scope env w) b' at (maybe sites b.sites true m))
   tests_go at absent h = (typed.absent, refl, refl, refl)
   tests_go at (there x) h = there_follows p k _ _ _ (condition_follows p k _ at _ _ (wanted x h))
 
-  steps_go : (m : Maybe) → IfThere (Stands p sites env w b k false) m → MaybeFollows p k (types_of (kept_of_maybe sites b.sites false m)) false (step_of L b m) (step_of R b' (maybe sites b.sites false m))
+  steps_go : (m : Maybe) → IfThere (Stands p sites env w b k false) m → MaybeFollows p k (types_of (kept_of_maybe sites b.sites false m)) false (step_of (plain_scope env) b m) (step_of (instrumented_scope env w) b' (maybe sites b.sites false m))
   steps_go absent h = (typed.absent, refl, refl, refl)
-  steps_go (there x) h = step_follows p k (types_of (kept sites b.sites false x)) (value L b x) (value R b' (expr sites b.sites false x)) (unused x h)
+  steps_go (there x) h = step_follows p k (types_of (kept sites b.sites false x)) (value (plain_scope env) b x) (value (instrumented_scope env w) b' (expr sites b.sites false x)) (unused x h)
 
-  returns_go : (at : ℕ) (t : CType) (m : Maybe) → IfThere (Stands p sites env w b k true) m → StmtFollows p k (types_of (kept_of_maybe sites b.sites true m)) (returned L b at t m) (returned R b' at t (maybe sites b.sites true m))
+  returns_go : (at : ℕ) (t : CType) (m : Maybe) → IfThere (Stands p sites env w b k true) m → StmtFollows p k (types_of (kept_of_maybe sites b.sites true m)) (returned (plain_scope env) b at t m) (returned (instrumented_scope env w) b' at t (maybe sites b.sites true m))
   returns_go at t absent h = no_value p k (is_void t) at
-  returns_go at t (there x) h = return_follows p k (types_of (kept sites b.sites true x)) at t (value L b x) (value R b' (expr sites b.sites true x)) (wanted x h)
+  returns_go at t (there x) h = return_follows p k (types_of (kept sites b.sites true x)) at t (value (plain_scope env) b x) (value (instrumented_scope env w) b' (expr sites b.sites true x)) (wanted x h)
 
   heads : HeadsGo p sites env w b b' k
   heads = record {
-    conditions = λ at x h. condition_follows p k (types_of (kept sites b.sites true x)) at (value L b x) (value R b' (expr sites b.sites true x)) (wanted x h);
+    conditions = λ at x h. condition_follows p k (types_of (kept sites b.sites true x)) at (value (plain_scope env) b x) (value (instrumented_scope env w) b' (expr sites b.sites true x)) (wanted x h);
     tests = tests_go;
     steps = steps_go;
-    switches = λ at x h. switch_follows p k (types_of (kept sites b.sites true x)) at (value L b x) (value R b' (expr sites b.sites true x)) (wanted x h);
+    switches = λ at x h. switch_follows p k (types_of (kept sites b.sites true x)) at (value (plain_scope env) b x) (value (instrumented_scope env w) b' (expr sites b.sites true x)) (wanted x h);
     returns = returns_go;
-    evaluated = λ x h. evaluate_follows p k (types_of (kept sites b.sites false x)) (value L b x) (value R b' (expr sites b.sites false x)) (unused x h);
+    evaluated = λ x h. evaluate_follows p k (types_of (kept sites b.sites false x)) (value (plain_scope env) b x) (value (instrumented_scope env w) b' (expr sites b.sites false x)) (unused x h);
   }
 
 pub all_heads_go : AllHeadsGo

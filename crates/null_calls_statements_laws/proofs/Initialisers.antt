@@ -71,50 +71,38 @@ near_past b b' c c' ws vs n few h = record {
 }
 
 module _ (sites : Sites) (env : Env) (w : More) where
-  abbrev L : Env
-  L = plain_scope env
-
-  abbrev R : Env
-  R = instrumented_scope env w
-
   -- ## Strings
 
   mutual
-    pub held_same : (i : Init) (t : CType) (b : ℕ) → InitNamed sites b i → held R t (init sites b i) ≡ held L t i
+    pub held_same : (i : Init) (t : CType) (b : ℕ) → InitNamed sites b i → held (instrumented_scope env w) t (init sites b i) ≡ held (plain_scope env) t i
     held_same (one at e) t b h = ap₂ (λ o ws. if is_char_array t && is_some o then [] else ws) (text_same sites e b) (counts_stay sites b true e h).strings_same
-    held_same (list at is) t b h = held_in_turn_same is (slots L t) b h
+    held_same (list at is) t b h = held_in_turn_same is (slots (plain_scope env) t) b h
 
-    held_in_turn_same : (is : Inits) (s : Slots) (b : ℕ) → InitsNamed sites b is → held_in_turn R s (inits sites b is) ≡ held_in_turn L s is
+    held_in_turn_same : (is : Inits) (s : Slots) (b : ℕ) → InitsNamed sites b is → held_in_turn (instrumented_scope env w) s (inits sites b is) ≡ held_in_turn (plain_scope env) s is
     held_in_turn_same no_inits s b h = refl
     held_in_turn_same (more_inits i is) (copies (suc n) t) b h = ap₂ (λ ws vs. ws ++ vs) (held_same i t b h.0) (held_in_turn_same is (copies n t) (b + calls_of_init i) h.1)
     held_in_turn_same (more_inits i is) (each (t ∷ ts)) b h = ap₂ (λ ws vs. ws ++ vs) (held_same i t b h.0) (held_in_turn_same is (each ts) (b + calls_of_init i) h.1)
     held_in_turn_same (more_inits i is) x b h = refl
 
-  near_init : (i : Init) (t : CType) (b b' : Before) → InitNamed sites b.sites i → Near b b' → Near (after_init L b t i) (after_init R b' t (init sites b.sites i))
+  near_init : (i : Init) (t : CType) (b b' : Before) → InitNamed sites b.sites i → Near b b' → Near (after_init (plain_scope env) b t i) (after_init (instrumented_scope env w) b' t (init sites b.sites i))
   near_init i t b b' h n = near_past b b' _ _ _ _ n (init_few sites i b.sites h) (held_same i t b.sites h)
 
 -- ## Initialisers
 
 module _ (p : Program) (sites : Sites) (env : Env) (w : More) (goes : (x : Expr) → Goes p sites env w x) where
-  abbrev Left : Env
-  Left = plain_scope env
-
-  abbrev Right : Env
-  Right = instrumented_scope env w
-
   mutual
-    init_goes : (i : Init) (t : CType) (b b' : Before) (k : ℕ) → InitNamed sites b.sites i → InitTabled p sites Left b t i → AreFound w.names k (kept_of_init sites b.sites i) → Near b b' → CellsGo p k (types_of (kept_of_init sites b.sites i)) (initialised Left b false t i) (initialised Right b' false t (init sites b.sites i))
+    init_goes : (i : Init) (t : CType) (b b' : Before) (k : ℕ) → InitNamed sites b.sites i → InitTabled p sites (plain_scope env) b t i → AreFound w.names k (kept_of_init sites b.sites i) → Near b b' → CellsGo p k (types_of (kept_of_init sites b.sites i)) (initialised (plain_scope env) b false t i) (initialised (instrumented_scope env w) b' false t (init sites b.sites i))
     init_goes (one at e) t b b' k n c f r =
         let ts : List CType = types_of (kept sites b.sites true e) in
-        subst (λ o. CellsGo p k ts (initialised Left b false t (one at e)) (cells_of_one false at t o (value Right b' (expr sites b.sites true e)))) (sym (text_same sites e b.sites))
-        (expression_goes p k ts at t (text_of e) (value Left b e) (value Right b' (expr sites b.sites true e)) (string_alone sites e b.sites) (value_goes p sites env w e (goes e).wanted b b' k n c f r))
+        subst (λ o. CellsGo p k ts (initialised (plain_scope env) b false t (one at e)) (cells_of_one false at t o (value (instrumented_scope env w) b' (expr sites b.sites true e)))) (sym (text_same sites e b.sites))
+        (expression_goes p k ts at t (text_of e) (value (plain_scope env) b e) (value (instrumented_scope env w) b' (expr sites b.sites true e)) (string_alone sites e b.sites) (value_goes p sites env w e (goes e).wanted b b' k n c f r))
     init_goes (list at is) t b b' k n c f r =
         let ts : List CType = types_of (kept_of_inits sites b.sites is) in
-        subst (λ m. CellsGo p k ts (initialised Left b false t (list at is)) (cells_of_list (takes_list t) at (capacity (slots Left t)) m (in_turn Right b' false (slots Left t) (inits sites b.sites is)))) (sym (count_same sites is b.sites))
-        (list_goes p k ts (takes_list t) at (capacity (slots Left t)) (count_inits is) (in_turn Left b false (slots Left t) is) (in_turn Right b' false (slots Left t) (inits sites b.sites is)) (λ e. inits_go is (slots Left t) b b' k n c f r (leb-true (count_inits is) (capacity (slots Left t)) e)))
+        subst (λ m. CellsGo p k ts (initialised (plain_scope env) b false t (list at is)) (cells_of_list (takes_list t) at (capacity (slots (plain_scope env) t)) m (in_turn (instrumented_scope env w) b' false (slots (plain_scope env) t) (inits sites b.sites is)))) (sym (count_same sites is b.sites))
+        (list_goes p k ts (takes_list t) at (capacity (slots (plain_scope env) t)) (count_inits is) (in_turn (plain_scope env) b false (slots (plain_scope env) t) is) (in_turn (instrumented_scope env w) b' false (slots (plain_scope env) t) (inits sites b.sites is)) (λ e. inits_go is (slots (plain_scope env) t) b b' k n c f r (leb-true (count_inits is) (capacity (slots (plain_scope env) t)) e)))
 
-    inits_go : (is : Inits) (s : Slots) (b b' : Before) (k : ℕ) → InitsNamed sites b.sites is → InitsTabled p sites Left b s is → AreFound w.names k (kept_of_inits sites b.sites is) → Near b b' → count_inits is ≤ capacity s → CellsGo p k (types_of (kept_of_inits sites b.sites is)) (in_turn Left b false s is) (in_turn Right b' false s (inits sites b.sites is))
-    inits_go no_inits s b b' k n c f r few = zeros_go p k (layout_of Left) s
+    inits_go : (is : Inits) (s : Slots) (b b' : Before) (k : ℕ) → InitsNamed sites b.sites is → InitsTabled p sites (plain_scope env) b s is → AreFound w.names k (kept_of_inits sites b.sites is) → Near b b' → count_inits is ≤ capacity s → CellsGo p k (types_of (kept_of_inits sites b.sites is)) (in_turn (plain_scope env) b false s is) (in_turn (instrumented_scope env w) b' false s (inits sites b.sites is))
+    inits_go no_inits s b b' k n c f r few = zeros_go p k (layout_of (plain_scope env)) s
     inits_go (more_inits i is) (copies (suc m) t) b b' k n c f r few =
         let xs : List Temporary = kept_of_init sites b.sites i in
         let ys : List Temporary = kept_of_inits sites (b.sites + calls_of_init i) is in

@@ -217,10 +217,8 @@ module _ (p : Program) (sites : Sites) (names : List Binding) where
         let xs : List Temporary = with_null_calls.kept_of_stmt sites b.sites s in
         let ys : List Temporary = kept sites (b.sites + calls_of_stmt s) true x in
         let i : StmtGo e f (in_loop a) b b' next next' k s = stmt_goes s e f w (in_loop a) b b' next next' k n.0 t.0 (found_first names k xs ys h) r m in
-        record {
-          laid = do_follows p k (types_of xs) (types_of ys) _ (sym (types_both xs ys)) _ _ _ _ i.laid (λ q g. (heads_stand p sites names e f w _ _ (k + length (types_of xs)) (i.near q g)).conditions at x n.1 t.1 (found_rest names k xs ys h));
-          near = both_near _ (λ q c g _. near_both _ _ _ _ _ _ _ _ _ _ (places_near sites _ _ true x n.1 (i.near q g)));
-        }
+        in_turn _ (do_follows p k (types_of xs) (types_of ys) _ (sym (types_both xs ys)) _ _ _ _) (near_both _ _ _ _ _ _ _ _ _ _) i.laid
+        (λ q g. record { laid = (heads_stand p sites names e f w _ _ (k + length (types_of xs)) (i.near q g)).conditions at x n.1 t.1 (found_rest names k xs ys h); near = λ _ _. places_near sites _ _ true x n.1 (i.near q g) })
     stmt_goes (for_loop at first test step s) e f w a b b' next next' k n t h r m =
         let ws : List Temporary = with_null_calls.kept_of_first sites b.sites first in
         let xs : List Temporary = kept_of_maybe sites (b.sites + calls_of_first first) true test in
@@ -250,14 +248,8 @@ module _ (p : Program) (sites : Sites) (names : List Binding) where
     stmt_goes (switch_on at x gs) e f w a b b' next next' k n t h r m =
         let xs : List Temporary = kept sites b.sites true x in
         let ys : List Temporary = with_null_calls.kept_of_groups sites (b.sites + calls x) gs in
-        let gs' : Groups = with_null_calls.groups sites (b.sites + calls x) gs in
-        let i : (j : IntType) → GroupsGo e f (in_switch a) (after b x) (after b' (X b x)) next next' (k + length (types_of xs)) j gs
-        = (λ j. groups_go gs e f w (in_switch a) _ _ _ _ _ j n.1 t.1 (found_rest names k xs ys h) (places_near sites b b' true x n.0 r) m) in
-        record {
-          laid = switch_follows p k (types_of xs) (types_of ys) _ (sym (types_both xs ys)) at _ _
-              (λ j. groups_of_switch e (in_switch a) (after b x) next j gs) (λ j. groups_of_switch f (in_switch a) (after b' (X b x)) next' j gs') ((heads_stand p sites names e f w b b' k r).switches at x n.0 t.0 (found_first names k xs ys h)) (λ g _. (i (label_type (switched at (value e b x)))).laid);
-          near = both_near _ (λ c q _ g. near_both _ _ _ _ _ _ _ _ _ _ ((i (label_type (switched at (value e b x)))).near q g));
-        }
+        in_turn _ (switch_follows p k (types_of xs) (types_of ys) _ (sym (types_both xs ys)) at _ _ (λ j. groups_of_switch e (in_switch a) (after b x) next j gs) (λ j. groups_of_switch f (in_switch a) (after b' (X b x)) next' j (with_null_calls.groups sites (b.sites + calls x) gs))) (near_both _ _ _ _ _ _ _ _ _ _)
+        ((heads_stand p sites names e f w b b' k r).switches at x n.0 t.0 (found_first names k xs ys h)) (λ _ _. groups_go gs e f w (in_switch a) _ _ _ _ _ (label_type (switched at (value e b x))) n.1 t.1 (found_rest names k xs ys h) (places_near sites b b' true x n.0 r) m)
     stmt_goes (break_off at) e f w a b b' next next' k n t h r m = record { laid = jump_follows p k a.breaks 8 at typed.break_off refl refl; near = λ q g. near_none b b' r }
     stmt_goes (continue_on at) e f w a b b' next next' k n t h r m = record { laid = jump_follows p k a.continues 8 at typed.continue_on refl refl; near = λ q g. near_none b b' r }
     stmt_goes (return_from at o) e f w a b b' next next' k n t h r m = record {
