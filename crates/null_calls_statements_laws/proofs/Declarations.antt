@@ -1,18 +1,17 @@
 -- Declarations in blocks follow.
-use Rattle.std.proofs.Common.{◌≡◌, ℕ, zero, suc, ◌+◌, ◌*◌, ◌≤◌, false, List, [], ◌++◌, append-nil, length, Option, Some, None, refl, ap, ap₂, sym, subst, ◌∙◌, arith, nat_le}
+use Rattle.std.proofs.Common.{◌≡◌, ℕ, zero, ◌+◌, ◌*◌, ◌≤◌, false, List, [], ◌++◌, append-nil, length, Option, Some, None, refl, ap, ap₂, sym, subst, ◌∙◌, arith, nat_le}
 use Rattle.c_tree.specs.Tree.{CType, Program}
 use Rattle.c_tree.specs.Tree as typed
 use Rattle.c_syntax.specs.Tree.{Ident, Spec, Declarator, one, list, MaybeInit, no_init, an_init, Parts, no_parts, more_parts, Decl, decl, first_absent, first_expr, first_decl, no_block_items, block_decl}
 use Rattle.c_rules.specs.Checked.{Checked, fine, fault, on, Met, gives, demand}
 use Rattle.c_rules.specs.Names.{Name, is_reserved}
 use Rattle.c_rules.specs.Scopes.{Env, Binding, Meaning, a_local, with_name, meaning_or_unknown, Before}
-use Rattle.c_rules.specs.Counts.{string_cells, past}
 use Rattle.c_rules.specs.Declarators.{name_of, place_or, new_name}
 use Rattle.c_rules.specs.Expressions.{value, type_declared}
 use Rattle.c_rules.specs.Initialisers.{held_by, calls_of_maybe_init, initialised_local, text_fits}
 use Rattle.c_rules.specs.Objects.{Object, sized_by_one, with_size, of_known_size, object_declared}
 use Rattle.c_rules.specs.Variables.{name_or_empty, Next, number_in, calls_of_decl, names_of_decl, past_names}
-use Rattle.c_rules.specs.Blocks.{seen_meaning, whole_meaning, within_local, behind_local, behind_named, behind_part, past_part, behind_parts, held_by_object, held_by_named, held_by_part, held_by_parts, held_by_decl, after_part, StatementTree, one_more, local_of, local_named, local_part, local_parts, is_given, local}
+use Rattle.c_rules.specs.Blocks.{within_local, behind_named, behind_part, past_part, behind_parts, held_by_object, held_by_named, held_by_part, held_by_parts, held_by_decl, after_part, StatementTree, one_more, local_of, local_named, local_part, local_parts, is_given, local}
 use Rattle.c_rules.specs.Codes.{C13}
 use Rattle.c_rules.specs.Limits.{most_cells}
 use Rattle.null_calls_rules.specs.MarkedCalls.{Sites}

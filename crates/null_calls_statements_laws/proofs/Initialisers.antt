@@ -1,14 +1,12 @@
 -- Initialisers of variables follow.
-use Rattle.std.proofs.Common.{◌≡◌, ℕ, zero, suc, ◌+◌, ◌*◌, ◌≤◌, true, false, ◌&&◌, if◌then◌else◌, List, [], ◌∷◌, ◌++◌, length, Option, Some, None, refl, ap, ap₂, sym, subst, arith, is_some}
+use Rattle.std.proofs.Common.{◌≡◌, ℕ, suc, ◌+◌, ◌*◌, ◌≤◌, true, false, ◌&&◌, if◌then◌else◌, List, [], ◌∷◌, ◌++◌, Option, Some, None, refl, ap, ap₂, sym, subst, arith, is_some}
 use Rattle.std.proofs.lemmas.Bool.{leb-true}
 use Rattle.c_tree.specs.Tree.{CType, Program}
 use Rattle.c_syntax.specs.Tree.{Expr, a_name, an_int, a_char, a_str, comma, sizeof_type, cast, call, member, postfix, prefix, unary, index, binary, assign, conditional, Exprs}
 use Rattle.c_syntax.specs.Tree.{Init, one, list, Inits, no_inits, more_inits, an_init, no_parts, more_parts, decl, no_storage, nothing, no_block_items, block_decl}
 use Rattle.c_syntax.specs.Tree as syntax
-use Rattle.c_rules.specs.Checked.{Checked, fine, both}
 use Rattle.c_rules.specs.Scopes.{Env, Before, layout_of}
 use Rattle.c_rules.specs.Counts.{calls, string_cells, past}
-use Rattle.c_rules.specs.TypedExpression.{TypedExpression}
 use Rattle.c_rules.specs.Expressions.{value}
 use Rattle.c_rules.specs.Initialisers.{Slots, copies, each, slots, capacity, takes_list, count_inits, text_of, is_char_array, held, held_in_turn, calls_of_init, after_init, cells_of_one, cells_of_list, initialised, in_turn}
 use Rattle.null_calls_rules.specs.MarkedCalls.{Called, Sites}

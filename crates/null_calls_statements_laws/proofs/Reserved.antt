@@ -1,8 +1,8 @@
 -- The names of temporaries are reserved, so a temporary means the same where reserved names do.
 use Rattle.std.proofs.Common.{◌≡◌, ℕ, suc, ◌+◌, Bool, true, false, if◌then◌else◌, List, [], ◌∷◌, ◌++◌, Option, None, Some, refl, ◌∙◌}
 use Rattle.c_tree.specs.Tree.{CType, CTypes, no_types, more_types}
-use Rattle.c_syntax.specs.Tree.{Expr, a_name, an_int, a_char, a_str, comma, sizeof_type, cast, call, member, postfix, prefix, unary, index, binary, assign, conditional, Exprs, no_exprs, more_exprs}
-use Rattle.c_syntax.specs.Tree.{pre_increment, pre_decrement, sizeof}
+use Rattle.c_syntax.specs.Tree.{Expr, comma, cast, call, member, postfix, prefix, unary, index, binary, assign, conditional, Exprs, no_exprs, more_exprs}
+use Rattle.c_syntax.specs.Tree.{pre_increment, pre_decrement}
 use Rattle.c_rules.specs.Names.{is_reserved}
 use Rattle.c_rules.specs.Scopes.{Binding}
 use Rattle.c_rules.specs.Counts.{calls}

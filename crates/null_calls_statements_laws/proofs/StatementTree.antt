@@ -1,16 +1,14 @@
 -- What declarations give, part by part.
-use Rattle.std.proofs.Common.{◌≡◌, ℕ, ◌+◌, Bool, true, false, if◌then◌else◌, List, [], ◌∷◌, ◌++◌, append-nil, length, refl, ap, ap₂, sym, subst, ◌∙◌}
+use Rattle.std.proofs.Common.{◌≡◌, ℕ, Bool, true, false, if◌then◌else◌, List, [], ◌∷◌, append-nil, refl, ap, ap₂, sym, subst, ◌∙◌}
 use Rattle.c_tree.specs.Tree.{CType, Program}
 use Rattle.c_tree.specs.Tree as typed
 use Rattle.c_rules.specs.Checked.{Checked, fine, faulty, on, both, gives, Met, fails_with}
 use Rattle.c_rules.specs.Names.{Name, is_added}
 use Rattle.c_rules.specs.TypedExpression.{TypedExpression, tree_of}
 use Rattle.c_rules.specs.Initialisers.{stores_from}
-use Rattle.c_rules.specs.Blocks.{StatementTree, with_tree, bare, alone, one_more, laid_variable}
+use Rattle.c_rules.specs.Blocks.{StatementTree, bare, alone, laid_variable}
 use Rattle.null_calls_rules.specs.InstrumentedPrograms as with_null_calls
-use Rattle.null_calls_rules.specs.WithoutSites.{unsited_stmt}
 use Rattle.null_calls_expressions_laws.proofs.Leads.{Leads}
-use Rattle.null_calls_expressions_laws.proofs.Constants.{none_both}
 use Rattle.null_calls_expressions_laws.specs.Follow.{UnusedFollows}
 use Rattle.null_calls_statements_laws.specs.Initialisers.{CellsFollow}
 use Rattle.null_calls_statements_laws.specs.Declarations.{StatementTreeFollow}

@@ -5,20 +5,20 @@ use Rattle.c_tree.specs.declared.tree.TLabel.TheVariants.{Case, Default}
 use Rattle.c_tree.specs.Operators.{value_of}
 use Rattle.c_tree.specs.Tree.{CType, Program}
 use Rattle.c_tree.specs.Tree as typed
-use Rattle.c_syntax.specs.Tree.{Expr, Maybe, absent, there, First, Labels, no_labels, case_label, default_label, Decl}
+use Rattle.c_syntax.specs.Tree.{Expr, Maybe, absent, there, First, Labels, no_labels, case_label, default_label}
 use Rattle.c_syntax.specs.Tree.{Stmt, block, empty, evaluate, only_if, if_else, while_loop, do_loop, for_loop, switch_on, break_off, continue_on, return_from}
 use Rattle.c_syntax.specs.Tree.{BlockItems, no_block_items, block_decl, block_stmt, Stmts, no_stmts, more_stmts, Groups, no_groups, more_groups}
 use Rattle.c_rules.specs.Constants.{number_of}
 use Rattle.c_rules.specs.Checked.{Checked, fine, on, both, all_three, beside, gives}
 use Rattle.c_rules.specs.Names.{Name}
 use Rattle.c_rules.specs.Scopes.{Env, Binding, inside, in_context, folded, Before, nothing_before}
-use Rattle.c_rules.specs.Counts.{place_of, calls, calls_of_maybe, strings, strings_of_maybe, string_cells, past, after, after_maybe}
+use Rattle.c_rules.specs.Counts.{place_of, calls, calls_of_maybe, string_cells, past, after, after_maybe}
 use Rattle.c_rules.specs.TypedExpression.{tree_of}
 use Rattle.c_rules.specs.Declarators.{constant_value}
 use Rattle.c_rules.specs.Expressions.{value, folded_value}
-use Rattle.c_rules.specs.Variables.{Next, past_name, past_names, names_of_decl, names_of_first, names_of_stmt, names_of_stmts, calls_of_decl, calls_of_first, calls_of_stmt, calls_of_stmts, calls_of_block, calls_of_groups}
-use Rattle.c_rules.specs.Blocks.{behind_decl, behind_first, held_by_first, held_by_decl, held_by_stmt, held_by_block, held_by_stmts, held_by_groups, after_decl, after_first, after_stmt, after_stmts, StatementTree, with_tree, local_decl}
-use Rattle.c_rules.specs.Statements.{Around, in_loop, in_switch, condition_at, test_of, step_of, first_of, switched, label_type, labels_of, Labelled, switch_of, returned, stmt, items_of_block, stmts, groups_of_switch}
+use Rattle.c_rules.specs.Variables.{Next, past_name, past_names, names_of_first, names_of_stmt, names_of_stmts, calls_of_decl, calls_of_first, calls_of_stmt, calls_of_stmts}
+use Rattle.c_rules.specs.Blocks.{behind_first, after_first, after_stmt, after_stmts, with_tree}
+use Rattle.c_rules.specs.Statements.{Around, in_loop, in_switch, condition_at, test_of, step_of, switched, label_type, labels_of, returned, stmt, items_of_block, stmts, groups_of_switch}
 use Rattle.null_calls_rules.specs.MarkedCalls.{Sites}
 use Rattle.null_calls_rules.specs.Temporaries.{Temporary}
 use Rattle.null_calls_rules.specs.InstrumentedExpressions.{expr, maybe, kept, kept_of_maybe}
@@ -41,7 +41,7 @@ use Rattle.null_calls_statements_laws.proofs.Scopes.{blocks_stand_beside}
 use Rattle.null_calls_statements_laws.specs.Declarations.{StatementTreeFollow, SameNumber, DeclGoes, FirstGoes}
 use Rattle.null_calls_statements_laws.proofs.Declarations.{declarations_go, firsts_go}
 use Rattle.null_calls_statements_laws.proofs.Numbers.{numbers_stay}
-use Rattle.null_calls_statements_laws.specs.Statements.{after_block, after_groups, MaybeTabled, StmtTabled, BlockTabled, StmtsTabled, GroupsTabled, StatementTreeFollows, GroupsFollow, StmtGoes, BlockGoes, StatementsGo, BlocksGo}
+use Rattle.null_calls_statements_laws.specs.Statements.{after_block, after_groups, MaybeTabled, StmtTabled, BlockTabled, StmtsTabled, GroupsTabled, StatementTreeFollows, GroupsFollow, StatementsGo, BlocksGo}
 use Rattle.null_calls_statements_laws.proofs.Nodes.{evaluate_follows, bare_follows, jump_follows, if_kept, head_follows, do_follows, switch_follows, one_follows, some_follow, group_follows, block_follows, else_follows, for_follows}
 
 -- ## What stands before
