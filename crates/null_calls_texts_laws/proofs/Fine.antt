@@ -17,56 +17,14 @@ use Rattle.null_calls_units_laws.specs.Temporaries.{pre_name, designator_name, a
 use Rattle.null_calls_units_laws.specs.InstrumentedExpressions.{is_void_type, kept_in, keep_designator, keep_arguments, kept_arguments, kept_designator, null_call, call_and_post, call_where, expr, arguments, members, maybe}
 use Rattle.null_calls_units_laws.specs.InstrumentedStatements as new
 use Rattle.null_calls_units_laws.proofs.ExpressionHeights.{Operand, by_type, by_unary}
+use Rattle.null_calls_texts_laws.proofs.MarkedCalls.{of_call, several_of_call}
 
 -- ## A marked call
-
-kept_fine : (at site i : ℕ) (es rest : Exprs) → AreFine es → AreFine rest → AreFine (keep_arguments at site i es rest)
-kept_fine at site i no_exprs rest h k = k
-kept_fine at site i (more_exprs e es) rest h k = ((assigns, tt, h.0), kept_fine at site (suc i) es rest h.1 k)
-
-names_fine : (at site i : ℕ) (es : Exprs) → AreFine (kept_arguments at site i es)
-names_fine at site i no_exprs = tt
-names_fine at site i (more_exprs e es) = (tt, names_fine at site (suc i) es)
-
-post_fine : (at site : ℕ) (k : Bool) (e : Expr) → IsFine e → AreFine (call_and_post at site k e)
-post_fine at site true e h = ((assigns, tt, h), ((tt, (tt, tt)), (tt, tt)))
-post_fine at site false e h = (h, ((tt, (tt, tt)), tt))
-
-designator_fine : (at site : ℕ) (o : Option CType) (d : Expr) (rest : Exprs) → IsFine d → AreFine rest → AreFine (keep_designator at site o d rest)
-designator_fine at site None d rest h k = k
-designator_fine at site (Some t) d rest h k = ((assigns, tt, h), k)
-
-called_fine : (at site : ℕ) (o : Option CType) (d : Expr) → IsFine d → IsFine (kept_designator at site o d)
-called_fine at site None d h = h
-called_fine at site (Some t) d h = tt
-
--- one more member
-more_several : (x : Expr) (es : Exprs) → AreSeveral es → AreSeveral (more_exprs x es)
-more_several x no_exprs h = absurd h
-more_several x (more_exprs a es) h = tt
-
-kept_several : (at site i : ℕ) (es rest : Exprs) → AreSeveral rest → AreSeveral (keep_arguments at site i es rest)
-kept_several at site i no_exprs rest h = h
-kept_several at site i (more_exprs e es) rest h = more_several (kept_in at (argument_name site i) e) (keep_arguments at site (suc i) es rest) (kept_several at site (suc i) es rest h)
-
-designator_several : (at site : ℕ) (o : Option CType) (d : Expr) (rest : Exprs) → AreSeveral rest → AreSeveral (keep_designator at site o d rest)
-designator_several at site None d rest h = h
-designator_several at site (Some t) d rest h = more_several (kept_in at (designator_name site) d) rest h
-
-post_several : (at site : ℕ) (k : Bool) (x e : Expr) → AreSeveral (more_exprs x (call_and_post at site k e))
-post_several at site true x e = tt
-post_several at site false x e = tt
 
 call_fine : (at site : ℕ) (wanted : Bool) (o : Option Called) (d : Expr) (es : Exprs) → IsFine d → AreFine es → IsFine (call_where at site wanted o d es)
 call_fine at site wanted None d es h k = (h, k)
 call_fine at site wanted (Some c) d es h k =
-    let keep : Bool = is_kept wanted c.returns in
-    let inner : Expr = call at (kept_designator at site c.pointer_type d) (kept_arguments at site 0 es) in
-    let last : Exprs = more_exprs (null_call at pre_name site) (call_and_post at site keep inner) in
-    let rest : Exprs = keep_arguments at site 0 es last in (
-      designator_several at site c.pointer_type d rest (kept_several at site 0 es last (post_several at site keep (null_call at pre_name site) inner)),
-      designator_fine at site c.pointer_type d rest h (kept_fine at site 0 es last k ((tt, (tt, tt)), post_fine at site keep inner (called_fine at site c.pointer_type d h, names_fine at site 0 es))),
-    )
+    (several_of_call at site wanted c d es, of_call IsFine AreFine tt (λ e es h k. (h, k)) (λ e es h. h) (λ at d es h k. (h, k)) (λ at x h. tt) (λ at x e h k. (assigns, tt, k)) at site (λ x h. (tt, (tt, tt))) wanted c d es h k)
 
 -- ## Expressions
 
@@ -79,42 +37,23 @@ module _ (sites : Sites) where
 
   mutual
     expr_fine : (x : Expr) (b : ℕ) (wanted : Bool) → IsFine x → IsFine (expr sites b wanted x)
-    expr_fine (a_name at x) b wanted h = tt
-    expr_fine (an_int at n u) b wanted h = tt
-    expr_fine (a_char at c) b wanted h = tt
-    expr_fine (a_str at w) b wanted h = tt
     expr_fine (comma at es) b wanted h = (members_several es b wanted h.0, members_fine es b wanted h.1)
-    expr_fine (sizeof_type at t) b wanted h = h
     expr_fine (cast at t e) b wanted h = (h.0, by_type IsFine (is_void_type t) (expr sites b false e) (expr sites b true e) (expr_fine e b false h.1) (expr_fine e b true h.1))
     expr_fine (call at d es) b wanted h = call_fine at (b + calls d) wanted (sites (b + calls d)) (expr sites b true d) (arguments sites (suc (b + calls d)) es) (expr_fine d b true h.0) (arguments_fine es (suc (b + calls d)) h.1)
     expr_fine (member at how e x) b wanted h = expr_fine e b true h
     expr_fine (postfix at op e) b wanted h = expr_fine e b true h
     expr_fine (prefix at pre_increment e) b wanted h = expr_fine e b true h
     expr_fine (prefix at pre_decrement e) b wanted h = expr_fine e b true h
-    expr_fine (prefix at sizeof e) b wanted h = h
     expr_fine (unary at op e) b wanted h = by_unary IsFine sites at op e b wanted (h.0, expr_fine e b true h.1) (operand_fine e b h.1)
     expr_fine (index at e f) b wanted h = (expr_fine e b true h.0, expr_fine f (b + calls e) true h.1)
     expr_fine (binary at op e f) b wanted h = (h.0, expr_fine e b true h.1, expr_fine f (b + calls e) true h.2)
     expr_fine (assign at op e f) b wanted h = (h.0, expr_fine e b true h.1, expr_fine f (b + calls e) true h.2)
     expr_fine (conditional at c e f) b wanted h = (expr_fine c b true h.0, expr_fine e (b + calls c) true h.1, expr_fine f (b + calls c + calls e) true h.2)
+    expr_fine x b wanted h = h
 
     operand_fine : (x : Expr) (b : ℕ) → IsFine x → Operand IsFine sites b x
-    operand_fine (a_name at x) b h = tt
-    operand_fine (an_int at n u) b h = tt
-    operand_fine (a_char at c) b h = tt
-    operand_fine (a_str at w) b h = tt
-    operand_fine (comma at es) b h = tt
-    operand_fine (sizeof_type at t) b h = tt
-    operand_fine (cast at t e) b h = tt
-    operand_fine (call at d es) b h = tt
-    operand_fine (member at how e x) b h = tt
-    operand_fine (postfix at op e) b h = tt
-    operand_fine (prefix at op e) b h = tt
     operand_fine (unary at op e) b h = expr_fine e b false h.1
-    operand_fine (index at e f) b h = tt
-    operand_fine (binary at op e f) b h = tt
-    operand_fine (assign at op e f) b h = tt
-    operand_fine (conditional at c e f) b h = tt
+    operand_fine x b h = tt
 
     arguments_fine : (es : Exprs) (b : ℕ) → AreFine es → AreFine (arguments sites b es)
     arguments_fine no_exprs b h = tt
@@ -168,23 +107,15 @@ module _ (sites : Sites) where
   first_fine (first_decl d) b h = (decl_fine d b h.0, decl_plain d b h.1)
 
   still_closed : (s : Stmt) (b : ℕ) → IsClosed s → IsClosed (new.stmt sites b s)
-  still_closed (block at is) b h = tt
-  still_closed (empty at) b h = tt
-  still_closed (evaluate at e) b h = tt
   still_closed (only_if at e s) b h = h
   still_closed (if_else at e s t) b h = still_closed t (b + calls e + calls_of_stmt s) h
   still_closed (while_loop at e s) b h = still_closed s (b + calls e) h
-  still_closed (do_loop at s e) b h = tt
   still_closed (for_loop at f test step s) b h = still_closed s (b + calls_of_first f + calls_of_maybe test + calls_of_maybe step) h
-  still_closed (switch_on at e gs) b h = tt
-  still_closed (break_off at) b h = tt
-  still_closed (continue_on at) b h = tt
-  still_closed (return_from at m) b h = tt
+  still_closed s b h = tt
 
   mutual
     stmt_fine : (s : Stmt) (b : ℕ) → IsFineStmt s → IsFineStmt (new.stmt sites b s)
     stmt_fine (block at is) b h = block_fine is b h
-    stmt_fine (empty at) b h = tt
     stmt_fine (evaluate at e) b h = expr_fine e b false h
     stmt_fine (only_if at e s) b h = (expr_fine e b true h.0, stmt_fine s (b + calls e) h.1)
     stmt_fine (if_else at e s t) b h = (expr_fine e b true h.0, stmt_fine s (b + calls e) h.1, still_closed s (b + calls e) h.2, stmt_fine t (b + calls e + calls_of_stmt s) h.3)
@@ -197,9 +128,8 @@ module _ (sites : Sites) where
       stmt_fine s (b + calls_of_first f + calls_of_maybe test + calls_of_maybe step) h.3,
     )
     stmt_fine (switch_on at e gs) b h = (expr_fine e b true h.0, groups_fine gs (b + calls e) h.1)
-    stmt_fine (break_off at) b h = tt
-    stmt_fine (continue_on at) b h = tt
     stmt_fine (return_from at m) b h = maybe_fine m b true h
+    stmt_fine s b h = tt
 
     pub block_fine : (is : BlockItems) (b : ℕ) → AreFineBlockItems is → AreFineBlockItems (new.items_of_block sites b is)
     block_fine no_block_items b h = tt

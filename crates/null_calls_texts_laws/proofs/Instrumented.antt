@@ -14,48 +14,20 @@ use Rattle.null_calls_units_laws.specs.InstrumentedExpressions.{is_void_type, ke
 use Rattle.null_calls_units_laws.specs.InstrumentedStatements as new
 use Rattle.null_calls_units_laws.specs.Lexical.{AreSomeExprs, IsLexical, AreLexical, IsMaybeLexical, IsInitLexical, AreInitsLexical, IsMaybeInitLexical, ArePartsLexical, IsDeclLexical, IsFirstLexical, IsStmtLexical, AreItemsLexical, AreStmtsLexical, AreGroupsLexical}
 use Rattle.null_calls_units_laws.proofs.ExpressionHeights.{Operand, by_type, by_unary}
+use Rattle.c_syntax.proofs.Fine.{AreSeveral}
+use Rattle.null_calls_texts_laws.proofs.MarkedCalls.{members_of_call, of_call, several_of_call}
 use Rattle.null_calls_texts_laws.proofs.Writable.{FitsWhere}
 
 -- ## A marked call
 
-some_kept : (at site i : ℕ) (es rest : Exprs) → AreSomeExprs rest → AreSomeExprs (keep_arguments at site i es rest)
-some_kept at site i no_exprs rest h = h
-some_kept at site i (more_exprs e es) rest h = tt
-
-kept_lexical : (at site i : ℕ) (es rest : Exprs) → AreLexical es → AreLexical rest → AreLexical (keep_arguments at site i es rest)
-kept_lexical at site i no_exprs rest h k = k
-kept_lexical at site i (more_exprs e es) rest h k = ((tt, h.0), kept_lexical at site (suc i) es rest h.1 k)
-
-names_lexical : (at site i : ℕ) (es : Exprs) → AreLexical (kept_arguments at site i es)
-names_lexical at site i no_exprs = tt
-names_lexical at site i (more_exprs e es) = (tt, names_lexical at site (suc i) es)
-
-post_lexical : (at site : ℕ) (k : Bool) (e : Expr) → site < 4294967296 → IsLexical e → AreLexical (call_and_post at site k e)
-post_lexical at site true e f h = ((tt, h), ((tt, (f, tt)), (tt, tt)))
-post_lexical at site false e f h = (h, ((tt, (f, tt)), tt))
-
-designator_lexical : (at site : ℕ) (o : Option CType) (d : Expr) (rest : Exprs) → IsLexical d → AreLexical rest → AreLexical (keep_designator at site o d rest)
-designator_lexical at site None d rest h k = k
-designator_lexical at site (Some t) d rest h k = ((tt, h), k)
-
-some_designator : (at site : ℕ) (o : Option CType) (d : Expr) (rest : Exprs) → AreSomeExprs rest → AreSomeExprs (keep_designator at site o d rest)
-some_designator at site None d rest h = h
-some_designator at site (Some t) d rest h = tt
-
-called_lexical : (at site : ℕ) (o : Option CType) (d : Expr) → IsLexical d → IsLexical (kept_designator at site o d)
-called_lexical at site None d h = h
-called_lexical at site (Some t) d h = tt
-
 call_lexical : (at site : ℕ) (wanted : Bool) (o : Option Called) (d : Expr) (es : Exprs) → FitsWhere o site → IsLexical d → AreLexical es → IsLexical (call_where at site wanted o d es)
 call_lexical at site wanted None d es f h k = (h, k)
 call_lexical at site wanted (Some c) d es f h k =
-    let keep : Bool = is_kept wanted c.returns in
-    let inner : Expr = call at (kept_designator at site c.pointer_type d) (kept_arguments at site 0 es) in
-    let last : Exprs = more_exprs (null_call at pre_name site) (call_and_post at site keep inner) in
-    let all : Exprs = keep_arguments at site 0 es last in (
-      some_designator at site c.pointer_type d all (some_kept at site 0 es last tt),
-      designator_lexical at site c.pointer_type d all h (kept_lexical at site 0 es last k ((tt, (f, tt)), post_lexical at site keep inner f (called_lexical at site c.pointer_type d h, names_lexical at site 0 es))),
-    )
+    (some_of (members_of_call at site wanted c d es) (several_of_call at site wanted c d es), of_call IsLexical AreLexical tt (λ e es h k. (h, k)) (λ e es h. h) (λ at d es h k. (h, k)) (λ at x h. tt) (λ at x e h k. (tt, k)) at site (λ x h. (tt, (f, tt))) wanted c d es h k)
+  where
+    some_of : (es : Exprs) → AreSeveral es → AreSomeExprs es
+    some_of no_exprs h = h
+    some_of (more_exprs e es) h = tt
 
 some_members : (sites : Sites) (es : Exprs) (b : ℕ) (wanted : Bool) → AreSomeExprs es → AreSomeExprs (members sites b wanted es)
 some_members sites no_exprs b wanted h = absurd h
@@ -67,42 +39,23 @@ some_members sites (more_exprs e (more_exprs f es)) b wanted h = tt
 module _ (sites : Sites) (fit : (s : ℕ) → FitsWhere (sites s) s) where
   mutual
     expr_lexical : (x : Expr) (b : ℕ) (wanted : Bool) → IsLexical x → IsLexical (expr sites b wanted x)
-    expr_lexical (a_name at x) b wanted h = h
-    expr_lexical (an_int at n u) b wanted h = h
-    expr_lexical (a_char at c) b wanted h = h
-    expr_lexical (a_str at w) b wanted h = h
     expr_lexical (comma at es) b wanted h = (some_members sites es b wanted h.0, members_lexical es b wanted h.1)
-    expr_lexical (sizeof_type at t) b wanted h = h
     expr_lexical (cast at t e) b wanted h = by_type IsLexical (is_void_type t) (expr sites b false e) (expr sites b true e) (expr_lexical e b false h) (expr_lexical e b true h)
     expr_lexical (call at d es) b wanted h = call_lexical at (b + calls d) wanted (sites (b + calls d)) (expr sites b true d) (arguments sites (suc (b + calls d)) es) (fit (b + calls d)) (expr_lexical d b true h.0) (arguments_lexical es (suc (b + calls d)) h.1)
     expr_lexical (member at how e x) b wanted h = expr_lexical e b true h
     expr_lexical (postfix at op e) b wanted h = expr_lexical e b true h
     expr_lexical (prefix at pre_increment e) b wanted h = expr_lexical e b true h
     expr_lexical (prefix at pre_decrement e) b wanted h = expr_lexical e b true h
-    expr_lexical (prefix at sizeof e) b wanted h = h
     expr_lexical (unary at op e) b wanted h = by_unary IsLexical sites at op e b wanted (expr_lexical e b true h) (operand_lexical e b h)
     expr_lexical (index at e f) b wanted h = (expr_lexical e b true h.0, expr_lexical f (b + calls e) true h.1)
     expr_lexical (binary at op e f) b wanted h = (expr_lexical e b true h.0, expr_lexical f (b + calls e) true h.1)
     expr_lexical (assign at op e f) b wanted h = (expr_lexical e b true h.0, expr_lexical f (b + calls e) true h.1)
     expr_lexical (conditional at c e f) b wanted h = (expr_lexical c b true h.0, expr_lexical e (b + calls c) true h.1, expr_lexical f (b + calls c + calls e) true h.2)
+    expr_lexical x b wanted h = h
 
     operand_lexical : (x : Expr) (b : ℕ) → IsLexical x → Operand IsLexical sites b x
-    operand_lexical (a_name at x) b h = tt
-    operand_lexical (an_int at n u) b h = tt
-    operand_lexical (a_char at c) b h = tt
-    operand_lexical (a_str at w) b h = tt
-    operand_lexical (comma at es) b h = tt
-    operand_lexical (sizeof_type at t) b h = tt
-    operand_lexical (cast at t e) b h = tt
-    operand_lexical (call at d es) b h = tt
-    operand_lexical (member at how e x) b h = tt
-    operand_lexical (postfix at op e) b h = tt
-    operand_lexical (prefix at op e) b h = tt
     operand_lexical (unary at op e) b h = expr_lexical e b false h
-    operand_lexical (index at e f) b h = tt
-    operand_lexical (binary at op e f) b h = tt
-    operand_lexical (assign at op e f) b h = tt
-    operand_lexical (conditional at c e f) b h = tt
+    operand_lexical x b h = tt
 
     arguments_lexical : (es : Exprs) (b : ℕ) → AreLexical es → AreLexical (arguments sites b es)
     arguments_lexical no_exprs b h = tt
@@ -147,7 +100,6 @@ module _ (sites : Sites) (fit : (s : ℕ) → FitsWhere (sites s) s) where
   mutual
     stmt_lexical : (s : Stmt) (b : ℕ) → IsStmtLexical s → IsStmtLexical (new.stmt sites b s)
     stmt_lexical (block at is) b h = block_lexical is b h
-    stmt_lexical (empty at) b h = tt
     stmt_lexical (evaluate at e) b h = expr_lexical e b false h
     stmt_lexical (only_if at e s) b h = (expr_lexical e b true h.0, stmt_lexical s (b + calls e) h.1)
     stmt_lexical (if_else at e s t) b h = (expr_lexical e b true h.0, stmt_lexical s (b + calls e) h.1, stmt_lexical t (b + calls e + calls_of_stmt s) h.2)
@@ -160,9 +112,8 @@ module _ (sites : Sites) (fit : (s : ℕ) → FitsWhere (sites s) s) where
       stmt_lexical s (b + calls_of_first f + calls_of_maybe test + calls_of_maybe step) h.3,
     )
     stmt_lexical (switch_on at e gs) b h = (expr_lexical e b true h.0, groups_lexical gs (b + calls e) h.1)
-    stmt_lexical (break_off at) b h = tt
-    stmt_lexical (continue_on at) b h = tt
     stmt_lexical (return_from at m) b h = maybe_lexical m b true h
+    stmt_lexical s b h = tt
 
     pub block_lexical : (is : BlockItems) (b : ℕ) → AreItemsLexical is → AreItemsLexical (new.items_of_block sites b is)
     block_lexical no_block_items b h = tt

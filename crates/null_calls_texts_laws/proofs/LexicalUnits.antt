@@ -22,17 +22,7 @@ use Rattle.null_calls_texts_laws.proofs.Instrumented.{block_lexical}
 
 body_lexical : (body : Stmt) → IsStmtLexical body → AreItemsLexical (items_of_body body)
 body_lexical (block at is) h = h
-body_lexical (empty at) h = (h, tt)
-body_lexical (evaluate at e) h = (h, tt)
-body_lexical (only_if at e s) h = (h, tt)
-body_lexical (if_else at e s t) h = (h, tt)
-body_lexical (while_loop at e s) h = (h, tt)
-body_lexical (do_loop at s e) h = (h, tt)
-body_lexical (for_loop at f t u s) h = (h, tt)
-body_lexical (switch_on at e gs) h = (h, tt)
-body_lexical (break_off at) h = (h, tt)
-body_lexical (continue_on at) h = (h, tt)
-body_lexical (return_from at m) h = (h, tt)
+body_lexical body h = (h, tt)
 
 -- temporaries have no initialisers
 declared_lexical : (tags : List Name) (at : ℕ) (xs : List Temporary) (is : BlockItems) → AreItemsLexical is → AreItemsLexical (declared_before tags at xs is)
@@ -41,13 +31,10 @@ declared_lexical tags at (x ∷ xs) is h = ((tt, tt), declared_lexical tags at x
 
 module _ (sites : Sites) (tags : List Name) (fit : (s : ℕ) → FitsWhere (sites s) s) where
   item_lexical : (i : Item) (b : ℕ) → IsItemLexical i → IsItemLexical (units.item sites tags b i)
-  item_lexical (struct_item at x ms) b h = h
-  item_lexical (enum_item at x es) b h = h
-  item_lexical (tag_item at x) b h = h
-  item_lexical (decl_item at d) b h = h
   item_lexical (function_item at class s d body) b h =
       let is : BlockItems = items_of_body body in
       (h.0, declared_lexical tags at (kept_of_block sites b is) (items_of_block sites b is) (block_lexical sites fit is b (body_lexical body h.1)))
+  item_lexical i b h = h
 
   items_lexical : (is : Items) (b : ℕ) → IsUnitLexical is → IsUnitLexical (units.items sites tags b is)
   items_lexical no_items b h = tt

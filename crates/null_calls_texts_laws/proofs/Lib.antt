@@ -1,4 +1,5 @@
 pub mod Fine
+pub mod MarkedCalls
 pub mod Names
 pub mod Sites
 pub mod Spelled

@@ -33,28 +33,16 @@ at_most a b h = grind (arith, nat_tests)
 -- ## No arrays
 
 scalar_is : (t : CType) → is_scalar t ≡ true → NotArray t
-scalar_is void h = tt
-scalar_is (integer i) h = tt
-scalar_is (typed.pointer t) h = tt
 scalar_is (array t n) h = true≢false (sym h)
-scalar_is (struct s) h = tt
-scalar_is (typed.function r ts) h = tt
+scalar_is t h = tt
 
 result_is : (t : CType) → is_result t ≡ true → NotArray t
-result_is void h = tt
-result_is (integer i) h = tt
-result_is (typed.pointer t) h = tt
 result_is (array t n) h = true≢false (sym h)
-result_is (struct s) h = tt
-result_is (typed.function r ts) h = tt
+result_is t h = tt
 
 pointee_is : (t : CType) → is_pointee t ≡ true → NotArray t
-pointee_is void h = tt
-pointee_is (integer i) h = tt
-pointee_is (typed.pointer t) h = tt
 pointee_is (array t n) h = true≢false (sym h)
-pointee_is (struct s) h = tt
-pointee_is (typed.function r ts) h = tt
+pointee_is t h = tt
 
 -- ## Forms
 
@@ -69,48 +57,30 @@ IsThere d = Unit {0}
 
 module _ (tags : List Name) (at : ℕ) where
   stays_there : (t : CType) (d : Declarator) → IsThere d → IsThere (declarator_of tags at t d)
-  stays_there void d h = h
-  stays_there (integer i) d h = h
-  stays_there (struct s) d h = h
   stays_there (typed.pointer t) d h = stays_there t (pointer at d) tt
   stays_there (array t n) d h = stays_there t (syntax.array at d (syntax.there (syntax.an_int at n false))) tt
   stays_there (typed.function t ts) d h = stays_there t (function at d (params_of tags at ts)) tt
+  stays_there t d h = h
 
   named_still : (t : CType) (d : Declarator) → HasName d → HasName (declarator_of tags at t d)
-  named_still void d h = h
-  named_still (integer i) d h = h
-  named_still (struct s) d h = h
   named_still (typed.pointer t) d h = named_still t (pointer at d) h
   named_still (array t n) d h = named_still t (syntax.array at d (syntax.there (syntax.an_int at n false))) h
   named_still (typed.function t ts) d h = named_still t (function at d (params_of tags at ts)) h
+  named_still t d h = h
 
   -- a parameter isn't void
   some_there : (s : Spec) (d : Declarator) (ps : Params) → IsThere d → AreSome (more_params at s d ps)
   some_there syntax.void nothing ps h = absurd h
-  some_there syntax.void (named x y) ps h = tt
-  some_there syntax.void (pointer x y) ps h = tt
-  some_there syntax.void (syntax.array x y z) ps h = tt
-  some_there syntax.void (function x y z) ps h = tt
-  some_there syntax.char d ps h = tt
-  some_there syntax.unsigned_char d ps h = tt
-  some_there syntax.int d ps h = tt
-  some_there syntax.unsigned_int d ps h = tt
-  some_there (syntax.struct x) d ps h = tt
-  some_there (syntax.enum x) d ps h = tt
+  some_there s d ps h = tt
 
   some_integer : (i : IntType) (ps : Params) → AreSome (more_params at (integer_spec i) nothing ps)
   some_integer Char ps = tt
-  some_integer Uchar ps = tt
-  some_integer Int ps = tt
-  some_integer Uint ps = tt
+  some_integer i ps = tt
 
   some_scalar : (t : CType) (ps : Params) → is_scalar t ≡ true → AreSome (more_params at (spec_of tags at t) (declarator_of tags at t nothing) ps)
-  some_scalar void ps h = absurd (true≢false (sym h))
   some_scalar (integer i) ps h = some_integer i ps
   some_scalar (typed.pointer t) ps h = some_there (spec_of tags at t) (declarator_of tags at t (pointer at nothing)) ps (stays_there t (pointer at nothing) tt)
-  some_scalar (array t n) ps h = absurd (true≢false (sym h))
-  some_scalar (struct s) ps h = absurd (true≢false (sym h))
-  some_scalar (typed.function r ts) ps h = absurd (true≢false (sym h))
+  some_scalar t ps h = absurd (true≢false (sym h))
 
 module _ (enums tags stood : List Name) (at : ℕ) where
   parameter_list : (ts : CTypes) → AllWritten enums tags stood ts → IsParameterList (params_of tags at ts)
@@ -119,12 +89,10 @@ module _ (enums tags stood : List Name) (at : ℕ) where
 
   mutual
     fine : (t : CType) (d : Declarator) → Written enums tags stood t → IsFineDeclarator d → IsFineDeclarator (declarator_of tags at t d)
-    fine void d h f = f
-    fine (integer i) d h f = f
-    fine (struct s) d h f = f
     fine (typed.pointer t) d h f = fine t (pointer at d) h.2 f
     fine (array t n) d h f = fine t (syntax.array at d (syntax.there (syntax.an_int at n false))) h.2 (f, tt)
     fine (typed.function t ts) d h f = fine t (function at d (params_of tags at ts)) h.3 (f, parameter_list ts h.4, fine_params ts h.4)
+    fine t d h f = f
 
     fine_params : (ts : CTypes) → AllWritten enums tags stood ts → AreFineParams (params_of tags at ts)
     fine_params no_types h = tt
@@ -134,24 +102,19 @@ module _ (enums tags stood : List Name) (at : ℕ) where
 
   module _ (names : AllNames stood) where
     spec_writes : (t : CType) → Written enums tags stood t → IsWritableSpec (spec_of tags at t)
-    spec_writes void h = tt
     spec_writes (integer Char) h = tt
-    spec_writes (integer Uchar) h = tt
-    spec_writes (integer Int) h = tt
-    spec_writes (integer Uint) h = tt
     spec_writes (struct s) h = among_named stood (slice_index_or tags s []) names h.2
     spec_writes (typed.pointer t) h = spec_writes t h.2
     spec_writes (array t n) h = spec_writes t h.2
     spec_writes (typed.function t ts) h = spec_writes t h.3
+    spec_writes t h = tt
 
     mutual
       writes : (t : CType) (d : Declarator) → NotArray t → Written enums tags stood t → IsWritableDeclarator d → IsWritableDeclarator (declarator_of tags at t d)
-      writes void d n h w = w
-      writes (integer i) d n h w = w
-      writes (struct s) d n h w = w
       writes (typed.pointer t) d n h w = writes t (pointer at d) (pointee_is t h.0) h.2 w
       writes (array t k) d n h w = absurd n
       writes (typed.function t ts) d n h w = writes t (function at d (params_of tags at ts)) (result_is t h.0) h.3 (w, params_write ts h.4)
+      writes t d n h w = w
 
       params_write : (ts : CTypes) → AllWritten enums tags stood ts → AreWritableParams (params_of tags at ts)
       params_write no_types h = tt
@@ -161,24 +124,19 @@ module _ (enums tags stood : List Name) (at : ℕ) where
 
   mutual
     low : (t : CType) (d : Declarator) → NotArray t → Written enums tags stood t → height_of_declarator (declarator_of tags at t d) ≤ parts t + height_of_declarator d
-    low void d n h = omega arith
-    low (integer i) d n h = omega arith
-    low (struct s) d n h = omega arith
     low (typed.pointer t) d n h = (let k = low t (pointer at d) (pointee_is t h.0) h.2 in omega (arith, k))
     low (array t k) d n h = absurd n
     low (typed.function t ts) d n h = (let k = low t (function at d (params_of tags at ts)) (result_is t h.0) h.3 in let l = params_low ts h.4 in omega (arith, k, l))
+    low t d n h = omega arith
 
     params_low : (ts : CTypes) → AllWritten enums tags stood ts → height_of_params (params_of tags at ts) ≤ parts_of_all ts
     params_low no_types h = omega arith
     params_low (more_types t ts) h = (let k = low t nothing (scalar_is t h.0) h.2 in let l = params_low ts h.3 in omega (arith, k, l))
 
   few : (t : CType) → is_scalar t ≡ true → Written enums tags stood t → parts t ≤ 64
-  few void h w = omega arith
   few (integer i) h w = omega arith
   few (typed.pointer t) h w = at_most (parts (typed.pointer t)) most_parts w.1
-  few (array t n) h w = absurd (true≢false (sym h))
-  few (struct s) h w = absurd (true≢false (sym h))
-  few (typed.function r ts) h w = absurd (true≢false (sym h))
+  few t h w = absurd (true≢false (sym h))
 
   -- ## Declarations of temporaries
 

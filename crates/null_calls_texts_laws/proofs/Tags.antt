@@ -33,20 +33,11 @@ among_named (x ∷ xs) y h e = by_test (bytes_eq x y) refl (number_among xs y) e
     by_test false q None k rest = absurd (true≢false (sym k))
 
 spec : (s : Spec) → IsWritableSpec s → AllNames (tags_of_spec s)
-spec void w = tt
-spec char w = tt
-spec unsigned_char w = tt
-spec int w = tt
-spec unsigned_int w = tt
 spec (struct x) w = (w, tt)
-spec (enum x) w = tt
+spec s w = tt
 
 mutual
   expr : (e : Expr) → IsWritable e → AllNames (tags_of_expr e)
-  expr (a_name at x) w = tt
-  expr (an_int at n u) w = tt
-  expr (a_char at c) w = tt
-  expr (a_str at bytes) w = tt
   expr (comma at es) w = exprs es w
   expr (sizeof_type at t) w = type_is t w
   expr (cast at t e) w = names_both (tags_of_type t) (tags_of_expr e) (type_is t w.0) (expr e w.1)
@@ -59,6 +50,7 @@ mutual
   expr (binary at op e f) w = names_both (tags_of_expr e) (tags_of_expr f) (expr e w.1) (expr f w.2)
   expr (assign at op e f) w = names_both (tags_of_expr e) (tags_of_expr f) (expr e w.1) (expr f w.2)
   expr (conditional at c e f) w = names_both (tags_of_expr c) (tags_of_expr e ++ tags_of_expr f) (expr c w.0) (names_both (tags_of_expr e) (tags_of_expr f) (expr e w.1) (expr f w.2))
+  expr e w = tt
 
   exprs : (es : Exprs) → AreWritable es → AllNames (tags_of_exprs es)
   exprs no_exprs w = tt
@@ -72,11 +64,10 @@ mutual
   type_is (type_name at s d) w = names_both (tags_of_spec s) (tags_of_declarator d) (spec s w.0) (declarator d w.1)
 
   declarator : (d : Declarator) → IsWritableDeclarator d → AllNames (tags_of_declarator d)
-  declarator nothing w = tt
-  declarator (named at x) w = tt
   declarator (pointer at d) w = declarator d w
   declarator (array at d size) w = names_both (tags_of_declarator d) (tags_of_maybe size) (declarator d w.0) (maybe size w.1)
   declarator (function at d ps) w = names_both (tags_of_declarator d) (tags_of_params ps) (declarator d w.0) (params ps w.1)
+  declarator d w = tt
 
   params : (ps : Params) → AreWritableParams ps → AllNames (tags_of_params ps)
   params no_params w = tt
@@ -115,7 +106,6 @@ labels (default_label at ls) w = labels ls w
 mutual
   stmt : (s : Stmt) → IsWritableStmt s → AllNames (tags_of_stmt false s)
   stmt (block at is) w = block_items is w
-  stmt (empty at) w = tt
   stmt (evaluate at e) w = expr e w
   stmt (only_if at e s) w = names_both (tags_of_expr e) (tags_of_stmt false s) (expr e w.0) (stmt s w.1)
   stmt (if_else at e s t) w = names_both (tags_of_expr e) (tags_of_stmt false s ++ tags_of_stmt false t) (expr e w.0) (names_both (tags_of_stmt false s) (tags_of_stmt false t) (stmt s w.1) (stmt t w.2))
@@ -125,9 +115,8 @@ mutual
       names_both (tags_of_first false f) (tags_of_maybe test ++ (tags_of_maybe step ++ tags_of_stmt false s)) (first f w.0)
       (names_both (tags_of_maybe test) (tags_of_maybe step ++ tags_of_stmt false s) (maybe test w.1) (names_both (tags_of_maybe step) (tags_of_stmt false s) (maybe step w.2) (stmt s w.3)))
   stmt (switch_on at e gs) w = names_both (tags_of_expr e) (tags_of_groups false gs) (expr e w.0) (groups gs w.1)
-  stmt (break_off at) w = tt
-  stmt (continue_on at) w = tt
   stmt (return_from at m) w = maybe m w
+  stmt s w = tt
 
   block_items : (is : BlockItems) → AreWritableBlockItems is → AllNames (tags_of_block false is)
   block_items no_block_items w = tt

@@ -30,45 +30,15 @@ use Rattle.null_calls_texts_laws.proofs.Writable.{FitsWhere, block_writes}
 
 body_fine : (body : Stmt) → IsFineBody body → AreFineBlockItems (items_of_body body)
 body_fine (block at is) h = h
-body_fine (empty at) h = absurd h
-body_fine (evaluate at e) h = absurd h
-body_fine (only_if at e s) h = absurd h
-body_fine (if_else at e s t) h = absurd h
-body_fine (while_loop at e s) h = absurd h
-body_fine (do_loop at s e) h = absurd h
-body_fine (for_loop at f t u s) h = absurd h
-body_fine (switch_on at e gs) h = absurd h
-body_fine (break_off at) h = absurd h
-body_fine (continue_on at) h = absurd h
-body_fine (return_from at m) h = absurd h
+body_fine body h = absurd h
 
 body_low : (body : Stmt) → IsFineBody body → suc (height_of_block_items (items_of_body body)) ≤ height_of_stmt body
 body_low (block at is) h = omega arith
-body_low (empty at) h = absurd h
-body_low (evaluate at e) h = absurd h
-body_low (only_if at e s) h = absurd h
-body_low (if_else at e s t) h = absurd h
-body_low (while_loop at e s) h = absurd h
-body_low (do_loop at s e) h = absurd h
-body_low (for_loop at f t u s) h = absurd h
-body_low (switch_on at e gs) h = absurd h
-body_low (break_off at) h = absurd h
-body_low (continue_on at) h = absurd h
-body_low (return_from at m) h = absurd h
+body_low body h = absurd h
 
 body_writes : (body : Stmt) → IsWritableStmt body → AreWritableBlockItems (items_of_body body)
 body_writes (block at is) h = h
-body_writes (empty at) h = (h, tt)
-body_writes (evaluate at e) h = (h, tt)
-body_writes (only_if at e s) h = (h, tt)
-body_writes (if_else at e s t) h = (h, tt)
-body_writes (while_loop at e s) h = (h, tt)
-body_writes (do_loop at s e) h = (h, tt)
-body_writes (for_loop at f t u s) h = (h, tt)
-body_writes (switch_on at e gs) h = (h, tt)
-body_writes (break_off at) h = (h, tt)
-body_writes (continue_on at) h = (h, tt)
-body_writes (return_from at m) h = (h, tt)
+body_writes body h = (h, tt)
 
 -- ## Items
 
@@ -98,10 +68,6 @@ function_low a c h k l e f g i = omega (arith, e, f, g, i)
 
 module _ (p : Program) (tags : List Name) (fit : (s : ℕ) → FitsWhere (sites_of p s) s) where
   good_item : (i : Item) (e : Env) (b : Before) → FunctionFacts p tags e b i → IsFineItem i → IsWritableItem i → height_of_item i ≤ 200 → AllNames (tags_of_item false i ++ e.tags) → IsGoodItem (units.item (sites_of p) tags b.sites i)
-  good_item (struct_item at x ms) e b facts f w l names = good_still (struct_item at x ms) f w l
-  good_item (enum_item at x es) e b facts f w l names = good_still (enum_item at x es) f w l
-  good_item (tag_item at x) e b facts f w l names = good_still (tag_item at x) f w l
-  good_item (decl_item at d) e b facts f w l names = good_still (decl_item at d) f w l
   good_item (function_item at class s d body) e b facts f w l names =
       let stood : List Name = tags_of_item false (function_item at class s d body) ++ e.tags in
       let is : BlockItems = items_of_body body in
@@ -116,6 +82,7 @@ module _ (p : Program) (tags : List Name) (fit : (s : ℕ) → FitsWhere (sites_
         writes = (w.0, w.1, declared_write e.enums tags stood at names b.sites _ xs later t.written t.sites (block_writes (sites_of p) fit is b.sites (body_writes body w.2)));
         low = function_low (height_of_declarator d) (height_of_stmt body) (height_of_block_items is) (height_of_block_items later) _ l own rest low;
       }
+  good_item i e b facts f w l names = good_still i f w l
 
   pub good_items : (is : Items) (e : Env) (b : Before) → UnitFacts p tags e b is → AreFineItems is → AreWritableItems is → height_of_unit is ≤ 200 → AllNames e.tags → AreGoodItems (units.items (sites_of p) tags b.sites is)
   good_items no_items e b facts f w l names = record { fine = tt; writes = tt; low = omega arith }

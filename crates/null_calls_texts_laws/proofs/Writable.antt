@@ -17,7 +17,7 @@ use Rattle.null_calls_units_laws.specs.InstrumentedExpressions.{is_void_type, ke
 use Rattle.null_calls_units_laws.specs.InstrumentedStatements as new
 use Rattle.c_syntax_laws.specs.Writable.{IsWritable, AreWritable, IsWritableMaybe, IsWritableInit, AreWritableInits, IsWritableMaybeInit, AreWritableParts, IsWritableDecl, IsWritableFirst, IsWritableStmt, AreWritableBlockItems, AreWritableStmts, AreWritableGroups}
 use Rattle.null_calls_units_laws.proofs.ExpressionHeights.{Operand, by_type, by_unary}
-use Rattle.null_calls_texts_laws.proofs.Names.{pre_named, post_named, designator_named, argument_named, result_named}
+use Rattle.null_calls_texts_laws.proofs.MarkedCalls.{of_call}
 
 -- the number of a marked site is an unsigned constant
 abbrev pub FitsWhere : Option Called → ℕ → Type 0
@@ -29,75 +29,33 @@ FitsWhere (Some c) s = s < 4294967296
 equals : IsKind (Punct ASSIGN)
 equals = lit< tt
 
-kept_writes : (at site i : ℕ) (es rest : Exprs) → AreWritable es → AreWritable rest → AreWritable (keep_arguments at site i es rest)
-kept_writes at site i no_exprs rest h k = k
-kept_writes at site i (more_exprs e es) rest h k = ((equals, argument_named site i, h.0), kept_writes at site (suc i) es rest h.1 k)
-
-names_write : (at site i : ℕ) (es : Exprs) → AreWritable (kept_arguments at site i es)
-names_write at site i no_exprs = tt
-names_write at site i (more_exprs e es) = (argument_named site i, names_write at site (suc i) es)
-
-post_writes : (at site : ℕ) (k : Bool) (e : Expr) → site < 4294967296 → IsWritable e → AreWritable (call_and_post at site k e)
-post_writes at site true e f h = ((equals, result_named site, h), ((post_named, (f, tt)), (result_named site, tt)))
-post_writes at site false e f h = (h, ((post_named, (f, tt)), tt))
-
-designator_writes : (at site : ℕ) (o : Option CType) (d : Expr) (rest : Exprs) → IsWritable d → AreWritable rest → AreWritable (keep_designator at site o d rest)
-designator_writes at site None d rest h k = k
-designator_writes at site (Some t) d rest h k = ((equals, designator_named site, h), k)
-
-called_writes : (at site : ℕ) (o : Option CType) (d : Expr) → IsWritable d → IsWritable (kept_designator at site o d)
-called_writes at site None d h = h
-called_writes at site (Some t) d h = designator_named site
-
 call_writes : (at site : ℕ) (wanted : Bool) (o : Option Called) (d : Expr) (es : Exprs) → FitsWhere o site → IsWritable d → AreWritable es → IsWritable (call_where at site wanted o d es)
 call_writes at site wanted None d es f h k = (h, k)
 call_writes at site wanted (Some c) d es f h k =
-    let keep : Bool = is_kept wanted c.returns in
-    let inner : Expr = call at (kept_designator at site c.pointer_type d) (kept_arguments at site 0 es) in
-    let last : Exprs = more_exprs (null_call at pre_name site) (call_and_post at site keep inner) in
-    designator_writes at site c.pointer_type d (keep_arguments at site 0 es last) h (kept_writes at site 0 es last k ((pre_named, (f, tt)), post_writes at site keep inner f (called_writes at site c.pointer_type d h, names_write at site 0 es)))
+    of_call IsWritable AreWritable tt (λ e es h k. (h, k)) (λ e es h. h) (λ at d es h k. (h, k)) (λ at x h. h) (λ at x e h k. (equals, h, k)) at site (λ x h. (h, (f, tt))) wanted c d es h k
 
 -- ## Expressions
 
 module _ (sites : Sites) (fit : (s : ℕ) → FitsWhere (sites s) s) where
   mutual
     expr_writes : (x : Expr) (b : ℕ) (wanted : Bool) → IsWritable x → IsWritable (expr sites b wanted x)
-    expr_writes (a_name at x) b wanted h = h
-    expr_writes (an_int at n u) b wanted h = h
-    expr_writes (a_char at c) b wanted h = h
-    expr_writes (a_str at w) b wanted h = h
     expr_writes (comma at es) b wanted h = members_write es b wanted h
-    expr_writes (sizeof_type at t) b wanted h = h
     expr_writes (cast at t e) b wanted h = (h.0, by_type IsWritable (is_void_type t) (expr sites b false e) (expr sites b true e) (expr_writes e b false h.1) (expr_writes e b true h.1))
     expr_writes (call at d es) b wanted h = call_writes at (b + calls d) wanted (sites (b + calls d)) (expr sites b true d) (arguments sites (suc (b + calls d)) es) (fit (b + calls d)) (expr_writes d b true h.0) (arguments_write es (suc (b + calls d)) h.1)
     expr_writes (member at how e x) b wanted h = (expr_writes e b true h.0, h.1)
     expr_writes (postfix at op e) b wanted h = expr_writes e b true h
     expr_writes (prefix at pre_increment e) b wanted h = expr_writes e b true h
     expr_writes (prefix at pre_decrement e) b wanted h = expr_writes e b true h
-    expr_writes (prefix at sizeof e) b wanted h = h
     expr_writes (unary at op e) b wanted h = by_unary IsWritable sites at op e b wanted (h.0, expr_writes e b true h.1) (operand_writes e b h.1)
     expr_writes (index at e f) b wanted h = (expr_writes e b true h.0, expr_writes f (b + calls e) true h.1)
     expr_writes (binary at op e f) b wanted h = (h.0, expr_writes e b true h.1, expr_writes f (b + calls e) true h.2)
     expr_writes (assign at op e f) b wanted h = (h.0, expr_writes e b true h.1, expr_writes f (b + calls e) true h.2)
     expr_writes (conditional at c e f) b wanted h = (expr_writes c b true h.0, expr_writes e (b + calls c) true h.1, expr_writes f (b + calls c + calls e) true h.2)
+    expr_writes x b wanted h = h
 
     operand_writes : (x : Expr) (b : ℕ) → IsWritable x → Operand IsWritable sites b x
-    operand_writes (a_name at x) b h = tt
-    operand_writes (an_int at n u) b h = tt
-    operand_writes (a_char at c) b h = tt
-    operand_writes (a_str at w) b h = tt
-    operand_writes (comma at es) b h = tt
-    operand_writes (sizeof_type at t) b h = tt
-    operand_writes (cast at t e) b h = tt
-    operand_writes (call at d es) b h = tt
-    operand_writes (member at how e x) b h = tt
-    operand_writes (postfix at op e) b h = tt
-    operand_writes (prefix at op e) b h = tt
     operand_writes (unary at op e) b h = expr_writes e b false h.1
-    operand_writes (index at e f) b h = tt
-    operand_writes (binary at op e f) b h = tt
-    operand_writes (assign at op e f) b h = tt
-    operand_writes (conditional at c e f) b h = tt
+    operand_writes x b h = tt
 
     arguments_write : (es : Exprs) (b : ℕ) → AreWritable es → AreWritable (arguments sites b es)
     arguments_write no_exprs b h = tt
@@ -142,7 +100,6 @@ module _ (sites : Sites) (fit : (s : ℕ) → FitsWhere (sites s) s) where
   mutual
     stmt_writes : (s : Stmt) (b : ℕ) → IsWritableStmt s → IsWritableStmt (new.stmt sites b s)
     stmt_writes (block at is) b h = block_writes is b h
-    stmt_writes (empty at) b h = tt
     stmt_writes (evaluate at e) b h = expr_writes e b false h
     stmt_writes (only_if at e s) b h = (expr_writes e b true h.0, stmt_writes s (b + calls e) h.1)
     stmt_writes (if_else at e s t) b h = (expr_writes e b true h.0, stmt_writes s (b + calls e) h.1, stmt_writes t (b + calls e + calls_of_stmt s) h.2)
@@ -155,9 +112,8 @@ module _ (sites : Sites) (fit : (s : ℕ) → FitsWhere (sites s) s) where
       stmt_writes s (b + calls_of_first f + calls_of_maybe test + calls_of_maybe step) h.3,
     )
     stmt_writes (switch_on at e gs) b h = (expr_writes e b true h.0, groups_write gs (b + calls e) h.1)
-    stmt_writes (break_off at) b h = tt
-    stmt_writes (continue_on at) b h = tt
     stmt_writes (return_from at m) b h = maybe_writes m b true h
+    stmt_writes s b h = tt
 
     pub block_writes : (is : BlockItems) (b : ℕ) → AreWritableBlockItems is → AreWritableBlockItems (new.items_of_block sites b is)
     block_writes no_block_items b h = tt
