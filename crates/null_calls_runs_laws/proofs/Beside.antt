@@ -86,55 +86,39 @@ module _ (known : Objects) (fr : Frame) (limit : ℕ) where
     stay = λ x hid o. refl;
   }
 
-  pub after_does : {A : Type 0} (owed : Bool) (k : ℕ) (more : Memory) (w : List Event) (r q : Result A) → Does {A = A} owed k more r q → Does {A = A} owed k more (after w r) (after w q)
-  after_does owed k more w (Go a st u) q h = record {
+  -- it goes on so after other events, beside another memory, and where less is owed
+  goes_on : {A : Type 0} (owed owes : Bool) (k j : ℕ) (more l : Memory) (a : A) (st : State) (u v : List Event) (q r : Result A) → ((b : A) → Same {A = A} owes a b → Same {A = A} owed a b) → ((m : Memory) → StayBut j l m → StayBut k more m) → ((b : A) (m : Memory) → q ≡ Go b (with_memory st m) u → r ≡ Go b (with_memory st m) v) → GoesOn A owes j l a st u q → GoesOn A owed k more a st v r
+  goes_on owed owes k j more l a st u v q r same stay is h = record {
     other = h.other;
     left = h.left;
-    is = ap (after w) h.is;
-    same = h.same;
+    is = is h.other h.left h.is;
+    same = same h.other h.same;
     beside = h.beside;
     ready = h.ready;
-    stay = h.stay;
+    stay = stay h.left h.stay;
   }
+
+  pub after_does : {A : Type 0} (owed : Bool) (k : ℕ) (more : Memory) (w : List Event) (r q : Result A) → Does {A = A} owed k more r q → Does {A = A} owed k more (after w r) (after w q)
+  after_does {A} owed k more w (Go a st u) q h =
+      goes_on {A = A} owed owed k k more more a st u (w ++ u) q (after w q) (λ b s. s) (λ m s. s) (λ b m e. ap (after w) e) h
   after_does owed k more w (Stop e u) q h = ap (after w) h
 
   pub later_does : {A : Type 0} (owed : Bool) (k : ℕ) (more l : Memory) (r q : Result A) → StayBut k more l → Does {A = A} owed k l r q → Does {A = A} owed k more r q
-  later_does owed k more l (Go a st u) q s h = record {
-    other = h.other;
-    left = h.left;
-    is = h.is;
-    same = h.same;
-    beside = h.beside;
-    ready = h.ready;
-    stay = λ x hid o. h.stay x hid o ∙ s x hid o;
-  }
+  later_does {A} owed k more l (Go a st u) q s h =
+      goes_on {A = A} owed owed k k more l a st u u q q (λ b s. s) (λ m i x hid o. i x hid o ∙ s x hid o) (λ b m e. e) h
   later_does owed k more l (Stop e u) q s h = h
 
   pub stays_wider : (k j : ℕ) (more l : Memory) → k ≤ j → StayBut j more l → StayBut k more l
   stays_wider k j more l less s x hid o = s x hid (λ e a b. o e (omega (arith, less, a)) b)
 
   pub wider : {A : Type 0} (owed : Bool) (k j : ℕ) (more : Memory) (r q : Result A) → k ≤ j → Does {A = A} owed j more r q → Does {A = A} owed k more r q
-  wider owed k j more (Go a st u) q less h = record {
-    other = h.other;
-    left = h.left;
-    is = h.is;
-    same = h.same;
-    beside = h.beside;
-    ready = h.ready;
-    stay = stays_wider k j more h.left less h.stay;
-  }
+  wider {A} owed k j more (Go a st u) q less h =
+      goes_on {A = A} owed owed k j more more a st u u q q (λ b s. s) (λ m i. stays_wider k j more m less i) (λ b m e. e) h
   wider owed k j more (Stop e u) q less h = h
 
   pub loose : {A : Type 0} (owed : Bool) (k : ℕ) (more : Memory) (r q : Result A) → Does {A = A} true k more r q → Does {A = A} owed k more r q
-  loose {A} owed k more (Go a st u) q h = record {
-    other = h.other;
-    left = h.left;
-    is = h.is;
-    same = same_for {A = A} owed a h.other h.same;
-    beside = h.beside;
-    ready = h.ready;
-    stay = h.stay;
-  }
+  loose {A} owed k more (Go a st u) q h =
+      goes_on {A = A} owed true k k more more a st u u q q (λ b s. same_for {A = A} owed a b s) (λ m s. s) (λ b m e. e) h
   loose owed k more (Stop e u) q h = h
 
   -- what leaves every further object as it is
@@ -156,15 +140,12 @@ module _ (known : Objects) (fr : Frame) (limit : ℕ) where
 
   pub exit_does : (k : ℕ) (x : Exit) (st : State) (more : Memory) (f g : State → Result Exit) → IsBeside known fr.activation st.memory more → IsReady more → Does {A = Exit} true k more (f st) (g (with_memory st more)) → Does {A = Exit} true k more (on_exit x st f) (on_exit x (with_memory st more) g)
   exit_does k on st more f g b r h = h
-  exit_does k broken st more f g b r h = here {A = Exit} true k broken broken st more [] refl b r
-  exit_does k continued st more f g b r h = here {A = Exit} true k continued continued st more [] refl b r
-  exit_does k (returned v) st more f g b r h = here {A = Exit} true k (returned v) (returned v) st more [] refl b r
+  exit_does k x st more f g b r h = here {A = Exit} true k x x st more [] refl b r
 
   pub round_does : (k : ℕ) (x : Exit) (st : State) (more : Memory) (f g : State → Result Exit) → IsBeside known fr.activation st.memory more → IsReady more → Does {A = Exit} true k more (f st) (g (with_memory st more)) → Does {A = Exit} true k more (on_round x st f) (on_round x (with_memory st more) g)
-  round_does k on st more f g b r h = h
   round_does k broken st more f g b r h = here {A = Exit} true k on on st more [] refl b r
-  round_does k continued st more f g b r h = h
   round_does k (returned v) st more f g b r h = here {A = Exit} true k (returned v) (returned v) st more [] refl b r
+  round_does k x st more f g b r h = h
 
   pub answered_then : {A B : Type 0} (owed : Bool) (k : ℕ) (ok : A → Type 0) (r q : Answer A) (st : State) (more : Memory) (f g : A → State → Result B) → q ≡ r → Whenever {A = A} ok r → ((a : A) → ok a → Does {A = B} owed k more (f a st) (g a (with_memory st more))) → Does {A = B} owed k more (then_do (answered r st) f) (then_do (answered q (with_memory st more)) g)
   answered_then {A} {B} owed k ok r q st more f g e h next = subst (λ q. Does {A = B} owed k more (then_do (answered r st) f) (then_do (answered q (with_memory st more)) g)) (sym e) (at r h)

@@ -1,5 +1,6 @@
 -- The body of a function with its temporaries does what the body does: no object of the activation is left behind.
 use Rattle.std.proofs.Common.{◌≡◌, ◌⊎◌, inl, inr, ℕ, suc, ◌+◌, ◌≤◌, ◌<◌, nat_eq, nat_lt, Bool, true, false, List, [], ◌∷◌, ◌++◌, length, replicate, Option, Some, None, slice_get, sym, ap, ◌∙◌, subst, refl, arith, true≢false}
+use Rattle.std.proofs.Math.Nat.{eq-or-lt_of_le}
 use Rattle.std.specs.Cmp.{nat_eq_equiv}
 use Rattle.c_tree.specs.declared.value.ObjectName.{ObjectName}
 use Rattle.c_tree.specs.declared.value.Value.TheVariants.{Indeterminate}
@@ -10,8 +11,9 @@ use Rattle.c_tree.specs.Kinds.{Objects}
 use Rattle.c_tree.specs.Operands.{IsScalar}
 use Rattle.c_tree.specs.Program.{IsBlock, IsProgram}
 use Rattle.c_tree.specs.Typed.{IsStmt, AreStmts}
-use Rattle.c_values.specs.Memory.{Object, declared, ended}
+use Rattle.c_values.specs.Memory.{Object, changed}
 use Rattle.c_values.specs.Memory.{Objects as Memory}
+use Rattle.c_values.proofs.StoreLemmas.{changed_there}
 use Rattle.c_shapes.specs.Mentions.{mentions_of_stmt, mentions_of_stmts}
 use Rattle.c_meaning.specs.Meaning.{Frame, World, name_in, declared_in, without, leaving, exec, exec_all}
 use Rattle.c_meaning.specs.Results.{State, with_memory, Result, Go, Stop, Exit}
@@ -32,7 +34,7 @@ use Rattle.null_calls_runs_laws.specs.Pieces.{declaring}
 use Rattle.null_calls_runs_laws.proofs.PieceLemmas.{declarations_declare, shapes_stay}
 use Rattle.null_calls_runs_laws.proofs.Beside.{Does, Here}
 use Rattle.null_calls_runs_laws.proofs.Scalars.{AreScalars, stmts_scalars}
-use Rattle.null_calls_runs_laws.proofs.Calls.{changed_there, changed_elsewhere, Enters}
+use Rattle.null_calls_runs_laws.proofs.Calls.{changed_elsewhere, Enters}
 use Rattle.null_calls_runs_laws.proofs.Statements.{Agains, stmts_do}
 
 -- a temporary's number among the numbers from k on
@@ -52,72 +54,47 @@ own_or_not a k many x = by (nat_eq x.activation a) (nat_lt x.variable k) (nat_lt
 -- ## Declarations of temporaries
 
 scalar_cells : (structs : Structs) (t : CType) → IsScalar t → cells structs t ≡ 1
-scalar_cells structs void h = absurd h
 scalar_cells structs (integer i) h = refl
 scalar_cells structs (pointer t) h = refl
-scalar_cells structs (array t n) h = absurd h
-scalar_cells structs (struct s) h = absurd h
-scalar_cells structs (function r ts) h = absurd h
+scalar_cells structs t h = absurd h
 
--- memory in which temporaries of these types from k on have new cells
-abbrev opened_memory : Structs → (activation k : ℕ) → List CType → Memory → Memory
-opened_memory structs a k [] m = m
-opened_memory structs a k (t ∷ ts) m =
-    opened_memory structs a (suc k) ts (declared m (record { activation = a; variable = k }) (cells structs t))
+-- memory in which temporaries of these types from k on are what `f` says of their types
+abbrev all_changed : (f : CType → Option Object) → (activation k : ℕ) → List CType → Memory → Memory
+all_changed f a k [] m = m
+all_changed f a k (t ∷ ts) m = all_changed f a (suc k) ts (changed m (record { activation = a; variable = k }) (f t))
 
-declaring_is : (structs : Structs) (fr : Frame) (k : ℕ) (ts : List CType) (st : State) (m : Memory) → declaring structs fr k ts (with_memory st m) ≡ with_memory st (opened_memory structs fr.activation k ts m)
+-- new cells
+abbrev new_object : Structs → CType → Option Object
+new_object structs t = Some (record { cells = replicate (cells structs t) Indeterminate; string = false })
+
+abbrev no_object : CType → Option Object
+no_object t = None
+
+declaring_is : (structs : Structs) (fr : Frame) (k : ℕ) (ts : List CType) (st : State) (m : Memory) → declaring structs fr k ts (with_memory st m) ≡ with_memory st (all_changed (new_object structs) fr.activation k ts m)
 declaring_is structs fr k [] st m = refl
 declaring_is structs fr k (t ∷ ts) st m = declaring_is structs fr (suc k) ts st _
+
+-- they end before what else is declared
+they_end : (a k : ℕ) (ts : List CType) (p : Program) (ss : Stmts) (m : Memory) → without a (declared_in (declared_from p k ts ss)) m ≡ without a (declared_in ss) (all_changed no_object a k ts m)
+they_end a k [] p ss m = refl
+they_end a k (t ∷ ts) p ss m = they_end a (suc k) ts p ss _
 
 apart_name : (a k many : ℕ) (x : ObjectName) → 0 < many → Own a k many x → record { activation = a; variable = k } ≡ x → ⊥
 apart_name a k many x some out s =
     let e : k ≡ x.variable = ap (λ y. y.variable) s in out (sym (ap (λ y. y.activation) s)) (omega (arith, e)) (omega (arith, e, some))
 
-opened_elsewhere : (structs : Structs) (a k : ℕ) (ts : List CType) (m : Memory) (x : ObjectName) → Own a k (length ts) x → opened_memory structs a k ts m x ≡ m x
-opened_elsewhere structs a k [] m x out = refl
-opened_elsewhere structs a k (t ∷ ts) m x out =
-    opened_elsewhere structs a (suc k) ts _ x (λ e b c. out e (omega (arith, b)) (omega (arith, c))) ∙ changed_elsewhere m (record { activation = a; variable = k }) x _ (apart_name a k (suc (length ts)) x (omega arith) out)
+all_elsewhere : (f : CType → Option Object) (a k : ℕ) (ts : List CType) (m : Memory) (x : ObjectName) → Own a k (length ts) x → all_changed f a k ts m x ≡ m x
+all_elsewhere f a k [] m x out = refl
+all_elsewhere f a k (t ∷ ts) m x out =
+    all_elsewhere f a (suc k) ts _ x (λ e b c. out e (omega (arith, b)) (omega (arith, c))) ∙ changed_elsewhere m (record { activation = a; variable = k }) x _ (apart_name a k (suc (length ts)) x (omega arith) out)
 
-opened_there : (structs : Structs) (a k : ℕ) (ts : List CType) (m : Memory) (j : ℕ) → AreScalars ts → k ≤ j → j < k + length ts → opened_memory structs a k ts m (record { activation = a; variable = j }) ≡ Some (record { cells = Indeterminate ∷ []; string = false })
-opened_there structs a k [] m j h low high = absurd (omega (arith, low, high))
-opened_there structs a k (t ∷ ts) m j h low high = by (nat_lt k j) refl (λ l. opened_there structs a (suc k) ts _ j h.1 l (omega (arith, high)))
-  where
-    by : (b : Bool) → nat_lt k j ≡ b → (suc k ≤ j → opened_memory structs a k (t ∷ ts) m (record { activation = a; variable = j }) ≡ Some (record { cells = Indeterminate ∷ []; string = false })) → opened_memory structs a k (t ∷ ts) m (record { activation = a; variable = j }) ≡ Some (record { cells = Indeterminate ∷ []; string = false })
-    by true e later = later (let l = below k j e in omega (arith, l))
-    by false e later =
-        let l = not_below k j e in
-        let same : k ≡ j = omega (arith, l, low) in
-        subst (λ j. opened_memory structs a (suc k) ts (declared m (record { activation = a; variable = k }) (cells structs t)) (record { activation = a; variable = j }) ≡ Some (record { cells = Indeterminate ∷ []; string = false })) same (opened_elsewhere structs a (suc k) ts _ (record { activation = a; variable = k }) (λ e b c. let b : suc k ≤ k = b in omega (arith, b)) ∙ (changed_there m (record { activation = a; variable = k }) _ ∙ ap (λ n. Some (record { cells = replicate n Indeterminate; string = false })) (scalar_cells structs t h.0)))
-
--- ## Their ends
-
-abbrev numbers : ℕ → List CType → List ℕ
-numbers k [] = []
-numbers k (t ∷ ts) = k ∷ numbers (suc k) ts
-
-declared_numbers : (k : ℕ) (ts : List CType) (p : Program) (ss : Stmts) → declared_in (declared_from p k ts ss) ≡ numbers k ts ++ declared_in ss
-declared_numbers k [] p ss = refl
-declared_numbers k (t ∷ ts) p ss = ap (λ xs. k ∷ xs) (declared_numbers (suc k) ts p ss)
-
-without_both : (a : ℕ) (xs ys : List ℕ) (m : Memory) → without a (xs ++ ys) m ≡ without a ys (without a xs m)
-without_both a [] ys m = refl
-without_both a (x ∷ xs) ys m = without_both a xs ys _
-
-ended_elsewhere : (a k : ℕ) (ts : List CType) (m : Memory) (x : ObjectName) → Own a k (length ts) x → without a (numbers k ts) m x ≡ m x
-ended_elsewhere a k [] m x out = refl
-ended_elsewhere a k (t ∷ ts) m x out =
-    ended_elsewhere a (suc k) ts _ x (λ e b c. out e (omega (arith, b)) (omega (arith, c))) ∙ changed_elsewhere m (record { activation = a; variable = k }) x None (apart_name a k (suc (length ts)) x (omega arith) out)
-
-ended_there : (a k : ℕ) (ts : List CType) (m : Memory) (j : ℕ) → k ≤ j → j < k + length ts → without a (numbers k ts) m (record { activation = a; variable = j }) ≡ None
-ended_there a k [] m j low high = absurd (omega (arith, low, high))
-ended_there a k (t ∷ ts) m j low high = by (nat_lt k j) refl (λ l. ended_there a (suc k) ts _ j l (omega (arith, high)))
-  where
-    by : (b : Bool) → nat_lt k j ≡ b → (suc k ≤ j → without a (numbers k (t ∷ ts)) m (record { activation = a; variable = j }) ≡ None) → without a (numbers k (t ∷ ts)) m (record { activation = a; variable = j }) ≡ None
-    by true e later = later (let l = below k j e in omega (arith, l))
-    by false e later =
-        let l = not_below k j e in
-        let same : k ≡ j = omega (arith, l, low) in
-        subst (λ j. without a (numbers (suc k) ts) (ended m (record { activation = a; variable = k })) (record { activation = a; variable = j }) ≡ None) same (ended_elsewhere a (suc k) ts _ (record { activation = a; variable = k }) (λ e b c. let b : suc k ≤ k = b in omega (arith, b)) ∙ changed_there m (record { activation = a; variable = k }) None)
+all_there : (f : CType → Option Object) (c : Option Object) → ((t : CType) → IsScalar t → f t ≡ c) → (a k : ℕ) (ts : List CType) (m : Memory) (j : ℕ) → AreScalars ts → k ≤ j → j < k + length ts → all_changed f a k ts m (record { activation = a; variable = j }) ≡ c
+all_there f c same a k [] m j h low high = absurd (omega (arith, low, high))
+all_there f c same a k (t ∷ ts) m j h low high = elim (eq-or-lt_of_le low) as (λ _. all_changed f a k (t ∷ ts) m (record { activation = a; variable = j }) ≡ c) [
+  | inl here ↦
+      subst (λ j. all_changed f a k (t ∷ ts) m (record { activation = a; variable = j }) ≡ c) here (all_elsewhere f a (suc k) ts _ (record { activation = a; variable = k }) (λ e b c. let b : suc k ≤ k = b in omega (arith, b)) ∙ (changed_there m (record { activation = a; variable = k }) _ ∙ same t h.0))
+  | inr later ↦ all_there f c same a (suc k) ts _ j h.1 later (omega (arith, high))
+]
 
 -- what a store typing doesn't tell of isn't there
 typed_none : (p : Program) (o : Objects) (m : Memory) (x : ObjectName) → IsTypedMemory p o m → o x ≡ None → m x ≡ None
@@ -145,7 +122,7 @@ module _ (p : Program) (n : ℕ) (typed : IsProgram p n) (w w' : World) (goes : 
   wider_frame = record { activation = fr.activation; types = fr.types ++ kept_of_stmts p ss }
 
   abbrev inside : Memory
-  inside = opened_memory p.structs fr.activation (length fr.types) (kept_of_stmts p ss) l
+  inside = all_changed (new_object p.structs) fr.activation (length fr.types) (kept_of_stmts p ss) l
 
   -- all variables that the body with its temporaries declares
   abbrev all : List ℕ
@@ -153,7 +130,7 @@ module _ (p : Program) (n : ℕ) (typed : IsProgram p n) (w w' : World) (goes : 
 
   -- memory without the temporaries
   abbrev outside : Memory → Memory
-  outside m = without fr.activation (numbers (length fr.types) (kept_of_stmts p ss)) m
+  outside m = all_changed no_object fr.activation (length fr.types) (kept_of_stmts p ss) m
 
   own_name : (x : ObjectName) → x.activation ≡ fr.activation → name_in fr false x.variable ≡ x
   own_name x e i = record { activation = sym e i; variable = x.variable }
@@ -168,9 +145,9 @@ module _ (p : Program) (n : ℕ) (typed : IsProgram p n) (w w' : World) (goes : 
       state = k.state;
       tells = λ x a. refl;
       started = begun;
-      beside = λ x shown. opened_elsewhere p.structs fr.activation (length fr.types) (kept_of_stmts p ss) l x (λ e b c. shown (omega (arith, e), ap o (sym (own_name x e)) ∙ only x.variable b)) ∙ k.beside x (λ hid. shown (inner x hid));
+      beside = λ x shown. all_elsewhere (new_object p.structs) fr.activation (length fr.types) (kept_of_stmts p ss) l x (λ e b c. shown (omega (arith, e), ap o (sym (own_name x e)) ∙ only x.variable b)) ∙ k.beside x (λ hid. shown (inner x hid));
     };
-    ready = λ j a b. (Indeterminate, opened_there p.structs fr.activation (length fr.types) (kept_of_stmts p ss) l j (stmts_scalars p n typed fr.types r false false ss h) a b);
+    ready = λ j a b. (Indeterminate, all_there (new_object p.structs) (Some (record { cells = Indeterminate ∷ []; string = false })) (λ t s. ap (λ n. Some (record { cells = replicate n Indeterminate; string = false })) (scalar_cells p.structs t s)) fr.activation (length fr.types) (kept_of_stmts p ss) l j (stmts_scalars p n typed fr.types r false false ss h) a b);
   }
 
   agree : (x : ℕ) (t : CType) → slice_get fr.types x ≡ Some t → slice_get (fr.types ++ kept_of_stmts p ss) x ≡ Some t
@@ -188,7 +165,7 @@ module _ (p : Program) (n : ℕ) (typed : IsProgram p n) (w w' : World) (goes : 
     where
       ends : without fr.activation all d.left ≡ without fr.activation (declared_in ss) (outside d.left)
       ends =
-          ap (λ xs. without fr.activation xs d.left) (declared_numbers (length fr.types) (kept_of_stmts p ss) p (stmts p (length fr.types) ss) ∙ ap (λ xs. numbers (length fr.types) (kept_of_stmts p ss) ++ xs) ((shapes_stay p).variables (length fr.types) ss)) ∙ without_both fr.activation (numbers (length fr.types) (kept_of_stmts p ss)) (declared_in ss) d.left
+          they_end fr.activation (length fr.types) (kept_of_stmts p ss) p (stmts p (length fr.types) ss) d.left ∙ ap (λ xs. without fr.activation xs (outside d.left)) ((shapes_stay p).variables (length fr.types) ss)
 
       -- of this activation and those before it no more is told
       nothing : (x : ObjectName) → x.activation ≤ fr.activation → o x ≡ None → z.memory x ≡ None
@@ -196,16 +173,16 @@ module _ (p : Program) (n : ℕ) (typed : IsProgram p n) (w w' : World) (goes : 
 
       still : (x : ObjectName) → IsHidden o fr.activation x → Own fr.activation (length fr.types) (length (kept_of_stmts p ss)) x → outside d.left x ≡ l x
       still x hid out =
-          ended_elsewhere fr.activation (length fr.types) (kept_of_stmts p ss) d.left x out ∙ (d.stay x hid out ∙ opened_elsewhere p.structs fr.activation (length fr.types) (kept_of_stmts p ss) l x out)
+          all_elsewhere no_object fr.activation (length fr.types) (kept_of_stmts p ss) d.left x out ∙ (d.stay x hid out ∙ all_elsewhere (new_object p.structs) fr.activation (length fr.types) (kept_of_stmts p ss) l x out)
 
       stays : Stay known last l (outside d.left)
       stays x hid = let a = hid.0 in still x (inner x hid) (λ e b c. omega (arith, e, a, above))
 
       at : (x : ObjectName) → (IsHidden known last x → ⊥) → (b : Bool) (c : Option (List CType)) → nat_lt fr.activation x.activation ≡ b → o x ≡ c → Own fr.activation (length fr.types) (length (kept_of_stmts p ss)) x → outside d.left x ≡ z.memory x
       at x shown true c e f out =
-          ended_elsewhere fr.activation (length fr.types) (kept_of_stmts p ss) d.left x out ∙ d.beside x (λ hid. let a = hid.0 in let b = below fr.activation x.activation e in omega (arith, a, b))
+          all_elsewhere no_object fr.activation (length fr.types) (kept_of_stmts p ss) d.left x out ∙ d.beside x (λ hid. let a = hid.0 in let b = below fr.activation x.activation e in omega (arith, a, b))
       at x shown false (Some ts) e f out =
-          ended_elsewhere fr.activation (length fr.types) (kept_of_stmts p ss) d.left x out ∙ d.beside x (λ hid. no_some ts (sym hid.1 ∙ f))
+          all_elsewhere no_object fr.activation (length fr.types) (kept_of_stmts p ss) d.left x out ∙ d.beside x (λ hid. no_some ts (sym hid.1 ∙ f))
       at x shown false None e f out =
           let a = not_below fr.activation x.activation e in
           still x (a, f) out ∙ (k.beside x shown ∙ (typed_none p o st.memory x k.state.memory f ∙ sym (nothing x a f)))
@@ -213,7 +190,7 @@ module _ (p : Program) (n : ℕ) (typed : IsProgram p n) (w w' : World) (goes : 
       beside : IsBeside known last z.memory (outside d.left)
       beside x shown = elim (own_or_not fr.activation (length fr.types) (length (kept_of_stmts p ss)) x) as (λ c. outside d.left x ≡ z.memory x) [
         | inl own ↦
-            subst (λ x. outside d.left x ≡ None) (own_name x own.0) (ended_there fr.activation (length fr.types) (kept_of_stmts p ss) d.left x.variable own.1 own.2) ∙ sym (nothing x (let e = own.0 in omega (arith, e)) (ap o (sym (own_name x own.0)) ∙ only x.variable own.1))
+            subst (λ x. outside d.left x ≡ None) (own_name x own.0) (all_there no_object None (λ t s. refl) fr.activation (length fr.types) (kept_of_stmts p ss) d.left x.variable (stmts_scalars p n typed fr.types r false false ss h) own.1 own.2) ∙ sym (nothing x (let e = own.0 in omega (arith, e)) (ap o (sym (own_name x own.0)) ∙ only x.variable own.1))
         | inr out ↦ at x shown (nat_lt fr.activation x.activation) (o x) refl refl out
       ]
 

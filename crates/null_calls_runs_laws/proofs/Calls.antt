@@ -2,7 +2,7 @@
 use Rattle.std.proofs.Common.{◌≡◌, ℕ, ◌-◌, ◌≤◌, ◌<◌, nat_lt, nat_eq, if◌then◌else◌, Bool, true, false, List, [], ◌∷◌, ◌++◌, map, length, append_assoc, Option, Some, None, slice_get, sym, ap, ◌∙◌, subst, refl, arith, true≢false}
 use Rattle.std.specs.List.{AllZip}
 use Rattle.std.specs.Cmp.{nat_eq_equiv}
-use Rattle.std.proofs.lemmas.Bool.{false≢true}
+use Rattle.std.proofs.lemmas.Bool.{false≢true, false_from_ne_true}
 use Rattle.std.proofs.lemmas.Bool.Decides.{nat_tests}
 use Rattle.dm_base.specs.declared.event.Event.{Event}
 use Rattle.dm_base.specs.declared.event.Event.TheVariants.{Pre, Post}
@@ -19,7 +19,7 @@ use Rattle.c_tree.specs.Operators.{Answer, gives, undefined}
 use Rattle.c_tree.specs.Program.{IsProgram}
 use Rattle.c_values.specs.Memory.{Object, same_name, changed}
 use Rattle.c_values.specs.Memory.{Objects as Memory}
-use Rattle.c_values.proofs.StoreLemmas.{same_is}
+use Rattle.c_values.proofs.StoreLemmas.{same_is, changed_there}
 use Rattle.c_shapes.specs.Mentions.{Callee, Calls}
 use Rattle.c_shapes.specs.CallGraph.{is_marked, marked_where}
 use Rattle.c_meaning.specs.Meaning.{Marks, Frame, World, name_in, wants, call_undefined, called, system_call_alone, called_through, eval, eval_each}
@@ -46,85 +46,37 @@ use Rattle.null_calls_runs_laws.proofs.Beside.{Same, same_for, StayBut, Does, he
 
 -- ## Memory with one object changed
 
-pub same_self : (x : ObjectName) → same_name x x ≡ true
-same_self x =
-    ap (λ b. if b then nat_eq x.variable x.variable else false) (nat_eq_equiv.refl x.activation) ∙ nat_eq_equiv.refl x.variable
-
-pub changed_there : (m : Memory) (x : ObjectName) (ob : Option Object) → changed m x ob x ≡ ob
-changed_there m x ob = ap (λ b. if b then ob else m x) (same_self x)
-
 pub changed_elsewhere : (m : Memory) (x y : ObjectName) (ob : Option Object) → (x ≡ y → ⊥) → changed m x ob y ≡ m y
-changed_elsewhere m x y ob apart = at (same_name x y) refl
-  where
-    at : (b : Bool) → same_name x y ≡ b → (if b then ob else m y) ≡ m y
-    at true e = absurd (apart (same_is x y e))
-    at false e = refl
+changed_elsewhere m x y ob apart =
+    ap (λ (b : Bool). if b then ob else m y) (false_from_ne_true (same_name x y) (λ e. apart (same_is x y e)))
 
 -- ## Values
 
 -- a value of a type is set
 pub set_of : (p : Program) (o : Objects) (t : CType) (x : Value) → HasKind p o t x → IsSet x
 set_of p o t Indeterminate h = absurd h
-set_of p o t (Int z) h = tt
-set_of p o t (Uint k) h = tt
-set_of p o t (Char z) h = tt
-set_of p o t (Uchar k) h = tt
-set_of p o t Null h = tt
-set_of p o t (Func f) h = tt
-set_of p o t (At q) h = tt
-
-abbrev is_void : CType → Bool
-is_void void = true
-is_void t = false
-
-no_integer : {A : Type 0} (i : IntType) → void ≡ integer i → A
-no_integer i e = absurd (true≢false (ap is_void e))
-
-no_pointer : {A : Type 0} (u : CType) → void ≡ pointer u → A
-no_pointer u e = absurd (true≢false (ap is_void e))
+set_of p o t x h = tt
 
 -- no value is of the type void
 void_has_none : (p : Program) (o : Objects) (x : Value) → IsCell p o void x → Indeterminate ≡ x
 void_has_none p o Indeterminate h = refl
-void_has_none p o (Int z) h = no_integer _ h.0
-void_has_none p o (Uint k) h = no_integer _ h.0
-void_has_none p o (Char z) h = no_integer _ h.0
-void_has_none p o (Uchar k) h = no_integer _ h.0
-void_has_none p o Null h = no_pointer h.0 h.1
-void_has_none p o (Func f) h = no_pointer h.0 h.1
-void_has_none p o (At q) h = no_pointer h.0 h.1
+void_has_none p o x h = cc
 
 -- where no result is kept, either none is wanted or there is none
 unkept_same : (p : Program) (o : Objects) (wanted : Bool) (t : CType) (x : Value) → is_kept wanted t ≡ false → Gives p wanted t o x → Same {A = Value} wanted x Indeterminate
 unkept_same p o false t x e h = tt
 unkept_same p o true void x e h = void_has_none p o x h
-unkept_same p o true (integer i) x e h = absurd (true≢false e)
-unkept_same p o true (pointer t) x e h = absurd (true≢false e)
-unkept_same p o true (array t n) x e h = absurd (true≢false e)
-unkept_same p o true (struct s) x e h = absurd (true≢false e)
-unkept_same p o true (function r ts) x e h = absurd (true≢false e)
+unkept_same p o wanted t x e h = absurd (true≢false e)
 
 -- a call whose result is kept is called as the plain one
 pub wants_kept : (wanted : Bool) (t : CType) → wants (is_kept wanted t) t ≡ wants wanted t
 wants_kept wanted void = refl
-wants_kept wanted (integer i) = refl
-wants_kept wanted (pointer t) = refl
-wants_kept wanted (array t n) = refl
-wants_kept wanted (struct s) = refl
-wants_kept wanted (function r ts) = refl
+wants_kept wanted t = refl
 
 kind_of_kept : (p : Program) (o : Objects) (wanted : Bool) (t : CType) (x : Value) → is_kept wanted t ≡ true → Gives p wanted t o x → HasKind p o t x
 kind_of_kept p o wanted void x e h = absurd (false≢true e)
-kind_of_kept p o true (integer i) x e h = h
-kind_of_kept p o true (pointer t) x e h = h
-kind_of_kept p o true (array t n) x e h = h
-kind_of_kept p o true (struct s) x e h = h
-kind_of_kept p o true (function r ts) x e h = h
-kind_of_kept p o false (integer i) x e h = absurd (false≢true e)
-kind_of_kept p o false (pointer t) x e h = absurd (false≢true e)
-kind_of_kept p o false (array t n) x e h = absurd (false≢true e)
-kind_of_kept p o false (struct s) x e h = absurd (false≢true e)
-kind_of_kept p o false (function r ts) x e h = absurd (false≢true e)
+kind_of_kept p o true t x e h = h
+kind_of_kept p o false t x e h = absurd (false≢true e)
 
 -- ## Comma expressions
 
@@ -163,30 +115,25 @@ Enters p w w' =
     (known : Objects) (last : ℕ) (wanted : Bool) (f : ℕ) (g : Function) (r : CType) (ts : CTypes) (vs : List Value) (o : Objects) (st : State) (more : Memory) → slice_get p.functions f ≡ Some g → g.ctype ≡ function r ts → TellsOfStatics p o → AllZip (HasKind p o) (list_of ts) vs → Now known last p o st more → Alike known last {A = Value} more (w.enter wanted f vs st) (w'.enter wanted f vs (with_memory st more))
 
 module _ (p : Program) (n : ℕ) (typed : IsProgram p n) (w w' : World) (enters : Enters p w w') (known : Objects) (last : ℕ) where
-  pub called_alike : (wanted : Bool) (f : ℕ) (r : CType) (ts : CTypes) (vs : List Value) (o : Objects) (st : State) (more : Memory) → called_type p f ≡ Some (function r ts) → TellsOfStatics p o → AllZip (HasKind p o) (list_of ts) vs → Now known last p o st more → Alike known last {A = Value} more (called p w wanted f vs st) (called (instrumented_program p) w' wanted f vs (with_memory st more))
-  called_alike wanted f r ts vs o st more e s z k =
-      subst (λ d. Alike known last {A = Value} more (called p w wanted f vs st) (if nat_lt f d then w'.enter wanted f vs (with_memory st more) else call_undefined (f - d) vs (with_memory st more))) (sym (shapes_stay p).many) (at (nat_lt f (defined p)) refl)
+  -- a function of the program is entered, and what else is called does alike
+  entered_alike : (rest : ℕ → List Value → State → Result Value) (types : List CType) (wanted : Bool) (f : ℕ) (r : CType) (ts : CTypes) (vs : List Value) (o : Objects) (st : State) (more : Memory) → slice_get (map type_of_defined p.functions ++ types) f ≡ Some (function r ts) → TellsOfStatics p o → AllZip (HasKind p o) (list_of ts) vs → Now known last p o st more → Alike known last {A = Value} more (rest (f - defined p) vs st) (rest (f - defined p) vs (with_memory st more)) → Alike known last {A = Value} more (if nat_lt f (defined p) then w.enter wanted f vs st else rest (f - defined p) vs st) (if nat_lt f (defined (instrumented_program p)) then w'.enter wanted f vs (with_memory st more) else rest (f - defined (instrumented_program p)) vs (with_memory st more))
+  entered_alike rest types wanted f r ts vs o st more e s z k other =
+      subst (λ d. Alike known last {A = Value} more (if nat_lt f (defined p) then w.enter wanted f vs st else rest (f - defined p) vs st) (if nat_lt f d then w'.enter wanted f vs (with_memory st more) else rest (f - d) vs (with_memory st more))) (sym (shapes_stay p).many) (at (nat_lt f (defined p)) refl)
     where
-      whole : slice_get (map type_of_defined p.functions ++ (sys_types ++ null_types)) f ≡ Some (function r ts)
-      whole = ap (λ xs. slice_get xs f) (sym (append_assoc (map type_of_defined p.functions) sys_types null_types)) ∙ e
-
-      at : (b : Bool) → nat_lt f (defined p) ≡ b → Alike known last {A = Value} more (if b then w.enter wanted f vs st else call_undefined (f - defined p) vs st) (if b then w'.enter wanted f vs (with_memory st more) else call_undefined (f - defined p) vs (with_memory st more))
+      at : (b : Bool) → nat_lt f (defined p) ≡ b → Alike known last {A = Value} more (if b then w.enter wanted f vs st else rest (f - defined p) vs st) (if b then w'.enter wanted f vs (with_memory st more) else rest (f - defined p) vs (with_memory st more))
       at true d =
           let less : f < length p.functions = grind (arith, nat_tests) in
-          let g = defined_at p.functions (sys_types ++ null_types) f (function r ts) less whole in
+          let g = defined_at p.functions types f (function r ts) less e in
           enters known last wanted f g.0 r ts vs o st more g.1 g.2 s z k
-      at false d = undefined_does known last (f - defined p) vs st more (zip_shown known last p n typed (null_calls_of p) (null_calls_recorded p) o (list_of ts) vs st more k z) k.beside
+      at false d = other
+
+  pub called_alike : (wanted : Bool) (f : ℕ) (r : CType) (ts : CTypes) (vs : List Value) (o : Objects) (st : State) (more : Memory) → called_type p f ≡ Some (function r ts) → TellsOfStatics p o → AllZip (HasKind p o) (list_of ts) vs → Now known last p o st more → Alike known last {A = Value} more (called p w wanted f vs st) (called (instrumented_program p) w' wanted f vs (with_memory st more))
+  called_alike wanted f r ts vs o st more e s z k =
+      entered_alike call_undefined (sys_types ++ null_types) wanted f r ts vs o st more (ap (λ xs. slice_get xs f) (sym (append_assoc (map type_of_defined p.functions) sys_types null_types)) ∙ e) s z k (undefined_does known last (f - defined p) vs st more (zip_shown known last p n typed (null_calls_of p) (null_calls_recorded p) o (list_of ts) vs st more k z) k.beside)
 
   through_alike : (wanted : Bool) (f : ℕ) (r : CType) (ts : CTypes) (vs : List Value) (o : Objects) (st : State) (more : Memory) → value_type p f ≡ Some (function r ts) → TellsOfStatics p o → AllZip (HasKind p o) (list_of ts) vs → Now known last p o st more → Alike known last {A = Value} more (called_through p w wanted f vs st) (called_through (instrumented_program p) w' wanted f vs (with_memory st more))
   through_alike wanted f r ts vs o st more e s z k =
-      subst (λ d. Alike known last {A = Value} more (called_through p w wanted f vs st) (if nat_lt f d then w'.enter wanted f vs (with_memory st more) else system_call_alone (f - d) vs (with_memory st more))) (sym (shapes_stay p).many) (at (nat_lt f (defined p)) refl)
-    where
-      at : (b : Bool) → nat_lt f (defined p) ≡ b → Alike known last {A = Value} more (if b then w.enter wanted f vs st else system_call_alone (f - defined p) vs st) (if b then w'.enter wanted f vs (with_memory st more) else system_call_alone (f - defined p) vs (with_memory st more))
-      at true d =
-          let less : f < length p.functions = grind (arith, nat_tests) in
-          let g = defined_at p.functions sys_types f (function r ts) less e in
-          enters known last wanted f g.0 r ts vs o st more g.1 g.2 s z k
-      at false d = alone_does known last (f - defined p) vs st more (zip_shown known last p n typed (null_calls_of p) (null_calls_recorded p) o (list_of ts) vs st more k z) k.beside
+      entered_alike system_call_alone sys_types wanted f r ts vs o st more e s z k (alone_does known last (f - defined p) vs st more (zip_shown known last p n typed (null_calls_of p) (null_calls_recorded p) o (list_of ts) vs st more k z) k.beside)
 
   -- a call through a value
   pub callee_alike : (wanted : Bool) (r : CType) (ts : CTypes) (v : Value) (vs : List Value) (o : Objects) (st : State) (more : Memory) → HasKind p o (pointer (function r ts)) v → TellsOfStatics p o → GiveAll p (list_of ts) o vs → Now known last p o st more → Alike known last {A = Value} more (then_do (answered (callee v) st) (λ f st. called_through p w wanted f vs st)) (then_do (answered (callee v) (with_memory st more)) (λ f st. called_through (instrumented_program p) w' wanted f vs st))

@@ -1,5 +1,6 @@
 -- Expressions with null calls round their marked calls do what the expressions do.
 use Rattle.std.proofs.Common.{◌≡◌, ℕ, suc, ◌+◌, ◌≤◌, ◌<◌, if◌then◌else◌, Bool, true, false, List, [], ◌∷◌, ◌++◌, length, Some, None, sym, ap, ◌∙◌, subst, refl, arith}
+use Rattle.std.proofs.lemmas.List.{length-append}
 use Rattle.c_tree.specs.declared.value.Value.{Value}
 use Rattle.c_tree.specs.declared.value.Value.TheVariants.{Indeterminate, Func}
 use Rattle.c_tree.specs.Tree.{CType, pointer, function, CTypes, no_types, more_types, list_of, Program, type_of}
@@ -41,23 +42,16 @@ use Rattle.null_calls_runs_laws.proofs.Calls.{set_of, wants_kept, IsMore, keep_a
 
 -- ## Numbers of temporaries
 
-many_both : (xs ys : List CType) → length (xs ++ ys) ≡ length xs + length ys
-many_both [] ys = let none : length ys ≡ 0 + length ys = omega arith in none
-many_both (x ∷ xs) ys =
-    let e = many_both xs ys in
-    let more : suc (length (xs ++ ys)) ≡ suc (length xs) + length ys = omega (arith, e) in
-    more
-
 -- temporaries of these types from k on are some of the activation's
 abbrev pub Fits : (first limit k : ℕ) → List CType → Type 0
 Fits first limit k xs = (first ≤ k) × (k + length xs ≤ limit)
 
 pub fits_left : (first limit k : ℕ) (xs ys : List CType) → Fits first limit k (xs ++ ys) → Fits first limit k xs
-fits_left first limit k xs ys h = let e = many_both xs ys in let b = h.1 in (h.0, omega (arith, b, e))
+fits_left first limit k xs ys h = let e = length-append xs ys in let b = h.1 in (h.0, omega (arith, b, e))
 
 pub fits_right : (first limit k : ℕ) (xs ys : List CType) → Fits first limit k (xs ++ ys) → Fits first limit (k + length xs) ys
 fits_right first limit k xs ys h =
-    let e = many_both xs ys in let a = h.0 in let b = h.1 in (omega (arith, a), omega (arith, b, e))
+    let e = length-append xs ys in let a = h.0 in let b = h.1 in (omega (arith, a), omega (arith, b, e))
 
 pub from_here : (k n : ℕ) → k ≤ k + n
 from_here k n = omega arith
@@ -185,7 +179,7 @@ module _ (p : Program) (n : ℕ) (typed : IsProgram p n) (w w' : World) (goes : 
       marked b xs e' room =
           subst (λ xs. Room k ((xs ++ of_result wanted t) ++ kept_of_all p es) → Do {A = Value} wanted k more (Plain wanted (call t site f es) st) (OtherEach wanted (keep_all k xs (arguments p (k + length (xs ++ of_result wanted t)) es) (Behind wanted site (k + length xs) t (call t 0 f (kept_values k xs)))) (with_memory st more))) e' (λ room.
           let later = fits_right (length fr.types) limit k (list_of ts ++ of_result wanted t) (kept_of_all p es) room in
-          let sum = many_both (list_of ts) (of_result wanted t) in
+          let sum = length-append (list_of ts) (of_result wanted t) in
           let end = later.1 in
           direct_marked k wanted t site f es o st more s ts e m b room.0 (λ c. let one = result_one wanted t c in omega (arith, sum, one, end)) (k + length (list_of ts ++ of_result wanted t)) (keeps (k + length (list_of ts ++ of_result wanted t)) (omega (arith, sum)) later)) room
 
@@ -266,7 +260,7 @@ module _ (p : Program) (n : ℕ) (typed : IsProgram p n) (w w' : World) (goes : 
       marked b v xs same size many room =
           subst (λ xs. size ≡ suc (length (xs ++ of_result wanted t)) → Room (k + length (kept p true d)) ((type_of d ∷ (xs ++ of_result wanted t)) ++ kept_of_all p es) → Do {A = Value} wanted k more (Plain wanted (call_through t site d es) st) (OtherEach wanted (more_exprs (keep v (k + length (kept p true d)) (expr p k true d)) (keep_all (suc (k + length (kept p true d))) xs (arguments p ((k + length (kept p true d)) + size) es) (Behind wanted site (suc (k + length (kept p true d)) + length xs) t (call_through t 0 (kept_value v (k + length (kept p true d))) (kept_values (suc (k + length (kept p true d))) xs))))) (with_memory st more))) same (λ many room.
           let later = fits_right (length fr.types) limit (k + length (kept p true d)) (type_of d ∷ (list_of ts ++ of_result wanted t)) (kept_of_all p es) room in
-          let sum = many_both (list_of ts) (of_result wanted t) in
+          let sum = length-append (list_of ts) (of_result wanted t) in
           let end : k + length (kept p true d) + suc (length (list_of ts ++ of_result wanted t)) + length (kept_of_all p es) ≤ limit = later.1 in
           let first_k = whole.0 in
           through_marked k (k + length (kept p true d)) ((k + length (kept p true d)) + size) wanted t v site d (expr p k true d) es o st more s ts e h m b first_k (from_here k (length (kept p true d))) (omega (arith, end)) (λ c. let one = result_one wanted t c in omega (arith, sum, one, end)) a does_here (λ u st l s a. keeps (suc (k + length (kept p true d))) ((k + length (kept p true d)) + size) b u st l (omega arith) (omega (arith, many, sum)) (omega (arith, first_k)) (omega (arith, first_k), omega (arith, many, end)) s a)) many room

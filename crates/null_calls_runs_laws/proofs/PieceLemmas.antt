@@ -2,6 +2,8 @@
 use Rattle.std.proofs.Common.{◌≡◌, ℕ, zero, suc, ◌+◌, ◌*◌, ◌-◌, ◌≤◌, nat_lt, if◌then◌else◌, Bool, true, false, List, [], ◌∷◌, ◌++◌, map, Some, option_map, slice_get, length, append-nil, ap, ◌∙◌, subst, refl, arith}
 use Rattle.std.specs.List.{list_any}
 use Rattle.std.proofs.lemmas.Bool.Decides.{nat_tests}
+use Rattle.std.proofs.lemmas.List.{length-map}
+use Rattle.std.proofs.lemmas.Option.{slice_get-map}
 use Rattle.dm_base.specs.declared.event.Event.{Event}
 use Rattle.c_tree.specs.declared.value.Pointer.{Pointer}
 use Rattle.c_tree.specs.declared.value.Value.{Value}
@@ -28,30 +30,10 @@ use Rattle.null_calls_runs_laws.proofs.Beside.{after_none}
 
 -- ## Shapes
 
-many_mapped : {A B : Type 0} (f : A → B) (xs : List A) → length (map f xs) ≡ length xs
-many_mapped f [] = refl
-many_mapped f (x ∷ xs) = ap suc (many_mapped f xs)
-
-get_mapped : {A B : Type 0} (f : A → B) (xs : List A) (k : ℕ) → slice_get (map f xs) k ≡ option_map f (slice_get xs k)
-get_mapped f [] k = refl
-get_mapped f (x ∷ xs) zero = refl
-get_mapped f (x ∷ xs) (suc k) = get_mapped f xs k
-
 module _ (p : Program) where
   same_declared : (k : ℕ) (s : Stmt) → declared_by (stmt p k s) ≡ declared_by s
   same_declared k (block ss) = refl
-  same_declared k empty = refl
-  same_declared k (evaluate e) = refl
-  same_declared k (declare x is) = refl
-  same_declared k (if_else e s t) = refl
-  same_declared k (while_loop e s) = refl
-  same_declared k (do_loop s e) = refl
-  same_declared k (for_loop first test step s) = refl
-  same_declared k (switch_on e gs) = refl
-  same_declared k break_off = refl
-  same_declared k continue_on = refl
-  same_declared k return_void = refl
-  same_declared k (return_value e) = refl
+  same_declared k s = refl
 
   same_variables : (k : ℕ) (ss : Stmts) → declared_in (stmts p k ss) ≡ declared_in ss
   same_variables k no_stmts = refl
@@ -75,11 +57,7 @@ module _ (p : Program) where
 
   kept_type : (t : CType) → marked_type (is_kept true t) t ≡ t
   kept_type void = refl
-  kept_type (integer i) = refl
-  kept_type (pointer t) = refl
-  kept_type (array t n) = refl
-  kept_type (struct s) = refl
-  kept_type (function r ts) = refl
+  kept_type t = refl
 
   if_type : (b : Bool) (x y : Expr) (t : CType) → type_of x ≡ t → type_of y ≡ t → type_of (if b then x else y) ≡ t
   if_type true x y t h k = h
@@ -87,30 +65,10 @@ module _ (p : Program) where
 
   mutual
     same_type : (vars : List CType) (k : ℕ) (e : Expr) → IsValue p vars e → type_of (expr p k true e) ≡ type_of e
-    same_type vars k (constant t v) h = refl
-    same_type vars k (function_name t f) h = absurd h
-    same_type vars k (string_place t n) h = absurd h
-    same_type vars k (variable t s n) h = absurd h
-    same_type vars k (dereference t a) h = absurd h
-    same_type vars k (field t first a) h = absurd h
-    same_type vars k (load t a) h = refl
-    same_type vars k (address_of t a) h = refl
-    same_type vars k (decay t a) h = refl
-    same_type vars k (discard t a) h = refl
-    same_type vars k (unary_operation t op a) h = refl
-    same_type vars k (conversion t to a) h = refl
-    same_type vars k (arithmetic t op a b) h = refl
-    same_type vars k (comparison t op a b) h = refl
-    same_type vars k (pointer_add t first subtracted a b) h = refl
-    same_type vars k (pointer_diff t a b) h = refl
-    same_type vars k (and t a b) h = refl
-    same_type vars k (or t a b) h = refl
-    same_type vars k (assign t a b) h = refl
-    same_type vars k (update t op old a b) h = refl
-    same_type vars k (conditional t c a b) h = refl
     same_type vars k (comma t es) h = same_members vars t es h
     same_type vars k (call t site f es) h = if_type (is_marked p (Direct f)) _ _ t (kept_type t) refl
     same_type vars k (call_through t site a es) h = if_type (is_marked p (Through (type_of a))) _ _ t (kept_type t) refl
+    same_type vars k e h = refl
 
     same_members : (vars : List CType) (t : CType) (es : Exprs) → AreMembers p vars t es → type_of_members p true t es ≡ t
     same_members vars t no_exprs h = absurd h
@@ -128,7 +86,7 @@ module _ (p : Program) where
   -- ## Null calls
 
   many : defined (instrumented_program p) ≡ defined p
-  many = many_mapped {A = Function} {B = Function} (instrumented_function p) p.functions
+  many = length-map p.functions (instrumented_function p)
 
   not_less : (a b : ℕ) → b ≤ a → nat_lt a b ≡ false
   not_less a b h = at (nat_lt a b) refl
@@ -167,13 +125,7 @@ module _ (p : Program) (w : World) (marks : Marks) (fr : Frame) where
     where
       at : (v : Value) → IsSet v → after [] (answered (cell_value (Some v)) st) ≡ Go v st []
       at Indeterminate h = absurd h
-      at (Int z) h = refl
-      at (Uint n) h = refl
-      at (Char z) h = refl
-      at (Uchar n) h = refl
-      at Null h = refl
-      at (Func f) h = refl
-      at (At q) h = refl
+      at v h = refl
 
   give_kept : (k : ℕ) (ts : List CType) (vs : List Value) (st : State) → AreKept st.memory fr k ts vs → eval_all p w marks fr (kept_values k ts) st ≡ Go vs st []
   give_kept k [] [] st h = refl
@@ -191,13 +143,13 @@ module _ (p : Program) (w : World) (marks : Marks) (fr : Frame) where
       ap (λ c. then_do (then_do (fresh p.structs fr k c st) (λ y st. initialise p w marks fr k no_inits st)) (λ x st. on_exit x st (exec_all p w marks fr (declared_from o (suc k) ts ss)))) is ∙ (after_none {A = Exit} (exec_all p w marks fr (declared_from o (suc k) ts ss) now) ∙ declares o (suc k) ts ss now (λ i u e. let next : k + suc i ≡ suc k + i = omega arith in subst (λ j. slice_get fr.types j ≡ Some u) next (h (suc i) u e)))
 
 pub keeping_sets : KeepingSets
-keeping_sets p w marks fr wanted t k e v old st later events h kept = keeps p w marks fr wanted t k e v old st later events h kept
+keeping_sets = keeps
 
 pub kept_is_given : KeptIsGiven
-kept_is_given p w marks fr wanted t k v st kept set = gives_kept p w marks fr wanted t k v st kept set
+kept_is_given = gives_kept
 
 pub kept_are_given : KeptAreGiven
-kept_are_given p w marks fr k ts vs st h = give_kept p w marks fr k ts vs st h
+kept_are_given = give_kept
 
 pub declarations_declare : DeclarationsDeclare
 declarations_declare p q w marks fr k ts ss st h = declares q w marks fr p k ts ss st h
@@ -208,7 +160,7 @@ types_stay p vars k e = (λ h. same_type p vars k e h, λ h wanted. same_place p
 pub shapes_stay : ShapesStay
 shapes_stay p = record {
   many = many p;
-  functions = λ f. get_mapped {A = Function} {B = Function} (instrumented_function p) p.functions f;
+  functions = λ f. slice_get-map {A = Function} {B = Function} (instrumented_function p) p.functions f;
   variables = same_variables p;
   selection = same_selected p;
 }

@@ -65,26 +65,18 @@ of_result_type : (r : CType) (ts : CTypes) → IsResult r → gives_result (func
 of_result_type void ts h = refl
 of_result_type (integer i) ts h = refl
 of_result_type (pointer t) ts h = refl
-of_result_type (array t n) ts h = absurd h
-of_result_type (struct s) ts h = absurd h
-of_result_type (function r us) ts h = absurd h
+of_result_type r ts h = absurd h
 
 is_result : (r : CType) (ts : CTypes) → gives_result (function r ts) ≡ true → IsResult r
 is_result void ts h = tt
 is_result (integer i) ts h = tt
 is_result (pointer t) ts h = tt
-is_result (array t n) ts h = absurd (false≢true h)
-is_result (struct s) ts h = absurd (false≢true h)
-is_result (function r us) ts h = absurd (false≢true h)
+is_result r ts h = absurd (false≢true h)
 
 -- a result that is kept is a scalar
 pub kept_scalar : (wanted : Bool) (t : CType) → IsResult t → is_kept wanted t ≡ true → IsScalar t
 kept_scalar wanted void h k = absurd (false≢true k)
-kept_scalar wanted (integer i) h k = tt
-kept_scalar wanted (pointer t) h k = tt
-kept_scalar wanted (array t n) h k = absurd h
-kept_scalar wanted (struct s) h k = absurd h
-kept_scalar wanted (function r us) h k = absurd h
+kept_scalar wanted t h k = h
 
 result_scalars : (wanted : Bool) (t : CType) → IsResult t → AreScalars (of_result wanted t)
 result_scalars wanted t h = if_scalars (is_kept wanted t) (t ∷ []) (λ e. (kept_scalar wanted t h e, tt))
@@ -199,7 +191,6 @@ module _ (p : Program) (n : ℕ) (typed : IsProgram p n) where
     mutual
       stmt_scalars : (r : CType) (breaks continues : Bool) (s : Stmt) → IsStmt p vars r breaks continues s → AreScalars (kept_of_stmt p s)
       stmt_scalars r breaks continues (block ss) h = stmts_scalars r breaks continues ss h
-      stmt_scalars r breaks continues empty h = tt
       stmt_scalars r breaks continues (evaluate e) h = value_scalars false e h
       stmt_scalars r breaks continues (declare x is) h = inits_scalars _ is h.2
       stmt_scalars r breaks continues (if_else e s t) h =
@@ -212,10 +203,8 @@ module _ (p : Program) (n : ℕ) (typed : IsProgram p n) where
           scalars_both (kept_of_stmts p first) (kept_of_maybe p true test ++ (kept_of_maybe p false step ++ kept_of_stmt p s)) (first_scalars first h.0) (scalars_both (kept_of_maybe p true test) (kept_of_maybe p false step ++ kept_of_stmt p s) (test_scalars test h.1) (scalars_both (kept_of_maybe p false step) (kept_of_stmt p s) (step_scalars step h.2) (stmt_scalars r true true s h.3)))
       stmt_scalars r breaks continues (switch_on e gs) h =
           scalars_both (kept p true e) (kept_of_groups p gs) (value_scalars true e h.3) (groups_scalars r continues h.0 gs h.5)
-      stmt_scalars r breaks continues break_off h = tt
-      stmt_scalars r breaks continues continue_on h = tt
-      stmt_scalars r breaks continues return_void h = tt
       stmt_scalars r breaks continues (return_value e) h = value_scalars true e h.2
+      stmt_scalars r breaks continues s h = tt
 
       pub stmts_scalars : (r : CType) (breaks continues : Bool) (ss : Stmts) → AreStmts p vars r breaks continues ss → AreScalars (kept_of_stmts p ss)
       stmts_scalars r breaks continues no_stmts h = tt

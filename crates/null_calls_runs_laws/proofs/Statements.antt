@@ -107,19 +107,8 @@ module _ (p : Program) (n : ℕ) (typed : IsProgram p n) (w w' : World) (goes : 
   variable_shown o x t s a e = told_shown known fr.activation p o (name_in fr false x) (flat p.structs t) a (s.variables x t e)
 
   one_shown : (o : Objects) (r : CType) (breaks continues : Bool) (a : Stmt) → IsTypedFrame p o fr → TellsAlike fr.activation known o → IsStmt p fr.types r breaks continues a → AreShown known fr.activation fr.activation (declared_by a)
-  one_shown o r breaks continues (block ss) s a h = tt
-  one_shown o r breaks continues empty s a h = tt
-  one_shown o r breaks continues (evaluate e) s a h = tt
   one_shown o r breaks continues (declare x is) s a h = (variable_shown o x h.0 s a h.1, tt)
-  one_shown o r breaks continues (if_else e b c) s a h = tt
-  one_shown o r breaks continues (while_loop e b) s a h = tt
-  one_shown o r breaks continues (do_loop b e) s a h = tt
-  one_shown o r breaks continues (for_loop ss test step b) s a h = tt
-  one_shown o r breaks continues (switch_on e gs) s a h = tt
-  one_shown o r breaks continues break_off s a h = tt
-  one_shown o r breaks continues continue_on s a h = tt
-  one_shown o r breaks continues return_void s a h = tt
-  one_shown o r breaks continues (return_value e) s a h = tt
+  one_shown o r breaks continues b s a h = tt
 
   block_shown : (o : Objects) (r : CType) (breaks continues : Bool) (ss : Stmts) → IsTypedFrame p o fr → TellsAlike fr.activation known o → AreStmts p fr.types r breaks continues ss → AreShown known fr.activation fr.activation (declared_in ss)
   block_shown o r breaks continues no_stmts s a h = tt
