@@ -4,7 +4,7 @@ use Rattle.std.proofs.Math.Nat.{eq-or-lt_of_le}
 use Rattle.std.specs.Cmp.{nat_eq_equiv}
 use Rattle.c_tree.specs.declared.value.ObjectName.{ObjectName}
 use Rattle.c_tree.specs.declared.value.Value.TheVariants.{Indeterminate}
-use Rattle.c_tree.specs.Tree.{CType, void, integer, pointer, array, struct, function, Program}
+use Rattle.c_tree.specs.Tree.{CType, integer, pointer, Program}
 use Rattle.c_tree.specs.Tree.{Stmt, block, Stmts}
 use Rattle.c_tree.specs.Layout.{Structs, cells}
 use Rattle.c_tree.specs.Kinds.{Objects}

@@ -1,16 +1,14 @@
 -- A marked call does what the call does, and its null calls and temporaries besides.
-use Rattle.std.proofs.Common.{◌≡◌, ℕ, ◌-◌, ◌≤◌, ◌<◌, nat_lt, nat_eq, if◌then◌else◌, Bool, true, false, List, [], ◌∷◌, ◌++◌, map, length, append_assoc, Option, Some, None, slice_get, sym, ap, ◌∙◌, subst, refl, arith, true≢false}
+use Rattle.std.proofs.Common.{◌≡◌, ℕ, ◌-◌, ◌≤◌, ◌<◌, nat_lt, if◌then◌else◌, Bool, true, false, List, [], ◌∷◌, ◌++◌, map, length, append_assoc, Option, Some, None, slice_get, sym, ap, ◌∙◌, subst, refl, arith, true≢false}
 use Rattle.std.specs.List.{AllZip}
-use Rattle.std.specs.Cmp.{nat_eq_equiv}
 use Rattle.std.proofs.lemmas.Bool.{false≢true, false_from_ne_true}
 use Rattle.std.proofs.lemmas.Bool.Decides.{nat_tests}
 use Rattle.dm_base.specs.declared.event.Event.{Event}
 use Rattle.dm_base.specs.declared.event.Event.TheVariants.{Pre, Post}
-use Rattle.c_tree.specs.declared.value.IntType.{IntType}
 use Rattle.c_tree.specs.declared.value.ObjectName.{ObjectName}
 use Rattle.c_tree.specs.declared.value.Value.{Value}
-use Rattle.c_tree.specs.declared.value.Value.TheVariants.{Indeterminate, Int, Uint, Char, Uchar, Null, Func, At}
-use Rattle.c_tree.specs.Tree.{CType, void, integer, pointer, array, struct, function, CTypes, list_of, Function, Program}
+use Rattle.c_tree.specs.declared.value.Value.TheVariants.{Indeterminate}
+use Rattle.c_tree.specs.Tree.{CType, void, pointer, function, CTypes, list_of, Function, Program}
 use Rattle.c_tree.specs.Tree.{Expr, Exprs, no_exprs, more_exprs}
 use Rattle.c_tree.specs.Functions.{sys_types, null_types, defined, type_of_defined, value_types, value_type, called_type}
 use Rattle.c_tree.specs.Layout.{cells}

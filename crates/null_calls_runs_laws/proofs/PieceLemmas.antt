@@ -1,5 +1,5 @@
 -- What the pieces of a marked call do.
-use Rattle.std.proofs.Common.{◌≡◌, ℕ, zero, suc, ◌+◌, ◌*◌, ◌-◌, ◌≤◌, nat_lt, if◌then◌else◌, Bool, true, false, List, [], ◌∷◌, ◌++◌, map, Some, option_map, slice_get, length, append-nil, ap, ◌∙◌, subst, refl, arith}
+use Rattle.std.proofs.Common.{◌≡◌, ℕ, suc, ◌+◌, ◌*◌, ◌-◌, ◌≤◌, nat_lt, if◌then◌else◌, Bool, true, false, List, [], ◌∷◌, ◌++◌, Some, option_map, slice_get, length, append-nil, ap, ◌∙◌, subst, refl, arith}
 use Rattle.std.specs.List.{list_any}
 use Rattle.std.proofs.lemmas.Bool.Decides.{nat_tests}
 use Rattle.std.proofs.lemmas.List.{length-map}
@@ -7,12 +7,12 @@ use Rattle.std.proofs.lemmas.Option.{slice_get-map}
 use Rattle.dm_base.specs.declared.event.Event.{Event}
 use Rattle.c_tree.specs.declared.value.Pointer.{Pointer}
 use Rattle.c_tree.specs.declared.value.Value.{Value}
-use Rattle.c_tree.specs.declared.value.Value.TheVariants.{Indeterminate, Int, Uint, Char, Uchar, Null, Func, At}
+use Rattle.c_tree.specs.declared.value.Value.TheVariants.{Indeterminate, Uint, At}
 use Rattle.c_tree.specs.declared.tree.TLabel.{TLabel}
-use Rattle.c_tree.specs.Tree.{CType, void, integer, pointer, array, struct, function, Function, Program, type_of}
-use Rattle.c_tree.specs.Tree.{Expr, constant, function_name, string_place, variable, dereference, load, address_of, decay, discard, field, unary_operation, conversion, arithmetic, comparison, pointer_add, pointer_diff, and, or, assign, update, conditional, comma, call, call_through}
+use Rattle.c_tree.specs.Tree.{CType, void, Function, Program, type_of}
+use Rattle.c_tree.specs.Tree.{Expr, function_name, string_place, variable, dereference, field, comma, call, call_through}
 use Rattle.c_tree.specs.Tree.{Exprs, no_exprs, more_exprs, no_inits}
-use Rattle.c_tree.specs.Tree.{Stmt, block, empty, evaluate, declare, if_else, while_loop, do_loop, for_loop, switch_on, break_off, continue_on, return_void, return_value, Stmts, no_stmts, more_stmts, Groups, no_groups, more_groups}
+use Rattle.c_tree.specs.Tree.{Stmt, block, Stmts, no_stmts, more_stmts, Groups, no_groups, more_groups}
 use Rattle.c_tree.specs.Layout.{cells}
 use Rattle.c_tree.specs.Functions.{defined}
 use Rattle.c_tree.specs.Typed.{IsValue, IsPlace, AreMembers}
@@ -23,6 +23,7 @@ use Rattle.c_shapes.specs.CallGraph.{is_marked}
 use Rattle.c_meaning.specs.Meaning.{Marks, Frame, World, name_in, wants, call_undefined, called, eval, eval_all, fresh, initialise, exec_all, declared_by, declared_in, is_case, is_default, group_with, count_groups, or_else, selected}
 use Rattle.c_meaning.specs.Pointers.{store_place}
 use Rattle.c_meaning.specs.Results.{State, with_memory, Go, after, then_do, answered, remembered, Exit, on_exit}
+use Rattle.null_calls_rules.proofs.Lists.{isnt_below, if_has}
 use Rattle.null_calls_rules.specs.Temporaries.{is_kept}
 use Rattle.null_calls_rules.specs.InstrumentedPrograms.{keep, kept_value, kept_values, marked_type, type_of_members, kept_of_stmt, kept_of_stmts, expr, stmt, stmts, groups, declared_from, instrumented_function, instrumented_program}
 use Rattle.null_calls_runs_laws.specs.Pieces.{IsKept, IsSet, AreKept, NullCallsAreEvents, KeepingSets, KeptIsGiven, KeptAreGiven, declaring, DeclarationsDeclare, TypesStay, ShapesStay}
@@ -59,15 +60,11 @@ module _ (p : Program) where
   kept_type void = refl
   kept_type t = refl
 
-  if_type : (b : Bool) (x y : Expr) (t : CType) → type_of x ≡ t → type_of y ≡ t → type_of (if b then x else y) ≡ t
-  if_type true x y t h k = h
-  if_type false x y t h k = k
-
   mutual
     same_type : (vars : List CType) (k : ℕ) (e : Expr) → IsValue p vars e → type_of (expr p k true e) ≡ type_of e
     same_type vars k (comma t es) h = same_members vars t es h
-    same_type vars k (call t site f es) h = if_type (is_marked p (Direct f)) _ _ t (kept_type t) refl
-    same_type vars k (call_through t site a es) h = if_type (is_marked p (Through (type_of a))) _ _ t (kept_type t) refl
+    same_type vars k (call t site f es) h = if_has (λ e. type_of e ≡ t) (is_marked p (Direct f)) _ _ (λ b. kept_type t) (λ b. refl)
+    same_type vars k (call_through t site a es) h = if_has (λ e. type_of e ≡ t) (is_marked p (Through (type_of a))) _ _ (λ b. kept_type t) (λ b. refl)
     same_type vars k e h = refl
 
     same_members : (vars : List CType) (t : CType) (es : Exprs) → AreMembers p vars t es → type_of_members p true t es ≡ t
@@ -88,19 +85,12 @@ module _ (p : Program) where
   many : defined (instrumented_program p) ≡ defined p
   many = length-map p.functions (instrumented_function p)
 
-  not_less : (a b : ℕ) → b ≤ a → nat_lt a b ≡ false
-  not_less a b h = at (nat_lt a b) refl
-    where
-      at : (c : Bool) → nat_lt a b ≡ c → c ≡ false
-      at true e = absurd (grind (arith, nat_tests))
-      at false e = refl
-
   null_called : (w : World) (wanted : Bool) (x : ℕ) (vs : List Value) (st : State) → called (instrumented_program p) w wanted (defined p + x) vs st ≡ call_undefined x vs st
   null_called w wanted x vs st =
       let e = many in
       let past : defined (instrumented_program p) ≤ defined p + x = omega (arith, e) in
       let number : defined p + x - defined (instrumented_program p) ≡ x = omega (arith, e) in
-      ap (λ b. if b then w.enter wanted (defined p + x) vs st else call_undefined (defined p + x - defined (instrumented_program p)) vs st) (not_less (defined p + x) (defined (instrumented_program p)) past) ∙ ap (λ x. call_undefined x vs st) number
+      ap (λ b. if b then w.enter wanted (defined p + x) vs st else call_undefined (defined p + x - defined (instrumented_program p)) vs st) (isnt_below (defined p + x) (defined (instrumented_program p)) past) ∙ ap (λ x. call_undefined x vs st) number
 
 pub null_calls_are_events : NullCallsAreEvents
 null_calls_are_events p w fr wanted site st =
@@ -111,48 +101,35 @@ null_calls_are_events p w fr wanted site st =
 first_cell : (width : ℕ) → 0 + 0 * width + 0 ≡ 0
 first_cell width = omega arith
 
-module _ (p : Program) (w : World) (marks : Marks) (fr : Frame) where
-  abbrev the_place : CType → ℕ → Pointer
-  the_place t k = record { name = name_in fr false k; first = 0; width = cells p.structs t; elements = 1; index = 0 }
-
-  keeps : (wanted : Bool) (t : CType) (k : ℕ) (e : Expr) (v old : Value) (st later : State) (events : List Event) → eval p w marks fr true e st ≡ Go v later events → IsKept later.memory fr k old → eval p w marks fr wanted (keep t k e) st ≡ Go v (with_memory later (changed later.memory (name_in fr false k) (Some (record { cells = v ∷ []; string = false })))) events
-  keeps wanted t k e v old st later events h kept =
-      ap (λ r. after [] (then_do r (λ v st. remembered (store_place st.memory (At (the_place t k)) v) v st))) h ∙ (ap (λ c. after [] (after events (remembered (and_then (there c) (λ o. and_then (element (the_place t k)) (λ first. and_then (writable o) (λ cells. and_then (set_cell cells (first + 0) v (slice_get cells (first + 0))) (λ new. gives (changed later.memory (name_in fr false k) (Some new))))))) v later))) kept ∙ (ap (λ i. after [] (after events (remembered (and_then (set_cell (old ∷ []) i v (slice_get (old ∷ []) i)) (λ new. gives (changed later.memory (name_in fr false k) (Some new)))) v later))) (first_cell (cells p.structs t)) ∙ ap (λ u. Go v (with_memory later (changed later.memory (name_in fr false k) (Some (record { cells = v ∷ []; string = false })))) u) (append-nil events)))
-
-  gives_kept : (wanted : Bool) (t : CType) (k : ℕ) (v : Value) (st : State) → IsKept st.memory fr k v → IsSet v → eval p w marks fr wanted (kept_value t k) st ≡ Go v st []
-  gives_kept wanted t k v st kept set =
-      ap (λ c. after [] (answered (and_then (there c) (λ o. and_then (element (the_place t k)) (λ first. cell_value (slice_get o.cells (first + 0))))) st)) kept ∙ (ap (λ i. after [] (answered (cell_value (slice_get (v ∷ []) i)) st)) (first_cell (cells p.structs t)) ∙ at v set)
-    where
-      at : (v : Value) → IsSet v → after [] (answered (cell_value (Some v)) st) ≡ Go v st []
-      at Indeterminate h = absurd h
-      at v h = refl
-
-  give_kept : (k : ℕ) (ts : List CType) (vs : List Value) (st : State) → AreKept st.memory fr k ts vs → eval_all p w marks fr (kept_values k ts) st ≡ Go vs st []
-  give_kept k [] [] st h = refl
-  give_kept k [] (v ∷ vs) st h = absurd h
-  give_kept k (t ∷ ts) [] st h = absurd h
-  give_kept k (t ∷ ts) (v ∷ vs) st h =
-      ap (λ r. then_do r (λ v st. then_do (eval_all p w marks fr (kept_values (suc k) ts) st) (λ vs st. Go (v ∷ vs) st []))) (gives_kept true t k v st h.0 h.1) ∙ ap (λ r. after [] (then_do r (λ vs st. Go (v ∷ vs) st []))) (give_kept (suc k) ts vs st h.2)
-
-  declares : (o : Program) (k : ℕ) (ts : List CType) (ss : Stmts) (st : State) → ((i : ℕ) (t : CType) → slice_get ts i ≡ Some t → slice_get fr.types (k + i) ≡ Some t) → exec_all p w marks fr (declared_from o k ts ss) st ≡ exec_all p w marks fr ss (declaring p.structs fr k ts st)
-  declares o k [] ss st h = refl
-  declares o k (t ∷ ts) ss st h =
-      let here : k + 0 ≡ k = omega arith in
-      let now = with_memory st (declared st.memory (name_in fr false k) (cells p.structs t)) in
-      let is = subst (λ j. slice_get fr.types j ≡ Some t) here (h 0 t refl) in
-      ap (λ c. then_do (then_do (fresh p.structs fr k c st) (λ y st. initialise p w marks fr k no_inits st)) (λ x st. on_exit x st (exec_all p w marks fr (declared_from o (suc k) ts ss)))) is ∙ (after_none {A = Exit} (exec_all p w marks fr (declared_from o (suc k) ts ss) now) ∙ declares o (suc k) ts ss now (λ i u e. let next : k + suc i ≡ suc k + i = omega arith in subst (λ j. slice_get fr.types j ≡ Some u) next (h (suc i) u e)))
+abbrev the_place : Program → Frame → CType → ℕ → Pointer
+the_place p fr t k = record { name = name_in fr false k; first = 0; width = cells p.structs t; elements = 1; index = 0 }
 
 pub keeping_sets : KeepingSets
-keeping_sets = keeps
+keeping_sets p w marks fr wanted t k e v old st later events h kept =
+    ap (λ r. after [] (then_do r (λ v st. remembered (store_place st.memory (At (the_place p fr t k)) v) v st))) h ∙ (ap (λ c. after [] (after events (remembered (and_then (there c) (λ o. and_then (element (the_place p fr t k)) (λ first. and_then (writable o) (λ cells. and_then (set_cell cells (first + 0) v (slice_get cells (first + 0))) (λ new. gives (changed later.memory (name_in fr false k) (Some new))))))) v later))) kept ∙ (ap (λ i. after [] (after events (remembered (and_then (set_cell (old ∷ []) i v (slice_get (old ∷ []) i)) (λ new. gives (changed later.memory (name_in fr false k) (Some new)))) v later))) (first_cell (cells p.structs t)) ∙ ap (λ u. Go v (with_memory later (changed later.memory (name_in fr false k) (Some (record { cells = v ∷ []; string = false })))) u) (append-nil events)))
 
 pub kept_is_given : KeptIsGiven
-kept_is_given = gives_kept
+kept_is_given p w marks fr wanted t k v st kept set =
+    ap (λ c. after [] (answered (and_then (there c) (λ o. and_then (element (the_place p fr t k)) (λ first. cell_value (slice_get o.cells (first + 0))))) st)) kept ∙ (ap (λ i. after [] (answered (cell_value (slice_get (v ∷ []) i)) st)) (first_cell (cells p.structs t)) ∙ at v set)
+  where
+    at : (v : Value) → IsSet v → after [] (answered (cell_value (Some v)) st) ≡ Go v st []
+    at Indeterminate h = absurd h
+    at v h = refl
 
 pub kept_are_given : KeptAreGiven
-kept_are_given = give_kept
+kept_are_given p w marks fr k [] [] st h = refl
+kept_are_given p w marks fr k [] (v ∷ vs) st h = absurd h
+kept_are_given p w marks fr k (t ∷ ts) [] st h = absurd h
+kept_are_given p w marks fr k (t ∷ ts) (v ∷ vs) st h =
+    ap (λ r. then_do r (λ v st. then_do (eval_all p w marks fr (kept_values (suc k) ts) st) (λ vs st. Go (v ∷ vs) st []))) (kept_is_given p w marks fr true t k v st h.0 h.1) ∙ ap (λ r. after [] (then_do r (λ vs st. Go (v ∷ vs) st []))) (kept_are_given p w marks fr (suc k) ts vs st h.2)
 
 pub declarations_declare : DeclarationsDeclare
-declarations_declare p q w marks fr k ts ss st h = declares q w marks fr p k ts ss st h
+declarations_declare o p w marks fr k [] ss st h = refl
+declarations_declare o p w marks fr k (t ∷ ts) ss st h =
+    let here : k + 0 ≡ k = omega arith in
+    let now = with_memory st (declared st.memory (name_in fr false k) (cells p.structs t)) in
+    let is = subst (λ j. slice_get fr.types j ≡ Some t) here (h 0 t refl) in
+    ap (λ c. then_do (then_do (fresh p.structs fr k c st) (λ y st. initialise p w marks fr k no_inits st)) (λ x st. on_exit x st (exec_all p w marks fr (declared_from o (suc k) ts ss)))) is ∙ (after_none {A = Exit} (exec_all p w marks fr (declared_from o (suc k) ts ss) now) ∙ declarations_declare o p w marks fr (suc k) ts ss now (λ i u e. let next : k + suc i ≡ suc k + i = omega arith in subst (λ j. slice_get fr.types j ≡ Some u) next (h (suc i) u e)))
 
 pub types_stay : TypesStay
 types_stay p vars k e = (λ h. same_type p vars k e h, λ h wanted. same_place p vars k wanted e h)

@@ -3,10 +3,10 @@ use Rattle.std.proofs.Common.{◌≡◌, ℕ, zero, suc, Bool, true, false, ◌&
 use Rattle.std.proofs.lemmas.Bool.{false≢true}
 use Rattle.std.proofs.lemmas.List.Elements.{All-head, All-tail}
 use Rattle.c_tree.specs.declared.value.IntType.{IntType}
-use Rattle.c_tree.specs.Tree.{CType, void, integer, pointer, array, struct, function, CTypes, no_types, more_types, list_of, Function, Program, type_of}
+use Rattle.c_tree.specs.Tree.{CType, void, integer, pointer, function, CTypes, no_types, more_types, list_of, Function, Program, type_of}
 use Rattle.c_tree.specs.Tree.{Expr, constant, function_name, string_place, variable, dereference, load, address_of, decay, discard, field, unary_operation, conversion, arithmetic, comparison, pointer_add, pointer_diff, and, or, assign, update, conditional, comma, call, call_through}
 use Rattle.c_tree.specs.Tree.{Exprs, no_exprs, more_exprs, Maybe, absent, there, Inits, no_inits, more_inits}
-use Rattle.c_tree.specs.Tree.{Stmt, block, empty, evaluate, declare, if_else, while_loop, do_loop, for_loop, switch_on, break_off, continue_on, return_void, return_value, Stmts, no_stmts, more_stmts, Groups, no_groups, more_groups}
+use Rattle.c_tree.specs.Tree.{Stmt, block, evaluate, declare, if_else, while_loop, do_loop, for_loop, switch_on, return_value, Stmts, no_stmts, more_stmts, Groups, no_groups, more_groups}
 use Rattle.c_tree.specs.Functions.{sys_types, null_types, type_of_defined, value_types, called_types, value_type, called_type}
 use Rattle.c_tree.specs.Operands.{IsScalar, IsResult}
 use Rattle.c_tree.specs.Program.{IsFunction, IsProgram}
@@ -16,7 +16,7 @@ use Rattle.c_shapes.specs.CallGraph.{is_taken, is_typed, functions_of, callees, 
 use Rattle.c_shapes.proofs.SameTypes.{types_tell}
 use Rattle.c_meaning_laws.proofs.Places.{get_left}
 use Rattle.c_meaning_laws.proofs.Steps.{scalars_of}
-use Rattle.null_calls_rules.proofs.Lists.{and_left, and_right, from_filter, one_passes}
+use Rattle.null_calls_rules.proofs.Lists.{if_has, and_left, and_right, from_filter, one_passes}
 use Rattle.null_calls_rules.specs.Temporaries.{is_kept}
 use Rattle.null_calls_rules.specs.InstrumentedPrograms.{parameters_where, of_result, of_direct, of_through, kept, kept_of_all, kept_of_members, kept_of_maybe, kept_of_inits, kept_of_stmt, kept_of_stmts, kept_of_groups}
 use Rattle.c_shapes.proofs.Members.{and_both}
@@ -32,10 +32,6 @@ scalars_both (x ∷ xs) ys h k = (h.0, scalars_both xs ys h.1 k)
 pub all_are : (ts : List CType) → All IsScalar ts → AreScalars ts
 all_are [] h = tt
 all_are (t ∷ ts) h = (All-head IsScalar t ts h, all_are ts (All-tail IsScalar t ts h))
-
-if_scalars : (b : Bool) (xs : List CType) → (b ≡ true → AreScalars xs) → AreScalars (if b then xs else [])
-if_scalars true xs h = h refl
-if_scalars false xs h = tt
 
 -- a function that gives a scalar or nothing
 abbrev gives_result : CType → Bool
@@ -79,15 +75,14 @@ kept_scalar wanted void h k = absurd (false≢true k)
 kept_scalar wanted t h k = h
 
 result_scalars : (wanted : Bool) (t : CType) → IsResult t → AreScalars (of_result wanted t)
-result_scalars wanted t h = if_scalars (is_kept wanted t) (t ∷ []) (λ e. (kept_scalar wanted t h e, tt))
+result_scalars wanted t h = if_has AreScalars (is_kept wanted t) (t ∷ []) [] (λ e. (kept_scalar wanted t h e, tt)) (λ e. tt)
 
 module _ (p : Program) (n : ℕ) (typed : IsProgram p n) where
   functions_give : (fs : List Function) → All (IsFunction p) fs → all_give (map type_of_defined fs) ≡ true
   functions_give [] h = refl
-  functions_give (f ∷ fs) h = and_both (gives_result f.ctype) (all_give (map type_of_defined fs)) (one (All-head (IsFunction p) f fs h)) (functions_give fs (All-tail (IsFunction p) f fs h))
-    where
-      one : IsFunction p f → gives_result f.ctype ≡ true
-      one k = ap gives_result k.type ∙ of_result_type k.gives k.takes k.result_type
+  functions_give (f ∷ fs) h =
+      let k = All-head (IsFunction p) f fs h in
+      and_both (gives_result f.ctype) (all_give (map type_of_defined fs)) (ap gives_result k.type ∙ of_result_type k.gives k.takes k.result_type) (functions_give fs (All-tail (IsFunction p) f fs h))
 
   -- what a call gives is a scalar or nothing
   pub result_of_call : (f : ℕ) (t : CType) (ts : CTypes) → called_type p f ≡ Some (function t ts) → IsResult t
@@ -110,12 +105,12 @@ module _ (p : Program) (n : ℕ) (typed : IsProgram p n) where
 
   direct_scalars : (wanted : Bool) (t : CType) (f : ℕ) (ts : CTypes) → called_type p f ≡ Some (function t ts) → AreScalars (of_direct p wanted t f)
   direct_scalars wanted t f ts e =
-      if_scalars (is_marked p (Direct f)) (parameters_where (called_type p f) ++ of_result wanted t) (λ m. scalars_both (parameters_where (called_type p f)) (of_result wanted t) (subst (λ c. AreScalars (parameters_where c)) (sym e) (scalars_of_call f t ts e)) (result_scalars wanted t (result_of_call f t ts e)))
+      if_has AreScalars (is_marked p (Direct f)) (parameters_where (called_type p f) ++ of_result wanted t) [] (λ m. scalars_both (parameters_where (called_type p f)) (of_result wanted t) (subst (λ c. AreScalars (parameters_where c)) (sym e) (scalars_of_call f t ts e)) (result_scalars wanted t (result_of_call f t ts e))) (λ m. tt)
 
   through_scalars : (wanted : Bool) (t u : CType) (ts : CTypes) → u ≡ pointer (function t ts) → AreScalars (of_through p wanted t u)
-  through_scalars wanted t u ts e = subst (λ u. AreScalars (of_through p wanted t u)) (sym e) (if_scalars (is_marked p (Through (pointer (function t ts)))) _ (λ m.
+  through_scalars wanted t u ts e = subst (λ u. AreScalars (of_through p wanted t u)) (sym e) (if_has AreScalars (is_marked p (Through (pointer (function t ts)))) _ [] (λ m.
       let c = some_callee (function t ts) m in
-      (tt, scalars_both (list_of ts) (of_result wanted t) (scalars_of_call c.0 t ts c.1) (result_scalars wanted t (result_of_call c.0 t ts c.1)))))
+      (tt, scalars_both (list_of ts) (of_result wanted t) (scalars_of_call c.0 t ts c.1) (result_scalars wanted t (result_of_call c.0 t ts c.1)))) (λ m. tt))
 
   two : (a b : Expr) → AreScalars (kept p true a) → AreScalars (kept p true b) → AreScalars (kept p true a ++ kept p true b)
   two a b h k = scalars_both (kept p true a) (kept p true b) h k
@@ -179,14 +174,12 @@ module _ (p : Program) (n : ℕ) (typed : IsProgram p n) where
     inits_scalars ts no_inits h = tt
     inits_scalars ts (more_inits cell e is) h = scalars_both (kept p true e) (kept_of_inits p is) (value_scalars true e h.1) (inits_scalars ts is h.2)
 
-    first_scalars : (ss : Stmts) → AreFirst p vars ss → AreScalars (kept_of_stmts p ss)
-    first_scalars no_stmts h = tt
-    first_scalars (more_stmts s ss) h = scalars_both (kept_of_stmt p s) (kept_of_stmts p ss) (one s h.0) (first_scalars ss h.1)
-      where
-        one : (s : Stmt) → IsFirst p vars s → AreScalars (kept_of_stmt p s)
-        one (evaluate e) k = value_scalars false e k
-        one (declare x is) k = inits_scalars _ is k.2
-        one _ k = absurd k
+    -- what stands first in the head of a for is statements
+    pub first_stmts : (r : CType) (ss : Stmts) → AreFirst p vars ss → AreStmts p vars r false false ss
+    first_stmts r no_stmts h = tt
+    first_stmts r (more_stmts (evaluate e) ss) h = (h.0, first_stmts r ss h.1)
+    first_stmts r (more_stmts (declare x is) ss) h = (h.0, first_stmts r ss h.1)
+    first_stmts r (more_stmts _ ss) h = absurd h.0
 
     mutual
       stmt_scalars : (r : CType) (breaks continues : Bool) (s : Stmt) → IsStmt p vars r breaks continues s → AreScalars (kept_of_stmt p s)
@@ -200,7 +193,7 @@ module _ (p : Program) (n : ℕ) (typed : IsProgram p n) where
       stmt_scalars r breaks continues (do_loop s e) h =
           scalars_both (kept_of_stmt p s) (kept p true e) (stmt_scalars r true true s h.0) (value_scalars true e h.1.1)
       stmt_scalars r breaks continues (for_loop first test step s) h =
-          scalars_both (kept_of_stmts p first) (kept_of_maybe p true test ++ (kept_of_maybe p false step ++ kept_of_stmt p s)) (first_scalars first h.0) (scalars_both (kept_of_maybe p true test) (kept_of_maybe p false step ++ kept_of_stmt p s) (test_scalars test h.1) (scalars_both (kept_of_maybe p false step) (kept_of_stmt p s) (step_scalars step h.2) (stmt_scalars r true true s h.3)))
+          scalars_both (kept_of_stmts p first) (kept_of_maybe p true test ++ (kept_of_maybe p false step ++ kept_of_stmt p s)) (stmts_scalars r false false first (first_stmts r first h.0)) (scalars_both (kept_of_maybe p true test) (kept_of_maybe p false step ++ kept_of_stmt p s) (test_scalars test h.1) (scalars_both (kept_of_maybe p false step) (kept_of_stmt p s) (step_scalars step h.2) (stmt_scalars r true true s h.3)))
       stmt_scalars r breaks continues (switch_on e gs) h =
           scalars_both (kept p true e) (kept_of_groups p gs) (value_scalars true e h.3) (groups_scalars r continues h.0 gs h.5)
       stmt_scalars r breaks continues (return_value e) h = value_scalars true e h.2

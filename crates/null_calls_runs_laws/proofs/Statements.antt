@@ -27,6 +27,7 @@ use Rattle.null_calls_rules.proofs.TypedRuns.{null_calls_recorded}
 use Rattle.null_calls_rules.specs.InstrumentedPrograms.{kept, kept_of_maybe, kept_of_inits, kept_of_stmt, kept_of_stmts, kept_of_groups, expr, maybe, inits, stmt, stmts, groups, instrumented_program}
 use Rattle.null_calls_runs_laws.proofs.PieceLemmas.{shapes_stay}
 use Rattle.null_calls_runs_laws.proofs.Beside.{Does, here, wider, lift, either_does, exit_does, round_does, Here, then_same}
+use Rattle.null_calls_runs_laws.proofs.Scalars.{first_stmts}
 use Rattle.null_calls_runs_laws.proofs.Calls.{Enters}
 use Rattle.null_calls_runs_laws.proofs.Expressions.{Fits, fits_left, fits_right, on_frame, on_value, on_effect, on_test, stored, value_does}
 
@@ -115,12 +116,6 @@ module _ (p : Program) (n : ℕ) (typed : IsProgram p n) (w w' : World) (goes : 
   block_shown o r breaks continues (more_stmts b ss) s a h =
       shown_both known fr.activation fr.activation (declared_by b) (declared_in ss) (one_shown o r breaks continues b s a h.0) (block_shown o r breaks continues ss s a h.1)
 
-  first_shown : (o : Objects) (ss : Stmts) → IsTypedFrame p o fr → TellsAlike fr.activation known o → AreFirst p fr.types ss → AreShown known fr.activation fr.activation (declared_in ss)
-  first_shown o no_stmts s a h = tt
-  first_shown o (more_stmts (evaluate e) ss) s a h = first_shown o ss s a h.1
-  first_shown o (more_stmts (declare x is) ss) s a h = (variable_shown o x h.0.0 s a h.0.1, first_shown o ss s a h.1)
-  first_shown o (more_stmts _ ss) s a h = absurd h.0
-
   -- ## Declarations
 
   inits_do : (k : ℕ) (r t : CType) (x : ℕ) (is : Inits) (o : Objects) (st : State) (more : Memory) → IsTypedFrame p o fr → slice_get fr.types x ≡ Some t → AreInits p fr.types (flat p.structs t) is → StandsIn p (mentions_of_inits is) → Room k (kept_of_inits p is) → At o st more → Do {A = Exit} more (initialise p w (null_calls_of p) fr x is st) (initialise (instrumented_program p) w' no_marks wider_frame x (inits p k is) (with_memory st more))
@@ -139,23 +134,6 @@ module _ (p : Program) (n : ℕ) (typed : IsProgram p n) (w w' : World) (goes : 
   declare_does : (k : ℕ) (r : CType) (x : ℕ) (is : Inits) (o : Objects) (st : State) (more : Memory) → IsTypedFrame p o fr → IsDeclare p fr.types x is → StandsIn p (mentions_of_inits is) → Room k (kept_of_inits p is) → At o st more → Do {A = Exit} more (PlainDo (declare x is) st) (OtherDo (declare x (inits p k is)) (with_memory st more))
   declare_does k r x is o st more s h m room a =
       then_same known fr limit p {A = Exit} {B = Exit} true (length fr.types) (IsExit p r false false) o st more _ _ _ _ a (fresh_ends p n typed (null_calls_of p) (null_calls_recorded p) w goes fr r h.0 x o st s h.1 a.now.state) (fresh_does x h.0 o st more s h.1 a) (λ u y st l g i a. inits_do k r h.0 x is u st l (framed o u g s) h.1 h.2 m room a)
-
-  first_one_ends : (r : CType) (b : Stmt) (o : Objects) (st : State) → IsTypedFrame p o fr → IsFirst p fr.types b → StandsIn p (mentions_of_stmt b) → IsTypedState p o st → EndsTyped p {A = Exit} (IsExit p r false false) o st.entries (PlainDo b st)
-  first_one_ends r (evaluate e) o st s h m a = exec_ends p n typed (null_calls_of p) (null_calls_recorded p) w goes fr r false false (evaluate e) o st s h m a
-  first_one_ends r (declare x is) o st s h m a = exec_ends p n typed (null_calls_of p) (null_calls_recorded p) w goes fr r false false (declare x is) o st s h m a
-  first_one_ends r _ o st s h m a = absurd h
-
-  first_one_does : (k : ℕ) (r : CType) (b : Stmt) (o : Objects) (st : State) (more : Memory) → IsTypedFrame p o fr → IsFirst p fr.types b → StandsIn p (mentions_of_stmt b) → Room k (kept_of_stmt p b) → At o st more → Do {A = Exit} more (PlainDo b st) (OtherDo (stmt p k b) (with_memory st more))
-  first_one_does k r (evaluate e) o st more s h m room a = effect k e o st more s h m room a
-  first_one_does k r (declare x is) o st more s h m room a = declare_does k r x is o st more s h m room a
-  first_one_does k r _ o st more s h m room a = absurd h
-
-  -- what stands first in the head of a for
-  first_do : (k : ℕ) (r : CType) (ss : Stmts) (o : Objects) (st : State) (more : Memory) → IsTypedFrame p o fr → AreFirst p fr.types ss → StandsIn p (mentions_of_stmts ss) → Room k (kept_of_stmts p ss) → At o st more → Do {A = Exit} more (PlainDoAll ss st) (OtherDoAll (stmts p k ss) (with_memory st more))
-  first_do k r no_stmts o st more s h m room a = done on o st more a
-  first_do k r (more_stmts b ss) o st more s h m room a =
-      let mine = left_part p (mentions_of_stmt b) (mentions_of_stmts ss) m in
-      then_same known fr limit p {A = Exit} {B = Exit} true (length fr.types) (IsExit p r false false) o st more _ _ _ _ a (first_one_ends r b o st s h.0 mine a.now.state) (first_one_does k r b o st more s h.0 mine (left_room k (kept_of_stmt p b) (kept_of_stmts p ss) room) a) (λ u x st l g i a. exit_does known fr limit (length fr.types) x st l (PlainDoAll ss) (OtherDoAll (stmts p (k + length (kept_of_stmt p b)) ss)) a.now.beside a.ready (first_do (k + length (kept_of_stmt p b)) r ss u st l (framed o u g s) h.1 (right_part p (mentions_of_stmt b) (mentions_of_stmts ss) m) (right_room k (kept_of_stmt p b) (kept_of_stmts p ss) room) a))
 
   -- ## Statements
 
@@ -183,6 +161,7 @@ module _ (p : Program) (n : ℕ) (typed : IsProgram p n) (w w' : World) (goes : 
         let round' : Loop = record { test = there (expr p (k + length (kept_of_stmt p b)) true e); body = stmt p k b; step = absent } in
         then_same known fr limit p {A = Exit} {B = Exit} true (length fr.types) (IsExit p r true true) o st more _ _ _ _ a (exec_ends p n typed (null_calls_of p) (null_calls_recorded p) w goes fr r true true b o st s h.0 (left_part p (mentions_of_stmt b) (mentions e) m) a.now.state) (exec_does k r true true b o st more s h.0 (left_part p (mentions_of_stmt b) (mentions e) m) body_room a) (λ u x st l g i a. round_does known fr limit (length fr.types) x st l (w.again fr round) (w'.again wider_frame round') a.now.beside a.ready (agains known fr limit wide untold agree r round (k + length (kept_of_stmt p b)) k k u st l (framed o u g s) h.1 h.0 tt (record { test = right_part p (mentions_of_stmt b) (mentions e) m; body = left_part p (mentions_of_stmt b) (mentions e) m; step = stands_empty p }) test_room body_room (no_room k _ body_room) a))
     exec_does k r breaks continues (for_loop ss test step b) o st more s h m room a =
+        let plain = first_stmts p n typed fr.types r ss h.0 in
         let early = left_part p (mentions_of_stmts ss) (mentions_of_maybe test ++ (mentions_of_maybe step ++ mentions_of_stmt b)) m in
         let later = right_part p (mentions_of_stmts ss) (mentions_of_maybe test ++ (mentions_of_maybe step ++ mentions_of_stmt b)) m in
         let rest = right_part p (mentions_of_maybe test) (mentions_of_maybe step ++ mentions_of_stmt b) later in
@@ -193,7 +172,7 @@ module _ (p : Program) (n : ℕ) (typed : IsProgram p n) (w w' : World) (goes : 
         let after_test = right_room i (kept_of_maybe p true test) (kept_of_maybe p false step ++ kept_of_stmt p b) after_first in
         let round : Loop = record { test = test; body = b; step = step } in
         let round' : Loop = record { test = maybe p i true test; body = stmt p (j + length (kept_of_maybe p false step)) b; step = maybe p j false step } in
-        leaving_does (declared_in ss) (declared_in (stmts p k ss)) more _ _ ((shapes_stay p).variables k ss) (first_shown o ss s a.now.tells h.0) (then_same known fr limit p {A = Exit} {B = Exit} true (length fr.types) (IsExit p r false false) o st more _ _ _ _ a (first_ends p n typed (null_calls_of p) (null_calls_recorded p) w goes fr r ss o st s h.0 early a.now.state) (first_do k r ss o st more s h.0 early first_room a) (λ u x st l g y a. exit_does known fr limit (length fr.types) x st l (w.again fr round) (w'.again wider_frame round') a.now.beside a.ready (agains known fr limit wide untold agree r round i (j + length (kept_of_maybe p false step)) j u st l (framed o u g s) h.1 h.3 h.2 (record { test = left_part p (mentions_of_maybe test) (mentions_of_maybe step ++ mentions_of_stmt b) later; body = right_part p (mentions_of_maybe step) (mentions_of_stmt b) rest; step = left_part p (mentions_of_maybe step) (mentions_of_stmt b) rest }) (left_room i (kept_of_maybe p true test) (kept_of_maybe p false step ++ kept_of_stmt p b) after_first) (right_room j (kept_of_maybe p false step) (kept_of_stmt p b) after_test) (left_room j (kept_of_maybe p false step) (kept_of_stmt p b) after_test) a)))
+        leaving_does (declared_in ss) (declared_in (stmts p k ss)) more _ _ ((shapes_stay p).variables k ss) (block_shown o r false false ss s a.now.tells plain) (then_same known fr limit p {A = Exit} {B = Exit} true (length fr.types) (IsExit p r false false) o st more _ _ _ _ a (first_ends p n typed (null_calls_of p) (null_calls_recorded p) w goes fr r ss o st s h.0 early a.now.state) (stmts_do k r false false ss o st more s plain early first_room a) (λ u x st l g y a. exit_does known fr limit (length fr.types) x st l (w.again fr round) (w'.again wider_frame round') a.now.beside a.ready (agains known fr limit wide untold agree r round i (j + length (kept_of_maybe p false step)) j u st l (framed o u g s) h.1 h.3 h.2 (record { test = left_part p (mentions_of_maybe test) (mentions_of_maybe step ++ mentions_of_stmt b) later; body = right_part p (mentions_of_maybe step) (mentions_of_stmt b) rest; step = left_part p (mentions_of_maybe step) (mentions_of_stmt b) rest }) (left_room i (kept_of_maybe p true test) (kept_of_maybe p false step ++ kept_of_stmt p b) after_first) (right_room j (kept_of_maybe p false step) (kept_of_stmt p b) after_test) (left_room j (kept_of_maybe p false step) (kept_of_stmt p b) after_test) a)))
     exec_does k r breaks continues (switch_on e gs) o st more s h m room a =
         let mine = left_part p (mentions e) (mentions_of_groups gs) m in
         let rest = right_part p (mentions e) (mentions_of_groups gs) m in

@@ -38,16 +38,13 @@ use Rattle.null_calls_runs_laws.proofs.Expressions.{Fits, on_frame, on_effect, v
 use Rattle.null_calls_runs_laws.proofs.Statements.{Agains, exec_does}
 use Rattle.null_calls_runs_laws.proofs.Bodies.{body_alike}
 
-spent_state : (p : Program) (o : Objects) (st st' : State) → st'.memory ≡ st.memory → st'.entries ≡ st.entries → IsTypedState p o st → IsTypedState p o st'
-spent_state p o st st' m e k = record {
-  memory = subst (λ m. IsTypedMemory p o m) (sym m) k.memory;
-  few = k.few;
-  later = subst (λ n. (x : ObjectName) → n < x.activation → o x ≡ None) (sym e) k.later;
-}
-
 spent : (known : Objects) (last : ℕ) (p : Program) (o : Objects) (st st' : State) (more : Memory) → st'.memory ≡ st.memory → st'.entries ≡ st.entries → Now known last p o st more → Now known last p o st' more
 spent known last p o st st' more m e k = record {
-  state = spent_state p o st st' m e k.state;
+  state = record {
+    memory = subst (λ m. IsTypedMemory p o m) (sym m) k.state.memory;
+    few = k.state.few;
+    later = subst (λ n. (x : ObjectName) → n < x.activation → o x ≡ None) (sym e) k.state.later;
+  };
   tells = k.tells;
   started = subst (λ n. last ≤ n) (sym e) k.started;
   beside = subst (λ m. IsBeside known last m more) (sym m) k.beside;
