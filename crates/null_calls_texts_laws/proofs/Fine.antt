@@ -1,10 +1,9 @@
 -- Expressions and statements with null calls round their marked calls have the grammar's forms.
 use Rattle.std.proofs.Common.{ℕ, suc, ◌+◌, Bool, true, false, Option, None, Some}
-use Rattle.c_tree.specs.Tree.{CType}
-use Rattle.c_syntax.specs.Tree.{Expr, a_name, an_int, a_char, a_str, comma, sizeof_type, cast, call, member, postfix, prefix, unary, index, binary, assign, conditional, Exprs, no_exprs, more_exprs, Maybe, absent, there}
-use Rattle.c_syntax.specs.Tree.{pre_increment, pre_decrement, sizeof}
+use Rattle.c_syntax.specs.Tree.{Expr, comma, cast, call, member, postfix, prefix, unary, index, binary, assign, conditional, Exprs, no_exprs, more_exprs, Maybe, absent, there}
+use Rattle.c_syntax.specs.Tree.{pre_increment, pre_decrement}
 use Rattle.c_syntax.specs.Tree.{Init, one, list, Inits, no_inits, more_inits, MaybeInit, no_init, an_init, Parts, no_parts, more_parts, Decl, decl, First, first_absent, first_expr, first_decl}
-use Rattle.c_syntax.specs.Tree.{Stmt, block, empty, evaluate, only_if, if_else, while_loop, do_loop, for_loop, switch_on, break_off, continue_on, return_from, BlockItems, no_block_items, block_decl, block_stmt, Stmts, no_stmts, more_stmts, Groups, no_groups, more_groups}
+use Rattle.c_syntax.specs.Tree.{Stmt, block, evaluate, only_if, if_else, while_loop, do_loop, for_loop, switch_on, return_from, BlockItems, no_block_items, block_decl, block_stmt, Stmts, no_stmts, more_stmts, Groups, no_groups, more_groups}
 use Rattle.c_syntax.specs.Statements.{IsPlainDecl, IsClosed}
 use Rattle.c_syntax.specs.Tokens.{assigns}
 use Rattle.c_syntax.proofs.Fine.{AreSeveral, IsFine, AreFine, IsFineMaybe}
@@ -13,8 +12,7 @@ use Rattle.c_rules.specs.Counts.{calls, calls_of_maybe}
 use Rattle.c_rules.specs.Initialisers.{calls_of_init, calls_of_maybe_init}
 use Rattle.c_rules.specs.Variables.{calls_of_decl, calls_of_first, calls_of_stmt, calls_of_stmts}
 use Rattle.null_calls_units_laws.specs.MarkedCalls.{Called, Sites}
-use Rattle.null_calls_units_laws.specs.Temporaries.{pre_name, designator_name, argument_name, is_kept}
-use Rattle.null_calls_units_laws.specs.InstrumentedExpressions.{is_void_type, kept_in, keep_designator, keep_arguments, kept_arguments, kept_designator, null_call, call_and_post, call_where, expr, arguments, members, maybe}
+use Rattle.null_calls_units_laws.specs.InstrumentedExpressions.{is_void_type, call_where, expr, arguments, members, maybe}
 use Rattle.null_calls_units_laws.specs.InstrumentedStatements as new
 use Rattle.null_calls_units_laws.proofs.ExpressionHeights.{Operand, by_type, by_unary}
 use Rattle.null_calls_texts_laws.proofs.MarkedCalls.{of_call, several_of_call}

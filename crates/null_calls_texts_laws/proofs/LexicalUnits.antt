@@ -1,7 +1,7 @@
 -- Instrumented units.
 use Rattle.std.proofs.Common.{ℕ, ◌+◌, List, [], ◌∷◌}
-use Rattle.c_syntax.specs.Tree.{struct_item, enum_item, tag_item, decl_item, function_item, Item, Items, no_items, more_items}
-use Rattle.c_syntax.specs.Tree.{Stmt, block, empty, evaluate, only_if, if_else, while_loop, do_loop, for_loop, switch_on, break_off, continue_on, return_from, BlockItems}
+use Rattle.c_syntax.specs.Tree.{function_item, Item, Items, no_items, more_items}
+use Rattle.c_syntax.specs.Tree.{Stmt, block, BlockItems}
 use Rattle.c_rules.specs.Functions.{items_of_body}
 use Rattle.c_rules.specs.Names.{Name}
 use Rattle.c_rules.specs.Scopes.{nothing_before}

@@ -1,12 +1,12 @@
 -- The names of the instrumenter are identifiers (C99 6.4.2.1): they have at most 63 characters.
 use Rattle.std.proofs.Common.{◌≡◌, inl, inr, ℕ, zero, suc, ◌+◌, ◌/◌, ◌%◌, ◌<◌, ◌≤◌, nat_lt, nat_eq, if◌then◌else◌, Bool, true, false, not, ◌&&◌, List, [], ◌∷◌, ◌++◌, length, All, Contains, codes, refl, sym, subst, true≢false, arith}
-use Rattle.std.proofs.lemmas.Bool.Decides.{Decides-ltb}
+use Rattle.std.proofs.lemmas.List.Sums.{AllPass-from_list_all}
 use Rattle.std.proofs.lemmas.List.{length-append}
 use Rattle.std.proofs.lemmas.List.Elements.{All-nil, All-cons, All-append, All-from_recursion}
 use Rattle.dm_base.specs.Name.{IsName, keywords}
 use Rattle.c_lexer.specs.Words.{IsWordByte}
 use Rattle.null_calls_units_laws.specs.Temporaries.{digits_within, digits_of, pre_name, post_name, designator_name, argument_name, result_name}
-use Rattle.alarm_laws.proofs.Lists.{cases, none_in, and_left, and_right}
+use Rattle.alarm_laws.proofs.Lists.{below, if_has}
 
 -- ## No keyword begins with two underscores
 
@@ -14,20 +14,9 @@ abbrev begins_twice : List ℕ → Bool
 begins_twice (a ∷ b ∷ w) = nat_eq a 95 && nat_eq b 95
 begins_twice w = false
 
-abbrev none_begin : List (List ℕ) → Bool
-none_begin [] = true
-none_begin (w ∷ ws) = not (begins_twice w) && none_begin ws
-
-not_true : (b : Bool) → not b ≡ true → b ≡ true → ⊥
-not_true true h k = true≢false (sym h)
-not_true false h k = true≢false (sym k)
-
-none_of : (ws : List (List ℕ)) → none_begin ws ≡ true → (x : List ℕ) → Contains ws x → begins_twice x ≡ true → ⊥
-none_of [] h x k e = none_in x k
-none_of (w ∷ ws) h x k e = elim (cases w ws x k) as (λ _. ⊥) [
-  | inl is ↦ not_true (begins_twice w) (and_left (not (begins_twice w)) (none_begin ws) h) (subst (λ y. begins_twice y ≡ true) (sym is) e)
-  | inr later ↦ none_of ws (and_right (not (begins_twice w)) (none_begin ws) h) x later e
-]
+none_begins : (x : List ℕ) → Contains keywords x → not (begins_twice x) ≡ true
+none_begins x k =
+    subst (λ y. not (begins_twice y) ≡ true) k.2 (AllPass-from_list_all (λ w. not (begins_twice w)) keywords refl k.0 x k.1)
 
 -- two underscores and then letters and digits, 63 characters at most
 begun : (w : List ℕ) → All IsWordByte (95 ∷ 95 ∷ w) → length w ≤ 61 → IsName (95 ∷ 95 ∷ w)
@@ -36,7 +25,7 @@ begun w h short = record {
   short = omega (arith, short);
   begins = λ b rest e. let same : 95 ≡ b = cc in inr (inr (sym same));
   bytes = h;
-  free = λ k. none_of keywords refl (95 ∷ 95 ∷ w) k refl;
+  free = λ k. true≢false (sym (none_begins (95 ∷ 95 ∷ w) k));
 }
 
 -- ## Letters and digits
@@ -54,27 +43,20 @@ begins_so = All-from_recursion IsWordByte (codes "__dyck_") (underscore, (unders
 dyck : (b : ℕ) → 97 ≤ b → b ≤ 122 → (w : List ℕ) → All IsWordByte w → All IsWordByte (codes "__dyck_" ++ b ∷ w)
 dyck b l m w h = All-append IsWordByte (codes "__dyck_") (b ∷ w) begins_so (All-cons IsWordByte b w (letter b l m) h)
 
-below : (a b : ℕ) → nat_lt a b ≡ true → a < b
-below a b h = (Decides-ltb a b).0 h
-
 digit : (d : ℕ) → d < 10 → All IsWordByte ((48 + d) ∷ [])
 digit d h = All-cons IsWordByte (48 + d) [] (inr (omega (arith, h), omega (arith, h))) (All-nil IsWordByte)
 
 digits_bytes : (k n : ℕ) → All IsWordByte (digits_within k n)
 digits_bytes zero n = All-nil IsWordByte
-digits_bytes (suc k) n = by (nat_lt n 10) refl (digits_bytes k (n / 10))
-  where
-    by : (b : Bool) → nat_lt n 10 ≡ b → All IsWordByte (digits_within k (n / 10)) → All IsWordByte (if b then (48 + n) ∷ [] else digits_within k (n / 10) ++ (48 + n % 10) ∷ [])
-    by true e h = digit n (below n 10 e)
-    by false e h = All-append IsWordByte (digits_within k (n / 10)) ((48 + n % 10) ∷ []) h (digit (n % 10) (omega arith))
+digits_bytes (suc k) n =
+    if_has (λ w. All IsWordByte w) (nat_lt n 10) ((48 + n) ∷ []) (digits_within k (n / 10) ++ (48 + n % 10) ∷ []) (λ e. digit n (below n 10 e)) (λ e. All-append IsWordByte (digits_within k (n / 10)) ((48 + n % 10) ∷ []) (digits_bytes k (n / 10)) (digit (n % 10) (omega arith)))
 
 digits_short : (k n : ℕ) → length (digits_within k n) ≤ k
 digits_short zero n = omega arith
-digits_short (suc k) n = by (nat_lt n 10) (digits_short k (n / 10))
-  where
-    by : (b : Bool) → length (digits_within k (n / 10)) ≤ k → length (if b then (48 + n) ∷ [] else digits_within k (n / 10) ++ (48 + n % 10) ∷ []) ≤ suc k
-    by true h = omega arith
-    by false h = let e : length (digits_within k (n / 10) ++ (48 + n % 10) ∷ []) ≡ length (digits_within k (n / 10)) + 1 = length-append (digits_within k (n / 10)) ((48 + n % 10) ∷ []) in omega (arith, h, e)
+digits_short (suc k) n =
+    let s = digits_short k (n / 10) in
+    let e : length (digits_within k (n / 10) ++ (48 + n % 10) ∷ []) ≡ length (digits_within k (n / 10)) + 1 = length-append (digits_within k (n / 10)) ((48 + n % 10) ∷ []) in
+    if_has (λ w. length w ≤ suc k) (nat_lt n 10) ((48 + n) ∷ []) (digits_within k (n / 10) ++ (48 + n % 10) ∷ []) (λ b. omega arith) (λ b. omega (arith, s, e))
 
 -- ## The names
 

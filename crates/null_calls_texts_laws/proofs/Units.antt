@@ -2,7 +2,7 @@
 -- most 500 deep in each other (C99 5.2.4.1).
 use Rattle.std.proofs.Common.{ℕ, suc, ◌+◌, ◌*◌, ◌≤◌, max, false, List, ◌++◌, sym, subst, arith}
 use Rattle.c_tree.specs.Tree.{Program}
-use Rattle.c_syntax.specs.Tree.{Stmt, block, empty, evaluate, only_if, if_else, while_loop, do_loop, for_loop, switch_on, break_off, continue_on, return_from, BlockItems, Item, struct_item, enum_item, tag_item, decl_item, function_item, Items, no_items, more_items}
+use Rattle.c_syntax.specs.Tree.{Stmt, block, BlockItems, Item, function_item, Items, no_items, more_items}
 use Rattle.c_syntax.specs.Limits.{height_of_declarator, height_of_stmt, height_of_block_items, height_of_item, height_of_unit}
 use Rattle.c_syntax.proofs.FineUnits.{AreFineBlockItems, IsFineBody, IsFineItem, AreFineItems}
 use Rattle.c_rules.specs.Names.{Name}
@@ -53,10 +53,6 @@ pub record AreGoodItems (is : Items) : Type 0 where
   pub writes : AreWritableItems is
   pub low : height_of_unit is ≤ 500
 
--- a plain item stays as it is
-good_still : (i : Item) → IsFineItem i → IsWritableItem i → height_of_item i ≤ 200 → IsGoodItem i
-good_still i f w l = record { fine = f; writes = w; low = omega (arith, l) }
-
 pub null_good : (x : Name) → IsName x → IsGoodItem (null_prototype x)
 null_good x h = record { fine = ((tt, tt, (tt, tt)), tt, tt, tt); writes = (tt, ((h, (tt, tt, tt)), tt, tt)); low = omega arith }
 
@@ -82,7 +78,7 @@ module _ (p : Program) (tags : List Name) (fit : (s : ℕ) → FitsWhere (sites_
         writes = (w.0, w.1, declared_write e.enums tags stood at names b.sites _ xs later t.written t.sites (block_writes (sites_of p) fit is b.sites (body_writes body w.2)));
         low = function_low (height_of_declarator d) (height_of_stmt body) (height_of_block_items is) (height_of_block_items later) _ l own rest low;
       }
-  good_item i e b facts f w l names = good_still i f w l
+  good_item i e b facts f w l names = record { fine = f; writes = w; low = omega (arith, l) }
 
   pub good_items : (is : Items) (e : Env) (b : Before) → UnitFacts p tags e b is → AreFineItems is → AreWritableItems is → height_of_unit is ≤ 200 → AllNames e.tags → AreGoodItems (units.items (sites_of p) tags b.sites is)
   good_items no_items e b facts f w l names = record { fine = tt; writes = tt; low = omega arith }

@@ -1,19 +1,17 @@
 -- What expressions and statements with null calls round their marked calls are written with is tokens.
 use Rattle.std.proofs.Common.{ℕ, suc, ◌+◌, ◌<◌, Bool, true, false, Option, None, Some, lit<}
-use Rattle.c_tree.specs.Tree.{CType}
 use Rattle.c_lexer.specs.declared.token.TokenKind.TheVariants.{Punct}
 use Rattle.c_lexer.specs.declared.punctuator.TheConstants.{ASSIGN}
 use Rattle.c_lexer.specs.Kinds.{IsKind}
-use Rattle.c_syntax.specs.Tree.{Expr, a_name, an_int, a_char, a_str, comma, sizeof_type, cast, call, member, postfix, prefix, unary, index, binary, assign, conditional, Exprs, no_exprs, more_exprs, Maybe, absent, there}
-use Rattle.c_syntax.specs.Tree.{pre_increment, pre_decrement, sizeof}
+use Rattle.c_syntax.specs.Tree.{Expr, comma, cast, call, member, postfix, prefix, unary, index, binary, assign, conditional, Exprs, no_exprs, more_exprs, Maybe, absent, there}
+use Rattle.c_syntax.specs.Tree.{pre_increment, pre_decrement}
 use Rattle.c_syntax.specs.Tree.{Init, one, list, Inits, no_inits, more_inits, MaybeInit, no_init, an_init, Parts, no_parts, more_parts, Decl, decl, First, first_absent, first_expr, first_decl}
-use Rattle.c_syntax.specs.Tree.{Stmt, block, empty, evaluate, only_if, if_else, while_loop, do_loop, for_loop, switch_on, break_off, continue_on, return_from, BlockItems, no_block_items, block_decl, block_stmt, Stmts, no_stmts, more_stmts, Groups, no_groups, more_groups}
+use Rattle.c_syntax.specs.Tree.{Stmt, block, evaluate, only_if, if_else, while_loop, do_loop, for_loop, switch_on, return_from, BlockItems, no_block_items, block_decl, block_stmt, Stmts, no_stmts, more_stmts, Groups, no_groups, more_groups}
 use Rattle.c_rules.specs.Counts.{calls, calls_of_maybe}
 use Rattle.c_rules.specs.Initialisers.{calls_of_init, calls_of_maybe_init}
 use Rattle.c_rules.specs.Variables.{calls_of_decl, calls_of_first, calls_of_stmt, calls_of_stmts}
 use Rattle.null_calls_units_laws.specs.MarkedCalls.{Called, Sites}
-use Rattle.null_calls_units_laws.specs.Temporaries.{pre_name, is_kept}
-use Rattle.null_calls_units_laws.specs.InstrumentedExpressions.{is_void_type, keep_designator, keep_arguments, kept_arguments, kept_designator, null_call, call_and_post, call_where, expr, arguments, members, maybe}
+use Rattle.null_calls_units_laws.specs.InstrumentedExpressions.{is_void_type, call_where, expr, arguments, members, maybe}
 use Rattle.null_calls_units_laws.specs.InstrumentedStatements as new
 use Rattle.c_syntax_laws.specs.Writable.{IsWritable, AreWritable, IsWritableMaybe, IsWritableInit, AreWritableInits, IsWritableMaybeInit, AreWritableParts, IsWritableDecl, IsWritableFirst, IsWritableStmt, AreWritableBlockItems, AreWritableStmts, AreWritableGroups}
 use Rattle.null_calls_units_laws.proofs.ExpressionHeights.{Operand, by_type, by_unary}
