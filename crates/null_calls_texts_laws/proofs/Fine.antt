@@ -28,10 +28,8 @@ call_fine at site wanted (Some c) d es h k =
 
 module _ (sites : Sites) where
   members_several : (es : Exprs) (b : ℕ) (wanted : Bool) → AreSeveral es → AreSeveral (members sites b wanted es)
-  members_several no_exprs b wanted h = h
-  members_several (more_exprs e no_exprs) b wanted h = h
   members_several (more_exprs e (more_exprs f no_exprs)) b wanted h = tt
-  members_several (more_exprs e (more_exprs f (more_exprs g es))) b wanted h = tt
+  members_several es b wanted h = h
 
   mutual
     expr_fine : (x : Expr) (b : ℕ) (wanted : Bool) → IsFine x → IsFine (expr sites b wanted x)

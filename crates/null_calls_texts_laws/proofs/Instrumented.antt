@@ -28,9 +28,8 @@ call_lexical at site wanted (Some c) d es f h k =
     some_of (more_exprs e es) h = tt
 
 some_members : (sites : Sites) (es : Exprs) (b : ℕ) (wanted : Bool) → AreSomeExprs es → AreSomeExprs (members sites b wanted es)
-some_members sites no_exprs b wanted h = absurd h
 some_members sites (more_exprs e no_exprs) b wanted h = tt
-some_members sites (more_exprs e (more_exprs f es)) b wanted h = tt
+some_members sites es b wanted h = h
 
 -- ## Expressions
 

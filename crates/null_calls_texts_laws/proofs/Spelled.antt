@@ -4,7 +4,6 @@ use Rattle.std.proofs.Common.{◌≡◌, ◌⊎◌, inl, inr, ℕ, ◌+◌, ◌�
 use Rattle.std.specs.Prelude.{nat_le, slice_index_or}
 use Rattle.std.proofs.lemmas.Bool.Decides.{nat_tests}
 use Rattle.dm_base.specs.Name.{IsName}
-use Rattle.c_tree.specs.declared.value.IntType.{IntType}
 use Rattle.c_tree.specs.declared.value.IntType.TheVariants.{Char}
 use Rattle.c_tree.specs.Tree.{CType, void, integer, array, struct, CTypes, no_types, more_types}
 use Rattle.c_tree.specs.Tree as typed
@@ -17,7 +16,7 @@ use Rattle.c_syntax.proofs.FineUnits.{AreFineBlockItems}
 use Rattle.c_rules.specs.Limits.{most_parts}
 use Rattle.c_rules.specs.Names.{Name}
 use Rattle.c_rules.specs.Types.{is_scalar, is_result, parts, parts_of_all}
-use Rattle.null_calls_units_laws.specs.SpelledTypes.{integer_spec, spec_of, declarator_of, params_of}
+use Rattle.null_calls_units_laws.specs.SpelledTypes.{spec_of, declarator_of, params_of}
 use Rattle.null_calls_units_laws.specs.Temporaries.{Temporary, declared_before, designator_name, argument_name, result_name}
 use Rattle.null_calls_units_laws.specs.Spelled.{is_pointee}
 use Rattle.null_calls_units_laws.specs.MadeTypes.{NotArray}

@@ -1,8 +1,5 @@
 -- What expressions and statements with null calls round their marked calls are written with is tokens.
 use Rattle.std.proofs.Common.{ℕ, suc, ◌+◌, ◌<◌, Bool, true, false, Option, None, Some, lit<}
-use Rattle.c_lexer.specs.declared.token.TokenKind.TheVariants.{Punct}
-use Rattle.c_lexer.specs.declared.punctuator.TheConstants.{ASSIGN}
-use Rattle.c_lexer.specs.Kinds.{IsKind}
 use Rattle.c_syntax.specs.Tree.{Expr, comma, cast, call, member, postfix, prefix, unary, index, binary, assign, conditional, Exprs, no_exprs, more_exprs, Maybe, absent, there}
 use Rattle.c_syntax.specs.Tree.{pre_increment, pre_decrement}
 use Rattle.c_syntax.specs.Tree.{Init, one, list, Inits, no_inits, more_inits, MaybeInit, no_init, an_init, Parts, no_parts, more_parts, Decl, decl, First, first_absent, first_expr, first_decl}
@@ -24,13 +21,10 @@ FitsWhere (Some c) s = s < 4294967296
 
 -- ## A marked call
 
-equals : IsKind (Punct ASSIGN)
-equals = lit< tt
-
 call_writes : (at site : ℕ) (wanted : Bool) (o : Option Called) (d : Expr) (es : Exprs) → FitsWhere o site → IsWritable d → AreWritable es → IsWritable (call_where at site wanted o d es)
 call_writes at site wanted None d es f h k = (h, k)
 call_writes at site wanted (Some c) d es f h k =
-    of_call IsWritable AreWritable tt (λ e es h k. (h, k)) (λ e es h. h) (λ at d es h k. (h, k)) (λ at x h. h) (λ at x e h k. (equals, h, k)) at site (λ x h. (h, (f, tt))) wanted c d es h k
+    of_call IsWritable AreWritable tt (λ e es h k. (h, k)) (λ e es h. h) (λ at d es h k. (h, k)) (λ at x h. h) (λ at x e h k. (lit< tt, h, k)) at site (λ x h. (h, (f, tt))) wanted c d es h k
 
 -- ## Expressions
 
