@@ -7,7 +7,7 @@ use Rattle.c_syntax.specs.Tree.{Stmt, block, evaluate, only_if, if_else, while_l
 use Rattle.c_syntax.specs.Statements.{IsPlainDecl, IsClosed}
 use Rattle.c_syntax.specs.Tokens.{assigns}
 use Rattle.c_syntax.proofs.Fine.{AreSeveral, IsFine, AreFine, IsFineMaybe}
-use Rattle.c_syntax.proofs.FineUnits.{IsFineInit, AreSomeInits, AreFineInits, IsFineMaybeInit, AreFineParts, AreSomeParts, IsFineDecl, IsFineFirst, IsFineStmt, AreFineBlockItems, AreFineStmts, AreSomeStmts, AreFineGroups}
+use Rattle.c_syntax.proofs.FineUnits.{IsFineInit, AreFineInits, IsFineMaybeInit, AreFineParts, IsFineDecl, IsFineFirst, IsFineStmt, AreFineBlockItems, AreFineStmts, AreFineGroups}
 use Rattle.c_rules.specs.Counts.{calls, calls_of_maybe}
 use Rattle.c_rules.specs.Initialisers.{calls_of_init, calls_of_maybe_init}
 use Rattle.c_rules.specs.Variables.{calls_of_decl, calls_of_first, calls_of_stmt, calls_of_stmts}
@@ -69,11 +69,8 @@ module _ (sites : Sites) where
   mutual
     init_fine : (i : Init) (b : ℕ) → IsFineInit i → IsFineInit (new.init sites b i)
     init_fine (one at e) b h = expr_fine e b true h
-    init_fine (list at is) b h = some_inits_fine is b h
-
-    some_inits_fine : (is : Inits) (b : ℕ) → AreSomeInits is → AreSomeInits (new.inits sites b is)
-    some_inits_fine no_inits b h = h
-    some_inits_fine (more_inits i is) b h = (init_fine i b h.0, inits_fine is (b + calls_of_init i) h.1)
+    init_fine (list at no_inits) b h = h
+    init_fine (list at (more_inits i is)) b h = inits_fine (more_inits i is) b h
 
     inits_fine : (is : Inits) (b : ℕ) → AreFineInits is → AreFineInits (new.inits sites b is)
     inits_fine no_inits b h = tt
@@ -87,12 +84,9 @@ module _ (sites : Sites) where
   parts_fine no_parts b h = tt
   parts_fine (more_parts d m ps) b h = (h.0, h.1, maybe_init_fine m b h.2, parts_fine ps (b + calls_of_maybe_init m) h.3)
 
-  some_parts_fine : (ps : Parts) (b : ℕ) → AreSomeParts ps → AreSomeParts (new.parts sites b ps)
-  some_parts_fine no_parts b h = h
-  some_parts_fine (more_parts d m ps) b h = (h.0, h.1, maybe_init_fine m b h.2, parts_fine ps (b + calls_of_maybe_init m) h.3)
-
   decl_fine : (d : Decl) (b : ℕ) → IsFineDecl d → IsFineDecl (new.declaration sites b d)
-  decl_fine (decl at class s ps) b h = some_parts_fine ps b h
+  decl_fine (decl at class s no_parts) b h = h
+  decl_fine (decl at class s (more_parts d m ps)) b h = parts_fine (more_parts d m ps) b h
 
   decl_plain : (d : Decl) (b : ℕ) → IsPlainDecl d → IsPlainDecl (new.declaration sites b d)
   decl_plain (decl at class s ps) b h = h
@@ -136,10 +130,7 @@ module _ (sites : Sites) where
     stmts_fine no_stmts b h = tt
     stmts_fine (more_stmts s ss) b h = (stmt_fine s b h.0, stmts_fine ss (b + calls_of_stmt s) h.1)
 
-    some_stmts_fine : (ss : Stmts) (b : ℕ) → AreSomeStmts ss → AreSomeStmts (new.stmts sites b ss)
-    some_stmts_fine no_stmts b h = h
-    some_stmts_fine (more_stmts s ss) b h = (stmt_fine s b h.0, stmts_fine ss (b + calls_of_stmt s) h.1)
-
     groups_fine : (gs : Groups) (b : ℕ) → AreFineGroups gs → AreFineGroups (new.groups sites b gs)
     groups_fine no_groups b h = tt
-    groups_fine (more_groups ls ss gs) b h = (h.0, some_stmts_fine ss b h.1, groups_fine gs (b + calls_of_stmts ss) h.2)
+    groups_fine (more_groups ls no_stmts gs) b h = absurd h.1
+    groups_fine (more_groups ls (more_stmts s ss) gs) b h = (h.0, stmts_fine (more_stmts s ss) b h.1, groups_fine gs (b + calls_of_stmts (more_stmts s ss)) h.2)
