@@ -1,5 +1,5 @@
 -- The body of a function with its temporaries does what the body does: no object of the activation is left behind.
-use Rattle.std.proofs.Common.{◌≡◌, ◌⊎◌, inl, inr, ℕ, suc, ◌+◌, ◌≤◌, ◌<◌, nat_eq, nat_lt, Bool, true, false, List, [], ◌∷◌, ◌++◌, length, replicate, Option, Some, None, slice_get, sym, ap, ◌∙◌, subst, refl, arith, true≢false}
+use Rattle.std.proofs.Common.{◌≡◌, ◌⊎◌, inl, inr, ℕ, suc, ◌+◌, ◌≤◌, ◌<◌, nat_eq, nat_lt, Bool, true, false, List, [], ◌∷◌, ◌++◌, length, replicate, Option, Some, None, sym, ap, ◌∙◌, subst, refl, arith, true≢false}
 use Rattle.std.proofs.Math.Nat.{eq-or-lt_of_le}
 use Rattle.std.specs.Cmp.{nat_eq_equiv}
 use Rattle.c_tree.specs.declared.value.ObjectName.{ObjectName}
@@ -109,9 +109,6 @@ all_shown known last a [] h = tt
 all_shown known last a (x ∷ xs) h = (later_shown known last a x h, all_shown known last a xs h)
 
 module _ (p : Program) (n : ℕ) (typed : IsProgram p n) (w w' : World) (goes : IsTypedWorld p w) (enters : Enters p w w') (agains : Agains p w w') (known : Objects) (last : ℕ) (fr : Frame) (ss : Stmts) (r : CType) (o : Objects) (st : State) (l : Memory) (s : IsTypedFrame p o fr) (h : AreStmts p fr.types r false false ss) (m : StandsIn p (mentions_of_stmts ss)) (k : Now known last p o st l) (above : last < fr.activation) (begun : fr.activation ≤ st.entries) (only : (j : ℕ) → length fr.types ≤ j → o (name_in fr false j) ≡ None) where
-  abbrev Temporaries : List CType
-  Temporaries = kept_of_stmts p ss
-
   abbrev limit : ℕ
   limit = length fr.types + length (kept_of_stmts p ss)
 
@@ -149,9 +146,6 @@ module _ (p : Program) (n : ℕ) (typed : IsProgram p n) (w w' : World) (goes : 
     };
     ready = λ j a b. (Indeterminate, all_there (new_object p.structs) (Some (record { cells = Indeterminate ∷ []; string = false })) (λ t s. ap (λ n. Some (record { cells = replicate n Indeterminate; string = false })) (scalar_cells p.structs t s)) fr.activation (length fr.types) (kept_of_stmts p ss) l j (stmts_scalars p n typed fr.types r false false ss h) a b);
   }
-
-  agree : (x : ℕ) (t : CType) → slice_get fr.types x ≡ Some t → slice_get (fr.types ++ kept_of_stmts p ss) x ≡ Some t
-  agree x t e = get_left fr.types (kept_of_stmts p ss) x t e
 
   -- the statements after the declarations
   after_declarations : exec_all (instrumented_program p) w' no_marks wider_frame (declared_from p (length fr.types) (kept_of_stmts p ss) (stmts p (length fr.types) ss)) (with_memory st l) ≡ exec_all (instrumented_program p) w' no_marks wider_frame (stmts p (length fr.types) ss) (with_memory st inside)
@@ -196,7 +190,7 @@ module _ (p : Program) (n : ℕ) (typed : IsProgram p n) (w w' : World) (goes : 
 
   pub block_alike : DoesAlike {A = Exit} known last l (exec p w (null_calls_of p) fr (block ss) st) (exec (instrumented_program p) w' no_marks wider_frame (body_from p (length fr.types) ss) (with_memory st l))
   block_alike =
-      subst (λ q. DoesAlike {A = Exit} known last l (leaving fr (declared_in ss) (exec_all p w (null_calls_of p) fr ss st)) (leaving wider_frame (declared_in (declared_from p (length fr.types) (kept_of_stmts p ss) (stmts p (length fr.types) ss))) q)) (sym after_declarations) (leaving_alike _ _ (stmts_end p n typed (null_calls_of p) (null_calls_recorded p) w goes fr r false false ss o st s h m k.state) (stmts_do p n typed w w' goes enters agains o fr limit wide only agree (length fr.types) r false false ss o st inside s h m (omega arith, omega arith) ready))
+      subst (λ q. DoesAlike {A = Exit} known last l (leaving fr (declared_in ss) (exec_all p w (null_calls_of p) fr ss st)) (leaving wider_frame (declared_in (declared_from p (length fr.types) (kept_of_stmts p ss) (stmts p (length fr.types) ss))) q)) (sym after_declarations) (leaving_alike _ _ (stmts_end p n typed (null_calls_of p) (null_calls_recorded p) w goes fr r false false ss o st s h m k.state) (stmts_do p n typed w w' goes enters agains o fr limit wide only (λ x t e. get_left fr.types (kept_of_stmts p ss) x t e) (length fr.types) r false false ss o st inside s h m (omega arith, omega arith) ready))
 
 -- the body of a function, which is a block
 pub body_alike : (p : Program) (n : ℕ) (typed : IsProgram p n) (w w' : World) (goes : IsTypedWorld p w) (enters : Enters p w w') (agains : Agains p w w') (known : Objects) (last : ℕ) (fr : Frame) (b : Stmt) (r : CType) (o : Objects) (st : State) (l : Memory) → IsBlock b → IsTypedFrame p o fr → IsStmt p fr.types r false false b → StandsIn p (mentions_of_stmt b) → Now known last p o st l → last < fr.activation → fr.activation ≤ st.entries → ((j : ℕ) → length fr.types ≤ j → o (name_in fr false j) ≡ None) → DoesAlike {A = Exit} known last l (exec p w (null_calls_of p) fr b st) (exec (instrumented_program p) w' no_marks (record { activation = fr.activation; types = fr.types ++ kept_of_stmt p b }) (body_from p (length fr.types) (items_of p b)) (with_memory st l))

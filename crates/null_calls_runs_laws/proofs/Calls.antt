@@ -24,7 +24,7 @@ use Rattle.c_meaning.specs.Meaning.{Marks, Frame, World, name_in, wants, call_un
 use Rattle.c_meaning.specs.Pointers.{callee, place, store_place}
 use Rattle.c_meaning.specs.Results.{State, with_memory, Result, Go, Stop, after, then_do, answered, remembered}
 use Rattle.c_meaning.specs.Runs.{no_marks}
-use Rattle.c_meaning_laws.specs.StoreTyping.{HasKind, IsCell, Grows, TellsOfStatics}
+use Rattle.c_meaning_laws.specs.StoreTyping.{HasKind, Grows, TellsOfStatics}
 use Rattle.c_meaning_laws.specs.TypedResults.{EndsTyped, Gives, GiveAll, StandsIn}
 use Rattle.c_meaning_laws.proofs.Places.{get_left}
 use Rattle.c_meaning_laws.proofs.Steps.{Right, IsCallee, callee_right}
@@ -55,15 +55,11 @@ pub set_of : (p : Program) (o : Objects) (t : CType) (x : Value) → HasKind p o
 set_of p o t Indeterminate h = absurd h
 set_of p o t x h = tt
 
--- no value is of the type void
-void_has_none : (p : Program) (o : Objects) (x : Value) → IsCell p o void x → Indeterminate ≡ x
-void_has_none p o Indeterminate h = refl
-void_has_none p o x h = cc
-
 -- where no result is kept, either none is wanted or there is none
 unkept_same : (p : Program) (o : Objects) (wanted : Bool) (t : CType) (x : Value) → is_kept wanted t ≡ false → Gives p wanted t o x → Same {A = Value} wanted x Indeterminate
 unkept_same p o false t x e h = tt
-unkept_same p o true void x e h = void_has_none p o x h
+unkept_same p o true void Indeterminate e h = refl
+unkept_same p o true void x e h = cc
 unkept_same p o wanted t x e h = absurd (true≢false e)
 
 -- a call whose result is kept is called as the plain one
@@ -83,9 +79,8 @@ IsMore no_exprs = ⊥
 IsMore (more_exprs e es) = Unit {0}
 
 pub keep_all_more : (i : ℕ) (ts : List CType) (es rest : Exprs) → IsMore rest → IsMore (keep_all i ts es rest)
-keep_all_more i [] es rest h = h
-keep_all_more i (t ∷ ts) no_exprs rest h = h
 keep_all_more i (t ∷ ts) (more_exprs e es) rest h = tt
+keep_all_more i ts es rest h = h
 
 pub each_more : (q : Program) (w : World) (marks : Marks) (fr : Frame) (wanted : Bool) (e : Expr) (es : Exprs) (st : State) → IsMore es → eval_each q w marks fr wanted (more_exprs e es) st ≡ then_do (eval q w marks fr false e st) (λ x st. eval_each q w marks fr wanted es st)
 each_more q w marks fr wanted e no_exprs st h = absurd h

@@ -353,23 +353,21 @@ module _ (p : Program) (n : ℕ) (typed : IsProgram p n) (w w' : World) (goes : 
 
     pub all_do : (k : ℕ) (ts : CTypes) (es : Exprs) (o : Objects) (st : State) (more : Memory) → IsTypedFrame p o fr → AreArguments p fr.types ts es → StandsIn p (mentions_of_all es) → Room k (kept_of_all p es) → At o st more → Do {A = List Value} true k more (PlainAll es st) (OtherAll (arguments p k es) (with_memory st more))
     all_do k no_types no_exprs o st more s h m r a = here known fr limit {A = List Value} true k [] [] st more [] refl a.now.beside a.ready
-    all_do k no_types (more_exprs e es) o st more s h m r a = absurd h
-    all_do k (more_types t ts) no_exprs o st more s h m r a = absurd h
     all_do k (more_types t ts) (more_exprs e es) o st more s h m r a =
         let mine = right_part p (mentions e) (mentions_of_all es) m in
         on_value {C = List Value} true k e (expr p k true e) o st more _ _ s h.1 (left_part p (mentions e) (mentions_of_all es) m) a (value_does k true e o st more s h.1 (left_part p (mentions e) (mentions_of_all es) m) (left_room k (kept p true e) (kept_of_all p es) r) a) (λ u x st l g i a. then_same known fr limit p {A = List Value} {B = List Value} true k (GiveAll p (list_of ts)) u st l _ _ _ _ a (all_end p n typed (null_calls_of p) (null_calls_recorded p) w goes fr ts es u st (on_frame o u g s) h.2 mine a.now.state) (wider known fr limit {A = List Value} true k (next k e) l _ _ (from_here k _) (all_do (next k e) ts es u st l (on_frame o u g s) h.2 mine (right_room k (kept p true e) (kept_of_all p es) r) a)) (λ u vs st l g z a. here known fr limit {A = List Value} true k (x ∷ vs) (x ∷ vs) st l [] refl a.now.beside a.ready))
+    all_do k ts es o st more s h m r a = absurd h
 
     kept_do : (k i j : ℕ) (ts : CTypes) (es : Exprs) (o : Objects) (st : State) (more : Memory) → IsTypedFrame p o fr → AreArguments p fr.types ts es → AreScalars (list_of ts) → StandsIn p (mentions_of_all es) → k ≤ i → i + length (list_of ts) ≤ j → length fr.types ≤ i → Room j (kept_of_all p es) → At o st more → KeepsAll k i j ts es o st more
     kept_do k i j no_types no_exprs o st more s h c m ki ij first r a owed wanted rest f is_more next =
         subst (λ d. Do {A = Value} owed k more d (OtherEach wanted rest (with_memory st more))) (sym (after_none {A = Value} (f [] st))) (next o [] st more (grows_none o) tt tt (λ x hid out. refl) a)
-    kept_do k i j no_types (more_exprs e es) o st more s h c m ki ij first r a owed wanted rest f is_more next = absurd h
-    kept_do k i j (more_types t ts) no_exprs o st more s h c m ki ij first r a owed wanted rest f is_more next = absurd h
     kept_do k i j (more_types t ts) (more_exprs e es) o st more s h c m ki ij first r a owed wanted rest f is_more next =
         let mine = right_part p (mentions e) (mentions_of_all es) m in
         let low = r.0 in
         let high = r.1 in
         let ij : i + suc (length (list_of ts)) ≤ j = ij in
         keeps_first k i j t ts e es o st more s h.1 (left_part p (mentions e) (mentions_of_all es) m) h.0 c.0 ki (omega (arith, ij, high)) first (omega (arith, ij)) a (value_does j true e o st more s h.1 (left_part p (mentions e) (mentions_of_all es) m) (left_room j (kept p true e) (kept_of_all p es) r) a) (λ u st l s a. kept_do k (suc i) (j + length (kept p true e)) ts es u st l s h.2 c.1 mine (omega (arith, ki)) (omega (arith, ij)) (omega (arith, first)) (right_room j (kept p true e) (kept_of_all p es) r) a) owed wanted rest f is_more next
+    kept_do k i j ts es o st more s h c m ki ij first r a owed wanted rest f is_more next = absurd h
 
   -- a value that is tested
   pub tested_does : (k : ℕ) (e : Expr) (o : Objects) (st : State) (more : Memory) → IsTypedFrame p o fr → IsCondition p fr.types e → StandsIn p (mentions e) → Room k (kept p true e) → At o st more → Do {A = Bool} true k more (tested (Plain true e st)) (tested (Other true (expr p k true e) (with_memory st more)))

@@ -1,16 +1,14 @@
 -- What the pieces of a marked call do.
-use Rattle.std.proofs.Common.{◌≡◌, ℕ, suc, ◌+◌, ◌*◌, ◌-◌, ◌≤◌, nat_lt, if◌then◌else◌, Bool, true, false, List, [], ◌∷◌, ◌++◌, Some, option_map, slice_get, length, append-nil, ap, ◌∙◌, subst, refl, arith}
+use Rattle.std.proofs.Common.{◌≡◌, ℕ, suc, ◌+◌, ◌*◌, ◌-◌, ◌≤◌, if◌then◌else◌, Bool, true, false, List, [], ◌∷◌, ◌++◌, Some, option_map, slice_get, length, append-nil, ap, ◌∙◌, subst, refl, arith}
 use Rattle.std.specs.List.{list_any}
-use Rattle.std.proofs.lemmas.Bool.Decides.{nat_tests}
 use Rattle.std.proofs.lemmas.List.{length-map}
 use Rattle.std.proofs.lemmas.Option.{slice_get-map}
-use Rattle.dm_base.specs.declared.event.Event.{Event}
 use Rattle.c_tree.specs.declared.value.Pointer.{Pointer}
 use Rattle.c_tree.specs.declared.value.Value.{Value}
 use Rattle.c_tree.specs.declared.value.Value.TheVariants.{Indeterminate, Uint, At}
 use Rattle.c_tree.specs.declared.tree.TLabel.{TLabel}
 use Rattle.c_tree.specs.Tree.{CType, void, Function, Program, type_of}
-use Rattle.c_tree.specs.Tree.{Expr, function_name, string_place, variable, dereference, field, comma, call, call_through}
+use Rattle.c_tree.specs.Tree.{Expr, comma, call, call_through}
 use Rattle.c_tree.specs.Tree.{Exprs, no_exprs, more_exprs, no_inits}
 use Rattle.c_tree.specs.Tree.{Stmt, block, Stmts, no_stmts, more_stmts, Groups, no_groups, more_groups}
 use Rattle.c_tree.specs.Layout.{cells}
@@ -20,13 +18,13 @@ use Rattle.c_values.specs.Answers.{gives, and_then}
 use Rattle.c_values.specs.Memory.{there, element, cell_value, writable, set_cell, changed, declared}
 use Rattle.c_shapes.specs.Mentions.{Direct, Through}
 use Rattle.c_shapes.specs.CallGraph.{is_marked}
-use Rattle.c_meaning.specs.Meaning.{Marks, Frame, World, name_in, wants, call_undefined, called, eval, eval_all, fresh, initialise, exec_all, declared_by, declared_in, is_case, is_default, group_with, count_groups, or_else, selected}
+use Rattle.c_meaning.specs.Meaning.{Frame, World, name_in, wants, call_undefined, called, eval_all, fresh, initialise, exec_all, declared_by, declared_in, is_case, is_default, group_with, count_groups, or_else, selected}
 use Rattle.c_meaning.specs.Pointers.{store_place}
 use Rattle.c_meaning.specs.Results.{State, with_memory, Go, after, then_do, answered, remembered, Exit, on_exit}
 use Rattle.null_calls_rules.proofs.Lists.{isnt_below, if_has}
 use Rattle.null_calls_rules.specs.Temporaries.{is_kept}
-use Rattle.null_calls_rules.specs.InstrumentedPrograms.{keep, kept_value, kept_values, marked_type, type_of_members, kept_of_stmt, kept_of_stmts, expr, stmt, stmts, groups, declared_from, instrumented_function, instrumented_program}
-use Rattle.null_calls_runs_laws.specs.Pieces.{IsKept, IsSet, AreKept, NullCallsAreEvents, KeepingSets, KeptIsGiven, KeptAreGiven, declaring, DeclarationsDeclare, TypesStay, ShapesStay}
+use Rattle.null_calls_rules.specs.InstrumentedPrograms.{kept_values, marked_type, type_of_members, kept_of_stmt, kept_of_stmts, expr, stmt, stmts, groups, declared_from, instrumented_function, instrumented_program}
+use Rattle.null_calls_runs_laws.specs.Pieces.{IsSet, NullCallsAreEvents, KeepingSets, KeptIsGiven, KeptAreGiven, DeclarationsDeclare, TypesStay, ShapesStay}
 use Rattle.null_calls_runs_laws.proofs.Beside.{after_none}
 
 -- ## Shapes
@@ -73,12 +71,10 @@ module _ (p : Program) where
     same_members vars t (more_exprs e (more_exprs f es)) h = same_members vars t (more_exprs f es) h.1
 
   same_place : (vars : List CType) (k : ℕ) (wanted : Bool) (e : Expr) → IsPlace p vars e → type_of (expr p k wanted e) ≡ type_of e
-  same_place vars k wanted (function_name t f) h = refl
-  same_place vars k wanted (string_place t n) h = refl
-  same_place vars k wanted (variable t s n) h = refl
-  same_place vars k wanted (dereference t a) h = refl
-  same_place vars k wanted (field t first a) h = refl
-  same_place vars k wanted _ h = absurd h
+  same_place vars k wanted (comma t es) h = absurd h
+  same_place vars k wanted (call t site f es) h = absurd h
+  same_place vars k wanted (call_through t site a es) h = absurd h
+  same_place vars k wanted e h = refl
 
   -- ## Null calls
 
@@ -118,10 +114,9 @@ kept_is_given p w marks fr wanted t k v st kept set =
 
 pub kept_are_given : KeptAreGiven
 kept_are_given p w marks fr k [] [] st h = refl
-kept_are_given p w marks fr k [] (v ∷ vs) st h = absurd h
-kept_are_given p w marks fr k (t ∷ ts) [] st h = absurd h
 kept_are_given p w marks fr k (t ∷ ts) (v ∷ vs) st h =
     ap (λ r. then_do r (λ v st. then_do (eval_all p w marks fr (kept_values (suc k) ts) st) (λ vs st. Go (v ∷ vs) st []))) (kept_is_given p w marks fr true t k v st h.0 h.1) ∙ ap (λ r. after [] (then_do r (λ vs st. Go (v ∷ vs) st []))) (kept_are_given p w marks fr (suc k) ts vs st h.2)
+kept_are_given p w marks fr k ts vs st h = absurd h
 
 pub declarations_declare : DeclarationsDeclare
 declarations_declare o p w marks fr k [] ss st h = refl

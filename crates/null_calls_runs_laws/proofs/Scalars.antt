@@ -1,7 +1,10 @@
 -- The temporaries of a well-typed program's marked calls have scalar types: each is one cell.
-use Rattle.std.proofs.Common.{◌≡◌, ℕ, zero, suc, Bool, true, false, ◌&&◌, if◌then◌else◌, List, [], ◌∷◌, ◌++◌, map, All, Option, Some, None, slice_get, sym, ap, ◌∙◌, subst, refl}
+use Rattle.std.proofs.Common.{◌≡◌, ℕ, Bool, true, false, ◌&&◌, List, [], ◌∷◌, ◌++◌, map, All, Option, Some, None, slice_get, sym, ap, ◌∙◌, subst, refl}
 use Rattle.std.proofs.lemmas.Bool.{false≢true}
+use Rattle.std.specs.List.{list_all}
 use Rattle.std.proofs.lemmas.List.Elements.{All-head, All-tail}
+use Rattle.std.proofs.lemmas.List.Folds.{list_all-append}
+use Rattle.std.proofs.lemmas.List.Sums.{AllPass-from_list_all}
 use Rattle.c_tree.specs.declared.value.IntType.{IntType}
 use Rattle.c_tree.specs.Tree.{CType, void, integer, pointer, function, CTypes, no_types, more_types, list_of, Function, Program, type_of}
 use Rattle.c_tree.specs.Tree.{Expr, constant, function_name, string_place, variable, dereference, load, address_of, decay, discard, field, unary_operation, conversion, arithmetic, comparison, pointer_add, pointer_diff, and, or, assign, update, conditional, comma, call, call_through}
@@ -10,13 +13,13 @@ use Rattle.c_tree.specs.Tree.{Stmt, block, evaluate, declare, if_else, while_loo
 use Rattle.c_tree.specs.Functions.{sys_types, null_types, type_of_defined, value_types, called_types, value_type, called_type}
 use Rattle.c_tree.specs.Operands.{IsScalar, IsResult}
 use Rattle.c_tree.specs.Program.{IsFunction, IsProgram}
-use Rattle.c_tree.specs.Typed.{IsValue, IsPlace, AreMembers, AreArguments, IsTest, IsStep, AreInits, IsFirst, AreFirst, IsStmt, AreStmts, AreGroups}
+use Rattle.c_tree.specs.Typed.{IsValue, IsPlace, AreMembers, AreArguments, IsTest, IsStep, AreInits, AreFirst, IsStmt, AreStmts, AreGroups}
 use Rattle.c_shapes.specs.Mentions.{Direct, Through}
 use Rattle.c_shapes.specs.CallGraph.{is_taken, is_typed, functions_of, callees, reaches, is_marked}
 use Rattle.c_shapes.proofs.SameTypes.{types_tell}
 use Rattle.c_meaning_laws.proofs.Places.{get_left}
 use Rattle.c_meaning_laws.proofs.Steps.{scalars_of}
-use Rattle.null_calls_rules.proofs.Lists.{if_has, and_left, and_right, from_filter, one_passes}
+use Rattle.null_calls_rules.proofs.Lists.{if_has, got_in, and_right, from_filter, one_passes}
 use Rattle.null_calls_rules.specs.Temporaries.{is_kept}
 use Rattle.null_calls_rules.specs.InstrumentedPrograms.{parameters_where, of_result, of_direct, of_through, kept, kept_of_all, kept_of_members, kept_of_maybe, kept_of_inits, kept_of_stmt, kept_of_stmts, kept_of_groups}
 use Rattle.c_shapes.proofs.Members.{and_both}
@@ -40,20 +43,14 @@ gives_result (function (integer i) ts) = true
 gives_result (function (pointer t) ts) = true
 gives_result _ = false
 
-abbrev all_give : List CType → Bool
-all_give [] = true
-all_give (t ∷ ts) = gives_result t && all_give ts
+give_both : (xs ys : List CType) → list_all gives_result xs ≡ true → list_all gives_result ys ≡ true → list_all gives_result (xs ++ ys) ≡ true
+give_both xs ys h k = list_all-append gives_result xs ys ∙ and_both (list_all gives_result xs) (list_all gives_result ys) h k
 
-give_both : (xs ys : List CType) → all_give xs ≡ true → all_give ys ≡ true → all_give (xs ++ ys) ≡ true
-give_both [] ys h k = k
-give_both (x ∷ xs) ys h k = and_both (gives_result x) (all_give (xs ++ ys)) (and_left (gives_result x) (all_give xs) h) (give_both xs ys (and_right (gives_result x) (all_give xs) h) k)
+given_from : (xs : List CType) (k : ℕ) (t : CType) → list_all gives_result xs ≡ true → slice_get xs k ≡ Some t → gives_result t ≡ true
+given_from xs k t h e =
+    let c = got_in xs k t e in subst (λ t. gives_result t ≡ true) c.2 (AllPass-from_list_all gives_result xs h c.0 t c.1)
 
-given_from : (xs : List CType) (k : ℕ) (t : CType) → all_give xs ≡ true → slice_get xs k ≡ Some t → gives_result t ≡ true
-given_from [] k t h e = absurd (cc)
-given_from (x ∷ xs) zero t h e = let same : x ≡ t = cc in subst (λ t. gives_result t ≡ true) same (and_left (gives_result x) (all_give xs) h)
-given_from (x ∷ xs) (suc k) t h e = given_from xs k t (and_right (gives_result x) (all_give xs) h) e
-
-sys_give : all_give sys_types ≡ true
+sys_give : list_all gives_result sys_types ≡ true
 unfolding sys_types
 sys_give = refl
 
@@ -78,11 +75,11 @@ result_scalars : (wanted : Bool) (t : CType) → IsResult t → AreScalars (of_r
 result_scalars wanted t h = if_has AreScalars (is_kept wanted t) (t ∷ []) [] (λ e. (kept_scalar wanted t h e, tt)) (λ e. tt)
 
 module _ (p : Program) (n : ℕ) (typed : IsProgram p n) where
-  functions_give : (fs : List Function) → All (IsFunction p) fs → all_give (map type_of_defined fs) ≡ true
+  functions_give : (fs : List Function) → All (IsFunction p) fs → list_all gives_result (map type_of_defined fs) ≡ true
   functions_give [] h = refl
   functions_give (f ∷ fs) h =
       let k = All-head (IsFunction p) f fs h in
-      and_both (gives_result f.ctype) (all_give (map type_of_defined fs)) (ap gives_result k.type ∙ of_result_type k.gives k.takes k.result_type) (functions_give fs (All-tail (IsFunction p) f fs h))
+      and_both (gives_result f.ctype) (list_all gives_result (map type_of_defined fs)) (ap gives_result k.type ∙ of_result_type k.gives k.takes k.result_type) (functions_give fs (All-tail (IsFunction p) f fs h))
 
   -- what a call gives is a scalar or nothing
   pub result_of_call : (f : ℕ) (t : CType) (ts : CTypes) → called_type p f ≡ Some (function t ts) → IsResult t
@@ -158,9 +155,8 @@ module _ (p : Program) (n : ℕ) (typed : IsProgram p n) where
 
       all_scalars : (ts : CTypes) (es : Exprs) → AreArguments p vars ts es → AreScalars (kept_of_all p es)
       all_scalars no_types no_exprs h = tt
-      all_scalars no_types (more_exprs e es) h = absurd h
-      all_scalars (more_types t ts) no_exprs h = absurd h
       all_scalars (more_types t ts) (more_exprs e es) h = scalars_both (kept p true e) (kept_of_all p es) (value_scalars true e h.1) (all_scalars ts es h.2)
+      all_scalars ts es h = absurd h
 
     test_scalars : (e : Maybe) → IsTest p vars e → AreScalars (kept_of_maybe p true e)
     test_scalars absent h = tt

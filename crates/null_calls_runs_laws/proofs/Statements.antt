@@ -7,7 +7,7 @@ use Rattle.c_tree.specs.Tree.{Stmt, block, empty, evaluate, declare, if_else, wh
 use Rattle.c_tree.specs.Layout.{flat, cells}
 use Rattle.c_tree.specs.Kinds.{Objects}
 use Rattle.c_tree.specs.Program.{IsProgram}
-use Rattle.c_tree.specs.Typed.{IsValue, IsTest, IsStep, AreInits, IsDeclare, IsFirst, AreFirst, IsStmt, AreStmts, AreGroups}
+use Rattle.c_tree.specs.Typed.{IsValue, IsTest, IsStep, AreInits, IsDeclare, IsStmt, AreStmts, AreGroups}
 use Rattle.c_values.specs.Memory.{declared}
 use Rattle.c_values.specs.Memory.{Objects as Memory}
 use Rattle.c_shapes.specs.Mentions.{mentions, mentions_of_maybe, mentions_of_inits, mentions_of_stmt, mentions_of_stmts, mentions_of_groups}
@@ -15,8 +15,8 @@ use Rattle.c_meaning.specs.Meaning.{Frame, Loop, World, name_in, initialise, fre
 use Rattle.c_meaning.specs.Pointers.{place}
 use Rattle.c_meaning.specs.Results.{State, with_memory, Result, Go, Stop, then_do, Exit, on, broken, continued, returned, out_of_switch}
 use Rattle.c_meaning.specs.Runs.{no_marks}
-use Rattle.c_meaning_laws.specs.StoreTyping.{IsTypedState, Grows, TellsAlike, IsTypedFrame}
-use Rattle.c_meaning_laws.specs.TypedResults.{EndsTyped, IsExit, StandsIn, StandsRound, IsTypedWorld}
+use Rattle.c_meaning_laws.specs.StoreTyping.{Grows, TellsAlike, IsTypedFrame}
+use Rattle.c_meaning_laws.specs.TypedResults.{IsExit, StandsIn, StandsRound, IsTypedWorld}
 use Rattle.c_meaning_laws.proofs.Places.{flat_scalar, grows_on}
 use Rattle.c_meaning_laws.proofs.Keeps.{scalar_kind, cell_ends, fresh_ends, first_ends, exec_ends, stmts_end, groups_end}
 use Rattle.c_meaning_laws.proofs.Standing.{left_part, right_part, stands_empty}
@@ -37,9 +37,6 @@ Agains p w w' =
     (known : Objects) (fr : Frame) (limit : ℕ) (wide : List CType) → ((j : ℕ) → length fr.types ≤ j → known (name_in fr false j) ≡ None) → ((x : ℕ) (t : CType) → slice_get fr.types x ≡ Some t → slice_get wide x ≡ Some t) → (r : CType) (l : Loop) (i j k : ℕ) (o : Objects) (st : State) (more : Memory) → IsTypedFrame p o fr → IsTest p fr.types l.test → IsStmt p fr.types r true true l.body → IsStep p fr.types l.step → StandsRound p l → Fits (length fr.types) limit i (kept_of_maybe p true l.test) → Fits (length fr.types) limit j (kept_of_stmt p l.body) → Fits (length fr.types) limit k (kept_of_maybe p false l.step) → Here known fr limit p o st more → Does known fr limit {A = Exit} true (length fr.types) more (w.again fr l st) (w'.again (record { activation = fr.activation; types = wide }) (record { test = maybe p i true l.test; body = stmt p j l.body; step = maybe p k false l.step }) (with_memory st more))
 
 module _ (p : Program) (n : ℕ) (typed : IsProgram p n) (w w' : World) (goes : IsTypedWorld p w) (enters : Enters p w w') (agains : Agains p w w') (known : Objects) (fr : Frame) (limit : ℕ) (wide : List CType) (untold : (j : ℕ) → length fr.types ≤ j → known (name_in fr false j) ≡ None) (agree : (x : ℕ) (t : CType) → slice_get fr.types x ≡ Some t → slice_get wide x ≡ Some t) where
-  abbrev pub first : ℕ
-  first = length fr.types
-
   abbrev pub wider_frame : Frame
   wider_frame = record { activation = fr.activation; types = wide }
 

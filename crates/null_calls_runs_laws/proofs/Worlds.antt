@@ -15,7 +15,7 @@ use Rattle.c_meaning.specs.Meaning.{Frame, Loop, World, name_in, condition, perh
 use Rattle.c_meaning.specs.NullCalls.{DifferInNullCalls}
 use Rattle.c_meaning.specs.Results.{State, with_memory, Result, Go, Stop, then_do, Exit, on, on_round}
 use Rattle.c_meaning.specs.Runs.{no_marks, with_parameters, parameters, entered, run_body, enter, loop, world, beginning, ending, run}
-use Rattle.c_meaning_laws.specs.StoreTyping.{HasKind, IsTypedMemory, IsTypedState, Grows, TellsOfStatics, IsTypedFrame}
+use Rattle.c_meaning_laws.specs.StoreTyping.{HasKind, IsTypedMemory, Grows, TellsOfStatics, IsTypedFrame}
 use Rattle.c_meaning_laws.specs.TypedResults.{IsExit, StandsIn, StandsRound, IsTypedWorld}
 use Rattle.c_meaning_laws.proofs.Places.{grows_on}
 use Rattle.c_meaning_laws.proofs.Keeps.{Holds, condition_ends, perhaps_ends, exec_ends}
