@@ -154,9 +154,6 @@ module _ (p : Program) (w' : World) (known : Objects) (fr : Frame) (limit : ℕ)
   abbrev pub Each : Bool → Exprs → State → Result Value
   Each wanted es st = eval_each (instrumented_program p) w' no_marks wider_frame wanted es st
 
-  hidden : (j : ℕ) → length fr.types ≤ j → IsHidden known fr.activation (name_in fr false j)
-  hidden j a = (omega arith, untold j a)
-
   -- a value is kept, and then the next part
   pub keep_then : {B : Type 0} (owed : Bool) (k m i j : ℕ) (ok : Objects → Value → Type 0) (t : CType) (o : Objects) (st : State) (more : Memory) (r : Result Value) (e : Expr) (f : Value → State → Result B) (g : State → Result B) → k ≤ m → m ≤ i → m ≤ j → length fr.types ≤ i → i < limit → Here known fr limit p o st more → EndsTyped p {A = Value} ok o st.entries r → Does known fr limit {A = Value} true j more r (Instrumented true e (with_memory st more)) → ((u : Objects) (x : Value) (st : State) (l : Memory) → Grows o u → ok u x → IsKept l fr i x → StayBut known fr limit m more l → Here known fr limit p u st l → Does known fr limit {A = B} owed k l (f x st) (g (with_memory st l))) → Does known fr limit {A = B} owed k more (then_do r f) (then_do (Instrumented false (keep t i e) (with_memory st more)) (λ y st. g st))
   keep_then {B} owed k m i j ok t o st more (Stop c u) e f g km mi mj first less n ends h next =
@@ -167,18 +164,15 @@ module _ (p : Program) (w' : World) (known : Objects) (fr : Frame) (limit : ℕ)
           state = ends.3;
           tells = alike_on fr.activation st.entries known o ends.0 n.now.started n.now.tells ends.5;
           started = let a = n.now.started in let b = ends.6 in omega (arith, a, b);
-          beside = λ y shown. changed_elsewhere h.left (name_in fr false i) y _ (λ s. shown (subst (IsHidden known fr.activation) s (hidden i first))) ∙ h.beside y shown;
+          beside = λ y shown. changed_elsewhere h.left (name_in fr false i) y _ (λ s. shown (subst (IsHidden known fr.activation) s (omega arith, untold i first))) ∙ h.beside y shown;
         };
         ready = λ a b c. ready a b c (same_name (name_in fr false i) (name_in fr false a));
       }))))
     where
-      is : Instrumented true e (with_memory st more) ≡ Go x (with_memory z h.left) u
-      is = h.is ∙ ap (λ b. Go b (with_memory z h.left) u) h.same
-
       keeps : Instrumented false (keep t i e) (with_memory st more) ≡ Go x (with_memory z (kept_in fr i x h.left)) u
       keeps =
           let old = h.ready i first less in
-          keeping_sets (instrumented_program p) w' no_marks wider_frame false t i e x old.0 (with_memory st more) (with_memory z h.left) u is old.1
+          keeping_sets (instrumented_program p) w' no_marks wider_frame false t i e x old.0 (with_memory st more) (with_memory z h.left) u (h.is ∙ ap (λ b. Go b (with_memory z h.left) u) h.same) old.1
 
       stay : StayBut known fr limit m more (kept_in fr i x h.left)
       stay y hid out =

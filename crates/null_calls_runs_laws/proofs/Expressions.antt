@@ -149,18 +149,14 @@ module _ (p : Program) (n : ℕ) (typed : IsProgram p n) (w w' : World) (goes : 
   abbrev Behind : (wanted : Bool) → (site i : ℕ) → CType → Expr → Exprs
   Behind wanted site i t e = more_exprs (null_call (pre_number p) site) (call_and_post (post_number p) site (is_kept wanted t) t i e)
 
-  direct_ends : (wanted : Bool) (t : CType) (f : ℕ) (ts : CTypes) (o : Objects) (vs : List Value) (st : State) (l : Memory) → called_type p f ≡ Some (function t ts) → IsTypedFrame p o fr → GiveAll p (list_of ts) o vs → At o st l → EndsTyped p {A = Value} (Gives p wanted t) o st.entries (called p w (wants wanted t) f vs st)
-  direct_ends wanted t f ts o vs st l e s z a =
-      called_ends p n typed (null_calls_of p) (null_calls_recorded p) w goes wanted f t ts vs o st e s.statics (arguments_kind p n typed (null_calls_of p) (null_calls_recorded p) t t ts f o vs e z) a.now.state
-
-  direct_alike : (wanted : Bool) (t : CType) (f : ℕ) (ts : CTypes) (o : Objects) (vs : List Value) (st : State) (l : Memory) → called_type p f ≡ Some (function t ts) → IsTypedFrame p o fr → GiveAll p (list_of ts) o vs → At o st l → DoesAlike {A = Value} known fr.activation l (called p w (wants wanted t) f vs st) (called (instrumented_program p) w' (wants wanted t) f vs (with_memory st l))
-  direct_alike wanted t f ts o vs st l e s z a =
-      called_alike p n typed w w' enters known fr.activation (wants wanted t) f t ts vs o st l e s.statics (arguments_kind p n typed (null_calls_of p) (null_calls_recorded p) t t ts f o vs e z) a.now
+  direct_call : (wanted : Bool) (t : CType) (f : ℕ) (ts : CTypes) (o : Objects) (vs : List Value) (st : State) (l : Memory) → called_type p f ≡ Some (function t ts) → IsTypedFrame p o fr → GiveAll p (list_of ts) o vs → At o st l → (EndsTyped p {A = Value} (Gives p wanted t) o st.entries (called p w (wants wanted t) f vs st)) × (DoesAlike {A = Value} known fr.activation l (called p w (wants wanted t) f vs st) (called (instrumented_program p) w' (wants wanted t) f vs (with_memory st l)))
+  direct_call wanted t f ts o vs st l e s z a =
+      (called_ends p n typed (null_calls_of p) (null_calls_recorded p) w goes wanted f t ts vs o st e s.statics (arguments_kind p n typed (null_calls_of p) (null_calls_recorded p) t t ts f o vs e z) a.now.state, called_alike p n typed w w' enters known fr.activation (wants wanted t) f t ts vs o st l e s.statics (arguments_kind p n typed (null_calls_of p) (null_calls_recorded p) t t ts f o vs e z) a.now)
 
   -- a call that isn't marked
   direct_plain : (k : ℕ) (wanted : Bool) (t : CType) (site f : ℕ) (es : Exprs) (o : Objects) (st : State) (more : Memory) → IsTypedFrame p o fr → (ts : CTypes) → called_type p f ≡ Some (function t ts) → AreArguments p fr.types ts es → StandsIn p (mentions (call t site f es)) → is_marked p (Direct f) ≡ false → At o st more → Do {A = List Value} true k more (PlainAll es st) (OtherAll (arguments p k es) (with_memory st more)) → Do {A = Value} wanted k more (Plain wanted (call t site f es) st) (Other wanted (call t 0 f (arguments p k es)) (with_memory st more))
   direct_plain k wanted t site f es o st more s ts e h m b a d =
-      loose known fr limit {A = Value} wanted k more _ _ (then_same known fr limit p {A = List Value} {B = Value} true k (GiveAll p (list_of ts)) o st more _ _ _ _ a (all_end p n typed (null_calls_of p) (null_calls_recorded p) w goes fr ts es o st s h (right_part p (Calls site (Direct f) ∷ []) (mentions_of_all es) m) a.now.state) d (λ u vs st l g z a. subst (λ c. Do {A = Value} true k l (after (c.0) (then_do (called p w (wants wanted t) f vs st) (λ v st. Go v st (c.1)))) (with_marks no_marks 0 (called (instrumented_program p) w' (wants wanted t) f vs (with_memory st l)))) (sym (marks_at p n typed site (Direct f) false (left_part p (Calls site (Direct f) ∷ []) (mentions_of_all es) m) b)) (plain_calls site k _ _ known fr limit l (lift known fr limit {A = Value} k l _ _ untold (direct_alike wanted t f ts u vs st l e (on_frame o u g s) z a) a.ready))))
+      loose known fr limit {A = Value} wanted k more _ _ (then_same known fr limit p {A = List Value} {B = Value} true k (GiveAll p (list_of ts)) o st more _ _ _ _ a (all_end p n typed (null_calls_of p) (null_calls_recorded p) w goes fr ts es o st s h (right_part p (Calls site (Direct f) ∷ []) (mentions_of_all es) m) a.now.state) d (λ u vs st l g z a. subst (λ c. Do {A = Value} true k l (after (c.0) (then_do (called p w (wants wanted t) f vs st) (λ v st. Go v st (c.1)))) (with_marks no_marks 0 (called (instrumented_program p) w' (wants wanted t) f vs (with_memory st l)))) (sym (marks_at p n typed site (Direct f) false (left_part p (Calls site (Direct f) ∷ []) (mentions_of_all es) m) b)) (plain_calls site k _ _ known fr limit l (lift known fr limit {A = Value} k l _ _ untold ((direct_call wanted t f ts u vs st l e (on_frame o u g s) z a).1) a.ready))))
 
   -- the call of the kept arguments
   direct_there : (k : ℕ) (wanted : Bool) (t : CType) (f : ℕ) (ts : List CType) (vs : List Value) (st : State) (l : Memory) → AreKept l fr k ts vs → Other (is_kept wanted t) (call t 0 f (kept_values k ts)) (with_memory st l) ≡ called (instrumented_program p) w' (wants wanted t) f vs (with_memory st l)
@@ -170,7 +166,7 @@ module _ (p : Program) (n : ℕ) (typed : IsProgram p n) (w w' : World) (goes : 
   -- a marked call
   direct_marked : (k : ℕ) (wanted : Bool) (t : CType) (site f : ℕ) (es : Exprs) (o : Objects) (st : State) (more : Memory) → IsTypedFrame p o fr → (ts : CTypes) → called_type p f ≡ Some (function t ts) → StandsIn p (mentions (call t site f es)) → is_marked p (Direct f) ≡ true → length fr.types ≤ k → (is_kept wanted t ≡ true → k + length (list_of ts) < limit) → (j : ℕ) → KeepsAll k k j ts es o st more → Do {A = Value} wanted k more (Plain wanted (call t site f es) st) (OtherEach wanted (keep_all k (list_of ts) (arguments p j es) (Behind wanted site (k + length (list_of ts)) t (call t 0 f (kept_values k (list_of ts))))) (with_memory st more))
   direct_marked k wanted t site f es o st more s ts e m b first less j keeps =
-      keeps wanted wanted (Behind wanted site (k + length (list_of ts)) t (call t 0 f (kept_values k (list_of ts)))) (λ vs st. with_marks (null_calls_of p) site (called p w (wants wanted t) f vs st)) tt (λ u vs st l g z kept stay a. subst (λ c. Do {A = Value} wanted k l (after (c.0) (then_do (called p w (wants wanted t) f vs st) (λ v st. Go v st (c.1)))) (OtherEach wanted (Behind wanted site (k + length (list_of ts)) t (call t 0 f (kept_values k (list_of ts)))) (with_memory st l))) (sym (marks_at p n typed site (Direct f) true (left_part p (Calls site (Direct f) ∷ []) (mentions_of_all es) m) b)) (call_does p w' known fr limit wide untold k (k + length (list_of ts)) wanted site t u st l _ _ (call t 0 f (kept_values k (list_of ts))) (from_here k (length (list_of ts))) less (omega (arith, first)) a (direct_ends wanted t f ts u vs st l e (on_frame o u g s) z a) (direct_alike wanted t f ts u vs st l e (on_frame o u g s) z a) (direct_there k wanted t f (list_of ts) vs st l kept)))
+      keeps wanted wanted (Behind wanted site (k + length (list_of ts)) t (call t 0 f (kept_values k (list_of ts)))) (λ vs st. with_marks (null_calls_of p) site (called p w (wants wanted t) f vs st)) tt (λ u vs st l g z kept stay a. subst (λ c. Do {A = Value} wanted k l (after (c.0) (then_do (called p w (wants wanted t) f vs st) (λ v st. Go v st (c.1)))) (OtherEach wanted (Behind wanted site (k + length (list_of ts)) t (call t 0 f (kept_values k (list_of ts)))) (with_memory st l))) (sym (marks_at p n typed site (Direct f) true (left_part p (Calls site (Direct f) ∷ []) (mentions_of_all es) m) b)) (call_does p w' known fr limit wide untold k (k + length (list_of ts)) wanted site t u st l _ _ (call t 0 f (kept_values k (list_of ts))) (from_here k (length (list_of ts))) less (omega (arith, first)) a ((direct_call wanted t f ts u vs st l e (on_frame o u g s) z a).0) ((direct_call wanted t f ts u vs st l e (on_frame o u g s) z a).1) (direct_there k wanted t f (list_of ts) vs st l kept)))
 
   direct_does : (k : ℕ) (wanted : Bool) (t : CType) (site f : ℕ) (es : Exprs) (o : Objects) (st : State) (more : Memory) → IsTypedFrame p o fr → (ts : CTypes) → called_type p f ≡ Some (function t ts) → AreArguments p fr.types ts es → StandsIn p (mentions (call t site f es)) → Room k (kept p wanted (call t site f es)) → At o st more → (Room k (kept_of_all p es) → Do {A = List Value} true k more (PlainAll es st) (OtherAll (arguments p k es) (with_memory st more))) → ((j : ℕ) → k + length (list_of ts) ≤ j → Room j (kept_of_all p es) → KeepsAll k k j ts es o st more) → Do {A = Value} wanted k more (Plain wanted (call t site f es) st) (Other wanted (expr p k wanted (call t site f es)) (with_memory st more))
   direct_does k wanted t site f es o st more s ts e h m room a plain keeps = at (is_marked p (Direct f)) refl room
@@ -214,13 +210,9 @@ module _ (p : Program) (n : ℕ) (typed : IsProgram p n) (w w' : World) (goes : 
   abbrev Through' : Program → World → Bool → Value → List Value → State → Result Value
   Through' q w wanted x vs st = then_do (answered (callee x) st) (λ f st. called_through q w wanted f vs st)
 
-  through_ends : (wanted : Bool) (t : CType) (ts : CTypes) (x : Value) (o : Objects) (vs : List Value) (st : State) (l : Memory) → HasKind p o (pointer (function t ts)) x → IsTypedFrame p o fr → GiveAll p (list_of ts) o vs → At o st l → EndsTyped p {A = Value} (Gives p wanted t) o st.entries (Through' p w (wants wanted t) x vs st)
-  through_ends wanted t ts x o vs st l kind s z a =
-      callee_ends p n typed (null_calls_of p) (null_calls_recorded p) w goes wanted t ts x vs o st kind s.statics z a.now.state
-
-  through_alike : (wanted : Bool) (t : CType) (ts : CTypes) (x : Value) (o : Objects) (vs : List Value) (st : State) (l : Memory) → HasKind p o (pointer (function t ts)) x → IsTypedFrame p o fr → GiveAll p (list_of ts) o vs → At o st l → DoesAlike {A = Value} known fr.activation l (Through' p w (wants wanted t) x vs st) (Through' (instrumented_program p) w' (wants wanted t) x vs (with_memory st l))
-  through_alike wanted t ts x o vs st l kind s z a =
-      callee_alike p n typed w w' enters known fr.activation (wants wanted t) t ts x vs o st l kind s.statics z a.now
+  through_call : (wanted : Bool) (t : CType) (ts : CTypes) (x : Value) (o : Objects) (vs : List Value) (st : State) (l : Memory) → HasKind p o (pointer (function t ts)) x → IsTypedFrame p o fr → GiveAll p (list_of ts) o vs → At o st l → (EndsTyped p {A = Value} (Gives p wanted t) o st.entries (Through' p w (wants wanted t) x vs st)) × (DoesAlike {A = Value} known fr.activation l (Through' p w (wants wanted t) x vs st) (Through' (instrumented_program p) w' (wants wanted t) x vs (with_memory st l)))
+  through_call wanted t ts x o vs st l kind s z a =
+      (callee_ends p n typed (null_calls_of p) (null_calls_recorded p) w goes wanted t ts x vs o st kind s.statics z a.now.state, callee_alike p n typed w w' enters known fr.activation (wants wanted t) t ts x vs o st l kind s.statics z a.now)
 
   through_stands : (site : ℕ) (d : Expr) (es : Exprs) → StandsIn p (mentions d ++ Calls site (Through (type_of d)) ∷ mentions_of_all es) → StandsIn p (Calls site (Through (type_of d)) ∷ []) × StandsIn p (mentions_of_all es)
   through_stands site d es m =
@@ -230,7 +222,7 @@ module _ (p : Program) (n : ℕ) (typed : IsProgram p n) (w w' : World) (goes : 
   through_plain : (k j : ℕ) (wanted : Bool) (t : CType) (site : ℕ) (d d' : Expr) (es : Exprs) (o : Objects) (st : State) (more : Memory) → k ≤ j → IsTypedFrame p o fr → (ts : CTypes) → type_of d ≡ pointer (function t ts) → IsValue p fr.types d → AreArguments p fr.types ts es → StandsIn p (mentions (call_through t site d es)) → is_marked p (Through (type_of d)) ≡ false → At o st more → Do {A = Value} true k more (Plain true d st) (Other true d' (with_memory st more)) → ((u : Objects) (st : State) (l : Memory) → IsTypedFrame p u fr → At u st l → Do {A = List Value} true j l (PlainAll es st) (OtherAll (arguments p j es) (with_memory st l))) → Do {A = Value} wanted k more (Plain wanted (call_through t site d es) st) (Other wanted (call_through t 0 d' (arguments p j es)) (with_memory st more))
   through_plain k j wanted t site d d' es o st more kj s ts e h h' m b a first others =
       let parts = through_stands site d es m in
-      loose known fr limit {A = Value} wanted k more _ _ (on_value {C = Value} true k d d' o st more _ _ s h (left_part p (mentions d) (Calls site (Through (type_of d)) ∷ mentions_of_all es) m) a first (λ u x st l g given a. then_same known fr limit p {A = List Value} {B = Value} true k (GiveAll p (list_of ts)) u st l _ _ _ _ a (all_end p n typed (null_calls_of p) (null_calls_recorded p) w goes fr ts es u st (on_frame o u g s) h' parts.1 a.now.state) (wider known fr limit {A = List Value} true k j l _ _ kj (others u st l (on_frame o u g s) a)) (λ u' vs st' l' g' z a'. subst (λ c. Do {A = Value} true k l' (after (c.0) (then_do (Through' p w (wants wanted t) x vs st') (λ v st. Go v st (c.1)))) (with_marks no_marks 0 (Through' (instrumented_program p) w' (wants wanted t) x vs (with_memory st' l')))) (sym (marks_at p n typed site (Through (type_of d)) false parts.0 b)) (plain_calls site k _ _ known fr limit l' (lift known fr limit {A = Value} k l' _ _ untold (through_alike wanted t ts x u' vs st' l' (designator_kind t ts d u u' x e g' given) (on_frame o u' (grows_on o u u' g g') s) z a') a'.ready)))))
+      loose known fr limit {A = Value} wanted k more _ _ (on_value {C = Value} true k d d' o st more _ _ s h (left_part p (mentions d) (Calls site (Through (type_of d)) ∷ mentions_of_all es) m) a first (λ u x st l g given a. then_same known fr limit p {A = List Value} {B = Value} true k (GiveAll p (list_of ts)) u st l _ _ _ _ a (all_end p n typed (null_calls_of p) (null_calls_recorded p) w goes fr ts es u st (on_frame o u g s) h' parts.1 a.now.state) (wider known fr limit {A = List Value} true k j l _ _ kj (others u st l (on_frame o u g s) a)) (λ u' vs st' l' g' z a'. subst (λ c. Do {A = Value} true k l' (after (c.0) (then_do (Through' p w (wants wanted t) x vs st') (λ v st. Go v st (c.1)))) (with_marks no_marks 0 (Through' (instrumented_program p) w' (wants wanted t) x vs (with_memory st' l')))) (sym (marks_at p n typed site (Through (type_of d)) false parts.0 b)) (plain_calls site k _ _ known fr limit l' (lift known fr limit {A = Value} k l' _ _ untold ((through_call wanted t ts x u' vs st' l' (designator_kind t ts d u u' x e g' given) (on_frame o u' (grows_on o u u' g g') s) z a').1) a'.ready)))))
 
   -- the call of the kept designator and arguments
   through_there : (i : ℕ) (wanted : Bool) (t v : CType) (ts : List CType) (x : Value) (vs : List Value) (st : State) (l : Memory) → IsKept l fr i x → IsSet x → AreKept l fr (suc i) ts vs → Other (is_kept wanted t) (call_through t 0 (kept_value v i) (kept_values (suc i) ts)) (with_memory st l) ≡ Through' (instrumented_program p) w' (wants wanted t) x vs (with_memory st l)
@@ -247,7 +239,7 @@ module _ (p : Program) (n : ℕ) (typed : IsProgram p n) (w w' : World) (goes : 
       let kind = designator_kind t ts d u u' x e g' given in
       let frame = on_frame o u' (grows_on o u u' g g') s in
       let still = stays_kept i x l l' (omega (arith, first, ki)) stay' there in
-      subst (λ c. Do {A = Value} wanted k l' (after (c.0) (then_do (Through' p w (wants wanted t) x vs st') (λ v st. Go v st (c.1)))) (OtherEach wanted rest (with_memory st' l'))) (sym (marks_at p n typed site (Through (type_of d)) true parts.0 b)) (call_does p w' known fr limit wide untold k (suc i + length (list_of ts)) wanted site t u' st' l' _ _ the_call (omega (arith, ki)) room (omega (arith, first, ki)) a' (through_ends wanted t ts x u' vs st' l' kind frame z a') (through_alike wanted t ts x u' vs st' l' kind frame z a') (through_there i wanted t v (list_of ts) x vs st' l' still (set_of p u' (pointer (function t ts)) x kind) kept)))))
+      subst (λ c. Do {A = Value} wanted k l' (after (c.0) (then_do (Through' p w (wants wanted t) x vs st') (λ v st. Go v st (c.1)))) (OtherEach wanted rest (with_memory st' l'))) (sym (marks_at p n typed site (Through (type_of d)) true parts.0 b)) (call_does p w' known fr limit wide untold k (suc i + length (list_of ts)) wanted site t u' st' l' _ _ the_call (omega (arith, ki)) room (omega (arith, first, ki)) a' ((through_call wanted t ts x u' vs st' l' kind frame z a').0) ((through_call wanted t ts x u' vs st' l' kind frame z a').1) (through_there i wanted t v (list_of ts) x vs st' l' still (set_of p u' (pointer (function t ts)) x kind) kept)))))
 
   through_does : (k : ℕ) (wanted : Bool) (t : CType) (site : ℕ) (d : Expr) (es : Exprs) (o : Objects) (st : State) (more : Memory) → IsTypedFrame p o fr → (ts : CTypes) → type_of d ≡ pointer (function t ts) → IsValue p fr.types d → AreArguments p fr.types ts es → StandsIn p (mentions (call_through t site d es)) → Room k (kept p wanted (call_through t site d es)) → At o st more → (Room k (kept p true d) → Do {A = Value} true k more (Plain true d st) (Other true (expr p k true d) (with_memory st more))) → ((u : Objects) (st : State) (l : Memory) → IsTypedFrame p u fr → At u st l → Room (k + length (kept p true d)) (kept_of_all p es) → Do {A = List Value} true (k + length (kept p true d)) l (PlainAll es st) (OtherAll (arguments p (k + length (kept p true d)) es) (with_memory st l))) → ((i j : ℕ) → is_marked p (Through (type_of d)) ≡ true → (u : Objects) (st : State) (l : Memory) → k ≤ i → i + length (list_of ts) ≤ j → length fr.types ≤ i → Room j (kept_of_all p es) → IsTypedFrame p u fr → At u st l → KeepsAll k i j ts es u st l) → Do {A = Value} wanted k more (Plain wanted (call_through t site d es) st) (Other wanted (expr p k wanted (call_through t site d es)) (with_memory st more))
   through_does k wanted t site d es o st more s ts e h h' m whole a does plain keeps =
@@ -278,12 +270,6 @@ module _ (p : Program) (n : ℕ) (typed : IsProgram p n) (w w' : World) (goes : 
   abbrev next : ℕ → Expr → ℕ
   next k a = k + length (kept p true a)
 
-  left_room : (k : ℕ) (xs ys : List CType) → Room k (xs ++ ys) → Room k xs
-  left_room k xs ys h = fits_left (length fr.types) limit k xs ys h
-
-  right_room : (k : ℕ) (xs ys : List CType) → Room k (xs ++ ys) → Room (k + length xs) ys
-  right_room k xs ys h = fits_right (length fr.types) limit k xs ys h
-
   members_more : (k : ℕ) (wanted : Bool) (e : Expr) (es : Exprs) → IsMore (members p k wanted (more_exprs e es))
   members_more k wanted e no_exprs = tt
   members_more k wanted e (more_exprs f es) = tt
@@ -303,29 +289,29 @@ module _ (p : Program) (n : ℕ) (typed : IsProgram p n) (w w' : World) (goes : 
     value_does k wanted (conversion t to e) o st more s h m r a =
         on_value {C = Value} wanted k e (expr p k true e) o st more _ _ s h.2 m a (value_does k true e o st more s h.2 m r a) (λ u x st l g i a. step wanted k (convert to x) (convert to x) u st l refl a)
     value_does k wanted (arithmetic t op e f) o st more s h m r a =
-        both wanted k e f (expr p (next k e) true f) (expr p k true e) (next k e) o st more (λ m x y. binary op x y) (from_here k _) s h.1 h.2 m a (λ m l x y i j. refl) (value_does k true e o st more s h.1 (left_part p (mentions e) (mentions f) m) (left_room k (kept p true e) (kept p true f) r) a) (λ u st l s a. value_does (next k e) true f u st l s h.2 (right_part p (mentions e) (mentions f) m) (right_room k (kept p true e) (kept p true f) r) a)
+        both wanted k e f (expr p (next k e) true f) (expr p k true e) (next k e) o st more (λ m x y. binary op x y) (from_here k _) s h.1 h.2 m a (λ m l x y i j. refl) (value_does k true e o st more s h.1 (left_part p (mentions e) (mentions f) m) (fits_left _ _ k (kept p true e) (kept p true f) r) a) (λ u st l s a. value_does (next k e) true f u st l s h.2 (right_part p (mentions e) (mentions f) m) (fits_right _ _ k (kept p true e) (kept p true f) r) a)
     value_does k wanted (comparison t op e f) o st more s h m r a =
-        both wanted k e f (expr p (next k e) true f) (expr p k true e) (next k e) o st more (λ m x y. comparing op m x y) (from_here k _) s h.1 h.2 m a (λ m l x y i j. comparing_same m l op x y i j) (value_does k true e o st more s h.1 (left_part p (mentions e) (mentions f) m) (left_room k (kept p true e) (kept p true f) r) a) (λ u st l s a. value_does (next k e) true f u st l s h.2 (right_part p (mentions e) (mentions f) m) (right_room k (kept p true e) (kept p true f) r) a)
+        both wanted k e f (expr p (next k e) true f) (expr p k true e) (next k e) o st more (λ m x y. comparing op m x y) (from_here k _) s h.1 h.2 m a (λ m l x y i j. comparing_same m l op x y i j) (value_does k true e o st more s h.1 (left_part p (mentions e) (mentions f) m) (fits_left _ _ k (kept p true e) (kept p true f) r) a) (λ u st l s a. value_does (next k e) true f u st l s h.2 (right_part p (mentions e) (mentions f) m) (fits_right _ _ k (kept p true e) (kept p true f) r) a)
     value_does k wanted (pointer_add t first subtracted e f) o st more s h m r a =
-        both wanted k e f (expr p (next k e) true f) (expr p k true e) (next k e) o st more (λ m x y. moving first subtracted m x y) (from_here k _) s h.1 h.2 m a (λ m l x y i j. moving_same m l first subtracted x y i j) (value_does k true e o st more s h.1 (left_part p (mentions e) (mentions f) m) (left_room k (kept p true e) (kept p true f) r) a) (λ u st l s a. value_does (next k e) true f u st l s h.2 (right_part p (mentions e) (mentions f) m) (right_room k (kept p true e) (kept p true f) r) a)
+        both wanted k e f (expr p (next k e) true f) (expr p k true e) (next k e) o st more (λ m x y. moving first subtracted m x y) (from_here k _) s h.1 h.2 m a (λ m l x y i j. moving_same m l first subtracted x y i j) (value_does k true e o st more s h.1 (left_part p (mentions e) (mentions f) m) (fits_left _ _ k (kept p true e) (kept p true f) r) a) (λ u st l s a. value_does (next k e) true f u st l s h.2 (right_part p (mentions e) (mentions f) m) (fits_right _ _ k (kept p true e) (kept p true f) r) a)
     value_does k wanted (pointer_diff t e f) o st more s h m r a =
-        both wanted k e f (expr p (next k e) true f) (expr p k true e) (next k e) o st more (λ m x y. difference m x y) (from_here k _) s h.3 h.4 m a (λ m l x y i j. difference_same m l x y i j) (value_does k true e o st more s h.3 (left_part p (mentions e) (mentions f) m) (left_room k (kept p true e) (kept p true f) r) a) (λ u st l s a. value_does (next k e) true f u st l s h.4 (right_part p (mentions e) (mentions f) m) (right_room k (kept p true e) (kept p true f) r) a)
+        both wanted k e f (expr p (next k e) true f) (expr p k true e) (next k e) o st more (λ m x y. difference m x y) (from_here k _) s h.3 h.4 m a (λ m l x y i j. difference_same m l x y i j) (value_does k true e o st more s h.3 (left_part p (mentions e) (mentions f) m) (fits_left _ _ k (kept p true e) (kept p true f) r) a) (λ u st l s a. value_does (next k e) true f u st l s h.4 (right_part p (mentions e) (mentions f) m) (fits_right _ _ k (kept p true e) (kept p true f) r) a)
     value_does k wanted (and t e f) o st more s h m r a =
-        on_test {C = Value} wanted k e (expr p k true e) o st more _ _ s h.1 (left_part p (mentions e) (mentions f) m) a (value_does k true e o st more s h.1.1 (left_part p (mentions e) (mentions f) m) (left_room k (kept p true e) (kept p true f) r) a) (λ u holds st l g a. either_does known fr limit {A = Value} wanted k holds l _ _ _ _ (on_test {C = Value} wanted k f (expr p (next k e) true f) u st l _ _ (on_frame o u g s) h.2 (right_part p (mentions e) (mentions f) m) a (wider known fr limit {A = Value} true k (next k e) l _ _ (from_here k _) (value_does (next k e) true f u st l (on_frame o u g s) h.2.1 (right_part p (mentions e) (mentions f) m) (right_room k (kept p true e) (kept p true f) r) a)) (λ u holds st l g a. done wanted k (truth_value holds) u st l a)) (done wanted k (truth_value false) u st l a))
+        on_test {C = Value} wanted k e (expr p k true e) o st more _ _ s h.1 (left_part p (mentions e) (mentions f) m) a (value_does k true e o st more s h.1.1 (left_part p (mentions e) (mentions f) m) (fits_left _ _ k (kept p true e) (kept p true f) r) a) (λ u holds st l g a. either_does known fr limit {A = Value} wanted k holds l _ _ _ _ (on_test {C = Value} wanted k f (expr p (next k e) true f) u st l _ _ (on_frame o u g s) h.2 (right_part p (mentions e) (mentions f) m) a (wider known fr limit {A = Value} true k (next k e) l _ _ (from_here k _) (value_does (next k e) true f u st l (on_frame o u g s) h.2.1 (right_part p (mentions e) (mentions f) m) (fits_right _ _ k (kept p true e) (kept p true f) r) a)) (λ u holds st l g a. done wanted k (truth_value holds) u st l a)) (done wanted k (truth_value false) u st l a))
     value_does k wanted (or t e f) o st more s h m r a =
-        on_test {C = Value} wanted k e (expr p k true e) o st more _ _ s h.1 (left_part p (mentions e) (mentions f) m) a (value_does k true e o st more s h.1.1 (left_part p (mentions e) (mentions f) m) (left_room k (kept p true e) (kept p true f) r) a) (λ u holds st l g a. either_does known fr limit {A = Value} wanted k holds l _ _ _ _ (done wanted k (truth_value true) u st l a) (on_test {C = Value} wanted k f (expr p (next k e) true f) u st l _ _ (on_frame o u g s) h.2 (right_part p (mentions e) (mentions f) m) a (wider known fr limit {A = Value} true k (next k e) l _ _ (from_here k _) (value_does (next k e) true f u st l (on_frame o u g s) h.2.1 (right_part p (mentions e) (mentions f) m) (right_room k (kept p true e) (kept p true f) r) a)) (λ u holds st l g a. done wanted k (truth_value holds) u st l a)))
+        on_test {C = Value} wanted k e (expr p k true e) o st more _ _ s h.1 (left_part p (mentions e) (mentions f) m) a (value_does k true e o st more s h.1.1 (left_part p (mentions e) (mentions f) m) (fits_left _ _ k (kept p true e) (kept p true f) r) a) (λ u holds st l g a. either_does known fr limit {A = Value} wanted k holds l _ _ _ _ (done wanted k (truth_value true) u st l a) (on_test {C = Value} wanted k f (expr p (next k e) true f) u st l _ _ (on_frame o u g s) h.2 (right_part p (mentions e) (mentions f) m) a (wider known fr limit {A = Value} true k (next k e) l _ _ (from_here k _) (value_does (next k e) true f u st l (on_frame o u g s) h.2.1 (right_part p (mentions e) (mentions f) m) (fits_right _ _ k (kept p true e) (kept p true f) r) a)) (λ u holds st l g a. done wanted k (truth_value holds) u st l a)))
     value_does k wanted (assign t e f) o st more s h m r a =
-        on_place {C = Value} wanted k e (expr p k true e) o st more _ _ s h.3 (left_part p (mentions e) (mentions f) m) a (place_does k true e o st more s h.3 (left_part p (mentions e) (mentions f) m) (left_room k (kept p true e) (kept p true f) r) a) (λ u q st l g i a. let shown = place_shown known fr.activation p u (type_of e) q a.now.tells i in on_value {C = Value} wanted k f (expr p (next k e) true f) u st l _ _ (on_frame o u g s) h.4 (right_part p (mentions e) (mentions f) m) a (wider known fr limit {A = Value} true k (next k e) l _ _ (from_here k _) (value_does (next k e) true f u st l (on_frame o u g s) h.4 (right_part p (mentions e) (mentions f) m) (right_room k (kept p true e) (kept p true f) r) a)) (λ u x st l g j a. stored wanted k q x x u st l shown a))
+        on_place {C = Value} wanted k e (expr p k true e) o st more _ _ s h.3 (left_part p (mentions e) (mentions f) m) a (place_does k true e o st more s h.3 (left_part p (mentions e) (mentions f) m) (fits_left _ _ k (kept p true e) (kept p true f) r) a) (λ u q st l g i a. let shown = place_shown known fr.activation p u (type_of e) q a.now.tells i in on_value {C = Value} wanted k f (expr p (next k e) true f) u st l _ _ (on_frame o u g s) h.4 (right_part p (mentions e) (mentions f) m) a (wider known fr limit {A = Value} true k (next k e) l _ _ (from_here k _) (value_does (next k e) true f u st l (on_frame o u g s) h.4 (right_part p (mentions e) (mentions f) m) (fits_right _ _ k (kept p true e) (kept p true f) r) a)) (λ u x st l g j a. stored wanted k q x x u st l shown a))
     value_does k wanted (update t op old e f) o st more s h m r a =
-        on_place {C = Value} wanted k e (expr p k true e) o st more _ _ s h.2 (left_part p (mentions e) (mentions f) m) a (place_does k true e o st more s h.2 (left_part p (mentions e) (mentions f) m) (left_room k (kept p true e) (kept p true f) r) a) (λ u q st l g i a.
+        on_place {C = Value} wanted k e (expr p k true e) o st more _ _ s h.2 (left_part p (mentions e) (mentions f) m) a (place_does k true e o st more s h.2 (left_part p (mentions e) (mentions f) m) (fits_left _ _ k (kept p true e) (kept p true f) r) a) (λ u q st l g i a.
         let scalar = update_scalar p n typed op t (type_of f) h.0 in
         let shown = place_shown known fr.activation p u (type_of e) q a.now.tells i in
         let tells = a.now.tells in
-        answered_then known fr limit {A = Value} {B = Value} wanted k (HasKind p u t) (load_place st.memory q) (load_place l q) st l _ _ (load_place_same st.memory l q (place_seen u (type_of e) q st l i a)) (right_whenever (HasKind p u t) (load_place st.memory q) (load_place_right p n typed u t q st.memory scalar (subst (λ t. IsPlaced p u t q) h.1 i) a.now.state.memory)) (λ before c. on_value {C = Value} wanted k f (expr p (next k e) true f) u st l _ _ (on_frame o u g s) h.3 (right_part p (mentions e) (mentions f) m) a (wider known fr limit {A = Value} true k (next k e) l _ _ (from_here k _) (value_does (next k e) true f u st l (on_frame o u g s) h.3 (right_part p (mentions e) (mentions f) m) (right_room k (kept p true e) (kept p true f) r) a)) (λ u' x st' l' g' j a'. answered_then known fr limit {A = Value} {B = Value} wanted k (λ x. Unit {0}) (updated op t (type_of f) st'.memory before x) (updated op t (type_of (expr p (next k e) true f)) l' before x) st' l' _ _ (ap (λ t'. updated op t t' l' before x) ((types_stay p fr.types (next k e) f).0 h.3) ∙ updated_same st'.memory l' op t (type_of f) before x (sees known fr.activation st'.memory l' before a'.now.beside (kind_shown known fr.activation p u t before tells c))) (any_whenever (updated op t (type_of f) st'.memory before x)) (λ new c. stored wanted k q new (either old before new) u' st' l' shown a'))))
+        answered_then known fr limit {A = Value} {B = Value} wanted k (HasKind p u t) (load_place st.memory q) (load_place l q) st l _ _ (load_place_same st.memory l q (place_seen u (type_of e) q st l i a)) (right_whenever (HasKind p u t) (load_place st.memory q) (load_place_right p n typed u t q st.memory scalar (subst (λ t. IsPlaced p u t q) h.1 i) a.now.state.memory)) (λ before c. on_value {C = Value} wanted k f (expr p (next k e) true f) u st l _ _ (on_frame o u g s) h.3 (right_part p (mentions e) (mentions f) m) a (wider known fr limit {A = Value} true k (next k e) l _ _ (from_here k _) (value_does (next k e) true f u st l (on_frame o u g s) h.3 (right_part p (mentions e) (mentions f) m) (fits_right _ _ k (kept p true e) (kept p true f) r) a)) (λ u' x st' l' g' j a'. answered_then known fr limit {A = Value} {B = Value} wanted k (λ x. Unit {0}) (updated op t (type_of f) st'.memory before x) (updated op t (type_of (expr p (next k e) true f)) l' before x) st' l' _ _ (ap (λ t'. updated op t t' l' before x) ((types_stay p fr.types (next k e) f).0 h.3) ∙ updated_same st'.memory l' op t (type_of f) before x (sees known fr.activation st'.memory l' before a'.now.beside (kind_shown known fr.activation p u t before tells c))) (any_whenever (updated op t (type_of f) st'.memory before x)) (λ new c. stored wanted k q new (either old before new) u' st' l' shown a'))))
     value_does k wanted (conditional t c e f) o st more s h m r a =
         let after_test = right_part p (mentions c) (mentions e ++ mentions f) m in
-        let room = right_room k (kept p true c) (kept p true e ++ kept p true f) r in
-        on_test {C = Value} wanted k c (expr p k true c) o st more _ _ s h.0 (left_part p (mentions c) (mentions e ++ mentions f) m) a (value_does k true c o st more s h.0.1 (left_part p (mentions c) (mentions e ++ mentions f) m) (left_room k (kept p true c) (kept p true e ++ kept p true f) r) a) (λ u holds st l g a. loose known fr limit {A = Value} wanted k l _ _ (either_does known fr limit {A = Value} true k holds l _ _ _ _ (wider known fr limit {A = Value} true k (next k c) l _ _ (from_here k _) (value_does (next k c) true e u st l (on_frame o u g s) h.3 (left_part p (mentions e) (mentions f) after_test) (left_room (next k c) (kept p true e) (kept p true f) room) a)) (wider known fr limit {A = Value} true k (next (next k c) e) l _ _ (let low : k ≤ k + length (kept p true c) + length (kept p true e) = omega arith in low) (value_does (next (next k c) e) true f u st l (on_frame o u g s) h.4 (right_part p (mentions e) (mentions f) after_test) (right_room (next k c) (kept p true e) (kept p true f) room) a))))
+        let room = fits_right _ _ k (kept p true c) (kept p true e ++ kept p true f) r in
+        on_test {C = Value} wanted k c (expr p k true c) o st more _ _ s h.0 (left_part p (mentions c) (mentions e ++ mentions f) m) a (value_does k true c o st more s h.0.1 (left_part p (mentions c) (mentions e ++ mentions f) m) (fits_left _ _ k (kept p true c) (kept p true e ++ kept p true f) r) a) (λ u holds st l g a. loose known fr limit {A = Value} wanted k l _ _ (either_does known fr limit {A = Value} true k holds l _ _ _ _ (wider known fr limit {A = Value} true k (next k c) l _ _ (from_here k _) (value_does (next k c) true e u st l (on_frame o u g s) h.3 (left_part p (mentions e) (mentions f) after_test) (fits_left _ _ (next k c) (kept p true e) (kept p true f) room) a)) (wider known fr limit {A = Value} true k (next (next k c) e) l _ _ (let low : k ≤ k + length (kept p true c) + length (kept p true e) = omega arith in low) (value_does (next (next k c) e) true f u st l (on_frame o u g s) h.4 (right_part p (mentions e) (mentions f) after_test) (fits_right _ _ (next k c) (kept p true e) (kept p true f) room) a))))
     value_does k wanted (comma t es) o st more s h m r a = each_does k wanted t es o st more s h m r a
     value_does k wanted (call t site f es) o st more s h m r a =
         let mine = right_part p (Calls site (Direct f) ∷ []) (mentions_of_all es) m in
@@ -349,13 +335,13 @@ module _ (p : Program) (n : ℕ) (typed : IsProgram p n) (w w' : World) (goes : 
     each_does k wanted t (more_exprs e no_exprs) o st more s h m r a = value_does k wanted e o st more s h.0 (left_part p (mentions e) [] m) r a
     each_does k wanted t (more_exprs e (more_exprs f es)) o st more s h m r a =
         let j = k + length (kept p false e) in
-        subst (λ c. Do {A = Value} wanted k more (eval_each p w (null_calls_of p) fr wanted (more_exprs e (more_exprs f es)) st) c) (sym (each_more (instrumented_program p) w' no_marks (record { activation = fr.activation; types = wide }) wanted (expr p k false e) (members p j wanted (more_exprs f es)) (with_memory st more) (members_more j wanted f es))) (on_effect {C = Value} wanted k e (expr p k false e) o st more (λ st. eval_each p w (null_calls_of p) fr wanted (more_exprs f es) st) (λ st. OtherEach wanted (members p j wanted (more_exprs f es)) st) s h.0 (left_part p (mentions e) (mentions_of_all (more_exprs f es)) m) a (value_does k false e o st more s h.0 (left_part p (mentions e) (mentions_of_all (more_exprs f es)) m) (left_room k (kept p false e) (kept_of_members p wanted (more_exprs f es)) r) a) (λ u st l g a. wider known fr limit {A = Value} wanted k j l _ _ (from_here k _) (each_does j wanted t (more_exprs f es) u st l (on_frame o u g s) h.1 (right_part p (mentions e) (mentions_of_all (more_exprs f es)) m) (right_room k (kept p false e) (kept_of_members p wanted (more_exprs f es)) r) a)))
+        subst (λ c. Do {A = Value} wanted k more (eval_each p w (null_calls_of p) fr wanted (more_exprs e (more_exprs f es)) st) c) (sym (each_more (instrumented_program p) w' no_marks (record { activation = fr.activation; types = wide }) wanted (expr p k false e) (members p j wanted (more_exprs f es)) (with_memory st more) (members_more j wanted f es))) (on_effect {C = Value} wanted k e (expr p k false e) o st more (λ st. eval_each p w (null_calls_of p) fr wanted (more_exprs f es) st) (λ st. OtherEach wanted (members p j wanted (more_exprs f es)) st) s h.0 (left_part p (mentions e) (mentions_of_all (more_exprs f es)) m) a (value_does k false e o st more s h.0 (left_part p (mentions e) (mentions_of_all (more_exprs f es)) m) (fits_left _ _ k (kept p false e) (kept_of_members p wanted (more_exprs f es)) r) a) (λ u st l g a. wider known fr limit {A = Value} wanted k j l _ _ (from_here k _) (each_does j wanted t (more_exprs f es) u st l (on_frame o u g s) h.1 (right_part p (mentions e) (mentions_of_all (more_exprs f es)) m) (fits_right _ _ k (kept p false e) (kept_of_members p wanted (more_exprs f es)) r) a)))
 
     pub all_do : (k : ℕ) (ts : CTypes) (es : Exprs) (o : Objects) (st : State) (more : Memory) → IsTypedFrame p o fr → AreArguments p fr.types ts es → StandsIn p (mentions_of_all es) → Room k (kept_of_all p es) → At o st more → Do {A = List Value} true k more (PlainAll es st) (OtherAll (arguments p k es) (with_memory st more))
     all_do k no_types no_exprs o st more s h m r a = here known fr limit {A = List Value} true k [] [] st more [] refl a.now.beside a.ready
     all_do k (more_types t ts) (more_exprs e es) o st more s h m r a =
         let mine = right_part p (mentions e) (mentions_of_all es) m in
-        on_value {C = List Value} true k e (expr p k true e) o st more _ _ s h.1 (left_part p (mentions e) (mentions_of_all es) m) a (value_does k true e o st more s h.1 (left_part p (mentions e) (mentions_of_all es) m) (left_room k (kept p true e) (kept_of_all p es) r) a) (λ u x st l g i a. then_same known fr limit p {A = List Value} {B = List Value} true k (GiveAll p (list_of ts)) u st l _ _ _ _ a (all_end p n typed (null_calls_of p) (null_calls_recorded p) w goes fr ts es u st (on_frame o u g s) h.2 mine a.now.state) (wider known fr limit {A = List Value} true k (next k e) l _ _ (from_here k _) (all_do (next k e) ts es u st l (on_frame o u g s) h.2 mine (right_room k (kept p true e) (kept_of_all p es) r) a)) (λ u vs st l g z a. here known fr limit {A = List Value} true k (x ∷ vs) (x ∷ vs) st l [] refl a.now.beside a.ready))
+        on_value {C = List Value} true k e (expr p k true e) o st more _ _ s h.1 (left_part p (mentions e) (mentions_of_all es) m) a (value_does k true e o st more s h.1 (left_part p (mentions e) (mentions_of_all es) m) (fits_left _ _ k (kept p true e) (kept_of_all p es) r) a) (λ u x st l g i a. then_same known fr limit p {A = List Value} {B = List Value} true k (GiveAll p (list_of ts)) u st l _ _ _ _ a (all_end p n typed (null_calls_of p) (null_calls_recorded p) w goes fr ts es u st (on_frame o u g s) h.2 mine a.now.state) (wider known fr limit {A = List Value} true k (next k e) l _ _ (from_here k _) (all_do (next k e) ts es u st l (on_frame o u g s) h.2 mine (fits_right _ _ k (kept p true e) (kept_of_all p es) r) a)) (λ u vs st l g z a. here known fr limit {A = List Value} true k (x ∷ vs) (x ∷ vs) st l [] refl a.now.beside a.ready))
     all_do k ts es o st more s h m r a = absurd h
 
     kept_do : (k i j : ℕ) (ts : CTypes) (es : Exprs) (o : Objects) (st : State) (more : Memory) → IsTypedFrame p o fr → AreArguments p fr.types ts es → AreScalars (list_of ts) → StandsIn p (mentions_of_all es) → k ≤ i → i + length (list_of ts) ≤ j → length fr.types ≤ i → Room j (kept_of_all p es) → At o st more → KeepsAll k i j ts es o st more
@@ -366,7 +352,7 @@ module _ (p : Program) (n : ℕ) (typed : IsProgram p n) (w w' : World) (goes : 
         let low = r.0 in
         let high = r.1 in
         let ij : i + suc (length (list_of ts)) ≤ j = ij in
-        keeps_first k i j t ts e es o st more s h.1 (left_part p (mentions e) (mentions_of_all es) m) h.0 c.0 ki (omega (arith, ij, high)) first (omega (arith, ij)) a (value_does j true e o st more s h.1 (left_part p (mentions e) (mentions_of_all es) m) (left_room j (kept p true e) (kept_of_all p es) r) a) (λ u st l s a. kept_do k (suc i) (j + length (kept p true e)) ts es u st l s h.2 c.1 mine (omega (arith, ki)) (omega (arith, ij)) (omega (arith, first)) (right_room j (kept p true e) (kept_of_all p es) r) a) owed wanted rest f is_more next
+        keeps_first k i j t ts e es o st more s h.1 (left_part p (mentions e) (mentions_of_all es) m) h.0 c.0 ki (omega (arith, ij, high)) first (omega (arith, ij)) a (value_does j true e o st more s h.1 (left_part p (mentions e) (mentions_of_all es) m) (fits_left _ _ j (kept p true e) (kept_of_all p es) r) a) (λ u st l s a. kept_do k (suc i) (j + length (kept p true e)) ts es u st l s h.2 c.1 mine (omega (arith, ki)) (omega (arith, ij)) (omega (arith, first)) (fits_right _ _ j (kept p true e) (kept_of_all p es) r) a) owed wanted rest f is_more next
     kept_do k i j ts es o st more s h c m ki ij first r a owed wanted rest f is_more next = absurd h
 
   -- a value that is tested

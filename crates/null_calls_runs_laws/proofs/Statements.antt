@@ -61,12 +61,6 @@ module _ (p : Program) (n : ℕ) (typed : IsProgram p n) (w w' : World) (goes : 
   abbrev pub OtherDoAll : Stmts → State → Result Exit
   OtherDoAll ss st = exec_all (instrumented_program p) w' no_marks wider_frame ss st
 
-  left_room : (k : ℕ) (xs ys : List CType) → Room k (xs ++ ys) → Room k xs
-  left_room k xs ys h = fits_left (length fr.types) limit k xs ys h
-
-  right_room : (k : ℕ) (xs ys : List CType) → Room k (xs ++ ys) → Room (k + length xs) ys
-  right_room k xs ys h = fits_right (length fr.types) limit k xs ys h
-
   framed : (o u : Objects) → Grows o u → IsTypedFrame p o fr → IsTypedFrame p u fr
   framed o u g s = on_frame p n typed w w' goes enters known fr limit wide untold o u g s
 
@@ -120,9 +114,9 @@ module _ (p : Program) (n : ℕ) (typed : IsProgram p n) (w w' : World) (goes : 
   inits_do k r t x (more_inits cell c is) o st more s e h m room a =
       let b = flat_scalar p.structs t cell (type_of c) h.0 in
       let mine = left_part p (mentions c) (mentions_of_inits is) m in
-      on_value p n typed w w' goes enters known fr limit wide untold {C = Exit} true (length fr.types) c (expr p k true c) o st more _ _ s h.1 mine a (value k true c o st more s h.1 mine (left_room k (kept p true c) (kept_of_inits p is) room) a) (λ u v st l g i a.
+      on_value p n typed w w' goes enters known fr limit wide untold {C = Exit} true (length fr.types) c (expr p k true c) o st more _ _ s h.1 mine a (value k true c o st more s h.1 mine (fits_left _ _ k (kept p true c) (kept_of_inits p is) room) a) (λ u v st l g i a.
       let is_kind = scalar_kind p n typed (null_calls_of p) (null_calls_recorded p) (type_of c) u v b i in
-      then_same known fr limit p {A = Value} {B = Exit} true (length fr.types) _ u st l _ _ _ _ a (cell_ends p n typed (null_calls_of p) (null_calls_recorded p) w goes fr u x cell t (type_of c) v st (framed o u g s) e h.0 is_kind a.now.state) (stored p n typed w w' goes enters known fr limit wide untold true (length fr.types) (place (name_in fr false x) cell 1) v v u st l (variable_shown u x t (framed o u g s) a.now.tells e) a) (λ u' v st l g' i a. inits_do (k + length (kept p true c)) r t x is u' st l (framed o u' (grows_on o u u' g g') s) e h.2 (right_part p (mentions c) (mentions_of_inits is) m) (right_room k (kept p true c) (kept_of_inits p is) room) a))
+      then_same known fr limit p {A = Value} {B = Exit} true (length fr.types) _ u st l _ _ _ _ a (cell_ends p n typed (null_calls_of p) (null_calls_recorded p) w goes fr u x cell t (type_of c) v st (framed o u g s) e h.0 is_kind a.now.state) (stored p n typed w w' goes enters known fr limit wide untold true (length fr.types) (place (name_in fr false x) cell 1) v v u st l (variable_shown u x t (framed o u g s) a.now.tells e) a) (λ u' v st l g' i a. inits_do (k + length (kept p true c)) r t x is u' st l (framed o u' (grows_on o u u' g g') s) e h.2 (right_part p (mentions c) (mentions_of_inits is) m) (fits_right _ _ k (kept p true c) (kept_of_inits p is) room) a))
 
   fresh_does : (x : ℕ) (t : CType) (o : Objects) (st : State) (more : Memory) → IsTypedFrame p o fr → slice_get fr.types x ≡ Some t → At o st more → Do {A = Exit} more (fresh p.structs fr x (slice_get fr.types x) st) (fresh p.structs wider_frame x (slice_get wide x) (with_memory st more))
   fresh_does x t o st more s e a =
@@ -147,13 +141,13 @@ module _ (p : Program) (n : ℕ) (typed : IsProgram p n) (w w' : World) (goes : 
     exec_does k r breaks continues (if_else e b c) o st more s h m room a =
         let after_test = right_part p (mentions e) (mentions_of_stmt b ++ mentions_of_stmt c) m in
         let mine = left_part p (mentions e) (mentions_of_stmt b ++ mentions_of_stmt c) m in
-        let rest = right_room k (kept p true e) (kept_of_stmt p b ++ kept_of_stmt p c) room in
-        on_test p n typed w w' goes enters known fr limit wide untold {C = Exit} true (length fr.types) e (expr p k true e) o st more _ _ s h.0 mine a (value k true e o st more s h.0.1 mine (left_room k (kept p true e) (kept_of_stmt p b ++ kept_of_stmt p c) room) a) (λ u holds st l g a. either_does known fr limit {A = Exit} true (length fr.types) holds l _ _ _ _ (exec_does (k + length (kept p true e)) r breaks continues b u st l (framed o u g s) h.1 (left_part p (mentions_of_stmt b) (mentions_of_stmt c) after_test) (left_room (k + length (kept p true e)) (kept_of_stmt p b) (kept_of_stmt p c) rest) a) (exec_does (k + length (kept p true e) + length (kept_of_stmt p b)) r breaks continues c u st l (framed o u g s) h.2 (right_part p (mentions_of_stmt b) (mentions_of_stmt c) after_test) (right_room (k + length (kept p true e)) (kept_of_stmt p b) (kept_of_stmt p c) rest) a))
+        let rest = fits_right _ _ k (kept p true e) (kept_of_stmt p b ++ kept_of_stmt p c) room in
+        on_test p n typed w w' goes enters known fr limit wide untold {C = Exit} true (length fr.types) e (expr p k true e) o st more _ _ s h.0 mine a (value k true e o st more s h.0.1 mine (fits_left _ _ k (kept p true e) (kept_of_stmt p b ++ kept_of_stmt p c) room) a) (λ u holds st l g a. either_does known fr limit {A = Exit} true (length fr.types) holds l _ _ _ _ (exec_does (k + length (kept p true e)) r breaks continues b u st l (framed o u g s) h.1 (left_part p (mentions_of_stmt b) (mentions_of_stmt c) after_test) (fits_left _ _ (k + length (kept p true e)) (kept_of_stmt p b) (kept_of_stmt p c) rest) a) (exec_does (k + length (kept p true e) + length (kept_of_stmt p b)) r breaks continues c u st l (framed o u g s) h.2 (right_part p (mentions_of_stmt b) (mentions_of_stmt c) after_test) (fits_right _ _ (k + length (kept p true e)) (kept_of_stmt p b) (kept_of_stmt p c) rest) a))
     exec_does k r breaks continues (while_loop e b) o st more s h m room a =
-        agains known fr limit wide untold agree r (record { test = there e; body = b; step = absent }) k (k + length (kept p true e)) k o st more s h.0 h.1 tt (record { test = left_part p (mentions e) (mentions_of_stmt b) m; body = right_part p (mentions e) (mentions_of_stmt b) m; step = stands_empty p }) (left_room k (kept p true e) (kept_of_stmt p b) room) (right_room k (kept p true e) (kept_of_stmt p b) room) (no_room k _ room) a
+        agains known fr limit wide untold agree r (record { test = there e; body = b; step = absent }) k (k + length (kept p true e)) k o st more s h.0 h.1 tt (record { test = left_part p (mentions e) (mentions_of_stmt b) m; body = right_part p (mentions e) (mentions_of_stmt b) m; step = stands_empty p }) (fits_left _ _ k (kept p true e) (kept_of_stmt p b) room) (fits_right _ _ k (kept p true e) (kept_of_stmt p b) room) (no_room k _ room) a
     exec_does k r breaks continues (do_loop b e) o st more s h m room a =
-        let body_room = left_room k (kept_of_stmt p b) (kept p true e) room in
-        let test_room = right_room k (kept_of_stmt p b) (kept p true e) room in
+        let body_room = fits_left _ _ k (kept_of_stmt p b) (kept p true e) room in
+        let test_room = fits_right _ _ k (kept_of_stmt p b) (kept p true e) room in
         let round : Loop = record { test = there e; body = b; step = absent } in
         let round' : Loop = record { test = there (expr p (k + length (kept_of_stmt p b)) true e); body = stmt p k b; step = absent } in
         then_same known fr limit p {A = Exit} {B = Exit} true (length fr.types) (IsExit p r true true) o st more _ _ _ _ a (exec_ends p n typed (null_calls_of p) (null_calls_recorded p) w goes fr r true true b o st s h.0 (left_part p (mentions_of_stmt b) (mentions e) m) a.now.state) (exec_does k r true true b o st more s h.0 (left_part p (mentions_of_stmt b) (mentions e) m) body_room a) (λ u x st l g i a. round_does known fr limit (length fr.types) x st l (w.again fr round) (w'.again wider_frame round') a.now.beside a.ready (agains known fr limit wide untold agree r round (k + length (kept_of_stmt p b)) k k u st l (framed o u g s) h.1 h.0 tt (record { test = right_part p (mentions_of_stmt b) (mentions e) m; body = left_part p (mentions_of_stmt b) (mentions e) m; step = stands_empty p }) test_room body_room (no_room k _ body_room) a))
@@ -164,17 +158,17 @@ module _ (p : Program) (n : ℕ) (typed : IsProgram p n) (w w' : World) (goes : 
         let rest = right_part p (mentions_of_maybe test) (mentions_of_maybe step ++ mentions_of_stmt b) later in
         let i = k + length (kept_of_stmts p ss) in
         let j = k + length (kept_of_stmts p ss) + length (kept_of_maybe p true test) in
-        let first_room = left_room k (kept_of_stmts p ss) (kept_of_maybe p true test ++ (kept_of_maybe p false step ++ kept_of_stmt p b)) room in
-        let after_first = right_room k (kept_of_stmts p ss) (kept_of_maybe p true test ++ (kept_of_maybe p false step ++ kept_of_stmt p b)) room in
-        let after_test = right_room i (kept_of_maybe p true test) (kept_of_maybe p false step ++ kept_of_stmt p b) after_first in
+        let first_room = fits_left _ _ k (kept_of_stmts p ss) (kept_of_maybe p true test ++ (kept_of_maybe p false step ++ kept_of_stmt p b)) room in
+        let after_first = fits_right _ _ k (kept_of_stmts p ss) (kept_of_maybe p true test ++ (kept_of_maybe p false step ++ kept_of_stmt p b)) room in
+        let after_test = fits_right _ _ i (kept_of_maybe p true test) (kept_of_maybe p false step ++ kept_of_stmt p b) after_first in
         let round : Loop = record { test = test; body = b; step = step } in
         let round' : Loop = record { test = maybe p i true test; body = stmt p (j + length (kept_of_maybe p false step)) b; step = maybe p j false step } in
-        leaving_does (declared_in ss) (declared_in (stmts p k ss)) more _ _ ((shapes_stay p).variables k ss) (block_shown o r false false ss s a.now.tells plain) (then_same known fr limit p {A = Exit} {B = Exit} true (length fr.types) (IsExit p r false false) o st more _ _ _ _ a (first_ends p n typed (null_calls_of p) (null_calls_recorded p) w goes fr r ss o st s h.0 early a.now.state) (stmts_do k r false false ss o st more s plain early first_room a) (λ u x st l g y a. exit_does known fr limit (length fr.types) x st l (w.again fr round) (w'.again wider_frame round') a.now.beside a.ready (agains known fr limit wide untold agree r round i (j + length (kept_of_maybe p false step)) j u st l (framed o u g s) h.1 h.3 h.2 (record { test = left_part p (mentions_of_maybe test) (mentions_of_maybe step ++ mentions_of_stmt b) later; body = right_part p (mentions_of_maybe step) (mentions_of_stmt b) rest; step = left_part p (mentions_of_maybe step) (mentions_of_stmt b) rest }) (left_room i (kept_of_maybe p true test) (kept_of_maybe p false step ++ kept_of_stmt p b) after_first) (right_room j (kept_of_maybe p false step) (kept_of_stmt p b) after_test) (left_room j (kept_of_maybe p false step) (kept_of_stmt p b) after_test) a)))
+        leaving_does (declared_in ss) (declared_in (stmts p k ss)) more _ _ ((shapes_stay p).variables k ss) (block_shown o r false false ss s a.now.tells plain) (then_same known fr limit p {A = Exit} {B = Exit} true (length fr.types) (IsExit p r false false) o st more _ _ _ _ a (first_ends p n typed (null_calls_of p) (null_calls_recorded p) w goes fr r ss o st s h.0 early a.now.state) (stmts_do k r false false ss o st more s plain early first_room a) (λ u x st l g y a. exit_does known fr limit (length fr.types) x st l (w.again fr round) (w'.again wider_frame round') a.now.beside a.ready (agains known fr limit wide untold agree r round i (j + length (kept_of_maybe p false step)) j u st l (framed o u g s) h.1 h.3 h.2 (record { test = left_part p (mentions_of_maybe test) (mentions_of_maybe step ++ mentions_of_stmt b) later; body = right_part p (mentions_of_maybe step) (mentions_of_stmt b) rest; step = left_part p (mentions_of_maybe step) (mentions_of_stmt b) rest }) (fits_left _ _ i (kept_of_maybe p true test) (kept_of_maybe p false step ++ kept_of_stmt p b) after_first) (fits_right _ _ j (kept_of_maybe p false step) (kept_of_stmt p b) after_test) (fits_left _ _ j (kept_of_maybe p false step) (kept_of_stmt p b) after_test) a)))
     exec_does k r breaks continues (switch_on e gs) o st more s h m room a =
         let mine = left_part p (mentions e) (mentions_of_groups gs) m in
         let rest = right_part p (mentions e) (mentions_of_groups gs) m in
         let i = k + length (kept p true e) in
-        on_value p n typed w w' goes enters known fr limit wide untold {C = Exit} true (length fr.types) e (expr p k true e) o st more _ _ s h.3 mine a (value k true e o st more s h.3 mine (left_room k (kept p true e) (kept_of_groups p gs) room) a) (λ u v st l g y a. subst (λ c. Do {A = Exit} l (then_do (exec_from p w (null_calls_of p) fr (selected v gs) gs st) (λ x st. Go (out_of_switch x) st [])) (then_do (exec_from (instrumented_program p) w' no_marks wider_frame c (groups p i gs) (with_memory st l)) (λ x st. Go (out_of_switch x) st []))) (sym ((shapes_stay p).selection i v gs)) (then_same known fr limit p {A = Exit} {B = Exit} true (length fr.types) (IsExit p r true continues) u st l _ _ _ _ a (groups_end p n typed (null_calls_of p) (null_calls_recorded p) w goes fr r continues h.0 (selected v gs) gs u st (framed o u g s) h.5 rest a.now.state) (groups_do i r continues h.0 (selected v gs) gs u st l (framed o u g s) h.5 rest (right_room k (kept p true e) (kept_of_groups p gs) room) a) (λ u x st l g y a. done (out_of_switch x) u st l a)))
+        on_value p n typed w w' goes enters known fr limit wide untold {C = Exit} true (length fr.types) e (expr p k true e) o st more _ _ s h.3 mine a (value k true e o st more s h.3 mine (fits_left _ _ k (kept p true e) (kept_of_groups p gs) room) a) (λ u v st l g y a. subst (λ c. Do {A = Exit} l (then_do (exec_from p w (null_calls_of p) fr (selected v gs) gs st) (λ x st. Go (out_of_switch x) st [])) (then_do (exec_from (instrumented_program p) w' no_marks wider_frame c (groups p i gs) (with_memory st l)) (λ x st. Go (out_of_switch x) st []))) (sym ((shapes_stay p).selection i v gs)) (then_same known fr limit p {A = Exit} {B = Exit} true (length fr.types) (IsExit p r true continues) u st l _ _ _ _ a (groups_end p n typed (null_calls_of p) (null_calls_recorded p) w goes fr r continues h.0 (selected v gs) gs u st (framed o u g s) h.5 rest a.now.state) (groups_do i r continues h.0 (selected v gs) gs u st l (framed o u g s) h.5 rest (fits_right _ _ k (kept p true e) (kept_of_groups p gs) room) a) (λ u x st l g y a. done (out_of_switch x) u st l a)))
     exec_does k r breaks continues break_off o st more s h m room a = done broken o st more a
     exec_does k r breaks continues continue_on o st more s h m room a = done continued o st more a
     exec_does k r breaks continues return_void o st more s h m room a = done (returned None) o st more a
@@ -185,12 +179,12 @@ module _ (p : Program) (n : ℕ) (typed : IsProgram p n) (w w' : World) (goes : 
     stmts_do k r breaks continues no_stmts o st more s h m room a = done on o st more a
     stmts_do k r breaks continues (more_stmts b ss) o st more s h m room a =
         let mine = left_part p (mentions_of_stmt b) (mentions_of_stmts ss) m in
-        then_same known fr limit p {A = Exit} {B = Exit} true (length fr.types) (IsExit p r breaks continues) o st more _ _ _ _ a (exec_ends p n typed (null_calls_of p) (null_calls_recorded p) w goes fr r breaks continues b o st s h.0 mine a.now.state) (exec_does k r breaks continues b o st more s h.0 mine (left_room k (kept_of_stmt p b) (kept_of_stmts p ss) room) a) (λ u x st l g i a. exit_does known fr limit (length fr.types) x st l (PlainDoAll ss) (OtherDoAll (stmts p (k + length (kept_of_stmt p b)) ss)) a.now.beside a.ready (stmts_do (k + length (kept_of_stmt p b)) r breaks continues ss u st l (framed o u g s) h.1 (right_part p (mentions_of_stmt b) (mentions_of_stmts ss) m) (right_room k (kept_of_stmt p b) (kept_of_stmts p ss) room) a))
+        then_same known fr limit p {A = Exit} {B = Exit} true (length fr.types) (IsExit p r breaks continues) o st more _ _ _ _ a (exec_ends p n typed (null_calls_of p) (null_calls_recorded p) w goes fr r breaks continues b o st s h.0 mine a.now.state) (exec_does k r breaks continues b o st more s h.0 mine (fits_left _ _ k (kept_of_stmt p b) (kept_of_stmts p ss) room) a) (λ u x st l g i a. exit_does known fr limit (length fr.types) x st l (PlainDoAll ss) (OtherDoAll (stmts p (k + length (kept_of_stmt p b)) ss)) a.now.beside a.ready (stmts_do (k + length (kept_of_stmt p b)) r breaks continues ss u st l (framed o u g s) h.1 (right_part p (mentions_of_stmt b) (mentions_of_stmts ss) m) (fits_right _ _ k (kept_of_stmt p b) (kept_of_stmts p ss) room) a))
 
     pub groups_do : (k : ℕ) (r : CType) (continues : Bool) (i : IntType) (j : ℕ) (gs : Groups) (o : Objects) (st : State) (more : Memory) → IsTypedFrame p o fr → AreGroups p fr.types r continues i gs → StandsIn p (mentions_of_groups gs) → Room k (kept_of_groups p gs) → At o st more → Do {A = Exit} more (exec_from p w (null_calls_of p) fr j gs st) (exec_from (instrumented_program p) w' no_marks wider_frame j (groups p k gs) (with_memory st more))
     groups_do k r continues i j no_groups o st more s h m room a = done on o st more a
     groups_do k r continues i zero (more_groups ls ss gs) o st more s h m room a =
         let mine = left_part p (mentions_of_stmts ss) (mentions_of_groups gs) m in
-        then_same known fr limit p {A = Exit} {B = Exit} true (length fr.types) (IsExit p r true continues) o st more _ _ _ _ a (stmts_end p n typed (null_calls_of p) (null_calls_recorded p) w goes fr r true continues ss o st s h.1 mine a.now.state) (stmts_do k r true continues ss o st more s h.1 mine (left_room k (kept_of_stmts p ss) (kept_of_groups p gs) room) a) (λ u x st l g y a. exit_does known fr limit (length fr.types) x st l (exec_from p w (null_calls_of p) fr zero gs) (exec_from (instrumented_program p) w' no_marks wider_frame zero (groups p (k + length (kept_of_stmts p ss)) gs)) a.now.beside a.ready (groups_do (k + length (kept_of_stmts p ss)) r continues i zero gs u st l (framed o u g s) h.2 (right_part p (mentions_of_stmts ss) (mentions_of_groups gs) m) (right_room k (kept_of_stmts p ss) (kept_of_groups p gs) room) a))
+        then_same known fr limit p {A = Exit} {B = Exit} true (length fr.types) (IsExit p r true continues) o st more _ _ _ _ a (stmts_end p n typed (null_calls_of p) (null_calls_recorded p) w goes fr r true continues ss o st s h.1 mine a.now.state) (stmts_do k r true continues ss o st more s h.1 mine (fits_left _ _ k (kept_of_stmts p ss) (kept_of_groups p gs) room) a) (λ u x st l g y a. exit_does known fr limit (length fr.types) x st l (exec_from p w (null_calls_of p) fr zero gs) (exec_from (instrumented_program p) w' no_marks wider_frame zero (groups p (k + length (kept_of_stmts p ss)) gs)) a.now.beside a.ready (groups_do (k + length (kept_of_stmts p ss)) r continues i zero gs u st l (framed o u g s) h.2 (right_part p (mentions_of_stmts ss) (mentions_of_groups gs) m) (fits_right _ _ k (kept_of_stmts p ss) (kept_of_groups p gs) room) a))
     groups_do k r continues i (suc j) (more_groups ls ss gs) o st more s h m room a =
-        groups_do (k + length (kept_of_stmts p ss)) r continues i j gs o st more s h.2 (right_part p (mentions_of_stmts ss) (mentions_of_groups gs) m) (right_room k (kept_of_stmts p ss) (kept_of_groups p gs) room) a
+        groups_do (k + length (kept_of_stmts p ss)) r continues i j gs o st more s h.2 (right_part p (mentions_of_stmts ss) (mentions_of_groups gs) m) (fits_right _ _ k (kept_of_stmts p ss) (kept_of_groups p gs) room) a
