@@ -155,9 +155,8 @@ first_alike env b c h n k g (first_expr e) = gives_alike (λ g. alone (bare (typ
 first_alike env b c h n k g (first_decl d) = decl_alike env b c h n k g d
 
 pub behind_first_same : (env : Env) (b : Before) (n k : Next) → k ≡ n → (f : First) (p : StatementTree typed.Stmts) → first_of env b n f ≡ fine p → behind_first env n f ≡ behind_first env k (unplaced_first f)
-behind_first_same env b n k g first_absent p e = refl
-behind_first_same env b n k g (first_expr x) p e = refl
 behind_first_same env b n k g (first_decl d) p e = behind_decl_same env b n k g d p e
+behind_first_same env b n k g f p e = refl
 
 pub held_by_first_same : (env : Env) (b : Before) (n k : Next) → k ≡ n → (f : First) (p : StatementTree typed.Stmts) → first_of env b n f ≡ fine p → held_by_first env k (unplaced_first f) ≡ held_by_first env n f
 held_by_first_same env b n k g first_absent p e = refl

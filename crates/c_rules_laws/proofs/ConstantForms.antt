@@ -10,13 +10,11 @@ use Rattle.c_rules_laws.specs.ConstantForm.{IsConst}
 
 pub converted_const : (i : IntType) (c : Constant) → IsConst (constant_converted i c) → IsConst c
 converted_const i not_constant h = h
-converted_const i undefined h = tt
-converted_const i (known x) h = tt
+converted_const i c h = tt
 
 pub unary_const : (o : UnOp) (c : Constant) → IsConst (constant_unary o c) → IsConst c
 unary_const o not_constant h = h
-unary_const o undefined h = tt
-unary_const o (known x) h = tt
+unary_const o c h = tt
 
 pub integer_const : (b : Bool) (c : Constant) → IsConst (integer_constant_if b c) → IsConst c
 integer_const true c h = h
@@ -24,75 +22,47 @@ integer_const false c h = absurd h
 
 pub decayed_const : (n : ℕ) (c : Constant) → IsConst (constant_decayed n c) → IsConst c
 decayed_const n not_constant h = h
-decayed_const n undefined h = tt
-decayed_const n (known x) h = tt
+decayed_const n c h = tt
 
 pub member_const : (k n : ℕ) (c : Constant) → IsConst (constant_member k n c) → IsConst c
 member_const k n not_constant h = h
-member_const k n undefined h = tt
-member_const k n (known x) h = tt
+member_const k n c h = tt
 
 pub binary_const : (o : BinOp) (a b : Constant) → IsConst (constant_binary o a b) → IsConst a × IsConst b
 binary_const o not_constant b h = absurd h
 binary_const o undefined not_constant h = absurd h
-binary_const o undefined undefined h = (tt, tt)
-binary_const o undefined (known y) h = (tt, tt)
 binary_const o (known x) not_constant h = absurd h
-binary_const o (known x) undefined h = (tt, tt)
-binary_const o (known x) (known y) h = (tt, tt)
+binary_const o a b h = (tt, tt)
 
 pub and_const : (a b : Constant) → IsConst (constant_and a b) → IsConst a × IsConst b
 and_const not_constant b h = absurd h
 and_const undefined not_constant h = absurd h
-and_const undefined undefined h = (tt, tt)
-and_const undefined (known y) h = (tt, tt)
 and_const (known x) not_constant h = absurd h
-and_const (known x) undefined h = (tt, tt)
-and_const (known x) (known y) h = (tt, tt)
+and_const a b h = (tt, tt)
 
 pub or_const : (a b : Constant) → IsConst (constant_or a b) → IsConst a × IsConst b
 or_const not_constant b h = absurd h
 or_const undefined not_constant h = absurd h
-or_const undefined undefined h = (tt, tt)
-or_const undefined (known y) h = (tt, tt)
 or_const (known x) not_constant h = absurd h
-or_const (known x) undefined h = (tt, tt)
-or_const (known x) (known y) h = (tt, tt)
+or_const a b h = (tt, tt)
 
 pub conditional_const : (c a b : Constant) → IsConst (constant_conditional c a b) → IsConst c × IsConst a × IsConst b
 conditional_const not_constant a b h = absurd h
 conditional_const undefined not_constant b h = absurd h
 conditional_const undefined undefined not_constant h = absurd h
-conditional_const undefined undefined undefined h = (tt, tt, tt)
-conditional_const undefined undefined (known y) h = (tt, tt, tt)
 conditional_const undefined (known x) not_constant h = absurd h
-conditional_const undefined (known x) undefined h = (tt, tt, tt)
-conditional_const undefined (known x) (known y) h = (tt, tt, tt)
 conditional_const (known z) not_constant b h = absurd h
 conditional_const (known z) undefined not_constant h = absurd h
-conditional_const (known z) undefined undefined h = (tt, tt, tt)
-conditional_const (known z) undefined (known y) h = (tt, tt, tt)
 conditional_const (known z) (known x) not_constant h = absurd h
-conditional_const (known z) (known x) undefined h = (tt, tt, tt)
-conditional_const (known z) (known x) (known y) h = (tt, tt, tt)
+conditional_const c a b h = (tt, tt, tt)
 
 pub moved_const : (c : Constant) (s : ℤ → ℤ) (k : Constant) → IsConst (constant_moved c s k) → IsConst c × IsConst k
-moved_const not_constant s k h = absurd h
-moved_const undefined s not_constant h = absurd h
 moved_const undefined s undefined h = (tt, tt)
 moved_const undefined s (known y) h = (tt, tt)
-moved_const (known v.Indeterminate) s not_constant h = absurd h
-moved_const (known (v.Int z)) s not_constant h = absurd h
-moved_const (known (v.Uint n)) s not_constant h = absurd h
-moved_const (known (v.Char z)) s not_constant h = absurd h
-moved_const (known (v.Uchar n)) s not_constant h = absurd h
-moved_const (known v.Null) s not_constant h = absurd h
-moved_const (known (v.Func f)) s not_constant h = absurd h
-moved_const (known (v.At q)) s not_constant h = absurd h
 moved_const (known x) s undefined h = (tt, tt)
 moved_const (known x) s (known y) h = (tt, tt)
+moved_const c s k h = absurd h
 
 pub zero_const : (c : Constant) → is_known_zero c ≡ true → IsConst c
 zero_const not_constant h = absurd (cc)
-zero_const undefined h = tt
-zero_const (known x) h = tt
+zero_const c h = tt

@@ -37,24 +37,19 @@ pub decl_names_same : (d : Decl) → names_of_decl (unplaced_decl d) ≡ names_o
 decl_names_same (decl at class s ps) = parts_names_same ps
 
 pub first_names_same : (f : First) → names_of_first (unplaced_first f) ≡ names_of_first f
-first_names_same first_absent = refl
-first_names_same (first_expr e) = refl
 first_names_same (first_decl d) = decl_names_same d
+first_names_same f = refl
 
 mutual
   pub stmt_names_same : (s : Stmt) → names_of_stmt (unplaced_stmt s) ≡ names_of_stmt s
   stmt_names_same (block at is) = block_names_same is
-  stmt_names_same (empty at) = refl
-  stmt_names_same (evaluate at e) = refl
   stmt_names_same (only_if at e s) = stmt_names_same s
   stmt_names_same (if_else at e s t) = ap₂ (λ v w. v ++ w) (stmt_names_same s) (stmt_names_same t)
   stmt_names_same (while_loop at e s) = stmt_names_same s
   stmt_names_same (do_loop at s e) = stmt_names_same s
   stmt_names_same (for_loop at first test step s) = ap₂ (λ v w. v ++ w) (first_names_same first) (stmt_names_same s)
   stmt_names_same (switch_on at e gs) = groups_names_same gs
-  stmt_names_same (break_off at) = refl
-  stmt_names_same (continue_on at) = refl
-  stmt_names_same (return_from at m) = refl
+  stmt_names_same s = refl
 
   pub block_names_same : (is : BlockItems) → names_of_block (unplaced_block_items is) ≡ names_of_block is
   block_names_same no_block_items = refl
@@ -93,7 +88,6 @@ first_calls_same (first_decl d) = decl_calls_same d
 mutual
   pub stmt_calls_same : (s : Stmt) → calls_of_stmt (unplaced_stmt s) ≡ calls_of_stmt s
   stmt_calls_same (block at is) = block_calls_same is
-  stmt_calls_same (empty at) = refl
   stmt_calls_same (evaluate at e) = calls_same e
   stmt_calls_same (only_if at e s) = ap₂ (λ v w. v + w) (calls_same e) (stmt_calls_same s)
   stmt_calls_same (if_else at e s t) = ap₂ (λ v w. v + w) (calls_same e) (ap₂ (λ v w. v + w) (stmt_calls_same s) (stmt_calls_same t))
@@ -102,9 +96,8 @@ mutual
   stmt_calls_same (for_loop at first test step s) =
       ap₂ (λ v w. v + w) (first_calls_same first) (ap₂ (λ v w. v + w) (maybe_calls_same test) (ap₂ (λ v w. v + w) (maybe_calls_same step) (stmt_calls_same s)))
   stmt_calls_same (switch_on at e gs) = ap₂ (λ v w. v + w) (calls_same e) (groups_calls_same gs)
-  stmt_calls_same (break_off at) = refl
-  stmt_calls_same (continue_on at) = refl
   stmt_calls_same (return_from at m) = maybe_calls_same m
+  stmt_calls_same s = refl
 
   pub block_calls_same : (is : BlockItems) → calls_of_block (unplaced_block_items is) ≡ calls_of_block is
   block_calls_same no_block_items = refl

@@ -37,22 +37,16 @@ within_alike at to t = demand_alike (few_parts t) C13 at to t
 
 pub pointer_alike : (at to : ℕ) (t : CType) → Alike CType (pointer_to at t) (pointer_to to t)
 pointer_alike at to void = fault_alike C3 at to
-pointer_alike at to (integer i) = within_alike at to (pointer (integer i))
 pointer_alike at to (pointer t) = within_alike at to (pointer (pointer t))
 pointer_alike at to (array t n) = fault_alike C3 at to
-pointer_alike at to (struct s) = within_alike at to (pointer (struct s))
-pointer_alike at to (function t ts) = within_alike at to (pointer (function t ts))
+pointer_alike at to t = within_alike at to (pointer t)
 
 sized_alike : (env : Env) (at to : ℕ) (t : CType) (n : ℕ) → Alike CType (on (complete env at t) (λ _. within_parts at (array t n))) (on (complete env to t) (λ _. within_parts to (array t n)))
 sized_alike env at to t n = on_alike (λ _. within_parts at (array t n)) (λ _. within_parts to (array t n)) (complete_alike env at to t) (λ _ _. within_alike at to (array t n))
 
 pub array_alike : (env : Env) (at to : ℕ) (t : CType) (n : ℕ) → Alike CType (array_of env at t n) (array_of env to t n)
-array_alike env at to void n = sized_alike env at to void n
-array_alike env at to (integer i) n = sized_alike env at to (integer i) n
-array_alike env at to (pointer t) n = sized_alike env at to (pointer t) n
 array_alike env at to (array t m) n = fault_alike C3 at to
-array_alike env at to (struct s) n = sized_alike env at to (struct s) n
-array_alike env at to (function t ts) n = sized_alike env at to (function t ts) n
+array_alike env at to t n = sized_alike env at to t n
 
 pub function_alike : (at to : ℕ) (t : CType) (ts : CTypes) → Alike CType (function_of at t ts) (function_of to t ts)
 function_alike at to t ts =
@@ -68,9 +62,8 @@ parameter_alike at to t =
 -- ## Constants
 
 defined_alike : (at to : ℕ) (c : Constant) → Alike Value (defined_value at c) (defined_value to c)
-defined_alike at to not_constant = fault_alike C6 at to
-defined_alike at to undefined = fault_alike C6 at to
 defined_alike at to (known v) = alike (fine v)
+defined_alike at to c = fault_alike C6 at to
 
 pub constant_alike : (at to : ℕ) (g : TypedExpression) → Alike Value (constant_value at g) (constant_value to g)
 constant_alike at to g = defined_alike at to (integer_constant g)
@@ -97,11 +90,10 @@ unplaced_name None = None
 unplaced_name (Some x) = Some (unplaced_ident x)
 
 pub name_same : (d : Declarator) → name_of (unplaced_declarator d) ≡ unplaced_name (name_of d)
-name_same syntax.nothing = refl
-name_same (syntax.named at x) = refl
 name_same (syntax.pointer at d) = name_same d
 name_same (syntax.array at d size) = name_same d
 name_same (syntax.function at d ps) = name_same d
+name_same d = refl
 
 variable_alike : (env : Env) (k : ℕ) (x : Ident) (r s : Checked CType) → Alike CType r s → Alike Meaning (variable_meaning env k x r) (variable_meaning env k (unplaced_ident x) s)
 variable_alike env k x r s h =

@@ -29,10 +29,7 @@ pub record Defines (old new : Env) (xs : List Name) : Type 0 where
 -- what is defined stays so
 kept_meaning : (t : CType) (m : Meaning) → Agrees (a_function t true) m → m ≡ a_function t true
 kept_meaning t (a_function u e) h = ap (λ u. a_function u e) (sym h.0) ∙ ap (a_function t) (h.1 refl)
-kept_meaning t (a_static s u e) h = absurd h
-kept_meaning t (a_local n s u) h = absurd h
-kept_meaning t (an_enumerator z) h = absurd h
-kept_meaning t (unknown f fs) h = absurd h
+kept_meaning t m h = absurd h
 
 kept : (old new : Env) → Follows old new → (x : Name) → IsDefined old.names x → IsDefined new.names x
 kept old new f x d = (let c = f.later x d.0 d.2 in (c.0, d.1, c.1, kept_meaning d.1 c.0.means (subst (λ m. Agrees m c.0.means) d.3 c.2)))

@@ -3,6 +3,7 @@ use Rattle.std.proofs.Common.{◌≡◌, ◌≢◌, ℕ, suc, ◌≤◌, ◌<◌
 use Rattle.std.specs.Prelude.{is_some, option_map, bytes_eq}
 use Rattle.std.proofs.lemmas.Bool.{ltb-true}
 use Rattle.std.proofs.lemmas.Slice.Eq.{bytes_eq-Decides}
+use Rattle.std.proofs.lemmas.Bool.{or_right}
 use Rattle.c_rules.specs.Names.{Name, number_among, is_among, with_new}
 
 -- ## Each name of a list
@@ -33,10 +34,6 @@ differ_both (x ∷ xs) ys h k c = (each_both (λ y. x ≢ y) xs ys h.0 c.0, diff
 or_map : (b c d : Bool) → (c ≡ true → d ≡ true) → (b || c) ≡ true → (b || d) ≡ true
 or_map true c d h e = refl
 or_map false c d h e = h e
-
-or_right : (b c : Bool) → c ≡ true → (b || c) ≡ true
-or_right true c e = refl
-or_right false c e = e
 
 some_mapped : (o : Option ℕ) → is_some (option_map suc o) ≡ is_some o
 some_mapped None = refl

@@ -32,12 +32,7 @@ unless_same op a b c e = ap (λ x. unless_sizeof op x c) e
 
 mutual
   pub calls_same : (e : Expr) → calls (unplaced e) ≡ calls e
-  calls_same (a_name at x) = refl
-  calls_same (an_int at n u) = refl
-  calls_same (a_char at c) = refl
-  calls_same (a_str at w) = refl
   calls_same (comma at es) = all_calls_same es
-  calls_same (sizeof_type at t) = refl
   calls_same (cast at t e) = calls_same e
   calls_same (call at d es) = ap₂ (λ m n. m + suc n) (calls_same d) (all_calls_same es)
   calls_same (member at how e x) = calls_same e
@@ -48,6 +43,7 @@ mutual
   calls_same (binary at op a b) = ap₂ (λ m n. m + n) (calls_same a) (calls_same b)
   calls_same (assign at op a b) = ap₂ (λ m n. m + n) (calls_same a) (calls_same b)
   calls_same (conditional at c a b) = ap₂ (λ m n. m + n) (calls_same c) (ap₂ (λ m n. m + n) (calls_same a) (calls_same b))
+  calls_same e = refl
 
   pub all_calls_same : (es : Exprs) → calls_of_all (unplaced_exprs es) ≡ calls_of_all es
   all_calls_same no_exprs = refl
@@ -55,12 +51,7 @@ mutual
 
 mutual
   pub strings_same : (e : Expr) → strings (unplaced e) ≡ strings e
-  strings_same (a_name at x) = refl
-  strings_same (an_int at n u) = refl
-  strings_same (a_char at c) = refl
-  strings_same (a_str at w) = refl
   strings_same (comma at es) = all_strings_same es
-  strings_same (sizeof_type at t) = refl
   strings_same (cast at t e) = strings_same e
   strings_same (call at d es) = ap₂ (λ m n. m ++ n) (strings_same d) (all_strings_same es)
   strings_same (member at how e x) = strings_same e
@@ -71,6 +62,7 @@ mutual
   strings_same (binary at op a b) = ap₂ (λ m n. m ++ n) (strings_same a) (strings_same b)
   strings_same (assign at op a b) = ap₂ (λ m n. m ++ n) (strings_same a) (strings_same b)
   strings_same (conditional at c a b) = ap₂ (λ m n. m ++ n) (strings_same c) (ap₂ (λ m n. m ++ n) (strings_same a) (strings_same b))
+  strings_same e = refl
 
   pub all_strings_same : (es : Exprs) → strings_of_all (unplaced_exprs es) ≡ strings_of_all es
   all_strings_same no_exprs = refl
@@ -101,10 +93,7 @@ by_value_alike at to r s h = on_alike (callee_by_value at) (callee_by_value to) 
 
 meant_alike : (env : Env) (at to here yonder : ℕ) (x : Name) (r s : Checked TypedExpression) (m : Meaning) → Alike TypedExpression r s → Alike Callee (callee_meant env at here x r m) (callee_meant env to yonder x s m)
 meant_alike env at to here yonder x r s (a_function t d) h = callee_by_name_alike env here yonder x t
-meant_alike env at to here yonder x r s (a_static t u d) h = by_value_alike at to r s h
-meant_alike env at to here yonder x r s (a_local n t u) h = by_value_alike at to r s h
-meant_alike env at to here yonder x r s (an_enumerator z) h = by_value_alike at to r s h
-meant_alike env at to here yonder x r s (unknown f fs) h = by_value_alike at to r s h
+meant_alike env at to here yonder x r s m h = by_value_alike at to r s h
 
 bound_alike : (env : Env) (at to here yonder : ℕ) (x : Name) (r s : Checked TypedExpression) (b : Option Binding) → Alike TypedExpression r s → Alike Callee (callee_bound env at here x r b) (callee_bound env to yonder x s b)
 bound_alike env at to here yonder x r s None h = by_value_alike at to r s h
@@ -112,21 +101,7 @@ bound_alike env at to here yonder x r s (Some b) h = meant_alike env at to here 
 
 callee_alike : (env : Env) (at to : ℕ) (d : Expr) (r s : Checked TypedExpression) → Alike TypedExpression r s → Alike Callee (callee env at d r) (callee env to (unplaced d) s)
 callee_alike env at to (a_name here x) r s h = bound_alike env at to here 0 x r s (binding_of env x) h
-callee_alike env at to (an_int i n u) r s h = by_value_alike at to r s h
-callee_alike env at to (a_char i c) r s h = by_value_alike at to r s h
-callee_alike env at to (a_str i w) r s h = by_value_alike at to r s h
-callee_alike env at to (comma i es) r s h = by_value_alike at to r s h
-callee_alike env at to (sizeof_type i t) r s h = by_value_alike at to r s h
-callee_alike env at to (cast i t e) r s h = by_value_alike at to r s h
-callee_alike env at to (call i e es) r s h = by_value_alike at to r s h
-callee_alike env at to (member i how e x) r s h = by_value_alike at to r s h
-callee_alike env at to (postfix i op e) r s h = by_value_alike at to r s h
-callee_alike env at to (prefix i op e) r s h = by_value_alike at to r s h
-callee_alike env at to (unary i op e) r s h = by_value_alike at to r s h
-callee_alike env at to (index i a b) r s h = by_value_alike at to r s h
-callee_alike env at to (binary i op a b) r s h = by_value_alike at to r s h
-callee_alike env at to (assign i op a b) r s h = by_value_alike at to r s h
-callee_alike env at to (conditional i c a b) r s h = by_value_alike at to r s h
+callee_alike env at to d r s h = by_value_alike at to r s h
 
 access_alike : (env : Env) (at to here yonder : ℕ) (how : Access) (x : Name) (r s : Checked TypedExpression) → Alike TypedExpression r s → Alike TypedExpression (access env at here how x r) (access env to yonder how x s)
 access_alike env at to here yonder dot x r s h = on_alike (member_of env at x) (member_of env to x) h (λ g _. member_alike env at to x g)
@@ -161,23 +136,12 @@ casts_alike false at to t u r s h k = both_alike r s (cast_of at) (cast_of to) h
 
 void_spec_same : (s : Spec) → is_void_spec (unplaced_spec s) ≡ is_void_spec s
 void_spec_same syntax.void = refl
-void_spec_same syntax.char = refl
-void_spec_same syntax.unsigned_char = refl
-void_spec_same syntax.int = refl
-void_spec_same syntax.unsigned_int = refl
-void_spec_same (syntax.struct x) = refl
-void_spec_same (syntax.enum x) = refl
+void_spec_same s = refl
 
 bare_same : (d : Declarator) → is_bare_pointer (unplaced_declarator d) ≡ is_bare_pointer d
-bare_same nothing = refl
-bare_same (named at x) = refl
 bare_same (pointer at nothing) = refl
-bare_same (pointer at (named here x)) = refl
-bare_same (pointer at (pointer here d)) = refl
-bare_same (pointer at (array here d size)) = refl
-bare_same (pointer at (function here d ps)) = refl
-bare_same (array at d size) = refl
-bare_same (function at d ps) = refl
+bare_same (pointer at d) = refl
+bare_same d = refl
 
 void_pointer_same : (t : TypeName) → is_void_pointer (unplaced_type t) ≡ is_void_pointer t
 void_pointer_same (type_name at s d) = ap₂ (λ a b. a && b) (void_spec_same s) (bare_same d)
@@ -191,8 +155,6 @@ value_of env b c e h = value_at_alike env (place_of e) (place_of (unplaced e)) (
 mutual
   pub tree_alike : (env : Env) (b c : Before) → c ≡ b → (e : Expr) → Alike TypedExpression (tree env b e) (tree env c (unplaced e))
   tree_alike env b c h (a_name at x) = named_alike env at 0 x
-  tree_alike env b c h (an_int at n u) = alike (tree env b (an_int at n u))
-  tree_alike env b c h (a_char at x) = alike (tree env b (a_char at x))
   tree_alike env b c h (a_str at w) = subst (λ y. Alike TypedExpression (tree env b (a_str at w)) (tree env y (a_str 0 w))) (sym h) (string_alike env b at 0 w)
   tree_alike env b c h (comma at es) = gives_alike comma_of (trees_alike env b c h es)
   tree_alike env b c h (sizeof_type at t) =
@@ -230,6 +192,7 @@ mutual
       let h1 : c1 ≡ b1 = after_same b c x h in
       three_alike (value env b1 y) (value env c1 (unplaced y)) (value env (after b1 y) z) (value env (after c1 (unplaced y)) (unplaced z)) (choice at) (choice 0) (value_of env b c x (tree_alike env b c h x)) (λ _ _. value_of env b1 c1 y (tree_alike env b1 c1 h1 y))
       (λ _ _ _ _. value_of env (after b1 y) (after c1 (unplaced y)) z (tree_alike env (after b1 y) (after c1 (unplaced y)) (after_same b1 c1 y h1) z)) (λ p q r. choice_alike at 0 p q r)
+  tree_alike env b c h e = alike (tree env b e)
 
   pub trees_alike : (env : Env) (b c : Before) → c ≡ b → (es : Exprs) → Alike (List TypedExpression) (trees env b es) (trees env c (unplaced_exprs es))
   trees_alike env b c h no_exprs = alike (fine [])
@@ -241,8 +204,6 @@ mutual
   type_alike env (type_name at s d) = on_alike (declared env d) (declared env (unplaced_declarator d)) (spec_alike env at 0 s) (λ t _. declared_alike env d t)
 
   pub declared_alike : (env : Env) (d : Declarator) (t : CType) → Alike CType (declared env d t) (declared env (unplaced_declarator d) t)
-  declared_alike env nothing t = alike (fine t)
-  declared_alike env (named at x) t = alike (fine t)
   declared_alike env (pointer at d) t = on_alike (declared env d) (declared env (unplaced_declarator d)) (pointer_alike at 0 t) (λ u _. declared_alike env d u)
   declared_alike env (array at d size) t =
       on_alike (declared env d) (declared env (unplaced_declarator d))
@@ -250,6 +211,7 @@ mutual
   declared_alike env (function at d ps) t =
       on_alike (declared env d) (declared env (unplaced_declarator d))
       (on_alike (function_of at t) (function_of 0 t) (parameters_alike (inside env) 0 ps) (λ ts _. function_alike at 0 t ts)) (λ u _. declared_alike env d u)
+  declared_alike env d t = alike (fine t)
 
   pub size_alike_in : (env : Env) (m : Maybe) → Alike ℕ (size_in env m) (size_in env (unplaced_maybe m))
   size_alike_in env absent = alike (fine 0)

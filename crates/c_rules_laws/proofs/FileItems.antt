@@ -4,6 +4,7 @@ use Rattle.std.specs.Cmp.{nat_eq_equiv}
 use Rattle.std.specs.Prelude.{is_none}
 use Rattle.std.proofs.lemmas.Bool.{leb-true}
 use Rattle.std.proofs.lemmas.List.{length-map}
+use Rattle.std.proofs.lemmas.Bool.{or_right}
 use Rattle.c_tree.specs.Tree.{CType, void, integer, pointer, array, struct, function, CTypes}
 use Rattle.c_tree.specs.Layout.{cells, cells_of_all}
 use Rattle.c_tree.specs.Operators.{fits_int}
@@ -22,6 +23,7 @@ use Rattle.c_rules.specs.Objects.{Object, object_declared}
 use Rattle.c_rules.specs.Tags.{tags_of_enumerators}
 use Rattle.c_rules.specs.Functions.{declares_function, given_as, is_as_given, may_follow_function, is_defined_by, is_few, function_meaning, behind_function, function_declared, items_of_body, defined_as}
 use Rattle.c_rules.specs.Items.{free_tag, without_init, output_of_function, Output, no_output, with_output, new_struct, struct_definition, struct_laid, members, is_incomplete, struct_or_unknown, int_value, enumerator_value, one_more_than, enumerator_meaning, behind_enumerator, enumerators, behind_enumerators, new_enum, behind_enum_tag, defines, may_follow_object, object_name, few_static, global_object, global_declared, meaning_of_global, behind_global, within_global, definition_of, global, declared_part, named_part, behind_declared, behind_named_part, behind_file_part, after_file_part, file_parts, behind_file_parts, file_decl, behind_file_decl, behind_defined, function_named, behind_function_named, item, behind_by_form, with_tags, behind_item, after_item, items, behind_items}
+use Rattle.c_rules.proofs.ModeItems.{global_fine}
 use Rattle.c_rules_laws.specs.Lexical.{AreSomeMembers, IsItemLexical, IsUnitLexical}
 use Rattle.c_rules_laws.specs.MadeTypes.{NotArray, Made, IsSized}
 use Rattle.c_rules_laws.specs.RightScopes.{IsThing}
@@ -37,43 +39,29 @@ use Rattle.c_tree.proofs.OperatorLemmas.{fits}
 -- ## Types of functions
 
 abbrev pub IsFunctionType : CType → Type 0
-IsFunctionType void = ⊥
-IsFunctionType (integer i) = ⊥
-IsFunctionType (pointer t) = ⊥
-IsFunctionType (array t n) = ⊥
-IsFunctionType (struct s) = ⊥
 IsFunctionType (function t ts) = Unit {0}
+IsFunctionType t = ⊥
 
 function_type : (at : ℕ) (t : CType) (ts : CTypes) → Holds IsFunctionType (function_of at t ts)
 function_type at t ts = behind_demand IsFunctionType (is_result t) 3 at _ (λ _. behind_demand IsFunctionType (nat_le (count ts) 16) 13 at _ (λ _. demand_holds IsFunctionType (few_parts (function t ts)) 13 at (function t ts) (λ _. tt)))
 
 declared_function : (d : Declarator) (env : Env) (t : CType) → declares_function d ≡ true → Holds IsFunctionType (declared env d t)
-declared_function syntax.nothing env t e = absurd (cc)
-declared_function (syntax.named at x) env t e = absurd (cc)
 declared_function (syntax.pointer at d) env t e = after_part IsFunctionType (pointer_to at t) (λ u. declared env d u) (λ u. declared_function d env u e)
 declared_function (syntax.array at d size) env t e = after_part IsFunctionType (on (size_in env size) (array_of env at t)) (λ u. declared env d u) (λ u. declared_function d env u e)
-declared_function (syntax.function at syntax.nothing ps) env t e = absurd (cc)
 declared_function (syntax.function at (syntax.named here x) ps) env t e =
     on_holds IsFunctionType IsFunctionType (on (parameters _ 0 ps) (function_of at t)) (λ u. fine u) (after_part IsFunctionType (parameters _ 0 ps) (function_of at t) (λ ts. function_type at t ts)) (λ u h. h)
 declared_function (syntax.function at (syntax.pointer here d) ps) env t e = after_part IsFunctionType (on (parameters _ 0 ps) (function_of at t)) (λ u. declared env (syntax.pointer here d) u) (λ u. declared_function (syntax.pointer here d) env u e)
 declared_function (syntax.function at (syntax.array here d size) ps) env t e = after_part IsFunctionType (on (parameters _ 0 ps) (function_of at t)) (λ u. declared env (syntax.array here d size) u) (λ u. declared_function (syntax.array here d size) env u e)
 declared_function (syntax.function at (syntax.function here d qs) ps) env t e = after_part IsFunctionType (on (parameters _ 0 ps) (function_of at t)) (λ u. declared env (syntax.function here d qs) u) (λ u. declared_function (syntax.function here d qs) env u e)
+declared_function d env t e = absurd (cc)
 
 function_thing : (t : CType) → IsFunctionType t → IsThing t
 function_thing void h = absurd h
-function_thing (integer i) h = tt
-function_thing (pointer t) h = tt
-function_thing (array t n) h = tt
-function_thing (struct s) h = tt
-function_thing (function t ts) h = tt
+function_thing t h = tt
 
 function_no_array : (t : CType) → IsFunctionType t → NotArray t
-function_no_array void h = tt
-function_no_array (integer i) h = tt
-function_no_array (pointer t) h = tt
 function_no_array (array t n) h = absurd h
-function_no_array (struct s) h = tt
-function_no_array (function t ts) h = tt
+function_no_array t h = tt
 
 -- ## Names of functions
 
@@ -115,21 +103,16 @@ module _ (env : Env) (w : IsFileRight env) (x : Name) where
       let d : b.depth ≡ env.depth = w.shallow_names x b e ∙ sym w.shallow in
       ap (at_depth env.depth) e ∙ ap (λ t. if t then Some b.means else None) (ap (λ k. nat_eq k env.depth) d ∙ nat_eq_equiv.refl env.depth)
 
-  or_true : (a b : Bool) → b ≡ true → (a || b) ≡ true
-  or_true true b e = refl
-  or_true false b e = e
-
   follows_function : (defined : Bool) (t : CType) (b : Binding) → lookup env.names x ≡ Some b → may_follow_function defined t (declared_here env x) ≡ true → Agrees b.means (a_function t (is_defined_by defined (declared_here env x)))
   follows_function defined t b e f =
       let h = here_is b e in
       by_meaning b.means (w.meanings x b e) (subst (λ o. may_follow_function defined t o ≡ true) h f) (ap (is_defined_by defined) h)
     where
       by_meaning : (m : Meaning) → FileMeaning env x m → may_follow_function defined t (Some m) ≡ true → is_defined_by defined (declared_here env x) ≡ is_defined_by defined (Some m) → Agrees m (a_function t (is_defined_by defined (declared_here env x)))
-      by_meaning (a_function u was) g q i = (sym (type_is t u (and_left (same_type t u) (not (defined && was)) q)), λ k. i ∙ or_true defined was k)
+      by_meaning (a_function u was) g q i = (sym (type_is t u (and_left (same_type t u) (not (defined && was)) q)), λ k. i ∙ or_right defined was k)
       by_meaning (a_static s u d) g q i = absurd (cc)
-      by_meaning (a_local n s u) g q i = absurd g
       by_meaning (an_enumerator z) g q i = absurd (cc)
-      by_meaning (unknown f fs) g q i = absurd g
+      by_meaning m g q i = absurd g
 
   follows_object : (defined : Bool) (t : CType) (b : Binding) → lookup env.names x ≡ Some b → may_follow_object defined t (declared_here env x) ≡ true → Agrees b.means (a_static t t (is_defined_by defined (declared_here env x)))
   follows_object defined t b e f =
@@ -137,11 +120,10 @@ module _ (env : Env) (w : IsFileRight env) (x : Name) where
       by_meaning b.means (w.meanings x b e) (subst (λ o. may_follow_object defined t o ≡ true) h f) (ap (is_defined_by defined) h)
     where
       by_meaning : (m : Meaning) → FileMeaning env x m → may_follow_object defined t (Some m) ≡ true → is_defined_by defined (declared_here env x) ≡ is_defined_by defined (Some m) → Agrees m (a_static t t (is_defined_by defined (declared_here env x)))
-      by_meaning (a_static s u was) g q i = (sym (type_is t u (and_left (same_type t u) (not (defined && was)) q)), λ k. i ∙ or_true defined was k)
+      by_meaning (a_static s u was) g q i = (sym (type_is t u (and_left (same_type t u) (not (defined && was)) q)), λ k. i ∙ or_right defined was k)
       by_meaning (a_function u d) g q i = absurd (cc)
-      by_meaning (a_local n s u) g q i = absurd g
       by_meaning (an_enumerator z) g q i = absurd (cc)
-      by_meaning (unknown f fs) g q i = absurd g
+      by_meaning m g q i = absurd g
 
 -- ## Steps of a scope
 
@@ -248,9 +230,8 @@ not_defined_before env w defined x t i e q f = by_lookup (lookup env.names x) re
     by_meaning : (m : Meaning) → FileMeaning env x m → may_follow_function defined t (Some m) ≡ true → is_defined_by defined (Some m) ≡ false
     by_meaning (a_function u d) g h = (let d_is : d ≡ false = (g.1 i e).1 in ap₂ (λ a b. a || b) q d_is)
     by_meaning (a_static s u d) g h = absurd (cc)
-    by_meaning (a_local n s u) g h = absurd g
     by_meaning (an_enumerator z) g h = absurd (cc)
-    by_meaning (unknown k ks) g h = absurd g
+    by_meaning m g h = absurd g
 
     by_lookup : (o : Option Binding) → lookup env.names x ≡ o → is_defined_by defined (declared_here env x) ≡ false
     by_lookup None p = ap (λ o. is_defined_by defined (at_depth env.depth o)) p ∙ q
@@ -292,6 +273,13 @@ object_named env defined b at s d x m =
     (both_hold (λ _. may_follow_object defined o.whole (declared_here env x.name) ≡ true) (λ _. defined ≡ true → b.cells + cells (layout_of env) o.whole ≤ 1048576) (λ _. (may_follow_object defined o.whole (declared_here env x.name) ≡ true) × (defined ≡ true → b.cells + cells (layout_of env) o.whole ≤ 1048576)) (object_name env defined x o.whole) (few_static env defined b x o.whole) _ (object_follows env defined x o.whole) (object_few env defined b x o.whole) (λ _ _ k l. (k, l)))
     (λ _ k. record { right = h; follows = k.0; few = k.1 }))
 
+-- an object that is named is the one that is declared
+pub object_declared_same : (env : Env) (defined : Bool) (b : Before) (at : ℕ) (s : Spec) (d : Declarator) (x : Ident) (m : MaybeInit) (o : Object) → global_declared env defined b at s d x m ≡ fine o → object_declared env at s d x m ≡ fine o
+object_declared_same env defined b at s d x m o e =
+    let i = on_fine (object_declared env at s d x m) (global_object env defined b x) o e in
+    let j = on_fine (and_also (object_name env defined x i.0.whole) (few_static env defined b x i.0.whole)) (λ _. fine i.0) o i.2 in
+    i.1 ∙ j.2
+
 object_step : (env : Env) (defined : Bool) (b : Before) (x : Ident) (r : Checked Object) (o : Object) → IsFileRight env → r ≡ fine o → IsObjectNamed env defined b x o → Step env (behind_global env defined x r)
 object_step env defined b x r o w e h =
     let d : Bool = is_defined_by defined (declared_here env x.name) in
@@ -301,10 +289,6 @@ object_step env defined b x r o w e h =
     (file_named env x.name (a_static o.whole o.whole d) w (sized, sized) (λ y _. (refl, h.right.known, h.right.small)) (λ c f. follows_object env w x.name defined o.whole c f h.follows))
 
 -- ## Items
-
-global_fine : (env : Env) (defined : Bool) (b : Before) (x : Ident) (m : MaybeInit) (r : Checked Object) (p : Output) → global env defined b x m r ≡ fine p → (o : Object) × (r ≡ fine o)
-global_fine env false b x m r p e = (let f = on_fine r (λ _. fine no_output) p e in (f.0, f.1))
-global_fine env true b x m r p e = (let f = on_fine r (definition_of (within_global env true x r) b m) p e in (f.0, f.1))
 
 pub part_step : (env : Env) (b : Before) (at : ℕ) (class : Storage) (s : Spec) (d : Declarator) (m : MaybeInit) (o : Option Ident) (p : Output) → IsFileRight env → named_part env b at class s d m o ≡ fine p → Step env (behind_named_part env b at class s d m o)
 part_step env b at class s d m None p w e = absurd (cc)

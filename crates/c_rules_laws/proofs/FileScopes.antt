@@ -33,9 +33,8 @@ use Rattle.c_rules.proofs.FileScopeLemmas.{within_or}
 -- ## Structs
 
 map_set : (xs : List Struct) (n : ℕ) (s : Struct) → map types_of_struct (slice_set xs n s) ≡ set (map types_of_struct xs) n (types_of_struct s)
-map_set [] n s = refl
-map_set (x ∷ xs) zero s = refl
 map_set (x ∷ xs) (suc n) s = ap (λ ys. types_of_struct x ∷ ys) (map_set xs n s)
+map_set xs n s = refl
 
 set_past : {A : Type 0} (xs : List A) (n : ℕ) (v : A) → length xs ≤ n → set xs n v ≡ xs
 set_past [] n v h = refl
@@ -44,8 +43,7 @@ set_past (x ∷ xs) (suc n) v h = ap (λ ys. x ∷ ys) (set_past xs n v (omega (
 
 not_defined : (s : Struct) → is_incomplete s ≡ true → types_of_struct s ≡ None
 not_defined incomplete e = refl
-not_defined (unknown_struct f fs) e = absurd (cc)
-not_defined (defined_struct ms) e = absurd (cc)
+not_defined s e = absurd (cc)
 
 entry_empty : (xs : List Struct) (n : ℕ) → n < length xs → is_incomplete (unwrap_or (slice_get xs n) incomplete) ≡ true → slice_get (map types_of_struct xs) n ≡ Some None
 entry_empty [] n l e = absurd (omega (arith, l))
@@ -120,10 +118,9 @@ module _ (env : Env) where
   longer (m ∷ ms) ns h = omega arith
 
   pub some_members : (earlier : List Name) (ms : Members) → AreSomeMembers ms → Holds (λ xs. 1 ≤ length xs) (members env earlier ms)
-  some_members earlier no_members h = absurd h
-  some_members earlier (more_members at s no_declarators rest) h = absurd h
   some_members earlier (more_members at s (more_declarators d ds) rest) h =
       both_hold (λ ms. 1 ≤ length ms) Any (λ ms. 1 ≤ length ms) (members_declared env earlier at s (more_declarators d ds)) (members env (names_behind earlier (more_declarators d ds)) rest) _ (some_declared earlier at s d ds) (anything _) (λ ms ns k _. longer ms ns k)
+  some_members earlier ms h = absurd h
 
 -- ## Types where more structs are defined
 
@@ -131,19 +128,14 @@ sized_kept : (old new : Structs) → AreSound old → Grows old new → (t : CTy
 sized_kept old new s g t h = record { made = made_kept old new g.kept t h.made; few = few t h }
   where
     few : (t : CType) → IsSized old t → FewCells new t
-    few void h = tt
-    few (integer i) h = tt
-    few (pointer t) h = tt
     few (array t n) h = subst (λ xs. length (repeat n xs) ≤ 33554432) (sym (same_flat old new s g t h.made.1)) h.few
-    few (struct u) h = tt
-    few (function t ts) h = tt
+    few t h = tt
 
 meaning_kept : (old new : Structs) → AreSound old → Grows old new → (m : Meaning) → MeaningTyped old m → MeaningTyped new m
 meaning_kept old new s g (a_static seen whole d) h = (sized_kept old new s g seen h.0, sized_kept old new s g whole h.1)
 meaning_kept old new s g (a_local n seen whole) h = (sized_kept old new s g seen h.0, sized_kept old new s g whole h.1)
 meaning_kept old new s g (a_function t d) h = (made_kept old new g.kept t h.0, h.1)
-meaning_kept old new s g (an_enumerator z) h = tt
-meaning_kept old new s g (unknown f fs) h = tt
+meaning_kept old new s g m h = tt
 
 -- ## Scopes at file scope
 
@@ -172,33 +164,17 @@ Agrees m n = Unit {0}
 
 pub agrees_self : (m : Meaning) → Agrees m m
 agrees_self (a_static seen whole d) = (refl, λ h. h)
-agrees_self (a_local n seen whole) = tt
 agrees_self (a_function t d) = (refl, λ h. h)
-agrees_self (an_enumerator z) = tt
-agrees_self (unknown f fs) = tt
+agrees_self m = tt
 
 pub agrees_on : (a b c : Meaning) → Agrees a b → Agrees b c → Agrees a c
 agrees_on (a_static s w d) (a_static t x e) (a_static u y f) h k = (h.0 ∙ k.0, λ q. k.1 (h.1 q))
-agrees_on (a_static s w d) (a_static t x e) (a_local n u y) h k = absurd k
-agrees_on (a_static s w d) (a_static t x e) (a_function u f) h k = absurd k
-agrees_on (a_static s w d) (a_static t x e) (an_enumerator z) h k = absurd k
-agrees_on (a_static s w d) (a_static t x e) (unknown f fs) h k = absurd k
-agrees_on (a_static s w d) (a_local n t x) c h k = absurd h
-agrees_on (a_static s w d) (a_function t e) c h k = absurd h
-agrees_on (a_static s w d) (an_enumerator z) c h k = absurd h
-agrees_on (a_static s w d) (unknown f fs) c h k = absurd h
+agrees_on (a_static s w d) (a_static t x e) c h k = absurd k
 agrees_on (a_function t d) (a_function u e) (a_function w f) h k = (h.0 ∙ k.0, λ q. k.1 (h.1 q))
-agrees_on (a_function t d) (a_function u e) (a_static s w f) h k = absurd k
-agrees_on (a_function t d) (a_function u e) (a_local n s w) h k = absurd k
-agrees_on (a_function t d) (a_function u e) (an_enumerator z) h k = absurd k
-agrees_on (a_function t d) (a_function u e) (unknown f fs) h k = absurd k
-agrees_on (a_function t d) (a_static u x e) c h k = absurd h
-agrees_on (a_function t d) (a_local n u x) c h k = absurd h
-agrees_on (a_function t d) (an_enumerator z) c h k = absurd h
-agrees_on (a_function t d) (unknown f fs) c h k = absurd h
-agrees_on (a_local n s w) b c h k = tt
-agrees_on (an_enumerator z) b c h k = tt
-agrees_on (unknown f fs) b c h k = tt
+agrees_on (a_function t d) (a_function u e) c h k = absurd k
+agrees_on (a_static s w d) b c h k = absurd h
+agrees_on (a_function t d) b c h k = absurd h
+agrees_on a b c h k = tt
 
 -- what a later scope keeps of one
 pub record Follows (old new : Env) : Type 0 where
@@ -249,10 +225,8 @@ file_named env x m w t f a = (
 file_meaning_kept : (old new : Env) → AreSound (layout_of old) → Grows (layout_of old) (layout_of new) → new.whole ≡ old.whole → (x : Name) (m : Meaning) → FileMeaning old x m → FileMeaning new x m
 file_meaning_kept old new s g q x (a_static seen whole d) h =
     (h.0, complete_kept (layout_of old) (layout_of new) g.kept whole h.1, subst (λ xs. length xs ≤ 65536) (sym (same_flat (layout_of old) (layout_of new) s g whole h.1)) h.2)
-file_meaning_kept old new s g q x (a_local n seen whole) h = h
 file_meaning_kept old new s g q x (a_function t d) h = (h.0, subst (λ w. (i : ℕ) → number_among (given_names w.mode) x ≡ Some i → (slice_get (given_types w.mode) i ≡ Some t) × (d ≡ false)) (sym q) h.1)
-file_meaning_kept old new s g q x (an_enumerator z) h = h
-file_meaning_kept old new s g q x (unknown f fs) h = h
+file_meaning_kept old new s g q x m h = h
 
 pub file_structs : (env : Env) (x : Name) (s : Struct) → IsFileRight env → AreSound (layout_of (with_struct env x s)) → Grows (layout_of env) (layout_of (with_struct env x s)) → IsFileRight (with_struct env x s) × Follows env (with_struct env x s)
 file_structs env x s w a g = (

@@ -10,10 +10,6 @@ use Rattle.c_meaning_laws.specs.WithoutNullCalls.{IsFree, AreFree, IsFreeMaybe, 
 module _ (n : ℕ) where
   mutual
     free : (e : Expr) → CallsBelow (n + 24) e → IsFree n e
-    free (constant t v) h = tt
-    free (function_name t f) h = tt
-    free (string_place t k) h = tt
-    free (variable t s k) h = tt
     free (dereference t a) h = free a h
     free (load t a) h = free a h
     free (address_of t a) h = free a h
@@ -34,6 +30,7 @@ module _ (n : ℕ) where
     free (comma t es) h = all_free es h
     free (call t site f es) h = (let l = h.0 in (λ e. omega (arith, l, e), λ e. omega (arith, l, e), all_free es h.1))
     free (call_through t site a es) h = (free a h.0, all_free es h.1)
+    free e h = tt
 
     all_free : (es : Exprs) → AllBelow (n + 24) es → AreFree n es
     all_free no_exprs h = tt
@@ -50,7 +47,6 @@ module _ (n : ℕ) where
   mutual
     free_stmt : (s : Stmt) → StmtBelow (n + 24) s → IsFreeStmt n s
     free_stmt (block ss) h = free_stmts ss h
-    free_stmt empty h = tt
     free_stmt (evaluate e) h = free e h
     free_stmt (declare x is) h = free_inits is h
     free_stmt (if_else e s t) h = (free e h.0, free_stmt s h.1, free_stmt t h.2)
@@ -58,10 +54,8 @@ module _ (n : ℕ) where
     free_stmt (do_loop s e) h = (free_stmt s h.0, free e h.1)
     free_stmt (for_loop first test step s) h = (free_stmts first h.0, free_maybe test h.1, free_maybe step h.2, free_stmt s h.3)
     free_stmt (switch_on e gs) h = (free e h.0, free_groups gs h.1)
-    free_stmt break_off h = tt
-    free_stmt continue_on h = tt
-    free_stmt return_void h = tt
     free_stmt (return_value e) h = free e h
+    free_stmt s h = tt
 
     free_stmts : (ss : Stmts) → StmtsBelow (n + 24) ss → AreFreeStmts n ss
     free_stmts no_stmts h = tt

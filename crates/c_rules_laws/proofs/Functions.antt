@@ -27,26 +27,20 @@ use Rattle.c_rules_laws.proofs.Statements.{items_alike, held_by_block_same}
 -- ## Declarators of functions
 
 pub declares_same : (d : Declarator) → declares_function (unplaced_declarator d) ≡ declares_function d
-declares_same syntax.nothing = refl
-declares_same (syntax.named at x) = refl
 declares_same (syntax.pointer at d) = declares_same d
 declares_same (syntax.array at d size) = declares_same d
-declares_same (syntax.function at syntax.nothing ps) = refl
-declares_same (syntax.function at (syntax.named here x) ps) = refl
 declares_same (syntax.function at (syntax.pointer here d) ps) = declares_same d
 declares_same (syntax.function at (syntax.array here d size) ps) = declares_same d
 declares_same (syntax.function at (syntax.function here d qs) ps) = declares_same (syntax.function here d qs)
+declares_same d = refl
 
 parameters_same : (d : Declarator) → parameters_of (unplaced_declarator d) ≡ unplaced_params (parameters_of d)
-parameters_same syntax.nothing = refl
-parameters_same (syntax.named at x) = refl
 parameters_same (syntax.pointer at d) = parameters_same d
 parameters_same (syntax.array at d size) = parameters_same d
-parameters_same (syntax.function at syntax.nothing ps) = refl
-parameters_same (syntax.function at (syntax.named here x) ps) = refl
 parameters_same (syntax.function at (syntax.pointer here d) ps) = parameters_same d
 parameters_same (syntax.function at (syntax.array here d size) ps) = parameters_same d
 parameters_same (syntax.function at (syntax.function here d qs) ps) = parameters_same (syntax.function here d qs)
+parameters_same d = refl
 
 named_same : (n : Option Ident) → is_named (unplaced_name n) ≡ is_named n
 named_same None = refl
@@ -65,27 +59,16 @@ parameter_same env k None t = refl
 parameter_same env k (Some x) t = refl
 
 with_parameters_same : (env : Env) (k : ℕ) (ps : Params) (ts : CTypes) → with_parameters env k (unplaced_params ps) ts ≡ with_parameters env k ps ts
-with_parameters_same env k no_params ts = refl
-with_parameters_same env k (more_params at s d ps) no_types = refl
 with_parameters_same env k (more_params at s d ps) (more_types t ts) =
     ap (λ y. with_parameters y (suc k) (unplaced_params ps) ts) (ap (λ n. with_parameter env k n t) (name_same d) ∙ parameter_same env k (name_of d) t)
     ∙ with_parameters_same (with_parameter env k (name_of d) t) (suc k) ps ts
+with_parameters_same env k ps ts = refl
 
 -- ## Bodies
 
 pub body_items_same : (s : Stmt) → items_of_body (unplaced_stmt s) ≡ unplaced_block_items (items_of_body s)
 body_items_same (block at is) = refl
-body_items_same (empty at) = refl
-body_items_same (evaluate at e) = refl
-body_items_same (only_if at e s) = refl
-body_items_same (if_else at e s t) = refl
-body_items_same (while_loop at e s) = refl
-body_items_same (do_loop at s e) = refl
-body_items_same (for_loop at f test step s) = refl
-body_items_same (switch_on at e gs) = refl
-body_items_same (break_off at) = refl
-body_items_same (continue_on at) = refl
-body_items_same (return_from at m) = refl
+body_items_same s = refl
 
 body_env_same : (env : Env) (d : Declarator) (ts : CTypes) → body_env env (unplaced_declarator d) ts ≡ body_env env d ts
 body_env_same env d ts = ap (λ ps. with_parameters (inside env) 0 ps ts) (parameters_same d) ∙ with_parameters_same (inside env) 0 (parameters_of d) ts
@@ -116,29 +99,21 @@ few_variables_alike env d x is =
     (demand_alike (nat_le (count_params (parameters_of d) + length (names_of_block is)) (most_local_cells env.whole.mode)) C13 x.at 0 met)
 
 pub defined_alike : (env : Env) (b c : Before) → c ≡ b → (here yonder : ℕ) (d : Declarator) (x : Ident) (is : BlockItems) (t : CType) → Alike Function (defined_as env b here d x is t) (defined_as env c yonder (unplaced_declarator d) (unplaced_ident x) (unplaced_block_items is) t)
-defined_alike env b c h here yonder d x is void = fault_alike C3 here yonder
-defined_alike env b c h here yonder d x is (integer i) = fault_alike C3 here yonder
-defined_alike env b c h here yonder d x is (pointer t) = fault_alike C3 here yonder
-defined_alike env b c h here yonder d x is (array t n) = fault_alike C3 here yonder
-defined_alike env b c h here yonder d x is (struct s) = fault_alike C3 here yonder
 defined_alike env b c h here yonder d x is (function t ts) =
     on_alike (λ _. parts_first (body_of env b t d ts is) (laid_body env b here d x is t ts)) (λ _. parts_first (body_of env c t (unplaced_declarator d) ts (unplaced_block_items is)) (laid_body env c yonder (unplaced_declarator d) (unplaced_ident x) (unplaced_block_items is) t ts))
     (few_variables_alike env d x is)
     (λ _ _. parts_first_alike (body_of env b t d ts is) (body_of env c t (unplaced_declarator d) ts (unplaced_block_items is)) {r = laid_body env b here d x is t ts} {s = laid_body env c yonder (unplaced_declarator d) (unplaced_ident x) (unplaced_block_items is) t ts} (both_alike (body_of env b t d ts is) (body_of env c t (unplaced_declarator d) ts (unplaced_block_items is)) (λ _ p. function_laid env x t ts p) (λ _ p. function_laid env (unplaced_ident x) t ts p)
     (subst (λ w. Alike Met (demand (are_named (parameters_of d)) C3 here met) (demand w C3 yonder met)) (sym (ap are_named (parameters_same d) ∙ all_named_same (parameters_of d))) (demand_alike (are_named (parameters_of d)) C3 here yonder met))
     (λ _ _. body_alike env b c h t d ts is) (λ _ p. laid_alike env x t ts p)))
+defined_alike env b c h here yonder d x is t = fault_alike C3 here yonder
 
 -- the strings in the body of a definition that is fine
 pub held_same : (env : Env) (b : Before) (place : ℕ) (d : Declarator) (x : Ident) (is : BlockItems) (t : CType) (f : Function) → defined_as env b place d x is t ≡ fine f → held_by_type env (unplaced_declarator d) (unplaced_block_items is) t ≡ held_by_type env d is t
-held_same env b place d x is void f e = refl
-held_same env b place d x is (integer i) f e = refl
-held_same env b place d x is (pointer t) f e = refl
-held_same env b place d x is (array t n) f e = refl
-held_same env b place d x is (struct s) f e = refl
 held_same env b place d x is (function t ts) f e =
     let g = first_fine (demand (are_named (parameters_of d)) C3 place met) (body_of env b t d ts is) (λ _ p. function_laid env x t ts p) f (definition_fine env b place d x is t ts f e) in
     ap (λ y. held_by_block y (body_numbers (unplaced_declarator d) (unplaced_block_items is)) (unplaced_block_items is)) (body_env_same env d ts)
     ∙ held_by_block_same (body_env env d ts) (in_body t) b (body_numbers d is) (body_numbers (unplaced_declarator d) (unplaced_block_items is)) (body_numbers_same d is) is g.1 g.3
+held_same env b place d x is t f e = refl
 
 -- ## Names of functions
 

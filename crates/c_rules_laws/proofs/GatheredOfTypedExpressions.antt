@@ -21,22 +21,15 @@ use Rattle.c_rules.specs.PostfixExpressions.{Designator, direct, through, Callee
 use Rattle.c_rules.specs.UnaryExpressions.{address_of_form, address_of_type, address, led_to, indirection, plus_of, operator_of, unary_of_value, size_of, cast_of, null_cast}
 use Rattle.c_rules.specs.BinaryExpressions.{shifted, compared_integers, sum_of, sum, minus_of, balanced_of, shift_of, ordered_of, Alike, alike_integers, alike_pointers, unlike, pointers_alike, alike_of, alike, equality_of, arithmetic_of, operation_of, operation, both_scalars, conjunction, disjunction, chosen, arms_of, choice}
 use Rattle.c_rules.specs.Assignments.{assignment, operator_of_assignment, moves, right_type, update_of, assignment_by, one_for, step, trees_of, comma_of}
+use Rattle.c_rules.proofs.NothingMore.{nothing_more}
 use Rattle.c_rules.proofs.Integers.{size_holds}
-use Rattle.c_rules_laws.proofs.Holding.{Holds, demand_holds, behind_demand, after_part, if_holds}
+use Rattle.c_rules_laws.proofs.Holding.{Holds, demand_holds, behind_demand, after_part, if_holds, and_right}
 use Rattle.c_rules_laws.proofs.MadeTypes.{number_is}
 use Rattle.c_rules_laws.specs.ConstantForm.{IsConst}
 use Rattle.c_rules_laws.proofs.ConstantForms.{converted_const, unary_const, integer_const, decayed_const, member_const, binary_const, and_const, or_const, conditional_const, moved_const, zero_const}
 
 pub none_both : {X : Type 0} (xs ys : List X) → xs ≡ [] → ys ≡ [] → xs ++ ys ≡ []
 none_both xs ys e f = ap₂ (λ x y. x ++ y) e f
-
-pub and_right_test : (a b : Bool) → (a && b) ≡ true → b ≡ true
-and_right_test true b h = h
-and_right_test false b h = absurd (cc)
-
-nothing_more : {X : Type 0} (xs : List X) → xs ++ [] ≡ xs
-nothing_more [] = refl
-nothing_more (x ∷ xs) = ap (λ ys. x ∷ ys) (nothing_more xs)
 
 module _ {X : Type 0} (gathering : Gathering X) where
   -- what is gathered from the tree, of which a constant has none
@@ -64,16 +57,13 @@ module _ {X : Type 0} (gathering : Gathering X) where
 
   loaded_gathered : (xs : List X) (g : TypedExpression) (f : Form) → Gathers gathering xs g → Gathers gathering xs (loaded g f)
   loaded_gathered xs g (a_value e) h = h
-  loaded_gathered xs g (a_place e) h = (h.0, λ c. absurd c)
-  loaded_gathered xs g (behind q) h = (h.0, λ c. absurd c)
+  loaded_gathered xs g f h = (h.0, λ c. absurd c)
 
   valued_as_gathered : (env : Env) (at : ℕ) (xs : List X) (g : TypedExpression) (t : CType) → Gathers gathering xs g → Holds (Gathers gathering xs) (valued_as env at g t)
-  valued_as_gathered env at xs g void h = loaded_gathered xs g g.form h
-  valued_as_gathered env at xs g (integer i) h = loaded_gathered xs g g.form h
-  valued_as_gathered env at xs g (pointer t) h = loaded_gathered xs g g.form h
   valued_as_gathered env at xs g (array t n) h = (h.0, λ c. h.1 (decayed_const (cells (layout_of env) t) g.constant c))
   valued_as_gathered env at xs g (struct s) h = tt
   valued_as_gathered env at xs g (function t ts) h = demand_holds (Gathers gathering xs) (few_parts (pointer g.ctype)) 13 at _ (λ _. h)
+  valued_as_gathered env at xs g t h = loaded_gathered xs g g.form h
 
   pub valued_gathered : (env : Env) (at : ℕ) (xs : List X) (g : TypedExpression) → Gathers gathering xs g → Holds (Gathers gathering xs) (valued env at g)
   valued_gathered env at xs g h = valued_as_gathered env at xs g g.ctype h
@@ -113,11 +103,10 @@ module _ {X : Type 0} (gathering : Gathering X) where
 
   passed_gathered : (ts : CTypes) (gs : List TypedExpression) (xs : List X) → length gs ≡ count ts → AllGather gathering xs gs → gathered_all gathering (passed ts gs) ≡ xs
   passed_gathered no_types [] xs l h = sym h
-  passed_gathered no_types (g ∷ gs) xs l h = absurd (omega (arith, l))
-  passed_gathered (more_types t ts) [] xs l h = absurd (omega (arith, l))
   passed_gathered (more_types t ts) (g ∷ gs) xs l h =
       let m : length gs ≡ count ts = omega (arith, l) in
       ap₂ (λ x y. x ++ y) (assigned_gathered h.0 t g h.2).0 (passed_gathered ts gs h.1 m h.3) ∙ sym h.4
+  passed_gathered ts gs xs l h = absurd (omega (arith, l))
 
   call_gathered : (xs ys : List X) (d : Designator) (t : CType) (site : ℕ) (es : Exprs) → DesignatorGathers gathering xs d → gathered_all gathering es ≡ ys → gathered gathering (call_of d t site es) ≡ xs ++ called_at gathering site d ∷ ys
   call_gathered xs ys (direct f) t site es h k = ap (λ z. gathering.direct site f ∷ z) k ∙ ap (λ z. z ++ gathering.direct site f ∷ ys) (sym h)
@@ -128,42 +117,24 @@ module _ {X : Type 0} (gathering : Gathering X) where
       behind_demand (Gathers gathering (xs ++ called_at gathering site f.designator ∷ ys)) (as_many_as f.parameters gs) 5 at _ (λ m. demand_holds (Gathers gathering (xs ++ called_at gathering site f.designator ∷ ys)) (all_fit f.parameters gs) 3 at _ (λ _. (call_gathered xs ys f.designator f.returns site (passed f.parameters gs) h (passed_gathered f.parameters gs ys (number_is (length gs) (count f.parameters) m) k), λ c. absurd c)))
 
   pub callee_type_gathered : (at : ℕ) (t : CType) (f : ℕ) → Holds (CalleeGathers gathering []) (callee_of_type at t f)
-  callee_type_gathered at void f = tt
-  callee_type_gathered at (integer i) f = tt
-  callee_type_gathered at (pointer t) f = tt
-  callee_type_gathered at (array t n) f = tt
-  callee_type_gathered at (struct s) f = tt
   callee_type_gathered at (function t ts) f = refl
+  callee_type_gathered at t f = tt
 
   pub callee_through_gathered : (at : ℕ) (xs : List X) (e : Expr) (t : CType) → gathered gathering e ≡ xs → Holds (CalleeGathers gathering xs) (callee_through at e t)
-  callee_through_gathered at xs e void h = tt
-  callee_through_gathered at xs e (integer i) h = tt
-  callee_through_gathered at xs e (pointer void) h = tt
-  callee_through_gathered at xs e (pointer (integer i)) h = tt
-  callee_through_gathered at xs e (pointer (pointer t)) h = tt
-  callee_through_gathered at xs e (pointer (array t n)) h = tt
-  callee_through_gathered at xs e (pointer (struct s)) h = tt
   callee_through_gathered at xs e (pointer (function t ts)) h = h
-  callee_through_gathered at xs e (array t n) h = tt
-  callee_through_gathered at xs e (struct s) h = tt
-  callee_through_gathered at xs e (function t ts) h = tt
+  callee_through_gathered at xs e t h = tt
 
   member_or_gathered : (env : Env) (at : ℕ) (xs : List X) (ms : List Member) (g : TypedExpression) (o : Option ℕ) → Gathers gathering xs g → Holds (Gathers gathering xs) (member_or_undeclared env at ms g o)
   member_or_gathered env at xs ms g None h = tt
   member_or_gathered env at xs ms g (Some k) h = (h.0, λ c. h.1 (member_const _ _ g.constant c))
 
   member_struct_gathered : (env : Env) (at : ℕ) (xs : List X) (x : Name) (g : TypedExpression) (s : Struct) → Gathers gathering xs g → Holds (Gathers gathering xs) (member_of_struct env at x g s)
-  member_struct_gathered env at xs x g incomplete h = tt
-  member_struct_gathered env at xs x g (unknown_struct f fs) h = tt
   member_struct_gathered env at xs x g (defined_struct ms) h = member_or_gathered env at xs ms g (number_among (map name_of_member ms) x) h
+  member_struct_gathered env at xs x g s h = tt
 
   member_type_gathered : (env : Env) (at : ℕ) (xs : List X) (x : Name) (g : TypedExpression) (t : CType) → Gathers gathering xs g → Holds (Gathers gathering xs) (member_of_type env at x g t)
   member_type_gathered env at xs x g (struct s) h = member_struct_gathered env at xs x g (struct_of env s) h
-  member_type_gathered env at xs x g void h = tt
-  member_type_gathered env at xs x g (integer i) h = tt
-  member_type_gathered env at xs x g (pointer t) h = tt
-  member_type_gathered env at xs x g (array t n) h = tt
-  member_type_gathered env at xs x g (function t ts) h = tt
+  member_type_gathered env at xs x g t h = tt
 
   pub member_gathered : (env : Env) (at : ℕ) (xs : List X) (x : Name) (g : TypedExpression) → Gathers gathering xs g → Holds (Gathers gathering xs) (member_of env at x g)
   member_gathered env at xs x g h = member_type_gathered env at xs x g g.ctype h
@@ -177,40 +148,26 @@ module _ {X : Type 0} (gathering : Gathering X) where
 
   address_type_gathered : (at : ℕ) (xs : List X) (g : TypedExpression) (t : CType) → Gathers gathering xs g → Holds (Gathers gathering xs) (address_of_type at g t)
   address_type_gathered at xs g (array t n) h = tt
-  address_type_gathered at xs g void h = address_form_gathered at xs g g.form h.0 h.1
-  address_type_gathered at xs g (integer i) h = address_form_gathered at xs g g.form h.0 h.1
-  address_type_gathered at xs g (pointer t) h = address_form_gathered at xs g g.form h.0 h.1
-  address_type_gathered at xs g (struct s) h = address_form_gathered at xs g g.form h.0 h.1
-  address_type_gathered at xs g (function t ts) h = address_form_gathered at xs g g.form h.0 h.1
+  address_type_gathered at xs g t h = address_form_gathered at xs g g.form h.0 h.1
 
   pub address_gathered : (at place : ℕ) (xs : List X) (g : TypedExpression) → Gathers gathering xs g → Holds (Gathers gathering xs) (address at place g)
   address_gathered at place xs g h = behind_demand (Gathers gathering xs) (is_place g || is_function g.ctype) 4 place _ (λ _. address_type_gathered at xs g g.ctype h)
 
   led_gathered : (at : ℕ) (xs : List X) (g : TypedExpression) (t : CType) → Gathers gathering xs g → Holds (Gathers gathering xs) (led_to at g t)
   led_gathered at xs g (pointer void) h = tt
-  led_gathered at xs g (pointer (integer i)) h = h
-  led_gathered at xs g (pointer (pointer t)) h = h
-  led_gathered at xs g (pointer (array t n)) h = h
-  led_gathered at xs g (pointer (struct s)) h = h
-  led_gathered at xs g (pointer (function t ts)) h = h
-  led_gathered at xs g void h = tt
-  led_gathered at xs g (integer i) h = tt
-  led_gathered at xs g (array t n) h = tt
-  led_gathered at xs g (struct s) h = tt
-  led_gathered at xs g (function t ts) h = tt
+  led_gathered at xs g (pointer t) h = h
+  led_gathered at xs g t h = tt
 
   pub indirection_gathered : (at : ℕ) (xs : List X) (g : TypedExpression) → Gathers gathering xs g → Holds (Gathers gathering xs) (indirection at g)
   indirection_gathered at xs g h = led_gathered at xs g g.ctype h
 
   plus_gathered : (at : ℕ) (xs : List X) (g : TypedExpression) (k : Kind) → Gathers gathering xs g → Holds (Gathers gathering xs) (plus_of at g k)
   plus_gathered at xs g (an_integer i) h = cast_gathered xs (promoted i) g h
-  plus_gathered at xs g (a_pointer t) h = tt
-  plus_gathered at xs g neither h = tt
+  plus_gathered at xs g k h = tt
 
   operator_gathered : (at : ℕ) (xs : List X) (o : UnOp) (g : TypedExpression) (k : Kind) → Gathers gathering xs g → Holds (Gathers gathering xs) (operator_of at o g k)
   operator_gathered at xs o g (an_integer i) h = (let c = converted_gathered xs (promoted i) g h in (c.0, λ k. c.1 (unary_const o (converted_to (promoted i) g).constant k)))
-  operator_gathered at xs o g (a_pointer t) h = tt
-  operator_gathered at xs o g neither h = tt
+  operator_gathered at xs o g k h = tt
 
   pub unary_gathered : (at o : ℕ) (xs : List X) (g : TypedExpression) → Gathers gathering xs g → Holds (Gathers gathering xs) (unary_of_value at o g)
   unary_gathered at o xs g h =
@@ -226,13 +183,10 @@ module _ {X : Type 0} (gathering : Gathering X) where
   pub cast_of_gathered : (at : ℕ) (xs : List X) (t : CType) (g : TypedExpression) → Gathers gathering xs g → Holds (Gathers gathering xs) (cast_of at t g)
   cast_of_gathered at xs void g h = (h.0, λ c. absurd c)
   cast_of_gathered at xs (integer i) g h = demand_holds (Gathers gathering xs) (is_integer g.ctype) 3 at (cast_to i g) (λ _. cast_gathered xs i g h)
-  cast_of_gathered at xs (pointer t) g h = tt
-  cast_of_gathered at xs (array t n) g h = tt
-  cast_of_gathered at xs (struct s) g h = tt
-  cast_of_gathered at xs (function t ts) g h = tt
+  cast_of_gathered at xs t g h = tt
 
   pub null_cast_gathered : (at : ℕ) (xs : List X) (g : TypedExpression) → Gathers gathering xs g → Holds (Gathers gathering xs) (null_cast at g)
-  null_cast_gathered at xs g h = demand_holds (Gathers gathering xs) (is_integer g.ctype && is_null g) 3 at (null_of (pointer void)) (λ e. null_gathered xs (pointer void) g (and_right_test (is_integer g.ctype) (is_null g) e) h)
+  null_cast_gathered at xs g h = demand_holds (Gathers gathering xs) (is_integer g.ctype && is_null g) 3 at (null_of (pointer void)) (λ e. null_gathered xs (pointer void) g (and_right (is_integer g.ctype) (is_null g) e) h)
 
   -- ## Operators between two values
 
@@ -256,10 +210,7 @@ module _ {X : Type 0} (gathering : Gathering X) where
     sum_of_gathered env at a b (an_integer i) (an_integer j) g h = calculated_gathered op.Add (common i j) (common i j) a b g h
     sum_of_gathered env at a b (a_pointer t) (an_integer j) g h = after_part (Gathers gathering (xs ++ ys)) (complete env at t) _ (λ _. both_gathered _ a.constant b.constant (tree_of a) (tree_of b) (moved_const a.constant _ b.constant) g h)
     sum_of_gathered env at a b (an_integer i) (a_pointer t) g h = after_part (Gathers gathering (xs ++ ys)) (complete env at t) _ (λ _. both_gathered _ a.constant b.constant (tree_of a) (tree_of b) (turned b.constant a.constant _) g h)
-    sum_of_gathered env at a b (an_integer i) neither g h = tt
-    sum_of_gathered env at a b (a_pointer t) (a_pointer u) g h = tt
-    sum_of_gathered env at a b (a_pointer t) neither g h = tt
-    sum_of_gathered env at a b neither l g h = tt
+    sum_of_gathered env at a b k l g h = tt
 
     pub sum_gathered : (env : Env) (at : ℕ) (a b : TypedExpression) → Gathers gathering xs a → Gathers gathering ys b → Holds (Gathers gathering (xs ++ ys)) (sum env at a b)
     sum_gathered env at a b g h = sum_of_gathered env at a b (kind_of a.ctype) (kind_of b.ctype) g h
@@ -268,33 +219,20 @@ module _ {X : Type 0} (gathering : Gathering X) where
     minus_gathered env at a b (an_integer i) (an_integer j) g h = calculated_gathered op.Sub (common i j) (common i j) a b g h
     minus_gathered env at a b (a_pointer t) (an_integer j) g h = after_part (Gathers gathering (xs ++ ys)) (complete env at t) _ (λ _. both_gathered _ a.constant b.constant (tree_of a) (tree_of b) (moved_const a.constant _ b.constant) g h)
     minus_gathered env at a b (a_pointer t) (a_pointer u) g h = behind_demand (Gathers gathering (xs ++ ys)) (same_type t u) 3 at _ (λ _. after_part (Gathers gathering (xs ++ ys)) (complete env at t) _ (λ _. plain_gathered (tree_of a) (tree_of b) g.0 h.0))
-    minus_gathered env at a b (an_integer i) (a_pointer t) g h = tt
-    minus_gathered env at a b (an_integer i) neither g h = tt
-    minus_gathered env at a b (a_pointer t) neither g h = tt
-    minus_gathered env at a b neither l g h = tt
+    minus_gathered env at a b k l g h = tt
 
     balanced_gathered : (at : ℕ) (o : BinOp) (a b : TypedExpression) (k l : Kind) → Gathers gathering xs a → Gathers gathering ys b → Holds (Gathers gathering (xs ++ ys)) (balanced_of at o a b k l)
     balanced_gathered at o a b (an_integer i) (an_integer j) g h = calculated_gathered o (common i j) (common i j) a b g h
-    balanced_gathered at o a b (an_integer i) (a_pointer t) g h = tt
-    balanced_gathered at o a b (an_integer i) neither g h = tt
-    balanced_gathered at o a b (a_pointer t) l g h = tt
-    balanced_gathered at o a b neither l g h = tt
+    balanced_gathered at o a b k l g h = tt
 
     shift_gathered : (at : ℕ) (o : BinOp) (a b : TypedExpression) (k l : Kind) → Gathers gathering xs a → Gathers gathering ys b → Holds (Gathers gathering (xs ++ ys)) (shift_of at o a b k l)
     shift_gathered at o a b (an_integer i) (an_integer j) g h = calculated_gathered o (promoted i) (promoted j) a b g h
-    shift_gathered at o a b (an_integer i) (a_pointer t) g h = tt
-    shift_gathered at o a b (an_integer i) neither g h = tt
-    shift_gathered at o a b (a_pointer t) l g h = tt
-    shift_gathered at o a b neither l g h = tt
+    shift_gathered at o a b k l g h = tt
 
     ordered_gathered : (env : Env) (at : ℕ) (o : BinOp) (a b : TypedExpression) (k l : Kind) → Gathers gathering xs a → Gathers gathering ys b → Holds (Gathers gathering (xs ++ ys)) (ordered_of env at o a b k l)
     ordered_gathered env at o a b (an_integer i) (an_integer j) g h = compared_gathered o (common i j) a b g h
     ordered_gathered env at o a b (a_pointer t) (a_pointer u) g h = behind_demand (Gathers gathering (xs ++ ys)) (same_type t u) 3 at _ (λ _. after_part (Gathers gathering (xs ++ ys)) (complete env at t) _ (λ _. plain_gathered (tree_of a) (tree_of b) g.0 h.0))
-    ordered_gathered env at o a b (an_integer i) (a_pointer t) g h = tt
-    ordered_gathered env at o a b (an_integer i) neither g h = tt
-    ordered_gathered env at o a b (a_pointer t) (an_integer j) g h = tt
-    ordered_gathered env at o a b (a_pointer t) neither g h = tt
-    ordered_gathered env at o a b neither l g h = tt
+    ordered_gathered env at o a b k l g h = tt
 
     abbrev AlikeSites : Alike → Type 0
     AlikeSites (alike_integers i) = Unit {0}
@@ -312,13 +250,10 @@ module _ {X : Type 0} (gathering : Gathering X) where
         (if_alike (is_null b) (alike_pointers a (null_of a.ctype)) unlike (λ e. (g, null_gathered ys a.ctype b e h)) tt))
 
     alike_of_gathered : (a b : TypedExpression) (k l : Kind) → Gathers gathering xs a → Gathers gathering ys b → AlikeSites (alike_of a b k l)
-    alike_of_gathered a b (an_integer i) (an_integer j) g h = tt
     alike_of_gathered a b (a_pointer t) (a_pointer u) g h = pointers_gathered a b g h
     alike_of_gathered a b (a_pointer t) (an_integer j) g h = if_alike (is_null b) (alike_pointers a (null_of a.ctype)) unlike (λ e. (g, null_gathered ys a.ctype b e h)) tt
     alike_of_gathered a b (an_integer i) (a_pointer u) g h = if_alike (is_null a) (alike_pointers (null_of b.ctype) b) unlike (λ e. (null_gathered xs b.ctype a e g, h)) tt
-    alike_of_gathered a b (an_integer i) neither g h = tt
-    alike_of_gathered a b (a_pointer t) neither g h = tt
-    alike_of_gathered a b neither l g h = tt
+    alike_of_gathered a b k l g h = tt
 
     equality_gathered : (at : ℕ) (o : BinOp) (a b : TypedExpression) (x : Alike) → AlikeSites x → Gathers gathering xs a → Gathers gathering ys b → Holds (Gathers gathering (xs ++ ys)) (equality_of at o a b x)
     equality_gathered at o a b (alike_integers i) s g h = compared_gathered o i a b g h
@@ -354,11 +289,7 @@ module _ {X : Type 0} (gathering : Gathering X) where
     update_gathered : (env : Env) (at : ℕ) (o : BinOp) (old : Bool) (a b : TypedExpression) (k l : Kind) → Gathers gathering xs a → Gathers gathering ys b → Holds (Gathers gathering (xs ++ ys)) (update_of env at o old a b k l)
     update_gathered env at o old a b (an_integer i) (an_integer j) g h = (let r : IntType = right_type (kind_of_operator o) i j in plain_gathered (tree_of a) (tree_of (converted_to r b)) g.0 (converted_gathered ys r b h).0)
     update_gathered env at o old a b (a_pointer t) (an_integer j) g h = behind_demand (Gathers gathering (xs ++ ys)) (moves o) 3 at _ (λ _. after_part (Gathers gathering (xs ++ ys)) (complete env at t) _ (λ _. plain_gathered (tree_of a) (tree_of b) g.0 h.0))
-    update_gathered env at o old a b (an_integer i) (a_pointer t) g h = tt
-    update_gathered env at o old a b (an_integer i) neither g h = tt
-    update_gathered env at o old a b (a_pointer t) (a_pointer u) g h = tt
-    update_gathered env at o old a b (a_pointer t) neither g h = tt
-    update_gathered env at o old a b neither l g h = tt
+    update_gathered env at o old a b k l g h = tt
 
     pub assignment_by_gathered : (env : Env) (at code : ℕ) (a b : TypedExpression) → Gathers gathering xs a → Gathers gathering ys b → Holds (Gathers gathering (xs ++ ys)) (assignment_by env at code a b)
     assignment_by_gathered env at code a b g h =
@@ -366,8 +297,7 @@ module _ {X : Type 0} (gathering : Gathering X) where
 
   one_gathered : (k : Kind) → Gathers gathering [] (one_for k)
   one_gathered (an_integer i) = (refl, λ c. absurd c)
-  one_gathered (a_pointer t) = (refl, λ c. absurd c)
-  one_gathered neither = (refl, λ c. absurd c)
+  one_gathered k = (refl, λ c. absurd c)
 
   pub step_gathered : (env : Env) (at : ℕ) (o : BinOp) (old : Bool) (xs : List X) (a : TypedExpression) → Gathers gathering xs a → Holds (Gathers gathering xs) (step env at o old a)
   step_gathered env at o old xs a h =

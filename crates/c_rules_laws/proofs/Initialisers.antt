@@ -24,21 +24,7 @@ use Rattle.c_rules_laws.proofs.Expressions.{value_alike, calls_same, strings_sam
 
 pub text_same : (e : Expr) → text_of (unplaced e) ≡ text_of e
 text_same (a_name i x) = refl
-text_same (an_int i n u) = refl
-text_same (a_char i c) = refl
-text_same (a_str i w) = refl
-text_same (comma i es) = refl
-text_same (sizeof_type i t) = refl
-text_same (cast i t e) = refl
-text_same (call i e es) = refl
-text_same (member i how e x) = refl
-text_same (postfix i op e) = refl
-text_same (prefix i op e) = refl
-text_same (unary i op e) = refl
-text_same (index i a b) = refl
-text_same (binary i op a b) = refl
-text_same (assign i op a b) = refl
-text_same (conditional i c a b) = refl
+text_same e = refl
 
 pub count_same : (is : Inits) → count_inits (unplaced_inits is) ≡ count_inits is
 count_same no_inits = refl
@@ -83,9 +69,8 @@ after_init_same env b c t i h = past_same b c (calls_of_init (unplaced_init i)) 
 -- ## Cells
 
 defined_cell_alike : (at to : ℕ) (g : TypedExpression) (k : Constant) → Alike (List TypedExpression) (defined_cell at g k) (defined_cell to g k)
-defined_cell_alike at to g not_constant = fault_alike C6 at to
-defined_cell_alike at to g undefined = fault_alike C6 at to
 defined_cell_alike at to g (known v) = alike (fine (g ∷ []))
+defined_cell_alike at to g k = fault_alike C6 at to
 
 cell_alike : (k : Bool) (at to : ℕ) (g : TypedExpression) → Alike (List TypedExpression) (cell_of k at g) (cell_of k to g)
 cell_alike true at to g = defined_cell_alike at to g g.constant
@@ -96,28 +81,18 @@ scalar_alike k at to t r s h =
     on_alike (cell_of k at) (cell_of k to) (on_alike (as_if_assigned at t) (as_if_assigned to t) h (λ g _. assigned_alike at to t g)) (λ g _. cell_alike k at to g)
 
 array_cells_alike : (at to : ℕ) (t : CType) (n : ℕ) (o : Option (List ℕ)) → Alike (List TypedExpression) (array_cells at t n o) (array_cells to t n o)
-array_cells_alike at to void n o = fault_alike C14 at to
 array_cells_alike at to (integer Char) n (Some w) = demand_alike (nat_le (length w) n) C14 at to (chars n w)
-array_cells_alike at to (integer Char) n None = fault_alike C14 at to
-array_cells_alike at to (integer Uchar) n o = fault_alike C14 at to
-array_cells_alike at to (integer Int) n o = fault_alike C14 at to
-array_cells_alike at to (integer Uint) n o = fault_alike C14 at to
-array_cells_alike at to (pointer t) n o = fault_alike C14 at to
-array_cells_alike at to (array t m) n o = fault_alike C14 at to
-array_cells_alike at to (struct s) n o = fault_alike C14 at to
-array_cells_alike at to (function t ts) n o = fault_alike C14 at to
+array_cells_alike at to t n o = fault_alike C14 at to
 
 text_fits_alike : (at to : ℕ) (o : Option (List ℕ)) → Alike Met (text_fits at o) (text_fits to o)
 text_fits_alike at to None = alike (fine met)
 text_fits_alike at to (Some w) = few_cells_alike at to (suc (length w))
 
 cells_of_one_alike : (k : Bool) (at to : ℕ) (t : CType) (o : Option (List ℕ)) (r s : Checked TypedExpression) → Alike TypedExpression r s → Alike (List TypedExpression) (cells_of_one k at t o r) (cells_of_one k to t o s)
-cells_of_one_alike k at to void o r s h = fault_alike C14 at to
 cells_of_one_alike k at to (integer i) o r s h = scalar_alike k at to (integer i) r s h
 cells_of_one_alike k at to (pointer t) o r s h = scalar_alike k at to (pointer t) r s h
 cells_of_one_alike k at to (array t n) o r s h = on_alike (λ _. array_cells at t n o) (λ _. array_cells to t n o) (text_fits_alike at to o) (λ _ _. array_cells_alike at to t n o)
-cells_of_one_alike k at to (struct s') o r s h = fault_alike C14 at to
-cells_of_one_alike k at to (function t ts) o r s h = fault_alike C14 at to
+cells_of_one_alike k at to t o r s h = fault_alike C14 at to
 
 list_alike : (takes : Bool) (at to most n : ℕ) (r s : Checked (List TypedExpression)) → Alike (List TypedExpression) r s → Alike (List TypedExpression) (cells_of_list takes at most n r) (cells_of_list takes to most n s)
 list_alike takes at to most n r s h =
@@ -135,14 +110,13 @@ mutual
 
   pub in_turn_alike : (env : Env) (b c : Before) → c ≡ b → (k : Bool) (s : Slots) (is : Inits) → Alike (List TypedExpression) (in_turn env b k s is) (in_turn env c k s (unplaced_inits is))
   in_turn_alike env b c h k s no_inits = alike (fine (zeros (layout_of env) s))
-  in_turn_alike env b c h k (copies zero t) (more_inits i is) = alike (fine [])
   in_turn_alike env b c h k (copies (suc n) t) (more_inits i is) =
       both_alike (in_turn env (after_init env b t i) k (copies n t) is) (in_turn env (after_init env c t (unplaced_init i)) k (copies n t) (unplaced_inits is)) (λ gs hs. fine (gs ++ hs)) (λ gs hs. fine (gs ++ hs))
       (initialised_alike env b c h k t i) (λ _ _. in_turn_alike env (after_init env b t i) (after_init env c t (unplaced_init i)) (after_init_same env b c t i h) k (copies n t) is) (λ gs hs. alike (fine (gs ++ hs)))
-  in_turn_alike env b c h k (each []) (more_inits i is) = alike (fine [])
   in_turn_alike env b c h k (each (t ∷ ts)) (more_inits i is) =
       both_alike (in_turn env (after_init env b t i) k (each ts) is) (in_turn env (after_init env c t (unplaced_init i)) k (each ts) (unplaced_inits is)) (λ gs hs. fine (gs ++ hs)) (λ gs hs. fine (gs ++ hs))
       (initialised_alike env b c h k t i) (λ _ _. in_turn_alike env (after_init env b t i) (after_init env c t (unplaced_init i)) (after_init_same env b c t i h) k (each ts) is) (λ gs hs. alike (fine (gs ++ hs)))
+  in_turn_alike env b c h k s is = alike (fine [])
 
 pub local_init_alike : (env : Env) (b c : Before) → c ≡ b → (t : CType) (m : MaybeInit) → Alike (List TypedExpression) (initialised_local env b t m) (initialised_local env c t (unplaced_maybe_init m))
 local_init_alike env b c h t no_init = alike (fine [])
@@ -155,16 +129,8 @@ static_init_alike env b c h t (an_init i) = initialised_alike env b c h true t i
 -- ## Objects
 
 sized_by_one_alike : (at to : ℕ) (t : CType) (o : Option (List ℕ)) → Alike CType (sized_by_one at t o) (sized_by_one to t o)
-sized_by_one_alike at to void o = fault_alike C14 at to
 sized_by_one_alike at to (integer Char) (Some w) = alike (sized_by_one at (integer Char) (Some w))
-sized_by_one_alike at to (integer Char) None = fault_alike C14 at to
-sized_by_one_alike at to (integer Uchar) o = fault_alike C14 at to
-sized_by_one_alike at to (integer Int) o = fault_alike C14 at to
-sized_by_one_alike at to (integer Uint) o = fault_alike C14 at to
-sized_by_one_alike at to (pointer t) o = fault_alike C14 at to
-sized_by_one_alike at to (array t m) o = fault_alike C14 at to
-sized_by_one_alike at to (struct s) o = fault_alike C14 at to
-sized_by_one_alike at to (function t ts) o = fault_alike C14 at to
+sized_by_one_alike at to t o = fault_alike C14 at to
 
 sized_by_init_alike : (here yonder : ℕ) (t : CType) (i : Init) → Alike CType (sized_by_init here t i) (sized_by_init yonder t (unplaced_init i))
 sized_by_init_alike here yonder t (one at e) =
@@ -179,13 +145,8 @@ sized_by_alike at to t no_init = fault_alike C14 at to
 sized_by_alike at to t (an_init i) = sized_by_init_alike at to t i
 
 pub with_size_alike : (at to : ℕ) (m : MaybeInit) (t : CType) → Alike CType (with_size at m t) (with_size to (unplaced_maybe_init m) t)
-with_size_alike at to m void = alike (fine void)
-with_size_alike at to m (integer i) = alike (fine (integer i))
-with_size_alike at to m (pointer t) = alike (fine (pointer t))
 with_size_alike at to m (array t zero) = sized_by_alike at to t m
-with_size_alike at to m (array t (suc n)) = alike (fine (array t (suc n)))
-with_size_alike at to m (struct s) = alike (fine (struct s))
-with_size_alike at to m (function t ts) = alike (fine (function t ts))
+with_size_alike at to m t = alike (fine t)
 
 known_size_alike : (env : Env) (at to here yonder : ℕ) (t : CType) → Alike CType (of_known_size env at here t) (of_known_size env to yonder t)
 known_size_alike env at to here yonder t =

@@ -24,6 +24,7 @@ use Rattle.c_rules.specs.Tags.{tags_of_enumerators}
 use Rattle.c_rules.specs.Variables.{calls_of_block}
 use Rattle.c_rules.specs.Functions.{declares_function, held_by_typed, is_defined_by, function_declared, items_of_body, defined_as}
 use Rattle.c_rules.specs.Items.{Output, no_output, with_output, free_tag, member_typed, new_member, member_named, member_declared, with_option, names_behind, members_declared, members, struct_laid, is_incomplete, new_struct, struct_definition, struct_or_unknown, tag_declaration, int_value, enumerator_value, one_more_than, enumerator_meaning, behind_enumerator, enumerators, behind_enumerators, new_enum, behind_enum_tag, defines, may_follow_object, object_name, few_static, global_object, global_declared, behind_global, within_global, static_of, after_object, definition_of, global, without_init, prototype, declared_part, named_part, behind_declared, behind_named_part, behind_file_part, after_global, after_declared, after_file_part, file_parts, behind_file_parts, after_file_parts, file_decl, behind_file_decl, after_file_decl, output_of_function, behind_defined, function_named, behind_function_named, after_function, item, behind_by_form, behind_item, after_item, items, behind_items, after_items}
+use Rattle.c_rules.proofs.ModeItems.{global_fine}
 use Rattle.c_rules_laws.proofs.Leads.{first_fine, on_fine}
 use Rattle.c_rules_laws.proofs.Alike.{Alike, alike, fine_there, on_alike, gives_alike, both_alike, demand_alike, and_alike, fault_alike}
 use Rattle.c_rules_laws.proofs.Operators.{complete_alike}
@@ -164,12 +165,9 @@ enum_tag_same env (tag x) = refl
 -- ## Objects at file scope
 
 pub defines_same : (class : Storage) (m : MaybeInit) → defines class (unplaced_maybe_init m) ≡ defines class m
-defines_same no_storage no_init = refl
-defines_same no_storage (an_init i) = refl
-defines_same static no_init = refl
-defines_same static (an_init i) = refl
 defines_same extern no_init = refl
-defines_same extern (an_init i) = refl
+defines_same class no_init = refl
+defines_same class m = refl
 
 object_name_alike : (env : Env) (defined : Bool) (x : Ident) (t : CType) → Alike Met (object_name env defined x t) (object_name env defined (unplaced_ident x) t)
 object_name_alike env defined x t =
@@ -209,10 +207,6 @@ global_alike env false b c h x m r s g = gives_alike (λ _. no_output) g
 global_alike env true b c h x m r s g =
     on_alike (definition_of (within_global env true x r) b m) (definition_of (within_global env true (unplaced_ident x) s) c (unplaced_maybe_init m)) g
     (λ o e. subst (λ y. Alike Output (definition_of (within_global env true x r) b m o) (definition_of y c (unplaced_maybe_init m) o)) (within_global_same env true x r s o g e) (definition_alike (within_global env true x r) b c h m o))
-
-global_fine : (env : Env) (defined : Bool) (b : Before) (x : Ident) (m : MaybeInit) (r : Checked Object) (p : Output) → global env defined b x m r ≡ fine p → (o : Object) × (r ≡ fine o)
-global_fine env false b x m r p e = let f = on_fine r (λ _. fine no_output) p e in (f.0, f.1)
-global_fine env true b x m r p e = let f = on_fine r (definition_of (within_global env true x r) b m) p e in (f.0, f.1)
 
 without_init_alike : (m : MaybeInit) → Alike Met (without_init m) (without_init (unplaced_maybe_init m))
 without_init_alike no_init = alike (fine met)
@@ -275,9 +269,8 @@ module _ (env : Env) (b c : Before) (h : c ≡ b) (at to : ℕ) (class : Storage
   after_global_same (faulty f fs) (fine o) k = let no : faulty f fs ≡ fine o = k.back.0 in cc
 
   after_declared_same : (t : Bool) (x : Option Ident) → after_declared env c to spec' declarator' init' t (unplaced_name x) ≡ after_declared env b at s d m t x
-  after_declared_same false x = h
-  after_declared_same true None = h
   after_declared_same true (Some x) = after_global_same (object_declared env at s d x m) (object_declared env to spec' declarator' (unplaced_ident x) init') (declared_object_alike env at to s d x m)
+  after_declared_same t x = h
 
   pub after_part_same : after_file_part env c to class spec' declarator' init' ≡ after_file_part env b at class s d m
   after_part_same =
@@ -333,9 +326,6 @@ module _ (env : Env) (b c : Before) (h : c ≡ b) (at to : ℕ) (s : Spec) (d : 
   behind_defined_same x m e = behind_function_same env x.name (function_declared env true at s d x) (function_declared env true to spec₁ declarator₁ (unplaced_ident x)) m (function_declared_alike env true at to s d x) e
 
   function_option_alike : (function : Bool) (x : Option Ident) → Alike Output (function_named env b at s d body function x) (function_named env c to spec₁ declarator₁ (unplaced_stmt body) function (unplaced_name x))
-  function_option_alike false None = fault_alike C3 (place_or at d) (place_or to declarator₁)
-  function_option_alike false (Some x) = fault_alike C3 (place_or at d) (place_or to declarator₁)
-  function_option_alike true None = fault_alike C3 (place_or at d) (place_or to declarator₁)
   function_option_alike true (Some x) =
       let made : Env = behind_defined env at s d x in
       let other : Env = behind_defined env to spec₁ declarator₁ (unplaced_ident x) in
@@ -347,6 +337,7 @@ module _ (env : Env) (b c : Before) (h : c ≡ b) (at to : ℕ) (s : Spec) (d : 
       (subst (λ ks. Alike Function (defined_as made b (place_or at d) d x is t) (defined_as made c (place_or to declarator₁) declarator₁ (unplaced_ident x) ks t)) (sym (body_items_same body))
       (defined_alike made b c h (place_or at d) (place_or to declarator₁) d x is t))))
       (λ _ f. alike (fine (output_of_function f)))
+  function_option_alike function x = fault_alike C3 (place_or at d) (place_or to declarator₁)
 
   pub function_alike : Alike Output (function_named env b at s d body (declares_function d) (name_of d)) (function_named env c to spec₁ declarator₁ (unplaced_stmt body) (declares_function declarator₁) (name_of declarator₁))
   function_alike =
@@ -355,12 +346,11 @@ module _ (env : Env) (b c : Before) (h : c ≡ b) (at to : ℕ) (s : Spec) (d : 
 
   -- behind a definition that is fine
   behind_named_same : (function : Bool) (x : Option Ident) (p : Output) → function_named env b at s d body function x ≡ fine p → behind_function_named env at s d x ≡ behind_function_named env to spec₁ declarator₁ (unplaced_name x)
-  behind_named_same false None p e = refl
-  behind_named_same true None p e = refl
   behind_named_same true (Some x) p e =
       let f = first_fine (function_declared env true at s d x) (on (type_declared env at s d) (defined_as (behind_defined env at s d x) b (place_or at d) d x (items_of_body body))) (λ _ f. fine (output_of_function f)) p e in
       behind_defined_same x f.0 f.2
   behind_named_same false (Some x) p e = let no : function_named env b at s d body false (Some x) ≡ fine p = e in cc
+  behind_named_same function x p e = refl
 
   pub behind_function_fine : (p : Output) → function_named env b at s d body (declares_function d) (name_of d) ≡ fine p → behind_function_named env at s d (name_of d) ≡ behind_function_named env to spec₁ declarator₁ (name_of declarator₁)
   behind_function_fine p e = behind_named_same (declares_function d) (name_of d) p e ∙ ap (behind_function_named env to spec₁ declarator₁) (sym (name_same d))
@@ -423,11 +413,9 @@ behind_item_same env b c h i p e =
     ap₂ (λ (y : Env) (w : List Name). record y { tags = w ++ y.tags }) (behind_form_same env b c h i p e) (sym (item_tags false i))
 
 after_item_same : (env : Env) (b c : Before) → c ≡ b → (i : Item) (p : Output) → item env b i ≡ fine p → after_item env c (unplaced_item i) ≡ after_item env b i
-after_item_same env b c h (struct_item at x ms) p e = h
-after_item_same env b c h (enum_item at x es) p e = h
-after_item_same env b c h (tag_item at x) p e = h
 after_item_same env b c h (decl_item at d) p e = after_decl_same env b c h d p e
 after_item_same env b c h (function_item at class s d body) p e = after_function_same env b c h at 0 s d body p e
+after_item_same env b c h i p e = h
 
 pub items_alike : (env : Env) (b c : Before) → c ≡ b → (u : Items) → Alike Output (items env b u) (items env c (unplaced_unit u))
 items_alike env b c h no_items = alike (fine no_output)

@@ -12,8 +12,20 @@ use Rattle.c_rules.specs.Conversions.{as_if_assigned}
 use Rattle.c_rules.specs.Expressions.{value}
 use Rattle.c_rules.specs.Initialisers.{Slots, copies, each, slots, capacity, takes_list, count_inits, text_of, typed_zero, typed_char, zeros, chars, defined_cell, cell_of, scalar_cell, array_cells, cells_of_list, after_init, initialised, in_turn, initialised_static, text_fits}
 use Rattle.c_rules_laws.proofs.Holding.{Holds, on_holds, both_hold, demand_holds, behind_demand, after_part}
-use Rattle.c_rules_laws.proofs.RightInitialisers.{IsKnownConstant, AllKnown}
-use Rattle.c_rules_laws.proofs.RightInitialisers.{known_both}
+
+-- a constant with a value
+abbrev pub IsKnownConstant : Constant → Type 0
+IsKnownConstant not_constant = ⊥
+IsKnownConstant undefined = ⊥
+IsKnownConstant (known x) = Unit {0}
+
+abbrev pub AllKnown : List TypedExpression → Type 0
+AllKnown [] = Unit {0}
+AllKnown (g ∷ gs) = IsKnownConstant g.constant × AllKnown gs
+
+pub known_both : (gs hs : List TypedExpression) → AllKnown gs → AllKnown hs → AllKnown (gs ++ hs)
+known_both [] hs h k = k
+known_both (g ∷ gs) hs h k = (h.0, known_both gs hs h.1 k)
 
 zeros_known : (ts : List CType) → AllKnown (map typed_zero ts)
 zeros_known [] = tt
@@ -21,11 +33,7 @@ zeros_known (t ∷ ts) = (one_known t, zeros_known ts)
   where
     one_known : (t : CType) → IsKnownConstant (typed_zero t).constant
     one_known void = tt
-    one_known (integer i) = tt
-    one_known (pointer t) = tt
-    one_known (array t n) = tt
-    one_known (struct s) = tt
-    one_known (function t ts) = tt
+    one_known t = tt
 
 slots_known : (structs : Structs) (s : Slots) → AllKnown (zeros structs s)
 slots_known structs (copies n t) = zeros_known (repeat n (flat structs t))
@@ -43,9 +51,8 @@ chars_known n w = known_both (map typed_char w) (replicate (n - length w) (typed
     ends (suc k) = (tt, ends k)
 
 cell_known : (at : ℕ) (g : TypedExpression) (c : Constant) → g.constant ≡ c → Holds AllKnown (defined_cell at g c)
-cell_known at g not_constant e = tt
-cell_known at g undefined e = tt
 cell_known at g (known x) e = (subst IsKnownConstant (sym e) tt, tt)
+cell_known at g c e = tt
 
 scalar_known : (at : ℕ) (t : CType) (r : Checked TypedExpression) → Holds AllKnown (scalar_cell true at t r)
 scalar_known at t r = after_part AllKnown (on r (as_if_assigned at t)) (cell_of true at) (λ g. cell_known at g g.constant refl)
@@ -59,22 +66,19 @@ list_known takes at most n r h = behind_demand AllKnown takes 14 at _ (λ _. on_
 
 mutual
   init_known : (i : Init) (env : Env) (b : Before) (t : CType) → Holds AllKnown (initialised env b true t i)
-  init_known (one at e) env b void = tt
   init_known (one at e) env b (integer i) = scalar_known at (integer i) (value env b e)
   init_known (one at e) env b (pointer t) = scalar_known at (pointer t) (value env b e)
   init_known (one at e) env b (array t n) = after_part AllKnown (text_fits at (text_of e)) (λ _. array_cells at t n (text_of e)) (λ _. array_known at t n (text_of e))
-  init_known (one at e) env b (struct s) = tt
-  init_known (one at e) env b (function t ts) = tt
   init_known (list at is) env b t = list_known (takes_list t) at (capacity (slots env t)) (count_inits is) (in_turn env b true (slots env t) is) (turn_known is env b (slots env t))
+  init_known i env b t = tt
 
   turn_known : (is : syntax.Inits) (env : Env) (b : Before) (s : Slots) → Holds AllKnown (in_turn env b true s is)
   turn_known syntax.no_inits env b s = slots_known (layout_of env) s
-  turn_known (syntax.more_inits i is) env b (copies zero t) = tt
   turn_known (syntax.more_inits i is) env b (copies (suc n) t) =
       both_hold AllKnown AllKnown AllKnown (initialised env b true t i) (in_turn env (after_init env b t i) true (copies n t) is) (λ gs hs. fine (gs ++ hs)) (init_known i env b t) (turn_known is env (after_init env b t i) (copies n t)) (λ gs hs h k. known_both gs hs h k)
-  turn_known (syntax.more_inits i is) env b (each []) = tt
   turn_known (syntax.more_inits i is) env b (each (t ∷ ts)) =
       both_hold AllKnown AllKnown AllKnown (initialised env b true t i) (in_turn env (after_init env b t i) true (each ts) is) (λ gs hs. fine (gs ++ hs)) (init_known i env b t) (turn_known is env (after_init env b t i) (each ts)) (λ gs hs h k. known_both gs hs h k)
+  turn_known is env b s = tt
 
 pub static_known : (m : MaybeInit) (env : Env) (b : Before) (t : CType) → Holds AllKnown (initialised_static env b t m)
 static_known no_init env b t = zeros_known (flat (layout_of env) t)

@@ -25,12 +25,8 @@ use Rattle.c_rules_laws.specs.Lexical.{IsLexical, AreLexical, IsMaybeLexical, Is
 -- ## Tokens
 
 abbrev pub text_length : TokenKind → ℕ
-text_length (Name x) = 0
-text_length (Keyword k) = 0
-text_length (Int n u) = 0
-text_length (Char c) = 0
 text_length (Str w) = length w
-text_length (Punct p) = 0
+text_length k = 0
 
 -- the bytes of the strings
 abbrev pub weight : List Token → ℕ
@@ -51,9 +47,7 @@ next h = record { kinds = h.kinds.1; short = (let l = h.short in omega (arith, l
 
 element_long : {q v : ℕ} {w : List ℕ} → IsElement q w v → 1 ≤ length w
 element_long (plain h) = omega arith
-element_long (simple h) = omega arith
-element_long (octal a b c d) = omega arith
-element_long (hexadecimal a b c) = omega arith
+element_long x = omega arith
 
 elements_long : {q : ℕ} {i j vs : List ℕ} → HasElements q i j vs → length vs + length j ≤ length i
 elements_long none = omega arith
@@ -65,12 +59,8 @@ elements_long {i = a0} {j = z0} (more {j = j} e es) =
     omega (arith, a, b, c, d)
 
 spelled_length : (k : TokenKind) (w : List ℕ) → Spells k w → text_length k ≤ length w
-spelled_length (Name x) w h = omega arith
-spelled_length (Keyword x) w h = omega arith
-spelled_length (Int n u) w h = omega arith
-spelled_length (Char c) w h = omega arith
 spelled_length (Str x) w h = (let e = elements_long h.0.2 in let f : length w ≡ length (34 ∷ h.0.0) = ap length h.0.1 in omega (arith, e, f))
-spelled_length (Punct x) w h = omega arith
+spelled_length k w h = omega arith
 
 tokens_good : {text : List ℕ} {p q : ℕ} {ts : List Token} → SpellsFrom text p q ts → AllKinds ts × (p + weight ts ≤ q)
 tokens_good nothing = (tt, omega arith)
@@ -94,8 +84,7 @@ spec_good {j = j} r h = (let f = front_of_each (spec_on r) in good_rest f.front 
 
 storage_good : {x : Storage} {i j : List Token} → ReadsStorage x i j → AreGood i → AreGood j
 storage_good no_storage_stands h = h
-storage_good (static_stands k) h = next h
-storage_good (extern_stands k) h = next h
+storage_good x h = next h
 
 consts_good : {i j : List Token} → Consts i j → AreGood i → AreGood j
 consts_good no_const h = h
@@ -236,9 +225,8 @@ mutual
   stmt_good (stmts.a_do k x w o r c u) h = (let m = stmt_good x (next h) in let n = reads_good r (next (next m.1)) in ((m.0, n.0), next (next n.1)))
   stmt_good (stmts.a_for k o f r u q c x) h = (let a = first_good f (next (next h)) in let b = maybe_good r a.1 in let e = maybe_good q (next b.1) in let m = stmt_good x (next e.1) in ((a.0, b.0, e.0, m.0), m.1))
   stmt_good (stmts.a_switch k o r c l x y) h = (let n = reads_good r (next (next h)) in let m = groups_good x (next (next n.1)) in ((n.0, m.0), next m.1))
-  stmt_good (stmts.a_break k u) h = (tt, next (next h))
-  stmt_good (stmts.a_continue k u) h = (tt, next (next h))
   stmt_good (stmts.a_return k r u) h = (let n = maybe_good r (next h) in (n.0, next n.1))
+  stmt_good x h = (tt, next (next h))
 
   items_good : {d : ℕ} {x : BlockItems} {i j : List Token} → ReadsBlockItems d x i j → AreGood i → AreItemsLexical x × AreGood j
   items_good stmts.no_block_item h = (tt, h)

@@ -8,7 +8,7 @@ use Rattle.c_tree.specs.declared.value.IntType.TheVariants.{Char, Uchar, Int, Ui
 use Rattle.c_tree.specs.Tree.{CType, void, integer, pointer, array, struct, function, CTypes, no_types, more_types}
 use Rattle.c_tree.specs.Layout.{Structs}
 use Rattle.c_tree.specs.Operands.{IsScalar, IsResult, IsComplete}
-use Rattle.c_rules.specs.Types.{same_integer, same_type, same_types, is_scalar, is_result}
+use Rattle.c_rules.specs.Types.{is_void, same_integer, same_type, same_types, is_scalar, is_result}
 use Rattle.c_rules.specs.Scopes.{Env, Struct, incomplete, unknown_struct, defined_struct, types_of_struct, layout_of}
 use Rattle.c_rules.specs.Conversions.{is_defined, complete}
 use Rattle.c_rules_laws.specs.MadeTypes.{NotArray, Made, AllMade, FewCells}
@@ -18,21 +18,10 @@ use Rattle.c_rules_laws.proofs.Holding.{Holds, demand_holds, and_left, and_right
 
 pub integer_is : (i j : IntType) → same_integer i j ≡ true → i ≡ j
 integer_is Char Char h = refl
-integer_is Char Uchar h = absurd (cc)
-integer_is Char Int h = absurd (cc)
-integer_is Char Uint h = absurd (cc)
-integer_is Uchar Char h = absurd (cc)
 integer_is Uchar Uchar h = refl
-integer_is Uchar Int h = absurd (cc)
-integer_is Uchar Uint h = absurd (cc)
-integer_is Int Char h = absurd (cc)
-integer_is Int Uchar h = absurd (cc)
 integer_is Int Int h = refl
-integer_is Int Uint h = absurd (cc)
-integer_is Uint Char h = absurd (cc)
-integer_is Uint Uchar h = absurd (cc)
-integer_is Uint Int h = absurd (cc)
 integer_is Uint Uint h = refl
+integer_is i j h = absurd (cc)
 
 pub number_is : (m n : ℕ) → nat_eq m n ≡ true → m ≡ n
 number_is m n h = (Decides-eqb m n).0 h
@@ -53,72 +42,61 @@ mutual
   types_are ts us h = absurd (cc)
 
 pub scalar_is : (t : CType) → is_scalar t ≡ true → IsScalar t
-scalar_is void h = absurd (cc)
 scalar_is (integer i) h = tt
 scalar_is (pointer t) h = tt
-scalar_is (array t n) h = absurd (cc)
-scalar_is (struct s) h = absurd (cc)
-scalar_is (function t ts) h = absurd (cc)
+scalar_is t h = absurd (cc)
 
 pub result_is : (t : CType) → is_result t ≡ true → IsResult t
 result_is void h = tt
 result_is (integer i) h = tt
 result_is (pointer t) h = tt
-result_is (array t n) h = absurd (cc)
-result_is (struct s) h = absurd (cc)
-result_is (function t ts) h = absurd (cc)
+result_is t h = absurd (cc)
 
 pub result_not_array : (t : CType) → IsResult t → NotArray t
 result_not_array void h = tt
 result_not_array (integer i) h = tt
 result_not_array (pointer t) h = tt
-result_not_array (array t n) h = absurd h
-result_not_array (struct s) h = absurd h
-result_not_array (function t ts) h = absurd h
+result_not_array t h = absurd h
+
+pub scalar_not_array : (t : CType) → IsScalar t → NotArray t
+scalar_not_array (array t n) h = absurd h
+scalar_not_array t h = tt
+
+pub void_is : (t : CType) → is_void t ≡ true → t ≡ void
+void_is void h = refl
+void_is t h = absurd (cc)
 
 pub few_unless_array : (structs : Structs) (t : CType) → NotArray t → FewCells structs t
-few_unless_array structs void h = tt
-few_unless_array structs (integer i) h = tt
-few_unless_array structs (pointer t) h = tt
 few_unless_array structs (array t n) h = absurd h
-few_unless_array structs (struct s) h = tt
-few_unless_array structs (function t ts) h = tt
+few_unless_array structs t h = tt
 
 -- ## Types of known size
 
 struct_known : (env : Env) (at s : ℕ) (o : Option Struct) → slice_get env.structs s ≡ o → Holds (λ _. IsComplete (layout_of env) (struct s)) (is_defined at (unwrap_or o incomplete))
-struct_known env at s None e = tt
-struct_known env at s (Some incomplete) e = tt
-struct_known env at s (Some (unknown_struct f fs)) e = tt
 struct_known env at s (Some (defined_struct ms)) e = (_, slice_get-map types_of_struct env.structs s ∙ ap (option_map types_of_struct) e)
+struct_known env at s o e = tt
 
 pub complete_known : (env : Env) (at : ℕ) (t : CType) → Made (layout_of env) t → Holds (λ _. IsComplete (layout_of env) t) (complete env at t)
-complete_known env at void h = tt
-complete_known env at (integer i) h = tt
-complete_known env at (pointer t) h = tt
 complete_known env at (array t n) h = demand_holds (λ _. IsComplete (layout_of env) (array t n)) (nat_lt 0 n) 3 at _ (λ e. let l : 0 < n = (Decides-ltb 0 n).0 e in (omega (arith, l), h.1))
 complete_known env at (struct s) h = struct_known env at s (slice_get env.structs s) refl
-complete_known env at (function t ts) h = tt
+complete_known env at t h = tt
 
 -- ## More structs are defined
 
 module _ (old new : Structs) (kept : (s : ℕ) (ts : List CType) → slice_get old s ≡ Some (Some ts) → slice_get new s ≡ Some (Some ts)) where
   pub complete_kept : (t : CType) → IsComplete old t → IsComplete new t
-  complete_kept void h = absurd h
   complete_kept (integer i) h = tt
   complete_kept (pointer t) h = tt
   complete_kept (array t n) h = (h.0, complete_kept t h.1)
   complete_kept (struct s) h = (h.0, kept s h.0 h.1)
-  complete_kept (function t ts) h = absurd h
+  complete_kept t h = absurd h
 
   mutual
     pub made_kept : (t : CType) → Made old t → Made new t
-    made_kept void h = tt
-    made_kept (integer i) h = tt
     made_kept (pointer t) h = (h.0, made_kept t h.1)
     made_kept (array t n) h = (h.0, complete_kept t h.1, made_kept t h.2)
-    made_kept (struct s) h = tt
     made_kept (function t ts) h = (h.0, h.1, made_kept t h.2, all_made_kept ts h.3)
+    made_kept t h = tt
 
     pub all_made_kept : (ts : CTypes) → AllMade old ts → AllMade new ts
     all_made_kept no_types h = tt

@@ -37,12 +37,11 @@ used_leads env w at x u = subst (λ o. Leads (used env.context at (function_numb
 
 meant_leads : (env : Env) (w : More) (at : ℕ) (x : Name) (m : Meaning) → is_reserved x ≡ false → Leads (meant (left env) at x m) (meant (right env w) at x m)
 meant_leads env w at x (a_static seen whole d) u = same_leads (meant (left env) at x (a_static seen whole d))
-meant_leads env w at x (a_local n seen whole) u = (refl, tt)
 meant_leads env w at x (a_function t d) u =
     gives_leads (function_value_number (left env) at x) (function_value_number (right env w) at x) (typed_function t)
     (on_leads (demand (if is_among null_calls x then false else true) C12 at met) (demand (if is_among null_calls x then false else true) C12 at met) (λ _. used env.context at (function_number (left env) x)) (λ _. used env.context at (function_number (right env w) x)) (same_leads _) (λ _ _. used_leads env w at x u))
-meant_leads env w at x (an_enumerator z) u = (refl, tt)
 meant_leads env w at x (unknown f fs) u = tt
+meant_leads env w at x m u = (refl, tt)
 
 -- a name that is bound in a plain unit, and what it means in the instrumented one
 abbrev pub BoundAlike : (x : Name) (o q : Option Binding) → Type 0
@@ -68,10 +67,7 @@ site_leads env w n at = by_context env.context n at
 callee_meant_leads : (env : Env) (w : More) (at place : ℕ) (x : Name) (r s : Checked TypedExpression) (m : Meaning) → is_reserved x ≡ false → Leads r s → Leads (callee_meant (left env) at place x r m) (callee_meant (right env w) at place x s m)
 callee_meant_leads env w at place x r s (a_function t d) u h =
     on_leads (used env.context place (function_number (left env) x)) (used env.context place (function_number (right env w) x)) (callee_of_type place t) (callee_of_type place t) (used_leads env w place x u) (λ f _. same_leads (callee_of_type place t f))
-callee_meant_leads env w at place x r s (a_static seen whole d) u h = on_leads r s (callee_by_value at) (callee_by_value at) h (λ g _. same_leads (callee_by_value at g))
-callee_meant_leads env w at place x r s (a_local n seen whole) u h = on_leads r s (callee_by_value at) (callee_by_value at) h (λ g _. same_leads (callee_by_value at g))
-callee_meant_leads env w at place x r s (an_enumerator z) u h = on_leads r s (callee_by_value at) (callee_by_value at) h (λ g _. same_leads (callee_by_value at g))
-callee_meant_leads env w at place x r s (unknown f fs) u h = on_leads r s (callee_by_value at) (callee_by_value at) h (λ g _. same_leads (callee_by_value at g))
+callee_meant_leads env w at place x r s m u h = on_leads r s (callee_by_value at) (callee_by_value at) h (λ g _. same_leads (callee_by_value at g))
 
 pub value_at_leads : (env : Env) (w : More) (place : ℕ) (r s : Checked TypedExpression) → Leads r s → Leads (value_at (left env) place r) (value_at (right env w) place s)
 value_at_leads env w place r s h = on_leads r s (valued (left env) place) (valued (right env w) place) h (λ g _. same_leads (valued (left env) place g))

@@ -61,10 +61,7 @@ defined_before env x t f d = by_lookup (lookup env.names x) refl f d
   where
     by_meaning : (b : Binding) → lookup env.names x ≡ Some b → (m : Meaning) → b.means ≡ m → may_follow_function false t (Some m) ≡ true → is_defined_by false (Some m) ≡ true → IsDefined env.names x
     by_meaning b e (a_function u was) q f d = (b, u, e, q ∙ ap (a_function u) d)
-    by_meaning b e (a_static s u was) q f d = absurd (cc)
-    by_meaning b e (a_local n s u) q f d = absurd (cc)
-    by_meaning b e (an_enumerator z) q f d = absurd (cc)
-    by_meaning b e (unknown g gs) q f d = absurd (cc)
+    by_meaning b e m q f d = absurd (cc)
 
     by_lookup : (o : Option Binding) → lookup env.names x ≡ o → may_follow_function false t (at_depth env.depth o) ≡ true → is_defined_by false (at_depth env.depth o) ≡ true → IsDefined env.names x
     by_lookup None e f d = absurd (cc)
@@ -105,10 +102,7 @@ module _ (env : Env) (x : Ident) (r : Checked Meaning) (m : Meaning) (e : r ≡ 
 pub defined_true : (o : Option Meaning) → is_defined_by true o ≡ true
 defined_true None = refl
 defined_true (Some (a_static s t d)) = refl
-defined_true (Some (a_local n s t)) = refl
-defined_true (Some (a_function t d)) = refl
-defined_true (Some (an_enumerator z)) = refl
-defined_true (Some (unknown f fs)) = refl
+defined_true (Some m) = refl
 
 here_is : (env : Env) → IsFileRight env → (x : Name) (b : Binding) → lookup env.names x ≡ Some b → declared_here env x ≡ Some b.means
 here_is env w x b e =

@@ -32,9 +32,8 @@ use Rattle.c_rules_laws.proofs.Alike.{Alike, alike, on_alike, gives_alike, deman
 
 used_alike : (c : Context) (at to : ℕ) (n : Option ℕ) → Alike ℕ (used c at n) (used c to n)
 used_alike evaluated at to None = fault_alike C10 at to
-used_alike sized at to None = alike (fine 0)
-used_alike folded at to None = alike (fine 0)
 used_alike c at to (Some n) = alike (fine n)
+used_alike c at to n = alike (fine 0)
 
 function_value_alike : (env : Env) (at to : ℕ) (x : Name) → Alike ℕ (function_value_number env at x) (function_value_number env to x)
 function_value_alike env at to x =
@@ -73,20 +72,17 @@ defined_alike at to (unknown_struct f fs) = alike (faulty f fs)
 defined_alike at to (defined_struct ms) = alike (fine met)
 
 pub complete_alike : (env : Env) (at to : ℕ) (t : CType) → Alike Met (complete env at t) (complete env to t)
-complete_alike env at to void = fault_alike C3 at to
 complete_alike env at to (integer i) = alike (fine met)
 complete_alike env at to (pointer t) = alike (fine met)
 complete_alike env at to (array t n) = demand_alike (nat_lt 0 n) C3 at to met
 complete_alike env at to (struct s) = defined_alike at to (struct_of env s)
-complete_alike env at to (function t ts) = fault_alike C3 at to
+complete_alike env at to t = fault_alike C3 at to
 
 valued_as_alike : (env : Env) (at to : ℕ) (g : TypedExpression) (t : CType) → Alike TypedExpression (valued_as env at g t) (valued_as env to g t)
-valued_as_alike env at to g void = alike (fine (loaded g g.form))
-valued_as_alike env at to g (integer i) = alike (fine (loaded g g.form))
-valued_as_alike env at to g (pointer t) = alike (fine (loaded g g.form))
 valued_as_alike env at to g (array t n) = alike (valued_as env at g (array t n))
 valued_as_alike env at to g (struct s) = fault_alike C3 at to
 valued_as_alike env at to g (function t ts) = demand_alike (few_parts (pointer g.ctype)) C13 at to (typed_value (pointer g.ctype) (decay (pointer g.ctype) (tree_of g)) g.constant)
+valued_as_alike env at to g t = alike (fine (loaded g g.form))
 
 pub valued_alike : (env : Env) (at to : ℕ) (g : TypedExpression) → Alike TypedExpression (valued env at g) (valued env to g)
 valued_alike env at to g = valued_as_alike env at to g g.ctype
@@ -108,29 +104,16 @@ pub site_alike : (env : Env) (site at to : ℕ) → Alike ℕ (site_of env site 
 site_alike env site at to = site_in_alike env.context (most_calls env.whole.mode) site at to
 
 callee_of_type_alike : (at to : ℕ) (t : CType) (f : ℕ) → Alike Callee (callee_of_type at t f) (callee_of_type to t f)
-callee_of_type_alike at to void f = fault_alike C3 at to
-callee_of_type_alike at to (integer i) f = fault_alike C3 at to
-callee_of_type_alike at to (pointer t) f = fault_alike C3 at to
-callee_of_type_alike at to (array t n) f = fault_alike C3 at to
-callee_of_type_alike at to (struct s) f = fault_alike C3 at to
 callee_of_type_alike at to (function t ts) f = alike (callee_of_type at (function t ts) f)
+callee_of_type_alike at to t f = fault_alike C3 at to
 
 pub callee_by_name_alike : (env : Env) (at to : ℕ) (x : Name) (t : CType) → Alike Callee (callee_by_name env at x t) (callee_by_name env to x t)
 callee_by_name_alike env at to x t =
     on_alike (callee_of_type at t) (callee_of_type to t) (used_alike env.context at to (function_number env x)) (λ f _. callee_of_type_alike at to t f)
 
 callee_through_alike : (at to : ℕ) (e : Expr) (t : CType) → Alike Callee (callee_through at e t) (callee_through to e t)
-callee_through_alike at to e void = fault_alike C3 at to
-callee_through_alike at to e (integer i) = fault_alike C3 at to
-callee_through_alike at to e (array t n) = fault_alike C3 at to
-callee_through_alike at to e (struct s) = fault_alike C3 at to
-callee_through_alike at to e (function t ts) = fault_alike C3 at to
-callee_through_alike at to e (pointer void) = fault_alike C3 at to
-callee_through_alike at to e (pointer (integer i)) = fault_alike C3 at to
-callee_through_alike at to e (pointer (pointer t)) = fault_alike C3 at to
-callee_through_alike at to e (pointer (array t n)) = fault_alike C3 at to
-callee_through_alike at to e (pointer (struct s)) = fault_alike C3 at to
 callee_through_alike at to e (pointer (function t ts)) = alike (callee_through at e (pointer (function t ts)))
+callee_through_alike at to e t = fault_alike C3 at to
 
 pub callee_by_value_alike : (at to : ℕ) (g : TypedExpression) → Alike Callee (callee_by_value at g) (callee_by_value to g)
 callee_by_value_alike at to g = callee_through_alike at to (tree_of g) g.ctype
@@ -151,12 +134,8 @@ member_of_struct_alike env at to x g (unknown_struct f fs) = alike (faulty f fs)
 member_of_struct_alike env at to x g (defined_struct ms) = member_found_alike env at to ms g (number_among (map name_of_member ms) x)
 
 member_of_type_alike : (env : Env) (at to : ℕ) (x : Name) (g : TypedExpression) (t : CType) → Alike TypedExpression (member_of_type env at x g t) (member_of_type env to x g t)
-member_of_type_alike env at to x g void = fault_alike C3 at to
-member_of_type_alike env at to x g (integer i) = fault_alike C3 at to
-member_of_type_alike env at to x g (pointer t) = fault_alike C3 at to
-member_of_type_alike env at to x g (array t n) = fault_alike C3 at to
 member_of_type_alike env at to x g (struct s) = member_of_struct_alike env at to x g (struct_of env s)
-member_of_type_alike env at to x g (function t ts) = fault_alike C3 at to
+member_of_type_alike env at to x g t = fault_alike C3 at to
 
 pub member_alike : (env : Env) (at to : ℕ) (x : Name) (g : TypedExpression) → Alike TypedExpression (member_of env at x g) (member_of env to x g)
 member_alike env at to x g = member_of_type_alike env at to x g g.ctype
@@ -170,12 +149,8 @@ address_of_form_alike at to g (a_place e) =
 address_of_form_alike at to g (behind p) = alike (fine (typed_value (pointer g.ctype) p g.constant))
 
 address_of_type_alike : (at to : ℕ) (g : TypedExpression) (t : CType) → Alike TypedExpression (address_of_type at g t) (address_of_type to g t)
-address_of_type_alike at to g void = address_of_form_alike at to g g.form
-address_of_type_alike at to g (integer i) = address_of_form_alike at to g g.form
-address_of_type_alike at to g (pointer t) = address_of_form_alike at to g g.form
 address_of_type_alike at to g (array t n) = fault_alike C3 at to
-address_of_type_alike at to g (struct s) = address_of_form_alike at to g g.form
-address_of_type_alike at to g (function t ts) = address_of_form_alike at to g g.form
+address_of_type_alike at to g t = address_of_form_alike at to g g.form
 
 pub address_alike : (at to here there : ℕ) (g : TypedExpression) → Alike TypedExpression (address at here g) (address to there g)
 address_alike at to here there g =
@@ -183,30 +158,20 @@ address_alike at to here there g =
     (demand_alike (is_place g || is_function g.ctype) C4 here there met) (λ _ _. address_of_type_alike at to g g.ctype)
 
 led_to_alike : (at to : ℕ) (g : TypedExpression) (t : CType) → Alike TypedExpression (led_to at g t) (led_to to g t)
-led_to_alike at to g void = fault_alike C3 at to
-led_to_alike at to g (integer i) = fault_alike C3 at to
-led_to_alike at to g (array t n) = fault_alike C3 at to
-led_to_alike at to g (struct s) = fault_alike C3 at to
-led_to_alike at to g (function t ts) = fault_alike C3 at to
 led_to_alike at to g (pointer void) = fault_alike C3 at to
-led_to_alike at to g (pointer (integer i)) = alike (led_to at g (pointer (integer i)))
-led_to_alike at to g (pointer (pointer t)) = alike (led_to at g (pointer (pointer t)))
-led_to_alike at to g (pointer (array t n)) = alike (led_to at g (pointer (array t n)))
-led_to_alike at to g (pointer (struct s)) = alike (led_to at g (pointer (struct s)))
-led_to_alike at to g (pointer (function t ts)) = alike (led_to at g (pointer (function t ts)))
+led_to_alike at to g (pointer t) = alike (led_to at g (pointer t))
+led_to_alike at to g t = fault_alike C3 at to
 
 pub indirection_alike : (at to : ℕ) (g : TypedExpression) → Alike TypedExpression (indirection at g) (indirection to g)
 indirection_alike at to g = led_to_alike at to g g.ctype
 
 plus_alike : (at to : ℕ) (g : TypedExpression) (k : Kind) → Alike TypedExpression (plus_of at g k) (plus_of to g k)
 plus_alike at to g (an_integer i) = alike (fine (cast_to (promoted i) g))
-plus_alike at to g (a_pointer t) = fault_alike C3 at to
-plus_alike at to g neither = fault_alike C3 at to
+plus_alike at to g k = fault_alike C3 at to
 
 operator_alike : (at to : ℕ) (op : UnOp) (g : TypedExpression) (k : Kind) → Alike TypedExpression (operator_of at op g k) (operator_of to op g k)
 operator_alike at to op g (an_integer i) = alike (operator_of at op g (an_integer i))
-operator_alike at to op g (a_pointer t) = fault_alike C3 at to
-operator_alike at to op g neither = fault_alike C3 at to
+operator_alike at to op g k = fault_alike C3 at to
 
 negation_alike : (at to : ℕ) (g : TypedExpression) → Alike TypedExpression (negation at g) (negation to g)
 negation_alike at to g = demand_alike (is_scalar g.ctype) C3 at to (typed_value int (unary_operation int Not (tree_of g)) (constant_unary Not (integer_constant g)))
@@ -226,10 +191,7 @@ size_alike env at to here there t =
 pub cast_alike : (at to : ℕ) (t : CType) (g : TypedExpression) → Alike TypedExpression (cast_of at t g) (cast_of to t g)
 cast_alike at to void g = alike (cast_of at void g)
 cast_alike at to (integer i) g = demand_alike (is_integer g.ctype) C3 at to (cast_to i g)
-cast_alike at to (pointer t) g = fault_alike C3 at to
-cast_alike at to (array t n) g = fault_alike C3 at to
-cast_alike at to (struct s) g = fault_alike C3 at to
-cast_alike at to (function t ts) g = fault_alike C3 at to
+cast_alike at to t g = fault_alike C3 at to
 
 pub null_cast_alike : (at to : ℕ) (g : TypedExpression) → Alike TypedExpression (null_cast at g) (null_cast to g)
 null_cast_alike at to g = demand_alike (is_integer g.ctype && is_null g) C3 at to (null_of (pointer void))
@@ -239,13 +201,8 @@ null_cast_alike at to g = demand_alike (is_integer g.ctype && is_null g) C3 at t
 sum_of_alike : (env : Env) (at to : ℕ) (a b : TypedExpression) (k l : Kind) → Alike TypedExpression (sum_of env at a b k l) (sum_of env to a b k l)
 sum_of_alike env at to a b (an_integer i) (an_integer j) = alike (fine (calculated Add (common i j) a b))
 sum_of_alike env at to a b (an_integer i) (a_pointer t) = gives_alike (λ _. plus_pointer t a b) (complete_alike env at to t)
-sum_of_alike env at to a b (an_integer i) neither = fault_alike C3 at to
 sum_of_alike env at to a b (a_pointer t) (an_integer j) = gives_alike (λ _. pointer_plus t a b) (complete_alike env at to t)
-sum_of_alike env at to a b (a_pointer t) (a_pointer u) = fault_alike C3 at to
-sum_of_alike env at to a b (a_pointer t) neither = fault_alike C3 at to
-sum_of_alike env at to a b neither (an_integer j) = fault_alike C3 at to
-sum_of_alike env at to a b neither (a_pointer u) = fault_alike C3 at to
-sum_of_alike env at to a b neither neither = fault_alike C3 at to
+sum_of_alike env at to a b k l = fault_alike C3 at to
 
 pub sum_alike : (env : Env) (at to : ℕ) (a b : TypedExpression) → Alike TypedExpression (sum env at a b) (sum env to a b)
 sum_alike env at to a b = sum_of_alike env at to a b (kind_of a.ctype) (kind_of b.ctype)
@@ -258,37 +215,22 @@ pointers_alike env at to t u g =
 
 minus_alike : (env : Env) (at to : ℕ) (a b : TypedExpression) (k l : Kind) → Alike TypedExpression (minus_of env at a b k l) (minus_of env to a b k l)
 minus_alike env at to a b (an_integer i) (an_integer j) = alike (fine (calculated Sub (common i j) a b))
-minus_alike env at to a b (an_integer i) (a_pointer t) = fault_alike C3 at to
-minus_alike env at to a b (an_integer i) neither = fault_alike C3 at to
 minus_alike env at to a b (a_pointer t) (an_integer j) = gives_alike (λ _. pointer_minus t a b) (complete_alike env at to t)
 minus_alike env at to a b (a_pointer t) (a_pointer u) = pointers_alike env at to t u (difference a b)
-minus_alike env at to a b (a_pointer t) neither = fault_alike C3 at to
-minus_alike env at to a b neither (an_integer j) = fault_alike C3 at to
-minus_alike env at to a b neither (a_pointer u) = fault_alike C3 at to
-minus_alike env at to a b neither neither = fault_alike C3 at to
+minus_alike env at to a b k l = fault_alike C3 at to
 
 balanced_alike : (at to : ℕ) (op : BinOp) (a b : TypedExpression) (k l : Kind) → Alike TypedExpression (balanced_of at op a b k l) (balanced_of to op a b k l)
 balanced_alike at to op a b (an_integer i) (an_integer j) = alike (fine (calculated op (common i j) a b))
-balanced_alike at to op a b (an_integer i) (a_pointer t) = fault_alike C3 at to
-balanced_alike at to op a b (an_integer i) neither = fault_alike C3 at to
-balanced_alike at to op a b (a_pointer t) l = fault_alike C3 at to
-balanced_alike at to op a b neither l = fault_alike C3 at to
+balanced_alike at to op a b k l = fault_alike C3 at to
 
 shift_alike : (at to : ℕ) (op : BinOp) (a b : TypedExpression) (k l : Kind) → Alike TypedExpression (shift_of at op a b k l) (shift_of to op a b k l)
 shift_alike at to op a b (an_integer i) (an_integer j) = alike (shift_of at op a b (an_integer i) (an_integer j))
-shift_alike at to op a b (an_integer i) (a_pointer t) = fault_alike C3 at to
-shift_alike at to op a b (an_integer i) neither = fault_alike C3 at to
-shift_alike at to op a b (a_pointer t) l = fault_alike C3 at to
-shift_alike at to op a b neither l = fault_alike C3 at to
+shift_alike at to op a b k l = fault_alike C3 at to
 
 ordered_alike : (env : Env) (at to : ℕ) (op : BinOp) (a b : TypedExpression) (k l : Kind) → Alike TypedExpression (ordered_of env at op a b k l) (ordered_of env to op a b k l)
 ordered_alike env at to op a b (an_integer i) (an_integer j) = alike (fine (compared_integers op (common i j) a b))
-ordered_alike env at to op a b (an_integer i) (a_pointer t) = fault_alike C3 at to
-ordered_alike env at to op a b (an_integer i) neither = fault_alike C3 at to
 ordered_alike env at to op a b (a_pointer t) (a_pointer u) = pointers_alike env at to t u (compared_pointers op a b)
-ordered_alike env at to op a b (a_pointer t) (an_integer j) = fault_alike C3 at to
-ordered_alike env at to op a b (a_pointer t) neither = fault_alike C3 at to
-ordered_alike env at to op a b neither l = fault_alike C3 at to
+ordered_alike env at to op a b k l = fault_alike C3 at to
 
 equality_alike : (at to : ℕ) (op : BinOp) (a b : TypedExpression) (k : Operands) → Alike TypedExpression (equality_of at op a b k) (equality_of to op a b k)
 equality_alike at to op a b (alike_integers i) = alike (fine (compared_integers op i a b))
@@ -298,20 +240,7 @@ equality_alike at to op a b unlike = fault_alike C3 at to
 arithmetic_alike : (env : Env) (at to : ℕ) (op : BinOp) (a b : TypedExpression) → Alike TypedExpression (arithmetic_of env at op a b) (arithmetic_of env to op a b)
 arithmetic_alike env at to Add a b = sum_alike env at to a b
 arithmetic_alike env at to Sub a b = minus_alike env at to a b (kind_of a.ctype) (kind_of b.ctype)
-arithmetic_alike env at to Mul a b = balanced_alike at to Mul a b (kind_of a.ctype) (kind_of b.ctype)
-arithmetic_alike env at to Div a b = balanced_alike at to Div a b (kind_of a.ctype) (kind_of b.ctype)
-arithmetic_alike env at to Rem a b = balanced_alike at to Rem a b (kind_of a.ctype) (kind_of b.ctype)
-arithmetic_alike env at to ShiftLeft a b = balanced_alike at to ShiftLeft a b (kind_of a.ctype) (kind_of b.ctype)
-arithmetic_alike env at to ShiftRight a b = balanced_alike at to ShiftRight a b (kind_of a.ctype) (kind_of b.ctype)
-arithmetic_alike env at to BitAnd a b = balanced_alike at to BitAnd a b (kind_of a.ctype) (kind_of b.ctype)
-arithmetic_alike env at to BitXor a b = balanced_alike at to BitXor a b (kind_of a.ctype) (kind_of b.ctype)
-arithmetic_alike env at to BitOr a b = balanced_alike at to BitOr a b (kind_of a.ctype) (kind_of b.ctype)
-arithmetic_alike env at to Less a b = balanced_alike at to Less a b (kind_of a.ctype) (kind_of b.ctype)
-arithmetic_alike env at to Greater a b = balanced_alike at to Greater a b (kind_of a.ctype) (kind_of b.ctype)
-arithmetic_alike env at to LessEqual a b = balanced_alike at to LessEqual a b (kind_of a.ctype) (kind_of b.ctype)
-arithmetic_alike env at to GreaterEqual a b = balanced_alike at to GreaterEqual a b (kind_of a.ctype) (kind_of b.ctype)
-arithmetic_alike env at to Equal a b = balanced_alike at to Equal a b (kind_of a.ctype) (kind_of b.ctype)
-arithmetic_alike env at to NotEqual a b = balanced_alike at to NotEqual a b (kind_of a.ctype) (kind_of b.ctype)
+arithmetic_alike env at to op a b = balanced_alike at to op a b (kind_of a.ctype) (kind_of b.ctype)
 
 operation_of_alike : (env : Env) (at to : ℕ) (op : BinOp) (a b : TypedExpression) (k : OperatorKind) → Alike TypedExpression (operation_of env at op a b k) (operation_of env to op a b k)
 operation_of_alike env at to op a b balanced = arithmetic_alike env at to op a b
@@ -349,15 +278,11 @@ assignment_alike at to p v =
 
 update_alike : (env : Env) (at to : ℕ) (op : BinOp) (old : Bool) (p v : TypedExpression) (k l : Kind) → Alike TypedExpression (update_of env at op old p v k l) (update_of env to op old p v k l)
 update_alike env at to op old p v (an_integer i) (an_integer j) = alike (update_of env at op old p v (an_integer i) (an_integer j))
-update_alike env at to op old p v (an_integer i) (a_pointer t) = fault_alike C3 at to
-update_alike env at to op old p v (an_integer i) neither = fault_alike C3 at to
 update_alike env at to op old p v (a_pointer t) (an_integer j) =
     let made : TypedExpression = updated op old p (tree_of v) in
     on_alike (λ _. gives (complete env at t) (λ _. made)) (λ _. gives (complete env to t) (λ _. made))
     (demand_alike (moves op) C3 at to met) (λ _ _. gives_alike (λ _. made) (complete_alike env at to t))
-update_alike env at to op old p v (a_pointer t) (a_pointer u) = fault_alike C3 at to
-update_alike env at to op old p v (a_pointer t) neither = fault_alike C3 at to
-update_alike env at to op old p v neither l = fault_alike C3 at to
+update_alike env at to op old p v k l = fault_alike C3 at to
 
 pub assignment_by_alike : (env : Env) (at to op : ℕ) (p v : TypedExpression) → Alike TypedExpression (assignment_by env at op p v) (assignment_by env to op p v)
 assignment_by_alike env at to op p v =

@@ -54,8 +54,7 @@ unary_leads env w at place op r s h =
 
 infix_leads : (env : Env) (w : More) (at : ℕ) (op : Infix) (a b : TypedExpression) → Leads (infix_rule (left env) at op a b) (infix_rule (right env w) at op a b)
 infix_leads env w at and a b = same_leads (infix_rule (left env) at and a b)
-infix_leads env w at or a b = same_leads (infix_rule (left env) at or a b)
-infix_leads env w at (operator code) a b = same_leads (infix_rule (left env) at (operator code) a b)
+infix_leads env w at op a b = same_leads (infix_rule (left env) at op a b)
 
 with_name_leads : (env : Env) (w : More) → MeanAlike env.names w.names → (n : Option Ident) (r s : Checked CType) → Leads r s → Leads (with_name_demands (left env) n r) (with_name_demands (right env w) n s)
 with_name_leads env w m None r s h = h
@@ -73,8 +72,6 @@ behind_beside env w p m k (Some x) r s t h e =
 mutual
   pub tree_leads : (e f : Env) → TypedAlike e f → (b : Before) (x : Expr) → Leads (tree e b x) (tree f b x)
   tree_leads e f (beside env w p m) b (a_name at x) = named_leads env w p m at x
-  tree_leads e f (beside env w p m) b (an_int at n u) = (refl, tt)
-  tree_leads e f (beside env w p m) b (a_char at c) = (refl, tt)
   tree_leads e f (beside env w p m) b (a_str at text) = same_leads (string_expression (left env) b at text)
   tree_leads e f (beside env w p m) b (comma at es) = gives_leads (trees (left env) b es) (trees (right env w) b es) comma_of (trees_lead _ _ (beside env w p m) b es)
   tree_leads e f (beside env w p m) b (sizeof_type at t) =
@@ -103,6 +100,7 @@ mutual
   tree_leads e f (beside env w p m) b (conditional at c x y) =
       all_three_lead (value_at (left env) (place_of c) (tree (left env) b c)) (value_at (right env w) (place_of c) (tree (right env w) b c)) (value_at (left env) (place_of x) (tree (left env) (after b c) x)) (value_at (right env w) (place_of x) (tree (right env w) (after b c) x)) (value_at (left env) (place_of y) (tree (left env) (after (after b c) x) y)) (value_at (right env w) (place_of y) (tree (right env w) (after (after b c) x) y)) (choice at) (choice at)
       (value_at_leads env w (place_of c) _ _ (tree_leads _ _ (beside env w p m) b c)) (λ _ _. value_at_leads env w (place_of x) _ _ (tree_leads _ _ (beside env w p m) (after b c) x)) (λ _ _ _ _. value_at_leads env w (place_of y) _ _ (tree_leads _ _ (beside env w p m) (after (after b c) x) y)) (λ g h i. same_leads (choice at g h i))
+  tree_leads e f x b y = (refl, tt)
 
   pub trees_lead : (e f : Env) → TypedAlike e f → (b : Before) (xs : Exprs) → Leads (trees e b xs) (trees f b xs)
   trees_lead e f (beside env w p m) b no_exprs = (refl, tt)
@@ -115,8 +113,6 @@ mutual
       on_leads (type_of_spec (left env) at s) (type_of_spec (right env w) at s) (λ t. declared (left env) d t) (λ t. declared (right env w) d t) (same_leads (type_of_spec (left env) at s)) (λ t _. declared_leads _ _ (beside env w p m) d t)
 
   pub declared_leads : (e f : Env) → TypedAlike e f → (d : Declarator) (t : CType) → Leads (declared e d t) (declared f d t)
-  declared_leads e f (beside env w p m) nothing t = (refl, tt)
-  declared_leads e f (beside env w p m) (named at x) t = (refl, tt)
   declared_leads e f (beside env w p m) (pointer at d) t = on_leads (pointer_to at t) (pointer_to at t) (λ u. declared (left env) d u) (λ u. declared (right env w) d u) (same_leads (pointer_to at t)) (λ u _. declared_leads _ _ (beside env w p m) d u)
   declared_leads e f (beside env w p m) (array at d size) t =
       on_leads (on (size_in (left env) size) (array_of (left env) at t)) (on (size_in (right env w) size) (array_of (right env w) at t)) (λ u. declared (left env) d u) (λ u. declared (right env w) d u)
@@ -124,6 +120,7 @@ mutual
   declared_leads e f (beside env w p m) (function at d ps) t =
       on_leads (on (parameters (inside (left env)) 0 ps) (function_of at t)) (on (parameters (inside (right env w)) 0 ps) (function_of at t)) (λ u. declared (left env) d u) (λ u. declared (right env w) d u)
       (on_leads (parameters (inside (left env)) 0 ps) (parameters (inside (right env w)) 0 ps) (function_of at t) (function_of at t) (parameters_lead _ _ (beside (inside env) w p m) 0 ps) (λ ts _. same_leads (function_of at t ts))) (λ u _. declared_leads _ _ (beside env w p m) d u)
+  declared_leads e f x d t = (refl, tt)
 
   pub size_leads : (e f : Env) → TypedAlike e f → (m : Maybe) → Leads (size_in e m) (size_in f m)
   size_leads e f (beside env w p m) absent = (refl, tt)

@@ -82,13 +82,8 @@ module _ (structs : Structs) where
   by_sized name t (an_init i) h = init_sized name t i h
 
   pub size_right : (name : ℕ) (m : MaybeInit) (t : CType) → Made structs t → Holds (WithSize t) (with_size name m t)
-  size_right name m void h = (h, inl refl)
-  size_right name m (integer i) h = (h, inl refl)
-  size_right name m (pointer t) h = (h, inl refl)
   size_right name m (array t zero) h = by_sized name t m h
-  size_right name m (array t (suc n)) h = (h, inl refl)
-  size_right name m (struct s) h = (h, inl refl)
-  size_right name m (function t ts) h = (h, inl refl)
+  size_right name m t h = (h, inl refl)
 
   few_unsized : (t u : CType) → Seen t u → Made structs t → cells structs u ≤ 65536 → IsSized structs t
   few_unsized t u (inl e) m h = sized_few structs t m (subst (λ x. cells structs x ≤ 65536) (sym e) h)
@@ -207,18 +202,8 @@ module _ (p : Program) (vars : List CType) where
 
   -- ## Declarations
 
-  abbrev pub DeclRight : Env → typed.Stmts → Type 0
-  DeclRight behind ss = AreFirst p vars ss × IsRight p vars behind
-
   object_in : (env : Env) → IsRight p vars env → (o : Object) → IsObjectRight (layout_of env) o → IsObject p.structs o.whole
   object_in env w o h = record { complete = complete_in (layout_of env) p.structs w.within o.whole h.known; few = subst (λ k. k ≤ 65536) (cells_in (layout_of env) p.structs w.within o.whole h.known) h.small }
-
-  number_placed : (next : Next) (x : Name) (t : CType) → Placed next (if is_added x then [] else t ∷ []) (if is_added x then t ∷ [] else []) → slice_get vars (number_in next x) ≡ Some t
-  number_placed next x t h = by_test (is_added x) h
-    where
-      by_test : (b : Bool) → Placed next (if b then [] else t ∷ []) (if b then t ∷ [] else []) → slice_get vars (if b then next.added else next.plain) ≡ Some t
-      by_test true h = (let e : next.added + 0 ≡ next.added = omega arith in subst (λ n. slice_get vars n ≡ Some t) e (h.1 0 t refl))
-      by_test false h = (let e : next.plain + 0 ≡ next.plain = omega arith in subst (λ n. slice_get vars n ≡ Some t) e (h.0 0 t refl))
 
   -- one variable with its cells
   laid_right : (env inner behind : Env) (next : Next) (x : Name) (t : CType) (gs : List TypedExpression) → IsComplete (layout_of env) t

@@ -61,8 +61,7 @@ module _ (p : Program) (vars : List CType) where
   used_right : (c : Context) → c ≡ evaluated → (at : ℕ) (o : Option ℕ) → Holds (λ n. o ≡ Some n) (used c at o)
   used_right c e at (Some n) = refl
   used_right evaluated e at None = tt
-  used_right sized e at None = absurd (cc)
-  used_right folded e at None = absurd (cc)
+  used_right c e at o = absurd (cc)
 
   value_number_right : (env : Env) → env.context ≡ evaluated → (at : ℕ) (x : Name) → Holds (λ n. (function_number env x ≡ Some n) × (is_among null_calls x ≡ false)) (function_value_number env at x)
   value_number_right env e at x = by_test (is_among null_calls x) refl
@@ -113,8 +112,7 @@ module _ (p : Program) (vars : List CType) where
 
       by_context : (c : Context) → c ≡ evaluated → Holds (TypedExpressionRight p vars) (gives (string_fits c at b.cells (suc (length w))) (λ _. typed_string n (length w)))
       by_context evaluated e = on_holds (λ _. suc (length w) ≤ 65536) (TypedExpressionRight p vars) (string_fits evaluated at b.cells (suc (length w))) _ (both_hold (λ _. suc (length w) ≤ 65536) Any (λ _. suc (length w) ≤ 65536) (demand (nat_le (suc (length w)) 65536) 13 at met) _ _ (demand_holds (λ _. suc (length w) ≤ 65536) (nat_le (suc (length w)) 65536) 13 at met (λ q. leb-true (suc (length w)) 65536 q)) (anything _) (λ _ _ k _. k)) (λ _ l. given l)
-      by_context sized e = absurd (cc)
-      by_context folded e = absurd (cc)
+      by_context c e = absurd (cc)
 
   -- ## Parts
 
@@ -140,10 +138,7 @@ module _ (p : Program) (vars : List CType) where
   callee_meant_right : (env : Env) → IsRight p vars env → (at place : ℕ) (x : Name) (r : Checked TypedExpression) (m : Meaning) → MeaningRight p vars env x m → Holds (ValueBoth env) r → Holds (CalleeRight p vars) (callee_meant env at place x r m)
   callee_meant_right env w at place x r (a_function t d) h k =
       on_holds (λ n. function_number env x ≡ Some n) (CalleeRight p vars) (used env.context place (function_number env x)) (callee_of_type place t) (used_right env.context w.runs place (function_number env x)) (λ f e. callee_type_right p vars place t f (h.1 f e))
-  callee_meant_right env w at place x r (a_static seen whole d) h k = by_value_right env at r k
-  callee_meant_right env w at place x r (a_local n seen whole) h k = by_value_right env at r k
-  callee_meant_right env w at place x r (an_enumerator z) h k = by_value_right env at r k
-  callee_meant_right env w at place x r (unknown f fs) h k = by_value_right env at r k
+  callee_meant_right env w at place x r m h k = by_value_right env at r k
 
   callee_bound_right : (env : Env) → IsRight p vars env → (at place : ℕ) (x : Name) (r : Checked TypedExpression) (o : Option Binding) → ((b : Binding) → o ≡ Some b → MeaningRight p vars env x b.means) → Holds (ValueBoth env) r → Holds (CalleeRight p vars) (callee_bound env at place x r o)
   callee_bound_right env w at place x r None h k = by_value_right env at r k

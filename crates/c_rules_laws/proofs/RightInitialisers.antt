@@ -29,10 +29,14 @@ use Rattle.c_rules_laws.specs.Lexical.{IsInitLexical, AreInitsLexical, IsMaybeIn
 use Rattle.c_rules_laws.specs.MadeTypes.{Made}
 use Rattle.c_rules_laws.specs.RightScopes.{IsRight, StringsIn}
 use Rattle.c_rules_laws.specs.SoundStructs.{AreSound}
-use Rattle.c_rules_laws.proofs.Holding.{Holds, holds_map, on_holds, both_hold, demand_holds, behind_demand, after_part}
+use Rattle.c_rules_laws.proofs.Holding.{Holds, holds_map, holds_two, on_holds, both_hold, demand_holds, behind_demand, after_part}
 use Rattle.c_rules_laws.proofs.SoundStructs.{are_structs}
 use Rattle.c_rules_laws.proofs.RightTypedExpressions.{constant_value, ValueRight, RightAs, null_right, as_if_right}
 use Rattle.c_rules_laws.proofs.RightExpressions.{strings_first, strings_rest, ValueBoth, value_right}
+pub use Rattle.c_rules_laws.proofs.KnownCells.{IsKnownConstant, AllKnown, known_both}
+use Rattle.c_rules_laws.proofs.KnownCells.{static_known}
+use Rattle.c_rules.proofs.EntryLemmas.{none_is_no_list}
+use Rattle.c_rules.proofs.NothingMore.{nothing_more}
 use Rattle.c_rules_laws.specs.ConstantForm.{IsConst}
 use Rattle.c_rules_laws.proofs.SitesOfExpressions.{fits_none, fits_both, FitsAt, Span, Counted, holds_with, range_append, value_counted}
 use Rattle.c_rules_laws.proofs.GatheredOfTypedExpressions.{Gathers, AllGather, none_both, as_if_gathered}
@@ -40,24 +44,9 @@ use Rattle.c_tree.specs.Sites.{all_sites}
 
 -- ## Cells
 
--- a constant with a value
-abbrev pub IsKnownConstant : Constant → Type 0
-IsKnownConstant not_constant = ⊥
-IsKnownConstant undefined = ⊥
-IsKnownConstant (known x) = Unit {0}
-
-abbrev pub AllKnown : List TypedExpression → Type 0
-AllKnown [] = Unit {0}
-AllKnown (g ∷ gs) = IsKnownConstant g.constant × AllKnown gs
-
-pub known_both : (gs hs : List TypedExpression) → AllKnown gs → AllKnown hs → AllKnown (gs ++ hs)
-known_both [] hs h k = k
-known_both (g ∷ gs) hs h k = (h.0, known_both gs hs h.1 k)
-
 known_const : (c : Constant) → IsKnownConstant c → IsConst c
 known_const not_constant h = h
-known_const undefined h = tt
-known_const (known x) h = tt
+known_const c h = tt
 
 -- constants have no sites
 pub known_sites : (gs : List TypedExpression) (xs : List ℕ) → AllKnown gs → AllGather all_sites xs gs → xs ≡ []
@@ -85,17 +74,13 @@ repeat_scalars : (n : ℕ) (xs : List CType) → ((k : ℕ) (t : CType) → slic
 repeat_scalars zero xs h k t e = absurd (cc)
 repeat_scalars (suc n) xs h k t e = scalars_both xs (repeat n xs) h (repeat_scalars n xs h) k t e
 
-no_list : (ts : List CType) → Some None ≡ Some (Some ts) → ⊥
-no_list ts q = cc
-
 -- the slots of a struct
 struct_slots : (env : Env) (s : ℕ) (ts : List CType) → slice_get (layout_of env) s ≡ Some (Some ts) → members_of_struct (struct_of env s) ≡ each ts
 struct_slots env s ts e = by_entry (slice_get env.structs s) (sym (slice_get-map types_of_struct env.structs s) ∙ e)
   where
     by_struct : (x : Struct) → Some (types_of_struct x) ≡ Some (Some ts) → members_of_struct x ≡ each ts
-    by_struct incomplete f = absurd (no_list ts f)
-    by_struct (unknown_struct g gs) f = absurd (no_list ts f)
     by_struct (defined_struct ms) f = (let g : map type_of_member ms ≡ ts = cc in ap each g)
+    by_struct x f = absurd (none_is_no_list ts f)
 
     by_entry : (o : Option Struct) → option_map types_of_struct o ≡ Some (Some ts) → members_of_struct (unwrap_or o incomplete) ≡ each ts
     by_entry None f = absurd (cc)
@@ -111,33 +96,17 @@ module _ (p : Program) (vars : List CType) where
 
   types_both : (xs ys : List CType) (gs hs : List TypedExpression) → TypesAre xs gs → TypesAre ys hs → TypesAre (xs ++ ys) (gs ++ hs)
   types_both [] ys [] hs h k = k
-  types_both (x ∷ xs) ys [] hs h k = absurd h
-  types_both [] ys (g ∷ gs) hs h k = absurd h
   types_both (x ∷ xs) ys (g ∷ gs) hs h k = (h.0, h.1, types_both xs ys gs hs h.2 k)
+  types_both xs ys gs hs h k = absurd h
 
   zero_right : (t : CType) → IsScalar t → ((typed_zero t).ctype ≡ t) × ValueRight p vars (typed_zero t)
-  zero_right void h = absurd h
   zero_right (integer i) h = (refl, (refl, value_of_type i (pos 0), tt, constant_value p (integer i) (value_of i (pos 0)) (value_of_type i (pos 0))))
   zero_right (pointer t) h = (refl, null_right p vars (pointer t) t refl)
-  zero_right (array t n) h = absurd h
-  zero_right (struct s) h = absurd h
-  zero_right (function t ts) h = absurd h
+  zero_right t h = absurd h
 
   pub zeros_right : (ts : List CType) → ((k : ℕ) (t : CType) → slice_get ts k ≡ Some t → IsScalar t) → TypesAre ts (map typed_zero ts)
   zeros_right [] h = tt
   zeros_right (t ∷ ts) h = (let z = zero_right t (h 0 t refl) in (z.0, z.1, zeros_right ts (λ k u e. h (suc k) u e)))
-
-  pub zeros_known : (ts : List CType) → AllKnown (map typed_zero ts)
-  zeros_known [] = tt
-  zeros_known (t ∷ ts) = (one_known t, zeros_known ts)
-    where
-      one_known : (t : CType) → IsKnownConstant (typed_zero t).constant
-      one_known void = tt
-      one_known (integer i) = tt
-      one_known (pointer t) = tt
-      one_known (array t n) = tt
-      one_known (struct s) = tt
-      one_known (function t ts) = tt
 
   char_right : (c : ℕ) → ValueRight p vars (typed_char c)
   char_right c = (refl, value_of_type Char (pos c), tt, constant_value p (integer Char) (value_of Char (pos c)) (value_of_type Char (pos c)))
@@ -156,37 +125,21 @@ module _ (p : Program) (vars : List CType) where
       subst (λ ts. TypesAre ts (chars n w)) (sym (repeat_add (length w) (n - length w) (integer Char ∷ [])) ∙ ap (λ k. repeat k (integer Char ∷ [])) e)
       (types_both (repeat (length w) (integer Char ∷ [])) (repeat (n - length w) (integer Char ∷ [])) (map typed_char w) (replicate (n - length w) (typed_char 0)) (chars_of w) (char_ends (n - length w)))
 
-  chars_known : (n : ℕ) (w : List ℕ) → AllKnown (chars n w)
-  chars_known n w = known_both (map typed_char w) (replicate (n - length w) (typed_char 0)) (all w) (ends (n - length w))
+  cell_right : (k : Bool) (at : ℕ) (t : CType) (g : TypedExpression) → RightAs p vars t g → Holds (TypesAre (t ∷ [])) (cell_of k at g)
+  cell_right false at t g h = (h.1, h.0, tt)
+  cell_right true at t g h = by_constant g.constant
     where
-      all : (w : List ℕ) → AllKnown (map typed_char w)
-      all [] = tt
-      all (c ∷ w) = (tt, all w)
+      by_constant : (c : Constant) → Holds (TypesAre (t ∷ [])) (defined_cell at g c)
+      by_constant (known x) = (h.1, h.0, tt)
+      by_constant c = tt
 
-      ends : (k : ℕ) → AllKnown (replicate k (typed_char 0))
-      ends zero = tt
-      ends (suc k) = (tt, ends k)
-
-  -- cells of these types, which are constants in a static object
-  abbrev pub CellsRight : Bool → List CType → List TypedExpression → Type 0
-  CellsRight k ts gs = TypesAre ts gs × (k ≡ true → AllKnown gs)
-
-  cell_right : (k : Bool) (at : ℕ) (t : CType) (g : TypedExpression) → RightAs p vars t g → Holds (CellsRight k (t ∷ [])) (cell_of k at g)
-  cell_right false at t g h = ((h.1, h.0, tt), λ e. absurd (cc))
-  cell_right true at t g h = by_constant g.constant refl
-    where
-      by_constant : (c : Constant) → g.constant ≡ c → Holds (CellsRight true (t ∷ [])) (defined_cell at g c)
-      by_constant not_constant e = tt
-      by_constant undefined e = tt
-      by_constant (known x) e = ((h.1, h.0, tt), λ _. (subst IsKnownConstant (sym e) tt, tt))
-
-  scalar_right : (env : Env) (k : Bool) (at : ℕ) (t : CType) (r : Checked TypedExpression) → Holds (ValueBoth p vars env) r → Holds (CellsRight k (t ∷ [])) (scalar_cell k at t r)
+  scalar_right : (env : Env) (k : Bool) (at : ℕ) (t : CType) (r : Checked TypedExpression) → Holds (ValueBoth p vars env) r → Holds (TypesAre (t ∷ [])) (scalar_cell k at t r)
   scalar_right env k at t r h =
-      on_holds (RightAs p vars t) (CellsRight k (t ∷ [])) (on r (as_if_assigned at t)) (cell_of k at) (on_holds (ValueBoth p vars env) (RightAs p vars t) r (as_if_assigned at t) h (λ g l. as_if_right p vars at t g l.1)) (λ g l. cell_right k at t g l)
+      on_holds (RightAs p vars t) (TypesAre (t ∷ [])) (on r (as_if_assigned at t)) (cell_of k at) (on_holds (ValueBoth p vars env) (RightAs p vars t) r (as_if_assigned at t) h (λ g l. as_if_right p vars at t g l.1)) (λ g l. cell_right k at t g l)
 
-  array_right : (k : Bool) (at : ℕ) (t : CType) (n : ℕ) (o : Option (List ℕ)) (ts : List CType) → ((t ≡ integer Char) → ts ≡ integer Char ∷ []) → Holds (CellsRight k (repeat n ts)) (array_cells at t n o)
+  array_right : (k : Bool) (at : ℕ) (t : CType) (n : ℕ) (o : Option (List ℕ)) (ts : List CType) → ((t ≡ integer Char) → ts ≡ integer Char ∷ []) → Holds (TypesAre (repeat n ts)) (array_cells at t n o)
   array_right k at (integer Char) n (Some w) ts e =
-      demand_holds (CellsRight k (repeat n ts)) (nat_le (length w) n) 14 at (chars n w) (λ q. (subst (λ us. TypesAre (repeat n us) (chars n w)) (sym (e refl)) (chars_right n w (leb-true (length w) n q)), λ _. chars_known n w))
+      demand_holds (TypesAre (repeat n ts)) (nat_le (length w) n) 14 at (chars n w) (λ q. subst (λ us. TypesAre (repeat n us) (chars n w)) (sym (e refl)) (chars_right n w (leb-true (length w) n q)))
   array_right k at t n o ts e = tt
 
   char_flat : (structs : Structs) (t : CType) → t ≡ integer Char → flat structs t ≡ integer Char ∷ []
@@ -202,65 +155,55 @@ module _ (p : Program) (vars : List CType) where
   SlotsMade structs (copies n t) = Made structs t × IsComplete structs t
   SlotsMade structs (each ts) = All (Made structs) ts × All (IsComplete structs) ts
 
-  zeros_of : (structs : Structs) (s : Slots) → TypesAre (SlotTypes structs s) (zeros structs s) × AllKnown (zeros structs s)
-  zeros_of structs (copies n t) = (zeros_right (repeat n (flat structs t)) (repeat_scalars n (flat structs t) (flat_scalar structs t)), zeros_known (repeat n (flat structs t)))
-  zeros_of structs (each ts) = (zeros_right (flat_all structs ts) (all_scalars structs ts), zeros_known (flat_all structs ts))
+  zeros_of : (structs : Structs) (s : Slots) → TypesAre (SlotTypes structs s) (zeros structs s)
+  zeros_of structs (copies n t) = zeros_right (repeat n (flat structs t)) (repeat_scalars n (flat structs t) (flat_scalar structs t))
+  zeros_of structs (each ts) = zeros_right (flat_all structs ts) (all_scalars structs ts)
 
-  cells_both : (k : Bool) (xs ys : List CType) (gs hs : List TypedExpression) → CellsRight k xs gs → CellsRight k ys hs → CellsRight k (xs ++ ys) (gs ++ hs)
-  cells_both k xs ys gs hs h l = (types_both xs ys gs hs h.0 l.0, λ e. known_both gs hs (h.1 e) (l.1 e))
-
-  list_right : (k : Bool) (ts : List CType) (takes : Bool) (at most n : ℕ) (r : Checked (List TypedExpression)) → (takes ≡ true → Holds (CellsRight k ts) r) → Holds (CellsRight k ts) (cells_of_list takes at most n r)
+  list_right : (k : Bool) (ts : List CType) (takes : Bool) (at most n : ℕ) (r : Checked (List TypedExpression)) → (takes ≡ true → Holds (TypesAre ts) r) → Holds (TypesAre ts) (cells_of_list takes at most n r)
   list_right k ts takes at most n r h =
-      behind_demand (CellsRight k ts) takes 14 at _ (λ e. on_holds (CellsRight k ts) (CellsRight k ts) r _ (h e) (λ gs l. demand_holds (CellsRight k ts) (nat_le n most) 14 at gs (λ _. l)))
+      behind_demand (TypesAre ts) takes 14 at _ (λ e. on_holds (TypesAre ts) (TypesAre ts) r _ (h e) (λ gs l. demand_holds (TypesAre ts) (nat_le n most) 14 at gs (λ _. l)))
 
   mutual
-    pub initialised_right : (i : Init) (env : Env) → IsRight p vars env → IsInitLexical i → (b : Before) (k : Bool) (t : CType) → Made (layout_of env) t → IsComplete (layout_of env) t → StringsIn p vars (string_number env b) (held env t i) → Holds (CellsRight k (flat (layout_of env) t)) (initialised env b k t i)
-    initialised_right (one at e) env w l b k void m c s = tt
+    pub initialised_right : (i : Init) (env : Env) → IsRight p vars env → IsInitLexical i → (b : Before) (k : Bool) (t : CType) → Made (layout_of env) t → IsComplete (layout_of env) t → StringsIn p vars (string_number env b) (held env t i) → Holds (TypesAre (flat (layout_of env) t)) (initialised env b k t i)
     initialised_right (one at e) env w l b k (integer i) m c s = scalar_right env k at (integer i) (value env b e) (value_right p vars e env w l b s)
     initialised_right (one at e) env w l b k (pointer t) m c s = scalar_right env k at (pointer t) (value env b e) (value_right p vars e env w l b s)
     initialised_right (one at e) env w l b k (array t n) m c s =
-        after_part (CellsRight k (repeat n (flat (layout_of env) t))) (text_fits at (text_of e)) (λ _. array_cells at t n (text_of e)) (λ _. array_right k at t n (text_of e) (flat (layout_of env) t) (char_flat (layout_of env) t))
-    initialised_right (one at e) env w l b k (struct n) m c s = tt
-    initialised_right (one at e) env w l b k (function t ts) m c s = tt
-    initialised_right (list at is) env w l b k void m c s = list_right k (flat (layout_of env) void) false at 0 (count_inits is) (in_turn env b k (each []) is) (λ e. absurd (cc))
-    initialised_right (list at is) env w l b k (integer i) m c s = list_right k (flat (layout_of env) (integer i)) false at 0 (count_inits is) (in_turn env b k (each []) is) (λ e. absurd (cc))
-    initialised_right (list at is) env w l b k (pointer t) m c s = list_right k (flat (layout_of env) (pointer t)) false at 0 (count_inits is) (in_turn env b k (each []) is) (λ e. absurd (cc))
+        after_part (TypesAre (repeat n (flat (layout_of env) t))) (text_fits at (text_of e)) (λ _. array_cells at t n (text_of e)) (λ _. array_right k at t n (text_of e) (flat (layout_of env) t) (char_flat (layout_of env) t))
     initialised_right (list at is) env w l b k (array t n) m c s = list_right k (repeat n (flat (layout_of env) t)) true at n (count_inits is) (in_turn env b k (copies n t) is) (λ _. in_turn_right is env w l b k (copies n t) (m.2, m.1) s)
     initialised_right (list at is) env w l b k (struct n) m c s =
         let q : members_of_struct (struct_of env n) ≡ each c.0 = struct_slots env n c.0 c.1 in
         let f : flat_all (layout_of env) c.0 ≡ flat (layout_of env) (struct n) = sym (struct_is (layout_of env) (are_structs (layout_of env) w.names_known.sound) n c.0 c.1) in
         let sound : AreSound (layout_of env) = w.names_known.sound in
         list_right k (flat (layout_of env) (struct n)) true at (capacity (slots env (struct n))) (count_inits is) (in_turn env b k (slots env (struct n)) is)
-        (λ _. subst (λ ts. Holds (CellsRight k ts) (in_turn env b k (slots env (struct n)) is)) f
-        (subst (λ x. Holds (CellsRight k (flat_all (layout_of env) c.0)) (in_turn env b k x is)) (sym q)
+        (λ _. subst (λ ts. Holds (TypesAre ts) (in_turn env b k (slots env (struct n)) is)) f
+        (subst (λ x. Holds (TypesAre (flat_all (layout_of env) c.0)) (in_turn env b k x is)) (sym q)
         (in_turn_right is env w l b k (each c.0) (sound.made n c.0 c.1, sound.complete n c.0 c.1) (subst (λ x. StringsIn p vars (string_number env b) (held_in_turn env x is)) q s))))
-    initialised_right (list at is) env w l b k (function t ts) m c s = list_right k (flat (layout_of env) (function t ts)) false at 0 (count_inits is) (in_turn env b k (each []) is) (λ e. absurd (cc))
+    initialised_right (list at is) env w l b k t m c s = list_right k (flat (layout_of env) t) (takes_list t) at (capacity (slots env t)) (count_inits is) (in_turn env b k (slots env t) is) (λ e. absurd (let q : false ≡ true = e in cc))
+    initialised_right i env w l b k t m c s = tt
 
-    in_turn_right : (is : syntax.Inits) (env : Env) → IsRight p vars env → AreInitsLexical is → (b : Before) (k : Bool) (s : Slots) → SlotsMade (layout_of env) s → StringsIn p vars (string_number env b) (held_in_turn env s is) → Holds (CellsRight k (SlotTypes (layout_of env) s)) (in_turn env b k s is)
-    in_turn_right syntax.no_inits env w l b k s m h = (let z = zeros_of (layout_of env) s in (z.0, λ _. z.1))
-    in_turn_right (syntax.more_inits i is) env w l b k (copies zero t) m h = (tt, λ _. tt)
+    in_turn_right : (is : syntax.Inits) (env : Env) → IsRight p vars env → AreInitsLexical is → (b : Before) (k : Bool) (s : Slots) → SlotsMade (layout_of env) s → StringsIn p vars (string_number env b) (held_in_turn env s is) → Holds (TypesAre (SlotTypes (layout_of env) s)) (in_turn env b k s is)
+    in_turn_right syntax.no_inits env w l b k s m h = zeros_of (layout_of env) s
     in_turn_right (syntax.more_inits i is) env w l b k (copies (suc n) t) m h =
-        both_hold (CellsRight k (flat (layout_of env) t)) (CellsRight k (repeat n (flat (layout_of env) t))) (CellsRight k (flat (layout_of env) t ++ repeat n (flat (layout_of env) t))) (initialised env b k t i) (in_turn env (after_init env b t i) k (copies n t) is) (λ gs hs. fine (gs ++ hs))
+        both_hold (TypesAre (flat (layout_of env) t)) (TypesAre (repeat n (flat (layout_of env) t))) (TypesAre (flat (layout_of env) t ++ repeat n (flat (layout_of env) t))) (initialised env b k t i) (in_turn env (after_init env b t i) k (copies n t) is) (λ gs hs. fine (gs ++ hs))
         (initialised_right i env w l.0 b k t m.0 m.1 (strings_first p vars (string_number env b) (held env t i) (held_in_turn env (copies n t) is) h))
         (in_turn_right is env w l.1 (after_init env b t i) k (copies n t) m (strings_rest p vars env b (calls_of_init i) (held env t i) (held_in_turn env (copies n t) is) h))
-        (λ gs hs x y. cells_both k (flat (layout_of env) t) (repeat n (flat (layout_of env) t)) gs hs x y)
-    in_turn_right (syntax.more_inits i is) env w l b k (each []) m h = (tt, λ _. tt)
+        (λ gs hs x y. types_both (flat (layout_of env) t) (repeat n (flat (layout_of env) t)) gs hs x y)
     in_turn_right (syntax.more_inits i is) env w l b k (each (t ∷ ts)) m h =
-        both_hold (CellsRight k (flat (layout_of env) t)) (CellsRight k (flat_all (layout_of env) ts)) (CellsRight k (flat (layout_of env) t ++ flat_all (layout_of env) ts)) (initialised env b k t i) (in_turn env (after_init env b t i) k (each ts) is) (λ gs hs. fine (gs ++ hs))
+        both_hold (TypesAre (flat (layout_of env) t)) (TypesAre (flat_all (layout_of env) ts)) (TypesAre (flat (layout_of env) t ++ flat_all (layout_of env) ts)) (initialised env b k t i) (in_turn env (after_init env b t i) k (each ts) is) (λ gs hs. fine (gs ++ hs))
         (initialised_right i env w l.0 b k t (All-head (Made (layout_of env)) t ts m.0) (All-head (IsComplete (layout_of env)) t ts m.1) (strings_first p vars (string_number env b) (held env t i) (held_in_turn env (each ts) is) h))
         (in_turn_right is env w l.1 (after_init env b t i) k (each ts) (All-tail (Made (layout_of env)) t ts m.0, All-tail (IsComplete (layout_of env)) t ts m.1) (strings_rest p vars env b (calls_of_init i) (held env t i) (held_in_turn env (each ts) is) h))
-        (λ gs hs x y. cells_both k (flat (layout_of env) t) (flat_all (layout_of env) ts) gs hs x y)
+        (λ gs hs x y. types_both (flat (layout_of env) t) (flat_all (layout_of env) ts) gs hs x y)
+    in_turn_right is env w l b k s m h = tt
 
   -- ## The stores of a variable
 
   pub stores_right : (all part : List CType) (k : ℕ) (gs : List TypedExpression) → Lies all k part → TypesAre part gs → AreInits p vars all (stores_from k gs)
   stores_right all [] k [] l h = tt
-  stores_right all (t ∷ ts) k [] l h = absurd h
-  stores_right all [] k (g ∷ gs) l h = absurd h
   stores_right all (t ∷ ts) k (g ∷ gs) l h =
       let e : k + 0 ≡ k = omega arith in
       let got : slice_get all k ≡ Some t = subst (λ n. slice_get all n ≡ Some t) e (l 0 t refl) in
       (got ∙ ap Some (sym (h.1.0 ∙ h.0)), h.1.1, stores_right all ts (suc k) gs (λ j u q. (let f : k + suc j ≡ suc k + j = omega arith in subst (λ n. slice_get all n ≡ Some u) f (l (suc j) u q))) h.2)
+  stores_right all part k gs l h = absurd h
 
 pub stores_sites : (k : ℕ) (gs : List TypedExpression) (xs : List ℕ) → AllGather all_sites xs gs → sites_of_inits (stores_from k gs) ≡ xs
 stores_sites k [] xs h = sym h
@@ -272,20 +215,15 @@ abbrev pub InitCounted : Before → ℕ → List (List ℕ) → List TypedExpres
 InitCounted b n ws gs = AllGather all_sites (Span b n) gs × FitsAt b n ws
 
 one_given : (xs : List ℕ) (g : TypedExpression) → Gathers all_sites xs g → AllGather all_sites xs (g ∷ [])
-one_given xs g h = (xs, [], h, refl, sym (none xs))
-  where
-    none : (xs : List ℕ) → xs ++ [] ≡ xs
-    none [] = refl
-    none (x ∷ xs) = ap (λ ys. x ∷ ys) (none xs)
+one_given xs g h = (xs, [], h, refl, sym (nothing_more xs))
 
 cell_counted : (k : Bool) (at : ℕ) (b : Before) (n : ℕ) (ws : List (List ℕ)) (g : TypedExpression) → Counted b n ws g → Holds (InitCounted b n ws) (cell_of k at g)
 cell_counted false at b n ws g h = (one_given (Span b n) g h.0, h.1)
 cell_counted true at b n ws g h = by_constant g.constant
   where
     by_constant : (c : Constant) → Holds (InitCounted b n ws) (defined_cell at g c)
-    by_constant not_constant = tt
-    by_constant undefined = tt
     by_constant (known x) = (one_given (Span b n) g h.0, h.1)
+    by_constant c = tt
 
 scalar_counted : (k : Bool) (at : ℕ) (t : CType) (b : Before) (n : ℕ) (ws : List (List ℕ)) (r : Checked TypedExpression) → Holds (Counted b n ws) r → Holds (InitCounted b n ws) (scalar_cell k at t r)
 scalar_counted k at t b n ws r h =
@@ -298,11 +236,7 @@ zeros_silent (t ∷ ts) = ([], [], one t, zeros_silent ts, refl)
   where
     one : (t : CType) → Gathers all_sites [] (typed_zero t)
     one void = (refl, λ _. refl)
-    one (integer i) = (refl, λ _. refl)
-    one (pointer t) = (refl, λ _. refl)
-    one (array t n) = (refl, λ _. refl)
-    one (struct s) = (refl, λ _. refl)
-    one (function t ts) = (refl, λ _. refl)
+    one t = (refl, λ _. refl)
 
 slots_silent : (structs : Structs) (s : Slots) → AllGather all_sites [] (zeros structs s)
 slots_silent structs (copies n t) = zeros_silent (repeat n (flat structs t))
@@ -333,26 +267,23 @@ init_both b n m xs ys gs hs h k =
 
 mutual
   pub initialised_counted : (i : Init) (env : Env) → env.context ≡ evaluated → (b : Before) (k : Bool) (t : CType) → Holds (InitCounted b (calls_of_init i) (held env t i)) (initialised env b k t i)
-  initialised_counted (one at e) env c b k void = tt
   initialised_counted (one at e) env c b k (integer i) = scalar_counted k at (integer i) b (calls e) (strings e) (value env b e) (value_counted e env c b)
   initialised_counted (one at e) env c b k (pointer t) = scalar_counted k at (pointer t) b (calls e) (strings e) (value env b e) (value_counted e env c b)
   initialised_counted (one at e) env c b k (array t n) = after_part (InitCounted b (calls e) (held_by_one (array t n) e)) (text_fits at (text_of e)) (λ _. array_cells at t n (text_of e)) (λ _. array_counted at t n e b)
-  initialised_counted (one at e) env c b k (struct s) = tt
-  initialised_counted (one at e) env c b k (function t ts) = tt
   initialised_counted (list at is) env c b k t = list_counted b (calls_of_inits is) (held_in_turn env (slots env t) is) (takes_list t) at (capacity (slots env t)) (count_inits is) (in_turn env b k (slots env t) is) (in_turn_counted is env c b k (slots env t))
+  initialised_counted i env c b k t = tt
 
   in_turn_counted : (is : syntax.Inits) (env : Env) → env.context ≡ evaluated → (b : Before) (k : Bool) (s : Slots) → Holds (λ gs. count_inits is ≤ capacity s → InitCounted b (calls_of_inits is) (held_in_turn env s is) gs) (in_turn env b k s is)
   in_turn_counted syntax.no_inits env c b k s = λ _. (slots_silent (layout_of env) s, fits_none b.sites b.cells)
-  in_turn_counted (syntax.more_inits i is) env c b k (copies zero t) = λ l. absurd (omega (arith, l))
   in_turn_counted (syntax.more_inits i is) env c b k (copies (suc n) t) =
       both_hold (InitCounted b (calls_of_init i) (held env t i)) (λ hs. count_inits is ≤ n → InitCounted (after_init env b t i) (calls_of_inits is) (held_in_turn env (copies n t) is) hs) (λ gs. count_inits (syntax.more_inits i is) ≤ suc n → InitCounted b (calls_of_init i + calls_of_inits is) (held env t i ++ held_in_turn env (copies n t) is) gs)
       (initialised env b k t i) (in_turn env (after_init env b t i) k (copies n t) is) (λ gs hs. fine (gs ++ hs)) (initialised_counted i env c b k t) (in_turn_counted is env c (after_init env b t i) k (copies n t))
       (λ gs hs x y l. init_both b (calls_of_init i) (calls_of_inits is) (held env t i) (held_in_turn env (copies n t) is) gs hs x (y (omega (arith, l))))
-  in_turn_counted (syntax.more_inits i is) env c b k (each []) = λ l. absurd (omega (arith, l))
   in_turn_counted (syntax.more_inits i is) env c b k (each (t ∷ ts)) =
       both_hold (InitCounted b (calls_of_init i) (held env t i)) (λ hs. count_inits is ≤ length ts → InitCounted (after_init env b t i) (calls_of_inits is) (held_in_turn env (each ts) is) hs) (λ gs. count_inits (syntax.more_inits i is) ≤ suc (length ts) → InitCounted b (calls_of_init i + calls_of_inits is) (held env t i ++ held_in_turn env (each ts) is) gs)
       (initialised env b k t i) (in_turn env (after_init env b t i) k (each ts) is) (λ gs hs. fine (gs ++ hs)) (initialised_counted i env c b k t) (in_turn_counted is env c (after_init env b t i) k (each ts))
       (λ gs hs x y l. init_both b (calls_of_init i) (calls_of_inits is) (held env t i) (held_in_turn env (each ts) is) gs hs x (y (omega (arith, l))))
+  in_turn_counted is env c b k s = λ l. absurd (omega (arith, l))
 
 -- ## Initialisers that may be left out
 
@@ -370,8 +301,8 @@ static_counted (an_init i) env c b t = initialised_counted i env c b true t
 module _ (p : Program) (vars : List CType) where
   pub local_right : (m : MaybeInit) (env : Env) → IsRight p vars env → IsMaybeInitLexical m → (b : Before) (t : CType) → Made (layout_of env) t → IsComplete (layout_of env) t → StringsIn p vars (string_number env b) (held_by env t m) → Holds (LocalRight p vars (layout_of env) t) (initialised_local env b t m)
   local_right no_init env w l b t m c s = inl refl
-  local_right (an_init i) env w l b t m c s = holds_map (CellsRight p vars false (flat (layout_of env) t)) (LocalRight p vars (layout_of env) t) (λ gs h. inr h.0) (initialised env b false t i) (initialised_right p vars i env w l b false t m c s)
+  local_right (an_init i) env w l b t m c s = holds_map (TypesAre p vars (flat (layout_of env) t)) (LocalRight p vars (layout_of env) t) (λ gs h. inr h) (initialised env b false t i) (initialised_right p vars i env w l b false t m c s)
 
   pub static_right : (m : MaybeInit) (env : Env) → IsRight p vars env → IsMaybeInitLexical m → (b : Before) (t : CType) → Made (layout_of env) t → IsComplete (layout_of env) t → StringsIn p vars (string_number env b) (held_by env t m) → Holds (λ gs. TypesAre p vars (flat (layout_of env) t) gs × AllKnown gs) (initialised_static env b t m)
-  static_right no_init env w l b t m c s = (zeros_right p vars (flat (layout_of env) t) (flat_scalar (layout_of env) t), zeros_known p vars (flat (layout_of env) t))
-  static_right (an_init i) env w l b t m c s = holds_map (CellsRight p vars true (flat (layout_of env) t)) (λ gs. TypesAre p vars (flat (layout_of env) t) gs × AllKnown gs) (λ gs h. (h.0, h.1 refl)) (initialised env b true t i) (initialised_right p vars i env w l b true t m c s)
+  static_right no_init env w l b t m c s = (zeros_right p vars (flat (layout_of env) t) (flat_scalar (layout_of env) t), static_known no_init env b t)
+  static_right (an_init i) env w l b t m c s = holds_two (TypesAre p vars (flat (layout_of env) t)) AllKnown (initialised env b true t i) (initialised_right p vars i env w l b true t m c s) (static_known (an_init i) env b t)

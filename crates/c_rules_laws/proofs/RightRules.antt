@@ -37,10 +37,10 @@ use Rattle.c_meaning_laws.proofs.Places.{struct_is, member_lies, member_few}
 use Rattle.c_rules_laws.specs.MadeTypes.{NotArray, Made, IsSized}
 use Rattle.c_rules_laws.specs.SoundStructs.{AreSound, AreWithin}
 use Rattle.c_rules_laws.proofs.Holding.{Holds, on_holds, demand_holds, behind_demand, if_holds, holds_map, and_left, and_right}
-use Rattle.c_rules_laws.proofs.MadeTypes.{number_is, scalar_is, type_is, complete_known}
+use Rattle.c_rules_laws.proofs.MadeTypes.{number_is, scalar_is, type_is, complete_known, scalar_not_array, void_is}
 use Rattle.c_rules_laws.proofs.SoundStructs.{are_structs, struct_few}
 use Rattle.c_rules_laws.proofs.SizeBounds.{size_bound}
-use Rattle.c_rules_laws.proofs.TypesOfTypedExpressions.{kind_pointer, kind_integer, defined_at, sized_few}
+use Rattle.c_rules_laws.proofs.TypesOfTypedExpressions.{kind_pointer, kind_integer, defined_at, sized_few, scalar_result}
 use Rattle.c_rules_laws.proofs.RightTypedExpressions.{complete_thing, target_scalar, seen_same, integer_type, promoted_is, common_is, complete_in, cells_in, object_in, first_in, ConstRight, not_constant_right, truth_right, unary_constant, binary_constant, and_constant, or_constant, conditional_constant, integer_part, member_constant, moved_constant, FormRight, TypedExpressionRight, ValueRight, ValuesRight, cast_right, converted_right, null_right, assigned_right, fits_scalar}
 
 -- kinds of operators that compare, and that calculate
@@ -57,25 +57,14 @@ IsCalculation ordering = ⊥
 IsCalculation equality = ⊥
 
 common_twice : (i j : IntType) → common i j ≡ common i (common i j)
-common_twice Char Char = refl
-common_twice Char Uchar = refl
-common_twice Char Int = refl
-common_twice Char Uint = refl
-common_twice Uchar Char = refl
-common_twice Uchar Uchar = refl
-common_twice Uchar Int = refl
-common_twice Uchar Uint = refl
-common_twice Int Char = refl
-common_twice Int Uchar = refl
-common_twice Int Int = refl
-common_twice Int Uint = refl
 common_twice Uint j = refl
+common_twice i Char = refl
+common_twice i j = refl
 
 right_side : (k : OperatorKind) (i j : IntType) → IsCalculation k → FitsRightSide k i (right_type k i j)
 right_side balanced i j h = common_twice i j
 right_side shift i j h = promoted_is j
-right_side ordering i j h = absurd h
-right_side equality i j h = absurd h
+right_side k i j h = absurd h
 
 if_calculation : (b : Bool) (x y : BinOp) → IsCalculation (kind_of_operator x) → IsCalculation (kind_of_operator y) → IsCalculation (kind_of_operator (if b then x else y))
 if_calculation true x y h k = h
@@ -103,12 +92,11 @@ pub sized_bytes : (structs : Structs) → AreSound structs → (t : CType) → I
 sized_bytes structs s t h c = (let b = size_bound structs t in let m = few t h c in omega (arith, b, m))
   where
     few : (t : CType) → IsSized structs t → IsComplete structs t → cells structs t ≤ 33554432
-    few void h c = absurd c
     few (integer i) h c = omega arith
     few (pointer t) h c = omega arith
     few (array t n) h c = h.few
     few (struct u) h c = (let f = struct_few structs s u c.0 c.1 in omega (arith, f))
-    few (function t ts) h c = absurd c
+    few t h c = absurd c
 
 module _ (p : Program) where
   table_compared : (o : BinOp) → IsComparison (kind_of_operator o) → (t : IntType) (x y : ℤ) → ConstRight p int (answered (table_of o t x y))
@@ -123,8 +111,7 @@ module _ (p : Program) where
   where_compared : (k : OperatorKind) → IsComparison k → (a : Answer Value) → ConstRight p int (answered (where_shift k a))
   where_compared balanced h a = absurd h
   where_compared shift h a = absurd h
-  where_compared ordering h a = tt
-  where_compared equality h a = tt
+  where_compared k h a = tt
 
   binary_compared : (o : BinOp) → IsComparison (kind_of_operator o) → (x y : Value) → ConstRight p int (answered (binary o x y))
   binary_compared o h (v.Int x) (v.Int y) = table_compared o h Int x y
@@ -134,13 +121,9 @@ module _ (p : Program) where
   binary_compared o h x y = tt
 
   compared_constant : (o : BinOp) → IsComparison (kind_of_operator o) → (a b : Constant) → ConstRight p int (constant_binary o a b)
-  compared_constant o h not_constant b = tt
-  compared_constant o h undefined not_constant = tt
-  compared_constant o h undefined undefined = tt
-  compared_constant o h undefined (known y) = tt
-  compared_constant o h (known x) not_constant = tt
-  compared_constant o h (known x) undefined = tt
   compared_constant o h (known x) (known y) = binary_compared o h x y
+  compared_constant o h a not_constant = tt
+  compared_constant o h a b = tt
 
 module _ (p : Program) (vars : List CType) where
   -- ## Calls
@@ -170,25 +153,12 @@ module _ (p : Program) (vars : List CType) where
       (let c = call_right f.designator f.returns f.parameters site (passed f.parameters gs) h (passed_right f.parameters gs (number_is (length gs) (count f.parameters) m) a k) in (c.0, c.1, r, tt))))
 
   pub callee_type_right : (at : ℕ) (t : CType) (f : ℕ) → called_type p f ≡ Some t → Holds CalleeRight (callee_of_type at t f)
-  callee_type_right at void f h = tt
-  callee_type_right at (integer i) f h = tt
-  callee_type_right at (pointer t) f h = tt
-  callee_type_right at (array t n) f h = tt
-  callee_type_right at (struct s) f h = tt
   callee_type_right at (function t ts) f h = h
+  callee_type_right at t f h = tt
 
   pub callee_through_right : (at : ℕ) (e : Expr) (t : CType) → type_of e ≡ t → IsValue p vars e → Holds CalleeRight (callee_through at e t)
-  callee_through_right at e void q h = tt
-  callee_through_right at e (integer i) q h = tt
-  callee_through_right at e (pointer void) q h = tt
-  callee_through_right at e (pointer (integer i)) q h = tt
-  callee_through_right at e (pointer (pointer t)) q h = tt
-  callee_through_right at e (pointer (array t n)) q h = tt
-  callee_through_right at e (pointer (struct s)) q h = tt
   callee_through_right at e (pointer (function t ts)) q h = (q, h)
-  callee_through_right at e (array t n) q h = tt
-  callee_through_right at e (struct s) q h = tt
-  callee_through_right at e (function t ts) q h = tt
+  callee_through_right at e t q h = tt
 
   -- ## Members
 
@@ -224,18 +194,13 @@ module _ (p : Program) (vars : List CType) where
 
     module _ (below : (xs : List Name) (x : Name) (i : ℕ) → number_among xs x ≡ Some i → i < length xs) (long : (ms : List Member) → length (map name_of_member ms) ≡ length (map type_of_member ms)) where
       member_struct_right : (at s : ℕ) (x : Name) (g : TypedExpression) (m : Struct) → struct_of env s ≡ m → g.ctype ≡ struct s → TypedExpressionRight p vars g → Holds (TypedExpressionRight p vars) (member_of_struct env at x g m)
-      member_struct_right at s x g incomplete e q h = tt
-      member_struct_right at s x g (unknown_struct f fs) e q h = tt
       member_struct_right at s x g (defined_struct ms) e q h =
           member_or_right at s ms g (number_among (map name_of_member ms) x) (defined_at env w.sound s ms e) q (λ k f. (let b = below (map name_of_member ms) x k f in let l = long ms in omega (arith, b, l))) h
+      member_struct_right at s x g m e q h = tt
 
       member_type_right : (at : ℕ) (x : Name) (g : TypedExpression) (t : CType) → g.ctype ≡ t → TypedExpressionRight p vars g → Holds (TypedExpressionRight p vars) (member_of_type env at x g t)
       member_type_right at x g (struct s) q h = member_struct_right at s x g (struct_of env s) refl q h
-      member_type_right at x g void q h = tt
-      member_type_right at x g (integer i) q h = tt
-      member_type_right at x g (pointer t) q h = tt
-      member_type_right at x g (array t n) q h = tt
-      member_type_right at x g (function t ts) q h = tt
+      member_type_right at x g t q h = tt
 
       pub member_right : (at : ℕ) (x : Name) (g : TypedExpression) → TypedExpressionRight p vars g → Holds (TypedExpressionRight p vars) (member_of env at x g)
       member_right at x g h = member_type_right at x g g.ctype refl h
@@ -250,28 +215,17 @@ module _ (p : Program) (vars : List CType) where
   address_form_right at g (behind q) n h = (h.0, h.1, tt, h.3)
 
   address_type_right : (at : ℕ) (g : TypedExpression) (t : CType) → g.ctype ≡ t → TypedExpressionRight p vars g → Holds (TypedExpressionRight p vars) (address_of_type at g t)
-  address_type_right at g void e h = address_form_right at g g.form (subst NotArray (sym e) tt) h
-  address_type_right at g (integer i) e h = address_form_right at g g.form (subst NotArray (sym e) tt) h
-  address_type_right at g (pointer t) e h = address_form_right at g g.form (subst NotArray (sym e) tt) h
   address_type_right at g (array t n) e h = tt
-  address_type_right at g (struct s) e h = address_form_right at g g.form (subst NotArray (sym e) tt) h
-  address_type_right at g (function t ts) e h = address_form_right at g g.form (subst NotArray (sym e) tt) h
+  address_type_right at g t e h = address_form_right at g g.form (subst NotArray (sym e) tt) h
 
   pub address_right : (at place : ℕ) (g : TypedExpression) → TypedExpressionRight p vars g → Holds (TypedExpressionRight p vars) (address at place g)
   address_right at place g h = behind_demand (TypedExpressionRight p vars) (is_place g || is_function g.ctype) 4 place _ (λ _. address_type_right at g g.ctype refl h)
 
   led_right : (structs : Structs) (at : ℕ) (g : TypedExpression) (t : CType) → g.ctype ≡ t → Made structs t → ValueRight p vars g → Holds (TypedExpressionRight p vars) (led_to at g t)
   led_right structs at g (pointer void) e m h = tt
-  led_right structs at g (pointer (integer i)) e m h = (h.0 ∙ e, h.1, tt, subst (λ u. ConstRight p u g.constant) e h.3)
-  led_right structs at g (pointer (pointer t)) e m h = (h.0 ∙ e, h.1, tt, subst (λ u. ConstRight p u g.constant) e h.3)
   led_right structs at g (pointer (array t n)) e m h = absurd m.0
-  led_right structs at g (pointer (struct s)) e m h = (h.0 ∙ e, h.1, tt, subst (λ u. ConstRight p u g.constant) e h.3)
-  led_right structs at g (pointer (function t ts)) e m h = (h.0 ∙ e, h.1, tt, subst (λ u. ConstRight p u g.constant) e h.3)
-  led_right structs at g void e m h = tt
-  led_right structs at g (integer i) e m h = tt
-  led_right structs at g (array t n) e m h = tt
-  led_right structs at g (struct s) e m h = tt
-  led_right structs at g (function t ts) e m h = tt
+  led_right structs at g (pointer t) e m h = (h.0 ∙ e, h.1, tt, subst (λ u. ConstRight p u g.constant) e h.3)
+  led_right structs at g t e m h = tt
 
   pub indirection_right : (structs : Structs) (at : ℕ) (g : TypedExpression) → Made structs g.ctype → ValueRight p vars g → Holds (TypedExpressionRight p vars) (indirection at g)
   indirection_right structs at g m h = led_right structs at g g.ctype refl m h
@@ -280,8 +234,7 @@ module _ (p : Program) (vars : List CType) where
 
   plus_right : (at : ℕ) (g : TypedExpression) (k : Kind) → kind_of g.ctype ≡ k → ValueRight p vars g → Holds (TypedExpressionRight p vars) (plus_of at g k)
   plus_right at g (an_integer i) e h = cast_right p vars (promoted i) g (i, kind_integer g.ctype i e) h
-  plus_right at g (a_pointer t) e h = tt
-  plus_right at g neither e h = tt
+  plus_right at g k e h = tt
 
   fits_unary : (o : UnOp) (i : IntType) (u : CType) → (o ≡ Minus) ⊎ (o ≡ Complement) → u ≡ integer i → IsPromoted i → FitsUnary o (integer i) u
   fits_unary Minus i u o e h = (i, refl, e, h)
@@ -293,8 +246,7 @@ module _ (p : Program) (vars : List CType) where
   operator_right at o g (an_integer i) s e h =
       let c = converted_right p vars (promoted i) g (i, kind_integer g.ctype i e) h in
       (refl, (fits_unary o (promoted i) _ s (c.0.0 ∙ c.1) (promoted_is i), c.0.1), tt, unary_constant p o (promoted i) (converted_to (promoted i) g).ctype (converted_to (promoted i) g).constant c.1 (promoted_is i) s c.0.3)
-  operator_right at o g (a_pointer t) s e h = tt
-  operator_right at o g neither s e h = tt
+  operator_right at o g k s e h = tt
 
   negation_right : (at : ℕ) (g : TypedExpression) → ValueRight p vars g → Holds (TypedExpressionRight p vars) (negation at g)
   negation_right at g h = demand_holds (TypedExpressionRight p vars) (is_scalar g.ctype) 3 at _ (λ s. (refl, ((refl, subst IsScalar (sym h.0) (scalar_is g.ctype s)), h.1), tt, not_constant_right p (integer_constant g)))
@@ -320,10 +272,7 @@ module _ (p : Program) (vars : List CType) where
   pub cast_of_right : (at : ℕ) (t : CType) (g : TypedExpression) → ValueRight p vars g → Holds (TypedExpressionRight p vars) (cast_of at t g)
   cast_of_right at void g h = (refl, (refl, h.1), tt, tt)
   cast_of_right at (integer i) g h = demand_holds (TypedExpressionRight p vars) (is_integer g.ctype) 3 at (cast_to i g) (λ b. cast_right p vars i g (integer_type g.ctype b) h)
-  cast_of_right at (pointer t) g h = tt
-  cast_of_right at (array t n) g h = tt
-  cast_of_right at (struct s) g h = tt
-  cast_of_right at (function t ts) g h = tt
+  cast_of_right at t g h = tt
 
   pub null_cast_right : (at : ℕ) (g : TypedExpression) → Holds (TypedExpressionRight p vars) (null_cast at g)
   null_cast_right at g = demand_holds (TypedExpressionRight p vars) (is_integer g.ctype && is_null g) 3 at (null_of (pointer void)) (λ _. null_right p vars (pointer void) void refl)
@@ -343,8 +292,7 @@ module _ (p : Program) (vars : List CType) where
   comparable_integers : (k : OperatorKind) (u : CType) (i : IntType) → IsComparison k → u ≡ integer i → IsPromoted i → AreComparable p.structs k u
   comparable_integers balanced u i h e r = absurd h
   comparable_integers shift u i h e r = absurd h
-  comparable_integers ordering u i h e r = inl (i, e, r)
-  comparable_integers equality u i h e r = inl (i, e, r)
+  comparable_integers k u i h e r = inl (i, e, r)
 
   compared_right : (o : BinOp) (i : IntType) (a b : TypedExpression) → IsComparison (kind_of_operator o) → IsPromoted i → IsIntegerType a.ctype → IsIntegerType b.ctype → ValueRight p vars a → ValueRight p vars b → TypedExpressionRight p vars (compared_integers o i a b)
   compared_right o i a b m r s t h k =
@@ -395,10 +343,7 @@ module _ (p : Program) (vars : List CType) where
         on_holds (λ _. IsObjectPointer p.structs a.ctype) SumRight (complete env at t) _ (pointer_object at a.ctype t (kind_pointer a.ctype t e) g.0) (λ _ o. (let c = pointer_plus_right t a b (kind_pointer a.ctype t e) o (j, kind_integer b.ctype j f) g.1 h.1 in (c, c)))
     sum_of_right at a b (an_integer i) (a_pointer t) e f g h =
         on_holds (λ _. IsObjectPointer p.structs b.ctype) SumRight (complete env at t) _ (pointer_object at b.ctype t (kind_pointer b.ctype t f) h.0) (λ _ o. (let c = plus_pointer_right t a b (kind_pointer b.ctype t f) o (i, kind_integer a.ctype i e) g.1 h.1 in (c, c)))
-    sum_of_right at a b (an_integer i) neither e f g h = tt
-    sum_of_right at a b (a_pointer t) (a_pointer u) e f g h = tt
-    sum_of_right at a b (a_pointer t) neither e f g h = tt
-    sum_of_right at a b neither l e f g h = tt
+    sum_of_right at a b k l e f g h = tt
 
     pub sum_right : (at : ℕ) (a b : TypedExpression) → IsMadeRight a → IsMadeRight b → Holds SumRight (sum env at a b)
     sum_right at a b g h = sum_of_right at a b (kind_of a.ctype) (kind_of b.ctype) refl refl g h
@@ -412,37 +357,24 @@ module _ (p : Program) (vars : List CType) where
         on_holds (λ _. IsObjectPointer p.structs a.ctype) (TypedExpressionRight p vars) (complete env at t) _ (pointer_object at a.ctype t (kind_pointer a.ctype t e) g.0) (λ _ o. pointer_minus_right t a b (kind_pointer a.ctype t e) o (j, kind_integer b.ctype j f) g.1 h.1)
     minus_of_right at a b (a_pointer t) (a_pointer u) e f g h =
         behind_demand (TypedExpressionRight p vars) (same_type t u) 3 at _ (λ s. on_holds (λ _. IsObjectPointer p.structs a.ctype) (TypedExpressionRight p vars) (complete env at t) _ (pointer_object at a.ctype t (kind_pointer a.ctype t e) g.0) (λ _ o. difference_right a b (two_pointers a b t u e f s) o g.1 h.1))
-    minus_of_right at a b (an_integer i) (a_pointer t) e f g h = tt
-    minus_of_right at a b (an_integer i) neither e f g h = tt
-    minus_of_right at a b (a_pointer t) neither e f g h = tt
-    minus_of_right at a b neither l e f g h = tt
+    minus_of_right at a b k l e f g h = tt
 
     balanced_right : (at : ℕ) (o : BinOp) (a b : TypedExpression) (k l : Kind) → kind_of_operator o ≡ balanced → kind_of a.ctype ≡ k → kind_of b.ctype ≡ l → IsMadeRight a → IsMadeRight b → Holds (TypedExpressionRight p vars) (balanced_of at o a b k l)
     balanced_right at o a b (an_integer i) (an_integer j) q e f g h =
         calculated_right o (common i j) (common i j) a b (subst (λ x. AreOperands x (common i j) (common i j)) (sym q) (common_is i j, refl)) (i, kind_integer a.ctype i e) (j, kind_integer b.ctype j f) g.1 h.1
-    balanced_right at o a b (an_integer i) (a_pointer t) q e f g h = tt
-    balanced_right at o a b (an_integer i) neither q e f g h = tt
-    balanced_right at o a b (a_pointer t) l q e f g h = tt
-    balanced_right at o a b neither l q e f g h = tt
+    balanced_right at o a b k l q e f g h = tt
 
     shift_right : (at : ℕ) (o : BinOp) (a b : TypedExpression) (k l : Kind) → kind_of_operator o ≡ shift → kind_of a.ctype ≡ k → kind_of b.ctype ≡ l → IsMadeRight a → IsMadeRight b → Holds (TypedExpressionRight p vars) (shift_of at o a b k l)
     shift_right at o a b (an_integer i) (an_integer j) q e f g h =
         calculated_right o (promoted i) (promoted j) a b (subst (λ x. AreOperands x (promoted i) (promoted j)) (sym q) (promoted_is i, promoted_is j)) (i, kind_integer a.ctype i e) (j, kind_integer b.ctype j f) g.1 h.1
-    shift_right at o a b (an_integer i) (a_pointer t) q e f g h = tt
-    shift_right at o a b (an_integer i) neither q e f g h = tt
-    shift_right at o a b (a_pointer t) l q e f g h = tt
-    shift_right at o a b neither l q e f g h = tt
+    shift_right at o a b k l q e f g h = tt
 
     ordered_right : (at : ℕ) (o : BinOp) (a b : TypedExpression) (k l : Kind) → kind_of_operator o ≡ ordering → kind_of a.ctype ≡ k → kind_of b.ctype ≡ l → IsMadeRight a → IsMadeRight b → Holds (TypedExpressionRight p vars) (ordered_of env at o a b k l)
     ordered_right at o a b (an_integer i) (an_integer j) q e f g h =
         compared_right o (common i j) a b (subst IsComparison (sym q) tt) (common_is i j) (i, kind_integer a.ctype i e) (j, kind_integer b.ctype j f) g.1 h.1
     ordered_right at o a b (a_pointer t) (a_pointer u) q e f g h =
         behind_demand (TypedExpressionRight p vars) (same_type t u) 3 at _ (λ s. on_holds (λ _. IsObjectPointer p.structs a.ctype) (TypedExpressionRight p vars) (complete env at t) _ (pointer_object at a.ctype t (kind_pointer a.ctype t e) g.0) (λ _ x. pointers_compared o a b (subst (λ y. AreComparable p.structs y a.ctype) (sym q) (inr x)) (two_pointers a b t u e f s) g.1 h.1))
-    ordered_right at o a b (an_integer i) (a_pointer t) q e f g h = tt
-    ordered_right at o a b (an_integer i) neither q e f g h = tt
-    ordered_right at o a b (a_pointer t) (an_integer j) q e f g h = tt
-    ordered_right at o a b (a_pointer t) neither q e f g h = tt
-    ordered_right at o a b neither l q e f g h = tt
+    ordered_right at o a b k l q e f g h = tt
 
     -- operands that are made alike
     abbrev AlikeRight : TypedExpression → TypedExpression → Alike → Type 0
@@ -465,9 +397,7 @@ module _ (p : Program) (vars : List CType) where
     alike_of_right a b (a_pointer t) (a_pointer u) e f g h = pointers_right a b t u (kind_pointer a.ctype t e) (kind_pointer b.ctype u f) g h
     alike_of_right a b (a_pointer t) (an_integer j) e f g h = if_alike a b (is_null b) (alike_pointers a (null_of a.ctype)) unlike (λ _. (g, null_right p vars a.ctype t (kind_pointer a.ctype t e), refl, (t, kind_pointer a.ctype t e))) tt
     alike_of_right a b (an_integer i) (a_pointer u) e f g h = if_alike a b (is_null a) (alike_pointers (null_of b.ctype) b) unlike (λ _. (null_right p vars b.ctype u (kind_pointer b.ctype u f), h, refl, (u, kind_pointer b.ctype u f))) tt
-    alike_of_right a b (an_integer i) neither e f g h = tt
-    alike_of_right a b (a_pointer t) neither e f g h = tt
-    alike_of_right a b neither l e f g h = tt
+    alike_of_right a b k l e f g h = tt
 
     equality_right : (at : ℕ) (o : BinOp) (a b : TypedExpression) (x : Alike) → kind_of_operator o ≡ equality → AlikeRight a b x → ValueRight p vars a → ValueRight p vars b → Holds (TypedExpressionRight p vars) (equality_of at o a b x)
     equality_right at o a b (alike_integers i) q s g h = compared_right o i a b (subst IsComparison (sym q) tt) s.0 s.1 s.2 g h
@@ -508,14 +438,6 @@ module _ (p : Program) (vars : List CType) where
           (integer_part p t (is_integer a.ctype) a.constant (subst (λ u. ConstRight p u a.constant) e g.3)) (integer_part p t (is_integer b.ctype) b.constant (subst (λ u. ConstRight p u b.constant) f h.3)),
     )
 
-    void_is : (t : CType) → is_void t ≡ true → t ≡ void
-    void_is void h = refl
-    void_is (integer i) h = absurd (cc)
-    void_is (pointer t) h = absurd (cc)
-    void_is (array t n) h = absurd (cc)
-    void_is (struct s) h = absurd (cc)
-    void_is (function t ts) h = absurd (cc)
-
     arms_right : (at : ℕ) (c a b : TypedExpression) (x : Alike) → IsScalar (type_of (tree_of c)) × IsValue p vars (tree_of c) → AlikeRight a b x → ValueRight p vars a → ValueRight p vars b → Holds (TypedExpressionRight p vars) (arms_of at c a b x)
     arms_right at c a b (alike_integers i) s k g h =
         let l = converted_right p vars i a k.1 g in
@@ -534,41 +456,22 @@ module _ (p : Program) (vars : List CType) where
     abbrev pub PlaceRight : TypedExpression → Type 0
     PlaceRight g = TypedExpressionRight p vars g × (is_place g ≡ true)
 
-    pub assignable_right : (at : ℕ) (g : TypedExpression) → TypedExpressionRight p vars g → Holds PlaceRight (assignable at g)
-    assignable_right at g h = demand_holds PlaceRight (is_place g) 4 at g (λ e. (h, e))
-
     place_form : (u : CType) (f : Form) (c : Constant) → (not (is_value f) && not (is_function u)) ≡ true → IsScalar u → NotArray u → FormRight p vars u f c → IsPlace p vars (tree_of_form u f) × (type_of (tree_of_form u f) ≡ u)
     place_form u (a_value e) c q s n h = absurd (cc)
     place_form u (a_place e) c q s n h = (h.1, seen_same u (type_of e) n h.0)
     place_form u (behind e) c q s n h = ((target_scalar p.structs u s, h.0, h.1), refl)
 
-    scalar_no_array : (t : CType) → IsScalar t → NotArray t
-    scalar_no_array void h = tt
-    scalar_no_array (integer i) h = tt
-    scalar_no_array (pointer t) h = tt
-    scalar_no_array (array t n) h = absurd h
-    scalar_no_array (struct s) h = tt
-    scalar_no_array (function t ts) h = tt
-
-    scalar_result : (t : CType) → IsScalar t → IsResult t
-    scalar_result void h = absurd h
-    scalar_result (integer i) h = tt
-    scalar_result (pointer t) h = tt
-    scalar_result (array t n) h = absurd h
-    scalar_result (struct s) h = absurd h
-    scalar_result (function t ts) h = absurd h
-
     place_tree : (g : TypedExpression) → PlaceRight g → IsScalar g.ctype → IsPlace p vars (tree_of g) × (type_of (tree_of g) ≡ g.ctype)
-    place_tree g h s = place_form g.ctype g.form g.constant h.1 s (scalar_no_array g.ctype s) h.0
+    place_tree g h s = place_form g.ctype g.form g.constant h.1 s (scalar_not_array g.ctype s) h.0
 
     assignment_right : (at : ℕ) (a b : TypedExpression) → PlaceRight a → ValueRight p vars b → Holds (TypedExpressionRight p vars) (assignment at a b)
     assignment_right at a b g h =
         demand_holds (TypedExpressionRight p vars) (fits a.ctype b) 3 at _ (λ f.
         (let s = fits_scalar p vars a.ctype b f in let t = place_tree a g s in let r = assigned_right p vars a.ctype b f h in
-        (refl, (s, t.1, r.0.0 ∙ r.1, t.0, r.0.1), scalar_result a.ctype s, tt)))
+        (refl, (s, t.1, r.0.0 ∙ r.1, t.0, r.0.1), scalar_result p.structs a.ctype s, tt)))
 
     updated_right : (o : BinOp) (old : Bool) (a : TypedExpression) (e : Expr) → PlaceRight a → IsScalar a.ctype → FitsUpdate p.structs o a.ctype (type_of e) → IsValue p vars e → TypedExpressionRight p vars (updated o old a e)
-    updated_right o old a e g s f h = (let t = place_tree a g s in (refl, (f, t.1, t.0, h), scalar_result a.ctype s, tt))
+    updated_right o old a e g s f h = (let t = place_tree a g s in (refl, (f, t.1, t.0, h), scalar_result p.structs a.ctype s, tt))
 
     update_right : (at : ℕ) (o : BinOp) (old : Bool) (a b : TypedExpression) (k l : Kind) → IsCalculation (kind_of_operator o) → kind_of a.ctype ≡ k → kind_of b.ctype ≡ l → Made (layout_of env) a.ctype → PlaceRight a → ValueRight p vars b → Holds (TypedExpressionRight p vars) (update_of env at o old a b k l)
     update_right at o old a b (an_integer i) (an_integer j) q e f m g h =
@@ -578,11 +481,7 @@ module _ (p : Program) (vars : List CType) where
     update_right at o old a b (a_pointer t) (an_integer j) q e f m g h =
         behind_demand (TypedExpressionRight p vars) (moves o) 3 at _ (λ s. on_holds (λ _. IsObjectPointer p.structs a.ctype) (TypedExpressionRight p vars) (complete env at t) _ (pointer_object at a.ctype t (kind_pointer a.ctype t e) m)
         (λ _ x. updated_right o old a (tree_of b) g (subst IsScalar (sym (kind_pointer a.ctype t e)) tt) (inr (moves_pointers o s, x, subst IsIntegerType (sym h.0) (j, kind_integer b.ctype j f))) h.1))
-    update_right at o old a b (an_integer i) (a_pointer t) q e f m g h = tt
-    update_right at o old a b (an_integer i) neither q e f m g h = tt
-    update_right at o old a b (a_pointer t) (a_pointer u) q e f m g h = tt
-    update_right at o old a b (a_pointer t) neither q e f m g h = tt
-    update_right at o old a b neither l q e f m g h = tt
+    update_right at o old a b k l q e f m g h = tt
 
     pub assignment_by_right : (at code : ℕ) (a b : TypedExpression) → Made (layout_of env) a.ctype → PlaceRight a → ValueRight p vars b → Holds (TypedExpressionRight p vars) (assignment_by env at code a b)
     assignment_by_right at code a b m g h =
@@ -590,8 +489,7 @@ module _ (p : Program) (vars : List CType) where
 
     one_right : (k : Kind) → ValueRight p vars (one_for k)
     one_right (an_integer i) = (refl, value_of_type (common i widths.Int) (pos 1), tt, tt)
-    one_right (a_pointer t) = (refl, (refl, grind arith), tt, tt)
-    one_right neither = (refl, (refl, grind arith), tt, tt)
+    one_right k = (refl, (refl, grind arith), tt, tt)
 
     pub step_right : (at : ℕ) (o : BinOp) (old : Bool) (a : TypedExpression) → IsCalculation (kind_of_operator o) → Made (layout_of env) a.ctype → PlaceRight a → Holds (TypedExpressionRight p vars) (step env at o old a)
     step_right at o old a q m g = update_right at o old a (one_for (kind_of a.ctype)) (kind_of a.ctype) (kind_of (one_for (kind_of a.ctype)).ctype) q refl refl m g (one_right (kind_of a.ctype))

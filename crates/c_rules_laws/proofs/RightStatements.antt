@@ -36,6 +36,7 @@ use Rattle.c_rules_laws.proofs.TypesOfTypedExpressions.{kind_integer}
 use Rattle.c_rules_laws.proofs.RightTypedExpressions.{promoted_is, ValueRight, RightAs, converted_right, fits_scalar, assigned_right, condition_right}
 use Rattle.c_rules_laws.proofs.RightExpressions.{strings_first, strings_rest, ValueBoth, value_right}
 use Rattle.c_rules_laws.proofs.RightDeclarations.{holds_given, placed_first, placed_rest, ahead_both, ahead_none, objects_both, AreKnownSizes, sizes_both, IsStatementTreeRight, right_inside, decl_right, decl_whole, decl_layout, strings_moved}
+use Rattle.c_rules_laws.proofs.MadeTypes.{void_is}
 
 -- ## Labels
 
@@ -67,14 +68,6 @@ labels_right env i (case_label at e ls) =
     any_value (fine x) = tt
     any_value (faulty f fs) = tt
 labels_right env i (default_label at ls) = on_holds (All (IsLabel i)) (All (IsLabel i)) (labels_of env i ls) _ (labels_right env i ls) (λ xs h. All-cons (IsLabel i) Default xs tt h)
-
-void_is : (t : CType) → is_void t ≡ true → t ≡ void
-void_is void h = refl
-void_is (integer i) h = absurd (cc)
-void_is (pointer t) h = absurd (cc)
-void_is (array t n) h = absurd (cc)
-void_is (struct s) h = absurd (cc)
-void_is (function t ts) h = absurd (cc)
 
 module _ (p : Program) (vars : List CType) where
   -- ## Parts of statements
@@ -128,14 +121,12 @@ module _ (p : Program) (vars : List CType) where
   is_true b e = subst IsTrue (sym e) refl
 
   first_whole : (x : First) (env : Env) (next : Next) → (behind_first env next x).whole ≡ env.whole
-  first_whole first_absent env next = refl
-  first_whole (first_expr x) env next = refl
   first_whole (first_decl d) env next = decl_whole p vars d env next
+  first_whole x env next = refl
 
   first_layout : (x : First) (env : Env) (next : Next) → layout_of (behind_first env next x) ≡ layout_of env
-  first_layout first_absent env next = refl
-  first_layout (first_expr x) env next = refl
   first_layout (first_decl d) env next = decl_layout p vars d env next
+  first_layout x env next = refl
 
   first_right : (x : First) (env : Env) (b : Before) (next : Next) → IsFirstLexical x → StringsIn p vars (string_number env b) (held_by_first env next x) → Holds (IsStatementTreeRight p vars typed.Stmts env next (names_of_first x) (λ t. AreFirst p vars t × IsRight p vars (behind_first env next x))) (first_of env b next x)
   first_right first_absent env b next l s = bare_right typed.Stmts env next _ typed.no_stmts (λ w. (tt, w))
@@ -147,17 +138,8 @@ module _ (p : Program) (vars : List CType) where
   first_is_stmt : (r : CType) (k c : Bool) (s : typed.Stmt) → IsFirst p vars s → IsStmt p vars r k c s
   first_is_stmt r k c (typed.evaluate e) h = h
   first_is_stmt r k c (typed.declare x is) h = h
-  first_is_stmt r k c (typed.block ss) h = absurd h
   first_is_stmt r k c typed.empty h = tt
-  first_is_stmt r k c (typed.if_else e s t) h = absurd h
-  first_is_stmt r k c (typed.while_loop e s) h = absurd h
-  first_is_stmt r k c (typed.do_loop s e) h = absurd h
-  first_is_stmt r k c (typed.for_loop f t u s) h = absurd h
-  first_is_stmt r k c (typed.switch_on e gs) h = absurd h
-  first_is_stmt r k c typed.break_off h = absurd h
-  first_is_stmt r k c typed.continue_on h = absurd h
-  first_is_stmt r k c typed.return_void h = absurd h
-  first_is_stmt r k c (typed.return_value e) h = absurd h
+  first_is_stmt r k c s h = absurd h
 
   first_appended : (r : CType) (k c : Bool) (ss us : typed.Stmts) → AreFirst p vars ss → AreStmts p vars r k c us → AreStmts p vars r k c (appended ss us)
   first_appended r k c typed.no_stmts us h g = g
@@ -173,13 +155,9 @@ module _ (p : Program) (vars : List CType) where
 
   -- ## switch
 
-  abbrev SwitchRight : Env → TypedExpression → Type 0
-  SwitchRight env g = (i : IntType) × (kind_of g.ctype ≡ an_integer i) × IsPromoted i × (IsRight p vars env → ValueRight p vars g)
-
   switched_kind_right : (env : Env) (at : ℕ) (g : TypedExpression) (k : Kind) → kind_of g.ctype ≡ k → (IsRight p vars env → ValueRight p vars g) → Holds (λ h. IsRight p vars env → (i : IntType) × (h.ctype ≡ integer i) × IsPromoted i × ValueRight p vars h) (switched_kind at g k)
   switched_kind_right env at g (an_integer i) e f = λ w. (let c = converted_right p vars (promoted i) g (i, kind_integer g.ctype i e) (f w) in (promoted i, c.1, promoted_is i, c.0))
-  switched_kind_right env at g (a_pointer t) e f = tt
-  switched_kind_right env at g neither e f = tt
+  switched_kind_right env at g k e f = tt
 
   label_type_is : (t : CType) (i : IntType) → t ≡ integer i → label_kind (kind_of t) ≡ i
   label_type_is t i e = ap (λ u. label_kind (kind_of u)) e

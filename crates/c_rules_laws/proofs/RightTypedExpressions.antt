@@ -33,7 +33,7 @@ use Rattle.c_rules_laws.specs.MadeTypes.{NotArray, Made}
 use Rattle.c_rules_laws.specs.RightScopes.{Seen, IsThing}
 use Rattle.c_rules_laws.specs.SoundStructs.{AreWithin}
 use Rattle.c_rules_laws.proofs.Holding.{Holds, demand_holds, and_left}
-use Rattle.c_rules_laws.proofs.MadeTypes.{integer_is, scalar_is, type_is, complete_kept}
+use Rattle.c_rules_laws.proofs.MadeTypes.{integer_is, scalar_is, type_is, complete_kept, result_not_array}
 use Rattle.c_rules_laws.proofs.SoundStructs.{object_is, same_flat}
 use Rattle.c_rules_laws.proofs.SizeBounds.{has_cell}
 use Rattle.c_rules_laws.proofs.TypesOfTypedExpressions.{kind_pointer, kind_integer}
@@ -41,92 +41,54 @@ use Rattle.c_rules_laws.proofs.TypesOfTypedExpressions.{kind_pointer, kind_integ
 -- no void and no array
 abbrev pub IsLed : CType → Type 0
 IsLed void = ⊥
-IsLed (integer i) = Unit {0}
-IsLed (pointer t) = Unit {0}
 IsLed (array t n) = ⊥
-IsLed (struct s) = Unit {0}
-IsLed (function t ts) = Unit {0}
+IsLed t = Unit {0}
 
 pub scalar_of : (t : CType) → IsResult t → IsThing t → IsScalar t
 scalar_of void r h = absurd h
 scalar_of (integer i) r h = tt
 scalar_of (pointer t) r h = tt
-scalar_of (array t n) r h = absurd r
-scalar_of (struct s) r h = absurd r
-scalar_of (function t ts) r h = absurd r
+scalar_of t r h = absurd r
 
 pub led_thing : (t : CType) → IsLed t → IsThing t
 led_thing void h = absurd h
-led_thing (integer i) h = tt
-led_thing (pointer t) h = tt
-led_thing (array t n) h = tt
-led_thing (struct s) h = tt
-led_thing (function t ts) h = tt
+led_thing t h = tt
 
 pub complete_thing : (structs : Structs) (t : CType) → IsComplete structs t → IsThing t
 complete_thing structs void h = absurd h
-complete_thing structs (integer i) h = tt
-complete_thing structs (pointer t) h = tt
-complete_thing structs (array t n) h = tt
-complete_thing structs (struct s) h = tt
 complete_thing structs (function t ts) h = absurd h
+complete_thing structs t h = tt
 
 pub scalar_thing : (t : CType) → IsScalar t → IsThing t
-scalar_thing void h = absurd h
 scalar_thing (integer i) h = tt
 scalar_thing (pointer t) h = tt
-scalar_thing (array t n) h = absurd h
-scalar_thing (struct s) h = absurd h
-scalar_thing (function t ts) h = absurd h
+scalar_thing t h = absurd h
 
 pub target_scalar : (structs : Structs) (t : CType) → IsScalar t → IsTarget structs t
-target_scalar structs void h = absurd h
 target_scalar structs (integer i) h = tt
 target_scalar structs (pointer t) h = tt
-target_scalar structs (array t n) h = absurd h
-target_scalar structs (struct s) h = absurd h
-target_scalar structs (function t ts) h = absurd h
+target_scalar structs t h = absurd h
 
 -- what is seen as it is, unless it is an array
 pub seen_same : (t u : CType) → NotArray t → Seen t u → u ≡ t
 seen_same t u n (inl e) = sym e
 seen_same t u n (inr h) = absurd (subst NotArray h.seen n)
 
-pub result_no_array : (t : CType) → IsResult t → NotArray t
-result_no_array void h = tt
-result_no_array (integer i) h = tt
-result_no_array (pointer t) h = tt
-result_no_array (array t n) h = absurd h
-result_no_array (struct s) h = absurd h
-result_no_array (function t ts) h = absurd h
-
 pub has_integer_is : (i : IntType) (t : CType) → has_integer i t ≡ true → t ≡ integer i
-has_integer_is i void h = absurd (cc)
 has_integer_is i (integer j) h = ap integer (sym (integer_is i j h))
-has_integer_is i (pointer t) h = absurd (cc)
-has_integer_is i (array t n) h = absurd (cc)
-has_integer_is i (struct s) h = absurd (cc)
-has_integer_is i (function t ts) h = absurd (cc)
+has_integer_is i t h = absurd (cc)
 
 pub integer_type : (t : CType) → is_integer t ≡ true → IsIntegerType t
-integer_type void h = absurd (cc)
 integer_type (integer i) h = (i, refl)
-integer_type (pointer t) h = absurd (cc)
-integer_type (array t n) h = absurd (cc)
-integer_type (struct s) h = absurd (cc)
-integer_type (function t ts) h = absurd (cc)
+integer_type t h = absurd (cc)
 
 pub promoted_is : (i : IntType) → IsPromoted (promoted i)
 promoted_is Char = tt
-promoted_is Uchar = tt
-promoted_is Int = tt
-promoted_is Uint = tt
+promoted_is i = tt
 
 pub common_is : (i j : IntType) → IsPromoted (common i j)
-common_is Char j = promoted_is j
-common_is Uchar j = promoted_is j
-common_is Int j = promoted_is j
 common_is Uint j = tt
+common_is i j = promoted_is j
 
 module _ (old new : Structs) (w : AreWithin old new) where
   pub complete_in : (t : CType) → IsComplete old t → IsComplete new t
@@ -139,9 +101,8 @@ module _ (old new : Structs) (w : AreWithin old new) where
   object_in t n c = object_is new w.whole t n (complete_in t c)
 
   pub first_in : (ts : List CType) (k : ℕ) → All (IsComplete old) ts → first_cell old ts k ≡ first_cell new ts k
-  first_in [] k c = refl
-  first_in (t ∷ ts) zero c = refl
   first_in (t ∷ ts) (suc k) c = ap₂ (λ x y. x + y) (cells_in t (All-head (IsComplete old) t ts c)) (first_in ts k (All-tail (IsComplete old) t ts c))
+  first_in ts k c = refl
 
 module _ (p : Program) where
   -- ## Constants
@@ -154,23 +115,15 @@ module _ (p : Program) where
 
   pub integer_value : (t : CType) (i : IntType) (x : Value) → t ≡ integer i → HasType p (static_objects p) t x → IsConstant t x
   integer_value t i v.Indeterminate e h = absurd h
-  integer_value t i (v.Int z) e h = h
-  integer_value t i (v.Uint n) e h = h
-  integer_value t i (v.Char z) e h = h
-  integer_value t i (v.Uchar n) e h = h
-  integer_value t i v.Null e h = h
   integer_value t i (v.Func f) e h = absurd (let q : integer i ≡ pointer h.0 = sym e ∙ h.1 in cc)
   integer_value t i (v.At q) e h = absurd (let q : integer i ≡ pointer h.0 = sym e ∙ h.1 in cc)
+  integer_value t i x e h = h
 
   pub constant_value : (t : CType) (x : Value) → IsConstant t x → HasType p (static_objects p) t x
   constant_value t v.Indeterminate h = absurd h
-  constant_value t (v.Int z) h = h
-  constant_value t (v.Uint n) h = h
-  constant_value t (v.Char z) h = h
-  constant_value t (v.Uchar n) h = h
-  constant_value t v.Null h = h
   constant_value t (v.Func f) h = absurd h
   constant_value t (v.At q) h = absurd h
+  constant_value t x h = h
 
   answer_right : (t : CType) (a : Answer Value) → IsAnswer t a → ConstRight t (answered a)
   answer_right t (operators.gives x) h = constant_value t x h
@@ -181,28 +134,23 @@ module _ (p : Program) where
   given_right t (operators.undefined k) h = tt
 
   pub converted_constant : (i : IntType) (t : CType) (j : IntType) (c : Constant) → t ≡ integer j → ConstRight t c → ConstRight (integer i) (constant_converted i c)
-  converted_constant i t j not_constant e h = tt
-  converted_constant i t j undefined e h = tt
   converted_constant i t j (known x) e h = given_right (integer i) (convert i x) (converted i t j x e (integer_value t j x e h))
+  converted_constant i t j c e h = tt
 
   pub truth_right : (b : Bool) → ConstRight int (answered (truth b))
   truth_right true = (refl, grind arith)
   truth_right false = (refl, grind arith)
 
   not_right : (x : Value) → ConstRight int (answered (unary Not x))
-  not_right v.Indeterminate = tt
   not_right (v.Int z) = truth_right _
   not_right (v.Uint n) = truth_right _
   not_right (v.Char z) = truth_right _
   not_right (v.Uchar n) = truth_right _
-  not_right v.Null = tt
-  not_right (v.Func f) = tt
-  not_right (v.At q) = tt
+  not_right x = tt
 
   pub not_constant_right : (c : Constant) → ConstRight int (constant_unary Not c)
-  not_constant_right not_constant = tt
-  not_constant_right undefined = tt
   not_constant_right (known x) = not_right x
+  not_constant_right c = tt
 
   negated_right : (op : UnOp) (i : IntType) (z : ℤ) → IsPromoted i → (op ≡ Minus) ⊎ (op ≡ Complement) → IsAnswer (integer i) (negated op i z)
   negated_right Minus i z h o = settled i _ h
@@ -213,80 +161,49 @@ module _ (p : Program) where
   unary_right : (op : UnOp) (i : IntType) (x : Value) → IsPromoted i → (op ≡ Minus) ⊎ (op ≡ Complement) → IsConstant (integer i) x → ConstRight (integer i) (answered (unary op x))
   unary_right Not i x h (inl e) c = absurd (cc)
   unary_right Not i x h (inr e) c = absurd (cc)
-  unary_right Minus i v.Indeterminate h o c = tt
   unary_right Minus i (v.Int z) h o c = (let e : integer Int ≡ integer i = sym c.0 in subst (λ t. ConstRight t (answered (negated Minus Int z))) e (answer_right (integer Int) (negated Minus Int z) (negated_right Minus Int z tt (inl refl))))
   unary_right Minus i (v.Uint n) h o c = (let e : integer Uint ≡ integer i = sym c.0 in subst (λ t. ConstRight t (answered (negated Minus Uint (pos n)))) e (answer_right (integer Uint) (negated Minus Uint (pos n)) (negated_right Minus Uint (pos n) tt (inl refl))))
-  unary_right Minus i (v.Char z) h o c = tt
-  unary_right Minus i (v.Uchar n) h o c = tt
-  unary_right Minus i v.Null h o c = tt
-  unary_right Minus i (v.Func f) h o c = tt
-  unary_right Minus i (v.At q) h o c = tt
-  unary_right Complement i v.Indeterminate h o c = tt
   unary_right Complement i (v.Int z) h o c = (let e : integer Int ≡ integer i = sym c.0 in subst (λ t. ConstRight t (answered (negated Complement Int z))) e (answer_right (integer Int) (negated Complement Int z) (negated_right Complement Int z tt (inr refl))))
   unary_right Complement i (v.Uint n) h o c = (let e : integer Uint ≡ integer i = sym c.0 in subst (λ t. ConstRight t (answered (negated Complement Uint (pos n)))) e (answer_right (integer Uint) (negated Complement Uint (pos n)) (negated_right Complement Uint (pos n) tt (inr refl))))
-  unary_right Complement i (v.Char z) h o c = tt
-  unary_right Complement i (v.Uchar n) h o c = tt
-  unary_right Complement i v.Null h o c = tt
-  unary_right Complement i (v.Func f) h o c = tt
-  unary_right Complement i (v.At q) h o c = tt
+  unary_right op i x h o c = tt
 
   pub unary_constant : (op : UnOp) (i : IntType) (t : CType) (c : Constant) → t ≡ integer i → IsPromoted i → (op ≡ Minus) ⊎ (op ≡ Complement) → ConstRight t c → ConstRight (integer i) (constant_unary op c)
-  unary_constant op i t not_constant e h o k = tt
-  unary_constant op i t undefined e h o k = tt
   unary_constant op i t (known x) e h o k = unary_right op i x h o (subst (λ t. IsConstant t x) e (integer_value t i x e k))
+  unary_constant op i t c e h o k = tt
 
   pub binary_constant : (op : BinOp) (t u w : CType) (i j : IntType) (a b : Constant) → u ≡ integer i → w ≡ integer j → FitsArithmetic op t u w → ConstRight u a → ConstRight w b → ConstRight t (constant_binary op a b)
-  binary_constant op t u w i j not_constant b e f h k l = tt
-  binary_constant op t u w i j undefined not_constant e f h k l = tt
-  binary_constant op t u w i j undefined undefined e f h k l = tt
-  binary_constant op t u w i j undefined (known y) e f h k l = tt
-  binary_constant op t u w i j (known x) not_constant e f h k l = tt
-  binary_constant op t u w i j (known x) undefined e f h k l = tt
   binary_constant op t u w i j (known x) (known y) e f h k l = answer_right t (binary op x y) (arithmetic_fits op t u w x y h (integer_value u i x e k) (integer_value w j y f l))
+  binary_constant op t u w i j a not_constant e f h k l = tt
+  binary_constant op t u w i j a b e f h k l = tt
 
   truth_constant : (c : Constant) → ConstRight int (constant_truth c)
-  truth_constant not_constant = tt
-  truth_constant undefined = tt
   truth_constant (known x) = truth_right _
+  truth_constant c = tt
 
   if_constant : (t : CType) (b : Bool) (c d : Constant) → ConstRight t c → ConstRight t d → ConstRight t (if b then c else d)
   if_constant t true c d h k = h
   if_constant t false c d h k = k
 
   pub and_constant : (a b : Constant) → ConstRight int (constant_and a b)
-  and_constant not_constant b = tt
-  and_constant undefined not_constant = tt
-  and_constant undefined undefined = tt
-  and_constant undefined (known y) = tt
-  and_constant (known x) not_constant = tt
   and_constant (known x) undefined = if_constant int (is_zero x) (answered (truth false)) (constant_truth undefined) (truth_right false) tt
   and_constant (known x) (known y) = if_constant int (is_zero x) (answered (truth false)) (constant_truth (known y)) (truth_right false) (truth_constant (known y))
+  and_constant a not_constant = tt
+  and_constant a b = tt
 
   pub or_constant : (a b : Constant) → ConstRight int (constant_or a b)
-  or_constant not_constant b = tt
-  or_constant undefined not_constant = tt
-  or_constant undefined undefined = tt
-  or_constant undefined (known y) = tt
-  or_constant (known x) not_constant = tt
   or_constant (known x) undefined = if_constant int (is_zero x) (constant_truth undefined) (answered (truth true)) tt (truth_right true)
   or_constant (known x) (known y) = if_constant int (is_zero x) (constant_truth (known y)) (answered (truth true)) (truth_constant (known y)) (truth_right true)
+  or_constant a not_constant = tt
+  or_constant a b = tt
 
   pub conditional_constant : (t : CType) (c a b : Constant) → ConstRight t a → ConstRight t b → ConstRight t (constant_conditional c a b)
-  conditional_constant t not_constant a b h k = tt
-  conditional_constant t undefined not_constant b h k = tt
-  conditional_constant t undefined undefined not_constant h k = tt
-  conditional_constant t undefined undefined undefined h k = tt
-  conditional_constant t undefined undefined (known y) h k = tt
-  conditional_constant t undefined (known x) not_constant h k = tt
-  conditional_constant t undefined (known x) undefined h k = tt
-  conditional_constant t undefined (known x) (known y) h k = tt
-  conditional_constant t (known z) not_constant b h k = tt
-  conditional_constant t (known z) undefined not_constant h k = tt
   conditional_constant t (known z) undefined undefined h k = if_constant t (is_zero z) undefined undefined tt tt
   conditional_constant t (known z) undefined (known y) h k = if_constant t (is_zero z) (known y) undefined k tt
-  conditional_constant t (known z) (known x) not_constant h k = tt
   conditional_constant t (known z) (known x) undefined h k = if_constant t (is_zero z) undefined (known x) tt h
   conditional_constant t (known z) (known x) (known y) h k = if_constant t (is_zero z) (known y) (known x) k h
+  conditional_constant t c not_constant b h k = tt
+  conditional_constant t c a not_constant h k = tt
+  conditional_constant t c a b h k = tt
 
   pub integer_part : (t : CType) (b : Bool) (c : Constant) → ConstRight t c → ConstRight t (integer_constant_if b c)
   integer_part t true c h = h
@@ -350,16 +267,8 @@ module _ (p : Program) where
 
   pub member_constant : (t u : CType) (from width : ℕ) (c : Constant) → ConstRight (pointer t) c → IsObject p.structs u → width ≡ cells p.structs u
       → Lies (flat p.structs t) from (flat p.structs u) → ConstRight (pointer u) (constant_member from width c)
-  member_constant t u from width not_constant h o e l = tt
-  member_constant t u from width undefined h o e l = tt
-  member_constant t u from width (known v.Indeterminate) h o e l = tt
-  member_constant t u from width (known (v.Int z)) h o e l = tt
-  member_constant t u from width (known (v.Uint n)) h o e l = tt
-  member_constant t u from width (known (v.Char z)) h o e l = tt
-  member_constant t u from width (known (v.Uchar n)) h o e l = tt
-  member_constant t u from width (known v.Null) h o e l = tt
-  member_constant t u from width (known (v.Func f)) h o e l = tt
   member_constant t u from width (known (v.At q)) h o e l = part_right t u q from width 1 (leads_to t q h) o e (lies_once (flat p.structs t) (flat p.structs u) from l)
+  member_constant t u from width c h o e l = tt
 
   quotient : (n c : ℕ) → 1 ≤ c → n * c / c ≡ n
   quotient n c h = mul-div_cancel n (omega (arith, h))
@@ -372,16 +281,8 @@ module _ (p : Program) where
       (part_right (array u n) u q 0 width n h (element_object p.structs u n h.object) e (lies_whole (repeat n (flat p.structs u))))
 
   pub decayed_constant : (u : CType) (n width : ℕ) (c : Constant) → ConstRight (pointer (array u n)) c → 1 ≤ cells p.structs u → width ≡ cells p.structs u → ConstRight (pointer u) (constant_decayed width c)
-  decayed_constant u n width not_constant h o e = tt
-  decayed_constant u n width undefined h o e = tt
-  decayed_constant u n width (known v.Indeterminate) h o e = tt
-  decayed_constant u n width (known (v.Int z)) h o e = tt
-  decayed_constant u n width (known (v.Uint k)) h o e = tt
-  decayed_constant u n width (known (v.Char z)) h o e = tt
-  decayed_constant u n width (known (v.Uchar k)) h o e = tt
-  decayed_constant u n width (known v.Null) h o e = tt
-  decayed_constant u n width (known (v.Func f)) h o e = tt
   decayed_constant u n width (known (v.At q)) h o e = decayed_at u n width q (leads_to (array u n) q h) o e
+  decayed_constant u n width c h o e = tt
 
   at_index : (t : CType) (q : Pointer) (k : ℕ) → Leads t q → k ≤ q.elements → HasType p (static_objects p) (pointer t) (v.At (record q { index = k }))
   at_index t q k h l = (t, refl, record { object = h.object; all = h.all; known = h.known; within = l; wide = h.wide; lies = h.lies })
@@ -391,34 +292,9 @@ module _ (p : Program) where
   moved_right t q (negsuc k) h = if_part (pointer t) (nat_le (suc k) q.index) _ (λ b. at_index t q (q.index - suc k) h (let w = h.within in omega (arith, w)))
 
   pub moved_constant : (t : CType) (c : Constant) (sign : ℤ → ℤ) (k : Constant) → ConstRight (pointer t) c → ConstRight (pointer t) (constant_moved c sign k)
-  moved_constant t not_constant sign k h = tt
-  moved_constant t undefined sign not_constant h = tt
-  moved_constant t undefined sign undefined h = tt
-  moved_constant t undefined sign (known y) h = tt
-  moved_constant t (known v.Indeterminate) sign not_constant h = tt
-  moved_constant t (known v.Indeterminate) sign undefined h = tt
-  moved_constant t (known v.Indeterminate) sign (known y) h = tt
-  moved_constant t (known (v.Int z)) sign not_constant h = tt
-  moved_constant t (known (v.Int z)) sign undefined h = tt
-  moved_constant t (known (v.Int z)) sign (known y) h = tt
-  moved_constant t (known (v.Uint n)) sign not_constant h = tt
-  moved_constant t (known (v.Uint n)) sign undefined h = tt
-  moved_constant t (known (v.Uint n)) sign (known y) h = tt
-  moved_constant t (known (v.Char z)) sign not_constant h = tt
-  moved_constant t (known (v.Char z)) sign undefined h = tt
-  moved_constant t (known (v.Char z)) sign (known y) h = tt
-  moved_constant t (known (v.Uchar n)) sign not_constant h = tt
-  moved_constant t (known (v.Uchar n)) sign undefined h = tt
-  moved_constant t (known (v.Uchar n)) sign (known y) h = tt
-  moved_constant t (known v.Null) sign not_constant h = tt
-  moved_constant t (known v.Null) sign undefined h = tt
-  moved_constant t (known v.Null) sign (known y) h = tt
-  moved_constant t (known (v.Func f)) sign not_constant h = tt
-  moved_constant t (known (v.Func f)) sign undefined h = tt
-  moved_constant t (known (v.Func f)) sign (known y) h = tt
-  moved_constant t (known (v.At q)) sign not_constant h = tt
-  moved_constant t (known (v.At q)) sign undefined h = tt
   moved_constant t (known (v.At q)) sign (known y) h = moved_right t q (sign (number_of y)) (leads_to t q h)
+  moved_constant t c sign not_constant h = tt
+  moved_constant t c sign k h = tt
 
 module _ (p : Program) (vars : List CType) where
   -- ## What is given
@@ -443,7 +319,7 @@ module _ (p : Program) (vars : List CType) where
 
   scalar_loaded : (t : CType) (f : Form) (c : Constant) → IsResult t → FormRight t f c → ValueRight (loaded (record { ctype = t; form = f; constant = c }) f)
   scalar_loaded t (a_value e) c r h = h
-  scalar_loaded t (a_place e) c r h = (refl, (scalar_of t r h.2, seen_same t (type_of e) (result_no_array t r) h.0, h.1), r, tt)
+  scalar_loaded t (a_place e) c r h = (refl, (scalar_of t r h.2, seen_same t (type_of e) (result_not_array t r) h.0, h.1), r, tt)
   scalar_loaded t (behind q) c r h =
       let s = scalar_of t r (led_thing t h.2) in
       (refl, (s, refl, (target_scalar p.structs t s, h.0, h.1)), r, tt)
@@ -470,13 +346,11 @@ module _ (p : Program) (vars : List CType) where
 
   module _ (env : Env) (w : AreWithin (layout_of env) p.structs) where
     valued_as_right : (at : ℕ) (g : TypedExpression) (t : CType) → g.ctype ≡ t → Made (layout_of env) t → TypedExpressionRight g → Holds ValueRight (valued_as env at g t)
-    valued_as_right at g void e m h = scalar_loaded g.ctype g.form g.constant (subst IsResult (sym e) tt) h
-    valued_as_right at g (integer i) e m h = scalar_loaded g.ctype g.form g.constant (subst IsResult (sym e) tt) h
-    valued_as_right at g (pointer t) e m h = scalar_loaded g.ctype g.form g.constant (subst IsResult (sym e) tt) h
     valued_as_right at g (array t n) e m h =
         array_decayed g.ctype g.form g.constant t n (cells (layout_of env) t) e (has_cell p.structs w.whole t (complete_in (layout_of env) p.structs w t m.1)) (cells_in (layout_of env) p.structs w t m.1) h
     valued_as_right at g (struct s) e m h = tt
     valued_as_right at g (function t ts) e m h = demand_holds ValueRight (few_parts (pointer g.ctype)) 13 at _ (λ _. function_decayed g.ctype g.form g.constant t ts e h)
+    valued_as_right at g t e m h = scalar_loaded g.ctype g.form g.constant (subst IsResult (sym e) tt) h
 
     pub valued_right : (at : ℕ) (g : TypedExpression) → Made (layout_of env) g.ctype → TypedExpressionRight g → Holds ValueRight (valued env at g)
     valued_right at g m h = valued_as_right at g g.ctype refl m h

@@ -90,10 +90,9 @@ plain_counted b g h = (h, fits_none b.sites b.cells)
 
 meant_sites : (env : Env) (at : ℕ) (x : Name) (m : Meaning) → Holds (Gathers all_sites []) (meant env at x m)
 meant_sites env at x (a_static seen whole d) = after_part (Gathers all_sites []) (used env.context at (object_number env x)) _ (λ _. (refl, λ _. refl))
-meant_sites env at x (a_local n seen whole) = (refl, λ _. refl)
 meant_sites env at x (a_function t d) = after_part (Gathers all_sites []) (function_value_number env at x) _ (λ _. (refl, λ _. refl))
-meant_sites env at x (an_enumerator z) = (refl, λ _. refl)
 meant_sites env at x (unknown f fs) = tt
+meant_sites env at x m = (refl, λ _. refl)
 
 bound_sites : (env : Env) (at : ℕ) (x : Name) (o : Option Binding) → Holds (Gathers all_sites []) (bound env at x o)
 bound_sites env at x None = tt
@@ -109,8 +108,7 @@ string_counted evaluated e at n b w =
     (demand_holds (λ _. suc (length w) ≤ 65536) (nat_le (suc (length w)) 65536) 13 at met (λ q. leb-true (suc (length w)) 65536 q))
     (demand_holds (λ _. b.cells + suc (length w) ≤ 1048576) (nat_le (b.cells + suc (length w)) 1048576) 13 at met (λ q. leb-true (b.cells + suc (length w)) 1048576 q)) (λ _ _ h k. (h, k)))
     (λ _ h. ((refl, λ _. refl), record { sites_fit = λ l. omega (arith, l); cells_fit = λ l. (let k = h.1 in omega (arith, k)); short = (h.0, tt) }))
-string_counted sized e at n b w = absurd (cc)
-string_counted folded e at n b w = absurd (cc)
+string_counted c e at n b w = absurd (cc)
 
 few_calls : (m : Mode) (n : ℕ) → n < most_calls m → suc n ≤ 30000
 few_calls Plain n h = omega (arith, h)
@@ -118,8 +116,7 @@ few_calls Instrumented n h = omega (arith, h)
 
 site_counted : (c : Context) → c ≡ evaluated → (m : Mode) (n at : ℕ) → Holds (λ k. (k ≡ n) × (suc n ≤ 30000)) (site_in c (most_calls m) n at)
 site_counted evaluated e m n at = demand_holds (λ k. (k ≡ n) × (suc n ≤ 30000)) (nat_lt n (most_calls m)) 13 at n (λ q. (refl, few_calls m n (ltb-true n (most_calls m) q)))
-site_counted sized e m n at = absurd (cc)
-site_counted folded e m n at = absurd (cc)
+site_counted c e m n at = absurd (cc)
 
 pub value_at_counted : (env : Env) (place : ℕ) (b : Before) (n : ℕ) (ws : List (List ℕ)) (r : Checked TypedExpression) → Holds (Counted b n ws) r → Holds (Counted b n ws) (value_at env place r)
 value_at_counted env place b n ws r h = on_holds (Counted b n ws) (Counted b n ws) r (valued env place) h (λ g k. holds_with (Gathers all_sites (Span b n)) (FitsAt b n ws) (valued env place g) k.1 (valued_gathered all_sites env place (Span b n) g k.0))
@@ -144,10 +141,7 @@ by_value_sites at xs r h = on_holds (Gathers all_sites xs) (CalleeGathers all_si
 
 callee_meant_sites : (env : Env) (at place : ℕ) (x : Name) (r : Checked TypedExpression) (m : Meaning) → Holds (Gathers all_sites []) r → Holds (CalleeGathers all_sites []) (callee_meant env at place x r m)
 callee_meant_sites env at place x r (a_function t d) h = after_part (CalleeGathers all_sites []) (used env.context place (function_number env x)) (callee_of_type place t) (λ f. callee_type_gathered all_sites place t f)
-callee_meant_sites env at place x r (a_static seen whole d) h = by_value_sites at [] r h
-callee_meant_sites env at place x r (a_local n seen whole) h = by_value_sites at [] r h
-callee_meant_sites env at place x r (an_enumerator z) h = by_value_sites at [] r h
-callee_meant_sites env at place x r (unknown f fs) h = by_value_sites at [] r h
+callee_meant_sites env at place x r m h = by_value_sites at [] r h
 
 callee_bound_sites : (env : Env) (at place : ℕ) (x : Name) (r : Checked TypedExpression) (o : Option Binding) → Holds (Gathers all_sites []) r → Holds (CalleeGathers all_sites []) (callee_bound env at place x r o)
 callee_bound_sites env at place x r None h = by_value_sites at [] r h

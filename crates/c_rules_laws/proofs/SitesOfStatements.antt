@@ -56,9 +56,8 @@ decl_context : (env : Env) (next : Next) (d : Decl) → env.context ≡ evaluate
 decl_context env next (decl at class s ps) e = parts_context env next at s ps e
 
 first_context : (env : Env) (next : Next) (x : First) → env.context ≡ evaluated → (behind_first env next x).context ≡ evaluated
-first_context env next first_absent e = e
-first_context env next (first_expr x) e = e
 first_context env next (first_decl d) e = decl_context env next d e
+first_context env next x e = e
 
 abbrev pub StmtSpan : Before → ℕ → List (List ℕ) → StatementTree typed.Stmt → Type 0
 StmtSpan b n ws p = IsSpan b n ws (sites_of_stmt p.tree)
@@ -77,11 +76,9 @@ mutual
   held_named (list at is) env x m t = turn_named is env x m (slots env t)
 
   turn_named : (is : syntax.Inits) (env : Env) (x : Name) (m : Meaning) (s : Slots) → held_in_turn (with_name env x m) s is ≡ held_in_turn env s is
-  turn_named syntax.no_inits env x m s = refl
-  turn_named (syntax.more_inits i is) env x m (copies zero t) = refl
   turn_named (syntax.more_inits i is) env x m (copies (suc n) t) = ap₂ (λ v w. v ++ w) (held_named i env x m t) (turn_named is env x m (copies n t))
-  turn_named (syntax.more_inits i is) env x m (each []) = refl
   turn_named (syntax.more_inits i is) env x m (each (t ∷ ts)) = ap₂ (λ v w. v ++ w) (held_named i env x m t) (turn_named is env x m (each ts))
+  turn_named is env x m s = refl
 
 pub held_by_named_same : (i : MaybeInit) (env : Env) (x : Name) (m : Meaning) (t : CType) → held_by (with_name env x m) t i ≡ held_by env t i
 held_by_named_same no_init env x m t = refl
@@ -152,8 +149,7 @@ returned_span (there x) env c b at t =
 
 switched_sites : (at : ℕ) (xs : List ℕ) (g : TypedExpression) (k : Kind) → Gathers all_sites xs g → Holds (Gathers all_sites xs) (switched_kind at g k)
 switched_sites at xs g (an_integer i) h = converted_gathered all_sites xs (promoted i) g h
-switched_sites at xs g (a_pointer t) h = tt
-switched_sites at xs g neither h = tt
+switched_sites at xs g k h = tt
 
 sites_appended : (ss us : typed.Stmts) → sites_of_stmts (appended ss us) ≡ sites_of_stmts ss ++ sites_of_stmts us
 sites_appended typed.no_stmts us = refl

@@ -7,6 +7,7 @@ use Rattle.c_tree.specs.Layout.{Structs, members_of, repeat, flat_with, flat_all
 use Rattle.c_tree.specs.Operands.{IsComplete}
 use Rattle.c_tree.specs.Program.{IsBelow}
 use Rattle.c_meaning_laws.proofs.Places.{length_repeat, struct_is}
+use Rattle.c_meaning_laws.proofs.Differences.{has_cell as some_cell}
 use Rattle.c_rules_laws.specs.SoundStructs.{AreSound}
 use Rattle.c_rules_laws.proofs.SoundStructs.{are_structs}
 use Rattle.c_rules.proofs.Greater.{greater}
@@ -34,9 +35,6 @@ module _ (f : ℕ → Extent) (g : ℕ → List CType) (h : (s : ℕ) → IsWith
   with_within void = record { size = omega arith; aligned = inl refl }
   with_within (integer Char) = record { size = omega arith; aligned = inl refl }
   with_within (integer Uchar) = record { size = omega arith; aligned = inl refl }
-  with_within (integer Int) = record { size = omega arith; aligned = inr refl }
-  with_within (integer Uint) = record { size = omega arith; aligned = inr refl }
-  with_within (pointer t) = record { size = omega arith; aligned = inr refl }
   with_within (array t n) = record {
     size = (let s = (with_within t).size in let l = length_repeat n (flat_with g t) in subst (λ k. n * (extent_with f t).size ≤ 4 * k) (sym l) (times n (extent_with f t).size (length (flat_with g t)) s));
     aligned = (with_within t).aligned;
@@ -47,6 +45,7 @@ module _ (f : ℕ → Extent) (g : ℕ → List CType) (h : (s : ℕ) → IsWith
       times (suc n) a c l = (let r = times n a c l in omega (arith, r, l))
   with_within (struct s) = h s
   with_within (function t ts) = record { size = omega arith; aligned = inl refl }
+  with_within t = record { size = omega arith; aligned = inr refl }
 
   after_within : (e : Extent) (n : ℕ) (ts : List CType) → IsWithin e n → IsWithin (extent_after f e ts) (n + length (flat_all_with g ts))
   after_within e n [] w = subst (IsWithin e) (let q : n ≡ n + 0 = omega arith in q) w
@@ -69,31 +68,5 @@ size_bound structs t = (with_within (struct_extent structs (length structs)) (st
 
 -- ## An object has a cell
 
-module _ (structs : Structs) (sound : AreSound structs) where
-  each_cell : (r : ℕ) → ((u : ℕ) (ts : List CType) → slice_get structs u ≡ Some (Some ts) → sound.rank u < r → 1 ≤ length (struct_cells structs u)) → (t : CType) → IsComplete structs t → IsBelow sound.rank r t → 1 ≤ cells structs t
-  each_cell r f void c b = absurd c
-  each_cell r f (integer i) c b = omega arith
-  each_cell r f (pointer t) c b = omega arith
-  each_cell r f (array t zero) c b = absurd (omega (arith, c.0))
-  each_cell r f (array t (suc k)) c b = (let a = length-append (flat structs t) (repeat k (flat structs t)) in let e = each_cell r f t c.1 b in omega (arith, a, e))
-  each_cell r f (struct u) c b = f u c.0 c.1 b
-  each_cell r f (function t us) c b = absurd c
-
-  first_cells : (r : ℕ) → ((u : ℕ) (ts : List CType) → slice_get structs u ≡ Some (Some ts) → sound.rank u < r → 1 ≤ length (struct_cells structs u)) → (us : List CType) → 1 ≤ length us → All (IsComplete structs) us → All (IsBelow sound.rank r) us → 1 ≤ length (flat_all structs us)
-  first_cells r f [] m c b = absurd (omega (arith, m))
-  first_cells r f (u ∷ us) m c b = (let a = length-append (flat structs u) (flat_all structs us) in let e = each_cell r f u (All-head (IsComplete structs) u us c) (All-head (IsBelow sound.rank r) u us b) in omega (arith, a, e))
-
-  some_cells : (n : ℕ) (s : ℕ) (ts : List CType) → slice_get structs s ≡ Some (Some ts) → sound.rank s < n → 1 ≤ length (struct_cells structs s)
-  some_cells zero s ts e l = absurd (omega (arith, l))
-  some_cells (suc n) s ts e l =
-      subst (λ xs. 1 ≤ length xs) (sym (struct_is structs (are_structs structs sound) s ts e))
-      (first_cells (sound.rank s) (λ u us q k. some_cells n u us q (omega (arith, l, k))) ts (sound.members s ts e) (sound.complete s ts e) (sound.below s ts e))
-
-  pub has_cell : (t : CType) → IsComplete structs t → 1 ≤ cells structs t
-  has_cell void c = absurd c
-  has_cell (integer i) c = omega arith
-  has_cell (pointer t) c = omega arith
-  has_cell (array t zero) c = absurd (omega (arith, c.0))
-  has_cell (array t (suc k)) c = (let a = length-append (flat structs t) (repeat k (flat structs t)) in let r = has_cell t c.1 in omega (arith, a, r))
-  has_cell (struct u) c = some_cells (suc (sound.rank u)) u c.0 c.1 (omega arith)
-  has_cell (function t us) c = absurd c
+pub has_cell : (structs : Structs) → AreSound structs → (t : CType) → IsComplete structs t → 1 ≤ cells structs t
+has_cell structs sound t c = some_cell structs (are_structs structs sound) t c

@@ -42,12 +42,11 @@ struct_few structs h s ts e = subst (λ xs. length xs ≤ 65536) (sym (struct_is
 
 -- what is complete, and no array, is an object
 pub object_is : (structs : Structs) → AreSound structs → (t : CType) → NotArray t → IsComplete structs t → IsObject structs t
-object_is structs h void n c = absurd c
 object_is structs h (integer i) n c = record { complete = tt; few = omega arith }
 object_is structs h (pointer t) n c = record { complete = tt; few = omega arith }
 object_is structs h (array t k) n c = absurd n
 object_is structs h (struct s) n c = record { complete = c; few = struct_few structs h s c.0 c.1 }
-object_is structs h (function t ts) n c = absurd c
+object_is structs h t n c = absurd c
 
 pub grows_same : (structs : Structs) → Grows structs structs
 grows_same structs = record { kept = λ s ts e. e; long = refl }
@@ -59,12 +58,11 @@ grows_on a b c h k = record { kept = λ s ts e. k.kept s ts (h.kept s ts e); lon
 
 module _ (old new : Structs) (sound : AreSound old) (kept : (s : ℕ) (ts : List CType) → slice_get old s ≡ Some (Some ts) → slice_get new s ≡ Some (Some ts)) where
   same_with : (f g : ℕ → List CType) → ((s : ℕ) (ts : List CType) → slice_get old s ≡ Some (Some ts) → g s ≡ f s) → (t : CType) → IsComplete old t → flat_with g t ≡ flat_with f t
-  same_with f g h void c = absurd c
   same_with f g h (integer i) c = refl
   same_with f g h (pointer t) c = refl
   same_with f g h (array t n) c = ap (repeat n) (same_with f g h t c.1)
   same_with f g h (struct s) c = h s c.0 c.1
-  same_with f g h (function t ts) c = absurd c
+  same_with f g h t c = absurd c
 
   same_all_with : (f g : ℕ → List CType) → ((s : ℕ) (ts : List CType) → slice_get old s ≡ Some (Some ts) → g s ≡ f s) → (ts : List CType) → All (IsComplete old) ts → flat_all_with g ts ≡ flat_all_with f ts
   same_all_with f g h [] c = refl
@@ -141,20 +139,18 @@ module _ (old : Structs) (sound : AreSound old) (n : ℕ) (ts : List CType) (emp
   ]
 
   below_count : (t : CType) → IsComplete old t → IsBelow new_rank (defined_among old) t
-  below_count void c = absurd c
   below_count (integer i) c = tt
   below_count (pointer t) c = tt
   below_count (array t k) c = below_count t c.1
   below_count (struct s) c = subst (λ k. k < defined_among old) (sym (rank_there s (other_place s c.0 c.1))) (sound.ranked s c.0 c.1)
-  below_count (function t us) c = absurd c
+  below_count t c = absurd c
 
   below_rank : (r : ℕ) (t : CType) → IsComplete old t × IsBelow sound.rank r t → IsBelow new_rank r t
-  below_rank r void c = absurd c.0
   below_rank r (integer i) c = tt
   below_rank r (pointer t) c = tt
   below_rank r (array t k) c = below_rank r t (c.0.1, c.1)
   below_rank r (struct s) c = subst (λ k. k < r) (sym (rank_there s (other_place s c.0.0 c.0.1))) c.1
-  below_rank r (function t us) c = absurd c.0
+  below_rank r t c = absurd c.0
 
   all_both : (P Q : CType → Type 0) (us : List CType) → All P us → All Q us → All (λ t. P t × Q t) us
   all_both P Q us h g k d l = (h k d l, g k d l)

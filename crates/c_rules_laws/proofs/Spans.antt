@@ -27,7 +27,7 @@ use Rattle.c_rules_laws.proofs.SitesOfExpressions.{AreShort, short_both, FitsAt,
 use Rattle.c_rules_laws.proofs.RightInitialisers.{AllKnown, known_sites, InitCounted, static_counted}
 use Rattle.c_rules_laws.proofs.SitesOfStatements.{IsSpan, StmtsSpan, held_by_named_same, block_span}
 use Rattle.c_rules_laws.proofs.FileScopes.{IsFileRight}
-use Rattle.c_rules_laws.proofs.FileItems.{IsObjectNamed, object_named, part_step, form_step, tags_step}
+use Rattle.c_rules_laws.proofs.FileItems.{IsObjectNamed, object_named, part_step, form_step, tags_step, object_declared_same}
 use Rattle.c_rules_laws.proofs.UnitShape.{output_same}
 use Rattle.c_rules_laws.proofs.KnownCells.{static_known}
 use Rattle.c_rules.proofs.NothingMore.{nothing_more}
@@ -120,13 +120,6 @@ object_span env w b x m r o q e h f =
       many = omega (arith, some, many);
     })
 
--- an object that is named is the one that is declared
-object_declared_same : (env : Env) (defined : Bool) (b : Before) (at : ℕ) (s : Spec) (d : Declarator) (x : Ident) (m : MaybeInit) (o : Object) → global_declared env defined b at s d x m ≡ fine o → object_declared env at s d x m ≡ fine o
-object_declared_same env defined b at s d x m o e =
-    let i = on_fine (object_declared env at s d x m) (global_object env defined b x) o e in
-    let j = on_fine (and_also (object_name env defined x i.0.whole) (few_static env defined b x i.0.whole)) (λ _. fine i.0) o i.2 in
-    i.1 ∙ j.2
-
 part_span : (env : Env) → IsFileRight env → (b : Before) (at : ℕ) (class : Storage) (s : Spec) (d : Declarator) (m : MaybeInit) (o : Option Ident) (q : Output) → named_part env b at class s d m o ≡ fine q → Spans b (after_declared env b at s d m (not (declares_function d) && defines class m) o) q
 part_span env w b at class s d m None q e = absurd (cc)
 part_span env w b at class s d m (Some x) q e = by_kind (declares_function d) (defines class m) refl e
@@ -164,9 +157,8 @@ parameter_context env k None t = refl
 parameter_context env k (Some x) t = refl
 
 pub params_context : (ps : Params) (ts : CTypes) (env : Env) (k : ℕ) → (with_parameters env k ps ts).context ≡ env.context
-params_context no_params ts env k = refl
-params_context (more_params at s d ps) typed.no_types env k = refl
 params_context (more_params at s d ps) (typed.more_types t ts) env k = params_context ps ts (with_parameter env k (name_of d) t) (suc k) ∙ parameter_context env k (name_of d) t
+params_context ps ts env k = refl
 
 function_span : (env : Env) → env.context ≡ evaluated → (b : Before) (place : ℕ) (d : Declarator) (x : Ident) (is : BlockItems) (u : CType) (f : Function) → defined_as env b place d x is u ≡ fine f → IsSpan b (calls_of_block is) (held_by_type env d is u) (sites_of_function f)
 function_span env c b place d x is (function t ts) f e =
@@ -179,11 +171,7 @@ function_span env c b place d x is (function t ts) f e =
     let runs : inner.context ≡ evaluated = params_context (parameters_of d) ts (inside env) 0 ∙ c in
     let h : StmtsSpan b (calls_of_block is) (held_by_block inner next is) q = held (StmtsSpan b (calls_of_block is) (held_by_block inner next is)) (items_of_block inner around b next is) q (block_span is inner runs around b next) i.3 in
     subst (λ f. IsSpan b (calls_of_block is) (held_by_block inner next is) (sites_of_function f)) j.1 h
-function_span env c b place d x is void f e = absurd (cc)
-function_span env c b place d x is (integer i) f e = absurd (cc)
-function_span env c b place d x is (pointer t) f e = absurd (cc)
-function_span env c b place d x is (array t n) f e = absurd (cc)
-function_span env c b place d x is (struct n) f e = absurd (cc)
+function_span env c b place d x is u f e = absurd (cc)
 
 -- a function, and what stands behind it
 one_function : (b : Before) (n : ℕ) (ws : List (List ℕ)) (f : Function) → IsSpan b n ws (sites_of_function f) → Spans b (past b n ws) (output_of_function f)
@@ -201,8 +189,6 @@ one_function b n ws f h = record {
 
 definition_span : (env : Env) → IsFileRight env → (b : Before) (at : ℕ) (s : Spec) (d : Declarator) (body : Stmt) (k : Bool) (o : Option Ident) (q : Output) → function_named env b at s d body k o ≡ fine q
     → Spans b (past b (calls_of_block (items_of_body body)) (held_by_typed (behind_function_named env at s d o) d (items_of_body body) (type_declared env at s d))) q
-definition_span env w b at s d body false o q e = absurd (cc)
-definition_span env w b at s d body true None q e = absurd (cc)
 definition_span env w b at s d body true (Some x) q e =
     let is : BlockItems = items_of_body body in
     let inner : Env = behind_defined env at s d x in
@@ -211,15 +197,15 @@ definition_span env w b at s d body true (Some x) q e =
     let h : IsSpan b (calls_of_block is) (held_by_type inner d is j.0) (sites_of_function i.1) = function_span inner w.runs b (place_or at d) d x is j.0 i.1 j.2 in
     subst (λ r. Spans b (past b (calls_of_block is) (held_by_typed inner d is r)) q) (sym j.1)
     (subst (Spans b (past b (calls_of_block is) (held_by_type inner d is j.0))) (output_same (output_of_function i.1) q i.4) (one_function b (calls_of_block is) (held_by_type inner d is j.0) i.1 h))
+definition_span env w b at s d body k o q e = absurd (cc)
 
 -- ## Items
 
 form_span : (i : Item) (env : Env) → IsFileRight env → (b : Before) (q : Output) → item env b i ≡ fine q → Spans b (after_item env b i) q
-form_span (struct_item at x ms) env w b q e = (let i = on_fine _ (λ _. fine no_output) q e in no_spans b q i.2)
 form_span (enum_item at x es) env w b q e = (let i = first_fine _ _ (λ _ _. fine no_output) q e in no_spans b q i.4)
-form_span (tag_item at x) env w b q e = (let i = on_fine _ (λ _. fine no_output) q e in no_spans b q i.2)
 form_span (decl_item at d) env w b q e = decl_span d env w b q e
 form_span (function_item at class s d body) env w b q e = definition_span env w b at s d body (declares_function d) (name_of d) q e
+form_span i env w b q e = (let i = on_fine _ (λ _. fine no_output) q e in no_spans b q i.2)
 
 pub items_span : (is : Items) (env : Env) → IsFileRight env → (b : Before) (q : Output) → IsUnitLexical is → items env b is ≡ fine q → Spans b (after_items env b is) q
 items_span no_items env w b q l e = no_spans b q e

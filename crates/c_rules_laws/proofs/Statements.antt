@@ -50,8 +50,7 @@ after_maybe_same b c m h = past_same b c (calls_of_maybe (unplaced_maybe m)) (ca
 
 switched_kind_alike : (at to : ℕ) (g : TypedExpression) (k : Kind) → Alike TypedExpression (switched_kind at g k) (switched_kind to g k)
 switched_kind_alike at to g (an_integer i) = alike (fine (converted_to (promoted i) g))
-switched_kind_alike at to g (a_pointer t) = fault_alike C3 at to
-switched_kind_alike at to g neither = fault_alike C3 at to
+switched_kind_alike at to g k = fault_alike C3 at to
 
 switched_alike : (at to : ℕ) (r s : Checked TypedExpression) → Alike TypedExpression r s → Alike TypedExpression (switched at r) (switched to s)
 switched_alike at to r s h = on_alike (λ g. switched_kind at g (kind_of g.ctype)) (λ g. switched_kind to g (kind_of g.ctype)) h (λ g _. switched_kind_alike at to g (kind_of g.ctype))
@@ -82,7 +81,6 @@ mutual
   held_by_stmt_same : (env : Env) (a : Around) (b : Before) (n k : Next) → k ≡ n → (s : Stmt) (p : StatementTree typed.Stmt) → stmt env a b n s ≡ fine p → held_by_stmt env k (unplaced_stmt s) ≡ held_by_stmt env n s
   held_by_stmt_same env a b n k g (block at is) p e =
       let f = on_fine (items_of_block (inside env) a b n is) (λ p. fine (with_tree p (typed.block p.tree))) p e in held_by_block_same (inside env) a b n k g is f.0 f.1
-  held_by_stmt_same env a b n k g (empty at) p e = refl
   held_by_stmt_same env a b n k g (evaluate at x) p e = strings_same x
   held_by_stmt_same env a b n k g (only_if at x s) p e =
       let f = first_fine (condition_at at (value env b x)) (stmt env a (after b x) n s) (λ c p. fine (with_tree p (typed.if_else c p.tree typed.empty))) p e in
@@ -114,9 +112,8 @@ mutual
       let r : Checked TypedExpression = switched at (value env b x) in
       let f = first_fine r (groups_of_switch env (in_switch a) (after b x) n (label_type r) gs) (switch_of at) p e in
       ap₂ (λ v w. v ++ w) (strings_same x) (held_by_groups_same env (in_switch a) (after b x) n k g (label_type r) gs f.1 f.3)
-  held_by_stmt_same env a b n k g (break_off at) p e = refl
-  held_by_stmt_same env a b n k g (continue_on at) p e = refl
   held_by_stmt_same env a b n k g (return_from at m) p e = maybe_strings_same m
+  held_by_stmt_same env a b n k g s p e = refl
 
   pub held_by_block_same : (env : Env) (a : Around) (b : Before) (n k : Next) → k ≡ n → (is : BlockItems) (p : StatementTree typed.Stmts) → items_of_block env a b n is ≡ fine p → held_by_block env k (unplaced_block_items is) ≡ held_by_block env n is
   held_by_block_same env a b n k g no_block_items p e = refl

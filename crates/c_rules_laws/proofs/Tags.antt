@@ -19,19 +19,10 @@ joins e f = ap₂ (λ (v : List Name) w. v ++ w) e f
 
 spec_tags : (s : Spec) → tags_of_spec (unplaced_spec s) ≡ tags_of_spec s
 spec_tags syntax.void = refl
-spec_tags syntax.char = refl
-spec_tags syntax.unsigned_char = refl
-spec_tags syntax.int = refl
-spec_tags syntax.unsigned_int = refl
-spec_tags (syntax.struct x) = refl
-spec_tags (syntax.enum x) = refl
+spec_tags s = refl
 
 mutual
   expr_tags : (e : Expr) → tags_of_expr (unplaced e) ≡ tags_of_expr e
-  expr_tags (a_name at x) = refl
-  expr_tags (an_int at n u) = refl
-  expr_tags (a_char at c) = refl
-  expr_tags (a_str at w) = refl
   expr_tags (comma at es) = exprs_tags es
   expr_tags (sizeof_type at t) = type_tags t
   expr_tags (cast at t e) = joins (type_tags t) (expr_tags e)
@@ -44,6 +35,7 @@ mutual
   expr_tags (binary at op e f) = joins (expr_tags e) (expr_tags f)
   expr_tags (assign at op e f) = joins (expr_tags e) (expr_tags f)
   expr_tags (conditional at c e f) = joins (expr_tags c) (joins (expr_tags e) (expr_tags f))
+  expr_tags e = refl
 
   exprs_tags : (es : Exprs) → tags_of_exprs (unplaced_exprs es) ≡ tags_of_exprs es
   exprs_tags no_exprs = refl
@@ -57,11 +49,10 @@ mutual
   type_tags (type_name at s d) = joins (spec_tags s) (declarator_tags d)
 
   declarator_tags : (d : Declarator) → tags_of_declarator (unplaced_declarator d) ≡ tags_of_declarator d
-  declarator_tags nothing = refl
-  declarator_tags (named at x) = refl
   declarator_tags (pointer at d) = declarator_tags d
   declarator_tags (array at d size) = joins (declarator_tags d) (maybe_tags size)
   declarator_tags (function at d ps) = joins (declarator_tags d) (params_tags ps)
+  declarator_tags d = refl
 
   params_tags : (ps : Params) → tags_of_params (unplaced_params ps) ≡ tags_of_params ps
   params_tags no_params = refl
@@ -108,7 +99,6 @@ labels_tags (default_label at ls) = labels_tags ls
 mutual
   stmt_tags : (aside : Bool) (s : Stmt) → tags_of_stmt aside (unplaced_stmt s) ≡ tags_of_stmt aside s
   stmt_tags aside (block at is) = block_tags aside is
-  stmt_tags aside (empty at) = refl
   stmt_tags aside (evaluate at e) = expr_tags e
   stmt_tags aside (only_if at e s) = joins (expr_tags e) (stmt_tags aside s)
   stmt_tags aside (if_else at e s t) = joins (expr_tags e) (joins (stmt_tags aside s) (stmt_tags aside t))
@@ -116,9 +106,8 @@ mutual
   stmt_tags aside (do_loop at s e) = joins (stmt_tags aside s) (expr_tags e)
   stmt_tags aside (for_loop at first test step s) = joins (first_tags aside first) (joins (maybe_tags test) (joins (maybe_tags step) (stmt_tags aside s)))
   stmt_tags aside (switch_on at e gs) = joins (expr_tags e) (groups_tags aside gs)
-  stmt_tags aside (break_off at) = refl
-  stmt_tags aside (continue_on at) = refl
   stmt_tags aside (return_from at m) = maybe_tags m
+  stmt_tags aside s = refl
 
   block_tags : (aside : Bool) (is : BlockItems) → tags_of_block aside (unplaced_block_items is) ≡ tags_of_block aside is
   block_tags aside no_block_items = refl

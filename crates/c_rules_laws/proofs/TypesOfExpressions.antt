@@ -37,13 +37,9 @@ use Rattle.c_rules_laws.proofs.TypesOfTypedExpressions.{TypedExpressionSized, Ty
 -- ## Declarators
 
 spec_made : (structs : Structs) (env : Env) (at : ℕ) (s : Spec) → Holds (Made structs) (type_of_spec env at s)
-spec_made structs env at syntax.void = tt
-spec_made structs env at syntax.char = tt
-spec_made structs env at syntax.unsigned_char = tt
-spec_made structs env at syntax.int = tt
-spec_made structs env at syntax.unsigned_int = tt
 spec_made structs env at (syntax.struct x) = demand_holds (Made structs) _ 2 x.at _ (λ _. tt)
 spec_made structs env at (syntax.enum x) = demand_holds (Made structs) _ 1 at _ (λ _. tt)
+spec_made structs env at s = tt
 
 module _ (structs : Structs) where
   within_made : (at : ℕ) (t : CType) → Made structs t → Holds (Made structs) (within_parts at t)
@@ -52,10 +48,9 @@ module _ (structs : Structs) where
   pointer_made : (at : ℕ) (t : CType) → Made structs t → Holds (Made structs) (pointer_to at t)
   pointer_made at void h = tt
   pointer_made at (array t n) h = tt
-  pointer_made at (integer i) h = within_made at (pointer (integer i)) (tt, tt)
   pointer_made at (pointer t) h = within_made at (pointer (pointer t)) (tt, h)
-  pointer_made at (struct s) h = within_made at (pointer (struct s)) (tt, tt)
   pointer_made at (function t ts) h = within_made at (pointer (function t ts)) (tt, h)
+  pointer_made at t h = within_made at (pointer t) (tt, tt)
 
   function_made : (at : ℕ) (t : CType) (ts : CTypes) → Made structs t → AllMade structs ts → Holds (Made structs) (function_of at t ts)
   function_made at t ts h k =
@@ -65,12 +60,10 @@ module _ (structs : Structs) where
   ParameterMade t = IsScalar t × Made structs t
 
   adjusted_made : (t : CType) → Made structs t → Made structs (adjusted t)
-  adjusted_made void h = tt
-  adjusted_made (integer i) h = tt
   adjusted_made (pointer t) h = h
   adjusted_made (array t n) h = (h.0, h.2)
-  adjusted_made (struct s) h = tt
   adjusted_made (function t ts) h = (tt, h)
+  adjusted_made t h = tt
 
   parameter_made : (at : ℕ) (t : CType) → Made structs t → Holds ParameterMade (parameter_of at t)
   parameter_made at t h =
@@ -85,18 +78,14 @@ layout_behind env k None r = refl
 layout_behind env k (Some x) r = refl
 
 array_made : (env : Env) (at : ℕ) (t : CType) (n : ℕ) → Made (layout_of env) t → Holds (Made (layout_of env)) (array_of env at t n)
-array_made env at (array t k) n h = tt
-array_made env at void n h = tt
 array_made env at (integer i) n h = within_made (layout_of env) at (array (integer i) n) (tt, tt, tt)
 array_made env at (pointer t) n h = within_made (layout_of env) at (array (pointer t) n) (tt, tt, h)
 array_made env at (struct s) n h =
     on_holds (λ _. IsComplete (layout_of env) (struct s)) (Made (layout_of env)) (complete env at (struct s)) _ (complete_known env at (struct s) tt) (λ _ c. within_made (layout_of env) at (array (struct s) n) (tt, c, tt))
-array_made env at (function t ts) n h = tt
+array_made env at t n h = tt
 
 mutual
   pub declared_made : (d : Declarator) (env : Env) (structs : Structs) → layout_of env ≡ structs → (t : CType) → Made structs t → Holds (Made structs) (declared env d t)
-  declared_made nothing env structs e t h = h
-  declared_made (named at x) env structs e t h = h
   declared_made (syntax.pointer at d) env structs e t h = on_holds (Made structs) (Made structs) (pointer_to at t) (λ u. declared env d u) (pointer_made structs at t h) (λ u k. declared_made d env structs e u k)
   declared_made (syntax.array at d size) env structs e t h =
       on_holds (Made structs) (Made structs) (on (size_in env size) (array_of env at t)) (λ u. declared env d u)
@@ -106,6 +95,7 @@ mutual
       on_holds (Made structs) (Made structs) (on (parameters (inside env) 0 ps) (function_of at t)) (λ u. declared env d u)
       (on_holds (AllMade structs) (Made structs) (parameters (inside env) 0 ps) (function_of at t) (parameters_made ps (inside env) structs e 0) (λ ts k. function_made structs at t ts h k))
       (λ u k. declared_made d env structs e u k)
+  declared_made d env structs e t h = h
 
   pub parameters_made : (ps : Params) (env : Env) (structs : Structs) → layout_of env ≡ structs → (k : ℕ) → Holds (AllMade structs) (parameters env k ps)
   parameters_made no_params env structs e k = tt
@@ -162,10 +152,7 @@ by_value_typed env at r h = on_holds (Typed env) (CalleeTyped env) r (callee_by_
 
 callee_meant_typed : (env : Env) (at place : ℕ) (x : Name) (r : Checked TypedExpression) (m : Meaning) → MeaningTyped (layout_of env) m → Holds (Typed env) r → Holds (CalleeTyped env) (callee_meant env at place x r m)
 callee_meant_typed env at place x r (a_function t d) h k = after_part (CalleeTyped env) (used env.context place (function_number env x)) (callee_of_type place t) (λ f. callee_type (layout_of env) place t f h.0)
-callee_meant_typed env at place x r (a_static seen whole d) h k = by_value_typed env at r k
-callee_meant_typed env at place x r (a_local n seen whole) h k = by_value_typed env at r k
-callee_meant_typed env at place x r (an_enumerator z) h k = by_value_typed env at r k
-callee_meant_typed env at place x r (unknown f fs) h k = by_value_typed env at r k
+callee_meant_typed env at place x r m h k = by_value_typed env at r k
 
 callee_bound_typed : (env : Env) (at place : ℕ) (x : Name) (r : Checked TypedExpression) (o : Option Binding) → ((b : Binding) → o ≡ Some b → MeaningTyped (layout_of env) b.means) → Holds (Typed env) r → Holds (CalleeTyped env) (callee_bound env at place x r o)
 callee_bound_typed env at place x r None h k = by_value_typed env at r k

@@ -56,35 +56,23 @@ module _ (structs : Structs) where
   value_int i = record { made = tt; result = tt }
 
   pub scalar_result : (t : CType) → IsScalar t → IsResult t
-  scalar_result void h = absurd h
   scalar_result (integer i) h = tt
   scalar_result (pointer t) h = tt
-  scalar_result (array t n) h = absurd h
-  scalar_result (struct s) h = absurd h
-  scalar_result (function t ts) h = absurd h
+  scalar_result t h = absurd h
 
 -- ## Conversions
 
 pub kind_pointer : (u t : CType) → kind_of u ≡ a_pointer t → u ≡ pointer t
-kind_pointer void t e = absurd (cc)
-kind_pointer (integer i) t e = absurd (cc)
 kind_pointer (pointer u) t e = (let f : a_pointer u ≡ a_pointer t = e in cc)
-kind_pointer (array u n) t e = absurd (cc)
-kind_pointer (struct s) t e = absurd (cc)
-kind_pointer (function u us) t e = absurd (cc)
+kind_pointer u t e = absurd (cc)
 
 pub kind_integer : (u : CType) (i : IntType) → kind_of u ≡ an_integer i → u ≡ integer i
-kind_integer void i e = absurd (cc)
 kind_integer (integer j) i e = (let f : an_integer j ≡ an_integer i = e in cc)
-kind_integer (pointer u) i e = absurd (cc)
-kind_integer (array u n) i e = absurd (cc)
-kind_integer (struct s) i e = absurd (cc)
-kind_integer (function u us) i e = absurd (cc)
+kind_integer u i e = absurd (cc)
 
 pub loaded_type : (g : TypedExpression) (f : Form) → (loaded g f).ctype ≡ g.ctype
 loaded_type g (a_value e) = refl
-loaded_type g (a_place e) = refl
-loaded_type g (behind p) = refl
+loaded_type g f = refl
 
 module _ (env : Env) where
   abbrev S : Structs
@@ -94,13 +82,11 @@ module _ (env : Env) where
   value_as u t e h r = record { made = subst (Made (layout_of env)) (sym e) h.made; result = subst IsResult (sym e) r }
 
   valued_as_typed : (at : ℕ) (g : TypedExpression) (t : CType) → g.ctype ≡ t → IsSized (layout_of env) t → Holds (TypedExpressionTyped (layout_of env)) (valued_as env at g t)
-  valued_as_typed at g void e h = value_as (loaded g g.form).ctype void (loaded_type g g.form ∙ e) h tt
-  valued_as_typed at g (integer i) e h = value_as (loaded g g.form).ctype (integer i) (loaded_type g g.form ∙ e) h tt
-  valued_as_typed at g (pointer t) e h = value_as (loaded g g.form).ctype (pointer t) (loaded_type g g.form ∙ e) h tt
   valued_as_typed at g (array t n) e h = record { made = (h.made.0, h.made.2); result = tt }
   valued_as_typed at g (struct s) e h = tt
   valued_as_typed at g (function t ts) e h =
       demand_holds (TypedExpressionTyped (layout_of env)) (few_parts (pointer g.ctype)) 13 at _ (λ _. record { made = subst (λ u. NotArray u × Made (layout_of env) u) (sym e) (tt, h.made); result = tt })
+  valued_as_typed at g t e h = value_as (loaded g g.form).ctype t (loaded_type g g.form ∙ e) h tt
 
   pub valued_typed : (at : ℕ) (g : TypedExpression) → TypedExpressionSized (layout_of env) g → Holds (TypedExpressionTyped (layout_of env)) (valued env at g)
   valued_typed at g h = valued_as_typed at g g.ctype refl h
@@ -124,25 +110,12 @@ module _ (structs : Structs) where
       behind_demand (TypedExpressionSized structs) (as_many_as f.parameters gs) 5 at _ (λ _. demand_holds (TypedExpressionSized structs) (all_fit f.parameters gs) 3 at _ (λ _. sized_value structs f.returns h.returns))
 
   pub callee_type : (at : ℕ) (t : CType) (f : ℕ) → Made structs t → Holds (IsCalleeTyped structs) (callee_of_type at t f)
-  callee_type at void f h = tt
-  callee_type at (integer i) f h = tt
-  callee_type at (pointer t) f h = tt
-  callee_type at (array t n) f h = tt
-  callee_type at (struct s) f h = tt
   callee_type at (function t ts) f h = record { returns = record { made = h.2; result = h.0 }; parameters = h.3 }
+  callee_type at t f h = tt
 
   pub callee_through_typed : (at : ℕ) (e : _) (t : CType) → Made structs t → Holds (IsCalleeTyped structs) (callee_through at e t)
-  callee_through_typed at e void h = tt
-  callee_through_typed at e (integer i) h = tt
-  callee_through_typed at e (pointer void) h = tt
-  callee_through_typed at e (pointer (integer i)) h = tt
-  callee_through_typed at e (pointer (pointer t)) h = tt
-  callee_through_typed at e (pointer (array t n)) h = tt
-  callee_through_typed at e (pointer (struct s)) h = tt
   callee_through_typed at e (pointer (function t ts)) h = record { returns = record { made = h.1.2; result = h.1.0 }; parameters = h.1.3 }
-  callee_through_typed at e (array t n) h = tt
-  callee_through_typed at e (struct s) h = tt
-  callee_through_typed at e (function t ts) h = tt
+  callee_through_typed at e t h = tt
 
   -- ## Unary operators
 
@@ -152,41 +125,28 @@ module _ (structs : Structs) where
   address_form_typed at g (behind p) n h = record { made = (n, h); few = tt }
 
   address_type_typed : (at : ℕ) (g : TypedExpression) (t : CType) → g.ctype ≡ t → Made structs g.ctype → Holds (TypedExpressionSized structs) (address_of_type at g t)
-  address_type_typed at g void e h = address_form_typed at g g.form (subst NotArray (sym e) tt) h
-  address_type_typed at g (integer i) e h = address_form_typed at g g.form (subst NotArray (sym e) tt) h
-  address_type_typed at g (pointer t) e h = address_form_typed at g g.form (subst NotArray (sym e) tt) h
   address_type_typed at g (array t n) e h = tt
-  address_type_typed at g (struct s) e h = address_form_typed at g g.form (subst NotArray (sym e) tt) h
-  address_type_typed at g (function t ts) e h = address_form_typed at g g.form (subst NotArray (sym e) tt) h
+  address_type_typed at g t e h = address_form_typed at g g.form (subst NotArray (sym e) tt) h
 
   pub address_typed : (at place : ℕ) (g : TypedExpression) → TypedExpressionSized structs g → Holds (TypedExpressionSized structs) (address at place g)
   address_typed at place g h = behind_demand (TypedExpressionSized structs) (is_place g || is_function g.ctype) 4 place _ (λ _. address_type_typed at g g.ctype refl h.made)
 
   led_typed : (at : ℕ) (g : TypedExpression) (t : CType) → Made structs t → Holds (TypedExpressionSized structs) (led_to at g t)
   led_typed at g (pointer void) h = tt
-  led_typed at g (pointer (integer i)) h = record { made = h.1; few = tt }
-  led_typed at g (pointer (pointer t)) h = record { made = h.1; few = tt }
   led_typed at g (pointer (array t k)) h = absurd h.0
-  led_typed at g (pointer (struct s)) h = record { made = h.1; few = tt }
-  led_typed at g (pointer (function t ts)) h = record { made = h.1; few = tt }
-  led_typed at g void h = tt
-  led_typed at g (integer i) h = tt
-  led_typed at g (array t k) h = tt
-  led_typed at g (struct s) h = tt
-  led_typed at g (function t ts) h = tt
+  led_typed at g (pointer t) h = record { made = h.1; few = tt }
+  led_typed at g t h = tt
 
   pub indirection_typed : (at : ℕ) (g : TypedExpression) → Made structs g.ctype → Holds (TypedExpressionSized structs) (indirection at g)
   indirection_typed at g h = led_typed at g g.ctype h
 
   plus_typed : (at : ℕ) (g : TypedExpression) (k : Kind) → Holds (TypedExpressionSized structs) (plus_of at g k)
   plus_typed at g (an_integer i) = sized_int structs (promoted i)
-  plus_typed at g (a_pointer t) = tt
-  plus_typed at g neither = tt
+  plus_typed at g k = tt
 
   operator_typed : (at : ℕ) (o : UnOp) (g : TypedExpression) (k : Kind) → Holds (TypedExpressionSized structs) (operator_of at o g k)
   operator_typed at o g (an_integer i) = sized_int structs (promoted i)
-  operator_typed at o g (a_pointer t) = tt
-  operator_typed at o g neither = tt
+  operator_typed at o g k = tt
 
   pub unary_typed : (at o : ℕ) (g : TypedExpression) → TypedExpressionTyped structs g → Holds (TypedExpressionSized structs) (unary_of_value at o g)
   unary_typed at o g h =
@@ -198,10 +158,7 @@ module _ (structs : Structs) where
   pub cast_typed : (at : ℕ) (t : CType) (g : TypedExpression) → Holds (TypedExpressionSized structs) (cast_of at t g)
   cast_typed at void g = record { made = tt; few = tt }
   cast_typed at (integer i) g = demand_holds (TypedExpressionSized structs) (is_integer g.ctype) 3 at (cast_to i g) (λ _. sized_int structs i)
-  cast_typed at (pointer t) g = tt
-  cast_typed at (array t n) g = tt
-  cast_typed at (struct s) g = tt
-  cast_typed at (function t ts) g = tt
+  cast_typed at t g = tt
 
   pub null_cast_typed : (at : ℕ) (g : TypedExpression) → Holds (TypedExpressionSized structs) (null_cast at g)
   null_cast_typed at g = demand_holds (TypedExpressionSized structs) (is_integer g.ctype && is_null g) 3 at (null_of (pointer void)) (λ _. record { made = (tt, tt); few = tt })
@@ -215,10 +172,7 @@ module _ (structs : Structs) where
   sum_of_typed env at a b (an_integer i) (an_integer j) e f g h = sized_int structs (common i j)
   sum_of_typed env at a b (a_pointer t) (an_integer j) e f g h = after_part (TypedExpressionSized structs) (complete env at t) _ (λ _. moved_typed a.ctype t (kind_pointer a.ctype t e) g.made)
   sum_of_typed env at a b (an_integer i) (a_pointer t) e f g h = after_part (TypedExpressionSized structs) (complete env at t) _ (λ _. moved_typed b.ctype t (kind_pointer b.ctype t f) h.made)
-  sum_of_typed env at a b (an_integer i) neither e f g h = tt
-  sum_of_typed env at a b (a_pointer t) (a_pointer u) e f g h = tt
-  sum_of_typed env at a b (a_pointer t) neither e f g h = tt
-  sum_of_typed env at a b neither l e f g h = tt
+  sum_of_typed env at a b k l e f g h = tt
 
   pub sum_typed : (env : Env) (at : ℕ) (a b : TypedExpression) → TypedExpressionTyped structs a → TypedExpressionTyped structs b → Holds (TypedExpressionSized structs) (sum env at a b)
   sum_typed env at a b g h = sum_of_typed env at a b (kind_of a.ctype) (kind_of b.ctype) refl refl g h
@@ -227,38 +181,24 @@ module _ (structs : Structs) where
   minus_typed env at a b (an_integer i) (an_integer j) e g = sized_int structs (common i j)
   minus_typed env at a b (a_pointer t) (an_integer j) e g = after_part (TypedExpressionSized structs) (complete env at t) _ (λ _. moved_typed a.ctype t (kind_pointer a.ctype t e) g.made)
   minus_typed env at a b (a_pointer t) (a_pointer u) e g = behind_demand (TypedExpressionSized structs) (same_type t u) 3 at _ (λ _. after_part (TypedExpressionSized structs) (complete env at t) _ (λ _. sized_int structs _))
-  minus_typed env at a b (an_integer i) (a_pointer t) e g = tt
-  minus_typed env at a b (an_integer i) neither e g = tt
-  minus_typed env at a b (a_pointer t) neither e g = tt
-  minus_typed env at a b neither l e g = tt
+  minus_typed env at a b k l e g = tt
 
   balanced_typed : (at : ℕ) (o : BinOp) (a b : TypedExpression) (k l : Kind) → Holds (TypedExpressionSized structs) (balanced_of at o a b k l)
   balanced_typed at o a b (an_integer i) (an_integer j) = sized_int structs (common i j)
-  balanced_typed at o a b (an_integer i) (a_pointer t) = tt
-  balanced_typed at o a b (an_integer i) neither = tt
-  balanced_typed at o a b (a_pointer t) l = tt
-  balanced_typed at o a b neither l = tt
+  balanced_typed at o a b k l = tt
 
   shift_typed : (at : ℕ) (o : BinOp) (a b : TypedExpression) (k l : Kind) → Holds (TypedExpressionSized structs) (shift_of at o a b k l)
   shift_typed at o a b (an_integer i) (an_integer j) = sized_int structs (promoted i)
-  shift_typed at o a b (an_integer i) (a_pointer t) = tt
-  shift_typed at o a b (an_integer i) neither = tt
-  shift_typed at o a b (a_pointer t) l = tt
-  shift_typed at o a b neither l = tt
+  shift_typed at o a b k l = tt
 
   ordered_typed : (env : Env) (at : ℕ) (o : BinOp) (a b : TypedExpression) (k l : Kind) → Holds (TypedExpressionSized structs) (ordered_of env at o a b k l)
   ordered_typed env at o a b (an_integer i) (an_integer j) = sized_int structs _
   ordered_typed env at o a b (a_pointer t) (a_pointer u) = behind_demand (TypedExpressionSized structs) (same_type t u) 3 at _ (λ _. after_part (TypedExpressionSized structs) (complete env at t) _ (λ _. sized_int structs _))
-  ordered_typed env at o a b (an_integer i) (a_pointer t) = tt
-  ordered_typed env at o a b (an_integer i) neither = tt
-  ordered_typed env at o a b (a_pointer t) (an_integer j) = tt
-  ordered_typed env at o a b (a_pointer t) neither = tt
-  ordered_typed env at o a b neither l = tt
+  ordered_typed env at o a b k l = tt
 
   equality_typed : (at : ℕ) (o : BinOp) (a b : TypedExpression) (x : Alike) → Holds (TypedExpressionSized structs) (equality_of at o a b x)
-  equality_typed at o a b (alike_integers i) = sized_int structs _
-  equality_typed at o a b (alike_pointers x y) = sized_int structs _
   equality_typed at o a b unlike = tt
+  equality_typed at o a b x = sized_int structs _
 
   arithmetic_typed : (env : Env) (at : ℕ) (o : BinOp) (a b : TypedExpression) → TypedExpressionTyped structs a → TypedExpressionTyped structs b → Holds (TypedExpressionSized structs) (arithmetic_of env at o a b)
   arithmetic_typed env at op.Add a b g h = sum_typed env at a b g h
@@ -297,13 +237,10 @@ module _ (structs : Structs) where
       (if_alike (is_null b) (alike_pointers a (null_of a.ctype)) unlike g tt))
 
   alike_of_typed : (a b : TypedExpression) (k l : Kind) → TypedExpressionTyped structs a → TypedExpressionTyped structs b → AlikeTyped (alike_of a b k l)
-  alike_of_typed a b (an_integer i) (an_integer j) g h = tt
   alike_of_typed a b (a_pointer t) (a_pointer u) g h = pointers_typed a b g h
   alike_of_typed a b (a_pointer t) (an_integer j) g h = if_alike (is_null b) (alike_pointers a (null_of a.ctype)) unlike g tt
   alike_of_typed a b (an_integer i) (a_pointer u) g h = if_alike (is_null a) (alike_pointers (null_of b.ctype) b) unlike h tt
-  alike_of_typed a b (an_integer i) neither g h = tt
-  alike_of_typed a b (a_pointer t) neither g h = tt
-  alike_of_typed a b neither l g h = tt
+  alike_of_typed a b k l g h = tt
 
   arms_typed : (at : ℕ) (c a b : TypedExpression) (x : Alike) → AlikeTyped x → Holds (TypedExpressionSized structs) (arms_of at c a b x)
   arms_typed at c a b (alike_integers i) h = sized_int structs i
@@ -324,11 +261,7 @@ module _ (structs : Structs) where
   update_typed : (env : Env) (at : ℕ) (o : BinOp) (old : Bool) (p v : TypedExpression) (k l : Kind) → TypedExpressionSized structs p → Holds (TypedExpressionSized structs) (update_of env at o old p v k l)
   update_typed env at o old p v (an_integer i) (an_integer j) h = h
   update_typed env at o old p v (a_pointer t) (an_integer j) h = behind_demand (TypedExpressionSized structs) (moves o) 3 at _ (λ _. after_part (TypedExpressionSized structs) (complete env at t) _ (λ _. h))
-  update_typed env at o old p v (an_integer i) (a_pointer t) h = tt
-  update_typed env at o old p v (an_integer i) neither h = tt
-  update_typed env at o old p v (a_pointer t) (a_pointer u) h = tt
-  update_typed env at o old p v (a_pointer t) neither h = tt
-  update_typed env at o old p v neither l h = tt
+  update_typed env at o old p v k l h = tt
 
   pub assignment_by_typed : (env : Env) (at o : ℕ) (p v : TypedExpression) → TypedExpressionSized structs p → Holds (TypedExpressionSized structs) (assignment_by env at o p v)
   assignment_by_typed env at o p v h =
@@ -357,12 +290,8 @@ cells_got structs (t ∷ ts) zero = (let a = length-append (flat structs t) (fla
 cells_got structs (t ∷ ts) (suc k) = (let a = length-append (flat structs t) (flat_all structs ts) in let c = cells_got structs ts k in omega (arith, a, c))
 
 few_from : (structs : Structs) (t : CType) → cells structs t ≤ 65536 → FewCells structs t
-few_from structs void h = tt
-few_from structs (integer i) h = tt
-few_from structs (pointer t) h = tt
 few_from structs (array t n) h = omega (arith, h)
-few_from structs (struct s) h = tt
-few_from structs (function t ts) h = tt
+few_from structs t h = tt
 
 pub sized_few : (structs : Structs) (t : CType) → Made structs t → cells structs t ≤ 65536 → IsSized structs t
 sized_few structs t m h = record { made = m; few = few_from structs t h }
@@ -384,17 +313,12 @@ module _ (env : Env) (sound : AreSound (layout_of env)) where
       sized_few (layout_of env) (get_or (map type_of_member ms) k void) (all_got (Made (layout_of env)) (map type_of_member ms) k void (sound.made s (map type_of_member ms) d) tt) (omega (arith, c, f))
 
   member_struct_typed : (at s : ℕ) (x : Name) (g : TypedExpression) (m : Struct) → struct_of env s ≡ m → Holds (TypedExpressionSized (layout_of env)) (member_of_struct env at x g m)
-  member_struct_typed at s x g incomplete e = tt
-  member_struct_typed at s x g (unknown_struct f fs) e = tt
   member_struct_typed at s x g (defined_struct ms) e = member_or_typed at s ms g (number_among (map name_of_member ms) x) e
+  member_struct_typed at s x g m e = tt
 
   member_type_typed : (at : ℕ) (x : Name) (g : TypedExpression) (t : CType) → Holds (TypedExpressionSized (layout_of env)) (member_of_type env at x g t)
   member_type_typed at x g (struct s) = member_struct_typed at s x g (struct_of env s) refl
-  member_type_typed at x g void = tt
-  member_type_typed at x g (integer i) = tt
-  member_type_typed at x g (pointer t) = tt
-  member_type_typed at x g (array t k) = tt
-  member_type_typed at x g (function t ts) = tt
+  member_type_typed at x g t = tt
 
   pub member_typed : (at : ℕ) (x : Name) (g : TypedExpression) → Holds (TypedExpressionSized (layout_of env)) (member_of env at x g)
   member_typed at x g = member_type_typed at x g g.ctype

@@ -31,7 +31,7 @@ use Rattle.c_rules_laws.specs.MadeTypes.{NotArray, Made, AllMade, IsSized}
 use Rattle.c_rules_laws.specs.RightScopes.{IsRight, StringsIn}
 use Rattle.c_rules_laws.proofs.Holding.{Holds, held, on_holds, both_hold, Any, anything, demand_holds, behind_demand, after_part, first_fine, demand_fine}
 use Rattle.c_rules_laws.proofs.Definitions.{definition_fine}
-use Rattle.c_rules_laws.proofs.MadeTypes.{few_unless_array}
+use Rattle.c_rules_laws.proofs.MadeTypes.{few_unless_array, scalar_not_array}
 use Rattle.c_rules_laws.proofs.SoundStructs.{same_flat_all}
 use Rattle.c_rules_laws.proofs.RightTypedExpressions.{scalar_thing}
 use Rattle.c_rules_laws.proofs.RightDeclarations.{AreObjects, AreKnownSizes, right_inside, right_local}
@@ -43,12 +43,8 @@ use Rattle.c_rules_laws.proofs.UnitScopes.{IsTable, scope_right}
 
 -- a function type has as many parameters as stand behind its name
 abbrev pub ParamsFit : Params → CType → Type 0
-ParamsFit ps void = Unit {0}
-ParamsFit ps (integer i) = Unit {0}
-ParamsFit ps (pointer t) = Unit {0}
-ParamsFit ps (array t n) = Unit {0}
-ParamsFit ps (struct s) = Unit {0}
 ParamsFit ps (function t ts) = length (list_of ts) ≡ count_params ps
+ParamsFit ps t = Unit {0}
 
 params_long : (ps : Params) (env : Env) (k : ℕ) → Holds (λ ts. length (list_of ts) ≡ count_params ps) (parameters env k ps)
 params_long no_params env k = refl
@@ -60,16 +56,14 @@ function_fits : (ps : Params) (at : ℕ) (t : CType) (ts : CTypes) → length (l
 function_fits ps at t ts h = behind_demand (ParamsFit ps) (is_result t) 3 at _ (λ _. behind_demand (ParamsFit ps) (nat_le (count ts) 16) 13 at _ (λ _. demand_holds (ParamsFit ps) (few_parts (function t ts)) 13 at (function t ts) (λ _. h)))
 
 declared_fits : (d : Declarator) (env : Env) (t : CType) → declares_function d ≡ true → Holds (ParamsFit (parameters_of d)) (declared env d t)
-declared_fits syntax.nothing env t e = absurd (cc)
-declared_fits (syntax.named at x) env t e = absurd (cc)
 declared_fits (syntax.pointer at d) env t e = after_part (ParamsFit (parameters_of d)) (pointer_to at t) (λ u. declared env d u) (λ u. declared_fits d env u e)
 declared_fits (syntax.array at d size) env t e = after_part (ParamsFit (parameters_of d)) (on (size_in env size) (array_of env at t)) (λ u. declared env d u) (λ u. declared_fits d env u e)
-declared_fits (syntax.function at syntax.nothing ps) env t e = absurd (cc)
 declared_fits (syntax.function at (syntax.named here x) ps) env t e =
     on_holds (ParamsFit ps) (ParamsFit ps) (on (parameters (inside env) 0 ps) (function_of at t)) (λ u. fine u) (on_holds (λ ts. length (list_of ts) ≡ count_params ps) (ParamsFit ps) (parameters (inside env) 0 ps) (function_of at t) (params_long ps (inside env) 0) (λ ts h. function_fits ps at t ts h)) (λ u h. h)
 declared_fits (syntax.function at (syntax.pointer here d) ps) env t e = after_part (ParamsFit (parameters_of d)) (on (parameters (inside env) 0 ps) (function_of at t)) (λ u. declared env (syntax.pointer here d) u) (λ u. declared_fits (syntax.pointer here d) env u e)
 declared_fits (syntax.function at (syntax.array here d size) ps) env t e = after_part (ParamsFit (parameters_of d)) (on (parameters (inside env) 0 ps) (function_of at t)) (λ u. declared env (syntax.array here d size) u) (λ u. declared_fits (syntax.array here d size) env u e)
 declared_fits (syntax.function at (syntax.function here d qs) ps) env t e = after_part (ParamsFit (parameters_of (syntax.function here d qs))) (on (parameters (inside env) 0 ps) (function_of at t)) (λ u. declared env (syntax.function here d qs) u) (λ u. declared_fits (syntax.function here d qs) env u e)
+declared_fits d env t e = absurd (cc)
 
 pub type_fits : (env : Env) (at : ℕ) (s : Spec) (d : Declarator) → declares_function d ≡ true → Holds (ParamsFit (parameters_of d)) (type_declared env at s d)
 type_fits env at s d e = after_part (ParamsFit (parameters_of d)) (type_of_spec env at s) (declared env d) (λ t. declared_fits d env t e)
@@ -79,51 +73,37 @@ parameter_layout env k None t = refl
 parameter_layout env k (Some x) t = refl
 
 params_layout : (ps : Params) (ts : CTypes) (env : Env) (k : ℕ) → layout_of (with_parameters env k ps ts) ≡ layout_of env
-params_layout no_params ts env k = refl
-params_layout (more_params at s d ps) no_types env k = refl
 params_layout (more_params at s d ps) (more_types t ts) env k = params_layout ps ts (with_parameter env k (name_of d) t) (suc k) ∙ parameter_layout env k (name_of d) t
+params_layout ps ts env k = refl
 
 parameter_whole : (env : Env) (k : ℕ) (o : Option Ident) (t : CType) → (with_parameter env k o t).whole ≡ env.whole
 parameter_whole env k None t = refl
 parameter_whole env k (Some x) t = refl
 
 params_whole : (ps : Params) (ts : CTypes) (env : Env) (k : ℕ) → (with_parameters env k ps ts).whole ≡ env.whole
-params_whole no_params ts env k = refl
-params_whole (more_params at s d ps) no_types env k = refl
 params_whole (more_params at s d ps) (more_types t ts) env k = params_whole ps ts (with_parameter env k (name_of d) t) (suc k) ∙ parameter_whole env k (name_of d) t
-
-scalar_plain : (t : CType) → IsScalar t → NotArray t
-scalar_plain void h = tt
-scalar_plain (integer i) h = tt
-scalar_plain (pointer t) h = tt
-scalar_plain (array t n) h = absurd h
-scalar_plain (struct s) h = tt
-scalar_plain (function t ts) h = tt
+params_whole ps ts env k = refl
 
 scalar_complete : (structs : Structs) (t : CType) → IsScalar t → IsComplete structs t
-scalar_complete structs void h = absurd h
 scalar_complete structs (integer i) h = tt
 scalar_complete structs (pointer t) h = tt
-scalar_complete structs (array t n) h = absurd h
-scalar_complete structs (struct s) h = absurd h
-scalar_complete structs (function t ts) h = absurd h
+scalar_complete structs t h = absurd h
 
 module _ (p : Program) (vars : List CType) where
   parameter_right : (env : Env) (k : ℕ) (o : Option Ident) (t : CType) → IsRight p vars env → IsScalar t → Made (layout_of env) t → slice_get vars k ≡ Some t → IsRight p vars (with_parameter env k o t)
   parameter_right env k None t w s m e = w
   parameter_right env k (Some x) t w s m e =
-      let z : IsSized (layout_of env) t = record { made = m; few = few_unless_array (layout_of env) t (scalar_plain t s) } in
+      let z : IsSized (layout_of env) t = record { made = m; few = few_unless_array (layout_of env) t (scalar_not_array t s) } in
       right_local p vars env x.name k t t w z z (inl refl) (scalar_thing t s) e
 
   params_right : (ps : Params) (ts : CTypes) (env : Env) (k : ℕ) → IsRight p vars env → AllMade (layout_of env) ts → ((j : ℕ) (t : CType) → slice_get (list_of ts) j ≡ Some t → slice_get vars (k + j) ≡ Some t) → IsRight p vars (with_parameters env k ps ts)
-  params_right no_params ts env k w m h = w
-  params_right (more_params at s d ps) no_types env k w m h = w
   params_right (more_params at s d ps) (more_types t ts) env k w m h =
       let inner : Env = with_parameter env k (name_of d) t in
       let e : k + 0 ≡ k = omega arith in
       let got : slice_get vars k ≡ Some t = subst (λ n. slice_get vars n ≡ Some t) e (h 0 t refl) in
       params_right ps ts inner (suc k) (parameter_right env k (name_of d) t w m.0 m.1 got) (subst (λ z. AllMade z ts) (sym (parameter_layout env k (name_of d) t)) m.2)
       (λ j u q. (let f : k + suc j ≡ suc k + j = omega arith in subst (λ n. slice_get vars n ≡ Some u) f (h (suc j) u q)))
+  params_right ps ts env k w m h = w
 
 -- ## Variables
 
@@ -215,8 +195,4 @@ module _ (p : Program) (last : Env) (table : IsTable p last) where
       let q : StatementTree typed.Stmts = i.1 in
       let j = demand_fine (nat_le (cells_of_all (layout_of env) (variables_of ts q)) (most_local_cells env.whole.mode)) 13 x.at (record { name = x.name; ctype = function t ts; variables = variables_of ts q; body = typed.block q.tree }) f i.4 in
       (subst (IsFunction p) j.1 (made_function env w g b d x is t ts q m fit l s i.3 j.0), ap (λ f. f.name) (sym j.1), ap (λ f. f.ctype) (sym j.1))
-  function_right env w g b place d x is void f m fit l s e = absurd (cc)
-  function_right env w g b place d x is (integer i) f m fit l s e = absurd (cc)
-  function_right env w g b place d x is (pointer t) f m fit l s e = absurd (cc)
-  function_right env w g b place d x is (array t n) f m fit l s e = absurd (cc)
-  function_right env w g b place d x is (struct n) f m fit l s e = absurd (cc)
+  function_right env w g b place d x is u f m fit l s e = absurd (cc)

@@ -32,7 +32,7 @@ use Rattle.c_rules_laws.proofs.RightInitialisers.{IsKnownConstant, AllKnown, Typ
 use Rattle.c_rules_laws.proofs.RightDeclarations.{right_named}
 use Rattle.c_rules_laws.proofs.SitesOfStatements.{held_by_named_same}
 use Rattle.c_rules_laws.proofs.FileScopes.{IsFileRight, Follows, follows_on}
-use Rattle.c_rules_laws.proofs.FileItems.{IsObjectNamed, object_named, part_step, parts_step, definition_step, form_step, tags_step, items_step}
+use Rattle.c_rules_laws.proofs.FileItems.{IsObjectNamed, object_named, part_step, parts_step, definition_step, form_step, tags_step, items_step, object_declared_same}
 use Rattle.c_rules_laws.proofs.UnitScopes.{IsTable, object_at, scope_right}
 use Rattle.c_rules_laws.proofs.UnitFunctions.{ParamsFit, type_fits, function_right}
 use Rattle.c_rules_laws.proofs.UnitShape.{just_declared, output_same}
@@ -91,22 +91,10 @@ module _ (p : Program) (last : Env) (table : IsTable p last) (all : List (List �
 
   body_lexical : (body : Stmt) → IsStmtLexical body → AreItemsLexical (items_of_body body)
   body_lexical (syntax.block at is) h = h
-  body_lexical (syntax.empty at) h = (h, tt)
-  body_lexical (syntax.evaluate at e) h = (h, tt)
-  body_lexical (syntax.only_if at e s) h = (h, tt)
-  body_lexical (syntax.if_else at e s t) h = (h, tt)
-  body_lexical (syntax.while_loop at e s) h = (h, tt)
-  body_lexical (syntax.do_loop at s e) h = (h, tt)
-  body_lexical (syntax.for_loop at f t u s) h = (h, tt)
-  body_lexical (syntax.switch_on at e gs) h = (h, tt)
-  body_lexical (syntax.break_off at) h = (h, tt)
-  body_lexical (syntax.continue_on at) h = (h, tt)
-  body_lexical (syntax.return_from at m) h = (h, tt)
+  body_lexical body h = (h, tt)
 
   definition_right : (env : Env) → IsFileRight env → (b : Before) (at : ℕ) (s : Spec) (d : Declarator) (body : Stmt) (k : Bool) (o : Option Ident) (q : Output) → declares_function d ≡ k → IsStmtLexical body → function_named env b at s d body k o ≡ fine q → Follows (behind_function_named env at s d o) last
       → Begins (b.strings ++ held_by_typed (behind_function_named env at s d o) d (items_of_body body) (type_declared env at s d)) all → IsOutputRight q
-  definition_right env w b at s d body false o q n l e g h = absurd (cc)
-  definition_right env w b at s d body true None q n l e g h = absurd (cc)
   definition_right env w b at s d body true (Some x) q n l e g h =
       let is : BlockItems = items_of_body body in
       let inner : Env = behind_defined env at s d x in
@@ -119,19 +107,18 @@ module _ (p : Program) (last : Env) (table : IsTable p last) (all : List (List �
       let strings : StringsIn p [] (string_number inner b) (held_by_type inner d is u) = strings_here inner g b (held_by_type inner d is u) (subst (λ r. Begins (b.strings ++ held_by_typed inner d is r) all) j.1 h) in
       let f = function_right p last table inner step.0 g b (place_or at d) d x is u i.1 made fit (body_lexical body l) strings j.2 in
       subst IsOutputRight (output_same (output_of_function i.1) q i.4) ((f.0, tt), tt)
+  definition_right env w b at s d body k o q n l e g h = absurd (cc)
 
   -- ## Objects
 
   known_value : (t : CType) (c : Constant) → IsKnownConstant c → ConstRight p t c → HasType p (static_objects p) t (value_of_constant c)
-  known_value t not_constant k h = absurd k
-  known_value t undefined k h = absurd k
   known_value t (known x) k h = h
+  known_value t c k h = absurd k
 
   cells_zip : (ts : List CType) (gs : List TypedExpression) → TypesAre p [] ts gs → AllKnown gs → AllZip (HasType p (static_objects p)) ts (map value_of_cell gs)
   cells_zip [] [] h k = tt
-  cells_zip (t ∷ ts) [] h k = absurd h
-  cells_zip [] (g ∷ gs) h k = absurd h
   cells_zip (t ∷ ts) (g ∷ gs) h k = (known_value t g.constant k.0 (subst (λ u. ConstRight p u g.constant) h.0 h.1.3), cells_zip ts gs h.2 k.1)
+  cells_zip ts gs h k = absurd h
 
   global_right : (env : Env) → IsFileRight env → (b : Before) (x : Ident) (m : MaybeInit) (r : Checked Object) (q : Output) (o : Object) → r ≡ fine o → IsObjectNamed env true b x o → IsFileRight (behind_global env true x r) → IsMaybeInitLexical m → global env true b x m r ≡ fine q → Follows env last → Follows (behind_global env true x r) last
       → Begins (b.strings ++ held_by env o.whole m) all → IsOutputRight q
@@ -160,13 +147,6 @@ module _ (p : Program) (last : Env) (table : IsTable p last) (all : List (List �
   no_output_right : (q : Output) → fine no_output ≡ fine q → IsOutputRight q
   no_output_right q e = subst IsOutputRight (output_same no_output q e) (tt, tt)
 
-  -- an object that is named is the one that is declared
-  object_declared_same : (env : Env) (defined : Bool) (b : Before) (at : ℕ) (s : Spec) (d : Declarator) (x : Ident) (m : MaybeInit) (o : Object) → global_declared env defined b at s d x m ≡ fine o → object_declared env at s d x m ≡ fine o
-  object_declared_same env defined b at s d x m o e =
-      let i = on_fine (object_declared env at s d x m) (global_object env defined b x) o e in
-      let j = on_fine (and_also (object_name env defined x i.0.whole) (few_static env defined b x i.0.whole)) (λ _. fine i.0) o i.2 in
-      i.1 ∙ j.2
-
   part_right : (env : Env) → IsFileRight env → (b : Before) (at : ℕ) (class : Storage) (s : Spec) (d : Declarator) (m : MaybeInit) (o : Option Ident) (q : Output) → IsMaybeInitLexical m → named_part env b at class s d m o ≡ fine q → Follows env last → Follows (behind_named_part env b at class s d m o) last
       → IsFileRight (behind_named_part env b at class s d m o) → Begins (after_declared env b at s d m (not (declares_function d) && defines class m) o).strings all → IsOutputRight q
   part_right env w b at class s d m None q l e g0 g v h = absurd (cc)
@@ -189,13 +169,12 @@ module _ (p : Program) (last : Env) (table : IsTable p last) (all : List (List �
 
   -- strings before a part are among those behind it
   declared_begins : (env : Env) (b : Before) (at : ℕ) (s : Spec) (d : Declarator) (m : MaybeInit) (k : Bool) (o : Option Ident) → Begins b.strings (after_declared env b at s d m k o).strings
-  declared_begins env b at s d m false o = begins_self b.strings
-  declared_begins env b at s d m true None = begins_self b.strings
   declared_begins env b at s d m true (Some x) = by_object (object_declared env at s d x m)
     where
       by_object : (r : Checked Object) → Begins b.strings (after_global env b m r).strings
       by_object (fine o) = begins_more b.strings (held_by env o.whole m)
       by_object (faulty f fs) = begins_self b.strings
+  declared_begins env b at s d m k o = begins_self b.strings
 
   parts_begin : (ps : Parts) (env : Env) (b : Before) (at : ℕ) (class : Storage) (s : Spec) → Begins b.strings (after_file_parts env b at class s ps).strings
   parts_begin no_parts env b at class s = begins_self b.strings
@@ -208,11 +187,9 @@ module _ (p : Program) (last : Env) (table : IsTable p last) (all : List (List �
   decl_begins (decl at class s ps) env b = parts_begin ps env b at class s
 
   item_begins : (i : Item) (env : Env) (b : Before) → Begins b.strings (after_item env b i).strings
-  item_begins (struct_item at x ms) env b = begins_self b.strings
-  item_begins (enum_item at x es) env b = begins_self b.strings
-  item_begins (tag_item at x) env b = begins_self b.strings
   item_begins (decl_item at d) env b = decl_begins d env b
   item_begins (function_item at class s d body) env b = begins_more b.strings _
+  item_begins i env b = begins_self b.strings
 
   items_begin : (is : Items) (env : Env) (b : Before) → Begins b.strings (after_items env b is).strings
   items_begin no_items env b = begins_self b.strings
@@ -235,11 +212,10 @@ module _ (p : Program) (last : Env) (table : IsTable p last) (all : List (List �
   decl_right (decl at class s ps) env w b q l e g0 g h = parts_right ps env w b at class s q l e g0 g h
 
   form_right : (i : Item) (env : Env) → IsFileRight env → (b : Before) (q : Output) → IsItemLexical i → item env b i ≡ fine q → Follows env last → Follows (behind_by_form env b i) last → Begins (after_item env b i).strings all → IsOutputRight q
-  form_right (struct_item at x ms) env w b q l e g0 g h = (let i = on_fine _ (λ _. fine no_output) q e in no_output_right q i.2)
   form_right (enum_item at x es) env w b q l e g0 g h = (let i = first_fine _ _ (λ _ _. fine no_output) q e in no_output_right q i.4)
-  form_right (tag_item at x) env w b q l e g0 g h = (let i = on_fine _ (λ _. fine no_output) q e in no_output_right q i.2)
   form_right (decl_item at d) env w b q l e g0 g h = decl_right d env w b q l e g0 g h
   form_right (function_item at class s d body) env w b q l e g0 g h = definition_right env w b at s d body (declares_function d) (name_of d) q refl l.1 e g h
+  form_right i env w b q l e g0 g h = (let i = on_fine _ (λ _. fine no_output) q e in no_output_right q i.2)
 
   pub items_right : (is : Items) (env : Env) → IsFileRight env → (b : Before) (q : Output) → IsUnitLexical is → items env b is ≡ fine q → Follows (behind_items env b is) last → Begins (after_items env b is).strings all → IsOutputRight q
   items_right no_items env w b q l e g h = no_output_right q e

@@ -34,7 +34,7 @@ as_many : length sys_types ≡ 24
 unfolding sys_types
 as_many = refl
 
-suc_some : (o : Option ℕ) (j : ℕ) → option_map suc o ≡ Some j → (k : ℕ) × (o ≡ Some k) × (j ≡ suc k)
+pub suc_some : (o : Option ℕ) (j : ℕ) → option_map suc o ≡ Some j → (k : ℕ) × (o ≡ Some k) × (j ≡ suc k)
 suc_some None j e = absurd (let q : None ≡ Some j = e in cc)
 suc_some (Some k) j e = (k, refl, (let q : Some (suc k) ≡ Some j = e in cc))
 
@@ -103,10 +103,7 @@ module _ (p : Program) where
             let n2 : number_among last.whole.functions x ≡ Some i = subst (λ fs. number_among fs x ≡ Some i) same_functions n in
             let f = t.functions x l.0 v c i l.1 q n2 in
             defined_value i f.0 f.1 ∙ ap Some (f.2 ∙ sym a.0)
-        by_later (a_static s v c) q a = absurd a
-        by_later (a_local k s v) q a = absurd a
-        by_later (an_enumerator z) q a = absurd a
-        by_later (unknown h hs) q a = absurd a
+        by_later z q a = absurd a
 
     pub object_at : (x : Name) (b : Binding) (s u : CType) (d : Bool) → lookup env.names x ≡ Some b → b.means ≡ a_static s u d → (n : ℕ) → object_number env x ≡ Some n → IsStaticOf p false n u
     object_at x b s u d e m n o = by_later (l.0.means) refl (subst (λ z. Agrees z l.0.means) m l.2)
@@ -118,10 +115,7 @@ module _ (p : Program) where
         by_later (a_static r v c) q a =
             let n2 : number_among last.whole.objects x ≡ Some n = subst (λ w. number_among w.objects x ≡ Some n) (sym g.whole) o in
             subst (IsStaticOf p false n) (sym a.0) (t.objects x l.0 r v c n l.1 q n2)
-        by_later (a_function v c) q a = absurd a
-        by_later (a_local k r v) q a = absurd a
-        by_later (an_enumerator z) q a = absurd a
-        by_later (unknown h hs) q a = absurd a
+        by_later z q a = absurd a
 
     meaning_right : (x : Name) (b : Binding) → lookup env.names x ≡ Some b → (m : Meaning) → b.means ≡ m → FileMeaning env x m → MeaningRight p vars env x m
     meaning_right x b e (a_static seen whole d) q h =

@@ -32,9 +32,8 @@ Zip R (x ∷ xs) (y ∷ ys) = R x y × Zip R xs ys
 
 pub zip_both : {A B : Type 0} (R : A → B → Type 0) (xs zs : List A) (ys ws : List B) → Zip R xs ys → Zip R zs ws → Zip R (xs ++ zs) (ys ++ ws)
 zip_both R [] zs [] ws h k = k
-zip_both R (x ∷ xs) zs [] ws h k = absurd h
-zip_both R [] zs (y ∷ ys) ws h k = absurd h
 zip_both R (x ∷ xs) zs (y ∷ ys) ws h k = (h.0, zip_both R xs zs ys ws h.1 k)
+zip_both R xs zs ys ws h k = absurd h
 
 pub zip_at : {A B : Type 0} (R : A → B → Type 0) (xs : List A) (ys : List B) (i : ℕ) (x : A) → Zip R xs ys → slice_get xs i ≡ Some x → (y : B) × (slice_get ys i ≡ Some y) × R x y
 zip_at R [] ys i x h e = absurd (let q : None ≡ Some x = e in cc)
@@ -44,9 +43,8 @@ zip_at R (z ∷ xs) (y ∷ ys) (suc i) x h e = zip_at R xs ys i x h.1 e
 
 pub zip_long : {A B : Type 0} (R : A → B → Type 0) (xs : List A) (ys : List B) → Zip R xs ys → length ys ≡ length xs
 zip_long R [] [] h = refl
-zip_long R (x ∷ xs) [] h = absurd h
-zip_long R [] (y ∷ ys) h = absurd h
 zip_long R (x ∷ xs) (y ∷ ys) h = ap suc (zip_long R xs ys h.1)
+zip_long R xs ys h = absurd h
 
 -- the function has the name, which means it behind all items
 abbrev pub IsFunctionOf : Env → Name → Function → Type 0
@@ -71,17 +69,11 @@ just_declared env x m = ap (λ b. cond b (Some (record { name = x; depth = env.d
 -- what a function's name means later
 later_function : (t : CType) (d : Bool) (m : Meaning) → Agrees (a_function t d) m → d ≡ true → m ≡ a_function t true
 later_function t d (a_function u e) h q = ap₂ (λ x y. a_function x y) (sym h.0) (h.1 q)
-later_function t d (a_static s u e) h q = absurd h
-later_function t d (a_local n s u) h q = absurd h
-later_function t d (an_enumerator z) h q = absurd h
-later_function t d (unknown f fs) h q = absurd h
+later_function t d m h q = absurd h
 
 later_object : (s t : CType) (d : Bool) (m : Meaning) → Agrees (a_static s t d) m → (seen : CType) × (e : Bool) × (m ≡ a_static seen t e)
 later_object s t d (a_static r u e) h = (r, e, ap (λ x. a_static r x e) (sym h.0))
-later_object s t d (a_function u e) h = absurd h
-later_object s t d (a_local n r u) h = absurd h
-later_object s t d (an_enumerator z) h = absurd h
-later_object s t d (unknown f fs) h = absurd h
+later_object s t d m h = absurd h
 
 -- what a definition gives
 function_shape : (env : Env) (b : Before) (place : ℕ) (d : Declarator) (x : Ident) (is : BlockItems) (u : CType) (f : Function) → defined_as env b place d x is u ≡ fine f → (f.name ≡ x.name) × (f.ctype ≡ u)
@@ -89,11 +81,7 @@ function_shape env b place d x is (function t ts) f e =
     let i = first_fine (demand (are_named (parameters_of d)) 3 place met) (body_of env b t d ts is) (λ _ q. function_laid env x t ts q) f (definition_fine env b place d x is t ts f e) in
     let j = demand_fine _ 13 x.at (record { name = x.name; ctype = function t ts; variables = variables_of ts i.1; body = typed.block i.1.tree }) f i.4 in
     (ap (λ f. f.name) (sym j.1), ap (λ f. f.ctype) (sym j.1))
-function_shape env b place d x is void f e = absurd (cc)
-function_shape env b place d x is (integer i) f e = absurd (cc)
-function_shape env b place d x is (pointer t) f e = absurd (cc)
-function_shape env b place d x is (array t n) f e = absurd (cc)
-function_shape env b place d x is (struct n) f e = absurd (cc)
+function_shape env b place d x is u f e = absurd (cc)
 
 pub output_same : (p q : Output) → fine p ≡ fine q → p ≡ q
 output_same p q e = cc
@@ -176,16 +164,14 @@ decl_shape : (d : Decl) (last env : Env) (b : Before) (p : Output) → IsFileRig
 decl_shape (decl at class s ps) last env b p w e g = parts_shape ps last env b at class s p w e g
 
 named_shape : (last env : Env) (b : Before) (at : ℕ) (s : Spec) (d : Declarator) (body : Stmt) (k : Bool) (o : Option Ident) (p : Output) → IsFileRight env → IsNamed o → function_named env b at s d body k o ≡ fine p → Follows (behind_function_named env at s d o) last → HasShape last (name_or_empty o ∷ []) [] p
-named_shape last env b at s d body false o p w n e g = absurd (cc)
-named_shape last env b at s d body true None p w n e g = absurd (cc)
 named_shape last env b at s d body true (Some x) p w n e g = definition_shape last env b at s d body x p w n e g
+named_shape last env b at s d body k o p w n e g = absurd (cc)
 
 form_shape : (i : Item) (last env : Env) (b : Before) (p : Output) → IsFileRight env → IsItemLexical i → item env b i ≡ fine p → Follows (behind_by_form env b i) last → HasShape last (functions_of_item i) (objects_of_item i) p
-form_shape (struct_item at x ms) last env b p w n e g = (let i = on_fine _ (λ _. fine no_output) p e in no_shape last p i.2)
 form_shape (enum_item at x es) last env b p w n e g = (let i = first_fine _ _ (λ _ _. fine no_output) p e in no_shape last p i.4)
-form_shape (tag_item at x) last env b p w n e g = (let i = on_fine _ (λ _. fine no_output) p e in no_shape last p i.2)
 form_shape (decl_item at d) last env b p w n e g = decl_shape d last env b p w e g
 form_shape (function_item at class s d body) last env b p w n e g = named_shape last env b at s d body (declares_function d) (name_of d) p w n.0 e g
+form_shape i last env b p w n e g = (let i = on_fine _ (λ _. fine no_output) p e in no_shape last p i.2)
 
 pub items_shape : (is : Items) (last env : Env) (b : Before) (p : Output) → IsFileRight env → IsUnitLexical is → items env b is ≡ fine p → Follows (behind_items env b is) last → HasShape last (functions_of is) (objects_of is) p
 items_shape no_items last env b p w l e g = no_shape last p e

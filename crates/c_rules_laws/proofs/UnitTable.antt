@@ -25,7 +25,7 @@ use Rattle.c_rules_laws.proofs.Holding.{on_fine, demand_fine}
 use Rattle.c_rules_laws.proofs.SoundStructs.{are_structs}
 use Rattle.c_rules_laws.proofs.FileScopes.{IsFileRight, follows_self}
 use Rattle.c_rules_laws.proofs.FileItems.{Step, items_step}
-use Rattle.c_rules_laws.proofs.UnitScopes.{IsTable}
+use Rattle.c_rules_laws.proofs.UnitScopes.{IsTable, suc_some}
 use Rattle.c_rules_laws.proofs.UnitShape.{Zip, zip_at, zip_long, IsFunctionOf, IsObjectOf, HasShape, items_shape}
 use Rattle.c_rules_laws.proofs.UnitItems.{begins_self, AreFunctions, AreStatics, items_right}
 
@@ -60,10 +60,6 @@ before_right w = record {
 }
 
 -- ## What names mean behind all items
-
-pub suc_some : (o : Option ℕ) (i : ℕ) → option_map suc o ≡ Some i → (j : ℕ) × (o ≡ Some j) × (i ≡ suc j)
-suc_some None i e = absurd (let q : None ≡ Some i = e in cc)
-suc_some (Some j) i e = (j, refl, (let q : Some (suc j) ≡ Some i = e in cc))
 
 pub name_at : (xs : List Name) (x : Name) (i : ℕ) → number_among xs x ≡ Some i → slice_get xs i ≡ Some x
 name_at [] x i e = absurd (let q : None ≡ Some i = e in cc)
@@ -138,9 +134,8 @@ module _ (m : Mode) (u : Items) (out : Output) (lexical : IsUnitLexical u) (type
 
   each_name : (xs : List Name) (fs : List Function) → Zip (IsFunctionOf (env_behind m u)) xs fs → All (λ f. IsName f.name) fs
   each_name [] [] h = λ k d l. absurd (omega (arith, l))
-  each_name (x ∷ xs) [] h = absurd h
-  each_name [] (f ∷ fs) h = absurd h
   each_name (x ∷ xs) (f ∷ fs) h = All-cons (λ f. IsName f.name) f fs (subst IsName (sym h.0.0) h.0.1) (each_name xs fs h.1)
+  each_name xs fs h = absurd h
 
   pub parts_of_program : PartsAreRight (program_of m u out)
   parts_of_program = record {

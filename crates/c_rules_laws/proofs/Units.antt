@@ -24,11 +24,8 @@ use Rattle.c_rules_laws.proofs.Tags.{items_tags}
 -- ## What is known of the whole unit from its syntax
 
 item_functions_same : (i : Item) → functions_of_item (unplaced_item i) ≡ functions_of_item i
-item_functions_same (struct_item at x ms) = refl
-item_functions_same (enum_item at x es) = refl
-item_functions_same (tag_item at x) = refl
-item_functions_same (decl_item at d) = refl
 item_functions_same (function_item at class s d body) = ap (λ (x : Name). x ∷ []) (declared_name_same d)
+item_functions_same i = refl
 
 functions_same : (u : Items) → functions_of (unplaced_unit u) ≡ functions_of u
 functions_same no_items = refl
@@ -45,11 +42,8 @@ decl_objects_same : (d : Decl) → objects_of_decl (unplaced_decl d) ≡ objects
 decl_objects_same (decl at class s ps) = parts_objects_same class ps
 
 item_objects_same : (i : Item) → objects_of_item (unplaced_item i) ≡ objects_of_item i
-item_objects_same (struct_item at x ms) = refl
-item_objects_same (enum_item at x es) = refl
-item_objects_same (tag_item at x) = refl
 item_objects_same (decl_item at d) = decl_objects_same d
-item_objects_same (function_item at class s d body) = refl
+item_objects_same i = refl
 
 objects_same : (u : Items) → objects_of (unplaced_unit u) ≡ objects_of u
 objects_same no_items = refl

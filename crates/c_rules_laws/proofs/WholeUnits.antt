@@ -29,7 +29,7 @@ use Rattle.c_rules_laws.proofs.MadeTypes.{type_is}
 use Rattle.c_rules_laws.proofs.SitesOfExpressions.{AreShort}
 use Rattle.c_rules_laws.proofs.FileScopes.{IsFileRight, follows_self}
 use Rattle.c_rules_laws.proofs.UnitShape.{Zip, zip_at, zip_long, IsFunctionOf, IsObjectOf, HasShape, items_shape}
-use Rattle.c_rules_laws.proofs.UnitTable.{parts_of_program}
+use Rattle.c_rules_laws.proofs.UnitTable.{parts_of_program, before_right}
 use Rattle.c_rules_laws.specs.Programs.{calls_of_unit}
 use Rattle.c_rules_laws.proofs.Spans.{Spans, items_span}
 use Rattle.c_rules_laws.proofs.StaticStrings.{strings_static}
@@ -39,26 +39,6 @@ use Rattle.c_rules_laws.proofs.NamesOfItems.{items_define}
 use Rattle.c_rules_laws.proofs.UnitTable.{name_at, none_defined, one_binding, no_binding, same_function}
 
 -- ## Before all items
-
-nothing_sound : (n : ℕ) → AreSound (map types_of_struct (replicate n incomplete))
-nothing_sound n = record {
-  rank = λ s. 0;
-  ranked = λ s ts e. absurd (none_defined n s ts e);
-  below = λ s ts e. absurd (none_defined n s ts e);
-  complete = λ s ts e. absurd (none_defined n s ts e);
-  members = λ s ts e. absurd (none_defined n s ts e);
-  made = λ s ts e. absurd (none_defined n s ts e);
-  few = λ s ts e. absurd (none_defined n s ts e);
-}
-
-before_right : (w : Whole) → IsFileRight (empty_env w)
-before_right w = record {
-  runs = refl;
-  shallow = refl;
-  names_known = record { sound = nothing_sound (length w.tags); meanings = λ x b e. absurd (no_binding x b e) };
-  shallow_names = λ x b e. absurd (no_binding x b e);
-  meanings = λ x b e. absurd (no_binding x b e);
-}
 
 -- ## Places of names
 
@@ -89,32 +69,28 @@ module _ (last : Env) where
 
   all_differ : (x : Name) (f : Function) → f.name ≡ x → (xs : List Name) (fs : List Function) → AreNamed xs fs → Each (λ y. x ≢ y) xs → All (λ g. f.name ≢ g.name) fs
   all_differ x f e [] [] z h = All-nil (λ g. f.name ≢ g.name)
-  all_differ x f e (y ∷ xs) [] z h = absurd z
-  all_differ x f e [] (g ∷ fs) z h = absurd z
   all_differ x f e (y ∷ xs) (g ∷ fs) z h = All-cons (λ g. f.name ≢ g.name) g fs (λ q. h.0 (sym e ∙ (q ∙ z.0.0))) (all_differ x f e xs fs z.1 h.1)
+  all_differ x f e xs fs z h = absurd z
 
   pairs_differ : (xs : List Name) (fs : List Function) → AreNamed xs fs → Differ xs → AllPairs (λ f g. f.name ≢ g.name) fs
   pairs_differ [] [] z h = λ i j d k l. absurd (omega (arith, k, l))
-  pairs_differ (x ∷ xs) [] z h = absurd z
-  pairs_differ [] (f ∷ fs) z h = absurd z
   pairs_differ (x ∷ xs) (f ∷ fs) z h = AllPairs-cons (λ f g. f.name ≢ g.name) f fs (all_differ x f z.0.0 xs fs z.1 h.0) (pairs_differ xs fs z.1 h.1)
+  pairs_differ xs fs z h = absurd z
 
   no_system_call : (m : Mode) (x : Name) (f : Function) → f.name ≡ x → is_among (given_names m) x ≡ false → (k : ℕ) → k < 24 → f.name ≢ name_of k
   no_system_call m x f e h k l q = (let a : is_among (given_names m) x ≡ true = subst (λ y. is_among (given_names m) y ≡ true) (sym q ∙ e) (given_among m k l) in let b : true ≡ false = sym a ∙ h in cc)
 
   all_apart : (m : Mode) (xs : List Name) (fs : List Function) → AreNamed xs fs → Each (λ x. is_among (given_names m) x ≡ false) xs → All (λ f. (k : ℕ) → k < 24 → f.name ≢ name_of k) fs
   all_apart m [] [] z h = All-nil (λ f. (k : ℕ) → k < 24 → f.name ≢ name_of k)
-  all_apart m (x ∷ xs) [] z h = absurd z
-  all_apart m [] (f ∷ fs) z h = absurd z
   all_apart m (x ∷ xs) (f ∷ fs) z h = All-cons (λ f. (k : ℕ) → k < 24 → f.name ≢ name_of k) f fs (no_system_call m x f z.0.0 h.0) (all_apart m xs fs z.1 h.1)
+  all_apart m xs fs z h = absurd z
 
   -- ## Static objects
 
   all_static : (p : Program) (xs : List Name) (ss rest : List Static) → Zip (IsObjectOf last) xs ss → All (IsRightObject p) (ss ++ rest) → All (IsStatic p) rest → All (IsStatic p) (ss ++ rest)
   all_static p [] [] rest z h k = k
-  all_static p (x ∷ xs) [] rest z h k = absurd z
-  all_static p [] (s ∷ ss) rest z h k = absurd z
   all_static p (x ∷ xs) (s ∷ ss) rest z h k = All-cons (IsStatic p) s (ss ++ rest) (All-head (IsRightObject p) s (ss ++ rest) h z.0.0) (all_static p xs ss rest z.1 (All-tail (IsRightObject p) s (ss ++ rest) h) k)
+  all_static p xs ss rest z h k = absurd z
 
 -- ## The function main
 
@@ -123,10 +99,7 @@ main_meant (a_function t d) h =
     let e : t ≡ of_none int = type_is t (of_none int) (and_right d (same_type t (of_none int)) h) in
     let f : d ≡ true = and_left d (same_type t (of_none int)) h in
     ap (λ u. a_function u d) e ∙ ap (a_function (of_none int)) f
-main_meant (a_static s w d) h = absurd (let q : false ≡ true = h in cc)
-main_meant (a_local n s w) h = absurd (let q : false ≡ true = h in cc)
-main_meant (an_enumerator z) h = absurd (let q : false ≡ true = h in cc)
-main_meant (unknown f fs) h = absurd (let q : false ≡ true = h in cc)
+main_meant m h = absurd (let q : false ≡ true = h in cc)
 
 main_bound : (o : Option Binding) → is_main_bound o ≡ true → (b : Binding) × (o ≡ Some b) × (b.means ≡ a_function (of_none int) true)
 main_bound None h = absurd (let q : false ≡ true = h in cc)
