@@ -30,38 +30,29 @@ member_const k n c h = tt
 
 pub binary_const : (o : BinOp) (a b : Constant) → IsConst (constant_binary o a b) → IsConst a × IsConst b
 binary_const o not_constant b h = absurd h
-binary_const o undefined not_constant h = absurd h
-binary_const o (known x) not_constant h = absurd h
+binary_const o a not_constant h = absurd h
 binary_const o a b h = (tt, tt)
 
 pub and_const : (a b : Constant) → IsConst (constant_and a b) → IsConst a × IsConst b
 and_const not_constant b h = absurd h
-and_const undefined not_constant h = absurd h
-and_const (known x) not_constant h = absurd h
+and_const a not_constant h = absurd h
 and_const a b h = (tt, tt)
 
 pub or_const : (a b : Constant) → IsConst (constant_or a b) → IsConst a × IsConst b
 or_const not_constant b h = absurd h
-or_const undefined not_constant h = absurd h
-or_const (known x) not_constant h = absurd h
+or_const a not_constant h = absurd h
 or_const a b h = (tt, tt)
 
 pub conditional_const : (c a b : Constant) → IsConst (constant_conditional c a b) → IsConst c × IsConst a × IsConst b
 conditional_const not_constant a b h = absurd h
-conditional_const undefined not_constant b h = absurd h
-conditional_const undefined undefined not_constant h = absurd h
-conditional_const undefined (known x) not_constant h = absurd h
-conditional_const (known z) not_constant b h = absurd h
-conditional_const (known z) undefined not_constant h = absurd h
-conditional_const (known z) (known x) not_constant h = absurd h
+conditional_const c not_constant b h = absurd h
+conditional_const c a not_constant h = absurd h
 conditional_const c a b h = (tt, tt, tt)
 
 pub moved_const : (c : Constant) (s : ℤ → ℤ) (k : Constant) → IsConst (constant_moved c s k) → IsConst c × IsConst k
-moved_const undefined s undefined h = (tt, tt)
-moved_const undefined s (known y) h = (tt, tt)
-moved_const (known x) s undefined h = (tt, tt)
-moved_const (known x) s (known y) h = (tt, tt)
-moved_const c s k h = absurd h
+moved_const not_constant s k h = absurd h
+moved_const c s not_constant h = absurd h
+moved_const c s k h = (tt, tt)
 
 pub zero_const : (c : Constant) → is_known_zero c ≡ true → IsConst c
 zero_const not_constant h = absurd (cc)

@@ -5,6 +5,7 @@ use Rattle.std.proofs.lemmas.Bool.{ltb-true}
 use Rattle.std.proofs.lemmas.Slice.Eq.{bytes_eq-Decides}
 use Rattle.std.proofs.lemmas.Bool.{or_right}
 use Rattle.c_rules.specs.Names.{Name, number_among, is_among, with_new}
+use Rattle.c_rules_laws.proofs.Holding.{either}
 
 -- ## Each name of a list
 
@@ -35,10 +36,6 @@ or_map : (b c d : Bool) → (c ≡ true → d ≡ true) → (b || c) ≡ true �
 or_map true c d h e = refl
 or_map false c d h e = h e
 
-some_mapped : (o : Option ℕ) → is_some (option_map suc o) ≡ is_some o
-some_mapped None = refl
-some_mapped (Some n) = refl
-
 pub itself : (x : Name) → bytes_eq x x ≡ true
 itself x = (bytes_eq-Decides x x).1 refl
 
@@ -47,7 +44,8 @@ among_split y x ys = by_test (bytes_eq y x) (number_among ys x)
   where
     by_test : (b : Bool) (o : Option ℕ) → is_some (if b then Some 0 else option_map suc o) ≡ (b || is_some o)
     by_test true o = refl
-    by_test false o = some_mapped o
+    by_test false None = refl
+    by_test false (Some n) = refl
 
 pub among_first : (y x : Name) (ys : List Name) → bytes_eq y x ≡ true → is_among (y ∷ ys) x ≡ true
 among_first y x ys e = among_split y x ys ∙ ap (λ b. b || is_among ys x) e
@@ -72,18 +70,10 @@ among_right (y ∷ xs) ys x e = among_rest y x (xs ++ ys) (among_right xs ys x e
 -- ## A list with a name at its end, where it isn't there yet
 
 pub new_kept : (ys : List Name) (x z : Name) → is_among ys z ≡ true → is_among (with_new ys x) z ≡ true
-new_kept ys x z e = by_test (is_among ys x)
-  where
-    by_test : (b : Bool) → is_among (if b then ys else ys ++ x ∷ []) z ≡ true
-    by_test true = e
-    by_test false = among_left ys (x ∷ []) z e
+new_kept ys x z e = either (λ zs. is_among zs z ≡ true) (is_among ys x) ys (ys ++ x ∷ []) (λ _. e) (among_left ys (x ∷ []) z e)
 
 pub new_there : (ys : List Name) (x : Name) → is_among (with_new ys x) x ≡ true
-new_there ys x = by_test (is_among ys x) refl
-  where
-    by_test : (b : Bool) → is_among ys x ≡ b → is_among (if b then ys else ys ++ x ∷ []) x ≡ true
-    by_test true e = e
-    by_test false e = among_right ys (x ∷ []) x (among_first x x [] (itself x))
+new_there ys x = either (λ zs. is_among zs x ≡ true) (is_among ys x) ys (ys ++ x ∷ []) (λ q. q) (among_right ys (x ∷ []) x (among_first x x [] (itself x)))
 
 pub new_few : (ys : List Name) (x : Name) (m n : ℕ) → m ≤ n → length ys ≤ n → (is_among ys x || nat_lt (length ys) m) ≡ true → length (with_new ys x) ≤ n
 new_few ys x m n l h e = by_test (is_among ys x) e
@@ -108,15 +98,12 @@ without_short x (y ∷ ys) e = by_test (bytes_eq y x) (without_short x ys) (sym 
 
 without_other : (x z : Name) → (x ≡ z → ⊥) → (ys : List Name) → is_among ys z ≡ true → is_among (without x ys) z ≡ true
 without_other x z n [] e = absurd (none_among z e)
-without_other x z n (y ∷ ys) e = by_test (bytes_eq y x) refl (without_other x z n ys)
+without_other x z n (y ∷ ys) e =
+    either (λ zs. is_among zs z ≡ true) (bytes_eq y x) ys (y ∷ without x ys) (λ q. apart (bytes_eq y z) refl ((bytes_eq-Decides y x).0 q) (sym (among_split y z ys) ∙ e)) (among_map y z ys (without x ys) (without_other x z n ys) e)
   where
     apart : (b : Bool) → bytes_eq y z ≡ b → y ≡ x → (b || is_among ys z) ≡ true → is_among ys z ≡ true
     apart true q s f = absurd (n (sym s ∙ (bytes_eq-Decides y z).0 q))
     apart false q s f = f
-
-    by_test : (b : Bool) → bytes_eq y x ≡ b → (is_among ys z ≡ true → is_among (without x ys) z ≡ true) → is_among (if b then ys else y ∷ without x ys) z ≡ true
-    by_test true q h = apart (bytes_eq y z) refl ((bytes_eq-Decides y x).0 q) (sym (among_split y z ys) ∙ e)
-    by_test false q h = among_map y z ys (without x ys) h e
 
 -- names that differ are no more than those of a list in which they all stand
 pub few_names : (xs ys : List Name) → Differ xs → Each (λ x. is_among ys x ≡ true) xs → length xs ≤ length ys

@@ -23,7 +23,7 @@ use Rattle.c_rules.specs.BinaryExpressions.{shifted, compared_integers, sum_of, 
 use Rattle.c_rules.specs.Assignments.{assignment, operator_of_assignment, moves, right_type, update_of, assignment_by, one_for, step, trees_of, comma_of}
 use Rattle.c_rules.proofs.NothingMore.{nothing_more}
 use Rattle.c_rules.proofs.Integers.{size_holds}
-use Rattle.c_rules_laws.proofs.Holding.{Holds, demand_holds, behind_demand, after_part, if_holds, and_right}
+use Rattle.c_rules_laws.proofs.Holding.{Holds, demand_holds, behind_demand, after_part, if_holds, and_right, either}
 use Rattle.c_rules_laws.proofs.MadeTypes.{number_is}
 use Rattle.c_rules_laws.specs.ConstantForm.{IsConst}
 use Rattle.c_rules_laws.proofs.ConstantForms.{converted_const, unary_const, integer_const, decayed_const, member_const, binary_const, and_const, or_const, conditional_const, moved_const, zero_const}
@@ -71,23 +71,15 @@ module _ {X : Type 0} (gathering : Gathering X) where
   cast_gathered : (xs : List X) (i : IntType) (g : TypedExpression) → Gathers gathering xs g → Gathers gathering xs (cast_to i g)
   cast_gathered xs i g h = (h.0, λ c. h.1 (converted_const i g.constant c))
 
-  if_gathered : (xs : List X) (b : Bool) (g h : TypedExpression) → Gathers gathering xs g → Gathers gathering xs h → Gathers gathering xs (if b then g else h)
-  if_gathered xs true g h k l = k
-  if_gathered xs false g h k l = l
-
   pub converted_gathered : (xs : List X) (i : IntType) (g : TypedExpression) → Gathers gathering xs g → Gathers gathering xs (converted_to i g)
-  converted_gathered xs i g h = if_gathered xs (has_integer i g.ctype) g (cast_to i g) h (cast_gathered xs i g h)
+  converted_gathered xs i g h = either (Gathers gathering xs) (has_integer i g.ctype) g (cast_to i g) (λ _. h) (cast_gathered xs i g h)
 
   null_gathered : (xs : List X) (t : CType) (g : TypedExpression) → is_null g ≡ true → Gathers gathering xs g → Gathers gathering xs (null_of t)
   null_gathered xs t g e h = (let n = h.1 (zero_const g.constant e) in (sym n, λ _. n))
 
   assigned_kind_gathered : (xs : List X) (k : Kind) (t : CType) (g : TypedExpression) → Gathers gathering xs g → Gathers gathering xs (assigned_as k t g)
   assigned_kind_gathered xs (an_integer i) t g h = converted_gathered xs i g h
-  assigned_kind_gathered xs (a_pointer u) t g h = by_test (is_null g) refl
-    where
-      by_test : (b : Bool) → is_null g ≡ b → Gathers gathering xs (if b then null_of t else g)
-      by_test true e = null_gathered xs t g e h
-      by_test false e = h
+  assigned_kind_gathered xs (a_pointer u) t g h = either (Gathers gathering xs) (is_null g) (null_of t) g (λ e. null_gathered xs t g e h) h
   assigned_kind_gathered xs neither t g h = h
 
   pub assigned_gathered : (xs : List X) (t : CType) (g : TypedExpression) → Gathers gathering xs g → Gathers gathering xs (assigned t g)
@@ -239,20 +231,16 @@ module _ {X : Type 0} (gathering : Gathering X) where
     AlikeSites (alike_pointers x y) = Gathers gathering xs x × Gathers gathering ys y
     AlikeSites unlike = Unit {0}
 
-    if_alike : (b : Bool) (x y : Alike) → (b ≡ true → AlikeSites x) → AlikeSites y → AlikeSites (if b then x else y)
-    if_alike true x y h k = h refl
-    if_alike false x y h k = k
-
     pointers_gathered : (a b : TypedExpression) → Gathers gathering xs a → Gathers gathering ys b → AlikeSites (pointers_alike a b)
     pointers_gathered a b g h =
-        if_alike (same_type a.ctype b.ctype) (alike_pointers a b) _ (λ _. (g, h))
-        (if_alike (is_null a) (alike_pointers (null_of b.ctype) b) _ (λ e. (null_gathered xs b.ctype a e g, h))
-        (if_alike (is_null b) (alike_pointers a (null_of a.ctype)) unlike (λ e. (g, null_gathered ys a.ctype b e h)) tt))
+        either AlikeSites (same_type a.ctype b.ctype) (alike_pointers a b) _ (λ _. (g, h))
+        (either AlikeSites (is_null a) (alike_pointers (null_of b.ctype) b) _ (λ e. (null_gathered xs b.ctype a e g, h))
+        (either AlikeSites (is_null b) (alike_pointers a (null_of a.ctype)) unlike (λ e. (g, null_gathered ys a.ctype b e h)) tt))
 
     alike_of_gathered : (a b : TypedExpression) (k l : Kind) → Gathers gathering xs a → Gathers gathering ys b → AlikeSites (alike_of a b k l)
     alike_of_gathered a b (a_pointer t) (a_pointer u) g h = pointers_gathered a b g h
-    alike_of_gathered a b (a_pointer t) (an_integer j) g h = if_alike (is_null b) (alike_pointers a (null_of a.ctype)) unlike (λ e. (g, null_gathered ys a.ctype b e h)) tt
-    alike_of_gathered a b (an_integer i) (a_pointer u) g h = if_alike (is_null a) (alike_pointers (null_of b.ctype) b) unlike (λ e. (null_gathered xs b.ctype a e g, h)) tt
+    alike_of_gathered a b (a_pointer t) (an_integer j) g h = either AlikeSites (is_null b) (alike_pointers a (null_of a.ctype)) unlike (λ e. (g, null_gathered ys a.ctype b e h)) tt
+    alike_of_gathered a b (an_integer i) (a_pointer u) g h = either AlikeSites (is_null a) (alike_pointers (null_of b.ctype) b) unlike (λ e. (null_gathered xs b.ctype a e g, h)) tt
     alike_of_gathered a b k l g h = tt
 
     equality_gathered : (at : ℕ) (o : BinOp) (a b : TypedExpression) (x : Alike) → AlikeSites x → Gathers gathering xs a → Gathers gathering ys b → Holds (Gathers gathering (xs ++ ys)) (equality_of at o a b x)

@@ -24,6 +24,11 @@ pub behind_demand : {B : Type 0} (Q : B → Type 0) (t : Bool) (code at : ℕ) (
 behind_demand Q true code at r h = h refl
 behind_demand Q false code at r h = tt
 
+-- what holds of both that a test chooses between
+pub either : {A : Type 0} (P : A → Type 0) (t : Bool) (x y : A) → (t ≡ true → P x) → P y → P (if t then x else y)
+either P true x y h k = h refl
+either P false x y h k = k
+
 pub if_holds : {A : Type 0} (P : A → Type 0) (t : Bool) (r s : Checked A) → Holds P r → Holds P s → Holds P (if t then r else s)
 if_holds P true r s h k = h
 if_holds P false r s h k = k

@@ -90,9 +90,8 @@ module _ (p : Program) (vars : List CType) where
   -- values of these types
   abbrev pub TypesAre : List CType → List TypedExpression → Type 0
   TypesAre [] [] = Unit {0}
-  TypesAre (t ∷ ts) [] = ⊥
-  TypesAre [] (g ∷ gs) = ⊥
   TypesAre (t ∷ ts) (g ∷ gs) = (g.ctype ≡ t) × ValueRight p vars g × TypesAre ts gs
+  TypesAre ts gs = ⊥
 
   types_both : (xs ys : List CType) (gs hs : List TypedExpression) → TypesAre xs gs → TypesAre ys hs → TypesAre (xs ++ ys) (gs ++ hs)
   types_both [] ys [] hs h k = k

@@ -36,7 +36,7 @@ use Rattle.c_rules.specs.PrimaryExpressions.{typed_unsigned}
 use Rattle.c_meaning_laws.proofs.Places.{struct_is, member_lies, member_few}
 use Rattle.c_rules_laws.specs.MadeTypes.{NotArray, Made, IsSized}
 use Rattle.c_rules_laws.specs.SoundStructs.{AreSound, AreWithin}
-use Rattle.c_rules_laws.proofs.Holding.{Holds, on_holds, demand_holds, behind_demand, if_holds, holds_map, and_left, and_right}
+use Rattle.c_rules_laws.proofs.Holding.{Holds, on_holds, demand_holds, behind_demand, if_holds, holds_map, and_left, and_right, either}
 use Rattle.c_rules_laws.proofs.MadeTypes.{number_is, scalar_is, type_is, complete_known, scalar_not_array, void_is}
 use Rattle.c_rules_laws.proofs.SoundStructs.{are_structs, struct_few}
 use Rattle.c_rules_laws.proofs.SizeBounds.{size_bound}
@@ -45,16 +45,14 @@ use Rattle.c_rules_laws.proofs.RightTypedExpressions.{complete_thing, target_sca
 
 -- kinds of operators that compare, and that calculate
 abbrev pub IsComparison : OperatorKind → Type 0
-IsComparison balanced = ⊥
-IsComparison shift = ⊥
 IsComparison ordering = Unit {0}
 IsComparison equality = Unit {0}
+IsComparison k = ⊥
 
 abbrev pub IsCalculation : OperatorKind → Type 0
 IsCalculation balanced = Unit {0}
 IsCalculation shift = Unit {0}
-IsCalculation ordering = ⊥
-IsCalculation equality = ⊥
+IsCalculation k = ⊥
 
 common_twice : (i j : IntType) → common i j ≡ common i (common i j)
 common_twice Uint j = refl
@@ -66,21 +64,18 @@ right_side balanced i j h = common_twice i j
 right_side shift i j h = promoted_is j
 right_side k i j h = absurd h
 
-if_calculation : (b : Bool) (x y : BinOp) → IsCalculation (kind_of_operator x) → IsCalculation (kind_of_operator y) → IsCalculation (kind_of_operator (if b then x else y))
-if_calculation true x y h k = h
-if_calculation false x y h k = k
-
 pub assignment_calculates : (code : ℕ) → IsCalculation (kind_of_operator (operator_of_assignment code))
 assignment_calculates code =
-    if_calculation (nat_eq code punctuators.ASSIGN_MULTIPLY) op.Mul _ tt
-    (if_calculation (nat_eq code punctuators.ASSIGN_DIVIDE) op.Div _ tt
-    (if_calculation (nat_eq code punctuators.ASSIGN_REMAINDER) op.Rem _ tt
-    (if_calculation (nat_eq code punctuators.ASSIGN_ADD) op.Add _ tt
-    (if_calculation (nat_eq code punctuators.ASSIGN_SUBTRACT) op.Sub _ tt
-    (if_calculation (nat_eq code punctuators.ASSIGN_LEFT_SHIFT) op.ShiftLeft _ tt
-    (if_calculation (nat_eq code punctuators.ASSIGN_RIGHT_SHIFT) op.ShiftRight _ tt
-    (if_calculation (nat_eq code punctuators.ASSIGN_AND) op.BitAnd _ tt
-    (if_calculation (nat_eq code punctuators.ASSIGN_XOR) op.BitXor op.BitOr tt tt))))))))
+    let P : BinOp → Type 0 = λ o. IsCalculation (kind_of_operator o) in
+    either P (nat_eq code punctuators.ASSIGN_MULTIPLY) op.Mul _ (λ _. tt)
+    (either P (nat_eq code punctuators.ASSIGN_DIVIDE) op.Div _ (λ _. tt)
+    (either P (nat_eq code punctuators.ASSIGN_REMAINDER) op.Rem _ (λ _. tt)
+    (either P (nat_eq code punctuators.ASSIGN_ADD) op.Add _ (λ _. tt)
+    (either P (nat_eq code punctuators.ASSIGN_SUBTRACT) op.Sub _ (λ _. tt)
+    (either P (nat_eq code punctuators.ASSIGN_LEFT_SHIFT) op.ShiftLeft _ (λ _. tt)
+    (either P (nat_eq code punctuators.ASSIGN_RIGHT_SHIFT) op.ShiftRight _ (λ _. tt)
+    (either P (nat_eq code punctuators.ASSIGN_AND) op.BitAnd _ (λ _. tt)
+    (either P (nat_eq code punctuators.ASSIGN_XOR) op.BitXor op.BitOr (λ _. tt) tt))))))))
 
 moves_pointers : (o : BinOp) → moves o ≡ true → MovesPointers o
 moves_pointers op.Add h = inl refl
@@ -382,21 +377,17 @@ module _ (p : Program) (vars : List CType) where
     AlikeRight a b (alike_pointers x y) = ValueRight p vars x × ValueRight p vars y × (y.ctype ≡ x.ctype) × ((u : CType) × (x.ctype ≡ pointer u))
     AlikeRight a b unlike = Unit {0}
 
-    if_alike : (a b : TypedExpression) (t : Bool) (x y : Alike) → (t ≡ true → AlikeRight a b x) → AlikeRight a b y → AlikeRight a b (if t then x else y)
-    if_alike a b true x y h k = h refl
-    if_alike a b false x y h k = k
-
     pointers_right : (a b : TypedExpression) (t u : CType) → a.ctype ≡ pointer t → b.ctype ≡ pointer u → ValueRight p vars a → ValueRight p vars b → AlikeRight a b (pointers_alike a b)
     pointers_right a b t u e f g h =
-        if_alike a b (same_type a.ctype b.ctype) (alike_pointers a b) _ (λ s. (g, h, sym (type_is a.ctype b.ctype s), (t, e)))
-        (if_alike a b (is_null a) (alike_pointers (null_of b.ctype) b) _ (λ _. (null_right p vars b.ctype u f, h, refl, (u, f)))
-        (if_alike a b (is_null b) (alike_pointers a (null_of a.ctype)) unlike (λ _. (g, null_right p vars a.ctype t e, refl, (t, e))) tt))
+        either (AlikeRight a b) (same_type a.ctype b.ctype) (alike_pointers a b) _ (λ s. (g, h, sym (type_is a.ctype b.ctype s), (t, e)))
+        (either (AlikeRight a b) (is_null a) (alike_pointers (null_of b.ctype) b) _ (λ _. (null_right p vars b.ctype u f, h, refl, (u, f)))
+        (either (AlikeRight a b) (is_null b) (alike_pointers a (null_of a.ctype)) unlike (λ _. (g, null_right p vars a.ctype t e, refl, (t, e))) tt))
 
     alike_of_right : (a b : TypedExpression) (k l : Kind) → kind_of a.ctype ≡ k → kind_of b.ctype ≡ l → ValueRight p vars a → ValueRight p vars b → AlikeRight a b (alike_of a b k l)
     alike_of_right a b (an_integer i) (an_integer j) e f g h = (common_is i j, (i, kind_integer a.ctype i e), (j, kind_integer b.ctype j f))
     alike_of_right a b (a_pointer t) (a_pointer u) e f g h = pointers_right a b t u (kind_pointer a.ctype t e) (kind_pointer b.ctype u f) g h
-    alike_of_right a b (a_pointer t) (an_integer j) e f g h = if_alike a b (is_null b) (alike_pointers a (null_of a.ctype)) unlike (λ _. (g, null_right p vars a.ctype t (kind_pointer a.ctype t e), refl, (t, kind_pointer a.ctype t e))) tt
-    alike_of_right a b (an_integer i) (a_pointer u) e f g h = if_alike a b (is_null a) (alike_pointers (null_of b.ctype) b) unlike (λ _. (null_right p vars b.ctype u (kind_pointer b.ctype u f), h, refl, (u, kind_pointer b.ctype u f))) tt
+    alike_of_right a b (a_pointer t) (an_integer j) e f g h = either (AlikeRight a b) (is_null b) (alike_pointers a (null_of a.ctype)) unlike (λ _. (g, null_right p vars a.ctype t (kind_pointer a.ctype t e), refl, (t, kind_pointer a.ctype t e))) tt
+    alike_of_right a b (an_integer i) (a_pointer u) e f g h = either (AlikeRight a b) (is_null a) (alike_pointers (null_of b.ctype) b) unlike (λ _. (null_right p vars b.ctype u (kind_pointer b.ctype u f), h, refl, (u, kind_pointer b.ctype u f))) tt
     alike_of_right a b k l e f g h = tt
 
     equality_right : (at : ℕ) (o : BinOp) (a b : TypedExpression) (x : Alike) → kind_of_operator o ≡ equality → AlikeRight a b x → ValueRight p vars a → ValueRight p vars b → Holds (TypedExpressionRight p vars) (equality_of at o a b x)

@@ -32,7 +32,7 @@ use Rattle.c_meaning_laws.proofs.Steps.{settled}
 use Rattle.c_rules_laws.specs.MadeTypes.{NotArray, Made}
 use Rattle.c_rules_laws.specs.RightScopes.{Seen, IsThing}
 use Rattle.c_rules_laws.specs.SoundStructs.{AreWithin}
-use Rattle.c_rules_laws.proofs.Holding.{Holds, demand_holds, and_left}
+use Rattle.c_rules_laws.proofs.Holding.{Holds, demand_holds, and_left, either}
 use Rattle.c_rules_laws.proofs.MadeTypes.{integer_is, scalar_is, type_is, complete_kept, result_not_array}
 use Rattle.c_rules_laws.proofs.SoundStructs.{object_is, same_flat}
 use Rattle.c_rules_laws.proofs.SizeBounds.{has_cell}
@@ -180,29 +180,23 @@ module _ (p : Program) where
   truth_constant (known x) = truth_right _
   truth_constant c = tt
 
-  if_constant : (t : CType) (b : Bool) (c d : Constant) → ConstRight t c → ConstRight t d → ConstRight t (if b then c else d)
-  if_constant t true c d h k = h
-  if_constant t false c d h k = k
-
   pub and_constant : (a b : Constant) → ConstRight int (constant_and a b)
-  and_constant (known x) undefined = if_constant int (is_zero x) (answered (truth false)) (constant_truth undefined) (truth_right false) tt
-  and_constant (known x) (known y) = if_constant int (is_zero x) (answered (truth false)) (constant_truth (known y)) (truth_right false) (truth_constant (known y))
+  and_constant not_constant b = tt
   and_constant a not_constant = tt
+  and_constant (known x) b = either (ConstRight int) (is_zero x) (answered (truth false)) (constant_truth b) (λ _. truth_right false) (truth_constant b)
   and_constant a b = tt
 
   pub or_constant : (a b : Constant) → ConstRight int (constant_or a b)
-  or_constant (known x) undefined = if_constant int (is_zero x) (constant_truth undefined) (answered (truth true)) tt (truth_right true)
-  or_constant (known x) (known y) = if_constant int (is_zero x) (constant_truth (known y)) (answered (truth true)) (truth_constant (known y)) (truth_right true)
+  or_constant not_constant b = tt
   or_constant a not_constant = tt
+  or_constant (known x) b = either (ConstRight int) (is_zero x) (constant_truth b) (answered (truth true)) (λ _. truth_constant b) (truth_right true)
   or_constant a b = tt
 
   pub conditional_constant : (t : CType) (c a b : Constant) → ConstRight t a → ConstRight t b → ConstRight t (constant_conditional c a b)
-  conditional_constant t (known z) undefined undefined h k = if_constant t (is_zero z) undefined undefined tt tt
-  conditional_constant t (known z) undefined (known y) h k = if_constant t (is_zero z) (known y) undefined k tt
-  conditional_constant t (known z) (known x) undefined h k = if_constant t (is_zero z) undefined (known x) tt h
-  conditional_constant t (known z) (known x) (known y) h k = if_constant t (is_zero z) (known y) (known x) k h
+  conditional_constant t not_constant a b h k = tt
   conditional_constant t c not_constant b h k = tt
   conditional_constant t c a not_constant h k = tt
+  conditional_constant t (known z) a b h k = either (ConstRight t) (is_zero z) b a (λ _. k) h
   conditional_constant t c a b h k = tt
 
   pub integer_part : (t : CType) (b : Bool) (c : Constant) → ConstRight t c → ConstRight t (integer_constant_if b c)
@@ -364,11 +358,7 @@ module _ (p : Program) (vars : List CType) where
   RightAs t g = ValueRight g × (g.ctype ≡ t)
 
   pub converted_right : (i : IntType) (g : TypedExpression) → IsIntegerType g.ctype → ValueRight g → RightAs (integer i) (converted_to i g)
-  converted_right i g t h = by_test (has_integer i g.ctype) refl
-    where
-      by_test : (b : Bool) → has_integer i g.ctype ≡ b → RightAs (integer i) (if b then g else cast_to i g)
-      by_test true e = (h, has_integer_is i g.ctype e)
-      by_test false e = (cast_right i g t h, refl)
+  converted_right i g t h = either (RightAs (integer i)) (has_integer i g.ctype) g (cast_to i g) (λ e. (h, has_integer_is i g.ctype e)) (cast_right i g t h, refl)
 
   pub null_right : (t u : CType) → t ≡ pointer u → ValueRight (null_of t)
   null_right t u e = (refl, (u, e), subst IsResult (sym e) tt, (u, e))

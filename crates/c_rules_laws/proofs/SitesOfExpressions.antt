@@ -186,12 +186,9 @@ after_operand_counted : (env : Env) (at place : ℕ) (o : Postfix) (b : Before) 
 after_operand_counted env at place post_increment b n ws r h = one_part b n ws (place_at place r) (step env at Add true) (place_at_counted place b n ws r h) (λ g k. step_gathered all_sites env at Add true (Span b n) g k)
 after_operand_counted env at place post_decrement b n ws r h = one_part b n ws (place_at place r) (step env at Sub true) (place_at_counted place b n ws r h) (λ g k. step_gathered all_sites env at Sub true (Span b n) g k)
 
-if_counted : (b : Before) (n : ℕ) (ws : List (List ℕ)) (t : Bool) (r s : Checked TypedExpression) → Holds (Counted b n ws) r → Holds (Counted b n ws) s → Holds (Counted b n ws) (if t then r else s)
-if_counted b n ws t r s h k = if_holds (Counted b n ws) t r s h k
-
 unary_rule_counted : (env : Env) (at place o : ℕ) (b : Before) (n : ℕ) (ws : List (List ℕ)) (r : Checked TypedExpression) → Holds (Counted b n ws) r → Holds (Counted b n ws) (unary_rule env at place o r)
 unary_rule_counted env at place o b n ws r h =
-    if_counted b n ws (nat_eq o AMPERSAND) _ _ (one_part b n ws r (address at place) h (λ g k. address_gathered all_sites at place (Span b n) g k))
+    if_holds (Counted b n ws) (nat_eq o AMPERSAND) _ _ (one_part b n ws r (address at place) h (λ g k. address_gathered all_sites at place (Span b n) g k))
     (one_part b n ws (value_at env place r) (unary_of_value at o) (value_at_counted env place b n ws r h) (λ g k. unary_gathered all_sites at o (Span b n) g k))
 
 infix_sites : (env : Env) (at : ℕ) (o : Infix) (xs ys : List ℕ) (g h : TypedExpression) → Gathers all_sites xs g → Gathers all_sites ys h → Holds (Gathers all_sites (xs ++ ys)) (infix_rule env at o g h)

@@ -32,9 +32,9 @@ rounded_within e n h = record { size = rounded_up e.size e.alignment n h.size h.
 
 module _ (f : ℕ → Extent) (g : ℕ → List CType) (h : (s : ℕ) → IsWithin (f s) (length (g s))) where
   with_within : (t : CType) → IsWithin (extent_with f t) (length (flat_with g t))
-  with_within void = record { size = omega arith; aligned = inl refl }
-  with_within (integer Char) = record { size = omega arith; aligned = inl refl }
-  with_within (integer Uchar) = record { size = omega arith; aligned = inl refl }
+  with_within (integer Int) = record { size = omega arith; aligned = inr refl }
+  with_within (integer Uint) = record { size = omega arith; aligned = inr refl }
+  with_within (pointer t) = record { size = omega arith; aligned = inr refl }
   with_within (array t n) = record {
     size = (let s = (with_within t).size in let l = length_repeat n (flat_with g t) in subst (λ k. n * (extent_with f t).size ≤ 4 * k) (sym l) (times n (extent_with f t).size (length (flat_with g t)) s));
     aligned = (with_within t).aligned;
@@ -44,8 +44,7 @@ module _ (f : ℕ → Extent) (g : ℕ → List CType) (h : (s : ℕ) → IsWith
       times zero a c l = omega arith
       times (suc n) a c l = (let r = times n a c l in omega (arith, r, l))
   with_within (struct s) = h s
-  with_within (function t ts) = record { size = omega arith; aligned = inl refl }
-  with_within t = record { size = omega arith; aligned = inr refl }
+  with_within t = record { size = omega arith; aligned = inl refl }
 
   after_within : (e : Extent) (n : ℕ) (ts : List CType) → IsWithin e n → IsWithin (extent_after f e ts) (n + length (flat_all_with g ts))
   after_within e n [] w = subst (IsWithin e) (let q : n ≡ n + 0 = omega arith in q) w

@@ -23,7 +23,7 @@ use Rattle.c_rules.specs.BinaryExpressions.{sum_of, sum, minus_of, balanced_of, 
 use Rattle.c_rules.specs.Assignments.{assignable, assignment, operator_of_assignment, moves, update_of, assignment_by, one_for, step, last_type, comma_of}
 use Rattle.c_rules_laws.specs.MadeTypes.{NotArray, Made, AllMade, FewCells, IsSized}
 use Rattle.c_rules_laws.specs.SoundStructs.{AreSound}
-use Rattle.c_rules_laws.proofs.Holding.{Holds, demand_holds, behind_demand, after_part, if_holds}
+use Rattle.c_rules_laws.proofs.Holding.{Holds, demand_holds, behind_demand, after_part, if_holds, either}
 use Rattle.c_rules_laws.proofs.MadeTypes.{result_not_array, few_unless_array}
 
 module _ (structs : Structs) where
@@ -92,16 +92,8 @@ module _ (env : Env) where
   valued_typed at g h = valued_as_typed at g g.ctype refl h
 
 module _ (structs : Structs) where
-  if_typed : (t : Bool) (g h : TypedExpression) → TypedExpressionTyped structs g → TypedExpressionTyped structs h → TypedExpressionTyped structs (if t then g else h)
-  if_typed true g h k l = k
-  if_typed false g h k l = l
-
   pub converted_typed : (i : IntType) (g : TypedExpression) → TypedExpressionTyped structs g → TypedExpressionTyped structs (converted_to i g)
-  converted_typed i g h = if_typed (has_integer i g.ctype) g (cast_to i g) h (value_int structs i)
-
-  if_assigned : (t : Bool) (u : CType) (g : TypedExpression) → TypedExpressionTyped structs g → IsValueType structs u → TypedExpressionTyped structs (if t then null_of u else g)
-  if_assigned true u g h k = k
-  if_assigned false u g h k = h
+  converted_typed i g h = either (TypedExpressionTyped structs) (has_integer i g.ctype) g (cast_to i g) (λ _. h) (value_int structs i)
 
   -- ## Calls
 
@@ -226,20 +218,16 @@ module _ (structs : Structs) where
   AlikeTyped (alike_pointers x y) = IsValueType structs x.ctype
   AlikeTyped unlike = Unit {0}
 
-  if_alike : (t : Bool) (x y : Alike) → AlikeTyped x → AlikeTyped y → AlikeTyped (if t then x else y)
-  if_alike true x y h k = h
-  if_alike false x y h k = k
-
   pointers_typed : (a b : TypedExpression) → TypedExpressionTyped structs a → TypedExpressionTyped structs b → AlikeTyped (pointers_alike a b)
   pointers_typed a b g h =
-      if_alike (same_type a.ctype b.ctype) (alike_pointers a b) _ g
-      (if_alike (is_null a) (alike_pointers (null_of b.ctype) b) _ h
-      (if_alike (is_null b) (alike_pointers a (null_of a.ctype)) unlike g tt))
+      either AlikeTyped (same_type a.ctype b.ctype) (alike_pointers a b) _ (λ _. g)
+      (either AlikeTyped (is_null a) (alike_pointers (null_of b.ctype) b) _ (λ _. h)
+      (either AlikeTyped (is_null b) (alike_pointers a (null_of a.ctype)) unlike (λ _. g) tt))
 
   alike_of_typed : (a b : TypedExpression) (k l : Kind) → TypedExpressionTyped structs a → TypedExpressionTyped structs b → AlikeTyped (alike_of a b k l)
   alike_of_typed a b (a_pointer t) (a_pointer u) g h = pointers_typed a b g h
-  alike_of_typed a b (a_pointer t) (an_integer j) g h = if_alike (is_null b) (alike_pointers a (null_of a.ctype)) unlike g tt
-  alike_of_typed a b (an_integer i) (a_pointer u) g h = if_alike (is_null a) (alike_pointers (null_of b.ctype) b) unlike h tt
+  alike_of_typed a b (a_pointer t) (an_integer j) g h = either AlikeTyped (is_null b) (alike_pointers a (null_of a.ctype)) unlike (λ _. g) tt
+  alike_of_typed a b (an_integer i) (a_pointer u) g h = either AlikeTyped (is_null a) (alike_pointers (null_of b.ctype) b) unlike (λ _. h) tt
   alike_of_typed a b k l g h = tt
 
   arms_typed : (at : ℕ) (c a b : TypedExpression) (x : Alike) → AlikeTyped x → Holds (TypedExpressionSized structs) (arms_of at c a b x)

@@ -26,9 +26,8 @@ use Rattle.c_rules_laws.proofs.NamesOfItems.{defined_true}
 -- two lists side by side
 abbrev pub Zip : {A B : Type 0} → (A → B → Type 0) → List A → List B → Type 0
 Zip R [] [] = Unit {0}
-Zip R (x ∷ xs) [] = ⊥
-Zip R [] (y ∷ ys) = ⊥
 Zip R (x ∷ xs) (y ∷ ys) = R x y × Zip R xs ys
+Zip R xs ys = ⊥
 
 pub zip_both : {A B : Type 0} (R : A → B → Type 0) (xs zs : List A) (ys ws : List B) → Zip R xs ys → Zip R zs ws → Zip R (xs ++ zs) (ys ++ ws)
 zip_both R [] zs [] ws h k = k
