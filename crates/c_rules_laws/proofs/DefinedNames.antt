@@ -6,7 +6,8 @@ use Rattle.c_rules.specs.Checked.{Fault}
 use Rattle.c_rules.specs.Names.{Name, is_among, given_names}
 use Rattle.c_rules.specs.Scopes.{Env, Binding, Meaning, a_static, a_local, a_function, an_enumerator, unknown, lookup, with_name}
 use Rattle.c_rules_laws.proofs.FileScopes.{Agrees, Follows}
-use Rattle.c_rules_laws.proofs.DistinctNames.{Each, each_map, each_both, Differ, differ_both, among_left, among_right}
+use Rattle.c_rules_laws.proofs.DistinctNames.{Differ, differ_both, among_left, among_right}
+use Rattle.c_rules_laws.proofs.Holding.{Each, each_map, each_both}
 
 -- the name means a function whose definition stands before
 abbrev pub IsDefined : List Binding → Name → Type 0

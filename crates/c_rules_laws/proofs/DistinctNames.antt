@@ -5,21 +5,7 @@ use Rattle.std.proofs.lemmas.Bool.{ltb-true}
 use Rattle.std.proofs.lemmas.Slice.Eq.{bytes_eq-Decides}
 use Rattle.std.proofs.lemmas.Bool.{or_right}
 use Rattle.c_rules.specs.Names.{Name, number_among, is_among, with_new}
-use Rattle.c_rules_laws.proofs.Holding.{either}
-
--- ## Each name of a list
-
-abbrev pub Each : (Name → Type 0) → List Name → Type 0
-Each P [] = Unit {0}
-Each P (x ∷ xs) = P x × Each P xs
-
-pub each_map : (P Q : Name → Type 0) → ((x : Name) → P x → Q x) → (xs : List Name) → Each P xs → Each Q xs
-each_map P Q f [] h = tt
-each_map P Q f (x ∷ xs) h = (f x h.0, each_map P Q f xs h.1)
-
-pub each_both : (P : Name → Type 0) (xs ys : List Name) → Each P xs → Each P ys → Each P (xs ++ ys)
-each_both P [] ys h k = k
-each_both P (x ∷ xs) ys h k = (h.0, each_both P xs ys h.1 k)
+use Rattle.c_rules_laws.proofs.Holding.{either, Each, each_both}
 
 -- no name stands twice
 abbrev pub Differ : List Name → Type 0

@@ -1,5 +1,6 @@
 -- What holds of parts that are fine.
-use Rattle.std.proofs.Common.{◌≡◌, ℕ, Bool, true, false, ◌&&◌, if◌then◌else◌, refl}
+use Rattle.std.proofs.Common.{◌≡◌, ℕ, Bool, true, false, ◌&&◌, if◌then◌else◌, List, [], ◌∷◌, ◌++◌, All, refl, arith}
+use Rattle.std.proofs.lemmas.List.Elements.{All-cons}
 use Rattle.c_rules.specs.Checked.{Checked, fine, faulty, on, both, all_three, demand, met, parts_first}
 pub use Rattle.sys_table.proofs.Names.{and_left, and_right}
 pub use Rattle.c_rules_laws.proofs.Leads.{parts_first_fine, first_fine, on_fine}
@@ -41,4 +42,20 @@ pub demand_fine : {A : Type 0} (t : Bool) (code at : ℕ) (a b : A) → demand t
 demand_fine true code at a b e = (refl, cc)
 demand_fine false code at a b e = absurd (cc)
 
--- ## Tests
+-- ## What holds of each of a list
+
+abbrev pub Each : {A : Type 0} → (A → Type 0) → List A → Type 0
+Each P [] = Unit {0}
+Each P (x ∷ xs) = P x × Each P xs
+
+pub each_map : {A : Type 0} (P Q : A → Type 0) → ((x : A) → P x → Q x) → (xs : List A) → Each P xs → Each Q xs
+each_map P Q f [] h = tt
+each_map P Q f (x ∷ xs) h = (f x h.0, each_map P Q f xs h.1)
+
+pub each_both : {A : Type 0} (P : A → Type 0) (xs ys : List A) → Each P xs → Each P ys → Each P (xs ++ ys)
+each_both P [] ys h k = k
+each_both P (x ∷ xs) ys h k = (h.0, each_both P xs ys h.1 k)
+
+pub each_all : {A : Type 0} (P : A → Type 0) (xs : List A) → Each P xs → All P xs
+each_all P [] h = λ k d l. absurd (omega (arith, l))
+each_all P (x ∷ xs) h = All-cons P x xs h.0 (each_all P xs h.1)

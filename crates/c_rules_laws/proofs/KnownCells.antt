@@ -11,7 +11,7 @@ use Rattle.c_rules.specs.TypedExpression.{TypedExpression, Constant, not_constan
 use Rattle.c_rules.specs.Conversions.{as_if_assigned}
 use Rattle.c_rules.specs.Expressions.{value}
 use Rattle.c_rules.specs.Initialisers.{Slots, copies, each, slots, capacity, takes_list, count_inits, text_of, typed_zero, typed_char, zeros, chars, defined_cell, cell_of, scalar_cell, array_cells, cells_of_list, after_init, initialised, in_turn, initialised_static, text_fits}
-use Rattle.c_rules_laws.proofs.Holding.{Holds, on_holds, both_hold, demand_holds, behind_demand, after_part}
+use Rattle.c_rules_laws.proofs.Holding.{Holds, on_holds, both_hold, demand_holds, behind_demand, after_part, Each, each_both}
 
 -- a constant with a value
 abbrev pub IsKnownConstant : Constant → Type 0
@@ -20,12 +20,7 @@ IsKnownConstant undefined = ⊥
 IsKnownConstant (known x) = Unit {0}
 
 abbrev pub AllKnown : List TypedExpression → Type 0
-AllKnown [] = Unit {0}
-AllKnown (g ∷ gs) = IsKnownConstant g.constant × AllKnown gs
-
-pub known_both : (gs hs : List TypedExpression) → AllKnown gs → AllKnown hs → AllKnown (gs ++ hs)
-known_both [] hs h k = k
-known_both (g ∷ gs) hs h k = (h.0, known_both gs hs h.1 k)
+AllKnown = Each (λ g. IsKnownConstant g.constant)
 
 zeros_known : (ts : List CType) → AllKnown (map typed_zero ts)
 zeros_known [] = tt
@@ -40,7 +35,7 @@ slots_known structs (copies n t) = zeros_known (repeat n (flat structs t))
 slots_known structs (each ts) = zeros_known (flat_all structs ts)
 
 chars_known : (n : ℕ) (w : List ℕ) → AllKnown (chars n w)
-chars_known n w = known_both (map typed_char w) (replicate (n - length w) (typed_char 0)) (all w) (ends (n - length w))
+chars_known n w = each_both (λ g. IsKnownConstant g.constant) (map typed_char w) (replicate (n - length w) (typed_char 0)) (all w) (ends (n - length w))
   where
     all : (w : List ℕ) → AllKnown (map typed_char w)
     all [] = tt
@@ -75,9 +70,9 @@ mutual
   turn_known : (is : syntax.Inits) (env : Env) (b : Before) (s : Slots) → Holds AllKnown (in_turn env b true s is)
   turn_known syntax.no_inits env b s = slots_known (layout_of env) s
   turn_known (syntax.more_inits i is) env b (copies (suc n) t) =
-      both_hold AllKnown AllKnown AllKnown (initialised env b true t i) (in_turn env (after_init env b t i) true (copies n t) is) (λ gs hs. fine (gs ++ hs)) (init_known i env b t) (turn_known is env (after_init env b t i) (copies n t)) (λ gs hs h k. known_both gs hs h k)
+      both_hold AllKnown AllKnown AllKnown (initialised env b true t i) (in_turn env (after_init env b t i) true (copies n t) is) (λ gs hs. fine (gs ++ hs)) (init_known i env b t) (turn_known is env (after_init env b t i) (copies n t)) (λ gs hs h k. each_both (λ g. IsKnownConstant g.constant) gs hs h k)
   turn_known (syntax.more_inits i is) env b (each (t ∷ ts)) =
-      both_hold AllKnown AllKnown AllKnown (initialised env b true t i) (in_turn env (after_init env b t i) true (each ts) is) (λ gs hs. fine (gs ++ hs)) (init_known i env b t) (turn_known is env (after_init env b t i) (each ts)) (λ gs hs h k. known_both gs hs h k)
+      both_hold AllKnown AllKnown AllKnown (initialised env b true t i) (in_turn env (after_init env b t i) true (each ts) is) (λ gs hs. fine (gs ++ hs)) (init_known i env b t) (turn_known is env (after_init env b t i) (each ts)) (λ gs hs h k. each_both (λ g. IsKnownConstant g.constant) gs hs h k)
   turn_known is env b s = tt
 
 pub static_known : (m : MaybeInit) (env : Env) (b : Before) (t : CType) → Holds AllKnown (initialised_static env b t m)

@@ -28,7 +28,7 @@ use Rattle.c_meaning_laws.proofs.Places.{get_left, get_right, lies_whole}
 use Rattle.c_rules_laws.specs.Lexical.{IsMaybeInitLexical, ArePartsLexical, IsDeclLexical}
 use Rattle.c_rules_laws.specs.MadeTypes.{NotArray, Made, IsSized}
 use Rattle.c_rules_laws.specs.RightScopes.{MeaningTyped, Seen, IsThing, MeaningRight, IsRight, StringsIn}
-use Rattle.c_rules_laws.proofs.Holding.{Holds, on_holds, both_hold, demand_holds, alone_holds, after_part as behind_demands}
+use Rattle.c_rules_laws.proofs.Holding.{Holds, on_holds, both_hold, demand_holds, alone_holds, after_part as behind_demands, Each, each_both}
 use Rattle.c_rules_laws.proofs.MadeTypes.{complete_known}
 use Rattle.c_rules_laws.proofs.TypesOfTypedExpressions.{sized_few}
 use Rattle.c_rules_laws.proofs.TypesOfExpressions.{type_declared_made}
@@ -153,21 +153,11 @@ module _ (p : Program) (vars : List CType) where
 
   -- objects, each of at most 65,536 cells
   abbrev pub AreObjects : List CType → Type 0
-  AreObjects [] = Unit {0}
-  AreObjects (t ∷ ts) = IsObject p.structs t × AreObjects ts
-
-  pub objects_both : (xs ys : List CType) → AreObjects xs → AreObjects ys → AreObjects (xs ++ ys)
-  objects_both [] ys h k = k
-  objects_both (x ∷ xs) ys h k = (h.0, objects_both xs ys h.1 k)
+  AreObjects = Each (IsObject p.structs)
 
   -- types of known size
   abbrev pub AreKnownSizes : Structs → List CType → Type 0
-  AreKnownSizes structs [] = Unit {0}
-  AreKnownSizes structs (t ∷ ts) = IsComplete structs t × AreKnownSizes structs ts
-
-  pub sizes_both : (structs : Structs) (xs ys : List CType) → AreKnownSizes structs xs → AreKnownSizes structs ys → AreKnownSizes structs (xs ++ ys)
-  sizes_both structs [] ys h k = k
-  sizes_both structs (x ∷ xs) ys h k = (h.0, sizes_both structs xs ys h.1 k)
+  AreKnownSizes structs = Each (IsComplete structs)
 
   -- what a part of a body gives: its variables have the next numbers and known sizes, and its tree is right where they are placed
   pub record IsStatementTreeRight (A : Type 0) (env : Env) (next : Next) (names : List Name) (T : A → Type 0) (q : StatementTree A) : Type 0 where
@@ -292,9 +282,9 @@ module _ (p : Program) (vars : List CType) where
       → IsStatementTreeRight typed.Stmt env next xs T a → IsStatementTreeRight typed.Stmts inner (past_names next xs) ys U c → (T a.tree → IsRight p vars env → IsRight p vars inner) → (T a.tree → U c.tree → V (typed.more_stmts a.tree c.tree)) → IsStatementTreeRight typed.Stmts env next (xs ++ ys) V (one_more a c)
   one_and_rest env inner behind next xs ys T U V a c same h k f g = record {
     numbers = ahead_both next (past_names next xs) a.plain c.plain a.added c.added xs ys h.numbers k.numbers;
-    plain_sizes = sizes_both (layout_of env) a.plain c.plain h.plain_sizes (subst (λ z. AreKnownSizes z c.plain) same k.plain_sizes);
-    added_sizes = sizes_both (layout_of env) a.added c.added h.added_sizes (subst (λ z. AreKnownSizes z c.added) same k.added_sizes);
-    right = λ w q. (let x = h.right w (placed_first next a.plain c.plain a.added c.added q) in let y = k.right (f x.0 w) (placed_rest next (past_names next xs) a.plain c.plain a.added c.added h.numbers q) in (g x.0 y.0, objects_both a.plain c.plain x.1 y.1, objects_both a.added c.added x.2 y.2));
+    plain_sizes = each_both (IsComplete (layout_of env)) a.plain c.plain h.plain_sizes (subst (λ z. AreKnownSizes z c.plain) same k.plain_sizes);
+    added_sizes = each_both (IsComplete (layout_of env)) a.added c.added h.added_sizes (subst (λ z. AreKnownSizes z c.added) same k.added_sizes);
+    right = λ w q. (let x = h.right w (placed_first next a.plain c.plain a.added c.added q) in let y = k.right (f x.0 w) (placed_rest next (past_names next xs) a.plain c.plain a.added c.added h.numbers q) in (g x.0 y.0, each_both (IsObject p.structs) a.plain c.plain x.1 y.1, each_both (IsObject p.structs) a.added c.added x.2 y.2));
   }
 
   pub parts_right : (ps : Parts) (env : Env) (b : Before) (next : Next) (at : ℕ) (s : Spec) → ArePartsLexical ps → StringsIn p vars (string_number env b) (held_by_parts env next at s ps)

@@ -33,7 +33,7 @@ use Rattle.c_rules_laws.proofs.Holding.{Holds, holds_map, holds_two, on_holds, b
 use Rattle.c_rules_laws.proofs.SoundStructs.{are_structs}
 use Rattle.c_rules_laws.proofs.RightTypedExpressions.{constant_value, ValueRight, RightAs, null_right, as_if_right}
 use Rattle.c_rules_laws.proofs.RightExpressions.{strings_first, strings_rest, ValueBoth, value_right}
-pub use Rattle.c_rules_laws.proofs.KnownCells.{IsKnownConstant, AllKnown, known_both}
+pub use Rattle.c_rules_laws.proofs.KnownCells.{IsKnownConstant, AllKnown}
 use Rattle.c_rules_laws.proofs.KnownCells.{static_known}
 use Rattle.c_rules.proofs.EntryLemmas.{none_is_no_list}
 use Rattle.c_rules.proofs.NothingMore.{nothing_more}

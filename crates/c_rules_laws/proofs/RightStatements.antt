@@ -8,7 +8,7 @@ use Rattle.c_tree.specs.declared.tree.TLabel.{TLabel}
 use Rattle.c_tree.specs.declared.tree.TLabel.TheVariants.{Case, Default}
 use Rattle.c_tree.specs.Tree.{CType, void, integer, pointer, array, struct, function, Program}
 use Rattle.c_tree.specs.Tree as typed
-use Rattle.c_tree.specs.Operands.{IsScalar, IsPromoted, promoted}
+use Rattle.c_tree.specs.Operands.{IsScalar, IsPromoted, promoted, IsObject, IsComplete}
 use Rattle.c_tree.specs.Operators.{value_of}
 use Rattle.c_tree.specs.Typed.{IsCondition, IsTest, IsStep, IsFirst, AreFirst, IsLabel, defaults_among, defaults, IsStmt, AreStmts, AreGroups}
 use Rattle.c_tree.proofs.OperatorLemmas.{value_of_type}
@@ -31,11 +31,11 @@ use Rattle.c_rules.specs.Blocks.{behind_decl, behind_first, held_by_decl, held_b
 use Rattle.c_rules.specs.Statements.{Around, in_loop, in_switch, condition_at, test_of, step_of, first_of, for_of, switched_kind, switched, label_kind, label_type, labels_of, Labelled, labelled, is_case_of, has_default, are_distinct, switch_of, returned, stmt, items_of_block, stmts, groups_of_switch}
 use Rattle.c_rules_laws.specs.Lexical.{IsMaybeLexical, IsFirstLexical, IsStmtLexical, AreItemsLexical, AreStmtsLexical, AreGroupsLexical, IsLexical}
 use Rattle.c_rules_laws.specs.RightScopes.{IsRight, StringsIn}
-use Rattle.c_rules_laws.proofs.Holding.{Holds, on_holds, both_hold, all_three_hold, demand_holds, and_left, and_right}
+use Rattle.c_rules_laws.proofs.Holding.{Holds, on_holds, both_hold, all_three_hold, demand_holds, and_left, and_right, each_both}
 use Rattle.c_rules_laws.proofs.TypesOfTypedExpressions.{kind_integer}
 use Rattle.c_rules_laws.proofs.RightTypedExpressions.{promoted_is, ValueRight, RightAs, converted_right, fits_scalar, assigned_right, condition_right}
 use Rattle.c_rules_laws.proofs.RightExpressions.{strings_first, strings_rest, ValueBoth, value_right}
-use Rattle.c_rules_laws.proofs.RightDeclarations.{holds_given, placed_first, placed_rest, ahead_both, ahead_none, objects_both, AreKnownSizes, sizes_both, IsStatementTreeRight, right_inside, decl_right, decl_whole, decl_layout, strings_moved}
+use Rattle.c_rules_laws.proofs.RightDeclarations.{holds_given, placed_first, placed_rest, ahead_both, ahead_none, AreKnownSizes, IsStatementTreeRight, right_inside, decl_right, decl_whole, decl_layout, strings_moved}
 use Rattle.c_rules_laws.proofs.MadeTypes.{void_is}
 
 -- ## Labels
@@ -105,12 +105,12 @@ module _ (p : Program) (vars : List CType) where
       → IsStatementTreeRight p vars A env next xs T a → IsStatementTreeRight p vars B inner (past_names next xs) ys U b → (T a.tree → IsRight p vars env → IsRight p vars inner) → (T a.tree → U b.tree → IsRight p vars env → V c) → IsStatementTreeRight p vars C env next (xs ++ ys) V (joined a b c)
   join_right A B C env inner next xs ys T U V a b c same h k f g = record {
     numbers = ahead_both p vars next (past_names next xs) a.plain b.plain a.added b.added xs ys h.numbers k.numbers;
-    plain_sizes = sizes_both p vars (layout_of env) a.plain b.plain h.plain_sizes (subst (λ z. AreKnownSizes p vars z b.plain) same k.plain_sizes);
-    added_sizes = sizes_both p vars (layout_of env) a.added b.added h.added_sizes (subst (λ z. AreKnownSizes p vars z b.added) same k.added_sizes);
+    plain_sizes = each_both (IsComplete (layout_of env)) a.plain b.plain h.plain_sizes (subst (λ z. AreKnownSizes p vars z b.plain) same k.plain_sizes);
+    added_sizes = each_both (IsComplete (layout_of env)) a.added b.added h.added_sizes (subst (λ z. AreKnownSizes p vars z b.added) same k.added_sizes);
     right = λ w q.
         (let x = h.right w (placed_first p vars next a.plain b.plain a.added b.added q) in
         let y = k.right (f x.0 w) (placed_rest p vars next (past_names next xs) a.plain b.plain a.added b.added h.numbers q) in
-        (g x.0 y.0 w, objects_both p vars a.plain b.plain x.1 y.1, objects_both p vars a.added b.added x.2 y.2));
+        (g x.0 y.0 w, each_both (IsObject p.structs) a.plain b.plain x.1 y.1, each_both (IsObject p.structs) a.added b.added x.2 y.2));
   }
 
   -- in a scope round it

@@ -24,7 +24,7 @@ use Rattle.c_rules.specs.Assignments.{assignable, assignment_by, step, comma_of}
 use Rattle.c_rules.specs.Declarators.{place_of_type, is_void_pointer}
 use Rattle.c_rules.specs.Expressions.{value_at, place_at, callee_meant, callee_bound, callee, access, after_operand, unary_rule, infix_rule, cast_rule, tree, trees, type_named, value}
 use Rattle.c_rules.proofs.Integers.{integer_cases}
-use Rattle.c_rules_laws.proofs.Holding.{Holds, holds_map, holds_two, on_holds, both_hold, all_three_hold, Any, anything, demand_holds, after_part, if_holds}
+use Rattle.c_rules_laws.proofs.Holding.{Holds, holds_map, holds_two, on_holds, both_hold, all_three_hold, Any, anything, demand_holds, after_part, if_holds, Each, each_both}
 use Rattle.c_rules_laws.proofs.GatheredOfTypedExpressions.{called_at, Gathers, AllGather, CalleeGathers, valued_gathered, called_gathered, callee_type_gathered, callee_through_gathered, member_gathered, address_gathered, indirection_gathered, unary_gathered, size_gathered, cast_of_gathered, null_cast_gathered, sum_gathered, operation_gathered, conjunction_gathered, disjunction_gathered, assignment_by_gathered, step_gathered, choice_gathered, comma_gathered}
 use Rattle.c_tree.specs.Sites.{all_sites}
 
@@ -37,8 +37,7 @@ site_called site (through e) = refl
 
 -- strings that are objects
 abbrev pub AreShort : List (List ℕ) → Type 0
-AreShort [] = Unit {0}
-AreShort (w ∷ ws) = (suc (length w) ≤ 65536) × AreShort ws
+AreShort = Each (λ w. suc (length w) ≤ 65536)
 
 -- so many calls and these strings pass no limit, where so many calls and cells stand before them
 pub record Fits (sites cells n : ℕ) (ws : List (List ℕ)) : Type 0 where
@@ -49,10 +48,6 @@ pub record Fits (sites cells n : ℕ) (ws : List (List ℕ)) : Type 0 where
 pub fits_none : (s c : ℕ) → Fits s c 0 []
 fits_none s c = record { sites_fit = λ h. omega (arith, h); cells_fit = λ h. omega (arith, h); short = tt }
 
-pub short_both : (xs ys : List (List ℕ)) → AreShort xs → AreShort ys → AreShort (xs ++ ys)
-short_both [] ys h k = k
-short_both (x ∷ xs) ys h k = (h.0, short_both xs ys h.1 k)
-
 pub cells_both : (xs ys : List (List ℕ)) → string_cells (xs ++ ys) ≡ string_cells xs + string_cells ys
 cells_both [] ys = omega arith
 cells_both (x ∷ xs) ys = (let r = cells_both xs ys in omega (arith, r))
@@ -61,7 +56,7 @@ pub fits_both : (s c n m : ℕ) (xs ys : List (List ℕ)) → Fits s c n xs → 
 fits_both s c n m xs ys h k = record {
   sites_fit = λ l. (let a = h.sites_fit l in let b = k.sites_fit a in omega (arith, b));
   cells_fit = λ l. (let a = h.cells_fit l in let b = k.cells_fit a in let e = cells_both xs ys in omega (arith, b, e));
-  short = short_both xs ys h.short k.short;
+  short = each_both (λ w. suc (length w) ≤ 65536) xs ys h.short k.short;
 }
 
 pub range_append : (a n m : ℕ) → range_with_len a (n + m) ≡ range_with_len a n ++ range_with_len (a + n) m
@@ -209,7 +204,7 @@ call_fits : (s c n m : ℕ) (xs ys : List (List ℕ)) → Fits s c n xs → suc 
 call_fits s c n m xs ys h l k = record {
   sites_fit = λ q. (let a : s + suc n ≤ 30000 = omega (arith, l) in let b = k.sites_fit a in omega (arith, b));
   cells_fit = λ q. (let a = h.cells_fit q in let b = k.cells_fit a in let e = cells_both xs ys in omega (arith, b, e));
-  short = short_both xs ys h.short k.short;
+  short = each_both (λ w. suc (length w) ≤ 65536) xs ys h.short k.short;
 }
 
 mutual

@@ -20,10 +20,10 @@ use Rattle.c_rules.specs.Statements.{Around, items_of_block}
 use Rattle.c_rules.specs.Functions.{declares_function, parameters_of, are_named, with_parameter, with_parameters, variables_of, function_laid, body_env, body_numbers, body_of, held_by_type, held_by_typed, function_declared, items_of_body, defined_as}
 use Rattle.c_rules.specs.Items.{Output, no_output, with_output, static_of, without_init, output_of_function, defines, object_name, few_static, global_object, global_declared, within_global, after_object, definition_of, global, declared_part, named_part, behind_file_part, after_global, after_declared, after_file_part, file_parts, after_file_parts, file_decl, after_file_decl, behind_defined, function_named, behind_function_named, item, behind_item, behind_by_form, after_item, items, after_items}
 use Rattle.c_rules_laws.specs.Lexical.{IsUnitLexical}
-use Rattle.c_rules_laws.proofs.Holding.{held, first_fine, on_fine, demand_fine}
+use Rattle.c_rules_laws.proofs.Holding.{held, first_fine, on_fine, demand_fine, each_both}
 use Rattle.c_rules_laws.proofs.Definitions.{definition_fine}
 use Rattle.c_rules_laws.proofs.SizeBounds.{has_cell}
-use Rattle.c_rules_laws.proofs.SitesOfExpressions.{AreShort, short_both, FitsAt, Span, range_append}
+use Rattle.c_rules_laws.proofs.SitesOfExpressions.{AreShort, FitsAt, Span, range_append}
 use Rattle.c_rules_laws.proofs.RightInitialisers.{AllKnown, known_sites, InitCounted, static_counted}
 use Rattle.c_rules_laws.proofs.SitesOfStatements.{IsSpan, StmtsSpan, held_by_named_same, block_span}
 use Rattle.c_rules_laws.proofs.FileScopes.{IsFileRight}
@@ -71,7 +71,7 @@ spans_both b a c q r h k = record {
   counted = (let x = h.counted in let y = k.counted in omega (arith, x, y));
   more = h.more ++ k.more;
   strings = k.strings ∙ (ap (λ ws. ws ++ k.more) h.strings ∙ append_assoc b.strings h.more k.more);
-  short = short_both h.more k.more h.short k.short;
+  short = each_both (λ w. suc (length w) ≤ 65536) h.more k.more h.short k.short;
   sites_fit = λ l. k.sites_fit (h.sites_fit l);
   cells_fit = λ l. k.cells_fit (h.cells_fit l);
   many = (let x = h.many in let y = k.many in let s = length-append q.statics r.statics in let t = length-append h.more k.more in omega (arith, x, y, s, t));

@@ -1,7 +1,7 @@
 -- A definition of a function that is fine gives a function of the program.
 use Rattle.std.proofs.Common.{◌≡◌, inl, ℕ, suc, ◌+◌, ◌≤◌, Bool, true, false, if◌then◌else◌, List, [], ◌∷◌, ◌++◌, All, length, Option, Some, None, slice_get, nat_le, refl, ap, sym, subst, ◌∙◌, arith}
 use Rattle.std.proofs.lemmas.Bool.{leb-true}
-use Rattle.std.proofs.lemmas.List.Elements.{All-cons}
+use Rattle.std.proofs.lemmas.List.Elements.{All-cons, All-append}
 use Rattle.dm_base.specs.declared.mode.Mode.{Mode}
 use Rattle.dm_base.specs.declared.mode.Mode.TheVariants.{Plain, Instrumented}
 use Rattle.c_tree.specs.Tree.{CType, void, integer, pointer, array, struct, function, CTypes, no_types, more_types, list_of, Function, Program}
@@ -29,7 +29,7 @@ use Rattle.c_meaning_laws.proofs.Places.{get_left, get_right, scalar_object}
 use Rattle.c_rules_laws.specs.Lexical.{AreItemsLexical}
 use Rattle.c_rules_laws.specs.MadeTypes.{NotArray, Made, AllMade, IsSized}
 use Rattle.c_rules_laws.specs.RightScopes.{IsRight, StringsIn}
-use Rattle.c_rules_laws.proofs.Holding.{Holds, held, on_holds, both_hold, Any, anything, demand_holds, behind_demand, after_part, first_fine, demand_fine}
+use Rattle.c_rules_laws.proofs.Holding.{Holds, held, on_holds, both_hold, Any, anything, demand_holds, behind_demand, after_part, first_fine, demand_fine, each_all}
 use Rattle.c_rules_laws.proofs.Definitions.{definition_fine}
 use Rattle.c_rules_laws.proofs.MadeTypes.{few_unless_array, scalar_not_array}
 use Rattle.c_rules_laws.proofs.SoundStructs.{same_flat_all}
@@ -126,18 +126,6 @@ counted : (ts : CTypes) → length (list_of ts) ≡ count ts
 counted no_types = refl
 counted (more_types t ts) = ap suc (counted ts)
 
-both_all : (P : CType → Type 0) (xs ys : List CType) → All P xs → All P ys → All P (xs ++ ys)
-both_all P [] ys h k = k
-both_all P (x ∷ xs) ys h k = All-cons P x (xs ++ ys) (h 0 x (omega arith)) (both_all P xs ys (λ i d l. h (suc i) d (omega (arith, l))) k)
-
-all_objects : (p : Program) (vars ts : List CType) → AreObjects p vars ts → All (IsObject p.structs) ts
-all_objects p vars [] h = λ k d l. absurd (omega (arith, l))
-all_objects p vars (t ∷ ts) h = All-cons (IsObject p.structs) t ts h.0 (all_objects p vars ts h.1)
-
-all_known : (p : Program) (vars : List CType) (structs : Structs) (ts : List CType) → AreKnownSizes p vars structs ts → All (IsComplete structs) ts
-all_known p vars structs [] h = λ k d l. absurd (omega (arith, l))
-all_known p vars structs (t ∷ ts) h = All-cons (IsComplete structs) t ts h.0 (all_known p vars structs ts h.1)
-
 few_local : (m : Mode) (n : ℕ) → nat_le n (most_local_cells m) ≡ true → n ≤ 262144
 few_local Plain n e = (let l = leb-true n 65536 e in omega (arith, l))
 few_local Instrumented n e = leb-true n 262144 e
@@ -169,8 +157,8 @@ module _ (p : Program) (last : Env) (table : IsTable p last) where
       let same : layout_of inner ≡ layout_of env = params_layout (parameters_of d) ts (inside env) 0 in
       let scalars : All IsScalar (list_of ts) = all_scalars (layout_of env) ts m.3 in
       let known : All (IsComplete (layout_of env)) vars =
-      both_all (IsComplete (layout_of env)) (list_of ts) (q.plain ++ q.added) (λ i c z. scalar_complete (layout_of env) _ (scalars i c z))
-      (both_all (IsComplete (layout_of env)) q.plain q.added (all_known p vars (layout_of env) q.plain (subst (λ z. AreKnownSizes p vars z q.plain) same h.plain_sizes)) (all_known p vars (layout_of env) q.added (subst (λ z. AreKnownSizes p vars z q.added) same h.added_sizes))) in
+      All-append (IsComplete (layout_of env)) (list_of ts) (q.plain ++ q.added) (λ i c z. scalar_complete (layout_of env) _ (scalars i c z))
+      (All-append (IsComplete (layout_of env)) q.plain q.added (each_all (IsComplete (layout_of env)) q.plain (subst (λ z. AreKnownSizes p vars z q.plain) same h.plain_sizes)) (each_all (IsComplete (layout_of env)) q.added (subst (λ z. AreKnownSizes p vars z q.added) same h.added_sizes))) in
       let cells_same : flat_all p.structs vars ≡ flat_all (layout_of env) vars = same_flat_all (layout_of env) p.structs w0.within.sound w0.within.grows vars known in
       record {
         gives = t;
@@ -181,7 +169,7 @@ module _ (p : Program) (last : Env) (table : IsTable p last) where
         scalars = scalars;
         few_parameters = (let c = counted ts in let n = m.1 in omega (arith, c, n));
         parameters = refl;
-        objects = both_all (IsObject p.structs) (list_of ts) (q.plain ++ q.added) (λ i c z. scalar_object p.structs _ (scalars i c z)) (both_all (IsObject p.structs) q.plain q.added (all_objects p vars q.plain r.1) (all_objects p vars q.added r.2));
+        objects = All-append (IsObject p.structs) (list_of ts) (q.plain ++ q.added) (λ i c z. scalar_object p.structs _ (scalars i c z)) (All-append (IsObject p.structs) q.plain q.added (each_all (IsObject p.structs) q.plain r.1) (each_all (IsObject p.structs) q.added r.2));
         few = subst (λ xs. length xs ≤ 262144) (sym cells_same) (few_local env.whole.mode (cells_of_all (layout_of env) vars) small);
         body = tt;
         typed = r.0;

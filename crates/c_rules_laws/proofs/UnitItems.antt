@@ -23,7 +23,7 @@ use Rattle.c_meaning_laws.proofs.Places.{get_left, get_right}
 use Rattle.c_rules_laws.specs.Lexical.{IsMaybeInitLexical, ArePartsLexical, IsDeclLexical, IsStmtLexical, AreItemsLexical, IsItemLexical, IsUnitLexical}
 use Rattle.c_rules_laws.specs.MadeTypes.{Made, IsSized}
 use Rattle.c_rules_laws.specs.RightScopes.{MeaningRight, IsRight, StringsIn}
-use Rattle.c_rules_laws.proofs.Holding.{held, first_fine, on_fine}
+use Rattle.c_rules_laws.proofs.Holding.{held, first_fine, on_fine, Each, each_both}
 use Rattle.c_rules_laws.proofs.SoundStructs.{same_flat}
 use Rattle.c_rules_laws.proofs.TypesOfTypedExpressions.{sized_few}
 use Rattle.c_rules_laws.proofs.TypesOfExpressions.{type_declared_made}
@@ -68,26 +68,16 @@ module _ (p : Program) (last : Env) (table : IsTable p last) (all : List (List �
   -- ## Functions
 
   abbrev pub AreFunctions : List Function → Type 0
-  AreFunctions [] = Unit {0}
-  AreFunctions (f ∷ fs) = IsFunction p f × AreFunctions fs
+  AreFunctions = Each (IsFunction p)
 
   abbrev pub AreStatics : List Static → Type 0
-  AreStatics [] = Unit {0}
-  AreStatics (s ∷ ss) = IsStatic p s × AreStatics ss
-
-  functions_both : (xs ys : List Function) → AreFunctions xs → AreFunctions ys → AreFunctions (xs ++ ys)
-  functions_both [] ys h k = k
-  functions_both (x ∷ xs) ys h k = (h.0, functions_both xs ys h.1 k)
-
-  statics_both : (xs ys : List Static) → AreStatics xs → AreStatics ys → AreStatics (xs ++ ys)
-  statics_both [] ys h k = k
-  statics_both (x ∷ xs) ys h k = (h.0, statics_both xs ys h.1 k)
+  AreStatics = Each (IsStatic p)
 
   abbrev pub IsOutputRight : Output → Type 0
   IsOutputRight q = AreFunctions q.functions × AreStatics q.statics
 
   output_both : (q r : Output) → IsOutputRight q → IsOutputRight r → IsOutputRight (with_output q r)
-  output_both q r h k = (functions_both q.functions r.functions h.0 k.0, statics_both q.statics r.statics h.1 k.1)
+  output_both q r h k = (each_both (IsFunction p) q.functions r.functions h.0 k.0, each_both (IsStatic p) q.statics r.statics h.1 k.1)
 
   body_lexical : (body : Stmt) → IsStmtLexical body → AreItemsLexical (items_of_body body)
   body_lexical (syntax.block at is) h = h

@@ -2,13 +2,13 @@
 use Rattle.std.proofs.Common.{◌≡◌, ℕ, zero, suc, ◌+◌, Bool, true, false, if◌then◌else◌, List, [], ◌∷◌, ◌++◌, All, map, replicate, length, Option, Some, None, slice_get, refl, ap, sym, subst, ◌∙◌, arith}
 use Rattle.std.specs.Prelude.{option_map, bytes_eq}
 use Rattle.std.proofs.lemmas.Option.{slice_get-map}
-use Rattle.std.proofs.lemmas.List.Elements.{All-cons}
+use Rattle.std.proofs.lemmas.List.Elements.{All-cons, All-append}
 use Rattle.std.proofs.lemmas.Slice.Eq.{bytes_eq-Decides}
 use Rattle.dm_base.specs.Name.{IsName}
 use Rattle.dm_base.specs.declared.mode.Mode.{Mode}
 use Rattle.c_tree.specs.Tree.{CType, Function, Static, Program}
 use Rattle.c_tree.specs.Typed.{IsStaticOf}
-use Rattle.c_tree.specs.Program.{IsFunction}
+use Rattle.c_tree.specs.Program.{IsFunction, IsStatic}
 use Rattle.c_syntax.specs.Tree.{Items}
 use Rattle.c_rules.specs.Checked.{fine, demand}
 use Rattle.c_rules.specs.Names.{Name, number_among}
@@ -21,7 +21,7 @@ use Rattle.c_meaning_laws.proofs.Places.{get_left, get_right}
 use Rattle.c_rules_laws.specs.Lexical.{IsUnitLexical}
 use Rattle.c_rules_laws.specs.SoundStructs.{AreSound}
 use Rattle.c_rules_laws.specs.WellTyped.{IsRightObject, PartsAreRight}
-use Rattle.c_rules_laws.proofs.Holding.{on_fine, demand_fine}
+use Rattle.c_rules_laws.proofs.Holding.{on_fine, demand_fine, each_all, each_map}
 use Rattle.c_rules_laws.proofs.SoundStructs.{are_structs}
 use Rattle.c_rules_laws.proofs.FileScopes.{IsFileRight, follows_self}
 use Rattle.c_rules_laws.proofs.FileItems.{Step, items_step}
@@ -78,10 +78,6 @@ same_function t u d e q = cc
 same_object : (s t r u : CType) (d e : Bool) → a_static s t d ≡ a_static r u e → u ≡ t
 same_object s t r u d e q = cc
 
-both_all : {A : Type 0} (P : A → Type 0) (xs ys : List A) → All P xs → All P ys → All P (xs ++ ys)
-both_all P [] ys h k = k
-both_all P (x ∷ xs) ys h k = All-cons P x (xs ++ ys) (h 0 x (omega arith)) (both_all P xs ys (λ i d l. h (suc i) d (omega (arith, l))) k)
-
 module _ (m : Mode) (u : Items) (out : Output) (lexical : IsUnitLexical u) (typed : items (env_before m u) nothing_before u ≡ fine out) where
   step : Step (env_before m u) (env_behind m u)
   step = items_step u (env_before m u) nothing_before out (before_right (whole_of m u)) lexical typed
@@ -120,14 +116,6 @@ module _ (m : Mode) (u : Items) (out : Output) (lexical : IsUnitLexical u) (type
   outputs : AreFunctions (program_of m u out) (env_behind m u) table (strings_of m u) string_at out.functions × AreStatics (program_of m u out) (env_behind m u) table (strings_of m u) string_at out.statics
   outputs = items_right (program_of m u out) (env_behind m u) table (strings_of m u) string_at u (env_before m u) (before_right (whole_of m u)) nothing_before out lexical typed (follows_self (env_behind m u)) (begins_self (strings_of m u))
 
-  each_function : (fs : List Function) → AreFunctions (program_of m u out) (env_behind m u) table (strings_of m u) string_at fs → All (IsFunction (program_of m u out)) fs
-  each_function [] h = λ k d l. absurd (omega (arith, l))
-  each_function (f ∷ fs) h = All-cons (IsFunction (program_of m u out)) f fs h.0 (each_function fs h.1)
-
-  each_static : (ss : List Static) → AreStatics (program_of m u out) (env_behind m u) table (strings_of m u) string_at ss → All (IsRightObject (program_of m u out)) ss
-  each_static [] h = λ k d l. absurd (omega (arith, l))
-  each_static (s ∷ ss) h = All-cons (IsRightObject (program_of m u out)) s ss (λ _. h.0) (each_static ss h.1)
-
   no_objects : (ws : List (List ℕ)) → All (IsRightObject (program_of m u out)) (map static_string ws)
   no_objects [] = λ k d l. absurd (omega (arith, l))
   no_objects (w ∷ ws) = All-cons (IsRightObject (program_of m u out)) (static_string w) (map static_string ws) (λ e. absurd (let q : true ≡ false = e in cc)) (no_objects ws)
@@ -140,9 +128,9 @@ module _ (m : Mode) (u : Items) (out : Output) (lexical : IsUnitLexical u) (type
   pub parts_of_program : PartsAreRight (program_of m u out)
   parts_of_program = record {
     structs = are_structs (layout_of (env_behind m u)) step.0.names_known.sound;
-    functions = each_function out.functions outputs.0;
+    functions = each_all (IsFunction (program_of m u out)) out.functions outputs.0;
     names = each_name (functions_of u) out.functions shape.functions;
-    objects = both_all (IsRightObject (program_of m u out)) out.statics (map static_string (strings_of m u)) (each_static out.statics outputs.1) (no_objects (strings_of m u));
+    objects = All-append (IsRightObject (program_of m u out)) out.statics (map static_string (strings_of m u)) (each_all (IsRightObject (program_of m u out)) out.statics (each_map (IsStatic (program_of m u out)) (IsRightObject (program_of m u out)) (λ s h _. h) out.statics outputs.1)) (no_objects (strings_of m u));
   }
 
 -- the structs, functions and objects of a unit that is typed

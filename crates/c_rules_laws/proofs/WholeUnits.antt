@@ -24,7 +24,7 @@ use Rattle.c_rules.proofs.CheckedLemmas.{items_fine}
 use Rattle.c_rules_laws.specs.Lexical.{IsUnitLexical}
 use Rattle.c_rules_laws.specs.SoundStructs.{AreSound}
 use Rattle.c_rules_laws.specs.WellTyped.{IsRightObject, PartsAreRight}
-use Rattle.c_rules_laws.proofs.Holding.{on_fine, demand_fine, and_left, and_right}
+use Rattle.c_rules_laws.proofs.Holding.{on_fine, demand_fine, and_left, and_right, Each}
 use Rattle.c_rules_laws.proofs.MadeTypes.{type_is}
 use Rattle.c_rules_laws.proofs.SitesOfExpressions.{AreShort}
 use Rattle.c_rules_laws.proofs.FileScopes.{IsFileRight, follows_self}
@@ -33,7 +33,7 @@ use Rattle.c_rules_laws.proofs.UnitTable.{parts_of_program, before_right}
 use Rattle.c_rules_laws.specs.Programs.{calls_of_unit}
 use Rattle.c_rules_laws.proofs.Spans.{Spans, items_span}
 use Rattle.c_rules_laws.proofs.StaticStrings.{strings_static}
-use Rattle.c_rules_laws.proofs.DistinctNames.{Each, Differ, among_first, among_rest, among_left, few_names}
+use Rattle.c_rules_laws.proofs.DistinctNames.{Differ, among_first, among_rest, among_left, few_names}
 use Rattle.c_rules_laws.proofs.DefinedNames.{IsDefined, Defines}
 use Rattle.c_rules_laws.proofs.NamesOfItems.{items_define}
 use Rattle.c_rules_laws.proofs.UnitTable.{name_at, none_defined, one_binding, no_binding, same_function}
