@@ -70,10 +70,3 @@ by_test false g h = h
 
 pub fault_alike : {A : Type 0} (code at to : ℕ) → Alike A (fault code at) (fault code to)
 fault_alike code at to = record { forth = tt; back = tt }
-
--- the parts of three that are fine
-pub three_fine : {A B C D : Type 0} (p : Checked A) (q : Checked B) (r : Checked C) (k : A → B → C → Checked D) (d : D) → all_three p q r k ≡ fine d → (a : A) × (b : B) × (c : C) × (p ≡ fine a) × (q ≡ fine b) × (r ≡ fine c)
-three_fine {A} {B} {C} p q r k d e =
-    let f = first_fine p (beside q r) (λ a t. k a t.first t.second) d e in
-    let g = first_fine q r (λ b c. fine (record { first = b; second = c })) f.1 f.3 in
-    (f.0, g.0, g.1, f.2, g.2, g.3)

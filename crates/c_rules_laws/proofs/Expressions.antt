@@ -30,43 +30,33 @@ use Rattle.c_rules_laws.proofs.Declared.{spec_alike, pointer_alike, array_alike,
 unless_same : {A : Type 0} (op : Prefix) (a b c : A) → a ≡ b → unless_sizeof op a c ≡ unless_sizeof op b c
 unless_same op a b c e = ap (λ x. unless_sizeof op x c) e
 
-mutual
-  pub calls_same : (e : Expr) → calls (unplaced e) ≡ calls e
-  calls_same (comma at es) = all_calls_same es
-  calls_same (cast at t e) = calls_same e
-  calls_same (call at d es) = ap₂ (λ m n. m + suc n) (calls_same d) (all_calls_same es)
-  calls_same (member at how e x) = calls_same e
-  calls_same (postfix at op e) = calls_same e
-  calls_same (prefix at op e) = unless_same op (calls (unplaced e)) (calls e) 0 (calls_same e)
-  calls_same (unary at op e) = calls_same e
-  calls_same (index at a b) = ap₂ (λ m n. m + n) (calls_same a) (calls_same b)
-  calls_same (binary at op a b) = ap₂ (λ m n. m + n) (calls_same a) (calls_same b)
-  calls_same (assign at op a b) = ap₂ (λ m n. m + n) (calls_same a) (calls_same b)
-  calls_same (conditional at c a b) = ap₂ (λ m n. m + n) (calls_same c) (ap₂ (λ m n. m + n) (calls_same a) (calls_same b))
-  calls_same e = refl
-
-  pub all_calls_same : (es : Exprs) → calls_of_all (unplaced_exprs es) ≡ calls_of_all es
-  all_calls_same no_exprs = refl
-  all_calls_same (more_exprs e es) = ap₂ (λ m n. m + n) (calls_same e) (all_calls_same es)
+counts_both : {k l m n : ℕ} {v w x y : List (List ℕ)} → (k ≡ l) × (v ≡ w) → (m ≡ n) × (x ≡ y) → (k + m ≡ l + n) × (v ++ x ≡ w ++ y)
+counts_both h g = (ap₂ (λ m n. m + n) h.0 g.0, ap₂ (λ v w. v ++ w) h.1 g.1)
 
 mutual
-  pub strings_same : (e : Expr) → strings (unplaced e) ≡ strings e
-  strings_same (comma at es) = all_strings_same es
-  strings_same (cast at t e) = strings_same e
-  strings_same (call at d es) = ap₂ (λ m n. m ++ n) (strings_same d) (all_strings_same es)
-  strings_same (member at how e x) = strings_same e
-  strings_same (postfix at op e) = strings_same e
-  strings_same (prefix at op e) = unless_same op (strings (unplaced e)) (strings e) [] (strings_same e)
-  strings_same (unary at op e) = strings_same e
-  strings_same (index at a b) = ap₂ (λ m n. m ++ n) (strings_same a) (strings_same b)
-  strings_same (binary at op a b) = ap₂ (λ m n. m ++ n) (strings_same a) (strings_same b)
-  strings_same (assign at op a b) = ap₂ (λ m n. m ++ n) (strings_same a) (strings_same b)
-  strings_same (conditional at c a b) = ap₂ (λ m n. m ++ n) (strings_same c) (ap₂ (λ m n. m ++ n) (strings_same a) (strings_same b))
-  strings_same e = refl
+  counts_same : (e : Expr) → (calls (unplaced e) ≡ calls e) × (strings (unplaced e) ≡ strings e)
+  counts_same (comma at es) = all_counts_same es
+  counts_same (cast at t e) = counts_same e
+  counts_same (call at d es) = (let h = all_counts_same es in counts_both (counts_same d) (ap suc h.0, h.1))
+  counts_same (member at how e x) = counts_same e
+  counts_same (postfix at op e) = counts_same e
+  counts_same (prefix at op e) = (let h = counts_same e in (unless_same op (calls (unplaced e)) (calls e) 0 h.0, unless_same op (strings (unplaced e)) (strings e) [] h.1))
+  counts_same (unary at op e) = counts_same e
+  counts_same (index at a b) = counts_both (counts_same a) (counts_same b)
+  counts_same (binary at op a b) = counts_both (counts_same a) (counts_same b)
+  counts_same (assign at op a b) = counts_both (counts_same a) (counts_same b)
+  counts_same (conditional at c a b) = counts_both (counts_same c) (counts_both (counts_same a) (counts_same b))
+  counts_same e = (refl, refl)
 
-  pub all_strings_same : (es : Exprs) → strings_of_all (unplaced_exprs es) ≡ strings_of_all es
-  all_strings_same no_exprs = refl
-  all_strings_same (more_exprs e es) = ap₂ (λ m n. m ++ n) (strings_same e) (all_strings_same es)
+  all_counts_same : (es : Exprs) → (calls_of_all (unplaced_exprs es) ≡ calls_of_all es) × (strings_of_all (unplaced_exprs es) ≡ strings_of_all es)
+  all_counts_same no_exprs = (refl, refl)
+  all_counts_same (more_exprs e es) = counts_both (counts_same e) (all_counts_same es)
+
+pub calls_same : (e : Expr) → calls (unplaced e) ≡ calls e
+calls_same e = (counts_same e).0
+
+pub strings_same : (e : Expr) → strings (unplaced e) ≡ strings e
+strings_same e = (counts_same e).1
 
 pub past_same : (b c : Before) (m n : ℕ) (v w : List (List ℕ)) → c ≡ b → m ≡ n → v ≡ w → past c m v ≡ past b n w
 past_same b c m n v w e f g = ap₂ (λ x (y : ℕ × List (List ℕ)). past x (y.0) (y.1)) e (ap₂ (λ (x : ℕ) (y : List (List ℕ)). (x, y)) f g)

@@ -50,9 +50,7 @@ declared_function (syntax.pointer at d) env t e = after_part IsFunctionType (poi
 declared_function (syntax.array at d size) env t e = after_part IsFunctionType (on (size_in env size) (array_of env at t)) (λ u. declared env d u) (λ u. declared_function d env u e)
 declared_function (syntax.function at (syntax.named here x) ps) env t e =
     on_holds IsFunctionType IsFunctionType (on (parameters _ 0 ps) (function_of at t)) (λ u. fine u) (after_part IsFunctionType (parameters _ 0 ps) (function_of at t) (λ ts. function_type at t ts)) (λ u h. h)
-declared_function (syntax.function at (syntax.pointer here d) ps) env t e = after_part IsFunctionType (on (parameters _ 0 ps) (function_of at t)) (λ u. declared env (syntax.pointer here d) u) (λ u. declared_function (syntax.pointer here d) env u e)
-declared_function (syntax.function at (syntax.array here d size) ps) env t e = after_part IsFunctionType (on (parameters _ 0 ps) (function_of at t)) (λ u. declared env (syntax.array here d size) u) (λ u. declared_function (syntax.array here d size) env u e)
-declared_function (syntax.function at (syntax.function here d qs) ps) env t e = after_part IsFunctionType (on (parameters _ 0 ps) (function_of at t)) (λ u. declared env (syntax.function here d qs) u) (λ u. declared_function (syntax.function here d qs) env u e)
+declared_function (syntax.function at d ps) env t e = after_part IsFunctionType (on (parameters _ 0 ps) (function_of at t)) (λ u. declared env d u) (λ u. declared_function d env u e)
 declared_function d env t e = absurd (cc)
 
 function_thing : (t : CType) → IsFunctionType t → IsThing t
@@ -165,18 +163,16 @@ struct_step env x ms s w some e =
     let same : struct_or_unknown (struct_definition env x ms) ≡ defined_struct g.0 = ap struct_or_unknown e ∙ (sym (same_struct f.1 s f.4) ∙ h.0) in
     subst (λ z. Step env (with_struct env x.name z)) (sym same) (file_structs env x.name (defined_struct g.0) w d.0 d.1)
 
-with_enums : (env : Env) (es : List Name) → IsFileRight env → Step env (record env { enums = es })
-with_enums env es w = (record { runs = w.runs; shallow = w.shallow; names_known = w.names_known; shallow_names = w.shallow_names; meanings = w.meanings }, record { grows = grows_same (layout_of env); whole = refl; later = λ x b e. (b, e, agrees_self b.means) })
-
-with_functions : (env : Env) (fs : List Name) → IsFileRight env → Step env (record env { functions = fs })
-with_functions env fs w = (record { runs = w.runs; shallow = w.shallow; names_known = w.names_known; shallow_names = w.shallow_names; meanings = w.meanings }, record { grows = grows_same (layout_of env); whole = refl; later = λ x b e. (b, e, agrees_self b.means) })
+-- the names of tags, enumerations and functions are free
+with_names : (env : Env) (ts es fs : List Name) → IsFileRight env → Step env (record env { tags = ts; enums = es; functions = fs })
+with_names env ts es fs w = (record { runs = w.runs; shallow = w.shallow; names_known = w.names_known; shallow_names = w.shallow_names; meanings = w.meanings }, record { grows = grows_same (layout_of env); whole = refl; later = λ x b e. (b, e, agrees_self b.means) })
 
 pub tags_step : (env : Env) (i : Item) → IsFileRight env → Step env (with_tags env i)
-tags_step env i w = (record { runs = w.runs; shallow = w.shallow; names_known = w.names_known; shallow_names = w.shallow_names; meanings = w.meanings }, record { grows = grows_same (layout_of env); whole = refl; later = λ x b e. (b, e, agrees_self b.means) })
+tags_step env i w = with_names env _ env.enums env.functions w
 
 enum_tag_step : (env : Env) (x : Tag) → IsFileRight env → Step env (behind_enum_tag env x)
 enum_tag_step env no_tag w = step_self env w
-enum_tag_step env (tag x) w = with_enums env (x.name ∷ env.enums) w
+enum_tag_step env (tag x) w = with_names env env.tags (x.name ∷ env.enums) env.functions w
 
 value_fits : (env : Env) (before : Checked ℤ) (x : Ident) (m : Maybe) → Holds (λ z. fits_int z ≡ true) (enumerator_value env before x m)
 value_fits env before x absent = after_part (λ z. fits_int z ≡ true) before (int_value x.at) (λ z. demand_holds (λ z. fits_int z ≡ true) (fits_int z) 6 x.at z (λ e. e))
@@ -240,7 +236,7 @@ not_defined_before env w defined x t i e q f = by_lookup (lookup env.names x) re
 function_step : (env : Env) (defined : Bool) (x : Ident) (r : Checked Meaning) (m : Meaning) → IsFileRight env → r ≡ fine m → IsFunctionDeclared env defined x m → Step env (behind_function env x.name r)
 function_step env defined x r m w e h =
     let inner : Env = record env { functions = with_new env.functions x.name } in
-    let s = with_functions env (with_new env.functions x.name) w in
+    let s = with_names env env.tags env.enums (with_new env.functions x.name) w in
     let d : Bool = is_defined_by defined (declared_here env x.name) in
     let same : meaning_or_unknown r ≡ a_function h.type d = ap meaning_or_unknown e ∙ h.named.is in
     let file : (y : Name) → x.name ≡ y → FileMeaning inner y (a_function h.type d) = (λ y q. subst (λ z. FileMeaning inner z (a_function h.type d)) q
@@ -313,9 +309,6 @@ parts_step (more_parts d m ps) env b at class s p w e =
     let h = part_step env b at class s d m (name_of d) f.0 w f.2 in
     step_on env inner (behind_file_parts inner after at class s ps) h (parts_step ps inner after at class s f.1 h.0 f.3)
 
-pub decl_step : (d : Decl) (env : Env) (b : Before) (p : Output) → IsFileRight env → file_decl env b d ≡ fine p → Step env (behind_file_decl env b d)
-decl_step (decl at class s ps) env b p w e = parts_step ps env b at class s p w e
-
 pub definition_step : (env : Env) (b : Before) (at : ℕ) (s : Spec) (d : Declarator) (body : Stmt) (o : Option Ident) (p : Output) (k : Bool) → declares_function d ≡ k → IsFileRight env → function_named env b at s d body k o ≡ fine p → Step env (behind_function_named env at s d o)
 definition_step env b at s d body o p false q w e = absurd (cc)
 definition_step env b at s d body None p true q w e = absurd (cc)
@@ -332,7 +325,7 @@ form_step (enum_item at x es) env b p w l e =
     let h = enumerators_step es env (fine (pos 0)) f.1 w f.3 in
     step_on env inner (behind_enum_tag inner x) h (enum_tag_step inner x h.0)
 form_step (tag_item at x) env b p w l e = step_self env w
-form_step (decl_item at d) env b p w l e = decl_step d env b p w e
+form_step (decl_item at (decl here class s ps)) env b p w l e = parts_step ps env b here class s p w e
 form_step (function_item at class s d body) env b p w l e = definition_step env b at s d body (name_of d) p (declares_function d) refl w e
 
 pub item_step : (i : Item) (env : Env) (b : Before) (p : Output) → IsFileRight env → IsItemLexical i → item env b i ≡ fine p → Step env (behind_item env b i)

@@ -29,17 +29,15 @@ use Rattle.c_rules_laws.proofs.Statements.{items_alike, held_by_block_same}
 pub declares_same : (d : Declarator) → declares_function (unplaced_declarator d) ≡ declares_function d
 declares_same (syntax.pointer at d) = declares_same d
 declares_same (syntax.array at d size) = declares_same d
-declares_same (syntax.function at (syntax.pointer here d) ps) = declares_same d
-declares_same (syntax.function at (syntax.array here d size) ps) = declares_same d
-declares_same (syntax.function at (syntax.function here d qs) ps) = declares_same (syntax.function here d qs)
+declares_same (syntax.function at (syntax.named here x) ps) = refl
+declares_same (syntax.function at d ps) = declares_same d
 declares_same d = refl
 
 parameters_same : (d : Declarator) → parameters_of (unplaced_declarator d) ≡ unplaced_params (parameters_of d)
 parameters_same (syntax.pointer at d) = parameters_same d
 parameters_same (syntax.array at d size) = parameters_same d
-parameters_same (syntax.function at (syntax.pointer here d) ps) = parameters_same d
-parameters_same (syntax.function at (syntax.array here d size) ps) = parameters_same d
-parameters_same (syntax.function at (syntax.function here d qs) ps) = parameters_same (syntax.function here d qs)
+parameters_same (syntax.function at (syntax.named here x) ps) = refl
+parameters_same (syntax.function at d ps) = parameters_same d
 parameters_same d = refl
 
 named_same : (n : Option Ident) → is_named (unplaced_name n) ≡ is_named n

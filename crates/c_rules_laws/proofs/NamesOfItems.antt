@@ -174,9 +174,6 @@ parts_define (more_parts d m ps) env b at class s p e =
     let f = first_fine (named_part env b at class s d m (name_of d)) (file_parts inner after at class s ps) (λ p q. fine (with_output p q)) p e in
     nothing_both env inner (behind_file_parts inner after at class s ps) (part_defines env b at class s d m (name_of d) f.0 f.2) (parts_define ps inner after at class s f.1 f.3)
 
-decl_defines : (d : Decl) (env : Env) (b : Before) (p : Output) → file_decl env b d ≡ fine p → Defines env (behind_file_decl env b d) []
-decl_defines (decl at class s ps) env b p e = parts_define ps env b at class s p e
-
 function_defines : (env : Env) → IsFileRight env → (b : Before) (at : ℕ) (s : Spec) (d : Declarator) (body : Stmt) (o : Option Ident) (p : Output) (k : Bool) → declares_function d ≡ k → function_named env b at s d body k o ≡ fine p → Defines env (behind_function_named env at s d o) (name_or_empty o ∷ [])
 function_defines env w b at s d body o p false q e = absurd (cc)
 function_defines env w b at s d body None p true q e = absurd (cc)
@@ -191,7 +188,7 @@ form_defines (enum_item at x es) env w b p e =
     let inner : Env = behind_enumerators env (fine (pos 0)) es in
     nothing_both env inner (behind_enum_tag inner x) (enumerators_define es env (fine (pos 0))) (tag_defines inner x)
 form_defines (tag_item at x) env w b p e = nothing_same env env refl refl
-form_defines (decl_item at d) env w b p e = decl_defines d env b p e
+form_defines (decl_item at (decl here class s ps)) env w b p e = parts_define ps env b here class s p e
 form_defines (function_item at class s d body) env w b p e = function_defines env w b at s d body (name_of d) p (declares_function d) refl e
 
 tags_define : (old env : Env) (i : Item) (xs : List Name) → Defines old env xs → Defines old (with_tags env i) xs

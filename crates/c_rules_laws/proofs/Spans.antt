@@ -147,9 +147,6 @@ parts_span (more_parts d m ps) env w b at class s q e =
     subst (Spans b (after_file_parts inner after at class s ps)) (output_same (with_output i.0 i.1) q i.4)
     (spans_both b after (after_file_parts inner after at class s ps) i.0 i.1 (part_span env w b at class s d m (name_of d) i.0 i.2) (parts_span ps inner step.0 after at class s i.1 i.3))
 
-decl_span : (d : Decl) (env : Env) → IsFileRight env → (b : Before) (q : Output) → file_decl env b d ≡ fine q → Spans b (after_file_decl env b d) q
-decl_span (decl at class s ps) env w b q e = parts_span ps env w b at class s q e
-
 -- ## Functions
 
 pub parameter_context : (env : Env) (k : ℕ) (o : Option Ident) (t : CType) → (with_parameter env k o t).context ≡ env.context
@@ -203,7 +200,7 @@ definition_span env w b at s d body k o q e = absurd (cc)
 
 form_span : (i : Item) (env : Env) → IsFileRight env → (b : Before) (q : Output) → item env b i ≡ fine q → Spans b (after_item env b i) q
 form_span (enum_item at x es) env w b q e = (let i = first_fine _ _ (λ _ _. fine no_output) q e in no_spans b q i.4)
-form_span (decl_item at d) env w b q e = decl_span d env w b q e
+form_span (decl_item at (decl here class s ps)) env w b q e = parts_span ps env w b here class s q e
 form_span (function_item at class s d body) env w b q e = definition_span env w b at s d body (declares_function d) (name_of d) q e
 form_span i env w b q e = (let i = on_fine _ (λ _. fine no_output) q e in no_spans b q i.2)
 

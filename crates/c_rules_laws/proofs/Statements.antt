@@ -25,12 +25,13 @@ use Rattle.c_rules.specs.Variables.{Next, past_names, names_of_decl, names_of_fi
 use Rattle.c_rules.specs.Blocks.{behind_decl, behind_first, held_by_stmt, held_by_block, held_by_stmts, held_by_groups, after_decl, after_first, after_stmt, after_stmts, StatementTree, bare, with_tree, joined, one_more, some_more, local_decl}
 use Rattle.c_rules.specs.Statements.{Around, in_loop, in_switch, condition_at, test_of, step_of, first_of, for_of, switched_kind, switched, label_type, labels_of, Labelled, no_labelled, labelled, are_distinct, switch_of, returned, stmt, items_of_block, stmts, groups_of_switch}
 use Rattle.c_rules_laws.proofs.Leads.{first_fine, on_fine}
-use Rattle.c_rules_laws.proofs.Alike.{Alike, alike, fine_there, on_alike, gives_alike, both_alike, three_alike, three_fine, demand_alike, fault_alike}
+use Rattle.c_rules_laws.proofs.Alike.{Alike, alike, fine_there, on_alike, gives_alike, both_alike, three_alike, demand_alike, fault_alike}
 use Rattle.c_rules_laws.proofs.Operators.{assigned_alike, condition_alike}
 use Rattle.c_rules_laws.proofs.Declared.{constant_alike}
 use Rattle.c_rules_laws.proofs.Expressions.{value_alike, folded_alike, strings_same, past_same, after_same}
 use Rattle.c_rules_laws.proofs.Counted.{maybe_calls_same, maybe_strings_same, decl_names_same, first_names_same, stmt_names_same, stmts_names_same, past_names_same, stmt_calls_same, stmts_calls_same}
 use Rattle.c_rules_laws.proofs.Blocks.{decl_alike, behind_decl_same, held_by_decl_same, after_decl_same, first_alike, behind_first_same, held_by_first_same, after_first_same}
+use Rattle.c_rules_laws.proofs.Holding.{three_fine}
 
 -- ## Heads
 

@@ -198,12 +198,9 @@ module _ (p : Program) (last : Env) (table : IsTable p last) (all : List (List �
       subst IsOutputRight (output_same (with_output i.0 i.1) q i.4)
       (output_both i.0 i.1 (part_right env w b at class s d m (name_of d) i.0 l.0 i.2 g0 g1 step.0 h1) (parts_right ps inner step.0 after at class s i.1 l.1 i.3 g1 g h))
 
-  decl_right : (d : Decl) (env : Env) → IsFileRight env → (b : Before) (q : Output) → IsDeclLexical d → file_decl env b d ≡ fine q → Follows env last → Follows (behind_file_decl env b d) last → Begins (after_file_decl env b d).strings all → IsOutputRight q
-  decl_right (decl at class s ps) env w b q l e g0 g h = parts_right ps env w b at class s q l e g0 g h
-
   form_right : (i : Item) (env : Env) → IsFileRight env → (b : Before) (q : Output) → IsItemLexical i → item env b i ≡ fine q → Follows env last → Follows (behind_by_form env b i) last → Begins (after_item env b i).strings all → IsOutputRight q
   form_right (enum_item at x es) env w b q l e g0 g h = (let i = first_fine _ _ (λ _ _. fine no_output) q e in no_output_right q i.4)
-  form_right (decl_item at d) env w b q l e g0 g h = decl_right d env w b q l e g0 g h
+  form_right (decl_item at (decl here class s ps)) env w b q l e g0 g h = parts_right ps env w b here class s q l e g0 g h
   form_right (function_item at class s d body) env w b q l e g0 g h = definition_right env w b at s d body (declares_function d) (name_of d) q refl l.1 e g h
   form_right i env w b q l e g0 g h = (let i = on_fine _ (λ _. fine no_output) q e in no_output_right q i.2)
 

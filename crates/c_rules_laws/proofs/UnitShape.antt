@@ -159,16 +159,13 @@ parts_shape (more_parts d m ps) last env b at class s p w e g =
     subst (λ xs. HasShape last [] xs p) (names_joined (not (declares_function d) && defines class m) (name_or_empty (name_of d)) (objects_of_parts class ps))
     (subst (HasShape last [] (defined_names class d m ++ objects_of_parts class ps)) (output_same (with_output i.0 i.1) p i.4) (shape_both last [] (defined_names class d m) [] (objects_of_parts class ps) i.0 i.1 h k))
 
-decl_shape : (d : Decl) (last env : Env) (b : Before) (p : Output) → IsFileRight env → file_decl env b d ≡ fine p → Follows (behind_file_decl env b d) last → HasShape last [] (objects_of_decl d) p
-decl_shape (decl at class s ps) last env b p w e g = parts_shape ps last env b at class s p w e g
-
 named_shape : (last env : Env) (b : Before) (at : ℕ) (s : Spec) (d : Declarator) (body : Stmt) (k : Bool) (o : Option Ident) (p : Output) → IsFileRight env → IsNamed o → function_named env b at s d body k o ≡ fine p → Follows (behind_function_named env at s d o) last → HasShape last (name_or_empty o ∷ []) [] p
 named_shape last env b at s d body true (Some x) p w n e g = definition_shape last env b at s d body x p w n e g
 named_shape last env b at s d body k o p w n e g = absurd (cc)
 
 form_shape : (i : Item) (last env : Env) (b : Before) (p : Output) → IsFileRight env → IsItemLexical i → item env b i ≡ fine p → Follows (behind_by_form env b i) last → HasShape last (functions_of_item i) (objects_of_item i) p
 form_shape (enum_item at x es) last env b p w n e g = (let i = first_fine _ _ (λ _ _. fine no_output) p e in no_shape last p i.4)
-form_shape (decl_item at d) last env b p w n e g = decl_shape d last env b p w e g
+form_shape (decl_item at (decl here class s ps)) last env b p w n e g = parts_shape ps last env b here class s p w e g
 form_shape (function_item at class s d body) last env b p w n e g = named_shape last env b at s d body (declares_function d) (name_of d) p w n.0 e g
 form_shape i last env b p w n e g = (let i = on_fine _ (λ _. fine no_output) p e in no_shape last p i.2)
 
