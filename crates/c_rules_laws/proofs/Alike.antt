@@ -1,7 +1,7 @@
 -- Two checks of which one is fine exactly where the other is, and then gives the same.
 use Rattle.std.proofs.Common.{◌≡◌, ℕ, Bool, true, false, if◌then◌else◌}
-use Rattle.c_rules.specs.Checked.{Checked, fine, on, both, beside, all_three, gives, demand, fault, and_also, Met, met, fails_with, parts_first}
-use Rattle.c_rules_laws.proofs.Leads.{Leads, same_leads, fine_leads, on_leads, both_leads, gives_leads, all_three_lead, first_fine, alone_leads, parts_first_leads}
+use Rattle.c_rules.specs.Checked.{Checked, fine, on, both, all_three, gives, demand, fault, and_also, Met, met, fails_with, parts_first}
+use Rattle.c_rules_laws.proofs.Leads.{Leads, same_leads, fine_leads, on_leads, both_leads, gives_leads, all_three_lead, alone_leads, parts_first_leads}
 
 pub record Alike (A : Type 0) (r s : Checked A) : Type 0 where
   pub forth : Leads r s

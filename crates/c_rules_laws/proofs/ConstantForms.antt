@@ -3,8 +3,7 @@ use Rattle.std.proofs.Common.{◌≡◌, ℕ, ℤ, Bool, true, false}
 use Rattle.c_tree.specs.declared.value.IntType.{IntType}
 use Rattle.c_tree.specs.declared.value.UnOp.{UnOp}
 use Rattle.c_tree.specs.declared.value.BinOp.{BinOp}
-use Rattle.c_tree.specs.declared.value.Value.TheVariants as v
-use Rattle.c_rules.specs.TypedExpression.{Constant, not_constant, undefined, known, is_known_zero, integer_constant_if}
+use Rattle.c_rules.specs.TypedExpression.{Constant, not_constant, is_known_zero, integer_constant_if}
 use Rattle.c_rules.specs.Constants.{constant_converted, constant_unary, constant_binary, constant_and, constant_or, constant_conditional, constant_member, constant_decayed, constant_moved}
 use Rattle.c_rules_laws.specs.ConstantForm.{IsConst}
 

@@ -1,7 +1,7 @@
 -- What is counted in statements without their places: names of variables, and calls.
 use Rattle.std.proofs.Common.{◌≡◌, ◌+◌, List, ◌∷◌, ◌++◌, Option, Some, None, refl, ap, ap₂, ◌∙◌}
 use Rattle.c_syntax.specs.Tree.{Ident, Declarator, Maybe, absent, there, Parts, no_parts, more_parts, Decl, decl, First, first_absent, first_expr, first_decl}
-use Rattle.c_syntax.specs.Tree.{Stmt, block, empty, evaluate, only_if, if_else, while_loop, do_loop, for_loop, switch_on, break_off, continue_on, return_from}
+use Rattle.c_syntax.specs.Tree.{Stmt, block, evaluate, only_if, if_else, while_loop, do_loop, for_loop, switch_on, return_from}
 use Rattle.c_syntax.specs.Tree.{BlockItems, no_block_items, block_decl, block_stmt, Stmts, no_stmts, more_stmts, Groups, no_groups, more_groups}
 use Rattle.c_syntax.specs.Same.{unplaced_declarator, unplaced_maybe, unplaced_parts, unplaced_decl, unplaced_first, unplaced_stmt, unplaced_block_items, unplaced_stmts, unplaced_groups}
 use Rattle.c_rules.specs.Counts.{calls_of_maybe, strings_of_maybe}

@@ -14,7 +14,7 @@ use Rattle.c_rules.specs.Names.{is_among, given_names, may_be_declared}
 use Rattle.c_rules.specs.Types.{is_scalar, is_result, count, adjusted}
 use Rattle.c_rules.specs.Constants.{number_of}
 use Rattle.c_rules.specs.Scopes.{Env, Meaning, a_local, with_name, meaning_or_unknown, tag_number, declared_here}
-use Rattle.c_rules.specs.TypedExpression.{TypedExpression, Constant, not_constant, undefined, known, integer_constant}
+use Rattle.c_rules.specs.TypedExpression.{TypedExpression, Constant, known, integer_constant}
 use Rattle.c_rules.specs.Conversions.{few_parts, complete}
 use Rattle.c_rules.specs.Declarators.{name_of, type_of_spec, within_parts, pointer_to, array_of, function_of, parameter_of, defined_value, constant_value, positive, array_size, free_name, new_name, variable_meaning, with_name_demands, behind_parameter}
 use Rattle.c_rules_laws.proofs.Leads.{first_fine}

@@ -4,7 +4,7 @@ use Rattle.std.specs.Prelude.{bytes_eq}
 use Rattle.c_tree.specs.Tree.{CType}
 use Rattle.c_rules.specs.Checked.{Fault}
 use Rattle.c_rules.specs.Names.{Name, is_among, given_names}
-use Rattle.c_rules.specs.Scopes.{Env, Binding, Meaning, a_static, a_local, a_function, an_enumerator, unknown, lookup, with_name}
+use Rattle.c_rules.specs.Scopes.{Env, Binding, Meaning, a_static, a_function, an_enumerator, unknown, lookup, with_name}
 use Rattle.c_rules_laws.proofs.FileScopes.{Agrees, Follows}
 use Rattle.c_rules_laws.proofs.DistinctNames.{Differ, differ_both, among_left, among_right}
 use Rattle.c_rules_laws.proofs.Holding.{Each, each_map, each_both}

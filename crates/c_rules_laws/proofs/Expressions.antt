@@ -3,14 +3,14 @@ use Rattle.std.proofs.Common.{◌≡◌, ℕ, suc, ◌+◌, Bool, true, false, �
 use Rattle.c_lexer.specs.declared.punctuator.TheConstants.{AMPERSAND}
 use Rattle.c_tree.specs.declared.value.BinOp.TheVariants.{Add, Sub}
 use Rattle.c_tree.specs.Tree.{CType, CTypes, no_types, more_types}
-use Rattle.c_syntax.specs.Tree.{Spec, Expr, a_name, an_int, a_char, a_str, comma, sizeof_type, cast, call, member, postfix, prefix, unary, index, binary, assign, conditional, Exprs, no_exprs, more_exprs, Maybe, absent, there}
+use Rattle.c_syntax.specs.Tree.{Spec, Expr, a_name, a_str, comma, sizeof_type, cast, call, member, postfix, prefix, unary, index, binary, assign, conditional, Exprs, no_exprs, more_exprs, Maybe, absent, there}
 use Rattle.c_syntax.specs.Tree.{Postfix, post_increment, post_decrement, Prefix, pre_increment, pre_decrement, sizeof, Access, dot, arrow, Infix, and, or, operator}
-use Rattle.c_syntax.specs.Tree.{TypeName, type_name, Declarator, nothing, named, pointer, array, function, Params, no_params, more_params}
+use Rattle.c_syntax.specs.Tree.{TypeName, type_name, Declarator, nothing, pointer, array, function, Params, no_params, more_params}
 use Rattle.c_syntax.specs.Tree as syntax
 use Rattle.c_syntax.specs.Same.{unplaced_spec, unplaced, unplaced_exprs, unplaced_maybe, unplaced_type, unplaced_declarator, unplaced_params}
 use Rattle.c_rules.specs.Checked.{Checked, fine, on}
 use Rattle.c_rules.specs.Names.{Name}
-use Rattle.c_rules.specs.Scopes.{Env, Binding, Meaning, a_static, a_local, a_function, an_enumerator, unknown, Before, nothing_before, sized, folded, in_context, inside, binding_of}
+use Rattle.c_rules.specs.Scopes.{Env, Binding, Meaning, a_function, Before, nothing_before, sized, folded, in_context, inside, binding_of}
 use Rattle.c_rules.specs.Counts.{place_of, calls, calls_of_all, strings, strings_of_all, unless_sizeof, past, after, after_designator}
 use Rattle.c_rules.specs.TypedExpression.{TypedExpression}
 use Rattle.c_rules.specs.Conversions.{valued}

@@ -1,19 +1,19 @@
 -- What is known behind the items of a unit that is fine.
-use Rattle.std.proofs.Common.{◌≡◌, ℕ, ◌+◌, ◌≤◌, ℤ, pos, Bool, true, false, not, ◌&&◌, ◌||◌, if◌then◌else◌, List, [], ◌∷◌, map, length, Option, Some, None, slice_get, nat_le, nat_eq, refl, ap, ap₂, sym, subst, ◌∙◌, arith}
+use Rattle.std.proofs.Common.{◌≡◌, ℕ, ◌+◌, ◌≤◌, ℤ, pos, Bool, true, false, not, ◌&&◌, ◌||◌, if◌then◌else◌, List, [], ◌∷◌, map, length, Option, Some, None, slice_get, nat_le, nat_eq, refl, ap, ap₂, sym, subst, ◌∙◌}
 use Rattle.std.specs.Cmp.{nat_eq_equiv}
 use Rattle.std.specs.Prelude.{is_none}
 use Rattle.std.proofs.lemmas.Bool.{leb-true}
 use Rattle.std.proofs.lemmas.List.{length-map}
 use Rattle.std.proofs.lemmas.Bool.{or_right}
-use Rattle.c_tree.specs.Tree.{CType, void, integer, pointer, array, struct, function, CTypes}
+use Rattle.c_tree.specs.Tree.{CType, void, pointer, array, function, CTypes}
 use Rattle.c_tree.specs.Layout.{cells, cells_of_all}
 use Rattle.c_tree.specs.Operators.{fits_int}
-use Rattle.c_syntax.specs.Tree.{Ident, Storage, Spec, Declarator, MaybeInit, Parts, no_parts, more_parts, Decl, decl, Maybe, absent, there, Stmt, Members, Enumerators, no_enumerators, more_enumerators, Tag, no_tag, tag, Item, struct_item, enum_item, tag_item, decl_item, function_item, Items, no_items, more_items}
+use Rattle.c_syntax.specs.Tree.{Ident, Storage, Spec, Declarator, MaybeInit, Parts, no_parts, more_parts, decl, Maybe, absent, there, Stmt, Members, Enumerators, no_enumerators, more_enumerators, Tag, no_tag, tag, Item, struct_item, enum_item, tag_item, decl_item, function_item, Items, no_items, more_items}
 use Rattle.c_syntax.specs.Tree as syntax
 use Rattle.c_rules.specs.Checked.{Checked, fine, on, demand, and_also, Met, met}
 use Rattle.c_rules.specs.Names.{Name, with_new, number_among, is_among, may_be_declared, given_names, given_types, is_given_type}
 use Rattle.c_rules.specs.Types.{same_type, is_result, count}
-use Rattle.c_rules.specs.Scopes.{Env, Binding, Meaning, a_static, a_local, a_function, an_enumerator, unknown, Struct, defined_struct, Member, type_of_member, struct_of, tag_number, layout_of, with_struct, with_name, meaning_or_unknown, lookup, at_depth, declared_here, Before}
+use Rattle.c_rules.specs.Scopes.{Env, Binding, Meaning, a_static, a_function, an_enumerator, Struct, defined_struct, Member, type_of_member, struct_of, tag_number, layout_of, with_struct, with_name, meaning_or_unknown, lookup, at_depth, declared_here, Before}
 use Rattle.c_rules.specs.Conversions.{few_parts}
 use Rattle.c_rules.specs.Constants.{number_of}
 use Rattle.c_rules.specs.Counts.{place_of}
@@ -22,7 +22,7 @@ use Rattle.c_rules.specs.Expressions.{folded_value, declared, size_in, parameter
 use Rattle.c_rules.specs.Objects.{Object, object_declared}
 use Rattle.c_rules.specs.Tags.{tags_of_enumerators}
 use Rattle.c_rules.specs.Functions.{declares_function, given_as, is_as_given, may_follow_function, is_defined_by, is_few, function_meaning, behind_function, function_declared, items_of_body, defined_as}
-use Rattle.c_rules.specs.Items.{free_tag, without_init, output_of_function, Output, no_output, with_output, new_struct, struct_definition, struct_laid, members, is_incomplete, struct_or_unknown, int_value, enumerator_value, one_more_than, enumerator_meaning, behind_enumerator, enumerators, behind_enumerators, new_enum, behind_enum_tag, defines, may_follow_object, object_name, few_static, global_object, global_declared, meaning_of_global, behind_global, within_global, definition_of, global, declared_part, named_part, behind_declared, behind_named_part, behind_file_part, after_file_part, file_parts, behind_file_parts, file_decl, behind_file_decl, behind_defined, function_named, behind_function_named, item, behind_by_form, with_tags, behind_item, after_item, items, behind_items}
+use Rattle.c_rules.specs.Items.{free_tag, without_init, output_of_function, Output, no_output, with_output, new_struct, struct_definition, struct_laid, members, is_incomplete, struct_or_unknown, int_value, enumerator_value, one_more_than, enumerator_meaning, behind_enumerator, enumerators, behind_enumerators, new_enum, behind_enum_tag, defines, may_follow_object, object_name, few_static, global_object, global_declared, meaning_of_global, behind_global, declared_part, named_part, behind_declared, behind_named_part, behind_file_part, after_file_part, file_parts, behind_file_parts, behind_defined, function_named, behind_function_named, item, behind_by_form, with_tags, behind_item, after_item, items, behind_items}
 use Rattle.c_rules.proofs.ModeItems.{global_fine}
 use Rattle.c_rules_laws.specs.Lexical.{AreSomeMembers, IsItemLexical, IsUnitLexical}
 use Rattle.c_rules_laws.specs.MadeTypes.{NotArray, Made, IsSized}

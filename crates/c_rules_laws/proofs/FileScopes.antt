@@ -5,7 +5,7 @@ use Rattle.std.proofs.lemmas.List.{length-map}
 use Rattle.std.proofs.lemmas.List.Elements.{All-cons}
 use Rattle.std.proofs.lemmas.Slice.Eq.{bytes_eq-Decides}
 use Rattle.c_tree.specs.declared.value.Value.TheVariants as v
-use Rattle.c_tree.specs.Tree.{CType, void, integer, pointer, array, struct, function}
+use Rattle.c_tree.specs.Tree.{CType, array}
 use Rattle.c_tree.specs.Layout.{Structs, repeat, cells, cells_of_all}
 use Rattle.c_tree.specs.Functions.{int}
 use Rattle.c_tree.specs.Operands.{IsComplete}
@@ -13,7 +13,7 @@ use Rattle.c_tree.specs.Kinds.{IsConstant}
 use Rattle.c_syntax.specs.Tree.{Ident, Spec, Declarator, no_init, Declarators, no_declarators, more_declarators, Members, no_members, more_members}
 use Rattle.c_rules.specs.Checked.{on}
 use Rattle.c_rules.specs.Names.{Name, number_among, given_names, given_types}
-use Rattle.c_rules.specs.Scopes.{Env, Binding, Meaning, a_static, a_local, a_function, an_enumerator, unknown, Struct, incomplete, unknown_struct, defined_struct, Member, type_of_member, types_of_struct, struct_of, tag_number, layout_of, with_struct, with_name, lookup, evaluated}
+use Rattle.c_rules.specs.Scopes.{Env, Binding, Meaning, a_static, a_local, a_function, an_enumerator, unknown, Struct, incomplete, defined_struct, Member, type_of_member, types_of_struct, struct_of, tag_number, layout_of, with_struct, with_name, lookup, evaluated}
 use Rattle.c_rules.specs.Conversions.{complete}
 use Rattle.c_rules.specs.Declarators.{name_of, place_or}
 use Rattle.c_rules.specs.Expressions.{type_declared}

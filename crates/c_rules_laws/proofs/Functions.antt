@@ -1,9 +1,9 @@
 -- What definitions of functions give without their places.
 use Rattle.std.proofs.Common.{◌≡◌, ℕ, suc, ◌+◌, Bool, false, ◌&&◌, length, Option, Some, None, refl, sym, ap, ap₂, subst, ◌∙◌, nat_le}
-use Rattle.c_tree.specs.Tree.{CType, void, integer, pointer, array, struct, function, CTypes, no_types, more_types, Function}
+use Rattle.c_tree.specs.Tree.{CType, pointer, array, function, CTypes, more_types, Function}
 use Rattle.c_tree.specs.Tree as typed
 use Rattle.c_tree.specs.Layout.{cells_of_all}
-use Rattle.c_syntax.specs.Tree.{Ident, Spec, Declarator, Params, no_params, more_params, Stmt, block, empty, evaluate, only_if, if_else, while_loop, do_loop, for_loop, switch_on, break_off, continue_on, return_from, BlockItems}
+use Rattle.c_syntax.specs.Tree.{Ident, Spec, Declarator, Params, no_params, more_params, Stmt, block, BlockItems}
 use Rattle.c_syntax.specs.Tree as syntax
 use Rattle.c_syntax.specs.Same.{unplaced_ident, unplaced_spec, unplaced_declarator, unplaced_params, unplaced_stmt, unplaced_block_items}
 use Rattle.c_rules.specs.Checked.{Checked, fine, demand, Met, met, parts_first}

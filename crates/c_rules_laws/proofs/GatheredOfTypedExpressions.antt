@@ -1,5 +1,5 @@
 -- What is gathered at calls, in what the rules on expressions give, is what is gathered in their parts, in order; a constant has none.
-use Rattle.std.proofs.Common.{◌≡◌, ℕ, ℤ, map, Bool, true, false, ◌&&◌, ◌||◌, if◌then◌else◌, List, [], ◌∷◌, ◌++◌, length, Option, Some, None, nat_eq, refl, ap, ap₂, sym, subst, ◌∙◌, arith}
+use Rattle.std.proofs.Common.{◌≡◌, ℕ, ℤ, map, Bool, true, false, ◌&&◌, ◌||◌, List, [], ◌∷◌, ◌++◌, length, Option, Some, None, nat_eq, refl, ap, ap₂, sym, subst, ◌∙◌, arith}
 use Rattle.c_tree.specs.declared.value.IntType.{IntType}
 use Rattle.c_tree.specs.declared.value.UnOp.{UnOp}
 use Rattle.c_tree.specs.declared.value.UnOp.TheVariants.{Not}
@@ -13,7 +13,7 @@ use Rattle.c_tree.specs.Operands.{promoted, common, OperatorKind, balanced, shif
 use Rattle.c_tree.specs.Operands.{kind_of as kind_of_operator}
 use Rattle.c_rules.specs.Names.{Name, number_among}
 use Rattle.c_rules.specs.Types.{same_type, is_integer, is_function, is_scalar, is_void, count}
-use Rattle.c_rules.specs.Scopes.{Env, Struct, incomplete, unknown_struct, defined_struct, Member, struct_of, layout_of}
+use Rattle.c_rules.specs.Scopes.{Env, Struct, defined_struct, Member, struct_of, layout_of}
 use Rattle.c_rules.specs.TypedExpression.{Form, a_value, a_place, behind, Constant, TypedExpression, tree_of_form, tree_of, is_place, is_null, integer_constant}
 use Rattle.c_rules.specs.Constants.{constant_and, constant_or, constant_moved}
 use Rattle.c_rules.specs.Conversions.{Kind, an_integer, a_pointer, neither, kind_of, complete, few_parts, loaded, valued_as, valued, cast_to, has_integer, converted_to, null_of, fits, assigned_as, assigned, as_if_assigned, condition}

@@ -1,7 +1,7 @@
 -- What holds of parts that are fine.
-use Rattle.std.proofs.Common.{◌≡◌, ℕ, Bool, true, false, ◌&&◌, if◌then◌else◌, List, [], ◌∷◌, ◌++◌, All, refl, arith}
+use Rattle.std.proofs.Common.{◌≡◌, ℕ, Bool, true, false, if◌then◌else◌, List, [], ◌∷◌, ◌++◌, All, refl, arith}
 use Rattle.std.proofs.lemmas.List.Elements.{All-cons}
-use Rattle.c_rules.specs.Checked.{Checked, fine, faulty, on, both, all_three, demand, met, parts_first}
+use Rattle.c_rules.specs.Checked.{Checked, fine, faulty, on, all_three, demand, met}
 pub use Rattle.sys_table.proofs.Names.{and_left, and_right}
 pub use Rattle.c_rules_laws.proofs.Leads.{parts_first_fine, first_fine, on_fine}
 pub use Rattle.c_rules.proofs.Below.{after_demands as after_part}

@@ -1,16 +1,16 @@
 -- What initialisers and declared objects give without their places, and the strings that they hold.
 use Rattle.std.proofs.Common.{◌≡◌, ℕ, zero, suc, ◌+◌, Bool, true, false, ◌&&◌, if◌then◌else◌, List, [], ◌∷◌, ◌++◌, length, Option, Some, None, refl, sym, ap, ap₂, subst}
 use Rattle.std.specs.Prelude.{is_some, nat_le}
-use Rattle.c_tree.specs.declared.value.IntType.TheVariants.{Char, Uchar, Int, Uint}
-use Rattle.c_tree.specs.Tree.{CType, void, integer, pointer, array, struct, function}
+use Rattle.c_tree.specs.declared.value.IntType.TheVariants.{Char}
+use Rattle.c_tree.specs.Tree.{CType, integer, pointer, array}
 use Rattle.c_tree.specs.Layout.{cells}
-use Rattle.c_syntax.specs.Tree.{Ident, Spec, Declarator, Expr, a_name, an_int, a_char, a_str, comma, sizeof_type, cast, call, member, postfix, prefix, unary, index, binary, assign, conditional, Init, one, list, Inits, no_inits, more_inits, MaybeInit, no_init, an_init}
+use Rattle.c_syntax.specs.Tree.{Ident, Spec, Declarator, Expr, a_name, Init, one, list, Inits, no_inits, more_inits, MaybeInit, no_init, an_init}
 use Rattle.c_syntax.specs.Same.{unplaced_ident, unplaced_spec, unplaced, unplaced_declarator, unplaced_init, unplaced_inits, unplaced_maybe_init}
 use Rattle.c_rules.specs.Checked.{Checked, fine, on, demand, met, Met}
 use Rattle.c_rules.specs.Codes.{C6, C13, C14}
 use Rattle.c_rules.specs.Limits.{most_cells}
 use Rattle.c_rules.specs.Scopes.{Env, Before, layout_of}
-use Rattle.c_rules.specs.TypedExpression.{TypedExpression, Constant, not_constant, undefined, known}
+use Rattle.c_rules.specs.TypedExpression.{TypedExpression, Constant, known}
 use Rattle.c_rules.specs.Conversions.{as_if_assigned}
 use Rattle.c_rules.specs.Declarators.{place_or}
 use Rattle.c_rules.specs.Expressions.{value}

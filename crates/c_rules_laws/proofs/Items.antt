@@ -4,7 +4,7 @@ use Rattle.std.specs.Prelude.{ℤ, pos, ◌+ℤ◌, ◌+◌, map, length, nat_le
 use Rattle.c_tree.specs.Tree.{CType, Function}
 use Rattle.c_tree.specs.Layout.{cells, cells_of_all}
 use Rattle.c_tree.specs.Operators.{fits_int}
-use Rattle.c_syntax.specs.Tree.{Ident, Storage, no_storage, static, extern, Spec, Declarator, MaybeInit, no_init, an_init, one, list, Parts, no_parts, more_parts, Decl, decl}
+use Rattle.c_syntax.specs.Tree.{Ident, Storage, extern, Spec, Declarator, MaybeInit, no_init, an_init, one, list, Parts, no_parts, more_parts, Decl, decl}
 use Rattle.c_syntax.specs.Tree.{Maybe, absent, there, Declarators, no_declarators, more_declarators, Members, no_members, more_members, Enumerators, no_enumerators, more_enumerators}
 use Rattle.c_syntax.specs.Tree.{Tag, no_tag, tag, Stmt, BlockItems, Item, struct_item, enum_item, tag_item, decl_item, function_item, Items, no_items, more_items}
 use Rattle.c_syntax.specs.Same.{unplaced_ident, unplaced_spec, unplaced, unplaced_maybe, unplaced_declarator, unplaced_maybe_init, unplaced_parts, unplaced_decl, unplaced_stmt, unplaced_block_items, unplaced_declarators, unplaced_members, unplaced_enumerators, unplaced_tag, unplaced_item, unplaced_unit}

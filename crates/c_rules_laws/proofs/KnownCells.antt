@@ -1,7 +1,7 @@
 -- The cells of a static object that is fine are constants with values.
 use Rattle.std.proofs.Common.{◌≡◌, ℕ, zero, suc, ◌-◌, Bool, true, List, [], ◌∷◌, ◌++◌, map, replicate, length, Option, Some, nat_le, refl, sym, subst}
 use Rattle.c_tree.specs.declared.value.IntType.TheVariants.{Char}
-use Rattle.c_tree.specs.Tree.{CType, void, integer, pointer, array, struct, function}
+use Rattle.c_tree.specs.Tree.{CType, void, integer, pointer, array}
 use Rattle.c_tree.specs.Layout.{Structs, repeat, flat, flat_all}
 use Rattle.c_syntax.specs.Tree.{Init, one, list, MaybeInit, no_init, an_init}
 use Rattle.c_syntax.specs.Tree as syntax
@@ -22,28 +22,29 @@ IsKnownConstant (known x) = Unit {0}
 abbrev pub AllKnown : List TypedExpression → Type 0
 AllKnown = Each (λ g. IsKnownConstant g.constant)
 
-zeros_known : (ts : List CType) → AllKnown (map typed_zero ts)
-zeros_known [] = tt
-zeros_known (t ∷ ts) = (one_known t, zeros_known ts)
-  where
-    one_known : (t : CType) → IsKnownConstant (typed_zero t).constant
-    one_known void = tt
-    one_known t = tt
+-- what holds of each zero, and of each character
+pub zeros_each : (P : TypedExpression → Type 0) → ((t : CType) → P (typed_zero t)) → (ts : List CType) → Each P (map typed_zero ts)
+zeros_each P z [] = tt
+zeros_each P z (t ∷ ts) = (z t, zeros_each P z ts)
 
-slots_known : (structs : Structs) (s : Slots) → AllKnown (zeros structs s)
-slots_known structs (copies n t) = zeros_known (repeat n (flat structs t))
-slots_known structs (each ts) = zeros_known (flat_all structs ts)
+pub slots_each : (P : TypedExpression → Type 0) → ((t : CType) → P (typed_zero t)) → (structs : Structs) (s : Slots) → Each P (zeros structs s)
+slots_each P z structs (copies n t) = zeros_each P z (repeat n (flat structs t))
+slots_each P z structs (each ts) = zeros_each P z (flat_all structs ts)
 
-chars_known : (n : ℕ) (w : List ℕ) → AllKnown (chars n w)
-chars_known n w = each_both (λ g. IsKnownConstant g.constant) (map typed_char w) (replicate (n - length w) (typed_char 0)) (all w) (ends (n - length w))
+pub chars_each : (P : TypedExpression → Type 0) → ((c : ℕ) → P (typed_char c)) → (n : ℕ) (w : List ℕ) → Each P (chars n w)
+chars_each P c n w = each_both P (map typed_char w) (replicate (n - length w) (typed_char 0)) (all w) (ends (n - length w))
   where
-    all : (w : List ℕ) → AllKnown (map typed_char w)
+    all : (w : List ℕ) → Each P (map typed_char w)
     all [] = tt
-    all (c ∷ w) = (tt, all w)
+    all (k ∷ w) = (c k, all w)
 
-    ends : (k : ℕ) → AllKnown (replicate k (typed_char 0))
+    ends : (k : ℕ) → Each P (replicate k (typed_char 0))
     ends zero = tt
-    ends (suc k) = (tt, ends k)
+    ends (suc k) = (c 0, ends k)
+
+zero_known : (t : CType) → IsKnownConstant (typed_zero t).constant
+zero_known void = tt
+zero_known t = tt
 
 cell_known : (at : ℕ) (g : TypedExpression) (c : Constant) → g.constant ≡ c → Holds AllKnown (defined_cell at g c)
 cell_known at g (known x) e = (subst IsKnownConstant (sym e) tt, tt)
@@ -53,7 +54,7 @@ scalar_known : (at : ℕ) (t : CType) (r : Checked TypedExpression) → Holds Al
 scalar_known at t r = after_part AllKnown (on r (as_if_assigned at t)) (cell_of true at) (λ g. cell_known at g g.constant refl)
 
 array_known : (at : ℕ) (t : CType) (n : ℕ) (o : Option (List ℕ)) → Holds AllKnown (array_cells at t n o)
-array_known at (integer Char) n (Some w) = demand_holds AllKnown (nat_le (length w) n) 14 at (chars n w) (λ _. chars_known n w)
+array_known at (integer Char) n (Some w) = demand_holds AllKnown (nat_le (length w) n) 14 at (chars n w) (λ _. chars_each (λ g. IsKnownConstant g.constant) (λ _. tt) n w)
 array_known at t n o = tt
 
 list_known : (takes : Bool) (at most n : ℕ) (r : Checked (List TypedExpression)) → Holds AllKnown r → Holds AllKnown (cells_of_list takes at most n r)
@@ -68,7 +69,7 @@ mutual
   init_known i env b t = tt
 
   turn_known : (is : syntax.Inits) (env : Env) (b : Before) (s : Slots) → Holds AllKnown (in_turn env b true s is)
-  turn_known syntax.no_inits env b s = slots_known (layout_of env) s
+  turn_known syntax.no_inits env b s = slots_each (λ g. IsKnownConstant g.constant) zero_known (layout_of env) s
   turn_known (syntax.more_inits i is) env b (copies (suc n) t) =
       both_hold AllKnown AllKnown AllKnown (initialised env b true t i) (in_turn env (after_init env b t i) true (copies n t) is) (λ gs hs. fine (gs ++ hs)) (init_known i env b t) (turn_known is env (after_init env b t i) (copies n t)) (λ gs hs h k. each_both (λ g. IsKnownConstant g.constant) gs hs h k)
   turn_known (syntax.more_inits i is) env b (each (t ∷ ts)) =
@@ -76,5 +77,5 @@ mutual
   turn_known is env b s = tt
 
 pub static_known : (m : MaybeInit) (env : Env) (b : Before) (t : CType) → Holds AllKnown (initialised_static env b t m)
-static_known no_init env b t = zeros_known (flat (layout_of env) t)
+static_known no_init env b t = zeros_each (λ g. IsKnownConstant g.constant) zero_known (flat (layout_of env) t)
 static_known (an_init i) env b t = init_known i env b t

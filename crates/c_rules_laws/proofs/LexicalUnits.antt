@@ -4,15 +4,15 @@ use Rattle.dm_base.specs.declared.mode.Mode.{Mode}
 use Rattle.dm_base.specs.declared.mode.Mode.TheVariants.{Plain, Instrumented}
 use Rattle.dm_base.specs.Name.{IsName}
 use Rattle.c_lexer.specs.declared.token.TokenKind.{TokenKind}
-use Rattle.c_lexer.specs.declared.token.TokenKind.TheVariants.{Name, Keyword, Int, Char, Str, Punct}
+use Rattle.c_lexer.specs.declared.token.TokenKind.TheVariants.{Int, Str}
 use Rattle.c_lexer.specs.declared.token.Token.{Token}
 use Rattle.c_lexer.specs.Kinds.{Spells, IsKind}
-use Rattle.c_lexer.specs.Literals.{IsElement, plain, simple, octal, hexadecimal, HasElements, none, more}
+use Rattle.c_lexer.specs.Literals.{IsElement, plain, HasElements, none, more}
 use Rattle.c_lexer.specs.TokenSpelling.{SpellsFrom, nothing, white, token, SpellsTokens}
 use Rattle.c_lexer.proofs.KindsLemmas.{kind_of_spelled}
 use Rattle.c_syntax.specs.Tree.{Ident, Spec, Storage, Expr, Exprs, Maybe, TypeName, Declarator, Params, Init, Inits, MaybeInit, Parts, Decl, First, Labels, Stmt, BlockItems, Stmts, Groups, Declarators, Members, Enumerators, Tag, Item, Items}
 use Rattle.c_syntax.specs.Tree as syntax
-use Rattle.c_syntax.specs.Specifiers.{Names, ReadsStorage, no_storage_stands, static_stands, extern_stands, Consts, no_const, a_const, ReadsSpec}
+use Rattle.c_syntax.specs.Specifiers.{Names, ReadsStorage, no_storage_stands, Consts, no_const, a_const, ReadsSpec}
 use Rattle.c_syntax.specs.Grammar as grammar
 use Rattle.c_syntax.specs.Grammar.{Level, ReadsStrings, Reads, ReadsList, Suffixes, Chain, ReadsSize, ReadsType, Declares, ReadsCore, Lengthens, ReadsParams, ReadsEach}
 use Rattle.c_syntax.specs.Statements as stmts

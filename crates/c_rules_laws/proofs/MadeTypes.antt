@@ -1,5 +1,5 @@
 -- Tests of types, and types as declarators make them.
-use Rattle.std.proofs.Common.{◌≡◌, ℕ, ◌<◌, true, List, Option, Some, None, slice_get, unwrap_or, nat_lt, nat_eq, refl, ap, ap₂, ◌∙◌, arith}
+use Rattle.std.proofs.Common.{◌≡◌, ℕ, ◌<◌, true, List, Option, Some, slice_get, unwrap_or, nat_lt, nat_eq, refl, ap, ap₂, ◌∙◌, arith}
 use Rattle.std.specs.Prelude.{option_map}
 use Rattle.std.proofs.lemmas.Bool.Decides.{Decides-ltb, Decides-eqb}
 use Rattle.std.proofs.lemmas.Option.{slice_get-map}
@@ -9,7 +9,7 @@ use Rattle.c_tree.specs.Tree.{CType, void, integer, pointer, array, struct, func
 use Rattle.c_tree.specs.Layout.{Structs}
 use Rattle.c_tree.specs.Operands.{IsScalar, IsResult, IsComplete}
 use Rattle.c_rules.specs.Types.{is_void, same_integer, same_type, same_types, is_scalar, is_result}
-use Rattle.c_rules.specs.Scopes.{Env, Struct, incomplete, unknown_struct, defined_struct, types_of_struct, layout_of}
+use Rattle.c_rules.specs.Scopes.{Env, Struct, incomplete, defined_struct, types_of_struct, layout_of}
 use Rattle.c_rules.specs.Conversions.{is_defined, complete}
 use Rattle.c_rules_laws.specs.MadeTypes.{NotArray, Made, AllMade, FewCells}
 use Rattle.c_rules_laws.proofs.Holding.{Holds, demand_holds, and_left, and_right}

@@ -6,18 +6,18 @@ use Rattle.std.proofs.lemmas.Slice.Eq.{bytes_eq-Decides}
 use Rattle.dm_base.specs.declared.mode.Mode.{Mode}
 use Rattle.dm_base.specs.declared.mode.Mode.TheVariants.{Plain, Instrumented}
 use Rattle.c_tree.specs.Tree.{CType}
-use Rattle.c_syntax.specs.Tree.{Ident, Storage, Spec, Declarator, MaybeInit, Parts, no_parts, more_parts, Decl, decl, Stmt, Enumerators, no_enumerators, more_enumerators, Tag, no_tag, tag, Item, struct_item, enum_item, tag_item, decl_item, function_item, Items, no_items, more_items}
+use Rattle.c_syntax.specs.Tree.{Ident, Storage, Spec, Declarator, MaybeInit, Parts, no_parts, more_parts, decl, Stmt, Enumerators, no_enumerators, more_enumerators, Tag, no_tag, tag, Item, struct_item, enum_item, tag_item, decl_item, function_item, Items, no_items, more_items}
 use Rattle.c_rules.specs.Checked.{Checked, fine, faulty, on, both, Met}
 use Rattle.c_rules.specs.Limits.{most_functions}
 use Rattle.c_rules.specs.Names.{Name, is_among, number_among, given_names}
 use Rattle.c_rules.specs.Types.{same_type}
-use Rattle.c_rules.specs.Scopes.{Env, Binding, Meaning, a_static, a_local, a_function, an_enumerator, unknown, lookup, at_depth, declared_here, with_struct, meaning_or_unknown, Before}
+use Rattle.c_rules.specs.Scopes.{Env, Binding, Meaning, a_static, a_function, an_enumerator, lookup, at_depth, declared_here, with_struct, meaning_or_unknown, Before}
 use Rattle.c_rules.specs.Declarators.{name_of, place_or, new_name}
 use Rattle.c_rules.specs.Expressions.{type_declared}
 use Rattle.c_rules.specs.Objects.{Object}
 use Rattle.c_rules.specs.Variables.{name_or_empty}
 use Rattle.c_rules.specs.Functions.{declares_function, given_as, is_as_given, may_follow_function, is_defined_by, behind_function, function_declared, items_of_body, defined_as}
-use Rattle.c_rules.specs.Items.{Output, no_output, with_output, without_init, output_of_function, defines, struct_definition, struct_or_unknown, enumerator_value, one_more_than, enumerator_meaning, behind_enumerator, behind_enumerators, behind_enum_tag, global_declared, meaning_of_global, declared_part, named_part, behind_declared, behind_named_part, behind_file_part, after_file_part, file_parts, behind_file_parts, file_decl, behind_file_decl, behind_defined, function_named, behind_function_named, item, behind_by_form, with_tags, behind_item, after_item, items, behind_items}
+use Rattle.c_rules.specs.Items.{Output, no_output, with_output, without_init, output_of_function, defines, struct_definition, struct_or_unknown, enumerator_value, one_more_than, enumerator_meaning, behind_enumerator, behind_enumerators, behind_enum_tag, global_declared, meaning_of_global, declared_part, named_part, behind_declared, behind_named_part, behind_file_part, after_file_part, file_parts, behind_file_parts, behind_defined, function_named, behind_function_named, item, behind_by_form, with_tags, behind_item, after_item, items, behind_items}
 use Rattle.c_rules.specs.Units.{functions_of_item, functions_of}
 use Rattle.c_rules_laws.specs.Lexical.{IsUnitLexical}
 use Rattle.c_rules_laws.proofs.Holding.{held, first_fine, and_right}

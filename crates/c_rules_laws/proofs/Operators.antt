@@ -5,7 +5,7 @@ use Rattle.c_lexer.specs.declared.punctuator.TheConstants.{ASTERISK, PLUS, MINUS
 use Rattle.c_tree.specs.declared.value.UnOp.{UnOp}
 use Rattle.c_tree.specs.declared.value.UnOp.TheVariants.{Minus, Complement, Not}
 use Rattle.c_tree.specs.declared.value.BinOp.{BinOp}
-use Rattle.c_tree.specs.declared.value.BinOp.TheVariants.{Mul, Div, Rem, Add, Sub, ShiftLeft, ShiftRight, BitAnd, BitXor, BitOr, Less, Greater, LessEqual, GreaterEqual, Equal, NotEqual}
+use Rattle.c_tree.specs.declared.value.BinOp.TheVariants.{Add, Sub}
 use Rattle.c_tree.specs.Tree.{CType, void, integer, pointer, array, struct, function, Expr, decay, address_of, unary_operation, and, or, assign}
 use Rattle.c_tree.specs.Layout.{cells, sizeof}
 use Rattle.c_tree.specs.Functions.{int}
@@ -20,7 +20,7 @@ use Rattle.c_rules.specs.Scopes.{Env, Struct, incomplete, unknown_struct, define
 use Rattle.c_rules.specs.TypedExpression.{TypedExpression, Form, a_value, a_place, behind, tree_of, typed_value, not_constant, is_place, is_null, integer_constant}
 use Rattle.c_rules.specs.Constants.{constant_unary, constant_and, constant_or}
 use Rattle.c_rules.specs.PrimaryExpressions.{most_cells_in, used, object_number, function_number, function_value_number, static_given, local_given, typed_function, typed_int, typed_unsigned, meant, bound, named_expression, string_fits, string_number, typed_string, string_expression, few_cells}
-use Rattle.c_rules.specs.Conversions.{Kind, an_integer, a_pointer, neither, kind_of, few_parts, is_defined, complete, loaded, valued_as, valued, cast_to, null_of, fits, assigned, as_if_assigned, condition}
+use Rattle.c_rules.specs.Conversions.{Kind, an_integer, a_pointer, kind_of, few_parts, is_defined, complete, loaded, valued_as, valued, cast_to, null_of, fits, assigned, as_if_assigned, condition}
 use Rattle.c_rules.specs.PostfixExpressions.{site_in, site_of, callee_of_type, callee_by_name, callee_through, callee_by_value, Callee, all_fit, passed, call_of, as_many_as, called, name_of_member, member_given, member_or_undeclared, member_of_struct, member_of_type, member_of}
 use Rattle.c_rules.specs.UnaryExpressions.{address_of_form, address_of_type, address, led_to, indirection, plus_of, operator_of, negation, unary_of_value, size_of, cast_of, null_cast}
 use Rattle.c_rules.specs.BinaryExpressions.{calculated, compared_integers, compared_pointers, pointer_plus, plus_pointer, pointer_minus, difference, sum_of, sum, minus_of, balanced_of, shift_of, ordered_of, alike_integers, alike_pointers, unlike, equality_of, arithmetic_of, operation_of, operation, both_scalars, conjunction, disjunction, chosen, arms_of, choice}

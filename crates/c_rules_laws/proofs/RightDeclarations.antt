@@ -4,7 +4,7 @@ use Rattle.std.specs.Prelude.{bytes_eq}
 use Rattle.std.proofs.lemmas.Bool.{leb-true}
 use Rattle.std.proofs.lemmas.Slice.Eq.{bytes_eq-Decides}
 use Rattle.c_tree.specs.declared.value.IntType.TheVariants.{Char}
-use Rattle.c_tree.specs.Tree.{CType, void, integer, pointer, array, struct, function, Program}
+use Rattle.c_tree.specs.Tree.{CType, integer, array, Program}
 use Rattle.c_tree.specs.Tree as typed
 use Rattle.c_tree.specs.Layout.{Structs, cells, flat}
 use Rattle.c_tree.specs.Operands.{IsComplete, IsObject}

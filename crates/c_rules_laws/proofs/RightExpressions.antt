@@ -16,7 +16,7 @@ use Rattle.c_syntax.specs.Tree.{Expr, a_name, an_int, a_char, a_str, comma, size
 use Rattle.c_syntax.specs.Tree.{Postfix, post_increment, post_decrement, pre_increment, pre_decrement, sizeof, Access, dot, arrow, Infix, and, or, operator}
 use Rattle.c_rules.specs.Checked.{Checked, fine, on, both, gives, demand, met}
 use Rattle.c_rules.specs.Names.{Name, is_among, null_calls}
-use Rattle.c_rules.specs.Scopes.{Env, Binding, Meaning, a_static, a_local, a_function, an_enumerator, unknown, Member, type_of_member, Context, evaluated, sized, folded, in_context, Before, nothing_before, binding_of, layout_of}
+use Rattle.c_rules.specs.Scopes.{Env, Binding, Meaning, a_static, a_local, a_function, an_enumerator, unknown, Member, type_of_member, Context, evaluated, sized, in_context, Before, nothing_before, binding_of, layout_of}
 use Rattle.c_rules.specs.Counts.{place_of, calls, strings, strings_of_all, past, after, after_designator}
 use Rattle.c_rules.specs.TypedExpression.{TypedExpression, is_place}
 use Rattle.c_rules.specs.Conversions.{valued}

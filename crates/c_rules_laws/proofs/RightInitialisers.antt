@@ -6,7 +6,7 @@ use Rattle.std.proofs.lemmas.Bool.{leb-true}
 use Rattle.std.proofs.lemmas.Option.{slice_get-map}
 use Rattle.std.proofs.lemmas.List.Elements.{All-head, All-tail}
 use Rattle.c_tree.specs.declared.value.IntType.TheVariants.{Char}
-use Rattle.c_tree.specs.Tree.{CType, void, integer, pointer, array, struct, function, Program}
+use Rattle.c_tree.specs.Tree.{CType, void, integer, pointer, array, struct, Program}
 use Rattle.c_tree.specs.Layout.{Structs, repeat, flat, flat_all}
 use Rattle.c_tree.specs.Operands.{IsScalar, IsComplete}
 use Rattle.c_tree.specs.Operators.{value_of}
@@ -17,9 +17,9 @@ use Rattle.c_tree.proofs.OperatorLemmas.{value_of_type}
 use Rattle.c_syntax.specs.Tree.{Expr, a_str, Init, one, list, MaybeInit, no_init, an_init}
 use Rattle.c_syntax.specs.Tree as syntax
 use Rattle.c_rules.specs.Checked.{Checked, fine, on}
-use Rattle.c_rules.specs.Scopes.{Env, evaluated, Struct, incomplete, unknown_struct, defined_struct, struct_of, types_of_struct, type_of_member, layout_of, Before}
+use Rattle.c_rules.specs.Scopes.{Env, evaluated, Struct, incomplete, defined_struct, struct_of, types_of_struct, type_of_member, layout_of, Before}
 use Rattle.c_rules.specs.Counts.{calls, strings, past}
-use Rattle.c_rules.specs.TypedExpression.{TypedExpression, Constant, not_constant, undefined, known}
+use Rattle.c_rules.specs.TypedExpression.{TypedExpression, Constant, not_constant, known}
 use Rattle.c_rules.specs.Conversions.{as_if_assigned}
 use Rattle.c_rules.specs.PrimaryExpressions.{string_number}
 use Rattle.c_rules.specs.Expressions.{value}
@@ -29,12 +29,12 @@ use Rattle.c_rules_laws.specs.Lexical.{IsInitLexical, AreInitsLexical, IsMaybeIn
 use Rattle.c_rules_laws.specs.MadeTypes.{Made}
 use Rattle.c_rules_laws.specs.RightScopes.{IsRight, StringsIn}
 use Rattle.c_rules_laws.specs.SoundStructs.{AreSound}
-use Rattle.c_rules_laws.proofs.Holding.{Holds, holds_map, holds_two, on_holds, both_hold, demand_holds, behind_demand, after_part}
+use Rattle.c_rules_laws.proofs.Holding.{Holds, holds_map, holds_two, on_holds, both_hold, demand_holds, behind_demand, after_part, Each}
 use Rattle.c_rules_laws.proofs.SoundStructs.{are_structs}
 use Rattle.c_rules_laws.proofs.RightTypedExpressions.{constant_value, ValueRight, RightAs, null_right, as_if_right}
 use Rattle.c_rules_laws.proofs.RightExpressions.{strings_first, strings_rest, ValueBoth, value_right}
 pub use Rattle.c_rules_laws.proofs.KnownCells.{IsKnownConstant, AllKnown}
-use Rattle.c_rules_laws.proofs.KnownCells.{static_known}
+use Rattle.c_rules_laws.proofs.KnownCells.{static_known, zeros_each, slots_each, chars_each}
 use Rattle.c_rules.proofs.EntryLemmas.{none_is_no_list}
 use Rattle.c_rules.proofs.NothingMore.{nothing_more}
 use Rattle.c_rules_laws.specs.ConstantForm.{IsConst}
@@ -229,31 +229,16 @@ scalar_counted k at t b n ws r h =
     on_holds (Counted b n ws) (InitCounted b n ws) (on r (as_if_assigned at t)) (cell_of k at)
     (on_holds (Counted b n ws) (Counted b n ws) r (as_if_assigned at t) h (λ g l. holds_with (Gathers all_sites (Span b n)) (FitsAt b n ws) (as_if_assigned at t g) l.1 (as_if_gathered all_sites at (Span b n) t g l.0))) (λ g l. cell_counted k at b n ws g l)
 
-zeros_silent : (ts : List CType) → AllGather all_sites [] (map typed_zero ts)
-zeros_silent [] = refl
-zeros_silent (t ∷ ts) = ([], [], one t, zeros_silent ts, refl)
-  where
-    one : (t : CType) → Gathers all_sites [] (typed_zero t)
-    one void = (refl, λ _. refl)
-    one t = (refl, λ _. refl)
+zero_silent : (t : CType) → Gathers all_sites [] (typed_zero t)
+zero_silent void = (refl, λ _. refl)
+zero_silent t = (refl, λ _. refl)
 
-slots_silent : (structs : Structs) (s : Slots) → AllGather all_sites [] (zeros structs s)
-slots_silent structs (copies n t) = zeros_silent (repeat n (flat structs t))
-slots_silent structs (each ts) = zeros_silent (flat_all structs ts)
-
-chars_silent : (n : ℕ) (w : List ℕ) → AllGather all_sites [] (chars n w)
-chars_silent n w = both_givens (map typed_char w) (replicate (n - length w) (typed_char 0)) [] [] (all w) (ends (n - length w))
-  where
-    all : (w : List ℕ) → AllGather all_sites [] (map typed_char w)
-    all [] = refl
-    all (c ∷ w) = ([], [], (refl, λ _. refl), all w, refl)
-
-    ends : (k : ℕ) → AllGather all_sites [] (replicate k (typed_char 0))
-    ends zero = refl
-    ends (suc k) = ([], [], (refl, λ _. refl), ends k, refl)
+all_silent : (gs : List TypedExpression) → Each (Gathers all_sites []) gs → AllGather all_sites [] gs
+all_silent [] h = refl
+all_silent (g ∷ gs) h = ([], [], h.0, all_silent gs h.1, refl)
 
 array_counted : (at : ℕ) (t : CType) (n : ℕ) (e : Expr) (b : Before) → Holds (InitCounted b (calls e) (held_by_one (array t n) e)) (array_cells at t n (text_of e))
-array_counted at (integer Char) n (a_str here w) b = demand_holds (InitCounted b 0 []) (nat_le (length w) n) 14 at (chars n w) (λ _. (chars_silent n w, fits_none b.sites b.cells))
+array_counted at (integer Char) n (a_str here w) b = demand_holds (InitCounted b 0 []) (nat_le (length w) n) 14 at (chars n w) (λ _. (all_silent (chars n w) (chars_each (Gathers all_sites []) (λ _. (refl, λ _. refl)) n w), fits_none b.sites b.cells))
 array_counted at t n e b = tt
 
 list_counted : (b : Before) (n : ℕ) (ws : List (List ℕ)) (takes : Bool) (at most count : ℕ) (r : Checked (List TypedExpression)) → Holds (λ gs. count ≤ most → InitCounted b n ws gs) r → Holds (InitCounted b n ws) (cells_of_list takes at most count r)
@@ -273,7 +258,7 @@ mutual
   initialised_counted i env c b k t = tt
 
   in_turn_counted : (is : syntax.Inits) (env : Env) → env.context ≡ evaluated → (b : Before) (k : Bool) (s : Slots) → Holds (λ gs. count_inits is ≤ capacity s → InitCounted b (calls_of_inits is) (held_in_turn env s is) gs) (in_turn env b k s is)
-  in_turn_counted syntax.no_inits env c b k s = λ _. (slots_silent (layout_of env) s, fits_none b.sites b.cells)
+  in_turn_counted syntax.no_inits env c b k s = λ _. (all_silent (zeros (layout_of env) s) (slots_each (Gathers all_sites []) zero_silent (layout_of env) s), fits_none b.sites b.cells)
   in_turn_counted (syntax.more_inits i is) env c b k (copies (suc n) t) =
       both_hold (InitCounted b (calls_of_init i) (held env t i)) (λ hs. count_inits is ≤ n → InitCounted (after_init env b t i) (calls_of_inits is) (held_in_turn env (copies n t) is) hs) (λ gs. count_inits (syntax.more_inits i is) ≤ suc n → InitCounted b (calls_of_init i + calls_of_inits is) (held env t i ++ held_in_turn env (copies n t) is) gs)
       (initialised env b k t i) (in_turn env (after_init env b t i) k (copies n t) is) (λ gs hs. fine (gs ++ hs)) (initialised_counted i env c b k t) (in_turn_counted is env c (after_init env b t i) k (copies n t))
@@ -294,7 +279,7 @@ local_counted no_init env c b t = (refl, fits_none b.sites b.cells)
 local_counted (an_init i) env c b t = initialised_counted i env c b false t
 
 pub static_counted : (m : MaybeInit) (env : Env) → env.context ≡ evaluated → (b : Before) (t : CType) → Holds (InitCounted b (calls_of_maybe_init m) (held_by env t m)) (initialised_static env b t m)
-static_counted no_init env c b t = (zeros_silent (flat (layout_of env) t), fits_none b.sites b.cells)
+static_counted no_init env c b t = (all_silent (map typed_zero (flat (layout_of env) t)) (zeros_each (Gathers all_sites []) zero_silent (flat (layout_of env) t)), fits_none b.sites b.cells)
 static_counted (an_init i) env c b t = initialised_counted i env c b true t
 
 module _ (p : Program) (vars : List CType) where

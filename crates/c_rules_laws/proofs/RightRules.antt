@@ -1,11 +1,11 @@
 -- What the rules on expressions give is right in a program where their parts are.
-use Rattle.std.proofs.Common.{◌≡◌, ◌⊎◌, inl, inr, ℕ, ◌≤◌, ◌<◌, ℤ, pos, Bool, true, false, not, ◌&&◌, ◌||◌, if◌then◌else◌, List, [], ◌∷◌, map, length, get_or, Option, Some, None, slice_get, nat_eq, refl, ap, sym, subst, ◌∙◌, arith, nat_le}
+use Rattle.std.proofs.Common.{◌≡◌, ◌⊎◌, inl, inr, ℕ, ◌≤◌, ◌<◌, ℤ, pos, Bool, true, false, not, ◌&&◌, ◌||◌, List, [], ◌∷◌, map, length, get_or, Option, Some, None, slice_get, nat_eq, refl, ap, sym, subst, ◌∙◌, arith, nat_le}
 use Rattle.std.proofs.lemmas.Option.{slice_get-get_or}
 use Rattle.std.proofs.lemmas.Bool.{leb-true}
 use Rattle.c_lexer.specs.declared.punctuator.TheConstants as punctuators
 use Rattle.c_tree.specs.declared.value.IntType.{IntType}
 use Rattle.c_tree.specs.declared.value.IntType.TheVariants as widths
-use Rattle.c_tree.specs.declared.value.IntType.TheVariants.{Char, Uchar, Int, Uint}
+use Rattle.c_tree.specs.declared.value.IntType.TheVariants.{Char, Int, Uint}
 use Rattle.c_tree.specs.declared.value.UnOp.{UnOp}
 use Rattle.c_tree.specs.declared.value.UnOp.TheVariants.{Minus, Complement, Not}
 use Rattle.c_tree.specs.declared.value.BinOp.{BinOp}
@@ -24,14 +24,14 @@ use Rattle.c_tree.proofs.OperatorLemmas.{value_of_type}
 use Rattle.c_rules.specs.Checked.{Checked, fine, faulty, Met}
 use Rattle.c_rules.specs.Names.{Name, number_among}
 use Rattle.c_rules.specs.Types.{same_type, is_integer, is_function, is_scalar, is_void, count}
-use Rattle.c_rules.specs.Scopes.{Env, Struct, incomplete, unknown_struct, defined_struct, Member, struct_of, type_of_member, layout_of}
-use Rattle.c_rules.specs.TypedExpression.{Form, a_value, a_place, behind, Constant, not_constant, undefined, known, TypedExpression, tree_of_form, tree_of, is_value, is_place, is_null, integer_constant}
+use Rattle.c_rules.specs.Scopes.{Env, Struct, defined_struct, Member, struct_of, type_of_member, layout_of}
+use Rattle.c_rules.specs.TypedExpression.{Form, a_value, a_place, behind, Constant, not_constant, known, TypedExpression, tree_of_form, tree_of, is_value, is_place, is_null, integer_constant}
 use Rattle.c_rules.specs.Constants.{answered, constant_binary}
-use Rattle.c_rules.specs.Conversions.{Kind, an_integer, a_pointer, neither, kind_of, few_parts, complete, cast_to, converted_to, null_of, fits}
+use Rattle.c_rules.specs.Conversions.{Kind, an_integer, a_pointer, kind_of, few_parts, complete, cast_to, converted_to, null_of, fits}
 use Rattle.c_rules.specs.PostfixExpressions.{Designator, direct, through, Callee, callee_of_type, callee_through, all_fit, passed, call_of, as_many_as, called, name_of_member, member_given, member_or_undeclared, member_of_struct, member_of_type, member_of}
 use Rattle.c_rules.specs.UnaryExpressions.{address_of_form, address_of_type, address, led_to, indirection, plus_of, operator_of, negation, unary_of_value, size_of, cast_of, null_cast}
 use Rattle.c_rules.specs.BinaryExpressions.{shifted, compared_integers, compared_pointers, pointer_plus, plus_pointer, pointer_minus, difference, sum_of, sum, minus_of, balanced_of, shift_of, ordered_of, Alike, alike_integers, alike_pointers, unlike, pointers_alike, alike_of, alike, equality_of, arithmetic_of, operation_of, operation, both_scalars, conjunction, disjunction, chosen, arms_of, choice}
-use Rattle.c_rules.specs.Assignments.{assignable, assignment, operator_of_assignment, right_type, updated, moves, update_of, assignment_by, one_for, step, trees_of, last_type, comma_of}
+use Rattle.c_rules.specs.Assignments.{assignment, operator_of_assignment, right_type, updated, moves, update_of, assignment_by, one_for, step, trees_of, last_type, comma_of}
 use Rattle.c_rules.specs.PrimaryExpressions.{typed_unsigned}
 use Rattle.c_meaning_laws.proofs.Places.{struct_is, member_lies, member_few}
 use Rattle.c_rules_laws.specs.MadeTypes.{NotArray, Made, IsSized}

@@ -6,7 +6,7 @@ use Rattle.c_tree.specs.declared.value.IntType.{IntType}
 use Rattle.c_tree.specs.declared.value.Value.{Value}
 use Rattle.c_tree.specs.declared.tree.TLabel.{TLabel}
 use Rattle.c_tree.specs.declared.tree.TLabel.TheVariants.{Case, Default}
-use Rattle.c_tree.specs.Tree.{CType, void, integer, pointer, array, struct, function, Program}
+use Rattle.c_tree.specs.Tree.{CType, integer, Program}
 use Rattle.c_tree.specs.Tree as typed
 use Rattle.c_tree.specs.Operands.{IsScalar, IsPromoted, promoted, IsObject, IsComplete}
 use Rattle.c_tree.specs.Operators.{value_of}
@@ -22,7 +22,7 @@ use Rattle.c_rules.specs.Scopes.{Env, inside, layout_of, Before}
 use Rattle.c_rules.specs.Constants.{number_of}
 use Rattle.c_rules.specs.Counts.{place_of, calls, strings, calls_of_maybe, strings_of_maybe, after, after_maybe}
 use Rattle.c_rules.specs.TypedExpression.{TypedExpression, tree_of}
-use Rattle.c_rules.specs.Conversions.{Kind, an_integer, a_pointer, neither, kind_of, as_if_assigned, condition}
+use Rattle.c_rules.specs.Conversions.{Kind, an_integer, kind_of, as_if_assigned, condition}
 use Rattle.c_rules.specs.PrimaryExpressions.{string_number}
 use Rattle.c_rules.specs.Declarators.{constant_value}
 use Rattle.c_rules.specs.Expressions.{value, folded_value}

@@ -1,5 +1,5 @@
 -- The sites in an expression are the numbers from that of the calls before it on; and the limits on calls and strings hold.
-use Rattle.std.proofs.Common.{◌≡◌, ℕ, zero, suc, ◌+◌, ◌≤◌, ◌<◌, Bool, true, false, if◌then◌else◌, List, [], ◌∷◌, ◌++◌, length, Option, Some, None, nat_le, nat_lt, nat_eq, refl, ap, ap₂, sym, subst, ◌∙◌, arith}
+use Rattle.std.proofs.Common.{◌≡◌, ℕ, zero, suc, ◌+◌, ◌≤◌, ◌<◌, Bool, true, false, List, [], ◌∷◌, ◌++◌, length, Option, Some, None, nat_le, nat_lt, nat_eq, refl, ap, ap₂, sym, subst, ◌∙◌, arith}
 use Rattle.std.specs.List.{range_with_len}
 use Rattle.std.proofs.lemmas.Bool.{leb-true, ltb-true}
 use Rattle.dm_base.specs.declared.mode.Mode.{Mode}
@@ -12,7 +12,7 @@ use Rattle.c_syntax.specs.Tree.{Postfix, post_increment, post_decrement, pre_inc
 use Rattle.c_rules.specs.Checked.{Checked, fine, faulty, on, both, gives, demand, met}
 use Rattle.c_rules.specs.Limits.{most_calls}
 use Rattle.c_rules.specs.Names.{Name}
-use Rattle.c_rules.specs.Scopes.{Env, Binding, Meaning, a_static, a_local, a_function, an_enumerator, unknown, Context, evaluated, sized, folded, in_context, Before, nothing_before, binding_of}
+use Rattle.c_rules.specs.Scopes.{Env, Binding, Meaning, a_static, a_function, unknown, Context, evaluated, sized, in_context, Before, nothing_before, binding_of}
 use Rattle.c_rules.specs.Counts.{place_of, calls, calls_of_all, strings, strings_of_all, string_cells, past, after, after_designator}
 use Rattle.c_rules.specs.TypedExpression.{TypedExpression}
 use Rattle.c_rules.specs.Conversions.{valued}

@@ -1,5 +1,5 @@
 -- The sites in statements are the numbers from that of the calls before them on; and the limits on calls and strings hold.
-use Rattle.std.proofs.Common.{◌≡◌, ℕ, zero, suc, ◌+◌, Bool, true, false, if◌then◌else◌, List, [], ◌∷◌, ◌++◌, append_assoc, Option, Some, None, refl, ap, ap₂, sym, subst, ◌∙◌}
+use Rattle.std.proofs.Common.{◌≡◌, ℕ, suc, ◌+◌, Bool, true, false, if◌then◌else◌, List, [], ◌∷◌, ◌++◌, append_assoc, Option, Some, None, refl, ap, ap₂, sym, subst, ◌∙◌}
 use Rattle.c_tree.specs.declared.value.IntType.{IntType}
 use Rattle.c_tree.specs.Tree.{CType}
 use Rattle.c_tree.specs.Tree as typed
@@ -14,7 +14,7 @@ use Rattle.c_rules.specs.Names.{Name, is_added}
 use Rattle.c_rules.specs.Scopes.{Env, Meaning, evaluated, inside, with_name, Before}
 use Rattle.c_rules.specs.Counts.{calls, strings, calls_of_maybe, strings_of_maybe, past, after, after_maybe}
 use Rattle.c_rules.specs.TypedExpression.{TypedExpression, tree_of}
-use Rattle.c_rules.specs.Conversions.{Kind, an_integer, a_pointer, neither, kind_of, as_if_assigned, condition}
+use Rattle.c_rules.specs.Conversions.{Kind, an_integer, kind_of, as_if_assigned, condition}
 use Rattle.c_rules.specs.Declarators.{name_of, new_name, place_or}
 use Rattle.c_rules.specs.Expressions.{value, type_declared}
 use Rattle.c_rules.specs.Initialisers.{Slots, copies, each, slots, calls_of_maybe_init, held, held_in_turn, held_by, initialised_local, stores_from}

@@ -1,12 +1,10 @@
 -- The size of an object is at most four times the number of its cells, and an object has a cell at least.
-use Rattle.std.proofs.Common.{◌≡◌, ◌⊎◌, inl, inr, ℕ, zero, suc, ◌+◌, ◌-◌, ◌*◌, ◌/◌, ◌≤◌, ◌<◌, List, [], ◌∷◌, ◌++◌, All, length, length-append, Some, slice_get, refl, sym, subst, arith}
-use Rattle.std.proofs.lemmas.List.Elements.{All-head}
-use Rattle.c_tree.specs.declared.value.IntType.TheVariants.{Char, Uchar, Int, Uint}
-use Rattle.c_tree.specs.Tree.{CType, void, integer, pointer, array, struct, function}
-use Rattle.c_tree.specs.Layout.{Structs, members_of, repeat, flat_with, flat_all_with, layout, struct_cells, flat, flat_all, cells, Extent, round_up, put_after, extent_with, extent_after, rounded, struct_extent, sizeof}
+use Rattle.std.proofs.Common.{◌≡◌, ◌⊎◌, inl, inr, ℕ, zero, suc, ◌+◌, ◌-◌, ◌*◌, ◌/◌, ◌≤◌, List, [], ◌∷◌, ◌++◌, length, length-append, refl, sym, subst, arith}
+use Rattle.c_tree.specs.declared.value.IntType.TheVariants.{Int, Uint}
+use Rattle.c_tree.specs.Tree.{CType, integer, pointer, array, struct}
+use Rattle.c_tree.specs.Layout.{Structs, members_of, flat_with, flat_all_with, layout, struct_cells, cells, Extent, round_up, put_after, extent_with, extent_after, rounded, struct_extent, sizeof}
 use Rattle.c_tree.specs.Operands.{IsComplete}
-use Rattle.c_tree.specs.Program.{IsBelow}
-use Rattle.c_meaning_laws.proofs.Places.{length_repeat, struct_is}
+use Rattle.c_meaning_laws.proofs.Places.{length_repeat}
 use Rattle.c_meaning_laws.proofs.Differences.{has_cell as some_cell}
 use Rattle.c_rules_laws.specs.SoundStructs.{AreSound}
 use Rattle.c_rules_laws.proofs.SoundStructs.{are_structs}

@@ -4,7 +4,7 @@ use Rattle.std.specs.Cmp.{nat_eq_equiv}
 use Rattle.std.proofs.lemmas.List.{length-set}
 use Rattle.std.proofs.lemmas.Bool.Decides.{eqb_tells}
 use Rattle.std.proofs.lemmas.List.Elements.{All-head, All-tail}
-use Rattle.c_tree.specs.Tree.{CType, void, integer, pointer, array, struct, function}
+use Rattle.c_tree.specs.Tree.{CType, integer, pointer, array, struct}
 use Rattle.c_tree.specs.Layout.{Structs, or_none, repeat, flat_with, flat_all_with, layout, struct_cells, flat, flat_all, cells, cells_of_all}
 use Rattle.c_tree.specs.Operands.{IsComplete, IsObject}
 use Rattle.c_tree.specs.Program.{IsBelow, AreStructs}

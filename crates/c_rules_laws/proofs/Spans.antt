@@ -1,12 +1,12 @@
 -- The items of a unit that is fine: the sites in their functions are the numbers of the calls from those before them on, and no limit on calls, strings and cells is passed.
 use Rattle.std.proofs.Common.{◌≡◌, ℕ, zero, suc, ◌+◌, ◌≤◌, Bool, true, false, not, ◌&&◌, List, [], ◌∷◌, ◌++◌, flat_map, length, length-append, append_assoc, Option, Some, None, nat_le, refl, ap, ap₂, sym, subst, ◌∙◌, arith}
 use Rattle.std.specs.List.{range_with_len}
-use Rattle.c_tree.specs.Tree.{CType, void, integer, pointer, array, struct, function, CTypes, Function}
+use Rattle.c_tree.specs.Tree.{CType, function, CTypes, Function}
 use Rattle.c_tree.specs.Tree as typed
 use Rattle.c_tree.specs.Layout.{cells_of_all}
 use Rattle.c_tree.specs.Sites.{sites_of_function}
-use Rattle.c_syntax.specs.Tree.{Ident, Storage, Spec, Declarator, Params, no_params, more_params, MaybeInit, Parts, no_parts, more_parts, Decl, decl, Stmt, BlockItems, Item, struct_item, enum_item, tag_item, decl_item, function_item, Items, no_items, more_items}
-use Rattle.c_rules.specs.Checked.{Checked, fine, on, and_also, demand, met}
+use Rattle.c_syntax.specs.Tree.{Ident, Storage, Spec, Declarator, Params, more_params, MaybeInit, Parts, no_parts, more_parts, decl, Stmt, BlockItems, Item, enum_item, decl_item, function_item, Items, no_items, more_items}
+use Rattle.c_rules.specs.Checked.{Checked, fine, on, demand, met}
 use Rattle.c_rules.specs.Limits.{most_local_cells}
 use Rattle.c_rules.specs.Scopes.{Env, evaluated, inside, layout_of, Before}
 use Rattle.c_rules.specs.Counts.{string_cells, past}
@@ -18,7 +18,7 @@ use Rattle.c_rules.specs.Variables.{Next, calls_of_block}
 use Rattle.c_rules.specs.Blocks.{StatementTree, held_by_block}
 use Rattle.c_rules.specs.Statements.{Around, items_of_block}
 use Rattle.c_rules.specs.Functions.{declares_function, parameters_of, are_named, with_parameter, with_parameters, variables_of, function_laid, body_env, body_numbers, body_of, held_by_type, held_by_typed, function_declared, items_of_body, defined_as}
-use Rattle.c_rules.specs.Items.{Output, no_output, with_output, static_of, without_init, output_of_function, defines, object_name, few_static, global_object, global_declared, within_global, after_object, definition_of, global, declared_part, named_part, behind_file_part, after_global, after_declared, after_file_part, file_parts, after_file_parts, file_decl, after_file_decl, behind_defined, function_named, behind_function_named, item, behind_item, behind_by_form, after_item, items, after_items}
+use Rattle.c_rules.specs.Items.{Output, no_output, with_output, static_of, without_init, output_of_function, defines, global_declared, within_global, after_object, definition_of, global, declared_part, named_part, behind_file_part, after_global, after_declared, after_file_part, file_parts, after_file_parts, behind_defined, function_named, behind_function_named, item, behind_item, behind_by_form, after_item, items, after_items}
 use Rattle.c_rules_laws.specs.Lexical.{IsUnitLexical}
 use Rattle.c_rules_laws.proofs.Holding.{held, first_fine, on_fine, demand_fine, each_both}
 use Rattle.c_rules_laws.proofs.Definitions.{definition_fine}

@@ -18,7 +18,7 @@ use Rattle.c_rules.specs.Types.{is_void}
 use Rattle.c_rules.specs.Scopes.{Env, inside, Before}
 use Rattle.c_rules.specs.Counts.{place_of, calls_of_maybe, strings_of_maybe, after, after_maybe}
 use Rattle.c_rules.specs.TypedExpression.{TypedExpression, tree_of}
-use Rattle.c_rules.specs.Conversions.{Kind, an_integer, a_pointer, neither, kind_of, converted_to, as_if_assigned, condition}
+use Rattle.c_rules.specs.Conversions.{Kind, an_integer, kind_of, converted_to, as_if_assigned, condition}
 use Rattle.c_rules.specs.Declarators.{constant_value}
 use Rattle.c_rules.specs.Expressions.{value}
 use Rattle.c_rules.specs.Variables.{Next, past_names, names_of_decl, names_of_first, names_of_stmt, names_of_stmts, calls_of_stmt, calls_of_stmts}

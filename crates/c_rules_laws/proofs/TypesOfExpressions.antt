@@ -9,7 +9,7 @@ use Rattle.c_tree.specs.Layout.{Structs}
 use Rattle.c_tree.specs.Operands.{IsScalar, IsComplete}
 use Rattle.c_syntax.specs.Tree.{Ident, Spec, Expr, a_name, an_int, a_char, a_str, comma, sizeof_type, cast, call, member, postfix, prefix, unary, index, binary, assign, conditional, Exprs, no_exprs, more_exprs}
 use Rattle.c_syntax.specs.Tree.{Postfix, post_increment, post_decrement, Prefix, pre_increment, pre_decrement, sizeof, Access, dot, arrow, Infix, and, or, operator}
-use Rattle.c_syntax.specs.Tree.{TypeName, type_name, Declarator, nothing, named, Params, no_params, more_params}
+use Rattle.c_syntax.specs.Tree.{TypeName, type_name, Declarator, Params, no_params, more_params}
 use Rattle.c_syntax.specs.Tree as syntax
 use Rattle.c_rules.specs.Checked.{Checked, fine, on, both}
 use Rattle.c_rules.specs.Names.{Name}

@@ -1,5 +1,5 @@
 -- The types that the rules on expressions give are such as declarators make.
-use Rattle.std.proofs.Common.{◌≡◌, ℕ, zero, suc, ◌≤◌, Bool, true, false, ◌&&◌, ◌||◌, if◌then◌else◌, List, [], ◌∷◌, All, map, length-append, get_or, Option, Some, None, slice_get, unwrap_or, nat_eq, refl, ap, sym, subst, ◌∙◌, arith}
+use Rattle.std.proofs.Common.{◌≡◌, ℕ, zero, suc, ◌≤◌, Bool, false, ◌&&◌, ◌||◌, List, [], ◌∷◌, All, map, length-append, get_or, Option, Some, None, slice_get, unwrap_or, nat_eq, refl, ap, sym, subst, ◌∙◌, arith}
 use Rattle.std.specs.Prelude.{option_map}
 use Rattle.std.proofs.lemmas.List.Elements.{All-head, All-tail}
 use Rattle.std.proofs.lemmas.Option.{slice_get-map}
@@ -14,9 +14,9 @@ use Rattle.c_tree.specs.Operands.{IsScalar, IsResult, promoted, common, Operator
 use Rattle.c_tree.specs.Operands.{kind_of as kind_of_operator}
 use Rattle.c_rules.specs.Names.{Name, number_among}
 use Rattle.c_rules.specs.Types.{is_void, is_integer, is_function, is_scalar, same_type}
-use Rattle.c_rules.specs.Scopes.{Env, Struct, incomplete, unknown_struct, defined_struct, Member, struct_of, types_of_struct, type_of_member, layout_of}
+use Rattle.c_rules.specs.Scopes.{Env, Struct, incomplete, defined_struct, Member, struct_of, types_of_struct, type_of_member, layout_of}
 use Rattle.c_rules.specs.TypedExpression.{Form, a_value, a_place, behind, TypedExpression, is_place, is_null}
-use Rattle.c_rules.specs.Conversions.{Kind, an_integer, a_pointer, neither, kind_of, complete, few_parts, loaded, valued_as, valued, cast_to, has_integer, converted_to, null_of, fits}
+use Rattle.c_rules.specs.Conversions.{Kind, an_integer, a_pointer, kind_of, complete, few_parts, loaded, valued_as, valued, cast_to, has_integer, converted_to, null_of, fits}
 use Rattle.c_rules.specs.PostfixExpressions.{Callee, callee_of_type, callee_through, all_fit, as_many_as, called, name_of_member, member_or_undeclared, member_of_struct, member_of_type, member_of}
 use Rattle.c_rules.specs.UnaryExpressions.{address_of_form, address_of_type, address, led_to, indirection, plus_of, operator_of, unary_of_value, cast_of, null_cast}
 use Rattle.c_rules.specs.BinaryExpressions.{sum_of, sum, minus_of, balanced_of, shift_of, ordered_of, Alike, alike_integers, alike_pointers, unlike, pointers_alike, alike_of, alike, equality_of, arithmetic_of, operation_of, operation, conjunction, disjunction, both_scalars, arms_of, choice}

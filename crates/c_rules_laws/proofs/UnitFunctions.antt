@@ -4,7 +4,7 @@ use Rattle.std.proofs.lemmas.Bool.{leb-true}
 use Rattle.std.proofs.lemmas.List.Elements.{All-cons, All-append}
 use Rattle.dm_base.specs.declared.mode.Mode.{Mode}
 use Rattle.dm_base.specs.declared.mode.Mode.TheVariants.{Plain, Instrumented}
-use Rattle.c_tree.specs.Tree.{CType, void, integer, pointer, array, struct, function, CTypes, no_types, more_types, list_of, Function, Program}
+use Rattle.c_tree.specs.Tree.{CType, integer, pointer, array, function, CTypes, no_types, more_types, list_of, Function, Program}
 use Rattle.c_tree.specs.Tree as typed
 use Rattle.c_tree.specs.Layout.{Structs, cells_of_all, flat_all}
 use Rattle.c_tree.specs.Operands.{IsScalar, IsComplete, IsObject}
@@ -27,14 +27,14 @@ use Rattle.c_rules.specs.Statements.{Around, items_of_block}
 use Rattle.c_rules.specs.Functions.{declares_function, parameters_of, are_named, count_params, with_parameter, with_parameters, variables_of, function_laid, body_env, body_numbers, body_of, held_by_type, defined_as}
 use Rattle.c_meaning_laws.proofs.Places.{get_left, get_right, scalar_object}
 use Rattle.c_rules_laws.specs.Lexical.{AreItemsLexical}
-use Rattle.c_rules_laws.specs.MadeTypes.{NotArray, Made, AllMade, IsSized}
+use Rattle.c_rules_laws.specs.MadeTypes.{Made, AllMade, IsSized}
 use Rattle.c_rules_laws.specs.RightScopes.{IsRight, StringsIn}
 use Rattle.c_rules_laws.proofs.Holding.{Holds, held, on_holds, both_hold, Any, anything, demand_holds, behind_demand, after_part, first_fine, demand_fine, each_all}
 use Rattle.c_rules_laws.proofs.Definitions.{definition_fine}
 use Rattle.c_rules_laws.proofs.MadeTypes.{few_unless_array, scalar_not_array}
 use Rattle.c_rules_laws.proofs.SoundStructs.{same_flat_all}
 use Rattle.c_rules_laws.proofs.RightTypedExpressions.{scalar_thing}
-use Rattle.c_rules_laws.proofs.RightDeclarations.{AreObjects, AreKnownSizes, right_inside, right_local}
+use Rattle.c_rules_laws.proofs.RightDeclarations.{AreKnownSizes, right_inside, right_local}
 use Rattle.c_rules_laws.proofs.RightStatements.{StmtsRight, block_right}
 use Rattle.c_rules_laws.proofs.FileScopes.{IsFileRight, Follows}
 use Rattle.c_rules_laws.proofs.UnitScopes.{IsTable, scope_right}

@@ -7,20 +7,20 @@ use Rattle.c_tree.specs.Operands.{IsObject}
 use Rattle.c_tree.specs.Kinds.{HasType, static_objects}
 use Rattle.c_tree.specs.Program.{IsFunction, IsStatic}
 use Rattle.c_tree.specs.Typed.{IsStaticOf}
-use Rattle.c_syntax.specs.Tree.{Ident, Storage, Spec, Declarator, MaybeInit, Parts, no_parts, more_parts, Decl, decl, Stmt, BlockItems, Item, struct_item, enum_item, tag_item, decl_item, function_item, Items, no_items, more_items}
+use Rattle.c_syntax.specs.Tree.{Ident, Storage, Spec, Declarator, MaybeInit, Parts, no_parts, more_parts, Decl, decl, Stmt, BlockItems, Item, enum_item, decl_item, function_item, Items, no_items, more_items}
 use Rattle.c_syntax.specs.Tree as syntax
-use Rattle.c_rules.specs.Checked.{Checked, fine, faulty, on, and_also}
+use Rattle.c_rules.specs.Checked.{Checked, fine, faulty, on}
 use Rattle.c_rules.specs.Scopes.{Env, declared_here, a_static, with_name, meaning_or_unknown, layout_of, Before}
-use Rattle.c_rules.specs.TypedExpression.{TypedExpression, Constant, not_constant, undefined, known}
+use Rattle.c_rules.specs.TypedExpression.{TypedExpression, Constant, known}
 use Rattle.c_rules.specs.PrimaryExpressions.{string_type, string_number}
 use Rattle.c_rules.specs.Declarators.{name_of, place_or}
 use Rattle.c_rules.specs.Expressions.{type_declared}
 use Rattle.c_rules.specs.Initialisers.{initialised_static, value_of_constant, value_of_cell, held_by}
 use Rattle.c_rules.specs.Objects.{Object, object_declared}
 use Rattle.c_rules.specs.Functions.{parameters_of, is_defined_by, declares_function, held_by_type, held_by_typed, function_declared, items_of_body, defined_as}
-use Rattle.c_rules.specs.Items.{meaning_of_global, Output, no_output, with_output, static_of, without_init, output_of_function, defines, object_name, few_static, global_object, global_declared, seen_of_global, behind_global, within_global, after_object, definition_of, global, declared_part, named_part, behind_declared, behind_named_part, behind_file_part, after_global, after_declared, after_file_part, file_parts, behind_file_parts, after_file_parts, file_decl, behind_file_decl, after_file_decl, behind_defined, function_named, behind_function_named, item, behind_item, behind_by_form, after_item, items, behind_items, after_items}
+use Rattle.c_rules.specs.Items.{meaning_of_global, Output, no_output, with_output, static_of, without_init, output_of_function, defines, global_declared, seen_of_global, behind_global, within_global, after_object, definition_of, global, declared_part, named_part, behind_declared, behind_named_part, behind_file_part, after_global, after_declared, after_file_part, file_parts, behind_file_parts, after_file_parts, after_file_decl, behind_defined, function_named, behind_function_named, item, behind_item, behind_by_form, after_item, items, behind_items, after_items}
 use Rattle.c_meaning_laws.proofs.Places.{get_left, get_right}
-use Rattle.c_rules_laws.specs.Lexical.{IsMaybeInitLexical, ArePartsLexical, IsDeclLexical, IsStmtLexical, AreItemsLexical, IsItemLexical, IsUnitLexical}
+use Rattle.c_rules_laws.specs.Lexical.{IsMaybeInitLexical, ArePartsLexical, IsStmtLexical, AreItemsLexical, IsItemLexical, IsUnitLexical}
 use Rattle.c_rules_laws.specs.MadeTypes.{Made, IsSized}
 use Rattle.c_rules_laws.specs.RightScopes.{MeaningRight, IsRight, StringsIn}
 use Rattle.c_rules_laws.proofs.Holding.{held, first_fine, on_fine, Each, each_both}

@@ -6,7 +6,7 @@ use Rattle.std.proofs.lemmas.List.Elements.{All-cons, All-append}
 use Rattle.std.proofs.lemmas.Slice.Eq.{bytes_eq-Decides}
 use Rattle.dm_base.specs.Name.{IsName}
 use Rattle.dm_base.specs.declared.mode.Mode.{Mode}
-use Rattle.c_tree.specs.Tree.{CType, Function, Static, Program}
+use Rattle.c_tree.specs.Tree.{CType, Function, Program}
 use Rattle.c_tree.specs.Typed.{IsStaticOf}
 use Rattle.c_tree.specs.Program.{IsFunction, IsStatic}
 use Rattle.c_syntax.specs.Tree.{Items}

@@ -2,7 +2,7 @@
 use Rattle.std.proofs.Common.{◌≡◌, ℕ, true, false, not, ◌&&◌, if◌then◌else◌, List, [], ◌∷◌, ◌++◌, refl, sym, ap, ap₂, subst, ◌∙◌, codes, map, unwrap_or, ◌^◌, length, nat_lt}
 use Rattle.dm_base.specs.declared.mode.Mode.{Mode}
 use Rattle.c_tree.specs.Tree.{Program}
-use Rattle.c_syntax.specs.Tree.{Storage, Parts, no_parts, more_parts, Decl, decl, Item, struct_item, enum_item, tag_item, decl_item, function_item, Items, no_items, more_items}
+use Rattle.c_syntax.specs.Tree.{Storage, Parts, no_parts, more_parts, Decl, decl, Item, decl_item, function_item, Items, no_items, more_items}
 use Rattle.c_syntax.specs.Same.{unplaced_declarator, unplaced_maybe_init, unplaced_parts, unplaced_decl, unplaced_item, unplaced_unit}
 use Rattle.c_rules.specs.Checked.{fine, demand, on, met}
 use Rattle.c_rules.specs.Codes.{C9, C13}

@@ -1,5 +1,5 @@
 -- A unit that is typed is a well-typed program.
-use Rattle.std.proofs.Common.{◌≡◌, ◌≢◌, ◌⊎◌, inl, inr, ℕ, zero, suc, ◌<◌, true, false, List, [], ◌∷◌, ◌++◌, All, map, replicate, length, length-append, Option, Some, None, slice_get, slice_index_or, unwrap_or, refl, ap, sym, subst, ◌∙◌, arith}
+use Rattle.std.proofs.Common.{◌≡◌, ◌≢◌, ◌⊎◌, inl, inr, ℕ, zero, suc, ◌<◌, true, false, List, [], ◌∷◌, ◌++◌, All, map, length, length-append, Option, Some, None, slice_get, slice_index_or, unwrap_or, refl, ap, sym, subst, ◌∙◌, arith}
 use Rattle.std.specs.Prelude.{AllPairs, is_some, codes}
 use Rattle.std.specs.List.{range_with_len}
 use Rattle.std.proofs.lemmas.List.{length-map}
@@ -17,12 +17,11 @@ use Rattle.c_syntax.specs.Tree.{Items}
 use Rattle.c_rules.specs.Checked.{fine, demand}
 use Rattle.c_rules.specs.Names.{Name, number_among, is_among, name_of_row, system_calls, null_calls, given_names}
 use Rattle.c_rules.specs.Types.{same_type}
-use Rattle.c_rules.specs.Scopes.{Env, Binding, Meaning, a_static, a_local, a_function, an_enumerator, unknown, incomplete, types_of_struct, Whole, empty_env, lookup, binding_of, nothing_before}
+use Rattle.c_rules.specs.Scopes.{Env, Binding, Meaning, a_function, lookup, binding_of, nothing_before}
 use Rattle.c_rules.specs.Items.{Output, items, after_items}
 use Rattle.c_rules.specs.Units.{functions_of, objects_of, whole_of, env_before, env_behind, strings_of, is_main_meant, is_main_bound, has_main, static_string, program_of, IsTyped}
 use Rattle.c_rules.proofs.CheckedLemmas.{items_fine}
 use Rattle.c_rules_laws.specs.Lexical.{IsUnitLexical}
-use Rattle.c_rules_laws.specs.SoundStructs.{AreSound}
 use Rattle.c_rules_laws.specs.WellTyped.{IsRightObject, PartsAreRight}
 use Rattle.c_rules_laws.proofs.Holding.{on_fine, demand_fine, and_left, and_right, Each}
 use Rattle.c_rules_laws.proofs.MadeTypes.{type_is}
@@ -36,7 +35,7 @@ use Rattle.c_rules_laws.proofs.StaticStrings.{strings_static}
 use Rattle.c_rules_laws.proofs.DistinctNames.{Differ, among_first, among_rest, among_left, few_names}
 use Rattle.c_rules_laws.proofs.DefinedNames.{IsDefined, Defines}
 use Rattle.c_rules_laws.proofs.NamesOfItems.{items_define}
-use Rattle.c_rules_laws.proofs.UnitTable.{name_at, none_defined, one_binding, no_binding, same_function}
+use Rattle.c_rules_laws.proofs.UnitTable.{name_at, one_binding, no_binding, same_function}
 
 -- ## Before all items
 
