@@ -114,23 +114,17 @@ parts_alike env b c h n k g at to s (more_parts d m ps) =
 
 -- what stands behind declarators that are fine, and what they hold
 behind_parts_same : (env : Env) (b : Before) (n k : Next) → k ≡ n → (at to : ℕ) (s : Spec) (ps : Parts) (p : StatementTree typed.Stmts) → local_parts env b n at s ps ≡ fine p
-    → behind_parts env n at s ps ≡ behind_parts env k to (unplaced_spec s) (unplaced_parts ps)
-behind_parts_same env b n k g at to s no_parts p e = refl
+    → (behind_parts env n at s ps ≡ behind_parts env k to (unplaced_spec s) (unplaced_parts ps)) × (held_by_parts env k to (unplaced_spec s) (unplaced_parts ps) ≡ held_by_parts env n at s ps)
+behind_parts_same env b n k g at to s no_parts p e = (refl, refl)
 behind_parts_same env b n k g at to s (more_parts d m ps) p e =
     let rest : Checked (StatementTree typed.Stmts) = local_parts (behind_part env n at s d m) (after_part env b at s d m) (past_part n d) at s ps in
     let f = first_fine (local_part env b n at s d m) rest (λ p q. fine (one_more p q)) p e in
-    behind_parts_same (behind_part env n at s d m) (after_part env b at s d m) (past_part n d) (past_part k (unplaced_declarator d)) (past_name_same n k d g) at to s ps f.1 f.3
-    ∙ ap (λ y. behind_parts y (past_part k (unplaced_declarator d)) to (unplaced_spec s) (unplaced_parts ps)) (behind_part_same env b n k g at to s d m f.0 f.2)
-
-held_by_parts_same : (env : Env) (b : Before) (n k : Next) → k ≡ n → (at to : ℕ) (s : Spec) (ps : Parts) (p : StatementTree typed.Stmts) → local_parts env b n at s ps ≡ fine p
-    → held_by_parts env k to (unplaced_spec s) (unplaced_parts ps) ≡ held_by_parts env n at s ps
-held_by_parts_same env b n k g at to s no_parts p e = refl
-held_by_parts_same env b n k g at to s (more_parts d m ps) p e =
-    let rest : Checked (StatementTree typed.Stmts) = local_parts (behind_part env n at s d m) (after_part env b at s d m) (past_part n d) at s ps in
-    let f = first_fine (local_part env b n at s d m) rest (λ p q. fine (one_more p q)) p e in
-    ap₂ (λ v w. v ++ w) (held_by_part_same env at to s d m)
-    (ap (λ y. held_by_parts y (past_part k (unplaced_declarator d)) to (unplaced_spec s) (unplaced_parts ps)) (sym (behind_part_same env b n k g at to s d m f.0 f.2))
-    ∙ held_by_parts_same (behind_part env n at s d m) (after_part env b at s d m) (past_part n d) (past_part k (unplaced_declarator d)) (past_name_same n k d g) at to s ps f.1 f.3)
+    let j : Next = past_part k (unplaced_declarator d) in
+    let q = behind_part_same env b n k g at to s d m f.0 f.2 in
+    let h = behind_parts_same (behind_part env n at s d m) (after_part env b at s d m) (past_part n d) j (past_name_same n k d g) at to s ps f.1 f.3 in (
+      h.0 ∙ ap (λ y. behind_parts y j to (unplaced_spec s) (unplaced_parts ps)) q,
+      ap₂ (λ v w. v ++ w) (held_by_part_same env at to s d m) (ap (λ y. held_by_parts y j to (unplaced_spec s) (unplaced_parts ps)) (sym q) ∙ h.1),
+    )
 
 -- ## Declarations
 
@@ -138,10 +132,10 @@ pub decl_alike : (env : Env) (b c : Before) → c ≡ b → (n k : Next) → k �
 decl_alike env b c h n k g (decl at class s ps) = parts_alike env b c h n k g at 0 s ps
 
 pub behind_decl_same : (env : Env) (b : Before) (n k : Next) → k ≡ n → (d : Decl) (p : StatementTree typed.Stmts) → local_decl env b n d ≡ fine p → behind_decl env n d ≡ behind_decl env k (unplaced_decl d)
-behind_decl_same env b n k g (decl at class s ps) p e = behind_parts_same env b n k g at 0 s ps p e
+behind_decl_same env b n k g (decl at class s ps) p e = (behind_parts_same env b n k g at 0 s ps p e).0
 
 pub held_by_decl_same : (env : Env) (b : Before) (n k : Next) → k ≡ n → (d : Decl) (p : StatementTree typed.Stmts) → local_decl env b n d ≡ fine p → held_by_decl env k (unplaced_decl d) ≡ held_by_decl env n d
-held_by_decl_same env b n k g (decl at class s ps) p e = held_by_parts_same env b n k g at 0 s ps p e
+held_by_decl_same env b n k g (decl at class s ps) p e = (behind_parts_same env b n k g at 0 s ps p e).1
 
 pub after_decl_same : (env : Env) (b c : Before) → c ≡ b → (n k : Next) → k ≡ n → (d : Decl) (p : StatementTree typed.Stmts) → local_decl env b n d ≡ fine p → after_decl env c k (unplaced_decl d) ≡ after_decl env b n d
 after_decl_same env b c h n k g d p e =

@@ -288,30 +288,15 @@ parts_alike env b c h at to class s (more_parts d m ps) =
     (parts_alike (behind_file_part env b at class s d m) (after_file_part env b at class s d m) (after_file_part env c to class t e i) (after_part_same env b c h at to class s d m) at to class s ps))
     (λ p q. alike (fine (with_output p q)))
 
-behind_parts_same : (env : Env) (b c : Before) → c ≡ b → (at to : ℕ) (class : Storage) (s : Spec) (ps : Parts) (p : Output) → file_parts env b at class s ps ≡ fine p → behind_file_parts env b at class s ps ≡ behind_file_parts env c to class (unplaced_spec s) (unplaced_parts ps)
-behind_parts_same env b c h at to class s no_parts p e = refl
+behind_parts_same : (env : Env) (b c : Before) → c ≡ b → (at to : ℕ) (class : Storage) (s : Spec) (ps : Parts) (p : Output) → file_parts env b at class s ps ≡ fine p
+    → (behind_file_parts env b at class s ps ≡ behind_file_parts env c to class (unplaced_spec s) (unplaced_parts ps)) × (after_file_parts env c to class (unplaced_spec s) (unplaced_parts ps) ≡ after_file_parts env b at class s ps)
+behind_parts_same env b c h at to class s no_parts p e = (refl, h)
 behind_parts_same env b c h at to class s (more_parts d m ps) p e =
     let f = first_fine (named_part env b at class s d m (name_of d)) (file_parts (behind_file_part env b at class s d m) (after_file_part env b at class s d m) at class s ps) (λ p q. fine (with_output p q)) p e in
     let c1 : Before = after_file_part env c to class (unplaced_spec s) (unplaced_declarator d) (unplaced_maybe_init m) in
-    behind_parts_same (behind_file_part env b at class s d m) (after_file_part env b at class s d m) c1 (after_part_same env b c h at to class s d m) at to class s ps f.1 f.3
-    ∙ ap (λ y. behind_file_parts y c1 to class (unplaced_spec s) (unplaced_parts ps)) (behind_part_same env b c h at to class s d m f.0 f.2)
-
-after_parts_same : (env : Env) (b c : Before) → c ≡ b → (at to : ℕ) (class : Storage) (s : Spec) (ps : Parts) (p : Output) → file_parts env b at class s ps ≡ fine p → after_file_parts env c to class (unplaced_spec s) (unplaced_parts ps) ≡ after_file_parts env b at class s ps
-after_parts_same env b c h at to class s no_parts p e = h
-after_parts_same env b c h at to class s (more_parts d m ps) p e =
-    let f = first_fine (named_part env b at class s d m (name_of d)) (file_parts (behind_file_part env b at class s d m) (after_file_part env b at class s d m) at class s ps) (λ p q. fine (with_output p q)) p e in
-    let c1 : Before = after_file_part env c to class (unplaced_spec s) (unplaced_declarator d) (unplaced_maybe_init m) in
-    ap (λ y. after_file_parts y c1 to class (unplaced_spec s) (unplaced_parts ps)) (sym (behind_part_same env b c h at to class s d m f.0 f.2))
-    ∙ after_parts_same (behind_file_part env b at class s d m) (after_file_part env b at class s d m) c1 (after_part_same env b c h at to class s d m) at to class s ps f.1 f.3
-
-decl_alike : (env : Env) (b c : Before) → c ≡ b → (d : Decl) → Alike Output (file_decl env b d) (file_decl env c (unplaced_decl d))
-decl_alike env b c h (decl at class s ps) = parts_alike env b c h at 0 class s ps
-
-behind_decl_same : (env : Env) (b c : Before) → c ≡ b → (d : Decl) (p : Output) → file_decl env b d ≡ fine p → behind_file_decl env b d ≡ behind_file_decl env c (unplaced_decl d)
-behind_decl_same env b c h (decl at class s ps) p e = behind_parts_same env b c h at 0 class s ps p e
-
-after_decl_same : (env : Env) (b c : Before) → c ≡ b → (d : Decl) (p : Output) → file_decl env b d ≡ fine p → after_file_decl env c (unplaced_decl d) ≡ after_file_decl env b d
-after_decl_same env b c h (decl at class s ps) p e = after_parts_same env b c h at 0 class s ps p e
+    let q = behind_part_same env b c h at to class s d m f.0 f.2 in
+    let k = behind_parts_same (behind_file_part env b at class s d m) (after_file_part env b at class s d m) c1 (after_part_same env b c h at to class s d m) at to class s ps f.1 f.3 in
+    (k.0 ∙ ap (λ y. behind_file_parts y c1 to class (unplaced_spec s) (unplaced_parts ps)) q, ap (λ y. after_file_parts y c1 to class (unplaced_spec s) (unplaced_parts ps)) (sym q) ∙ k.1)
 
 -- ## Definitions of functions
 
@@ -393,7 +378,7 @@ item_alike env b c h (enum_item at x es) =
     (λ _ _. enumerators_alike env (fine (pos 0)) (fine (pos 0)) (alike (fine (pos 0))) es)
     (λ _ _. alike (fine no_output))
 item_alike env b c h (tag_item at x) = gives_alike (λ _. no_output) (tag_alike env x)
-item_alike env b c h (decl_item at d) = decl_alike env b c h d
+item_alike env b c h (decl_item at (decl here class s ps)) = parts_alike env b c h here 0 class s ps
 item_alike env b c h (function_item at class s d body) = function_alike env b c h at 0 s d body
 
 behind_form_same : (env : Env) (b c : Before) → c ≡ b → (i : Item) (p : Output) → item env b i ≡ fine p → behind_by_form env b i ≡ behind_by_form env c (unplaced_item i)
@@ -405,7 +390,7 @@ behind_form_same env b c h (enum_item at x es) p e =
     ap (λ y. behind_enum_tag y x) (behind_enumerators_same env (fine (pos 0)) (fine (pos 0)) (alike (fine (pos 0))) es f.1 f.3)
     ∙ sym (enum_tag_same (behind_enumerators env (fine (pos 0)) (unplaced_enumerators es)) x)
 behind_form_same env b c h (tag_item at x) p e = refl
-behind_form_same env b c h (decl_item at d) p e = behind_decl_same env b c h d p e
+behind_form_same env b c h (decl_item at (decl here class s ps)) p e = (behind_parts_same env b c h here 0 class s ps p e).0
 behind_form_same env b c h (function_item at class s d body) p e = behind_function_fine env b c h at 0 s d body p e
 
 behind_item_same : (env : Env) (b c : Before) → c ≡ b → (i : Item) (p : Output) → item env b i ≡ fine p → behind_item env b i ≡ behind_item env c (unplaced_item i)
@@ -413,7 +398,7 @@ behind_item_same env b c h i p e =
     ap₂ (λ (y : Env) (w : List Name). record y { tags = w ++ y.tags }) (behind_form_same env b c h i p e) (sym (item_tags false i))
 
 after_item_same : (env : Env) (b c : Before) → c ≡ b → (i : Item) (p : Output) → item env b i ≡ fine p → after_item env c (unplaced_item i) ≡ after_item env b i
-after_item_same env b c h (decl_item at d) p e = after_decl_same env b c h d p e
+after_item_same env b c h (decl_item at (decl here class s ps)) p e = (behind_parts_same env b c h here 0 class s ps p e).1
 after_item_same env b c h (function_item at class s d body) p e = after_function_same env b c h at 0 s d body p e
 after_item_same env b c h i p e = h
 
