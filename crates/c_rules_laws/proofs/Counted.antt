@@ -9,7 +9,7 @@ use Rattle.c_rules.specs.Declarators.{name_of}
 use Rattle.c_rules.specs.Names.{Name}
 use Rattle.c_rules.specs.Variables.{name_or_empty, names_of_parts, names_of_decl, names_of_first, names_of_stmt, names_of_block, names_of_stmts, names_of_groups, Next, past_name, past_names, calls_of_parts, calls_of_decl, calls_of_first, calls_of_stmt, calls_of_block, calls_of_stmts, calls_of_groups}
 use Rattle.c_rules_laws.proofs.Declared.{unplaced_name, name_same}
-use Rattle.c_rules_laws.proofs.Expressions.{calls_same, strings_same}
+use Rattle.c_rules_laws.proofs.Expressions.{calls_same, strings_same, counts_both}
 use Rattle.c_rules_laws.proofs.Initialisers.{maybe_init_calls_same}
 
 pub maybe_calls_same : (m : Maybe) → calls_of_maybe (unplaced_maybe m) ≡ calls_of_maybe m
@@ -40,30 +40,6 @@ pub first_names_same : (f : First) → names_of_first (unplaced_first f) ≡ nam
 first_names_same (first_decl d) = decl_names_same d
 first_names_same f = refl
 
-mutual
-  pub stmt_names_same : (s : Stmt) → names_of_stmt (unplaced_stmt s) ≡ names_of_stmt s
-  stmt_names_same (block at is) = block_names_same is
-  stmt_names_same (only_if at e s) = stmt_names_same s
-  stmt_names_same (if_else at e s t) = ap₂ (λ v w. v ++ w) (stmt_names_same s) (stmt_names_same t)
-  stmt_names_same (while_loop at e s) = stmt_names_same s
-  stmt_names_same (do_loop at s e) = stmt_names_same s
-  stmt_names_same (for_loop at first test step s) = ap₂ (λ v w. v ++ w) (first_names_same first) (stmt_names_same s)
-  stmt_names_same (switch_on at e gs) = groups_names_same gs
-  stmt_names_same s = refl
-
-  pub block_names_same : (is : BlockItems) → names_of_block (unplaced_block_items is) ≡ names_of_block is
-  block_names_same no_block_items = refl
-  block_names_same (block_decl d is) = ap₂ (λ v w. v ++ w) (decl_names_same d) (block_names_same is)
-  block_names_same (block_stmt s is) = ap₂ (λ v w. v ++ w) (stmt_names_same s) (block_names_same is)
-
-  pub stmts_names_same : (ss : Stmts) → names_of_stmts (unplaced_stmts ss) ≡ names_of_stmts ss
-  stmts_names_same no_stmts = refl
-  stmts_names_same (more_stmts s ss) = ap₂ (λ v w. v ++ w) (stmt_names_same s) (stmts_names_same ss)
-
-  pub groups_names_same : (gs : Groups) → names_of_groups (unplaced_groups gs) ≡ names_of_groups gs
-  groups_names_same no_groups = refl
-  groups_names_same (more_groups ls ss gs) = ap₂ (λ v w. v ++ w) (stmts_names_same ss) (groups_names_same gs)
-
 -- numbers of variables behind names that are the same
 pub past_names_same : (n m : Next) (xs ys : List Name) → m ≡ n → ys ≡ xs → past_names m ys ≡ past_names n xs
 past_names_same n m xs ys e f = ap₂ past_names e f
@@ -85,29 +61,31 @@ first_calls_same first_absent = refl
 first_calls_same (first_expr e) = calls_same e
 first_calls_same (first_decl d) = decl_calls_same d
 
+-- ## Statements
+
+-- the calls and the names in statements
 mutual
-  pub stmt_calls_same : (s : Stmt) → calls_of_stmt (unplaced_stmt s) ≡ calls_of_stmt s
-  stmt_calls_same (block at is) = block_calls_same is
-  stmt_calls_same (evaluate at e) = calls_same e
-  stmt_calls_same (only_if at e s) = ap₂ (λ v w. v + w) (calls_same e) (stmt_calls_same s)
-  stmt_calls_same (if_else at e s t) = ap₂ (λ v w. v + w) (calls_same e) (ap₂ (λ v w. v + w) (stmt_calls_same s) (stmt_calls_same t))
-  stmt_calls_same (while_loop at e s) = ap₂ (λ v w. v + w) (calls_same e) (stmt_calls_same s)
-  stmt_calls_same (do_loop at s e) = ap₂ (λ v w. v + w) (stmt_calls_same s) (calls_same e)
-  stmt_calls_same (for_loop at first test step s) =
-      ap₂ (λ v w. v + w) (first_calls_same first) (ap₂ (λ v w. v + w) (maybe_calls_same test) (ap₂ (λ v w. v + w) (maybe_calls_same step) (stmt_calls_same s)))
-  stmt_calls_same (switch_on at e gs) = ap₂ (λ v w. v + w) (calls_same e) (groups_calls_same gs)
-  stmt_calls_same (return_from at m) = maybe_calls_same m
-  stmt_calls_same s = refl
+  pub stmt_same : (s : Stmt) → (calls_of_stmt (unplaced_stmt s) ≡ calls_of_stmt s) × (names_of_stmt (unplaced_stmt s) ≡ names_of_stmt s)
+  stmt_same (block at is) = block_same is
+  stmt_same (evaluate at e) = (calls_same e, refl)
+  stmt_same (only_if at e s) = (let h = stmt_same s in (ap₂ (λ v w. v + w) (calls_same e) h.0, h.1))
+  stmt_same (if_else at e s t) = (let h = counts_both (stmt_same s) (stmt_same t) in (ap₂ (λ v w. v + w) (calls_same e) h.0, h.1))
+  stmt_same (while_loop at e s) = (let h = stmt_same s in (ap₂ (λ v w. v + w) (calls_same e) h.0, h.1))
+  stmt_same (do_loop at s e) = (let h = stmt_same s in (ap₂ (λ v w. v + w) h.0 (calls_same e), h.1))
+  stmt_same (for_loop at first test step s) = (let h = stmt_same s in (ap₂ (λ v w. v + w) (first_calls_same first) (ap₂ (λ v w. v + w) (maybe_calls_same test) (ap₂ (λ v w. v + w) (maybe_calls_same step) h.0)), ap₂ (λ v w. v ++ w) (first_names_same first) h.1))
+  stmt_same (switch_on at e gs) = (let h = groups_same gs in (ap₂ (λ v w. v + w) (calls_same e) h.0, h.1))
+  stmt_same (return_from at m) = (maybe_calls_same m, refl)
+  stmt_same s = (refl, refl)
 
-  pub block_calls_same : (is : BlockItems) → calls_of_block (unplaced_block_items is) ≡ calls_of_block is
-  block_calls_same no_block_items = refl
-  block_calls_same (block_decl d is) = ap₂ (λ v w. v + w) (decl_calls_same d) (block_calls_same is)
-  block_calls_same (block_stmt s is) = ap₂ (λ v w. v + w) (stmt_calls_same s) (block_calls_same is)
+  pub block_same : (is : BlockItems) → (calls_of_block (unplaced_block_items is) ≡ calls_of_block is) × (names_of_block (unplaced_block_items is) ≡ names_of_block is)
+  block_same no_block_items = (refl, refl)
+  block_same (block_decl d is) = counts_both (decl_calls_same d, decl_names_same d) (block_same is)
+  block_same (block_stmt s is) = counts_both (stmt_same s) (block_same is)
 
-  pub stmts_calls_same : (ss : Stmts) → calls_of_stmts (unplaced_stmts ss) ≡ calls_of_stmts ss
-  stmts_calls_same no_stmts = refl
-  stmts_calls_same (more_stmts s ss) = ap₂ (λ v w. v + w) (stmt_calls_same s) (stmts_calls_same ss)
+  pub stmts_same : (ss : Stmts) → (calls_of_stmts (unplaced_stmts ss) ≡ calls_of_stmts ss) × (names_of_stmts (unplaced_stmts ss) ≡ names_of_stmts ss)
+  stmts_same no_stmts = (refl, refl)
+  stmts_same (more_stmts s ss) = counts_both (stmt_same s) (stmts_same ss)
 
-  pub groups_calls_same : (gs : Groups) → calls_of_groups (unplaced_groups gs) ≡ calls_of_groups gs
-  groups_calls_same no_groups = refl
-  groups_calls_same (more_groups ls ss gs) = ap₂ (λ v w. v + w) (stmts_calls_same ss) (groups_calls_same gs)
+  pub groups_same : (gs : Groups) → (calls_of_groups (unplaced_groups gs) ≡ calls_of_groups gs) × (names_of_groups (unplaced_groups gs) ≡ names_of_groups gs)
+  groups_same no_groups = (refl, refl)
+  groups_same (more_groups ls ss gs) = counts_both (stmts_same ss) (groups_same gs)

@@ -30,7 +30,7 @@ use Rattle.c_rules_laws.proofs.Declared.{spec_alike, pointer_alike, array_alike,
 unless_same : {A : Type 0} (op : Prefix) (a b c : A) → a ≡ b → unless_sizeof op a c ≡ unless_sizeof op b c
 unless_same op a b c e = ap (λ x. unless_sizeof op x c) e
 
-counts_both : {k l m n : ℕ} {v w x y : List (List ℕ)} → (k ≡ l) × (v ≡ w) → (m ≡ n) × (x ≡ y) → (k + m ≡ l + n) × (v ++ x ≡ w ++ y)
+pub counts_both : {A : Type 0} {k l m n : ℕ} {v w x y : List A} → (k ≡ l) × (v ≡ w) → (m ≡ n) × (x ≡ y) → (k + m ≡ l + n) × (v ++ x ≡ w ++ y)
 counts_both h g = (ap₂ (λ m n. m + n) h.0 g.0, ap₂ (λ v w. v ++ w) h.1 g.1)
 
 mutual

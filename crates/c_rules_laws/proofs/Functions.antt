@@ -21,7 +21,7 @@ use Rattle.c_rules_laws.proofs.Alike.{Alike, alike, on_alike, both_alike, demand
 use Rattle.c_rules_laws.proofs.Definitions.{laid_body, definition_fine}
 use Rattle.c_rules_laws.proofs.Declared.{unplaced_name, name_same, meaning_same}
 use Rattle.c_rules_laws.proofs.Expressions.{type_declared_alike}
-use Rattle.c_rules_laws.proofs.Counted.{block_names_same}
+use Rattle.c_rules_laws.proofs.Counted.{block_same}
 use Rattle.c_rules_laws.proofs.Statements.{items_alike, held_by_block_same}
 
 -- ## Declarators of functions
@@ -72,7 +72,7 @@ body_env_same : (env : Env) (d : Declarator) (ts : CTypes) → body_env env (unp
 body_env_same env d ts = ap (λ ps. with_parameters (inside env) 0 ps ts) (parameters_same d) ∙ with_parameters_same (inside env) 0 (parameters_of d) ts
 
 numbers_from : (k : ℕ) (is : BlockItems) → first_numbers k (unplaced_block_items is) ≡ first_numbers k is
-numbers_from k is = ap (λ xs. record { plain = k; added = (past_names (record { plain = k; added = 0 }) xs).plain }) (block_names_same is)
+numbers_from k is = ap (λ xs. record { plain = k; added = (past_names (record { plain = k; added = 0 }) xs).plain }) ((block_same is).1)
 
 body_numbers_same : (d : Declarator) (is : BlockItems) → body_numbers (unplaced_declarator d) (unplaced_block_items is) ≡ body_numbers d is
 body_numbers_same d is =
@@ -93,7 +93,7 @@ laid_alike env x t ts p =
 
 few_variables_alike : (env : Env) (d : Declarator) (x : Ident) (is : BlockItems) → Alike Met (few_variables env x d is) (few_variables env (unplaced_ident x) (unplaced_declarator d) (unplaced_block_items is))
 few_variables_alike env d x is =
-    subst (λ n. Alike Met (few_variables env x d is) (demand (nat_le n (most_local_cells env.whole.mode)) C13 0 met)) (sym (ap₂ (λ k xs. k + length xs) (ap count_params (parameters_same d) ∙ count_params_same (parameters_of d)) (block_names_same is)))
+    subst (λ n. Alike Met (few_variables env x d is) (demand (nat_le n (most_local_cells env.whole.mode)) C13 0 met)) (sym (ap₂ (λ k xs. k + length xs) (ap count_params (parameters_same d) ∙ count_params_same (parameters_of d)) ((block_same is).1)))
     (demand_alike (nat_le (count_params (parameters_of d) + length (names_of_block is)) (most_local_cells env.whole.mode)) C13 x.at 0 met)
 
 pub defined_alike : (env : Env) (b c : Before) → c ≡ b → (here yonder : ℕ) (d : Declarator) (x : Ident) (is : BlockItems) (t : CType) → Alike Function (defined_as env b here d x is t) (defined_as env c yonder (unplaced_declarator d) (unplaced_ident x) (unplaced_block_items is) t)

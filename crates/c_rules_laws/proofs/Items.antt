@@ -31,7 +31,7 @@ use Rattle.c_rules_laws.proofs.Operators.{complete_alike}
 use Rattle.c_rules_laws.proofs.Declared.{unplaced_name, name_same, constant_alike, new_alike, meaning_same}
 use Rattle.c_rules_laws.proofs.Expressions.{type_declared_alike, folded_alike, past_same}
 use Rattle.c_rules_laws.proofs.Initialisers.{with_size_alike, declared_object_alike, static_init_alike, held_by_same, maybe_init_calls_same}
-use Rattle.c_rules_laws.proofs.Counted.{block_calls_same}
+use Rattle.c_rules_laws.proofs.Counted.{block_same}
 use Rattle.c_rules_laws.proofs.Functions.{declares_same, body_items_same, defined_alike, held_same, function_declared_alike, behind_function_same}
 use Rattle.c_rules_laws.proofs.Tags.{item_tags}
 
@@ -364,7 +364,7 @@ module _ (env : Env) (b c : Before) (h : c ≡ b) (at to : ℕ) (s : Spec) (d : 
       past_same b c (calls_of_block (items_of_body (unplaced_stmt body))) (calls_of_block (items_of_body body))
       (held_by_typed (behind_function_named env to spec₁ declarator₁ (name_of declarator₁)) declarator₁ (items_of_body (unplaced_stmt body)) (type_declared env to spec₁ declarator₁))
       (held_by_typed (behind_function_named env at s d (name_of d)) d (items_of_body body) (type_declared env at s d)) h
-      (ap calls_of_block (body_items_same body) ∙ block_calls_same (items_of_body body))
+      (ap calls_of_block (body_items_same body) ∙ (block_same (items_of_body body)).0)
       (ap₂ (λ x ks. held_by_typed (behind_function_named env to spec₁ declarator₁ x) declarator₁ ks (type_declared env to spec₁ declarator₁)) (name_same d) (body_items_same body)
       ∙ held_option_same (declares_function d) (name_of d) p e)
 

@@ -29,7 +29,7 @@ use Rattle.c_rules_laws.proofs.Alike.{Alike, alike, fine_there, on_alike, gives_
 use Rattle.c_rules_laws.proofs.Operators.{assigned_alike, condition_alike}
 use Rattle.c_rules_laws.proofs.Declared.{constant_alike}
 use Rattle.c_rules_laws.proofs.Expressions.{value_alike, folded_alike, strings_same, past_same, after_same}
-use Rattle.c_rules_laws.proofs.Counted.{maybe_calls_same, maybe_strings_same, decl_names_same, first_names_same, stmt_names_same, stmts_names_same, past_names_same, stmt_calls_same, stmts_calls_same}
+use Rattle.c_rules_laws.proofs.Counted.{maybe_calls_same, maybe_strings_same, decl_names_same, first_names_same, stmt_same, stmts_same, past_names_same}
 use Rattle.c_rules_laws.proofs.Blocks.{decl_alike, behind_decl_same, held_by_decl_same, after_decl_same, first_alike, behind_first_same, held_by_first_same, after_first_same}
 use Rattle.c_rules_laws.proofs.Holding.{three_fine}
 
@@ -90,7 +90,7 @@ mutual
       let f = three_fine (condition_at at (value env b x)) (stmt env a (after b x) n s) (stmt env a (after_stmt env (after b x) n s) (past_names n (names_of_stmt s)) t) (λ c p q. fine (joined p q (typed.if_else c p.tree q.tree))) p e in
       ap₂ (λ v w. v ++ w) (strings_same x)
       (ap₂ (λ v w. v ++ w) (held_by_stmt_same env a (after b x) n k g s f.1 f.4)
-      (held_by_stmt_same env a (after_stmt env (after b x) n s) (past_names n (names_of_stmt s)) (past_names k (names_of_stmt (unplaced_stmt s))) (past_names_same n k (names_of_stmt s) (names_of_stmt (unplaced_stmt s)) g (stmt_names_same s)) t f.2 f.5))
+      (held_by_stmt_same env a (after_stmt env (after b x) n s) (past_names n (names_of_stmt s)) (past_names k (names_of_stmt (unplaced_stmt s))) (past_names_same n k (names_of_stmt s) (names_of_stmt (unplaced_stmt s)) g ((stmt_same s).1)) t f.2 f.5))
   held_by_stmt_same env a b n k g (while_loop at x s) p e =
       let f = first_fine (condition_at at (value env b x)) (stmt env (in_loop a) (after b x) n s) (λ c p. fine (with_tree p (typed.while_loop c p.tree))) p e in
       ap₂ (λ v w. v ++ w) (strings_same x) (held_by_stmt_same env (in_loop a) (after b x) n k g s f.1 f.3)
@@ -126,29 +126,29 @@ mutual
   held_by_block_same env a b n k g (block_stmt s is) p e =
       let f = first_fine (stmt env a b n s) (items_of_block env a (after_stmt env b n s) (past_names n (names_of_stmt s)) is) (λ p q. fine (one_more p q)) p e in
       ap₂ (λ v w. v ++ w) (held_by_stmt_same env a b n k g s f.0 f.2)
-      (held_by_block_same env a (after_stmt env b n s) (past_names n (names_of_stmt s)) (past_names k (names_of_stmt (unplaced_stmt s))) (past_names_same n k (names_of_stmt s) (names_of_stmt (unplaced_stmt s)) g (stmt_names_same s)) is f.1 f.3)
+      (held_by_block_same env a (after_stmt env b n s) (past_names n (names_of_stmt s)) (past_names k (names_of_stmt (unplaced_stmt s))) (past_names_same n k (names_of_stmt s) (names_of_stmt (unplaced_stmt s)) g ((stmt_same s).1)) is f.1 f.3)
 
   held_by_stmts_same : (env : Env) (a : Around) (b : Before) (n k : Next) → k ≡ n → (ss : Stmts) (p : StatementTree typed.Stmts) → stmts env a b n ss ≡ fine p → held_by_stmts env k (unplaced_stmts ss) ≡ held_by_stmts env n ss
   held_by_stmts_same env a b n k g no_stmts p e = refl
   held_by_stmts_same env a b n k g (more_stmts s ss) p e =
       let f = first_fine (stmt env a b n s) (stmts env a (after_stmt env b n s) (past_names n (names_of_stmt s)) ss) (λ p q. fine (one_more p q)) p e in
       ap₂ (λ v w. v ++ w) (held_by_stmt_same env a b n k g s f.0 f.2)
-      (held_by_stmts_same env a (after_stmt env b n s) (past_names n (names_of_stmt s)) (past_names k (names_of_stmt (unplaced_stmt s))) (past_names_same n k (names_of_stmt s) (names_of_stmt (unplaced_stmt s)) g (stmt_names_same s)) ss f.1 f.3)
+      (held_by_stmts_same env a (after_stmt env b n s) (past_names n (names_of_stmt s)) (past_names k (names_of_stmt (unplaced_stmt s))) (past_names_same n k (names_of_stmt s) (names_of_stmt (unplaced_stmt s)) g ((stmt_same s).1)) ss f.1 f.3)
 
   held_by_groups_same : (env : Env) (a : Around) (b : Before) (n k : Next) → k ≡ n → (i : IntType) (gs : Groups) (p : Labelled) → groups_of_switch env a b n i gs ≡ fine p → held_by_groups env k (unplaced_groups gs) ≡ held_by_groups env n gs
   held_by_groups_same env a b n k g i no_groups p e = refl
   held_by_groups_same env a b n k g i (more_groups ls ss gs) p e =
       let f = three_fine (labels_of env i ls) (stmts env a b n ss) (groups_of_switch env a (after_stmts env b n ss) (past_names n (names_of_stmts ss)) i gs) (λ vs p rest. fine (labelled vs p rest)) p e in
       ap₂ (λ v w. v ++ w) (held_by_stmts_same env a b n k g ss f.1 f.4)
-      (held_by_groups_same env a (after_stmts env b n ss) (past_names n (names_of_stmts ss)) (past_names k (names_of_stmts (unplaced_stmts ss))) (past_names_same n k (names_of_stmts ss) (names_of_stmts (unplaced_stmts ss)) g (stmts_names_same ss)) i gs f.2 f.5)
+      (held_by_groups_same env a (after_stmts env b n ss) (past_names n (names_of_stmts ss)) (past_names k (names_of_stmts (unplaced_stmts ss))) (past_names_same n k (names_of_stmts ss) (names_of_stmts (unplaced_stmts ss)) g ((stmts_same ss).1)) i gs f.2 f.5)
 
 after_stmt_same : (env : Env) (a : Around) (b c : Before) → c ≡ b → (n k : Next) → k ≡ n → (s : Stmt) (p : StatementTree typed.Stmt) → stmt env a b n s ≡ fine p → after_stmt env c k (unplaced_stmt s) ≡ after_stmt env b n s
 after_stmt_same env a b c h n k g s p e =
-    past_same b c (calls_of_stmt (unplaced_stmt s)) (calls_of_stmt s) (held_by_stmt env k (unplaced_stmt s)) (held_by_stmt env n s) h (stmt_calls_same s) (held_by_stmt_same env a b n k g s p e)
+    past_same b c (calls_of_stmt (unplaced_stmt s)) (calls_of_stmt s) (held_by_stmt env k (unplaced_stmt s)) (held_by_stmt env n s) h ((stmt_same s).0) (held_by_stmt_same env a b n k g s p e)
 
 after_stmts_same : (env : Env) (a : Around) (b c : Before) → c ≡ b → (n k : Next) → k ≡ n → (ss : Stmts) (p : StatementTree typed.Stmts) → stmts env a b n ss ≡ fine p → after_stmts env c k (unplaced_stmts ss) ≡ after_stmts env b n ss
 after_stmts_same env a b c h n k g ss p e =
-    past_same b c (calls_of_stmts (unplaced_stmts ss)) (calls_of_stmts ss) (held_by_stmts env k (unplaced_stmts ss)) (held_by_stmts env n ss) h (stmts_calls_same ss) (held_by_stmts_same env a b n k g ss p e)
+    past_same b c (calls_of_stmts (unplaced_stmts ss)) (calls_of_stmts ss) (held_by_stmts env k (unplaced_stmts ss)) (held_by_stmts env n ss) h ((stmts_same ss).0) (held_by_stmts_same env a b n k g ss p e)
 
 -- ## Statements
 
@@ -167,7 +167,7 @@ mutual
       three_alike (stmt env a b1 n s) (stmt env a c1 k (unplaced_stmt s)) (stmt env a (after_stmt env b1 n s) n1 t) (stmt env a (after_stmt env c1 k (unplaced_stmt s)) k1 (unplaced_stmt t))
       (λ c p q. fine (joined p q (typed.if_else c p.tree q.tree))) (λ c p q. fine (joined p q (typed.if_else c p.tree q.tree)))
       (condition_at_alike at 0 (value env b e) (value env c (unplaced e)) (value_alike env b c h e)) (λ _ _. stmt_alike env a b1 c1 h1 n k g s)
-      (λ _ p _ f. stmt_alike env a (after_stmt env b1 n s) (after_stmt env c1 k (unplaced_stmt s)) (after_stmt_same env a b1 c1 h1 n k g s p f) n1 k1 (past_names_same n k (names_of_stmt s) (names_of_stmt (unplaced_stmt s)) g (stmt_names_same s)) t)
+      (λ _ p _ f. stmt_alike env a (after_stmt env b1 n s) (after_stmt env c1 k (unplaced_stmt s)) (after_stmt_same env a b1 c1 h1 n k g s p f) n1 k1 (past_names_same n k (names_of_stmt s) (names_of_stmt (unplaced_stmt s)) g ((stmt_same s).1)) t)
       (λ c p q. alike (fine (joined p q (typed.if_else c p.tree q.tree))))
   stmt_alike env a b c h n k g (while_loop at e s) =
       both_alike (stmt env (in_loop a) (after b e) n s) (stmt env (in_loop a) (after c (unplaced e)) k (unplaced_stmt s)) (λ c p. fine (with_tree p (typed.while_loop c p.tree))) (λ c p. fine (with_tree p (typed.while_loop c p.tree)))
@@ -230,7 +230,7 @@ mutual
       let n1 : Next = past_names n (names_of_stmt s) in let k1 : Next = past_names k (names_of_stmt (unplaced_stmt s)) in
       both_alike (items_of_block env a (after_stmt env b n s) n1 is) (items_of_block env a (after_stmt env c k (unplaced_stmt s)) k1 (unplaced_block_items is)) (λ p q. fine (one_more p q)) (λ p q. fine (one_more p q))
       (stmt_alike env a b c h n k g s)
-      (λ p f. items_alike env a (after_stmt env b n s) (after_stmt env c k (unplaced_stmt s)) (after_stmt_same env a b c h n k g s p f) n1 k1 (past_names_same n k (names_of_stmt s) (names_of_stmt (unplaced_stmt s)) g (stmt_names_same s)) is)
+      (λ p f. items_alike env a (after_stmt env b n s) (after_stmt env c k (unplaced_stmt s)) (after_stmt_same env a b c h n k g s p f) n1 k1 (past_names_same n k (names_of_stmt s) (names_of_stmt (unplaced_stmt s)) g ((stmt_same s).1)) is)
       (λ p q. alike (fine (one_more p q)))
 
   stmts_alike : (env : Env) (a : Around) (b c : Before) → c ≡ b → (n k : Next) → k ≡ n → (ss : Stmts) → Alike (StatementTree typed.Stmts) (stmts env a b n ss) (stmts env a c k (unplaced_stmts ss))
@@ -239,7 +239,7 @@ mutual
       let n1 : Next = past_names n (names_of_stmt s) in let k1 : Next = past_names k (names_of_stmt (unplaced_stmt s)) in
       both_alike (stmts env a (after_stmt env b n s) n1 ss) (stmts env a (after_stmt env c k (unplaced_stmt s)) k1 (unplaced_stmts ss)) (λ p q. fine (one_more p q)) (λ p q. fine (one_more p q))
       (stmt_alike env a b c h n k g s)
-      (λ p f. stmts_alike env a (after_stmt env b n s) (after_stmt env c k (unplaced_stmt s)) (after_stmt_same env a b c h n k g s p f) n1 k1 (past_names_same n k (names_of_stmt s) (names_of_stmt (unplaced_stmt s)) g (stmt_names_same s)) ss)
+      (λ p f. stmts_alike env a (after_stmt env b n s) (after_stmt env c k (unplaced_stmt s)) (after_stmt_same env a b c h n k g s p f) n1 k1 (past_names_same n k (names_of_stmt s) (names_of_stmt (unplaced_stmt s)) g ((stmt_same s).1)) ss)
       (λ p q. alike (fine (one_more p q)))
 
   groups_alike : (env : Env) (a : Around) (b c : Before) → c ≡ b → (n k : Next) → k ≡ n → (i : IntType) (gs : Groups) → Alike Labelled (groups_of_switch env a b n i gs) (groups_of_switch env a c k i (unplaced_groups gs))
@@ -249,5 +249,5 @@ mutual
       three_alike (stmts env a b n ss) (stmts env a c k (unplaced_stmts ss))
       (groups_of_switch env a (after_stmts env b n ss) n1 i gs) (groups_of_switch env a (after_stmts env c k (unplaced_stmts ss)) k1 i (unplaced_groups gs)) (λ vs p rest. fine (labelled vs p rest)) (λ vs p rest. fine (labelled vs p rest))
       (labels_alike env i ls) (λ _ _. stmts_alike env a b c h n k g ss)
-      (λ _ p _ f. groups_alike env a (after_stmts env b n ss) (after_stmts env c k (unplaced_stmts ss)) (after_stmts_same env a b c h n k g ss p f) n1 k1 (past_names_same n k (names_of_stmts ss) (names_of_stmts (unplaced_stmts ss)) g (stmts_names_same ss)) i gs)
+      (λ _ p _ f. groups_alike env a (after_stmts env b n ss) (after_stmts env c k (unplaced_stmts ss)) (after_stmts_same env a b c h n k g ss p f) n1 k1 (past_names_same n k (names_of_stmts ss) (names_of_stmts (unplaced_stmts ss)) g ((stmts_same ss).1)) i gs)
       (λ vs p rest. alike (fine (labelled vs p rest)))
