@@ -27,7 +27,7 @@ use Rattle.c_rules.proofs.ModeItems.{global_fine}
 use Rattle.c_rules_laws.specs.Lexical.{AreSomeMembers, IsItemLexical, IsUnitLexical}
 use Rattle.c_rules_laws.specs.MadeTypes.{NotArray, Made, IsSized}
 use Rattle.c_rules_laws.specs.RightScopes.{IsThing}
-use Rattle.c_rules_laws.proofs.Holding.{Holds, held, holds_map, holds_two, on_holds, both_hold, Any, anything, demand_holds, behind_demand, after_part, first_fine, on_fine, and_left, and_right}
+use Rattle.c_rules_laws.proofs.Holding.{Holds, held, holds_map, holds_two, on_holds, both_hold, Any, anything, demand_holds, behind_demand, after_part, first_fine, on_fine, and_left, and_right, fine_same}
 use Rattle.c_rules_laws.proofs.MadeTypes.{type_is}
 use Rattle.c_rules_laws.proofs.SoundStructs.{grows_same}
 use Rattle.c_rules_laws.proofs.TypesOfTypedExpressions.{sized_few}
@@ -136,9 +136,6 @@ step_on a b c h k = (k.0, follows_on a b c h.1 k.1)
 
 -- ## Structs and enums
 
-same_struct : (s t : Struct) → fine s ≡ fine t → s ≡ t
-same_struct s t e = cc
-
 new_struct_empty : (env : Env) (x : Ident) → Holds (λ _. is_incomplete (struct_of env (tag_number env x.name)) ≡ true) (new_struct env x)
 new_struct_empty env x =
     both_hold Any (λ _. is_incomplete (struct_of env (tag_number env x.name)) ≡ true) (λ _. is_incomplete (struct_of env (tag_number env x.name)) ≡ true) (free_tag env x) _ _ (anything _)
@@ -160,7 +157,7 @@ struct_step env x ms s w some e =
     let o = held (λ _. is_incomplete (struct_of env (tag_number env x.name)) ≡ true) (new_struct env x) f.0 (new_struct_empty env x) f.2 in
     let l : 1 ≤ length (map type_of_member g.0) = subst (λ k. 1 ≤ k) (sym (length-map g.0 type_of_member)) n in
     let d = struct_defined env x.name g.0 w.names_known.sound o (all_complete env g.0 m) (all_made env g.0 m) l h.1 in
-    let same : struct_or_unknown (struct_definition env x ms) ≡ defined_struct g.0 = ap struct_or_unknown e ∙ (sym (same_struct f.1 s f.4) ∙ h.0) in
+    let same : struct_or_unknown (struct_definition env x ms) ≡ defined_struct g.0 = ap struct_or_unknown e ∙ (sym (fine_same f.1 s f.4) ∙ h.0) in
     subst (λ z. Step env (with_struct env x.name z)) (sym same) (file_structs env x.name (defined_struct g.0) w d.0 d.1)
 
 -- the names of tags, enumerations and functions are free

@@ -42,6 +42,9 @@ pub demand_fine : {A : Type 0} (t : Bool) (code at : ℕ) (a b : A) → demand t
 demand_fine true code at a b e = (refl, cc)
 demand_fine false code at a b e = absurd (cc)
 
+pub fine_same : {A : Type 0} (a b : A) → fine a ≡ fine b → a ≡ b
+fine_same a b e = cc
+
 -- ## What holds of each of a list
 
 abbrev pub Each : {A : Type 0} → (A → Type 0) → List A → Type 0

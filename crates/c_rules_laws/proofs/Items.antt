@@ -412,18 +412,12 @@ items_alike env b c h (more_items i is) =
     (items_alike (behind_item env b i) (after_item env b i) c1 (after_item_same env b c h i p f) is))
     (λ p q. alike (fine (with_output p q)))
 
-pub behind_items_same : (env : Env) (b c : Before) → c ≡ b → (u : Items) (p : Output) → items env b u ≡ fine p → behind_items env b u ≡ behind_items env c (unplaced_unit u)
-behind_items_same env b c h no_items p e = refl
+pub behind_items_same : (env : Env) (b c : Before) → c ≡ b → (u : Items) (p : Output) → items env b u ≡ fine p
+    → (behind_items env b u ≡ behind_items env c (unplaced_unit u)) × (after_items env c (unplaced_unit u) ≡ after_items env b u)
+behind_items_same env b c h no_items p e = (refl, h)
 behind_items_same env b c h (more_items i is) p e =
     let f = first_fine (item env b i) (items (behind_item env b i) (after_item env b i) is) (λ p q. fine (with_output p q)) p e in
     let c1 : Before = after_item env c (unplaced_item i) in
-    behind_items_same (behind_item env b i) (after_item env b i) c1 (after_item_same env b c h i f.0 f.2) is f.1 f.3
-    ∙ ap (λ y. behind_items y c1 (unplaced_unit is)) (behind_item_same env b c h i f.0 f.2)
-
-pub after_items_same : (env : Env) (b c : Before) → c ≡ b → (u : Items) (p : Output) → items env b u ≡ fine p → after_items env c (unplaced_unit u) ≡ after_items env b u
-after_items_same env b c h no_items p e = h
-after_items_same env b c h (more_items i is) p e =
-    let f = first_fine (item env b i) (items (behind_item env b i) (after_item env b i) is) (λ p q. fine (with_output p q)) p e in
-    let c1 : Before = after_item env c (unplaced_item i) in
-    ap (λ y. after_items y c1 (unplaced_unit is)) (sym (behind_item_same env b c h i f.0 f.2))
-    ∙ after_items_same (behind_item env b i) (after_item env b i) c1 (after_item_same env b c h i f.0 f.2) is f.1 f.3
+    let q = behind_item_same env b c h i f.0 f.2 in
+    let k = behind_items_same (behind_item env b i) (after_item env b i) c1 (after_item_same env b c h i f.0 f.2) is f.1 f.3 in
+    (k.0 ∙ ap (λ y. behind_items y c1 (unplaced_unit is)) q, ap (λ y. after_items y c1 (unplaced_unit is)) (sym q) ∙ k.1)

@@ -20,7 +20,7 @@ use Rattle.c_rules.specs.Statements.{Around, items_of_block}
 use Rattle.c_rules.specs.Functions.{declares_function, parameters_of, are_named, with_parameter, with_parameters, variables_of, function_laid, body_env, body_numbers, body_of, held_by_type, held_by_typed, function_declared, items_of_body, defined_as}
 use Rattle.c_rules.specs.Items.{Output, no_output, with_output, static_of, without_init, output_of_function, defines, global_declared, within_global, after_object, definition_of, global, declared_part, named_part, behind_file_part, after_global, after_declared, after_file_part, file_parts, after_file_parts, behind_defined, function_named, behind_function_named, item, behind_item, behind_by_form, after_item, items, after_items}
 use Rattle.c_rules_laws.specs.Lexical.{IsUnitLexical}
-use Rattle.c_rules_laws.proofs.Holding.{held, first_fine, on_fine, demand_fine, each_both}
+use Rattle.c_rules_laws.proofs.Holding.{held, first_fine, on_fine, demand_fine, each_both, fine_same}
 use Rattle.c_rules_laws.proofs.Definitions.{definition_fine}
 use Rattle.c_rules_laws.proofs.SizeBounds.{has_cell}
 use Rattle.c_rules_laws.proofs.SitesOfExpressions.{AreShort, FitsAt, Span, range_append}
@@ -87,14 +87,11 @@ string_many : (ws : List (List ℕ)) → length ws ≤ string_cells ws
 string_many [] = omega arith
 string_many (w ∷ ws) = (let l = string_many ws in omega (arith, l))
 
-object_same : (o p : Object) → fine o ≡ fine p → o ≡ p
-object_same o p e = cc
-
 object_span : (env : Env) → IsFileRight env → (b : Before) (x : Ident) (m : MaybeInit) (r : Checked Object) (o : Object) (q : Output) → r ≡ fine o → IsObjectNamed env true b x o → global env true b x m r ≡ fine q → Spans b (after_global env b m (fine o)) q
 object_span env w b x m r o q e h f =
     let inner : Env = within_global env true x r in
     let i = on_fine r (definition_of inner b m) q f in
-    let same : i.0 ≡ o = object_same i.0 o (sym i.1 ∙ e) in
+    let same : i.0 ≡ o = fine_same i.0 o (sym i.1 ∙ e) in
     let g : definition_of inner b m o ≡ fine q = subst (λ z. definition_of inner b m z ≡ fine q) same i.2 in
     let start : Before = after_object inner b o.whole in
     let j = on_fine (initialised_static inner start o.whole m) (λ gs. fine (static_of o gs)) q g in

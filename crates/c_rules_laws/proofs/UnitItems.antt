@@ -23,7 +23,7 @@ use Rattle.c_meaning_laws.proofs.Places.{get_left, get_right}
 use Rattle.c_rules_laws.specs.Lexical.{IsMaybeInitLexical, ArePartsLexical, IsStmtLexical, AreItemsLexical, IsItemLexical, IsUnitLexical}
 use Rattle.c_rules_laws.specs.MadeTypes.{Made, IsSized}
 use Rattle.c_rules_laws.specs.RightScopes.{MeaningRight, IsRight, StringsIn}
-use Rattle.c_rules_laws.proofs.Holding.{held, first_fine, on_fine, Each, each_both}
+use Rattle.c_rules_laws.proofs.Holding.{held, first_fine, on_fine, Each, each_both, fine_same}
 use Rattle.c_rules_laws.proofs.SoundStructs.{same_flat}
 use Rattle.c_rules_laws.proofs.TypesOfTypedExpressions.{sized_few}
 use Rattle.c_rules_laws.proofs.TypesOfExpressions.{type_declared_made}
@@ -114,7 +114,7 @@ module _ (p : Program) (last : Env) (table : IsTable p last) (all : List (List �
       → Begins (b.strings ++ held_by env o.whole m) all → IsOutputRight q
   global_right env w b x m r q o e h v l f g0 g s =
       let i = on_fine r (definition_of (within_global env true x r) b m) q f in
-      let same : i.0 ≡ o = object_same i.0 o (sym i.1 ∙ e) in
+      let same : i.0 ≡ o = fine_same i.0 o (sym i.1 ∙ e) in
       let d : Bool = is_defined_by true (declared_here env x.name) in
       let inner : Env = with_name env x.name (a_static o.seen o.whole d) in
       let within : within_global env true x r ≡ inner = ap (λ z. with_name env x.name (meaning_or_unknown (seen_of_global env true x z))) e in
@@ -130,9 +130,6 @@ module _ (p : Program) (last : Env) (table : IsTable p last) (all : List (List �
       let object : IsObject p.structs o.whole = record { complete = complete_in (layout_of env) p.structs w0.within o.whole h.right.known; few = subst (λ k. k ≤ 65536) (cells_in (layout_of env) p.structs w0.within o.whole h.right.known) h.right.small } in
       subst IsOutputRight (output_same (static_of o j.0) q j.2)
       (tt, (record { object = object; typed = cells_zip (flat p.structs o.whole) j.0 (subst (λ ts. TypesAre p [] ts j.0) (sym (same_flat (layout_of env) p.structs w0.within.sound w0.within.grows o.whole h.right.known)) cells.0) cells.1 }, tt))
-    where
-      object_same : (y z : Object) → fine y ≡ fine z → y ≡ z
-      object_same y z e = cc
 
   no_output_right : (q : Output) → fine no_output ≡ fine q → IsOutputRight q
   no_output_right q e = subst IsOutputRight (output_same no_output q e) (tt, tt)

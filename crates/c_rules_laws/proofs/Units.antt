@@ -18,7 +18,7 @@ use Rattle.c_rules_laws.specs.PlaceLaws.{UnitsAreTypedAlike}
 use Rattle.c_rules_laws.proofs.Alike.{Alike, alike, fine_there, fine_here, on_alike}
 use Rattle.c_rules_laws.proofs.Counted.{declared_name_same}
 use Rattle.c_rules_laws.proofs.Functions.{declares_same}
-use Rattle.c_rules_laws.proofs.Items.{defines_same, items_alike, behind_items_same, after_items_same}
+use Rattle.c_rules_laws.proofs.Items.{defines_same, items_alike, behind_items_same}
 use Rattle.c_rules_laws.proofs.Tags.{items_tags}
 
 -- ## What is known of the whole unit from its syntax
@@ -68,11 +68,11 @@ units_items_alike m u =
 
 behind_same : (m : Mode) (u : Items) (p : Output) → items (env_before m u) nothing_before u ≡ fine p → env_behind m (unplaced_unit u) ≡ env_behind m u
 behind_same m u p e =
-    ap (λ y. behind_items y nothing_before (unplaced_unit u)) (before_same m u) ∙ sym (behind_items_same (env_before m u) nothing_before nothing_before refl u p e)
+    ap (λ y. behind_items y nothing_before (unplaced_unit u)) (before_same m u) ∙ sym ((behind_items_same (env_before m u) nothing_before nothing_before refl u p e).0)
 
 strings_same : (m : Mode) (u : Items) (p : Output) → items (env_before m u) nothing_before u ≡ fine p → strings_of m (unplaced_unit u) ≡ strings_of m u
 strings_same m u p e =
-    ap (λ (b : Before). b.strings) (ap (λ y. after_items y nothing_before (unplaced_unit u)) (before_same m u) ∙ after_items_same (env_before m u) nothing_before nothing_before refl u p e)
+    ap (λ (b : Before). b.strings) (ap (λ y. after_items y nothing_before (unplaced_unit u)) (before_same m u) ∙ (behind_items_same (env_before m u) nothing_before nothing_before refl u p e).1)
 
 program_same : (m : Mode) (u : Items) (p : Output) → items (env_before m u) nothing_before u ≡ fine p → program_of m (unplaced_unit u) p ≡ program_of m u p
 program_same m u p e =
