@@ -4,7 +4,7 @@ use Rattle.std.specs.Cmp.{nat_eq_equiv}
 use Rattle.std.specs.Prelude.{is_none}
 use Rattle.std.proofs.lemmas.Bool.{leb-true}
 use Rattle.std.proofs.lemmas.List.{length-map}
-use Rattle.std.proofs.lemmas.Bool.{or_right}
+use Rattle.std.proofs.lemmas.Bool.{or_right, not-true}
 use Rattle.c_tree.specs.Tree.{CType, void, pointer, array, function, CTypes}
 use Rattle.c_tree.specs.Layout.{cells, cells_of_all}
 use Rattle.c_tree.specs.Operators.{fits_int}
@@ -209,12 +209,8 @@ given_fits env defined x t i h e = by_test (subst (λ o. given_as env defined t 
     by_type None q = absurd (cc)
     by_type (Some u) q = ap Some (sym (type_is t u q))
 
-    no : (b : Bool) → not b ≡ true → b ≡ false
-    no true q = absurd (cc)
-    no false q = refl
-
     by_test : (not defined && is_given_type (slice_get (given_types env.whole.mode) i) t) ≡ true → (slice_get (given_types env.whole.mode) i ≡ Some t) × (defined ≡ false)
-    by_test q = (by_type (slice_get (given_types env.whole.mode) i) (and_right (not defined) (is_given_type (slice_get (given_types env.whole.mode) i) t) q), no defined (and_left (not defined) (is_given_type (slice_get (given_types env.whole.mode) i) t) q))
+    by_test q = (by_type (slice_get (given_types env.whole.mode) i) (and_right (not defined) (is_given_type (slice_get (given_types env.whole.mode) i) t) q), not-true defined (and_left (not defined) (is_given_type (slice_get (given_types env.whole.mode) i) t) q))
 
 -- a given name isn't defined before
 not_defined_before : (env : Env) → IsFileRight env → (defined : Bool) (x : Name) (t : CType) (i : ℕ) → number_among (given_names env.whole.mode) x ≡ Some i → defined ≡ false → may_follow_function defined t (declared_here env x) ≡ true → is_defined_by defined (declared_here env x) ≡ false

@@ -23,7 +23,7 @@ use Rattle.c_rules_laws.specs.Lexical.{AreSomeMembers}
 use Rattle.c_rules_laws.specs.MadeTypes.{Made, FewCells, IsSized}
 use Rattle.c_rules_laws.specs.RightScopes.{Seen, IsThing, MeaningTyped, IsKnown}
 use Rattle.c_rules_laws.specs.SoundStructs.{AreSound, Grows}
-use Rattle.c_rules_laws.proofs.Holding.{Holds, on_holds, both_hold, Any, anything}
+use Rattle.c_rules_laws.proofs.Holding.{Holds, on_holds, both_hold, Any, anything, Each, each_both}
 use Rattle.c_rules_laws.proofs.MadeTypes.{complete_known, complete_kept, made_kept}
 use Rattle.c_rules_laws.proofs.SoundStructs.{grows_same, grows_on, same_flat, set_grows, set_sound}
 use Rattle.c_rules_laws.proofs.TypesOfExpressions.{type_declared_made}
@@ -74,8 +74,7 @@ module _ (env : Env) where
   TypeRight t = Made (layout_of env) t × IsComplete (layout_of env) t
 
   abbrev pub MembersRight : List Member → Type 0
-  MembersRight [] = Unit {0}
-  MembersRight (m ∷ ms) = TypeRight m.ctype × MembersRight ms
+  MembersRight = Each (λ m. TypeRight m.ctype)
 
   member_right : (place name : ℕ) (t : CType) → Made (layout_of env) t → Holds TypeRight (member_typed env place name t)
   member_right place name t h =
@@ -93,14 +92,10 @@ module _ (env : Env) where
   declared_members earlier at s (more_declarators d ds) =
       both_hold (λ m. TypeRight m.ctype) MembersRight MembersRight (member_declared env earlier at s d) (members_declared env (with_option (name_of d) earlier) at s ds) _ (named_right earlier at s d (name_of d)) (declared_members (with_option (name_of d) earlier) at s ds) (λ m ms h k. (h, k))
 
-  members_both : (ms ns : List Member) → MembersRight ms → MembersRight ns → MembersRight (ms ++ ns)
-  members_both [] ns h k = k
-  members_both (m ∷ ms) ns h k = (h.0, members_both ms ns h.1 k)
-
   pub members_right : (earlier : List Name) (ms : Members) → Holds MembersRight (members env earlier ms)
   members_right earlier no_members = tt
   members_right earlier (more_members at s ds rest) =
-      both_hold MembersRight MembersRight MembersRight (members_declared env earlier at s ds) (members env (names_behind earlier ds) rest) _ (declared_members earlier at s ds) (members_right (names_behind earlier ds) rest) (λ ms ns h k. members_both ms ns h k)
+      both_hold MembersRight MembersRight MembersRight (members_declared env earlier at s ds) (members env (names_behind earlier ds) rest) _ (declared_members earlier at s ds) (members_right (names_behind earlier ds) rest) (λ ms ns h k. each_both (λ m. TypeRight m.ctype) ms ns h k)
 
   pub all_complete : (ms : List Member) → MembersRight ms → All (IsComplete (layout_of env)) (map type_of_member ms)
   all_complete [] h = λ k d l. absurd (omega (arith, l))

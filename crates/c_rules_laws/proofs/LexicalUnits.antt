@@ -21,6 +21,7 @@ use Rattle.c_syntax.proofs.FrontLemmas.{front_of_each}
 use Rattle.c_syntax.proofs.FrameSpecifiers.{spec_on}
 use Rattle.c_rules.specs.Declarators.{name_of}
 use Rattle.c_rules_laws.specs.Lexical.{IsLexical, AreLexical, IsMaybeLexical, IsInitLexical, AreInitsLexical, IsMaybeInitLexical, ArePartsLexical, IsDeclLexical, IsFirstLexical, IsStmtLexical, AreItemsLexical, AreStmtsLexical, AreGroupsLexical, AreSomeMembers, IsNamed, IsItemLexical, IsUnitLexical}
+use Rattle.c_rules_laws.proofs.Holding.{Each}
 
 -- ## Tokens
 
@@ -34,8 +35,7 @@ weight [] = 0
 weight (t ∷ ts) = text_length t.kind + weight ts
 
 abbrev pub AllKinds : List Token → Type 0
-AllKinds [] = Unit {0}
-AllKinds (t ∷ ts) = IsKind t.kind × AllKinds ts
+AllKinds = Each (λ t. IsKind t.kind)
 
 -- tokens of a text of at most 16 MiB
 pub record AreGood (i : List Token) : Type 0 where

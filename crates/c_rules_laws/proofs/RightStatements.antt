@@ -1,5 +1,6 @@
 -- Statements that the rules type where each name is right in a program are right in it, in a function whose variables are those that they declare.
 use Rattle.std.proofs.Common.{◌≡◌, ℕ, ◌+◌, ◌≤◌, Bool, true, false, not, List, [], ◌∷◌, ◌++◌, All, refl, ap, sym, subst, ◌∙◌, arith}
+use Rattle.std.proofs.lemmas.Bool.{not-true}
 use Rattle.std.specs.Prelude.{IsTrue}
 use Rattle.std.proofs.lemmas.List.Elements.{All-cons}
 use Rattle.c_tree.specs.declared.value.IntType.{IntType}
@@ -31,7 +32,7 @@ use Rattle.c_rules.specs.Blocks.{behind_decl, behind_first, held_by_decl, held_b
 use Rattle.c_rules.specs.Statements.{Around, in_loop, in_switch, condition_at, test_of, step_of, first_of, for_of, switched_kind, switched, label_kind, label_type, labels_of, Labelled, labelled, is_case_of, has_default, are_distinct, switch_of, returned, stmt, items_of_block, stmts, groups_of_switch}
 use Rattle.c_rules_laws.specs.Lexical.{IsMaybeLexical, IsFirstLexical, IsStmtLexical, AreItemsLexical, AreStmtsLexical, AreGroupsLexical, IsLexical}
 use Rattle.c_rules_laws.specs.RightScopes.{IsRight, StringsIn}
-use Rattle.c_rules_laws.proofs.Holding.{Holds, on_holds, both_hold, all_three_hold, demand_holds, and_left, and_right, each_both}
+use Rattle.c_rules_laws.proofs.Holding.{Holds, on_holds, both_hold, all_three_hold, demand_holds, and_left, and_right, each_both, Any, anything}
 use Rattle.c_rules_laws.proofs.TypesOfTypedExpressions.{kind_integer}
 use Rattle.c_rules_laws.proofs.RightTypedExpressions.{promoted_is, ValueRight, RightAs, converted_right, fits_scalar, assigned_right, condition_right}
 use Rattle.c_rules_laws.proofs.RightExpressions.{strings_first, strings_rest, ValueBoth, value_right}
@@ -50,23 +51,15 @@ no_default [] h = refl
 no_default (Case x ∷ ls) h = no_default ls h
 no_default (Default ∷ ls) h = absurd (cc)
 
-not_true : (b : Bool) → not b ≡ true → b ≡ false
-not_true true h = absurd (cc)
-not_true false h = refl
-
 one_default : (ls : List TLabel) → are_distinct ls ≡ true → defaults_among ls ≤ 1
 one_default [] h = omega arith
 one_default (Case x ∷ ls) h = one_default ls (and_right (not (is_case_of x ls)) (are_distinct ls) h)
-one_default (Default ∷ ls) h = (let z = no_default ls (not_true (has_default ls) (and_left (not (has_default ls)) (are_distinct ls) h)) in omega (arith, z))
+one_default (Default ∷ ls) h = (let z = no_default ls (not-true (has_default ls) (and_left (not (has_default ls)) (are_distinct ls) h)) in omega (arith, z))
 
 labels_right : (env : Env) (i : IntType) (ls : Labels) → Holds (All (IsLabel i)) (labels_of env i ls)
 labels_right env i no_labels = λ k d l. absurd (omega (arith, l))
 labels_right env i (case_label at e ls) =
-    both_hold {A = Value} (λ _. Unit {0}) (All (IsLabel i)) (All (IsLabel i)) (on (folded_value env e) (constant_value (place_of e))) (labels_of env i ls) _ (any_value (on (folded_value env e) (constant_value (place_of e)))) (labels_right env i ls) (λ x xs _ h. All-cons (IsLabel i) (Case (value_of i (number_of x))) xs (value_of_type i (number_of x)) h)
-  where
-    any_value : (r : Checked Value) → Holds (λ _. Unit {0}) r
-    any_value (fine x) = tt
-    any_value (faulty f fs) = tt
+    both_hold Any (All (IsLabel i)) (All (IsLabel i)) (on (folded_value env e) (constant_value (place_of e))) (labels_of env i ls) _ (anything (on (folded_value env e) (constant_value (place_of e)))) (labels_right env i ls) (λ x xs _ h. All-cons (IsLabel i) (Case (value_of i (number_of x))) xs (value_of_type i (number_of x)) h)
 labels_right env i (default_label at ls) = on_holds (All (IsLabel i)) (All (IsLabel i)) (labels_of env i ls) _ (labels_right env i ls) (λ xs h. All-cons (IsLabel i) Default xs tt h)
 
 module _ (p : Program) (vars : List CType) where

@@ -151,19 +151,10 @@ fact_of : {A : Type 0} (P : A → Type 0) (Q : Type 0) (r : Checked A) → Holds
 fact_of P Q r h = holds_map (λ a. P a × Q) (λ _. Q) (λ a k. k.1) r h
 
 by_value_fact : (at : ℕ) (Q : Type 0) (r : Checked TypedExpression) → Holds (λ _. Q) r → Holds (λ _. Q) (on r (callee_by_value at))
-by_value_fact at Q (fine g) h = always (callee_by_value at g)
-  where
-    always : (s : Checked Callee) → Holds (λ _. Q) s
-    always (fine c) = h
-    always (faulty f fs) = tt
-by_value_fact at Q (faulty f fs) h = tt
+by_value_fact at Q r h = on_holds (λ _. Q) (λ _. Q) r (callee_by_value at) h (λ g q. holds_map Any (λ _. Q) (λ _ _. q) (callee_by_value at g) (anything (callee_by_value at g)))
 
 no_calls_fit : (env : Env) (b : Before) (at : ℕ) (d : Expr) (r : Checked TypedExpression) → Holds (λ _. FitsAt b (calls d) (strings d)) r → Holds (λ _. FitsAt b (calls d) (strings d)) (callee env at d r)
-no_calls_fit env b at (a_name place x) r h = holds_any (callee env at (a_name place x) r)
-  where
-    holds_any : (s : Checked Callee) → Holds (λ _. FitsAt b 0 []) s
-    holds_any (fine c) = fits_none b.sites b.cells
-    holds_any (faulty f fs) = tt
+no_calls_fit env b at (a_name place x) r h = holds_map Any (λ _. FitsAt b 0 []) (λ _ _. fits_none b.sites b.cells) (callee env at (a_name place x) r) (anything (callee env at (a_name place x) r))
 no_calls_fit env b at d r h = by_value_fact at _ r h
 
 callee_counted : (env : Env) (b : Before) (at : ℕ) (d : Expr) (r : Checked TypedExpression) → Holds (Counted b (calls d) (strings d)) r → Holds (λ f. CalleeGathers all_sites (Span b (calls d)) f × FitsAt b (calls d) (strings d)) (callee env at d r)

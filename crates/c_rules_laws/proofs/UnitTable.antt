@@ -82,7 +82,7 @@ module _ (m : Mode) (u : Items) (out : Output) (lexical : IsUnitLexical u) (type
   step : Step (env_before m u) (env_behind m u)
   step = items_step u (env_before m u) nothing_before out (before_right (whole_of m u)) lexical typed
 
-  shape : HasShape (env_behind m u) (functions_of u) (objects_of u) out
+  pub shape : HasShape (env_behind m u) (functions_of u) (objects_of u) out
   shape = items_shape u (env_behind m u) (env_before m u) nothing_before out (before_right (whole_of m u)) lexical typed (follows_self (env_behind m u))
 
   function_at : (x : Name) (b : Binding) (t : CType) (d : Bool) (i : ℕ) → lookup (env_behind m u).names x ≡ Some b → b.means ≡ a_function t d → number_among (env_behind m u).whole.functions x ≡ Some i → (f : Function) × (slice_get out.functions i ≡ Some f) × (f.ctype ≡ t)

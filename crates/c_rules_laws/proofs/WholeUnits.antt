@@ -28,7 +28,7 @@ use Rattle.c_rules_laws.proofs.MadeTypes.{type_is}
 use Rattle.c_rules_laws.proofs.SitesOfExpressions.{AreShort}
 use Rattle.c_rules_laws.proofs.FileScopes.{IsFileRight, follows_self}
 use Rattle.c_rules_laws.proofs.UnitShape.{Zip, zip_at, zip_long, IsFunctionOf, IsObjectOf, HasShape, items_shape}
-use Rattle.c_rules_laws.proofs.UnitTable.{parts_of_program, before_right}
+use Rattle.c_rules_laws.proofs.UnitTable.{parts_of_program, before_right, shape}
 use Rattle.c_rules_laws.specs.Programs.{calls_of_unit}
 use Rattle.c_rules_laws.proofs.Spans.{Spans, items_span}
 use Rattle.c_rules_laws.proofs.StaticStrings.{strings_static}
@@ -110,9 +110,6 @@ module _ (m : Mode) (u : Items) (out : Output) (lexical : IsUnitLexical u) (type
   start : IsFileRight (env_before m u)
   start = before_right (whole_of m u)
 
-  shape : HasShape (env_behind m u) (functions_of u) (objects_of u) out
-  shape = items_shape u (env_behind m u) (env_before m u) nothing_before out start lexical typed (follows_self (env_behind m u))
-
   names : Defines (env_before m u) (env_behind m u) (functions_of u)
   names = items_define u (env_before m u) start nothing_before out lexical typed
 
@@ -125,8 +122,8 @@ module _ (m : Mode) (u : Items) (out : Output) (lexical : IsUnitLexical u) (type
   have_names : HaveNames out.functions
   have_names = record {
     names = parts.names;
-    differ = pairs_differ (env_behind m u) (functions_of u) out.functions shape.functions names.differ;
-    apart = all_apart (env_behind m u) m (functions_of u) out.functions shape.functions names.apart;
+    differ = pairs_differ (env_behind m u) (functions_of u) out.functions (shape m u out lexical typed).functions names.differ;
+    apart = all_apart (env_behind m u) m (functions_of u) out.functions (shape m u out lexical typed).functions names.apart;
   }
 
   -- a function that is defined stands among those of the unit
@@ -141,7 +138,7 @@ module _ (m : Mode) (u : Items) (out : Output) (lexical : IsUnitLexical u) (type
   is_main x h =
       let b = main_bound (binding_of (env_behind m u) x) h in
       let i = some_is (number_among (functions_of u) x) (stands x (b.0, of_none int, b.1, b.2)) in
-      let z = zip_at (IsFunctionOf (env_behind m u)) (functions_of u) out.functions i.0 x shape.functions (name_at (functions_of u) x i.0 i.1) in
+      let z = zip_at (IsFunctionOf (env_behind m u)) (functions_of u) out.functions i.0 x (shape m u out lexical typed).functions (name_at (functions_of u) x i.0 i.1) in
       let c = one_binding (lookup (env_behind m u).names x) b.0 z.2.2.0 b.1 z.2.2.1 in
       (z.0, ap (λ o. slice_get out.functions (unwrap_or o 0)) i.1 ∙ z.1, same_function (of_none int) z.0.ctype true true (sym b.2 ∙ (ap (λ b. b.means) (sym c) ∙ z.2.2.2)))
 
@@ -153,13 +150,13 @@ module _ (m : Mode) (u : Items) (out : Output) (lexical : IsUnitLexical u) (type
     structs = parts.structs;
     functions = parts.functions;
     names = have_names;
-    statics = all_static (env_behind m u) (program_of m u out) (objects_of u) out.statics (map static_string (strings_of m u)) shape.statics parts.objects (strings_static (program_of m u out) (strings_of m u) (subst AreShort (sym strings_same) spans.short));
+    statics = all_static (env_behind m u) (program_of m u out) (objects_of u) out.statics (map static_string (strings_of m u)) (shape m u out lexical typed).statics parts.objects (strings_static (program_of m u out) (strings_of m u) (subst AreShort (sym strings_same) spans.short));
     main = is_main (codes "main") main;
     sites = subst (λ n. sites_of_program (program_of m u out) ≡ range_with_len 0 n) (let c = spans.counted in let q : spans.count ≡ calls_of_unit m u = omega (arith, c) in q) spans.sites;
     few_functions =
         (let l = few_names (functions_of u) (env_behind m u).functions names.differ names.own in
         let k = names.few (omega arith) in
-        let z = zip_long (IsFunctionOf (env_behind m u)) (functions_of u) out.functions shape.functions in
+        let z = zip_long (IsFunctionOf (env_behind m u)) (functions_of u) out.functions (shape m u out lexical typed).functions in
         omega (arith, l, k, z));
     few_statics =
         (let c = spans.cells_fit (omega arith) in
