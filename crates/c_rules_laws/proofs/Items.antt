@@ -4,10 +4,10 @@ use Rattle.std.specs.Prelude.{ℤ, pos, ◌+ℤ◌, ◌+◌, map, length, nat_le
 use Rattle.c_tree.specs.Tree.{CType, Function}
 use Rattle.c_tree.specs.Layout.{cells, cells_of_all}
 use Rattle.c_tree.specs.Operators.{fits_int}
-use Rattle.c_syntax.specs.Tree.{Ident, Storage, extern, Spec, Declarator, MaybeInit, no_init, an_init, one, list, Parts, no_parts, more_parts, Decl, decl}
+use Rattle.c_syntax.specs.Tree.{Ident, Storage, extern, Spec, Declarator, MaybeInit, no_init, an_init, one, list, Parts, no_parts, more_parts, decl}
 use Rattle.c_syntax.specs.Tree.{Maybe, absent, there, Declarators, no_declarators, more_declarators, Members, no_members, more_members, Enumerators, no_enumerators, more_enumerators}
 use Rattle.c_syntax.specs.Tree.{Tag, no_tag, tag, Stmt, BlockItems, Item, struct_item, enum_item, tag_item, decl_item, function_item, Items, no_items, more_items}
-use Rattle.c_syntax.specs.Same.{unplaced_ident, unplaced_spec, unplaced, unplaced_maybe, unplaced_declarator, unplaced_maybe_init, unplaced_parts, unplaced_decl, unplaced_stmt, unplaced_block_items, unplaced_declarators, unplaced_members, unplaced_enumerators, unplaced_tag, unplaced_item, unplaced_unit}
+use Rattle.c_syntax.specs.Same.{unplaced_ident, unplaced_spec, unplaced, unplaced_maybe, unplaced_declarator, unplaced_maybe_init, unplaced_parts, unplaced_stmt, unplaced_block_items, unplaced_declarators, unplaced_members, unplaced_enumerators, unplaced_tag, unplaced_item, unplaced_unit}
 use Rattle.c_rules.specs.Checked.{Checked, fine, faulty, on, gives, Met, met}
 use Rattle.c_rules.specs.Codes.{C2, C3, C6, C11, C12, C13, C14}
 use Rattle.c_rules.specs.Constants.{number_of}
@@ -23,7 +23,7 @@ use Rattle.c_rules.specs.Objects.{Object, object_declared}
 use Rattle.c_rules.specs.Tags.{tags_of_enumerators}
 use Rattle.c_rules.specs.Variables.{calls_of_block}
 use Rattle.c_rules.specs.Functions.{declares_function, held_by_typed, is_defined_by, function_declared, items_of_body, defined_as}
-use Rattle.c_rules.specs.Items.{Output, no_output, with_output, free_tag, member_typed, new_member, member_named, member_declared, with_option, names_behind, members_declared, members, struct_laid, is_incomplete, new_struct, struct_definition, struct_or_unknown, tag_declaration, int_value, enumerator_value, one_more_than, enumerator_meaning, behind_enumerator, enumerators, behind_enumerators, new_enum, behind_enum_tag, defines, may_follow_object, object_name, few_static, global_object, global_declared, behind_global, within_global, static_of, after_object, definition_of, global, without_init, prototype, declared_part, named_part, behind_declared, behind_named_part, behind_file_part, after_global, after_declared, after_file_part, file_parts, behind_file_parts, after_file_parts, file_decl, behind_file_decl, after_file_decl, output_of_function, behind_defined, function_named, behind_function_named, after_function, item, behind_by_form, behind_item, after_item, items, behind_items, after_items}
+use Rattle.c_rules.specs.Items.{Output, no_output, with_output, free_tag, member_typed, new_member, member_named, member_declared, with_option, names_behind, members_declared, members, struct_laid, is_incomplete, new_struct, struct_definition, struct_or_unknown, tag_declaration, int_value, enumerator_value, one_more_than, enumerator_meaning, behind_enumerator, enumerators, behind_enumerators, new_enum, behind_enum_tag, defines, may_follow_object, object_name, few_static, global_object, global_declared, behind_global, within_global, static_of, after_object, definition_of, global, without_init, prototype, declared_part, named_part, behind_declared, behind_named_part, behind_file_part, after_global, after_declared, after_file_part, file_parts, behind_file_parts, after_file_parts, output_of_function, behind_defined, function_named, behind_function_named, after_function, item, behind_by_form, behind_item, after_item, items, behind_items, after_items}
 use Rattle.c_rules.proofs.ModeItems.{global_fine}
 use Rattle.c_rules_laws.proofs.Leads.{first_fine, on_fine}
 use Rattle.c_rules_laws.proofs.Alike.{Alike, alike, fine_there, on_alike, gives_alike, both_alike, demand_alike, and_alike, fault_alike}

@@ -21,7 +21,6 @@ use Rattle.c_tree.specs.Operators.{Answer, binary, table_of, where_shift}
 use Rattle.c_tree.specs.Kinds.{Lies}
 use Rattle.c_tree.specs.Typed.{IsValue, IsPlace, AreArguments, AreMembersAfter}
 use Rattle.c_tree.proofs.OperatorLemmas.{value_of_type}
-use Rattle.c_rules.specs.Checked.{Checked, fine, faulty, Met}
 use Rattle.c_rules.specs.Names.{Name, number_among}
 use Rattle.c_rules.specs.Types.{same_type, is_integer, is_function, is_scalar, is_void, count}
 use Rattle.c_rules.specs.Scopes.{Env, Struct, defined_struct, Member, struct_of, type_of_member, layout_of}
@@ -304,11 +303,7 @@ module _ (p : Program) (vars : List CType) where
     pointer_object : (at : ℕ) (u t : CType) → u ≡ pointer t → Made (layout_of env) u → Holds (λ _. IsObjectPointer p.structs u) (complete env at t)
     pointer_object at u t e m =
         let n : NotArray t × Made (layout_of env) t = subst (Made (layout_of env)) e m in
-        by_part (complete env at t) (complete_known env at t n.1)
-      where
-        by_part : (r : Checked Met) → Holds (λ _. IsComplete (layout_of env) t) r → Holds (λ _. IsObjectPointer p.structs u) r
-        by_part (fine a) c = (t, e, object_in (layout_of env) p.structs w t (let n : NotArray t × Made (layout_of env) t = subst (Made (layout_of env)) e m in n.0) c)
-        by_part (faulty f fs) c = tt
+        holds_map (λ _. IsComplete (layout_of env) t) (λ _. IsObjectPointer p.structs u) (λ _ c. (t, e, object_in (layout_of env) p.structs w t n.0 c)) (complete env at t) (complete_known env at t n.1)
 
     pointer_plus_right : (t : CType) (a b : TypedExpression) → a.ctype ≡ pointer t → IsObjectPointer p.structs a.ctype → IsIntegerType b.ctype → ValueRight p vars a → ValueRight p vars b → TypedExpressionRight p vars (pointer_plus t a b)
     pointer_plus_right t a b e o s h k =

@@ -9,7 +9,7 @@ use Rattle.c_tree.specs.declared.value.BinOp.TheVariants.{Add, Sub}
 use Rattle.c_tree.specs.Tree.{CType}
 use Rattle.c_syntax.specs.Tree.{Expr, a_name, an_int, a_char, a_str, comma, sizeof_type, cast, call, member, postfix, prefix, unary, index, binary, assign, conditional, Exprs, no_exprs, more_exprs}
 use Rattle.c_syntax.specs.Tree.{Postfix, post_increment, post_decrement, pre_increment, pre_decrement, sizeof, Access, dot, arrow, Infix, and, or, operator}
-use Rattle.c_rules.specs.Checked.{Checked, fine, faulty, on, both, gives, demand, met}
+use Rattle.c_rules.specs.Checked.{Checked, fine, on, both, gives, demand, met}
 use Rattle.c_rules.specs.Limits.{most_calls}
 use Rattle.c_rules.specs.Names.{Name}
 use Rattle.c_rules.specs.Scopes.{Env, Binding, Meaning, a_static, a_function, unknown, Context, evaluated, sized, in_context, Before, nothing_before, binding_of}
@@ -17,7 +17,7 @@ use Rattle.c_rules.specs.Counts.{place_of, calls, calls_of_all, strings, strings
 use Rattle.c_rules.specs.TypedExpression.{TypedExpression}
 use Rattle.c_rules.specs.Conversions.{valued}
 use Rattle.c_rules.specs.PrimaryExpressions.{used, object_number, function_number, function_value_number, typed_int, meant, bound, integer_expression, string_fits, string_number, typed_string}
-use Rattle.c_rules.specs.PostfixExpressions.{Designator, direct, through, Callee, site_in, site_of, callee_of_type, callee_by_value, called, member_of}
+use Rattle.c_rules.specs.PostfixExpressions.{Designator, direct, through, site_in, site_of, callee_of_type, callee_by_value, called, member_of}
 use Rattle.c_rules.specs.UnaryExpressions.{address, indirection, unary_of_value, size_of, size_of_expression, size_of_type, cast_of, null_cast}
 use Rattle.c_rules.specs.BinaryExpressions.{operator_of_code, sum, choice}
 use Rattle.c_rules.specs.Assignments.{assignable, assignment_by, step, comma_of}

@@ -19,6 +19,7 @@ use Rattle.c_rules.specs.Initialisers.{initialised_static, value_of_constant, va
 use Rattle.c_rules.specs.Objects.{Object, object_declared}
 use Rattle.c_rules.specs.Functions.{parameters_of, is_defined_by, declares_function, held_by_type, held_by_typed, function_declared, items_of_body, defined_as}
 use Rattle.c_rules.specs.Items.{meaning_of_global, Output, no_output, with_output, static_of, without_init, output_of_function, defines, global_declared, seen_of_global, behind_global, within_global, after_object, definition_of, global, declared_part, named_part, behind_declared, behind_named_part, behind_file_part, after_global, after_declared, after_file_part, file_parts, behind_file_parts, after_file_parts, after_file_decl, behind_defined, function_named, behind_function_named, item, behind_item, behind_by_form, after_item, items, behind_items, after_items}
+use Rattle.c_rules.proofs.NothingMore.{nothing_more}
 use Rattle.c_meaning_laws.proofs.Places.{get_left, get_right}
 use Rattle.c_rules_laws.specs.Lexical.{IsMaybeInitLexical, ArePartsLexical, IsStmtLexical, AreItemsLexical, IsItemLexical, IsUnitLexical}
 use Rattle.c_rules_laws.specs.MadeTypes.{Made, IsSized}
@@ -43,11 +44,7 @@ abbrev pub Begins : {A : Type 0} → List A → List A → Type 0
 Begins {A} xs ys = (zs : List A) × (ys ≡ xs ++ zs)
 
 pub begins_self : (xs : List (List ℕ)) → Begins xs xs
-begins_self xs = ([], sym (none xs))
-  where
-    none : (xs : List (List ℕ)) → xs ++ [] ≡ xs
-    none [] = refl
-    none (x ∷ xs) = ap (λ ys. x ∷ ys) (none xs)
+begins_self xs = ([], sym (nothing_more xs))
 
 begins_on : (xs ys zs : List (List ℕ)) → Begins xs ys → Begins ys zs → Begins xs zs
 begins_on xs ys zs h k = (h.0 ++ k.0, k.1 ∙ (ap (λ v. v ++ k.0) h.1 ∙ append_assoc xs h.0 k.0))

@@ -26,8 +26,8 @@ use Rattle.c_rules_laws.specs.WellTyped.{IsRightObject, PartsAreRight}
 use Rattle.c_rules_laws.proofs.Holding.{on_fine, demand_fine, and_left, and_right, Each}
 use Rattle.c_rules_laws.proofs.MadeTypes.{type_is}
 use Rattle.c_rules_laws.proofs.SitesOfExpressions.{AreShort}
-use Rattle.c_rules_laws.proofs.FileScopes.{IsFileRight, follows_self}
-use Rattle.c_rules_laws.proofs.UnitShape.{Zip, zip_at, zip_long, IsFunctionOf, IsObjectOf, HasShape, items_shape}
+use Rattle.c_rules_laws.proofs.FileScopes.{IsFileRight}
+use Rattle.c_rules_laws.proofs.UnitShape.{Zip, zip_at, zip_long, IsFunctionOf, IsObjectOf}
 use Rattle.c_rules_laws.proofs.UnitTable.{parts_of_program, before_right, shape}
 use Rattle.c_rules_laws.specs.Programs.{calls_of_unit}
 use Rattle.c_rules_laws.proofs.Spans.{Spans, items_span}
@@ -142,15 +142,12 @@ module _ (m : Mode) (u : Items) (out : Output) (lexical : IsUnitLexical u) (type
       let c = one_binding (lookup (env_behind m u).names x) b.0 z.2.2.0 b.1 z.2.2.1 in
       (z.0, ap (λ o. slice_get out.functions (unwrap_or o 0)) i.1 ∙ z.1, same_function (of_none int) z.0.ctype true true (sym b.2 ∙ (ap (λ b. b.means) (sym c) ∙ z.2.2.2)))
 
-  strings_same : strings_of m u ≡ spans.more
-  strings_same = spans.strings
-
   whole_program : IsProgram (program_of m u out) (calls_of_unit m u)
   whole_program = record {
     structs = parts.structs;
     functions = parts.functions;
     names = have_names;
-    statics = all_static (env_behind m u) (program_of m u out) (objects_of u) out.statics (map static_string (strings_of m u)) (shape m u out lexical typed).statics parts.objects (strings_static (program_of m u out) (strings_of m u) (subst AreShort (sym strings_same) spans.short));
+    statics = all_static (env_behind m u) (program_of m u out) (objects_of u) out.statics (map static_string (strings_of m u)) (shape m u out lexical typed).statics parts.objects (strings_static (program_of m u out) (strings_of m u) (subst AreShort (sym spans.strings) spans.short));
     main = is_main (codes "main") main;
     sites = subst (λ n. sites_of_program (program_of m u out) ≡ range_with_len 0 n) (let c = spans.counted in let q : spans.count ≡ calls_of_unit m u = omega (arith, c) in q) spans.sites;
     few_functions =
@@ -163,7 +160,7 @@ module _ (m : Mode) (u : Items) (out : Output) (lexical : IsUnitLexical u) (type
         let n = spans.many in
         let a = length-append out.statics (map static_string (strings_of m u)) in
         let k = length-map (strings_of m u) static_string in
-        let s : length (strings_of m u) ≡ length spans.more = ap length strings_same in
+        let s : length (strings_of m u) ≡ length spans.more = ap length spans.strings in
         omega (arith, c, n, a, k, s));
     few_sites = spans.sites_fit (omega arith);
   }
