@@ -1,5 +1,5 @@
 -- The cells of a static object that is fine are constants with values.
-use Rattle.std.proofs.Common.{◌≡◌, ℕ, zero, suc, ◌-◌, Bool, true, List, [], ◌∷◌, ◌++◌, map, replicate, length, Option, Some, nat_le, refl, sym, subst}
+use Rattle.std.proofs.Common.{◌≡◌, ℕ, zero, suc, ◌-◌, Bool, true, false, List, [], ◌∷◌, ◌++◌, map, replicate, length, Option, Some, nat_le, refl, sym, subst}
 use Rattle.c_tree.specs.declared.value.IntType.TheVariants.{Char}
 use Rattle.c_tree.specs.Tree.{CType, void, integer, pointer, array}
 use Rattle.c_tree.specs.Layout.{Structs, repeat, flat, flat_all}
@@ -7,7 +7,7 @@ use Rattle.c_syntax.specs.Tree.{Init, one, list, MaybeInit, no_init, an_init}
 use Rattle.c_syntax.specs.Tree as syntax
 use Rattle.c_rules.specs.Checked.{Checked, fine, on}
 use Rattle.c_rules.specs.Scopes.{Env, layout_of, Before}
-use Rattle.c_rules.specs.TypedExpression.{TypedExpression, Constant, not_constant, undefined, known}
+use Rattle.c_rules.specs.TypedExpression.{TypedExpression, Constant, known}
 use Rattle.c_rules.specs.Conversions.{as_if_assigned}
 use Rattle.c_rules.specs.Expressions.{value}
 use Rattle.c_rules.specs.Initialisers.{Slots, copies, each, slots, capacity, takes_list, count_inits, text_of, typed_zero, typed_char, zeros, chars, defined_cell, cell_of, scalar_cell, array_cells, cells_of_list, after_init, initialised, in_turn, initialised_static, text_fits}
@@ -15,9 +15,8 @@ use Rattle.c_rules_laws.proofs.Holding.{Holds, on_holds, both_hold, demand_holds
 
 -- a constant with a value
 abbrev pub IsKnownConstant : Constant → Type 0
-IsKnownConstant not_constant = ⊥
-IsKnownConstant undefined = ⊥
 IsKnownConstant (known x) = Unit {0}
+IsKnownConstant c = ⊥
 
 abbrev pub AllKnown : List TypedExpression → Type 0
 AllKnown = Each (λ g. IsKnownConstant g.constant)
@@ -45,6 +44,15 @@ chars_each P c n w = each_both P (map typed_char w) (replicate (n - length w) (t
 zero_known : (t : CType) → IsKnownConstant (typed_zero t).constant
 zero_known void = tt
 zero_known t = tt
+
+-- the cell that an element gives
+pub cell_holds : (Q : List TypedExpression → Type 0) (k : Bool) (at : ℕ) (g : TypedExpression) → Q (g ∷ []) → Holds Q (cell_of k at g)
+cell_holds Q false at g h = h
+cell_holds Q true at g h = by_constant g.constant
+  where
+    by_constant : (c : Constant) → Holds Q (defined_cell at g c)
+    by_constant (known x) = h
+    by_constant c = tt
 
 cell_known : (at : ℕ) (g : TypedExpression) (c : Constant) → g.constant ≡ c → Holds AllKnown (defined_cell at g c)
 cell_known at g (known x) e = (subst IsKnownConstant (sym e) tt, tt)

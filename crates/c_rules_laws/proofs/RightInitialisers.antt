@@ -19,11 +19,11 @@ use Rattle.c_syntax.specs.Tree as syntax
 use Rattle.c_rules.specs.Checked.{Checked, fine, on}
 use Rattle.c_rules.specs.Scopes.{Env, evaluated, Struct, incomplete, defined_struct, struct_of, types_of_struct, type_of_member, layout_of, Before}
 use Rattle.c_rules.specs.Counts.{calls, strings, past}
-use Rattle.c_rules.specs.TypedExpression.{TypedExpression, Constant, not_constant, known}
+use Rattle.c_rules.specs.TypedExpression.{TypedExpression, Constant, not_constant}
 use Rattle.c_rules.specs.Conversions.{as_if_assigned}
 use Rattle.c_rules.specs.PrimaryExpressions.{string_number}
 use Rattle.c_rules.specs.Expressions.{value}
-use Rattle.c_rules.specs.Initialisers.{Slots, copies, each, members_of_struct, slots, capacity, takes_list, count_inits, text_of, typed_zero, typed_char, zeros, chars, defined_cell, cell_of, scalar_cell, array_cells, cells_of_list, held_by_one, held, held_in_turn, calls_of_init, calls_of_inits, after_init, initialised, in_turn, held_by, calls_of_maybe_init, initialised_local, initialised_static, stores_from, text_fits}
+use Rattle.c_rules.specs.Initialisers.{Slots, copies, each, members_of_struct, slots, capacity, takes_list, count_inits, text_of, typed_zero, typed_char, zeros, chars, cell_of, scalar_cell, array_cells, cells_of_list, held_by_one, held, held_in_turn, calls_of_init, calls_of_inits, after_init, initialised, in_turn, held_by, calls_of_maybe_init, initialised_local, initialised_static, stores_from, text_fits}
 use Rattle.c_meaning_laws.proofs.Places.{struct_is, flat_scalar}
 use Rattle.c_rules_laws.specs.Lexical.{IsInitLexical, AreInitsLexical, IsMaybeInitLexical}
 use Rattle.c_rules_laws.specs.MadeTypes.{Made}
@@ -34,7 +34,7 @@ use Rattle.c_rules_laws.proofs.SoundStructs.{are_structs}
 use Rattle.c_rules_laws.proofs.RightTypedExpressions.{constant_value, ValueRight, RightAs, null_right, as_if_right}
 use Rattle.c_rules_laws.proofs.RightExpressions.{strings_first, strings_rest, ValueBoth, value_right}
 pub use Rattle.c_rules_laws.proofs.KnownCells.{IsKnownConstant, AllKnown}
-use Rattle.c_rules_laws.proofs.KnownCells.{static_known, zeros_each, slots_each, chars_each}
+use Rattle.c_rules_laws.proofs.KnownCells.{static_known, zeros_each, slots_each, chars_each, cell_holds}
 use Rattle.c_rules.proofs.EntryLemmas.{none_is_no_list}
 use Rattle.c_rules.proofs.NothingMore.{nothing_more}
 use Rattle.c_rules_laws.specs.ConstantForm.{IsConst}
@@ -125,12 +125,7 @@ module _ (p : Program) (vars : List CType) where
       (types_both (repeat (length w) (integer Char ∷ [])) (repeat (n - length w) (integer Char ∷ [])) (map typed_char w) (replicate (n - length w) (typed_char 0)) (chars_of w) (char_ends (n - length w)))
 
   cell_right : (k : Bool) (at : ℕ) (t : CType) (g : TypedExpression) → RightAs p vars t g → Holds (TypesAre (t ∷ [])) (cell_of k at g)
-  cell_right false at t g h = (h.1, h.0, tt)
-  cell_right true at t g h = by_constant g.constant
-    where
-      by_constant : (c : Constant) → Holds (TypesAre (t ∷ [])) (defined_cell at g c)
-      by_constant (known x) = (h.1, h.0, tt)
-      by_constant c = tt
+  cell_right k at t g h = cell_holds (TypesAre (t ∷ [])) k at g (h.1, h.0, tt)
 
   scalar_right : (env : Env) (k : Bool) (at : ℕ) (t : CType) (r : Checked TypedExpression) → Holds (ValueBoth p vars env) r → Holds (TypesAre (t ∷ [])) (scalar_cell k at t r)
   scalar_right env k at t r h =
@@ -217,12 +212,7 @@ one_given : (xs : List ℕ) (g : TypedExpression) → Gathers all_sites xs g →
 one_given xs g h = (xs, [], h, refl, sym (nothing_more xs))
 
 cell_counted : (k : Bool) (at : ℕ) (b : Before) (n : ℕ) (ws : List (List ℕ)) (g : TypedExpression) → Counted b n ws g → Holds (InitCounted b n ws) (cell_of k at g)
-cell_counted false at b n ws g h = (one_given (Span b n) g h.0, h.1)
-cell_counted true at b n ws g h = by_constant g.constant
-  where
-    by_constant : (c : Constant) → Holds (InitCounted b n ws) (defined_cell at g c)
-    by_constant (known x) = (one_given (Span b n) g h.0, h.1)
-    by_constant c = tt
+cell_counted k at b n ws g h = cell_holds (InitCounted b n ws) k at g (one_given (Span b n) g h.0, h.1)
 
 scalar_counted : (k : Bool) (at : ℕ) (t : CType) (b : Before) (n : ℕ) (ws : List (List ℕ)) (r : Checked TypedExpression) → Holds (Counted b n ws) r → Holds (InitCounted b n ws) (scalar_cell k at t r)
 scalar_counted k at t b n ws r h =
