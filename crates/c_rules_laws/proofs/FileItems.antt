@@ -5,7 +5,7 @@ use Rattle.std.specs.Prelude.{is_none}
 use Rattle.std.proofs.lemmas.Bool.{leb-true}
 use Rattle.std.proofs.lemmas.List.{length-map}
 use Rattle.std.proofs.lemmas.Bool.{or_right, not-true}
-use Rattle.c_tree.specs.Tree.{CType, void, pointer, array, function, CTypes}
+use Rattle.c_tree.specs.Tree.{CType, void, array, function, CTypes}
 use Rattle.c_tree.specs.Layout.{cells, cells_of_all}
 use Rattle.c_tree.specs.Operators.{fits_int}
 use Rattle.c_syntax.specs.Tree.{Ident, Storage, Spec, Declarator, MaybeInit, Parts, no_parts, more_parts, decl, Maybe, absent, there, Stmt, Members, Enumerators, no_enumerators, more_enumerators, Tag, no_tag, tag, Item, struct_item, enum_item, tag_item, decl_item, function_item, Items, no_items, more_items}
