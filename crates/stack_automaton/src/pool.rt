@@ -32,7 +32,6 @@ const TRIED: u32 = 1_024;
 /// final key, at which every stack ends, the keys that are noted for a sweep, and the events whose keys
 /// are remembered, up to 65,536 facts of them. The configuration of a node v with the open sites s1 to
 /// sk is held from a key where edges labelled v, s1, .., sk lead from it to the final key.
-#[derive(Drop)]
 pub struct Pool {
     alloc: Global,
     states: Slab<State>,
@@ -44,6 +43,22 @@ pub struct Pool {
     room: Room,
     // How many of the last events, one after another, weren't remembered.
     misses: u32,
+}
+
+// Written, so that the crates that own a pool prove no more than a call of it where they drop one.
+impl Drop for Pool {
+    fn drop(self) {
+        let Self {
+            alloc: _,
+            states: _states,
+            shared: _shared,
+            last: _,
+            notes: _notes,
+            memo: _memo,
+            room: _room,
+            misses: _,
+        } = self;
+    }
 }
 
 impl std::marker::Model for Pool {
