@@ -28,13 +28,9 @@ use Rattle.null_calls_texts_laws.proofs.Writable.{FitsWhere, block_writes}
 
 -- ## Bodies
 
-body_fine : (body : Stmt) → IsFineBody body → AreFineBlockItems (items_of_body body)
-body_fine (block at is) h = h
+body_fine : (body : Stmt) → IsFineBody body → AreFineBlockItems (items_of_body body) × (suc (height_of_block_items (items_of_body body)) ≤ height_of_stmt body)
+body_fine (block at is) h = (h, omega arith)
 body_fine body h = absurd h
-
-body_low : (body : Stmt) → IsFineBody body → suc (height_of_block_items (items_of_body body)) ≤ height_of_stmt body
-body_low (block at is) h = omega arith
-body_low body h = absurd h
 
 body_writes : (body : Stmt) → IsWritableStmt body → AreWritableBlockItems (items_of_body body)
 body_writes (block at is) h = h
@@ -72,11 +68,11 @@ module _ (p : Program) (tags : List Name) (fit : (s : ℕ) → FitsWhere (sites_
       let t = facts.3.temporaries in
       let low = declared_low e.enums tags stood at xs later t.written in
       let rest = block_low (sites_of p) is b.sites facts.3.named in
-      let own = body_low body f.2 in
+      let own = body_fine body f.2 in
       record {
-        fine = (f.0, f.1, declared_fine e.enums tags stood at xs later t.written (block_fine (sites_of p) is b.sites (body_fine body f.2)));
+        fine = (f.0, f.1, declared_fine e.enums tags stood at xs later t.written (block_fine (sites_of p) is b.sites own.0));
         writes = (w.0, w.1, declared_write e.enums tags stood at names b.sites _ xs later t.written t.sites (block_writes (sites_of p) fit is b.sites (body_writes body w.2)));
-        low = function_low (height_of_declarator d) (height_of_stmt body) (height_of_block_items is) (height_of_block_items later) _ l own rest low;
+        low = function_low (height_of_declarator d) (height_of_stmt body) (height_of_block_items is) (height_of_block_items later) _ l own.1 rest low;
       }
   good_item i e b facts f w l names = record { fine = f; writes = w; low = omega (arith, l) }
 
