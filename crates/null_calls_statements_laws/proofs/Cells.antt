@@ -43,8 +43,7 @@ module _ (p : Program) where
   cells_both [] (h ∷ hs) cs ds k c d = absurd c
   cells_both (g ∷ gs) [] cs ds k c d = absurd c
   cells_both (g ∷ gs) (h ∷ hs) cs ds k c d =
-      let l : length (kept p true (tree_of g) ++ kept_of_cells gs) ≡ length (kept p true (tree_of g)) + length (kept_of_cells gs) = length-append (kept p true (tree_of g)) (kept_of_cells gs) in
-      let e : k + length (kept p true (tree_of g) ++ kept_of_cells gs) ≡ (k + length (kept p true (tree_of g))) + length (kept_of_cells gs) = omega (arith, l) in
+      let e : k + length (kept p true (tree_of g) ++ kept_of_cells gs) ≡ (k + length (kept p true (tree_of g))) + length (kept_of_cells gs) = omega (arith, length-append (kept p true (tree_of g)) (kept_of_cells gs)) in
       (c.0, cells_both gs hs cs ds (k + length (kept p true (tree_of g))) c.1 (subst (λ n. Cells n cs ds) e d))
 
   pub both_go : (k : ℕ) (ts us all : List CType) → ts ++ us ≡ all → (r r' s s' : Checked (List TypedExpression)) → CellsGo k ts r r' → CellsGo (k + length ts) us s s' → CellsGo k all (both r s (λ gs hs. fine (gs ++ hs))) (both r' s' (λ gs hs. fine (gs ++ hs)))

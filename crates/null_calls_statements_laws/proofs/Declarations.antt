@@ -204,8 +204,7 @@ firsts_go p sites names e f st b b' next next' k first_absent named tabled found
     record { laid = nothing_follows p k; scopes = λ q h. st; near = λ q h. near_past b b' 0 0 [] [] near (omega arith) refl; numbers = same }
 firsts_go p sites names e f (stand_beside env w u a n z) b b' next next' k (first_expr x) named tabled found near same =
     record {
-      laid = expression_follows p k (types_of (kept sites b.sites false x)) (value (plain_scope env) b x) (value (instrumented_scope env w) b' (expr sites b.sites false x))
-          ((all_expressions_go p sites env w u a n x).unused b b' k named tabled (temporaries_stay sites names w.names z b.sites k false x found) near);
+      laid = expression_follows p k _ _ _ ((all_expressions_go p sites env w u a n x).unused b b' k named tabled (temporaries_stay sites names w.names z b.sites k false x found) near);
       scopes = λ q h. stand_beside env w u a n z;
       near = λ q h. places_near sites b b' false x named near;
       numbers = same;

@@ -36,8 +36,7 @@ appended_instrumented p k typed.no_stmts ys = (let e : k ≡ k + 0 = omega arith
 appended_instrumented p k (typed.more_stmts x xs) ys =
     let ts : List CType = with_null_calls.kept_of_stmt p x in
     let us : List CType = with_null_calls.kept_of_stmts p xs in
-    let l : length (ts ++ us) ≡ length ts + length us = length-append ts us in
-    let e : k + length ts + length us ≡ k + length (ts ++ us) = omega (arith, l) in
+    let e : k + length ts + length us ≡ k + length (ts ++ us) = omega (arith, length-append ts us) in
     ap (typed.more_stmts (with_null_calls.stmt p k x)) (appended_instrumented p (k + length ts) xs ys ∙ ap (λ n. appended (with_null_calls.stmts p (k + length ts) xs) (with_null_calls.stmts p n ys)) e)
 
 module _ (p : Program) where

@@ -161,10 +161,8 @@ module _ (p : Program) (sites : Sites) (names : List Binding) where
   stmts_numbers : (ss : Stmts) (b : ℕ) (next next' : Next) → StmtsNamed sites b ss → SameNumber next next' → SameNumber (past_names next (names_of_stmts ss)) (past_names next' (names_of_stmts (with_null_calls.stmts sites b ss)))
   stmts_numbers no_stmts b next next' n m = m
   stmts_numbers (more_stmts s ss) b next next' n m =
-      let i : SameNumber (past_names (past_names next (names_of_stmt s)) (names_of_stmts ss)) (past_names (past_names next' (names_of_stmt (with_null_calls.stmt sites b s))) (names_of_stmts (with_null_calls.stmts sites (b + calls_of_stmt s) ss)))
-      = stmts_numbers ss (b + calls_of_stmt s) (past_names next (names_of_stmt s)) (past_names next' (names_of_stmt (with_null_calls.stmt sites b s))) n.1 (stmt_numbers b s next next' n.0 m) in
-      subst (λ x. SameNumber x (past_names next' (names_of_stmt (with_null_calls.stmt sites b s) ++ names_of_stmts (with_null_calls.stmts sites (b + calls_of_stmt s) ss)))) (sym (names_past next (names_of_stmt s) (names_of_stmts ss)))
-      (subst (λ x. SameNumber (past_names (past_names next (names_of_stmt s)) (names_of_stmts ss)) x) (sym (names_past next' (names_of_stmt (with_null_calls.stmt sites b s)) (names_of_stmts (with_null_calls.stmts sites (b + calls_of_stmt s) ss)))) i)
+      let i = stmts_numbers ss (b + calls_of_stmt s) (past_names next (names_of_stmt s)) (past_names next' (names_of_stmt (with_null_calls.stmt sites b s))) n.1 (stmt_numbers b s next next' n.0 m) in
+      ap (λ (z : Next). z.plain) (names_past next' (names_of_stmt (with_null_calls.stmt sites b s)) _) ∙ (i ∙ sym (ap (λ (z : Next). z.plain) (names_past next (names_of_stmt s) _)))
 
   abbrev X : Before → Expr → Expr
   X b x = expr sites b.sites true x
