@@ -38,58 +38,16 @@ post_calls at site false e = omega arith
 
 name_strings : (d : Expr) → IsName d → strings d ≡ []
 name_strings (a_name at x) h = refl
-name_strings (an_int at n u) h = absurd h
-name_strings (a_char at c) h = absurd h
-name_strings (a_str at w) h = absurd h
-name_strings (comma at es) h = absurd h
-name_strings (sizeof_type at t) h = absurd h
-name_strings (cast at t e) h = absurd h
-name_strings (call at d es) h = absurd h
-name_strings (member at how e x) h = absurd h
-name_strings (postfix at op e) h = absurd h
-name_strings (prefix at op e) h = absurd h
-name_strings (unary at op e) h = absurd h
-name_strings (index at e f) h = absurd h
-name_strings (binary at op e f) h = absurd h
-name_strings (assign at op e f) h = absurd h
-name_strings (conditional at c e f) h = absurd h
+name_strings y h = absurd h
 
 name_calls : (d : Expr) → IsName d → calls d ≡ 0
 name_calls (a_name at x) h = refl
-name_calls (an_int at n u) h = absurd h
-name_calls (a_char at c) h = absurd h
-name_calls (a_str at w) h = absurd h
-name_calls (comma at es) h = absurd h
-name_calls (sizeof_type at t) h = absurd h
-name_calls (cast at t e) h = absurd h
-name_calls (call at d es) h = absurd h
-name_calls (member at how e x) h = absurd h
-name_calls (postfix at op e) h = absurd h
-name_calls (prefix at op e) h = absurd h
-name_calls (unary at op e) h = absurd h
-name_calls (index at e f) h = absurd h
-name_calls (binary at op e f) h = absurd h
-name_calls (assign at op e f) h = absurd h
-name_calls (conditional at c e f) h = absurd h
+name_calls y h = absurd h
 
 -- the name of what is called stays a name
 pub named_stays : (sites : Sites) (b : ℕ) (d : Expr) → IsName d → IsName (expr sites b true d)
 named_stays sites b (a_name at x) h = tt
-named_stays sites b (an_int at n u) h = absurd h
-named_stays sites b (a_char at c) h = absurd h
-named_stays sites b (a_str at w) h = absurd h
-named_stays sites b (comma at es) h = absurd h
-named_stays sites b (sizeof_type at t) h = absurd h
-named_stays sites b (cast at t e) h = absurd h
-named_stays sites b (call at d es) h = absurd h
-named_stays sites b (member at how e x) h = absurd h
-named_stays sites b (postfix at op e) h = absurd h
-named_stays sites b (prefix at op e) h = absurd h
-named_stays sites b (unary at op e) h = absurd h
-named_stays sites b (index at e f) h = absurd h
-named_stays sites b (binary at op e f) h = absurd h
-named_stays sites b (assign at op e f) h = absurd h
-named_stays sites b (conditional at c e f) h = absurd h
+named_stays sites b y h = absurd h
 
 -- the null call, the call and what follows it
 behind_strings : (at site : ℕ) (k : Bool) (d : Expr) (es : Exprs) → strings_of_all (more_exprs (null_call at pre_name site) (call_and_post at site k (call at d (kept_arguments at site 0 es)))) ≡ strings d
@@ -146,48 +104,14 @@ Operand P sites b (unary place inner e) = P (expr sites b false e)
 Operand P sites b e = Unit {0}
 
 pub by_unary : (P : Expr → Type 0) (sites : Sites) (at op : ℕ) (x : Expr) (b : ℕ) (wanted : Bool) → P (unary at op (expr sites b true x)) → Operand P sites b x → P (expr sites b wanted (unary at op x))
-by_unary P sites at op (a_name site x) b true h k = h
-by_unary P sites at op (an_int site n u) b true h k = h
-by_unary P sites at op (a_char site c) b true h k = h
-by_unary P sites at op (a_str site w) b true h k = h
-by_unary P sites at op (comma site es) b true h k = h
-by_unary P sites at op (sizeof_type site t) b true h k = h
-by_unary P sites at op (cast site t e) b true h k = h
-by_unary P sites at op (call site d es) b true h k = h
-by_unary P sites at op (member site how e x) b true h k = h
-by_unary P sites at op (postfix site o e) b true h k = h
-by_unary P sites at op (prefix site o e) b true h k = h
-by_unary P sites at op (unary place inner e) b true h k = h
-by_unary P sites at op (index site e f) b true h k = h
-by_unary P sites at op (binary site o e f) b true h k = h
-by_unary P sites at op (assign site o e f) b true h k = h
-by_unary P sites at op (conditional site c e f) b true h k = h
-by_unary P sites at op (a_name site x) b false h k = h
-by_unary P sites at op (an_int site n u) b false h k = h
-by_unary P sites at op (a_char site c) b false h k = h
-by_unary P sites at op (a_str site w) b false h k = h
-by_unary P sites at op (comma site es) b false h k = h
-by_unary P sites at op (sizeof_type site t) b false h k = h
-by_unary P sites at op (cast site t e) b false h k = h
-by_unary P sites at op (call site d es) b false h k = h
-by_unary P sites at op (member site how e x) b false h k = h
-by_unary P sites at op (postfix site o e) b false h k = h
-by_unary P sites at op (prefix site o e) b false h k = h
 by_unary P sites at op (unary place inner e) b false h k = by_type P (is_address_of_indirection op inner) (expr sites b false e) (unary at op (unary place inner (expr sites b true e))) k h
-by_unary P sites at op (index site e f) b false h k = h
-by_unary P sites at op (binary site o e f) b false h k = h
-by_unary P sites at op (assign site o e f) b false h k = h
-by_unary P sites at op (conditional site c e f) b false h k = h
+by_unary P sites at op y b true h k = h
+by_unary P sites at op y b false h k = h
 
 module _ (sites : Sites) where
   mutual
     expr_strings : (x : Expr) (b : ℕ) (wanted : Bool) → AreNamed sites b x → strings (expr sites b wanted x) ≡ strings x
-    expr_strings (a_name at x) b wanted h = refl
-    expr_strings (an_int at n u) b wanted h = refl
-    expr_strings (a_char at c) b wanted h = refl
-    expr_strings (a_str at w) b wanted h = refl
     expr_strings (comma at es) b wanted h = members_strings es b wanted h
-    expr_strings (sizeof_type at t) b wanted h = refl
     expr_strings (cast at t e) b wanted h = by_type (λ y. strings y ≡ strings e) (is_void_type t) (expr sites b false e) (expr sites b true e) (expr_strings e b false h) (expr_strings e b true h)
     expr_strings (call at d es) b wanted h =
         call_strings at (b + calls d) wanted (sites (b + calls d)) (expr sites b true d) (arguments sites (suc (b + calls d)) es) (designator_stays sites b (sites (b + calls d)) d h.0)
@@ -196,30 +120,16 @@ module _ (sites : Sites) where
     expr_strings (postfix at op e) b wanted h = expr_strings e b true h
     expr_strings (prefix at pre_increment e) b wanted h = expr_strings e b true h
     expr_strings (prefix at pre_decrement e) b wanted h = expr_strings e b true h
-    expr_strings (prefix at sizeof e) b wanted h = refl
     expr_strings (unary at op e) b wanted h = by_unary (λ y. strings y ≡ strings e) sites at op e b wanted (expr_strings e b true h) (operand_strings e b h)
     expr_strings (index at e f) b wanted h = ap₂ (λ ws vs. ws ++ vs) (expr_strings e b true h.0) (expr_strings f (b + calls e) true h.1)
     expr_strings (binary at op e f) b wanted h = ap₂ (λ ws vs. ws ++ vs) (expr_strings e b true h.0) (expr_strings f (b + calls e) true h.1)
     expr_strings (assign at op e f) b wanted h = ap₂ (λ ws vs. ws ++ vs) (expr_strings e b true h.0) (expr_strings f (b + calls e) true h.1)
     expr_strings (conditional at c e f) b wanted h = ap₂ (λ ws vs. ws ++ vs) (expr_strings c b true h.0) (ap₂ (λ ws vs. ws ++ vs) (expr_strings e (b + calls c) true h.1) (expr_strings f (b + calls c + calls e) true h.2))
+    expr_strings d b wanted h = refl
 
     operand_strings : (x : Expr) (b : ℕ) → AreNamed sites b x → Operand (λ y. strings y ≡ strings x) sites b x
-    operand_strings (a_name at x) b h = tt
-    operand_strings (an_int at n u) b h = tt
-    operand_strings (a_char at c) b h = tt
-    operand_strings (a_str at w) b h = tt
-    operand_strings (comma at es) b h = tt
-    operand_strings (sizeof_type at t) b h = tt
-    operand_strings (cast at t e) b h = tt
-    operand_strings (call at d es) b h = tt
-    operand_strings (member at how e x) b h = tt
-    operand_strings (postfix at op e) b h = tt
-    operand_strings (prefix at op e) b h = tt
     operand_strings (unary at op e) b h = expr_strings e b false h
-    operand_strings (index at e f) b h = tt
-    operand_strings (binary at op e f) b h = tt
-    operand_strings (assign at op e f) b h = tt
-    operand_strings (conditional at c e f) b h = tt
+    operand_strings y b h = tt
 
     arguments_stay : (es : Exprs) (b : ℕ) → AllNamed sites b es → strings_of_all (arguments sites b es) ≡ strings_of_all es
     arguments_stay no_exprs b h = refl
@@ -232,12 +142,7 @@ module _ (sites : Sites) where
 
   mutual
     expr_calls : (x : Expr) (b : ℕ) (wanted : Bool) → AreNamed sites b x → calls (expr sites b wanted x) ≤ 3 * calls x
-    expr_calls (a_name at x) b wanted h = omega arith
-    expr_calls (an_int at n u) b wanted h = omega arith
-    expr_calls (a_char at c) b wanted h = omega arith
-    expr_calls (a_str at w) b wanted h = omega arith
     expr_calls (comma at es) b wanted h = members_calls es b wanted h
-    expr_calls (sizeof_type at t) b wanted h = omega arith
     expr_calls (cast at t e) b wanted h = by_type (λ y. calls y ≤ 3 * calls e) (is_void_type t) (expr sites b false e) (expr sites b true e) (expr_calls e b false h) (expr_calls e b true h)
     expr_calls (call at d es) b wanted h =
         let r = call_calls at (b + calls d) wanted (sites (b + calls d)) (expr sites b true d) (arguments sites (suc (b + calls d)) es) (designator_stays sites b (sites (b + calls d)) d h.0) in
@@ -248,30 +153,16 @@ module _ (sites : Sites) where
     expr_calls (postfix at op e) b wanted h = expr_calls e b true h
     expr_calls (prefix at pre_increment e) b wanted h = expr_calls e b true h
     expr_calls (prefix at pre_decrement e) b wanted h = expr_calls e b true h
-    expr_calls (prefix at sizeof e) b wanted h = omega arith
     expr_calls (unary at op e) b wanted h = by_unary (λ y. calls y ≤ 3 * calls e) sites at op e b wanted (expr_calls e b true h) (operand_calls e b h)
     expr_calls (index at e f) b wanted h = (let m = expr_calls e b true h.0 in let n = expr_calls f (b + calls e) true h.1 in omega (arith, m, n))
     expr_calls (binary at op e f) b wanted h = (let m = expr_calls e b true h.0 in let n = expr_calls f (b + calls e) true h.1 in omega (arith, m, n))
     expr_calls (assign at op e f) b wanted h = (let m = expr_calls e b true h.0 in let n = expr_calls f (b + calls e) true h.1 in omega (arith, m, n))
     expr_calls (conditional at c e f) b wanted h = (let l = expr_calls c b true h.0 in let m = expr_calls e (b + calls c) true h.1 in let n = expr_calls f (b + calls c + calls e) true h.2 in omega (arith, l, m, n))
+    expr_calls d b wanted h = omega arith
 
     operand_calls : (x : Expr) (b : ℕ) → AreNamed sites b x → Operand (λ y. calls y ≤ 3 * calls x) sites b x
-    operand_calls (a_name at x) b h = tt
-    operand_calls (an_int at n u) b h = tt
-    operand_calls (a_char at c) b h = tt
-    operand_calls (a_str at w) b h = tt
-    operand_calls (comma at es) b h = tt
-    operand_calls (sizeof_type at t) b h = tt
-    operand_calls (cast at t e) b h = tt
-    operand_calls (call at d es) b h = tt
-    operand_calls (member at how e x) b h = tt
-    operand_calls (postfix at op e) b h = tt
-    operand_calls (prefix at op e) b h = tt
     operand_calls (unary at op e) b h = expr_calls e b false h
-    operand_calls (index at e f) b h = tt
-    operand_calls (binary at op e f) b h = tt
-    operand_calls (assign at op e f) b h = tt
-    operand_calls (conditional at c e f) b h = tt
+    operand_calls y b h = tt
 
     arguments_few : (es : Exprs) (b : ℕ) → AllNamed sites b es → calls_of_all (arguments sites b es) ≤ 3 * calls_of_all es
     arguments_few no_exprs b h = omega arith

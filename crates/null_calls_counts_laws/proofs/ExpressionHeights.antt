@@ -15,21 +15,7 @@ pub use Rattle.null_calls_counts_laws.proofs.ExpressionCounts.{by_unary, Operand
 
 some_height : (x : Expr) → 1 ≤ height x
 some_height (a_name at x) = omega arith
-some_height (an_int at n u) = omega arith
-some_height (a_char at c) = omega arith
-some_height (a_str at w) = omega arith
-some_height (comma at es) = omega arith
-some_height (sizeof_type at t) = omega arith
-some_height (cast at t e) = omega arith
-some_height (call at d es) = omega arith
-some_height (member at how e x) = omega arith
-some_height (postfix at op e) = omega arith
-some_height (prefix at op e) = omega arith
-some_height (unary at op e) = omega arith
-some_height (index at e f) = omega arith
-some_height (binary at op e f) = omega arith
-some_height (assign at op e f) = omega arith
-some_height (conditional at c e f) = omega arith
+some_height e = omega arith
 
 -- ## A marked call
 
@@ -47,21 +33,7 @@ post_low at site false e = (let s = some_height e in omega (arith, s))
 
 name_height : (d : Expr) → IsName d → height d ≡ 1
 name_height (a_name at x) h = refl
-name_height (an_int at n u) h = absurd h
-name_height (a_char at c) h = absurd h
-name_height (a_str at w) h = absurd h
-name_height (comma at es) h = absurd h
-name_height (sizeof_type at t) h = absurd h
-name_height (cast at t e) h = absurd h
-name_height (call at d es) h = absurd h
-name_height (member at how e x) h = absurd h
-name_height (postfix at op e) h = absurd h
-name_height (prefix at op e) h = absurd h
-name_height (unary at op e) h = absurd h
-name_height (index at e f) h = absurd h
-name_height (binary at op e f) h = absurd h
-name_height (assign at op e f) h = absurd h
-name_height (conditional at c e f) h = absurd h
+name_height y h = absurd h
 
 behind_low : (at site : ℕ) (k : Bool) (d : Expr) (es : Exprs) → height d ≡ 1 → height_of_exprs (more_exprs (null_call at pre_name site) (call_and_post at site k (call at d (kept_arguments at site 0 es)))) ≤ 3
 behind_low at site k d es e =
@@ -92,12 +64,7 @@ call_low at site wanted (Some c) d es h = (let m = marked_low at site (is_kept w
 module _ (sites : Sites) where
   mutual
     pub expr_low : (x : Expr) (b : ℕ) (wanted : Bool) → AreNamed sites b x → height (expr sites b wanted x) ≤ 2 * height x
-    expr_low (a_name at x) b wanted h = omega arith
-    expr_low (an_int at n u) b wanted h = omega arith
-    expr_low (a_char at c) b wanted h = omega arith
-    expr_low (a_str at w) b wanted h = omega arith
     expr_low (comma at es) b wanted h = (let k = members_low es b wanted h in omega (arith, k))
-    expr_low (sizeof_type at t) b wanted h = omega arith
     expr_low (cast at t e) b wanted h = (let k = by_type (λ y. height y ≤ 2 * height e) (is_void_type t) (expr sites b false e) (expr sites b true e) (expr_low e b false h) (expr_low e b true h) in omega (arith, k))
     expr_low (call at d es) b wanted h =
         let c = call_low at (b + calls d) wanted (sites (b + calls d)) (expr sites b true d) (arguments sites (suc (b + calls d)) es) (designator_stays sites b (sites (b + calls d)) d h.0) in
@@ -109,30 +76,16 @@ module _ (sites : Sites) where
     expr_low (postfix at op e) b wanted h = (let k = expr_low e b true h in omega (arith, k))
     expr_low (prefix at pre_increment e) b wanted h = (let k = expr_low e b true h in omega (arith, k))
     expr_low (prefix at pre_decrement e) b wanted h = (let k = expr_low e b true h in omega (arith, k))
-    expr_low (prefix at sizeof e) b wanted h = omega arith
     expr_low (unary at op e) b wanted h = by_unary (λ y. height y ≤ 2 * suc (height e)) sites at op e b wanted (let k = expr_low e b true h in omega (arith, k)) (operand_low e b h)
     expr_low (index at e f) b wanted h = (let k = expr_low e b true h.0 in let l = expr_low f (b + calls e) true h.1 in omega (arith, k, l))
     expr_low (binary at op e f) b wanted h = (let k = expr_low e b true h.0 in let l = expr_low f (b + calls e) true h.1 in omega (arith, k, l))
     expr_low (assign at op e f) b wanted h = (let k = expr_low e b true h.0 in let l = expr_low f (b + calls e) true h.1 in omega (arith, k, l))
     expr_low (conditional at c e f) b wanted h = (let j = expr_low c b true h.0 in let k = expr_low e (b + calls c) true h.1 in let l = expr_low f (b + calls c + calls e) true h.2 in omega (arith, j, k, l))
+    expr_low d b wanted h = omega arith
 
     operand_low : (x : Expr) (b : ℕ) → AreNamed sites b x → Operand (λ y. height y ≤ 2 * suc (height x)) sites b x
-    operand_low (a_name at x) b h = tt
-    operand_low (an_int at n u) b h = tt
-    operand_low (a_char at c) b h = tt
-    operand_low (a_str at w) b h = tt
-    operand_low (comma at es) b h = tt
-    operand_low (sizeof_type at t) b h = tt
-    operand_low (cast at t e) b h = tt
-    operand_low (call at d es) b h = tt
-    operand_low (member at how e x) b h = tt
-    operand_low (postfix at op e) b h = tt
-    operand_low (prefix at op e) b h = tt
     operand_low (unary at op e) b h = (let k = expr_low e b false h in omega (arith, k))
-    operand_low (index at e f) b h = tt
-    operand_low (binary at op e f) b h = tt
-    operand_low (assign at op e f) b h = tt
-    operand_low (conditional at c e f) b h = tt
+    operand_low y b h = tt
 
     arguments_low : (es : Exprs) (b : ℕ) → AllNamed sites b es → height_of_exprs (arguments sites b es) ≤ 2 * height_of_exprs es
     arguments_low no_exprs b h = omega arith

@@ -28,21 +28,7 @@ post_tags at site false e = nothing_more (tags_of_expr e)
 
 name_tags : (d : Expr) → IsName d → tags_of_expr d ≡ []
 name_tags (a_name at x) h = refl
-name_tags (an_int at n u) h = absurd h
-name_tags (a_char at c) h = absurd h
-name_tags (a_str at w) h = absurd h
-name_tags (comma at es) h = absurd h
-name_tags (sizeof_type at t) h = absurd h
-name_tags (cast at t e) h = absurd h
-name_tags (call at d es) h = absurd h
-name_tags (member at how e x) h = absurd h
-name_tags (postfix at op e) h = absurd h
-name_tags (prefix at op e) h = absurd h
-name_tags (unary at op e) h = absurd h
-name_tags (index at e f) h = absurd h
-name_tags (binary at op e f) h = absurd h
-name_tags (assign at op e f) h = absurd h
-name_tags (conditional at c e f) h = absurd h
+name_tags y h = absurd h
 
 behind_tags : (at site : ℕ) (k : Bool) (d : Expr) (es : Exprs) → tags_of_exprs (more_exprs (null_call at pre_name site) (call_and_post at site k (call at d (kept_arguments at site 0 es)))) ≡ tags_of_expr d
 behind_tags at site k d es = post_tags at site k (call at d (kept_arguments at site 0 es)) ∙ (ap (λ ws. tags_of_expr d ++ ws) (names_tags at site 0 es) ∙ nothing_more (tags_of_expr d))
@@ -68,12 +54,7 @@ call_tags at site wanted (Some c) d es h = marked_tags at site (is_kept wanted c
 module _ (sites : Sites) where
   mutual
     pub expr_tags : (x : Expr) (b : ℕ) (wanted : Bool) → AreNamed sites b x → tags_of_expr (expr sites b wanted x) ≡ tags_of_expr x
-    expr_tags (a_name at x) b wanted h = refl
-    expr_tags (an_int at n u) b wanted h = refl
-    expr_tags (a_char at c) b wanted h = refl
-    expr_tags (a_str at w) b wanted h = refl
     expr_tags (comma at es) b wanted h = members_tags es b wanted h
-    expr_tags (sizeof_type at t) b wanted h = refl
     expr_tags (cast at t e) b wanted h = ap (λ ws. tags_of_type t ++ ws) (by_type (λ y. tags_of_expr y ≡ tags_of_expr e) (is_void_type t) (expr sites b false e) (expr sites b true e) (expr_tags e b false h) (expr_tags e b true h))
     expr_tags (call at d es) b wanted h =
         call_tags at (b + calls d) wanted (sites (b + calls d)) (expr sites b true d) (arguments sites (suc (b + calls d)) es) (designator_stays sites b (sites (b + calls d)) d h.0)
@@ -82,30 +63,16 @@ module _ (sites : Sites) where
     expr_tags (postfix at op e) b wanted h = expr_tags e b true h
     expr_tags (prefix at pre_increment e) b wanted h = expr_tags e b true h
     expr_tags (prefix at pre_decrement e) b wanted h = expr_tags e b true h
-    expr_tags (prefix at sizeof e) b wanted h = refl
     expr_tags (unary at op e) b wanted h = by_unary (λ y. tags_of_expr y ≡ tags_of_expr e) sites at op e b wanted (expr_tags e b true h) (operand_tags e b h)
     expr_tags (index at e f) b wanted h = ap₂ (λ ws vs. ws ++ vs) (expr_tags e b true h.0) (expr_tags f (b + calls e) true h.1)
     expr_tags (binary at op e f) b wanted h = ap₂ (λ ws vs. ws ++ vs) (expr_tags e b true h.0) (expr_tags f (b + calls e) true h.1)
     expr_tags (assign at op e f) b wanted h = ap₂ (λ ws vs. ws ++ vs) (expr_tags e b true h.0) (expr_tags f (b + calls e) true h.1)
     expr_tags (conditional at c e f) b wanted h = ap₂ (λ ws vs. ws ++ vs) (expr_tags c b true h.0) (ap₂ (λ ws vs. ws ++ vs) (expr_tags e (b + calls c) true h.1) (expr_tags f (b + calls c + calls e) true h.2))
+    expr_tags d b wanted h = refl
 
     operand_tags : (x : Expr) (b : ℕ) → AreNamed sites b x → Operand (λ y. tags_of_expr y ≡ tags_of_expr x) sites b x
-    operand_tags (a_name at x) b h = tt
-    operand_tags (an_int at n u) b h = tt
-    operand_tags (a_char at c) b h = tt
-    operand_tags (a_str at w) b h = tt
-    operand_tags (comma at es) b h = tt
-    operand_tags (sizeof_type at t) b h = tt
-    operand_tags (cast at t e) b h = tt
-    operand_tags (call at d es) b h = tt
-    operand_tags (member at how e x) b h = tt
-    operand_tags (postfix at op e) b h = tt
-    operand_tags (prefix at op e) b h = tt
     operand_tags (unary at op e) b h = expr_tags e b false h
-    operand_tags (index at e f) b h = tt
-    operand_tags (binary at op e f) b h = tt
-    operand_tags (assign at op e f) b h = tt
-    operand_tags (conditional at c e f) b h = tt
+    operand_tags y b h = tt
 
     arguments_stay : (es : Exprs) (b : ℕ) → AllNamed sites b es → tags_of_exprs (arguments sites b es) ≡ tags_of_exprs es
     arguments_stay no_exprs b h = refl

@@ -26,24 +26,19 @@ module _ (sites : Sites) where
   decl_names (decl at class s ps) b = parts_names ps b
 
   first_names : (f : First) (b : ℕ) → names_of_first (first sites b f) ≡ names_of_first f
-  first_names first_absent b = refl
-  first_names (first_expr e) b = refl
   first_names (first_decl d) b = decl_names d b
+  first_names x b = refl
 
   mutual
     stmt_names : (s : Stmt) (b : ℕ) → names_of_stmt (stmt sites b s) ≡ names_of_stmt s
     stmt_names (block at is) b = block_names is b
-    stmt_names (empty at) b = refl
-    stmt_names (evaluate at e) b = refl
     stmt_names (only_if at e s) b = stmt_names s (b + calls e)
     stmt_names (if_else at e s t) b = ap₂ (λ xs ys. xs ++ ys) (stmt_names s (b + calls e)) (stmt_names t (b + calls e + calls_of_stmt s))
     stmt_names (while_loop at e s) b = stmt_names s (b + calls e)
     stmt_names (do_loop at s e) b = stmt_names s b
     stmt_names (for_loop at f test step s) b = ap₂ (λ xs ys. xs ++ ys) (first_names f b) (stmt_names s (b + calls_of_first f + calls_of_maybe test + calls_of_maybe step))
     stmt_names (switch_on at e gs) b = groups_names gs (b + calls e)
-    stmt_names (break_off at) b = refl
-    stmt_names (continue_on at) b = refl
-    stmt_names (return_from at m) b = refl
+    stmt_names x b = refl
 
     block_names : (is : BlockItems) (b : ℕ) → names_of_block (items_of_block sites b is) ≡ names_of_block is
     block_names no_block_items b = refl
@@ -99,7 +94,6 @@ module _ (sites : Sites) where
   mutual
     stmt_calls : (s : Stmt) (b : ℕ) → StmtNamed sites b s → calls_of_stmt (stmt sites b s) ≤ 3 * calls_of_stmt s
     stmt_calls (block at is) b h = block_calls is b h
-    stmt_calls (empty at) b h = omega arith
     stmt_calls (evaluate at e) b h = (counts_stay sites b false e h).calls_most
     stmt_calls (only_if at e s) b h = (let m = value_calls e b h.0 in let n = stmt_calls s (b + calls e) h.1 in omega (arith, m, n))
     stmt_calls (if_else at e s t) b h = (let m = value_calls e b h.0 in let n = stmt_calls s (b + calls e) h.1 in let l = stmt_calls t (b + calls e + calls_of_stmt s) h.2 in omega (arith, m, n, l))
@@ -112,9 +106,8 @@ module _ (sites : Sites) where
         let o = stmt_calls s (b + calls_of_first f + calls_of_maybe test + calls_of_maybe step) h.3 in
         omega (arith, l, m, n, o)
     stmt_calls (switch_on at e gs) b h = (let m = value_calls e b h.0 in let n = groups_calls gs (b + calls e) h.1 in omega (arith, m, n))
-    stmt_calls (break_off at) b h = omega arith
-    stmt_calls (continue_on at) b h = omega arith
     stmt_calls (return_from at m) b h = test_calls m b h
+    stmt_calls x b h = omega arith
 
     block_calls : (is : BlockItems) (b : ℕ) → BlockNamed sites b is → calls_of_block (items_of_block sites b is) ≤ 3 * calls_of_block is
     block_calls no_block_items b h = omega arith

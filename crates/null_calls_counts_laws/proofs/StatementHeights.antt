@@ -48,7 +48,6 @@ module _ (sites : Sites) where
   mutual
     stmt_low : (s : Stmt) (b : ℕ) → StmtNamed sites b s → height_of_stmt (stmt sites b s) ≤ 2 * height_of_stmt s
     stmt_low (block at is) b h = (let k = block_low is b h in omega (arith, k))
-    stmt_low (empty at) b h = omega arith
     stmt_low (evaluate at e) b h = (let k = expr_low sites e b false h in omega (arith, k))
     stmt_low (only_if at e s) b h = (let k = expr_low sites e b true h.0 in let l = stmt_low s (b + calls e) h.1 in omega (arith, k, l))
     stmt_low (if_else at e s t) b h = (let k = expr_low sites e b true h.0 in let l = stmt_low s (b + calls e) h.1 in let m = stmt_low t (b + calls e + calls_of_stmt s) h.2 in omega (arith, k, l, m))
@@ -61,9 +60,8 @@ module _ (sites : Sites) where
         let n = stmt_low s (b + calls_of_first f + calls_of_maybe test + calls_of_maybe step) h.3 in
         omega (arith, k, l, m, n)
     stmt_low (switch_on at e gs) b h = (let k = expr_low sites e b true h.0 in let l = groups_low gs (b + calls e) h.1 in omega (arith, k, l))
-    stmt_low (break_off at) b h = omega arith
-    stmt_low (continue_on at) b h = omega arith
     stmt_low (return_from at m) b h = (let k = maybe_low m b true h in omega (arith, k))
+    stmt_low x b h = omega arith
 
     pub block_low : (is : BlockItems) (b : ℕ) → BlockNamed sites b is → height_of_block_items (items_of_block sites b is) ≤ 2 * height_of_block_items is
     block_low no_block_items b h = omega arith

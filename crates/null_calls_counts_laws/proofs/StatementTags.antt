@@ -53,7 +53,6 @@ module _ (sites : Sites) where
   mutual
     stmt_tags : (aside : Bool) (s : Stmt) (b : ℕ) → StmtNamed sites b s → tags_of_stmt aside (stmt sites b s) ≡ tags_of_stmt aside s
     stmt_tags aside (block at is) b h = block_tags aside is b h
-    stmt_tags aside (empty at) b h = refl
     stmt_tags aside (evaluate at e) b h = expr_tags sites e b false h
     stmt_tags aside (only_if at e s) b h = ap₂ (λ xs ys. xs ++ ys) (expr_tags sites e b true h.0) (stmt_tags aside s (b + calls e) h.1)
     stmt_tags aside (if_else at e s t) b h = ap₂ (λ xs ys. xs ++ ys) (expr_tags sites e b true h.0) (ap₂ (λ xs ys. xs ++ ys) (stmt_tags aside s (b + calls e) h.1) (stmt_tags aside t (b + calls e + calls_of_stmt s) h.2))
@@ -63,9 +62,8 @@ module _ (sites : Sites) where
         ap₂ (λ xs ys. xs ++ ys) (first_tags aside f b h.0) (ap₂ (λ xs ys. xs ++ ys) (maybe_tags test (b + calls_of_first f) true h.1)
         (ap₂ (λ xs ys. xs ++ ys) (maybe_tags step (b + calls_of_first f + calls_of_maybe test) false h.2) (stmt_tags aside s (b + calls_of_first f + calls_of_maybe test + calls_of_maybe step) h.3)))
     stmt_tags aside (switch_on at e gs) b h = ap₂ (λ xs ys. xs ++ ys) (expr_tags sites e b true h.0) (groups_tags aside gs (b + calls e) h.1)
-    stmt_tags aside (break_off at) b h = refl
-    stmt_tags aside (continue_on at) b h = refl
     stmt_tags aside (return_from at m) b h = maybe_tags m b true h
+    stmt_tags aside x b h = refl
 
     pub block_tags : (aside : Bool) (is : BlockItems) (b : ℕ) → BlockNamed sites b is → tags_of_block aside (items_of_block sites b is) ≡ tags_of_block aside is
     block_tags aside no_block_items b h = refl
