@@ -1,186 +1,187 @@
--- Strings and calls in an expression with null calls round its marked calls.
-use Rattle.std.proofs.Common.{◌≡◌, ℕ, suc, ◌+◌, ◌*◌, ◌≤◌, Bool, true, false, if◌then◌else◌, [], ◌++◌, append_assoc, Option, None, Some, refl, ap, ap₂, sym, ◌∙◌, arith}
+-- What is counted in an expression with null calls round its marked calls: strings, calls, tags of structs and how deep its nodes stand in each other.
+use Rattle.std.proofs.Common.{◌≡◌, ℕ, suc, ◌+◌, ◌≤◌, max, Bool, true, false, if◌then◌else◌, List, [], ◌++◌, append_assoc, Option, None, Some, refl, ap, ap₂, sym, ◌∙◌, arith}
 use Rattle.c_tree.specs.Tree.{CType}
-use Rattle.c_syntax.specs.Tree.{Expr, a_name, an_int, a_char, a_str, comma, sizeof_type, cast, call, member, postfix, prefix, unary, index, binary, assign, conditional, Exprs, no_exprs, more_exprs}
-use Rattle.c_syntax.specs.Tree.{pre_increment, pre_decrement, sizeof}
+use Rattle.c_syntax.specs.Tree.{Expr, a_name, comma, cast, call, member, postfix, prefix, unary, index, binary, assign, conditional, Exprs, no_exprs, more_exprs}
+use Rattle.c_syntax.specs.Tree.{pre_increment, pre_decrement}
+use Rattle.c_syntax.specs.Limits.{height, height_of_exprs, height_of_type}
+use Rattle.c_rules.specs.Names.{Name}
 use Rattle.c_rules.specs.Counts.{calls, calls_of_all, strings, strings_of_all, string_cells}
+use Rattle.c_rules.specs.Tags.{tags_of_expr, tags_of_exprs, tags_of_type}
 use Rattle.null_calls_rules.specs.MarkedCalls.{Called, Sites}
 use Rattle.null_calls_rules.specs.Temporaries.{pre_name, is_kept}
 use Rattle.null_calls_rules.specs.InstrumentedExpressions.{is_void_type, keep_designator, keep_arguments, kept_arguments, kept_designator, null_call, call_and_post, call_where, is_address_of_indirection, expr, arguments, members}
 use Rattle.null_calls_counts_laws.specs.Counts.{IsName, IsDesignator, AreNamed, AllNamed, ExpressionsCountAlike, PlacesStayNear}
+use Rattle.null_calls_counts_laws.proofs.Alike.{Alike, same, beside, behind, deeper, lower}
 use Rattle.c_rules.proofs.NothingMore.{nothing_more}
 
 -- ## A marked call
 
-arguments_strings : (at site i : ℕ) (es rest : Exprs) → strings_of_all (keep_arguments at site i es rest) ≡ strings_of_all es ++ strings_of_all rest
-arguments_strings at site i no_exprs rest = refl
-arguments_strings at site i (more_exprs e es) rest = ap (λ ws. strings e ++ ws) (arguments_strings at site (suc i) es rest) ∙ sym (append_assoc (strings e) (strings_of_all es) (strings_of_all rest))
+some_height : (x : Expr) → 1 ≤ height x
+some_height (a_name at x) = omega arith
+some_height x = omega arith
 
-arguments_calls : (at site i : ℕ) (es rest : Exprs) → calls_of_all (keep_arguments at site i es rest) ≡ calls_of_all es + calls_of_all rest
-arguments_calls at site i no_exprs rest = omega arith
-arguments_calls at site i (more_exprs e es) rest = (let r = arguments_calls at site (suc i) es rest in omega (arith, r))
+-- so much is counted in expressions
+record Counted (es : Exprs) (s : List (List ℕ)) (g : List Name) (c h : ℕ) : Type 0 where
+  listed : strings_of_all es ≡ s
+  tagged : tags_of_exprs es ≡ g
+  counted : calls_of_all es ≡ c
+  low : height_of_exprs es ≤ h
 
-names_strings : (at site i : ℕ) (es : Exprs) → strings_of_all (kept_arguments at site i es) ≡ []
-names_strings at site i no_exprs = refl
-names_strings at site i (more_exprs e es) = names_strings at site (suc i) es
+arguments_counted : (at site i : ℕ) (es rest : Exprs)
+    → Counted (keep_arguments at site i es rest) (strings_of_all es ++ strings_of_all rest) (tags_of_exprs es ++ tags_of_exprs rest) (calls_of_all es + calls_of_all rest) (max (suc (height_of_exprs es)) (height_of_exprs rest))
+arguments_counted at site i no_exprs rest = record { listed = refl; tagged = refl; counted = omega arith; low = omega arith }
+arguments_counted at site i (more_exprs e es) rest =
+    let r = arguments_counted at site (suc i) es rest in
+    record {
+      listed = ap (λ ws. strings e ++ ws) r.listed ∙ sym (append_assoc (strings e) (strings_of_all es) (strings_of_all rest));
+      tagged = ap (λ ws. tags_of_expr e ++ ws) r.tagged ∙ sym (append_assoc (tags_of_expr e) (tags_of_exprs es) (tags_of_exprs rest));
+      counted = (let c = r.counted in omega (arith, c));
+      low = (let l = r.low in let s = some_height e in omega (arith, l, s));
+    }
+
+names_counted : (at site i : ℕ) (es : Exprs) → Counted (kept_arguments at site i es) [] [] 0 1
+names_counted at site i no_exprs = record { listed = refl; tagged = refl; counted = refl; low = omega arith }
+names_counted at site i (more_exprs e es) =
+    (let r = names_counted at site (suc i) es in record { listed = r.listed; tagged = r.tagged; counted = (let c = r.counted in omega (arith, c)); low = (let l = r.low in omega (arith, l)) })
 
 pub names_calls : (at site i : ℕ) (es : Exprs) → calls_of_all (kept_arguments at site i es) ≡ 0
-names_calls at site i no_exprs = refl
-names_calls at site i (more_exprs e es) = (let r = names_calls at site (suc i) es in omega (arith, r))
+names_calls at site i es = (names_counted at site i es).counted
 
-post_strings : (at site : ℕ) (k : Bool) (e : Expr) → strings_of_all (call_and_post at site k e) ≡ strings e
-post_strings at site true e = nothing_more (strings e)
-post_strings at site false e = nothing_more (strings e)
+post_counted : (at site : ℕ) (k : Bool) (e : Expr) → Counted (call_and_post at site k e) (strings e) (tags_of_expr e) (suc (calls e)) (max (suc (height e)) 2)
+post_counted at site true e = record { listed = nothing_more (strings e); tagged = nothing_more (tags_of_expr e); counted = omega arith; low = (let s = some_height e in omega (arith, s)) }
+post_counted at site false e = record { listed = nothing_more (strings e); tagged = nothing_more (tags_of_expr e); counted = omega arith; low = (let s = some_height e in omega (arith, s)) }
 
-post_calls : (at site : ℕ) (k : Bool) (e : Expr) → calls_of_all (call_and_post at site k e) ≡ suc (calls e)
-post_calls at site true e = omega arith
-post_calls at site false e = omega arith
-
-name_strings : (d : Expr) → IsName d → strings d ≡ []
-name_strings (a_name at x) h = refl
-name_strings y h = absurd h
-
-name_calls : (d : Expr) → IsName d → calls d ≡ 0
-name_calls (a_name at x) h = refl
-name_calls y h = absurd h
+name_counted : (d : Expr) → IsName d → (strings d ≡ []) × (tags_of_expr d ≡ []) × (calls d ≡ 0) × (height d ≡ 1)
+name_counted (a_name at x) h = (refl, refl, refl, refl)
+name_counted d h = absurd h
 
 -- the name of what is called stays a name
-pub named_stays : (sites : Sites) (b : ℕ) (d : Expr) → IsName d → IsName (expr sites b true d)
+named_stays : (sites : Sites) (b : ℕ) (d : Expr) → IsName d → IsName (expr sites b true d)
 named_stays sites b (a_name at x) h = tt
-named_stays sites b y h = absurd h
+named_stays sites b d h = absurd h
 
 -- the null call, the call and what follows it
-behind_strings : (at site : ℕ) (k : Bool) (d : Expr) (es : Exprs) → strings_of_all (more_exprs (null_call at pre_name site) (call_and_post at site k (call at d (kept_arguments at site 0 es)))) ≡ strings d
-behind_strings at site k d es = post_strings at site k (call at d (kept_arguments at site 0 es)) ∙ (ap (λ ws. strings d ++ ws) (names_strings at site 0 es) ∙ nothing_more (strings d))
+abbrev Behind : (at site : ℕ) → Bool → Expr → Exprs → Exprs
+Behind at site k d es = more_exprs (null_call at pre_name site) (call_and_post at site k (call at d (kept_arguments at site 0 es)))
 
-behind_calls : (at site : ℕ) (k : Bool) (d : Expr) (es : Exprs) → calls_of_all (more_exprs (null_call at pre_name site) (call_and_post at site k (call at d (kept_arguments at site 0 es)))) ≡ calls d + 3
-behind_calls at site k d es = (let r = post_calls at site k (call at d (kept_arguments at site 0 es)) in let n = names_calls at site 0 es in omega (arith, r, n))
+behind_counted : (at site : ℕ) (k : Bool) (d : Expr) (es : Exprs) → height d ≡ 1 → Counted (Behind at site k d es) (strings d) (tags_of_expr d) (calls d + 3) 3
+behind_counted at site k d es e =
+    let p = post_counted at site k (call at d (kept_arguments at site 0 es)) in
+    let n = names_counted at site 0 es in
+    record {
+      listed = p.listed ∙ (ap (λ ws. strings d ++ ws) n.listed ∙ nothing_more (strings d));
+      tagged = p.tagged ∙ (ap (λ ws. tags_of_expr d ++ ws) n.tagged ∙ nothing_more (tags_of_expr d));
+      counted = (let r = p.counted in let m = n.counted in omega (arith, r, m));
+      low = (let l = p.low in let m = n.low in omega (arith, l, m, e));
+    }
 
-marked_strings : (at site : ℕ) (k : Bool) (o : Option CType) (d : Expr) (es : Exprs) → (o ≡ None → IsName d)
-    → strings_of_all (keep_designator at site o d (keep_arguments at site 0 es (more_exprs (null_call at pre_name site) (call_and_post at site k (call at (kept_designator at site o d) (kept_arguments at site 0 es)))))) ≡ strings d ++ strings_of_all es
-marked_strings at site k None d es h =
-    let none : strings d ≡ [] = name_strings d (h refl) in
-    arguments_strings at site 0 es (more_exprs (null_call at pre_name site) (call_and_post at site k (call at d (kept_arguments at site 0 es))))
-    ∙ (ap (λ ws. strings_of_all es ++ ws) (behind_strings at site k d es ∙ none) ∙ (nothing_more (strings_of_all es) ∙ ap (λ ws. ws ++ strings_of_all es) (sym none)))
-marked_strings at site k (Some t) d es h =
-    ap (λ ws. strings d ++ ws) (arguments_strings at site 0 es (more_exprs (null_call at pre_name site) (call_and_post at site k (call at (kept_designator at site (Some t) d) (kept_arguments at site 0 es))))
-    ∙ (ap (λ ws. strings_of_all es ++ ws) (behind_strings at site k (kept_designator at site (Some t) d) es) ∙ nothing_more (strings_of_all es)))
+-- what is empty may stand first
+first_empty : {A : Type 0} (xs ys zs : List A) → ys ≡ zs → zs ≡ [] → xs ++ ys ≡ zs ++ xs
+first_empty xs ys zs e f = ap (λ ws. xs ++ ws) (e ∙ f) ∙ (nothing_more xs ∙ ap (λ ws. ws ++ xs) (sym f))
 
-marked_calls : (at site : ℕ) (k : Bool) (o : Option CType) (d : Expr) (es : Exprs) → (o ≡ None → IsName d)
-    → calls_of_all (keep_designator at site o d (keep_arguments at site 0 es (more_exprs (null_call at pre_name site) (call_and_post at site k (call at (kept_designator at site o d) (kept_arguments at site 0 es)))))) ≡ (calls d + calls_of_all es) + 3
-marked_calls at site k None d es h =
-    let none = name_calls d (h refl) in
-    let a = arguments_calls at site 0 es (more_exprs (null_call at pre_name site) (call_and_post at site k (call at d (kept_arguments at site 0 es)))) in
-    let b = behind_calls at site k d es in
-    omega (arith, none, a, b)
-marked_calls at site k (Some t) d es h =
-    let a = arguments_calls at site 0 es (more_exprs (null_call at pre_name site) (call_and_post at site k (call at (kept_designator at site (Some t) d) (kept_arguments at site 0 es)))) in
-    let b = behind_calls at site k (kept_designator at site (Some t) d) es in
-    omega (arith, a, b)
+marked_counted : (at site : ℕ) (k : Bool) (o : Option CType) (d : Expr) (es : Exprs) → (o ≡ None → IsName d)
+    → Counted (keep_designator at site o d (keep_arguments at site 0 es (Behind at site k (kept_designator at site o d) es))) (strings d ++ strings_of_all es) (tags_of_expr d ++ tags_of_exprs es) ((calls d + calls_of_all es) + 3) (suc (max (max (height d) (height_of_exprs es)) 2))
+marked_counted at site k None d es h =
+    let n = name_counted d (h refl) in
+    let a = arguments_counted at site 0 es (Behind at site k d es) in
+    let b = behind_counted at site k d es n.3 in
+    record {
+      listed = a.listed ∙ first_empty (strings_of_all es) (strings_of_all (Behind at site k d es)) (strings d) b.listed n.0;
+      tagged = a.tagged ∙ first_empty (tags_of_exprs es) (tags_of_exprs (Behind at site k d es)) (tags_of_expr d) b.tagged n.1;
+      counted = (let c = a.counted in let r = b.counted in omega (arith, c, r));
+      low = (let l = a.low in let m = b.low in omega (arith, l, m));
+    }
+marked_counted at site k (Some t) d es h =
+    let c : Expr = kept_designator at site (Some t) d in
+    let a = arguments_counted at site 0 es (Behind at site k c es) in
+    let b = behind_counted at site k c es refl in
+    record {
+      listed = ap (λ ws. strings d ++ ws) (a.listed ∙ first_empty (strings_of_all es) (strings_of_all (Behind at site k c es)) [] b.listed refl);
+      tagged = ap (λ ws. tags_of_expr d ++ ws) (a.tagged ∙ first_empty (tags_of_exprs es) (tags_of_exprs (Behind at site k c es)) [] b.tagged refl);
+      counted = (let m = a.counted in let r = b.counted in omega (arith, m, r));
+      low = (let l = a.low in let m = b.low in let s = some_height d in omega (arith, l, m, s));
+    }
 
 -- ## Calls
 
-call_strings : (at site : ℕ) (wanted : Bool) (o : Option Called) (d : Expr) (es : Exprs) → IsDesignator o d → strings (call_where at site wanted o d es) ≡ strings d ++ strings_of_all es
-call_strings at site wanted None d es h = refl
-call_strings at site wanted (Some c) d es h = marked_strings at site (is_kept wanted c.returns) c.pointer_type d es h
+abbrev OfExpr : Expr → Expr → Type 0
+OfExpr y x = Alike (strings y) (strings x) (tags_of_expr y) (tags_of_expr x) (calls y) (calls x) (height y) (height x)
 
-call_calls : (at site : ℕ) (wanted : Bool) (o : Option Called) (d : Expr) (es : Exprs) → IsDesignator o d → calls (call_where at site wanted o d es) ≤ (calls d + calls_of_all es) + 3
-call_calls at site wanted None d es h = omega arith
-call_calls at site wanted (Some c) d es h = (let r = marked_calls at site (is_kept wanted c.returns) c.pointer_type d es h in omega (arith, r))
+abbrev OfAll : Exprs → Exprs → Type 0
+OfAll ys xs = Alike (strings_of_all ys) (strings_of_all xs) (tags_of_exprs ys) (tags_of_exprs xs) (calls_of_all ys) (calls_of_all xs) (height_of_exprs ys) (height_of_exprs xs)
 
-pub designator_stays : (sites : Sites) (b : ℕ) (o : Option Called) (d : Expr) → IsDesignator o d → IsDesignator o (expr sites b true d)
+call_alike : (at site : ℕ) (wanted : Bool) (o : Option Called) (d : Expr) (es : Exprs) (plain : Expr) (plains : Exprs) → IsDesignator o d → OfExpr d plain → OfAll es plains → OfExpr (call_where at site wanted o d es) (call at plain plains)
+call_alike at site wanted None d es plain plains h a b =
+    (let r = beside a b in record { listed = r.listed; tagged = r.tagged; calls_most = (let m = r.calls_most in omega (arith, m)); low = (let l = r.low in omega (arith, l)) })
+call_alike at site wanted (Some c) d es plain plains h a b =
+    let r = beside a b in
+    let m = marked_counted at site (is_kept wanted c.returns) c.pointer_type d es h in
+    record {
+      listed = m.listed ∙ r.listed;
+      tagged = m.tagged ∙ r.tagged;
+      calls_most = (let n = m.counted in let q = r.calls_most in omega (arith, n, q));
+      low = (let l = m.low in let q = r.low in let s = some_height plain in omega (arith, l, q, s));
+    }
+
+designator_stays : (sites : Sites) (b : ℕ) (o : Option Called) (d : Expr) → IsDesignator o d → IsDesignator o (expr sites b true d)
 designator_stays sites b None d h = tt
 designator_stays sites b (Some c) d h = λ e. named_stays sites b d (h e)
 
 -- ## Expressions
 
-pub by_type : (P : Expr → Type 0) (t : Bool) (x y : Expr) → P x → P y → P (if t then x else y)
+by_type : (P : Expr → Type 0) (t : Bool) (x y : Expr) → P x → P y → P (if t then x else y)
 by_type P true x y h k = h
 by_type P false x y h k = k
 
 -- what holds of the operand of an operator whose value isn't wanted, where the operand is unary: for it may be left out with the operator
-abbrev pub Operand : (P : Expr → Type 0) (sites : Sites) (b : ℕ) → Expr → Type 0
+abbrev Operand : (P : Expr → Type 0) (sites : Sites) (b : ℕ) → Expr → Type 0
 Operand P sites b (unary place inner e) = P (expr sites b false e)
 Operand P sites b e = Unit {0}
 
-pub by_unary : (P : Expr → Type 0) (sites : Sites) (at op : ℕ) (x : Expr) (b : ℕ) (wanted : Bool) → P (unary at op (expr sites b true x)) → Operand P sites b x → P (expr sites b wanted (unary at op x))
+by_unary : (P : Expr → Type 0) (sites : Sites) (at op : ℕ) (x : Expr) (b : ℕ) (wanted : Bool) → P (unary at op (expr sites b true x)) → Operand P sites b x → P (expr sites b wanted (unary at op x))
 by_unary P sites at op (unary place inner e) b false h k = by_type P (is_address_of_indirection op inner) (expr sites b false e) (unary at op (unary place inner (expr sites b true e))) k h
 by_unary P sites at op y b true h k = h
 by_unary P sites at op y b false h k = h
 
 module _ (sites : Sites) where
   mutual
-    expr_strings : (x : Expr) (b : ℕ) (wanted : Bool) → AreNamed sites b x → strings (expr sites b wanted x) ≡ strings x
-    expr_strings (comma at es) b wanted h = members_strings es b wanted h
-    expr_strings (cast at t e) b wanted h = by_type (λ y. strings y ≡ strings e) (is_void_type t) (expr sites b false e) (expr sites b true e) (expr_strings e b false h) (expr_strings e b true h)
-    expr_strings (call at d es) b wanted h =
-        call_strings at (b + calls d) wanted (sites (b + calls d)) (expr sites b true d) (arguments sites (suc (b + calls d)) es) (designator_stays sites b (sites (b + calls d)) d h.0)
-        ∙ ap₂ (λ ws vs. ws ++ vs) (expr_strings d b true h.1) (arguments_stay es (suc (b + calls d)) h.2)
-    expr_strings (member at how e x) b wanted h = expr_strings e b true h
-    expr_strings (postfix at op e) b wanted h = expr_strings e b true h
-    expr_strings (prefix at pre_increment e) b wanted h = expr_strings e b true h
-    expr_strings (prefix at pre_decrement e) b wanted h = expr_strings e b true h
-    expr_strings (unary at op e) b wanted h = by_unary (λ y. strings y ≡ strings e) sites at op e b wanted (expr_strings e b true h) (operand_strings e b h)
-    expr_strings (index at e f) b wanted h = ap₂ (λ ws vs. ws ++ vs) (expr_strings e b true h.0) (expr_strings f (b + calls e) true h.1)
-    expr_strings (binary at op e f) b wanted h = ap₂ (λ ws vs. ws ++ vs) (expr_strings e b true h.0) (expr_strings f (b + calls e) true h.1)
-    expr_strings (assign at op e f) b wanted h = ap₂ (λ ws vs. ws ++ vs) (expr_strings e b true h.0) (expr_strings f (b + calls e) true h.1)
-    expr_strings (conditional at c e f) b wanted h = ap₂ (λ ws vs. ws ++ vs) (expr_strings c b true h.0) (ap₂ (λ ws vs. ws ++ vs) (expr_strings e (b + calls c) true h.1) (expr_strings f (b + calls c + calls e) true h.2))
-    expr_strings d b wanted h = refl
+    pub expr_alike : (x : Expr) (b : ℕ) (wanted : Bool) → AreNamed sites b x → OfExpr (expr sites b wanted x) x
+    expr_alike (comma at es) b wanted h = deeper (members_alike es b wanted h)
+    expr_alike (cast at t e) b wanted h = deeper (behind [] (tags_of_type t) (height_of_type t) (by_type (λ y. OfExpr y e) (is_void_type t) (expr sites b false e) (expr sites b true e) (expr_alike e b false h) (expr_alike e b true h)))
+    expr_alike (call at d es) b wanted h =
+        call_alike at (b + calls d) wanted (sites (b + calls d)) (expr sites b true d) (arguments sites (suc (b + calls d)) es) d es (designator_stays sites b (sites (b + calls d)) d h.0) (expr_alike d b true h.1) (arguments_alike es (suc (b + calls d)) h.2)
+    expr_alike (member at how e x) b wanted h = deeper (expr_alike e b true h)
+    expr_alike (postfix at op e) b wanted h = deeper (expr_alike e b true h)
+    expr_alike (prefix at pre_increment e) b wanted h = deeper (expr_alike e b true h)
+    expr_alike (prefix at pre_decrement e) b wanted h = deeper (expr_alike e b true h)
+    expr_alike (unary at op e) b wanted h = by_unary (λ y. OfExpr y (unary at op e)) sites at op e b wanted (deeper (expr_alike e b true h)) (operand_alike at op e b h)
+    expr_alike (index at e f) b wanted h = deeper (beside (expr_alike e b true h.0) (expr_alike f (b + calls e) true h.1))
+    expr_alike (binary at op e f) b wanted h = deeper (beside (expr_alike e b true h.0) (expr_alike f (b + calls e) true h.1))
+    expr_alike (assign at op e f) b wanted h = deeper (beside (expr_alike e b true h.0) (expr_alike f (b + calls e) true h.1))
+    expr_alike (conditional at c e f) b wanted h = deeper (beside (expr_alike c b true h.0) (beside (expr_alike e (b + calls c) true h.1) (expr_alike f (b + calls c + calls e) true h.2)))
+    expr_alike x b wanted h = same (strings x) (tags_of_expr x) (calls x) (height x)
 
-    operand_strings : (x : Expr) (b : ℕ) → AreNamed sites b x → Operand (λ y. strings y ≡ strings x) sites b x
-    operand_strings (unary at op e) b h = expr_strings e b false h
-    operand_strings y b h = tt
+    operand_alike : (at op : ℕ) (x : Expr) (b : ℕ) → AreNamed sites b x → Operand (λ y. OfExpr y (unary at op x)) sites b x
+    operand_alike at op (unary place inner e) b h = lower (lower (expr_alike e b false h))
+    operand_alike at op x b h = tt
 
-    arguments_stay : (es : Exprs) (b : ℕ) → AllNamed sites b es → strings_of_all (arguments sites b es) ≡ strings_of_all es
-    arguments_stay no_exprs b h = refl
-    arguments_stay (more_exprs e es) b h = ap₂ (λ ws vs. ws ++ vs) (expr_strings e b true h.0) (arguments_stay es (b + calls e) h.1)
+    arguments_alike : (es : Exprs) (b : ℕ) → AllNamed sites b es → OfAll (arguments sites b es) es
+    arguments_alike no_exprs b h = same [] [] 0 0
+    arguments_alike (more_exprs e es) b h = beside (expr_alike e b true h.0) (arguments_alike es (b + calls e) h.1)
 
-    members_strings : (es : Exprs) (b : ℕ) (wanted : Bool) → AllNamed sites b es → strings_of_all (members sites b wanted es) ≡ strings_of_all es
-    members_strings no_exprs b wanted h = refl
-    members_strings (more_exprs e no_exprs) b wanted h = ap (λ ws. ws ++ []) (expr_strings e b wanted h.0)
-    members_strings (more_exprs e (more_exprs f es)) b wanted h = ap₂ (λ ws vs. ws ++ vs) (expr_strings e b false h.0) (members_strings (more_exprs f es) (b + calls e) wanted h.1)
-
-  mutual
-    expr_calls : (x : Expr) (b : ℕ) (wanted : Bool) → AreNamed sites b x → calls (expr sites b wanted x) ≤ 3 * calls x
-    expr_calls (comma at es) b wanted h = members_calls es b wanted h
-    expr_calls (cast at t e) b wanted h = by_type (λ y. calls y ≤ 3 * calls e) (is_void_type t) (expr sites b false e) (expr sites b true e) (expr_calls e b false h) (expr_calls e b true h)
-    expr_calls (call at d es) b wanted h =
-        let r = call_calls at (b + calls d) wanted (sites (b + calls d)) (expr sites b true d) (arguments sites (suc (b + calls d)) es) (designator_stays sites b (sites (b + calls d)) d h.0) in
-        let m = expr_calls d b true h.1 in
-        let n = arguments_few es (suc (b + calls d)) h.2 in
-        omega (arith, r, m, n)
-    expr_calls (member at how e x) b wanted h = expr_calls e b true h
-    expr_calls (postfix at op e) b wanted h = expr_calls e b true h
-    expr_calls (prefix at pre_increment e) b wanted h = expr_calls e b true h
-    expr_calls (prefix at pre_decrement e) b wanted h = expr_calls e b true h
-    expr_calls (unary at op e) b wanted h = by_unary (λ y. calls y ≤ 3 * calls e) sites at op e b wanted (expr_calls e b true h) (operand_calls e b h)
-    expr_calls (index at e f) b wanted h = (let m = expr_calls e b true h.0 in let n = expr_calls f (b + calls e) true h.1 in omega (arith, m, n))
-    expr_calls (binary at op e f) b wanted h = (let m = expr_calls e b true h.0 in let n = expr_calls f (b + calls e) true h.1 in omega (arith, m, n))
-    expr_calls (assign at op e f) b wanted h = (let m = expr_calls e b true h.0 in let n = expr_calls f (b + calls e) true h.1 in omega (arith, m, n))
-    expr_calls (conditional at c e f) b wanted h = (let l = expr_calls c b true h.0 in let m = expr_calls e (b + calls c) true h.1 in let n = expr_calls f (b + calls c + calls e) true h.2 in omega (arith, l, m, n))
-    expr_calls d b wanted h = omega arith
-
-    operand_calls : (x : Expr) (b : ℕ) → AreNamed sites b x → Operand (λ y. calls y ≤ 3 * calls x) sites b x
-    operand_calls (unary at op e) b h = expr_calls e b false h
-    operand_calls y b h = tt
-
-    arguments_few : (es : Exprs) (b : ℕ) → AllNamed sites b es → calls_of_all (arguments sites b es) ≤ 3 * calls_of_all es
-    arguments_few no_exprs b h = omega arith
-    arguments_few (more_exprs e es) b h = (let m = expr_calls e b true h.0 in let n = arguments_few es (b + calls e) h.1 in omega (arith, m, n))
-
-    members_calls : (es : Exprs) (b : ℕ) (wanted : Bool) → AllNamed sites b es → calls_of_all (members sites b wanted es) ≤ 3 * calls_of_all es
-    members_calls no_exprs b wanted h = omega arith
-    members_calls (more_exprs e no_exprs) b wanted h = (let m = expr_calls e b wanted h.0 in omega (arith, m))
-    members_calls (more_exprs e (more_exprs f es)) b wanted h = (let m = expr_calls e b false h.0 in let n = members_calls (more_exprs f es) (b + calls e) wanted h.1 in omega (arith, m, n))
+    members_alike : (es : Exprs) (b : ℕ) (wanted : Bool) → AllNamed sites b es → OfAll (members sites b wanted es) es
+    members_alike no_exprs b wanted h = same [] [] 0 0
+    members_alike (more_exprs e no_exprs) b wanted h = beside (expr_alike e b wanted h.0) (same [] [] 0 0)
+    members_alike (more_exprs e (more_exprs f es)) b wanted h = beside (expr_alike e b false h.0) (members_alike (more_exprs f es) (b + calls e) wanted h.1)
 
 pub counts_stay : ExpressionsCountAlike
-counts_stay sites b wanted x h = record { strings_same = expr_strings sites x b wanted h; calls_most = expr_calls sites x b wanted h }
+counts_stay sites b wanted x h = (let a = expr_alike sites x b wanted h in record { strings_same = a.listed; calls_most = a.calls_most })
 
 pub places_near : PlacesStayNear
 places_near sites b b' wanted x h n =
-    let s = expr_strings sites x b.sites wanted h in
+    let a = expr_alike sites x b.sites wanted h in
     record {
-      sites = (let c = expr_calls sites x b.sites wanted h in let l = n.sites in omega (arith, c, l));
-      strings = ap₂ (λ ws vs. ws ++ vs) n.strings s;
-      cells = ap₂ (λ c ws. c + string_cells ws) n.cells s;
+      sites = (let c = a.calls_most in let l = n.sites in omega (arith, c, l));
+      strings = ap₂ (λ ws vs. ws ++ vs) n.strings a.listed;
+      cells = ap₂ (λ c ws. c + string_cells ws) n.cells a.listed;
     }

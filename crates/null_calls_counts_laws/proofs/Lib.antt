@@ -1,6 +1,6 @@
+pub mod Alike
 pub mod ExpressionCounts
 pub mod StatementCounts
 pub mod ExpressionHeights
 pub mod StatementHeights
-pub mod ExpressionTags
 pub mod StatementTags

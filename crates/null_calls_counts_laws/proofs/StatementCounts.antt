@@ -1,129 +1,104 @@
--- Variables and calls in a statement with null calls round its marked calls.
-use Rattle.std.proofs.Common.{◌≡◌, ℕ, ◌+◌, ◌*◌, ◌≤◌, true, false, ◌∷◌, ◌++◌, refl, ap, ap₂, arith}
+-- What is counted in a statement with null calls round its marked calls: variables, calls, tags of structs and how deep its nodes stand in each other.
+use Rattle.std.proofs.Common.{◌≡◌, ℕ, ◌+◌, Bool, true, false, ◌&&◌, if◌then◌else◌, [], ◌∷◌, ◌++◌, refl, ap, ap₂}
 use Rattle.c_syntax.specs.Tree.{Init, one, list, Inits, no_inits, more_inits, MaybeInit, no_init, an_init, Parts, no_parts, more_parts, Decl, decl, Maybe, absent, there, Expr}
 use Rattle.c_syntax.specs.Tree.{First, first_absent, first_expr, first_decl}
-use Rattle.c_syntax.specs.Tree.{Stmt, block, empty, evaluate, only_if, if_else, while_loop, do_loop, for_loop, switch_on, break_off, continue_on, return_from}
+use Rattle.c_syntax.specs.Tree.{Stmt, block, evaluate, only_if, if_else, while_loop, do_loop, for_loop, switch_on, return_from}
 use Rattle.c_syntax.specs.Tree.{BlockItems, no_block_items, block_decl, block_stmt, Stmts, no_stmts, more_stmts, Groups, no_groups, more_groups}
+use Rattle.c_syntax.specs.Limits.{height, height_of_declarator, height_of_init, height_of_inits, height_of_maybe_init, height_of_parts, height_of_decl, height_of_first, height_of_maybe, height_of_labels, height_of_stmt, height_of_block_items, height_of_stmts, height_of_groups}
+use Rattle.c_rules.specs.Names.{Name}
 use Rattle.c_rules.specs.Counts.{calls, calls_of_maybe}
 use Rattle.c_rules.specs.Declarators.{name_of}
 use Rattle.c_rules.specs.Initialisers.{calls_of_init, calls_of_inits, calls_of_maybe_init}
+use Rattle.c_rules.specs.Tags.{tags_of_spec, tags_of_declarator, tags_of_expr, tags_of_maybe, tags_of_init, tags_of_inits, tags_of_maybe_init, tags_of_parts, declares_added, are_added, tags_of_decl, tags_of_first, tags_of_labels, tags_of_stmt, tags_of_block, tags_of_stmts, tags_of_groups}
 use Rattle.c_rules.specs.Variables.{name_or_empty, names_of_parts, names_of_decl, names_of_first, names_of_stmt, names_of_block, names_of_stmts, names_of_groups, calls_of_parts, calls_of_decl, calls_of_first, calls_of_stmt, calls_of_block, calls_of_stmts, calls_of_groups}
 use Rattle.null_calls_rules.specs.MarkedCalls.{Sites}
 use Rattle.null_calls_rules.specs.InstrumentedExpressions.{expr, maybe}
 use Rattle.null_calls_rules.specs.InstrumentedStatements.{init, inits, maybe_init, parts, declaration, first, stmt, items_of_block, stmts, groups}
 use Rattle.null_calls_counts_laws.specs.Counts.{AreNamed}
 use Rattle.null_calls_counts_laws.specs.Statements.{InitNamed, InitsNamed, MaybeInitNamed, PartsNamed, DeclNamed, FirstNamed, MaybeNamed, StmtNamed, BlockNamed, StmtsNamed, GroupsNamed, StatementsCountAlike, BlocksCountAlike}
-use Rattle.null_calls_counts_laws.proofs.ExpressionCounts.{counts_stay}
+use Rattle.null_calls_counts_laws.proofs.Alike.{Alike, same, beside, behind, before, unlisted, deeper}
+use Rattle.null_calls_counts_laws.proofs.ExpressionCounts.{expr_alike}
 
-module _ (sites : Sites) where
-  -- ## Names
+module _ (aside : Bool) (sites : Sites) where
+  -- ## Declarations
 
-  parts_names : (ps : Parts) (b : ℕ) → names_of_parts (parts sites b ps) ≡ names_of_parts ps
-  parts_names no_parts b = refl
-  parts_names (more_parts d m ps) b = ap (λ xs. name_or_empty (name_of d) ∷ xs) (parts_names ps (b + calls_of_maybe_init m))
+  value_alike : (e : Expr) (b : ℕ) (wanted : Bool) → AreNamed sites b e → Alike {A = Name} [] [] (tags_of_expr (expr sites b wanted e)) (tags_of_expr e) (calls (expr sites b wanted e)) (calls e) (height (expr sites b wanted e)) (height e)
+  value_alike e b wanted h = unlisted (expr_alike sites e b wanted h)
 
-  decl_names : (d : Decl) (b : ℕ) → names_of_decl (declaration sites b d) ≡ names_of_decl d
-  decl_names (decl at class s ps) b = parts_names ps b
-
-  first_names : (f : First) (b : ℕ) → names_of_first (first sites b f) ≡ names_of_first f
-  first_names (first_decl d) b = decl_names d b
-  first_names x b = refl
+  maybe_alike : (m : Maybe) (b : ℕ) (wanted : Bool) → MaybeNamed sites b m → Alike {A = Name} [] [] (tags_of_maybe (maybe sites b wanted m)) (tags_of_maybe m) (calls_of_maybe (maybe sites b wanted m)) (calls_of_maybe m) (height_of_maybe (maybe sites b wanted m)) (height_of_maybe m)
+  maybe_alike absent b wanted h = same [] [] 0 0
+  maybe_alike (there e) b wanted h = value_alike e b wanted h
 
   mutual
-    stmt_names : (s : Stmt) (b : ℕ) → names_of_stmt (stmt sites b s) ≡ names_of_stmt s
-    stmt_names (block at is) b = block_names is b
-    stmt_names (only_if at e s) b = stmt_names s (b + calls e)
-    stmt_names (if_else at e s t) b = ap₂ (λ xs ys. xs ++ ys) (stmt_names s (b + calls e)) (stmt_names t (b + calls e + calls_of_stmt s))
-    stmt_names (while_loop at e s) b = stmt_names s (b + calls e)
-    stmt_names (do_loop at s e) b = stmt_names s b
-    stmt_names (for_loop at f test step s) b = ap₂ (λ xs ys. xs ++ ys) (first_names f b) (stmt_names s (b + calls_of_first f + calls_of_maybe test + calls_of_maybe step))
-    stmt_names (switch_on at e gs) b = groups_names gs (b + calls e)
-    stmt_names x b = refl
+    init_alike : (i : Init) (b : ℕ) → InitNamed sites b i → Alike {A = Name} [] [] (tags_of_init (init sites b i)) (tags_of_init i) (calls_of_init (init sites b i)) (calls_of_init i) (height_of_init (init sites b i)) (height_of_init i)
+    init_alike (one at e) b h = value_alike e b true h
+    init_alike (list at is) b h = deeper (inits_alike is b h)
 
-    block_names : (is : BlockItems) (b : ℕ) → names_of_block (items_of_block sites b is) ≡ names_of_block is
-    block_names no_block_items b = refl
-    block_names (block_decl d is) b = ap₂ (λ xs ys. xs ++ ys) (decl_names d b) (block_names is (b + calls_of_decl d))
-    block_names (block_stmt s is) b = ap₂ (λ xs ys. xs ++ ys) (stmt_names s b) (block_names is (b + calls_of_stmt s))
+    inits_alike : (is : Inits) (b : ℕ) → InitsNamed sites b is → Alike {A = Name} [] [] (tags_of_inits (inits sites b is)) (tags_of_inits is) (calls_of_inits (inits sites b is)) (calls_of_inits is) (height_of_inits (inits sites b is)) (height_of_inits is)
+    inits_alike no_inits b h = same [] [] 0 0
+    inits_alike (more_inits i is) b h = beside (init_alike i b h.0) (inits_alike is (b + calls_of_init i) h.1)
 
-    stmts_names : (ss : Stmts) (b : ℕ) → names_of_stmts (stmts sites b ss) ≡ names_of_stmts ss
-    stmts_names no_stmts b = refl
-    stmts_names (more_stmts s ss) b = ap₂ (λ xs ys. xs ++ ys) (stmt_names s b) (stmts_names ss (b + calls_of_stmt s))
+  maybe_init_alike : (m : MaybeInit) (b : ℕ) → MaybeInitNamed sites b m
+      → Alike {A = Name} [] [] (tags_of_maybe_init (maybe_init sites b m)) (tags_of_maybe_init m) (calls_of_maybe_init (maybe_init sites b m)) (calls_of_maybe_init m) (height_of_maybe_init (maybe_init sites b m)) (height_of_maybe_init m)
+  maybe_init_alike no_init b h = same [] [] 0 0
+  maybe_init_alike (an_init i) b h = init_alike i b h
 
-    groups_names : (gs : Groups) (b : ℕ) → names_of_groups (groups sites b gs) ≡ names_of_groups gs
-    groups_names no_groups b = refl
-    groups_names (more_groups ls ss gs) b = ap₂ (λ xs ys. xs ++ ys) (stmts_names ss b) (groups_names gs (b + calls_of_stmts ss))
+  parts_alike : (ps : Parts) (b : ℕ) → PartsNamed sites b ps
+      → Alike (names_of_parts (parts sites b ps)) (names_of_parts ps) (tags_of_parts (parts sites b ps)) (tags_of_parts ps) (calls_of_parts (parts sites b ps)) (calls_of_parts ps) (height_of_parts (parts sites b ps)) (height_of_parts ps)
+  parts_alike no_parts b h = same [] [] 0 0
+  parts_alike (more_parts d m ps) b h = behind (name_or_empty (name_of d) ∷ []) (tags_of_declarator d) (height_of_declarator d) (beside (maybe_init_alike m b h.0) (parts_alike ps (b + calls_of_maybe_init m) h.1))
 
-  -- ## Calls
+  parts_added : (ps : Parts) (b : ℕ) → are_added (parts sites b ps) ≡ are_added ps
+  parts_added no_parts b = refl
+  parts_added (more_parts d m ps) b = ap (λ t. declares_added (name_of d) && t) (parts_added ps (b + calls_of_maybe_init m))
 
-  mutual
-    init_calls : (i : Init) (b : ℕ) → InitNamed sites b i → calls_of_init (init sites b i) ≤ 3 * calls_of_init i
-    init_calls (one at e) b h = (counts_stay sites b true e h).calls_most
-    init_calls (list at is) b h = inits_calls is b h
+  decl_alike : (d : Decl) (b : ℕ) → DeclNamed sites b d
+      → Alike (names_of_decl (declaration sites b d)) (names_of_decl d) (tags_of_decl aside (declaration sites b d)) (tags_of_decl aside d) (calls_of_decl (declaration sites b d)) (calls_of_decl d) (height_of_decl (declaration sites b d)) (height_of_decl d)
+  decl_alike (decl at class s ps) b h =
+      let r = parts_alike ps b h in
+      record { listed = r.listed; tagged = ap₂ (λ t xs. if aside && t then [] else tags_of_spec s ++ xs) (parts_added ps b) r.tagged; calls_most = r.calls_most; low = r.low }
 
-    inits_calls : (is : Inits) (b : ℕ) → InitsNamed sites b is → calls_of_inits (inits sites b is) ≤ 3 * calls_of_inits is
-    inits_calls no_inits b h = omega arith
-    inits_calls (more_inits i is) b h = (let m = init_calls i b h.0 in let n = inits_calls is (b + calls_of_init i) h.1 in omega (arith, m, n))
+  first_alike : (f : First) (b : ℕ) → FirstNamed sites b f
+      → Alike (names_of_first (first sites b f)) (names_of_first f) (tags_of_first aside (first sites b f)) (tags_of_first aside f) (calls_of_first (first sites b f)) (calls_of_first f) (height_of_first (first sites b f)) (height_of_first f)
+  first_alike first_absent b h = same [] [] 0 0
+  first_alike (first_expr e) b h = value_alike e b false h
+  first_alike (first_decl d) b h = decl_alike d b h
 
-  maybe_init_calls : (i : MaybeInit) (b : ℕ) → MaybeInitNamed sites b i → calls_of_maybe_init (maybe_init sites b i) ≤ 3 * calls_of_maybe_init i
-  maybe_init_calls no_init b h = omega arith
-  maybe_init_calls (an_init i) b h = init_calls i b h
-
-  parts_calls : (ps : Parts) (b : ℕ) → PartsNamed sites b ps → calls_of_parts (parts sites b ps) ≤ 3 * calls_of_parts ps
-  parts_calls no_parts b h = omega arith
-  parts_calls (more_parts d i ps) b h = (let m = maybe_init_calls i b h.0 in let n = parts_calls ps (b + calls_of_maybe_init i) h.1 in omega (arith, m, n))
-
-  decl_calls : (d : Decl) (b : ℕ) → DeclNamed sites b d → calls_of_decl (declaration sites b d) ≤ 3 * calls_of_decl d
-  decl_calls (decl at class s ps) b h = parts_calls ps b h
-
-  first_calls : (f : First) (b : ℕ) → FirstNamed sites b f → calls_of_first (first sites b f) ≤ 3 * calls_of_first f
-  first_calls first_absent b h = omega arith
-  first_calls (first_expr e) b h = (counts_stay sites b false e h).calls_most
-  first_calls (first_decl d) b h = decl_calls d b h
-
-  test_calls : (m : Maybe) (b : ℕ) → MaybeNamed sites b m → calls_of_maybe (maybe sites b true m) ≤ 3 * calls_of_maybe m
-  test_calls absent b h = omega arith
-  test_calls (there e) b h = (counts_stay sites b true e h).calls_most
-
-  step_calls : (m : Maybe) (b : ℕ) → MaybeNamed sites b m → calls_of_maybe (maybe sites b false m) ≤ 3 * calls_of_maybe m
-  step_calls absent b h = omega arith
-  step_calls (there e) b h = (counts_stay sites b false e h).calls_most
-
-  value_calls : (e : Expr) (b : ℕ) → AreNamed sites b e → calls (expr sites b true e) ≤ 3 * calls e
-  value_calls e b h = (counts_stay sites b true e h).calls_most
+  -- ## Statements
 
   mutual
-    stmt_calls : (s : Stmt) (b : ℕ) → StmtNamed sites b s → calls_of_stmt (stmt sites b s) ≤ 3 * calls_of_stmt s
-    stmt_calls (block at is) b h = block_calls is b h
-    stmt_calls (evaluate at e) b h = (counts_stay sites b false e h).calls_most
-    stmt_calls (only_if at e s) b h = (let m = value_calls e b h.0 in let n = stmt_calls s (b + calls e) h.1 in omega (arith, m, n))
-    stmt_calls (if_else at e s t) b h = (let m = value_calls e b h.0 in let n = stmt_calls s (b + calls e) h.1 in let l = stmt_calls t (b + calls e + calls_of_stmt s) h.2 in omega (arith, m, n, l))
-    stmt_calls (while_loop at e s) b h = (let m = value_calls e b h.0 in let n = stmt_calls s (b + calls e) h.1 in omega (arith, m, n))
-    stmt_calls (do_loop at s e) b h = (let m = stmt_calls s b h.0 in let n = value_calls e (b + calls_of_stmt s) h.1 in omega (arith, m, n))
-    stmt_calls (for_loop at f test step s) b h =
-        let l = first_calls f b h.0 in
-        let m = test_calls test (b + calls_of_first f) h.1 in
-        let n = step_calls step (b + calls_of_first f + calls_of_maybe test) h.2 in
-        let o = stmt_calls s (b + calls_of_first f + calls_of_maybe test + calls_of_maybe step) h.3 in
-        omega (arith, l, m, n, o)
-    stmt_calls (switch_on at e gs) b h = (let m = value_calls e b h.0 in let n = groups_calls gs (b + calls e) h.1 in omega (arith, m, n))
-    stmt_calls (return_from at m) b h = test_calls m b h
-    stmt_calls x b h = omega arith
+    pub stmt_alike : (s : Stmt) (b : ℕ) → StmtNamed sites b s
+        → Alike (names_of_stmt (stmt sites b s)) (names_of_stmt s) (tags_of_stmt aside (stmt sites b s)) (tags_of_stmt aside s) (calls_of_stmt (stmt sites b s)) (calls_of_stmt s) (height_of_stmt (stmt sites b s)) (height_of_stmt s)
+    stmt_alike (block at is) b h = deeper (block_alike is b h)
+    stmt_alike (evaluate at e) b h = deeper (value_alike e b false h)
+    stmt_alike (only_if at e s) b h = deeper (beside (value_alike e b true h.0) (stmt_alike s (b + calls e) h.1))
+    stmt_alike (if_else at e s t) b h = deeper (beside (value_alike e b true h.0) (beside (stmt_alike s (b + calls e) h.1) (stmt_alike t (b + calls e + calls_of_stmt s) h.2)))
+    stmt_alike (while_loop at e s) b h = deeper (beside (value_alike e b true h.0) (stmt_alike s (b + calls e) h.1))
+    stmt_alike (do_loop at s e) b h = deeper (before (stmt_alike s b h.0) (value_alike e (b + calls_of_stmt s) true h.1))
+    stmt_alike (for_loop at f test step s) b h =
+        deeper (beside (first_alike f b h.0) (beside (maybe_alike test (b + calls_of_first f) true h.1) (beside (maybe_alike step (b + calls_of_first f + calls_of_maybe test) false h.2) (stmt_alike s (b + calls_of_first f + calls_of_maybe test + calls_of_maybe step) h.3))))
+    stmt_alike (switch_on at e gs) b h = deeper (beside (value_alike e b true h.0) (groups_alike gs (b + calls e) h.1))
+    stmt_alike (return_from at m) b h = deeper (maybe_alike m b true h)
+    stmt_alike s b h = same (names_of_stmt s) (tags_of_stmt aside s) (calls_of_stmt s) (height_of_stmt s)
 
-    block_calls : (is : BlockItems) (b : ℕ) → BlockNamed sites b is → calls_of_block (items_of_block sites b is) ≤ 3 * calls_of_block is
-    block_calls no_block_items b h = omega arith
-    block_calls (block_decl d is) b h = (let m = decl_calls d b h.0 in let n = block_calls is (b + calls_of_decl d) h.1 in omega (arith, m, n))
-    block_calls (block_stmt s is) b h = (let m = stmt_calls s b h.0 in let n = block_calls is (b + calls_of_stmt s) h.1 in omega (arith, m, n))
+    pub block_alike : (is : BlockItems) (b : ℕ) → BlockNamed sites b is
+        → Alike (names_of_block (items_of_block sites b is)) (names_of_block is) (tags_of_block aside (items_of_block sites b is)) (tags_of_block aside is) (calls_of_block (items_of_block sites b is)) (calls_of_block is) (height_of_block_items (items_of_block sites b is)) (height_of_block_items is)
+    block_alike no_block_items b h = same [] [] 0 0
+    block_alike (block_decl d is) b h = beside (decl_alike d b h.0) (block_alike is (b + calls_of_decl d) h.1)
+    block_alike (block_stmt s is) b h = beside (stmt_alike s b h.0) (block_alike is (b + calls_of_stmt s) h.1)
 
-    stmts_calls : (ss : Stmts) (b : ℕ) → StmtsNamed sites b ss → calls_of_stmts (stmts sites b ss) ≤ 3 * calls_of_stmts ss
-    stmts_calls no_stmts b h = omega arith
-    stmts_calls (more_stmts s ss) b h = (let m = stmt_calls s b h.0 in let n = stmts_calls ss (b + calls_of_stmt s) h.1 in omega (arith, m, n))
+    stmts_alike : (ss : Stmts) (b : ℕ) → StmtsNamed sites b ss
+        → Alike (names_of_stmts (stmts sites b ss)) (names_of_stmts ss) (tags_of_stmts aside (stmts sites b ss)) (tags_of_stmts aside ss) (calls_of_stmts (stmts sites b ss)) (calls_of_stmts ss) (height_of_stmts (stmts sites b ss)) (height_of_stmts ss)
+    stmts_alike no_stmts b h = same [] [] 0 0
+    stmts_alike (more_stmts s ss) b h = beside (stmt_alike s b h.0) (stmts_alike ss (b + calls_of_stmt s) h.1)
 
-    groups_calls : (gs : Groups) (b : ℕ) → GroupsNamed sites b gs → calls_of_groups (groups sites b gs) ≤ 3 * calls_of_groups gs
-    groups_calls no_groups b h = omega arith
-    groups_calls (more_groups ls ss gs) b h = (let m = stmts_calls ss b h.0 in let n = groups_calls gs (b + calls_of_stmts ss) h.1 in omega (arith, m, n))
+    groups_alike : (gs : Groups) (b : ℕ) → GroupsNamed sites b gs
+        → Alike (names_of_groups (groups sites b gs)) (names_of_groups gs) (tags_of_groups aside (groups sites b gs)) (tags_of_groups aside gs) (calls_of_groups (groups sites b gs)) (calls_of_groups gs) (height_of_groups (groups sites b gs)) (height_of_groups gs)
+    groups_alike no_groups b h = same [] [] 0 0
+    groups_alike (more_groups ls ss gs) b h = behind [] (tags_of_labels ls) (height_of_labels ls) (beside (stmts_alike ss b h.0) (groups_alike gs (b + calls_of_stmts ss) h.1))
 
 pub statements_stay : StatementsCountAlike
-statements_stay sites b s h = record { names_same = stmt_names sites s b; calls_most = stmt_calls sites s b h }
+statements_stay sites b s h = (let a = stmt_alike false sites s b h in record { names_same = a.listed; calls_most = a.calls_most })
 
 pub blocks_stay : BlocksCountAlike
-blocks_stay sites b is h = record { names_same = block_names sites is b; calls_most = block_calls sites is b h }
+blocks_stay sites b is h = (let a = block_alike false sites is b h in record { names_same = a.listed; calls_most = a.calls_most })
