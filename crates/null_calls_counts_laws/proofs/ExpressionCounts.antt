@@ -129,16 +129,16 @@ designator_stays sites b (Some c) d h = λ e. named_stays sites b d (h e)
 
 -- ## Expressions
 
-by_type : (P : Expr → Type 0) (t : Bool) (x y : Expr) → P x → P y → P (if t then x else y)
+pub by_type : (P : Expr → Type 0) (t : Bool) (x y : Expr) → P x → P y → P (if t then x else y)
 by_type P true x y h k = h
 by_type P false x y h k = k
 
 -- what holds of the operand of an operator whose value isn't wanted, where the operand is unary: for it may be left out with the operator
-abbrev Operand : (P : Expr → Type 0) (sites : Sites) (b : ℕ) → Expr → Type 0
+abbrev pub Operand : (P : Expr → Type 0) (sites : Sites) (b : ℕ) → Expr → Type 0
 Operand P sites b (unary place inner e) = P (expr sites b false e)
 Operand P sites b e = Unit {0}
 
-by_unary : (P : Expr → Type 0) (sites : Sites) (at op : ℕ) (x : Expr) (b : ℕ) (wanted : Bool) → P (unary at op (expr sites b true x)) → Operand P sites b x → P (expr sites b wanted (unary at op x))
+pub by_unary : (P : Expr → Type 0) (sites : Sites) (at op : ℕ) (x : Expr) (b : ℕ) (wanted : Bool) → P (unary at op (expr sites b true x)) → Operand P sites b x → P (expr sites b wanted (unary at op x))
 by_unary P sites at op (unary place inner e) b false h k = by_type P (is_address_of_indirection op inner) (expr sites b false e) (unary at op (unary place inner (expr sites b true e))) k h
 by_unary P sites at op y b true h k = h
 by_unary P sites at op y b false h k = h

@@ -1,5 +1,6 @@
 -- How deep the nodes of expressions with null calls round their marked calls stand in each other.
 use Rattle.null_calls_counts_laws.specs.Heights.{ExpressionsStayLow}
+pub use Rattle.null_calls_counts_laws.proofs.ExpressionCounts.{by_unary, Operand, by_type}
 use Rattle.null_calls_counts_laws.proofs.ExpressionCounts.{expr_alike}
 
 pub expressions_low : ExpressionsStayLow

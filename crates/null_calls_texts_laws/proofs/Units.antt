@@ -17,7 +17,7 @@ use Rattle.null_calls_units_laws.specs.Instrumented as units
 use Rattle.null_calls_units_laws.specs.Instrumented.{calls_of_item, null_prototype}
 use Rattle.c_syntax_laws.specs.Writable.{IsWritableStmt, AreWritableBlockItems, IsWritableItem, AreWritableItems}
 use Rattle.dm_base.specs.Name.{IsName}
-use Rattle.null_calls_units_laws.proofs.StatementHeights.{block_low}
+use Rattle.null_calls_units_laws.proofs.StatementHeights.{blocks_low}
 use Rattle.null_calls_units_laws.specs.Functions.{FunctionFacts}
 use Rattle.null_calls_units_laws.proofs.FileWritten.{form_tags}
 use Rattle.null_calls_units_laws.proofs.Facts.{UnitFacts}
@@ -67,7 +67,7 @@ module _ (p : Program) (tags : List Name) (fit : (s : ℕ) → FitsWhere (sites_
       let later : BlockItems = items_of_block (sites_of p) b.sites is in
       let t = facts.3.temporaries in
       let low = declared_low e.enums tags stood at xs later t.written in
-      let rest = block_low (sites_of p) is b.sites facts.3.named in
+      let rest = blocks_low (sites_of p) b.sites is facts.3.named in
       let own = body_fine body f.2 in
       record {
         fine = (f.0, f.1, declared_fine e.enums tags stood at xs later t.written (block_fine (sites_of p) is b.sites own.0));
