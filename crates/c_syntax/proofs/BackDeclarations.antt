@@ -1,10 +1,10 @@
 -- The tokens that initialisers and declarations are printed with are read back as the same, apart from places.
-use Rattle.std.proofs.Common.{◌≡◌, ℕ, ◌≤◌, List, ◌∷◌, refl, ap, sym, subst, arith}
+use Rattle.std.proofs.Common.{◌≡◌, ℕ, ◌≤◌, List, ◌∷◌, refl, ap, ap₂, arith}
 use Rattle.c_lexer.specs.declared.token.Token.{Token}
 use Rattle.c_lexer.specs.declared.token.TokenKind.{TokenKind}
 use Rattle.c_lexer.specs.declared.token.TokenKind.TheVariants.{Punct}
 use Rattle.c_lexer.specs.declared.punctuator.TheConstants as p
-use Rattle.c_syntax.specs.Tree.{Storage, Spec, Expr, Maybe, absent, there, Declarator}
+use Rattle.c_syntax.specs.Tree.{Expr, Maybe, absent, there, Declarator}
 use Rattle.c_syntax.specs.Tree.{Init, one, list, Inits, no_inits, more_inits, MaybeInit, no_init, an_init, Parts, no_parts, more_parts, Decl, decl}
 use Rattle.c_syntax.specs.Tree.{First, first_absent, first_expr, first_decl}
 use Rattle.c_syntax.specs.Tokens.{Is, place}
@@ -17,27 +17,9 @@ use Rattle.c_syntax.specs.Same.{unplaced, unplaced_maybe, unplaced_init, unplace
 use Rattle.c_syntax.specs.Print.{is_bare, is_direct, expr_kinds, spec_kinds, declarator_kinds, operand_kinds, maybe_kinds, init_kinds, inits_kinds, next_inits, maybe_init_kinds, next_parts, parts_kinds, decl_kinds, first_kinds, head_kinds}
 use Rattle.c_syntax.proofs.Fine.{IsFine, IsFineMaybe}
 use Rattle.c_syntax.proofs.FineUnits.{IsFineInit, AreFineInits, IsFineMaybeInit, AreFineParts, IsFineDecl, IsFineFirst}
-use Rattle.c_syntax.proofs.BackTokens.{kinds, headed, mark, ends, as_assigning}
+use Rattle.c_syntax.proofs.BackTokens.{kinds, headed, mark, ends, BackOf, ends_at, begins_at, kept, ap_three, as_assigning}
 use Rattle.c_syntax.proofs.BackParts.{Back, back_storage, back_spec, has_name, declares_of}
 use Rattle.c_syntax.proofs.BackExpressions.{back, operand_back, back_declarator, to_expression}
-
--- what is read back of a part
-pub record BackOf {T : Type 0} (R : T → List Token → List Token → Type 0) (strip : T → T) (x : T) (ts : List Token) (k : List TokenKind) : Type 0 where
-  pub tree : T
-  pub after : List Token
-  pub reads : R tree ts after
-  pub same : strip tree ≡ strip x
-  pub left : kinds after ≡ k
-
--- phrases that end or begin at equal lists
-pub ends_at : (R : List Token → List Token → Type 0) {i j k : List Token} → j ≡ k → R i j → R i k
-ends_at R {i} q r = subst (λ (x : List Token). R i x) q r
-
-pub begins_at : (R : List Token → List Token → Type 0) {i j k : List Token} → i ≡ k → R k j → R i j
-begins_at R {j = j} q r = subst (λ (x : List Token). R x j) (sym q) r
-
-pub two : {ts a b : List Token} {t u : Token} → ts ≡ t ∷ a → a ≡ u ∷ b → ts ≡ t ∷ u ∷ b
-two q r = cc
 
 pub expr_back : (e : Expr) → IsFine e → (d : ℕ) → height e ≤ d → (ts : List Token) (k : List TokenKind) → kinds ts ≡ expr_kinds e k → Back expression_level d e ts k
 expr_back e f d v ts k q = let x = back e f d (omega arith) ts k q in record { tree = x.tree; after = x.after; reads = to_expression (is_bare e) x.reads; same = x.same; left = x.left }
@@ -70,17 +52,6 @@ head_back e f d v ts k q =
     let c = headed (Punct p.RIGHT_PARENTHESIS) x.after k x.left in
     record { tree = x.tree; first = h.token; inner = h.rest; final = c.token; rest = c.rest; is = h.is; opens = mark h; reads = ends c.is x.reads; closes = mark c; same = x.same; left = c.left }
 
-same_inits : {a x : Init} {is js : Inits} → x ≡ a → js ≡ is → more_inits x js ≡ more_inits a is
-same_inits q r = cc
-
--- the initialisers after the one that is read
-record BackInits (d : ℕ) (a : Init) (is : Inits) (i : List Token) (k : List TokenKind) : Type 0 where
-  trees : Inits
-  rest : List Token
-  reads : ReadsInits d (more_inits a trees) i rest
-  same : unplaced_inits trees ≡ unplaced_inits is
-  left : kinds rest ≡ k
-
 mutual
   back_init : (a : Init) → IsFineInit a → (d : ℕ) → height_of_init a ≤ d → (ts : List Token) (k : List TokenKind) → kinds ts ≡ init_kinds a k → BackOf (ReadsInit d) unplaced_init a ts k
   back_init (one at e) f d v ts k q =
@@ -90,23 +61,23 @@ mutual
       let h = headed (Punct p.LEFT_BRACE) ts (inits_kinds (more_inits a is) (Punct p.RIGHT_BRACE ∷ k)) q in
       let x = back_init a f.0 d (omega arith) h.rest (next_inits is (Punct p.RIGHT_BRACE ∷ k)) h.left in
       let z = back_inits is f.1 d (omega arith) x.tree h.rest x.after (Punct p.RIGHT_BRACE ∷ k) x.reads x.left in
-      let c = headed (Punct p.RIGHT_BRACE) z.rest k z.left in
-      let tree : Init = list h.token.from (more_inits x.tree z.trees) in
+      let c = headed (Punct p.RIGHT_BRACE) z.after k z.left in
+      let tree : Init = list h.token.from (more_inits x.tree z.tree) in
       record {
         tree = tree;
         after = c.rest;
-        reads = begins_at (ReadsInit d tree) h.is (a_list (mark h) (ends_at (ReadsInits d (more_inits x.tree z.trees)) c.is z.reads) (mark c));
-        same = ap (list 0) (same_inits x.same z.same);
+        reads = begins_at (ReadsInit d tree) h.is (a_list (mark h) (ends_at (ReadsInits d (more_inits x.tree z.tree)) c.is z.reads) (mark c));
+        same = ap (list 0) (ap₂ more_inits x.same z.same);
         left = c.left;
       }
 
-  back_inits : (is : Inits) → AreFineInits is → (d : ℕ) → height_of_inits is ≤ d → (a : Init) (i after : List Token) (k : List TokenKind) → ReadsInit d a i after → kinds after ≡ next_inits is k → BackInits d a is i k
-  back_inits no_inits f d v a i after k r q = record { trees = no_inits; rest = after; reads = last_init r; same = refl; left = q }
+  back_inits : (is : Inits) → AreFineInits is → (d : ℕ) → height_of_inits is ≤ d → (a : Init) (i after : List Token) (k : List TokenKind) → ReadsInit d a i after → kinds after ≡ next_inits is k → BackOf (λ (js : Inits). ReadsInits d (more_inits a js)) unplaced_inits is i k
+  back_inits no_inits f d v a i after k r q = record { tree = no_inits; after = after; reads = last_init r; same = refl; left = q }
   back_inits (more_inits b is) f d v a i after k r q =
       let h = headed (Punct p.COMMA) after (init_kinds b (next_inits is k)) q in
       let x = back_init b f.0 d (omega arith) h.rest (next_inits is k) h.left in
       let z = back_inits is f.1 d (omega arith) x.tree h.rest x.after k x.reads x.left in
-      record { trees = more_inits x.tree z.trees; rest = z.rest; reads = next_init (ends_at (ReadsInit d a) h.is r) (mark h) z.reads; same = same_inits x.same z.same; left = z.left }
+      record { tree = more_inits x.tree z.tree; after = z.after; reads = next_init (ends_at (ReadsInit d a) h.is r) (mark h) z.reads; same = ap₂ more_inits x.same z.same; left = z.left }
 
 back_maybe_init : (v : MaybeInit) → IsFineMaybeInit v → (d : ℕ) → height_of_maybe_init v ≤ d → (ts : List Token) (k : List TokenKind) → kinds ts ≡ maybe_init_kinds v k → BackOf (ReadsMaybeInit d) unplaced_maybe_init v ts k
 back_maybe_init no_init f d v ts k q = record { tree = no_init; after = ts; reads = no_initialiser; same = refl; left = q }
@@ -115,34 +86,20 @@ back_maybe_init (an_init a) f d v ts k q =
     let x = back_init a f d v h.rest k h.left in
     record { tree = an_init x.tree; after = x.after; reads = begins_at (ReadsMaybeInit d (an_init x.tree)) h.is (an_initialiser (mark h) x.reads); same = ap an_init x.same; left = x.left }
 
-pub same_parts : {e y : Declarator} {a x : MaybeInit} {ps qs : Parts} → y ≡ e → x ≡ a → qs ≡ ps → more_parts y x qs ≡ more_parts e a ps
-same_parts q r s = cc
-
--- the declarators after the one that is read
-record BackParts (d : ℕ) (e : Declarator) (v : MaybeInit) (ps : Parts) (i : List Token) (k : List TokenKind) : Type 0 where
-  trees : Parts
-  rest : List Token
-  reads : ReadsParts d (more_parts e v trees) i rest
-  same : unplaced_parts trees ≡ unplaced_parts ps
-  left : kinds rest ≡ k
-
-back_parts : (ps : Parts) → AreFineParts ps → (d : ℕ) → height_of_parts ps ≤ d → (e : Declarator) (x : MaybeInit) (i j after : List Token) (k : List TokenKind) → Declares d e i j → HasName e → ReadsMaybeInit d x j after → kinds after ≡ next_parts ps k → BackParts d e x ps i k
-back_parts no_parts f d v e x i j after k r h y q = record { trees = no_parts; rest = after; reads = last_part r h y; same = refl; left = q }
+back_parts : (ps : Parts) → AreFineParts ps → (d : ℕ) → height_of_parts ps ≤ d → (e : Declarator) (x : MaybeInit) (i j after : List Token) (k : List TokenKind) → Declares d e i j → HasName e → ReadsMaybeInit d x j after → kinds after ≡ next_parts ps k → BackOf (λ (qs : Parts). ReadsParts d (more_parts e x qs)) unplaced_parts ps i k
+back_parts no_parts f d v e x i j after k r h y q = record { tree = no_parts; after = after; reads = last_part r h y; same = refl; left = q }
 back_parts (more_parts e' v' ps) f d v e x i j after k r h y q =
     let c = headed (Punct p.COMMA) after (declarator_kinds e' (maybe_init_kinds v' (next_parts ps k))) q in
     let a = back_declarator e' f.0 d (omega arith) c.rest (maybe_init_kinds v' (next_parts ps k)) c.left in
     let b = back_maybe_init v' f.2 d (omega arith) a.after (next_parts ps k) a.left in
     let z = back_parts ps f.3 d (omega arith) a.tree b.tree c.rest a.after b.after k (declares_of (is_direct e') a.reads) (has_name e' a.tree a.same f.1) b.reads b.left in
     record {
-      trees = more_parts a.tree b.tree z.trees;
-      rest = z.rest;
+      tree = more_parts a.tree b.tree z.tree;
+      after = z.after;
       reads = next_part r h (ends_at (ReadsMaybeInit d x) c.is y) (mark c) z.reads;
-      same = same_parts a.same b.same z.same;
+      same = ap_three more_parts a.same b.same z.same;
       left = z.left;
     }
-
-same_decl : (st : Storage) {s z : Spec} {ps qs : Parts} → z ≡ s → qs ≡ ps → decl 0 st z qs ≡ decl 0 st s ps
-same_decl st q r = cc
 
 pub back_decl : (x : Decl) → IsFineDecl x → (d : ℕ) → height_of_decl x ≤ d → (ts : List Token) (k : List TokenKind) → kinds ts ≡ decl_kinds x k → BackOf (ReadsDecl d) unplaced_decl x ts k
 back_decl (decl at st s no_parts) f d v ts k q = absurd f
@@ -152,23 +109,20 @@ back_decl (decl at st s (more_parts e x ps)) f d v ts k q =
     let y = back_declarator e f.0 d (omega arith) b.after (maybe_init_kinds x (next_parts ps (Punct p.SEMICOLON ∷ k))) b.left in
     let u = back_maybe_init x f.2 d (omega arith) y.after (next_parts ps (Punct p.SEMICOLON ∷ k)) y.left in
     let z = back_parts ps f.3 d (omega arith) y.tree u.tree b.after y.after u.after (Punct p.SEMICOLON ∷ k) (declares_of (is_direct e) y.reads) (has_name e y.tree y.same f.1) u.reads u.left in
-    let c = headed (Punct p.SEMICOLON) z.rest k z.left in
+    let c = headed (Punct p.SEMICOLON) z.after k z.left in
     record {
-      tree = decl (place ts) st b.spec (more_parts y.tree u.tree z.trees);
+      tree = decl (place ts) st b.tree (more_parts y.tree u.tree z.tree);
       after = c.rest;
-      reads = a_declaration refl g.reads b.reads (ends_at (ReadsParts d (more_parts y.tree u.tree z.trees)) c.is z.reads) (mark c);
-      same = same_decl st b.same (same_parts y.same u.same z.same);
+      reads = a_declaration refl g.reads b.reads (ends_at (ReadsParts d (more_parts y.tree u.tree z.tree)) c.is z.reads) (mark c);
+      same = ap₂ (decl 0 st) b.same (ap_three more_parts y.same u.same z.same);
       left = c.left;
     }
 
-plain_up : (x : Decl) → IsPlainDecl x → IsPlainDecl (unplaced_decl x)
-plain_up (decl at st s ps) h = h
-
-plain_down : (x : Decl) → IsPlainDecl (unplaced_decl x) → IsPlainDecl x
-plain_down (decl at st s ps) h = h
+plain_alike : (x : Decl) → IsPlainDecl (unplaced_decl x) ≡ IsPlainDecl x
+plain_alike (decl at st s ps) = refl
 
 pub is_plain : (x y : Decl) → unplaced_decl y ≡ unplaced_decl x → IsPlainDecl x → IsPlainDecl y
-is_plain x y q h = plain_down y (subst IsPlainDecl (sym q) (plain_up x h))
+is_plain = kept IsPlainDecl unplaced_decl plain_alike
 
 pub first_back : (x : First) → IsFineFirst x → (d : ℕ) → height_of_first x ≤ d → (ts : List Token) (k : List TokenKind) → kinds ts ≡ first_kinds x k → BackOf (ReadsFirst d) unplaced_first x ts k
 first_back first_absent f d v ts k q =

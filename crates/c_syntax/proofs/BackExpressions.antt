@@ -1,11 +1,11 @@
 -- The tokens that an expression, a declarator or the name of a type is printed with are read back as the same, apart from places.
-use Rattle.std.proofs.Common.{◌≡◌, ℕ, zero, suc, ◌≤◌, Bool, true, false, List, ◌∷◌, refl, ap, sym, subst, arith}
+use Rattle.std.proofs.Common.{◌≡◌, ℕ, zero, suc, ◌≤◌, Bool, true, false, List, ◌∷◌, refl, ap, ap₂, arith}
 use Rattle.c_lexer.specs.declared.token.Token.{Token}
 use Rattle.c_lexer.specs.declared.token.TokenKind.{TokenKind}
 use Rattle.c_lexer.specs.declared.token.TokenKind.TheVariants.{Name, Keyword, Int, Char, Str, Punct}
 use Rattle.c_lexer.specs.declared.punctuator.TheConstants as p
 use Rattle.c_lexer.specs.declared.keyword.TheConstants as w
-use Rattle.c_syntax.specs.Tree.{Spec, Postfix, post_increment, post_decrement, Prefix, pre_increment, pre_decrement, sizeof, Access, dot, arrow}
+use Rattle.c_syntax.specs.Tree.{Spec, Postfix, post_increment, post_decrement, Prefix, pre_increment, Access, dot, arrow}
 use Rattle.c_syntax.specs.Tree.{Expr, a_name, an_int, a_char, a_str, comma, sizeof_type, cast, call, member, postfix, prefix, unary, index, binary, assign, conditional}
 use Rattle.c_syntax.specs.Tree.{Exprs, no_exprs, more_exprs, Maybe, absent, there, TypeName, type_name, Declarator, nothing, named, pointer, array, function, Params, no_params, more_params}
 use Rattle.c_syntax.specs.Tokens.{IsPostfix, IsPrefix, IsAccess, place, code_of_infix}
@@ -15,12 +15,11 @@ use Rattle.c_syntax.specs.Grammar.{Reads, is_name, is_int, is_char, are_strings,
 use Rattle.c_syntax.specs.Grammar.{ReadsList, last_expr, next_expr, no_suffix, an_index, an_empty_call, a_call, a_member, a_postfix, no_operator, an_operator}
 use Rattle.c_syntax.specs.Grammar.{ReadsSize, no_size, a_size, ReadsType, a_type, Declares, a_pointer, a_declared, declarator_in_parentheses, no_core, no_more, an_array, a_function, ReadsParams, are_none, are_some, ReadsEach, last_param, next_param}
 use Rattle.c_syntax.specs.Limits.{height, height_of_exprs, height_of_maybe, height_of_type, height_of_declarator, height_of_params}
-use Rattle.c_syntax.specs.Same.{unplaced_exprs, unplaced_params}
+use Rattle.c_syntax.specs.Same.{unplaced_exprs, unplaced_maybe, unplaced_type, unplaced_params}
 use Rattle.c_syntax.specs.Print.{spec_kinds, prefix_kind, postfix_kind, access_kind, is_bare, wrapped, is_direct, expr_kinds, list_kinds, next_kinds, size_kinds, type_kinds, declarator_kinds, params_kinds, next_params}
 use Rattle.c_syntax.proofs.Fine.{IsFine, AreFine, IsFineMaybe, IsFineType, IsFineDeclarator, AreFineParams, IsParameterList}
-use Rattle.c_syntax.proofs.BackTokens.{kinds, headed, mark, word, ends, begins, as_casting, chained_up, from_level, as_choosing, as_assigning, as_expression, suffixed_by, begins_suffixes, begins_lengthens}
-use Rattle.c_syntax.proofs.BackParts.{back_name, back_spec, has_no_name, is_there, are_some_too, Back, BackSize, BackType, Direct, BackDeclarator, BackParams, declares_of, lengthened_by, there_if}
-use Rattle.c_syntax.proofs.BackParts.{same_comma, same_cast, same_call, same_member, same_index, same_binary, same_assign, same_conditional, same_more, same_type, same_array, same_function, same_params}
+use Rattle.c_syntax.proofs.BackTokens.{kinds, headed, mark, word, ends, begins, BackOf, ends_at, begins_at, two, ap_three, as_casting, chained_up, from_level, as_choosing, as_assigning, as_expression, suffixed_by, begins_suffixes, begins_lengthens}
+use Rattle.c_syntax.proofs.BackParts.{back_name, back_spec, has_no_name, is_there, are_some_too, Back, Direct, BackDeclarator, declares_of, lengthened_by, there_if}
 
 abbrev pub own : Bool → Level
 own true = postfix_level
@@ -31,13 +30,9 @@ pub to_expression : (b : Bool) {d : ℕ} {e : Expr} {i j : List Token} → Reads
 to_expression true r = as_expression (as_casting r)
 to_expression false r = r
 
-two : {ts a b : List Token} {t u : Token} → ts ≡ t ∷ a → a ≡ u ∷ b → ts ≡ t ∷ u ∷ b
-two q r = cc
-
 is_prefix : (o : Prefix) (t : Token) → t.kind ≡ prefix_kind o → IsPrefix o t
 is_prefix pre_increment t q = record { kind = q }
-is_prefix pre_decrement t q = record { kind = q }
-is_prefix sizeof t q = record { kind = q }
+is_prefix o t q = record { kind = q }
 
 is_postfix : (o : Postfix) (t : Token) → t.kind ≡ postfix_kind o → IsPostfix o t
 is_postfix post_increment t q = record { kind = q }
@@ -47,54 +42,13 @@ is_access : (o : Access) (t : Token) → t.kind ≡ access_kind o → IsAccess o
 is_access dot t q = record { kind = q }
 is_access arrow t q = record { kind = q }
 
-ends_list : {d : ℕ} {e : Exprs} {i j k : List Token} → j ≡ k → ReadsList d e i j → ReadsList d e i k
-ends_list {d} {e} {i} q r = subst (λ (x : List Token). ReadsList d e i x) q r
-
-ends_type : {d : ℕ} {n : TypeName} {i j k : List Token} → j ≡ k → ReadsType d n i j → ReadsType d n i k
-ends_type {d} {n} {i} q r = subst (λ (x : List Token). ReadsType d n i x) q r
-
-ends_size : {d : ℕ} {e : Maybe} {i j k : List Token} → j ≡ k → ReadsSize d e i j → ReadsSize d e i k
-ends_size {d} {e} {i} q r = subst (λ (x : List Token). ReadsSize d e i x) q r
-
-ends_declares : {d : ℕ} {e : Declarator} {i j k : List Token} → j ≡ k → Declares d e i j → Declares d e i k
-ends_declares {d} {e} {i} q r = subst (λ (x : List Token). Declares d e i x) q r
-
-begins_declares : {d : ℕ} {e : Declarator} {i j k : List Token} → i ≡ k → Declares d e k j → Declares d e i j
-begins_declares {d} {e} {i} {j} q r = subst (λ (x : List Token). Declares d e x j) (sym q) r
-
-begins_direct : {d : ℕ} {e : Declarator} {i j k : List Token} → i ≡ k → Direct d e k j → Direct d e i j
-begins_direct {d} {e} {i} {j} q r = subst (λ (x : List Token). Direct d e x j) (sym q) r
-
-ends_params : {d : ℕ} {ps : Params} {i j k : List Token} → j ≡ k → ReadsParams d ps i j → ReadsParams d ps i k
-ends_params {d} {ps} {i} q r = subst (λ (x : List Token). ReadsParams d ps i x) q r
-
-begins_params : {d : ℕ} {ps : Params} {i j k : List Token} → i ≡ k → ReadsParams d ps k j → ReadsParams d ps i j
-begins_params {d} {ps} {i} {j} q r = subst (λ (x : List Token). ReadsParams d ps x j) (sym q) r
-
 some_height : (e : Expr) → 1 ≤ height e
 some_height (a_name at n) = omega arith
-some_height (an_int at n u) = omega arith
-some_height (a_char at c) = omega arith
-some_height (a_str at bytes) = omega arith
-some_height (comma at es) = omega arith
-some_height (sizeof_type at n) = omega arith
-some_height (cast at n a) = omega arith
-some_height (call at a es) = omega arith
-some_height (member at access a x) = omega arith
-some_height (postfix at o a) = omega arith
-some_height (prefix at o a) = omega arith
-some_height (unary at op a) = omega arith
-some_height (index at a b) = omega arith
-some_height (binary at o a b) = omega arith
-some_height (assign at op a b) = omega arith
-some_height (conditional at a b c) = omega arith
+some_height e = omega arith
 
 some_declarator_height : (e : Declarator) → IsThere e → 1 ≤ height_of_declarator e
 some_declarator_height nothing h = absurd h
-some_declarator_height (named at x) h = omega arith
-some_declarator_height (pointer at e) h = omega arith
-some_declarator_height (array at e size) h = omega arith
-some_declarator_height (function at e ps) h = omega arith
+some_declarator_height e h = omega arith
 
 -- in parentheses where it isn't bare
 pub operand_back : (b : Bool) (d : ℕ) (e : Expr) (f : List TokenKind → List TokenKind) → ((x : ℕ) → height e ≤ suc x → (ts : List Token) (k : List TokenKind) → kinds ts ≡ f k → Back (own b) x e ts k) → height e ≤ d →
@@ -127,24 +81,8 @@ inner_back false (suc d) e f rec g v ts k q =
       after = c.rest;
       same = x.same;
       left = c.left;
-      reads = begins_direct h.is (record { at = _; core = x.tree; middle = c.rest; is = refl; reads = declarator_in_parentheses (mark h) (ends_declares c.is x.reads) (is_there e x.tree x.same (g refl)) (mark c); longer = no_more });
+      reads = begins_at (Direct (suc d) x.tree) h.is (record { at = _; core = x.tree; middle = c.rest; is = refl; reads = declarator_in_parentheses (mark h) (ends_at (Declares d x.tree) c.is x.reads) (is_there e x.tree x.same (g refl)) (mark c); longer = no_more });
     }
-
--- the members after the one that is read
-record BackRest (d : ℕ) (a : Expr) (es : Exprs) (i : List Token) (k : List TokenKind) : Type 0 where
-  trees : Exprs
-  rest : List Token
-  reads : ReadsList d (more_exprs a trees) i rest
-  same : unplaced_exprs trees ≡ unplaced_exprs es
-  left : kinds rest ≡ k
-
--- the parameters after the one that is read
-record BackMore (d at : ℕ) (s : Spec) (e : Declarator) (ps : Params) (i : List Token) (k : List TokenKind) : Type 0 where
-  trees : Params
-  rest : List Token
-  reads : ReadsEach d (more_params at s e trees) i rest
-  same : unplaced_params trees ≡ unplaced_params ps
-  left : kinds rest ≡ k
 
 mutual
   pub back : (e : Expr) → IsFine e → (d : ℕ) → height e ≤ suc d → (ts : List Token) (k : List TokenKind) → kinds ts ≡ expr_kinds e k → Back (own (is_bare e)) d e ts k
@@ -157,17 +95,15 @@ mutual
   back (a_str at bytes) f d v ts k q =
       let h = headed (Str bytes) ts k q in
       record { tree = a_str h.token.from bytes; after = h.rest; reads = begins h.is (with_suffixes refl (are_strings refl (last_string (record { kind = h.kind }))) no_suffix); same = refl; left = h.left }
-  back (comma at no_exprs) f d v ts k q = absurd f.0
-  back (comma at (more_exprs a no_exprs)) f d v ts k q = absurd f.0
   back (comma at (more_exprs a (more_exprs b es))) f d v ts k q =
       let x = operand_back (is_bare a) d a (expr_kinds a) (back a f.1.0) (omega arith) ts (next_kinds (more_exprs b es) k) q in
       let h = headed (Punct p.COMMA) x.after (wrapped (is_bare b) (expr_kinds b) (next_kinds es k)) x.left in
       let y = operand_back (is_bare b) d b (expr_kinds b) (back b f.1.1.0) (omega arith) h.rest (next_kinds es k) h.left in
       let z = back_rest es f.1.1.1 d (omega arith) y.tree h.rest y.after k (as_assigning y.reads) y.left in
       record {
-        tree = comma _ (more_exprs x.tree (more_exprs y.tree z.trees));
-        after = z.rest;
-        same = same_comma x.same (same_more y.same z.same);
+        tree = comma _ (more_exprs x.tree (more_exprs y.tree z.tree));
+        after = z.after;
+        same = ap (comma 0) (ap₂ more_exprs x.same (ap₂ more_exprs y.same z.same));
         left = z.left;
         reads = a_comma refl (ends h.is (as_assigning x.reads)) (mark h) z.reads;
       }
@@ -181,7 +117,7 @@ mutual
         after = c.rest;
         same = ap (sizeof_type 0) x.same;
         left = c.left;
-        reads = as_expression (no_cast (begins (two h.is o.is) (a_sizeof_type (word h) (mark o) (ends_type c.is x.reads) (mark c))));
+        reads = as_expression (no_cast (begins (two h.is o.is) (a_sizeof_type (word h) (mark o) (ends_at (ReadsType d x.tree) c.is x.reads) (mark c))));
       }
   back (cast at n a) f d v ts k q =
       let h = headed (Punct p.LEFT_PARENTHESIS) ts (type_kinds n (Punct p.RIGHT_PARENTHESIS ∷ wrapped (is_bare a) (expr_kinds a) k)) q in
@@ -191,30 +127,30 @@ mutual
       record {
         tree = cast h.token.from x.tree y.tree;
         after = y.after;
-        same = same_cast x.same y.same;
+        same = ap₂ (cast 0) x.same y.same;
         left = y.left;
-        reads = as_expression (begins h.is (a_cast (mark h) (ends_type c.is x.reads) (mark c) (as_casting y.reads)));
+        reads = as_expression (begins h.is (a_cast (mark h) (ends_at (ReadsType d x.tree) c.is x.reads) (mark c) (as_casting y.reads)));
       }
   back (call at a no_exprs) f d v ts k q =
       let x = operand_back (is_bare a) d a (expr_kinds a) (back a f.0) (omega arith) ts (Punct p.LEFT_PARENTHESIS ∷ Punct p.RIGHT_PARENTHESIS ∷ k) q in
       let h = headed (Punct p.LEFT_PARENTHESIS) x.after (Punct p.RIGHT_PARENTHESIS ∷ k) x.left in
       let c = headed (Punct p.RIGHT_PARENTHESIS) h.rest k h.left in
       let z = suffixed_by {F = λ at. call at x.tree no_exprs} x.reads (λ at. begins_suffixes (two h.is c.is) (an_empty_call (mark h) (mark c) no_suffix)) in
-      record { tree = call z.0 x.tree no_exprs; after = c.rest; same = same_call x.same refl; left = c.left; reads = z.1 }
+      record { tree = call z.0 x.tree no_exprs; after = c.rest; same = ap (λ (b : Expr). call 0 b no_exprs) x.same; left = c.left; reads = z.1 }
   back (call at a (more_exprs b es)) f d v ts k q =
       let x = operand_back (is_bare a) d a (expr_kinds a) (back a f.0) (omega arith) ts (Punct p.LEFT_PARENTHESIS ∷ list_kinds (more_exprs b es) (Punct p.RIGHT_PARENTHESIS ∷ k)) q in
       let h = headed (Punct p.LEFT_PARENTHESIS) x.after (list_kinds (more_exprs b es) (Punct p.RIGHT_PARENTHESIS ∷ k)) x.left in
       let y = operand_back (is_bare b) d b (expr_kinds b) (back b f.1.0) (omega arith) h.rest (next_kinds es (Punct p.RIGHT_PARENTHESIS ∷ k)) h.left in
       let u = back_rest es f.1.1 d (omega arith) y.tree h.rest y.after (Punct p.RIGHT_PARENTHESIS ∷ k) (as_assigning y.reads) y.left in
-      let c = headed (Punct p.RIGHT_PARENTHESIS) u.rest k u.left in
-      let z = suffixed_by {F = λ at. call at x.tree (more_exprs y.tree u.trees)} x.reads (λ at. begins_suffixes h.is (a_call (mark h) (ends_list c.is u.reads) (mark c) no_suffix)) in
-      record { tree = call z.0 x.tree (more_exprs y.tree u.trees); after = c.rest; same = same_call x.same (same_more y.same u.same); left = c.left; reads = z.1 }
+      let c = headed (Punct p.RIGHT_PARENTHESIS) u.after k u.left in
+      let z = suffixed_by {F = λ at. call at x.tree (more_exprs y.tree u.tree)} x.reads (λ at. begins_suffixes h.is (a_call (mark h) (ends_at (ReadsList d (more_exprs y.tree u.tree)) c.is u.reads) (mark c) no_suffix)) in
+      record { tree = call z.0 x.tree (more_exprs y.tree u.tree); after = c.rest; same = ap₂ (call 0) x.same (ap₂ more_exprs y.same u.same); left = c.left; reads = z.1 }
   back (member at access a m) f d v ts k q =
       let x = operand_back (is_bare a) d a (expr_kinds a) (back a f) (omega arith) ts (access_kind access ∷ Name m.name ∷ k) q in
       let h = headed (access_kind access) x.after (Name m.name ∷ k) x.left in
       let g = back_name m h.rest k h.left in
       let z = suffixed_by {F = λ at. member at access x.tree g.ident} x.reads (λ at. begins_suffixes (two h.is g.heads.is) (a_member (is_access access h.token h.kind) g.names no_suffix)) in
-      record { tree = member z.0 access x.tree g.ident; after = g.heads.rest; same = same_member access x.same g.same; left = g.heads.left; reads = z.1 }
+      record { tree = member z.0 access x.tree g.ident; after = g.heads.rest; same = ap₂ (member 0 access) x.same g.same; left = g.heads.left; reads = z.1 }
   back (postfix at o a) f d v ts k q =
       let x = operand_back (is_bare a) d a (expr_kinds a) (back a f) (omega arith) ts (postfix_kind o ∷ k) q in
       let h = headed (postfix_kind o) x.after k x.left in
@@ -234,7 +170,7 @@ mutual
       let y = back b f.1 d (omega arith) h.rest (Punct p.RIGHT_BRACKET ∷ k) h.left in
       let c = headed (Punct p.RIGHT_BRACKET) y.after k y.left in
       let z = suffixed_by {F = λ at. index at x.tree y.tree} x.reads (λ at. begins_suffixes h.is (an_index (mark h) (ends c.is (to_expression (is_bare b) y.reads)) (mark c) no_suffix)) in
-      record { tree = index z.0 x.tree y.tree; after = c.rest; same = same_index x.same y.same; left = c.left; reads = z.1 }
+      record { tree = index z.0 x.tree y.tree; after = c.rest; same = ap₂ (index 0) x.same y.same; left = c.left; reads = z.1 }
   back (binary at o a b) f d v ts k q =
       let x = operand_back (is_bare a) d a (expr_kinds a) (back a f.1) (omega arith) ts (Punct (code_of_infix o) ∷ wrapped (is_bare b) (expr_kinds b) k) q in
       let h = headed (Punct (code_of_infix o)) x.after (wrapped (is_bare b) (expr_kinds b) k) x.left in
@@ -242,7 +178,7 @@ mutual
       record {
         tree = binary _ o x.tree y.tree;
         after = y.after;
-        same = same_binary o x.same y.same;
+        same = ap₂ (binary 0 o) x.same y.same;
         left = y.left;
         reads = from_level f.0.level f.0.low (a_chain refl (chained_up f.0.level (as_casting (ends h.is x.reads))) (an_operator f.0.is (mark h) (chained_up f.0.level (as_casting y.reads)) no_operator));
       }
@@ -253,7 +189,7 @@ mutual
       record {
         tree = assign _ op x.tree y.tree;
         after = y.after;
-        same = same_assign op x.same y.same;
+        same = ap₂ (assign 0 op) x.same y.same;
         left = y.left;
         reads = no_comma (an_assignment refl (no_prefix (ends h.is x.reads)) (mark h) f.0 (as_assigning y.reads));
       }
@@ -266,34 +202,35 @@ mutual
       record {
         tree = conditional _ x.tree y.tree z.tree;
         after = z.after;
-        same = same_conditional x.same y.same z.same;
+        same = ap_three (conditional 0) x.same y.same z.same;
         left = z.left;
         reads = no_comma (no_assignment (a_choice refl (chained_up 10 (as_casting (ends h.is x.reads))) (mark h) (ends o.is (as_expression (as_casting y.reads))) (mark o) (as_choosing (as_casting z.reads))));
       }
+  back e f d v ts k q = absurd f.0
 
-  back_rest : (es : Exprs) → AreFine es → (d : ℕ) → height_of_exprs es ≤ d → (a : Expr) (i after : List Token) (k : List TokenKind) → Reads d assignment_level a i after → kinds after ≡ next_kinds es k → BackRest d a es i k
-  back_rest no_exprs f d v a i after k r q = record { trees = no_exprs; rest = after; reads = last_expr r; same = refl; left = q }
+  back_rest : (es : Exprs) → AreFine es → (d : ℕ) → height_of_exprs es ≤ d → (a : Expr) (i after : List Token) (k : List TokenKind) → Reads d assignment_level a i after → kinds after ≡ next_kinds es k → BackOf (λ (fs : Exprs). ReadsList d (more_exprs a fs)) unplaced_exprs es i k
+  back_rest no_exprs f d v a i after k r q = record { tree = no_exprs; after = after; reads = last_expr r; same = refl; left = q }
   back_rest (more_exprs b es) f d v a i after k r q =
       let h = headed (Punct p.COMMA) after (wrapped (is_bare b) (expr_kinds b) (next_kinds es k)) q in
       let y = operand_back (is_bare b) d b (expr_kinds b) (back b f.0) (omega arith) h.rest (next_kinds es k) h.left in
       let z = back_rest es f.1 d (omega arith) y.tree h.rest y.after k (as_assigning y.reads) y.left in
-      record { trees = more_exprs y.tree z.trees; rest = z.rest; reads = next_expr (ends h.is r) (mark h) z.reads; same = same_more y.same z.same; left = z.left }
+      record { tree = more_exprs y.tree z.tree; after = z.after; reads = next_expr (ends h.is r) (mark h) z.reads; same = ap₂ more_exprs y.same z.same; left = z.left }
 
-  pub back_size : (e : Maybe) → IsFineMaybe e → (d : ℕ) → height_of_maybe e ≤ d → (ts : List Token) (k : List TokenKind) → kinds ts ≡ size_kinds e k → BackSize d e ts k
+  pub back_size : (e : Maybe) → IsFineMaybe e → (d : ℕ) → height_of_maybe e ≤ d → (ts : List Token) (k : List TokenKind) → kinds ts ≡ size_kinds e k → BackOf (ReadsSize d) unplaced_maybe e ts k
   back_size absent f d v ts k q = record { tree = absent; after = ts; reads = no_size; same = refl; left = q }
   back_size (there e) f d v ts k q =
       let x = operand_back (is_bare e) d e (expr_kinds e) (back e f) v ts k q in
       record { tree = there x.tree; after = x.after; reads = a_size (as_choosing (as_casting x.reads)); same = ap there x.same; left = x.left }
 
-  pub back_type : (n : TypeName) → IsFineType n → (d : ℕ) → height_of_type n ≤ d → (ts : List Token) (k : List TokenKind) → kinds ts ≡ type_kinds n k → BackType d n ts k
+  pub back_type : (n : TypeName) → IsFineType n → (d : ℕ) → height_of_type n ≤ d → (ts : List Token) (k : List TokenKind) → kinds ts ≡ type_kinds n k → BackOf (ReadsType d) unplaced_type n ts k
   back_type (type_name at s e) f d v ts k q =
       let x = back_spec s ts (declarator_kinds e k) q in
       let y = back_declarator e f.1 d (omega arith) x.after k x.left in
       record {
-        tree = type_name _ x.spec y.tree;
+        tree = type_name _ x.tree y.tree;
         after = y.after;
         reads = a_type refl x.reads (declares_of (is_direct e) y.reads) (has_no_name e y.tree y.same f.0);
-        same = same_type x.same y.same;
+        same = ap₂ (type_name 0) x.same y.same;
         left = y.left;
       }
 
@@ -305,50 +242,50 @@ mutual
       record {
         tree = named g.heads.token.from g.ident;
         after = g.heads.rest;
-        reads = begins_direct g.heads.is (record { at = _; core = named g.heads.token.from g.ident; middle = g.heads.rest; is = refl; reads = a_declared g.names; longer = no_more });
+        reads = begins_at (Direct d (named g.heads.token.from g.ident)) g.heads.is (record { at = _; core = named g.heads.token.from g.ident; middle = g.heads.rest; is = refl; reads = a_declared g.names; longer = no_more });
         same = ap (named 0) g.same;
         left = g.heads.left;
       }
   back_declarator (pointer at e) f d v ts k q =
       let h = headed (Punct p.ASTERISK) ts (declarator_kinds e k) q in
       let y = back_declarator e f d (omega arith) h.rest k h.left in
-      record { tree = pointer h.token.from y.tree; after = y.after; reads = begins_declares h.is (a_pointer (mark h) no_const (declares_of (is_direct e) y.reads)); same = ap (pointer 0) y.same; left = y.left }
+      record { tree = pointer h.token.from y.tree; after = y.after; reads = begins_at (Declares d (pointer h.token.from y.tree)) h.is (a_pointer (mark h) no_const (declares_of (is_direct e) y.reads)); same = ap (pointer 0) y.same; left = y.left }
   back_declarator (array at e size) f d v ts k q =
       let x = inner_back (is_direct e) d e (declarator_kinds e) (back_declarator e f.0) (there_if e) (omega arith) ts (Punct p.LEFT_BRACKET ∷ size_kinds size (Punct p.RIGHT_BRACKET ∷ k)) q in
       let h = headed (Punct p.LEFT_BRACKET) x.after (size_kinds size (Punct p.RIGHT_BRACKET ∷ k)) x.left in
       let y = back_size size f.1 d (omega arith) h.rest (Punct p.RIGHT_BRACKET ∷ k) h.left in
       let c = headed (Punct p.RIGHT_BRACKET) y.after k y.left in
-      let z = lengthened_by {F = λ at. array at x.tree y.tree} x.reads (λ at. begins_lengthens h.is (an_array (mark h) (ends_size c.is y.reads) (mark c) no_more)) in
-      record { tree = array z.0 x.tree y.tree; after = c.rest; reads = z.1; same = same_array x.same y.same; left = c.left }
+      let z = lengthened_by {F = λ at. array at x.tree y.tree} x.reads (λ at. begins_lengthens h.is (an_array (mark h) (ends_at (ReadsSize d y.tree) c.is y.reads) (mark c) no_more)) in
+      record { tree = array z.0 x.tree y.tree; after = c.rest; reads = z.1; same = ap₂ (array 0) x.same y.same; left = c.left }
   back_declarator (function at e ps) f d v ts k q =
       let x = inner_back (is_direct e) d e (declarator_kinds e) (back_declarator e f.0) (there_if e) (omega arith) ts (Punct p.LEFT_PARENTHESIS ∷ params_kinds ps (Punct p.RIGHT_PARENTHESIS ∷ k)) q in
       let h = headed (Punct p.LEFT_PARENTHESIS) x.after (params_kinds ps (Punct p.RIGHT_PARENTHESIS ∷ k)) x.left in
       let y = back_params ps f.1 f.2 d (omega arith) h.rest (Punct p.RIGHT_PARENTHESIS ∷ k) h.left in
       let c = headed (Punct p.RIGHT_PARENTHESIS) y.after k y.left in
-      let z = lengthened_by {F = λ at. function at x.tree y.trees} x.reads (λ at. begins_lengthens h.is (a_function (mark h) (ends_params c.is y.reads) (mark c) no_more)) in
-      record { tree = function z.0 x.tree y.trees; after = c.rest; reads = z.1; same = same_function x.same y.same; left = c.left }
+      let z = lengthened_by {F = λ at. function at x.tree y.tree} x.reads (λ at. begins_lengthens h.is (a_function (mark h) (ends_at (ReadsParams d y.tree) c.is y.reads) (mark c) no_more)) in
+      record { tree = function z.0 x.tree y.tree; after = c.rest; reads = z.1; same = ap₂ (function 0) x.same y.same; left = c.left }
 
-  back_params : (ps : Params) → IsParameterList ps → AreFineParams ps → (d : ℕ) → height_of_params ps ≤ d → (ts : List Token) (k : List TokenKind) → kinds ts ≡ params_kinds ps k → BackParams d ps ts k
+  back_params : (ps : Params) → IsParameterList ps → AreFineParams ps → (d : ℕ) → height_of_params ps ≤ d → (ts : List Token) (k : List TokenKind) → kinds ts ≡ params_kinds ps k → BackOf (ReadsParams d) unplaced_params ps ts k
   back_params no_params g f d v ts k q =
       let h = headed (Keyword w.VOID) ts k q in
-      record { trees = no_params; after = h.rest; reads = begins_params h.is (are_none (is_void no_const (word h) no_const)); same = refl; left = h.left }
+      record { tree = no_params; after = h.rest; reads = begins_at (ReadsParams d no_params) h.is (are_none (is_void no_const (word h) no_const)); same = refl; left = h.left }
   back_params (more_params at s e ps) g f d v ts k q =
       let x = back_spec s ts (declarator_kinds e (next_params ps k)) q in
       let y = back_declarator e f.0 d (omega arith) x.after (next_params ps k) x.left in
-      let z = back_more ps f.1 d (omega arith) _ x.spec y.tree ts x.after y.after k refl x.reads (declares_of (is_direct e) y.reads) y.left in
+      let z = back_more ps f.1 d (omega arith) _ x.tree y.tree ts x.after y.after k refl x.reads (declares_of (is_direct e) y.reads) y.left in
       record {
-        trees = more_params _ x.spec y.tree z.trees;
-        after = z.rest;
-        reads = are_some z.reads (are_some_too (more_params at s e ps) (more_params (place ts) x.spec y.tree z.trees) (same_params x.same y.same z.same) g);
-        same = same_params x.same y.same z.same;
+        tree = more_params _ x.tree y.tree z.tree;
+        after = z.after;
+        reads = are_some z.reads (are_some_too (more_params at s e ps) (more_params (place ts) x.tree y.tree z.tree) (ap_three (more_params 0) x.same y.same z.same) g);
+        same = ap_three (more_params 0) x.same y.same z.same;
         left = z.left;
       }
 
-  back_more : (ps : Params) → AreFineParams ps → (d : ℕ) → height_of_params ps ≤ d → (at : ℕ) (s : Spec) (e : Declarator) (i j after : List Token) (k : List TokenKind) → at ≡ place i → ReadsSpec s i j → Declares d e j after → kinds after ≡ next_params ps k → BackMore d at s e ps i k
-  back_more no_params f d v at s e i j after k g r x q = record { trees = no_params; rest = after; reads = last_param g r x; same = refl; left = q }
+  back_more : (ps : Params) → AreFineParams ps → (d : ℕ) → height_of_params ps ≤ d → (at : ℕ) (s : Spec) (e : Declarator) (i j after : List Token) (k : List TokenKind) → at ≡ place i → ReadsSpec s i j → Declares d e j after → kinds after ≡ next_params ps k → BackOf (λ (qs : Params). ReadsEach d (more_params at s e qs)) unplaced_params ps i k
+  back_more no_params f d v at s e i j after k g r x q = record { tree = no_params; after = after; reads = last_param g r x; same = refl; left = q }
   back_more (more_params at' s' e' ps) f d v at s e i j after k g r x q =
       let h = headed (Punct p.COMMA) after (spec_kinds s' (declarator_kinds e' (next_params ps k))) q in
       let a = back_spec s' h.rest (declarator_kinds e' (next_params ps k)) h.left in
       let b = back_declarator e' f.0 d (omega arith) a.after (next_params ps k) a.left in
-      let z = back_more ps f.1 d (omega arith) _ a.spec b.tree h.rest a.after b.after k refl a.reads (declares_of (is_direct e') b.reads) b.left in
-      record { trees = more_params _ a.spec b.tree z.trees; rest = z.rest; reads = next_param g r (ends_declares h.is x) (mark h) z.reads; same = same_params a.same b.same z.same; left = z.left }
+      let z = back_more ps f.1 d (omega arith) _ a.tree b.tree h.rest a.after b.after k refl a.reads (declares_of (is_direct e') b.reads) b.left in
+      record { tree = more_params _ a.tree b.tree z.tree; after = z.after; reads = next_param g r (ends_at (Declares d e) h.is x) (mark h) z.reads; same = ap_three (more_params 0) a.same b.same z.same; left = z.left }

@@ -1,11 +1,11 @@
 -- The tokens that statements are printed with are read back as the same, apart from places.
-use Rattle.std.proofs.Common.{◌≡◌, ℕ, ◌≤◌, List, ◌∷◌, refl, ap, sym, subst, arith}
+use Rattle.std.proofs.Common.{◌≡◌, ℕ, ◌≤◌, List, ◌∷◌, refl, ap, ap₂, subst, arith}
 use Rattle.c_lexer.specs.declared.token.Token.{Token}
 use Rattle.c_lexer.specs.declared.token.TokenKind.{TokenKind}
 use Rattle.c_lexer.specs.declared.token.TokenKind.TheVariants.{Keyword, Punct}
 use Rattle.c_lexer.specs.declared.punctuator.TheConstants as p
 use Rattle.c_lexer.specs.declared.keyword.TheConstants as w
-use Rattle.c_syntax.specs.Tree.{Expr, Maybe, Decl, First, Labels, no_labels, case_label, default_label}
+use Rattle.c_syntax.specs.Tree.{Expr, Labels, no_labels, case_label, default_label}
 use Rattle.c_syntax.specs.Tree.{Stmt, block, empty, evaluate, only_if, if_else, while_loop, do_loop, for_loop, switch_on, break_off, continue_on, return_from, BlockItems, no_block_items, block_decl, block_stmt, Stmts, no_stmts, more_stmts, Groups, no_groups, more_groups}
 use Rattle.c_syntax.specs.Tokens.{Is, IsKeyword, place}
 use Rattle.c_syntax.specs.Grammar.{conditional_level, Reads}
@@ -15,29 +15,23 @@ use Rattle.c_syntax.specs.Statements.{ReadsBlockItems, no_block_item, a_block_de
 use Rattle.c_syntax.specs.Limits.{height_of_labels, height_of_stmt, height_of_block_items, height_of_stmts, height_of_groups}
 use Rattle.c_syntax.specs.Same.{unplaced_labels, unplaced_stmt, unplaced_block_items, unplaced_stmts, unplaced_groups}
 use Rattle.c_syntax.specs.Print.{operand_kinds, maybe_kinds, first_kinds, labels_kinds, head_kinds, stmt_kinds, block_items_kinds, stmts_kinds, groups_kinds}
-use Rattle.c_syntax.proofs.FineUnits.{AreFineLabels, AreSomeLabels, IsFineStmt, AreFineBlockItems, AreFineStmts, AreSomeStmts, AreFineGroups}
-use Rattle.c_syntax.proofs.BackTokens.{kinds, headed, mark, word, ends, as_choosing, as_casting}
-use Rattle.c_syntax.proofs.BackDeclarations.{BackOf, ends_at, begins_at, two, expr_back, operand_of, maybe_back, head_back, back_decl, is_plain, first_back}
+use Rattle.c_syntax.proofs.FineUnits.{AreFineLabels, AreSomeLabels, IsFineStmt, AreFineBlockItems, AreFineStmts, AreSomeStmts, AreFineGroups, are_fine, some_are_fine}
+use Rattle.c_syntax.proofs.BackTokens.{kinds, headed, mark, word, ends, BackOf, ends_at, begins_at, two, kept, ap_three, ap_four, as_choosing, as_casting}
+use Rattle.c_syntax.proofs.BackDeclarations.{expr_back, operand_of, maybe_back, head_back, back_decl, is_plain, first_back}
 
 -- labels, or none
 abbrev pub LabelsOrNone : ℕ → Labels → List Token → List Token → Type 0
 LabelsOrNone d no_labels i j = i ≡ j
-LabelsOrNone d (case_label at e rest) i j = ReadsLabels d (case_label at e rest) i j
-LabelsOrNone d (default_label at rest) i j = ReadsLabels d (default_label at rest) i j
+LabelsOrNone d ls i j = ReadsLabels d ls i j
 
 -- a label before labels, or before none
 case_before : {d : ℕ} {e : Expr} {t u : Token} {i j k : List Token} (rest : Labels) → IsKeyword w.CASE t → Reads d conditional_level e i (u ∷ j) → Is p.COLON u → LabelsOrNone d rest j k → ReadsLabels d (case_label t.from e rest) (t ∷ i) k
 case_before {d} {e} {t} {u} {i} {j} {k} no_labels h r c q = subst (λ (x : List Token). ReadsLabels d (case_label t.from e no_labels) (t ∷ i) x) q (last_case h r c)
-case_before (case_label at e' rest) h r c f = next_case h r c f
-case_before (default_label at rest) h r c f = next_case h r c f
+case_before rest h r c f = next_case h r c f
 
 default_before : {d : ℕ} {t u : Token} {i k : List Token} (rest : Labels) → IsKeyword w.DEFAULT t → Is p.COLON u → LabelsOrNone d rest i k → ReadsLabels d (default_label t.from rest) (t ∷ u ∷ i) k
 default_before {d} {t} {u} {i} {k} no_labels h c q = subst (λ (x : List Token). ReadsLabels d (default_label t.from no_labels) (t ∷ u ∷ i) x) q (last_default h c)
-default_before (case_label at e rest) h c f = next_default h c f
-default_before (default_label at rest) h c f = next_default h c f
-
-same_case : {e x : Expr} {ls ms : Labels} → x ≡ e → ms ≡ ls → case_label 0 x ms ≡ case_label 0 e ls
-same_case q r = cc
+default_before rest h c f = next_default h c f
 
 back_labels : (ls : Labels) → AreFineLabels ls → (d : ℕ) → height_of_labels ls ≤ d → (ts : List Token) (k : List TokenKind) → kinds ts ≡ labels_kinds ls k → BackOf (LabelsOrNone d) unplaced_labels ls ts k
 back_labels no_labels f d v ts k q = record { tree = no_labels; after = ts; reads = refl; same = refl; left = q }
@@ -50,7 +44,7 @@ back_labels (case_label at e ls) f d v ts k q =
       tree = case_label h.token.from x.tree z.tree;
       after = z.after;
       reads = begins_at (ReadsLabels d (case_label h.token.from x.tree z.tree)) h.is (case_before z.tree (word h) (ends c.is (as_choosing (as_casting x.reads))) (mark c) z.reads);
-      same = same_case x.same z.same;
+      same = ap₂ (case_label 0) x.same z.same;
       left = z.left;
     }
 back_labels (default_label at ls) f d v ts k q =
@@ -65,27 +59,11 @@ back_labels (default_label at ls) f d v ts k q =
       left = z.left;
     }
 
--- labels that stand are read back as such
-are_fine : (ls : Labels) → AreSomeLabels ls → AreFineLabels ls
-are_fine no_labels f = absurd f
-are_fine (case_label at e ls) f = f
-are_fine (default_label at ls) f = f
-
--- some of them
-abbrev HasLabel : Labels → Type 0
-HasLabel no_labels = ⊥
-HasLabel (case_label at e ls) = Unit {0}
-HasLabel (default_label at ls) = Unit {0}
-
-has_label : (ls : Labels) → AreSomeLabels ls → HasLabel (unplaced_labels ls)
-has_label no_labels f = f
-has_label (case_label at e ls) f = tt
-has_label (default_label at ls) f = tt
-
-labels_stand : {d : ℕ} {i j : List Token} (ls : Labels) → HasLabel (unplaced_labels ls) → LabelsOrNone d ls i j → ReadsLabels d ls i j
-labels_stand no_labels h r = absurd h
-labels_stand (case_label at e ls) h r = r
-labels_stand (default_label at ls) h r = r
+labels_stand : {d : ℕ} {i j : List Token} (ls ms : Labels) → unplaced_labels ms ≡ unplaced_labels ls → AreSomeLabels ls → LabelsOrNone d ms i j → ReadsLabels d ms i j
+labels_stand no_labels ms q f r = absurd f
+labels_stand (case_label at e ls) no_labels q f r = absurd (cc)
+labels_stand (default_label at ls) no_labels q f r = absurd (cc)
+labels_stand ls ms q f r = r
 
 -- statements, or none
 abbrev pub StmtsOrNone : ℕ → Stmts → List Token → List Token → Type 0
@@ -96,84 +74,20 @@ stmt_before : {d : ℕ} {s : Stmt} {i j k : List Token} (rest : Stmts) → Reads
 stmt_before {d} {s} {i} {j} {k} no_stmts r q = subst (λ (x : List Token). ReadsStmts d (more_stmts s no_stmts) i x) q (last_stmt r)
 stmt_before (more_stmts s' rest) r f = next_stmt r f
 
-abbrev HasStmt : Stmts → Type 0
-HasStmt no_stmts = ⊥
-HasStmt (more_stmts s ss) = Unit {0}
-
-has_stmt : (ss : Stmts) → AreSomeStmts ss → HasStmt (unplaced_stmts ss)
-has_stmt no_stmts f = f
-has_stmt (more_stmts s ss) f = tt
-
-some_are_fine : (ss : Stmts) → AreSomeStmts ss → AreFineStmts ss
-some_are_fine no_stmts f = absurd f
-some_are_fine (more_stmts s ss) f = f
-
-stmts_stand : {d : ℕ} {i j : List Token} (ss : Stmts) → HasStmt (unplaced_stmts ss) → StmtsOrNone d ss i j → ReadsStmts d ss i j
-stmts_stand no_stmts h r = absurd h
-stmts_stand (more_stmts s ss) h r = r
+stmts_stand : {d : ℕ} {i j : List Token} (ss zs : Stmts) → unplaced_stmts zs ≡ unplaced_stmts ss → AreSomeStmts ss → StmtsOrNone d zs i j → ReadsStmts d zs i j
+stmts_stand no_stmts zs q f r = absurd f
+stmts_stand (more_stmts s ss) no_stmts q f r = absurd (cc)
+stmts_stand ss zs q f r = r
 
 -- whether a statement is closed is seen without places
-closed_up : (s : Stmt) → IsClosed s → IsClosed (unplaced_stmt s)
-closed_up (block at items) h = h
-closed_up (empty at) h = h
-closed_up (evaluate at e) h = h
-closed_up (only_if at e s) h = h
-closed_up (if_else at e s r) h = closed_up r h
-closed_up (while_loop at e s) h = closed_up s h
-closed_up (do_loop at s e) h = h
-closed_up (for_loop at first test step s) h = closed_up s h
-closed_up (switch_on at e gs) h = h
-closed_up (break_off at) h = h
-closed_up (continue_on at) h = h
-closed_up (return_from at e) h = h
-
-closed_down : (s : Stmt) → IsClosed (unplaced_stmt s) → IsClosed s
-closed_down (block at items) h = h
-closed_down (empty at) h = h
-closed_down (evaluate at e) h = h
-closed_down (only_if at e s) h = h
-closed_down (if_else at e s r) h = closed_down r h
-closed_down (while_loop at e s) h = closed_down s h
-closed_down (do_loop at s e) h = h
-closed_down (for_loop at first test step s) h = closed_down s h
-closed_down (switch_on at e gs) h = h
-closed_down (break_off at) h = h
-closed_down (continue_on at) h = h
-closed_down (return_from at e) h = h
+closed_alike : (s : Stmt) → IsClosed (unplaced_stmt s) ≡ IsClosed s
+closed_alike (if_else at e s r) = closed_alike r
+closed_alike (while_loop at e s) = closed_alike s
+closed_alike (for_loop at first test step s) = closed_alike s
+closed_alike s = refl
 
 is_closed : (s x : Stmt) → unplaced_stmt x ≡ unplaced_stmt s → IsClosed s → IsClosed x
-is_closed s x q h = closed_down x (subst IsClosed (sym q) (closed_up s h))
-
--- equations between statements without places
-same_only_if : {e x : Expr} {s y : Stmt} → x ≡ e → y ≡ s → only_if 0 x y ≡ only_if 0 e s
-same_only_if q r = cc
-
-same_if_else : {e x : Expr} {s y r z : Stmt} → x ≡ e → y ≡ s → z ≡ r → if_else 0 x y z ≡ if_else 0 e s r
-same_if_else q r s = cc
-
-same_while : {e x : Expr} {s y : Stmt} → x ≡ e → y ≡ s → while_loop 0 x y ≡ while_loop 0 e s
-same_while q r = cc
-
-same_do : {e x : Expr} {s y : Stmt} → y ≡ s → x ≡ e → do_loop 0 y x ≡ do_loop 0 s e
-same_do q r = cc
-
-same_for : {f g : First} {a b x y : Maybe} {s z : Stmt} → g ≡ f → x ≡ a → y ≡ b → z ≡ s → for_loop 0 g x y z ≡ for_loop 0 f a b s
-same_for q r s t = cc
-
-same_switch : {e x : Expr} {gs hs : Groups} → x ≡ e → hs ≡ gs → switch_on 0 x hs ≡ switch_on 0 e gs
-same_switch q r = cc
-
-same_block_decl : {x y : Decl} {is js : BlockItems} → y ≡ x → js ≡ is → block_decl y js ≡ block_decl x is
-same_block_decl q r = cc
-
-same_block_stmt : {s y : Stmt} {is js : BlockItems} → y ≡ s → js ≡ is → block_stmt y js ≡ block_stmt s is
-same_block_stmt q r = cc
-
-same_stmts : {s y : Stmt} {ss zs : Stmts} → y ≡ s → zs ≡ ss → more_stmts y zs ≡ more_stmts s ss
-same_stmts q r = cc
-
-same_groups : {ls ms : Labels} {ss zs : Stmts} {gs hs : Groups} → ms ≡ ls → zs ≡ ss → hs ≡ gs → more_groups ms zs hs ≡ more_groups ls ss gs
-same_groups q r s = cc
+is_closed = kept IsClosed unplaced_stmt closed_alike
 
 mutual
   pub back_stmt : (s : Stmt) → IsFineStmt s → (d : ℕ) → height_of_stmt s ≤ d → (ts : List Token) (k : List TokenKind) → kinds ts ≡ stmt_kinds s k → BackOf (ReadsStmt d) unplaced_stmt s ts k
@@ -199,7 +113,7 @@ mutual
       let g = head_back e f.0 d (omega arith) h.rest (stmt_kinds s k) h.left in
       let y = back_stmt s f.1 d (omega arith) g.rest k g.left in
       let tree : Stmt = only_if h.token.from g.tree y.tree in
-      record { tree = tree; after = y.after; reads = begins_at (ReadsStmt d tree) (two h.is g.is) (an_if (word h) g.opens g.reads g.closes y.reads); same = same_only_if g.same y.same; left = y.left }
+      record { tree = tree; after = y.after; reads = begins_at (ReadsStmt d tree) (two h.is g.is) (an_if (word h) g.opens g.reads g.closes y.reads); same = ap₂ (only_if 0) g.same y.same; left = y.left }
   back_stmt (if_else at e s r) f d v ts k q =
       let h = headed (Keyword w.IF) ts (head_kinds e (stmt_kinds s (Keyword w.ELSE ∷ stmt_kinds r k))) q in
       let g = head_back e f.0 d (omega arith) h.rest (stmt_kinds s (Keyword w.ELSE ∷ stmt_kinds r k)) h.left in
@@ -211,7 +125,7 @@ mutual
         tree = tree;
         after = z.after;
         reads = begins_at (ReadsStmt d tree) (two h.is g.is) (an_if_else (word h) g.opens g.reads g.closes (ends_at (ReadsStmt d y.tree) c.is y.reads) (is_closed s y.tree y.same f.2) (word c) z.reads);
-        same = same_if_else g.same y.same z.same;
+        same = ap_three (if_else 0) g.same y.same z.same;
         left = z.left;
       }
   back_stmt (while_loop at e s) f d v ts k q =
@@ -219,7 +133,7 @@ mutual
       let g = head_back e f.0 d (omega arith) h.rest (stmt_kinds s k) h.left in
       let y = back_stmt s f.1 d (omega arith) g.rest k g.left in
       let tree : Stmt = while_loop h.token.from g.tree y.tree in
-      record { tree = tree; after = y.after; reads = begins_at (ReadsStmt d tree) (two h.is g.is) (a_while (word h) g.opens g.reads g.closes y.reads); same = same_while g.same y.same; left = y.left }
+      record { tree = tree; after = y.after; reads = begins_at (ReadsStmt d tree) (two h.is g.is) (a_while (word h) g.opens g.reads g.closes y.reads); same = ap₂ (while_loop 0) g.same y.same; left = y.left }
   back_stmt (do_loop at s e) f d v ts k q =
       let h = headed (Keyword w.DO) ts (stmt_kinds s (Keyword w.WHILE ∷ head_kinds e (Punct p.SEMICOLON ∷ k))) q in
       let y = back_stmt s f.0 d (omega arith) h.rest (Keyword w.WHILE ∷ head_kinds e (Punct p.SEMICOLON ∷ k)) h.left in
@@ -231,7 +145,7 @@ mutual
         tree = tree;
         after = u.rest;
         reads = begins_at (ReadsStmt d tree) h.is (a_do (word h) (ends_at (ReadsStmt d y.tree) (two c.is g.is) y.reads) (word c) g.opens (ends (ap (λ (x : List Token). g.final ∷ x) u.is) g.reads) g.closes (mark u));
-        same = same_do y.same g.same;
+        same = ap₂ (do_loop 0) y.same g.same;
         left = u.left;
       }
   back_stmt (for_loop at first test step s) f d v ts k q =
@@ -250,7 +164,7 @@ mutual
         tree = tree;
         after = z.after;
         reads = begins_at (ReadsStmt d tree) (two h.is o.is) (a_for (word h) (mark o) a.reads (ends_at (ReadsMaybe d x.tree) u.is x.reads) (mark u) (ends_at (ReadsMaybe d y.tree) c.is y.reads) (mark c) z.reads);
-        same = same_for a.same x.same y.same z.same;
+        same = ap_four (for_loop 0) a.same x.same y.same z.same;
         left = z.left;
       }
   back_stmt (switch_on at e gs) f d v ts k q =
@@ -265,7 +179,7 @@ mutual
         tree = tree;
         after = c.rest;
         reads = begins_at (ReadsStmt d tree) (two h.is g.is) (a_switch (word h) g.opens (ends (ap (λ (y : List Token). g.final ∷ y) l.is) g.reads) g.closes (mark l) (ends_at (ReadsGroups d x.tree) c.is x.reads) (mark c));
-        same = same_switch g.same x.same;
+        same = ap₂ (switch_on 0) g.same x.same;
         left = c.left;
       }
   back_stmt (break_off at) f d v ts k q =
@@ -288,18 +202,18 @@ mutual
   back_block_items (block_decl x is) f d v ts k q =
       let y = back_decl x f.0 d (omega arith) ts (block_items_kinds is k) q in
       let z = back_block_items is f.2 d (omega arith) y.after k y.left in
-      record { tree = block_decl y.tree z.tree; after = z.after; reads = a_block_decl y.reads (is_plain x y.tree y.same f.1) z.reads; same = same_block_decl y.same z.same; left = z.left }
+      record { tree = block_decl y.tree z.tree; after = z.after; reads = a_block_decl y.reads (is_plain x y.tree y.same f.1) z.reads; same = ap₂ block_decl y.same z.same; left = z.left }
   back_block_items (block_stmt s is) f d v ts k q =
       let y = back_stmt s f.0 d (omega arith) ts (block_items_kinds is k) q in
       let z = back_block_items is f.1 d (omega arith) y.after k y.left in
-      record { tree = block_stmt y.tree z.tree; after = z.after; reads = a_block_stmt y.reads z.reads; same = same_block_stmt y.same z.same; left = z.left }
+      record { tree = block_stmt y.tree z.tree; after = z.after; reads = a_block_stmt y.reads z.reads; same = ap₂ block_stmt y.same z.same; left = z.left }
 
   back_stmts : (ss : Stmts) → AreFineStmts ss → (d : ℕ) → height_of_stmts ss ≤ d → (ts : List Token) (k : List TokenKind) → kinds ts ≡ stmts_kinds ss k → BackOf (StmtsOrNone d) unplaced_stmts ss ts k
   back_stmts no_stmts f d v ts k q = record { tree = no_stmts; after = ts; reads = refl; same = refl; left = q }
   back_stmts (more_stmts s ss) f d v ts k q =
       let y = back_stmt s f.0 d (omega arith) ts (stmts_kinds ss k) q in
       let z = back_stmts ss f.1 d (omega arith) y.after k y.left in
-      record { tree = more_stmts y.tree z.tree; after = z.after; reads = stmt_before z.tree y.reads z.reads; same = same_stmts y.same z.same; left = z.left }
+      record { tree = more_stmts y.tree z.tree; after = z.after; reads = stmt_before z.tree y.reads z.reads; same = ap₂ more_stmts y.same z.same; left = z.left }
 
   back_groups : (gs : Groups) → AreFineGroups gs → (d : ℕ) → height_of_groups gs ≤ d → (ts : List Token) (k : List TokenKind) → kinds ts ≡ groups_kinds gs k → BackOf (ReadsGroups d) unplaced_groups gs ts k
   back_groups no_groups f d v ts k q = record { tree = no_groups; after = ts; reads = no_group; same = refl; left = q }
@@ -310,7 +224,7 @@ mutual
       record {
         tree = more_groups x.tree y.tree z.tree;
         after = z.after;
-        reads = a_group (labels_stand x.tree (subst HasLabel (sym x.same) (has_label ls f.0)) x.reads) (stmts_stand y.tree (subst HasStmt (sym y.same) (has_stmt ss f.1)) y.reads) z.reads;
-        same = same_groups x.same y.same z.same;
+        reads = a_group (labels_stand ls x.tree x.same f.0 x.reads) (stmts_stand ss y.tree y.same f.1 y.reads) z.reads;
+        same = ap_three more_groups x.same y.same z.same;
         left = z.left;
       }

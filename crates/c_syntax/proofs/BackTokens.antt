@@ -1,10 +1,10 @@
 -- Tokens by their kinds, and phrases that end or begin at equal lists.
-use Rattle.std.proofs.Common.{◌≡◌, ℕ, zero, suc, ◌≤◌, ◌+◌, ◌-◌, List, [], ◌∷◌, refl, sym, subst, zero-add, arith}
+use Rattle.std.proofs.Common.{◌≡◌, ℕ, zero, suc, ◌≤◌, ◌+◌, ◌-◌, List, [], ◌∷◌, refl, sym, subst, ap, ap₂, ◌∙◌, zero-add, arith}
 use Rattle.c_lexer.specs.declared.token.Token.{Token}
 use Rattle.c_lexer.specs.declared.token.TokenKind.{TokenKind}
 use Rattle.c_lexer.specs.declared.token.TokenKind.TheVariants.{Keyword, Punct}
 use Rattle.c_syntax.specs.Tree.{Expr, Declarator}
-use Rattle.c_syntax.specs.Tokens.{Is, IsKeyword, place}
+use Rattle.c_syntax.specs.Tokens.{Is, IsKeyword}
 use Rattle.c_syntax.specs.Grammar.{Level, postfix_level, cast_level, binary_level, conditional_level, assignment_level, expression_level, Reads, with_suffixes, no_prefix, no_cast, no_chain, a_chain, no_choice, no_assignment, no_comma, no_operator}
 use Rattle.c_syntax.specs.Grammar.{Suffixes, no_suffix, an_index, an_empty_call, a_call, a_member, a_postfix, Lengthens, no_more, an_array, a_function}
 
@@ -36,9 +36,34 @@ ends {d} {l} {e} {i} q r = subst (λ (x : List Token). Reads d l e i x) q r
 pub begins : {d : ℕ} {l : Level} {e : Expr} {i j k : List Token} → i ≡ k → Reads d l e k j → Reads d l e i j
 begins {d} {l} {e} {i} {j} q r = subst (λ (x : List Token). Reads d l e x j) (sym q) r
 
--- the place of what stands first in an equal list
-pub placed_at : {ts rest : List Token} {t : Token} → ts ≡ t ∷ rest → place ts ≡ t.from
-placed_at q = rw q refl
+-- what is read back of a part
+pub record BackOf {T : Type 0} (R : T → List Token → List Token → Type 0) (strip : T → T) (x : T) (ts : List Token) (k : List TokenKind) : Type 0 where
+  pub tree : T
+  pub after : List Token
+  pub reads : R tree ts after
+  pub same : strip tree ≡ strip x
+  pub left : kinds after ≡ k
+
+-- phrases that end or begin at equal lists
+pub ends_at : (R : List Token → List Token → Type 0) {i j k : List Token} → j ≡ k → R i j → R i k
+ends_at R {i} q r = subst (λ (x : List Token). R i x) q r
+
+pub begins_at : (R : List Token → List Token → Type 0) {i j k : List Token} → i ≡ k → R k j → R i j
+begins_at R {j = j} q r = subst (λ (x : List Token). R x j) (sym q) r
+
+pub two : {ts a b : List Token} {t u : Token} → ts ≡ t ∷ a → a ≡ u ∷ b → ts ≡ t ∷ u ∷ b
+two q r = cc
+
+-- what is seen without places holds of each that is the same
+pub kept : {T : Type 0} (P : T → Type 0) (strip : T → T) → ((x : T) → P (strip x) ≡ P x) → (x y : T) → strip y ≡ strip x → P x → P y
+kept P strip alike x y q h = subst (λ (X : Type 0). X) (sym (alike x) ∙ (ap P (sym q) ∙ alike y)) h
+
+-- equal parts make equal nodes
+pub ap_three : {A B C D : Type 0} (f : A → B → C → D) {a x : A} {b y : B} {c z : C} → a ≡ x → b ≡ y → c ≡ z → f a b c ≡ f x y z
+ap_three {A = A} {B = B} f {x = x} {y = y} {c = c} p q r = ap₂ (λ (u : A) (v : B). f u v c) p q ∙ ap (f x y) r
+
+pub ap_four : {A B C D E : Type 0} (f : A → B → C → D → E) {a x : A} {b y : B} {c z : C} {d w : D} → a ≡ x → b ≡ y → c ≡ z → d ≡ w → f a b c d ≡ f x y z w
+ap_four {D = D} {E = E} f p q r s = ap₂ (λ (g : D → E) (u : D). g u) (ap_three f p q r) s
 
 -- a phrase of postfix operators is one of each level
 pub as_casting : {d : ℕ} {e : Expr} {i j : List Token} → Reads d postfix_level e i j → Reads d cast_level e i j

@@ -1,11 +1,11 @@
 -- The tokens that a unit is printed with are read back as the same unit, apart from places.
-use Rattle.std.proofs.Common.{◌≡◌, ℕ, ◌≤◌, List, [], ◌∷◌, refl, ap, sym, subst, arith}
+use Rattle.std.proofs.Common.{◌≡◌, ℕ, ◌≤◌, List, [], ◌∷◌, refl, ap, ap₂, subst, arith}
 use Rattle.c_lexer.specs.declared.token.Token.{Token}
 use Rattle.c_lexer.specs.declared.token.TokenKind.{TokenKind}
 use Rattle.c_lexer.specs.declared.token.TokenKind.TheVariants.{Name, Keyword, Punct}
 use Rattle.c_lexer.specs.declared.punctuator.TheConstants as p
 use Rattle.c_lexer.specs.declared.keyword.TheConstants as w
-use Rattle.c_syntax.specs.Tree.{Ident, Storage, Spec, Maybe, absent, there, Declarator, block, empty, evaluate, only_if, if_else, while_loop, do_loop, for_loop, switch_on, break_off, continue_on, return_from, BlockItems}
+use Rattle.c_syntax.specs.Tree.{Ident, Spec, Maybe, absent, there, Declarator, block, BlockItems}
 use Rattle.c_syntax.specs.Tree.{Declarators, no_declarators, more_declarators, Members, no_members, more_members, Enumerators, no_enumerators, more_enumerators, Tag, no_tag, tag, Item, struct_item, enum_item, tag_item, decl_item, function_item, Items, no_items, more_items}
 use Rattle.c_syntax.specs.Tokens.{Is, place}
 use Rattle.c_syntax.specs.Specifiers.{Names, ReadsSpec}
@@ -16,31 +16,20 @@ use Rattle.c_syntax.specs.Limits.{height_of_maybe, height_of_declarators, height
 use Rattle.c_syntax.specs.Same.{unplaced_maybe, unplaced_declarators, unplaced_members, unplaced_enumerators, unplaced_tag, unplaced_item, unplaced_unit, AreSame}
 use Rattle.c_syntax.specs.Print.{is_direct, spec_kinds, declarator_kinds, operand_kinds, stmt_kinds, block_items_kinds, next_declarators, declarators_kinds, members_kinds, enumerator_value_kinds, next_enumerators, enumerators_kinds, tag_kinds, item_kinds, unit_kinds}
 use Rattle.c_syntax.proofs.Fine.{IsFineMaybe}
-use Rattle.c_syntax.proofs.FineUnits.{AreFineDeclarators, AreFineMembers, AreSomeMembers, AreFineEnumerators, IsFineItem, AreFineItems, AreSomeItems}
-use Rattle.c_syntax.proofs.BackTokens.{kinds, headed, mark, word, as_choosing, as_casting}
+use Rattle.c_syntax.proofs.FineUnits.{AreFineDeclarators, AreFineMembers, AreSomeMembers, members_are_fine, AreFineEnumerators, IsFineItem, AreFineItems, AreSomeItems}
+use Rattle.c_syntax.proofs.BackTokens.{kinds, headed, mark, word, BackOf, ends_at, begins_at, two, ap_three, as_choosing, as_casting}
 use Rattle.c_syntax.proofs.BackParts.{back_name, back_storage, back_spec, has_name, declares_of}
 use Rattle.c_syntax.proofs.BackExpressions.{back_declarator}
-use Rattle.c_syntax.proofs.BackDeclarations.{BackOf, ends_at, begins_at, two, operand_of, back_decl}
+use Rattle.c_syntax.proofs.BackDeclarations.{operand_of, back_decl}
 use Rattle.c_syntax.proofs.BackStatements.{back_block_items}
 
-same_declarators : {e x : Declarator} {es xs : Declarators} → x ≡ e → xs ≡ es → more_declarators x xs ≡ more_declarators e es
-same_declarators q r = cc
-
--- the declarators after the one that is read
-record BackDeclarators (d : ℕ) (e : Declarator) (es : Declarators) (i : List Token) (k : List TokenKind) : Type 0 where
-  trees : Declarators
-  rest : List Token
-  reads : ReadsDeclarators d (more_declarators e trees) i rest
-  same : unplaced_declarators trees ≡ unplaced_declarators es
-  left : kinds rest ≡ k
-
-back_declarators : (es : Declarators) → AreFineDeclarators es → (d : ℕ) → height_of_declarators es ≤ d → (e : Declarator) (i after : List Token) (k : List TokenKind) → Declares d e i after → HasName e → kinds after ≡ next_declarators es k → BackDeclarators d e es i k
-back_declarators no_declarators f d v e i after k r h q = record { trees = no_declarators; rest = after; reads = last_declarator r h; same = refl; left = q }
+back_declarators : (es : Declarators) → AreFineDeclarators es → (d : ℕ) → height_of_declarators es ≤ d → (e : Declarator) (i after : List Token) (k : List TokenKind) → Declares d e i after → HasName e → kinds after ≡ next_declarators es k → BackOf (λ (xs : Declarators). ReadsDeclarators d (more_declarators e xs)) unplaced_declarators es i k
+back_declarators no_declarators f d v e i after k r h q = record { tree = no_declarators; after = after; reads = last_declarator r h; same = refl; left = q }
 back_declarators (more_declarators e' es) f d v e i after k r h q =
     let c = headed (Punct p.COMMA) after (declarator_kinds e' (next_declarators es k)) q in
     let a = back_declarator e' f.0 d (omega arith) c.rest (next_declarators es k) c.left in
     let z = back_declarators es f.2 d (omega arith) a.tree c.rest a.after k (declares_of (is_direct e') a.reads) (has_name e' a.tree a.same f.1) a.left in
-    record { trees = more_declarators a.tree z.trees; rest = z.rest; reads = next_declarator (ends_at (Declares d e) c.is r) h (mark c) z.reads; same = same_declarators a.same z.same; left = z.left }
+    record { tree = more_declarators a.tree z.tree; after = z.after; reads = next_declarator (ends_at (Declares d e) c.is r) h (mark c) z.reads; same = ap₂ more_declarators a.same z.same; left = z.left }
 
 -- members, or none
 abbrev MembersOrNone : ℕ → Members → List Token → List Token → Type 0
@@ -51,9 +40,6 @@ member_before : {d at : ℕ} {s : Spec} {es : Declarators} {t : Token} {i j k m 
 member_before {d} {at} {s} {es} {t} {i} {j} {k} {m} no_members g r x h q = subst (λ (y : List Token). ReadsMembers d (more_members at s es no_members) i y) q (last_member g r x h)
 member_before (more_members at' s' es' rest) g r x h f = next_member g r x h f
 
-same_members : {s z : Spec} {es xs : Declarators} {ms ns : Members} → z ≡ s → xs ≡ es → ns ≡ ms → more_members 0 z xs ns ≡ more_members 0 s es ms
-same_members q r t = cc
-
 back_members : (ms : Members) → AreFineMembers ms → (d : ℕ) → height_of_members ms ≤ d → (ts : List Token) (k : List TokenKind) → kinds ts ≡ members_kinds ms k → BackOf (MembersOrNone d) unplaced_members ms ts k
 back_members no_members f d v ts k q = record { tree = no_members; after = ts; reads = refl; same = refl; left = q }
 back_members (more_members at s no_declarators ms) f d v ts k q = absurd f.0
@@ -62,31 +48,20 @@ back_members (more_members at s (more_declarators e es) ms) f d v ts k q =
     let b = back_spec s ts (declarators_kinds (more_declarators e es) k2) q in
     let a = back_declarator e f.0.0 d (omega arith) b.after (next_declarators es k2) b.left in
     let x = back_declarators es f.0.2 d (omega arith) a.tree b.after a.after k2 (declares_of (is_direct e) a.reads) (has_name e a.tree a.same f.0.1) a.left in
-    let c = headed (Punct p.SEMICOLON) x.rest (members_kinds ms k) x.left in
+    let c = headed (Punct p.SEMICOLON) x.after (members_kinds ms k) x.left in
     let z = back_members ms f.1 d (omega arith) c.rest k c.left in
     record {
-      tree = more_members (place ts) b.spec (more_declarators a.tree x.trees) z.tree;
+      tree = more_members (place ts) b.tree (more_declarators a.tree x.tree) z.tree;
       after = z.after;
-      reads = member_before z.tree refl b.reads (ends_at (ReadsDeclarators d (more_declarators a.tree x.trees)) c.is x.reads) (mark c) z.reads;
-      same = same_members b.same (same_declarators a.same x.same) z.same;
+      reads = member_before z.tree refl b.reads (ends_at (ReadsDeclarators d (more_declarators a.tree x.tree)) c.is x.reads) (mark c) z.reads;
+      same = ap_three (more_members 0) b.same (ap₂ more_declarators a.same x.same) z.same;
       left = z.left;
     }
 
-abbrev HasMember : Members → Type 0
-HasMember no_members = ⊥
-HasMember (more_members at s es rest) = Unit {0}
-
-has_member : (ms : Members) → AreSomeMembers ms → HasMember (unplaced_members ms)
-has_member no_members f = f
-has_member (more_members at s es rest) f = tt
-
-some_members : (ms : Members) → AreSomeMembers ms → AreFineMembers ms
-some_members no_members f = absurd f
-some_members (more_members at s es rest) f = f
-
-members_stand : {d : ℕ} {i j : List Token} (ms : Members) → HasMember (unplaced_members ms) → MembersOrNone d ms i j → ReadsMembers d ms i j
-members_stand no_members h r = absurd h
-members_stand (more_members at s es rest) h r = r
+members_stand : {d : ℕ} {i j : List Token} (ms ns : Members) → unplaced_members ns ≡ unplaced_members ms → AreSomeMembers ms → MembersOrNone d ns i j → ReadsMembers d ns i j
+members_stand no_members ns q f r = absurd f
+members_stand (more_members at s es ms) no_members q f r = absurd (cc)
+members_stand ms ns q f r = r
 
 back_enumerator_value : (e : Maybe) → IsFineMaybe e → (d : ℕ) → height_of_maybe e ≤ d → (ts : List Token) (k : List TokenKind) → kinds ts ≡ enumerator_value_kinds e k → BackOf (ReadsEnumeratorValue d) unplaced_maybe e ts k
 back_enumerator_value absent f d v ts k q = record { tree = absent; after = ts; reads = no_enumerator_value; same = refl; left = q }
@@ -95,29 +70,18 @@ back_enumerator_value (there e) f d v ts k q =
     let x = operand_of e f d v h.rest k h.left in
     record { tree = there x.tree; after = x.after; reads = begins_at (ReadsEnumeratorValue d (there x.tree)) h.is (an_enumerator_value (mark h) (as_choosing (as_casting x.reads))); same = ap there x.same; left = x.left }
 
-same_enumerators : {x y : Ident} {e f : Maybe} {es fs : Enumerators} → y ≡ x → f ≡ e → fs ≡ es → more_enumerators y f fs ≡ more_enumerators x e es
-same_enumerators q r t = cc
-
--- the enumerators after the one that is read
-record BackEnumerators (d : ℕ) (x : Ident) (e : Maybe) (es : Enumerators) (i : List Token) (k : List TokenKind) : Type 0 where
-  trees : Enumerators
-  rest : List Token
-  reads : ReadsEnumerators d (more_enumerators x e trees) i rest
-  same : unplaced_enumerators trees ≡ unplaced_enumerators es
-  left : kinds rest ≡ k
-
-back_enumerators : (es : Enumerators) → AreFineEnumerators es → (d : ℕ) → height_of_enumerators es ≤ d → (x : Ident) (e : Maybe) (t : Token) (i after : List Token) (k : List TokenKind) → Names x t → ReadsEnumeratorValue d e i after → kinds after ≡ next_enumerators es k → BackEnumerators d x e es (t ∷ i) k
-back_enumerators no_enumerators f d v x e t i after k n r q = record { trees = no_enumerators; rest = after; reads = last_enumerator n r; same = refl; left = q }
+back_enumerators : (es : Enumerators) → AreFineEnumerators es → (d : ℕ) → height_of_enumerators es ≤ d → (x : Ident) (e : Maybe) (t : Token) (i after : List Token) (k : List TokenKind) → Names x t → ReadsEnumeratorValue d e i after → kinds after ≡ next_enumerators es k → BackOf (λ (fs : Enumerators). ReadsEnumerators d (more_enumerators x e fs)) unplaced_enumerators es (t ∷ i) k
+back_enumerators no_enumerators f d v x e t i after k n r q = record { tree = no_enumerators; after = after; reads = last_enumerator n r; same = refl; left = q }
 back_enumerators (more_enumerators x' e' es) f d v x e t i after k n r q =
     let c = headed (Punct p.COMMA) after (Name x'.name ∷ enumerator_value_kinds e' (next_enumerators es k)) q in
     let g = back_name x' c.rest (enumerator_value_kinds e' (next_enumerators es k)) c.left in
     let a = back_enumerator_value e' f.0 d (omega arith) g.heads.rest (next_enumerators es k) g.heads.left in
     let z = back_enumerators es f.1 d (omega arith) g.ident a.tree g.heads.token g.heads.rest a.after k g.names a.reads a.left in
     record {
-      trees = more_enumerators g.ident a.tree z.trees;
-      rest = z.rest;
-      reads = next_enumerator n (ends_at (ReadsEnumeratorValue d e) c.is r) (mark c) (begins_at (λ (i : List Token) (j : List Token). ReadsEnumerators d (more_enumerators g.ident a.tree z.trees) i j) g.heads.is z.reads);
-      same = same_enumerators g.same a.same z.same;
+      tree = more_enumerators g.ident a.tree z.tree;
+      after = z.after;
+      reads = next_enumerator n (ends_at (ReadsEnumeratorValue d e) c.is r) (mark c) (begins_at (λ (i : List Token) (j : List Token). ReadsEnumerators d (more_enumerators g.ident a.tree z.tree) i j) g.heads.is z.reads);
+      same = ap_three more_enumerators g.same a.same z.same;
       left = z.left;
     }
 
@@ -126,15 +90,6 @@ back_tag no_tag ts k q = record { tree = no_tag; after = ts; reads = no_name; sa
 back_tag (tag x) ts k q =
     let g = back_name x ts k q in
     record { tree = tag g.ident; after = g.heads.rest; reads = begins_at (ReadsTag (tag g.ident)) g.heads.is (a_tag g.names); same = ap tag g.same; left = g.heads.left }
-
-same_struct : {x y : Ident} {ms ns : Members} → y ≡ x → ns ≡ ms → struct_item 0 y ns ≡ struct_item 0 x ms
-same_struct q r = cc
-
-same_enum : {g h : Tag} {es fs : Enumerators} → h ≡ g → fs ≡ es → enum_item 0 h fs ≡ enum_item 0 g es
-same_enum q r = cc
-
-same_function : (st : Storage) {s z : Spec} {e f : Declarator} {is js : BlockItems} → z ≡ s → f ≡ e → js ≡ is → function_item 0 st z f (block 0 js) ≡ function_item 0 st s e (block 0 is)
-same_function st q r t = cc
 
 three : {ts a b c : List Token} {t u v : Token} → ts ≡ t ∷ a → a ≡ u ∷ b → b ≡ v ∷ c → ts ≡ t ∷ u ∷ v ∷ c
 three q r s = cc
@@ -145,15 +100,15 @@ back_item (struct_item at x ms) f d v ts k q =
     let h = headed (Keyword w.STRUCT) ts (Name x.name ∷ Punct p.LEFT_BRACE ∷ members_kinds ms k2) q in
     let g = back_name x h.rest (Punct p.LEFT_BRACE ∷ members_kinds ms k2) h.left in
     let l = headed (Punct p.LEFT_BRACE) g.heads.rest (members_kinds ms k2) g.heads.left in
-    let y = back_members ms (some_members ms f) d v l.rest k2 l.left in
+    let y = back_members ms (members_are_fine ms f) d v l.rest k2 l.left in
     let r = headed (Punct p.RIGHT_BRACE) y.after (Punct p.SEMICOLON ∷ k) y.left in
     let u = headed (Punct p.SEMICOLON) r.rest k r.left in
     let tree : Item = struct_item h.token.from g.ident y.tree in
     record {
       tree = tree;
       after = u.rest;
-      reads = begins_at (ReadsItem d tree) (three h.is g.heads.is l.is) (a_struct (word h) g.names (mark l) (ends_at (ReadsMembers d y.tree) (two r.is u.is) (members_stand y.tree (subst HasMember (sym y.same) (has_member ms f)) y.reads)) (mark r) (mark u));
-      same = same_struct g.same y.same;
+      reads = begins_at (ReadsItem d tree) (three h.is g.heads.is l.is) (a_struct (word h) g.names (mark l) (ends_at (ReadsMembers d y.tree) (two r.is u.is) (members_stand ms y.tree y.same f y.reads)) (mark r) (mark u));
+      same = ap₂ (struct_item 0) g.same y.same;
       left = u.left;
     }
 back_item (enum_item at g no_enumerators) f d v ts k q = absurd f
@@ -165,15 +120,15 @@ back_item (enum_item at g (more_enumerators x e es)) f d v ts k q =
     let n = back_name x l.rest (enumerator_value_kinds e (next_enumerators es k2)) l.left in
     let a = back_enumerator_value e f.0 d (omega arith) n.heads.rest (next_enumerators es k2) n.heads.left in
     let z = back_enumerators es f.1 d (omega arith) n.ident a.tree n.heads.token n.heads.rest a.after k2 n.names a.reads a.left in
-    let r = headed (Punct p.RIGHT_BRACE) z.rest (Punct p.SEMICOLON ∷ k) z.left in
+    let r = headed (Punct p.RIGHT_BRACE) z.after (Punct p.SEMICOLON ∷ k) z.left in
     let u = headed (Punct p.SEMICOLON) r.rest k r.left in
-    let trees : Enumerators = more_enumerators n.ident a.tree z.trees in
+    let trees : Enumerators = more_enumerators n.ident a.tree z.tree in
     let tree : Item = enum_item h.token.from b.tree trees in
     record {
       tree = tree;
       after = u.rest;
       reads = begins_at (ReadsItem d tree) h.is (an_enum (word h) (ends_at (ReadsTag b.tree) l.is b.reads) (mark l) (ends_at (ReadsEnumerators d trees) (two r.is u.is) (begins_at (ReadsEnumerators d trees) n.heads.is z.reads)) (mark r) (mark u));
-      same = same_enum b.same (same_enumerators n.same a.same z.same);
+      same = ap₂ (enum_item 0) b.same (ap_three more_enumerators n.same a.same z.same);
       left = u.left;
     }
 back_item (tag_item at x) f d v ts k q =
@@ -192,23 +147,13 @@ back_item (function_item at st s e (block at' is)) f d v ts k q =
     let x = back_block_items is f.2 d (omega arith) h.rest (Punct p.RIGHT_BRACE ∷ k) h.left in
     let c = headed (Punct p.RIGHT_BRACE) x.after k x.left in
     record {
-      tree = function_item (place ts) st b.spec y.tree (block h.token.from x.tree);
+      tree = function_item (place ts) st b.tree y.tree (block h.token.from x.tree);
       after = c.rest;
       reads = a_definition refl g.reads b.reads (ends_at (Declares d y.tree) h.is (declares_of (is_direct e) y.reads)) (has_name e y.tree y.same f.1) (mark h) (ends_at (ReadsBlockItems d x.tree) c.is x.reads) (mark c);
-      same = same_function st b.same y.same x.same;
+      same = ap_three (λ (z : Spec) (y : Declarator) (js : BlockItems). function_item 0 st z y (block 0 js)) b.same y.same x.same;
       left = c.left;
     }
-back_item (function_item at st s e (empty at')) f d v ts k q = absurd f.2
-back_item (function_item at st s e (evaluate at' x)) f d v ts k q = absurd f.2
-back_item (function_item at st s e (only_if at' x y)) f d v ts k q = absurd f.2
-back_item (function_item at st s e (if_else at' x y z)) f d v ts k q = absurd f.2
-back_item (function_item at st s e (while_loop at' x y)) f d v ts k q = absurd f.2
-back_item (function_item at st s e (do_loop at' x y)) f d v ts k q = absurd f.2
-back_item (function_item at st s e (for_loop at' x y z u)) f d v ts k q = absurd f.2
-back_item (function_item at st s e (switch_on at' x y)) f d v ts k q = absurd f.2
-back_item (function_item at st s e (break_off at')) f d v ts k q = absurd f.2
-back_item (function_item at st s e (continue_on at')) f d v ts k q = absurd f.2
-back_item (function_item at st s e (return_from at' x)) f d v ts k q = absurd f.2
+back_item a f d v ts k q = absurd f.2
 
 -- items of a unit, or none
 abbrev ItemsOrNone : ℕ → Items → List Token → List Token → Type 0
@@ -219,15 +164,12 @@ item_before : {d : ℕ} {a : Item} {i j k : List Token} (rest : Items) → Reads
 item_before {d} {a} {i} {j} {k} no_items r q = subst (λ (x : List Token). ReadsItems d (more_items a no_items) i x) q (last_item r)
 item_before (more_items b rest) r f = next_item r f
 
-same_items : {a x : Item} {u v : Items} → x ≡ a → v ≡ u → more_items x v ≡ more_items a u
-same_items q r = cc
-
 back_items : (u : Items) → AreFineItems u → (d : ℕ) → height_of_unit u ≤ d → (ts : List Token) (k : List TokenKind) → kinds ts ≡ unit_kinds u k → BackOf (ItemsOrNone d) unplaced_unit u ts k
 back_items no_items f d v ts k q = record { tree = no_items; after = ts; reads = refl; same = refl; left = q }
 back_items (more_items a u) f d v ts k q =
     let x = back_item a f.0 d (omega arith) ts (unit_kinds u k) q in
     let z = back_items u f.1 d (omega arith) x.after k x.left in
-    record { tree = more_items x.tree z.tree; after = z.after; reads = item_before z.tree x.reads z.reads; same = same_items x.same z.same; left = z.left }
+    record { tree = more_items x.tree z.tree; after = z.after; reads = item_before z.tree x.reads z.reads; same = ap₂ more_items x.same z.same; left = z.left }
 
 -- what is read back of a whole unit
 pub record BackUnit (d : ℕ) (u : Items) (ts : List Token) : Type 0 where
@@ -247,5 +189,5 @@ back_unit (more_items a u) f d v ts q =
     record {
       other = more_items x.tree z.tree;
       reads = ends_at (ReadsItems d (more_items x.tree z.tree)) (no_kinds z.after z.left) (item_before z.tree x.reads z.reads);
-      same = same_items x.same z.same;
+      same = ap₂ more_items x.same z.same;
     }

@@ -2,6 +2,7 @@
 use Rattle.std.proofs.Common.{◌≡◌, ◌≤◌, ℕ, List, ◌∷◌, refl, arith}
 use Rattle.c_lexer.specs.declared.token.Token.{Token}
 use Rattle.c_lexer.specs.declared.punctuator.TheConstants.{LEFT_PARENTHESIS}
+use Rattle.c_syntax.proofs.Heads.{lengthened_name}
 use Rattle.c_syntax.proofs.Precedence.{rank}
 use Rattle.c_syntax.specs.Tree.{Expr, Exprs, TypeName, Declarator, nothing, Params}
 use Rattle.c_syntax.specs.Tokens.{Is}
@@ -126,18 +127,12 @@ there_begins (a_direct p (a_declared m) l) n = omega (arith, started_name m.name
 there_begins (a_direct p (declarator_in_parentheses o r h c) l) n = omega (arith, started o)
 there_begins (a_direct p no_core l) n = lengthens_there l (λ h. h) n
 
--- what is made of a declarator without a name has none
-lengthens_named : {d at : ℕ} {a e : Declarator} {j k : List Token} → Lengthens d at a e j k → HasName e → HasName a
-lengthens_named no_more h = h
-lengthens_named (an_array o s c l) h = lengthens_named l h
-lengthens_named (a_function o s c l) h = lengthens_named l h
-
 -- a declarator with a name ends specifiers
 pub named_ends_spec : {d : ℕ} {e : Declarator} {i j : List Token} → Declares d e i j → HasName e → EndsSpec i
 named_ends_spec (a_pointer h c r) n = omega (arith, started h)
 named_ends_spec (a_direct p (a_declared m) l) n = omega (arith, started_name m.name)
 named_ends_spec (a_direct p (declarator_in_parentheses o r h c) l) n = omega (arith, started o)
-named_ends_spec (a_direct p no_core l) n = absurd (lengthens_named l n)
+named_ends_spec (a_direct p no_core l) n = absurd (lengthened_name l n)
 
 -- where a declarator ends, nothing is declared
 pub nothing_stands : {d : ℕ} {e : Declarator} {i j : List Token} → Declares d e i j → EndsDeclarator i → (e ≡ nothing) × (i ≡ j)

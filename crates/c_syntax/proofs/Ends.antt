@@ -4,8 +4,8 @@ use Rattle.c_lexer.specs.declared.token.Token.{Token}
 use Rattle.c_lexer.specs.declared.token.TokenKind.{TokenKind}
 use Rattle.c_lexer.specs.declared.token.TokenKind.TheVariants.{Name, Keyword, Int, Char, Str, Punct}
 use Rattle.c_lexer.specs.declared.punctuator.TheConstants.{COMMA, SEMICOLON, RIGHT_PARENTHESIS, LEFT_BRACE}
-use Rattle.c_syntax.specs.Tree.{Prefix, pre_increment, pre_decrement, sizeof}
-use Rattle.c_syntax.specs.Tokens.{Is, IsKeyword, IsNameToken, IsInt, IsChar, IsStr, IsUnary, takes_address, indirects, keeps_sign, changes_sign, complements, negates, IsPrefix}
+use Rattle.c_syntax.specs.Tree.{Prefix, sizeof}
+use Rattle.c_syntax.specs.Tokens.{Is, IsKeyword, IsNameToken, IsInt, IsChar, IsStr, IsUnary, takes_address, IsPrefix}
 
 -- 1 a prefix operator other than *, 2 *, 4 (, 6 [, 0 for what begins no expression and no declarator
 abbrev pub start_of_code : ℕ → ℕ
@@ -73,11 +73,7 @@ starts e = ap start e
 
 unary_code : {op : ℕ} → IsUnary op → (1 ≤ start_of_code op) × (start_of_code op ≤ 2)
 unary_code takes_address = (omega arith, omega arith)
-unary_code indirects = (omega arith, omega arith)
-unary_code keeps_sign = (omega arith, omega arith)
-unary_code changes_sign = (omega arith, omega arith)
-unary_code complements = (omega arith, omega arith)
-unary_code negates = (omega arith, omega arith)
+unary_code u = (omega arith, omega arith)
 
 -- a unary operator has the number 1 or 2
 pub started_unary : {op : ℕ} {t : Token} → Is op t → IsUnary op → (1 ≤ start_of_kind t.kind) × (start_of_kind t.kind ≤ 2)
@@ -85,9 +81,8 @@ started_unary h u = rw (started h) (unary_code u)
 
 -- ++, -- and sizeof have the number 1
 pub started_prefix : (t : Token) (p : Prefix) → IsPrefix p t → start_of_kind t.kind ≡ 1
-started_prefix t pre_increment h = started h
-started_prefix t pre_decrement h = started h
 started_prefix t sizeof h = started_word h
+started_prefix t p h = started h
 
 pub name_ends_spec : {name : List ℕ} {t : Token} → IsNameToken name t → start_of_kind t.kind ≤ 6
 name_ends_spec h = omega (arith, started_name h)

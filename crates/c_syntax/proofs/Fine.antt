@@ -1,15 +1,14 @@
 -- Trees that tokens spell: their operators are operators, a comma has two members at least, the names of types have no names.
 use Rattle.std.proofs.Common.{ℕ, suc, ◌≤◌}
-use Rattle.c_syntax.specs.Tree.{Expr, a_name, an_int, a_char, a_str, comma, sizeof_type, cast, call, member, postfix, prefix, unary, index, binary, assign, conditional}
-use Rattle.c_syntax.specs.Tree.{Infix, Exprs, no_exprs, more_exprs, Maybe, absent, there, TypeName, type_name, Declarator, nothing, named, pointer, array, function, Params, no_params, more_params}
+use Rattle.c_syntax.specs.Tree.{Expr, comma, sizeof_type, cast, call, member, postfix, prefix, unary, index, binary, assign, conditional}
+use Rattle.c_syntax.specs.Tree.{Infix, Exprs, no_exprs, more_exprs, Maybe, absent, there, TypeName, type_name, Declarator, pointer, array, function, Params, no_params, more_params}
 use Rattle.c_syntax.specs.Tokens.{IsInfix, IsUnary, IsAssignment}
 use Rattle.c_syntax.specs.Grammar.{HasNoName, AreSome}
 
 -- two or more
 abbrev pub AreSeveral : Exprs → Type 0
-AreSeveral no_exprs = ⊥
-AreSeveral (more_exprs a no_exprs) = ⊥
 AreSeveral (more_exprs a (more_exprs b rest)) = Unit {0}
+AreSeveral a = ⊥
 
 -- an operator of one of the ten levels
 pub record IsOperator (o : Infix) : Type 0 where
@@ -24,10 +23,6 @@ IsParameterList (more_params at s e rest) = AreSome (more_params at s e rest)
 
 abbrev mutual
   pub IsFine : Expr → Type 0
-  IsFine (a_name at name) = Unit {0}
-  IsFine (an_int at number unsigned) = Unit {0}
-  IsFine (a_char at c) = Unit {0}
-  IsFine (a_str at bytes) = Unit {0}
   IsFine (comma at es) = AreSeveral es × AreFine es
   IsFine (sizeof_type at n) = IsFineType n
   IsFine (cast at n a) = IsFineType n × IsFine a
@@ -40,6 +35,7 @@ abbrev mutual
   IsFine (binary at o a b) = IsOperator o × IsFine a × IsFine b
   IsFine (assign at op a b) = IsAssignment op × IsFine a × IsFine b
   IsFine (conditional at a b c) = IsFine a × IsFine b × IsFine c
+  IsFine a = Unit {0}
 
   pub AreFine : Exprs → Type 0
   AreFine no_exprs = Unit {0}
@@ -53,11 +49,10 @@ abbrev mutual
   IsFineType (type_name at s e) = HasNoName e × IsFineDeclarator e
 
   pub IsFineDeclarator : Declarator → Type 0
-  IsFineDeclarator nothing = Unit {0}
-  IsFineDeclarator (named at x) = Unit {0}
   IsFineDeclarator (pointer at e) = IsFineDeclarator e
   IsFineDeclarator (array at e size) = IsFineDeclarator e × IsFineMaybe size
   IsFineDeclarator (function at e ps) = IsFineDeclarator e × IsParameterList ps × AreFineParams ps
+  IsFineDeclarator a = Unit {0}
 
   pub AreFineParams : Params → Type 0
   AreFineParams no_params = Unit {0}

@@ -2,22 +2,16 @@
 use Rattle.std.proofs.Common.{ℕ, suc, ◌≤◌, List, arith}
 use Rattle.c_lexer.specs.declared.token.Token.{Token}
 use Rattle.c_syntax.specs.Tree.{Expr, Exprs, more_exprs, Maybe, TypeName, Declarator, Params}
-use Rattle.c_syntax.specs.Grammar.{Level, primary_level, postfix_level, unary_level, cast_level, binary_level, conditional_level, assignment_level, expression_level}
-use Rattle.c_syntax.specs.Grammar.{Reads, is_name, is_int, is_char, are_strings, in_parentheses, with_suffixes, no_prefix, a_prefix, a_unary, a_sizeof_type, no_cast, a_cast, no_chain, a_chain, no_choice, a_choice, no_assignment, an_assignment, no_comma, a_comma}
+use Rattle.c_syntax.specs.Grammar.{Level, binary_level}
+use Rattle.c_syntax.specs.Grammar.{Reads, in_parentheses, with_suffixes, no_prefix, a_prefix, a_unary, a_sizeof_type, no_cast, a_cast, no_chain, a_chain, no_choice, a_choice, no_assignment, an_assignment, no_comma, a_comma}
 use Rattle.c_syntax.specs.Grammar.{ReadsList, last_expr, next_expr, Suffixes, no_suffix, an_index, an_empty_call, a_call, a_member, a_postfix, Chain, no_operator, an_operator}
-use Rattle.c_syntax.specs.Grammar.{ReadsSize, no_size, a_size, ReadsType, a_type, Declares, a_pointer, a_direct, ReadsCore, a_declared, declarator_in_parentheses, no_core, Lengthens, no_more, an_array, a_function, ReadsParams, are_none, are_some, ReadsEach, last_param, next_param}
+use Rattle.c_syntax.specs.Grammar.{ReadsSize, no_size, a_size, ReadsType, a_type, Declares, a_pointer, a_direct, ReadsCore, declarator_in_parentheses, Lengthens, no_more, an_array, a_function, ReadsParams, are_none, are_some, ReadsEach, last_param, next_param}
 use Rattle.c_syntax.proofs.Fine.{AreSeveral, IsFine, AreFine, IsFineMaybe, IsFineType, IsFineDeclarator, AreFineParams, IsParameterList}
 
 -- the levels of the operators are at most 10
 abbrev IsLow : Level → Type 0
-IsLow primary_level = Unit {0}
-IsLow postfix_level = Unit {0}
-IsLow unary_level = Unit {0}
-IsLow cast_level = Unit {0}
 IsLow (binary_level n) = n ≤ 10
-IsLow conditional_level = Unit {0}
-IsLow assignment_level = Unit {0}
-IsLow expression_level = Unit {0}
+IsLow l = Unit {0}
 
 several : {d : ℕ} {e : Exprs} {i j : List Token} (a : Expr) → ReadsList d e i j → AreSeveral (more_exprs a e)
 several a (last_expr r) = tt
@@ -25,10 +19,6 @@ several a (next_expr r h f) = tt
 
 mutual
   pub fine : {d : ℕ} {l : Level} {e : Expr} {i j : List Token} → Reads d l e i j → IsLow l → IsFine e
-  fine (is_name h) w = tt
-  fine (is_int h) w = tt
-  fine (is_char h) w = tt
-  fine (are_strings p r) w = tt
   fine (in_parentheses o r c) w = fine r tt
   fine (with_suffixes p r c) w = fine_suffixes c (fine r tt)
   fine (no_prefix r) w = fine r tt
@@ -45,6 +35,7 @@ mutual
   fine (an_assignment p r h q f) w = (q, fine r tt, fine f tt)
   fine (no_comma r) w = fine r tt
   fine (a_comma {a = a} p r h f) w = (several a f, (fine r tt, fine_list f))
+  fine x w = tt
 
   pub fine_list : {d : ℕ} {e : Exprs} {i j : List Token} → ReadsList d e i j → AreFine e
   fine_list (last_expr r) = (fine r tt, tt)
@@ -74,9 +65,8 @@ mutual
   fine_declarator (a_direct p r f) = fine_lengthens f (fine_core r)
 
   fine_core : {d : ℕ} {e : Declarator} {i j : List Token} → ReadsCore d e i j → IsFineDeclarator e
-  fine_core (a_declared n) = tt
   fine_core (declarator_in_parentheses o r h c) = fine_declarator r
-  fine_core no_core = tt
+  fine_core a = tt
 
   fine_lengthens : {d at : ℕ} {a e : Declarator} {i j : List Token} → Lengthens d at a e i j → IsFineDeclarator a → IsFineDeclarator e
   fine_lengthens no_more g = g

@@ -3,13 +3,13 @@ use Rattle.std.proofs.Common.{ℕ, List}
 use Rattle.c_lexer.specs.declared.token.Token.{Token}
 use Rattle.c_syntax.specs.Tree.{Maybe, Init, one, list, Inits, no_inits, more_inits, MaybeInit, no_init, an_init, Parts, no_parts, more_parts, Decl, decl}
 use Rattle.c_syntax.specs.Tree.{First, first_absent, first_expr, first_decl, Labels, no_labels, case_label, default_label}
-use Rattle.c_syntax.specs.Tree.{Stmt, block, empty, evaluate, only_if, if_else, while_loop, do_loop, for_loop, switch_on, break_off, continue_on, return_from, BlockItems, no_block_items, block_decl, block_stmt, Stmts, no_stmts, more_stmts, Groups, no_groups, more_groups}
+use Rattle.c_syntax.specs.Tree.{Stmt, block, evaluate, only_if, if_else, while_loop, do_loop, for_loop, switch_on, return_from, BlockItems, no_block_items, block_decl, block_stmt, Stmts, no_stmts, more_stmts, Groups, no_groups, more_groups}
 use Rattle.c_syntax.specs.Tree.{Declarators, no_declarators, more_declarators, Members, no_members, more_members, Enumerators, no_enumerators, more_enumerators, Item, struct_item, enum_item, tag_item, decl_item, function_item, Items, no_items, more_items}
 use Rattle.c_syntax.specs.Grammar.{HasName}
 use Rattle.c_syntax.specs.Statements.{IsPlainDecl, IsClosed}
 use Rattle.c_syntax.specs.Statements.{ReadsInit, an_expression, a_list, a_list_with_comma, ReadsInits, last_init, next_init, ReadsMaybeInit, no_initialiser, an_initialiser, ReadsParts, last_part, next_part, ReadsDecl, a_declaration}
 use Rattle.c_syntax.specs.Statements.{ReadsMaybe, no_expression_stands, an_expression_stands, ReadsFirst, first_nothing, first_expression, first_declaration, ReadsLabels, last_case, last_default, next_case, next_default}
-use Rattle.c_syntax.specs.Statements.{ReadsStmt, a_block, an_empty, an_evaluation, an_if, an_if_else, a_while, a_do, a_for, a_switch, a_break, a_continue, a_return}
+use Rattle.c_syntax.specs.Statements.{ReadsStmt, a_block, an_evaluation, an_if, an_if_else, a_while, a_do, a_for, a_switch, a_return}
 use Rattle.c_syntax.specs.Statements.{ReadsBlockItems, no_block_item, a_block_decl, a_block_stmt, ReadsStmts, last_stmt, next_stmt, ReadsGroups, no_group, a_group}
 use Rattle.c_syntax.specs.Statements.{ReadsDeclarators, last_declarator, next_declarator, ReadsMembers, last_member, next_member, ReadsEnumeratorValue, no_enumerator_value, an_enumerator_value, ReadsEnumerators, last_enumerator, next_enumerator}
 use Rattle.c_syntax.specs.Statements.{ReadsItem, a_struct, an_enum, an_enum_with_comma, a_tag_alone, an_item_declaration, a_definition, ReadsItems, last_item, next_item}
@@ -57,13 +57,11 @@ AreFineLabels (default_label at rest) = AreFineLabels rest
 
 abbrev pub AreSomeLabels : Labels → Type 0
 AreSomeLabels no_labels = ⊥
-AreSomeLabels (case_label at e rest) = IsFine e × AreFineLabels rest
-AreSomeLabels (default_label at rest) = AreFineLabels rest
+AreSomeLabels ls = AreFineLabels ls
 
 abbrev mutual
   pub IsFineStmt : Stmt → Type 0
   IsFineStmt (block at items) = AreFineBlockItems items
-  IsFineStmt (empty at) = Unit {0}
   IsFineStmt (evaluate at e) = IsFine e
   IsFineStmt (only_if at e s) = IsFine e × IsFineStmt s
   IsFineStmt (if_else at e s r) = IsFine e × IsFineStmt s × IsClosed s × IsFineStmt r
@@ -71,9 +69,8 @@ abbrev mutual
   IsFineStmt (do_loop at s e) = IsFineStmt s × IsFine e
   IsFineStmt (for_loop at first test step s) = IsFineFirst first × IsFineMaybe test × IsFineMaybe step × IsFineStmt s
   IsFineStmt (switch_on at e gs) = IsFine e × AreFineGroups gs
-  IsFineStmt (break_off at) = Unit {0}
-  IsFineStmt (continue_on at) = Unit {0}
   IsFineStmt (return_from at e) = IsFineMaybe e
+  IsFineStmt a = Unit {0}
 
   pub AreFineBlockItems : BlockItems → Type 0
   AreFineBlockItems no_block_items = Unit {0}
@@ -120,17 +117,7 @@ AreSomeEnumerators (more_enumerators x e rest) = IsFineMaybe e × AreFineEnumera
 -- a block
 abbrev pub IsFineBody : Stmt → Type 0
 IsFineBody (block at items) = AreFineBlockItems items
-IsFineBody (empty at) = ⊥
-IsFineBody (evaluate at e) = ⊥
-IsFineBody (only_if at e s) = ⊥
-IsFineBody (if_else at e s r) = ⊥
-IsFineBody (while_loop at e s) = ⊥
-IsFineBody (do_loop at s e) = ⊥
-IsFineBody (for_loop at first test step s) = ⊥
-IsFineBody (switch_on at e gs) = ⊥
-IsFineBody (break_off at) = ⊥
-IsFineBody (continue_on at) = ⊥
-IsFineBody (return_from at e) = ⊥
+IsFineBody a = ⊥
 
 abbrev pub IsFineItem : Item → Type 0
 IsFineItem (struct_item at x ms) = AreSomeMembers ms
@@ -146,6 +133,19 @@ AreFineItems (more_items a rest) = IsFineItem a × AreFineItems rest
 abbrev pub AreSomeItems : Items → Type 0
 AreSomeItems no_items = ⊥
 AreSomeItems (more_items a rest) = IsFineItem a × AreFineItems rest
+
+-- lists that stand are lists
+pub are_fine : (ls : Labels) → AreSomeLabels ls → AreFineLabels ls
+are_fine no_labels f = absurd f
+are_fine ls f = f
+
+pub some_are_fine : (ss : Stmts) → AreSomeStmts ss → AreFineStmts ss
+some_are_fine no_stmts f = absurd f
+some_are_fine ss f = f
+
+pub members_are_fine : (ms : Members) → AreSomeMembers ms → AreFineMembers ms
+members_are_fine no_members f = absurd f
+members_are_fine ms f = f
 
 mutual
   fine_init : {d : ℕ} {a : Init} {i j : List Token} → ReadsInit d a i j → IsFineInit a
@@ -185,22 +185,15 @@ fine_first (first_nothing h) = tt
 fine_first (first_expression r h) = fine r tt
 fine_first (first_declaration r h) = (fine_decl r, h)
 
-fine_labels : {d : ℕ} {ls : Labels} {i j : List Token} → ReadsLabels d ls i j → AreFineLabels ls
-fine_labels (last_case h r c) = (fine r tt, tt)
-fine_labels (last_default h c) = tt
-fine_labels (next_case h r c f) = (fine r tt, fine_labels f)
-fine_labels (next_default h c f) = fine_labels f
-
 some_labels : {d : ℕ} {ls : Labels} {i j : List Token} → ReadsLabels d ls i j → AreSomeLabels ls
 some_labels (last_case h r c) = (fine r tt, tt)
 some_labels (last_default h c) = tt
-some_labels (next_case h r c f) = (fine r tt, fine_labels f)
-some_labels (next_default h c f) = fine_labels f
+some_labels (next_case {rest = rest} h r c f) = (fine r tt, are_fine rest (some_labels f))
+some_labels (next_default {rest = rest} h c f) = are_fine rest (some_labels f)
 
 mutual
   fine_stmt : {d : ℕ} {s : Stmt} {i j : List Token} → ReadsStmt d s i j → IsFineStmt s
   fine_stmt (a_block o r c) = fine_block_items r
-  fine_stmt (an_empty h) = tt
   fine_stmt (an_evaluation p r h) = fine r tt
   fine_stmt (an_if h g r q f) = (fine r tt, fine_stmt f)
   fine_stmt (an_if_else h g r q f z e b) = (fine r tt, fine_stmt f, z, fine_stmt b)
@@ -208,22 +201,17 @@ mutual
   fine_stmt (a_do h f v g r q e) = (fine_stmt f, fine r tt)
   fine_stmt (a_for h g f a m b q s) = (fine_first f, fine_maybe a, fine_maybe b, fine_stmt s)
   fine_stmt (a_switch h g e q m f b) = (fine e tt, fine_groups f)
-  fine_stmt (a_break h g) = tt
-  fine_stmt (a_continue h g) = tt
   fine_stmt (a_return h r g) = fine_maybe r
+  fine_stmt a = tt
 
   fine_block_items : {d : ℕ} {s : BlockItems} {i j : List Token} → ReadsBlockItems d s i j → AreFineBlockItems s
   fine_block_items no_block_item = tt
   fine_block_items (a_block_decl r h f) = (fine_decl r, h, fine_block_items f)
   fine_block_items (a_block_stmt r f) = (fine_stmt r, fine_block_items f)
 
-  fine_stmts : {d : ℕ} {s : Stmts} {i j : List Token} → ReadsStmts d s i j → AreFineStmts s
-  fine_stmts (last_stmt r) = (fine_stmt r, tt)
-  fine_stmts (next_stmt r f) = (fine_stmt r, fine_stmts f)
-
   some_stmts : {d : ℕ} {s : Stmts} {i j : List Token} → ReadsStmts d s i j → AreSomeStmts s
   some_stmts (last_stmt r) = (fine_stmt r, tt)
-  some_stmts (next_stmt r f) = (fine_stmt r, fine_stmts f)
+  some_stmts (next_stmt {rest = rest} r f) = (fine_stmt r, some_are_fine rest (some_stmts f))
 
   fine_groups : {d : ℕ} {s : Groups} {i j : List Token} → ReadsGroups d s i j → AreFineGroups s
   fine_groups no_group = tt
@@ -237,13 +225,9 @@ some_declarators : {d : ℕ} {es : Declarators} {i j : List Token} → ReadsDecl
 some_declarators (last_declarator e h) = (fine_declarator e, h, tt)
 some_declarators (next_declarator e h c f) = (fine_declarator e, h, fine_declarators f)
 
-fine_members : {d : ℕ} {ms : Members} {i j : List Token} → ReadsMembers d ms i j → AreFineMembers ms
-fine_members (last_member p s e h) = (some_declarators e, tt)
-fine_members (next_member p s e h f) = (some_declarators e, fine_members f)
-
 some_members : {d : ℕ} {ms : Members} {i j : List Token} → ReadsMembers d ms i j → AreSomeMembers ms
 some_members (last_member p s e h) = (some_declarators e, tt)
-some_members (next_member p s e h f) = (some_declarators e, fine_members f)
+some_members (next_member {rest = rest} p s e h f) = (some_declarators e, members_are_fine rest (some_members f))
 
 fine_enumerator_value : {d : ℕ} {e : Maybe} {i j : List Token} → ReadsEnumeratorValue d e i j → IsFineMaybe e
 fine_enumerator_value no_enumerator_value = tt

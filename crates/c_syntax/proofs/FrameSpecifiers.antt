@@ -16,6 +16,12 @@ storage_on no_storage_stands k = record { tokens = k; twin = here; reads = no_st
 storage_on (static_stands {t = t} h) k = record { tokens = t ∷ k; twin = along here; reads = static_stands h }
 storage_on (extern_stands {t = t} h) k = record { tokens = t ∷ k; twin = along here; reads = extern_stands h }
 
+-- and at the same place, where what follows is
+pub storage_at : {s : Storage} {i j : List Token} → ReadsStorage s i j → (k : List Token) → place j ≡ place k → OnAt (ReadsStorage s) i j k
+storage_at no_storage_stands k q = record { tokens = k; twin = here; reads = no_storage_stands; same = q }
+storage_at (static_stands {t = t} h) k q = record { tokens = t ∷ k; twin = along here; reads = static_stands h; same = refl }
+storage_at (extern_stands {t = t} h) k q = record { tokens = t ∷ k; twin = along here; reads = extern_stands h; same = refl }
+
 -- lists with a common front begin at one place, where a token stands in it
 pub placed : {t : Token} {r s i k : List Token} → Twin (t ∷ r) (t ∷ s) i k → place i ≡ place k
 placed here = refl

@@ -1,5 +1,5 @@
 -- Initialisers, declarations, statements and units are read whatever follows them.
-use Rattle.std.proofs.Common.{ℕ, List, ◌∷◌, refl, ◌∙◌}
+use Rattle.std.proofs.Common.{ℕ, List, ◌∷◌, ◌∙◌}
 use Rattle.c_lexer.specs.declared.token.Token.{Token}
 use Rattle.c_syntax.specs.Tree.{Maybe, Init, Inits, MaybeInit, Parts, Decl, First, Labels, Stmt, BlockItems, Stmts, Groups, Declarators, Members, Enumerators, Tag, Item}
 use Rattle.c_syntax.specs.Statements.{ReadsInit, an_expression, a_list, a_list_with_comma, ReadsInits, last_init, next_init, ReadsMaybeInit, no_initialiser, an_initialiser, ReadsParts, last_part, next_part, ReadsDecl, a_declaration}
@@ -8,10 +8,8 @@ use Rattle.c_syntax.specs.Statements.{ReadsStmt, a_block, an_empty, an_evaluatio
 use Rattle.c_syntax.specs.Statements.{ReadsBlockItems, no_block_item, a_block_decl, a_block_stmt, ReadsStmts, last_stmt, next_stmt, ReadsGroups, no_group, a_group}
 use Rattle.c_syntax.specs.Statements.{ReadsDeclarators, last_declarator, next_declarator, ReadsMembers, last_member, next_member, ReadsEnumeratorValue, no_enumerator_value, an_enumerator_value, ReadsEnumerators, last_enumerator, next_enumerator, ReadsTag, no_name, a_tag}
 use Rattle.c_syntax.specs.Statements.{ReadsItem, a_struct, an_enum, an_enum_with_comma, a_tag_alone, an_item_declaration, a_definition}
-use Rattle.c_syntax.specs.Specifiers.{static_stands, extern_stands}
-use Rattle.c_syntax.specs.Specifiers.{no_storage_stands}
 use Rattle.c_syntax.proofs.Twins.{here, along, glue, after, after_two, after_three, On, OnAt}
-use Rattle.c_syntax.proofs.FrameSpecifiers.{spec_on}
+use Rattle.c_syntax.proofs.FrameSpecifiers.{spec_on, storage_at}
 use Rattle.c_syntax.proofs.FrameGrammar.{reads_on, declares_on}
 
 mutual
@@ -39,15 +37,9 @@ parts_on (next_part {t = t} e h v c f) k =
     record { tokens = x.tokens; twin = glue z.twin (glue (after y.twin) x.twin); reads = next_part x.reads h y.reads c z.reads }
 
 pub decl_on : {d : ℕ} {x : Decl} {i j : List Token} → ReadsDecl d x i j → (k : List Token) → OnAt (ReadsDecl d x) i j k
-decl_on (a_declaration {t = t} p no_storage_stands s r h) k =
-    let y = parts_on r (t ∷ k) in let x = spec_on s y.tokens in
-    record { tokens = x.tokens; twin = glue (after y.twin) x.twin; reads = a_declaration (p ∙ x.same) no_storage_stands x.reads y.reads h; same = x.same }
-decl_on (a_declaration {t = t} p (static_stands {t = w} g) s r h) k =
-    let y = parts_on r (t ∷ k) in let x = spec_on s y.tokens in
-    record { tokens = w ∷ x.tokens; twin = along (glue (after y.twin) x.twin); reads = a_declaration p (static_stands g) x.reads y.reads h; same = refl }
-decl_on (a_declaration {t = t} p (extern_stands {t = w} g) s r h) k =
-    let y = parts_on r (t ∷ k) in let x = spec_on s y.tokens in
-    record { tokens = w ∷ x.tokens; twin = along (glue (after y.twin) x.twin); reads = a_declaration p (extern_stands g) x.reads y.reads h; same = refl }
+decl_on (a_declaration {t = t} p g s r h) k =
+    let y = parts_on r (t ∷ k) in let x = spec_on s y.tokens in let v = storage_at g x.tokens x.same in
+    record { tokens = v.tokens; twin = glue (glue (after y.twin) x.twin) v.twin; reads = a_declaration (p ∙ v.same) v.reads x.reads y.reads h; same = v.same }
 
 pub maybe_on : {d : ℕ} {e : Maybe} {i j : List Token} → ReadsMaybe d e i j → (k : List Token) → On (ReadsMaybe d e) i j k
 maybe_on no_expression_stands k = record { tokens = k; twin = here; reads = no_expression_stands }
@@ -157,12 +149,6 @@ item_on (an_enum_with_comma {t = t} {l = l} {c = m} {r = r} {u = u} h g o f q c 
     record { tokens = t ∷ x.tokens; twin = along (glue (after_three y.twin) (after x.twin)); reads = an_enum_with_comma h x.reads o y.reads q c e }
 item_on (a_tag_alone {t = t} {n = n} {u = u} h m e) k = record { tokens = t ∷ n ∷ u ∷ k; twin = along (along (along here)); reads = a_tag_alone h m e }
 item_on (an_item_declaration p r) k = let x = decl_on r k in record { tokens = x.tokens; twin = x.twin; reads = an_item_declaration (p ∙ x.same) x.reads }
-item_on (a_definition {t = t} {u = u} p no_storage_stands s e h o f c) k =
-    let z = block_items_on f (u ∷ k) in let y = declares_on e (t ∷ z.tokens) in let x = spec_on s y.tokens in
-    record { tokens = x.tokens; twin = glue (glue (after z.twin) (after y.twin)) x.twin; reads = a_definition (p ∙ x.same) no_storage_stands x.reads y.reads h o z.reads c }
-item_on (a_definition {t = t} {u = u} p (static_stands {t = w} g) s e h o f c) k =
-    let z = block_items_on f (u ∷ k) in let y = declares_on e (t ∷ z.tokens) in let x = spec_on s y.tokens in
-    record { tokens = w ∷ x.tokens; twin = along (glue (glue (after z.twin) (after y.twin)) x.twin); reads = a_definition p (static_stands g) x.reads y.reads h o z.reads c }
-item_on (a_definition {t = t} {u = u} p (extern_stands {t = w} g) s e h o f c) k =
-    let z = block_items_on f (u ∷ k) in let y = declares_on e (t ∷ z.tokens) in let x = spec_on s y.tokens in
-    record { tokens = w ∷ x.tokens; twin = along (glue (glue (after z.twin) (after y.twin)) x.twin); reads = a_definition p (extern_stands g) x.reads y.reads h o z.reads c }
+item_on (a_definition {t = t} {u = u} p g s e h o f c) k =
+    let z = block_items_on f (u ∷ k) in let y = declares_on e (t ∷ z.tokens) in let x = spec_on s y.tokens in let v = storage_at g x.tokens x.same in
+    record { tokens = v.tokens; twin = glue (glue (glue (after z.twin) (after y.twin)) x.twin) v.twin; reads = a_definition (p ∙ v.same) v.reads x.reads y.reads h o z.reads c }

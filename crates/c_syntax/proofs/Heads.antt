@@ -1,13 +1,12 @@
 -- Which kinds of token can stand first in a phrase. Each kind has a number: a phrase is told by the number of its first token.
 use Rattle.std.proofs.Common.{◌≡◌, ℕ, List, [], ◌∷◌, refl, ap, ◌∙◌, arith}
-use Rattle.std.specs.Prelude.{ℤ, Bool, slice_index_or}
+use Rattle.std.specs.Prelude.{slice_index_or}
 use Rattle.c_lexer.specs.declared.token.Token.{Token}
 use Rattle.c_lexer.specs.declared.token.TokenKind.{TokenKind}
 use Rattle.c_lexer.specs.declared.token.TokenKind.TheVariants.{Name, Keyword, Int, Char, Str, Punct}
 use Rattle.c_lexer.specs.declared.keyword.TheConstants.{ENUM}
-use Rattle.c_lexer.specs.declared.punctuator.TheConstants.{LEFT_BRACE}
-use Rattle.c_syntax.specs.Tree.{Ident, Storage, Spec, Expr, Declarator, Prefix, pre_increment, pre_decrement, sizeof}
-use Rattle.c_syntax.specs.Tokens.{Is, IsKeyword, IsNameToken, IsInt, IsChar, IsStr, IsUnary, takes_address, indirects, keeps_sign, changes_sign, complements, negates, IsPrefix}
+use Rattle.c_syntax.specs.Tree.{Ident, Storage, Spec, Expr, Declarator, Prefix, sizeof}
+use Rattle.c_syntax.specs.Tokens.{Is, IsKeyword, IsNameToken, IsUnary, takes_address, IsPrefix}
 use Rattle.c_syntax.specs.Specifiers.{Names, Consts, no_const, a_const, ReadsStorage, no_storage_stands, static_stands, extern_stands}
 use Rattle.c_syntax.specs.Specifiers.{ReadsSpec, is_void, is_char, is_unsigned_char, is_int, is_signed, is_signed_int, is_unsigned, is_unsigned_int, is_struct, is_enum}
 use Rattle.c_syntax.specs.Grammar.{Level, HasName, ReadsStrings, last_string, next_string, Reads, is_name, are_strings, in_parentheses, with_suffixes, no_prefix, a_prefix, a_unary, a_sizeof_type, no_cast, a_cast, no_chain, a_chain, no_choice, a_choice, no_assignment, an_assignment, no_comma, a_comma}
@@ -59,40 +58,25 @@ pub named : {name : List ℕ} {t : Token} → IsNameToken name t → head_of_kin
 unfolding head_of_kind
 named h = ap head_of_kind h.kind
 
-int_heads : {number : ℕ} {unsigned : Bool} {t : Token} → IsInt number unsigned t → head_of_kind t.kind ≡ 20
-unfolding head_of_kind
-int_heads h = ap head_of_kind h.kind
-
-char_heads : {c : ℤ} {t : Token} → IsChar c t → head_of_kind t.kind ≡ 20
-unfolding head_of_kind
-char_heads h = ap head_of_kind h.kind
-
-string_heads : {bytes : List ℕ} {t : Token} → IsStr bytes t → head_of_kind t.kind ≡ 20
-unfolding head_of_kind
-string_heads h = ap head_of_kind h.kind
-
 unary_code : {op : ℕ} → IsUnary op → head_of_code op ≡ 20
 unary_code takes_address = refl
-unary_code indirects = refl
-unary_code keeps_sign = refl
-unary_code changes_sign = refl
-unary_code complements = refl
-unary_code negates = refl
+unary_code u = refl
 
 prefix_heads : (p : Prefix) (t : Token) → IsPrefix p t → head_of_kind t.kind ≡ 20
-prefix_heads pre_increment t h = headed h
-prefix_heads pre_decrement t h = headed h
 prefix_heads sizeof t h = worded h
+prefix_heads p t h = headed h
 
 strings_head : {bytes : List ℕ} {i j : List Token} → ReadsStrings bytes i j → head i ≡ 20
-strings_head (last_string h) = string_heads h
-strings_head (next_string h r p) = string_heads h
+unfolding head_of_kind
+strings_head (last_string h) = ap head_of_kind h.kind
+strings_head (next_string h r p) = ap head_of_kind h.kind
 
 -- what an expression begins with
 pub expression_head : {d : ℕ} {l : Level} {e : Expr} {i j : List Token} → Reads d l e i j → head i ≡ 20
+unfolding head_of_kind
 expression_head (is_name h) = named h
-expression_head (int_stands h) = int_heads h
-expression_head (char_stands h) = char_heads h
+expression_head (int_stands h) = ap head_of_kind h.kind
+expression_head (char_stands h) = ap head_of_kind h.kind
 expression_head (are_strings p r) = strings_head r
 expression_head (in_parentheses o r c) = headed o
 expression_head (with_suffixes p r c) = expression_head r
@@ -152,28 +136,6 @@ no_storage_at no_storage_stands h = refl
 no_storage_at (static_stands w) h = absurd (omega (arith, worded w))
 no_storage_at (extern_stands w) h = absurd (omega (arith, worded w))
 
-other_word : {a b : ℕ} {t v : Token} → v ≡ t → IsKeyword a t → IsKeyword b v → a ≡ b
-other_word {b = b} {t = t} q h k = let w : IsKeyword b t = rw q at k in words_apart h w
-
-consts_enum : {t v : Token} {i j : List Token} → Consts (t ∷ i) (v ∷ j) → IsKeyword ENUM t → v ∷ j ≡ t ∷ i
+pub consts_enum : {t v : Token} {i j : List Token} → Consts (t ∷ i) (v ∷ j) → IsKeyword ENUM t → v ∷ j ≡ t ∷ i
 consts_enum no_const h = refl
 consts_enum (a_const w c) h = absurd (omega (arith, words_apart h w))
-
-first_equal : {t v : Token} {i j : List Token} → v ∷ j ≡ t ∷ i → v ≡ t
-first_equal q = cc
-
-name_second : {t v u o : Token} {i j : List Token} → v ∷ u ∷ j ≡ t ∷ o ∷ i → head_of_kind u.kind ≡ head_of_kind o.kind
-name_second q = ap second q
-
--- the word enum with a brace after it is no type
-pub no_bare_enum : {s : Spec} {t u : Token} {i j : List Token} → ReadsSpec s (t ∷ u ∷ i) j → IsKeyword ENUM t → Is LEFT_BRACE u → ⊥
-no_bare_enum (is_void c w a) h o = omega (arith, other_word (first_equal (consts_enum c h)) h w)
-no_bare_enum (is_char c w a) h o = omega (arith, other_word (first_equal (consts_enum c h)) h w)
-no_bare_enum (is_unsigned_char c w a v b) h o = omega (arith, other_word (first_equal (consts_enum c h)) h w)
-no_bare_enum (is_int c w a) h o = omega (arith, other_word (first_equal (consts_enum c h)) h w)
-no_bare_enum (is_signed c w a) h o = omega (arith, other_word (first_equal (consts_enum c h)) h w)
-no_bare_enum (is_signed_int c w a v b) h o = omega (arith, other_word (first_equal (consts_enum c h)) h w)
-no_bare_enum (is_unsigned c w a) h o = omega (arith, other_word (first_equal (consts_enum c h)) h w)
-no_bare_enum (is_unsigned_int c w a v b) h o = omega (arith, other_word (first_equal (consts_enum c h)) h w)
-no_bare_enum (is_struct c w n a) h o = omega (arith, other_word (first_equal (consts_enum c h)) h w)
-no_bare_enum (is_enum c w n a) h o = omega (arith, name_second (consts_enum c h), name_head n, headed o)

@@ -1,10 +1,10 @@
 -- The depth of nodes is seen without places.
 use Rattle.std.proofs.Common.{◌≡◌, ℕ, suc, max, refl, ap, sym, ◌∙◌}
-use Rattle.c_syntax.specs.Tree.{Expr, a_name, an_int, a_char, a_str, comma, sizeof_type, cast, call, member, postfix, prefix, unary, index, binary, assign, conditional}
-use Rattle.c_syntax.specs.Tree.{Exprs, no_exprs, more_exprs, Maybe, absent, there, TypeName, type_name, Declarator, nothing, named, pointer, array, function, Params, no_params, more_params}
+use Rattle.c_syntax.specs.Tree.{Expr, comma, sizeof_type, cast, call, member, postfix, prefix, unary, index, binary, assign, conditional}
+use Rattle.c_syntax.specs.Tree.{Exprs, no_exprs, more_exprs, Maybe, absent, there, TypeName, type_name, Declarator, pointer, array, function, Params, no_params, more_params}
 use Rattle.c_syntax.specs.Tree.{Init, one, list, Inits, no_inits, more_inits, MaybeInit, no_init, an_init, Parts, no_parts, more_parts, Decl, decl}
 use Rattle.c_syntax.specs.Tree.{First, first_absent, first_expr, first_decl, Labels, no_labels, case_label, default_label}
-use Rattle.c_syntax.specs.Tree.{Stmt, block, empty, evaluate, only_if, if_else, while_loop, do_loop, for_loop, switch_on, break_off, continue_on, return_from, BlockItems, no_block_items, block_decl, block_stmt, Stmts, no_stmts, more_stmts, Groups, no_groups, more_groups}
+use Rattle.c_syntax.specs.Tree.{Stmt, block, evaluate, only_if, if_else, while_loop, do_loop, for_loop, switch_on, return_from, BlockItems, no_block_items, block_decl, block_stmt, Stmts, no_stmts, more_stmts, Groups, no_groups, more_groups}
 use Rattle.c_syntax.specs.Tree.{Declarators, no_declarators, more_declarators, Members, no_members, more_members, Enumerators, no_enumerators, more_enumerators, Item, struct_item, enum_item, tag_item, decl_item, function_item, Items, no_items, more_items}
 use Rattle.c_syntax.specs.Limits.{height, height_of_exprs, height_of_maybe, height_of_type, height_of_declarator, height_of_params, height_of_init, height_of_inits, height_of_maybe_init, height_of_parts, height_of_decl, height_of_first, height_of_labels, height_of_stmt, height_of_block_items, height_of_stmts, height_of_groups, height_of_declarators, height_of_members, height_of_enumerators, height_of_item, height_of_unit}
 use Rattle.c_syntax.specs.Same.{unplaced, unplaced_exprs, unplaced_maybe, unplaced_type, unplaced_declarator, unplaced_params, unplaced_init, unplaced_inits, unplaced_maybe_init, unplaced_parts, unplaced_decl, unplaced_first, unplaced_labels, unplaced_stmt, unplaced_block_items, unplaced_stmts, unplaced_groups, unplaced_declarators, unplaced_members, unplaced_enumerators, unplaced_item, unplaced_unit, AreSame}
@@ -14,10 +14,6 @@ both p q = cc
 
 mutual
   expr_height : (e : Expr) → height (unplaced e) ≡ height e
-  expr_height (a_name at n) = refl
-  expr_height (an_int at n u) = refl
-  expr_height (a_char at c) = refl
-  expr_height (a_str at bytes) = refl
   expr_height (comma at es) = ap suc (exprs_height es)
   expr_height (sizeof_type at n) = ap suc (type_height n)
   expr_height (cast at n a) = ap suc (both (type_height n) (expr_height a))
@@ -30,6 +26,7 @@ mutual
   expr_height (binary at o a b) = ap suc (both (expr_height a) (expr_height b))
   expr_height (assign at op a b) = ap suc (both (expr_height a) (expr_height b))
   expr_height (conditional at a b c) = ap suc (both (expr_height a) (both (expr_height b) (expr_height c)))
+  expr_height e = refl
 
   exprs_height : (es : Exprs) → height_of_exprs (unplaced_exprs es) ≡ height_of_exprs es
   exprs_height no_exprs = refl
@@ -43,11 +40,10 @@ mutual
   type_height (type_name at s e) = declarator_height e
 
   declarator_height : (e : Declarator) → height_of_declarator (unplaced_declarator e) ≡ height_of_declarator e
-  declarator_height nothing = refl
-  declarator_height (named at x) = refl
   declarator_height (pointer at e) = ap suc (declarator_height e)
   declarator_height (array at e size) = ap suc (both (declarator_height e) (maybe_height size))
   declarator_height (function at e ps) = ap suc (both (declarator_height e) (params_height ps))
+  declarator_height e = refl
 
   params_height : (ps : Params) → height_of_params (unplaced_params ps) ≡ height_of_params ps
   params_height no_params = refl
@@ -86,7 +82,6 @@ labels_height (default_label at ls) = labels_height ls
 mutual
   stmt_height : (s : Stmt) → height_of_stmt (unplaced_stmt s) ≡ height_of_stmt s
   stmt_height (block at is) = ap suc (block_items_height is)
-  stmt_height (empty at) = refl
   stmt_height (evaluate at e) = ap suc (expr_height e)
   stmt_height (only_if at e s) = ap suc (both (expr_height e) (stmt_height s))
   stmt_height (if_else at e s r) = ap suc (both (expr_height e) (both (stmt_height s) (stmt_height r)))
@@ -94,9 +89,8 @@ mutual
   stmt_height (do_loop at s e) = ap suc (both (stmt_height s) (expr_height e))
   stmt_height (for_loop at f a b s) = ap suc (both (first_height f) (both (maybe_height a) (both (maybe_height b) (stmt_height s))))
   stmt_height (switch_on at e gs) = ap suc (both (expr_height e) (groups_height gs))
-  stmt_height (break_off at) = refl
-  stmt_height (continue_on at) = refl
   stmt_height (return_from at e) = ap suc (maybe_height e)
+  stmt_height s = refl
 
   block_items_height : (is : BlockItems) → height_of_block_items (unplaced_block_items is) ≡ height_of_block_items is
   block_items_height no_block_items = refl

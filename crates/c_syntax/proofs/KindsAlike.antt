@@ -1,15 +1,15 @@
 -- The tokens that a unit is printed with are seen without places.
-use Rattle.std.proofs.Common.{◌≡◌, Bool, true, false, List, ◌∷◌, refl, ap, sym, subst, ◌∙◌}
+use Rattle.std.proofs.Common.{◌≡◌, Bool, true, false, ◌∷◌, refl, ap, sym, subst, ◌∙◌}
 use Rattle.c_lexer.specs.declared.token.TokenKind.{TokenKind}
 use Rattle.c_lexer.specs.declared.token.TokenKind.TheVariants.{Name, Keyword, Punct}
 use Rattle.c_lexer.specs.declared.punctuator.TheConstants as p
 use Rattle.c_lexer.specs.declared.keyword.TheConstants as w
-use Rattle.c_syntax.specs.Tree.{Storage, Spec, void, char, unsigned_char, int, unsigned_int, struct, enum}
-use Rattle.c_syntax.specs.Tree.{Expr, a_name, an_int, a_char, a_str, comma, sizeof_type, cast, call, member, postfix, prefix, unary, index, binary, assign, conditional}
-use Rattle.c_syntax.specs.Tree.{Exprs, no_exprs, more_exprs, Maybe, absent, there, TypeName, type_name, Declarator, nothing, named, pointer, array, function, Params, no_params, more_params}
+use Rattle.c_syntax.specs.Tree.{Spec, struct}
+use Rattle.c_syntax.specs.Tree.{Expr, a_name, comma, sizeof_type, cast, call, member, postfix, prefix, unary, index, binary, assign, conditional}
+use Rattle.c_syntax.specs.Tree.{Exprs, no_exprs, more_exprs, Maybe, absent, there, TypeName, type_name, Declarator, named, pointer, array, function, Params, no_params, more_params}
 use Rattle.c_syntax.specs.Tree.{Init, one, list, Inits, no_inits, more_inits, MaybeInit, no_init, an_init, Parts, no_parts, more_parts, Decl, decl}
 use Rattle.c_syntax.specs.Tree.{First, first_absent, first_expr, first_decl, Labels, no_labels, case_label, default_label}
-use Rattle.c_syntax.specs.Tree.{Stmt, block, empty, evaluate, only_if, if_else, while_loop, do_loop, for_loop, switch_on, break_off, continue_on, return_from, BlockItems, no_block_items, block_decl, block_stmt, Stmts, no_stmts, more_stmts, Groups, no_groups, more_groups}
+use Rattle.c_syntax.specs.Tree.{Stmt, block, evaluate, only_if, if_else, while_loop, do_loop, for_loop, switch_on, return_from, BlockItems, no_block_items, block_decl, block_stmt, Stmts, no_stmts, more_stmts, Groups, no_groups, more_groups}
 use Rattle.c_syntax.specs.Tree.{Declarators, no_declarators, more_declarators, Members, no_members, more_members, Enumerators, no_enumerators, more_enumerators, Tag, no_tag, tag, Item, struct_item, enum_item, tag_item, decl_item, function_item, Items, no_items, more_items}
 use Rattle.c_syntax.specs.Tokens.{code_of_infix}
 use Rattle.c_syntax.specs.Print.{Kinds, storage_kinds, spec_kinds, prefix_kind, postfix_kind, access_kind, is_bare, wrapped, is_direct, expr_kinds, list_kinds, next_kinds, size_kinds, type_kinds, declarator_kinds, params_kinds, next_params, operand_kinds, maybe_kinds}
@@ -29,38 +29,16 @@ wrapped_as : (a b : Bool) (f g : Kinds → Kinds) → a ≡ b → Alike f g → 
 wrapped_as a b f g q h = subst (λ (c : Bool). Alike (wrapped a f) (wrapped c g)) q (wrapped_alike a f g h)
 
 spec_alike : (s : Spec) → Alike (spec_kinds (unplaced_spec s)) (spec_kinds s)
-spec_alike void k = refl
-spec_alike char k = refl
-spec_alike unsigned_char k = refl
-spec_alike int k = refl
-spec_alike unsigned_int k = refl
 spec_alike (struct x) k = refl
-spec_alike (enum x) k = refl
+spec_alike s k = refl
 
 bare_alike : (e : Expr) → is_bare (unplaced e) ≡ is_bare e
 bare_alike (a_name at n) = refl
-bare_alike (an_int at n u) = refl
-bare_alike (a_char at c) = refl
-bare_alike (a_str at bytes) = refl
-bare_alike (comma at es) = refl
-bare_alike (sizeof_type at n) = refl
-bare_alike (cast at n a) = refl
-bare_alike (call at a es) = refl
-bare_alike (member at access a x) = refl
-bare_alike (postfix at o a) = refl
-bare_alike (prefix at o a) = refl
-bare_alike (unary at op a) = refl
-bare_alike (index at a b) = refl
-bare_alike (binary at o a b) = refl
-bare_alike (assign at op a b) = refl
-bare_alike (conditional at a b c) = refl
+bare_alike e = refl
 
 direct_alike : (e : Declarator) → is_direct (unplaced_declarator e) ≡ is_direct e
-direct_alike nothing = refl
 direct_alike (named at x) = refl
-direct_alike (pointer at e) = refl
-direct_alike (array at e size) = refl
-direct_alike (function at e ps) = refl
+direct_alike e = refl
 
 operand_of : (e : Expr) → Alike (expr_kinds (unplaced e)) (expr_kinds e) → Alike (operand_kinds (unplaced e)) (operand_kinds e)
 operand_of e h = wrapped_as (is_bare (unplaced e)) (is_bare e) (expr_kinds (unplaced e)) (expr_kinds e) (bare_alike e) h
@@ -75,10 +53,6 @@ then f g {a} {b} h q = ap f q ∙ h b
 
 mutual
   expr_alike : (e : Expr) → Alike (expr_kinds (unplaced e)) (expr_kinds e)
-  expr_alike (a_name at n) k = refl
-  expr_alike (an_int at n u) k = refl
-  expr_alike (a_char at c) k = refl
-  expr_alike (a_str at bytes) k = refl
   expr_alike (comma at es) k = list_alike es k
   expr_alike (sizeof_type at n) k = ap (λ (x : Kinds). Keyword w.SIZEOF ∷ Punct p.LEFT_PARENTHESIS ∷ x) (type_alike n (Punct p.RIGHT_PARENTHESIS ∷ k))
   expr_alike (cast at n a) k =
@@ -100,6 +74,7 @@ mutual
       then (operand_kinds (unplaced a)) (operand_kinds a) (operand_of a (expr_alike a))
       (ap (λ (x : Kinds). Punct p.QUESTION ∷ x)
       (then (operand_kinds (unplaced b)) (operand_kinds b) (operand_of b (expr_alike b)) (ap (λ (x : Kinds). Punct p.COLON ∷ x) (operand_of c (expr_alike c) k))))
+  expr_alike e k = refl
 
   list_alike : (es : Exprs) → Alike (list_kinds (unplaced_exprs es)) (list_kinds es)
   list_alike no_exprs k = refl
@@ -117,8 +92,6 @@ mutual
   type_alike (type_name at s e) k = then (spec_kinds (unplaced_spec s)) (spec_kinds s) (spec_alike s) (declarator_alike e k)
 
   declarator_alike : (e : Declarator) → Alike (declarator_kinds (unplaced_declarator e)) (declarator_kinds e)
-  declarator_alike nothing k = refl
-  declarator_alike (named at x) k = refl
   declarator_alike (pointer at e) k = ap (λ (x : Kinds). Punct p.ASTERISK ∷ x) (declarator_alike e k)
   declarator_alike (array at e size) k =
       then (wrapped (is_direct (unplaced_declarator e)) (declarator_kinds (unplaced_declarator e))) (wrapped (is_direct e) (declarator_kinds e)) (inner_of e (declarator_alike e))
@@ -126,6 +99,7 @@ mutual
   declarator_alike (function at e ps) k =
       then (wrapped (is_direct (unplaced_declarator e)) (declarator_kinds (unplaced_declarator e))) (wrapped (is_direct e) (declarator_kinds e)) (inner_of e (declarator_alike e))
       (ap (λ (x : Kinds). Punct p.LEFT_PARENTHESIS ∷ x) (params_alike ps (Punct p.RIGHT_PARENTHESIS ∷ k)))
+  declarator_alike e k = refl
 
   params_alike : (ps : Params) → Alike (params_kinds (unplaced_params ps)) (params_kinds ps)
   params_alike no_params k = refl
@@ -196,7 +170,6 @@ headed_alike e word q =
 mutual
   stmt_alike : (s : Stmt) → Alike (stmt_kinds (unplaced_stmt s)) (stmt_kinds s)
   stmt_alike (block at is) k = ap (λ (x : Kinds). Punct p.LEFT_BRACE ∷ x) (block_items_alike is (Punct p.RIGHT_BRACE ∷ k))
-  stmt_alike (empty at) k = refl
   stmt_alike (evaluate at e) k = expr_alike e (Punct p.SEMICOLON ∷ k)
   stmt_alike (only_if at e s) k = headed_alike e (Keyword w.IF) (stmt_alike s k)
   stmt_alike (if_else at e s r) k =
@@ -211,9 +184,8 @@ mutual
       (ap (λ (x : Kinds). Punct p.SEMICOLON ∷ x)
       (then (maybe_kinds (unplaced_maybe b)) (maybe_kinds b) (maybe_alike b) (ap (λ (x : Kinds). Punct p.RIGHT_PARENTHESIS ∷ x) (stmt_alike s k))))))
   stmt_alike (switch_on at e gs) k = headed_alike e (Keyword w.SWITCH) (ap (λ (x : Kinds). Punct p.LEFT_BRACE ∷ x) (groups_alike gs (Punct p.RIGHT_BRACE ∷ k)))
-  stmt_alike (break_off at) k = refl
-  stmt_alike (continue_on at) k = refl
   stmt_alike (return_from at e) k = ap (λ (x : Kinds). Keyword w.RETURN ∷ x) (maybe_alike e (Punct p.SEMICOLON ∷ k))
+  stmt_alike s k = refl
 
   block_items_alike : (is : BlockItems) → Alike (block_items_kinds (unplaced_block_items is)) (block_items_kinds is)
   block_items_alike no_block_items k = refl

@@ -4,7 +4,7 @@ use Rattle.c_lexer.specs.declared.token.Token.{Token}
 use Rattle.c_syntax.specs.Tree.{Expr, Maybe, Init, Inits, MaybeInit, Parts, Decl, First, Labels, Stmt, BlockItems, Stmts, Groups, Declarators, Members, Enumerators, Tag, Item, Items}
 use Rattle.c_syntax.specs.Statements.{ReadsInit, an_expression, a_list, a_list_with_comma, ReadsInits, last_init, next_init, ReadsMaybeInit, no_initialiser, an_initialiser, ReadsParts, last_part, next_part, ReadsDecl, a_declaration}
 use Rattle.c_syntax.specs.Statements.{ReadsMaybe, no_expression_stands, an_expression_stands, ReadsFirst, first_nothing, first_expression, first_declaration, ReadsLabels, last_case, last_default, next_case, next_default}
-use Rattle.c_syntax.specs.Statements.{ReadsStmt, a_block, an_empty, an_evaluation, an_if, an_if_else, a_while, a_do, a_for, a_switch, a_break, a_continue, a_return}
+use Rattle.c_syntax.specs.Statements.{ReadsStmt, a_block, an_empty, an_evaluation, an_if, an_if_else, a_while, a_do, a_for, a_switch, a_return}
 use Rattle.c_syntax.specs.Statements.{ReadsBlockItems, no_block_item, a_block_decl, a_block_stmt, ReadsStmts, last_stmt, next_stmt, ReadsGroups, no_group, a_group}
 use Rattle.c_syntax.specs.Statements.{ReadsDeclarators, last_declarator, next_declarator, ReadsMembers, last_member, next_member, ReadsEnumeratorValue, no_enumerator_value, an_enumerator_value, ReadsEnumerators, last_enumerator, next_enumerator, ReadsTag, no_name, a_tag}
 use Rattle.c_syntax.specs.Statements.{ReadsItem, a_struct, an_enum, an_enum_with_comma, a_tag_alone, an_item_declaration, a_definition, ReadsItems, last_item, next_item}
@@ -73,9 +73,8 @@ mutual
   stmt_prints (a_do g f v o r c e) = record { put = λ k h. (lit< tt, (stmt_prints f).put _ (lit< tt, (head_prints r).put _ (lit< tt, h))) }
   stmt_prints (a_for g o f a m b c s) = record { put = λ k h. (lit< tt, (lit< tt, (first_prints f).put _ ((maybe_prints a).put _ (lit< tt, (maybe_prints b).put _ (lit< tt, (stmt_prints s).put k h))))) }
   stmt_prints (a_switch g o r c l f e) = record { put = λ k h. (lit< tt, (head_prints r).put _ (lit< tt, (groups_print f).put _ (lit< tt, h))) }
-  stmt_prints (a_break g c) = record { put = λ k h. (lit< tt, (lit< tt, h)) }
-  stmt_prints (a_continue g c) = record { put = λ k h. (lit< tt, (lit< tt, h)) }
   stmt_prints (a_return g r c) = record { put = λ k h. (lit< tt, (maybe_prints r).put _ (lit< tt, h)) }
+  stmt_prints a = record { put = λ k h. (lit< tt, (lit< tt, h)) }
 
   block_items_print : {d : ℕ} {is : BlockItems} {i j : List Token} → ReadsBlockItems d is i j → Prints (block_items_kinds is)
   block_items_print no_block_item = record { put = λ k h. h }

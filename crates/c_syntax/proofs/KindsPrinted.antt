@@ -5,9 +5,9 @@ use Rattle.c_lexer.specs.declared.token.Token.{Token}
 use Rattle.c_lexer.specs.declared.token.TokenKind.{TokenKind}
 use Rattle.c_lexer.specs.declared.token.TokenKind.TheVariants.{Name, Int, Char, Str, Punct}
 use Rattle.c_lexer.specs.Kinds.{IsKind, IsByte}
-use Rattle.c_syntax.specs.Tree.{Ident, Storage, Spec, Postfix, post_increment, post_decrement, Prefix, pre_increment, pre_decrement, sizeof, Access, dot, arrow, Expr, Exprs, Maybe, TypeName, Declarator, Params}
+use Rattle.c_syntax.specs.Tree.{Ident, Storage, Spec, Postfix, post_increment, post_decrement, Prefix, pre_increment, Access, dot, arrow, Expr, Exprs, Maybe, TypeName, Declarator, Params}
 use Rattle.c_syntax.specs.Tokens.{Is, IsNameToken, IsInt, IsChar, IsStr}
-use Rattle.c_syntax.specs.Specifiers.{Names, ReadsStorage, no_storage_stands, static_stands, extern_stands, ReadsSpec, is_void, is_char, is_unsigned_char, is_int, is_signed, is_signed_int, is_unsigned, is_unsigned_int, is_struct, is_enum}
+use Rattle.c_syntax.specs.Specifiers.{Names, ReadsStorage, no_storage_stands, static_stands, extern_stands, ReadsSpec, is_char, is_unsigned_char, is_int, is_unsigned, is_unsigned_int, is_struct, is_enum}
 use Rattle.c_syntax.specs.Grammar.{Level, ReadsStrings, last_string, next_string}
 use Rattle.c_syntax.specs.Grammar.{Reads, is_name, is_int, is_char, are_strings, in_parentheses, with_suffixes, no_prefix, a_prefix, a_unary, a_sizeof_type, no_cast, a_cast, no_chain, a_chain, no_choice, a_choice, no_assignment, an_assignment, no_comma, a_comma}
 use Rattle.c_syntax.specs.Grammar.{ReadsList, last_expr, next_expr, Suffixes, no_suffix, an_index, an_empty_call, a_call, a_member, a_postfix, Chain, no_operator, an_operator}
@@ -56,21 +56,16 @@ storage_prints (static_stands g) = record { put = λ k h. (lit< tt, h) }
 storage_prints (extern_stands g) = record { put = λ k h. (lit< tt, h) }
 
 pub spec_prints : {s : Spec} {i j : List Token} → ReadsSpec s i j → Prints (spec_kinds s)
-spec_prints (is_void a g b) = record { put = λ k h. (lit< tt, h) }
-spec_prints (is_char a g b) = record { put = λ k h. (lit< tt, h) }
 spec_prints (is_unsigned_char a g b x c) = record { put = λ k h. (lit< tt, (lit< tt, h)) }
-spec_prints (is_int a g b) = record { put = λ k h. (lit< tt, h) }
-spec_prints (is_signed a g b) = record { put = λ k h. (lit< tt, h) }
-spec_prints (is_signed_int a g b x c) = record { put = λ k h. (lit< tt, h) }
 spec_prints (is_unsigned a g b) = record { put = λ k h. (lit< tt, (lit< tt, h)) }
 spec_prints (is_unsigned_int a g b x c) = record { put = λ k h. (lit< tt, (lit< tt, h)) }
 spec_prints (is_struct a g n b) = record { put = λ k h. (lit< tt, (name_kind n, h)) }
 spec_prints (is_enum a g n b) = record { put = λ k h. (lit< tt, (name_kind n, h)) }
+spec_prints a = record { put = λ k h. (lit< tt, h) }
 
 pub prefix_is : (o : Prefix) → IsKind (prefix_kind o)
 prefix_is pre_increment = lit< tt
-prefix_is pre_decrement = lit< tt
-prefix_is sizeof = lit< tt
+prefix_is o = lit< tt
 
 pub postfix_is : (o : Postfix) → IsKind (postfix_kind o)
 postfix_is post_increment = lit< tt

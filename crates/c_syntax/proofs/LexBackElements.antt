@@ -19,15 +19,10 @@ use Rattle.c_syntax.proofs.LexBackQuoted.{IsMark}
 -- a byte that stands for itself can't go on
 plain_short : {q b u : ℕ} {x : List ℕ} (j y : List ℕ) → b ≢ 92 → b ∷ j ≡ x ++ y → IsElement q x u → length x ≤ 1
 plain_short j y other e (plain _) = omega arith
-plain_short j y other e (simple _) = absurd (other cc)
-plain_short j y other e (octal _ _ _ _) = absurd (other cc)
-plain_short j y other e (hexadecimal _ _ _) = absurd (other cc)
+plain_short j y other e a = absurd (other cc)
 
 -- nor can a backslash with a byte that is no octal digit and no x
 simple_short : {q c u : ℕ} {x : List ℕ} (j y : List ℕ) → 8 ≤ digit_value c → c ≢ 120 → 92 ∷ c ∷ j ≡ x ++ y → IsElement q x u → length x ≤ 2
-simple_short j y high other e (plain _) = omega arith
-simple_short j y high other e (simple _) = omega arith
-simple_short j y high other e (octal {digits = []} some _ _ _) = omega arith
 simple_short {c = c} j y high other e (octal {digits = d ∷ digits} _ _ all _) =
     let same : d ≡ c = cc in
     let low : digit_value c < 8 = subst (λ (n : ℕ). digit_value n < 8) same all.0 in
@@ -35,16 +30,16 @@ simple_short {c = c} j y high other e (octal {digits = d ∷ digits} _ _ all _) 
 simple_short {c = c} j y high other e (hexadecimal _ _ _) =
     let same : c ≡ 120 = cc in
     absurd (other same)
+simple_short j y high other e x = omega arith
 
 -- nor can three octal digits
 octal_short : {q c u : ℕ} {x : List ℕ} (j y : List ℕ) → digit_value c < 8 → 92 ∷ c ∷ j ≡ x ++ y → IsElement q x u → length x ≤ 4
-octal_short j y low e (plain _) = omega arith
-octal_short j y low e (simple _) = omega arith
-octal_short j y low e (octal _ few _ _) = omega arith
 octal_short {c = c} j y low e (hexadecimal _ _ _) =
     let same : c ≡ 120 = cc in
     let bad : digit_value 120 < 8 = subst (λ (n : ℕ). digit_value n < 8) same low in
     absurd (omega arith)
+octal_short j y low e (octal _ few _ _) = omega arith
+octal_short j y low e x = omega arith
 
 plain_element : (q b : ℕ) (j : List ℕ) → IsPlain q b → HasElement q (b ∷ j) j b
 plain_element q b j p = record {

@@ -28,9 +28,7 @@ IsSecond c = (c ≡ 47) ⊎ (c ≡ 42)
 
 end_no_second : (b : ℕ) → IsEnd b → IsSecond b → ⊥
 end_no_second b (inl e) (inl f) = omega arith
-end_no_second b (inl e) (inr f) = omega arith
-end_no_second b (inr e) (inl f) = omega arith
-end_no_second b (inr e) (inr f) = omega arith
+end_no_second b a u = omega arith
 
 no_second_here : (c : ℕ) → (c ≢ 47) × (c ≢ 42) → IsSecond c → ⊥
 no_second_here c h (inl e) = h.0 e

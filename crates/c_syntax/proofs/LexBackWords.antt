@@ -25,12 +25,8 @@ solid_short (c ∷ x) (d ∷ w) y rest b end solid e =
     omega (arith, solid_short x w y rest b end (All-tail IsSolid c x solid) later)
 
 letter_solid : (b : ℕ) → IsLetter b → IsSolid b
-letter_solid b (inl h) (inl e) = omega arith
-letter_solid b (inl h) (inr e) = omega arith
 letter_solid b (inr (inl h)) (inl e) = omega arith
-letter_solid b (inr (inl h)) (inr e) = omega arith
-letter_solid b (inr (inr h)) (inl e) = omega arith
-letter_solid b (inr (inr h)) (inr e) = omega arith
+letter_solid b a u = omega arith
 
 digit_solid : (b : ℕ) → IsDigit b → IsSolid b
 digit_solid b h (inl e) = omega arith
@@ -160,9 +156,8 @@ unfolding punctuators
 punctuator_bare k w e = is_bare_true w (each_found is_bare punctuators k w refl e)
 
 letter_apart : (b n : ℕ) → n < 65 → IsLetter b → b ≢ n
-letter_apart b n low (inl h) e = omega arith
 letter_apart b n low (inr (inl h)) e = omega arith
-letter_apart b n low (inr (inr h)) e = omega arith
+letter_apart b n low a e = omega arith
 
 -- a text that begins with a letter or a digit
 pub letter_bare : (b : ℕ) (w : List ℕ) → IsLetter b → Bare (b ∷ w)

@@ -1,8 +1,9 @@
 -- One reading of binary, conditional and assignment expressions and of lists of them, each from those of its parts: at_F goes
--- through the other readings where one has the form F, and only_F says so.
-use Rattle.std.proofs.Common.{◌≡◌, ◌≤◌, ◌⊎◌, inl, inr, ℕ, zero, suc, List, ◌∷◌, refl, sym, ap, ◌∙◌, arith}
+-- through the other readings where one has the form F.
+use Rattle.std.proofs.Common.{◌≡◌, ◌≤◌, ◌⊎◌, inl, inr, ℕ, zero, suc, List, ◌∷◌, refl, sym, ap, ap₂, ◌∙◌, arith}
 use Rattle.c_lexer.specs.declared.token.Token.{Token}
 use Rattle.c_lexer.specs.declared.punctuator.TheConstants.{QUESTION, COMMA}
+use Rattle.c_syntax.proofs.BackTokens.{begins, begins_at, ap_three, ap_four}
 use Rattle.c_syntax.proofs.Precedence.{assignment_rank, rank, Stops}
 use Rattle.c_syntax.specs.Tree.{Infix, Expr, comma, binary, assign, conditional, Exprs, no_exprs, more_exprs}
 use Rattle.c_syntax.specs.Tokens.{Is, place, IsInfix, code_of_infix, IsAssignment}
@@ -10,7 +11,6 @@ use Rattle.c_syntax.specs.Grammar.{unary_level, cast_level, binary_level, condit
 use Rattle.c_syntax.specs.Grammar.{Reads, no_cast, a_cast, no_chain, a_chain, no_choice, a_choice, no_assignment, an_assignment, no_comma, a_comma, ReadsList, last_expr, next_expr, Chain, no_operator, an_operator}
 use Rattle.c_syntax.proofs.Ranks.{ranked, ranks, apart, heads, ranked_infix, one_infix}
 use Rattle.c_syntax.proofs.Begins.{prefixed_inside, type_begins}
-use Rattle.c_syntax.proofs.OnePrefix.{moved}
 use Rattle.c_syntax.proofs.Only.{Only, OnlyList, OnlyChain}
 
 -- what stands after an operand goes on with it
@@ -19,64 +19,37 @@ chain_stops no_operator s = omega arith
 chain_stops {n = n} (an_operator {o = o} l h r c) s = omega (arith, ranked_infix n o l h)
 
 -- the same, read from an equal list
-moved_list : {d : ℕ} {es : Exprs} {i j k : List Token} → i ≡ j → ReadsList d es j k → ReadsList d es i k
-moved_list q r = rw q r
-
 moved_chain : {d n at it : ℕ} {a b e : Expr} {i j k : List Token} → at ≡ it → a ≡ b → i ≡ j → Chain d n it b e j k → Chain d n at a e i k
 moved_chain o p q r = rw (o, p, q) r
 
 -- chains
-at_no_operator : {x n at : ℕ} {a f : Expr} {j k : List Token} → Stops (binary_level (suc n)) j → Chain x n at a f j k → (a ≡ f) × (j ≡ k)
+pub at_no_operator : {x n at : ℕ} {a f : Expr} {j k : List Token} → Stops (binary_level (suc n)) j → Chain x n at a f j k → (a ≡ f) × (j ≡ k)
 at_no_operator s no_operator = (refl, refl)
 at_no_operator {n = n} s (an_operator {o = o} l h r c) = absurd (omega (arith, ranked_infix n o l h))
 
-pub only_no_operator : {n at : ℕ} {a : Expr} {j : List Token} → Stops (binary_level (suc n)) j → OnlyChain n at a a j j
-only_no_operator s = record { is = λ x f k r z. at_no_operator s r }
-
-at_operator : {x n at : ℕ} {o : Infix} {a b e f : Expr} {t : Token} {i j k m : List Token} → IsInfix o (suc n) → Is (code_of_infix o) t → Only (binary_level n) b i j → OnlyChain n at (binary at o a b) e j k → Chain x n at a f (t ∷ i) m → Stops (binary_level (suc n)) m → (e ≡ f) × (k ≡ m)
+pub at_operator : {x n at : ℕ} {o : Infix} {a b e f : Expr} {t : Token} {i j k m : List Token} → IsInfix o (suc n) → Is (code_of_infix o) t → Only (binary_level n) b i j → OnlyChain n at (binary at o a b) e j k → Chain x n at a f (t ∷ i) m → Stops (binary_level (suc n)) m → (e ≡ f) × (k ≡ m)
 at_operator {n = n} {o = o} l h g c no_operator z = absurd (omega (arith, ranked_infix n o l h))
 at_operator {n = n} {at = at} {o = o} {a = a} l h g c (an_operator {o = q} p k r w) z =
-    let v = g.is _ _ _ r (chain_stops w z) in c.is _ _ _ (moved_chain refl (alike (one_infix n o q l p h k) v.0) v.1 w) z
-  where
-    alike : {o q : Infix} {b f : Expr} → o ≡ q → b ≡ f → binary at o a b ≡ binary at q a f
-    alike p q = cc
-
-pub only_operator : {n at : ℕ} {o : Infix} {a b e : Expr} {t : Token} {i j k : List Token} → IsInfix o (suc n) → Is (code_of_infix o) t → Only (binary_level n) b i j → OnlyChain n at (binary at o a b) e j k → OnlyChain n at a e (t ∷ i) k
-only_operator l h g c = record { is = λ x f m r z. at_operator l h g c r z }
+    let v = g.is _ _ _ r (chain_stops w z) in c.is _ _ _ (moved_chain refl (ap₂ (λ (i : Infix) (y : Expr). binary at i a y) (one_infix n o q l p h k) v.0) v.1 w) z
 
 -- binary expressions
-at_no_chain : {x : ℕ} {e f : Expr} {i j k : List Token} → Only cast_level e i j → Reads x (binary_level zero) f i k → Stops (binary_level zero) k → (e ≡ f) × (j ≡ k)
+pub at_no_chain : {x : ℕ} {e f : Expr} {i j k : List Token} → Only cast_level e i j → Reads x (binary_level zero) f i k → Stops (binary_level zero) k → (e ≡ f) × (j ≡ k)
 at_no_chain h (no_chain r) z = h.is _ _ _ r z
 
-pub only_no_chain : {e : Expr} {i j : List Token} → Only cast_level e i j → Only (binary_level zero) e i j
-only_no_chain h = record { is = λ x f k r z. at_no_chain h r z }
-
-at_chain : {x n at : ℕ} {a e f : Expr} {i j k m : List Token} → at ≡ place i → Only (binary_level n) a i j → OnlyChain n at a e j k → Reads x (binary_level (suc n)) f i m → Stops (binary_level (suc n)) m → (e ≡ f) × (k ≡ m)
+pub at_chain : {x n at : ℕ} {a e f : Expr} {i j k m : List Token} → at ≡ place i → Only (binary_level n) a i j → OnlyChain n at a e j k → Reads x (binary_level (suc n)) f i m → Stops (binary_level (suc n)) m → (e ≡ f) × (k ≡ m)
 at_chain p h c (a_chain q r w) z = let u = h.is _ _ _ r (chain_stops w z) in c.is _ _ _ (moved_chain (p ∙ sym q) u.0 u.1 w) z
 
-pub only_chain : {n at : ℕ} {a e : Expr} {i j k : List Token} → at ≡ place i → Only (binary_level n) a i j → OnlyChain n at a e j k → Only (binary_level (suc n)) e i k
-only_chain p h c = record { is = λ x f m r z. at_chain p h c r z }
-
 -- conditional expressions
-at_no_choice : {x : ℕ} {e f : Expr} {i j k : List Token} → Stops conditional_level j → Only (binary_level 10) e i j → Reads x conditional_level f i k → Stops conditional_level k → (e ≡ f) × (j ≡ k)
+pub at_no_choice : {x : ℕ} {e f : Expr} {i j k : List Token} → Stops conditional_level j → Only (binary_level 10) e i j → Reads x conditional_level f i k → Stops conditional_level k → (e ≡ f) × (j ≡ k)
 at_no_choice s h (no_choice r) z = h.is _ _ _ r (omega arith)
 at_no_choice s h (a_choice p r q b c g) z = absurd (let v = h.is _ _ _ r (omega (arith, ranked q)) in omega (arith, ranked q, ranks v.1))
 
-pub only_no_choice : {e : Expr} {i j : List Token} → Stops conditional_level j → Only (binary_level 10) e i j → Only conditional_level e i j
-only_no_choice s h = record { is = λ x f k r z. at_no_choice s h r z }
-
-at_choice : {x at : ℕ} {a b c f : Expr} {t u : Token} {i j k m n : List Token} → at ≡ place i → Is QUESTION t → Only (binary_level 10) a i (t ∷ j) → Only expression_level b j (u ∷ k) → Only conditional_level c k m → Reads x conditional_level f i n → Stops conditional_level n → (conditional at a b c ≡ f) × (m ≡ n)
+pub at_choice : {x at : ℕ} {a b c f : Expr} {t u : Token} {i j k m n : List Token} → at ≡ place i → Is QUESTION t → Only (binary_level 10) a i (t ∷ j) → Only expression_level b j (u ∷ k) → Only conditional_level c k m → Reads x conditional_level f i n → Stops conditional_level n → (conditional at a b c ≡ f) × (m ≡ n)
 at_choice p o h g e (no_choice r) z = absurd (let v = h.is _ _ _ r (omega arith) in omega (arith, ranked o, ranks v.1))
 at_choice p o h g e (a_choice q r y b l c) z =
     let v = h.is _ _ _ r (omega (arith, ranked y)) in
-    let w = g.is _ _ _ (moved (heads v.1).1 b) (omega (arith, ranked l)) in
-    let s = e.is _ _ _ (moved (heads w.1).1 c) z in (alike (p ∙ sym q) v.0 w.0 s.0, s.1)
-  where
-    alike : {at it : ℕ} {a b c x y z : Expr} → at ≡ it → a ≡ x → b ≡ y → c ≡ z → conditional at a b c ≡ conditional it x y z
-    alike p q r s = cc
-
-pub only_choice : {at : ℕ} {a b c : Expr} {t u : Token} {i j k m : List Token} → at ≡ place i → Is QUESTION t → Only (binary_level 10) a i (t ∷ j) → Only expression_level b j (u ∷ k) → Only conditional_level c k m → Only conditional_level (conditional at a b c) i m
-only_choice p o h g e = record { is = λ x f n r z. at_choice p o h g e r z }
+    let w = g.is _ _ _ (begins (heads v.1).1 b) (omega (arith, ranked l)) in
+    let s = e.is _ _ _ (begins (heads w.1).1 c) z in (ap_four conditional (p ∙ sym q) v.0 w.0 s.0, s.1)
 
 -- an expression of prefix operators is one of each level up to a choice
 lifted : {d : ℕ} {e : Expr} {i j : List Token} → Reads d unary_level e i j → Reads d conditional_level e i j
@@ -110,71 +83,44 @@ lead_stops l (inl e) z = (omega (arith, ranks e), λ q. omega (arith, ranks e))
 lead_stops l (inr h) z = (h.0, λ q. omega (arith, h.1))
 
 -- assignment expressions
-at_no_assignment : {x : ℕ} {e f : Expr} {i j k : List Token} → Stops assignment_level j → Only conditional_level e i j → Reads x assignment_level f i k → Stops assignment_level k → (e ≡ f) × (j ≡ k)
+pub at_no_assignment : {x : ℕ} {e f : Expr} {i j k : List Token} → Stops assignment_level j → Only conditional_level e i j → Reads x assignment_level f i k → Stops assignment_level k → (e ≡ f) × (j ≡ k)
 at_no_assignment s h (no_assignment r) z = h.is _ _ _ r (omega arith)
 at_no_assignment s h (an_assignment p r o u b) z =
     absurd (let v = h.is _ _ _ (lifted r) (omega (arith, ranked o, assignment_rank u)) in omega (arith, ranked o, assignment_rank u, ranks v.1))
-
-pub only_no_assignment : {e : Expr} {i j : List Token} → Stops assignment_level j → Only conditional_level e i j → Only assignment_level e i j
-only_no_assignment s h = record { is = λ x f k r z. at_no_assignment s h r z }
 
 -- a prefix expression before an assignment operator begins no conditional expression
 at_operand : {d x : ℕ} {a f : Expr} {i j m : List Token} → Reads d unary_level a i j → Only unary_level a i j → Reads x cast_level f i m → 2 ≤ rank m → j ≡ m
 at_operand b h (no_cast r) z = (h.is _ _ _ r z).1
 at_operand b h (a_cast o n c r) z = absurd (omega (arith, prefixed_inside b o, (type_begins n).0))
 
-at_assignment : {d x at op : ℕ} {a b f : Expr} {t : Token} {i j k m : List Token} → at ≡ place i → Reads d unary_level a i (t ∷ j) → Is op t → IsAssignment op → Only unary_level a i (t ∷ j) → Only assignment_level b j k → Reads x assignment_level f i m → Stops assignment_level m → (assign at op a b ≡ f) × (k ≡ m)
+pub at_assignment : {d x at op : ℕ} {a b f : Expr} {t : Token} {i j k m : List Token} → at ≡ place i → Reads d unary_level a i (t ∷ j) → Is op t → IsAssignment op → Only unary_level a i (t ∷ j) → Only assignment_level b j k → Reads x assignment_level f i m → Stops assignment_level m → (assign at op a b ≡ f) × (k ≡ m)
 at_assignment p y o u h g (no_assignment r) z =
     absurd (let l = front r in let s = lead_stops (omega arith) l.rest z in s.1 (sym (ranks (at_operand y h l.reads s.0)) ∙ ranked o ∙ assignment_rank u))
 at_assignment p y o u h g (an_assignment q r l w b) z =
     let v = h.is _ _ _ r (omega (arith, ranked l, assignment_rank w)) in
-    let s = g.is _ _ _ (moved (heads v.1).1 b) z in (alike (p ∙ sym q) (one_code o l (heads v.1).0) v.0 s.0, s.1)
+    let s = g.is _ _ _ (begins (heads v.1).1 b) z in (ap_four assign (p ∙ sym q) (one_code o l (heads v.1).0) v.0 s.0, s.1)
   where
     one_code : {c d : ℕ} {t u : Token} → Is c t → Is d u → t ≡ u → c ≡ d
     one_code h k e = apart h (rw e k)
 
-    alike : {at it o q : ℕ} {a b x y : Expr} → at ≡ it → o ≡ q → a ≡ x → b ≡ y → assign at o a b ≡ assign it q x y
-    alike p q r s = cc
-
-pub only_assignment : {d at op : ℕ} {a b : Expr} {t : Token} {i j k : List Token} → at ≡ place i → Reads d unary_level a i (t ∷ j) → Is op t → IsAssignment op → Only unary_level a i (t ∷ j) → Only assignment_level b j k → Only assignment_level (assign at op a b) i k
-only_assignment p y o u h g = record { is = λ x f m r z. at_assignment p y o u h g r z }
-
 -- expressions with commas
-at_no_comma : {x : ℕ} {e f : Expr} {i j k : List Token} → Stops expression_level j → Only assignment_level e i j → Reads x expression_level f i k → Stops expression_level k → (e ≡ f) × (j ≡ k)
+pub at_no_comma : {x : ℕ} {e f : Expr} {i j k : List Token} → Stops expression_level j → Only assignment_level e i j → Reads x expression_level f i k → Stops expression_level k → (e ≡ f) × (j ≡ k)
 at_no_comma s h (no_comma r) z = h.is _ _ _ r (omega arith)
 at_no_comma s h (a_comma p r o b) z = absurd (let v = h.is _ _ _ r (omega (arith, ranked o)) in omega (arith, ranked o, ranks v.1))
 
-pub only_no_comma : {e : Expr} {i j : List Token} → Stops expression_level j → Only assignment_level e i j → Only expression_level e i j
-only_no_comma s h = record { is = λ x f k r z. at_no_comma s h r z }
-
-at_comma : {x at : ℕ} {a f : Expr} {rest : Exprs} {t : Token} {i j k m : List Token} → at ≡ place i → Is COMMA t → Only assignment_level a i (t ∷ j) → OnlyList rest j k → Reads x expression_level f i m → Stops expression_level m → (comma at (more_exprs a rest) ≡ f) × (k ≡ m)
+pub at_comma : {x at : ℕ} {a f : Expr} {rest : Exprs} {t : Token} {i j k m : List Token} → at ≡ place i → Is COMMA t → Only assignment_level a i (t ∷ j) → OnlyList rest j k → Reads x expression_level f i m → Stops expression_level m → (comma at (more_exprs a rest) ≡ f) × (k ≡ m)
 at_comma p o h g (no_comma r) z = absurd (let v = h.is _ _ _ r (omega arith) in omega (arith, ranked o, ranks v.1))
 at_comma p o h g (a_comma q r l b) z =
     let v = h.is _ _ _ r (omega (arith, ranked l)) in
-    let w = g.is _ _ _ (moved_list (heads v.1).1 b) z in (alike (p ∙ sym q) v.0 w.0, w.1)
-  where
-    alike : {at it : ℕ} {a x : Expr} {b y : Exprs} → at ≡ it → a ≡ x → b ≡ y → comma at (more_exprs a b) ≡ comma it (more_exprs x y)
-    alike p q r = cc
-
-pub only_comma : {at : ℕ} {a : Expr} {rest : Exprs} {t : Token} {i j k : List Token} → at ≡ place i → Is COMMA t → Only assignment_level a i (t ∷ j) → OnlyList rest j k → Only expression_level (comma at (more_exprs a rest)) i k
-only_comma p o h g = record { is = λ x f m r z. at_comma p o h g r z }
+    let w = g.is _ _ _ (begins_at (ReadsList _ _) (heads v.1).1 b) z in (ap_three (λ (i : ℕ) (y : Expr) (ys : Exprs). comma i (more_exprs y ys)) (p ∙ sym q) v.0 w.0, w.1)
 
 -- lists of expressions
-at_last : {x : ℕ} {a : Expr} {fs : Exprs} {i j k : List Token} → Stops expression_level j → Only assignment_level a i j → ReadsList x fs i k → Stops expression_level k → (more_exprs a no_exprs ≡ fs) × (j ≡ k)
+pub at_last : {x : ℕ} {a : Expr} {fs : Exprs} {i j k : List Token} → Stops expression_level j → Only assignment_level a i j → ReadsList x fs i k → Stops expression_level k → (more_exprs a no_exprs ≡ fs) × (j ≡ k)
 at_last s h (last_expr r) z = let v = h.is _ _ _ r (omega arith) in (ap (λ e. more_exprs e no_exprs) v.0, v.1)
 at_last s h (next_expr r o b) z = absurd (let v = h.is _ _ _ r (omega (arith, ranked o)) in omega (arith, ranked o, ranks v.1))
 
-pub only_last : {a : Expr} {i j : List Token} → Stops expression_level j → Only assignment_level a i j → OnlyList (more_exprs a no_exprs) i j
-only_last s h = record { is = λ x f k r z. at_last s h r z }
-
-at_next : {x : ℕ} {a : Expr} {rest fs : Exprs} {t : Token} {i j k m : List Token} → Is COMMA t → Only assignment_level a i (t ∷ j) → OnlyList rest j k → ReadsList x fs i m → Stops expression_level m → (more_exprs a rest ≡ fs) × (k ≡ m)
+pub at_next : {x : ℕ} {a : Expr} {rest fs : Exprs} {t : Token} {i j k m : List Token} → Is COMMA t → Only assignment_level a i (t ∷ j) → OnlyList rest j k → ReadsList x fs i m → Stops expression_level m → (more_exprs a rest ≡ fs) × (k ≡ m)
 at_next o h g (last_expr r) z = absurd (let v = h.is _ _ _ r (omega arith) in omega (arith, ranked o, ranks v.1))
 at_next o h g (next_expr r l b) z =
     let v = h.is _ _ _ r (omega (arith, ranked l)) in
-    let w = g.is _ _ _ (moved_list (heads v.1).1 b) z in (alike v.0 w.0, w.1)
-  where
-    alike : {a x : Expr} {b y : Exprs} → a ≡ x → b ≡ y → more_exprs a b ≡ more_exprs x y
-    alike p q = cc
-
-pub only_next : {a : Expr} {rest : Exprs} {t : Token} {i j k : List Token} → Is COMMA t → Only assignment_level a i (t ∷ j) → OnlyList rest j k → OnlyList (more_exprs a rest) i k
-only_next o h g = record { is = λ x f m r z. at_next o h g r z }
+    let w = g.is _ _ _ (begins_at (ReadsList _ _) (heads v.1).1 b) z in (ap₂ more_exprs v.0 w.0, w.1)

@@ -2,6 +2,7 @@
 use Rattle.std.proofs.Common.{◌≡◌, ℕ, ◌≤◌, List, ◌∷◌, refl, ap, sym, ◌∙◌, arith}
 use Rattle.c_lexer.specs.declared.token.Token.{Token}
 use Rattle.c_lexer.specs.declared.punctuator.TheConstants.{RIGHT_BRACE, SEMICOLON, COMMA}
+use Rattle.c_syntax.proofs.BackTokens.{begins_at}
 use Rattle.c_syntax.proofs.Precedence.{rank}
 use Rattle.c_syntax.specs.Tree.{Storage, no_storage, Spec, Maybe, Declarator, Init, Inits, MaybeInit, Parts, Decl, First, Labels}
 use Rattle.c_syntax.specs.Tokens.{Is}
@@ -19,17 +20,8 @@ use Rattle.c_syntax.proofs.One.{same, same_declarator, same_spec, same_storage, 
 pub moved_inits : {d : ℕ} {a : Inits} {i m j : List Token} → i ≡ m → ReadsInits d a m j → ReadsInits d a i j
 moved_inits q r = rw q r
 
-pub moved_maybe_init : {d : ℕ} {v : MaybeInit} {i m j : List Token} → i ≡ m → ReadsMaybeInit d v m j → ReadsMaybeInit d v i j
-moved_maybe_init q r = rw q r
-
-moved_parts : {d : ℕ} {ps : Parts} {i m j : List Token} → i ≡ m → ReadsParts d ps m j → ReadsParts d ps i j
-moved_parts q r = rw q r
-
 pub moved_spec : {s : Spec} {i m j : List Token} → i ≡ m → ReadsSpec s m j → ReadsSpec s i j
 moved_spec q r = rw q r
-
-moved_labels : {d : ℕ} {ls : Labels} {i m j : List Token} → i ≡ m → ReadsLabels d ls m j → ReadsLabels d ls i j
-moved_labels q r = rw q r
 
 -- a list with commas between goes on after a comma, unless a brace follows it
 pub record EndsList (j : List Token) : Type 0 where
@@ -111,17 +103,17 @@ semicolon_ends h = record { semicolon = headed h; stops = omega (arith, ranked h
 same_parts : {d x : ℕ} {a b : Parts} {i j k : List Token} → ReadsParts d a i j → ReadsParts x b i k → EndsParts j → EndsParts k → (a ≡ b) × (j ≡ k)
 same_parts (last_part r n f) (last_part v m b) s z =
     let y = same_declarator r v (maybe_init_ends f s.ends) (maybe_init_ends b z.ends) in
-    let w = same_maybe_init f (moved_maybe_init y.1 b) s.stops z.stops in (cc, w.1)
+    let w = same_maybe_init f (begins_at (ReadsMaybeInit _ _) y.1 b) s.stops z.stops in (cc, w.1)
 same_parts (last_part r n f) (next_part v m b c l) s z =
     let y = same_declarator r v (maybe_init_ends f s.ends) (maybe_init_at b c) in
-    let w = same_maybe_init f (moved_maybe_init y.1 b) s.stops (omega (arith, ranked c)) in absurd (omega (arith, ap head w.1, headed c, s.semicolon))
+    let w = same_maybe_init f (begins_at (ReadsMaybeInit _ _) y.1 b) s.stops (omega (arith, ranked c)) in absurd (omega (arith, ap head w.1, headed c, s.semicolon))
 same_parts (next_part r n f h g) (last_part v m b) s z =
     let y = same_declarator r v (maybe_init_at f h) (maybe_init_ends b z.ends) in
-    let w = same_maybe_init f (moved_maybe_init y.1 b) (omega (arith, ranked h)) z.stops in absurd (omega (arith, ap head w.1, headed h, z.semicolon))
+    let w = same_maybe_init f (begins_at (ReadsMaybeInit _ _) y.1 b) (omega (arith, ranked h)) z.stops in absurd (omega (arith, ap head w.1, headed h, z.semicolon))
 same_parts (next_part r n f h g) (next_part v m b c l) s z =
     let y = same_declarator r v (maybe_init_at f h) (maybe_init_at b c) in
-    let w = same_maybe_init f (moved_maybe_init y.1 b) (omega (arith, ranked h)) (omega (arith, ranked c)) in
-    let u = same_parts g (moved_parts (heads w.1).1 l) s z in (cc, u.1)
+    let w = same_maybe_init f (begins_at (ReadsMaybeInit _ _) y.1 b) (omega (arith, ranked h)) (omega (arith, ranked c)) in
+    let u = same_parts g (begins_at (ReadsParts _ _) (heads w.1).1 l) s z in (cc, u.1)
 
 parts_end_spec : {d : ℕ} {a : Parts} {i j : List Token} → ReadsParts d a i j → EndsSpec i
 parts_end_spec (last_part r n f) = named_ends_spec r n
@@ -142,14 +134,11 @@ pub record Leads (i : List Token) : Type 0 where
   pub named : HasName declarator
   pub ends : EndsDeclarator after
 
-moved_declares : {d : ℕ} {e : Declarator} {i m j : List Token} → i ≡ m → Declares d e m j → Declares d e i j
-moved_declares q r = rw q r
-
 pub same_leads : {i : List Token} (a b : Leads i) → (a.storage ≡ b.storage) × (a.spec ≡ b.spec) × (a.declarator ≡ b.declarator) × (a.after ≡ b.after)
 same_leads a b =
     let y = same_storage a.stands b.stands (spec_ends_storage a.specifies) (spec_ends_storage b.specifies) in
     let w = same_spec a.specifies (moved_spec y.1 b.specifies) (named_ends_spec a.declares a.named) (named_ends_spec b.declares b.named) in
-    let u = same_declarator a.declares (moved_declares w.1 b.declares) a.ends b.ends in
+    let u = same_declarator a.declares (begins_at (Declares _ _) w.1 b.declares) a.ends b.ends in
     (y.0, w.0, u.0, u.1)
 
 -- what a declaration begins with; it has no brace there
@@ -171,7 +160,7 @@ pub same_decl : {d x : ℕ} {a b : Decl} {i j k : List Token} → ReadsDecl d a 
 same_decl (a_declaration p r s f h) (a_declaration q v z b c) =
     let y = same_storage r v (spec_ends_storage s) (spec_ends_storage z) in
     let w = same_spec s (moved_spec y.1 z) (parts_end_spec f) (parts_end_spec b) in
-    let u = same_parts f (moved_parts w.1 b) (semicolon_ends h) (semicolon_ends c) in
+    let u = same_parts f (begins_at (ReadsParts _ _) w.1 b) (semicolon_ends h) (semicolon_ends c) in
     (cc, (heads u.1).1)
 
 pub storage_head : {s : Storage} {i j : List Token} → ReadsStorage s i j → head j ≡ 2 → (2 ≤ head i) × (head i ≤ 3)
@@ -232,7 +221,7 @@ same_labels (next_case w r c f) (last_case u v b) s z =
     let y = same r v (omega (arith, ranked c)) (omega (arith, ranked b)) in absurd (no_label (sym (heads y.1).1) z f)
 same_labels (next_case w r c f) (next_case u v b l) s z =
     let y = same r v (omega (arith, ranked c)) (omega (arith, ranked b)) in
-    let o = same_labels f (moved_labels (heads y.1).1 l) s z in (cc, o.1)
+    let o = same_labels f (begins_at (ReadsLabels _ _) (heads y.1).1 l) s z in (cc, o.1)
 same_labels (last_default w c) (last_default u b) s z = (refl, refl)
 same_labels (last_default w c) (next_default u b l) s z = absurd (no_label refl s l)
 same_labels (next_default w c f) (last_default u b) s z = absurd (no_label refl z f)

@@ -1,24 +1,25 @@
 -- No tokens spell two storage classes or two specifiers.
 use Rattle.std.proofs.Common.{◌≡◌, ◌≤◌, ℕ, ◌+◌, ◌-◌, List, [], ◌∷◌, refl, sym, ◌∙◌, arith, slice_index_or}
 use Rattle.c_lexer.specs.declared.token.Token.{Token}
+use Rattle.c_lexer.specs.declared.keyword.TheConstants.{ENUM}
+use Rattle.c_lexer.specs.declared.punctuator.TheConstants.{LEFT_BRACE}
 use Rattle.c_syntax.specs.Tree.{Ident, Storage, Spec, void, char, unsigned_char, int, unsigned_int, struct, enum}
-use Rattle.c_syntax.specs.Tokens.{IsKeyword}
+use Rattle.c_syntax.specs.Tokens.{Is, IsKeyword}
 use Rattle.c_syntax.specs.Specifiers.{Names, ReadsStorage, no_storage_stands, static_stands, extern_stands, Consts, no_const, a_const}
 use Rattle.c_syntax.specs.Specifiers.{ReadsSpec, is_void, is_char, is_unsigned_char, is_int, is_signed, is_signed_int, is_unsigned, is_unsigned_int, is_struct, is_enum}
 use Rattle.c_syntax.proofs.Ranks.{words_apart, one_ident, heads}
+use Rattle.c_syntax.proofs.Heads.{headed, name_head, consts_enum}
 use Rattle.c_syntax.proofs.Ends.{start, start_of_kind, start_of_word, starts, started_word, EndsSpec, EndsStorage}
 
 -- no tokens spell two storage classes
 pub same_storage : {s z : Storage} {i j k : List Token} → ReadsStorage s i j → ReadsStorage z i k → EndsStorage j → EndsStorage k → (s ≡ z) × (j ≡ k)
-same_storage no_storage_stands no_storage_stands s z = (refl, refl)
 same_storage no_storage_stands (static_stands h) s z = absurd (omega (arith, started_word h))
 same_storage no_storage_stands (extern_stands h) s z = absurd (omega (arith, started_word h))
 same_storage (static_stands h) no_storage_stands s z = absurd (omega (arith, started_word h))
-same_storage (static_stands h) (static_stands k) s z = (refl, refl)
 same_storage (static_stands h) (extern_stands k) s z = absurd (omega (arith, words_apart h k))
 same_storage (extern_stands h) no_storage_stands s z = absurd (omega (arith, started_word h))
 same_storage (extern_stands h) (static_stands k) s z = absurd (omega (arith, words_apart h k))
-same_storage (extern_stands h) (extern_stands k) s z = (refl, refl)
+same_storage r w s z = (refl, refl)
 
 -- const words end in one place
 pub same_consts : {i j k : List Token} → Consts i j → Consts i k → (start j ≡ 9 → ⊥) → (start k ≡ 9 → ⊥) → j ≡ k
@@ -126,6 +127,17 @@ parted (is_enum c h n b) = a_tag c h n (omega arith) (omega arith) refl b
 
 moved_tail : {s : Spec} {t u : Token} {i j k : List Token} → t ≡ u → i ≡ j → Tail (start_of_kind u.kind) s j k → Tail (start_of_kind t.kind) s i k
 moved_tail o q r = rw (o, q) r
+
+-- the word enum with a brace after it is no type
+no_bare_tail : {p : ℕ} {s : Spec} {u : Token} {i k : List Token} → Tail p s (u ∷ i) k → p ≡ 14 → Is LEFT_BRACE u → ⊥
+no_bare_tail (alone e l c) q o = omega arith
+no_bare_tail (double e l h n c d) q o = omega arith
+no_bare_tail (tagged e l n c) q o = omega (arith, name_head n, headed o)
+
+pub no_bare_enum : {s : Spec} {t u : Token} {i j : List Token} → ReadsSpec s (t ∷ u ∷ i) j → IsKeyword ENUM t → Is LEFT_BRACE u → ⊥
+no_bare_enum r h o =
+    let p = parted r in
+    let v = heads (consts_enum p.consts h) in no_bare_tail (moved_tail (sym v.0) (sym v.1) p.tail) (started_word h) o
 
 same_parts : {s z : Spec} {i j k : List Token} → Parted s i j → Parted z i k → EndsSpec j → EndsSpec k → (s ≡ z) × (j ≡ k)
 same_parts r w s z =

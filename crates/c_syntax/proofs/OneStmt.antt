@@ -4,16 +4,11 @@ use Rattle.c_lexer.specs.declared.token.Token.{Token}
 use Rattle.c_syntax.specs.Tree.{Stmt, BlockItems, Stmts, Groups}
 use Rattle.c_syntax.specs.Statements.{ReadsStmt, a_block, an_empty, an_evaluation, an_if, an_if_else, a_while, a_do, a_for, a_switch, a_break, a_continue, a_return}
 use Rattle.c_syntax.specs.Statements.{ReadsBlockItems, no_block_item, a_block_decl, a_block_stmt, ReadsStmts, last_stmt, next_stmt, ReadsGroups, no_group, a_group}
+use Rattle.c_syntax.proofs.BackTokens.{begins_at}
 use Rattle.c_syntax.proofs.Heads.{head}
 use Rattle.c_syntax.proofs.OneDecl.{plain_head, labels_head, same_decl, same_labels}
-use Rattle.c_syntax.proofs.StmtCases.{stmt_head, block_items_head, stmts_head, groups_head, Fits, moved_groups}
+use Rattle.c_syntax.proofs.StmtCases.{stmt_head, block_items_head, stmts_head, groups_head, Fits}
 use Rattle.c_syntax.proofs.StmtCases.{block_case, empty_case, evaluation_case, if_case, if_else_case, while_case, do_case, for_case, switch_case, break_case, continue_case, return_case}
-
-pub moved_block_items : {d : ℕ} {a : BlockItems} {i m j : List Token} → i ≡ m → ReadsBlockItems d a m j → ReadsBlockItems d a i j
-moved_block_items q r = rw q r
-
-moved_stmts : {d : ℕ} {a : Stmts} {i m j : List Token} → i ≡ m → ReadsStmts d a m j → ReadsStmts d a i j
-moved_stmts q r = rw q r
 
 -- a statement that another one follows, or the end of a block
 fits_block_items : {d : ℕ} (s : Stmt) {a : BlockItems} {i j : List Token} → ReadsBlockItems d a i j → head j ≡ 5 → Fits s i
@@ -53,9 +48,9 @@ mutual
   same_block_items (a_block_decl r p f) (a_block_stmt v b) s z = absurd (omega (arith, plain_head r p, stmt_head v))
   same_block_items (a_block_stmt r f) (a_block_decl v p b) s z = absurd (omega (arith, plain_head v p, stmt_head r))
   same_block_items (a_block_decl r p f) (a_block_decl v q b) s z =
-      let y = same_decl r v in let w = same_block_items f (moved_block_items y.1 b) s z in (cc, w.1)
+      let y = same_decl r v in let w = same_block_items f (begins_at (ReadsBlockItems _ _) y.1 b) s z in (cc, w.1)
   same_block_items (a_block_stmt {s = p} r f) (a_block_stmt {s = q} v b) s z =
-      let y = same_stmt r v (fits_block_items p f s) (fits_block_items q b z) in let w = same_block_items f (moved_block_items y.1 b) s z in (cc, w.1)
+      let y = same_stmt r v (fits_block_items p f s) (fits_block_items q b z) in let w = same_block_items f (begins_at (ReadsBlockItems _ _) y.1 b) s z in (cc, w.1)
 
   same_stmts : {d x : ℕ} {a b : Stmts} {i j k : List Token} → ReadsStmts d a i j → ReadsStmts x b i k → head j ≤ 12 → head k ≤ 12 → (a ≡ b) × (j ≡ k)
   same_stmts (last_stmt {s = p} {j = j} r) (last_stmt {s = q} {j = k} v) s z = let y = same_stmt r v (fits_end p j s) (fits_end q k z) in (cc, y.1)
@@ -64,7 +59,7 @@ mutual
   same_stmts (next_stmt {s = p} r f) (last_stmt {s = q} {j = k} v) s z =
       let y = same_stmt r v (fits_stmts p f) (fits_end q k z) in absurd (no_stmt_at (sym y.1) z f)
   same_stmts (next_stmt {s = p} r f) (next_stmt {s = q} v b) s z =
-      let y = same_stmt r v (fits_stmts p f) (fits_stmts q b) in let w = same_stmts f (moved_stmts y.1 b) s z in (cc, w.1)
+      let y = same_stmt r v (fits_stmts p f) (fits_stmts q b) in let w = same_stmts f (begins_at (ReadsStmts _ _) y.1 b) s z in (cc, w.1)
 
   same_groups : {d x : ℕ} {a b : Groups} {i j k : List Token} → ReadsGroups d a i j → ReadsGroups x b i k → head j ≡ 5 → head k ≡ 5 → (a ≡ b) × (j ≡ k)
   same_groups no_group no_group s z = (refl, refl)
@@ -72,5 +67,5 @@ mutual
   same_groups (a_group r f g) no_group s z = absurd (omega (arith, (labels_head r).0))
   same_groups (a_group r f g) (a_group v b l) s z =
       let y = same_labels r v (stmts_head f) (stmts_head b) in
-      let w = same_stmts f (moved_stmts y.1 b) (groups_head g s) (groups_head l z) in
-      let u = same_groups g (moved_groups w.1 l) s z in (cc, u.1)
+      let w = same_stmts f (begins_at (ReadsStmts _ _) y.1 b) (groups_head g s) (groups_head l z) in
+      let u = same_groups g (begins_at (ReadsGroups _ _) w.1 l) s z in (cc, u.1)

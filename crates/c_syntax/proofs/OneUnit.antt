@@ -3,6 +3,7 @@ use Rattle.std.proofs.Common.{◌≡◌, ℕ, ◌≤◌, List, ◌∷◌, refl, 
 use Rattle.c_lexer.specs.declared.token.Token.{Token}
 use Rattle.c_lexer.specs.declared.punctuator.TheConstants.{LEFT_BRACE, RIGHT_BRACE, SEMICOLON, COMMA}
 use Rattle.c_lexer.specs.declared.keyword.TheConstants.{ENUM, STRUCT}
+use Rattle.c_syntax.proofs.BackTokens.{begins_at}
 use Rattle.c_syntax.proofs.Precedence.{rank}
 use Rattle.c_syntax.specs.Tree.{Ident, Storage, Spec, Maybe, Declarator, Declarators, Members, Enumerators, Tag, Item, Items, BlockItems, Decl}
 use Rattle.c_syntax.specs.Tree.{block, struct_item, enum_item, tag_item, decl_item, function_item}
@@ -15,19 +16,11 @@ use Rattle.c_syntax.specs.Statements.{ReadsEnumeratorValue, no_enumerator_value,
 use Rattle.c_syntax.specs.Statements.{ReadsItem, a_struct, an_enum, an_enum_with_comma, a_tag_alone, an_item_declaration, a_definition, ReadsItems, last_item, next_item}
 use Rattle.c_syntax.proofs.Ranks.{ranked, heads, one_ident, words_apart}
 use Rattle.c_syntax.proofs.Ends.{EndsDeclarator, EndsSpec, started}
-use Rattle.c_syntax.proofs.Heads.{head, headed, worded, name_head, spec_head, declarator_head, no_storage_at, no_bare_enum}
+use Rattle.c_syntax.proofs.Heads.{head, headed, worded, name_head, spec_head, declarator_head, no_storage_at}
+use Rattle.c_syntax.proofs.OneSpecifier.{no_bare_enum}
 use Rattle.c_syntax.proofs.One.{same, same_declarator, same_spec, named_ends_spec}
 use Rattle.c_syntax.proofs.OneDecl.{moved_spec, EndsList, brace_ends, comma_ends, after_comma, Leads, same_leads, decl_leads, same_decl, decl_head, storage_head}
-use Rattle.c_syntax.proofs.OneStmt.{moved_block_items, same_block_items}
-
-pub moved_declarators : {d : ℕ} {a : Declarators} {i m j : List Token} → i ≡ m → ReadsDeclarators d a m j → ReadsDeclarators d a i j
-moved_declarators q r = rw q r
-
-pub moved_members : {d : ℕ} {a : Members} {i m j : List Token} → i ≡ m → ReadsMembers d a m j → ReadsMembers d a i j
-moved_members q r = rw q r
-
-pub moved_enumerators : {d : ℕ} {a : Enumerators} {i m j : List Token} → i ≡ m → ReadsEnumerators d a m j → ReadsEnumerators d a i j
-moved_enumerators q r = rw q r
+use Rattle.c_syntax.proofs.OneStmt.{same_block_items}
 
 -- declarators end at a semicolon
 pub record EndsDeclarators (j : List Token) : Type 0 where
@@ -45,7 +38,7 @@ same_declarators (next_declarator r n h f) (last_declarator v m) s z =
     let y = same_declarator r v (omega (arith, started h)) z.ends in absurd (omega (arith, ap head y.1, headed h, z.semicolon))
 same_declarators (next_declarator r n h f) (next_declarator v m c b) s z =
     let y = same_declarator r v (omega (arith, started h)) (omega (arith, started c)) in
-    let w = same_declarators f (moved_declarators (heads y.1).1 b) s z in (cc, w.1)
+    let w = same_declarators f (begins_at (ReadsDeclarators _ _) (heads y.1).1 b) s z in (cc, w.1)
 
 pub declarators_end_spec : {d : ℕ} {a : Declarators} {i j : List Token} → ReadsDeclarators d a i j → EndsSpec i
 declarators_end_spec (last_declarator r n) = named_ends_spec r n
@@ -56,7 +49,7 @@ pub same_line : {d x : ℕ} {s z : Spec} {a b : Declarators} {t u : Token} {i j 
     ReadsSpec z i m → ReadsDeclarators x b m (u ∷ n) → Is SEMICOLON u → (s ≡ z) × (a ≡ b) × (k ≡ n)
 same_line s f h z b c =
     let y = same_spec s z (declarators_end_spec f) (declarators_end_spec b) in
-    let w = same_declarators f (moved_declarators y.1 b) (semicolon_ends h) (semicolon_ends c) in (y.0, w.0, (heads w.1).1)
+    let w = same_declarators f (begins_at (ReadsDeclarators _ _) y.1 b) (semicolon_ends h) (semicolon_ends c) in (y.0, w.0, (heads w.1).1)
 
 pub members_head : {d : ℕ} {a : Members} {i j : List Token} → ReadsMembers d a i j → head i ≡ 2
 members_head (last_member p s f h) = spec_head s
@@ -67,7 +60,7 @@ same_members (last_member p s f h) (last_member q z b c) o e = let y = same_line
 same_members (last_member p s f h) (next_member q z b c l) o e = let y = same_line s f h z b c in absurd (omega (arith, ap head y.2, members_head l))
 same_members (next_member p s f h g) (last_member q z b c) o e = let y = same_line s f h z b c in absurd (omega (arith, ap head y.2, members_head g))
 same_members (next_member p s f h g) (next_member q z b c l) o e =
-    let y = same_line s f h z b c in let w = same_members g (moved_members y.2 l) o e in (cc, w.1)
+    let y = same_line s f h z b c in let w = same_members g (begins_at (ReadsMembers _ _) y.2 l) o e in (cc, w.1)
 
 pub same_enumerator_value : {d x : ℕ} {a b : Maybe} {i j k : List Token} → ReadsEnumeratorValue d a i j → ReadsEnumeratorValue x b i k → 14 ≤ rank j → 14 ≤ rank k → (a ≡ b) × (j ≡ k)
 same_enumerator_value no_enumerator_value no_enumerator_value s z = (refl, refl)
@@ -88,7 +81,7 @@ same_enumerators (next_enumerator n r h f) (last_enumerator m v) s z =
 same_enumerators (next_enumerator n r h f) (next_enumerator m v c b) s z =
     let o = one_ident n m in
     let y = same_enumerator_value r v (omega (arith, ranked h)) (omega (arith, ranked c)) in
-    let w = same_enumerators f (moved_enumerators (heads y.1).1 b) s z in (cc, w.1)
+    let w = same_enumerators f (begins_at (ReadsEnumerators _ _) (heads y.1).1 b) s z in (cc, w.1)
 
 pub same_tag : {g h : Tag} {i j k : List Token} → ReadsTag g i j → ReadsTag h i k → head j ≡ 21 → head k ≡ 21 → (g ≡ h) × (j ≡ k)
 same_tag no_name no_name s z = (refl, refl)
@@ -138,7 +131,7 @@ pub same_enum : {d x : ℕ} {g h : Tag} {a b : Enumerators} {l m : Token} {i j k
     ReadsTag h i (m ∷ n) → Is LEFT_BRACE m → ReadsEnumerators x b n o → EndsList o → (g ≡ h) × (a ≡ b) × (k ≡ o)
 same_enum r l f s v m b z =
     let y = same_tag r v (headed l) (headed m) in
-    let w = same_enumerators f (moved_enumerators (heads y.1).1 b) s z in (y.0, w.0, w.1)
+    let w = same_enumerators f (begins_at (ReadsEnumerators _ _) (heads y.1).1 b) s z in (y.0, w.0, w.1)
 
 struct_case : {d x : ℕ} {ident : Ident} {a : Members} {z : Item} {t n l r u : Token} {i j k : List Token} → IsKeyword STRUCT t → Names ident n → Is LEFT_BRACE l → ReadsMembers d a i (r ∷ u ∷ j) → Is RIGHT_BRACE r →
     ReadsItem x z (t ∷ n ∷ l ∷ i) k → (struct_item t.from ident a ≡ z) × (j ≡ k)
@@ -199,7 +192,7 @@ definition_case p r s e n h f c (an_item_declaration q v) =
 definition_case p r s e n h f c (a_definition q v z g m o b l) =
     let y = same_leads (defines r s e n h) (defines v z g m o) in
     let k = heads y.3 in
-    let w = same_block_items f (moved_block_items k.1 b) (headed c) (headed l) in (same_function (p ∙ sym q) y.0 y.1 y.2 k.0 w.0, (heads w.1).1)
+    let w = same_block_items f (begins_at (ReadsBlockItems _ _) k.1 b) (headed c) (headed l) in (same_function (p ∙ sym q) y.0 y.1 y.2 k.0 w.0, (heads w.1).1)
 
 pub same_item : {d x : ℕ} {a b : Item} {i j k : List Token} → ReadsItem d a i j → ReadsItem x b i k → (a ≡ b) × (j ≡ k)
 same_item (a_struct w n l f c u) v = struct_case w n l f c v
@@ -221,11 +214,8 @@ items_head : {d : ℕ} {a : Items} {i j : List Token} → ReadsItems d a i j →
 items_head (last_item r) = item_head r
 items_head (next_item r f) = item_head r
 
-moved_items : {d : ℕ} {a : Items} {i m j : List Token} → i ≡ m → ReadsItems d a m j → ReadsItems d a i j
-moved_items q r = rw q r
-
 pub same_items : {d x : ℕ} {a b : Items} {i j k : List Token} → ReadsItems d a i j → ReadsItems x b i k → head j ≡ 0 → head k ≡ 0 → (a ≡ b) × (j ≡ k)
 same_items (last_item r) (last_item v) s z = let y = same_item r v in (cc, y.1)
 same_items (last_item r) (next_item v b) s z = let y = same_item r v in absurd (omega (arith, ap head y.1, items_head b))
 same_items (next_item r f) (last_item v) s z = let y = same_item r v in absurd (omega (arith, ap head y.1, items_head f))
-same_items (next_item r f) (next_item v b) s z = let y = same_item r v in let w = same_items f (moved_items y.1 b) s z in (cc, w.1)
+same_items (next_item r f) (next_item v b) s z = let y = same_item r v in let w = same_items f (begins_at (ReadsItems _ _) y.1 b) s z in (cc, w.1)

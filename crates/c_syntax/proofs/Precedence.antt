@@ -6,10 +6,10 @@ use Rattle.c_lexer.specs.declared.token.Token.{Token}
 use Rattle.c_lexer.specs.declared.token.TokenKind.{TokenKind}
 use Rattle.c_lexer.specs.declared.token.TokenKind.TheVariants.{Name, Keyword, Int, Char, Str, Punct}
 use Rattle.c_syntax.specs.Tree.{Infix, and, or, operator}
-use Rattle.c_syntax.specs.Tokens.{IsUnary, takes_address, indirects, keeps_sign, changes_sign, complements, negates, code_of_infix}
-use Rattle.c_syntax.specs.Tokens.{IsAssignment, assigns, assigns_product, assigns_quotient, assigns_remainder, assigns_sum, assigns_difference, assigns_left_shift, assigns_right_shift, assigns_bit_and, assigns_bit_xor, assigns_bit_or}
-use Rattle.c_syntax.specs.Tokens.{IsInfix, multiplies, divides, takes_remainder, adds, subtracts, shifts_left, shifts_right, is_less, is_greater, is_at_most, is_at_least, is_equal, is_unequal, ands_bits, xors_bits, ors_bits, ands, ors}
-use Rattle.c_syntax.specs.Grammar.{Level, primary_level, postfix_level, unary_level, cast_level, binary_level, conditional_level, assignment_level, expression_level}
+use Rattle.c_syntax.specs.Tokens.{IsUnary, takes_address, code_of_infix}
+use Rattle.c_syntax.specs.Tokens.{IsAssignment, assigns}
+use Rattle.c_syntax.specs.Tokens.{IsInfix, multiplies, ands, ors}
+use Rattle.c_syntax.specs.Grammar.{Level, primary_level, binary_level, conditional_level, assignment_level, expression_level}
 
 -- What may continue an expression: 0 another string, 1 what stands after an operand, n + 1 an operator of the level n of
 -- binary operators, 12 ?, 13 an assignment operator, 14 a comma, and 100 for tokens that continue none.
@@ -35,13 +35,11 @@ rank (t ∷ ts) = rank_of_kind t.kind
 -- an expression of the level goes on only with tokens of a lower rank
 abbrev pub bound : Level → ℕ
 bound primary_level = 1
-bound postfix_level = 2
-bound unary_level = 2
-bound cast_level = 2
 bound (binary_level n) = n + 2
 bound conditional_level = 13
 bound assignment_level = 14
 bound expression_level = 15
+bound l = 2
 
 -- what follows does not continue an expression of the level
 abbrev pub Stops : Level → List Token → Type 0
@@ -50,42 +48,12 @@ Stops l ts = bound l ≤ rank ts
 -- an operator of the level n has the rank n + 1
 pub infix_rank : {o : Infix} {n : ℕ} → IsInfix o n → rank_of_code (code_of_infix o) ≡ n + 1
 infix_rank multiplies = refl
-infix_rank divides = refl
-infix_rank takes_remainder = refl
-infix_rank adds = refl
-infix_rank subtracts = refl
-infix_rank shifts_left = refl
-infix_rank shifts_right = refl
-infix_rank is_less = refl
-infix_rank is_greater = refl
-infix_rank is_at_most = refl
-infix_rank is_at_least = refl
-infix_rank is_equal = refl
-infix_rank is_unequal = refl
-infix_rank ands_bits = refl
-infix_rank xors_bits = refl
-infix_rank ors_bits = refl
-infix_rank ands = refl
-infix_rank ors = refl
+infix_rank o = refl
 
 -- && and || alone have the levels 9 and 10
 pub operator_low : {code n : ℕ} → IsInfix (operator code) n → n ≤ 8
 operator_low multiplies = omega arith
-operator_low divides = omega arith
-operator_low takes_remainder = omega arith
-operator_low adds = omega arith
-operator_low subtracts = omega arith
-operator_low shifts_left = omega arith
-operator_low shifts_right = omega arith
-operator_low is_less = omega arith
-operator_low is_greater = omega arith
-operator_low is_at_most = omega arith
-operator_low is_at_least = omega arith
-operator_low is_equal = omega arith
-operator_low is_unequal = omega arith
-operator_low ands_bits = omega arith
-operator_low xors_bits = omega arith
-operator_low ors_bits = omega arith
+operator_low o = omega arith
 
 pub and_level : {n : ℕ} → IsInfix and n → n ≡ 9
 and_level ands = refl
@@ -95,22 +63,9 @@ or_level ors = refl
 
 pub assignment_rank : {code : ℕ} → IsAssignment code → rank_of_code code ≡ 13
 assignment_rank assigns = refl
-assignment_rank assigns_product = refl
-assignment_rank assigns_quotient = refl
-assignment_rank assigns_remainder = refl
-assignment_rank assigns_sum = refl
-assignment_rank assigns_difference = refl
-assignment_rank assigns_left_shift = refl
-assignment_rank assigns_right_shift = refl
-assignment_rank assigns_bit_and = refl
-assignment_rank assigns_bit_xor = refl
-assignment_rank assigns_bit_or = refl
+assignment_rank o = refl
 
 -- the unary operators have the numbers from 10 to 15
 pub unary_low : {code : ℕ} → IsUnary code → 10 ≤ code
 unary_low takes_address = omega arith
-unary_low indirects = omega arith
-unary_low keeps_sign = omega arith
-unary_low changes_sign = omega arith
-unary_low complements = omega arith
-unary_low negates = omega arith
+unary_low u = omega arith

@@ -79,21 +79,19 @@ heads e = (cc, cc)
 
 -- an operator of the level n + 1 has the rank n + 2
 pub ranked_infix : {t : Token} (n : ℕ) (o : Infix) → IsInfix o (suc n) → Is (code_of_infix o) t → rank_of_kind t.kind ≡ n + 2
-ranked_infix n and h k = omega (arith, ranked k, infix_rank h)
-ranked_infix n or h k = omega (arith, ranked k, infix_rank h)
 ranked_infix n (operator code) h k = omega (arith, ranked k, infix_rank h)
+ranked_infix n o h k = omega (arith, ranked k, infix_rank h)
 
 -- the operator of a level is fixed by its token
 pub one_infix : {t : Token} (n : ℕ) (o p : Infix) → IsInfix o (suc n) → IsInfix p (suc n) → Is (code_of_infix o) t → Is (code_of_infix p) t → o ≡ p
-one_infix n and and h k l m = refl
 one_infix n and or h k l m = absurd (omega (arith, and_level h, or_level k))
 one_infix n and (operator code) h k l m = absurd (omega (arith, and_level h, operator_low k))
 one_infix n or and h k l m = absurd (omega (arith, or_level h, and_level k))
-one_infix n or or h k l m = refl
 one_infix n or (operator code) h k l m = absurd (omega (arith, or_level h, operator_low k))
 one_infix n (operator code) and h k l m = absurd (omega (arith, operator_low h, and_level k))
 one_infix n (operator code) or h k l m = absurd (omega (arith, operator_low h, or_level k))
 one_infix n (operator code) (operator other) h k l m = ap operator (apart l m)
+one_infix n o p h k l m = refl
 
 -- a step after an operand has the rank 1
 pub ranked_postfix : (t : Token) (p : Postfix) → IsPostfix p t → rank_of_kind t.kind ≡ 1
@@ -107,17 +105,15 @@ ranked_access t arrow h = ranked h
 
 -- the step is fixed by its token
 pub one_postfix : (t : Token) (p q : Postfix) → IsPostfix p t → IsPostfix q t → p ≡ q
-one_postfix t post_increment post_increment h k = refl
 one_postfix t post_increment post_decrement h k = absurd (omega (arith, apart h k))
 one_postfix t post_decrement post_increment h k = absurd (omega (arith, apart h k))
-one_postfix t post_decrement post_decrement h k = refl
+one_postfix t p q h k = refl
 
 -- the access is fixed by its token
 pub one_access : (t : Token) (a b : Access) → IsAccess a t → IsAccess b t → a ≡ b
-one_access t dot dot h k = refl
 one_access t dot arrow h k = absurd (omega (arith, apart h k))
 one_access t arrow dot h k = absurd (omega (arith, apart h k))
-one_access t arrow arrow h k = refl
+one_access t a b h k = refl
 
 -- the numbers of ++ and --, and of . and ->
 pub postfix_apart : {code : ℕ} {t : Token} (p : Postfix) → IsPostfix p t → Is code t → (8 ≤ code) × (code ≤ 9)

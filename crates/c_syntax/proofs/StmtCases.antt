@@ -10,6 +10,7 @@ use Rattle.c_syntax.specs.Grammar.{expression_level, Reads}
 use Rattle.c_syntax.specs.Statements.{ReadsMaybe, ReadsFirst, IsClosed}
 use Rattle.c_syntax.specs.Statements.{ReadsStmt, a_block, an_empty, an_evaluation, an_if, an_if_else, a_while, a_do, a_for, a_switch, a_break, a_continue, a_return}
 use Rattle.c_syntax.specs.Statements.{ReadsBlockItems, no_block_item, a_block_decl, a_block_stmt, ReadsStmts, last_stmt, next_stmt, ReadsGroups, no_group, a_group}
+use Rattle.c_syntax.proofs.BackTokens.{begins, begins_at}
 use Rattle.c_syntax.proofs.Ranks.{ranked, heads}
 use Rattle.c_syntax.proofs.Heads.{head, headed, worded, expression_head}
 use Rattle.c_syntax.proofs.One.{same}
@@ -20,8 +21,6 @@ abbrev pub form : {d : ℕ} {s : Stmt} {i j : List Token} → ReadsStmt d s i j 
 form (a_block h r c) = 21
 form (an_empty h) = 22
 form (an_evaluation p r h) = 20
-form (an_if w o r c f) = 23
-form (an_if_else w o r c f q e g) = 23
 form (a_while w o r c f) = 24
 form (a_do w f x o r c e) = 25
 form (a_for w o f t e s c b) = 26
@@ -29,6 +28,7 @@ form (a_switch w o r c l g e) = 27
 form (a_break w h) = 28
 form (a_continue w h) = 29
 form (a_return w m h) = 30
+form a = 23
 
 pub decided : {d : ℕ} {s : Stmt} {i j : List Token} (r : ReadsStmt d s i j) → head i ≡ form r
 decided (a_block h r c) = headed h
@@ -44,19 +44,12 @@ decided (a_break w h) = worded w
 decided (a_continue w h) = worded w
 decided (a_return w m h) = worded w
 
+form_high : {d : ℕ} {s : Stmt} {i j : List Token} (r : ReadsStmt d s i j) → 20 ≤ form r
+form_high (a_block h r c) = omega arith
+form_high r = omega arith
+
 pub stmt_head : {d : ℕ} {s : Stmt} {i j : List Token} → ReadsStmt d s i j → 20 ≤ head i
-stmt_head (a_block h r c) = omega (arith, headed h)
-stmt_head (an_empty h) = omega (arith, headed h)
-stmt_head (an_evaluation p r h) = omega (arith, expression_head r)
-stmt_head (an_if w o r c f) = omega (arith, worded w)
-stmt_head (an_if_else w o r c f q e g) = omega (arith, worded w)
-stmt_head (a_while w o r c f) = omega (arith, worded w)
-stmt_head (a_do w f x o r c e) = omega (arith, worded w)
-stmt_head (a_for w o f t e s c b) = omega (arith, worded w)
-stmt_head (a_switch w o r c l g e) = omega (arith, worded w)
-stmt_head (a_break w h) = omega (arith, worded w)
-stmt_head (a_continue w h) = omega (arith, worded w)
-stmt_head (a_return w m h) = omega (arith, worded w)
+stmt_head r = omega (arith, decided r, form_high r)
 
 -- no else stands after the items of a block
 pub block_items_head : {d : ℕ} {a : BlockItems} {i j : List Token} → ReadsBlockItems d a i j → head j ≡ 5 → head i ≡ 13 → ⊥
@@ -88,18 +81,6 @@ pub record AreOnlyBlockItems (a : BlockItems) (i j : List Token) : Type 0 where
 pub record AreOnlyGroups (a : Groups) (i j : List Token) : Type 0 where
   pub same : (x : ℕ) (b : Groups) (k : List Token) → ReadsGroups x b i k → head j ≡ 5 → head k ≡ 5 → (a ≡ b) × (j ≡ k)
 
-pub moved_stmt : {d : ℕ} {s : Stmt} {i m j : List Token} → i ≡ m → ReadsStmt d s m j → ReadsStmt d s i j
-moved_stmt q r = rw q r
-
-moved_maybe : {d : ℕ} {e : Maybe} {i m j : List Token} → i ≡ m → ReadsMaybe d e m j → ReadsMaybe d e i j
-moved_maybe q r = rw q r
-
-pub moved_groups : {d : ℕ} {a : Groups} {i m j : List Token} → i ≡ m → ReadsGroups d a m j → ReadsGroups d a i j
-moved_groups q r = rw q r
-
-moved_expression : {d : ℕ} {e : Expr} {i m j : List Token} → i ≡ m → Reads d expression_level e m j → Reads d expression_level e i j
-moved_expression q r = rw q r
-
 pub block_case : {x : ℕ} {a : BlockItems} {z : Stmt} {t u : Token} {i j k : List Token} → Is LEFT_BRACE t → AreOnlyBlockItems a i (u ∷ j) → Is RIGHT_BRACE u → ReadsStmt x z (t ∷ i) k → (block t.from a ≡ z) × (j ≡ k)
 block_case h f c (a_block o v b) = let y = f.same _ _ _ v (headed c) (headed b) in (cc, (heads y.1).1)
 block_case h f c v = absurd (omega (arith, headed h, decided v))
@@ -119,32 +100,32 @@ same_condition r v c b = let y = same r v (omega (arith, ranked c)) (omega (arit
 pub if_case : {d x : ℕ} {e : Expr} {s z : Stmt} {t o c : Token} {i j k m : List Token} → IsKeyword IF t → Reads d expression_level e i (c ∷ j) → Is RIGHT_PARENTHESIS c → IsOnly s j k → (head k ≡ 13 → ⊥) → ReadsStmt x z (t ∷ o ∷ i) m → Fits z m → (only_if t.from e s ≡ z) × (k ≡ m)
 if_case w r c f g (an_if u p v b q) h =
     let y = same_condition r v c b in
-    let a = f.same _ _ _ (moved_stmt y.1 q) (λ n. absurd (g n)) (λ n. absurd (h n)) in (cc, a.1)
+    let a = f.same _ _ _ (begins_at (ReadsStmt _ _) y.1 q) (λ n. absurd (g n)) (λ n. absurd (h n)) in (cc, a.1)
 if_case w r c f g (an_if_else u p v b q l e n) h =
     let y = same_condition r v c b in
-    let a = f.same _ _ _ (moved_stmt y.1 q) (λ n. absurd (g n)) (λ n. l) in absurd (g (ap head a.1 ∙ worded e))
+    let a = f.same _ _ _ (begins_at (ReadsStmt _ _) y.1 q) (λ n. absurd (g n)) (λ n. l) in absurd (g (ap head a.1 ∙ worded e))
 if_case w r c f g v h = absurd (omega (arith, worded w, decided v))
 
 pub if_else_case : {d x : ℕ} {e : Expr} {s a z : Stmt} {t o c u : Token} {i j k n m : List Token} → IsKeyword IF t → Reads d expression_level e i (c ∷ j) → Is RIGHT_PARENTHESIS c → IsOnly s j (u ∷ k) → IsClosed s → IsKeyword ELSE u → IsOnly a k n → Fits a n → ReadsStmt x z (t ∷ o ∷ i) m → Fits z m → (if_else t.from e s a ≡ z) × (n ≡ m)
 if_else_case w r c f l q g a (an_if x p v b h) z =
     let y = same_condition r v c b in
-    let o = f.same _ _ _ (moved_stmt y.1 h) (λ n. l) (λ n. absurd (z n)) in absurd (z (ap head (sym o.1) ∙ worded q))
+    let o = f.same _ _ _ (begins_at (ReadsStmt _ _) y.1 h) (λ n. l) (λ n. absurd (z n)) in absurd (z (ap head (sym o.1) ∙ worded q))
 if_else_case w r c f l q g a (an_if_else x p v b h m k n) z =
     let y = same_condition r v c b in
-    let o = f.same _ _ _ (moved_stmt y.1 h) (λ n. l) (λ n. m) in
-    let u = g.same _ _ _ (moved_stmt (heads o.1).1 n) a z in (cc, u.1)
+    let o = f.same _ _ _ (begins_at (ReadsStmt _ _) y.1 h) (λ n. l) (λ n. m) in
+    let u = g.same _ _ _ (begins_at (ReadsStmt _ _) (heads o.1).1 n) a z in (cc, u.1)
 if_else_case w r c f l q g a v z = absurd (omega (arith, worded w, decided v))
 
 pub while_case : {d x : ℕ} {e : Expr} {s z : Stmt} {t o c : Token} {i j k m : List Token} → IsKeyword WHILE t → Reads d expression_level e i (c ∷ j) → Is RIGHT_PARENTHESIS c → IsOnly s j k → Fits s k → ReadsStmt x z (t ∷ o ∷ i) m → Fits z m → (while_loop t.from e s ≡ z) × (k ≡ m)
 while_case w r c f g (a_while u p v b q) h =
     let y = same_condition r v c b in
-    let a = f.same _ _ _ (moved_stmt y.1 q) g h in (cc, a.1)
+    let a = f.same _ _ _ (begins_at (ReadsStmt _ _) y.1 q) g h in (cc, a.1)
 while_case w r c f g v h = absurd (omega (arith, worded w, decided v))
 
 pub do_case : {d x : ℕ} {e : Expr} {s z : Stmt} {t w o c u : Token} {i j k m : List Token} → IsKeyword DO t → IsOnly s i (w ∷ o ∷ j) → IsKeyword WHILE w → Reads d expression_level e j (c ∷ u ∷ k) → Is RIGHT_PARENTHESIS c → ReadsStmt x z (t ∷ i) m → (do_loop t.from s e ≡ z) × (k ≡ m)
 do_case w f g r c (a_do p h l q v b n) =
     let y = f.same _ _ _ h (λ e. absurd (omega (arith, worded g))) (λ e. absurd (omega (arith, worded l))) in
-    let a = same_condition r (moved_expression (heads (heads y.1).1).1 v) c b in (cc, (heads a.1).1)
+    let a = same_condition r (begins (heads (heads y.1).1).1 v) c b in (cc, (heads a.1).1)
 do_case w f g r c v = absurd (omega (arith, worded w, decided v))
 
 semicolon_closes : {t : Token} {j : List Token} → Is SEMICOLON t → Closes (t ∷ j)
@@ -156,15 +137,15 @@ parenthesis_closes h = record { stops = omega (arith, ranked h); ends = λ k. ab
 pub for_case : {d x : ℕ} {a : First} {e b : Maybe} {s z : Stmt} {t o u c : Token} {i j k m n l : List Token} → IsKeyword FOR t → ReadsFirst d a i j → ReadsMaybe d e j (u ∷ k) → Is SEMICOLON u → ReadsMaybe d b k (c ∷ m) → Is RIGHT_PARENTHESIS c → IsOnly s m n → Fits s n → ReadsStmt x z (t ∷ o ∷ i) l → Fits z l → (for_loop t.from a e b s ≡ z) × (n ≡ l)
 for_case w f r h q c g y (a_for p o a v b l e s) z =
     let i = same_first f a in
-    let j = same_maybe r (moved_maybe i.1 v) (semicolon_closes h) (semicolon_closes b) in
-    let k = same_maybe q (moved_maybe (heads j.1).1 l) (parenthesis_closes c) (parenthesis_closes e) in
-    let m = g.same _ _ _ (moved_stmt (heads k.1).1 s) y z in (cc, m.1)
+    let j = same_maybe r (begins_at (ReadsMaybe _ _) i.1 v) (semicolon_closes h) (semicolon_closes b) in
+    let k = same_maybe q (begins_at (ReadsMaybe _ _) (heads j.1).1 l) (parenthesis_closes c) (parenthesis_closes e) in
+    let m = g.same _ _ _ (begins_at (ReadsStmt _ _) (heads k.1).1 s) y z in (cc, m.1)
 for_case w f r h q c g y v z = absurd (omega (arith, worded w, decided v))
 
 pub switch_case : {d x : ℕ} {e : Expr} {a : Groups} {z : Stmt} {t o c l u : Token} {i j k m : List Token} → IsKeyword SWITCH t → Reads d expression_level e i (c ∷ l ∷ j) → Is RIGHT_PARENTHESIS c → AreOnlyGroups a j (u ∷ k) → Is RIGHT_BRACE u → ReadsStmt x z (t ∷ o ∷ i) m → (switch_on t.from e a ≡ z) × (k ≡ m)
 switch_case w r c f h (a_switch p o v b l q n) =
     let y = same_condition r v c b in
-    let a = f.same _ _ _ (moved_groups (heads y.1).1 q) (headed h) (headed n) in (cc, (heads a.1).1)
+    let a = f.same _ _ _ (begins_at (ReadsGroups _ _) (heads y.1).1 q) (headed h) (headed n) in (cc, (heads a.1).1)
 switch_case w r c f h v = absurd (omega (arith, worded w, decided v))
 
 pub break_case : {x : ℕ} {z : Stmt} {t u : Token} {i k : List Token} → IsKeyword BREAK t → ReadsStmt x z (t ∷ u ∷ i) k → (break_off t.from ≡ z) × (i ≡ k)

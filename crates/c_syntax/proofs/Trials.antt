@@ -1,5 +1,5 @@
 -- The grammar tried on small phrases: what their tokens spell. The tokens are any that have these kinds.
-use Rattle.std.proofs.Common.{◌≡◌, ℕ, zero, suc, ◌+◌, List, [], ◌∷◌, ◌++◌, refl, sym, subst, zero-add, arith, false}
+use Rattle.std.proofs.Common.{ℕ, suc, ◌+◌, List, [], ◌∷◌, ◌++◌, refl, arith, false}
 use Rattle.c_lexer.specs.declared.token.Token.{Token}
 use Rattle.c_lexer.specs.declared.keyword.TheConstants as w
 use Rattle.c_syntax.specs.Tree.{Infix, no_storage, static, unsigned_char, int, struct}
@@ -11,36 +11,24 @@ use Rattle.c_syntax.specs.Tree.{block, empty, only_if, if_else, for_loop, switch
 use Rattle.c_syntax.specs.Tree.{no_enumerators, more_enumerators, tag, enum_item, function_item, return_from, block_stmt}
 use Rattle.c_syntax.specs.Tokens.{Is, IsKeyword, IsNameToken, IsInt, IsStr, place, changes_sign, assigns, assigns_sum, IsInfix, multiplies, adds, subtracts, shifts_left, is_less, is_equal, ands_bits, xors_bits, ors_bits, ands, ors, code_of_infix}
 use Rattle.c_syntax.specs.Specifiers.{no_const, a_const, no_storage_stands, static_stands, ReadsSpec, is_void, is_unsigned_char, is_int, is_struct}
-use Rattle.c_syntax.specs.Grammar.{primary_level, unary_level, cast_level, binary_level, conditional_level, assignment_level, expression_level, last_string, next_string}
-use Rattle.c_syntax.specs.Grammar.{Reads, is_name, is_int, are_strings, in_parentheses, with_suffixes, no_prefix, a_unary, a_sizeof_type, no_cast, a_cast, no_chain, a_chain, no_choice, a_choice, no_assignment, an_assignment, no_comma, a_comma}
+use Rattle.c_syntax.specs.Grammar.{primary_level, unary_level, binary_level, conditional_level, assignment_level, expression_level, last_string, next_string}
+use Rattle.c_syntax.specs.Grammar.{Reads, is_name, is_int, are_strings, in_parentheses, with_suffixes, no_prefix, a_unary, a_sizeof_type, no_cast, a_cast, a_chain, a_choice, no_assignment, an_assignment, no_comma, a_comma}
 use Rattle.c_syntax.specs.Grammar.{last_expr, next_expr, no_suffix, an_index, a_call, a_member, a_postfix, no_operator, an_operator}
 use Rattle.c_syntax.specs.Grammar.{a_size, a_type, Declares, a_pointer, a_direct, a_declared, declarator_in_parentheses, no_core, no_more, an_array, a_function, are_none, are_some, last_param, next_param}
 use Rattle.c_syntax.specs.Statements.{ReadsInit, an_expression, a_list_with_comma, last_init, next_init, an_initialiser, last_part, a_declaration, an_expression_stands, first_declaration, last_case, last_default, next_case}
 use Rattle.c_syntax.specs.Statements.{no_expression_stands}
 use Rattle.c_syntax.specs.Statements.{ReadsStmt, an_empty, an_if, an_if_else, a_for, a_switch, a_break, a_return, no_block_item, a_block_stmt, last_stmt, no_group, a_group}
 use Rattle.c_syntax.specs.Statements.{no_enumerator_value, an_enumerator_value, last_enumerator, next_enumerator, a_tag, ReadsItem, an_enum_with_comma, a_definition}
-
--- a phrase of a strong level is one of each weaker level
-as_chain : (n : ℕ) {d : ℕ} {e : Expr} {i j : List Token} → Reads d cast_level e i j → Reads d (binary_level n) e i j
-as_chain zero r = no_chain r
-as_chain (suc n) r = a_chain refl (as_chain n r) no_operator
-
-weaker : (m n : ℕ) {d : ℕ} {e : Expr} {i j : List Token} → Reads d (binary_level n) e i j → Reads d (binary_level (m + n)) e i j
-weaker zero n {d} {e} {i} {j} r = subst (λ (m : ℕ). Reads d (binary_level m) e i j) (sym (zero-add n)) r
-weaker (suc m) n {d} {e} {i} {j} r =
-    let q : suc (m + n) ≡ suc m + n = omega arith in subst (λ (x : ℕ). Reads d (binary_level x) e i j) q (a_chain refl (weaker m n r) no_operator)
+use Rattle.c_syntax.proofs.BackTokens.{chained_up, raised, as_choosing}
 
 as_prefixed : {d : ℕ} {e : Expr} {i j : List Token} → Reads d primary_level e i j → Reads d unary_level e i j
 as_prefixed r = no_prefix (with_suffixes refl r no_suffix)
-
-from_casting : {d : ℕ} {e : Expr} {i j : List Token} → Reads d cast_level e i j → Reads d conditional_level e i j
-from_casting r = no_choice (as_chain 10 r)
 
 from_choosing : {d : ℕ} {e : Expr} {i j : List Token} → Reads d conditional_level e i j → Reads d expression_level e i j
 from_choosing r = no_comma (no_assignment r)
 
 from_primary : {d : ℕ} {e : Expr} {i j : List Token} → Reads d primary_level e i j → Reads d conditional_level e i j
-from_primary r = from_casting (no_cast (as_prefixed r))
+from_primary r = as_choosing (no_cast (as_prefixed r))
 
 assigned : {d : ℕ} {e : Expr} {i j : List Token} → Reads d primary_level e i j → Reads d assignment_level e i j
 assigned r = no_assignment (from_primary r)
@@ -49,7 +37,7 @@ pub whole : {d : ℕ} {e : Expr} {i j : List Token} → Reads d primary_level e 
 whole r = from_choosing (from_primary r)
 
 infix_of : (n : ℕ) {d : ℕ} {o : Infix} {a b : Expr} {t : Token} {i j k : List Token} → IsInfix o (suc n) → Reads d primary_level a i (t ∷ j) → Is (code_of_infix o) t → Reads d primary_level b j k → Reads d (binary_level (suc n)) (binary (place i) o a b) i k
-infix_of n q r h s = a_chain refl (as_chain n (no_cast (as_prefixed r))) (an_operator q h (as_chain n (no_cast (as_prefixed s))) no_operator)
+infix_of n q r h s = a_chain refl (chained_up n (no_cast (as_prefixed r))) (an_operator q h (chained_up n (no_cast (as_prefixed s))) no_operator)
 
 -- One expression of each level of precedence.
 
@@ -70,7 +58,7 @@ suffixes : {a b c m : List ℕ} {t o u r q v s x y z : Token} → IsNameToken a 
     Reads 0 expression_level (postfix t.from post_increment (member t.from dot (call t.from (index t.from (a_name t.from a) (a_name u.from b)) (more_exprs (a_name v.from c) no_exprs)) (record { name = m; at = y.from }))) (t ∷ o ∷ u ∷ r ∷ q ∷ v ∷ s ∷ x ∷ y ∷ z ∷ []) []
 suffixes h o g r q f s x y z =
     from_choosing
-    (from_casting
+    (as_choosing
     (no_cast
     (no_prefix
     (with_suffixes refl (is_name h) (an_index o (whole (is_name g)) r (a_call q (last_expr (assigned (is_name f))) s (a_member x (record { name = y; at = refl }) (a_postfix z no_suffix))))))))
@@ -79,17 +67,17 @@ suffixes h o g r q f s x y z =
 minus_of_cast : {a : List ℕ} {t o g c u : Token} → Is 13 t → Is 2 o → IsKeyword w.INT g → Is 3 c → IsNameToken a u → Reads 0 expression_level (unary t.from 13 (cast o.from (type_name g.from int nothing) (a_name u.from a))) (t ∷ o ∷ g ∷ c ∷ u ∷ []) []
 minus_of_cast h o w c g =
     from_choosing
-    (from_casting
+    (as_choosing
     (no_cast
     (a_unary h changes_sign (a_cast o (a_type refl (is_int no_const w no_const) (a_direct refl no_core no_more) tt) c (no_cast (as_prefixed (is_name g)))))))
 
 -- sizeof ( int * )
 size_of_pointer : {t o g s c : Token} → IsKeyword w.SIZEOF t → Is 2 o → IsKeyword w.INT g → Is 11 s → Is 3 c → Reads 0 expression_level (sizeof_type t.from (type_name g.from int (pointer s.from nothing))) (t ∷ o ∷ g ∷ s ∷ c ∷ []) []
-size_of_pointer h o w s c = from_choosing (from_casting (no_cast (a_sizeof_type h o (a_type refl (is_int no_const w no_const) (a_pointer s no_const (a_direct refl no_core no_more)) tt) c)))
+size_of_pointer h o w s c = from_choosing (as_choosing (no_cast (a_sizeof_type h o (a_type refl (is_int no_const w no_const) (a_pointer s no_const (a_direct refl no_core no_more)) tt) c)))
 
 -- the ten levels of operators between two operands: a * b, a + b, a << b, a < b, a == b, a & b, a ^ b, a | b, a && b, a || b
 each_level : {a b : List ℕ} {t u v : Token} → IsNameToken a t → IsNameToken b v → {o : Infix} → (n m : ℕ) → IsInfix o (suc n) → Is (code_of_infix o) u → Reads 0 (binary_level (m + suc n)) (binary t.from o (a_name t.from a) (a_name v.from b)) (t ∷ u ∷ v ∷ []) []
-each_level h g n m q s = weaker m (suc n) (infix_of n q (is_name h) s (is_name g))
+each_level h g n m q s = raised m (suc n) (infix_of n q (is_name h) s (is_name g))
 
 product : {a b : List ℕ} {t u v : Token} → IsNameToken a t → Is 11 u → IsNameToken b v → Reads 0 (binary_level 10) (binary t.from (operator 11) (a_name t.from a) (a_name v.from b)) (t ∷ u ∷ v ∷ []) []
 product h s g = each_level h g 0 9 multiplies s
@@ -123,17 +111,17 @@ either h s g = each_level h g 9 0 ors s
 
 -- a + b * c: the product is the right operand
 sum_of_product : {a b c : List ℕ} {t u v x y : Token} → IsNameToken a t → Is 12 u → IsNameToken b v → Is 11 x → IsNameToken c y → Reads 0 (binary_level 2) (binary t.from (operator 12) (a_name t.from a) (binary v.from (operator 11) (a_name v.from b) (a_name y.from c))) (t ∷ u ∷ v ∷ x ∷ y ∷ []) []
-sum_of_product h s g q f = a_chain refl (as_chain 1 (no_cast (as_prefixed (is_name h)))) (an_operator adds s (infix_of 0 multiplies (is_name g) q (is_name f)) no_operator)
+sum_of_product h s g q f = a_chain refl (chained_up 1 (no_cast (as_prefixed (is_name h)))) (an_operator adds s (infix_of 0 multiplies (is_name g) q (is_name f)) no_operator)
 
 -- a - b - c: the left difference is the left operand
 two_differences : {a b c : List ℕ} {t u v x y : Token} → IsNameToken a t → Is 13 u → IsNameToken b v → Is 13 x → IsNameToken c y → Reads 0 (binary_level 2) (binary t.from (operator 13) (binary t.from (operator 13) (a_name t.from a) (a_name v.from b)) (a_name y.from c)) (t ∷ u ∷ v ∷ x ∷ y ∷ []) []
 two_differences h s g q f =
-    a_chain refl (as_chain 1 (no_cast (as_prefixed (is_name h))))
-    (an_operator subtracts s (as_chain 1 (no_cast (as_prefixed (is_name g)))) (an_operator subtracts q (as_chain 1 (no_cast (as_prefixed (is_name f)))) no_operator))
+    a_chain refl (chained_up 1 (no_cast (as_prefixed (is_name h))))
+    (an_operator subtracts s (chained_up 1 (no_cast (as_prefixed (is_name g)))) (an_operator subtracts q (chained_up 1 (no_cast (as_prefixed (is_name f)))) no_operator))
 
 -- a ? b : c
 choice : {a b c : List ℕ} {t u v x y : Token} → IsNameToken a t → Is 30 u → IsNameToken b v → Is 31 x → IsNameToken c y → Reads 0 expression_level (conditional t.from (a_name t.from a) (a_name v.from b) (a_name y.from c)) (t ∷ u ∷ v ∷ x ∷ y ∷ []) []
-choice h s g q f = from_choosing (a_choice refl (as_chain 10 (no_cast (as_prefixed (is_name h)))) s (whole (is_name g)) q (from_primary (is_name f)))
+choice h s g q f = from_choosing (a_choice refl (chained_up 10 (no_cast (as_prefixed (is_name h)))) s (whole (is_name g)) q (from_primary (is_name f)))
 
 -- a = b += c: the right side is an assignment
 two_assignments : {a b c : List ℕ} {t u v x y : Token} → IsNameToken a t → Is 33 u → IsNameToken b v → Is 37 x → IsNameToken c y → Reads 0 expression_level (assign t.from 33 (a_name t.from a) (assign v.from 37 (a_name v.from b) (a_name y.from c))) (t ∷ u ∷ v ∷ x ∷ y ∷ []) []
