@@ -1,5 +1,5 @@
 -- The grammar tried on small phrases: what their tokens spell. The tokens are any that have these kinds.
-use Rattle.std.proofs.Common.{ℕ, suc, ◌+◌, List, [], ◌∷◌, ◌++◌, refl, arith, false}
+use Rattle.std.proofs.Common.{ℕ, suc, ◌+◌, List, [], ◌∷◌, ◌++◌, refl, false}
 use Rattle.c_lexer.specs.declared.token.Token.{Token}
 use Rattle.c_lexer.specs.declared.keyword.TheConstants as w
 use Rattle.c_syntax.specs.Tree.{Infix, no_storage, static, unsigned_char, int, struct}
