@@ -8,7 +8,7 @@ use Rattle.std.proofs.lemmas.Int.Digits.{digits_push}
 use Rattle.c_lexer.specs.Elements.{HasNoDigit}
 use Rattle.c_lexer.specs.Literals.{IsPlain, IsSimple, IsElement, IsLongest, IsSomeElement, HasElement}
 use Rattle.c_lexer.specs.Literals.IsElement.{plain, simple, octal, hexadecimal}
-use Rattle.c_lexer.proofs.EscapeDigits.{simple_no_octal, simple_no_x, run_longest, digit_first}
+use Rattle.c_lexer.proofs.EscapeDigits.{simple_facts, run_longest, digit_first}
 
 -- from i to j stands an element that can't go on
 pub data Front (quote : ℕ) : List ℕ → List ℕ → ℕ → Type 0 where
@@ -20,9 +20,7 @@ pub data Front (quote : ℕ) : List ℕ → List ℕ → ℕ → Type 0 where
 -- no longer element stands where one can't go on
 at_plain : {q b u : ℕ} {x : List ℕ} (j y : List ℕ) → IsPlain q b → b ∷ j ≡ x ++ y → IsElement q x u → length x ≤ 1
 at_plain j y p e (plain _) = omega arith
-at_plain j y p e (simple _) = absurd (p.no_backslash cc)
-at_plain j y p e (octal _ _ _ _) = absurd (p.no_backslash cc)
-at_plain j y p e (hexadecimal _ _ _) = absurd (p.no_backslash cc)
+at_plain j y p e a = absurd (p.no_backslash cc)
 
 at_simple : {q c v u : ℕ} {x : List ℕ} (j y : List ℕ) → IsSimple c v → 92 ∷ c ∷ j ≡ x ++ y → IsElement q x u → length x ≤ 2
 at_simple j y s e (plain _) = omega arith
@@ -31,29 +29,25 @@ at_simple j y s e (octal {digits = []} some _ _ _) = omega arith
 at_simple {c = c} j y s e (octal {digits = d ∷ digits} _ _ all _) =
     let same : d ≡ c = cc in
     let low : digit_value c < 8 = subst (λ (x : ℕ). digit_value x < 8) same all.0 in
-    let high = simple_no_octal s in
+    let high = (simple_facts s).0 in
     omega arith
 at_simple {c = c} j y s e (hexadecimal _ _ _) =
     let same : c ≡ 120 = cc in
-    absurd (simple_no_x s same)
+    absurd ((simple_facts s).1 same)
 
 at_octal : {q u : ℕ} {x : List ℕ} (ds i j y : List ℕ) → i ≡ ds ++ j → 1 ≤ length ds → AllDigits 8 ds → (length ds ≡ 3) ⊎ HasNoDigit 8 j → 92 ∷ i ≡ x ++ y → IsElement q x u → length x ≤ suc (length ds)
-at_octal ds i j y is some low ended e (plain _) = omega arith
-at_octal ds i j y is some low ended e (simple _) = omega arith
 at_octal ds i j y is some low (inl full) e (octal {digits = es} _ few all _) = omega arith
 at_octal ds i j y is some low (inr ended) e (octal {digits = es} _ few all _) =
     let same : ds ++ j ≡ es ++ y = cc in
     let shorter = run_longest 8 ds es j y same all ended in
     omega arith
-at_octal [] i j y is some low ended e (hexadecimal _ _ _) = omega arith
 at_octal (d ∷ ds) i j y is some low ended e (hexadecimal _ _ _) =
     let same : d ≡ 120 = cc in
     let low : digit_value 120 < 8 = subst (λ (x : ℕ). digit_value x < 8) same low.0 in
     omega arith
+at_octal ds i j y is some low ended e a = omega arith
 
 at_hexadecimal : {q u : ℕ} {x : List ℕ} (ds i j y : List ℕ) → i ≡ ds ++ j → 1 ≤ length ds → HasNoDigit 16 j → 92 ∷ 120 ∷ i ≡ x ++ y → IsElement q x u → length x ≤ suc (suc (length ds))
-at_hexadecimal ds i j y is some ended e (plain _) = omega arith
-at_hexadecimal ds i j y is some ended e (simple _) = omega arith
 at_hexadecimal ds i j y is some ended e (octal {digits = []} one _ _ _) = omega arith
 at_hexadecimal ds i j y is some ended e (octal {digits = d ∷ digits} _ _ all _) =
     let same : d ≡ 120 = cc in
@@ -63,6 +57,7 @@ at_hexadecimal ds i j y is some ended e (hexadecimal {digits = es} _ all _) =
     let same : ds ++ j ≡ es ++ y = cc in
     let shorter = run_longest 16 ds es j y same all ended in
     omega arith
+at_hexadecimal ds i j y is some ended e a = omega arith
 
 -- what can't go on is the longest
 pub has_element : {q v : ℕ} {i j : List ℕ} → Front q i j v → HasElement q i j v

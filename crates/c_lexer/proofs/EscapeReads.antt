@@ -8,7 +8,7 @@ use Rattle.std.proofs.lemmas.List.{length-drop, length-take-le, take-append-drop
 use Rattle.c_lexer.specs.declared.escape.Digits.{Digits}
 use Rattle.c_lexer.specs.Elements.{HasNoDigit, KeepsByte, ReadsDigits, ReadsSimple, HasNoElement}
 use Rattle.c_lexer.specs.Literals.{IsPlain, IsSimple, HasElement}
-use Rattle.c_lexer.proofs.EscapeDigits.{octal_no_x, simple_no_x}
+use Rattle.c_lexer.proofs.EscapeDigits.{octal_no_x, simple_facts}
 use Rattle.c_lexer.proofs.EscapeFronts.{Front, front, has_element}
 use Rattle.c_lexer.proofs.EscapeFronts.Front.{a_plain, a_simple, an_octal, a_hexadecimal}
 
@@ -27,7 +27,7 @@ no_digits radix (b ∷ i) (d ∷ ds) j ended e one all =
 -- what stands first after a backslash
 no_hexadecimal : {q v : ℕ} {k j : List ℕ} (i : List ℕ) → HasNoDigit 16 i → k ≡ 92 ∷ 120 ∷ i → Front q k j v → ⊥
 no_hexadecimal i ended e (a_plain p) = p.no_backslash cc
-no_hexadecimal i ended e (a_simple s) = simple_no_x s cc
+no_hexadecimal i ended e (a_simple s) = (simple_facts s).1 cc
 no_hexadecimal i ended e (an_octal [] is one few low end value) = omega arith
 no_hexadecimal i ended e (an_octal (d ∷ ds) is one few low end value) = octal_no_x d low.0 cc
 no_hexadecimal i ended e (a_hexadecimal ds {i = k} {j = j} is one low end value) =

@@ -5,7 +5,6 @@ use Rattle.std.specs.Str.Parse.{AllDigits}
 use Rattle.std.proofs.lemmas.Str.Parse.{digit_from_value}
 use Rattle.std.proofs.lemmas.Bool.{cases_lt}
 use Rattle.std.proofs.lemmas.Bool.Decides.{nat_tests}
-use Rattle.std.proofs.lemmas.List.{take_at}
 use Rattle.std.proofs.lemmas.List.Elements.{All-nil, All-cons, All-append, All-tail}
 use Rattle.dm_base.specs.Name.{IsName, IsLetter, IsDigit}
 use Rattle.c_lexer.specs.declared.token.TokenKind.{TokenKind}
@@ -15,6 +14,7 @@ use Rattle.c_lexer.specs.Literals.{IsConstant, IsDecimal, IsOctal, IsHexadecimal
 use Rattle.c_lexer.specs.Kinds.{Spells, IsLexeme}
 use Rattle.c_lexer.specs.TokenSpelling.{IsToken}
 use Rattle.c_lexer.specs.Parts.{BeginsWith, IsOther}
+use Rattle.c_lexer.proofs.LiteralOne.{same_parts}
 use Rattle.c_lexer.proofs.WordTables.{keyword_is_fixed, punctuator_begins, number_Contains}
 
 -- the bytes of the digits
@@ -76,7 +76,7 @@ pub constant_is_number : (w : List ℕ) (n : ℕ) (decimal suffixed : Bool) → 
 constant_is_number w n decimal suffixed c =
     subst IsNumber (sym c.is) (number_append c.digits c.suffix (has_number_is_number c.digits n decimal c.number) (suffix_bytes c.suffix suffixed c.ended))
 
-name_is_word : (w : List ℕ) → IsName w → IsWord w
+pub name_is_word : (w : List ℕ) → IsName w → IsWord w
 name_is_word [] name = absurd (omega (arith, name.some))
 name_is_word (b ∷ w) name = (name.begins b w refl, All-tail IsWordByte b w name.bytes)
 
@@ -102,22 +102,20 @@ pub first_apart : (P Q : ℕ → Type 0) (i : List ℕ) → ((b : ℕ) → P b �
 first_apart P Q i apart p (b, rest, is, q) = apart b (same_first P i b rest p is) q
 
 pub letter_no_digit : (b : ℕ) → IsLetter b → IsDigit b → ⊥
-letter_no_digit b (inl x) d = omega arith
 letter_no_digit b (inr (inl x)) d = omega arith
-letter_no_digit b (inr (inr x)) d = omega arith
+letter_no_digit b a d = omega arith
 
 pub letter_no_mark : (b n : ℕ) → n < 65 → IsLetter b → b ≡ n → ⊥
-letter_no_mark b n low (inl x) e = omega arith
 letter_no_mark b n low (inr (inl x)) e = omega arith
-letter_no_mark b n low (inr (inr x)) e = omega arith
+letter_no_mark b n low a e = omega arith
 
 pub digit_no_mark : (b n : ℕ) → n < 48 → IsDigit b → b ≡ n → ⊥
 digit_no_mark b n low d e = omega arith
 
-character_begins : (w : List ℕ) (v : ℕ) → IsCharacter w v → BeginsWith (λ b. b ≡ 39) w
+pub character_begins : (w : List ℕ) (v : ℕ) → IsCharacter w v → BeginsWith (λ b. b ≡ 39) w
 character_begins w v (i, is, _) = (39, i, is, refl)
 
-string_begins : (w vs : List ℕ) → IsString w vs → BeginsWith (λ b. b ≡ 34) w
+pub string_begins : (w vs : List ℕ) → IsString w vs → BeginsWith (λ b. b ≡ 34) w
 string_begins w vs (i, is, _) = (34, i, is, refl)
 
 pub letter_lexeme : (w : List ℕ) → IsLexeme w → BeginsWith IsLetter w → IsWord w
@@ -159,10 +157,6 @@ front_begins P i w j b rest stands is first =
 pub whole_begins : (P : ℕ → Type 0) (i w j : List ℕ) → i ≡ w ++ j → BeginsWith P w → BeginsWith P i
 whole_begins P i w j stands (b, rest, is, h) = (b, rest ++ j, stands ∙ ap (λ v. v ++ j) is, h)
 
--- two fronts of one length are one
-pub same_front : (i w j v k : List ℕ) → i ≡ w ++ j → i ≡ v ++ k → length w ≡ length v → w ≡ v
-same_front i w j v k one other long = sym (take_at w j (length v) long) ∙ ap (take (length v)) (sym one ∙ other) ∙ take_at v k (length v) refl
-
 -- A kind of text that is taken whole: what is taken whole and begins with such a byte is of this kind, and no comment begins so.
 pub record IsClass (First : ℕ → Type 0) (P : List ℕ → Type 0) : Type 0 where
   pub only : (w : List ℕ) → IsLexeme w → BeginsWith First w → P w
@@ -191,14 +185,14 @@ module _ {First : ℕ → Type 0} {P : List ℕ → Type 0} (class : IsClass Fir
   class_no_token none kind v rest stands token =
       let short : length v ≤ length w = least v rest stands (spelled_is_lexeme kind v token.spells) in
       let long : length w ≤ length v = token.longest w j (sym stands ∙ taken.stands) (class.whole w taken.is) in
-      let same : w ≡ v = same_front i w j v rest taken.stands stands (omega arith) in
+      let same : w ≡ v = (same_parts w v j rest (sym taken.stands ∙ stands) (omega arith)).0 in
       none kind (subst (Spells kind) (sym same) token.spells)
 
 pub one_longest : (P : List ℕ → Type 0) (i w j v k : List ℕ) → IsLongest P w i j → IsLongest P v i k → w ≡ v
 one_longest P i w j v k one other =
     let short : length w ≤ length v = other.longest w j one.stands one.is in
     let long : length v ≤ length w = one.longest v k other.stands other.is in
-    same_front i w j v k one.stands other.stands (omega arith)
+    (same_parts w v j k (sym one.stands ∙ other.stands) (omega arith)).0
 
 pub zero_spelled : Spells (Int 0 false) (48 ∷ [])
 zero_spelled = (false, false, record { digits = 48 ∷ []; suffix = []; is = refl; number = inl ([], refl, tt, refl); ended = refl }, refl)

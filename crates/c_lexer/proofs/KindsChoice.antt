@@ -10,9 +10,8 @@ other_first [] some letter digit single double = absurd (some refl)
 other_first (b ∷ rest) some letter digit single double = (b, rest, refl, record { no_letter = letter; no_digit = digit; no_single = single; no_double = double })
 
 pub no_letter : (b : ℕ) → IsNotAsciiAlphabetic b → b ≢ 95 → IsLetter b → ⊥
-no_letter b other low (inl big) = omega arith
-no_letter b other low (inr (inl small)) = omega arith
 no_letter b other low (inr (inr is)) = low is
+no_letter b other low a = omega arith
 
 pub no_digit : (b : ℕ) → IsNotAsciiDigit b → IsDigit b → ⊥
 no_digit b other digit = omega arith

@@ -1,5 +1,5 @@
 -- The kinds that a token may have are those that some text spells.
-use Rattle.std.proofs.Common.{◌≡◌, ◌<◌, ◌^◌, ℕ, Bool, true, false, cond, List, [], ◌∷◌, ◌++◌, get_or, Some, None, refl, ap, sym, subst, inl, ⊎_elim, arith}
+use Rattle.std.proofs.Common.{◌≡◌, ◌<◌, ◌^◌, ℕ, zero, suc, Bool, true, false, cond, List, [], ◌∷◌, ◌++◌, get_or, Some, None, refl, ap, sym, subst, inl, ⊎_elim, arith}
 use Rattle.std.specs.Fmt.{decimal}
 use Rattle.std.specs.Str.Parse.{IsNumeral, digits_value}
 use Rattle.std.proofs.lemmas.Fmt.{decimal_is_IsNumeral, first_decimal}
@@ -8,7 +8,7 @@ use Rattle.std.proofs.lemmas.Bool.Decides.{nat_tests}
 use Rattle.dm_base.specs.Name.{IsName}
 use Rattle.c_lexer.specs.declared.token.TokenKind.{TokenKind}
 use Rattle.c_lexer.specs.declared.token.TokenKind.TheVariants.{Name, Keyword, Int, Char, Str, Punct}
-use Rattle.c_lexer.specs.Literals.{IsDecimal, type_of}
+use Rattle.c_lexer.specs.Literals.{IsDecimal, IsSuffix, type_of}
 use Rattle.c_lexer.specs.Kinds.{Spells, SpellsSome, IsKind}
 use Rattle.c_lexer.proofs.KindsBegin.{zero_spelled}
 use Rattle.c_lexer.proofs.WordTables.{keyword_number_below, punctuator_number_below, keyword_at, punctuator_at}
@@ -16,15 +16,11 @@ use Rattle.c_lexer.proofs.LiteralKinds.{char_kind, str_kind, char_spelled, str_s
 
 pub type_unsigned : (decimal suffixed : Bool) (n : ℕ) → type_of decimal suffixed n ≡ Some true → n < 2 ^ 32
 type_unsigned true true n h = grind (arith, nat_tests)
-type_unsigned true false n h = grind (arith, nat_tests)
-type_unsigned false true n h = grind (arith, nat_tests)
-type_unsigned false false n h = grind (arith, nat_tests)
+type_unsigned decimal suffixed n h = grind (arith, nat_tests)
 
 pub type_signed : (decimal suffixed : Bool) (n : ℕ) → type_of decimal suffixed n ≡ Some false → n < 2 ^ 31
 type_signed true true n h = grind (arith, nat_tests)
-type_signed true false n h = grind (arith, nat_tests)
-type_signed false true n h = grind (arith, nat_tests)
-type_signed false false n h = grind (arith, nat_tests)
+type_signed decimal suffixed n h = grind (arith, nat_tests)
 
 pub kind_of_spelled : (kind : TokenKind) (w : List ℕ) → Spells kind w → IsKind kind
 kind_of_spelled (Name name) w h = subst IsName (sym h.0) h.1
@@ -42,57 +38,20 @@ decimal_from_numeral (d ∷ w) n numeral is first = (λ e. omega arith, numeral.
 decimal_constant : (n : ℕ) → 0 < n → n < 2 ^ 64 → IsDecimal (decimal n) n
 decimal_constant n some small = let numeral = decimal_is_IsNumeral n small in decimal_from_numeral (decimal n) n numeral.0 (sym numeral.1) (first_decimal n some small)
 
-some_unsigned : (n : ℕ) → n < 2 ^ 32 → 0 < n → SpellsSome (Int n true)
-some_unsigned n small some = (
-  decimal n ++ 117 ∷ [],
-  (
-    true,
-    true,
-    record {
-      digits = decimal n;
-      suffix = 117 ∷ [];
-      is = refl;
-      number = decimal_constant n some (omega arith);
-      ended = inl refl;
-    },
-    ap (λ t. cond t (Some true) None) (lt-ltb n (2 ^ 32) small),
-  ),
-)
-
-some_signed : (n : ℕ) → n < 2 ^ 31 → 0 < n → SpellsSome (Int n false)
-some_signed n small some = (
-  decimal n ++ [],
-  (
-    true,
-    false,
-    record {
-      digits = decimal n;
-      suffix = [];
-      is = refl;
-      number = decimal_constant n some (omega arith);
-      ended = refl;
-    },
-    ap (λ t. cond t (Some false) None) (lt-ltb n (2 ^ 31) small),
-  ),
-)
+some_int : (n : ℕ) (unsigned : Bool) (suffix : List ℕ) → IsSuffix unsigned suffix → 0 < n → n < 2 ^ 64 → type_of true unsigned n ≡ Some unsigned → SpellsSome (Int n unsigned)
+some_int n unsigned suffix ended some small typed =
+    (decimal n ++ suffix, (true, unsigned, record { digits = decimal n; suffix = suffix; is = refl; number = decimal_constant n some small; ended = ended }, typed))
 
 zero_unsigned : SpellsSome (Int 0 true)
 zero_unsigned = (48 ∷ 117 ∷ [], (false, true, record { digits = 48 ∷ []; suffix = 117 ∷ []; is = refl; number = inl ([], refl, tt, refl); ended = inl refl }, refl))
 
-zero_signed : SpellsSome (Int 0 false)
-zero_signed = (48 ∷ [], zero_spelled)
-
 pub kind_is_spelled : (kind : TokenKind) → IsKind kind → SpellsSome kind
 kind_is_spelled (Name name) h = (name, (refl, h))
 kind_is_spelled (Keyword k) h = keyword_at k h
-kind_is_spelled (Int value true) h =
-    ⊎_elim (λ none. let P : ℕ → Type 0 = λ n. SpellsSome (Int n true) in let is : 0 ≡ value = omega arith in subst P is zero_unsigned)
-    (λ some. some_unsigned value h (omega arith))
-    (cases_lt value 1)
-kind_is_spelled (Int value false) h =
-    ⊎_elim (λ none. let P : ℕ → Type 0 = λ n. SpellsSome (Int n false) in let is : 0 ≡ value = omega arith in subst P is zero_signed)
-    (λ some. some_signed value h (omega arith))
-    (cases_lt value 1)
+kind_is_spelled (Int zero true) h = zero_unsigned
+kind_is_spelled (Int (suc n) true) h = some_int (suc n) true (117 ∷ []) (inl refl) (omega arith) (omega arith) (ap (λ t. cond t (Some true) None) (lt-ltb (suc n) (2 ^ 32) h))
+kind_is_spelled (Int zero false) h = (48 ∷ [], zero_spelled)
+kind_is_spelled (Int (suc n) false) h = some_int (suc n) false [] refl (omega arith) (omega arith) (ap (λ t. cond t (Some false) None) (lt-ltb (suc n) (2 ^ 31) h))
 kind_is_spelled (Char c) h = char_spelled c h
 kind_is_spelled (Str bytes) h = str_spelled bytes h
 kind_is_spelled (Punct p) h = punctuator_at p h

@@ -15,6 +15,7 @@ use Rattle.c_lexer.specs.Literals.{IsLongest}
 use Rattle.c_lexer.specs.Kinds.{Spells}
 use Rattle.c_lexer.specs.Refusals.{Holds, IsWhole, IsMalformedNumber, IsLongWord, HasLargeElement}
 use Rattle.c_lexer.specs.Parts.{BeginsWith}
+use Rattle.c_lexer.specs.Elements.{IsQuote}
 use Rattle.c_lexer.specs.Runs.{IsRunLength}
 use Rattle.c_lexer.proofs.KindsBegin.{zero_spelled, run_begins, same_first, first_apart, whole_begins, letter_no_digit, letter_no_mark, digit_no_mark}
 use Rattle.c_lexer.proofs.WordTables.{c99_is_fixed}
@@ -107,21 +108,15 @@ no_marker P i sharp first (rest, is) = sharp (same_first P i 35 rest first is)
 whole_first : (First Later : ℕ → Type 0) (w i : List ℕ) → IsWhole (IsRun First Later) w i → BeginsWith First i
 whole_first First Later w i (rest, taken) = whole_begins First i w rest taken.stands (run_begins First Later w taken.is)
 
--- a quote
-abbrev pub IsQuote : ℕ → Type 0
-IsQuote b = (b ≡ 39) ⊎ (b ≡ 34)
-
 pub large_element_begins : (i : List ℕ) → HasLargeElement i → BeginsWith IsQuote i
 large_element_begins i (w, after, vs, stands, inl string, _) = whole_begins IsQuote i w after stands (34, string.0, string.1, inr refl)
 large_element_begins i (w, after, vs, stands, inr character, _) = let c = character.2 in whole_begins IsQuote i w after stands (39, c.0, c.1, inl refl)
 
-letter_no_quote : (b : ℕ) → IsLetter b → IsQuote b → ⊥
-letter_no_quote b h (inl is) = letter_no_mark b 39 (omega arith) h is
-letter_no_quote b h (inr is) = letter_no_mark b 34 (omega arith) h is
+pub letter_no_quote : (b : ℕ) → IsLetter b → IsQuote b → ⊥
+letter_no_quote b h quote = grind arith
 
-digit_no_quote : (b : ℕ) → IsDigit b → IsQuote b → ⊥
-digit_no_quote b h (inl is) = digit_no_mark b 39 (omega arith) h is
-digit_no_quote b h (inr is) = digit_no_mark b 34 (omega arith) h is
+pub digit_no_quote : (b : ℕ) → IsDigit b → IsQuote b → ⊥
+digit_no_quote b h quote = grind arith
 
 -- where a letter stands first no literal is malformed, and none is too large
 pub letter_malformed : (i : List ℕ) → BeginsWith IsLetter i → Holds Malformed i → IsLongWord i

@@ -20,7 +20,6 @@ pub mod NumberLemmas
 pub mod NumberParts
 pub mod OneTokenBegins
 pub mod OneTokenKinds
-pub mod OneTokenLiterals
 pub mod OneTokenNumbers
 pub mod OneTokenSame
 pub mod OneTokenTables

@@ -4,44 +4,21 @@ use Rattle.std.specs.Char.{digit_value}
 use Rattle.std.specs.Str.Parse.{digits_value}
 use Rattle.std.proofs.lemmas.Bool.{ne_eqb, lt-ltb}
 use Rattle.c_lexer.specs.Elements.{IsQuote, HasNoElement}
-use Rattle.c_lexer.specs.Literals.{IsSimple, IsElement, HasElement, HasElements, IsCharacter, IsString}
+use Rattle.c_lexer.specs.Literals.{IsElement, HasElement, HasElements, IsCharacter, IsString}
 use Rattle.c_lexer.specs.Literals.IsElement.{plain, simple, octal, hexadecimal}
-use Rattle.c_lexer.specs.Literals.IsSimple.{single_quote, double_quote, question, backslash, alert, backspace, form_feed, new_line, carriage_return, horizontal_tab, vertical_tab}
 use Rattle.c_lexer.specs.Literals.HasElements.{none, more}
-use Rattle.c_lexer.proofs.EscapeDigits.{octal_no_x}
+use Rattle.c_lexer.proofs.EscapeDigits.{escape_value, octal_no_x, simple_facts}
 use Rattle.c_lexer.proofs.EscapeFronts.{Front, front}
 use Rattle.c_lexer.proofs.EscapeFronts.Front.{a_plain, a_simple, an_octal, a_hexadecimal}
 
 -- what a text stands for as an element
-abbrev simple_value : ℕ → ℕ
-simple_value c =
-    cond (nat_eq c 97) 7 (cond (nat_eq c 98) 8 (cond (nat_eq c 102) 12 (cond (nat_eq c 110) 10
-    (cond (nat_eq c 114) 13 (cond (nat_eq c 116) 9 (cond (nat_eq c 118) 11 c))))))
-
-abbrev escape_value : List ℕ → ℕ
-escape_value [] = 0
-escape_value (c ∷ rest) = cond (nat_eq c 120) (digits_value 16 rest) (cond (nat_lt (digit_value c) 8) (digits_value 8 (c ∷ rest)) (simple_value c))
-
 abbrev element_value : List ℕ → ℕ
 element_value [] = 0
 element_value (b ∷ rest) = cond (nat_eq b 92) (escape_value rest) b
 
-simple_is : {c v : ℕ} → IsSimple c v → v ≡ escape_value (c ∷ [])
-simple_is single_quote = refl
-simple_is double_quote = refl
-simple_is question = refl
-simple_is backslash = refl
-simple_is alert = refl
-simple_is backspace = refl
-simple_is form_feed = refl
-simple_is new_line = refl
-simple_is carriage_return = refl
-simple_is horizontal_tab = refl
-simple_is vertical_tab = refl
-
 value_is : {q v : ℕ} {w : List ℕ} → IsElement q w v → v ≡ element_value w
 value_is (plain {b = b} p) = rw (ne_eqb b 92 p.no_backslash)
-value_is (simple s) = simple_is s
+value_is (simple s) = (simple_facts s).2
 value_is (octal {digits = []} some few low is) = omega arith
 value_is (octal {digits = c ∷ ds} some few low is) =
     let other : nat_eq c 120 ≡ false = ne_eqb c 120 (octal_no_x c low.0) in
@@ -60,12 +37,11 @@ one_value h g = value_is h ∙ sym (value_is g)
 -- parts of one text that are of one length
 pub same_parts : (x y j k : List ℕ) → x ++ j ≡ y ++ k → length x ≡ length y → (x ≡ y) × (j ≡ k)
 same_parts [] [] j k e l = (refl, e)
-same_parts [] (b ∷ y) j k e l = absurd (omega arith)
-same_parts (b ∷ x) [] j k e l = absurd (omega arith)
 same_parts (b ∷ x) (c ∷ y) j k e l =
     let first : b ≡ c = cc in
     let later = same_parts x y j k (cc) (omega arith) in
     (let same : x ≡ y = later.0 in cc, later.1)
+same_parts x y j k e l = absurd (omega arith)
 
 -- one element stands first
 pub one_element : {q v u : ℕ} {i j k : List ℕ} → HasElement q i j v → HasElement q i k u → (j ≡ k) × (v ≡ u)

@@ -97,10 +97,7 @@ not_comment q text rest quote is ((later, e), endless) = no_slash q text rest (4
 least_malformed : (q : ℕ) (text rest : List ℕ) → IsQuote q → text ≡ q ∷ rest → (other : Cause) → code_of other < 3 → Holds other text → ⊥
 least_malformed q text rest quote is ForeignByte low h = not_foreign q text rest quote is h
 least_malformed q text rest quote is OpenComment low h = not_comment q text rest quote is h
-least_malformed q text rest quote is Malformed low h = omega arith
-least_malformed q text rest quote is TooLarge low h = omega arith
-least_malformed q text rest quote is NoLineMarker low h = omega arith
-least_malformed q text rest quote is ExcludedKeyword low h = omega arith
+least_malformed q text rest quote is other low h = omega arith
 
 -- a quote that begins no literal
 pub malformed_string : (text rest : List ℕ) → text ≡ 34 ∷ rest → ((w after vs : List ℕ) → text ≡ w ++ after → IsString w vs → ⊥) → IsMisfit Malformed text
@@ -140,9 +137,7 @@ least_large : (q : ℕ) (text rest : List ℕ) → IsQuote q → text ≡ q ∷ 
 least_large q text rest quote is formed ForeignByte low h = not_foreign q text rest quote is h
 least_large q text rest quote is formed OpenComment low h = not_comment q text rest quote is h
 least_large q text rest quote is formed Malformed low h = formed h
-least_large q text rest quote is formed TooLarge low h = omega arith
-least_large q text rest quote is formed NoLineMarker low h = omega arith
-least_large q text rest quote is formed ExcludedKeyword low h = omega arith
+least_large q text rest quote is formed other low h = omega arith
 
 -- a literal with a value above 255
 not_bytes : (vs bytes : List ℕ) → vs ≡ bytes → Any (λ v. 255 < v) vs → All IsByte bytes → ⊥

@@ -25,14 +25,13 @@ byte_value true bytes vs v value keeps (k, x, within, at, large) =
 
 -- an element has a byte at least
 front_shorter : {q v : ℕ} {i j : List ℕ} → Front q i j v → length j < length i
-front_shorter (a_plain p) = omega arith
-front_shorter (a_simple s) = omega arith
 front_shorter (an_octal ds {j = j} is one few low ended value) =
     let size = ap length is in
     omega (arith, size, length-append ds j)
 front_shorter (a_hexadecimal ds {j = j} is one low ended value) =
     let size = ap length is in
     omega (arith, size, length-append ds j)
+front_shorter a = omega arith
 
 pub element_moves : (q n v : ℕ) (i : List ℕ) → HasElement q i (drop n i) v → 1 ≤ n
 element_moves q n v i h =

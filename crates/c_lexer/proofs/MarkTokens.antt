@@ -44,11 +44,7 @@ mark_token i w v p clear first at front read =
 
 foreign_least : (i : List ℕ) (other : Cause) → code_of other < 1 → Holds other i → ⊥
 foreign_least i ForeignByte low h = omega arith
-foreign_least i OpenComment low h = omega arith
-foreign_least i Malformed low h = omega arith
-foreign_least i TooLarge low h = omega arith
-foreign_least i NoLineMarker low h = omega arith
-foreign_least i ExcludedKeyword low h = omega arith
+foreign_least i other low h = omega arith
 
 pub mark_misfit : (i : List ℕ) → IsClear i → BeginsWith IsOther i → HasNoFront punctuators i → IsMisfit ForeignByte i
 mark_misfit i clear (b, rest, is, other) none = record {

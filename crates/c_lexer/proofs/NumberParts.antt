@@ -18,7 +18,8 @@ use Rattle.c_lexer.specs.Refusals.{Holds, IsMalformedNumber}
 use Rattle.c_lexer.specs.Reading.{IsMisfit}
 use Rattle.c_lexer.specs.Parts.{BeginsWith, IsOther, IsNumberMisfit, IsUnsuffixed, IsBased}
 use Rattle.c_lexer.proofs.KindsBegin.{IsClass, class_no_token, one_longest, digit_lexeme, digit_no_mark, run_begins, whole_begins, first_apart, letter_no_digit}
-use Rattle.c_lexer.proofs.WordTables.{keyword_is_fixed, number_Contains, punctuator_begins}
+use Rattle.c_lexer.proofs.OneTokenBegins.{FirstOf, begins}
+use Rattle.c_lexer.proofs.WordTables.{IsMark}
 use Rattle.c_lexer.proofs.KindsRuns.{digit_no_foreign, digit_malformed, no_comment}
 
 -- no byte of a number is a suffix
@@ -38,9 +39,7 @@ zero_no_suffix = digit_no_suffix 48 (omega arith)
 
 x_no_suffix : (x : ℕ) → (x ≡ 120) ⊎ (x ≡ 88) → IsNoSuffix x
 x_no_suffix x (inl is) (inl e) = omega arith
-x_no_suffix x (inl is) (inr e) = omega arith
-x_no_suffix x (inr is) (inl e) = omega arith
-x_no_suffix x (inr is) (inr e) = omega arith
+x_no_suffix x a u = omega arith
 
 decimal_no_suffix : (w : List ℕ) (n : ℕ) → IsDecimal w n → All IsNoSuffix w
 decimal_no_suffix [] n h = absurd h
@@ -60,7 +59,7 @@ no_suffix_last w body u is each =
     subst IsNoSuffix here (each (length body) 0 (omega arith))
 
 -- the two parts of a constant
-suffixed_parts : (w body : List ℕ) (u n : ℕ) (decimal other : Bool) → w ≡ body ++ u ∷ [] → (u ≡ 117) ⊎ (u ≡ 85) → IsConstant w n decimal other → (other ≡ true) × HasNumber body n decimal
+pub suffixed_parts : (w body : List ℕ) (u n : ℕ) (decimal other : Bool) → w ≡ body ++ u ∷ [] → (u ≡ 117) ⊎ (u ≡ 85) → IsConstant w n decimal other → (other ≡ true) × HasNumber body n decimal
 suffixed_parts w body u n decimal true is marks c =
     ⊎_elim (λ e. (refl, let same = same_from_push c.digits body 117 u (ap (λ v. c.digits ++ v) (sym e) ∙ sym c.is ∙ is) in subst (λ v. HasNumber v n decimal) same.0 c.number))
     (λ e. (refl, let same = same_from_push c.digits body 85 u (ap (λ v. c.digits ++ v) (sym e) ∙ sym c.is ∙ is) in subst (λ v. HasNumber v n decimal) same.0 c.number))
@@ -116,9 +115,7 @@ module _ {w body : List ℕ} {suffixed : Bool} (bare : IsUnsuffixed w body suffi
 
 pub type_too_large : (decimal suffixed : Bool) (n : ℕ) → (n < 2 ^ 32 → ⊥) → type_of decimal suffixed n ≡ None
 type_too_large true true n h = grind (arith, nat_tests)
-type_too_large true false n h = grind (arith, nat_tests)
-type_too_large false true n h = grind (arith, nat_tests)
-type_too_large false false n h = grind (arith, nat_tests)
+type_too_large decimal suffixed n h = grind (arith, nat_tests)
 
 pub number_class : IsClass IsDigit IsNumber
 number_class = record {
@@ -133,20 +130,14 @@ number_first i w j taken = whole_begins IsDigit i w j taken.stands (run_begins I
 
 -- a number spells a constant
 number_spells : (w : List ℕ) → BeginsWith IsDigit w → ((n : ℕ) (decimal suffixed unsigned : Bool) → IsConstant w n decimal suffixed → type_of decimal suffixed n ≡ Some unsigned → ⊥) → (kind : TokenKind) → Spells kind w → ⊥
-number_spells w (b, rest, is, digit) none (Name name) h = letter_no_digit b (h.1.begins b rest is) digit
-number_spells w first none (Keyword k) h = first_apart IsLetter IsDigit w letter_no_digit (run_begins IsLetter IsWordByte w (keyword_is_fixed w (number_Contains keywords k w h)).word) first
 number_spells w first none (Int n u) h = none n h.0 h.1 u h.2 h.3
-number_spells w first none (Char c) h = let i = h.1 in first_apart IsDigit (λ b. b ≡ 39) w (λ b. digit_no_mark b 39 (omega arith)) first (39, i.0, i.1, refl)
-number_spells w first none (Str vs) h = let i = h.0 in first_apart IsDigit (λ b. b ≡ 34) w (λ b. digit_no_mark b 34 (omega arith)) first (34, i.0, i.1, refl)
-number_spells w first none (Punct p) h = first_apart IsDigit IsOther w (λ b digit other. other.no_digit digit) first (punctuator_begins w (number_Contains punctuators p w h))
+number_spells w first none (Punct p) h = first_apart IsDigit IsMark w (λ b digit mark. mark.other.no_digit digit) first (begins (Punct p) w h)
+number_spells w first none kind h = first_apart IsDigit (FirstOf kind) w (λ b digit other. grind arith) first (begins kind w h)
 
 malformed_least : (i : List ℕ) → BeginsWith IsDigit i → (other : Cause) → code_of other < 3 → Holds other i → ⊥
 malformed_least i first ForeignByte low h = digit_no_foreign i first h
 malformed_least i first OpenComment low h = no_comment IsDigit i (λ b. digit_no_mark 47 47 (omega arith) b refl) first h
-malformed_least i first Malformed low h = omega arith
-malformed_least i first TooLarge low h = omega arith
-malformed_least i first NoLineMarker low h = omega arith
-malformed_least i first ExcludedKeyword low h = omega arith
+malformed_least i first other low h = omega arith
 
 no_malformed : (i w j : List ℕ) (n : ℕ) (decimal suffixed : Bool) → IsLongest IsNumber w i j → IsConstant w n decimal suffixed → IsMalformedNumber i → ⊥
 no_malformed i w j n decimal suffixed taken c (v, (k, other), none) = none n decimal suffixed (subst (λ u. IsConstant u n decimal suffixed) (one_longest IsNumber i w j v k taken other) c)
@@ -155,13 +146,9 @@ large_least : (i w j : List ℕ) (n : ℕ) (decimal suffixed : Bool) → IsLonge
 large_least i w j n decimal suffixed taken c ForeignByte low h = digit_no_foreign i (number_first i w j taken) h
 large_least i w j n decimal suffixed taken c OpenComment low h = no_comment IsDigit i (λ b. digit_no_mark 47 47 (omega arith) b refl) (number_first i w j taken) h
 large_least i w j n decimal suffixed taken c Malformed low h = no_malformed i w j n decimal suffixed taken c (digit_malformed i (number_first i w j taken) h)
-large_least i w j n decimal suffixed taken c TooLarge low h = omega arith
-large_least i w j n decimal suffixed taken c NoLineMarker low h = omega arith
-large_least i w j n decimal suffixed taken c ExcludedKeyword low h = omega arith
+large_least i w j n decimal suffixed taken c other low h = omega arith
 
 pub number_misfit : (cause : Cause) (i w j : List ℕ) → IsLongest IsNumber w i j → IsNumberMisfit cause w → IsMisfit cause i
-number_misfit ForeignByte i w j taken h = absurd h
-number_misfit OpenComment i w j taken h = absurd h
 number_misfit Malformed i w j taken h = record {
   holds = inl (w, (j, taken), h);
   least = λ other low holds. malformed_least i (number_first i w j taken) other low holds;
@@ -174,5 +161,4 @@ number_misfit TooLarge i w j taken ((n, decimal, suffixed, c, none), each) = rec
   no_token = λ kind v rest stands token.
       class_no_token number_class taken (λ other. number_spells w (run_begins IsDigit IsNumberByte w taken.is) (λ m d s u k typed. let untyped = each m d s k in cc) other) kind v rest stands token;
 }
-number_misfit NoLineMarker i w j taken h = absurd h
-number_misfit ExcludedKeyword i w j taken h = absurd h
+number_misfit cause i w j taken h = absurd h

@@ -4,9 +4,10 @@ use Rattle.std.proofs.lemmas.Bool.{cases_lt}
 use Rattle.c_lexer.specs.declared.token.TokenKind.{TokenKind}
 use Rattle.c_lexer.specs.Kinds.{Spells}
 use Rattle.c_lexer.specs.TokenSpelling.{IsBlank, IsInLine, IsLineEnd, IsLineComment, IsBlockComment, HasEndAfter, IsLineMarker, IsWhite, blank, line_comment, block_comment, line_marker, IsToken}
-use Rattle.c_lexer.proofs.OneTokenBegins.{begins as begins_by, FirstOf, first_no_marker, first_no_blank, lexeme_from_spells}
+use Rattle.c_lexer.proofs.OneTokenBegins.{begins as begins_by, FirstOf, spelled_first, first_no_marker, first_no_blank}
+use Rattle.c_lexer.proofs.KindsBegin.{spelled_is_lexeme}
 use Rattle.c_lexer.proofs.OneTokenKinds.{one_kind}
-use Rattle.c_lexer.proofs.OneTokenLiterals.{same_front}
+use Rattle.c_lexer.proofs.LiteralOne.{same_parts}
 
 -- a line's front is one
 in_line_rest : (b : ℕ) (w : List ℕ) → IsInLine (b ∷ w) → IsInLine w
@@ -61,7 +62,7 @@ same_comment v w r s p q is =
     ⊎_elim (λ low. absurd (comment_least v w r s p q is low))
     (λ above. ⊎_elim (λ low. absurd (comment_least w v s r q p (sym is) low)) (λ below. omega arith) (cases_lt (length q.inner) (length p.inner)))
     (cases_lt (length p.inner) (length q.inner)) in
-    (same_front v w r s is same).0
+    (same_parts v w r s is same).0
 
 -- the first bytes of white space
 line_starts : (w rest : List ℕ) → IsLineComment w rest → (t : List ℕ) × (w ++ rest ≡ 47 ∷ 47 ∷ t)
@@ -111,10 +112,7 @@ one_white front v w r s (line_marker h) (line_marker k) is = same_line v w r s i
 
 -- no token stands where white space does
 token_first : (kind : TokenKind) (w s i t : List ℕ) (b : ℕ) → IsToken kind w s → i ≡ w ++ s → i ≡ b ∷ t → FirstOf kind b
-token_first kind w s i t b token is begins =
-    let first = begins_by kind w token.spells in
-    let same : first.byte ≡ b = ap (λ v. get_or v 0 0) (ap (λ v. v ++ s) (sym first.is) ∙ sym is ∙ begins) in
-    subst (FirstOf kind) same first.first
+token_first kind w s i t b token is begins = spelled_first kind w s t b token.spells (sym is ∙ begins)
 
 pub no_token_in_white : (front : List ℕ) (kind : TokenKind) (v w r s : List ℕ) → IsWhite front v r → IsToken kind w s → v ++ r ≡ w ++ s → ⊥
 no_token_in_white front kind v w r s (blank {b} h) token is = blank_low b h (first_above kind b (token_first kind w s (b ∷ r) r b token is refl))
@@ -125,9 +123,9 @@ no_token_in_white front kind v w r s (line_marker h) token is = let t = marker_s
 -- one token stands at a place
 pub one_token : (kind other : TokenKind) (v w r s : List ℕ) → IsToken kind v r → IsToken other w s → v ++ r ≡ w ++ s → (v ≡ w) × (kind ≡ other)
 one_token kind other v w r s p q is =
-    let long : length w ≤ length v = p.longest w s is (lexeme_from_spells other w q.spells) in
-    let long' : length v ≤ length w = q.longest v r (sym is) (lexeme_from_spells kind v p.spells) in
-    let same = (same_front v w r s is (omega arith)).0 in
+    let long : length w ≤ length v = p.longest w s is (spelled_is_lexeme other w q.spells) in
+    let long' : length v ≤ length w = q.longest v r (sym is) (spelled_is_lexeme kind v p.spells) in
+    let same = (same_parts v w r s is (omega arith)).0 in
     (same, one_kind kind other w (subst (Spells kind) same p.spells) q.spells)
 
 -- neither is empty
@@ -138,4 +136,4 @@ white_some front w rest (block_comment h) = omega (arith, comment_length w h)
 white_some front w rest (line_marker h) = let e = ap length h.is in omega arith
 
 pub token_some : (kind : TokenKind) (w rest : List ℕ) → IsToken kind w rest → 0 < length w
-token_some kind w rest token = let first = begins_by kind w token.spells in let e = ap length first.is in omega arith
+token_some kind w rest token = let first = begins_by kind w token.spells in let e = ap length first.2 in omega arith

@@ -14,7 +14,7 @@ use Rattle.c_lexer.specs.TokenSpelling.{IsBlank, IsInLine, IsLineEnd, BeginsBloc
 use Rattle.c_lexer.specs.Refusals.{BeginsNoToken, Holds}
 use Rattle.c_lexer.specs.Reading.{HasNoWhite, ReadsWhite}
 use Rattle.c_lexer.specs.WhiteParts.{IsLine, IsCommentEnd, IsMarkerHead, BeginsMarker}
-use Rattle.c_lexer.proofs.OneTokenBegins.{begins as begins_by, FirstOf, first_no_marker, letter_no_marker}
+use Rattle.c_lexer.proofs.OneTokenBegins.{spelled_first, first_no_marker}
 
 pub blank_reads : (front i : List ℕ) → 0 < length i → IsBlank (get_or i 0 0) → ReadsWhite front i (Ok (Some 1))
 blank_reads front [] some is_blank = absurd (omega arith)
@@ -22,9 +22,8 @@ blank_reads front (b ∷ rest) some is_blank = (omega arith, omega arith, blank 
 
 -- a text of two bytes and more
 pub two_and_more : (i : List ℕ) (b c : ℕ) → 2 ≤ length i → get_or i 0 0 ≡ b → get_or i 1 0 ≡ c → i ≡ b ∷ c ∷ drop 2 i
-two_and_more [] b c long e f = absurd (omega arith)
-two_and_more (x ∷ []) b c long e f = absurd (omega arith)
 two_and_more (x ∷ y ∷ i) b c long e f = cc
+two_and_more i b c long e f = absurd (omega arith)
 
 in_line_cons : (b : ℕ) (w : List ℕ) → b ≢ 10 → IsInLine w → IsInLine (b ∷ w)
 in_line_cons b w other in_line (zero, below, is) = other is
@@ -95,11 +94,7 @@ no_lower_than_open i begins ForeignByte low (b, rest, is, no_hash, none) =
     let e = begins.1 in
     let same : b ≡ 47 = cc in
     slash_begins_a_token (subst BeginsNoToken same none)
-no_lower_than_open i begins OpenComment low holds = omega arith
-no_lower_than_open i begins Malformed low holds = omega arith
-no_lower_than_open i begins TooLarge low holds = omega arith
-no_lower_than_open i begins NoLineMarker low holds = omega arith
-no_lower_than_open i begins ExcludedKeyword low holds = omega arith
+no_lower_than_open i begins other low holds = omega arith
 
 -- the bytes that stand first are one's own
 pub first_byte : (i r s : List ℕ) (a b : ℕ) → i ≡ a ∷ r → i ≡ b ∷ s → a ≡ b
@@ -204,17 +199,14 @@ no_lower_than_marker r OpenComment low holds = first_below (35 ∷ r) r _ 35 47 
 no_lower_than_marker r Malformed low (inl (w, whole, none)) = let digit : IsDigit 35 = no_run_at_hash IsDigit IsNumberByte w whole.0 r whole.1.is whole.1.stands in omega arith
 no_lower_than_marker r Malformed low (inr (inl (rest, is, none))) = first_below (35 ∷ r) r rest 35 39 (omega arith) refl is
 no_lower_than_marker r Malformed low (inr (inr (inl (rest, is, none)))) = first_above (35 ∷ r) r rest 35 34 (omega arith) refl is
-no_lower_than_marker r Malformed low (inr (inr (inr (w, whole, long)))) = letter_no_marker (no_run_at_hash IsLetter IsWordByte w whole.0 r whole.1.is whole.1.stands)
+no_lower_than_marker r Malformed low (inr (inr (inr (w, whole, long)))) = (let letter : IsLetter 35 = no_run_at_hash IsLetter IsWordByte w whole.0 r whole.1.is whole.1.stands in grind arith)
 no_lower_than_marker r TooLarge low (inl (w, n, decimal, suffixed, whole, constant, untyped)) = let digit : IsDigit 35 = no_run_at_hash IsDigit IsNumberByte w whole.0 r whole.1.is whole.1.stands in omega arith
 no_lower_than_marker r TooLarge low (inr (w, after, vs, is, inl string, large)) = first_above (35 ∷ r) r _ 35 34 (omega arith) refl (is ∙ ap (λ v. v ++ after) string.1)
 no_lower_than_marker r TooLarge low (inr (w, after, vs, is, inr (v, same, character), large)) = first_below (35 ∷ r) r _ 35 39 (omega arith) refl (is ∙ ap (λ v. v ++ after) character.1)
-no_lower_than_marker r NoLineMarker low holds = omega arith
-no_lower_than_marker r ExcludedKeyword low holds = omega arith
+no_lower_than_marker r other low holds = omega arith
 
 no_token_at_hash : (i r : List ℕ) → i ≡ 35 ∷ r → (kind : TokenKind) (w rest : List ℕ) → i ≡ w ++ rest → IsToken kind w rest → ⊥
-no_token_at_hash i r begins kind w rest is token =
-    let first = begins_by kind w token.spells in
-    first_no_marker kind (subst (FirstOf kind) (first_byte i _ r first.byte 35 (is ∙ ap (λ v. v ++ rest) first.is) begins) first.first)
+no_token_at_hash i r begins kind w rest is token = first_no_marker kind (spelled_first kind w rest r 35 token.spells (sym is ∙ begins))
 
 pub no_marker_reads : (front i r : List ℕ) → i ≡ 35 ∷ r → (EndsInMargin front → BeginsMarker i → ⊥) → ReadsWhite front i (Err NoLineMarker)
 no_marker_reads front i r begins none = (

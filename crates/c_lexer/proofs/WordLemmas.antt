@@ -15,9 +15,10 @@ use Rattle.c_lexer.specs.Kinds.{Spells}
 use Rattle.c_lexer.specs.Refusals.{Holds, IsLongWord}
 use Rattle.c_lexer.specs.Reading.{IsMisfit, ReadsToken}
 use Rattle.c_lexer.specs.Parts.{BeginsWith, IsWordMisfit, ReadsWord}
-use Rattle.c_lexer.proofs.KindsBegin.{IsClass, class_no_token, one_longest, letter_lexeme, letter_no_mark, run_begins, whole_begins, constant_is_number, first_apart, letter_no_digit}
+use Rattle.c_lexer.proofs.KindsBegin.{IsClass, class_no_token, one_longest, letter_lexeme, letter_no_mark, run_begins, whole_begins, first_apart}
 use Rattle.c_lexer.proofs.KindsRuns.{letter_no_foreign, letter_malformed, letter_no_large, no_comment, no_marker}
-use Rattle.c_lexer.proofs.WordTables.{c99_keyword, keyword_is_fixed, excluded_is_fixed, excluded_is_c99, excluded_is_no_keyword, number_Contains, punctuator_begins}
+use Rattle.c_lexer.proofs.OneTokenBegins.{FirstOf, begins}
+use Rattle.c_lexer.proofs.WordTables.{IsMark, c99_keyword, keyword_is_fixed, excluded_is_fixed, excluded_is_c99, excluded_is_no_keyword, number_Contains}
 
 pub word_class : IsClass IsLetter IsWord
 word_class = record {
@@ -31,18 +32,13 @@ word_class = record {
 word_spells : (P : Type 0) (w : List ℕ) → IsWord w → (IsName w → P) → (Contains keywords w → P) → (kind : TokenKind) → Spells kind w → P
 word_spells P w word name keyword (Name x) h = name h.1
 word_spells P w word name keyword (Keyword k) h = keyword (number_Contains keywords k w h)
-word_spells P w word name keyword (Int n u) h = absurd (first_apart IsLetter IsDigit w letter_no_digit (run_begins IsLetter IsWordByte w word) (run_begins IsDigit IsNumberByte w (constant_is_number w n h.0 h.1 h.2)))
-word_spells P w word name keyword (Char c) h = let i = h.1 in absurd (first_apart IsLetter (λ b. b ≡ 39) w (λ b. letter_no_mark b 39 (omega arith)) (run_begins IsLetter IsWordByte w word) (39, i.0, i.1, refl))
-word_spells P w word name keyword (Str vs) h = let i = h.0 in absurd (first_apart IsLetter (λ b. b ≡ 34) w (λ b. letter_no_mark b 34 (omega arith)) (run_begins IsLetter IsWordByte w word) (34, i.0, i.1, refl))
-word_spells P w word name keyword (Punct p) h = absurd (first_apart IsLetter _ w (λ b letter other. other.no_letter letter) (run_begins IsLetter IsWordByte w word) (punctuator_begins w (number_Contains punctuators p w h)))
+word_spells P w word name keyword (Punct p) h = absurd (first_apart IsLetter IsMark w (λ b letter mark. mark.other.no_letter letter) (run_begins IsLetter IsWordByte w word) (begins (Punct p) w h))
+word_spells P w word name keyword kind h = absurd (first_apart IsLetter (FirstOf kind) w (λ b letter other. grind arith) (run_begins IsLetter IsWordByte w word) (begins kind w h))
 
 long_least : (i : List ℕ) → BeginsWith IsLetter i → (other : Cause) → code_of other < 3 → Holds other i → ⊥
 long_least i first ForeignByte low h = letter_no_foreign i first h
 long_least i first OpenComment low h = no_comment IsLetter i (λ b. letter_no_mark 47 47 (omega arith) b refl) first h
-long_least i first Malformed low h = omega arith
-long_least i first TooLarge low h = omega arith
-long_least i first NoLineMarker low h = omega arith
-long_least i first ExcludedKeyword low h = omega arith
+long_least i first other low h = omega arith
 
 no_long_word : (i w j : List ℕ) → IsLongest IsWord w i j → length w < 64 → IsLongWord i → ⊥
 no_long_word i w j taken short (v, (k, other), long) = let same : length w ≡ length v = ap length (one_longest IsWord i w j v k taken other) in omega arith
@@ -57,22 +53,19 @@ excluded_least i w j taken short first ExcludedKeyword low h = omega arith
 
 -- why no token stands where a word does
 pub word_misfit : (cause : Cause) (i w j : List ℕ) → IsLongest IsWord w i j → IsWordMisfit cause w → IsMisfit cause i
-word_misfit ForeignByte i w j taken h = absurd h
-word_misfit OpenComment i w j taken h = absurd h
 word_misfit Malformed i w j taken h = record {
   holds = inr (inr (inr (w, (j, taken), h)));
   least = λ other low holds. long_least i (whole_begins IsLetter i w j taken.stands (run_begins IsLetter IsWordByte w taken.is)) other low holds;
   no_token = λ kind v rest stands token.
       class_no_token word_class taken (λ other. word_spells ⊥ w taken.is (λ name. omega (arith, name.short)) (λ among. let fixed = keyword_is_fixed w among in omega (arith, fixed.short)) other) kind v rest stands token;
 }
-word_misfit TooLarge i w j taken h = absurd h
-word_misfit NoLineMarker i w j taken h = absurd h
 word_misfit ExcludedKeyword i w j taken h = record {
   holds = (w, (j, taken), h);
   least = λ other low holds. excluded_least i w j taken (excluded_is_fixed w h).short (whole_begins IsLetter i w j taken.stands (run_begins IsLetter IsWordByte w taken.is)) other low holds;
   no_token = λ kind v rest stands token.
       class_no_token word_class taken (λ other. word_spells ⊥ w taken.is (λ name. name.free (excluded_is_c99 w h)) (λ among. excluded_is_no_keyword w h among) other) kind v rest stands token;
 }
+word_misfit cause i w j taken h = absurd h
 
 pub word_refused : (e : Misfit) (i w j : List ℕ) → IsLongest IsWord w i j → ReadsWord w (Err e) → ReadsToken i (Err e)
 word_refused OutOfMemory i w j taken h = tt

@@ -1,8 +1,9 @@
 -- Facts on the tables of words, by tests that compute.
-use Rattle.std.proofs.Common.{◌≡◌, ◌⊎◌, ◌<◌, ℕ, zero, suc, Bool, true, false, not, ◌&&◌, ◌||◌, nat_eq, nat_le, nat_lt, List, [], ◌∷◌, length, get_or, map, All, Contains, Option, Some, None, MatchOption, IsTrue, ◌↔◌, is_some, slice_get, Bor, refl, ap, sym, ◌∙◌, subst, inl, inr, ⊎_elim, arith}
+use Rattle.std.proofs.Common.{◌≡◌, ◌≢◌, ◌⊎◌, ◌<◌, ℕ, zero, suc, Bool, true, false, not, ◌&&◌, ◌||◌, Decides, nat_eq, nat_le, nat_lt, List, [], ◌∷◌, length, get_or, map, All, Contains, Option, Some, None, MatchOption, IsTrue, ◌↔◌, is_some, slice_get, Bor, refl, ap, sym, ◌∙◌, subst, inl, inr, ⊎_elim, arith}
 use Rattle.std.specs.Str.{bytes_eq}
 use Rattle.std.proofs.lemmas.Slice.Eq.{bytes_eq-Decides}
-use Rattle.std.proofs.lemmas.Bool.{false≢true, true≢false, and_parts, or_cases, or_parts, leb-true, le-leb, eqb-true, eq-eqb, ltb-true, not-true, both_ways, and_from, or_left, or_right}
+use Rattle.std.proofs.lemmas.Bool.{false≢true, and_parts, or_cases, or_parts, leb-true, le-leb, ltb-true, not-true, both_ways}
+use Rattle.std.proofs.lemmas.Bool.Decides.{Decides-and, Decides-or, Decides-not, Decides-ltb, Decides-eqb}
 use Rattle.std.proofs.lemmas.Option.{slice_get-get_or, slice_get_within, get_or_from_slice_get}
 use Rattle.std.proofs.lemmas.List.Elements.{All-nil, All-cons}
 use Rattle.dm_base.specs.Name.{IsLetter, IsDigit, keywords as all_keywords}
@@ -23,7 +24,7 @@ each_Contains : (test : List ℕ → Bool) (words : List (List ℕ)) (w : List �
 each_Contains test words w h (k, within, is) = each_at test words w w k h within is
 
 -- whether the text is one of the words
-abbrev is_among : List (List ℕ) → List ℕ → Bool
+abbrev pub is_among : List (List ℕ) → List ℕ → Bool
 is_among [] w = false
 is_among (x ∷ xs) w = bytes_eq x w || is_among xs w
 
@@ -39,7 +40,7 @@ among_false_at [] w d k h within is = absurd (omega arith)
 among_false_at (x ∷ xs) w d zero h within is = both_ways (bytes_eq x w) (or_parts (bytes_eq x w) (is_among xs w) h).0 ((bytes_eq-Decides x w).1 is)
 among_false_at (x ∷ xs) w d (suc k) h within is = among_false_at xs w d k (or_parts (bytes_eq x w) (is_among xs w) h).1 (omega arith) is
 
-among_false : (words : List (List ℕ)) (w : List ℕ) → is_among words w ≡ false → Contains words w → ⊥
+pub among_false : (words : List (List ℕ)) (w : List ℕ) → is_among words w ≡ false → Contains words w → ⊥
 among_false words w h (k, within, is) = among_false_at words w w k h within is
 
 abbrev is_letter : ℕ → Bool
@@ -48,25 +49,10 @@ is_letter b = (nat_le 65 b && nat_le b 90) || ((nat_le 97 b && nat_le b 122) || 
 abbrev is_digit : ℕ → Bool
 is_digit b = nat_le 48 b && nat_le b 57
 
-is_letter_true : (b : ℕ) → is_letter b ≡ true → IsLetter b
-is_letter_true b h =
-    ⊎_elim (λ big. let p = and_parts (nat_le 65 b) (nat_le b 90) big in inl (leb-true 65 b p.0, leb-true b 90 p.1))
-    (λ other.
-    ⊎_elim (λ small. let p = and_parts (nat_le 97 b) (nat_le b 122) small in inr (inl (leb-true 97 b p.0, leb-true b 122 p.1)))
-    (λ low. inr (inr (eqb-true b 95 low)))
-    (or_cases (nat_le 97 b && nat_le b 122) (nat_eq b 95) other))
-    (or_cases (nat_le 65 b && nat_le b 90) ((nat_le 97 b && nat_le b 122) || nat_eq b 95) h)
-
-letter_is : (b : ℕ) → IsLetter b → is_letter b ≡ true
-letter_is b (inl (low, high)) = or_left _ _ (and_from _ _ (le-leb 65 b low) (le-leb b 90 high))
-letter_is b (inr (inl (low, high))) = or_right _ _ (or_left _ _ (and_from _ _ (le-leb 97 b low) (le-leb b 122 high)))
-letter_is b (inr (inr is)) = or_right _ _ (or_right _ _ (eq-eqb b 95 is))
-
-is_letter_false : (b : ℕ) → is_letter b ≡ false → IsLetter b → ⊥
-is_letter_false b h letter = both_ways (is_letter b) h (letter_is b letter)
-
-is_digit_false : (b : ℕ) → is_digit b ≡ false → IsDigit b → ⊥
-is_digit_false b h (low, high) = true≢false (sym (ap (λ t. t && nat_le b 57) (le-leb 48 b low) ∙ le-leb b 57 high) ∙ h)
+letter_decides : (b : ℕ) → Decides (is_letter b) (IsLetter b)
+letter_decides b =
+    Decides-or _ _ (Decides-and _ _ (leb-true 65 b, le-leb 65 b) (leb-true b 90, le-leb b 90))
+    (Decides-or _ _ (Decides-and _ _ (leb-true 97 b, le-leb 97 b) (leb-true b 122, le-leb b 122)) (Decides-eqb b 95))
 
 -- whether the text has a first byte, which passes
 abbrev begins : (ℕ → Bool) → List ℕ → Bool
@@ -85,13 +71,13 @@ are_letters_true : (w : List ℕ) → are_letters w ≡ true → All IsWordByte 
 are_letters_true [] h = All-nil IsWordByte
 are_letters_true (b ∷ w) h =
     let p = and_parts (is_letter b) (are_letters w) h in
-    All-cons IsWordByte b w (inl (is_letter_true b p.0)) (are_letters_true w p.1)
+    All-cons IsWordByte b w (inl ((letter_decides b).0 p.0)) (are_letters_true w p.1)
 
 letters_are_word : (w : List ℕ) → 0 < length w → are_letters w ≡ true → IsWord w
 letters_are_word [] some h = omega arith
 letters_are_word (b ∷ w) some h =
     let p = and_parts (is_letter b) (are_letters w) h in
-    (is_letter_true b p.0, are_letters_true w p.1)
+    ((letter_decides b).0 p.0, are_letters_true w p.1)
 
 abbrev is_word : List ℕ → Bool
 is_word w = are_letters w && (nat_lt 1 (length w) && nat_lt (length w) 64)
@@ -135,6 +121,10 @@ pub excluded_is_c99 : (w : List ℕ) → Contains excluded_keywords w → Contai
 unfolding excluded_keywords
 excluded_is_c99 w h = among_true all_keywords w (each_Contains (λ v. is_among all_keywords v) excluded_keywords w refl h)
 
+pub keyword_is_c99 : (w : List ℕ) → Contains keywords w → Contains all_keywords w
+unfolding keywords
+keyword_is_c99 w h = among_true all_keywords w (each_Contains (λ v. is_among all_keywords v) keywords w refl h)
+
 pub excluded_is_no_keyword : (w : List ℕ) → Contains excluded_keywords w → Contains keywords w → ⊥
 unfolding keywords excluded_keywords
 excluded_is_no_keyword w h k = among_false keywords w (not-true (is_among keywords w) (each_Contains (λ v. not (is_among keywords v)) excluded_keywords w refl h)) k
@@ -142,24 +132,31 @@ excluded_is_no_keyword w h k = among_false keywords w (not-true (is_among keywor
 abbrev is_other : ℕ → Bool
 is_other b = not (is_letter b) && (not (is_digit b) && (not (nat_eq b 39) && not (nat_eq b 34)))
 
-is_other_true : (b : ℕ) → is_other b ≡ true → IsOther b
-is_other_true b h =
-    let p = and_parts (not (is_letter b)) (not (is_digit b) && (not (nat_eq b 39) && not (nat_eq b 34))) h in
-    let q = and_parts (not (is_digit b)) (not (nat_eq b 39) && not (nat_eq b 34)) p.1 in
-    let r = and_parts (not (nat_eq b 39)) (not (nat_eq b 34)) q.1 in
-    record {
-      no_letter = is_letter_false b (not-true (is_letter b) p.0);
-      no_digit = is_digit_false b (not-true (is_digit b) q.0);
-      no_single = λ e. both_ways (nat_eq b 39) (not-true (nat_eq b 39) r.0) (eq-eqb b 39 e);
-      no_double = λ e. both_ways (nat_eq b 34) (not-true (nat_eq b 34) r.1) (eq-eqb b 34 e);
-    }
+-- a byte that begins a punctuator: no white space and no # either
+pub record IsMark (b : ℕ) : Type 0 where
+  pub other : IsOther b
+  pub above : 32 < b
+  pub no_marker : b ≢ 35
+
+abbrev is_mark : ℕ → Bool
+is_mark b = is_other b && (nat_lt 32 b && not (nat_eq b 35))
+
+is_mark_true : (b : ℕ) → is_mark b ≡ true → IsMark b
+is_mark_true b h =
+    let digit = Decides-and _ _ (leb-true 48 b, le-leb 48 b) (leb-true b 57, le-leb b 57) in
+    let quotes = Decides-and _ _ (Decides-not _ (Decides-eqb b 39)) (Decides-not _ (Decides-eqb b 34)) in
+    let ((letter, (no_digit, (single, double))), (above, marker)) = (Decides-and (is_other b) _ (Decides-and _ _ (Decides-not _ (letter_decides b)) (Decides-and _ _ (Decides-not _ digit) quotes)) (Decides-and _ _ (Decides-ltb 32 b) (Decides-not _ (Decides-eqb b 35)))).0 h in
+    record { other = record { no_letter = letter; no_digit = no_digit; no_single = single; no_double = double }; above = above; no_marker = marker }
+
+pub punctuator_mark : (w : List ℕ) → Contains punctuators w → BeginsWith IsMark w
+unfolding punctuators
+punctuator_mark w h =
+    let f = begins_true is_mark w (each_Contains (begins is_mark) punctuators w refl h) in
+    (f.0, f.1, f.2, is_mark_true f.0 f.3)
 
 -- a punctuator begins with neither a letter, a digit nor a quote
 pub punctuator_begins : (w : List ℕ) → Contains punctuators w → BeginsWith IsOther w
-unfolding punctuators
-punctuator_begins w h =
-    let f = begins_true is_other w (each_Contains (begins is_other) punctuators w refl h) in
-    (f.0, f.1, f.2, is_other_true f.0 f.3)
+punctuator_begins w h = let f = punctuator_mark w h in (f.0, f.1, f.2, f.3.other)
 
 -- the first byte of a punctuator is one by itself
 pub punctuator_first : (b : ℕ) (w : List ℕ) → Contains punctuators (b ∷ w) → Contains punctuators (b ∷ [])
