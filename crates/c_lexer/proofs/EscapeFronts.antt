@@ -60,55 +60,44 @@ at_hexadecimal ds i j y is some ended e (hexadecimal {digits = es} _ all _) =
 at_hexadecimal ds i j y is some ended e a = omega arith
 
 -- what can't go on is the longest
-pub has_element : {q v : ℕ} {i j : List ℕ} → Front q i j v → HasElement q i j v
-has_element (a_plain {b} {j} p) = record {
-  text = b ∷ [];
-  element = plain p;
-  longest = record { is = (b, plain p); stands = refl; longest = λ x y e some. at_plain j y p e some.1 };
-}
-has_element (a_simple {c} {v} {j} s) = record {
-  text = 92 ∷ c ∷ [];
-  element = simple s;
-  longest = record { is = (v, simple s); stands = refl; longest = λ x y e some. at_simple j y s e some.1 };
-}
-has_element (an_octal digits {i} {j} {v} is some few low ended value) = record {
-  text = 92 ∷ digits;
-  element = octal some few low value;
-  longest = record { is = (v, octal some few low value); stands = ap (λ (w : List ℕ). 92 ∷ w) is; longest = λ x y e found. at_octal digits i j y is some low ended e found.1 };
-}
-has_element (a_hexadecimal digits {i} {j} {v} is some low ended value) = record {
-  text = 92 ∷ 120 ∷ digits;
-  element = hexadecimal some low value;
-  longest = record { is = (v, hexadecimal some low value); stands = ap (λ (w : List ℕ). 92 ∷ 120 ∷ w) is; longest = λ x y e found. at_hexadecimal digits i j y is some ended e found.1 };
+longest_element : {q v : ℕ} (w : List ℕ) {i j : List ℕ} → IsElement q w v → i ≡ w ++ j → ((x y : List ℕ) (u : ℕ) → i ≡ x ++ y → IsElement q x u → length x ≤ length w) → HasElement q i j v
+longest_element {v = v} w element stands longest = record {
+  text = w;
+  element = element;
+  longest = record { is = (v, element); stands = stands; longest = λ x y e some. longest x y some.0 e some.1 };
 }
 
--- the longest can't go on
+pub has_element : {q v : ℕ} {i j : List ℕ} → Front q i j v → HasElement q i j v
+has_element (a_plain {b} {j} p) = longest_element (b ∷ []) (plain p) refl (λ x y u e some. at_plain j y p e some)
+has_element (a_simple {c} {j = j} s) = longest_element (92 ∷ c ∷ []) (simple s) refl (λ x y u e some. at_simple j y s e some)
+has_element (an_octal digits {i} {j} is some few low ended value) =
+    longest_element (92 ∷ digits) (octal some few low value) (ap (λ (w : List ℕ). 92 ∷ w) is) (λ x y u e found. at_octal digits i j y is some low ended e found)
+has_element (a_hexadecimal digits {i} {j} is some low ended value) =
+    longest_element (92 ∷ 120 ∷ digits) (hexadecimal some low value) (ap (λ (w : List ℕ). 92 ∷ 120 ∷ w) is) (λ x y u e found. at_hexadecimal digits i j y is some ended e found)
+
+-- no digit follows the longest, where it is an element with one more
+no_digit_after : (q radix : ℕ) (w i j : List ℕ) → IsLongest (IsSomeElement q) w i j → ((b : ℕ) → digit_value b < radix → IsSomeElement q (w ++ b ∷ [])) → HasNoDigit radix j
+no_digit_after q radix w i j whole more =
+    elim (digit_first radix j) [
+      | inl ended ↦ ended
+      | inr (b, rest, is, low) ↦
+          let stands : i ≡ (w ++ b ∷ []) ++ rest = whole.stands ∙ ap (λ (x : List ℕ). w ++ x) is ∙ sym (append_assoc w (b ∷ []) rest) in
+          let bound = whole.longest (w ++ b ∷ []) rest stands (more b low) in
+          absurd (omega (arith, bound, length-append w (b ∷ [])))
+    ]
+
 octal_ended : (q : ℕ) (ds i j : List ℕ) → 1 ≤ length ds → length ds ≤ 3 → AllDigits 8 ds → IsLongest (IsSomeElement q) (92 ∷ ds) i j → (length ds ≡ 3) ⊎ HasNoDigit 8 j
 octal_ended q ds i j some few low whole =
-    elim (digit_first 8 j) [
-      | inl ended ↦ inr ended
-      | inr (b, rest, is, more) ↦ elim (cases_lt (length ds) 3) [
-        | inl short ↦
-            let stands : i ≡ (92 ∷ ds ++ b ∷ []) ++ rest = whole.stands ∙ ap (λ (w : List ℕ). 92 ∷ ds ++ w) is ∙ sym (append_assoc (92 ∷ ds) (b ∷ []) rest) in
-            let size : length (ds ++ b ∷ []) ≡ length ds + 1 = length-append ds (b ∷ []) in
-            let longer : IsSomeElement q (92 ∷ ds ++ b ∷ []) = (digits_value 8 (ds ++ b ∷ []), octal (omega arith) (omega arith) (digits_push 8 ds b low more) refl) in
-            let bound = whole.longest (92 ∷ ds ++ b ∷ []) rest stands longer in
-            absurd (omega arith)
-        | inr full ↦ inl (omega arith)
-      ]
+    elim (cases_lt (length ds) 3) [
+      | inl short ↦ inr (no_digit_after q 8 (92 ∷ ds) i j whole (λ b digit.
+          let size = length-append ds (b ∷ []) in
+          (digits_value 8 (ds ++ b ∷ []), octal (omega (arith, size)) (omega (arith, size)) (digits_push 8 ds b low digit) refl)))
+      | inr full ↦ inl (omega arith)
     ]
 
 hexadecimal_ended : (q : ℕ) (ds i j : List ℕ) → 1 ≤ length ds → AllDigits 16 ds → IsLongest (IsSomeElement q) (92 ∷ 120 ∷ ds) i j → HasNoDigit 16 j
 hexadecimal_ended q ds i j some low whole =
-    elim (digit_first 16 j) [
-      | inl ended ↦ ended
-      | inr (b, rest, is, more) ↦
-          let stands : i ≡ (92 ∷ 120 ∷ ds ++ b ∷ []) ++ rest = whole.stands ∙ ap (λ (w : List ℕ). 92 ∷ 120 ∷ ds ++ w) is ∙ sym (append_assoc (92 ∷ 120 ∷ ds) (b ∷ []) rest) in
-          let size : length (ds ++ b ∷ []) ≡ length ds + 1 = length-append ds (b ∷ []) in
-          let longer : IsSomeElement q (92 ∷ 120 ∷ ds ++ b ∷ []) = (digits_value 16 (ds ++ b ∷ []), hexadecimal (omega arith) (digits_push 16 ds b low more) refl) in
-          let bound = whole.longest (92 ∷ 120 ∷ ds ++ b ∷ []) rest stands longer in
-          absurd (omega arith)
-    ]
+    no_digit_after q 16 (92 ∷ 120 ∷ ds) i j whole (λ b digit. (digits_value 16 (ds ++ b ∷ []), hexadecimal (omega (arith, length-append ds (b ∷ []))) (digits_push 16 ds b low digit) refl))
 
 front_of : (q v : ℕ) (w i j : List ℕ) → IsElement q w v → IsLongest (IsSomeElement q) w i j → Front q i j v
 front_of q v w i j (plain {b = b} p) whole = subst (λ (k : List ℕ). Front q k j b) (sym whole.stands) (a_plain p)

@@ -19,25 +19,7 @@ use Rattle.c_lexer.proofs.WordTables.{keyword_is_fixed, punctuator_begins, numbe
 
 -- the bytes of the digits
 pub digit_is_word_byte : (c : ℕ) → digit_value c < 36 → IsWordByte c
-digit_is_word_byte c h =
-    ⊎_elim (λ low. absurd (let bad : 36 ≤ digit_value c = grind (arith, nat_tests) in omega arith))
-    (λ from_0.
-    ⊎_elim (λ digit. inr (from_0, omega arith))
-    (λ past.
-    ⊎_elim (λ mid. absurd (let bad : 36 ≤ digit_value c = grind (arith, nat_tests) in omega arith))
-    (λ from_a.
-    ⊎_elim (λ big. inl (inl (from_a, omega arith)))
-    (λ past_z.
-    ⊎_elim (λ mid. absurd (let bad : 36 ≤ digit_value c = grind (arith, nat_tests) in omega arith))
-    (λ from_b.
-    ⊎_elim (λ small. inl (inr (inl (from_b, omega arith))))
-    (λ high. absurd (let bad : 36 ≤ digit_value c = grind (arith, nat_tests) in omega arith))
-    (cases_lt c 123))
-    (cases_lt c 97))
-    (cases_lt c 91))
-    (cases_lt c 65))
-    (cases_lt c 58))
-    (cases_lt c 48)
+digit_is_word_byte c h = grind (arith, nat_tests)
 
 all_digits_bytes : (radix : ℕ) (w : List ℕ) → radix ≤ 36 → AllDigits radix w → All IsNumberByte w
 all_digits_bytes radix [] small h = All-nil IsNumberByte

@@ -1,5 +1,5 @@
 -- The elements up to a quote are the same whatever follows the quote.
-use Rattle.std.proofs.Common.{◌≡◌, ◌≢◌, ℕ, List, [], ◌∷◌, ◌++◌, refl, sym, ◌∙◌, ap, subst, inl, inr, append_assoc}
+use Rattle.std.proofs.Common.{◌≡◌, ◌≢◌, ℕ, List, [], ◌∷◌, ◌++◌, refl, sym, ◌∙◌, ap, subst, inl, inr, ⊎_elim, append_assoc}
 use Rattle.c_lexer.specs.Elements.{HasNoDigit}
 use Rattle.c_lexer.specs.Literals.{HasElement, HasElements, IsCharacter, IsString}
 use Rattle.c_lexer.specs.Literals.HasElements.{none, more}
@@ -19,10 +19,8 @@ no_digit_front radix (b ∷ j) r some ended = ended
 front_append : {q v : ℕ} {i j : List ℕ} (r : List ℕ) → j ≢ [] → Front q i j v → Front q (i ++ r) (j ++ r) v
 front_append r some (a_plain p) = a_plain p
 front_append r some (a_simple s) = a_simple s
-front_append r some (an_octal digits {j = j} is one few low (inl full) value) =
-    an_octal digits (ap (λ (x : List ℕ). x ++ r) is ∙ append_assoc digits j r) one few low (inl full) value
-front_append r some (an_octal digits {j = j} is one few low (inr ended) value) =
-    an_octal digits (ap (λ (x : List ℕ). x ++ r) is ∙ append_assoc digits j r) one few low (inr (no_digit_append 8 j r some ended)) value
+front_append r some (an_octal digits {j = j} is one few low ended value) =
+    an_octal digits (ap (λ (x : List ℕ). x ++ r) is ∙ append_assoc digits j r) one few low (⊎_elim inl (λ last. inr (no_digit_append 8 j r some last)) ended) value
 front_append r some (a_hexadecimal digits {j = j} is one low ended value) =
     a_hexadecimal digits (ap (λ (x : List ℕ). x ++ r) is ∙ append_assoc digits j r) one low (no_digit_append 16 j r some ended) value
 
@@ -33,15 +31,10 @@ CutFront q i j r v = (front : List ℕ) × (i ≡ front ++ r) × Front q front j
 front_cut : {q v : ℕ} {i k : List ℕ} (j r : List ℕ) → j ≢ [] → k ≡ j ++ r → Front q i k v → CutFront q i j r v
 front_cut j r some e (a_plain {b = b} p) = (b ∷ j, ap (λ (x : List ℕ). b ∷ x) e, a_plain p)
 front_cut j r some e (a_simple {c = c} s) = (92 ∷ c ∷ j, ap (λ (x : List ℕ). 92 ∷ c ∷ x) e, a_simple s)
-front_cut j r some e (an_octal digits is one few low (inl full) value) = (
+front_cut j r some e (an_octal digits is one few low ended value) = (
   92 ∷ digits ++ j,
   ap (λ (x : List ℕ). 92 ∷ x) (is ∙ ap (λ (x : List ℕ). digits ++ x) e ∙ sym (append_assoc digits j r)),
-  an_octal digits refl one few low (inl full) value,
-)
-front_cut j r some e (an_octal digits is one few low (inr ended) value) = (
-  92 ∷ digits ++ j,
-  ap (λ (x : List ℕ). 92 ∷ x) (is ∙ ap (λ (x : List ℕ). digits ++ x) e ∙ sym (append_assoc digits j r)),
-  an_octal digits refl one few low (inr (no_digit_front 8 j r some (subst (λ (x : List ℕ). HasNoDigit 8 x) e ended))) value,
+  an_octal digits refl one few low (⊎_elim inl (λ last. inr (no_digit_front 8 j r some (subst (λ (x : List ℕ). HasNoDigit 8 x) e last))) ended) value,
 )
 front_cut j r some e (a_hexadecimal digits is one low ended value) = (
   92 ∷ 120 ∷ digits ++ j,

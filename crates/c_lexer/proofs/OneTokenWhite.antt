@@ -74,9 +74,8 @@ block_starts w rest h = (_, ap (λ v. v ++ rest) h.is)
 marker_starts : (front w rest : List ℕ) → IsLineMarker front w rest → (t : List ℕ) × (w ++ rest ≡ 35 ∷ t)
 marker_starts front w rest h = (_, ap (λ v. v ++ rest) h.is)
 
-blank_low : (b : ℕ) → IsBlank b → 33 ≤ b → ⊥
-blank_low b (inl h) above = omega arith
-blank_low b (inr h) above = omega arith
+pub blank_low : (b : ℕ) → IsBlank b → 33 ≤ b → ⊥
+blank_low b h above = grind arith
 
 first_above : (kind : TokenKind) (b : ℕ) → FirstOf kind b → 33 ≤ b
 first_above kind b first = ⊎_elim (λ low. absurd (first_no_blank kind b first (omega arith))) (λ above. above) (cases_lt b 33)

@@ -14,6 +14,7 @@ use Rattle.c_lexer.specs.TokenSpelling.{IsBlank, IsInLine, IsLineEnd, BeginsBloc
 use Rattle.c_lexer.specs.Refusals.{BeginsNoToken, Holds}
 use Rattle.c_lexer.specs.Reading.{HasNoWhite, ReadsWhite}
 use Rattle.c_lexer.specs.WhiteParts.{IsLine, IsCommentEnd, IsMarkerHead, BeginsMarker}
+use Rattle.c_lexer.proofs.OneTokenWhite.{blank_low}
 use Rattle.c_lexer.proofs.OneTokenBegins.{spelled_first, first_no_marker}
 
 pub blank_reads : (front i : List ℕ) → 0 < length i → IsBlank (get_or i 0 0) → ReadsWhite front i (Ok (Some 1))
@@ -100,29 +101,16 @@ no_lower_than_open i begins other low holds = omega arith
 pub first_byte : (i r s : List ℕ) (a b : ℕ) → i ≡ a ∷ r → i ≡ b ∷ s → a ≡ b
 first_byte i r s a b e f = cc
 
-pub first_below : (i r s : List ℕ) (a b : ℕ) → a < b → i ≡ a ∷ r → i ≡ b ∷ s → ⊥
-first_below i r s a b low e f = omega (arith, first_byte i r s a b e f)
-
-first_above : (i r s : List ℕ) (a b : ℕ) → b < a → i ≡ a ∷ r → i ≡ b ∷ s → ⊥
-first_above i r s a b low e f = omega (arith, first_byte i r s a b e f)
-
-second_byte : (i r s : List ℕ) (a b c d : ℕ) → i ≡ a ∷ c ∷ r → i ≡ b ∷ d ∷ s → c ≡ d
-second_byte i r s a b c d e f = cc
-
-second_below : (i r s : List ℕ) (a b c d : ℕ) → c < d → i ≡ a ∷ c ∷ r → i ≡ b ∷ d ∷ s → ⊥
-second_below i r s a b c d low e f = omega (arith, second_byte i r s a b c d e f)
-
-blank_no_slash : (b : ℕ) → IsBlank b → b ≡ 47 → ⊥
-blank_no_slash b (inl h) e = omega arith
-blank_no_slash b (inr h) e = omega arith
+first_apart : (i r s : List ℕ) (a b : ℕ) → a ≢ b → i ≡ a ∷ r → i ≡ b ∷ s → ⊥
+first_apart i r s a b other e f = other (first_byte i r s a b e f)
 
 no_white_in_open : (front i : List ℕ) → BeginsBlockComment i → ((before : List ℕ) → HasEndAfter before (drop 2 i) → ⊥) → HasNoWhite front i
-no_white_in_open front i begins none w rest is (blank {b} h) = let e = begins.1 in let same : b ≡ 47 = cc in blank_no_slash b h same
-no_white_in_open front i begins none w rest is (line_comment h) = second_below i begins.0 _ 47 47 42 47 (omega arith) begins.1 (is ∙ ap (λ v. v ++ rest) h.0.1)
+no_white_in_open front i begins none w rest is (blank {b} h) = blank_low b h (omega (arith, first_byte i _ _ b 47 is begins.1))
+no_white_in_open front i begins none w rest is (line_comment h) = absurd (let second : 42 ≡ 47 = ap (λ v. get_or v 1 0) (sym begins.1 ∙ is ∙ ap (λ v. v ++ rest) h.0.1) in omega arith)
 no_white_in_open front i begins none w rest is (block_comment h) =
     let e : drop 2 i ≡ (h.inner ++ 42 ∷ 47 ∷ []) ++ rest = ap (drop 2) (is ∙ ap (λ v. v ++ rest) h.is) in
     none h.inner (rest, e ∙ append_assoc h.inner (42 ∷ 47 ∷ []) rest)
-no_white_in_open front i begins none w rest is (line_marker h) = first_below i _ _ 35 47 (omega arith) (is ∙ ap (λ v. v ++ rest) h.is) begins.1
+no_white_in_open front i begins none w rest is (line_marker h) = first_apart i _ _ 35 47 (omega arith) (is ∙ ap (λ v. v ++ rest) h.is) begins.1
 
 pub open_reads : (front i : List ℕ) → 2 ≤ length i → get_or i 0 0 ≡ 47 → get_or i 1 0 ≡ 42 → ((before : List ℕ) → HasEndAfter before (drop 2 i) → ⊥) → ReadsWhite front i (Err OpenComment)
 open_reads front i long e f none =
@@ -134,10 +122,6 @@ open_reads front i long e f none =
         no_token = λ kind w rest is token. token.no_block_comment (subst BeginsBlockComment is begins);
       },
     )
-
-blank_no_hash : (b : ℕ) → IsBlank b → b ≡ 35 → ⊥
-blank_no_hash b (inl h) e = omega arith
-blank_no_hash b (inr h) e = omega arith
 
 -- a line marker
 marker_front : (w : List ℕ) → IsMarkerHead w → (line : List ℕ) (digits : List ℕ) → w ≡ 35 ∷ 32 ∷ digits ++ 32 ∷ 34 ∷ [] → w ++ line ≡ 35 ∷ 32 ∷ digits ++ 32 ∷ 34 ∷ line
@@ -179,9 +163,9 @@ marker_reads front i n m margin within head line =
 
 -- a # that begins no line marker
 no_white_at_hash : (front i r : List ℕ) → i ≡ 35 ∷ r → (EndsInMargin front → BeginsMarker i → ⊥) → HasNoWhite front i
-no_white_at_hash front i r begins none w rest is (blank {b} h) = blank_no_hash b h (first_byte i _ r b 35 is begins)
-no_white_at_hash front i r begins none w rest is (line_comment h) = first_below i r _ 35 47 (omega arith) begins (is ∙ ap (λ v. v ++ rest) h.0.1)
-no_white_at_hash front i r begins none w rest is (block_comment h) = first_below i r _ 35 47 (omega arith) begins (is ∙ ap (λ v. v ++ rest) h.is)
+no_white_at_hash front i r begins none w rest is (blank {b} h) = blank_low b h (omega (arith, first_byte i _ r b 35 is begins))
+no_white_at_hash front i r begins none w rest is (line_comment h) = first_apart i r _ 35 47 (omega arith) begins (is ∙ ap (λ v. v ++ rest) h.0.1)
+no_white_at_hash front i r begins none w rest is (block_comment h) = first_apart i r _ 35 47 (omega arith) begins (is ∙ ap (λ v. v ++ rest) h.is)
 no_white_at_hash front i r begins none w rest is (line_marker h) = none h.margin (
   35 ∷ 32 ∷ h.digits ++ 32 ∷ 34 ∷ [],
   h.name ++ rest,
@@ -195,14 +179,14 @@ no_run_at_hash First Later (b ∷ w) rest r run is = let same : b ≡ 35 = cc in
 
 no_lower_than_marker : (r : List ℕ) (other : Cause) → code_of other < 5 → Holds other (35 ∷ r) → ⊥
 no_lower_than_marker r ForeignByte low (b, rest, is, no_hash, none) = no_hash (cc)
-no_lower_than_marker r OpenComment low holds = first_below (35 ∷ r) r _ 35 47 (omega arith) refl holds.0.1
+no_lower_than_marker r OpenComment low holds = first_apart (35 ∷ r) r _ 35 47 (omega arith) refl holds.0.1
 no_lower_than_marker r Malformed low (inl (w, whole, none)) = let digit : IsDigit 35 = no_run_at_hash IsDigit IsNumberByte w whole.0 r whole.1.is whole.1.stands in omega arith
-no_lower_than_marker r Malformed low (inr (inl (rest, is, none))) = first_below (35 ∷ r) r rest 35 39 (omega arith) refl is
-no_lower_than_marker r Malformed low (inr (inr (inl (rest, is, none)))) = first_above (35 ∷ r) r rest 35 34 (omega arith) refl is
+no_lower_than_marker r Malformed low (inr (inl (rest, is, none))) = first_apart (35 ∷ r) r rest 35 39 (omega arith) refl is
+no_lower_than_marker r Malformed low (inr (inr (inl (rest, is, none)))) = first_apart (35 ∷ r) r rest 35 34 (omega arith) refl is
 no_lower_than_marker r Malformed low (inr (inr (inr (w, whole, long)))) = (let letter : IsLetter 35 = no_run_at_hash IsLetter IsWordByte w whole.0 r whole.1.is whole.1.stands in grind arith)
 no_lower_than_marker r TooLarge low (inl (w, n, decimal, suffixed, whole, constant, untyped)) = let digit : IsDigit 35 = no_run_at_hash IsDigit IsNumberByte w whole.0 r whole.1.is whole.1.stands in omega arith
-no_lower_than_marker r TooLarge low (inr (w, after, vs, is, inl string, large)) = first_above (35 ∷ r) r _ 35 34 (omega arith) refl (is ∙ ap (λ v. v ++ after) string.1)
-no_lower_than_marker r TooLarge low (inr (w, after, vs, is, inr (v, same, character), large)) = first_below (35 ∷ r) r _ 35 39 (omega arith) refl (is ∙ ap (λ v. v ++ after) character.1)
+no_lower_than_marker r TooLarge low (inr (w, after, vs, is, inl string, large)) = first_apart (35 ∷ r) r _ 35 34 (omega arith) refl (is ∙ ap (λ v. v ++ after) string.1)
+no_lower_than_marker r TooLarge low (inr (w, after, vs, is, inr (v, same, character), large)) = first_apart (35 ∷ r) r _ 35 39 (omega arith) refl (is ∙ ap (λ v. v ++ after) character.1)
 no_lower_than_marker r other low holds = omega arith
 
 no_token_at_hash : (i r : List ℕ) → i ≡ 35 ∷ r → (kind : TokenKind) (w rest : List ℕ) → i ≡ w ++ rest → IsToken kind w rest → ⊥

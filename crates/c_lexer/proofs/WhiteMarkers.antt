@@ -13,16 +13,15 @@ pub record PairAt (a : List ℕ) (n : ℕ) : Type 0 where
   pub space : get_or a n 0 ≡ 32
   pub quote : get_or a (n + 1) 0 ≡ 34
 
-pair_rest : (a : List ℕ) (n : ℕ) → PairAt a n → drop n a ≡ 32 ∷ 34 ∷ drop (n + 1 + 1) a
-pair_rest a n at =
-    let within : n + 2 ≤ length a = at.within in
-    let low : n < length a = omega arith in
-    let next : n + 1 < length a = omega arith in
-    let one : drop n a ≡ get_or a n 0 ∷ drop (n + 1) a = drop_more a n 0 low in
-    let two : drop (n + 1) a ≡ get_or a (n + 1) 0 ∷ drop (n + 1 + 1) a = drop_more a (n + 1) 0 next in
-    let space : get_or a n 0 ≡ 32 = at.space in
-    let quote : get_or a (n + 1) 0 ≡ 34 = at.quote in
+-- two bytes that stand at a place begin what is left from there
+pub two_left : (a : List ℕ) (n b c : ℕ) → n + 1 < length a → get_or a n 0 ≡ b → get_or a (n + 1) 0 ≡ c → drop n a ≡ b ∷ c ∷ drop (n + 1 + 1) a
+two_left a n b c within first second =
+    let one : drop n a ≡ get_or a n 0 ∷ drop (n + 1) a = drop_more a n 0 (omega arith) in
+    let two : drop (n + 1) a ≡ get_or a (n + 1) 0 ∷ drop (n + 1 + 1) a = drop_more a (n + 1) 0 within in
     cc
+
+pair_rest : (a : List ℕ) (n : ℕ) → PairAt a n → drop n a ≡ 32 ∷ 34 ∷ drop (n + 1 + 1) a
+pair_rest a n at = two_left a n 32 34 (omega (arith, at.within)) at.space at.quote
 
 pair_after : (digits rest : List ℕ) → PairAt (digits ++ 32 ∷ 34 ∷ rest) (length digits)
 pair_after digits rest = record {

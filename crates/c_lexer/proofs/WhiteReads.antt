@@ -2,10 +2,11 @@
 use Rattle.std.proofs.Common.{◌≡◌, ◌≢◌, ℕ, ◌+◌, ◌<◌, ◌≤◌, List, [], ◌∷◌, ◌++◌, length, get_or, take, drop, refl, sym, ap, ◌∙◌, ⊎_elim, arith}
 use Rattle.std.specs.Prelude.{◌==◌, false}
 use Rattle.std.proofs.lemmas.Bool.{cases_order}
-use Rattle.std.proofs.lemmas.List.{drop_more, take-append-drop}
+use Rattle.std.proofs.lemmas.List.{take-append-drop}
 use Rattle.c_lexer.specs.TokenSpelling.{IsLineEnd, HasEndAfter}
 use Rattle.c_lexer.specs.Runs.{IsRunLength}
 use Rattle.c_lexer.specs.WhiteParts.{IsLine, IsCommentEnd}
+use Rattle.c_lexer.proofs.WhiteMarkers.{two_left}
 
 line_end_of : (l : List ℕ) → ((b : ℕ) (rest : List ℕ) → l ≡ b ∷ rest → b ≢ 10 → ⊥) → IsLineEnd l
 line_end_of [] ends = tt
@@ -26,15 +27,7 @@ pub record EndsAt (i : List ℕ) (n : ℕ) : Type 0 where
   pub slash : get_or i (n + 1) 0 ≡ 47
 
 pub end_from_EndsAt : (i : List ℕ) (n : ℕ) → EndsAt i n → HasEndAfter (take n i) i
-end_from_EndsAt i n at =
-    let within : n + 1 < length i = at.within in
-    let low : n < length i = omega arith in
-    let one : drop n i ≡ get_or i n 0 ∷ drop (n + 1) i = drop_more i n 0 low in
-    let two : drop (n + 1) i ≡ get_or i (n + 1) 0 ∷ drop (n + 1 + 1) i = drop_more i (n + 1) 0 within in
-    let star : get_or i n 0 ≡ 42 = at.star in
-    let slash : get_or i (n + 1) 0 ≡ 47 = at.slash in
-    let rest : drop n i ≡ 42 ∷ 47 ∷ drop (n + 1 + 1) i = cc in
-    (drop (n + 1 + 1) i, sym (take-append-drop n i) ∙ ap (λ r. take n i ++ r) rest)
+end_from_EndsAt i n at = (drop (n + 1 + 1) i, sym (take-append-drop n i) ∙ ap (λ r. take n i ++ r) (two_left i n 42 47 at.within at.star at.slash))
 
 pub IsCommentEnd-from_reads : (i : List ℕ) (n : ℕ) → EndsAt i n → ((front : List ℕ) → HasEndAfter front i → n ≤ length front) → IsCommentEnd i n
 IsCommentEnd-from_reads i n at before = record {

@@ -3,9 +3,11 @@ use Rattle.std.proofs.Common.{◌≡◌, ◌≢◌, ◌⊎◌, ◌<◌, ℕ, zer
 use Rattle.std.specs.Str.{bytes_eq}
 use Rattle.std.proofs.lemmas.Slice.Eq.{bytes_eq-Decides}
 use Rattle.std.proofs.lemmas.Bool.{false≢true, and_parts, or_cases, or_parts, leb-true, le-leb, ltb-true, not-true, both_ways}
-use Rattle.std.proofs.lemmas.Bool.Decides.{Decides-and, Decides-or, Decides-not, Decides-ltb, Decides-eqb}
+use Rattle.std.proofs.lemmas.Bool.Decides.{Decides-and, Decides-or, Decides-not, Decides-ltb, Decides-eqb, Decides-by_and, Decides-by_or, not_from_Decides}
 use Rattle.std.proofs.lemmas.Option.{slice_get-get_or, slice_get_within, get_or_from_slice_get}
-use Rattle.std.proofs.lemmas.List.Elements.{All-nil, All-cons}
+use Rattle.std.specs.List.{list_all}
+use Rattle.std.proofs.lemmas.List.Sums.{AllPass-from_list_all}
+use Rattle.std.proofs.lemmas.List.Elements.{All-contains, All-head, All-tail, All-weaker, Decides-contains}
 use Rattle.dm_base.specs.Name.{IsLetter, IsDigit, keywords as all_keywords}
 use Rattle.c_lexer.specs.Words.{IsWord, IsWordByte, keywords, excluded_keywords, punctuators}
 use Rattle.c_lexer.specs.Parts.{BeginsWith, IsOther}
@@ -15,33 +17,20 @@ abbrev pub each : (List ℕ → Bool) → List (List ℕ) → Bool
 each test [] = true
 each test (x ∷ xs) = test x && each test xs
 
-each_at : (test : List ℕ → Bool) (words : List (List ℕ)) (w d : List ℕ) (k : ℕ) → each test words ≡ true → k < length words → get_or words k d ≡ w → test w ≡ true
-each_at test [] w d k h within is = absurd (omega arith)
-each_at test (x ∷ xs) w d zero h within is = subst (λ v. test v ≡ true) is (and_parts (test x) (each test xs) h).0
-each_at test (x ∷ xs) w d (suc k) h within is = each_at test xs w d k (and_parts (test x) (each test xs) h).1 (omega arith) is
-
-each_Contains : (test : List ℕ → Bool) (words : List (List ℕ)) (w : List ℕ) → each test words ≡ true → Contains words w → test w ≡ true
-each_Contains test words w h (k, within, is) = each_at test words w w k h within is
+each_Contains : (test : List ℕ → Bool) (words : List (List ℕ)) (w : List ℕ) → list_all test words ≡ true → Contains words w → test w ≡ true
+each_Contains test words w h = All-contains (λ v. test v ≡ true) words w (AllPass-from_list_all test words h)
 
 -- whether the text is one of the words
 abbrev pub is_among : List (List ℕ) → List ℕ → Bool
 is_among [] w = false
 is_among (x ∷ xs) w = bytes_eq x w || is_among xs w
 
-among_true : (words : List (List ℕ)) (w : List ℕ) → is_among words w ≡ true → Contains words w
-among_true [] w h = absurd (false≢true h)
-among_true (x ∷ xs) w h =
-    ⊎_elim (λ here. (0, omega arith, (bytes_eq-Decides x w).0 here))
-    (λ later. let (k, within, is) = among_true xs w later in (suc k, omega arith, is))
-    (or_cases (bytes_eq x w) (is_among xs w) h)
-
-among_false_at : (words : List (List ℕ)) (w d : List ℕ) (k : ℕ) → is_among words w ≡ false → k < length words → get_or words k d ≡ w → ⊥
-among_false_at [] w d k h within is = absurd (omega arith)
-among_false_at (x ∷ xs) w d zero h within is = both_ways (bytes_eq x w) (or_parts (bytes_eq x w) (is_among xs w) h).0 ((bytes_eq-Decides x w).1 is)
-among_false_at (x ∷ xs) w d (suc k) h within is = among_false_at xs w d k (or_parts (bytes_eq x w) (is_among xs w) h).1 (omega arith) is
+among_decides : (words : List (List ℕ)) (w : List ℕ) → Decides (is_among words w) (Contains words w)
+among_decides words w =
+    Decides-contains words w (is_among words w) (Decides-by_or (λ x. bytes_eq x w) (λ x. x ≡ w) (λ xs. is_among xs w) (λ x. bytes_eq-Decides x w) refl (λ _ _. refl) words)
 
 pub among_false : (words : List (List ℕ)) (w : List ℕ) → is_among words w ≡ false → Contains words w → ⊥
-among_false words w h (k, within, is) = among_false_at words w w k h within is
+among_false words w = not_from_Decides (is_among words w) (among_decides words w)
 
 abbrev is_letter : ℕ → Bool
 is_letter b = (nat_le 65 b && nat_le b 90) || ((nat_le 97 b && nat_le b 122) || nat_eq b 95)
@@ -67,17 +56,11 @@ abbrev are_letters : List ℕ → Bool
 are_letters [] = true
 are_letters (b ∷ w) = is_letter b && are_letters w
 
-are_letters_true : (w : List ℕ) → are_letters w ≡ true → All IsWordByte w
-are_letters_true [] h = All-nil IsWordByte
-are_letters_true (b ∷ w) h =
-    let p = and_parts (is_letter b) (are_letters w) h in
-    All-cons IsWordByte b w (inl ((letter_decides b).0 p.0)) (are_letters_true w p.1)
-
 letters_are_word : (w : List ℕ) → 0 < length w → are_letters w ≡ true → IsWord w
 letters_are_word [] some h = omega arith
 letters_are_word (b ∷ w) some h =
-    let p = and_parts (is_letter b) (are_letters w) h in
-    ((letter_decides b).0 p.0, are_letters_true w p.1)
+    let all = (Decides-by_and is_letter IsLetter are_letters letter_decides refl (λ _ _. refl) (b ∷ w)).0 h in
+    (All-head IsLetter b w all, All-weaker IsLetter IsWordByte (λ c letter. inl letter) w (All-tail IsLetter b w all))
 
 abbrev is_word : List ℕ → Bool
 is_word w = are_letters w && (nat_lt 1 (length w) && nat_lt (length w) 64)
@@ -114,16 +97,16 @@ c99_is_fixed w h = fixed_from_test w (each_Contains is_word all_keywords w refl 
 pub c99_keyword : (w : List ℕ) → Contains all_keywords w → Contains keywords w ⊎ Contains excluded_keywords w
 unfolding keywords excluded_keywords
 c99_keyword w h =
-    ⊎_elim (λ one. inl (among_true keywords w one)) (λ other. inr (among_true excluded_keywords w other))
+    ⊎_elim (λ one. inl ((among_decides keywords w).0 one)) (λ other. inr ((among_decides excluded_keywords w).0 other))
     (or_cases (is_among keywords w) (is_among excluded_keywords w) (each_Contains (λ v. is_among keywords v || is_among excluded_keywords v) all_keywords w refl h))
 
 pub excluded_is_c99 : (w : List ℕ) → Contains excluded_keywords w → Contains all_keywords w
 unfolding excluded_keywords
-excluded_is_c99 w h = among_true all_keywords w (each_Contains (λ v. is_among all_keywords v) excluded_keywords w refl h)
+excluded_is_c99 w h = (among_decides all_keywords w).0 (each_Contains (λ v. is_among all_keywords v) excluded_keywords w refl h)
 
 pub keyword_is_c99 : (w : List ℕ) → Contains keywords w → Contains all_keywords w
 unfolding keywords
-keyword_is_c99 w h = among_true all_keywords w (each_Contains (λ v. is_among all_keywords v) keywords w refl h)
+keyword_is_c99 w h = (among_decides all_keywords w).0 (each_Contains (λ v. is_among all_keywords v) keywords w refl h)
 
 pub excluded_is_no_keyword : (w : List ℕ) → Contains excluded_keywords w → Contains keywords w → ⊥
 unfolding keywords excluded_keywords
@@ -161,7 +144,7 @@ punctuator_begins w h = let f = punctuator_mark w h in (f.0, f.1, f.2, f.3.other
 -- the first byte of a punctuator is one by itself
 pub punctuator_first : (b : ℕ) (w : List ℕ) → Contains punctuators (b ∷ w) → Contains punctuators (b ∷ [])
 unfolding punctuators
-punctuator_first b w h = among_true punctuators (b ∷ []) (each_Contains (begins (λ c. is_among punctuators (c ∷ []))) punctuators (b ∷ w) refl h)
+punctuator_first b w h = (among_decides punctuators (b ∷ [])).0 (each_Contains (begins (λ c. is_among punctuators (c ∷ []))) punctuators (b ∷ w) refl h)
 
 -- a word by its number
 pub number_Contains : (words : List (List ℕ)) (k : ℕ) (w : List ℕ) → slice_get words k ≡ Some w → Contains words w
