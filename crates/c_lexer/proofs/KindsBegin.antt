@@ -17,37 +17,34 @@ use Rattle.c_lexer.specs.Parts.{BeginsWith, IsOther}
 use Rattle.c_lexer.proofs.LiteralOne.{same_parts}
 use Rattle.c_lexer.proofs.WordTables.{keyword_is_fixed, punctuator_begins, number_Contains}
 
+pub whole_begins : (P : ℕ → Type 0) (i w j : List ℕ) → i ≡ w ++ j → BeginsWith P w → BeginsWith P i
+whole_begins P i w j stands (b, rest, is, h) = (b, rest ++ j, stands ∙ ap (λ v. v ++ j) is, h)
+
 -- the bytes of the digits
 pub digit_is_word_byte : (c : ℕ) → digit_value c < 36 → IsWordByte c
 digit_is_word_byte c h = grind (arith, nat_tests)
 
-all_digits_bytes : (radix : ℕ) (w : List ℕ) → radix ≤ 36 → AllDigits radix w → All IsNumberByte w
-all_digits_bytes radix [] small h = All-nil IsNumberByte
-all_digits_bytes radix (c ∷ w) small h = All-cons IsNumberByte c w (inl (digit_is_word_byte c (omega (arith, h.0)))) (all_digits_bytes radix w small h.1)
-
 x_is_number_byte : (x : ℕ) → (x ≡ 120) ⊎ (x ≡ 88) → IsNumberByte x
-x_is_number_byte x (inl is) = inl (inl (inr (inl (omega arith, omega arith))))
-x_is_number_byte x (inr is) = inl (inl (inl (omega arith, omega arith)))
+x_is_number_byte x h = grind arith
 
-decimal_is_number : (w : List ℕ) (n : ℕ) → IsDecimal w n → IsNumber w
-decimal_is_number [] n h = absurd h
-decimal_is_number (d ∷ w) n h = (digit_from_value d h.1.0, all_digits_bytes 10 w (omega arith) h.1.1)
+-- a predicate that digits and x have holds of each byte of a number
+module _ (P : ℕ → Type 0) (digit : (b : ℕ) → digit_value b < 16 → P b) (mark : (x : ℕ) → (x ≡ 120) ⊎ (x ≡ 88) → P x) where
+  digits_all : (radix : ℕ) (w : List ℕ) → radix ≤ 16 → AllDigits radix w → All P w
+  digits_all radix [] small h = All-nil P
+  digits_all radix (c ∷ w) small h = All-cons P c w (digit c (omega (arith, h.0))) (digits_all radix w small h.1)
 
-octal_is_number : (w : List ℕ) (n : ℕ) → IsOctal w n → IsNumber w
-octal_is_number w n (digits, is, each, _) = subst IsNumber (sym is) ((omega arith, omega arith), all_digits_bytes 8 digits (omega arith) each)
+  pub number_all : (w : List ℕ) (n : ℕ) (decimal : Bool) → HasNumber w n decimal → All P w
+  number_all [] n true h = absurd h
+  number_all (d ∷ w) n true h = digits_all 10 (d ∷ w) (omega arith) h.1
+  number_all w n false (inl (digits, is, each, _)) = subst (All P) (sym is) (All-cons P 48 digits (digit 48 (omega arith)) (digits_all 8 digits (omega arith) each))
+  number_all w n false (inr (x, digits, is, marks, _, each, _)) =
+      subst (All P) (sym is) (All-cons P 48 (x ∷ digits) (digit 48 (omega arith)) (All-cons P x digits (mark x marks) (digits_all 16 digits (omega arith) each)))
 
-hexadecimal_is_number : (w : List ℕ) (n : ℕ) → IsHexadecimal w n → IsNumber w
-hexadecimal_is_number w n (x, digits, is, marks, _, each, _) =
-    subst IsNumber (sym is) ((omega arith, omega arith), All-cons IsNumberByte x digits (x_is_number_byte x marks) (all_digits_bytes 16 digits (omega arith) each))
-
-has_number_is_number : (w : List ℕ) (n : ℕ) (decimal : Bool) → HasNumber w n decimal → IsNumber w
-has_number_is_number w n true h = decimal_is_number w n h
-has_number_is_number w n false (inl h) = octal_is_number w n h
-has_number_is_number w n false (inr h) = hexadecimal_is_number w n h
-
-number_append : (w v : List ℕ) → IsNumber w → All IsNumberByte v → IsNumber (w ++ v)
-number_append [] v h each = absurd h
-number_append (b ∷ w) v h each = (h.0, All-append IsNumberByte w v h.1 each)
+number_starts : (w : List ℕ) (n : ℕ) (decimal : Bool) → HasNumber w n decimal → BeginsWith IsDigit w
+number_starts [] n true h = absurd h
+number_starts (d ∷ w) n true h = (d, w, refl, digit_from_value d h.1.0)
+number_starts w n false (inl (digits, is, _, _)) = (48, digits, is, (omega arith, omega arith))
+number_starts w n false (inr (x, digits, is, _, _, _, _)) = (48, x ∷ digits, is, (omega arith, omega arith))
 
 suffix_bytes : (v : List ℕ) (suffixed : Bool) → IsSuffix suffixed v → All IsNumberByte v
 suffix_bytes v true (inl is) = subst (All IsNumberByte) (sym is) (All-cons IsNumberByte 117 [] (inl (inl (inr (inl (omega arith, omega arith))))) (All-nil IsNumberByte))
@@ -56,7 +53,10 @@ suffix_bytes v false is = subst (All IsNumberByte) (sym is) (All-nil IsNumberByt
 
 pub constant_is_number : (w : List ℕ) (n : ℕ) (decimal suffixed : Bool) → IsConstant w n decimal suffixed → IsNumber w
 constant_is_number w n decimal suffixed c =
-    subst IsNumber (sym c.is) (number_append c.digits c.suffix (has_number_is_number c.digits n decimal c.number) (suffix_bytes c.suffix suffixed c.ended))
+    let (b, rest, is, first) = whole_begins IsDigit w c.digits c.suffix c.is (number_starts c.digits n decimal c.number) in
+    let digits = number_all IsNumberByte (λ c h. inl (digit_is_word_byte c (omega arith))) x_is_number_byte c.digits n decimal c.number in
+    let all = All-append IsNumberByte c.digits c.suffix digits (suffix_bytes c.suffix suffixed c.ended) in
+    subst IsNumber (sym is) (first, All-tail IsNumberByte b rest (subst (All IsNumberByte) (sym c.is ∙ is) all))
 
 pub name_is_word : (w : List ℕ) → IsName w → IsWord w
 name_is_word [] name = absurd (omega (arith, name.some))
@@ -78,6 +78,9 @@ run_begins First Later (b ∷ w) h = (b, w, refl, h.0)
 
 pub same_first : (P : ℕ → Type 0) (i : List ℕ) (b : ℕ) (rest : List ℕ) → BeginsWith P i → i ≡ b ∷ rest → P b
 same_first P i b rest (c, more, is, h) e = let same : c ≡ b = cc in subst P same h
+
+pub front_has : (P : ℕ → Type 0) (w r i : List ℕ) (b : ℕ) → BeginsWith P w → w ++ r ≡ b ∷ i → P b
+front_has P w r i b first e = same_first P (w ++ r) b i (whole_begins P (w ++ r) w r refl first) e
 
 -- first bytes that differ
 pub first_apart : (P Q : ℕ → Type 0) (i : List ℕ) → ((b : ℕ) → P b → Q b → ⊥) → BeginsWith P i → BeginsWith Q i → ⊥
@@ -135,9 +138,6 @@ lexeme_some w (inr (inr (inr (inr h)))) = begins_some _ w (punctuator_begins w h
 pub front_begins : (P : ℕ → Type 0) (i w j : List ℕ) (b : ℕ) (rest : List ℕ) → i ≡ w ++ j → w ≡ b ∷ rest → BeginsWith P i → BeginsWith P w
 front_begins P i w j b rest stands is first =
     (b, rest, is, same_first P i b (rest ++ j) first (stands ∙ ap (λ v. v ++ j) is))
-
-pub whole_begins : (P : ℕ → Type 0) (i w j : List ℕ) → i ≡ w ++ j → BeginsWith P w → BeginsWith P i
-whole_begins P i w j stands (b, rest, is, h) = (b, rest ++ j, stands ∙ ap (λ v. v ++ j) is, h)
 
 -- A kind of text that is taken whole: what is taken whole and begins with such a byte is of this kind, and no comment begins so.
 pub record IsClass (First : ℕ → Type 0) (P : List ℕ → Type 0) : Type 0 where

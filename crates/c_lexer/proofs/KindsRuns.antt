@@ -9,6 +9,8 @@ use Rattle.std.proofs.lemmas.List.{drop_all, take_all, drop_more, length-take-le
 use Rattle.std.proofs.lemmas.List.Elements.{All-nil, All-cons, All-same, All-tail}
 use Rattle.dm_base.specs.Name.{IsName, IsLetter, IsDigit}
 use Rattle.c_lexer.specs.declared.token.TokenKind.TheVariants.{Name, Int}
+use Rattle.c_lexer.specs.declared.error.Cause.{Cause}
+use Rattle.c_lexer.specs.Codes.{code_of}
 use Rattle.c_lexer.specs.declared.error.Cause.TheVariants.{ForeignByte, OpenComment, Malformed, TooLarge, NoLineMarker}
 use Rattle.c_lexer.specs.Words.{IsWord, IsNumber, IsRun, IsWordByte, IsNumberByte}
 use Rattle.c_lexer.specs.Literals.{IsLongest}
@@ -105,7 +107,17 @@ no_comment P i slash first ((rest, is), _) = slash (same_first P i 47 (42 ∷ re
 pub no_marker : (P : ℕ → Type 0) (i : List ℕ) → (P 35 → ⊥) → BeginsWith P i → Holds NoLineMarker i → ⊥
 no_marker P i sharp first (rest, is) = sharp (same_first P i 35 rest first is)
 
-whole_first : (First Later : ℕ → Type 0) (w i : List ℕ) → IsWhole (IsRun First Later) w i → BeginsWith First i
+-- where the first causes don't hold, no cause below another one does
+pub below_malformed : (i : List ℕ) → (Holds ForeignByte i → ⊥) → (Holds OpenComment i → ⊥) → (other : Cause) → code_of other < 3 → Holds other i → ⊥
+below_malformed i foreign comment ForeignByte low h = foreign h
+below_malformed i foreign comment OpenComment low h = comment h
+below_malformed i foreign comment other low h = omega arith
+
+pub below_large : (i : List ℕ) → (Holds ForeignByte i → ⊥) → (Holds OpenComment i → ⊥) → (Holds Malformed i → ⊥) → (other : Cause) → code_of other < 4 → Holds other i → ⊥
+below_large i foreign comment malformed Malformed low h = malformed h
+below_large i foreign comment malformed other low h = below_malformed i foreign comment other (omega arith) h
+
+pub whole_first : (First Later : ℕ → Type 0) (w i : List ℕ) → IsWhole (IsRun First Later) w i → BeginsWith First i
 whole_first First Later w i (rest, taken) = whole_begins First i w rest taken.stands (run_begins First Later w taken.is)
 
 pub large_element_begins : (i : List ℕ) → HasLargeElement i → BeginsWith IsQuote i

@@ -7,33 +7,13 @@ use Rattle.c_lexer.specs.Words.{punctuators, IsWord, IsNumber}
 use Rattle.c_lexer.specs.Literals.{IsCharacter, IsString, char_value}
 use Rattle.c_lexer.specs.Elements.{IsQuote}
 use Rattle.c_lexer.specs.Kinds.{IsByte, Spells, IsLexeme}
+use Rattle.dm_base.specs.Name.{IsLetter, IsDigit}
+use Rattle.c_lexer.specs.Words.{IsWordByte, IsNumberByte}
+use Rattle.c_lexer.specs.Parts.{IsOther}
+use Rattle.c_lexer.proofs.KindsBegin.{front_has, run_begins, character_begins, string_begins}
 use Rattle.c_lexer.proofs.KindsRuns.{letter_no_quote, digit_no_quote}
 use Rattle.c_lexer.proofs.OneTokenBegins.{FirstOf, spelled_first}
 use Rattle.c_lexer.proofs.WordTables.{punctuator_begins}
-
--- the text begins with a byte that is no quote
-abbrev pub BeginsOtherwise : List ℕ → Type 0
-BeginsOtherwise w = (b : ℕ) × (rest : List ℕ) × (w ≡ b ∷ rest) × (IsQuote b → ⊥)
-
-pub otherwise_apart : (q : ℕ) (w r i : List ℕ) → IsQuote q → BeginsOtherwise w → w ++ r ≡ q ∷ i → ⊥
-otherwise_apart q w r i quote (b, rest, is, other) e =
-    let same : b ≡ q = cc in
-    other (subst IsQuote (sym same) quote)
-
-pub word_otherwise : (w : List ℕ) → IsWord w → BeginsOtherwise w
-word_otherwise [] h = absurd h
-word_otherwise (b ∷ w) h = (b, w, refl, letter_no_quote b h.0)
-
-pub number_otherwise : (w : List ℕ) → IsNumber w → BeginsOtherwise w
-number_otherwise [] h = absurd h
-number_otherwise (b ∷ w) h = (b, w, refl, digit_no_quote b h.0)
-
-punctuator_otherwise : (w : List ℕ) → Contains punctuators w → BeginsOtherwise w
-punctuator_otherwise w h = let (b, rest, is, other) = punctuator_begins w h in (b, rest, is, ⊎_elim other.no_single other.no_double)
-
--- the first byte
-first_byte : (a b : ℕ) (w r i inner : List ℕ) → w ≡ a ∷ inner → w ++ r ≡ b ∷ i → a ≡ b
-first_byte a b w r i inner is e = cc
 
 -- what begins with a single quote is a character constant
 single_kind : (kind : TokenKind) (w : List ℕ) → FirstOf kind 39 → Spells kind w → (c : ℤ) × (v : ℕ) × (kind ≡ Char c) × IsCharacter w v × IsByte v × (c ≡ char_value v)
@@ -55,15 +35,15 @@ double_quoted kind w r i h e = double_kind kind w (spelled_first kind w r i 34 h
 
 -- the same of what is taken whole
 pub single_lexeme : (w r i : List ℕ) → IsLexeme w → w ++ r ≡ 39 ∷ i → (v : ℕ) × IsCharacter w v
-single_lexeme w r i (inl h) e = absurd (otherwise_apart 39 w r i (inl refl) (word_otherwise w h) e)
-single_lexeme w r i (inr (inl h)) e = absurd (otherwise_apart 39 w r i (inl refl) (number_otherwise w h) e)
+single_lexeme w r i (inl h) e = absurd (letter_no_quote 39 (front_has IsLetter w r i 39 (run_begins IsLetter IsWordByte w h) e) (inl refl))
+single_lexeme w r i (inr (inl h)) e = absurd (digit_no_quote 39 (front_has IsDigit w r i 39 (run_begins IsDigit IsNumberByte w h) e) (inl refl))
 single_lexeme w r i (inr (inr (inl h))) e = h
-single_lexeme w r i (inr (inr (inr (inl (vs, (inner, is, found)))))) e = absurd (omega (arith, first_byte 34 39 w r i inner is e))
-single_lexeme w r i (inr (inr (inr (inr h)))) e = absurd (otherwise_apart 39 w r i (inl refl) (punctuator_otherwise w h) e)
+single_lexeme w r i (inr (inr (inr (inl (vs, h))))) e = absurd (let q : 39 ≡ 34 = front_has (λ b. b ≡ 34) w r i 39 (string_begins w vs h) e in omega arith)
+single_lexeme w r i (inr (inr (inr (inr h)))) e = absurd ((front_has IsOther w r i 39 (punctuator_begins w h) e).no_single refl)
 
 pub double_lexeme : (w r i : List ℕ) → IsLexeme w → w ++ r ≡ 34 ∷ i → (vs : List ℕ) × IsString w vs
-double_lexeme w r i (inl h) e = absurd (otherwise_apart 34 w r i (inr refl) (word_otherwise w h) e)
-double_lexeme w r i (inr (inl h)) e = absurd (otherwise_apart 34 w r i (inr refl) (number_otherwise w h) e)
-double_lexeme w r i (inr (inr (inl (v, (inner, is, found))))) e = absurd (omega (arith, first_byte 39 34 w r i inner is e))
+double_lexeme w r i (inl h) e = absurd (letter_no_quote 34 (front_has IsLetter w r i 34 (run_begins IsLetter IsWordByte w h) e) (inr refl))
+double_lexeme w r i (inr (inl h)) e = absurd (digit_no_quote 34 (front_has IsDigit w r i 34 (run_begins IsDigit IsNumberByte w h) e) (inr refl))
+double_lexeme w r i (inr (inr (inl (v, h)))) e = absurd (let q : 34 ≡ 39 = front_has (λ b. b ≡ 39) w r i 34 (character_begins w v h) e in omega arith)
 double_lexeme w r i (inr (inr (inr (inl h)))) e = h
-double_lexeme w r i (inr (inr (inr (inr h)))) e = absurd (otherwise_apart 34 w r i (inr refl) (punctuator_otherwise w h) e)
+double_lexeme w r i (inr (inr (inr (inr h)))) e = absurd ((front_has IsOther w r i 34 (punctuator_begins w h) e).no_double refl)

@@ -7,20 +7,24 @@ use Rattle.std.proofs.lemmas.List.Elements.{All-nil}
 use Rattle.c_lexer.specs.declared.token.TokenKind.{TokenKind}
 use Rattle.c_lexer.specs.declared.token.TokenKind.TheVariants.{Char, Str}
 use Rattle.c_lexer.specs.declared.error.Cause.{Cause}
-use Rattle.c_lexer.specs.declared.error.Cause.TheVariants.{ForeignByte, OpenComment, Malformed, TooLarge, NoLineMarker, ExcludedKeyword}
+use Rattle.c_lexer.specs.declared.error.Cause.TheVariants.{ForeignByte, OpenComment, Malformed, TooLarge}
 use Rattle.c_lexer.specs.Codes.{code_of}
 use Rattle.c_lexer.specs.Literals.{IsPlain, HasElement, HasElements, IsCharacter, IsString, char_value}
 use Rattle.c_lexer.specs.Literals.HasElements.{none}
 use Rattle.c_lexer.specs.Elements.{IsQuote, HasNoElement}
-use Rattle.c_lexer.specs.Kinds.{IsByte, Spells}
+use Rattle.c_lexer.specs.Kinds.{IsByte, Spells, IsLexeme}
+use Rattle.c_lexer.specs.Words.{IsWordByte, IsNumberByte}
+use Rattle.dm_base.specs.Name.{IsLetter, IsDigit}
 use Rattle.c_lexer.specs.TokenSpelling.{IsToken}
-use Rattle.c_lexer.specs.Refusals.{BeginsNoToken, Holds}
+use Rattle.c_lexer.specs.Refusals.{BeginsNoToken, IsMalformedCharacter, IsMalformedString, Holds}
 use Rattle.c_lexer.specs.Reading.{IsMisfit}
 use Rattle.c_lexer.proofs.EscapeFronts.{has_element}
 use Rattle.c_lexer.proofs.EscapeFronts.Front.{a_plain}
 use Rattle.c_lexer.proofs.LiteralOne.{one_element, one_chain, one_ended, quote_no_element}
 use Rattle.c_lexer.proofs.LiteralParts.{character_parts, string_parts, character_from, string_from}
-use Rattle.c_lexer.proofs.LiteralFirst.{otherwise_apart, word_otherwise, number_otherwise, single_quoted, double_quoted, single_lexeme, double_lexeme}
+use Rattle.c_lexer.proofs.LiteralFirst.{single_quoted, double_quoted, single_lexeme, double_lexeme}
+use Rattle.c_lexer.proofs.KindsBegin.{same_first, spelled_is_lexeme}
+use Rattle.c_lexer.proofs.KindsRuns.{whole_first, letter_no_quote, digit_no_quote, below_malformed, below_large}
 
 -- a byte stands at a place
 abbrev pub At : List ℕ → ℕ → ℕ → Type 0
@@ -41,23 +45,6 @@ from_at first b n text rest is here =
     let found : At (first ∷ rest) (suc n) b = subst (λ (x : ℕ). At (first ∷ rest) x b) next (subst (λ (x : List ℕ). At x (n + 1) b) is here) in
     let within : n < length rest = omega (arith, found.0) in
     drop-cons rest n 0 within ∙ ap (λ (x : ℕ). x ∷ drop (suc n) rest) found.1
-
--- two literals at the front of one text
-same_string : (w x y z vs us : List ℕ) → w ++ y ≡ x ++ z → IsString w vs → IsString x us → (y ≡ z) × (vs ≡ us)
-same_string w x y z vs us e s t =
-    let (i, begins, found) = string_parts y s in
-    let (k, begins_too, found_too) = string_parts z t in
-    let same : i ≡ k = cc in
-    one_ended 34 (inr refl) found (subst (λ (p : List ℕ). HasElements 34 p (34 ∷ z) us) (sym same) found_too)
-
-same_character : (w x y z : List ℕ) (v u : ℕ) → w ++ y ≡ x ++ z → IsCharacter w v → IsCharacter x u → (y ≡ z) × (v ≡ u)
-same_character w x y z v u e s t =
-    let (i, begins, found) = character_parts y s in
-    let (k, begins_too, found_too) = character_parts z t in
-    let same : i ≡ k = cc in
-    let both = one_element found (subst (λ (p : List ℕ). HasElement 39 p (39 ∷ z) u) (sym same) found_too) in
-    let rests : 39 ∷ y ≡ 39 ∷ z = both.0 in
-    (cc, both.1)
 
 same_length : (w x y z : List ℕ) → w ++ y ≡ x ++ z → y ≡ z → length x ≤ length w
 same_length w x y z e f =
@@ -95,97 +82,17 @@ not_comment : (q : ℕ) (text rest : List ℕ) → IsQuote q → text ≡ q ∷ 
 not_comment q text rest quote is ((later, e), endless) = no_slash q text rest (42 ∷ later) quote is e
 
 least_malformed : (q : ℕ) (text rest : List ℕ) → IsQuote q → text ≡ q ∷ rest → (other : Cause) → code_of other < 3 → Holds other text → ⊥
-least_malformed q text rest quote is ForeignByte low h = not_foreign q text rest quote is h
-least_malformed q text rest quote is OpenComment low h = not_comment q text rest quote is h
-least_malformed q text rest quote is other low h = omega arith
-
--- a quote that begins no literal
-pub malformed_string : (text rest : List ℕ) → text ≡ 34 ∷ rest → ((w after vs : List ℕ) → text ≡ w ++ after → IsString w vs → ⊥) → IsMisfit Malformed text
-malformed_string text rest is odd = record {
-  holds = inr (inr (inl (rest, is, odd)));
-  least = least_malformed 34 text rest (inr refl) is;
-  no_token = λ kind w after e token.
-      (let (bytes, kinds, s, all) = double_quoted kind w after rest token.spells (sym e ∙ is) in odd w after bytes e s);
-}
-
-pub malformed_character : (text rest : List ℕ) → text ≡ 39 ∷ rest → ((w after : List ℕ) (v : ℕ) → text ≡ w ++ after → IsCharacter w v → ⊥) → IsMisfit Malformed text
-malformed_character text rest is odd = record {
-  holds = inr (inl (rest, is, odd));
-  least = least_malformed 39 text rest (inl refl) is;
-  no_token = λ kind w after e token.
-      (let (c, v, kinds, s, byte, value) = single_quoted kind w after rest token.spells (sym e ∙ is) in odd w after v e s);
-}
-
--- where a literal stands nothing is malformed
-not_malformed_string : (text rest w after vs : List ℕ) → text ≡ 34 ∷ rest → text ≡ w ++ after → IsString w vs → Holds Malformed text → ⊥
-not_malformed_string text rest w after vs is e s (inl (x, (y, whole), odd)) =
-    otherwise_apart 34 x y rest (inr refl) (number_otherwise x whole.is) (sym whole.stands ∙ is)
-not_malformed_string text rest w after vs is e s (inr (inl (x, f, odd))) = omega (arith, head_of 34 39 text rest x is f)
-not_malformed_string text rest w after vs is e s (inr (inr (inl (x, f, odd)))) = odd w after vs e s
-not_malformed_string text rest w after vs is e s (inr (inr (inr (x, (y, whole), long)))) =
-    otherwise_apart 34 x y rest (inr refl) (word_otherwise x whole.is) (sym whole.stands ∙ is)
-
-not_malformed_character : (text rest w after : List ℕ) (v : ℕ) → text ≡ 39 ∷ rest → text ≡ w ++ after → IsCharacter w v → Holds Malformed text → ⊥
-not_malformed_character text rest w after v is e s (inl (x, (y, whole), odd)) =
-    otherwise_apart 39 x y rest (inl refl) (number_otherwise x whole.is) (sym whole.stands ∙ is)
-not_malformed_character text rest w after v is e s (inr (inl (x, f, odd))) = odd w after v e s
-not_malformed_character text rest w after v is e s (inr (inr (inl (x, f, odd)))) = omega (arith, head_of 39 34 text rest x is f)
-not_malformed_character text rest w after v is e s (inr (inr (inr (x, (y, whole), long)))) =
-    otherwise_apart 39 x y rest (inl refl) (word_otherwise x whole.is) (sym whole.stands ∙ is)
+least_malformed q text rest quote is = below_malformed text (not_foreign q text rest quote is) (not_comment q text rest quote is)
 
 least_large : (q : ℕ) (text rest : List ℕ) → IsQuote q → text ≡ q ∷ rest → (Holds Malformed text → ⊥) → (other : Cause) → code_of other < 4 → Holds other text → ⊥
-least_large q text rest quote is formed ForeignByte low h = not_foreign q text rest quote is h
-least_large q text rest quote is formed OpenComment low h = not_comment q text rest quote is h
-least_large q text rest quote is formed Malformed low h = formed h
-least_large q text rest quote is formed other low h = omega arith
+least_large q text rest quote is = below_large text (not_foreign q text rest quote is) (not_comment q text rest quote is)
 
--- a literal with a value above 255
-not_bytes : (vs bytes : List ℕ) → vs ≡ bytes → Any (λ v. 255 < v) vs → All IsByte bytes → ⊥
-not_bytes vs bytes e (k, x, within, is, large) all =
-    let size = ap length e in
-    let low : get_or bytes k x ≤ 255 = all k x (omega (arith, size, within)) in
-    let same : get_or vs k x ≡ get_or bytes k x = ap (λ (y : List ℕ). get_or y k x) e in
-    omega (arith, same, is, large)
-
-pub large_string : (text rest w after vs : List ℕ) → text ≡ 34 ∷ rest → text ≡ w ++ after → IsString w vs → Any (λ v. 255 < v) vs → IsMisfit TooLarge text
-large_string text rest w after vs is e s any = record {
-  holds = inr (w, after, vs, e, inl s, any);
-  least = least_large 34 text rest (inr refl) is (not_malformed_string text rest w after vs is e s);
-  no_token = λ kind x y f token.
-      (let (bytes, kinds, t, all) = double_quoted kind x y rest token.spells (sym f ∙ is) in
-      not_bytes vs bytes (same_string w x after y vs bytes (sym e ∙ f) s t).1 any all);
-}
-
-pub large_character : (text rest w after : List ℕ) (v : ℕ) → text ≡ 39 ∷ rest → text ≡ w ++ after → IsCharacter w v → 255 < v → IsMisfit TooLarge text
-large_character text rest w after v is e s large = record {
-  holds = inr (w, after, v ∷ [], e, inr (v, refl, s), (0, v, omega arith, refl, large));
-  least = least_large 39 text rest (inl refl) is (not_malformed_character text rest w after v is e s);
-  no_token = λ kind x y f token.
-      (let (c, u, kinds, t, byte, value) = single_quoted kind x y rest token.spells (sym f ∙ is) in
-      let same = (same_character w x after y v u (sym e ∙ f) s t).1 in
-      omega (arith, same, byte, large));
-}
-
--- a literal with bytes
-pub string_token : (text rest w after vs : List ℕ) → text ≡ 34 ∷ rest → text ≡ w ++ after → IsString w vs → All IsByte vs → IsToken (Str vs) w after
-string_token text rest w after vs is e s all = record {
-  spells = (s, all);
-  longest = λ x y f lexeme.
-      (let (us, t) = double_lexeme x y rest lexeme (sym f ∙ sym e ∙ is) in
-      same_length w x after y f (same_string w x after y vs us f s t).0);
-  no_line_comment = λ (later, f). no_slash 34 text rest (47 ∷ later) (inr refl) is (e ∙ f);
-  no_block_comment = λ (later, f). no_slash 34 text rest (42 ∷ later) (inr refl) is (e ∙ f);
-}
-
-pub character_token : (text rest w after : List ℕ) (v : ℕ) → text ≡ 39 ∷ rest → text ≡ w ++ after → IsCharacter w v → v ≤ 255 → IsToken (Char (char_value v)) w after
-character_token text rest w after v is e s byte = record {
-  spells = (v, s, byte, refl);
-  longest = λ x y f lexeme.
-      (let (u, t) = single_lexeme x y rest lexeme (sym f ∙ sym e ∙ is) in
-      same_length w x after y f (same_character w x after y v u f s t).0);
-  no_line_comment = λ (later, f). no_slash 39 text rest (47 ∷ later) (inl refl) is (e ∙ f);
-  no_block_comment = λ (later, f). no_slash 39 text rest (42 ∷ later) (inl refl) is (e ∙ f);
-}
+-- where a literal stands nothing is malformed
+not_malformed : (q : ℕ) (text rest : List ℕ) → IsQuote q → text ≡ q ∷ rest → (IsMalformedCharacter text → ⊥) → (IsMalformedString text → ⊥) → Holds Malformed text → ⊥
+not_malformed q text rest quote is character string (inl (w, whole, _)) = digit_no_quote q (same_first IsDigit text q rest (whole_first IsDigit IsNumberByte w text whole) is) quote
+not_malformed q text rest quote is character string (inr (inl h)) = character h
+not_malformed q text rest quote is character string (inr (inr (inl h))) = string h
+not_malformed q text rest quote is character string (inr (inr (inr (w, whole, _)))) = letter_no_quote q (same_first IsLetter text q rest (whole_first IsLetter IsWordByte w text whole) is) quote
 
 -- elements up to a place where a quote stands, and where none does
 sized : (first n : ℕ) (text rest w : List ℕ) → text ≡ first ∷ rest → text ≡ w ++ drop (suc n) rest → suc n ≤ length rest → length w ≡ n + 1 + 1
@@ -198,21 +105,101 @@ sized first n text rest w is e within =
 abbrev pub Parts : (List ℕ → Type 0) → List ℕ → ℕ → Type 0
 Parts Is text n = (w : List ℕ) × (after : List ℕ) × (text ≡ w ++ after) × Is w × (length w ≡ n + 1 + 1)
 
-pub string_found : (n : ℕ) (text rest vs : List ℕ) → text ≡ 34 ∷ rest → HasElements 34 rest (drop n rest) vs → At text (n + 1) 34 → Parts (λ w. IsString w vs) text n
-string_found n text rest vs is h here =
-    let end = from_at 34 34 n text rest is here in
-    let (w, e, s) = string_from (drop (suc n) rest) (subst (λ (x : List ℕ). HasElements 34 rest x vs) end h) in
-    let size : length (drop n rest) ≡ length rest - n = length-drop n rest in
-    let some : length (drop n rest) ≡ suc (length (drop (suc n) rest)) = ap length end in
-    (w, drop (suc n) rest, is ∙ e, s, sized 34 n text rest w is (is ∙ e) (omega arith))
+-- a form of literals: its text, by what stands behind the first quote
+pub record IsLiteral (q : ℕ) (V : Type 0) (Is : List ℕ → V → Type 0) (Has : List ℕ → List ℕ → V → Type 0) : Type 0 where
+  pub quote : IsQuote q
+  pub parts : (v : V) (w r : List ℕ) → Is w v → (i : List ℕ) × (w ++ r ≡ q ∷ i) × Has i (q ∷ r) v
+  pub from : (v : V) (i r : List ℕ) → Has i (q ∷ r) v → (w : List ℕ) × (q ∷ i ≡ w ++ r) × Is w v
+  pub one : (v u : V) (i r s : List ℕ) → Has i (q ∷ r) v → Has i (q ∷ s) u → (r ≡ s) × (v ≡ u)
+  pub lexeme : (w r i : List ℕ) → IsLexeme w → w ++ r ≡ q ∷ i → (v : V) × Is w v
 
-pub character_found : (n v : ℕ) (text rest : List ℕ) → text ≡ 39 ∷ rest → HasElement 39 rest (drop n rest) v → At text (n + 1) 39 → Parts (λ w. IsCharacter w v) text n
-character_found n v text rest is h here =
-    let end = from_at 39 39 n text rest is here in
-    let (w, e, s) = character_from (drop (suc n) rest) (subst (λ (x : List ℕ). HasElement 39 rest x v) end h) in
-    let size : length (drop n rest) ≡ length rest - n = length-drop n rest in
-    let some : length (drop n rest) ≡ suc (length (drop (suc n) rest)) = ap length end in
-    (w, drop (suc n) rest, is ∙ e, s, sized 39 n text rest w is (is ∙ e) (omega arith))
+pub string_form : IsLiteral 34 (List ℕ) IsString (HasElements 34)
+string_form = record {
+  quote = inr refl;
+  parts = λ vs w r s. string_parts r s;
+  from = λ vs i r h. string_from r h;
+  one = λ vs us i r s h g. one_ended 34 (inr refl) h g;
+  lexeme = double_lexeme;
+}
+
+pub character_form : IsLiteral 39 ℕ IsCharacter (HasElement 39)
+character_form = record {
+  quote = inl refl;
+  parts = λ v w r s. character_parts r s;
+  from = λ v i r h. character_from r h;
+  one = λ v u i r s h g. (let both = one_element h g in let rests : 39 ∷ r ≡ 39 ∷ s = both.0 in (cc, both.1));
+  lexeme = single_lexeme;
+}
+
+module _ {q : ℕ} {V : Type 0} {Is : List ℕ → V → Type 0} {Has : List ℕ → List ℕ → V → Type 0} (form : IsLiteral q V Is Has) where
+  -- two literals at the front of one text
+  same_literal : (w x y z : List ℕ) (v u : V) → w ++ y ≡ x ++ z → Is w v → Is x u → (y ≡ z) × (v ≡ u)
+  same_literal w x y z v u e s t =
+      let (i, begins, found) = form.parts v w y s in
+      let (k, begins_too, found_too) = form.parts u x z t in
+      let same : k ≡ i = cc in
+      form.one v u i y z found (subst (λ (p : List ℕ). Has p (q ∷ z) u) same found_too)
+
+  -- a quote that begins no literal
+  malformed_literal : (text rest : List ℕ) → text ≡ q ∷ rest → Holds Malformed text → ((w after : List ℕ) (v : V) → text ≡ w ++ after → Is w v → ⊥) → IsMisfit Malformed text
+  malformed_literal text rest is holds odd = record {
+    holds = holds;
+    least = least_malformed q text rest form.quote is;
+    no_token = λ kind w after e token.
+        (let (v, s) = form.lexeme w after rest (spelled_is_lexeme kind w token.spells) (sym e ∙ is) in odd w after v e s);
+  }
+
+  -- a literal with bytes
+  pub literal_token : (kind : TokenKind) (text rest w after : List ℕ) (v : V) → text ≡ q ∷ rest → text ≡ w ++ after → Is w v → Spells kind w → IsToken kind w after
+  literal_token kind text rest w after v is e s spells = record {
+    spells = spells;
+    longest = λ x y f lexeme.
+        (let (u, t) = form.lexeme x y rest lexeme (sym f ∙ sym e ∙ is) in
+        same_length w x after y f (same_literal w x after y v u f s t).0);
+    no_line_comment = λ (later, f). no_slash q text rest (47 ∷ later) form.quote is (e ∙ f);
+    no_block_comment = λ (later, f). no_slash q text rest (42 ∷ later) form.quote is (e ∙ f);
+  }
+
+  pub literal_found : (n : ℕ) (v : V) (text rest : List ℕ) → text ≡ q ∷ rest → Has rest (drop n rest) v → At text (n + 1) q → Parts (λ w. Is w v) text n
+  literal_found n v text rest is h here =
+      let end = from_at q q n text rest is here in
+      let (w, e, s) = form.from v rest (drop (suc n) rest) (subst (λ (x : List ℕ). Has rest x v) end h) in
+      let size : length (drop n rest) ≡ length rest - n = length-drop n rest in
+      let some : length (drop n rest) ≡ suc (length (drop (suc n) rest)) = ap length end in
+      (w, drop (suc n) rest, is ∙ e, s, sized q n text rest w is (is ∙ e) (omega arith))
+
+pub malformed_string : (text rest : List ℕ) → text ≡ 34 ∷ rest → ((w after vs : List ℕ) → text ≡ w ++ after → IsString w vs → ⊥) → IsMisfit Malformed text
+malformed_string text rest is odd = malformed_literal string_form text rest is (inr (inr (inl (rest, is, odd)))) odd
+
+pub malformed_character : (text rest : List ℕ) → text ≡ 39 ∷ rest → ((w after : List ℕ) (v : ℕ) → text ≡ w ++ after → IsCharacter w v → ⊥) → IsMisfit Malformed text
+malformed_character text rest is odd = malformed_literal character_form text rest is (inr (inl (rest, is, odd))) odd
+
+-- a literal with a value above 255
+not_bytes : (vs bytes : List ℕ) → vs ≡ bytes → Any (λ v. 255 < v) vs → All IsByte bytes → ⊥
+not_bytes vs bytes e (k, x, within, is, large) all =
+    let size = ap length e in
+    let low : get_or bytes k x ≤ 255 = all k x (omega (arith, size, within)) in
+    let same : get_or vs k x ≡ get_or bytes k x = ap (λ (y : List ℕ). get_or y k x) e in
+    omega (arith, same, is, large)
+
+pub large_string : (text rest w after vs : List ℕ) → text ≡ 34 ∷ rest → text ≡ w ++ after → IsString w vs → Any (λ v. 255 < v) vs → IsMisfit TooLarge text
+large_string text rest w after vs is e s any = record {
+  holds = inr (w, after, vs, e, inl s, any);
+  least = least_large 34 text rest (inr refl) is (not_malformed 34 text rest (inr refl) is (λ (x, f, odd). omega (arith, head_of 34 39 text rest x is f)) (λ (x, f, odd). odd w after vs e s));
+  no_token = λ kind x y f token.
+      (let (bytes, kinds, t, all) = double_quoted kind x y rest token.spells (sym f ∙ is) in
+      not_bytes vs bytes (same_literal string_form w x after y vs bytes (sym e ∙ f) s t).1 any all);
+}
+
+pub large_character : (text rest w after : List ℕ) (v : ℕ) → text ≡ 39 ∷ rest → text ≡ w ++ after → IsCharacter w v → 255 < v → IsMisfit TooLarge text
+large_character text rest w after v is e s large = record {
+  holds = inr (w, after, v ∷ [], e, inr (v, refl, s), (0, v, omega arith, refl, large));
+  least = least_large 39 text rest (inl refl) is (not_malformed 39 text rest (inl refl) is (λ (x, f, odd). odd w after v e s) (λ (x, f, odd). omega (arith, head_of 39 34 text rest x is f)));
+  no_token = λ kind x y f token.
+      (let (c, u, kinds, t, byte, value) = single_quoted kind x y rest token.spells (sym f ∙ is) in
+      let same = (same_literal character_form w x after y v u (sym e ∙ f) s t).1 in
+      omega (arith, same, byte, large));
+}
 
 pub no_string : (n : ℕ) (text rest vs : List ℕ) → text ≡ 34 ∷ rest → HasElements 34 rest (drop n rest) vs → HasNoElement 34 (drop n rest) → (At text (n + 1) 34 → ⊥) → (w after us : List ℕ) → text ≡ w ++ after → IsString w us → ⊥
 no_string n text rest vs is h ended open_end w after us e s =

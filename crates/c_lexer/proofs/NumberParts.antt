@@ -17,10 +17,10 @@ use Rattle.c_lexer.specs.Kinds.{Spells}
 use Rattle.c_lexer.specs.Refusals.{Holds, IsMalformedNumber}
 use Rattle.c_lexer.specs.Reading.{IsMisfit}
 use Rattle.c_lexer.specs.Parts.{BeginsWith, IsOther, IsNumberMisfit, IsUnsuffixed, IsBased}
-use Rattle.c_lexer.proofs.KindsBegin.{IsClass, class_no_token, one_longest, digit_lexeme, digit_no_mark, run_begins, whole_begins, first_apart, letter_no_digit}
+use Rattle.c_lexer.proofs.KindsBegin.{number_all, IsClass, class_no_token, one_longest, digit_lexeme, digit_no_mark, run_begins, whole_begins, first_apart, letter_no_digit}
 use Rattle.c_lexer.proofs.OneTokenBegins.{FirstOf, begins}
 use Rattle.c_lexer.proofs.WordTables.{IsMark}
-use Rattle.c_lexer.proofs.KindsRuns.{digit_no_foreign, digit_malformed, no_comment}
+use Rattle.c_lexer.proofs.KindsRuns.{digit_no_foreign, digit_malformed, no_comment, below_malformed, below_large}
 
 -- no byte of a number is a suffix
 abbrev IsNoSuffix : ℕ → Type 0
@@ -30,26 +30,8 @@ digit_no_suffix : (b : ℕ) → digit_value b < 16 → IsNoSuffix b
 digit_no_suffix b h (inl is) = let e : digit_value b ≡ 30 = ap digit_value is in omega arith
 digit_no_suffix b h (inr is) = let e : digit_value b ≡ 30 = ap digit_value is in omega arith
 
-digits_no_suffix : (radix : ℕ) (w : List ℕ) → radix ≤ 16 → AllDigits radix w → All IsNoSuffix w
-digits_no_suffix radix [] small h = All-nil IsNoSuffix
-digits_no_suffix radix (b ∷ w) small h = All-cons IsNoSuffix b w (digit_no_suffix b (omega (arith, h.0))) (digits_no_suffix radix w small h.1)
-
-zero_no_suffix : IsNoSuffix 48
-zero_no_suffix = digit_no_suffix 48 (omega arith)
-
 x_no_suffix : (x : ℕ) → (x ≡ 120) ⊎ (x ≡ 88) → IsNoSuffix x
-x_no_suffix x (inl is) (inl e) = omega arith
-x_no_suffix x a u = omega arith
-
-decimal_no_suffix : (w : List ℕ) (n : ℕ) → IsDecimal w n → All IsNoSuffix w
-decimal_no_suffix [] n h = absurd h
-decimal_no_suffix (d ∷ w) n h = digits_no_suffix 10 (d ∷ w) (omega arith) h.1
-
-number_no_suffix : (w : List ℕ) (n : ℕ) (decimal : Bool) → HasNumber w n decimal → All IsNoSuffix w
-number_no_suffix w n true h = decimal_no_suffix w n h
-number_no_suffix w n false (inl (digits, is, each, _)) = subst (All IsNoSuffix) (sym is) (All-cons IsNoSuffix 48 digits zero_no_suffix (digits_no_suffix 8 digits (omega arith) each))
-number_no_suffix w n false (inr (x, digits, is, marks, _, each, _)) =
-    subst (All IsNoSuffix) (sym is) (All-cons IsNoSuffix 48 (x ∷ digits) zero_no_suffix (All-cons IsNoSuffix x digits (x_no_suffix x marks) (digits_no_suffix 16 digits (omega arith) each)))
+x_no_suffix x a u = grind arith
 
 no_suffix_last : (w body : List ℕ) (u : ℕ) → w ≡ body ++ u ∷ [] → All IsNoSuffix w → IsNoSuffix u
 no_suffix_last w body u is each =
@@ -66,7 +48,7 @@ suffixed_parts w body u n decimal true is marks c =
     c.ended
 suffixed_parts w body u n decimal false is marks c =
     let whole : w ≡ c.digits = c.is ∙ ap (λ v. c.digits ++ v) c.ended ∙ append-nil c.digits in
-    absurd (no_suffix_last c.digits body u (sym whole ∙ is) (number_no_suffix c.digits n decimal c.number) marks)
+    absurd (no_suffix_last c.digits body u (sym whole ∙ is) (number_all IsNoSuffix digit_no_suffix x_no_suffix c.digits n decimal c.number) marks)
 
 suffix_at : (u : ℕ) → (u ≡ 117) ⊎ (u ≡ 85) → IsSuffix true (u ∷ [])
 suffix_at u (inl is) = inl (ap (λ b. b ∷ []) is)
@@ -134,30 +116,24 @@ number_spells w first none (Int n u) h = none n h.0 h.1 u h.2 h.3
 number_spells w first none (Punct p) h = first_apart IsDigit IsMark w (λ b digit mark. mark.other.no_digit digit) first (begins (Punct p) w h)
 number_spells w first none kind h = first_apart IsDigit (FirstOf kind) w (λ b digit other. grind arith) first (begins kind w h)
 
-malformed_least : (i : List ℕ) → BeginsWith IsDigit i → (other : Cause) → code_of other < 3 → Holds other i → ⊥
-malformed_least i first ForeignByte low h = digit_no_foreign i first h
-malformed_least i first OpenComment low h = no_comment IsDigit i (λ b. digit_no_mark 47 47 (omega arith) b refl) first h
-malformed_least i first other low h = omega arith
-
 no_malformed : (i w j : List ℕ) (n : ℕ) (decimal suffixed : Bool) → IsLongest IsNumber w i j → IsConstant w n decimal suffixed → IsMalformedNumber i → ⊥
 no_malformed i w j n decimal suffixed taken c (v, (k, other), none) = none n decimal suffixed (subst (λ u. IsConstant u n decimal suffixed) (one_longest IsNumber i w j v k taken other) c)
 
-large_least : (i w j : List ℕ) (n : ℕ) (decimal suffixed : Bool) → IsLongest IsNumber w i j → IsConstant w n decimal suffixed → (other : Cause) → code_of other < 4 → Holds other i → ⊥
-large_least i w j n decimal suffixed taken c ForeignByte low h = digit_no_foreign i (number_first i w j taken) h
-large_least i w j n decimal suffixed taken c OpenComment low h = no_comment IsDigit i (λ b. digit_no_mark 47 47 (omega arith) b refl) (number_first i w j taken) h
-large_least i w j n decimal suffixed taken c Malformed low h = no_malformed i w j n decimal suffixed taken c (digit_malformed i (number_first i w j taken) h)
-large_least i w j n decimal suffixed taken c other low h = omega arith
+digit_no_comment : (i : List ℕ) → BeginsWith IsDigit i → Holds OpenComment i → ⊥
+digit_no_comment i = no_comment IsDigit i (λ b. digit_no_mark 47 47 (omega arith) b refl)
 
 pub number_misfit : (cause : Cause) (i w j : List ℕ) → IsLongest IsNumber w i j → IsNumberMisfit cause w → IsMisfit cause i
 number_misfit Malformed i w j taken h = record {
   holds = inl (w, (j, taken), h);
-  least = λ other low holds. malformed_least i (number_first i w j taken) other low holds;
+  least = let first = number_first i w j taken in below_malformed i (digit_no_foreign i first) (digit_no_comment i first);
   no_token = λ kind v rest stands token.
       class_no_token number_class taken (λ other. number_spells w (run_begins IsDigit IsNumberByte w taken.is) (λ n d s u c typed. h n d s c) other) kind v rest stands token;
 }
 number_misfit TooLarge i w j taken ((n, decimal, suffixed, c, none), each) = record {
   holds = inl (w, n, decimal, suffixed, (j, taken), c, none);
-  least = λ other low holds. large_least i w j n decimal suffixed taken c other low holds;
+  least =
+      let first = number_first i w j taken in
+      below_large i (digit_no_foreign i first) (digit_no_comment i first) (λ h. no_malformed i w j n decimal suffixed taken c (digit_malformed i first h));
   no_token = λ kind v rest stands token.
       class_no_token number_class taken (λ other. number_spells w (run_begins IsDigit IsNumberByte w taken.is) (λ m d s u k typed. let untyped = each m d s k in cc) other) kind v rest stands token;
 }

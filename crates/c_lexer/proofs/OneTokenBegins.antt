@@ -6,7 +6,7 @@ use Rattle.c_lexer.specs.declared.token.TokenKind.TheVariants.{Name, Keyword, In
 use Rattle.c_lexer.specs.Words.{keywords, punctuators, IsWordByte, IsNumberByte}
 use Rattle.c_lexer.specs.Kinds.{Spells}
 use Rattle.c_lexer.specs.Parts.{BeginsWith}
-use Rattle.c_lexer.proofs.KindsBegin.{name_is_word, constant_is_number, run_begins, character_begins, string_begins, same_first, whole_begins}
+use Rattle.c_lexer.proofs.KindsBegin.{name_is_word, constant_is_number, run_begins, character_begins, string_begins, front_has}
 use Rattle.c_lexer.proofs.WordTables.{IsMark, keyword_is_fixed, number_Contains, punctuator_mark}
 
 -- which bytes begin a text of the kind
@@ -28,7 +28,7 @@ begins (Punct p) w h = punctuator_mark w (number_Contains punctuators p w h)
 
 -- the first byte of what follows a front that spells a token
 pub spelled_first : (kind : TokenKind) (w r i : List ℕ) (b : ℕ) → Spells kind w → w ++ r ≡ b ∷ i → FirstOf kind b
-spelled_first kind w r i b spells e = same_first (FirstOf kind) (w ++ r) b i (whole_begins (FirstOf kind) (w ++ r) w r refl (begins kind w spells)) e
+spelled_first kind w r i b spells = front_has (FirstOf kind) w r i b (begins kind w spells)
 
 -- the bytes that begin a token are neither white space nor a #
 pub first_no_marker : (kind : TokenKind) → FirstOf kind 35 → ⊥

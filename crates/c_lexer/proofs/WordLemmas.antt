@@ -16,7 +16,7 @@ use Rattle.c_lexer.specs.Refusals.{Holds, IsLongWord}
 use Rattle.c_lexer.specs.Reading.{IsMisfit, ReadsToken}
 use Rattle.c_lexer.specs.Parts.{BeginsWith, IsWordMisfit, ReadsWord}
 use Rattle.c_lexer.proofs.KindsBegin.{IsClass, class_no_token, one_longest, letter_lexeme, letter_no_mark, run_begins, whole_begins, first_apart}
-use Rattle.c_lexer.proofs.KindsRuns.{letter_no_foreign, letter_malformed, letter_no_large, no_comment, no_marker}
+use Rattle.c_lexer.proofs.KindsRuns.{letter_no_foreign, letter_malformed, letter_no_large, no_comment, no_marker, below_malformed}
 use Rattle.c_lexer.proofs.OneTokenBegins.{FirstOf, begins}
 use Rattle.c_lexer.proofs.WordTables.{IsMark, c99_keyword, keyword_is_fixed, excluded_is_fixed, excluded_is_c99, excluded_is_no_keyword, number_Contains}
 
@@ -35,11 +35,6 @@ word_spells P w word name keyword (Keyword k) h = keyword (number_Contains keywo
 word_spells P w word name keyword (Punct p) h = absurd (first_apart IsLetter IsMark w (λ b letter mark. mark.other.no_letter letter) (run_begins IsLetter IsWordByte w word) (begins (Punct p) w h))
 word_spells P w word name keyword kind h = absurd (first_apart IsLetter (FirstOf kind) w (λ b letter other. grind arith) (run_begins IsLetter IsWordByte w word) (begins kind w h))
 
-long_least : (i : List ℕ) → BeginsWith IsLetter i → (other : Cause) → code_of other < 3 → Holds other i → ⊥
-long_least i first ForeignByte low h = letter_no_foreign i first h
-long_least i first OpenComment low h = no_comment IsLetter i (λ b. letter_no_mark 47 47 (omega arith) b refl) first h
-long_least i first other low h = omega arith
-
 no_long_word : (i w j : List ℕ) → IsLongest IsWord w i j → length w < 64 → IsLongWord i → ⊥
 no_long_word i w j taken short (v, (k, other), long) = let same : length w ≡ length v = ap length (one_longest IsWord i w j v k taken other) in omega arith
 
@@ -55,7 +50,9 @@ excluded_least i w j taken short first ExcludedKeyword low h = omega arith
 pub word_misfit : (cause : Cause) (i w j : List ℕ) → IsLongest IsWord w i j → IsWordMisfit cause w → IsMisfit cause i
 word_misfit Malformed i w j taken h = record {
   holds = inr (inr (inr (w, (j, taken), h)));
-  least = λ other low holds. long_least i (whole_begins IsLetter i w j taken.stands (run_begins IsLetter IsWordByte w taken.is)) other low holds;
+  least =
+      let first = whole_begins IsLetter i w j taken.stands (run_begins IsLetter IsWordByte w taken.is) in
+      below_malformed i (letter_no_foreign i first) (no_comment IsLetter i (λ b. letter_no_mark 47 47 (omega arith) b refl) first);
   no_token = λ kind v rest stands token.
       class_no_token word_class taken (λ other. word_spells ⊥ w taken.is (λ name. omega (arith, name.short)) (λ among. let fixed = keyword_is_fixed w among in omega (arith, fixed.short)) other) kind v rest stands token;
 }
