@@ -137,9 +137,12 @@ letter_malformed i first (inr (inl (rest, is, _))) = absurd (first_apart IsLette
 letter_malformed i first (inr (inr (inl (rest, is, _)))) = absurd (first_apart IsLetter IsQuote i letter_no_quote first (34, rest, is, inr refl))
 letter_malformed i first (inr (inr (inr long))) = long
 
+pub large_begins : (i : List ℕ) → Holds TooLarge i → BeginsWith (λ b. IsDigit b ⊎ IsQuote b) i
+large_begins i (inl (w, n, d, s, whole, _, _)) = let (b, rest, is, h) = whole_first IsDigit IsNumberByte w i whole in (b, rest, is, inl h)
+large_begins i (inr large) = let (b, rest, is, h) = large_element_begins i large in (b, rest, is, inr h)
+
 pub letter_no_large : (i : List ℕ) → BeginsWith IsLetter i → Holds TooLarge i → ⊥
-letter_no_large i first (inl (w, n, d, s, whole, _, _)) = first_apart IsLetter IsDigit i letter_no_digit first (whole_first IsDigit IsNumberByte w i whole)
-letter_no_large i first (inr large) = first_apart IsLetter IsQuote i letter_no_quote first (large_element_begins i large)
+letter_no_large i first h = first_apart IsLetter (λ b. IsDigit b ⊎ IsQuote b) i (λ b x y. grind arith) first (large_begins i h)
 
 -- where a digit stands first what is malformed is a number
 pub digit_malformed : (i : List ℕ) → BeginsWith IsDigit i → Holds Malformed i → IsMalformedNumber i

@@ -1,52 +1,36 @@
 -- An integer constant has one number.
-use Rattle.std.proofs.Common.{◌≡◌, ◌≢◌, ℕ, ◌<◌, ◌≤◌, List, [], ◌∷◌, ◌++◌, Bool, true, false, refl, sym, ap, ◌∙◌, subst, inl, inr, ⊎_elim, arith, Some, append-nil}
+use Rattle.std.proofs.Common.{◌≡◌, ◌≢◌, ℕ, ◌<◌, ◌≤◌, List, [], ◌∷◌, ◌++◌, Bool, true, false, refl, sym, ap, ◌∙◌, subst, inl, inr, ⊎_elim, arith, Some, append-nil, cond, not, nat_eq, get_or}
 use Rattle.std.specs.Prelude.{◌⊎◌}
-use Rattle.std.specs.Char.{digit_value}
 use Rattle.std.specs.Str.Parse.{digits_value}
+use Rattle.std.proofs.lemmas.Bool.{ne_eqb}
+use Rattle.c_lexer.proofs.EscapeDigits.{octal_range}
 use Rattle.c_lexer.proofs.NumberParts.{suffixed_parts}
-use Rattle.c_lexer.specs.Literals.{IsConstant, type_of, IsOctal, IsHexadecimal, HasNumber}
+use Rattle.c_lexer.specs.Literals.{IsConstant, type_of, HasNumber}
 
--- a text has one number
-one_number_mixed : (w : List ℕ) (n m : ℕ) → HasNumber w n true → HasNumber w m false → ⊥
-one_number_mixed [] n m has other = absurd has
-one_number_mixed (d ∷ w) n m has (inl (digits, is, all, value)) = let no_zero = has.0 in no_zero (cc)
-one_number_mixed (d ∷ w) n m has (inr (x, digits, is, mark, some, all, value)) = let no_zero = has.0 in no_zero (cc)
+-- the number that a text has, and whether it is decimal, as functions
+abbrev value_after_zero : List ℕ → ℕ
+value_after_zero [] = 0
+value_after_zero (x ∷ ds) = cond (nat_eq x 120) (digits_value 16 ds) (cond (nat_eq x 88) (digits_value 16 ds) (digits_value 8 (x ∷ ds)))
 
-hex_no_octal : (x : ℕ) → digit_value x < 8 → (x ≡ 120) ⊎ (x ≡ 88) → ⊥
-hex_no_octal x h (inl e) = let k : digit_value 120 < 8 = subst (λ d. digit_value d < 8) e h in omega arith
-hex_no_octal x h (inr e) = let k : digit_value 88 < 8 = subst (λ d. digit_value d < 8) e h in omega arith
+abbrev number_value : List ℕ → ℕ
+number_value [] = 0
+number_value (d ∷ w) = cond (nat_eq d 48) (value_after_zero w) (digits_value 10 (d ∷ w))
 
-octal_no_hex : (w : List ℕ) (n m : ℕ) → IsOctal w n → IsHexadecimal w m → ⊥
-octal_no_hex w n m ([], is, all, value) (x, digits, is', mark, some, all', value') = cc
-octal_no_hex w n m (y ∷ rest, is, all, value) (x, digits, is', mark, some, all', value') =
-    let same : y ≡ x = cc in
-    hex_no_octal x (subst (λ d. digit_value d < 8) same all.0) mark
-
-one_octal : (w : List ℕ) (n m : ℕ) → IsOctal w n → IsOctal w m → n ≡ m
-one_octal w n m (ds, is, all, value) (es, is', all', value') =
-    let same : ds ≡ es = cc in
-    value ∙ ap (digits_value 8) same ∙ sym value'
-
-one_hexadecimal : (w : List ℕ) (n m : ℕ) → IsHexadecimal w n → IsHexadecimal w m → n ≡ m
-one_hexadecimal w n m (x, ds, is, mark, some, all, value) (y, es, is', mark', some', all', value') =
-    let same : ds ≡ es = cc in
-    value ∙ ap (digits_value 16) same ∙ sym value'
-
-one_other : (w : List ℕ) (n m : ℕ) → HasNumber w n false → HasNumber w m false → n ≡ m
-one_other w n m (inl a) (inl b) = one_octal w n m a b
-one_other w n m (inl a) (inr b) = absurd (octal_no_hex w n m a b)
-one_other w n m (inr a) (inl b) = absurd (octal_no_hex w m n b a)
-one_other w n m (inr a) (inr b) = one_hexadecimal w n m a b
-
-one_decimal : (w : List ℕ) (n m : ℕ) → HasNumber w n true → HasNumber w m true → n ≡ m
-one_decimal [] n m a b = absurd a
-one_decimal (d ∷ w) n m (first, all, value) (first', all', value') = value ∙ sym value'
+number_is : (w : List ℕ) (n : ℕ) (decimal : Bool) → HasNumber w n decimal → (n ≡ number_value w) × (decimal ≡ not (nat_eq (get_or w 0 0) 48))
+number_is [] n true h = absurd h
+number_is (d ∷ w) n true (first, all, value) = rw (ne_eqb d 48 first) (value, refl)
+number_is w n false (inl ([], is, all, value)) = rw is (value, refl)
+number_is w n false (inl (x ∷ ds, is, all, value)) =
+    let range = octal_range x all.0 in
+    rw (is, ne_eqb x 120 (λ e. omega (arith, range)), ne_eqb x 88 (λ e. omega (arith, range))) (value, refl)
+number_is w n false (inr (x, ds, is, inl e, some, all, value)) = rw (is, e) (value, refl)
+number_is w n false (inr (x, ds, is, inr e, some, all, value)) = rw (is, e) (value, refl)
 
 one_number : (w : List ℕ) (n m : ℕ) (a b : Bool) → HasNumber w n a → HasNumber w m b → (n ≡ m) × (a ≡ b)
-one_number w n m true true p q = (one_decimal w n m p q, refl)
-one_number w n m true false p q = absurd (one_number_mixed w n m p q)
-one_number w n m false true p q = absurd (one_number_mixed w m n q p)
-one_number w n m false false p q = (one_other w n m p q, refl)
+one_number w n m a b p q =
+    let one = number_is w n a p in
+    let other = number_is w m b q in
+    (one.0 ∙ sym other.0, one.1 ∙ sym other.1)
 
 -- what stands before a suffix is the same
 suffix_of : (w : List ℕ) (n : ℕ) (a : Bool) (p : IsConstant w n a true) → (u : ℕ) × (w ≡ p.digits ++ u ∷ []) × ((u ≡ 117) ⊎ (u ≡ 85))

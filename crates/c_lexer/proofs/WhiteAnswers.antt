@@ -1,5 +1,5 @@
 -- What the reader of white space answers, at each of its returns.
-use Rattle.std.proofs.Common.{◌≡◌, ◌≢◌, ℕ, ◌+◌, ◌<◌, ◌≤◌, List, [], ◌∷◌, ◌++◌, length, get_or, take, drop, zero, suc, refl, sym, ap, ◌∙◌, subst, inl, inr, arith, append_assoc, length-append, Some, Ok, Err}
+use Rattle.std.proofs.Common.{◌≡◌, ◌⊎◌, ◌≢◌, ℕ, ◌+◌, ◌<◌, ◌≤◌, List, [], ◌∷◌, ◌++◌, length, get_or, take, drop, zero, suc, refl, sym, ap, ◌∙◌, subst, inl, inr, arith, append_assoc, length-append, Some, Ok, Err}
 use Rattle.std.specs.Prelude.{All}
 use Rattle.std.proofs.lemmas.List.{take-append-drop, take_at, drop-drop, length-take-le, length-drop, take-take, drop-take}
 use Rattle.std.proofs.lemmas.List.Elements.{All-head, All-tail}
@@ -14,6 +14,9 @@ use Rattle.c_lexer.specs.TokenSpelling.{IsBlank, IsInLine, IsLineEnd, BeginsBloc
 use Rattle.c_lexer.specs.Refusals.{BeginsNoToken, Holds}
 use Rattle.c_lexer.specs.Reading.{HasNoWhite, ReadsWhite}
 use Rattle.c_lexer.specs.WhiteParts.{IsLine, IsCommentEnd, IsMarkerHead, BeginsMarker}
+use Rattle.c_lexer.specs.Elements.{IsQuote}
+use Rattle.c_lexer.proofs.KindsBegin.{same_first, letter_no_mark}
+use Rattle.c_lexer.proofs.KindsRuns.{whole_first, large_begins}
 use Rattle.c_lexer.proofs.OneTokenWhite.{blank_low}
 use Rattle.c_lexer.proofs.OneTokenBegins.{spelled_first, first_no_marker}
 
@@ -173,20 +176,14 @@ no_white_at_hash front i r begins none w rest is (line_marker h) = none h.margin
   record { digits = h.digits; is = refl; some = h.some; are_digits = h.are_digits },
 )
 
-no_run_at_hash : (First Later : ℕ → Type 0) (w rest r : List ℕ) → IsRun First Later w → 35 ∷ r ≡ w ++ rest → First 35
-no_run_at_hash First Later [] rest r run is = absurd run
-no_run_at_hash First Later (b ∷ w) rest r run is = let same : b ≡ 35 = cc in subst First same run.0
-
 no_lower_than_marker : (r : List ℕ) (other : Cause) → code_of other < 5 → Holds other (35 ∷ r) → ⊥
 no_lower_than_marker r ForeignByte low (b, rest, is, no_hash, none) = no_hash (cc)
 no_lower_than_marker r OpenComment low holds = first_apart (35 ∷ r) r _ 35 47 (omega arith) refl holds.0.1
-no_lower_than_marker r Malformed low (inl (w, whole, none)) = let digit : IsDigit 35 = no_run_at_hash IsDigit IsNumberByte w whole.0 r whole.1.is whole.1.stands in omega arith
+no_lower_than_marker r Malformed low (inl (w, whole, none)) = let digit = same_first IsDigit (35 ∷ r) 35 r (whole_first IsDigit IsNumberByte w (35 ∷ r) whole) refl in omega arith
 no_lower_than_marker r Malformed low (inr (inl (rest, is, none))) = first_apart (35 ∷ r) r rest 35 39 (omega arith) refl is
 no_lower_than_marker r Malformed low (inr (inr (inl (rest, is, none)))) = first_apart (35 ∷ r) r rest 35 34 (omega arith) refl is
-no_lower_than_marker r Malformed low (inr (inr (inr (w, whole, long)))) = (let letter : IsLetter 35 = no_run_at_hash IsLetter IsWordByte w whole.0 r whole.1.is whole.1.stands in grind arith)
-no_lower_than_marker r TooLarge low (inl (w, n, decimal, suffixed, whole, constant, untyped)) = let digit : IsDigit 35 = no_run_at_hash IsDigit IsNumberByte w whole.0 r whole.1.is whole.1.stands in omega arith
-no_lower_than_marker r TooLarge low (inr (w, after, vs, is, inl string, large)) = first_apart (35 ∷ r) r _ 35 34 (omega arith) refl (is ∙ ap (λ v. v ++ after) string.1)
-no_lower_than_marker r TooLarge low (inr (w, after, vs, is, inr (v, same, character), large)) = first_apart (35 ∷ r) r _ 35 39 (omega arith) refl (is ∙ ap (λ v. v ++ after) character.1)
+no_lower_than_marker r Malformed low (inr (inr (inr (w, whole, long)))) = letter_no_mark 35 35 (omega arith) (same_first IsLetter (35 ∷ r) 35 r (whole_first IsLetter IsWordByte w (35 ∷ r) whole) refl) refl
+no_lower_than_marker r TooLarge low h = let first = same_first (λ b. IsDigit b ⊎ IsQuote b) (35 ∷ r) 35 r (large_begins (35 ∷ r) h) refl in grind arith
 no_lower_than_marker r other low holds = omega arith
 
 no_token_at_hash : (i r : List ℕ) → i ≡ 35 ∷ r → (kind : TokenKind) (w rest : List ℕ) → i ≡ w ++ rest → IsToken kind w rest → ⊥
