@@ -26,10 +26,7 @@ module _ {X Y : Type 0} (g : Gathering X) (h : Gathering Y) (f : List X → List
 
   mutual
     pub becomes : (e : Expr) → f (gathered g e) ≡ gathered h e
-    becomes (constant t v) = b.none
     becomes (function_name t n) = b.named n
-    becomes (string_place t n) = b.none
-    becomes (variable t s n) = b.none
     becomes (dereference t a) = becomes a
     becomes (load t a) = becomes a
     becomes (address_of t a) = becomes a
@@ -51,6 +48,7 @@ module _ {X Y : Type 0} (g : Gathering X) (h : Gathering Y) (f : List X → List
     becomes (call t site n es) = b.direct site n (gathered_all g es) (gathered_all h es) (all_become es)
     becomes (call_through t site a es) =
         both (gathered g a) (g.through site (type_of a) ∷ gathered_all g es) (gathered h a) (h.through site (type_of a) ∷ gathered_all h es) (becomes a) (b.through site (type_of a) (gathered_all g es) (gathered_all h es) (all_become es))
+    becomes e = b.none
 
     pub all_become : (es : Exprs) → f (gathered_all g es) ≡ gathered_all h es
     all_become no_exprs = b.none
@@ -67,7 +65,6 @@ module _ {X Y : Type 0} (g : Gathering X) (h : Gathering Y) (f : List X → List
   mutual
     pub stmt_becomes : (s : Stmt) → f (gathered_stmt g s) ≡ gathered_stmt h s
     stmt_becomes (block ss) = stmts_become ss
-    stmt_becomes empty = b.none
     stmt_becomes (evaluate e) = becomes e
     stmt_becomes (declare x is) = inits_become is
     stmt_becomes (if_else e s u) = three (gathered g e) (gathered_stmt g s) (gathered_stmt g u) (gathered h e) (gathered_stmt h s) (gathered_stmt h u) (becomes e) (stmt_becomes s) (stmt_becomes u)
@@ -77,10 +74,8 @@ module _ {X Y : Type 0} (g : Gathering X) (h : Gathering Y) (f : List X → List
         both (gathered_stmts g first) (gathered_maybe g test ++ (gathered_maybe g step ++ gathered_stmt g s)) (gathered_stmts h first) (gathered_maybe h test ++ (gathered_maybe h step ++ gathered_stmt h s)) (stmts_become first)
         (three (gathered_maybe g test) (gathered_maybe g step) (gathered_stmt g s) (gathered_maybe h test) (gathered_maybe h step) (gathered_stmt h s) (maybe_becomes test) (maybe_becomes step) (stmt_becomes s))
     stmt_becomes (switch_on e gs) = both (gathered g e) (gathered_groups g gs) (gathered h e) (gathered_groups h gs) (becomes e) (groups_become gs)
-    stmt_becomes break_off = b.none
-    stmt_becomes continue_on = b.none
-    stmt_becomes return_void = b.none
     stmt_becomes (return_value e) = becomes e
+    stmt_becomes s = b.none
 
     stmts_become : (ss : Stmts) → f (gathered_stmts g ss) ≡ gathered_stmts h ss
     stmts_become no_stmts = b.none

@@ -18,26 +18,18 @@ in_range : (n : ℕ) → n < 4294967296 → FitsUnsigned w32 (pos n)
 in_range n h = grind (arith, ints, h)
 
 signed_fits : (x : Option Value) → FitsEntry Signed (number_in (given_of x (convert Int)))
-signed_fits None = tt
-signed_fits (Some v.Indeterminate) = tt
 signed_fits (Some (v.Int z)) = SFits-int_wrap w32 z
 signed_fits (Some (v.Uint n)) = SFits-int_wrap w32 (pos n)
 signed_fits (Some (v.Char z)) = SFits-int_wrap w32 z
 signed_fits (Some (v.Uchar n)) = SFits-int_wrap w32 (pos n)
-signed_fits (Some v.Null) = tt
-signed_fits (Some (v.Func f)) = tt
-signed_fits (Some (v.At q)) = tt
+signed_fits x = tt
 
 unsigned_fits : (x : Option Value) → FitsEntry Unsigned (number_in (given_of x (convert Uint)))
-unsigned_fits None = tt
-unsigned_fits (Some v.Indeterminate) = tt
 unsigned_fits (Some (v.Int z)) = in_range (low_bits 32 z) (below_32 z)
 unsigned_fits (Some (v.Uint n)) = in_range (low_bits 32 (pos n)) (below_32 (pos n))
 unsigned_fits (Some (v.Char z)) = in_range (low_bits 32 z) (below_32 z)
 unsigned_fits (Some (v.Uchar n)) = in_range (low_bits 32 (pos n)) (below_32 (pos n))
-unsigned_fits (Some v.Null) = tt
-unsigned_fits (Some (v.Func f)) = tt
-unsigned_fits (Some (v.At q)) = tt
+unsigned_fits x = tt
 
 entry_fits : (kind : ArgKind) (e : Expr) → FitsEntry kind (entry kind e)
 entry_fits Signed e = signed_fits (constant_value e)

@@ -17,21 +17,13 @@ count_types (t ∷ ts) = ap suc (count_types ts)
 pub same_length : (ts us : List TypeTree) → types_of ts ≡ types_of us → length ts ≡ length us
 same_length ts us q = sym (count_types ts) ∙ (ap count q ∙ count_types us)
 
-abbrev result_in : CType → CType
+abbrev pub result_in : CType → CType
 result_in (function r ts) = r
-result_in void = void
-result_in (integer i) = void
-result_in (pointer t) = void
-result_in (array t n) = void
-result_in (struct s) = void
+result_in a = void
 
-abbrev parameters_in : CType → CTypes
+abbrev pub parameters_in : CType → CTypes
 parameters_in (function r ts) = ts
-parameters_in void = no_types
-parameters_in (integer i) = no_types
-parameters_in (pointer t) = no_types
-parameters_in (array t n) = no_types
-parameters_in (struct s) = no_types
+parameters_in a = no_types
 
 -- two functions are the same where their results and their parameters are
 pub same_functions :
@@ -50,12 +42,11 @@ others_in (more_types t ts) = ts
 -- lists that are the same place by place are the same
 pub all_same : (ts us : List TypeTree) (n : ℕ) → length ts ≡ length us → n ≡ length ts → SameBelow ts us n → types_of ts ≡ types_of us
 all_same [] [] n q r h = refl
-all_same [] (u ∷ us) n q r h = absurd (omega (arith, q))
-all_same (t ∷ ts) [] n q r h = absurd (omega (arith, q))
 all_same (t ∷ ts) (u ∷ us) n q r h =
     let first : ctype_of t ≡ ctype_of u = h 0 t u (omega (arith, r)) in
     let rest : types_of ts ≡ types_of us = all_same ts us (length ts) (omega (arith, q)) refl (λ k d e below. h (suc k) d e (omega (arith, r, below))) in
     ap (λ x. more_types x (types_of ts)) first ∙ ap (more_types (ctype_of u)) rest
+all_same ts us n q r h = absurd (omega (arith, q))
 
 -- the same lists are the same at each place
 pub same_at : (ts us : List TypeTree) (k : ℕ) (d e : TypeTree) → k < length ts → types_of ts ≡ types_of us → ctype_of (get_or ts k d) ≡ ctype_of (get_or us k e)

@@ -10,39 +10,13 @@ use Rattle.c_tree.specs.Tree.{Stmt, block, evaluate, break_off, return_value, no
 use Rattle.c_tree.specs.Functions.{int, unsigned_int, sys_types}
 use Rattle.c_tree.specs.Typed.{IsStmt, AreArguments}
 use Rattle.c_tree.specs.Program.{IsProgram, IsFunction}
+use Rattle.c_tree.proofs.OperatorLemmas.{form}
+use Rattle.c_tree.proofs.SameLemmas.{result_in, parameters_in}
 use Rattle.c_tree.proofs.TypedTrials.{two, zero_of_int, f_with, of_f_and_main, f_of_b, main_of_b, main_of_d}
-
--- what is returned of a function of this type
-abbrev returned : CType → CType
-returned void = void
-returned (integer i) = void
-returned (pointer t) = void
-returned (array t n) = void
-returned (struct s) = void
-returned (function r ts) = r
-
-abbrev taken : CType → CTypes
-taken void = no_types
-taken (integer i) = no_types
-taken (pointer t) = no_types
-taken (array t n) = no_types
-taken (struct s) = no_types
-taken (function r ts) = ts
 
 abbrev taken_where : Option CType → CTypes
 taken_where None = no_types
-taken_where (Some t) = taken t
-
-abbrev number_of : CType → ℕ
-number_of void = 0
-number_of (integer i.Char) = 1
-number_of (integer i.Uchar) = 2
-number_of (integer i.Int) = 3
-number_of (integer i.Uint) = 4
-number_of (pointer t) = 5
-number_of (array t n) = 6
-number_of (struct s) = 7
-number_of (function r ts) = 8
+taken_where (Some t) = parameters_in t
 
 -- the block of one statement
 abbrev only : Stmt → Stmt
@@ -52,7 +26,7 @@ only s = block (more_stmts s no_stmts)
 body_of_f : (f m : Stmt) (statics : List Static) (n : ℕ) → IsProgram (of_f_and_main (only f) m statics) n → (r : CType) × (int ≡ r) × IsStmt (of_f_and_main (only f) m statics) [] r false false f
 body_of_f f m statics n h =
     let it : IsFunction (of_f_and_main (only f) m statics) (f_with (only f)) = h.functions 0 (f_with (only f)) (omega arith) in
-    (it.gives, ap returned it.type, it.typed.0)
+    (it.gives, ap result_in it.type, it.typed.0)
 
 -- a body is a bare statement
 bare_body : (n : ℕ) → IsProgram (of_f_and_main (return_value zero_of_int) main_of_d []) n → ⊥
@@ -72,7 +46,7 @@ stray_break n h = false≢true (body_of_f break_off main_of_d [] n h).2
 another_result : (n : ℕ) → IsProgram (of_f_and_main (only (return_value (call unsigned_int 0 18 no_exprs))) main_of_d []) n → ⊥
 another_result n h =
     let b = body_of_f (return_value (call unsigned_int 0 18 no_exprs)) main_of_d [] n h in
-    let e : 4 ≡ 3 = ap number_of (b.2.1 ∙ sym b.1) in omega (arith, e)
+    let e : 4 ≡ 3 = ap form (b.2.1 ∙ sym b.1) in omega (arith, e)
 
 -- the function has no variables
 no_variable : (n : ℕ) → IsProgram (of_f_and_main (only (return_value (load int (variable int false 0)))) main_of_d []) n → ⊥
