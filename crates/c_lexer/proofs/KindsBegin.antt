@@ -1,5 +1,7 @@
 -- With which byte the text of a token begins, and what stands at the front of a text.
-use Rattle.std.proofs.Common.{◌≡◌, ◌⊎◌, ◌≤◌, ◌<◌, ℕ, Bool, true, false, List, [], ◌∷◌, ◌++◌, length, take, All, Contains, refl, ap, sym, ◌∙◌, subst, inl, inr, ⊎_elim, arith}
+use Rattle.std.proofs.Common.{◌≡◌, ◌⊎◌, ◌≤◌, ◌<◌, ℕ, Bool, true, false, List, [], ◌∷◌, ◌++◌, length, take, drop, All, Contains, refl, ap, sym, ◌∙◌, subst, inl, inr, ⊎_elim, arith}
+use Rattle.std.proofs.Math.Seq.{take-append_seam, drop-append_seam}
+use Rattle.std.proofs.lemmas.List.{length-append}
 use Rattle.std.specs.Char.{digit_value}
 use Rattle.std.specs.Str.Parse.{AllDigits}
 use Rattle.std.proofs.lemmas.Str.Parse.{digit_from_value}
@@ -15,7 +17,7 @@ use Rattle.c_lexer.specs.Kinds.{Spells, IsLexeme}
 use Rattle.c_lexer.specs.TokenSpelling.{IsToken}
 use Rattle.c_lexer.specs.Parts.{BeginsWith, IsOther}
 use Rattle.c_lexer.proofs.LiteralOne.{same_parts}
-use Rattle.c_lexer.proofs.WordTables.{keyword_is_fixed, punctuator_begins, number_Contains}
+use Rattle.c_lexer.proofs.WordTables.{IsMark, punctuator_mark, keyword_is_fixed, punctuator_begins, number_Contains}
 
 pub whole_begins : (P : ℕ → Type 0) (i w j : List ℕ) → i ≡ w ++ j → BeginsWith P w → BeginsWith P i
 whole_begins P i w j stands (b, rest, is, h) = (b, rest ++ j, stands ∙ ap (λ v. v ++ j) is, h)
@@ -87,12 +89,10 @@ pub first_apart : (P Q : ℕ → Type 0) (i : List ℕ) → ((b : ℕ) → P b �
 first_apart P Q i apart p (b, rest, is, q) = apart b (same_first P i b rest p is) q
 
 pub letter_no_digit : (b : ℕ) → IsLetter b → IsDigit b → ⊥
-letter_no_digit b (inr (inl x)) d = omega arith
-letter_no_digit b a d = omega arith
+letter_no_digit b a d = grind arith
 
 pub letter_no_mark : (b n : ℕ) → n < 65 → IsLetter b → b ≡ n → ⊥
-letter_no_mark b n low (inr (inl x)) e = omega arith
-letter_no_mark b n low a e = omega arith
+letter_no_mark b n low a e = grind arith
 
 pub digit_no_mark : (b n : ℕ) → n < 48 → IsDigit b → b ≡ n → ⊥
 digit_no_mark b n low d e = omega arith
@@ -139,6 +139,36 @@ pub front_begins : (P : ℕ → Type 0) (i w j : List ℕ) (b : ℕ) (rest : Lis
 front_begins P i w j b rest stands is first =
     (b, rest, is, same_first P i b (rest ++ j) first (stands ∙ ap (λ v. v ++ j) is))
 
+-- which bytes begin a text of the kind
+abbrev pub FirstOf : TokenKind → ℕ → Type 0
+FirstOf (Int value unsigned) b = IsDigit b
+FirstOf (Char c) b = b ≡ 39
+FirstOf (Str bytes) b = b ≡ 34
+FirstOf (Punct p) b = IsMark b
+FirstOf a b = IsLetter b
+
+-- the first byte of a token's text
+pub begins : (kind : TokenKind) (w : List ℕ) → Spells kind w → BeginsWith (FirstOf kind) w
+begins (Name name) w h = run_begins IsLetter IsWordByte w (name_is_word w h.1)
+begins (Keyword k) w h = run_begins IsLetter IsWordByte w (keyword_is_fixed w (number_Contains keywords k w h)).word
+begins (Int value unsigned) w h = run_begins IsDigit IsNumberByte w (constant_is_number w value h.0 h.1 h.2)
+begins (Char c) w h = character_begins w h.0 h.1
+begins (Str bytes) w h = string_begins w bytes h.0
+begins (Punct p) w h = punctuator_mark w (number_Contains punctuators p w h)
+
+-- the first byte of what follows a front that spells a token
+pub spelled_first : (kind : TokenKind) (w r i : List ℕ) (b : ℕ) → Spells kind w → w ++ r ≡ b ∷ i → FirstOf kind b
+spelled_first kind w r i b spells = front_has (FirstOf kind) w r i b (begins kind w spells)
+
+-- the bytes that begin a token are neither white space nor a #
+pub first_no_marker : (kind : TokenKind) → FirstOf kind 35 → ⊥
+first_no_marker (Punct p) h = h.no_marker refl
+first_no_marker kind h = grind arith
+
+pub first_no_blank : (kind : TokenKind) (b : ℕ) → FirstOf kind b → b ≤ 32 → ⊥
+first_no_blank (Punct p) b h low = omega (arith, h.above)
+first_no_blank kind b h low = grind arith
+
 -- A kind of text that is taken whole: what is taken whole and begins with such a byte is of this kind, and no comment begins so.
 pub record IsClass (First : ℕ → Type 0) (P : List ℕ → Type 0) : Type 0 where
   pub only : (w : List ℕ) → IsLexeme w → BeginsWith First w → P w
@@ -147,20 +177,20 @@ pub record IsClass (First : ℕ → Type 0) (P : List ℕ → Type 0) : Type 0 w
   pub no_slash : First 47 → ⊥
 
 module _ {First : ℕ → Type 0} {P : List ℕ → Type 0} (class : IsClass First P) {w i j : List ℕ} (taken : IsLongest P w i j) where
-  begins : BeginsWith First i
-  begins = whole_begins First i w j taken.stands (class.starts w taken.is)
+  text_begins : BeginsWith First i
+  text_begins = whole_begins First i w j taken.stands (class.starts w taken.is)
 
   least : (x y : List ℕ) → i ≡ x ++ y → IsLexeme x → length x ≤ length w
   least x y stands lexeme =
       let some = lexeme_some x lexeme in
-      taken.longest x y stands (class.only x lexeme (front_begins First i x y some.0 some.1 stands some.2 begins))
+      taken.longest x y stands (class.only x lexeme (front_begins First i x y some.0 some.1 stands some.2 text_begins))
 
   pub class_token : (kind : TokenKind) → Spells kind w → IsToken kind w j
   class_token kind spells = record {
     spells = spells;
     longest = λ x y stands lexeme. least x y (taken.stands ∙ stands) lexeme;
-    no_line_comment = λ (rest, is). class.no_slash (same_first First i 47 (47 ∷ rest) begins (taken.stands ∙ is));
-    no_block_comment = λ (rest, is). class.no_slash (same_first First i 47 (42 ∷ rest) begins (taken.stands ∙ is));
+    no_line_comment = λ (rest, is). class.no_slash (same_first First i 47 (47 ∷ rest) text_begins (taken.stands ∙ is));
+    no_block_comment = λ (rest, is). class.no_slash (same_first First i 47 (42 ∷ rest) text_begins (taken.stands ∙ is));
   }
 
   pub class_no_token : ((kind : TokenKind) → Spells kind w → ⊥) → (kind : TokenKind) (v rest : List ℕ) → i ≡ v ++ rest → IsToken kind v rest → ⊥
@@ -178,3 +208,11 @@ one_longest P i w j v k one other =
 
 pub zero_spelled : Spells (Int 0 false) (48 ∷ [])
 zero_spelled = (false, false, record { digits = 48 ∷ []; suffix = []; is = refl; number = inl ([], refl, tt, refl); ended = refl }, refl)
+
+-- a token that is a part of the text
+pub token_at : (kind : TokenKind) (n : ℕ) (text w after : List ℕ) → text ≡ w ++ after → length w ≡ n → IsToken kind w after → (n ≤ length text) × IsToken kind (take n text) (drop n text)
+token_at kind n text w after e size token =
+    let all = ap length e in
+    let front : take n text ≡ w = ap (λ (x : List ℕ). take n x) e ∙ sym (ap (λ (x : ℕ). take x (w ++ after)) size) ∙ take-append_seam w after in
+    let rest : drop n text ≡ after = ap (λ (x : List ℕ). drop n x) e ∙ sym (ap (λ (x : ℕ). drop x (w ++ after)) size) ∙ drop-append_seam w after in
+    (omega (arith, all, length-append w after), rw (front, rest) token)

@@ -8,10 +8,12 @@ use Rattle.std.proofs.lemmas.Bool.Decides.{nat_tests}
 use Rattle.dm_base.specs.Name.{IsName}
 use Rattle.c_lexer.specs.declared.token.TokenKind.{TokenKind}
 use Rattle.c_lexer.specs.declared.token.TokenKind.TheVariants.{Name, Keyword, Int, Char, Str, Punct}
+use Rattle.std.proofs.lemmas.Option.{slice_get-get_or}
+use Rattle.c_lexer.specs.Words.{keywords, punctuators}
 use Rattle.c_lexer.specs.Literals.{IsDecimal, IsSuffix, type_of}
 use Rattle.c_lexer.specs.Kinds.{Spells, SpellsSome, IsKind}
 use Rattle.c_lexer.proofs.KindsBegin.{zero_spelled}
-use Rattle.c_lexer.proofs.WordTables.{keyword_number_below, punctuator_number_below, keyword_at, punctuator_at}
+use Rattle.c_lexer.proofs.WordTables.{keyword_number_below, punctuator_number_below}
 use Rattle.c_lexer.proofs.LiteralKinds.{char_kind, str_kind, char_spelled, str_spelled}
 
 pub type_unsigned : (decimal suffixed : Bool) (n : ℕ) → type_of decimal suffixed n ≡ Some true → n < 2 ^ 32
@@ -46,12 +48,13 @@ zero_unsigned : SpellsSome (Int 0 true)
 zero_unsigned = (48 ∷ 117 ∷ [], (false, true, record { digits = 48 ∷ []; suffix = 117 ∷ []; is = refl; number = inl ([], refl, tt, refl); ended = inl refl }, refl))
 
 pub kind_is_spelled : (kind : TokenKind) → IsKind kind → SpellsSome kind
+unfolding keywords punctuators
 kind_is_spelled (Name name) h = (name, (refl, h))
-kind_is_spelled (Keyword k) h = keyword_at k h
+kind_is_spelled (Keyword k) h = (get_or keywords k [], slice_get-get_or keywords k [] h)
 kind_is_spelled (Int zero true) h = zero_unsigned
 kind_is_spelled (Int (suc n) true) h = some_int (suc n) true (117 ∷ []) (inl refl) (omega arith) (omega arith) (ap (λ t. cond t (Some true) None) (lt-ltb (suc n) (2 ^ 32) h))
 kind_is_spelled (Int zero false) h = (48 ∷ [], zero_spelled)
 kind_is_spelled (Int (suc n) false) h = some_int (suc n) false [] refl (omega arith) (omega arith) (ap (λ t. cond t (Some false) None) (lt-ltb (suc n) (2 ^ 31) h))
 kind_is_spelled (Char c) h = char_spelled c h
 kind_is_spelled (Str bytes) h = str_spelled bytes h
-kind_is_spelled (Punct p) h = punctuator_at p h
+kind_is_spelled (Punct p) h = (get_or punctuators p [], slice_get-get_or punctuators p [] h)

@@ -19,6 +19,7 @@ use Rattle.c_lexer.specs.Refusals.{Holds, IsWhole, IsMalformedNumber, IsLongWord
 use Rattle.c_lexer.specs.Parts.{BeginsWith}
 use Rattle.c_lexer.specs.Elements.{IsQuote}
 use Rattle.c_lexer.specs.Runs.{IsRunLength}
+use Rattle.dm_base.proofs.Names.{IsName-from_parts}
 use Rattle.c_lexer.proofs.KindsBegin.{zero_spelled, run_begins, same_first, first_apart, whole_begins, letter_no_digit, letter_no_mark, digit_no_mark}
 use Rattle.c_lexer.proofs.WordTables.{c99_is_fixed}
 
@@ -59,13 +60,8 @@ number_longest = front_longest IsDigit IsNumberByte (λ b h. inl (inr h))
 
 -- a letter is a name by itself
 letter_is_name : (b : ℕ) → IsLetter b → IsName (b ∷ [])
-letter_is_name b h = record {
-  some = omega arith;
-  short = omega arith;
-  begins = λ c rest e. let same : b ≡ c = cc in subst IsLetter same h;
-  bytes = All-cons IsWordByte b [] (inl h) (All-nil IsWordByte);
-  free = λ among. let fixed = c99_is_fixed (b ∷ []) among in omega (arith, fixed.long);
-}
+letter_is_name b h =
+    IsName-from_parts (b ∷ []) (omega arith) (omega arith) (letter_no_digit b h) (All-cons IsWordByte b [] (inl h) (All-nil IsWordByte)) (λ among. let fixed = c99_is_fixed (b ∷ []) among in omega (arith, fixed.long))
 
 pub letter_no_foreign : (i : List ℕ) → BeginsWith IsLetter i → Holds ForeignByte i → ⊥
 letter_no_foreign i first (b, rest, is, _, none) = none (Name (b ∷ [])) [] (refl, letter_is_name b (same_first IsLetter i b rest first is))

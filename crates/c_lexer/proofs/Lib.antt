@@ -18,10 +18,8 @@ pub mod MarkTokens
 pub mod NamedNumbers
 pub mod NumberLemmas
 pub mod NumberParts
-pub mod OneTokenBegins
 pub mod OneTokenKinds
 pub mod OneTokenNumbers
-pub mod OneTokenSame
 pub mod OneTokenTables
 pub mod OneTokenText
 pub mod OneTokenWhite

@@ -9,7 +9,8 @@ use Rattle.c_lexer.specs.Literals.{char_value}
 use Rattle.c_lexer.specs.Elements.{KeepsByte, HasNoElement, HasValues, ReadsElement, ReadsElements}
 use Rattle.c_lexer.specs.TokenSpelling.{IsToken}
 use Rattle.c_lexer.specs.Reading.{IsMisfit}
-use Rattle.c_lexer.proofs.LiteralReads.{At, malformed_string, malformed_character, large_string, large_character, string_form, character_form, literal_token, literal_found, no_string, no_character, no_first, token_at}
+use Rattle.c_lexer.proofs.LiteralReads.{At, malformed_string, malformed_character, large_string, large_character, string_form, character_form, literal_token, literal_found, no_string, no_character, no_first}
+use Rattle.c_lexer.proofs.KindsBegin.{token_at}
 
 pub string_open : (text rest : List ℕ) (e : Elements) → text ≡ 34 ∷ rest → ReadsElements 34 rest e → (At text (e.length + 1) 34 → ⊥) → IsMisfit Malformed text
 string_open text rest e is reads ended =

@@ -10,9 +10,8 @@ use Rattle.c_lexer.specs.Kinds.{IsByte, Spells, IsLexeme}
 use Rattle.dm_base.specs.Name.{IsLetter, IsDigit}
 use Rattle.c_lexer.specs.Words.{IsWordByte, IsNumberByte}
 use Rattle.c_lexer.specs.Parts.{IsOther}
-use Rattle.c_lexer.proofs.KindsBegin.{front_has, run_begins, character_begins, string_begins}
+use Rattle.c_lexer.proofs.KindsBegin.{front_has, run_begins, character_begins, string_begins, FirstOf, spelled_first}
 use Rattle.c_lexer.proofs.KindsRuns.{letter_no_quote, digit_no_quote}
-use Rattle.c_lexer.proofs.OneTokenBegins.{FirstOf, spelled_first}
 use Rattle.c_lexer.proofs.WordTables.{punctuator_begins}
 
 -- what begins with a single quote is a character constant

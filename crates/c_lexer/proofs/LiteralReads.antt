@@ -220,11 +220,3 @@ no_first text rest is stop w after u e s =
     let (i, begins, found) = character_parts after s in
     let same : i ≡ rest = cc in
     stop (39 ∷ after) u (subst (λ (x : List ℕ). HasElement 39 x (39 ∷ after) u) same found)
-
--- a token that is a part of the text
-pub token_at : (kind : TokenKind) (n : ℕ) (text w after : List ℕ) → text ≡ w ++ after → length w ≡ n → IsToken kind w after → (n ≤ length text) × IsToken kind (take n text) (drop n text)
-token_at kind n text w after e size token =
-    let all = ap length e in
-    let front : take n text ≡ w = ap (λ (x : List ℕ). take n x) e ∙ sym (ap (λ (x : ℕ). take x (w ++ after)) size) ∙ take-append_seam w after in
-    let rest : drop n text ≡ after = ap (λ (x : List ℕ). drop n x) e ∙ sym (ap (λ (x : ℕ). drop x (w ++ after)) size) ∙ drop-append_seam w after in
-    (omega (arith, all, length-append w after), rw (front, rest) token)

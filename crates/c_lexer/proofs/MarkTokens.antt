@@ -11,7 +11,7 @@ use Rattle.c_lexer.specs.TokenSpelling.{IsToken}
 use Rattle.c_lexer.specs.Reading.{IsClear, IsMisfit}
 use Rattle.c_lexer.specs.Refusals.{Holds}
 use Rattle.c_lexer.specs.Parts.{BeginsWith, IsOther, HasNoFront, IsLongestFront}
-use Rattle.c_lexer.proofs.KindsBegin.{front_begins, other_lexeme, lexeme_some, spelled_is_lexeme}
+use Rattle.c_lexer.proofs.KindsBegin.{token_at, front_begins, other_lexeme, lexeme_some, spelled_is_lexeme}
 use Rattle.c_lexer.proofs.WordTables.{punctuator_first}
 
 -- a text taken whole at the front is a punctuator
@@ -28,19 +28,10 @@ mark_is_token i w p clear first at front = record {
   no_block_comment = λ (rest, e). clear.no_block_comment (rest, front.stands ∙ e);
 }
 
-mark_within : (i w : List ℕ) → IsLongestFront punctuators w i → length w ≤ length i
-mark_within i w front =
-    let all : length i ≡ length (w ++ front.rest) = ap length front.stands in
-    let sum : length (w ++ front.rest) ≡ length w + length front.rest = length-append w front.rest in
-    omega arith
-
 pub mark_token : (i w v : List ℕ) (p : ℕ) → IsClear i → BeginsWith IsOther i → slice_get punctuators p ≡ Some w → IsLongestFront punctuators w i → slice_get punctuators p ≡ Some v → (length v ≤ length i) × IsToken (Punct p) (take (length v) i) (drop (length v) i)
 mark_token i w v p clear first at front read =
     let same : w ≡ v = cc in
-    let front_is : w ≡ take (length w) i = sym (ap (take (length w)) front.stands ∙ take_at w front.rest (length w) refl) in
-    let rest_is : front.rest ≡ drop (length w) i = sym (ap (drop (length w)) front.stands ∙ drop_at w front.rest (length w) refl) in
-    let token : IsToken (Punct p) (take (length w) i) (drop (length w) i) = subst (λ r. IsToken (Punct p) (take (length w) i) r) rest_is (subst (λ u. IsToken (Punct p) u front.rest) front_is (mark_is_token i w p clear first at front)) in
-    subst (λ u. (length u ≤ length i) × IsToken (Punct p) (take (length u) i) (drop (length u) i)) same (mark_within i w front, token)
+    token_at (Punct p) (length v) i w front.rest front.stands (ap length same) (mark_is_token i w p clear first at front)
 
 foreign_least : (i : List ℕ) (other : Cause) → code_of other < 1 → Holds other i → ⊥
 foreign_least i ForeignByte low h = omega arith

@@ -17,10 +17,9 @@ use Rattle.c_lexer.specs.Kinds.{Spells}
 use Rattle.c_lexer.specs.Refusals.{Holds, IsMalformedNumber}
 use Rattle.c_lexer.specs.Reading.{IsMisfit}
 use Rattle.c_lexer.specs.Parts.{BeginsWith, IsOther, IsNumberMisfit, IsUnsuffixed, IsBased}
-use Rattle.c_lexer.proofs.KindsBegin.{number_all, IsClass, class_no_token, one_longest, digit_lexeme, digit_no_mark, run_begins, whole_begins, first_apart, letter_no_digit}
-use Rattle.c_lexer.proofs.OneTokenBegins.{FirstOf, begins}
+use Rattle.c_lexer.proofs.KindsBegin.{number_all, IsClass, class_no_token, one_longest, digit_lexeme, digit_no_mark, run_begins, whole_begins, first_apart, letter_no_digit, FirstOf, begins}
 use Rattle.c_lexer.proofs.WordTables.{IsMark}
-use Rattle.c_lexer.proofs.KindsRuns.{digit_no_foreign, digit_malformed, no_comment, below_malformed, below_large}
+use Rattle.c_lexer.proofs.KindsRuns.{digit_no_foreign, digit_malformed, no_comment, whole_first, below_malformed, below_large}
 
 -- no byte of a number is a suffix
 abbrev IsNoSuffix : ℕ → Type 0
@@ -107,9 +106,6 @@ number_class = record {
   no_slash = λ h. digit_no_mark 47 47 (omega arith) h refl;
 }
 
-number_first : (i w j : List ℕ) → IsLongest IsNumber w i j → BeginsWith IsDigit i
-number_first i w j taken = whole_begins IsDigit i w j taken.stands (run_begins IsDigit IsNumberByte w taken.is)
-
 -- a number spells a constant
 number_spells : (w : List ℕ) → BeginsWith IsDigit w → ((n : ℕ) (decimal suffixed unsigned : Bool) → IsConstant w n decimal suffixed → type_of decimal suffixed n ≡ Some unsigned → ⊥) → (kind : TokenKind) → Spells kind w → ⊥
 number_spells w first none (Int n u) h = none n h.0 h.1 u h.2 h.3
@@ -125,14 +121,14 @@ digit_no_comment i = no_comment IsDigit i (λ b. digit_no_mark 47 47 (omega arit
 pub number_misfit : (cause : Cause) (i w j : List ℕ) → IsLongest IsNumber w i j → IsNumberMisfit cause w → IsMisfit cause i
 number_misfit Malformed i w j taken h = record {
   holds = inl (w, (j, taken), h);
-  least = let first = number_first i w j taken in below_malformed i (digit_no_foreign i first) (digit_no_comment i first);
+  least = let first = whole_first IsDigit IsNumberByte w i (j, taken) in below_malformed i (digit_no_foreign i first) (digit_no_comment i first);
   no_token = λ kind v rest stands token.
       class_no_token number_class taken (λ other. number_spells w (run_begins IsDigit IsNumberByte w taken.is) (λ n d s u c typed. h n d s c) other) kind v rest stands token;
 }
 number_misfit TooLarge i w j taken ((n, decimal, suffixed, c, none), each) = record {
   holds = inl (w, n, decimal, suffixed, (j, taken), c, none);
   least =
-      let first = number_first i w j taken in
+      let first = whole_first IsDigit IsNumberByte w i (j, taken) in
       below_large i (digit_no_foreign i first) (digit_no_comment i first) (λ h. no_malformed i w j n decimal suffixed taken c (digit_malformed i first h));
   no_token = λ kind v rest stands token.
       class_no_token number_class taken (λ other. number_spells w (run_begins IsDigit IsNumberByte w taken.is) (λ m d s u k typed. let untyped = each m d s k in cc) other) kind v rest stands token;

@@ -5,8 +5,7 @@ use Rattle.c_lexer.specs.declared.token.TokenKind.TheVariants.{Name, Keyword, In
 use Rattle.c_lexer.specs.Literals.{char_value}
 use Rattle.c_lexer.specs.Kinds.{Spells}
 use Rattle.c_lexer.specs.Words.{keywords}
-use Rattle.c_lexer.proofs.OneTokenBegins.{FirstOf, begins}
-use Rattle.c_lexer.proofs.KindsBegin.{first_apart}
+use Rattle.c_lexer.proofs.KindsBegin.{first_apart, FirstOf, begins}
 use Rattle.c_lexer.proofs.OneTokenNumbers.{one_type}
 use Rattle.c_lexer.proofs.LiteralOne.{one_string, one_character}
 use Rattle.c_lexer.proofs.OneTokenTables.{one_keyword, one_punctuator}

@@ -4,8 +4,14 @@ use Rattle.std.proofs.lemmas.List.{append-nil}
 use Rattle.dm_base.specs.declared.mode.Mode.{Mode}
 use Rattle.c_lexer.specs.declared.token.Token.{Token}
 use Rattle.c_lexer.specs.TokenSpelling.{IsWhite, Stand, SpellsFrom, nothing, white, token, SpellsTokens}
-use Rattle.c_lexer.proofs.OneTokenSame.{token_same}
+use std.HLevel.{prop→path_p}
+use Rattle.c_lexer.specs.Kinds.{IsKind}
+use Rattle.c_lexer.specs.KindProp.{IsKind-prop}
 use Rattle.c_lexer.proofs.OneTokenWhite.{one_white, no_token_in_white, one_token, white_some, token_some}
+
+-- tokens that are equal but for their ghost field are equal
+token_same : (t u : Token) → t.kind ≡ u.kind → t.from ≡ u.from → t.to ≡ u.to → t ≡ u
+token_same t u k f g = λ i. record { kind = k i; from = f i; to = g i; given = prop→path_p (λ j. IsKind (k j)) (IsKind-prop u.kind) t.given u.given i }
 
 -- what stands at one place begins one text
 same_text : (text v w : List ℕ) (p q a b : ℕ) → Stand text v p a → Stand text w q b → p ≡ q → v ++ drop a text ≡ w ++ drop b text

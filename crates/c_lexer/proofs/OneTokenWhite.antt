@@ -4,8 +4,7 @@ use Rattle.std.proofs.lemmas.Bool.{cases_lt}
 use Rattle.c_lexer.specs.declared.token.TokenKind.{TokenKind}
 use Rattle.c_lexer.specs.Kinds.{Spells}
 use Rattle.c_lexer.specs.TokenSpelling.{IsBlank, IsInLine, IsLineEnd, IsLineComment, IsBlockComment, HasEndAfter, IsLineMarker, IsWhite, blank, line_comment, block_comment, line_marker, IsToken}
-use Rattle.c_lexer.proofs.OneTokenBegins.{begins as begins_by, FirstOf, spelled_first, first_no_marker, first_no_blank}
-use Rattle.c_lexer.proofs.KindsBegin.{spelled_is_lexeme}
+use Rattle.c_lexer.proofs.KindsBegin.{spelled_is_lexeme, begins as begins_by, FirstOf, spelled_first, first_no_marker, first_no_blank}
 use Rattle.c_lexer.proofs.OneTokenKinds.{one_kind}
 use Rattle.c_lexer.proofs.LiteralOne.{same_parts}
 

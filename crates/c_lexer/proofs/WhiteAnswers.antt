@@ -1,6 +1,7 @@
 -- What the reader of white space answers, at each of its returns.
 use Rattle.std.proofs.Common.{◌≡◌, ◌⊎◌, ◌≢◌, ℕ, ◌+◌, ◌<◌, ◌≤◌, List, [], ◌∷◌, ◌++◌, length, get_or, take, drop, zero, suc, refl, sym, ap, ◌∙◌, subst, inl, inr, arith, append_assoc, length-append, Some, Ok, Err}
 use Rattle.std.specs.Prelude.{All}
+use Rattle.std.proofs.Math.Seq.{take-add}
 use Rattle.std.proofs.lemmas.List.{take-append-drop, take_at, drop-drop, length-take-le, length-drop, take-take, drop-take}
 use Rattle.std.proofs.lemmas.List.Elements.{All-head, All-tail}
 use Rattle.dm_base.specs.Name.{IsDigit, IsLetter}
@@ -15,10 +16,9 @@ use Rattle.c_lexer.specs.Refusals.{BeginsNoToken, Holds}
 use Rattle.c_lexer.specs.Reading.{HasNoWhite, ReadsWhite}
 use Rattle.c_lexer.specs.WhiteParts.{IsLine, IsCommentEnd, IsMarkerHead, BeginsMarker}
 use Rattle.c_lexer.specs.Elements.{IsQuote}
-use Rattle.c_lexer.proofs.KindsBegin.{same_first, letter_no_mark}
+use Rattle.c_lexer.proofs.KindsBegin.{same_first, letter_no_mark, spelled_first, first_no_marker}
 use Rattle.c_lexer.proofs.KindsRuns.{whole_first, large_begins}
 use Rattle.c_lexer.proofs.OneTokenWhite.{blank_low}
-use Rattle.c_lexer.proofs.OneTokenBegins.{spelled_first, first_no_marker}
 
 pub blank_reads : (front i : List ℕ) → 0 < length i → IsBlank (get_or i 0 0) → ReadsWhite front i (Ok (Some 1))
 blank_reads front [] some is_blank = absurd (omega arith)
@@ -141,11 +141,6 @@ marker_in_line w line head in_line =
     subst IsInLine (sym (marker_front w head line head.digits head.is))
     (in_line_cons 35 (32 ∷ head.digits ++ 32 ∷ 34 ∷ line) (λ e. omega arith) (in_line_cons 32 (head.digits ++ 32 ∷ 34 ∷ line) (λ e. omega arith) (digits_in_line head.digits head.are_digits (32 ∷ 34 ∷ line) (in_line_cons 32 (34 ∷ line) (λ e. omega arith) (in_line_cons 34 line (λ e. omega arith) in_line)))))
 
-take_both : (i : List ℕ) (n m : ℕ) → n ≤ length i → take (n + m) i ≡ take n i ++ take m (drop n i)
-take_both i n m within =
-    let long : length (take n i) ≡ n = length-take-le n i within in
-    sym (take-append-drop n (take (n + m) i)) ∙ ap (λ v. v ++ drop n (take (n + m) i)) (take-take n (n + m) i (omega arith)) ∙ ap (λ v. take n i ++ v) (drop-take n m i)
-
 pub marker_reads : (front i : List ℕ) (n m : ℕ) → EndsInMargin front → n ≤ length i → IsMarkerHead (take n i) → IsLine (drop n i) m → ReadsWhite front i (Ok (Some (n + m)))
 marker_reads front i n m margin within head line =
     let long : length (take n i) ≡ n = length-take-le n i within in
@@ -156,10 +151,10 @@ marker_reads front i n m margin within head line =
         margin = margin;
         digits = head.digits;
         name = take m (drop n i);
-        is = take_both i n m within ∙ marker_front (take n i) head (take m (drop n i)) head.digits head.is;
+        is = take-add n m i ∙ marker_front (take n i) head (take m (drop n i)) head.digits head.is;
         some = head.some;
         are_digits = head.are_digits;
-        in_line = subst IsInLine (sym (take_both i n m within)) (marker_in_line (take n i) (take m (drop n i)) head line.in_line);
+        in_line = subst IsInLine (sym (take-add n m i)) (marker_in_line (take n i) (take m (drop n i)) head line.in_line);
         ended = subst IsLineEnd (drop-drop m n i) line.ended;
       }),
     )

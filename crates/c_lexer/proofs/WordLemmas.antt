@@ -15,9 +15,9 @@ use Rattle.c_lexer.specs.Kinds.{Spells}
 use Rattle.c_lexer.specs.Refusals.{Holds, IsLongWord}
 use Rattle.c_lexer.specs.Reading.{IsMisfit, ReadsToken}
 use Rattle.c_lexer.specs.Parts.{BeginsWith, IsWordMisfit, ReadsWord}
-use Rattle.c_lexer.proofs.KindsBegin.{IsClass, class_no_token, one_longest, letter_lexeme, letter_no_mark, run_begins, whole_begins, first_apart}
-use Rattle.c_lexer.proofs.KindsRuns.{letter_no_foreign, letter_malformed, letter_no_large, no_comment, no_marker, below_malformed}
-use Rattle.c_lexer.proofs.OneTokenBegins.{FirstOf, begins}
+use Rattle.dm_base.proofs.Names.{IsName-from_parts}
+use Rattle.c_lexer.proofs.KindsBegin.{letter_no_digit, IsClass, class_no_token, one_longest, letter_lexeme, letter_no_mark, run_begins, whole_begins, first_apart, FirstOf, begins}
+use Rattle.c_lexer.proofs.KindsRuns.{letter_no_foreign, letter_malformed, letter_no_large, no_comment, no_marker, whole_first, below_malformed}
 use Rattle.c_lexer.proofs.WordTables.{IsMark, c99_keyword, keyword_is_fixed, excluded_is_fixed, excluded_is_c99, excluded_is_no_keyword, number_Contains}
 
 pub word_class : IsClass IsLetter IsWord
@@ -51,14 +51,14 @@ pub word_misfit : (cause : Cause) (i w j : List ℕ) → IsLongest IsWord w i j 
 word_misfit Malformed i w j taken h = record {
   holds = inr (inr (inr (w, (j, taken), h)));
   least =
-      let first = whole_begins IsLetter i w j taken.stands (run_begins IsLetter IsWordByte w taken.is) in
+      let first = whole_first IsLetter IsWordByte w i (j, taken) in
       below_malformed i (letter_no_foreign i first) (no_comment IsLetter i (λ b. letter_no_mark 47 47 (omega arith) b refl) first);
   no_token = λ kind v rest stands token.
       class_no_token word_class taken (λ other. word_spells ⊥ w taken.is (λ name. omega (arith, name.short)) (λ among. let fixed = keyword_is_fixed w among in omega (arith, fixed.short)) other) kind v rest stands token;
 }
 word_misfit ExcludedKeyword i w j taken h = record {
   holds = (w, (j, taken), h);
-  least = λ other low holds. excluded_least i w j taken (excluded_is_fixed w h).short (whole_begins IsLetter i w j taken.stands (run_begins IsLetter IsWordByte w taken.is)) other low holds;
+  least = λ other low holds. excluded_least i w j taken (excluded_is_fixed w h).short (whole_first IsLetter IsWordByte w i (j, taken)) other low holds;
   no_token = λ kind v rest stands token.
       class_no_token word_class taken (λ other. word_spells ⊥ w taken.is (λ name. name.free (excluded_is_c99 w h)) (λ among. excluded_is_no_keyword w h among) other) kind v rest stands token;
 }
@@ -70,13 +70,5 @@ word_refused (By cause) i w j taken h = word_misfit cause i w j taken h
 
 pub word_is_name : (w name : List ℕ) → IsWord w → length w ≤ 63 → (Contains keywords w → ⊥) → (Contains excluded_keywords w → ⊥) → name ≡ w → Spells (Name name) w
 word_is_name [] name word short free kept is = absurd word
-word_is_name (b ∷ w) name word short free kept is = (
-  is,
-  record {
-    some = omega arith;
-    short = short;
-    begins = λ c rest e. let same : b ≡ c = cc in subst IsLetter same word.0;
-    bytes = All-cons IsWordByte b w (inl word.0) word.1;
-    free = λ among. ⊎_elim free kept (c99_keyword (b ∷ w) among);
-  },
-)
+word_is_name (b ∷ w) name word short free kept is =
+    (is, IsName-from_parts (b ∷ w) (omega arith) short (letter_no_digit b word.0) (All-cons IsWordByte b w (inl word.0) word.1) (λ among. ⊎_elim free kept (c99_keyword (b ∷ w) among)))

@@ -4,7 +4,7 @@ use Rattle.std.specs.Str.{bytes_eq}
 use Rattle.std.proofs.lemmas.Slice.Eq.{bytes_eq-Decides}
 use Rattle.std.proofs.lemmas.Bool.{false≢true, and_parts, or_cases, or_parts, leb-true, le-leb, ltb-true, not-true, both_ways}
 use Rattle.std.proofs.lemmas.Bool.Decides.{Decides-and, Decides-or, Decides-not, Decides-ltb, Decides-eqb, Decides-by_and, Decides-by_or, not_from_Decides}
-use Rattle.std.proofs.lemmas.Option.{slice_get-get_or, slice_get_within, get_or_from_slice_get}
+use Rattle.std.proofs.lemmas.Option.{slice_get_within, get_or_from_slice_get}
 use Rattle.std.specs.List.{list_all}
 use Rattle.std.proofs.lemmas.List.Sums.{AllPass-from_list_all}
 use Rattle.std.proofs.lemmas.List.Elements.{All-contains, All-head, All-tail, All-weaker, Decides-contains}
@@ -157,14 +157,6 @@ keyword_number_below k w e = slice_get_within keywords k w e
 pub punctuator_number_below : (k : ℕ) (w : List ℕ) → slice_get punctuators k ≡ Some w → k < 45
 unfolding punctuators
 punctuator_number_below k w e = slice_get_within punctuators k w e
-
-pub keyword_at : (k : ℕ) → k < 22 → (w : List ℕ) × (slice_get keywords k ≡ Some w)
-unfolding keywords
-keyword_at k h = (get_or keywords k [], slice_get-get_or keywords k [] h)
-
-pub punctuator_at : (k : ℕ) → k < 45 → (w : List ℕ) × (slice_get punctuators k ≡ Some w)
-unfolding punctuators
-punctuator_at k h = (get_or punctuators k [], slice_get-get_or punctuators k [] h)
 
 -- what a table of references holds at a place
 pub slice_get_now : (words : List (Bor (List ℕ))) (k : ℕ) (d : Bor (List ℕ)) → k < length words → slice_get (map (λ word. word.now) words) k ≡ Some (get_or words k d).now
