@@ -1,18 +1,17 @@
 -- With which byte the text of a token begins, and what stands at the front of a text.
-use Rattle.std.proofs.Common.{◌≡◌, ◌⊎◌, ◌≤◌, ◌<◌, ℕ, Bool, true, false, List, [], ◌∷◌, ◌++◌, length, take, drop, All, Contains, refl, ap, sym, ◌∙◌, subst, inl, inr, ⊎_elim, arith}
+use Rattle.std.proofs.Common.{◌≡◌, ◌⊎◌, ◌≤◌, ◌<◌, ℕ, Bool, true, false, List, [], ◌∷◌, ◌++◌, length, take, drop, All, Contains, refl, ap, sym, ◌∙◌, subst, inl, inr, arith}
 use Rattle.std.proofs.Math.Seq.{take-append_seam, drop-append_seam}
 use Rattle.std.proofs.lemmas.List.{length-append}
 use Rattle.std.specs.Char.{digit_value}
 use Rattle.std.specs.Str.Parse.{AllDigits}
 use Rattle.std.proofs.lemmas.Str.Parse.{digit_from_value}
-use Rattle.std.proofs.lemmas.Bool.{cases_lt}
 use Rattle.std.proofs.lemmas.Bool.Decides.{nat_tests}
 use Rattle.std.proofs.lemmas.List.Elements.{All-nil, All-cons, All-append, All-tail}
 use Rattle.dm_base.specs.Name.{IsName, IsLetter, IsDigit}
 use Rattle.c_lexer.specs.declared.token.TokenKind.{TokenKind}
 use Rattle.c_lexer.specs.declared.token.TokenKind.TheVariants.{Name, Keyword, Int, Char, Str, Punct}
 use Rattle.c_lexer.specs.Words.{keywords, punctuators, IsWord, IsNumber, IsRun, IsWordByte, IsNumberByte}
-use Rattle.c_lexer.specs.Literals.{IsConstant, IsDecimal, IsOctal, IsHexadecimal, HasNumber, IsSuffix, IsCharacter, IsString, IsLongest}
+use Rattle.c_lexer.specs.Literals.{IsConstant, HasNumber, IsSuffix, IsCharacter, IsString, IsLongest}
 use Rattle.c_lexer.specs.Kinds.{Spells, IsLexeme}
 use Rattle.c_lexer.specs.TokenSpelling.{IsToken}
 use Rattle.c_lexer.specs.Parts.{BeginsWith, IsOther}

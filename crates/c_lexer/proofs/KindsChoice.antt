@@ -1,5 +1,5 @@
 -- The first byte of a text.
-use Rattle.std.proofs.Common.{◌≢◌, ℕ, List, [], ◌∷◌, get_or, refl, arith, inl, inr}
+use Rattle.std.proofs.Common.{◌≢◌, ℕ, List, [], ◌∷◌, get_or, refl, arith, inr}
 use Rattle.std.specs.Char.{IsNotAsciiAlphabetic, IsNotAsciiDigit}
 use Rattle.dm_base.specs.Name.{IsLetter, IsDigit}
 use Rattle.c_lexer.specs.Parts.{BeginsWith, IsOther}

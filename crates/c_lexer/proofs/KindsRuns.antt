@@ -20,7 +20,7 @@ use Rattle.c_lexer.specs.Parts.{BeginsWith}
 use Rattle.c_lexer.specs.Elements.{IsQuote}
 use Rattle.c_lexer.specs.Runs.{IsRunLength}
 use Rattle.dm_base.proofs.Names.{IsName-from_parts}
-use Rattle.c_lexer.proofs.KindsBegin.{zero_spelled, run_begins, same_first, first_apart, whole_begins, letter_no_digit, letter_no_mark, digit_no_mark}
+use Rattle.c_lexer.proofs.KindsBegin.{zero_spelled, run_begins, same_first, first_apart, whole_begins, letter_no_digit}
 use Rattle.c_lexer.proofs.WordTables.{c99_is_fixed}
 
 -- the front of a text with a first byte is a run

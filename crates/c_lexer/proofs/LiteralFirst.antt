@@ -1,11 +1,9 @@
 -- Only a literal begins with a quote.
-use Rattle.std.proofs.Common.{◌≡◌, ℕ, ℤ, List, [], ◌∷◌, ◌++◌, refl, sym, subst, inl, inr, ⊎_elim, arith}
-use Rattle.std.specs.Prelude.{Contains, All}
+use Rattle.std.proofs.Common.{◌≡◌, ℕ, ℤ, List, ◌∷◌, ◌++◌, refl, inl, inr, arith}
+use Rattle.std.specs.Prelude.{All}
 use Rattle.c_lexer.specs.declared.token.TokenKind.{TokenKind}
-use Rattle.c_lexer.specs.declared.token.TokenKind.TheVariants.{Name, Keyword, Int, Char, Str, Punct}
-use Rattle.c_lexer.specs.Words.{punctuators, IsWord, IsNumber}
+use Rattle.c_lexer.specs.declared.token.TokenKind.TheVariants.{Char, Str, Punct}
 use Rattle.c_lexer.specs.Literals.{IsCharacter, IsString, char_value}
-use Rattle.c_lexer.specs.Elements.{IsQuote}
 use Rattle.c_lexer.specs.Kinds.{IsByte, Spells, IsLexeme}
 use Rattle.dm_base.specs.Name.{IsLetter, IsDigit}
 use Rattle.c_lexer.specs.Words.{IsWordByte, IsNumberByte}

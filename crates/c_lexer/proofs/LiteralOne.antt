@@ -1,7 +1,6 @@
 -- One text has one element, one list of elements and one literal at its front.
 use Rattle.std.proofs.Common.{◌≡◌, ◌≢◌, ℕ, nat_eq, nat_lt, cond, true, false, List, [], ◌∷◌, ◌++◌, length, refl, sym, ◌∙◌, subst, inl, inr, arith}
 use Rattle.std.specs.Char.{digit_value}
-use Rattle.std.specs.Str.Parse.{digits_value}
 use Rattle.std.proofs.lemmas.Bool.{ne_eqb, lt-ltb}
 use Rattle.c_lexer.specs.Elements.{IsQuote, HasNoElement}
 use Rattle.c_lexer.specs.Literals.{IsElement, HasElement, HasElements, IsCharacter, IsString}

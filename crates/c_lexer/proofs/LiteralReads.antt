@@ -1,7 +1,7 @@
 -- What the readers of a literal answer.
-use Rattle.std.proofs.Common.{◌≡◌, ℕ, pos, suc, ◌+◌, ◌-◌, ◌<◌, ◌≤◌, List, [], ◌∷◌, ◌++◌, length, get_or, take, drop, refl, sym, ◌∙◌, ap, subst, inl, inr, arith}
+use Rattle.std.proofs.Common.{◌≡◌, ℕ, pos, suc, ◌+◌, ◌-◌, ◌<◌, ◌≤◌, List, [], ◌∷◌, ◌++◌, length, get_or, drop, refl, sym, ◌∙◌, ap, subst, inl, inr, arith}
 use Rattle.std.specs.Prelude.{All, Any}
-use Rattle.std.proofs.Math.Seq.{drop-cons, take-append_seam, drop-append_seam}
+use Rattle.std.proofs.Math.Seq.{drop-cons}
 use Rattle.std.proofs.lemmas.List.{length-append, length-drop, get_or-drop}
 use Rattle.std.proofs.lemmas.List.Elements.{All-nil}
 use Rattle.c_lexer.specs.declared.token.TokenKind.{TokenKind}
@@ -9,7 +9,7 @@ use Rattle.c_lexer.specs.declared.token.TokenKind.TheVariants.{Char, Str}
 use Rattle.c_lexer.specs.declared.error.Cause.{Cause}
 use Rattle.c_lexer.specs.declared.error.Cause.TheVariants.{ForeignByte, OpenComment, Malformed, TooLarge}
 use Rattle.c_lexer.specs.Codes.{code_of}
-use Rattle.c_lexer.specs.Literals.{IsPlain, HasElement, HasElements, IsCharacter, IsString, char_value}
+use Rattle.c_lexer.specs.Literals.{IsPlain, HasElement, HasElements, IsCharacter, IsString}
 use Rattle.c_lexer.specs.Literals.HasElements.{none}
 use Rattle.c_lexer.specs.Elements.{IsQuote, HasNoElement}
 use Rattle.c_lexer.specs.Kinds.{IsByte, Spells, IsLexeme}

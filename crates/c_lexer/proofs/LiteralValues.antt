@@ -12,7 +12,7 @@ use Rattle.c_lexer.specs.declared.literal.Elements.{Elements}
 use Rattle.c_lexer.specs.Elements.{KeepsByte, HasValues, HasRead, ReadsElement, AddsValue}
 use Rattle.c_lexer.proofs.EscapeFronts.{Front, front}
 use Rattle.c_lexer.proofs.LiteralParts.{elements_push}
-use Rattle.c_lexer.proofs.EscapeFronts.Front.{a_plain, a_simple, an_octal, a_hexadecimal}
+use Rattle.c_lexer.proofs.EscapeFronts.Front.{an_octal, a_hexadecimal}
 
 pub large_value : (vs : List ℕ) (v : ℕ) → 255 < v → Any (λ x. 255 < x) (vs ++ v ∷ [])
 large_value vs v large = Any-push (λ x. 255 < x) vs v large

@@ -1,9 +1,8 @@
 -- What the longest punctuator at the front makes of the text.
-use Rattle.std.proofs.Common.{◌≡◌, ◌≤◌, ◌<◌, ◌+◌, ℕ, List, [], ◌∷◌, ◌++◌, length, take, drop, Contains, Some, slice_get, refl, ap, sym, ◌∙◌, subst, arith}
-use Rattle.std.proofs.lemmas.List.{take_at, drop_at, length-append}
+use Rattle.std.proofs.Common.{◌≡◌, ◌≤◌, ◌<◌, ℕ, List, [], ◌∷◌, ◌++◌, length, take, drop, Contains, Some, slice_get, refl, ap, ◌∙◌, arith}
 use Rattle.c_lexer.specs.declared.token.TokenKind.TheVariants.{Punct}
 use Rattle.c_lexer.specs.declared.error.Cause.{Cause}
-use Rattle.c_lexer.specs.declared.error.Cause.TheVariants.{ForeignByte, OpenComment, Malformed, TooLarge, NoLineMarker, ExcludedKeyword}
+use Rattle.c_lexer.specs.declared.error.Cause.TheVariants.{ForeignByte}
 use Rattle.c_lexer.specs.Codes.{code_of}
 use Rattle.c_lexer.specs.Words.{punctuators}
 use Rattle.c_lexer.specs.Kinds.{IsLexeme}

@@ -1,23 +1,21 @@
 -- What a number that was taken whole makes of the text.
 use Rattle.std.proofs.Common.{◌≡◌, ◌⊎◌, ◌≤◌, ◌<◌, ◌+◌, ◌-◌, ◌^◌, ◌==◌, ℕ, Bool, true, false, List, [], ◌∷◌, ◌++◌, length, get_or, take, All, Some, None, refl, ap, sym, ◌∙◌, subst, inl, inr, ⊎_elim, arith, append-nil}
 use Rattle.std.specs.Char.{digit_value}
-use Rattle.std.specs.Str.Parse.{AllDigits, IsNumeral, digits_value}
+use Rattle.std.specs.Str.Parse.{IsNumeral, digits_value}
 use Rattle.std.proofs.lemmas.Bool.Decides.{nat_tests}
 use Rattle.std.proofs.lemmas.List.{same_from_push, get_or_at, take_more, take_all, length_push}
-use Rattle.std.proofs.lemmas.List.Elements.{All-nil, All-cons}
-use Rattle.dm_base.specs.Name.{IsLetter, IsDigit}
+use Rattle.dm_base.specs.Name.{IsDigit}
 use Rattle.c_lexer.specs.declared.token.TokenKind.{TokenKind}
-use Rattle.c_lexer.specs.declared.token.TokenKind.TheVariants.{Name, Keyword, Int, Char, Str, Punct}
+use Rattle.c_lexer.specs.declared.token.TokenKind.TheVariants.{Int, Punct}
 use Rattle.c_lexer.specs.declared.error.Cause.{Cause}
-use Rattle.c_lexer.specs.declared.error.Cause.TheVariants.{ForeignByte, OpenComment, Malformed, TooLarge, NoLineMarker, ExcludedKeyword}
-use Rattle.c_lexer.specs.Codes.{code_of}
-use Rattle.c_lexer.specs.Words.{keywords, punctuators, IsNumber, IsWordByte, IsNumberByte}
-use Rattle.c_lexer.specs.Literals.{IsLongest, IsConstant, IsDecimal, HasNumber, IsSuffix, type_of}
+use Rattle.c_lexer.specs.declared.error.Cause.TheVariants.{OpenComment, Malformed, TooLarge}
+use Rattle.c_lexer.specs.Words.{IsNumber, IsNumberByte}
+use Rattle.c_lexer.specs.Literals.{IsLongest, IsConstant, HasNumber, IsSuffix, type_of}
 use Rattle.c_lexer.specs.Kinds.{Spells}
 use Rattle.c_lexer.specs.Refusals.{Holds, IsMalformedNumber}
 use Rattle.c_lexer.specs.Reading.{IsMisfit}
-use Rattle.c_lexer.specs.Parts.{BeginsWith, IsOther, IsNumberMisfit, IsUnsuffixed, IsBased}
-use Rattle.c_lexer.proofs.KindsBegin.{number_all, IsClass, class_no_token, one_longest, digit_lexeme, digit_no_mark, run_begins, whole_begins, first_apart, letter_no_digit, FirstOf, begins}
+use Rattle.c_lexer.specs.Parts.{BeginsWith, IsNumberMisfit, IsUnsuffixed, IsBased}
+use Rattle.c_lexer.proofs.KindsBegin.{number_all, IsClass, class_no_token, one_longest, digit_lexeme, digit_no_mark, run_begins, first_apart, FirstOf, begins}
 use Rattle.c_lexer.proofs.WordTables.{IsMark}
 use Rattle.c_lexer.proofs.KindsRuns.{digit_no_foreign, digit_malformed, no_comment, whole_first, below_malformed, below_large}
 

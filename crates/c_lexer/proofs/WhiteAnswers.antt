@@ -2,15 +2,15 @@
 use Rattle.std.proofs.Common.{◌≡◌, ◌⊎◌, ◌≢◌, ℕ, ◌+◌, ◌<◌, ◌≤◌, List, [], ◌∷◌, ◌++◌, length, get_or, take, drop, zero, suc, refl, sym, ap, ◌∙◌, subst, inl, inr, arith, append_assoc, length-append, Some, Ok, Err}
 use Rattle.std.specs.Prelude.{All}
 use Rattle.std.proofs.Math.Seq.{take-add}
-use Rattle.std.proofs.lemmas.List.{take-append-drop, take_at, drop-drop, length-take-le, length-drop, take-take, drop-take}
+use Rattle.std.proofs.lemmas.List.{take_at, drop-drop, length-take-le, length-drop}
 use Rattle.std.proofs.lemmas.List.Elements.{All-head, All-tail}
 use Rattle.dm_base.specs.Name.{IsDigit, IsLetter}
 use Rattle.c_lexer.specs.declared.token.TokenKind.{TokenKind}
 use Rattle.c_lexer.specs.declared.token.TokenKind.TheVariants.{Punct}
 use Rattle.c_lexer.specs.declared.error.Cause.{Cause}
-use Rattle.c_lexer.specs.declared.error.Cause.TheVariants.{ForeignByte, OpenComment, Malformed, TooLarge, NoLineMarker, ExcludedKeyword}
+use Rattle.c_lexer.specs.declared.error.Cause.TheVariants.{ForeignByte, OpenComment, Malformed, TooLarge, NoLineMarker}
 use Rattle.c_lexer.specs.Codes.{code_of}
-use Rattle.c_lexer.specs.Words.{punctuators, IsRun, IsWordByte, IsNumberByte}
+use Rattle.c_lexer.specs.Words.{punctuators, IsWordByte, IsNumberByte}
 use Rattle.c_lexer.specs.TokenSpelling.{IsBlank, IsInLine, IsLineEnd, BeginsBlockComment, HasEndAfter, EndsInMargin, blank, line_comment, block_comment, line_marker, IsToken}
 use Rattle.c_lexer.specs.Refusals.{BeginsNoToken, Holds}
 use Rattle.c_lexer.specs.Reading.{HasNoWhite, ReadsWhite}

@@ -1,22 +1,22 @@
 -- What a word that was taken whole makes of the text.
-use Rattle.std.proofs.Common.{◌≡◌, ◌≤◌, ◌<◌, ℕ, List, [], ◌∷◌, length, Contains, Err, refl, ap, subst, inl, inr, ⊎_elim, arith}
+use Rattle.std.proofs.Common.{◌≡◌, ◌≤◌, ◌<◌, ℕ, List, [], ◌∷◌, length, Contains, Err, refl, ap, inl, inr, ⊎_elim, arith}
 use Rattle.std.proofs.lemmas.List.Elements.{All-cons}
-use Rattle.dm_base.specs.Name.{IsLetter, IsDigit, IsName}
+use Rattle.dm_base.specs.Name.{IsLetter, IsName}
 use Rattle.c_lexer.specs.declared.token.TokenKind.{TokenKind}
-use Rattle.c_lexer.specs.declared.token.TokenKind.TheVariants.{Name, Keyword, Int, Char, Str, Punct}
+use Rattle.c_lexer.specs.declared.token.TokenKind.TheVariants.{Name, Keyword, Punct}
 use Rattle.c_lexer.specs.declared.error.Cause.{Cause}
 use Rattle.c_lexer.specs.declared.error.Cause.TheVariants.{ForeignByte, OpenComment, Malformed, TooLarge, NoLineMarker, ExcludedKeyword}
 use Rattle.c_lexer.specs.declared.misfit.Misfit.{Misfit}
 use Rattle.c_lexer.specs.declared.misfit.Misfit.TheVariants.{OutOfMemory, By}
 use Rattle.c_lexer.specs.Codes.{code_of}
-use Rattle.c_lexer.specs.Words.{keywords, excluded_keywords, punctuators, IsWord, IsWordByte, IsNumberByte}
+use Rattle.c_lexer.specs.Words.{keywords, excluded_keywords, IsWord, IsWordByte}
 use Rattle.c_lexer.specs.Literals.{IsLongest}
 use Rattle.c_lexer.specs.Kinds.{Spells}
 use Rattle.c_lexer.specs.Refusals.{Holds, IsLongWord}
 use Rattle.c_lexer.specs.Reading.{IsMisfit, ReadsToken}
 use Rattle.c_lexer.specs.Parts.{BeginsWith, IsWordMisfit, ReadsWord}
 use Rattle.dm_base.proofs.Names.{IsName-from_parts}
-use Rattle.c_lexer.proofs.KindsBegin.{letter_no_digit, IsClass, class_no_token, one_longest, letter_lexeme, letter_no_mark, run_begins, whole_begins, first_apart, FirstOf, begins}
+use Rattle.c_lexer.proofs.KindsBegin.{letter_no_digit, IsClass, class_no_token, one_longest, letter_lexeme, letter_no_mark, run_begins, first_apart, FirstOf, begins}
 use Rattle.c_lexer.proofs.KindsRuns.{letter_no_foreign, letter_malformed, letter_no_large, no_comment, no_marker, whole_first, below_malformed}
 use Rattle.c_lexer.proofs.WordTables.{IsMark, c99_keyword, keyword_is_fixed, excluded_is_fixed, excluded_is_c99, excluded_is_no_keyword, number_Contains}
 

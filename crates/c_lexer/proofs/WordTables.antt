@@ -1,14 +1,14 @@
 -- Facts on the tables of words, by tests that compute.
-use Rattle.std.proofs.Common.{◌≡◌, ◌≢◌, ◌⊎◌, ◌<◌, ℕ, zero, suc, Bool, true, false, not, ◌&&◌, ◌||◌, Decides, nat_eq, nat_le, nat_lt, List, [], ◌∷◌, length, get_or, map, All, Contains, Option, Some, None, MatchOption, IsTrue, ◌↔◌, is_some, slice_get, Bor, refl, ap, sym, ◌∙◌, subst, inl, inr, ⊎_elim, arith}
+use Rattle.std.proofs.Common.{◌≡◌, ◌≢◌, ◌⊎◌, ◌<◌, ℕ, zero, suc, Bool, true, false, not, ◌&&◌, ◌||◌, Decides, nat_eq, nat_le, nat_lt, List, [], ◌∷◌, length, get_or, map, Contains, Option, Some, None, MatchOption, IsTrue, ◌↔◌, is_some, slice_get, Bor, refl, sym, ◌∙◌, inl, inr, ⊎_elim, arith}
 use Rattle.std.specs.Str.{bytes_eq}
 use Rattle.std.proofs.lemmas.Slice.Eq.{bytes_eq-Decides}
-use Rattle.std.proofs.lemmas.Bool.{false≢true, and_parts, or_cases, or_parts, leb-true, le-leb, ltb-true, not-true, both_ways}
+use Rattle.std.proofs.lemmas.Bool.{false≢true, and_parts, or_cases, leb-true, le-leb, ltb-true, not-true}
 use Rattle.std.proofs.lemmas.Bool.Decides.{Decides-and, Decides-or, Decides-not, Decides-ltb, Decides-eqb, Decides-by_and, Decides-by_or, not_from_Decides}
 use Rattle.std.proofs.lemmas.Option.{slice_get_within, get_or_from_slice_get}
 use Rattle.std.specs.List.{list_all}
 use Rattle.std.proofs.lemmas.List.Sums.{AllPass-from_list_all}
 use Rattle.std.proofs.lemmas.List.Elements.{All-contains, All-head, All-tail, All-weaker, Decides-contains}
-use Rattle.dm_base.specs.Name.{IsLetter, IsDigit, keywords as all_keywords}
+use Rattle.dm_base.specs.Name.{IsLetter, keywords as all_keywords}
 use Rattle.c_lexer.specs.Words.{IsWord, IsWordByte, keywords, excluded_keywords, punctuators}
 use Rattle.c_lexer.specs.Parts.{BeginsWith, IsOther}
 
