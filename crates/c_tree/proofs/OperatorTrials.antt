@@ -28,20 +28,22 @@ one = Int (pos 1)
 abbrev zero_int : Value
 zero_int = Int (pos 0)
 
+-- an operator at its operands, and what it gives
 record Row : Type 0 where
-  op : BinOp
-  left : Value
-  right : Value
-  answer : Answer Value
+  asked : Answer Value
+  wanted : Answer Value
 
 abbrev row : BinOp → Value → Value → Answer Value → Row
-row o a b r = record { op = o; left = a; right = b; answer = r }
+row o a b r = record { asked = binary o a b; wanted = r }
 
-abbrev asked : Row → Answer Value
-asked r = binary r.op r.left r.right
+abbrev unary_row : UnOp → Value → Answer Value → Row
+unary_row o a r = record { asked = unary o a; wanted = r }
 
-abbrev wanted : Row → Answer Value
-wanted r = r.answer
+abbrev convert_row : IntType → Value → Answer Value → Row
+convert_row to a r = record { asked = convert to a; wanted = r }
+
+abbrev AreRight : List Row → Type 0
+AreRight rows = map (λ (r : Row). r.asked) rows ≡ map (λ (r : Row). r.wanted) rows
 
 abbrev arithmetic_rows : List Row
 arithmetic_rows =
@@ -70,7 +72,7 @@ arithmetic_rows =
     ∷ row Div (Uint 7) (Uint 0) (undefined U2)
     ∷ []
 
-arithmetic_is_right : map asked arithmetic_rows ≡ map wanted arithmetic_rows
+arithmetic_is_right : AreRight arithmetic_rows
 arithmetic_is_right = refl
 
 abbrev shift_rows : List Row
@@ -90,7 +92,7 @@ shift_rows =
     ∷ row ShiftRight (Uint 1) minus_one (undefined U3)
     ∷ []
 
-shifts_are_right : map asked shift_rows ≡ map wanted shift_rows
+shifts_are_right : AreRight shift_rows
 shifts_are_right = refl
 
 abbrev bit_rows : List Row
@@ -103,7 +105,7 @@ bit_rows =
     ∷ row BitXor (Uint 4294967295) (Uint 1) (gives (Uint 4294967294))
     ∷ []
 
-bits_are_right : map asked bit_rows ≡ map wanted bit_rows
+bits_are_right : AreRight bit_rows
 unfolding int_wrap
 bits_are_right = refl
 
@@ -123,24 +125,10 @@ comparison_rows =
     ∷ row Add (Char (pos 1)) one (undefined U13)
     ∷ []
 
-comparisons_are_right : map asked comparison_rows ≡ map wanted comparison_rows
+comparisons_are_right : AreRight comparison_rows
 comparisons_are_right = refl
 
-record UnaryRow : Type 0 where
-  op : UnOp
-  operand : Value
-  answer : Answer Value
-
-abbrev unary_row : UnOp → Value → Answer Value → UnaryRow
-unary_row o a r = record { op = o; operand = a; answer = r }
-
-abbrev unary_asked : UnaryRow → Answer Value
-unary_asked r = unary r.op r.operand
-
-abbrev unary_wanted : UnaryRow → Answer Value
-unary_wanted r = r.answer
-
-abbrev unary_rows : List UnaryRow
+abbrev unary_rows : List Row
 unary_rows =
     unary_row Minus least (undefined U1)
     ∷ unary_row Minus greatest (gives (Int (negsuc 2147483646)))
@@ -154,24 +142,10 @@ unary_rows =
     ∷ unary_row Not Null (undefined U13)
     ∷ []
 
-unary_is_right : map unary_asked unary_rows ≡ map unary_wanted unary_rows
+unary_is_right : AreRight unary_rows
 unary_is_right = refl
 
-record ConvertRow : Type 0 where
-  to : IntType
-  operand : Value
-  answer : Answer Value
-
-abbrev convert_row : IntType → Value → Answer Value → ConvertRow
-convert_row to a r = record { to = to; operand = a; answer = r }
-
-abbrev convert_asked : ConvertRow → Answer Value
-convert_asked r = convert r.to r.operand
-
-abbrev convert_wanted : ConvertRow → Answer Value
-convert_wanted r = r.answer
-
-abbrev convert_rows : List ConvertRow
+abbrev convert_rows : List Row
 convert_rows =
     convert_row t.Char (Int (pos 200)) (gives (Char (negsuc 55)))  -- −56
     ∷ convert_row t.Char (Int (pos 127)) (gives (Char (pos 127)))
@@ -186,6 +160,6 @@ convert_rows =
     ∷ convert_row t.Uint Null (undefined U13)
     ∷ []
 
-conversions_are_right : map convert_asked convert_rows ≡ map convert_wanted convert_rows
+conversions_are_right : AreRight convert_rows
 unfolding int_wrap
 conversions_are_right = refl
