@@ -105,13 +105,10 @@ octal_some q i d reads some =
     let is : suc d.count ≡ d.count + 1 = omega arith in
     (omega arith, (digits_value 8 (take d.count (take m i)), subst (λ (n : ℕ). HasElement q (92 ∷ i) (drop n (92 ∷ i)) (digits_value 8 (take d.count (take m i)))) is found, reads.value))
 
-simple_some : (q c v : ℕ) (i later : List ℕ) → i ≡ c ∷ later → IsSimple c v → v ≤ 255 → Stands q (92 ∷ i) 2 (Some v)
-simple_some q c v i later is s small =
+pub simple_read : (q c : ℕ) (i later : List ℕ) (found : Option ℕ) → i ≡ c ∷ later → ReadsSimple c found → is_some found ≡ true → Stands q (92 ∷ i) 2 found
+simple_read q c i later (Some v) is (s, small) some =
     let found : Stands q (92 ∷ c ∷ later) 2 (Some v) = (omega arith, (v, has_element (a_simple s), (refl, small))) in
     subst (λ (x : List ℕ). Stands q (92 ∷ x) 2 (Some v)) (sym is) found
-
-pub simple_read : (q c : ℕ) (i later : List ℕ) (found : Option ℕ) → i ≡ c ∷ later → ReadsSimple c found → is_some found ≡ true → Stands q (92 ∷ i) 2 found
-simple_read q c i later (Some v) is (s, small) some = simple_some q c v i later is s small
 simple_read q c i later None is s some = cc
 
 pub plain_some : (q b : ℕ) (i later : List ℕ) → i ≡ b ∷ later → 32 ≤ b → b < 256 → b ≢ 127 → b ≢ q → b ≢ 92 → Stands q i 1 (Some b)

@@ -80,6 +80,9 @@ run_begins First Later (b ∷ w) h = (b, w, refl, h.0)
 pub same_first : (P : ℕ → Type 0) (i : List ℕ) (b : ℕ) (rest : List ℕ) → BeginsWith P i → i ≡ b ∷ rest → P b
 same_first P i b rest (c, more, is, h) e = let same : c ≡ b = cc in subst P same h
 
+pub first_byte : (i r s : List ℕ) (a b : ℕ) → i ≡ a ∷ r → i ≡ b ∷ s → a ≡ b
+first_byte i r s a b e f = cc
+
 pub front_has : (P : ℕ → Type 0) (w r i : List ℕ) (b : ℕ) → BeginsWith P w → w ++ r ≡ b ∷ i → P b
 front_has P w r i b first e = same_first P (w ++ r) b i (whole_begins P (w ++ r) w r refl first) e
 

@@ -71,13 +71,10 @@ no_tokens text p tokens stops whole =
     let on = goes_on text 0 p 0 (length text) stops.tokens tokens stops.before whole refl refl in
     no_more text p (length text) on.later stops on.reads refl
 
-none_from_stop : (text : List ℕ) (mode : Mode) (e : LexError) → HasStopped text e → HasNoTokens text mode e
-none_from_stop text mode OutOfMemory stopped = tt
-none_from_stop text mode (At code place) stopped = λ tokens spells. no_tokens text place tokens stopped.2.stops spells.whole
-
 pub none_from_stopped : {A : Type 0} (text : List ℕ) (mode : Mode) (r : Result A LexError) → IfErr r (HasStopped text) → IfErr r (HasNoTokens text mode)
 none_from_stopped text mode (Ok a) stopped = tt
-none_from_stopped text mode (Err e) stopped = none_from_stop text mode e stopped
+none_from_stopped text mode (Err OutOfMemory) stopped = tt
+none_from_stopped text mode (Err (At code place)) stopped = λ tokens spells. no_tokens text place tokens stopped.2.stops spells.whole
 
 pub some_rest : (text : List ℕ) (at : ℕ) → at < length text → drop at text ≢ []
 some_rest text at low none = let e = ap length none in omega (arith, length-drop at text)

@@ -41,22 +41,15 @@ octal_char d low = grind (arith, nat_tests)
 abbrev digits_of_byte : ℕ → List ℕ
 digits_of_byte v = (48 + v / 8 / 8) ∷ (48 + v / 8 % 8) ∷ (48 + v % 8) ∷ []
 
-digits_are : (v : ℕ) → v ≤ 255 → AllDigits 8 (digits_of_byte v)
-digits_are v byte =
+digits_write : (v : ℕ) → v ≤ 255 → AllDigits 8 (digits_of_byte v) × (v ≡ digits_value 8 (digits_of_byte v))
+digits_write v byte =
     let one = octal_char (v / 8 / 8) (omega arith) in
     let two = octal_char (v / 8 % 8) (omega arith) in
     let three = octal_char (v % 8) (omega arith) in
-    (omega arith, (omega arith, (omega arith, tt)))
-
-digits_value_of : (v : ℕ) → v ≤ 255 → v ≡ digits_value 8 (digits_of_byte v)
-digits_value_of v byte =
-    let one = octal_char (v / 8 / 8) (omega arith) in
-    let two = octal_char (v / 8 % 8) (omega arith) in
-    let three = octal_char (v % 8) (omega arith) in
-    rw (one, two, three) (omega arith)
+    ((omega arith, (omega arith, (omega arith, tt))), rw (one, two, three) (omega arith))
 
 byte_element : (q v : ℕ) (j : List ℕ) → v ≤ 255 → HasElement q (92 ∷ (48 + v / 8 / 8) ∷ (48 + v / 8 % 8) ∷ (48 + v % 8) ∷ j) j v
-byte_element q v j byte = has_element (an_octal (digits_of_byte v) refl (omega arith) (omega arith) (digits_are v byte) (inl refl) (digits_value_of v byte))
+byte_element q v j byte = has_element (an_octal (digits_of_byte v) refl (omega arith) (omega arith) (digits_write v byte).0 (inl refl) (digits_write v byte).1)
 
 -- each value of a signed char is that of a byte
 byte_of_char : (c : ℤ) → (negsuc 127 ≤ℤ c) × (c ≤ℤ pos 127) → (v : ℕ) × (v ≤ 255) × (c ≡ char_value v)

@@ -23,7 +23,7 @@ use Rattle.c_lexer.proofs.EscapeFronts.Front.{a_plain}
 use Rattle.c_lexer.proofs.LiteralOne.{one_element, one_chain, one_ended, quote_no_element}
 use Rattle.c_lexer.proofs.LiteralParts.{character_parts, string_parts, character_from, string_from}
 use Rattle.c_lexer.proofs.LiteralFirst.{single_quoted, double_quoted, single_lexeme, double_lexeme}
-use Rattle.c_lexer.proofs.KindsBegin.{same_first, spelled_is_lexeme}
+use Rattle.c_lexer.proofs.KindsBegin.{first_byte, same_first, spelled_is_lexeme}
 use Rattle.c_lexer.proofs.KindsRuns.{whole_first, letter_no_quote, digit_no_quote, below_malformed, below_large}
 
 -- a byte stands at a place
@@ -66,17 +66,14 @@ quote_begins : (q : ℕ) → IsQuote q → BeginsNoToken q → ⊥
 quote_begins q (inl e) foreign = (subst BeginsNoToken e foreign) (Char (pos 97)) (97 ∷ 39 ∷ []) letter_spelled
 quote_begins q (inr e) foreign = (subst BeginsNoToken e foreign) (Str []) (34 ∷ []) empty_spelled
 
-head_of : (a b : ℕ) (text x y : List ℕ) → text ≡ a ∷ x → text ≡ b ∷ y → a ≡ b
-head_of a b text x y e f = cc
-
 no_slash : (q : ℕ) (text rest x : List ℕ) → IsQuote q → text ≡ q ∷ rest → text ≡ 47 ∷ x → ⊥
-no_slash q text rest x (inl e) is f = omega (arith, head_of q 47 text rest x is f)
-no_slash q text rest x (inr e) is f = omega (arith, head_of q 47 text rest x is f)
+no_slash q text rest x (inl e) is f = omega (arith, first_byte text rest x q 47 is f)
+no_slash q text rest x (inr e) is f = omega (arith, first_byte text rest x q 47 is f)
 
 -- where a quote stands no cause below 3 holds
 not_foreign : (q : ℕ) (text rest : List ℕ) → IsQuote q → text ≡ q ∷ rest → Holds ForeignByte text → ⊥
 not_foreign q text rest quote is (b, later, e, other, foreign) =
-    quote_begins q quote (subst BeginsNoToken (head_of b q text later rest e is) foreign)
+    quote_begins q quote (subst BeginsNoToken (first_byte text later rest b q e is) foreign)
 
 not_comment : (q : ℕ) (text rest : List ℕ) → IsQuote q → text ≡ q ∷ rest → Holds OpenComment text → ⊥
 not_comment q text rest quote is ((later, e), endless) = no_slash q text rest (42 ∷ later) quote is e
@@ -185,7 +182,7 @@ not_bytes vs bytes e (k, x, within, is, large) all =
 pub large_string : (text rest w after vs : List ℕ) → text ≡ 34 ∷ rest → text ≡ w ++ after → IsString w vs → Any (λ v. 255 < v) vs → IsMisfit TooLarge text
 large_string text rest w after vs is e s any = record {
   holds = inr (w, after, vs, e, inl s, any);
-  least = least_large 34 text rest (inr refl) is (not_malformed 34 text rest (inr refl) is (λ (x, f, odd). omega (arith, head_of 34 39 text rest x is f)) (λ (x, f, odd). odd w after vs e s));
+  least = least_large 34 text rest (inr refl) is (not_malformed 34 text rest (inr refl) is (λ (x, f, odd). omega (arith, first_byte text rest x 34 39 is f)) (λ (x, f, odd). odd w after vs e s));
   no_token = λ kind x y f token.
       (let (bytes, kinds, t, all) = double_quoted kind x y rest token.spells (sym f ∙ is) in
       not_bytes vs bytes (same_literal string_form w x after y vs bytes (sym e ∙ f) s t).1 any all);
@@ -194,7 +191,7 @@ large_string text rest w after vs is e s any = record {
 pub large_character : (text rest w after : List ℕ) (v : ℕ) → text ≡ 39 ∷ rest → text ≡ w ++ after → IsCharacter w v → 255 < v → IsMisfit TooLarge text
 large_character text rest w after v is e s large = record {
   holds = inr (w, after, v ∷ [], e, inr (v, refl, s), (0, v, omega arith, refl, large));
-  least = least_large 39 text rest (inl refl) is (not_malformed 39 text rest (inl refl) is (λ (x, f, odd). odd w after v e s) (λ (x, f, odd). omega (arith, head_of 39 34 text rest x is f)));
+  least = least_large 39 text rest (inl refl) is (not_malformed 39 text rest (inl refl) is (λ (x, f, odd). odd w after v e s) (λ (x, f, odd). omega (arith, first_byte text rest x 39 34 is f)));
   no_token = λ kind x y f token.
       (let (c, u, kinds, t, byte, value) = single_quoted kind x y rest token.spells (sym f ∙ is) in
       let same = (same_literal character_form w x after y v u (sym e ∙ f) s t).1 in

@@ -16,7 +16,7 @@ use Rattle.c_lexer.specs.Refusals.{BeginsNoToken, Holds}
 use Rattle.c_lexer.specs.Reading.{HasNoWhite, ReadsWhite}
 use Rattle.c_lexer.specs.WhiteParts.{IsLine, IsCommentEnd, IsMarkerHead, BeginsMarker}
 use Rattle.c_lexer.specs.Elements.{IsQuote}
-use Rattle.c_lexer.proofs.KindsBegin.{same_first, letter_no_mark, spelled_first, first_no_marker}
+use Rattle.c_lexer.proofs.KindsBegin.{first_byte, same_first, letter_no_mark, spelled_first, first_no_marker}
 use Rattle.c_lexer.proofs.KindsRuns.{whole_first, large_begins}
 use Rattle.c_lexer.proofs.OneTokenWhite.{blank_low}
 
@@ -101,9 +101,6 @@ no_lower_than_open i begins ForeignByte low (b, rest, is, no_hash, none) =
 no_lower_than_open i begins other low holds = omega arith
 
 -- the bytes that stand first are one's own
-pub first_byte : (i r s : List ℕ) (a b : ℕ) → i ≡ a ∷ r → i ≡ b ∷ s → a ≡ b
-first_byte i r s a b e f = cc
-
 first_apart : (i r s : List ℕ) (a b : ℕ) → a ≢ b → i ≡ a ∷ r → i ≡ b ∷ s → ⊥
 first_apart i r s a b other e f = other (first_byte i r s a b e f)
 
