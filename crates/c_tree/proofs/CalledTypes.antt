@@ -3,7 +3,7 @@ use Rattle.std.proofs.Common.{refl, ◌≡◌}
 use Rattle.c_tree.specs.Tree.{CType, type_of}
 use Rattle.c_tree.specs.View.{ctype_of, expr_of, expr_with}
 use Rattle.c_tree.specs.declared.tree.TExpr.{TExpr}
-use Rattle.c_tree.specs.declared.tree.TExprKind.{AddressOf', And', Arith', Assign', Call', CallThrough', Comma', Compare', Cond', Const, Convert', Decay', Deref', Discard', Field', Function as FunctionNamed, Load', Or', PointerAdd', PointerDiff', StringPlace, TExprKind, Unary', Update', Variable}
+use Rattle.c_tree.specs.declared.tree.TExprKind.{Const, TExprKind}
 
 -- the type of an expression is kept beside its form
 pub type_with : (t : CType) (k : TExprKind) → type_of (expr_with t k) ≡ t

@@ -3,7 +3,7 @@ use Rattle.std.proofs.Common.{◌≡◌, ℕ, ◌^◌, ◌<◌, ◌≤◌, ℤ, 
 use Rattle.std.specs.Int.{w8, w32, int_shr}
 use Rattle.std.specs.Ordering.{int_eq}
 use Rattle.c_tree.specs.declared.value.BinOp.{BinOp}
-use Rattle.c_tree.specs.declared.value.BinOp.TheVariants.{Mul, Div, Rem, Add, Sub, ShiftLeft, ShiftRight, BitAnd, BitXor, BitOr, Less, Greater, LessEqual, GreaterEqual, Equal, NotEqual}
+use Rattle.c_tree.specs.declared.value.BinOp.TheVariants.{Mul, Div, Rem, Add, Sub, ShiftLeft, ShiftRight, BitAnd, BitXor, BitOr}
 use Rattle.std.proofs.lemmas.Int.{ints, SFits-int_wrap}
 use Rattle.c_tree.specs.declared.value.IntType.{IntType}
 use Rattle.c_tree.specs.declared.value.IntType.TheVariants.{Char, Uchar, Int, Uint}
@@ -15,7 +15,7 @@ use Rattle.c_tree.specs.Operands.{IsPromoted, OperatorKind, balanced, shift, ord
 use Rattle.c_tree.specs.Kinds.{IsConstant}
 use Rattle.c_tree.specs.Operators.{Answer, gives, undefined, and_then, low_bits, fits_int, fitting, settle, value_of, divided, shifted, shift_left, convert, where_shift, table_of, binary}
 use Rattle.c_tree.specs.OperatorTypes.{IsAnswer, IsGiven}
-use Rattle.sys_table.proofs.Names.{and_left, and_right}
+use Rattle.sys_table.proofs.Names.{and_right}
 
 -- the number of a type's form
 abbrev pub form : CType → ℕ

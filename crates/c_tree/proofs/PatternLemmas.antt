@@ -1,5 +1,5 @@
 -- Entries of patterns fit their kinds.
-use Rattle.std.proofs.Common.{ℕ, ◌<◌, pos, List, [], ◌∷◌, Option, Some, None, arith}
+use Rattle.std.proofs.Common.{ℕ, ◌<◌, pos, List, [], ◌∷◌, Option, Some, arith}
 use Rattle.std.specs.List.{AllZip}
 use Rattle.std.specs.Int.{w32, FitsUnsigned}
 use Rattle.std.proofs.lemmas.Int.{ints, SFits-int_wrap}

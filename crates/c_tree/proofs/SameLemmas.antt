@@ -1,7 +1,7 @@
 -- When two types are the same.
 use Rattle.std.proofs.Common.{◌≡◌, ◌↔◌, ℕ, zero, suc, Bool, IsTrue, List, [], ◌∷◌, length, get_or, ◌<◌, refl, ap, sym, ◌∙◌, arith}
 use Rattle.c_tree.specs.declared.tree.CType.{CType as TypeTree}
-use Rattle.c_tree.specs.Tree.{CType, void, integer, pointer, array, struct, function, CTypes, no_types, more_types}
+use Rattle.c_tree.specs.Tree.{CType, void, function, CTypes, no_types, more_types}
 use Rattle.c_tree.specs.View.{ctype_of, types_of}
 use Rattle.c_tree.proofs.SameBelow.{SameBelow}
 

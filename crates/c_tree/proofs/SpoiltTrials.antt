@@ -2,9 +2,8 @@
 use Rattle.std.proofs.Common.{◌≡◌, ℕ, zero, suc, false, List, [], ◌∷◌, get_or, ap, sym, subst, ◌∙◌, arith, ◌≤◌, Option, Some, None}
 use Rattle.std.proofs.lemmas.Bool.{false≢true}
 use Rattle.std.proofs.lemmas.Option.{none-some}
-use Rattle.c_tree.specs.declared.value.IntType.TheVariants as i
 use Rattle.c_tree.specs.declared.value.Value.TheVariants as v
-use Rattle.c_tree.specs.Tree.{CType, void, integer, pointer, array, struct, function, CTypes, no_types, more_types, Static, Program}
+use Rattle.c_tree.specs.Tree.{CType, void, pointer, function, CTypes, no_types, more_types, Static, Program}
 use Rattle.c_tree.specs.Tree.{function_name, variable, load, decay, call, no_exprs, more_exprs}
 use Rattle.c_tree.specs.Tree.{Stmt, block, evaluate, break_off, return_value, no_stmts, more_stmts}
 use Rattle.c_tree.specs.Functions.{int, unsigned_int, sys_types}

@@ -1,7 +1,6 @@
 -- Short names, for trials.
-use Rattle.std.proofs.Common.{◌≡◌, ◌≢◌, inr, inl, nat_lt, ℕ, zero, suc, ◌<◌, ◌≤◌, ◌⊎◌, Bool, true, false, not, ◌&&◌, List, [], ◌∷◌, length, slice_index_or, All, refl, ap, sym, ◌∙◌, arith}
+use Rattle.std.proofs.Common.{◌≡◌, ◌≢◌, inr, inl, nat_lt, ℕ, zero, suc, ◌<◌, ◌≤◌, ◌⊎◌, Bool, true, not, ◌&&◌, List, [], ◌∷◌, length, slice_index_or, All, sym, arith}
 use Rattle.std.specs.Str.{bytes_eq}
-use Rattle.std.proofs.lemmas.Slice.Eq.{bytes_eq-Decides}
 use Rattle.std.proofs.lemmas.List.Elements.{All-nil, All-cons}
 use Rattle.std.proofs.lemmas.Bool.Decides.{Decides-ltb}
 use Rattle.dm_base.specs.Name.{IsName, IsLetter, IsDigit, keywords}
