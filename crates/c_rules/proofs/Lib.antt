@@ -17,8 +17,6 @@ pub mod Modes
 pub mod NoProgram
 pub mod NothingMore
 pub mod Terms
-mod TrialConstants
-mod TrialDeclared
+mod TrialDemands
 mod TrialPrograms
 mod TrialStatics
-mod TrialTypes

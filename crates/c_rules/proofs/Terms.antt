@@ -1,9 +1,11 @@
 -- Short words for units written as terms, for trials.
-use Rattle.std.proofs.Common.{ℕ, ◌+◌, false, List, [], ◌∷◌, codes}
+use Rattle.std.proofs.Common.{◌≡◌, ℕ, ◌+◌, false, List, [], ◌∷◌, map, codes}
+use Rattle.c_tree.specs.Mode.{Mode}
 use Rattle.c_syntax.specs.Tree.{Ident, no_storage, Spec, Expr, a_name, an_int, call, no_exprs, more_exprs, there, Declarator, named, function, no_params}
 use Rattle.c_syntax.specs.Tree.{no_init, an_init, Parts, no_parts, more_parts, Decl, decl, Stmt, block, evaluate, return_from, BlockItems, no_block_items, block_stmt, Item, decl_item, function_item, Items, no_items, more_items}
 use Rattle.c_syntax.specs.Tree as syntax
-use Rattle.c_rules.specs.Checked.{Fault}
+use Rattle.c_rules.specs.Checked.{Fault, faults}
+use Rattle.c_rules.specs.Units.{checked}
 
 abbrev pub ident : ℕ → List ℕ → Ident
 ident at x = record { name = x; at = at }
@@ -18,9 +20,6 @@ of_void at x = function at (as_declared at x) no_params
 -- one declarator without an initialiser
 abbrev pub alone : Declarator → Parts
 alone d = more_parts d no_init no_parts
-
-abbrev pub one_init : Declarator → syntax.Init → Parts
-one_init d i = more_parts d (an_init i) no_parts
 
 abbrev pub plain : ℕ → Spec → Parts → Decl
 plain at s ps = decl at no_storage s ps
@@ -41,9 +40,6 @@ int at n = an_int at n false
 abbrev pub call_none : ℕ → List ℕ → Expr
 call_none at x = call at (a_name at x) no_exprs
 
-abbrev pub call_one : ℕ → List ℕ → Expr → Expr
-call_one at x e = call at (a_name at x) (more_exprs e no_exprs)
-
 abbrev pub returns : ℕ → Expr → Stmt
 returns at e = return_from at (there e)
 
@@ -57,16 +53,6 @@ and_do e at is = block_stmt (evaluate at e) is
 abbrev pub main_of : ℕ → BlockItems → Item
 main_of at is = define at syntax.int (of_void at (codes "main")) is
 
--- `int main(void) { .. return 0; }`
-abbrev pub main_doing : Stmt → Item
-main_doing s = main_of 0 (block_stmt s end)
-
-abbrev pub unit_of : Item → Items
-unit_of i = more_items i no_items
-
-abbrev pub one_fault : ℕ → ℕ → List Fault
-one_fault code at = record { code = code; at = at } ∷ []
-
 -- `int main(void) { return 0; }` at this place
 abbrev pub main_that_returns : ℕ → Item
 main_that_returns at =
@@ -75,3 +61,7 @@ main_that_returns at =
 
 abbrev pub failing : (code at : ℕ) → List Fault → List Fault
 failing code at fs = record { code = code; at = at } ∷ fs
+
+-- on each of these units the demands beside it fail, and no others
+abbrev pub AllFail : Mode → List (Items × List Fault) → Type 0
+AllFail m ts = map (λ t. faults (checked t.0 m)) ts ≡ map (λ t. t.1) ts
