@@ -5,28 +5,22 @@ use Rattle.c_tree.specs.declared.value.UnOp.{UnOp}
 use Rattle.c_tree.specs.declared.value.BinOp.{BinOp}
 use Rattle.c_tree.specs.declared.value.BinOp.TheVariants as op
 use Rattle.c_syntax.specs.TheConstants.{ASTERISK, PLUS, MINUS, TILDE, ASSIGN}
-use Rattle.c_tree.specs.Tree.{CType, void, integer, pointer, array, struct, function, CTypes, no_types, more_types}
+use Rattle.c_tree.specs.Tree.{CType, void, integer, pointer, array, struct, function, CTypes, no_types, more_types, assign, and, or, unary_operation}
 use Rattle.c_tree.specs.Operands.{promoted, common, OperatorKind, balanced, shift, ordering, equality}
 use Rattle.c_tree.specs.Operands.{kind_of as kind_of_operator}
 use Rattle.c_rules.specs.Checked.{Checked, fine, faulty, on, both, all_three, gives, demand, met, fails_with, parts_first}
 use Rattle.c_rules.specs.Names.{Name, number_among}
 use Rattle.c_rules.specs.Scopes.{Env, Struct, incomplete, unknown_struct, defined_struct, Member, struct_of}
-use Rattle.c_tree.specs.Tree.{assign}
-use Rattle.c_rules.specs.Assignments.{moves}
-use Rattle.c_rules.specs.TypedExpression.{not_constant}
-use Rattle.c_rules.specs.TypedExpression.{Form, a_value, a_place, behind, TypedExpression, tree_of_form, tree_of, is_place, is_null}
+use Rattle.c_rules.specs.Assignments.{moves, assignable, assignment, operator_of_assignment, updated, update_of, assignment_by, one_for, step, trees_of}
+use Rattle.c_rules.specs.TypedExpression.{not_constant, Form, a_value, a_place, behind, TypedExpression, tree_of_form, tree_of, is_place, is_null, integer_constant, typed_value}
 use Rattle.c_rules.specs.Conversions.{Kind, an_integer, a_pointer, neither, kind_of, complete, few_parts, loaded, valued_as, valued, cast_to, has_integer, converted_to, null_of, fits, assigned_as, assigned, as_if_assigned, condition}
 use Rattle.c_rules.specs.PostfixExpressions.{Designator, direct, through, Callee, call_of, passed, as_many_as, all_fit, called, name_of_member, member_or_undeclared, member_of_struct, member_of_type, member_of}
 use Rattle.c_rules.specs.UnaryExpressions.{address_of_form, address_of_type, address, led_to, indirection, plus_of, operator_of, unary_of_value, cast_of, null_cast}
-use Rattle.c_rules.specs.BinaryExpressions.{sum_of, sum, minus_of, balanced_of, shift_of, ordered_of, Alike, alike_integers, alike_pointers, unlike, alike_of, alike, equality_of, arithmetic_of, operation_of, operation, conjunction, disjunction, chosen, arms_of, choice}
-use Rattle.c_rules.specs.Assignments.{assignable, assignment, operator_of_assignment, updated, update_of, assignment_by, one_for, step, trees_of}
+use Rattle.c_rules.specs.BinaryExpressions.{sum_of, sum, minus_of, balanced_of, shift_of, ordered_of, Alike, alike_integers, alike_pointers, unlike, alike_of, alike, equality_of, arithmetic_of, operation_of, operation, conjunction, disjunction, chosen, arms_of, choice, both_scalars, compared_pointers, difference}
 use Rattle.c_rules.specs.NullCalls.{CallsBelow, AllBelow}
 use Rattle.c_tree.specs.declared.value.UnOp.TheVariants.{Not}
-use Rattle.c_rules.specs.BinaryExpressions.{both_scalars, compared_pointers, difference}
 use Rattle.c_tree.specs.Functions.{int}
-use Rattle.c_tree.specs.Tree.{and, or, unary_operation}
 use Rattle.c_rules.specs.Constants.{constant_and, constant_or, constant_unary}
-use Rattle.c_rules.specs.TypedExpression.{integer_constant, typed_value}
 use Rattle.c_rules.specs.Types.{is_function, is_integer, is_scalar, same_type}
 
 -- what is fine has the property
@@ -43,8 +37,7 @@ on_holds P Q (faulty f fs) k h t = tt
 
 pub both_hold : {A B C : Type 0} (P : A → Type 0) (Q : B → Type 0) (R : C → Type 0) (p : Checked A) (q : Checked B) (k : A → B → Checked C) → Holds P p → Holds Q q → ((a : A) (b : B) → P a → Q b → Holds R (k a b)) → Holds R (both p q k)
 both_hold P Q R (fine a) (fine b) k g h t = t a b g h
-both_hold P Q R (fine a) (faulty f fs) k g h t = tt
-both_hold P Q R (faulty f fs) q k g h t = tt
+both_hold P Q R p q k g h t = tt
 
 abbrev pub Any : {A : Type 0} → A → Type 0
 Any a = Unit {0}
@@ -55,9 +48,7 @@ anything (faulty f fs) = tt
 
 pub all_three_hold : {A B C D : Type 0} (P : A → Type 0) (Q : B → Type 0) (R : C → Type 0) (S : D → Type 0) (p : Checked A) (q : Checked B) (r : Checked C) (k : A → B → C → Checked D) → Holds P p → Holds Q q → Holds R r → ((a : A) (b : B) (c : C) → P a → Q b → R c → Holds S (k a b c)) → Holds S (all_three p q r k)
 all_three_hold P Q R S (fine a) (fine b) (fine c) k g h i t = t a b c g h i
-all_three_hold P Q R S (fine a) (fine b) (faulty f fs) k g h i t = tt
-all_three_hold P Q R S (fine a) (faulty f fs) r k g h i t = tt
-all_three_hold P Q R S (faulty f fs) q r k g h i t = tt
+all_three_hold P Q R S p q r k g h i t = tt
 
 pub demand_holds : {A : Type 0} (P : A → Type 0) (t : Bool) (code at : ℕ) (a : A) → P a → Holds P (demand t code at a)
 demand_holds P true code at a h = h
@@ -79,6 +70,11 @@ parts_first_holds P (faulty g gs) (faulty f fs) h = tt
 pub after_demands : {A B : Type 0} (Q : B → Type 0) (r : Checked A) (k : A → Checked B) → ((a : A) → Holds Q (k a)) → Holds Q (on r k)
 after_demands Q r k h = on_holds Any Q r k (anything r) (λ a _. h a)
 
+-- what both have, the chosen one has
+pub either_has : {A : Type 0} (P : A → Type 0) (t : Bool) (a b : A) → P a → P b → P (if t then a else b)
+either_has P true a b h k = h
+either_has P false a b h k = k
+
 module _ (n : ℕ) where
   abbrev pub FormBelow : Form → Type 0
   FormBelow (a_value e) = CallsBelow n e
@@ -94,41 +90,30 @@ module _ (n : ℕ) where
 
   form_below : (t : CType) (f : Form) → FormBelow f → CallsBelow n (tree_of_form t f)
   form_below t (a_value e) h = h
-  form_below t (a_place e) h = h
-  form_below t (behind p) h = h
+  form_below t f h = h
 
   pub tree_below : (g : TypedExpression) → TypedExpressionBelow g → CallsBelow n (tree_of g)
   tree_below g h = form_below g.ctype g.form h
 
-  if_below : (t : Bool) (g h : TypedExpression) → TypedExpressionBelow g → TypedExpressionBelow h → TypedExpressionBelow (if t then g else h)
-  if_below true g h k l = k
-  if_below false g h k l = l
-
   loaded_below : (g : TypedExpression) (f : Form) → TypedExpressionBelow g → TypedExpressionBelow (loaded g f)
   loaded_below g (a_value e) h = h
-  loaded_below g (a_place e) h = tree_below g h
-  loaded_below g (behind p) h = tree_below g h
+  loaded_below g f h = tree_below g h
 
-  valued_as_below : (env : Env) (at : ℕ) (g : TypedExpression) (t : CType) → TypedExpressionBelow g → Holds TypedExpressionBelow (valued_as env at g t)
-  valued_as_below env at g void h = loaded_below g g.form h
-  valued_as_below env at g (integer i) h = loaded_below g g.form h
-  valued_as_below env at g (pointer t) h = loaded_below g g.form h
+  pub valued_as_below : (env : Env) (at : ℕ) (g : TypedExpression) (t : CType) → TypedExpressionBelow g → Holds TypedExpressionBelow (valued_as env at g t)
   valued_as_below env at g (array t k) h = tree_below g h
   valued_as_below env at g (struct s) h = tt
   valued_as_below env at g (function t ts) h = demand_holds TypedExpressionBelow (few_parts (pointer g.ctype)) 13 at _ (tree_below g h)
-
-  pub valued_below : (env : Env) (at : ℕ) (g : TypedExpression) → TypedExpressionBelow g → Holds TypedExpressionBelow (valued env at g)
-  valued_below env at g h = valued_as_below env at g g.ctype h
+  valued_as_below env at g t h = loaded_below g g.form h
 
   pub converted_below : (i : IntType) (g : TypedExpression) → TypedExpressionBelow g → TypedExpressionBelow (converted_to i g)
-  converted_below i g h = if_below (has_integer i g.ctype) g (cast_to i g) h (tree_below g h)
+  converted_below i g h = either_has TypedExpressionBelow (has_integer i g.ctype) g (cast_to i g) h (tree_below g h)
 
   converted_tree : (i : IntType) (g : TypedExpression) → TypedExpressionBelow g → CallsBelow n (tree_of (converted_to i g))
   converted_tree i g h = tree_below (converted_to i g) (converted_below i g h)
 
   assigned_as_below : (k : Kind) (t : CType) (g : TypedExpression) → TypedExpressionBelow g → TypedExpressionBelow (assigned_as k t g)
   assigned_as_below (an_integer i) t g h = converted_below i g h
-  assigned_as_below (a_pointer u) t g h = if_below (is_null g) (null_of t) g tt h
+  assigned_as_below (a_pointer u) t g h = either_has TypedExpressionBelow (is_null g) (null_of t) g tt h
   assigned_as_below neither t g h = h
 
   pub assigned_below : (t : CType) (g : TypedExpression) → TypedExpressionBelow g → TypedExpressionBelow (assigned t g)
@@ -150,9 +135,8 @@ module _ (n : ℕ) where
   CalleeBelow f = DesignatorBelow f.designator
 
   passed_below : (ts : CTypes) (gs : List TypedExpression) → TypedExpressionsBelow gs → AllBelow n (passed ts gs)
-  passed_below no_types gs h = tt
-  passed_below (more_types t ts) [] h = tt
   passed_below (more_types t ts) (g ∷ gs) h = (tree_below (assigned t g) (assigned_below t g h.0), passed_below ts gs h.1)
+  passed_below ts gs h = tt
 
   call_below : (d : Designator) (t : CType) (site : ℕ) (es : _) → DesignatorBelow d → AllBelow n es → CallsBelow n (call_of d t site es)
   call_below (direct f) t site es h k = (h, k)
@@ -167,20 +151,12 @@ module _ (n : ℕ) where
   member_or_below env at ms g (Some k) h = tree_below g h
 
   member_struct_below : (env : Env) (at : ℕ) (x : Name) (g : TypedExpression) (s : Struct) → TypedExpressionBelow g → Holds TypedExpressionBelow (member_of_struct env at x g s)
-  member_struct_below env at x g incomplete h = tt
-  member_struct_below env at x g (unknown_struct f fs) h = tt
   member_struct_below env at x g (defined_struct ms) h = member_or_below env at ms g (number_among (map name_of_member ms) x) h
+  member_struct_below env at x g s h = tt
 
-  member_type_below : (env : Env) (at : ℕ) (x : Name) (g : TypedExpression) (t : CType) → TypedExpressionBelow g → Holds TypedExpressionBelow (member_of_type env at x g t)
+  pub member_type_below : (env : Env) (at : ℕ) (x : Name) (g : TypedExpression) (t : CType) → TypedExpressionBelow g → Holds TypedExpressionBelow (member_of_type env at x g t)
   member_type_below env at x g (struct s) h = member_struct_below env at x g (struct_of env s) h
-  member_type_below env at x g void h = tt
-  member_type_below env at x g (integer i) h = tt
-  member_type_below env at x g (pointer t) h = tt
-  member_type_below env at x g (array t k) h = tt
-  member_type_below env at x g (function t ts) h = tt
-
-  pub member_below : (env : Env) (at : ℕ) (x : Name) (g : TypedExpression) → TypedExpressionBelow g → Holds TypedExpressionBelow (member_of env at x g)
-  member_below env at x g h = member_type_below env at x g g.ctype h
+  member_type_below env at x g t h = tt
 
   -- unary operators
 
@@ -191,59 +167,38 @@ module _ (n : ℕ) where
 
   address_type_below : (at : ℕ) (g : TypedExpression) (t : CType) → TypedExpressionBelow g → Holds TypedExpressionBelow (address_of_type at g t)
   address_type_below at g (array t k) h = tt
-  address_type_below at g void h = address_form_below at g g.form h
-  address_type_below at g (integer i) h = address_form_below at g g.form h
-  address_type_below at g (pointer t) h = address_form_below at g g.form h
-  address_type_below at g (struct s) h = address_form_below at g g.form h
-  address_type_below at g (function t ts) h = address_form_below at g g.form h
+  address_type_below at g t h = address_form_below at g g.form h
 
   pub address_below : (at place : ℕ) (g : TypedExpression) → TypedExpressionBelow g → Holds TypedExpressionBelow (address at place g)
   address_below at place g h = after_demands TypedExpressionBelow (demand (is_place g || is_function g.ctype) 4 place met) (λ x. address_of_type at g g.ctype) (λ _. address_type_below at g g.ctype h)
 
-  led_below : (at : ℕ) (g : TypedExpression) (t : CType) → TypedExpressionBelow g → Holds TypedExpressionBelow (led_to at g t)
-  led_below at g (pointer void) h = tt
+  pub led_below : (at : ℕ) (g : TypedExpression) (t : CType) → TypedExpressionBelow g → Holds TypedExpressionBelow (led_to at g t)
   led_below at g (pointer (integer i)) h = tree_below g h
   led_below at g (pointer (pointer t)) h = tree_below g h
   led_below at g (pointer (array t k)) h = tree_below g h
   led_below at g (pointer (struct s)) h = tree_below g h
   led_below at g (pointer (function t ts)) h = tree_below g h
-  led_below at g void h = tt
-  led_below at g (integer i) h = tt
-  led_below at g (array t k) h = tt
-  led_below at g (struct s) h = tt
-  led_below at g (function t ts) h = tt
-
-  pub indirection_below : (at : ℕ) (g : TypedExpression) → TypedExpressionBelow g → Holds TypedExpressionBelow (indirection at g)
-  indirection_below at g h = led_below at g g.ctype h
+  led_below at g t h = tt
 
   plus_below : (at : ℕ) (g : TypedExpression) (k : Kind) → TypedExpressionBelow g → Holds TypedExpressionBelow (plus_of at g k)
   plus_below at g (an_integer i) h = tree_below g h
-  plus_below at g (a_pointer t) h = tt
-  plus_below at g neither h = tt
+  plus_below at g k h = tt
 
   operator_below : (at : ℕ) (o : UnOp) (g : TypedExpression) (k : Kind) → TypedExpressionBelow g → Holds TypedExpressionBelow (operator_of at o g k)
   operator_below at o g (an_integer i) h = converted_tree (promoted i) g h
-  operator_below at o g (a_pointer t) h = tt
-  operator_below at o g neither h = tt
-
-  if_holds : (t : Bool) (r s : Checked TypedExpression) → Holds TypedExpressionBelow r → Holds TypedExpressionBelow s → Holds TypedExpressionBelow (if t then r else s)
-  if_holds true r s h k = h
-  if_holds false r s h k = k
+  operator_below at o g k h = tt
 
   pub unary_below : (at o : ℕ) (g : TypedExpression) → TypedExpressionBelow g → Holds TypedExpressionBelow (unary_of_value at o g)
   unary_below at o g h =
-      if_holds (nat_eq o ASTERISK) _ _ (indirection_below at g h)
-      (if_holds (nat_eq o PLUS) _ _ (plus_below at g (kind_of g.ctype) h)
-      (if_holds (nat_eq o MINUS) _ _ (operator_below at _ g (kind_of g.ctype) h)
-      (if_holds (nat_eq o TILDE) _ _ (operator_below at _ g (kind_of g.ctype) h) (demand_holds TypedExpressionBelow (is_scalar g.ctype) 3 at (typed_value int (unary_operation int Not (tree_of g)) (constant_unary Not (integer_constant g))) (tree_below g h)))))
+      either_has (Holds TypedExpressionBelow) (nat_eq o ASTERISK) _ _ (led_below at g g.ctype h)
+      (either_has (Holds TypedExpressionBelow) (nat_eq o PLUS) _ _ (plus_below at g (kind_of g.ctype) h)
+      (either_has (Holds TypedExpressionBelow) (nat_eq o MINUS) _ _ (operator_below at _ g (kind_of g.ctype) h)
+      (either_has (Holds TypedExpressionBelow) (nat_eq o TILDE) _ _ (operator_below at _ g (kind_of g.ctype) h) (demand_holds TypedExpressionBelow (is_scalar g.ctype) 3 at (typed_value int (unary_operation int Not (tree_of g)) (constant_unary Not (integer_constant g))) (tree_below g h)))))
 
   pub cast_below : (at : ℕ) (t : CType) (g : TypedExpression) → TypedExpressionBelow g → Holds TypedExpressionBelow (cast_of at t g)
   cast_below at void g h = tree_below g h
   cast_below at (integer i) g h = demand_holds TypedExpressionBelow (is_integer g.ctype) 3 at (cast_to i g) (tree_below g h)
-  cast_below at (pointer t) g h = tt
-  cast_below at (array t k) g h = tt
-  cast_below at (struct s) g h = tt
-  cast_below at (function t ts) g h = tt
+  cast_below at t g h = tt
 
   pub null_cast_below : (at : ℕ) (g : TypedExpression) → Holds TypedExpressionBelow (null_cast at g)
   null_cast_below at g = demand_holds TypedExpressionBelow _ 3 at (null_of (pointer void)) tt
@@ -256,70 +211,40 @@ module _ (n : ℕ) where
   two : (a b : TypedExpression) → TypedExpressionBelow a → TypedExpressionBelow b → CallsBelow n (tree_of a) × CallsBelow n (tree_of b)
   two a b h k = (tree_below a h, tree_below b k)
 
-  sum_of_below : (env : Env) (at : ℕ) (a b : TypedExpression) (k l : Kind) → TypedExpressionBelow a → TypedExpressionBelow b → Holds TypedExpressionBelow (sum_of env at a b k l)
+  pub sum_of_below : (env : Env) (at : ℕ) (a b : TypedExpression) (k l : Kind) → TypedExpressionBelow a → TypedExpressionBelow b → Holds TypedExpressionBelow (sum_of env at a b k l)
   sum_of_below env at a b (an_integer i) (an_integer j) g h = two_trees (common i j) (common i j) a b g h
   sum_of_below env at a b (a_pointer t) (an_integer j) g h = after_demands TypedExpressionBelow (complete env at t) _ (λ _. two a b g h)
   sum_of_below env at a b (an_integer i) (a_pointer t) g h = after_demands TypedExpressionBelow (complete env at t) _ (λ _. two a b g h)
-  sum_of_below env at a b (a_pointer t) (a_pointer u) g h = tt
-  sum_of_below env at a b (a_pointer t) neither g h = tt
-  sum_of_below env at a b (an_integer i) neither g h = tt
-  sum_of_below env at a b neither l g h = tt
-
-  pub sum_below : (env : Env) (at : ℕ) (a b : TypedExpression) → TypedExpressionBelow a → TypedExpressionBelow b → Holds TypedExpressionBelow (sum env at a b)
-  sum_below env at a b g h = sum_of_below env at a b (kind_of a.ctype) (kind_of b.ctype) g h
+  sum_of_below env at a b k l g h = tt
 
   minus_below : (env : Env) (at : ℕ) (a b : TypedExpression) (k l : Kind) → TypedExpressionBelow a → TypedExpressionBelow b → Holds TypedExpressionBelow (minus_of env at a b k l)
   minus_below env at a b (an_integer i) (an_integer j) g h = two_trees (common i j) (common i j) a b g h
   minus_below env at a b (a_pointer t) (an_integer j) g h = after_demands TypedExpressionBelow (complete env at t) _ (λ _. two a b g h)
   minus_below env at a b (a_pointer t) (a_pointer u) g h = after_demands TypedExpressionBelow (demand (same_type t u) 3 at met) (λ x. on {B = TypedExpression} (complete env at t) (λ x'. fine (difference a b))) (λ _. after_demands TypedExpressionBelow (complete env at t) (λ x. fine (difference a b)) (λ _. two a b g h))
-  minus_below env at a b (a_pointer t) neither g h = tt
-  minus_below env at a b (an_integer i) (a_pointer u) g h = tt
-  minus_below env at a b (an_integer i) neither g h = tt
-  minus_below env at a b neither l g h = tt
+  minus_below env at a b k l g h = tt
 
   balanced_below : (at : ℕ) (o : BinOp) (a b : TypedExpression) (k l : Kind) → TypedExpressionBelow a → TypedExpressionBelow b → Holds TypedExpressionBelow (balanced_of at o a b k l)
   balanced_below at o a b (an_integer i) (an_integer j) g h = two_trees (common i j) (common i j) a b g h
-  balanced_below at o a b (an_integer i) (a_pointer u) g h = tt
-  balanced_below at o a b (an_integer i) neither g h = tt
-  balanced_below at o a b (a_pointer t) l g h = tt
-  balanced_below at o a b neither l g h = tt
+  balanced_below at o a b k l g h = tt
 
   shift_below : (at : ℕ) (o : BinOp) (a b : TypedExpression) (k l : Kind) → TypedExpressionBelow a → TypedExpressionBelow b → Holds TypedExpressionBelow (shift_of at o a b k l)
   shift_below at o a b (an_integer i) (an_integer j) g h = two_trees (promoted i) (promoted j) a b g h
-  shift_below at o a b (an_integer i) (a_pointer u) g h = tt
-  shift_below at o a b (an_integer i) neither g h = tt
-  shift_below at o a b (a_pointer t) l g h = tt
-  shift_below at o a b neither l g h = tt
+  shift_below at o a b k l g h = tt
 
   ordered_below : (env : Env) (at : ℕ) (o : BinOp) (a b : TypedExpression) (k l : Kind) → TypedExpressionBelow a → TypedExpressionBelow b → Holds TypedExpressionBelow (ordered_of env at o a b k l)
   ordered_below env at o a b (an_integer i) (an_integer j) g h = two_trees (common i j) (common i j) a b g h
   ordered_below env at o a b (a_pointer t) (a_pointer u) g h = after_demands TypedExpressionBelow (demand (same_type t u) 3 at met) (λ x. on {B = TypedExpression} (complete env at t) (λ x'. fine (compared_pointers o a b))) (λ _. after_demands TypedExpressionBelow (complete env at t) (λ x. fine (compared_pointers o a b)) (λ _. two a b g h))
-  ordered_below env at o a b (a_pointer t) (an_integer j) g h = tt
-  ordered_below env at o a b (a_pointer t) neither g h = tt
-  ordered_below env at o a b (an_integer i) (a_pointer u) g h = tt
-  ordered_below env at o a b (an_integer i) neither g h = tt
-  ordered_below env at o a b neither l g h = tt
+  ordered_below env at o a b k l g h = tt
 
   abbrev AlikeBelow : Alike → Type 0
-  AlikeBelow (alike_integers i) = Unit {0}
   AlikeBelow (alike_pointers x y) = TypedExpressionBelow x × TypedExpressionBelow y
-  AlikeBelow unlike = Unit {0}
-
-  if_alike : (t : Bool) (x y : Alike) → AlikeBelow x → AlikeBelow y → AlikeBelow (if t then x else y)
-  if_alike true x y h k = h
-  if_alike false x y h k = k
+  AlikeBelow a = Unit {0}
 
   alike_of_below : (a b : TypedExpression) (k l : Kind) → TypedExpressionBelow a → TypedExpressionBelow b → AlikeBelow (alike_of a b k l)
-  alike_of_below a b (an_integer i) (an_integer j) g h = tt
-  alike_of_below a b (a_pointer t) (a_pointer u) g h = if_alike _ (alike_pointers a b) _ (g, h) (if_alike (is_null a) (alike_pointers (null_of b.ctype) b) _ (tt, h) (if_alike (is_null b) (alike_pointers a (null_of a.ctype)) unlike (g, tt) tt))
-  alike_of_below a b (a_pointer t) (an_integer j) g h = if_alike (is_null b) (alike_pointers a (null_of a.ctype)) unlike (g, tt) tt
-  alike_of_below a b (an_integer i) (a_pointer u) g h = if_alike (is_null a) (alike_pointers (null_of b.ctype) b) unlike (tt, h) tt
-  alike_of_below a b (a_pointer t) neither g h = tt
-  alike_of_below a b (an_integer i) neither g h = tt
-  alike_of_below a b neither l g h = tt
-
-  alike_below : (a b : TypedExpression) → TypedExpressionBelow a → TypedExpressionBelow b → AlikeBelow (alike a b)
-  alike_below a b g h = alike_of_below a b (kind_of a.ctype) (kind_of b.ctype) g h
+  alike_of_below a b (a_pointer t) (a_pointer u) g h = either_has AlikeBelow _ (alike_pointers a b) _ (g, h) (either_has AlikeBelow (is_null a) (alike_pointers (null_of b.ctype) b) _ (tt, h) (either_has AlikeBelow (is_null b) (alike_pointers a (null_of a.ctype)) unlike (g, tt) tt))
+  alike_of_below a b (a_pointer t) (an_integer j) g h = either_has AlikeBelow (is_null b) (alike_pointers a (null_of a.ctype)) unlike (g, tt) tt
+  alike_of_below a b (an_integer i) (a_pointer u) g h = either_has AlikeBelow (is_null a) (alike_pointers (null_of b.ctype) b) unlike (tt, h) tt
+  alike_of_below a b k l g h = tt
 
   equality_below : (at : ℕ) (o : BinOp) (a b : TypedExpression) (x : Alike) → TypedExpressionBelow a → TypedExpressionBelow b → AlikeBelow x → Holds TypedExpressionBelow (equality_of at o a b x)
   equality_below at o a b (alike_integers i) g h k = two_trees i i a b g h
@@ -327,28 +252,15 @@ module _ (n : ℕ) where
   equality_below at o a b unlike g h k = tt
 
   arithmetic_below : (env : Env) (at : ℕ) (o : BinOp) (a b : TypedExpression) → TypedExpressionBelow a → TypedExpressionBelow b → Holds TypedExpressionBelow (arithmetic_of env at o a b)
-  arithmetic_below env at op.Add a b g h = sum_below env at a b g h
+  arithmetic_below env at op.Add a b g h = sum_of_below env at a b (kind_of a.ctype) (kind_of b.ctype) g h
   arithmetic_below env at op.Sub a b g h = minus_below env at a b (kind_of a.ctype) (kind_of b.ctype) g h
-  arithmetic_below env at op.Mul a b g h = balanced_below at op.Mul a b (kind_of a.ctype) (kind_of b.ctype) g h
-  arithmetic_below env at op.Div a b g h = balanced_below at op.Div a b (kind_of a.ctype) (kind_of b.ctype) g h
-  arithmetic_below env at op.Rem a b g h = balanced_below at op.Rem a b (kind_of a.ctype) (kind_of b.ctype) g h
-  arithmetic_below env at op.ShiftLeft a b g h = balanced_below at op.ShiftLeft a b (kind_of a.ctype) (kind_of b.ctype) g h
-  arithmetic_below env at op.ShiftRight a b g h = balanced_below at op.ShiftRight a b (kind_of a.ctype) (kind_of b.ctype) g h
-  arithmetic_below env at op.BitAnd a b g h = balanced_below at op.BitAnd a b (kind_of a.ctype) (kind_of b.ctype) g h
-  arithmetic_below env at op.BitXor a b g h = balanced_below at op.BitXor a b (kind_of a.ctype) (kind_of b.ctype) g h
-  arithmetic_below env at op.BitOr a b g h = balanced_below at op.BitOr a b (kind_of a.ctype) (kind_of b.ctype) g h
-  arithmetic_below env at op.Less a b g h = balanced_below at op.Less a b (kind_of a.ctype) (kind_of b.ctype) g h
-  arithmetic_below env at op.Greater a b g h = balanced_below at op.Greater a b (kind_of a.ctype) (kind_of b.ctype) g h
-  arithmetic_below env at op.LessEqual a b g h = balanced_below at op.LessEqual a b (kind_of a.ctype) (kind_of b.ctype) g h
-  arithmetic_below env at op.GreaterEqual a b g h = balanced_below at op.GreaterEqual a b (kind_of a.ctype) (kind_of b.ctype) g h
-  arithmetic_below env at op.Equal a b g h = balanced_below at op.Equal a b (kind_of a.ctype) (kind_of b.ctype) g h
-  arithmetic_below env at op.NotEqual a b g h = balanced_below at op.NotEqual a b (kind_of a.ctype) (kind_of b.ctype) g h
+  arithmetic_below env at o a b g h = balanced_below at o a b (kind_of a.ctype) (kind_of b.ctype) g h
 
   operation_of_below : (env : Env) (at : ℕ) (o : BinOp) (a b : TypedExpression) (k : OperatorKind) → TypedExpressionBelow a → TypedExpressionBelow b → Holds TypedExpressionBelow (operation_of env at o a b k)
   operation_of_below env at o a b balanced g h = arithmetic_below env at o a b g h
   operation_of_below env at o a b shift g h = shift_below at o a b (kind_of a.ctype) (kind_of b.ctype) g h
   operation_of_below env at o a b ordering g h = ordered_below env at o a b (kind_of a.ctype) (kind_of b.ctype) g h
-  operation_of_below env at o a b equality g h = equality_below at o a b (alike a b) g h (alike_below a b g h)
+  operation_of_below env at o a b equality g h = equality_below at o a b (alike a b) g h (alike_of_below a b (kind_of a.ctype) (kind_of b.ctype) g h)
 
   pub operation_below : (env : Env) (at : ℕ) (o : BinOp) (a b : TypedExpression) → TypedExpressionBelow a → TypedExpressionBelow b → Holds TypedExpressionBelow (operation env at o a b)
   operation_below env at o a b g h = operation_of_below env at o a b (kind_of_operator o) g h
@@ -365,7 +277,7 @@ module _ (n : ℕ) where
   arms_below at c a b unlike f g h k = demand_holds TypedExpressionBelow _ 3 at (chosen void c a b) (tree_below c f, tree_below a g, tree_below b h)
 
   pub choice_below : (at : ℕ) (c a b : TypedExpression) → TypedExpressionBelow c → TypedExpressionBelow a → TypedExpressionBelow b → Holds TypedExpressionBelow (choice at c a b)
-  choice_below at c a b f g h = after_demands TypedExpressionBelow (demand (is_scalar c.ctype) 3 at met) (λ x. arms_of at c a b (alike a b)) (λ _. arms_below at c a b (alike a b) f g h (alike_below a b g h))
+  choice_below at c a b f g h = after_demands TypedExpressionBelow (demand (is_scalar c.ctype) 3 at met) (λ x. arms_of at c a b (alike a b)) (λ _. arms_below at c a b (alike a b) f g h (alike_of_below a b (kind_of a.ctype) (kind_of b.ctype) g h))
 
   -- assignments
 
@@ -379,19 +291,14 @@ module _ (n : ℕ) where
   update_below env at o old p v (a_pointer t) (an_integer j) g h =
       let k : CallsBelow n (tree_of p) × CallsBelow n (tree_of v) = two p v g h in
       after_demands TypedExpressionBelow (demand (moves o) 3 at met) (λ _. gives (complete env at t) (λ _. updated o old p (tree_of v))) (λ _. after_demands TypedExpressionBelow (complete env at t) (λ _. fine (updated o old p (tree_of v))) (λ _. k))
-  update_below env at o old p v (an_integer i) (a_pointer u) g h = tt
-  update_below env at o old p v (an_integer i) neither g h = tt
-  update_below env at o old p v (a_pointer t) (a_pointer u) g h = tt
-  update_below env at o old p v (a_pointer t) neither g h = tt
-  update_below env at o old p v neither l g h = tt
+  update_below env at o old p v k l g h = tt
 
   pub assignment_by_below : (env : Env) (at o : ℕ) (p v : TypedExpression) → TypedExpressionBelow p → TypedExpressionBelow v → Holds TypedExpressionBelow (assignment_by env at o p v)
-  assignment_by_below env at o p v g h = if_holds (nat_eq o ASSIGN) _ _ (assignment_below at p v g h) (update_below env at (operator_of_assignment o) false p v (kind_of p.ctype) (kind_of v.ctype) g h)
+  assignment_by_below env at o p v g h = either_has (Holds TypedExpressionBelow) (nat_eq o ASSIGN) _ _ (assignment_below at p v g h) (update_below env at (operator_of_assignment o) false p v (kind_of p.ctype) (kind_of v.ctype) g h)
 
   one_below : (k : Kind) → TypedExpressionBelow (one_for k)
   one_below (an_integer i) = tt
-  one_below (a_pointer t) = tt
-  one_below neither = tt
+  one_below k = tt
 
   pub step_below : (env : Env) (at : ℕ) (o : BinOp) (old : Bool) (p : TypedExpression) → TypedExpressionBelow p → Holds TypedExpressionBelow (step env at o old p)
   step_below env at o old p g = update_below env at o old p (one_for (kind_of p.ctype)) (kind_of p.ctype) (kind_of (one_for (kind_of p.ctype)).ctype) g (one_below (kind_of p.ctype))

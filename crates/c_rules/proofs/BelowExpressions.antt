@@ -13,7 +13,7 @@ use Rattle.c_rules.specs.Names.{Name}
 use Rattle.c_rules.specs.Scopes.{Env, Binding, Meaning, a_static, a_local, a_function, an_enumerator, unknown, Context, evaluated, sized, folded, Before, nothing_before, in_context, layout_of, binding_of}
 use Rattle.c_rules.specs.Counts.{place_of, calls, after, after_designator}
 use Rattle.c_rules.specs.TypedExpression.{TypedExpression, Constant, not_constant, undefined, known}
-use Rattle.c_rules.specs.Conversions.{valued, as_if_assigned}
+use Rattle.c_rules.specs.Conversions.{kind_of, valued, as_if_assigned}
 use Rattle.c_rules.specs.PrimaryExpressions.{used, object_number, function_number, function_value_number, static_given, typed_function, meant, bound, integer_expression, string_fits}
 use Rattle.c_rules.specs.PostfixExpressions.{site_of, callee_of_type, callee_through, callee_by_value, called, member_of}
 use Rattle.c_rules.specs.UnaryExpressions.{address, indirection, unary_of_value, size_of_expression, size_of_type, cast_of, null_cast}
@@ -24,7 +24,7 @@ use Rattle.c_rules.specs.Expressions.{value_at, place_at, callee_meant, callee_b
 use Rattle.c_rules.specs.Initialisers.{Slots, copies, each, slots, capacity, takes_list, count_inits, text_of, typed_zero, typed_char, zeros, chars, defined_cell, cell_of, scalar_cell, array_cells, cells_of_one, cells_of_list, after_init, initialised, in_turn, initialised_local, text_fits}
 use Rattle.c_rules.specs.NullCalls.{CallsBelow}
 use Rattle.c_rules.proofs.Integers.{integer_cases, size_holds}
-use Rattle.c_rules.proofs.Below.{Holds, on_holds, both_hold, all_three_hold, Any, anything, demand_holds, after_demands, TypedExpressionBelow, TypedExpressionsBelow, tree_below, valued_below, as_if_below, CalleeBelow, called_below, member_below, address_below, indirection_below, unary_below, cast_below, null_cast_below, sum_below, operation_below, conjunction_below, disjunction_below, choice_below, assignment_by_below, step_below, assignable_below, trees_below}
+use Rattle.c_rules.proofs.Below.{Holds, either_has, on_holds, both_hold, all_three_hold, Any, anything, demand_holds, after_demands, TypedExpressionBelow, TypedExpressionsBelow, tree_below, valued_as_below, as_if_below, CalleeBelow, called_below, member_type_below, address_below, led_below, unary_below, cast_below, null_cast_below, sum_of_below, operation_below, conjunction_below, disjunction_below, choice_below, assignment_by_below, step_below, assignable_below, trees_below}
 
 -- every function that may be named has a number below n
 abbrev pub Within : ℕ → Env → Type 0
@@ -34,53 +34,31 @@ module _ (n : ℕ) where
   used_below : (c : Context) (at : ℕ) (o : Option ℕ) → ((f : ℕ) → o ≡ Some f → f < n) → 0 < n → Holds (λ f. f < n) (used c at o)
   used_below c at (Some f) h z = h f refl
   used_below evaluated at None h z = tt
-  used_below sized at None h z = z
-  used_below folded at None h z = z
+  used_below c at None h z = z
 
   meant_below : (e : Env) (at : ℕ) (x : Name) (m : Meaning) → Holds (TypedExpressionBelow n) (meant e at x m)
   meant_below e at x (a_static seen whole d) = after_demands (TypedExpressionBelow n) (used e.context at (object_number e x)) (λ k. fine (static_given e seen whole k)) (λ _. tt)
-  meant_below e at x (a_local k seen whole) = tt
   meant_below e at x (a_function t d) = after_demands (TypedExpressionBelow n) (function_value_number e at x) (λ k. fine (typed_function t k)) (λ _. tt)
-  meant_below e at x (an_enumerator z) = tt
-  meant_below e at x (unknown f fs) = tt
+  meant_below e at x m = tt
 
   bound_below : (e : Env) (at : ℕ) (x : Name) (o : Option Binding) → Holds (TypedExpressionBelow n) (bound e at x o)
   bound_below e at x None = tt
   bound_below e at x (Some b) = meant_below e at x b.means
 
-  integer_below : (k : ℕ) (u : Bool) → Holds (TypedExpressionBelow n) (fine (integer_expression k u))
-  integer_below k u = integer_cases (TypedExpressionBelow n) k u (λ _. tt) tt
-
   of_type_below : (at : ℕ) (t : CType) (f : ℕ) → f < n → Holds (CalleeBelow n) (callee_of_type at t f)
   of_type_below at (function t ts) f h = h
-  of_type_below at void f h = tt
-  of_type_below at (integer i) f h = tt
-  of_type_below at (pointer t) f h = tt
-  of_type_below at (array t k) f h = tt
-  of_type_below at (struct s) f h = tt
+  of_type_below at t f h = tt
 
   through_below : (at : ℕ) (x : _) (t : CType) → CallsBelow n x → Holds (CalleeBelow n) (callee_through at x t)
   through_below at x (pointer (function t ts)) h = h
-  through_below at x (pointer void) h = tt
-  through_below at x (pointer (integer i)) h = tt
-  through_below at x (pointer (pointer t)) h = tt
-  through_below at x (pointer (array t k)) h = tt
-  through_below at x (pointer (struct s)) h = tt
-  through_below at x void h = tt
-  through_below at x (integer i) h = tt
-  through_below at x (array t k) h = tt
-  through_below at x (struct s) h = tt
-  through_below at x (function t ts) h = tt
+  through_below at x t h = tt
 
   by_value_below : (at : ℕ) (r : Checked TypedExpression) → Holds (TypedExpressionBelow n) r → Holds (CalleeBelow n) (on r (callee_by_value at))
   by_value_below at r h = on_holds (TypedExpressionBelow n) (CalleeBelow n) r (callee_by_value at) h (λ g k. through_below at _ g.ctype (tree_below n g k))
 
   callee_meant_below : (e : Env) → Within n e → (at place : ℕ) (x : Name) (r : Checked TypedExpression) (m : Meaning) → Holds (TypedExpressionBelow n) r → Holds (CalleeBelow n) (callee_meant e at place x r m)
   callee_meant_below e w at place x r (a_function t d) h = on_holds (λ f. f < n) (CalleeBelow n) (used e.context place (function_number e x)) (callee_of_type place t) (used_below e.context place (function_number e x) (w.0 x) w.1) (λ f k. of_type_below place t f k)
-  callee_meant_below e w at place x r (a_static seen whole d) h = by_value_below at r h
-  callee_meant_below e w at place x r (a_local k seen whole) h = by_value_below at r h
-  callee_meant_below e w at place x r (an_enumerator z) h = by_value_below at r h
-  callee_meant_below e w at place x r (unknown f fs) h = by_value_below at r h
+  callee_meant_below e w at place x r m h = by_value_below at r h
 
   callee_bound_below : (e : Env) → Within n e → (at place : ℕ) (x : Name) (r : Checked TypedExpression) (o : Option Binding) → Holds (TypedExpressionBelow n) r → Holds (CalleeBelow n) (callee_bound e at place x r o)
   callee_bound_below e w at place x r None h = by_value_below at r h
@@ -91,15 +69,15 @@ module _ (n : ℕ) where
   callee_below e w at _ r h = by_value_below at r h
 
   pub value_at_below : (e : Env) (place : ℕ) (r : Checked TypedExpression) → Holds (TypedExpressionBelow n) r → Holds (TypedExpressionBelow n) (value_at e place r)
-  value_at_below e place r h = on_holds (TypedExpressionBelow n) (TypedExpressionBelow n) r (valued e place) h (λ g k. valued_below n e place g k)
+  value_at_below e place r h = on_holds (TypedExpressionBelow n) (TypedExpressionBelow n) r (valued e place) h (λ g k. valued_as_below n e place g g.ctype k)
 
   place_at_below : (place : ℕ) (r : Checked TypedExpression) → Holds (TypedExpressionBelow n) r → Holds (TypedExpressionBelow n) (place_at place r)
   place_at_below place r h = on_holds (TypedExpressionBelow n) (TypedExpressionBelow n) r (assignable place) h (λ g k. assignable_below n place g k)
 
   access_below : (e : Env) (at place : ℕ) (how : Access) (x : Name) (r : Checked TypedExpression) → Holds (TypedExpressionBelow n) r → Holds (TypedExpressionBelow n) (access e at place how x r)
-  access_below e at place dot x r h = on_holds (TypedExpressionBelow n) (TypedExpressionBelow n) r (member_of e at x) h (λ g k. member_below n e at x g k)
+  access_below e at place dot x r h = on_holds (TypedExpressionBelow n) (TypedExpressionBelow n) r (member_of e at x) h (λ g k. member_type_below n e at x g g.ctype k)
   access_below e at place arrow x r h =
-      on_holds (TypedExpressionBelow n) (TypedExpressionBelow n) (on (value_at e place r) (indirection at)) (member_of e at x) (on_holds (TypedExpressionBelow n) (TypedExpressionBelow n) (value_at e place r) (indirection at) (value_at_below e place r h) (λ g k. indirection_below n at g k)) (λ g k. member_below n e at x g k)
+      on_holds (TypedExpressionBelow n) (TypedExpressionBelow n) (on (value_at e place r) (indirection at)) (member_of e at x) (on_holds (TypedExpressionBelow n) (TypedExpressionBelow n) (value_at e place r) (indirection at) (value_at_below e place r h) (λ g k. led_below n at g g.ctype k)) (λ g k. member_type_below n e at x g g.ctype k)
 
   after_operand_below : (e : Env) (at place : ℕ) (o : Postfix) (r : Checked TypedExpression) → Holds (TypedExpressionBelow n) r → Holds (TypedExpressionBelow n) (after_operand e at place o r)
   after_operand_below e at place post_increment r h = on_holds (TypedExpressionBelow n) (TypedExpressionBelow n) (place_at place r) (step e at Add true) (place_at_below place r h) (λ g k. step_below n e at Add true g k)
@@ -110,13 +88,9 @@ module _ (n : ℕ) where
   before_operand_below e at place pre_decrement r s h = on_holds (TypedExpressionBelow n) (TypedExpressionBelow n) (place_at place r) (step e at Sub false) (place_at_below place r h) (λ g k. step_below n e at Sub false g k)
   before_operand_below e at place sizeof r s h = after_demands (TypedExpressionBelow n) s (size_of_expression e at) (λ g. size_holds (TypedExpressionBelow n) e at at g.ctype (λ _. tt))
 
-  if_holds : (t : Bool) (r s : Checked TypedExpression) → Holds (TypedExpressionBelow n) r → Holds (TypedExpressionBelow n) s → Holds (TypedExpressionBelow n) (if t then r else s)
-  if_holds true r s h k = h
-  if_holds false r s h k = k
-
   unary_rule_below : (e : Env) (at place o : ℕ) (r : Checked TypedExpression) → Holds (TypedExpressionBelow n) r → Holds (TypedExpressionBelow n) (unary_rule e at place o r)
   unary_rule_below e at place o r h =
-      if_holds (nat_eq o AMPERSAND) (on r (address at place)) (on (value_at e place r) (unary_of_value at o)) (on_holds (TypedExpressionBelow n) (TypedExpressionBelow n) r (address at place) h (λ g k. address_below n at place g k))
+      either_has (Holds (TypedExpressionBelow n)) (nat_eq o AMPERSAND) (on r (address at place)) (on (value_at e place r) (unary_of_value at o)) (on_holds (TypedExpressionBelow n) (TypedExpressionBelow n) r (address at place) h (λ g k. address_below n at place g k))
       (on_holds (TypedExpressionBelow n) (TypedExpressionBelow n) (value_at e place r) (unary_of_value at o) (value_at_below e place r h) (λ g k. unary_below n at o g k))
 
   infix_below : (e : Env) (at : ℕ) (o : Infix) (a b : TypedExpression) → TypedExpressionBelow n a → TypedExpressionBelow n b → Holds (TypedExpressionBelow n) (infix_rule e at o a b)
@@ -131,7 +105,7 @@ module _ (n : ℕ) where
   mutual
     pub tree_holds : (e : Env) → Within n e → (b : Before) (x : Expr) → Holds (TypedExpressionBelow n) (tree e b x)
     tree_holds e w b (a_name at x) = bound_below e at x (binding_of e x)
-    tree_holds e w b (an_int at k u) = integer_below k u
+    tree_holds e w b (an_int at k u) = integer_cases (TypedExpressionBelow n) k u (λ _. tt) tt
     tree_holds e w b (a_char at c) = tt
     tree_holds e w b (a_str at t) = after_demands (TypedExpressionBelow n) (string_fits e.context at b.cells (suc (length t))) _ (λ _. tt)
     tree_holds e w b (comma at es) = on_holds (TypedExpressionsBelow n) (TypedExpressionBelow n) (trees e b es) (λ gs. fine (comma_of gs)) (trees_hold e w b es) (λ gs k. trees_below n gs k)
@@ -146,7 +120,7 @@ module _ (n : ℕ) where
     tree_holds e w b (unary at o x) = unary_rule_below e at (place_of x) o (tree e b x) (tree_holds e w b x)
     tree_holds e w b (index at x y) =
         on_holds (TypedExpressionBelow n) (TypedExpressionBelow n) (both (value_at e (place_of x) (tree e b x)) (value_at e (place_of y) (tree e (after b x) y)) (sum e at)) (indirection at)
-        (both_hold (TypedExpressionBelow n) (TypedExpressionBelow n) (TypedExpressionBelow n) (value_at e (place_of x) (tree e b x)) (value_at e (place_of y) (tree e (after b x) y)) (sum e at) (value_at_below e (place_of x) (tree e b x) (tree_holds e w b x)) (value_at_below e (place_of y) (tree e (after b x) y) (tree_holds e w (after b x) y)) (λ g h i j. sum_below n e at g h i j)) (λ g k. indirection_below n at g k)
+        (both_hold (TypedExpressionBelow n) (TypedExpressionBelow n) (TypedExpressionBelow n) (value_at e (place_of x) (tree e b x)) (value_at e (place_of y) (tree e (after b x) y)) (sum e at) (value_at_below e (place_of x) (tree e b x) (tree_holds e w b x)) (value_at_below e (place_of y) (tree e (after b x) y) (tree_holds e w (after b x) y)) (λ g h i j. sum_of_below n e at g h (kind_of g.ctype) (kind_of h.ctype) i j)) (λ g k. led_below n at g g.ctype k)
     tree_holds e w b (binary at o x y) =
         both_hold (TypedExpressionBelow n) (TypedExpressionBelow n) (TypedExpressionBelow n) (value_at e (place_of x) (tree e b x)) (value_at e (place_of y) (tree e (after b x) y)) (infix_rule e at o) (value_at_below e (place_of x) (tree e b x) (tree_holds e w b x)) (value_at_below e (place_of y) (tree e (after b x) y) (tree_holds e w (after b x) y)) (λ g h i j. infix_below e at o g h i j)
     tree_holds e w b (assign at o x y) =
@@ -171,11 +145,7 @@ module _ (n : ℕ) where
 
   zero_below : (t : CType) → TypedExpressionBelow n (typed_zero t)
   zero_below (integer i) = tt
-  zero_below void = tt
-  zero_below (pointer t) = tt
-  zero_below (array t k) = tt
-  zero_below (struct s) = tt
-  zero_below (function t ts) = tt
+  zero_below t = tt
 
   all_zero : (ts : List CType) → TypedExpressionsBelow n (map typed_zero ts)
   all_zero [] = tt
@@ -198,9 +168,8 @@ module _ (n : ℕ) where
   cell_below true at g h = by_constant g.constant
     where
       by_constant : (c : Constant) → Holds (TypedExpressionsBelow n) (defined_cell at g c)
-      by_constant not_constant = tt
-      by_constant undefined = tt
       by_constant (known v) = (h, tt)
+      by_constant c = tt
 
   scalar_below : (k : Bool) (at : ℕ) (t : CType) (r : Checked TypedExpression) → Holds (TypedExpressionBelow n) r → Holds (TypedExpressionsBelow n) (scalar_cell k at t r)
   scalar_below k at t r h =
@@ -211,12 +180,10 @@ module _ (n : ℕ) where
   array_below at t k o = tt
 
   one_below : (k : Bool) (at : ℕ) (t : CType) (o : Option (List ℕ)) (r : Checked TypedExpression) → Holds (TypedExpressionBelow n) r → Holds (TypedExpressionsBelow n) (cells_of_one k at t o r)
-  one_below k at void o r h = tt
   one_below k at (integer i) o r h = scalar_below k at (integer i) r h
   one_below k at (pointer t) o r h = scalar_below k at (pointer t) r h
   one_below k at (array t m) o r h = after_demands (TypedExpressionsBelow n) (text_fits at o) (λ _. array_cells at t m o) (λ _. array_below at t m o)
-  one_below k at (struct s) o r h = tt
-  one_below k at (function t ts) o r h = tt
+  one_below k at t o r h = tt
 
   list_below : (takes : Bool) (at most m : ℕ) (r : Checked (List TypedExpression)) → Holds (TypedExpressionsBelow n) r → Holds (TypedExpressionsBelow n) (cells_of_list takes at most m r)
   list_below takes at most m r h =
@@ -229,12 +196,11 @@ module _ (n : ℕ) where
 
     in_turn_holds : (e : Env) → Within n e → (b : Before) (k : Bool) (s : Slots) (is : syntax.Inits) → Holds (TypedExpressionsBelow n) (in_turn e b k s is)
     in_turn_holds e w b k s syntax.no_inits = zeros_below e s
-    in_turn_holds e w b k (copies zero t) (syntax.more_inits i is) = tt
     in_turn_holds e w b k (copies (suc m) t) (syntax.more_inits i is) =
         both_hold (TypedExpressionsBelow n) (TypedExpressionsBelow n) (TypedExpressionsBelow n) (initialised e b k t i) (in_turn e (after_init e b t i) k (copies m t) is) (λ gs hs. fine (gs ++ hs)) (initialised_holds e w b k t i) (in_turn_holds e w (after_init e b t i) k (copies m t) is) (λ gs hs g h. both_below gs hs g h)
-    in_turn_holds e w b k (each []) (syntax.more_inits i is) = tt
     in_turn_holds e w b k (each (t ∷ ts)) (syntax.more_inits i is) =
         both_hold (TypedExpressionsBelow n) (TypedExpressionsBelow n) (TypedExpressionsBelow n) (initialised e b k t i) (in_turn e (after_init e b t i) k (each ts) is) (λ gs hs. fine (gs ++ hs)) (initialised_holds e w b k t i) (in_turn_holds e w (after_init e b t i) k (each ts) is) (λ gs hs g h. both_below gs hs g h)
+    in_turn_holds e w b k s (syntax.more_inits i is) = tt
 
   pub local_init_holds : (e : Env) → Within n e → (b : Before) (t : CType) (m : MaybeInit) → Holds (TypedExpressionsBelow n) (initialised_local e b t m)
   local_init_holds e w b t no_init = tt

@@ -13,7 +13,7 @@ use Rattle.c_syntax.specs.Tree.{Tag, no_tag, tag, Enumerators, no_enumerators, m
 use Rattle.c_rules.specs.Checked.{Checked, fine, faulty, on, both, beside, Two, demand, met}
 use Rattle.c_rules.specs.Codes.{C3, C9}
 use Rattle.c_rules.specs.Names.{Name, number_among, is_added, system_calls}
-use Rattle.c_rules.specs.Scopes.{Env, inside, Before, nothing_before}
+use Rattle.c_rules.specs.Scopes.{Env, inside, Before, nothing_before, layout_of}
 use Rattle.c_rules.specs.Counts.{after, after_maybe}
 use Rattle.c_rules.specs.TypedExpression.{TypedExpression, tree_of}
 use Rattle.c_rules.specs.Conversions.{Kind, an_integer, a_pointer, neither, kind_of, as_if_assigned, condition}
@@ -26,18 +26,16 @@ use Rattle.c_rules.specs.PrimaryExpressions.{given_number, number_or}
 use Rattle.c_rules.specs.Variables.{Next, number_in, past_names, names_of_decl, names_of_first, names_of_stmt, names_of_stmts}
 use Rattle.c_rules.specs.Blocks.{within_local, behind_named, behind_part, past_part, behind_parts, behind_decl, behind_first, after_part, after_decl, after_first, after_stmt, after_stmts, StatementTree, bare, with_tree, joined, one_more, alone, appended, some_more, laid_variable, local_of, local, local_named, local_part, local_parts, local_decl, is_given}
 use Rattle.c_rules.specs.Statements.{Around, in_loop, in_switch, condition_at, test_of, step_of, first_of, for_of, switched_kind, switched, label_type, labels_of, Labelled, labelled, switch_of, returned, stmt, items_of_block, stmts, groups_of_switch}
-use Rattle.c_rules.specs.Functions.{with_parameter, with_parameters, body_env, body_numbers, body_of, parameters_of, are_named, function_laid, function_declared, items_of_body, declares_function, few_variables, defined_as}
+use Rattle.c_rules.specs.Functions.{with_parameter, with_parameters, body_env, body_numbers, body_of, parameters_of, are_named, function_laid, function_declared, items_of_body, declares_function, few_variables, defined_as, variables_of}
 use Rattle.c_rules.specs.Items.{Output, no_output, with_output, struct_definition, one_more_than, enumerator_value, behind_enumerator, behind_enumerators, new_enum, behind_enum_tag, enumerators, tag_declaration, defines, global_declared, global, definition_of, within_global, static_of, declared_part, named_part, behind_declared, behind_named_part, behind_file_part, after_file_part, file_parts, behind_file_parts, file_decl, behind_file_decl, output_of_function, behind_defined, function_named, behind_function_named, item, behind_by_form, behind_item, after_item, items}
 use Rattle.c_rules.specs.Units.{functions_of, functions_of_item, env_before, has_main, program_of, IsTyped}
 use Rattle.c_rules.specs.NullCalls.{CallsBelow, MaybeBelow, InitsBelow, StmtBelow, StmtsBelow, GroupsBelow, FunctionsBelow, CallsNoNullCall}
 use Rattle.c_rules.proofs.Modes.{on_fine, demand_met}
 use Rattle.c_rules.proofs.CheckedLemmas.{items_fine}
-use Rattle.c_rules.proofs.Below.{Holds, held, on_holds, both_hold, all_three_hold, Any, anything, demand_holds, after_demands, TypedExpressionBelow, TypedExpressionsBelow, tree_below, as_if_below, condition_below, converted_below, alone_holds, parts_first_holds}
+use Rattle.c_rules.proofs.Below.{Holds, either_has, held, on_holds, both_hold, all_three_hold, Any, anything, demand_holds, after_demands, TypedExpressionBelow, TypedExpressionsBelow, tree_below, as_if_below, condition_below, converted_below, alone_holds, parts_first_holds}
 use Rattle.c_rules.proofs.BelowExpressions.{Within, value_holds, local_init_holds}
 use Rattle.c_tree.specs.Layout.{cells_of_all}
-use Rattle.c_rules.specs.Scopes.{layout_of}
 use Rattle.c_rules.specs.Limits.{most_local_cells}
-use Rattle.c_rules.specs.Functions.{variables_of}
 
 module _ (n : ℕ) where
   -- ## Functions that may be named behind declarations
@@ -54,9 +52,8 @@ module _ (n : ℕ) where
   decl_within e w next (decl at class s ps) = parts_within e w next at s ps
 
   first_within : (e : Env) → Within n e → (next : Next) (x : First) → Within n (behind_first e next x)
-  first_within e w next first_absent = w
-  first_within e w next (first_expr x) = w
   first_within e w next (first_decl d) = decl_within e w next d
+  first_within e w next x = w
 
   -- ## Declarations
 
@@ -70,13 +67,9 @@ module _ (n : ℕ) where
   stores_below k [] h = tt
   stores_below k (g ∷ gs) h = (tree_below n g h.0, stores_below (suc k) gs h.1)
 
-  laid_below : (t : Bool) (x y : StatementTree typed.Stmt) → OneBelow x → OneBelow y → OneBelow (if t then x else y)
-  laid_below true x y h k = h
-  laid_below false x y h k = k
-
   variable_below : (x : Name) (k : ℕ) (t : CType) (gs : List TypedExpression) → TypedExpressionsBelow n gs → OneBelow (laid_variable x k t gs)
   variable_below x k t gs h =
-      laid_below (is_added x) (record { tree = typed.declare k (stores_from 0 gs); plain = []; added = t ∷ [] }) (record { tree = typed.declare k (stores_from 0 gs); plain = t ∷ []; added = [] }) (stores_below 0 gs h) (stores_below 0 gs h)
+      either_has OneBelow (is_added x) (record { tree = typed.declare k (stores_from 0 gs); plain = []; added = t ∷ [] }) (record { tree = typed.declare k (stores_from 0 gs); plain = t ∷ []; added = [] }) (stores_below 0 gs h) (stores_below 0 gs h)
 
   local_holds : (e : Env) → Within n e → (b : Before) (next : Next) (x : Ident) (m : MaybeInit) (r : Checked Object) → Holds OneBelow (local e b next x m r)
   local_holds e w b next x m r =
@@ -121,8 +114,7 @@ module _ (n : ℕ) where
 
   switched_below : (at : ℕ) (g : TypedExpression) (k : Kind) → TypedExpressionBelow n g → Holds (TypedExpressionBelow n) (switched_kind at g k)
   switched_below at g (an_integer i) h = converted_below n (promoted i) g h
-  switched_below at g (a_pointer t) h = tt
-  switched_below at g neither h = tt
+  switched_below at g k h = tt
 
   appended_below : (ss us : typed.Stmts) → StmtsBelow n ss → StmtsBelow n us → StmtsBelow n (appended ss us)
   appended_below typed.no_stmts us h k = k
@@ -187,9 +179,8 @@ module _ (n : ℕ) where
   parameter_within e w k (Some x) t = w
 
   parameters_within : (e : Env) → Within n e → (k : ℕ) (ps : Params) (ts : CTypes) → Within n (with_parameters e k ps ts)
-  parameters_within e w k no_params ts = w
-  parameters_within e w k (more_params at s d ps) typed.no_types = w
   parameters_within e w k (more_params at s d ps) (typed.more_types t ts) = parameters_within (with_parameter e k (name_of d) t) (parameter_within e w k (name_of d) t) (suc k) ps ts
+  parameters_within e w k ps ts = w
 
   abbrev FunctionBelow : Function → Type 0
   FunctionBelow f = StmtBelow n f.body
@@ -198,63 +189,55 @@ module _ (n : ℕ) where
   body_holds e w b t d ts is = block_holds (body_env e d ts) (parameters_within (inside e) w 0 (parameters_of d) ts) (record { breaks = false; continues = false; returns = t }) b (body_numbers d is) is
 
   defined_holds : (e : Env) → Within n e → (b : Before) (place : ℕ) (d : Declarator) (x : Ident) (is : BlockItems) (u : CType) → Holds FunctionBelow (defined_as e b place d x is u)
-  defined_holds e w b place d x is void = tt
-  defined_holds e w b place d x is (integer i) = tt
-  defined_holds e w b place d x is (pointer t) = tt
-  defined_holds e w b place d x is (array t k) = tt
-  defined_holds e w b place d x is (struct s) = tt
   defined_holds e w b place d x is (function t ts) =
       after_demands FunctionBelow (few_variables e x d is) _ (λ _.
       parts_first_holds FunctionBelow (body_of e b t d ts is) (both (demand (are_named (parameters_of d)) C3 place met) (body_of e b t d ts is) (λ _ p. function_laid e x t ts p)) (both_hold Any ManyBelow FunctionBelow (demand (are_named (parameters_of d)) C3 place met) (body_of e b t d ts is) (λ _ p. function_laid e x t ts p) (anything (demand (are_named (parameters_of d)) C3 place met)) (body_holds e w b t d ts is) (λ _ p _ h. demand_holds FunctionBelow (nat_le (cells_of_all (layout_of e) (variables_of ts p)) (most_local_cells e.whole.mode)) 13 x.at (record { name = x.name; ctype = function t ts; variables = variables_of ts p; body = typed.block p.tree }) h)))
+  defined_holds e w b place d x is u = tt
 
-  abbrev OutputBelow : Output → Type 0
-  OutputBelow p = FunctionsBelow n p.functions
+  -- so many functions, which call functions below n
+  abbrev Gives : ℕ → Output → Type 0
+  Gives k p = FunctionsBelow n p.functions × (length p.functions ≡ k)
 
   both_functions : (fs gs : List Function) → FunctionsBelow n fs → FunctionsBelow n gs → FunctionsBelow n (fs ++ gs)
   both_functions [] gs h k = k
   both_functions (f ∷ fs) gs h k = (h.0, both_functions fs gs h.1 k)
 
-  global_holds : (e : Env) (d : Bool) (b : Before) (x : Ident) (m : MaybeInit) (r : Checked Object) → Holds OutputBelow (global e d b x m r)
-  global_holds e false b x m r = after_demands OutputBelow r (λ _. fine no_output) (λ _. tt)
-  global_holds e true b x m r = after_demands OutputBelow r (definition_of (within_global e true x r) b m) (λ o. after_demands OutputBelow _ (λ gs. fine (static_of o gs)) (λ _. tt))
+  both_give : (p q : Output) (k l m : ℕ) → k + l ≡ m → Gives k p → Gives l q → Gives m (with_output p q)
+  both_give p q k l m e h i = (both_functions p.functions q.functions h.0 i.0, length-append p.functions q.functions ∙ (ap (λ j. j + length q.functions) h.1 ∙ (ap (λ j. k + j) i.1 ∙ e)))
 
-  declared_part_holds : (e : Env) (b : Before) (at : ℕ) (class : Storage) (s : Spec) (d : Declarator) (m : MaybeInit) (t : Bool) (x : Ident) → Holds OutputBelow (declared_part e b at class s d m t x)
-  declared_part_holds e b at class s d m true x = both_hold Any Any OutputBelow _ _ (λ _ _. fine no_output) (anything _) (anything _) (λ _ _ _ _. tt)
-  declared_part_holds e b at class s d m false x = global_holds e (defines class m) b x m (global_declared e (defines class m) b at s d x m)
+  global_gives : (e : Env) (d : Bool) (b : Before) (x : Ident) (m : MaybeInit) (r : Checked Object) → Holds (Gives 0) (global e d b x m r)
+  global_gives e false b x m r = after_demands (Gives 0) r (λ _. fine no_output) (λ _. (tt, refl))
+  global_gives e true b x m r = after_demands (Gives 0) r (definition_of (within_global e true x r) b m) (λ o. after_demands (Gives 0) _ (λ gs. fine (static_of o gs)) (λ _. (tt, refl)))
 
-  file_part_holds : (e : Env) (b : Before) (at : ℕ) (class : Storage) (s : Spec) (d : Declarator) (m : MaybeInit) (x : Option Ident) → Holds OutputBelow (named_part e b at class s d m x)
-  file_part_holds e b at class s d m None = tt
-  file_part_holds e b at class s d m (Some x) = declared_part_holds e b at class s d m (declares_function d) x
+  declared_gives : (e : Env) (b : Before) (at : ℕ) (class : Storage) (s : Spec) (d : Declarator) (m : MaybeInit) (t : Bool) (x : Ident) → Holds (Gives 0) (declared_part e b at class s d m t x)
+  declared_gives e b at class s d m true x = both_hold Any Any (Gives 0) _ _ (λ _ _. fine no_output) (anything _) (anything _) (λ _ _ _ _. (tt, refl))
+  declared_gives e b at class s d m false x = global_gives e (defines class m) b x m (global_declared e (defines class m) b at s d x m)
 
-  file_parts_hold : (e : Env) (b : Before) (at : ℕ) (class : Storage) (s : Spec) (ps : Parts) → Holds OutputBelow (file_parts e b at class s ps)
-  file_parts_hold e b at class s no_parts = tt
-  file_parts_hold e b at class s (more_parts d m ps) =
-      both_hold OutputBelow OutputBelow OutputBelow (named_part e b at class s d m (name_of d)) (file_parts (behind_file_part e b at class s d m) (after_file_part e b at class s d m) at class s ps) (λ p q. fine (with_output p q)) (file_part_holds e b at class s d m (name_of d)) (file_parts_hold (behind_file_part e b at class s d m) (after_file_part e b at class s d m) at class s ps) (λ p q h k. both_functions p.functions q.functions h k)
+  part_gives : (e : Env) (b : Before) (at : ℕ) (class : Storage) (s : Spec) (d : Declarator) (m : MaybeInit) (x : Option Ident) → Holds (Gives 0) (named_part e b at class s d m x)
+  part_gives e b at class s d m None = tt
+  part_gives e b at class s d m (Some x) = declared_gives e b at class s d m (declares_function d) x
 
-  file_decl_holds : (e : Env) (b : Before) (d : Decl) → Holds OutputBelow (file_decl e b d)
-  file_decl_holds e b (decl at class s ps) = file_parts_hold e b at class s ps
+  parts_give : (e : Env) (b : Before) (at : ℕ) (class : Storage) (s : Spec) (ps : Parts) → Holds (Gives 0) (file_parts e b at class s ps)
+  parts_give e b at class s no_parts = (tt, refl)
+  parts_give e b at class s (more_parts d m ps) =
+      both_hold (Gives 0) (Gives 0) (Gives 0) (named_part e b at class s d m (name_of d)) (file_parts (behind_file_part e b at class s d m) (after_file_part e b at class s d m) at class s ps) (λ p q. fine (with_output p q)) (part_gives e b at class s d m (name_of d)) (parts_give (behind_file_part e b at class s d m) (after_file_part e b at class s d m) at class s ps) (λ p q h k. both_give p q 0 0 0 refl h k)
 
-  function_holds : (e : Env) → Within n e → (b : Before) (at : ℕ) (s : Spec) (d : Declarator) (body : Stmt) (t : Bool) (x : Option Ident) → Holds OutputBelow (function_named e b at s d body t x)
-  function_holds e w b at s d body false x = tt
-  function_holds e w b at s d body true None = tt
-  function_holds e w b at s d body true (Some x) =
-      both_hold Any FunctionBelow OutputBelow (function_declared e true at s d x) (on (type_declared e at s d) (defined_as (behind_defined e at s d x) b (place_or at d) d x (items_of_body body))) (λ _ f. fine (output_of_function f)) (anything (function_declared e true at s d x))
-      (after_demands FunctionBelow (type_declared e at s d) (defined_as (behind_defined e at s d x) b (place_or at d) d x (items_of_body body)) (λ u. defined_holds (behind_defined e at s d x) w b (place_or at d) d x (items_of_body body) u)) (λ _ f _ h. (h, tt))
+  function_gives : (e : Env) → Within n e → (b : Before) (at : ℕ) (s : Spec) (d : Declarator) (body : Stmt) (t : Bool) (x : Option Ident) → Holds (Gives 1) (function_named e b at s d body t x)
+  function_gives e w b at s d body true (Some x) =
+      both_hold Any FunctionBelow (Gives 1) (function_declared e true at s d x) (on (type_declared e at s d) (defined_as (behind_defined e at s d x) b (place_or at d) d x (items_of_body body))) (λ _ f. fine (output_of_function f)) (anything (function_declared e true at s d x))
+      (after_demands FunctionBelow (type_declared e at s d) (defined_as (behind_defined e at s d x) b (place_or at d) d x (items_of_body body)) (λ u. defined_holds (behind_defined e at s d x) w b (place_or at d) d x (items_of_body body) u)) (λ _ f _ h. ((h, tt), refl))
+  function_gives e w b at s d body t x = tt
 
-  item_holds : (e : Env) → Within n e → (b : Before) (i : Item) → Holds OutputBelow (item e b i)
-  item_holds e w b (struct_item at x ms) = after_demands OutputBelow (struct_definition e x ms) (λ _. fine no_output) (λ _. tt)
-  item_holds e w b (enum_item at x es) = both_hold Any Any OutputBelow (new_enum e x _) (enumerators _ _ es) (λ _ _. fine no_output) (anything _) (anything _) (λ _ _ _ _. tt)
-  item_holds e w b (tag_item at x) = after_demands OutputBelow (tag_declaration e x) (λ _. fine no_output) (λ _. tt)
-  item_holds e w b (decl_item at d) = file_decl_holds e b d
-  item_holds e w b (function_item at class s d body) = function_holds e w b at s d body (declares_function d) (name_of d)
+  item_gives : (e : Env) → Within n e → (b : Before) (i : Item) → Holds (Gives (length (functions_of_item i))) (item e b i)
+  item_gives e w b (struct_item at x ms) = after_demands (Gives 0) (struct_definition e x ms) (λ _. fine no_output) (λ _. (tt, refl))
+  item_gives e w b (enum_item at x es) = both_hold Any Any (Gives 0) (new_enum e x _) (enumerators _ _ es) (λ _ _. fine no_output) (anything _) (anything _) (λ _ _ _ _. (tt, refl))
+  item_gives e w b (tag_item at x) = after_demands (Gives 0) (tag_declaration e x) (λ _. fine no_output) (λ _. (tt, refl))
+  item_gives e w b (decl_item at (decl here class s ps)) = parts_give e b here class s ps
+  item_gives e w b (function_item at class s d body) = function_gives e w b at s d body (declares_function d) (name_of d)
 
   enumerators_within : (e : Env) → Within n e → (r : _) (es : Enumerators) → Within n (behind_enumerators e r es)
   enumerators_within e w r no_enumerators = w
   enumerators_within e w r (more_enumerators x m es) = enumerators_within (behind_enumerator e x (enumerator_value e r x m)) w (one_more_than (enumerator_value e r x m)) es
-
-  enum_within : (e : Env) → Within n e → (t : Tag) → Within n (behind_enum_tag e t)
-  enum_within e w no_tag = w
-  enum_within e w (tag x) = w
 
   declared_within : (e : Env) → Within n e → (b : Before) (at : ℕ) (class : Storage) (s : Spec) (d : Declarator) (m : MaybeInit) (t : Bool) (x : Ident) → Within n (behind_declared e b at class s d m t x)
   declared_within e w b at class s d m true x = w
@@ -268,80 +251,22 @@ module _ (n : ℕ) where
   file_parts_within e w b at class s no_parts = w
   file_parts_within e w b at class s (more_parts d m ps) = file_parts_within (behind_file_part e b at class s d m) (file_part_within e w b at class s d m (name_of d)) (after_file_part e b at class s d m) at class s ps
 
-  file_decl_within : (e : Env) → Within n e → (b : Before) (d : Decl) → Within n (behind_file_decl e b d)
-  file_decl_within e w b (decl at class s ps) = file_parts_within e w b at class s ps
-
   function_within : (e : Env) → Within n e → (at : ℕ) (s : Spec) (d : Declarator) (x : Option Ident) → Within n (behind_function_named e at s d x)
   function_within e w at s d None = w
   function_within e w at s d (Some x) = w
 
   form_within : (e : Env) → Within n e → (b : Before) (i : Item) → Within n (behind_by_form e b i)
-  form_within e w b (struct_item at x ms) = w
-  form_within e w b (enum_item at x es) = enum_within (behind_enumerators e _ es) (enumerators_within e w _ es) x
-  form_within e w b (tag_item at x) = w
-  form_within e w b (decl_item at d) = file_decl_within e w b d
+  form_within e w b (enum_item at no_tag es) = enumerators_within e w _ es
+  form_within e w b (enum_item at (tag x) es) = enumerators_within e w _ es
+  form_within e w b (decl_item at (decl here class s ps)) = file_parts_within e w b here class s ps
   form_within e w b (function_item at class s d body) = function_within e w at s d (name_of d)
+  form_within e w b i = w
 
-  items_hold : (e : Env) → Within n e → (b : Before) (is : Items) → Holds OutputBelow (items e b is)
-  items_hold e w b no_items = tt
-  items_hold e w b (more_items i is) =
-      both_hold OutputBelow OutputBelow OutputBelow (item e b i) (items (behind_item e b i) (after_item e b i) is) (λ p q. fine (with_output p q)) (item_holds e w b i) (items_hold (behind_item e b i) (form_within e w b i) (after_item e b i) is) (λ p q h k. both_functions p.functions q.functions h k)
-
--- ## How many functions there are
-
-abbrev HasNone : Output → Type 0
-HasNone p = p.functions ≡ []
-
-no_functions_twice : (fs gs : List Function) → fs ≡ [] → gs ≡ [] → fs ++ gs ≡ []
-no_functions_twice fs gs h k = ap (λ xs. xs ++ gs) h ∙ k
-
-global_none : (e : Env) (d : Bool) (b : Before) (x : Ident) (m : MaybeInit) (r : Checked Object) → Holds HasNone (global e d b x m r)
-global_none e false b x m r = after_demands HasNone r (λ _. fine no_output) (λ _. refl)
-global_none e true b x m r = after_demands HasNone r (definition_of (within_global e true x r) b m) (λ o. after_demands HasNone _ (λ gs. fine (static_of o gs)) (λ _. refl))
-
-declared_none : (e : Env) (b : Before) (at : ℕ) (class : Storage) (s : Spec) (d : Declarator) (m : MaybeInit) (t : Bool) (x : Ident) → Holds HasNone (declared_part e b at class s d m t x)
-declared_none e b at class s d m true x = both_hold Any Any HasNone _ _ (λ _ _. fine no_output) (anything _) (anything _) (λ _ _ _ _. refl)
-declared_none e b at class s d m false x = global_none e (defines class m) b x m (global_declared e (defines class m) b at s d x m)
-
-part_none : (e : Env) (b : Before) (at : ℕ) (class : Storage) (s : Spec) (d : Declarator) (m : MaybeInit) (x : Option Ident) → Holds HasNone (named_part e b at class s d m x)
-part_none e b at class s d m None = tt
-part_none e b at class s d m (Some x) = declared_none e b at class s d m (declares_function d) x
-
-parts_none : (e : Env) (b : Before) (at : ℕ) (class : Storage) (s : Spec) (ps : Parts) → Holds HasNone (file_parts e b at class s ps)
-parts_none e b at class s no_parts = refl
-parts_none e b at class s (more_parts d m ps) =
-    both_hold HasNone HasNone HasNone (named_part e b at class s d m (name_of d)) (file_parts (behind_file_part e b at class s d m) (after_file_part e b at class s d m) at class s ps) (λ p q. fine (with_output p q)) (part_none e b at class s d m (name_of d)) (parts_none (behind_file_part e b at class s d m) (after_file_part e b at class s d m) at class s ps) (λ p q h k. no_functions_twice p.functions q.functions h k)
-
-abbrev Counts : ℕ → Output → Type 0
-Counts k p = length p.functions ≡ k
-
-decl_counts : (e : Env) (b : Before) (d : Decl) → Holds (Counts 0) (file_decl e b d)
-decl_counts e b (decl at class s ps) = on_none (file_parts e b at class s ps) (parts_none e b at class s ps)
-  where
-    on_none : (r : Checked Output) → Holds HasNone r → Holds (Counts 0) r
-    on_none (fine p) h = ap length h
-    on_none (faulty f fs) h = tt
-
-function_counts : (e : Env) (b : Before) (at : ℕ) (s : Spec) (d : Declarator) (body : Stmt) (t : Bool) (x : Option Ident) → Holds (Counts 1) (function_named e b at s d body t x)
-function_counts e b at s d body false x = tt
-function_counts e b at s d body true None = tt
-function_counts e b at s d body true (Some x) =
-    both_hold Any Any (Counts 1) (function_declared e true at s d x) (on (type_declared e at s d) (defined_as (behind_defined e at s d x) b (place_or at d) d x (items_of_body body))) (λ _ f. fine (output_of_function f)) (anything _) (anything _) (λ _ _ _ _. refl)
-
-item_counts : (e : Env) (b : Before) (i : Item) → Holds (Counts (length (functions_of_item i))) (item e b i)
-item_counts e b (struct_item at x ms) = after_demands (Counts 0) (struct_definition e x ms) (λ _. fine no_output) (λ _. refl)
-item_counts e b (enum_item at x es) = both_hold Any Any (Counts 0) (new_enum e x _) (enumerators _ _ es) (λ _ _. fine no_output) (anything _) (anything _) (λ _ _ _ _. refl)
-item_counts e b (tag_item at x) = after_demands (Counts 0) (tag_declaration e x) (λ _. fine no_output) (λ _. refl)
-item_counts e b (decl_item at d) = decl_counts e b d
-item_counts e b (function_item at class s d body) = function_counts e b at s d body (declares_function d) (name_of d)
-
-counts_both : (p q : Output) (xs ys : List Name) → Counts (length xs) p → Counts (length ys) q → Counts (length (xs ++ ys)) (with_output p q)
-counts_both p q xs ys h k = length-append p.functions q.functions ∙ (ap (λ k. k + length q.functions) h ∙ (ap (λ k. length xs + k) k ∙ sym (length-append xs ys)))
-
-items_count : (e : Env) (b : Before) (is : Items) → Holds (Counts (length (functions_of is))) (items e b is)
-items_count e b no_items = refl
-items_count e b (more_items i is) =
-    both_hold (Counts (length (functions_of_item i))) (Counts (length (functions_of is))) (Counts (length (functions_of_item i ++ functions_of is))) (item e b i) (items (behind_item e b i) (after_item e b i) is) (λ p q. fine (with_output p q)) (item_counts e b i) (items_count (behind_item e b i) (after_item e b i) is) (λ p q h k. counts_both p q (functions_of_item i) (functions_of is) h k)
+  items_give : (e : Env) → Within n e → (b : Before) (is : Items) → Holds (Gives (length (functions_of is))) (items e b is)
+  items_give e w b no_items = (tt, refl)
+  items_give e w b (more_items i is) =
+      both_hold (Gives (length (functions_of_item i))) (Gives (length (functions_of is))) (Gives (length (functions_of_item i ++ functions_of is))) (item e b i) (items (behind_item e b i) (after_item e b i) is) (λ p q. fine (with_output p q)) (item_gives e w b i) (items_give (behind_item e b i) (form_within e w b i) (after_item e b i) is)
+      (λ p q h k. both_give p q (length (functions_of_item i)) (length (functions_of is)) _ (sym (length-append (functions_of_item i) (functions_of is))) h k)
 
 -- ## Numbers of functions
 
@@ -376,8 +301,8 @@ before_within : (u : Items) → Within (length (functions_of u) + 24) (env_befor
 before_within u =
     ((λ x f e. one_of_both (number_among (functions_of u) x) (given_number (env_before Plain u) (number_among system_calls x)) (length (functions_of u)) f (number_below (functions_of u) x) (λ j g. given_below (env_before Plain u) (number_among system_calls x) (length (functions_of u)) j refl (system_below x) g) e), omega arith)
 
-program_below : (u : Items) (p : Output) → FunctionsBelow (length (functions_of u) + 24) p.functions → Counts (length (functions_of u)) p → CallsNoNullCall (program_of Plain u p)
-program_below u p h k = subst (λ m. FunctionsBelow (m + 24) p.functions) (sym k) h
+program_below : (u : Items) (p : Output) → Gives (length (functions_of u) + 24) (length (functions_of u)) p → CallsNoNullCall (program_of Plain u p)
+program_below u p h = subst (λ m. FunctionsBelow (m + 24) p.functions) (sym h.1) h.0
 
 -- a program that is typed in a plain unit calls no null call
 pub no_null_call : (u : Items) (p : Program) → IsTyped u Plain p → CallsNoNullCall p
@@ -386,4 +311,4 @@ no_null_call u p g =
     let t : has_main Plain u ≡ true = demand_met (has_main Plain u) 9 0 (program_of Plain u k.0) p k.2 in
     let same : program_of Plain u k.0 ≡ p = (let e : fine (program_of Plain u k.0) ≡ fine p = sym (ap (λ s. demand s C9 0 (program_of Plain u k.0)) t) ∙ k.2 in cc) in
     subst CallsNoNullCall same
-    (program_below u k.0 (held _ _ k.0 (items_hold (length (functions_of u) + 24) (env_before Plain u) (before_within u) nothing_before u) k.1) (held _ _ k.0 (items_count (env_before Plain u) nothing_before u) k.1))
+    (program_below u k.0 (held _ _ k.0 (items_give (length (functions_of u) + 24) (env_before Plain u) (before_within u) nothing_before u) k.1))
