@@ -14,8 +14,6 @@ get_set (x ∷ xs) zero v h = refl
 get_set (x ∷ xs) (suc n) v h = get_set xs n v (omega arith)
 
 pub get_other : {A : Type 0} (xs : List A) (n s : ℕ) (v : A) → (s ≡ n → ⊥) → slice_get (set xs n v) s ≡ slice_get xs s
-get_other [] n s v h = refl
 get_other (x ∷ xs) zero zero v h = absurd (h refl)
-get_other (x ∷ xs) zero (suc s) v h = refl
-get_other (x ∷ xs) (suc n) zero v h = refl
 get_other (x ∷ xs) (suc n) (suc s) v h = get_other xs n s v (λ q. h (ap suc q))
+get_other xs n s v h = refl

@@ -18,31 +18,29 @@ use Rattle.c_rules.specs.BinaryExpressions.{sum, choice}
 use Rattle.c_rules.specs.Assignments.{assignable, assignment_by, step, comma_of}
 use Rattle.c_rules.specs.Declarators.{name_of, place_or, place_of_type, is_void_pointer, type_of_spec, pointer_to, array_of, function_of, parameter_of, array_size, new_name, variable_meaning, with_name_demands, behind_parameter}
 use Rattle.c_rules.specs.Expressions.{value_at, place_at, callee, access, after_operand, before_operand, unary_rule, infix_rule, cast_rule, tree, trees, type_named, declared, size_in, parameters, value, type_declared, type_of_parameter}
-use Rattle.c_rules.proofs.Modes.{Leads, same_leads, fine_leads, on_leads, both_leads, gives_leads, all_three_lead, first_fine, ArePlain, Twin, twin, named_twin}
+use Rattle.c_rules.proofs.Modes.{Leads, same_leads, fine_leads, on_leads, then_leads, both_leads, gives_leads, all_three_lead, first_fine, ArePlain, Twin, twin, named_twin}
 use Rattle.c_rules.proofs.ModeNames.{left, right, found_plain, named_leads, site_leads, callee_bound_leads, value_at_leads, new_name_leads, new_name_plain}
 
 pub place_at_leads : (place : ℕ) (r s : Checked TypedExpression) → Leads r s → Leads (place_at place r) (place_at place s)
-place_at_leads place r s h = on_leads r s (assignable place) (assignable place) h (λ g _. same_leads (assignable place g))
+place_at_leads place r s h = then_leads r s (assignable place) h
 
 callee_leads : (env : Env) → ArePlain env.names → (at : ℕ) (d : Expr) (r s : Checked TypedExpression) → Leads r s → Leads (callee (left env) at d r) (callee (right env) at d s)
 callee_leads env p at (a_name place x) r s h = callee_bound_leads env at place x r s (lookup env.names x) (found_plain env.names x p) h
-callee_leads env p at _ r s h = on_leads r s (callee_by_value at) (callee_by_value at) h (λ g _. same_leads (callee_by_value at g))
+callee_leads env p at _ r s h = then_leads r s (callee_by_value at) h
 
 access_leads : (env : Env) (at place : ℕ) (how : Access) (x : Name) (r s : Checked TypedExpression) → Leads r s → Leads (access (left env) at place how x r) (access (right env) at place how x s)
-access_leads env at place dot x r s h = on_leads r s (member_of (left env) at x) (member_of (right env) at x) h (λ g _. same_leads (member_of (left env) at x g))
+access_leads env at place dot x r s h = then_leads r s (member_of (left env) at x) h
 access_leads env at place arrow x r s h =
-    on_leads (on (value_at (left env) place r) (indirection at)) (on (value_at (right env) place s) (indirection at)) (member_of (left env) at x) (member_of (right env) at x)
-    (on_leads (value_at (left env) place r) (value_at (right env) place s) (indirection at) (indirection at) (value_at_leads env place r s h) (λ g _. same_leads (indirection at g)))
-    (λ g _. same_leads (member_of (left env) at x g))
+    then_leads (on (value_at (left env) place r) (indirection at)) (on (value_at (right env) place s) (indirection at)) (member_of (left env) at x) (then_leads (value_at (left env) place r) (value_at (right env) place s) (indirection at) (value_at_leads env place r s h))
 
 after_operand_leads : (env : Env) (at place : ℕ) (op : Postfix) (r s : Checked TypedExpression) → Leads r s → Leads (after_operand (left env) at place op r) (after_operand (right env) at place op s)
-after_operand_leads env at place post_increment r s h = on_leads (place_at place r) (place_at place s) (step (left env) at Add true) (step (right env) at Add true) (place_at_leads place r s h) (λ g _. same_leads (step (left env) at Add true g))
-after_operand_leads env at place post_decrement r s h = on_leads (place_at place r) (place_at place s) (step (left env) at Sub true) (step (right env) at Sub true) (place_at_leads place r s h) (λ g _. same_leads (step (left env) at Sub true g))
+after_operand_leads env at place post_increment r s h = then_leads (place_at place r) (place_at place s) (step (left env) at Add true) (place_at_leads place r s h)
+after_operand_leads env at place post_decrement r s h = then_leads (place_at place r) (place_at place s) (step (left env) at Sub true) (place_at_leads place r s h)
 
 before_operand_leads : (env : Env) (at place : ℕ) (op : Prefix) (r s q t : Checked TypedExpression) → Leads r s → Leads q t → Leads (before_operand (left env) at place op r q) (before_operand (right env) at place op s t)
-before_operand_leads env at place pre_increment r s q t h k = on_leads (place_at place r) (place_at place s) (step (left env) at Add false) (step (right env) at Add false) (place_at_leads place r s h) (λ g _. same_leads (step (left env) at Add false g))
-before_operand_leads env at place pre_decrement r s q t h k = on_leads (place_at place r) (place_at place s) (step (left env) at Sub false) (step (right env) at Sub false) (place_at_leads place r s h) (λ g _. same_leads (step (left env) at Sub false g))
-before_operand_leads env at place sizeof r s q t h k = on_leads q t (size_of_expression (left env) at) (size_of_expression (right env) at) k (λ g _. same_leads (size_of_expression (left env) at g))
+before_operand_leads env at place pre_increment r s q t h k = then_leads (place_at place r) (place_at place s) (step (left env) at Add false) (place_at_leads place r s h)
+before_operand_leads env at place pre_decrement r s q t h k = then_leads (place_at place r) (place_at place s) (step (left env) at Sub false) (place_at_leads place r s h)
+before_operand_leads env at place sizeof r s q t h k = then_leads q t (size_of_expression (left env) at) k
 
 pub unary_by : (t : Bool) (a b c d : Checked TypedExpression) → Leads a b → Leads c d → Leads (if t then a else c) (if t then b else d)
 unary_by true a b c d h k = h
@@ -51,16 +49,15 @@ unary_by false a b c d h k = k
 unary_leads : (env : Env) (at place op : ℕ) (r s : Checked TypedExpression) → Leads r s → Leads (unary_rule (left env) at place op r) (unary_rule (right env) at place op s)
 unary_leads env at place op r s h =
     unary_by (nat_eq op AMPERSAND) (on r (address at place)) (on s (address at place)) (on (value_at (left env) place r) (unary_of_value at op)) (on (value_at (right env) place s) (unary_of_value at op))
-    (on_leads r s (address at place) (address at place) h (λ g _. same_leads (address at place g)))
-    (on_leads (value_at (left env) place r) (value_at (right env) place s) (unary_of_value at op) (unary_of_value at op) (value_at_leads env place r s h) (λ g _. same_leads (unary_of_value at op g)))
+    (then_leads r s (address at place) h)
+    (then_leads (value_at (left env) place r) (value_at (right env) place s) (unary_of_value at op) (value_at_leads env place r s h))
 
 infix_leads : (env : Env) (at : ℕ) (op : Infix) (a b : TypedExpression) → Leads (infix_rule (left env) at op a b) (infix_rule (right env) at op a b)
 infix_leads env at and a b = same_leads (infix_rule (left env) at and a b)
-infix_leads env at or a b = same_leads (infix_rule (left env) at or a b)
-infix_leads env at (operator code) a b = same_leads (infix_rule (left env) at (operator code) a b)
+infix_leads env at op a b = same_leads (infix_rule (left env) at op a b)
 
 pub cast_leads : (v : Bool) (at : ℕ) (t u : Checked CType) (r s : Checked TypedExpression) → Leads t u → Leads r s → Leads (cast_rule v at t r) (cast_rule v at u s)
-cast_leads true at t u r s h k = on_leads r s (null_cast at) (null_cast at) k (λ g _. same_leads (null_cast at g))
+cast_leads true at t u r s h k = then_leads r s (null_cast at) k
 cast_leads false at t u r s h k = both_leads t u r s (cast_of at) (cast_of at) h (λ _ _. k) (λ a g. same_leads (cast_of at a g))
 
 with_name_leads : (env : Env) (n : Option Ident) (r s : Checked CType) → Leads r s → Leads (with_name_demands (left env) n r) (with_name_demands (right env) n s)
@@ -79,12 +76,10 @@ behind_twin env p k (Some x) r s t h e =
 mutual
   pub tree_leads : (e f : Env) → Twin e f → (b : Before) (x : Expr) → Leads (tree e b x) (tree f b x)
   tree_leads e f (twin env p) b (a_name at x) = named_leads env p at x
-  tree_leads e f (twin env p) b (an_int at n u) = (refl, tt)
-  tree_leads e f (twin env p) b (a_char at c) = (refl, tt)
   tree_leads e f (twin env p) b (a_str at w) = same_leads (string_expression (left env) b at w)
   tree_leads e f (twin env p) b (comma at es) = gives_leads (trees (left env) b es) (trees (right env) b es) comma_of (trees_lead _ _ (twin env p) b es)
   tree_leads e f (twin env p) b (sizeof_type at t) =
-      on_leads (type_named (left env) t) (type_named (right env) t) (size_of_type (left env) at (place_of_type t)) (size_of_type (right env) at (place_of_type t)) (type_named_leads _ _ (twin env p) t) (λ u _. same_leads (size_of_type (left env) at (place_of_type t) u))
+      then_leads (type_named (left env) t) (type_named (right env) t) (size_of_type (left env) at (place_of_type t)) (type_named_leads _ _ (twin env p) t)
   tree_leads e f (twin env p) b (cast at t x) =
       cast_leads (is_void_pointer t) at (type_named (left env) t) (type_named (right env) t) (value_at (left env) (place_of x) (tree (left env) b x)) (value_at (right env) (place_of x) (tree (right env) b x)) (type_named_leads _ _ (twin env p) t) (value_at_leads env (place_of x) _ _ (tree_leads _ _ (twin env p) b x))
   tree_leads e f (twin env p) b (call at d es) =
@@ -97,9 +92,7 @@ mutual
       before_operand_leads env at (place_of x) op _ _ _ _ (tree_leads _ _ (twin env p) b x) (tree_leads _ _ (twin (in_context env sized) p) nothing_before x)
   tree_leads e f (twin env p) b (unary at op x) = unary_leads env at (place_of x) op _ _ (tree_leads _ _ (twin env p) b x)
   tree_leads e f (twin env p) b (index at x y) =
-      on_leads (both (value_at (left env) (place_of x) (tree (left env) b x)) (value_at (left env) (place_of y) (tree (left env) (after b x) y)) (sum (left env) at)) (both (value_at (right env) (place_of x) (tree (right env) b x)) (value_at (right env) (place_of y) (tree (right env) (after b x) y)) (sum (right env) at)) (indirection at) (indirection at)
-      (both_leads _ _ _ _ (sum (left env) at) (sum (right env) at) (value_at_leads env (place_of x) _ _ (tree_leads _ _ (twin env p) b x)) (λ _ _. value_at_leads env (place_of y) _ _ (tree_leads _ _ (twin env p) (after b x) y)) (λ g h. same_leads (sum (left env) at g h)))
-      (λ g _. same_leads (indirection at g))
+      then_leads (both (value_at (left env) (place_of x) (tree (left env) b x)) (value_at (left env) (place_of y) (tree (left env) (after b x) y)) (sum (left env) at)) (both (value_at (right env) (place_of x) (tree (right env) b x)) (value_at (right env) (place_of y) (tree (right env) (after b x) y)) (sum (right env) at)) (indirection at) (both_leads _ _ _ _ (sum (left env) at) (sum (right env) at) (value_at_leads env (place_of x) _ _ (tree_leads _ _ (twin env p) b x)) (λ _ _. value_at_leads env (place_of y) _ _ (tree_leads _ _ (twin env p) (after b x) y)) (λ g h. same_leads (sum (left env) at g h)))
   tree_leads e f (twin env p) b (binary at op x y) =
       both_leads (value_at (left env) (place_of x) (tree (left env) b x)) (value_at (right env) (place_of x) (tree (right env) b x)) (value_at (left env) (place_of y) (tree (left env) (after b x) y)) (value_at (right env) (place_of y) (tree (right env) (after b x) y)) (infix_rule (left env) at op) (infix_rule (right env) at op)
       (value_at_leads env (place_of x) _ _ (tree_leads _ _ (twin env p) b x)) (λ _ _. value_at_leads env (place_of y) _ _ (tree_leads _ _ (twin env p) (after b x) y)) (λ g h. infix_leads env at op g h)
@@ -109,6 +102,7 @@ mutual
   tree_leads e f (twin env p) b (conditional at c x y) =
       all_three_lead (value_at (left env) (place_of c) (tree (left env) b c)) (value_at (right env) (place_of c) (tree (right env) b c)) (value_at (left env) (place_of x) (tree (left env) (after b c) x)) (value_at (right env) (place_of x) (tree (right env) (after b c) x)) (value_at (left env) (place_of y) (tree (left env) (after (after b c) x) y)) (value_at (right env) (place_of y) (tree (right env) (after (after b c) x) y)) (choice at) (choice at)
       (value_at_leads env (place_of c) _ _ (tree_leads _ _ (twin env p) b c)) (λ _ _. value_at_leads env (place_of x) _ _ (tree_leads _ _ (twin env p) (after b c) x)) (λ _ _ _ _. value_at_leads env (place_of y) _ _ (tree_leads _ _ (twin env p) (after (after b c) x) y)) (λ g h i. same_leads (choice at g h i))
+  tree_leads e f (twin env p) b x = (refl, tt)
 
   pub trees_lead : (e f : Env) → Twin e f → (b : Before) (xs : Exprs) → Leads (trees e b xs) (trees f b xs)
   trees_lead e f (twin env p) b no_exprs = (refl, tt)
@@ -121,28 +115,26 @@ mutual
       on_leads (type_of_spec (left env) at s) (type_of_spec (right env) at s) (λ t. declared (left env) d t) (λ t. declared (right env) d t) (same_leads (type_of_spec (left env) at s)) (λ t _. declared_leads _ _ (twin env p) d t)
 
   pub declared_leads : (e f : Env) → Twin e f → (d : Declarator) (t : CType) → Leads (declared e d t) (declared f d t)
-  declared_leads e f (twin env p) nothing t = (refl, tt)
-  declared_leads e f (twin env p) (named at x) t = (refl, tt)
   declared_leads e f (twin env p) (pointer at d) t = on_leads (pointer_to at t) (pointer_to at t) (λ u. declared (left env) d u) (λ u. declared (right env) d u) (same_leads (pointer_to at t)) (λ u _. declared_leads _ _ (twin env p) d u)
   declared_leads e f (twin env p) (array at d size) t =
       on_leads (on (size_in (left env) size) (array_of (left env) at t)) (on (size_in (right env) size) (array_of (right env) at t)) (λ u. declared (left env) d u) (λ u. declared (right env) d u)
-      (on_leads (size_in (left env) size) (size_in (right env) size) (array_of (left env) at t) (array_of (right env) at t) (size_leads _ _ (twin env p) size) (λ n _. same_leads (array_of (left env) at t n))) (λ u _. declared_leads _ _ (twin env p) d u)
+      (then_leads (size_in (left env) size) (size_in (right env) size) (array_of (left env) at t) (size_leads _ _ (twin env p) size)) (λ u _. declared_leads _ _ (twin env p) d u)
   declared_leads e f (twin env p) (function at d ps) t =
       on_leads (on (parameters (inside (left env)) 0 ps) (function_of at t)) (on (parameters (inside (right env)) 0 ps) (function_of at t)) (λ u. declared (left env) d u) (λ u. declared (right env) d u)
-      (on_leads (parameters (inside (left env)) 0 ps) (parameters (inside (right env)) 0 ps) (function_of at t) (function_of at t) (parameters_lead _ _ (twin (inside env) p) 0 ps) (λ ts _. same_leads (function_of at t ts))) (λ u _. declared_leads _ _ (twin env p) d u)
+      (then_leads (parameters (inside (left env)) 0 ps) (parameters (inside (right env)) 0 ps) (function_of at t) (parameters_lead _ _ (twin (inside env) p) 0 ps)) (λ u _. declared_leads _ _ (twin env p) d u)
+  declared_leads e f (twin env p) d t = (refl, tt)
 
   pub size_leads : (e f : Env) → Twin e f → (m : Maybe) → Leads (size_in e m) (size_in f m)
   size_leads e f (twin env p) absent = (refl, tt)
   size_leads e f (twin env p) (there x) =
-      on_leads (value_at (left (in_context env folded)) (place_of x) (tree (left (in_context env folded)) nothing_before x)) (value_at (right (in_context env folded)) (place_of x) (tree (right (in_context env folded)) nothing_before x)) (array_size (place_of x)) (array_size (place_of x))
-      (value_at_leads (in_context env folded) (place_of x) _ _ (tree_leads _ _ (twin (in_context env folded) p) nothing_before x)) (λ g _. same_leads (array_size (place_of x) g))
+      then_leads (value_at (left (in_context env folded)) (place_of x) (tree (left (in_context env folded)) nothing_before x)) (value_at (right (in_context env folded)) (place_of x) (tree (right (in_context env folded)) nothing_before x)) (array_size (place_of x)) (value_at_leads (in_context env folded) (place_of x) _ _ (tree_leads _ _ (twin (in_context env folded) p) nothing_before x))
 
   pub parameters_lead : (e f : Env) → Twin e f → (k : ℕ) (ps : Params) → Leads (parameters e k ps) (parameters f k ps)
   parameters_lead e f (twin env p) k no_params = (refl, tt)
   parameters_lead e f (twin env p) k (more_params at s d ps) =
       let r : Checked CType = on (on (type_of_spec (left env) at s) (λ t. declared (left env) d t)) (parameter_of (place_or at d)) in
       let q : Checked CType = on (on (type_of_spec (right env) at s) (λ t. declared (right env) d t)) (parameter_of (place_or at d)) in
-      let h : Leads r q = on_leads (on (type_of_spec (left env) at s) (λ t. declared (left env) d t)) (on (type_of_spec (right env) at s) (λ t. declared (right env) d t)) (parameter_of (place_or at d)) (parameter_of (place_or at d)) (on_leads (type_of_spec (left env) at s) (type_of_spec (right env) at s) (λ t. declared (left env) d t) (λ t. declared (right env) d t) (same_leads (type_of_spec (left env) at s)) (λ t _. declared_leads _ _ (twin env p) d t)) (λ t _. same_leads (parameter_of (place_or at d) t)) in
+      let h : Leads r q = then_leads (on (type_of_spec (left env) at s) (λ t. declared (left env) d t)) (on (type_of_spec (right env) at s) (λ t. declared (right env) d t)) (parameter_of (place_or at d)) (on_leads (type_of_spec (left env) at s) (type_of_spec (right env) at s) (λ t. declared (left env) d t) (λ t. declared (right env) d t) (same_leads (type_of_spec (left env) at s)) (λ t _. declared_leads _ _ (twin env p) d t)) in
       both_leads (with_name_demands (left env) (name_of d) r) (with_name_demands (right env) (name_of d) q) (parameters (behind_parameter (left env) k (name_of d) r) k ps) (parameters (behind_parameter (right env) k (name_of d) q) k ps) (λ t ts. fine (more_types t ts)) (λ t ts. fine (more_types t ts))
       (with_name_leads env (name_of d) r q h) (λ t e. parameters_lead _ _ (behind_twin env p k (name_of d) r q t h e) k ps) (λ t ts. (refl, tt))
 
@@ -154,4 +146,4 @@ type_declared_leads e f (twin env p) at s d = type_named_leads _ _ (twin env p) 
 
 pub parameter_leads : (e f : Env) → Twin e f → (at : ℕ) (s : Spec) (d : Declarator) → Leads (type_of_parameter e at s d) (type_of_parameter f at s d)
 parameter_leads e f (twin env p) at s d =
-    on_leads (type_declared (left env) at s d) (type_declared (right env) at s d) (parameter_of (place_or at d)) (parameter_of (place_or at d)) (type_declared_leads _ _ (twin env p) at s d) (λ t _. same_leads (parameter_of (place_or at d) t))
+    then_leads (type_declared (left env) at s d) (type_declared (right env) at s d) (parameter_of (place_or at d)) (type_declared_leads _ _ (twin env p) at s d)

@@ -30,19 +30,13 @@ use Rattle.c_rules.proofs.ModeStatements.{inside_twin, block_leads}
 
 -- where a declarator of a function is fine, its parameters are
 pub parameters_fine : (e : Env) (d : Declarator) (t u : CType) → declares_function d ≡ true → declared e d t ≡ fine u → (ts : CTypes) × (parameters (inside e) 0 (parameters_of d) ≡ fine ts)
-parameters_fine e syntax.nothing t u h g = cc
-parameters_fine e (syntax.named at x) t u h g = cc
 parameters_fine e (syntax.pointer at d) t u h g = let k = on_fine (pointer_to at t) (λ v. declared e d v) u g in parameters_fine e d k.0 u h k.2
 parameters_fine e (syntax.array at d size) t u h g = let k = on_fine (on (size_in e size) (array_of e at t)) (λ v. declared e d v) u g in parameters_fine e d k.0 u h k.2
 parameters_fine e (syntax.function at (syntax.named here x) ps) t u h g =
     let k = on_fine (on (parameters (inside e) 0 ps) (function_of at t)) (λ v. fine v) u g in let l = on_fine (parameters (inside e) 0 ps) (function_of at t) k.0 k.1 in (l.0, l.1)
-parameters_fine e (syntax.function at syntax.nothing ps) t u h g = cc
-parameters_fine e (syntax.function at (syntax.pointer here d) ps) t u h g =
-    let k = on_fine (on (parameters (inside e) 0 ps) (function_of at t)) (λ v. declared e (syntax.pointer here d) v) u g in parameters_fine e (syntax.pointer here d) k.0 u h k.2
-parameters_fine e (syntax.function at (syntax.array here d size) ps) t u h g =
-    let k = on_fine (on (parameters (inside e) 0 ps) (function_of at t)) (λ v. declared e (syntax.array here d size) v) u g in parameters_fine e (syntax.array here d size) k.0 u h k.2
-parameters_fine e (syntax.function at (syntax.function here d qs) ps) t u h g =
-    let k = on_fine (on (parameters (inside e) 0 ps) (function_of at t)) (λ v. declared e (syntax.function here d qs) v) u g in parameters_fine e (syntax.function here d qs) k.0 u h k.2
+parameters_fine e (syntax.function at d ps) t u h g =
+    let k = on_fine (on (parameters (inside e) 0 ps) (function_of at t)) (λ v. declared e d v) u g in parameters_fine e d k.0 u h k.2
+parameters_fine e d t u h g = cc
 
 abbrev pub PlainName : Option Ident → Type 0
 PlainName None = Unit {0}
@@ -70,9 +64,8 @@ parameter_twin env p k None t u = twin env p
 parameter_twin env p k (Some x) t u = twin (with_parameter env k (Some x) t) (u, p)
 
 parameters_twin : (e f : Env) → Twin e f → (k : ℕ) (ps : Params) (ts : CTypes) → PlainNames ps → Twin (with_parameters e k ps ts) (with_parameters f k ps ts)
-parameters_twin e f w k no_params ts u = w
-parameters_twin e f w k (more_params at s d ps) typed.no_types u = w
 parameters_twin e f (twin env p) k (more_params at s d ps) (typed.more_types t ts) u = parameters_twin (with_parameter (left env) k (name_of d) t) (with_parameter (right env) k (name_of d) t) (parameter_twin env p k (name_of d) t u.0) (suc k) ps ts u.1
+parameters_twin e f w k ps ts u = w
 
 -- ## Names of functions
 
@@ -144,16 +137,12 @@ body_leads e f w b t d ts is u =
     block_leads (body_env e d ts) (body_env f d ts) (parameters_twin (inside e) (inside f) (inside_twin e f w) 0 (parameters_of d) ts u) (record { breaks = false; continues = false; returns = t }) b (body_numbers d is) is
 
 defined_leads : (e f : Env) → Twin e f → (b : Before) (place : ℕ) (d : Declarator) (x : Ident) (is : BlockItems) (u : CType) → PlainNames (parameters_of d) → LeadsTo (held_by_type e d is u ≡ held_by_type f d is u) (defined_as e b place d x is u) (defined_as f b place d x is u)
-defined_leads e f w b place d x is void h = tt
-defined_leads e f w b place d x is (integer i) h = tt
-defined_leads e f w b place d x is (pointer t) h = tt
-defined_leads e f w b place d x is (array t n) h = tt
-defined_leads e f w b place d x is (struct s) h = tt
 defined_leads e f w b place d x is (function t us) h =
     after_to _ (few_variables e x d is) (few_variables f x d is) _ _ (variables_lead e f w x d is) (λ _ _.
     parts_first_leads _ (body_of e b t d us is) (body_of f b t d us is) _ _ (weaken (Unit {0} × (held_by_type e d is (function t us) ≡ held_by_type f d is (function t us))) _ _ _ (λ y. y.1)
     (both_to (Unit {0}) (held_by_type e d is (function t us) ≡ held_by_type f d is (function t us)) (demand (are_named (parameters_of d)) C3 place met) (demand (are_named (parameters_of d)) C3 place met) (body_of e b t d us is) (body_of f b t d us is) (λ _ p. function_laid e x t us p) (λ _ p. function_laid f x t us p)
     (same_leads _) (λ _ _ _. body_leads e f w b t d us is h) (λ _ p. laid_leads e f w x t us p))))
+defined_leads e f w b place d x is u h = tt
 
 declared_names : (e f : Env) → Twin e f → (at : ℕ) (s : Spec) (d : Declarator) (u : CType) → declares_function d ≡ true → type_declared e at s d ≡ fine u → PlainNames (parameters_of d)
 declared_names e f w at s d u h g =

@@ -2,13 +2,12 @@
 use Rattle.std.proofs.Common.{◌≡◌, ℕ, ℤ, pos, Bool, true, false, not, ◌&&◌, List, [], ◌∷◌, ◌++◌, map, Option, Some, None, refl, ap, sym, subst, ◌∙◌, codes}
 use Rattle.c_tree.specs.Mode.TheVariants.{Plain, Instrumented}
 use Rattle.c_tree.specs.Tree.{CType, Program}
-use Rattle.c_syntax.specs.Tree.{Ident, Storage, Spec, Declarator, MaybeInit, Parts, no_parts, more_parts, Decl, decl, Maybe, absent, there}
-use Rattle.c_syntax.specs.Tree.{Declarators, no_declarators, more_declarators, Members, no_members, more_members, Enumerators, no_enumerators, more_enumerators}
+use Rattle.c_syntax.specs.Tree.{Ident, Storage, Spec, Declarator, MaybeInit, Parts, no_parts, more_parts, Decl, decl, Maybe, absent, there, Declarators, no_declarators, more_declarators, Members, no_members, more_members, Enumerators, no_enumerators, more_enumerators}
 use Rattle.c_syntax.specs.Tree.{Tag, no_tag, tag, Stmt, BlockItems, Item, struct_item, enum_item, tag_item, decl_item, function_item, Items, no_items, more_items}
 use Rattle.c_rules.specs.Checked.{Checked, fine, faulty, on, gives, demand, and_also, met}
-use Rattle.c_rules.specs.Codes.{C2, C11, C12}
-use Rattle.c_rules.specs.Names.{Name, is_among, is_reserved, given_names, may_be_declared}
-use Rattle.c_rules.specs.Scopes.{Env, a_static, an_enumerator, Struct, Before, layout_of, struct_of, tag_number, declared_here, with_struct}
+use Rattle.c_rules.specs.Codes.{C2, C11, C12, C9}
+use Rattle.c_rules.specs.Names.{Name, is_among, is_reserved, given_names, may_be_declared, number_among}
+use Rattle.c_rules.specs.Scopes.{Env, a_static, an_enumerator, Struct, Before, layout_of, struct_of, tag_number, declared_here, with_struct, nothing_before, binding_of}
 use Rattle.c_rules.specs.Counts.{place_of, past}
 use Rattle.c_rules.specs.Declarators.{name_of, place_or, constant_value, new_name}
 use Rattle.c_rules.specs.Expressions.{type_declared, folded_value}
@@ -18,17 +17,14 @@ use Rattle.c_rules.specs.Tags.{tags_of_enumerators}
 use Rattle.c_rules.specs.Variables.{calls_of_block}
 use Rattle.c_rules.specs.Functions.{declares_function, held_by_typed, is_defined_by, function_declared, items_of_body, defined_as}
 use Rattle.c_rules.specs.Items.{Output, no_output, with_output, free_tag, member_typed, new_member, member_named, member_declared, with_option, names_behind, members_declared, members, struct_laid, is_incomplete, new_struct, struct_definition, struct_or_unknown, tag_declaration, int_value, enumerator_value, one_more_than, enumerator_meaning, behind_enumerator, enumerators, behind_enumerators, new_enum, behind_enum_tag, defines, may_follow_object, object_name, few_static, global_object, global_declared, meaning_of_global, seen_of_global, behind_global, within_global, static_of, after_object, definition_of, global, without_init, declared_part, named_part, behind_declared, behind_named_part, behind_file_part, after_global, after_declared, after_file_part, file_parts, behind_file_parts, after_file_parts, file_decl, behind_file_decl, after_file_decl, output_of_function, behind_defined, function_named, behind_function_named, item, with_tags, behind_item, after_item, items, behind_items, after_items}
-use Rattle.c_rules.specs.Scopes.{nothing_before, binding_of}
-use Rattle.c_rules.specs.Codes.{C9}
-use Rattle.c_rules.specs.Names.{number_among}
 use Rattle.std.specs.Prelude.{unwrap_or}
 use Rattle.c_tree.specs.Layout.{Structs}
 use Rattle.c_rules.specs.Units.{env_before, env_behind, is_main_bound, has_main, strings_of, static_string, functions_of, program_of, IsTyped}
 use Rattle.c_rules.proofs.CheckedLemmas.{items_fine, names_fine, items_typed}
-use Rattle.c_rules.proofs.Modes.{fact, Leads, LeadsTo, same_leads, fine_leads, with_fact, without, on_leads, both_leads, gives_leads, demand_leads, and_also_leads, first_fine, on_fine, demand_met, ArePlain, Twin, twin, named_twin}
+use Rattle.c_rules.proofs.Modes.{fact, Leads, LeadsTo, same_leads, fine_leads, with_fact, without, on_leads, then_leads, both_leads, gives_leads, demand_leads, and_also_leads, first_fine, on_fine, demand_met, ArePlain, Twin, twin, named_twin}
 use Rattle.c_rules.proofs.ModeNames.{left, right, unreserved, may_more, name_leads, given_leads, new_name_leads, new_name_plain}
 use Rattle.c_rules.proofs.ModeExpressions.{type_declared_leads}
-use Rattle.c_rules.proofs.ModeBlocks.{both_to, weaken, always, moved, static_init_leads, object_leads, held_same}
+use Rattle.c_rules.proofs.ModeBlocks.{parts_to, both_to, weaken, always, moved, static_init_leads, object_leads, held_same}
 use Rattle.c_rules.proofs.ModeStatements.{folded_leads}
 use Rattle.c_rules.proofs.ModeFunctions.{function_declared_leads, function_twin, definition_leads}
 
@@ -44,7 +40,7 @@ member_leads e f (twin env p) earlier at s d = by_name (name_of d)
     by_name None = tt
     by_name (Some x) =
         both_leads (new_member (left env) earlier x) (new_member (right env) earlier x) (on (type_declared (left env) at s d) (member_typed (left env) (place_or at d) x.at)) (on (type_declared (right env) at s d) (member_typed (right env) (place_or at d) x.at)) (λ _ t. fine (record { name = x.name; ctype = t })) (λ _ t. fine (record { name = x.name; ctype = t }))
-        (and_also_leads _ _ _ _ (tag_leads env x) (same_leads (demand (not (is_among earlier x.name)) C2 x.at met))) (λ _ _. on_leads (type_declared (left env) at s d) (type_declared (right env) at s d) (member_typed (left env) (place_or at d) x.at) (member_typed (right env) (place_or at d) x.at) (type_declared_leads _ _ (twin env p) at s d) (λ t _. same_leads (member_typed (left env) (place_or at d) x.at t))) (λ _ t. (refl, tt))
+        (and_also_leads _ _ _ _ (tag_leads env x) (same_leads (demand (not (is_among earlier x.name)) C2 x.at met))) (λ _ _. then_leads (type_declared (left env) at s d) (type_declared (right env) at s d) (member_typed (left env) (place_or at d) x.at) (type_declared_leads _ _ (twin env p) at s d)) (λ _ t. (refl, tt))
 
 declarators_lead : (e f : Env) → Twin e f → (earlier : List Name) (at : ℕ) (s : Spec) (ds : Declarators) → Leads (members_declared e earlier at s ds) (members_declared f earlier at s ds)
 declarators_lead e f w earlier at s no_declarators = (refl, tt)
@@ -62,7 +58,7 @@ struct_leads : (e f : Env) → Twin e f → (x : Ident) (ms : Members) → Leads
 struct_leads e f (twin env p) x ms =
     both_leads (new_struct (left env) x) (new_struct (right env) x) (on (members (left env) [] ms) (struct_laid (left env) x)) (on (members (right env) [] ms) (struct_laid (right env) x)) (λ _ s. fine s) (λ _ s. fine s)
     (and_also_leads _ _ _ _ (tag_leads env x) (same_leads (demand (is_incomplete (struct_of env (tag_number env x.name)) && not (is_among env.enums x.name)) C2 x.at met)))
-    (λ _ _. on_leads (members (left env) [] ms) (members (right env) [] ms) (struct_laid (left env) x) (struct_laid (right env) x) (members_lead _ _ (twin env p) [] ms) (λ ns _. same_leads (struct_laid (left env) x ns))) (λ _ s. (refl, tt))
+    (λ _ _. then_leads (members (left env) [] ms) (members (right env) [] ms) (struct_laid (left env) x) (members_lead _ _ (twin env p) [] ms)) (λ _ s. (refl, tt))
 
 struct_twin : (e f : Env) → Twin e f → (x : Ident) (ms : Members) (s : Struct) → struct_definition e x ms ≡ fine s → Twin (with_struct e x.name (struct_or_unknown (struct_definition e x ms))) (with_struct f x.name (struct_or_unknown (struct_definition f x ms)))
 struct_twin e f (twin env p) x ms s g =
@@ -83,9 +79,9 @@ enum_tag_twin e f (twin env p) no_tag = twin env p
 enum_tag_twin e f (twin env p) (tag x) = twin (behind_enum_tag env (tag x)) p
 
 enumerator_value_leads : (e f : Env) → Twin e f → (r s : Checked ℤ) → Leads r s → (x : Ident) (m : Maybe) → Leads (enumerator_value e r x m) (enumerator_value f s x m)
-enumerator_value_leads e f w r s h x absent = on_leads r s (int_value x.at) (int_value x.at) h (λ z _. same_leads (int_value x.at z))
+enumerator_value_leads e f w r s h x absent = then_leads r s (int_value x.at) h
 enumerator_value_leads e f w r s h x (there y) =
-    on_leads _ _ _ _ (on_leads (folded_value e y) (folded_value f y) (constant_value (place_of y)) (constant_value (place_of y)) (folded_leads e f w y) (λ g _. same_leads (constant_value (place_of y) g))) (λ v _. same_leads _)
+    on_leads _ _ _ _ (then_leads (folded_value e y) (folded_value f y) (constant_value (place_of y)) (folded_leads e f w y)) (λ v _. same_leads _)
 
 pub one_more_leads : (r s : Checked ℤ) → Leads r s → Leads (one_more_than r) (one_more_than s)
 one_more_leads (fine z) s h = (ap one_more_than h.0, tt)
@@ -98,12 +94,10 @@ enumerators_lead e f (twin env p) r s h (more_enumerators x m es) =
     let t : Checked ℤ = enumerator_value (right env) s x m in
     let l : Leads q t = enumerator_value_leads _ _ (twin env p) r s h x m in
     let k : Leads (enumerator_meaning (left env) x q) (enumerator_meaning (right env) x t) = both_leads (new_name (left env) x) (new_name (right env) x) q t (λ _ z. fine (an_enumerator z)) (λ _ z. fine (an_enumerator z)) (new_name_leads env x) (λ _ _. l) (λ _ z. (refl, tt)) in
-    let P : Type 0 = Twin (behind_enumerator (left env) x q) (behind_enumerator (right env) x t) in
-    let Q : Type 0 = Twin (behind_enumerators (behind_enumerator (left env) x q) (one_more_than q) es) (behind_enumerators (behind_enumerator (right env) x t) (one_more_than t) es) in
-    weaken (P × Q) _ _ _ (λ y. y.1)
-    (both_to P Q (enumerator_meaning (left env) x q) (enumerator_meaning (right env) x t) (enumerators (behind_enumerator (left env) x q) (one_more_than q) es) (enumerators (behind_enumerator (right env) x t) (one_more_than t) es) (λ _ _. fine met) (λ _ _. fine met)
-    (with_fact P _ _ k (λ a g. named_twin env x.name (enumerator_meaning (left env) x q) (enumerator_meaning (right env) x t) a p (let u = first_fine (new_name (left env) x) q (λ _ z. fine (an_enumerator z)) a g in new_name_plain env x u.0 u.2) g (fine_leads _ _ a k g)))
-    (λ _ _ y. enumerators_lead (behind_enumerator (left env) x q) (behind_enumerator (right env) x t) y (one_more_than q) (one_more_than t) (one_more_leads q t l) es) (λ _ _. (refl, tt)))
+    parts_to (Twin (behind_enumerator (left env) x q) (behind_enumerator (right env) x t)) (Twin (behind_enumerators (behind_enumerator (left env) x q) (one_more_than q) es) (behind_enumerators (behind_enumerator (right env) x t) (one_more_than t) es)) _
+    (enumerator_meaning (left env) x q) (enumerator_meaning (right env) x t) (enumerators (behind_enumerator (left env) x q) (one_more_than q) es) (enumerators (behind_enumerator (right env) x t) (one_more_than t) es) (λ _ _. fine met) (λ _ y. y)
+    (with_fact _ _ _ k (λ a g. named_twin env x.name (enumerator_meaning (left env) x q) (enumerator_meaning (right env) x t) a p (let u = first_fine (new_name (left env) x) q (λ _ z. fine (an_enumerator z)) a g in new_name_plain env x u.0 u.2) g (fine_leads _ _ a k g)))
+    (λ y. enumerators_lead (behind_enumerator (left env) x q) (behind_enumerator (right env) x t) y (one_more_than q) (one_more_than t) (one_more_leads q t l) es)
 
 -- ## Static objects
 
@@ -199,22 +193,13 @@ parts_lead e f w b at class s (more_parts d m ps) =
     let e' : Env = behind_file_part e b at class s d m in
     let f' : Env = behind_file_part f b at class s d m in
     let b' : Before = after_file_part e b at class s d m in
-    let c' : Before = after_file_part f b at class s d m in
-    let Q : Type 0 = FileFacts (behind_file_parts e' b' at class s ps) (behind_file_parts f' c' at class s ps) (after_file_parts e' b' at class s ps) (after_file_parts f' c' at class s ps) in
-    weaken (FileFacts e' f' b' c' × Q) _ _ _ (λ h. h.1)
-    (both_to (FileFacts e' f' b' c') Q (named_part e b at class s d m (name_of d)) (named_part f b at class s d m (name_of d)) (file_parts e' b' at class s ps) (file_parts f' c' at class s ps) (λ p q. fine (with_output p q)) (λ p q. fine (with_output p q))
-    (part_leads e f w b at class s d m (name_of d))
-    (λ _ _ h. subst (λ y. LeadsTo (FileFacts (behind_file_parts e' b' at class s ps) (behind_file_parts f' y at class s ps) (after_file_parts e' b' at class s ps) (after_file_parts f' y at class s ps)) (file_parts e' b' at class s ps) (file_parts f' y at class s ps)) h.1 (parts_lead e' f' h.0 b' at class s ps))
-    (λ p q. (refl, tt)))
-
-decl_leads : (e f : Env) → Twin e f → (b : Before) (d : Decl) → LeadsTo (FileFacts (behind_file_decl e b d) (behind_file_decl f b d) (after_file_decl e b d) (after_file_decl f b d)) (file_decl e b d) (file_decl f b d)
-decl_leads e f w b (decl at class s ps) = parts_lead e f w b at class s ps
+    let Q : Before → Type 0 = λ y. FileFacts (behind_file_parts e' b' at class s ps) (behind_file_parts f' y at class s ps) (after_file_parts e' b' at class s ps) (after_file_parts f' y at class s ps) in
+    parts_to (FileFacts e' f' b' (after_file_part f b at class s d m)) _ (Q (after_file_part f b at class s d m)) (named_part e b at class s d m (name_of d)) (named_part f b at class s d m (name_of d)) (file_parts e' b' at class s ps) (file_parts f' (after_file_part f b at class s d m) at class s ps) (λ p q. fine (with_output p q))
+    (λ _ i. i) (part_leads e f w b at class s d m (name_of d)) (λ h. subst (λ y. LeadsTo (Q y) (file_parts e' b' at class s ps) (file_parts f' y at class s ps)) h.1 (parts_lead e' f' h.0 b' at class s ps))
 
 -- ## Definitions of functions
 
 function_item_leads : (e f : Env) → Twin e f → (b : Before) (at : ℕ) (s : Spec) (d : Declarator) (body : Stmt) (t : Bool) (n : Option Ident) → declares_function d ≡ t → LeadsTo (Twin (behind_function_named e at s d n) (behind_function_named f at s d n) × (held_by_typed (behind_function_named e at s d n) d (items_of_body body) (type_declared e at s d) ≡ held_by_typed (behind_function_named f at s d n) d (items_of_body body) (type_declared f at s d))) (function_named e b at s d body t n) (function_named f b at s d body t n)
-function_item_leads e f w b at s d body false n h = tt
-function_item_leads e f w b at s d body true None h = tt
 function_item_leads e f w b at s d body true (Some x) h =
     let e' : Env = behind_defined e at s d x in
     let f' : Env = behind_defined f at s d x in
@@ -223,6 +208,7 @@ function_item_leads e f w b at s d body true (Some x) h =
     (with_fact (Twin e' f') _ _ (function_declared_leads e f w true at s d x) (λ m g. function_twin e f w true at s d x m g))
     (λ _ _ v. definition_leads e f w at s d h e' f' v b x is)
     (λ _ p. (refl, tt))
+function_item_leads e f w b at s d body t n h = tt
 
 -- ## Items
 
@@ -239,13 +225,11 @@ item_leads e f w b (struct_item at x ms) =
 item_leads e f w b (enum_item at x es) =
     let e' : Env = behind_enumerators e (fine (pos 0)) es in
     let f' : Env = behind_enumerators f (fine (pos 0)) es in
-    let Q : Type 0 = Twin e' f' in
     let ts : List Name = tags_of_enumerators es in
-    weaken (Unit {0} × Q) _ _ _ (λ h. (tags_twin _ _ (enum_tag_twin e' f' h.1 x) (enum_item at x es), refl))
-    (both_to (Unit {0}) Q (new_enum e x ts) (new_enum f x ts) (enumerators e (fine (pos 0)) es) (enumerators f (fine (pos 0)) es) (λ _ _. fine no_output) (λ _ _. fine no_output)
-    (new_enum_leads e f w x ts) (λ _ _ _. enumerators_lead e f w (fine (pos 0)) (fine (pos 0)) (refl, tt) es) (λ _ _. (refl, tt)))
+    parts_to (Unit {0}) (Twin e' f') _ (new_enum e x ts) (new_enum f x ts) (enumerators e (fine (pos 0)) es) (enumerators f (fine (pos 0)) es) (λ _ _. fine no_output)
+    (λ _ h. (tags_twin _ _ (enum_tag_twin e' f' h x) (enum_item at x es), refl)) (new_enum_leads e f w x ts) (λ _. enumerators_lead e f w (fine (pos 0)) (fine (pos 0)) (refl, tt) es)
 item_leads e f w b (tag_item at x) = always _ _ _ (tags_twin _ _ w (tag_item at x), refl) (gives_leads (tag_declaration e x) (tag_declaration f x) (λ _. no_output) (tag_declaration_leads e f w x))
-item_leads e f w b (decl_item at d) = weaken _ _ _ _ (λ h. (tags_twin _ _ h.0 (decl_item at d), h.1)) (decl_leads e f w b d)
+item_leads e f w b (decl_item at (decl here class s ps)) = weaken _ _ _ _ (λ h. (tags_twin _ _ h.0 (decl_item at (decl here class s ps)), h.1)) (parts_lead e f w b here class s ps)
 item_leads e f w b (function_item at class s d body) = weaken _ _ _ _ (λ h. (tags_twin _ _ h.0 (function_item at class s d body), ap (past b (calls_of_block (items_of_body body))) h.1)) (function_item_leads e f w b at s d body (declares_function d) (name_of d) refl)
 
 items_lead : (e f : Env) → Twin e f → (b : Before) (is : Items) → LeadsTo (FileFacts (behind_items e b is) (behind_items f b is) (after_items e b is) (after_items f b is)) (items e b is) (items f b is)
@@ -254,13 +238,9 @@ items_lead e f w b (more_items i is) =
     let e' : Env = behind_item e b i in
     let f' : Env = behind_item f b i in
     let b' : Before = after_item e b i in
-    let c' : Before = after_item f b i in
-    let Q : Type 0 = FileFacts (behind_items e' b' is) (behind_items f' c' is) (after_items e' b' is) (after_items f' c' is) in
-    weaken (FileFacts e' f' b' c' × Q) _ _ _ (λ h. h.1)
-    (both_to (FileFacts e' f' b' c') Q (item e b i) (item f b i) (items e' b' is) (items f' c' is) (λ p q. fine (with_output p q)) (λ p q. fine (with_output p q))
-    (item_leads e f w b i)
-    (λ _ _ h. subst (λ y. LeadsTo (FileFacts (behind_items e' b' is) (behind_items f' y is) (after_items e' b' is) (after_items f' y is)) (items e' b' is) (items f' y is)) h.1 (items_lead e' f' h.0 b' is))
-    (λ p q. (refl, tt)))
+    let Q : Before → Type 0 = λ y. FileFacts (behind_items e' b' is) (behind_items f' y is) (after_items e' b' is) (after_items f' y is) in
+    parts_to (FileFacts e' f' b' (after_item f b i)) _ (Q (after_item f b i)) (item e b i) (item f b i) (items e' b' is) (items f' (after_item f b i) is) (λ p q. fine (with_output p q))
+    (λ _ i. i) (item_leads e f w b i) (λ h. subst (λ y. LeadsTo (Q y) (items e' b' is) (items f' y is)) h.1 (items_lead e' f' h.0 b' is))
 
 -- ## Units
 

@@ -14,7 +14,7 @@ use Rattle.c_rules.specs.PrimaryExpressions.{used, given_number, number_or, func
 use Rattle.c_rules.specs.PostfixExpressions.{site_in, site_of, callee_of_type, callee_by_value}
 use Rattle.c_rules.specs.Declarators.{free_name, new_name}
 use Rattle.c_rules.specs.Expressions.{value_at, callee_meant, callee_bound}
-use Rattle.c_rules.proofs.Modes.{Leads, same_leads, on_leads, both_leads, gives_leads, demand_leads, and_also_leads, first_fine, demand_met, below_more, ArePlain, in_mode}
+use Rattle.c_rules.proofs.Modes.{Leads, same_leads, on_leads, then_leads, both_leads, gives_leads, demand_leads, and_also_leads, first_fine, demand_met, below_more, ArePlain, in_mode}
 
 abbrev pub left : Env → Env
 left env = in_mode Plain env
@@ -63,12 +63,11 @@ used_leads env at x u = subst (λ o. Leads (used env.context at (function_number
 
 meant_leads : (env : Env) (at : ℕ) (x : Name) (m : Meaning) → is_reserved x ≡ false → Leads (meant (left env) at x m) (meant (right env) at x m)
 meant_leads env at x (a_static seen whole d) u = same_leads (meant (left env) at x (a_static seen whole d))
-meant_leads env at x (a_local n seen whole) u = (refl, tt)
 meant_leads env at x (a_function t d) u =
     gives_leads (function_value_number (left env) at x) (function_value_number (right env) at x) (typed_function t)
     (on_leads (demand (if is_among null_calls x then false else true) C12 at met) (demand (if is_among null_calls x then false else true) C12 at met) (λ _. used env.context at (function_number (left env) x)) (λ _. used env.context at (function_number (right env) x)) (same_leads _) (λ _ _. used_leads env at x u))
-meant_leads env at x (an_enumerator z) u = (refl, tt)
 meant_leads env at x (unknown f fs) u = tt
+meant_leads env at x m u = (refl, tt)
 
 bound_leads : (env : Env) (at : ℕ) (x : Name) (o : Option Binding) → ((b : Binding) → o ≡ Some b → is_reserved x ≡ false) → Leads (bound (left env) at x o) (bound (right env) at x o)
 bound_leads env at x None h = tt
@@ -89,18 +88,15 @@ site_leads env n at = by_context env.context n at
 
 callee_meant_leads : (env : Env) (at place : ℕ) (x : Name) (r s : Checked TypedExpression) (m : Meaning) → is_reserved x ≡ false → Leads r s → Leads (callee_meant (left env) at place x r m) (callee_meant (right env) at place x s m)
 callee_meant_leads env at place x r s (a_function t d) u h =
-    on_leads (used env.context place (function_number (left env) x)) (used env.context place (function_number (right env) x)) (callee_of_type place t) (callee_of_type place t) (used_leads env place x u) (λ f _. same_leads (callee_of_type place t f))
-callee_meant_leads env at place x r s (a_static seen whole d) u h = on_leads r s (callee_by_value at) (callee_by_value at) h (λ g _. same_leads (callee_by_value at g))
-callee_meant_leads env at place x r s (a_local n seen whole) u h = on_leads r s (callee_by_value at) (callee_by_value at) h (λ g _. same_leads (callee_by_value at g))
-callee_meant_leads env at place x r s (an_enumerator z) u h = on_leads r s (callee_by_value at) (callee_by_value at) h (λ g _. same_leads (callee_by_value at g))
-callee_meant_leads env at place x r s (unknown f fs) u h = on_leads r s (callee_by_value at) (callee_by_value at) h (λ g _. same_leads (callee_by_value at g))
+    then_leads (used env.context place (function_number (left env) x)) (used env.context place (function_number (right env) x)) (callee_of_type place t) (used_leads env place x u)
+callee_meant_leads env at place x r s m u h = then_leads r s (callee_by_value at) h
 
 pub callee_bound_leads : (env : Env) (at place : ℕ) (x : Name) (r s : Checked TypedExpression) (o : Option Binding) → ((b : Binding) → o ≡ Some b → is_reserved x ≡ false) → Leads r s → Leads (callee_bound (left env) at place x r o) (callee_bound (right env) at place x s o)
-callee_bound_leads env at place x r s None u h = on_leads r s (callee_by_value at) (callee_by_value at) h (λ g _. same_leads (callee_by_value at g))
+callee_bound_leads env at place x r s None u h = then_leads r s (callee_by_value at) h
 callee_bound_leads env at place x r s (Some b) u h = callee_meant_leads env at place x r s b.means (u b refl) h
 
 pub value_at_leads : (env : Env) (place : ℕ) (r s : Checked TypedExpression) → Leads r s → Leads (value_at (left env) place r) (value_at (right env) place s)
-value_at_leads env place r s h = on_leads r s (valued (left env) place) (valued (right env) place) h (λ g _. same_leads (valued (left env) place g))
+value_at_leads env place r s h = then_leads r s (valued (left env) place) h
 
 -- ## Declared names
 

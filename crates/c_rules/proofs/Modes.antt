@@ -37,11 +37,14 @@ pub on_leads : {A B : Type 0} (r s : Checked A) (k l : A → Checked B) → Lead
 on_leads (fine a) s k l h t = subst (λ x. Leads (k a) (on x l)) (sym h.0) (t a refl)
 on_leads (faulty f fs) s k l h t = tt
 
+-- one rule on what leads
+pub then_leads : {A B : Type 0} (r s : Checked A) (k : A → Checked B) → Leads r s → Leads (on r k) (on s k)
+then_leads r s k h = on_leads r s k k h (λ a _. same_leads (k a))
+
 pub both_leads : {A B C : Type 0} (p p' : Checked A) (q q' : Checked B) (k l : A → B → Checked C) → Leads p p' → ((a : A) → p ≡ fine a → Leads q q') → ((a : A) (b : B) → Leads (k a b) (l a b)) → Leads (both p q k) (both p' q' l)
 both_leads (fine a) p' (fine b) q' k l g h t =
     subst (λ x. Leads (k a b) (both x q' l)) (sym g.0) (subst (λ y. Leads (k a b) (both (fine a) y l)) (sym (h a refl).0) (t a b))
-both_leads (fine a) p' (faulty f fs) q' k l g h t = tt
-both_leads (faulty f fs) p' q q' k l g h t = tt
+both_leads a p' u q' k l g h t = tt
 
 -- with one demand in place of what fails
 pub alone_leads : {A : Type 0} (P : Type 0) (t u : Bool) (code at to : ℕ) (r s : Checked A) → LeadsTo P r s → LeadsTo P (fails_with t code at r) (fails_with u code to s)
@@ -75,8 +78,7 @@ and_also_leads p p' q q' g h = both_leads p p' q q' (λ _ _. fine met) (λ _ _. 
 -- the parts of what is fine are fine
 pub first_fine : {A B C : Type 0} (p : Checked A) (q : Checked B) (k : A → B → Checked C) (c : C) → both p q k ≡ fine c → (a : A) × (b : B) × (p ≡ fine a) × (q ≡ fine b) × (k a b ≡ fine c)
 first_fine (fine a) (fine b) k c e = (a, b, refl, refl, e)
-first_fine (fine a) (faulty f fs) k c e = cc
-first_fine (faulty f fs) q k c e = cc
+first_fine p q k c e = cc
 
 pub on_fine : {A B : Type 0} (r : Checked A) (k : A → Checked B) (b : B) → on r k ≡ fine b → (a : A) × (r ≡ fine a) × (k a ≡ fine b)
 on_fine (fine a) k b e = (a, refl, e)
