@@ -5,18 +5,18 @@ use Rattle.c_tree.specs.declared.value.UnOp.{UnOp}
 use Rattle.c_tree.specs.declared.value.BinOp.{BinOp}
 use Rattle.c_tree.specs.declared.value.BinOp.TheVariants as op
 use Rattle.c_syntax.specs.TheConstants.{ASTERISK, PLUS, MINUS, TILDE, ASSIGN}
-use Rattle.c_tree.specs.Tree.{CType, void, integer, pointer, array, struct, function, CTypes, no_types, more_types, assign, and, or, unary_operation}
+use Rattle.c_tree.specs.Tree.{CType, void, integer, pointer, array, struct, function, CTypes, more_types, assign, and, or, unary_operation}
 use Rattle.c_tree.specs.Operands.{promoted, common, OperatorKind, balanced, shift, ordering, equality}
 use Rattle.c_tree.specs.Operands.{kind_of as kind_of_operator}
 use Rattle.c_rules.specs.Checked.{Checked, fine, faulty, on, both, all_three, gives, demand, met, fails_with, parts_first}
 use Rattle.c_rules.specs.Names.{Name, number_among}
-use Rattle.c_rules.specs.Scopes.{Env, Struct, incomplete, unknown_struct, defined_struct, Member, struct_of}
+use Rattle.c_rules.specs.Scopes.{Env, Struct, defined_struct, Member, struct_of}
 use Rattle.c_rules.specs.Assignments.{moves, assignable, assignment, operator_of_assignment, updated, update_of, assignment_by, one_for, step, trees_of}
 use Rattle.c_rules.specs.TypedExpression.{not_constant, Form, a_value, a_place, behind, TypedExpression, tree_of_form, tree_of, is_place, is_null, integer_constant, typed_value}
-use Rattle.c_rules.specs.Conversions.{Kind, an_integer, a_pointer, neither, kind_of, complete, few_parts, loaded, valued_as, valued, cast_to, has_integer, converted_to, null_of, fits, assigned_as, assigned, as_if_assigned, condition}
-use Rattle.c_rules.specs.PostfixExpressions.{Designator, direct, through, Callee, call_of, passed, as_many_as, all_fit, called, name_of_member, member_or_undeclared, member_of_struct, member_of_type, member_of}
-use Rattle.c_rules.specs.UnaryExpressions.{address_of_form, address_of_type, address, led_to, indirection, plus_of, operator_of, unary_of_value, cast_of, null_cast}
-use Rattle.c_rules.specs.BinaryExpressions.{sum_of, sum, minus_of, balanced_of, shift_of, ordered_of, Alike, alike_integers, alike_pointers, unlike, alike_of, alike, equality_of, arithmetic_of, operation_of, operation, conjunction, disjunction, chosen, arms_of, choice, both_scalars, compared_pointers, difference}
+use Rattle.c_rules.specs.Conversions.{Kind, an_integer, a_pointer, neither, kind_of, complete, few_parts, loaded, valued_as, cast_to, has_integer, converted_to, null_of, fits, assigned_as, assigned, as_if_assigned, condition}
+use Rattle.c_rules.specs.PostfixExpressions.{Designator, direct, through, Callee, call_of, passed, as_many_as, all_fit, called, name_of_member, member_or_undeclared, member_of_struct, member_of_type}
+use Rattle.c_rules.specs.UnaryExpressions.{address_of_form, address_of_type, address, led_to, plus_of, operator_of, unary_of_value, cast_of, null_cast}
+use Rattle.c_rules.specs.BinaryExpressions.{sum_of, minus_of, balanced_of, shift_of, ordered_of, Alike, alike_integers, alike_pointers, unlike, alike_of, alike, equality_of, arithmetic_of, operation_of, operation, conjunction, disjunction, chosen, arms_of, choice, both_scalars, compared_pointers, difference}
 use Rattle.c_rules.specs.NullCalls.{CallsBelow, AllBelow}
 use Rattle.c_tree.specs.declared.value.UnOp.TheVariants.{Not}
 use Rattle.c_tree.specs.Functions.{int}

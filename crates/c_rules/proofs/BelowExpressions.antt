@@ -1,20 +1,20 @@
 -- What expressions, initialisers and statements give calls functions of the unit and system calls alone.
-use Rattle.std.proofs.Common.{◌≡◌, ℕ, zero, suc, ◌+◌, ◌<◌, Bool, true, false, if◌then◌else◌, List, [], ◌∷◌, ◌++◌, map, length, replicate, Option, Some, None, nat_eq, nat_le, refl}
+use Rattle.std.proofs.Common.{◌≡◌, ℕ, zero, suc, ◌+◌, ◌<◌, Bool, true, false, List, [], ◌∷◌, ◌++◌, map, length, replicate, Option, Some, None, nat_eq, nat_le, refl}
 use Rattle.c_syntax.specs.TheConstants.{AMPERSAND}
 use Rattle.c_tree.specs.declared.value.IntType.TheVariants.{Char}
 use Rattle.c_tree.specs.declared.value.BinOp.TheVariants.{Add, Sub}
-use Rattle.c_tree.specs.Tree.{CType, void, integer, pointer, array, struct, function}
+use Rattle.c_tree.specs.Tree.{CType, integer, pointer, array, function}
 use Rattle.c_tree.specs.Layout.{flat, flat_all, repeat}
 use Rattle.c_syntax.specs.Tree.{Expr, a_name, an_int, a_char, a_str, comma, sizeof_type, cast, call, member, postfix, prefix, unary, index, binary, assign, conditional, Exprs, no_exprs, more_exprs}
 use Rattle.c_syntax.specs.Tree.{Postfix, post_increment, post_decrement, Prefix, pre_increment, pre_decrement, sizeof, Access, dot, arrow, Infix, and, or, operator, Init, one, list, MaybeInit, no_init, an_init}
 use Rattle.c_syntax.specs.Tree as syntax
 use Rattle.c_rules.specs.Checked.{Checked, fine, on, both, demand, met}
 use Rattle.c_rules.specs.Names.{Name}
-use Rattle.c_rules.specs.Scopes.{Env, Binding, Meaning, a_static, a_local, a_function, an_enumerator, unknown, Context, evaluated, sized, folded, Before, nothing_before, in_context, layout_of, binding_of}
+use Rattle.c_rules.specs.Scopes.{Env, Binding, Meaning, a_static, a_function, Context, evaluated, sized, Before, nothing_before, in_context, layout_of, binding_of}
 use Rattle.c_rules.specs.Counts.{place_of, calls, after, after_designator}
-use Rattle.c_rules.specs.TypedExpression.{TypedExpression, Constant, not_constant, undefined, known}
+use Rattle.c_rules.specs.TypedExpression.{TypedExpression, Constant, known}
 use Rattle.c_rules.specs.Conversions.{kind_of, valued, as_if_assigned}
-use Rattle.c_rules.specs.PrimaryExpressions.{used, object_number, function_number, function_value_number, static_given, typed_function, meant, bound, integer_expression, string_fits}
+use Rattle.c_rules.specs.PrimaryExpressions.{used, object_number, function_number, function_value_number, static_given, typed_function, meant, bound, string_fits}
 use Rattle.c_rules.specs.PostfixExpressions.{site_of, callee_of_type, callee_through, callee_by_value, called, member_of}
 use Rattle.c_rules.specs.UnaryExpressions.{address, indirection, unary_of_value, size_of_expression, size_of_type, cast_of, null_cast}
 use Rattle.c_rules.specs.BinaryExpressions.{operator_of_code, sum, choice}

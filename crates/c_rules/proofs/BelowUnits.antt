@@ -6,17 +6,17 @@ use Rattle.c_tree.specs.Table.{table}
 use Rattle.c_tree.specs.declared.value.IntType.{IntType}
 use Rattle.c_tree.specs.Tree.{CType, void, integer, pointer, array, struct, function, CTypes, Function, Program}
 use Rattle.c_tree.specs.Tree as typed
-use Rattle.c_syntax.specs.Tree.{Ident, Storage, Spec, Declarator, Params, no_params, more_params, MaybeInit, Parts, no_parts, more_parts, Decl, decl, Expr, Maybe, absent, there, First, first_absent, first_expr, first_decl}
+use Rattle.c_syntax.specs.Tree.{Ident, Storage, Spec, Declarator, Params, more_params, MaybeInit, Parts, no_parts, more_parts, Decl, decl, Expr, Maybe, absent, there, First, first_absent, first_expr, first_decl}
 use Rattle.c_syntax.specs.Tree.{Stmt, block, empty, evaluate, only_if, if_else, while_loop, do_loop, for_loop, switch_on, break_off, continue_on, return_from}
 use Rattle.c_syntax.specs.Tree.{BlockItems, no_block_items, block_decl, block_stmt, Stmts, no_stmts, more_stmts, Groups, no_groups, more_groups}
-use Rattle.c_syntax.specs.Tree.{Tag, no_tag, tag, Enumerators, no_enumerators, more_enumerators, Item, struct_item, enum_item, tag_item, decl_item, function_item, Items, no_items, more_items}
-use Rattle.c_rules.specs.Checked.{Checked, fine, faulty, on, both, beside, Two, demand, met}
+use Rattle.c_syntax.specs.Tree.{no_tag, tag, Enumerators, no_enumerators, more_enumerators, Item, struct_item, enum_item, tag_item, decl_item, function_item, Items, no_items, more_items}
+use Rattle.c_rules.specs.Checked.{Checked, fine, on, both, beside, Two, demand, met}
 use Rattle.c_rules.specs.Codes.{C3, C9}
 use Rattle.c_rules.specs.Names.{Name, number_among, is_added, system_calls}
 use Rattle.c_rules.specs.Scopes.{Env, inside, Before, nothing_before, layout_of}
 use Rattle.c_rules.specs.Counts.{after, after_maybe}
 use Rattle.c_rules.specs.TypedExpression.{TypedExpression, tree_of}
-use Rattle.c_rules.specs.Conversions.{Kind, an_integer, a_pointer, neither, kind_of, as_if_assigned, condition}
+use Rattle.c_rules.specs.Conversions.{Kind, an_integer, kind_of, as_if_assigned, condition}
 use Rattle.c_tree.specs.Operands.{promoted}
 use Rattle.c_rules.specs.Declarators.{name_of, place_or, new_name}
 use Rattle.c_rules.specs.Expressions.{value, type_declared}
@@ -27,7 +27,7 @@ use Rattle.c_rules.specs.Variables.{Next, number_in, past_names, names_of_decl, 
 use Rattle.c_rules.specs.Blocks.{within_local, behind_named, behind_part, past_part, behind_parts, behind_decl, behind_first, after_part, after_decl, after_first, after_stmt, after_stmts, StatementTree, bare, with_tree, joined, one_more, alone, appended, some_more, laid_variable, local_of, local, local_named, local_part, local_parts, local_decl, is_given}
 use Rattle.c_rules.specs.Statements.{Around, in_loop, in_switch, condition_at, test_of, step_of, first_of, for_of, switched_kind, switched, label_type, labels_of, Labelled, labelled, switch_of, returned, stmt, items_of_block, stmts, groups_of_switch}
 use Rattle.c_rules.specs.Functions.{with_parameter, with_parameters, body_env, body_numbers, body_of, parameters_of, are_named, function_laid, function_declared, items_of_body, declares_function, few_variables, defined_as, variables_of}
-use Rattle.c_rules.specs.Items.{Output, no_output, with_output, struct_definition, one_more_than, enumerator_value, behind_enumerator, behind_enumerators, new_enum, behind_enum_tag, enumerators, tag_declaration, defines, global_declared, global, definition_of, within_global, static_of, declared_part, named_part, behind_declared, behind_named_part, behind_file_part, after_file_part, file_parts, behind_file_parts, file_decl, behind_file_decl, output_of_function, behind_defined, function_named, behind_function_named, item, behind_by_form, behind_item, after_item, items}
+use Rattle.c_rules.specs.Items.{Output, no_output, with_output, struct_definition, one_more_than, enumerator_value, behind_enumerator, behind_enumerators, new_enum, enumerators, tag_declaration, defines, global_declared, global, definition_of, within_global, static_of, declared_part, named_part, behind_declared, behind_named_part, behind_file_part, after_file_part, file_parts, behind_file_parts, output_of_function, behind_defined, function_named, behind_function_named, item, behind_by_form, behind_item, after_item, items}
 use Rattle.c_rules.specs.Units.{functions_of, functions_of_item, env_before, has_main, program_of, IsTyped}
 use Rattle.c_rules.specs.NullCalls.{CallsBelow, MaybeBelow, InitsBelow, StmtBelow, StmtsBelow, GroupsBelow, FunctionsBelow, CallsNoNullCall}
 use Rattle.c_rules.proofs.Modes.{on_fine, demand_met}

@@ -1,5 +1,5 @@
 -- Initialisers and declarations in blocks in the two modes.
-use Rattle.std.proofs.Common.{◌≡◌, ℕ, zero, suc, Bool, true, false, List, [], ◌∷◌, ◌++◌, Option, Some, None, nat_le, refl, ap, sym, subst, ◌∙◌}
+use Rattle.std.proofs.Common.{◌≡◌, ℕ, suc, Bool, true, false, List, ◌∷◌, ◌++◌, Option, Some, None, nat_le, refl, ap, sym, subst, ◌∙◌}
 use Rattle.c_tree.specs.Tree.{CType, void, integer, pointer, array, struct, function}
 use Rattle.c_tree.specs.Tree as typed
 use Rattle.c_syntax.specs.Tree.{Ident, Spec, Declarator, Init, one, list, MaybeInit, no_init, an_init, Parts, no_parts, more_parts, Decl, decl, First, first_absent, first_expr, first_decl}
@@ -14,7 +14,7 @@ use Rattle.c_rules.specs.Expressions.{value, type_declared}
 use Rattle.c_rules.specs.Initialisers.{Slots, copies, each, slots, capacity, takes_list, count_inits, text_of, zeros, cell_of, scalar_cell, array_cells, cells_of_one, cells_of_list, held, held_in_turn, held_by, calls_of_init, calls_of_maybe_init, after_init, initialised, in_turn, initialised_local, initialised_static, text_fits}
 use Rattle.c_rules.specs.Objects.{Object, object_of, object_declared}
 use Rattle.c_rules.specs.Variables.{Next, number_in}
-use Rattle.c_rules.specs.Blocks.{seen_meaning, whole_meaning, within_local, behind_local, behind_named, behind_part, past_part, behind_parts, behind_decl, behind_first, held_by_object, held_by_named, held_by_part, held_by_parts, held_by_decl, held_by_first, after_part, StatementTree, bare, alone, one_more, laid_variable, local_of, local, local_named, local_part, local_parts, local_decl, is_given}
+use Rattle.c_rules.specs.Blocks.{within_local, behind_local, behind_named, behind_part, past_part, behind_parts, behind_decl, behind_first, held_by_object, held_by_named, held_by_part, held_by_parts, held_by_decl, held_by_first, after_part, StatementTree, bare, alone, one_more, laid_variable, local_of, local, local_named, local_part, local_parts, local_decl, is_given}
 use Rattle.c_rules.specs.Statements.{first_of}
 use Rattle.c_rules.proofs.Modes.{Leads, LeadsTo, same_leads, fine_leads, with_fact, on_leads, then_leads, both_leads, gives_leads, first_fine, on_fine, ArePlain, Twin, twin, named_twin, alone_leads}
 use Rattle.c_rules.proofs.ModeNames.{left, right, new_name_leads, new_name_plain}

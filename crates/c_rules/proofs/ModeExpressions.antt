@@ -3,9 +3,9 @@ use Rattle.std.proofs.Common.{◌≡◌, ℕ, ◌+◌, Bool, true, false, if◌t
 use Rattle.c_syntax.specs.TheConstants.{AMPERSAND}
 use Rattle.c_tree.specs.declared.value.BinOp.TheVariants.{Add, Sub}
 use Rattle.c_tree.specs.Tree.{CType, more_types}
-use Rattle.c_syntax.specs.Tree.{Ident, Spec, Expr, a_name, an_int, a_char, a_str, comma, sizeof_type, cast, call, member, postfix, prefix, unary, index, binary, assign, conditional, Exprs, no_exprs, more_exprs, Maybe, absent, there}
-use Rattle.c_syntax.specs.Tree.{Postfix, post_increment, post_decrement, Prefix, pre_increment, pre_decrement, sizeof, Access, dot, arrow, Infix, and, or, operator}
-use Rattle.c_syntax.specs.Tree.{TypeName, type_name, Declarator, nothing, named, pointer, array, function, Params, no_params, more_params}
+use Rattle.c_syntax.specs.Tree.{Ident, Spec, Expr, a_name, a_str, comma, sizeof_type, cast, call, member, postfix, prefix, unary, index, binary, assign, conditional, Exprs, no_exprs, more_exprs, Maybe, absent, there}
+use Rattle.c_syntax.specs.Tree.{Postfix, post_increment, post_decrement, Prefix, pre_increment, pre_decrement, sizeof, Access, dot, arrow, Infix, and}
+use Rattle.c_syntax.specs.Tree.{TypeName, type_name, Declarator, pointer, array, function, Params, no_params, more_params}
 use Rattle.c_rules.specs.Checked.{Checked, fine, on, both}
 use Rattle.c_rules.specs.Names.{Name}
 use Rattle.c_rules.specs.Scopes.{Env, a_local, Before, nothing_before, sized, folded, in_context, inside, lookup}

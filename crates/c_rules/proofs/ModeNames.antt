@@ -7,7 +7,7 @@ use Rattle.c_syntax.specs.Tree.{Ident}
 use Rattle.c_rules.specs.Checked.{Checked, fine, demand, and_also, Met, met}
 use Rattle.c_rules.specs.Codes.{C2, C11, C12}
 use Rattle.c_rules.specs.Names.{Name, number_among, is_among, is_reserved, null_calls, system_calls, given_names, may_be_declared}
-use Rattle.c_rules.specs.Scopes.{Env, Binding, Meaning, a_static, a_local, a_function, an_enumerator, unknown, Context, evaluated, sized, folded, lookup, declared_here}
+use Rattle.c_rules.specs.Scopes.{Env, Binding, Meaning, a_static, a_function, unknown, Context, evaluated, sized, folded, lookup, declared_here}
 use Rattle.c_rules.specs.TypedExpression.{TypedExpression}
 use Rattle.c_rules.specs.Conversions.{valued}
 use Rattle.c_rules.specs.PrimaryExpressions.{used, given_number, number_or, function_number, function_value_number, typed_function, meant, bound, named_expression}

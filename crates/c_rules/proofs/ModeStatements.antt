@@ -1,11 +1,11 @@
 -- Statements in the two modes.
-use Rattle.std.proofs.Common.{◌≡◌, ℕ, List, ◌∷◌, ◌++◌, refl, ap, sym, ◌∙◌}
+use Rattle.std.proofs.Common.{◌≡◌, ℕ, ◌∷◌, ◌++◌, refl, ap, sym, ◌∙◌}
 use Rattle.c_tree.specs.declared.value.IntType.{IntType}
 use Rattle.c_tree.specs.declared.tree.TLabel.TheVariants.{Case, Default}
 use Rattle.c_tree.specs.Operators.{value_of}
 use Rattle.c_tree.specs.Tree.{CType}
 use Rattle.c_tree.specs.Tree as typed
-use Rattle.c_syntax.specs.Tree.{Expr, Maybe, absent, there, Labels, no_labels, case_label, default_label, Stmt, block, empty, evaluate, only_if, if_else, while_loop, do_loop, for_loop, switch_on, break_off, continue_on, return_from}
+use Rattle.c_syntax.specs.Tree.{Expr, Maybe, absent, there, Labels, no_labels, case_label, default_label, Stmt, block, empty, evaluate, only_if, if_else, while_loop, do_loop, for_loop, switch_on, return_from}
 use Rattle.c_syntax.specs.Tree.{BlockItems, no_block_items, block_decl, block_stmt, Stmts, no_stmts, more_stmts, Groups, no_groups, more_groups}
 use Rattle.c_rules.specs.Constants.{number_of}
 use Rattle.c_rules.specs.Checked.{Checked, fine, on, beside, Two}
@@ -18,7 +18,7 @@ use Rattle.c_rules.specs.Expressions.{value, folded_value}
 use Rattle.c_rules.specs.Variables.{Next, past_names, names_of_decl, names_of_first, names_of_stmt, names_of_stmts, calls_of_decl, calls_of_first, calls_of_stmt, calls_of_stmts}
 use Rattle.c_rules.specs.Blocks.{behind_decl, behind_first, held_by_first, held_by_decl, held_by_stmt, held_by_block, held_by_stmts, held_by_groups, after_decl, after_first, after_stmt, after_stmts, StatementTree, bare, with_tree, joined, one_more, some_more, local_decl}
 use Rattle.c_rules.specs.Statements.{Around, in_loop, in_switch, condition_at, test_of, step_of, first_of, for_of, switched_kind, switched, label_type, labels_of, labelled, switch_of, returned, stmt, items_of_block, stmts, groups_of_switch}
-use Rattle.c_rules.proofs.Modes.{Leads, LeadsTo, same_leads, fine_leads, on_leads, then_leads, both_leads, gives_leads, Twin, twin}
+use Rattle.c_rules.proofs.Modes.{Leads, LeadsTo, same_leads, fine_leads, then_leads, both_leads, gives_leads, Twin, twin}
 use Rattle.c_rules.proofs.ModeExpressions.{value_leads}
 use Rattle.c_rules.proofs.ModeBlocks.{PartFacts, parts_to, parts_at, both_to, gives_to, weaken, always, moved, both_lists, decl_leads, first_leads}
 

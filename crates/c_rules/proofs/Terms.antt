@@ -1,5 +1,5 @@
 -- Short words for units written as terms, for trials.
-use Rattle.std.proofs.Common.{◌≡◌, ℕ, ◌+◌, false, List, [], ◌∷◌, map, codes}
+use Rattle.std.proofs.Common.{◌≡◌, ℕ, ◌+◌, false, List, ◌∷◌, map, codes}
 use Rattle.c_tree.specs.Mode.{Mode}
 use Rattle.c_syntax.specs.Tree.{Ident, no_storage, Spec, Expr, a_name, an_int, call, no_exprs, more_exprs, there, Declarator, named, function, no_params}
 use Rattle.c_syntax.specs.Tree.{no_init, an_init, Parts, no_parts, more_parts, Decl, decl, Stmt, block, evaluate, return_from, BlockItems, no_block_items, block_stmt, Item, decl_item, function_item, Items, no_items, more_items}
