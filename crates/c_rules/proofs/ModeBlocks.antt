@@ -78,13 +78,10 @@ mutual
   held_turn env (each (t ∷ ts)) (syntax.more_inits i is) = both_lists _ _ _ _ (held_init env t i) (held_turn env (each ts) is)
   held_turn env s (syntax.more_inits i is) = refl
 
-held_maybe : (env : Env) (t : CType) (m : MaybeInit) → held_by (left env) t m ≡ held_by (right env) t m
+-- the strings that an initialiser holds are the same
+pub held_maybe : (env : Env) (t : CType) (m : MaybeInit) → held_by (left env) t m ≡ held_by (right env) t m
 held_maybe env t no_init = refl
 held_maybe env t (an_init i) = held_init env t i
-
--- the strings that an initialiser holds are the same
-pub held_same : (e f : Env) → Twin e f → (t : CType) (m : MaybeInit) → held_by e t m ≡ held_by f t m
-held_same e f (twin env p) t m = held_maybe env t m
 
 after_same : (env : Env) (b : Before) (t : CType) (i : Init) → after_init (left env) b t i ≡ after_init (right env) b t i
 after_same env b t i = ap (past b (calls_of_init i)) (held_init env t i)

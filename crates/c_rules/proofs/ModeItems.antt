@@ -7,7 +7,7 @@ use Rattle.c_syntax.specs.Tree.{Tag, no_tag, tag, Stmt, BlockItems, Item, struct
 use Rattle.c_rules.specs.Checked.{Checked, fine, faulty, on, gives, demand, and_also, met}
 use Rattle.c_rules.specs.Codes.{C2, C11, C12, C9}
 use Rattle.c_rules.specs.Names.{Name, is_among, is_reserved, given_names, may_be_declared, number_among}
-use Rattle.c_rules.specs.Scopes.{Env, a_static, an_enumerator, Struct, Before, layout_of, struct_of, tag_number, declared_here, with_struct, nothing_before, binding_of}
+use Rattle.c_rules.specs.Scopes.{Env, a_static, an_enumerator, Struct, Before, layout_of, struct_of, tag_number, declared_here, with_name, with_struct, nothing_before, binding_of}
 use Rattle.c_rules.specs.Counts.{place_of, past}
 use Rattle.c_rules.specs.Declarators.{name_of, place_or, constant_value, new_name}
 use Rattle.c_rules.specs.Expressions.{type_declared, folded_value}
@@ -21,10 +21,10 @@ use Rattle.std.specs.Prelude.{unwrap_or}
 use Rattle.c_tree.specs.Layout.{Structs}
 use Rattle.c_rules.specs.Units.{env_before, env_behind, is_main_bound, has_main, strings_of, static_string, functions_of, program_of, IsTyped}
 use Rattle.c_rules.proofs.CheckedLemmas.{items_fine, names_fine, items_typed}
-use Rattle.c_rules.proofs.Modes.{fact, Leads, LeadsTo, same_leads, fine_leads, with_fact, without, on_leads, then_leads, both_leads, gives_leads, demand_leads, and_also_leads, first_fine, on_fine, demand_met, ArePlain, Twin, twin, named_twin}
+use Rattle.c_rules.proofs.Modes.{fact, Leads, LeadsTo, same_leads, fine_leads, with_fact, without, on_leads, then_leads, both_leads, gives_leads, demand_leads, and_also_leads, first_fine, on_fine, demand_met, ArePlain, Twin, twin, named_twin, leads_twin, twin_same}
 use Rattle.c_rules.proofs.ModeNames.{left, right, unreserved, may_more, name_leads, given_leads, new_name_leads, new_name_plain}
 use Rattle.c_rules.proofs.ModeExpressions.{type_declared_leads}
-use Rattle.c_rules.proofs.ModeBlocks.{parts_to, both_to, weaken, always, moved, static_init_leads, object_leads, held_same}
+use Rattle.c_rules.proofs.ModeBlocks.{parts_to, both_to, weaken, always, moved, static_init_leads, object_leads, held_maybe}
 use Rattle.c_rules.proofs.ModeStatements.{folded_leads}
 use Rattle.c_rules.proofs.ModeFunctions.{function_declared_leads, function_twin, definition_leads}
 
@@ -62,8 +62,7 @@ struct_leads e f (twin env p) x ms =
 
 struct_twin : (e f : Env) → Twin e f → (x : Ident) (ms : Members) (s : Struct) → struct_definition e x ms ≡ fine s → Twin (with_struct e x.name (struct_or_unknown (struct_definition e x ms))) (with_struct f x.name (struct_or_unknown (struct_definition f x ms)))
 struct_twin e f (twin env p) x ms s g =
-    subst (λ y. Twin (with_struct (left env) x.name (struct_or_unknown y)) (with_struct (right env) x.name (struct_or_unknown (struct_definition (right env) x ms)))) (sym g)
-    (subst (λ z. Twin (with_struct (left env) x.name s) (with_struct (right env) x.name (struct_or_unknown z))) (sym (fine_leads _ _ s (struct_leads _ _ (twin env p) x ms) g)) (twin (with_struct env x.name s) p))
+    leads_twin (λ y. with_struct (left env) x.name (struct_or_unknown y)) (λ y. with_struct (right env) x.name (struct_or_unknown y)) _ _ s (struct_leads _ _ (twin env p) x ms) g (twin (with_struct env x.name s) p)
 
 tag_declaration_leads : (e f : Env) → Twin e f → (x : Ident) → Leads (tag_declaration e x) (tag_declaration f x)
 tag_declaration_leads e f (twin env p) x = and_also_leads _ _ _ _ (tag_leads env x) (same_leads (demand (not (is_among env.enums x.name)) C2 x.at met))
@@ -128,23 +127,9 @@ same_object e d b at s p x m o g =
     let l = on_fine (and_also (object_name e d x k.0.whole) (few_static e d b x k.0.whole)) (λ _. fine k.0) o k.2 in
     k.1 ∙ l.2
 
-module _ (env : Env) (w : ArePlain env.names) (d : Bool) (b : Before) (x : Ident) (r s : Checked Object) (o : Object) (h : Leads r s) (g : r ≡ fine o) (u : is_reserved x.name ≡ false) where
-  global_twin : Twin (behind_global (left env) d x r) (behind_global (right env) d x s)
-  global_twin =
-      named_twin env x.name (meaning_of_global (left env) d x r) (meaning_of_global (right env) d x s) (a_static o.whole o.whole (is_defined_by d (declared_here env x.name))) w u
-      (ap (λ y. gives y (λ q. a_static q.whole q.whole (is_defined_by d (declared_here env x.name)))) g) (ap (λ y. gives y (λ q. a_static q.whole q.whole (is_defined_by d (declared_here env x.name)))) (fine_leads r s o h g))
-
-  seen_twin : Twin (within_global (left env) d x r) (within_global (right env) d x s)
-  seen_twin =
-      named_twin env x.name (seen_of_global (left env) d x r) (seen_of_global (right env) d x s) (a_static o.seen o.whole (is_defined_by d (declared_here env x.name))) w u
-      (ap (λ y. gives y (λ q. a_static q.seen q.whole (is_defined_by d (declared_here env x.name)))) g) (ap (λ y. gives y (λ q. a_static q.seen q.whole (is_defined_by d (declared_here env x.name)))) (fine_leads r s o h g))
-
-after_object_same : (e f : Env) → Twin e f → (b : Before) (t : CType) → after_object e b t ≡ after_object f b t
-after_object_same e f (twin env p) b t = refl
-
-static_leads : (e f g h : Env) → Twin e f → (b : Before) (m : MaybeInit) (o : Object) → Leads (definition_of e b m o) (definition_of f b m o)
-static_leads e f g h w b m o =
-    gives_leads _ _ (static_of o) (moved (Unit {0}) _ (λ y. initialised_static f y o.whole m) (after_object e b o.whole) (after_object f b o.whole) (after_object_same e f w b o.whole) (static_init_leads e f w (after_object e b o.whole) o.whole m))
+static_leads : (e f : Env) → Twin e f → (b : Before) (m : MaybeInit) (o : Object) → Leads (definition_of e b m o) (definition_of f b m o)
+static_leads e f w b m o =
+    gives_leads _ _ (static_of o) (moved (Unit {0}) _ (λ y. initialised_static f y o.whole m) (after_object e b o.whole) (after_object f b o.whole) (twin_same (λ y. after_object y b o.whole) (λ _. refl) e f w) (static_init_leads e f w (after_object e b o.whole) o.whole m))
 
 global_leads : (e f : Env) → Twin e f → (d : Bool) (b : Before) (at : ℕ) (s : Spec) (p : Declarator) (x : Ident) (m : MaybeInit) → Leads (global e d b x m (global_declared e d b at s p x m)) (global f d b x m (global_declared f d b at s p x m))
 global_leads e f w false b at s p x m = gives_leads _ _ (λ _. no_output) (global_declared_leads e f w false b at s p x m)
@@ -153,7 +138,7 @@ global_leads e f (twin env w) true b at s p x m =
     let q : Checked Object = global_declared (right env) true b at s p x m in
     let h : Leads r q = global_declared_leads _ _ (twin env w) true b at s p x m in
     on_leads r q (definition_of (within_global (left env) true x r) b m) (definition_of (within_global (right env) true x q) b m) h
-    (λ o g. let t : Twin (within_global (left env) true x r) (within_global (right env) true x q) = seen_twin env w true b x r q o h g (global_plain env true b at s p x m o g) in static_leads _ _ (left env) (right env) t b m o)
+    (λ o g. let t : Twin (within_global (left env) true x r) (within_global (right env) true x q) = leads_twin (within_global (left env) true x) (within_global (right env) true x) r q o h g (twin (with_name env x.name (a_static o.seen o.whole (is_defined_by true (declared_here env x.name)))) (global_plain env true b at s p x m o g, w)) in static_leads _ _ t b m o)
 
 pub global_fine : (e : Env) (d : Bool) (b : Before) (x : Ident) (m : MaybeInit) (r : Checked Object) (c : Output) → global e d b x m r ≡ fine c → (o : Object) × (r ≡ fine o)
 global_fine e false b x m r c g = let k = on_fine r (λ _. fine no_output) c g in (k.0, k.1)
@@ -165,14 +150,15 @@ FileFacts e f b c = Twin e f × (b ≡ c)
 
 after_fine : (e f : Env) → Twin e f → (b : Before) (m : MaybeInit) (r s : Checked Object) (o : Object) → r ≡ fine o → s ≡ fine o → after_global e b m r ≡ after_global f b m s
 after_fine e f w b m r s o g h =
-    ap (after_global e b m) g ∙ (ap (λ ws. past (after_object e b o.whole) (calls_of_maybe_init m) ws) (held_same e f w o.whole m) ∙ (ap (λ y. past y (calls_of_maybe_init m) (held_by f o.whole m)) (after_object_same e f w b o.whole) ∙ sym (ap (after_global f b m) h)))
+    ap (after_global e b m) g ∙ (ap (λ ws. past (after_object e b o.whole) (calls_of_maybe_init m) ws) (twin_same (λ y. held_by y o.whole m) (λ env. held_maybe env o.whole m) e f w) ∙ (ap (λ y. past y (calls_of_maybe_init m) (held_by f o.whole m)) (twin_same (λ y. after_object y b o.whole) (λ _. refl) e f w) ∙ sym (ap (after_global f b m) h)))
 
 object_after : (e f : Env) → Twin e f → (b : Before) (at : ℕ) (s : Spec) (d : Declarator) (m : MaybeInit) (x : Ident) (t : Bool) (o : Object) → object_declared e at s d x m ≡ fine o → after_declared e b at s d m t (Some x) ≡ after_declared f b at s d m t (Some x)
 object_after e f w b at s d m x false o g = refl
 object_after e f w b at s d m x true o g = after_fine e f w b m (object_declared e at s d x m) (object_declared f at s d x m) o g (fine_leads _ _ o (object_leads e f w at s d x m) g)
 
 global_behind : (e f : Env) → Twin e f → (t : Bool) (b : Before) (at : ℕ) (s : Spec) (d : Declarator) (x : Ident) (m : MaybeInit) (o : Object) → global_declared e t b at s d x m ≡ fine o → Twin (behind_global e t x (global_declared e t b at s d x m)) (behind_global f t x (global_declared f t b at s d x m))
-global_behind e f (twin env w) t b at s d x m o g = global_twin env w t b x _ _ o (global_declared_leads _ _ (twin env w) t b at s d x m) g (global_plain env t b at s d x m o g)
+global_behind e f (twin env w) t b at s d x m o g =
+    leads_twin (behind_global (left env) t x) (behind_global (right env) t x) _ _ o (global_declared_leads _ _ (twin env w) t b at s d x m) g (twin (with_name env x.name (a_static o.whole o.whole (is_defined_by t (declared_here env x.name)))) (global_plain env t b at s d x m o g, w))
 
 declared_part_leads : (e f : Env) → Twin e f → (b : Before) (at : ℕ) (class : Storage) (s : Spec) (d : Declarator) (m : MaybeInit) (x : Ident) (t : Bool) → LeadsTo (FileFacts (behind_declared e b at class s d m t x) (behind_declared f b at class s d m t x) (after_declared e b at s d m (not t && defines class m) (Some x)) (after_declared f b at s d m (not t && defines class m) (Some x))) (declared_part e b at class s d m t x) (declared_part f b at class s d m t x)
 declared_part_leads e f w b at class s d m x true =
@@ -244,15 +230,9 @@ items_lead e f w b (more_items i is) =
 
 -- ## Units
 
-main_same : (e f : Env) → Twin e f → is_main_bound (binding_of e (codes "main")) ≡ is_main_bound (binding_of f (codes "main"))
-main_same e f (twin env p) = refl
-
-structs_same : (e f : Env) → Twin e f → layout_of e ≡ layout_of f
-structs_same e f (twin env p) = refl
-
 program_same : (u : Items) (p : Output) → FileFacts (env_behind Plain u) (env_behind Instrumented u) (after_items (env_before Plain u) nothing_before u) (after_items (env_before Instrumented u) nothing_before u) → program_of Plain u p ≡ program_of Instrumented u p
 program_same u p h =
-    ap (λ s. program_with s (strings_of Plain u)) (structs_same _ _ h.0) ∙ ap (λ y. program_with (layout_of (env_behind Instrumented u)) y.strings) h.1
+    ap (λ s. program_with s (strings_of Plain u)) (twin_same layout_of (λ _. refl) _ _ h.0) ∙ ap (λ y. program_with (layout_of (env_behind Instrumented u)) y.strings) h.1
   where
     program_with : Structs → List (List ℕ) → Program
     program_with s ws = record {
@@ -270,7 +250,7 @@ typed_leads u p g =
     let facts = fact _ _ _ k.0 l k.1 in
     let met' : has_main Plain u ≡ true = demand_met (has_main Plain u) 9 0 (program_of Plain u k.0) p k.2 in
     let right_items : items (env_before Instrumented u) nothing_before u ≡ fine k.0 = fine_leads _ _ k.0 (without _ _ _ l) k.1 in
-    let right_main : has_main Instrumented u ≡ true = sym (main_same _ _ facts.0) ∙ met' in
+    let right_main : has_main Instrumented u ≡ true = sym (twin_same (λ e. is_main_bound (binding_of e (codes "main"))) (λ _. refl) _ _ facts.0) ∙ met' in
     let given : demand (has_main Plain u) C9 0 (program_of Plain u k.0) ≡ fine p = k.2 in
     let same : program_of Plain u k.0 ≡ p = (let e : fine (program_of Plain u k.0) ≡ fine p = sym (ap (λ t. demand t C9 0 (program_of Plain u k.0)) met') ∙ given in cc) in
     items_typed u Instrumented p (names_fine u Plain p g)

@@ -109,3 +109,11 @@ pub named_twin : (env : Env) (x : Name) (r s : Checked Meaning) (m : Meaning) �
 named_twin env x r s m p u g h =
     subst (λ y. Twin (with_name (in_mode Plain env) x (meaning_or_unknown y)) (with_name (in_mode Instrumented env) x (meaning_or_unknown s))) (sym g)
     (subst (λ z. Twin (with_name (in_mode Plain env) x m) (with_name (in_mode Instrumented env) x (meaning_or_unknown z))) (sym h) (twin (with_name env x m) (u, p)))
+
+-- behind what is fine in both
+pub leads_twin : {A : Type 0} (F G : Checked A → Env) (r s : Checked A) (a : A) → Leads r s → r ≡ fine a → Twin (F (fine a)) (G (fine a)) → Twin (F r) (G s)
+leads_twin F G r s a h g t = subst (λ y. Twin (F y) (G s)) (sym g) (subst (λ z. Twin (F (fine a)) (G z)) (sym (fine_leads r s a h g)) t)
+
+-- what is the same in both modes
+pub twin_same : {A : Type 0} (F : Env → A) → ((env : Env) → F (in_mode Plain env) ≡ F (in_mode Instrumented env)) → (e f : Env) → Twin e f → F e ≡ F f
+twin_same F h e f (twin env p) = h env
