@@ -270,13 +270,10 @@ module _ (n : ℕ) where
 
 -- ## Numbers of functions
 
-map_some : (o : Option ℕ) (i : ℕ) → option_map suc o ≡ Some i → (j : ℕ) × (o ≡ Some j) × (i ≡ suc j)
-map_some None i e = cc
-map_some (Some j) i e = (j, refl, cc)
-
 first_or : (t : Bool) (o : Option ℕ) (k i : ℕ) → ((j : ℕ) → o ≡ Some j → j < k) → (if t then Some 0 else option_map suc o) ≡ Some i → i < suc k
 first_or true o k i h e = let z : i ≡ 0 = cc in omega (arith, z)
-first_or false o k i h e = let m = map_some o i e in let below : m.0 < k = h m.0 m.1 in let same : i ≡ suc m.0 = m.2 in omega (arith, below, same)
+first_or false None k i h e = cc
+first_or false (Some j) k i h e = let below : j < k = h j refl in let same : suc j ≡ i = cc in omega (arith, below, same)
 
 pub number_below : (xs : List Name) (x : Name) (i : ℕ) → number_among xs x ≡ Some i → i < length xs
 number_below [] x i e = cc

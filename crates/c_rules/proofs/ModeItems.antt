@@ -4,7 +4,7 @@ use Rattle.c_tree.specs.Mode.TheVariants.{Plain, Instrumented}
 use Rattle.c_tree.specs.Tree.{CType, Program}
 use Rattle.c_syntax.specs.Tree.{Ident, Storage, Spec, Declarator, MaybeInit, Parts, no_parts, more_parts, decl, Maybe, absent, there, Declarators, no_declarators, more_declarators, Members, no_members, more_members, Enumerators, no_enumerators, more_enumerators}
 use Rattle.c_syntax.specs.Tree.{Tag, no_tag, tag, Stmt, BlockItems, Item, struct_item, enum_item, tag_item, decl_item, function_item, Items, no_items, more_items}
-use Rattle.c_rules.specs.Checked.{Checked, fine, faulty, on, gives, demand, and_also, met}
+use Rattle.c_rules.specs.Checked.{Checked, fine, faulty, on, demand, and_also, met}
 use Rattle.c_rules.specs.Codes.{C2, C11, C12, C9}
 use Rattle.c_rules.specs.Names.{Name, is_among, is_reserved, given_names, may_be_declared, number_among}
 use Rattle.c_rules.specs.Scopes.{Env, a_static, an_enumerator, Struct, Before, layout_of, struct_of, tag_number, declared_here, with_name, with_struct, nothing_before, binding_of}
@@ -16,12 +16,12 @@ use Rattle.c_rules.specs.Objects.{Object, object_declared}
 use Rattle.c_rules.specs.Tags.{tags_of_enumerators}
 use Rattle.c_rules.specs.Variables.{calls_of_block}
 use Rattle.c_rules.specs.Functions.{declares_function, held_by_typed, is_defined_by, function_declared, items_of_body, defined_as}
-use Rattle.c_rules.specs.Items.{Output, no_output, with_output, free_tag, member_typed, new_member, member_named, member_declared, with_option, names_behind, members_declared, members, struct_laid, is_incomplete, new_struct, struct_definition, struct_or_unknown, tag_declaration, int_value, enumerator_value, one_more_than, enumerator_meaning, behind_enumerator, enumerators, behind_enumerators, new_enum, behind_enum_tag, defines, may_follow_object, object_name, few_static, global_object, global_declared, meaning_of_global, seen_of_global, behind_global, within_global, static_of, after_object, definition_of, global, without_init, declared_part, named_part, behind_declared, behind_named_part, behind_file_part, after_global, after_declared, after_file_part, file_parts, behind_file_parts, after_file_parts, output_of_function, behind_defined, function_named, behind_function_named, item, with_tags, behind_item, after_item, items, behind_items, after_items}
+use Rattle.c_rules.specs.Items.{Output, no_output, with_output, free_tag, member_typed, new_member, member_named, member_declared, with_option, names_behind, members_declared, members, struct_laid, is_incomplete, new_struct, struct_definition, struct_or_unknown, tag_declaration, int_value, enumerator_value, one_more_than, enumerator_meaning, behind_enumerator, enumerators, behind_enumerators, new_enum, behind_enum_tag, defines, may_follow_object, object_name, few_static, global_object, global_declared, behind_global, within_global, static_of, after_object, definition_of, global, without_init, declared_part, named_part, behind_declared, behind_named_part, behind_file_part, after_global, after_declared, after_file_part, file_parts, behind_file_parts, after_file_parts, output_of_function, behind_defined, function_named, behind_function_named, item, with_tags, behind_item, after_item, items, behind_items, after_items}
 use Rattle.std.specs.Prelude.{unwrap_or}
 use Rattle.c_tree.specs.Layout.{Structs}
 use Rattle.c_rules.specs.Units.{env_before, env_behind, is_main_bound, has_main, strings_of, static_string, functions_of, program_of, IsTyped}
 use Rattle.c_rules.proofs.CheckedLemmas.{items_fine, names_fine, items_typed}
-use Rattle.c_rules.proofs.Modes.{fact, Leads, LeadsTo, same_leads, fine_leads, with_fact, without, on_leads, then_leads, both_leads, gives_leads, demand_leads, and_also_leads, first_fine, on_fine, demand_met, ArePlain, Twin, twin, named_twin, leads_twin, twin_same}
+use Rattle.c_rules.proofs.Modes.{fact, Leads, LeadsTo, same_leads, fine_leads, with_fact, without, on_leads, then_leads, both_leads, gives_leads, demand_leads, and_also_leads, first_fine, on_fine, demand_met, Twin, twin, named_twin, leads_twin, twin_same}
 use Rattle.c_rules.proofs.ModeNames.{left, right, unreserved, may_more, name_leads, given_leads, new_name_leads, new_name_plain}
 use Rattle.c_rules.proofs.ModeExpressions.{type_declared_leads}
 use Rattle.c_rules.proofs.ModeBlocks.{parts_to, both_to, weaken, always, moved, static_init_leads, object_leads, held_maybe}
