@@ -59,7 +59,6 @@ short_no_brackets = record { pre = λ s t u z e r. inr (told (sym e) r); post = 
 module _ (env : Shapes) (m : Marks) where
   mutual
     read : {S : Shape} {x : Leave} {t u : List Event} → Whole env m S x t u → Rest t u
-    read F.skip = here
     read (F.sys h) = later here
     read (F.call {s = s} {u = u} {w = w} k e h d i) = told e (trans (past (m.pre s) u) (trans (read h) (told i (past (m.post s) w))))
     read (F.left h0) = read h0
@@ -75,10 +74,7 @@ module _ (env : Shapes) (m : Marks) where
     read (F.cases_break h0) = read_picks h0
     read (F.cases_continue h0) = read_picks h0
     read (F.cases_return h0) = read_picks h0
-    read F.cases_none = here
-    read F.break_out = here
-    read F.continue_on = here
-    read F.return_now = here
+    read a = here
 
     read_rounds : {C B P : Shape} {t u : List Event} → Rounds env m C B P t u → Rest t u
     read_rounds F.none = here

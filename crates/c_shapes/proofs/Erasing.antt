@@ -11,13 +11,11 @@ use Rattle.c_shapes.specs.Words as F
 module _ (env : Shapes) where
   sys_erased : {x : ℕ} {q : List (Option ℤ)} (t : List Event) (e : Event) → Fits x q e → Whole env no_brackets (Sys x q) goes_on (erase (e ∷ t)) (erase t)
   sys_erased t (events.Sys y arguments outcome) fits = F.sys fits
-  sys_erased t (events.Pre s) fits = absurd fits
-  sys_erased t (events.Post s) fits = absurd fits
+  sys_erased t e fits = absurd fits
 
   exit_erased : {q : List (Option ℤ)} (t : List Event) (e : Event) → Fits exit_call q e → Front env no_brackets (Exit q) (erase (e ∷ t)) (erase t)
   exit_erased t (events.Sys y arguments outcome) fits = F.exits fits
-  exit_erased t (events.Pre s) fits = absurd fits
-  exit_erased t (events.Post s) fits = absurd fits
+  exit_erased t e fits = absurd fits
 
   mutual
     pub whole : {S : Shape} {x : Leave} {t u : List Event} → Whole env brackets S x t u → Whole env no_brackets S x (erase t) (erase u)

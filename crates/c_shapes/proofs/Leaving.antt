@@ -8,16 +8,14 @@ use Rattle.c_shapes.specs.Words as F
 
 -- the exit is one by which a statement with these flags may be left
 abbrev May : Leave → Bool → Bool → Type 0
-May goes_on b c = Unit {0}
 May breaks b c = b ≡ true
 May continues b c = c ≡ true
-May returns b c = Unit {0}
+May a b c = Unit {0}
 
 may_done : (x : Leave) → May x false false → IsDone x
-may_done goes_on h = tt
 may_done breaks h = absurd (true≢false (sym h))
 may_done continues h = absurd (true≢false (sym h))
-may_done returns h = tt
+may_done x h = tt
 
 module _ (env : Shapes) (m : Marks) where
   mutual
@@ -27,21 +25,8 @@ module _ (env : Shapes) (m : Marks) where
     straight (F.call k h d i j) e = refl
     straight (F.left h) e = straight h e.0
     straight (F.right h) e = straight h e.1
-    straight (F.loop_end r h) e = absurd e
-    straight (F.loop_break r h b) e = absurd e
-    straight (F.loop_return r h b) e = absurd e
-    straight (F.do_end r n b h) e = absurd e
-    straight (F.do_break r b) e = absurd e
-    straight (F.do_return r b) e = absurd e
     straight (F.in_order h) e = straight_parts h e
-    straight (F.cases_end h) e = absurd e
-    straight (F.cases_break h) e = absurd e
-    straight (F.cases_continue h) e = absurd e
-    straight (F.cases_return h) e = absurd e
-    straight F.cases_none e = absurd e
-    straight F.break_out e = absurd e
-    straight F.continue_on e = absurd e
-    straight F.return_now e = absurd e
+    straight a e = absurd e
 
     straight_parts : {ps : Parts} {x : Leave} {t u : List Event} → Falls env m ps x t u → AreExpressions ps → x ≡ goes_on
     straight_parts F.ended e = refl
@@ -50,26 +35,13 @@ module _ (env : Shapes) (m : Marks) where
 
   mutual
     may : {S : Shape} {x : Leave} {t u : List Event} → Whole env m S x t u → (b c : Bool) → IsStatement S b c → May x b c
-    may F.skip b c s = tt
-    may (F.sys h) b c s = tt
-    may (F.call k h d i j) b c s = tt
     may (F.left h) b c s = may h b c s.0
     may (F.right h) b c s = may h b c s.1
-    may (F.loop_end r h) b c s = tt
-    may (F.loop_break r h i) b c s = tt
-    may (F.loop_return r h i) b c s = tt
-    may (F.do_end r n i h) b c s = tt
-    may (F.do_break r i) b c s = tt
-    may (F.do_return r i) b c s = tt
     may (F.in_order h) b c s = may_parts h b c s
-    may (F.cases_end h) b c s = tt
-    may (F.cases_break h) b c s = tt
     may (F.cases_continue h) b c s = may_picks h true c s
-    may (F.cases_return h) b c s = tt
-    may F.cases_none b c s = tt
     may F.break_out b c s = s
     may F.continue_on b c s = s
-    may F.return_now b c s = tt
+    may a b c s = tt
 
     may_parts : {ps : Parts} {x : Leave} {t u : List Event} → Falls env m ps x t u → (b c : Bool) → AreStatements ps b c → May x b c
     may_parts F.ended b c s = tt

@@ -23,10 +23,8 @@ tally fs [] = 0
 tally fs (x ∷ xs) = weight (is_in x fs) + tally fs xs
 
 count_more : (a b : Bool) → (a ≡ true → b ≡ true) → weight a ≤ weight b
-count_more true true h = omega arith
 count_more true false h = absurd (false≢true (h refl))
-count_more false true h = omega arith
-count_more false false h = omega arith
+count_more a b h = omega arith
 
 tally_more : (fs gs : List ℕ) → Within fs gs → (xs : List ℕ) → tally fs xs ≤ tally gs xs
 tally_more fs gs w [] = omega arith
@@ -193,10 +191,9 @@ module _ (p : Program) where
     one_each : 24 + n ≤ tally (R n) all → Found n
 
   less_or : (a b : ℕ) → (a < b) ⊎ (b ≤ a)
-  less_or zero zero = inr (omega arith)
   less_or zero (suc b) = inl (omega arith)
-  less_or (suc a) zero = inr (omega arith)
   less_or (suc a) (suc b) = elim (less_or a b) as (λ k. (suc a < suc b) ⊎ (suc b ≤ suc a)) [ inl k ↦ inl (omega (arith, k)) | inr k ↦ inr (omega (arith, k)) ]
+  less_or a zero = inr (omega arith)
 
   found : (n : ℕ) → Found n
   found zero = one_each (let k = first_count in omega (arith, k))

@@ -27,10 +27,7 @@ module _ (env : Shapes) where
   abbrev Then : (f : ℕ) → Target (Point (shape_of env f)) → List Event → Type 0
   Then f (at x) t = Walks env f x t
   Then f by_return t = Walks env f after t
-  Then f by_break t = t ≡ []
-  Then f by_continue t = t ≡ []
-  Then f past t = t ≡ []
-  Then f stopped t = t ≡ []
+  Then f a t = t ≡ []
 
   over_at : {f : ℕ} {x : Point (shape_of env f)} {t : List Event} → t ≡ [] → Walks env f x t
   over_at {f = f} {x = x} e = subst (λ t. Walks env f x t) (sym e) W.over
@@ -38,18 +35,12 @@ module _ (env : Shapes) where
   quietly : {f : ℕ} {x : Point (shape_of env f)} {t : List Event} (y : Target (Point (shape_of env f))) → Hop (shape_of env f) x Silent y → Then f y t → Walks env f x t
   quietly (at y) h k = W.quiet h k
   quietly by_return h k = W.return h k
-  quietly by_break h k = over_at k
-  quietly by_continue h k = over_at k
-  quietly past h k = over_at k
-  quietly stopped h k = over_at k
+  quietly y h k = over_at k
 
   nothing_left : (f : ℕ) (y : Target (Point (shape_of env f))) → Then f y []
   nothing_left f (at y) = W.over
   nothing_left f by_return = W.over
-  nothing_left f by_break = refl
-  nothing_left f by_continue = refl
-  nothing_left f past = refl
-  nothing_left f stopped = refl
+  nothing_left f y = refl
 
   -- the points and steps of S are some of those of the function f
   record Sits (f : ℕ) (S : Shape) : Type 0 where
@@ -129,29 +120,24 @@ module _ (env : Shapes) where
   same {f = f} {x = x} e w = subst (λ t. Walks env f x t) (sym e) w
 
   done : {f : ℕ} {t : List Event} (x : Leave) → IsDone x → Walks env f after t → Then f (target x) t
-  done goes_on d w = w
-  done returns d w = w
   done breaks d w = absurd d
   done continues d w = absurd d
+  done x d w = w
 
   -- a body that is left for the next round
   next_step : {f : ℕ} {C B P : Shape} (t : List Event) (k : Sits f (Loop C B P)) (y : Leave) → IsNext y → Walks env f (k.point (step before)) t → Then f (k.target (apply (of_body C B P) (target y))) t
   next_step t k goes_on d w = arrive k (inner after) (hop k W.loop_next (arrive k (step before) w))
   next_step t k continues d w = arrive k (step before) w
-  next_step t k breaks d w = absurd d
-  next_step t k returns d w = absurd d
+  next_step t k y d w = absurd d
 
   next_test : {f : ℕ} {B C : Shape} (t : List Event) (k : Sits f (Do B C)) (y : Leave) → IsNext y → Walks env f (k.point (do_test before)) t → Then f (k.target (apply (of_do B C) (target y))) t
   next_test t k goes_on d w = arrive k (do_inner after) (hop k W.do_on (arrive k (do_test before) w))
   next_test t k continues d w = arrive k (do_test before) w
-  next_test t k breaks d w = absurd d
-  next_test t k returns d w = absurd d
+  next_test t k y d w = absurd d
 
   part_away : {f : ℕ} {S : Shape} {ps : Parts} (t : List Event) (k : SitParts f (Part S ps)) (x : Leave) → IsAway x → Then f (k.target (part_target x)) t → Then f (k.target (apply (plain this) (target x))) t
   part_away t k goes_on a w = absurd a
-  part_away t k breaks a w = w
-  part_away t k continues a w = w
-  part_away t k returns a w = w
+  part_away t k x a w = w
 
   -- the part's end is that of the row, or the next part goes on
   abbrev Begins : (f : ℕ) (ps : Parts) → SitParts f ps → List Event → Type 0
@@ -164,27 +150,19 @@ module _ (env : Shapes) where
 
   seq_exit : {f : ℕ} {S : Shape} {ps : Parts} (t : List Event) (k : Sits f (Seq S ps)) (x : Leave) → Then f (k.target (target x)) t → Then f (k.target (apply (of_seq S ps) (part_target x))) t
   seq_exit t k goes_on w = w
-  seq_exit t k breaks w = w
-  seq_exit t k continues w = w
-  seq_exit t k returns w = w
+  seq_exit t k x w = w
 
   left_exit : {f : ℕ} {S T : Shape} (t : List Event) (k : Sits f (Alt S T)) (x : Leave) → Then f (k.target (target x)) t → Then f (k.target (apply (plain left) (target x))) t
   left_exit t k goes_on w = arrive k (left after) (hop k W.left_out w)
-  left_exit t k breaks w = w
-  left_exit t k continues w = w
-  left_exit t k returns w = w
+  left_exit t k x w = w
 
   right_exit : {f : ℕ} {S T : Shape} (t : List Event) (k : Sits f (Alt S T)) (x : Leave) → Then f (k.target (target x)) t → Then f (k.target (apply (plain right) (target x))) t
   right_exit t k goes_on w = arrive k (right after) (hop k W.right_out w)
-  right_exit t k breaks w = w
-  right_exit t k continues w = w
-  right_exit t k returns w = w
+  right_exit t k x w = w
 
   later_exit : {f : ℕ} {S : Shape} {ps : Parts} (t : List Event) (k : SitParts f (Part S ps)) (x : Leave) → Then f (k.target (part_target x)) t → Then f (k.target (apply (plain later) (part_target x))) t
   later_exit t k goes_on w = w
-  later_exit t k breaks w = w
-  later_exit t k continues w = w
-  later_exit t k returns w = w
+  later_exit t k x w = w
 
   -- the walk is over wherever the exit leads
   ended : (f : ℕ) {t : List Event} (y : Target (Point (shape_of env f))) → t ≡ [] → Then f y t

@@ -146,9 +146,8 @@ first_is_pre env s ps e t h = by (front_of_seq env brackets h)
 
 -- which site a null call before a call names
 abbrev site_of : Event → ℕ
-site_of (events.Sys x arguments outcome) = 0
 site_of (events.Pre s) = suc s
-site_of (events.Post s) = 0
+site_of a = 0
 
 -- the call of f isn't instrumented
 b_no_bracket : Dyck env_b (getpid ∷ []) → ⊥
