@@ -24,11 +24,8 @@ module _ (n : ℕ) where
   Counts st = st.taken + length st.records ≡ n
 
   abbrev Names : Outcome → Type 0
-  Names (ended_by z) = Unit {0}
-  Names Turns = Unit {0}
-  Names Results = Unit {0}
   Names (BadResult k) = (1 ≤ k) × (k ≤ n)
-  Names (Undefined kind) = Unit {0}
+  Names a = Unit {0}
 
   counts_kept : IsKept Counts Names
   counts_kept = record {
@@ -55,10 +52,8 @@ module _ (n : ℕ) where
       at false = (omega arith, omega (arith, i))
 
   exiting : (xs : List Arg) → Keeps Counts Names (exit_with xs)
-  exiting [] = tt
   exiting (args.Int z ∷ []) = tt
-  exiting (args.Int z ∷ a ∷ xs) = tt
-  exiting (args.Bytes bytes ∷ xs) = tt
+  exiting xs = tt
 
   calling : (x : ℕ) (vs : List Value) (st : State) → Counts st → Keeps Counts Names (system_call x vs st)
   calling x vs st i = at (request x st.memory vs)
@@ -87,13 +82,7 @@ module _ (n : ℕ) where
     where
       by_value : (v : Value) → Names (exit_of v)
       by_value (Int z) = tt
-      by_value Indeterminate = tt
-      by_value (Uint k) = tt
-      by_value (Char z) = tt
-      by_value (Uchar k) = tt
-      by_value Null = tt
-      by_value (Func f) = tt
-      by_value (At q) = tt
+      by_value v = tt
   finished (Stop o w) h = h
 
 pub bad_results_are_recorded : BadResultsAreRecorded

@@ -45,10 +45,6 @@ module _ (p : Program) (m n : Marks) (hm : AreNullCalls m) (hn : AreNullCalls n)
 
       mutual
         eval_alike : (wanted : Bool) (e : Expr) (st : State) → Alike (eval p w m fr wanted e st) (eval p v n fr wanted e st)
-        eval_alike wanted (constant t x) st = refl
-        eval_alike wanted (function_name t f) st = refl
-        eval_alike wanted (string_place t k) st = refl
-        eval_alike wanted (variable t s k) st = refl
         eval_alike wanted (dereference t a) st = one a st _ (eval_alike true a st)
         eval_alike wanted (load t a) st = one a st _ (eval_alike true a st)
         eval_alike wanted (address_of t a) st = eval_alike true a st
@@ -76,6 +72,7 @@ module _ (p : Program) (m n : Marks) (hm : AreNullCalls m) (hn : AreNullCalls n)
             then_alike {A = List Value} {B = Value} (eval_all p w m fr args st) (eval_all p v n fr args st) _ _ (all_alike args st) (λ vs st. instrumented_alike m n hm hn site (called p w (wants wanted t) f vs st) (called p v (wants wanted t) f vs st) (called_alike (wants wanted t) f vs st))
         eval_alike wanted (call_through t site designator args) st =
             then_alike {A = Value} {B = Value} (eval p w m fr true designator st) (eval p v n fr true designator st) _ _ (eval_alike true designator st) (λ x st. then_alike {A = List Value} {B = Value} (eval_all p w m fr args st) (eval_all p v n fr args st) _ _ (all_alike args st) (λ vs st. instrumented_alike m n hm hn site _ _ (then_alike {A = ℕ} {B = Value} (answered (callee x) st) (answered (callee x) st) _ _ refl (λ f st. through_alike (wants wanted t) f vs st))))
+        eval_alike wanted e st = refl
 
         each_alike : (wanted : Bool) (es : Exprs) (st : State) → Alike (eval_each p w m fr wanted es st) (eval_each p v n fr wanted es st)
         each_alike wanted no_exprs st = refl
@@ -109,7 +106,6 @@ module _ (p : Program) (m n : Marks) (hm : AreNullCalls m) (hn : AreNullCalls n)
         exec_alike : (s : Stmt) (st : State) → Alike (exec p w m fr s st) (exec p v n fr s st)
         exec_alike (block ss) st =
             leaving_alike (declared_in ss) (exec_all p w m fr ss st) (exec_all p v n fr ss st) (stmts_alike ss st)
-        exec_alike empty st = refl
         exec_alike (evaluate e) st =
             then_alike {A = Value} {B = Exit} (eval p w m fr false e st) (eval p v n fr false e st) _ _ (eval_alike false e st) (λ x st. refl)
         exec_alike (declare x is) st =
@@ -123,11 +119,9 @@ module _ (p : Program) (m n : Marks) (hm : AreNullCalls m) (hn : AreNullCalls n)
             leaving_alike (declared_in first) _ _ (then_alike {A = Exit} {B = Exit} (exec_all p w m fr first st) (exec_all p v n fr first st) _ _ (stmts_alike first st) (λ x st. exit_alike x st _ _ (λ st. alike.again fr _ st)))
         exec_alike (switch_on e gs) st =
             then_alike {A = Value} {B = Exit} (eval p w m fr true e st) (eval p v n fr true e st) _ _ (eval_alike true e st) (λ x st. then_alike {A = Exit} {B = Exit} (exec_from p w m fr (selected x gs) gs st) (exec_from p v n fr (selected x gs) gs st) _ _ (groups_alike (selected x gs) gs st) (λ x st. refl))
-        exec_alike break_off st = refl
-        exec_alike continue_on st = refl
-        exec_alike return_void st = refl
         exec_alike (return_value e) st =
             then_alike {A = Value} {B = Exit} (eval p w m fr true e st) (eval p v n fr true e st) _ _ (eval_alike true e st) (λ x st. refl)
+        exec_alike s st = refl
 
         stmts_alike : (ss : Stmts) (st : State) → Alike (exec_all p w m fr ss st) (exec_all p v n fr ss st)
         stmts_alike no_stmts st = refl

@@ -82,7 +82,6 @@ exit_alike continued st f g h = refl
 exit_alike (returned v) st f g h = refl
 
 pub round_alike : (x : Exit) (st : State) (f g : State → Result Exit) → ((st : State) → Alike (f st) (g st)) → Alike (on_round x st f) (on_round x st g)
-round_alike on st f g h = h st
 round_alike broken st f g h = refl
-round_alike continued st f g h = h st
 round_alike (returned v) st f g h = refl
+round_alike x st f g h = h st

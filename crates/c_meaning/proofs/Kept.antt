@@ -80,34 +80,23 @@ module _ (p : Program) (marks : Marks) (I : State → Type 0) (O : Outcome → T
   exit_holds (returned v) st f i h = i
 
   round_holds : (x : Exit) (st : State) (f : State → Result Exit) → I st → ((st : State) → I st → Holds (f st)) → Holds (on_round x st f)
-  round_holds on st f i h = h st i
   round_holds broken st f i h = i
-  round_holds continued st f i h = h st i
   round_holds (returned v) st f i h = i
+  round_holds x st f i h = h st i
 
   null_holds : (event : ℕ → Event) (vs : List Value) (st : State) → I st → Holds (null_call event vs st)
-  null_holds event [] st i = kept.undefined U13
   null_holds event (Uint site ∷ []) st i = i
-  null_holds event (Uint site ∷ v ∷ vs) st i = kept.undefined U13
-  null_holds event (Indeterminate ∷ vs) st i = kept.undefined U13
-  null_holds event (Int z ∷ vs) st i = kept.undefined U13
-  null_holds event (Char z ∷ vs) st i = kept.undefined U13
-  null_holds event (Uchar n ∷ vs) st i = kept.undefined U13
-  null_holds event (Null ∷ vs) st i = kept.undefined U13
-  null_holds event (Func f ∷ vs) st i = kept.undefined U13
-  null_holds event (At q ∷ vs) st i = kept.undefined U13
+  null_holds event vs st i = kept.undefined U13
 
   without_holds : (is_main wanted : Bool) (st : State) → I st → Holds (without_value is_main wanted st)
-  without_holds true wanted st i = i
   without_holds false true st i = kept.undefined U11
-  without_holds false false st i = i
+  without_holds is_main wanted st i = i
 
   result_holds : (is_main wanted : Bool) (x : Exit) (st : State) → I st → Holds (result_of is_main wanted x st)
   result_holds is_main wanted (returned (Some v)) st i = i
-  result_holds is_main wanted (returned None) st i = without_holds is_main wanted st i
-  result_holds is_main wanted on st i = without_holds is_main wanted st i
   result_holds is_main wanted broken st i = kept.undefined U13
   result_holds is_main wanted continued st i = kept.undefined U13
+  result_holds is_main wanted x st i = without_holds is_main wanted st i
 
   record Holds_in (w : World) : Type 0 where
     pub enter : (wanted : Bool) (f : ℕ) (vs : List Value) (st : State) → I st → Holds (w.enter wanted f vs st)
@@ -139,10 +128,6 @@ module _ (p : Program) (marks : Marks) (I : State → Type 0) (O : Outcome → T
 
       mutual
         eval_holds : (wanted : Bool) (e : Expr) (st : State) → I st → Holds (eval p w marks fr wanted e st)
-        eval_holds wanted (constant t x) st i = i
-        eval_holds wanted (function_name t f) st i = i
-        eval_holds wanted (string_place t k) st i = i
-        eval_holds wanted (variable t s k) st i = i
         eval_holds wanted (dereference t a) st i = one a st (λ s x. behind_of t s.memory x) (eval_holds true a st i)
         eval_holds wanted (load t a) st i = one a st (λ s x. load_place s.memory x) (eval_holds true a st i)
         eval_holds wanted (address_of t a) st i = eval_holds true a st i
@@ -171,6 +156,7 @@ module _ (p : Program) (marks : Marks) (I : State → Type 0) (O : Outcome → T
             then_holds {A = List Value} {B = Value} (eval_all p w marks fr args st) _ (all_hold args st i) (λ vs st i. instrumented_holds site (called p w (wants wanted t) f vs st) (called_holds (wants wanted t) f vs st i))
         eval_holds wanted (call_through t site designator args) st i =
             then_holds {A = Value} {B = Value} (eval p w marks fr true designator st) _ (eval_holds true designator st i) (λ x st i. then_holds {A = List Value} {B = Value} (eval_all p w marks fr args st) _ (all_hold args st i) (λ vs st i. instrumented_holds site _ (then_holds {A = ℕ} {B = Value} (answered (callee x) st) (λ f st. called_through p w (wants wanted t) f vs st) (answered_holds {A = ℕ} (callee x) st i) (λ f st i. through_holds (wants wanted t) f vs st i))))
+        eval_holds wanted e st i = i
 
         each_holds : (wanted : Bool) (es : Exprs) (st : State) → I st → Holds (eval_each p w marks fr wanted es st)
         each_holds wanted no_exprs st i = kept.undefined U13
@@ -210,7 +196,6 @@ module _ (p : Program) (marks : Marks) (I : State → Type 0) (O : Outcome → T
       mutual
         exec_holds : (s : Stmt) (st : State) → I st → Holds (exec p w marks fr s st)
         exec_holds (block ss) st i = leaving_holds (declared_in ss) (exec_all p w marks fr ss st) (stmts_hold ss st i)
-        exec_holds empty st i = i
         exec_holds (evaluate e) st i =
             then_holds {A = Value} {B = Exit} (eval p w marks fr false e st) _ (eval_holds false e st i) (λ x st i. i)
         exec_holds (declare x is) st i =
@@ -224,11 +209,9 @@ module _ (p : Program) (marks : Marks) (I : State → Type 0) (O : Outcome → T
             leaving_holds (declared_in first) _ (then_holds {A = Exit} {B = Exit} (exec_all p w marks fr first st) _ (stmts_hold first st i) (λ x st i. exit_holds x st _ i (λ st i. goes.again fr _ st i)))
         exec_holds (switch_on e gs) st i =
             then_holds {A = Value} {B = Exit} (eval p w marks fr true e st) _ (eval_holds true e st i) (λ x st i. then_holds {A = Exit} {B = Exit} (exec_from p w marks fr (selected x gs) gs st) _ (groups_hold (selected x gs) gs st i) (λ x st i. i))
-        exec_holds break_off st i = i
-        exec_holds continue_on st i = i
-        exec_holds return_void st i = i
         exec_holds (return_value e) st i =
             then_holds {A = Value} {B = Exit} (eval p w marks fr true e st) _ (eval_holds true e st i) (λ x st i. i)
+        exec_holds s st i = i
 
         stmts_hold : (ss : Stmts) (st : State) → I st → Holds (exec_all p w marks fr ss st)
         stmts_hold no_stmts st i = i

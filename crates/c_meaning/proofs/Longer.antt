@@ -117,22 +117,13 @@ module _ (records : List SysResult) (turns : ℕ) (Lack : Outcome → Type 0) (l
   exit_follows (returned v) st f g h = inr refl
 
   pub round_follows : (x : Exit) (st : State) (f g : State → Result Exit) → ((st : State) → Follows (f st) (g (more_in records turns st))) → Follows (on_round x st f) (on_round x (more_in records turns st) g)
-  round_follows on st f g h = h st
   round_follows broken st f g h = inr refl
-  round_follows continued st f g h = h st
   round_follows (returned v) st f g h = inr refl
+  round_follows x st f g h = h st
 
   pub null_follows : (event : ℕ → Event) (vs : List Value) (st : State) → Follows (null_call event vs st) (null_call event vs (more_in records turns st))
-  null_follows event [] st = inr refl
   null_follows event (Uint site ∷ []) st = inr refl
-  null_follows event (Uint site ∷ v ∷ vs) st = inr refl
-  null_follows event (Indeterminate ∷ vs) st = inr refl
-  null_follows event (Int z ∷ vs) st = inr refl
-  null_follows event (Char z ∷ vs) st = inr refl
-  null_follows event (Uchar n ∷ vs) st = inr refl
-  null_follows event (Null ∷ vs) st = inr refl
-  null_follows event (Func f ∷ vs) st = inr refl
-  null_follows event (At q ∷ vs) st = inr refl
+  null_follows event vs st = inr refl
 
   take_follows : (x : ℕ) (q : Request) (rs : List SysResult) (st : State) → Follows (take_record x q rs st) (take_record x q (rs ++ records) (more_in records turns st))
   take_follows x q [] st = at lack.of_records
@@ -152,10 +143,8 @@ module _ (records : List SysResult) (turns : ℕ) (Lack : Outcome → Type 0) (l
       gave = result_value (result_kind x) r.value
 
   exit_follows_itself : (xs : List Arg) → Follows (exit_with xs) (exit_with xs)
-  exit_follows_itself [] = inr refl
   exit_follows_itself (args.Int n ∷ []) = inr refl
-  exit_follows_itself (args.Int n ∷ a ∷ xs) = inr refl
-  exit_follows_itself (args.Bytes bytes ∷ xs) = inr refl
+  exit_follows_itself xs = inr refl
 
   pub call_follows : (x : ℕ) (vs : List Value) (st : State) → Follows (system_call x vs st) (system_call x vs (more_in records turns st))
   call_follows x vs st =
@@ -168,7 +157,6 @@ module _ (records : List SysResult) (turns : ℕ) (Lack : Outcome → Type 0) (l
 
   pub result_follows : (is_main wanted : Bool) (x : Exit) (st : State) → Follows (result_of is_main wanted x st) (result_of is_main wanted x (more_in records turns st))
   result_follows is_main wanted (returned (Some v)) st = inr refl
-  result_follows is_main wanted (returned None) st = without_follows is_main wanted st
-  result_follows is_main wanted on st = without_follows is_main wanted st
   result_follows is_main wanted broken st = inr refl
   result_follows is_main wanted continued st = inr refl
+  result_follows is_main wanted x st = without_follows is_main wanted st

@@ -72,10 +72,6 @@ module _ (p : Program) (marks : Marks) (records : List SysResult) (turns : ℕ) 
 
       mutual
         eval_goes : (wanted : Bool) (e : Expr) (st : State) → First wanted e st
-        eval_goes wanted (constant t x) st = inr refl
-        eval_goes wanted (function_name t f) st = inr refl
-        eval_goes wanted (string_place t k) st = inr refl
-        eval_goes wanted (variable t s k) st = inr refl
         eval_goes wanted (dereference t a) st = one a st (λ m x. behind_of t m x) (eval_goes true a st)
         eval_goes wanted (load t a) st = one a st (λ m x. load_place m x) (eval_goes true a st)
         eval_goes wanted (address_of t a) st = eval_goes true a st
@@ -104,6 +100,7 @@ module _ (p : Program) (marks : Marks) (records : List SysResult) (turns : ℕ) 
             goes_then {A = List Value} {B = Value} (eval_all p w marks fr args st) (eval_all p v marks fr args (further st)) _ _ (all_goes args st) (λ vs st. instrumented_follows records turns Lack lack marks site (called p w (wants wanted t) f vs st) (called p v (wants wanted t) f vs (further st)) (called_goes (wants wanted t) f vs st))
         eval_goes wanted (call_through t site designator args) st =
             goes_then {A = Value} {B = Value} (eval p w marks fr true designator st) (eval p v marks fr true designator (further st)) _ _ (eval_goes true designator st) (λ x st. goes_then {A = List Value} {B = Value} (eval_all p w marks fr args st) (eval_all p v marks fr args (further st)) _ _ (all_goes args st) (λ vs st. instrumented_follows records turns Lack lack marks site _ _ (goes_then {A = ℕ} {B = Value} (answered (callee x) st) (answered (callee x) (further st)) _ _ (goes_answered {A = ℕ} (callee x) st) (λ f st. through_goes (wants wanted t) f vs st))))
+        eval_goes wanted e st = inr refl
 
         each_goes : (wanted : Bool) (es : Exprs) (st : State) → Goes (eval_each p w marks fr wanted es st) (eval_each p v marks fr wanted es (further st))
         each_goes wanted no_exprs st = inr refl
@@ -141,7 +138,6 @@ module _ (p : Program) (marks : Marks) (records : List SysResult) (turns : ℕ) 
         exec_goes : (s : Stmt) (st : State) → Goes (exec p w marks fr s st) (exec p v marks fr s (further st))
         exec_goes (block ss) st =
             leaving_goes (declared_in ss) (exec_all p w marks fr ss st) (exec_all p v marks fr ss (further st)) (stmts_go ss st)
-        exec_goes empty st = inr refl
         exec_goes (evaluate e) st =
             goes_then {A = Value} {B = Exit} (eval p w marks fr false e st) (eval p v marks fr false e (further st)) _ _ (eval_goes false e st) (λ x st. inr refl)
         exec_goes (declare x is) st =
@@ -155,11 +151,9 @@ module _ (p : Program) (marks : Marks) (records : List SysResult) (turns : ℕ) 
             leaving_goes (declared_in first) _ _ (goes_then {A = Exit} {B = Exit} (exec_all p w marks fr first st) (exec_all p v marks fr first (further st)) _ _ (stmts_go first st) (λ x st. exit_follows records turns Lack lack x st _ _ (λ st. goes.again fr _ st)))
         exec_goes (switch_on e gs) st =
             goes_then {A = Value} {B = Exit} (eval p w marks fr true e st) (eval p v marks fr true e (further st)) _ _ (eval_goes true e st) (λ x st. goes_then {A = Exit} {B = Exit} (exec_from p w marks fr (selected x gs) gs st) (exec_from p v marks fr (selected x gs) gs (further st)) _ _ (groups_go (selected x gs) gs st) (λ x st. inr refl))
-        exec_goes break_off st = inr refl
-        exec_goes continue_on st = inr refl
-        exec_goes return_void st = inr refl
         exec_goes (return_value e) st =
             goes_then {A = Value} {B = Exit} (eval p w marks fr true e st) (eval p v marks fr true e (further st)) _ _ (eval_goes true e st) (λ x st. inr refl)
+        exec_goes s st = inr refl
 
         stmts_go : (ss : Stmts) (st : State) → Goes (exec_all p w marks fr ss st) (exec_all p v marks fr ss (further st))
         stmts_go no_stmts st = inr refl

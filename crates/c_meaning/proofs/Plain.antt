@@ -80,10 +80,9 @@ exit_plain continued st f h = refl
 exit_plain (returned v) st f h = refl
 
 round_plain : (x : Exit) (st : State) (f : State → Result Exit) → ((st : State) → Plain (f st)) → Plain (on_round x st f)
-round_plain on st f h = h st
 round_plain broken st f h = refl
-round_plain continued st f h = h st
 round_plain (returned v) st f h = refl
+round_plain x st f h = h st
 
 without_plain : (is_main wanted : Bool) (st : State) → Plain (without_value is_main wanted st)
 without_plain true wanted st = refl
@@ -92,16 +91,13 @@ without_plain false false st = refl
 
 result_plain : (is_main wanted : Bool) (x : Exit) (st : State) → Plain (result_of is_main wanted x st)
 result_plain is_main wanted (returned (Some v)) st = refl
-result_plain is_main wanted (returned None) st = without_plain is_main wanted st
-result_plain is_main wanted on st = without_plain is_main wanted st
 result_plain is_main wanted broken st = refl
 result_plain is_main wanted continued st = refl
+result_plain is_main wanted x st = without_plain is_main wanted st
 
 exit_call_plain : (xs : List Arg) → Plain (exit_with xs)
-exit_call_plain [] = refl
 exit_call_plain (args.Int z ∷ []) = refl
-exit_call_plain (args.Int z ∷ a ∷ xs) = refl
-exit_call_plain (args.Bytes bytes ∷ xs) = refl
+exit_call_plain xs = refl
 
 take_plain : (x : ℕ) (q : Request) (rs : List SysResult) (st : State) → Plain (take_record x q rs st)
 take_plain x q [] st = refl
@@ -163,10 +159,6 @@ module _ (p : Program) (free : MakesNoNullCall p) where
 
       mutual
         eval_plain : (wanted : Bool) (e : Expr) → IsFree (defined p) e → (st : State) → Plain (eval p w no_marks fr wanted e st)
-        eval_plain wanted (constant t x) h st = refl
-        eval_plain wanted (function_name t f) h st = refl
-        eval_plain wanted (string_place t k) h st = refl
-        eval_plain wanted (variable t s k) h st = refl
         eval_plain wanted (dereference t a) h st = one a st (λ s x. behind_of t s.memory x) (eval_plain true a h st)
         eval_plain wanted (load t a) h st = one a st (λ s x. load_place s.memory x) (eval_plain true a h st)
         eval_plain wanted (address_of t a) h st = eval_plain true a h st
@@ -195,6 +187,7 @@ module _ (p : Program) (free : MakesNoNullCall p) where
             then_plain {A = List Value} {B = Value} (eval_all p w no_marks fr args st) _ (all_plain args h.2 st) (λ vs st. instrumented_plain site (called p w (wants wanted t) f vs st) (called_plain (wants wanted t) f vs st h.0 h.1))
         eval_plain wanted (call_through t site designator args) h st =
             then_plain {A = Value} {B = Value} (eval p w no_marks fr true designator st) _ (eval_plain true designator h.0 st) (λ x st. then_plain {A = List Value} {B = Value} (eval_all p w no_marks fr args st) _ (all_plain args h.1 st) (λ vs st. instrumented_plain site _ (then_plain {A = ℕ} {B = Value} (answered (callee x) st) (λ f st. called_through p w (wants wanted t) f vs st) (answered_plain {A = ℕ} (callee x) st) (λ f st. through_plain (wants wanted t) f vs st))))
+        eval_plain wanted e h st = refl
 
         each_plain : (wanted : Bool) (es : Exprs) → AreFree (defined p) es → (st : State) → Plain (eval_each p w no_marks fr wanted es st)
         each_plain wanted no_exprs h st = refl
@@ -234,7 +227,6 @@ module _ (p : Program) (free : MakesNoNullCall p) where
       mutual
         exec_plain : (s : Stmt) → IsFreeStmt (defined p) s → (st : State) → Plain (exec p w no_marks fr s st)
         exec_plain (block ss) h st = leaving_plain (declared_in ss) (exec_all p w no_marks fr ss st) (stmts_plain ss h st)
-        exec_plain empty h st = refl
         exec_plain (evaluate e) h st =
             then_plain {A = Value} {B = Exit} (eval p w no_marks fr false e st) _ (eval_plain false e h st) (λ x st. refl)
         exec_plain (declare x is) h st =
@@ -248,11 +240,9 @@ module _ (p : Program) (free : MakesNoNullCall p) where
             leaving_plain (declared_in first) _ (then_plain {A = Exit} {B = Exit} (exec_all p w no_marks fr first st) _ (stmts_plain first h.0 st) (λ x st. exit_plain x st _ (λ st. goes.again fr _ (h.1, h.3, h.2) st)))
         exec_plain (switch_on e gs) h st =
             then_plain {A = Value} {B = Exit} (eval p w no_marks fr true e st) _ (eval_plain true e h.0 st) (λ x st. then_plain {A = Exit} {B = Exit} (exec_from p w no_marks fr (selected x gs) gs st) _ (groups_plain (selected x gs) gs h.1 st) (λ x st. refl))
-        exec_plain break_off h st = refl
-        exec_plain continue_on h st = refl
-        exec_plain return_void h st = refl
         exec_plain (return_value e) h st =
             then_plain {A = Value} {B = Exit} (eval p w no_marks fr true e st) _ (eval_plain true e h st) (λ x st. refl)
+        exec_plain s h st = refl
 
         stmts_plain : (ss : Stmts) → AreFreeStmts (defined p) ss → (st : State) → Plain (exec_all p w no_marks fr ss st)
         stmts_plain no_stmts h st = refl
