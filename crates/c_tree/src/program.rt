@@ -15,7 +15,6 @@ use sys_table::name_text;
 /// statics. Functions are numbered in the order of their definitions; the number `defined + i` stands for the
 /// system call i, and in an instrumented program `defined + 24` and `defined + 25` stand for the two null
 /// calls, which are called by their names alone.
-#[derive(Drop)]
 pub struct Program {
     structs: Vec<StructMembers>,
     functions: Vec<Function>,
@@ -23,6 +22,19 @@ pub struct Program {
     statics: Vec<Static>,
     sites: u32,
     struct_cells: Vec<u32>,
+}
+
+impl Drop for Program {
+    fn drop(self) {
+        let Self {
+            structs: _structs,
+            functions: _functions,
+            main: _,
+            statics: _statics,
+            sites: _,
+            struct_cells: _struct_cells,
+        } = self;
+    }
 }
 
 impl std::marker::Model for Program {
