@@ -15,18 +15,12 @@ use Rattle.c_check_expressions.specs.Parts.{named_by, function_of_meaning, funct
 use Rattle.c_check_expressions.proofs.NodeLemmas.{past_none, place_is}
 
 meaning_direct : (env : Env) (at place : ℕ) (x : Name) (r : Checked TypedExpression) (m : Meaning) (t : CType) → function_of_meaning m ≡ Some t → callee_meant env at place x r m ≡ callee_by_name env place x t
-meaning_direct env at place x r (a_static s w d) t h = cc
-meaning_direct env at place x r (a_local n s w) t h = cc
 meaning_direct env at place x r (a_function u d) t h = ap (callee_by_name env place x) cc
-meaning_direct env at place x r (an_enumerator z) t h = cc
-meaning_direct env at place x r (unknown f fs) t h = cc
+meaning_direct env at place x r m t h = cc
 
 meaning_through : (env : Env) (at place : ℕ) (x : Name) (r : Checked TypedExpression) (m : Meaning) → function_of_meaning m ≡ None → callee_meant env at place x r m ≡ on r (callee_by_value at)
-meaning_through env at place x r (a_static s w d) h = refl
-meaning_through env at place x r (a_local n s w) h = refl
 meaning_through env at place x r (a_function u d) h = cc
-meaning_through env at place x r (an_enumerator z) h = refl
-meaning_through env at place x r (unknown f fs) h = refl
+meaning_through env at place x r m h = refl
 
 bound_direct : (env : Env) (at place : ℕ) (x : Name) (r : Checked TypedExpression) (b : Option Binding) (t : CType) → function_meant b ≡ Some t → callee_bound env at place x r b ≡ callee_by_name env place x t
 bound_direct env at place x r None t h = cc
@@ -39,59 +33,17 @@ bound_through env at place x r (Some b) h = meaning_through env at place x r b.m
 -- what is called by a name
 named_callee : (env : Env) (at : ℕ) (d : Expr) (r : Checked TypedExpression) (x : Name) → named_by d ≡ Some x → callee env at d r ≡ callee_bound env at (place_of d) x r (binding_of env x)
 named_callee env at (a_name place y) r x h = let q : y ≡ x = cc in λ i. callee_bound env at place (q i) r (binding_of env (q i))
-named_callee env at (an_int p n u) r x h = cc
-named_callee env at (a_char p k) r x h = cc
-named_callee env at (a_str p w) r x h = cc
-named_callee env at (comma p es) r x h = cc
-named_callee env at (sizeof_type p t) r x h = cc
-named_callee env at (cast p t e) r x h = cc
-named_callee env at (call p d es) r x h = cc
-named_callee env at (member p how e y) r x h = cc
-named_callee env at (postfix p op e) r x h = cc
-named_callee env at (prefix p op e) r x h = cc
-named_callee env at (unary p op e) r x h = cc
-named_callee env at (index p e f) r x h = cc
-named_callee env at (binary p op e f) r x h = cc
-named_callee env at (assign p op e f) r x h = cc
-named_callee env at (conditional p c e f) r x h = cc
+named_callee env at d r x h = cc
 
 -- what is called by a value
 pub unnamed_callee : (env : Env) (at : ℕ) (d : Expr) (r : Checked TypedExpression) → named_by d ≡ None → callee env at d r ≡ on r (callee_by_value at)
 unnamed_callee env at (a_name place y) r h = cc
-unnamed_callee env at (an_int p n u) r h = refl
-unnamed_callee env at (a_char p k) r h = refl
-unnamed_callee env at (a_str p w) r h = refl
-unnamed_callee env at (comma p es) r h = refl
-unnamed_callee env at (sizeof_type p t) r h = refl
-unnamed_callee env at (cast p t e) r h = refl
-unnamed_callee env at (call p d es) r h = refl
-unnamed_callee env at (member p how e y) r h = refl
-unnamed_callee env at (postfix p op e) r h = refl
-unnamed_callee env at (prefix p op e) r h = refl
-unnamed_callee env at (unary p op e) r h = refl
-unnamed_callee env at (index p e f) r h = refl
-unnamed_callee env at (binary p op e f) r h = refl
-unnamed_callee env at (assign p op e f) r h = refl
-unnamed_callee env at (conditional p c e f) r h = refl
+unnamed_callee env at d r h = refl
 
 -- a name counts nothing
 pub named_counts : (d : Expr) (x : Name) (b : Before) → named_by d ≡ Some x → after b d ≡ b
 named_counts (a_name place y) x b h = past_none b
-named_counts (an_int p n u) x b h = cc
-named_counts (a_char p k) x b h = cc
-named_counts (a_str p w) x b h = cc
-named_counts (comma p es) x b h = cc
-named_counts (sizeof_type p t) x b h = cc
-named_counts (cast p t e) x b h = cc
-named_counts (call p d es) x b h = cc
-named_counts (member p how e y) x b h = cc
-named_counts (postfix p op e) x b h = cc
-named_counts (prefix p op e) x b h = cc
-named_counts (unary p op e) x b h = cc
-named_counts (index p e f) x b h = cc
-named_counts (binary p op e f) x b h = cc
-named_counts (assign p op e f) x b h = cc
-named_counts (conditional p c e f) x b h = cc
+named_counts d x b h = cc
 
 -- a function by its name
 pub direct : (env : Env) (at : ℕ) (d : ExprTree) (r : Checked TypedExpression) (x : Name) (t : CType) → named_by (expr_of d) ≡ Some x → function_meant (binding_of env x) ≡ Some t → callee env at (expr_of d) r ≡ callee_by_name env d.at x t

@@ -18,27 +18,7 @@ use Rattle.c_rules.specs.Expressions.{value}
 
 pub place_is : (at : ℕ) (kind : ExprKind) → place_of (expr_at at kind) ≡ at
 place_is at (Name n) = refl
-place_is at (Int v u) = refl
-place_is at (Char c) = refl
-place_is at (Str w) = refl
-place_is at (Comma' shape row) = refl
-place_is at (SizeofType n) = refl
-place_is at (Cast' n p a1 k1) = refl
-place_is at (Call' p a1 k1 shape row) = refl
-place_is at (Member' p a1 k1 x) = refl
-place_is at (Arrow' p a1 k1 x) = refl
-place_is at (PostInc' p a1 k1) = refl
-place_is at (PostDec' p a1 k1) = refl
-place_is at (PreInc' p a1 k1) = refl
-place_is at (PreDec' p a1 k1) = refl
-place_is at (SizeofExpr' p a1 k1) = refl
-place_is at (Unary' op p a1 k1) = refl
-place_is at (Index' p a1 k1 q a2 k2) = refl
-place_is at (And' p a1 k1 q a2 k2) = refl
-place_is at (Or' p a1 k1 q a2 k2) = refl
-place_is at (Binary' op p a1 k1 q a2 k2) = refl
-place_is at (Assign' op p a1 k1 q a2 k2) = refl
-place_is at (Cond' p a1 k1 q a2 k2 r a3 k3) = refl
+place_is at kind = refl
 
 -- ## Counts
 

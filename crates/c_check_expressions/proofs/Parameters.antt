@@ -39,9 +39,7 @@ behind_named env k o x t h q =
 
 named_kind : (at p : ℕ) (kind : DeclaratorKind) → is_bare_pointer (pointer p (declarator_at at kind)) ≡ false
 named_kind at p (Name x) = refl
-named_kind at p (Pointer' held) = refl
-named_kind at p (Array' held size) = refl
-named_kind at p (Function' held shape row) = refl
+named_kind at p kind = refl
 
 bare_behind : (p : ℕ) (inner : Option (Box DeclaratorTree Global)) → is_bare_pointer (pointer p (declarator_behind inner)) ≡ is_none inner
 bare_behind p None = refl
@@ -63,9 +61,7 @@ none_when (Some x) false h = refl
 
 place_kind : (at p : ℕ) (kind : DeclaratorKind) → place_or at (declarator_at p kind) ≡ p
 place_kind at p (Name x) = refl
-place_kind at p (Pointer' held) = refl
-place_kind at p (Array' held size) = refl
-place_kind at p (Function' held shape row) = refl
+place_kind at p kind = refl
 
 pub declarator_place : (at : ℕ) (d : DeclaratorTree) → d.at ≡ place_or at (declarator_of d)
 declarator_place at d = sym (place_kind at d.at d.kind)

@@ -78,16 +78,8 @@ chars_few at n w true is =
 chars_few at n w false is = tt
 
 array_few : (structs : Structs) (at : ℕ) (t : CType) (n : ℕ) (o : Option (List ℕ)) → Holds (IsAtMost (n * cells structs t)) (array_cells at t n o)
-array_few structs at void n o = tt
 array_few structs at (integer Char) n (Some w) = chars_few at n w (nat_le (length w) n) refl
-array_few structs at (integer Char) n None = tt
-array_few structs at (integer Uchar) n o = tt
-array_few structs at (integer Int) n o = tt
-array_few structs at (integer Uint) n o = tt
-array_few structs at (pointer t) n o = tt
-array_few structs at (array t m) n o = tt
-array_few structs at (struct s) n o = tt
-array_few structs at (function t ts) n o = tt
+array_few structs at t n o = tt
 
 one_few : (structs : Structs) (k : Bool) (at : ℕ) (t : CType) (o : Option (List ℕ)) (r : Checked TypedExpression) → Holds (IsAtMost (cells structs t)) (cells_of_one k at t o r)
 one_few structs k at void o r = tt

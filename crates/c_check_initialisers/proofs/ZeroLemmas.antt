@@ -64,10 +64,8 @@ types_in (unknown_struct f fs) = []
 types_in (defined_struct ms) = map type_of_member ms
 
 known_at : (o : Option Struct) → or_none (option_map types_of_struct o) ≡ types_in (unwrap_or o incomplete)
-known_at None = refl
-known_at (Some incomplete) = refl
 known_at (Some (unknown_struct f fs)) = refl
-known_at (Some (defined_struct ms)) = refl
+known_at o = refl
 
 members_known : (env : Env) (s : ℕ) → members_of (layout_of env) s ≡ types_in (struct_of env s)
 members_known env s = ap or_none (slice_get-map types_of_struct env.structs s) ∙ known_at (slice_get env.structs s)

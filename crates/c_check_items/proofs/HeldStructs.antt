@@ -50,12 +50,9 @@ module _ (env : Env) where
   HasElements (function t ts) = Unit {0}
 
   complete_known : (at : ℕ) (t : CType) (u : Met) → HasElements t → complete env at t ≡ fine u → IsKnown t
-  complete_known at void u e h = tt
-  complete_known at (integer i) u e h = tt
-  complete_known at (pointer t) u e h = tt
   complete_known at (array t n) u e h = e
   complete_known at (struct s) u e h = entry env.structs s at u h
-  complete_known at (function t ts) u e h = tt
+  complete_known at t u e h = tt
 
   elements_of : (at : ℕ) (t : CType) (size : ℕ) (u : CType) → HasElements t → on (complete env at t) (λ _. within_parts at (array t size)) ≡ fine u → HasElements u
   elements_of at t size u e h =

@@ -50,12 +50,8 @@ both_is p q k a b s first node second = λ i. both (first i) ((sym node ∙ seco
 -- ## Strings that an initialiser holds, where the same structs are known
 
 slots_same : (e f : Env) (t : CType) → e.structs ≡ f.structs → slots e t ≡ slots f t
-slots_same e f void h = refl
-slots_same e f (integer i) h = refl
-slots_same e f (pointer t) h = refl
-slots_same e f (array t n) h = refl
 slots_same e f (struct s) h = ap (λ ss. members_of_struct (unwrap_or (slice_get ss s) incomplete)) h
-slots_same e f (function t ts) h = refl
+slots_same e f t h = refl
 
 mutual
   held_same : (e f : Env) (t : CType) (i : Init) → e.structs ≡ f.structs → held e t i ≡ held f t i

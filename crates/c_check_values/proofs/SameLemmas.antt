@@ -23,18 +23,7 @@ integer_equal Char Char h = refl
 integer_equal Uchar Uchar h = refl
 integer_equal Int Int h = refl
 integer_equal Uint Uint h = refl
-integer_equal Char Uchar h = false_not_true h
-integer_equal Char Int h = false_not_true h
-integer_equal Char Uint h = false_not_true h
-integer_equal Uchar Char h = false_not_true h
-integer_equal Uchar Int h = false_not_true h
-integer_equal Uchar Uint h = false_not_true h
-integer_equal Int Char h = false_not_true h
-integer_equal Int Uchar h = false_not_true h
-integer_equal Int Uint h = false_not_true h
-integer_equal Uint Char h = false_not_true h
-integer_equal Uint Uchar h = false_not_true h
-integer_equal Uint Int h = false_not_true h
+integer_equal i j h = false_not_true h
 
 integer_self : (i : IntType) → same_integer i i ≡ true
 integer_self Char = refl
@@ -62,36 +51,7 @@ mutual
   same_equal (array t m) (array u n) h = array_equal t u m n (same_equal t u (and_first (same_type t u) (nat_eq m n) h)) (eqb-true m n (and_second (same_type t u) (nat_eq m n) h))
   same_equal (struct s) (struct r) h = ap struct (eqb-true s r h)
   same_equal (function t ts) (function u us) h = function_equal t u ts us (same_equal t u (and_first (same_type t u) (same_types ts us) h)) (sames_equal ts us (and_second (same_type t u) (same_types ts us) h))
-  same_equal void (integer j) h = false_not_true h
-  same_equal void (pointer u) h = false_not_true h
-  same_equal void (array u n) h = false_not_true h
-  same_equal void (struct r) h = false_not_true h
-  same_equal void (function u us) h = false_not_true h
-  same_equal (integer i) void h = false_not_true h
-  same_equal (integer i) (pointer u) h = false_not_true h
-  same_equal (integer i) (array u n) h = false_not_true h
-  same_equal (integer i) (struct r) h = false_not_true h
-  same_equal (integer i) (function u us) h = false_not_true h
-  same_equal (pointer t) void h = false_not_true h
-  same_equal (pointer t) (integer j) h = false_not_true h
-  same_equal (pointer t) (array u n) h = false_not_true h
-  same_equal (pointer t) (struct r) h = false_not_true h
-  same_equal (pointer t) (function u us) h = false_not_true h
-  same_equal (array t m) void h = false_not_true h
-  same_equal (array t m) (integer j) h = false_not_true h
-  same_equal (array t m) (pointer u) h = false_not_true h
-  same_equal (array t m) (struct r) h = false_not_true h
-  same_equal (array t m) (function u us) h = false_not_true h
-  same_equal (struct s) void h = false_not_true h
-  same_equal (struct s) (integer j) h = false_not_true h
-  same_equal (struct s) (pointer u) h = false_not_true h
-  same_equal (struct s) (array u n) h = false_not_true h
-  same_equal (struct s) (function u us) h = false_not_true h
-  same_equal (function t ts) void h = false_not_true h
-  same_equal (function t ts) (integer j) h = false_not_true h
-  same_equal (function t ts) (pointer u) h = false_not_true h
-  same_equal (function t ts) (array u n) h = false_not_true h
-  same_equal (function t ts) (struct r) h = false_not_true h
+  same_equal t u h = false_not_true h
 
   sames_equal : (ts us : CTypes) → same_types ts us ≡ true → ts ≡ us
   sames_equal no_types no_types h = refl

@@ -37,10 +37,8 @@ abbrev pub nothing : Option ℤ
 nothing = None
 
 pub nothing_known : (n k : ℕ) → get_or (replicate n nothing) k None ≡ None
-nothing_known zero zero = refl
-nothing_known zero (suc k) = refl
-nothing_known (suc n) zero = refl
 nothing_known (suc n) (suc k) = nothing_known n k
+nothing_known n k = refl
 
 -- what is known of the arguments before the place i
 pub record AreKnown (name : ℕ) (kinds : List ArgKind) (es : List TExpr) (i : ℕ) (xs : List (Option ℤ)) : Type 0 where

@@ -50,18 +50,8 @@ kept Continue h ps = refl
 kept Return h ps = refl
 
 pub before_joined : (S : Shape) (ps : Parts) → joined (before_parts S End) ps ≡ before_parts S ps
-before_joined Skip ps = refl
 before_joined (Sys x q) ps = refl
-before_joined (Exit q) ps = refl
-before_joined (Call s) ps = refl
-before_joined (Seq S rs) ps = refl
-before_joined (Alt S T) ps = refl
-before_joined (Loop C B P) ps = refl
-before_joined (Do B C) ps = refl
-before_joined (Cases rs d) ps = refl
-before_joined Break ps = refl
-before_joined Continue ps = refl
-before_joined Return ps = refl
+before_joined a ps = refl
 
 -- a part at the end, and one at the front
 pub none_added : (old : List Tree) (part : Tree) → is_skip (shape_of part) ≡ true → parts_of old ≡ joined (parts_of old) (before_parts (shape_of part) End)

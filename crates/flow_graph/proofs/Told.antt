@@ -50,10 +50,6 @@ module _ (p : Program) (ms : List Bool) where
 
   mutual
     expr_told : (e : Expr) → AreTold (mentions e) → expr_at n ms e ≡ shape p e
-    expr_told (constant t v) h = refl
-    expr_told (function_name t f) h = refl
-    expr_told (string_place t k) h = refl
-    expr_told (variable t is_static k) h = refl
     expr_told (dereference t a) h = expr_told a h
     expr_told (load t a) h = expr_told a h
     expr_told (address_of t a) h = expr_told a h
@@ -80,6 +76,7 @@ module _ (p : Program) (ms : List Bool) where
         let c = Through (type_of a) in
         let k = right (mentions a) (Calls s c ∷ mentions_of_all es) h in
         ap seq (ap₂ Part (expr_told a (left (mentions a) (Calls s c ∷ mentions_of_all es) h)) (ap (λ S. exprs_at n ms es (Part S End)) (call_told s c (mentions_of_all es) k) ∙ exprs_told es (Part (marked_call p s c) End) (later (Calls s c) (mentions_of_all es) k)))
+    expr_told e h = refl
 
     exprs_told : (es : Exprs) (ps : Parts) → AreTold (mentions_of_all es) → exprs_at n ms es ps ≡ shapes_before p es ps
     exprs_told no_exprs ps h = refl
@@ -96,7 +93,6 @@ module _ (p : Program) (ms : List Bool) where
   mutual
     stmt_told : (s : Stmt) → AreTold (mentions_of_stmt s) → stmt_at n ms s ≡ shape_of_stmt p s
     stmt_told (block ss) h = ap seq (stmts_told ss h)
-    stmt_told empty h = refl
     stmt_told (evaluate e) h = expr_told e h
     stmt_told (declare x is) h = ap seq (inits_told is h)
     stmt_told (if_else e s u) h =
@@ -115,10 +111,8 @@ module _ (p : Program) (ms : List Bool) where
         (ap (λ C. Loop C (stmt_at n ms s) (maybe_at n ms step)) (maybe_told test (left b (c ++ d) k)) ∙ ap₂ (Loop (shape_of_maybe p test)) (stmt_told s (right c d l)) (maybe_told step (left c d l)))
     stmt_told (switch_on e gs) h =
         ap₂ (λ S ps. seq_two S (Cases ps (has_default gs))) (expr_told e (left (mentions e) (mentions_of_groups gs) h)) (groups_told gs (right (mentions e) (mentions_of_groups gs) h))
-    stmt_told break_off h = refl
-    stmt_told continue_on h = refl
-    stmt_told return_void h = refl
     stmt_told (return_value e) h = ap (λ S. seq_two S Return) (expr_told e h)
+    stmt_told s h = refl
 
     stmts_told : (ss : Stmts) → AreTold (mentions_of_stmts ss) → stmts_at n ms ss ≡ shapes_of_stmts p ss
     stmts_told no_stmts h = refl

@@ -41,42 +41,12 @@ inner_kept sites b e true h = absurd cc
 inner_kept sites b e false h = refl
 
 pub stays_tree : (sites : Sites) (b : ℕ) (w : Bool) (at op : ℕ) (e : Expr) → is_left_out w op e ≡ false → unary at op (expr sites b true e) ≡ expr sites b w (unary at op e)
-stays_tree sites b true at op e h = refl
 stays_tree sites b false at op (unary place inner e) h = sym (inner_stays sites b at op place inner e _ h)
-stays_tree sites b false at op (a_name p x) h = refl
-stays_tree sites b false at op (an_int p n u) h = refl
-stays_tree sites b false at op (a_char p c) h = refl
-stays_tree sites b false at op (a_str p s) h = refl
-stays_tree sites b false at op (comma p es) h = refl
-stays_tree sites b false at op (sizeof_type p t) h = refl
-stays_tree sites b false at op (cast p t e) h = refl
-stays_tree sites b false at op (call p d es) h = refl
-stays_tree sites b false at op (member p how e x) h = refl
-stays_tree sites b false at op (postfix p o e) h = refl
-stays_tree sites b false at op (prefix p o e) h = refl
-stays_tree sites b false at op (index p e f) h = refl
-stays_tree sites b false at op (binary p o e f) h = refl
-stays_tree sites b false at op (assign p o e f) h = refl
-stays_tree sites b false at op (conditional p c e f) h = refl
+stays_tree sites b w at op e h = refl
 
 pub stays_kept : (sites : Sites) (b : ℕ) (w : Bool) (at op : ℕ) (e : Expr) → is_left_out w op e ≡ false → kept sites b true e ≡ kept sites b w (unary at op e)
-stays_kept sites b true at op e h = refl
 stays_kept sites b false at op (unary place inner e) h = sym (inner_kept sites b e _ h)
-stays_kept sites b false at op (a_name p x) h = refl
-stays_kept sites b false at op (an_int p n u) h = refl
-stays_kept sites b false at op (a_char p c) h = refl
-stays_kept sites b false at op (a_str p s) h = refl
-stays_kept sites b false at op (comma p es) h = refl
-stays_kept sites b false at op (sizeof_type p t) h = refl
-stays_kept sites b false at op (cast p t e) h = refl
-stays_kept sites b false at op (call p d es) h = refl
-stays_kept sites b false at op (member p how e x) h = refl
-stays_kept sites b false at op (postfix p o e) h = refl
-stays_kept sites b false at op (prefix p o e) h = refl
-stays_kept sites b false at op (index p e f) h = refl
-stays_kept sites b false at op (binary p o e f) h = refl
-stays_kept sites b false at op (assign p o e f) h = refl
-stays_kept sites b false at op (conditional p c e f) h = refl
+stays_kept sites b w at op e h = refl
 
 -- both operators are left out
 pub without_tree : (sites : Sites) (b : ℕ) (w : Bool) (at op place inner : ℕ) (e : Expr) → is_left_out w op (unary place inner e) ≡ true → expr sites b false e ≡ expr sites b w (unary at op (unary place inner e))
@@ -91,9 +61,7 @@ without_kept sites b false at op place inner e h = sym (ap (λ t. if t then kept
 
 named_void : (at here : ℕ) (k : DeclaratorKind) → is_void_type (type_name at void (declarator_at here k)) ≡ false
 named_void at here (Name x) = refl
-named_void at here (Pointer' held) = refl
-named_void at here (Array' held size) = refl
-named_void at here (Function' held shape row) = refl
+named_void at here k = refl
 
 named_other : (at here : ℕ) (s : Spec) (k : DeclaratorKind) → is_void_type (type_name at s (declarator_at here k)) ≡ false
 named_other at here void k = named_void at here k
@@ -117,29 +85,8 @@ without_declarator n b is h = h (out-TypeName n).at ∙ sym (told_by n None is)
 
 -- an operator that is left out with its own has the form of one
 pub is_unary : (w : Bool) (op at : ℕ) (k : ExprKind) → ((inner : ℕ) (x : Box ExprTree Global) → k ≡ Unary inner x → ⊥) → is_left_out w op (expr_at at k) ≡ true → ⊥
-is_unary true op at k never h = cc
 is_unary false op at (Unary' inner p a k) never h = never inner (record { ptr = p.ptr; alloc = p.alloc; value = record { at = a; kind = k } }) refl
-is_unary false op at (Named n) never h = cc
-is_unary false op at (Int v u) never h = cc
-is_unary false op at (Char c) never h = cc
-is_unary false op at (Str s) never h = cc
-is_unary false op at (Comma' shape row) never h = cc
-is_unary false op at (SizeofType n) never h = cc
-is_unary false op at (Cast' n p a k) never h = cc
-is_unary false op at (Call' p a k shape row) never h = cc
-is_unary false op at (Member' p a k x) never h = cc
-is_unary false op at (Arrow' p a k x) never h = cc
-is_unary false op at (PostInc' p a k) never h = cc
-is_unary false op at (PostDec' p a k) never h = cc
-is_unary false op at (PreInc' p a k) never h = cc
-is_unary false op at (PreDec' p a k) never h = cc
-is_unary false op at (SizeofExpr' p a k) never h = cc
-is_unary false op at (Index' p a k q b l) never h = cc
-is_unary false op at (And' p a k q b l) never h = cc
-is_unary false op at (Or' p a k q b l) never h = cc
-is_unary false op at (Binary' o p a k q b l) never h = cc
-is_unary false op at (Assign' o p a k q b l) never h = cc
-is_unary false op at (Cond' p a k q b l r d m) never h = cc
+is_unary w op at k never h = cc
 
 -- ## An expression where both operators are left out
 

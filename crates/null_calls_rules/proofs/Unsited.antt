@@ -26,44 +26,11 @@ use Rattle.null_calls_rules.specs.WithoutSites.{unsited, unsited_all, unsited_ma
 
 type_same : (e : Expr) → type_of (unsited e) ≡ type_of e
 type_same (constant t v) = refl
-type_same (function_name t f) = refl
-type_same (string_place t n) = refl
-type_same (variable t s n) = refl
-type_same (dereference t a) = refl
-type_same (load t a) = refl
-type_same (address_of t a) = refl
-type_same (decay t a) = refl
-type_same (discard t a) = refl
-type_same (field t first a) = refl
-type_same (unary_operation t op a) = refl
-type_same (conversion t to a) = refl
-type_same (arithmetic t op a b) = refl
-type_same (comparison t op a b) = refl
-type_same (pointer_add t first subtracted a b) = refl
-type_same (pointer_diff t a b) = refl
-type_same (and t a b) = refl
-type_same (or t a b) = refl
-type_same (assign t a b) = refl
-type_same (update t op old a b) = refl
-type_same (conditional t c a b) = refl
-type_same (comma t es) = refl
-type_same (call t site f es) = refl
-type_same (call_through t site d es) = refl
+type_same e = refl
 
 declared_by_same : (s : Stmt) → declared_by (unsited_stmt s) ≡ declared_by s
 declared_by_same (block ss) = refl
-declared_by_same empty = refl
-declared_by_same (evaluate e) = refl
-declared_by_same (declare x is) = refl
-declared_by_same (if_else e s t) = refl
-declared_by_same (while_loop e s) = refl
-declared_by_same (do_loop s e) = refl
-declared_by_same (for_loop first test step s) = refl
-declared_by_same (switch_on e gs) = refl
-declared_by_same break_off = refl
-declared_by_same continue_on = refl
-declared_by_same return_void = refl
-declared_by_same (return_value e) = refl
+declared_by_same s = refl
 
 declared_in_same : (ss : Stmts) → declared_in (unsited_stmts ss) ≡ declared_in ss
 declared_in_same no_stmts = refl
@@ -103,10 +70,6 @@ module _ (p : Program) (v w : World) (same : Same v w) where
 module _ (p : Program) (v w : World) (same : Same v w) (fr : Frame) where
   mutual
     value_same : (wanted : Bool) (e : Expr) (st : State) → eval (without_sites p) v no_marks fr wanted (unsited e) st ≡ eval p w no_marks fr wanted e st
-    value_same wanted (constant t u) st = refl
-    value_same wanted (function_name t f) st = refl
-    value_same wanted (string_place t n) st = refl
-    value_same wanted (variable t s n) st = refl
     value_same wanted (dereference t a) st = λ i. then_do (value_same true a st i) (λ u st. answered (behind_of t st.memory u) st)
     value_same wanted (load t a) st = λ i. then_do (value_same true a st i) (λ q st. answered (load_place st.memory q) st)
     value_same wanted (address_of t a) st = value_same true a st
@@ -141,6 +104,7 @@ module _ (p : Program) (v w : World) (same : Same v w) (fr : Frame) where
     value_same wanted (call_through t site d es) st =
         λ i. then_do (value_same true d st i) (λ u st. then_do (arguments_same es st i) (λ vs st.
         with_marks no_marks site (then_do (answered (callee u) st) (λ f st. through_same p v w same (wants wanted t) f vs st i))))
+    value_same wanted e st = refl
 
     members_same : (wanted : Bool) (es : Exprs) (st : State) → eval_each (without_sites p) v no_marks fr wanted (unsited_all es) st ≡ eval_each p w no_marks fr wanted es st
     members_same wanted no_exprs st = refl
@@ -169,7 +133,6 @@ module _ (p : Program) (v w : World) (same : Same v w) (fr : Frame) where
   mutual
     stmt_same : (s : Stmt) (st : State) → exec (without_sites p) v no_marks fr (unsited_stmt s) st ≡ exec p w no_marks fr s st
     stmt_same (block ss) st = λ i. leaving fr (declared_in_same ss i) (all_same ss st i)
-    stmt_same empty st = refl
     stmt_same (evaluate e) st = λ i. then_do (value_same false e st i) (λ x st. Go on st [])
     stmt_same (declare x is) st =
         λ i. then_do (fresh p.structs fr x (slice_get fr.types x) st) (λ y st. initialise_same x is st i)
@@ -182,10 +145,8 @@ module _ (p : Program) (v w : World) (same : Same v w) (fr : Frame) where
         λ i. leaving fr (declared_in_same first i) (then_do (all_same first st i) (λ x st. on_exit x st (λ st. same.again fr (record { test = test; body = s; step = step }) st i)))
     stmt_same (switch_on e gs) st =
         λ i. then_do (value_same true e st i) (λ x st. then_do (from_same (selected_same x gs i) gs st i) (λ x st. Go (out_of_switch x) st []))
-    stmt_same break_off st = refl
-    stmt_same continue_on st = refl
-    stmt_same return_void st = refl
     stmt_same (return_value e) st = λ i. then_do (value_same true e st i) (λ x st. Go (returned (Some x)) st [])
+    stmt_same s st = refl
 
     all_same : (ss : Stmts) (st : State) → exec_all (without_sites p) v no_marks fr (unsited_stmts ss) st ≡ exec_all p w no_marks fr ss st
     all_same no_stmts st = refl

@@ -84,7 +84,6 @@ module _ (p : Program) (n : ℕ) (typed : IsProgram p n) where
     mutual
       pub exec_same : (r : CType) (breaks continues : Bool) (a : Stmt) (o : Objects) (st : State) → IsTypedFrame p o fr → IsStmt p fr.types r breaks continues a → StandsIn p (mentions_of_stmt a) → IsTypedState p o st → exec p v fr a st ≡ meaning.exec p w no_marks fr a st
       exec_same r breaks continues (block ss) o st s h m k = ap (leaving fr (declared_in ss)) (stmts_same r breaks continues ss o st s h m k)
-      exec_same r breaks continues empty o st s h m k = refl
       exec_same r breaks continues (evaluate e) o st s h m k =
           on_value p n typed v w goes enters fr {B = Exit} false e o st _ _ s h m k (value_same p n typed v w goes enters fr false e o st s h m k) (λ u x st g i k. refl)
       exec_same r breaks continues (declare x is) o st s h m k = declare_same r x is o st s h m k
@@ -106,11 +105,9 @@ module _ (p : Program) (n : ℕ) (typed : IsProgram p n) where
           let first = left_part p (mentions e) (mentions_of_groups gs) m in
           let rest = right_part p (mentions e) (mentions_of_groups gs) m in
           on_value p n typed v w goes enters fr {B = Exit} true e o st _ _ s h.3 first k (value_same p n typed v w goes enters fr true e o st s h.3 first k) (λ u x st g i k. then_same p {A = Exit} {B = Exit} (IsExit p r true continues) u _ _ _ _ _ (groups_end p n typed no_marks none_recorded w goes fr r continues h.0 (selected x gs) gs u st (framed o u g s) h.5 rest k) (groups_same r continues h.0 (selected x gs) gs u st (framed o u g s) h.5 rest k) (λ u y st g i k. refl))
-      exec_same r breaks continues break_off o st s h m k = refl
-      exec_same r breaks continues continue_on o st s h m k = refl
-      exec_same r breaks continues return_void o st s h m k = refl
       exec_same r breaks continues (return_value e) o st s h m k =
           on_value p n typed v w goes enters fr {B = Exit} true e o st _ _ s h.2 m k (value_same p n typed v w goes enters fr true e o st s h.2 m k) (λ u x st g i k. refl)
+      exec_same r breaks continues a o st s h m k = refl
 
       stmts_same : (r : CType) (breaks continues : Bool) (ss : Stmts) (o : Objects) (st : State) → IsTypedFrame p o fr → AreStmts p fr.types r breaks continues ss → StandsIn p (mentions_of_stmts ss) → IsTypedState p o st → exec_all p v fr ss st ≡ meaning.exec_all p w no_marks fr ss st
       stmts_same r breaks continues no_stmts o st s h m k = refl

@@ -43,32 +43,22 @@ held_same ok (gives v) h k = k v h
 held_same ok (undefined kind) h k = refl
 
 int_words : (p : Program) (o : Objects) (v : Value) → HasKind p o int v → in_words v ≡ gives v
-int_words p o Indeterminate h = refl
 int_words p o (Int z) h =
     let fits : fits_int z ≡ true = grind (arith, ints, h.1) in
     ap (λ b. if b then gives (Int z) else undefined U13) fits
-int_words p o (Uint n) h = refl
-int_words p o (Char z) h = refl
-int_words p o (Uchar n) h = refl
-int_words p o Null h = refl
-int_words p o (Func f) h = refl
 int_words p o (At q) h = absurd (cc (h.1))
+int_words p o v h = refl
 
 module _ (p : Program) (n : ℕ) (typed : IsProgram p n) where
   place_words : (o : Objects) (t : CType) (v : Value) → AreFew o → IsPlaced p o t v → in_words v ≡ gives v
-  place_words o t Indeterminate few h = refl
   place_words o t (Int z) few h = absurd h
-  place_words o t (Uint k) few h = refl
-  place_words o t (Char z) few h = refl
-  place_words o t (Uchar k) few h = refl
-  place_words o t Null few h = refl
-  place_words o t (Func f) few h = refl
   place_words o t (At q) few h =
       let some = has_cell p.structs typed.structs t h.object.complete in
       let within = lies_within h.all (flat p.structs t) q.first h.lies (omega (arith, some)) in
       let all = few q.name h.all h.known in
       let below : q.first < 4294967296 = omega (arith, within, all) in
       ap (λ b. if b then gives (At q) else undefined U13) (lt-ltb q.first 4294967296 below)
+  place_words o t v few h = refl
 
   -- the place of an object
   pub whole_same : (x : ObjectName) (t : CType) → IsObject p.structs t → whole p.structs x t ≡ gives (place x 0 (cells p.structs t))
@@ -83,32 +73,19 @@ module _ (p : Program) (n : ℕ) (typed : IsProgram p n) where
   behind_of_same o (function r ts) v m few b h = refl
 
   array_few : (o : Objects) (t : CType) (k : ℕ) (v : Value) → IsPlaced p o (array t k) v → cells p.structs t ≤ 65536
-  array_few o t k Indeterminate h = absurd h
-  array_few o t k (Int z) h = absurd h
-  array_few o t k (Uint m) h = absurd h
-  array_few o t k (Char z) h = absurd h
-  array_few o t k (Uchar m) h = absurd h
-  array_few o t k Null h = absurd h
   array_few o t k (Func f) h = absurd (cc (h.2))
   array_few o t k (At q) h = (element_object p.structs t k h.object).few
+  array_few o t k v h = absurd h
 
   pub decayed_same : (o : Objects) (u t : CType) (v : Value) → Decays p.structs u t → IsPlaced p o u v → decayed p.structs u v ≡ meaning.decayed p.structs u v
-  decayed_same o void t v d h = absurd d
-  decayed_same o (integer k) t v d h = absurd d
-  decayed_same o (pointer u) t v d h = absurd d
   decayed_same o (array u k) t v d h = ap (λ a. and_then a (λ width. to_first width k v)) (few_same (cells p.structs u) (array_few o u k v h))
-  decayed_same o (struct s) t v d h = absurd d
   decayed_same o (function r ts) t v d h = refl
+  decayed_same o u t v d h = absurd d
 
   member_few : (o : Objects) (u t : CType) (first : ℕ) (v : Value) → IsMemberOf p u first t → IsPlaced p o u v → cells p.structs t ≤ 65536
-  member_few o u t first Indeterminate b h = absurd h
-  member_few o u t first (Int z) b h = absurd h
-  member_few o u t first (Uint m) b h = absurd h
-  member_few o u t first (Char z) b h = absurd h
-  member_few o u t first (Uchar m) b h = absurd h
-  member_few o u t first Null b h = absurd h
   member_few o u t first (Func f) b h = absurd (cc (b.3, h.2))
   member_few o u t first (At q) b h = (field_right p n typed o u t first (At q) b h).object.few
+  member_few o u t first v b h = absurd h
 
   pub member_of_same : (o : Objects) (u t : CType) (first : ℕ) (v : Value) → AreFew o → IsMemberOf p u first t → IsPlaced p o u v → member_of p.structs first t v ≡ member first (cells p.structs t) v
   member_of_same o u t first v few b h =

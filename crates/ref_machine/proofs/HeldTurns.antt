@@ -132,7 +132,6 @@ module _ (p : Program) (left : ℕ) where
       mutual
         exec_agree : (s : Stmt) (st : State) → st.turns ≤ left → Agree (exec p w fr s st) (exec p v fr s st)
         exec_agree (block ss) st i = leaving_agree (declared_in ss) (exec_all p w fr ss st) (exec_all p v fr ss st) (stmts_agrees ss st i)
-        exec_agree empty st i = (refl, i)
         exec_agree (evaluate e) st i =
             then_agree left {A = Value} {B = Exit} (eval p w fr false e st) (eval p v fr false e st) _ _ (eval_agree false e st i) (λ x st i. (refl, i))
         exec_agree (declare x is) st i =
@@ -146,11 +145,9 @@ module _ (p : Program) (left : ℕ) where
             leaving_agree (declared_in first) _ _ (then_agree left {A = Exit} {B = Exit} (exec_all p w fr first st) (exec_all p v fr first st) _ _ (stmts_agrees first st i) (λ x st i. exit_agree left x st _ _ i (λ st i. goes.again fr _ st i)))
         exec_agree (switch_on e gs) st i =
             then_agree left {A = Value} {B = Exit} (eval p w fr true e st) (eval p v fr true e st) _ _ (eval_agree true e st i) (λ x st i. then_agree left {A = Exit} {B = Exit} (exec_from p w fr (selected x gs) gs st) (exec_from p v fr (selected x gs) gs st) _ _ (groups_agrees (selected x gs) gs st i) (λ x st i. (refl, i)))
-        exec_agree break_off st i = (refl, i)
-        exec_agree continue_on st i = (refl, i)
-        exec_agree return_void st i = (refl, i)
         exec_agree (return_value e) st i =
             then_agree left {A = Value} {B = Exit} (eval p w fr true e st) (eval p v fr true e st) _ _ (eval_agree true e st i) (λ x st i. (refl, i))
+        exec_agree s st i = (refl, i)
 
         stmts_agrees : (ss : Stmts) (st : State) → st.turns ≤ left → Agree (exec_all p w fr ss st) (exec_all p v fr ss st)
         stmts_agrees no_stmts st i = (refl, i)

@@ -18,15 +18,7 @@ use Rattle.ref_machine.proofs.Turning.{no_turn_to_enter, no_turn_to_test}
 
 pub bit_is_small : (now : Now) → of_bit now ≤ 1
 bit_is_small (Eval wanted e) = omega arith
-bit_is_small (Have v) = omega arith
-bit_is_small (Exec s) = omega arith
-bit_is_small (Left x) = omega arith
-bit_is_small (Enter wanted f vs) = omega arith
-bit_is_small (Test s) = omega arith
-bit_is_small (Ask x q) = omega arith
-bit_is_small (Told e next) = omega arith
-bit_is_small (Stopped o) = omega arith
-bit_is_small Mistyped = omega arith
+bit_is_small now = omega arith
 
 -- no turn is left for the next step
 pub no_turn_left : (p : Program) (n : ℕ) (here : Here) (m : Objects) (e t : ℕ) (now : Now) (todo : List Frame) (records : List SysResult) (taken : ℕ) → IsCostly now → t ≡ 0 → t ≤ n →
@@ -35,11 +27,4 @@ no_turn_left p n here m e t (Enter wanted f vs) todo records taken costly none l
     no_turn_to_enter p n wanted f vs.items m e records taken t (after_value p (world p n) (place_of here) (stack todo)) none le
 no_turn_left p n here m e t (Test s) todo records taken costly none le =
     no_turn_to_test p n (place_of here) (rounds_of (stmt_of s.now)) m e records taken t (after_exit p (world p n) (place_of here) (stack todo)) none le
-no_turn_left p n here m e t (Eval wanted x) todo records taken costly none le = absurd costly
-no_turn_left p n here m e t (Have v) todo records taken costly none le = absurd costly
-no_turn_left p n here m e t (Exec s) todo records taken costly none le = absurd costly
-no_turn_left p n here m e t (Left x) todo records taken costly none le = absurd costly
-no_turn_left p n here m e t (Ask x q) todo records taken costly none le = absurd costly
-no_turn_left p n here m e t (Told x next) todo records taken costly none le = absurd costly
-no_turn_left p n here m e t (Stopped o) todo records taken costly none le = absurd costly
-no_turn_left p n here m e t Mistyped todo records taken costly none le = absurd costly
+no_turn_left p n here m e t now todo records taken costly none le = absurd costly

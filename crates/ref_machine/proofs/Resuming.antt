@@ -95,15 +95,7 @@ never_mistyped m now is right =
 
 not_ask : (next now : Now) → IsAsk next → now ≡ next → ((name : ℕ) (request : Request) → now ≡ Ask name request → ⊥) → ⊥
 not_ask (Ask name request) now h is never = never name request is
-not_ask (Eval wanted e) now h is never = h
-not_ask (Have v) now h is never = h
-not_ask (Exec s) now h is never = h
-not_ask (Left x) now h is never = h
-not_ask (Enter wanted f vs) now h is never = h
-not_ask (Test s) now h is never = h
-not_ask (Told e next) now h is never = h
-not_ask (Stopped o) now h is never = h
-not_ask Mistyped now h is never = h
+not_ask next now h is never = h
 
 -- a machine that waits has a system call before it
 pub call_waits : (stage : Stage) (next now : Now) → waits stage ≡ true → HasCall stage next → now ≡ next → ((name : ℕ) (request : Request) → now ≡ Ask name request → ⊥) → ⊥
