@@ -1,5 +1,5 @@
 -- Two parts of a run that are the same and leave at most so many turns: how parts are put together.
-use Rattle.std.proofs.Common.{◌≡◌, ℕ, zero, suc, ◌≤◌, Bool, true, false, if◌then◌else◌, List, [], ◌∷◌, Some, None, ap, subst, refl, arith}
+use Rattle.std.proofs.Common.{◌≡◌, ℕ, zero, suc, ◌≤◌, Bool, true, false, if◌then◌else◌, List, [], ◌∷◌, Some, ap, subst, refl, arith}
 use Rattle.dm_base.specs.declared.event.Arg.{Arg}
 use Rattle.dm_base.specs.declared.event.Arg.TheVariants as args
 use Rattle.dm_base.specs.declared.event.Event.{Event}
@@ -7,7 +7,7 @@ use Rattle.dm_base.specs.declared.event.Event.TheVariants.{Sys}
 use Rattle.c_meaning.specs.SysResult.{SysResult}
 use Rattle.c_meaning.specs.Table.{result_of as result_kind}
 use Rattle.c_tree.specs.declared.value.Value.{Value}
-use Rattle.c_tree.specs.declared.value.Value.TheVariants.{Indeterminate, Int, Uint, Char, Uchar, Null, Func, At}
+use Rattle.c_tree.specs.declared.value.Value.TheVariants.{Int, Uint}
 use Rattle.c_meaning.specs.Answers.{Answer, gives, undefined}
 use Rattle.c_meaning.specs.Memory.{Objects}
 use Rattle.c_meaning.specs.Meaning.{either, tested, null_call}
@@ -76,39 +76,26 @@ module _ (left : ℕ) where
 
   pub exit_agree : (x : Exit) (st : State) (f g : State → Result Exit) → st.turns ≤ left → ((st : State) → st.turns ≤ left → Agree (f st) (g st)) → Agree (on_exit x st f) (on_exit x st g)
   exit_agree on st f g i h = h st i
-  exit_agree broken st f g i h = (refl, i)
-  exit_agree continued st f g i h = (refl, i)
-  exit_agree (returned v) st f g i h = (refl, i)
+  exit_agree x st f g i h = (refl, i)
 
   pub round_agree : (x : Exit) (st : State) (f g : State → Result Exit) → st.turns ≤ left → ((st : State) → st.turns ≤ left → Agree (f st) (g st)) → Agree (on_round x st f) (on_round x st g)
-  round_agree on st f g i h = h st i
   round_agree broken st f g i h = (refl, i)
-  round_agree continued st f g i h = h st i
   round_agree (returned v) st f g i h = (refl, i)
+  round_agree x st f g i h = h st i
 
   pub null_agree : (event : ℕ → Event) (vs : List Value) (st : State) → st.turns ≤ left → Agree (null_call event vs st) (null_call event vs st)
-  null_agree event [] st i = (refl, tt)
   null_agree event (Uint site ∷ []) st i = (refl, i)
-  null_agree event (Uint site ∷ v ∷ vs) st i = (refl, tt)
-  null_agree event (Indeterminate ∷ vs) st i = (refl, tt)
-  null_agree event (Int z ∷ vs) st i = (refl, tt)
-  null_agree event (Char z ∷ vs) st i = (refl, tt)
-  null_agree event (Uchar n ∷ vs) st i = (refl, tt)
-  null_agree event (Null ∷ vs) st i = (refl, tt)
-  null_agree event (Func f ∷ vs) st i = (refl, tt)
-  null_agree event (At q ∷ vs) st i = (refl, tt)
+  null_agree event vs st i = (refl, tt)
 
   pub without_agree : (is_main wanted : Bool) (st : State) → st.turns ≤ left → Agree (without_value is_main wanted st) (without_value is_main wanted st)
-  without_agree true wanted st i = (refl, i)
   without_agree false true st i = (refl, tt)
-  without_agree false false st i = (refl, i)
+  without_agree is_main wanted st i = (refl, i)
 
   pub result_agree : (is_main wanted : Bool) (x : Exit) (st : State) → st.turns ≤ left → Agree (result_of is_main wanted x st) (result_of is_main wanted x st)
   result_agree is_main wanted (returned (Some v)) st i = (refl, i)
-  result_agree is_main wanted (returned None) st i = without_agree is_main wanted st i
-  result_agree is_main wanted on st i = without_agree is_main wanted st i
   result_agree is_main wanted broken st i = (refl, tt)
   result_agree is_main wanted continued st i = (refl, tt)
+  result_agree is_main wanted x st i = without_agree is_main wanted st i
 
   pub take_agree : (x : ℕ) (q : Request) (rs : List SysResult) (st : State) → st.turns ≤ left → Agree (take_record x q rs st) (take_record x q rs st)
   take_agree x q [] st i = (refl, tt)
@@ -124,7 +111,5 @@ module _ (left : ℕ) where
       gave = result_value (result_kind x) r.value
 
   pub ended_agree : (xs : List Arg) → Agree (exit_with xs) (exit_with xs)
-  ended_agree [] = (refl, tt)
   ended_agree (args.Int n ∷ []) = (refl, tt)
-  ended_agree (args.Int n ∷ a ∷ xs) = (refl, tt)
-  ended_agree (args.Bytes bytes ∷ xs) = (refl, tt)
+  ended_agree xs = (refl, tt)

@@ -20,14 +20,14 @@ use Rattle.c_meaning.specs.Answering.{AnswersRead, AnswersWrite, AnswersOther}
 use Rattle.c_tree.specs.declared.value.IntType.TheVariants as i
 use Rattle.c_tree.specs.declared.value.Pointer.{Pointer}
 use Rattle.c_tree.specs.declared.value.Value.{Value}
-use Rattle.c_tree.specs.declared.value.Value.TheVariants.{Indeterminate, Int, Uint, Char, Uchar, Null, Func, At}
+use Rattle.c_tree.specs.declared.value.Value.TheVariants.{Indeterminate, Int, Uint, Char, Null, Func, At}
 use Rattle.c_tree.specs.Tree.{CType, void, integer, pointer, function, CTypes, no_types, more_types, list_of, Program}
 use Rattle.c_tree.specs.Layout.{repeat}
 use Rattle.c_tree.specs.Functions.{int, unsigned_int, char_pointer, sys_types}
 use Rattle.c_tree.specs.Operands.{IsObject}
 use Rattle.c_tree.specs.Kinds.{Objects, IsPointer}
 use Rattle.c_tree.specs.Program.{IsProgram}
-use Rattle.c_tree.specs.Operators.{Answer, gives, undefined, and_then}
+use Rattle.c_tree.specs.Operators.{Answer, gives}
 use Rattle.c_meaning.specs.Memory.{Object}
 use Rattle.c_meaning.specs.Memory.{Objects as Memory}
 use Rattle.c_meaning.specs.Pointers.{number}
@@ -37,8 +37,8 @@ use Rattle.c_meaning.specs.SystemCalls.{char_of, bytes_in, cells_from, is_zero, 
 use Rattle.c_meaning.proofs.Answering.{records_are_judged}
 use Rattle.c_meaning_laws.specs.StoreTyping.{HasKind, IsCell, IsTypedMemory, IsTypedState}
 use Rattle.c_meaning_laws.specs.TypedResults.{EndsTyped, Gives}
-use Rattle.c_meaning_laws.proofs.Places.{scalar_object, kind_given}
-use Rattle.c_meaning_laws.proofs.Steps.{Right, right_then, there_right, pointer_right, cells_there, store_right}
+use Rattle.c_meaning_laws.proofs.Places.{at_place, repeat_lies, int_value, uint_value, pointer_value, scalar_object, kind_given}
+use Rattle.c_meaning_laws.proofs.Steps.{Right, tested_right, writable_right, right_then, there_right, pointer_right, cells_there, store_right}
 use Rattle.c_meaning_laws.proofs.Ends.{after_ends, then_ends, answered_ends, remembered_ends}
 use Rattle.c_shapes.proofs.Members.{and_left, and_right}
 
@@ -113,44 +113,26 @@ unfolding sys_types
 write_types r ts e = ap parameters_of e
 
 char_fits : (b : ℕ) → FitsSigned w8 (char_of b)
-char_fits b = at (nat_lt b 128) refl
-  where
-    at : (c : Bool) → nat_lt b 128 ≡ c → FitsSigned w8 (if c then pos b else negsuc (255 - b))
-    at true e = let less : b < 128 = grind (arith, nat_tests) in grind (arith, ints, less)
-    at false e = let more : 128 ≤ b = grind (arith, nat_tests) in let small : 255 - b ≤ 127 = omega (arith, more) in grind (arith, ints, small)
+char_fits b = grind (arith, ints, nat_tests)
 
 unsigned_fits : (n : ℕ) → n < 4294967296 → FitsUnsigned w32 (pos n)
 unsigned_fits n h = grind (arith, ints, h)
 
 -- what a record that answers has
-answers_short : (x asked : ℕ) (r : SysResult) → does_answer x asked r ≡ true → length r.bytes ≤ asked
-answers_short zero asked r h = at ((records_are_judged zero asked r).0 h)
-  where
-    at : AnswersRead asked r → length r.bytes ≤ asked
-    at (inl k) = let e : length r.bytes ≡ 0 = ap length k.1 in omega (arith, e)
-    at (inr k) = k.1
-answers_short (suc zero) asked r h =
-    let k : AnswersWrite asked r = (records_are_judged 1 asked r).0 h in
-    let e : length r.bytes ≡ 0 = ap length k.none in
-    omega (arith, e)
-answers_short (suc (suc x)) asked r h =
-    let k : AnswersOther (suc (suc x)) r = (records_are_judged (suc (suc x)) asked r).0 h in
-    let e : length r.bytes ≡ 0 = ap length k.0 in
-    omega (arith, e)
-
-answers_fit : (x asked : ℕ) (r : SysResult) → does_answer x asked r ≡ true → FitsResult (result_of x) r.value
+answers_right : (x asked : ℕ) (r : SysResult) → does_answer x asked r ≡ true → (length r.bytes ≤ asked) × FitsResult (result_of x) r.value
 unfolding table
-answers_fit zero asked r h = at ((records_are_judged zero asked r).0 h)
+answers_right zero asked r h = at ((records_are_judged zero asked r).0 h)
   where
-    at : AnswersRead asked r → FitsResult (result_of 0) r.value
-    at (inl k) = subst (λ z. FitsSigned w32 z) (sym k.0) (grind (arith, ints))
-    at (inr k) = k.2
-answers_fit (suc zero) asked r h = at ((records_are_judged 1 asked r).0 h)
+    at : AnswersRead asked r → (length r.bytes ≤ asked) × FitsResult (result_of 0) r.value
+    at (inl k) = let e : length r.bytes ≡ 0 = ap length k.1 in (omega (arith, e), subst (λ z. FitsSigned w32 z) (sym k.0) (grind (arith, ints)))
+    at (inr k) = (k.1, k.2)
+answers_right (suc zero) asked r h = at ((records_are_judged 1 asked r).0 h)
   where
-    at : AnswersWrite asked r → FitsResult (result_of 1) r.value
-    at k = k.fits
-answers_fit (suc (suc x)) asked r h =
-    let k : AnswersOther (suc (suc x)) r = (records_are_judged (suc (suc x)) asked r).0 h in k.1
+    at : AnswersWrite asked r → (length r.bytes ≤ asked) × FitsResult (result_of 1) r.value
+    at k = let e : length r.bytes ≡ 0 = ap length k.none in (omega (arith, e), k.fits)
+answers_right (suc (suc x)) asked r h =
+    let k : AnswersOther (suc (suc x)) r = (records_are_judged (suc (suc x)) asked r).0 h in
+    (omega (arith, ap length k.0), k.1)
 
 module _ (p : Program) (n : ℕ) (typed : IsProgram p n) where
   -- the value that a system call gives
@@ -167,45 +149,36 @@ module _ (p : Program) (n : ℕ) (typed : IsProgram p n) where
   AreChars o (v ∷ vs) = IsCell p o char v × AreChars o vs
 
   chars_from : (o : Objects) (all : List CType) (vs : List Value) (at k : ℕ) → AllZip (IsCell p o) all vs → ((j : ℕ) → j < k → slice_get all (at + j) ≡ Some char) → AreChars o (take k (drop at vs))
-  chars_from o [] [] zero zero z h = tt
   chars_from o [] [] zero (suc k) z h = tt
-  chars_from o [] [] (suc at) zero z h = tt
   chars_from o [] [] (suc at) (suc k) z h = tt
   chars_from o [] (v ∷ vs) at k z h = absurd z
   chars_from o (t ∷ ts) [] at k z h = absurd z
-  chars_from o (t ∷ ts) (v ∷ vs) zero zero z h = tt
   chars_from o (t ∷ ts) (v ∷ vs) zero (suc k) z h =
-      let first : 0 + 0 ≡ 0 = omega arith in
-      let got : Some t ≡ Some char = ap (λ i. slice_get (t ∷ ts) i) (sym first) ∙ h 0 (omega arith) in
+      let got = at_place (t ∷ ts) char (0 + 0) 0 (omega arith) (h 0 (omega arith)) in
       let same : t ≡ char = cc in
-      (subst (λ t. IsCell p o t v) same z.0, chars_from o ts vs zero k z.1 (λ j less. let e : suc (0 + j) ≡ 0 + suc j = omega arith in ap (λ i. slice_get (t ∷ ts) i) e ∙ h (suc j) (omega (arith, less))))
+      (subst (λ t. IsCell p o t v) same z.0, chars_from o ts vs zero k z.1 (λ j less. at_place (t ∷ ts) char (0 + suc j) (suc (0 + j)) (omega arith) (h (suc j) (omega (arith, less)))))
   chars_from o (t ∷ ts) (v ∷ vs) (suc at) k z h =
-      chars_from o ts vs at k z.1 (λ j less. let e : suc (at + j) ≡ suc at + j = omega arith in ap (λ i. slice_get (t ∷ ts) i) e ∙ h j less)
+      chars_from o ts vs at k z.1 (λ j less. at_place (t ∷ ts) char (suc at + j) (suc (at + j)) (omega arith) (h j less))
+  chars_from o all vs at k z h = tt
 
   one_of : (k j : ℕ) (t : CType) → j < k → slice_get (repeat k (t ∷ [])) j ≡ Some t
-  one_of zero j t h = absurd (omega (arith, h))
-  one_of (suc k) zero t h = refl
-  one_of (suc k) (suc j) t h = one_of k j t (omega (arith, h))
+  one_of k j t h = at_place (repeat k (t ∷ [])) t (j * 1 + 0) j (omega arith) (repeat_lies k j (t ∷ []) h 0 t refl)
 
   -- the cells from a pointer to chars on
   cells_right : (o : Objects) (q : Pointer) (k : ℕ) (m : Memory) (ob : Object) → IsPointer p.structs o char q → q.index + k ≤ q.elements → IsTypedMemory p o m → m q.name ≡ Some ob → AreChars o (cells_from q k ob)
   cells_right o q k m ob h room mem e =
       chars_from o h.all ob.cells (q.first + q.index * q.width) k (cells_there p n typed o m q.name h.all ob mem h.known e) (λ j less.
-      let wide : q.width ≡ 1 = h.wide in
-      let flat_at : q.first + (q.index + j) ≡ q.first + q.index * 1 + j = omega arith in
-      let moved : q.first + (q.index + j) ≡ q.first + q.index * q.width + j = flat_at ∙ ap (λ w. q.first + q.index * w + j) (sym wide) in
-      subst (λ i. slice_get (h.all) i ≡ Some char) moved (h.lies (q.index + j) char (one_of q.elements (q.index + j) char (omega (arith, less, room)))))
+      let flat_at : q.index * q.width ≡ q.index * 1 = ap (λ w. q.index * w) h.wide in
+      at_place h.all char (q.first + (q.index + j)) (q.first + q.index * q.width + j) (omega (arith, flat_at)) (h.lies (q.index + j) char (one_of q.elements (q.index + j) char (omega (arith, less, room)))))
 
   bytes_right : (o : Objects) (vs : List Value) → AreChars o vs → Right (λ bytes. Unit {0}) (bytes_in vs)
   bytes_right o [] h = tt
   bytes_right o (Indeterminate ∷ vs) h = (omega arith, omega arith)
-  bytes_right o (Int z ∷ vs) h = absurd (cc (h.0.0))
-  bytes_right o (Uint k ∷ vs) h = absurd (cc (h.0.0))
   bytes_right o (Char z ∷ vs) h = right_then {A = List ℕ} {B = List ℕ} (λ bytes. Unit {0}) (λ bytes. Unit {0}) (bytes_in vs) _ (bytes_right o vs h.1) (λ bytes u. tt)
-  bytes_right o (Uchar k ∷ vs) h = absurd (cc (h.0.0))
   bytes_right o (Null ∷ vs) h = absurd (cc (h.0.1))
   bytes_right o (Func f ∷ vs) h = absurd (cc (h.0.1))
   bytes_right o (At q ∷ vs) h = absurd (cc (h.0.1))
+  bytes_right o vs h = absurd (cc (h.0.0))
 
   abbrev AreCharsWhere : Objects → Option (List Value) → Type 0
   AreCharsWhere o None = Unit {0}
@@ -236,61 +209,25 @@ module _ (p : Program) (n : ℕ) (typed : IsProgram p n) where
 
   -- an argument of its kind
   argument_right : (o : Objects) (t : CType) (k : ArgKind) (v : Value) (m : Memory) → is_kind t k ≡ true → HasKind p o t v → IsTypedMemory p o m → Right (FitsArgument k) (argument m v)
-  argument_right o (integer i.Int) Signed Indeterminate m e h mem = absurd h
-  argument_right o (integer i.Int) Signed (Int z) m e h mem = h.1
-  argument_right o (integer i.Int) Signed (Uint k) m e h mem = absurd (cc (h.0))
-  argument_right o (integer i.Int) Signed (Char z) m e h mem = absurd (cc (h.0))
-  argument_right o (integer i.Int) Signed (Uchar k) m e h mem = absurd (cc (h.0))
-  argument_right o (integer i.Int) Signed Null m e h mem = absurd (cc (h.1))
-  argument_right o (integer i.Int) Signed (Func f) m e h mem = absurd (cc (h.1))
-  argument_right o (integer i.Int) Signed (At q) m e h mem = absurd (cc (h.1))
-  argument_right o (integer i.Uint) Unsigned Indeterminate m e h mem = absurd h
-  argument_right o (integer i.Uint) Unsigned (Int z) m e h mem = absurd (cc (h.0))
-  argument_right o (integer i.Uint) Unsigned (Uint k) m e h mem = unsigned_fits k h.1
-  argument_right o (integer i.Uint) Unsigned (Char z) m e h mem = absurd (cc (h.0))
-  argument_right o (integer i.Uint) Unsigned (Uchar k) m e h mem = absurd (cc (h.0))
-  argument_right o (integer i.Uint) Unsigned Null m e h mem = absurd (cc (h.1))
-  argument_right o (integer i.Uint) Unsigned (Func f) m e h mem = absurd (cc (h.1))
-  argument_right o (integer i.Uint) Unsigned (At q) m e h mem = absurd (cc (h.1))
-  argument_right o (pointer (integer i.Char)) Bytes Indeterminate m e h mem = absurd h
-  argument_right o (pointer (integer i.Char)) Bytes (Int z) m e h mem = absurd (cc (h.0))
-  argument_right o (pointer (integer i.Char)) Bytes (Uint k) m e h mem = absurd (cc (h.0))
-  argument_right o (pointer (integer i.Char)) Bytes (Char z) m e h mem = absurd (cc (h.0))
-  argument_right o (pointer (integer i.Char)) Bytes (Uchar k) m e h mem = absurd (cc (h.0))
-  argument_right o (pointer (integer i.Char)) Bytes Null m e h mem = (omega arith, omega arith)
-  argument_right o (pointer (integer i.Char)) Bytes (Func f) m e h mem = pointer_right p n typed o char (Func f) char_object h
-  argument_right o (pointer (integer i.Char)) Bytes (At q) m e h mem =
-      right_then {A = List ℕ} {B = Arg} (λ bytes. Unit {0}) (FitsArgument Bytes) (string m q) _ (string_right o q m (pointer_right p n typed o char (At q) char_object h) mem) (λ bytes u. refl)
+  argument_right o (integer i.Int) Signed v m e h mem = int_value p o (λ v. Right (FitsArgument Signed) (argument m v)) v h (λ z f. f)
+  argument_right o (integer i.Uint) Unsigned v m e h mem = uint_value p o (λ v. Right (FitsArgument Unsigned) (argument m v)) v h unsigned_fits
+  argument_right o (pointer (integer i.Char)) Bytes v m e h mem =
+      pointer_value p o char (λ v. Right (FitsArgument Bytes) (argument m v)) v h (omega arith, omega arith) (λ f h. pointer_right p n typed o char (Func f) char_object h) (λ q h. right_then {A = List ℕ} {B = Arg} (λ bytes. Unit {0}) (FitsArgument Bytes) (string m q) _ (string_right o q m (pointer_right p n typed o char (At q) char_object h) mem) (λ bytes u. refl))
   argument_right o _ _ v m e h mem = absurd (false≢true e)
 
   arguments_right : (o : Objects) (ts : CTypes) (ks : List ArgKind) (vs : List Value) (m : Memory) → are_kinds ts ks ≡ true → AllZip (HasKind p o) (list_of ts) vs → IsTypedMemory p o m → Right (λ xs. AllZip FitsArgument ks xs) (arguments m vs)
   arguments_right o no_types [] [] m e z mem = tt
-  arguments_right o no_types [] (v ∷ vs) m e z mem = absurd z
   arguments_right o no_types (k ∷ ks) vs m e z mem = absurd (false≢true e)
   arguments_right o (more_types t ts) [] vs m e z mem = absurd (false≢true e)
-  arguments_right o (more_types t ts) (k ∷ ks) [] m e z mem = absurd z
   arguments_right o (more_types t ts) (k ∷ ks) (v ∷ vs) m e z mem =
       right_then {A = Arg} {B = List Arg} (FitsArgument k) (λ xs. AllZip FitsArgument (k ∷ ks) xs) (argument m v) _ (argument_right o t k v m (and_left (is_kind t k) (are_kinds ts ks) e) z.0 mem) (λ x h. right_then {A = List Arg} {B = List Arg} (λ xs. AllZip FitsArgument ks xs) (λ xs. AllZip FitsArgument (k ∷ ks) xs) (arguments m vs) _ (arguments_right o ts ks vs m (and_right (is_kind t k) (are_kinds ts ks) e) z.1 mem) (λ xs g. (h, g)))
+  arguments_right o ts ks vs m e z mem = absurd z
 
   signed_right : (o : Objects) (v : Value) → HasKind p o int v → Right (λ z. FitsSigned w32 z) (number v)
-  signed_right o Indeterminate h = absurd h
-  signed_right o (Int z) h = h.1
-  signed_right o (Uint k) h = absurd (cc (h.0))
-  signed_right o (Char z) h = absurd (cc (h.0))
-  signed_right o (Uchar k) h = absurd (cc (h.0))
-  signed_right o Null h = absurd (cc (h.1))
-  signed_right o (Func f) h = absurd (cc (h.1))
-  signed_right o (At q) h = absurd (cc (h.1))
+  signed_right o v h = int_value p o (λ v. Right (λ z. FitsSigned w32 z) (number v)) v h (λ z f. f)
 
   size_right : (o : Objects) (v : Value) → HasKind p o unsigned_int v → Right (λ k. k < 4294967296) (size v)
-  size_right o Indeterminate h = absurd h
-  size_right o (Int z) h = absurd (cc (h.0))
-  size_right o (Uint k) h = h.1
-  size_right o (Char z) h = absurd (cc (h.0))
-  size_right o (Uchar k) h = absurd (cc (h.0))
-  size_right o Null h = absurd (cc (h.1))
-  size_right o (Func f) h = absurd (cc (h.1))
-  size_right o (At q) h = absurd (cc (h.1))
+  size_right o v h = uint_value p o (λ v. Right (λ k. k < 4294967296) (size v)) v h (λ k f. f)
 
   -- the buffer that read fills
   abbrev HasRoom : Objects → ℕ → Option Pointer → Type 0
@@ -298,20 +235,13 @@ module _ (p : Program) (n : ℕ) (typed : IsProgram p n) where
   HasRoom o asked (Some q) = IsPointer p.structs o char q × (q.index + asked ≤ q.elements)
 
   room_right : {A : Type 0} (ok : A → Type 0) (q : Pointer) (k : ℕ) (r : Answer A) → (q.index + k ≤ q.elements → Right {A = A} ok r) → Right {A = A} ok (has_room q k r)
-  room_right {A} ok q k r h = at (nat_le (q.index + k) q.elements) refl
-    where
-      at : (b : Bool) → nat_le (q.index + k) q.elements ≡ b → Right {A = A} ok (if b then r else undefined 12)
-      at true e = let less : q.index + k ≤ q.elements = grind (arith, nat_tests) in h less
-      at false e = (omega arith, omega arith)
+  room_right {A} ok q k r h =
+      tested_right {B = A} ok (nat_le (q.index + k) q.elements) r 12 (omega arith) (omega arith) (λ e. let less : q.index + k ≤ q.elements = grind (arith, nat_tests) in h less)
 
   room_for_right : (o : Objects) (v : Value) (k : ℕ) (m : Memory) → HasKind p o char_pointer v → Right (HasRoom o k) (room_for m v k)
   room_for_right o v zero m h = tt
   room_for_right o v (suc k) m h =
-      right_then {A = Pointer} {B = Option Pointer} (IsPointer p.structs o char) (HasRoom o (suc k)) (pointed v) _ (pointer_right p n typed o char v char_object h) (λ q i. there_right {B = Option Pointer} (HasRoom o (suc k)) (m q.name) _ (λ ob e. at q i ob ob.string))
-    where
-      at : (q : Pointer) → IsPointer p.structs o char q → (ob : Object) (b : Bool) → Right {A = Option Pointer} (HasRoom o (suc k)) (and_then (if b then undefined 10 else gives ob.cells) (λ cells. has_room q (suc k) (gives (Some q))))
-      at q i ob true = (omega arith, omega arith)
-      at q i ob false = room_right {A = Option Pointer} (HasRoom o (suc k)) q (suc k) (gives (Some q)) (λ less. (i, less))
+      right_then {A = Pointer} {B = Option Pointer} (IsPointer p.structs o char) (HasRoom o (suc k)) (pointed v) _ (pointer_right p n typed o char v char_object h) (λ q i. there_right {B = Option Pointer} (HasRoom o (suc k)) (m q.name) _ (λ ob e. writable_right {B = Option Pointer} (HasRoom o (suc k)) ob.string ob.cells _ (room_right {A = Option Pointer} (HasRoom o (suc k)) q (suc k) (gives (Some q)) (λ less. (i, less)))))
 
   buffer_right : (o : Objects) (v : Value) (k : ℕ) (m : Memory) → HasKind p o char_pointer v → IsTypedMemory p o m → Right (λ bytes. Unit {0}) (bytes_of_buffer m v k)
   buffer_right o v zero m h mem = tt
@@ -339,23 +269,19 @@ module _ (p : Program) (n : ℕ) (typed : IsProgram p n) where
         room = tt;
       })))
 
+  -- the operands of read and write
+  three : (o : Objects) (P : List Value → Type 0) (vs : List Value) → AllZip (HasKind p o) (int ∷ char_pointer ∷ unsigned_int ∷ []) vs → ((a b c : Value) → HasKind p o int a → HasKind p o char_pointer b → HasKind p o unsigned_int c → P (a ∷ b ∷ c ∷ [])) → P vs
+  three o P (a ∷ b ∷ c ∷ []) z k = k a b c z.0 z.1.0 z.1.1.0
+  three o P [] z k = absurd z
+  three o P (a ∷ []) z k = absurd z.1
+  three o P (a ∷ b ∷ []) z k = absurd z.1.1
+  three o P (a ∷ b ∷ c ∷ d ∷ vs) z k = absurd z.1.1.1
+
   request_right : (x : ℕ) (r : CType) (ts : CTypes) (o : Objects) (vs : List Value) (m : Memory) → slice_get sys_types x ≡ Some (function r ts) → AllZip (HasKind p o) (list_of ts) vs → IsTypedMemory p o m → Right (IsRequest x o) (request x m vs)
-  request_right zero r ts o vs m e z mem = at vs (subst (λ us. AllZip (HasKind p o) us vs) (sym (read_types r ts e)) z)
-    where
-      at : (vs : List Value) → AllZip (HasKind p o) (int ∷ char_pointer ∷ unsigned_int ∷ []) vs → Right (IsRequest 0 o) (request 0 m vs)
-      at [] z = absurd z
-      at (a ∷ []) z = absurd z.1
-      at (a ∷ b ∷ []) z = absurd z.1.1
-      at (a ∷ b ∷ c ∷ []) z = read_right o a b c m z.0 z.1.0 z.1.1.0
-      at (a ∷ b ∷ c ∷ d ∷ vs) z = absurd z.1.1.1
-  request_right (suc zero) r ts o vs m e z mem = at vs (subst (λ us. AllZip (HasKind p o) us vs) (sym (write_types r ts e)) z)
-    where
-      at : (vs : List Value) → AllZip (HasKind p o) (int ∷ char_pointer ∷ unsigned_int ∷ []) vs → Right (IsRequest 1 o) (request 1 m vs)
-      at [] z = absurd z
-      at (a ∷ []) z = absurd z.1
-      at (a ∷ b ∷ []) z = absurd z.1.1
-      at (a ∷ b ∷ c ∷ []) z = write_right o a b c m z.0 z.1.0 z.1.1.0 mem
-      at (a ∷ b ∷ c ∷ d ∷ vs) z = absurd z.1.1.1
+  request_right zero r ts o vs m e z mem =
+      three o (λ vs. Right (IsRequest 0 o) (request 0 m vs)) vs (subst (λ us. AllZip (HasKind p o) us vs) (sym (read_types r ts e)) z) (λ a b c h k l. read_right o a b c m h k l)
+  request_right (suc zero) r ts o vs m e z mem =
+      three o (λ vs. Right (IsRequest 1 o) (request 1 m vs)) vs (subst (λ us. AllZip (HasKind p o) us vs) (sym (write_types r ts e)) z) (λ a b c h k l. write_right o a b c m h k l mem)
   request_right (suc (suc x)) r ts o vs m e z mem =
       right_then {A = List Arg} {B = Request} (λ xs. AllZip FitsArgument (recorded_of (suc (suc x))) xs) (IsRequest (suc (suc x)) o) (arguments m vs) _ (arguments_right o ts (recorded_of (suc (suc x))) vs m (arguments_pass x r ts e) z mem) (λ xs h. record { arguments = h; room = tt })
 
@@ -375,8 +301,8 @@ module _ (p : Program) (n : ℕ) (typed : IsProgram p n) where
     where
       at : (b : Bool) → does_answer x q.asked a ≡ b → EndsTyped p {A = Value} (Gives p wanted r) o st.entries (if b then after (Sys x q.arguments a.value ∷ []) (remembered (filled_where q.buffer a.bytes st.memory) (result_value (result_of x) a.value) (with_records st rs)) else Stop (BadResult (suc st.taken)) [])
       at true d =
-          let fits = answers_fit x q.asked a d in
-          after_ends p {A = Value} (Gives p wanted r) o st.entries (Sys x q.arguments a.value ∷ []) _ (All-cons IsRecorded (Sys x q.arguments a.value) [] (h.arguments, fits) (All-nil IsRecorded)) (remembered_ends p {A = Value} (Gives p wanted r) o _ (result_value (result_of x) a.value) (with_records st rs) (filled_where_right o q.buffer q.asked a.bytes st.memory h.room (answers_short x q.asked a d) k.memory) (given_result o wanted r (result_of x) a.value (results_pass x r ts e) fits) k)
+          let right = answers_right x q.asked a d in
+          after_ends p {A = Value} (Gives p wanted r) o st.entries (Sys x q.arguments a.value ∷ []) _ (All-cons IsRecorded (Sys x q.arguments a.value) [] (h.arguments, right.1) (All-nil IsRecorded)) (remembered_ends p {A = Value} (Gives p wanted r) o _ (result_value (result_of x) a.value) (with_records st rs) (filled_where_right o q.buffer q.asked a.bytes st.memory h.room right.0 k.memory) (given_result o wanted r (result_of x) a.value (results_pass x r ts e) right.1) k)
       at false d = (omega arith, All-nil IsRecorded)
 
   exit_ends : (o : Objects) (start : ℕ) (ok : Objects → Value → Type 0) (xs : List Arg) → AllZip FitsArgument (recorded_of exit_call) xs → EndsTyped p {A = Value} ok o start (exit_with xs)

@@ -3,10 +3,11 @@ use Rattle.std.proofs.Common.{◌≡◌, ℕ, zero, suc, ◌+◌, ◌*◌, ◌<�
 use Rattle.std.specs.Int.{w32}
 use Rattle.std.proofs.lemmas.Int.{ints}
 use Rattle.std.proofs.lemmas.List.Elements.{All-head}
+use Rattle.std.proofs.lemmas.Slice.Zip.{AllZip-long}
 use Rattle.c_tree.specs.declared.value.ObjectName.{ObjectName}
 use Rattle.c_tree.specs.declared.value.Pointer.{Pointer}
 use Rattle.c_tree.specs.declared.value.Value.{Value}
-use Rattle.c_tree.specs.Tree.{CType, void, integer, pointer, array, struct, function, Program}
+use Rattle.c_tree.specs.Tree.{CType, integer, pointer, array, struct, Program}
 use Rattle.c_tree.specs.Layout.{Structs, repeat, flat, flat_all, cells, struct_cells}
 use Rattle.c_tree.specs.Functions.{int}
 use Rattle.c_tree.specs.Operands.{IsComplete, IsObject}
@@ -16,49 +17,36 @@ use Rattle.c_meaning.specs.Memory.{IsInside}
 use Rattle.c_meaning.specs.Memory.{Objects as Memory}
 use Rattle.c_meaning.specs.Pointers.{difference}
 use Rattle.c_meaning_laws.specs.StoreTyping.{HasKind, IsCell, IsTypedMemory}
-use Rattle.c_meaning_laws.proofs.Places.{length_repeat, lies_within, struct_is, zip_long}
+use Rattle.c_meaning_laws.proofs.Places.{length_repeat, lies_within, struct_is}
 use Rattle.c_meaning_laws.proofs.Steps.{Right, in_one_right, cells_there}
 
 times_more : (k c : ℕ) → 1 ≤ c → k ≤ k * c
 times_more zero c h = omega arith
-times_more (suc k) c h =
-    let e : suc k * c ≡ c + k * c = grind arith in
-    let l = times_more k c h in
-    omega (arith, e, l, h)
+times_more (suc k) c h = grind (arith, times_more k c h)
 
 module _ (structs : Structs) (are : AreStructs structs) where
-  some_cell : (t : CType) (r : ℕ) → IsBelow are.rank r t → ((s : ℕ) (ts : List CType) → are.rank s < r → slice_get structs s ≡ Some (Some ts) → 1 ≤ length (struct_cells structs s)) → IsComplete structs t → 1 ≤ cells structs t
-  some_cell void r b h c = absurd c
-  some_cell (integer i) r b h c = omega arith
-  some_cell (pointer t) r b h c = omega arith
-  some_cell (array t n) r b h c =
-      let one = some_cell t r b h c.1 in
+  some_cell : (B : CType → Type 0) → ((t : CType) (n : ℕ) → B (array t n) → B t) → ((s : ℕ) (ts : List CType) → B (struct s) → slice_get structs s ≡ Some (Some ts) → 1 ≤ length (struct_cells structs s)) → (t : CType) → B t → IsComplete structs t → 1 ≤ cells structs t
+  some_cell B a h (integer i) b c = omega arith
+  some_cell B a h (pointer t) b c = omega arith
+  some_cell B a h (array t n) b c =
+      let one = some_cell B a h t (a t n b) c.1 in
       let long : cells structs (array t n) ≡ n * cells structs t = length_repeat n (flat structs t) in
       let more = times_more n (cells structs t) one in
       omega (arith, long, more, c.0)
-  some_cell (struct s) r b h c = h s c.0 b c.1
-  some_cell (function r ts) d b h c = absurd c
+  some_cell B a h (struct s) b c = h s c.0 b c.1
+  some_cell B a h t b c = absurd c
 
   struct_some : (d s : ℕ) (ts : List CType) → are.rank s < d → slice_get structs s ≡ Some (Some ts) → 1 ≤ length (struct_cells structs s)
   struct_some zero s ts l e = absurd (omega (arith, l))
   struct_some (suc d) s [] l e = let m = are.members s [] e in absurd (omega (arith, m))
   struct_some (suc d) s (t ∷ ts) l e =
-      let one = some_cell t (are.rank s) (All-head (IsBelow are.rank (are.rank s)) t ts (are.below s (t ∷ ts) e)) (λ u us b k. struct_some d u us (omega (arith, b, l)) k) (All-head (IsComplete structs) t ts (are.complete s (t ∷ ts) e)) in
+      let one = some_cell (IsBelow are.rank (are.rank s)) (λ t n b. b) (λ u us b k. struct_some d u us (omega (arith, b, l)) k) t (All-head (IsBelow are.rank (are.rank s)) t ts (are.below s (t ∷ ts) e)) (All-head (IsComplete structs) t ts (are.complete s (t ∷ ts) e)) in
       let long = length-append (flat structs t) (flat_all structs ts) in
       let is : length (struct_cells structs s) ≡ length (flat structs t ++ flat_all structs ts) = ap (λ (xs : List CType). length xs) (struct_is structs are s (t ∷ ts) e) in
       omega (arith, one, long, is)
 
   pub has_cell : (t : CType) → IsComplete structs t → 1 ≤ cells structs t
-  has_cell void c = absurd c
-  has_cell (integer i) c = omega arith
-  has_cell (pointer t) c = omega arith
-  has_cell (array t n) c =
-      let one = has_cell t c.1 in
-      let long : cells structs (array t n) ≡ n * cells structs t = length_repeat n (flat structs t) in
-      let more = times_more n (cells structs t) one in
-      omega (arith, long, more, c.0)
-  has_cell (struct s) c = struct_some (suc (are.rank s)) s c.0 (omega arith) c.1
-  has_cell (function r ts) c = absurd c
+  has_cell t c = some_cell (λ t. Unit {0}) (λ t n b. tt) (λ s ts b e. struct_some (suc (are.rank s)) s ts (omega arith) e) t tt c
 
 module _ (p : Program) (n : ℕ) (typed : IsProgram p n) where
   -- the elements lie in the object
@@ -71,7 +59,7 @@ module _ (p : Program) (n : ℕ) (typed : IsProgram p n) where
 
   pub inside : (o : Objects) (m : Memory) (t : CType) (q : Pointer) → IsTypedMemory p o m → IsPointer p.structs o t q → 0 < q.elements * q.width → IsInside m q
   inside o m t q k h l ob e =
-      let long = zip_long (IsCell p o) h.all ob.cells (cells_there p n typed o m q.name h.all ob k h.known e) in
+      let long = AllZip-long (IsCell p o) h.all ob.cells (cells_there p n typed o m q.name h.all ob k h.known e) in
       let w = elements_within o t q h l in
       (omega (arith, long, w), h.within)
 

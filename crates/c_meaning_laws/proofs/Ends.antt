@@ -67,23 +67,18 @@ module _ (p : Program) where
   -- after the first of two statements
   pub exit_ends : (r : CType) (breaks continues : Bool) (o : Objects) (x : Exit) (st : State) (f : State → Result Exit) → IsExit p r breaks continues o x → IsTypedState p o st → EndsTyped p {A = Exit} (IsExit p r breaks continues) o st.entries (f st) → EndsTyped p {A = Exit} (IsExit p r breaks continues) o st.entries (on_exit x st f)
   exit_ends r breaks continues o on st f h k l = l
-  exit_ends r breaks continues o broken st f h k l = now {A = Exit} (IsExit p r breaks continues) o broken st h k
-  exit_ends r breaks continues o continued st f h k l = now {A = Exit} (IsExit p r breaks continues) o continued st h k
-  exit_ends r breaks continues o (returned None) st f h k l = now {A = Exit} (IsExit p r breaks continues) o (returned None) st h k
-  exit_ends r breaks continues o (returned (Some v)) st f h k l = now {A = Exit} (IsExit p r breaks continues) o (returned (Some v)) st h k
+  exit_ends r breaks continues o x st f h k l = now {A = Exit} (IsExit p r breaks continues) o x st h k
 
   -- after the body of a loop
   pub round_ends : (r : CType) (o : Objects) (x : Exit) (st : State) (f : State → Result Exit) → IsExit p r true true o x → IsTypedState p o st → EndsTyped p {A = Exit} (IsExit p r false false) o st.entries (f st) → EndsTyped p {A = Exit} (IsExit p r false false) o st.entries (on_round x st f)
-  round_ends r o on st f h k l = l
   round_ends r o broken st f h k l = now {A = Exit} (IsExit p r false false) o on st tt k
-  round_ends r o continued st f h k l = l
   round_ends r o (returned None) st f h k l = now {A = Exit} (IsExit p r false false) o (returned None) st tt k
   round_ends r o (returned (Some v)) st f h k l = now {A = Exit} (IsExit p r false false) o (returned (Some v)) st h k
+  round_ends r o x st f h k l = l
 
   -- what is left by neither break nor continue may stand anywhere
   pub looser : (r : CType) (breaks continues : Bool) (o : Objects) (x : Exit) → IsExit p r false false o x → IsExit p r breaks continues o x
-  looser r breaks continues o on h = tt
   looser r breaks continues o broken h = absurd (false≢true h)
   looser r breaks continues o continued h = absurd (false≢true h)
-  looser r breaks continues o (returned None) h = tt
   looser r breaks continues o (returned (Some v)) h = h
+  looser r breaks continues o x h = tt

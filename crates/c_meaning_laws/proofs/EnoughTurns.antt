@@ -4,9 +4,9 @@ use Rattle.dm_base.specs.declared.event.Event.TheVariants.{Pre, Post}
 use Rattle.dm_base.specs.declared.outcome.Outcome.TheVariants.{Turns}
 use Rattle.c_tree.specs.declared.value.Value.{Value}
 use Rattle.c_tree.specs.Tree.{CType, Function, Program, type_of}
-use Rattle.c_tree.specs.Tree.{Expr, constant, function_name, string_place, variable, dereference, load, address_of, decay, discard, field, unary_operation, conversion, arithmetic, comparison, pointer_add, pointer_diff, and, or, assign, update, conditional, comma, call, call_through}
+use Rattle.c_tree.specs.Tree.{Expr, dereference, load, address_of, decay, discard, field, unary_operation, conversion, arithmetic, comparison, pointer_add, pointer_diff, and, or, assign, update, conditional, comma, call, call_through}
 use Rattle.c_tree.specs.Tree.{Exprs, no_exprs, more_exprs, Maybe, absent, there, Inits, no_inits, more_inits}
-use Rattle.c_tree.specs.Tree.{Stmt, block, empty, evaluate, declare, if_else, while_loop, do_loop, for_loop, switch_on, break_off, continue_on, return_void, return_value, Stmts, no_stmts, more_stmts, Groups, no_groups, more_groups}
+use Rattle.c_tree.specs.Tree.{Stmt, block, evaluate, declare, if_else, while_loop, do_loop, for_loop, switch_on, return_value, Stmts, no_stmts, more_stmts, Groups, no_groups, more_groups}
 use Rattle.c_tree.specs.Functions.{defined}
 use Rattle.c_tree.specs.Operators.{convert, binary}
 use Rattle.c_tree.specs.Layout.{cells}
@@ -62,10 +62,6 @@ module _ (p : Program) (marks : Marks) (left : ℕ) where
 
       mutual
         eval_agree : (wanted : Bool) (e : Expr) (st : State) → st.turns ≤ left → Agree (eval p w marks fr wanted e st) (eval p v marks fr wanted e st)
-        eval_agree wanted (constant t x) st i = (refl, i)
-        eval_agree wanted (function_name t f) st i = (refl, i)
-        eval_agree wanted (string_place t k) st i = (refl, i)
-        eval_agree wanted (variable t s k) st i = (refl, i)
         eval_agree wanted (dereference t a) st i = one a st (λ s x. behind_of t s.memory x) (eval_agree true a st i)
         eval_agree wanted (load t a) st i = one a st (λ s x. load_place s.memory x) (eval_agree true a st i)
         eval_agree wanted (address_of t a) st i = eval_agree true a st i
@@ -94,6 +90,7 @@ module _ (p : Program) (marks : Marks) (left : ℕ) where
             then_agree left {A = List Value} {B = Value} (eval_all p w marks fr args st) (eval_all p v marks fr args st) _ _ (all_agrees args st i) (λ vs st i. instrumented_agree site (called p w (wants wanted t) f vs st) (called p v (wants wanted t) f vs st) (called_agree (wants wanted t) f vs st i))
         eval_agree wanted (call_through t site designator args) st i =
             then_agree left {A = Value} {B = Value} (eval p w marks fr true designator st) (eval p v marks fr true designator st) _ _ (eval_agree true designator st i) (λ x st i. then_agree left {A = List Value} {B = Value} (eval_all p w marks fr args st) (eval_all p v marks fr args st) _ _ (all_agrees args st i) (λ vs st i. instrumented_agree site _ _ (then_agree left {A = ℕ} {B = Value} (answered (callee x) st) (answered (callee x) st) (λ f st. called_through p w (wants wanted t) f vs st) (λ f st. called_through p v (wants wanted t) f vs st) (answered_agree left {A = ℕ} (callee x) st i) (λ f st i. through_agree (wants wanted t) f vs st i))))
+        eval_agree wanted e st i = (refl, i)
 
         each_agree : (wanted : Bool) (es : Exprs) (st : State) → st.turns ≤ left → Agree (eval_each p w marks fr wanted es st) (eval_each p v marks fr wanted es st)
         each_agree wanted no_exprs st i = (refl, tt)
@@ -133,7 +130,6 @@ module _ (p : Program) (marks : Marks) (left : ℕ) where
       mutual
         exec_agree : (s : Stmt) (st : State) → st.turns ≤ left → Agree (exec p w marks fr s st) (exec p v marks fr s st)
         exec_agree (block ss) st i = leaving_agree (declared_in ss) (exec_all p w marks fr ss st) (exec_all p v marks fr ss st) (stmts_agrees ss st i)
-        exec_agree empty st i = (refl, i)
         exec_agree (evaluate e) st i =
             then_agree left {A = Value} {B = Exit} (eval p w marks fr false e st) (eval p v marks fr false e st) _ _ (eval_agree false e st i) (λ x st i. (refl, i))
         exec_agree (declare x is) st i =
@@ -147,11 +143,9 @@ module _ (p : Program) (marks : Marks) (left : ℕ) where
             leaving_agree (declared_in first) _ _ (then_agree left {A = Exit} {B = Exit} (exec_all p w marks fr first st) (exec_all p v marks fr first st) _ _ (stmts_agrees first st i) (λ x st i. exit_agree left x st _ _ i (λ st i. goes.again fr _ st i)))
         exec_agree (switch_on e gs) st i =
             then_agree left {A = Value} {B = Exit} (eval p w marks fr true e st) (eval p v marks fr true e st) _ _ (eval_agree true e st i) (λ x st i. then_agree left {A = Exit} {B = Exit} (exec_from p w marks fr (selected x gs) gs st) (exec_from p v marks fr (selected x gs) gs st) _ _ (groups_agrees (selected x gs) gs st i) (λ x st i. (refl, i)))
-        exec_agree break_off st i = (refl, i)
-        exec_agree continue_on st i = (refl, i)
-        exec_agree return_void st i = (refl, i)
         exec_agree (return_value e) st i =
             then_agree left {A = Value} {B = Exit} (eval p w marks fr true e st) (eval p v marks fr true e st) _ _ (eval_agree true e st i) (λ x st i. (refl, i))
+        exec_agree s st i = (refl, i)
 
         stmts_agrees : (ss : Stmts) (st : State) → st.turns ≤ left → Agree (exec_all p w marks fr ss st) (exec_all p v marks fr ss st)
         stmts_agrees no_stmts st i = (refl, i)

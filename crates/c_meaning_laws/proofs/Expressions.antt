@@ -1,14 +1,13 @@
 -- Expressions do alike where memory has further objects.
-use Rattle.std.proofs.Common.{◌≡◌, ℕ, ◌+◌, ◌-◌, ◌<◌, nat_lt, if◌then◌else◌, Bool, true, false, List, [], ◌∷◌, ◌++◌, map, Some, slice_get, length, append_assoc, sym, ap, ◌∙◌, subst, refl, arith}
+use Rattle.std.proofs.Common.{◌≡◌, ℕ, ◌+◌, ◌-◌, if◌then◌else◌, Bool, true, false, List, [], ◌∷◌, ◌++◌, Some, slice_get, subst, refl, arith}
 use Rattle.std.specs.List.{AllZip}
-use Rattle.std.proofs.lemmas.Bool.Decides.{nat_tests}
 use Rattle.c_tree.specs.declared.value.Value.{Value}
 use Rattle.c_tree.specs.declared.value.Value.TheVariants.{Indeterminate, Func}
 use Rattle.c_tree.specs.Tree.{CType, pointer, function, CTypes, no_types, more_types, list_of, Function, Program, type_of}
 use Rattle.c_tree.specs.Tree.{Expr, constant, function_name, string_place, variable, dereference, load, address_of, decay, discard, field, unary_operation, conversion, arithmetic, comparison, pointer_add, pointer_diff, and, or, assign, update, conditional, comma, call, call_through}
 use Rattle.c_tree.specs.Layout.{cells}
 use Rattle.c_tree.specs.Tree.{Exprs, no_exprs, more_exprs}
-use Rattle.c_tree.specs.Functions.{sys_types, null_types, defined, type_of_defined, value_types, value_type, called_type}
+use Rattle.c_tree.specs.Functions.{sys_types, null_types, defined, value_types, value_type, called_type}
 use Rattle.c_tree.specs.Kinds.{Objects}
 use Rattle.c_tree.specs.Operators.{Answer, gives, undefined, convert, binary}
 use Rattle.c_tree.specs.Program.{IsProgram}
@@ -22,7 +21,7 @@ use Rattle.c_meaning_laws.specs.StoreTyping.{HasKind, IsPlaced, Grows, TellsOfSt
 use Rattle.c_meaning_laws.specs.TypedResults.{Gives, GiveAll, StandsIn, IsTypedWorld, AreRecorded}
 use Rattle.c_meaning_laws.proofs.Places.{get_left, grows_on, carry}
 use Rattle.c_meaning_laws.proofs.Steps.{Right, IsCallee, callee_right, load_place_right, update_scalar}
-use Rattle.c_meaning_laws.proofs.Keeps.{Holds, stands_on, arguments_kind, value_ends, where_ends, all_end, condition_tested}
+use Rattle.c_meaning_laws.proofs.Keeps.{by_definition, whole_types, Holds, stands_on, arguments_kind, value_ends, where_ends, all_end, condition_tested}
 use Rattle.c_meaning_laws.proofs.Standing.{left_part, right_part}
 use Rattle.c_meaning_laws.proofs.FurtherSteps.{Sees, test_same, behind_of_same, load_place_same, moving_same, difference_same, comparing_same, operated_same, updated_same}
 use Rattle.c_meaning_laws.proofs.Together.{Does, Shown, AllShown, sees, store_place_remembers, here, answered_does, remembered_does, Whenever, answered_then, either_does, instrumented_does, undefined_does, alone_does, Now, kind_shown, given_shown, place_shown, then_does}
@@ -44,33 +43,17 @@ module _ (known : Objects) (last : ℕ) (p : Program) (n : ℕ) (typed : IsProgr
 
   pub zip_shown : (o : Objects) (ts : List CType) (vs : List Value) (st : State) (more : Memory) → Now known last p o st more → AllZip (HasKind p o) ts vs → AllShown known last vs
   zip_shown o [] [] st more k z = tt
-  zip_shown o [] (v ∷ vs) st more k z = absurd z
-  zip_shown o (t ∷ ts) [] st more k z = absurd z
   zip_shown o (t ∷ ts) (v ∷ vs) st more k z = (kind_shown known last p o t v k.tells z.0, zip_shown o ts vs st more k z.1)
+  zip_shown o ts vs st more k z = absurd z
 
   module _ (w : World) (goes : IsTypedWorld p w) (enters : Enters w) where
     called_does : (wanted : Bool) (f : ℕ) (r : CType) (ts : CTypes) (vs : List Value) (o : Objects) (st : State) (more : Memory) → called_type p f ≡ Some (function r ts) → TellsOfStatics p o → AllZip (HasKind p o) (list_of ts) vs → Now known last p o st more → Does known last {A = Value} more (called p w (wants wanted r) f vs st) (called p w (wants wanted r) f vs (with_memory st more))
-    called_does wanted f r ts vs o st more e s z k = at (nat_lt f (defined p)) refl
-      where
-        whole : slice_get (map type_of_defined p.functions ++ (sys_types ++ null_types)) f ≡ Some (function r ts)
-        whole = ap (λ xs. slice_get xs f) (sym (append_assoc (map type_of_defined p.functions) sys_types null_types)) ∙ e
-
-        at : (b : Bool) → nat_lt f (defined p) ≡ b → Does known last {A = Value} more (if b then w.enter (wants wanted r) f vs st else call_undefined (f - defined p) vs st) (if b then w.enter (wants wanted r) f vs (with_memory st more) else call_undefined (f - defined p) vs (with_memory st more))
-        at true d =
-            let less : f < length p.functions = grind (arith, nat_tests) in
-            let g = defined_at p.functions (sys_types ++ null_types) f (function r ts) less whole in
-            enters (wants wanted r) f g.0 r ts vs o st more g.1 g.2 s z k
-        at false d = undefined_does known last (f - defined p) vs st more (zip_shown o (list_of ts) vs st more k z) k.beside
+    called_does wanted f r ts vs o st more e s z k =
+        by_definition p (λ b. Does known last {A = Value} more (if b then w.enter (wants wanted r) f vs st else call_undefined (f - defined p) vs st) (if b then w.enter (wants wanted r) f vs (with_memory st more) else call_undefined (f - defined p) vs (with_memory st more))) (sys_types ++ null_types) f (function r ts) (whole_types p f (function r ts) e) (λ g d q. enters (wants wanted r) f g r ts vs o st more d q s z k) (λ d. undefined_does known last (f - defined p) vs st more (zip_shown o (list_of ts) vs st more k z) k.beside)
 
     through_does : (wanted : Bool) (f : ℕ) (r : CType) (ts : CTypes) (vs : List Value) (o : Objects) (st : State) (more : Memory) → value_type p f ≡ Some (function r ts) → TellsOfStatics p o → AllZip (HasKind p o) (list_of ts) vs → Now known last p o st more → Does known last {A = Value} more (called_through p w (wants wanted r) f vs st) (called_through p w (wants wanted r) f vs (with_memory st more))
-    through_does wanted f r ts vs o st more e s z k = at (nat_lt f (defined p)) refl
-      where
-        at : (b : Bool) → nat_lt f (defined p) ≡ b → Does known last {A = Value} more (if b then w.enter (wants wanted r) f vs st else system_call_alone (f - defined p) vs st) (if b then w.enter (wants wanted r) f vs (with_memory st more) else system_call_alone (f - defined p) vs (with_memory st more))
-        at true d =
-            let less : f < length p.functions = grind (arith, nat_tests) in
-            let g = defined_at p.functions sys_types f (function r ts) less e in
-            enters (wants wanted r) f g.0 r ts vs o st more g.1 g.2 s z k
-        at false d = alone_does known last (f - defined p) vs st more (zip_shown o (list_of ts) vs st more k z) k.beside
+    through_does wanted f r ts vs o st more e s z k =
+        by_definition p (λ b. Does known last {A = Value} more (if b then w.enter (wants wanted r) f vs st else system_call_alone (f - defined p) vs st) (if b then w.enter (wants wanted r) f vs (with_memory st more) else system_call_alone (f - defined p) vs (with_memory st more))) sys_types f (function r ts) e (λ g d q. enters (wants wanted r) f g r ts vs o st more d q s z k) (λ d. alone_does known last (f - defined p) vs st more (zip_shown o (list_of ts) vs st more k z) k.beside)
 
     -- a call through a value
     callee_does : (wanted : Bool) (r : CType) (ts : CTypes) (v : Value) (vs : List Value) (o : Objects) (st : State) (more : Memory) → HasKind p o (pointer (function r ts)) v → TellsOfStatics p o → GiveAll p (list_of ts) o vs → Now known last p o st more → Does known last {A = Value} more (then_do (answered (callee v) st) (λ f st. called_through p w (wants wanted r) f vs st)) (then_do (answered (callee v) (with_memory st more)) (λ f st. called_through p w (wants wanted r) f vs st))
@@ -178,10 +161,9 @@ module _ (known : Objects) (last : ℕ) (p : Program) (n : ℕ) (typed : IsProgr
 
         pub all_do : (ts : CTypes) (es : Exprs) (o : Objects) (st : State) (more : Memory) → IsTypedFrame p o fr → AreArguments p fr.types ts es → StandsIn p (mentions_of_all es) → Now known last p o st more → Does known last {A = List Value} more (eval_all p w marks fr es st) (eval_all p w marks fr es (with_memory st more))
         all_do no_types no_exprs o st more s h m k = here known last {A = List Value} [] st more [] k.beside
-        all_do no_types (more_exprs e es) o st more s h m k = absurd h
-        all_do (more_types t ts) no_exprs o st more s h m k = absurd h
         all_do (more_types t ts) (more_exprs e es) o st more s h m k =
             on_value {B = List Value} true e o st more _ _ s h.1 (left_part p (mentions e) (mentions_of_all es) m) k (value_does true e o st more s h.1 (left_part p (mentions e) (mentions_of_all es) m) k) (λ u v st l g i k. then_does known last p {A = List Value} {B = List Value} (GiveAll p (list_of ts)) u st l _ _ _ _ k (all_end p n typed marks recorded w goes fr ts es u st (on_frame o u g s) h.2 (right_part p (mentions e) (mentions_of_all es) m) k.state) (all_do ts es u st l (on_frame o u g s) h.2 (right_part p (mentions e) (mentions_of_all es) m) k) (λ u vs st l g z k. here known last {A = List Value} (v ∷ vs) st l [] k.beside))
+        all_do ts es o st more s h m k = absurd h
 
       -- a value that is tested
       pub tested_does : (e : Expr) (o : Objects) (st : State) (more : Memory) → IsTypedFrame p o fr → IsCondition p fr.types e → StandsIn p (mentions e) → Now known last p o st more → Does known last {A = Bool} more (tested (Runs true e st)) (tested (Runs true e (with_memory st more)))

@@ -53,10 +53,9 @@ module _ (known : Objects) (last : ℕ) where
 
   pub result_does : (is_main wanted : Bool) (x : Exit) (st : State) (more : Memory) → TypedAlike known last st.memory more → Does known last {A = Value} more (result_of is_main wanted x st) (result_of is_main wanted x (with_memory st more))
   result_does is_main wanted (returned (Some v)) st more b = here known last {A = Value} v st more [] b
-  result_does is_main wanted (returned None) st more b = without_value_does is_main wanted st more b
-  result_does is_main wanted on st more b = without_value_does is_main wanted st more b
   result_does is_main wanted broken st more b = refl
   result_does is_main wanted continued st more b = refl
+  result_does is_main wanted x st more b = without_value_does is_main wanted st more b
 
 module _ (known : Objects) (last : ℕ) (p : Program) (n : ℕ) (typed : IsProgram p n) (marks : Marks) (recorded : AreRecorded marks) where
   module _ (w : World) (goes : IsTypedWorld p w) (enters : Enters known last p n typed marks recorded w) (agains : Agains known last p n typed marks recorded w) where

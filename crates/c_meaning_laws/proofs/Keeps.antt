@@ -10,22 +10,23 @@ use Rattle.dm_base.specs.declared.outcome.Outcome.TheVariants.{Undefined}
 use Rattle.c_meaning.specs.Table.{IsRecorded}
 use Rattle.c_tree.specs.declared.value.IntType.{IntType}
 use Rattle.c_tree.specs.declared.value.UnOp.{UnOp}
-use Rattle.c_tree.specs.declared.value.UnOp.TheVariants.{Minus, Complement, Not}
+use Rattle.c_tree.specs.declared.value.UnOp.TheVariants.{Not}
 use Rattle.c_tree.specs.declared.value.Value.{Value}
-use Rattle.c_tree.specs.declared.value.Value.TheVariants.{Indeterminate, Int, Uint, Char, Uchar, Null, Func, At}
-use Rattle.c_tree.specs.Tree.{CType, void, integer, pointer, array, struct, function, CTypes, no_types, more_types, list_of, Function, Static, Program, type_of}
+use Rattle.c_tree.specs.declared.value.Value.TheVariants.{Indeterminate, Func}
+use Rattle.c_tree.specs.Tree.{CType, void, integer, pointer, function, CTypes, no_types, more_types, list_of, Function, Program, type_of}
 use Rattle.c_tree.specs.Tree.{Expr, constant, function_name, string_place, variable, dereference, load, address_of, decay, discard, field, unary_operation, conversion, arithmetic, comparison, pointer_add, pointer_diff, and, or, assign, update, conditional, comma, call, call_through}
 use Rattle.c_tree.specs.Tree.{Exprs, no_exprs, more_exprs, Maybe, absent, there, Inits, no_inits, more_inits}
 use Rattle.c_tree.specs.Tree.{Stmt, block, empty, evaluate, declare, if_else, while_loop, do_loop, for_loop, switch_on, break_off, continue_on, return_void, return_value, Stmts, no_stmts, more_stmts, Groups, no_groups, more_groups}
-use Rattle.c_tree.specs.Layout.{repeat, flat, cells}
+use Rattle.c_tree.specs.Layout.{flat, cells}
 use Rattle.c_tree.specs.Functions.{int, unsigned_int, sys_types, null_types, defined, type_of_defined, value_types, value_type, called_type}
-use Rattle.c_tree.specs.Operands.{IsScalar, IsObject, OperatorKind, balanced, shift, ordering, equality, kind_of, FitsUnary, AreComparable, FitsPointerAdd}
-use Rattle.c_tree.specs.Kinds.{Objects, IsPointer}
+use Rattle.c_tree.specs.Operands.{IsScalar, IsObject, OperatorKind, ordering, equality, kind_of, FitsUnary, AreComparable, FitsPointerAdd}
+use Rattle.c_tree.specs.Kinds.{Objects, Lies, IsPointer}
 use Rattle.c_tree.specs.Operators.{Answer, gives, undefined, convert, binary}
 use Rattle.c_tree.specs.Program.{IsStatic, IsProgram}
 use Rattle.c_tree.specs.Typed.{IsStaticOf, IsVariableOf, IsValue, IsPlace, AreMembers, AreArguments, IsCondition, IsTest, IsStep, AreInits, IsDeclare, IsFirst, AreFirst, IsStmt, AreStmts, AreGroups}
 use Rattle.c_meaning.specs.Memory.{declared}
 use Rattle.c_meaning.specs.Memory.{Objects as Memory}
+use Rattle.c_shapes.proofs.Members.{below, is_below, not_below, length_map}
 use Rattle.c_shapes.specs.Mentions.{Calls, Direct, Through, mentions, mentions_of_all, mentions_of_maybe, mentions_of_inits, mentions_of_stmt, mentions_of_stmts, mentions_of_groups}
 use Rattle.c_meaning.specs.Meaning.{Marks, Frame, World, either, static_name, name_in, behind_of, decayed, operated, comparing, moving, updated, with_marks, wants, null_call, call_undefined, called, system_call_alone, called_through, tested, eval, eval_each, eval_all, condition, perhaps, initialise, fresh, declared_in, without, leaving, selected, exec, exec_all, exec_from}
 use Rattle.c_meaning.specs.Pointers.{callee, truth_value, place, load_place, store_place, member, difference, test}
@@ -33,27 +34,33 @@ use Rattle.c_meaning.specs.Results.{remembered, State, with_memory, Result, Go, 
 use Rattle.c_meaning.specs.SystemCalls.{system_call}
 use Rattle.c_meaning_laws.specs.StoreTyping.{HasKind, IsPlaced, IsTypedMemory, IsTypedState, Grows, TellsOfStatics, IsTypedFrame}
 use Rattle.c_meaning_laws.specs.TypedResults.{EndsTyped, Gives, GiveAll, IsExit, StandsIn, IsTypedWorld, AreRecorded}
-use Rattle.c_meaning_laws.proofs.Places.{flat_scalar, get_left, get_right, get_before, lies_whole, scalar_object, grows_on, carry, carry_place, kind_given, carry_given, blank, memory_changed, memory_ended}
+use Rattle.c_meaning_laws.proofs.Places.{all_get, at_place, uint_value, flat_one, lies_once, flat_scalar, get_left, get_right, get_before, lies_whole, scalar_object, grows_on, carry, carry_place, kind_given, carry_given, blank, memory_changed, memory_ended}
 use Rattle.c_meaning_laws.proofs.Steps.{Right, truth_kind, update_right_scalar, function_parts, value_takes, scalars_of, convert_right, binary_right, behind_of_right, IsCallee, callee_right, load_place_right, store_right, store_place_right, field_right, address_is, decayed_right, moving_right, operated_right, comparing_right, test_right, updated_right, update_scalar, of_constant}
 use Rattle.c_meaning_laws.proofs.Differences.{difference_right}
 use Rattle.c_meaning_laws.proofs.Ends.{now, now_after, after_ends, then_ends, at_once, weaker, answered_ends, remembered_ends, either_ends, exit_ends, round_ends, looser}
 use Rattle.c_meaning_laws.proofs.Calls.{system_call_ends}
 use Rattle.c_meaning_laws.proofs.Standing.{taken_there, left_part, right_part, stands_empty}
 
--- a call of a function that is defined, or of another
 pub defined_at : (fs : List Function) (xs : List CType) (f : ℕ) (t : CType) → f < length fs → slice_get (map type_of_defined fs ++ xs) f ≡ Some t → (g : Function) × (slice_get fs f ≡ Some g) × (g.ctype ≡ t)
 defined_at [] xs f t h e = absurd (omega (arith, h))
 defined_at (g ∷ fs) xs zero t h e = let same : g.ctype ≡ t = cc in (g, refl, same)
 defined_at (g ∷ fs) xs (suc f) t h e = defined_at fs xs f t (omega (arith, h)) e
 
 pub undefined_at : (fs : List Function) (xs : List CType) (f : ℕ) (t : CType) → length fs ≤ f → slice_get (map type_of_defined fs ++ xs) f ≡ Some t → slice_get xs (f - length fs) ≡ Some t
-undefined_at [] xs f t h e = let s : f ≡ f - 0 = omega arith in subst (λ k. slice_get xs k ≡ Some t) s e
-undefined_at (g ∷ fs) xs zero t h e = absurd (omega (arith, h))
-undefined_at (g ∷ fs) xs (suc f) t h e =
-    let s : f - length fs ≡ suc f - length (g ∷ fs) = omega arith in
-    subst (λ k. slice_get xs k ≡ Some t) s (undefined_at fs xs f t (omega (arith, h)) e)
+undefined_at fs xs f t h e = grind (arith, get_right (map type_of_defined fs) xs (f - length fs), length_map type_of_defined fs)
 
-sys_many : length sys_types ≡ 24
+-- a call of a function that is defined, or of another
+pub by_definition : (p : Program) (P : Bool → Type 0) (xs : List CType) (f : ℕ) (t : CType) → slice_get (map type_of_defined p.functions ++ xs) f ≡ Some t → ((g : Function) → slice_get p.functions f ≡ Some g → g.ctype ≡ t → P true) → (slice_get xs (f - defined p) ≡ Some t → P false) → P (nat_lt f (defined p))
+by_definition p P xs f t e here past = at (nat_lt f (defined p)) refl
+  where
+    at : (b : Bool) → nat_lt f (defined p) ≡ b → P b
+    at true d = let g = defined_at p.functions xs f t (below f (defined p) d) e in here g.0 g.1 g.2
+    at false d = past (undefined_at p.functions xs f t (not_below f (defined p) d) e)
+
+pub whole_types : (p : Program) (f : ℕ) (t : CType) → called_type p f ≡ Some t → slice_get (map type_of_defined p.functions ++ (sys_types ++ null_types)) f ≡ Some t
+whole_types p f t e = ap (λ xs. slice_get xs f) (sym (append_assoc (map type_of_defined p.functions) sys_types null_types)) ∙ e
+
+pub sys_many : length sys_types ≡ 24
 unfolding sys_types
 sys_many = refl
 
@@ -61,9 +68,7 @@ sys_before : (x : ℕ) → x < 24 → slice_get (sys_types ++ null_types) x ≡ 
 sys_before x h = get_before sys_types null_types x (subst (λ m. x < m) (sym sys_many) h)
 
 null_at : (x : ℕ) → 24 ≤ x → slice_get (sys_types ++ null_types) x ≡ slice_get null_types (x - 24)
-null_at x h =
-    let s : x ≡ 24 + (x - 24) = omega (arith, h) in
-    ap (λ k. slice_get (sys_types ++ null_types) k) (s ∙ ap (λ m. m + (x - 24)) (sym sys_many)) ∙ get_right sys_types null_types (x - 24)
+null_at x h = grind (arith, get_right sys_types null_types (x - 24), sys_many)
 
 abbrev parameters_in : Option CType → List CType
 parameters_in (Some (function r ts)) = list_of ts
@@ -74,9 +79,8 @@ result_in (Some (function r ts)) = r
 result_in _ = int
 
 null_type : (x : ℕ) (r : CType) (ts : CTypes) → slice_get null_types x ≡ Some (function r ts) → (unsigned_int ∷ [] ≡ list_of ts) × (void ≡ r)
-null_type zero r ts e = (ap parameters_in e, ap result_in e)
-null_type (suc zero) r ts e = (ap parameters_in e, ap result_in e)
 null_type (suc (suc x)) r ts e = absurd (cc)
+null_type x r ts e = (ap parameters_in e, ap result_in e)
 
 module _ (p : Program) (n : ℕ) (typed : IsProgram p n) (marks : Marks) (recorded : AreRecorded marks) where
   abbrev Kind : CType → Objects → Value → Type 0
@@ -90,12 +94,9 @@ module _ (p : Program) (n : ℕ) (typed : IsProgram p n) (marks : Marks) (record
 
   -- an operand of scalar type gives a value
   pub scalar_kind : (t : CType) (o : Objects) (v : Value) → IsScalar t → Gives p true t o v → HasKind p o t v
-  scalar_kind void o v b h = absurd b
   scalar_kind (integer k) o v b h = h
   scalar_kind (pointer t) o v b h = h
-  scalar_kind (array t k) o v b h = absurd b
-  scalar_kind (struct s) o v b h = absurd b
-  scalar_kind (function r ts) o v b h = absurd b
+  scalar_kind t o v b h = absurd b
 
   pub operand : (t u : CType) (o : Objects) (start : ℕ) (r : Result Value) → t ≡ u → IsScalar u → EndsTyped p {A = Value} (Gives p true t) o start r → EndsTyped p {A = Value} (Kind u) o start r
   operand t u o start r e b h = weaker p {A = Value} (Gives p true t) (Kind u) o _ r (λ o v g. scalar_kind u o v b (subst (λ t. Gives p true t o v) e g)) h
@@ -106,11 +107,7 @@ module _ (p : Program) (n : ℕ) (typed : IsProgram p n) (marks : Marks) (record
   -- what is given where a value is wanted may be given anywhere
   any_given : (wanted : Bool) (t : CType) (o : Objects) (v : Value) → Gives p true t o v → Gives p wanted t o v
   any_given wanted void o v h = h
-  any_given wanted (integer k) o v h = kind_given p o wanted (integer k) v h
-  any_given wanted (pointer t) o v h = kind_given p o wanted (pointer t) v h
-  any_given wanted (array t k) o v h = kind_given p o wanted (array t k) v h
-  any_given wanted (struct s) o v h = kind_given p o wanted (struct s) v h
-  any_given wanted (function r ts) o v h = kind_given p o wanted (function r ts) v h
+  any_given wanted t o v h = kind_given p o wanted t v h
 
   -- one operand, which is of this kind
   pub one_ends : (ok : Objects → Value → Type 0) (t : CType) (wanted : Bool) (o : Objects) (start : ℕ) (r : Result Value) (f : State → Value → Answer Value) → EndsTyped p {A = Value} ok o start r → ((o : Objects) (v : Value) (st : State) → ok o v → IsTypedState p o st → Right {A = Value} (Kind t o) (f st v)) → EndsTyped p {A = Value} (Gives p wanted t) o start (then_do r (λ v st. answered (f st v) st))
@@ -151,9 +148,8 @@ module _ (p : Program) (n : ℕ) (typed : IsProgram p n) (marks : Marks) (record
     where
       all : (us : List CType) (vs : List Value) → All IsScalar us → GiveAll p us o vs → AllZip (HasKind p o) us vs
       all [] [] b z = tt
-      all [] (v ∷ vs) b z = absurd z
-      all (u ∷ us) [] b z = absurd z
       all (u ∷ us) (v ∷ vs) b z = (scalar_kind u o v (All-head IsScalar u us b) z.0, all us vs (All-tail IsScalar u us b) z.1)
+      all us vs b z = absurd z
 
   -- a null call
   null_ends : (event : ℕ → Event) (r : CType) (ts : CTypes) (wanted : Bool) (vs : List Value) (o : Objects) (st : State) → ((s : ℕ) → IsRecorded (event s)) → unsigned_int ∷ [] ≡ list_of ts → void ≡ r → AllZip (HasKind p o) (list_of ts) vs → IsTypedState p o st → EndsTyped p {A = Value} (Gives p wanted r) o st.entries (null_call event vs st)
@@ -161,15 +157,8 @@ module _ (p : Program) (n : ℕ) (typed : IsProgram p n) (marks : Marks) (record
     where
       at : (vs : List Value) → AllZip (HasKind p o) (unsigned_int ∷ []) vs → EndsTyped p {A = Value} (Gives p wanted r) o st.entries (null_call event vs st)
       at [] z = absurd z
-      at (Uint s ∷ []) z =
-          subst (λ r. EndsTyped p {A = Value} (Gives p wanted r) o st.entries (Go Indeterminate st (event s ∷ []))) d (now_after p {A = Value} (Gives p wanted void) o Indeterminate st (event s ∷ []) tt k (All-cons IsRecorded (event s) [] (rec s) (All-nil IsRecorded)))
-      at (Indeterminate ∷ []) z = absurd z.0
-      at (Int s ∷ []) z = absurd (cc (z.0.0))
-      at (Char s ∷ []) z = absurd (cc (z.0.0))
-      at (Uchar s ∷ []) z = absurd (cc (z.0.0))
-      at (Null ∷ []) z = absurd (cc (z.0.1))
-      at (Func s ∷ []) z = absurd (cc (z.0.1))
-      at (At s ∷ []) z = absurd (cc (z.0.1))
+      at (v ∷ []) z =
+          uint_value p o (λ v. EndsTyped p {A = Value} (Gives p wanted r) o st.entries (null_call event (v ∷ []) st)) v z.0 (λ s f. subst (λ r. EndsTyped p {A = Value} (Gives p wanted r) o st.entries (Go Indeterminate st (event s ∷ []))) d (now_after p {A = Value} (Gives p wanted void) o Indeterminate st (event s ∷ []) tt k (All-cons IsRecorded (event s) [] (rec s) (All-nil IsRecorded))))
       at (v ∷ w ∷ vs) z = absurd z.1
 
   -- a function that has no definition
@@ -181,14 +170,9 @@ module _ (p : Program) (n : ℕ) (typed : IsProgram p n) (marks : Marks) (record
           let t = null_type (x - 24) r ts (sym (null_at x h) ∙ e) in
           null_ends Post r ts wanted vs o st (λ s. tt) t.0 t.1 z k
       last false d h f =
+          let short : x - 24 < 2 = slice_get_within null_types (x - 24) (function r ts) (sym (null_at x h) ∙ e) in
           let far : 2 ≤ x - 24 = grind (arith, nat_tests) in
-          let past : (j : ℕ) → 2 ≤ j → slice_get null_types j ≡ Some (function r ts) → ⊥ = beyond in
-          absurd (past (x - 24) far (sym (null_at x h) ∙ e))
-        where
-          beyond : (j : ℕ) → 2 ≤ j → slice_get null_types j ≡ Some (function r ts) → ⊥
-          beyond zero l e = omega (arith, l)
-          beyond (suc zero) l e = omega (arith, l)
-          beyond (suc (suc j)) l e = cc
+          absurd (omega (arith, short, far))
 
       middle : (b : Bool) → nat_eq x 24 ≡ b → 24 ≤ x → EndsTyped p {A = Value} (Gives p wanted r) o st.entries (if b then null_call Pre vs st else (if nat_eq x 25 then null_call Post vs st else Stop (Undefined 13) []))
       middle true d h =
@@ -197,48 +181,22 @@ module _ (p : Program) (n : ℕ) (typed : IsProgram p n) (marks : Marks) (record
       middle false d h = last (nat_eq x 25) refl h d
 
       at : (b : Bool) → nat_lt x 24 ≡ b → EndsTyped p {A = Value} (Gives p wanted r) o st.entries (if b then system_call x vs st else (if nat_eq x 24 then null_call Pre vs st else (if nat_eq x 25 then null_call Post vs st else Stop (Undefined 13) [])))
-      at true d =
-          let less : x < 24 = grind (arith, nat_tests) in
-          system_call_ends p n typed x r ts o wanted vs st (sym (sys_before x less) ∙ e) z k
-      at false d = let more : 24 ≤ x = grind (arith, nat_tests) in middle (nat_eq x 24) refl more
+      at true d = system_call_ends p n typed x r ts o wanted vs st (sym (sys_before x (below x 24 d)) ∙ e) z k
+      at false d = middle (nat_eq x 24) refl (not_below x 24 d)
 
   -- a system call through a pointer
   alone_ends : (x : ℕ) (r : CType) (ts : CTypes) (wanted : Bool) (vs : List Value) (o : Objects) (st : State) → slice_get sys_types x ≡ Some (function r ts) → AllZip (HasKind p o) (list_of ts) vs → IsTypedState p o st → EndsTyped p {A = Value} (Gives p wanted r) o st.entries (system_call_alone x vs st)
-  alone_ends x r ts wanted vs o st e z k = at (nat_lt x 24) refl
-    where
-      at : (b : Bool) → nat_lt x 24 ≡ b → EndsTyped p {A = Value} (Gives p wanted r) o st.entries (if b then system_call x vs st else Stop (Undefined 13) [])
-      at true d = system_call_ends p n typed x r ts o wanted vs st e z k
-      at false d =
-          let within : x < 24 = subst (λ m. x < m) sys_many (slice_get_within sys_types x (function r ts) e) in
-          absurd (grind (arith, nat_tests))
+  alone_ends x r ts wanted vs o st e z k =
+      subst (λ b. EndsTyped p {A = Value} (Gives p wanted r) o st.entries (if b then system_call x vs st else Stop (Undefined 13) [])) (sym (is_below x 24 (subst (λ m. x < m) sys_many (slice_get_within sys_types x (function r ts) e)))) (system_call_ends p n typed x r ts o wanted vs st e z k)
 
   module _ (w : World) (goes : IsTypedWorld p w) where
     pub called_ends : (wanted : Bool) (f : ℕ) (r : CType) (ts : CTypes) (vs : List Value) (o : Objects) (st : State) → called_type p f ≡ Some (function r ts) → TellsOfStatics p o → AllZip (HasKind p o) (list_of ts) vs → IsTypedState p o st → EndsTyped p {A = Value} (Gives p wanted r) o st.entries (called p w (wants wanted r) f vs st)
-    called_ends wanted f r ts vs o st e s z k = at (nat_lt f (defined p)) refl
-      where
-        whole : slice_get (map type_of_defined p.functions ++ (sys_types ++ null_types)) f ≡ Some (function r ts)
-        whole = ap (λ xs. slice_get xs f) (sym (append_assoc (map type_of_defined p.functions) sys_types null_types)) ∙ e
-
-        at : (b : Bool) → nat_lt f (defined p) ≡ b → EndsTyped p {A = Value} (Gives p wanted r) o st.entries (if b then w.enter (wants wanted r) f vs st else call_undefined (f - defined p) vs st)
-        at true d =
-            let less : f < length p.functions = grind (arith, nat_tests) in
-            let g = defined_at p.functions (sys_types ++ null_types) f (function r ts) less whole in
-            goes.enter (wants wanted r) f g.0 r ts vs o st g.1 g.2 s z k
-        at false d =
-            let more : length p.functions ≤ f = grind (arith, nat_tests) in
-            undefined_ends (f - defined p) r ts wanted vs o st (undefined_at p.functions (sys_types ++ null_types) f (function r ts) more whole) z k
+    called_ends wanted f r ts vs o st e s z k =
+        by_definition p (λ b. EndsTyped p {A = Value} (Gives p wanted r) o st.entries (if b then w.enter (wants wanted r) f vs st else call_undefined (f - defined p) vs st)) (sys_types ++ null_types) f (function r ts) (whole_types p f (function r ts) e) (λ g d q. goes.enter (wants wanted r) f g r ts vs o st d q s z k) (λ d. undefined_ends (f - defined p) r ts wanted vs o st d z k)
 
     pub through_ends : (wanted : Bool) (f : ℕ) (r : CType) (ts : CTypes) (vs : List Value) (o : Objects) (st : State) → value_type p f ≡ Some (function r ts) → TellsOfStatics p o → AllZip (HasKind p o) (list_of ts) vs → IsTypedState p o st → EndsTyped p {A = Value} (Gives p wanted r) o st.entries (called_through p w (wants wanted r) f vs st)
-    through_ends wanted f r ts vs o st e s z k = at (nat_lt f (defined p)) refl
-      where
-        at : (b : Bool) → nat_lt f (defined p) ≡ b → EndsTyped p {A = Value} (Gives p wanted r) o st.entries (if b then w.enter (wants wanted r) f vs st else system_call_alone (f - defined p) vs st)
-        at true d =
-            let less : f < length p.functions = grind (arith, nat_tests) in
-            let g = defined_at p.functions sys_types f (function r ts) less e in
-            goes.enter (wants wanted r) f g.0 r ts vs o st g.1 g.2 s z k
-        at false d =
-            let more : length p.functions ≤ f = grind (arith, nat_tests) in
-            alone_ends (f - defined p) r ts wanted vs o st (undefined_at p.functions sys_types f (function r ts) more e) z k
+    through_ends wanted f r ts vs o st e s z k =
+        by_definition p (λ b. EndsTyped p {A = Value} (Gives p wanted r) o st.entries (if b then w.enter (wants wanted r) f vs st else system_call_alone (f - defined p) vs st)) sys_types f (function r ts) e (λ g d q. goes.enter (wants wanted r) f g r ts vs o st d q s z k) (λ d. alone_ends (f - defined p) r ts wanted vs o st d z k)
 
     -- a call through a value
     pub callee_ends : (wanted : Bool) (r : CType) (ts : CTypes) (v : Value) (vs : List Value) (o : Objects) (st : State) → HasKind p o (pointer (function r ts)) v → TellsOfStatics p o → GiveAll p (list_of ts) o vs → IsTypedState p o st → EndsTyped p {A = Value} (Gives p wanted r) o st.entries (then_do (answered (callee v) st) (λ f st. called_through p w (wants wanted r) f vs st))
@@ -250,17 +208,15 @@ module _ (p : Program) (n : ℕ) (typed : IsProgram p n) (marks : Marks) (record
         at (undefined kind) h = (h, All-nil IsRecorded)
 
     unary_scalar : (op : UnOp) (t u : CType) → FitsUnary op t u → IsScalar u
-    unary_scalar Minus t u f = subst IsScalar (sym f.2) tt
-    unary_scalar Complement t u f = subst IsScalar (sym f.2) tt
     unary_scalar Not t u f = f.1
+    unary_scalar op t u f = subst IsScalar (sym f.2) tt
 
     comparable_scalar : (c : OperatorKind) (u : CType) → AreComparable p.structs c u → IsScalar u
-    comparable_scalar balanced u f = absurd f
-    comparable_scalar shift u f = absurd f
     comparable_scalar ordering u (inl f) = subst IsScalar (sym f.1) tt
     comparable_scalar ordering u (inr f) = subst IsScalar (sym f.1) tt
     comparable_scalar equality u (inl f) = subst IsScalar (sym f.1) tt
     comparable_scalar equality u (inr f) = subst IsScalar (sym f.1) tt
+    comparable_scalar c u f = absurd f
 
     added_scalar : (first subtracted : Bool) (t u v : CType) → FitsPointerAdd p.structs first subtracted t u v → IsScalar u × IsScalar v
     added_scalar true subtracted t u v f = (subst IsScalar (sym (f.0 ∙ f.1.1)) tt, subst IsScalar (sym f.2.1) tt)
@@ -286,12 +242,7 @@ module _ (p : Program) (n : ℕ) (typed : IsProgram p n) (marks : Marks) (record
 
       static_told : (o : Objects) (string : Bool) (k : ℕ) (t : CType) → IsTypedFrame p o fr → IsStaticOf p string k t → IsObject p.structs t × (o (static_name k) ≡ Some (flat p.structs t))
       static_told o string k t s (a, e, f, d) =
-          (subst (IsObject p.structs) d (of_statics p.statics k typed.statics e), s.statics k a e ∙ ap (λ t. Some (flat p.structs t)) d)
-        where
-          of_statics : (ss : List Static) (k : ℕ) → All (IsStatic p) ss → slice_get ss k ≡ Some a → IsObject p.structs a.ctype
-          of_statics [] k h e = absurd (cc)
-          of_statics (s ∷ ss) zero h e = let same : s ≡ a = cc in subst (λ (s : Static). IsObject p.structs s.ctype) same (All-head (IsStatic p) s ss h).object
-          of_statics (s ∷ ss) (suc k) h e = of_statics ss k (All-tail (IsStatic p) s ss h) e
+          (subst (IsObject p.structs) d (all_get (IsStatic p) p.statics k a typed.statics e).object, s.statics k a e ∙ ap (λ t. Some (flat p.structs t)) d)
 
       variable_told : (o : Objects) (x : Bool) (k : ℕ) (t : CType) → IsTypedFrame p o fr → IsVariableOf p fr.types x k t → IsObject p.structs t × (o (name_in fr x k) ≡ Some (flat p.structs t))
       variable_told o true k t s h = static_told o false k t s h
@@ -366,10 +317,9 @@ module _ (p : Program) (n : ℕ) (typed : IsProgram p n) (marks : Marks) (record
 
         pub all_end : (ts : CTypes) (es : Exprs) (o : Objects) (st : State) → IsTypedFrame p o fr → AreArguments p fr.types ts es → StandsIn p (mentions_of_all es) → IsTypedState p o st → EndsTyped p {A = List Value} (GiveAll p (list_of ts)) o st.entries (eval_all p w marks fr es st)
         all_end no_types no_exprs o st s h m k = now p {A = List Value} (GiveAll p []) o [] st tt k
-        all_end no_types (more_exprs e es) o st s h m k = absurd h
-        all_end (more_types t ts) no_exprs o st s h m k = absurd h
         all_end (more_types t ts) (more_exprs e es) o st s h m k =
             then_ends p {A = Value} {B = List Value} (Gives p true (type_of e)) (GiveAll p (t ∷ list_of ts)) o _ _ _ (value_ends true e o st s h.1 (left_part p (mentions e) (mentions_of_all es) m) k) (λ o1 v st g i k. then_ends p {A = List Value} {B = List Value} (GiveAll p (list_of ts)) (GiveAll p (t ∷ list_of ts)) o1 _ _ _ (all_end ts es o1 st (stands_on o o1 fr g s) h.2 (right_part p (mentions e) (mentions_of_all es) m) k) (λ o2 vs st g' z k. now p {A = List Value} (GiveAll p (t ∷ list_of ts)) o2 (v ∷ vs) st (carry_given p o1 o2 (wants true t) t v g' (subst (λ t. Gives p true t o1 v) h.0 i), z) k))
+        all_end ts es o st s h m k = absurd h
 
       -- where a scalar is tested
       pub condition_tested : (e : Expr) (o : Objects) (st : State) → IsTypedFrame p o fr → IsCondition p fr.types e → StandsIn p (mentions e) → IsTypedState p o st → EndsTyped p {A = Bool} Holds o st.entries (tested (eval p w marks fr true e st))
@@ -391,32 +341,15 @@ module _ (p : Program) (n : ℕ) (typed : IsProgram p n) (marks : Marks) (record
         all = flat p.structs t;
         known = s.variables x t e;
         within = omega arith;
-        wide = sym (one_cell u b);
-        lies = one_lies u b refl;
+        wide = sym (ap length (flat_one p.structs u b));
+        lies = lies_once (flat p.structs t) (flat p.structs u) cell (subst (λ us. Lies (flat p.structs t) cell us) (sym (flat_one p.structs u b)) first_is);
       }
         where
-          one_cell : (u : CType) → IsScalar u → cells p.structs u ≡ 1
-          one_cell void b = absurd b
-          one_cell (integer i) b = refl
-          one_cell (pointer t) b = refl
-          one_cell (array t k) b = absurd b
-          one_cell (struct s) b = absurd b
-          one_cell (function r ts) b = absurd b
-
-          first_is : (k : ℕ) (z v : CType) → v ≡ u → slice_get (v ∷ []) k ≡ Some z → slice_get (flat p.structs t) (cell + k) ≡ Some z
-          first_is zero z v d g =
+          first_is : Lies (flat p.structs t) cell (u ∷ [])
+          first_is zero z g =
               let same : u ≡ z = cc in
-              let at : cell + 0 ≡ cell = omega arith in
-              ap (λ j. slice_get (flat p.structs t) j) at ∙ (c ∙ ap (λ t. Some t) same)
-          first_is (suc k) z v d g = absurd (cc)
-
-          one_lies : (v : CType) → IsScalar v → v ≡ u → (k : ℕ) (z : CType) → slice_get (repeat 1 (flat p.structs v)) k ≡ Some z → slice_get (flat p.structs t) (cell + k) ≡ Some z
-          one_lies void b q k z d = absurd b
-          one_lies (integer i) b q k z d = first_is k z (integer i) q d
-          one_lies (pointer v) b q k z d = first_is k z (pointer v) q d
-          one_lies (array v j) b q k z d = absurd b
-          one_lies (struct s) b q k z d = absurd b
-          one_lies (function r ts) b q k z d = absurd b
+              at_place (flat p.structs t) z cell (cell + 0) (omega arith) (c ∙ ap (λ t. Some t) same)
+          first_is (suc k) z g = absurd (cc)
 
       -- a cell of a variable gets a value of its type
       pub cell_right : (o : Objects) (x cell : ℕ) (t u : CType) (v : Value) (m : Memory) → IsTypedFrame p o fr → slice_get fr.types x ≡ Some t → slice_get (flat p.structs t) cell ≡ Some u → HasKind p o u v → IsTypedMemory p o m → Right (IsTypedMemory p o) (store_place m (place (name_in fr false x) cell 1) v)
@@ -455,27 +388,25 @@ module _ (p : Program) (n : ℕ) (typed : IsProgram p n) (marks : Marks) (record
       loosened r breaks continues o start q h = weaker p {A = Exit} (IsExit p r false false) (IsExit p r breaks continues) o _ q (λ o x i. looser p r breaks continues o x i) h
 
       pub out_is : (r : CType) (breaks continues : Bool) (o : Objects) (x : Exit) → IsExit p r true continues o x → IsExit p r breaks continues o (out_of_switch x)
-      out_is r breaks continues o on h = tt
-      out_is r breaks continues o broken h = tt
       out_is r breaks continues o continued h = h
-      out_is r breaks continues o (returned None) h = tt
       out_is r breaks continues o (returned (Some v)) h = h
+      out_is r breaks continues o x h = tt
 
       value_returned : (r : CType) (breaks continues : Bool) (e : Expr) (o : Objects) (st : State) → IsTypedFrame p o fr → IsScalar r → type_of e ≡ r → IsValue p fr.types e → StandsIn p (mentions e) → IsTypedState p o st → EndsTyped p {A = Exit} (IsExit p r breaks continues) o st.entries (exec p w marks fr (return_value e) st)
       value_returned r breaks continues e o st s b q h m k =
           then_ends p {A = Value} {B = Exit} (Kind r) (IsExit p r breaks continues) o _ _ _ (operand (type_of e) r o _ _ q b (value_ends true e o st s h m k)) (λ o' v st g i k. now p {A = Exit} (IsExit p r breaks continues) o' (returned (Some v)) st i k)
 
       -- what stands first in the head of a for
+      pub one_first : (r : CType) (a : Stmt) (o : Objects) (st : State) → IsTypedFrame p o fr → IsFirst p fr.types a → StandsIn p (mentions_of_stmt a) → IsTypedState p o st → EndsTyped p {A = Exit} (IsExit p r false false) o st.entries (exec p w marks fr a st)
+      one_first r (evaluate e) o st s h m k =
+          then_ends p {A = Value} {B = Exit} (Gives p false (type_of e)) (IsExit p r false false) o _ _ _ (value_ends false e o st s h m k) (λ o' v st g i k. now p {A = Exit} (IsExit p r false false) o' on st tt k)
+      one_first r (declare x is) o st s h m k = declare_ends r x is o st s h m k
+      one_first r _ o st s h m k = absurd h
+
       pub first_ends : (r : CType) (ss : Stmts) (o : Objects) (st : State) → IsTypedFrame p o fr → AreFirst p fr.types ss → StandsIn p (mentions_of_stmts ss) → IsTypedState p o st → EndsTyped p {A = Exit} (IsExit p r false false) o st.entries (exec_all p w marks fr ss st)
       first_ends r no_stmts o st s h m k = now p {A = Exit} (IsExit p r false false) o on st tt k
       first_ends r (more_stmts a ss) o st s h m k =
-          then_ends p {A = Exit} {B = Exit} (IsExit p r false false) (IsExit p r false false) o _ _ _ (one_first a h.0 (left_part p (mentions_of_stmt a) (mentions_of_stmts ss) m)) (λ o' x st g i k. exit_ends p r false false o' x st (exec_all p w marks fr ss) i k (first_ends r ss o' st (stands_on o o' fr g s) h.1 (right_part p (mentions_of_stmt a) (mentions_of_stmts ss) m) k))
-        where
-          one_first : (a : Stmt) → IsFirst p fr.types a → StandsIn p (mentions_of_stmt a) → EndsTyped p {A = Exit} (IsExit p r false false) o st.entries (exec p w marks fr a st)
-          one_first (evaluate e) h m =
-              then_ends p {A = Value} {B = Exit} (Gives p false (type_of e)) (IsExit p r false false) o _ _ _ (value_ends false e o st s h m k) (λ o' v st g i k. now p {A = Exit} (IsExit p r false false) o' on st tt k)
-          one_first (declare x is) h m = declare_ends r x is o st s h m k
-          one_first _ h m = absurd h
+          then_ends p {A = Exit} {B = Exit} (IsExit p r false false) (IsExit p r false false) o _ _ _ (one_first r a o st s h.0 (left_part p (mentions_of_stmt a) (mentions_of_stmts ss) m) k) (λ o' x st g i k. exit_ends p r false false o' x st (exec_all p w marks fr ss) i k (first_ends r ss o' st (stands_on o o' fr g s) h.1 (right_part p (mentions_of_stmt a) (mentions_of_stmts ss) m) k))
 
       mutual
         pub exec_ends : (r : CType) (breaks continues : Bool) (a : Stmt) (o : Objects) (st : State) → IsTypedFrame p o fr → IsStmt p fr.types r breaks continues a → StandsIn p (mentions_of_stmt a) → IsTypedState p o st → EndsTyped p {A = Exit} (IsExit p r breaks continues) o st.entries (exec p w marks fr a st)

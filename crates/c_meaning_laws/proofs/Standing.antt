@@ -1,5 +1,5 @@
 -- Parts of what stands in the program.
-use Rattle.std.proofs.Common.{◌≡◌, ℕ, zero, suc, Bool, true, false, ◌||◌, List, [], ◌∷◌, ◌++◌, flat_map, Contains, Some, slice_get, ap, ◌∙◌, subst, refl, arith}
+use Rattle.std.proofs.Common.{◌≡◌, ℕ, zero, suc, true, List, [], ◌∷◌, ◌++◌, flat_map, Contains, Some, slice_get, ap, ◌∙◌, subst, refl, arith}
 use Rattle.std.specs.Cmp.{nat_eq_equiv}
 use Rattle.std.proofs.lemmas.List.Elements.{Contains-append_left, Contains-append_right}
 use Rattle.c_tree.specs.declared.value.Value.TheVariants.{Func}
@@ -7,7 +7,7 @@ use Rattle.c_tree.specs.Tree.{Function, Static, Program}
 use Rattle.c_shapes.specs.Mentions.{Mention, Named, mention_of_cell, mentions_of_function, mentions_of_static, mentions_of_program}
 use Rattle.c_shapes.specs.CallGraph.{has_one, names, is_taken}
 use Rattle.c_meaning_laws.specs.TypedResults.{StandsIn}
-use Rattle.c_shapes.proofs.Members.{or_right}
+use Rattle.c_shapes.proofs.Members.{or_left, or_right, none_in, is_first}
 
 pub left_part : (p : Program) (xs ys : List Mention) → StandsIn p (xs ++ ys) → StandsIn p xs
 left_part p xs ys h m k = h m (Contains-append_left xs ys m k)
@@ -16,21 +16,11 @@ pub right_part : (p : Program) (xs ys : List Mention) → StandsIn p (xs ++ ys) 
 right_part p xs ys h m k = h m (Contains-append_right xs ys m k)
 
 pub stands_empty : (p : Program) → StandsIn p []
-stands_empty p m (k, less, is) = absurd (omega (arith, less))
-
-pub is_first : {A : Type 0} (x : A) (xs : List A) → Contains (x ∷ xs) x
-is_first x xs = (0, omega arith, refl)
-
-pub is_later : {A : Type 0} (x : A) (xs : List A) (y : A) → Contains xs y → Contains (x ∷ xs) y
-is_later x xs y (k, less, is) = (suc k, omega (arith, less), is)
-
-or_left : (a b : Bool) → a ≡ true → (a || b) ≡ true
-or_left true b h = refl
-or_left false b h = absurd (cc)
+stands_empty p m h = absurd (none_in m h)
 
 -- a name that is contained is found
 named : (f : ℕ) (ms : List Mention) → Contains ms (Named f) → has_one (names f) ms ≡ true
-named f [] (k, less, is) = absurd (omega (arith, less))
+named f [] h = absurd (none_in (Named f) h)
 named f (m ∷ ms) (zero, less, is) = or_left (names f m) (has_one (names f) ms) (ap (names f) is ∙ nat_eq_equiv.refl f)
 named f (m ∷ ms) (suc k, less, is) = or_right (names f m) (has_one (names f) ms) (named f ms (k, omega (arith, less), is))
 

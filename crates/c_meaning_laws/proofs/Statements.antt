@@ -15,9 +15,9 @@ use Rattle.c_meaning.specs.Meaning.{Marks, Frame, Loop, World, name_in, initiali
 use Rattle.c_meaning.specs.Pointers.{place, store_place}
 use Rattle.c_meaning.specs.Results.{State, with_memory, Result, Go, Stop, Exit, on, broken, continued, returned, out_of_switch}
 use Rattle.c_meaning_laws.specs.StoreTyping.{Grows, TellsAlike, IsTypedFrame}
-use Rattle.c_meaning_laws.specs.TypedResults.{EndsTyped, IsExit, StandsIn, StandsRound, IsTypedWorld, AreRecorded}
+use Rattle.c_meaning_laws.specs.TypedResults.{IsExit, StandsIn, StandsRound, IsTypedWorld, AreRecorded}
 use Rattle.c_meaning_laws.proofs.Places.{flat_scalar, grows_on}
-use Rattle.c_meaning_laws.proofs.Keeps.{scalar_kind, cell_ends, fresh_ends, first_ends, exec_ends, stmts_end, groups_end}
+use Rattle.c_meaning_laws.proofs.Keeps.{scalar_kind, cell_ends, fresh_ends, one_first, first_ends, exec_ends, stmts_end, groups_end}
 use Rattle.c_meaning_laws.proofs.Standing.{left_part, right_part, stands_empty}
 use Rattle.c_meaning_laws.specs.FurtherObjects.{Stay}
 use Rattle.c_meaning_laws.proofs.Together.{Hidden, TypedAlike, Does, beside_changed, stay_changed, store_place_remembers, here, remembered_does, either_does, exit_does, round_does, Now, told_shown, then_does}
@@ -62,19 +62,8 @@ module _ (known : Objects) (last : ℕ) (p : Program) (n : ℕ) (typed : IsProgr
     variable_shown o x t s a e = told_shown known last p o (name_in fr false x) (flat p.structs t) a (s.variables x t e)
 
     one_shown : (o : Objects) (r : CType) (breaks continues : Bool) (a : Stmt) → IsTypedFrame p o fr → TellsAlike last known o → IsStmt p fr.types r breaks continues a → AreShown known last fr.activation (declared_by a)
-    one_shown o r breaks continues (block ss) s a h = tt
-    one_shown o r breaks continues empty s a h = tt
-    one_shown o r breaks continues (evaluate e) s a h = tt
     one_shown o r breaks continues (declare x is) s a h = (variable_shown o x h.0 s a h.1, tt)
-    one_shown o r breaks continues (if_else e b c) s a h = tt
-    one_shown o r breaks continues (while_loop e b) s a h = tt
-    one_shown o r breaks continues (do_loop b e) s a h = tt
-    one_shown o r breaks continues (for_loop first test step b) s a h = tt
-    one_shown o r breaks continues (switch_on e gs) s a h = tt
-    one_shown o r breaks continues break_off s a h = tt
-    one_shown o r breaks continues continue_on s a h = tt
-    one_shown o r breaks continues return_void s a h = tt
-    one_shown o r breaks continues (return_value e) s a h = tt
+    one_shown o r breaks continues b s a h = tt
 
     block_shown : (o : Objects) (r : CType) (breaks continues : Bool) (ss : Stmts) → IsTypedFrame p o fr → TellsAlike last known o → AreStmts p fr.types r breaks continues ss → AreShown known last fr.activation (declared_in ss)
     block_shown o r breaks continues no_stmts s a h = tt
@@ -107,13 +96,8 @@ module _ (known : Objects) (last : ℕ) (p : Program) (n : ℕ) (typed : IsProgr
     first_do : (r : CType) (ss : Stmts) (o : Objects) (st : State) (more : Memory) → IsTypedFrame p o fr → AreFirst p fr.types ss → StandsIn p (mentions_of_stmts ss) → Now known last p o st more → Does known last {A = Exit} more (exec_all p w marks fr ss st) (exec_all p w marks fr ss (with_memory st more))
     first_do r no_stmts o st more s h m k = here known last {A = Exit} on st more [] k.beside
     first_do r (more_stmts a ss) o st more s h m k =
-        then_does known last p {A = Exit} {B = Exit} (IsExit p r false false) o st more _ _ _ _ k (one_ends a h.0 (left_part p (mentions_of_stmt a) (mentions_of_stmts ss) m)) (one_does a h.0 (left_part p (mentions_of_stmt a) (mentions_of_stmts ss) m)) (λ u x st l g i k. exit_does known last x st l (exec_all p w marks fr ss) (exec_all p w marks fr ss) k.beside (first_do r ss u st l (framed o u g s) h.1 (right_part p (mentions_of_stmt a) (mentions_of_stmts ss) m) k))
+        then_does known last p {A = Exit} {B = Exit} (IsExit p r false false) o st more _ _ _ _ k (one_first p n typed marks recorded w goes fr r a o st s h.0 (left_part p (mentions_of_stmt a) (mentions_of_stmts ss) m) k.state) (one_does a h.0 (left_part p (mentions_of_stmt a) (mentions_of_stmts ss) m)) (λ u x st l g i k. exit_does known last x st l (exec_all p w marks fr ss) (exec_all p w marks fr ss) k.beside (first_do r ss u st l (framed o u g s) h.1 (right_part p (mentions_of_stmt a) (mentions_of_stmts ss) m) k))
       where
-        one_ends : (a : Stmt) → IsFirst p fr.types a → StandsIn p (mentions_of_stmt a) → EndsTyped p {A = Exit} (IsExit p r false false) o st.entries (exec p w marks fr a st)
-        one_ends (evaluate e) h m = exec_ends p n typed marks recorded w goes fr r false false (evaluate e) o st s h m k.state
-        one_ends (declare x is) h m = exec_ends p n typed marks recorded w goes fr r false false (declare x is) o st s h m k.state
-        one_ends _ h m = absurd h
-
         one_does : (a : Stmt) → IsFirst p fr.types a → StandsIn p (mentions_of_stmt a) → Does known last {A = Exit} more (exec p w marks fr a st) (exec p w marks fr a (with_memory st more))
         one_does (evaluate e) h m =
             on_value known last p n typed marks recorded w goes enters fr {B = Exit} false e o st more _ _ s h m k (value_does known last p n typed marks recorded w goes enters fr false e o st more s h m k) (λ u v st l g i k. here known last {A = Exit} on st l [] k.beside)

@@ -1,21 +1,21 @@
 -- Steps on values and memory answer rightly, where these are typed.
-use Rattle.std.proofs.Common.{◌≡◌, inl, inr, ℕ, zero, suc, ◌+◌, ◌*◌, ◌<◌, ◌≤◌, nat_lt, nat_le, if◌then◌else◌, Bool, true, false, not, ◌&&◌, ℤ, pos, negsuc, ◌+ℤ◌, ◌-ℤ◌, neg_ℤ, List, [], ◌∷◌, ◌++◌, map, All, Option, Some, None, slice_get, slice_set, length, sym, ap, ◌∙◌, subst, refl, arith}
-use Rattle.std.specs.List.{AllZip}
+use Rattle.std.proofs.Common.{◌≡◌, inl, inr, ℕ, ◌+◌, ◌*◌, ◌<◌, ◌≤◌, nat_lt, nat_le, if◌then◌else◌, Bool, true, false, not, ℤ, pos, negsuc, ◌+ℤ◌, ◌-ℤ◌, neg_ℤ, List, [], ◌∷◌, map, All, Option, Some, None, slice_get, slice_set, length, sym, ap, ◌∙◌, subst, refl, arith}
+use Rattle.std.specs.List.{AllZip, list_all}
 use Rattle.std.proofs.lemmas.Bool.{false≢true}
 use Rattle.std.proofs.lemmas.Bool.Decides.{nat_tests}
 use Rattle.std.proofs.lemmas.Int.{ints}
-use Rattle.std.proofs.lemmas.List.Elements.{All-nil, All-cons, All-head, All-tail}
+use Rattle.std.proofs.lemmas.List.Elements.{All-nil, All-cons, All-append, All-map, All-weaker}
 use Rattle.c_tree.specs.declared.value.IntType.{IntType}
 use Rattle.c_tree.specs.declared.value.IntType.TheVariants as i
 use Rattle.c_tree.specs.declared.value.UnOp.{UnOp}
 use Rattle.c_tree.specs.declared.value.UnOp.TheVariants.{Minus, Complement, Not}
 use Rattle.c_tree.specs.declared.value.BinOp.{BinOp}
-use Rattle.c_tree.specs.declared.value.BinOp.TheVariants.{Mul, Div, Rem, Add, Sub, ShiftLeft, ShiftRight, BitAnd, BitXor, BitOr, Less, Greater, LessEqual, GreaterEqual, Equal, NotEqual}
+use Rattle.c_tree.specs.declared.value.BinOp.TheVariants.{ShiftLeft, ShiftRight, Less, Greater, LessEqual, GreaterEqual, Equal, NotEqual}
 use Rattle.c_tree.specs.declared.value.ObjectName.{ObjectName}
 use Rattle.c_tree.specs.declared.value.Pointer.{Pointer}
 use Rattle.c_tree.specs.declared.value.Value.{Value}
-use Rattle.c_tree.specs.declared.value.Value.TheVariants.{Indeterminate, Int, Uint, Char, Uchar, Null, Func, At}
-use Rattle.c_tree.specs.Tree.{CType, void, integer, pointer, array, struct, function, CTypes, no_types, more_types, list_of, Function, Program}
+use Rattle.c_tree.specs.declared.value.Value.TheVariants.{Indeterminate, Int, Uint, Char, Null, Func, At}
+use Rattle.c_tree.specs.Tree.{CType, void, integer, pointer, array, struct, function, CTypes, list_of, Program}
 use Rattle.c_tree.specs.Layout.{Structs, repeat, flat, cells, flat_all, first_cell}
 use Rattle.c_tree.specs.Functions.{int, sys_types, null_types, type_of_defined, value_types, called_types, value_type, called_type}
 use Rattle.c_tree.specs.Operands.{IsScalar, IsComplete, IsObject, IsTarget, promoted, common, IsPromoted, IsIntegerType, IsObjectPointer, OperatorKind, balanced, shift, ordering, equality, kind_of, AreOperands, FitsArithmetic, FitsUnary, AreComparable, FitsComparison, FitsPointerAdd, FitsRightSide, FitsUpdate, Decays}
@@ -32,8 +32,8 @@ use Rattle.c_meaning.specs.Pointers.{callee, number, truth_value, behind, functi
 use Rattle.c_meaning.specs.Pointers.{pointer as pointed}
 use Rattle.c_shapes.specs.CallGraph.{is_taken}
 use Rattle.c_meaning_laws.specs.StoreTyping.{HasKind, IsCell, IsPlaceAt, IsPlaced, IsTypedMemory}
-use Rattle.c_meaning_laws.proofs.Places.{get_left, lies_in, lies_moved, repeat_lies, lies_once, member_lies, member_few, scalar_cell, scalar_object, element_object, struct_is, zip_get, zip_set, kind_cell, memory_changed}
-use Rattle.c_shapes.proofs.Members.{and_left, and_right, and_both}
+use Rattle.c_meaning_laws.proofs.Places.{all_get, at_place, int_value, uint_value, pointer_value, get_left, lies_in, lies_moved, repeat_lies, lies_once, member_lies, member_few, scalar_cell, scalar_object, element_object, struct_is, zip_get, zip_set, kind_cell, memory_changed}
+use Rattle.c_shapes.proofs.Members.{and_left, and_right}
 
 -- an answer is what it should be, or one of the kinds U1 to U12
 abbrev pub Right : {A : Type 0} → (A → Type 0) → Answer A → Type 0
@@ -49,6 +49,16 @@ pub there_right : {B : Type 0} (ok : B → Type 0) (c : Option Object) (f : Obje
 there_right ok None f k = (omega arith, omega arith)
 there_right ok (Some ob) f k = k ob refl
 
+-- where the test holds
+pub tested_right : {B : Type 0} (ok : B → Type 0) (b : Bool) (r : Answer B) (kind : ℕ) → 1 ≤ kind → kind ≤ 12 → (b ≡ true → Right {A = B} ok r) → Right {A = B} ok (if b then r else undefined kind)
+tested_right ok true r kind l m h = h refl
+tested_right ok false r kind l m h = (l, m)
+
+-- where the object is no string
+pub writable_right : {B : Type 0} (ok : B → Type 0) (string : Bool) (cells : List Value) (f : List Value → Answer B) → Right {A = B} ok (f cells) → Right {A = B} ok (and_then (if string then undefined 10 else gives cells) f)
+writable_right ok true cells f h = (omega arith, omega arith)
+writable_right ok false cells f h = h
+
 -- where the pointer is not one past
 pub element_right : {B : Type 0} (ok : B → Type 0) (q : Pointer) (f : ℕ → Answer B) → (q.index < q.elements → Right {A = B} ok (f (q.first + q.index * q.width))) → Right {A = B} ok (and_then (element q) f)
 element_right {B} ok q f k = at (nat_lt q.index q.elements) refl
@@ -57,201 +67,121 @@ element_right {B} ok q f k = at (nat_lt q.index q.elements) refl
     at true e = let less : q.index < q.elements = grind (arith, nat_tests) in k less
     at false e = (omega arith, omega arith)
 
--- the types of functions whose parameters are scalars
+-- what a test finds of each element
+passing : {A : Type 0} (P : A → Type 0) (test : A → Bool) → ((x : A) → test x ≡ true → P x) → (xs : List A) → list_all test xs ≡ true → All P xs
+passing P test f [] h = All-nil P
+passing P test f (x ∷ xs) h = All-cons P x xs (f x (and_left (test x) (list_all test xs) h)) (passing P test f xs (and_right (test x) (list_all test xs) h))
+
 abbrev is_scalar : CType → Bool
 is_scalar (integer i) = true
 is_scalar (pointer t) = true
 is_scalar _ = false
 
-abbrev are_scalars : CTypes → Bool
-are_scalars no_types = true
-are_scalars (more_types t ts) = is_scalar t && are_scalars ts
-
-abbrev takes_scalars : CType → Bool
-takes_scalars (function r ts) = are_scalars ts
-takes_scalars _ = false
-
-abbrev all_take : List CType → Bool
-all_take [] = true
-all_take (t ∷ ts) = takes_scalars t && all_take ts
-
 scalar_is : (t : CType) → is_scalar t ≡ true → IsScalar t
-scalar_is void h = absurd (false≢true h)
 scalar_is (integer i) h = tt
 scalar_is (pointer t) h = tt
-scalar_is (array t n) h = absurd (false≢true h)
-scalar_is (struct s) h = absurd (false≢true h)
-scalar_is (function r ts) h = absurd (false≢true h)
+scalar_is t h = absurd (false≢true h)
 
-is_scalar_of : (t : CType) → IsScalar t → is_scalar t ≡ true
-is_scalar_of void h = absurd h
-is_scalar_of (integer i) h = refl
-is_scalar_of (pointer t) h = refl
-is_scalar_of (array t n) h = absurd h
-is_scalar_of (struct s) h = absurd h
-is_scalar_of (function r ts) h = absurd h
+-- the types of functions whose parameters are scalars
+abbrev TakesScalars : CType → Type 0
+TakesScalars (function r ts) = All IsScalar (list_of ts)
+TakesScalars _ = ⊥
 
-are_scalars_of : (ts : CTypes) → All IsScalar (list_of ts) → are_scalars ts ≡ true
-are_scalars_of no_types h = refl
-are_scalars_of (more_types t ts) h = and_both (is_scalar t) (are_scalars ts) (is_scalar_of t (All-head IsScalar t (list_of ts) h)) (are_scalars_of ts (All-tail IsScalar t (list_of ts) h))
+abbrev takes_scalars : CType → Bool
+takes_scalars (function r ts) = list_all is_scalar (list_of ts)
+takes_scalars _ = false
 
-all_scalars : (ts : CTypes) → are_scalars ts ≡ true → All IsScalar (list_of ts)
-all_scalars no_types h = All-nil IsScalar
-all_scalars (more_types t ts) h = All-cons IsScalar t (list_of ts) (scalar_is t (and_left (is_scalar t) (are_scalars ts) h)) (all_scalars ts (and_right (is_scalar t) (are_scalars ts) h))
+takes_is : (t : CType) → takes_scalars t ≡ true → TakesScalars t
+takes_is (function r ts) h = passing IsScalar is_scalar scalar_is (list_of ts) h
+takes_is t h = absurd (false≢true h)
 
-taken_from : (xs : List CType) (k : ℕ) (t : CType) → all_take xs ≡ true → slice_get xs k ≡ Some t → takes_scalars t ≡ true
-taken_from [] k t h e = absurd (cc)
-taken_from (x ∷ xs) zero t h e = let same : x ≡ t = cc in subst (λ t. takes_scalars t ≡ true) same (and_left (takes_scalars x) (all_take xs) h)
-taken_from (x ∷ xs) (suc k) t h e = taken_from xs k t (and_right (takes_scalars x) (all_take xs) h) e
-
-all_take_both : (xs ys : List CType) → all_take xs ≡ true → all_take ys ≡ true → all_take (xs ++ ys) ≡ true
-all_take_both [] ys h k = k
-all_take_both (x ∷ xs) ys h k = and_both (takes_scalars x) (all_take (xs ++ ys)) (and_left (takes_scalars x) (all_take xs) h) (all_take_both xs ys (and_right (takes_scalars x) (all_take xs) h) k)
-
-sys_take : all_take sys_types ≡ true
+sys_take : All TakesScalars sys_types
 unfolding sys_types
-sys_take = refl
+sys_take = passing TakesScalars takes_scalars takes_is sys_types all
+  where
+    all : list_all takes_scalars sys_types ≡ true
+    all = refl
 
 -- an object is no function
-no_function : (structs : Structs) (t : CType) → IsObject structs t → takes_scalars t ≡ true → ⊥
-no_function structs void h e = h.complete
-no_function structs (integer i) h e = false≢true e
-no_function structs (pointer t) h e = false≢true e
-no_function structs (array t n) h e = false≢true e
-no_function structs (struct s) h e = false≢true e
+no_function : (structs : Structs) (t : CType) → IsObject structs t → TakesScalars t → ⊥
 no_function structs (function r ts) h e = h.complete
+no_function structs t h e = e
 
 -- the type of a function
-pub function_parts : (t : CType) → takes_scalars t ≡ true → (r : CType) × (ts : CTypes) × (t ≡ function r ts)
-function_parts void e = absurd (false≢true e)
-function_parts (integer i) e = absurd (false≢true e)
-function_parts (pointer t) e = absurd (false≢true e)
-function_parts (array t n) e = absurd (false≢true e)
-function_parts (struct s) e = absurd (false≢true e)
+pub function_parts : (t : CType) → TakesScalars t → (r : CType) × (ts : CTypes) × (t ≡ function r ts)
 function_parts (function r ts) e = (r, ts, refl)
+function_parts t e = absurd e
 
 pub settled : (t : IntType) (z : ℤ) → IsPromoted t → IsAnswer (integer t) (settle t z)
-settled i.Char z h = absurd h
-settled i.Uchar z h = absurd h
 settled i.Int z h = at (fits_int z) refl
   where
     at : (b : Bool) → fits_int z ≡ b → IsAnswer int (fitting b z 1)
     at true e = (refl, grind (arith, ints, e))
     at false e = (omega arith, omega arith)
 settled i.Uint z h = (refl, below_32 z)
+settled t z h = absurd h
 
 truth_fits : (b : Bool) → IsConverted int (truth b)
 truth_fits true = (refl, grind (arith, ints))
 truth_fits false = (refl, grind (arith, ints))
 
--- comparisons
-abbrev Compares : OperatorKind → Type 0
-Compares balanced = ⊥
-Compares shift = ⊥
-Compares ordering = Unit {0}
-Compares equality = Unit {0}
+-- comparisons, with what those by order ask
+abbrev Comparing : OperatorKind → Type 0 → Type 0
+Comparing ordering asked = asked
+Comparing equality asked = Unit {0}
+Comparing c asked = ⊥
 
-comparison_table : (op : BinOp) (t : IntType) (x y : ℤ) → Compares (kind_of op) → IsConverted int (table_of op t x y)
-comparison_table Mul t x y h = absurd h
-comparison_table Div t x y h = absurd h
-comparison_table Rem t x y h = absurd h
-comparison_table Add t x y h = absurd h
-comparison_table Sub t x y h = absurd h
-comparison_table ShiftLeft t x y h = absurd h
-comparison_table ShiftRight t x y h = absurd h
-comparison_table BitAnd t x y h = absurd h
-comparison_table BitXor t x y h = absurd h
-comparison_table BitOr t x y h = absurd h
+comparison_table : (op : BinOp) (t : IntType) (x y : ℤ) → Comparing (kind_of op) (Unit {0}) → IsConverted int (table_of op t x y)
 comparison_table Less t x y h = truth_fits _
 comparison_table Greater t x y h = truth_fits _
 comparison_table LessEqual t x y h = truth_fits _
 comparison_table GreaterEqual t x y h = truth_fits _
 comparison_table Equal t x y h = truth_fits _
 comparison_table NotEqual t x y h = truth_fits _
-
-common_promoted : (i j : IntType) → IsPromoted (common i j)
-common_promoted i.Char i.Char = tt
-common_promoted i.Char i.Uchar = tt
-common_promoted i.Char i.Int = tt
-common_promoted i.Char i.Uint = tt
-common_promoted i.Uchar i.Char = tt
-common_promoted i.Uchar i.Uchar = tt
-common_promoted i.Uchar i.Int = tt
-common_promoted i.Uchar i.Uint = tt
-common_promoted i.Int i.Char = tt
-common_promoted i.Int i.Uchar = tt
-common_promoted i.Int i.Int = tt
-common_promoted i.Int i.Uint = tt
-common_promoted i.Uint j = tt
+comparison_table op t x y h = absurd h
 
 promoted_is : (i : IntType) → IsPromoted (promoted i)
 promoted_is i.Char = tt
-promoted_is i.Uchar = tt
-promoted_is i.Int = tt
-promoted_is i.Uint = tt
+promoted_is i = tt
 
-balanced_right : (i k : IntType) → k ≡ common i k → IsPromoted k × (k ≡ k)
-balanced_right i k e = (subst IsPromoted (sym e) (common_promoted i k), refl)
+common_promoted : (i j : IntType) → IsPromoted (common i j)
+common_promoted i.Uint j = tt
+common_promoted i j = promoted_is j
 
 -- the operands of a compound assignment
+right_operands : (c : OperatorKind) (i k : IntType) → FitsRightSide c i k → AreOperands c k k
+right_operands balanced i k e = (subst IsPromoted (sym e) (common_promoted i k), refl)
+right_operands shift i k h = (h, h)
+right_operands c i k h = absurd h
+
 operands_right : (op : BinOp) (i k : IntType) → FitsRightSide (kind_of op) i k → AreOperands (kind_of op) (computing op i k) k
-operands_right Mul i k h = balanced_right i k h
-operands_right Div i k h = balanced_right i k h
-operands_right Rem i k h = balanced_right i k h
-operands_right Add i k h = balanced_right i k h
-operands_right Sub i k h = balanced_right i k h
 operands_right ShiftLeft i k h = (promoted_is i, h)
 operands_right ShiftRight i k h = (promoted_is i, h)
-operands_right BitAnd i k h = balanced_right i k h
-operands_right BitXor i k h = balanced_right i k h
-operands_right BitOr i k h = balanced_right i k h
-operands_right Less i k h = absurd h
-operands_right Greater i k h = absurd h
-operands_right LessEqual i k h = absurd h
-operands_right GreaterEqual i k h = absurd h
-operands_right Equal i k h = absurd h
-operands_right NotEqual i k h = absurd h
+operands_right op i k h = right_operands (kind_of op) i k h
 
 module _ (p : Program) (n : ℕ) (typed : IsProgram p n) where
-  functions_take : (fs : List Function) → All (IsFunction p) fs → all_take (map type_of_defined fs) ≡ true
-  functions_take [] h = refl
-  functions_take (f ∷ fs) h = and_both (takes_scalars f.ctype) (all_take (map type_of_defined fs)) (one (All-head (IsFunction p) f fs h)) (functions_take fs (All-tail (IsFunction p) f fs h))
-    where
-      one : IsFunction p f → takes_scalars f.ctype ≡ true
-      one k = ap takes_scalars k.type ∙ are_scalars_of k.takes k.scalars
-
   -- what may be called is a function of scalars
-  pub called_takes : (f : ℕ) (t : CType) → called_type p f ≡ Some t → takes_scalars t ≡ true
+  pub called_takes : (f : ℕ) (t : CType) → called_type p f ≡ Some t → TakesScalars t
   called_takes f t e =
-      taken_from (called_types p) f t (all_take_both (value_types p) null_types (all_take_both (map type_of_defined p.functions) sys_types (functions_take p.functions typed.functions) sys_take) refl) e
+      all_get TakesScalars (called_types p) f t (All-append TakesScalars (value_types p) null_types (All-append TakesScalars (map type_of_defined p.functions) sys_types (All-map TakesScalars type_of_defined p.functions (All-weaker (IsFunction p) (λ g. TakesScalars g.ctype) (λ g k. subst TakesScalars (sym k.type) k.scalars) p.functions typed.functions)) sys_take) (passing TakesScalars takes_scalars takes_is null_types refl)) e
 
   -- the types of its parameters
   pub scalars_of : (f : ℕ) (r : CType) (ts : CTypes) → called_type p f ≡ Some (function r ts) → All IsScalar (list_of ts)
-  scalars_of f r ts e = all_scalars ts (called_takes f (function r ts) e)
+  scalars_of f r ts e = called_takes f (function r ts) e
 
-  pub value_takes : (f : ℕ) (t : CType) → value_type p f ≡ Some t → takes_scalars t ≡ true
+  pub value_takes : (f : ℕ) (t : CType) → value_type p f ≡ Some t → TakesScalars t
   value_takes f t e = called_takes f t (get_left (value_types p) null_types f t e)
 
   -- an integer value
   pub constant_of : (o : Objects) (k : IntType) (v : Value) → HasKind p o (integer k) v → IsConstant (integer k) v
-  constant_of o k Indeterminate h = h
-  constant_of o k (Int z) h = h
-  constant_of o k (Uint m) h = h
-  constant_of o k (Char z) h = h
-  constant_of o k (Uchar m) h = h
-  constant_of o k Null h = h
   constant_of o k (Func f) h = absurd (cc (h.1))
   constant_of o k (At q) h = absurd (cc (h.1))
+  constant_of o k v h = h
 
   pub of_constant : (o : Objects) (t : CType) (v : Value) → IsConstant t v → HasKind p o t v
-  of_constant o t Indeterminate h = h
-  of_constant o t (Int z) h = h
-  of_constant o t (Uint m) h = h
-  of_constant o t (Char z) h = h
-  of_constant o t (Uchar m) h = h
-  of_constant o t Null h = h
   of_constant o t (Func f) h = absurd h
   of_constant o t (At q) h = absurd h
+  of_constant o t v h = h
 
   answer_right : (o : Objects) (t : CType) (r : Answer Value) → IsAnswer t r → Right (HasKind p o t) r
   answer_right o t (gives v) h = of_constant o t v h
@@ -277,26 +207,14 @@ module _ (p : Program) (n : ℕ) (typed : IsProgram p n) where
 
   -- a pointer to objects is null or lies in one
   pub pointer_right : (o : Objects) (t : CType) (v : Value) → IsObject p.structs t → HasKind p o (pointer t) v → Right (IsPointer p.structs o t) (pointed v)
-  pointer_right o t Indeterminate b h = absurd h
-  pointer_right o t (Int z) b h = absurd (cc (h.0))
-  pointer_right o t (Uint m) b h = absurd (cc (h.0))
-  pointer_right o t (Char z) b h = absurd (cc (h.0))
-  pointer_right o t (Uchar m) b h = absurd (cc (h.0))
-  pointer_right o t Null b h = (omega arith, omega arith)
-  pointer_right o t (Func g) b h =
-      let same : h.0 ≡ t = cc (h.1) in
-      absurd (no_function p.structs t b (value_takes g t (subst (λ u. value_type p g ≡ Some u) same h.2)))
-  pointer_right o t (At q) b h = let same : h.0 ≡ t = cc (h.1) in subst (λ t. IsPointer p.structs o t q) same h.2
+  pointer_right o t v b h = pointer_value p o t (λ v. Right (IsPointer p.structs o t) (pointed v)) v h (omega arith, omega arith)
+      (λ g h. let same : h.0 ≡ t = cc (h.1) in absurd (no_function p.structs t b (value_takes g t (subst (λ u. value_type p g ≡ Some u) same h.2))))
+      (λ q h. let same : h.0 ≡ t = cc (h.1) in subst (λ t. IsPointer p.structs o t q) same h.2)
 
   pub place_right : (o : Objects) (t : CType) (v : Value) → IsObject p.structs t → IsPlaced p o t v → Right (IsPlaceAt p.structs o t) (pointed v)
-  place_right o t Indeterminate b h = absurd h
-  place_right o t (Int z) b h = absurd h
-  place_right o t (Uint m) b h = absurd h
-  place_right o t (Char z) b h = absurd h
-  place_right o t (Uchar m) b h = absurd h
-  place_right o t Null b h = absurd h
   place_right o t (Func g) b h = absurd (no_function p.structs t b (value_takes g t h.3))
   place_right o t (At q) b h = h
+  place_right o t v b h = absurd h
 
   -- a place as a pointer
   pub place_pointer : (o : Objects) (t : CType) (q : Pointer) → IsPlaceAt p.structs o t q → IsPointer p.structs o t q
@@ -331,14 +249,9 @@ module _ (p : Program) (n : ℕ) (typed : IsProgram p n) where
   IsCallee t f = (value_type p f ≡ Some t) × (is_taken p f ≡ true)
 
   pub callee_right : (o : Objects) (r : CType) (ts : CTypes) (v : Value) → HasKind p o (pointer (function r ts)) v → Right (IsCallee (function r ts)) (callee v)
-  callee_right o r ts Indeterminate h = absurd h
-  callee_right o r ts (Int z) h = absurd (cc (h.0))
-  callee_right o r ts (Uint m) h = absurd (cc (h.0))
-  callee_right o r ts (Char z) h = absurd (cc (h.0))
-  callee_right o r ts (Uchar m) h = absurd (cc (h.0))
-  callee_right o r ts Null h = (omega arith, omega arith)
-  callee_right o r ts (Func f) h = let same : h.0 ≡ function r ts = cc (h.1) in subst (λ u. IsCallee u f) same (h.2, h.3)
-  callee_right o r ts (At q) h = let same : h.0 ≡ function r ts = cc (h.1) in absurd (subst (IsObject p.structs) same h.2.object).complete
+  callee_right o r ts v h = pointer_value p o (function r ts) (λ v. Right (IsCallee (function r ts)) (callee v)) v h (omega arith, omega arith)
+      (λ f h. let same : h.0 ≡ function r ts = cc (h.1) in subst (λ u. IsCallee u f) same (h.2, h.3))
+      (λ q h. let same : h.0 ≡ function r ts = cc (h.1) in absurd (subst (IsObject p.structs) same h.2.object).complete)
 
   function_behind_right : (o : Objects) (r : CType) (ts : CTypes) (v : Value) → HasKind p o (pointer (function r ts)) v → Right (IsPlaced p o (function r ts)) (function_behind v)
   function_behind_right o r ts v h = right_then (IsCallee (function r ts)) (IsPlaced p o (function r ts)) (callee v) _ (callee_right o r ts v h) (λ f k. (r, ts, refl, k.0, k.1))
@@ -347,19 +260,12 @@ module _ (p : Program) (n : ℕ) (typed : IsProgram p n) where
   behind_of_right o void v m b h = absurd b
   behind_of_right o (integer k) v m b h = behind_right o (integer k) v m (scalar_object p.structs (integer k) tt) h
   behind_of_right o (pointer t) v m b h = behind_right o (pointer t) v m (scalar_object p.structs (pointer t) tt) h
-  behind_of_right o (array t k) v m b h = behind_right o (array t k) v m b h
-  behind_of_right o (struct s) v m b h = behind_right o (struct s) v m b h
   behind_of_right o (function r ts) v m b h = function_behind_right o r ts v h
+  behind_of_right o t v m b h = behind_right o t v m b h
 
   cell_right : (o : Objects) (t : CType) (v : Value) → IsCell p o t v → Right (HasKind p o t) (cell_value (Some v))
   cell_right o t Indeterminate h = (omega arith, omega arith)
-  cell_right o t (Int z) h = h
-  cell_right o t (Uint m) h = h
-  cell_right o t (Char z) h = h
-  cell_right o t (Uchar m) h = h
-  cell_right o t Null h = h
-  cell_right o t (Func f) h = h
-  cell_right o t (At q) h = h
+  cell_right o t v h = h
 
   -- the cells of an object that is there
   pub cells_there : (o : Objects) (m : Memory) (x : ObjectName) (all : List CType) (ob : Object) → IsTypedMemory p o m → o x ≡ Some all → m x ≡ Some ob → AllZip (IsCell p o) all ob.cells
@@ -371,8 +277,7 @@ module _ (p : Program) (n : ℕ) (typed : IsProgram p n) where
   -- the cell of the element
   pub element_cell : (o : Objects) (t : CType) (q : Pointer) (h : IsPointer p.structs o t q) → IsScalar t → q.index < q.elements → slice_get (h.all) (q.first + q.index * q.width + 0) ≡ Some t
   element_cell o t q h b less =
-      let e : q.first + q.index * q.width + 0 ≡ q.first + q.index * q.width = omega arith in
-      ap (λ k. slice_get (h.all) k) e ∙ scalar_cell p.structs (h.all) (q.first + q.index * q.width) t b (element_lies o t q h less)
+      at_place h.all t (q.first + q.index * q.width) (q.first + q.index * q.width + 0) (omega arith) (scalar_cell p.structs h.all (q.first + q.index * q.width) t b (element_lies o t q h less))
 
   pub load_right : (o : Objects) (t : CType) (q : Pointer) (m : Memory) → IsScalar t → IsPointer p.structs o t q → IsTypedMemory p o m → Right (HasKind p o t) (load m q 0)
   load_right o t q m b h k =
@@ -386,15 +291,11 @@ module _ (p : Program) (n : ℕ) (typed : IsProgram p n) where
 
   pub store_right : (o : Objects) (t : CType) (q : Pointer) (v : Value) (m : Memory) → IsScalar t → IsPointer p.structs o t q → HasKind p o t v → IsTypedMemory p o m → Right (IsTypedMemory p o) (store m q 0 v)
   store_right o t q v m b h l k =
-      there_right {B = Memory} (IsTypedMemory p o) (m q.name) _ (λ ob e. element_right {B = Memory} (IsTypedMemory p o) q _ (λ less. writing ob e less ob.string))
-    where
-      writing : (ob : Object) → m q.name ≡ Some ob → q.index < q.elements → (b : Bool) → Right (IsTypedMemory p o) (and_then (if b then undefined 10 else gives ob.cells) (λ cells. and_then (set_cell cells (q.first + q.index * q.width + 0) v (slice_get cells (q.first + q.index * q.width + 0))) (λ new. gives (changed m q.name (Some new)))))
-      writing ob e less true = (omega arith, omega arith)
-      writing ob e less false =
-          let z = cells_there o m q.name h.all ob k h.known e in
-          let a = element_cell o t q h b less in
-          let c = zip_get (IsCell p o) h.all ob.cells (q.first + q.index * q.width + 0) t z a in
-          subst (λ c. Right (IsTypedMemory p o) (and_then (set_cell ob.cells (q.first + q.index * q.width + 0) v c) (λ new. gives (changed m q.name (Some new))))) (sym c.1) (memory_changed p o m q.name h.all (record { cells = slice_set ob.cells (q.first + q.index * q.width + 0) v; string = false }) k h.known (zip_set (IsCell p o) h.all ob.cells (q.first + q.index * q.width + 0) t v z a (kind_cell p o t v l)))
+      there_right {B = Memory} (IsTypedMemory p o) (m q.name) _ (λ ob e. element_right {B = Memory} (IsTypedMemory p o) q _ (λ less.
+      let z = cells_there o m q.name h.all ob k h.known e in
+      let a = element_cell o t q h b less in
+      let c = zip_get (IsCell p o) h.all ob.cells (q.first + q.index * q.width + 0) t z a in
+      writable_right {B = Memory} (IsTypedMemory p o) ob.string ob.cells _ (subst (λ c. Right (IsTypedMemory p o) (and_then (set_cell ob.cells (q.first + q.index * q.width + 0) v c) (λ new. gives (changed m q.name (Some new))))) (sym c.1) (memory_changed p o m q.name h.all (record { cells = slice_set ob.cells (q.first + q.index * q.width + 0) v; string = false }) k h.known (zip_set (IsCell p o) h.all ob.cells (q.first + q.index * q.width + 0) t v z a (kind_cell p o t v l))))))
 
   pub store_place_right : (o : Objects) (t : CType) (a v : Value) (m : Memory) → IsScalar t → IsPlaced p o t a → HasKind p o t v → IsTypedMemory p o m → Right (IsTypedMemory p o) (store_place m a v)
   store_place_right o t a v m b h l k =
@@ -406,7 +307,7 @@ module _ (p : Program) (n : ℕ) (typed : IsProgram p n) where
       let few = member_few p.structs ts k t c in
       let size : length (flat_all p.structs ts) ≤ 65536 = subst (λ xs. length xs ≤ 65536) is b.few in
       right_then (IsPlaceAt p.structs o (struct s)) (IsPlaced p o t) (pointed v) _ (place_right o (struct s) v b h) (λ q a. record {
-        object = record { complete = complete (typed.structs.complete s ts e); few = omega (arith, few, size) };
+        object = record { complete = all_get (IsComplete p.structs) ts k t (typed.structs.complete s ts e) c; few = omega (arith, few, size) };
         all = a.all;
         known = a.known;
         wide = refl;
@@ -414,24 +315,11 @@ module _ (p : Program) (n : ℕ) (typed : IsProgram p n) where
         first = refl;
         lies = lies_in a.all (flat p.structs (struct s)) (flat p.structs t) q.first (first_cell p.structs ts k) a.lies (subst (λ all. Lies all (first_cell p.structs ts k) (flat p.structs t)) (sym is) (member_lies p.structs ts k t c));
       })
-    where
-      complete : All (IsComplete p.structs) ts → IsComplete p.structs t
-      complete h = all_get ts k h c
-        where
-          all_get : (ts : List CType) (k : ℕ) → All (IsComplete p.structs) ts → slice_get ts k ≡ Some t → IsComplete p.structs t
-          all_get [] k h e = absurd (cc)
-          all_get (u ∷ ts) zero h e = let same : u ≡ t = cc in subst (IsComplete p.structs) same (All-head (IsComplete p.structs) u ts h)
-          all_get (u ∷ ts) (suc k) h e = all_get ts k (All-tail (IsComplete p.structs) u ts h) e
 
   struct_object : (o : Objects) (s : ℕ) (v : Value) → IsPlaced p o (struct s) v → IsObject p.structs (struct s)
-  struct_object o s Indeterminate h = absurd h
-  struct_object o s (Int z) h = absurd h
-  struct_object o s (Uint m) h = absurd h
-  struct_object o s (Char z) h = absurd h
-  struct_object o s (Uchar m) h = absurd h
-  struct_object o s Null h = absurd h
   struct_object o s (Func f) h = absurd (cc (h.2))
   struct_object o s (At q) h = h.object
+  struct_object o s v h = absurd h
 
   pub field_right : (o : Objects) (u t : CType) (first : ℕ) (v : Value) → IsMemberOf p u first t → IsPlaced p o u v → Right (IsPlaced p o t) (member first (cells p.structs t) v)
   field_right o u t first v (s, ts, k, is, e, c, at) h =
@@ -440,22 +328,11 @@ module _ (p : Program) (n : ℕ) (typed : IsProgram p n) where
 
   -- the address of a place
   pub address_is : (o : Objects) (t : CType) (v : Value) → IsPlaced p o t v → HasKind p o (pointer t) v
-  address_is o t Indeterminate h = absurd h
-  address_is o t (Int z) h = absurd h
-  address_is o t (Uint m) h = absurd h
-  address_is o t (Char z) h = absurd h
-  address_is o t (Uchar m) h = absurd h
-  address_is o t Null h = absurd h
   address_is o t (Func f) h = (t, refl, h.3, h.4)
   address_is o t (At q) h = (t, refl, place_pointer o t q h)
+  address_is o t v h = absurd h
 
   array_right : (o : Objects) (t : CType) (k : ℕ) (v : Value) → IsPlaced p o (array t k) v → Right (HasKind p o (pointer t)) (to_first (cells p.structs t) k v)
-  array_right o t k Indeterminate h = absurd h
-  array_right o t k (Int z) h = absurd h
-  array_right o t k (Uint m) h = absurd h
-  array_right o t k (Char z) h = absurd h
-  array_right o t k (Uchar m) h = absurd h
-  array_right o t k Null h = absurd h
   array_right o t k (Func f) h = absurd (cc (h.2))
   array_right o t k (At q) h = (
     t,
@@ -469,34 +346,26 @@ module _ (p : Program) (n : ℕ) (typed : IsProgram p n) where
       lies = h.lies;
     },
   )
+  array_right o t k v h = absurd h
 
   pub decayed_right : (o : Objects) (u t : CType) (v : Value) → Decays p.structs u t → IsPlaced p o u v → Right (HasKind p o t) (decayed p.structs u v)
-  decayed_right o void t v d h = absurd d
-  decayed_right o (integer k) t v d h = absurd d
-  decayed_right o (pointer u) t v d h = absurd d
   decayed_right o (array u k) t v d h = subst (λ t. Right (HasKind p o t) (to_first (cells p.structs u) k v)) (sym d) (array_right o u k v h)
-  decayed_right o (struct s) t v d h = absurd d
   decayed_right o (function r ts) t v d h = subst (λ t. HasKind p o t v) (sym d) (address_is o (function r ts) v h)
+  decayed_right o u t v d h = absurd d
 
   pub number_right : (o : Objects) (k : IntType) (v : Value) → HasKind p o (integer k) v → Right (λ z. Unit {0}) (number v)
   number_right o k Indeterminate h = absurd h
-  number_right o k (Int z) h = tt
-  number_right o k (Uint m) h = tt
-  number_right o k (Char z) h = tt
-  number_right o k (Uchar m) h = tt
   number_right o k Null h = absurd (cc (h.1))
   number_right o k (Func f) h = absurd (cc (h.1))
   number_right o k (At q) h = absurd (cc (h.1))
+  number_right o k v h = tt
 
   index_right : (o : Objects) (t : CType) (q : Pointer) (z : ℤ) → IsPointer p.structs o t q → Right (HasKind p o (pointer t)) (at_index q z)
   index_right o t q (negsuc k) h = (omega arith, omega arith)
-  index_right o t q (pos k) h = at (nat_le k q.elements) refl
-    where
-      at : (b : Bool) → nat_le k q.elements ≡ b → Right (HasKind p o (pointer t)) (if b then gives (At (record { name = q.name; first = q.first; width = q.width; elements = q.elements; index = k })) else undefined 7)
-      at true e =
-          let less : k ≤ q.elements = grind (arith, nat_tests) in
-          (t, refl, record { object = h.object; all = h.all; known = h.known; within = less; wide = h.wide; lies = h.lies })
-      at false e = (omega arith, omega arith)
+  index_right o t q (pos k) h =
+      tested_right {B = Value} (HasKind p o (pointer t)) (nat_le k q.elements) _ 7 (omega arith) (omega arith) (λ e.
+      let less : k ≤ q.elements = grind (arith, nat_tests) in
+      (t, refl, record { object = h.object; all = h.all; known = h.known; within = less; wide = h.wide; lies = h.lies }))
 
   moved_right : (o : Objects) (t : CType) (k : IntType) (subtracted : Bool) (v w : Value) (m : Memory) → IsObject p.structs t → HasKind p o (pointer t) v → HasKind p o (integer k) w → Right (HasKind p o (pointer t)) (moved m subtracted v w)
   moved_right o t k subtracted v w m b h l =
@@ -512,32 +381,18 @@ module _ (p : Program) (n : ℕ) (typed : IsProgram p n) where
 
   pub test_right : (o : Objects) (t : CType) (v : Value) (m : Memory) → HasKind p o t v → Right (λ b. Unit {0}) (test m v)
   test_right o t Indeterminate m h = absurd h
-  test_right o t (Int z) m h = tt
-  test_right o t (Uint k) m h = tt
-  test_right o t (Char z) m h = tt
-  test_right o t (Uchar k) m h = tt
-  test_right o t Null m h = tt
-  test_right o t (Func f) m h = tt
   test_right o t (At q) m h = there_right {B = Bool} (λ b. Unit {0}) (m q.name) _ (λ ob e. tt)
+  test_right o t v m h = tt
 
   -- two pointers to objects of one type
   pub in_one_right : {A : Type 0} (ok : A → Type 0) (o : Objects) (t : CType) (v w : Value) (m : Memory) (f : Pointer → Pointer → Answer A) → IsObject p.structs t → HasKind p o (pointer t) v → HasKind p o (pointer t) w → ((a b : Pointer) → IsPointer p.structs o t a → IsPointer p.structs o t b → Right {A = A} ok (f a b)) → Right {A = A} ok (in_one_array m v w f)
   in_one_right {A} ok o t v w m f b h l k =
-      right_then {B = A} (IsPointer p.structs o t) ok (pointed v) _ (pointer_right o t v b h) (λ x i. right_then {B = A} (IsPointer p.structs o t) ok (pointed w) _ (pointer_right o t w b l) (λ y j. there_right {B = A} ok (m x.name) _ (λ ob e. there_right {B = A} ok (m y.name) _ (λ ob e. at x y i j (same_array x y)))))
-    where
-      at : (x y : Pointer) → IsPointer p.structs o t x → IsPointer p.structs o t y → (b : Bool) → Right {A = A} ok (if b then f x y else undefined 9)
-      at x y i j true = k x y i j
-      at x y i j false = (omega arith, omega arith)
+      right_then {B = A} (IsPointer p.structs o t) ok (pointed v) _ (pointer_right o t v b h) (λ x i. right_then {B = A} (IsPointer p.structs o t) ok (pointed w) _ (pointer_right o t w b l) (λ y j. there_right {B = A} ok (m x.name) _ (λ ob e. there_right {B = A} ok (m y.name) _ (λ ob e. tested_right {B = A} ok (same_array x y) (f x y) 9 (omega arith) (omega arith) (λ e. k x y i j)))))
 
   alive_right : (o : Objects) (t : CType) (v : Value) (m : Memory) → HasKind p o t v → Right (HasKind p o t) (alive m v)
   alive_right o t Indeterminate m h = absurd h
-  alive_right o t (Int z) m h = h
-  alive_right o t (Uint k) m h = h
-  alive_right o t (Char z) m h = h
-  alive_right o t (Uchar k) m h = h
-  alive_right o t Null m h = h
-  alive_right o t (Func f) m h = h
   alive_right o t (At q) m h = there_right {B = Value} (HasKind p o t) (m q.name) _ (λ ob e. h)
+  alive_right o t v m h = h
 
   -- a pointer to an object and a function value are of two types
   two_types : (o : Objects) (t : CType) (q : Pointer) (f : ℕ) → HasKind p o (pointer t) (At q) → HasKind p o (pointer t) (Func f) → ⊥
@@ -546,35 +401,10 @@ module _ (p : Program) (n : ℕ) (typed : IsProgram p n) where
       no_function p.structs h.0 h.2.object (value_takes f h.0 (subst (λ u. value_type p f ≡ Some u) same k.2))
 
   equal_right : (o : Objects) (t : CType) (v w : Value) → HasKind p o (pointer t) v → HasKind p o (pointer t) w → Right (λ b. Unit {0}) (equal_pointers v w)
-  equal_right o t Indeterminate w h k = absurd h
-  equal_right o t (Int z) w h k = absurd (cc (h.0))
-  equal_right o t (Uint m) w h k = absurd (cc (h.0))
-  equal_right o t (Char z) w h k = absurd (cc (h.0))
-  equal_right o t (Uchar m) w h k = absurd (cc (h.0))
-  equal_right o t Null Indeterminate h k = absurd k
-  equal_right o t Null (Int z) h k = absurd (cc (k.0))
-  equal_right o t Null (Uint m) h k = absurd (cc (k.0))
-  equal_right o t Null (Char z) h k = absurd (cc (k.0))
-  equal_right o t Null (Uchar m) h k = absurd (cc (k.0))
-  equal_right o t Null Null h k = tt
-  equal_right o t Null (Func g) h k = tt
-  equal_right o t Null (At b) h k = tt
-  equal_right o t (Func f) Indeterminate h k = absurd k
-  equal_right o t (Func f) (Int z) h k = absurd (cc (k.0))
-  equal_right o t (Func f) (Uint m) h k = absurd (cc (k.0))
-  equal_right o t (Func f) (Char z) h k = absurd (cc (k.0))
-  equal_right o t (Func f) (Uchar m) h k = absurd (cc (k.0))
-  equal_right o t (Func f) Null h k = tt
-  equal_right o t (Func f) (Func g) h k = tt
-  equal_right o t (Func f) (At b) h k = absurd (two_types o t b f k h)
-  equal_right o t (At a) Indeterminate h k = absurd k
-  equal_right o t (At a) (Int z) h k = absurd (cc (k.0))
-  equal_right o t (At a) (Uint m) h k = absurd (cc (k.0))
-  equal_right o t (At a) (Char z) h k = absurd (cc (k.0))
-  equal_right o t (At a) (Uchar m) h k = absurd (cc (k.0))
-  equal_right o t (At a) Null h k = tt
-  equal_right o t (At a) (Func g) h k = absurd (two_types o t a g h k)
-  equal_right o t (At a) (At b) h k = tt
+  equal_right o t v w h k = pointer_value p o t (λ v. Right (λ b. Unit {0}) (equal_pointers v w)) v h
+      (pointer_value p o t (λ w. Right (λ b. Unit {0}) (equal_pointers Null w)) w k tt (λ g k. tt) (λ q k. tt))
+      (λ f h. pointer_value p o t (λ w. Right (λ b. Unit {0}) (equal_pointers (Func f) w)) w k tt (λ g k. tt) (λ q k. absurd (two_types o t q f k h)))
+      (λ q h. pointer_value p o t (λ w. Right (λ b. Unit {0}) (equal_pointers (At q) w)) w k tt (λ g k. absurd (two_types o t q g h k)) (λ r k. tt))
 
   equality_right : (o : Objects) (t : CType) (v w : Value) (m : Memory) (f : Bool → Value) → ((b : Bool) → HasKind p o int (f b)) → HasKind p o (pointer t) v → HasKind p o (pointer t) w → Right (HasKind p o int) (and_then (and_then (alive m v) (λ v. and_then (alive m w) (λ w. equal_pointers v w))) (λ b. gives (f b)))
   equality_right o t v w m f g h k =
@@ -584,116 +414,53 @@ module _ (p : Program) (n : ℕ) (typed : IsProgram p n) where
   ordered_right : (o : Objects) (t : CType) (v w : Value) (m : Memory) (f : ℕ → ℕ → Bool) → IsObject p.structs t → HasKind p o (pointer t) v → HasKind p o (pointer t) w → Right (HasKind p o int) (in_one_array m v w (λ a b. gives (truth_value (f a.index b.index))))
   ordered_right o t v w m f b h k = in_one_right {A = Value} (HasKind p o int) o t v w m _ b h k (λ x y i j. truth_kind o (f x.index y.index))
 
-  abbrev ComparesPointers : OperatorKind → CType → Type 0
-  ComparesPointers balanced t = ⊥
-  ComparesPointers shift t = ⊥
-  ComparesPointers ordering t = IsObject p.structs t
-  ComparesPointers equality t = Unit {0}
-
-  compared_right : (o : Objects) (op : BinOp) (t : CType) (v w : Value) (m : Memory) → ComparesPointers (kind_of op) t → HasKind p o (pointer t) v → HasKind p o (pointer t) w → Right (HasKind p o int) (compared m op v w)
-  compared_right o Mul t v w m b h k = absurd b
-  compared_right o Div t v w m b h k = absurd b
-  compared_right o Rem t v w m b h k = absurd b
-  compared_right o Add t v w m b h k = absurd b
-  compared_right o Sub t v w m b h k = absurd b
-  compared_right o ShiftLeft t v w m b h k = absurd b
-  compared_right o ShiftRight t v w m b h k = absurd b
-  compared_right o BitAnd t v w m b h k = absurd b
-  compared_right o BitXor t v w m b h k = absurd b
-  compared_right o BitOr t v w m b h k = absurd b
+  compared_right : (o : Objects) (op : BinOp) (t : CType) (v w : Value) (m : Memory) → Comparing (kind_of op) (IsObject p.structs t) → HasKind p o (pointer t) v → HasKind p o (pointer t) w → Right (HasKind p o int) (compared m op v w)
   compared_right o Less t v w m b h k = ordered_right o t v w m (λ a b. nat_lt a b) b h k
   compared_right o Greater t v w m b h k = ordered_right o t v w m (λ a b. nat_lt b a) b h k
   compared_right o LessEqual t v w m b h k = ordered_right o t v w m (λ a b. nat_le a b) b h k
   compared_right o GreaterEqual t v w m b h k = ordered_right o t v w m (λ a b. nat_le b a) b h k
   compared_right o Equal t v w m b h k = equality_right o t v w m (λ same. truth_value same) (λ b. truth_kind o b) h k
   compared_right o NotEqual t v w m b h k = equality_right o t v w m (λ same. truth_value (not same)) (λ b. truth_kind o (not b)) h k
+  compared_right o op t v w m b h k = absurd b
 
-  comparing_pointers : (o : Objects) (op : BinOp) (t : CType) (v w : Value) (m : Memory) → ComparesPointers (kind_of op) t → HasKind p o (pointer t) v → HasKind p o (pointer t) w → Right (HasKind p o int) (comparing op m v w)
-  comparing_pointers o op t Indeterminate w m b h k = absurd h
-  comparing_pointers o op t (Int z) w m b h k = absurd (cc (h.0))
-  comparing_pointers o op t (Uint n) w m b h k = absurd (cc (h.0))
-  comparing_pointers o op t (Char z) w m b h k = absurd (cc (h.0))
-  comparing_pointers o op t (Uchar n) w m b h k = absurd (cc (h.0))
-  comparing_pointers o op t Null w m b h k = compared_right o op t Null w m b h k
-  comparing_pointers o op t (Func f) w m b h k = compared_right o op t (Func f) w m b h k
-  comparing_pointers o op t (At q) w m b h k = compared_right o op t (At q) w m b h k
+  comparing_pointers : (o : Objects) (op : BinOp) (t : CType) (v w : Value) (m : Memory) → Comparing (kind_of op) (IsObject p.structs t) → HasKind p o (pointer t) v → HasKind p o (pointer t) w → Right (HasKind p o int) (comparing op m v w)
+  comparing_pointers o op t v w m b h k = pointer_value p o t (λ v. Right (HasKind p o int) (comparing op m v w)) v h (compared_right o op t Null w m b (t, refl) k) (λ f h. compared_right o op t (Func f) w m b h k) (λ q h. compared_right o op t (At q) w m b h k)
 
   -- integers of a promoted type
-  comparing_integers : (o : Objects) (op : BinOp) (a : IntType) (v w : Value) (m : Memory) → Compares (kind_of op) → IsPromoted a → IsConstant (integer a) v → IsConstant (integer a) w → Right (HasKind p o int) (comparing op m v w)
-  comparing_integers o op i.Char v w m c b h k = absurd b
-  comparing_integers o op i.Uchar v w m c b h k = absurd b
-  comparing_integers o op i.Int (Int x) (Int y) m c b h k = converted_right o int _ (comparison_table op i.Int x y c)
-  comparing_integers o op i.Uint (Uint x) (Uint y) m c b h k = converted_right o int _ (comparison_table op i.Uint (pos x) (pos y) c)
-  comparing_integers o op i.Int (Int x) Indeterminate m c b h k = absurd k
-  comparing_integers o op i.Int (Int x) (Uint y) m c b h k = absurd (cc (k.0))
-  comparing_integers o op i.Int (Int x) (Char y) m c b h k = absurd (cc (k.0))
-  comparing_integers o op i.Int (Int x) (Uchar y) m c b h k = absurd (cc (k.0))
-  comparing_integers o op i.Int (Int x) Null m c b h k = absurd (cc (k.1))
-  comparing_integers o op i.Int (Int x) (Func f) m c b h k = absurd k
-  comparing_integers o op i.Int (Int x) (At q) m c b h k = absurd k
-  comparing_integers o op i.Uint (Uint x) Indeterminate m c b h k = absurd k
-  comparing_integers o op i.Uint (Uint x) (Int y) m c b h k = absurd (cc (k.0))
-  comparing_integers o op i.Uint (Uint x) (Char y) m c b h k = absurd (cc (k.0))
-  comparing_integers o op i.Uint (Uint x) (Uchar y) m c b h k = absurd (cc (k.0))
-  comparing_integers o op i.Uint (Uint x) Null m c b h k = absurd (cc (k.1))
-  comparing_integers o op i.Uint (Uint x) (Func f) m c b h k = absurd k
-  comparing_integers o op i.Uint (Uint x) (At q) m c b h k = absurd k
-  comparing_integers o op i.Int Indeterminate w m c b h k = absurd h
-  comparing_integers o op i.Int (Uint x) w m c b h k = absurd (cc (h.0))
-  comparing_integers o op i.Int (Char x) w m c b h k = absurd (cc (h.0))
-  comparing_integers o op i.Int (Uchar x) w m c b h k = absurd (cc (h.0))
-  comparing_integers o op i.Int Null w m c b h k = absurd (cc (h.1))
-  comparing_integers o op i.Int (Func f) w m c b h k = absurd h
-  comparing_integers o op i.Int (At q) w m c b h k = absurd h
-  comparing_integers o op i.Uint Indeterminate w m c b h k = absurd h
-  comparing_integers o op i.Uint (Int x) w m c b h k = absurd (cc (h.0))
-  comparing_integers o op i.Uint (Char x) w m c b h k = absurd (cc (h.0))
-  comparing_integers o op i.Uint (Uchar x) w m c b h k = absurd (cc (h.0))
-  comparing_integers o op i.Uint Null w m c b h k = absurd (cc (h.1))
-  comparing_integers o op i.Uint (Func f) w m c b h k = absurd h
-  comparing_integers o op i.Uint (At q) w m c b h k = absurd h
+  comparing_integers : (o : Objects) (op : BinOp) (a : IntType) (v w : Value) (m : Memory) → Comparing (kind_of op) (Unit {0}) → IsPromoted a → HasKind p o (integer a) v → HasKind p o (integer a) w → Right (HasKind p o int) (comparing op m v w)
+  comparing_integers o op i.Int v w m c b h k =
+      int_value p o (λ v. Right (HasKind p o int) (comparing op m v w)) v h (λ x f. int_value p o (λ w. Right (HasKind p o int) (comparing op m (Int x) w)) w k (λ y g. converted_right o int _ (comparison_table op i.Int x y c)))
+  comparing_integers o op i.Uint v w m c b h k =
+      uint_value p o (λ v. Right (HasKind p o int) (comparing op m v w)) v h (λ x f. uint_value p o (λ w. Right (HasKind p o int) (comparing op m (Uint x) w)) w k (λ y g. converted_right o int _ (comparison_table op i.Uint (pos x) (pos y) c)))
+  comparing_integers o op a v w m c b h k = absurd b
 
   comparable_right : (o : Objects) (op : BinOp) (u : CType) (v w : Value) (m : Memory) (c : OperatorKind) → kind_of op ≡ c → AreComparable p.structs c u → HasKind p o u v → HasKind p o u w → Right (HasKind p o int) (comparing op m v w)
-  comparable_right o op u v w m balanced e c h k = absurd c
-  comparable_right o op u v w m shift e c h k = absurd c
   comparable_right o op u v w m ordering e (inl c) h k =
-      comparing_integers o op c.0 v w m (subst Compares (sym e) tt) c.2 (constant_of o c.0 v (subst (λ u. HasKind p o u v) c.1 h)) (constant_of o c.0 w (subst (λ u. HasKind p o u w) c.1 k))
+      comparing_integers o op c.0 v w m (subst (λ c. Comparing c (Unit {0})) (sym e) tt) c.2 (subst (λ u. HasKind p o u v) c.1 h) (subst (λ u. HasKind p o u w) c.1 k)
   comparable_right o op u v w m ordering e (inr c) h k =
-      comparing_pointers o op c.0 v w m (subst (λ c'. ComparesPointers c' c.0) (sym e) c.2) (subst (λ u. HasKind p o u v) c.1 h) (subst (λ u. HasKind p o u w) c.1 k)
+      comparing_pointers o op c.0 v w m (subst (λ c'. Comparing c' (IsObject p.structs c.0)) (sym e) c.2) (subst (λ u. HasKind p o u v) c.1 h) (subst (λ u. HasKind p o u w) c.1 k)
   comparable_right o op u v w m equality e (inl c) h k =
-      comparing_integers o op c.0 v w m (subst Compares (sym e) tt) c.2 (constant_of o c.0 v (subst (λ u. HasKind p o u v) c.1 h)) (constant_of o c.0 w (subst (λ u. HasKind p o u w) c.1 k))
+      comparing_integers o op c.0 v w m (subst (λ c. Comparing c (Unit {0})) (sym e) tt) c.2 (subst (λ u. HasKind p o u v) c.1 h) (subst (λ u. HasKind p o u w) c.1 k)
   comparable_right o op u v w m equality e (inr c) h k =
-      comparing_pointers o op c.0 v w m (subst (λ c'. ComparesPointers c' c.0) (sym e) tt) (subst (λ u. HasKind p o u v) c.1 h) (subst (λ u. HasKind p o u w) c.1 k)
+      comparing_pointers o op c.0 v w m (subst (λ c'. Comparing c' (IsObject p.structs c.0)) (sym e) tt) (subst (λ u. HasKind p o u v) c.1 h) (subst (λ u. HasKind p o u w) c.1 k)
+  comparable_right o op u v w m a e c h k = absurd c
 
   pub comparing_right : (o : Objects) (op : BinOp) (t u w : CType) (x y : Value) (m : Memory) → FitsComparison p.structs op t u w → HasKind p o u x → HasKind p o w y → Right (HasKind p o t) (comparing op m x y)
   comparing_right o op t u w x y m f h k =
       subst (λ t. Right (HasKind p o t) (comparing op m x y)) (sym f.gives) (comparable_right o op u x y m (kind_of op) refl f.comparable h (subst (λ w. HasKind p o w y) f.alike k))
 
-  unary_right : (o : Objects) (op : UnOp) (a : IntType) (v : Value) → ((x : ℤ) (t : IntType) → IsPromoted t → IsAnswer (integer t) (negated op t x)) → ((z : ℤ) → unary op (Int z) ≡ negated op i.Int z) → ((m : ℕ) → unary op (Uint m) ≡ negated op i.Uint (pos m)) → IsPromoted a → IsConstant (integer a) v → Right (HasKind p o (integer a)) (unary op v)
-  unary_right o op i.Char v f g l b h = absurd b
-  unary_right o op i.Uchar v f g l b h = absurd b
-  unary_right o op i.Int (Int z) f g l b h = subst (λ r. Right (HasKind p o int) r) (sym (g z)) (answer_right o int _ (f z i.Int tt))
-  unary_right o op i.Uint (Uint m) f g l b h = subst (λ r. Right (HasKind p o (integer i.Uint)) r) (sym (l m)) (answer_right o (integer i.Uint) _ (f (pos m) i.Uint tt))
-  unary_right o op i.Int Indeterminate f g l b h = absurd h
-  unary_right o op i.Int (Uint x) f g l b h = absurd (cc (h.0))
-  unary_right o op i.Int (Char x) f g l b h = absurd (cc (h.0))
-  unary_right o op i.Int (Uchar x) f g l b h = absurd (cc (h.0))
-  unary_right o op i.Int Null f g l b h = absurd (cc (h.1))
-  unary_right o op i.Int (Func x) f g l b h = absurd h
-  unary_right o op i.Int (At q) f g l b h = absurd h
-  unary_right o op i.Uint Indeterminate f g l b h = absurd h
-  unary_right o op i.Uint (Int x) f g l b h = absurd (cc (h.0))
-  unary_right o op i.Uint (Char x) f g l b h = absurd (cc (h.0))
-  unary_right o op i.Uint (Uchar x) f g l b h = absurd (cc (h.0))
-  unary_right o op i.Uint Null f g l b h = absurd (cc (h.1))
-  unary_right o op i.Uint (Func x) f g l b h = absurd h
-  unary_right o op i.Uint (At q) f g l b h = absurd h
+  unary_right : (o : Objects) (op : UnOp) (a : IntType) (v : Value) → ((x : ℤ) (t : IntType) → IsPromoted t → IsAnswer (integer t) (negated op t x)) → ((z : ℤ) → unary op (Int z) ≡ negated op i.Int z) → ((m : ℕ) → unary op (Uint m) ≡ negated op i.Uint (pos m)) → IsPromoted a → HasKind p o (integer a) v → Right (HasKind p o (integer a)) (unary op v)
+  unary_right o op i.Int v f g l b h =
+      int_value p o (λ v. Right (HasKind p o int) (unary op v)) v h (λ z q. subst (λ r. Right (HasKind p o int) r) (sym (g z)) (answer_right o int _ (f z i.Int tt)))
+  unary_right o op i.Uint v f g l b h =
+      uint_value p o (λ v. Right (HasKind p o (integer i.Uint)) (unary op v)) v h (λ m q. subst (λ r. Right (HasKind p o (integer i.Uint)) r) (sym (l m)) (answer_right o (integer i.Uint) _ (f (pos m) i.Uint tt)))
+  unary_right o op a v f g l b h = absurd b
 
   pub operated_right : (o : Objects) (op : UnOp) (t u : CType) (v : Value) (m : Memory) → FitsUnary op t u → HasKind p o u v → Right (HasKind p o t) (operated op m v)
   operated_right o Minus t u v m f h =
-      subst (λ t. Right (HasKind p o t) (unary Minus v)) (sym f.1) (unary_right o Minus f.0 v (λ x t b. settled t (neg_ℤ x) b) (λ z. refl) (λ m. refl) f.3 (constant_of o f.0 v (subst (λ u. HasKind p o u v) f.2 h)))
+      subst (λ t. Right (HasKind p o t) (unary Minus v)) (sym f.1) (unary_right o Minus f.0 v (λ x t b. settled t (neg_ℤ x) b) (λ z. refl) (λ m. refl) f.3 (subst (λ u. HasKind p o u v) f.2 h))
   operated_right o Complement t u v m f h =
-      subst (λ t. Right (HasKind p o t) (unary Complement v)) (sym f.1) (unary_right o Complement f.0 v (λ x t b. settled t (neg_ℤ x -ℤ pos 1) b) (λ z. refl) (λ m. refl) f.3 (constant_of o f.0 v (subst (λ u. HasKind p o u v) f.2 h)))
+      subst (λ t. Right (HasKind p o t) (unary Complement v)) (sym f.1) (unary_right o Complement f.0 v (λ x t b. settled t (neg_ℤ x -ℤ pos 1) b) (λ z. refl) (λ m. refl) f.3 (subst (λ u. HasKind p o u v) f.2 h))
   operated_right o Not t u v m f h =
       subst (λ t. Right (HasKind p o t) (and_then (test m v) (λ holds. gives (truth_value (not holds))))) (sym f.0) (right_then (λ b. Unit {0}) (HasKind p o int) (test m v) _ (test_right o u v m h) (λ b u. truth_kind o (not b)))
 

@@ -1,5 +1,5 @@
 -- What does alike after each way of putting parts of a program together.
-use Rattle.std.proofs.Common.{◌≡◌, ℕ, zero, suc, ◌*◌, ◌+◌, ◌≤◌, nat_lt, nat_le, nat_eq, if◌then◌else◌, Bool, true, false, ℤ, List, [], ◌∷◌, Option, Some, None, slice_get, sym, ap, ◌∙◌, subst, refl, arith}
+use Rattle.std.proofs.Common.{◌≡◌, ℕ, zero, suc, ◌+◌, ◌≤◌, nat_lt, nat_le, nat_eq, if◌then◌else◌, Bool, true, false, ℤ, List, [], ◌∷◌, Option, Some, None, slice_get, sym, ap, ◌∙◌, subst, refl, arith}
 use Rattle.dm_base.specs.declared.event.Event.{Event}
 use Rattle.dm_base.specs.declared.event.Event.TheVariants.{Pre, Post, Sys}
 use Rattle.dm_base.specs.declared.outcome.Outcome.TheVariants.{Undefined, BadResult}
@@ -10,7 +10,7 @@ use Rattle.dm_base.specs.declared.event.Arg.TheVariants as args
 use Rattle.c_tree.specs.declared.value.ObjectName.{ObjectName}
 use Rattle.c_tree.specs.declared.value.Pointer.{Pointer}
 use Rattle.c_tree.specs.declared.value.Value.{Value}
-use Rattle.c_tree.specs.declared.value.Value.TheVariants.{Indeterminate, Int, Uint, Char, Uchar, Null, Func, At}
+use Rattle.c_tree.specs.declared.value.Value.TheVariants.{Indeterminate, Int, Uint, Char, At}
 use Rattle.c_tree.specs.Tree.{CType, Program}
 use Rattle.c_tree.specs.Kinds.{Objects}
 use Rattle.c_tree.specs.Operators.{Answer, gives, undefined, and_then}
@@ -19,7 +19,7 @@ use Rattle.c_meaning.specs.Memory.{Objects as Memory}
 use Rattle.c_meaning.proofs.StoreLemmas.{same_is}
 use Rattle.c_meaning.specs.Meaning.{Marks, either, with_marks, null_call, call_undefined, system_call_alone}
 use Rattle.c_meaning.specs.Pointers.{number, store_place}
-use Rattle.c_meaning.specs.Results.{State, with_memory, Result, Go, Stop, after, then_do, spend_at, answered, remembered, Exit, on, broken, continued, returned, on_exit, on_round}
+use Rattle.c_meaning.specs.Results.{State, with_memory, Result, Go, Stop, after, then_do, spend_at, answered, remembered, Exit, on, broken, returned, on_exit, on_round}
 use Rattle.c_meaning.specs.SystemCalls.{char_of, room_for, bytes_of_buffer, size, Request, arguments, request, does_answer, result_value, next, filled, filled_where, with_records, take_record, exit_call, exit_with, system_call}
 use Rattle.c_meaning_laws.specs.StoreTyping.{HasKind, IsCell, IsGiven, IsPlaced, IsTypedState, Grows, TellsAlike}
 use Rattle.c_meaning_laws.specs.TypedResults.{EndsTyped}
@@ -52,14 +52,8 @@ module _ (known : Objects) (last : ℕ) where
   AllShown (v ∷ vs) = Shown v × AllShown vs
 
   pub sees : (m l : Memory) (v : Value) → TypedAlike m l → Shown v → Sees m l v
-  sees m l Indeterminate b h = tt
-  sees m l (Int z) b h = tt
-  sees m l (Uint n) b h = tt
-  sees m l (Char z) b h = tt
-  sees m l (Uchar n) b h = tt
-  sees m l Null b h = tt
-  sees m l (Func f) b h = tt
   sees m l (At q) b h = b q.name h
+  sees m l v b h = tt
 
   pub all_see : (m l : Memory) (vs : List Value) → TypedAlike m l → AllShown vs → AllSee m l vs
   all_see m l [] b h = tt
@@ -82,35 +76,17 @@ module _ (known : Objects) (last : ℕ) where
       at true s = absurd (h (subst Hidden (sym (same_is x y s)) k))
       at false s = refl
 
-  changed_remembers : (m l : Memory) (x : ObjectName) (r : Answer Object) → (Hidden x → ⊥) → TypedAlike m l → Remembers l (and_then r (λ new. gives (changed m x (Some new)))) (and_then r (λ new. gives (changed l x (Some new))))
-  changed_remembers m l x (gives new) h b = (changed l x (Some new), refl, beside_changed m l x (Some new) b, stay_changed l x (Some new) h)
-  changed_remembers m l x (undefined kind) h b = refl
+  remembers_each : {A : Type 0} (l : Memory) (r : Answer A) (f g : A → Answer Memory) → ((a : A) → Remembers l (f a) (g a)) → Remembers l (and_then r f) (and_then r g)
+  remembers_each l (gives a) f g h = h a
+  remembers_each l (undefined kind) f g h = refl
 
   store_remembers : (m l : Memory) (q : Pointer) (v : Value) → (Hidden q.name → ⊥) → TypedAlike m l → Remembers l (store m q 0 v) (store l q 0 v)
   store_remembers m l q v h b =
-      subst (λ c. Remembers l (store m q 0 v) (and_then (there c) (λ o. and_then (element q) (λ first. and_then (writable o) (λ cells. and_then (set_cell cells (first + 0) v (slice_get cells (first + 0))) (λ new. gives (changed l q.name (Some new)))))))) (sym (b q.name h)) (at (m q.name))
-    where
-      last_of : (ob : Object) (first : ℕ) (c : Bool) → Remembers l (and_then (if c then undefined 10 else gives ob.cells) (λ cells. and_then (set_cell cells (first + 0) v (slice_get cells (first + 0))) (λ new. gives (changed m q.name (Some new))))) (and_then (if c then undefined 10 else gives ob.cells) (λ cells. and_then (set_cell cells (first + 0) v (slice_get cells (first + 0))) (λ new. gives (changed l q.name (Some new)))))
-      last_of ob first true = refl
-      last_of ob first false = changed_remembers m l q.name (set_cell ob.cells (first + 0) v (slice_get ob.cells (first + 0))) h b
-
-      middle : (ob : Object) (c : Bool) → Remembers l (and_then (if c then gives (q.first + q.index * q.width) else undefined 8) (λ first. and_then (writable ob) (λ cells. and_then (set_cell cells (first + 0) v (slice_get cells (first + 0))) (λ new. gives (changed m q.name (Some new)))))) (and_then (if c then gives (q.first + q.index * q.width) else undefined 8) (λ first. and_then (writable ob) (λ cells. and_then (set_cell cells (first + 0) v (slice_get cells (first + 0))) (λ new. gives (changed l q.name (Some new))))))
-      middle ob true = last_of ob (q.first + q.index * q.width) ob.string
-      middle ob false = refl
-
-      at : (c : Option Object) → Remembers l (and_then (there c) (λ o. and_then (element q) (λ first. and_then (writable o) (λ cells. and_then (set_cell cells (first + 0) v (slice_get cells (first + 0))) (λ new. gives (changed m q.name (Some new))))))) (and_then (there c) (λ o. and_then (element q) (λ first. and_then (writable o) (λ cells. and_then (set_cell cells (first + 0) v (slice_get cells (first + 0))) (λ new. gives (changed l q.name (Some new)))))))
-      at None = refl
-      at (Some ob) = middle ob (nat_lt q.index q.elements)
+      subst (λ c. Remembers l (store m q 0 v) (and_then (there c) (λ o. and_then (element q) (λ first. and_then (writable o) (λ cells. and_then (set_cell cells (first + 0) v (slice_get cells (first + 0))) (λ new. gives (changed l q.name (Some new)))))))) (sym (b q.name h)) (remembers_each {A = Object} l (there (m q.name)) _ _ (λ o. remembers_each {A = ℕ} l (element q) _ _ (λ first. remembers_each {A = List Value} l (writable o) _ _ (λ cells. remembers_each {A = Object} l (set_cell cells (first + 0) v (slice_get cells (first + 0))) _ _ (λ new. (changed l q.name (Some new), refl, beside_changed m l q.name (Some new) b, stay_changed l q.name (Some new) h))))))
 
   pub store_place_remembers : (m l : Memory) (a v : Value) → Shown a → TypedAlike m l → Remembers l (store_place m a v) (store_place l a v)
-  store_place_remembers m l Indeterminate v h b = refl
-  store_place_remembers m l (Int z) v h b = refl
-  store_place_remembers m l (Uint n) v h b = refl
-  store_place_remembers m l (Char z) v h b = refl
-  store_place_remembers m l (Uchar n) v h b = refl
-  store_place_remembers m l Null v h b = refl
-  store_place_remembers m l (Func f) v h b = refl
   store_place_remembers m l (At q) v h b = store_remembers m l q v h b
+  store_place_remembers m l a v h b = refl
 
   remembers_then : (more : Memory) (r q : Answer Memory) (f g : Memory → Answer Memory) → Remembers more r q → ((m l : Memory) → TypedAlike m l → Remembers l (f m) (g l)) → Remembers more (and_then r f) (and_then q g)
   remembers_then more (gives m) q f g h k =
@@ -173,17 +149,18 @@ module _ (known : Objects) (last : ℕ) where
   either_does true more a b c d h k = h
   either_does false more a b c d h k = k
 
+  if_does : {A : Type 0} (holds : Bool) (more : Memory) (a b c d : Result A) → Does {A = A} more a c → Does {A = A} more b d → Does {A = A} more (if holds then a else b) (if holds then c else d)
+  if_does true more a b c d h k = h
+  if_does false more a b c d h k = k
+
   pub exit_does : (x : Exit) (st : State) (more : Memory) (f g : State → Result Exit) → TypedAlike st.memory more → Does {A = Exit} more (f st) (g (with_memory st more)) → Does {A = Exit} more (on_exit x st f) (on_exit x (with_memory st more) g)
   exit_does on st more f g b h = h
-  exit_does broken st more f g b h = here {A = Exit} broken st more [] b
-  exit_does continued st more f g b h = here {A = Exit} continued st more [] b
-  exit_does (returned v) st more f g b h = here {A = Exit} (returned v) st more [] b
+  exit_does x st more f g b h = here {A = Exit} x st more [] b
 
   pub round_does : (x : Exit) (st : State) (more : Memory) (f g : State → Result Exit) → TypedAlike st.memory more → Does {A = Exit} more (f st) (g (with_memory st more)) → Does {A = Exit} more (on_round x st f) (on_round x (with_memory st more) g)
-  round_does on st more f g b h = h
   round_does broken st more f g b h = here {A = Exit} on st more [] b
-  round_does continued st more f g b h = h
   round_does (returned v) st more f g b h = here {A = Exit} (returned v) st more [] b
+  round_does x st more f g b h = h
 
   pub instrumented_does : (marks : Marks) (site : ℕ) (more : Memory) (r q : Result Value) → Does {A = Value} more r q → Does {A = Value} more (with_marks marks site r) (with_marks marks site q)
   instrumented_does marks site more (Go v st w) q h = (h.0, ap (with_marks marks site) h.1, h.2, h.3)
@@ -200,35 +177,22 @@ module _ (known : Objects) (last : ℕ) where
 
   room_shown : (m : Memory) (v : Value) (k : ℕ) → Shown v → Whenever {A = Option Pointer} ShownBuffer (room_for m v k)
   room_shown m v zero h = tt
-  room_shown m Indeterminate (suc k) h = tt
-  room_shown m (Int z) (suc k) h = tt
-  room_shown m (Uint n) (suc k) h = tt
-  room_shown m (Char z) (suc k) h = tt
-  room_shown m (Uchar n) (suc k) h = tt
-  room_shown m Null (suc k) h = tt
-  room_shown m (Func f) (suc k) h = tt
   room_shown m (At q) (suc k) h =
       whenever_then {A = Object} {B = Option Pointer} (λ o. Unit {0}) ShownBuffer (there (m q.name)) _ (any {A = Object} (there (m q.name))) (λ o u. whenever_then {A = List Value} {B = Option Pointer} (λ o. Unit {0}) ShownBuffer (writable o) _ (any {A = List Value} (writable o)) (λ cells u. room (nat_le (q.index + suc k) q.elements)))
     where
       room : (b : Bool) → Whenever {A = Option Pointer} ShownBuffer (if b then gives (Some q) else undefined 12)
       room true = h
       room false = tt
+  room_shown m v k h = tt
 
   request_shown : (x : ℕ) (m : Memory) (vs : List Value) → AllShown vs → Whenever {A = Request} ShownRequest (request x m vs)
-  request_shown zero m [] h = tt
-  request_shown zero m (a ∷ []) h = tt
-  request_shown zero m (a ∷ b ∷ []) h = tt
   request_shown zero m (a ∷ b ∷ c ∷ []) h =
       whenever_then {A = ℤ} {B = Request} (λ z. Unit {0}) ShownRequest (number a) _ (any {A = ℤ} (number a)) (λ z u. whenever_then {A = ℕ} {B = Request} (λ z. Unit {0}) ShownRequest (size c) _ (any {A = ℕ} (size c)) (λ n u. whenever_then {A = Option Pointer} {B = Request} ShownBuffer ShownRequest (room_for m b n) _ (room_shown m b n h.1.0) (λ room k. k)))
-  request_shown zero m (a ∷ b ∷ c ∷ d ∷ vs) h = tt
-  request_shown (suc zero) m [] h = tt
-  request_shown (suc zero) m (a ∷ []) h = tt
-  request_shown (suc zero) m (a ∷ b ∷ []) h = tt
   request_shown (suc zero) m (a ∷ b ∷ c ∷ []) h =
       whenever_then {A = ℤ} {B = Request} (λ z. Unit {0}) ShownRequest (number a) _ (any {A = ℤ} (number a)) (λ z u. whenever_then {A = ℕ} {B = Request} (λ z. Unit {0}) ShownRequest (size c) _ (any {A = ℕ} (size c)) (λ n u. whenever_then {A = List ℕ} {B = Request} (λ z. Unit {0}) ShownRequest (bytes_of_buffer m b n) _ (any {A = List ℕ} (bytes_of_buffer m b n)) (λ room k. tt)))
-  request_shown (suc zero) m (a ∷ b ∷ c ∷ d ∷ vs) h = tt
   request_shown (suc (suc x)) m vs h =
       whenever_then {A = List Arg} {B = Request} (λ z. Unit {0}) ShownRequest (arguments m vs) _ (any {A = List Arg} (arguments m vs)) (λ xs u. tt)
+  request_shown x m vs h = tt
 
   filled_where_remembers : (m l : Memory) (buffer : Option Pointer) (bytes : List ℕ) → ShownBuffer buffer → TypedAlike m l → Remembers l (filled_where buffer bytes m) (filled_where buffer bytes l)
   filled_where_remembers m l None bytes h b = (l, refl, b, λ x hid. refl)
@@ -236,62 +200,27 @@ module _ (known : Objects) (last : ℕ) where
 
   record_does : (x : ℕ) (q : Request) (rs : List SysResult) (st : State) (more : Memory) → ShownRequest q → TypedAlike st.memory more → Does {A = Value} more (take_record x q rs st) (take_record x q rs (with_memory st more))
   record_does x q [] st more h b = refl
-  record_does x q (r ∷ rs) st more h b = at (does_answer x q.asked r)
-    where
-      at : (c : Bool) → Does {A = Value} more (if c then after (Sys x q.arguments r.value ∷ []) (remembered (filled_where q.buffer r.bytes st.memory) (result_value (result_of x) r.value) (with_records st rs)) else Stop (BadResult (suc st.taken)) []) (if c then after (Sys x q.arguments r.value ∷ []) (remembered (filled_where q.buffer r.bytes more) (result_value (result_of x) r.value) (with_records (with_memory st more) rs)) else Stop (BadResult (suc st.taken)) [])
-      at true =
-          after_does {A = Value} more (Sys x q.arguments r.value ∷ []) _ _ (remembered_does {A = Value} _ _ (result_value (result_of x) r.value) (with_records st rs) more (filled_where_remembers st.memory more q.buffer r.bytes h b))
-      at false = refl
+  record_does x q (r ∷ rs) st more h b =
+      if_does {A = Value} (does_answer x q.asked r) more _ _ _ _ (after_does {A = Value} more (Sys x q.arguments r.value ∷ []) _ _ (remembered_does {A = Value} _ _ (result_value (result_of x) r.value) (with_records st rs) more (filled_where_remembers st.memory more q.buffer r.bytes h b))) refl
 
   exit_alike : (more : Memory) (xs : List Arg) → Does {A = Value} more (exit_with xs) (exit_with xs)
-  exit_alike more [] = refl
   exit_alike more (args.Int s ∷ []) = refl
-  exit_alike more (args.Bytes bytes ∷ []) = refl
-  exit_alike more (args.Int s ∷ b ∷ xs) = refl
-  exit_alike more (args.Bytes bytes ∷ b ∷ xs) = refl
+  exit_alike more xs = refl
 
   pub system_call_does : (x : ℕ) (vs : List Value) (st : State) (more : Memory) → AllShown vs → TypedAlike st.memory more → Does {A = Value} more (system_call x vs st) (system_call x vs (with_memory st more))
   system_call_does x vs st more h b =
-      answered_then {A = Request} {B = Value} ShownRequest (request x st.memory vs) (request x more vs) st more _ _ (request_same st.memory more x vs (all_see st.memory more vs b h)) (request_shown x st.memory vs h) (λ q k. at q k (nat_eq x exit_call))
-    where
-      at : (q : Request) → ShownRequest q → (c : Bool) → Does {A = Value} more (if c then exit_with q.arguments else take_record x q st.records st) (if c then exit_with q.arguments else take_record x q st.records (with_memory st more))
-      at q k true = exit_alike more q.arguments
-      at q k false = record_does x q st.records st more k b
+      answered_then {A = Request} {B = Value} ShownRequest (request x st.memory vs) (request x more vs) st more _ _ (request_same st.memory more x vs (all_see st.memory more vs b h)) (request_shown x st.memory vs h) (λ q k. if_does {A = Value} (nat_eq x exit_call) more _ _ _ _ (exit_alike more q.arguments) (record_does x q st.records st more k b))
 
   null_does : (event : ℕ → Event) (vs : List Value) (st : State) (more : Memory) → TypedAlike st.memory more → Does {A = Value} more (null_call event vs st) (null_call event vs (with_memory st more))
-  null_does event [] st more b = refl
   null_does event (Uint s ∷ []) st more b = here {A = Value} Indeterminate st more (event s ∷ []) b
-  null_does event (Indeterminate ∷ []) st more b = refl
-  null_does event (Int z ∷ []) st more b = refl
-  null_does event (Char z ∷ []) st more b = refl
-  null_does event (Uchar n ∷ []) st more b = refl
-  null_does event (Null ∷ []) st more b = refl
-  null_does event (Func f ∷ []) st more b = refl
-  null_does event (At q ∷ []) st more b = refl
-  null_does event (Indeterminate ∷ u ∷ vs) st more b = refl
-  null_does event (Int z ∷ u ∷ vs) st more b = refl
-  null_does event (Uint s ∷ u ∷ vs) st more b = refl
-  null_does event (Char z ∷ u ∷ vs) st more b = refl
-  null_does event (Uchar n ∷ u ∷ vs) st more b = refl
-  null_does event (Null ∷ u ∷ vs) st more b = refl
-  null_does event (Func f ∷ u ∷ vs) st more b = refl
-  null_does event (At q ∷ u ∷ vs) st more b = refl
+  null_does event vs st more b = refl
 
   pub undefined_does : (x : ℕ) (vs : List Value) (st : State) (more : Memory) → AllShown vs → TypedAlike st.memory more → Does {A = Value} more (call_undefined x vs st) (call_undefined x vs (with_memory st more))
-  undefined_does x vs st more h b = at (nat_lt x 24) (nat_eq x 24) (nat_eq x 25)
-    where
-      at : (c d e : Bool) → Does {A = Value} more (if c then system_call x vs st else (if d then null_call Pre vs st else (if e then null_call Post vs st else Stop (Undefined 13) []))) (if c then system_call x vs (with_memory st more) else (if d then null_call Pre vs (with_memory st more) else (if e then null_call Post vs (with_memory st more) else Stop (Undefined 13) [])))
-      at true d e = system_call_does x vs st more h b
-      at false true e = null_does Pre vs st more b
-      at false false true = null_does Post vs st more b
-      at false false false = refl
+  undefined_does x vs st more h b =
+      if_does {A = Value} (nat_lt x 24) more _ _ _ _ (system_call_does x vs st more h b) (if_does {A = Value} (nat_eq x 24) more _ _ _ _ (null_does Pre vs st more b) (if_does {A = Value} (nat_eq x 25) more _ _ _ _ (null_does Post vs st more b) refl))
 
   pub alone_does : (x : ℕ) (vs : List Value) (st : State) (more : Memory) → AllShown vs → TypedAlike st.memory more → Does {A = Value} more (system_call_alone x vs st) (system_call_alone x vs (with_memory st more))
-  alone_does x vs st more h b = at (nat_lt x 24)
-    where
-      at : (c : Bool) → Does {A = Value} more (if c then system_call x vs st else Stop (Undefined 13) []) (if c then system_call x vs (with_memory st more) else Stop (Undefined 13) [])
-      at true = system_call_does x vs st more h b
-      at false = refl
+  alone_does x vs st more h b = if_does {A = Value} (nat_lt x 24) more _ _ _ _ (system_call_does x vs st more h b) refl
 
   -- ## Typed parts
 
@@ -307,38 +236,20 @@ module _ (known : Objects) (last : ℕ) where
     told_shown o x all t e h = let same : o x ≡ known x = t x h.0 in let none : known x ≡ None = h.1 in absurd (cc)
 
     pub kind_shown : (o : Objects) (t : CType) (v : Value) → TellsAlike last known o → HasKind p o t v → Shown v
-    kind_shown o t Indeterminate n h = tt
-    kind_shown o t (Int z) n h = tt
-    kind_shown o t (Uint k) n h = tt
-    kind_shown o t (Char z) n h = tt
-    kind_shown o t (Uchar k) n h = tt
-    kind_shown o t Null n h = tt
-    kind_shown o t (Func f) n h = tt
     kind_shown o t (At q) n h = told_shown o q.name h.2.all n h.2.known
+    kind_shown o t v n h = tt
 
     pub given_shown : (o : Objects) (owed : Bool) (t : CType) (v : Value) → TellsAlike last known o → IsGiven p o owed t v → Shown v
     given_shown o true t v n h = kind_shown o t v n h
     given_shown o false t v n h = cell v h
       where
         cell : (v : Value) → IsCell p o t v → Shown v
-        cell Indeterminate h = tt
-        cell (Int z) h = tt
-        cell (Uint k) h = tt
-        cell (Char z) h = tt
-        cell (Uchar k) h = tt
-        cell Null h = tt
-        cell (Func f) h = tt
         cell (At q) h = kind_shown o t (At q) n h
+        cell v h = tt
 
     pub place_shown : (o : Objects) (t : CType) (v : Value) → TellsAlike last known o → IsPlaced p o t v → Shown v
-    place_shown o t Indeterminate n h = tt
-    place_shown o t (Int z) n h = tt
-    place_shown o t (Uint k) n h = tt
-    place_shown o t (Char z) n h = tt
-    place_shown o t (Uchar k) n h = tt
-    place_shown o t Null n h = tt
-    place_shown o t (Func f) n h = tt
     place_shown o t (At q) n h = told_shown o q.name h.all n h.known
+    place_shown o t v n h = tt
 
     -- one part and then the next
     pub then_does : {A B : Type 0} (ok : Objects → A → Type 0) (o : Objects) (st : State) (more : Memory) (r q : Result A) (f g : A → State → Result B) → Now o st more → EndsTyped p {A = A} ok o st.entries r → Does {A = A} more r q → ((u : Objects) (a : A) (st : State) (l : Memory) → Grows o u → ok u a → Now u st l → Does {A = B} l (f a st) (g a (with_memory st l))) → Does {A = B} more (then_do r f) (then_do q g)

@@ -69,22 +69,19 @@ one P x h = All-cons P x [] h (All-nil P)
 both : {A : Type 0} (P : A → Type 0) (x y : A) → P x → P y → All P (x ∷ y ∷ [])
 both P x y h k = All-cons P x (y ∷ []) h (one P y k)
 
-below : (s : ℕ) (ts : List CType) → slice_get structs_of s ≡ Some (Some ts) → All (IsBelow (λ s. 0) 0) ts
-below zero ts e = let same : members ≡ ts = cc in subst (All (IsBelow (λ s. 0) 0)) same (both (IsBelow (λ s. 0) 0) (array int 2) (pointer int) tt tt)
-below (suc s) ts e = absurd (none-some (Some ts) e)
-
-complete : (s : ℕ) (ts : List CType) → slice_get structs_of s ≡ Some (Some ts) → All (IsComplete structs_of) ts
-complete zero ts e =
-    let same : members ≡ ts = cc in
-    subst (All (IsComplete structs_of)) same (both (IsComplete structs_of) (array int 2) (pointer int) (omega arith, tt) tt)
-complete (suc s) ts e = absurd (none-some (Some ts) e)
-
-have_members : (s : ℕ) (ts : List CType) → slice_get structs_of s ≡ Some (Some ts) → 1 ≤ length ts
-have_members zero ts e = let same : members ≡ ts = cc in subst (λ (ts : List CType). 1 ≤ length ts) same (omega arith)
-have_members (suc s) ts e = absurd (none-some (Some ts) e)
+-- what holds of the one struct
+only : (P : ℕ → List CType → Type 0) → P 0 members → (s : ℕ) (ts : List CType) → slice_get structs_of s ≡ Some (Some ts) → P s ts
+only P h zero ts e = let same : members ≡ ts = cc in subst (P 0) same h
+only P h (suc s) ts e = absurd (none-some (Some ts) e)
 
 are_structs : AreStructs structs_of
-are_structs = record { rank = λ s. 0; ranked = λ s ts e. omega arith; below = below; complete = complete; members = have_members }
+are_structs = record {
+  rank = λ s. 0;
+  ranked = λ s ts e. omega arith;
+  below = only (λ s ts. All (IsBelow (λ s. 0) 0) ts) (both (IsBelow (λ s. 0) 0) (array int 2) (pointer int) tt tt);
+  complete = only (λ s ts. All (IsComplete structs_of) ts) (both (IsComplete structs_of) (array int 2) (pointer int) (omega arith, tt) tt);
+  members = only (λ s ts. 1 ≤ length ts) (omega arith);
+}
 
 int_object : IsObject structs_of int
 int_object = record { complete = tt; few = omega arith }

@@ -2,7 +2,6 @@
 use Rattle.std.proofs.Common.{◌≡◌, ℕ, zero, suc, ◌+◌, ◌*◌, ◌<◌, ◌≤◌, nat_eq, if◌then◌else◌, Bool, true, false, pos, List, [], ◌∷◌, ◌++◌, All, Option, Some, None, option_map, slice_get, length, sym, ap, ◌∙◌, subst, refl, arith}
 use Rattle.std.specs.List.{AllZip}
 use Rattle.std.proofs.lemmas.Bool.{false≢true, eqb-true}
-use Rattle.std.proofs.lemmas.Bool.Decides.{nat_tests}
 use Rattle.std.proofs.lemmas.Int.{ints}
 use Rattle.std.proofs.lemmas.List.Elements.{All-nil, All-head, All-tail}
 use Rattle.std.proofs.lemmas.Option.{slice_get_past}
@@ -11,8 +10,8 @@ use Rattle.c_meaning.specs.SysResult.{SysResult}
 use Rattle.c_meaning.specs.Table.{IsRecorded}
 use Rattle.c_tree.specs.declared.value.ObjectName.{ObjectName}
 use Rattle.c_tree.specs.declared.value.Value.{Value}
-use Rattle.c_tree.specs.declared.value.Value.TheVariants.{Indeterminate, Int, Uint, Char, Uchar, Null, Func, At}
-use Rattle.c_tree.specs.Tree.{CType, void, integer, pointer, array, struct, function, CTypes, no_types, list_of, Function, Static, Program}
+use Rattle.c_tree.specs.declared.value.Value.TheVariants.{Indeterminate, Int, Func}
+use Rattle.c_tree.specs.Tree.{CType, function, CTypes, no_types, list_of, Function, Static, Program}
 use Rattle.c_tree.specs.Layout.{flat}
 use Rattle.c_tree.specs.Functions.{int, of_none}
 use Rattle.c_tree.specs.Operands.{IsScalar, IsObject}
@@ -20,6 +19,7 @@ use Rattle.c_tree.specs.Kinds.{Objects, HasType, cells_where, if_static, static_
 use Rattle.c_tree.specs.Program.{IsFunction, IsStatic, IsProgram}
 use Rattle.c_tree.specs.Typed.{IsTest, IsStep, IsStmt}
 use Rattle.c_shapes.specs.CallGraph.{is_taken}
+use Rattle.c_shapes.proofs.Members.{other_number}
 use Rattle.c_meaning.specs.Memory.{Objects as Memory}
 use Rattle.c_meaning.specs.Meaning.{Marks, Frame, Loop, World, static_name, perhaps, without}
 use Rattle.c_meaning.specs.Results.{State, with_memory, Result, Go, Stop, then_do, Exit, on, broken, continued, returned}
@@ -27,17 +27,13 @@ use Rattle.c_meaning.specs.Runs.{with_parameters, parameters, entered, without_v
 use Rattle.c_meaning_laws.specs.StoreTyping.{HasKind, IsCell, IsGiven, IsTypedMemory, IsTypedAfter, IsTypedState, Grows, TellsAlike, TellsOfStatics, IsTypedFrame}
 use Rattle.c_meaning_laws.specs.TypedResults.{IsEnding, EndsTyped, IsExit, StandsRound, IsTypedWorld, AreRecorded}
 use Rattle.c_meaning_laws.specs.Laws.{IsTypedRun, BeginsTyped, RunsBeginTyped, PartsAreTyped, TypesAreKept, RunsAreTyped, PointersAreInside, PlacesAreInside}
-use Rattle.c_meaning_laws.proofs.Places.{get_left, grows_on, carry_all, kind_cell, kind_given, memory_changed, memory_grows}
+pub use Rattle.c_meaning_laws.proofs.Places.{all_get}
+use Rattle.c_meaning_laws.proofs.Places.{at_place, int_value, flat_one, get_left, grows_on, carry_all, kind_cell, kind_given, memory_changed, memory_grows}
 use Rattle.c_meaning_laws.proofs.Steps.{place_pointer}
 use Rattle.c_meaning_laws.proofs.Differences.{inside}
 use Rattle.c_meaning_laws.proofs.Ends.{now, then_ends, grown, either_ends, spend_ends, round_ends}
 use Rattle.c_meaning_laws.proofs.Keeps.{Holds, stands_on, without_typed, condition_ends, perhaps_ends, value_ends, where_ends, all_end, exec_ends}
 use Rattle.c_meaning_laws.proofs.Standing.{body_stands, static_taken}
-
-pub all_get : {A : Type 0} (P : A → Type 0) (xs : List A) (k : ℕ) (x : A) → All P xs → slice_get xs k ≡ Some x → P x
-all_get P [] k x h e = absurd (cc)
-all_get P (y ∷ xs) zero x h e = let same : y ≡ x = cc in subst P same (All-head P y xs h)
-all_get P (y ∷ xs) (suc k) x h e = all_get P xs k x (All-tail P y xs h) e
 
 static_none : (a : ℕ) (c : Option (List CType)) → 0 < a → if_static a c ≡ None
 static_none zero c h = absurd (omega (arith, h))
@@ -50,19 +46,13 @@ module _ (p : Program) (n : ℕ) (typed : IsProgram p n) where
     where
       one : (t : CType) (v : Value) → HasType p (static_objects p) t v → ((f : ℕ) → v ≡ Func f → is_taken p f ≡ true) → IsCell p (static_objects p) t v
       one t Indeterminate h g = tt
-      one t (Int z) h g = h
-      one t (Uint m) h g = h
-      one t (Char z) h g = h
-      one t (Uchar m) h g = h
-      one t Null h g = h
       one t (Func f) h g = (h.0, h.1, h.2, g f refl)
-      one t (At q) h g = h
+      one t v h g = h
 
       by : (ts : List CType) (vs : List Value) → AllZip (HasType p (static_objects p)) ts vs → ((j f : ℕ) → slice_get vs j ≡ Some (Func f) → is_taken p f ≡ true) → AllZip (IsCell p (static_objects p)) ts vs
       by [] [] z g = tt
-      by [] (v ∷ vs) z g = absurd z
-      by (t ∷ ts) [] z g = absurd z
       by (t ∷ ts) (v ∷ vs) z g = (one t v z.0 (λ f e. g 0 f (ap (λ v. Some v) e)), by ts vs z.1 (λ j f d. g (suc j) f d))
+      by ts vs z g = absurd z
 
   tells : TellsOfStatics p (static_objects p)
   tells k s e = ap (cells_where p.structs) e
@@ -70,47 +60,38 @@ module _ (p : Program) (n : ℕ) (typed : IsProgram p n) where
   first_typed : (x : ℕ) (ss : List Static) → ((j : ℕ) (s : Static) → slice_get ss j ≡ Some s → slice_get p.statics (x + j) ≡ Some s) → IsTypedMemory p (static_objects p) (first_objects x ss)
   first_typed x [] h = λ y ob e. absurd (cc)
   first_typed x (s ∷ ss) h =
-      let here : x + 0 ≡ x = omega arith in
-      let is = subst (λ j. slice_get p.statics j ≡ Some s) here (h 0 s refl) in
-      memory_changed p (static_objects p) (first_objects (suc x) ss) (static_name x) (flat p.structs s.ctype) (record { cells = s.cells; string = s.string }) (first_typed (suc x) ss (λ j u e. let next : x + suc j ≡ suc x + j = omega arith in subst (λ j. slice_get p.statics j ≡ Some u) next (h (suc j) u e))) (tells x s is) (static_cells x s is)
+      let is = at_place p.statics s (x + 0) x (omega arith) (h 0 s refl) in
+      memory_changed p (static_objects p) (first_objects (suc x) ss) (static_name x) (flat p.structs s.ctype) (record { cells = s.cells; string = s.string }) (first_typed (suc x) ss (λ j u e. at_place p.statics u (x + suc j) (suc x + j) (omega arith) (h (suc j) u e))) (tells x s is) (static_cells x s is)
 
   pub begins : (records : List SysResult) (turns : ℕ) → BeginsTyped p records turns
   begins records turns = record {
     statics = tells;
     state = record {
-      memory = first_typed 0 p.statics (λ j s e. let same : j ≡ 0 + j = omega arith in subst (λ j. slice_get p.statics j ≡ Some s) same e);
+      memory = first_typed 0 p.statics (λ j s e. at_place p.statics s j (0 + j) (omega arith) e);
       few = λ x all e. few x all x.activation (slice_get p.statics x.variable) refl e;
       later = λ x h. static_none x.activation _ h;
     };
   }
     where
       few : (x : ObjectName) (all : List CType) (a : ℕ) (c : Option Static) → slice_get p.statics x.variable ≡ c → if_static a (cells_where p.structs c) ≡ Some all → length all ≤ 65536
-      few x all zero None d e = absurd (cc)
       few x all zero (Some s) d e =
           let same : flat p.structs s.ctype ≡ all = cc in
           subst (λ (all : List CType). length all ≤ 65536) same ((all_get (IsStatic p) p.statics x.variable s typed.statics d).object).few
-      few x all (suc a) c d e = absurd (cc)
+      few x all a c d e = absurd (cc)
 
   -- what is told of once a function is entered
   abbrev opened : Function → ℕ → Objects → Objects
   opened g a o x = if nat_eq x.activation a then option_map (flat p.structs) (slice_get g.variables x.variable) else o x
 
+  opened_other : (g : Function) (o : Objects) (a : ℕ) (x : ObjectName) → (x.activation ≡ a → ⊥) → opened g a o x ≡ o x
+  opened_other g o a x ne =
+      ap (λ b. if b then option_map (flat p.structs) (slice_get g.variables x.variable) else o x) (other_number x.activation a ne)
+
   pub opened_grows : (g : Function) (o : Objects) (m : Memory) (a : ℕ) → IsTypedAfter p o m a → Grows o (opened g (suc a) o)
-  opened_grows g o m a k x all e = at (nat_eq x.activation (suc a)) refl
-    where
-      at : (b : Bool) → nat_eq x.activation (suc a) ≡ b → (if b then option_map (flat p.structs) (slice_get g.variables x.variable) else o x) ≡ Some all
-      at true d =
-          let later : a < x.activation = grind (arith, nat_tests) in
-          let none = k.later x later in
-          absurd (cc)
-      at false d = e
+  opened_grows g o m a k x all e = opened_other g o (suc a) x (λ d. let none = k.later x (omega (arith, d)) in cc) ∙ e
 
   opened_later : (g : Function) (o : Objects) (m : Memory) (a : ℕ) → IsTypedAfter p o m a → (x : ObjectName) → suc a < x.activation → opened g (suc a) o x ≡ None
-  opened_later g o m a k x l = at (nat_eq x.activation (suc a)) refl
-    where
-      at : (b : Bool) → nat_eq x.activation (suc a) ≡ b → (if b then option_map (flat p.structs) (slice_get g.variables x.variable) else o x) ≡ None
-      at true d = absurd (grind (arith, nat_tests))
-      at false d = k.later x (omega (arith, l))
+  opened_later g o m a k x l = opened_other g o (suc a) x (λ d. omega (arith, d, l)) ∙ k.later x (omega (arith, l))
 
   opened_few : (g : Function) (o : Objects) (m : Memory) (a : ℕ) → All (IsObject p.structs) g.variables → IsTypedAfter p o m a → (x : ObjectName) (all : List CType) → opened g (suc a) o x ≡ Some all → length all ≤ 65536
   opened_few g o m a objects k x all e = at (nat_eq x.activation (suc a)) e
@@ -126,38 +107,26 @@ module _ (p : Program) (n : ℕ) (typed : IsProgram p n) where
       at false e = k.few x all e
 
   opened_alike : (g : Function) (o : Objects) (a : ℕ) → TellsAlike a o (opened g (suc a) o)
-  opened_alike g o a x l = at (nat_eq x.activation (suc a)) refl
-    where
-      at : (b : Bool) → nat_eq x.activation (suc a) ≡ b → (if b then option_map (flat p.structs) (slice_get g.variables x.variable) else o x) ≡ o x
-      at true d = absurd (grind (arith, nat_tests, l))
-      at false d = refl
+  opened_alike g o a x l = opened_other g o (suc a) x (λ d. omega (arith, d, l))
 
   opened_none : (g : Function) (o : Objects) (a x : ℕ) → length g.variables ≤ x → opened g a o (record { activation = a; variable = x }) ≡ None
-  opened_none g o a x l =
-      ap (λ b. if b then option_map (flat p.structs) (slice_get g.variables x) else o (record { activation = a; variable = x })) (nat_eq_equiv.refl a) ∙ ap (option_map (flat p.structs)) (slice_get_past g.variables x l)
+  opened_none g o a x l = rw (nat_eq_equiv.refl a, slice_get_past g.variables x l) refl
 
   pub opened_own : (g : Function) (o : Objects) (a x : ℕ) (t : CType) → slice_get g.variables x ≡ Some t → opened g a o (record { activation = a; variable = x }) ≡ Some (flat p.structs t)
-  opened_own g o a x t e =
-      ap (λ b. if b then option_map (flat p.structs) (slice_get g.variables x) else o (record { activation = a; variable = x })) (nat_eq_equiv.refl a) ∙ ap (option_map (flat p.structs)) e
+  opened_own g o a x t e = rw (nat_eq_equiv.refl a, e) refl
 
   one_cell : (o : Objects) (t : CType) (v : Value) → IsScalar t → HasKind p o t v → AllZip (IsCell p o) (flat p.structs t) (v ∷ [])
-  one_cell o void v b h = absurd b
-  one_cell o (integer i) v b h = (kind_cell p o (integer i) v h, tt)
-  one_cell o (pointer t) v b h = (kind_cell p o (pointer t) v h, tt)
-  one_cell o (array t k) v b h = absurd b
-  one_cell o (struct s) v b h = absurd b
-  one_cell o (function r ts) v b h = absurd b
+  one_cell o t v b h = subst (λ ts. AllZip (IsCell p o) ts (v ∷ [])) (sym (flat_one p.structs t b)) (kind_cell p o t v h, tt)
 
   -- parameters have the values of arguments
   pub parameters_typed : (o : Objects) (a x : ℕ) (ts : List CType) (vs : List Value) (m : Memory) → IsTypedMemory p o m → AllZip (HasKind p o) ts vs → All IsScalar ts → ((j : ℕ) (t : CType) → slice_get ts j ≡ Some t → o (record { activation = a; variable = x + j }) ≡ Some (flat p.structs t)) → IsTypedMemory p o (with_parameters a x vs m)
   parameters_typed o a x [] [] m h z b k = h
-  parameters_typed o a x [] (v ∷ vs) m h z b k = absurd z
-  parameters_typed o a x (t ∷ ts) [] m h z b k = absurd z
   parameters_typed o a x (t ∷ ts) (v ∷ vs) m h z b k =
       let here : x + 0 ≡ x = omega arith in
       parameters_typed o a (suc x) ts vs _ (memory_changed p o m (record { activation = a; variable = x }) (flat p.structs t) (record { cells = v ∷ []; string = false }) h (subst (λ x. o (record { activation = a; variable = x }) ≡ Some (flat p.structs t)) here (k 0 t refl)) (one_cell o t v (All-head IsScalar t ts b) z.0)) z.1 (All-tail IsScalar t ts b) (λ j u e.
       let next : x + suc j ≡ suc x + j = omega arith in
       subst (λ x. o (record { activation = a; variable = x }) ≡ Some (flat p.structs u)) next (k (suc j) u e))
+  parameters_typed o a x ts vs m h z b k = absurd z
 
   -- what a call gives, by how the body is left
   pub without_ends : (is_main wanted : Bool) (r : CType) (o : Objects) (st : State) → (is_main ≡ true → r ≡ int) → IsTypedState p o st → EndsTyped p {A = Value} (λ o v. IsGiven p o wanted r v) o st.entries (without_value is_main wanted st)
@@ -168,19 +137,15 @@ module _ (p : Program) (n : ℕ) (typed : IsProgram p n) where
 
   pub result_ends : (is_main wanted : Bool) (r : CType) (x : Exit) (o : Objects) (st : State) → (is_main ≡ true → r ≡ int) → IsExit p r false false o x → IsTypedState p o st → EndsTyped p {A = Value} (λ o v. IsGiven p o wanted r v) o st.entries (result_of is_main wanted x st)
   result_ends is_main wanted r (returned (Some v)) o st h i k = now p {A = Value} (λ o v. IsGiven p o wanted r v) o v st (kind_given p o wanted r v i) k
-  result_ends is_main wanted r (returned None) o st h i k = without_ends is_main wanted r o st h k
-  result_ends is_main wanted r on o st h i k = without_ends is_main wanted r o st h k
   result_ends is_main wanted r broken o st h i k = absurd (false≢true i)
   result_ends is_main wanted r continued o st h i k = absurd (false≢true i)
+  result_ends is_main wanted r x o st h i k = without_ends is_main wanted r o st h k
 
   pub main_gives : (f : ℕ) (g : Function) (r : CType) (ts : CTypes) → slice_get p.functions f ≡ Some g → g.ctype ≡ function r ts → nat_eq f p.main ≡ true → r ≡ int
   main_gives f g r ts e d h =
       let same : f ≡ p.main = eqb-true f p.main h in
       let m = typed.main in
-      let got : Some g ≡ Some m.0 = sym e ∙ (ap (λ f. slice_get p.functions f) same ∙ m.1) in
-      let one : g ≡ m.0 = cc in
-      let types : function r ts ≡ of_none int = sym d ∙ (ap (λ (g : Function). g.ctype) one ∙ m.2) in
-      cc (types)
+      cc (e, d, same, m.1, m.2)
 
   -- the store typing in which a function's body begins: of the new activation it tells of the function's variables alone
   pub record Opens (o : Objects) (g : Function) (vs : List Value) (st : State) : Type 0 where
@@ -195,8 +160,7 @@ module _ (p : Program) (n : ℕ) (typed : IsProgram p n) where
   opens f g r ts vs o st e d s z k =
       let a = suc st.entries in
       let is = all_get (IsFunction p) p.functions f g typed.functions e in
-      let types : function (is.gives) (is.takes) ≡ function r ts = sym is.type ∙ d in
-      let takes : is.takes ≡ ts = cc (types) in
+      let takes : is.takes ≡ ts = cc (is.type, d) in
       let u = opened g a o in
       let grows = opened_grows g o st.memory st.entries k in
       let scalars : All IsScalar (list_of ts) = subst (λ ts. All IsScalar (list_of ts)) takes is.scalars in
@@ -218,16 +182,13 @@ module _ (p : Program) (n : ℕ) (typed : IsProgram p n) where
       }
     where
       own : (others : List CType) → g.variables ≡ list_of ts ++ others → (j : ℕ) (t : CType) → slice_get (list_of ts) j ≡ Some t → slice_get g.variables (0 + j) ≡ Some t
-      own others q j t c =
-          let same : j ≡ 0 + j = omega arith in
-          subst (λ j. slice_get g.variables j ≡ Some t) same (ap (λ xs. slice_get xs j) q ∙ get_left (list_of ts) others j t c)
+      own others q j t c = at_place g.variables t j (0 + j) (omega arith) (ap (λ xs. slice_get xs j) q ∙ get_left (list_of ts) others j t c)
 
   -- its body, with the result of its type
   pub body_typed : (f : ℕ) (g : Function) (r : CType) (ts : CTypes) → slice_get p.functions f ≡ Some g → g.ctype ≡ function r ts → IsStmt p g.variables r false false g.body
   body_typed f g r ts e d =
       let is = all_get (IsFunction p) p.functions f g typed.functions e in
-      let types : function (is.gives) (is.takes) ≡ function r ts = sym is.type ∙ d in
-      let gives : is.gives ≡ r = cc (types) in
+      let gives : is.gives ≡ r = cc (is.type, d) in
       subst (λ r. IsStmt p g.variables r false false g.body) gives is.typed
 
   module _ (marks : Marks) (recorded : AreRecorded marks) where
@@ -271,17 +232,7 @@ module _ (p : Program) (n : ℕ) (typed : IsProgram p n) where
         }
 
     ended_run : (o : Objects) (start : ℕ) (q : Result Value) → EndsTyped p {A = Value} (λ o v. HasKind p o int v) o start q → IsTypedRun (ending q)
-    ended_run o start (Go v st w) h = record { outcome = by v h.2; trace = h.4 }
-      where
-        by : (v : Value) → HasKind p h.0 int v → IsEnding (exit_of v)
-        by Indeterminate g = absurd g
-        by (Int z) g = g.1
-        by (Uint m) g = absurd (cc (g.0))
-        by (Char z) g = absurd (cc (g.0))
-        by (Uchar m) g = absurd (cc (g.0))
-        by Null g = absurd (cc (g.1))
-        by (Func f) g = absurd (cc (g.1))
-        by (At q) g = absurd (cc (g.1))
+    ended_run o start (Go v st w) h = record { outcome = int_value p h.0 (λ v. IsEnding (exit_of v)) v h.2 (λ z f. f); trace = h.4 }
     ended_run o start (Stop e w) h = record { outcome = h.0; trace = h.1 }
 
     pub run_typed : (records : List SysResult) (turns : ℕ) → IsTypedRun (run_with p marks records turns)
