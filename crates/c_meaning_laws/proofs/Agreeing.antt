@@ -7,7 +7,7 @@ use Rattle.dm_base.specs.declared.event.Event.TheVariants.{Sys}
 use Rattle.c_meaning.specs.SysResult.{SysResult}
 use Rattle.c_meaning.specs.Table.{result_of as result_kind}
 use Rattle.c_tree.specs.declared.value.Value.{Value}
-use Rattle.c_tree.specs.declared.value.Value.TheVariants.{Int, Uint}
+use Rattle.c_tree.specs.declared.value.Value.TheVariants.{Uint}
 use Rattle.c_meaning.specs.Answers.{Answer, gives, undefined}
 use Rattle.c_meaning.specs.Memory.{Objects}
 use Rattle.c_meaning.specs.Meaning.{either, tested, null_call}

@@ -1,5 +1,5 @@
 -- System calls with arguments of their types.
-use Rattle.std.proofs.Common.{◌≡◌, inl, inr, ℕ, zero, suc, ◌+◌, ◌-◌, ◌*◌, ◌<◌, ◌≤◌, nat_lt, nat_le, nat_eq, if◌then◌else◌, Bool, true, false, ◌&&◌, ℤ, pos, negsuc, List, [], ◌∷◌, Option, Some, None, slice_get, slice_index_or, length, take, drop, sym, ap, ◌∙◌, subst, refl, arith, FitsSigned}
+use Rattle.std.proofs.Common.{◌≡◌, inl, inr, ℕ, zero, suc, ◌+◌, ◌-◌, ◌*◌, ◌<◌, ◌≤◌, nat_le, nat_eq, if◌then◌else◌, Bool, true, false, ◌&&◌, ℤ, pos, negsuc, List, [], ◌∷◌, Option, Some, None, slice_get, slice_index_or, length, take, drop, sym, ap, subst, refl, arith, FitsSigned}
 use Rattle.std.specs.Int.{FitsUnsigned, w8, w32}
 use Rattle.std.specs.List.{AllZip}
 use Rattle.std.proofs.lemmas.Bool.{false≢true, eqb-true}
@@ -9,7 +9,6 @@ use Rattle.std.proofs.lemmas.List.Elements.{All-nil, All-cons}
 use Rattle.dm_base.specs.declared.event.Arg.{Arg}
 use Rattle.dm_base.specs.declared.event.Arg.TheVariants as args
 use Rattle.dm_base.specs.declared.event.Event.TheVariants.{Sys}
-use Rattle.dm_base.specs.declared.outcome.Outcome.TheVariants.{BadResult}
 use Rattle.c_meaning.specs.ArgKind.{ArgKind}
 use Rattle.c_meaning.specs.ArgKind.TheVariants.{Signed, Unsigned, Bytes}
 use Rattle.c_meaning.specs.ResultKind.{ResultKind}
@@ -20,7 +19,7 @@ use Rattle.c_meaning.specs.Answering.{AnswersRead, AnswersWrite, AnswersOther}
 use Rattle.c_tree.specs.declared.value.IntType.TheVariants as i
 use Rattle.c_tree.specs.declared.value.Pointer.{Pointer}
 use Rattle.c_tree.specs.declared.value.Value.{Value}
-use Rattle.c_tree.specs.declared.value.Value.TheVariants.{Indeterminate, Int, Uint, Char, Null, Func, At}
+use Rattle.c_tree.specs.declared.value.Value.TheVariants.{Indeterminate, Int, Uint, Char, Func, At}
 use Rattle.c_tree.specs.Tree.{CType, void, integer, pointer, function, CTypes, no_types, more_types, list_of, Program}
 use Rattle.c_tree.specs.Layout.{repeat}
 use Rattle.c_tree.specs.Functions.{int, unsigned_int, char_pointer, sys_types}
@@ -32,14 +31,14 @@ use Rattle.c_meaning.specs.Memory.{Object}
 use Rattle.c_meaning.specs.Memory.{Objects as Memory}
 use Rattle.c_meaning.specs.Pointers.{number}
 use Rattle.c_meaning.specs.Pointers.{pointer as pointed}
-use Rattle.c_meaning.specs.Results.{State, Stop, after, remembered}
+use Rattle.c_meaning.specs.Results.{State}
 use Rattle.c_meaning.specs.SystemCalls.{char_of, bytes_in, cells_from, is_zero, put_first, before_zero, bytes_where, string, has_room, bytes_of_buffer, room_for, size, Request, argument, arguments, read_request, write_request, request, does_answer, result_value, next, filled, filled_where, with_records, take_record, exit_call, exit_with, system_call}
 use Rattle.c_meaning.proofs.Answering.{records_are_judged}
 use Rattle.c_meaning_laws.specs.StoreTyping.{HasKind, IsCell, IsTypedMemory, IsTypedState}
 use Rattle.c_meaning_laws.specs.TypedResults.{EndsTyped, Gives}
 use Rattle.c_meaning_laws.proofs.Places.{at_place, repeat_lies, int_value, uint_value, pointer_value, scalar_object, kind_given}
 use Rattle.c_meaning_laws.proofs.Steps.{Right, tested_right, writable_right, right_then, there_right, pointer_right, cells_there, store_right}
-use Rattle.c_meaning_laws.proofs.Ends.{after_ends, then_ends, answered_ends, remembered_ends}
+use Rattle.c_meaning_laws.proofs.Ends.{if_ends, after_ends, then_ends, answered_ends, remembered_ends}
 use Rattle.c_shapes.proofs.Members.{and_left, and_right}
 
 abbrev char : CType
@@ -81,10 +80,9 @@ past_two (a ∷ b ∷ xs) = xs
 past_two _ = []
 
 passes : (test : CType → Row → Bool) (ts : List CType) (rows : List Row) (x : ℕ) (t : CType) (d : Row) → pass test ts rows ≡ true → slice_get ts x ≡ Some t → test t (slice_index_or rows x d) ≡ true
-passes test [] rows x t d h e = absurd (cc)
-passes test (u ∷ ts) [] x t d h e = absurd (false≢true h)
 passes test (u ∷ ts) (row ∷ rows) zero t d h e = let same : u ≡ t = cc in subst (λ t. test t row ≡ true) same (and_left (test u row) (pass test ts rows) h)
 passes test (u ∷ ts) (row ∷ rows) (suc x) t d h e = passes test ts rows x t d (and_right (test u row) (pass test ts rows) h) e
+passes test ts rows x t d h e = absurd (grind (arith, h, e))
 
 results_pass : (x : ℕ) (r : CType) (ts : CTypes) → slice_get sys_types x ≡ Some (function r ts) → is_result r (result_of x) ≡ true
 unfolding sys_types table
@@ -175,10 +173,7 @@ module _ (p : Program) (n : ℕ) (typed : IsProgram p n) where
   bytes_right o [] h = tt
   bytes_right o (Indeterminate ∷ vs) h = (omega arith, omega arith)
   bytes_right o (Char z ∷ vs) h = right_then {A = List ℕ} {B = List ℕ} (λ bytes. Unit {0}) (λ bytes. Unit {0}) (bytes_in vs) _ (bytes_right o vs h.1) (λ bytes u. tt)
-  bytes_right o (Null ∷ vs) h = absurd (cc (h.0.1))
-  bytes_right o (Func f ∷ vs) h = absurd (cc (h.0.1))
-  bytes_right o (At q ∷ vs) h = absurd (cc (h.0.1))
-  bytes_right o vs h = absurd (cc (h.0.0))
+  bytes_right o vs h = absurd (grind (arith, h))
 
   abbrev AreCharsWhere : Objects → Option (List Value) → Type 0
   AreCharsWhere o None = Unit {0}
@@ -217,11 +212,9 @@ module _ (p : Program) (n : ℕ) (typed : IsProgram p n) where
 
   arguments_right : (o : Objects) (ts : CTypes) (ks : List ArgKind) (vs : List Value) (m : Memory) → are_kinds ts ks ≡ true → AllZip (HasKind p o) (list_of ts) vs → IsTypedMemory p o m → Right (λ xs. AllZip FitsArgument ks xs) (arguments m vs)
   arguments_right o no_types [] [] m e z mem = tt
-  arguments_right o no_types (k ∷ ks) vs m e z mem = absurd (false≢true e)
-  arguments_right o (more_types t ts) [] vs m e z mem = absurd (false≢true e)
   arguments_right o (more_types t ts) (k ∷ ks) (v ∷ vs) m e z mem =
       right_then {A = Arg} {B = List Arg} (FitsArgument k) (λ xs. AllZip FitsArgument (k ∷ ks) xs) (argument m v) _ (argument_right o t k v m (and_left (is_kind t k) (are_kinds ts ks) e) z.0 mem) (λ x h. right_then {A = List Arg} {B = List Arg} (λ xs. AllZip FitsArgument ks xs) (λ xs. AllZip FitsArgument (k ∷ ks) xs) (arguments m vs) _ (arguments_right o ts ks vs m (and_right (is_kind t k) (are_kinds ts ks) e) z.1 mem) (λ xs g. (h, g)))
-  arguments_right o ts ks vs m e z mem = absurd z
+  arguments_right o ts ks vs m e z mem = absurd (grind (arith, e, z))
 
   signed_right : (o : Objects) (v : Value) → HasKind p o int v → Right (λ z. FitsSigned w32 z) (number v)
   signed_right o v h = int_value p o (λ v. Right (λ z. FitsSigned w32 z) (number v)) v h (λ z f. f)
@@ -272,10 +265,7 @@ module _ (p : Program) (n : ℕ) (typed : IsProgram p n) where
   -- the operands of read and write
   three : (o : Objects) (P : List Value → Type 0) (vs : List Value) → AllZip (HasKind p o) (int ∷ char_pointer ∷ unsigned_int ∷ []) vs → ((a b c : Value) → HasKind p o int a → HasKind p o char_pointer b → HasKind p o unsigned_int c → P (a ∷ b ∷ c ∷ [])) → P vs
   three o P (a ∷ b ∷ c ∷ []) z k = k a b c z.0 z.1.0 z.1.1.0
-  three o P [] z k = absurd z
-  three o P (a ∷ []) z k = absurd z.1
-  three o P (a ∷ b ∷ []) z k = absurd z.1.1
-  three o P (a ∷ b ∷ c ∷ d ∷ vs) z k = absurd z.1.1.1
+  three o P vs z k = absurd (grind (arith, z))
 
   request_right : (x : ℕ) (r : CType) (ts : CTypes) (o : Objects) (vs : List Value) (m : Memory) → slice_get sys_types x ≡ Some (function r ts) → AllZip (HasKind p o) (list_of ts) vs → IsTypedMemory p o m → Right (IsRequest x o) (request x m vs)
   request_right zero r ts o vs m e z mem =
@@ -297,25 +287,16 @@ module _ (p : Program) (n : ℕ) (typed : IsProgram p n) where
 
   record_ends : (x : ℕ) (r : CType) (ts : CTypes) (o : Objects) (wanted : Bool) (q : Request) (rs : List SysResult) (st : State) → slice_get sys_types x ≡ Some (function r ts) → IsRequest x o q → IsTypedState p o st → EndsTyped p {A = Value} (Gives p wanted r) o st.entries (take_record x q rs st)
   record_ends x r ts o wanted q [] st e h k = (tt, All-nil IsRecorded)
-  record_ends x r ts o wanted q (a ∷ rs) st e h k = at (does_answer x q.asked a) refl
-    where
-      at : (b : Bool) → does_answer x q.asked a ≡ b → EndsTyped p {A = Value} (Gives p wanted r) o st.entries (if b then after (Sys x q.arguments a.value ∷ []) (remembered (filled_where q.buffer a.bytes st.memory) (result_value (result_of x) a.value) (with_records st rs)) else Stop (BadResult (suc st.taken)) [])
-      at true d =
-          let right = answers_right x q.asked a d in
-          after_ends p {A = Value} (Gives p wanted r) o st.entries (Sys x q.arguments a.value ∷ []) _ (All-cons IsRecorded (Sys x q.arguments a.value) [] (h.arguments, right.1) (All-nil IsRecorded)) (remembered_ends p {A = Value} (Gives p wanted r) o _ (result_value (result_of x) a.value) (with_records st rs) (filled_where_right o q.buffer q.asked a.bytes st.memory h.room right.0 k.memory) (given_result o wanted r (result_of x) a.value (results_pass x r ts e) right.1) k)
-      at false d = (omega arith, All-nil IsRecorded)
+  record_ends x r ts o wanted q (a ∷ rs) st e h k =
+      if_ends p {A = Value} (Gives p wanted r) o st.entries (does_answer x q.asked a) _ _ (λ d.
+      let right = answers_right x q.asked a d in
+      after_ends p {A = Value} (Gives p wanted r) o st.entries (Sys x q.arguments a.value ∷ []) _ (All-cons IsRecorded (Sys x q.arguments a.value) [] (h.arguments, right.1) (All-nil IsRecorded)) (remembered_ends p {A = Value} (Gives p wanted r) o _ (result_value (result_of x) a.value) (with_records st rs) (filled_where_right o q.buffer q.asked a.bytes st.memory h.room right.0 k.memory) (given_result o wanted r (result_of x) a.value (results_pass x r ts e) right.1) k)) (λ d. (omega arith, All-nil IsRecorded))
 
   exit_ends : (o : Objects) (start : ℕ) (ok : Objects → Value → Type 0) (xs : List Arg) → AllZip FitsArgument (recorded_of exit_call) xs → EndsTyped p {A = Value} ok o start (exit_with xs)
   unfolding table
-  exit_ends o start ok [] z = absurd z
   exit_ends o start ok (args.Int s ∷ []) z = (z.0, All-cons IsRecorded (Sys exit_call (args.Int s ∷ []) (pos 0)) [] (z, refl) (All-nil IsRecorded))
-  exit_ends o start ok (args.Bytes bytes ∷ []) z = absurd (cc (z.0))
-  exit_ends o start ok (a ∷ b ∷ xs) z = absurd z.1
+  exit_ends o start ok xs z = absurd (grind (arith, z))
 
   pub system_call_ends : (x : ℕ) (r : CType) (ts : CTypes) (o : Objects) (wanted : Bool) (vs : List Value) (st : State) → slice_get sys_types x ≡ Some (function r ts) → AllZip (HasKind p o) (list_of ts) vs → IsTypedState p o st → EndsTyped p {A = Value} (Gives p wanted r) o st.entries (system_call x vs st)
   system_call_ends x r ts o wanted vs st e z k =
-      then_ends p {A = Request} {B = Value} (IsRequest x) (Gives p wanted r) o _ _ _ (answered_ends p {A = Request} (IsRequest x) o (request x st.memory vs) st (request_right x r ts o vs st.memory e z k.memory) k) (λ u q st g h k. at u q st h k (nat_eq x exit_call) refl)
-    where
-      at : (u : Objects) (q : Request) (st : State) → IsRequest x u q → IsTypedState p u st → (b : Bool) → nat_eq x exit_call ≡ b → EndsTyped p {A = Value} (Gives p wanted r) u st.entries (if b then exit_with q.arguments else take_record x q st.records st)
-      at u q st h k true d = exit_ends u st.entries (Gives p wanted r) q.arguments (subst (λ x. AllZip FitsArgument (recorded_of x) q.arguments) (eqb-true x exit_call d) h.arguments)
-      at u q st h k false d = record_ends x r ts u wanted q st.records st e h k
+      then_ends p {A = Request} {B = Value} (IsRequest x) (Gives p wanted r) o _ _ _ (answered_ends p {A = Request} (IsRequest x) o (request x st.memory vs) st (request_right x r ts o vs st.memory e z k.memory) k) (λ u q st g h k. if_ends p {A = Value} (Gives p wanted r) u st.entries (nat_eq x exit_call) _ _ (λ d. exit_ends u st.entries (Gives p wanted r) q.arguments (subst (λ x. AllZip FitsArgument (recorded_of x) q.arguments) (eqb-true x exit_call d) h.arguments)) (λ d. record_ends x r ts u wanted q st.records st e h k))

@@ -1,5 +1,5 @@
 -- What is typed after each way of putting parts of a program together.
-use Rattle.std.proofs.Common.{refl, ℕ, zero, suc, Bool, true, false, List, [], ◌∙◌, All, Some, None, ◌≤◌, arith}
+use Rattle.std.proofs.Common.{◌≡◌, if◌then◌else◌, refl, ℕ, zero, suc, Bool, true, false, List, [], ◌∙◌, All, Some, None, ◌≤◌, arith}
 use Rattle.std.proofs.lemmas.Bool.{false≢true}
 use Rattle.std.proofs.lemmas.List.Elements.{All-nil, All-append}
 use Rattle.dm_base.specs.declared.event.Event.{Event}
@@ -63,6 +63,10 @@ module _ (p : Program) where
   pub either_ends : {A : Type 0} (ok : Objects → A → Type 0) (o : Objects) (start : ℕ) (holds : Bool) (a b : Result A) → EndsTyped p {A = A} ok o start a → EndsTyped p {A = A} ok o start b → EndsTyped p {A = A} ok o start (either holds a b)
   either_ends ok o start true a b h k = h
   either_ends ok o start false a b h k = k
+
+  pub if_ends : {A : Type 0} (ok : Objects → A → Type 0) (o : Objects) (start : ℕ) (b : Bool) (x y : Result A) → (b ≡ true → EndsTyped p {A = A} ok o start x) → (b ≡ false → EndsTyped p {A = A} ok o start y) → EndsTyped p {A = A} ok o start (if b then x else y)
+  if_ends ok o start true x y h k = h refl
+  if_ends ok o start false x y h k = k refl
 
   -- after the first of two statements
   pub exit_ends : (r : CType) (breaks continues : Bool) (o : Objects) (x : Exit) (st : State) (f : State → Result Exit) → IsExit p r breaks continues o x → IsTypedState p o st → EndsTyped p {A = Exit} (IsExit p r breaks continues) o st.entries (f st) → EndsTyped p {A = Exit} (IsExit p r breaks continues) o st.entries (on_exit x st f)

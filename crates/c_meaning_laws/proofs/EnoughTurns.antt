@@ -1,5 +1,5 @@
 -- As many turns as are left are enough: with them, the world of a run is its own next one. By recursion on the parts of a program, and on turns.
-use Rattle.std.proofs.Common.{ℕ, zero, suc, ◌≤◌, Bool, true, false, ◌-◌, nat_lt, nat_eq, if◌then◌else◌, List, [], Option, Some, None, slice_get, refl, arith}
+use Rattle.std.proofs.Common.{ℕ, zero, suc, ◌≤◌, Bool, true, false, ◌-◌, nat_lt, nat_eq, List, [], Option, Some, None, slice_get, refl, arith}
 use Rattle.dm_base.specs.declared.event.Event.TheVariants.{Pre, Post}
 use Rattle.dm_base.specs.declared.outcome.Outcome.TheVariants.{Turns}
 use Rattle.c_tree.specs.declared.value.Value.{Value}

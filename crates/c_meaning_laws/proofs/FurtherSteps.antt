@@ -1,5 +1,5 @@
 -- Steps on values and memory answer the same where the objects that the values lead to are the same.
-use Rattle.std.proofs.Common.{◌≡◌, ℕ, zero, suc, ◌+◌, ◌-◌, if◌then◌else◌, Bool, true, false, not, ℤ, pos, ◌+ℤ◌, List, [], ◌∷◌, Some, None, slice_get, ap, ◌∙◌, refl}
+use Rattle.std.proofs.Common.{◌≡◌, ℕ, zero, suc, Bool, true, false, ℤ, pos, List, [], ◌∷◌, None, ap, refl}
 use Rattle.dm_base.specs.declared.event.Arg.TheVariants as args
 use Rattle.c_tree.specs.declared.value.UnOp.{UnOp}
 use Rattle.c_tree.specs.declared.value.UnOp.TheVariants.{Not}
@@ -7,14 +7,13 @@ use Rattle.c_tree.specs.declared.value.BinOp.{BinOp}
 use Rattle.c_tree.specs.declared.value.BinOp.TheVariants.{Less, Greater, LessEqual, GreaterEqual, Equal, NotEqual}
 use Rattle.c_tree.specs.declared.value.Pointer.{Pointer}
 use Rattle.c_tree.specs.declared.value.Value.{Value}
-use Rattle.c_tree.specs.declared.value.Value.TheVariants.{Indeterminate, Int, Char, Uchar, Null, Func, At}
+use Rattle.c_tree.specs.declared.value.Value.TheVariants.{Indeterminate, Char, Uchar, Null, Func, At}
 use Rattle.c_tree.specs.Tree.{CType, integer, pointer, function}
 use Rattle.c_tree.specs.Operators.{Answer, gives, undefined, and_then}
-use Rattle.c_meaning.specs.Memory.{there, element, cell_value, writable}
 use Rattle.c_meaning.specs.Memory.{Objects as Memory}
 use Rattle.c_meaning.specs.Meaning.{behind_of, operated, comparing, moving, is_subtraction, updated}
-use Rattle.c_meaning.specs.Pointers.{number, truth_value, place, behind, load_place, at_index, offset, moved, same_array, in_one_array, difference, alive, equal_pointers, equality, compared, test}
-use Rattle.c_meaning.specs.SystemCalls.{bytes_in, cells_from, before_zero, bytes_where, has_room, bytes_of_buffer, room_for, size, Request, request_of, argument, arguments, read_request, write_request, request}
+use Rattle.c_meaning.specs.Pointers.{number, behind, load_place, moved, in_one_array, difference, alive, equality, compared, test}
+use Rattle.c_meaning.specs.SystemCalls.{bytes_of_buffer, room_for, size, Request, argument, arguments, read_request, write_request, request}
 
 -- where the value is a pointer, the object that it leads to is the same in both memories
 abbrev pub Sees : Memory → Memory → Value → Type 0

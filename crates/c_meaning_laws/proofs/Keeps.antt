@@ -34,10 +34,10 @@ use Rattle.c_meaning.specs.Results.{remembered, State, with_memory, Result, Go, 
 use Rattle.c_meaning.specs.SystemCalls.{system_call}
 use Rattle.c_meaning_laws.specs.StoreTyping.{HasKind, IsPlaced, IsTypedMemory, IsTypedState, Grows, TellsOfStatics, IsTypedFrame}
 use Rattle.c_meaning_laws.specs.TypedResults.{EndsTyped, Gives, GiveAll, IsExit, StandsIn, IsTypedWorld, AreRecorded}
-use Rattle.c_meaning_laws.proofs.Places.{all_get, at_place, uint_value, flat_one, lies_once, flat_scalar, get_left, get_right, get_before, lies_whole, scalar_object, grows_on, carry, carry_place, kind_given, carry_given, blank, memory_changed, memory_ended}
+use Rattle.c_meaning_laws.proofs.Places.{placed_at, all_get, at_place, uint_value, flat_one, lies_once, flat_scalar, get_left, get_right, get_before, lies_whole, scalar_object, grows_on, carry, carry_place, kind_given, carry_given, blank, memory_changed, memory_ended}
 use Rattle.c_meaning_laws.proofs.Steps.{Right, truth_kind, update_right_scalar, function_parts, value_takes, scalars_of, convert_right, binary_right, behind_of_right, IsCallee, callee_right, load_place_right, store_right, store_place_right, field_right, address_is, decayed_right, moving_right, operated_right, comparing_right, test_right, updated_right, update_scalar, of_constant}
 use Rattle.c_meaning_laws.proofs.Differences.{difference_right}
-use Rattle.c_meaning_laws.proofs.Ends.{now, now_after, after_ends, then_ends, at_once, weaker, answered_ends, remembered_ends, either_ends, exit_ends, round_ends, looser}
+use Rattle.c_meaning_laws.proofs.Ends.{if_ends, now, now_after, after_ends, then_ends, at_once, weaker, answered_ends, remembered_ends, either_ends, exit_ends, round_ends, looser}
 use Rattle.c_meaning_laws.proofs.Calls.{system_call_ends}
 use Rattle.c_meaning_laws.proofs.Standing.{taken_there, left_part, right_part, stands_empty}
 
@@ -156,33 +156,21 @@ module _ (p : Program) (n : ℕ) (typed : IsProgram p n) (marks : Marks) (record
   null_ends event r ts wanted vs o st rec e d z k = at vs (subst (λ us. AllZip (HasKind p o) us vs) (sym e) z)
     where
       at : (vs : List Value) → AllZip (HasKind p o) (unsigned_int ∷ []) vs → EndsTyped p {A = Value} (Gives p wanted r) o st.entries (null_call event vs st)
-      at [] z = absurd z
       at (v ∷ []) z =
           uint_value p o (λ v. EndsTyped p {A = Value} (Gives p wanted r) o st.entries (null_call event (v ∷ []) st)) v z.0 (λ s f. subst (λ r. EndsTyped p {A = Value} (Gives p wanted r) o st.entries (Go Indeterminate st (event s ∷ []))) d (now_after p {A = Value} (Gives p wanted void) o Indeterminate st (event s ∷ []) tt k (All-cons IsRecorded (event s) [] (rec s) (All-nil IsRecorded))))
-      at (v ∷ w ∷ vs) z = absurd z.1
+      at vs z = absurd (grind (arith, z))
 
   -- a function that has no definition
   undefined_ends : (x : ℕ) (r : CType) (ts : CTypes) (wanted : Bool) (vs : List Value) (o : Objects) (st : State) → slice_get (sys_types ++ null_types) x ≡ Some (function r ts) → AllZip (HasKind p o) (list_of ts) vs → IsTypedState p o st → EndsTyped p {A = Value} (Gives p wanted r) o st.entries (call_undefined x vs st)
-  undefined_ends x r ts wanted vs o st e z k = at (nat_lt x 24) refl
-    where
-      last : (b : Bool) → nat_eq x 25 ≡ b → 24 ≤ x → nat_eq x 24 ≡ false → EndsTyped p {A = Value} (Gives p wanted r) o st.entries (if b then null_call Post vs st else Stop (Undefined 13) [])
-      last true d h f =
-          let t = null_type (x - 24) r ts (sym (null_at x h) ∙ e) in
-          null_ends Post r ts wanted vs o st (λ s. tt) t.0 t.1 z k
-      last false d h f =
-          let short : x - 24 < 2 = slice_get_within null_types (x - 24) (function r ts) (sym (null_at x h) ∙ e) in
-          let far : 2 ≤ x - 24 = grind (arith, nat_tests) in
-          absurd (omega (arith, short, far))
-
-      middle : (b : Bool) → nat_eq x 24 ≡ b → 24 ≤ x → EndsTyped p {A = Value} (Gives p wanted r) o st.entries (if b then null_call Pre vs st else (if nat_eq x 25 then null_call Post vs st else Stop (Undefined 13) []))
-      middle true d h =
-          let t = null_type (x - 24) r ts (sym (null_at x h) ∙ e) in
-          null_ends Pre r ts wanted vs o st (λ s. tt) t.0 t.1 z k
-      middle false d h = last (nat_eq x 25) refl h d
-
-      at : (b : Bool) → nat_lt x 24 ≡ b → EndsTyped p {A = Value} (Gives p wanted r) o st.entries (if b then system_call x vs st else (if nat_eq x 24 then null_call Pre vs st else (if nat_eq x 25 then null_call Post vs st else Stop (Undefined 13) [])))
-      at true d = system_call_ends p n typed x r ts o wanted vs st (sym (sys_before x (below x 24 d)) ∙ e) z k
-      at false d = middle (nat_eq x 24) refl (not_below x 24 d)
+  undefined_ends x r ts wanted vs o st e z k =
+      if_ends p {A = Value} (Gives p wanted r) o st.entries (nat_lt x 24) _ _ (λ d. system_call_ends p n typed x r ts o wanted vs st (sym (sys_before x (below x 24 d)) ∙ e) z k) (λ d.
+      let more : 24 ≤ x = not_below x 24 d in
+      let found = sym (null_at x more) ∙ e in
+      let t = null_type (x - 24) r ts found in
+      if_ends p {A = Value} (Gives p wanted r) o st.entries (nat_eq x 24) _ _ (λ b. null_ends Pre r ts wanted vs o st (λ s. tt) t.0 t.1 z k) (λ b. if_ends p {A = Value} (Gives p wanted r) o st.entries (nat_eq x 25) _ _ (λ c. null_ends Post r ts wanted vs o st (λ s. tt) t.0 t.1 z k) (λ c.
+      let short : x - 24 < 2 = slice_get_within null_types (x - 24) (function r ts) found in
+      let far : 2 ≤ x - 24 = grind (arith, nat_tests) in
+      absurd (omega (arith, short, far)))))
 
   -- a system call through a pointer
   alone_ends : (x : ℕ) (r : CType) (ts : CTypes) (wanted : Bool) (vs : List Value) (o : Objects) (st : State) → slice_get sys_types x ≡ Some (function r ts) → AllZip (HasKind p o) (list_of ts) vs → IsTypedState p o st → EndsTyped p {A = Value} (Gives p wanted r) o st.entries (system_call_alone x vs st)
@@ -230,15 +218,7 @@ module _ (p : Program) (n : ℕ) (typed : IsProgram p n) (marks : Marks) (record
       -- an object that is told of, as a place
       place_told : (o : Objects) (t : CType) (x : Bool) (k : ℕ) (st : State) → IsObject p.structs t → o (name_in fr x k) ≡ Some (flat p.structs t) → IsTypedState p o st → EndsTyped p {A = Value} (Place t) o st.entries (Go (place (name_in fr x k) 0 (cells p.structs t)) st [])
       place_told o t x k st b e s =
-          now p {A = Value} (Place t) o (place (name_in fr x k) 0 (cells p.structs t)) st (record {
-            object = b;
-            all = flat p.structs t;
-            known = e;
-            wide = refl;
-            alone = refl;
-            first = refl;
-            lies = lies_whole (flat p.structs t);
-          }) s
+          now p {A = Value} (Place t) o (place (name_in fr x k) 0 (cells p.structs t)) st (placed_at p o t (name_in fr x k) 0 (cells p.structs t) (flat p.structs t) b e refl (lies_whole (flat p.structs t))) s
 
       static_told : (o : Objects) (string : Bool) (k : ℕ) (t : CType) → IsTypedFrame p o fr → IsStaticOf p string k t → IsObject p.structs t × (o (static_name k) ≡ Some (flat p.structs t))
       static_told o string k t s (a, e, f, d) =

@@ -17,6 +17,7 @@ use Rattle.c_tree.specs.Program.{IsBelow, AreStructs}
 use Rattle.c_meaning.specs.Memory.{Object, same_name, changed, ended}
 use Rattle.c_meaning.specs.Memory.{Objects as Memory}
 pub use Rattle.c_tree.proofs.CountLemmas.{element_object, length-repeat as length_repeat}
+use Rattle.c_meaning.specs.Pointers.{place}
 use Rattle.c_meaning.proofs.StoreLemmas.{same_is}
 use Rattle.c_meaning_laws.specs.StoreTyping.{HasKind, IsCell, IsGiven, IsPlaced, IsTypedMemory, Grows}
 
@@ -154,16 +155,14 @@ struct_is structs h s ts e =
 
 module _ (P : CType → Value → Type 0) where
   pub zip_get : (ts : List CType) (vs : List Value) (i : ℕ) (t : CType) → AllZip P ts vs → slice_get ts i ≡ Some t → (v : Value) × (slice_get vs i ≡ Some v) × P t v
-  zip_get [] vs i t z e = absurd (cc)
-  zip_get (u ∷ ts) [] i t z e = absurd z
   zip_get (u ∷ ts) (v ∷ vs) zero t z e = let same : u ≡ t = cc in (v, refl, subst (λ t. P t v) same z.0)
   zip_get (u ∷ ts) (v ∷ vs) (suc i) t z e = zip_get ts vs i t z.1 e
+  zip_get ts vs i t z e = absurd (grind (arith, z, e))
 
   pub zip_set : (ts : List CType) (vs : List Value) (i : ℕ) (t : CType) (v : Value) → AllZip P ts vs → slice_get ts i ≡ Some t → P t v → AllZip P ts (slice_set vs i v)
-  zip_set [] vs i t v z e h = absurd (cc)
-  zip_set (u ∷ ts) [] i t v z e h = absurd z
   zip_set (u ∷ ts) (w ∷ vs) zero t v z e h = let same : t ≡ u = cc in (subst (λ t. P t v) same h, z.1)
   zip_set (u ∷ ts) (w ∷ vs) (suc i) t v z e h = (z.0, zip_set ts vs i t v z.1 e h)
+  zip_set ts vs i t v z e h = absurd (grind (arith, z, e))
 
 pub zip_all : (P Q : CType → Value → Type 0) (ts : List CType) (vs : List Value) → ((t : CType) (v : Value) → P t v → Q t v) → AllZip P ts vs → AllZip Q ts vs
 zip_all P Q [] [] k z = tt
@@ -177,29 +176,24 @@ pub grows_none : (o : Objects) → Grows o o
 grows_none o x all e = e
 
 module _ (p : Program) where
+  -- what stands in an object, as a place
+  pub placed_at : (o : Objects) (t : CType) (x : ObjectName) (cell width : ℕ) (all : List CType) → IsObject p.structs t → o x ≡ Some all → width ≡ cells p.structs t → Lies all cell (flat p.structs t) → IsPlaced p o t (place x cell width)
+  placed_at o t x cell width all b e w l = record { object = b; all = all; known = e; wide = w; alone = refl; first = refl; lies = l }
+
   -- the values of int, of unsigned int and of pointers
   pub int_value : (o : Objects) (P : Value → Type 0) (v : Value) → HasKind p o (integer i.Int) v → ((z : ℤ) → FitsSigned w32 z → P (Int z)) → P v
   int_value o P (Int z) h k = k z h.1
-  int_value o P Indeterminate h k = absurd h
-  int_value o P Null h k = absurd (cc (h.1))
-  int_value o P (Func f) h k = absurd (cc (h.1))
-  int_value o P (At q) h k = absurd (cc (h.1))
-  int_value o P v h k = absurd (cc (h.0))
+  int_value o P v h k = absurd (grind (arith, h))
 
   pub uint_value : (o : Objects) (P : Value → Type 0) (v : Value) → HasKind p o (integer i.Uint) v → ((n : ℕ) → n < 4294967296 → P (Uint n)) → P v
   uint_value o P (Uint n) h k = k n h.1
-  uint_value o P Indeterminate h k = absurd h
-  uint_value o P Null h k = absurd (cc (h.1))
-  uint_value o P (Func f) h k = absurd (cc (h.1))
-  uint_value o P (At q) h k = absurd (cc (h.1))
-  uint_value o P v h k = absurd (cc (h.0))
+  uint_value o P v h k = absurd (grind (arith, h))
 
   pub pointer_value : (o : Objects) (t : CType) (P : Value → Type 0) (v : Value) → HasKind p o (pointer t) v → P Null → ((f : ℕ) → HasKind p o (pointer t) (Func f) → P (Func f)) → ((q : Pointer) → HasKind p o (pointer t) (At q) → P (At q)) → P v
   pointer_value o t P Null h a b c = a
   pointer_value o t P (Func f) h a b c = b f h
   pointer_value o t P (At q) h a b c = c q h
-  pointer_value o t P Indeterminate h a b c = absurd h
-  pointer_value o t P v h a b c = absurd (cc (h.0))
+  pointer_value o t P v h a b c = absurd (grind (arith, h))
 
   pub carry : (o u : Objects) (t : CType) (v : Value) → Grows o u → HasKind p o t v → HasKind p u t v
   carry o u t (At q) g h = (h.0, h.1, record { object = h.2.object; all = h.2.all; known = g _ _ (h.2.known); within = h.2.within; wide = h.2.wide; lies = h.2.lies })

@@ -1,5 +1,5 @@
 -- Steps on values and memory answer rightly, where these are typed.
-use Rattle.std.proofs.Common.{◌≡◌, inl, inr, ℕ, ◌+◌, ◌*◌, ◌<◌, ◌≤◌, nat_lt, nat_le, if◌then◌else◌, Bool, true, false, not, ℤ, pos, negsuc, ◌+ℤ◌, ◌-ℤ◌, neg_ℤ, List, [], ◌∷◌, map, All, Option, Some, None, slice_get, slice_set, length, sym, ap, ◌∙◌, subst, refl, arith}
+use Rattle.std.proofs.Common.{◌≡◌, inl, inr, ℕ, ◌+◌, ◌*◌, ◌<◌, ◌≤◌, nat_lt, nat_le, if◌then◌else◌, Bool, true, false, not, ℤ, pos, negsuc, ◌+ℤ◌, ◌-ℤ◌, neg_ℤ, List, [], ◌∷◌, map, All, Option, Some, None, slice_get, slice_set, length, sym, ap, subst, refl, arith}
 use Rattle.std.specs.List.{AllZip, list_all}
 use Rattle.std.proofs.lemmas.Bool.{false≢true}
 use Rattle.std.proofs.lemmas.Bool.Decides.{nat_tests}
@@ -14,7 +14,7 @@ use Rattle.c_tree.specs.declared.value.BinOp.TheVariants.{ShiftLeft, ShiftRight,
 use Rattle.c_tree.specs.declared.value.ObjectName.{ObjectName}
 use Rattle.c_tree.specs.declared.value.Pointer.{Pointer}
 use Rattle.c_tree.specs.declared.value.Value.{Value}
-use Rattle.c_tree.specs.declared.value.Value.TheVariants.{Indeterminate, Int, Uint, Char, Null, Func, At}
+use Rattle.c_tree.specs.declared.value.Value.TheVariants.{Indeterminate, Int, Uint, Null, Func, At}
 use Rattle.c_tree.specs.Tree.{CType, void, integer, pointer, array, struct, function, CTypes, list_of, Program}
 use Rattle.c_tree.specs.Layout.{Structs, repeat, flat, cells, flat_all, first_cell}
 use Rattle.c_tree.specs.Functions.{int, sys_types, null_types, type_of_defined, value_types, called_types, value_type, called_type}
@@ -32,7 +32,7 @@ use Rattle.c_meaning.specs.Pointers.{callee, number, truth_value, behind, functi
 use Rattle.c_meaning.specs.Pointers.{pointer as pointed}
 use Rattle.c_shapes.specs.CallGraph.{is_taken}
 use Rattle.c_meaning_laws.specs.StoreTyping.{HasKind, IsCell, IsPlaceAt, IsPlaced, IsTypedMemory}
-use Rattle.c_meaning_laws.proofs.Places.{all_get, at_place, int_value, uint_value, pointer_value, get_left, lies_in, lies_moved, repeat_lies, lies_once, member_lies, member_few, scalar_cell, scalar_object, element_object, struct_is, zip_get, zip_set, kind_cell, memory_changed}
+use Rattle.c_meaning_laws.proofs.Places.{placed_at, all_get, at_place, int_value, uint_value, pointer_value, get_left, lies_in, lies_moved, repeat_lies, lies_once, member_lies, member_few, scalar_cell, scalar_object, element_object, struct_is, zip_get, zip_set, kind_cell, memory_changed}
 use Rattle.c_shapes.proofs.Members.{and_left, and_right}
 
 -- an answer is what it should be, or one of the kinds U1 to U12
@@ -234,15 +234,7 @@ module _ (p : Program) (n : ℕ) (typed : IsProgram p n) where
 
   pub behind_right : (o : Objects) (t : CType) (v : Value) (m : Memory) → IsObject p.structs t → HasKind p o (pointer t) v → Right (IsPlaced p o t) (behind m v)
   behind_right o t v m b h =
-      right_then (IsPointer p.structs o t) (IsPlaced p o t) (pointed v) _ (pointer_right o t v b h) (λ q k. there_right {B = Value} (IsPlaced p o t) (m q.name) _ (λ ob e. element_right {B = Value} (IsPlaced p o t) q _ (λ less. record {
-        object = b;
-        all = k.all;
-        known = k.known;
-        wide = k.wide;
-        alone = refl;
-        first = refl;
-        lies = element_lies o t q k less;
-      })))
+      right_then (IsPointer p.structs o t) (IsPlaced p o t) (pointed v) _ (pointer_right o t v b h) (λ q k. there_right {B = Value} (IsPlaced p o t) (m q.name) _ (λ ob e. element_right {B = Value} (IsPlaced p o t) q _ (λ less. placed_at p o t q.name (q.first + q.index * q.width) q.width k.all b k.known k.wide (element_lies o t q k less))))
 
   -- what is called is null or an address-taken function of its type
   abbrev pub IsCallee : CType → ℕ → Type 0
@@ -306,15 +298,7 @@ module _ (p : Program) (n : ℕ) (typed : IsProgram p n) where
       let is = struct_is p.structs typed.structs s ts e in
       let few = member_few p.structs ts k t c in
       let size : length (flat_all p.structs ts) ≤ 65536 = subst (λ xs. length xs ≤ 65536) is b.few in
-      right_then (IsPlaceAt p.structs o (struct s)) (IsPlaced p o t) (pointed v) _ (place_right o (struct s) v b h) (λ q a. record {
-        object = record { complete = all_get (IsComplete p.structs) ts k t (typed.structs.complete s ts e) c; few = omega (arith, few, size) };
-        all = a.all;
-        known = a.known;
-        wide = refl;
-        alone = refl;
-        first = refl;
-        lies = lies_in a.all (flat p.structs (struct s)) (flat p.structs t) q.first (first_cell p.structs ts k) a.lies (subst (λ all. Lies all (first_cell p.structs ts k) (flat p.structs t)) (sym is) (member_lies p.structs ts k t c));
-      })
+      right_then (IsPlaceAt p.structs o (struct s)) (IsPlaced p o t) (pointed v) _ (place_right o (struct s) v b h) (λ q a. placed_at p o t q.name (q.first + first_cell p.structs ts k) (cells p.structs t) a.all (record { complete = all_get (IsComplete p.structs) ts k t (typed.structs.complete s ts e) c; few = omega (arith, few, size) }) a.known refl (lies_in a.all (flat p.structs (struct s)) (flat p.structs t) q.first (first_cell p.structs ts k) a.lies (subst (λ all. Lies all (first_cell p.structs ts k) (flat p.structs t)) (sym is) (member_lies p.structs ts k t c))))
 
   struct_object : (o : Objects) (s : ℕ) (v : Value) → IsPlaced p o (struct s) v → IsObject p.structs (struct s)
   struct_object o s (Func f) h = absurd (cc (h.2))

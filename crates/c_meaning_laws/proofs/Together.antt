@@ -2,7 +2,6 @@
 use Rattle.std.proofs.Common.{◌≡◌, ℕ, zero, suc, ◌+◌, ◌≤◌, nat_lt, nat_le, nat_eq, if◌then◌else◌, Bool, true, false, ℤ, List, [], ◌∷◌, Option, Some, None, slice_get, sym, ap, ◌∙◌, subst, refl, arith}
 use Rattle.dm_base.specs.declared.event.Event.{Event}
 use Rattle.dm_base.specs.declared.event.Event.TheVariants.{Pre, Post, Sys}
-use Rattle.dm_base.specs.declared.outcome.Outcome.TheVariants.{Undefined, BadResult}
 use Rattle.c_meaning.specs.SysResult.{SysResult}
 use Rattle.c_meaning.specs.Table.{result_of}
 use Rattle.dm_base.specs.declared.event.Arg.{Arg}
@@ -10,7 +9,7 @@ use Rattle.dm_base.specs.declared.event.Arg.TheVariants as args
 use Rattle.c_tree.specs.declared.value.ObjectName.{ObjectName}
 use Rattle.c_tree.specs.declared.value.Pointer.{Pointer}
 use Rattle.c_tree.specs.declared.value.Value.{Value}
-use Rattle.c_tree.specs.declared.value.Value.TheVariants.{Indeterminate, Int, Uint, Char, At}
+use Rattle.c_tree.specs.declared.value.Value.TheVariants.{Indeterminate, Uint, Char, At}
 use Rattle.c_tree.specs.Tree.{CType, Program}
 use Rattle.c_tree.specs.Kinds.{Objects}
 use Rattle.c_tree.specs.Operators.{Answer, gives, undefined, and_then}
@@ -21,7 +20,7 @@ use Rattle.c_meaning.specs.Meaning.{Marks, either, with_marks, null_call, call_u
 use Rattle.c_meaning.specs.Pointers.{number, store_place}
 use Rattle.c_meaning.specs.Results.{State, with_memory, Result, Go, Stop, after, then_do, spend_at, answered, remembered, Exit, on, broken, returned, on_exit, on_round}
 use Rattle.c_meaning.specs.SystemCalls.{char_of, room_for, bytes_of_buffer, size, Request, arguments, request, does_answer, result_value, next, filled, filled_where, with_records, take_record, exit_call, exit_with, system_call}
-use Rattle.c_meaning_laws.specs.StoreTyping.{HasKind, IsCell, IsGiven, IsPlaced, IsTypedState, Grows, TellsAlike}
+use Rattle.c_meaning_laws.specs.StoreTyping.{HasKind, IsGiven, IsPlaced, IsTypedState, Grows, TellsAlike}
 use Rattle.c_meaning_laws.specs.TypedResults.{EndsTyped}
 use Rattle.c_meaning_laws.specs.FurtherObjects.{IsHidden, IsBeside, Stay, DoesAlike}
 use Rattle.c_meaning_laws.proofs.FurtherSteps.{Sees, AllSee, request_same}
@@ -241,11 +240,8 @@ module _ (known : Objects) (last : ℕ) where
 
     pub given_shown : (o : Objects) (owed : Bool) (t : CType) (v : Value) → TellsAlike last known o → IsGiven p o owed t v → Shown v
     given_shown o true t v n h = kind_shown o t v n h
-    given_shown o false t v n h = cell v h
-      where
-        cell : (v : Value) → IsCell p o t v → Shown v
-        cell (At q) h = kind_shown o t (At q) n h
-        cell v h = tt
+    given_shown o false t (At q) n h = kind_shown o t (At q) n h
+    given_shown o false t v n h = tt
 
     pub place_shown : (o : Objects) (t : CType) (v : Value) → TellsAlike last known o → IsPlaced p o t v → Shown v
     place_shown o t (At q) n h = told_shown o q.name h.all n h.known

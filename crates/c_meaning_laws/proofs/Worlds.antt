@@ -13,7 +13,7 @@ use Rattle.c_tree.specs.declared.value.Value.{Value}
 use Rattle.c_tree.specs.declared.value.Value.TheVariants.{Indeterminate, Int, Func}
 use Rattle.c_tree.specs.Tree.{CType, function, CTypes, no_types, list_of, Function, Static, Program}
 use Rattle.c_tree.specs.Layout.{flat}
-use Rattle.c_tree.specs.Functions.{int, of_none}
+use Rattle.c_tree.specs.Functions.{int}
 use Rattle.c_tree.specs.Operands.{IsScalar, IsObject}
 use Rattle.c_tree.specs.Kinds.{Objects, HasType, cells_where, if_static, static_objects}
 use Rattle.c_tree.specs.Program.{IsFunction, IsStatic, IsProgram}
@@ -23,7 +23,7 @@ use Rattle.c_shapes.proofs.Members.{other_number}
 use Rattle.c_meaning.specs.Memory.{Objects as Memory}
 use Rattle.c_meaning.specs.Meaning.{Marks, Frame, Loop, World, static_name, perhaps, without}
 use Rattle.c_meaning.specs.Results.{State, with_memory, Result, Go, Stop, then_do, Exit, on, broken, continued, returned}
-use Rattle.c_meaning.specs.Runs.{with_parameters, parameters, entered, without_value, result_of, run_body, enter, loop, world, first_objects, beginning, exit_of, ending, run_with}
+use Rattle.c_meaning.specs.Runs.{with_parameters, parameters, entered, without_value, result_of, run_body, enter, loop, world, first_objects, beginning, exit_of, ending}
 use Rattle.c_meaning_laws.specs.StoreTyping.{HasKind, IsCell, IsGiven, IsTypedMemory, IsTypedAfter, IsTypedState, Grows, TellsAlike, TellsOfStatics, IsTypedFrame}
 use Rattle.c_meaning_laws.specs.TypedResults.{IsEnding, EndsTyped, IsExit, StandsRound, IsTypedWorld, AreRecorded}
 use Rattle.c_meaning_laws.specs.Laws.{IsTypedRun, BeginsTyped, RunsBeginTyped, PartsAreTyped, TypesAreKept, RunsAreTyped, PointersAreInside, PlacesAreInside}
@@ -94,17 +94,14 @@ module _ (p : Program) (n : ℕ) (typed : IsProgram p n) where
   opened_later g o m a k x l = opened_other g o (suc a) x (λ d. omega (arith, d, l)) ∙ k.later x (omega (arith, l))
 
   opened_few : (g : Function) (o : Objects) (m : Memory) (a : ℕ) → All (IsObject p.structs) g.variables → IsTypedAfter p o m a → (x : ObjectName) (all : List CType) → opened g (suc a) o x ≡ Some all → length all ≤ 65536
-  opened_few g o m a objects k x all e = at (nat_eq x.activation (suc a)) e
+  opened_few g o m a objects k x all e = at (nat_eq x.activation (suc a)) (slice_get g.variables x.variable) refl e
     where
-      own : (c : Option CType) → slice_get g.variables x.variable ≡ c → option_map (flat p.structs) c ≡ Some all → length all ≤ 65536
-      own None d e = absurd (cc)
-      own (Some t) d e =
+      at : (b : Bool) (c : Option CType) → slice_get g.variables x.variable ≡ c → (if b then option_map (flat p.structs) c else o x) ≡ Some all → length all ≤ 65536
+      at false c d e = k.few x all e
+      at true None d e = absurd (cc)
+      at true (Some t) d e =
           let same : flat p.structs t ≡ all = cc in
           subst (λ (all : List CType). length all ≤ 65536) same (all_get (IsObject p.structs) g.variables x.variable t objects d).few
-
-      at : (b : Bool) → (if b then option_map (flat p.structs) (slice_get g.variables x.variable) else o x) ≡ Some all → length all ≤ 65536
-      at true e = own (slice_get g.variables x.variable) refl e
-      at false e = k.few x all e
 
   opened_alike : (g : Function) (o : Objects) (a : ℕ) → TellsAlike a o (opened g (suc a) o)
   opened_alike g o a x l = opened_other g o (suc a) x (λ d. omega (arith, d, l))
@@ -235,14 +232,11 @@ module _ (p : Program) (n : ℕ) (typed : IsProgram p n) where
     ended_run o start (Go v st w) h = record { outcome = int_value p h.0 (λ v. IsEnding (exit_of v)) v h.2 (λ z f. f); trace = h.4 }
     ended_run o start (Stop e w) h = record { outcome = h.0; trace = h.1 }
 
-    pub run_typed : (records : List SysResult) (turns : ℕ) → IsTypedRun (run_with p marks records turns)
-    run_typed records turns =
-        let m = typed.main in
-        let b = begins records turns in
-        ended_run (static_objects p) 0 _ (enter_ends (world p marks turns) (world_typed turns) true p.main m.0 int no_types [] (static_objects p) (beginning p records turns) m.1 m.2 b.statics tt b.state)
-
 pub runs_are_typed : RunsAreTyped
-runs_are_typed p n typed marks recorded records turns = run_typed p n typed marks recorded records turns
+runs_are_typed p n typed marks recorded records turns =
+    let m = typed.main in
+    let b = begins p n typed records turns in
+    ended_run p n typed marks recorded (static_objects p) 0 _ (enter_ends p n typed marks recorded (world p marks turns) (world_typed p n typed marks recorded turns) true p.main m.0 int no_types [] (static_objects p) (beginning p records turns) m.1 m.2 b.statics tt b.state)
 
 pub runs_begin_typed : RunsBeginTyped
 runs_begin_typed p n typed records turns = begins p n typed records turns
