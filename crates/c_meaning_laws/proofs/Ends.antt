@@ -40,10 +40,6 @@ module _ (p : Program) where
       after_ends {A = B} okB o start w (f a st) h.4 (grown {A = B} okB o h.0 start st.entries (f a st) h.1 h.6 h.5 (k h.0 a st h.1 h.2 h.3))
   then_ends okA okB o start (Stop e w) f h k = h
 
-  -- nothing happened before
-  pub at_once : {A : Type 0} (ok : Objects → A → Type 0) (o : Objects) (start : ℕ) (r : Result A) → EndsTyped p {A = A} ok o start r → EndsTyped p {A = A} ok o start (after [] r)
-  at_once {A} ok o start r h = after_ends {A = A} ok o start [] r (All-nil IsRecorded) h
-
   pub weaker : {A : Type 0} (ok ok' : Objects → A → Type 0) (o : Objects) (start : ℕ) (r : Result A) → ((u : Objects) (a : A) → ok u a → ok' u a) → EndsTyped p {A = A} ok o start r → EndsTyped p {A = A} ok' o start r
   weaker ok ok' o start (Go a st w) k h = (h.0, h.1, k h.0 a h.2, h.3, h.4, h.5, h.6)
   weaker ok ok' o start (Stop e w) k h = h

@@ -103,12 +103,9 @@ module _ (p : Program) (marks : Marks) (left : ℕ) where
         all_agrees (more_exprs e es) st i =
             then_agree left {A = Value} {B = List Value} (eval p w marks fr true e st) (eval p v marks fr true e st) _ _ (eval_agree true e st i) (λ x st i. then_agree left {A = List Value} {B = List Value} (eval_all p w marks fr es st) (eval_all p v marks fr es st) _ _ (all_agrees es st i) (λ vs st i. (refl, i)))
 
-      test_agree : (e : Expr) (st : State) → st.turns ≤ left → Agree (tested (eval p w marks fr true e st)) (tested (eval p v marks fr true e st))
-      test_agree e st i = tested_agree left (eval p w marks fr true e st) (eval p v marks fr true e st) (eval_agree true e st i)
-
       condition_agree : (e : Maybe) (st : State) → st.turns ≤ left → Agree (condition p w marks fr e st) (condition p v marks fr e st)
       condition_agree absent st i = (refl, i)
-      condition_agree (there e) st i = test_agree e st i
+      condition_agree (there e) st i = tested_agree left _ _ (eval_agree true e st i)
 
       perhaps_agree : (e : Maybe) (st : State) → st.turns ≤ left → Agree (perhaps p w marks fr e st) (perhaps p v marks fr e st)
       perhaps_agree absent st i = (refl, i)
@@ -135,7 +132,7 @@ module _ (p : Program) (marks : Marks) (left : ℕ) where
         exec_agree (declare x is) st i =
             then_agree left {A = Exit} {B = Exit} (fresh p.structs fr x (slice_get fr.types x) st) (fresh p.structs fr x (slice_get fr.types x) st) _ _ (fresh_agree x (slice_get fr.types x) st i) (λ y st i. inits_agrees x is st i)
         exec_agree (if_else e s r) st i =
-            then_agree left {A = Bool} {B = Exit} (tested (eval p w marks fr true e st)) (tested (eval p v marks fr true e st)) _ _ (test_agree e st i) (λ holds st i. either_agree left {A = Exit} holds _ _ _ _ (exec_agree s st i) (exec_agree r st i))
+            then_agree left {A = Bool} {B = Exit} (tested (eval p w marks fr true e st)) (tested (eval p v marks fr true e st)) _ _ (tested_agree left _ _ (eval_agree true e st i)) (λ holds st i. either_agree left {A = Exit} holds _ _ _ _ (exec_agree s st i) (exec_agree r st i))
         exec_agree (while_loop e s) st i = goes.again fr _ st i
         exec_agree (do_loop s e) st i =
             then_agree left {A = Exit} {B = Exit} (exec p w marks fr s st) (exec p v marks fr s st) _ _ (exec_agree s st i) (λ x st i. round_agree left x st _ _ i (λ st i. goes.again fr _ st i))

@@ -1,5 +1,5 @@
 -- Evaluation keeps types.
-use Rattle.std.proofs.Common.{◌≡◌, inl, inr, ℕ, zero, suc, ◌+◌, ◌-◌, ◌<◌, ◌≤◌, nat_lt, nat_eq, if◌then◌else◌, Bool, true, false, List, [], ◌∷◌, ◌++◌, map, All, Option, Some, None, slice_get, replicate, length, append_assoc, sym, ap, ◌∙◌, subst, refl, arith}
+use Rattle.std.proofs.Common.{◌≡◌, inl, inr, ℕ, zero, suc, ◌+◌, ◌-◌, ◌<◌, ◌≤◌, nat_lt, nat_eq, if◌then◌else◌, Bool, true, false, List, [], ◌∷◌, ◌++◌, map, All, Some, None, slice_get, replicate, length, append_assoc, sym, ap, ◌∙◌, subst, refl, arith}
 use Rattle.std.specs.List.{AllZip}
 use Rattle.std.proofs.lemmas.Bool.Decides.{nat_tests}
 use Rattle.std.proofs.lemmas.Option.{slice_get_within}
@@ -23,7 +23,7 @@ use Rattle.c_tree.specs.Operands.{IsScalar, IsObject, OperatorKind, ordering, eq
 use Rattle.c_tree.specs.Kinds.{Objects, Lies, IsPointer}
 use Rattle.c_tree.specs.Operators.{Answer, gives, undefined, convert, binary}
 use Rattle.c_tree.specs.Program.{IsStatic, IsProgram}
-use Rattle.c_tree.specs.Typed.{IsStaticOf, IsVariableOf, IsValue, IsPlace, AreMembers, AreArguments, IsCondition, IsTest, IsStep, AreInits, IsDeclare, IsFirst, AreFirst, IsStmt, AreStmts, AreGroups}
+use Rattle.c_tree.specs.Typed.{IsStaticOf, IsVariableOf, IsValue, IsPlace, AreMembers, AreArguments, IsCondition, IsTest, IsStep, AreInits, IsDeclare, AreFirst, IsStmt, AreStmts, AreGroups}
 use Rattle.c_meaning.specs.Memory.{declared}
 use Rattle.c_meaning.specs.Memory.{Objects as Memory}
 use Rattle.c_shapes.proofs.Members.{below, is_below, not_below, length_map}
@@ -37,7 +37,7 @@ use Rattle.c_meaning_laws.specs.TypedResults.{EndsTyped, Gives, GiveAll, IsExit,
 use Rattle.c_meaning_laws.proofs.Places.{placed_at, all_get, at_place, uint_value, flat_one, lies_once, flat_scalar, get_left, get_right, get_before, lies_whole, scalar_object, grows_on, carry, carry_place, kind_given, carry_given, blank, memory_changed, memory_ended}
 use Rattle.c_meaning_laws.proofs.Steps.{Right, truth_kind, update_right_scalar, function_parts, value_takes, scalars_of, convert_right, binary_right, behind_of_right, IsCallee, callee_right, load_place_right, store_right, store_place_right, field_right, address_is, decayed_right, moving_right, operated_right, comparing_right, test_right, updated_right, update_scalar, of_constant}
 use Rattle.c_meaning_laws.proofs.Differences.{difference_right}
-use Rattle.c_meaning_laws.proofs.Ends.{if_ends, now, now_after, after_ends, then_ends, at_once, weaker, answered_ends, remembered_ends, either_ends, exit_ends, round_ends, looser}
+use Rattle.c_meaning_laws.proofs.Ends.{if_ends, now, now_after, after_ends, then_ends, weaker, answered_ends, remembered_ends, either_ends, exit_ends, round_ends, looser}
 use Rattle.c_meaning_laws.proofs.Calls.{system_call_ends}
 use Rattle.c_meaning_laws.proofs.Standing.{taken_there, left_part, right_part, stands_empty}
 
@@ -70,17 +70,16 @@ sys_before x h = get_before sys_types null_types x (subst (λ m. x < m) (sym sys
 null_at : (x : ℕ) → 24 ≤ x → slice_get (sys_types ++ null_types) x ≡ slice_get null_types (x - 24)
 null_at x h = grind (arith, get_right sys_types null_types (x - 24), sys_many)
 
-abbrev parameters_in : Option CType → List CType
-parameters_in (Some (function r ts)) = list_of ts
-parameters_in _ = []
-
-abbrev result_in : Option CType → CType
-result_in (Some (function r ts)) = r
-result_in _ = int
+-- what stands first in the head of a for are statements
+pub first_are : (p : Program) (vars : List CType) (r : CType) (ss : Stmts) → AreFirst p vars ss → AreStmts p vars r false false ss
+first_are p vars r no_stmts h = tt
+first_are p vars r (more_stmts (evaluate e) ss) h = (h.0, first_are p vars r ss h.1)
+first_are p vars r (more_stmts (declare x is) ss) h = (h.0, first_are p vars r ss h.1)
+first_are p vars r (more_stmts _ ss) h = absurd h.0
 
 null_type : (x : ℕ) (r : CType) (ts : CTypes) → slice_get null_types x ≡ Some (function r ts) → (unsigned_int ∷ [] ≡ list_of ts) × (void ≡ r)
 null_type (suc (suc x)) r ts e = absurd (cc)
-null_type x r ts e = (ap parameters_in e, ap result_in e)
+null_type x r ts e = let same : more_types unsigned_int no_types ≡ ts = cc in (ap list_of same, cc)
 
 module _ (p : Program) (n : ℕ) (typed : IsProgram p n) (marks : Marks) (recorded : AreRecorded marks) where
   abbrev Kind : CType → Objects → Value → Type 0
@@ -169,8 +168,7 @@ module _ (p : Program) (n : ℕ) (typed : IsProgram p n) (marks : Marks) (record
       let t = null_type (x - 24) r ts found in
       if_ends p {A = Value} (Gives p wanted r) o st.entries (nat_eq x 24) _ _ (λ b. null_ends Pre r ts wanted vs o st (λ s. tt) t.0 t.1 z k) (λ b. if_ends p {A = Value} (Gives p wanted r) o st.entries (nat_eq x 25) _ _ (λ c. null_ends Post r ts wanted vs o st (λ s. tt) t.0 t.1 z k) (λ c.
       let short : x - 24 < 2 = slice_get_within null_types (x - 24) (function r ts) found in
-      let far : 2 ≤ x - 24 = grind (arith, nat_tests) in
-      absurd (omega (arith, short, far)))))
+      absurd (grind (arith, nat_tests, short)))))
 
   -- a system call through a pointer
   alone_ends : (x : ℕ) (r : CType) (ts : CTypes) (wanted : Bool) (vs : List Value) (o : Objects) (st : State) → slice_get sys_types x ≡ Some (function r ts) → AllZip (HasKind p o) (list_of ts) vs → IsTypedState p o st → EndsTyped p {A = Value} (Gives p wanted r) o st.entries (system_call_alone x vs st)
@@ -192,7 +190,7 @@ module _ (p : Program) (n : ℕ) (typed : IsProgram p n) (marks : Marks) (record
       where
         at : (c : Answer ℕ) → Right {A = ℕ} (IsCallee p n typed (function r ts)) c → EndsTyped p {A = Value} (Gives p wanted r) o st.entries (then_do (answered c st) (λ f st. called_through p w (wants wanted r) f vs st))
         at (gives f) h =
-            at_once p {A = Value} (Gives p wanted r) o _ (called_through p w (wants wanted r) f vs st) (through_ends wanted f r ts vs o st h.0 s (arguments_kind r r ts f o vs (get_left (value_types p) null_types f (function r ts) h.0) z) k)
+            after_ends p {A = Value} (Gives p wanted r) o _ [] (called_through p w (wants wanted r) f vs st) (All-nil IsRecorded) (through_ends wanted f r ts vs o st h.0 s (arguments_kind r r ts f o vs (get_left (value_types p) null_types f (function r ts) h.0) z) k)
         at (undefined kind) h = (h, All-nil IsRecorded)
 
     unary_scalar : (op : UnOp) (t u : CType) → FitsUnary op t u → IsScalar u
@@ -376,18 +374,6 @@ module _ (p : Program) (n : ℕ) (typed : IsProgram p n) (marks : Marks) (record
       value_returned r breaks continues e o st s b q h m k =
           then_ends p {A = Value} {B = Exit} (Kind r) (IsExit p r breaks continues) o _ _ _ (operand (type_of e) r o _ _ q b (value_ends true e o st s h m k)) (λ o' v st g i k. now p {A = Exit} (IsExit p r breaks continues) o' (returned (Some v)) st i k)
 
-      -- what stands first in the head of a for
-      pub one_first : (r : CType) (a : Stmt) (o : Objects) (st : State) → IsTypedFrame p o fr → IsFirst p fr.types a → StandsIn p (mentions_of_stmt a) → IsTypedState p o st → EndsTyped p {A = Exit} (IsExit p r false false) o st.entries (exec p w marks fr a st)
-      one_first r (evaluate e) o st s h m k =
-          then_ends p {A = Value} {B = Exit} (Gives p false (type_of e)) (IsExit p r false false) o _ _ _ (value_ends false e o st s h m k) (λ o' v st g i k. now p {A = Exit} (IsExit p r false false) o' on st tt k)
-      one_first r (declare x is) o st s h m k = declare_ends r x is o st s h m k
-      one_first r _ o st s h m k = absurd h
-
-      pub first_ends : (r : CType) (ss : Stmts) (o : Objects) (st : State) → IsTypedFrame p o fr → AreFirst p fr.types ss → StandsIn p (mentions_of_stmts ss) → IsTypedState p o st → EndsTyped p {A = Exit} (IsExit p r false false) o st.entries (exec_all p w marks fr ss st)
-      first_ends r no_stmts o st s h m k = now p {A = Exit} (IsExit p r false false) o on st tt k
-      first_ends r (more_stmts a ss) o st s h m k =
-          then_ends p {A = Exit} {B = Exit} (IsExit p r false false) (IsExit p r false false) o _ _ _ (one_first r a o st s h.0 (left_part p (mentions_of_stmt a) (mentions_of_stmts ss) m) k) (λ o' x st g i k. exit_ends p r false false o' x st (exec_all p w marks fr ss) i k (first_ends r ss o' st (stands_on o o' fr g s) h.1 (right_part p (mentions_of_stmt a) (mentions_of_stmts ss) m) k))
-
       mutual
         pub exec_ends : (r : CType) (breaks continues : Bool) (a : Stmt) (o : Objects) (st : State) → IsTypedFrame p o fr → IsStmt p fr.types r breaks continues a → StandsIn p (mentions_of_stmt a) → IsTypedState p o st → EndsTyped p {A = Exit} (IsExit p r breaks continues) o st.entries (exec p w marks fr a st)
         exec_ends r breaks continues (block ss) o st s h m k =
@@ -406,7 +392,7 @@ module _ (p : Program) (n : ℕ) (typed : IsProgram p n) (marks : Marks) (record
         exec_ends r breaks continues (for_loop first test step a) o st s h m k =
             let later = right_part p (mentions_of_stmts first) (mentions_of_maybe test ++ (mentions_of_maybe step ++ mentions_of_stmt a)) m in
             let last = right_part p (mentions_of_maybe test) (mentions_of_maybe step ++ mentions_of_stmt a) later in
-            loosened r breaks continues o _ _ (leaving_ends r false false (declared_in first) o _ _ (then_ends p {A = Exit} {B = Exit} (IsExit p r false false) (IsExit p r false false) o _ _ _ (first_ends r first o st s h.0 (left_part p (mentions_of_stmts first) (mentions_of_maybe test ++ (mentions_of_maybe step ++ mentions_of_stmt a)) m) k) (λ o' x st g i k. exit_ends p r false false o' x st (w.again fr (record { test = test; body = a; step = step })) i k (goes.again fr r (record { test = test; body = a; step = step }) o' st (stands_on o o' fr g s) h.1 h.3 h.2 (record { test = left_part p (mentions_of_maybe test) (mentions_of_maybe step ++ mentions_of_stmt a) later; body = right_part p (mentions_of_maybe step) (mentions_of_stmt a) last; step = left_part p (mentions_of_maybe step) (mentions_of_stmt a) last }) k))))
+            loosened r breaks continues o _ _ (leaving_ends r false false (declared_in first) o _ _ (then_ends p {A = Exit} {B = Exit} (IsExit p r false false) (IsExit p r false false) o _ _ _ (stmts_end r false false first o st s (first_are p fr.types r first h.0) (left_part p (mentions_of_stmts first) (mentions_of_maybe test ++ (mentions_of_maybe step ++ mentions_of_stmt a)) m) k) (λ o' x st g i k. exit_ends p r false false o' x st (w.again fr (record { test = test; body = a; step = step })) i k (goes.again fr r (record { test = test; body = a; step = step }) o' st (stands_on o o' fr g s) h.1 h.3 h.2 (record { test = left_part p (mentions_of_maybe test) (mentions_of_maybe step ++ mentions_of_stmt a) later; body = right_part p (mentions_of_maybe step) (mentions_of_stmt a) last; step = left_part p (mentions_of_maybe step) (mentions_of_stmt a) last }) k))))
         exec_ends r breaks continues (switch_on e gs) o st s h m k =
             then_ends p {A = Value} {B = Exit} (Gives p true (type_of e)) (IsExit p r breaks continues) o _ _ _ (value_ends true e o st s h.3 (left_part p (mentions e) (mentions_of_groups gs) m) k) (λ o1 v st g1 i k. then_ends p {A = Exit} {B = Exit} (IsExit p r true continues) (IsExit p r breaks continues) o1 _ _ _ (groups_end r continues h.0 (selected v gs) gs o1 st (stands_on o o1 fr g1 s) h.5 (right_part p (mentions e) (mentions_of_groups gs) m) k) (λ o2 x st g2 i k. now p {A = Exit} (IsExit p r breaks continues) o2 (out_of_switch x) st (out_is r breaks continues o2 x i) k))
         exec_ends r breaks continues break_off o st s h m k = now p {A = Exit} (IsExit p r breaks continues) o broken st h k
@@ -424,3 +410,7 @@ module _ (p : Program) (n : ℕ) (typed : IsProgram p n) (marks : Marks) (record
         groups_end r continues i zero (more_groups ls ss gs) o st s h m k =
             then_ends p {A = Exit} {B = Exit} (IsExit p r true continues) (IsExit p r true continues) o _ _ _ (stmts_end r true continues ss o st s h.1 (left_part p (mentions_of_stmts ss) (mentions_of_groups gs) m) k) (λ o' x st g e k. exit_ends p r true continues o' x st (exec_from p w marks fr zero gs) e k (groups_end r continues i zero gs o' st (stands_on o o' fr g s) h.2 (right_part p (mentions_of_stmts ss) (mentions_of_groups gs) m) k))
         groups_end r continues i (suc j) (more_groups ls ss gs) o st s h m k = groups_end r continues i j gs o st s h.2 (right_part p (mentions_of_stmts ss) (mentions_of_groups gs) m) k
+
+      -- what stands first in the head of a for
+      pub first_ends : (r : CType) (ss : Stmts) (o : Objects) (st : State) → IsTypedFrame p o fr → AreFirst p fr.types ss → StandsIn p (mentions_of_stmts ss) → IsTypedState p o st → EndsTyped p {A = Exit} (IsExit p r false false) o st.entries (exec_all p w marks fr ss st)
+      first_ends r ss o st s h m k = stmts_end r false false ss o st s (first_are p fr.types r ss h) m k

@@ -49,9 +49,6 @@ lies_in all part sub i j h g k t e = at_place all t (i + (j + k)) ((i + j) + k) 
 pub lies_whole : (all : List CType) → Lies all 0 all
 lies_whole all k t e = at_place all t k (0 + k) (omega arith) e
 
-pub lies_moved : (all part : List CType) (i j : ℕ) → i ≡ j → Lies all i part → Lies all j part
-lies_moved all part i j e h = subst (λ i. Lies all i part) e h
-
 pub repeat_lies : (n k : ℕ) (xs : List CType) → k < n → Lies (repeat n xs) (k * length xs) xs
 repeat_lies zero k xs h j t e = absurd (omega arith)
 repeat_lies (suc n) zero xs h j t e = at_place (xs ++ repeat n xs) t j (0 * length xs + j) (omega arith) (get_left xs (repeat n xs) j t e)
@@ -74,8 +71,7 @@ pub lies_within : (all part : List CType) (i : ℕ) → Lies all i part → 0 < 
 lies_within all [] i h l = absurd (omega arith)
 lies_within all (x ∷ xs) i h l =
     let e = last_get x xs in
-    let w : i + length xs < length all = slice_get_within all (i + length xs) e.0 (h (length xs) e.0 e.1) in
-    omega arith
+    omega (arith, slice_get_within all (i + length xs) e.0 (h (length xs) e.0 e.1))
 
 -- the types of cells are scalars
 scalars_repeat : (n : ℕ) (xs : List CType) → All IsScalar xs → All IsScalar (repeat n xs)

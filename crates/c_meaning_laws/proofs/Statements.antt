@@ -7,7 +7,7 @@ use Rattle.c_tree.specs.Tree.{Stmt, block, empty, evaluate, declare, if_else, wh
 use Rattle.c_tree.specs.Layout.{flat, cells}
 use Rattle.c_tree.specs.Kinds.{Objects}
 use Rattle.c_tree.specs.Program.{IsProgram}
-use Rattle.c_tree.specs.Typed.{IsTest, IsStep, AreInits, IsDeclare, IsFirst, AreFirst, IsStmt, AreStmts, AreGroups}
+use Rattle.c_tree.specs.Typed.{IsTest, IsStep, AreInits, IsDeclare, IsStmt, AreStmts, AreGroups}
 use Rattle.c_meaning.specs.Memory.{declared}
 use Rattle.c_meaning.specs.Memory.{Objects as Memory}
 use Rattle.c_shapes.specs.Mentions.{mentions, mentions_of_maybe, mentions_of_inits, mentions_of_stmt, mentions_of_stmts, mentions_of_groups}
@@ -17,7 +17,7 @@ use Rattle.c_meaning.specs.Results.{State, with_memory, Result, Go, Stop, Exit, 
 use Rattle.c_meaning_laws.specs.StoreTyping.{Grows, TellsAlike, IsTypedFrame}
 use Rattle.c_meaning_laws.specs.TypedResults.{IsExit, StandsIn, StandsRound, IsTypedWorld, AreRecorded}
 use Rattle.c_meaning_laws.proofs.Places.{flat_scalar, grows_on}
-use Rattle.c_meaning_laws.proofs.Keeps.{scalar_kind, cell_ends, fresh_ends, one_first, first_ends, exec_ends, stmts_end, groups_end}
+use Rattle.c_meaning_laws.proofs.Keeps.{scalar_kind, cell_ends, fresh_ends, first_are, exec_ends, stmts_end, groups_end}
 use Rattle.c_meaning_laws.proofs.Standing.{left_part, right_part, stands_empty}
 use Rattle.c_meaning_laws.specs.FurtherObjects.{Stay}
 use Rattle.c_meaning_laws.proofs.Together.{Hidden, TypedAlike, Does, beside_changed, stay_changed, store_place_remembers, here, remembered_does, either_does, exit_does, round_does, Now, told_shown, then_does}
@@ -70,12 +70,6 @@ module _ (known : Objects) (last : ℕ) (p : Program) (n : ℕ) (typed : IsProgr
     block_shown o r breaks continues (more_stmts b ss) s a h =
         shown_both known last fr.activation (declared_by b) (declared_in ss) (one_shown o r breaks continues b s a h.0) (block_shown o r breaks continues ss s a h.1)
 
-    first_shown : (o : Objects) (ss : Stmts) → IsTypedFrame p o fr → TellsAlike last known o → AreFirst p fr.types ss → AreShown known last fr.activation (declared_in ss)
-    first_shown o no_stmts s a h = tt
-    first_shown o (more_stmts (evaluate e) ss) s a h = first_shown o ss s a h.1
-    first_shown o (more_stmts (declare x is) ss) s a h = (variable_shown o x h.0.0 s a h.0.1, first_shown o ss s a h.1)
-    first_shown o (more_stmts _ ss) s a h = absurd h.0
-
     inits_do : (r t : CType) (x : ℕ) (is : Inits) (o : Objects) (st : State) (more : Memory) → IsTypedFrame p o fr → slice_get fr.types x ≡ Some t → AreInits p fr.types (flat p.structs t) is → StandsIn p (mentions_of_inits is) → Now known last p o st more → Does known last {A = Exit} more (initialise p w marks fr x is st) (initialise p w marks fr x is (with_memory st more))
     inits_do r t x no_inits o st more s e h m k = here known last {A = Exit} on st more [] k.beside
     inits_do r t x (more_inits cell a is) o st more s e h m k =
@@ -91,18 +85,6 @@ module _ (known : Objects) (last : ℕ) (p : Program) (n : ℕ) (typed : IsProgr
     declare_does : (r : CType) (x : ℕ) (is : Inits) (o : Objects) (st : State) (more : Memory) → IsTypedFrame p o fr → IsDeclare p fr.types x is → StandsIn p (mentions_of_inits is) → Now known last p o st more → Does known last {A = Exit} more (exec p w marks fr (declare x is) st) (exec p w marks fr (declare x is) (with_memory st more))
     declare_does r x is o st more s h m k =
         then_does known last p {A = Exit} {B = Exit} (IsExit p r false false) o st more _ _ _ _ k (fresh_ends p n typed marks recorded w goes fr r h.0 x o st s h.1 k.state) (fresh_does x h.0 o st more s h.1 k) (λ u y st l g i k. inits_do r h.0 x is u st l (framed o u g s) h.1 h.2 m k)
-
-    -- what stands first in the head of a for
-    first_do : (r : CType) (ss : Stmts) (o : Objects) (st : State) (more : Memory) → IsTypedFrame p o fr → AreFirst p fr.types ss → StandsIn p (mentions_of_stmts ss) → Now known last p o st more → Does known last {A = Exit} more (exec_all p w marks fr ss st) (exec_all p w marks fr ss (with_memory st more))
-    first_do r no_stmts o st more s h m k = here known last {A = Exit} on st more [] k.beside
-    first_do r (more_stmts a ss) o st more s h m k =
-        then_does known last p {A = Exit} {B = Exit} (IsExit p r false false) o st more _ _ _ _ k (one_first p n typed marks recorded w goes fr r a o st s h.0 (left_part p (mentions_of_stmt a) (mentions_of_stmts ss) m) k.state) (one_does a h.0 (left_part p (mentions_of_stmt a) (mentions_of_stmts ss) m)) (λ u x st l g i k. exit_does known last x st l (exec_all p w marks fr ss) (exec_all p w marks fr ss) k.beside (first_do r ss u st l (framed o u g s) h.1 (right_part p (mentions_of_stmt a) (mentions_of_stmts ss) m) k))
-      where
-        one_does : (a : Stmt) → IsFirst p fr.types a → StandsIn p (mentions_of_stmt a) → Does known last {A = Exit} more (exec p w marks fr a st) (exec p w marks fr a (with_memory st more))
-        one_does (evaluate e) h m =
-            on_value known last p n typed marks recorded w goes enters fr {B = Exit} false e o st more _ _ s h m k (value_does known last p n typed marks recorded w goes enters fr false e o st more s h m k) (λ u v st l g i k. here known last {A = Exit} on st l [] k.beside)
-        one_does (declare x is) h m = declare_does r x is o st more s h m k
-        one_does _ h m = absurd h
 
     mutual
       pub exec_does : (r : CType) (breaks continues : Bool) (a : Stmt) (o : Objects) (st : State) (more : Memory) → IsTypedFrame p o fr → IsStmt p fr.types r breaks continues a → StandsIn p (mentions_of_stmt a) → Now known last p o st more → Does known last {A = Exit} more (exec p w marks fr a st) (exec p w marks fr a (with_memory st more))
@@ -121,10 +103,11 @@ module _ (known : Objects) (last : ℕ) (p : Program) (n : ℕ) (typed : IsProgr
       exec_does r breaks continues (do_loop a e) o st more s h m k =
           then_does known last p {A = Exit} {B = Exit} (IsExit p r true true) o st more _ _ _ _ k (exec_ends p n typed marks recorded w goes fr r true true a o st s h.0 (left_part p (mentions_of_stmt a) (mentions e) m) k.state) (exec_does r true true a o st more s h.0 (left_part p (mentions_of_stmt a) (mentions e) m) k) (λ u x st l g i k. round_does known last x st l (w.again fr (record { test = there e; body = a; step = absent })) (w.again fr (record { test = there e; body = a; step = absent })) k.beside (agains fr r (record { test = there e; body = a; step = absent }) u st l (framed o u g s) h.1 h.0 tt (record { test = right_part p (mentions_of_stmt a) (mentions e) m; body = left_part p (mentions_of_stmt a) (mentions e) m; step = stands_empty p }) k))
       exec_does r breaks continues (for_loop first test step a) o st more s h m k =
+          let are = first_are p fr.types r first h.0 in
           let early = left_part p (mentions_of_stmts first) (mentions_of_maybe test ++ (mentions_of_maybe step ++ mentions_of_stmt a)) m in
           let later = right_part p (mentions_of_stmts first) (mentions_of_maybe test ++ (mentions_of_maybe step ++ mentions_of_stmt a)) m in
           let rest = right_part p (mentions_of_maybe test) (mentions_of_maybe step ++ mentions_of_stmt a) later in
-          leaving_does known last fr (declared_in first) more _ _ (first_shown o first s k.tells h.0) (then_does known last p {A = Exit} {B = Exit} (IsExit p r false false) o st more _ _ _ _ k (first_ends p n typed marks recorded w goes fr r first o st s h.0 early k.state) (first_do r first o st more s h.0 early k) (λ u x st l g i k. exit_does known last x st l (w.again fr (record { test = test; body = a; step = step })) (w.again fr (record { test = test; body = a; step = step })) k.beside (agains fr r (record { test = test; body = a; step = step }) u st l (framed o u g s) h.1 h.3 h.2 (record { test = left_part p (mentions_of_maybe test) (mentions_of_maybe step ++ mentions_of_stmt a) later; body = right_part p (mentions_of_maybe step) (mentions_of_stmt a) rest; step = left_part p (mentions_of_maybe step) (mentions_of_stmt a) rest }) k)))
+          leaving_does known last fr (declared_in first) more _ _ (block_shown o r false false first s k.tells are) (then_does known last p {A = Exit} {B = Exit} (IsExit p r false false) o st more _ _ _ _ k (stmts_end p n typed marks recorded w goes fr r false false first o st s are early k.state) (stmts_do r false false first o st more s are early k) (λ u x st l g i k. exit_does known last x st l (w.again fr (record { test = test; body = a; step = step })) (w.again fr (record { test = test; body = a; step = step })) k.beside (agains fr r (record { test = test; body = a; step = step }) u st l (framed o u g s) h.1 h.3 h.2 (record { test = left_part p (mentions_of_maybe test) (mentions_of_maybe step ++ mentions_of_stmt a) later; body = right_part p (mentions_of_maybe step) (mentions_of_stmt a) rest; step = left_part p (mentions_of_maybe step) (mentions_of_stmt a) rest }) k)))
       exec_does r breaks continues (switch_on e gs) o st more s h m k =
           let first = left_part p (mentions e) (mentions_of_groups gs) m in
           let rest = right_part p (mentions e) (mentions_of_groups gs) m in

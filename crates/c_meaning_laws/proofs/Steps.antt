@@ -32,7 +32,7 @@ use Rattle.c_meaning.specs.Pointers.{callee, number, truth_value, behind, functi
 use Rattle.c_meaning.specs.Pointers.{pointer as pointed}
 use Rattle.c_shapes.specs.CallGraph.{is_taken}
 use Rattle.c_meaning_laws.specs.StoreTyping.{HasKind, IsCell, IsPlaceAt, IsPlaced, IsTypedMemory}
-use Rattle.c_meaning_laws.proofs.Places.{placed_at, all_get, at_place, int_value, uint_value, pointer_value, get_left, lies_in, lies_moved, repeat_lies, lies_once, member_lies, member_few, scalar_cell, scalar_object, element_object, struct_is, zip_get, zip_set, kind_cell, memory_changed}
+use Rattle.c_meaning_laws.proofs.Places.{placed_at, all_get, at_place, int_value, uint_value, pointer_value, get_left, lies_in, repeat_lies, lies_once, member_lies, member_few, scalar_cell, scalar_object, element_object, struct_is, zip_get, zip_set, kind_cell, memory_changed}
 use Rattle.c_shapes.proofs.Members.{and_left, and_right}
 
 -- an answer is what it should be, or one of the kinds U1 to U12
@@ -230,7 +230,7 @@ module _ (p : Program) (n : ℕ) (typed : IsProgram p n) where
   -- the element that is pointed to lies in the object
   element_lies : (o : Objects) (t : CType) (q : Pointer) (h : IsPointer p.structs o t q) → q.index < q.elements → Lies (h.all) (q.first + q.index * q.width) (flat p.structs t)
   element_lies o t q h less =
-      lies_moved h.all (flat p.structs t) _ _ (ap (λ n. q.first + q.index * n) (sym h.wide)) (lies_in h.all (repeat q.elements (flat p.structs t)) (flat p.structs t) q.first (q.index * cells p.structs t) h.lies (repeat_lies q.elements q.index (flat p.structs t) less))
+      subst (λ i. Lies h.all i (flat p.structs t)) (ap (λ n. q.first + q.index * n) (sym h.wide)) (lies_in h.all (repeat q.elements (flat p.structs t)) (flat p.structs t) q.first (q.index * cells p.structs t) h.lies (repeat_lies q.elements q.index (flat p.structs t) less))
 
   pub behind_right : (o : Objects) (t : CType) (v : Value) (m : Memory) → IsObject p.structs t → HasKind p o (pointer t) v → Right (IsPlaced p o t) (behind m v)
   behind_right o t v m b h =
