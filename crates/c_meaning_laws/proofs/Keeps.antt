@@ -330,14 +330,10 @@ module _ (p : Program) (n : ℕ) (typed : IsProgram p n) (marks : Marks) (record
           first_is (suc k) z g = absurd (cc)
 
       -- a cell of a variable gets a value of its type
-      pub cell_right : (o : Objects) (x cell : ℕ) (t u : CType) (v : Value) (m : Memory) → IsTypedFrame p o fr → slice_get fr.types x ≡ Some t → slice_get (flat p.structs t) cell ≡ Some u → HasKind p o u v → IsTypedMemory p o m → Right (IsTypedMemory p o) (store_place m (place (name_in fr false x) cell 1) v)
-      cell_right o x cell t u v m s e c h k =
-          let b = flat_scalar p.structs t cell u c in
-          store_right p n typed o u (record { name = name_in fr false x; first = cell; width = 1; elements = 1; index = 0 }) v m b (cell_pointer o x cell t u s e c b) h k
-
       pub cell_ends : (o : Objects) (x cell : ℕ) (t u : CType) (v : Value) (st : State) → IsTypedFrame p o fr → slice_get fr.types x ≡ Some t → slice_get (flat p.structs t) cell ≡ Some u → HasKind p o u v → IsTypedState p o st → EndsTyped p {A = Value} (Kind u) o st.entries (remembered (store_place st.memory (place (name_in fr false x) cell 1) v) v st)
       cell_ends o x cell t u v st s e c h k =
-          remembered_ends p {A = Value} (Kind u) o (store_place st.memory (place (name_in fr false x) cell 1) v) v st (cell_right o x cell t u v st.memory s e c h k.memory) h k
+          let b = flat_scalar p.structs t cell u c in
+          remembered_ends p {A = Value} (Kind u) o (store_place st.memory (place (name_in fr false x) cell 1) v) v st (store_right p n typed o u (record { name = name_in fr false x; first = cell; width = 1; elements = 1; index = 0 }) v st.memory b (cell_pointer o x cell t u s e c b) h k.memory) h k
 
       pub inits_end : (r t : CType) (x : ℕ) (is : Inits) (o : Objects) (st : State) → IsTypedFrame p o fr → slice_get fr.types x ≡ Some t → AreInits p fr.types (flat p.structs t) is → StandsIn p (mentions_of_inits is) → IsTypedState p o st → EndsTyped p {A = Exit} (IsExit p r false false) o st.entries (initialise p w marks fr x is st)
       inits_end r t x no_inits o st s e h m k = now p {A = Exit} (IsExit p r false false) o on st tt k
@@ -370,10 +366,6 @@ module _ (p : Program) (n : ℕ) (typed : IsProgram p n) (marks : Marks) (record
       out_is r breaks continues o (returned (Some v)) h = h
       out_is r breaks continues o x h = tt
 
-      value_returned : (r : CType) (breaks continues : Bool) (e : Expr) (o : Objects) (st : State) → IsTypedFrame p o fr → IsScalar r → type_of e ≡ r → IsValue p fr.types e → StandsIn p (mentions e) → IsTypedState p o st → EndsTyped p {A = Exit} (IsExit p r breaks continues) o st.entries (exec p w marks fr (return_value e) st)
-      value_returned r breaks continues e o st s b q h m k =
-          then_ends p {A = Value} {B = Exit} (Kind r) (IsExit p r breaks continues) o _ _ _ (operand (type_of e) r o _ _ q b (value_ends true e o st s h m k)) (λ o' v st g i k. now p {A = Exit} (IsExit p r breaks continues) o' (returned (Some v)) st i k)
-
       mutual
         pub exec_ends : (r : CType) (breaks continues : Bool) (a : Stmt) (o : Objects) (st : State) → IsTypedFrame p o fr → IsStmt p fr.types r breaks continues a → StandsIn p (mentions_of_stmt a) → IsTypedState p o st → EndsTyped p {A = Exit} (IsExit p r breaks continues) o st.entries (exec p w marks fr a st)
         exec_ends r breaks continues (block ss) o st s h m k =
@@ -398,7 +390,8 @@ module _ (p : Program) (n : ℕ) (typed : IsProgram p n) (marks : Marks) (record
         exec_ends r breaks continues break_off o st s h m k = now p {A = Exit} (IsExit p r breaks continues) o broken st h k
         exec_ends r breaks continues continue_on o st s h m k = now p {A = Exit} (IsExit p r breaks continues) o continued st h k
         exec_ends r breaks continues return_void o st s h m k = now p {A = Exit} (IsExit p r breaks continues) o (returned None) st tt k
-        exec_ends r breaks continues (return_value e) o st s h m k = value_returned r breaks continues e o st s h.0 h.1 h.2 m k
+        exec_ends r breaks continues (return_value e) o st s h m k =
+            then_ends p {A = Value} {B = Exit} (Kind r) (IsExit p r breaks continues) o _ _ _ (operand (type_of e) r o _ _ h.1 h.0 (value_ends true e o st s h.2 m k)) (λ o' v st g i k. now p {A = Exit} (IsExit p r breaks continues) o' (returned (Some v)) st i k)
 
         pub stmts_end : (r : CType) (breaks continues : Bool) (ss : Stmts) (o : Objects) (st : State) → IsTypedFrame p o fr → AreStmts p fr.types r breaks continues ss → StandsIn p (mentions_of_stmts ss) → IsTypedState p o st → EndsTyped p {A = Exit} (IsExit p r breaks continues) o st.entries (exec_all p w marks fr ss st)
         stmts_end r breaks continues no_stmts o st s h m k = now p {A = Exit} (IsExit p r breaks continues) o on st tt k

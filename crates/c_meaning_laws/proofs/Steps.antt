@@ -28,7 +28,7 @@ use Rattle.c_tree.proofs.OperatorLemmas.{converted, arithmetic_fits, below_32}
 use Rattle.c_meaning.specs.Memory.{Object, there, element, cell_value, load, set_cell, store, changed}
 use Rattle.c_meaning.specs.Memory.{Objects as Memory}
 use Rattle.c_meaning.specs.Meaning.{behind_of, decayed, operated, comparing, moving, computing, is_subtraction, updated}
-use Rattle.c_meaning.specs.Pointers.{callee, number, truth_value, behind, function_behind, load_place, store_place, member, to_first, at_index, offset, moved, same_array, in_one_array, alive, equal_pointers, compared, test}
+use Rattle.c_meaning.specs.Pointers.{callee, number, truth_value, behind, load_place, store_place, member, to_first, at_index, offset, moved, same_array, in_one_array, alive, equal_pointers, compared, test}
 use Rattle.c_meaning.specs.Pointers.{pointer as pointed}
 use Rattle.c_shapes.specs.CallGraph.{is_taken}
 use Rattle.c_meaning_laws.specs.StoreTyping.{HasKind, IsCell, IsPlaceAt, IsPlaced, IsTypedMemory}
@@ -245,14 +245,11 @@ module _ (p : Program) (n : ℕ) (typed : IsProgram p n) where
       (λ f h. let same : h.0 ≡ function r ts = cc (h.1) in subst (λ u. IsCallee u f) same (h.2, h.3))
       (λ q h. let same : h.0 ≡ function r ts = cc (h.1) in absurd (subst (IsObject p.structs) same h.2.object).complete)
 
-  function_behind_right : (o : Objects) (r : CType) (ts : CTypes) (v : Value) → HasKind p o (pointer (function r ts)) v → Right (IsPlaced p o (function r ts)) (function_behind v)
-  function_behind_right o r ts v h = right_then (IsCallee (function r ts)) (IsPlaced p o (function r ts)) (callee v) _ (callee_right o r ts v h) (λ f k. (r, ts, refl, k.0, k.1))
-
   pub behind_of_right : (o : Objects) (t : CType) (v : Value) (m : Memory) → IsTarget p.structs t → HasKind p o (pointer t) v → Right (IsPlaced p o t) (behind_of t m v)
   behind_of_right o void v m b h = absurd b
   behind_of_right o (integer k) v m b h = behind_right o (integer k) v m (scalar_object p.structs (integer k) tt) h
   behind_of_right o (pointer t) v m b h = behind_right o (pointer t) v m (scalar_object p.structs (pointer t) tt) h
-  behind_of_right o (function r ts) v m b h = function_behind_right o r ts v h
+  behind_of_right o (function r ts) v m b h = right_then (IsCallee (function r ts)) (IsPlaced p o (function r ts)) (callee v) _ (callee_right o r ts v h) (λ f k. (r, ts, refl, k.0, k.1))
   behind_of_right o t v m b h = behind_right o t v m b h
 
   cell_right : (o : Objects) (t : CType) (v : Value) → IsCell p o t v → Right (HasKind p o t) (cell_value (Some v))

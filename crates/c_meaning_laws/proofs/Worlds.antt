@@ -112,15 +112,12 @@ module _ (p : Program) (n : ℕ) (typed : IsProgram p n) where
   pub opened_own : (g : Function) (o : Objects) (a x : ℕ) (t : CType) → slice_get g.variables x ≡ Some t → opened g a o (record { activation = a; variable = x }) ≡ Some (flat p.structs t)
   opened_own g o a x t e = rw (nat_eq_equiv.refl a, e) refl
 
-  one_cell : (o : Objects) (t : CType) (v : Value) → IsScalar t → HasKind p o t v → AllZip (IsCell p o) (flat p.structs t) (v ∷ [])
-  one_cell o t v b h = subst (λ ts. AllZip (IsCell p o) ts (v ∷ [])) (sym (flat_one p.structs t b)) (kind_cell p o t v h, tt)
-
   -- parameters have the values of arguments
   pub parameters_typed : (o : Objects) (a x : ℕ) (ts : List CType) (vs : List Value) (m : Memory) → IsTypedMemory p o m → AllZip (HasKind p o) ts vs → All IsScalar ts → ((j : ℕ) (t : CType) → slice_get ts j ≡ Some t → o (record { activation = a; variable = x + j }) ≡ Some (flat p.structs t)) → IsTypedMemory p o (with_parameters a x vs m)
   parameters_typed o a x [] [] m h z b k = h
   parameters_typed o a x (t ∷ ts) (v ∷ vs) m h z b k =
       let here : x + 0 ≡ x = omega arith in
-      parameters_typed o a (suc x) ts vs _ (memory_changed p o m (record { activation = a; variable = x }) (flat p.structs t) (record { cells = v ∷ []; string = false }) h (subst (λ x. o (record { activation = a; variable = x }) ≡ Some (flat p.structs t)) here (k 0 t refl)) (one_cell o t v (All-head IsScalar t ts b) z.0)) z.1 (All-tail IsScalar t ts b) (λ j u e.
+      parameters_typed o a (suc x) ts vs _ (memory_changed p o m (record { activation = a; variable = x }) (flat p.structs t) (record { cells = v ∷ []; string = false }) h (subst (λ x. o (record { activation = a; variable = x }) ≡ Some (flat p.structs t)) here (k 0 t refl)) (subst (λ ts. AllZip (IsCell p o) ts (v ∷ [])) (sym (flat_one p.structs t (All-head IsScalar t ts b))) (kind_cell p o t v z.0, tt))) z.1 (All-tail IsScalar t ts b) (λ j u e.
       let next : x + suc j ≡ suc x + j = omega arith in
       subst (λ x. o (record { activation = a; variable = x }) ≡ Some (flat p.structs u)) next (k (suc j) u e))
   parameters_typed o a x ts vs m h z b k = absurd z
