@@ -1,7 +1,9 @@
 -- How failures of parts become those of the whole.
-use Rattle.std.proofs.Common.{◌≡◌, List, ◌∷◌, ◌++◌, refl, sym, ap, ◌∙◌, subst, append_assoc, []}
+use Rattle.std.proofs.Common.{ℕ, zero, suc, ◌+◌, arith, ◌≡◌, List, ◌∷◌, ◌++◌, refl, sym, ap, ◌∙◌, subst, append_assoc, []}
 use Rattle.std.proofs.lemmas.List.{append_cancel_right}
 use Rattle.c_lexer.specs.declared.token.Token.{Token}
+use Rattle.c_syntax.specs.Tokens.{Is}
+use Rattle.c_syntax.proofs.Ranks.{apart, heads}
 use Rattle.c_syntax.proofs.Twins.{Twin, here, along, glue, On}
 use Rattle.c_parser_refusals.specs.Fails.{Meets, at_end, at_token, Fails, Then, then, Or, first, second, One, one, NotAt}
 
@@ -70,40 +72,8 @@ moved_is i j y s h g front p q o =
 parted : {A B C : List Token → List Token → Type 0} {i j k : List Token} → Fixes A B → A i j → Then B C i k → C j k
 parted {C = C} {k = k} f a (then b c) = subst (λ z. C z k) (sym (f.once _ _ _ a b)) c
 
--- the first part stands, and the next one fails
-pub fails_later : {A B C : List Token → List Token → Type 0} {i j r : List Token} → Fixes A B → A i j → Fails C j r → Fails (Then B C) i r
-fails_later {A} {B} {C} {i} {j} {r} f a c =
-    let x = f.moves i j a j (meets_itself j) in
-    let g = fronted x.twin in
-    record {
-      front = g.0 ++ c.front;
-      is = g.1 ∙ ap (λ k. g.0 ++ k) c.is ∙ sym (append_assoc g.0 c.front r);
-      none = λ s m k w.
-          let y = f.moves i j a (c.front ++ s) (alike_at c.front c.is m) in
-          let h = fronted y.twin in
-          let e : (g.0 ++ c.front) ++ s ≡ y.tokens = moved_is i j y.tokens s h.0 g.0 c.front h.1 h.2 g.1 in
-          let v : Then B C y.tokens k = subst (λ z. Then B C z k) e w in
-          c.none s m k (parted f y.reads v);
-    }
-
--- one of two phrases cannot stand there, and the other one fails
-pub fails_second : {A B : List Token → List Token → Type 0} {i r : List Token} → ((k j : List Token) → Meets i k → A k j → ⊥) → Fails B i r → Fails (Or A B) i r
-fails_second {A} {B} f b = fails_as (λ k j m w. only (f k j m) w) b
-  where
-    only : {k j : List Token} → (A k j → ⊥) → Or A B k j → B k j
-    only f (first a) = absurd (f a)
-    only f (second b) = b
-
 no_token : {P : Token → Type 0} {j : List Token} → One P [] j → ⊥
 no_token h = elim h [ ]
-
--- no token with the property stands first
-pub fails_missing : {P : Token → Type 0} {B : List Token → List Token → Type 0} (i : List Token) → ((t : Token) (j : List Token) → i ≡ t ∷ j → P t → ⊥) → Fails (Then (One P) B) i i
-fails_missing {P} {B} i f = fails_here (λ s m j w. missing m f w)
-  where
-    missing : {i s j : List Token} → Meets i s → ((t : Token) (j : List Token) → i ≡ t ∷ j → P t → ⊥) → Then (One P) B s j → ⊥
-    missing at_token f (then (one h) b) = f _ _ refl h
-    missing at_end f (then h b) = no_token h
 
 -- the token alone
 pub missing : {P : Token → Type 0} (i : List Token) → NotAt P i → Fails (One P) i i
@@ -113,13 +83,14 @@ missing {P} i f = fails_here (λ s m j w. none m f w)
     none at_token f (one h) = f _ _ refl h
     none at_end f h = no_token h
 
+-- no token with the property stands first
+pub fails_missing : {P : Token → Type 0} {B : List Token → List Token → Type 0} (i : List Token) → ((t : Token) (j : List Token) → i ≡ t ∷ j → P t → ⊥) → Fails (Then (One P) B) i i
+fails_missing i f = fails_first (missing i f)
+
 -- what begins alike begins with no such token either
 pub not_at_alike : {P : Token → Type 0} {i k : List Token} → Meets i k → NotAt P i → NotAt P k
 not_at_alike {P} at_end f = f
-not_at_alike {P} {k = t ∷ j} at_token f = λ u h q p. f _ _ refl (subst P (sym (first_of q)) p)
-  where
-    first_of : {t u : Token} {j h : List Token} → t ∷ j ≡ u ∷ h → t ≡ u
-    first_of q = cc
+not_at_alike {P} at_token f = λ u h q p. f _ _ refl (subst P (sym (heads q).0) p)
 
 -- what fails at a token fails at the next one too
 pub fails_on : {A : List Token → List Token → Type 0} {t : Token} {i r : List Token} → Fails A i (t ∷ r) → Fails A i r
@@ -138,26 +109,6 @@ pub record Begins (A : List Token → List Token → Type 0) (i : List Token) : 
 pub fails_begun : {A B : List Token → List Token → Type 0} {i r : List Token} → ((k j : List Token) → Meets i k → A k j → Begins B k) → Fails B i r → Fails A i r
 fails_begun f b = record { front = b.front; is = b.is; none = λ s m j a. let v = f _ j (alike_at b.front b.is m) a in b.none s m v.rest v.reads }
 
--- What stands there moves, and where it stands nothing else does.
-pub fails_beside : {R A : List Token → List Token → Type 0} {i j : List Token} → ((k : List Token) → Meets j k → On R i j k) → ((h k l : List Token) → Meets j k → R h k → A h l → ⊥) → Fails A i j
-fails_beside {R} {A} {i} {j} f g =
-    let x = fronted (f j (meets_itself j)).twin in
-    record {
-      front = x.0;
-      is = x.1;
-      none = λ s m l a.
-          let y = f s m in
-          let z = fronted y.twin in
-          let e : x.0 ≡ z.0 = append_cancel_right x.0 z.0 j (sym x.1 ∙ z.1) in
-          let w : x.0 ++ s ≡ y.tokens = ap (λ q. q ++ s) e ∙ sym z.2 in
-          g y.tokens s l m y.reads (subst (λ q. A q l) w a);
-    }
-
--- what has one front and goes on alike begins alike
-pub twin_alike : {r s i k : List Token} → Twin r s i k → Meets r s → Meets i k
-twin_alike here m = m
-twin_alike (along w) m = at_token
-
 -- What stands there moves, and behind it begins what fails.
 pub fails_past : {R A C : List Token → List Token → Type 0} {i j r : List Token} → ((k : List Token) → Meets j k → On R i j k) → ((h k l : List Token) → Meets j k → R h k → A h l → Begins C k) → Fails C j r → Fails A i r
 fails_past {R} {A} {C} {i} {j} {r} f g c =
@@ -174,6 +125,19 @@ fails_past {R} {A} {C} {i} {j} {r} f g c =
           let v : A y.tokens l = subst (λ z. A z l) e w in
           let b = g y.tokens (c.front ++ s) l n y.reads v in c.none s m b.rest b.reads;
     }
+
+-- the first part stands, and the next one fails
+pub fails_later : {A B C : List Token → List Token → Type 0} {i j r : List Token} → Fixes A B → A i j → Fails C j r → Fails (Then B C) i r
+fails_later {A} {C = C} f a c = fails_past {R = A} {C = C} (λ k m. f.moves _ _ a k m) (λ h k l m v w. record { rest = l; reads = parted f v w }) c
+
+-- What stands there moves, and where it stands nothing else does.
+pub fails_beside : {R A : List Token → List Token → Type 0} {i j : List Token} → ((k : List Token) → Meets j k → On R i j k) → ((h k l : List Token) → Meets j k → R h k → A h l → ⊥) → Fails A i j
+fails_beside {R} f g = fails_past {R = R} {C = λ h k. ⊥} f (λ h k l m v a. absurd (g h k l m v a)) (fails_here (λ s m j a. a))
+
+-- what has one front and goes on alike begins alike
+pub twin_alike : {r s i k : List Token} → Twin r s i k → Meets r s → Meets i k
+twin_alike here m = m
+twin_alike (along w) m = at_token
 
 -- back to what stood there
 pub twin_back : {i j h k z : List Token} → Twin j k i h → Twin k j h z → z ≡ i
@@ -219,3 +183,59 @@ fails_behind {A} {B} {i} {r} g f b = record {
   is = ap (λ k. g ++ k) b.is ∙ sym (append_assoc g b.front r);
   none = λ s m j a. b.none s m j (f _ j (alike_at b.front b.is m) (subst (λ z. A z j) (append_assoc g b.front s) a));
 }
+
+-- the same, where the front is known
+pub none_behind : {A : List Token → List Token → Type 0} {i r : List Token} (front : List Token) → Fails A i r → i ≡ front ++ r → (s : List Token) → Meets r s → (j : List Token) → A (front ++ s) j → ⊥
+none_behind {A} {i} {r} front f q s m j = subst (λ z. A (z ++ s) j → ⊥) (append_cancel_right f.front front r (sym f.is ∙ q)) (f.none s m j)
+
+-- both of two phrases fail
+pub fails_both : {A B : List Token → List Token → Type 0} {i r : List Token} → Fails A i r → Fails B i r → Fails (Or A B) i r
+fails_both {A} {B} {i} {r} a b = record {
+  front = a.front;
+  is = a.is;
+  none = λ s m j w. neither (a.none s m j) (none_behind a.front b a.is s m j) w;
+}
+  where
+    neither : {k j : List Token} → (A k j → ⊥) → (B k j → ⊥) → Or A B k j → ⊥
+    neither f g (first a) = f a
+    neither f g (second b) = g b
+
+-- one of two phrases fails, and the other one at once
+pub fails_not_or : {A B : List Token → List Token → Type 0} {i r : List Token} → Fails A i i → Fails B i r → Fails (Or A B) i r
+fails_not_or a b = fails_both (fails_further b.front b.is a) b
+
+pub fails_or_not : {A B : List Token → List Token → Type 0} {i r : List Token} → Fails A i r → Fails B i i → Fails (Or A B) i r
+fails_or_not a b = fails_both a (fails_further a.front a.is b)
+
+-- one of two phrases cannot stand there, and the other one fails
+pub fails_second : {A B : List Token → List Token → Type 0} {i r : List Token} → ((k j : List Token) → Meets i k → A k j → ⊥) → Fails B i r → Fails (Or A B) i r
+fails_second f b = fails_not_or (fails_here (λ s m j a. f s j m a)) b
+
+-- the first token is known
+pub at_first : {A : List Token → List Token → Type 0} {P : Token → Type 0} {t : Token} {i : List Token} → P t → ((u : Token) (k j : List Token) → P u → A (u ∷ k) j → ⊥) → Fails A (t ∷ i) (t ∷ i)
+at_first {A} {P} h f = fails_here (λ s m j a. none h m a)
+  where
+    none : {t : Token} {i s j : List Token} → P t → Meets (t ∷ i) s → A s j → ⊥
+    none h at_token a = f _ _ _ h a
+
+-- a token that has one property has no other
+pub other_token : {P Q : Token → Type 0} {t : Token} {i : List Token} → P t → ((u : Token) → P u → Q u → ⊥) → NotAt Q (t ∷ i)
+other_token {P} h f = λ u k q c. f u (subst P (heads q).0 h) c
+
+-- another punctuator stands
+pub other_mark : {code other : ℕ} {t : Token} {i : List Token} → Is code t → (code ≡ other → ⊥) → NotAt (Is other) (t ∷ i)
+other_mark {code} h f = other_token {P = Is code} h (λ u a b. f (apart a b))
+
+-- the same tokens
+pub at_same : (A : List Token → List Token → Type 0) {i j : List Token} (k : List Token) → i ≡ j → A i k → A j k
+at_same A k q a = subst (λ z. A z k) q a
+
+-- what moves is a phrase
+pub on_as : {R A : List Token → List Token → Type 0} {i j k : List Token} → On R i j k → ((h : List Token) → R h k → A h k) → On A i j k
+on_as x f = record { tokens = x.tokens; twin = x.twin; reads = f _ x.reads }
+
+-- to each later number
+pub climb : {P : ℕ → Type 0} → ((n : ℕ) → P n → P (suc n)) → (k n m : ℕ) → m ≡ k + n → P n → P m
+climb {P} f zero n m q a = let e : n ≡ m = omega (arith, q) in subst P e a
+climb f (suc k) n zero q a = absurd (omega (arith, q))
+climb f (suc k) n (suc m) q a = f m (climb f k n m (omega (arith, q)) a)

@@ -1,11 +1,11 @@
 -- Declarations, part by part.
-use Rattle.std.proofs.Common.{◌≡◌, ◌≤◌, List, ◌∷◌, refl, sym, ap, ◌∙◌, subst, arith, ℕ}
+use Rattle.std.proofs.Common.{◌≡◌, ◌≤◌, List, ◌∷◌, refl, sym, ap, ◌∙◌, arith, ℕ}
 use Rattle.c_lexer.specs.declared.token.Token.{Token}
-use Rattle.c_lexer.specs.declared.punctuator.TheConstants.{ASSIGN, COMMA, SEMICOLON}
-use Rattle.c_syntax.specs.Tree.{MaybeInit, Init, Parts, Decl}
+use Rattle.c_lexer.specs.declared.punctuator.TheConstants.{ASSIGN, SEMICOLON}
+use Rattle.c_syntax.specs.Tree.{MaybeInit, Parts, Decl}
 use Rattle.c_syntax.specs.Tokens.{Is}
-use Rattle.c_syntax.specs.Statements.{ReadsInit, ReadsMaybeInit, no_initialiser, an_initialiser, ReadsParts, last_part, next_part, ReadsDecl, a_declaration}
-use Rattle.c_syntax.specs.Limits.{height_of_init, height_of_maybe_init, height_of_parts, height_of_decl}
+use Rattle.c_syntax.specs.Statements.{ReadsMaybeInit, no_initialiser, an_initialiser, ReadsParts, last_part, next_part, ReadsDecl, a_declaration}
+use Rattle.c_syntax.specs.Limits.{height_of_maybe_init, height_of_parts, height_of_decl}
 use Rattle.c_syntax.proofs.Precedence.{rank}
 use Rattle.c_syntax.proofs.Ranks.{ranked, apart}
 use Rattle.c_syntax.proofs.Ends.{started, EndsSpec}
@@ -15,7 +15,7 @@ use Rattle.c_syntax.proofs.OneDecl.{plain_head, maybe_init_ends, maybe_init_at, 
 use Rattle.c_parser_refusals.specs.Fails.{Fails, Then, then, first, second, one, NotAt}
 use Rattle.c_parser_refusals.specs.Phrases.{Bound, Fits, ASpec, ADeclarator, AnInit, APlainDecl}
 use Rattle.c_parser_refusals.specs.Declarations.{PartsTail, last_stands, more_stand, SomeParts, PartsEnd}
-use Rattle.c_parser_refusals.proofs.Combine.{fails_as, fails_first, fails_later, fails_under, not_at_alike}
+use Rattle.c_parser_refusals.proofs.Combine.{at_same, fails_as, fails_first, fails_later, fails_under, not_at_alike}
 use Rattle.c_parser_refusals.proofs.Fixed.{spec_fixes, declarator_fixes, init_fixes}
 use Rattle.c_parser_refusals.proofs.BlockForms.{fits_under}
 
@@ -29,7 +29,7 @@ parts_reads b (next_part e n v c r) h f =
     (record { depth = _; tree = _; reads = e; named = n; ends = maybe_init_at v c; fits = fits_under b f (omega arith) })
     (more_stand v c r h (fits_under b f (omega arith)))
 
-parts_end_spec : {d : ℕ} {ps : Parts} {i j : List Token} → ReadsParts d ps i j → EndsSpec i
+pub parts_end_spec : {d : ℕ} {ps : Parts} {i j : List Token} → ReadsParts d ps i j → EndsSpec i
 parts_end_spec (last_part e n v) = named_ends_spec e n
 parts_end_spec (next_part e n v c r) = named_ends_spec e n
 
@@ -41,21 +41,14 @@ decl_reads b q (a_declaration p st s ps h) f =
 pub decl_form : (b : Bound) {i j : List Token} → APlainDecl b i j → Then ASpec (SomeParts b) i j
 decl_form b a = decl_reads b (plain_head a.reads a.plain) a.reads a.fits
 
-an_init_before : (b : Bound) {d : ℕ} {a : Init} {t : Token} {i j : List Token} → ReadsInit d a i (t ∷ j) → 14 ≤ rank (t ∷ j) → Fits b d (height_of_init a) → AnInit b i (t ∷ j)
-an_init_before b r s f = record { depth = _; tree = _; reads = r; stops = s; fits = f }
-
-last_init_reads : (b : Bound) {d : ℕ} {v : MaybeInit} {o t : Token} {i j : List Token} → Is ASSIGN o → ReadsMaybeInit d v (o ∷ i) (t ∷ j) → Is SEMICOLON t → Fits b d (height_of_maybe_init v) → AnInit b i (t ∷ j)
-last_init_reads b h no_initialiser c f = absurd (omega (arith, apart h c))
-last_init_reads b h (an_initialiser o r) c f = an_init_before b r (omega (arith, ranked c)) f
-
-more_init_reads : (b : Bound) {d : ℕ} {v : MaybeInit} {o t : Token} {i j : List Token} → Is ASSIGN o → ReadsMaybeInit d v (o ∷ i) (t ∷ j) → Is COMMA t → Fits b d (height_of_maybe_init v) → AnInit b i (t ∷ j)
-more_init_reads b h no_initialiser c f = absurd (omega (arith, apart h c))
-more_init_reads b h (an_initialiser o r) c f = an_init_before b r (omega (arith, ranked c)) f
+one_init_reads : (b : Bound) {d code : ℕ} {v : MaybeInit} {o t : Token} {i j : List Token} → Is ASSIGN o → ReadsMaybeInit d v (o ∷ i) (t ∷ j) → Is code t → (ASSIGN ≡ code → ⊥) → 14 ≤ rank (t ∷ j) → Fits b d (height_of_maybe_init v) → AnInit b i (t ∷ j)
+one_init_reads b h no_initialiser c n s f = absurd (n (apart h c))
+one_init_reads b h (an_initialiser o r) c n s f = record { depth = _; tree = _; reads = r; stops = s; fits = f }
 
 -- an initialiser, and then the end or more
 pub init_form : (b : Bound) {t : Token} {i j : List Token} → Is ASSIGN t → PartsTail b (t ∷ i) j → Then (AnInit b) (PartsEnd b) i j
-init_form b h (last_stands v c f) = then (last_init_reads b h v c f) (first (one c))
-init_form b h (more_stand v c ps u f) = then (more_init_reads b h v c (fits_under b f (omega arith))) (second (then (one c) (parts_reads b ps u (fits_under b f (omega arith)))))
+init_form b h (last_stands v c f) = then (one_init_reads b h v c (λ q. omega arith) (omega (arith, ranked c)) f) (first (one c))
+init_form b h (more_stand v c ps u f) = then (one_init_reads b h v c (λ q. omega arith) (omega (arith, ranked c)) (fits_under b f (omega arith))) (second (then (one c) (parts_reads b ps u (fits_under b f (omega arith)))))
 
 none_reads : {d : ℕ} {v : MaybeInit} {i j : List Token} → NotAt (Is ASSIGN) i → ReadsMaybeInit d v i j → i ≡ j
 none_reads f no_initialiser = refl
@@ -64,13 +57,10 @@ none_reads f (an_initialiser o r) = absurd (f _ _ refl o)
 no_assign : {i : List Token} → (rank i ≡ 13 → ⊥) → NotAt (Is ASSIGN) i
 no_assign f = λ t j q h. f (ap rank q ∙ ranked h)
 
-end_at : (b : Bound) {i j k : List Token} → i ≡ j → PartsEnd b j k → PartsEnd b i k
-end_at b {k = k} q e = subst (λ z. PartsEnd b z k) (sym q) e
-
 -- the end or more, where no initialiser stands
 pub no_init_form : (b : Bound) {i j : List Token} → NotAt (Is ASSIGN) i → PartsTail b i j → PartsEnd b i j
-no_init_form b h (last_stands v c f) = end_at b (none_reads h v) (first (one c))
-no_init_form b h (more_stand v c ps u f) = end_at b (none_reads h v) (second (then (one c) (parts_reads b ps u (fits_under b f (omega arith)))))
+no_init_form b h (last_stands v c f) = at_same (PartsEnd b) _ (sym (none_reads h v)) (first (one c))
+no_init_form b h (more_stand v c ps u f) = at_same (PartsEnd b) _ (sym (none_reads h v)) (second (then (one c) (parts_reads b ps u (fits_under b f (omega arith)))))
 
 -- failures of a declaration and of its parts
 

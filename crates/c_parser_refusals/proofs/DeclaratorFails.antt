@@ -2,7 +2,7 @@
 use Rattle.std.proofs.Common.{◌≡◌, ◌⊎◌, inl, inr, ◌≤◌, suc, List, ◌∷◌, ◌++◌, refl, sym, ap, ◌∙◌, subst, arith, ℕ, []}
 use Rattle.c_lexer.specs.declared.token.Token.{Token}
 use Rattle.c_lexer.specs.declared.punctuator.TheConstants.{LEFT_BRACKET, RIGHT_BRACKET, LEFT_PARENTHESIS, RIGHT_PARENTHESIS, ASTERISK, COMMA}
-use Rattle.c_syntax.specs.Tree.{Ident, Maybe, Declarator, nothing, named, pointer, array, function, Params, TypeName}
+use Rattle.c_syntax.specs.Tree.{Ident, Maybe, Declarator, nothing, named, array, function, Params, TypeName}
 use Rattle.c_syntax.specs.Tokens.{Is, place}
 use Rattle.c_syntax.specs.Grammar.{conditional_level, IsThere, HasName, HasNoName, ReadsSize, no_size, a_size, ReadsType, a_type}
 use Rattle.c_syntax.specs.Grammar.{Declares, a_pointer, a_direct, ReadsCore, a_declared, declarator_in_parentheses, no_core, Lengthens, no_more, an_array, a_function, are_none, are_some, ReadsEach, last_param, next_param}
@@ -20,19 +20,17 @@ use Rattle.c_parser_refusals.specs.Phrases.{Bound, within, Fits, inner, ASpec, A
 use Rattle.c_parser_refusals.specs.Operands.{AType, Past}
 use Rattle.c_parser_refusals.specs.Specs.{AConsts, are_consts}
 use Rattle.c_parser_refusals.specs.Declarators.{Carries, AnyName, ADeclared, SomeLengthens, NoCore, DeclaratorTail, SizeClosed, AParam, ParamsClosed, params_closed, EachClosed, closed_here, more_closed, Lengthened, Bare, Naming, with_name, without_name, either_way, Suited}
-use Rattle.c_parser_refusals.proofs.Combine.{Fixes, fails_here, fails_as, fails_first, fails_second, fails_later, fails_under, fails_under_alike, fails_under_begun, fails_beside, fails_past, alike, not_at_alike, twin_alike, fronted, then_fixes, Begins}
+use Rattle.c_parser_refusals.proofs.Combine.{Fixes, on_as, fails_not_or, missing, fails_here, fails_as, fails_first, fails_later, fails_under, fails_under_alike, fails_under_begun, fails_beside, fails_past, alike, not_at_alike, twin_alike, fronted, then_fixes, Begins}
 use Rattle.c_parser_refusals.proofs.Fixed.{start_alike, ends_declarator_alike, spec_fixes}
 use Rattle.c_parser_refusals.proofs.StmtForms.{fits_part}
 use Rattle.c_parser_refusals.proofs.BlockForms.{fits_under}
 use Rattle.c_parser_refusals.proofs.ExprForms.{fits_enclosed}
-use Rattle.c_parser_refusals.proofs.PrefixFails.{fits_low, longer}
+use Rattle.c_parser_refusals.proofs.PrefixFails.{fits_low, behind_alike}
 use Rattle.c_parser_refusals.proofs.SpecFails.{ends_no_const}
 
 pub declared_fixes : (N : Declarator → Type 0) (b c : Bound) → Fixes (ADeclared N b) (ADeclared N c)
 declared_fixes N b c = record {
-  moves = λ i j a k m.
-      let x = declares_on a.reads k in
-      record { tokens = x.tokens; twin = x.twin; reads = record { depth = a.depth; tree = a.tree; reads = x.reads; suits = a.suits; ends = ends_declarator_alike m a.ends; fits = a.fits } };
+  moves = λ i j a k m. on_as (declares_on a.reads k) (λ h r. record { depth = a.depth; tree = a.tree; reads = r; suits = a.suits; ends = ends_declarator_alike m a.ends; fits = a.fits });
   once = λ i j k a e. (same_declarator a.reads e.reads a.ends e.ends).1;
 }
 
@@ -85,10 +83,7 @@ low_declarator (a_direct p (declarator_in_parentheses o r h c) l) z g = absurd (
   where
     there_tall : {d : ℕ} {e : Declarator} {i j : List Token} → Declares d e i j → IsThere e → 1 ≤ height_of_declarator e
     there_tall {e = nothing} r h = absurd h
-    there_tall {e = named at ident} r h = omega arith
-    there_tall {e = pointer at e} r h = omega arith
-    there_tall {e = array at e s} r h = omega arith
-    there_tall {e = function at e ps} r h = omega arith
+    there_tall {e = e} r h = omega arith
 low_declarator (a_direct p no_core no_more) z g = z
 low_declarator (a_direct p no_core (an_array o s c l)) z g = absurd (omega (arith, lengthens_rise l))
 low_declarator (a_direct p no_core (a_function o s c l)) z g = absurd (omega (arith, lengthens_rise l))
@@ -120,6 +115,10 @@ nameless_fails {N} i c f u v w = fails_here (λ s m j a. none (start_alike m) a.
 
 -- declarators in parentheses
 
+no_parameters : {N : Declarator → Type 0} {d at : ℕ} {e : Declarator} {t : Token} {i j : List Token} → Carries N → Is LEFT_PARENTHESIS t → (start i ≤ 6) ⊎ (N nothing → ⊥) → Lengthens d at nothing e (t ∷ i) j → N e → EndsDeclarator j → ⊥
+no_parameters c h (inl g) l n z = omega (arith, g, lengthens_inside l z h)
+no_parameters c h (inr g) l n z = g (lengthens_carry c l n)
+
 tail_reads : {N : Declarator → Type 0} (b : Bound) {d : ℕ} {e : Declarator} {t : Token} {i j : List Token} → Carries N → Is LEFT_PARENTHESIS t → (start i ≤ 6) ⊎ (N nothing → ⊥) → Declares d e (t ∷ i) j → N e → EndsDeclarator j → Fits b d (height_of_declarator e) → DeclaratorTail N b i j
 tail_reads b c h u (a_pointer o q r) n z f = absurd (omega (arith, started h, started o))
 tail_reads b c h u (a_direct p (a_declared x) l) n z f = absurd (omega (arith, started h, started_name x.name))
@@ -127,11 +126,7 @@ tail_reads b c h u (a_direct p (declarator_in_parentheses o r g q) l) n z f =
     then
     (record { depth = _; tree = _; reads = r; suits = lengthens_carry c l n; ends = parenthesis_ends_declarator q; fits = fits_enclosed b (fits_under b f (lengthens_rise l)) })
     (then (one q) (record { depth = _; at = _; core = _; tree = _; reads = l; ends = z; fits = f }))
-tail_reads {N} b {i = i} c h u (a_direct p no_core l) n z f = absurd (apart_from u)
-  where
-    apart_from : (start i ≤ 6) ⊎ (N nothing → ⊥) → ⊥
-    apart_from (inl g) = omega (arith, g, lengthens_inside l z h)
-    apart_from (inr g) = g (lengthens_carry c l n)
+tail_reads b c h u (a_direct p no_core l) n z f = absurd (no_parameters c h u l n z)
 
 turned : (N : Declarator → Type 0) {i k : List Token} → Meets i k → (start i ≤ 6) ⊎ (N nothing → ⊥) → (start k ≤ 6) ⊎ (N nothing → ⊥)
 turned N m (inl g) = inl (omega (arith, g, start_alike m))
@@ -157,11 +152,7 @@ no_pair_reads : {N : Declarator → Type 0} {d : ℕ} {e : Declarator} {t : Toke
 no_pair_reads c h u q (a_pointer o w r) n z = omega (arith, started h, started o)
 no_pair_reads c h u q (a_direct p (a_declared x) l) n z = omega (arith, started h, started_name x.name)
 no_pair_reads c h u q (a_direct p (declarator_in_parentheses o r g w) l) n z = omega arith
-no_pair_reads {N} {i = i} c h u q (a_direct p no_core l) n z = apart_from u
-  where
-    apart_from : (start i ≤ 6) ⊎ (N nothing → ⊥) → ⊥
-    apart_from (inl g) = omega (arith, g, lengthens_inside l z h)
-    apart_from (inr g) = g (lengthens_carry c l n)
+no_pair_reads c h u q (a_direct p no_core l) n z = no_parameters c h u l n z
 
 -- the token after the parenthesis begins a declarator
 pub no_pair_for_declarator : {N : Declarator → Type 0} {n : ℕ} {t : Token} {i : List Token} → Carries N → Is LEFT_PARENTHESIS t → start i ≤ 6 → Fails (ADeclared N (within 0 n)) (t ∷ i) i
@@ -248,26 +239,11 @@ lengthened_too_high {N} {p} {n} {d} {e} a q g =
 
 -- where no name stands
 
-abbrev Opening : List Token → Type 0
-Opening i = (t : Token) (j : List Token) → i ≡ t ∷ j → Is LEFT_PARENTHESIS t → 7 ≤ start j
-
--- what begins behind the first parenthesis is told by its first token
-opening_alike : {i r s : List Token} (front : List Token) → i ≡ front ++ r → Meets r s → Past i r → Opening i → Opening (front ++ s)
-opening_alike [] q at_end p n = λ t j e h. absurd (ended e)
-  where
-    ended : {t : Token} {j : List Token} → [] ≡ t ∷ j → ⊥
-    ended e = cc
-opening_alike {r = t ∷ r} [] q at_token p n = λ u j e h.
-    let v = heads e in
-    let x = p.behind t r q (subst (Is LEFT_PARENTHESIS) (sym v.0) h) in absurd (longer _ x.0 x.1)
-opening_alike {r = r} (t ∷ front) q m p n = λ u j e h.
-    let v = heads e in omega (arith, n t (front ++ r) q (subst (Is LEFT_PARENTHESIS) (sym v.0) h), start_alike (alike front m), ap start v.1)
-
 no_core_alike : {i r s : List Token} (front : List Token) → i ≡ front ++ r → Meets r s → Past i r → NoCore i → NoCore (front ++ s)
 no_core_alike front q m p n = record {
   no_star = λ h. n.no_star (ap start q ∙ start_alike (alike front m) ∙ h);
   no_name = λ h. n.no_name (ap start q ∙ start_alike (alike front m) ∙ h);
-  no_opening = opening_alike front q m p n.no_opening;
+  no_opening = behind_alike (λ z. 7 ≤ z) front q m p n.no_opening;
 }
 
 -- what stands there is made of nothing
@@ -342,12 +318,9 @@ array_reads b h (a_function o s c l) z f = absurd (omega (arith, apart h o))
 pub array_fails : {b : Bound} {t : Token} {i r : List Token} → Is LEFT_BRACKET t → Fails (SizeClosed (inner b)) i r → Fails (SomeLengthens b) (t ∷ i) r
 array_fails {b} h f = fails_under_begun (λ k j a. array_reads b h a.reads a.ends a.fits) f
 
-no_bracket_at : {j k l : List Token} → NotAt (Is RIGHT_BRACKET) j → Meets j k → Punctuator RIGHT_BRACKET k l → ⊥
-no_bracket_at f m (one h) = not_at_alike m f _ _ refl h
-
 -- where no bracket ends the size
 pub size_fails : {b : Bound} {i r : List Token} → NotAt (Is RIGHT_BRACKET) i → Fails (Then (AnExpr b conditional_level) (Punctuator RIGHT_BRACKET)) i r → Fails (SizeClosed b) i r
-size_fails n f = fails_second (λ k j m a. no_bracket_at n m a) f
+size_fails n f = fails_not_or (missing _ n) f
 
 function_reads : (b : Bound) {d at : ℕ} {a e : Declarator} {t : Token} {i j : List Token} → Is LEFT_PARENTHESIS t → Lengthens d at a e (t ∷ i) j → EndsDeclarator j → Fits b d (height_of_declarator e) → Begins (ParamsClosed (inner b)) i
 function_reads b h no_more z f = absurd (omega (arith, started h))

@@ -2,15 +2,15 @@
 use Rattle.std.proofs.Common.{◌≤◌, suc, List, ◌∷◌, arith, ℕ}
 use Rattle.c_lexer.specs.declared.token.Token.{Token}
 use Rattle.c_lexer.specs.declared.punctuator.TheConstants.{LEFT_PARENTHESIS, LEFT_BRACKET}
-use Rattle.c_syntax.specs.Tree.{Expr, Postfix, Access}
-use Rattle.c_syntax.specs.Tokens.{Is, IsPostfix, IsAccess}
-use Rattle.c_syntax.specs.Grammar.{primary_level, postfix_level, unary_level, cast_level, binary_level}
-use Rattle.c_syntax.specs.Grammar.{Reads, is_name, is_int, is_char, are_strings, in_parentheses, with_suffixes, no_prefix, a_prefix, a_unary, a_sizeof_type, no_cast, a_cast, a_chain}
+use Rattle.c_syntax.specs.Tree.{Expr, Access}
+use Rattle.c_syntax.specs.Tokens.{Is, IsAccess}
+use Rattle.c_syntax.specs.Grammar.{primary_level, postfix_level, cast_level, binary_level}
+use Rattle.c_syntax.specs.Grammar.{Reads, is_name, is_int, is_char, are_strings, in_parentheses, with_suffixes, no_cast, a_cast, a_chain}
 use Rattle.c_syntax.specs.Grammar.{Suffixes, no_suffix, an_index, an_empty_call, a_call, a_member, a_postfix, Chain, no_operator, an_operator}
 use Rattle.c_syntax.specs.Limits.{height}
 use Rattle.c_syntax.proofs.Precedence.{Stops}
-use Rattle.c_syntax.proofs.Ranks.{ranked, apart, not_name, ranked_access, ranked_postfix, postfix_apart, access_apart, step_apart}
-use Rattle.c_syntax.proofs.Ends.{start, started, started_word, started_int, started_char, started_unary, started_prefix, parenthesis_ends_declarator}
+use Rattle.c_syntax.proofs.Ranks.{ranked, apart, not_name, ranked_access, postfix_apart, access_apart, step_apart}
+use Rattle.c_syntax.proofs.Ends.{start, started, started_int, started_char, parenthesis_ends_declarator}
 use Rattle.c_syntax.proofs.Begins.{strings_begin, prefixed_inside}
 use Rattle.c_syntax.proofs.OneOperand.{suffix_stops}
 use Rattle.c_syntax.proofs.OneChain.{chain_stops}
@@ -98,22 +98,6 @@ member_reads b x {t = t} h (a_postfix {p = p} o w) s f = absurd (step_apart t p 
 
 pub member_form : (b : Bound) (x : Access) {t : Token} {i j : List Token} → IsAccess x t → SomeSuffixes b (t ∷ i) j → MemberTail b i j
 member_form b x h a = member_reads b x h a.reads a.stops a.fits
-
-step_reads : (b : Bound) (p : Postfix) {d at : ℕ} {a e : Expr} {t : Token} {i j : List Token} → IsPostfix p t → Suffixes d at a e (t ∷ i) j → Stops postfix_level j → Fits b d (height e) → SomeSuffixes b i j
-step_reads b p {t = t} h no_suffix s f = absurd (omega (arith, ranked_postfix t p h))
-step_reads b p h (an_index o r c w) s f = absurd (omega (arith, postfix_apart p h o))
-step_reads b p h (an_empty_call o c w) s f = absurd (omega (arith, postfix_apart p h o))
-step_reads b p h (a_call o r c w) s f = absurd (omega (arith, postfix_apart p h o))
-step_reads b p {t = t} h (a_member {access = x} o n w) s f = absurd (step_apart t p x h o)
-step_reads b p h (a_postfix o w) s f = some_suffixes b w s f
-
--- unary expressions (C99 6.5.3)
-
-bare_reads : (b : Bound) {d : ℕ} {e : Expr} {i j : List Token} → (3 ≤ start i) → Reads d unary_level e i j → Stops unary_level j → Fits b d (height e) → AnExpr b postfix_level i j
-bare_reads b h (no_prefix r) s f = record { depth = _; tree = _; reads = r; stops = s; fits = f }
-bare_reads b h (a_prefix {p = p} {t = t} o r) s f = absurd (omega (arith, started_prefix t p o))
-bare_reads b h (a_unary o u r) s f = absurd (omega (arith, started_unary o u))
-bare_reads b h (a_sizeof_type o l r c) s f = absurd (omega (arith, started_word o))
 
 -- cast expressions (C99 6.5.4)
 

@@ -10,15 +10,15 @@ use Rattle.c_syntax.specs.Grammar.Reads.{is_int as int_stands}
 use Rattle.c_syntax.specs.Grammar.{Level, primary_level, postfix_level, unary_level, cast_level, binary_level, conditional_level, assignment_level, expression_level}
 use Rattle.c_syntax.specs.Grammar.{Reads, is_name, are_strings, last_string, in_parentheses, with_suffixes, no_prefix, a_prefix, a_unary, a_sizeof_type, no_cast, a_cast, no_chain, a_chain, no_choice, a_choice, no_assignment, an_assignment, no_comma, a_comma}
 use Rattle.c_syntax.specs.Grammar.{last_expr, next_expr, Suffixes, no_suffix, an_index, an_empty_call, a_call, a_member, a_postfix, Chain, no_operator, an_operator, ReadsType, a_type, a_direct, no_core, no_more}
-use Rattle.c_syntax.proofs.Twins.{after, On}
+use Rattle.c_syntax.proofs.Twins.{On}
 use Rattle.c_syntax.proofs.FrameGrammar.{reads_on, type_on}
 use Rattle.c_syntax.proofs.MorePairs.{wide, wide_type}
-use Rattle.c_parser_refusals.specs.Fails.{Then, then, One, one}
 use Rattle.c_parser_refusals.specs.Nodes.{InExpr, expr_here, in_comma, in_sizeof, in_cast_type, in_cast, in_called, in_arguments, in_member, in_postfix, in_prefix, in_unary, in_indexed, in_index, in_left, in_right, in_assigned, in_value, in_test, in_yes, in_first_expr, in_later_expr}
 use Rattle.c_parser_refusals.specs.Pairs.{PairInSuffixes, PairInChain}
 use Rattle.c_parser_refusals.specs.Opens.{Opens, DeepExpr, DeepExprs, DeepType, Filled, DeepSuffixes}
-use Rattle.c_parser_refusals.proofs.Opening.{opens_as, opens_under, opens_first, opens_later, opens_here, closed_by, filled_then}
-use Rattle.c_parser_refusals.proofs.Fills.{name_token, punctuator, word, name_chain, name_chooses, name_reads}
+use Rattle.c_parser_refusals.proofs.Combine.{climb}
+use Rattle.c_parser_refusals.proofs.Opening.{opens_as, opens_under, opens_here, opens_past, opens_before, opens_token}
+use Rattle.c_parser_refusals.proofs.Fills.{name_unary, name_token, punctuator, word, name_chain, name_chooses, name_reads}
 
 -- either holds, and what follows from it
 pub either : {A B C D : Type 0} → (A → C) → (B → D) → A ⊎ B → C ⊎ D
@@ -39,17 +39,15 @@ unary_opens o = opens_as (λ k m a. record { tree = a.tree; reads = no_prefix a.
 pub cast_opens : {at p n : ℕ} {i r : List Token} → Opens (DeepExpr at p n unary_level) i r → Opens (DeepExpr at p n cast_level) i r
 cast_opens o = opens_as (λ k m a. record { tree = a.tree; reads = no_cast a.reads; deep = a.deep }) o
 
+chain_starts : {at p n : ℕ} {i r : List Token} (l : ℕ) → Opens (DeepExpr at p n (binary_level l)) i r → Opens (DeepExpr at p n (binary_level (suc l))) i r
+chain_starts l o = opens_as (λ k m a. record { tree = a.tree; reads = a_chain refl a.reads no_operator; deep = either (λ x. x) (λ y. inl y) a.deep }) o
+
 pub first_operand_opens : {at p n : ℕ} {i r : List Token} (l : ℕ) → Opens (DeepExpr at p n cast_level) i r → Opens (DeepExpr at p n (binary_level l)) i r
 first_operand_opens zero o = opens_as (λ k m a. record { tree = a.tree; reads = no_chain a.reads; deep = a.deep }) o
-first_operand_opens (suc l) o = opens_as (λ k m a. record { tree = a.tree; reads = a_chain refl a.reads no_operator; deep = either (λ x. x) (λ y. inl y) a.deep }) (first_operand_opens l o)
-
-climb_opens : {at p n : ℕ} {i r : List Token} (k l m : ℕ) → m ≡ k + l → Opens (DeepExpr at p n (binary_level l)) i r → Opens (DeepExpr at p n (binary_level m)) i r
-climb_opens {at} {p} {n} {i} {r} zero l m q o = let e : l ≡ m = omega (arith, q) in subst (λ z. Opens (DeepExpr at p n (binary_level z)) i r) e o
-climb_opens (suc k) l zero q o = absurd (omega (arith, q))
-climb_opens (suc k) l (suc m) q o = opens_as (λ k m a. record { tree = a.tree; reads = a_chain refl a.reads no_operator; deep = either (λ x. x) (λ y. inl y) a.deep }) (climb_opens k l m (omega (arith, q)) o)
+first_operand_opens (suc l) o = chain_starts l (first_operand_opens l o)
 
 pub level_up_opens : {at p n : ℕ} {i r : List Token} (l m : ℕ) → l ≤ m → Opens (DeepExpr at p n (binary_level l)) i r → Opens (DeepExpr at p n (binary_level m)) i r
-level_up_opens l m g o = climb_opens (m - l) l m (omega (arith, g)) o
+level_up_opens {at} {p} {n} {i} {r} l m g o = climb {P = λ z. Opens (DeepExpr at p n (binary_level z)) i r} (λ k a. chain_starts k a) (m - l) l m (omega (arith, g)) o
 
 pub test_opens : {at p n : ℕ} {i r : List Token} → Opens (DeepExpr at p n (binary_level 10)) i r → Opens (DeepExpr at p n conditional_level) i r
 test_opens o = opens_as (λ k m a. record { tree = a.tree; reads = no_choice a.reads; deep = a.deep }) o
@@ -74,18 +72,19 @@ string_too_deep h = opens_here (λ m. record { tokens = m; reads = record { tree
 
 -- an expression in parentheses
 pub parentheses_open : {at p n : ℕ} {t : Token} {i r : List Token} → Is LEFT_PARENTHESIS t → Opens (DeepExpr at p n expression_level) i r → Opens (DeepExpr at (suc p) n primary_level) (t ∷ i) r
-parentheses_open {at} {p} {n} h o =
-    opens_under (λ k m w. close h w) (opens_first (closed_by {P = Is RIGHT_PARENTHESIS} close_paren (record { kind = refl })) o)
-  where
-    close : {t : Token} {k m : List Token} → Is LEFT_PARENTHESIS t → Then (DeepExpr at p n expression_level) (One (Is RIGHT_PARENTHESIS)) k m → DeepExpr at (suc p) n primary_level (t ∷ k) m
-    close h (then a (one c)) = record { tree = a.tree; reads = in_parentheses h a.reads c; deep = either (λ x. x) (λ y. inr (p, refl, y)) a.deep }
+parentheses_open {p = p} h o =
+    opens_token (opens_before o (λ m. record {
+      tokens = close_paren ∷ m;
+      reads = λ k a. record { tree = a.tree; reads = in_parentheses h a.reads (record { kind = refl }); deep = either (λ x. x) (λ y. inr (p, refl, y)) a.deep };
+    }))
 
 -- a parenthesis for which no pair is left, where an expression begins behind it
 pub pair_too_deep : {n : ℕ} {t u : Token} {i : List Token} → Is LEFT_PARENTHESIS t → ((m : List Token) → Filled (λ k j. (e : Expr) × Reads 0 expression_level e (u ∷ k) j) m) → Opens (DeepExpr t.from 0 n primary_level) (t ∷ u ∷ i) (u ∷ i)
-pair_too_deep {n} {t} {u} {i} h f = opens_under (λ k m w. close h w) (opens_first (closed_by {P = Is RIGHT_PARENTHESIS} close_paren (record { kind = refl })) (opens_here f))
-  where
-    close : {t : Token} {k m : List Token} → Is LEFT_PARENTHESIS t → Then (λ k j. (e : Expr) × Reads 0 expression_level e k j) (One (Is RIGHT_PARENTHESIS)) k m → DeepExpr t.from 0 n primary_level (t ∷ k) m
-    close h (then a (one c)) = record { tree = a.0; reads = in_parentheses h a.1 c; deep = inr (inl (refl, refl)) }
+pair_too_deep h f =
+    opens_token (opens_before (opens_here {A = λ k j. (e : Expr) × Reads 0 expression_level e k j} f) (λ m. record {
+      tokens = close_paren ∷ m;
+      reads = λ k a. record { tree = a.0; reads = in_parentheses h a.1 (record { kind = refl }); deep = inr (inl (refl, refl)) };
+    }))
 
 -- unary and cast expressions (6.5.3, 6.5.4)
 
@@ -95,15 +94,12 @@ step_opens s h o = opens_under (λ k m a. record { tree = prefix _ s a.tree; rea
 pub operator_opens : {at p n op : ℕ} {t : Token} {i r : List Token} → Is op t → IsUnary op → Opens (DeepExpr at p n cast_level) i r → Opens (DeepExpr at p (suc n) unary_level) (t ∷ i) r
 operator_opens h u o = opens_under (λ k m a. record { tree = unary _ _ a.tree; reads = a_unary h u a.reads; deep = either in_unary (λ y. y) a.deep }) o
 
-name_unary : {d : ℕ} {m : List Token} → Reads d unary_level (a_name 0 (115 ∷ [])) (name_token 0 ∷ m) m
-name_unary = no_prefix (with_suffixes refl (is_name (record { kind = refl })) no_suffix)
-
 -- an operator for which no node is left
 pub step_too_deep : {p : ℕ} {t : Token} {i : List Token} (s : Prefix) → IsPrefix s t → Opens (DeepExpr t.from p 0 unary_level) (t ∷ i) (t ∷ i)
-step_too_deep s h = opens_here (λ m. record { tokens = name_token 0 ∷ m; reads = record { tree = prefix _ s _; reads = a_prefix {p = s} h name_unary; deep = inl (expr_here refl) } })
+step_too_deep s h = opens_here (λ m. record { tokens = name_token 0 ∷ m; reads = record { tree = prefix _ s _; reads = a_prefix {p = s} h (name_unary 0); deep = inl (expr_here refl) } })
 
 pub operator_too_deep : {p op : ℕ} {t : Token} {i : List Token} → Is op t → IsUnary op → Opens (DeepExpr t.from p 0 unary_level) (t ∷ i) (t ∷ i)
-operator_too_deep h u = opens_here (λ m. record { tokens = name_token 0 ∷ m; reads = record { tree = unary _ _ _; reads = a_unary h u (no_cast name_unary); deep = inl (expr_here refl) } })
+operator_too_deep h u = opens_here (λ m. record { tokens = name_token 0 ∷ m; reads = record { tree = unary _ _ _; reads = a_unary h u (no_cast (name_unary 0)); deep = inl (expr_here refl) } })
 
 -- the name of a type, the parenthesis and the operand
 pub cast_too_deep : {p : ℕ} {t : Token} {i : List Token} → Is LEFT_PARENTHESIS t → Opens (DeepExpr t.from p 0 cast_level) (t ∷ i) (t ∷ i)
@@ -111,7 +107,7 @@ cast_too_deep h = opens_here (λ m. record {
   tokens = word INT (omega arith) ∷ close_paren ∷ name_token 0 ∷ m;
   reads = record {
     tree = cast _ _ _;
-    reads = a_cast h (a_type refl (is_int no_const (record { kind = refl }) no_const) (a_direct refl no_core no_more) tt) (record { kind = refl }) (no_cast name_unary);
+    reads = a_cast h (a_type refl (is_int no_const (record { kind = refl }) no_const) (a_direct refl no_core no_more) tt) (record { kind = refl }) (no_cast (name_unary 0));
     deep = inl (expr_here refl);
   };
 })
@@ -124,34 +120,24 @@ sizeof_operand_opens h o = step_opens sizeof h o
 
 -- the name of a type in a cast
 pub cast_type_opens : {at p n : ℕ} {t : Token} {i r : List Token} → Is LEFT_PARENTHESIS t → Opens (DeepType at p n) i r → Opens (DeepExpr at p (suc n) cast_level) (t ∷ i) r
-cast_type_opens {at} {p} {n} h o =
-    opens_under (λ k m w. close h w)
-    (opens_first (filled_then (closed_by {P = Is RIGHT_PARENTHESIS} close_paren (record { kind = refl })) (λ m. record { tokens = name_token 0 ∷ m; reads = no_cast name_unary })) o)
-  where
-    close : {e : Expr} {t : Token} {k m : List Token} → Is LEFT_PARENTHESIS t → Then (DeepType at p n) (Then (One (Is RIGHT_PARENTHESIS)) (Reads (suc p) cast_level e)) k m → DeepExpr at p (suc n) cast_level (t ∷ k) m
-    close h (then a (then (one c) e)) = record { tree = cast _ a.tree _; reads = a_cast h a.reads c e; deep = either in_cast_type (λ y. inl y) a.deep }
+cast_type_opens h o =
+    opens_token (opens_before o (λ m. record {
+      tokens = close_paren ∷ name_token 0 ∷ m;
+      reads = λ k a. record { tree = cast _ a.tree _; reads = a_cast h a.reads (record { kind = refl }) (no_cast (name_unary 0)); deep = either in_cast_type (λ y. inl y) a.deep };
+    }))
 
 -- the name of a type after `sizeof`
 pub sizeof_type_opens : {at p n : ℕ} {t u : Token} {i r : List Token} → IsKeyword SIZEOF t → Is LEFT_PARENTHESIS u → Opens (DeepType at p n) i r → Opens (DeepExpr at p (suc n) unary_level) (t ∷ u ∷ i) r
-sizeof_type_opens {at} {p} {n} w h o = opens_under (λ k m a. a) (opens_under (λ k m v. close w h v) (opens_first (closed_by {P = Is RIGHT_PARENTHESIS} close_paren (record { kind = refl })) o))
-  where
-    close : {t u : Token} {k m : List Token} → IsKeyword SIZEOF t → Is LEFT_PARENTHESIS u → Then (DeepType at p n) (One (Is RIGHT_PARENTHESIS)) k m → DeepExpr at p (suc n) unary_level (t ∷ u ∷ k) m
-    close w h (then a (one c)) = record { tree = sizeof_type _ a.tree; reads = a_sizeof_type w h a.reads c; deep = either in_sizeof (λ y. y) a.deep }
+sizeof_type_opens w h o =
+    opens_token (opens_token (opens_before o (λ m. record {
+      tokens = close_paren ∷ m;
+      reads = λ k a. record { tree = sizeof_type _ a.tree; reads = a_sizeof_type w h a.reads (record { kind = refl }); deep = either in_sizeof (λ y. y) a.deep };
+    })))
 
 -- the operand of a cast
 pub cast_operand_opens : {at p n d : ℕ} {y : TypeName} {t u : Token} {i j r : List Token} → d ≤ suc p → Is LEFT_PARENTHESIS t → ReadsType d y i (u ∷ j) → Is RIGHT_PARENTHESIS u → Opens (DeepExpr at p n cast_level) j r → Opens (DeepExpr at p (suc n) cast_level) (t ∷ i) r
-cast_operand_opens {at} {p} {n} {d} {y} {t} {u} {i} {j} l h w c o =
-    opens_under (λ k m v. close h v)
-    (opens_later (λ k. moved k) o)
-  where
-    Closed : List Token → List Token → Type 0
-    Closed i j = Then (ReadsType (suc p) y) (One (Is RIGHT_PARENTHESIS)) i j
-
-    moved : (k : List Token) → On Closed i j k
-    moved k = let x = type_on (wide_type w l) (u ∷ k) in record { tokens = x.tokens; twin = after x.twin; reads = then x.reads (one c) }
-
-    close : {t : Token} {k m : List Token} → Is LEFT_PARENTHESIS t → Then Closed (DeepExpr at p n cast_level) k m → DeepExpr at p (suc n) cast_level (t ∷ k) m
-    close h (then (then x (one c)) a) = record { tree = cast _ y a.tree; reads = a_cast h x c a.reads; deep = either in_cast (λ z. inr z) a.deep }
+cast_operand_opens {y = y} l h w c o =
+    opens_token (opens_past (type_on (wide_type w l)) (opens_under (λ k m a l x. record { tree = cast _ y a.tree; reads = a_cast h x c a.reads; deep = either in_cast (λ z. inr z) a.deep }) o))
 
 -- postfix expressions (6.5.2)
 
@@ -190,25 +176,18 @@ suffixed_deep {at} {p} (with_suffixes u r c) b w =
 
 -- what follows an operand with its suffixes so far
 pub suffixes_open : {at p n d : ℕ} {a : Expr} {i j r : List Token} → d ≤ suc p → Reads d postfix_level a i j → Opens (DeepSuffixes at p n (place i) a) j r → Opens (DeepExpr at p n postfix_level) i r
-suffixes_open {at} {p} {n} {a = a} {i = i} l w o = opens_as (λ k m v. whole v) (opens_later (placed_on w l) o)
-  where
-    whole : {k m : List Token} → Then (Placed (place i) (suc p) postfix_level a) (DeepSuffixes at p n (place i) a) k m → DeepExpr at p n postfix_level k m
-    whole (then b c) = suffixed_deep b.reads b.begins c
+suffixes_open l w o = opens_past (placed_on w l) (opens_as (λ k m c h b. suffixed_deep b.reads b.begins c) o)
 
 abbrev pub close_bracket : Token
 close_bracket = punctuator RIGHT_BRACKET (omega arith)
 
 pub index_opens : {at p n q : ℕ} {a : Expr} {t : Token} {i r : List Token} → Is LEFT_BRACKET t → Opens (DeepExpr at p n expression_level) i r → Opens (DeepSuffixes at p (suc n) q a) (t ∷ i) r
-index_opens {at} {p} {n} {q} {a} h o = opens_under (λ k m w. close h w) (opens_first (closed_by {P = Is RIGHT_BRACKET} close_bracket (record { kind = refl })) o)
-  where
-    close : {t : Token} {k m : List Token} → Is LEFT_BRACKET t → Then (DeepExpr at p n expression_level) (One (Is RIGHT_BRACKET)) k m → DeepSuffixes at p (suc n) q a (t ∷ k) m
-    close h (then b (one c)) = record { tree = index q a b.tree; reads = an_index h b.reads c no_suffix; deep = either in_index (λ y. inl y) b.deep }
+index_opens {q = q} {a} h o =
+    opens_token (opens_before o (λ m. record { tokens = close_bracket ∷ m; reads = λ k b. record { tree = index q a b.tree; reads = an_index h b.reads (record { kind = refl }) no_suffix; deep = either in_index (λ y. inl y) b.deep } }))
 
 pub arguments_open : {at p n q : ℕ} {a : Expr} {t : Token} {i r : List Token} → Is LEFT_PARENTHESIS t → Opens (DeepExprs at p n) i r → Opens (DeepSuffixes at p (suc n) q a) (t ∷ i) r
-arguments_open {at} {p} {n} {q} {a} h o = opens_under (λ k m w. close h w) (opens_first (closed_by {P = Is RIGHT_PARENTHESIS} close_paren (record { kind = refl })) o)
-  where
-    close : {t : Token} {k m : List Token} → Is LEFT_PARENTHESIS t → Then (DeepExprs at p n) (One (Is RIGHT_PARENTHESIS)) k m → DeepSuffixes at p (suc n) q a (t ∷ k) m
-    close h (then b (one c)) = record { tree = call q a b.trees; reads = a_call h b.reads c no_suffix; deep = either in_arguments (λ y. inl y) b.deep }
+arguments_open {q = q} {a} h o =
+    opens_token (opens_before o (λ m. record { tokens = close_paren ∷ m; reads = λ k b. record { tree = call q a b.trees; reads = a_call h b.reads (record { kind = refl }) no_suffix; deep = either in_arguments (λ y. inl y) b.deep } }))
 
 -- an operand with a node of the greatest depth at the place, and one suffix more
 
@@ -251,10 +230,7 @@ chained_deep {at} {p} (a_chain u r c) b w =
     record { tree = w.tree; reads = a_chain b r (chain_add v w.reads); deep = either (λ x. x) (λ y. inr (chain_pair at p v w.reads y)) w.deep }
 
 chain_opens : {at p n d l : ℕ} {a : Expr} {i j r : List Token} → d ≤ suc p → Reads d (binary_level (suc l)) a i j → Opens (DeepChain at p n l (place i) a) j r → Opens (DeepExpr at p n (binary_level (suc l))) i r
-chain_opens {at} {p} {n} {l = l} {a = a} {i = i} g w o = opens_as (λ k m v. whole v) (opens_later (placed_on w g) o)
-  where
-    whole : {k m : List Token} → Then (Placed (place i) (suc p) (binary_level (suc l)) a) (DeepChain at p n l (place i) a) k m → DeepExpr at p n (binary_level (suc l)) k m
-    whole (then b c) = chained_deep b.reads b.begins c
+chain_opens g w o = opens_past (placed_on w g) (opens_as (λ k m c h b. chained_deep b.reads b.begins c) o)
 
 right_opens : {at p n l q : ℕ} {o : Infix} {a : Expr} {t : Token} {i r : List Token} → IsInfix o (suc l) → Is (code_of_infix o) t → Opens (DeepExpr at p n (binary_level l)) i r → Opens (DeepChain at p (suc n) l q a) (t ∷ i) r
 right_opens {q = q} {o = o} {a = a} h c w = opens_under (λ k m b. record { tree = binary q o a b.tree; reads = an_operator h c b.reads no_operator; deep = either in_right (λ y. inl y) b.deep }) w
@@ -281,40 +257,31 @@ abbrev pub colon : Token
 colon = punctuator COLON (omega arith)
 
 pub yes_opens : {at p n d : ℕ} {a : Expr} {t : Token} {i j r : List Token} → d ≤ suc p → Is QUESTION t → Reads d (binary_level 10) a i (t ∷ j) → Opens (DeepExpr at p n expression_level) j r → Opens (DeepExpr at p (suc n) conditional_level) i r
-yes_opens {at} {p} {n} {a = a} {i = i} g h w o =
-    opens_as (λ k m v. whole v)
-    (opens_later (placed_on w g) (opens_under {B = Then (One (Is QUESTION)) (Then (DeepExpr at p n expression_level) (Then (One (Is COLON)) (Reads (suc p) conditional_level _)))} (λ k m v. then (one h) v)
-    (opens_first (filled_then (closed_by {P = Is COLON} colon (record { kind = refl })) (λ m. record { tokens = name_token 0 ∷ m; reads = name_chooses 0 })) o)))
-  where
-    whole : {e : Expr} {k m : List Token} → Then (Placed (place i) (suc p) (binary_level 10) a) (Then (One (Is QUESTION)) (Then (DeepExpr at p n expression_level) (Then (One (Is COLON)) (Reads (suc p) conditional_level e)))) k m → DeepExpr at p (suc n) conditional_level k m
-    whole (then b (then (one q) (then y (then (one c) z)))) = record { tree = conditional (place i) a y.tree _; reads = a_choice b.begins b.reads q y.reads c z; deep = either in_yes (λ v. inr (inl v)) y.deep }
+yes_opens {a = a} {i = i} g h w o =
+    opens_past (placed_on w g) (opens_token (opens_before o (λ m. record {
+      tokens = colon ∷ name_token 0 ∷ m;
+      reads = λ k y l b. record { tree = conditional (place i) a y.tree _; reads = a_choice b.begins b.reads h y.reads (record { kind = refl }) (name_chooses 0); deep = either in_yes (λ v. inr (inl v)) y.deep };
+    })))
 
 pub test_too_high : {at p n d : ℕ} {a : Expr} {t : Token} {i j : List Token} → d ≤ suc p → Is QUESTION t → Reads d (binary_level 10) a i (t ∷ j) → InExpr at n a → Opens (DeepExpr at p n conditional_level) i (t ∷ j)
-test_too_high {at} {p} {n} {a = a} {i = i} g h w x =
-    opens_as (λ k m v. whole v)
-    (opens_later (placed_on w g) (opens_here {A = Rest} (λ m. record { tokens = name_token 0 ∷ colon ∷ name_token 0 ∷ m; reads = then (one h) (then (no_comma (name_reads 0)) (then (one (record { kind = refl })) (name_chooses 0))) })))
-  where
-    Rest : List Token → List Token → Type 0
-    Rest = Then (One (Is QUESTION)) (Then (Reads (suc p) expression_level (a_name 0 (115 ∷ []))) (Then (One (Is COLON)) (Reads (suc p) conditional_level (a_name 0 (115 ∷ [])))))
-
-    whole : {k m : List Token} → Then (Placed (place i) (suc p) (binary_level 10) a) Rest k m → DeepExpr at p n conditional_level k m
-    whole (then b (then (one q) (then y (then (one c) z)))) = record { tree = conditional (place i) a _ _; reads = a_choice b.begins b.reads q y c z; deep = inl (in_test x) }
+test_too_high {a = a} {i = i} g h w x =
+    opens_past (placed_on w g) (opens_here (λ m. record {
+      tokens = name_token 0 ∷ colon ∷ name_token 0 ∷ m;
+      reads = λ l b. record { tree = conditional (place i) a _ _; reads = a_choice b.begins b.reads h (no_comma (name_reads 0)) (record { kind = refl }) (name_chooses 0); deep = inl (in_test x) };
+    }))
 
 -- assignment expressions (6.5.16)
 
 pub assigned_value_opens : {at p n d op : ℕ} {a : Expr} {t : Token} {i j r : List Token} → d ≤ suc p → Is op t → IsAssignment op → Reads d unary_level a i (t ∷ j) → Opens (DeepExpr at p n assignment_level) j r → Opens (DeepExpr at p (suc n) assignment_level) i r
-assigned_value_opens {at} {p} {n} {op = op} {a = a} {i = i} g h u w o =
-    opens_as (λ k m v. whole v) (opens_later (placed_on w g) (opens_under {B = Then (One (Is op)) (DeepExpr at p n assignment_level)} (λ k m v. then (one h) v) o))
-  where
-    whole : {k m : List Token} → Then (Placed (place i) (suc p) unary_level a) (Then (One (Is op)) (DeepExpr at p n assignment_level)) k m → DeepExpr at p (suc n) assignment_level k m
-    whole (then b (then (one q) y)) = record { tree = assign (place i) op a y.tree; reads = an_assignment b.begins b.reads q u y.reads; deep = either in_value (λ v. inr v) y.deep }
+assigned_value_opens {op = op} {a = a} {i = i} g h u w o =
+    opens_past (placed_on w g) (opens_under (λ k m y l b. record { tree = assign (place i) op a y.tree; reads = an_assignment b.begins b.reads h u y.reads; deep = either in_value (λ v. inr v) y.deep }) o)
 
 pub assigned_too_deep : {at p n d op : ℕ} {a : Expr} {t : Token} {i j : List Token} → d ≤ suc p → Is op t → IsAssignment op → Reads d unary_level a i (t ∷ j) → InExpr at n a → Opens (DeepExpr at p n assignment_level) i (t ∷ j)
-assigned_too_deep {at} {p} {n} {op = op} {a = a} {i = i} g h u w x =
-    opens_as (λ k m v. whole v) (opens_later (placed_on w g) (opens_here {A = Then (One (Is op)) (Reads (suc p) assignment_level (a_name 0 (115 ∷ [])))} (λ m. record { tokens = name_token 0 ∷ m; reads = then (one h) (name_reads 0) })))
-  where
-    whole : {k m : List Token} → Then (Placed (place i) (suc p) unary_level a) (Then (One (Is op)) (Reads (suc p) assignment_level (a_name 0 (115 ∷ [])))) k m → DeepExpr at p n assignment_level k m
-    whole (then b (then (one q) y)) = record { tree = assign (place i) op a _; reads = an_assignment b.begins b.reads q u y; deep = inl (in_assigned x) }
+assigned_too_deep {op = op} {a = a} {i = i} g h u w x =
+    opens_past (placed_on w g) (opens_here (λ m. record {
+      tokens = name_token 0 ∷ m;
+      reads = λ l b. record { tree = assign (place i) op a _; reads = an_assignment b.begins b.reads h u (name_reads 0); deep = inl (in_assigned x) };
+    }))
 
 -- lists, and expressions with commas (6.5.17)
 
@@ -322,22 +289,17 @@ pub first_of_list_opens : {at p n : ℕ} {i r : List Token} → Opens (DeepExpr 
 first_of_list_opens o = opens_as (λ k m a. record { trees = more_exprs a.tree no_exprs; reads = last_expr a.reads; deep = either in_first_expr (λ y. y) a.deep }) o
 
 pub later_of_list_opens : {at p n d : ℕ} {a : Expr} {t : Token} {i j r : List Token} → d ≤ suc p → Is COMMA t → Reads d assignment_level a i (t ∷ j) → Opens (DeepExprs at p n) j r → Opens (DeepExprs at p n) i r
-later_of_list_opens {at} {p} {n} {a = a} {i = i} g h w o =
-    opens_as (λ k m v. whole v) (opens_later (placed_on w g) (opens_under {B = Then (One (Is COMMA)) (DeepExprs at p n)} (λ k m v. then (one h) v) o))
-  where
-    whole : {k m : List Token} → Then (Placed (place i) (suc p) assignment_level a) (Then (One (Is COMMA)) (DeepExprs at p n)) k m → DeepExprs at p n k m
-    whole (then b (then (one q) y)) = record { trees = more_exprs a y.trees; reads = next_expr b.reads q y.reads; deep = either in_later_expr (λ v. inr v) y.deep }
+later_of_list_opens {a = a} g h w o =
+    opens_past (placed_on w g) (opens_under (λ k m y l b. record { trees = more_exprs a y.trees; reads = next_expr b.reads h y.reads; deep = either in_later_expr (λ v. inr v) y.deep }) o)
 
 pub comma_opens : {at p n d : ℕ} {a : Expr} {t : Token} {i j r : List Token} → d ≤ suc p → Is COMMA t → Reads d assignment_level a i (t ∷ j) → Opens (DeepExprs at p n) j r → Opens (DeepExpr at p (suc n) expression_level) i r
-comma_opens {at} {p} {n} {a = a} {i = i} g h w o =
-    opens_as (λ k m v. whole v) (opens_later (placed_on w g) (opens_under {B = Then (One (Is COMMA)) (DeepExprs at p n)} (λ k m v. then (one h) v) o))
-  where
-    whole : {k m : List Token} → Then (Placed (place i) (suc p) assignment_level a) (Then (One (Is COMMA)) (DeepExprs at p n)) k m → DeepExpr at p (suc n) expression_level k m
-    whole (then b (then (one q) y)) = record { tree = comma (place i) (more_exprs a y.trees); reads = a_comma b.begins b.reads q y.reads; deep = either (λ x. in_comma (in_later_expr x)) (λ v. inr v) y.deep }
+comma_opens {a = a} {i = i} g h w o =
+    opens_past (placed_on w g)
+    (opens_under (λ k m y l b. record { tree = comma (place i) (more_exprs a y.trees); reads = a_comma b.begins b.reads h y.reads; deep = either (λ x. in_comma (in_later_expr x)) (λ v. inr v) y.deep }) o)
 
 pub comma_too_deep : {at p n d : ℕ} {a : Expr} {t : Token} {i j : List Token} → d ≤ suc p → Is COMMA t → Reads d assignment_level a i (t ∷ j) → InExpr at n a → Opens (DeepExpr at p n expression_level) i (t ∷ j)
-comma_too_deep {at} {p} {n} {a = a} {i = i} g h w x =
-    opens_as (λ k m v. whole v) (opens_later (placed_on w g) (opens_here {A = Then (One (Is COMMA)) (Reads (suc p) assignment_level (a_name 0 (115 ∷ [])))} (λ m. record { tokens = name_token 0 ∷ m; reads = then (one h) (name_reads 0) })))
-  where
-    whole : {k m : List Token} → Then (Placed (place i) (suc p) assignment_level a) (Then (One (Is COMMA)) (Reads (suc p) assignment_level (a_name 0 (115 ∷ [])))) k m → DeepExpr at p n expression_level k m
-    whole (then b (then (one q) y)) = record { tree = comma (place i) (more_exprs a (more_exprs (a_name 0 (115 ∷ [])) no_exprs)); reads = a_comma b.begins b.reads q (last_expr y); deep = inl (in_comma (in_first_expr x)) }
+comma_too_deep {a = a} {i = i} g h w x =
+    opens_past (placed_on w g) (opens_here (λ m. record {
+      tokens = name_token 0 ∷ m;
+      reads = λ l b. record { tree = comma (place i) (more_exprs a (more_exprs (a_name 0 (115 ∷ [])) no_exprs)); reads = a_comma b.begins b.reads h (last_expr (name_reads 0)); deep = inl (in_comma (in_first_expr x)) };
+    }))

@@ -13,16 +13,14 @@ use Rattle.c_syntax.proofs.StmtCases.{stmts_head, groups_head}
 use Rattle.c_parser_refusals.specs.Fails.{Fails, Then, then, first, second}
 use Rattle.c_parser_refusals.specs.Phrases.{Bound, Fits, AStmt, SomeLabels, InSwitch, in_switch}
 use Rattle.c_parser_refusals.specs.Groups.{InGroup, in_group, GroupRest}
-use Rattle.c_parser_refusals.proofs.Combine.{Fixes, fails_as, fails_first, fails_later}
+use Rattle.c_parser_refusals.proofs.Combine.{fails_here, fails_or_not, fails_not_or, Fixes, on_as, fails_as, fails_first, fails_later}
 use Rattle.c_parser_refusals.proofs.Fixed.{head_alike, stmt_fixes}
 use Rattle.c_parser_refusals.proofs.BlockForms.{fits_under}
 use Rattle.c_parser_refusals.proofs.BlockForms.{not_alike}
 
 pub labels_fixes : (b c : Bound) → Fixes (SomeLabels b) (SomeLabels c)
 labels_fixes b c = record {
-  moves = λ i j a k m.
-      let x = labels_on a.reads k in
-      record { tokens = x.tokens; twin = x.twin; reads = record { depth = a.depth; tree = a.tree; reads = x.reads; ends = subst (λ n. 20 ≤ n) (head_alike m) a.ends; fits = a.fits } };
+  moves = λ i j a k m. on_as (labels_on a.reads k) (λ h r. record { depth = a.depth; tree = a.tree; reads = r; ends = subst (λ n. 20 ≤ n) (head_alike m) a.ends; fits = a.fits });
   once = λ i j k a e. (same_labels a.reads e.reads a.ends e.ends).1;
 }
 
@@ -55,15 +53,6 @@ no_group_at b l (in_group r w c g) = omega (arith, stmts_head r)
 no_switch_at : (b : Bound) {i j : List Token} → 20 ≤ head i → InSwitch b i j → ⊥
 no_switch_at b l (in_switch r c g) = omega (arith, groups_head r (headed c))
 
--- after a statement, a label or a brace ends the group
-pub rest_ends : (b : Bound) {i j : List Token} → head i ≤ 12 → GroupRest b i j → InSwitch b i j
-rest_ends b l (first s) = s
-rest_ends b l (second g) = absurd (no_group_at b l g)
-
-pub rest_goes : (b : Bound) {i j : List Token} → 20 ≤ head i → GroupRest b i j → InGroup b i j
-rest_goes b l (first s) = absurd (no_switch_at b l s)
-rest_goes b l (second g) = g
-
 pub labels_fail : (b : Bound) {i r : List Token} → (head i ≡ 5 → ⊥) → Fails (SomeLabels b) i r → Fails (InSwitch b) i r
 labels_fail b h f = fails_as (λ k j m a. switch_goes b (not_alike m h) a) (fails_first f)
 
@@ -77,7 +66,7 @@ pub rest_fails : (b c : Bound) {i j r : List Token} → AStmt c i j → Fails (G
 rest_fails b c s f = fails_as (λ k j m a. group_goes b a) (fails_later (stmt_fixes c b) s f)
 
 pub ended_fails : (b : Bound) {i r : List Token} → head i ≤ 12 → Fails (InSwitch b) i r → Fails (GroupRest b) i r
-ended_fails b l f = fails_as (λ k j m a. rest_ends b (subst (λ n. n ≤ 12) (head_alike m) l) a) f
+ended_fails b l f = fails_or_not f (fails_here (λ s m j a. no_group_at b (subst (λ n. n ≤ 12) (head_alike m) l) a))
 
 pub going_fails : (b : Bound) {i r : List Token} → 20 ≤ head i → Fails (InGroup b) i r → Fails (GroupRest b) i r
-going_fails b l f = fails_as (λ k j m a. rest_goes b (subst (λ n. 20 ≤ n) (head_alike m) l) a) f
+going_fails b l f = fails_not_or (fails_here (λ s m j a. no_switch_at b (subst (λ n. 20 ≤ n) (head_alike m) l) a)) f

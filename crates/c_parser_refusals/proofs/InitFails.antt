@@ -7,13 +7,13 @@ use Rattle.c_syntax.specs.Tokens.{Is}
 use Rattle.c_syntax.specs.Grammar.{assignment_level}
 use Rattle.c_syntax.specs.Statements.{ReadsInit, an_expression, a_list, a_list_with_comma, ReadsInits, last_init, next_init}
 use Rattle.c_syntax.specs.Limits.{height_of_init, height_of_inits}
-use Rattle.c_syntax.proofs.Ranks.{ranked, apart}
+use Rattle.c_syntax.proofs.Ranks.{ranked}
 use Rattle.c_syntax.proofs.Precedence.{Stops}
 use Rattle.c_syntax.proofs.Heads.{headed, expression_head}
 use Rattle.c_parser_refusals.specs.Fails.{Fails, Then, then, first, second, one, NotAt}
 use Rattle.c_parser_refusals.specs.Phrases.{Bound, within, Fits, inner, AnExpr, AnInit}
 use Rattle.c_parser_refusals.specs.Initialisers.{InList, brace_ends, comma_ends, ListEnd}
-use Rattle.c_parser_refusals.proofs.Combine.{fails_here, fails_as, fails_first, fails_later, fails_under, fails_under_alike, not_at_alike}
+use Rattle.c_parser_refusals.proofs.Combine.{fails_here, fails_both, fails_not_or, fails_after, fails_missing, missing, other_mark, fails_as, fails_first, fails_later, fails_under, not_at_alike}
 use Rattle.c_parser_refusals.proofs.Fixed.{init_fixes}
 use Rattle.c_parser_refusals.proofs.StmtForms.{fits_part}
 use Rattle.c_parser_refusals.proofs.BlockForms.{fits_under}
@@ -30,8 +30,7 @@ init_value_fails n f = fails_as (λ k j m a. value_reads (not_at_alike m n) a.re
 
 tall_init : {d : ℕ} {v : Init} {i j : List Token} → ReadsInit d v i j → 1 ≤ height_of_init v
 tall_init (an_expression {e = e} r p) = tall e
-tall_init (a_list o r c) = omega arith
-tall_init (a_list_with_comma o r c e) = omega arith
+tall_init a = omega arith
 
 -- no initialiser stands without a node
 pub no_init_left : {p : ℕ} (i : List Token) → Fails (AnInit (within p 0)) i i
@@ -70,17 +69,8 @@ first_init_leads {b} {c} a f = fails_as (λ k j m a. list_form b a) (fails_later
 
 -- neither a comma nor a brace follows
 pub list_unclosed : {b : Bound} (i : List Token) → NotAt (Is COMMA) i → NotAt (Is RIGHT_BRACE) i → Fails (ListEnd b) i i
-list_unclosed {b} i f g = fails_here (λ s m j a. none (not_at_alike m f) (not_at_alike m g) a)
-  where
-    none : {s j : List Token} → NotAt (Is COMMA) s → NotAt (Is RIGHT_BRACE) s → ListEnd b s j → ⊥
-    none f g (first (one c)) = g _ _ refl c
-    none f g (second (then (one h) w)) = f _ _ refl h
-
-goes_on : {b : Bound} {t : Token} {i j : List Token} → Is COMMA t → NotAt (Is RIGHT_BRACE) i → ListEnd b (t ∷ i) j → InList b i j
-goes_on h n (first (one c)) = absurd (omega (arith, apart h c))
-goes_on h n (second (then (one c) (first (one u)))) = absurd (n _ _ refl u)
-goes_on h n (second (then (one c) (second w))) = w
+list_unclosed i f g = fails_both (missing i g) (fails_missing i f)
 
 -- after a comma the list goes on
 pub list_goes_on : {b : Bound} {t : Token} {i r : List Token} → Is COMMA t → NotAt (Is RIGHT_BRACE) i → Fails (InList b) i r → Fails (ListEnd b) (t ∷ i) r
-list_goes_on h n f = fails_under_alike (λ k j m a. goes_on h (not_at_alike m n) a) f
+list_goes_on h n f = fails_not_or (missing _ (other_mark h (λ q. omega arith))) (fails_after (fails_not_or (missing _ n) f))

@@ -1,17 +1,16 @@
 -- Where initialisers open past the limits (C99 6.7.8).
-use Rattle.std.proofs.Common.{inl, inr, ◌≤◌, suc, List, ◌∷◌, refl, arith, ℕ}
+use Rattle.std.proofs.Common.{inl, inr, ◌≤◌, suc, List, ◌∷◌, refl, ℕ}
 use Rattle.c_lexer.specs.declared.token.Token.{Token}
-use Rattle.c_lexer.specs.declared.punctuator.TheConstants.{LEFT_BRACE, RIGHT_BRACE, COMMA}
+use Rattle.c_lexer.specs.declared.punctuator.TheConstants.{LEFT_BRACE, COMMA}
 use Rattle.c_syntax.specs.Tree.{Init, one as one_init, list, no_inits, more_inits}
 use Rattle.c_syntax.specs.Tokens.{Is}
 use Rattle.c_syntax.specs.Grammar.{assignment_level}
 use Rattle.c_syntax.specs.Statements.{ReadsInit, an_expression, a_list, last_init, next_init}
 use Rattle.c_syntax.proofs.FrameStatements.{init_on}
 use Rattle.c_syntax.proofs.MorePairsOfUnits.{wide_init}
-use Rattle.c_parser_refusals.specs.Fails.{Then, then, One, one}
 use Rattle.c_parser_refusals.specs.Nodes.{in_one, list_here, in_list, in_first_init, in_later_init}
 use Rattle.c_parser_refusals.specs.Opens.{Opens, DeepExpr, DeepInit, DeepInits}
-use Rattle.c_parser_refusals.proofs.Opening.{opens_as, opens_under, opens_first, opens_later, opens_here, closed_by}
+use Rattle.c_parser_refusals.proofs.Opening.{opens_as, opens_under, opens_here, opens_past, opens_before, opens_token}
 use Rattle.c_parser_refusals.proofs.Fills.{name_token, name_reads}
 use Rattle.c_parser_refusals.proofs.ExprOpens.{either}
 use Rattle.c_parser_refusals.proofs.BodyOpens.{close_brace}
@@ -27,17 +26,12 @@ list_too_deep h = opens_here (λ m. record {
 })
 
 pub init_list_opens : {at p n : ℕ} {t : Token} {i r : List Token} → Is LEFT_BRACE t → Opens (DeepInits at p n) i r → Opens (DeepInit at p (suc n)) (t ∷ i) r
-init_list_opens {at} {p} {n} h o = opens_under (λ k m v. whole h v) (opens_first (closed_by {P = Is RIGHT_BRACE} close_brace (record { kind = refl })) o)
-  where
-    whole : {t : Token} {k m : List Token} → Is LEFT_BRACE t → Then (DeepInits at p n) (One (Is RIGHT_BRACE)) k m → DeepInit at p (suc n) (t ∷ k) m
-    whole h (then a (one c)) = record { tree = list _ a.trees; reads = a_list h a.reads c; deep = either in_list (λ y. y) a.deep }
+init_list_opens h o =
+    opens_token (opens_before o (λ m. record { tokens = close_brace ∷ m; reads = λ k a. record { tree = list _ a.trees; reads = a_list h a.reads (record { kind = refl }); deep = either in_list (λ y. y) a.deep } }))
 
 pub first_init_opens : {at p n : ℕ} {i r : List Token} → Opens (DeepInit at p n) i r → Opens (DeepInits at p n) i r
 first_init_opens o = opens_as (λ k m a. record { trees = more_inits a.tree no_inits; reads = last_init a.reads; deep = either in_first_init (λ y. y) a.deep }) o
 
 pub later_init_opens : {at p n d : ℕ} {a : Init} {t : Token} {i j r : List Token} → d ≤ suc p → Is COMMA t → ReadsInit d a i (t ∷ j) → Opens (DeepInits at p n) j r → Opens (DeepInits at p n) i r
-later_init_opens {at} {p} {n} {a = a} g h w o =
-    opens_as (λ k m v. whole v) (opens_later (init_on (wide_init w g)) (opens_under {B = Then (One (Is COMMA)) (DeepInits at p n)} (λ k m v. then (one h) v) o))
-  where
-    whole : {k m : List Token} → Then (ReadsInit (suc p) a) (Then (One (Is COMMA)) (DeepInits at p n)) k m → DeepInits at p n k m
-    whole (then b (then (one q) y)) = record { trees = more_inits a y.trees; reads = next_init b q y.reads; deep = either in_later_init (λ v. inr v) y.deep }
+later_init_opens {a = a} g h w o =
+    opens_past (init_on (wide_init w g)) (opens_under (λ k m y l b. record { trees = more_inits a y.trees; reads = next_init b h y.reads; deep = either in_later_init (λ v. inr v) y.deep }) o)

@@ -3,18 +3,18 @@ use Rattle.std.proofs.Common.{◌≡◌, ◌⊎◌, inl, inr, ◌≤◌, suc, Li
 use Rattle.c_lexer.specs.declared.token.Token.{Token}
 use Rattle.c_lexer.specs.declared.punctuator.TheConstants.{LEFT_BRACE, RIGHT_BRACE, SEMICOLON, COMMA, ASSIGN}
 use Rattle.c_lexer.specs.declared.keyword.TheConstants.{ENUM, STRUCT}
-use Rattle.c_syntax.specs.Tree.{Ident, Storage, Spec, struct, enum, Declarator, named, Maybe, MaybeInit, Parts, Tag, BlockItems, block, Decl, Item, function_item, Items}
+use Rattle.c_syntax.specs.Tree.{Ident, Storage, Spec, struct, enum, Declarator, named, Maybe, MaybeInit, Tag, BlockItems, block, Decl, Item, function_item, Items}
 use Rattle.c_syntax.specs.Tokens.{Is, IsKeyword}
 use Rattle.c_syntax.specs.Specifiers.{Names, no_const, a_const, ReadsStorage, no_storage_stands, ReadsSpec, is_struct, is_enum}
 use Rattle.c_syntax.specs.Grammar.{conditional_level, Declares, a_direct, a_declared, no_more, HasName}
-use Rattle.c_syntax.specs.Statements.{ReadsMaybeInit, no_initialiser, an_initialiser, ReadsParts, last_part, next_part, ReadsBlockItems, ReadsDecl, a_declaration, last_declarator, next_declarator, last_member, next_member}
+use Rattle.c_syntax.specs.Statements.{ReadsMaybeInit, no_initialiser, an_initialiser, ReadsBlockItems, ReadsDecl, a_declaration, last_declarator, next_declarator, last_member, next_member}
 use Rattle.c_syntax.specs.Statements.{ReadsEnumeratorValue, no_enumerator_value, an_enumerator_value, last_enumerator, next_enumerator, ReadsTag, no_name, a_tag}
 use Rattle.c_syntax.specs.Statements.{ReadsItem, a_struct, an_enum, an_enum_with_comma, a_tag_alone, an_item_declaration, a_definition, ReadsItems, last_item, next_item}
 use Rattle.c_syntax.specs.Limits.{height_of_maybe, height_of_item, height_of_unit, height_of_decl, height_of_block_items}
 use Rattle.c_syntax.proofs.Twins.{after, On}
 use Rattle.c_syntax.proofs.Precedence.{Stops}
 use Rattle.c_syntax.proofs.Ranks.{ranked, heads, apart, words_apart, not_word}
-use Rattle.c_syntax.proofs.Ends.{started_word, EndsSpec, comma_ends_declarator, semicolon_ends_declarator, brace_ends_declarator, name_ends_spec}
+use Rattle.c_syntax.proofs.Ends.{started_word, comma_ends_declarator, semicolon_ends_declarator, brace_ends_declarator, name_ends_spec}
 use Rattle.c_syntax.proofs.Begins.{named_ends_spec}
 use Rattle.c_syntax.proofs.Heads.{head, headed, worded, name_head, spec_head, declarator_head, no_storage_at}
 use Rattle.c_syntax.proofs.FrameSpecifiers.{storage_on}
@@ -27,14 +27,14 @@ use Rattle.c_parser_refusals.specs.Operands.{IsSomeName}
 use Rattle.c_parser_refusals.specs.Specs.{are_consts, no_spec, TagTail}
 use Rattle.c_parser_refusals.specs.Declarations.{PartsTail, last_stands, more_stand, SomeParts}
 use Rattle.c_parser_refusals.specs.Units.{AUnit}
-use Rattle.c_parser_refusals.specs.Items.{DeclaratorsClosed, declarators_closed, DeclaratorsEnd, AMember, InStruct, in_struct, Closing, MembersRest, InEnum, in_enum, in_enum_comma, EnumEnd, ValueRest, AStorage, OtherRest, AnOther, AnItem, AtEnd, none_left, UnitRest, NoStruct, NoEnum}
-use Rattle.c_parser_refusals.proofs.Combine.{Fixes, fails_here, fails_as, fails_first, fails_second, fails_later, fails_after, fails_under, fails_under_alike, fails_behind, fails_missing, then_fixes, not_at_alike, alike, alike_at}
+use Rattle.c_parser_refusals.specs.Items.{DeclaratorsClosed, declarators_closed, DeclaratorsEnd, AMember, InStruct, in_struct, MembersRest, InEnum, in_enum, in_enum_comma, EnumEnd, ValueRest, AStorage, OtherRest, AnOther, AnItem, AtEnd, none_left, UnitRest, NoStruct, NoEnum}
+use Rattle.c_parser_refusals.proofs.Combine.{Fixes, on_as, at_same, at_first, other_mark, other_token, missing, fails_both, fails_not_or, fails_or_not, fails_as, fails_first, fails_second, fails_later, fails_after, fails_under, fails_behind, fails_missing, then_fixes, not_at_alike, alike, alike_at}
 use Rattle.c_parser_refusals.proofs.Fixed.{start_alike, spec_fixes, declarator_fixes}
 use Rattle.c_parser_refusals.proofs.StmtForms.{fits_part}
 use Rattle.c_parser_refusals.proofs.BlockForms.{fits_under}
-use Rattle.c_parser_refusals.proofs.DeclForms.{parts_reads}
+use Rattle.c_parser_refusals.proofs.DeclForms.{parts_reads, parts_end_spec}
 use Rattle.c_parser_refusals.proofs.Fills.{name_token}
-use Rattle.c_parser_refusals.proofs.SpecFails.{struct_tail, enum_tail}
+use Rattle.c_parser_refusals.proofs.SpecFails.{struct_tail, enum_tail, other_word}
 use Rattle.c_syntax.proofs.OneUnit.{same_declarators, semicolon_ends, declarators_end_spec, enum_leads, same_item, defines}
 use Rattle.c_parser_refusals.proofs.BodyOpens.{semicolon}
 
@@ -55,19 +55,11 @@ first_declarator_leads {b} {c} a f = fails_as (λ k j m a. first_reads b a) (fai
 
 -- neither a comma nor a semicolon follows
 pub declarators_unclosed : {b : Bound} (i : List Token) → NotAt (Is SEMICOLON) i → NotAt (Is COMMA) i → Fails (DeclaratorsEnd b) i i
-declarators_unclosed {b} i f g = fails_here (λ s m j a. none (not_at_alike m f) (not_at_alike m g) a)
-  where
-    none : {s j : List Token} → NotAt (Is SEMICOLON) s → NotAt (Is COMMA) s → DeclaratorsEnd b s j → ⊥
-    none f g (first (one c)) = f _ _ refl c
-    none f g (second (then (one c) a)) = g _ _ refl c
+declarators_unclosed i f g = fails_both (missing i f) (fails_missing i g)
 
 -- what follows a comma
 pub next_declarator_fails : {b : Bound} {t : Token} {i r : List Token} → Is COMMA t → Fails (DeclaratorsClosed b) i r → Fails (DeclaratorsEnd b) (t ∷ i) r
-next_declarator_fails {b} h f = fails_under (λ k j a. only h a) f
-  where
-    only : {t : Token} {k j : List Token} → Is COMMA t → DeclaratorsEnd b (t ∷ k) j → DeclaratorsClosed b k j
-    only h (first (one c)) = absurd (omega (arith, apart h c))
-    only h (second (then (one c) a)) = a
+next_declarator_fails h f = fails_not_or (missing _ (other_mark h (λ q. omega arith))) (fails_after f)
 
 pub declarators_fixes : (b c : Bound) → Fixes (DeclaratorsClosed b) (DeclaratorsClosed c)
 declarators_fixes b c = record { moves = λ i j a k m. moved a k; once = λ i j k a e. one_end a e }
@@ -97,12 +89,9 @@ member_fails {b} f = fails_as (λ k j m a. members_read b a) (fails_first f)
 pub member_leads : {b c : Bound} {i j r : List Token} → AMember c i j → Fails (MembersRest b) j r → Fails (InStruct b) i r
 member_leads {b} {c} a f = fails_as (λ k j m a. members_read b a) (fails_later (member_fixes c b) a f)
 
-no_closing : {j k l : List Token} → NotAt (Is RIGHT_BRACE) j → Meets j k → Closing k l → ⊥
-no_closing f m (then (one h) c) = not_at_alike m f _ _ refl h
-
 -- after a member stands no brace
 pub more_members_fail : {b : Bound} {i r : List Token} → NotAt (Is RIGHT_BRACE) i → Fails (InStruct b) i r → Fails (MembersRest b) i r
-more_members_fail n f = fails_second (λ k j m a. no_closing n m a) f
+more_members_fail n f = fails_not_or (fails_missing _ n) f
 
 members_at_brace : {b : Bound} {t : Token} {i j : List Token} → Is RIGHT_BRACE t → InStruct b (t ∷ i) j → ⊥
 members_at_brace {b} h a = none h (members_read b a)
@@ -112,11 +101,7 @@ members_at_brace {b} h a = none h (members_read b a)
 
 -- after a member stands the brace
 pub members_close : {b : Bound} {t : Token} {i r : List Token} → Is RIGHT_BRACE t → Fails (Punctuator SEMICOLON) i r → Fails (MembersRest b) (t ∷ i) r
-members_close {b} h f = fails_under (λ k j a. only h a) f
-  where
-    only : {t : Token} {k j : List Token} → Is RIGHT_BRACE t → MembersRest b (t ∷ k) j → Punctuator SEMICOLON k j
-    only h (first (then (one o) c)) = c
-    only h (second a) = absurd (members_at_brace h a)
+members_close {b} h f = fails_or_not (fails_after f) (at_first {P = Is RIGHT_BRACE} h (λ u k j h a. members_at_brace {b = b} h a))
 
 -- a name and a brace after `struct` begin neither a declaration nor a definition
 
@@ -182,64 +167,30 @@ enum_nameless {b} i f = fails_as (λ k j m a. enums_read b a) (fails_missing i f
 pub enumerator_fails : {b : Bound} {t : Token} {i r : List Token} → Fails (ValueRest b) i r → Fails (InEnum b) (t ∷ i) r
 enumerator_fails {b} f = fails_as (λ k j m a. enums_read b a) (fails_after f)
 
-no_end_at_assign : {b : Bound} {t : Token} {i j : List Token} → Is ASSIGN t → EnumEnd b (t ∷ i) j → ⊥
-no_end_at_assign h (first (then (one c) u)) = omega (arith, apart h c)
-no_end_at_assign h (second (then (one c) u)) = omega (arith, apart h c)
+-- neither a comma nor a brace follows
+pub enum_unclosed : {b : Bound} (i : List Token) → NotAt (Is RIGHT_BRACE) i → NotAt (Is COMMA) i → Fails (EnumEnd b) i i
+enum_unclosed i f g = fails_both (fails_missing i f) (fails_missing i g)
 
 -- what follows the = of an enumerator
 pub enumerator_value_fails : {b : Bound} {t : Token} {i r : List Token} → Is ASSIGN t → Fails (Then (AnExpr b conditional_level) (EnumEnd b)) i r → Fails (ValueRest b) (t ∷ i) r
-enumerator_value_fails {b} h f = fails_under (λ k j a. only h a) f
-  where
-    only : {t : Token} {k j : List Token} → Is ASSIGN t → ValueRest b (t ∷ k) j → Then (AnExpr b conditional_level) (EnumEnd b) k j
-    only h (first (then (one c) w)) = w
-    only h (second e) = absurd (no_end_at_assign {b = b} h e)
+enumerator_value_fails h f = fails_or_not (fails_after f) (enum_unclosed _ (other_mark h (λ q. omega arith)) (other_mark h (λ q. omega arith)))
 
 -- no = stands
 pub no_value_fails : {b : Bound} {i r : List Token} → NotAt (Is ASSIGN) i → Fails (EnumEnd b) i r → Fails (ValueRest b) i r
-no_value_fails {b} {i} n f = fails_second (λ k j m a. none m a) f
-  where
-    none : {B : List Token → List Token → Type 0} {k j : List Token} → Meets i k → Then (Punctuator ASSIGN) B k j → ⊥
-    none m (then (one c) w) = not_at_alike m n _ _ refl c
-
--- neither a comma nor a brace follows
-pub enum_unclosed : {b : Bound} (i : List Token) → NotAt (Is RIGHT_BRACE) i → NotAt (Is COMMA) i → Fails (EnumEnd b) i i
-enum_unclosed {b} i f g = fails_here (λ s m j a. none (not_at_alike m f) (not_at_alike m g) a)
-  where
-    none : {s j : List Token} → NotAt (Is RIGHT_BRACE) s → NotAt (Is COMMA) s → EnumEnd b s j → ⊥
-    none f g (first (then (one c) u)) = f _ _ refl c
-    none f g (second (then (one c) a)) = g _ _ refl c
+no_value_fails n f = fails_not_or (fails_missing _ n) f
 
 -- the brace stands
 pub enum_closes : {b : Bound} {t : Token} {i r : List Token} → Is RIGHT_BRACE t → Fails (Punctuator SEMICOLON) i r → Fails (EnumEnd b) (t ∷ i) r
-enum_closes {b} h f = fails_under (λ k j a. only h a) f
-  where
-    only : {t : Token} {k j : List Token} → Is RIGHT_BRACE t → EnumEnd b (t ∷ k) j → Punctuator SEMICOLON k j
-    only h (first (then (one o) c)) = c
-    only h (second (then (one c) a)) = absurd (omega (arith, apart h c))
-
-enum_at_brace : {b : Bound} {t : Token} {i j : List Token} → Is RIGHT_BRACE t → InEnum b (t ∷ i) j → ⊥
-enum_at_brace {b} h a = none h (enums_read b a)
-  where
-    none : {B : List Token → List Token → Type 0} {t : Token} {i j : List Token} → Is RIGHT_BRACE t → Then (One IsSomeName) B (t ∷ i) j → ⊥
-    none h (then (one x) r) = omega (arith, headed h, name_head x.names)
+enum_closes h f = fails_or_not (fails_after f) (fails_missing _ (other_mark h (λ q. omega arith)))
 
 -- a comma and the brace stand
 pub enum_closes_after_comma : {b : Bound} {t u : Token} {i r : List Token} → Is COMMA t → Is RIGHT_BRACE u → Fails (Punctuator SEMICOLON) i r → Fails (EnumEnd b) (t ∷ u ∷ i) r
-enum_closes_after_comma {b} {t} {u} h o f = fails_behind {A = EnumEnd b} (t ∷ u ∷ []) (λ k j m a. only h o a) f
-  where
-    only : {t u : Token} {k j : List Token} → Is COMMA t → Is RIGHT_BRACE u → EnumEnd b (t ∷ u ∷ k) j → Punctuator SEMICOLON k j
-    only h o (first (then (one c) e)) = absurd (omega (arith, apart h c))
-    only h o (second (then (one c) (first (then (one q) e)))) = e
-    only h o (second (then (one c) (second a))) = absurd (enum_at_brace o a)
+enum_closes_after_comma {u = u} h o f =
+    fails_not_or (fails_missing _ (other_mark h (λ q. omega arith))) (fails_after (fails_or_not (fails_after f) (enum_nameless _ (other_token {P = Is RIGHT_BRACE} o (λ v c x. omega (arith, headed c, name_head x.names))))))
 
 -- after a comma another enumerator stands
 pub enum_goes_on : {b : Bound} {t : Token} {i r : List Token} → Is COMMA t → NotAt (Is RIGHT_BRACE) i → Fails (InEnum b) i r → Fails (EnumEnd b) (t ∷ i) r
-enum_goes_on {b} h n f = fails_under_alike (λ k j m a. only h (not_at_alike m n) a) f
-  where
-    only : {t : Token} {k j : List Token} → Is COMMA t → NotAt (Is RIGHT_BRACE) k → EnumEnd b (t ∷ k) j → InEnum b k j
-    only h n (first (then (one c) e)) = absurd (omega (arith, apart h c))
-    only h n (second (then (one c) (first (then (one o) e)))) = absurd (n _ _ refl o)
-    only h n (second (then (one c) (second a))) = a
+enum_goes_on h n f = fails_not_or (fails_missing _ (other_mark h (λ q. omega arith))) (fails_after (fails_not_or (fails_missing _ n) f))
 
 enum_specs : {t : Token} {i : List Token} → IsKeyword ENUM t → (a : Leads (t ∷ i)) → TagTail i a.names
 enum_specs w a = enum_tail w (moved_spec (no_storage_at a.stands (worded w)) a.specifies) (named_ends_spec a.declares a.named)
@@ -264,13 +215,10 @@ bare_tag : {g : Tag} {l m : Token} {i j : List Token} → Is LEFT_BRACE l → Re
 bare_tag h no_name o = refl
 bare_tag h (a_tag n) o = absurd (omega (arith, headed h, name_head n))
 
-enum_at : {b : Bound} {i j k : List Token} → j ≡ i → InEnum b j k → InEnum b i k
-enum_at {b} {k = k} q a = subst (λ z. InEnum b z k) q a
-
 bare_enum_reads : (b : Bound) {d : ℕ} {x : Item} {t l : Token} {i j : List Token} → IsKeyword ENUM t → Is LEFT_BRACE l → ReadsItem d x (t ∷ l ∷ i) j → Fits b d (height_of_item x) → InEnum b i j
 bare_enum_reads b w h (a_struct v m l f c u) g = absurd (omega (arith, words_apart w v))
-bare_enum_reads b w h (an_enum v r l f c u) g = enum_at (bare_tag h r l) (in_enum f c u g)
-bare_enum_reads b w h (an_enum_with_comma v r l f e c u) g = enum_at (bare_tag h r l) (in_enum_comma f e c u g)
+bare_enum_reads b w h (an_enum v r l f c u) g = at_same (InEnum b) _ (bare_tag h r l) (in_enum f c u g)
+bare_enum_reads b w h (an_enum_with_comma v r l f e c u) g = at_same (InEnum b) _ (bare_tag h r l) (in_enum_comma f e c u g)
 bare_enum_reads b w h (a_tag_alone v m u) g = absurd (omega (arith, words_apart w v))
 bare_enum_reads b w h (an_item_declaration p r) g = absurd (enum_leads w no_name h (decl_leads r).lead)
 bare_enum_reads b w h (a_definition p r s e n o q c) g = absurd (enum_leads w no_name h (defines r s e n o))
@@ -285,8 +233,8 @@ tag_brace_at x (a_tag n) o = refl
 
 tagged_enum_reads : (b : Bound) {d : ℕ} {x : Item} {t n l : Token} {i j : List Token} → IsKeyword ENUM t → IsSomeName n → Is LEFT_BRACE l → ReadsItem d x (t ∷ n ∷ l ∷ i) j → Fits b d (height_of_item x) → InEnum b i j
 tagged_enum_reads b w y h (a_struct v m l f c u) g = absurd (omega (arith, words_apart w v))
-tagged_enum_reads b w y h (an_enum v r l f c u) g = enum_at (tag_brace_at y r l) (in_enum f c u g)
-tagged_enum_reads b w y h (an_enum_with_comma v r l f e c u) g = enum_at (tag_brace_at y r l) (in_enum_comma f e c u g)
+tagged_enum_reads b w y h (an_enum v r l f c u) g = at_same (InEnum b) _ (tag_brace_at y r l) (in_enum f c u g)
+tagged_enum_reads b w y h (an_enum_with_comma v r l f e c u) g = at_same (InEnum b) _ (tag_brace_at y r l) (in_enum_comma f e c u g)
 tagged_enum_reads b w y h (a_tag_alone v m u) g = absurd (omega (arith, words_apart w v))
 tagged_enum_reads b w y h (an_item_declaration p r) g = absurd (enum_leads w (a_tag y.names) h (decl_leads r).lead)
 tagged_enum_reads b w y h (a_definition p r s e n o q c) g = absurd (enum_leads w (a_tag y.names) h (defines r s e n o))
@@ -299,22 +247,16 @@ tagged_enum_fails {b} {t} {n} {l} w y h f = fails_behind {A = AnItem b} (t ∷ n
 
 pub storage_fixes : Fixes AStorage AStorage
 storage_fixes = record {
-  moves = λ i j a k m.
-      let x = storage_on a.reads k in
-      record { tokens = x.tokens; twin = x.twin; reads = record { storage = a.storage; reads = x.reads; ends = omega (arith, start_alike m, a.ends) } };
+  moves = λ i j a k m. on_as (storage_on a.reads k) (λ h r. record { storage = a.storage; reads = r; ends = omega (arith, start_alike m, a.ends) });
   once = λ i j k a e. (same_storage a.reads e.reads a.ends e.ends).1;
 }
 
 with_rest : {b : Bound} {i j : List Token} → SomeParts b i j → Then (ADeclarator b) (OtherRest b) i j
 with_rest (then e t) = then e (second t)
 
-parts_spec : {d : ℕ} {ps : Parts} {i j : List Token} → ReadsParts d ps i j → EndsSpec i
-parts_spec (last_part e n v) = named_ends_spec e n
-parts_spec (next_part e n v c r) = named_ends_spec e n
-
 declaration_reads : (b : Bound) {d : ℕ} {x : Decl} {i j : List Token} → ReadsDecl d x i j → Fits b d (height_of_decl x) → AnOther b i j
 declaration_reads b (a_declaration p st s ps h) f =
-    then (record { storage = _; reads = st; ends = spec_ends_storage s }) (then (record { tree = _; reads = s; ends = parts_spec ps }) (with_rest (parts_reads b ps h f)))
+    then (record { storage = _; reads = st; ends = spec_ends_storage s }) (then (record { tree = _; reads = s; ends = parts_end_spec ps }) (with_rest (parts_reads b ps h f)))
 
 body_reads : (b : Bound) {d : ℕ} {items : BlockItems} {t u : Token} {i j : List Token} → Is LEFT_BRACE t → ReadsBlockItems d items i (u ∷ j) → Is RIGHT_BRACE u → {n : ℕ} → Fits b d n → suc (height_of_block_items items) ≤ n → OtherRest b (t ∷ i) j
 body_reads b h r c f l = first (then (one h) (in_block r c (fits_part b f l)))
@@ -324,19 +266,6 @@ definition_reads b at r z c n h q o g =
     then (record { storage = _; reads = r; ends = spec_ends_storage z })
     (then (record { tree = _; reads = z; ends = named_ends_spec c n })
     (then (record { depth = _; tree = _; reads = c; named = n; ends = brace_ends_declarator h; fits = fits_under b g (omega arith) }) (body_reads b h q o g (omega arith))))
-
--- what is read as a declaration or a definition
-other_or : (b : Bound) {d : ℕ} {x : Item} {i j : List Token} → ReadsItem d x i j → Fits b d (height_of_item x) → NotAt (IsKeyword STRUCT) i → NotAt (IsKeyword ENUM) i → AnOther b i j
-other_or b (a_struct w n l f c u) g s e = absurd (s _ _ refl w)
-other_or b (an_enum w r l f c u) g s e = absurd (e _ _ refl w)
-other_or b (an_enum_with_comma w r l f o c u) g s e = absurd (e _ _ refl w)
-other_or b (a_tag_alone w n u) g s e = absurd (s _ _ refl w)
-other_or b (an_item_declaration p r) g s e = declaration_reads b r g
-other_or b (a_definition {at = y} p r z c n h q o) g s e = definition_reads b y r z c n h q o g
-
--- neither `struct` nor `enum` stands first
-pub other_fails : {b : Bound} {i r : List Token} → NotAt (IsKeyword STRUCT) i → NotAt (IsKeyword ENUM) i → Fails (AnOther b) i r → Fails (AnItem b) i r
-other_fails {b} s e f = fails_as (λ k j m a. other_or b a.reads a.fits (not_at_alike m s) (not_at_alike m e)) f
 
 -- a name declared with the tag stands after `struct` and after `enum`
 
@@ -367,13 +296,40 @@ record Tagged (h : List Token) : Type 0 where
   named : IsSomeName name
   ends : Is LEFT_BRACE next ⊎ Is SEMICOLON next
 
-struct_or : (b : Bound) {d : ℕ} {x : Item} {i j : List Token} → NotAt (IsKeyword ENUM) i → ReadsItem d x i j → Fits b d (height_of_item x) → AnOther b i j ⊎ Tagged i
-struct_or b n (a_struct w m l f c u) g = inr (record { word = _; name = _; next = _; rest = _; is = refl; struct_word = w; named = some_name m; ends = inl l })
-struct_or b n (an_enum w r l f c u) g = absurd (n _ _ refl w)
-struct_or b n (an_enum_with_comma w r l f e c u) g = absurd (n _ _ refl w)
-struct_or b n (a_tag_alone w m u) g = inr (record { word = _; name = _; next = _; rest = _; is = refl; struct_word = w; named = some_name m; ends = inr u })
-struct_or b n (an_item_declaration p r) g = inl (declaration_reads b r g)
-struct_or b n (a_definition {at = y} p r z c m h q o) g = inl (definition_reads b y r z c m h q o g)
+-- an enum
+record Enumerated (h : List Token) : Type 0 where
+  word : Token
+  rest : List Token
+  brace : Token
+  after : List Token
+  tag : Tag
+  is : h ≡ word ∷ rest
+  enum_word : IsKeyword ENUM word
+  tagged : ReadsTag tag rest (brace ∷ after)
+  opens : Is LEFT_BRACE brace
+
+-- what is read is another item, or one of these
+item_or : (b : Bound) {d : ℕ} {x : Item} {i j : List Token} → ReadsItem d x i j → Fits b d (height_of_item x) → AnOther b i j ⊎ (Tagged i ⊎ Enumerated i)
+item_or b (a_struct w m l f c u) g = inr (inl (record { word = _; name = _; next = _; rest = _; is = refl; struct_word = w; named = some_name m; ends = inl l }))
+item_or b (an_enum w r l f c u) g = inr (inr (record { word = _; rest = _; brace = _; after = _; tag = _; is = refl; enum_word = w; tagged = r; opens = l }))
+item_or b (an_enum_with_comma w r l f e c u) g = inr (inr (record { word = _; rest = _; brace = _; after = _; tag = _; is = refl; enum_word = w; tagged = r; opens = l }))
+item_or b (a_tag_alone w m u) g = inr (inl (record { word = _; name = _; next = _; rest = _; is = refl; struct_word = w; named = some_name m; ends = inr u }))
+item_or b (an_item_declaration p r) g = inl (declaration_reads b r g)
+item_or b (a_definition {at = y} p r z c m h q o) g = inl (definition_reads b y r z c m h q o g)
+
+-- another item fails, and none of these stands
+other_item_fails : {b : Bound} {i r : List Token} (f : Fails (AnOther b) i r) → ((s : List Token) → Meets r s → Tagged (f.front ++ s) → ⊥) → ((s : List Token) → Meets r s → Enumerated (f.front ++ s) → ⊥) → Fails (AnItem b) i r
+other_item_fails {b} {r = r} f g h = record { front = f.front; is = f.is; none = λ s m j a. none m (item_or b a.reads a.fits) }
+  where
+    none : {s j : List Token} → Meets r s → AnOther b (f.front ++ s) j ⊎ (Tagged (f.front ++ s) ⊎ Enumerated (f.front ++ s)) → ⊥
+    none m (inl a) = f.none _ m _ a
+    none m (inr (inl a)) = g _ m a
+    none m (inr (inr a)) = h _ m a
+
+-- neither `struct` nor `enum` stands first
+pub other_fails : {b : Bound} {i r : List Token} → NotAt (IsKeyword STRUCT) i → NotAt (IsKeyword ENUM) i → Fails (AnOther b) i r → Fails (AnItem b) i r
+other_fails s e f =
+    other_item_fails f (λ k m a. not_at_alike (alike_at f.front f.is m) s _ _ a.is a.struct_word) (λ k m a. not_at_alike (alike_at f.front f.is m) e _ _ a.is a.enum_word)
 
 meets_first : {r s : List Token} {u : Token} {k v : List Token} → Meets r s → s ≡ u ∷ k → Meets r (u ∷ v)
 meets_first at_end q = absurd (nil q)
@@ -398,34 +354,8 @@ no_tagged {b} {t} {k} {r} {s} g w n f m a = go f.front f.is f.none a.is
 
 -- `struct` stands first, and neither a struct nor a tag alone
 pub other_struct_fails : {b : Bound} {t : Token} {k r : List Token} → Fits b 0 1 → IsKeyword STRUCT t → NoStruct k → Fails (AnOther b) (t ∷ k) r → Fails (AnItem b) (t ∷ k) r
-other_struct_fails {b} {t} {k} {r} g w n f = record { front = f.front; is = f.is; none = λ s m j a. none m (struct_or b (no_enum (alike_at f.front f.is m)) a.reads a.fits) }
-  where
-    no_enum : {h : List Token} → Meets (t ∷ k) h → NotAt (IsKeyword ENUM) h
-    no_enum m = not_at_alike m (λ u j q e. omega (arith, words_apart w (subst (IsKeyword ENUM) (sym (heads q).0) e)))
-
-    none : {s j : List Token} → Meets r s → AnOther b (f.front ++ s) j ⊎ Tagged (f.front ++ s) → ⊥
-    none m (inl a) = f.none _ m _ a
-    none m (inr a) = no_tagged g w n f m a
-
--- an enum
-record Enumerated (h : List Token) : Type 0 where
-  word : Token
-  rest : List Token
-  brace : Token
-  after : List Token
-  tag : Tag
-  is : h ≡ word ∷ rest
-  enum_word : IsKeyword ENUM word
-  tagged : ReadsTag tag rest (brace ∷ after)
-  opens : Is LEFT_BRACE brace
-
-enum_or : (b : Bound) {d : ℕ} {x : Item} {i j : List Token} → NotAt (IsKeyword STRUCT) i → ReadsItem d x i j → Fits b d (height_of_item x) → AnOther b i j ⊎ Enumerated i
-enum_or b n (a_struct w m l f c u) g = absurd (n _ _ refl w)
-enum_or b n (an_enum w r l f c u) g = inr (record { word = _; rest = _; brace = _; after = _; tag = _; is = refl; enum_word = w; tagged = r; opens = l })
-enum_or b n (an_enum_with_comma w r l f e c u) g = inr (record { word = _; rest = _; brace = _; after = _; tag = _; is = refl; enum_word = w; tagged = r; opens = l })
-enum_or b n (a_tag_alone w m u) g = absurd (n _ _ refl w)
-enum_or b n (an_item_declaration p r) g = inl (declaration_reads b r g)
-enum_or b n (a_definition {at = y} p r z c m h q o) g = inl (definition_reads b y r z c m h q o g)
+other_struct_fails g w n f =
+    other_item_fails f (λ s m a. no_tagged g w n f m a) (λ s m a. not_at_alike (alike_at f.front f.is m) (other_word w (λ q. omega arith)) _ _ a.is a.enum_word)
 
 no_enumerated : {b : Bound} {t : Token} {k r s : List Token} → Fits b 0 1 → IsKeyword ENUM t → NoEnum k → (f : Fails (AnOther b) (t ∷ k) r) → Meets r s → Enumerated (f.front ++ s) → ⊥
 no_enumerated {b} {t} {k} {r} {s} g w n f m a = at_front f.front f.is f.none a.is a.tagged
@@ -439,29 +369,19 @@ no_enumerated {b} {t} {k} {r} {s} g w n f m a = at_front f.front f.is f.none a.i
 
 -- `enum` stands first, and no enum
 pub other_enum_fails : {b : Bound} {t : Token} {k r : List Token} → Fits b 0 1 → IsKeyword ENUM t → NoEnum k → Fails (AnOther b) (t ∷ k) r → Fails (AnItem b) (t ∷ k) r
-other_enum_fails {b} {t} {k} {r} g w n f = record { front = f.front; is = f.is; none = λ s m j a. none m (enum_or b (no_struct (alike_at f.front f.is m)) a.reads a.fits) }
-  where
-    no_struct : {h : List Token} → Meets (t ∷ k) h → NotAt (IsKeyword STRUCT) h
-    no_struct m = not_at_alike m (λ u j q e. omega (arith, words_apart w (subst (IsKeyword STRUCT) (sym (heads q).0) e)))
-
-    none : {s j : List Token} → Meets r s → AnOther b (f.front ++ s) j ⊎ Enumerated (f.front ++ s) → ⊥
-    none m (inl a) = f.none _ m _ a
-    none m (inr a) = no_enumerated g w n f m a
+other_enum_fails g w n f =
+    other_item_fails f (λ s m a. not_at_alike (alike_at f.front f.is m) (other_word w (λ q. omega arith)) _ _ a.is a.struct_word) (λ s m a. no_enumerated g w n f m a)
 
 -- what follows the first declarator
 
+no_part_at : {d : ℕ} {v : MaybeInit} {t : Token} {i j : List Token} → Is LEFT_BRACE t → ReadsMaybeInit d v (t ∷ i) j → (head j ≡ 21 → ⊥) → ⊥
+no_part_at h no_initialiser f = f (headed h)
+no_part_at h (an_initialiser o r) f = omega (arith, apart h o)
+
 body_starts : {b : Bound} {t : Token} {i j : List Token} → Is LEFT_BRACE t → OtherRest b (t ∷ i) j → InBlock (inner b) i j
 body_starts h (first (then (one o) w)) = w
-body_starts h (second (last_stands v c f)) = absurd (no_part_at h v (headed c))
-  where
-    no_part_at : {d : ℕ} {v : MaybeInit} {t : Token} {i j : List Token} → Is LEFT_BRACE t → ReadsMaybeInit d v (t ∷ i) j → head j ≡ 22 → ⊥
-    no_part_at h no_initialiser q = omega (arith, headed h, q)
-    no_part_at h (an_initialiser o r) q = omega (arith, apart h o)
-body_starts h (second (more_stand v c ps u f)) = absurd (no_part_at h v (headed c))
-  where
-    no_part_at : {d : ℕ} {v : MaybeInit} {t : Token} {i j : List Token} → Is LEFT_BRACE t → ReadsMaybeInit d v (t ∷ i) j → head j ≡ 7 → ⊥
-    no_part_at h no_initialiser q = omega (arith, headed h, q)
-    no_part_at h (an_initialiser o r) q = omega (arith, apart h o)
+body_starts h (second (last_stands v c f)) = absurd (no_part_at h v (λ q. omega (arith, headed c, q)))
+body_starts h (second (more_stand v c ps u f)) = absurd (no_part_at h v (λ q. omega (arith, headed c, q)))
 
 -- the body of a function
 pub body_fails : {b : Bound} {t : Token} {i r : List Token} → Is LEFT_BRACE t → Fails (InBlock (inner b)) i r → Fails (OtherRest b) (t ∷ i) r
@@ -469,10 +389,7 @@ body_fails {b} h f = fails_under (λ k j a. body_starts h a) f
 
 -- no body stands
 pub no_body_fails : {b : Bound} {i r : List Token} → NotAt (Is LEFT_BRACE) i → Fails (PartsTail b) i r → Fails (OtherRest b) i r
-no_body_fails {b} {i} n f = fails_second (λ k j m a. none m a) f
-  where
-    none : {B : List Token → List Token → Type 0} {k j : List Token} → Meets i k → Then (Punctuator LEFT_BRACE) B k j → ⊥
-    none m (then (one h) w) = not_at_alike m n _ _ refl h
+no_body_fails n f = fails_not_or (fails_missing _ n) f
 
 -- units
 
@@ -482,9 +399,7 @@ unit_reads b (next_item r w) q f = then (record { depth = _; tree = _; reads = r
 
 pub item_fixes : (b c : Bound) → Fixes (AnItem b) (AnItem c)
 item_fixes b c = record {
-  moves = λ i j a k m.
-      let x = item_on a.reads k in
-      record { tokens = x.tokens; twin = x.twin; reads = record { depth = a.depth; tree = a.tree; reads = x.reads; fits = a.fits } };
+  moves = λ i j a k m. on_as (item_on a.reads k) (λ h r. record { depth = a.depth; tree = a.tree; reads = r; fits = a.fits });
   once = λ i j k a e. (same_item a.reads e.reads).1;
 }
 

@@ -4,7 +4,7 @@ use Rattle.c_lexer.specs.declared.token.Token.{Token}
 use Rattle.c_lexer.specs.declared.punctuator.TheConstants.{LEFT_PARENTHESIS, QUESTION, COMMA}
 use Rattle.c_syntax.specs.Tree.{Infix, Expr, Exprs, binary}
 use Rattle.c_syntax.specs.Tokens.{Is, IsInfix, code_of_infix, IsAssignment}
-use Rattle.c_syntax.specs.Grammar.{unary_level, cast_level, binary_level, conditional_level, assignment_level, expression_level}
+use Rattle.c_syntax.specs.Grammar.{Level, unary_level, cast_level, binary_level, conditional_level, assignment_level, expression_level}
 use Rattle.c_syntax.specs.Grammar.{Reads, no_cast, no_chain, a_chain, no_choice, a_choice, no_assignment, an_assignment, no_comma, a_comma, Chain, no_operator, an_operator, ReadsList, last_expr, next_expr}
 use Rattle.c_syntax.specs.Limits.{height, height_of_exprs}
 use Rattle.c_syntax.proofs.Precedence.{rank, Stops, assignment_rank}
@@ -17,13 +17,14 @@ use Rattle.c_syntax.proofs.One.{same}
 use Rattle.c_parser_refusals.specs.Fails.{Meets, at_token, Fails, Then, then, first, second, One, one}
 use Rattle.c_parser_refusals.specs.Phrases.{Bound, any, within, Fits, fits_any, inner, AnExpr}
 use Rattle.c_parser_refusals.specs.Operands.{SomeExprs, SomeChain, no_choice_stands, ChoiceTail, ChoiceRest, no_comma_stands, ExprsRest}
-use Rattle.c_parser_refusals.proofs.Combine.{fails_as, fails_first, fails_later, fails_after, fails_under, fails_begun, fails_beside, fails_past, twin_back, Begins}
+use Rattle.c_parser_refusals.proofs.Combine.{climb, at_same, fails_as, fails_first, fails_later, fails_after, fails_under, fails_begun, fails_beside, fails_past, twin_back, Begins}
 use Rattle.c_parser_refusals.proofs.Fixed.{rank_alike, expr_fixes, expr_on}
 use Rattle.c_parser_refusals.proofs.StmtForms.{fits_part}
 use Rattle.c_parser_refusals.proofs.BlockForms.{fits_under}
 use Rattle.c_parser_refusals.proofs.ExprForms.{chain_rises}
 use Rattle.c_parser_refusals.proofs.OperandFails.{operand_fails, operators_fail}
 use Rattle.c_parser_refusals.proofs.PrefixFails.{fits_low}
+use Rattle.c_parser_refusals.proofs.Fills.{cast_chains}
 
 -- binary operators (C99 6.5.5 to 6.5.14)
 
@@ -36,14 +37,9 @@ pub first_operand : {b : Bound} {i r : List Token} (n : ℕ) → Fails (AnExpr b
 first_operand {b} zero f = fails_as (λ k j m a. uncast_chain refl a.reads a.stops a.fits) f
 first_operand {b} (suc n) f = operand_fails b n (first_operand n f)
 
-climb : {b : Bound} {i r : List Token} (k n m : ℕ) → m ≡ k + n → Fails (AnExpr b (binary_level n)) i r → Fails (AnExpr b (binary_level m)) i r
-climb {b} {i} {r} zero n m q f = let e : n ≡ m = omega (arith, q) in subst (λ z. Fails (AnExpr b (binary_level z)) i r) e f
-climb (suc k) n zero q f = absurd (omega (arith, q))
-climb {b} (suc k) n (suc m) q f = operand_fails b m (climb k n m (omega (arith, q)) f)
-
 -- a level that binds less
 pub level_up : {b : Bound} {i r : List Token} (n m : ℕ) → n ≤ m → Fails (AnExpr b (binary_level n)) i r → Fails (AnExpr b (binary_level m)) i r
-level_up n m l f = climb (m - n) n m (omega (arith, l)) f
+level_up {b} {i} {r} n m l f = climb {P = λ z. Fails (AnExpr b (binary_level z)) i r} (λ k a. operand_fails b k a) (m - n) n m (omega (arith, l)) f
 
 operand_reads : (b : Bound) {n d at : ℕ} {o : Infix} {a e : Expr} {t : Token} {i j : List Token} → IsInfix o (suc n) → Is (code_of_infix o) t → Chain d n at a e (t ∷ i) j → Stops (binary_level (suc n)) j → Fits b d (height e) → Then (AnExpr (inner b) (binary_level n)) (SomeChain b n) i j
 operand_reads b {n} {o = o} h k no_operator s f = absurd (omega (arith, ranked_infix n o h k))
@@ -104,14 +100,15 @@ operator_fails b o (suc n) most {k = k} {r = r} h l m c w f =
     let g : Fails (Then (AnExpr (inner b) (binary_level n)) (SomeChain b n)) k r = subst (λ z. Fails (Then (AnExpr (inner b) (binary_level z)) (SomeChain b z)) k r) e f in
     level_up (suc n) most m (chain_fails b n w (omega (arith, ranked_infix n o h c)) (chain_goes b n h c g))
 
-too_high : {p most n m d : ℕ} {o : Infix} {e : Expr} {t : Token} {i j : List Token} → IsInfix o (suc n) → suc n ≤ most → Is (code_of_infix o) t → Reads d (binary_level (suc n)) e i (t ∷ j) → m ≤ height e → Fails (AnExpr (within p m) (binary_level most)) i (t ∷ j)
-too_high {p} {most} {n} {m} {d} {o} {e} h l c w g =
-    level_up (suc n) most l
-    (fails_beside {R = λ i j. Reads d (binary_level (suc n)) e i j} (λ k q. expr_on w k)
-    (λ y k z q v a. none c q v a))
+-- what stands before the token is as high as nodes may be
+too_high_before : {p m d : ℕ} {l high : Level} {e : Expr} {t : Token} {i j : List Token} → Reads d l e i (t ∷ j) → ((x : ℕ) (f : Expr) (y k z : List Token) → Reads d l e y (t ∷ k) → Reads x high f y z → Stops high z → suc (height e) ≤ height f) → m ≤ height e → Fails (AnExpr (within p m) high) i (t ∷ j)
+too_high_before {p} {m} {d} {l} {high} {e} {t} {i} {j} w f g = fails_beside {R = Reads d l e} (λ k q. expr_on w k) (λ y k z q v a. none q v a)
   where
-    none : {t : Token} {y j k z : List Token} → Is (code_of_infix o) t → Meets (t ∷ j) k → Reads d (binary_level (suc n)) e y k → AnExpr (within p m) (binary_level (suc n)) y z → ⊥
-    none c at_token v a = omega (arith, g, (fits_low a.fits).1, chain_too_high n h c v a.reads a.stops)
+    none : {y k z : List Token} → Meets (t ∷ j) k → Reads d l e y k → AnExpr (within p m) high y z → ⊥
+    none at_token v a = omega (arith, g, (fits_low a.fits).1, f _ _ _ _ _ v a.reads a.stops)
+
+too_high : {p most n m d : ℕ} {o : Infix} {e : Expr} {t : Token} {i j : List Token} → IsInfix o (suc n) → suc n ≤ most → Is (code_of_infix o) t → Reads d (binary_level (suc n)) e i (t ∷ j) → m ≤ height e → Fails (AnExpr (within p m) (binary_level most)) i (t ∷ j)
+too_high {n = n} h l c w g = level_up (suc n) _ l (too_high_before w (λ x f y k z v u s. chain_too_high n h c v u s) g)
 
 -- the left operand is as high as nodes may be
 pub operator_too_high : (o : Infix) (l most : ℕ) {p n d : ℕ} {e : Expr} {t : Token} {i j : List Token} → IsInfix o l → 1 ≤ l → l ≤ most → Is (code_of_infix o) t → Reads d (binary_level l) e i (t ∷ j) → n ≤ height e → Fails (AnExpr (within p n) (binary_level most)) i (t ∷ j)
@@ -150,21 +147,14 @@ choice_raises h r (a_choice p w q v c y) s = let u = same r w (omega (arith, ran
 
 -- the test is as high as nodes may be
 pub choice_too_high : {p n d : ℕ} {e : Expr} {t : Token} {i j : List Token} → Is QUESTION t → Reads d (binary_level 10) e i (t ∷ j) → n ≤ height e → Fails (AnExpr (within p n) conditional_level) i (t ∷ j)
-choice_too_high {p} {n} {d} {e} h r g = fails_beside {R = λ i j. Reads d (binary_level 10) e i j} (λ k q. expr_on r k) (λ y k z q v a. none h q v a)
-  where
-    none : {t : Token} {y j k z : List Token} → Is QUESTION t → Meets (t ∷ j) k → Reads d (binary_level 10) e y k → AnExpr (within p n) conditional_level y z → ⊥
-    none h at_token v a = omega (arith, g, (fits_low a.fits).1, choice_raises h v a.reads a.stops)
+choice_too_high h r g = too_high_before r (λ x f y k z v u s. choice_raises h v u s) g
 
 -- assignment expressions (C99 6.5.16)
-
-unary_chains : (n : ℕ) {d : ℕ} {e : Expr} {i j : List Token} → Reads d unary_level e i j → Reads d (binary_level n) e i j
-unary_chains zero r = no_chain (no_cast r)
-unary_chains (suc n) r = a_chain refl (unary_chains n r) no_operator
 
 place_begins : (b : Bound) {d : ℕ} {e : Expr} {i j : List Token} → Reads d assignment_level e i j → Stops assignment_level j → Fits b d (height e) → Begins (AnExpr b conditional_level) i
 place_begins b (no_assignment r) s f = record { rest = _; reads = record { depth = _; tree = _; reads = r; stops = omega (arith, s); fits = f } }
 place_begins b (an_assignment p r h q v) s f =
-    record { rest = _; reads = record { depth = _; tree = _; reads = no_choice (unary_chains 10 r); stops = omega (arith, ranked h, assignment_rank q); fits = fits_under b f (omega arith) } }
+    record { rest = _; reads = record { depth = _; tree = _; reads = no_choice (cast_chains 10 (no_cast r)); stops = omega (arith, ranked h, assignment_rank q); fits = fits_under b f (omega arith) } }
 
 -- where a conditional expression fails, an assignment does
 pub value_fails : {b : Bound} {i r : List Token} → Fails (AnExpr b conditional_level) i r → Fails (AnExpr b assignment_level) i r
@@ -174,15 +164,12 @@ value_fails {b} f = fails_begun (λ k j m a. place_begins b a.reads a.stops a.fi
 pub assigned_operand_fails : {b : Bound} {i r : List Token} → Fails (AnExpr b cast_level) i r → Fails (AnExpr b assignment_level) i r
 assigned_operand_fails f = value_fails (test_fails (first_operand 10 f))
 
-assign_goes : (b : Bound) {d x op : ℕ} {a e : Expr} {t : Token} {h k l : List Token} → Is op t → IsAssignment op → Reads d unary_level a h (t ∷ k) → Reads x assignment_level e h l → Stops assignment_level l → Fits b x (height e) → Begins (AnExpr (inner b) assignment_level) k
+assign_goes : (b : Bound) {d x op : ℕ} {a e : Expr} {t : Token} {h k l : List Token} → Is op t → IsAssignment op → Reads d unary_level a h (t ∷ k) → Reads x assignment_level e h l → Stops assignment_level l → Fits b x (height e) → (suc (height a) ≤ height e) × Begins (AnExpr (inner b) assignment_level) k
 assign_goes b o q r (no_assignment w) s f =
-    let v = same (no_choice (unary_chains 10 r)) w (omega (arith, ranked o, assignment_rank q)) (omega (arith, s)) in absurd (omega (arith, ranked o, assignment_rank q, s, ranks v.1))
+    let v = same (no_choice (cast_chains 10 (no_cast r))) w (omega (arith, ranked o, assignment_rank q)) (omega (arith, s)) in absurd (omega (arith, ranked o, assignment_rank q, s, ranks v.1))
 assign_goes b {x = x} o q r (an_assignment p w c u v) s f =
     let y = same r w (omega (arith, ranked o, assignment_rank q)) (omega (arith, ranked c, assignment_rank u)) in
-    record { rest = _; reads = record { depth = x; tree = _; reads = moved (heads y.1).1 v; stops = s; fits = fits_part b f (omega arith) } }
-  where
-    moved : {x : ℕ} {e : Expr} {i j k : List Token} → i ≡ j → Reads x assignment_level e j k → Reads x assignment_level e i k
-    moved q r = rw q r
+    (omega (arith, ap height y.0), record { rest = _; reads = record { depth = x; tree = _; reads = at_same (Reads x assignment_level _) _ (sym (heads y.1).1) v; stops = s; fits = fits_part b f (omega arith) } })
 
 behind_token : {B : List Token → List Token → Type 0} {P : Token → Type 0} {t : Token} {k : List Token} → P t → Begins B k → Begins (Then (One P) B) (t ∷ k)
 behind_token h b = record { rest = b.rest; reads = then (one h) b.reads }
@@ -193,20 +180,11 @@ assigned_value_fails {b} {d} {op} {a} {t} {i} {j} h q w f =
     fails_past {R = λ i j. Reads d unary_level a i j} {C = Then (One (Is op)) (AnExpr (inner b) assignment_level)} (λ k m. expr_on w k) (λ y k l m v e. goes m v e) (fails_after f)
   where
     goes : {y k l : List Token} → Meets (t ∷ j) k → Reads d unary_level a y k → AnExpr b assignment_level y l → Begins (Then (One (Is op)) (AnExpr (inner b) assignment_level)) k
-    goes at_token v e = behind_token h (assign_goes b h q v e.reads e.stops e.fits)
-
-assign_raises : {d x op : ℕ} {a e : Expr} {t : Token} {h k l : List Token} → Is op t → IsAssignment op → Reads d unary_level a h (t ∷ k) → Reads x assignment_level e h l → Stops assignment_level l → suc (height a) ≤ height e
-assign_raises o q r (no_assignment w) s =
-    let v = same (no_choice (unary_chains 10 r)) w (omega (arith, ranked o, assignment_rank q)) (omega (arith, s)) in absurd (omega (arith, ranked o, assignment_rank q, s, ranks v.1))
-assign_raises o q r (an_assignment p w c u v) s =
-    let y = same r w (omega (arith, ranked o, assignment_rank q)) (omega (arith, ranked c, assignment_rank u)) in omega (arith, ap height y.0)
+    goes at_token v e = behind_token h (assign_goes b h q v e.reads e.stops e.fits).1
 
 -- what is assigned to is as high as nodes may be
 pub assigned_too_high : {p n d op : ℕ} {a : Expr} {t : Token} {i j : List Token} → Is op t → IsAssignment op → Reads d unary_level a i (t ∷ j) → n ≤ height a → Fails (AnExpr (within p n) assignment_level) i (t ∷ j)
-assigned_too_high {p} {n} {d} {a = a} {t} {i} {j} h q w g = fails_beside {R = λ i j. Reads d unary_level a i j} (λ k m. expr_on w k) (λ y k l m v e. none m v e)
-  where
-    none : {y k l : List Token} → Meets (t ∷ j) k → Reads d unary_level a y k → AnExpr (within p n) assignment_level y l → ⊥
-    none at_token v e = omega (arith, g, (fits_low e.fits).1, assign_raises h q v e.reads e.stops)
+assigned_too_high h q w g = too_high_before w (λ x f y k z v u s. (assign_goes any h q v u s fits_any).0) g
 
 -- a reading that moved
 record Moved (d : ℕ) (e : Expr) (i j h k : List Token) : Type 0 where
@@ -215,7 +193,7 @@ record Moved (d : ℕ) (e : Expr) (i j h k : List Token) : Type 0 where
 
 is_unary_place : {d x : ℕ} {e f : Expr} {h k l : List Token} → rank k ≡ 13 → Reads d conditional_level e h k → Reads x assignment_level f h l → Stops assignment_level l → Reads x unary_level e h k
 is_unary_place z r (no_assignment w) s = let v = same r w (omega (arith, z)) (omega (arith, s)) in absurd (omega (arith, z, s, ranks v.1))
-is_unary_place z r (an_assignment p w h q y) s = let v = same r (no_choice (unary_chains 10 w)) (omega (arith, z)) (omega (arith, ranked h, assignment_rank q)) in moved v.0 v.1 w
+is_unary_place z r (an_assignment p w h q y) s = let v = same r (no_choice (cast_chains 10 (no_cast w))) (omega (arith, z)) (omega (arith, ranked h, assignment_rank q)) in moved v.0 v.1 w
   where
     moved : {x : ℕ} {e f : Expr} {i j k : List Token} → e ≡ f → j ≡ k → Reads x unary_level f i k → Reads x unary_level e i j
     moved p q r = rw (p, q) r
@@ -233,10 +211,6 @@ no_place_fails {b} {d} {e} {i} {j} n w z =
 pub assigned_after_operators : {b c : Bound} {d : ℕ} {e : Expr} {i h j : List Token} → AnExpr c cast_level i h → (rank h ≡ 13 → ⊥) → Reads d conditional_level e i j → rank j ≡ 13 → Fails (AnExpr b assignment_level) i j
 assigned_after_operators a f w z = no_place_fails (λ x u. f (ranks (same a.reads (no_cast u) a.stops (omega (arith, z))).1 ∙ z)) w z
 
-cast_chains : (n : ℕ) {d : ℕ} {e : Expr} {i j : List Token} → Reads d cast_level e i j → Reads d (binary_level n) e i j
-cast_chains zero r = no_chain r
-cast_chains (suc n) r = a_chain refl (cast_chains n r) no_operator
-
 -- a cast is assigned to
 pub assigned_cast : {b : Bound} {d : ℕ} {e : Expr} {t : Token} {i j : List Token} → Is LEFT_PARENTHESIS t → 7 ≤ start i → Reads d cast_level e (t ∷ i) j → rank j ≡ 13 → Fails (AnExpr b assignment_level) (t ∷ i) j
 assigned_cast h l w z = no_place_fails (λ x u. omega (arith, l, prefixed_inside u h)) (no_choice (cast_chains 10 w)) z
@@ -251,32 +225,22 @@ comma_begins b (a_comma p r c w) s f = record { rest = _; reads = record { depth
 pub comma_first : {b : Bound} {i r : List Token} → Fails (AnExpr b assignment_level) i r → Fails (AnExpr b expression_level) i r
 comma_first {b} f = fails_begun (λ k j m a. comma_begins b a.reads a.stops a.fits) f
 
-comma_goes : (b : Bound) {d x : ℕ} {a e : Expr} {t : Token} {h k l : List Token} → Is COMMA t → Reads d assignment_level a h (t ∷ k) → Reads x expression_level e h l → Stops expression_level l → Fits b x (height e) → Begins (SomeExprs (inner b)) k
+comma_goes : (b : Bound) {d x : ℕ} {a e : Expr} {t : Token} {h k l : List Token} → Is COMMA t → Reads d assignment_level a h (t ∷ k) → Reads x expression_level e h l → Stops expression_level l → Fits b x (height e) → (suc (height a) ≤ height e) × Begins (SomeExprs (inner b)) k
 comma_goes b o r (no_comma w) s f = let v = same r w (omega (arith, ranked o)) (omega (arith, s)) in absurd (omega (arith, ranked o, s, ranks v.1))
 comma_goes b {x = x} o r (a_comma p w c v) s f =
     let y = same r w (omega (arith, ranked o)) (omega (arith, ranked c)) in
-    record { rest = _; reads = record { depth = x; trees = _; reads = moved (heads y.1).1 v; stops = s; fits = fits_part b f (omega arith) } }
-  where
-    moved : {x : ℕ} {e : Exprs} {i j k : List Token} → i ≡ j → ReadsList x e j k → ReadsList x e i k
-    moved q r = rw q r
+    (omega (arith, ap height y.0), record { rest = _; reads = record { depth = x; trees = _; reads = at_same (ReadsList x _) _ (sym (heads y.1).1) v; stops = s; fits = fits_part b f (omega arith) } })
 
 -- what follows the first of them fails
 pub comma_fails : {b : Bound} {d : ℕ} {a : Expr} {t : Token} {i j r : List Token} → Is COMMA t → Reads d assignment_level a i (t ∷ j) → Fails (ExprsRest (inner b)) (t ∷ j) r → Fails (AnExpr b expression_level) i r
 comma_fails {b} {d} {a} {t} {i} {j} h w f = fails_past {R = λ i j. Reads d assignment_level a i j} {C = ExprsRest (inner b)} (λ k m. expr_on w k) (λ y k l m v e. goes m v e) f
   where
     goes : {y k l : List Token} → Meets (t ∷ j) k → Reads d assignment_level a y k → AnExpr b expression_level y l → Begins (ExprsRest (inner b)) k
-    goes at_token v e = let g = comma_goes b h v e.reads e.stops e.fits in record { rest = g.rest; reads = second (then (one h) g.reads) }
-
-comma_raises : {d x : ℕ} {a e : Expr} {t : Token} {h k l : List Token} → Is COMMA t → Reads d assignment_level a h (t ∷ k) → Reads x expression_level e h l → Stops expression_level l → suc (height a) ≤ height e
-comma_raises o r (no_comma w) s = let v = same r w (omega (arith, ranked o)) (omega (arith, s)) in absurd (omega (arith, ranked o, s, ranks v.1))
-comma_raises o r (a_comma p w c v) s = let y = same r w (omega (arith, ranked o)) (omega (arith, ranked c)) in omega (arith, ap height y.0)
+    goes at_token v e = let g = (comma_goes b h v e.reads e.stops e.fits).1 in record { rest = g.rest; reads = second (then (one h) g.reads) }
 
 -- the first of them is as high as nodes may be
 pub comma_too_high : {p n d : ℕ} {a : Expr} {t : Token} {i j : List Token} → Is COMMA t → Reads d assignment_level a i (t ∷ j) → n ≤ height a → Fails (AnExpr (within p n) expression_level) i (t ∷ j)
-comma_too_high {p} {n} {d} {a} {t} {i} {j} h w g = fails_beside {R = λ i j. Reads d assignment_level a i j} (λ k m. expr_on w k) (λ y k l m v e. none m v e)
-  where
-    none : {y k l : List Token} → Meets (t ∷ j) k → Reads d assignment_level a y k → AnExpr (within p n) expression_level y l → ⊥
-    none at_token v e = omega (arith, g, (fits_low e.fits).1, comma_raises h v e.reads e.stops)
+comma_too_high h w g = too_high_before w (λ x f y k z v u s. (comma_goes any h v u s fits_any).0) g
 
 -- lists of expressions
 

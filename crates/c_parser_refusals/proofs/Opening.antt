@@ -24,6 +24,23 @@ opens_later f o = record {
       record { other = x.other; meets = x.meets; tokens = y.tokens; twin = glue x.twin y.twin; reads = then y.reads x.reads };
 }
 
+-- a phrase stands, and what goes on behind it opens
+pub opens_past : {A B : List Token → List Token → Type 0} {i j r : List Token} → ((k : List Token) → On A i j k) → Opens (λ l m. (k : List Token) → A k l → B k m) j r → Opens B i r
+opens_past f o = record {
+  before = λ m.
+      let x = o.before m in
+      let y = f x.tokens in
+      record { other = x.other; meets = x.meets; tokens = y.tokens; twin = glue x.twin y.twin; reads = x.reads _ y.reads };
+}
+
+-- what opens can be gone on with
+pub opens_before : {A B : List Token → List Token → Type 0} {i r : List Token} → Opens A i r → ((m : List Token) → Filled (λ l n. (k : List Token) → A k l → B k n) m) → Opens B i r
+opens_before o f = record { before = λ m. let y = f m in let x = o.before y.tokens in record { other = x.other; meets = x.meets; tokens = x.tokens; twin = x.twin; reads = y.reads _ x.reads } }
+
+-- behind a token
+pub opens_token : {B : List Token → List Token → Type 0} {t : Token} {i r : List Token} → Opens (λ k m. B (t ∷ k) m) i r → Opens B (t ∷ i) r
+opens_token o = opens_under (λ k m a. a) o
+
 -- at the token itself
 pub opens_here : {A : List Token → List Token → Type 0} {t : Token} {i : List Token} → ((m : List Token) → Filled (λ k n. A (t ∷ k) n) m) → Opens A (t ∷ i) (t ∷ i)
 opens_here {t = t} f = record { before = λ m. let x = f m in record { other = t ∷ x.tokens; meets = at_token; tokens = t ∷ x.tokens; twin = here; reads = x.reads } }
@@ -31,6 +48,3 @@ opens_here {t = t} f = record { before = λ m. let x = f m in record { other = t
 -- a token after another phrase
 pub closed_by : {P : Token → Type 0} (t : Token) → P t → (m : List Token) → Filled (One P) m
 closed_by t h m = record { tokens = t ∷ m; reads = one h }
-
-pub filled_then : {A B : List Token → List Token → Type 0} → ((m : List Token) → Filled A m) → ((m : List Token) → Filled B m) → (m : List Token) → Filled (Then A B) m
-filled_then f g m = let y = g m in let x = f y.tokens in record { tokens = x.tokens; reads = then x.reads y.reads }

@@ -3,22 +3,22 @@ use Rattle.std.proofs.Common.{◌≡◌, ◌≤◌, List, ◌∷◌, refl, sym, 
 use Rattle.c_lexer.specs.declared.token.Token.{Token}
 use Rattle.c_lexer.specs.declared.punctuator.TheConstants.{SEMICOLON, COLON, COMMA}
 use Rattle.c_lexer.specs.declared.keyword.TheConstants.{CASE, DEFAULT, DO, ELSE, FOR, IF, SWITCH, WHILE}
-use Rattle.c_syntax.specs.Tree.{Labels, First, Stmt, block, empty, evaluate, only_if, if_else, while_loop, do_loop, for_loop, switch_on, break_off, continue_on, return_from, Declarator, nothing, named, pointer, array, function}
+use Rattle.c_syntax.specs.Tree.{Labels, First, Stmt, block, Declarator, nothing, named}
 use Rattle.c_syntax.specs.Tokens.{Is, IsKeyword}
 use Rattle.c_syntax.specs.Grammar.{conditional_level, expression_level, HasName}
 use Rattle.c_syntax.specs.Statements.{ReadsLabels, last_case, last_default, next_case, next_default, ReadsFirst, first_nothing, first_expression, first_declaration}
 use Rattle.c_syntax.specs.Limits.{height_of_labels, height_of_first, height_of_declarator, height_of_stmt}
-use Rattle.c_syntax.proofs.Ranks.{ranked, apart, words_apart}
+use Rattle.c_syntax.proofs.Ranks.{ranked, words_apart}
 use Rattle.c_syntax.proofs.Heads.{head, headed, worded, expression_head}
 use Rattle.c_syntax.proofs.Twins.{here, On}
 use Rattle.c_syntax.proofs.FrameStatements.{first_on}
 use Rattle.c_syntax.proofs.OneDecl.{same_first, labels_head, plain_head}
 use Rattle.c_syntax.proofs.StmtCases.{stmt_head}
-use Rattle.c_parser_refusals.specs.Fails.{Meets, at_token, Fails, Then, then, Or, first, second, one, NotAt}
-use Rattle.c_parser_refusals.specs.Phrases.{Bound, within, Fits, AnExpr, APlainDecl, AStmt, NoElse, no_else, NoExpr, no_expr, MaybeExpr, Punctuator, Word, SomeLabels, AFirst, EvaluationTail, ABlockItem, IfTail, WhileTail, DoTail, ForTail, SwitchTail}
+use Rattle.c_parser_refusals.specs.Fails.{Meets, Fails, Then, then, Or, first, second, one, NotAt}
+use Rattle.c_parser_refusals.specs.Phrases.{Bound, within, InCondition, Fits, AnExpr, APlainDecl, AStmt, NoElse, no_else, NoExpr, no_expr, MaybeExpr, Punctuator, Word, SomeLabels, AFirst, EvaluationTail, ABlockItem, DoTail, ForTail}
 use Rattle.c_parser_refusals.specs.Declarations.{SomeParts, PartsEnd}
 use Rattle.c_parser_refusals.specs.Labels.{NoLabel, no_label, LabelsRest}
-use Rattle.c_parser_refusals.proofs.Combine.{Fixes, fails_here, fails_as, fails_second, fails_under, not_at_alike, alike_at}
+use Rattle.c_parser_refusals.proofs.Combine.{Fixes, on_as, at_first, other_mark, fails_both, fails_not_or, fails_or_not, fails_after, fails_missing, missing, fails_here, fails_as, fails_second, fails_under, not_at_alike, alike_at}
 use Rattle.c_parser_refusals.proofs.Fixed.{head_alike, expr_fixes}
 use Rattle.c_parser_refusals.proofs.StmtForms.{if_form, while_form, do_form, for_form, switch_form}
 use Rattle.c_parser_refusals.proofs.BlockForms.{fits_under, or_fixes}
@@ -99,9 +99,7 @@ maybe_fails {b} end n f = record { front = f.front; is = f.is; none = λ s m j a
 
 pub first_fixes : (b c : Bound) → Fixes (AFirst b) (AFirst c)
 first_fixes b c = record {
-  moves = λ i j a k m.
-      let x = first_on a.reads k in
-      record { tokens = x.tokens; twin = x.twin; reads = record { depth = a.depth; tree = a.tree; reads = x.reads; fits = a.fits } };
+  moves = λ i j a k m. on_as (first_on a.reads k) (λ h r. record { depth = a.depth; tree = a.tree; reads = r; fits = a.fits });
   once = λ i j k a e. (same_first a.reads e.reads).1;
 }
 
@@ -127,17 +125,7 @@ first_expr_fails {b} n q f = fails_as (λ k j m a. first_expr_reads b (not_at_al
 
 tall_stmt : (s : Stmt) → 1 ≤ height_of_stmt s
 tall_stmt (block at items) = omega arith
-tall_stmt (empty at) = omega arith
-tall_stmt (evaluate at e) = omega arith
-tall_stmt (only_if at e s) = omega arith
-tall_stmt (if_else at e s r) = omega arith
-tall_stmt (while_loop at e s) = omega arith
-tall_stmt (do_loop at s e) = omega arith
-tall_stmt (for_loop at f t p s) = omega arith
-tall_stmt (switch_on at e g) = omega arith
-tall_stmt (break_off at) = omega arith
-tall_stmt (continue_on at) = omega arith
-tall_stmt (return_from at e) = omega arith
+tall_stmt s = omega arith
 
 -- no statement stands without a node
 pub no_stmt_left : {p : ℕ} (i : List Token) → Fails (AStmt (within p 0)) i i
@@ -155,23 +143,14 @@ no_stmt_low a = omega (arith, tall_stmt a.tree, (fits_low a.fits).1)
 
 -- a statement that holds others or a condition needs two nodes in each other
 
-at_first : {A : List Token → List Token → Type 0} {P : Token → Type 0} {t : Token} {i : List Token} → P t → ((u : Token) (k j : List Token) → P u → A (u ∷ k) j → ⊥) → Fails A (t ∷ i) (t ∷ i)
-at_first {A} {P} h f = fails_here (λ s m j a. none h m a)
-  where
-    none : {t : Token} {i s j : List Token} → P t → Meets (t ∷ i) s → A s j → ⊥
-    none h at_token a = f _ _ _ h a
+no_condition : {p : ℕ} {A : List Token → List Token → Type 0} {i j : List Token} → InCondition (within p 0) A i j → ⊥
+no_condition (then o (then e w)) = no_expr_low e
 
 pub if_needs_two : {p : ℕ} {t : Token} {i : List Token} → IsKeyword IF t → Fails (AStmt (within p 1)) (t ∷ i) (t ∷ i)
-if_needs_two {p} h = at_first {P = IsKeyword IF} h (λ u k j h a. none (if_form (within p 1) h a))
-  where
-    none : {i j : List Token} → IfTail (within p 0) i j → ⊥
-    none (then o (then e w)) = no_expr_low e
+if_needs_two {p} h = at_first {P = IsKeyword IF} h (λ u k j h a. no_condition (if_form (within p 1) h a))
 
 pub while_needs_two : {p : ℕ} {t : Token} {i : List Token} → IsKeyword WHILE t → Fails (AStmt (within p 1)) (t ∷ i) (t ∷ i)
-while_needs_two {p} h = at_first {P = IsKeyword WHILE} h (λ u k j h a. none (while_form (within p 1) h a))
-  where
-    none : {i j : List Token} → WhileTail (within p 0) i j → ⊥
-    none (then o (then e w)) = no_expr_low e
+while_needs_two {p} h = at_first {P = IsKeyword WHILE} h (λ u k j h a. no_condition (while_form (within p 1) h a))
 
 pub do_needs_two : {p : ℕ} {t : Token} {i : List Token} → IsKeyword DO t → Fails (AStmt (within p 1)) (t ∷ i) (t ∷ i)
 do_needs_two {p} h = at_first {P = IsKeyword DO} h (λ u k j h a. none (do_form (within p 1) h a))
@@ -186,18 +165,11 @@ for_needs_two {p} h = at_first {P = IsKeyword FOR} h (λ u k j h a. none (for_fo
     none (then o (then f (then e (then c (then g (then q s)))))) = no_stmt_low s
 
 pub switch_needs_two : {p : ℕ} {t : Token} {i : List Token} → IsKeyword SWITCH t → Fails (AStmt (within p 1)) (t ∷ i) (t ∷ i)
-switch_needs_two {p} h = at_first {P = IsKeyword SWITCH} h (λ u k j h a. none (switch_form (within p 1) h a))
-  where
-    none : {i j : List Token} → SwitchTail (within p 0) i j → ⊥
-    none (then o (then e w)) = no_expr_low e
+switch_needs_two {p} h = at_first {P = IsKeyword SWITCH} h (λ u k j h a. no_condition (switch_form (within p 1) h a))
 
 -- a declaration
 pub item_decl_fails : {b : Bound} {i r : List Token} → head i ≡ 2 → Fails (APlainDecl b) i r → Fails (ABlockItem b) i r
-item_decl_fails {b} q f = fails_as (λ k j m a. only (sym (head_alike m) ∙ q) a) f
-  where
-    only : {k j : List Token} → head k ≡ 2 → ABlockItem b k j → APlainDecl b k j
-    only q (first a) = a
-    only q (second a) = absurd (omega (arith, q, stmt_head a.reads))
+item_decl_fails q f = fails_or_not f (no_stmt_begins _ (λ l. omega (arith, q, l)))
 
 -- a statement
 pub item_stmt_fails : {b : Bound} {i r : List Token} → (head i ≡ 2 → ⊥) → Fails (AStmt b) i r → Fails (ABlockItem b) i r
@@ -219,26 +191,15 @@ no_decl_left {p} i = fails_here (λ s m j a. none (decl_form (within p 0) a))
   where
     named_tall : (e : Declarator) → HasName e → 1 ≤ height_of_declarator e
     named_tall nothing h = absurd h
-    named_tall (named at x) h = omega arith
-    named_tall (pointer at e) h = omega arith
-    named_tall (array at e s) h = omega arith
-    named_tall (function at e ps) h = omega arith
+    named_tall e h = omega arith
 
     none : {A : List Token → List Token → Type 0} {i j : List Token} → Then A (SomeParts (within p 0)) i j → ⊥
     none (then s (then e t)) = omega (arith, named_tall e.tree e.named, (fits_low e.fits).1)
 
 -- neither a comma nor a semicolon follows
 pub parts_unclosed : {b : Bound} (i : List Token) → NotAt (Is SEMICOLON) i → NotAt (Is COMMA) i → Fails (PartsEnd b) i i
-parts_unclosed {b} i f g = fails_here (λ s m j a. none (not_at_alike m f) (not_at_alike m g) a)
-  where
-    none : {s j : List Token} → NotAt (Is SEMICOLON) s → NotAt (Is COMMA) s → PartsEnd b s j → ⊥
-    none f g (first (one c)) = f _ _ refl c
-    none f g (second (then (one c) a)) = g _ _ refl c
+parts_unclosed i f g = fails_both (missing i f) (fails_missing i g)
 
 -- after a comma the next one fails
 pub next_part_fails : {b : Bound} {t : Token} {i r : List Token} → Is COMMA t → Fails (SomeParts b) i r → Fails (PartsEnd b) (t ∷ i) r
-next_part_fails {b} h f = fails_under (λ k j a. only h a) f
-  where
-    only : {t : Token} {k j : List Token} → Is COMMA t → PartsEnd b (t ∷ k) j → SomeParts b k j
-    only h (first (one c)) = absurd (omega (arith, apart h c))
-    only h (second (then (one c) a)) = a
+next_part_fails h f = fails_not_or (missing _ (other_mark h (λ q. omega arith))) (fails_after f)

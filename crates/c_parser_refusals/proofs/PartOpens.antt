@@ -1,11 +1,11 @@
 -- Where parameters and declarations open past the limits (C99 6.7).
-use Rattle.std.proofs.Common.{◌≡◌, ◌⊎◌, inl, inr, ◌≤◌, ℕ, zero, suc, List, [], ◌∷◌, refl, arith}
+use Rattle.std.proofs.Common.{◌≡◌, ◌⊎◌, inl, inr, ◌≤◌, ℕ, zero, suc, List, ◌∷◌, refl, arith, []}
 use Rattle.c_lexer.specs.declared.token.Token.{Token}
 use Rattle.c_lexer.specs.declared.token.TokenKind.{TokenKind}
-use Rattle.c_lexer.specs.declared.token.TokenKind.TheVariants.{Name, Keyword, Int, Char, Str, Punct}
-use Rattle.c_lexer.specs.declared.punctuator.TheConstants.{LEFT_PARENTHESIS, RIGHT_PARENTHESIS, COMMA, SEMICOLON, ASSIGN}
+use Rattle.c_lexer.specs.declared.token.TokenKind.TheVariants.{Keyword, Punct}
+use Rattle.c_lexer.specs.declared.punctuator.TheConstants.{LEFT_PARENTHESIS, COMMA, ASSIGN}
 use Rattle.c_lexer.specs.declared.keyword.TheConstants.{INT}
-use Rattle.c_syntax.specs.Tree.{Ident, Spec, void, char, unsigned_char, int, unsigned_int, struct, enum, Declarator, nothing, named, pointer, array, function, Params, no_params, more_params, MaybeInit, no_init, an_init, no_parts, more_parts, no_storage, decl}
+use Rattle.c_syntax.specs.Tree.{Ident, Spec, void, char, int, unsigned_int, struct, enum, Declarator, nothing, named, function, Params, no_params, more_params, MaybeInit, no_init, an_init, no_parts, more_parts, no_storage, decl}
 use Rattle.c_syntax.specs.Tokens.{Is}
 use Rattle.c_syntax.specs.Specifiers.{no_const, a_const, no_storage_stands, ReadsSpec, is_void, is_char, is_int, is_signed, is_unsigned, is_struct, is_enum}
 use Rattle.c_syntax.specs.Grammar.{IsThere, HasName, AreSome, Declares, a_direct, a_declared, no_more, a_function, are_some, ReadsEach, last_param, next_param}
@@ -15,46 +15,28 @@ use Rattle.c_syntax.proofs.FrameGrammar.{declares_on}
 use Rattle.c_syntax.proofs.FrameStatements.{maybe_init_on}
 use Rattle.c_syntax.proofs.MorePairs.{wide_declarator}
 use Rattle.c_syntax.proofs.MorePairsOfUnits.{wide_init}
-use Rattle.c_parser_refusals.specs.Fails.{Then, then, One, one}
 use Rattle.c_parser_refusals.specs.Nodes.{InParams, in_first_param, in_later_param, in_params, in_part_declarator, in_part_init, in_later_part, in_an_init, in_decl, declarator_here}
 use Rattle.c_parser_refusals.specs.Pairs.{PairInEach}
 use Rattle.c_parser_refusals.specs.Declarators.{AnyName}
 use Rattle.c_parser_refusals.specs.Opens.{Opens, Filled, Builds, DeepDeclarator, DeepEach, DeepLengthens, DeepInit, DeepParts, DeepDecl}
-use Rattle.c_parser_refusals.proofs.Opening.{opens_as, opens_under, opens_first, opens_later, opens_here, closed_by}
+use Rattle.c_parser_refusals.proofs.Opening.{opens_as, opens_under, opens_here, opens_past, opens_before, opens_token}
 use Rattle.c_parser_refusals.proofs.Fills.{name_token, word}
 use Rattle.c_parser_refusals.proofs.ExprOpens.{either}
 use Rattle.c_parser_refusals.proofs.DeclOpens.{node_there, pair_there}
 use Rattle.c_parser_refusals.proofs.BodyOpens.{semicolon}
 use Rattle.c_parser_refusals.proofs.ExprOpens.{close_paren}
-use Rattle.c_parser_refusals.proofs.MemberOpens.{moved_spec}
+use Rattle.c_parser_refusals.proofs.Fixed.{placeless}
+use Rattle.c_syntax.proofs.FrameSpecifiers.{spec_on}
 
 -- parameters (6.7.5.3)
 
 some_there : (at : ℕ) (s : Spec) (e : Declarator) → IsThere e → AreSome (more_params at s e no_params)
 some_there at void nothing h = absurd h
-some_there at void (named p x) h = tt
-some_there at void (pointer p e) h = tt
-some_there at void (array p e z) h = tt
-some_there at void (function p e ps) h = tt
-some_there at char e h = tt
-some_there at unsigned_char e h = tt
-some_there at int e h = tt
-some_there at unsigned_int e h = tt
-some_there at (struct x) e h = tt
-some_there at (enum x) e h = tt
+some_there at s e h = tt
 
 some_more : (at : ℕ) (s : Spec) (e : Declarator) (q : ℕ) (z : Spec) (f : Declarator) (rest : Params) → AreSome (more_params at s e (more_params q z f rest))
 some_more at void nothing q z f rest = tt
-some_more at void (named p x) q z f rest = tt
-some_more at void (pointer p e) q z f rest = tt
-some_more at void (array p e y) q z f rest = tt
-some_more at void (function p e ps) q z f rest = tt
-some_more at char e q z f rest = tt
-some_more at unsigned_char e q z f rest = tt
-some_more at int e q z f rest = tt
-some_more at unsigned_int e q z f rest = tt
-some_more at (struct x) e q z f rest = tt
-some_more at (enum x) e q z f rest = tt
+some_more at s e q z f rest = tt
 
 only_node : {at n q : ℕ} {s : Spec} {e : Declarator} → InParams at n (more_params q s e no_params) → IsThere e
 only_node (in_first_param x) = node_there x
@@ -67,28 +49,25 @@ deep_some at n p (next_param {at = y} {s = z} {e = f} q s e c (last_param {at = 
 deep_some at n p (next_param {at = y} {s = z} {e = f} q s e c (next_param {at = u} {s = v} {e = w} {rest = rest} o h g k l)) x = some_more y z f u v w rest
 
 pub first_param_opens : {at p n : ℕ} {s : Spec} {i j r : List Token} → ReadsSpec s i j → Opens (DeepDeclarator AnyName at p n) j r → Opens (DeepEach at p n) i r
-first_param_opens {at} {p} {n} {s} w o = opens_as (λ k m v. whole v) (opens_later (moved_spec w) o)
-  where
-    whole : {k m : List Token} → Then (ReadsSpec s) (DeepDeclarator AnyName at p n) k m → DeepEach at p n k m
-    whole (then b e) = record { trees = more_params _ s e.tree no_params; reads = last_param refl b e.reads; deep = either in_first_param (λ y. y) e.deep }
+first_param_opens {s = s} w o =
+    opens_past (placeless (spec_on w)) (opens_as (λ k m e l b. record { trees = more_params _ s e.tree no_params; reads = last_param refl b e.reads; deep = either in_first_param (λ y. y) e.deep }) o)
 
 pub later_param_opens : {at p n d : ℕ} {s : Spec} {e : Declarator} {t : Token} {i j k r : List Token} → d ≤ suc p → ReadsSpec s i j → Declares d e j (t ∷ k) → Is COMMA t → Opens (DeepEach at p n) k r → Opens (DeepEach at p n) i r
-later_param_opens {at} {p} {n} {s = s} {e = e} g w c h o =
-    opens_as (λ k m v. whole v) (opens_later (moved_spec w) (opens_later (declares_on (wide_declarator c g)) (opens_under {B = Then (One (Is COMMA)) (DeepEach at p n)} (λ k m v. then (one h) v) o)))
-  where
-    whole : {k m : List Token} → Then (ReadsSpec s) (Then (Declares (suc p) e) (Then (One (Is COMMA)) (DeepEach at p n))) k m → DeepEach at p n k m
-    whole (then b (then f (then (one q) y))) = record { trees = more_params _ s e y.trees; reads = next_param refl b f q y.reads; deep = either in_later_param (λ z. inr z) y.deep }
+later_param_opens {s = s} {e = e} g w c h o =
+    opens_past (placeless (spec_on w)) (opens_past (declares_on (wide_declarator c g))
+    (opens_under (λ k m y l f i b. record { trees = more_params _ s e y.trees; reads = next_param refl b f h y.reads; deep = either in_later_param (λ z. inr z) y.deep }) o))
 
 pub params_open : {N : Declarator → Type 0} {at p n q : ℕ} {a : Declarator} {t : Token} {i r : List Token} → Builds N → Is LEFT_PARENTHESIS t → Opens (DeepEach at p n) i r → Opens (DeepLengthens N at p (suc n) q a) (t ∷ i) r
-params_open {N} {at} {p} {n} {q} {a} b h o = opens_under (λ k m v. whole h v) (opens_first (closed_by {P = Is RIGHT_PARENTHESIS} close_paren (record { kind = refl })) o)
-  where
-    whole : {t : Token} {k m : List Token} → Is LEFT_PARENTHESIS t → Then (DeepEach at p n) (One (Is RIGHT_PARENTHESIS)) k m → DeepLengthens N at p (suc n) q a (t ∷ k) m
-    whole h (then e (one c)) = record {
-      tree = function q a e.trees;
-      reads = a_function h (are_some e.reads (deep_some at (suc n) p e.reads e.deep)) c no_more;
-      suits = λ n. b.functions _ _ _ n;
-      deep = either in_params (λ y. inl y) e.deep;
-    }
+params_open {at = at} {p} {n} {q} {a} b h o =
+    opens_token (opens_before o (λ m. record {
+      tokens = close_paren ∷ m;
+      reads = λ k e. record {
+        tree = function q a e.trees;
+        reads = a_function h (are_some e.reads (deep_some at (suc n) p e.reads e.deep)) (record { kind = refl }) no_more;
+        suits = λ n. b.functions _ _ _ n;
+        deep = either in_params (λ y. inl y) e.deep;
+      };
+    }))
 
 -- declarations
 
@@ -96,28 +75,25 @@ pub part_declarator_opens : {at p n : ℕ} {i r : List Token} → Opens (DeepDec
 part_declarator_opens o = opens_as (λ k m a. record { trees = more_parts a.tree no_init no_parts; reads = last_part a.reads a.suits no_initialiser; deep = either in_part_declarator (λ y. inl y) a.deep }) o
 
 pub part_init_opens : {at p n d : ℕ} {e : Declarator} {t : Token} {i j r : List Token} → d ≤ suc p → Declares d e i (t ∷ j) → HasName e → Is ASSIGN t → Opens (DeepInit at p n) j r → Opens (DeepParts at p n) i r
-part_init_opens {at} {p} {n} {e = e} g c x h o =
-    opens_as (λ k m v. whole v) (opens_later (declares_on (wide_declarator c g)) (opens_under {B = Then (One (Is ASSIGN)) (DeepInit at p n)} (λ k m v. then (one h) v) o))
-  where
-    whole : {k m : List Token} → Then (Declares (suc p) e) (Then (One (Is ASSIGN)) (DeepInit at p n)) k m → DeepParts at p n k m
-    whole (then b (then (one q) y)) = record { trees = more_parts e (an_init y.tree) no_parts; reads = last_part b x (an_initialiser q y.reads); deep = either (λ z. in_part_init (in_an_init z)) (λ z. inr z) y.deep }
+part_init_opens {e = e} g c x h o =
+    opens_past (declares_on (wide_declarator c g))
+    (opens_under (λ k m y l b. record { trees = more_parts e (an_init y.tree) no_parts; reads = last_part b x (an_initialiser h y.reads); deep = either (λ z. in_part_init (in_an_init z)) (λ z. inr z) y.deep }) o)
 
 wide_maybe_init : {d x : ℕ} {v : MaybeInit} {i j : List Token} → ReadsMaybeInit d v i j → d ≤ x → ReadsMaybeInit x v i j
 wide_maybe_init no_initialiser l = no_initialiser
 wide_maybe_init (an_initialiser h r) l = an_initialiser h (wide_init r l)
 
 pub next_part_opens : {at p n d : ℕ} {e : Declarator} {v : MaybeInit} {t : Token} {i j k r : List Token} → d ≤ suc p → Declares d e i j → HasName e → ReadsMaybeInit d v j (t ∷ k) → Is COMMA t → Opens (DeepParts at p n) k r → Opens (DeepParts at p n) i r
-next_part_opens {at} {p} {n} {e = e} {v = v} g c x w h o =
-    opens_as (λ k m y. whole y) (opens_later (declares_on (wide_declarator c g)) (opens_later (maybe_init_on (wide_maybe_init w g)) (opens_under {B = Then (One (Is COMMA)) (DeepParts at p n)} (λ k m y. then (one h) y) o)))
-  where
-    whole : {k m : List Token} → Then (Declares (suc p) e) (Then (ReadsMaybeInit (suc p) v) (Then (One (Is COMMA)) (DeepParts at p n))) k m → DeepParts at p n k m
-    whole (then b (then f (then (one q) y))) = record { trees = more_parts e v y.trees; reads = next_part b x f q y.reads; deep = either in_later_part (λ z. inr (inr z)) y.deep }
+next_part_opens {e = e} {v = v} g c x w h o =
+    opens_past (declares_on (wide_declarator c g)) (opens_past (maybe_init_on (wide_maybe_init w g))
+    (opens_under (λ k m y l f i b. record { trees = more_parts e v y.trees; reads = next_part b x f h y.reads; deep = either in_later_part (λ z. inr (inr z)) y.deep }) o))
 
 pub decl_opens : {at p n : ℕ} {s : Spec} {i j r : List Token} → ReadsSpec s i j → Opens (DeepParts at p n) j r → Opens (DeepDecl at p n) i r
-decl_opens {at} {p} {n} {s} w o = opens_as (λ k m v. whole v) (opens_later (moved_spec w) (opens_first (closed_by {P = Is SEMICOLON} semicolon (record { kind = refl })) o))
-  where
-    whole : {k m : List Token} → Then (ReadsSpec s) (Then (DeepParts at p n) (One (Is SEMICOLON))) k m → DeepDecl at p n k m
-    whole (then b (then y (one c))) = record { tree = decl _ no_storage s y.trees; reads = a_declaration refl no_storage_stands b y.reads c; plain = refl; deep = either in_decl (λ z. z) y.deep }
+decl_opens {s = s} w o =
+    opens_past (placeless (spec_on w)) (opens_before o (λ m. record {
+      tokens = semicolon ∷ m;
+      reads = λ k y l b. record { tree = decl _ no_storage s y.trees; reads = a_declaration refl no_storage_stands b y.reads (record { kind = refl }); plain = refl; deep = either in_decl (λ z. z) y.deep };
+    }))
 
 -- some specifiers begin with each word that can begin them
 
@@ -128,56 +104,26 @@ abbrev Specified : Token → List Token → List Token → Type 0
 Specified u k j = (s : Spec) × ReadsSpec s (u ∷ k) j
 
 by_word : (u : Token) (code : ℕ) → u.kind ≡ Keyword code → 7 ≤ start_of_word code → start_of_word code ≤ 14 → (m : List Token) → Filled (Specified u) m
-by_word u zero q l g m = absurd (omega (arith, l, g))
-by_word u (suc zero) q l g m = absurd (omega (arith, l, g))
+by_word u (suc (suc (suc (suc (suc (suc (suc (suc (suc (suc (suc (suc (suc (suc (suc (suc (suc (suc (suc (suc (suc n))))))))))))))))))))) q l g m = absurd (omega (arith, l, g))
 by_word u (suc (suc zero)) q l g m = record { tokens = m; reads = (char, is_char no_const (record { kind = q }) no_const) }
 by_word u (suc (suc (suc zero))) q l g m = record { tokens = word INT (omega arith) ∷ m; reads = (int, is_int (a_const (record { kind = q }) no_const) (record { kind = refl }) no_const) }
-by_word u (suc (suc (suc (suc zero)))) q l g m = absurd (omega (arith, l, g))
-by_word u (suc (suc (suc (suc (suc zero))))) q l g m = absurd (omega (arith, l, g))
-by_word u (suc (suc (suc (suc (suc (suc zero)))))) q l g m = absurd (omega (arith, l, g))
-by_word u (suc (suc (suc (suc (suc (suc (suc zero))))))) q l g m = absurd (omega (arith, l, g))
 by_word u (suc (suc (suc (suc (suc (suc (suc (suc zero)))))))) q l g m = record { tokens = name_token 0 ∷ m; reads = (enum s_ident, is_enum no_const (record { kind = q }) (record { name = record { kind = refl }; at = refl }) no_const) }
-by_word u (suc (suc (suc (suc (suc (suc (suc (suc (suc zero))))))))) q l g m = absurd (omega (arith, l, g))
-by_word u (suc (suc (suc (suc (suc (suc (suc (suc (suc (suc zero)))))))))) q l g m = absurd (omega (arith, l, g))
-by_word u (suc (suc (suc (suc (suc (suc (suc (suc (suc (suc (suc zero))))))))))) q l g m = absurd (omega (arith, l, g))
 by_word u (suc (suc (suc (suc (suc (suc (suc (suc (suc (suc (suc (suc zero)))))))))))) q l g m = record { tokens = m; reads = (int, is_int no_const (record { kind = q }) no_const) }
-by_word u (suc (suc (suc (suc (suc (suc (suc (suc (suc (suc (suc (suc (suc zero))))))))))))) q l g m = absurd (omega (arith, l, g))
 by_word u (suc (suc (suc (suc (suc (suc (suc (suc (suc (suc (suc (suc (suc (suc zero)))))))))))))) q l g m = record { tokens = m; reads = (int, is_signed no_const (record { kind = q }) no_const) }
-by_word u (suc (suc (suc (suc (suc (suc (suc (suc (suc (suc (suc (suc (suc (suc (suc zero))))))))))))))) q l g m = absurd (omega (arith, l, g))
-by_word u (suc (suc (suc (suc (suc (suc (suc (suc (suc (suc (suc (suc (suc (suc (suc (suc zero)))))))))))))))) q l g m = absurd (omega (arith, l, g))
 by_word u (suc (suc (suc (suc (suc (suc (suc (suc (suc (suc (suc (suc (suc (suc (suc (suc (suc zero))))))))))))))))) q l g m = record { tokens = name_token 0 ∷ m; reads = (struct s_ident, is_struct no_const (record { kind = q }) (record { name = record { kind = refl }; at = refl }) no_const) }
-by_word u (suc (suc (suc (suc (suc (suc (suc (suc (suc (suc (suc (suc (suc (suc (suc (suc (suc (suc zero)))))))))))))))))) q l g m = absurd (omega (arith, l, g))
 by_word u (suc (suc (suc (suc (suc (suc (suc (suc (suc (suc (suc (suc (suc (suc (suc (suc (suc (suc (suc zero))))))))))))))))))) q l g m = record { tokens = m; reads = (unsigned_int, is_unsigned no_const (record { kind = q }) no_const) }
 by_word u (suc (suc (suc (suc (suc (suc (suc (suc (suc (suc (suc (suc (suc (suc (suc (suc (suc (suc (suc (suc zero)))))))))))))))))))) q l g m = record { tokens = m; reads = (void, is_void no_const (record { kind = q }) no_const) }
-by_word u (suc (suc (suc (suc (suc (suc (suc (suc (suc (suc (suc (suc (suc (suc (suc (suc (suc (suc (suc (suc (suc n))))))))))))))))))))) q l g m = absurd (omega (arith, l, g))
+by_word u code q l g m = absurd (omega (arith, l, g))
 
 code_low : (k : ℕ) → start_of_code k ≤ 6
-code_low zero = omega arith
-code_low (suc zero) = omega arith
-code_low (suc (suc zero)) = omega arith
-code_low (suc (suc (suc zero))) = omega arith
-code_low (suc (suc (suc (suc zero)))) = omega arith
-code_low (suc (suc (suc (suc (suc zero))))) = omega arith
-code_low (suc (suc (suc (suc (suc (suc zero)))))) = omega arith
-code_low (suc (suc (suc (suc (suc (suc (suc zero))))))) = omega arith
-code_low (suc (suc (suc (suc (suc (suc (suc (suc zero)))))))) = omega arith
-code_low (suc (suc (suc (suc (suc (suc (suc (suc (suc zero))))))))) = omega arith
-code_low (suc (suc (suc (suc (suc (suc (suc (suc (suc (suc zero)))))))))) = omega arith
-code_low (suc (suc (suc (suc (suc (suc (suc (suc (suc (suc (suc zero))))))))))) = omega arith
-code_low (suc (suc (suc (suc (suc (suc (suc (suc (suc (suc (suc (suc zero)))))))))))) = omega arith
-code_low (suc (suc (suc (suc (suc (suc (suc (suc (suc (suc (suc (suc (suc zero))))))))))))) = omega arith
-code_low (suc (suc (suc (suc (suc (suc (suc (suc (suc (suc (suc (suc (suc (suc zero)))))))))))))) = omega arith
-code_low (suc (suc (suc (suc (suc (suc (suc (suc (suc (suc (suc (suc (suc (suc (suc zero))))))))))))))) = omega arith
 code_low (suc (suc (suc (suc (suc (suc (suc (suc (suc (suc (suc (suc (suc (suc (suc (suc k)))))))))))))))) = omega arith
+code_low k = omega arith
 
 by_kind : (u : Token) (k : TokenKind) → u.kind ≡ k → 7 ≤ start_of_kind k → start_of_kind k ≤ 14 → (m : List Token) → Filled (Specified u) m
 unfolding start_of_kind
-by_kind u (Name name) q l g m = absurd (omega (arith, l))
-by_kind u (Int value unsigned) q l g m = absurd (omega (arith, l))
-by_kind u (Char c) q l g m = absurd (omega (arith, l))
-by_kind u (Str bytes) q l g m = absurd (omega (arith, l))
 by_kind u (Punct code) q l g m = absurd (omega (arith, l, code_low code))
 by_kind u (Keyword code) q l g m = by_word u code q l g m
+by_kind u k q l g m = absurd (omega (arith, l))
 
 -- a word after which a declarator is sure to stand: it may begin at any place
 pub decl_is_deep : {at p : ℕ} {u : Token} {i : List Token} → 7 ≤ start_of_kind u.kind → start_of_kind u.kind ≤ 14 → Opens (DeepDecl at p 0) (u ∷ i) (u ∷ i)

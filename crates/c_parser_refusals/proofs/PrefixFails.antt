@@ -5,7 +5,7 @@ use Rattle.c_lexer.specs.declared.token.Token.{Token}
 use Rattle.c_lexer.specs.declared.punctuator.TheConstants.{LEFT_PARENTHESIS, RIGHT_PARENTHESIS}
 use Rattle.c_lexer.specs.declared.keyword.TheConstants.{SIZEOF}
 use Rattle.c_syntax.specs.Tree.{Prefix, pre_increment, pre_decrement, sizeof}
-use Rattle.c_syntax.specs.Tree.{Expr, a_name, an_int, a_char, a_str, comma, sizeof_type, cast, call, member, postfix, prefix, unary, index, binary, assign, conditional}
+use Rattle.c_syntax.specs.Tree.{Expr, a_name}
 use Rattle.c_syntax.specs.Tokens.{Is, IsKeyword, IsUnary, IsPrefix}
 use Rattle.c_syntax.specs.Grammar.{Level, primary_level, postfix_level, unary_level, cast_level}
 use Rattle.c_syntax.specs.Grammar.{Reads, is_name, is_int, is_char, are_strings, in_parentheses, with_suffixes, no_suffix, no_prefix, a_prefix, a_unary, a_sizeof_type, no_cast, a_cast, no_comma}
@@ -19,7 +19,7 @@ use Rattle.c_syntax.proofs.One.{same, same_type}
 use Rattle.c_parser_refusals.specs.Fails.{Meets, at_end, at_token, Fails, then, first, second, one}
 use Rattle.c_parser_refusals.specs.Phrases.{Bound, within, Fits, fits_within, inner, AnExpr}
 use Rattle.c_parser_refusals.specs.Operands.{AType, NoSuffix, no_suffix_stands, SizeofType, SizeofTail, NotCast, Past}
-use Rattle.c_parser_refusals.proofs.Combine.{Fixes, fails_here, fails_as, fails_under, fails_under_alike, fails_beside, alike, twin_alike}
+use Rattle.c_parser_refusals.proofs.Combine.{Fixes, on_as, fails_here, fails_as, fails_under, fails_under_alike, fails_beside, alike, twin_alike}
 use Rattle.c_parser_refusals.proofs.Fills.{name_token, punctuator, name_reads}
 use Rattle.c_parser_refusals.proofs.Fixed.{rank_alike, start_alike, ends_declarator_alike}
 use Rattle.c_parser_refusals.proofs.StmtForms.{fits_part}
@@ -31,21 +31,7 @@ fits_low (fits_within f g) = (f, g)
 
 pub tall : (e : Expr) → 1 ≤ height e
 tall (a_name at name) = omega arith
-tall (an_int at number unsigned) = omega arith
-tall (a_char at c) = omega arith
-tall (a_str at bytes) = omega arith
-tall (comma at es) = omega arith
-tall (sizeof_type at n) = omega arith
-tall (cast at n a) = omega arith
-tall (call at a es) = omega arith
-tall (member at access a ident) = omega arith
-tall (postfix at p a) = omega arith
-tall (prefix at p a) = omega arith
-tall (unary at op a) = omega arith
-tall (index at a b) = omega arith
-tall (binary at o a b) = omega arith
-tall (assign at op a b) = omega arith
-tall (conditional at a b c) = omega arith
+tall e = omega arith
 
 -- no expression stands without a node
 pub no_node_left : {p : ℕ} {l : Level} (i : List Token) → Fails (AnExpr (within p 0) l) i i
@@ -59,19 +45,10 @@ no_operand i f = fails_here (λ s m j a. let v = primary_begins a.reads in f (om
 
 -- what is no string ends in one place
 primary_once : {d x : ℕ} {e f : Expr} {i j k : List Token} → (rank i ≡ 0 → ⊥) → Reads d primary_level e i j → Reads x primary_level f i k → j ≡ k
-primary_once n (is_name h) (is_name o) = refl
-primary_once n (is_name h) (is_int o) = refl
-primary_once n (is_name h) (is_char o) = refl
 primary_once n (is_name h) (are_strings p r) = absurd (n (strings_rank r))
 primary_once n (is_name h) (in_parentheses o r c) = absurd (not_name o h)
-primary_once n (is_int h) (is_name o) = refl
-primary_once n (is_int h) (is_int o) = refl
-primary_once n (is_int h) (is_char o) = refl
 primary_once n (is_int h) (are_strings p r) = absurd (n (strings_rank r))
 primary_once n (is_int h) (in_parentheses o r c) = absurd (omega (arith, started o, started_int h))
-primary_once n (is_char h) (is_name o) = refl
-primary_once n (is_char h) (is_int o) = refl
-primary_once n (is_char h) (is_char o) = refl
 primary_once n (is_char h) (are_strings p r) = absurd (n (strings_rank r))
 primary_once n (is_char h) (in_parentheses o r c) = absurd (omega (arith, started o, started_char h))
 primary_once n (are_strings p r) w = absurd (n (strings_rank r))
@@ -80,6 +57,7 @@ primary_once n (in_parentheses o r c) (is_int h) = absurd (omega (arith, started
 primary_once n (in_parentheses o r c) (is_char h) = absurd (omega (arith, started o, started_char h))
 primary_once n (in_parentheses o r c) (are_strings p w) = absurd (n (strings_rank w))
 primary_once n (in_parentheses o r c) (in_parentheses q w u) = (heads (same r w (omega (arith, ranked c)) (omega (arith, ranked u))).1).1
+primary_once n a w = refl
 
 record Stands (d : ℕ) (e : Expr) (i j : List Token) : Type 0 where
   no_string : rank i ≡ 0 → ⊥
@@ -116,9 +94,8 @@ pub unary_bare : {b : Bound} {i r : List Token} → (1 ≤ start i → 3 ≤ sta
 unary_bare h f = fails_as (λ k j m a. unary_bare_reads (λ l. omega (arith, start_alike m, h (omega (arith, start_alike m)))) a.reads a.stops a.fits) f
 
 prefix_code : {code : ℕ} {t : Token} (p : Prefix) → IsPrefix p t → Is code t → code ≤ 9
-prefix_code pre_increment h k = omega (arith, apart h k)
-prefix_code pre_decrement h k = omega (arith, apart h k)
 prefix_code sizeof h k = absurd (not_word k h)
+prefix_code p h k = omega (arith, apart h k)
 
 step_reads : (b : Bound) (p : Prefix) {d : ℕ} {e : Expr} {t : Token} {i j : List Token} → IsPrefix p t → (p ≡ sizeof → ⊥) → Reads d unary_level e (t ∷ i) j → Stops unary_level j → Fits b d (height e) → AnExpr (inner b) unary_level i j
 step_reads b p {t = t} h n (no_prefix r) s f = absurd (omega (arith, started_prefix t p h, (suffixed_begins r).0))
@@ -158,14 +135,14 @@ sizeof_fails {b} h f = fails_under (λ k j a. sizeof_reads b h a.reads a.stops a
 pub longer : (t : Token) {j : List Token} (front : List Token) → j ≡ front ++ (t ∷ j) → ⊥
 longer t {j} front e = omega (arith, ap length e, length-append front (t ∷ j))
 
--- what stands behind the first parenthesis begins alike
+-- what is told by the token behind the first parenthesis stays
+pub behind_alike : {i r s : List Token} (Q : ℕ → Type 0) (front : List Token) → i ≡ front ++ r → Meets r s → Past i r → ((t : Token) (j : List Token) → i ≡ t ∷ j → Is LEFT_PARENTHESIS t → Q (start j)) → (t : Token) (j : List Token) → front ++ s ≡ t ∷ j → Is LEFT_PARENTHESIS t → Q (start j)
+behind_alike Q [] q at_end p n t j e h = absurd (cc)
+behind_alike {r = t ∷ r} Q [] q at_token p n u j e h = let x = p.behind t r q (subst (Is LEFT_PARENTHESIS) (sym (heads e).0) h) in absurd (longer _ x.0 x.1)
+behind_alike {r = r} Q (t ∷ front) q m p n u j e h = let v = heads e in subst Q (start_alike (alike front m) ∙ ap start v.1) (n t (front ++ r) q (subst (Is LEFT_PARENTHESIS) (sym v.0) h))
+
 pub no_cast_alike : {i r s : List Token} (front : List Token) → i ≡ front ++ r → Meets r s → Past i r → NotCast i → NotCast (front ++ s)
-no_cast_alike {i} [] q at_end p n = λ t j e h l. cc
-no_cast_alike {i} {r = t ∷ r} [] q at_token p n = λ u j e h l.
-    let v = heads e in
-    let x = p.behind t r q (subst (Is LEFT_PARENTHESIS) (sym v.0) h) in longer _ x.0 x.1
-no_cast_alike {i} {r} {s} (t ∷ front) q m p n = λ u j e h l.
-    let v = heads e in n t (front ++ r) q (subst (Is LEFT_PARENTHESIS) (sym v.0) h) (omega (arith, l, ap start v.1, start_alike (alike front m)))
+no_cast_alike front q m p n = behind_alike (λ z. 7 ≤ z → ⊥) front q m p n
 
 -- `( x )` stands after a parenthesis that is left
 pub past_there : {b : Bound} {i r : List Token} → Fits b 1 1 → Fails (AnExpr b unary_level) i r → Past i r
@@ -189,9 +166,7 @@ past_there {b} {i} {r} g f = record { behind = λ t j q h. behind f.front f.is f
 
 pub type_fixes : (b c : Bound) → Fixes (AType b) (AType c)
 type_fixes b c = record {
-  moves = λ i j a k m.
-      let x = type_on a.reads k in
-      record { tokens = x.tokens; twin = x.twin; reads = record { depth = a.depth; tree = a.tree; reads = x.reads; ends = ends_declarator_alike m a.ends; fits = a.fits } };
+  moves = λ i j a k m. on_as (type_on a.reads k) (λ h r. record { depth = a.depth; tree = a.tree; reads = r; ends = ends_declarator_alike m a.ends; fits = a.fits });
   once = λ i j k a e. (same_type a.reads e.reads a.ends e.ends).1;
 }
 

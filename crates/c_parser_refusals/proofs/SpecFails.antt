@@ -1,5 +1,5 @@
 -- Where specifiers fail (C99 6.7.2, 6.7.3).
-use Rattle.std.proofs.Common.{◌≡◌, ◌≤◌, List, ◌∷◌, refl, sym, subst, arith, ℕ}
+use Rattle.std.proofs.Common.{◌≡◌, ◌≤◌, List, ◌∷◌, refl, subst, arith, ℕ}
 use Rattle.c_lexer.specs.declared.token.Token.{Token}
 use Rattle.c_lexer.specs.declared.keyword.TheConstants.{CHAR, CONST, ENUM, INT, SIGNED, STRUCT, UNSIGNED, VOID}
 use Rattle.c_syntax.specs.Tree.{Spec}
@@ -9,11 +9,11 @@ use Rattle.c_syntax.proofs.Ranks.{words_apart, heads}
 use Rattle.c_syntax.proofs.Ends.{start, started_word, EndsSpec}
 use Rattle.c_syntax.proofs.Twins.{On}
 use Rattle.c_syntax.proofs.FrameSpecifiers.{consts_on}
-use Rattle.c_parser_refusals.specs.Fails.{Fails, Meets, Then, then, Or, first, second, one, NotAt}
-use Rattle.c_parser_refusals.specs.Phrases.{ASpec, Word}
+use Rattle.c_parser_refusals.specs.Fails.{Fails, Meets, then, Or, first, second, one, NotAt}
+use Rattle.c_parser_refusals.specs.Phrases.{ASpec}
 use Rattle.c_parser_refusals.specs.Operands.{IsSomeName}
 use Rattle.c_parser_refusals.specs.Specs.{AConsts, are_consts, NoSpec, no_spec, SpecEnd, SignedTail, UnsignedTail, TagTail, NoTypeWord}
-use Rattle.c_parser_refusals.proofs.Combine.{Fixes, fails_here, fails_as, fails_later, fails_under, fails_missing, not_at_alike}
+use Rattle.c_parser_refusals.proofs.Combine.{Fixes, fails_both, fails_not_or, fails_or_not, fails_after, other_token, at_same, fails_here, fails_as, fails_later, fails_under, fails_missing, not_at_alike}
 use Rattle.c_parser_refusals.proofs.Fixed.{start_alike}
 
 -- const words end in one place
@@ -35,8 +35,8 @@ consts_fixes = record { moves = λ i j a k m. moved m a; once = λ i j k a e. sa
 
 -- another word than const stands first, or nothing that specifiers go on with
 
-pub other_word : {w : ℕ} {t : Token} {j : List Token} → IsKeyword w t → (w ≡ CONST → ⊥) → NotAt (IsKeyword CONST) (t ∷ j)
-other_word h f = λ u k q c. f (words_apart h (subst (IsKeyword CONST) (sym (heads q).0) c))
+pub other_word : {w v : ℕ} {t : Token} {j : List Token} → IsKeyword w t → (w ≡ v → ⊥) → NotAt (IsKeyword v) (t ∷ j)
+other_word {w} h f = other_token {P = IsKeyword w} h (λ u x y. f (words_apart x y))
 
 pub ends_no_const : {i : List Token} → EndsSpec i → NotAt (IsKeyword CONST) i
 ends_no_const s = λ t j q h. starts_low q s h
@@ -67,57 +67,55 @@ first_word (a_const k c) h f = absurd (f (words_apart h k))
 stands_first : {t u : Token} {w v : ℕ} {i j : List Token} → Consts (t ∷ i) (u ∷ j) → IsKeyword w t → (w ≡ CONST → ⊥) → IsKeyword v u → w ≡ v
 stands_first {v = v} c h f k = words_apart h (subst (IsKeyword v) (heads (first_word c h f)).0 k)
 
+-- it stands behind each const
+leading : {s : Spec} {i j : List Token} (r : ReadsSpec s i j) → (t : Token) × (k : List Token) × Consts i (t ∷ k) × IsKeyword (word_of r) t
+leading (is_void c w a) = (_, _, c, w)
+leading (is_char c w a) = (_, _, c, w)
+leading (is_unsigned_char c w a v b) = (_, _, c, w)
+leading (is_int c w a) = (_, _, c, w)
+leading (is_signed c w a) = (_, _, c, w)
+leading (is_signed_int c w a v b) = (_, _, c, w)
+leading (is_unsigned c w a) = (_, _, c, w)
+leading (is_unsigned_int c w a v b) = (_, _, c, w)
+leading (is_struct c w n a) = (_, _, c, w)
+leading (is_enum c w n a) = (_, _, c, w)
+
 -- the word that stands first is that of the specifiers
 decided : {w : ℕ} {s : Spec} {t : Token} {i j : List Token} → IsKeyword w t → (w ≡ CONST → ⊥) → (r : ReadsSpec s (t ∷ i) j) → w ≡ word_of r
-decided h f (is_void c w a) = stands_first c h f w
-decided h f (is_char c w a) = stands_first c h f w
-decided h f (is_unsigned_char c w a v b) = stands_first c h f w
-decided h f (is_int c w a) = stands_first c h f w
-decided h f (is_signed c w a) = stands_first c h f w
-decided h f (is_signed_int c w a v b) = stands_first c h f w
-decided h f (is_unsigned c w a) = stands_first c h f w
-decided h f (is_unsigned_int c w a v b) = stands_first c h f w
-decided h f (is_struct c w n a) = stands_first c h f w
-decided h f (is_enum c w n a) = stands_first c h f w
-
-moved_consts : {i j k : List Token} → i ≡ j → Consts i k → Consts j k
-moved_consts {k = k} q c = subst (λ z. Consts z k) q c
+decided h f r = let v = leading r in stands_first v.2 h f v.3
 
 void_reads : {s : Spec} {t : Token} {i j : List Token} → IsKeyword VOID t → ReadsSpec s (t ∷ i) j → EndsSpec j → SpecEnd i j
-void_reads h (is_void c w a) e = end_reads (moved_consts (heads (first_word c h (λ q. omega arith))).1 a) e
+void_reads h (is_void c w a) e = end_reads (at_same Consts _ (heads (first_word c h (λ q. omega arith))).1 a) e
 void_reads h r e = absurd (omega (arith, decided h (λ q. omega arith) r))
 
 char_reads : {s : Spec} {t : Token} {i j : List Token} → IsKeyword CHAR t → ReadsSpec s (t ∷ i) j → EndsSpec j → SpecEnd i j
-char_reads h (is_char c w a) e = end_reads (moved_consts (heads (first_word c h (λ q. omega arith))).1 a) e
+char_reads h (is_char c w a) e = end_reads (at_same Consts _ (heads (first_word c h (λ q. omega arith))).1 a) e
 char_reads h r e = absurd (omega (arith, decided h (λ q. omega arith) r))
 
 int_reads : {s : Spec} {t : Token} {i j : List Token} → IsKeyword INT t → ReadsSpec s (t ∷ i) j → EndsSpec j → SpecEnd i j
-int_reads h (is_int c w a) e = end_reads (moved_consts (heads (first_word c h (λ q. omega arith))).1 a) e
+int_reads h (is_int c w a) e = end_reads (at_same Consts _ (heads (first_word c h (λ q. omega arith))).1 a) e
 int_reads h r e = absurd (omega (arith, decided h (λ q. omega arith) r))
 
 signed_reads : {s : Spec} {t : Token} {i j : List Token} → IsKeyword SIGNED t → ReadsSpec s (t ∷ i) j → EndsSpec j → SignedTail i j
-signed_reads h (is_signed c w a) e = then (are_consts (moved_consts (heads (first_word c h (λ q. omega arith))).1 a) (ends_no_const e)) (first (no_spec e))
+signed_reads h (is_signed c w a) e = then (are_consts (at_same Consts _ (heads (first_word c h (λ q. omega arith))).1 a) (ends_no_const e)) (first (no_spec e))
 signed_reads h (is_signed_int c w a v b) e =
-    then (are_consts (moved_consts (heads (first_word c h (λ q. omega arith))).1 a) (other_word v (λ q. omega arith))) (second (then (one v) (end_reads b e)))
+    then (are_consts (at_same Consts _ (heads (first_word c h (λ q. omega arith))).1 a) (other_word v (λ q. omega arith))) (second (then (one v) (end_reads b e)))
 signed_reads h r e = absurd (omega (arith, decided h (λ q. omega arith) r))
 
 unsigned_reads : {s : Spec} {t : Token} {i j : List Token} → IsKeyword UNSIGNED t → ReadsSpec s (t ∷ i) j → EndsSpec j → UnsignedTail i j
-unsigned_reads h (is_unsigned c w a) e = then (are_consts (moved_consts (heads (first_word c h (λ q. omega arith))).1 a) (ends_no_const e)) (first (no_spec e))
+unsigned_reads h (is_unsigned c w a) e = then (are_consts (at_same Consts _ (heads (first_word c h (λ q. omega arith))).1 a) (ends_no_const e)) (first (no_spec e))
 unsigned_reads h (is_unsigned_int c w a v b) e =
-    then (are_consts (moved_consts (heads (first_word c h (λ q. omega arith))).1 a) (other_word v (λ q. omega arith))) (second (first (then (one v) (end_reads b e))))
+    then (are_consts (at_same Consts _ (heads (first_word c h (λ q. omega arith))).1 a) (other_word v (λ q. omega arith))) (second (first (then (one v) (end_reads b e))))
 unsigned_reads h (is_unsigned_char c w a v b) e =
-    then (are_consts (moved_consts (heads (first_word c h (λ q. omega arith))).1 a) (other_word v (λ q. omega arith))) (second (second (then (one v) (end_reads b e))))
+    then (are_consts (at_same Consts _ (heads (first_word c h (λ q. omega arith))).1 a) (other_word v (λ q. omega arith))) (second (second (then (one v) (end_reads b e))))
 unsigned_reads h r e = absurd (omega (arith, decided h (λ q. omega arith) r))
 
-tail_at : {i j k : List Token} → i ≡ j → TagTail i k → TagTail j k
-tail_at {k = k} q a = subst (λ z. TagTail z k) q a
-
 pub struct_tail : {s : Spec} {t : Token} {i j : List Token} → IsKeyword STRUCT t → ReadsSpec s (t ∷ i) j → EndsSpec j → TagTail i j
-struct_tail h (is_struct c w n a) e = tail_at (heads (first_word c h (λ q. omega arith))).1 (then (one (record { ident = _; names = n })) (end_reads a e))
+struct_tail h (is_struct c w n a) e = at_same TagTail _ (heads (first_word c h (λ q. omega arith))).1 (then (one (record { ident = _; names = n })) (end_reads a e))
 struct_tail h r e = absurd (omega (arith, decided h (λ q. omega arith) r))
 
 pub enum_tail : {s : Spec} {t : Token} {i j : List Token} → IsKeyword ENUM t → ReadsSpec s (t ∷ i) j → EndsSpec j → TagTail i j
-enum_tail h (is_enum c w n a) e = tail_at (heads (first_word c h (λ q. omega arith))).1 (then (one (record { ident = _; names = n })) (end_reads a e))
+enum_tail h (is_enum c w n a) e = at_same TagTail _ (heads (first_word c h (λ q. omega arith))).1 (then (one (record { ident = _; names = n })) (end_reads a e))
 enum_tail h r e = absurd (omega (arith, decided h (λ q. omega arith) r))
 
 -- behind const the same specifiers stand
@@ -169,58 +167,39 @@ enum_fails h f = fails_under (λ k j a. enum_tail h a.reads a.ends) f
 run_ends : {i j : List Token} → AConsts i j → NotAt (IsKeyword CONST) j
 run_ends (are_consts c f) = f
 
-no_run : {j : List Token} → NotAt (IsKeyword CONST) j → NoSpec j j → SpecEnd j j
-no_run f n = then (are_consts no_const f) n
+no_run : {j k : List Token} → NotAt (IsKeyword CONST) j → NoSpec j k → SpecEnd j k
+no_run f (no_spec s) = then (are_consts no_const f) (no_spec s)
 
-bare_fails : {X : List Token → List Token → Type 0} {j r : List Token} → NotAt (IsKeyword CONST) j → ((k l : List Token) → Meets j k → X k l → ⊥) → Fails SpecEnd j r → Fails (Or NoSpec X) j r
-bare_fails {X = X} f g e = fails_as (λ k l m a. only (not_at_alike m f) (g k l m) a) e
-  where
-    only : {k l : List Token} → NotAt (IsKeyword CONST) k → (X k l → ⊥) → Or NoSpec X k l → SpecEnd k l
-    only f g (first (no_spec s)) = no_run f (no_spec s)
-    only f g (second x) = absurd (g x)
-
-no_word_at : {w : ℕ} {B : List Token → List Token → Type 0} {j k l : List Token} → NotAt (IsKeyword w) j → Meets j k → Then (Word w) B k l → ⊥
-no_word_at f m (then (one h) b) = not_at_alike m f _ _ refl h
-
-pub signed_bare : {i j r : List Token} → AConsts i j → NotAt (IsKeyword INT) j → Fails SpecEnd j r → Fails SignedTail i r
-signed_bare a f e = fails_later consts_fixes a (bare_fails (run_ends a) (λ k l m x. no_word_at f m x) e)
-
-two_apart : {j k l : List Token} → NotAt (IsKeyword INT) j → NotAt (IsKeyword CHAR) j → Meets j k → Or (Then (Word INT) SpecEnd) (Then (Word CHAR) SpecEnd) k l → ⊥
-two_apart f g m (first x) = no_word_at f m x
-two_apart f g m (second x) = no_word_at g m x
-
-pub unsigned_bare : {i j r : List Token} → AConsts i j → NotAt (IsKeyword INT) j → NotAt (IsKeyword CHAR) j → Fails SpecEnd j r → Fails UnsignedTail i r
-unsigned_bare a f g e = fails_later consts_fixes a (bare_fails (run_ends a) (λ k l m x. two_apart f g m x) e)
-
-int_goes : {t : Token} {j l : List Token} → IsKeyword INT t → Or NoSpec (Then (Word INT) SpecEnd) (t ∷ j) l → SpecEnd j l
-int_goes h (first (no_spec s)) = absurd (omega (arith, started_word h))
-int_goes h (second (then (one v) b)) = b
-
-pub signed_int : {t : Token} {i j r : List Token} → AConsts i (t ∷ j) → IsKeyword INT t → Fails SpecEnd j r → Fails SignedTail i r
-signed_int a h f = fails_later consts_fixes a (fails_under (λ k l x. int_goes h x) f)
-
-int_of_two : {t : Token} {j l : List Token} → IsKeyword INT t → Or NoSpec (Or (Then (Word INT) SpecEnd) (Then (Word CHAR) SpecEnd)) (t ∷ j) l → SpecEnd j l
-int_of_two h (first (no_spec s)) = absurd (omega (arith, started_word h))
-int_of_two h (second (first (then (one v) b))) = b
-int_of_two h (second (second (then (one v) b))) = absurd (omega (arith, words_apart h v))
-
-char_of_two : {t : Token} {j l : List Token} → IsKeyword CHAR t → Or NoSpec (Or (Then (Word INT) SpecEnd) (Then (Word CHAR) SpecEnd)) (t ∷ j) l → SpecEnd j l
-char_of_two h (first (no_spec s)) = absurd (omega (arith, started_word h))
-char_of_two h (second (first (then (one v) b))) = absurd (omega (arith, words_apart h v))
-char_of_two h (second (second (then (one v) b))) = b
-
-pub unsigned_int_fails : {t : Token} {i j r : List Token} → AConsts i (t ∷ j) → IsKeyword INT t → Fails SpecEnd j r → Fails UnsignedTail i r
-unsigned_int_fails a h f = fails_later consts_fixes a (fails_under (λ k l x. int_of_two h x) f)
-
-pub unsigned_char_fails : {t : Token} {i j r : List Token} → AConsts i (t ∷ j) → IsKeyword CHAR t → Fails SpecEnd j r → Fails UnsignedTail i r
-unsigned_char_fails a h f = fails_later consts_fixes a (fails_under (λ k l x. char_of_two h x) f)
-
--- a word stands where specifiers end
-pub end_fails : {i j : List Token} → AConsts i j → 7 ≤ start j → Fails SpecEnd i j
-end_fails {j = j} a l = fails_later consts_fixes a (fails_here (λ s m k x. none m l x))
+-- a word stands that specifiers go on with
+goes_on : (j : List Token) → 7 ≤ start j → Fails NoSpec j j
+goes_on j l = fails_here (λ s m k x. none m l x)
   where
     none : {j s k : List Token} → Meets j s → 7 ≤ start j → NoSpec s k → ⊥
     none m l (no_spec s) = omega (arith, start_alike m)
+
+bare_fails : {X : List Token → List Token → Type 0} {j r : List Token} → NotAt (IsKeyword CONST) j → Fails X j j → Fails SpecEnd j r → Fails (Or NoSpec X) j r
+bare_fails f x e = fails_or_not (fails_as (λ k l m n. no_run (not_at_alike m f) n) e) x
+
+pub signed_bare : {i j r : List Token} → AConsts i j → NotAt (IsKeyword INT) j → Fails SpecEnd j r → Fails SignedTail i r
+signed_bare a f e = fails_later consts_fixes a (bare_fails (run_ends a) (fails_missing _ f) e)
+
+pub unsigned_bare : {i j r : List Token} → AConsts i j → NotAt (IsKeyword INT) j → NotAt (IsKeyword CHAR) j → Fails SpecEnd j r → Fails UnsignedTail i r
+unsigned_bare a f g e = fails_later consts_fixes a (bare_fails (run_ends a) (fails_both (fails_missing _ f) (fails_missing _ g)) e)
+
+pub signed_int : {t : Token} {i j r : List Token} → AConsts i (t ∷ j) → IsKeyword INT t → Fails SpecEnd j r → Fails SignedTail i r
+signed_int a h f = fails_later consts_fixes a (fails_not_or (goes_on _ (omega (arith, started_word h))) (fails_after f))
+
+pub unsigned_int_fails : {t : Token} {i j r : List Token} → AConsts i (t ∷ j) → IsKeyword INT t → Fails SpecEnd j r → Fails UnsignedTail i r
+unsigned_int_fails a h f =
+    fails_later consts_fixes a (fails_not_or (goes_on _ (omega (arith, started_word h))) (fails_or_not (fails_after f) (fails_missing _ (other_word h (λ q. omega arith)))))
+
+pub unsigned_char_fails : {t : Token} {i j r : List Token} → AConsts i (t ∷ j) → IsKeyword CHAR t → Fails SpecEnd j r → Fails UnsignedTail i r
+unsigned_char_fails a h f =
+    fails_later consts_fixes a (fails_not_or (goes_on _ (omega (arith, started_word h))) (fails_not_or (fails_missing _ (other_word h (λ q. omega arith))) (fails_after f)))
+
+-- a word stands where specifiers end
+pub end_fails : {i j : List Token} → AConsts i j → 7 ≤ start j → Fails SpecEnd i j
+end_fails a l = fails_later consts_fixes a (goes_on _ l)
 
 -- no name follows `struct` or `enum`
 pub no_tag_follows : (i : List Token) → NotAt IsSomeName i → Fails TagTail i i
@@ -231,17 +210,12 @@ word_at : {w : ℕ} {t : Token} {s j : List Token} → NotAt (IsKeyword CONST) s
 word_at f g no_const h = g _ _ refl h
 word_at f g (a_const o c) h = f _ _ refl o
 
+no_such_word : {s : Spec} {i k j : List Token} → NoTypeWord i → (r : ReadsSpec s k j) → NotAt (IsKeyword (word_of r)) i
+no_such_word n (is_void c w a) = n.no_void
+no_such_word n r = assumption n
+
 no_word_read : {s : Spec} {i k j : List Token} → Meets i k → NoTypeWord i → ReadsSpec s k j → ⊥
-no_word_read m n (is_void c w a) = word_at (not_at_alike m n.no_const) (not_at_alike m n.no_void) c w
-no_word_read m n (is_char c w a) = word_at (not_at_alike m n.no_const) (not_at_alike m n.no_char) c w
-no_word_read m n (is_unsigned_char c w a v b) = word_at (not_at_alike m n.no_const) (not_at_alike m n.no_unsigned) c w
-no_word_read m n (is_int c w a) = word_at (not_at_alike m n.no_const) (not_at_alike m n.no_int) c w
-no_word_read m n (is_signed c w a) = word_at (not_at_alike m n.no_const) (not_at_alike m n.no_signed) c w
-no_word_read m n (is_signed_int c w a v b) = word_at (not_at_alike m n.no_const) (not_at_alike m n.no_signed) c w
-no_word_read m n (is_unsigned c w a) = word_at (not_at_alike m n.no_const) (not_at_alike m n.no_unsigned) c w
-no_word_read m n (is_unsigned_int c w a v b) = word_at (not_at_alike m n.no_const) (not_at_alike m n.no_unsigned) c w
-no_word_read m n (is_struct c w k a) = word_at (not_at_alike m n.no_const) (not_at_alike m n.no_struct) c w
-no_word_read m n (is_enum c w k a) = word_at (not_at_alike m n.no_const) (not_at_alike m n.no_enum) c w
+no_word_read m n r = let v = leading r in word_at (not_at_alike m n.no_const) (not_at_alike m (no_such_word n r)) v.2 v.3
 
 pub no_words : (i : List Token) → NoTypeWord i → Fails ASpec i i
 no_words i n = fails_here (λ s m j a. no_word_read m n a.reads)

@@ -1,7 +1,7 @@
 -- Where statements open past the limits (C99 6.8).
 use Rattle.std.proofs.Common.{inl, inr, ◌≤◌, suc, List, ◌∷◌, refl, arith, ℕ}
 use Rattle.c_lexer.specs.declared.token.Token.{Token}
-use Rattle.c_lexer.specs.declared.punctuator.TheConstants.{LEFT_PARENTHESIS, RIGHT_PARENTHESIS, LEFT_BRACE, RIGHT_BRACE, SEMICOLON}
+use Rattle.c_lexer.specs.declared.punctuator.TheConstants.{LEFT_PARENTHESIS, LEFT_BRACE, SEMICOLON}
 use Rattle.c_lexer.specs.declared.keyword.TheConstants.{FOR, IF, RETURN, SWITCH, WHILE}
 use Rattle.c_syntax.specs.Tree.{Decl, absent, there, first_absent, Stmt, block, empty, evaluate, only_if, while_loop, for_loop, switch_on, return_from, no_block_items, block_decl, block_stmt, no_groups}
 use Rattle.c_syntax.specs.Tokens.{Is, IsKeyword}
@@ -10,14 +10,14 @@ use Rattle.c_syntax.specs.Statements.{ReadsDecl, IsPlainDecl, no_expression_stan
 use Rattle.c_syntax.specs.Statements.{ReadsStmt, a_block, an_empty, an_evaluation, an_if, a_while, a_for, a_switch, a_return, no_block_item, a_block_decl, a_block_stmt, no_group}
 use Rattle.c_syntax.proofs.FrameStatements.{stmt_on, decl_on}
 use Rattle.c_syntax.proofs.MorePairsOfUnits.{wide_stmt, wide_decl}
-use Rattle.c_parser_refusals.specs.Fails.{Then, then, One, one}
 use Rattle.c_parser_refusals.specs.Nodes.{stmt_here, in_block, in_evaluation, in_if_test, in_while_test, in_switch_test, in_return, in_there, in_block_decl, after_block_decl, in_block_stmt, after_block_stmt, expr_here}
 use Rattle.c_parser_refusals.specs.Opens.{Opens, DeepExpr, DeepDecl, DeepStmt, DeepBlock}
-use Rattle.c_parser_refusals.proofs.Opening.{opens_as, opens_under, opens_first, opens_later, opens_here, closed_by, filled_then}
+use Rattle.c_parser_refusals.proofs.Opening.{opens_as, opens_here, opens_past, opens_before, opens_token}
 use Rattle.c_parser_refusals.proofs.Fills.{name_token, punctuator, name_reads}
 use Rattle.c_parser_refusals.proofs.ExprOpens.{either}
-use Rattle.c_parser_refusals.proofs.BodyOpens.{no_statement, open_paren, close_brace, semicolon}
+use Rattle.c_parser_refusals.proofs.BodyOpens.{open_paren, close_brace, semicolon}
 use Rattle.c_parser_refusals.proofs.ExprOpens.{close_paren}
+use Rattle.c_parser_refusals.proofs.Fixed.{placeless}
 
 -- a statement for which no node is left
 
@@ -73,47 +73,36 @@ switch_is_deep {at} h = opens_here (λ m. record {
 
 -- the parts of a statement
 
--- a condition in parentheses, and then a statement
-Conditioned : (at p n : ℕ) → List Token → List Token → Type 0
-Conditioned at p n = Then (One (Is LEFT_PARENTHESIS)) (Then (DeepExpr at p n expression_level) (Then (One (Is RIGHT_PARENTHESIS)) (ReadsStmt (suc p) (empty 0))))
-
-condition_opens : {at p n : ℕ} {o : Token} {i r : List Token} → Is LEFT_PARENTHESIS o → Opens (DeepExpr at p n expression_level) i r → Opens (Conditioned at p n) (o ∷ i) r
-unfolding Conditioned
-condition_opens h o = opens_under (λ k m v. then (one h) v) (opens_first (filled_then (closed_by {P = Is RIGHT_PARENTHESIS} close_paren (record { kind = refl })) no_statement) o)
-
 pub if_test_opens : {at p n : ℕ} {t o : Token} {i r : List Token} → IsKeyword IF t → Is LEFT_PARENTHESIS o → Opens (DeepExpr at p n expression_level) i r → Opens (DeepStmt at p (suc n)) (t ∷ o ∷ i) r
-unfolding Conditioned
-if_test_opens {at} {p} {n} w h x = opens_under (λ k m v. whole w v) (condition_opens h x)
-  where
-    whole : {t : Token} {k m : List Token} → IsKeyword IF t → Conditioned at p n k m → DeepStmt at p (suc n) (t ∷ k) m
-    whole w (then (one o) (then e (then (one c) s))) = record { tree = only_if _ e.tree _; reads = an_if w o e.reads c s; deep = either in_if_test (λ y. inl y) e.deep }
+if_test_opens w h x =
+    opens_token (opens_token (opens_before x (λ m. record {
+      tokens = close_paren ∷ semicolon ∷ m;
+      reads = λ k e. record { tree = only_if _ e.tree _; reads = an_if w h e.reads (record { kind = refl }) (an_empty (record { kind = refl })); deep = either in_if_test (λ y. inl y) e.deep };
+    })))
 
 pub while_test_opens : {at p n : ℕ} {t o : Token} {i r : List Token} → IsKeyword WHILE t → Is LEFT_PARENTHESIS o → Opens (DeepExpr at p n expression_level) i r → Opens (DeepStmt at p (suc n)) (t ∷ o ∷ i) r
-unfolding Conditioned
-while_test_opens {at} {p} {n} w h x = opens_under (λ k m v. whole w v) (condition_opens h x)
-  where
-    whole : {t : Token} {k m : List Token} → IsKeyword WHILE t → Conditioned at p n k m → DeepStmt at p (suc n) (t ∷ k) m
-    whole w (then (one o) (then e (then (one c) s))) = record { tree = while_loop _ e.tree _; reads = a_while w o e.reads c s; deep = either in_while_test (λ y. inl y) e.deep }
+while_test_opens w h x =
+    opens_token (opens_token (opens_before x (λ m. record {
+      tokens = close_paren ∷ semicolon ∷ m;
+      reads = λ k e. record { tree = while_loop _ e.tree _; reads = a_while w h e.reads (record { kind = refl }) (an_empty (record { kind = refl })); deep = either in_while_test (λ y. inl y) e.deep };
+    })))
 
 pub evaluation_opens : {at p n : ℕ} {i r : List Token} → Opens (DeepExpr at p n expression_level) i r → Opens (DeepStmt at p (suc n)) i r
-evaluation_opens {at} {p} {n} o = opens_as (λ k m v. whole v) (opens_first (closed_by {P = Is SEMICOLON} semicolon (record { kind = refl })) o)
-  where
-    whole : {k m : List Token} → Then (DeepExpr at p n expression_level) (One (Is SEMICOLON)) k m → DeepStmt at p (suc n) k m
-    whole (then e (one c)) = record { tree = evaluate _ e.tree; reads = an_evaluation refl e.reads c; deep = either in_evaluation (λ y. y) e.deep }
+evaluation_opens o =
+    opens_before o (λ m. record { tokens = semicolon ∷ m; reads = λ k e. record { tree = evaluate _ e.tree; reads = an_evaluation refl e.reads (record { kind = refl }); deep = either in_evaluation (λ y. y) e.deep } })
 
 pub return_opens : {at p n : ℕ} {t : Token} {i r : List Token} → IsKeyword RETURN t → Opens (DeepExpr at p n expression_level) i r → Opens (DeepStmt at p (suc n)) (t ∷ i) r
-return_opens {at} {p} {n} w o = opens_under (λ k m v. whole w v) (opens_first (closed_by {P = Is SEMICOLON} semicolon (record { kind = refl })) o)
-  where
-    whole : {t : Token} {k m : List Token} → IsKeyword RETURN t → Then (DeepExpr at p n expression_level) (One (Is SEMICOLON)) k m → DeepStmt at p (suc n) (t ∷ k) m
-    whole w (then e (one c)) = record { tree = return_from _ (there e.tree); reads = a_return w (an_expression_stands e.reads) c; deep = either (λ x. in_return (in_there x)) (λ y. y) e.deep }
+return_opens w o =
+    opens_token (opens_before o (λ m. record {
+      tokens = semicolon ∷ m;
+      reads = λ k e. record { tree = return_from _ (there e.tree); reads = a_return w (an_expression_stands e.reads) (record { kind = refl }); deep = either (λ x. in_return (in_there x)) (λ y. y) e.deep };
+    }))
 
 -- blocks
 
 pub block_opens : {at p n : ℕ} {t : Token} {i r : List Token} → Is LEFT_BRACE t → Opens (DeepBlock at p n) i r → Opens (DeepStmt at p (suc n)) (t ∷ i) r
-block_opens {at} {p} {n} h o = opens_under (λ k m v. whole h v) (opens_first (closed_by {P = Is RIGHT_BRACE} close_brace (record { kind = refl })) o)
-  where
-    whole : {t : Token} {k m : List Token} → Is LEFT_BRACE t → Then (DeepBlock at p n) (One (Is RIGHT_BRACE)) k m → DeepStmt at p (suc n) (t ∷ k) m
-    whole h (then a (one c)) = record { tree = block _ a.trees; reads = a_block h a.reads c; deep = either in_block (λ y. y) a.deep }
+block_opens h o =
+    opens_token (opens_before o (λ m. record { tokens = close_brace ∷ m; reads = λ k a. record { tree = block _ a.trees; reads = a_block h a.reads (record { kind = refl }); deep = either in_block (λ y. y) a.deep } }))
 
 pub item_stmt_opens : {at p n : ℕ} {i r : List Token} → Opens (DeepStmt at p n) i r → Opens (DeepBlock at p n) i r
 item_stmt_opens o = opens_as (λ k m a. record { trees = block_stmt a.tree no_block_items; reads = a_block_stmt a.reads no_block_item; deep = either in_block_stmt (λ y. inl y) a.deep }) o
@@ -122,13 +111,9 @@ pub item_decl_opens : {at p n : ℕ} {i r : List Token} → Opens (DeepDecl at p
 item_decl_opens o = opens_as (λ k m a. record { trees = block_decl a.tree no_block_items; reads = a_block_decl a.reads a.plain no_block_item; deep = either in_block_decl (λ y. inl y) a.deep }) o
 
 pub after_stmt_opens : {at p n d : ℕ} {s : Stmt} {i j r : List Token} → d ≤ suc p → ReadsStmt d s i j → Opens (DeepBlock at p n) j r → Opens (DeepBlock at p n) i r
-after_stmt_opens {at} {p} {n} {s = s} g w o = opens_as (λ k m v. whole v) (opens_later (stmt_on (wide_stmt w g)) o)
-  where
-    whole : {k m : List Token} → Then (ReadsStmt (suc p) s) (DeepBlock at p n) k m → DeepBlock at p n k m
-    whole (then b c) = record { trees = block_stmt s c.trees; reads = a_block_stmt b c.reads; deep = either after_block_stmt (λ y. inr y) c.deep }
+after_stmt_opens {s = s} g w o =
+    opens_past (stmt_on (wide_stmt w g)) (opens_as (λ k m c l b. record { trees = block_stmt s c.trees; reads = a_block_stmt b c.reads; deep = either after_block_stmt (λ y. inr y) c.deep }) o)
 
 pub after_decl_opens : {at p n d : ℕ} {x : Decl} {i j r : List Token} → d ≤ suc p → IsPlainDecl x → ReadsDecl d x i j → Opens (DeepBlock at p n) j r → Opens (DeepBlock at p n) i r
-after_decl_opens {at} {p} {n} {x = x} g q w o = opens_as (λ k m v. whole v) (opens_later (λ k. let y = decl_on (wide_decl w g) k in record { tokens = y.tokens; twin = y.twin; reads = y.reads }) o)
-  where
-    whole : {k m : List Token} → Then (ReadsDecl (suc p) x) (DeepBlock at p n) k m → DeepBlock at p n k m
-    whole (then b c) = record { trees = block_decl x c.trees; reads = a_block_decl b q c.reads; deep = either after_block_decl (λ y. inr y) c.deep }
+after_decl_opens {x = x} g q w o =
+    opens_past (placeless (decl_on (wide_decl w g))) (opens_as (λ k m c l b. record { trees = block_decl x c.trees; reads = a_block_decl b q c.reads; deep = either after_block_decl (λ y. inr y) c.deep }) o)

@@ -15,10 +15,10 @@ use Rattle.c_syntax.proofs.Begins.{list_begins}
 use Rattle.c_syntax.proofs.FrameGrammar.{reads_on, suffixes_on}
 use Rattle.c_syntax.proofs.OneOperand.{suffix_stops}
 use Rattle.c_syntax.proofs.One.{same, only_list}
-use Rattle.c_parser_refusals.specs.Fails.{Meets, Fails, Then, then, Or, first, second, one, NotAt}
+use Rattle.c_parser_refusals.specs.Fails.{Meets, Fails, Then, then, Or, first, second, NotAt}
 use Rattle.c_parser_refusals.specs.Phrases.{Bound, within, inner, AnExpr, Punctuator}
 use Rattle.c_parser_refusals.specs.Operands.{SomeExprs, SomeSuffixes, SomeArguments, Postfixed}
-use Rattle.c_parser_refusals.proofs.Combine.{fails_here, fails_second, fails_under_begun, fails_beside, fails_past, not_at_alike, twin_alike, Begins}
+use Rattle.c_parser_refusals.proofs.Combine.{fails_here, fails_not_or, missing, fails_under_begun, fails_beside, fails_past, twin_alike, Begins}
 use Rattle.c_parser_refusals.proofs.Fixed.{rank_alike, stops_alike}
 use Rattle.c_parser_refusals.proofs.ExprForms.{suffixes_rise, call_form}
 use Rattle.c_parser_refusals.proofs.PrefixFails.{fits_low}
@@ -126,12 +126,9 @@ postfixed_too_high {p} {n} {d} {e} a q g =
 
 -- the arguments of a call
 
-no_end_at : {j k l : List Token} → NotAt (Is RIGHT_PARENTHESIS) j → Meets j k → Punctuator RIGHT_PARENTHESIS k l → ⊥
-no_end_at f m (one h) = not_at_alike m f _ _ refl h
-
 -- where no parenthesis ends them
 pub arguments_fail : {b : Bound} {i r : List Token} → NotAt (Is RIGHT_PARENTHESIS) i → Fails (Then (SomeExprs b) (Punctuator RIGHT_PARENTHESIS)) i r → Fails (SomeArguments b) i r
-arguments_fail n f = fails_second (λ k j m a. no_end_at n m a) f
+arguments_fail n f = fails_not_or (missing _ n) f
 
 call_begins : {b : Bound} {t : Token} {i j : List Token} → Is LEFT_PARENTHESIS t → SomeSuffixes b (t ∷ i) j → Begins (SomeArguments (inner b)) i
 call_begins {b} h a = parts (call_form b h a)

@@ -6,23 +6,18 @@ use Rattle.c_syntax.specs.Tree.{Expr, conditional}
 use Rattle.c_syntax.specs.Tokens.{Is, IsChar, place}
 use Rattle.c_syntax.specs.Grammar.{primary_level, binary_level, conditional_level, expression_level, Reads, is_char, a_choice}
 use Rattle.c_syntax.proofs.MorePairs.{wide}
-use Rattle.c_parser_refusals.specs.Fails.{Then, then, One, one}
 use Rattle.c_parser_refusals.specs.Nodes.{expr_here, in_no}
 use Rattle.c_parser_refusals.specs.Opens.{Opens, DeepExpr}
-use Rattle.c_parser_refusals.proofs.Opening.{opens_as, opens_under, opens_later, opens_here}
+use Rattle.c_parser_refusals.proofs.Opening.{opens_under, opens_here, opens_past, opens_token}
 use Rattle.c_parser_refusals.proofs.Fixed.{expr_on}
 use Rattle.c_parser_refusals.proofs.ExprOpens.{either}
-use Rattle.c_parser_refusals.proofs.ExprOpens.{placed_on, Placed}
+use Rattle.c_parser_refusals.proofs.ExprOpens.{placed_on}
 
 pub char_too_deep : {p : ℕ} {c : ℤ} {t : Token} {i : List Token} → IsChar c t → Opens (DeepExpr t.from p 0 primary_level) (t ∷ i) (t ∷ i)
 char_too_deep h = opens_here (λ m. record { tokens = m; reads = record { tree = _; reads = is_char h; deep = inl (expr_here refl) } })
 
 -- the third part of a conditional expression
 pub no_opens : {at p n d : ℕ} {a b : Expr} {t u : Token} {i j k r : List Token} → d ≤ suc p → Is QUESTION t → Reads d (binary_level 10) a i (t ∷ j) → Reads d expression_level b j (u ∷ k) → Is COLON u → Opens (DeepExpr at p n conditional_level) k r → Opens (DeepExpr at p (suc n) conditional_level) i r
-no_opens {at} {p} {n} {a = a} {b = b} {i = i} g h w x c o =
-    opens_as (λ k m v. whole v)
-    (opens_later (placed_on w g) (opens_under {B = Then (One (Is QUESTION)) (Then (Reads (suc p) expression_level b) (Then (One (Is COLON)) (DeepExpr at p n conditional_level)))} (λ k m v. then (one h) v)
-    (opens_later (expr_on (wide x g)) (opens_under {B = Then (One (Is COLON)) (DeepExpr at p n conditional_level)} (λ k m v. then (one c) v) o))))
-  where
-    whole : {k m : List Token} → Then (Placed (place i) (suc p) (binary_level 10) a) (Then (One (Is QUESTION)) (Then (Reads (suc p) expression_level b) (Then (One (Is COLON)) (DeepExpr at p n conditional_level)))) k m → DeepExpr at p (suc n) conditional_level k m
-    whole (then f (then (one q) (then y (then (one u) z)))) = record { tree = conditional (place i) a b z.tree; reads = a_choice f.begins f.reads q y u z.reads; deep = either in_no (λ v. inr (inr v)) z.deep }
+no_opens {a = a} {b = b} {i = i} g h w x c o =
+    opens_past (placed_on w g) (opens_token (opens_past (expr_on (wide x g))
+    (opens_under (λ k m z l y n f. record { tree = conditional (place i) a b z.tree; reads = a_choice f.begins f.reads h y c z.reads; deep = either in_no (λ v. inr (inr v)) z.deep }) o)))

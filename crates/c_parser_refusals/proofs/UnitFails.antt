@@ -1,6 +1,5 @@
 -- Where units fail at a token, no unit is spelled.
-use Rattle.std.proofs.Common.{◌≡◌, ◌≤◌, List, ◌++◌, refl, sym, ◌∙◌, subst, arith, ℕ, []}
-use Rattle.std.proofs.lemmas.List.{append_cancel_right}
+use Rattle.std.proofs.Common.{◌≡◌, ◌≤◌, List, ◌++◌, refl, ◌∙◌, arith, ℕ, []}
 use Rattle.c_lexer.specs.declared.token.Token.{Token}
 use Rattle.c_syntax.specs.Tree.{Items}
 use Rattle.c_syntax.specs.Statements.{ReadsItems}
@@ -8,16 +7,11 @@ use Rattle.c_syntax.specs.Limits.{height_of_unit}
 use Rattle.c_syntax.specs.Spelling.{SpellsAnyDepth}
 use Rattle.c_parser_refusals.specs.Fails.{Meets, Fails}
 use Rattle.c_parser_refusals.specs.Units.{AUnit}
+use Rattle.c_parser_refusals.proofs.Combine.{none_behind}
 use Rattle.c_parser_refusals.specs.Phrases.{any, within, fits_any, fits_within}
 
 pub none_spelled : (tokens front r : List Token) → Fails (AUnit any) tokens r → tokens ≡ front ++ r → (s : List Token) → Meets r s → (u : Items) → SpellsAnyDepth u (front ++ s) → ⊥
-none_spelled tokens front r f q s m u w =
-    let e : f.front ≡ front = append_cancel_right f.front front r (sym f.is ∙ q) in
-    let none : (j : List Token) → AUnit any (front ++ s) j → ⊥ = subst (λ z. (j : List Token) → AUnit any (z ++ s) j → ⊥) e (f.none s m) in
-    none [] (record { depth = w.0; tree = u; reads = w.1; ends = refl; fits = fits_any })
+none_spelled tokens front r f q s m u w = none_behind front f q s m [] (record { depth = w.0; tree = u; reads = w.1; ends = refl; fits = fits_any })
 
 pub none_within : (p n : ℕ) (tokens front r : List Token) → Fails (AUnit (within p n)) tokens r → tokens ≡ front ++ r → (s : List Token) → Meets r s → (u : Items) → ReadsItems p u (front ++ s) [] → height_of_unit u ≤ n → ⊥
-none_within p n tokens front r f q s m u w h =
-    let e : f.front ≡ front = append_cancel_right f.front front r (sym f.is ∙ q) in
-    let none : (j : List Token) → AUnit (within p n) (front ++ s) j → ⊥ = subst (λ z. (j : List Token) → AUnit (within p n) (z ++ s) j → ⊥) e (f.none s m) in
-    none [] (record { depth = p; tree = u; reads = w; ends = refl; fits = fits_within (omega arith) h })
+none_within p n tokens front r f q s m u w h = none_behind front f q s m [] (record { depth = p; tree = u; reads = w; ends = refl; fits = fits_within (omega arith) h })
