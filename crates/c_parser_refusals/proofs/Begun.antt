@@ -53,14 +53,11 @@ by_unary u (suc (suc (suc (suc (suc (suc (suc (suc (suc (suc n)))))))))) q l g m
     record { tokens = name_token 0 ∷ m; reads = (_, cast_whole (no_cast (a_unary (record { kind = q }) (unary_of _ (omega arith) g) (no_cast (name_unary 0))))) }
 by_unary u code q l g m = absurd (omega (arith, l))
 
-by_parenthesis : {d : ℕ} (u : Token) → u.kind ≡ Punct 2 → (m : List Token) → Filled (Begun d u) m
-by_parenthesis u q m = record {
+by_code : {d : ℕ} (u : Token) (code : ℕ) → u.kind ≡ Punct code → 1 ≤ start_of_code code → start_of_code code ≤ 5 → (m : List Token) → Filled (Begun d u) m
+by_code u (suc (suc zero)) q l g m = record {
   tokens = word INT (omega arith) ∷ punctuator RIGHT_PARENTHESIS (omega arith) ∷ name_token 0 ∷ m;
   reads = (_, cast_whole (a_cast (record { kind = q }) (a_type refl (is_int no_const (record { kind = refl }) no_const) (a_direct refl no_core no_more) tt) (record { kind = refl }) (no_cast (name_unary 0))));
 }
-
-by_code : {d : ℕ} (u : Token) (code : ℕ) → u.kind ≡ Punct code → 1 ≤ start_of_code code → start_of_code code ≤ 5 → (m : List Token) → Filled (Begun d u) m
-by_code u (suc (suc zero)) q l g m = by_parenthesis u q m
 by_code u code q l g m = let v = opening_code code l g (λ e. omega (arith, e)) in by_unary u code q v.0 v.1 m
 
 by_kind : {d : ℕ} (u : Token) (k : TokenKind) → u.kind ≡ k → 1 ≤ start_of_kind k → start_of_kind k ≤ 5 → (m : List Token) → Filled (Begun d u) m

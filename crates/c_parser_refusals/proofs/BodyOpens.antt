@@ -17,10 +17,9 @@ use Rattle.c_parser_refusals.specs.Deep.{DeepLabels, DeepStmts, DeepGroups}
 use Rattle.c_parser_refusals.proofs.Opening.{opens_as, opens_under, opens_here, opens_past, opens_before, opens_token}
 use Rattle.c_parser_refusals.proofs.Fills.{name_token, punctuator, word, name_reads}
 use Rattle.c_parser_refusals.proofs.Fixed.{expr_on}
-use Rattle.c_parser_refusals.proofs.ExprOpens.{either}
+use Rattle.c_parser_refusals.proofs.ExprOpens.{either, colon}
 use Rattle.c_syntax.proofs.Ends.{start_of_kind}
 use Rattle.c_parser_refusals.proofs.Begun.{expression_begins}
-use Rattle.c_parser_refusals.proofs.ExprOpens.{colon}
 pub use Rattle.c_parser_refusals.proofs.ExprOpens.{close_paren}
 
 abbrev pub open_paren : Token

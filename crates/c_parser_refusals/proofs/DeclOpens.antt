@@ -15,8 +15,7 @@ use Rattle.c_parser_refusals.specs.Pairs.{PairInDeclarator, PairInCore, PairInLe
 use Rattle.c_parser_refusals.specs.Opens.{Opens, DeepExpr, DeepType, DeepDeclarator, Builds, Writes, DeepLengthens, Direct}
 use Rattle.c_parser_refusals.proofs.Opening.{opens_as, opens_here, opens_past, opens_before, opens_token}
 use Rattle.c_parser_refusals.proofs.Fills.{word}
-use Rattle.c_parser_refusals.proofs.ExprOpens.{either}
-use Rattle.c_parser_refusals.proofs.ExprOpens.{close_paren}
+use Rattle.c_parser_refusals.proofs.ExprOpens.{either, close_paren}
 pub use Rattle.c_parser_refusals.proofs.ExprOpens.{close_bracket}
 use Rattle.c_parser_refusals.proofs.Fixed.{placeless}
 

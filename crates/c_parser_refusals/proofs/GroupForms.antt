@@ -15,8 +15,7 @@ use Rattle.c_parser_refusals.specs.Phrases.{Bound, Fits, AStmt, SomeLabels, InSw
 use Rattle.c_parser_refusals.specs.Groups.{InGroup, in_group, GroupRest}
 use Rattle.c_parser_refusals.proofs.Combine.{fails_here, fails_or_not, fails_not_or, Fixes, on_as, fails_as, fails_first, fails_later}
 use Rattle.c_parser_refusals.proofs.Fixed.{head_alike, stmt_fixes}
-use Rattle.c_parser_refusals.proofs.BlockForms.{fits_under}
-use Rattle.c_parser_refusals.proofs.BlockForms.{not_alike}
+use Rattle.c_parser_refusals.proofs.BlockForms.{fits_under, not_alike}
 
 pub labels_fixes : (b c : Bound) → Fixes (SomeLabels b) (SomeLabels c)
 labels_fixes b c = record {

@@ -93,15 +93,9 @@ member_leads {b} {c} a f = fails_as (λ k j m a. members_read b a) (fails_later 
 pub more_members_fail : {b : Bound} {i r : List Token} → NotAt (Is RIGHT_BRACE) i → Fails (InStruct b) i r → Fails (MembersRest b) i r
 more_members_fail n f = fails_not_or (fails_missing _ n) f
 
-members_at_brace : {b : Bound} {t : Token} {i j : List Token} → Is RIGHT_BRACE t → InStruct b (t ∷ i) j → ⊥
-members_at_brace {b} h a = none h (members_read b a)
-  where
-    none : {B : List Token → List Token → Type 0} {t : Token} {i j : List Token} → Is RIGHT_BRACE t → Then (AMember b) B (t ∷ i) j → ⊥
-    none h (then (then s e) r) = omega (arith, headed h, spec_head s.reads)
-
 -- after a member stands the brace
 pub members_close : {b : Bound} {t : Token} {i r : List Token} → Is RIGHT_BRACE t → Fails (Punctuator SEMICOLON) i r → Fails (MembersRest b) (t ∷ i) r
-members_close {b} h f = fails_or_not (fails_after f) (at_first {P = Is RIGHT_BRACE} h (λ u k j h a. members_at_brace {b = b} h a))
+members_close h f = fails_or_not (fails_after f) (member_fails (fails_first (at_first {P = Is RIGHT_BRACE} h (λ u k j h a. omega (arith, headed h, spec_head a.reads)))))
 
 -- a name and a brace after `struct` begin neither a declaration nor a definition
 
@@ -332,10 +326,7 @@ other_fails s e f =
     other_item_fails f (λ k m a. not_at_alike (alike_at f.front f.is m) s _ _ a.is a.struct_word) (λ k m a. not_at_alike (alike_at f.front f.is m) e _ _ a.is a.enum_word)
 
 meets_first : {r s : List Token} {u : Token} {k v : List Token} → Meets r s → s ≡ u ∷ k → Meets r (u ∷ v)
-meets_first at_end q = absurd (nil q)
-  where
-    nil : {u : Token} {k : List Token} → [] ≡ u ∷ k → ⊥
-    nil q = cc
+meets_first at_end q = absurd (cc)
 meets_first {r = t ∷ r} {v = v} at_token q = subst (λ z. Meets (t ∷ r) (z ∷ v)) (heads q).0 at_token
 
 no_tagged : {b : Bound} {t : Token} {k r s : List Token} → Fits b 0 1 → IsKeyword STRUCT t → NoStruct k → (f : Fails (AnOther b) (t ∷ k) r) → Meets r s → Tagged (f.front ++ s) → ⊥

@@ -82,15 +82,13 @@ operator_rises : (n : ℕ) {x at : ℕ} {a f : Expr} {o : Infix} {t : Token} {j 
 operator_rises n {o = o} h k no_operator z = absurd (omega (arith, ranked_infix n o h k, z))
 operator_rises n h k (an_operator g c r w) z = omega (arith, chain_rises w)
 
-operator_raises : (n : ℕ) {d x at it : ℕ} {o : Infix} {a c e f : Expr} {t : Token} {h g j k : List Token} → at ≡ it → a ≡ c → h ≡ g → IsInfix o (suc n) → Is (code_of_infix o) t → Chain d n at a e h (t ∷ j) → Chain x n it c f g k → Stops (binary_level (suc n)) k → suc (height e) ≤ height f
-operator_raises n {o = o} p q u h c w y z = operator_rises n h c (chain_passes n w (omega (arith, ranked_infix n o h c)) (λ s. omega (arith, ranked_infix n o h c)) (moved p q u y) z) z
+chain_too_high : (n : ℕ) {d x : ℕ} {o : Infix} {e f : Expr} {t : Token} {i j k : List Token} → IsInfix o (suc n) → Is (code_of_infix o) t → Reads d (binary_level (suc n)) e i (t ∷ j) → Reads x (binary_level (suc n)) f i k → Stops (binary_level (suc n)) k → suc (height e) ≤ height f
+chain_too_high n {o = o} h c (a_chain p q w) (a_chain u v y) z =
+    let s = same q v (stops_before n w (omega (arith, ranked_infix n o h c))) (chain_stops y z) in
+    operator_rises n h c (chain_passes n w (omega (arith, ranked_infix n o h c)) (λ s. omega (arith, ranked_infix n o h c)) (moved (p ∙ sym u) s.0 s.1 y) z) z
   where
     moved : {x at it : ℕ} {a c f : Expr} {h g k : List Token} → at ≡ it → a ≡ c → h ≡ g → Chain x n it c f g k → Chain x n at a f h k
     moved o p q r = rw (o, p, q) r
-
-chain_too_high : (n : ℕ) {d x : ℕ} {o : Infix} {e f : Expr} {t : Token} {i j k : List Token} → IsInfix o (suc n) → Is (code_of_infix o) t → Reads d (binary_level (suc n)) e i (t ∷ j) → Reads x (binary_level (suc n)) f i k → Stops (binary_level (suc n)) k → suc (height e) ≤ height f
-chain_too_high n {o = o} h c (a_chain p q w) (a_chain u v y) z =
-    let s = same q v (stops_before n w (omega (arith, ranked_infix n o h c))) (chain_stops y z) in operator_raises n (p ∙ sym u) s.0 s.1 h c w y z
 
 -- an operator between two operands: what follows it fails
 pub operator_fails : (b : Bound) (o : Infix) (l most : ℕ) {d : ℕ} {e : Expr} {t : Token} {i k r : List Token} → IsInfix o l → 1 ≤ l → l ≤ most → Is (code_of_infix o) t → Reads d (binary_level l) e i (t ∷ k) → Fails (Then (AnExpr (inner b) (binary_level (l - 1))) (SomeChain b (l - 1))) k r → Fails (AnExpr b (binary_level most)) i r

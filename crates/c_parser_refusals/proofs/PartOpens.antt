@@ -21,10 +21,9 @@ use Rattle.c_parser_refusals.specs.Declarators.{AnyName}
 use Rattle.c_parser_refusals.specs.Opens.{Opens, Filled, Builds, DeepDeclarator, DeepEach, DeepLengthens, DeepInit, DeepParts, DeepDecl}
 use Rattle.c_parser_refusals.proofs.Opening.{opens_as, opens_under, opens_here, opens_past, opens_before, opens_token}
 use Rattle.c_parser_refusals.proofs.Fills.{name_token, word}
-use Rattle.c_parser_refusals.proofs.ExprOpens.{either}
+use Rattle.c_parser_refusals.proofs.ExprOpens.{either, close_paren}
 use Rattle.c_parser_refusals.proofs.DeclOpens.{node_there, pair_there}
 use Rattle.c_parser_refusals.proofs.BodyOpens.{semicolon}
-use Rattle.c_parser_refusals.proofs.ExprOpens.{close_paren}
 use Rattle.c_parser_refusals.proofs.Fixed.{placeless}
 use Rattle.c_syntax.proofs.FrameSpecifiers.{spec_on}
 

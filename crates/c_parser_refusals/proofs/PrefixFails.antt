@@ -4,8 +4,7 @@ use Rattle.std.proofs.lemmas.List.{length-append}
 use Rattle.c_lexer.specs.declared.token.Token.{Token}
 use Rattle.c_lexer.specs.declared.punctuator.TheConstants.{LEFT_PARENTHESIS, RIGHT_PARENTHESIS}
 use Rattle.c_lexer.specs.declared.keyword.TheConstants.{SIZEOF}
-use Rattle.c_syntax.specs.Tree.{Prefix, pre_increment, pre_decrement, sizeof}
-use Rattle.c_syntax.specs.Tree.{Expr, a_name}
+use Rattle.c_syntax.specs.Tree.{Prefix, pre_increment, pre_decrement, sizeof, Expr, a_name}
 use Rattle.c_syntax.specs.Tokens.{Is, IsKeyword, IsUnary, IsPrefix}
 use Rattle.c_syntax.specs.Grammar.{Level, primary_level, postfix_level, unary_level, cast_level}
 use Rattle.c_syntax.specs.Grammar.{Reads, is_name, is_int, is_char, are_strings, in_parentheses, with_suffixes, no_suffix, no_prefix, a_prefix, a_unary, a_sizeof_type, no_cast, a_cast, no_comma}
@@ -45,17 +44,14 @@ no_operand i f = fails_here (λ s m j a. let v = primary_begins a.reads in f (om
 
 -- what is no string ends in one place
 primary_once : {d x : ℕ} {e f : Expr} {i j k : List Token} → (rank i ≡ 0 → ⊥) → Reads d primary_level e i j → Reads x primary_level f i k → j ≡ k
-primary_once n (is_name h) (are_strings p r) = absurd (n (strings_rank r))
-primary_once n (is_name h) (in_parentheses o r c) = absurd (not_name o h)
-primary_once n (is_int h) (are_strings p r) = absurd (n (strings_rank r))
-primary_once n (is_int h) (in_parentheses o r c) = absurd (omega (arith, started o, started_int h))
-primary_once n (is_char h) (are_strings p r) = absurd (n (strings_rank r))
-primary_once n (is_char h) (in_parentheses o r c) = absurd (omega (arith, started o, started_char h))
 primary_once n (are_strings p r) w = absurd (n (strings_rank r))
+primary_once n a (are_strings p r) = absurd (n (strings_rank r))
+primary_once n (is_name h) (in_parentheses o r c) = absurd (not_name o h)
+primary_once n (is_int h) (in_parentheses o r c) = absurd (omega (arith, started o, started_int h))
+primary_once n (is_char h) (in_parentheses o r c) = absurd (omega (arith, started o, started_char h))
 primary_once n (in_parentheses o r c) (is_name h) = absurd (not_name o h)
 primary_once n (in_parentheses o r c) (is_int h) = absurd (omega (arith, started o, started_int h))
 primary_once n (in_parentheses o r c) (is_char h) = absurd (omega (arith, started o, started_char h))
-primary_once n (in_parentheses o r c) (are_strings p w) = absurd (n (strings_rank w))
 primary_once n (in_parentheses o r c) (in_parentheses q w u) = (heads (same r w (omega (arith, ranked c)) (omega (arith, ranked u))).1).1
 primary_once n a w = refl
 
@@ -132,17 +128,11 @@ sizeof_fails {b} h f = fails_under (λ k j a. sizeof_reads b h a.reads a.stops a
 
 -- where a cast can stand
 
-pub longer : (t : Token) {j : List Token} (front : List Token) → j ≡ front ++ (t ∷ j) → ⊥
-longer t {j} front e = omega (arith, ap length e, length-append front (t ∷ j))
-
 -- what is told by the token behind the first parenthesis stays
 pub behind_alike : {i r s : List Token} (Q : ℕ → Type 0) (front : List Token) → i ≡ front ++ r → Meets r s → Past i r → ((t : Token) (j : List Token) → i ≡ t ∷ j → Is LEFT_PARENTHESIS t → Q (start j)) → (t : Token) (j : List Token) → front ++ s ≡ t ∷ j → Is LEFT_PARENTHESIS t → Q (start j)
 behind_alike Q [] q at_end p n t j e h = absurd (cc)
-behind_alike {r = t ∷ r} Q [] q at_token p n u j e h = let x = p.behind t r q (subst (Is LEFT_PARENTHESIS) (sym (heads e).0) h) in absurd (longer _ x.0 x.1)
+behind_alike {r = t ∷ r} Q [] q at_token p n u j e h = let x = p.behind t r q (subst (Is LEFT_PARENTHESIS) (sym (heads e).0) h) in absurd (omega (arith, ap length x.1, length-append x.0 (t ∷ r)))
 behind_alike {r = r} Q (t ∷ front) q m p n u j e h = let v = heads e in subst Q (start_alike (alike front m) ∙ ap start v.1) (n t (front ++ r) q (subst (Is LEFT_PARENTHESIS) (sym v.0) h))
-
-pub no_cast_alike : {i r s : List Token} (front : List Token) → i ≡ front ++ r → Meets r s → Past i r → NotCast i → NotCast (front ++ s)
-no_cast_alike front q m p n = behind_alike (λ z. 7 ≤ z → ⊥) front q m p n
 
 -- `( x )` stands after a parenthesis that is left
 pub past_there : {b : Bound} {i r : List Token} → Fits b 1 1 → Fails (AnExpr b unary_level) i r → Past i r
@@ -176,7 +166,7 @@ sizeof_uncast n (second (then (one o) (then a c))) = absurd (n _ _ refl o (type_
 
 -- after `sizeof`, where no cast stands
 pub sizeof_operand : {b : Bound} {i r : List Token} → NotCast i → Past i r → Fails (AnExpr b unary_level) i r → Fails (SizeofTail b) i r
-sizeof_operand {b} n p f = record { front = f.front; is = f.is; none = λ s m j a. f.none s m j (sizeof_uncast (no_cast_alike f.front f.is m p n) a) }
+sizeof_operand {b} n p f = record { front = f.front; is = f.is; none = λ s m j a. f.none s m j (sizeof_uncast (behind_alike (λ z. 7 ≤ z → ⊥) f.front f.is m p n) a) }
 
 sizeof_typed : {b : Bound} {t : Token} {i j : List Token} → Is LEFT_PARENTHESIS t → 7 ≤ start i → SizeofTail b (t ∷ i) j → SizeofType b i j
 sizeof_typed h l (first a) = absurd (omega (arith, prefixed_inside a.reads h))
@@ -201,4 +191,4 @@ cast_uncast n (a_cast o t c r) s f = absurd (n _ _ refl o (type_begins t).0)
 
 -- where no cast stands
 pub cast_bare : {b : Bound} {i r : List Token} → NotCast i → Past i r → Fails (AnExpr b unary_level) i r → Fails (AnExpr b cast_level) i r
-cast_bare {b} n p f = record { front = f.front; is = f.is; none = λ s m j a. f.none s m j (cast_uncast (no_cast_alike f.front f.is m p n) a.reads a.stops a.fits) }
+cast_bare {b} n p f = record { front = f.front; is = f.is; none = λ s m j a. f.none s m j (cast_uncast (behind_alike (λ z. 7 ≤ z → ⊥) f.front f.is m p n) a.reads a.stops a.fits) }

@@ -47,19 +47,6 @@ ends_no_const s = λ t j q h. starts_low q s h
 end_reads : {j k : List Token} → Consts j k → EndsSpec k → SpecEnd j k
 end_reads c s = then (are_consts c (ends_no_const s)) (no_spec s)
 
--- the number of the word that specifiers begin with, const left out
-abbrev word_of : {s : Spec} {i j : List Token} → ReadsSpec s i j → ℕ
-word_of (is_void c w a) = VOID
-word_of (is_char c w a) = CHAR
-word_of (is_unsigned_char c w a v b) = UNSIGNED
-word_of (is_int c w a) = INT
-word_of (is_signed c w a) = SIGNED
-word_of (is_signed_int c w a v b) = SIGNED
-word_of (is_unsigned c w a) = UNSIGNED
-word_of (is_unsigned_int c w a v b) = UNSIGNED
-word_of (is_struct c w n a) = STRUCT
-word_of (is_enum c w n a) = ENUM
-
 first_word : {t u : Token} {w : ℕ} {i j : List Token} → Consts (t ∷ i) (u ∷ j) → IsKeyword w t → (w ≡ CONST → ⊥) → u ∷ j ≡ t ∷ i
 first_word no_const h f = refl
 first_word (a_const k c) h f = absurd (f (words_apart h k))
@@ -67,22 +54,22 @@ first_word (a_const k c) h f = absurd (f (words_apart h k))
 stands_first : {t u : Token} {w v : ℕ} {i j : List Token} → Consts (t ∷ i) (u ∷ j) → IsKeyword w t → (w ≡ CONST → ⊥) → IsKeyword v u → w ≡ v
 stands_first {v = v} c h f k = words_apart h (subst (IsKeyword v) (heads (first_word c h f)).0 k)
 
--- it stands behind each const
-leading : {s : Spec} {i j : List Token} (r : ReadsSpec s i j) → (t : Token) × (k : List Token) × Consts i (t ∷ k) × IsKeyword (word_of r) t
-leading (is_void c w a) = (_, _, c, w)
-leading (is_char c w a) = (_, _, c, w)
-leading (is_unsigned_char c w a v b) = (_, _, c, w)
-leading (is_int c w a) = (_, _, c, w)
-leading (is_signed c w a) = (_, _, c, w)
-leading (is_signed_int c w a v b) = (_, _, c, w)
-leading (is_unsigned c w a) = (_, _, c, w)
-leading (is_unsigned_int c w a v b) = (_, _, c, w)
-leading (is_struct c w n a) = (_, _, c, w)
-leading (is_enum c w n a) = (_, _, c, w)
+-- the word that specifiers begin with behind each const, with its number
+abbrev leading : {s : Spec} {i j : List Token} → ReadsSpec s i j → (word : ℕ) × (t : Token) × (k : List Token) × Consts i (t ∷ k) × IsKeyword word t
+leading (is_void c w a) = (VOID, _, _, c, w)
+leading (is_char c w a) = (CHAR, _, _, c, w)
+leading (is_unsigned_char c w a v b) = (UNSIGNED, _, _, c, w)
+leading (is_int c w a) = (INT, _, _, c, w)
+leading (is_signed c w a) = (SIGNED, _, _, c, w)
+leading (is_signed_int c w a v b) = (SIGNED, _, _, c, w)
+leading (is_unsigned c w a) = (UNSIGNED, _, _, c, w)
+leading (is_unsigned_int c w a v b) = (UNSIGNED, _, _, c, w)
+leading (is_struct c w n a) = (STRUCT, _, _, c, w)
+leading (is_enum c w n a) = (ENUM, _, _, c, w)
 
 -- the word that stands first is that of the specifiers
-decided : {w : ℕ} {s : Spec} {t : Token} {i j : List Token} → IsKeyword w t → (w ≡ CONST → ⊥) → (r : ReadsSpec s (t ∷ i) j) → w ≡ word_of r
-decided h f r = let v = leading r in stands_first v.2 h f v.3
+decided : {w : ℕ} {s : Spec} {t : Token} {i j : List Token} → IsKeyword w t → (w ≡ CONST → ⊥) → (r : ReadsSpec s (t ∷ i) j) → w ≡ (leading r).0
+decided h f r = let v = leading r in stands_first v.3 h f v.4
 
 void_reads : {s : Spec} {t : Token} {i j : List Token} → IsKeyword VOID t → ReadsSpec s (t ∷ i) j → EndsSpec j → SpecEnd i j
 void_reads h (is_void c w a) e = end_reads (at_same Consts _ (heads (first_word c h (λ q. omega arith))).1 a) e
@@ -210,12 +197,12 @@ word_at : {w : ℕ} {t : Token} {s j : List Token} → NotAt (IsKeyword CONST) s
 word_at f g no_const h = g _ _ refl h
 word_at f g (a_const o c) h = f _ _ refl o
 
-no_such_word : {s : Spec} {i k j : List Token} → NoTypeWord i → (r : ReadsSpec s k j) → NotAt (IsKeyword (word_of r)) i
+no_such_word : {s : Spec} {i k j : List Token} → NoTypeWord i → (r : ReadsSpec s k j) → NotAt (IsKeyword (leading r).0) i
 no_such_word n (is_void c w a) = n.no_void
 no_such_word n r = assumption n
 
 no_word_read : {s : Spec} {i k j : List Token} → Meets i k → NoTypeWord i → ReadsSpec s k j → ⊥
-no_word_read m n r = let v = leading r in word_at (not_at_alike m n.no_const) (not_at_alike m (no_such_word n r)) v.2 v.3
+no_word_read m n r = let v = leading r in word_at (not_at_alike m n.no_const) (not_at_alike m (no_such_word n r)) v.3 v.4
 
 pub no_words : (i : List Token) → NoTypeWord i → Fails ASpec i i
 no_words i n = fails_here (λ s m j a. no_word_read m n a.reads)

@@ -14,9 +14,8 @@ use Rattle.c_parser_refusals.specs.Nodes.{stmt_here, in_block, in_evaluation, in
 use Rattle.c_parser_refusals.specs.Opens.{Opens, DeepExpr, DeepDecl, DeepStmt, DeepBlock}
 use Rattle.c_parser_refusals.proofs.Opening.{opens_as, opens_here, opens_past, opens_before, opens_token}
 use Rattle.c_parser_refusals.proofs.Fills.{name_token, punctuator, name_reads}
-use Rattle.c_parser_refusals.proofs.ExprOpens.{either}
+use Rattle.c_parser_refusals.proofs.ExprOpens.{either, close_paren}
 use Rattle.c_parser_refusals.proofs.BodyOpens.{open_paren, close_brace, semicolon}
-use Rattle.c_parser_refusals.proofs.ExprOpens.{close_paren}
 use Rattle.c_parser_refusals.proofs.Fixed.{placeless}
 
 -- a statement for which no node is left

@@ -4,8 +4,7 @@ use Rattle.c_lexer.specs.declared.token.Token.{Token}
 use Rattle.c_lexer.specs.declared.punctuator.TheConstants.{LEFT_PARENTHESIS, RIGHT_PARENTHESIS}
 use Rattle.c_syntax.specs.Tree.{Ident, Access, Expr, call, member, postfix, index}
 use Rattle.c_syntax.specs.Tokens.{Is}
-use Rattle.c_syntax.specs.Grammar.{primary_level, postfix_level}
-use Rattle.c_syntax.specs.Grammar.{Reads, with_suffixes, Suffixes, no_suffix, an_index, an_empty_call, a_call, a_member, a_postfix}
+use Rattle.c_syntax.specs.Grammar.{primary_level, postfix_level, Reads, with_suffixes, Suffixes, no_suffix, an_index, an_empty_call, a_call, a_member, a_postfix}
 use Rattle.c_syntax.specs.Limits.{height}
 use Rattle.c_syntax.proofs.Precedence.{rank, Stops}
 use Rattle.c_syntax.proofs.Twins.{glue, On}

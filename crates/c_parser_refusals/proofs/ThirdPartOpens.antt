@@ -10,8 +10,7 @@ use Rattle.c_parser_refusals.specs.Nodes.{expr_here, in_no}
 use Rattle.c_parser_refusals.specs.Opens.{Opens, DeepExpr}
 use Rattle.c_parser_refusals.proofs.Opening.{opens_under, opens_here, opens_past, opens_token}
 use Rattle.c_parser_refusals.proofs.Fixed.{expr_on}
-use Rattle.c_parser_refusals.proofs.ExprOpens.{either}
-use Rattle.c_parser_refusals.proofs.ExprOpens.{placed_on}
+use Rattle.c_parser_refusals.proofs.ExprOpens.{either, placed_on}
 
 pub char_too_deep : {p : ℕ} {c : ℤ} {t : Token} {i : List Token} → IsChar c t → Opens (DeepExpr t.from p 0 primary_level) (t ∷ i) (t ∷ i)
 char_too_deep h = opens_here (λ m. record { tokens = m; reads = record { tree = _; reads = is_char h; deep = inl (expr_here refl) } })

@@ -1,5 +1,5 @@
 -- Where items and units open past the limits (C99 6.9).
-use Rattle.std.proofs.Common.{◌≡◌, inr, ◌≤◌, ℕ, suc, List, ◌∷◌, ◌++◌, refl, sym, ◌∙◌, subst, []}
+use Rattle.std.proofs.Common.{ap, ◌≡◌, inr, ◌≤◌, ℕ, suc, List, ◌∷◌, ◌++◌, refl, sym, ◌∙◌, subst, []}
 use Rattle.std.proofs.lemmas.List.{append_cancel_right}
 use Rattle.c_lexer.specs.declared.token.Token.{Token}
 use Rattle.c_lexer.specs.declared.punctuator.TheConstants.{LEFT_BRACE}
@@ -7,14 +7,12 @@ use Rattle.c_syntax.specs.Tree.{Storage, Spec, Declarator, decl, block, Item, de
 use Rattle.c_syntax.specs.Tokens.{Is}
 use Rattle.c_syntax.specs.Specifiers.{ReadsStorage, ReadsSpec}
 use Rattle.c_syntax.specs.Grammar.{HasName, Declares}
-use Rattle.c_syntax.specs.Statements.{a_declaration}
-use Rattle.c_syntax.specs.Statements.{ReadsItem, an_item_declaration, a_definition, last_item, next_item}
+use Rattle.c_syntax.specs.Statements.{a_declaration, ReadsItem, an_item_declaration, a_definition, last_item, next_item}
 use Rattle.c_syntax.proofs.FrameSpecifiers.{storage_on, spec_on}
 use Rattle.c_syntax.proofs.FrameGrammar.{declares_on}
 use Rattle.c_syntax.proofs.FrameStatements.{item_on}
 use Rattle.c_syntax.proofs.MorePairs.{wide_declarator}
 use Rattle.c_syntax.proofs.MorePairsOfUnits.{wide_item}
-use Rattle.c_parser_refusals.specs.Fails.{Meets}
 use Rattle.c_parser_refusals.specs.Nodes.{in_decl_item, in_decl, in_function_body, in_block, in_first_item, in_later_item}
 use Rattle.c_parser_refusals.specs.Opens.{Opens, DeepParts, DeepBlock, DeepItem, DeepUnit, GoesOn}
 use Rattle.c_parser_refusals.proofs.Combine.{fronted}
@@ -60,7 +58,5 @@ unit_goes_on {at} {p} {n} tokens front r o q =
     let x = o.before [] in
     let f = fronted x.twin in
     let e : f.0 ≡ front = append_cancel_right f.0 front r (sym f.1 ∙ q) in
-    at_front x.other x.meets x.reads (f.2 ∙ subst (λ z. f.0 ++ x.other ≡ z ++ x.other) e refl)
-  where
-    at_front : {k : List Token} (other : List Token) → Meets r other → DeepUnit at p n k [] → k ≡ front ++ other → GoesOn at p n front r
-    at_front other m a e = let b : DeepUnit at p n (front ++ other) [] = subst (λ z. DeepUnit at p n z []) e a in record { other = other; meets = m; tree = b.tree; reads = b.reads; deep = b.deep }
+    let b : DeepUnit at p n (front ++ x.other) [] = subst (λ z. DeepUnit at p n z []) (f.2 ∙ ap (λ z. z ++ x.other) e) x.reads in
+    record { other = x.other; meets = x.meets; tree = b.tree; reads = b.reads; deep = b.deep }
