@@ -72,16 +72,13 @@ moved_is i j y s h g front p q o =
 parted : {A B C : List Token → List Token → Type 0} {i j k : List Token} → Fixes A B → A i j → Then B C i k → C j k
 parted {C = C} {k = k} f a (then b c) = subst (λ z. C z k) (sym (f.once _ _ _ a b)) c
 
-no_token : {P : Token → Type 0} {j : List Token} → One P [] j → ⊥
-no_token h = elim h [ ]
-
 -- the token alone
 pub missing : {P : Token → Type 0} (i : List Token) → NotAt P i → Fails (One P) i i
 missing {P} i f = fails_here (λ s m j w. none m f w)
   where
     none : {i s j : List Token} → Meets i s → NotAt P i → One P s j → ⊥
     none at_token f (one h) = f _ _ refl h
-    none at_end f h = no_token h
+    none at_end f h = elim h [ ]
 
 -- no token with the property stands first
 pub fails_missing : {P : Token → Type 0} {B : List Token → List Token → Type 0} (i : List Token) → ((t : Token) (j : List Token) → i ≡ t ∷ j → P t → ⊥) → Fails (Then (One P) B) i i

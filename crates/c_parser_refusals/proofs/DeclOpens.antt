@@ -85,24 +85,17 @@ declarator_parentheses_open {at = at} {p} {n} h o =
 
 -- array sizes and parameters
 
-abbrev lengthens_add : {d q : ℕ} {a e f : Declarator} {i j k : List Token} → Lengthens d q a e i j → Lengthens d q e f j k → Lengthens d q a f i k
-lengthens_add no_more w = w
-lengthens_add (an_array o s c v) w = an_array o s c (lengthens_add v w)
-lengthens_add (a_function o s c v) w = a_function o s c (lengthens_add v w)
-
-lengthens_pair : (at n : ℕ) {d q : ℕ} {a e f : Declarator} {i j k : List Token} (v : Lengthens d q a e i j) (w : Lengthens d q e f j k) → PairInLengthens at w n → PairInLengthens at (lengthens_add v w) n
-lengthens_pair at n no_more w y = y
-lengthens_pair at n (an_array o s c v) w y = inr (lengthens_pair at n v w y)
-lengthens_pair at n (a_function o s c v) w y = inr (lengthens_pair at n v w y)
+-- more of them before those that open
+lengthens_grow : {at p n q : ℕ} {a e f : Declarator} {i j k : List Token} → Lengthens (suc p) q a e i j → (w : Lengthens (suc p) q e f j k) → InDeclarator at n f ⊎ PairInLengthens at w p → (v : Lengthens (suc p) q a f i k) × (InDeclarator at n f ⊎ PairInLengthens at v p)
+lengthens_grow no_more w y = (w, y)
+lengthens_grow (an_array o s c v) w y = let x = lengthens_grow v w y in (an_array o s c x.0, either (λ z. z) (λ z. inr z) x.1)
+lengthens_grow (a_function o s c v) w y = let x = lengthens_grow v w y in (a_function o s c x.0, either (λ z. z) (λ z. inr z) x.1)
 
 pub lengthens_open : {N : Declarator → Type 0} {at p n q : ℕ} {e : Declarator} {i j r : List Token} → N e → ((k : List Token) → On (Direct (suc p) q e) i j k) → Opens (DeepLengthens N at p n q e) j r → Opens (DeepDeclarator N at p n) i r
-lengthens_open {at = at} {p} g f o =
-    opens_past f (opens_as (λ k m c l b. record {
-      tree = c.tree;
-      reads = a_direct b.begins b.stands (lengthens_add b.lengthens c.reads);
-      suits = c.suits g;
-      deep = either (λ x. x) (λ y. inr (lengthens_pair at p b.lengthens c.reads y)) c.deep;
-    }) o)
+lengthens_open g f o =
+    opens_past f (opens_as (λ k m c l b.
+    let x = lengthens_grow b.lengthens c.reads c.deep in
+    record { tree = c.tree; reads = a_direct b.begins b.stands x.0; suits = c.suits g; deep = either (λ z. z) (λ z. inr z) x.1 }) o)
 
 pub size_opens : {N : Declarator → Type 0} {at p n q : ℕ} {a : Declarator} {t : Token} {i r : List Token} → Builds N → Is LEFT_BRACKET t → Opens (DeepExpr at p n conditional_level) i r → Opens (DeepLengthens N at p (suc n) q a) (t ∷ i) r
 size_opens {q = q} {a} b h o =

@@ -14,7 +14,7 @@ use Rattle.c_syntax.proofs.Twins.{On}
 use Rattle.c_syntax.proofs.FrameGrammar.{reads_on, type_on}
 use Rattle.c_syntax.proofs.MorePairs.{wide, wide_type}
 use Rattle.c_parser_refusals.specs.Nodes.{InExpr, expr_here, in_comma, in_sizeof, in_cast_type, in_cast, in_called, in_arguments, in_member, in_postfix, in_prefix, in_unary, in_indexed, in_index, in_left, in_right, in_assigned, in_value, in_test, in_yes, in_first_expr, in_later_expr}
-use Rattle.c_parser_refusals.specs.Pairs.{PairInSuffixes, PairInChain}
+use Rattle.c_parser_refusals.specs.Pairs.{PairInChain}
 use Rattle.c_parser_refusals.specs.Opens.{Opens, DeepExpr, DeepExprs, DeepType, Filled, DeepSuffixes}
 use Rattle.c_parser_refusals.proofs.Combine.{climb}
 use Rattle.c_parser_refusals.proofs.Opening.{opens_as, opens_under, opens_here, opens_past, opens_before, opens_token}
@@ -149,30 +149,22 @@ pub record Placed (q d : ℕ) (l : Level) (e : Expr) (i j : List Token) : Type 0
 pub placed_on : {d x : ℕ} {l : Level} {e : Expr} {i j : List Token} → Reads d l e i j → d ≤ x → (k : List Token) → On (Placed (place i) x l e) i j k
 placed_on r l k = let x = reads_on (wide r l) k in record { tokens = x.tokens; twin = x.twin; reads = record { reads = x.reads; begins = x.same } }
 
--- the suffixes with others behind them
-abbrev suffixes_add : {d q : ℕ} {a e f : Expr} {i j k : List Token} → Suffixes d q a e i j → Suffixes d q e f j k → Suffixes d q a f i k
-suffixes_add no_suffix w = w
-suffixes_add (an_index o r c v) w = an_index o r c (suffixes_add v w)
-suffixes_add (an_empty_call o c v) w = an_empty_call o c (suffixes_add v w)
-suffixes_add (a_call o r c v) w = a_call o r c (suffixes_add v w)
-suffixes_add (a_member h n v) w = a_member h n (suffixes_add v w)
-suffixes_add (a_postfix h v) w = a_postfix h (suffixes_add v w)
-
-suffixes_pair : (at n : ℕ) {d q : ℕ} {a e f : Expr} {i j k : List Token} (v : Suffixes d q a e i j) (w : Suffixes d q e f j k) → PairInSuffixes at w n → PairInSuffixes at (suffixes_add v w) n
-suffixes_pair at n no_suffix w y = y
-suffixes_pair at n (an_index o r c v) w y = inr (suffixes_pair at n v w y)
-suffixes_pair at n (an_empty_call o c v) w y = suffixes_pair at n v w y
-suffixes_pair at n (a_call o r c v) w y = inr (suffixes_pair at n v w y)
-suffixes_pair at n (a_member h m v) w y = suffixes_pair at n v w y
-suffixes_pair at n (a_postfix h v) w y = suffixes_pair at n v w y
+-- more suffixes before those that open
+suffixes_grow : {at p n q : ℕ} {a e : Expr} {i j k : List Token} → Suffixes (suc p) q a e i j → DeepSuffixes at p n q e j k → DeepSuffixes at p n q a i k
+suffixes_grow no_suffix w = w
+suffixes_grow (an_index o r c v) w = let y = suffixes_grow v w in record { tree = y.tree; reads = an_index o r c y.reads; deep = either (λ x. x) (λ z. inr z) y.deep }
+suffixes_grow (an_empty_call o c v) w = let y = suffixes_grow v w in record { tree = y.tree; reads = an_empty_call o c y.reads; deep = y.deep }
+suffixes_grow (a_call o r c v) w = let y = suffixes_grow v w in record { tree = y.tree; reads = a_call o r c y.reads; deep = either (λ x. x) (λ z. inr z) y.deep }
+suffixes_grow (a_member h m v) w = let y = suffixes_grow v w in record { tree = y.tree; reads = a_member h m y.reads; deep = y.deep }
+suffixes_grow (a_postfix h v) w = let y = suffixes_grow v w in record { tree = y.tree; reads = a_postfix h y.reads; deep = y.deep }
 
 rooted : {d x y : ℕ} {a e : Expr} {i j : List Token} → x ≡ y → Suffixes d y a e i j → Suffixes d x a e i j
 rooted q v = rw q v
 
 suffixed_deep : {at p n q : ℕ} {a : Expr} {i j k : List Token} → Reads (suc p) postfix_level a i j → q ≡ place i → DeepSuffixes at p n q a j k → DeepExpr at p n postfix_level i k
-suffixed_deep {at} {p} (with_suffixes u r c) b w =
-    let v = rooted (b ∙ sym u) c in
-    record { tree = w.tree; reads = with_suffixes b r (suffixes_add v w.reads); deep = either (λ x. x) (λ y. inr (suffixes_pair at p v w.reads y)) w.deep }
+suffixed_deep (with_suffixes u r c) b w =
+    let y = suffixes_grow (rooted (b ∙ sym u) c) w in
+    record { tree = y.tree; reads = with_suffixes b r y.reads; deep = either (λ x. x) (λ z. inr z) y.deep }
 
 -- what follows an operand with its suffixes so far
 pub suffixes_open : {at p n d : ℕ} {a : Expr} {i j r : List Token} → d ≤ suc p → Reads d postfix_level a i j → Opens (DeepSuffixes at p n (place i) a) j r → Opens (DeepExpr at p n postfix_level) i r
@@ -208,14 +200,6 @@ postfix_too_high {q = q} {a = a} y h x = opens_here (λ m. record { tokens = m; 
 
 -- binary operators (6.5.5 to 6.5.14)
 
-abbrev chain_add : {d l q : ℕ} {a e f : Expr} {i j k : List Token} → Chain d l q a e i j → Chain d l q e f j k → Chain d l q a f i k
-chain_add no_operator w = w
-chain_add (an_operator h c r v) w = an_operator h c r (chain_add v w)
-
-chain_pair : (at n : ℕ) {d l q : ℕ} {a e f : Expr} {i j k : List Token} (v : Chain d l q a e i j) (w : Chain d l q e f j k) → PairInChain at w n → PairInChain at (chain_add v w) n
-chain_pair at n no_operator w y = y
-chain_pair at n (an_operator h c r v) w y = inr (chain_pair at n v w y)
-
 rooted_chain : {d l x y : ℕ} {a e : Expr} {i j : List Token} → x ≡ y → Chain d l y a e i j → Chain d l x a e i j
 rooted_chain q v = rw q v
 
@@ -224,10 +208,15 @@ record DeepChain (at p n l q : ℕ) (a : Expr) (i j : List Token) : Type 0 where
   reads : Chain (suc p) l q a tree i j
   deep : InExpr at (suc n) tree ⊎ PairInChain at reads p
 
+-- more operators before those that open
+chain_grow : {at p n l q : ℕ} {a e : Expr} {i j k : List Token} → Chain (suc p) l q a e i j → DeepChain at p n l q e j k → DeepChain at p n l q a i k
+chain_grow no_operator w = w
+chain_grow (an_operator h c r v) w = let y = chain_grow v w in record { tree = y.tree; reads = an_operator h c r y.reads; deep = either (λ x. x) (λ z. inr z) y.deep }
+
 chained_deep : {at p n l q : ℕ} {a : Expr} {i j k : List Token} → Reads (suc p) (binary_level (suc l)) a i j → q ≡ place i → DeepChain at p n l q a j k → DeepExpr at p n (binary_level (suc l)) i k
-chained_deep {at} {p} (a_chain u r c) b w =
-    let v = rooted_chain (b ∙ sym u) c in
-    record { tree = w.tree; reads = a_chain b r (chain_add v w.reads); deep = either (λ x. x) (λ y. inr (chain_pair at p v w.reads y)) w.deep }
+chained_deep (a_chain u r c) b w =
+    let y = chain_grow (rooted_chain (b ∙ sym u) c) w in
+    record { tree = y.tree; reads = a_chain b r y.reads; deep = either (λ x. x) (λ z. inr z) y.deep }
 
 chain_opens : {at p n d l : ℕ} {a : Expr} {i j r : List Token} → d ≤ suc p → Reads d (binary_level (suc l)) a i j → Opens (DeepChain at p n l (place i) a) j r → Opens (DeepExpr at p n (binary_level (suc l))) i r
 chain_opens g w o = opens_past (placed_on w g) (opens_as (λ k m c h b. chained_deep b.reads b.begins c) o)
