@@ -172,23 +172,20 @@ core_on no_core k = record { tokens = k; twin = here; reads = no_core }
 
 -- array sizes and parameters (6.7.5.2, 6.7.5.3)
 
-moved_lengthens : {d at : ℕ} {a b e : Declarator} {i j k : List Token} → a ≡ b → i ≡ j → Lengthens d at b e j k → Lengthens d at a e i k
-moved_lengthens p q r = rw (p, q) r
+rooted : {x at it : ℕ} {a b f : Declarator} {i j k : List Token} → at ≡ it → a ≡ b → i ≡ j → Lengthens x it b f j k → Lengthens x at a f i k
+rooted o p q r = rw (o, p, q) r
 
 -- the whole goes on from where a part of them ends
 lengthens_pass : {d x at : ℕ} {a e f : Declarator} {i j k : List Token} → Lengthens d at a e i j → Lengthens x at a f i k → EndsDeclarator k → Lengthens x at e f j k
 lengthens_pass no_more w z = w
 lengthens_pass (an_array o s c v) no_more z = absurd (omega (arith, started o))
 lengthens_pass {at = at} {a = a} (an_array o s c v) (an_array q r p w) z =
-    let u = (only_sizes s (bracket_closes _ c)).is _ _ _ r (bracket_closes _ p) in lengthens_pass v (moved_lengthens (ap (λ y. array at a y) u.0) (heads u.1).1 w) z
+    let u = (only_sizes s (bracket_closes _ c)).is _ _ _ r (bracket_closes _ p) in lengthens_pass v (rooted refl (ap (λ y. array at a y) u.0) (heads u.1).1 w) z
 lengthens_pass (an_array o s c v) (a_function q r p w) z = absurd (omega (arith, apart o q))
 lengthens_pass (a_function o s c v) no_more z = absurd (omega (arith, started o))
 lengthens_pass (a_function o s c v) (an_array q r p w) z = absurd (omega (arith, apart o q))
 lengthens_pass {at = at} {a = a} (a_function o s c v) (a_function q r p w) z =
-    let u = (only_params s (parenthesis_closes _ c)).is _ _ _ r (parenthesis_closes _ p) in lengthens_pass v (moved_lengthens (ap (λ y. function at a y) u.0) (heads u.1).1 w) z
-
-rooted : {x at it : ℕ} {a b f : Declarator} {i j k : List Token} → at ≡ it → a ≡ b → i ≡ j → Lengthens x it b f j k → Lengthens x at a f i k
-rooted o p q r = rw (o, p, q) r
+    let u = (only_params s (parenthesis_closes _ c)).is _ _ _ r (parenthesis_closes _ p) in lengthens_pass v (rooted refl (ap (λ y. function at a y) u.0) (heads u.1).1 w) z
 
 pub place_alike : {i k : List Token} → Meets i k → place i ≡ place k
 place_alike at_end = refl

@@ -17,6 +17,8 @@ use Rattle.c_parser_refusals.specs.Nodes.{InExpr, expr_here, in_comma, in_sizeof
 use Rattle.c_parser_refusals.specs.Pairs.{PairInChain}
 use Rattle.c_parser_refusals.specs.Opens.{Opens, DeepExpr, DeepExprs, DeepType, Filled, DeepSuffixes}
 use Rattle.c_parser_refusals.proofs.Combine.{climb}
+use Rattle.c_parser_refusals.proofs.SuffixFails.{rooted}
+use Rattle.c_parser_refusals.proofs.LevelFails.{rooted_chain}
 use Rattle.c_parser_refusals.proofs.Opening.{opens_as, opens_under, opens_here, opens_past, opens_before, opens_token}
 use Rattle.c_parser_refusals.proofs.Fills.{name_unary, name_token, punctuator, word, name_chain, name_chooses, name_reads}
 
@@ -158,12 +160,9 @@ suffixes_grow (a_call o r c v) w = let y = suffixes_grow v w in record { tree = 
 suffixes_grow (a_member h m v) w = let y = suffixes_grow v w in record { tree = y.tree; reads = a_member h m y.reads; deep = y.deep }
 suffixes_grow (a_postfix h v) w = let y = suffixes_grow v w in record { tree = y.tree; reads = a_postfix h y.reads; deep = y.deep }
 
-rooted : {d x y : ℕ} {a e : Expr} {i j : List Token} → x ≡ y → Suffixes d y a e i j → Suffixes d x a e i j
-rooted q v = rw q v
-
 suffixed_deep : {at p n q : ℕ} {a : Expr} {i j k : List Token} → Reads (suc p) postfix_level a i j → q ≡ place i → DeepSuffixes at p n q a j k → DeepExpr at p n postfix_level i k
 suffixed_deep (with_suffixes u r c) b w =
-    let y = suffixes_grow (rooted (b ∙ sym u) c) w in
+    let y = suffixes_grow (rooted (b ∙ sym u) refl refl c) w in
     record { tree = y.tree; reads = with_suffixes b r y.reads; deep = either (λ x. x) (λ z. inr z) y.deep }
 
 -- what follows an operand with its suffixes so far
@@ -200,9 +199,6 @@ postfix_too_high {q = q} {a = a} y h x = opens_here (λ m. record { tokens = m; 
 
 -- binary operators (6.5.5 to 6.5.14)
 
-rooted_chain : {d l x y : ℕ} {a e : Expr} {i j : List Token} → x ≡ y → Chain d l y a e i j → Chain d l x a e i j
-rooted_chain q v = rw q v
-
 record DeepChain (at p n l q : ℕ) (a : Expr) (i j : List Token) : Type 0 where
   tree : Expr
   reads : Chain (suc p) l q a tree i j
@@ -215,7 +211,7 @@ chain_grow (an_operator h c r v) w = let y = chain_grow v w in record { tree = y
 
 chained_deep : {at p n l q : ℕ} {a : Expr} {i j k : List Token} → Reads (suc p) (binary_level (suc l)) a i j → q ≡ place i → DeepChain at p n l q a j k → DeepExpr at p n (binary_level (suc l)) i k
 chained_deep (a_chain u r c) b w =
-    let y = chain_grow (rooted_chain (b ∙ sym u) c) w in
+    let y = chain_grow (rooted_chain (b ∙ sym u) refl refl c) w in
     record { tree = y.tree; reads = a_chain b r y.reads; deep = either (λ x. x) (λ z. inr z) y.deep }
 
 chain_opens : {at p n d l : ℕ} {a : Expr} {i j r : List Token} → d ≤ suc p → Reads d (binary_level (suc l)) a i j → Opens (DeepChain at p n l (place i) a) j r → Opens (DeepExpr at p n (binary_level (suc l))) i r

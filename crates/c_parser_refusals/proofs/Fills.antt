@@ -1,9 +1,10 @@
 -- Tokens with which phrases can go on.
-use Rattle.std.proofs.Common.{◌<◌, zero, suc, List, ◌∷◌, refl, ℕ, []}
+use Rattle.std.proofs.Common.{◌<◌, List, ◌∷◌, refl, ℕ, []}
 use Rattle.c_lexer.specs.declared.token.Token.{Token}
 use Rattle.c_lexer.specs.declared.token.TokenKind.TheVariants.{Name, Keyword, Punct}
-use Rattle.c_syntax.specs.Tree.{Expr, a_name}
-use Rattle.c_syntax.specs.Grammar.{unary_level, cast_level, binary_level, conditional_level, assignment_level, Reads, is_name, with_suffixes, no_suffix, no_prefix, no_cast, no_chain, a_chain, no_operator, no_choice, no_assignment}
+use Rattle.c_syntax.specs.Tree.{a_name}
+use Rattle.c_syntax.specs.Grammar.{unary_level, binary_level, conditional_level, assignment_level, Reads, is_name, with_suffixes, no_suffix, no_prefix, no_cast, no_choice, no_assignment}
+use Rattle.c_syntax.proofs.BackTokens.{chained_up}
 pub use Rattle.c_syntax.proofs.LetterNames.{s_is_name}
 
 -- a name at the place
@@ -19,13 +20,8 @@ word code l = record { kind = Keyword code; from = 0; to = 0; given = l }
 pub name_unary : {d : ℕ} (at : ℕ) {m : List Token} → Reads d unary_level (a_name at (115 ∷ [])) (name_token at ∷ m) m
 name_unary at = no_prefix (with_suffixes refl (is_name (record { kind = refl })) no_suffix)
 
--- an operand without operators
-pub cast_chains : (n : ℕ) {d : ℕ} {e : Expr} {i j : List Token} → Reads d cast_level e i j → Reads d (binary_level n) e i j
-cast_chains zero r = no_chain r
-cast_chains (suc n) r = a_chain refl (cast_chains n r) no_operator
-
 pub name_chain : {d : ℕ} (at n : ℕ) {m : List Token} → Reads d (binary_level n) (a_name at (115 ∷ [])) (name_token at ∷ m) m
-name_chain at n = cast_chains n (no_cast (name_unary at))
+name_chain at n = chained_up n (no_cast (name_unary at))
 
 pub name_chooses : {d : ℕ} (at : ℕ) {m : List Token} → Reads d conditional_level (a_name at (115 ∷ [])) (name_token at ∷ m) m
 name_chooses at = no_choice (name_chain at 10)

@@ -24,7 +24,7 @@ use Rattle.c_parser_refusals.proofs.BlockForms.{fits_under}
 use Rattle.c_parser_refusals.proofs.ExprForms.{chain_rises}
 use Rattle.c_parser_refusals.proofs.OperandFails.{operand_fails, operators_fail}
 use Rattle.c_parser_refusals.proofs.PrefixFails.{fits_low}
-use Rattle.c_parser_refusals.proofs.Fills.{cast_chains}
+use Rattle.c_syntax.proofs.BackTokens.{chained_up}
 
 -- binary operators (C99 6.5.5 to 6.5.14)
 
@@ -82,13 +82,13 @@ operator_rises : (n : ℕ) {x at : ℕ} {a f : Expr} {o : Infix} {t : Token} {j 
 operator_rises n {o = o} h k no_operator z = absurd (omega (arith, ranked_infix n o h k, z))
 operator_rises n h k (an_operator g c r w) z = omega (arith, chain_rises w)
 
+pub rooted_chain : {x n at it : ℕ} {a b f : Expr} {i j k : List Token} → at ≡ it → a ≡ b → i ≡ j → Chain x n it b f j k → Chain x n at a f i k
+rooted_chain o p q r = rw (o, p, q) r
+
 chain_too_high : (n : ℕ) {d x : ℕ} {o : Infix} {e f : Expr} {t : Token} {i j k : List Token} → IsInfix o (suc n) → Is (code_of_infix o) t → Reads d (binary_level (suc n)) e i (t ∷ j) → Reads x (binary_level (suc n)) f i k → Stops (binary_level (suc n)) k → suc (height e) ≤ height f
 chain_too_high n {o = o} h c (a_chain p q w) (a_chain u v y) z =
     let s = same q v (stops_before n w (omega (arith, ranked_infix n o h c))) (chain_stops y z) in
-    operator_rises n h c (chain_passes n w (omega (arith, ranked_infix n o h c)) (λ s. omega (arith, ranked_infix n o h c)) (moved (p ∙ sym u) s.0 s.1 y) z) z
-  where
-    moved : {x at it : ℕ} {a c f : Expr} {h g k : List Token} → at ≡ it → a ≡ c → h ≡ g → Chain x n it c f g k → Chain x n at a f h k
-    moved o p q r = rw (o, p, q) r
+    operator_rises n h c (chain_passes n w (omega (arith, ranked_infix n o h c)) (λ s. omega (arith, ranked_infix n o h c)) (rooted_chain (p ∙ sym u) s.0 s.1 y) z) z
 
 -- an operator between two operands: what follows it fails
 pub operator_fails : (b : Bound) (o : Infix) (l most : ℕ) {d : ℕ} {e : Expr} {t : Token} {i k r : List Token} → IsInfix o l → 1 ≤ l → l ≤ most → Is (code_of_infix o) t → Reads d (binary_level l) e i (t ∷ k) → Fails (Then (AnExpr (inner b) (binary_level (l - 1))) (SomeChain b (l - 1))) k r → Fails (AnExpr b (binary_level most)) i r
@@ -152,7 +152,7 @@ choice_too_high h r g = too_high_before r (λ x f y k z v u s. choice_raises h v
 place_begins : (b : Bound) {d : ℕ} {e : Expr} {i j : List Token} → Reads d assignment_level e i j → Stops assignment_level j → Fits b d (height e) → Begins (AnExpr b conditional_level) i
 place_begins b (no_assignment r) s f = record { rest = _; reads = record { depth = _; tree = _; reads = r; stops = omega (arith, s); fits = f } }
 place_begins b (an_assignment p r h q v) s f =
-    record { rest = _; reads = record { depth = _; tree = _; reads = no_choice (cast_chains 10 (no_cast r)); stops = omega (arith, ranked h, assignment_rank q); fits = fits_under b f (omega arith) } }
+    record { rest = _; reads = record { depth = _; tree = _; reads = no_choice (chained_up 10 (no_cast r)); stops = omega (arith, ranked h, assignment_rank q); fits = fits_under b f (omega arith) } }
 
 -- where a conditional expression fails, an assignment does
 pub value_fails : {b : Bound} {i r : List Token} → Fails (AnExpr b conditional_level) i r → Fails (AnExpr b assignment_level) i r
@@ -164,7 +164,7 @@ assigned_operand_fails f = value_fails (test_fails (first_operand 10 f))
 
 assign_goes : (b : Bound) {d x op : ℕ} {a e : Expr} {t : Token} {h k l : List Token} → Is op t → IsAssignment op → Reads d unary_level a h (t ∷ k) → Reads x assignment_level e h l → Stops assignment_level l → Fits b x (height e) → (suc (height a) ≤ height e) × Begins (AnExpr (inner b) assignment_level) k
 assign_goes b o q r (no_assignment w) s f =
-    let v = same (no_choice (cast_chains 10 (no_cast r))) w (omega (arith, ranked o, assignment_rank q)) (omega (arith, s)) in absurd (omega (arith, ranked o, assignment_rank q, s, ranks v.1))
+    let v = same (no_choice (chained_up 10 (no_cast r))) w (omega (arith, ranked o, assignment_rank q)) (omega (arith, s)) in absurd (omega (arith, ranked o, assignment_rank q, s, ranks v.1))
 assign_goes b {x = x} o q r (an_assignment p w c u v) s f =
     let y = same r w (omega (arith, ranked o, assignment_rank q)) (omega (arith, ranked c, assignment_rank u)) in
     (omega (arith, ap height y.0), record { rest = _; reads = record { depth = x; tree = _; reads = at_same (Reads x assignment_level _) _ (sym (heads y.1).1) v; stops = s; fits = fits_part b f (omega arith) } })
@@ -191,7 +191,7 @@ record Moved (d : ℕ) (e : Expr) (i j h k : List Token) : Type 0 where
 
 is_unary_place : {d x : ℕ} {e f : Expr} {h k l : List Token} → rank k ≡ 13 → Reads d conditional_level e h k → Reads x assignment_level f h l → Stops assignment_level l → Reads x unary_level e h k
 is_unary_place z r (no_assignment w) s = let v = same r w (omega (arith, z)) (omega (arith, s)) in absurd (omega (arith, z, s, ranks v.1))
-is_unary_place z r (an_assignment p w h q y) s = let v = same r (no_choice (cast_chains 10 (no_cast w))) (omega (arith, z)) (omega (arith, ranked h, assignment_rank q)) in moved v.0 v.1 w
+is_unary_place z r (an_assignment p w h q y) s = let v = same r (no_choice (chained_up 10 (no_cast w))) (omega (arith, z)) (omega (arith, ranked h, assignment_rank q)) in moved v.0 v.1 w
   where
     moved : {x : ℕ} {e f : Expr} {i j k : List Token} → e ≡ f → j ≡ k → Reads x unary_level f i k → Reads x unary_level e i j
     moved p q r = rw (p, q) r
@@ -211,7 +211,7 @@ assigned_after_operators a f w z = no_place_fails (λ x u. f (ranks (same a.read
 
 -- a cast is assigned to
 pub assigned_cast : {b : Bound} {d : ℕ} {e : Expr} {t : Token} {i j : List Token} → Is LEFT_PARENTHESIS t → 7 ≤ start i → Reads d cast_level e (t ∷ i) j → rank j ≡ 13 → Fails (AnExpr b assignment_level) (t ∷ i) j
-assigned_cast h l w z = no_place_fails (λ x u. omega (arith, l, prefixed_inside u h)) (no_choice (cast_chains 10 w)) z
+assigned_cast h l w z = no_place_fails (λ x u. omega (arith, l, prefixed_inside u h)) (no_choice (chained_up 10 w)) z
 
 -- expressions with commas (C99 6.5.17)
 

@@ -23,8 +23,8 @@ use Rattle.c_parser_refusals.proofs.ExprForms.{suffixes_rise, call_form}
 use Rattle.c_parser_refusals.proofs.PrefixFails.{fits_low}
 use Rattle.c_parser_refusals.proofs.DeclaratorFails.{place_alike}
 
-moved_suffixes : {d at : ℕ} {a b e : Expr} {i j k : List Token} → a ≡ b → i ≡ j → Suffixes d at b e j k → Suffixes d at a e i k
-moved_suffixes p q r = rw (p, q) r
+pub rooted : {x at it : ℕ} {a b f : Expr} {i j k : List Token} → at ≡ it → a ≡ b → i ≡ j → Suffixes x it b f j k → Suffixes x at a f i k
+rooted o p q r = rw (o, p, q) r
 
 same_member : {at : ℕ} {a : Expr} {b y : Access} {n p : Ident} → b ≡ y → n ≡ p → member at b a n ≡ member at y a p
 same_member e f = cc
@@ -34,7 +34,7 @@ suffixes_pass : {d x at : ℕ} {a e f : Expr} {i j k : List Token} → Suffixes 
 suffixes_pass no_suffix w z = w
 suffixes_pass (an_index o r c v) no_suffix z = absurd (omega (arith, ranked o))
 suffixes_pass {at = at} {a = a} (an_index o r c v) (an_index q s p w) z =
-    let u = same r s (omega (arith, ranked c)) (omega (arith, ranked p)) in suffixes_pass v (moved_suffixes (ap (λ b. index at a b) u.0) (heads u.1).1 w) z
+    let u = same r s (omega (arith, ranked c)) (omega (arith, ranked p)) in suffixes_pass v (rooted refl (ap (λ b. index at a b) u.0) (heads u.1).1 w) z
 suffixes_pass (an_index o r c v) (an_empty_call q p w) z = absurd (omega (arith, apart o q))
 suffixes_pass (an_index o r c v) (a_call q s p w) z = absurd (omega (arith, apart o q))
 suffixes_pass (an_index o r c v) (a_member {access = b} q n w) z = absurd (omega (arith, (access_apart b q o).0))
@@ -49,21 +49,21 @@ suffixes_pass (a_call o r c v) no_suffix z = absurd (omega (arith, ranked o))
 suffixes_pass (a_call o r c v) (an_index q s p w) z = absurd (omega (arith, apart o q))
 suffixes_pass (a_call o r c v) (an_empty_call q p w) z = absurd (omega (arith, (list_begins r).0, started p))
 suffixes_pass {at = at} {a = a} (a_call o r c v) (a_call q s p w) z =
-    let u = (only_list r (omega (arith, ranked c))).is _ _ _ s (omega (arith, ranked p)) in suffixes_pass v (moved_suffixes (ap (λ b. call at a b) u.0) (heads u.1).1 w) z
+    let u = (only_list r (omega (arith, ranked c))).is _ _ _ s (omega (arith, ranked p)) in suffixes_pass v (rooted refl (ap (λ b. call at a b) u.0) (heads u.1).1 w) z
 suffixes_pass (a_call o r c v) (a_member {access = b} q n w) z = absurd (omega (arith, (access_apart b q o).0))
 suffixes_pass (a_call o r c v) (a_postfix {p = p} q w) z = absurd (omega (arith, (postfix_apart p q o).0))
 suffixes_pass (a_member {access = y} o m v) no_suffix z = absurd (omega (arith, ranked_access _ y o))
 suffixes_pass (a_member {access = y} o m v) (an_index q s p w) z = absurd (omega (arith, (access_apart y o q).0))
 suffixes_pass (a_member {access = y} o m v) (an_empty_call q p w) z = absurd (omega (arith, (access_apart y o q).0))
 suffixes_pass (a_member {access = y} o m v) (a_call q s p w) z = absurd (omega (arith, (access_apart y o q).0))
-suffixes_pass (a_member {access = y} o m v) (a_member {access = b} q n w) z = suffixes_pass v (moved_suffixes (same_member (one_access _ y b o q) (one_ident m n)) refl w) z
+suffixes_pass (a_member {access = y} o m v) (a_member {access = b} q n w) z = suffixes_pass v (rooted refl (same_member (one_access _ y b o q) (one_ident m n)) refl w) z
 suffixes_pass (a_member {access = y} o m v) (a_postfix {p = p} q w) z = absurd (step_apart _ p y q o)
 suffixes_pass (a_postfix {p = y} o v) no_suffix z = absurd (omega (arith, ranked_postfix _ y o))
 suffixes_pass (a_postfix {p = y} o v) (an_index q s p w) z = absurd (omega (arith, (postfix_apart y o q).0))
 suffixes_pass (a_postfix {p = y} o v) (an_empty_call q p w) z = absurd (omega (arith, (postfix_apart y o q).0))
 suffixes_pass (a_postfix {p = y} o v) (a_call q s p w) z = absurd (omega (arith, (postfix_apart y o q).0))
 suffixes_pass (a_postfix {p = y} o v) (a_member {access = b} q n w) z = absurd (step_apart _ y b o q)
-suffixes_pass {at = at} {a = a} (a_postfix {p = y} o v) (a_postfix {p = p} q w) z = suffixes_pass v (moved_suffixes (ap (λ p. postfix at p a) (one_postfix _ y p o q)) refl w) z
+suffixes_pass {at = at} {a = a} (a_postfix {p = y} o v) (a_postfix {p = p} q w) z = suffixes_pass v (rooted refl (ap (λ p. postfix at p a) (one_postfix _ y p o q)) refl w) z
 
 postfixed_on : {d : ℕ} {e : Expr} {i j : List Token} → Postfixed d e i j → (k : List Token) → Meets j k → On (Postfixed d e) i j k
 postfixed_on a k m =
@@ -83,9 +83,6 @@ postfixed_on a k m =
         suffixes = x.reads;
       };
     }
-
-rooted : {x at it : ℕ} {a b f : Expr} {i j k : List Token} → at ≡ it → a ≡ b → i ≡ j → Suffixes x it b f j k → Suffixes x at a f i k
-rooted o p q r = rw (o, p, q) r
 
 postfixed_passes : {d x : ℕ} {e f : Expr} {i j k : List Token} → Postfixed d e i j → Reads x postfix_level f i k → Stops postfix_level k → (at : ℕ) × Suffixes x at e f j k
 postfixed_passes a (with_suffixes p r w) z = let u = same a.reads r a.stops (suffix_stops w z) in (a.at, suffixes_pass a.suffixes (rooted (a.begins ∙ sym p) u.0 u.1 w) z)
