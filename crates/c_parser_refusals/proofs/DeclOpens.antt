@@ -1,5 +1,5 @@
 -- Where type names and declarators open past the limits (C99 6.7.5, 6.7.6).
-use Rattle.std.proofs.Common.{◌≡◌, ◌⊎◌, inl, inr, suc, List, ◌∷◌, refl, arith, ℕ}
+use Rattle.std.proofs.Common.{◌⊎◌, inl, inr, suc, List, ◌∷◌, refl, arith, ℕ}
 use Rattle.c_lexer.specs.declared.token.Token.{Token}
 use Rattle.c_lexer.specs.declared.punctuator.TheConstants.{LEFT_BRACKET, LEFT_PARENTHESIS, ASTERISK}
 use Rattle.c_lexer.specs.declared.keyword.TheConstants.{VOID}

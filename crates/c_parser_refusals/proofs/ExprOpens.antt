@@ -1,5 +1,5 @@
 -- Where expressions open past the limits (C99 6.5).
-use Rattle.std.proofs.Common.{◌≡◌, ◌⊎◌, inl, inr, ◌≤◌, Bool, zero, suc, ◌+◌, ◌-◌, List, ◌∷◌, refl, sym, ◌∙◌, subst, arith, ℕ, []}
+use Rattle.std.proofs.Common.{◌≡◌, ◌⊎◌, inl, inr, ◌≤◌, Bool, zero, suc, ◌-◌, List, ◌∷◌, refl, sym, ◌∙◌, subst, arith, ℕ, []}
 use Rattle.c_lexer.specs.declared.token.Token.{Token}
 use Rattle.c_lexer.specs.declared.punctuator.TheConstants.{LEFT_PARENTHESIS, RIGHT_PARENTHESIS, RIGHT_BRACKET, LEFT_BRACKET, QUESTION, COLON, COMMA}
 use Rattle.c_lexer.specs.declared.keyword.TheConstants.{SIZEOF, INT}

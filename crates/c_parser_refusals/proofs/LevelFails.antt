@@ -1,5 +1,5 @@
 -- Where operators and what stands between them fail (C99 6.5.5 to 6.5.17).
-use Rattle.std.proofs.Common.{◌≡◌, ◌≤◌, zero, suc, ◌+◌, ◌-◌, List, ◌∷◌, refl, sym, ap, ◌∙◌, subst, arith, ℕ}
+use Rattle.std.proofs.Common.{◌≡◌, ◌≤◌, zero, suc, ◌-◌, List, ◌∷◌, refl, sym, ap, ◌∙◌, subst, arith, ℕ}
 use Rattle.c_lexer.specs.declared.token.Token.{Token}
 use Rattle.c_lexer.specs.declared.punctuator.TheConstants.{LEFT_PARENTHESIS, QUESTION, COMMA}
 use Rattle.c_syntax.specs.Tree.{Infix, Expr, Exprs, binary}

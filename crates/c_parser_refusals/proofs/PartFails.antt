@@ -3,7 +3,7 @@ use Rattle.std.proofs.Common.{◌≡◌, ◌≤◌, List, ◌∷◌, refl, sym, 
 use Rattle.c_lexer.specs.declared.token.Token.{Token}
 use Rattle.c_lexer.specs.declared.punctuator.TheConstants.{SEMICOLON, COLON, COMMA}
 use Rattle.c_lexer.specs.declared.keyword.TheConstants.{CASE, DEFAULT, DO, ELSE, FOR, IF, SWITCH, WHILE}
-use Rattle.c_syntax.specs.Tree.{Labels, First, Stmt, block, Declarator, nothing, named}
+use Rattle.c_syntax.specs.Tree.{Labels, First, Stmt, block, Declarator, nothing}
 use Rattle.c_syntax.specs.Tokens.{Is, IsKeyword}
 use Rattle.c_syntax.specs.Grammar.{conditional_level, expression_level, HasName}
 use Rattle.c_syntax.specs.Statements.{ReadsLabels, last_case, last_default, next_case, next_default, ReadsFirst, first_nothing, first_expression, first_declaration}

@@ -1,5 +1,5 @@
 -- Where units fail at a token, no unit is spelled.
-use Rattle.std.proofs.Common.{◌≡◌, ◌≤◌, List, ◌++◌, refl, ◌∙◌, arith, ℕ, []}
+use Rattle.std.proofs.Common.{◌≡◌, ◌≤◌, List, ◌++◌, refl, arith, ℕ, []}
 use Rattle.c_lexer.specs.declared.token.Token.{Token}
 use Rattle.c_syntax.specs.Tree.{Items}
 use Rattle.c_syntax.specs.Statements.{ReadsItems}
