@@ -45,19 +45,15 @@ list_begins b h (a_list_with_comma o r c e) f = comma_ends r c e (fits_part b f 
 pub init_list_fails : {b : Bound} {t : Token} {i r : List Token} → Is LEFT_BRACE t → Fails (InList (inner b)) i r → Fails (AnInit b) (t ∷ i) r
 init_list_fails {b} h f = fails_under (λ k j a. list_begins b h a.reads a.fits) f
 
-before_brace : (b : Bound) {d : ℕ} {is : Inits} {u : Token} {i j : List Token} → ReadsInits d is i (u ∷ j) → Is RIGHT_BRACE u → Fits b d (height_of_inits is) → Then (AnInit b) (ListEnd b) i j
-before_brace b (last_init r) c f = then (record { depth = _; tree = _; reads = r; stops = omega (arith, ranked c); fits = fits_under b f (omega arith) }) (first (one c))
-before_brace b (next_init r h w) c f =
-    then (record { depth = _; tree = _; reads = r; stops = omega (arith, ranked h); fits = fits_under b f (omega arith) }) (second (then (one h) (second (brace_ends w c (fits_under b f (omega arith))))))
-
-before_comma : (b : Bound) {d : ℕ} {is : Inits} {c u : Token} {i j : List Token} → ReadsInits d is i (c ∷ u ∷ j) → Is COMMA c → Is RIGHT_BRACE u → Fits b d (height_of_inits is) → Then (AnInit b) (ListEnd b) i j
-before_comma b (last_init r) c u f = then (record { depth = _; tree = _; reads = r; stops = omega (arith, ranked c); fits = fits_under b f (omega arith) }) (second (then (one c) (first (one u))))
-before_comma b (next_init r h w) c u f =
-    then (record { depth = _; tree = _; reads = r; stops = omega (arith, ranked h); fits = fits_under b f (omega arith) }) (second (then (one h) (second (comma_ends w c u (fits_under b f (omega arith))))))
+-- an initialiser, and what follows the last one or the others
+inits_then : (b : Bound) {d : ℕ} {is : Inits} {i j k : List Token} → ReadsInits d is i j → Stops assignment_level j → Fits b d (height_of_inits is) → ListEnd b j k → ((rest : Inits) (h : List Token) → ReadsInits d rest h j → Fits b d (height_of_inits rest) → InList b h k) → Then (AnInit b) (ListEnd b) i k
+inits_then b (last_init r) s f e g = then (record { depth = _; tree = _; reads = r; stops = s; fits = fits_under b f (omega arith) }) e
+inits_then b (next_init r h w) s f e g =
+    then (record { depth = _; tree = _; reads = r; stops = omega (arith, ranked h); fits = fits_under b f (omega arith) }) (second (then (one h) (second (g _ _ w (fits_under b f (omega arith))))))
 
 list_form : (b : Bound) {i j : List Token} → InList b i j → Then (AnInit b) (ListEnd b) i j
-list_form b (brace_ends r c f) = before_brace b r c f
-list_form b (comma_ends r c u f) = before_comma b r c u f
+list_form b (brace_ends r c f) = inits_then b r (omega (arith, ranked c)) f (first (one c)) (λ x h w g. brace_ends w c g)
+list_form b (comma_ends r c u f) = inits_then b r (omega (arith, ranked c)) f (second (then (one c) (first (one u)))) (λ x h w g. comma_ends w c u g)
 
 -- the first initialiser of a list fails
 pub first_init_fails : {b : Bound} {i r : List Token} → Fails (AnInit b) i r → Fails (InList b) i r

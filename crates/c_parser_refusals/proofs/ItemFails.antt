@@ -5,7 +5,7 @@ use Rattle.c_lexer.specs.declared.punctuator.TheConstants.{LEFT_BRACE, RIGHT_BRA
 use Rattle.c_lexer.specs.declared.keyword.TheConstants.{ENUM, STRUCT}
 use Rattle.c_syntax.specs.Tree.{Ident, Storage, Spec, struct, enum, Declarator, named, Maybe, MaybeInit, Tag, BlockItems, block, Decl, Item, function_item, Items}
 use Rattle.c_syntax.specs.Tokens.{Is, IsKeyword}
-use Rattle.c_syntax.specs.Specifiers.{Names, no_const, a_const, ReadsStorage, no_storage_stands, ReadsSpec, is_struct, is_enum}
+use Rattle.c_syntax.specs.Specifiers.{Names, no_const, ReadsStorage, no_storage_stands, ReadsSpec, is_struct, is_enum}
 use Rattle.c_syntax.specs.Grammar.{conditional_level, Declares, a_direct, a_declared, no_more, HasName}
 use Rattle.c_syntax.specs.Statements.{ReadsMaybeInit, no_initialiser, an_initialiser, ReadsBlockItems, ReadsDecl, a_declaration, last_declarator, next_declarator, last_member, next_member}
 use Rattle.c_syntax.specs.Statements.{ReadsEnumeratorValue, no_enumerator_value, an_enumerator_value, last_enumerator, next_enumerator, ReadsTag, no_name, a_tag}
@@ -13,10 +13,10 @@ use Rattle.c_syntax.specs.Statements.{ReadsItem, a_struct, an_enum, an_enum_with
 use Rattle.c_syntax.specs.Limits.{height_of_maybe, height_of_item, height_of_unit, height_of_decl, height_of_block_items}
 use Rattle.c_syntax.proofs.Twins.{after, On}
 use Rattle.c_syntax.proofs.Precedence.{Stops}
-use Rattle.c_syntax.proofs.Ranks.{ranked, heads, apart, words_apart, not_word}
+use Rattle.c_syntax.proofs.Ranks.{ranked, heads, apart, words_apart}
 use Rattle.c_syntax.proofs.Ends.{started_word, comma_ends_declarator, semicolon_ends_declarator, brace_ends_declarator, name_ends_spec}
 use Rattle.c_syntax.proofs.Begins.{named_ends_spec}
-use Rattle.c_syntax.proofs.Heads.{head, headed, worded, name_head, spec_head, declarator_head, no_storage_at}
+use Rattle.c_syntax.proofs.Heads.{head, headed, worded, name_head, spec_head, no_storage_at}
 use Rattle.c_syntax.proofs.FrameSpecifiers.{storage_on}
 use Rattle.c_syntax.proofs.FrameStatements.{declarators_on, item_on}
 use Rattle.c_syntax.proofs.One.{same_storage, spec_ends_storage}
@@ -24,7 +24,7 @@ use Rattle.c_syntax.proofs.OneDecl.{Leads, decl_leads, moved_spec}
 use Rattle.c_parser_refusals.specs.Fails.{Meets, at_end, at_token, Fails, Then, then, first, second, One, one, NotAt}
 use Rattle.c_parser_refusals.specs.Phrases.{Bound, Fits, inner, ADeclarator, AnExpr, InBlock, in_block, Punctuator}
 use Rattle.c_parser_refusals.specs.Operands.{IsSomeName}
-use Rattle.c_parser_refusals.specs.Specs.{are_consts, no_spec, TagTail}
+use Rattle.c_parser_refusals.specs.Specs.{TagTail}
 use Rattle.c_parser_refusals.specs.Declarations.{PartsTail, last_stands, more_stand, SomeParts}
 use Rattle.c_parser_refusals.specs.Units.{AUnit}
 use Rattle.c_parser_refusals.specs.Items.{DeclaratorsClosed, declarators_closed, DeclaratorsEnd, AMember, InStruct, in_struct, MembersRest, InEnum, in_enum, in_enum_comma, EnumEnd, ValueRest, AStorage, OtherRest, AnOther, AnItem, AtEnd, none_left, UnitRest, NoStruct, NoEnum}
@@ -35,7 +35,7 @@ use Rattle.c_parser_refusals.proofs.BlockForms.{fits_under}
 use Rattle.c_parser_refusals.proofs.DeclForms.{parts_reads, parts_end_spec}
 use Rattle.c_parser_refusals.proofs.Fills.{name_token}
 use Rattle.c_parser_refusals.proofs.SpecFails.{struct_tail, enum_tail, other_word}
-use Rattle.c_syntax.proofs.OneUnit.{same_declarators, semicolon_ends, declarators_end_spec, enum_leads, same_item, defines}
+use Rattle.c_syntax.proofs.OneUnit.{same_tag, struct_leads, same_declarators, semicolon_ends, declarators_end_spec, enum_leads, same_item, defines}
 use Rattle.c_parser_refusals.proofs.BodyOpens.{semicolon}
 
 -- declarators in a row
@@ -99,15 +99,14 @@ members_close h f = fails_or_not (fails_after f) (member_fails (fails_first (at_
 
 -- a name and a brace after `struct` begin neither a declaration nor a definition
 
-tag_brace : {n l : Token} {i m : List Token} → TagTail (n ∷ l ∷ i) m → Is LEFT_BRACE l → head m ≡ 20 → ⊥
-tag_brace (then (one x) (then (are_consts no_const f) (no_spec s))) h q = omega (arith, headed h, q)
-tag_brace (then (one x) (then (are_consts (a_const c r) f) e)) h q = not_word h c
+tag_name : {n : Token} {i m : List Token} → TagTail (n ∷ i) m → IsSomeName n
+tag_name (then (one x) e) = x
 
 struct_specs : {t : Token} {i : List Token} → IsKeyword STRUCT t → (a : Leads (t ∷ i)) → TagTail i a.names
 struct_specs w a = struct_tail w (moved_spec (no_storage_at a.stands (worded w)) a.specifies) (named_ends_spec a.declares a.named)
 
 no_struct_leads : {t n l : Token} {i : List Token} → IsKeyword STRUCT t → Is LEFT_BRACE l → Leads (t ∷ n ∷ l ∷ i) → ⊥
-no_struct_leads w h a = tag_brace (struct_specs w a) h (declarator_head a.declares a.named)
+no_struct_leads w h a = struct_leads w (tag_name (struct_specs w a)).names h a
 
 struct_reads : (b : Bound) {d : ℕ} {x : Item} {t n l : Token} {i j : List Token} → IsKeyword STRUCT t → Is LEFT_BRACE l → ReadsItem d x (t ∷ n ∷ l ∷ i) j → Fits b d (height_of_item x) → InStruct b i j
 struct_reads b w h (a_struct v m l f c u) g = in_struct f c u g
@@ -205,37 +204,21 @@ no_enum_name w f g (a_definition p r s e n o q c) = tag_named (enum_specs w (def
 pub enum_tagless : {b : Bound} {t : Token} (i : List Token) → IsKeyword ENUM t → NotAt IsSomeName i → NotAt (Is LEFT_BRACE) i → Fails (AnItem b) (t ∷ i) i
 enum_tagless {t = t} i w f g = record { front = t ∷ []; is = refl; none = λ s m j a. no_enum_name w (not_at_alike m f) (not_at_alike m g) a.reads }
 
-bare_tag : {g : Tag} {l m : Token} {i j : List Token} → Is LEFT_BRACE l → ReadsTag g (l ∷ i) (m ∷ j) → Is LEFT_BRACE m → j ≡ i
-bare_tag h no_name o = refl
-bare_tag h (a_tag n) o = absurd (omega (arith, headed h, name_head n))
-
-bare_enum_reads : (b : Bound) {d : ℕ} {x : Item} {t l : Token} {i j : List Token} → IsKeyword ENUM t → Is LEFT_BRACE l → ReadsItem d x (t ∷ l ∷ i) j → Fits b d (height_of_item x) → InEnum b i j
-bare_enum_reads b w h (a_struct v m l f c u) g = absurd (omega (arith, words_apart w v))
-bare_enum_reads b w h (an_enum v r l f c u) g = at_same (InEnum b) _ (bare_tag h r l) (in_enum f c u g)
-bare_enum_reads b w h (an_enum_with_comma v r l f e c u) g = at_same (InEnum b) _ (bare_tag h r l) (in_enum_comma f e c u g)
-bare_enum_reads b w h (a_tag_alone v m u) g = absurd (omega (arith, words_apart w v))
-bare_enum_reads b w h (an_item_declaration p r) g = absurd (enum_leads w no_name h (decl_leads r).lead)
-bare_enum_reads b w h (a_definition p r s e n o q c) g = absurd (enum_leads w no_name h (defines r s e n o))
+enum_reads : (b : Bound) {d : ℕ} {z : Tag} {x : Item} {t l : Token} {i j k : List Token} → IsKeyword ENUM t → ReadsTag z i (l ∷ j) → Is LEFT_BRACE l → ReadsItem d x (t ∷ i) k → Fits b d (height_of_item x) → InEnum b j k
+enum_reads b w y h (a_struct v m l f c u) g = absurd (omega (arith, words_apart w v))
+enum_reads b w y h (an_enum v r l f c u) g = at_same (InEnum b) _ (heads (same_tag r y (headed l) (headed h)).1).1 (in_enum f c u g)
+enum_reads b w y h (an_enum_with_comma v r l f e c u) g = at_same (InEnum b) _ (heads (same_tag r y (headed l) (headed h)).1).1 (in_enum_comma f e c u g)
+enum_reads b w y h (a_tag_alone v m u) g = absurd (omega (arith, words_apart w v))
+enum_reads b w y h (an_item_declaration p r) g = absurd (enum_leads w y h (decl_leads r).lead)
+enum_reads b w y h (a_definition p r s e n o q c) g = absurd (enum_leads w y h (defines r s e n o))
 
 -- what follows `enum` and a brace
 pub bare_enum_fails : {b : Bound} {t l : Token} {i r : List Token} → IsKeyword ENUM t → Is LEFT_BRACE l → Fails (InEnum b) i r → Fails (AnItem b) (t ∷ l ∷ i) r
-bare_enum_fails {b} {t} {l} w h f = fails_behind {A = AnItem b} (t ∷ l ∷ []) (λ k j m a. bare_enum_reads b w h a.reads a.fits) f
-
-tag_brace_at : {g : Tag} {n l m : Token} {i j : List Token} → IsSomeName n → ReadsTag g (n ∷ l ∷ i) (m ∷ j) → Is LEFT_BRACE m → j ≡ i
-tag_brace_at x no_name o = absurd (omega (arith, headed o, name_head x.names))
-tag_brace_at x (a_tag n) o = refl
-
-tagged_enum_reads : (b : Bound) {d : ℕ} {x : Item} {t n l : Token} {i j : List Token} → IsKeyword ENUM t → IsSomeName n → Is LEFT_BRACE l → ReadsItem d x (t ∷ n ∷ l ∷ i) j → Fits b d (height_of_item x) → InEnum b i j
-tagged_enum_reads b w y h (a_struct v m l f c u) g = absurd (omega (arith, words_apart w v))
-tagged_enum_reads b w y h (an_enum v r l f c u) g = at_same (InEnum b) _ (tag_brace_at y r l) (in_enum f c u g)
-tagged_enum_reads b w y h (an_enum_with_comma v r l f e c u) g = at_same (InEnum b) _ (tag_brace_at y r l) (in_enum_comma f e c u g)
-tagged_enum_reads b w y h (a_tag_alone v m u) g = absurd (omega (arith, words_apart w v))
-tagged_enum_reads b w y h (an_item_declaration p r) g = absurd (enum_leads w (a_tag y.names) h (decl_leads r).lead)
-tagged_enum_reads b w y h (a_definition p r s e n o q c) g = absurd (enum_leads w (a_tag y.names) h (defines r s e n o))
+bare_enum_fails {b} {t} {l} w h f = fails_behind {A = AnItem b} (t ∷ l ∷ []) (λ k j m a. enum_reads b w no_name h a.reads a.fits) f
 
 -- what follows `enum`, a name and a brace
 pub tagged_enum_fails : {b : Bound} {t n l : Token} {i r : List Token} → IsKeyword ENUM t → IsSomeName n → Is LEFT_BRACE l → Fails (InEnum b) i r → Fails (AnItem b) (t ∷ n ∷ l ∷ i) r
-tagged_enum_fails {b} {t} {n} {l} w y h f = fails_behind {A = AnItem b} (t ∷ n ∷ l ∷ []) (λ k j m a. tagged_enum_reads b w y h a.reads a.fits) f
+tagged_enum_fails {b} {t} {n} {l} w y h f = fails_behind {A = AnItem b} (t ∷ n ∷ l ∷ []) (λ k j m a. enum_reads b w (a_tag y.names) h a.reads a.fits) f
 
 -- declarations and definitions (6.9)
 

@@ -26,17 +26,15 @@ semicolon_too_deep h = opens_here (λ m. record { tokens = m; reads = record { t
 pub block_too_deep : {p : ℕ} {t : Token} {i : List Token} → Is LEFT_BRACE t → Opens (DeepStmt t.from p 0) (t ∷ i) (t ∷ i)
 block_too_deep h = opens_here (λ m. record { tokens = close_brace ∷ m; reads = record { tree = block _ no_block_items; reads = a_block h no_block_item (record { kind = refl }); deep = inl (stmt_here refl) } })
 
+-- behind the word stand a name in parentheses and a semicolon
+conditioned : {A : List Token → List Token → Type 0} {t : Token} {i : List Token} (at : ℕ) → ((m : List Token) → A (t ∷ open_paren ∷ name_token at ∷ close_paren ∷ semicolon ∷ m) m) → Opens A (t ∷ i) (t ∷ i)
+conditioned at f = opens_here (λ m. record { tokens = open_paren ∷ name_token at ∷ close_paren ∷ semicolon ∷ m; reads = f m })
+
 pub if_too_deep : {p : ℕ} {t : Token} {i : List Token} → IsKeyword IF t → Opens (DeepStmt t.from p 0) (t ∷ i) (t ∷ i)
-if_too_deep h = opens_here (λ m. record {
-  tokens = open_paren ∷ name_token 0 ∷ close_paren ∷ semicolon ∷ m;
-  reads = record { tree = only_if _ _ _; reads = an_if h (record { kind = refl }) (no_comma (name_reads 0)) (record { kind = refl }) (an_empty (record { kind = refl })); deep = inl (stmt_here refl) };
-})
+if_too_deep h = conditioned 0 (λ m. record { tree = only_if _ _ _; reads = an_if h (record { kind = refl }) (no_comma (name_reads 0)) (record { kind = refl }) (an_empty (record { kind = refl })); deep = inl (stmt_here refl) })
 
 pub while_too_deep : {p : ℕ} {t : Token} {i : List Token} → IsKeyword WHILE t → Opens (DeepStmt t.from p 0) (t ∷ i) (t ∷ i)
-while_too_deep h = opens_here (λ m. record {
-  tokens = open_paren ∷ name_token 0 ∷ close_paren ∷ semicolon ∷ m;
-  reads = record { tree = while_loop _ _ _; reads = a_while h (record { kind = refl }) (no_comma (name_reads 0)) (record { kind = refl }) (an_empty (record { kind = refl })); deep = inl (stmt_here refl) };
-})
+while_too_deep h = conditioned 0 (λ m. record { tree = while_loop _ _ _; reads = a_while h (record { kind = refl }) (no_comma (name_reads 0)) (record { kind = refl }) (an_empty (record { kind = refl })); deep = inl (stmt_here refl) })
 
 pub for_too_deep : {p : ℕ} {t : Token} {i : List Token} → IsKeyword FOR t → Opens (DeepStmt t.from p 0) (t ∷ i) (t ∷ i)
 for_too_deep h = opens_here (λ m. record {
@@ -53,16 +51,10 @@ switch_too_deep h = opens_here (λ m. record {
 -- a word after which two nodes are sure to stand in each other: the second one at any place
 
 pub if_is_deep : {at p : ℕ} {t : Token} {i : List Token} → IsKeyword IF t → Opens (DeepStmt at p 1) (t ∷ i) (t ∷ i)
-if_is_deep {at} h = opens_here (λ m. record {
-  tokens = open_paren ∷ name_token at ∷ close_paren ∷ semicolon ∷ m;
-  reads = record { tree = only_if _ _ _; reads = an_if h (record { kind = refl }) (no_comma (name_reads at)) (record { kind = refl }) (an_empty (record { kind = refl })); deep = inl (in_if_test (expr_here refl)) };
-})
+if_is_deep {at} h = conditioned at (λ m. record { tree = only_if _ _ _; reads = an_if h (record { kind = refl }) (no_comma (name_reads at)) (record { kind = refl }) (an_empty (record { kind = refl })); deep = inl (in_if_test (expr_here refl)) })
 
 pub while_is_deep : {at p : ℕ} {t : Token} {i : List Token} → IsKeyword WHILE t → Opens (DeepStmt at p 1) (t ∷ i) (t ∷ i)
-while_is_deep {at} h = opens_here (λ m. record {
-  tokens = open_paren ∷ name_token at ∷ close_paren ∷ semicolon ∷ m;
-  reads = record { tree = while_loop _ _ _; reads = a_while h (record { kind = refl }) (no_comma (name_reads at)) (record { kind = refl }) (an_empty (record { kind = refl })); deep = inl (in_while_test (expr_here refl)) };
-})
+while_is_deep {at} h = conditioned at (λ m. record { tree = while_loop _ _ _; reads = a_while h (record { kind = refl }) (no_comma (name_reads at)) (record { kind = refl }) (an_empty (record { kind = refl })); deep = inl (in_while_test (expr_here refl)) })
 
 pub switch_is_deep : {at p : ℕ} {t : Token} {i : List Token} → IsKeyword SWITCH t → Opens (DeepStmt at p 1) (t ∷ i) (t ∷ i)
 switch_is_deep {at} h = opens_here (λ m. record {
