@@ -2,7 +2,8 @@
 use Rattle.std.proofs.Common.{◌≡◌, ◌⊎◌, inl, inr, ◌≤◌, suc, List, ◌∷◌, ◌++◌, refl, sym, ap, ◌∙◌, subst, arith, ℕ, []}
 use Rattle.c_lexer.specs.declared.token.Token.{Token}
 use Rattle.c_lexer.specs.declared.punctuator.TheConstants.{LEFT_BRACKET, RIGHT_BRACKET, LEFT_PARENTHESIS, RIGHT_PARENTHESIS, ASTERISK, COMMA}
-use Rattle.c_syntax.specs.Tree.{Ident, Maybe, Declarator, nothing, named, array, function, Params, TypeName}
+use Rattle.c_syntax.specs.Specifiers.{ReadsSpec}
+use Rattle.c_syntax.specs.Tree.{Spec, Ident, Maybe, Declarator, nothing, named, array, function, Params, TypeName}
 use Rattle.c_syntax.specs.Tokens.{Is, place}
 use Rattle.c_syntax.specs.Grammar.{conditional_level, IsThere, HasName, HasNoName, ReadsSize, no_size, a_size, ReadsType, a_type}
 use Rattle.c_syntax.specs.Grammar.{Declares, a_pointer, a_direct, ReadsCore, a_declared, declarator_in_parentheses, no_core, Lengthens, no_more, an_array, a_function, are_none, are_some, ReadsEach, last_param, next_param}
@@ -328,21 +329,15 @@ function_reads b h (a_function o s c l) z f = record { rest = _; reads = params_
 pub function_fails : {b : Bound} {t : Token} {i r : List Token} → Is LEFT_PARENTHESIS t → Fails (ParamsClosed (inner b)) i r → Fails (SomeLengthens b) (t ∷ i) r
 function_fails {b} h f = fails_under_begun (λ k j a. function_reads b h a.reads a.ends a.fits) f
 
+a_param : {b : Bound} {d : ℕ} {s : Spec} {e : Declarator} {i j k : List Token} → ReadsSpec s i j → Declares d e j k → EndsDeclarator k → Fits b d (height_of_declarator e) → AParam b i k
+a_param s e z f = then (record { tree = _; reads = s; ends = declares_ends_spec e z }) (record { depth = _; tree = _; reads = e; suits = tt; ends = z; fits = f })
+
 each_reads : (b : Bound) {d : ℕ} {ps : Params} {u : Token} {i j : List Token} → ReadsEach d ps i (u ∷ j) → Is RIGHT_PARENTHESIS u → Fits b d (height_of_params ps) → Then (AParam b) (EachClosed b) i j
-each_reads b (last_param p s e) c f =
-    then
-    (then (record { tree = _; reads = s; ends = declares_ends_spec e (parenthesis_ends_declarator c) }) (record { depth = _; tree = _; reads = e; suits = tt; ends = parenthesis_ends_declarator c; fits = fits_under b f (omega arith) }))
-    (closed_here c)
-each_reads b (next_param p s e h r) c f =
-    then
-    (then (record { tree = _; reads = s; ends = declares_ends_spec e (comma_ends_declarator h) }) (record { depth = _; tree = _; reads = e; suits = tt; ends = comma_ends_declarator h; fits = fits_under b f (omega arith) }))
-    (more_closed h r c (fits_under b f (omega arith)))
+each_reads b (last_param p s e) c f = then (a_param s e (parenthesis_ends_declarator c) (fits_under b f (omega arith))) (closed_here c)
+each_reads b (next_param p s e h r) c f = then (a_param s e (comma_ends_declarator h) (fits_under b f (omega arith))) (more_closed h r c (fits_under b f (omega arith)))
 
 params_reads : (b : Bound) {i j : List Token} → ParamsClosed b i j → Then (AParam b) (EachClosed b) i j
-params_reads b (params_closed (are_none s) c f) =
-    then
-    (then (record { tree = _; reads = s; ends = omega (arith, parenthesis_ends_declarator c) }) (record { depth = _; tree = nothing; reads = a_direct refl no_core no_more; suits = tt; ends = parenthesis_ends_declarator c; fits = f }))
-    (closed_here c)
+params_reads b (params_closed (are_none s) c f) = then (a_param {e = nothing} s (a_direct refl no_core no_more) (parenthesis_ends_declarator c) f) (closed_here c)
 params_reads b (params_closed (are_some r n) c f) = each_reads b r c f
 
 each_goes : (b : Bound) {t : Token} {i j : List Token} → Is COMMA t → EachClosed b (t ∷ i) j → Then (AParam b) (EachClosed b) i j

@@ -17,7 +17,7 @@ use Rattle.c_syntax.proofs.OneChain.{chain_stops}
 use Rattle.c_parser_refusals.specs.Fails.{Then, then, first, second, one}
 use Rattle.c_parser_refusals.specs.Phrases.{Bound, any, within, Fits, fits_any, fits_within, inner, AnExpr}
 use Rattle.c_parser_refusals.specs.Operands.{enclosed, SomeSuffixes, SomeChain, ParenthesisTail, IndexTail, CallTail, MemberTail, CastTail}
-use Rattle.c_parser_refusals.proofs.StmtForms.{fits_part}
+use Rattle.c_parser_refusals.proofs.StmtForms.{fits_part, an_expr}
 use Rattle.c_parser_refusals.proofs.BlockForms.{fits_under}
 
 pub fits_enclosed : (b : Bound) {d h : ℕ} → Fits b (suc d) h → Fits (enclosed b) d h
@@ -52,17 +52,14 @@ paren_form b h a = paren_reads b h a.reads a.fits
 
 -- postfix expressions (C99 6.5.2)
 
+some_suffixes : (b : Bound) {d at : ℕ} {a e : Expr} {i j : List Token} → Suffixes d at a e i j → Stops postfix_level j → Fits b d (height e) → SomeSuffixes b i j
+some_suffixes b r s f = record { depth = _; at = _; operand = _; tree = _; reads = r; stops = s; fits = f }
+
 postfix_reads : (b : Bound) {d : ℕ} {e : Expr} {i j : List Token} → Reads d postfix_level e i j → Stops postfix_level j → Fits b d (height e) → Then (AnExpr b primary_level) (SomeSuffixes b) i j
-postfix_reads b (with_suffixes p r c) s f =
-    then
-    (record { depth = _; tree = _; reads = r; stops = suffix_stops c s; fits = fits_under b f (suffixes_rise c) })
-    (record { depth = _; at = _; operand = _; tree = _; reads = c; stops = s; fits = f })
+postfix_reads b (with_suffixes p r c) s f = then (an_expr r (suffix_stops c s) (fits_under b f (suffixes_rise c))) (some_suffixes b c s f)
 
 pub postfix_form : (b : Bound) {i j : List Token} → AnExpr b postfix_level i j → Then (AnExpr b primary_level) (SomeSuffixes b) i j
 postfix_form b a = postfix_reads b a.reads a.stops a.fits
-
-some_suffixes : (b : Bound) {d at : ℕ} {a e : Expr} {i j : List Token} → Suffixes d at a e i j → Stops postfix_level j → Fits b d (height e) → SomeSuffixes b i j
-some_suffixes b r s f = record { depth = _; at = _; operand = _; tree = _; reads = r; stops = s; fits = f }
 
 index_reads : (b : Bound) {d at : ℕ} {a e : Expr} {t : Token} {i j : List Token} → Is LEFT_BRACKET t → Suffixes d at a e (t ∷ i) j → Stops postfix_level j → Fits b d (height e) → IndexTail b i j
 index_reads b h no_suffix s f = absurd (omega (arith, ranked h))
@@ -113,11 +110,11 @@ cast_form b h l a = cast_reads b h l a.reads a.stops a.fits
 
 -- binary operators (C99 6.5.5 to 6.5.14)
 
+pub some_chain : {b : Bound} {n d at : ℕ} {a e : Expr} {i j : List Token} → Chain d n at a e i j → Stops (binary_level (suc n)) j → Fits b d (height e) → SomeChain b n i j
+some_chain c s f = record { depth = _; at = _; operand = _; tree = _; reads = c; stops = s; fits = f }
+
 chain_reads : (b : Bound) (n : ℕ) {d : ℕ} {e : Expr} {i j : List Token} → Reads d (binary_level (suc n)) e i j → Stops (binary_level (suc n)) j → Fits b d (height e) → Then (AnExpr b (binary_level n)) (SomeChain b n) i j
-chain_reads b n (a_chain p r c) s f =
-    then
-    (record { depth = _; tree = _; reads = r; stops = chain_stops c s; fits = fits_under b f (chain_rises c) })
-    (record { depth = _; at = _; operand = _; tree = _; reads = c; stops = s; fits = f })
+chain_reads b n (a_chain p r c) s f = then (an_expr r (chain_stops c s) (fits_under b f (chain_rises c))) (some_chain c s f)
 
 -- a first operand, and operators of the level with their right operands
 pub chain_form : (b : Bound) (n : ℕ) {i j : List Token} → AnExpr b (binary_level (suc n)) i j → Then (AnExpr b (binary_level n)) (SomeChain b n) i j

@@ -19,9 +19,9 @@ use Rattle.c_parser_refusals.specs.Phrases.{Bound, any, within, Fits, fits_any, 
 use Rattle.c_parser_refusals.specs.Operands.{SomeExprs, SomeChain, no_choice_stands, ChoiceTail, ChoiceRest, no_comma_stands, ExprsRest}
 use Rattle.c_parser_refusals.proofs.Combine.{climb, at_same, fails_as, fails_first, fails_later, fails_after, fails_under, fails_begun, fails_beside, fails_past, twin_back, Begins}
 use Rattle.c_parser_refusals.proofs.Fixed.{rank_alike, expr_fixes, expr_on}
-use Rattle.c_parser_refusals.proofs.StmtForms.{fits_part}
+use Rattle.c_parser_refusals.proofs.StmtForms.{fits_part, an_expr}
 use Rattle.c_parser_refusals.proofs.BlockForms.{fits_under}
-use Rattle.c_parser_refusals.proofs.ExprForms.{chain_rises}
+use Rattle.c_parser_refusals.proofs.ExprForms.{chain_rises, some_chain}
 use Rattle.c_parser_refusals.proofs.OperandFails.{operand_fails, operators_fail}
 use Rattle.c_parser_refusals.proofs.PrefixFails.{fits_low}
 use Rattle.c_syntax.proofs.BackTokens.{chained_up}
@@ -43,10 +43,7 @@ level_up {b} {i} {r} n m l f = climb {P = λ z. Fails (AnExpr b (binary_level z)
 
 operand_reads : (b : Bound) {n d at : ℕ} {o : Infix} {a e : Expr} {t : Token} {i j : List Token} → IsInfix o (suc n) → Is (code_of_infix o) t → Chain d n at a e (t ∷ i) j → Stops (binary_level (suc n)) j → Fits b d (height e) → Then (AnExpr (inner b) (binary_level n)) (SomeChain b n) i j
 operand_reads b {n} {o = o} h k no_operator s f = absurd (omega (arith, ranked_infix n o h k))
-operand_reads b h k (an_operator g c r w) s f =
-    then
-    (record { depth = _; tree = _; reads = r; stops = chain_stops w s; fits = fits_part b f (omega (arith, chain_rises w)) })
-    (record { depth = _; at = _; operand = _; tree = _; reads = w; stops = s; fits = f })
+operand_reads b h k (an_operator g c r w) s f = then (an_expr r (chain_stops w s) (fits_part b f (omega (arith, chain_rises w)))) (some_chain w s f)
 
 -- an operator of the level n + 1, its right operand and what follows
 pub chain_goes : (b : Bound) (n : ℕ) {o : Infix} {t : Token} {i r : List Token} → IsInfix o (suc n) → Is (code_of_infix o) t → Fails (Then (AnExpr (inner b) (binary_level n)) (SomeChain b n)) i r → Fails (SomeChain b n) (t ∷ i) r
@@ -116,14 +113,10 @@ operator_too_high o (suc n) most h l m c w g = too_high h m c w g
 -- conditional expressions (C99 6.5.15)
 
 choice_reads : (b : Bound) {d : ℕ} {e : Expr} {i j : List Token} → Reads d conditional_level e i j → Stops conditional_level j → Fits b d (height e) → Then (AnExpr b (binary_level 10)) (ChoiceRest b) i j
-choice_reads b (no_choice r) s f = then (record { depth = _; tree = _; reads = r; stops = omega (arith, s); fits = f }) (first (no_choice_stands s))
+choice_reads b (no_choice r) s f = then (an_expr r (omega (arith, s)) f) (first (no_choice_stands s))
 choice_reads b (a_choice p r q v c w) s f =
-    then
-    (record { depth = _; tree = _; reads = r; stops = omega (arith, ranked q); fits = fits_under b f (omega arith) })
-    (second
-    (then (one q)
-    (then (record { depth = _; tree = _; reads = v; stops = omega (arith, ranked c); fits = fits_part b f (omega arith) })
-    (then (one c) (record { depth = _; tree = _; reads = w; stops = s; fits = fits_part b f (omega arith) })))))
+    then (an_expr r (omega (arith, ranked q)) (fits_under b f (omega arith)))
+    (second (then (one q) (then (an_expr v (omega (arith, ranked c)) (fits_part b f (omega arith))) (then (one c) (an_expr w s (fits_part b f (omega arith)))))))
 
 -- the test fails
 pub test_fails : {b : Bound} {i r : List Token} → Fails (AnExpr b (binary_level 10)) i r → Fails (AnExpr b conditional_level) i r
@@ -191,10 +184,7 @@ record Moved (d : ℕ) (e : Expr) (i j h k : List Token) : Type 0 where
 
 is_unary_place : {d x : ℕ} {e f : Expr} {h k l : List Token} → rank k ≡ 13 → Reads d conditional_level e h k → Reads x assignment_level f h l → Stops assignment_level l → Reads x unary_level e h k
 is_unary_place z r (no_assignment w) s = let v = same r w (omega (arith, z)) (omega (arith, s)) in absurd (omega (arith, z, s, ranks v.1))
-is_unary_place z r (an_assignment p w h q y) s = let v = same r (no_choice (chained_up 10 (no_cast w))) (omega (arith, z)) (omega (arith, ranked h, assignment_rank q)) in moved v.0 v.1 w
-  where
-    moved : {x : ℕ} {e f : Expr} {i j k : List Token} → e ≡ f → j ≡ k → Reads x unary_level f i k → Reads x unary_level e i j
-    moved p q r = rw (p, q) r
+is_unary_place z r (an_assignment p w h q y) s = let v = same r (no_choice (chained_up 10 (no_cast w))) (omega (arith, z)) (omega (arith, ranked h, assignment_rank q)) in rw (v.0, v.1) w
 
 -- an assignment operator stands after what is no unary expression
 pub no_place_fails : {b : Bound} {d : ℕ} {e : Expr} {i j : List Token} → ((x : ℕ) → Reads x unary_level e i j → ⊥) → Reads d conditional_level e i j → rank j ≡ 13 → Fails (AnExpr b assignment_level) i j
@@ -243,11 +233,9 @@ comma_too_high h w g = too_high_before w (λ x f y k z v u s. (comma_goes any h 
 -- lists of expressions
 
 list_reads : (b : Bound) {d : ℕ} {es : Exprs} {i j : List Token} → ReadsList d es i j → Stops expression_level j → Fits b d (height_of_exprs es) → Then (AnExpr b assignment_level) (ExprsRest b) i j
-list_reads b (last_expr r) s f = then (record { depth = _; tree = _; reads = r; stops = omega (arith, s); fits = fits_under b f (omega arith) }) (first (no_comma_stands s))
+list_reads b (last_expr r) s f = then (an_expr r (omega (arith, s)) (fits_under b f (omega arith))) (first (no_comma_stands s))
 list_reads b (next_expr r c w) s f =
-    then
-    (record { depth = _; tree = _; reads = r; stops = omega (arith, ranked c); fits = fits_under b f (omega arith) })
-    (second (then (one c) (record { depth = _; trees = _; reads = w; stops = s; fits = fits_under b f (omega arith) })))
+    then (an_expr r (omega (arith, ranked c)) (fits_under b f (omega arith))) (second (then (one c) (record { depth = _; trees = _; reads = w; stops = s; fits = fits_under b f (omega arith) })))
 
 pub list_form : {b : Bound} {i j : List Token} → SomeExprs b i j → Then (AnExpr b assignment_level) (ExprsRest b) i j
 list_form {b} a = list_reads b a.reads a.stops a.fits

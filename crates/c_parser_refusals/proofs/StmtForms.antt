@@ -5,13 +5,13 @@ use Rattle.c_lexer.specs.declared.punctuator.TheConstants.{LEFT_BRACE, SEMICOLON
 use Rattle.c_lexer.specs.declared.keyword.TheConstants.{BREAK, CONTINUE, DO, FOR, IF, RETURN, SWITCH, WHILE}
 use Rattle.c_syntax.specs.Tree.{Expr, Maybe, Stmt}
 use Rattle.c_syntax.specs.Tokens.{Is, IsKeyword}
-use Rattle.c_syntax.specs.Grammar.{expression_level, Reads}
+use Rattle.c_syntax.specs.Grammar.{Level, expression_level, Reads}
 use Rattle.c_syntax.specs.Statements.{ReadsMaybe, no_expression_stands, an_expression_stands, IsClosed}
 use Rattle.c_syntax.specs.Statements.{ReadsStmt, a_block, an_evaluation, an_if, an_if_else, a_while, a_do, a_for, a_switch, a_break, a_continue, a_return}
 use Rattle.c_syntax.specs.Limits.{height, height_of_maybe, height_of_stmt}
 use Rattle.c_syntax.proofs.Ranks.{ranked}
 use Rattle.c_syntax.proofs.Precedence.{Stops}
-use Rattle.c_syntax.proofs.Heads.{head, headed, worded}
+use Rattle.c_syntax.proofs.Heads.{head_of_word, head, headed, worded}
 use Rattle.c_syntax.proofs.StmtCases.{decided}
 use Rattle.c_parser_refusals.specs.Fails.{then, first, second, one}
 use Rattle.c_parser_refusals.specs.Phrases.{Bound, any, within, Fits, fits_any, fits_within, inner, AnExpr, AStmt, no_else, no_expr, MaybeExpr, Punctuator, InBlock, in_block, in_switch, IfTail, WhileTail, DoTail, ForTail, SwitchTail, ReturnTail, EvaluationTail}
@@ -21,7 +21,7 @@ pub fits_part : (b : Bound) {d h n : ℕ} → Fits b d n → suc h ≤ n → Fit
 fits_part any fits_any l = fits_any
 fits_part (within p n) (fits_within f g) l = fits_within f (omega arith)
 
-an_expr : {b : Bound} {d : ℕ} {e : Expr} {i j : List Token} → Reads d expression_level e i j → Stops expression_level j → Fits b d (height e) → AnExpr b expression_level i j
+pub an_expr : {b : Bound} {d : ℕ} {l : Level} {e : Expr} {i j : List Token} → Reads d l e i j → Stops l j → Fits b d (height e) → AnExpr b l i j
 an_expr r s f = record { depth = _; tree = _; reads = r; stops = s; fits = f }
 
 -- an expression that may be left out, before a semicolon or a parenthesis
@@ -89,19 +89,17 @@ block_reads b w v g = absurd (omega (arith, headed w, decided v))
 pub block_form : (b : Bound) {t : Token} {i j : List Token} → Is LEFT_BRACE t → AStmt b (t ∷ i) j → InBlock (inner b) i j
 block_form b w a = block_reads b w a.reads a.fits
 
-break_reads : {d : ℕ} {s : Stmt} {t : Token} {i j : List Token} → IsKeyword BREAK t → ReadsStmt d s (t ∷ i) j → Punctuator SEMICOLON i j
-break_reads w (a_break v e) = one e
-break_reads w v = absurd (omega (arith, worded w, decided v))
+-- a word that is a statement with a semicolon
+jump_reads : {code d : ℕ} {s : Stmt} {t : Token} {i j : List Token} → 28 ≤ head_of_word code → head_of_word code ≤ 29 → IsKeyword code t → ReadsStmt d s (t ∷ i) j → Punctuator SEMICOLON i j
+jump_reads l g w (a_break v e) = one e
+jump_reads l g w (a_continue v e) = one e
+jump_reads l g w v = absurd (omega (arith, worded w, decided v))
 
 pub break_form : (b : Bound) {t : Token} {i j : List Token} → IsKeyword BREAK t → AStmt b (t ∷ i) j → Punctuator SEMICOLON i j
-break_form b w a = break_reads w a.reads
-
-continue_reads : {d : ℕ} {s : Stmt} {t : Token} {i j : List Token} → IsKeyword CONTINUE t → ReadsStmt d s (t ∷ i) j → Punctuator SEMICOLON i j
-continue_reads w (a_continue v e) = one e
-continue_reads w v = absurd (omega (arith, worded w, decided v))
+break_form b w a = jump_reads (omega arith) (omega arith) w a.reads
 
 pub continue_form : (b : Bound) {t : Token} {i j : List Token} → IsKeyword CONTINUE t → AStmt b (t ∷ i) j → Punctuator SEMICOLON i j
-continue_form b w a = continue_reads w a.reads
+continue_form b w a = jump_reads (omega arith) (omega arith) w a.reads
 
 -- a statement that begins with none of these is an expression and a semicolon
 evaluation_reads : (b : Bound) {d : ℕ} {s : Stmt} {i j : List Token} → (20 ≤ head i → head i ≡ 20) → ReadsStmt d s i j → Fits b d (height_of_stmt s) → EvaluationTail (inner b) i j
