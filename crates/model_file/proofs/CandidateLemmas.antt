@@ -20,6 +20,7 @@ use Rattle.model_file.specs.Words.{numbers_text, HasSpace, AreCandidates, IsCall
 use Rattle.model_file.proofs.LineLemmas.{plain_number}
 use Rattle.line_text.proofs.Splits.{err_first}
 use Rattle.model_file.proofs.Narrowing.{LeadsInto, into_start, into_case, into_next, into_same, reads_same}
+use Rattle.model_file.proofs.OrderLemmas.{none_rise}
 use Rattle.model_file.proofs.Orders.{less_from_lt, lt_from_less}
 
 -- one number or several
@@ -31,9 +32,8 @@ BeginFrom least (n ∷ rest) = (least ≤ n) × IsSmall n
 
 -- there are at least two numbers
 abbrev pub AreMore : List ℕ → Type 0
-AreMore [] = ⊥
-AreMore (n ∷ []) = ⊥
 AreMore (n ∷ m ∷ rest) = Unit {0}
+AreMore a = ⊥
 
 small_plain : (n : ℕ) → IsSmall n → IsPlain (decimal n)
 small_plain n small = decimal-IsPlain n (omega arith)
@@ -140,9 +140,8 @@ Later least (n ∷ []) = (least ≤ n) × IsSmall n
 Later least (n ∷ m ∷ rest) = (least ≤ n) × IsSmall n × Later (n + 1) (m ∷ rest)
 
 pub later_begins : (least : ℕ) (ns : List ℕ) → Later least ns → BeginFrom least ns
-later_begins least [] later = later
-later_begins least (n ∷ []) later = later
 later_begins least (n ∷ m ∷ rest) later = (later.0, later.1)
+later_begins least ns later = later
 
 pub later_split : (least : ℕ) → IsSplit (λ ns. Later least ns × AreMore ns) numbers_text (λ n. (least ≤ n) × (n ≤ 4294967294)) (number_word 32) (λ n. Later (n + 1)) (λ n. numbers_text) (λ n ns. n ∷ ns)
 later_split least = record {
@@ -152,11 +151,10 @@ later_split least = record {
   plain = λ n in_n. plain_number n (omega (arith, in_n.1));
 } where
   apart : (ns : List ℕ) → Later least ns × AreMore ns → (n : ℕ) × (rest : List ℕ) × ((least ≤ n) × (n ≤ 4294967294)) × Later (n + 1) rest × (ns ≡ n ∷ rest)
-  apart [] fits = absurd fits.1
-  apart (n ∷ []) fits = absurd fits.1
   apart (n ∷ m ∷ rest) fits =
       let next = later_begins (n + 1) (m ∷ rest) fits.0.2 in
       (n, m ∷ rest, (fits.0.0, omega (arith, next.0, next.1)), fits.0.2, refl)
+  apart ns fits = absurd fits.1
 
   joined : (n : ℕ) (ns : List ℕ) → (least ≤ n) × (n ≤ 4294967294) → Later (n + 1) ns → (Later least (n ∷ ns) × AreMore (n ∷ ns)) × (numbers_text (n ∷ ns) ≡ number_word 32 n ++ numbers_text ns)
   joined n [] in_n later = absurd later
@@ -174,7 +172,7 @@ later_are least [] later = absurd later
 later_are least (n ∷ []) later = record {
   some = λ is. cc;
   small = All-cons IsSmall n [] later.1 (All-nil IsSmall);
-  rise = AllPairs-cons (λ x y. nat_cmp x y ≡ Less) n [] (All-nil (λ y. nat_cmp n y ≡ Less)) (λ i j d before within. absurd (omega arith));
+  rise = AllPairs-cons (λ x y. nat_cmp x y ≡ Less) n [] (All-nil (λ y. nat_cmp n y ≡ Less)) (none_rise nat_cmp);
 }
 later_are least (n ∷ m ∷ rest) later =
     let more = later_are (n + 1) (m ∷ rest) later.2 in
@@ -224,11 +222,8 @@ end_split from site = record {
   plain = λ n in_n. plain_number n (omega (arith, in_n.1));
 }
 
-none_rise : StrictlyRise nat_cmp []
-none_rise = λ i j d before within. absurd (omega arith)
-
 pub end_made : (from site n : ℕ) → 0 ≤ n → IsSmall n → IsCallEnd from site (call_of from site n []) × ((n ∷ []) ≡ (n ∷ []))
-end_made from site n low small = (record { begins = refl; at_site = refl; to = small; candidates = All-nil IsSmall; rise = none_rise }, refl)
+end_made from site n low small = (record { begins = refl; at_site = refl; to = small; candidates = All-nil IsSmall; rise = none_rise nat_cmp }, refl)
 
 pub end_begins : (from site : ℕ) (c : Call) → IsCallEnd from site c → BeginFrom 0 (c.to ∷ c.candidates)
 end_begins from site c fits = (omega arith, fits.to)

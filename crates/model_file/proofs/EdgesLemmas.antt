@@ -1,9 +1,8 @@
 -- The lines of edges: what may follow each.
 use Rattle.std.proofs.Common.{◌≡◌, ℕ, zero, suc, List, [], ◌∷◌, ◌++◌, length, Option, None, decimal, refl, sym, ◌∙◌, ap, subst, append_assoc, arith}
 use Rattle.std.specs.Prelude.{All, flat_map, codes}
-use Rattle.std.specs.Ordering.{nat_cmp}
 use Rattle.std.proofs.lemmas.List.{append-nil}
-use Rattle.std.proofs.lemmas.List.Elements.{All-append}
+use Rattle.std.proofs.lemmas.List.Elements.{All-push}
 use Rattle.line_text.proofs.FilesLemmas.{GoesOn}
 use Rattle.sys_table.specs.Table.{name_of}
 use Rattle.flow_model.specs.declared.records.ModelFunction.{ModelFunction}
@@ -23,89 +22,36 @@ use Rattle.model_file.specs.Lines.{model_line, MayFollow, IsAfterSilent, IsAfter
 use Rattle.model_file.specs.ModelText.{silent_line, sys_line, call_line, start_line, ending, pattern_text, IsSmall, IsSpelledFunction, IsSpelledSilent, IsSpelledSys, IsSpelledCall, IsSpelled}
 use Rattle.model_file.specs.States.{calls_text, sys_text, MoreSilent, MoreSys, MoreCalls, More, AtEdges, AtEnd, AtLast, IsLastOf, IsLastSite, IsLast, with_silent, with_sys, with_call, AfterLine}
 use Rattle.model_file.proofs.FrameLemmas.{Step}
-use Rattle.model_file.proofs.OrderLemmas.{all_front, all_at, rise_front, rise_push, after_last, calls_push, call_after_last}
-
-all_push : {X : Type 0} (P : X → Type 0) (xs : List X) (x : X) → All P xs → P x → All P (xs ++ x ∷ [])
-all_push P xs x all fits = All-append P xs (x ∷ []) all (λ k d within. one P x fits k d within)
-  where
-    one : {X : Type 0} (P : X → Type 0) (x : X) → P x → All P (x ∷ [])
-    one P x fits zero d within = fits
-    one P x fits (suc k) d within = absurd (omega (arith, within))
+use Rattle.model_file.proofs.KindLemmas.{ends_in_feed}
+use Rattle.model_file.proofs.OrderLemmas.{all_at, rise_push, after_last, calls_push, call_after_last, listed_front, spell}
 
 -- what was read has a text of its own
 
 -- of lists that have a text, the first parts have one, with any small numbers of nodes and start
 spelled_front : (v : ModelVersion) (g : Graph) (given : Records) (n start : ℕ) (es : List SilentEdge) (ss : List SysEdge) (cs : List Call) → IsSpelled v g → IsSmall n → IsSmall start → g.functions ≡ given.functions → g.silent ≡ given.silent ++ es → g.sys ≡ given.sys ++ ss → g.calls ≡ given.calls ++ cs → IsSpelled v (graph_of_records given n start)
 spelled_front v g given n start es ss cs spelled small small_start functions silent sys calls =
-    record {
-      nodes = small;
-      start = small_start;
-      count = subst (λ (fs : List ModelFunction). IsSmall (length fs)) functions spelled.count;
-      functions = subst (All IsSpelledFunction) functions spelled.functions;
-      silent = all_front IsSpelledSilent given.silent es (subst (All IsSpelledSilent) silent spelled.silent);
-      sys = all_front (IsSpelledSys v) given.sys ss (subst (All (IsSpelledSys v)) sys spelled.sys);
-      calls = all_front IsSpelledCall given.calls cs (subst (All IsSpelledCall) calls spelled.calls);
-      order = record {
-        silent = rise_front silent_order given.silent es (subst (StrictlyRise silent_order) silent spelled.order.silent);
-        sys = rise_front sys_order given.sys ss (subst (StrictlyRise sys_order) sys spelled.order.sys);
-        calls = rise_front site_order given.calls cs (subst (StrictlyRise site_order) calls spelled.order.calls);
-        candidates = all_front (λ (c : Call). StrictlyRise nat_cmp c.candidates) given.calls cs (subst (All (λ (c : Call). StrictlyRise nat_cmp c.candidates)) calls spelled.order.candidates);
-      };
-    }
+    spell v (graph_of_records given n start) small small_start (subst (λ (fs : List ModelFunction). IsSmall (length fs)) functions spelled.count)
+    (subst (All IsSpelledFunction) functions spelled.functions)
+    (listed_front IsSpelledSilent silent_order given.silent es g.silent silent (spelled.silent, spelled.order.silent))
+    (listed_front (IsSpelledSys v) sys_order given.sys ss g.sys sys (spelled.sys, spelled.order.sys))
+    (listed_front IsSpelledCall site_order given.calls cs g.calls calls (spelled.calls, spelled.order.calls))
 
 spelled_silent : (v : ModelVersion) (given : Records) (n start : ℕ) (last : Option SilentEdge) (e : SilentEdge) → IsSpelled v (graph_of_records given n start) → IsLastOf last given.silent → IsSpelledSilent e → IsAfterSilent last e → IsSpelled v (graph_of_records (with_silent e given) n start)
 spelled_silent v given n start last e spelled is fits after =
-    record {
-      nodes = spelled.nodes;
-      start = spelled.start;
-      count = spelled.count;
-      functions = spelled.functions;
-      silent = all_push IsSpelledSilent given.silent e spelled.silent fits;
-      sys = spelled.sys;
-      calls = spelled.calls;
-      order = record {
-        silent = rise_push silent_order_total given.silent last e spelled.order.silent is after;
-        sys = spelled.order.sys;
-        calls = spelled.order.calls;
-        candidates = spelled.order.candidates;
-      };
-    }
+    spell v (graph_of_records (with_silent e given) n start) spelled.nodes spelled.start spelled.count spelled.functions
+    (All-push IsSpelledSilent given.silent e spelled.silent fits, rise_push silent_order_total given.silent last e spelled.order.silent is after)
+    (spelled.sys, spelled.order.sys) (spelled.calls, spelled.order.calls)
 
 spelled_sys : (v : ModelVersion) (given : Records) (n start : ℕ) (last : Option SysEdge) (e : SysEdge) → IsSpelled v (graph_of_records given n start) → IsLastOf last given.sys → IsSpelledSys v e → IsAfterSys last e → IsSpelled v (graph_of_records (with_sys e given) n start)
 spelled_sys v given n start last e spelled is fits after =
-    record {
-      nodes = spelled.nodes;
-      start = spelled.start;
-      count = spelled.count;
-      functions = spelled.functions;
-      silent = spelled.silent;
-      sys = all_push (IsSpelledSys v) given.sys e spelled.sys fits;
-      calls = spelled.calls;
-      order = record {
-        silent = spelled.order.silent;
-        sys = rise_push sys_order_total given.sys last e spelled.order.sys is after;
-        calls = spelled.order.calls;
-        candidates = spelled.order.candidates;
-      };
-    }
+    spell v (graph_of_records (with_sys e given) n start) spelled.nodes spelled.start spelled.count spelled.functions (spelled.silent, spelled.order.silent)
+    (All-push (IsSpelledSys v) given.sys e spelled.sys fits, rise_push sys_order_total given.sys last e spelled.order.sys is after)
+    (spelled.calls, spelled.order.calls)
 
 spelled_call : (v : ModelVersion) (given : Records) (n start : ℕ) (last : Option ℕ) (c : Call) → IsSpelled v (graph_of_records given n start) → IsLastSite last given.calls → IsSpelledCall c → IsAfterSite last c.site → IsSpelled v (graph_of_records (with_call c given) n start)
 spelled_call v given n start last c spelled is fits after =
-    record {
-      nodes = spelled.nodes;
-      start = spelled.start;
-      count = spelled.count;
-      functions = spelled.functions;
-      silent = spelled.silent;
-      sys = spelled.sys;
-      calls = all_push IsSpelledCall given.calls c spelled.calls fits;
-      order = record {
-        silent = spelled.order.silent;
-        sys = spelled.order.sys;
-        calls = calls_push given.calls last c spelled.order.calls is after;
-        candidates = all_push (λ (d : Call). StrictlyRise nat_cmp d.candidates) given.calls c spelled.order.candidates fits.rise;
-      };
-    }
+    spell v (graph_of_records (with_call c given) n start) spelled.nodes spelled.start spelled.count spelled.functions (spelled.silent, spelled.order.silent)
+    (spelled.sys, spelled.order.sys) (All-push IsSpelledCall given.calls c spelled.calls fits, calls_push given.calls last c spelled.order.calls is after)
 
 no_more : {X : Type 0} (xs : List X) (ys : List X) → xs ≡ ys → xs ≡ ys ++ []
 no_more xs ys is = is ∙ sym (append-nil ys)
@@ -143,16 +89,14 @@ from_sys v given g w none left =
 
 -- a line that may follow in a later section may follow in an earlier one
 earlier_calls : (v : ModelVersion) (last : Option SysEdge) (line : ModelLine) → MayFollow v (sections.Call None) line → MayFollow v (sections.Sys last) line
-earlier_calls v last (lines.Silent e) may = absurd may
-earlier_calls v last (lines.Sys e) may = absurd may
 earlier_calls v last (lines.Call c) may = may.0
 earlier_calls v last (lines.Start start) may = may
+earlier_calls v last line may = absurd may
 
 earlier_sys : (v : ModelVersion) (last : Option SilentEdge) (line : ModelLine) → MayFollow v (sections.Sys None) line → MayFollow v (sections.Silent last) line
 earlier_sys v last (lines.Silent e) may = absurd may
 earlier_sys v last (lines.Sys e) may = may.0
-earlier_sys v last (lines.Call c) may = may
-earlier_sys v last (lines.Start start) may = may
+earlier_sys v last line may = may
 
 -- which line follows
 
@@ -254,26 +198,19 @@ left_before v given n (sections.Silent last) is g (lines.Silent e) u w may after
 left_before v given n (sections.Silent last) is g (lines.Sys e) u w may after stands = from_sys v given g w is.1 (sys_left v given e g u w after.left stands)
 left_before v given n (sections.Silent last) is g (lines.Call c) u w may after stands = from_sys v given g w is.1 (from_calls v given g w is.2 (call_left given c g u w after.left stands))
 left_before v given n (sections.Silent last) is g (lines.Start start) u w may after stands = from_sys v given g w is.1 (from_calls v given g w is.2 (end_left v given n start g u w after stands))
-left_before v given n (sections.Sys last) is g (lines.Silent e) u w may after stands = absurd may
 left_before v given n (sections.Sys last) is g (lines.Sys e) u w may after stands = sys_left v given e g u w after.left stands
 left_before v given n (sections.Sys last) is g (lines.Call c) u w may after stands = from_calls v given g w is.1 (call_left given c g u w after.left stands)
 left_before v given n (sections.Sys last) is g (lines.Start start) u w may after stands = from_calls v given g w is.1 (end_left v given n start g u w after stands)
-left_before v given n (sections.Call last) is g (lines.Silent e) u w may after stands = absurd may
-left_before v given n (sections.Call last) is g (lines.Sys e) u w may after stands = absurd may
 left_before v given n (sections.Call last) is g (lines.Call c) u w may after stands = call_left given c g u w after.left stands
 left_before v given n (sections.Call last) is g (lines.Start start) u w may after stands = end_left v given n start g u w after stands
+left_before v given n section is g line u w may after stands = absurd may
 
 -- the rest of what is told after a line
 told_before : (v : ModelVersion) (given : Records) (n : ℕ) (section : Section) (g : Graph) (line : ModelLine) (u w : List ℕ) → AfterLine v given n line g u → More v given section g w → AtEdges v given n section g w
-told_before v given n section g (lines.Silent e) u w after left = record { spelled = after.spelled; functions = after.functions; nodes = after.nodes; left = left }
-told_before v given n section g (lines.Sys e) u w after left = record { spelled = after.spelled; functions = after.functions; nodes = after.nodes; left = left }
-told_before v given n section g (lines.Call c) u w after left = record { spelled = after.spelled; functions = after.functions; nodes = after.nodes; left = left }
 told_before v given n section g (lines.Start start) u w after left = record { spelled = after.spelled; functions = ap (λ (h : Graph). h.functions) after.is; nodes = ap (λ (h : Graph). h.nodes) after.is; left = left }
+told_before v given n section g line u w after left = record { spelled = after.spelled; functions = after.functions; nodes = after.nodes; left = left }
 
 -- something may follow each line
-
-zero_start : IsSmall 0
-zero_start = omega arith
 
 silent_some : (v : ModelVersion) (given : Records) (n : ℕ) (last : Option SilentEdge) (e : SilentEdge) → IsSpelled v (graph_of_records (with_silent e given) n 0) → (g : Graph) × (u : List ℕ) × AfterLine v given n (lines.Silent e) g u
 silent_some v given n last e spelled =
@@ -294,31 +231,20 @@ start_some : (v : ModelVersion) (given : Records) (n start : ℕ) → IsSpelled 
 start_some v given n start spelled = (graph_of_records given n start, codes "end\n", record { spelled = spelled; is = refl; rest = refl })
 
 edges_some : (v : ModelVersion) (given : Records) (n : ℕ) (section : Section) → IsLast section given → ((start : ℕ) → IsSmall start → IsSpelled v (graph_of_records given n start)) → (line : ModelLine) → MayFollow v section line → (g : Graph) × (u : List ℕ) × AfterLine v given n line g u
-edges_some v given n (sections.Silent last) is own (lines.Silent e) may = silent_some v given n last e (spelled_silent v given n 0 last e (own 0 zero_start) is.0 may.0 may.1)
-edges_some v given n (sections.Silent last) is own (lines.Sys e) may = sys_some v given n e (spelled_sys v given n 0 None e (own 0 zero_start) is.1 may tt)
-edges_some v given n (sections.Silent last) is own (lines.Call c) may = call_some v given n c (spelled_call v given n 0 None c (own 0 zero_start) is.2 may tt)
-edges_some v given n (sections.Silent last) is own (lines.Start start) may = start_some v given n start (own start may)
-edges_some v given n (sections.Sys last) is own (lines.Silent e) may = absurd may
-edges_some v given n (sections.Sys last) is own (lines.Sys e) may = sys_some v given n e (spelled_sys v given n 0 last e (own 0 zero_start) is.0 may.0 may.1)
-edges_some v given n (sections.Sys last) is own (lines.Call c) may = call_some v given n c (spelled_call v given n 0 None c (own 0 zero_start) is.1 may tt)
-edges_some v given n (sections.Sys last) is own (lines.Start start) may = start_some v given n start (own start may)
-edges_some v given n (sections.Call last) is own (lines.Silent e) may = absurd may
-edges_some v given n (sections.Call last) is own (lines.Sys e) may = absurd may
-edges_some v given n (sections.Call last) is own (lines.Call c) may = call_some v given n c (spelled_call v given n 0 last c (own 0 zero_start) is may.0 may.1)
-edges_some v given n (sections.Call last) is own (lines.Start start) may = start_some v given n start (own start may)
-
--- the line feed at the end of each line
-line_ends : (v : ModelVersion) (line : ModelLine) → (front : List ℕ) × (model_line v line ≡ front ++ 10 ∷ [])
-line_ends v (lines.Silent e) = (codes "e " ++ decimal e.from ++ 32 ∷ decimal e.to, refl)
-line_ends v (lines.Sys e) = (codes "s " ++ decimal e.from ++ 32 ∷ name_of e.name ++ 32 ∷ decimal e.to ++ pattern_text v e.args, refl)
-line_ends v (lines.Call c) = (codes "c " ++ decimal c.from ++ 32 ∷ decimal c.site ++ 32 ∷ decimal c.to ++ flat_map (λ f. 32 ∷ decimal f) c.candidates, refl)
-line_ends v (lines.Start start) = (codes "start " ++ decimal start, refl)
+edges_some v given n (sections.Silent last) is own (lines.Silent e) may = silent_some v given n last e (spelled_silent v given n 0 last e (own 0 (omega arith)) is.0 may.0 may.1)
+edges_some v given n (sections.Silent last) is own (lines.Sys e) may = sys_some v given n e (spelled_sys v given n 0 None e (own 0 (omega arith)) is.1 may tt)
+edges_some v given n (sections.Silent last) is own (lines.Call c) may = call_some v given n c (spelled_call v given n 0 None c (own 0 (omega arith)) is.2 may tt)
+edges_some v given n (sections.Sys last) is own (lines.Sys e) may = sys_some v given n e (spelled_sys v given n 0 last e (own 0 (omega arith)) is.0 may.0 may.1)
+edges_some v given n (sections.Sys last) is own (lines.Call c) may = call_some v given n c (spelled_call v given n 0 None c (own 0 (omega arith)) is.1 may tt)
+edges_some v given n (sections.Call last) is own (lines.Call c) may = call_some v given n c (spelled_call v given n 0 last c (own 0 (omega arith)) is may.0 may.1)
+edges_some v given n section is own (lines.Start start) may = start_some v given n start (own start may)
+edges_some v given n section is own line may = absurd may
 
 -- a line more among the edges
 pub edges_step : (v : ModelVersion) (given : Records) (n : ℕ) (section : Section) (g : Graph) (w : List ℕ) → IsLast section given → AtEdges v given n section g w → Step (AtEdges v given n section) (MayFollow v section) (model_line v) (AfterLine v given n)
 edges_step v given n section g w is at =
     record {
-      ends = line_ends v;
+      ends = ends_in_feed v;
       onward = edges_onward v given n section is;
       back = λ h t on. told_before v given n section h on.0 on.1 t on.3 (left_before v given n section is h on.0 on.1 t on.2 on.3 on.4);
       some = edges_some v given n section is (λ start small. spelled_read v given n start section g w is at small);

@@ -6,18 +6,16 @@ use Rattle.std.specs.declared.cmp.Ordering.TheVariants.{Less, Equal}
 use Rattle.std.specs.Option.{option_cmp}
 use Rattle.std.specs.Ordering.{int_cmp, ordering_then}
 use Rattle.std.proofs.lemmas.List.{append-nil}
-use Rattle.std.proofs.lemmas.List.Elements.{Contains-append_cases}
 use Rattle.dm_base.specs.Pattern.{pattern_cmp}
 use Rattle.line_text.specs.declared.miss.Miss.{Miss}
 use Rattle.line_text.specs.Reading.{StandsFirst, Reads}
-use Rattle.line_text.proofs.WordLemmas.{IsPlain-no_feed}
 use Rattle.line_text.proofs.IntegerLemmas.{signed-IsPlain}
 use Rattle.sys_table.specs.declared.kinds.ArgKind.{ArgKind}
 use Rattle.sys_table.specs.Table.{FitsEntry}
 use Rattle.model_file.specs.ModelText.{entry_text}
 use Rattle.model_file.specs.SysBounds.{AreEntries, IsFrom, end_after, entry_word, entries_words}
 use Rattle.model_file.specs.declared.version.ModelVersion.TheVariants.{Two}
-use Rattle.model_file.proofs.LineLemmas.{no_feed_space}
+use Rattle.model_file.proofs.LineLemmas.{plain_word, plain_spaced}
 use Rattle.model_file.proofs.Narrowing.{Leads, IsEndedPart, IsWhole, With, leads_start, ends_on, ends_miss, whole_miss, whole_stands}
 use Rattle.model_file.proofs.PatternLemmas.{IsLeastEntry, wide, then_cases, entries_tie, entry_ties, drop_next, none_after}
 
@@ -30,13 +28,8 @@ tail_of [] = []
 tail_of (x ∷ es) = es
 
 plain_entry : (kind : ArgKind) (x : Option ℤ) → FitsEntry kind x → Contains (entry_word 32 x) 10 → ⊥
-plain_entry kind None fits (zero, within, is) = omega (arith, is)
-plain_entry kind None fits (suc zero, within, is) = omega (arith, is)
-plain_entry kind None fits (suc (suc k), within, is) = omega (arith, within)
-plain_entry kind (Some z) fits has = elim (Contains-append_cases (entry_text (Some z)) (32 ∷ []) 10 has) [
-  | inl front ↦ IsPlain-no_feed (entry_text (Some z)) (signed-IsPlain z (wide kind z fits)) front
-  | inr back ↦ no_feed_space back
-]
+plain_entry kind None fits = plain_word (42 ∷ 32 ∷ []) refl
+plain_entry kind (Some z) fits = plain_spaced (entry_text (Some z)) (signed-IsPlain z (wide kind z fits))
 
 -- some entries
 module _ (kind : ArgKind) (others : List ArgKind) (last : Option (List (Option ℤ))) (place : ℕ) (least : Option ℤ) (bound : IsLeastEntry others last place least) where
@@ -55,9 +48,8 @@ module _ (kind : ArgKind) (others : List ArgKind) (last : Option (List (Option �
 
   splits_by : (kinds : List ArgKind) (x : Option ℤ) (es : List (Option ℤ)) → AllZip FitsEntry kinds es → entries_words (x ∷ es) ≡ entry_word (end_after Two kinds) x ++ entries_words es
   splits_by [] x [] fits = sym (append-nil (entry_word 10 x))
-  splits_by [] x (y ∷ es) fits = absurd fits
-  splits_by (k ∷ kinds) x [] fits = absurd fits
   splits_by (k ∷ kinds) x (y ∷ es) fits = refl
+  splits_by kinds x es fits = absurd fits
 
   splits : (es : List (Option ℤ)) → All_ es → entries_words es ≡ entry_word (end_after Two others) (head_of es) ++ entries_words (tail_of es)
   splits [] fits = absurd fits.0
@@ -80,10 +72,10 @@ abbrev pub IsTiedEntry : Option (List (Option ℤ)) → ℕ → Option ℤ → O
 IsTiedEntry last place entry tied = IfSome tied (λ d. (last ≡ Some d) × (slice_get d place ≡ Some entry)) × IfNone tied (IfSome last (λ d. slice_get d place ≢ Some entry))
 
 drop_none : (d : List (Option ℤ)) (place : ℕ) → slice_get d place ≡ None → drop place d ≡ []
-drop_none [] zero is = refl
-drop_none [] (suc k) is = refl
 drop_none (y ∷ d) zero is = cc
 drop_none (y ∷ d) (suc k) is = drop_none d k is
+drop_none [] zero is = refl
+drop_none [] (suc k) is = refl
 
 not_itself : (x : Option ℤ) → option_cmp int_cmp x x ≡ Less → ⊥
 not_itself x less = let e : Less ≡ Equal = sym less ∙ entry_ties x in cc

@@ -1,5 +1,5 @@
 -- Reading a line more, whatever the line.
-use Rattle.std.proofs.Common.{◌≡◌, ℕ, ◌+◌, List, [], ◌∷◌, ◌++◌, take, drop, refl, sym, ◌∙◌, ap, subst, inl, inr, append_assoc, Contains, arith}
+use Rattle.std.proofs.Common.{◌≡◌, ◌≢◌, ℕ, ◌+◌, List, [], ◌∷◌, ◌++◌, take, drop, refl, sym, ◌∙◌, ap, subst, inl, inr, append_assoc, Contains, arith}
 use Rattle.std.specs.Prelude.{Ok, Err}
 use Rattle.std.proofs.lemmas.List.{append-nil, append_cancel_right, take-append-drop}
 use Rattle.std.proofs.lemmas.List.Elements.{Contains-append_right}
@@ -35,6 +35,28 @@ has_feed : (front u : List ℕ) → Contains ((front ++ 10 ∷ []) ++ u) 10
 has_feed front u =
     subst (λ (t : List ℕ). Contains t 10) (sym (append_assoc front (10 ∷ []) u)) (Contains-append_right front (10 ∷ u) 10 (0, omega arith, refl))
 
+module _ (At : Spelling → List ℕ → Type 0) (text : List ℕ) (place : Place) (told : IsAt At text place) where
+  abbrev Goes : List ℕ → Type 0
+  Goes w = (m : Spelling) × At m w
+
+  -- nothing that may follow begins with the line
+  pub stop_bad : (line rest : List ℕ) → IsFirstLine (drop place.byte text) line rest → ((m : Spelling) (w : List ℕ) → At m (line ++ w) → ⊥) → IsStop (BadLine (place.line + 1)) text
+  stop_bad line rest first none =
+      let read = plain At place.line (take place.byte text) told in
+      let is : take place.byte text ++ drop place.byte text ≡ text = take-append-drop place.byte text in (
+        subst (λ (t : List ℕ). IsBadLine IsFormedModel t (place.line + 1)) is (bad_line IsFormedModel Goes place.line (take place.byte text) (drop place.byte text) line rest read first (λ w on. none on.0 w on.1)),
+        λ formed. let on = read.follows (drop place.byte text) (subst IsFormedModel (sym is) formed) in none on.0 rest (subst (At on.0) (first_line_whole (drop place.byte text) line rest first) on.1),
+      )
+
+  -- what is left of the text may go on, and may not be all
+  stop_cut : (more : List ℕ) → more ≢ [] → Goes (drop place.byte text ++ more) → ((m : Spelling) → At m (drop place.byte text) → ⊥) → IsStop Truncated text
+  stop_cut more some on none =
+      let read = plain At place.line (take place.byte text) told in
+      let is : take place.byte text ++ drop place.byte text ≡ text = take-append-drop place.byte text in (
+        subst (IsProperPrefix IsFormedModel) is (proper_prefix IsFormedModel Goes place.line (take place.byte text) (drop place.byte text) more read some on),
+        λ formed. let there = read.follows (drop place.byte text) (subst IsFormedModel (sym is) formed) in none there.0 there.1,
+      )
+
 module _ {V : Type 0} {At : Spelling → List ℕ → Type 0} {Fits : V → Type 0} {spelled : V → List ℕ} {After : V → Spelling → List ℕ → Type 0} where
   -- what goes on begins with a line feed's line
   on_has_feed : Step At Fits spelled After → (m : Spelling) (w : List ℕ) → At m w → Contains w 10
@@ -62,22 +84,13 @@ module _ {V : Type 0} {At : Spelling → List ℕ → Type 0} {Fits : V → Type
       no_feed front line rest after is (ended before none end whole) = subst (λ (t : List ℕ). Contains t 10 → ⊥) (append_cancel_right before front (10 ∷ []) (sym end ∙ is)) none
       no_feed front line rest after is (unended none end whole) = absurd (none (subst (λ (t : List ℕ). Contains t 10) (sym (is ∙ sym (append-nil (front ++ 10 ∷ [])))) (has_feed front [])))
 
-  -- no value stands in the line
-  stop_wrong : (text : List ℕ) (place : Place) → Step At Fits spelled After → IsAt At text place → IsMissed Fits spelled text place Wrong → IsStop (BadLine (place.line + 1)) text
-  stop_wrong text place step told missed =
-      let At' : List ℕ → Type 0 = λ w. (m : Spelling) × At m w in
-      let done : List ℕ = take place.byte text in
-      let left : List ℕ = drop place.byte text in
-      let read = plain At place.line done told in
-      let is : done ++ left ≡ text = take-append-drop place.byte text in
-      let none : (w : List ℕ) → At' (missed.line ++ w) → ⊥ = λ w on. wrong_line Fits spelled (λ x u. After x on.0 u) missed.line [] missed.missed w (step.onward on.0 (missed.line ++ w) on.1) in (
-        subst (λ (t : List ℕ). IsBadLine IsFormedModel t (place.line + 1)) is (bad_line IsFormedModel At' place.line done left missed.line missed.rest read missed.first none),
-        λ formed. none missed.rest (subst At' (first_line_whole left missed.line missed.rest missed.first) (read.follows left (subst IsFormedModel (sym is) formed))),
-      )
-
   -- the text ends within the line
   stop_short : (text : List ℕ) (place : Place) → Step At Fits spelled After → IsAt At text place → IsMissed Fits spelled text place Short → IsStop Truncated text
-  stop_short text place step told missed = cut (whole missed.first missed.missed)
+  stop_short text place step told missed =
+      let short = whole missed.first missed.missed in
+      let on = short_line Fits spelled (λ x u. (m : Spelling) × After x m u) left (λ x fits. let some = step.some x fits in (some.1, (some.0, some.2))) short in
+      let goes = on.2 in
+      stop_cut At text place told on.0 on.1 (goes.3.0, step.back goes.3.0 (left ++ on.0) (goes.0, goes.1, goes.2, goes.3.1, goes.4)) (λ m at. short.unended (on_has_feed step m left at))
     where
       left : List ℕ
       left = drop place.byte text
@@ -86,31 +99,12 @@ module _ {V : Type 0} {At : Spelling → List ℕ → Type 0} {Fits : V → Type
       whole {line} {rest} (ended front none end is) short = absurd (ended_not_short Fits spelled line front end short)
       whole {line} {rest} (unended none end is) short = subst (IsCutShort Fits spelled) (sym is) short
 
-      cut : IsCutShort Fits spelled left → IsStop Truncated text
-      cut short =
-          let At' : List ℕ → Type 0 = λ w. (m : Spelling) × At m w in
-          let done : List ℕ = take place.byte text in
-          let read = plain At place.line done told in
-          let is : done ++ left ≡ text = take-append-drop place.byte text in
-          let on = short_line Fits spelled (λ x u. (m : Spelling) × After x m u) left (λ x fits. let some = step.some x fits in (some.1, (some.0, some.2))) short in
-          let goes = on.2 in
-          let fits : At' (left ++ on.0) = (goes.3.0, step.back goes.3.0 (left ++ on.0) (goes.0, goes.1, goes.2, goes.3.1, goes.4)) in (
-            subst (IsProperPrefix IsFormedModel) is (proper_prefix IsFormedModel At' place.line done left on.0 read on.1 fits),
-            λ formed. let there = read.follows left (subst IsFormedModel (sym is) formed) in short.unended (on_has_feed step there.0 left there.1),
-          )
-
   -- the text ends between two lines
   stop_empty : (text : List ℕ) (place : Place) → Step At Fits spelled After → IsAt At text place → drop place.byte text ≡ [] → IsStop Truncated text
   stop_empty text place step told none =
-      let At' : List ℕ → Type 0 = λ w. (m : Spelling) × At m w in
-      let done : List ℕ = take place.byte text in
-      let left : List ℕ = drop place.byte text in
-      let read = plain At place.line done told in
-      let is : done ++ left ≡ text = take-append-drop place.byte text in
-      let some = told.some in (
-        subst (IsProperPrefix IsFormedModel) is (proper_prefix IsFormedModel At' place.line done left some.1 read (λ e. no_feed_in_nil (subst (λ (t : List ℕ). Contains t 10) e (on_has_feed step some.0 some.1 some.2))) (subst (λ (t : List ℕ). At' (t ++ some.1)) (sym none) (some.0, some.2))),
-        λ formed. let there = read.follows left (subst IsFormedModel (sym is) formed) in no_feed_in_nil (subst (λ (t : List ℕ). Contains t 10) none (on_has_feed step there.0 left there.1)),
-      )
+      let some = told.some in
+      stop_cut At text place told some.1 (λ e. no_feed_in_nil (subst (λ (t : List ℕ). Contains t 10) e (on_has_feed step some.0 some.1 some.2))) (some.0, subst (λ (t : List ℕ). At some.0 (t ++ some.1)) (sym none) some.2)
+      (λ m at. no_feed_in_nil (subst (λ (t : List ℕ). Contains t 10) none (on_has_feed step m (drop place.byte text) at)))
     where
       no_feed_in_nil : Contains {X = ℕ} [] 10 → ⊥
       no_feed_in_nil has = absurd (omega (arith, has.1))
@@ -124,9 +118,10 @@ module _ {V : Type 0} {At : Spelling → List ℕ → Type 0} {Fits : V → Type
   -- where it is not, the text is refused so
   pub stopped : (text : List ℕ) (old new : Place) (error : ModelError) → Step At Fits spelled After → IsAt At text old → Takes Fits spelled text old new (Err error) → IsStop error text
   stopped text old new OutOfMemory step told took = tt
-  stopped text old new (BadLine k) step told took = subst (λ (n : ℕ). IsStop (BadLine n) text) (sym took.0) (stop_wrong text old step told took.1)
+  stopped text old new (BadLine k) step told took =
+      let missed = took.1 in
+      subst (λ (n : ℕ). IsStop (BadLine n) text) (sym took.0)
+      (stop_bad At text old told missed.line missed.rest missed.first (λ m w at. wrong_line Fits spelled (λ x u. After x m u) missed.line [] missed.missed w (step.onward m (missed.line ++ w) at)))
   stopped text old new Truncated step told (inl none) = stop_empty text old step told none
   stopped text old new Truncated step told (inr missed) = stop_short text old step told missed
-  stopped text old new TooLarge step told took = absurd took
-  stopped text old new Version step told took = absurd took
-  stopped text old new (Invalid rule) step told took = absurd took
+  stopped text old new error step told took = absurd took

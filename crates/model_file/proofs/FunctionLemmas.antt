@@ -1,25 +1,26 @@
 -- The lines of functions.
 use Rattle.std.proofs.Common.{ℕ, ◌≤◌, List, [], ◌∷◌, ◌++◌, refl, inl, inr, append_assoc, arith}
 use Rattle.std.specs.Prelude.{codes}
-use Rattle.std.proofs.lemmas.List.Elements.{Contains-append_cases}
 use Rattle.dm_base.specs.Name.{IsName}
 use Rattle.flow_model.specs.declared.records.ModelFunction.{ModelFunction}
 use Rattle.line_text.specs.Words.{number_word}
-use Rattle.line_text.proofs.WordLemmas.{IsPlain-no_feed}
 use Rattle.model_file.specs.ModelText.{function_line, IsSmall, IsSpelledFunction}
 use Rattle.model_file.specs.Words.{name_word}
-use Rattle.model_file.proofs.LineLemmas.{first_word, plain_number, plain_word, no_feed_space}
+use Rattle.model_file.proofs.LineLemmas.{first_word, plain_number, plain_word, plain_spaced}
 use Rattle.model_file.proofs.NameLemmas.{name-IsPlain, some_name}
 use Rattle.model_file.proofs.Narrowing.{IsPart, IsWhole, With}
 
 abbrev pub after_word : ModelFunction → List ℕ
 after_word f = name_word f.name ++ (number_word 32 f.entry ++ number_word 10 f.exit)
 
-some_function : IsSpelledFunction (record { name = some_name.0; entry = 0; exit = 0 })
-some_function = record { name = some_name.1; entry = omega arith; exit = omega arith }
+abbrev pub some_function : ModelFunction
+some_function = record { name = some_name.0; entry = 0; exit = 0 }
+
+pub some_spelled : IsSpelledFunction some_function
+some_spelled = record { name = some_name.1; entry = omega arith; exit = omega arith }
 
 pub function_word : IsPart IsSpelledFunction function_line (λ f. tt {0}) (λ u. Unit {0}) (λ u. codes "f ") after_word
-function_word = first_word (codes "f ") (record { name = some_name.0; entry = 0; exit = 0 }) some_function (λ f fits. simp append_assoc) (plain_word (codes "f ") refl)
+function_word = first_word (codes "f ") some_function some_spelled (λ f fits. simp append_assoc) (plain_word (codes "f ") refl)
 
 abbrev pub Worded : ModelFunction → Type 0
 Worded = With IsSpelledFunction (λ f. tt {0}) (tt {0})
@@ -29,10 +30,7 @@ function_name = record {
   into = λ f fits. fits.0.name;
   some = λ name is_name. (record { name = name; entry = 0; exit = 0 }, (record { name = is_name; entry = omega arith; exit = omega arith }, refl), refl);
   splits = λ f fits. refl;
-  plain = λ name is_name has. elim (Contains-append_cases name (32 ∷ []) 10 has) [
-    | inl within ↦ IsPlain-no_feed name (name-IsPlain name is_name) within
-    | inr after ↦ no_feed_space after
-  ];
+  plain = λ name is_name. plain_spaced name (name-IsPlain name is_name);
 }
 
 abbrev pub Named : List ℕ → ModelFunction → Type 0

@@ -1,16 +1,14 @@
 -- The lines up to that of the nodes: what may follow each.
-use Rattle.std.proofs.Common.{◌≡◌, ℕ, zero, suc, ◌<◌, List, [], ◌∷◌, ◌++◌, length, replicate, get_or, Bool, true, false, ◌&&◌, nat_lt, None, decimal, refl, sym, ◌∙◌, ap, subst, inl, inr, append_assoc, arith}
-use Rattle.std.specs.Prelude.{All, IsTrue, flat_map, codes}
-use Rattle.std.specs.List.{list_all}
-use Rattle.std.proofs.lemmas.Bool.{true≢false}
+use Rattle.std.proofs.Common.{◌≡◌, ℕ, ◌<◌, List, [], ◌∷◌, ◌++◌, length, replicate, None, decimal, refl, sym, ◌∙◌, ap, subst, append_assoc, arith}
+use Rattle.std.specs.Prelude.{All, flat_map, codes}
 use Rattle.std.proofs.lemmas.List.{append-nil, length-replicate, length-append}
-use Rattle.std.proofs.lemmas.List.Elements.{All-replicate, All-append}
+use Rattle.std.proofs.lemmas.List.Elements.{All-nil, All-cons, All-replicate, All-append}
 use Rattle.line_text.proofs.FilesLemmas.{GoesOn}
-use Rattle.dm_base.specs.Name.{IsName, IsLetter, keywords}
 use Rattle.flow_model.specs.declared.records.ModelFunction.{ModelFunction}
 use Rattle.flow_model.specs.declared.records.SilentEdge.{SilentEdge}
 use Rattle.flow_model.specs.Built.{Records}
 use Rattle.flow_model.specs.Graph.{Graph}
+use Rattle.flow_model.specs.Order.{silent_order, sys_order, site_order}
 use Rattle.model_file.specs.declared.lines.Section.TheVariants as sections
 use Rattle.model_file.specs.declared.version.ModelVersion.{ModelVersion}
 use Rattle.model_file.specs.declared.version.ModelVersion.TheVariants.{One, Two}
@@ -18,7 +16,8 @@ use Rattle.model_file.specs.ModelText.{head_line, functions_line, function_line,
 use Rattle.model_file.specs.Progress.{Spelling, Spells, HasTold}
 use Rattle.model_file.specs.States.{sys_text, edges_text, Fixed, AtCount, AtFunctions, AtEdges, IsLast}
 use Rattle.model_file.proofs.FrameLemmas.{Step}
-use Rattle.model_file.proofs.OrderLemmas.{all_front, all_at, all_more}
+use Rattle.model_file.proofs.FunctionLemmas.{some_function, some_spelled}
+use Rattle.model_file.proofs.OrderLemmas.{all_front, all_at, all_more, none_rise, spell}
 
 -- once the version is fixed, a line is read as lines of lists are
 pub fixed : {V : Type 0} {At : Graph → List ℕ → Type 0} {Fits : V → Type 0} {spelled : V → List ℕ} {After : V → Graph → List ℕ → Type 0} (v : ModelVersion) → Step At Fits spelled After → Step (Fixed v At) Fits spelled (λ x. Fixed v (After x))
@@ -30,91 +29,25 @@ fixed {V} {At} {Fits} {spelled} {After} v step =
       some = λ x fits. let some = step.some x fits in let m : Spelling = record { version = v; graph = some.0 } in (m, some.1, (refl, some.2));
     }
 
--- a name
-
-letter : (k d : ℕ) → k < 1 → IsLetter (get_or (97 ∷ []) k d)
-letter zero d within = inr (inl (omega arith, omega arith))
-letter (suc k) d within = absurd (omega (arith, within))
-
-second : (a b : Bool) → IsTrue (a && b) → IsTrue b
-second true b both = both
-second false b both = absurd (true≢false (sym both))
-
--- no word of two bytes or more is one byte
-none_single : (words : List (List ℕ)) → IsTrue (list_all (λ w. nat_lt 1 (length w)) words) → (k : ℕ) → k < length words → get_or words k (97 ∷ []) ≡ 97 ∷ [] → ⊥
-none_single [] long k within is = absurd (omega (arith, within))
-none_single (w ∷ words) long zero within is =
-    true≢false (sym (subst (λ (x : List ℕ). IsTrue (nat_lt 1 (length x) && list_all (λ y. nat_lt 1 (length y)) words)) is long))
-none_single (w ∷ words) long (suc k) within is = none_single words (second (nat_lt 1 (length w)) (list_all (λ y. nat_lt 1 (length y)) words) long) k (omega (arith, within)) is
-
-one_letter : IsName (97 ∷ [])
-one_letter =
-    record {
-      some = omega arith;
-      short = omega arith;
-      begins = λ b rest is. let same : 97 ≡ b = cc in subst IsLetter same (inr (inl (omega arith, omega arith)));
-      bytes = λ k d within. inl (letter k d within);
-      free = λ has. none_single keywords refl has.0 has.1 has.2;
-    }
-
 -- lists with no edges
 
 abbrev with_functions : List ModelFunction → Graph
 with_functions functions = record { nodes = 0; start = 0; functions = functions; silent = []; sys = []; calls = [] }
 
-none_in : {X : Type 0} (P : X → Type 0) → All P []
-none_in P k d within = absurd (omega (arith, within))
-
 spelled_functions : (v : ModelVersion) (functions : List ModelFunction) → IsSmall (length functions) → All IsSpelledFunction functions → IsSpelled v (with_functions functions)
 spelled_functions v functions small all =
-    record {
-      nodes = omega arith;
-      start = omega arith;
-      count = small;
-      functions = all;
-      silent = none_in _;
-      sys = none_in _;
-      calls = none_in _;
-      order = record {
-        silent = λ i j d before within. absurd (omega (arith, within));
-        sys = λ i j d before within. absurd (omega (arith, within));
-        calls = λ i j d before within. absurd (omega (arith, within));
-        candidates = none_in _;
-      };
-    }
-
-abbrev plain_function : ModelFunction
-plain_function = record { name = 97 ∷ []; entry = 0; exit = 0 }
-
-plain_spelled : IsSpelledFunction plain_function
-plain_spelled = record { name = one_letter; entry = omega arith; exit = omega arith }
+    spell v (with_functions functions) (omega arith) (omega arith) small all (All-nil _, none_rise silent_order) (All-nil _, none_rise sys_order) (All-nil _, none_rise site_order)
 
 -- the same lists with other functions, as many
 other_functions : (v : ModelVersion) (g : Graph) (functions : List ModelFunction) → length functions ≡ length g.functions → All IsSpelledFunction functions → IsSpelled v g → IsSpelled v (record g { functions = functions })
 other_functions v g functions same all spelled =
-    record {
-      nodes = spelled.nodes;
-      start = spelled.start;
-      count = subst IsSmall (sym same) spelled.count;
-      functions = all;
-      silent = spelled.silent;
-      sys = spelled.sys;
-      calls = spelled.calls;
-      order = record { silent = spelled.order.silent; sys = spelled.order.sys; calls = spelled.order.calls; candidates = spelled.order.candidates };
-    }
+    spell v (record g { functions = functions }) spelled.nodes spelled.start (subst IsSmall (sym same) spelled.count) all
+    (spelled.silent, spelled.order.silent) (spelled.sys, spelled.order.sys) (spelled.calls, spelled.order.calls)
 
 other_nodes : (v : ModelVersion) (g : Graph) (n : ℕ) → IsSmall n → IsSpelled v g → IsSpelled v (record g { nodes = n })
 other_nodes v g n small spelled =
-    record {
-      nodes = small;
-      start = spelled.start;
-      count = spelled.count;
-      functions = spelled.functions;
-      silent = spelled.silent;
-      sys = spelled.sys;
-      calls = spelled.calls;
-      order = record { silent = spelled.order.silent; sys = spelled.order.sys; calls = spelled.order.calls; candidates = spelled.order.candidates };
-    }
+    spell v (record g { nodes = n }) small spelled.start spelled.count spelled.functions
+    (spelled.silent, spelled.order.silent) (spelled.sys, spelled.order.sys) (spelled.calls, spelled.order.calls)
 
 -- the first line
 
@@ -145,7 +78,7 @@ head_step =
       some = λ v fits.
           let g : Graph = with_functions [] in
           let m : Spelling = record { version = v; graph = g } in
-          (m, after_head v g, (refl, record { spelled = spelled_functions v [] (omega arith) (none_in _); rest = refl }));
+          (m, after_head v g, (refl, record { spelled = spelled_functions v [] (omega arith) (All-nil IsSpelledFunction); rest = refl }));
     }
 
 -- before any line
@@ -156,7 +89,7 @@ nothing_told =
       whole = λ w. refl;
       follows = λ m w spells. spells;
       back = λ m w spells. spells;
-      some = (record { version = One; graph = g }, model_text One g, record { spelled = spelled_functions One [] (omega arith) (none_in _); is = refl });
+      some = (record { version = One; graph = g }, model_text One g, record { spelled = spelled_functions One [] (omega arith) (All-nil IsSpelledFunction); is = refl });
     }
 
 -- the number of functions
@@ -173,12 +106,12 @@ count_before v n g u w at is =
 
 count_some : (v : ModelVersion) (n : ℕ) → IsSmall n → (g : Graph) × (u : List ℕ) × AtFunctions v n [] g u
 count_some v n small =
-    let functions : List ModelFunction = replicate n plain_function in
-    let long : length functions ≡ n = length-replicate n plain_function in
+    let functions : List ModelFunction = replicate n some_function in
+    let long : length functions ≡ n = length-replicate n some_function in
     let g : Graph = with_functions functions in (
       g,
       flat_map function_line functions ++ (nodes_line g.nodes ++ edges_text v g),
-      record { spelled = spelled_functions v functions (subst IsSmall (sym long) small) (All-replicate IsSpelledFunction n plain_function plain_spelled); long = long; more = functions; functions = refl; rest = refl },
+      record { spelled = spelled_functions v functions (subst IsSmall (sym long) small) (All-replicate IsSpelledFunction n some_function some_spelled); long = long; more = functions; functions = refl; rest = refl },
     )
 
 pub count_step : (v : ModelVersion) → Step (AtCount v) IsSmall functions_line (λ n. AtFunctions v n [])
@@ -224,17 +157,13 @@ module _ (v : ModelVersion) (n : ℕ) (read : List ModelFunction) where
         h,
         flat_map function_line more ++ (nodes_line h.nodes ++ edges_text v h),
         record {
-          spelled = other_functions v g functions same (All-append IsSpelledFunction read (x ∷ more) (all_front IsSpelledFunction read (y ∷ more) all) (All-append IsSpelledFunction (x ∷ []) more (λ k d within. one x fits k d within) rest)) spelled;
+          spelled = other_functions v g functions same (All-append IsSpelledFunction read (x ∷ more) (all_front IsSpelledFunction read (y ∷ more) all) (All-cons IsSpelledFunction x more fits rest)) spelled;
           long = same ∙ long;
           more = more;
           functions = sym (append_assoc read (x ∷ []) more);
           rest = refl;
         },
       )
-    where
-      one : (x : ModelFunction) → IsSpelledFunction x → All IsSpelledFunction (x ∷ [])
-      one x fits zero d within = fits
-      one x fits (suc k) d within = absurd (omega (arith, within))
 
   pub function_step : (g : Graph) (w : List ℕ) → length read < n → AtFunctions v n read g w → Step (AtFunctions v n read) IsSpelledFunction function_line (λ x. AtFunctions v n (read ++ x ∷ []))
   function_step g w less at =

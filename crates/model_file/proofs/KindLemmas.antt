@@ -16,6 +16,7 @@ use Rattle.model_file.specs.declared.version.ModelVersion.{ModelVersion}
 use Rattle.model_file.specs.Bounds.{IsNextSilent, IsNextSys, IsNextCall}
 use Rattle.model_file.specs.Kinds.{HasKind, IsOther, site_of}
 use Rattle.model_file.specs.Lines.{model_line, MayFollow}
+use Rattle.model_file.proofs.LineLemmas.{plain_word}
 use Rattle.model_file.specs.ModelText.{silent_line, sys_line, call_line, start_line, pattern_text, IsSmall}
 
 apart : (m n : ℕ) (x y : List ℕ) → Agree (m ∷ x) (n ∷ y) → m ≢ n → ⊥
@@ -29,15 +30,13 @@ agree_tail m x y (rest, inr is) = (rest, inr cc)
 
 only_silent : (version : ModelVersion) (rest : List ℕ) (w : ModelLine) → Agree (model_line version w) (101 ∷ rest) → (e : SilentEdge) × (w ≡ lines.Silent e)
 only_silent version rest (lines.Silent e) agree = (e, refl)
-only_silent version rest (lines.Sys e) agree = absurd (apart 115 101 _ rest agree (λ is. omega (arith, is)))
 only_silent version rest (lines.Call c) agree = absurd (apart 99 101 _ rest agree (λ is. omega (arith, is)))
-only_silent version rest (lines.Start n) agree = absurd (apart 115 101 _ rest agree (λ is. omega (arith, is)))
+only_silent version rest w agree = absurd (apart 115 101 _ rest agree (λ is. omega (arith, is)))
 
 only_call : (version : ModelVersion) (rest : List ℕ) (w : ModelLine) → Agree (model_line version w) (99 ∷ rest) → (c : Call) × (w ≡ lines.Call c)
 only_call version rest (lines.Silent e) agree = absurd (apart 101 99 _ rest agree (λ is. omega (arith, is)))
-only_call version rest (lines.Sys e) agree = absurd (apart 115 99 _ rest agree (λ is. omega (arith, is)))
 only_call version rest (lines.Call c) agree = (c, refl)
-only_call version rest (lines.Start n) agree = absurd (apart 115 99 _ rest agree (λ is. omega (arith, is)))
+only_call version rest w agree = absurd (apart 115 99 _ rest agree (λ is. omega (arith, is)))
 
 only_sys : (version : ModelVersion) (rest : List ℕ) (w : ModelLine) → Agree (model_line version w) (115 ∷ 32 ∷ rest) → (e : SysEdge) × (w ≡ lines.Sys e)
 only_sys version rest (lines.Silent e) agree = absurd (apart 101 115 _ _ agree (λ is. omega (arith, is)))
@@ -64,100 +63,69 @@ only_start version first rest other (lines.Start n) agree = (n, refl)
 
 -- cases
 
-pub silent_case : (version : ModelVersion) (last : Option SilentEdge) (old : List ℕ) → HasKind kinds.Silent old → IsCase (MayFollow version (sections.Silent last)) (model_line version) (IsNextSilent last) silent_line lines.Silent old
-silent_case version last old (rest, is) = record {
-  made = λ e fits. ((fits.spelled, fits.after), refl);
-  only = λ w fits agree.
-      let found = only_silent version rest w (subst (Agree (model_line version w)) is agree) in
-      let fits' : MayFollow version (sections.Silent last) (lines.Silent found.0) = subst (MayFollow version (sections.Silent last)) found.1 fits in
-      (found.0, record { spelled = fits'.0; after = fits'.1 }, found.1);
+-- the lines that agree with the bytes are all of one form
+kind_case : {X : Type 0} (version : ModelVersion) (section : Section) (old : List ℕ) (Fits : X → Type 0) (line : X → List ℕ) (form : X → ModelLine) → ((x : X) → Fits x → MayFollow version section (form x)) → ((x : X) → MayFollow version section (form x) → Fits x) → ((x : X) → model_line version (form x) ≡ line x) → ((w : ModelLine) → Agree (model_line version w) old → (x : X) × (w ≡ form x)) → IsCase (MayFollow version section) (model_line version) Fits line form old
+kind_case version section old Fits line form may fits same only = record {
+  made = λ x x_fits. (may x x_fits, same x);
+  only = λ w follows agree. let found = only w agree in (found.0, fits found.0 (subst (MayFollow version section) found.1 follows), found.1);
 }
 
--- in the sections that have no silent edges
-pub no_silent : (version : ModelVersion) (section : Section) (old : List ℕ) → HasKind kinds.Silent old → ((e : SilentEdge) → MayFollow version section (lines.Silent e) → ⊥) → (w : ModelLine) → MayFollow version section w → Agree (model_line version w) old → ⊥
-no_silent version section old (rest, is) none w fits agree =
-    let found = only_silent version rest w (subst (Agree (model_line version w)) is agree) in
-    none found.0 (subst (MayFollow version section) found.1 fits)
+pub silent_case : (version : ModelVersion) (last : Option SilentEdge) (old : List ℕ) → HasKind kinds.Silent old → IsCase (MayFollow version (sections.Silent last)) (model_line version) (IsNextSilent last) silent_line lines.Silent old
+silent_case version last old (rest, is) =
+    kind_case version (sections.Silent last) old (IsNextSilent last) silent_line lines.Silent (λ e fits. (fits.spelled, fits.after)) (λ e may. record { spelled = may.0; after = may.1 }) (λ e. refl)
+    (λ w agree. only_silent version rest w (subst (Agree (model_line version w)) is agree))
 
 pub first_sys_case : (version : ModelVersion) (last : Option SilentEdge) (old : List ℕ) → HasKind kinds.Sys old → IsCase (MayFollow version (sections.Silent last)) (model_line version) (IsNextSys version None) (sys_line version) lines.Sys old
-first_sys_case version last old (rest, is) = record {
-  made = λ e fits. (fits.spelled, refl);
-  only = λ w fits agree.
-      let found = only_sys version rest w (subst (Agree (model_line version w)) is agree) in
-      (found.0, record { spelled = subst (MayFollow version (sections.Silent last)) found.1 fits; after = tt }, found.1);
-}
+first_sys_case version last old (rest, is) =
+    kind_case version (sections.Silent last) old (IsNextSys version None) (sys_line version) lines.Sys (λ e fits. fits.spelled) (λ e may. record { spelled = may; after = tt }) (λ e. refl)
+    (λ w agree. only_sys version rest w (subst (Agree (model_line version w)) is agree))
 
 pub sys_case : (version : ModelVersion) (last : Option SysEdge) (old : List ℕ) → HasKind kinds.Sys old → IsCase (MayFollow version (sections.Sys last)) (model_line version) (IsNextSys version last) (sys_line version) lines.Sys old
-sys_case version last old (rest, is) = record {
-  made = λ e fits. ((fits.spelled, fits.after), refl);
-  only = λ w fits agree.
-      let found = only_sys version rest w (subst (Agree (model_line version w)) is agree) in
-      let fits' : MayFollow version (sections.Sys last) (lines.Sys found.0) = subst (MayFollow version (sections.Sys last)) found.1 fits in
-      (found.0, record { spelled = fits'.0; after = fits'.1 }, found.1);
-}
+sys_case version last old (rest, is) =
+    kind_case version (sections.Sys last) old (IsNextSys version last) (sys_line version) lines.Sys (λ e fits. (fits.spelled, fits.after)) (λ e may. record { spelled = may.0; after = may.1 }) (λ e. refl)
+    (λ w agree. only_sys version rest w (subst (Agree (model_line version w)) is agree))
 
 call_may : (version : ModelVersion) (section : Section) (c : Call) → IsNextCall (site_of section) c → MayFollow version section (lines.Call c)
-call_may version (sections.Silent last) c fits = fits.spelled
-call_may version (sections.Sys last) c fits = fits.spelled
 call_may version (sections.Call last) c fits = (fits.spelled, fits.after)
+call_may version section c fits = fits.spelled
 
 may_call : (version : ModelVersion) (section : Section) (c : Call) → MayFollow version section (lines.Call c) → IsNextCall (site_of section) c
-may_call version (sections.Silent last) c fits = record { spelled = fits; after = tt }
-may_call version (sections.Sys last) c fits = record { spelled = fits; after = tt }
 may_call version (sections.Call last) c fits = record { spelled = fits.0; after = fits.1 }
+may_call version section c fits = record { spelled = fits; after = tt }
 
 pub call_case : (version : ModelVersion) (section : Section) (old : List ℕ) → HasKind kinds.Call old → IsCase (MayFollow version section) (model_line version) (IsNextCall (site_of section)) call_line lines.Call old
-call_case version section old (rest, is) = record {
-  made = λ c fits. (call_may version section c fits, refl);
-  only = λ w fits agree.
-      let found = only_call version rest w (subst (Agree (model_line version w)) is agree) in
-      (found.0, may_call version section found.0 (subst (MayFollow version section) found.1 fits), found.1);
-}
+call_case version section old (rest, is) =
+    kind_case version section old (IsNextCall (site_of section)) call_line lines.Call (call_may version section) (may_call version section) (λ c. refl)
+    (λ w agree. only_call version rest w (subst (Agree (model_line version w)) is agree))
 
 start_may : (version : ModelVersion) (section : Section) (n : ℕ) → IsSmall n → MayFollow version section (lines.Start n)
 start_may version (sections.Silent last) n small = small
-start_may version (sections.Sys last) n small = small
-start_may version (sections.Call last) n small = small
+start_may version section n small = small
 
 may_start : (version : ModelVersion) (section : Section) (n : ℕ) → MayFollow version section (lines.Start n) → IsSmall n
 may_start version (sections.Silent last) n fits = fits
-may_start version (sections.Sys last) n fits = fits
-may_start version (sections.Call last) n fits = fits
+may_start version section n fits = fits
 
 pub start_case : (version : ModelVersion) (section : Section) (old : List ℕ) → HasKind kinds.Start old → IsCase (MayFollow version section) (model_line version) IsSmall start_line lines.Start old
-start_case version section old (first, rest, is, other) = record {
-  made = λ n small. (start_may version section n small, refl);
-  only = λ w fits agree.
-      let found = only_start version first rest other w (subst (Agree (model_line version w)) is agree) in
-      (found.0, may_start version section found.0 (subst (MayFollow version section) found.1 fits), found.1);
-}
+start_case version section old (first, rest, is, other) =
+    kind_case version section old IsSmall start_line lines.Start (start_may version section) (may_start version section) (λ n. refl)
+    (λ w agree. only_start version first rest other w (subst (Agree (model_line version w)) is agree))
 
 -- where the line may be that of the start
-pub open_is_cut : (version : ModelVersion) (section : Section) (old : List ℕ) → HasKind kinds.Open old → IsCutShort (MayFollow version section) (model_line version) old
-open_is_cut version section old (inl is) = record {
-  value = lines.Start 0;
-  rest = start_line 0;
-  fits = start_may version section 0 (omega arith);
-  more = λ none. cc;
-  goes_on = sym (ap (λ t. t ++ start_line 0) is);
-  unended = λ has. no_feed_none (subst (λ t. Contains t 10) is has);
-} where
-  no_feed_none : Contains {X = ℕ} [] 10 → ⊥
-  no_feed_none has = omega (arith, has.1)
-open_is_cut version section old (inr is) = record {
+begins_start : (version : ModelVersion) (section : Section) (old rest : List ℕ) → start_line 0 ≡ old ++ rest → rest ≢ [] → (Contains old 10 → ⊥) → IsCutShort (MayFollow version section) (model_line version) old
+begins_start version section old rest is more unended = record {
   value = lines.Start 0;
   rest = rest;
   fits = start_may version section 0 (omega arith);
-  more = λ none. cc;
-  goes_on = sym (ap (λ t. t ++ rest) is);
-  unended = λ has. no_feed_s (subst (λ t. Contains t 10) is has);
-} where
-  rest : List ℕ
-  rest = 116 ∷ 97 ∷ 114 ∷ 116 ∷ 32 ∷ (decimal 0 ++ 10 ∷ [])
+  more = more;
+  goes_on = is;
+  unended = unended;
+}
 
-  no_feed_s : Contains {X = ℕ} (115 ∷ []) 10 → ⊥
-  no_feed_s (zero, within, same) = omega (arith, same)
-  no_feed_s (suc k, within, same) = omega (arith, within)
+pub open_is_cut : (version : ModelVersion) (section : Section) (old : List ℕ) → HasKind kinds.Open old → IsCutShort (MayFollow version section) (model_line version) old
+open_is_cut version section old (inl is) = rw is (begins_start version section [] (start_line 0) refl (λ none. cc) (λ has. omega (arith, has.1)))
+open_is_cut version section old (inr is) =
+    rw is (begins_start version section (115 ∷ []) (116 ∷ 97 ∷ 114 ∷ 116 ∷ 32 ∷ (decimal 0 ++ 10 ∷ [])) refl (λ none. cc) (plain_word (115 ∷ []) refl))
 
 pub ends_in_feed : (version : ModelVersion) (w : ModelLine) → (front : List ℕ) × (model_line version w ≡ front ++ 10 ∷ [])
 ends_in_feed version (lines.Silent e) = (codes "e " ++ decimal e.from ++ 32 ∷ decimal e.to, refl)

@@ -1,7 +1,6 @@
 -- A model's text is not refused.
-use Rattle.std.proofs.Common.{◌≡◌, ℕ, zero, suc, List, [], ◌∷◌, ◌++◌, Bool, true, false, nat_eq, refl, sym, ap, subst, arith}
-use Rattle.std.specs.Prelude.{if◌then◌else◌}
-use Rattle.line_text.specs.Files.{through}
+use Rattle.std.proofs.Common.{◌≡◌, ℕ, List, refl, subst, arith}
+use Rattle.line_text.proofs.FirstLines.{through_begins}
 use Rattle.flow_model.specs.Graph.{Graph}
 use Rattle.flow_model.specs.Rules.{IsValid}
 use Rattle.model_file.specs.declared.error.ModelError.{ModelError}
@@ -12,23 +11,13 @@ use Rattle.flow_model.proofs.ValidModels.{none_broken}
 use Rattle.model_file.proofs.ReadingLemmas.{has_our_version}
 use Rattle.model_file.proofs.UniqueLemmas.{one_graph, no_longer}
 
--- what goes through a line is a first part
-through_prefix : (k : ℕ) (text : List ℕ) → (rest : List ℕ) × (through k text ++ rest ≡ text)
-through_prefix zero text = (text, refl)
-through_prefix (suc k) [] = ([], refl)
-through_prefix (suc k) (b ∷ text) =
-    elim (nat_eq b 10) as (λ (t : Bool). (rest : List ℕ) × ((b ∷ (if t then through k text else through (suc k) text)) ++ rest ≡ b ∷ text)) [
-      | true ↦ let more = through_prefix k text in (more.0, ap (λ (x : List ℕ). b ∷ x) more.1)
-      | false ↦ let more = through_prefix (suc k) text in (more.0, ap (λ (x : List ℕ). b ∷ x) more.1)
-    ]
-
 pub not_refused : (text : List ℕ) (g : Graph) (error : ModelError) → IsModel text g → IsModelRefusal error text → error ≡ OutOfMemory
 not_refused text g OutOfMemory is refusal = refl
 not_refused text g TooLarge is refusal = absurd (omega (arith, is.short, refusal))
 not_refused text g Version is refusal = absurd (has_our_version is.version text g is.is refusal.1)
 not_refused text g (BadLine k) is refusal =
-    let front = through_prefix k text in
-    absurd (refusal.2.bad (front.0, subst IsFormedModel (sym front.1) (is.version, g, is.is)))
+    let front = through_begins k text in
+    absurd (refusal.2.bad (front.0, subst IsFormedModel front.1 (is.version, g, is.is)))
 not_refused text g Truncated is refusal =
     let longer = refusal.1 in
     absurd (longer.1 (no_longer text longer.0 is.version longer.2.0 g longer.2.1 is.is longer.2.2))

@@ -2,11 +2,12 @@
 use Rattle.std.proofs.Common.{◌≡◌, ℕ, zero, suc, ◌<◌, ◌^◌, Bool, true, not, ◌&&◌, nat_eq, List, [], ◌∷◌, ◌++◌, decimal, refl, sym, ◌∙◌, ap, inl, inr, Contains, append_assoc, arith}
 use Rattle.std.proofs.lemmas.Bool.{and_parts, true≢false}
 use Rattle.std.proofs.lemmas.List.Elements.{Contains-append_cases}
-use Rattle.line_text.specs.Words.{is_in_line, number_word}
-use Rattle.line_text.proofs.VersionLemmas.{decimal-no_feed}
+use Rattle.line_text.specs.Words.{IsPlain, is_in_line, number_word}
+use Rattle.line_text.proofs.NumberLemmas.{decimal-IsPlain}
+use Rattle.line_text.proofs.WordLemmas.{IsPlain-no_feed}
 use Rattle.model_file.specs.ModelText.{IsSmall}
 use Rattle.model_file.proofs.Narrowing.{IsPart}
-pub use Rattle.line_text.proofs.Separators.{no_feed_space}
+use Rattle.line_text.proofs.Separators.{no_feed_space}
 
 no_feed_first : (b : ℕ) (later : Bool) → (not (nat_eq b 10) && later) ≡ true → b ≡ 10 → ⊥
 no_feed_first b later both is =
@@ -22,18 +23,20 @@ plain_word (b ∷ c ∷ word) in_line (suc k, within, is) =
     plain_word (c ∷ word) (and_parts (not (nat_eq b 10)) (is_in_line (c ∷ word ++ 32 ∷ [])) in_line).1 (k, omega (arith, within), is)
 
 pub in_line_word : (word : List ℕ) → is_in_line (word ++ 32 ∷ []) ≡ true → is_in_line word ≡ true
-in_line_word [] in_line = refl
-in_line_word (b ∷ []) in_line = refl
 in_line_word (b ∷ c ∷ word) in_line =
     let both = and_parts (not (nat_eq b 10)) (is_in_line (c ∷ word ++ 32 ∷ [])) in_line in
     ap (λ t. t && is_in_line (c ∷ word)) both.0 ∙ in_line_word (c ∷ word) both.1
+in_line_word word in_line = refl
 
--- a number and the space after it have no line feed
-pub plain_number : (n : ℕ) → n < 2 ^ 64 → Contains (number_word 32 n) 10 → ⊥
-plain_number n small has = elim (Contains-append_cases (decimal n) (32 ∷ []) 10 has) [
-  | inl within ↦ decimal-no_feed n small within
+-- a word and the space after it have no line feed
+pub plain_spaced : (word : List ℕ) → IsPlain word → Contains (word ++ 32 ∷ []) 10 → ⊥
+plain_spaced word plain has = elim (Contains-append_cases word (32 ∷ []) 10 has) [
+  | inl within ↦ IsPlain-no_feed word plain within
   | inr after ↦ no_feed_space after
 ]
+
+pub plain_number : (n : ℕ) → n < 2 ^ 64 → Contains (number_word 32 n) 10 → ⊥
+plain_number n small = plain_spaced (decimal n) (decimal-IsPlain n small)
 
 -- a word that each line of a kind begins with, where there is one
 pub first_word : {V : Type 0} {Fits : V → Type 0} {text : V → List ℕ} {rest : V → List ℕ} (word : List ℕ) → (v : V) → Fits v → ((w : V) → Fits w → text w ≡ word ++ rest w) → (Contains word 10 → ⊥) → IsPart Fits text (λ w. tt {0}) (λ u. Unit {0}) (λ u. word) rest

@@ -1,11 +1,14 @@
 -- How a line is read part by part: after each part, the values that are left are those with the parts that were read.
 use Rattle.std.proofs.Common.{◌≡◌, ◌≢◌, ℕ, List, [], ◌∷◌, ◌++◌, refl, sym, ◌∙◌, ap, subst, Contains, append_assoc, inl, inr, arith, rules}
 use Rattle.std.specs.Prelude.{Result, Ok, Err}
+use Rattle.std.specs.Result.{IsErrAnd}
 use Rattle.std.proofs.lemmas.List.{append-nil}
 use Rattle.std.proofs.lemmas.List.Elements.{Contains-append_cases}
+use Rattle.std.proofs.lemmas.Result.{err_from_is_err_and}
 use Rattle.line_text.specs.declared.miss.Miss.{Miss}
 use Rattle.line_text.specs.declared.miss.Miss.TheVariants.{OutOfMemory, Short, Wrong}
 use Rattle.line_text.specs.Reading.{Agree, StandsFirst, Reads}
+use Rattle.line_text.proofs.FirstLines.{nil_front}
 use Rattle.line_text.proofs.Splits.{IsSplit, IsCase, err_first, err_next, ok_both, err_case, ok_case, agree_front, agree_next}
 pub use Rattle.line_text.proofs.Narrowing.{Leads, With, IsPart, IsWhole, leads_start, whole_line}
 
@@ -58,6 +61,10 @@ reads_same old new (Err Short) to from same cut = record {
 }
 reads_same old new (Err Wrong) to from same none = λ w fits agree. none w (from w fits) (subst (λ t. Agree t old) (same w (from w fits)) agree)
 
+-- the exit of a `?`
+pub reads_err : {V : Type 0} (Fits : V → Type 0) (text : V → List ℕ) (old new : List ℕ) (miss : Miss) (r : Result V Miss) → IsErrAnd r (λ e. e ≡ miss) → Reads Fits text old new (Err miss) → Reads Fits text old new r
+reads_err Fits text old new miss r is reads = let p = err_from_is_err_and r is in rw (p.1, p.2) reads
+
 -- what is read of the values that are left, whether it was read or not
 pub leads_all : {V : Type 0} {Fits : V → Type 0} {text : V → List ℕ} {Left : V → Type 0} {left : V → List ℕ} (old mid new : List ℕ) → Leads Fits text old Left left mid → (r : Result V Miss) → Reads Left left mid new r → Reads Fits text old new r
 leads_all old mid new leads (Ok v) reads = leads.ok new v reads
@@ -107,10 +114,6 @@ pub record IsEndedPart {V A : Type 0} (Fits : V → Type 0) (text : V → List �
   pub some : (a : A) → First a → (v : V) × Fits v × (part v ≡ a)
   pub splits : (v : V) → Fits v → text v ≡ first (part v) ++ rest v
   pub plain : (v : V) → Fits v → rest v ≢ [] → Contains (first (part v)) 10 → ⊥
-
-nil_front : (a b : List ℕ) → a ++ b ≡ [] → a ≡ []
-nil_front [] b is = refl
-nil_front (x ∷ a) b is = cc
 
 nil_back : (a b : List ℕ) → a ++ b ≡ [] → b ≡ []
 nil_back [] b is = is

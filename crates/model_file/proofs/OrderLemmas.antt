@@ -7,10 +7,14 @@ use Rattle.std.specs.Cmp.{IsTotalOrder}
 use Rattle.std.specs.Ordering.{nat_cmp}
 use Rattle.std.proofs.lemmas.Bool.{cases_lt}
 use Rattle.std.proofs.lemmas.List.{length-append, get_or_append_left, get_or_at}
+use Rattle.std.proofs.lemmas.List.Elements.{All-weaker}
 use Rattle.std.proofs.lemmas.List.Quantifiers.{all_pairs_push}
 use Rattle.flow_model.specs.Call.{Call}
-use Rattle.flow_model.specs.Order.{StrictlyRise, site_order}
+use Rattle.flow_model.specs.Graph.{Graph}
+use Rattle.flow_model.specs.Order.{StrictlyRise, silent_order, sys_order, site_order}
 use Rattle.flow_model.proofs.OrderLemmas.{site_order_total}
+use Rattle.model_file.specs.declared.version.ModelVersion.{ModelVersion}
+use Rattle.model_file.specs.ModelText.{IsSmall, IsSpelledFunction, IsSpelledSilent, IsSpelledSys, IsSpelledCall, IsSpelled}
 use Rattle.model_file.specs.States.{IsLastOf, IsLastSite}
 
 -- of all items, the first ones
@@ -29,6 +33,9 @@ rise_front order xs ys rise i j d before within =
     let at_i : get_or (xs ++ ys) i d ≡ get_or xs i d = get_or_append_left xs ys d i (omega arith) in
     let at_j : get_or (xs ++ ys) j d ≡ get_or xs j d = get_or_append_left xs ys d j within in
     ap (λ x. order x (get_or xs j d)) (sym at_i) ∙ ap (order (get_or (xs ++ ys) i d)) (sym at_j) ∙ rise i j d before (omega (arith, length-append xs ys))
+
+pub none_rise : {X : Type 0} (order : X → X → Ordering) → StrictlyRise order []
+none_rise order i j d before within = absurd (omega (arith, within))
 
 -- the items before one go before it
 rise_before : {X : Type 0} (order : X → X → Ordering) (xs : List X) (y : X) (ys : List X) → StrictlyRise order (xs ++ y ∷ ys) → All (λ x. order x y ≡ Less) xs
@@ -72,3 +79,25 @@ pub call_after_last : (cs : List Call) (last : Option ℕ) (next : Call) (ys : L
 call_after_last cs None next ys is rise = tt
 call_after_last cs (Some site) next ys (front, c, is, same) rise =
     ap (λ n. nat_cmp n next.site) (sym same) ∙ after_last site_order cs (Some c) next ys (front, is) rise
+
+-- lists that have a text
+
+-- the items fit and strictly rise
+abbrev pub Listed : {X : Type 0} → (X → Type 0) → (X → X → Ordering) → List X → Type 0
+Listed Fits order xs = All Fits xs × StrictlyRise order xs
+
+pub listed_front : {X : Type 0} (Fits : X → Type 0) (order : X → X → Ordering) (xs ys zs : List X) → zs ≡ xs ++ ys → Listed Fits order zs → Listed Fits order xs
+listed_front Fits order xs ys zs is listed = (all_front Fits xs ys (subst (All Fits) is listed.0), rise_front order xs ys (subst (StrictlyRise order) is listed.1))
+
+pub spell : (v : ModelVersion) (g : Graph) → IsSmall g.nodes → IsSmall g.start → IsSmall (length g.functions) → All IsSpelledFunction g.functions → Listed IsSpelledSilent silent_order g.silent → Listed (IsSpelledSys v) sys_order g.sys → Listed IsSpelledCall site_order g.calls → IsSpelled v g
+spell v g nodes start count functions silent sys calls =
+    record {
+      nodes = nodes;
+      start = start;
+      count = count;
+      functions = functions;
+      silent = silent.0;
+      sys = sys.0;
+      calls = calls.0;
+      order = record { silent = silent.1; sys = sys.1; calls = calls.1; candidates = All-weaker IsSpelledCall (λ c. StrictlyRise nat_cmp c.candidates) (λ c fits. fits.rise) g.calls calls.0 };
+    }

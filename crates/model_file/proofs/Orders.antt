@@ -7,18 +7,7 @@ use Rattle.std.specs.declared.cmp.Ordering.{Ordering}
 use Rattle.std.specs.declared.cmp.Ordering.TheVariants.{Less, Equal, Greater}
 use Rattle.std.proofs.lemmas.Cmp.{ranked, by_ranked}
 pub use Rattle.flow_model.proofs.LessLemmas.{less_from_lt}
-
-pub lt_from_less : (a b : ℕ) → nat_cmp a b ≡ Less → a < b
-lt_from_less a b less = by_ranked _ _ _ (nat_cmp a b) (ranked a b (nat_cmp a b) refl)
-    (λ is lt. lt)
-    (λ is same. absurd (not_equal (sym less ∙ is)))
-    (λ is gt. absurd (not_greater (sym less ∙ is)))
-  where
-    not_equal : Less ≡ Equal → ⊥
-    not_equal is = cc
-
-    not_greater : Less ≡ Greater → ⊥
-    not_greater is = cc
+pub use Rattle.flow_model.proofs.OrderLemmas.{lt_from_less}
 
 pub less_first : (a b : ℕ) (o : Ordering) → a < b → ordering_then (nat_cmp a b) o ≡ Less
 less_first a b o lt = ap (λ p. ordering_then p o) (less_from_lt a b lt)
@@ -30,7 +19,4 @@ pub less_cases : (a b : ℕ) (o : Ordering) → ordering_then (nat_cmp a b) o �
 less_cases a b o less = by_ranked _ _ _ (nat_cmp a b) (ranked a b (nat_cmp a b) refl)
     (λ is lt. inl lt)
     (λ is same. inr (same, sym (ap (λ p. ordering_then p o) is) ∙ less))
-    (λ is gt. absurd (differ (sym less ∙ ap (λ p. ordering_then p o) is)))
-  where
-    differ : Less ≡ Greater → ⊥
-    differ is = cc
+    (λ is gt. absurd (cc))

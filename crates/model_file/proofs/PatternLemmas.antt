@@ -1,5 +1,7 @@
 -- Patterns: which entries go after those of another.
 use Rattle.std.proofs.Common.{◌≡◌, ◌≢◌, ℕ, zero, suc, ◌+◌, ◌<◌, ◌≤◌, List, [], ◌∷◌, ◌++◌, replicate, length, take, drop, get_or, ◌-◌, true, false, refl, sym, ◌∙◌, ap, ap₂, subst, inl, inr, All, arith}
+use Rattle.std.proofs.Math.ListN.{drop_of_length-le}
+use Rattle.std.proofs.Math.Seq.{take-length}
 use Rattle.std.proofs.lemmas.Int.{ints}
 use Rattle.std.specs.Prelude.{◌⊎◌, ◌↔◌, Option, Some, None, ℤ, pos, negsuc, slice_get, slice_set, IfSome, FitsSigned, decimal}
 use Rattle.std.specs.List.{AllZip}
@@ -37,15 +39,8 @@ then_cases Greater q less = cc
 
 pub entries_tie : (x y : Option ℤ) → option_cmp int_cmp x y ≡ Equal → x ≡ y
 entries_tie None None is = refl
-entries_tie None (Some y) is = cc
-entries_tie (Some x) None is = cc
-entries_tie (Some x) (Some y) is = ap Some (by_ranked _ _ _ (int_cmp x y) (int_ranked x y (int_cmp x y) refl) (λ less lt. absurd (one less is)) (λ equal same. same) (λ greater gt. absurd (two greater is)))
-  where
-    one : (int_cmp x y ≡ Less) → (int_cmp x y ≡ Equal) → ⊥
-    one less equal = let e : Less ≡ Equal = sym less ∙ equal in cc
-
-    two : (int_cmp x y ≡ Greater) → (int_cmp x y ≡ Equal) → ⊥
-    two greater equal = let e : Greater ≡ Equal = sym greater ∙ equal in cc
+entries_tie (Some x) (Some y) is = ap Some (by_ranked _ _ _ (int_cmp x y) (int_ranked x y (int_cmp x y) refl) (λ less lt. cc) (λ equal same. same) (λ greater gt. cc))
+entries_tie x y is = cc
 
 pub entry_ties : (x : Option ℤ) → option_cmp int_cmp x x ≡ Equal
 entry_ties x = tied_itself (options_total int_cmp_total) x
@@ -80,24 +75,16 @@ after_cases kind kinds l ls (x ∷ es, fits, less) = elim (then_cases (option_cm
 -- the entries from a place on
 
 pub drop_at : (d : List (Option ℤ)) (place : ℕ) (x : Option ℤ) → slice_get d place ≡ Some x → drop place d ≡ x ∷ drop (suc place) d
-drop_at [] zero x is = cc
-drop_at [] (suc k) x is = cc
 drop_at (y ∷ d) zero x is = let same : y ≡ x = cc in ap (λ t. t ∷ d) same
 drop_at (y ∷ d) (suc k) x is = drop_at d k x is
-
-pub drop_past : (d : List (Option ℤ)) (place : ℕ) → length d ≤ place → drop place d ≡ []
-drop_past [] zero past = refl
-drop_past [] (suc k) past = refl
-drop_past (y ∷ d) zero past = absurd (omega arith)
-drop_past (y ∷ d) (suc k) past = drop_past d k (omega (arith, past))
+drop_at [] place x is = cc
 
 -- the one pattern of version 1
 
 pub only_nones : (kinds : List ArgKind) (p : List (Option ℤ)) → AllZip FitsEntry kinds p → All (λ entry. entry ≡ None) p → p ≡ nones kinds
 only_nones [] [] fits all = refl
-only_nones [] (x ∷ p) fits all = absurd fits
-only_nones (kind ∷ kinds) [] fits all = absurd fits
 only_nones (kind ∷ kinds) (x ∷ p) fits all = ap₂ ◌∷◌ (All-head (λ entry. entry ≡ None) x p all) (only_nones kinds p fits.1 (All-tail (λ entry. entry ≡ None) x p all))
+only_nones kinds p fits all = absurd fits
 
 pub nones_are : (kinds : List ArgKind) → nones kinds ≡ replicate (length kinds) None
 nones_are [] = refl
@@ -105,22 +92,18 @@ nones_are (kind ∷ kinds) = ap (λ t. None ∷ t) (nones_are kinds)
 
 -- a list of at least one item
 
-all_taken : (kinds : List ArgKind) → take (length kinds) kinds ≡ kinds
-all_taken [] = refl
-all_taken (kind ∷ kinds) = ap (λ t. kind ∷ t) (all_taken kinds)
-
 pub list_parts : (kinds : List ArgKind) (d : ArgKind) → 1 ≤ length kinds → kinds ≡ get_or kinds 0 d ∷ take (length kinds - 1) (drop 1 kinds)
 list_parts [] d some = absurd (omega arith)
 list_parts (kind ∷ kinds) d some =
     let same : length (kind ∷ kinds) - 1 ≡ length kinds = omega arith in
-    ap (λ t. kind ∷ t) (sym (ap (λ n. take n kinds) same ∙ all_taken kinds))
+    ap (λ t. kind ∷ t) (sym (ap (λ n. take n kinds) same ∙ take-length kinds))
 
 pub drop_next : (d : List (Option ℤ)) (place : ℕ) (l : Option ℤ) → slice_get d place ≡ Some l → drop place d ≡ l ∷ drop (place + 1) d
 drop_next d place l is = let same : suc place ≡ place + 1 = omega arith in drop_at d place l is ∙ ap (λ n. l ∷ drop n d) same
 
 module _ (kinds : List ArgKind) (kind : ArgKind) (others : List ArgKind) (parts : kinds ≡ kind ∷ others) (d : List (Option ℤ)) (place : ℕ) where
   pub past_after : length d ≤ place → HasEntriesAfter kinds d place
-  past_after past = subst (λ ks. GoAfter ks (drop place d)) (sym parts) (after_none kind others (drop place d) (drop_past d place past))
+  past_after past = subst (λ ks. GoAfter ks (drop place d)) (sym parts) (after_none kind others (drop place d) (drop_of_length-le d past))
 
   pub entry_goes_after : (l : Option ℤ) → slice_get d place ≡ Some l → HasEntryAfter kind l → HasEntriesAfter kinds d place
   entry_goes_after l is has = subst (λ ks. GoAfter ks (drop place d)) (sym parts) (subst (GoAfter (kind ∷ others)) (sym (drop_next d place l is)) (after_entry kind others l (drop (place + 1) d) has))
@@ -145,8 +128,7 @@ after_plain name args any is (p, pattern, less) = subst (λ q. pattern_cmp args 
 
 pub lt_tells : (o : Ordering) → is_lt o ≡ true → o ≡ Less
 lt_tells Less is = refl
-lt_tells Equal is = cc
-lt_tells Greater is = cc
+lt_tells o is = cc
 
 -- entries
 
@@ -160,13 +142,7 @@ entry_from : (l x : Option ℤ) → (option_cmp int_cmp l x ≡ Less) ⊎ (l ≡
 entry_from None x order = tt
 entry_from (Some n) None (inl less) = cc
 entry_from (Some n) None (inr same) = cc
-entry_from (Some n) (Some m) (inl is) = by_ranked _ _ _ (int_cmp n m) (int_ranked n m (int_cmp n m) refl) (λ less lt. omega (arith, ints)) (λ equal same. absurd (apart (sym is ∙ equal))) (λ greater gt. absurd (apart_two (sym is ∙ greater)))
-  where
-    apart : Less ≡ Equal → ⊥
-    apart e = cc
-
-    apart_two : Less ≡ Greater → ⊥
-    apart_two e = cc
+entry_from (Some n) (Some m) (inl is) = by_ranked _ _ _ (int_cmp n m) (int_ranked n m (int_cmp n m) refl) (λ less lt. omega (arith, ints)) (λ equal same. absurd (cc)) (λ greater gt. absurd (cc))
 entry_from (Some n) (Some m) (inr same) = let is : n ≡ m = cc in omega (arith, ints, is)
 
 -- the least entry that some entries of the kinds may follow
@@ -177,7 +153,7 @@ pub least_without : (others : List ArgKind) (place : ℕ) → IsLeastEntry other
 least_without others place kind x fits = (λ from. (nones others, ((fits, free_entries others), tt)), λ has. tt)
 
 pub least_past : (others : List ArgKind) (d : List (Option ℤ)) (place : ℕ) → length d ≤ place → IsLeastEntry others (Some d) place None
-least_past others d place past kind x fits = (λ from. (nones others, ((fits, free_entries others), ap (λ t. pattern_cmp t (x ∷ nones others)) (drop_past d place past))), λ has. tt)
+least_past others d place past kind x fits = (λ from. (nones others, ((fits, free_entries others), ap (λ t. pattern_cmp t (x ∷ nones others)) (drop_of_length-le d past))), λ has. tt)
 
 pub least_same : (others : List ArgKind) (d : List (Option ℤ)) (place : ℕ) (l : Option ℤ) → slice_get d place ≡ Some l → HasEntriesAfter others d (place + 1) → IsLeastEntry others (Some d) place l
 least_same others d place l is room kind x fits = (forward, back) where
@@ -238,9 +214,8 @@ star_or_integer (negsuc n) end rest fits agree = absurd (apart (agree_head 45 42
   apart is = omega (arith, is)
 
 pub wide : (kind : ArgKind) (z : ℤ) → FitsNumber kind z → FitsSigned w64 z
-wide Signed z fits = omega (arith, ints)
-wide Unsigned z fits = omega (arith, ints)
 wide Bytes z fits = absurd fits
+wide kind z fits = omega (arith, ints)
 
 pub nothing_is_cut : (kind : ArgKind) (end : ℕ) → IsCutShort (FitsEntry kind) (entry_word end) []
 nothing_is_cut kind end = nothing_left None tt (λ none. cc)
@@ -293,16 +268,14 @@ length-filled (x ∷ r) zero = let more = length-filled r zero in omega arith
 length-filled (x ∷ r) (suc i) = let more = length-filled r i in omega arith
 
 filled_set : (r : List (Option ℤ)) (i : ℕ) (x : Option ℤ) → slice_get r i ≡ Some x → slice_set (filled r i) i x ≡ filled r (suc i)
-filled_set [] zero x is = cc
-filled_set [] (suc i) x is = cc
 filled_set (y ∷ r) zero x is = let same : y ≡ x = cc in ap (λ t. t ∷ filled r zero) (sym same)
 filled_set (y ∷ r) (suc i) x is = ap (λ t. y ∷ t) (filled_set r i x is)
+filled_set [] i x is = cc
 
 pub filled_skip : (r : List (Option ℤ)) (i : ℕ) → slice_get r i ≡ Some None → filled r i ≡ filled r (suc i)
-filled_skip [] zero is = cc
-filled_skip [] (suc i) is = cc
 filled_skip (y ∷ r) zero is = let same : y ≡ None = cc in ap (λ t. t ∷ filled r zero) (sym same)
 filled_skip (y ∷ r) (suc i) is = ap (λ t. y ∷ t) (filled_skip r i is)
+filled_skip [] i is = cc
 
 pub row_set : (e : Option ℤ) (r : List (Option ℤ)) (i : ℕ) (x : Option ℤ) → slice_get r i ≡ Some x → slice_set (e ∷ filled r i) (i + 1) x ≡ e ∷ filled r (i + 1)
 row_set e r i x is =

@@ -1,14 +1,13 @@
 -- Versions, and what a model's text is read as.
 use Rattle.std.proofs.Common.{◌≡◌, ◌≢◌, ℕ, zero, suc, ◌<◌, ◌≤◌, ◌^◌, List, [], ◌∷◌, ◌++◌, length, Bool, true, false, not, ◌||◌, nat_eq, decimal, refl, sym, ◌∙◌, ap, subst, inl, inr, append_assoc, Contains, arith}
 use Rattle.std.specs.Prelude.{◌⊎◌, ◌↔◌, IsTrue, Result, Ok, Err, IfOk, IfErr, codes}
-use Rattle.std.specs.List.{list_any}
 use Rattle.std.proofs.lemmas.Bool.{true≢false, false≢true}
 use Rattle.std.proofs.lemmas.Bool.Decides.{eqb_tells}
 use Rattle.std.proofs.lemmas.Fmt.{decimal_injective, decimal_digit}
 use Rattle.std.proofs.lemmas.List.{append_cancel_left, append_cancel_right}
 use Rattle.line_text.specs.Files.{IsFirstLine, IsVersionLine}
 use Rattle.line_text.specs.Files.IsFirstLine.{ended}
-use Rattle.line_text.proofs.FilesLemmas.{through_first}
+use Rattle.line_text.proofs.FirstLines.{line_alone}
 use Rattle.line_text.proofs.VersionLemmas.{decimal-no_feed}
 use Rattle.flow_model.specs.Graph.{Graph}
 use Rattle.flow_model.specs.Rules.{IsInOrder, HasRightPatterns, IsValid, IsLeastBroken}
@@ -23,6 +22,7 @@ use Rattle.model_file.specs.Refusal.{IsModel, IsModelRefusal, HasOtherModelVersi
 use Rattle.model_file.specs.Writing.{IsBroken}
 use Rattle.model_file.specs.States.{IsReadAs}
 use Rattle.model_file.proofs.HeadLemmas.{after_head, text_is}
+use Rattle.model_file.proofs.LineLemmas.{plain_word}
 use Rattle.flow_model.proofs.ValidModels.{no_repeats, none_broken}
 use Rattle.line_text.proofs.VersionLemmas.{has_last}
 
@@ -43,9 +43,6 @@ one_version word line m n small_m small_n (inr is_m) (inl is_n) =
 one_version word line m n small_m small_n (inr is_m) (inr is_n) =
     decimal_injective m n (omega (arith, small_m)) (omega (arith, small_n)) (append_cancel_left word (decimal m) (decimal n) (append_cancel_right (word ++ decimal m) (word ++ decimal n) (10 ∷ []) (sym is_m ∙ is_n)))
 
-same_line : (text line rest line' rest' : List ℕ) → IsFirstLine text line rest → IsFirstLine text line' rest' → line ≡ line'
-same_line text line rest line' rest' first first' = sym (through_first text line rest first) ∙ through_first text line' rest' first'
-
 abbrev word : List ℕ
 word = codes "dyckmon-model "
 
@@ -61,7 +58,7 @@ tells_other text line rest n answer first small stands (inl other) = (
 tells_other text line rest n answer first small stands (inr ours) = (
   λ holds. absurd (false≢true (sym ours.0 ∙ holds)),
   λ has.
-      let stands' : IsVersionLine word has.number line = subst (IsVersionLine word has.number) (same_line text has.line has.rest line rest has.first first) has.stands in
+      let stands' : IsVersionLine word has.number line = subst (IsVersionLine word has.number) (line_alone text line rest has.line has.rest first has.first) has.stands in
       let same : n ≡ has.number = one_version word line n has.number small has.small stands stands' in
       absurd (has.other (subst IsOurs same ours.1)),
 )
@@ -69,7 +66,7 @@ tells_other text line rest n answer first small stands (inr ours) = (
 pub tells_none : (text line rest : List ℕ) → IsFirstLine text line rest → ((n : ℕ) → n < 2 ^ 32 → IsVersionLine word n line → ⊥) → IsTrue false ↔ HasOtherModelVersion text
 tells_none text line rest first none = (
   λ holds. absurd (false≢true holds),
-  λ has. absurd (none has.number has.small (subst (IsVersionLine word has.number) (same_line text has.line has.rest line rest has.first first) has.stands)),
+  λ has. absurd (none has.number has.small (subst (IsVersionLine word has.number) (line_alone text line rest has.line has.rest first has.first) has.stands)),
 )
 
 pub not_two : (n : ℕ) → n ≢ 1 → ((not (nat_eq n 2) ≡ true) × (IsOurs n → ⊥)) ⊎ ((not (nat_eq n 2) ≡ false) × IsOurs n)
@@ -87,25 +84,15 @@ head_version : (v : ModelVersion) → (n : ℕ) × IsOurs n × (n < 2 ^ 32) × I
 head_version One = (1, inl refl, omega arith, inr (ap (λ (t : List ℕ). word ++ t ++ 10 ∷ []) (sym (decimal_digit 1 (omega arith)))))
 head_version Two = (2, inr refl, omega arith, inr (ap (λ (t : List ℕ). word ++ t ++ 10 ∷ []) (sym (decimal_digit 2 (omega arith)))))
 
--- no byte of the list is a line feed
-none_among : (xs : List ℕ) → list_any (λ b. nat_eq b 10) xs ≡ false → Contains xs 10 → ⊥
-none_among [] none has = absurd (omega (arith, has.1))
-none_among (b ∷ xs) none (zero, within, is) = true≢false (sym (ap (λ (k : ℕ). nat_eq k 10 || list_any (λ c. nat_eq c 10) xs) is) ∙ none)
-none_among (b ∷ xs) none (suc k, within, is) = none_among xs (later (nat_eq b 10) (list_any (λ c. nat_eq c 10) xs) none) (k, omega (arith, within), is)
-  where
-    later : (a c : Bool) → (a || c) ≡ false → c ≡ false
-    later false c is = is
-    later true c is = absurd (true≢false is)
-
 head_first : (v : ModelVersion) (rest : List ℕ) → IsFirstLine (head_line v ++ rest) (head_line v) rest
-head_first One rest = ended (codes "dyckmon-model 1") (none_among (codes "dyckmon-model 1") refl) refl refl
-head_first Two rest = ended (codes "dyckmon-model 2") (none_among (codes "dyckmon-model 2") refl) refl refl
+head_first One rest = ended (codes "dyckmon-model 1") (plain_word (codes "dyckmon-model 1") refl) refl refl
+head_first Two rest = ended (codes "dyckmon-model 2") (plain_word (codes "dyckmon-model 2") refl) refl refl
 
 pub has_our_version : (v : ModelVersion) (text : List ℕ) (g : Graph) → IsModelText v text g → HasOtherModelVersion text → ⊥
 has_our_version v text g is has =
     let whole : text ≡ head_line v ++ after_head v g = is.is ∙ text_is v g in
     let first : IsFirstLine text (head_line v) (after_head v g) = subst (λ (t : List ℕ). IsFirstLine t (head_line v) (after_head v g)) (sym whole) (head_first v (after_head v g)) in
-    let same : has.line ≡ head_line v = same_line text has.line has.rest (head_line v) (after_head v g) has.first first in
+    let same : has.line ≡ head_line v = line_alone text (head_line v) (after_head v g) has.line has.rest first has.first in
     let ours = head_version v in
     let n : has.number ≡ ours.0 = one_version word (head_line v) has.number ours.0 has.small ours.2 (subst (IsVersionLine word has.number) same has.stands) ours.3 in
     has.other (subst IsOurs (sym n) ours.1)
@@ -122,9 +109,6 @@ one_of_five g k order patterns (broken_functions is entries exits names edges no
 one_of_five g k order patterns (broken_repeats is entries exits names edges functions not_so) = absurd (not_so (no_repeats g order))
 one_of_five g k order patterns (broken_patterns is entries exits names edges functions repeats not_so) = absurd (not_so patterns)
 
-pub right_patterns : (v : ModelVersion) (g : Graph) → IsSpelled v g → HasRightPatterns g
-right_patterns v g spelled k d within = (spelled.sys k d within).right
-
 -- what read_model answers
 
 -- the lists of the text are read
@@ -132,40 +116,15 @@ module _ (text : List ℕ) (v : ModelVersion) (read : Graph) (is_read : IsReadAs
   only_model : (g : Graph) → IsModel text g → read ≡ g
   only_model g is = let m : Spelling = record { version = is.version; graph = g } in sym (is_read.only m is.is)
 
-  pub model_read : (m : Graph) → length text ≤ longest → IsValid m → m ≡ read → IsModel text m
-  model_read m short valid is = record { version = v; is = subst (IsModelText v text) (sym is) is_read.spells; valid = valid; short = short }
-
-  pub broken_refused : (error : ModelError) → length text ≤ longest → IsBroken read error → IsModelRefusal error text
-  broken_refused OutOfMemory short broken = tt
-  broken_refused (Invalid rule) short broken = (short, (v, read, is_read.spells, broken.0))
-  broken_refused TooLarge short broken = absurd broken
-  broken_refused Version short broken = absurd broken
-  broken_refused (BadLine k) short broken = absurd broken
-  broken_refused Truncated short broken = absurd broken
-
-  pub broken_rule : (error : ModelError) (k : ℕ) → IsBroken read error → error ≡ Invalid k → k ≤ 5
-  broken_rule OutOfMemory k broken is = absurd (cc)
-  broken_rule (Invalid rule) k broken is = let same : rule ≡ k = cc in subst (λ (n : ℕ). n ≤ 5) same broken.1
-  broken_rule TooLarge k broken is = absurd broken
-  broken_rule Version k broken is = absurd broken
-  broken_rule (BadLine j) k broken is = absurd broken
-  broken_rule Truncated k broken is = absurd broken
-
   pub broken_no_model : (error : ModelError) (g : Graph) → IsBroken read error → IsModel text g → error ≡ OutOfMemory
   broken_no_model OutOfMemory g broken is = refl
   broken_no_model (Invalid rule) g broken is = absurd (none_broken read rule (subst IsValid (sym (only_model g is)) is.valid) broken.0)
-  broken_no_model TooLarge g broken is = absurd broken
-  broken_no_model Version g broken is = absurd broken
-  broken_no_model (BadLine k) g broken is = absurd broken
-  broken_no_model Truncated g broken is = absurd broken
-
-  pub same_model : (m g : Graph) → m ≡ read → IsModel text g → m ≡ g
-  same_model m g same is = same ∙ only_model g is
+  broken_no_model error g broken is = absurd broken
 
   pub model_complete : (made : Result Graph ModelError) (g : Graph) → IfErr made (λ error. IsBroken read error) → IsModel text g → IfErr made (λ error. error ≡ OutOfMemory)
   model_complete (Ok m) g broken is = tt
   model_complete (Err error) g broken is = broken_no_model error g broken is
 
   pub model_same : (made : Result Graph ModelError) (g : Graph) → IfOk made (λ m. m ≡ read) → IsModel text g → IfOk made (λ m. m ≡ g)
-  model_same (Ok m) g same is = same_model m g same is
+  model_same (Ok m) g same is = same ∙ only_model g is
   model_same (Err error) g same is = tt

@@ -36,10 +36,6 @@ line_is_some text line rest (ended front none is whole) some = omega (arith, ap 
 line_is_some text [] rest (unended none end whole) some = absurd (some whole)
 line_is_some text (b ∷ line) rest (unended none end whole) some = omega arith
 
-pub line_is : (text line rest : List ℕ) → IsFirstLine text line rest → IsLine line
-line_is text line rest (ended front none is whole) = ([], ended front none is refl)
-line_is text line rest (unended none end whole) = ([], unended none refl (append-nil line))
-
 pub next_place : (text line rest : List ℕ) (old new : Place) → old.byte ≤ length text → drop old.byte text ≢ [] → IsFirstLine (drop old.byte text) line rest → new.byte ≡ old.byte + length line → new.line ≡ old.line + 1 → IsNext text old new line
 next_place text line rest old new within some first byte number =
     let whole : drop old.byte text ≡ line ++ rest = first_line_whole (drop old.byte text) line rest first in
@@ -71,27 +67,16 @@ whole_word word line new x is_one line_one stands =
 abbrev Word : List ℕ → List ℕ → Result (Unit {0}) Miss → Type 0
 Word word line found = Reads (λ (_ : Unit {0}). Unit {0}) (λ (_ : Unit {0}). word) line [] found
 
-front_is : (v : ModelVersion) → (digit : ℕ) × (head_line v ≡ codes "dyckmon-model " ++ digit ∷ 10 ∷ [])
-front_is One = (49, refl)
-front_is Two = (50, refl)
-
-pub short_version : (line : List ℕ) (v : ModelVersion) → Word (head_line v) line (Err Short) → Reads (λ (_ : ModelVersion). Unit {0}) head_line line [] (Err Short)
-short_version line v cut = record { value = v; rest = cut.rest; fits = tt; more = cut.more; goes_on = cut.goes_on; unended = cut.unended }
-
-pub no_version_line : (line : List ℕ) → Word (codes "dyckmon-model 1\n") line (Err Wrong) → Word (codes "dyckmon-model 2\n") line (Err Wrong) → Reads (λ (_ : ModelVersion). Unit {0}) head_line line [] (Err Wrong)
-no_version_line line first second = none
-  where
-    none : (w : ModelVersion) → Unit {0} → Agree (head_line w) line → ⊥
-    none One fits agree = first tt tt agree
-    none Two fits agree = second tt tt agree
+no_version_line : (line : List ℕ) → Word (codes "dyckmon-model 1\n") line (Err Wrong) → Word (codes "dyckmon-model 2\n") line (Err Wrong) → (w : ModelVersion) → Unit {0} → Agree (head_line w) line → ⊥
+no_version_line line first second One fits agree = first tt tt agree
+no_version_line line first second Two fits agree = second tt tt agree
 
 pub word_read : (word line new : List ℕ) (found : Result (Unit {0}) Miss) → IsTrue (is_ended word) → IsLine line → Reads (λ (_ : Unit {0}). Unit {0}) (λ (_ : Unit {0}). word) line new found → Word word line found
 word_read word line new (Ok x) is_one line_one read = whole_word word line new x is_one line_one read
 word_read word line new (Err no_memory) is_one line_one read = tt
-word_read word line new (Err Short) is_one line_one read = read
-word_read word line new (Err Wrong) is_one line_one read = read
+word_read word line new found is_one line_one read = read
 
 pub no_second_version : (line : List ℕ) (miss : Miss) → Word (codes "dyckmon-model 1\n") line (Err Wrong) → Word (codes "dyckmon-model 2\n") line (Err miss) → Reads (λ (_ : ModelVersion). Unit {0}) head_line line [] (Err miss)
 no_second_version line no_memory first second = tt
-no_second_version line Short first second = short_version line Two second
+no_second_version line Short first cut = record { value = Two; rest = cut.rest; fits = tt; more = cut.more; goes_on = cut.goes_on; unended = cut.unended }
 no_second_version line Wrong first second = no_version_line line first second

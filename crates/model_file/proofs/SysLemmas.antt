@@ -5,12 +5,11 @@ use Rattle.std.specs.List.{AllZip}
 use Rattle.std.specs.Ordering.{nat_cmp, ordering_then}
 use Rattle.dm_base.specs.Pattern.{pattern_cmp}
 use Rattle.std.proofs.lemmas.List.{append-nil}
-use Rattle.std.proofs.lemmas.List.Elements.{All-cons, All-nil, Contains-append_cases}
+use Rattle.std.proofs.lemmas.List.Elements.{All-cons, All-nil}
 use Rattle.flow_model.specs.declared.records.SysEdge.{SysEdge}
 use Rattle.flow_model.specs.Order.{sys_order}
 use Rattle.line_text.specs.Reading.{StandsFirst}
 use Rattle.line_text.specs.Words.{number_word}
-use Rattle.line_text.proofs.WordLemmas.{IsPlain-no_feed}
 use Rattle.sys_table.specs.declared.kinds.ArgKind.{ArgKind}
 use Rattle.sys_table.specs.Table.{name_of, name_word, recorded_of, FitsEntry, IsRight}
 use Rattle.sys_table.proofs.Names.{name_of-IsPlain}
@@ -19,7 +18,7 @@ use Rattle.model_file.specs.declared.version.ModelVersion.TheVariants.{One, Two}
 use Rattle.model_file.specs.Bounds.{IsNextSys}
 use Rattle.model_file.specs.ModelText.{sys_line, entries_text, entry_text, pattern_text, IsSpelledSys}
 use Rattle.model_file.specs.SysBounds.{pattern_order, end_order, name_order, IsAfter, BeginsAt, IsNamed, EndsAt, HasNameAfter, HasEndAfter, HasPatternAfter, IsPattern, IsNextPattern, HasNumber, IsLeastBelow, end_after, entries_words, pattern_rest}
-use Rattle.model_file.proofs.LineLemmas.{first_word, plain_number, plain_word, no_feed_space}
+use Rattle.model_file.proofs.LineLemmas.{first_word, plain_number, plain_word, plain_spaced}
 use Rattle.model_file.proofs.Levels.{Fitting, IsFree, IsTied, step, rest_after, number_part, least_none, least_room, least_full}
 use Rattle.model_file.proofs.Orders.{less_first, less_next, less_cases}
 use Rattle.model_file.proofs.Narrowing.{IsPart, IsEndedPart, IsWhole, With, Leads, leads_start, leads_on, leads_same, ends_on}
@@ -80,14 +79,10 @@ after_from version e = name_word e.name ++ after_name version e
 abbrev pub after_word : ModelVersion → SysEdge → List ℕ
 after_word version e = number_word 32 e.from ++ after_from version e
 
-sys_line-parts : (version : ModelVersion) (e : SysEdge) → sys_line version e ≡ codes "s " ++ after_word version e
-sys_line-parts version e = simp append_assoc
-
 two_parts : (n : ℕ) (kinds : List ArgKind) (args : List (Option ℤ)) → AllZip FitsEntry kinds args → decimal n ++ (entries_text args ++ 10 ∷ []) ≡ number_word (end_after Two kinds) n ++ entries_words args
 two_parts n [] [] right = sym (append-nil (decimal n ++ 10 ∷ []))
-two_parts n [] (x ∷ args) right = absurd right
-two_parts n (kind ∷ kinds) [] right = absurd right
 two_parts n (kind ∷ kinds) (x ∷ args) right = ap (λ t. decimal n ++ t) (words_of_entries x args) ∙ sym (append_assoc (decimal n) (32 ∷ []) (entries_words (x ∷ args)))
+two_parts n kinds args right = absurd right
 
 pub to_parts : (version : ModelVersion) (e : SysEdge) → IsRight e.name e.args → after_name version e ≡ number_word (end_after version (recorded_of e.name)) e.to ++ pattern_rest version e.args
 to_parts One e right = sym (append-nil (decimal e.to ++ 10 ∷ []))
@@ -172,24 +167,13 @@ end_after_only version d last (to, p, small, pattern, less) =
 pub sys_word : (version : ModelVersion) (last : Option SysEdge) (least : ℕ) → IsLeastBelow 4294967296 (HasNumber (λ e. IsSpelledSys version e × IsAfter sys_order last e) (λ e. e.from)) least → least ≤ 4294967295 → IsPart (IsNextSys version last) (sys_line version) (λ e. tt {0}) (λ u. Unit {0}) (λ u. codes "s ") (after_word version)
 sys_word version last least bound small =
     let found = bound.above least (omega arith) (omega arith) in
-    first_word (codes "s ") found.0 (record { spelled = found.1.0; after = found.1.1 }) (λ e fits. sys_line-parts version e) (plain_word (codes "s ") refl)
-
-plain_name : (x : ℕ) → x < 24 → Contains (name_word x) 10 → ⊥
-plain_name x known has = elim (Contains-append_cases (name_of x) (32 ∷ []) 10 has) [
-  | inl within ↦ IsPlain-no_feed (name_of x) (name_of-IsPlain x known) within
-  | inr after ↦ no_feed_space after
-]
+    first_word (codes "s ") found.0 (record { spelled = found.1.0; after = found.1.1 }) (λ e fits. simp append_assoc) (plain_word (codes "s ") refl)
 
 pub from_part : (version : ModelVersion) (last : Option SysEdge) (least : ℕ) → IsLeastBelow 4294967296 (HasNumber (λ e. IsSpelledSys version e × IsAfter sys_order last e) (λ e. e.from)) least → IsPart (Fitting (IsSpelledSys version) (λ e. e.from) name_order last) (after_word version) (λ e. e.from) (λ n. (least ≤ n) × (n < 4294967296)) (number_word 32) (after_from version)
 from_part version last least bound = number_part (IsSpelledSys version) (λ e. e.from) name_order 4294967296 least last (number_word 32) bound (λ e base. base.from) (λ e base. refl) (λ n small. plain_number n (omega arith))
 
 pub name_part : (version : ModelVersion) (from : ℕ) (last : Option SysEdge) (least : ℕ) → IsLeastBelow 24 (HasNumber (λ e. BeginsAt version from e × IsAfter name_order last e) (λ e. e.name)) least → IsPart (Fitting (BeginsAt version from) (λ e. e.name) end_order last) (after_from version) (λ e. e.name) (λ n. (least ≤ n) × (n < 24)) name_word (after_name version)
-name_part version from last least bound = number_part (BeginsAt version from) (λ e. e.name) end_order 24 least last name_word bound (λ e base. base.0.name) (λ e base. refl) plain_name
-
-no_rest : (kinds : List ArgKind) (args : List (Option ℤ)) → AllZip FitsEntry kinds args → end_after Two kinds ≡ 10 → entries_words args ≡ []
-no_rest [] [] right is = refl
-no_rest [] (x ∷ args) right is = absurd right
-no_rest (kind ∷ kinds) args right is = absurd (omega (arith, is))
+name_part version from last least bound = number_part (BeginsAt version from) (λ e. e.name) end_order 24 least last name_word bound (λ e base. base.0.name) (λ e base. refl) (λ x known. plain_spaced (name_of x) (name_of-IsPlain x known))
 
 plain_to : (version : ModelVersion) (name n : ℕ) (args : List (Option ℤ)) → n < 4294967296 → IsRight name args → pattern_rest version args ≢ [] → Contains (number_word (end_after version (recorded_of name)) n) 10 → ⊥
 plain_to One name n args small right more has = more refl
@@ -218,31 +202,26 @@ pattern_whole version from name to last small known small_to = record {
 
 -- what is left after each part
 
-word_same : (version : ModelVersion) (last : Option SysEdge) (e : SysEdge) → IsSpelledSys version e × IsAfter sys_order last e → With (IsNextSys version last) (λ d. tt {0}) (tt {0}) e
-word_same version last e fits = (record { spelled = fits.0; after = fits.1 }, refl)
-
-same_word : (version : ModelVersion) (last : Option SysEdge) (e : SysEdge) → With (IsNextSys version last) (λ d. tt {0}) (tt {0}) e → IsSpelledSys version e × IsAfter sys_order last e
-same_word version last e fits = (fits.0.spelled, fits.0.after)
-
 -- after `s `
-pub worded : (version : ModelVersion) (last : Option SysEdge) (least : ℕ) (old mid : List ℕ) → IsLeastBelow 4294967296 (HasNumber (λ e. IsSpelledSys version e × IsAfter sys_order last e) (λ e. e.from)) least → least ≤ 4294967295 → StandsFirst {V = Unit {0}} (λ u. Unit {0}) (λ u. codes "s ") old mid (tt {0}) → Leads (IsNextSys version last) (sys_line version) old (Fitting (IsSpelledSys version) (λ e. e.from) name_order last) (after_word version) mid
-worded version last least old mid bound small stands =
-    leads_same old mid (leads_on old old mid (leads_start old) (sys_word version last least bound small) tt stands) (word_same version last) (same_word version last) (λ e fits. refl)
+pub worded : {version : ModelVersion} {last : Option SysEdge} {least : ℕ} {old mid : List ℕ} → IsLeastBelow 4294967296 (HasNumber (λ e. IsSpelledSys version e × IsAfter sys_order last e) (λ e. e.from)) least → least ≤ 4294967295 → StandsFirst {V = Unit {0}} (λ u. Unit {0}) (λ u. codes "s ") old mid (tt {0}) → Leads (IsNextSys version last) (sys_line version) old (Fitting (IsSpelledSys version) (λ e. e.from) name_order last) (after_word version) mid
+worded {version} {last} {least} {old} {mid} bound small stands =
+    leads_same old mid (leads_on old old mid (leads_start old) (sys_word version last least bound small) tt stands) (λ e fits. (record { spelled = fits.0; after = fits.1 }, refl)) (λ e fits. (fits.0.spelled, fits.0.after)) (λ e fits. refl)
 
 -- after the first node
-pub begun_at : (version : ModelVersion) (last begun : Option SysEdge) (least from : ℕ) (old mid new : List ℕ) → Leads (IsNextSys version last) (sys_line version) old (Fitting (IsSpelledSys version) (λ e. e.from) name_order last) (after_word version) mid → IsLeastBelow 4294967296 (HasNumber (λ e. IsSpelledSys version e × IsAfter sys_order last e) (λ e. e.from)) least → StandsFirst (λ n. (least ≤ n) × (n < 4294967296)) (number_word 32) mid new from → IsTied (λ e. e.from) from last begun → Leads (IsNextSys version last) (sys_line version) old (Fitting (BeginsAt version from) (λ e. e.name) end_order begun) (after_from version) new
-begun_at version last begun least from old mid new leads bound stands tied =
-    step (λ e. e.from) name_order (IsSpelledSys version) from last begun old new (leads_on old mid new leads (from_part version last least bound) from stands) (bound.above from stands.fits.0 stands.fits.1) tied
+pub begun_at : {version : ModelVersion} {last : Option SysEdge} {least from : ℕ} {old mid new : List ℕ} (begun : Option SysEdge) → IsLeastBelow 4294967296 (HasNumber (λ e. IsSpelledSys version e × IsAfter sys_order last e) (λ e. e.from)) least → least ≤ 4294967295 → StandsFirst {V = Unit {0}} (λ u. Unit {0}) (λ u. codes "s ") old mid (tt {0}) → StandsFirst (λ n. (least ≤ n) × (n < 4294967296)) (number_word 32) mid new from → IsTied (λ e. e.from) from last begun → Leads (IsNextSys version last) (sys_line version) old (Fitting (BeginsAt version from) (λ e. e.name) end_order begun) (after_from version) new
+begun_at {version} {last} {least} {from} {old} {mid} {new} begun bound small word stands tied =
+    step (λ e. e.from) name_order (IsSpelledSys version) from last begun old new (leads_on old mid new (worded bound small word) (from_part version last least bound) from stands) (bound.above from stands.fits.0 stands.fits.1) tied
 
 -- after the name
-pub named_at : (version : ModelVersion) (last begun named : Option SysEdge) (from least name : ℕ) (old mid new : List ℕ) → Leads (IsNextSys version last) (sys_line version) old (Fitting (BeginsAt version from) (λ e. e.name) end_order begun) (after_from version) mid → IsLeastBelow 24 (HasNumber (λ e. BeginsAt version from e × IsAfter name_order begun e) (λ e. e.name)) least → StandsFirst (λ n. (least ≤ n) × (n < 24)) name_word mid new name → IsTied (λ e. e.name) name begun named → Leads (IsNextSys version last) (sys_line version) old (Fitting (IsNamed version from name) (λ e. e.to) pattern_order named) (after_name version) new
-named_at version last begun named from least name old mid new leads bound stands tied =
+pub named_at : {version : ModelVersion} {last : Option SysEdge} {from least name : ℕ} {old mid new : List ℕ} (begun named : Option SysEdge) → Leads (IsNextSys version last) (sys_line version) old (Fitting (BeginsAt version from) (λ e. e.name) end_order begun) (after_from version) mid → IsLeastBelow 24 (HasNumber (λ e. BeginsAt version from e × IsAfter name_order begun e) (λ e. e.name)) least → StandsFirst (λ n. (least ≤ n) × (n < 24)) name_word mid new name → IsTied (λ e. e.name) name begun named → Leads (IsNextSys version last) (sys_line version) old (Fitting (IsNamed version from name) (λ e. e.to) pattern_order named) (after_name version) new
+named_at {version} {last} {from} {least} {name} {old} {mid} {new} begun named leads bound stands tied =
     step (λ e. e.name) end_order (BeginsAt version from) name begun named old new (leads_on old mid new leads (name_part version from begun least bound) name stands) (bound.above name stands.fits.0 stands.fits.1) tied
 
 -- after the second node
-pub ended_at : (version : ModelVersion) (last named ended : Option SysEdge) (from name least to : ℕ) (old mid new : List ℕ) → Leads (IsNextSys version last) (sys_line version) old (Fitting (IsNamed version from name) (λ e. e.to) pattern_order named) (after_name version) mid → IsLeastBelow 4294967296 (HasNumber (λ e. IsNamed version from name e × IsAfter end_order named e) (λ e. e.to)) least → StandsFirst (λ n. (least ≤ n) × (n < 4294967296)) (number_word (end_after version (recorded_of name))) mid new to → IsTied (λ e. e.to) to named ended → Leads (IsNextSys version last) (sys_line version) old (λ e. EndsAt version from name to e × IsAfter pattern_order ended e) (λ e. pattern_rest version e.args) new
-ended_at version last named ended from name least to old mid new leads bound stands tied =
-    step (λ e. e.to) pattern_order (IsNamed version from name) to named ended old new (ends_on old mid new leads (to_part version from name named least bound) to stands) (bound.above to stands.fits.0 stands.fits.1) tied
+pub ended_at : {version : ModelVersion} {last : Option SysEdge} {from name least to end : ℕ} {old mid new : List ℕ} (named ended : Option SysEdge) → Leads (IsNextSys version last) (sys_line version) old (Fitting (IsNamed version from name) (λ e. e.to) pattern_order named) (after_name version) mid → IsLeastBelow 4294967296 (HasNumber (λ e. IsNamed version from name e × IsAfter end_order named e) (λ e. e.to)) least → end ≡ end_after version (recorded_of name) → StandsFirst (λ n. (least ≤ n) × (n < 4294967296)) (number_word end) mid new to → IsTied (λ e. e.to) to named ended → Leads (IsNextSys version last) (sys_line version) old (λ e. EndsAt version from name to e × IsAfter pattern_order ended e) (λ e. pattern_rest version e.args) new
+ended_at {version} {last} {from} {name} {least} {to} {end} {old} {mid} {new} named ended leads bound is stands tied =
+    let read = subst (λ (b : ℕ). StandsFirst (λ n. (least ≤ n) × (n < 4294967296)) (number_word b) mid new to) is stands in
+    step (λ e. e.to) pattern_order (IsNamed version from name) to named ended old new (ends_on old mid new leads (to_part version from name named least bound) to read) (bound.above to stands.fits.0 stands.fits.1) tied
 
 -- the least name is one, since some edge may follow with the first node that was read
 pub least_in : (version : ModelVersion) (last begun : Option SysEdge) (least_from from least : ℕ) → IsLeastBelow 4294967296 (HasNumber (λ e. IsSpelledSys version e × IsAfter sys_order last e) (λ e. e.from)) least_from → (least_from ≤ from) × (from < 4294967296) → IsTied (λ e. e.from) from last begun → IsLeastBelow 24 (HasNumber (λ e. BeginsAt version from e × IsAfter name_order begun e) (λ e. e.name)) least → least < 24

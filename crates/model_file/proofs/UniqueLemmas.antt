@@ -28,6 +28,7 @@ use Rattle.model_file.specs.ModelText.{head_line, functions_line, function_line,
 use Rattle.model_file.proofs.HeadLemmas.{after_head, text_is}
 use Rattle.model_file.proofs.NameLemmas.{name-IsPlain}
 use Rattle.model_file.proofs.OrderLemmas.{all_at, all_more}
+use Rattle.model_file.proofs.PatternLemmas.{only_nones}
 use Rattle.line_text.proofs.Separators.{space, feed}
 
 -- words
@@ -88,9 +89,8 @@ IsWide (Some n) = FitsSigned w64 n
 
 wide_entry : (kind : ArgKind) (entry : Option ℤ) → FitsEntry kind entry → IsWide entry
 wide_entry kind None fits = tt
-wide_entry Signed (Some n) fits = omega (arith, ints)
-wide_entry Unsigned (Some n) fits = omega (arith, ints)
 wide_entry Bytes (Some n) fits = absurd fits
+wide_entry kind (Some n) fits = omega (arith, ints)
 
 wide_entries : (kinds : List ArgKind) (entries : List (Option ℤ)) → AllZip FitsEntry kinds entries → All IsWide entries
 wide_entries kinds [] all k d within = absurd (omega (arith, within))
@@ -125,25 +125,12 @@ entry_injective None (Some n) wide_d wide_e is = absurd (no_star n wide_e is)
 entry_injective (Some n) None wide_d wide_e is = absurd (no_star n wide_d (sym is))
 entry_injective (Some m) (Some n) wide_d wide_e is = ap (λ z. Some z) (signed_injective m n wide_d wide_e is)
 
--- patterns that take any value, as many
-same_any : (kinds : List ArgKind) (xs ys : List (Option ℤ)) → AllZip FitsEntry kinds xs → AllZip FitsEntry kinds ys → All (λ entry. entry ≡ None) xs → All (λ entry. entry ≡ None) ys → xs ≡ ys
-same_any [] [] [] zip_x zip_y all_x all_y = refl
-same_any [] [] (y ∷ ys) zip_x zip_y all_x all_y = absurd zip_y
-same_any [] (x ∷ xs) ys zip_x zip_y all_x all_y = absurd zip_x
-same_any (k ∷ kinds) [] ys zip_x zip_y all_x all_y = absurd zip_x
-same_any (k ∷ kinds) (x ∷ xs) [] zip_x zip_y all_x all_y = absurd zip_y
-same_any (k ∷ kinds) (x ∷ xs) (y ∷ ys) zip_x zip_y all_x all_y =
-    let IsAny : Option ℤ → Type 0 = λ entry. entry ≡ None in
-    let first : x ≡ y = all_at IsAny [] x xs all_x ∙ sym (all_at IsAny [] y ys all_y) in
-    let more = same_any kinds xs ys zip_x.1 zip_y.1 (all_more IsAny (x ∷ []) xs all_x) (all_more IsAny (y ∷ []) ys all_y) in
-    λ i. first i ∷ more i
-
 pattern_end : (v : ModelVersion) (entries : List (Option ℤ)) (r : List ℕ) → (d : ℕ) × (rest : List ℕ) × IsEnd d × (pattern_text v entries ++ 10 ∷ r ≡ d ∷ rest)
 pattern_end One entries r = (10, r, feed, refl)
 pattern_end Two entries r = words_end entry_text IsWide entry_plain entry_injective entries r
 
 pattern_code : (v : ModelVersion) (kinds : List ArgKind) (xs ys : List (Option ℤ)) (r s : List ℕ) → AllZip FitsEntry kinds xs → AllZip FitsEntry kinds ys → HasPattern v xs → HasPattern v ys → pattern_text v xs ++ 10 ∷ r ≡ pattern_text v ys ++ 10 ∷ s → (xs ≡ ys) × (r ≡ s)
-pattern_code One kinds xs ys r s zip_x zip_y any_x any_y is = (same_any kinds xs ys zip_x zip_y any_x any_y, cc)
+pattern_code One kinds xs ys r s zip_x zip_y any_x any_y is = (only_nones kinds xs zip_x any_x ∙ sym (only_nones kinds ys zip_y any_y), cc)
 pattern_code Two kinds xs ys r s zip_x zip_y any_x any_y is = words_code entry_text IsWide entry_plain entry_injective xs ys r s (wide_entries kinds xs zip_x) (wide_entries kinds ys zip_y) is
 
 -- lines
@@ -219,15 +206,6 @@ call_code x y r s fits_x fits_y is =
 -- lines of one kind, and then what is none of them
 
 module _ {X : Type 0} (Fits : X → Type 0) (line : X → List ℕ) (code : IsCode Fits line) where
-  counted_code : (xs ys : List X) (r s : List ℕ) → length xs ≡ length ys → All Fits xs → All Fits ys → flat_map line xs ++ r ≡ flat_map line ys ++ s → (xs ≡ ys) × (r ≡ s)
-  counted_code [] [] r s long all_x all_y is = (refl, is)
-  counted_code [] (y ∷ ys) r s long all_x all_y is = absurd (omega (arith, long))
-  counted_code (x ∷ xs) [] r s long all_x all_y is = absurd (omega (arith, long))
-  counted_code (x ∷ xs) (y ∷ ys) r s long all_x all_y is =
-      let one = code x y (flat_map line xs ++ r) (flat_map line ys ++ s) (all_at Fits [] x xs all_x) (all_at Fits [] y ys all_y) (sym (append_assoc (line x) (flat_map line xs) r) ∙ is ∙ append_assoc (line y) (flat_map line ys) s) in
-      let more = counted_code xs ys r s (omega (arith, long)) (all_more Fits (x ∷ []) xs all_x) (all_more Fits (y ∷ []) ys all_y) one.1 in
-      (λ i. one.0 i ∷ more.0 i, more.1)
-
   listed_code : (Other : List ℕ → Type 0) → ((x : X) (r : List ℕ) → Other (line x ++ r) → ⊥) → (xs ys : List X) (r s : List ℕ) → Other r → Other s → All Fits xs → All Fits ys → flat_map line xs ++ r ≡ flat_map line ys ++ s → (xs ≡ ys) × (r ≡ s)
   listed_code Other apart [] [] r s other_r other_s all_x all_y is = (refl, is)
   listed_code Other apart [] (y ∷ ys) r s other_r other_s all_x all_y is = absurd (apart y (flat_map line ys ++ s) (subst Other (is ∙ append_assoc (line y) (flat_map line ys) s) other_r))
@@ -247,6 +225,12 @@ NoSilent text = Begins 115 text ⊎ Begins 99 text
 
 abbrev NoSys : List ℕ → Type 0
 NoSys text = Begins 99 text ⊎ ((rest : List ℕ) × (text ≡ 115 ∷ 116 ∷ rest))
+
+function_apart : (one : ModelFunction) (r : List ℕ) → Begins 110 (function_line one ++ r) → ⊥
+function_apart one r begins = let same : ◌≡◌ {A = ℕ} 102 110 = cc in absurd (omega (arith, same))
+
+after_nodes : (n : ℕ) (r : List ℕ) → Begins 110 (nodes_line n ++ r)
+after_nodes n r = (codes "odes " ++ decimal n ++ 10 ∷ [] ++ r, refl)
 
 silent_apart : (e : SilentEdge) (r : List ℕ) → NoSilent (silent_line e ++ r) → ⊥
 silent_apart e r (inl begins) = let same : ◌≡◌ {A = ℕ} 101 115 = cc in absurd (omega (arith, same))
@@ -286,7 +270,7 @@ ending_code m n r s small_m small_n is =
 rest_code : (v : ModelVersion) (g h : Graph) (r s : List ℕ) → IsSpelled v g → IsSpelled v h → after_head v g ++ r ≡ after_head v h ++ s → (g ≡ h) × (r ≡ s)
 rest_code v g h r s in_g in_h is =
     let count = number_line_code (codes "functions ") (length g.functions) (length h.functions) _ _ in_g.count in_h.count (sym (rest_parts v g r) ∙ is ∙ rest_parts v h s) in
-    let functions = counted_code IsSpelledFunction function_line function_code g.functions h.functions _ _ count.0 in_g.functions in_h.functions count.1 in
+    let functions = listed_code IsSpelledFunction function_line function_code (Begins 110) function_apart g.functions h.functions _ _ (after_nodes g.nodes _) (after_nodes h.nodes _) in_g.functions in_h.functions count.1 in
     let nodes = number_line_code (codes "nodes ") g.nodes h.nodes _ _ in_g.nodes in_h.nodes functions.1 in
     let silent = listed_code IsSpelledSilent silent_line silent_code NoSilent silent_apart g.silent h.silent _ _ (after_silent v g.sys g.calls g.start r) (after_silent v h.sys h.calls h.start s) in_g.silent in_h.silent nodes.1 in
     let sys = listed_code (IsSpelledSys v) (sys_line v) (sys_code v) NoSys (sys_apart v) g.sys h.sys _ _ (after_sys g.calls g.start r) (after_sys h.calls h.start s) in_g.sys in_h.sys silent.1 in

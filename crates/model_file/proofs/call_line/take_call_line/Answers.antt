@@ -1,32 +1,28 @@
 use Rattle.std.proofs.Common.{refl}
-use Rattle.std.proofs.lemmas.Result.{err_from_is_err_and}
-use Rattle.model_file.proofs.Narrowing.{leads_start, leads_on, leads_miss, leads_all, reads_same}
+use Rattle.model_file.proofs.Narrowing.{leads_start, leads_on, leads_miss, leads_all, reads_same, reads_err}
 use Rattle.model_file.proofs.CallLemmas.{call_word, call_from, call_site, end_of_begun, begun_of_end}
 use Rattle.model_file.proofs.call_line.take_call_line.Goals as goal
 
 pub returns-in_err-take : goal.returns-in_err-take
 returns-in_err-take c =
-    let p = err_from_is_err_and c.from_residual.result c.from_residual.ensures.1 in
     let word = call_word c.args.last c.least_site-least.result c.least_site-least.ensures c.if-least-gt-MOST.false in
-    rw (p.1, p.2) (leads_miss c.args.cursor.now.rest.now _ c.take.new.self.rest.now (leads_start c.args.cursor.now.rest.now) word c.in_err-take.field-0.0 c.in_err-take.ensures.reads)
+    reads_err _ _ _ _ _ c.from_residual.result c.from_residual.ensures.1 (leads_miss c.args.cursor.now.rest.now _ c.take.new.self.rest.now (leads_start c.args.cursor.now.rest.now) word c.in_err-take.field-0.0 c.in_err-take.ensures.reads)
 
 pub returns-in_err-from : goal.returns-in_err-from
 returns-in_err-from c =
-    let p = err_from_is_err_and c.from_residual-in_err-from.result c.from_residual-in_err-from.ensures.1 in
     let word = call_word c.args.last c.least_site-least.result c.least_site-least.ensures c.if-least-gt-MOST.false in
     let worded = leads_on c.args.cursor.now.rest.now _ c.take.new.self.rest.now (leads_start c.args.cursor.now.rest.now) word tt c.in_ok-take.ensures.reads in
     let from = call_from c.args.last c.least_site-least.result c.least_site-least.ensures c.if-least-gt-MOST.false in
-    rw (p.1, p.2) (leads_miss c.args.cursor.now.rest.now _ c.take_number.new.cursor.rest.now worded from c.in_err-from.field-0.0 c.in_err-from.ensures)
+    reads_err _ _ _ _ _ c.from_residual-in_err-from.result c.from_residual-in_err-from.ensures.1 (leads_miss c.args.cursor.now.rest.now _ c.take_number.new.cursor.rest.now worded from c.in_err-from.field-0.0 c.in_err-from.ensures)
 
 pub returns-in_err-site : goal.returns-in_err-site
 returns-in_err-site c =
-    let p = err_from_is_err_and c.from_residual-in_err-site.result c.from_residual-in_err-site.ensures.1 in
     let word = call_word c.args.last c.least_site-least.result c.least_site-least.ensures c.if-least-gt-MOST.false in
     let worded = leads_on c.args.cursor.now.rest.now _ c.take.new.self.rest.now (leads_start c.args.cursor.now.rest.now) word tt c.in_ok-take.ensures.reads in
     let from = call_from c.args.last c.least_site-least.result c.least_site-least.ensures c.if-least-gt-MOST.false in
     let begun = leads_on c.args.cursor.now.rest.now _ c.take_number.new.cursor.rest.now worded from c.in_ok-from.from c.in_ok-from.ensures in
     let site = call_site c.args.last c.in_ok-from.from c.least_site-least.result c.in_ok-from.ensures.fits.1 c.least_site-least.ensures in
-    rw (p.1, p.2) (leads_miss c.args.cursor.now.rest.now _ c.take_number-2.new.cursor.rest.now begun site c.in_err-site.field-0.0 c.in_err-site.ensures)
+    reads_err _ _ _ _ _ c.from_residual-in_err-site.result c.from_residual-in_err-site.ensures.1 (leads_miss c.args.cursor.now.rest.now _ c.take_number-2.new.cursor.rest.now begun site c.in_err-site.field-0.0 c.in_err-site.ensures)
 
 pub returns : goal.returns
 returns c =

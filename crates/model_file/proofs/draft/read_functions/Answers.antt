@@ -5,7 +5,8 @@ use Rattle.flow_model.specs.Built.{Records}
 use Rattle.flow_model.specs.declared.records.ModelFunction.{ModelFunction}
 use Rattle.model_file.specs.Progress.{IsAt}
 use Rattle.model_file.specs.States.{Fixed, AtFunctions}
-use Rattle.model_file.proofs.DraftLemmas.{function_read, function_stopped}
+use Rattle.model_file.proofs.FrameLemmas.{taken, stopped}
+use Rattle.model_file.proofs.HeadLemmas.{fixed, function_step}
 use Rattle.model_file.proofs.draft.read_functions.Goals as goal
 
 pub loop-done-preserved : goal.loop-done-preserved
@@ -17,7 +18,8 @@ loop-done-preserved c =
       edges = search rules;
       long = omega (arith, ap length functions, length-append c.loop-done.builder.functions (c.in_ok-one.one ∷ []));
       told = λ v start.
-          let at = function_read v c.args.text.now c.loop-done.place c.take_function.new.place c.args.count c.loop-done.builder.functions c.in_ok-one.one less (c.loop-done.invariant.told v start) c.in_ok-one.ensures.taken in
+          let told = c.loop-done.invariant.told v start in
+          let at = taken c.args.text.now c.loop-done.place c.take_function.new.place c.in_ok-one.one (fixed v (function_step v c.args.count c.loop-done.builder.functions told.some.0.graph told.some.1 less told.some.2.1)) told c.in_ok-one.ensures.taken in
           subst (λ (fs : List ModelFunction). IsAt (Fixed v (AtFunctions v c.args.count fs)) c.args.text.now c.take_function.new.place) (sym functions) at;
     }
 
@@ -25,4 +27,5 @@ pub returns-in_err-one-clause-stopped : goal.returns-in_err-one-clause-stopped
 returns-in_err-one-clause-stopped c v start =
     let less : length c.loop-done.builder.functions < c.args.count = omega arith in
     let p = err_from_is_err_and c.from_residual.result c.from_residual.ensures.1 in
-    rw (p.1, p.2) (function_stopped v c.args.text.now c.loop-done.place c.take_function.new.place c.args.count c.loop-done.builder.functions _ less (c.loop-done.invariant.told v start) c.in_err-one.ensures.taken)
+    let told = c.loop-done.invariant.told v start in
+    rw (p.1, p.2) (stopped c.args.text.now c.loop-done.place c.take_function.new.place _ (fixed v (function_step v c.args.count c.loop-done.builder.functions told.some.0.graph told.some.1 less told.some.2.1)) told c.in_err-one.ensures.taken)

@@ -1,34 +1,29 @@
-use Rattle.std.proofs.lemmas.Result.{err_from_is_err_and}
-use Rattle.model_file.proofs.Narrowing.{leads_start, leads_on, leads_miss, whole_miss, whole_stands}
+use Rattle.model_file.proofs.Narrowing.{leads_start, leads_on, leads_miss, whole_miss, whole_stands, reads_err}
 use Rattle.model_file.proofs.FunctionLemmas.{function_word, function_name, function_entry, function_exit}
 use Rattle.model_file.proofs.function_line.take_function_line.Goals as goal
 
 pub returns-in_err-take : goal.returns-in_err-take
 returns-in_err-take c =
-    let p = err_from_is_err_and c.from_residual.result c.from_residual.ensures.1 in
-    rw (p.1, p.2) (leads_miss c.args.cursor.now.rest.now _ c.take.new.self.rest.now (leads_start c.args.cursor.now.rest.now) function_word c.in_err-take.field-0.0 c.in_err-take.ensures.reads)
+    reads_err _ _ _ _ _ c.from_residual.result c.from_residual.ensures.1 (leads_miss c.args.cursor.now.rest.now _ c.take.new.self.rest.now (leads_start c.args.cursor.now.rest.now) function_word c.in_err-take.field-0.0 c.in_err-take.ensures.reads)
 
 pub returns-in_err-name : goal.returns-in_err-name
 returns-in_err-name c =
-    let p = err_from_is_err_and c.from_residual-in_err-name.result c.from_residual-in_err-name.ensures.1 in
     let worded = leads_on c.args.cursor.now.rest.now _ c.take.new.self.rest.now (leads_start c.args.cursor.now.rest.now) function_word tt c.in_ok-take.ensures.reads in
-    rw (p.1, p.2) (leads_miss c.args.cursor.now.rest.now _ c.take_name.new.cursor.rest.now worded function_name c.in_err-name.field-0.0 c.in_err-name.ensures)
+    reads_err _ _ _ _ _ c.from_residual-in_err-name.result c.from_residual-in_err-name.ensures.1 (leads_miss c.args.cursor.now.rest.now _ c.take_name.new.cursor.rest.now worded function_name c.in_err-name.field-0.0 c.in_err-name.ensures)
 
 pub returns-in_err-entry : goal.returns-in_err-entry
 returns-in_err-entry c =
-    let p = err_from_is_err_and c.from_residual-in_err-entry.result c.from_residual-in_err-entry.ensures.1 in
     let worded = leads_on c.args.cursor.now.rest.now _ c.take.new.self.rest.now (leads_start c.args.cursor.now.rest.now) function_word tt c.in_ok-take.ensures.reads in
     let named = leads_on c.args.cursor.now.rest.now _ c.take_name.new.cursor.rest.now worded function_name c.in_ok-name.name c.in_ok-name.ensures in
-    rw (p.1, p.2) (leads_miss c.args.cursor.now.rest.now _ c.take_number.new.cursor.rest.now named (function_entry c.in_ok-name.name c.in_ok-name.ensures.fits) c.in_err-entry.field-0.0 c.in_err-entry.ensures)
+    reads_err _ _ _ _ _ c.from_residual-in_err-entry.result c.from_residual-in_err-entry.ensures.1 (leads_miss c.args.cursor.now.rest.now _ c.take_number.new.cursor.rest.now named (function_entry c.in_ok-name.name c.in_ok-name.ensures.fits) c.in_err-entry.field-0.0 c.in_err-entry.ensures)
 
 pub returns-in_err-exit : goal.returns-in_err-exit
 returns-in_err-exit c =
-    let p = err_from_is_err_and c.from_residual-in_err-exit.result c.from_residual-in_err-exit.ensures.1 in
     let worded = leads_on c.args.cursor.now.rest.now _ c.take.new.self.rest.now (leads_start c.args.cursor.now.rest.now) function_word tt c.in_ok-take.ensures.reads in
     let named = leads_on c.args.cursor.now.rest.now _ c.take_name.new.cursor.rest.now worded function_name c.in_ok-name.name c.in_ok-name.ensures in
     let entered = leads_on c.args.cursor.now.rest.now _ c.take_number.new.cursor.rest.now named (function_entry c.in_ok-name.name c.in_ok-name.ensures.fits) c.in_ok-entry.entry c.in_ok-entry.ensures in
     let exit = function_exit c.in_ok-name.name c.in_ok-entry.entry c.in_ok-name.ensures.fits c.in_ok-entry.ensures.fits.1 in
-    rw (p.1, p.2) (entered.err c.take_number-2.new.cursor.rest.now c.in_err-exit.field-0.0 (whole_miss _ c.take_number-2.new.cursor.rest.now exit c.in_err-exit.field-0.0 c.in_err-exit.ensures))
+    reads_err _ _ _ _ _ c.from_residual-in_err-exit.result c.from_residual-in_err-exit.ensures.1 (entered.err c.take_number-2.new.cursor.rest.now c.in_err-exit.field-0.0 (whole_miss _ c.take_number-2.new.cursor.rest.now exit c.in_err-exit.field-0.0 c.in_err-exit.ensures))
 
 pub returns : goal.returns
 returns c =

@@ -1,6 +1,5 @@
 use Rattle.std.proofs.Common.{refl, arith}
-use Rattle.std.proofs.lemmas.Result.{err_from_is_err_and}
-use Rattle.model_file.proofs.Narrowing.{reads_same, leads_start, leads_on, leads_miss, leads_all}
+use Rattle.model_file.proofs.Narrowing.{reads_same, leads_start, leads_on, leads_miss, leads_all, reads_err}
 use Rattle.model_file.proofs.LineLemmas.{in_line_word, word_of_number}
 use Rattle.model_file.proofs.lines.take_word_number.Goals as goal
 
@@ -9,8 +8,7 @@ take-requires c = in_line_word c.args.word.now c.requires
 
 pub returns-in_err-take : goal.returns-in_err-take
 returns-in_err-take c =
-    let p = err_from_is_err_and c.from_residual.result c.from_residual.ensures.1 in
-    rw (p.1, p.2) (leads_miss c.args.cursor.now.rest.now c.args.cursor.now.rest.now c.take.new.self.rest.now (leads_start c.args.cursor.now.rest.now) (word_of_number c.args.word.now c.requires) c.in_err-take.field-0.0 c.in_err-take.ensures.reads)
+    reads_err _ _ _ _ _ c.from_residual.result c.from_residual.ensures.1 (leads_miss c.args.cursor.now.rest.now c.args.cursor.now.rest.now c.take.new.self.rest.now (leads_start c.args.cursor.now.rest.now) (word_of_number c.args.word.now c.requires) c.in_err-take.field-0.0 c.in_err-take.ensures.reads)
 
 pub returns : goal.returns
 returns c =

@@ -1,12 +1,11 @@
 use Rattle.std.proofs.Common.{ℕ, ◌≤◌, ◌<◌, refl, arith, subst, sym, ◌∙◌}
 use Rattle.std.specs.Prelude.{Err}
-use Rattle.std.proofs.lemmas.Result.{err_from_is_err_and}
-use Rattle.line_text.specs.Reading.{Reads, StandsFirst}
+use Rattle.line_text.specs.Reading.{Reads}
 use Rattle.line_text.specs.Words.{number_word}
 use Rattle.flow_model.specs.Order.{sys_order}
 use Rattle.model_file.specs.SysBounds.{name_order, end_order, pattern_order, BeginsAt, IsNamed}
 use Rattle.model_file.specs.ModelText.{IsSpelledSys}
-use Rattle.model_file.proofs.Narrowing.{leads_start, leads_on, leads_miss, ends_on, ends_miss, whole_miss, whole_stands}
+use Rattle.model_file.proofs.Narrowing.{leads_start, leads_on, leads_miss, ends_on, ends_miss, whole_miss, whole_stands, reads_err}
 use Rattle.model_file.proofs.Levels.{tied_number}
 use Rattle.model_file.proofs.SysLemmas.{sys_word, from_part, name_part, to_part, pattern_whole, worded, begun_at, named_at, ended_at, least_in}
 use Rattle.model_file.proofs.sys_line.take_sys_line.Goals as goal
@@ -19,15 +18,13 @@ returns-then-least-gt-MOST c e fits agree =
 
 pub returns-in_err-take : goal.returns-in_err-take
 returns-in_err-take c =
-    let p = err_from_is_err_and c.from_residual.result c.from_residual.ensures.1 in
     let word = sys_word c.args.version c.args.last.now c.least_from-least.result c.least_from-least.ensures c.if-least-gt-MOST.false in
-    rw (p.1, p.2) (leads_miss c.args.cursor.now.rest.now _ c.take.new.self.rest.now (leads_start c.args.cursor.now.rest.now) word c.in_err-take.field-0.0 c.in_err-take.ensures.reads)
+    reads_err _ _ _ _ _ c.from_residual.result c.from_residual.ensures.1 (leads_miss c.args.cursor.now.rest.now _ c.take.new.self.rest.now (leads_start c.args.cursor.now.rest.now) word c.in_err-take.field-0.0 c.in_err-take.ensures.reads)
 
 pub returns-in_err-from : goal.returns-in_err-from
 returns-in_err-from c =
-    let p = err_from_is_err_and c.from_residual-in_err-from.result c.from_residual-in_err-from.ensures.1 in
-    let first = worded c.args.version c.args.last.now c.least_from-least.result c.args.cursor.now.rest.now c.take.new.self.rest.now c.least_from-least.ensures c.if-least-gt-MOST.false c.in_ok-take.ensures.reads in
-    rw (p.1, p.2) (leads_miss c.args.cursor.now.rest.now _ c.take_number.new.cursor.rest.now first (from_part c.args.version c.args.last.now c.least_from-least.result c.least_from-least.ensures) c.in_err-from.field-0.0 c.in_err-from.ensures)
+    let first = worded c.least_from-least.ensures c.if-least-gt-MOST.false c.in_ok-take.ensures.reads in
+    reads_err _ _ _ _ _ c.from_residual-in_err-from.result c.from_residual-in_err-from.ensures.1 (leads_miss c.args.cursor.now.rest.now _ c.take_number.new.cursor.rest.now first (from_part c.args.version c.args.last.now c.least_from-least.result c.least_from-least.ensures) c.in_err-from.field-0.0 c.in_err-from.ensures)
 
 pub take_call_name-requires : goal.take_call_name-requires
 take_call_name-requires c =
@@ -35,54 +32,35 @@ take_call_name-requires c =
 
 pub returns-in_err-name : goal.returns-in_err-name
 returns-in_err-name c =
-    let p = err_from_is_err_and c.from_residual-in_err-name.result c.from_residual-in_err-name.ensures.1 in
-    let first = worded c.args.version c.args.last.now c.least_from-least.result c.args.cursor.now.rest.now c.take.new.self.rest.now c.least_from-least.ensures c.if-least-gt-MOST.false c.in_ok-take.ensures.reads in
-    let begun = begun_at c.args.version c.args.last.now c.with_from-begun.result c.least_from-least.result c.in_ok-from.from c.args.cursor.now.rest.now c.take.new.self.rest.now c.take_number.new.cursor.rest.now first c.least_from-least.ensures c.in_ok-from.ensures (c.with_from-begun.ensures.same, c.with_from-begun.ensures.other) in
-    let small_from = c.in_ok-from.ensures.fits.1 in
-    let names = c.least_name.ensures c.in_ok-from.from small_from in
-    rw (p.1, p.2) (leads_miss c.args.cursor.now.rest.now _ c.take_call_name.new.cursor.rest.now begun (name_part c.args.version c.in_ok-from.from c.with_from-begun.result c.least_name.result names) c.in_err-name.field-0.0 c.in_err-name.ensures.reads)
+    let begun = begun_at c.with_from-begun.result c.least_from-least.ensures c.if-least-gt-MOST.false c.in_ok-take.ensures.reads c.in_ok-from.ensures (c.with_from-begun.ensures.same, c.with_from-begun.ensures.other) in
+    let names = c.least_name.ensures c.in_ok-from.from c.in_ok-from.ensures.fits.1 in
+    reads_err _ _ _ _ _ c.from_residual-in_err-name.result c.from_residual-in_err-name.ensures.1 (leads_miss c.args.cursor.now.rest.now _ c.take_call_name.new.cursor.rest.now begun (name_part c.args.version c.in_ok-from.from c.with_from-begun.result c.least_name.result names) c.in_err-name.field-0.0 c.in_err-name.ensures.reads)
 
 pub returns-in_err-to : goal.returns-in_err-to
 returns-in_err-to c =
-    let p = err_from_is_err_and c.from_residual-in_err-to.result c.from_residual-in_err-to.ensures.1 in
-    let first = worded c.args.version c.args.last.now c.least_from-least.result c.args.cursor.now.rest.now c.take.new.self.rest.now c.least_from-least.ensures c.if-least-gt-MOST.false c.in_ok-take.ensures.reads in
-    let begun = begun_at c.args.version c.args.last.now c.with_from-begun.result c.least_from-least.result c.in_ok-from.from c.args.cursor.now.rest.now c.take.new.self.rest.now c.take_number.new.cursor.rest.now first c.least_from-least.ensures c.in_ok-from.ensures (c.with_from-begun.ensures.same, c.with_from-begun.ensures.other) in
-    let small_from = c.in_ok-from.ensures.fits.1 in
-    let names = c.least_name.ensures c.in_ok-from.from small_from in
-    let known = c.in_ok-name.ensures.reads.fits.1 in
-    let named = named_at c.args.version c.args.last.now c.with_from-begun.result c.with_name-named.result c.in_ok-from.from c.least_name.result c.in_ok-name.name c.args.cursor.now.rest.now c.take_number.new.cursor.rest.now c.take_call_name.new.cursor.rest.now begun names c.in_ok-name.ensures.reads (c.with_name-named.ensures.same, c.with_name-named.ensures.other) in
-    let tos = c.least_to.ensures c.in_ok-from.from c.in_ok-name.name (tied_number (λ e. e.name) c.in_ok-name.name c.with_from-begun.result c.with_name-named.result (c.with_name-named.ensures.same, c.with_name-named.ensures.other)) small_from known in
-    let part = to_part c.args.version c.in_ok-from.from c.in_ok-name.name c.with_name-named.result c.least_to.result tos in
+    let begun = begun_at c.with_from-begun.result c.least_from-least.ensures c.if-least-gt-MOST.false c.in_ok-take.ensures.reads c.in_ok-from.ensures (c.with_from-begun.ensures.same, c.with_from-begun.ensures.other) in
+    let names = c.least_name.ensures c.in_ok-from.from c.in_ok-from.ensures.fits.1 in
+    let named = named_at c.with_from-begun.result c.with_name-named.result begun names c.in_ok-name.ensures.reads (c.with_name-named.ensures.same, c.with_name-named.ensures.other) in
+    let tos = c.least_to.ensures c.in_ok-from.from c.in_ok-name.name (tied_number (λ e. e.name) c.in_ok-name.name c.with_from-begun.result c.with_name-named.result (c.with_name-named.ensures.same, c.with_name-named.ensures.other)) c.in_ok-from.ensures.fits.1 c.in_ok-name.ensures.reads.fits.1 in
     let read = subst (λ end. Reads (λ n. (c.least_to.result ≤ n) × (n < 4294967296)) (number_word end) c.take_call_name.new.cursor.rest.now c.take_number-2.new.cursor.rest.now (Err c.in_err-to.field-0.0)) c.byte_after.ensures.value c.in_err-to.ensures in
-    rw (p.1, p.2) (ends_miss c.args.cursor.now.rest.now _ c.take_number-2.new.cursor.rest.now named part c.in_err-to.field-0.0 read)
+    reads_err _ _ _ _ _ c.from_residual-in_err-to.result c.from_residual-in_err-to.ensures.1 (ends_miss c.args.cursor.now.rest.now _ c.take_number-2.new.cursor.rest.now named (to_part c.args.version c.in_ok-from.from c.in_ok-name.name c.with_name-named.result c.least_to.result tos) c.in_err-to.field-0.0 read)
 
 pub returns-in_err-args : goal.returns-in_err-args
 returns-in_err-args c =
-    let p = err_from_is_err_and c.from_residual-in_err-args.result c.from_residual-in_err-args.ensures.1 in
-    let first = worded c.args.version c.args.last.now c.least_from-least.result c.args.cursor.now.rest.now c.take.new.self.rest.now c.least_from-least.ensures c.if-least-gt-MOST.false c.in_ok-take.ensures.reads in
-    let begun = begun_at c.args.version c.args.last.now c.with_from-begun.result c.least_from-least.result c.in_ok-from.from c.args.cursor.now.rest.now c.take.new.self.rest.now c.take_number.new.cursor.rest.now first c.least_from-least.ensures c.in_ok-from.ensures (c.with_from-begun.ensures.same, c.with_from-begun.ensures.other) in
-    let small_from = c.in_ok-from.ensures.fits.1 in
-    let names = c.least_name.ensures c.in_ok-from.from small_from in
-    let known = c.in_ok-name.ensures.reads.fits.1 in
-    let named = named_at c.args.version c.args.last.now c.with_from-begun.result c.with_name-named.result c.in_ok-from.from c.least_name.result c.in_ok-name.name c.args.cursor.now.rest.now c.take_number.new.cursor.rest.now c.take_call_name.new.cursor.rest.now begun names c.in_ok-name.ensures.reads (c.with_name-named.ensures.same, c.with_name-named.ensures.other) in
-    let tos = c.least_to.ensures c.in_ok-from.from c.in_ok-name.name (tied_number (λ e. e.name) c.in_ok-name.name c.with_from-begun.result c.with_name-named.result (c.with_name-named.ensures.same, c.with_name-named.ensures.other)) small_from known in
-    let read = subst (λ end. StandsFirst (λ n. (c.least_to.result ≤ n) × (n < 4294967296)) (number_word end) c.take_call_name.new.cursor.rest.now c.take_number-2.new.cursor.rest.now c.in_ok-to.to) c.byte_after.ensures.value c.in_ok-to.ensures in
-    let small_to = c.in_ok-to.ensures.fits.1 in
-    let ended = ended_at c.args.version c.args.last.now c.with_name-named.result c.with_to-ended.result c.in_ok-from.from c.in_ok-name.name c.least_to.result c.in_ok-to.to c.args.cursor.now.rest.now c.take_call_name.new.cursor.rest.now c.take_number-2.new.cursor.rest.now named tos read (c.with_to-ended.ensures.same, c.with_to-ended.ensures.other) in
-    let whole = pattern_whole c.args.version c.in_ok-from.from c.in_ok-name.name c.in_ok-to.to c.with_to-ended.result small_from known small_to in
-    rw (p.1, p.2) (ended.err c.take_pattern.new.cursor.rest.now c.in_err-args.field-0.0 (whole_miss _ c.take_pattern.new.cursor.rest.now whole c.in_err-args.field-0.0 c.in_err-args.ensures))
+    let begun = begun_at c.with_from-begun.result c.least_from-least.ensures c.if-least-gt-MOST.false c.in_ok-take.ensures.reads c.in_ok-from.ensures (c.with_from-begun.ensures.same, c.with_from-begun.ensures.other) in
+    let names = c.least_name.ensures c.in_ok-from.from c.in_ok-from.ensures.fits.1 in
+    let named = named_at c.with_from-begun.result c.with_name-named.result begun names c.in_ok-name.ensures.reads (c.with_name-named.ensures.same, c.with_name-named.ensures.other) in
+    let tos = c.least_to.ensures c.in_ok-from.from c.in_ok-name.name (tied_number (λ e. e.name) c.in_ok-name.name c.with_from-begun.result c.with_name-named.result (c.with_name-named.ensures.same, c.with_name-named.ensures.other)) c.in_ok-from.ensures.fits.1 c.in_ok-name.ensures.reads.fits.1 in
+    let ended = ended_at c.with_name-named.result c.with_to-ended.result named tos c.byte_after.ensures.value c.in_ok-to.ensures (c.with_to-ended.ensures.same, c.with_to-ended.ensures.other) in
+    let whole = pattern_whole c.args.version c.in_ok-from.from c.in_ok-name.name c.in_ok-to.to c.with_to-ended.result c.in_ok-from.ensures.fits.1 c.in_ok-name.ensures.reads.fits.1 c.in_ok-to.ensures.fits.1 in
+    reads_err _ _ _ _ _ c.from_residual-in_err-args.result c.from_residual-in_err-args.ensures.1 (ended.err c.take_pattern.new.cursor.rest.now c.in_err-args.field-0.0 (whole_miss _ c.take_pattern.new.cursor.rest.now whole c.in_err-args.field-0.0 c.in_err-args.ensures))
 
 pub returns : goal.returns
 returns c =
-    let first = worded c.args.version c.args.last.now c.least_from-least.result c.args.cursor.now.rest.now c.take.new.self.rest.now c.least_from-least.ensures c.if-least-gt-MOST.false c.in_ok-take.ensures.reads in
-    let begun = begun_at c.args.version c.args.last.now c.with_from-begun.result c.least_from-least.result c.in_ok-from.from c.args.cursor.now.rest.now c.take.new.self.rest.now c.take_number.new.cursor.rest.now first c.least_from-least.ensures c.in_ok-from.ensures (c.with_from-begun.ensures.same, c.with_from-begun.ensures.other) in
-    let small_from = c.in_ok-from.ensures.fits.1 in
-    let names = c.least_name.ensures c.in_ok-from.from small_from in
-    let known = c.in_ok-name.ensures.reads.fits.1 in
-    let named = named_at c.args.version c.args.last.now c.with_from-begun.result c.with_name-named.result c.in_ok-from.from c.least_name.result c.in_ok-name.name c.args.cursor.now.rest.now c.take_number.new.cursor.rest.now c.take_call_name.new.cursor.rest.now begun names c.in_ok-name.ensures.reads (c.with_name-named.ensures.same, c.with_name-named.ensures.other) in
-    let tos = c.least_to.ensures c.in_ok-from.from c.in_ok-name.name (tied_number (λ e. e.name) c.in_ok-name.name c.with_from-begun.result c.with_name-named.result (c.with_name-named.ensures.same, c.with_name-named.ensures.other)) small_from known in
-    let read = subst (λ end. StandsFirst (λ n. (c.least_to.result ≤ n) × (n < 4294967296)) (number_word end) c.take_call_name.new.cursor.rest.now c.take_number-2.new.cursor.rest.now c.in_ok-to.to) c.byte_after.ensures.value c.in_ok-to.ensures in
-    let small_to = c.in_ok-to.ensures.fits.1 in
-    let ended = ended_at c.args.version c.args.last.now c.with_name-named.result c.with_to-ended.result c.in_ok-from.from c.in_ok-name.name c.least_to.result c.in_ok-to.to c.args.cursor.now.rest.now c.take_call_name.new.cursor.rest.now c.take_number-2.new.cursor.rest.now named tos read (c.with_to-ended.ensures.same, c.with_to-ended.ensures.other) in
-    let whole = pattern_whole c.args.version c.in_ok-from.from c.in_ok-name.name c.in_ok-to.to c.with_to-ended.result small_from known small_to in
+    let begun = begun_at c.with_from-begun.result c.least_from-least.ensures c.if-least-gt-MOST.false c.in_ok-take.ensures.reads c.in_ok-from.ensures (c.with_from-begun.ensures.same, c.with_from-begun.ensures.other) in
+    let names = c.least_name.ensures c.in_ok-from.from c.in_ok-from.ensures.fits.1 in
+    let named = named_at c.with_from-begun.result c.with_name-named.result begun names c.in_ok-name.ensures.reads (c.with_name-named.ensures.same, c.with_name-named.ensures.other) in
+    let tos = c.least_to.ensures c.in_ok-from.from c.in_ok-name.name (tied_number (λ e. e.name) c.in_ok-name.name c.with_from-begun.result c.with_name-named.result (c.with_name-named.ensures.same, c.with_name-named.ensures.other)) c.in_ok-from.ensures.fits.1 c.in_ok-name.ensures.reads.fits.1 in
+    let ended = ended_at c.with_name-named.result c.with_to-ended.result named tos c.byte_after.ensures.value c.in_ok-to.ensures (c.with_to-ended.ensures.same, c.with_to-ended.ensures.other) in
+    let whole = pattern_whole c.args.version c.in_ok-from.from c.in_ok-name.name c.in_ok-to.to c.with_to-ended.result c.in_ok-from.ensures.fits.1 c.in_ok-name.ensures.reads.fits.1 c.in_ok-to.ensures.fits.1 in
     ended.ok c.take_pattern.new.cursor.rest.now _ (whole_stands _ c.take_pattern.new.cursor.rest.now whole c.in_ok-args.args c.in_ok-args.ensures)
