@@ -238,10 +238,6 @@ integer_case kind end first rest old is other = record {
   only None fits agree = absurd (other (sym (agree_head 42 first (end ∷ []) rest (subst (Agree (entry_word end None)) is agree))))
   only (Some z) fits agree = (z, (fits, tt), refl)
 
-pub first_parts : (text : List ℕ) → 1 ≤ length text → text ≡ get_or text 0 0 ∷ drop 1 text
-first_parts [] some = absurd (omega arith)
-first_parts (b ∷ text) some = refl
-
 pub no_bytes : (text : List ℕ) → length text < 1 → text ≡ []
 no_bytes [] none = refl
 no_bytes (b ∷ text) none = absurd (omega arith)

@@ -19,7 +19,7 @@ use Rattle.model_file.specs.Bounds.{IsNextSys}
 use Rattle.model_file.specs.ModelText.{sys_line, entries_text, entry_text, pattern_text, IsSpelledSys}
 use Rattle.model_file.specs.SysBounds.{pattern_order, end_order, name_order, IsAfter, BeginsAt, IsNamed, EndsAt, HasNameAfter, HasEndAfter, HasPatternAfter, IsPattern, IsNextPattern, HasNumber, IsLeastBelow, end_after, entries_words, pattern_rest}
 use Rattle.model_file.proofs.LineLemmas.{first_word, plain_number, plain_word, plain_spaced}
-use Rattle.model_file.proofs.Levels.{Fitting, IsFree, IsTied, step, rest_after, number_part, least_none, least_room, least_full}
+use Rattle.model_file.proofs.Levels.{Fitting, IsFree, IsTied, step, rest_after, number_part, least_room, least_full}
 use Rattle.model_file.proofs.Orders.{less_first, less_next, less_cases}
 use Rattle.model_file.proofs.Narrowing.{IsPart, IsEndedPart, IsWhole, With, Leads, leads_start, leads_on, leads_same, ends_on}
 
@@ -90,9 +90,6 @@ to_parts Two e right = two_parts e.to (recorded_of e.name) e.args right
 
 -- bounds
 
-pub first_none : (version : ModelVersion) → IsLeastBelow 4294967296 (HasNumber (λ e. IsSpelledSys version e × IsAfter sys_order None e) (λ e. e.from)) 0
-first_none version = least_none (IsSpelledSys version) (λ e. e.from) name_order 4294967296 (free_from version)
-
 pub first_room : (version : ModelVersion) (d : SysEdge) → HasNameAfter version d → IsLeastBelow 4294967296 (HasNumber (λ e. IsSpelledSys version e × IsAfter sys_order (Some d) e) (λ e. e.from)) d.from
 first_room version d (name, to, p, known, small_to, pattern, less) =
     least_room (IsSpelledSys version) (λ e. e.from) name_order 4294967296 (free_from version) d
@@ -103,9 +100,6 @@ first_full version d full =
     least_full (IsSpelledSys version) (λ e. e.from) name_order 4294967296 (free_from version) d
     (λ room. let spelled = room.1.0 in full (room.0.name, room.0.to, room.0.args, spelled.name, spelled.to, (spelled.right, spelled.pattern), room.2))
 
-pub name_none : (version : ModelVersion) (from : ℕ) → from < 4294967296 → IsLeastBelow 24 (HasNumber (λ e. BeginsAt version from e × IsAfter name_order None e) (λ e. e.name)) 0
-name_none version from small = least_none (BeginsAt version from) (λ e. e.name) end_order 24 (free_name version from small)
-
 pub name_room : (version : ModelVersion) (from : ℕ) (d : SysEdge) → from < 4294967296 → HasEndAfter version d → IsLeastBelow 24 (HasNumber (λ e. BeginsAt version from e × IsAfter name_order (Some d) e) (λ e. e.name)) d.name
 name_room version from d small (to, p, small_to, pattern, less) =
     least_room (BeginsAt version from) (λ e. e.name) end_order 24 (free_name version from small) d
@@ -115,9 +109,6 @@ pub name_full : (version : ModelVersion) (from : ℕ) (d : SysEdge) → from < 4
 name_full version from d small full =
     least_full (BeginsAt version from) (λ e. e.name) end_order 24 (free_name version from small) d
     (λ room. let spelled = room.1.0.0 in full (room.0.to, room.0.args, spelled.to, subst (λ x. IsPattern version x room.0.args) room.1.1 (spelled.right, spelled.pattern), room.2))
-
-pub to_none : (version : ModelVersion) (from name : ℕ) → from < 4294967296 → name < 24 → IsLeastBelow 4294967296 (HasNumber (λ e. IsNamed version from name e × IsAfter end_order None e) (λ e. e.to)) 0
-to_none version from name small known = least_none (IsNamed version from name) (λ e. e.to) pattern_order 4294967296 (free_to version from name small known)
 
 pub to_room : (version : ModelVersion) (from name : ℕ) (d : SysEdge) → d.name ≡ name → from < 4294967296 → name < 24 → HasPatternAfter version d.name d.args → IsLeastBelow 4294967296 (HasNumber (λ e. IsNamed version from name e × IsAfter end_order (Some d) e) (λ e. e.to)) d.to
 to_room version from name d same small known (p, pattern, less) =

@@ -147,22 +147,16 @@ number_line_code word m n r s small_m small_n is =
     let same = number_code m n 10 10 r s small_m small_n feed feed (append_cancel_left word _ _ (sym (number_line word m r) ∙ is ∙ number_line word n s)) in
     (same.0, same.2)
 
-function_parts : (one : ModelFunction) (r : List ℕ) → function_line one ++ r ≡ codes "f " ++ (one.name ++ 32 ∷ (decimal one.entry ++ 32 ∷ (decimal one.exit ++ 10 ∷ r)))
-function_parts one r = simp append_assoc
-
 function_code : IsCode IsSpelledFunction function_line
 function_code x y r s fits_x fits_y is =
-    let name = word_code x.name y.name 32 32 _ _ (name-IsPlain x.name fits_x.name) (name-IsPlain y.name fits_y.name) space space (append_cancel_left (codes "f ") _ _ (sym (function_parts x r) ∙ is ∙ function_parts y s)) in
+    let name = word_code x.name y.name 32 32 _ _ (name-IsPlain x.name fits_x.name) (name-IsPlain y.name fits_y.name) space space (append_cancel_left (codes "f ") _ _ (simp append_assoc at is)) in
     let entry = number_code x.entry y.entry 32 32 _ _ fits_x.entry fits_y.entry space space name.2 in
     let exit = number_code x.exit y.exit 10 10 _ _ fits_x.exit fits_y.exit feed feed entry.2 in
     (λ i. record { name = name.0 i; entry = entry.0 i; exit = exit.0 i }, exit.2)
 
-silent_parts : (e : SilentEdge) (r : List ℕ) → silent_line e ++ r ≡ codes "e " ++ (decimal e.from ++ 32 ∷ (decimal e.to ++ 10 ∷ r))
-silent_parts e r = simp append_assoc
-
 silent_code : IsCode IsSpelledSilent silent_line
 silent_code x y r s fits_x fits_y is =
-    let from = number_code x.from y.from 32 32 _ _ fits_x.from fits_y.from space space (append_cancel_left (codes "e ") _ _ (sym (silent_parts x r) ∙ is ∙ silent_parts y s)) in
+    let from = number_code x.from y.from 32 32 _ _ fits_x.from fits_y.from space space (append_cancel_left (codes "e ") _ _ (simp append_assoc at is)) in
     let to = number_code x.to y.to 10 10 _ _ fits_x.to fits_y.to feed feed from.2 in
     (λ i. record { from = from.0 i; to = to.0 i }, to.2)
 
@@ -189,12 +183,9 @@ sys_code v x y r s fits_x fits_y is =
     let args = pattern_code v (recorded_of y.name) x.args y.args r s right fits_y.right fits_x.pattern fits_y.pattern patterns in
     (λ i. record { from = from.0 i; name = same i; to = to.0 i; args = args.0 i }, args.1)
 
-call_parts : (c : Call) (r : List ℕ) → call_line c ++ r ≡ codes "c " ++ (decimal c.from ++ 32 ∷ (decimal c.site ++ 32 ∷ (decimal c.to ++ (flat_map (λ f. 32 ∷ decimal f) c.candidates ++ 10 ∷ r))))
-call_parts c r = six_parts (codes "c ") (decimal c.from) (decimal c.site) (decimal c.to) (flat_map (λ f. 32 ∷ decimal f) c.candidates) r
-
 call_code : IsCode IsSpelledCall call_line
 call_code x y r s fits_x fits_y is =
-    let from = number_code x.from y.from 32 32 _ _ fits_x.from fits_y.from space space (append_cancel_left (codes "c ") _ _ (sym (call_parts x r) ∙ is ∙ call_parts y s)) in
+    let from = number_code x.from y.from 32 32 _ _ fits_x.from fits_y.from space space (append_cancel_left (codes "c ") _ _ (simp append_assoc at is)) in
     let site = number_code x.site y.site 32 32 _ _ fits_x.site fits_y.site space space from.2 in
     let end_x = words_end decimal IsSmall (λ n small. decimal-IsPlain n (omega (arith, small))) (λ m n small_m small_n same. decimal_injective m n (omega (arith, small_m)) (omega (arith, small_n)) same) x.candidates r in
     let end_y = words_end decimal IsSmall (λ n small. decimal-IsPlain n (omega (arith, small))) (λ m n small_m small_n same. decimal_injective m n (omega (arith, small_m)) (omega (arith, small_n)) same) y.candidates s in
