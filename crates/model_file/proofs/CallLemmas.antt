@@ -1,5 +1,5 @@
 -- The lines of call edges.
-use Rattle.std.proofs.Common.{◌≡◌, ℕ, ◌+◌, ◌≤◌, List, [], ◌∷◌, ◌++◌, decimal, flat_map, refl, sym, ◌∙◌, ap, subst, append_assoc, arith}
+use Rattle.std.proofs.Common.{◌≡◌, ℕ, ◌≤◌, List, [], ◌∷◌, ◌++◌, decimal, flat_map, refl, sym, ◌∙◌, ap, subst, append_assoc, arith}
 use Rattle.std.specs.Prelude.{Option, codes}
 use Rattle.std.proofs.lemmas.List.Elements.{All-nil}
 use Rattle.flow_model.specs.Call.{Call}

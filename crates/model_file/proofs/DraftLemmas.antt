@@ -1,12 +1,10 @@
 -- From the first line to the last.
-use Rattle.std.proofs.Common.{◌≡◌, ℕ, ◌+◌, ◌<◌, List, [], ◌∷◌, ◌++◌, length, take, drop, Option, None, Some, refl, sym, ◌∙◌, ap, subst, arith}
+use Rattle.std.proofs.Common.{◌≡◌, ℕ, List, [], ◌++◌, length, take, drop, Option, None, Some, refl, sym, ◌∙◌, ap, subst, arith}
 use Rattle.std.specs.Prelude.{Ok, Err, IfNone, codes}
 use Rattle.std.proofs.lemmas.List.{length-append, take-append-drop}
-use Rattle.flow_model.specs.declared.records.ModelFunction.{ModelFunction}
 use Rattle.flow_model.specs.Built.{Records, graph_of_records}
 use Rattle.flow_model.specs.Graph.{Graph}
 use Rattle.model_file.specs.declared.error.ModelError.{ModelError}
-use Rattle.model_file.specs.declared.error.ModelError.TheVariants.{BadLine}
 use Rattle.model_file.specs.declared.lines.ModelLine.{ModelLine}
 use Rattle.model_file.specs.declared.lines.ModelLine.TheVariants as lines
 use Rattle.model_file.specs.declared.lines.Section.{Section}
@@ -14,7 +12,7 @@ use Rattle.model_file.specs.declared.lines.Section.TheVariants as sections
 use Rattle.model_file.specs.declared.place.Place.{Place}
 use Rattle.model_file.specs.declared.version.ModelVersion.{ModelVersion}
 use Rattle.model_file.specs.Lines.{model_line, MayFollow}
-use Rattle.model_file.specs.ModelText.{head_line, functions_line, function_line, nodes_line, IsSmall, IsSpelledFunction, IsSpelled, IsFormedModel}
+use Rattle.model_file.specs.ModelText.{head_line, functions_line, nodes_line, IsSmall, IsSpelled}
 use Rattle.model_file.specs.Progress.{Spelling, Spells, IsAt, Takes, IsMore, IsStop}
 use Rattle.model_file.specs.States.{Fixed, AtCount, AtFunctions, AtEdges, AtEnd, AtLast, AfterLine, AfterEdge, IsLast, section_after, with_line, start_of, IsReadAs}
 use Rattle.model_file.proofs.EdgesLemmas.{edges_step, end_step}

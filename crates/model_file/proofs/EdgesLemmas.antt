@@ -1,10 +1,9 @@
 -- The lines of edges: what may follow each.
-use Rattle.std.proofs.Common.{◌≡◌, ℕ, zero, suc, List, [], ◌∷◌, ◌++◌, length, Option, None, decimal, refl, sym, ◌∙◌, ap, subst, append_assoc, arith}
+use Rattle.std.proofs.Common.{◌≡◌, ℕ, List, [], ◌∷◌, ◌++◌, length, Option, None, refl, sym, ◌∙◌, ap, subst, append_assoc, arith}
 use Rattle.std.specs.Prelude.{All, flat_map, codes}
 use Rattle.std.proofs.lemmas.List.{append-nil}
 use Rattle.std.proofs.lemmas.List.Elements.{All-push}
 use Rattle.line_text.proofs.FilesLemmas.{GoesOn}
-use Rattle.sys_table.specs.Table.{name_of}
 use Rattle.flow_model.specs.declared.records.ModelFunction.{ModelFunction}
 use Rattle.flow_model.specs.declared.records.SilentEdge.{SilentEdge}
 use Rattle.flow_model.specs.declared.records.SysEdge.{SysEdge}
@@ -19,7 +18,7 @@ use Rattle.model_file.specs.declared.lines.Section.{Section}
 use Rattle.model_file.specs.declared.lines.Section.TheVariants as sections
 use Rattle.model_file.specs.declared.version.ModelVersion.{ModelVersion}
 use Rattle.model_file.specs.Lines.{model_line, MayFollow, IsAfterSilent, IsAfterSys, IsAfterSite}
-use Rattle.model_file.specs.ModelText.{silent_line, sys_line, call_line, start_line, ending, pattern_text, IsSmall, IsSpelledFunction, IsSpelledSilent, IsSpelledSys, IsSpelledCall, IsSpelled}
+use Rattle.model_file.specs.ModelText.{silent_line, sys_line, call_line, start_line, ending, IsSmall, IsSpelledFunction, IsSpelledSilent, IsSpelledSys, IsSpelledCall, IsSpelled}
 use Rattle.model_file.specs.States.{calls_text, sys_text, MoreSilent, MoreSys, MoreCalls, More, AtEdges, AtEnd, AtLast, IsLastOf, IsLastSite, IsLast, with_silent, with_sys, with_call, AfterLine}
 use Rattle.model_file.proofs.FrameLemmas.{Step}
 use Rattle.model_file.proofs.KindLemmas.{ends_in_feed}

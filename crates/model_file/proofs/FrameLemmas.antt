@@ -3,13 +3,13 @@ use Rattle.std.proofs.Common.{◌≡◌, ◌≢◌, ℕ, ◌+◌, List, [], ◌�
 use Rattle.std.specs.Prelude.{Ok, Err}
 use Rattle.std.proofs.lemmas.List.{append-nil, append_cancel_right, take-append-drop}
 use Rattle.std.proofs.lemmas.List.Elements.{Contains-append_right}
-use Rattle.line_text.specs.declared.miss.Miss.TheVariants.{Short, Wrong}
+use Rattle.line_text.specs.declared.miss.Miss.TheVariants.{Short}
 use Rattle.line_text.specs.Files.{IsFirstLine, IsProperPrefix, IsBadLine}
 use Rattle.line_text.specs.Files.IsFirstLine.{ended, unended}
 use Rattle.line_text.specs.Reading.{StandsFirst, IsCutShort}
 use Rattle.line_text.proofs.FilesLemmas.{HasRead, bad_line, proper_prefix, one_more, first_line_whole, GoesOn, wrong_line, short_line, after_line, before_line, ended_not_short}
 use Rattle.model_file.specs.declared.error.ModelError.{ModelError}
-use Rattle.model_file.specs.declared.error.ModelError.TheVariants.{OutOfMemory, BadLine, Invalid, Truncated, TooLarge, Version}
+use Rattle.model_file.specs.declared.error.ModelError.TheVariants.{OutOfMemory, BadLine, Truncated}
 use Rattle.model_file.specs.declared.place.Place.{Place}
 use Rattle.model_file.specs.ModelText.{IsFormedModel}
 use Rattle.model_file.specs.Progress.{Spelling, Spells, HasTold, IsAt, IsMissed, Takes, IsStop}

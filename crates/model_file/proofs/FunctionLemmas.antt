@@ -1,5 +1,5 @@
 -- The lines of functions.
-use Rattle.std.proofs.Common.{ℕ, ◌≤◌, List, [], ◌∷◌, ◌++◌, refl, inl, inr, append_assoc, arith}
+use Rattle.std.proofs.Common.{ℕ, ◌≤◌, List, ◌++◌, refl, append_assoc, arith}
 use Rattle.std.specs.Prelude.{codes}
 use Rattle.dm_base.specs.Name.{IsName}
 use Rattle.flow_model.specs.declared.records.ModelFunction.{ModelFunction}

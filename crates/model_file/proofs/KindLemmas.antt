@@ -1,5 +1,5 @@
 -- What the first bytes of a line leave.
-use Rattle.std.proofs.Common.{◌≡◌, ◌≢◌, ℕ, zero, suc, ◌+◌, List, [], ◌∷◌, ◌++◌, decimal, refl, sym, ap, subst, inl, inr, Contains, arith}
+use Rattle.std.proofs.Common.{◌≡◌, ◌≢◌, ℕ, List, [], ◌∷◌, ◌++◌, decimal, refl, sym, subst, inl, inr, Contains, arith}
 use Rattle.std.specs.Prelude.{Option, None, codes, flat_map}
 use Rattle.sys_table.specs.Table.{name_of}
 use Rattle.flow_model.specs.declared.records.SilentEdge.{SilentEdge}

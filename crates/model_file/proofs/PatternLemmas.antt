@@ -20,7 +20,7 @@ use Rattle.line_text.specs.Reading.{Agree, StandsFirst, IsCutShort}
 use Rattle.line_text.specs.Words.{integer_word}
 use Rattle.dm_base.proofs.Decimals.{own}
 use Rattle.line_text.proofs.Splits.{IsCase, agree_head, nothing_left}
-use Rattle.sys_table.specs.declared.kinds.ArgKind.TheVariants.{Signed, Unsigned, Bytes}
+use Rattle.sys_table.specs.declared.kinds.ArgKind.TheVariants.{Bytes}
 use Rattle.std.proofs.lemmas.Cmp.{tied_itself, int_ranked, by_ranked}
 use Rattle.std.proofs.lemmas.List.Elements.{All-head, All-tail}
 use Rattle.dm_base.specs.Pattern.{pattern_cmp}

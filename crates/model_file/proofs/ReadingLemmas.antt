@@ -1,7 +1,7 @@
 -- Versions, and what a model's text is read as.
-use Rattle.std.proofs.Common.{◌≡◌, ◌≢◌, ℕ, zero, suc, ◌<◌, ◌≤◌, ◌^◌, List, [], ◌∷◌, ◌++◌, length, Bool, true, false, not, ◌||◌, nat_eq, decimal, refl, sym, ◌∙◌, ap, subst, inl, inr, append_assoc, Contains, arith}
+use Rattle.std.proofs.Common.{◌≡◌, ◌≢◌, ℕ, ◌<◌, ◌≤◌, ◌^◌, List, [], ◌∷◌, ◌++◌, Bool, true, false, not, nat_eq, decimal, refl, sym, ◌∙◌, ap, subst, inl, inr, append_assoc, Contains, arith}
 use Rattle.std.specs.Prelude.{◌⊎◌, ◌↔◌, IsTrue, Result, Ok, Err, IfOk, IfErr, codes}
-use Rattle.std.proofs.lemmas.Bool.{true≢false, false≢true}
+use Rattle.std.proofs.lemmas.Bool.{false≢true}
 use Rattle.std.proofs.lemmas.Bool.Decides.{eqb_tells}
 use Rattle.std.proofs.lemmas.Fmt.{decimal_injective, decimal_digit}
 use Rattle.std.proofs.lemmas.List.{append_cancel_left, append_cancel_right}
@@ -13,12 +13,12 @@ use Rattle.flow_model.specs.Graph.{Graph}
 use Rattle.flow_model.specs.Rules.{IsInOrder, HasRightPatterns, IsValid, IsLeastBroken}
 use Rattle.flow_model.specs.Rules.IsLeastBroken.{entries as broken_entries, exits as broken_exits, names as broken_names, edges as broken_edges, functions as broken_functions, repeats as broken_repeats, patterns as broken_patterns}
 use Rattle.model_file.specs.declared.error.ModelError.{ModelError}
-use Rattle.model_file.specs.declared.error.ModelError.TheVariants.{OutOfMemory, BadLine, Invalid, Truncated, TooLarge, Version}
+use Rattle.model_file.specs.declared.error.ModelError.TheVariants.{OutOfMemory, Invalid}
 use Rattle.model_file.specs.declared.version.ModelVersion.{ModelVersion}
 use Rattle.model_file.specs.declared.version.ModelVersion.TheVariants.{One, Two}
-use Rattle.model_file.specs.ModelText.{head_line, IsSpelled, IsModelText}
+use Rattle.model_file.specs.ModelText.{head_line, IsModelText}
 use Rattle.model_file.specs.Progress.{Spelling}
-use Rattle.model_file.specs.Refusal.{IsModel, IsModelRefusal, HasOtherModelVersion, longest}
+use Rattle.model_file.specs.Refusal.{IsModel, HasOtherModelVersion}
 use Rattle.model_file.specs.Writing.{IsBroken}
 use Rattle.model_file.specs.States.{IsReadAs}
 use Rattle.model_file.proofs.HeadLemmas.{after_head, text_is}

@@ -21,7 +21,7 @@ use Rattle.model_file.specs.SysBounds.{pattern_order, end_order, name_order, IsA
 use Rattle.model_file.proofs.LineLemmas.{first_word, plain_number, plain_word, plain_spaced}
 use Rattle.model_file.proofs.Levels.{Fitting, IsFree, IsTied, step, rest_after, number_part, least_room, least_full}
 use Rattle.model_file.proofs.Orders.{less_first, less_next, less_cases}
-use Rattle.model_file.proofs.Narrowing.{IsPart, IsEndedPart, IsWhole, With, Leads, leads_start, leads_on, leads_same, ends_on}
+use Rattle.model_file.proofs.Narrowing.{IsPart, IsEndedPart, IsWhole, Leads, leads_start, leads_on, leads_same, ends_on}
 
 -- there is a pattern for each call
 

@@ -14,7 +14,7 @@ use Rattle.line_text.proofs.IntegerLemmas.{signed-IsPlain, signed_injective}
 use Rattle.line_text.proofs.NumberLemmas.{decimal-IsPlain}
 use Rattle.line_text.proofs.WordLemmas.{same_word}
 use Rattle.sys_table.specs.declared.kinds.ArgKind.{ArgKind}
-use Rattle.sys_table.specs.declared.kinds.ArgKind.TheVariants.{Signed, Unsigned, Bytes}
+use Rattle.sys_table.specs.declared.kinds.ArgKind.TheVariants.{Bytes}
 use Rattle.sys_table.specs.Table.{name_of, recorded_of, FitsEntry}
 use Rattle.sys_table.proofs.Names.{same_call, name_of-IsPlain}
 use Rattle.flow_model.specs.declared.records.ModelFunction.{ModelFunction}

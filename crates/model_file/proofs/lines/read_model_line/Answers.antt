@@ -1,4 +1,3 @@
-use Rattle.std.proofs.Common.{◌≡◌, List, ℕ, [], ◌∷◌, ◌++◌}
 use Rattle.model_file.specs.Lines.{model_line, MayFollow}
 use Rattle.model_file.proofs.Narrowing.{whole_line}
 use Rattle.model_file.proofs.KindLemmas.{ends_in_feed}

@@ -1,9 +1,9 @@
-use Rattle.std.proofs.Common.{ℕ, List, subst}
+use Rattle.std.proofs.Common.{ℕ, subst}
 use Rattle.std.specs.Prelude.{Option, Err}
 use Rattle.line_text.specs.Reading.{Reads}
 use Rattle.model_file.specs.Bounds.{IsNextCall}
 use Rattle.model_file.specs.ModelText.{call_line}
-use Rattle.line_text.proofs.Splits.{err_case, ok_case}
+use Rattle.line_text.proofs.Splits.{err_case}
 use Rattle.model_file.proofs.Narrowing.{reads_err}
 use Rattle.model_file.proofs.KindLemmas.{call_case}
 use Rattle.model_file.proofs.lines.take_call.Goals as goal

@@ -1,4 +1,4 @@
-use Rattle.std.proofs.Common.{refl, sym, ◌∙◌, inl, inr, arith, get_or, take, drop, length, ◌-◌}
+use Rattle.std.proofs.Common.{refl, sym, ◌∙◌, inl, inr, arith}
 use Rattle.std.proofs.lemmas.Bool.{false≢true}
 use Rattle.sys_table.specs.declared.kinds.ArgKind.TheVariants.{Signed}
 use Rattle.model_file.proofs.PatternLemmas.{list_parts, past_after, entry_goes_after, others_go_after, either_goes_after, no_kinds}

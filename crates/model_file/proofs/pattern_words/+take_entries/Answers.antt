@@ -1,4 +1,3 @@
-use Rattle.std.proofs.Common.{◌∙◌, sym, ap, ℕ, List, subst}
 use Rattle.sys_table.specs.declared.kinds.ArgKind.TheVariants.{Signed}
 use Rattle.model_file.proofs.Narrowing.{reads_err}
 use Rattle.model_file.proofs.PatternLemmas.{list_parts}

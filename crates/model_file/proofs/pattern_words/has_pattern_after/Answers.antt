@@ -1,7 +1,6 @@
-use Rattle.std.proofs.Common.{◌≡◌, sym, ◌∙◌, ap, subst, replicate, length, List}
+use Rattle.std.proofs.Common.{sym, ◌∙◌, ap, replicate, length}
 use Rattle.std.specs.Prelude.{None}
 use Rattle.std.specs.Ordering.{is_lt}
-use Rattle.model_file.specs.SysBounds.{HasPatternAfter}
 use Rattle.model_file.proofs.PatternLemmas.{plain_after, after_plain, lt_tells}
 use Rattle.model_file.proofs.pattern_words.has_pattern_after.Goals as goal
 

@@ -1,8 +1,8 @@
-use Rattle.std.proofs.Common.{ℕ, ◌≡◌, ◌+◌, ◌<◌, ◌∷◌, List, length, ap, sym, ◌∙◌, arith, rules}
-use Rattle.std.specs.Prelude.{Some, None, FitsSigned, slice_set}
+use Rattle.std.proofs.Common.{◌+◌, ◌∷◌, length, ap, ◌∙◌, arith, rules}
+use Rattle.std.specs.Prelude.{Some, FitsSigned, slice_set}
 use Rattle.std.proofs.lemmas.Int.{to_z-of_z}
 use Rattle.std.specs.Int.{w64}
-use Rattle.model_file.proofs.PatternLemmas.{filled, row_first, row_none, row_set, row_skip, filled_all, length-filled}
+use Rattle.model_file.proofs.PatternLemmas.{row_first, row_none, row_set, row_skip, filled_all, length-filled}
 use Rattle.model_file.proofs.pattern_words.joined.Goals as goal
 use Rattle.model_file.proofs.pattern_words.joined.Goals.{in-Some, in_default, in-Some-get, in_default-get}
 

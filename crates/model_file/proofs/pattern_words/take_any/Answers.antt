@@ -1,4 +1,4 @@
-use Rattle.std.proofs.Common.{ℕ, ◌≡◌, ◌≢◌, ⊎_elim, arith}
+use Rattle.std.proofs.Common.{◌≡◌, ⊎_elim}
 use Rattle.model_file.proofs.pattern_words.take_any.Goals as goal
 
 pub returns-then-end-eq32 : goal.returns-then-end-eq32

@@ -1,4 +1,4 @@
-use Rattle.std.proofs.Common.{ℕ, List, ap, sym, ◌∙◌, ◌∷◌, [], drop, subst}
+use Rattle.std.proofs.Common.{ap, sym, ◌∙◌, ◌∷◌, drop, subst}
 use Rattle.line_text.specs.Reading.{IsCutShort}
 use Rattle.std.proofs.Math.Seq.{drop-cons}
 use Rattle.line_text.proofs.Splits.{err_case, ok_case}

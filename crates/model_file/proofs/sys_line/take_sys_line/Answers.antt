@@ -1,11 +1,8 @@
-use Rattle.std.proofs.Common.{ℕ, ◌≤◌, ◌<◌, refl, arith, subst, sym, ◌∙◌}
+use Rattle.std.proofs.Common.{◌≤◌, ◌<◌, refl, arith, subst}
 use Rattle.std.specs.Prelude.{Err}
 use Rattle.line_text.specs.Reading.{Reads}
 use Rattle.line_text.specs.Words.{number_word}
-use Rattle.flow_model.specs.Order.{sys_order}
-use Rattle.model_file.specs.SysBounds.{name_order, end_order, pattern_order, BeginsAt, IsNamed}
-use Rattle.model_file.specs.ModelText.{IsSpelledSys}
-use Rattle.model_file.proofs.Narrowing.{leads_start, leads_on, leads_miss, ends_on, ends_miss, whole_miss, whole_stands, reads_err}
+use Rattle.model_file.proofs.Narrowing.{leads_start, leads_miss, ends_miss, whole_miss, whole_stands, reads_err}
 use Rattle.model_file.proofs.Levels.{tied_number}
 use Rattle.model_file.proofs.SysLemmas.{sys_word, from_part, name_part, to_part, pattern_whole, worded, begun_at, named_at, ended_at, least_in}
 use Rattle.model_file.proofs.sys_line.take_sys_line.Goals as goal
