@@ -61,16 +61,14 @@ result_split kind = word_split (FitsResult kind) result_line (integer_word 10) (
 
 pub zip_both : (kinds : List ArgKind) (arguments : List Arg) → AllZip FitsArgument kinds arguments → All HasBytes arguments → AllZip IsWrittenArgument kinds arguments
 zip_both [] [] fits bytes = tt
-zip_both [] (a ∷ arguments) fits bytes = absurd fits
-zip_both (kind ∷ kinds) [] fits bytes = absurd fits
 zip_both (kind ∷ kinds) (a ∷ arguments) fits bytes =
     ((fits.0, bytes 0 a (omega arith)), zip_both kinds arguments fits.1 (λ k d within. bytes (suc k) d (omega arith)))
+zip_both kinds arguments fits bytes = absurd fits
 
 pub zip_fits : (kinds : List ArgKind) (arguments : List Arg) → AllZip IsWrittenArgument kinds arguments → AllZip FitsArgument kinds arguments
 zip_fits [] [] both = tt
-zip_fits [] (a ∷ arguments) both = absurd both
-zip_fits (kind ∷ kinds) [] both = absurd both
 zip_fits (kind ∷ kinds) (a ∷ arguments) both = (both.0.0, zip_fits kinds arguments both.1)
+zip_fits kinds arguments both = absurd both
 
 pub zip_bytes : (kinds : List ArgKind) (arguments : List Arg) → AllZip IsWrittenArgument kinds arguments → All HasBytes arguments
 zip_bytes kinds [] both k d within = absurd (omega arith)

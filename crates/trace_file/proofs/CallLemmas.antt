@@ -24,20 +24,17 @@ use Rattle.trace_file.proofs.PlainWords.{name_plain, arguments_plain}
 -- what follows `S `
 abbrev pub named : Event → List ℕ
 named (Sys x arguments outcome) = name_word x ++ (flat_map argument_word arguments ++ result_line outcome)
-named (Pre site) = []
-named (Post site) = []
+named a = []
 
 -- what follows the name
 abbrev pub given : Event → List ℕ
 given (Sys x arguments outcome) = flat_map argument_word arguments ++ result_line outcome
-given (Pre site) = []
-given (Post site) = []
+given a = []
 
 -- a call of this name that a file may hold
 abbrev pub IsCallOf : ℕ → Event → Type 0
 IsCallOf x (Sys y arguments outcome) = (y ≡ x) × AllZip IsWrittenArgument (recorded_of x) arguments × FitsResult (result_of x) outcome
-IsCallOf x (Pre site) = ⊥
-IsCallOf x (Post site) = ⊥
+IsCallOf x a = ⊥
 
 is_written : (x : ℕ) (arguments : List Arg) (outcome : ℤ) → x < 24 → AllZip IsWrittenArgument (recorded_of x) arguments → FitsResult (result_of x) outcome → IsWrittenCall (Sys x arguments outcome)
 is_written x arguments outcome known fits right =
@@ -54,8 +51,7 @@ letter_split =
   where
     text : (e : Event) → IsWrittenCall e → event_line e ≡ codes "S " ++ named e
     text (Sys x arguments outcome) fits = simp append_assoc
-    text (Pre site) fits = absurd fits
-    text (Post site) fits = absurd fits
+    text e fits = absurd fits
 
 -- the name and what follows
 pub name_split : IsSplit IsWrittenCall named (λ x. (0 ≤ x) × (x < 24)) name_word IsCallOf (λ x. given) (λ x e. e)
@@ -68,8 +64,7 @@ name_split = record {
   apart : (e : Event) → IsWrittenCall e → (x : ℕ) × (d : Event) × ((0 ≤ x) × (x < 24)) × IsCallOf x d × (e ≡ d)
   apart (Sys x arguments outcome) fits =
       (x, Sys x arguments outcome, (omega arith, fits.0), (refl, zip_both (recorded_of x) arguments fits.1.0 fits.2, fits.1.1), refl)
-  apart (Pre site) fits = absurd fits
-  apart (Post site) fits = absurd fits
+  apart e fits = absurd fits
 
   joined : (x : ℕ) (e : Event) → (0 ≤ x) × (x < 24) → IsCallOf x e → IsWrittenCall e × (named e ≡ name_word x ++ given e)
   joined x (Sys y arguments outcome) known (same, fits, right) =
@@ -77,8 +72,7 @@ name_split = record {
       let fits' = subst (λ (k : ℕ). AllZip IsWrittenArgument (recorded_of k) arguments) (sym same) fits in
       let right' = subst (λ (k : ℕ). FitsResult (result_of k) outcome) (sym same) right in
       (is_written y arguments outcome known' fits' right', ap (λ (k : ℕ). name_word k ++ (flat_map argument_word arguments ++ result_line outcome)) same)
-  joined x (Pre site) known fits = absurd fits
-  joined x (Post site) known fits = absurd fits
+  joined x e known fits = absurd fits
 
 -- the arguments and the result
 pub arguments_result_split : (x : ℕ) → IsSplit (IsCallOf x) given (GoOn [] (recorded_of x)) (words_after 0) (λ arguments. FitsResult (result_of x)) (λ arguments. result_line) (λ arguments outcome. Sys x arguments outcome)
@@ -90,8 +84,7 @@ arguments_result_split x = record {
 } where
   apart : (e : Event) → IsCallOf x e → (arguments : List Arg) × (outcome : ℤ) × GoOn [] (recorded_of x) arguments × FitsResult (result_of x) outcome × (e ≡ Sys x arguments outcome)
   apart (Sys y arguments outcome) (same, fits, right) = (arguments, outcome, (arguments, refl, fits), right, ap (λ k. Sys k arguments outcome) same)
-  apart (Pre site) fits = absurd fits
-  apart (Post site) fits = absurd fits
+  apart e fits = absurd fits
 
 -- what is read, where something is not or all is
 

@@ -28,34 +28,29 @@ pub event_letter : (e : Event) (old : List ℕ) → Agree (event_line e) old →
 event_letter e old agree some is = other e (sym (letter_agrees e old agree some) ∙ is) where
   other : (e : Event) → letter e ≢ 101
   other (Sys x arguments outcome) is = omega arith
-  other (Pre site) is = omega arith
-  other (Post site) is = omega arith
+  other e is = omega arith
 
 pub call_case : (old : List ℕ) → 0 < length old → get_or old 0 0 ≡ 83 → IsCase IsWritten event_line IsWrittenCall event_line (λ e. e) old
 call_case old some first = record { made = λ e fits. (made e fits, refl); only = λ e fits agree. (e, only e fits (sym (letter_agrees e old agree some) ∙ first), refl) } where
   made : (e : Event) → IsWrittenCall e → IsWritten e
   made (Sys x arguments outcome) fits = fits
-  made (Pre site) fits = absurd fits
-  made (Post site) fits = absurd fits
+  made e fits = absurd fits
 
   only : (e : Event) → IsWritten e → letter e ≡ 83 → IsWrittenCall e
   only (Sys x arguments outcome) fits is = fits
-  only (Pre site) fits is = absurd (omega arith)
-  only (Post site) fits is = absurd (omega arith)
+  only e fits is = absurd (omega arith)
 
 pub pre_case : (old : List ℕ) → 0 < length old → get_or old 0 0 ≡ 66 → IsCase IsWritten event_line (λ n. n < 2 ^ 32) (λ n. codes "B " ++ number_word 10 n) Pre old
 pre_case old some first = record { made = λ n fits. (fits, refl); only = λ e fits agree. only e fits (sym (letter_agrees e old agree some) ∙ first) } where
   only : (e : Event) → IsWritten e → letter e ≡ 66 → (n : ℕ) × (n < 2 ^ 32) × (e ≡ Pre n)
-  only (Sys x arguments outcome) fits is = absurd (omega arith)
   only (Pre site) fits is = (site, fits, refl)
-  only (Post site) fits is = absurd (omega arith)
+  only e fits is = absurd (omega arith)
 
 pub post_case : (old : List ℕ) → 0 < length old → get_or old 0 0 ≡ 69 → IsCase IsWritten event_line (λ n. n < 2 ^ 32) (λ n. codes "E " ++ number_word 10 n) Post old
 post_case old some first = record { made = λ n fits. (fits, refl); only = λ e fits agree. only e fits (sym (letter_agrees e old agree some) ∙ first) } where
   only : (e : Event) → IsWritten e → letter e ≡ 69 → (n : ℕ) × (n < 2 ^ 32) × (e ≡ Post n)
-  only (Sys x arguments outcome) fits is = absurd (omega arith)
-  only (Pre site) fits is = absurd (omega arith)
   only (Post site) fits is = (site, fits, refl)
+  only e fits is = absurd (omega arith)
 
 pub no_event_left : (old : List ℕ) → length old < 1 → IsCutShort IsWritten event_line old
 no_event_left old none = cut_at_start IsWritten event_line old (omega arith) (Pre 0) (omega arith) (λ is. cc)

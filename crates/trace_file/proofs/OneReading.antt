@@ -11,6 +11,8 @@ use Rattle.dm_base.specs.declared.event.Event.{Event}
 use Rattle.dm_base.specs.declared.outcome.TraceEnd.{TraceEnd}
 use Rattle.line_text.specs.Files.{through, IsBadLine}
 use Rattle.line_text.specs.Reading.{Agree}
+use Rattle.line_text.proofs.Cases.{one_free}
+use Rattle.line_text.proofs.FirstLines.{through_begins}
 use Rattle.line_text.proofs.Splits.{prefixes_agree}
 use Rattle.trace_file.specs.declared.error.TraceError.{TraceError}
 use Rattle.trace_file.specs.declared.error.TraceError.TheVariants.{OutOfMemory, BadLine, NoEnd, TooLong, TooManyProcesses, Version}
@@ -26,67 +28,49 @@ use Rattle.trace_file.specs.Lines.{event_line, end_line, record_line, IsWrittenR
 use Rattle.trace_file.specs.LineParts.{trace_line, traces_line}
 use Rattle.trace_file.specs.Trace.{trace_head, IsTrace, IsFormedTrace, IsTraceWithin, HasOtherTraceVersion, IsTraceRefusal}
 use Rattle.trace_file.specs.Traces.{most_processes, traces_head, records_text, AreTraces, AreFormedTraces, AreTracesWithin, PassesALimit, HasOtherTracesVersion, IsTracesRefusal}
-use Rattle.trace_file.proofs.PrefixFree.{trace_line_free, traces_line_free}
+use Rattle.trace_file.proofs.PrefixFree.{IsPrefixFree, event_free, end_free, record_free, trace_line_free, traces_line_free}
 use Rattle.trace_file.proofs.TraceLemmas.{head_reached}
 use Rattle.trace_file.proofs.TracesLemmas as many
-
--- what goes through a line begins the text
-through_part : (k : ℕ) (text : List ℕ) → (rest : List ℕ) × (text ≡ through k text ++ rest)
-through_part zero text = (text, refl)
-through_part (suc k) [] = ([], refl)
-through_part (suc k) (b ∷ text) =
-    elim (nat_eq b 10) as (λ (t : Bool). (rest : List ℕ) × (b ∷ text ≡ (b ∷ (if t then through k text else through (suc k) text)) ++ rest)) [
-      | true ↦ let more = through_part k text in (more.0, ap (λ (x : List ℕ). b ∷ x) more.1)
-      | false ↦ let more = through_part (suc k) text in (more.0, ap (λ (x : List ℕ). b ∷ x) more.1)
-    ]
 
 -- a formed text has no bad line
 no_bad_line : (Formed : List ℕ → Type 0) (text : List ℕ) (k : ℕ) → Formed text → IsBadLine Formed text k → ⊥
 no_bad_line Formed text k formed bad =
-    let part = through_part k text in
+    let part = through_begins k text in
     bad.bad (part.0, subst Formed part.1 formed)
+
+-- lines of items, and then one of another kind
+
+module _ {X E : Type 0} (Fits : X → Type 0) (item : X → List ℕ) (FitsEnd : E → Type 0) (ending : E → List ℕ) (free : IsPrefixFree Fits item) (end_one : IsPrefixFree FitsEnd ending) (apart : (x : X) (e : E) → Fits x → FitsEnd e → Agree (item x) (ending e) → ⊥) where
+  -- lines of items that stand first are of the first items
+  first_items : (xs front : List X) (e : E) (tail rest : List ℕ) → All Fits xs → All Fits front → FitsEnd e → flat_map item xs ++ (ending e ++ tail) ≡ flat_map item front ++ rest → (more : List X) × All Fits more × (xs ≡ front ++ more) × (flat_map item more ++ (ending e ++ tail) ≡ rest)
+  first_items xs [] e tail rest fits fits' fits_e is = (xs, fits, refl, is)
+  first_items [] (y ∷ front) e tail rest fits fits' fits_e is =
+      absurd (apart y e (All-head Fits y front fits') fits_e (prefixes_agree (item y) (ending e) (flat_map item front ++ rest) tail (sym (append_assoc (item y) (flat_map item front) rest) ∙ sym is)))
+  first_items (x ∷ xs) (y ∷ front) e tail rest fits fits' fits_e is =
+      let whole : item x ++ (flat_map item xs ++ (ending e ++ tail)) ≡ item y ++ (flat_map item front ++ rest) = sym (append_assoc (item x) (flat_map item xs) (ending e ++ tail)) ∙ is ∙ append_assoc (item y) (flat_map item front) rest in
+      let same : y ≡ x = free x y (All-head Fits x xs fits) (All-head Fits y front fits') (prefixes_agree (item y) (item x) (flat_map item front ++ rest) (flat_map item xs ++ (ending e ++ tail)) (sym whole)) in
+      let tails : flat_map item xs ++ (ending e ++ tail) ≡ flat_map item front ++ rest = append_cancel_left (item x) _ _ (whole ∙ ap (λ z. item z ++ (flat_map item front ++ rest)) same) in
+      let more = first_items xs front e tail rest (All-tail Fits x xs fits) (All-tail Fits y front fits') fits_e tails in
+      (more.0, more.1, (λ i. sym same i ∷ more.2 i), more.3)
+
+  no_items : (xs : List X) (e d : E) (rest rest' : List ℕ) → All Fits xs → FitsEnd e → FitsEnd d → flat_map item xs ++ (ending e ++ rest) ≡ ending d ++ rest' → (xs ≡ []) × (d ≡ e) × (rest' ≡ rest)
+  no_items [] e d rest rest' fits fits_e fits_d is =
+      let same : d ≡ e = end_one e d fits_e fits_d (prefixes_agree (ending d) (ending e) rest' rest (sym is)) in
+      (refl, same, sym (append_cancel_left (ending e) rest rest' (is ∙ ap (λ z. ending z ++ rest') same)))
+  no_items (x ∷ xs) e d rest rest' fits fits_e fits_d is =
+      absurd (apart x d (All-head Fits x xs fits) fits_d (prefixes_agree (item x) (ending d) (flat_map item xs ++ (ending e ++ rest)) rest' (sym (append_assoc (item x) (flat_map item xs) (ending e ++ rest)) ∙ is)))
+
+  -- lines of items, a last line and a rest are so in one way
+  one_way : (xs ys : List X) (e d : E) (rest rest' : List ℕ) → All Fits xs → All Fits ys → FitsEnd e → FitsEnd d → flat_map item xs ++ (ending e ++ rest) ≡ flat_map item ys ++ (ending d ++ rest') → (ys ≡ xs) × (d ≡ e) × (rest' ≡ rest)
+  one_way xs ys e d rest rest' fits fits' fits_e fits_d is =
+      let front = first_items xs ys e rest (ending d ++ rest') fits fits' fits_e is in
+      let last = no_items front.0 e d rest rest' front.1 fits_e fits_d front.3 in
+      (sym (front.2 ∙ ap (λ (zs : List X). ys ++ zs) last.0 ∙ append-nil ys), last.1, last.2)
 
 -- traces
 
-lines_agree : (v w : TraceLine) (x y : List ℕ) → trace_line v ++ x ≡ trace_line w ++ y → Agree (trace_line w) (trace_line v)
-lines_agree v w x y is = prefixes_agree (trace_line w) (trace_line v) y x (sym is)
-
--- lines of events, an end line and a rest are so in one way
-one_way : (events later : List Event) (end last : TraceEnd) (rest rest' : List ℕ) → All IsWritten events → All IsWritten later → IsRightEnd end → IsRightEnd last → flat_map event_line events ++ (end_line end ++ rest) ≡ flat_map event_line later ++ (end_line last ++ rest') → (later ≡ events) × (last ≡ end) × (rest' ≡ rest)
-one_way [] [] end last rest rest' written written' right right' is =
-    let same : trace.End last ≡ trace.End end = trace_line_free (trace.End end) (trace.End last) right right' (lines_agree (trace.End end) (trace.End last) rest rest' is) in
-    let same' : last ≡ end = cc in
-    (refl, same', sym (append_cancel_left (end_line end) rest rest' (is ∙ ap (λ e. end_line e ++ rest') same')))
-one_way [] (e ∷ later) end last rest rest' written written' right right' is =
-    let same : trace.Event e ≡ trace.End end = trace_line_free (trace.End end) (trace.Event e) right (All-head IsWritten e later written') (lines_agree (trace.End end) (trace.Event e) rest (flat_map event_line later ++ (end_line last ++ rest')) (is ∙ append_assoc (event_line e) (flat_map event_line later) (end_line last ++ rest'))) in
-    cc
-one_way (e ∷ events) [] end last rest rest' written written' right right' is =
-    let same : trace.End last ≡ trace.Event e = trace_line_free (trace.Event e) (trace.End last) (All-head IsWritten e events written) right' (lines_agree (trace.Event e) (trace.End last) (flat_map event_line events ++ (end_line end ++ rest)) rest' (sym (append_assoc (event_line e) (flat_map event_line events) (end_line end ++ rest)) ∙ is)) in
-    cc
-one_way (e ∷ events) (d ∷ later) end last rest rest' written written' right right' is =
-    let whole : event_line e ++ (flat_map event_line events ++ (end_line end ++ rest)) ≡ event_line d ++ (flat_map event_line later ++ (end_line last ++ rest')) =
-    sym (append_assoc (event_line e) (flat_map event_line events) (end_line end ++ rest)) ∙ is ∙ append_assoc (event_line d) (flat_map event_line later) (end_line last ++ rest') in
-    let same : trace.Event d ≡ trace.Event e = trace_line_free (trace.Event e) (trace.Event d) (All-head IsWritten e events written) (All-head IsWritten d later written') (lines_agree (trace.Event e) (trace.Event d) _ _ whole) in
-    let same' : d ≡ e = cc in
-    let tails : flat_map event_line events ++ (end_line end ++ rest) ≡ flat_map event_line later ++ (end_line last ++ rest') =
-    append_cancel_left (event_line e) _ _ (whole ∙ ap (λ x. event_line x ++ (flat_map event_line later ++ (end_line last ++ rest'))) same') in
-    let more = one_way events later end last rest rest' (All-tail IsWritten e events written) (All-tail IsWritten d later written') right right' tails in
-    (λ i. same' i ∷ more.0 i, more.1, more.2)
-
--- no more lines of events stand first than there are
-no_more : (events later : List Event) (end : TraceEnd) (rest : List ℕ) → All IsWritten events → All IsWritten later → IsRightEnd end → flat_map event_line events ++ end_line end ≡ flat_map event_line later ++ rest → length later ≤ length events
-no_more events [] end rest written written' right is = omega arith
-no_more [] (e ∷ later) end rest written written' right is =
-    let same : trace.Event e ≡ trace.End end = trace_line_free (trace.End end) (trace.Event e) right (All-head IsWritten e later written') (lines_agree (trace.End end) (trace.Event e) [] (flat_map event_line later ++ rest) (append-nil (end_line end) ∙ is ∙ append_assoc (event_line e) (flat_map event_line later) rest)) in
-    cc
-no_more (e ∷ events) (d ∷ later) end rest written written' right is =
-    let whole : event_line e ++ (flat_map event_line events ++ end_line end) ≡ event_line d ++ (flat_map event_line later ++ rest) =
-    sym (append_assoc (event_line e) (flat_map event_line events) (end_line end)) ∙ is ∙ append_assoc (event_line d) (flat_map event_line later) rest in
-    let same : trace.Event d ≡ trace.Event e = trace_line_free (trace.Event e) (trace.Event d) (All-head IsWritten e events written) (All-head IsWritten d later written') (lines_agree (trace.Event e) (trace.Event d) _ _ whole) in
-    let same' : d ≡ e = cc in
-    let tails = append_cancel_left (event_line e) (flat_map event_line events ++ end_line end) (flat_map event_line later ++ rest) (whole ∙ ap (λ x. event_line x ++ (flat_map event_line later ++ rest)) same') in
-    let more = no_more events later end rest (All-tail IsWritten e events written) (All-tail IsWritten d later written') right tails in
-    omega (arith, more)
+event_apart : (e : Event) (end : TraceEnd) → IsWritten e → IsRightEnd end → Agree (event_line e) (end_line end) → ⊥
+event_apart e end written right agree = let same : trace.Event e ≡ trace.End end = trace_line_free (trace.End end) (trace.Event e) right written agree in cc
 
 -- a trace that begins a trace is that trace
 pub one_trace : (text more : List ℕ) (events later : List Event) (end last : TraceEnd) → IsTrace text events end → IsTrace (text ++ more) later last → (later ≡ events) × (last ≡ end) × (more ≡ [])
@@ -95,7 +79,7 @@ one_trace text more events later end last first whole_one =
     ap (λ (t : List ℕ). trace_head ++ t) (sym (append_assoc (flat_map event_line events) (end_line end) more)) ∙ sym (append_assoc trace_head (flat_map event_line events ++ end_line end) more)
     ∙ ap (λ (t : List ℕ). t ++ more) (sym (append_assoc trace_head (flat_map event_line events) (end_line end)) ∙ sym first.is) ∙ whole_one.is
     ∙ append_assoc trace_head (flat_map event_line later) (end_line last) ∙ ap (λ (t : List ℕ). trace_head ++ (flat_map event_line later ++ t)) (sym (append-nil (end_line last))) in
-    let same = one_way events later end last more [] first.written whole_one.written first.right whole_one.right (append_cancel_left trace_head _ _ whole) in
+    let same = one_way IsWritten event_line IsRightEnd end_line event_free end_free event_apart events later end last more [] first.written whole_one.written first.right whole_one.right (append_cancel_left trace_head _ _ whole) in
     (same.0, same.1, sym same.2)
 
 pub trace_unrefused : (text : List ℕ) (events : List Event) (end : TraceEnd) (error : TraceError) → IsTraceWithin text events end → IsTraceRefusal error text → error ≡ OutOfMemory
@@ -103,7 +87,8 @@ trace_unrefused text events end OutOfMemory within refused = refl
 trace_unrefused text events end TooLong within (inl long) = absurd (let short = within.short in omega (arith, long, short))
 trace_unrefused text events end TooLong within (inr much) =
     let whole = append_cancel_left trace_head _ _ (sym (append_assoc trace_head (flat_map event_line events) (end_line end)) ∙ sym within.trace.is ∙ much.is ∙ append_assoc trace_head (flat_map event_line much.events) much.rest) in
-    let less = no_more events much.events end much.rest within.trace.written much.written within.trace.right whole in
+    let front = first_items IsWritten event_line IsRightEnd end_line event_free end_free event_apart events much.events end [] much.rest within.trace.written much.written within.trace.right (ap (λ (t : List ℕ). flat_map event_line events ++ t) (append-nil (end_line end)) ∙ whole) in
+    let less = ap length front.2 ∙ length-append much.events front.0 in
     let few = within.few in
     let many = much.many in
     absurd (omega (arith, less, few, many))
@@ -116,41 +101,8 @@ trace_unrefused text events end (TooManyProcesses k) within refused = absurd ref
 
 -- interleaved traces
 
-records_agree : (v w : TracesLine) (x y : List ℕ) → traces_line v ++ x ≡ traces_line w ++ y → Agree (traces_line w) (traces_line v)
-records_agree v w x y is = prefixes_agree (traces_line w) (traces_line v) y x (sym is)
-
--- lines of records, the end line and a rest are so in one way
-one_way_records : (records later : List Record) (rest rest' : List ℕ) → All IsWrittenRecord records → All IsWrittenRecord later → flat_map record_line records ++ (codes "end\n" ++ rest) ≡ flat_map record_line later ++ (codes "end\n" ++ rest') → (later ≡ records) × (rest' ≡ rest)
-one_way_records [] [] rest rest' written written' is = (refl, sym (append_cancel_left (codes "end\n") rest rest' is))
-one_way_records [] (r ∷ later) rest rest' written written' is =
-    let same : traces.Record r ≡ traces.End = traces_line_free traces.End (traces.Record r) tt (All-head IsWrittenRecord r later written') (records_agree traces.End (traces.Record r) rest (flat_map record_line later ++ (codes "end\n" ++ rest')) (is ∙ append_assoc (record_line r) (flat_map record_line later) (codes "end\n" ++ rest'))) in
-    cc
-one_way_records (r ∷ records) [] rest rest' written written' is =
-    let same : traces.End ≡ traces.Record r = traces_line_free (traces.Record r) traces.End (All-head IsWrittenRecord r records written) tt (records_agree (traces.Record r) traces.End (flat_map record_line records ++ (codes "end\n" ++ rest)) rest' (sym (append_assoc (record_line r) (flat_map record_line records) (codes "end\n" ++ rest)) ∙ is)) in
-    cc
-one_way_records (r ∷ records) (q ∷ later) rest rest' written written' is =
-    let whole : record_line r ++ (flat_map record_line records ++ (codes "end\n" ++ rest)) ≡ record_line q ++ (flat_map record_line later ++ (codes "end\n" ++ rest')) =
-    sym (append_assoc (record_line r) (flat_map record_line records) (codes "end\n" ++ rest)) ∙ is ∙ append_assoc (record_line q) (flat_map record_line later) (codes "end\n" ++ rest') in
-    let same : traces.Record q ≡ traces.Record r = traces_line_free (traces.Record r) (traces.Record q) (All-head IsWrittenRecord r records written) (All-head IsWrittenRecord q later written') (records_agree (traces.Record r) (traces.Record q) _ _ whole) in
-    let same' : q ≡ r = cc in
-    let tails = append_cancel_left (record_line r) (flat_map record_line records ++ (codes "end\n" ++ rest)) (flat_map record_line later ++ (codes "end\n" ++ rest')) (whole ∙ ap (λ x. record_line x ++ (flat_map record_line later ++ (codes "end\n" ++ rest'))) same') in
-    let more = one_way_records records later rest rest' (All-tail IsWrittenRecord r records written) (All-tail IsWrittenRecord q later written') tails in
-    (λ i. same' i ∷ more.0 i, more.1)
-
--- lines of records that stand first are of the first records
-first_records : (records front : List Record) (rest : List ℕ) → All IsWrittenRecord records → All IsWrittenRecord front → flat_map record_line records ++ codes "end\n" ≡ flat_map record_line front ++ rest → (more : List Record) × (records ≡ front ++ more)
-first_records records [] rest written written' is = (records, refl)
-first_records [] (r ∷ front) rest written written' is =
-    let same : traces.Record r ≡ traces.End = traces_line_free traces.End (traces.Record r) tt (All-head IsWrittenRecord r front written') (records_agree traces.End (traces.Record r) [] (flat_map record_line front ++ rest) (is ∙ append_assoc (record_line r) (flat_map record_line front) rest)) in
-    cc
-first_records (r ∷ records) (q ∷ front) rest written written' is =
-    let whole : record_line r ++ (flat_map record_line records ++ codes "end\n") ≡ record_line q ++ (flat_map record_line front ++ rest) =
-    sym (append_assoc (record_line r) (flat_map record_line records) (codes "end\n")) ∙ is ∙ append_assoc (record_line q) (flat_map record_line front) rest in
-    let same : traces.Record q ≡ traces.Record r = traces_line_free (traces.Record r) (traces.Record q) (All-head IsWrittenRecord r records written) (All-head IsWrittenRecord q front written') (records_agree (traces.Record r) (traces.Record q) _ _ whole) in
-    let same' : q ≡ r = cc in
-    let tails = append_cancel_left (record_line r) (flat_map record_line records ++ codes "end\n") (flat_map record_line front ++ rest) (whole ∙ ap (λ x. record_line x ++ (flat_map record_line front ++ rest)) same') in
-    let more = first_records records front rest (All-tail IsWrittenRecord r records written) (All-tail IsWrittenRecord q front written') tails in
-    (more.0, λ i. sym same' i ∷ more.1 i)
+record_apart : (r : Record) (u : Unit {0}) → IsWrittenRecord r → Unit {0} → Agree (record_line r) (codes "end\n") → ⊥
+record_apart r u written right agree = let same : traces.Record r ≡ traces.End = traces_line_free traces.End (traces.Record r) tt written agree in cc
 
 pub one_traces : (text more : List ℕ) (v v' : TracesVersion) (records later : List Record) → AreTraces text v records → AreTraces (text ++ more) v' later → (v' ≡ v) × (later ≡ records) × (more ≡ [])
 one_traces text more v v' records later first whole_one =
@@ -159,8 +111,8 @@ one_traces text more v v' records later first whole_one =
     ∙ ap (λ (t : List ℕ). t ++ more) (sym (append_assoc (traces_head v) (flat_map record_line records) (codes "end\n")) ∙ sym first.is) ∙ whole_one.is
     ∙ append_assoc (traces_head v') (flat_map record_line later) (codes "end\n") in
     let heads = many.head_same v v' (flat_map record_line records ++ (codes "end\n" ++ more)) (flat_map record_line later ++ (codes "end\n" ++ [])) whole in
-    let same = one_way_records records later more [] first.written whole_one.written heads.1 in
-    (heads.0, same.0, sym same.1)
+    let same = one_way IsWrittenRecord record_line (λ (u : Unit {0}). Unit {0}) (λ u. codes "end\n") record_free (one_free (codes "end\n")) record_apart records later tt tt more [] first.written whole_one.written tt tt heads.1 in
+    (heads.0, same.0, sym same.2)
 
 -- more numbers are no fewer known
 pub len_more : (front numbers : List ℕ) → len (from_list {R = nat_cmp} front) ≤ len (from_list {R = nat_cmp} (front ++ numbers))
@@ -189,7 +141,8 @@ passed_first text v v' records before last are passes =
     let whole : traces_head v ++ (flat_map record_line records ++ codes "end\n") ≡ traces_head v' ++ (flat_map record_line (before ++ last ∷ []) ++ passes.rest) =
     sym (append_assoc (traces_head v) (flat_map record_line records) (codes "end\n")) ∙ sym are.is ∙ passes.is ∙ append_assoc (traces_head v') (flat_map record_line (before ++ last ∷ [])) passes.rest in
     let heads = many.head_same v v' (flat_map record_line records ++ codes "end\n") (flat_map record_line (before ++ last ∷ []) ++ passes.rest) whole in
-    (heads.0, first_records records (before ++ last ∷ []) passes.rest are.written passes.written heads.1)
+    let front = first_items IsWrittenRecord record_line (λ (u : Unit {0}). Unit {0}) (λ u. codes "end\n") record_free (one_free (codes "end\n")) record_apart records (before ++ last ∷ []) tt [] passes.rest are.written passes.written tt heads.1 in
+    (heads.0, (front.0, front.2))
 
 pub traces_unrefused : (text : List ℕ) (v : TracesVersion) (records : List Record) (error : TraceError) → AreTracesWithin text v records → IsTracesRefusal error text → error ≡ OutOfMemory
 traces_unrefused text v records OutOfMemory within refused = refl

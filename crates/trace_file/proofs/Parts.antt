@@ -1,6 +1,8 @@
 -- How readers of parts are put together.
 use Rattle.std.proofs.Common.{◌≡◌, ◌≢◌, ℕ, zero, suc, ◌<◌, true, not, nat_eq, List, [], ◌∷◌, ◌++◌, length, get_or, refl, sym, ◌∙◌, ap, arith}
 use Rattle.std.specs.Prelude.{Contains, Result, Ok, Err}
+use Rattle.std.specs.Result.{IsErrAnd}
+use Rattle.std.proofs.lemmas.Result.{err_from_is_err_and}
 use Rattle.std.proofs.lemmas.Bool.{and_parts, true≢false}
 use Rattle.line_text.specs.declared.miss.Miss.{Miss}
 use Rattle.line_text.specs.declared.miss.Miss.TheVariants.{OutOfMemory, Short, Wrong}
@@ -20,11 +22,10 @@ no_feed_within (b ∷ word) plain (suc k, within, is) =
     no_feed_within word (and_parts (not (nat_eq b 10)) (has_no_feed word) plain).1 (k, omega (arith, within), is)
 
 pub is_in_line-plain : (word : List ℕ) → has_no_feed word ≡ true → is_in_line word ≡ true
-is_in_line-plain [] plain = refl
-is_in_line-plain (b ∷ []) plain = refl
 is_in_line-plain (b ∷ c ∷ word) plain =
     let both = and_parts (not (nat_eq b 10)) (has_no_feed (c ∷ word)) plain in
     rw (both.0, is_in_line-plain (c ∷ word) both.1) refl
+is_in_line-plain word plain = refl
 
 -- the same values, told in another way
 
@@ -40,6 +41,13 @@ module _ {V : Type 0} (F G : V → Type 0) (text : V → List ℕ) (on : (v : V)
   pub reads_same : (old new : List ℕ) (r : Result V Miss) → Reads F text old new r → Reads G text old new r
   reads_same old new (Ok v) reads = stands_same old new v reads
   reads_same old new (Err e) reads = missed_same old new e reads
+
+-- the exit of a `?`
+pub reads_err : {V : Type 0} (Fits : V → Type 0) (text : V → List ℕ) (old new : List ℕ) (miss : Miss) (r : Result V Miss) → IsErrAnd r (λ e. e ≡ miss) → Reads Fits text old new (Err miss) → Reads Fits text old new r
+reads_err Fits text old new miss r is reads = let p = err_from_is_err_and r is in rw (p.1, p.2) reads
+
+pub case_err : {V A : Type 0} {Fits : V → Type 0} {text : V → List ℕ} {Part : A → Type 0} {part : A → List ℕ} {make : A → V} {old : List ℕ} (new : List ℕ) (miss : Miss) → IsCase Fits text Part part make old → (r : Result V Miss) → IsErrAnd r (λ e. e ≡ miss) → Reads Part part old new (Err miss) → Reads Fits text old new r
+case_err {Fits = Fits} {text = text} {old = old} new miss one r is reads = reads_err Fits text old new miss r is (err_case old new new one miss reads)
 
 -- a fixed word stands before the rest of the text
 pub word_split : {V : Type 0} (Fits : V → Type 0) (text next : V → List ℕ) (word : List ℕ) → has_no_feed word ≡ true → ((v : V) → Fits v → text v ≡ word ++ next v) → (v : V) → Fits v → IsSplit {V = V} {A = Unit {0}} {B = V} Fits text (λ u. Unit {0}) (λ u. word) (λ u. Fits) (λ u. next) (λ u w. w)

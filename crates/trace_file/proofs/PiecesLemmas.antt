@@ -1,7 +1,5 @@
 -- How a text that comes in pieces is read line by line.
-use Rattle.std.proofs.Common.{◌≡◌, ◌≤◌, ◌<◌, ◌||◌, ℕ, zero, suc, Bool, true, false, nat_eq, ◌+◌, List, [], ◌∷◌, ◌++◌, length, Contains, refl, sym, ◌∙◌, ap, subst, append_assoc, arith, length-append, inl, inr}
-use Rattle.std.specs.List.{list_any}
-use Rattle.std.proofs.lemmas.Bool.{true≢false}
+use Rattle.std.proofs.Common.{◌≡◌, ◌≤◌, ◌<◌, ℕ, ◌+◌, List, [], ◌∷◌, ◌++◌, length, Contains, refl, sym, ◌∙◌, ap, subst, append_assoc, arith, length-append, inl, inr}
 use Rattle.std.proofs.lemmas.List.{append-nil}
 use Rattle.std.proofs.lemmas.List.Elements.{Contains-append_cases}
 use Rattle.trace_file.specs.declared.error.TraceError.{TraceError}
@@ -102,15 +100,3 @@ joined_whole front first line plain whole is =
       plain = λ has. elim (Contains-append_cases front whole.front 10 has) [ inl before ↦ plain before | inr after ↦ whole.plain after ];
       ends = is ∙ ap (λ (t : List ℕ). front ++ t) whole.ends ∙ sym (append_assoc front whole.front (10 ∷ []));
     }
-
--- a text whose test finds no line feed has none
-pub lacks_feed : (text : List ℕ) → list_any (λ b. nat_eq b 10) text ≡ false → Contains text 10 → ⊥
-lacks_feed [] none has = absurd (omega (arith, has.1))
-lacks_feed (b ∷ text) none (zero, within, is) =
-    let found : true ≡ false = subst (λ (x : ℕ). (nat_eq x 10 || list_any (λ b. nat_eq b 10) text) ≡ false) is none in
-    absurd (true≢false found)
-lacks_feed (b ∷ text) none (suc k, within, is) =
-    elim (nat_eq b 10) as (λ (t : Bool). (t || list_any (λ b. nat_eq b 10) text) ≡ false → ⊥) [
-      | true ↦ λ found. absurd (true≢false found)
-      | false ↦ λ later. lacks_feed text later (k, omega (arith, within), is)
-    ] none

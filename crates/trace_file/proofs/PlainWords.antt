@@ -1,10 +1,9 @@
 -- Words of a line that have no line feed.
-use Rattle.std.proofs.Common.{◌≡◌, ℕ, zero, suc, ◌<◌, ◌^◌, ℤ, pos, negsuc, Bool, true, ◌&&◌, List, [], ◌∷◌, ◌++◌, length, slice_index_or, decimal, refl, inl, inr, arith}
+use Rattle.std.proofs.Common.{◌≡◌, ℕ, ◌<◌, ◌^◌, ℤ, pos, negsuc, List, [], ◌∷◌, ◌++◌, length, decimal, refl, inl, inr, arith}
 use Rattle.std.specs.Prelude.{Contains, FitsSigned, flat_map}
 use Rattle.std.specs.Int.{FitsUnsigned, w32, w64}
 use Rattle.std.specs.List.{AllZip}
 use Rattle.std.specs.Fmt.{signed_decimal}
-use Rattle.std.proofs.lemmas.Bool.{and_parts}
 use Rattle.std.proofs.lemmas.Int.{ints}
 use Rattle.std.proofs.lemmas.List.Elements.{Contains-append_cases}
 use Rattle.dm_base.specs.declared.event.Arg.{Arg}
@@ -12,13 +11,14 @@ use Rattle.dm_base.specs.declared.event.Arg.TheVariants as args
 use Rattle.line_text.specs.Words.{bytes_text}
 use Rattle.line_text.proofs.HexadecimalLemmas.{bytes-IsPlain}
 use Rattle.line_text.proofs.IntegerLemmas.{signed-IsPlain}
-use Rattle.line_text.proofs.NumberLemmas.{decimal-IsPlain}
+use Rattle.line_text.proofs.VersionLemmas.{decimal-no_feed}
 use Rattle.line_text.proofs.WordLemmas.{IsPlain-no_feed}
 use Rattle.sys_table.specs.declared.kinds.ArgKind.{ArgKind}
 use Rattle.sys_table.specs.declared.kinds.ArgKind.TheVariants.{Signed, Unsigned, Bytes}
-use Rattle.sys_table.specs.Table.{Row, table, name_of, name_word}
+use Rattle.sys_table.specs.Table.{name_of, name_word}
+use Rattle.sys_table.proofs.Names.{name_of-IsPlain}
 use Rattle.trace_file.specs.EventText.{argument_word}
-use Rattle.trace_file.specs.LineParts.{has_no_feed, IsWrittenArgument}
+use Rattle.trace_file.specs.LineParts.{IsWrittenArgument}
 use Rattle.trace_file.proofs.Parts.{no_feed_within}
 
 -- a word and its space
@@ -27,11 +27,8 @@ spaced word plain has = elim (Contains-append_cases word (32 ∷ []) 10 has) [ i
 
 -- numbers
 
-pub decimal_plain : (n : ℕ) → n < 2 ^ 64 → Contains (decimal n) 10 → ⊥
-decimal_plain n small has = IsPlain-no_feed (decimal n) (decimal-IsPlain n small) has
-
 pub number_plain : (n : ℕ) → n < 2 ^ 64 → Contains (decimal n ++ 32 ∷ []) 10 → ⊥
-number_plain n small = spaced (decimal n) (decimal_plain n small)
+number_plain n small = spaced (decimal n) (decimal-no_feed n small)
 
 signed_plain : (z : ℤ) → FitsSigned w64 z → Contains (signed_decimal z) 10 → ⊥
 signed_plain z fits has = IsPlain-no_feed (signed_decimal z) (signed-IsPlain z fits) has
@@ -62,16 +59,5 @@ arguments_plain (kind ∷ kinds) (a ∷ arguments) fits has =
 
 -- names of calls
 
-are_plain : List Row → Bool
-are_plain [] = true
-are_plain (r ∷ rows) = has_no_feed r.name && are_plain rows
-
-plain_at : (rows : List Row) (i : ℕ) (d : Row) → are_plain rows ≡ true → i < length rows → has_no_feed (slice_index_or rows i d).name ≡ true
-unfolding are_plain
-plain_at [] i d plain within = absurd (omega arith)
-plain_at (r ∷ rows) zero d plain within = (and_parts (has_no_feed r.name) (are_plain rows) plain).0
-plain_at (r ∷ rows) (suc i) d plain within = plain_at rows i d (and_parts (has_no_feed r.name) (are_plain rows) plain).1 (omega arith)
-
 pub name_plain : (x : ℕ) → x < 24 → Contains (name_word x) 10 → ⊥
-unfolding table are_plain
-name_plain x within = spaced (name_of x) (no_feed_within (name_of x) (plain_at table x _ refl within))
+name_plain x within = spaced (name_of x) (IsPlain-no_feed (name_of x) (name_of-IsPlain x within))

@@ -126,7 +126,7 @@ call_free =
 site_free : (letter : List ℕ) → IsPrefixFree (λ n. n < 2 ^ 32) (λ n. letter ++ number_word 10 n)
 site_free letter v w small small' agree = number_free 10 (inr refl) v w (omega (arith, small)) (omega (arith, small')) (agree_next letter (number_word 10 w) (number_word 10 v) agree)
 
-event_free : IsPrefixFree IsWritten event_line
+pub event_free : IsPrefixFree IsWritten event_line
 event_free (Sys x arguments outcome) w fits fits_w agree = case_free {make = λ e. e} (Sys x arguments outcome) fits (call_case (event_line (Sys x arguments outcome)) (omega arith) refl) call_free w fits_w agree
 event_free (Pre site) w fits fits_w agree = case_free {make = Pre} site fits (pre_case (event_line (Pre site)) (omega arith) refl) (site_free (codes "B ")) w fits_w agree
 event_free (Post site) w fits fits_w agree = case_free {make = Post} site fits (post_case (event_line (Post site)) (omega arith) refl) (site_free (codes "E ")) w fits_w agree
@@ -162,13 +162,11 @@ trace_line_free (trace.Event e) w fits fits_w agree = case_free {make = trace.Ev
   where
     some_bytes : (e : Event) → 0 < length (event_line e)
     some_bytes (Sys x arguments outcome) = omega arith
-    some_bytes (Pre site) = omega arith
-    some_bytes (Post site) = omega arith
+    some_bytes e = omega arith
 
     other_letter : (e : Event) → get_or (event_line e) 0 0 ≢ 101
     other_letter (Sys x arguments outcome) = λ is. omega arith
-    other_letter (Pre site) = λ is. omega arith
-    other_letter (Post site) = λ is. omega arith
+    other_letter e = λ is. omega arith
 trace_line_free (trace.End end) w fits fits_w agree = case_free {make = trace.End} end fits (end_case (end_line end) (some_bytes end) (first_letter end)) end_free w fits_w agree
   where
     some_bytes : (end : TraceEnd) → 0 < length (end_line end)

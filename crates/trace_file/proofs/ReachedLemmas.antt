@@ -4,9 +4,10 @@ use Rattle.std.proofs.lemmas.List.{append-nil}
 use Rattle.line_text.specs.Files.{IsFirstLine, IsBadLine, IsProperPrefix}
 use Rattle.line_text.specs.OneLine.{IsLine}
 use Rattle.line_text.specs.Files.IsFirstLine.{ended, unended}
-use Rattle.line_text.proofs.FilesLemmas.{HasRead, bad_line, proper_prefix, one_more}
+use Rattle.line_text.proofs.FilesLemmas.{HasRead, bad_line, first_line_whole, proper_prefix, one_more}
 use Rattle.trace_file.specs.Pieces.{IsWhole}
 use Rattle.trace_file.specs.Reached.{IsReached}
+use Rattle.trace_file.specs.Trace.{longest}
 
 -- a whole line is the first of each text that begins with it
 pub whole_first : (line rest : List ℕ) → IsWhole line → IsFirstLine (line ++ rest) line rest
@@ -24,11 +25,25 @@ whole_some line rest whole none = not_nil whole.front rest (sym (ap (λ (t : Lis
 pub unfinished_first : (line : List ℕ) → (Contains line 10 → ⊥) → IsFirstLine line line []
 unfinished_first line plain = unended plain refl refl
 
+-- within the longest length, with no other version and not too much, the line is bad
+abbrev pub IsBadAt : (List ℕ → Type 0) → (List ℕ → Type 0) → (List ℕ → Type 0) → ℕ → List ℕ → Type 0
+IsBadAt Formed TooMuch Other j text = (length text ≤ longest) × (Other text → ⊥) × (TooMuch text → ⊥) × IsBadLine Formed text j
+
 module _ (Formed TooMuch Other Follow FollowTooMuch : List ℕ → Type 0) (k : ℕ) (lines : List ℕ) (here : IsReached Formed TooMuch Other Follow FollowTooMuch k lines) where
   -- a line that nothing may follow is bad
-  pub bad_next : (text line rest : List ℕ) → IsFirstLine text line rest → ((w : List ℕ) → Follow (line ++ w) → ⊥) → (FollowTooMuch text → ⊥) → (Other (lines ++ text) → ⊥) × (TooMuch (lines ++ text) → ⊥) × IsBadLine Formed (lines ++ text) (k + 1)
-  bad_next text line rest first none no_much =
-      (here.own text, (λ much. no_much (here.too_much text much)), bad_line Formed Follow k lines text line rest here.read first none)
+  pub bad_next : (j : ℕ) (text line rest : List ℕ) → j ≡ k + 1 → length (lines ++ text) ≤ longest → IsFirstLine text line rest → ((w : List ℕ) → Follow (line ++ w) → ⊥) → ((w : List ℕ) → FollowTooMuch (line ++ w) → ⊥) → IsBadAt Formed TooMuch Other j (lines ++ text)
+  bad_next j text line rest number short first none no_much = (
+    short,
+    here.own text,
+    (λ much. no_much rest (subst FollowTooMuch (first_line_whole text line rest first) (here.too_much text much))),
+    subst (IsBadLine Formed (lines ++ text)) (sym number) (bad_line Formed Follow k lines text line rest here.read first none),
+  )
+
+  -- so is one whose line feed was read, whatever follows
+  pub bad_shown : (j : ℕ) (line : List ℕ) → j ≡ k + 1 → IsWhole line → ((w : List ℕ) → Follow (line ++ w) → ⊥) → ((w : List ℕ) → FollowTooMuch (line ++ w) → ⊥) → (more : List ℕ) → length ((lines ++ line) ++ more) ≤ longest → IsBadAt Formed TooMuch Other j ((lines ++ line) ++ more)
+  bad_shown j line number whole none no_much more short =
+      let same : (lines ++ line) ++ more ≡ lines ++ (line ++ more) = append_assoc lines line more in
+      subst (IsBadAt Formed TooMuch Other j) (sym same) (bad_next j (line ++ more) line more number (subst (λ (t : List ℕ). length t ≤ longest) same short) (whole_first line more whole) none no_much)
 
   -- a text that may go on is a proper prefix
   pub prefix_next : (text : List ℕ) → (w : List ℕ) × (w ≢ []) × Follow (text ++ w) → (FollowTooMuch text → ⊥) → (TooMuch (lines ++ text) → ⊥) × IsProperPrefix Formed (lines ++ text)

@@ -28,10 +28,10 @@ use Rattle.trace_file.specs.Reached.{IsReached}
 use Rattle.trace_file.specs.Trace.{most, longest, trace_head, trace_text, IsTrace, IsFormedTrace, IsTraceWithin, HasTooManyEvents, HasOtherTraceVersion, IsTraceRefusal}
 use Rattle.trace_file.specs.TraceReading.{ReachesTrace, AreEventsAndEnd, BeginsTooManyEvents, AreEventsRead, IsEndRead}
 use Rattle.trace_file.specs.Refusals.{HasRoom, IsLineRefusal, IsHeadRefusal}
-use Rattle.trace_file.proofs.HeadLemmas.{one_first, no_other, none_other}
-use Rattle.trace_file.proofs.PiecesLemmas.{lacks_feed}
-use Rattle.trace_file.proofs.ReachedLemmas.{whole_first, whole_some, unfinished_first, bad_next, prefix_next, line_next}
-use Rattle.line_text.proofs.FirstLines.{nil_front}
+use Rattle.trace_file.proofs.HeadLemmas.{no_other, other_version, bad_head}
+use Rattle.trace_file.proofs.Parts.{no_feed_within}
+use Rattle.trace_file.proofs.ReachedLemmas.{whole_first, whole_some, unfinished_first, bad_next, bad_shown, prefix_next, line_next}
+use Rattle.line_text.proofs.FirstLines.{nil_front, line_alone}
 
 -- the first line
 
@@ -53,27 +53,9 @@ formed_after_head : (rest : List ℕ) → AreEventsAndEnd rest → IsFormedTrace
 formed_after_head rest on =
     (on.0, on.1, record { written = on.2; right = on.3; is = ap (λ (t : List ℕ). trace_head ++ t) on.4 ∙ sym (append_assoc trace_head (flat_map event_line on.0) (end_line on.1)) })
 
--- a text that begins with a line and with the first line of a trace: the two agree
-begins_agrees : (text line rest : List ℕ) → IsFirstLine text line rest → (more : List ℕ) × (text ≡ trace_head ++ more) → Agree trace_head line
-begins_agrees text line rest first begins =
-    prefixes_agree trace_head line begins.0 rest (sym begins.1 ∙ first_line_whole text line rest first)
-
--- a first line that is bad makes no trace
-pub head_bad : (k : ℕ) (text line rest : List ℕ) → IsFirstLine text line rest → IsHeadRefusal (BadLine k) line → (HasOtherTraceVersion text → ⊥) × (HasTooManyEvents text → ⊥) × IsBadLine IsFormedTrace text k
-head_bad k text line rest first bad =
-    let none : (w : List ℕ) → IsFormedTrace (line ++ w) → ⊥ = λ w formed.
-    let begins = formed_begins (line ++ w) formed in
-    bad.1 (prefixes_agree trace_head line begins.0 w (sym begins.1)) in
-    let read = nothing_read IsFormedTrace (trace_head ++ end_line Open) (formed_after_head (end_line Open) empty_end) in
-    let is_bad : IsBadLine IsFormedTrace text 1 = bad_line IsFormedTrace IsFormedTrace 0 [] text line rest read first none in (
-      none_other (codes "dyckmon-trace ") text line rest (λ n. n ≡ 1) first bad.2,
-      (λ much. bad.1 (begins_agrees text line rest first (too_many_begins text much))),
-      subst (IsBadLine IsFormedTrace text) (sym bad.0) is_bad,
-    )
-
-pub head_version : (text line rest : List ℕ) → IsFirstLine text line rest → IsHeadRefusal Version line → HasOtherTraceVersion text
-head_version text line rest first version =
-    record { line = line; rest = rest; first = first; number = version.0; small = version.1; other = version.2; stands = version.3 }
+begins : (text : List ℕ) → IsFormedTrace text ⊎ HasTooManyEvents text → (u : Unit {0}) × (rest : List ℕ) × (text ≡ trace_head ++ rest)
+begins text (inl formed) = let at = formed_begins text formed in (tt, at.0, at.1)
+begins text (inr has) = let at = too_many_begins text has in (tt, at.0, at.1)
 
 -- an unfinished first line is a proper prefix
 pub head_short : (tail : List ℕ) → IsHeadRefusal NoEnd tail → (HasTooManyEvents tail → ⊥) × IsProperPrefix IsFormedTrace tail
@@ -91,7 +73,7 @@ head_short tail cut = (
 -- the first line was read
 
 head_whole : IsWhole trace_head
-head_whole = record { front = codes "dyckmon-trace 1"; plain = lacks_feed (codes "dyckmon-trace 1") refl; ends = refl }
+head_whole = record { front = codes "dyckmon-trace 1"; plain = no_feed_within (codes "dyckmon-trace 1") refl; ends = refl }
 
 pub head_reached : IsReached IsFormedTrace HasTooManyEvents HasOtherTraceVersion AreEventsAndEnd (BeginsTooManyEvents 0) 1 trace_head
 head_reached =
@@ -105,7 +87,7 @@ head_reached =
 
 pub start_read : (line rest : List ℕ) → IsWhole line → line ≡ trace_head ++ rest → AreEventsRead 0 line []
 start_read line rest whole is =
-    let same : line ≡ trace_head = one_first line line [] trace_head rest (subst (λ (t : List ℕ). IsFirstLine t line []) (append-nil line) (whole_first line [] whole)) (subst (λ (t : List ℕ). IsFirstLine t trace_head rest) (sym is) (whole_first trace_head rest head_whole)) in
+    let same : line ≡ trace_head = line_alone line trace_head rest line [] (subst (λ (t : List ℕ). IsFirstLine t trace_head rest) (sym is) (whole_first trace_head rest head_whole)) (subst (λ (t : List ℕ). IsFirstLine t line []) (append-nil line) (whole_first line [] whole)) in
     record {
       count = refl;
       few = omega arith;
@@ -197,33 +179,11 @@ end_read n lines line events end read whole first =
 
 -- why a line is refused
 
--- a line that is refused shows it, whatever follows
-pub bad_shown : (n k : ℕ) (lines line new : List ℕ) (events : List Event) → AreEventsRead n lines events → IsWhole line → k ≡ n + 2 → Reads IsTraceLine trace_line line new (Err Wrong) → IsShown IsTraceRefusal (BadLine k) (lines ++ line)
-bad_shown n k lines line new events read whole number wrong more short =
+-- nothing goes on from a wrong line
+wrong_next : (n : ℕ) (lines line : List ℕ) (events : List Event) → AreEventsRead n lines events → Reads IsTraceLine trace_line line [] (Err Wrong) → ((w : List ℕ) → AreEventsAndEnd (line ++ w) → ⊥) × ((w : List ℕ) → BeginsTooManyEvents n (line ++ w) → ⊥)
+wrong_next n lines line events read wrong =
     let few : n ≤ most = let count = read.count in let le = read.few in omega (arith, count, le) in
-    let bad = bad_next IsFormedTrace HasTooManyEvents HasOtherTraceVersion AreEventsAndEnd (BeginsTooManyEvents n) (n + 1) lines read.reached (line ++ more) line more (whole_first line more whole)
-    (λ w on. wrong_line IsTraceLine trace_line FollowsLine line new wrong w (events_split (line ++ w) on))
-    (λ much. wrong_line IsTraceLine trace_line (FollowsLineTooMany n) line new wrong more (too_many_split n (line ++ more) few much)) in
-    let same : lines ++ (line ++ more) ≡ (lines ++ line) ++ more = sym (append_assoc lines line more) in
-    let at : n + 1 + 1 ≡ k = omega (arith, number) in (
-      short,
-      subst (λ (t : List ℕ). HasOtherTraceVersion t → ⊥) same bad.0,
-      subst (λ (t : List ℕ). HasTooManyEvents t → ⊥) same bad.1,
-      subst (λ (t : List ℕ). IsBadLine IsFormedTrace t k) same (subst (IsBadLine IsFormedTrace (lines ++ (line ++ more))) at bad.2),
-    )
-
--- a line after the end line
-pub after_end_shown : (n k : ℕ) (end : TraceEnd) (lines line : List ℕ) (events : List Event) → IsEndRead n end lines events → IsWhole line → k ≡ n + 3 → IsShown IsTraceRefusal (BadLine k) (lines ++ line)
-after_end_shown n k end lines line events read whole number more short =
-    let bad = bad_next IsFormedTrace HasTooManyEvents HasOtherTraceVersion (λ rest. rest ≡ []) (λ rest. ⊥) (n + 2) lines read.reached (line ++ more) line more (whole_first line more whole)
-    (λ w none. whole_some line w whole none) (λ much. much) in
-    let same : lines ++ (line ++ more) ≡ (lines ++ line) ++ more = sym (append_assoc lines line more) in
-    let at : n + 2 + 1 ≡ k = omega (arith, number) in (
-      short,
-      subst (λ (t : List ℕ). HasOtherTraceVersion t → ⊥) same bad.0,
-      subst (λ (t : List ℕ). HasTooManyEvents t → ⊥) same bad.1,
-      subst (λ (t : List ℕ). IsBadLine IsFormedTrace t k) same (subst (IsBadLine IsFormedTrace (lines ++ (line ++ more))) at bad.2),
-    )
+    ((λ w on. wrong_line IsTraceLine trace_line FollowsLine line [] wrong w (events_split (line ++ w) on)), (λ w much. wrong_line IsTraceLine trace_line (FollowsLineTooMany n) line [] wrong w (too_many_split n (line ++ w) few much)))
 
 -- one event too many
 pub too_many_shown : (n : ℕ) (lines line : List ℕ) (events : List Event) (event : Event) → AreEventsRead n lines events → most ≤ n → StandsFirst IsTraceLine trace_line line [] (trace.Event event) → IsShown IsTraceRefusal TooLong (lines ++ line)
@@ -241,24 +201,27 @@ too_many_shown n lines line events event read much first more short =
     })
 
 -- the first line is refused
-pub head_shown : (error : TraceError) (line : List ℕ) → IsWhole line → IsHeadRefusal error line → IsShown IsTraceRefusal error line
-head_shown OutOfMemory line whole refused more short = tt
-head_shown Version line whole refused more short = (short, head_version (line ++ more) line more (whole_first line more whole) refused)
-head_shown (BadLine k) line whole refused more short =
-    let bad = head_bad k (line ++ more) line more (whole_first line more whole) refused in
-    (short, bad.0, bad.1, bad.2)
-head_shown NoEnd line whole cut more short = absurd (ended_not_short {V = Unit {0}} (λ _. Unit {0}) (λ _. trace_head) line whole.front whole.ends cut)
-head_shown TooLong line whole refused more short = absurd refused
-head_shown (TooManyProcesses k) line whole refused more short = absurd refused
+head_refused : (error : TraceError) (text line rest : List ℕ) → length text ≤ longest → IsFirstLine text line rest → IsHeadRefusal error line → (IsHeadRefusal NoEnd line → IsTraceRefusal NoEnd text) → IsTraceRefusal error text
+head_refused OutOfMemory text line rest short first refused cut = tt
+head_refused Version text line rest short first refused cut = (short, other_version (codes "dyckmon-trace ") text line rest (λ n. n ≡ 1) first refused)
+head_refused (BadLine k) text line rest short first refused cut =
+    bad_head (λ (u : Unit {0}). trace_head) (codes "dyckmon-trace ") (λ n. n ≡ 1) IsFormedTrace HasTooManyEvents (trace_head ++ end_line Open) (formed_after_head (end_line Open) empty_end) begins k text line rest short first (refused.0, (λ u. refused.1), refused.2)
+head_refused NoEnd text line rest short first refused cut = cut refused
+head_refused error text line rest short first refused cut = absurd refused
+
+head_shown : (error : TraceError) (line : List ℕ) → IsWhole line → IsHeadRefusal error line → IsShown IsTraceRefusal error line
+head_shown error line whole refused more short =
+    head_refused error (line ++ more) line more short (whole_first line more whole) refused (λ cut. absurd (ended_not_short {V = Unit {0}} (λ _. Unit {0}) (λ _. trace_head) line whole.front whole.ends cut))
 
 -- a line after the first is refused
 pub line_shown : (n : ℕ) (error : TraceError) (lines line : List ℕ) (events : List Event) → AreEventsRead n lines events → IsWhole line → IsLineRefusal n error line → IsShown IsTraceRefusal error (lines ++ line)
 line_shown n OutOfMemory lines line events read whole refused = λ more short. tt
-line_shown n (BadLine k) lines line events read whole refused = bad_shown n k lines line [] events read whole refused.0 refused.1
+line_shown n (BadLine k) lines line events read whole refused =
+    let none = wrong_next n lines line events read refused.1 in
+    bad_shown IsFormedTrace HasTooManyEvents HasOtherTraceVersion AreEventsAndEnd (BeginsTooManyEvents n) (n + 1) lines read.reached k line (omega (arith, refused.0)) whole none.0 none.1
 line_shown n NoEnd lines line events read whole cut = λ more short. absurd (ended_not_short IsTraceLine trace_line line whole.front whole.ends cut)
 line_shown n TooLong lines line events read whole refused = too_many_shown n lines line events refused.0 read refused.1 refused.2
-line_shown n (TooManyProcesses k) lines line events read whole refused = λ more short. absurd refused
-line_shown n Version lines line events read whole refused = λ more short. absurd refused
+line_shown n error lines line events read whole refused = λ more short. absurd refused
 
 -- the end of the text
 
@@ -274,28 +237,15 @@ pub no_head : (tail rest : List ℕ) → (Contains tail 10 → ⊥) → tail ≡
 no_head tail rest plain is = plain (subst (λ (t : List ℕ). Contains t 10) (sym is) (Contains-append_left trace_head rest 10 (15, omega arith, refl)))
 
 -- the text ends within its first line
-pub head_ends : (error : TraceError) (tail : List ℕ) → (Contains tail 10 → ⊥) → length tail ≤ longest → IsHeadRefusal error tail → IsTraceRefusal error tail
-head_ends OutOfMemory tail plain short refused = tt
-head_ends Version tail plain short refused = (short, head_version tail tail [] (unfinished_first tail plain) refused)
-head_ends (BadLine k) tail plain short refused =
-    let bad = head_bad k tail tail [] (unfinished_first tail plain) refused in
-    (short, bad.0, bad.1, bad.2)
-head_ends NoEnd tail plain short cut =
-    let prefix = head_short tail cut in
-    (short, prefix.0, prefix.1)
-head_ends TooLong tail plain short refused = absurd refused
-head_ends (TooManyProcesses k) tail plain short refused = absurd refused
+head_ends : (error : TraceError) (tail : List ℕ) → (Contains tail 10 → ⊥) → length tail ≤ longest → IsHeadRefusal error tail → IsTraceRefusal error tail
+head_ends error tail plain short refused = head_refused error tail tail [] short (unfinished_first tail plain) refused (λ cut. let prefix = head_short tail cut in (short, prefix.0, prefix.1))
 
 -- the text ends within a line after the first
 pub line_ends : (n : ℕ) (error : TraceError) (lines tail : List ℕ) (events : List Event) → AreEventsRead n lines events → (Contains tail 10 → ⊥) → length (lines ++ tail) ≤ longest → IsLineRefusal n error tail → IsTraceRefusal error (lines ++ tail)
 line_ends n OutOfMemory lines tail events read plain short refused = tt
 line_ends n (BadLine k) lines tail events read plain short refused =
-    let few : n ≤ most = let count = read.count in let le = read.few in omega (arith, count, le) in
-    let bad = bad_next IsFormedTrace HasTooManyEvents HasOtherTraceVersion AreEventsAndEnd (BeginsTooManyEvents n) (n + 1) lines read.reached tail tail [] (unfinished_first tail plain)
-    (λ w on. wrong_line IsTraceLine trace_line FollowsLine tail [] refused.1 w (events_split (tail ++ w) on))
-    (λ much. let on = too_many_split n tail few much in none_stands tail on.1 on.0 plain on.4) in
-    let at : n + 1 + 1 ≡ k = let number = refused.0 in omega (arith, number) in
-    (short, bad.0, bad.1, subst (IsBadLine IsFormedTrace (lines ++ tail)) at bad.2)
+    let none = wrong_next n lines tail events read refused.1 in
+    bad_next IsFormedTrace HasTooManyEvents HasOtherTraceVersion AreEventsAndEnd (BeginsTooManyEvents n) (n + 1) lines read.reached k tail tail [] (omega (arith, refused.0)) short (unfinished_first tail plain) none.0 none.1
 line_ends n NoEnd lines tail events read plain short cut =
     let few : n ≤ most = let count = read.count in let le = read.few in omega (arith, count, le) in
     let more = short_line IsTraceLine trace_line FollowsLine tail may_follow cut in
@@ -303,16 +253,7 @@ line_ends n NoEnd lines tail events read plain short cut =
     (λ much. let on = too_many_split n tail few much in none_stands tail on.1 on.0 plain on.4) in
     (short, prefix.0, prefix.1)
 line_ends n TooLong lines tail events read plain short refused = absurd (none_stands tail [] (trace.Event refused.0) plain refused.2.stands)
-line_ends n (TooManyProcesses k) lines tail events read plain short refused = absurd refused
-line_ends n Version lines tail events read plain short refused = absurd refused
-
--- more bytes come after the end line
-pub end_ends : (n k : ℕ) (end : TraceEnd) (lines tail : List ℕ) (events : List Event) → IsEndRead n end lines events → (Contains tail 10 → ⊥) → length (lines ++ tail) ≤ longest → tail ≢ [] → k ≡ n + 3 → IsTraceRefusal (BadLine k) (lines ++ tail)
-end_ends n k end lines tail events read plain short some number =
-    let bad = bad_next IsFormedTrace HasTooManyEvents HasOtherTraceVersion (λ rest. rest ≡ []) (λ rest. ⊥) (n + 2) lines read.reached tail tail [] (unfinished_first tail plain)
-    (λ w none. some (nil_front tail w none)) (λ much. much) in
-    let at : n + 2 + 1 ≡ k = omega (arith, number) in
-    (short, bad.0, bad.1, subst (IsBadLine IsFormedTrace (lines ++ tail)) at bad.2)
+line_ends n error lines tail events read plain short refused = absurd refused
 
 -- the text ends with its end line
 pub end_within : (n : ℕ) (end : TraceEnd) (lines tail : List ℕ) (events : List Event) → IsEndRead n end lines events → length (lines ++ tail) ≤ longest → tail ≡ [] → IsTraceWithin (lines ++ tail) events end
@@ -349,7 +290,8 @@ end_takes n at line found end is whole first one lines events reached =
 
 pub after_end_shows : (n k : ℕ) (end : TraceEnd) (at : TracePlace) (line : List ℕ) → at ≡ place.End n end → IsWhole line → k ≡ n + 3 → Shows ReachesTrace IsTraceRefusal at (BadLine k) line
 after_end_shows n k end at line is whole number lines events reached =
-    after_end_shown n k end lines line events (subst (λ (p : TracePlace). ReachesTrace p lines events) is reached) whole number
+    let read = subst (λ (p : TracePlace). ReachesTrace p lines events) is reached in
+    bad_shown IsFormedTrace HasTooManyEvents HasOtherTraceVersion (λ rest. rest ≡ []) (λ rest. ⊥) (n + 2) lines read.reached k line (omega (arith, number)) whole (λ w none. whole_some line w whole none) (λ w much. much)
 
 -- why the text with this tail is refused, at this place
 abbrev pub EndsRefused : TracePlace → TraceError → List ℕ → Type 0
@@ -367,7 +309,8 @@ line_refused n at error tail is plain refused lines events reached short =
 
 pub end_refused : (n k : ℕ) (end : TraceEnd) (at : TracePlace) (tail : List ℕ) → at ≡ place.End n end → (Contains tail 10 → ⊥) → tail ≢ [] → k ≡ n + 3 → EndsRefused at (BadLine k) tail
 end_refused n k end at tail is plain some number lines events reached short =
-    end_ends n k end lines tail events (subst (λ (p : TracePlace). ReachesTrace p lines events) is reached) plain short some number
+    let read = subst (λ (p : TracePlace). ReachesTrace p lines events) is reached in
+    bad_next IsFormedTrace HasTooManyEvents HasOtherTraceVersion (λ rest. rest ≡ []) (λ rest. ⊥) (n + 2) lines read.reached k tail tail [] (omega (arith, number)) short (unfinished_first tail plain) (λ w none. some (nil_front tail w none)) (λ w much. much)
 
 pub length_some : (text : List ℕ) → nat_eq (length text) 0 ≡ false → text ≢ []
 length_some text none is = true≢false (sym (ap (λ (t : List ℕ). nat_eq (length t) 0) is) ∙ none)

@@ -35,11 +35,11 @@ use Rattle.trace_file.specs.Trace.{most, longest}
 use Rattle.trace_file.specs.Traces.{most_processes, traces_head, records_text, traces_text, AreTraces, AreTracesWithin, AreFormedTraces, PassesALimit, HasTooMuch, HasTooManyRecords, HasTooManyProcesses, HasOtherTracesVersion, IsTracesRefusal, AreTracesOf, BeginsWith}
 use Rattle.trace_file.specs.TracesReading.{ReachesStage, ReachesTraces, stage_version, traces_version, StandForTraces, AreRecordsAndEnd, PassesHere, BeginsTooMuch, AreRecordsRead, AreTracesRead}
 use Rattle.trace_file.specs.Refusals.{EndsIn, HasRecordRoom, IsTracesHeadRefusal, IsRecordRefusal, IsRefusedAt}
-use Rattle.trace_file.proofs.HeadLemmas.{one_first, no_other, none_other}
-use Rattle.trace_file.proofs.PiecesLemmas.{lacks_feed}
+use Rattle.trace_file.proofs.HeadLemmas.{no_other, other_version, bad_head}
+use Rattle.trace_file.proofs.Parts.{no_feed_within}
 use Rattle.trace_file.proofs.ProcessesLemmas.{known_length, made_push}
-use Rattle.trace_file.proofs.ReachedLemmas.{whole_first, whole_some, unfinished_first, bad_next, prefix_next, line_next}
-use Rattle.line_text.proofs.FirstLines.{nil_front}
+use Rattle.trace_file.proofs.ReachedLemmas.{whole_first, whole_some, unfinished_first, bad_next, bad_shown, prefix_next, line_next}
+use Rattle.line_text.proofs.FirstLines.{nil_front, line_alone}
 
 -- the first line
 
@@ -60,8 +60,8 @@ small_version One = omega arith
 small_version Two = omega arith
 
 head_whole : (version : TracesVersion) → IsWhole (traces_head version)
-head_whole One = record { front = codes "dyckmon-traces 1"; plain = lacks_feed (codes "dyckmon-traces 1") refl; ends = refl }
-head_whole Two = record { front = codes "dyckmon-traces 2"; plain = lacks_feed (codes "dyckmon-traces 2") refl; ends = refl }
+head_whole One = record { front = codes "dyckmon-traces 1"; plain = no_feed_within (codes "dyckmon-traces 1") refl; ends = refl }
+head_whole Two = record { front = codes "dyckmon-traces 2"; plain = no_feed_within (codes "dyckmon-traces 2") refl; ends = refl }
 
 -- a text begins with one version's line
 pub head_same : (v v' : TracesVersion) (w w' : List ℕ) → traces_head v ++ w ≡ traces_head v' ++ w' → (v' ≡ v) × (w ≡ w')
@@ -87,6 +87,10 @@ too_much_begins : (text : List ℕ) → HasTooMuch text → (v : TracesVersion) 
 too_much_begins text (inl has) = passes_begins text has.0 has.1 has.2 has.3
 too_much_begins text (inr has) = passes_begins text has.1.0 has.1.1 has.1.2 has.1.3
 
+begins : (text : List ℕ) → AreFormedTraces text ⊎ HasTooMuch text → (v : TracesVersion) × (rest : List ℕ) × (text ≡ traces_head v ++ rest)
+begins text (inl formed) = formed_begins text formed
+begins text (inr much) = too_much_begins text much
+
 no_records_end : AreRecordsAndEnd (codes "end\n")
 no_records_end = ([], All-nil IsWrittenRecord, refl)
 
@@ -96,25 +100,6 @@ formed_after_head version rest on =
 
 some_formed : AreFormedTraces (traces_head One ++ codes "end\n")
 some_formed = formed_after_head One (codes "end\n") no_records_end
-
--- a first line that is bad makes no traces
-pub head_bad : (k : ℕ) (text line rest : List ℕ) → IsFirstLine text line rest → IsTracesHeadRefusal (BadLine k) line → (HasOtherTracesVersion text → ⊥) × (HasTooMuch text → ⊥) × IsBadLine AreFormedTraces text k
-head_bad k text line rest first bad =
-    let none : (w : List ℕ) → AreFormedTraces (line ++ w) → ⊥ = λ w formed.
-    let begins = formed_begins (line ++ w) formed in
-    bad.1 begins.0 (prefixes_agree (traces_head begins.0) line begins.1 w (sym begins.2)) in
-    let read = nothing_read AreFormedTraces (traces_head One ++ codes "end\n") some_formed in
-    let is_bad : IsBadLine AreFormedTraces text 1 = bad_line AreFormedTraces AreFormedTraces 0 [] text line rest read first none in (
-      none_other (codes "dyckmon-traces ") text line rest (λ n. (n ≡ 1) ⊎ (n ≡ 2)) first bad.2,
-      (λ much.
-          let begins = too_much_begins text much in
-          bad.1 begins.0 (prefixes_agree (traces_head begins.0) line begins.1 rest (sym begins.2 ∙ first_line_whole text line rest first))),
-      subst (IsBadLine AreFormedTraces text) (sym bad.0) is_bad,
-    )
-
-pub head_version : (text line rest : List ℕ) → IsFirstLine text line rest → IsTracesHeadRefusal Version line → HasOtherTracesVersion text
-head_version text line rest first version =
-    record { line = line; rest = rest; first = first; number = version.0; small = version.1; other = version.2; stands = version.3 }
 
 -- an unfinished first line is a proper prefix
 pub head_short : (tail : List ℕ) → (Contains tail 10 → ⊥) → IsTracesHeadRefusal NoEnd tail → (HasTooMuch tail → ⊥) × IsProperPrefix AreFormedTraces tail
@@ -162,7 +147,7 @@ no_processes v = omega (arith, len-empty nat_cmp)
 
 pub start_read : (v : TracesVersion) (line rest : List ℕ) → IsWhole line → line ≡ traces_head v ++ rest → AreRecordsRead v 0 line []
 start_read v line rest whole is =
-    let same : line ≡ traces_head v = one_first line line [] (traces_head v) rest (subst (λ (t : List ℕ). IsFirstLine t line []) (append-nil line) (whole_first line [] whole)) (subst (λ (t : List ℕ). IsFirstLine t (traces_head v) rest) (sym is) (whole_first (traces_head v) rest (head_whole v))) in
+    let same : line ≡ traces_head v = line_alone line (traces_head v) rest line [] (subst (λ (t : List ℕ). IsFirstLine t (traces_head v) rest) (sym is) (whole_first (traces_head v) rest (head_whole v))) (subst (λ (t : List ℕ). IsFirstLine t line []) (append-nil line) (whole_first line [] whole)) in
     record {
       count = refl;
       few = omega arith;
@@ -272,32 +257,12 @@ end_read v n lines line records read whole first =
 
 -- why a line is refused
 
--- a line that is refused shows it, whatever follows
-pub bad_shown : (v : TracesVersion) (n k : ℕ) (lines line new : List ℕ) (records : List Record) → AreRecordsRead v n lines records → IsWhole line → k ≡ n + 2 → Reads IsTracesLine traces_line line new (Err Wrong) → IsShown IsTracesRefusal (BadLine k) (lines ++ line)
-bad_shown v n k lines line new records read whole number wrong more short =
-    let bad = bad_next AreFormedTraces HasTooMuch HasOtherTracesVersion AreRecordsAndEnd (BeginsTooMuch v records) (n + 1) lines read.reached (line ++ more) line more (whole_first line more whole)
-    (λ w on. wrong_line IsTracesLine traces_line FollowsRecord line new wrong w (records_split (line ++ w) on))
-    (λ much. wrong_line IsTracesLine traces_line (FollowsTooMuch v records) line new wrong more (too_much_split v records (line ++ more) much)) in
-    let same : lines ++ (line ++ more) ≡ (lines ++ line) ++ more = sym (append_assoc lines line more) in
-    let at : n + 1 + 1 ≡ k = omega (arith, number) in (
-      short,
-      subst (λ (t : List ℕ). HasOtherTracesVersion t → ⊥) same bad.0,
-      subst (λ (t : List ℕ). HasTooMuch t → ⊥) same bad.1,
-      subst (λ (t : List ℕ). IsBadLine AreFormedTraces t k) same (subst (IsBadLine AreFormedTraces (lines ++ (line ++ more))) at bad.2),
-    )
-
--- a line after the end line
-pub after_end_shown : (v : TracesVersion) (n k : ℕ) (lines line : List ℕ) (records : List Record) → AreTracesRead v n lines records → IsWhole line → k ≡ n + 3 → IsShown IsTracesRefusal (BadLine k) (lines ++ line)
-after_end_shown v n k lines line records read whole number more short =
-    let bad = bad_next AreFormedTraces HasTooMuch HasOtherTracesVersion (λ rest. rest ≡ []) (λ rest. ⊥) (n + 2) lines read.reached (line ++ more) line more (whole_first line more whole)
-    (λ w none. whole_some line w whole none) (λ much. much) in
-    let same : lines ++ (line ++ more) ≡ (lines ++ line) ++ more = sym (append_assoc lines line more) in
-    let at : n + 2 + 1 ≡ k = omega (arith, number) in (
-      short,
-      subst (λ (t : List ℕ). HasOtherTracesVersion t → ⊥) same bad.0,
-      subst (λ (t : List ℕ). HasTooMuch t → ⊥) same bad.1,
-      subst (λ (t : List ℕ). IsBadLine AreFormedTraces t k) same (subst (IsBadLine AreFormedTraces (lines ++ (line ++ more))) at bad.2),
-    )
+-- nothing goes on from a wrong line
+wrong_next : (v : TracesVersion) (records : List Record) (line : List ℕ) → Reads IsTracesLine traces_line line [] (Err Wrong) → ((w : List ℕ) → AreRecordsAndEnd (line ++ w) → ⊥) × ((w : List ℕ) → BeginsTooMuch v records (line ++ w) → ⊥)
+wrong_next v records line wrong = (
+  (λ w on. wrong_line IsTracesLine traces_line FollowsRecord line [] wrong w (records_split (line ++ w) on)),
+  (λ w much. wrong_line IsTracesLine traces_line (FollowsTooMuch v records) line [] wrong w (too_much_split v records (line ++ w) much)),
+)
 
 -- the lines of the records and of one more stand first
 passes_limit : (v : TracesVersion) (n : ℕ) (lines line more : List ℕ) (records : List Record) (r : Record) → AreRecordsRead v n lines records → StandsFirst IsTracesLine traces_line line [] (traces.Record r) → PassesALimit (lines ++ line ++ more) v records r
@@ -321,24 +286,27 @@ too_many_processes_shown v n k lines line records r read few much number first m
     (short, (v, records, r, passes_limit v n lines line more records r read first, subst (λ (i : ℕ). i < most) read.count few, much, number ∙ ap (λ (i : ℕ). i + 2) read.count))
 
 -- the first line is refused
-pub head_shown : (error : TraceError) (line : List ℕ) → IsWhole line → IsTracesHeadRefusal error line → IsShown IsTracesRefusal error line
-head_shown OutOfMemory line whole refused more short = tt
-head_shown Version line whole refused more short = (short, head_version (line ++ more) line more (whole_first line more whole) refused)
-head_shown (BadLine k) line whole refused more short =
-    let bad = head_bad k (line ++ more) line more (whole_first line more whole) refused in
-    (short, bad.0, bad.1, bad.2)
-head_shown NoEnd line whole cut more short = absurd (ended_not_short {V = Unit {0}} (λ _. Unit {0}) (λ _. traces_head cut.0) line whole.front whole.ends cut.1)
-head_shown TooLong line whole refused more short = absurd refused
-head_shown (TooManyProcesses k) line whole refused more short = absurd refused
+head_refused : (error : TraceError) (text line rest : List ℕ) → length text ≤ longest → IsFirstLine text line rest → IsTracesHeadRefusal error line → (IsTracesHeadRefusal NoEnd line → IsTracesRefusal NoEnd text) → IsTracesRefusal error text
+head_refused OutOfMemory text line rest short first refused cut = tt
+head_refused Version text line rest short first refused cut = (short, other_version (codes "dyckmon-traces ") text line rest (λ n. (n ≡ 1) ⊎ (n ≡ 2)) first refused)
+head_refused (BadLine k) text line rest short first refused cut =
+    bad_head traces_head (codes "dyckmon-traces ") (λ n. (n ≡ 1) ⊎ (n ≡ 2)) AreFormedTraces HasTooMuch (traces_head One ++ codes "end\n") some_formed begins k text line rest short first refused
+head_refused NoEnd text line rest short first refused cut = cut refused
+head_refused error text line rest short first refused cut = absurd refused
+
+head_shown : (error : TraceError) (line : List ℕ) → IsWhole line → IsTracesHeadRefusal error line → IsShown IsTracesRefusal error line
+head_shown error line whole refused more short =
+    head_refused error (line ++ more) line more short (whole_first line more whole) refused (λ cut. absurd (ended_not_short {V = Unit {0}} (λ _. Unit {0}) (λ _. traces_head cut.0) line whole.front whole.ends cut.1))
 
 -- a line after the first is refused
 pub line_shown : (v : TracesVersion) (n : ℕ) (error : TraceError) (lines line : List ℕ) (records : List Record) → AreRecordsRead v n lines records → IsWhole line → IsRecordRefusal n error line → IsShown IsTracesRefusal error (lines ++ line)
 line_shown v n OutOfMemory lines line records read whole refused = λ more short. tt
-line_shown v n (BadLine k) lines line records read whole refused = bad_shown v n k lines line [] records read whole refused.0 refused.1
+line_shown v n (BadLine k) lines line records read whole refused =
+    let none = wrong_next v records line refused.1 in
+    bad_shown AreFormedTraces HasTooMuch HasOtherTracesVersion AreRecordsAndEnd (BeginsTooMuch v records) (n + 1) lines read.reached k line (omega (arith, refused.0)) whole none.0 none.1
 line_shown v n NoEnd lines line records read whole cut = λ more short. absurd (ended_not_short IsTracesLine traces_line line whole.front whole.ends cut)
 line_shown v n TooLong lines line records read whole refused = too_many_shown v n lines line records refused.0 read refused.1 refused.2
-line_shown v n (TooManyProcesses k) lines line records read whole refused = λ more short. absurd refused
-line_shown v n Version lines line records read whole refused = λ more short. absurd refused
+line_shown v n error lines line records read whole refused = λ more short. absurd refused
 
 -- the end of the text
 
@@ -355,43 +323,22 @@ pub no_head : (version : TracesVersion) (tail rest : List ℕ) → (Contains tai
 no_head version tail rest plain is = plain (subst (λ (t : List ℕ). Contains t 10) (sym is) (head_feed version rest))
 
 -- the text ends within its first line
-pub head_ends : (error : TraceError) (tail : List ℕ) → (Contains tail 10 → ⊥) → length tail ≤ longest → IsTracesHeadRefusal error tail → IsTracesRefusal error tail
-head_ends OutOfMemory tail plain short refused = tt
-head_ends Version tail plain short refused = (short, head_version tail tail [] (unfinished_first tail plain) refused)
-head_ends (BadLine k) tail plain short refused =
-    let bad = head_bad k tail tail [] (unfinished_first tail plain) refused in
-    (short, bad.0, bad.1, bad.2)
-head_ends NoEnd tail plain short cut =
-    let prefix = head_short tail plain cut in
-    (short, prefix.0, prefix.1)
-head_ends TooLong tail plain short refused = absurd refused
-head_ends (TooManyProcesses k) tail plain short refused = absurd refused
+head_ends : (error : TraceError) (tail : List ℕ) → (Contains tail 10 → ⊥) → length tail ≤ longest → IsTracesHeadRefusal error tail → IsTracesRefusal error tail
+head_ends error tail plain short refused = head_refused error tail tail [] short (unfinished_first tail plain) refused (λ cut. let prefix = head_short tail plain cut in (short, prefix.0, prefix.1))
 
 -- the text ends within a line after the first
 pub line_ends : (v : TracesVersion) (n : ℕ) (error : TraceError) (lines tail : List ℕ) (records : List Record) → AreRecordsRead v n lines records → (Contains tail 10 → ⊥) → length (lines ++ tail) ≤ longest → IsRecordRefusal n error tail → IsTracesRefusal error (lines ++ tail)
 line_ends v n OutOfMemory lines tail records read plain short refused = tt
 line_ends v n (BadLine k) lines tail records read plain short refused =
-    let bad = bad_next AreFormedTraces HasTooMuch HasOtherTracesVersion AreRecordsAndEnd (BeginsTooMuch v records) (n + 1) lines read.reached tail tail [] (unfinished_first tail plain)
-    (λ w on. wrong_line IsTracesLine traces_line FollowsRecord tail [] refused.1 w (records_split (tail ++ w) on))
-    (λ much. let on = too_much_split v records tail much in none_stands tail on.1 on.0 plain on.4) in
-    let at : n + 1 + 1 ≡ k = let number = refused.0 in omega (arith, number) in
-    (short, bad.0, bad.1, subst (IsBadLine AreFormedTraces (lines ++ tail)) at bad.2)
+    let none = wrong_next v records tail refused.1 in
+    bad_next AreFormedTraces HasTooMuch HasOtherTracesVersion AreRecordsAndEnd (BeginsTooMuch v records) (n + 1) lines read.reached k tail tail [] (omega (arith, refused.0)) short (unfinished_first tail plain) none.0 none.1
 line_ends v n NoEnd lines tail records read plain short cut =
     let more = short_line IsTracesLine traces_line FollowsRecord tail may_follow cut in
     let prefix = prefix_next AreFormedTraces HasTooMuch HasOtherTracesVersion AreRecordsAndEnd (BeginsTooMuch v records) (n + 1) lines read.reached tail (more.0, more.1, records_joined (tail ++ more.0) more.2)
     (λ much. let on = too_much_split v records tail much in none_stands tail on.1 on.0 plain on.4) in
     (short, prefix.0, prefix.1)
 line_ends v n TooLong lines tail records read plain short refused = absurd (none_stands tail [] (traces.Record refused.0) plain refused.2.stands)
-line_ends v n (TooManyProcesses k) lines tail records read plain short refused = absurd refused
-line_ends v n Version lines tail records read plain short refused = absurd refused
-
--- more bytes come after the end line
-pub end_ends : (v : TracesVersion) (n k : ℕ) (lines tail : List ℕ) (records : List Record) → AreTracesRead v n lines records → (Contains tail 10 → ⊥) → length (lines ++ tail) ≤ longest → tail ≢ [] → k ≡ n + 3 → IsTracesRefusal (BadLine k) (lines ++ tail)
-end_ends v n k lines tail records read plain short some number =
-    let bad = bad_next AreFormedTraces HasTooMuch HasOtherTracesVersion (λ rest. rest ≡ []) (λ rest. ⊥) (n + 2) lines read.reached tail tail [] (unfinished_first tail plain)
-    (λ w none. some (nil_front tail w none)) (λ much. much) in
-    let at : n + 2 + 1 ≡ k = omega (arith, number) in
-    (short, bad.0, bad.1, subst (IsBadLine AreFormedTraces (lines ++ tail)) at bad.2)
+line_ends v n error lines tail records read plain short refused = absurd refused
 
 -- the text ends with its end line
 pub end_within : (v : TracesVersion) (n : ℕ) (lines tail : List ℕ) (records : List Record) → AreTracesRead v n lines records → length (lines ++ tail) ≤ longest → tail ≡ [] → AreTracesWithin (lines ++ tail) v records
@@ -404,47 +351,38 @@ end_within v n lines tail records read short none =
 head_tells : (error : TraceError) (line more : List ℕ) → IsWhole line → IsTracesHeadRefusal error line → error ≢ OutOfMemory → (v : TracesVersion) → BeginsWith (Some v) (line ++ more) → ⊥
 head_tells OutOfMemory line more whole refused other v begins = other refl
 head_tells Version line more whole refused other v (rest, is) =
-    (head_reached v).own rest (subst HasOtherTracesVersion is (head_version (line ++ more) line more (whole_first line more whole) refused))
+    (head_reached v).own rest (subst HasOtherTracesVersion is (other_version (codes "dyckmon-traces ") (line ++ more) line more (λ n. (n ≡ 1) ⊎ (n ≡ 2)) (whole_first line more whole) refused))
 head_tells (BadLine k) line more whole refused other v (rest, is) = refused.1 v (prefixes_agree (traces_head v) line rest more (sym is))
 head_tells NoEnd line more whole cut other v begins = absurd (ended_not_short {V = Unit {0}} (λ _. Unit {0}) (λ _. traces_head cut.0) line whole.front whole.ends cut.1)
-head_tells TooLong line more whole refused other v begins = refused
-head_tells (TooManyProcesses k) line more whole refused other v begins = refused
+head_tells error line more whole refused other v begins = refused
+
+-- the lines before a place whose stage tells a version begin with that version's line
+stage_head : (at : TracesStage) (ks lines : List ℕ) (records : List Record) (v : TracesVersion) → ReachesStage at ks lines records → stage_version at ≡ Some v → (rest : List ℕ) × (lines ≡ traces_head v ++ rest)
+stage_head stage.Start ks lines records v reached is = cc
+stage_head (stage.Records u n) ks lines records v reached is =
+    let same : u ≡ v = cc in
+    (flat_map record_line records, reached.1.is ∙ ap (λ (x : TracesVersion). traces_head x ++ flat_map record_line records) same)
+stage_head (stage.End u n) ks lines records v reached is =
+    let same : u ≡ v = cc in
+    (flat_map record_line records ++ codes "end\n", reached.traces.is ∙ append_assoc (traces_head u) (flat_map record_line records) (codes "end\n") ∙ ap (λ (x : TracesVersion). traces_head x ++ (flat_map record_line records ++ codes "end\n")) same)
+
+stage_first : (at : TracesStage) (ks lines more : List ℕ) (records : List Record) (v : TracesVersion) → ReachesStage at ks lines records → stage_version at ≡ Some v → BeginsWith (Some v) (lines ++ more)
+stage_first at ks lines more records v reached is =
+    let head = stage_head at ks lines records v reached is in
+    (head.0 ++ more, ap (λ (t : List ℕ). t ++ more) head.1 ∙ append_assoc (traces_head v) head.0 more)
 
 stage_tells : (at : TracesStage) (ks lines more : List ℕ) (records : List Record) (w v : TracesVersion) → ReachesStage at ks lines records → stage_version at ≡ Some w → BeginsWith (Some v) (lines ++ more) → stage_version at ≡ Some v
-stage_tells stage.Start ks lines more records w v reached is begins = absurd (none_not_some w is)
-  where
-    none_not_some : (w : TracesVersion) → ◌≡◌ {A = Option TracesVersion} None (Some w) → ⊥
-    none_not_some w is = cc
-stage_tells (stage.Records u n) ks lines more records w v reached is (rest, begins) =
-    ap Some (head_same v u rest (flat_map record_line records ++ more) (sym begins ∙ ap (λ (t : List ℕ). t ++ more) reached.1.is ∙ append_assoc (traces_head u) (flat_map record_line records) more)).0
-stage_tells (stage.End u n) ks lines more records w v reached is (rest, begins) =
-    ap Some (head_same v u rest (flat_map record_line records ++ codes "end\n" ++ more) (sym begins ∙ ap (λ (t : List ℕ). t ++ more) (reached.traces.is ∙ append_assoc (traces_head u) (flat_map record_line records) (codes "end\n")) ∙ append_assoc (traces_head u) (flat_map record_line records ++ codes "end\n") more)).0
-
--- a version that the stage tells is that of the first line
-stage_first : (at : TracesStage) (ks lines more : List ℕ) (records : List Record) (v : TracesVersion) → ReachesStage at ks lines records → stage_version at ≡ Some v → BeginsWith (Some v) (lines ++ more)
-stage_first stage.Start ks lines more records v reached is = absurd (none_not_some v is)
-  where
-    none_not_some : (w : TracesVersion) → ◌≡◌ {A = Option TracesVersion} None (Some w) → ⊥
-    none_not_some w is = cc
-stage_first (stage.Records u n) ks lines more records v reached is =
-    subst (λ (o : Option TracesVersion). BeginsWith o (lines ++ more)) is
-    (flat_map record_line records ++ more, ap (λ (t : List ℕ). t ++ more) reached.1.is ∙ append_assoc (traces_head u) (flat_map record_line records) more)
-stage_first (stage.End u n) ks lines more records v reached is =
-    subst (λ (o : Option TracesVersion). BeginsWith o (lines ++ more)) is (
-      flat_map record_line records ++ codes "end\n" ++ more,
-      ap (λ (t : List ℕ). t ++ more) (reached.traces.is ∙ append_assoc (traces_head u) (flat_map record_line records) (codes "end\n")) ∙ append_assoc (traces_head u) (flat_map record_line records ++ codes "end\n") more,
-    )
+stage_tells at ks lines more records w v reached is (rest, begins) =
+    let head = stage_first at ks lines more records w reached is in
+    is ∙ ap Some (head_same v w rest head.0 (sym begins ∙ head.1)).0
 
 start_refused_at : (at : TracesStage) (error : TraceError) (line : List ℕ) → at ≡ stage.Start → IsWhole line → IsTracesHeadRefusal error line → IsShown (IsRefusedAt at) error line
 start_refused_at at error line is whole refused more short =
     record {
       refusal = head_shown error line whole refused more short;
       tells = λ other v begins. absurd (head_tells error line more whole refused other v begins);
-      first = λ other v told. absurd (none_told v (sym (ap stage_version is) ∙ told));
+      first = λ other v told. absurd (let none : ◌≡◌ {A = Option TracesVersion} None (Some v) = sym (ap stage_version is) ∙ told in cc);
     }
-  where
-    none_told : (w : TracesVersion) → ◌≡◌ {A = Option TracesVersion} None (Some w) → ⊥
-    none_told w is = cc
 
 later_refused_at : (at : TracesStage) (ks lines line : List ℕ) (records : List Record) (error : TraceError) (w : TracesVersion) → ReachesStage at ks lines records → stage_version at ≡ Some w → IsShown IsTracesRefusal error (lines ++ line) → IsShown (IsRefusedAt at) error (lines ++ line)
 later_refused_at at ks lines line records error w reached is shown more short =
@@ -498,8 +436,9 @@ end_takes at ks v n line found is whole first one lines records reached =
 
 pub after_end_shows : (at : TracesStage) (ks : List ℕ) (v : TracesVersion) (n k : ℕ) (line : List ℕ) → at ≡ stage.End v n → IsWhole line → k ≡ n + 3 → (lines : List ℕ) (records : List Record) → ReachesStage at ks lines records → IsShown (IsRefusedAt at) (BadLine k) (lines ++ line)
 after_end_shows at ks v n k line is whole number lines records reached =
+    let read = subst (λ (s : TracesStage). ReachesStage s ks lines records) is reached in
     later_refused_at at ks lines line records (BadLine k) v reached (ap stage_version is)
-    (after_end_shown v n k lines line records (subst (λ (s : TracesStage). ReachesStage s ks lines records) is reached) whole number)
+    (bad_shown AreFormedTraces HasTooMuch HasOtherTracesVersion (λ rest. rest ≡ []) (λ rest. ⊥) (n + 2) lines read.reached k line (omega (arith, number)) whole (λ w none. whole_some line w whole none) (λ w much. much))
 
 -- why the text with this tail is refused, at this place
 abbrev pub EndsRefused : TracesStage → List ℕ → TraceError → List ℕ → Type 0
@@ -517,7 +456,8 @@ line_refused at ks v n error tail is plain refused lines records reached short =
 
 pub end_refused : (at : TracesStage) (ks : List ℕ) (v : TracesVersion) (n k : ℕ) (tail : List ℕ) → at ≡ stage.End v n → (Contains tail 10 → ⊥) → tail ≢ [] → k ≡ n + 3 → EndsRefused at ks (BadLine k) tail
 end_refused at ks v n k tail is plain some number lines records reached short =
-    end_ends v n k lines tail records (subst (λ (s : TracesStage). ReachesStage s ks lines records) is reached) plain short some number
+    let read = subst (λ (s : TracesStage). ReachesStage s ks lines records) is reached in
+    bad_next AreFormedTraces HasTooMuch HasOtherTracesVersion (λ rest. rest ≡ []) (λ rest. ⊥) (n + 2) lines read.reached k tail tail [] (omega (arith, number)) short (unfinished_first tail plain) (λ w none. some (nil_front tail w none)) (λ w much. much)
 
 pub ends_here : (at : TracesStage) (ks : List ℕ) (v : TracesVersion) (n : ℕ) (tail : List ℕ) → at ≡ stage.End v n → tail ≡ [] → (lines : List ℕ) (records : List Record) → ReachesStage at ks lines records → length (lines ++ tail) ≤ longest → AreTracesOf (stage_version at) (lines ++ tail) records
 ends_here at ks v n tail is none lines records reached short =
@@ -529,12 +469,8 @@ ends_here at ks v n tail is none lines records reached short =
 stage_begins : (at : TracesStage) (ks lines tail : List ℕ) (records : List Record) → ReachesStage at ks lines records → (Contains tail 10 → ⊥) → BeginsWith (stage_version at) (lines ++ tail)
 stage_begins stage.Start ks lines tail records reached plain =
     λ has. plain (subst (λ (t : List ℕ). Contains (t ++ tail) 10) reached.1 has)
-stage_begins (stage.Records v n) ks lines tail records reached plain =
-    (flat_map record_line records ++ tail, ap (λ (t : List ℕ). t ++ tail) reached.1.is ∙ append_assoc (traces_head v) (flat_map record_line records) tail)
-stage_begins (stage.End v n) ks lines tail records reached plain = (
-  flat_map record_line records ++ codes "end\n" ++ tail,
-  ap (λ (t : List ℕ). t ++ tail) (reached.traces.is ∙ append_assoc (traces_head v) (flat_map record_line records) (codes "end\n")) ∙ append_assoc (traces_head v) (flat_map record_line records ++ codes "end\n") tail,
-)
+stage_begins (stage.Records v n) ks lines tail records reached plain = stage_first (stage.Records v n) ks lines tail records v reached refl
+stage_begins (stage.End v n) ks lines tail records reached plain = stage_first (stage.End v n) ks lines tail records v reached refl
 
 pub begins_with : (held : Held TracesPlace) (text : List ℕ) (records : List Record) → StandForTraces held text records → BeginsWith (traces_version held) text
 begins_with held text records stands =
@@ -558,17 +494,11 @@ still_begins old text piece records v stands is =
     let begun = subst (λ (o : Option TracesVersion). BeginsWith o text) is (begins_with old text records stands) in
     (begun.0 ++ piece, ap (λ (t : List ℕ). t ++ piece) begun.1 ∙ append_assoc (traces_head v) begun.0 piece)
 
--- where a text that is not too long is refused, and its first line stands whole, its version is told
-pub told_at : (new : Held TracesPlace) (error : TraceError) (text : List ℕ) → IsShown (IsRefusedAt new.place.stage) error text → length text ≤ longest → error ≢ OutOfMemory → (v : TracesVersion) → BeginsWith (Some v) text → traces_version new ≡ Some v
-told_at new error text shown short other v begins =
+-- why a text that is not too long is refused
+refused_now : (at : TracesStage) (error : TraceError) (text : List ℕ) → IsShown (IsRefusedAt at) error text → length text ≤ longest → IsRefusedAt at error text
+refused_now at error text shown short =
     let same = append-nil text in
-    (subst (IsRefusedAt new.place.stage error) same (shown [] (subst (λ (t : List ℕ). length t ≤ longest) (sym same) short))).tells other v begins
-
--- where a text that is not too long is refused, a version that is told is that of its first line
-pub first_at : (new : Held TracesPlace) (error : TraceError) (text : List ℕ) → IsShown (IsRefusedAt new.place.stage) error text → length text ≤ longest → error ≢ OutOfMemory → (v : TracesVersion) → traces_version new ≡ Some v → BeginsWith (Some v) text
-first_at new error text shown short other v told =
-    let same = append-nil text in
-    (subst (IsRefusedAt new.place.stage error) same (shown [] (subst (λ (t : List ℕ). length t ≤ longest) (sym same) short))).first other v told
+    subst (IsRefusedAt at error) same (shown [] (subst (λ (t : List ℕ). length t ≤ longest) (sym same) short))
 
 memory_or_other : (error : TraceError) → (error ≡ OutOfMemory) ⊎ (error ≢ OutOfMemory)
 memory_or_other OutOfMemory = inl refl
@@ -578,27 +508,15 @@ memory_or_other TooLong = inr (λ same. cc)
 memory_or_other (TooManyProcesses k) = inr (λ same. cc)
 memory_or_other Version = inr (λ same. cc)
 
--- at a refusal a version that was told stays
-pub kept_refused : (old new : Held TracesPlace) (error : TraceError) (text piece : List ℕ) (records : List Record) (v : TracesVersion) → (error ≡ OutOfMemory → new ≡ old) → (longest < length (text ++ piece) → new.place ≡ old.place) → IsShown (IsRefusedAt new.place.stage) error (text ++ piece) → StandForTraces old text records → traces_version old ≡ Some v → traces_version new ≡ Some v
-kept_refused old new error text piece records v memory long shown stands is =
+-- at a refusal the version stays, or the text was not too long
+version_or_refused : (old new : Held TracesPlace) (error : TraceError) (text : List ℕ) → (error ≡ OutOfMemory → new ≡ old) → (longest < length text → new.place ≡ old.place) → IsShown (IsRefusedAt new.place.stage) error text → (traces_version new ≡ traces_version old) ⊎ ((error ≢ OutOfMemory) × IsRefusedAt new.place.stage error text)
+version_or_refused old new error text memory long shown =
     elim (memory_or_other error) [
-      | inl none ↦ ap traces_version (memory none) ∙ is
+      | inl none ↦ inl (ap traces_version (memory none))
       | inr other ↦
-          elim (cases_lt longest (length (text ++ piece))) [
-            | inl over ↦ ap (λ (p : TracesPlace). stage_version p.stage) (long over) ∙ is
-            | inr short ↦ told_at new error (text ++ piece) shown short other v (still_begins old text piece records v stands is)
-          ]
-    ]
-
--- at a refusal a version that is told is that of the first line
-pub first_refused : (old new : Held TracesPlace) (error : TraceError) (text piece : List ℕ) (records : List Record) (v : TracesVersion) → (error ≡ OutOfMemory → new ≡ old) → (longest < length (text ++ piece) → new.place ≡ old.place) → IsShown (IsRefusedAt new.place.stage) error (text ++ piece) → StandForTraces old text records → traces_version new ≡ Some v → BeginsWith (Some v) (text ++ piece)
-first_refused old new error text piece records v memory long shown stands told =
-    elim (memory_or_other error) [
-      | inl none ↦ still_begins old text piece records v stands (sym (ap traces_version (memory none)) ∙ told)
-      | inr other ↦
-          elim (cases_lt longest (length (text ++ piece))) [
-            | inl over ↦ still_begins old text piece records v stands (sym (ap (λ (p : TracesPlace). stage_version p.stage) (long over)) ∙ told)
-            | inr short ↦ first_at new error (text ++ piece) shown short other v told
+          elim (cases_lt longest (length text)) [
+            | inl over ↦ inl (ap (λ (p : TracesPlace). stage_version p.stage) (long over))
+            | inr short ↦ inr (other, refused_now new.place.stage error text shown short)
           ]
     ]
 
@@ -607,16 +525,22 @@ module _ {W : Type 0} (items : W → List Record) (old new : Held TracesPlace) (
   pub feed_kept : (result : Result W TraceError) → IfOk result (λ given. (text : List ℕ) (records : List Record) → StandForTraces old text records → StandForTraces new (text ++ piece) (records ++ items given)) → (result ≡ Err OutOfMemory → new ≡ old) → ((text : List ℕ) (records : List Record) → StandForTraces old text records → longest < length (text ++ piece) → (result ≡ Err TooLong) × (new.place ≡ old.place)) → IfErr result (λ error. (text : List ℕ) (records : List Record) → StandForTraces old text records → IsShown (IsRefusedAt new.place.stage) error (text ++ piece)) → (text : List ℕ) (records : List Record) (v : TracesVersion) → StandForTraces old text records → traces_version old ≡ Some v → traces_version new ≡ Some v
   feed_kept (Ok given) stands memory long shown text records v before is = version_kept old new text piece records (records ++ items given) v before (stands text records before) is
   feed_kept (Err error) stands memory long shown text records v before is =
-      kept_refused old new error text piece records v (λ none. memory (ap Err none)) (λ over. (long text records before over).1) (shown text records before) before is
+      elim (version_or_refused old new error (text ++ piece) (λ none. memory (ap Err none)) (λ over. (long text records before over).1) (shown text records before)) [
+        | inl same ↦ same ∙ is
+        | inr refused ↦ refused.1.tells refused.0 v (still_begins old text piece records v before is)
+      ]
 
   pub feed_first : (result : Result W TraceError) → IfOk result (λ given. (text : List ℕ) (records : List Record) → StandForTraces old text records → StandForTraces new (text ++ piece) (records ++ items given)) → (result ≡ Err OutOfMemory → new ≡ old) → ((text : List ℕ) (records : List Record) → StandForTraces old text records → longest < length (text ++ piece) → (result ≡ Err TooLong) × (new.place ≡ old.place)) → IfErr result (λ error. (text : List ℕ) (records : List Record) → StandForTraces old text records → IsShown (IsRefusedAt new.place.stage) error (text ++ piece)) → (text : List ℕ) (records : List Record) (v : TracesVersion) → StandForTraces old text records → traces_version new ≡ Some v → BeginsWith (Some v) (text ++ piece)
   feed_first (Ok given) stands memory long shown text records v before told =
       subst (λ (o : Option TracesVersion). BeginsWith o (text ++ piece)) told (begins_with new (text ++ piece) (records ++ items given) (stands text records before))
   feed_first (Err error) stands memory long shown text records v before told =
-      first_refused old new error text piece records v (λ none. memory (ap Err none)) (λ over. (long text records before over).1) (shown text records before) before told
+      elim (version_or_refused old new error (text ++ piece) (λ none. memory (ap Err none)) (λ over. (long text records before over).1) (shown text records before)) [
+        | inl same ↦ still_begins old text piece records v before (sym same ∙ told)
+        | inr refused ↦ refused.1.first refused.0 v told
+      ]
 
   pub feed_told : (error : TraceError) → ((text : List ℕ) (records : List Record) → StandForTraces old text records → IsShown (IsRefusedAt new.place.stage) error (text ++ piece)) → error ≢ OutOfMemory → (text : List ℕ) (records : List Record) (v : TracesVersion) → StandForTraces old text records → length (text ++ piece) ≤ longest → BeginsWith (Some v) (text ++ piece) → traces_version new ≡ Some v
-  feed_told error shown other text records v before short begins = told_at new error (text ++ piece) (shown text records before) short other v begins
+  feed_told error shown other text records v before short begins = (refused_now new.place.stage error (text ++ piece) (shown text records before) short).tells other v begins
 
 -- the text of a reader ends
 

@@ -1,18 +1,14 @@
 -- The lines of traces and of interleaved traces, and that a line is read to its end.
-use Rattle.std.proofs.Common.{◌≡◌, ◌≢◌, ℕ, ◌<◌, ◌^◌, List, [], ◌∷◌, ◌++◌, length, get_or, decimal, refl, sym, subst, append_assoc, arith}
-use Rattle.std.specs.Prelude.{codes, Result, Ok, Err}
+use Rattle.std.proofs.Common.{◌≡◌, ◌≢◌, ℕ, ◌<◌, ◌^◌, List, [], ◌∷◌, ◌++◌, length, get_or, decimal, refl, sym, append_assoc, arith}
+use Rattle.std.specs.Prelude.{codes}
 use Rattle.std.specs.Str.Parse.{AllDigits}
 use Rattle.std.proofs.lemmas.Fmt.{digits_decimal, decimal_nonempty}
 use Rattle.std.proofs.lemmas.Str.Parse.{digit_from_value}
 use Rattle.dm_base.specs.declared.event.Event.{Event}
 use Rattle.dm_base.specs.declared.outcome.TraceEnd.{TraceEnd}
 use Rattle.dm_base.specs.declared.outcome.TraceEnd.TheVariants.{Open, Ended}
-use Rattle.line_text.specs.declared.miss.Miss.{Miss}
-use Rattle.line_text.specs.declared.miss.Miss.TheVariants.{OutOfMemory, Short, Wrong}
-use Rattle.line_text.specs.OneLine.{IsLine}
-use Rattle.line_text.specs.Reading.{Agree, StandsFirst, IsCutShort, Reads}
+use Rattle.line_text.specs.Reading.{Agree, IsCutShort}
 use Rattle.dm_base.proofs.Decimals.{own}
-use Rattle.line_text.proofs.FilesLemmas.{ends_line}
 use Rattle.line_text.proofs.Splits.{IsCase}
 use Rattle.trace_file.specs.declared.lines.TraceLine.{TraceLine}
 use Rattle.trace_file.specs.declared.lines.TraceLine.TheVariants as trace
@@ -76,16 +72,6 @@ pub no_traces_line_left : (old : List ℕ) → length old < 1 → IsCutShort IsT
 no_traces_line_left old none = cut_at_start IsTracesLine traces_line old (omega arith) traces.End tt (λ is. cc)
 
 -- whole lines
-
--- where each text ends with its line feed, nothing of a line is left after it
-pub whole_line : {V : Type 0} (Fits : V → Type 0) (text : V → List ℕ) (line new : List ℕ) → ((v : V) → (front : List ℕ) × (text v ≡ front ++ 10 ∷ [])) → IsLine line → (r : Result V Miss) → Reads Fits text line new r → Reads Fits text line [] r
-whole_line {V} Fits text line new ended first (Ok v) reads =
-    let front = ended v in
-    let none : new ≡ [] = ends_line (text v) front.0 first.0 line new (line ++ first.0) front.1 reads.stands first.1 in
-    subst (λ (w : List ℕ). StandsFirst Fits text line w v) none reads
-whole_line Fits text line new ended first (Err OutOfMemory) reads = tt
-whole_line Fits text line new ended first (Err Short) reads = reads
-whole_line Fits text line new ended first (Err Wrong) reads = reads
 
 pub trace_line_ends : (line : TraceLine) → (front : List ℕ) × (trace_line line ≡ front ++ 10 ∷ [])
 trace_line_ends (trace.Event e) = (event_text e, refl)
