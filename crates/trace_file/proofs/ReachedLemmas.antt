@@ -3,8 +3,11 @@ use Rattle.std.proofs.Common.{◌≡◌, ◌≢◌, ◌≤◌, ℕ, ◌+◌, Lis
 use Rattle.std.proofs.lemmas.List.{append-nil}
 use Rattle.line_text.specs.Files.{IsFirstLine, IsBadLine, IsProperPrefix}
 use Rattle.line_text.specs.OneLine.{IsLine}
+use Rattle.line_text.specs.Reading.{StandsFirst, Reads}
+use Rattle.line_text.specs.declared.miss.Miss.TheVariants.{Wrong}
+use Rattle.std.specs.Prelude.{Err}
 use Rattle.line_text.specs.Files.IsFirstLine.{ended, unended}
-use Rattle.line_text.proofs.FilesLemmas.{HasRead, bad_line, first_line_whole, proper_prefix, one_more}
+use Rattle.line_text.proofs.FilesLemmas.{GoesOn, HasRead, bad_line, first_line_whole, proper_prefix, one_more, wrong_line, after_line, before_line}
 use Rattle.trace_file.specs.Pieces.{IsWhole}
 use Rattle.trace_file.specs.Reached.{IsReached}
 use Rattle.trace_file.specs.Trace.{longest}
@@ -58,6 +61,26 @@ module _ (Formed TooMuch Other Follow FollowTooMuch : List ℕ → Type 0) (k : 
         too_much = λ rest has. much rest (here.too_much (line ++ rest) (subst TooMuch (append_assoc lines line rest) has));
         own = λ rest has. here.own (line ++ rest) (subst Other (append_assoc lines line rest) has);
       }
+
+  module _ {V : Type 0} (Fits : V → Type 0) (text : V → List ℕ) (After AfterMuch : V → List ℕ → Type 0) (split : (t : List ℕ) → Follow t → GoesOn Fits text After t) (split_much : (t : List ℕ) → FollowTooMuch t → GoesOn Fits text AfterMuch t) where
+    -- the line of a value is read
+    pub line_read : (LaterMuch : List ℕ → Type 0) (line : List ℕ) (v : V) → ((t : List ℕ) → GoesOn Fits text After t → Follow t) → IsWhole line → StandsFirst Fits text line [] v → (w : List ℕ) × After v w → ((w : List ℕ) → AfterMuch v w → LaterMuch w) → IsReached Formed TooMuch Other (After v) LaterMuch (k + 1) (lines ++ line)
+    line_read LaterMuch line v joined whole first some much =
+        line_next (After v) LaterMuch line whole (λ w on. after_line Fits text After line v first w (split (line ++ w) on)) (λ w on. joined (line ++ w) (before_line Fits text After line v first w on)) some
+        (λ w has. much w (after_line Fits text AfterMuch line v first w (split_much (line ++ w) has)))
+
+    -- no value's line stands there
+    none_next : (line : List ℕ) → Reads Fits text line [] (Err Wrong) → ((w : List ℕ) → Follow (line ++ w) → ⊥) × ((w : List ℕ) → FollowTooMuch (line ++ w) → ⊥)
+    none_next line wrong = (
+      (λ w on. wrong_line Fits text After line [] wrong w (split (line ++ w) on)),
+      (λ w has. wrong_line Fits text AfterMuch line [] wrong w (split_much (line ++ w) has)),
+    )
+
+    pub wrong_shown : (j : ℕ) (line : List ℕ) → j ≡ k + 1 → IsWhole line → Reads Fits text line [] (Err Wrong) → (more : List ℕ) → length ((lines ++ line) ++ more) ≤ longest → IsBadAt Formed TooMuch Other j ((lines ++ line) ++ more)
+    wrong_shown j line number whole wrong = bad_shown j line number whole (none_next line wrong).0 (none_next line wrong).1
+
+    pub wrong_ends : (j : ℕ) (tail : List ℕ) → j ≡ k + 1 → length (lines ++ tail) ≤ longest → (Contains tail 10 → ⊥) → Reads Fits text tail [] (Err Wrong) → IsBadAt Formed TooMuch Other j (lines ++ tail)
+    wrong_ends j tail number short plain wrong = bad_next j tail tail [] number short (unfinished_first tail plain) (none_next tail wrong).0 (none_next tail wrong).1
 
 -- what a line's reader asks of it
 pub whole_is_line : (line : List ℕ) → IsWhole line → IsLine line

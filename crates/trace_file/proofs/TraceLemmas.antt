@@ -30,7 +30,7 @@ use Rattle.trace_file.specs.TraceReading.{ReachesTrace, AreEventsAndEnd, BeginsT
 use Rattle.trace_file.specs.Refusals.{HasRoom, IsLineRefusal, IsHeadRefusal}
 use Rattle.trace_file.proofs.HeadLemmas.{no_other, other_version, bad_head}
 use Rattle.trace_file.proofs.Parts.{no_feed_within}
-use Rattle.trace_file.proofs.ReachedLemmas.{whole_first, whole_some, unfinished_first, bad_next, bad_shown, prefix_next, line_next}
+use Rattle.trace_file.proofs.ReachedLemmas.{whole_first, whole_some, unfinished_first, bad_next, bad_shown, prefix_next, line_read, wrong_shown, wrong_ends}
 use Rattle.line_text.proofs.FirstLines.{nil_front, line_alone}
 
 -- the first line
@@ -153,11 +153,8 @@ event_read n lines line events event read whole few first =
       written = All-push IsWritten events event read.written first.fits;
       is = ap (λ (t : List ℕ). t ++ line) read.is ∙ append_assoc trace_head (flat_map event_line events) line
           ∙ ap (λ (t : List ℕ). trace_head ++ t) (ap (λ (t : List ℕ). flat_map event_line events ++ t) (same ∙ sym (append-nil (event_line event))) ∙ sym (flat_map-append event_line events (event ∷ [])));
-      reached = line_next IsFormedTrace HasTooManyEvents HasOtherTraceVersion AreEventsAndEnd (BeginsTooManyEvents n) (n + 1) lines read.reached AreEventsAndEnd (BeginsTooManyEvents (n + 1)) line whole
-          (λ w on. after_line IsTraceLine trace_line FollowsLine line (trace.Event event) first w (events_split (line ++ w) on))
-          (λ w on. events_joined (line ++ w) (before_line IsTraceLine trace_line FollowsLine line (trace.Event event) first w on))
-          (end_line Open, empty_end)
-          (λ w much. after_line IsTraceLine trace_line (FollowsLineTooMany n) line (trace.Event event) first w (too_many_split n (line ++ w) (omega (arith, few)) much));
+      reached = line_read IsFormedTrace HasTooManyEvents HasOtherTraceVersion AreEventsAndEnd (BeginsTooManyEvents n) (n + 1) lines read.reached IsTraceLine trace_line FollowsLine (FollowsLineTooMany n) events_split (λ t. too_many_split n t (omega (arith, few)))
+          (BeginsTooManyEvents (n + 1)) line (trace.Event event) events_joined whole first (end_line Open, empty_end) (λ w much. much);
     }
 
 -- the end line was read
@@ -170,20 +167,10 @@ end_read n lines line events end read whole first =
       few = read.few;
       trace = record { written = read.written; right = first.fits; is = ap (λ (t : List ℕ). t ++ line) read.is ∙ ap (λ (t : List ℕ). trace_head ++ flat_map event_line events ++ t) same };
       reached = subst (λ (k : ℕ). IsReached IsFormedTrace HasTooManyEvents HasOtherTraceVersion (λ rest. rest ≡ []) (λ rest. ⊥) k (lines ++ line)) (omega arith)
-          (line_next IsFormedTrace HasTooManyEvents HasOtherTraceVersion AreEventsAndEnd (BeginsTooManyEvents n) (n + 1) lines read.reached (λ rest. rest ≡ []) (λ rest. ⊥) line whole
-          (λ w on. after_line IsTraceLine trace_line FollowsLine line (trace.End end) first w (events_split (line ++ w) on))
-          (λ w on. events_joined (line ++ w) (before_line IsTraceLine trace_line FollowsLine line (trace.End end) first w on))
-          ([], refl)
-          (λ w much. after_line IsTraceLine trace_line (FollowsLineTooMany n) line (trace.End end) first w (too_many_split n (line ++ w) few much)));
+          (line_read IsFormedTrace HasTooManyEvents HasOtherTraceVersion AreEventsAndEnd (BeginsTooManyEvents n) (n + 1) lines read.reached IsTraceLine trace_line FollowsLine (FollowsLineTooMany n) events_split (λ t. too_many_split n t few) (λ rest. ⊥) line (trace.End end) events_joined whole first ([], refl) (λ w much. much));
     }
 
 -- why a line is refused
-
--- nothing goes on from a wrong line
-wrong_next : (n : ℕ) (lines line : List ℕ) (events : List Event) → AreEventsRead n lines events → Reads IsTraceLine trace_line line [] (Err Wrong) → ((w : List ℕ) → AreEventsAndEnd (line ++ w) → ⊥) × ((w : List ℕ) → BeginsTooManyEvents n (line ++ w) → ⊥)
-wrong_next n lines line events read wrong =
-    let few : n ≤ most = let count = read.count in let le = read.few in omega (arith, count, le) in
-    ((λ w on. wrong_line IsTraceLine trace_line FollowsLine line [] wrong w (events_split (line ++ w) on)), (λ w much. wrong_line IsTraceLine trace_line (FollowsLineTooMany n) line [] wrong w (too_many_split n (line ++ w) few much)))
 
 -- one event too many
 pub too_many_shown : (n : ℕ) (lines line : List ℕ) (events : List Event) (event : Event) → AreEventsRead n lines events → most ≤ n → StandsFirst IsTraceLine trace_line line [] (trace.Event event) → IsShown IsTraceRefusal TooLong (lines ++ line)
@@ -217,8 +204,8 @@ head_shown error line whole refused more short =
 pub line_shown : (n : ℕ) (error : TraceError) (lines line : List ℕ) (events : List Event) → AreEventsRead n lines events → IsWhole line → IsLineRefusal n error line → IsShown IsTraceRefusal error (lines ++ line)
 line_shown n OutOfMemory lines line events read whole refused = λ more short. tt
 line_shown n (BadLine k) lines line events read whole refused =
-    let none = wrong_next n lines line events read refused.1 in
-    bad_shown IsFormedTrace HasTooManyEvents HasOtherTraceVersion AreEventsAndEnd (BeginsTooManyEvents n) (n + 1) lines read.reached k line (omega (arith, refused.0)) whole none.0 none.1
+    let few : n ≤ most = let count = read.count in let le = read.few in omega (arith, count, le) in
+    wrong_shown IsFormedTrace HasTooManyEvents HasOtherTraceVersion AreEventsAndEnd (BeginsTooManyEvents n) (n + 1) lines read.reached IsTraceLine trace_line FollowsLine (FollowsLineTooMany n) events_split (λ t. too_many_split n t few) k line (omega (arith, refused.0)) whole refused.1
 line_shown n NoEnd lines line events read whole cut = λ more short. absurd (ended_not_short IsTraceLine trace_line line whole.front whole.ends cut)
 line_shown n TooLong lines line events read whole refused = too_many_shown n lines line events refused.0 read refused.1 refused.2
 line_shown n error lines line events read whole refused = λ more short. absurd refused
@@ -244,8 +231,8 @@ head_ends error tail plain short refused = head_refused error tail tail [] short
 pub line_ends : (n : ℕ) (error : TraceError) (lines tail : List ℕ) (events : List Event) → AreEventsRead n lines events → (Contains tail 10 → ⊥) → length (lines ++ tail) ≤ longest → IsLineRefusal n error tail → IsTraceRefusal error (lines ++ tail)
 line_ends n OutOfMemory lines tail events read plain short refused = tt
 line_ends n (BadLine k) lines tail events read plain short refused =
-    let none = wrong_next n lines tail events read refused.1 in
-    bad_next IsFormedTrace HasTooManyEvents HasOtherTraceVersion AreEventsAndEnd (BeginsTooManyEvents n) (n + 1) lines read.reached k tail tail [] (omega (arith, refused.0)) short (unfinished_first tail plain) none.0 none.1
+    let few : n ≤ most = let count = read.count in let le = read.few in omega (arith, count, le) in
+    wrong_ends IsFormedTrace HasTooManyEvents HasOtherTraceVersion AreEventsAndEnd (BeginsTooManyEvents n) (n + 1) lines read.reached IsTraceLine trace_line FollowsLine (FollowsLineTooMany n) events_split (λ t. too_many_split n t few) k tail (omega (arith, refused.0)) short plain refused.1
 line_ends n NoEnd lines tail events read plain short cut =
     let few : n ≤ most = let count = read.count in let le = read.few in omega (arith, count, le) in
     let more = short_line IsTraceLine trace_line FollowsLine tail may_follow cut in

@@ -38,7 +38,7 @@ use Rattle.trace_file.specs.Refusals.{EndsIn, HasRecordRoom, IsTracesHeadRefusal
 use Rattle.trace_file.proofs.HeadLemmas.{no_other, other_version, bad_head}
 use Rattle.trace_file.proofs.Parts.{no_feed_within}
 use Rattle.trace_file.proofs.ProcessesLemmas.{known_length, made_push}
-use Rattle.trace_file.proofs.ReachedLemmas.{whole_first, whole_some, unfinished_first, bad_next, bad_shown, prefix_next, line_next}
+use Rattle.trace_file.proofs.ReachedLemmas.{whole_first, whole_some, unfinished_first, bad_next, bad_shown, prefix_next, line_read, wrong_shown, wrong_ends}
 use Rattle.line_text.proofs.FirstLines.{nil_front, line_alone}
 
 -- the first line
@@ -228,11 +228,9 @@ record_read v n lines line records r read whole few known first =
       known = known;
       written = All-push IsWrittenRecord records r read.written first.fits;
       is = records_more v lines line records r read.is same;
-      reached = line_next AreFormedTraces HasTooMuch HasOtherTracesVersion AreRecordsAndEnd (BeginsTooMuch v records) (n + 1) lines read.reached AreRecordsAndEnd (BeginsTooMuch v (records ++ r ∷ [])) line whole
-          (λ w on. after_line IsTracesLine traces_line FollowsRecord line (traces.Record r) first w (records_split (line ++ w) on))
-          (λ w on. records_joined (line ++ w) (before_line IsTracesLine traces_line FollowsRecord line (traces.Record r) first w on))
-          (codes "end\n", no_records_end)
-          (λ w much. elim (after_line IsTracesLine traces_line (FollowsTooMuch v records) line (traces.Record r) first w (too_much_split v records (line ++ w) much)) [
+      reached = line_read AreFormedTraces HasTooMuch HasOtherTracesVersion AreRecordsAndEnd (BeginsTooMuch v records) (n + 1) lines read.reached IsTracesLine traces_line FollowsRecord (FollowsTooMuch v records) records_split (too_much_split v records)
+          (BeginsTooMuch v (records ++ r ∷ [])) line (traces.Record r) records_joined whole first (codes "end\n", no_records_end)
+          (λ w much. elim much [
             | inl here ↦ absurd (not_passed v records r (subst (λ (k : ℕ). k < most) read.count few) known here)
             | inr later ↦ later
           ]);
@@ -248,21 +246,10 @@ end_read v n lines line records read whole first =
       known = read.known;
       traces = record { written = read.written; is = ap (λ (t : List ℕ). t ++ line) read.is ∙ ap (λ (t : List ℕ). records_text v records ++ t) same };
       reached = subst (λ (k : ℕ). IsReached AreFormedTraces HasTooMuch HasOtherTracesVersion (λ rest. rest ≡ []) (λ rest. ⊥) k (lines ++ line)) (omega arith)
-          (line_next AreFormedTraces HasTooMuch HasOtherTracesVersion AreRecordsAndEnd (BeginsTooMuch v records) (n + 1) lines read.reached (λ rest. rest ≡ []) (λ rest. ⊥) line whole
-          (λ w on. after_line IsTracesLine traces_line FollowsRecord line traces.End first w (records_split (line ++ w) on))
-          (λ w on. records_joined (line ++ w) (before_line IsTracesLine traces_line FollowsRecord line traces.End first w on))
-          ([], refl)
-          (λ w much. after_line IsTracesLine traces_line (FollowsTooMuch v records) line traces.End first w (too_much_split v records (line ++ w) much)));
+          (line_read AreFormedTraces HasTooMuch HasOtherTracesVersion AreRecordsAndEnd (BeginsTooMuch v records) (n + 1) lines read.reached IsTracesLine traces_line FollowsRecord (FollowsTooMuch v records) records_split (too_much_split v records) (λ rest. ⊥) line traces.End records_joined whole first ([], refl) (λ w much. much));
     }
 
 -- why a line is refused
-
--- nothing goes on from a wrong line
-wrong_next : (v : TracesVersion) (records : List Record) (line : List ℕ) → Reads IsTracesLine traces_line line [] (Err Wrong) → ((w : List ℕ) → AreRecordsAndEnd (line ++ w) → ⊥) × ((w : List ℕ) → BeginsTooMuch v records (line ++ w) → ⊥)
-wrong_next v records line wrong = (
-  (λ w on. wrong_line IsTracesLine traces_line FollowsRecord line [] wrong w (records_split (line ++ w) on)),
-  (λ w much. wrong_line IsTracesLine traces_line (FollowsTooMuch v records) line [] wrong w (too_much_split v records (line ++ w) much)),
-)
 
 -- the lines of the records and of one more stand first
 passes_limit : (v : TracesVersion) (n : ℕ) (lines line more : List ℕ) (records : List Record) (r : Record) → AreRecordsRead v n lines records → StandsFirst IsTracesLine traces_line line [] (traces.Record r) → PassesALimit (lines ++ line ++ more) v records r
@@ -302,8 +289,7 @@ head_shown error line whole refused more short =
 pub line_shown : (v : TracesVersion) (n : ℕ) (error : TraceError) (lines line : List ℕ) (records : List Record) → AreRecordsRead v n lines records → IsWhole line → IsRecordRefusal n error line → IsShown IsTracesRefusal error (lines ++ line)
 line_shown v n OutOfMemory lines line records read whole refused = λ more short. tt
 line_shown v n (BadLine k) lines line records read whole refused =
-    let none = wrong_next v records line refused.1 in
-    bad_shown AreFormedTraces HasTooMuch HasOtherTracesVersion AreRecordsAndEnd (BeginsTooMuch v records) (n + 1) lines read.reached k line (omega (arith, refused.0)) whole none.0 none.1
+    wrong_shown AreFormedTraces HasTooMuch HasOtherTracesVersion AreRecordsAndEnd (BeginsTooMuch v records) (n + 1) lines read.reached IsTracesLine traces_line FollowsRecord (FollowsTooMuch v records) records_split (too_much_split v records) k line (omega (arith, refused.0)) whole refused.1
 line_shown v n NoEnd lines line records read whole cut = λ more short. absurd (ended_not_short IsTracesLine traces_line line whole.front whole.ends cut)
 line_shown v n TooLong lines line records read whole refused = too_many_shown v n lines line records refused.0 read refused.1 refused.2
 line_shown v n error lines line records read whole refused = λ more short. absurd refused
@@ -330,8 +316,7 @@ head_ends error tail plain short refused = head_refused error tail tail [] short
 pub line_ends : (v : TracesVersion) (n : ℕ) (error : TraceError) (lines tail : List ℕ) (records : List Record) → AreRecordsRead v n lines records → (Contains tail 10 → ⊥) → length (lines ++ tail) ≤ longest → IsRecordRefusal n error tail → IsTracesRefusal error (lines ++ tail)
 line_ends v n OutOfMemory lines tail records read plain short refused = tt
 line_ends v n (BadLine k) lines tail records read plain short refused =
-    let none = wrong_next v records tail refused.1 in
-    bad_next AreFormedTraces HasTooMuch HasOtherTracesVersion AreRecordsAndEnd (BeginsTooMuch v records) (n + 1) lines read.reached k tail tail [] (omega (arith, refused.0)) short (unfinished_first tail plain) none.0 none.1
+    wrong_ends AreFormedTraces HasTooMuch HasOtherTracesVersion AreRecordsAndEnd (BeginsTooMuch v records) (n + 1) lines read.reached IsTracesLine traces_line FollowsRecord (FollowsTooMuch v records) records_split (too_much_split v records) k tail (omega (arith, refused.0)) short plain refused.1
 line_ends v n NoEnd lines tail records read plain short cut =
     let more = short_line IsTracesLine traces_line FollowsRecord tail may_follow cut in
     let prefix = prefix_next AreFormedTraces HasTooMuch HasOtherTracesVersion AreRecordsAndEnd (BeginsTooMuch v records) (n + 1) lines read.reached tail (more.0, more.1, records_joined (tail ++ more.0) more.2)
