@@ -4,7 +4,7 @@ use Rattle.std.specs.Prelude.{flat_map, codes, Err}
 use Rattle.std.specs.List.{AllZip}
 use Rattle.dm_base.specs.declared.event.Arg.{Arg}
 use Rattle.dm_base.specs.declared.event.Event.{Event}
-use Rattle.dm_base.specs.declared.event.Event.TheVariants.{Sys, Pre, Post}
+use Rattle.dm_base.specs.declared.event.Event.TheVariants.{Sys}
 use Rattle.line_text.specs.declared.miss.Miss.{Miss}
 use Rattle.line_text.specs.Reading.{StandsFirst, Reads}
 use Rattle.line_text.proofs.Splits.{IsSplit, err_first, err_next, ok_both}

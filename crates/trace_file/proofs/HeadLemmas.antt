@@ -1,11 +1,11 @@
 -- The first line of a file, which may be unfinished, and another version's.
-use Rattle.std.proofs.Common.{◌≡◌, ◌≢◌, ◌≤◌, ◌<◌, ◌^◌, ℕ, ◌+◌, List, [], ◌∷◌, ◌++◌, length, Contains, decimal, refl, sym, ◌∙◌, ap, subst, inl, inr, append_assoc, arith}
+use Rattle.std.proofs.Common.{◌≡◌, ◌≤◌, ◌<◌, ◌^◌, ℕ, List, [], ◌∷◌, ◌++◌, length, Contains, decimal, refl, sym, ◌∙◌, ap, subst, inl, inr, append_assoc, arith}
 use Rattle.std.specs.Prelude.{◌⊎◌}
 use Rattle.std.proofs.lemmas.List.{append-nil, append_cancel_left, append_cancel_right}
 use Rattle.std.proofs.lemmas.List.Elements.{Contains-append_right}
 use Rattle.std.proofs.lemmas.Fmt.{decimal_injective}
 use Rattle.line_text.specs.Files.{IsBadLine, IsVersionLine, IsFirstLine, HasOtherVersion}
-use Rattle.line_text.specs.Files.IsFirstLine.{ended, unended}
+use Rattle.line_text.specs.Files.IsFirstLine.{ended}
 use Rattle.line_text.specs.Reading.{Agree}
 use Rattle.line_text.proofs.FilesLemmas.{bad_line, nothing_read, first_line_whole}
 use Rattle.line_text.proofs.FirstLines.{line_alone}

@@ -1,33 +1,30 @@
 -- A text is that of one trace, or of one list of records, and then it isn't refused.
-use Rattle.std.proofs.Common.{◌≡◌, ◌≢◌, ◌≤◌, ◌<◌, ℕ, zero, suc, ◌+◌, Bool, true, false, cond, nat_eq, List, [], ◌∷◌, ◌++◌, length, All, refl, sym, ◌∙◌, ap, subst, inl, inr, append_assoc, arith, length-append}
-use Rattle.std.specs.Prelude.{◌⊎◌, if◌then◌else◌, codes, flat_map}
+use Rattle.std.proofs.Common.{◌≡◌, ◌≤◌, ◌<◌, ℕ, ◌+◌, Bool, true, false, cond, List, [], ◌∷◌, ◌++◌, length, All, refl, sym, ◌∙◌, ap, subst, inl, inr, append_assoc, arith, length-append}
+use Rattle.std.specs.Prelude.{codes, flat_map}
 use Rattle.std.specs.Cmp.{nat_cmp_total}
-use Rattle.std.specs.FinSet.{from_list, len, contains, insert, len-insert, from_list_push, nat_cmp-IsAntisymmetric}
+use Rattle.std.specs.FinSet.{from_list, len, contains, len-insert, from_list_push, nat_cmp-IsAntisymmetric}
 use Rattle.std.specs.Ordering.{nat_cmp}
 use Rattle.std.proofs.lemmas.List.{append-nil, append_cancel_left}
 use Rattle.std.proofs.lemmas.List.Concat.{flat_map-append}
 use Rattle.std.proofs.lemmas.List.Elements.{All-head, All-tail}
 use Rattle.dm_base.specs.declared.event.Event.{Event}
 use Rattle.dm_base.specs.declared.outcome.TraceEnd.{TraceEnd}
-use Rattle.line_text.specs.Files.{through, IsBadLine}
+use Rattle.line_text.specs.Files.{IsBadLine}
 use Rattle.line_text.specs.Reading.{Agree}
 use Rattle.line_text.proofs.Cases.{one_free}
 use Rattle.line_text.proofs.FirstLines.{through_begins}
 use Rattle.line_text.proofs.Splits.{prefixes_agree}
 use Rattle.trace_file.specs.declared.error.TraceError.{TraceError}
 use Rattle.trace_file.specs.declared.error.TraceError.TheVariants.{OutOfMemory, BadLine, NoEnd, TooLong, TooManyProcesses, Version}
-use Rattle.trace_file.specs.declared.lines.TraceLine.{TraceLine}
 use Rattle.trace_file.specs.declared.lines.TraceLine.TheVariants as trace
-use Rattle.trace_file.specs.declared.lines.TracesLine.{TracesLine}
 use Rattle.trace_file.specs.declared.lines.TracesLine.TheVariants as traces
 use Rattle.trace_file.specs.declared.record.Record.{Record}
 use Rattle.trace_file.specs.declared.version.TracesVersion.{TracesVersion}
 use Rattle.trace_file.specs.EventText.{IsWritten, IsRightEnd}
 use Rattle.trace_file.specs.Known.{made_known, known_count}
 use Rattle.trace_file.specs.Lines.{event_line, end_line, record_line, IsWrittenRecord}
-use Rattle.trace_file.specs.LineParts.{trace_line, traces_line}
 use Rattle.trace_file.specs.Trace.{trace_head, IsTrace, IsFormedTrace, IsTraceWithin, HasOtherTraceVersion, IsTraceRefusal}
-use Rattle.trace_file.specs.Traces.{most_processes, traces_head, records_text, AreTraces, AreFormedTraces, AreTracesWithin, PassesALimit, HasOtherTracesVersion, IsTracesRefusal}
+use Rattle.trace_file.specs.Traces.{most_processes, traces_head, AreTraces, AreFormedTraces, AreTracesWithin, PassesALimit, HasOtherTracesVersion, IsTracesRefusal}
 use Rattle.trace_file.proofs.PrefixFree.{IsPrefixFree, event_free, end_free, record_free, trace_line_free, traces_line_free}
 use Rattle.trace_file.proofs.TraceLemmas.{head_reached}
 use Rattle.trace_file.proofs.TracesLemmas as many

@@ -1,14 +1,14 @@
 -- How readers of parts are put together.
-use Rattle.std.proofs.Common.{◌≡◌, ◌≢◌, ℕ, zero, suc, ◌<◌, true, not, nat_eq, List, [], ◌∷◌, ◌++◌, length, get_or, refl, sym, ◌∙◌, ap, arith}
+use Rattle.std.proofs.Common.{◌≡◌, ℕ, zero, suc, true, not, nat_eq, List, [], ◌∷◌, ◌++◌, refl, sym, ◌∙◌, ap, arith}
 use Rattle.std.specs.Prelude.{Contains, Result, Ok, Err}
 use Rattle.std.specs.Result.{IsErrAnd}
 use Rattle.std.proofs.lemmas.Result.{err_from_is_err_and}
 use Rattle.std.proofs.lemmas.Bool.{and_parts, true≢false}
 use Rattle.line_text.specs.declared.miss.Miss.{Miss}
 use Rattle.line_text.specs.declared.miss.Miss.TheVariants.{OutOfMemory, Short, Wrong}
-use Rattle.line_text.specs.Reading.{Agree, StandsFirst, IsCutShort, Reads}
+use Rattle.line_text.specs.Reading.{StandsFirst, Reads}
 use Rattle.line_text.specs.Words.{is_in_line}
-use Rattle.line_text.proofs.Splits.{IsSplit, IsCase, err_next, ok_both, err_case, ok_case, nothing_left, agree_head}
+use Rattle.line_text.proofs.Splits.{IsSplit, IsCase, err_next, ok_both, err_case}
 use Rattle.trace_file.specs.LineParts.{has_no_feed}
 pub use Rattle.line_text.proofs.Cases.{first_agrees, cut_at_start, read_case}
 

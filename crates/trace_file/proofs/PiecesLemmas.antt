@@ -5,7 +5,6 @@ use Rattle.std.proofs.lemmas.List.Elements.{Contains-append_cases}
 use Rattle.trace_file.specs.declared.error.TraceError.{TraceError}
 use Rattle.trace_file.specs.Trace.{longest}
 use Rattle.trace_file.specs.Pieces.{IsWhole, IsCut, IsShown, Takes, Shows, HasTaken}
-use Rattle.trace_file.specs.Held.{Held, StandsFor}
 
 -- what is shown stays shown
 pub shown_on : (IsRefusal : TraceError → List ℕ → Type 0) (error : TraceError) (text more : List ℕ) → IsShown IsRefusal error text → IsShown IsRefusal error (text ++ more)

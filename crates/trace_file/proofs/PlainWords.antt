@@ -1,5 +1,5 @@
 -- Words of a line that have no line feed.
-use Rattle.std.proofs.Common.{◌≡◌, ℕ, ◌<◌, ◌^◌, ℤ, pos, negsuc, List, [], ◌∷◌, ◌++◌, length, decimal, refl, inl, inr, arith}
+use Rattle.std.proofs.Common.{ℕ, ◌<◌, ◌^◌, ℤ, pos, negsuc, List, [], ◌∷◌, ◌++◌, decimal, refl, inl, inr, arith}
 use Rattle.std.specs.Prelude.{Contains, FitsSigned, flat_map}
 use Rattle.std.specs.Int.{FitsUnsigned, w32, w64}
 use Rattle.std.specs.List.{AllZip}

@@ -1,7 +1,7 @@
 -- No line begins another: the lines of traces, and of interleaved traces, are prefix-free.
-use Rattle.std.proofs.Common.{◌≡◌, ◌≢◌, ℕ, ◌<◌, ◌≤◌, ◌^◌, ℤ, List, [], ◌∷◌, ◌++◌, length, get_or, decimal, refl, sym, ◌∙◌, ap, subst, inl, inr, append_assoc, arith, length-append}
-use Rattle.std.specs.Prelude.{◌⊎◌, FitsSigned, codes, flat_map}
-use Rattle.std.specs.Int.{w32, w64, FitsUnsigned}
+use Rattle.std.proofs.Common.{◌≡◌, ◌≢◌, ℕ, ◌<◌, ◌≤◌, ◌^◌, List, [], ◌∷◌, ◌++◌, length, get_or, decimal, refl, sym, ◌∙◌, ap, subst, inl, inr, arith, length-append}
+use Rattle.std.specs.Prelude.{FitsSigned, codes}
+use Rattle.std.specs.Int.{w32, w64}
 use Rattle.std.specs.List.{AllZip}
 use Rattle.std.specs.Fmt.{signed_decimal}
 use Rattle.std.proofs.lemmas.Fmt.{decimal_injective}
@@ -19,16 +19,14 @@ use Rattle.line_text.specs.Words.{IsEnd, IsPlain, number_word, integer_word, byt
 use Rattle.line_text.proofs.HexadecimalLemmas.{bytes-IsPlain, bytes-injective}
 use Rattle.line_text.proofs.IntegerLemmas.{signed-IsPlain, signed_injective}
 use Rattle.line_text.proofs.NumberLemmas.{decimal-IsPlain}
-use Rattle.line_text.proofs.Splits.{IsSplit, IsCase, prefixes_agree, agree_front, agree_next}
+use Rattle.line_text.proofs.Splits.{IsSplit, IsCase, agree_front, agree_next}
 use Rattle.line_text.proofs.WordLemmas.{word_stands}
 use Rattle.sys_table.specs.declared.kinds.ArgKind.{ArgKind}
 use Rattle.sys_table.specs.declared.kinds.ArgKind.TheVariants.{Signed, Unsigned, Bytes}
 use Rattle.sys_table.specs.declared.kinds.ResultKind.{ResultKind}
 use Rattle.sys_table.specs.Table.{name_of, name_word, recorded_of, result_of, FitsResult}
 use Rattle.sys_table.proofs.Names.{same_call, name_of-IsPlain}
-use Rattle.trace_file.specs.declared.lines.TraceLine.{TraceLine}
 use Rattle.trace_file.specs.declared.lines.TraceLine.TheVariants as trace
-use Rattle.trace_file.specs.declared.lines.TracesLine.{TracesLine}
 use Rattle.trace_file.specs.declared.lines.TracesLine.TheVariants as traces
 use Rattle.trace_file.specs.declared.record.Record.{Record}
 use Rattle.trace_file.specs.EventText.{argument_word, IsWritten, IsRightEnd}
@@ -36,12 +34,11 @@ use Rattle.trace_file.specs.LineParts.{IsWrittenCall, IsWrittenArgument, GoOn, w
 use Rattle.trace_file.specs.Lines.{event_line, end_line, record_line, IsWrittenRecord}
 use Rattle.trace_file.specs.LineParts.{trace_line, IsTraceLine, traces_line, IsTracesLine}
 use Rattle.trace_file.proofs.ArgumentLemmas.{result_split, wide_result, arguments_split}
-use Rattle.trace_file.proofs.CallLemmas.{named, given, IsCallOf, letter_split, name_split, arguments_result_split}
-use Rattle.trace_file.proofs.EndLemmas.{end_split, exit_split, open_case, exit_case, undefined_case, turns_case, results_case, bad_result_case}
+use Rattle.trace_file.proofs.CallLemmas.{letter_split, name_split, arguments_result_split}
+use Rattle.trace_file.proofs.EndLemmas.{end_split, open_case, exit_case, undefined_case, turns_case, results_case, bad_result_case}
 use Rattle.trace_file.proofs.EventLemmas.{call_case, pre_case, post_case, record_split}
-use Rattle.trace_file.proofs.Parts.{word_split}
 use Rattle.trace_file.proofs.PlainWords.{wide_signed, wide_unsigned}
-use Rattle.trace_file.proofs.WholeLines.{event_case, end_case, last_case, record_case, trace_line_ends, traces_line_ends}
+use Rattle.trace_file.proofs.WholeLines.{event_case, end_case, last_case, record_case}
 use Rattle.line_text.proofs.Cases.{agree_back, one_free}
 pub use Rattle.line_text.proofs.Cases.{IsPrefixFree}
 

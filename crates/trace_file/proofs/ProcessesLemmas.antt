@@ -1,6 +1,6 @@
 -- The known processes, one after another.
-use Rattle.std.proofs.Common.{◌≡◌, ◌||◌, ℕ, ◌+◌, Bool, true, false, cond, nat_eq, List, [], ◌∷◌, ◌++◌, length, refl, sym, ◌∙◌, ap, subst, append_assoc, arith, length-append}
-use Rattle.std.specs.Prelude.{if◌then◌else◌, flat_map, Result, OnOk}
+use Rattle.std.proofs.Common.{◌≡◌, ◌||◌, ℕ, ◌+◌, Bool, true, false, cond, nat_eq, List, [], ◌∷◌, ◌++◌, length, refl, sym, ◌∙◌, ap, subst, append_assoc, length-append}
+use Rattle.std.specs.Prelude.{if◌then◌else◌, flat_map}
 use Rattle.std.specs.Cmp.{Equal-is, nat_cmp_total, nat_eq_equiv}
 use Rattle.std.specs.List.{list_any}
 use Rattle.std.specs.Ordering.{nat_cmp, eq_by_cmp}
@@ -10,8 +10,7 @@ use Rattle.std.proofs.lemmas.List.{append-nil}
 use Rattle.indexmap.specs.IndexSet.{insert_key}
 use Rattle.trace_file.specs.declared.record.Record.{Record}
 use Rattle.trace_file.specs.declared.version.TracesVersion.{TracesVersion}
-use Rattle.trace_file.specs.declared.version.TracesVersion.TheVariants.{One, Two}
-use Rattle.trace_file.specs.Known.{child_of, made_known, known, known_count}
+use Rattle.trace_file.specs.Known.{made_known, known_count}
 use Rattle.trace_file.specs.Processes.{AreKnown}
 
 any_either_way : (p : ℕ) (ks : List ℕ) → list_any (nat_eq p) ks ≡ list_any (λ y. nat_eq y p) ks

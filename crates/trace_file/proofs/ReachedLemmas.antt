@@ -1,5 +1,5 @@
 -- How a file is read on from one line to the next.
-use Rattle.std.proofs.Common.{◌≡◌, ◌≢◌, ◌≤◌, ℕ, ◌+◌, List, [], ◌∷◌, ◌++◌, length, Contains, refl, sym, ◌∙◌, ap, subst, append_assoc, arith}
+use Rattle.std.proofs.Common.{◌≡◌, ◌≢◌, ◌≤◌, ℕ, ◌+◌, List, [], ◌∷◌, ◌++◌, length, Contains, refl, sym, ◌∙◌, ap, subst, append_assoc}
 use Rattle.std.proofs.lemmas.List.{append-nil}
 use Rattle.line_text.specs.Files.{IsFirstLine, IsBadLine, IsProperPrefix}
 use Rattle.line_text.specs.OneLine.{IsLine}
@@ -7,7 +7,7 @@ use Rattle.line_text.specs.Reading.{StandsFirst, Reads}
 use Rattle.line_text.specs.declared.miss.Miss.TheVariants.{Wrong}
 use Rattle.std.specs.Prelude.{Err}
 use Rattle.line_text.specs.Files.IsFirstLine.{ended, unended}
-use Rattle.line_text.proofs.FilesLemmas.{GoesOn, HasRead, bad_line, first_line_whole, proper_prefix, one_more, wrong_line, after_line, before_line}
+use Rattle.line_text.proofs.FilesLemmas.{GoesOn, bad_line, first_line_whole, proper_prefix, one_more, wrong_line, after_line, before_line}
 use Rattle.trace_file.specs.Pieces.{IsWhole}
 use Rattle.trace_file.specs.Reached.{IsReached}
 use Rattle.trace_file.specs.Trace.{longest}

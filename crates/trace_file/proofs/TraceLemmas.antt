@@ -1,6 +1,6 @@
 -- How a trace is read line by line.
-use Rattle.std.proofs.Common.{◌≡◌, ◌≢◌, ◌≤◌, ◌<◌, ℕ, true, false, nat_eq, ◌+◌, List, [], ◌∷◌, ◌++◌, length, Contains, All, decimal, refl, sym, ◌∙◌, ap, subst, append_assoc, arith, length-append, inl, inr}
-use Rattle.std.specs.Prelude.{◌⊎◌, codes, flat_map, Ok, Err}
+use Rattle.std.proofs.Common.{◌≡◌, ◌≢◌, ◌≤◌, ◌<◌, ℕ, false, nat_eq, ◌+◌, List, [], ◌∷◌, ◌++◌, length, Contains, decimal, refl, sym, ◌∙◌, ap, subst, append_assoc, arith, length-append, inl, inr}
+use Rattle.std.specs.Prelude.{◌⊎◌, codes, flat_map}
 use Rattle.std.proofs.lemmas.Bool.{true≢false}
 use Rattle.std.proofs.lemmas.Fmt.{decimal_digit}
 use Rattle.std.proofs.lemmas.List.{append-nil, append_cancel_left}
@@ -9,23 +9,21 @@ use Rattle.std.proofs.lemmas.List.Elements.{All-nil, All-cons, All-head, All-tai
 use Rattle.dm_base.specs.declared.event.Event.{Event}
 use Rattle.dm_base.specs.declared.outcome.TraceEnd.{TraceEnd}
 use Rattle.dm_base.specs.declared.outcome.TraceEnd.TheVariants.{Open}
-use Rattle.line_text.specs.Files.{IsFirstLine, IsBadLine, IsProperPrefix}
-use Rattle.line_text.specs.Reading.{Agree, StandsFirst, IsCutShort, Reads}
-use Rattle.line_text.specs.declared.miss.Miss.TheVariants.{Wrong}
-use Rattle.line_text.proofs.FilesLemmas.{HasRead, nothing_read, one_more, bad_line, first_line_whole, GoesOn, wrong_line, short_line, after_line, before_line, ended_not_short}
-use Rattle.line_text.proofs.Splits.{prefixes_agree}
+use Rattle.line_text.specs.Files.{IsFirstLine, IsProperPrefix}
+use Rattle.line_text.specs.Reading.{StandsFirst}
+use Rattle.line_text.proofs.FilesLemmas.{nothing_read, one_more, GoesOn, short_line, ended_not_short}
 use Rattle.trace_file.specs.declared.error.TraceError.{TraceError}
-use Rattle.trace_file.specs.declared.error.TraceError.TheVariants.{OutOfMemory, BadLine, NoEnd, TooLong, TooManyProcesses, Version}
+use Rattle.trace_file.specs.declared.error.TraceError.TheVariants.{OutOfMemory, BadLine, NoEnd, TooLong, Version}
 use Rattle.trace_file.specs.declared.lines.TraceLine.{TraceLine}
 use Rattle.trace_file.specs.declared.lines.TraceLine.TheVariants as trace
-use Rattle.trace_file.specs.EventText.{event_text, end_text, IsWritten, IsRightEnd}
+use Rattle.trace_file.specs.EventText.{event_text, end_text, IsWritten}
 use Rattle.trace_file.specs.Lines.{event_line, end_line}
 use Rattle.trace_file.specs.LineParts.{trace_line, IsTraceLine}
 use Rattle.trace_file.specs.declared.trace_place.TracePlace.{TracePlace}
 use Rattle.trace_file.specs.declared.trace_place.TracePlace.TheVariants as place
 use Rattle.trace_file.specs.Pieces.{IsWhole, IsShown, Takes, Shows}
 use Rattle.trace_file.specs.Reached.{IsReached}
-use Rattle.trace_file.specs.Trace.{most, longest, trace_head, trace_text, IsTrace, IsFormedTrace, IsTraceWithin, HasTooManyEvents, HasOtherTraceVersion, IsTraceRefusal}
+use Rattle.trace_file.specs.Trace.{most, longest, trace_head, IsTrace, IsFormedTrace, IsTraceWithin, HasTooManyEvents, HasOtherTraceVersion, IsTraceRefusal}
 use Rattle.trace_file.specs.TraceReading.{ReachesTrace, AreEventsAndEnd, BeginsTooManyEvents, AreEventsRead, IsEndRead}
 use Rattle.trace_file.specs.Refusals.{HasRoom, IsLineRefusal, IsHeadRefusal}
 use Rattle.trace_file.proofs.HeadLemmas.{no_other, other_version, bad_head}

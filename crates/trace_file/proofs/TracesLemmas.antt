@@ -1,15 +1,14 @@
 -- How interleaved traces are read line by line.
-use Rattle.std.proofs.Common.{◌≡◌, ◌≢◌, ◌≤◌, ◌<◌, ◌^◌, ℕ, true, false, nat_eq, ◌+◌, List, [], ◌∷◌, ◌++◌, length, get_or, Contains, All, decimal, refl, sym, ◌∙◌, ap, subst, append_assoc, arith, length-append, inl, inr}
+use Rattle.std.proofs.Common.{◌≡◌, ◌≢◌, ◌≤◌, ◌<◌, ◌^◌, ℕ, nat_eq, ◌+◌, List, [], ◌∷◌, ◌++◌, length, get_or, Contains, decimal, refl, sym, ◌∙◌, ap, subst, append_assoc, arith, length-append, inl, inr}
 use Rattle.std.specs.Prelude.{◌⊎◌, codes, flat_map, Option, None, Some, Result, Ok, Err, IfOk, IfErr}
 use Rattle.std.proofs.lemmas.Bool.{true≢false, cases_lt}
 use Rattle.std.proofs.lemmas.Fmt.{decimal_digit}
 use Rattle.std.proofs.lemmas.List.{append-nil, append_cancel_left}
 use Rattle.std.proofs.lemmas.List.Concat.{flat_map-append}
 use Rattle.std.proofs.lemmas.List.Elements.{All-nil, All-cons, All-head, All-tail, All-push, Contains-append_left, Contains-append_right}
-use Rattle.line_text.specs.Files.{IsFirstLine, IsBadLine, IsProperPrefix, IsVersionLine}
-use Rattle.line_text.specs.Reading.{Agree, StandsFirst, IsCutShort, Reads}
-use Rattle.line_text.specs.declared.miss.Miss.TheVariants.{Wrong}
-use Rattle.line_text.proofs.FilesLemmas.{HasRead, nothing_read, one_more, bad_line, first_line_whole, GoesOn, wrong_line, short_line, after_line, before_line, ended_not_short}
+use Rattle.line_text.specs.Files.{IsFirstLine, IsProperPrefix}
+use Rattle.line_text.specs.Reading.{StandsFirst}
+use Rattle.line_text.proofs.FilesLemmas.{nothing_read, one_more, GoesOn, short_line, ended_not_short}
 use Rattle.line_text.proofs.Splits.{prefixes_agree}
 use Rattle.std.specs.Ordering.{nat_cmp}
 use Rattle.std.specs.FinSet.{len-empty}
@@ -32,7 +31,7 @@ use Rattle.trace_file.specs.Held.{Held}
 use Rattle.trace_file.specs.Processes.{AreKnown}
 use Rattle.trace_file.specs.Reached.{IsReached}
 use Rattle.trace_file.specs.Trace.{most, longest}
-use Rattle.trace_file.specs.Traces.{most_processes, traces_head, records_text, traces_text, AreTraces, AreTracesWithin, AreFormedTraces, PassesALimit, HasTooMuch, HasTooManyRecords, HasTooManyProcesses, HasOtherTracesVersion, IsTracesRefusal, AreTracesOf, BeginsWith}
+use Rattle.trace_file.specs.Traces.{most_processes, traces_head, records_text, AreTraces, AreTracesWithin, AreFormedTraces, PassesALimit, HasTooMuch, HasOtherTracesVersion, IsTracesRefusal, AreTracesOf, BeginsWith}
 use Rattle.trace_file.specs.TracesReading.{ReachesStage, ReachesTraces, stage_version, traces_version, StandForTraces, AreRecordsAndEnd, PassesHere, BeginsTooMuch, AreRecordsRead, AreTracesRead}
 use Rattle.trace_file.specs.Refusals.{EndsIn, HasRecordRoom, IsTracesHeadRefusal, IsRecordRefusal, IsRefusedAt}
 use Rattle.trace_file.proofs.HeadLemmas.{no_other, other_version, bad_head}

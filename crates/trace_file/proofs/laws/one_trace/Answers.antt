@@ -1,4 +1,4 @@
-use Rattle.std.proofs.Common.{◌≡◌, ℕ, List, [], ◌++◌, sym, subst}
+use Rattle.std.proofs.Common.{ℕ, List, [], sym, subst}
 use Rattle.std.proofs.lemmas.List.{append-nil}
 use Rattle.trace_file.specs.Trace.{IsTrace}
 use Rattle.trace_file.proofs.OneReading as reading

@@ -1,7 +1,7 @@
-use Rattle.std.proofs.Common.{ℕ, refl, subst}
+use Rattle.std.proofs.Common.{refl, subst}
 use Rattle.std.specs.Prelude.{Err, codes}
 use Rattle.line_text.specs.declared.miss.Miss.{Miss}
-use Rattle.line_text.specs.Reading.{Reads, Agree}
+use Rattle.line_text.specs.Reading.{Reads}
 use Rattle.trace_file.specs.Trace.{trace_head}
 use Rattle.trace_file.proofs.HeadLemmas.{other_number}
 use Rattle.trace_file.proofs.TraceLemmas.{trace_head-is}

@@ -1,4 +1,4 @@
-use Rattle.std.proofs.Common.{◌≡◌, ℕ, refl, subst, inl, inr}
+use Rattle.std.proofs.Common.{◌≡◌, refl, subst, inl, inr}
 use Rattle.std.specs.Prelude.{◌⊎◌, Err, codes}
 use Rattle.line_text.specs.declared.miss.Miss.{Miss}
 use Rattle.line_text.specs.Reading.{Reads, Agree}

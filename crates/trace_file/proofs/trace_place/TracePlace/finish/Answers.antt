@@ -1,6 +1,5 @@
 use Rattle.std.proofs.Common.{◌+◌, sym, ◌∙◌, ap}
 use Rattle.std.proofs.lemmas.Result.{err_from_is_err_and}
-use Rattle.trace_file.proofs.ReachedLemmas.{unfinished_is_line}
 use Rattle.trace_file.proofs.TraceLemmas.{start_refused, line_refused, end_refused, no_head, none_stands, length_some}
 use Rattle.trace_file.proofs.trace_place.TracePlace.finish.Goals as goal
 

@@ -1,8 +1,7 @@
-use Rattle.std.proofs.Common.{List, ℕ, sym, ◌∙◌, ap, subst}
+use Rattle.std.proofs.Common.{sym, ◌∙◌, ap, subst}
 use Rattle.std.specs.Prelude.{Option}
 use Rattle.trace_file.specs.declared.traces_place.TracesPlace.{TracesPlace}
 use Rattle.trace_file.specs.declared.version.TracesVersion.{TracesVersion}
-use Rattle.trace_file.specs.Held.{Held}
 use Rattle.trace_file.specs.TracesReading.{stage_version, traces_version}
 use Rattle.trace_file.specs.Traces.{BeginsWith}
 use Rattle.trace_file.proofs.TracesLemmas.{begins_with}
