@@ -232,10 +232,9 @@ module _ (env : Shapes) (g : Graph) (m : Marks) (base : ℕ → ℕ) (from : Lai
   follow {f = f} {s = s} {t = t} lt (then q r) (gone e h) = absurd (over_there e (closed f lt e s t h) q)
     where
       over_there : {y : ℕ} {w : List ℕ} {v : List Event} (e : Leave) → IsDone e → Step env g m (leads (ends (g.exit f)) e) [] t y w v → ⊥
-      over_there goes_on d (along {b = b} {l = l} edge v) = from.stops f lt l b edge
-      over_there returns d (along {b = b} {l = l} edge v) = from.stops f lt l b edge
       over_there breaks d s = d
       over_there continues d s = d
+      over_there e d (along {b = b} {l = l} edge v) = from.stops f lt l b edge
 
   pub reads_front : {f c : ℕ} {w : List ℕ} {t u : List Event} → f < length env.functions → Run env g m (g.entry f) [] t c w u → Front env m (shape_of env f) t u
   reads_front lt over = F.nothing

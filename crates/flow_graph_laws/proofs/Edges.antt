@@ -55,76 +55,35 @@ either P xs ys z has one two = elim (Contains-append_cases xs ys z has) as (λ h
 only_one : {X : Type 0} (P : X → Type 0) (x : X) (z : X) → Contains (x ∷ []) z → P x → P z
 only_one P x z has here = first_or P x [] z has here (λ h. none_of P z h)
 
+-- the ends of an edge, and what is done along it
+abbrev pub source : Edge → ℕ
+source (edge x l y) = x
+
+abbrev pub label : Edge → Label
+label (edge x l y) = l
+
+abbrev pub goal : Edge → ℕ
+goal (edge x l y) = y
+
 -- the edge is one of the shape
 abbrev pub Has : Shape → ℕ → ℕ → Places → Edge → Type 0
-Has S a n p (edge x l y) = Lays S a n p x l y
+Has S a n p e = Lays S a n p (source e) (label e) (goal e)
 
 abbrev pub HaveParts : Parts → ℕ → ℕ → Places → Edge → Type 0
-HaveParts ps i n p (edge x l y) = LaysParts ps i n p x l y
+HaveParts ps i n p e = LaysParts ps i n p (source e) (label e) (goal e)
 
 -- a silent edge to one of the parts
-abbrev IsTo : ℕ → Parts → ℕ → Edge → Type 0
-IsTo a ps i (edge x Silent y) = (x ≡ a) × Heads ps i y
-IsTo a ps i (edge x (System n q) y) = ⊥
-IsTo a ps i (edge x (Site s) y) = ⊥
-
-later_to : (a : ℕ) (S : Shape) (ps : Parts) (i : ℕ) (e : Edge) → IsTo a ps (i + 1) e → IsTo a (Part S ps) i e
-later_to a S ps i (edge x Silent y) h = (h.0, G.later h.1)
-later_to a S ps i (edge x (System n q) y) h = h
-later_to a S ps i (edge x (Site s) y) h = h
-
-to_from : (a : ℕ) (ps : Parts) (i : ℕ) (e : Edge) → Contains (to_each a ps i) e → IsTo a ps i e
-to_from a End i e h = none_of (IsTo a End i) e h
-to_from a (Part S ps) i e h = first_or (IsTo a (Part S ps) i) (edge a Silent i) (to_each a ps (i + 1)) e h (refl, G.this) (λ k. later_to a S ps i e (to_from a ps (i + 1) e k))
+to_from : (P : Edge → Type 0) (a : ℕ) (ps : Parts) (i : ℕ) (e : Edge) → Contains (to_each a ps i) e → ((b : ℕ) → Heads ps i b → P (edge a Silent b)) → P e
+to_from P a End i e h f = none_of P e h
+to_from P a (Part S ps) i e h f = first_or P (edge a Silent i) (to_each a ps (i + 1)) e h (f i G.this) (λ k. to_from P a ps (i + 1) e k (λ b q. f b (G.later q)))
 
 to_have : (a : ℕ) {ps : Parts} {i b : ℕ} → Heads ps i b → Contains (to_each a ps i) (edge a Silent b)
 to_have a (G.this {S = S} {ps = ps} {m = i}) = is_first (edge a Silent i) (to_each a ps (i + 1))
 to_have a (G.later {S = S} {ps = ps} {m = i} {b = b} h) = is_later (edge a Silent i) (to_each a ps (i + 1)) (edge a Silent b) (to_have a h)
 
-to_case_from : (ps : Parts) (d : Bool) (a n : ℕ) (p : Places) (e : Edge) → IsTo a ps n e → Has (Cases ps d) a n p e
-to_case_from ps d a n p (edge x Silent y) h = subst (λ x. Lays (Cases ps d) a n p x Silent y) (sym h.0) (to_case h.1)
-to_case_from ps d a n p (edge x (System k q) y) h = absurd h
-to_case_from ps d a n p (edge x (Site s) y) h = absurd h
-
 past_from : (ps : Parts) (d : Bool) (a n : ℕ) (p : Places) (e : Edge) → Contains (past_all d a (p.to)) e → Has (Cases ps d) a n p e
 past_from ps true a n p e h = none_of (Has (Cases ps true) a n p) e h
 past_from ps false a n p e h = only_one (Has (Cases ps false) a n p) (edge a Silent (p.to)) e h no_default
-
-of_in_left : (S T : Shape) (a n : ℕ) (p : Places) (e : Edge) → Has S a n p e → Has (Alt S T) a n p e
-of_in_left S T a n p (edge x l y) h = in_left h
-
-of_in_right : (S T : Shape) (a n : ℕ) (p : Places) (e : Edge) → Has T a (n + width S) p e → Has (Alt S T) a n p e
-of_in_right S T a n p (edge x l y) h = in_right h
-
-of_in_test : (C B P : Shape) (a n : ℕ) (p : Places) (e : Edge) → Has C n (n + 3) (record p { to = n + 1 }) e → Has (Loop C B P) a n p e
-of_in_test C B P a n p (edge x l y) h = in_test h
-
-of_in_body : (C B P : Shape) (a n : ℕ) (p : Places) (e : Edge) → Has B (n + 1) (n + 3 + width C) (body p (n + 2) (p.to) (n + 2)) e → Has (Loop C B P) a n p e
-of_in_body C B P a n p (edge x l y) h = in_body h
-
-of_in_step : (C B P : Shape) (a n : ℕ) (p : Places) (e : Edge) → Has P (n + 2) (n + 3 + width C + width B) (record p { to = n }) e → Has (Loop C B P) a n p e
-of_in_step C B P a n p (edge x l y) h = in_step h
-
-of_in_do : (B C : Shape) (a n : ℕ) (p : Places) (e : Edge) → Has B n (n + 3) (body p (n + 1) (p.to) (n + 1)) e → Has (Do B C) a n p e
-of_in_do B C a n p (edge x l y) h = in_do h
-
-of_in_until : (B C : Shape) (a n : ℕ) (p : Places) (e : Edge) → Has C (n + 1) (n + 3 + width B) (record p { to = n + 2 }) e → Has (Do B C) a n p e
-of_in_until B C a n p (edge x l y) h = in_until h
-
-of_in_seq : (S : Shape) (ps : Parts) (a n : ℕ) (p : Places) (e : Edge) → Has S a (n + count ps) (group p ps n) e → Has (Seq S ps) a n p e
-of_in_seq S ps a n p (edge x l y) h = in_seq h
-
-of_in_rest : (S : Shape) (ps : Parts) (a n : ℕ) (p : Places) (e : Edge) → HaveParts ps n (n + count ps + width S) p e → Has (Seq S ps) a n p e
-of_in_rest S ps a n p (edge x l y) h = in_rest h
-
-of_in_cases : (ps : Parts) (d : Bool) (a n : ℕ) (p : Places) (e : Edge) → HaveParts ps n (n + count ps) (switch p) e → Has (Cases ps d) a n p e
-of_in_cases ps d a n p (edge x l y) h = in_cases h
-
-of_in_part : (S : Shape) (ps : Parts) (i n : ℕ) (p : Places) (e : Edge) → Has S i n (group p ps (i + 1)) e → HaveParts (Part S ps) i n p e
-of_in_part S ps i n p (edge x l y) h = in_part h
-
-of_in_later : (S : Shape) (ps : Parts) (i n : ℕ) (p : Places) (e : Edge) → HaveParts ps (i + 1) (n + width S) p e → HaveParts (Part S ps) i n p e
-of_in_later S ps i n p (edge x l y) h = in_later h
 
 mutual
   pub lays_from : (S : Shape) (a n : ℕ) (p : Places) (e : Edge) → Contains (edges S a n p) e → Has S a n p e
@@ -132,33 +91,33 @@ mutual
   lays_from (Sys x q) a n p e h = only_one (Has (Sys x q) a n p) (edge a (System x q) (p.to)) e h sys
   lays_from (Exit q) a n p e h = only_one (Has (Exit q) a n p) (edge a (System exit_call q) n) e h exit
   lays_from (Call s) a n p e h = only_one (Has (Call s) a n p) (edge a (Site s) (p.to)) e h call
-  lays_from (Seq S ps) a n p e h = either (Has (Seq S ps) a n p) (edges S a (n + count ps) (group p ps n)) (edges_of_parts ps n (n + count ps + width S) p) e h (λ k. of_in_seq S ps a n p e (lays_from S a (n + count ps) (group p ps n) e k)) (λ k. of_in_rest S ps a n p e (parts_from ps n (n + count ps + width S) p e k))
-  lays_from (Alt S T) a n p e h = either (Has (Alt S T) a n p) (edges S a n p) (edges T a (n + width S) p) e h (λ k. of_in_left S T a n p e (lays_from S a n p e k)) (λ k. of_in_right S T a n p e (lays_from T a (n + width S) p e k))
+  lays_from (Seq S ps) a n p e h = either (Has (Seq S ps) a n p) (edges S a (n + count ps) (group p ps n)) (edges_of_parts ps n (n + count ps + width S) p) e h (λ k. in_seq (lays_from S a (n + count ps) (group p ps n) e k)) (λ k. in_rest (parts_from ps n (n + count ps + width S) p e k))
+  lays_from (Alt S T) a n p e h = either (Has (Alt S T) a n p) (edges S a n p) (edges T a (n + width S) p) e h (λ k. in_left (lays_from S a n p e k)) (λ k. in_right (lays_from T a (n + width S) p e k))
   lays_from (Loop C B P) a n p e h =
       let c = edges C n (n + 3) (record p { to = n + 1 }) in
       let b = edges B (n + 1) (n + 3 + width C) (body p (n + 2) (p.to) (n + 2)) in
       let s = edges P (n + 2) (n + 3 + width C + width B) (record p { to = n }) in
       first_or (Has (Loop C B P) a n p) (edge a Silent n) (edge (n + 1) Silent (p.to) ∷ (c ++ (b ++ s))) e h to_loop (λ k.
       first_or (Has (Loop C B P) a n p) (edge (n + 1) Silent (p.to)) (c ++ (b ++ s)) e k loop_ends (λ k.
-      either (Has (Loop C B P) a n p) c (b ++ s) e k (λ k. of_in_test C B P a n p e (lays_from C n (n + 3) (record p { to = n + 1 }) e k)) (λ k.
-      either (Has (Loop C B P) a n p) b s e k (λ k. of_in_body C B P a n p e (lays_from B (n + 1) (n + 3 + width C) (body p (n + 2) (p.to) (n + 2)) e k)) (λ k. of_in_step C B P a n p e (lays_from P (n + 2) (n + 3 + width C + width B) (record p { to = n }) e k)))))
+      either (Has (Loop C B P) a n p) c (b ++ s) e k (λ k. in_test (lays_from C n (n + 3) (record p { to = n + 1 }) e k)) (λ k.
+      either (Has (Loop C B P) a n p) b s e k (λ k. in_body (lays_from B (n + 1) (n + 3 + width C) (body p (n + 2) (p.to) (n + 2)) e k)) (λ k. in_step (lays_from P (n + 2) (n + 3 + width C + width B) (record p { to = n }) e k)))))
   lays_from (Do B C) a n p e h =
       let b = edges B n (n + 3) (body p (n + 1) (p.to) (n + 1)) in
       let c = edges C (n + 1) (n + 3 + width B) (record p { to = n + 2 }) in
       first_or (Has (Do B C) a n p) (edge a Silent n) (edge (n + 2) Silent n ∷ edge (n + 2) Silent (p.to) ∷ (b ++ c)) e h to_do (λ k.
       first_or (Has (Do B C) a n p) (edge (n + 2) Silent n) (edge (n + 2) Silent (p.to) ∷ (b ++ c)) e k do_again (λ k.
       first_or (Has (Do B C) a n p) (edge (n + 2) Silent (p.to)) (b ++ c) e k do_ends (λ k.
-      either (Has (Do B C) a n p) b c e k (λ k. of_in_do B C a n p e (lays_from B n (n + 3) (body p (n + 1) (p.to) (n + 1)) e k)) (λ k. of_in_until B C a n p e (lays_from C (n + 1) (n + 3 + width B) (record p { to = n + 2 }) e k)))))
+      either (Has (Do B C) a n p) b c e k (λ k. in_do (lays_from B n (n + 3) (body p (n + 1) (p.to) (n + 1)) e k)) (λ k. in_until (lays_from C (n + 1) (n + 3 + width B) (record p { to = n + 2 }) e k)))))
   lays_from (Cases ps d) a n p e h =
-      either (Has (Cases ps d) a n p) (to_each a ps n) (past_all d a (p.to) ++ edges_of_parts ps n (n + count ps) (switch p)) e h (λ k. to_case_from ps d a n p e (to_from a ps n e k)) (λ k.
-      either (Has (Cases ps d) a n p) (past_all d a (p.to)) (edges_of_parts ps n (n + count ps) (switch p)) e k (λ k. past_from ps d a n p e k) (λ k. of_in_cases ps d a n p e (parts_from ps n (n + count ps) (switch p) e k)))
+      either (Has (Cases ps d) a n p) (to_each a ps n) (past_all d a (p.to) ++ edges_of_parts ps n (n + count ps) (switch p)) e h (λ k. to_from (Has (Cases ps d) a n p) a ps n e k (λ b q. to_case q)) (λ k.
+      either (Has (Cases ps d) a n p) (past_all d a (p.to)) (edges_of_parts ps n (n + count ps) (switch p)) e k (λ k. past_from ps d a n p e k) (λ k. in_cases (parts_from ps n (n + count ps) (switch p) e k)))
   lays_from Break a n p e h = only_one (Has Break a n p) (edge a Silent (p.brk)) e h break_out
   lays_from Continue a n p e h = only_one (Has Continue a n p) (edge a Silent (p.con)) e h continue_on
   lays_from Return a n p e h = only_one (Has Return a n p) (edge a Silent (p.ret)) e h return_now
 
   parts_from : (ps : Parts) (i n : ℕ) (p : Places) (e : Edge) → Contains (edges_of_parts ps i n p) e → HaveParts ps i n p e
   parts_from End i n p e h = none_of (HaveParts End i n p) e h
-  parts_from (Part S ps) i n p e h = either (HaveParts (Part S ps) i n p) (edges S i n (group p ps (i + 1))) (edges_of_parts ps (i + 1) (n + width S) p) e h (λ k. of_in_part S ps i n p e (lays_from S i n (group p ps (i + 1)) e k)) (λ k. of_in_later S ps i n p e (parts_from ps (i + 1) (n + width S) p e k))
+  parts_from (Part S ps) i n p e h = either (HaveParts (Part S ps) i n p) (edges S i n (group p ps (i + 1))) (edges_of_parts ps (i + 1) (n + width S) p) e h (λ k. in_part (lays_from S i n (group p ps (i + 1)) e k)) (λ k. in_later (parts_from ps (i + 1) (n + width S) p e k))
 
 in_loop : (C B P : Shape) (a n : ℕ) (p : Places) (e : Edge) → Contains (edges C n (n + 3) (record p { to = n + 1 }) ++ (edges B (n + 1) (n + 3 + width C) (body p (n + 2) (p.to) (n + 2)) ++ edges P (n + 2) (n + 3 + width C + width B) (record p { to = n }))) e → Contains (edges (Loop C B P) a n p) e
 in_loop C B P a n p e h =
@@ -172,30 +131,22 @@ in_do_loop B C a n p e h =
 
 mutual
   pub lays_to : {S : Shape} {a n x y : ℕ} {p : Places} {l : Label} → Lays S a n p x l y → Contains (edges S a n p) (edge x l y)
-  lays_to (skip {a = a} {p = p}) = is_first (edge a Silent (p.to)) []
-  lays_to (sys {x = x} {a = a} {q = q} {p = p}) = is_first (edge a (System x q) (p.to)) []
-  lays_to (exit {a = a} {n = n} {q = q}) = is_first (edge a (System exit_call q) n) []
-  lays_to (call {s = s} {a = a} {p = p}) = is_first (edge a (Site s) (p.to)) []
   lays_to (in_seq {S = S} {ps = ps} {a = a} {n = n} {x = x} {y = y} {p = p} {l = l} h) = Contains-append_left (edges S a (n + count ps) (group p ps n)) (edges_of_parts ps n (n + count ps + width S) p) (edge x l y) (lays_to h)
   lays_to (in_rest {S = S} {ps = ps} {a = a} {n = n} {x = x} {y = y} {p = p} {l = l} h) = Contains-append_right (edges S a (n + count ps) (group p ps n)) (edges_of_parts ps n (n + count ps + width S) p) (edge x l y) (parts_to h)
   lays_to (in_left {S = S} {T = T} {a = a} {n = n} {x = x} {y = y} {p = p} {l = l} h) = Contains-append_left (edges S a n p) (edges T a (n + width S) p) (edge x l y) (lays_to h)
   lays_to (in_right {S = S} {T = T} {a = a} {n = n} {x = x} {y = y} {p = p} {l = l} h) = Contains-append_right (edges S a n p) (edges T a (n + width S) p) (edge x l y) (lays_to h)
-  lays_to (to_loop {C = C} {B = B} {P = P} {a = a} {n = n} {p = p}) = is_first (edge a Silent n) (edge (n + 1) Silent (p.to) ∷ (edges C n (n + 3) (record p { to = n + 1 }) ++ (edges B (n + 1) (n + 3 + width C) (body p (n + 2) (p.to) (n + 2)) ++ edges P (n + 2) (n + 3 + width C + width B) (record p { to = n }))))
-  lays_to (loop_ends {C = C} {B = B} {P = P} {a = a} {n = n} {p = p}) = is_later (edge a Silent n) (edge (n + 1) Silent (p.to) ∷ (edges C n (n + 3) (record p { to = n + 1 }) ++ (edges B (n + 1) (n + 3 + width C) (body p (n + 2) (p.to) (n + 2)) ++ edges P (n + 2) (n + 3 + width C + width B) (record p { to = n })))) (edge (n + 1) Silent (p.to)) (is_first (edge (n + 1) Silent (p.to)) (edges C n (n + 3) (record p { to = n + 1 }) ++ (edges B (n + 1) (n + 3 + width C) (body p (n + 2) (p.to) (n + 2)) ++ edges P (n + 2) (n + 3 + width C + width B) (record p { to = n }))))
+  lays_to loop_ends = (1, omega arith, refl)
   lays_to (in_test {C = C} {B = B} {P = P} {a = a} {n = n} {x = x} {y = y} {p = p} {l = l} h) = in_loop C B P a n p (edge x l y) (Contains-append_left (edges C n (n + 3) (record p { to = n + 1 })) (edges B (n + 1) (n + 3 + width C) (body p (n + 2) (p.to) (n + 2)) ++ edges P (n + 2) (n + 3 + width C + width B) (record p { to = n })) (edge x l y) (lays_to h))
   lays_to (in_body {C = C} {B = B} {P = P} {a = a} {n = n} {x = x} {y = y} {p = p} {l = l} h) = in_loop C B P a n p (edge x l y) (Contains-append_right (edges C n (n + 3) (record p { to = n + 1 })) (edges B (n + 1) (n + 3 + width C) (body p (n + 2) (p.to) (n + 2)) ++ edges P (n + 2) (n + 3 + width C + width B) (record p { to = n })) (edge x l y) (Contains-append_left (edges B (n + 1) (n + 3 + width C) (body p (n + 2) (p.to) (n + 2))) (edges P (n + 2) (n + 3 + width C + width B) (record p { to = n })) (edge x l y) (lays_to h)))
   lays_to (in_step {C = C} {B = B} {P = P} {a = a} {n = n} {x = x} {y = y} {p = p} {l = l} h) = in_loop C B P a n p (edge x l y) (Contains-append_right (edges C n (n + 3) (record p { to = n + 1 })) (edges B (n + 1) (n + 3 + width C) (body p (n + 2) (p.to) (n + 2)) ++ edges P (n + 2) (n + 3 + width C + width B) (record p { to = n })) (edge x l y) (Contains-append_right (edges B (n + 1) (n + 3 + width C) (body p (n + 2) (p.to) (n + 2))) (edges P (n + 2) (n + 3 + width C + width B) (record p { to = n })) (edge x l y) (lays_to h)))
-  lays_to (to_do {B = B} {C = C} {a = a} {n = n} {p = p}) = is_first (edge a Silent n) (edge (n + 2) Silent n ∷ edge (n + 2) Silent (p.to) ∷ (edges B n (n + 3) (body p (n + 1) (p.to) (n + 1)) ++ edges C (n + 1) (n + 3 + width B) (record p { to = n + 2 })))
-  lays_to (do_again {B = B} {C = C} {a = a} {n = n} {p = p}) = is_later (edge a Silent n) (edge (n + 2) Silent n ∷ edge (n + 2) Silent (p.to) ∷ (edges B n (n + 3) (body p (n + 1) (p.to) (n + 1)) ++ edges C (n + 1) (n + 3 + width B) (record p { to = n + 2 }))) (edge (n + 2) Silent n) (is_first (edge (n + 2) Silent n) (edge (n + 2) Silent (p.to) ∷ (edges B n (n + 3) (body p (n + 1) (p.to) (n + 1)) ++ edges C (n + 1) (n + 3 + width B) (record p { to = n + 2 }))))
-  lays_to (do_ends {B = B} {C = C} {a = a} {n = n} {p = p}) = is_later (edge a Silent n) (edge (n + 2) Silent n ∷ edge (n + 2) Silent (p.to) ∷ (edges B n (n + 3) (body p (n + 1) (p.to) (n + 1)) ++ edges C (n + 1) (n + 3 + width B) (record p { to = n + 2 }))) (edge (n + 2) Silent (p.to)) (is_later (edge (n + 2) Silent n) (edge (n + 2) Silent (p.to) ∷ (edges B n (n + 3) (body p (n + 1) (p.to) (n + 1)) ++ edges C (n + 1) (n + 3 + width B) (record p { to = n + 2 }))) (edge (n + 2) Silent (p.to)) (is_first (edge (n + 2) Silent (p.to)) (edges B n (n + 3) (body p (n + 1) (p.to) (n + 1)) ++ edges C (n + 1) (n + 3 + width B) (record p { to = n + 2 }))))
+  lays_to do_again = (1, omega arith, refl)
+  lays_to do_ends = (2, omega arith, refl)
   lays_to (in_do {B = B} {C = C} {a = a} {n = n} {x = x} {y = y} {p = p} {l = l} h) = in_do_loop B C a n p (edge x l y) (Contains-append_left (edges B n (n + 3) (body p (n + 1) (p.to) (n + 1))) (edges C (n + 1) (n + 3 + width B) (record p { to = n + 2 })) (edge x l y) (lays_to h))
   lays_to (in_until {B = B} {C = C} {a = a} {n = n} {x = x} {y = y} {p = p} {l = l} h) = in_do_loop B C a n p (edge x l y) (Contains-append_right (edges B n (n + 3) (body p (n + 1) (p.to) (n + 1))) (edges C (n + 1) (n + 3 + width B) (record p { to = n + 2 })) (edge x l y) (lays_to h))
   lays_to (to_case {ps = ps} {d = d} {a = a} {n = n} {b = b} {p = p} h) = Contains-append_left (to_each a ps n) (past_all d a (p.to) ++ edges_of_parts ps n (n + count ps) (switch p)) (edge a Silent b) (to_have a h)
   lays_to (in_cases {ps = ps} {d = d} {a = a} {n = n} {x = x} {y = y} {p = p} {l = l} h) = Contains-append_right (to_each a ps n) (past_all d a (p.to) ++ edges_of_parts ps n (n + count ps) (switch p)) (edge x l y) (Contains-append_right (past_all d a (p.to)) (edges_of_parts ps n (n + count ps) (switch p)) (edge x l y) (parts_to h))
   lays_to (no_default {ps = ps} {a = a} {n = n} {p = p}) = Contains-append_right (to_each a ps n) (edge a Silent (p.to) ∷ edges_of_parts ps n (n + count ps) (switch p)) (edge a Silent (p.to)) (is_first (edge a Silent (p.to)) (edges_of_parts ps n (n + count ps) (switch p)))
-  lays_to (break_out {a = a} {p = p}) = is_first (edge a Silent (p.brk)) []
-  lays_to (continue_on {a = a} {p = p}) = is_first (edge a Silent (p.con)) []
-  lays_to (return_now {a = a} {p = p}) = is_first (edge a Silent (p.ret)) []
+  lays_to e = (0, omega arith, refl)
 
   parts_to : {ps : Parts} {i n x y : ℕ} {p : Places} {l : Label} → LaysParts ps i n p x l y → Contains (edges_of_parts ps i n p) (edge x l y)
   parts_to (in_part {S = S} {ps = ps} {i = i} {n = n} {x = x} {y = y} {p = p} {l = l} h) = Contains-append_left (edges S i n (group p ps (i + 1))) (edges_of_parts ps (i + 1) (n + width S) p) (edge x l y) (lays_to h)

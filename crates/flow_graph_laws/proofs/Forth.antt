@@ -17,23 +17,18 @@ module _ (env : Shapes) (g : Graph) (m : Marks) (base : ℕ → ℕ) (from : Lai
   -- the exits of a function lead to its exit node
   done : (x : Leave) {e : ℕ} → IsDone x → leads (ends e) x ≡ e
   done goes_on h = refl
-  done returns h = refl
-  done breaks h = refl
-  done continues h = refl
+  done x h = refl
 
   -- where a body is left for the next round it goes to one place
   next : (x : Leave) (to brk : ℕ) (p : Places) → IsNext x → leads (body p to brk to) x ≡ to
-  next goes_on to brk p h = refl
-  next continues to brk p h = refl
   next breaks to brk p h = elim h [ ]
   next returns to brk p h = elim h [ ]
+  next x to brk p h = refl
 
   -- other exits than On lead past the place where a part ends
   past : (x : Leave) (to : ℕ) (p : Places) → IsAway x → leads (record p { to = to }) x ≡ leads p x
   past goes_on to p h = elim h [ ]
-  past breaks to p h = refl
-  past continues to p h = refl
-  past returns to p h = refl
+  past x to p h = refl
 
   moved : {a b c : ℕ} {z w : List ℕ} {t v : List Event} → a ≡ b → Run env g m b z t c w v → Run env g m a z t c w v
   moved {c = c} {z = z} {w = w} {t = t} {v = v} e r = subst (λ a. Run env g m a z t c w v) (sym e) r

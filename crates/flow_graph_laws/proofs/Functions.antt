@@ -7,7 +7,7 @@ use Rattle.flow_graph_laws.specs.Layout.{Edge, edge, Places, ends, body, switch,
 use Rattle.flow_graph_laws.specs.GraphOf.{edges_from}
 use Rattle.flow_graph_laws.specs.Premises.{sites, sites_of_parts, AreClosed}
 use Rattle.flow_graph_laws.proofs.Laid.{Graph, LaidFrom}
-use Rattle.flow_graph_laws.proofs.Edges.{Lays, either, none_of, lays_from, lays_to}
+use Rattle.flow_graph_laws.proofs.Edges.{Lays, source, label, goal, either, none_of, lays_from, lays_to}
 use Rattle.flow_graph_laws.proofs.Owns.{At, start, fresh, sources, begin, laid, Owns}
 use Rattle.c_shapes.proofs.Members.{is_later}
 
@@ -16,9 +16,8 @@ abbrev pub at : List Shape → ℕ → Shape
 at fs f = slice_index_or fs f Skip
 
 abbrev pub entry_at : List Shape → ℕ → ℕ → ℕ
-entry_at [] n f = n
-entry_at (S ∷ fs) n zero = n
 entry_at (S ∷ fs) n (suc f) = entry_at fs (n + 2 + width S) f
+entry_at a n f = n
 
 abbrev pub Here : List Shape → ℕ → ℕ → ℕ → Label → ℕ → Type 0
 Here fs n f x l y = Lays (at fs f) (entry_at fs n f) (entry_at fs n f + 2) (ends (entry_at fs n f + 1)) x l y
@@ -30,17 +29,11 @@ pub record One (fs : List Shape) (n x : ℕ) (l : Label) (y : ℕ) : Type 0 wher
   pub here : Here fs n f x l y
 
 abbrev pub OneOf : List Shape → ℕ → Edge → Type 0
-OneOf fs n (edge x l y) = One fs n x l y
-
-first_one : (S : Shape) (fs : List Shape) (n : ℕ) (e : Edge) → Contains (edges S n (n + 2) (ends (n + 1))) e → OneOf (S ∷ fs) n e
-first_one S fs n (edge x l y) h = record { f = 0; below = omega arith; here = lays_from S n (n + 2) (ends (n + 1)) (edge x l y) h }
-
-later_one : (S : Shape) (fs : List Shape) (n : ℕ) (e : Edge) → OneOf fs (n + 2 + width S) e → OneOf (S ∷ fs) n e
-later_one S fs n (edge x l y) h = record { f = suc (h.f); below = let k = h.below in omega (arith, k); here = h.here }
+OneOf fs n e = One fs n (source e) (label e) (goal e)
 
 pub one_from : (fs : List Shape) (n : ℕ) (e : Edge) → Contains (edges_from n fs) e → OneOf fs n e
 one_from [] n e h = none_of (OneOf [] n) e h
-one_from (S ∷ fs) n e h = either (OneOf (S ∷ fs) n) (edges S n (n + 2) (ends (n + 1))) (edges_from (n + 2 + width S) fs) e h (λ k. first_one S fs n e k) (λ k. later_one S fs n e (one_from fs (n + 2 + width S) e k))
+one_from (S ∷ fs) n e h = either (OneOf (S ∷ fs) n) (edges S n (n + 2) (ends (n + 1))) (edges_from (n + 2 + width S) fs) e h (λ k. record { f = 0; below = omega arith; here = lays_from S n (n + 2) (ends (n + 1)) e k }) (λ k. let o = one_from fs (n + 2 + width S) e k in let lt = o.below in record { f = suc (o.f); below = omega (arith, lt); here = o.here })
 
 one_to : (fs : List Shape) (n f x : ℕ) (l : Label) (y : ℕ) → f < length fs → Here fs n f x l y → Contains (edges_from n fs) (edge x l y)
 one_to [] n f x l y lt h = absurd (omega (arith, lt))
@@ -48,36 +41,21 @@ one_to (S ∷ fs) n zero x l y lt h = Contains-append_left (edges S n (n + 2) (e
 one_to (S ∷ fs) n (suc f) x l y lt h = Contains-append_right (edges S n (n + 2) (ends (n + 1))) (edges_from (n + 2 + width S) fs) (edge x l y) (one_to fs (n + 2 + width S) f x l y (omega (arith, lt)) h)
 
 low : (fs : List Shape) (n f : ℕ) → n ≤ entry_at fs n f
-low [] n f = omega arith
-low (S ∷ fs) n zero = omega arith
 low (S ∷ fs) n (suc f) = let k = low fs (n + 2 + width S) f in omega (arith, k)
+low fs n f = omega arith
 
 above : (fs : List Shape) (n f h : ℕ) → f < h → h < length fs → entry_at fs n f + 2 + width (at fs f) ≤ entry_at fs n h
 above [] n f h lt in_list = absurd (omega (arith, in_list))
-above (S ∷ fs) n zero zero lt in_list = absurd (omega (arith, lt))
 above (S ∷ fs) n zero (suc h) lt in_list = low fs (n + 2 + width S) h
-above (S ∷ fs) n (suc f) zero lt in_list = absurd (omega (arith, lt))
 above (S ∷ fs) n (suc f) (suc h) lt in_list = above fs (n + 2 + width S) f h (omega (arith, lt)) (omega (arith, in_list))
-
-order : (f g : ℕ) → (f < g) ⊎ ((f ≡ g) ⊎ (g < f))
-order zero zero = inr (inl refl)
-order zero (suc g) = inl (omega arith)
-order (suc f) zero = inr (inr (omega arith))
-order (suc f) (suc g) = up (order f g)
-  where
-    up : (f < g) ⊎ ((f ≡ g) ⊎ (g < f)) → (suc f < suc g) ⊎ ((suc f ≡ suc g) ⊎ (suc g < suc f))
-    up (inl h) = inl (omega (arith, h))
-    up (inr (inl h)) = inr (inl (ap suc h))
-    up (inr (inr h)) = inr (inr (omega (arith, h)))
+above (S ∷ fs) n f zero lt in_list = absurd (omega (arith, lt))
 
 -- a node is of one function
 one : (fs : List Shape) (n f h x : ℕ) → f < length fs → h < length fs → entry_at fs n f ≤ x → x < entry_at fs n f + 2 + width (at fs f) → entry_at fs n h ≤ x → x < entry_at fs n h + 2 + width (at fs h) → f ≡ h
-one fs n f h x lf lh a b c d = by (order f h)
-  where
-    by : (f < h) ⊎ ((f ≡ h) ⊎ (h < f)) → f ≡ h
-    by (inl l) = let k = above fs n f h l lh in absurd (omega (arith, k, b, c))
-    by (inr (inl e)) = e
-    by (inr (inr l)) = let k = above fs n h f l lf in absurd (omega (arith, k, a, d))
+one fs n f h x lf lh a b c d =
+    let before : f < h → ⊥ = λ l. let k = above fs n f h l lh in omega (arith, k, b, c) in
+    let behind : h < f → ⊥ = λ l. let k = above fs n h f l lf in omega (arith, k, a, d) in
+    omega (arith, before, behind)
 
 -- the sites of edges
 abbrev sites_of : List Edge → List ℕ
@@ -102,10 +80,6 @@ sites_past false a b ds = refl
 
 mutual
   sites_edges : (S : Shape) (a n : ℕ) (p : Places) → sites_of (edges S a n p) ≡ sites S
-  sites_edges Skip a n p = refl
-  sites_edges (Sys x q) a n p = refl
-  sites_edges (Exit q) a n p = refl
-  sites_edges (Call s) a n p = refl
   sites_edges (Seq S ps) a n p = sites_append (edges S a (n + count ps) (group p ps n)) (edges_of_parts ps n (n + count ps + width S) p) ∙ ap₂ (λ x y. x ++ y) (sites_edges S a (n + count ps) (group p ps n)) (sites_parts ps n (n + count ps + width S) p)
   sites_edges (Alt S T) a n p = sites_append (edges S a n p) (edges T a (n + width S) p) ∙ ap₂ (λ x y. x ++ y) (sites_edges S a n p) (sites_edges T a (n + width S) p)
   sites_edges (Loop C B P) a n p =
@@ -118,9 +92,7 @@ mutual
       let c = edges C (n + 1) (n + 3 + width B) (record p { to = n + 2 }) in
       sites_append b c ∙ ap₂ (λ x y. x ++ y) (sites_edges B n (n + 3) (body p (n + 1) (p.to) (n + 1))) (sites_edges C (n + 1) (n + 3 + width B) (record p { to = n + 2 }))
   sites_edges (Cases ps d) a n p = sites_each a ps n (past_all d a (p.to) ++ edges_of_parts ps n (n + count ps) (switch p)) ∙ (sites_past d a (p.to) (edges_of_parts ps n (n + count ps) (switch p)) ∙ sites_parts ps n (n + count ps) (switch p))
-  sites_edges Break a n p = refl
-  sites_edges Continue a n p = refl
-  sites_edges Return a n p = refl
+  sites_edges u a n p = refl
 
   sites_parts : (ps : Parts) (i n : ℕ) (p : Places) → sites_of (edges_of_parts ps i n p) ≡ sites_of_parts ps
   sites_parts End i n p = refl
@@ -132,26 +104,20 @@ sites_from (S ∷ fs) n = sites_append (edges S n (n + 2) (ends (n + 1))) (edges
 
 -- two calls at one site are one edge
 abbrev site_or : Edge → ℕ
-site_or (edge x Silent y) = 0
-site_or (edge x (System k q) y) = 0
 site_or (edge x (Site s) y) = s
-
-abbrev target : Edge → ℕ
-target (edge x l y) = y
+site_or a = 0
 
 abbrev IsSite : Edge → Type 0
-IsSite (edge x Silent y) = ⊥
-IsSite (edge x (System k q) y) = ⊥
 IsSite (edge x (Site s) y) = Unit {0}
+IsSite a = ⊥
 
 has_site : (es : List Edge) (s a b : ℕ) → Contains es (edge a (Site s) b) → Contains (sites_of es) s
 has_site [] s a b h = absurd (omega (arith, h.1))
-has_site (edge x Silent y ∷ es) s a b (zero, lt, is) = absurd (subst IsSite (sym is) tt)
 has_site (edge x Silent y ∷ es) s a b (suc k, lt, is) = has_site es s a b (k, omega arith, is)
-has_site (edge x (System j q) y ∷ es) s a b (zero, lt, is) = absurd (subst IsSite (sym is) tt)
 has_site (edge x (System j q) y ∷ es) s a b (suc k, lt, is) = has_site es s a b (k, omega arith, is)
 has_site (edge x (Site r) y ∷ es) s a b (zero, lt, is) = (0, omega arith, ap site_or is)
 has_site (edge x (Site r) y ∷ es) s a b (suc k, lt, is) = is_later r (sites_of es) s (has_site es s a b (k, omega arith, is))
+has_site es s a b (zero, lt, is) = absurd (subst IsSite (sym is) tt)
 
 abbrev Differ : List ℕ → Type 0
 Differ ss = AllPairs (λ s r. s ≢ r) ss
@@ -164,16 +130,15 @@ rest_differ r ss pairs i j d lt within = pairs (suc i) (suc j) d (omega (arith, 
 
 one_edge : (es : List Edge) → Differ (sites_of es) → (s a b c d : ℕ) → Contains es (edge a (Site s) b) → Contains es (edge c (Site s) d) → edge a (Site s) b ≡ edge c (Site s) d
 one_edge [] pairs s a b c d h k = absurd (omega (arith, h.1))
-one_edge (edge x Silent y ∷ es) pairs s a b c d (zero, lt, is) k = absurd (subst IsSite (sym is) tt)
 one_edge (edge x Silent y ∷ es) pairs s a b c d (suc i, lt, is) (zero, lt2, is2) = absurd (subst IsSite (sym is2) tt)
 one_edge (edge x Silent y ∷ es) pairs s a b c d (suc i, lt, is) (suc j, lt2, is2) = one_edge es pairs s a b c d (i, omega arith, is) (j, omega arith, is2)
-one_edge (edge x (System m q) y ∷ es) pairs s a b c d (zero, lt, is) k = absurd (subst IsSite (sym is) tt)
 one_edge (edge x (System m q) y ∷ es) pairs s a b c d (suc i, lt, is) (zero, lt2, is2) = absurd (subst IsSite (sym is2) tt)
 one_edge (edge x (System m q) y ∷ es) pairs s a b c d (suc i, lt, is) (suc j, lt2, is2) = one_edge es pairs s a b c d (i, omega arith, is) (j, omega arith, is2)
 one_edge (edge x (Site r) y ∷ es) pairs s a b c d (zero, lt, is) (zero, lt2, is2) = sym is ∙ is2
 one_edge (edge x (Site r) y ∷ es) pairs s a b c d (zero, lt, is) (suc j, lt2, is2) = absurd (head_differs r (sites_of es) pairs s (has_site es s c d (j, omega arith, is2)) (ap site_or is))
 one_edge (edge x (Site r) y ∷ es) pairs s a b c d (suc i, lt, is) (zero, lt2, is2) = absurd (head_differs r (sites_of es) pairs s (has_site es s a b (i, omega arith, is)) (ap site_or is2))
 one_edge (edge x (Site r) y ∷ es) pairs s a b c d (suc i, lt, is) (suc j, lt2, is2) = one_edge es (rest_differ r (sites_of es) pairs) s a b c d (i, omega arith, is) (j, omega arith, is2)
+one_edge es pairs s a b c d (zero, lt, is) k = absurd (subst IsSite (sym is) tt)
 
 module _ (env : Shapes) where
   abbrev fs : List Shape
@@ -214,7 +179,7 @@ module _ (env : Shapes) where
     laid = λ f lt. laid env g (at fs f) (entry_of f) (entry_of f + 2) (ends (entry_of f + 1)) false false (o.bodies f Skip lt) (omega arith) (owns f lt);
     begins = λ f lt. record { edges = λ l b e. begin (mine f (entry_of f) l b lt (omega arith) (omega arith) e) refl (omega arith); inner = λ k lk. exit_apart f k (entry_of f) lt lk (omega arith) (omega arith) (λ e. omega (arith, e)) };
     stops = λ f lt l b e. nowhere f (sources (mine f (entry_of f + 1) l b lt (omega arith) (omega arith) e));
-    one_site = λ s a b c d h k. ap target (one_call o s a b c d h k);
+    one_site = λ s a b c d h k. ap goal (one_call o s a b c d h k);
     known = λ s f h. o.known s f h;
     same_exit = λ f h lf lh e. one fs 0 f h (entry_of f + 1) lf lh (omega arith) (omega arith) (omega (arith, e)) (omega (arith, e));
   }

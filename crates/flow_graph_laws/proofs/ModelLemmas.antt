@@ -15,6 +15,7 @@ use Rattle.flow_graph_laws.specs.Layout.{Edge, edge, width}
 use Rattle.flow_graph_laws.specs.Sorted.{sorted}
 use Rattle.flow_graph_laws.specs.GraphOf.{graph_of, silent_edges, sys_edges, calls, functions_from, edges_from}
 use Rattle.flow_graph_laws.specs.Premises.{AreClosed}
+use Rattle.flow_graph_laws.proofs.Edges.{source, goal}
 use Rattle.flow_graph_laws.proofs.SortedLemmas.{sorted_from, sorted_has}
 use Rattle.flow_graph_laws.proofs.Functions.{entry_at, one_call}
 use Rattle.c_shapes.proofs.Members.{is_first, is_later}
@@ -64,14 +65,9 @@ put_first candidates (edge x (Site s) y) es = is_first (call_at candidates x s y
 
 put_later : (candidates : ℕ → List ℕ) (d : Edge) (es : List Edge) (e : Edge) → Puts candidates es e → Puts candidates (d ∷ es) e
 put_later candidates (edge x Silent y) es (edge a Silent b) h = is_later (record { from = x; to = y }) (silent_edges es) (record { from = a; to = b }) h
-put_later candidates (edge x (System m p) y) es (edge a Silent b) h = h
-put_later candidates (edge x (Site r) y) es (edge a Silent b) h = h
-put_later candidates (edge x Silent y) es (edge a (System n q) b) h = h
 put_later candidates (edge x (System m p) y) es (edge a (System n q) b) h = is_later (record { from = x; name = m; to = y; args = p }) (sys_edges es) (record { from = a; name = n; to = b; args = q }) h
-put_later candidates (edge x (Site r) y) es (edge a (System n q) b) h = h
-put_later candidates (edge x Silent y) es (edge a (Site s) b) h = h
-put_later candidates (edge x (System m p) y) es (edge a (Site s) b) h = h
 put_later candidates (edge x (Site r) y) es (edge a (Site s) b) h = is_later (call_at candidates x r y) (calls candidates es) (call_at candidates a s b) h
+put_later candidates d es e h = h
 
 puts : (candidates : ℕ → List ℕ) (es : List Edge) (e : Edge) → Contains es e → Puts candidates es e
 puts candidates [] e h = absurd (omega (arith, h.1))
@@ -87,10 +83,9 @@ pub record Made (n : ℕ) (fs : List Shape) (made : List ModelFunction) (f : ℕ
 
 pub made : (n : ℕ) (names : List (List ℕ)) (fs : List Shape) (f : ℕ) → length names ≡ length fs → f < length fs → Made n fs (functions_from n names fs) f
 made n [] [] f e lt = absurd (omega (arith, lt))
-made n [] (S ∷ fs) f e lt = absurd (omega (arith, e))
-made n (name ∷ names) [] f e lt = absurd (omega (arith, e))
 made n (name ∷ names) (S ∷ fs) zero e lt = record { one = record { name = name; entry = n; exit = n + 1 }; has = refl; begins = refl; ends = refl }
 made n (name ∷ names) (S ∷ fs) (suc f) e lt = let r = made (n + 2 + width S) names fs f (omega (arith, e)) (omega (arith, lt)) in record { one = r.one; has = r.has; begins = r.begins; ends = r.ends }
+made n names fs f e lt = absurd (omega (arith, e))
 
 pub record Known (n : ℕ) (fs : List Shape) (f : ℕ) (one : ModelFunction) : Type 0 where
   pub below : f < length fs
@@ -102,10 +97,9 @@ KnownOf n fs f None = ⊥
 KnownOf n fs f (Some one) = Known n fs f one
 
 pub known : (n : ℕ) (names : List (List ℕ)) (fs : List Shape) (f : ℕ) (one : ModelFunction) → slice_get (functions_from n names fs) f ≡ Some one → Known n fs f one
-known n [] fs f one h = absurd (cc)
-known n (name ∷ names) [] f one h = absurd (cc)
 known n (name ∷ names) (S ∷ fs) zero one h = subst (λ o. KnownOf n (S ∷ fs) 0 o) h (record { below = omega arith; begins = refl; ends = refl })
 known n (name ∷ names) (S ∷ fs) (suc f) one h = let r = known (n + 2 + width S) names fs f one h in record { below = let k = r.below in omega (arith, k); begins = r.begins; ends = r.ends }
+known n names fs f one h = absurd (cc)
 
 module _ (names : List (List ℕ)) (env : Shapes) (closed : AreClosed env) (many : length names ≡ length env.functions) where
   abbrev es : List Edge
@@ -148,12 +142,6 @@ module _ (names : List (List ℕ)) (env : Shapes) (closed : AreClosed env) (many
       let to : x.to ≡ y.to = ap goal edges in
       let candidates : x.candidates ≡ y.candidates = r.are ∙ (ap (λ z. sorted nat_cmp (env.candidates z)) site ∙ sym (s.are)) in
       λ i. record { from = from i; site = site i; to = to i; candidates = candidates i }
-    where
-      source : Edge → ℕ
-      source (edge a l b) = a
-
-      goal : Edge → ℕ
-      goal (edge a l b) = b
 
   pub has_call : (a s b f : ℕ) → Contains es (edge a (Site s) b) → Contains (env.candidates s) f → HasCall M a s b f
   has_call a s b f h k = record {

@@ -45,30 +45,20 @@ widen f g (fresh l r) = g l r
 
 mutual
   pub sources : {S : Shape} {a n x y : ℕ} {p : Places} {l : Label} → Lays S a n p x l y → At S a n x
-  sources skip = start refl
-  sources sys = start refl
-  sources exit = start refl
-  sources call = start refl
   sources (in_left e) = widen (λ e. start e) (λ l r. fresh (omega (arith, l)) (omega (arith, r))) (sources e)
   sources (in_right e) = widen (λ e. start e) (λ l r. fresh (omega (arith, l)) (omega (arith, r))) (sources e)
-  sources to_loop = start refl
   sources loop_ends = fresh (omega arith) (omega arith)
   sources (in_test e) = widen (λ e. fresh (omega (arith, e)) (omega (arith, e))) (λ l r. fresh (omega (arith, l)) (omega (arith, r))) (sources e)
   sources (in_body e) = widen (λ e. fresh (omega (arith, e)) (omega (arith, e))) (λ l r. fresh (omega (arith, l)) (omega (arith, r))) (sources e)
   sources (in_step e) = widen (λ e. fresh (omega (arith, e)) (omega (arith, e))) (λ l r. fresh (omega (arith, l)) (omega (arith, r))) (sources e)
-  sources to_do = start refl
   sources do_again = fresh (omega arith) (omega arith)
   sources do_ends = fresh (omega arith) (omega arith)
   sources (in_do e) = widen (λ e. fresh (omega (arith, e)) (omega (arith, e))) (λ l r. fresh (omega (arith, l)) (omega (arith, r))) (sources e)
   sources (in_until e) = widen (λ e. fresh (omega (arith, e)) (omega (arith, e))) (λ l r. fresh (omega (arith, l)) (omega (arith, r))) (sources e)
-  sources break_out = start refl
-  sources continue_on = start refl
-  sources return_now = start refl
   sources (in_cases e) = of_cases (sources_parts e)
-  sources no_default = start refl
-  sources (to_case h) = start refl
   sources (in_seq e) = of_first (sources e)
   sources (in_rest e) = of_rest (sources_parts e)
+  sources e = start refl
 
   sources_parts : {ps : Parts} {i n x y : ℕ} {p : Places} {l : Label} → LaysParts ps i n p x l y → AtParts ps i n x
   sources_parts (in_part e) = of_part (sources e)
@@ -98,13 +88,10 @@ begin call e h = G.call
 begin (in_left d) e h = G.left (begin d e h)
 begin (in_right d) e h = G.right (begin d e (omega (arith, h)))
 begin to_loop e h = G.loop
-begin loop_ends e h = absurd (omega (arith, e, h))
 begin (in_test d) e h = off d (λ c. omega (arith, c, e, h)) (λ c r. omega (arith, c, e, h))
 begin (in_body d) e h = off d (λ c. omega (arith, c, e, h)) (λ c r. omega (arith, c, e, h))
 begin (in_step d) e h = off d (λ c. omega (arith, c, e, h)) (λ c r. omega (arith, c, e, h))
 begin to_do e h = G.until
-begin do_again e h = absurd (omega (arith, e, h))
-begin do_ends e h = absurd (omega (arith, e, h))
 begin (in_do d) e h = off d (λ c. omega (arith, c, e, h)) (λ c r. omega (arith, c, e, h))
 begin (in_until d) e h = off d (λ c. omega (arith, c, e, h)) (λ c r. omega (arith, c, e, h))
 begin (to_case k) e h = G.case k
@@ -115,6 +102,7 @@ begin no_default e h = G.no_case
 begin break_out e h = G.break_out
 begin continue_on e h = G.continue_on
 begin return_now e h = G.return_now
+begin d e h = absurd (omega (arith, e, h))
 
 -- which part an edge belongs to, by the node that it leaves
 alt_left : {S T : Shape} {a n x y : ℕ} {p : Places} {l : Label} → Lays (Alt S T) a n p x l y → a < n → n ≤ x → x < n + width S → Lays S a n p x l y
@@ -126,32 +114,28 @@ alt_right (in_left e) h lo hi = off e (λ c. omega (arith, c, h, lo, hi)) (λ c 
 alt_right (in_right e) h lo hi = e
 
 loop_test : {C B P : Shape} {a n x y : ℕ} {p : Places} {l : Label} → Lays (Loop C B P) a n p x l y → a < n → n + 3 ≤ x → x < n + 3 + width C → Lays C n (n + 3) (record p { to = n + 1 }) x l y
-loop_test to_loop h lo hi = absurd (omega (arith, h, lo, hi))
-loop_test loop_ends h lo hi = absurd (omega (arith, h, lo, hi))
 loop_test (in_test e) h lo hi = e
 loop_test (in_body e) h lo hi = off e (λ c. omega (arith, c, h, lo, hi)) (λ c r. omega (arith, c, r, h, lo, hi))
 loop_test (in_step e) h lo hi = off e (λ c. omega (arith, c, h, lo, hi)) (λ c r. omega (arith, c, r, h, lo, hi))
+loop_test e h lo hi = absurd (omega (arith, h, lo, hi))
 
 loop_body : {C B P : Shape} {a n x y : ℕ} {p : Places} {l : Label} → Lays (Loop C B P) a n p x l y → a < n → n + 3 + width C ≤ x → x < n + 3 + width C + width B → Lays B (n + 1) (n + 3 + width C) (body p (n + 2) (p.to) (n + 2)) x l y
-loop_body to_loop h lo hi = absurd (omega (arith, h, lo, hi))
-loop_body loop_ends h lo hi = absurd (omega (arith, h, lo, hi))
 loop_body (in_test e) h lo hi = off e (λ c. omega (arith, c, h, lo, hi)) (λ c r. omega (arith, c, r, h, lo, hi))
 loop_body (in_body e) h lo hi = e
 loop_body (in_step e) h lo hi = off e (λ c. omega (arith, c, h, lo, hi)) (λ c r. omega (arith, c, r, h, lo, hi))
+loop_body e h lo hi = absurd (omega (arith, h, lo, hi))
 
 loop_step : {C B P : Shape} {a n x y : ℕ} {p : Places} {l : Label} → Lays (Loop C B P) a n p x l y → a < n → n + 3 + width C + width B ≤ x → x < n + 3 + width C + width B + width P → Lays P (n + 2) (n + 3 + width C + width B) (record p { to = n }) x l y
-loop_step to_loop h lo hi = absurd (omega (arith, h, lo, hi))
-loop_step loop_ends h lo hi = absurd (omega (arith, h, lo, hi))
 loop_step (in_test e) h lo hi = off e (λ c. omega (arith, c, h, lo, hi)) (λ c r. omega (arith, c, r, h, lo, hi))
 loop_step (in_body e) h lo hi = off e (λ c. omega (arith, c, h, lo, hi)) (λ c r. omega (arith, c, r, h, lo, hi))
 loop_step (in_step e) h lo hi = e
+loop_step e h lo hi = absurd (omega (arith, h, lo, hi))
 
 loop_head : {C B P : Shape} {a n x y : ℕ} {p : Places} {l : Label} → Lays (Loop C B P) a n p x l y → a < n → x ≡ n → First C (n + 3) (record p { to = n + 1 }) l y
-loop_head to_loop h at = absurd (omega (arith, h, at))
-loop_head loop_ends h at = absurd (omega (arith, h, at))
 loop_head (in_test e) h at = begin e at (omega arith)
 loop_head (in_body e) h at = off e (λ c. omega (arith, c, h, at)) (λ c r. omega (arith, c, r, h, at))
 loop_head (in_step e) h at = off e (λ c. omega (arith, c, h, at)) (λ c r. omega (arith, c, r, h, at))
+loop_head e h at = absurd (omega (arith, h, at))
 
 loop_after : {C B P : Shape} {a n x y : ℕ} {p : Places} {l : Label} → Lays (Loop C B P) a n p x l y → a < n → x ≡ n + 1 → OrSilent (p.to) (First B (n + 3 + width C) (body p (n + 2) (p.to) (n + 2))) l y
 loop_after to_loop h at = absurd (omega (arith, h, at))
@@ -161,39 +145,30 @@ loop_after (in_body e) h at = into (begin e at (omega arith))
 loop_after (in_step e) h at = off e (λ c. omega (arith, c, h, at)) (λ c r. omega (arith, c, r, h, at))
 
 loop_next : {C B P : Shape} {a n x y : ℕ} {p : Places} {l : Label} → Lays (Loop C B P) a n p x l y → a < n → x ≡ n + 2 → First P (n + 3 + width C + width B) (record p { to = n }) l y
-loop_next to_loop h at = absurd (omega (arith, h, at))
-loop_next loop_ends h at = absurd (omega (arith, h, at))
 loop_next (in_test e) h at = off e (λ c. omega (arith, c, h, at)) (λ c r. omega (arith, c, r, h, at))
 loop_next (in_body e) h at = off e (λ c. omega (arith, c, h, at)) (λ c r. omega (arith, c, r, h, at))
 loop_next (in_step e) h at = begin e at (omega arith)
+loop_next e h at = absurd (omega (arith, h, at))
 
 do_body : {B C : Shape} {a n x y : ℕ} {p : Places} {l : Label} → Lays (Do B C) a n p x l y → a < n → n + 3 ≤ x → x < n + 3 + width B → Lays B n (n + 3) (body p (n + 1) (p.to) (n + 1)) x l y
-do_body to_do h lo hi = absurd (omega (arith, h, lo, hi))
-do_body do_again h lo hi = absurd (omega (arith, h, lo, hi))
-do_body do_ends h lo hi = absurd (omega (arith, h, lo, hi))
 do_body (in_do e) h lo hi = e
 do_body (in_until e) h lo hi = off e (λ c. omega (arith, c, h, lo, hi)) (λ c r. omega (arith, c, r, h, lo, hi))
+do_body e h lo hi = absurd (omega (arith, h, lo, hi))
 
 do_test : {B C : Shape} {a n x y : ℕ} {p : Places} {l : Label} → Lays (Do B C) a n p x l y → a < n → n + 3 + width B ≤ x → x < n + 3 + width B + width C → Lays C (n + 1) (n + 3 + width B) (record p { to = n + 2 }) x l y
-do_test to_do h lo hi = absurd (omega (arith, h, lo, hi))
-do_test do_again h lo hi = absurd (omega (arith, h, lo, hi))
-do_test do_ends h lo hi = absurd (omega (arith, h, lo, hi))
 do_test (in_do e) h lo hi = off e (λ c. omega (arith, c, h, lo, hi)) (λ c r. omega (arith, c, r, h, lo, hi))
 do_test (in_until e) h lo hi = e
+do_test e h lo hi = absurd (omega (arith, h, lo, hi))
 
 do_head : {B C : Shape} {a n x y : ℕ} {p : Places} {l : Label} → Lays (Do B C) a n p x l y → a < n → x ≡ n → First B (n + 3) (body p (n + 1) (p.to) (n + 1)) l y
-do_head to_do h at = absurd (omega (arith, h, at))
-do_head do_again h at = absurd (omega (arith, h, at))
-do_head do_ends h at = absurd (omega (arith, h, at))
 do_head (in_do e) h at = begin e at (omega arith)
 do_head (in_until e) h at = off e (λ c. omega (arith, c, h, at)) (λ c r. omega (arith, c, r, h, at))
+do_head e h at = absurd (omega (arith, h, at))
 
 do_until : {B C : Shape} {a n x y : ℕ} {p : Places} {l : Label} → Lays (Do B C) a n p x l y → a < n → x ≡ n + 1 → First C (n + 3 + width B) (record p { to = n + 2 }) l y
-do_until to_do h at = absurd (omega (arith, h, at))
-do_until do_again h at = absurd (omega (arith, h, at))
-do_until do_ends h at = absurd (omega (arith, h, at))
 do_until (in_do e) h at = off e (λ c. omega (arith, c, h, at)) (λ c r. omega (arith, c, r, h, at))
 do_until (in_until e) h at = begin e at (omega arith)
+do_until e h at = absurd (omega (arith, h, at))
 
 do_choice : {B C : Shape} {a n x y : ℕ} {p : Places} {l : Label} → Lays (Do B C) a n p x l y → a < n → x ≡ n + 2 → TwoSilent n (p.to) l y
 do_choice to_do h at = absurd (omega (arith, h, at))
@@ -245,16 +220,11 @@ no_default_edge {ps = ps} {a = a} {n = n} {p = p} e = subst (λ d. Lays (Cases p
 
 cases_edge : {ps : Parts} {a n x y : ℕ} {p : Places} {l : Label} {d : Bool} → Lays (Cases ps d) a n p x l y → a < n → n ≤ x → LaysParts ps n (n + count ps) (switch p) x l y
 cases_edge (in_cases e) h lo = e
-cases_edge (to_case k) h lo = absurd (omega (arith, h, lo))
-cases_edge no_default h lo = absurd (omega (arith, h, lo))
+cases_edge e h lo = absurd (omega (arith, h, lo))
 
 -- an expression is a statement
 mutual
   pub statement : (S : Shape) (b c : Bool) → IsExpression S → IsStatement S b c
-  statement Skip b c s = tt
-  statement (Sys x q) b c s = tt
-  statement (Exit q) b c s = tt
-  statement (Call x) b c s = tt
   statement (Seq S ps) b c s = (statement S b c s.0, statements ps b c s.1)
   statement (Alt S T) b c s = (statement S b c s.0, statement T b c s.1)
   statement (Loop C B P) b c s = absurd s
@@ -262,7 +232,7 @@ mutual
   statement (Cases ps d) b c s = absurd s
   statement Break b c s = absurd s
   statement Continue b c s = absurd s
-  statement Return b c s = tt
+  statement S b c s = tt
 
   statements : (ps : Parts) (b c : Bool) → AreExpressions ps → AreStatements ps b c
   statements End b c s = tt

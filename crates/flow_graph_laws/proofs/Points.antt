@@ -88,27 +88,18 @@ module _ (env : Shapes) (g : Graph) where
     lead sys (G.sys e) = by_edge e refl
     lead exit (G.exit e o) = by_edge e tt
     lead call (G.call h) = by_edge h refl
-    lead to_left (G.either hs ht) = in_place refl
-    lead to_right (G.either hs ht) = in_place refl
-    lead left_out (G.either hs ht) = in_place refl
-    lead right_out (G.either hs ht) = in_place refl
     lead (in_left {t = t} k) (G.either {a = a} {n = n} {p = p} hs ht) = carry_plain left (λ x. node x a n p) (ways p) t (lead k hs)
     lead (in_right {t = t} k) (G.either {a = a} {n = n} {p = p} hs ht) = carry_plain right (λ x. node x a n p) (ways p) t (lead k ht)
     lead loop_in (G.loop s1 s2 a e hc hb hp o1 o2 o3) = by_edge a refl
-    lead loop_on (G.loop s1 s2 a e hc hb hp o1 o2 o3) = in_place refl
     lead loop_out (G.loop s1 s2 a e hc hb hp o1 o2 o3) = by_edge e refl
-    lead loop_next (G.loop s1 s2 a e hc hb hp o1 o2 o3) = in_place refl
-    lead loop_again (G.loop s1 s2 a e hc hb hp o1 o2 o3) = in_place refl
     lead (in_test {t = t} k) (G.loop {a = a} {n = n} {p = p} s1 s2 a0 e hc hb hp o1 o2 o3) = carry_plain test (λ x. node x a n p) (ways p) t (lead k hc)
     lead (in_inner {C = C} {B = B} {P = P} {t = t} k) (G.loop {a = a} {n = n} {p = p} s1 s2 a0 e hc hb hp o1 o2 o3) = carry (of_body C B P) (λ x. node x a n p) (ways p) (ways (body p (n + 2) (p.to) (n + 2))) t (λ w e. e) (λ w e. e) (λ w e. e) (λ w e. e) (lead k hb)
     lead (in_step {t = t} k) (G.loop {a = a} {n = n} {p = p} s1 s2 a0 e hc hb hp o1 o2 o3) = carry_plain step (λ x. node x a n p) (ways p) t (lead k hp)
     lead do_in (G.until s1 a d e hb hc o1 o2 o3) = by_edge a refl
-    lead do_on (G.until s1 a d e hb hc o1 o2 o3) = in_place refl
     lead do_again (G.until s1 a d e hb hc o1 o2 o3) = by_edge d refl
     lead do_out (G.until s1 a d e hb hc o1 o2 o3) = by_edge e refl
     lead (in_do {B = B} {C = C} {t = t} k) (G.until {a = a} {n = n} {p = p} s1 a0 d e hb hc o1 o2 o3) = carry (of_do B C) (λ x. node x a n p) (ways p) (ways (body p (n + 1) (p.to) (n + 1))) t (λ w e. e) (λ w e. e) (λ w e. e) (λ w e. e) (lead k hb)
     lead (in_until {t = t} k) (G.until {a = a} {n = n} {p = p} s1 a0 d e hb hc o1 o2 o3) = carry_plain do_test (λ x. node x a n p) (ways p) t (lead k hc)
-    lead seq_in (G.row hs h) = in_place refl
     lead (in_seq {S = S} {ps = ps} {t = t} k) (G.row {a = a} {n = n} {p = p} hs h) = carry (of_seq S ps) (λ x. node x a n p) (ways p) (part_ways p) t (λ w e. e) (λ w e. e) (λ w e. e) (λ w e. e) (lead_row k hs h)
     lead (case_in {k = k} s) (G.cases {ps = ps} {n = n} {p = p} h c e) = by_edge (c (node_part k n (n + count ps) (switch p)) (heads_of s n (n + count ps) (switch p))) refl
     lead no_case (G.cases h c e) = by_edge (e refl) refl
@@ -116,12 +107,12 @@ module _ (env : Shapes) (g : Graph) where
     lead break_out (G.break_out e) = by_edge e refl
     lead continue_on (G.continue_on e) = by_edge e refl
     lead return_now (G.return_now e) = by_edge e refl
+    lead k x = in_place refl
 
     lead_part : {ps : Parts} {x : PartPoint ps} {l : Label} {t : Target (PartPoint ps)} → PartHop ps x l t → {i n : ℕ} {p : Places} → LaidParts env g ps i n p → Lead {P = PartPoint ps} (λ x. node_part x i n p) (part_ways p) (node_part x i n p) l t
     lead_part (in_this {t = t} k) (one_part {ps = ps} {m = i} {n = n} {p = p} hs o h) = carry (plain this) (λ x. node_part x i n p) (part_ways p) (ways (group p ps (i + 1))) t (λ w e. e) (λ w e. e) (λ w e. e) (λ w e. absurd e) (lead k hs)
     lead_part (in_later {t = t} k) (one_part {m = i} {n = n} {p = p} hs o h) = carry_plain later (λ x. node_part x i n p) (part_ways p) t (lead_part k h)
-    lead_part case_on (one_part hs o h) = in_place refl
-    lead_part case_out (one_part hs o h) = in_place refl
+    lead_part k x = in_place refl
 
     lead_row : {S : Shape} {ps : Parts} {x : PartPoint (Part S ps)} {l : Label} {t : Target (PartPoint (Part S ps))} → PartHop (Part S ps) x l t → {a n : ℕ} {p : Places} → Laid env g S a (n + count ps) (group p ps n) → LaidParts env g ps n (n + count ps + width S) p → Lead {P = PartPoint (Part S ps)} (λ k. node {S = Seq S ps} (parts k) a n p) (part_ways p) (node {S = Seq S ps} (parts x) a n p) l t
     lead_row (in_this {S = S} {ps = ps} {t = t} k) {a = a} {n = n} {p = p} hs h = carry (plain this) (λ k. node {S = Seq S ps} (parts k) a n p) (part_ways p) (ways (group p ps n)) t (λ w e. e) (λ w e. e) (λ w e. e) (λ w e. absurd e) (lead k hs)

@@ -59,10 +59,6 @@ module _ (P : Shape → Type 0) (Ps : Parts → Type 0) (w : Spreads P Ps) where
   module _ (p : Program) (direct : (s f : ℕ) (es : Exprs) → P (direct_call p s f es)) (through : (s : ℕ) (callee : Callee) → P (marked_call p s callee)) where
     mutual
       pub expression_has : (e : Expr) → P (shape p e)
-      expression_has (constant t v) = w.skip
-      expression_has (function_name t f) = w.skip
-      expression_has (string_place t n) = w.skip
-      expression_has (variable t is_static n) = w.skip
       expression_has (dereference t a) = expression_has a
       expression_has (load t a) = expression_has a
       expression_has (address_of t a) = expression_has a
@@ -85,6 +81,7 @@ module _ (P : Shape → Type 0) (Ps : Parts → Type 0) (w : Spreads P Ps) where
       expression_has (call_through t s a es) =
           let c = marked_call p s (Through (type_of a)) in
           seq_has (Part (shape p a) (shapes_before p es (Part c End))) (w.some (shape p a) (shapes_before p es (Part c End)) (expression_has a) (expressions_have es (Part c End) (w.some c End (through s (Through (type_of a))) w.none)))
+      expression_has e = w.skip
 
       expressions_have : (es : Exprs) (ps : Parts) → Ps ps → Ps (shapes_before p es ps)
       expressions_have no_exprs ps h = h
@@ -157,7 +154,6 @@ module _ (p : Program) (vars : List CType) (r : CType) where
   mutual
     pub statement_has : (s : Stmt) (b c : Bool) → IsStmt p vars r b c s → IsStatement (shape_of_stmt p s) b c
     statement_has (block ss) b c h = of_seq b c (shapes_of_stmts p ss) (statements_have ss b c h)
-    statement_has empty b c h = tt
     statement_has (evaluate e) b c h = of_expression b c e
     statement_has (declare x is) b c h = of_declare b c is
     statement_has (if_else e s u) b c h = of_two b c (shape p e) (alt (shape_of_stmt p s) (shape_of_stmt p u)) (of_expression b c e) (alt_has (λ S. IsStatement S b c) (λ ps. AreStatements ps b c) (statements_spread b c) (shape_of_stmt p s) (shape_of_stmt p u) (statement_has s b c h.1) (statement_has u b c h.2))
@@ -167,8 +163,8 @@ module _ (p : Program) (vars : List CType) (r : CType) where
     statement_has (switch_on e gs) b c (i, t, u, k, few, h) = of_two b c (shape p e) (Cases (shapes_of_groups p gs) (has_default gs)) (of_expression b c e) (groups_have gs c i h)
     statement_has break_off b c h = h
     statement_has continue_on b c h = h
-    statement_has return_void b c h = tt
     statement_has (return_value e) b c h = of_two b c (shape p e) Return (of_expression b c e) tt
+    statement_has s b c h = tt
 
     statements_have : (ss : Stmts) (b c : Bool) → AreStmts p vars r b c ss → AreStatements (shapes_of_stmts p ss) b c
     statements_have no_stmts b c h = tt
@@ -213,7 +209,6 @@ module _ (p : Program) where
   mutual
     pub right_stmt : (s : Stmt) → HasRightCalls (shape_of_stmt p s)
     right_stmt (block ss) = rights (shapes_of_stmts p ss) (right_stmts ss)
-    right_stmt empty = tt
     right_stmt (evaluate e) = right_expression e
     right_stmt (declare x is) = rights (shapes_of_inits p is) (inits_have HasRightCalls HaveRightCalls calls_spread p (right_direct p) (λ s callee. right_marked s (is_marked p callee)) is)
     right_stmt (if_else e s u) = right_two (shape p e) (alt (shape_of_stmt p s) (shape_of_stmt p u)) (right_expression e) (alt_has HasRightCalls HaveRightCalls calls_spread (shape_of_stmt p s) (shape_of_stmt p u) (right_stmt s) (right_stmt u))
@@ -221,10 +216,8 @@ module _ (p : Program) where
     right_stmt (do_loop s e) = (right_stmt s, right_expression e)
     right_stmt (for_loop first test step s) = right_two (seq (shapes_of_stmts p first)) (Loop (shape_of_maybe p test) (shape_of_stmt p s) (shape_of_maybe p step)) (rights (shapes_of_stmts p first) (right_stmts first)) (right_maybe test, right_stmt s, right_maybe step)
     right_stmt (switch_on e gs) = right_two (shape p e) (Cases (shapes_of_groups p gs) (has_default gs)) (right_expression e) (right_groups gs)
-    right_stmt break_off = tt
-    right_stmt continue_on = tt
-    right_stmt return_void = tt
     right_stmt (return_value e) = right_two (shape p e) Return (right_expression e) tt
+    right_stmt s = tt
 
     right_stmts : (ss : Stmts) → HaveRightCalls (shapes_of_stmts p ss)
     right_stmts no_stmts = tt

@@ -92,10 +92,6 @@ module _ (p : Program) (s : ℕ) where
 
   mutual
     pub in_expr : (e : Expr) → at s (shape p e) ≤ often s (sites_of e)
-    in_expr (constant t v) = omega arith
-    in_expr (function_name t f) = omega arith
-    in_expr (string_place t n) = omega arith
-    in_expr (variable t is_static n) = omega arith
     in_expr (dereference t a) = in_expr a
     in_expr (load t a) = in_expr a
     in_expr (address_of t a) = in_expr a
@@ -131,6 +127,7 @@ module _ (p : Program) (s : ℕ) where
         let m = in_expr a in
         let n = often_append s (sites_of a) (r ∷ sites_of_all es) in
         omega (arith, k, l, h, i, j, m, n)
+    in_expr e = omega arith
 
     in_exprs : (es : Exprs) (ps : Parts) → at_parts s (shapes_before p es ps) ≤ often s (sites_of_all es) + at_parts s ps
     in_exprs no_exprs ps = omega arith
@@ -157,7 +154,6 @@ module _ (p : Program) (s : ℕ) where
   mutual
     pub in_stmt : (u : Stmt) → at s (shape_of_stmt p u) ≤ often s (sites_of_stmt u)
     in_stmt (block ss) = let k = at_seq s (shapes_of_stmts p ss) in let h = in_stmts ss in omega (arith, k, h)
-    in_stmt empty = omega arith
     in_stmt (evaluate e) = in_expr e
     in_stmt (declare x is) = let k = at_seq s (shapes_of_inits p is) in let h = in_inits is in omega (arith, k, h)
     in_stmt (if_else e a b) = both (shape p e) (alt (shape_of_stmt p a) (shape_of_stmt p b)) (sites_of e) (sites_of_stmt a ++ sites_of_stmt b) (in_expr e) (let k = at_alt s (shape_of_stmt p a) (shape_of_stmt p b) in let h = in_stmt a in let i = in_stmt b in let j = often_append s (sites_of_stmt a) (sites_of_stmt b) in omega (arith, k, h, i, j))
@@ -191,10 +187,8 @@ module _ (p : Program) (s : ℕ) where
         let i = in_groups gs in
         let j = often_append s (sites_of e) (sites_of_groups gs) in
         omega (arith, k, h, i, j)
-    in_stmt break_off = omega arith
-    in_stmt continue_on = omega arith
-    in_stmt return_void = omega arith
     in_stmt (return_value e) = let k = at_two s (shape p e) Return in let h = in_expr e in omega (arith, k, h)
+    in_stmt u = omega arith
 
     in_stmts : (ss : Stmts) → at_parts s (shapes_of_stmts p ss) ≤ often s (sites_of_stmts ss)
     in_stmts no_stmts = omega arith

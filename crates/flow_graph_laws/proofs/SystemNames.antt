@@ -62,7 +62,7 @@ no_digit b (inl h) d = omega (arith, h.0, d.1)
 no_digit b (inr (inl h)) d = omega (arith, h.0, d.1)
 no_digit b (inr (inr h)) d = omega (arith, h, d.1)
 
-name : (text : List ℕ) → is_name text ≡ true → IsName text
+pub name : (text : List ℕ) → is_name text ≡ true → IsName text
 name [] h = absurd (false≢true (and_left false (nat_lt 0 64 && (true && is_absent [] keywords)) h))
 name (b ∷ text) h =
     let rest = and_right (is_letter b) (nat_lt (length (b ∷ text)) 64 && (are_bytes (b ∷ text) && is_absent (b ∷ text) keywords)) h in

@@ -10,6 +10,7 @@ use Rattle.c_shapes.specs.Shape.{Skip, Sys, Exit, Call, Seq, Alt, Loop, Do, Case
 use Rattle.c_shapes.specs.Bodies.{IsBody}
 use Rattle.flow_graph_laws.specs.GraphOf.{graph_of}
 use Rattle.flow_graph_laws.specs.Premises.{AreClosed, AreNamed, HasRightCalls}
+use Rattle.flow_graph_laws.proofs.SystemNames.{name}
 use Rattle.flow_graph_laws.proofs.Rising.{pairs_cons, pairs_nil}
 
 -- int f(void) { return getpid(); } int main(void) { f(); getuid(); f(); return 0; }
@@ -171,41 +172,11 @@ two_callers_closed = record {
     first_alone f (zero, lt, is) = omega (arith, is)
     first_alone f (suc k, lt, is) = absurd (omega (arith, lt))
 
--- whether a text stands in a list
-abbrev same : List ℕ → List ℕ → Bool
-same [] [] = true
-same [] (y ∷ ys) = false
-same (x ∷ xs) [] = false
-same (x ∷ xs) (y ∷ ys) = cond (nat_eq x y) (same xs ys) false
-
-same_itself : (xs : List ℕ) → same xs xs ≡ true
-same_itself [] = refl
-same_itself (x ∷ xs) = ap (λ b. cond b (same xs xs) false) (nat_eq_equiv.refl x) ∙ same_itself xs
-
-abbrev among : List ℕ → List (List ℕ) → Bool
-among z [] = false
-among z (x ∷ xs) = cond (same x z) true (among z xs)
-
-cond_true : (b : Bool) → cond b true true ≡ true
-cond_true true = refl
-cond_true false = refl
-
-found : (z : List ℕ) (xs : List (List ℕ)) → Contains xs z → among z xs ≡ true
-found z [] h = absurd (omega (arith, h.1))
-found z (x ∷ xs) (zero, lt, is) = ap (λ b. cond b true (among z xs)) (subst (λ y. same x y ≡ true) is (same_itself x))
-found z (x ∷ xs) (suc k, lt, is) = ap (λ b. cond (same x z) true b) (found z xs (k, omega arith, is)) ∙ cond_true (same x z)
-
-letters : (bytes : List ℕ) → All IsLetter bytes → All (λ b. IsLetter b ⊎ IsDigit b) bytes
-letters bytes all k d lt = inl (all k d lt)
-
-small : (b : ℕ) → 97 ≤ b → b ≤ 122 → IsLetter b
-small b l r = inr (inl (l, r))
-
 f_named : IsName (codes "f")
-f_named = IsName-from_parts (codes "f") (omega arith) (omega arith) (λ d. omega (arith, d.1)) (letters (codes "f") (All-cons IsLetter 102 [] (small 102 (omega arith) (omega arith)) (All-nil IsLetter))) (λ h. false≢true (found (codes "f") keywords h))
+f_named = name (codes "f") refl
 
 main_named : IsName (codes "main")
-main_named = IsName-from_parts (codes "main") (omega arith) (omega arith) (λ d. omega (arith, d.1)) (letters (codes "main") (All-cons IsLetter 109 (codes "ain") (small 109 (omega arith) (omega arith)) (All-cons IsLetter 97 (codes "in") (small 97 (omega arith) (omega arith)) (All-cons IsLetter 105 (codes "n") (small 105 (omega arith) (omega arith)) (All-cons IsLetter 110 [] (small 110 (omega arith) (omega arith)) (All-nil IsLetter)))))) (λ h. false≢true (found (codes "main") keywords h))
+main_named = name (codes "main") refl
 
 none_right : IsRight 14 []
 unfolding table
@@ -219,14 +190,11 @@ two_callers_named : AreNamed (codes "f" ∷ codes "main" ∷ []) two_callers
 two_callers_named = record {
   many = refl;
   names = All-cons IsName (codes "f") (codes "main" ∷ []) f_named (All-cons IsName (codes "main") [] main_named (All-nil IsName));
-  differ = pairs_cons (λ x y. x ≢ y) (codes "f") (codes "main" ∷ []) (λ z h e. absurd (differ z e h)) (pairs_cons (λ x y. x ≢ y) (codes "main") [] (λ z h e. omega (arith, h.1)) (pairs_nil (λ x y. x ≢ y)));
+  differ = pairs_cons (λ x y. x ≢ y) (codes "f") (codes "main" ∷ []) (λ z h e. absurd (apart z e h)) (pairs_cons (λ x y. x ≢ y) (codes "main") [] (λ z h e. omega (arith, h.1)) (pairs_nil (λ x y. x ≢ y)));
   patterns = All-cons HasRightCalls (Seq (Sys 14 []) (Part Return End)) (Seq (Call 1) (Part (Sys 16 []) (Part (Call 3) (Part Return End))) ∷ []) (none_right, (tt, tt)) (All-cons HasRightCalls (Seq (Call 1) (Part (Sys 16 []) (Part (Call 3) (Part Return End)))) [] (tt, (none_right_too, (tt, (tt, tt)))) (All-nil HasRightCalls));
   few = omega arith;
 }
   where
-    unequal : same (codes "main") (codes "f") ≡ true → ⊥
-    unequal e = false≢true e
-
-    differ : (z : List ℕ) → codes "f" ≡ z → Contains (codes "main" ∷ []) z → ⊥
-    differ z e (zero, lt, is) = unequal (subst (λ y. same (codes "main") y ≡ true) (is ∙ sym e) (same_itself (codes "main")))
-    differ z e (suc k, lt, is) = omega (arith, lt)
+    apart : (z : List ℕ) → codes "f" ≡ z → Contains (codes "main" ∷ []) z → ⊥
+    apart z e (zero, lt, is) = cc
+    apart z e (suc k, lt, is) = omega (arith, lt)

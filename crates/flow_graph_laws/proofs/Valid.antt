@@ -83,36 +83,24 @@ mutual
 
 -- the pattern of an edge is right
 abbrev Right : Label → Type 0
-Right Silent = Unit {0}
 Right (System k q) = IsRight k q
-Right (Site s) = Unit {0}
+Right l = Unit {0}
 
 mutual
   right : {S : Shape} {a n x y : ℕ} {p : Places} {l : Label} → Lays S a n p x l y → HasRightCalls S → Right l
-  right skip h = tt
   right sys h = h
   right exit h = h
-  right call h = tt
   right (in_seq e) h = right e h.0
   right (in_rest e) h = right_part e h.1
   right (in_left e) h = right e h.0
   right (in_right e) h = right e h.1
-  right to_loop h = tt
-  right loop_ends h = tt
   right (in_test e) h = right e h.0
   right (in_body e) h = right e h.1
   right (in_step e) h = right e h.2
-  right to_do h = tt
-  right do_again h = tt
-  right do_ends h = tt
   right (in_do e) h = right e h.0
   right (in_until e) h = right e h.1
-  right break_out h = tt
-  right continue_on h = tt
-  right return_now h = tt
-  right (to_case k) h = tt
   right (in_cases e) h = right_part e h
-  right no_default h = tt
+  right e h = tt
 
   right_part : {ps : Parts} {i n x y : ℕ} {p : Places} {l : Label} → LaysParts ps i n p x l y → HaveRightCalls ps → Right l
   right_part (in_part e) h = right e h.0
@@ -125,9 +113,8 @@ up (S ∷ fs) n = let k = up fs (n + 2 + width S) in omega (arith, k)
 
 many_made : (names : List (List ℕ)) (fs : List Shape) (n : ℕ) → length names ≡ length fs → length (functions_from n names fs) ≡ length fs
 many_made [] [] n e = refl
-many_made [] (S ∷ fs) n e = absurd (omega (arith, e))
-many_made (name ∷ names) [] n e = absurd (omega (arith, e))
 many_made (name ∷ names) (S ∷ fs) n e = let k = many_made names fs (n + 2 + width S) (omega (arith, e)) in omega (arith, k)
+many_made names fs n e = absurd (omega (arith, e))
 
 record Between (names : List (List ℕ)) (fs : List Shape) (n : ℕ) (one : ModelFunction) : Type 0 where
   low : n ≤ one.entry
@@ -135,24 +122,21 @@ record Between (names : List (List ℕ)) (fs : List Shape) (n : ℕ) (one : Mode
   name : Contains names one.name
 
 between : (names : List (List ℕ)) (fs : List Shape) (n : ℕ) (one : ModelFunction) → Contains (functions_from n names fs) one → Between names fs n one
-between [] fs n one h = absurd (omega (arith, h.1))
-between (name ∷ names) [] n one h = absurd (omega (arith, h.1))
 between (name ∷ names) (S ∷ fs) n one (zero, lt, is) = subst (Between (name ∷ names) (S ∷ fs) n) is (record { low = omega arith; high = let k = up fs (n + 2 + width S) in omega (arith, k); name = (0, omega arith, refl) })
 between (name ∷ names) (S ∷ fs) n one (suc k, lt, is) =
     let r = between names fs (n + 2 + width S) one (k, omega arith, is) in
     let low = r.low in
     let (i, small, same) = r.name in
     record { low = omega (arith, low); high = r.high; name = (suc i, omega (arith, small), same) }
+between names fs n one h = absurd (omega (arith, h.1))
 
 rise : (names : List (List ℕ)) (fs : List Shape) (n : ℕ) → AllPairs (λ d e. d.entry < e.entry) (functions_from n names fs)
-rise [] fs n = pairs_nil (λ (d e : ModelFunction). d.entry < e.entry)
-rise (name ∷ names) [] n = pairs_nil (λ (d e : ModelFunction). d.entry < e.entry)
 rise (name ∷ names) (S ∷ fs) n = pairs_cons (λ (d e : ModelFunction). d.entry < e.entry) (record { name = name; entry = n; exit = n + 1 }) (functions_from (n + 2 + width S) names fs) (λ z h. let r = between names fs (n + 2 + width S) z h in let low = r.low in omega (arith, low)) (rise names fs (n + 2 + width S))
+rise names fs n = pairs_nil (λ (d e : ModelFunction). d.entry < e.entry)
 
 names_differ : (names : List (List ℕ)) (fs : List Shape) (n : ℕ) → AllPairs (λ x y. x ≢ y) names → AllPairs (λ d e. d.name ≢ e.name) (functions_from n names fs)
-names_differ [] fs n pairs = pairs_nil (λ (d e : ModelFunction). d.name ≢ e.name)
-names_differ (name ∷ names) [] n pairs = pairs_nil (λ (d e : ModelFunction). d.name ≢ e.name)
 names_differ (name ∷ names) (S ∷ fs) n pairs = pairs_cons (λ (d e : ModelFunction). d.name ≢ e.name) (record { name = name; entry = n; exit = n + 1 }) (functions_from (n + 2 + width S) names fs) (λ z h. pairs_head (λ x y. x ≢ y) name names pairs (z.name) ((between names fs (n + 2 + width S) z h).name)) (names_differ names fs (n + 2 + width S) (pairs_tail (λ x y. x ≢ y) name names pairs))
+names_differ names fs n pairs = pairs_nil (λ (d e : ModelFunction). d.name ≢ e.name)
 
 -- where the nodes of the function f end
 abbrev next_entry : List ModelFunction → ℕ → ℕ → ℕ
@@ -160,13 +144,10 @@ next_entry made nodes k = unwrap_or (option_map (λ (one : ModelFunction). one.e
 
 end_at : (names : List (List ℕ)) (fs : List Shape) (n f : ℕ) → length names ≡ length fs → f < length fs → next_entry (functions_from n names fs) (nodes_from n fs) (suc f) ≡ entry_at fs n f + 2 + width (at fs f)
 end_at [] [] n f e lt = absurd (omega (arith, lt))
-end_at [] (S ∷ fs) n f e lt = absurd (omega (arith, e))
-end_at (name ∷ names) [] n f e lt = absurd (omega (arith, e))
 end_at (name ∷ []) (S ∷ []) n zero e lt = refl
-end_at (name ∷ []) (S ∷ (T ∷ fs)) n zero e lt = absurd (omega (arith, e))
-end_at (name ∷ (other ∷ names)) (S ∷ []) n zero e lt = absurd (omega (arith, e))
 end_at (name ∷ (other ∷ names)) (S ∷ (T ∷ fs)) n zero e lt = refl
 end_at (name ∷ names) (S ∷ fs) n (suc f) e lt = end_at names fs (n + 2 + width S) f (omega (arith, e)) (omega (arith, lt))
+end_at names fs n f e lt = absurd (omega (arith, e))
 
 some_node : (fs : List Shape) {f : ℕ} → f < length fs → 1 ≤ nodes_from 0 fs
 some_node [] lt = absurd (omega (arith, lt))
