@@ -16,6 +16,7 @@ use Rattle.c_shapes.specs.Mentions.{Direct, Through}
 use Rattle.c_shapes.specs.CallGraph.{is_marked}
 use Rattle.c_shapes.specs.ShapeOf.{before_parts, without_skips, in_turn, seq, seq_two, alt, system_call, marked_call, direct_call, shape, shapes_before, shape_of_maybe, shapes_of_inits, shape_of_stmt, shapes_of_stmts, shapes_of_groups, shape_of_function, any_call, has_default}
 use Rattle.flow_graph_laws.specs.Premises.{sites, sites_of_parts}
+use Rattle.flow_graph_laws.proofs.ShapesOfTrees.{Spreads, Stands, if_has, tree_has}
 use Rattle.flow_graph_laws.proofs.Rising.{pairs_cons, pairs_nil}
 
 abbrev one : Bool → ℕ
@@ -31,9 +32,6 @@ often_append : (s : ℕ) (xs ys : List ℕ) → often s (xs ++ ys) ≡ often s x
 often_append s [] ys = omega arith
 often_append s (r ∷ rs) ys = let k = often_append s rs ys in omega (arith, k)
 
-often_three : (s : ℕ) (xs ys zs : List ℕ) → often s (xs ++ (ys ++ zs)) ≡ often s xs + often s ys + often s zs
-often_three s xs ys zs = let k = often_append s xs (ys ++ zs) in let i = often_append s ys zs in omega (arith, k, i)
-
 -- the same for shapes
 abbrev at : ℕ → Shape → ℕ
 at s S = often s (sites S)
@@ -44,29 +42,6 @@ at_parts s ps = often s (sites_of_parts ps)
 at_part : (s : ℕ) (S : Shape) (ps : Parts) → at_parts s (Part S ps) ≡ at s S + at_parts s ps
 at_part s S ps = often_append s (sites S) (sites_of_parts ps)
 
-at_before : (s : ℕ) (S : Shape) (ps : Parts) → at_parts s (before_parts S ps) ≡ at s S + at_parts s ps
-at_before s Skip ps = omega arith
-at_before s S ps = at_part s S ps
-
-at_skips : (s : ℕ) (ps : Parts) → at_parts s (without_skips ps) ≡ at_parts s ps
-at_skips s End = refl
-at_skips s (Part S ps) = let k = at_before s S (without_skips ps) in let i = at_skips s ps in let j = at_part s S ps in omega (arith, k, i, j)
-
-at_turn : (s : ℕ) (ps : Parts) → at s (in_turn ps) ≡ at_parts s ps
-at_turn s End = refl
-at_turn s (Part S End) = let k = at_part s S End in omega (arith, k)
-at_turn s (Part S (Part T ps)) = refl
-
-at_seq : (s : ℕ) (ps : Parts) → at s (seq ps) ≡ at_parts s ps
-at_seq s ps = at_turn s (without_skips ps) ∙ at_skips s ps
-
-at_two : (s : ℕ) (S T : Shape) → at s (seq_two S T) ≡ at s S + at s T
-at_two s S T = let k = at_seq s (Part S (Part T End)) in let i = at_part s S (Part T End) in let j = at_part s T End in omega (arith, k, i, j)
-
-at_alt : (s : ℕ) (S T : Shape) → at s (alt S T) ≡ at s S + at s T
-at_alt s Skip Skip = omega arith
-at_alt s S T = often_append s (sites S) (sites T)
-
 at_if_call : (s r : ℕ) (b : Bool) → at s (if b then Call r else Skip) ≤ one (nat_eq s r)
 at_if_call s r true = omega arith
 at_if_call s r false = omega arith
@@ -75,139 +50,38 @@ at_system : (s x : ℕ) (q : List (Option ℤ)) (b : Bool) → at s (if b then E
 at_system s x q true = refl
 at_system s x q false = refl
 
-at_if : (s n : ℕ) (b : Bool) (S T : Shape) → at s S ≤ n → at s T ≤ n → at s (if b then S else T) ≤ n
-at_if s n true S T h k = h
-at_if s n false S T h k = k
-
 at_direct : (p : Program) (s r f : ℕ) (es : Exprs) → at s (direct_call p r f es) ≤ one (nat_eq s r)
 at_direct p s r f es =
     let x = f - defined p in
     let sys : at s (system_call x (pattern_of x es)) ≤ one (nat_eq s r) = let k = at_system s x (pattern_of x es) (nat_eq x exit_call) in omega (arith, k) in
-    at_if s (one (nat_eq s r)) (nat_lt f (defined p)) (if is_marked p (Direct f) then Call r else Skip) (if nat_lt x 24 then system_call x (pattern_of x es) else Skip) (at_if_call s r (is_marked p (Direct f))) (at_if s (one (nat_eq s r)) (nat_lt x 24) (system_call x (pattern_of x es)) Skip sys (omega arith))
+    if_has (λ S. at s S ≤ one (nat_eq s r)) (nat_lt f (defined p)) (if is_marked p (Direct f) then Call r else Skip) (if nat_lt x 24 then system_call x (pattern_of x es) else Skip) (λ h. at_if_call s r (is_marked p (Direct f))) (λ h. if_has (λ S. at s S ≤ one (nat_eq s r)) (nat_lt x 24) (system_call x (pattern_of x es)) Skip (λ k. sys) (λ k. omega arith))
+
+-- that a shape has the site at most so often
+few_spread : (s : ℕ) → Spreads (λ S n. at s S ≤ n) (λ ps n. at_parts s ps ≤ n)
+few_spread s = record {
+  skip = λ n. omega arith;
+  none = λ n. omega arith;
+  some = λ S ps m n h k. let i = at_part s S ps in omega (arith, h, k, i);
+  split = λ S ps n h. (at s S, at_parts s ps, (let i = at_part s S ps in omega (arith, h, i)), omega arith, omega arith);
+  row = λ S ps n h. h;
+  either = λ S T m n h k. let i = often_append s (sites S) (sites T) in omega (arith, h, k, i);
+  more = λ S m n h le. omega (arith, h, le);
+  parts_more = λ ps m n h le. omega (arith, h, le);
+}
+
+few_stand : (s : ℕ) → Stands (λ S n. at s S ≤ n) (λ ps n. at_parts s ps ≤ n)
+few_stand s = record {
+  loop = λ C B T l m n h i k. let j = often_append s (sites C) (sites B ++ sites T) in let q = often_append s (sites B) (sites T) in omega (arith, h, i, k, j, q);
+  until = λ B C m n h k. let i = often_append s (sites B) (sites C) in omega (arith, h, k, i);
+  cases = λ ps d n h. h;
+  breaks = λ n. omega arith;
+  continues = λ n. omega arith;
+  returns = λ n. omega arith;
+}
 
 module _ (p : Program) (s : ℕ) where
-  -- two operands
-  both : (S T : Shape) (xs ys : List ℕ) → at s S ≤ often s xs → at s T ≤ often s ys → at s (seq_two S T) ≤ often s (xs ++ ys)
-  both S T xs ys h k = let i = at_two s S T in let j = often_append s xs ys in omega (arith, h, k, i, j)
-
-  mutual
-    pub in_expr : (e : Expr) → at s (shape p e) ≤ often s (sites_of e)
-    in_expr (dereference t a) = in_expr a
-    in_expr (load t a) = in_expr a
-    in_expr (address_of t a) = in_expr a
-    in_expr (decay t a) = in_expr a
-    in_expr (discard t a) = in_expr a
-    in_expr (field t first a) = in_expr a
-    in_expr (unary_operation t op a) = in_expr a
-    in_expr (conversion t to a) = in_expr a
-    in_expr (arithmetic t op a b) = both (shape p a) (shape p b) (sites_of a) (sites_of b) (in_expr a) (in_expr b)
-    in_expr (comparison t op a b) = both (shape p a) (shape p b) (sites_of a) (sites_of b) (in_expr a) (in_expr b)
-    in_expr (pointer_add t first subtracted a b) = both (shape p a) (shape p b) (sites_of a) (sites_of b) (in_expr a) (in_expr b)
-    in_expr (pointer_diff t a b) = both (shape p a) (shape p b) (sites_of a) (sites_of b) (in_expr a) (in_expr b)
-    in_expr (and t a b) = both (shape p a) (alt (shape p b) Skip) (sites_of a) (sites_of b) (in_expr a) (let k = at_alt s (shape p b) Skip in let h = in_expr b in omega (arith, k, h))
-    in_expr (or t a b) = both (shape p a) (alt (shape p b) Skip) (sites_of a) (sites_of b) (in_expr a) (let k = at_alt s (shape p b) Skip in let h = in_expr b in omega (arith, k, h))
-    in_expr (assign t a b) = both (shape p a) (shape p b) (sites_of a) (sites_of b) (in_expr a) (in_expr b)
-    in_expr (update t op old a b) = both (shape p a) (shape p b) (sites_of a) (sites_of b) (in_expr a) (in_expr b)
-    in_expr (conditional t c a b) = both (shape p c) (alt (shape p a) (shape p b)) (sites_of c) (sites_of a ++ sites_of b) (in_expr c) (let k = at_alt s (shape p a) (shape p b) in let h = in_expr a in let i = in_expr b in let j = often_append s (sites_of a) (sites_of b) in omega (arith, k, h, i, j))
-    in_expr (comma t es) = let k = at_seq s (shapes_before p es End) in let h = in_exprs es End in omega (arith, k, h)
-    in_expr (call t r f es) =
-        let c = direct_call p r f es in
-        let k = at_seq s (shapes_before p es (Part c End)) in
-        let h = in_exprs es (Part c End) in
-        let i = at_part s c End in
-        let j = at_direct p s r f es in
-        omega (arith, k, h, i, j)
-    in_expr (call_through t r a es) =
-        let c = marked_call p r (Through (type_of a)) in
-        let k = at_seq s (Part (shape p a) (shapes_before p es (Part c End))) in
-        let l = at_part s (shape p a) (shapes_before p es (Part c End)) in
-        let h = in_exprs es (Part c End) in
-        let i = at_part s c End in
-        let j = at_if_call s r (is_marked p (Through (type_of a))) in
-        let m = in_expr a in
-        let n = often_append s (sites_of a) (r ∷ sites_of_all es) in
-        omega (arith, k, l, h, i, j, m, n)
-    in_expr e = omega arith
-
-    in_exprs : (es : Exprs) (ps : Parts) → at_parts s (shapes_before p es ps) ≤ often s (sites_of_all es) + at_parts s ps
-    in_exprs no_exprs ps = omega arith
-    in_exprs (more_exprs e es) ps =
-        let k = at_part s (shape p e) (shapes_before p es ps) in
-        let h = in_expr e in
-        let i = in_exprs es ps in
-        let j = often_append s (sites_of e) (sites_of_all es) in
-        omega (arith, k, h, i, j)
-
-  in_maybe : (m : Maybe) → at s (shape_of_maybe p m) ≤ often s (sites_of_maybe m)
-  in_maybe absent = omega arith
-  in_maybe (there e) = in_expr e
-
-  in_inits : (is : Inits) → at_parts s (shapes_of_inits p is) ≤ often s (sites_of_inits is)
-  in_inits no_inits = omega arith
-  in_inits (more_inits cell e is) =
-      let k = at_part s (shape p e) (shapes_of_inits p is) in
-      let h = in_expr e in
-      let i = in_inits is in
-      let j = often_append s (sites_of e) (sites_of_inits is) in
-      omega (arith, k, h, i, j)
-
-  mutual
-    pub in_stmt : (u : Stmt) → at s (shape_of_stmt p u) ≤ often s (sites_of_stmt u)
-    in_stmt (block ss) = let k = at_seq s (shapes_of_stmts p ss) in let h = in_stmts ss in omega (arith, k, h)
-    in_stmt (evaluate e) = in_expr e
-    in_stmt (declare x is) = let k = at_seq s (shapes_of_inits p is) in let h = in_inits is in omega (arith, k, h)
-    in_stmt (if_else e a b) = both (shape p e) (alt (shape_of_stmt p a) (shape_of_stmt p b)) (sites_of e) (sites_of_stmt a ++ sites_of_stmt b) (in_expr e) (let k = at_alt s (shape_of_stmt p a) (shape_of_stmt p b) in let h = in_stmt a in let i = in_stmt b in let j = often_append s (sites_of_stmt a) (sites_of_stmt b) in omega (arith, k, h, i, j))
-    in_stmt (while_loop e a) =
-        let k = often_three s (sites (shape p e)) (sites (shape_of_stmt p a)) [] in
-        let h = in_expr e in
-        let i = in_stmt a in
-        let j = often_append s (sites_of e) (sites_of_stmt a) in
-        omega (arith, k, h, i, j)
-    in_stmt (do_loop a e) =
-        let k = often_append s (sites (shape_of_stmt p a)) (sites (shape p e)) in
-        let h = in_expr e in
-        let i = in_stmt a in
-        let j = often_append s (sites_of_stmt a) (sites_of e) in
-        omega (arith, k, h, i, j)
-    in_stmt (for_loop first test step a) =
-        let l = Loop (shape_of_maybe p test) (shape_of_stmt p a) (shape_of_maybe p step) in
-        let k = at_two s (seq (shapes_of_stmts p first)) l in
-        let h = at_seq s (shapes_of_stmts p first) in
-        let i = often_three s (sites (shape_of_maybe p test)) (sites (shape_of_stmt p a)) (sites (shape_of_maybe p step)) in
-        let f = in_stmts first in
-        let t = in_maybe test in
-        let n = in_maybe step in
-        let b = in_stmt a in
-        let j = often_append s (sites_of_stmts first) (sites_of_maybe test ++ (sites_of_maybe step ++ sites_of_stmt a)) in
-        let m = often_three s (sites_of_maybe test) (sites_of_maybe step) (sites_of_stmt a) in
-        omega (arith, k, h, i, f, t, n, b, j, m)
-    in_stmt (switch_on e gs) =
-        let k = at_two s (shape p e) (Cases (shapes_of_groups p gs) (has_default gs)) in
-        let h = in_expr e in
-        let i = in_groups gs in
-        let j = often_append s (sites_of e) (sites_of_groups gs) in
-        omega (arith, k, h, i, j)
-    in_stmt (return_value e) = let k = at_two s (shape p e) Return in let h = in_expr e in omega (arith, k, h)
-    in_stmt u = omega arith
-
-    in_stmts : (ss : Stmts) → at_parts s (shapes_of_stmts p ss) ≤ often s (sites_of_stmts ss)
-    in_stmts no_stmts = omega arith
-    in_stmts (more_stmts u ss) =
-        let k = at_part s (shape_of_stmt p u) (shapes_of_stmts p ss) in
-        let h = in_stmt u in
-        let i = in_stmts ss in
-        let j = often_append s (sites_of_stmt u) (sites_of_stmts ss) in
-        omega (arith, k, h, i, j)
-
-    in_groups : (gs : Groups) → at_parts s (shapes_of_groups p gs) ≤ often s (sites_of_groups gs)
-    in_groups no_groups = omega arith
-    in_groups (more_groups ls ss gs) =
-        let k = at_part s (seq (shapes_of_stmts p ss)) (shapes_of_groups p gs) in
-        let l = at_seq s (shapes_of_stmts p ss) in
-        let h = in_stmts ss in
-        let i = in_groups gs in
-        let j = often_append s (sites_of_stmts ss) (sites_of_groups gs) in
-        omega (arith, k, l, h, i, j)
+  in_stmt : (u : Stmt) → at s (shape_of_stmt p u) ≤ often s (sites_of_stmt u)
+  in_stmt u = tree_has (λ S n. at s S ≤ n) (λ ps n. at_parts s ps ≤ n) (few_spread s) (often s) (often_append s) p (λ r f es. let k = at_direct p s r f es in omega (arith, k)) (λ r callee. let k = at_if_call s r (is_marked p callee) in omega (arith, k)) (few_stand s) u
 
   at_functions : (fs : List Function) → often s (flat_map sites (map (shape_of_function p) fs)) ≤ often s (flat_map sites_of_function fs)
   at_functions [] = omega arith
