@@ -6,9 +6,10 @@ use Rattle.c_shapes.specs.Walks.{Label, Silent, System, Site}
 use Rattle.flow_graph_laws.specs.Layout.{Edge, edge, Places, ends, body, switch, group, count, width, edges, edges_of_parts, to_each, past_all}
 use Rattle.flow_graph_laws.specs.GraphOf.{edges_from}
 use Rattle.flow_graph_laws.specs.Premises.{sites, sites_of_parts, AreClosed}
+use Rattle.flow_model.proofs.PairsLemmas.{pairs_head, pairs_tail}
 use Rattle.flow_graph_laws.proofs.Laid.{Graph, LaidFrom}
 use Rattle.flow_graph_laws.proofs.Edges.{Lays, source, label, goal, either, none_of, lays_from, lays_to}
-use Rattle.flow_graph_laws.proofs.Owns.{At, start, fresh, sources, begin, laid, Owns}
+use Rattle.flow_graph_laws.proofs.Owns.{sources, begin, laid, Owns}
 use Rattle.c_shapes.proofs.Members.{is_later}
 
 -- the shape and the entry of the function f of those from the node n on
@@ -122,12 +123,6 @@ has_site es s a b (zero, lt, is) = absurd (subst IsSite (sym is) tt)
 abbrev Differ : List ℕ → Type 0
 Differ ss = AllPairs (λ s r. s ≢ r) ss
 
-head_differs : (r : ℕ) (ss : List ℕ) → Differ (r ∷ ss) → (s : ℕ) → Contains ss s → r ≢ s
-head_differs r ss pairs s (k, lt, is) = subst (λ z. r ≢ z) is (pairs 0 (suc k) s (omega arith) (omega (arith, lt)))
-
-rest_differ : (r : ℕ) (ss : List ℕ) → Differ (r ∷ ss) → Differ ss
-rest_differ r ss pairs i j d lt within = pairs (suc i) (suc j) d (omega (arith, lt)) (omega (arith, within))
-
 one_edge : (es : List Edge) → Differ (sites_of es) → (s a b c d : ℕ) → Contains es (edge a (Site s) b) → Contains es (edge c (Site s) d) → edge a (Site s) b ≡ edge c (Site s) d
 one_edge [] pairs s a b c d h k = absurd (omega (arith, h.1))
 one_edge (edge x Silent y ∷ es) pairs s a b c d (suc i, lt, is) (zero, lt2, is2) = absurd (subst IsSite (sym is2) tt)
@@ -135,9 +130,9 @@ one_edge (edge x Silent y ∷ es) pairs s a b c d (suc i, lt, is) (suc j, lt2, i
 one_edge (edge x (System m q) y ∷ es) pairs s a b c d (suc i, lt, is) (zero, lt2, is2) = absurd (subst IsSite (sym is2) tt)
 one_edge (edge x (System m q) y ∷ es) pairs s a b c d (suc i, lt, is) (suc j, lt2, is2) = one_edge es pairs s a b c d (i, omega arith, is) (j, omega arith, is2)
 one_edge (edge x (Site r) y ∷ es) pairs s a b c d (zero, lt, is) (zero, lt2, is2) = sym is ∙ is2
-one_edge (edge x (Site r) y ∷ es) pairs s a b c d (zero, lt, is) (suc j, lt2, is2) = absurd (head_differs r (sites_of es) pairs s (has_site es s c d (j, omega arith, is2)) (ap site_or is))
-one_edge (edge x (Site r) y ∷ es) pairs s a b c d (suc i, lt, is) (zero, lt2, is2) = absurd (head_differs r (sites_of es) pairs s (has_site es s a b (i, omega arith, is)) (ap site_or is2))
-one_edge (edge x (Site r) y ∷ es) pairs s a b c d (suc i, lt, is) (suc j, lt2, is2) = one_edge es (rest_differ r (sites_of es) pairs) s a b c d (i, omega arith, is) (j, omega arith, is2)
+one_edge (edge x (Site r) y ∷ es) pairs s a b c d (zero, lt, is) (suc j, lt2, is2) = absurd (pairs_head (λ s r. s ≢ r) r (sites_of es) pairs s (has_site es s c d (j, omega arith, is2)) (ap site_or is))
+one_edge (edge x (Site r) y ∷ es) pairs s a b c d (suc i, lt, is) (zero, lt2, is2) = absurd (pairs_head (λ s r. s ≢ r) r (sites_of es) pairs s (has_site es s a b (i, omega arith, is)) (ap site_or is2))
+one_edge (edge x (Site r) y ∷ es) pairs s a b c d (suc i, lt, is) (suc j, lt2, is2) = one_edge es (pairs_tail (λ s r. s ≢ r) r (sites_of es) pairs) s a b c d (i, omega arith, is) (j, omega arith, is2)
 one_edge es pairs s a b c d (zero, lt, is) k = absurd (subst IsSite (sym is) tt)
 
 module _ (env : Shapes) where
@@ -152,24 +147,16 @@ module _ (env : Shapes) where
 
   -- an edge from a node of f is one of f's
   mine : (f x : ℕ) (l : Label) (y : ℕ) → f < length fs → entry_of f ≤ x → x < entry_of f + 2 + width (at fs f) → g.edge x l y → Here fs 0 f x l y
-  mine f x l y lt lo hi e = by (one_from fs 0 (edge x l y) e)
-    where
-      by : One fs 0 x l y → Here fs 0 f x l y
-      by o = subst (λ f. Here fs 0 f x l y) (sym (same (sources (o.here)))) (o.here)
-        where
-          same : At (at fs (o.f)) (entry_of (o.f)) (entry_of (o.f) + 2) x → f ≡ o.f
-          same (start s) = one fs 0 f (o.f) x lt (o.below) lo hi (omega (arith, s)) (omega (arith, s))
-          same (fresh a b) = one fs 0 f (o.f) x lt (o.below) lo hi (omega (arith, a)) (omega (arith, b))
+  mine f x l y lt lo hi e =
+      let o = one_from fs 0 (edge x l y) e in
+      let s = sources (o.here) in
+      subst (λ f. Here fs 0 f x l y) (sym (one fs 0 f (o.f) x lt (o.below) lo hi (omega (arith, s)) (omega (arith, s)))) (o.here)
 
   exit_apart : (f k x : ℕ) → f < length fs → k < length fs → entry_of f ≤ x → x < entry_of f + 2 + width (at fs f) → (x ≡ entry_of f + 1 → ⊥) → x ≡ entry_of k + 1 → ⊥
   exit_apart f k x lf lk lo hi off is = off (is ∙ ap (λ k. entry_of k + 1) (sym (one fs 0 f k x lf lk lo hi (omega (arith, is)) (omega (arith, is)))))
 
   owns : (f : ℕ) → f < length fs → Owns env g (at fs f) (entry_of f) (entry_of f + 2) (ends (entry_of f + 1))
-  owns f lt = record { has = λ x l y e. one_to fs 0 f x l y lt e; only = λ x l y lo hi e. mine f x l y lt (omega (arith, lo)) (omega (arith, hi)) e; inner = λ x lo hi k lk. exit_apart f k x lt lk (omega (arith, lo)) (omega (arith, hi)) (λ e. omega (arith, e, lo)) }
-
-  nowhere : (f : ℕ) → At (at fs f) (entry_of f) (entry_of f + 2) (entry_of f + 1) → ⊥
-  nowhere f (start e) = omega (arith, e)
-  nowhere f (fresh a b) = omega (arith, a)
+  owns f lt = record { has = λ x l y e. one_to fs 0 f x l y lt e; only = λ x l y at e. mine f x l y lt (omega (arith, at)) (omega (arith, at)) e; inner = λ x at k lk. exit_apart f k x lt lk (omega (arith, at)) (omega (arith, at)) (λ e. omega (arith, e, at)) }
 
   pub one_call : AreClosed env → (s a b c d : ℕ) → g.edge a (Site s) b → g.edge c (Site s) d → edge a (Site s) b ≡ edge c (Site s) d
   one_call o s a b c d h k = one_edge (edges_from 0 fs) (subst Differ (sym (sites_from fs 0)) (o.once)) s a b c d h k
@@ -178,7 +165,7 @@ module _ (env : Shapes) where
   laid_from o = record {
     laid = λ f lt. laid env g (at fs f) (entry_of f) (entry_of f + 2) (ends (entry_of f + 1)) false false (o.bodies f Skip lt) (omega arith) (owns f lt);
     begins = λ f lt. record { edges = λ l b e. begin (mine f (entry_of f) l b lt (omega arith) (omega arith) e) refl (omega arith); inner = λ k lk. exit_apart f k (entry_of f) lt lk (omega arith) (omega arith) (λ e. omega (arith, e)) };
-    stops = λ f lt l b e. nowhere f (sources (mine f (entry_of f + 1) l b lt (omega arith) (omega arith) e));
+    stops = λ f lt l b e. let s = sources (mine f (entry_of f + 1) l b lt (omega arith) (omega arith) e) in omega (arith, s);
     one_site = λ s a b c d h k. ap goal (one_call o s a b c d h k);
     known = λ s f h. o.known s f h;
     same_exit = λ f h lf lh e. one fs 0 f h (entry_of f + 1) lf lh (omega arith) (omega arith) (omega (arith, e)) (omega (arith, e));

@@ -1,7 +1,10 @@
 -- The shapes of a well-typed program are closed and named.
-use Rattle.std.proofs.Common.{◌≡◌, ◌≢◌, ◌⊎◌, inl, inr, ℕ, zero, suc, ◌+◌, ◌-◌, ◌<◌, ◌≤◌, Bool, true, false, ◌&&◌, nat_lt, if◌then◌else◌, List, [], ◌∷◌, ◌++◌, map, filter, length, Contains, All, AllPairs, Option, Some, None, refl, ap, sym, ◌∙◌, subst, arith}
+use Rattle.std.proofs.Common.{◌≡◌, ◌≢◌, ◌⊎◌, inl, inr, ℕ, zero, suc, ◌+◌, ◌-◌, ◌<◌, ◌≤◌, Bool, true, false, ◌&&◌, nat_lt, if◌then◌else◌, List, [], ◌∷◌, ◌++◌, map, filter, length, length-append, not, Contains, All, AllPairs, Option, Some, None, refl, ap, sym, ◌∙◌, subst, arith}
 use Rattle.std.specs.List.{range_with_len}
-use Rattle.std.proofs.lemmas.Bool.{false≢true}
+use Rattle.std.proofs.lemmas.Bool.{false≢true, cases_lt}
+use Rattle.std.proofs.lemmas.List.Kept.{AllPairs-filter}
+use Rattle.std.proofs.lemmas.List.{length-map}
+use Rattle.std.proofs.lemmas.List.Filters.{length-filter_both}
 use Rattle.std.proofs.lemmas.Option.{slice_get_within}
 use Rattle.std.proofs.lemmas.List.Elements.{All-append, Contains-append_cases}
 use Rattle.dm_base.specs.Name.{IsName}
@@ -20,36 +23,14 @@ use Rattle.flow_graph_laws.proofs.Rising.{all_from, of_all, pairs_cons, pairs_he
 use Rattle.flow_graph_laws.proofs.ShapesOfTrees.{statement_has, right_stmt, right_any, any_body}
 use Rattle.flow_graph_laws.proofs.SitesOfTrees.{sites_differ}
 use Rattle.flow_graph_laws.proofs.SystemNames.{named_call}
-use Rattle.c_shapes.proofs.Members.{and_left, below, is_below, is_first, is_later, cases, from_filter, in_filter, from_range, in_range, from_map, length_map}
-
--- a filter keeps what passes
-abbrev kept : {X : Type 0} → Bool → X → List X → List X
-kept true x xs = x ∷ xs
-kept false x xs = xs
-
-length_kept : {X : Type 0} (test : X → Bool) (x : X) (xs : List X) (b : Bool) → length (if b then x ∷ filter test xs else filter test xs) ≤ 1 + length (filter test xs)
-length_kept test x xs true = omega arith
-length_kept test x xs false = omega arith
-
-length_filter : {X : Type 0} (test : X → Bool) (xs : List X) → length (filter test xs) ≤ length xs
-length_filter test [] = omega arith
-length_filter test (x ∷ xs) = let k = length_kept test x xs (test x) in let i = length_filter test xs in omega (arith, k, i)
-
-length_without : {X : Type 0} (test : X → Bool) (x : X) (xs : List X) (b : Bool) → test x ≡ b → test x ≡ false → length (if b then x ∷ filter test xs else filter test xs) ≤ length (filter test xs)
-length_without test x xs true e h = absurd (false≢true (sym h ∙ e))
-length_without test x xs false e h = omega arith
+use Rattle.c_shapes.proofs.Members.{and_left, below, is_below, is_first, is_later, cases, from_filter, in_filter, from_range, in_range, from_map, isnt_below}
 
 -- what does not pass makes the list shorter
 fewer : {X : Type 0} (test : X → Bool) (xs : List X) (z : X) → Contains xs z → test z ≡ false → length (filter test xs) < length xs
-fewer test [] z h k = absurd (omega (arith, h.1))
-fewer test (x ∷ xs) z h k = elim (cases x xs z h) as (λ q. length (filter test (x ∷ xs)) < length (x ∷ xs)) [
-  | inl is ↦ (let i = length_without test x xs (test x) refl (ap test is ∙ k) in let j = length_filter test xs in omega (arith, i, j))
-  | inr q ↦ (let i = length_kept test x xs (test x) in let j = fewer test xs z q k in omega (arith, i, j))
-]
-
-length_append : {X : Type 0} (xs ys : List X) → length (xs ++ ys) ≡ length xs + length ys
-length_append [] ys = omega arith
-length_append (x ∷ xs) ys = let k = length_append xs ys in omega (arith, k)
+fewer test xs z h k =
+    let s = length-filter_both test (λ x. not (test x)) (λ x. refl) xs in
+    let (i, lt, is) = in_filter (λ x. not (test x)) xs z h (ap not k) in
+    omega (arith, s, lt)
 
 all_map : {X Y : Type 0} (P : Y → Type 0) (f : X → Y) (xs : List X) → ((x : X) → Contains xs x → P (f x)) → All P (map f xs)
 all_map P f xs h = all_from P (map f xs) (λ y k. let r = from_map f xs y k in subst P r.2 (h r.0 r.1))
@@ -57,9 +38,9 @@ all_map P f xs h = all_from P (map f xs) (λ y k. let r = from_map f xs y k in s
 module _ (p : Program) where
   many : length (shapes_of_functions p) ≡ defined p + length (taken_calls p)
   many =
-      let k = length_append (map (shape_of_function p) p.functions) (map any_call (taken_calls p)) in
-      let i = length_map (shape_of_function p) p.functions in
-      let j = length_map any_call (taken_calls p) in
+      let k = length-append (map (shape_of_function p) p.functions) (map any_call (taken_calls p)) in
+      let i = length-map p.functions (shape_of_function p) in
+      let j = length-map (taken_calls p) any_call in
       omega (arith, k, i, j)
 
   -- a function that may be entered: it is defined, or a taken system call
@@ -70,24 +51,10 @@ module _ (p : Program) where
   unfolding Entered
   place_if f true e h = let lt = below f (defined p) e in omega (arith, lt)
   place_if f false e (inl lt) = absurd (false≢true (sym e ∙ is_below f (defined p) lt))
-  place_if f false e (inr h) = let k = fewer (λ x. nat_lt x (f - defined p)) (taken_calls p) (f - defined p) h.1 (not_below (f - defined p)) in omega (arith, k)
-    where
-      not_below : (x : ℕ) → nat_lt x x ≡ false
-      not_below x = by (nat_lt x x) refl
-        where
-          by : (b : Bool) → nat_lt x x ≡ b → nat_lt x x ≡ false
-          by true e = let lt = below x x e in absurd (omega (arith, lt))
-          by false e = e
+  place_if f false e (inr h) = let k = fewer (λ x. nat_lt x (f - defined p)) (taken_calls p) (f - defined p) h.1 (isnt_below (f - defined p) (f - defined p) (omega arith)) in omega (arith, k)
 
   placed : (f : ℕ) → Entered f → place_of p f < length (shapes_of_functions p)
   placed f h = let k = place_if f (nat_lt f (defined p)) refl h in let m = many in omega (arith, k, m)
-
-  split : (f : ℕ) → (f < defined p) ⊎ (defined p ≤ f)
-  split f = by (nat_lt f (defined p)) refl
-    where
-      by : (b : Bool) → nat_lt f (defined p) ≡ b → (f < defined p) ⊎ (defined p ≤ f)
-      by true e = inl (below f (defined p) e)
-      by false e = inr (omega (arith, (λ (lt : f < defined p). false≢true (sym e ∙ is_below f (defined p) lt))))
 
   taken_entered : (t : CType) (f : ℕ) → Contains (callees p (Through t)) f → Entered f
   unfolding Entered
@@ -95,7 +62,7 @@ module _ (p : Program) where
       let r = from_filter (λ f. is_taken p f && is_typed t (value_type p f)) (functions_of p) f h in
       let taken = and_left (is_taken p f) (is_typed t (value_type p f)) r.1 in
       let bounds = from_range 0 (defined p + 24) f r.0 in
-      elim (split f) as (λ k. (f < defined p) ⊎ ((defined p ≤ f) × Contains (taken_calls p) (f - defined p))) [
+      elim (cases_lt f (defined p)) as (λ k. (f < defined p) ⊎ ((defined p ≤ f) × Contains (taken_calls p) (f - defined p))) [
         | inl lt ↦ inl lt
         | inr ge ↦ (
             let same : defined p + (f - defined p) ≡ f = omega (arith, ge) in
@@ -133,14 +100,6 @@ module _ (p : Program) where
   call_number x h = let r = from_range 0 24 x ((from_filter (λ x. is_taken p (defined p + x)) (range_with_len 0 24) x h).0) in omega (arith, r.1)
 
   -- the numbers of the taken calls rise
-  pairs_kept : (test : ℕ → Bool) (x : ℕ) (xs : List ℕ) (b : Bool) → AllPairs (λ x y. x ≢ y) (x ∷ xs) → AllPairs (λ x y. x ≢ y) (filter test xs) → AllPairs (λ x y. x ≢ y) (if b then x ∷ filter test xs else filter test xs)
-  pairs_kept test x xs true h rest = pairs_cons (λ x y. x ≢ y) x (filter test xs) (λ z k. pairs_head (λ x y. x ≢ y) x xs h z ((from_filter test xs z k).0)) rest
-  pairs_kept test x xs false h rest = rest
-
-  pairs_filter : (test : ℕ → Bool) (xs : List ℕ) → AllPairs (λ x y. x ≢ y) xs → AllPairs (λ x y. x ≢ y) (filter test xs)
-  pairs_filter test [] h = pairs_nil (λ x y. x ≢ y)
-  pairs_filter test (x ∷ xs) h = pairs_kept test x xs (test x) h (pairs_filter test xs (pairs_tail (λ x y. x ≢ y) x xs h))
-
   range_differs : (a n : ℕ) → AllPairs (λ x y. x ≢ y) (range_with_len a n)
   range_differs a zero = pairs_nil (λ x y. x ≢ y)
   range_differs a (suc n) = pairs_cons (λ x y. x ≢ y) a (range_with_len (a + 1) n) (λ z k e. let r = from_range (a + 1) n z k in omega (arith, e, r.0)) (range_differs (a + 1) n)
@@ -162,9 +121,9 @@ module _ (p : Program) where
 
   pub many_names : length (names_of_functions p) ≡ length (shapes_of_functions p)
   many_names =
-      let k = length_append (map name_in p.functions) (map name_of (taken_calls p)) in
-      let i = length_map name_in p.functions in
-      let j = length_map name_of (taken_calls p) in
+      let k = length-append (map name_in p.functions) (map name_of (taken_calls p)) in
+      let i = length-map p.functions name_in in
+      let j = length-map (taken_calls p) name_of in
       let m = many in
       omega (arith, k, i, j, m)
 
@@ -172,7 +131,7 @@ module _ (p : Program) where
   named n h few = record {
     many = many_names;
     names = All-append IsName (map name_in p.functions) (map name_of (taken_calls p)) (all_map IsName name_in p.functions (λ f k. of_all (λ (f : Function). IsName f.name) p.functions ((h.names).names) f k)) (all_map IsName name_of (taken_calls p) (λ x k. named_call x (call_number x k)));
-    differ = pairs_append (λ x y. x ≢ y) (map name_in p.functions) (map name_of (taken_calls p)) (pairs_map (λ x y. x ≢ y) name_in p.functions ((h.names).differ)) (pairs_map (λ x y. x ≢ y) name_of (taken_calls p) (calls_differ (taken_calls p) (pairs_filter (λ x. is_taken p (defined p + x)) (range_with_len 0 24) (range_differs 0 24)) call_number)) (λ x y i j e. let r = from_map name_in p.functions x i in let s = from_map name_of (taken_calls p) y j in of_all (λ (f : Function). (x : ℕ) → x < 24 → f.name ≢ name_of x) p.functions ((h.names).apart) r.0 r.1 s.0 (call_number s.0 s.1) (r.2 ∙ (e ∙ sym s.2)));
+    differ = pairs_append (λ x y. x ≢ y) (map name_in p.functions) (map name_of (taken_calls p)) (pairs_map (λ x y. x ≢ y) name_in p.functions ((h.names).differ)) (pairs_map (λ x y. x ≢ y) name_of (taken_calls p) (calls_differ (taken_calls p) (AllPairs-filter (λ x y. x ≢ y) (λ x. is_taken p (defined p + x)) (range_with_len 0 24) (range_differs 0 24)) call_number)) (λ x y i j e. let r = from_map name_in p.functions x i in let s = from_map name_of (taken_calls p) y j in of_all (λ (f : Function). (x : ℕ) → x < 24 → f.name ≢ name_of x) p.functions ((h.names).apart) r.0 r.1 s.0 (call_number s.0 s.1) (r.2 ∙ (e ∙ sym s.2)));
     patterns = All-append HasRightCalls (map (shape_of_function p) p.functions) (map any_call (taken_calls p)) (all_map HasRightCalls (shape_of_function p) p.functions (λ f k. right_stmt p f.body)) (all_map HasRightCalls any_call (taken_calls p) (λ x k. right_any x));
     few = few;
   }

@@ -22,7 +22,7 @@ use Rattle.flow_graph_laws.specs.Premises.{AreClosed, AreNamed, HasRightCalls, H
 use Rattle.flow_graph_laws.proofs.Laid.{Heads}
 use Rattle.flow_graph_laws.proofs.Laid as G
 use Rattle.flow_graph_laws.proofs.Edges.{Lays, LaysParts, skip, sys, exit, call, in_left, in_right, to_loop, loop_ends, in_test, in_body, in_step, to_do, do_again, do_ends, in_do, in_until, break_out, continue_on, return_now, in_cases, in_seq, in_rest, to_case, no_default, in_part, in_later}
-use Rattle.flow_graph_laws.proofs.Owns.{At, start, fresh, sources}
+use Rattle.flow_graph_laws.proofs.Owns.{sources}
 use Rattle.flow_graph_laws.proofs.SortedLemmas.{sorted_from}
 use Rattle.flow_graph_laws.proofs.Rising.{all_from, of_all, pairs_cons, pairs_head, pairs_tail, pairs_nil, sorted_rises}
 use Rattle.flow_graph_laws.proofs.Functions.{at, entry_at, one_from}
@@ -183,10 +183,6 @@ module _ (texts : List (List ℕ)) (env : Shapes) (closed : AreClosed env) (name
       let ends = k.ends in
       owns_at f (one.exit) one has (omega (arith, ends)) (omega (arith, ends))
 
-  in_one : (f x : ℕ) → At (at fs f) (entry_at fs 0 f) (entry_at fs 0 f + 2) x → In (entry_at fs 0 f) (entry_at fs 0 f + 2 + width (at fs f)) x
-  in_one f x (start e) = (omega (arith, e), omega (arith, e))
-  in_one f x (fresh l r) = (omega (arith, l), omega (arith, r))
-
   function_of : (f : ℕ) → f < length fs → Made 0 fs made f
   function_of f lt = made_of 0 texts fs f (named.many) lt
 
@@ -194,9 +190,9 @@ module _ (texts : List (List ℕ)) (env : Shapes) (closed : AreClosed env) (name
   one_owner x l y h =
       let o = one_from fs 0 (edge x l y) h in
       let r = function_of (o.f) (o.below) in
-      let i = in_one (o.f) x (sources (o.here)) in
+      let i = sources (o.here) in
       let j = targets (o.here) (entry_at fs 0 (o.f)) (entry_at fs 0 (o.f) + 2 + width (at fs (o.f))) (omega arith) (omega arith) (record { to = (omega arith, omega arith); brk = (omega arith, omega arith); con = (omega arith, omega arith); ret = (omega arith, omega arith) }) in
-      record { owner = o.f; first = owns_at (o.f) x (r.one) (r.has) i.0 i.1; second = owns_at (o.f) y (r.one) (r.has) j.0 j.1 }
+      record { owner = o.f; first = owns_at (o.f) x (r.one) (r.has) (omega (arith, i)) (omega (arith, i)); second = owns_at (o.f) y (r.one) (r.has) j.0 j.1 }
 
   entries : HasRightEntries made nodes
   entries = record {
