@@ -61,15 +61,13 @@ one fs n f h x lf lh a b c d =
 -- the sites of edges
 abbrev sites_of : List Edge → List ℕ
 sites_of [] = []
-sites_of (edge x Silent y ∷ es) = sites_of es
-sites_of (edge x (System k q) y ∷ es) = sites_of es
 sites_of (edge x (Site s) y ∷ es) = s ∷ sites_of es
+sites_of (e ∷ es) = sites_of es
 
 sites_append : (es ds : List Edge) → sites_of (es ++ ds) ≡ sites_of es ++ sites_of ds
 sites_append [] ds = refl
-sites_append (edge x Silent y ∷ es) ds = sites_append es ds
-sites_append (edge x (System k q) y ∷ es) ds = sites_append es ds
 sites_append (edge x (Site s) y ∷ es) ds = ap (λ t. s ∷ t) (sites_append es ds)
+sites_append (e ∷ es) ds = sites_append es ds
 
 sites_each : (a : ℕ) (ps : Parts) (i : ℕ) (ds : List Edge) → sites_of (to_each a ps i ++ ds) ≡ sites_of ds
 sites_each a End i ds = refl
@@ -114,10 +112,9 @@ IsSite a = ⊥
 
 has_site : (es : List Edge) (s a b : ℕ) → Contains es (edge a (Site s) b) → Contains (sites_of es) s
 has_site [] s a b h = absurd (omega (arith, h.1))
-has_site (edge x Silent y ∷ es) s a b (suc k, lt, is) = has_site es s a b (k, omega arith, is)
-has_site (edge x (System j q) y ∷ es) s a b (suc k, lt, is) = has_site es s a b (k, omega arith, is)
 has_site (edge x (Site r) y ∷ es) s a b (zero, lt, is) = (0, omega arith, ap site_or is)
 has_site (edge x (Site r) y ∷ es) s a b (suc k, lt, is) = is_later r (sites_of es) s (has_site es s a b (k, omega arith, is))
+has_site (e ∷ es) s a b (suc k, lt, is) = has_site es s a b (k, omega arith, is)
 has_site es s a b (zero, lt, is) = absurd (subst IsSite (sym is) tt)
 
 abbrev Differ : List ℕ → Type 0
@@ -125,14 +122,12 @@ Differ ss = AllPairs (λ s r. s ≢ r) ss
 
 one_edge : (es : List Edge) → Differ (sites_of es) → (s a b c d : ℕ) → Contains es (edge a (Site s) b) → Contains es (edge c (Site s) d) → edge a (Site s) b ≡ edge c (Site s) d
 one_edge [] pairs s a b c d h k = absurd (omega (arith, h.1))
-one_edge (edge x Silent y ∷ es) pairs s a b c d (suc i, lt, is) (zero, lt2, is2) = absurd (subst IsSite (sym is2) tt)
-one_edge (edge x Silent y ∷ es) pairs s a b c d (suc i, lt, is) (suc j, lt2, is2) = one_edge es pairs s a b c d (i, omega arith, is) (j, omega arith, is2)
-one_edge (edge x (System m q) y ∷ es) pairs s a b c d (suc i, lt, is) (zero, lt2, is2) = absurd (subst IsSite (sym is2) tt)
-one_edge (edge x (System m q) y ∷ es) pairs s a b c d (suc i, lt, is) (suc j, lt2, is2) = one_edge es pairs s a b c d (i, omega arith, is) (j, omega arith, is2)
 one_edge (edge x (Site r) y ∷ es) pairs s a b c d (zero, lt, is) (zero, lt2, is2) = sym is ∙ is2
 one_edge (edge x (Site r) y ∷ es) pairs s a b c d (zero, lt, is) (suc j, lt2, is2) = absurd (pairs_head (λ s r. s ≢ r) r (sites_of es) pairs s (has_site es s c d (j, omega arith, is2)) (ap site_or is))
 one_edge (edge x (Site r) y ∷ es) pairs s a b c d (suc i, lt, is) (zero, lt2, is2) = absurd (pairs_head (λ s r. s ≢ r) r (sites_of es) pairs s (has_site es s a b (i, omega arith, is)) (ap site_or is2))
 one_edge (edge x (Site r) y ∷ es) pairs s a b c d (suc i, lt, is) (suc j, lt2, is2) = one_edge es (pairs_tail (λ s r. s ≢ r) r (sites_of es) pairs) s a b c d (i, omega arith, is) (j, omega arith, is2)
+one_edge (e ∷ es) pairs s a b c d (suc i, lt, is) (suc j, lt2, is2) = one_edge es pairs s a b c d (i, omega arith, is) (j, omega arith, is2)
+one_edge (e ∷ es) pairs s a b c d (suc i, lt, is) (zero, lt2, is2) = absurd (subst IsSite (sym is2) tt)
 one_edge es pairs s a b c d (zero, lt, is) k = absurd (subst IsSite (sym is) tt)
 
 module _ (env : Shapes) where

@@ -24,15 +24,13 @@ pub silent_from : (es : List Edge) (a b : ℕ) → Contains (silent_edges es) (r
 silent_from [] a b h = absurd (omega (arith, h.1))
 silent_from (edge x Silent y ∷ es) a b (zero, lt, is) = (0, omega arith, ap (λ (e : SilentEdge). edge e.from Silent e.to) is)
 silent_from (edge x Silent y ∷ es) a b (suc k, lt, is) = is_later (edge x Silent y) es (edge a Silent b) (silent_from es a b (k, omega arith, is))
-silent_from (edge x (System n q) y ∷ es) a b h = is_later (edge x (System n q) y) es (edge a Silent b) (silent_from es a b h)
-silent_from (edge x (Site s) y ∷ es) a b h = is_later (edge x (Site s) y) es (edge a Silent b) (silent_from es a b h)
+silent_from (e ∷ es) a b h = is_later e es (edge a Silent b) (silent_from es a b h)
 
 pub sys_from : (es : List Edge) (a n : ℕ) (q : List (Option ℤ)) (b : ℕ) → Contains (sys_edges es) (record { from = a; name = n; to = b; args = q }) → Contains es (edge a (System n q) b)
 sys_from [] a n q b h = absurd (omega (arith, h.1))
-sys_from (edge x Silent y ∷ es) a n q b h = is_later (edge x Silent y) es (edge a (System n q) b) (sys_from es a n q b h)
 sys_from (edge x (System m p) y ∷ es) a n q b (zero, lt, is) = (0, omega arith, ap (λ (e : SysEdge). edge e.from (System e.name e.args) e.to) is)
 sys_from (edge x (System m p) y ∷ es) a n q b (suc k, lt, is) = is_later (edge x (System m p) y) es (edge a (System n q) b) (sys_from es a n q b (k, omega arith, is))
-sys_from (edge x (Site s) y ∷ es) a n q b h = is_later (edge x (Site s) y) es (edge a (System n q) b) (sys_from es a n q b h)
+sys_from (e ∷ es) a n q b h = is_later e es (edge a (System n q) b) (sys_from es a n q b h)
 
 -- the call edge at the site
 abbrev call_at : (ℕ → List ℕ) → ℕ → ℕ → ℕ → Call
@@ -47,10 +45,9 @@ later_call candidates e es c h = record { has = is_later e es (edge c.from (Site
 
 pub call_from : (candidates : ℕ → List ℕ) (es : List Edge) (c : Call) → Contains (calls candidates es) c → Called candidates es c
 call_from candidates [] c h = absurd (omega (arith, h.1))
-call_from candidates (edge x Silent y ∷ es) c h = later_call candidates (edge x Silent y) es c (call_from candidates es c h)
-call_from candidates (edge x (System n q) y ∷ es) c h = later_call candidates (edge x (System n q) y) es c (call_from candidates es c h)
 call_from candidates (edge x (Site s) y ∷ es) c (zero, lt, is) = subst (λ c. Called candidates (edge x (Site s) y ∷ es) c) is (record { has = is_first (edge x (Site s) y) es; are = refl })
 call_from candidates (edge x (Site s) y ∷ es) c (suc k, lt, is) = later_call candidates (edge x (Site s) y) es c (call_from candidates es c (k, omega arith, is))
+call_from candidates (e ∷ es) c h = later_call candidates e es c (call_from candidates es c h)
 
 -- what an edge puts in each of the lists
 abbrev Puts : (ℕ → List ℕ) → List Edge → Edge → Type 0
@@ -59,9 +56,8 @@ Puts candidates es (edge a (System n q) b) = Contains (sys_edges es) (record { f
 Puts candidates es (edge a (Site s) b) = Contains (calls candidates es) (call_at candidates a s b)
 
 put_first : (candidates : ℕ → List ℕ) (e : Edge) (es : List Edge) → Puts candidates (e ∷ es) e
-put_first candidates (edge x Silent y) es = is_first (record { from = x; to = y }) (silent_edges es)
-put_first candidates (edge x (System n q) y) es = is_first (record { from = x; name = n; to = y; args = q }) (sys_edges es)
-put_first candidates (edge x (Site s) y) es = is_first (call_at candidates x s y) (calls candidates es)
+put_first candidates (edge x Silent y) es = (0, omega arith, refl)
+put_first candidates e es = (0, omega arith, refl)
 
 put_later : (candidates : ℕ → List ℕ) (d : Edge) (es : List Edge) (e : Edge) → Puts candidates es e → Puts candidates (d ∷ es) e
 put_later candidates (edge x Silent y) es (edge a Silent b) h = is_later (record { from = x; to = y }) (silent_edges es) (record { from = a; to = b }) h

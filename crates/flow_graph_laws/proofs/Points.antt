@@ -62,12 +62,11 @@ module _ (env : Shapes) (g : Graph) where
 
   -- a part's step is a step of the whole
   carry : {P Q : Type 0} (m : Map P Q) (f : Q → ℕ) (q r : Ways) {v : ℕ} {l : Label} (t : Target P) → ((w : ℕ) → r.brk w → Land f q (m.break_to) w) → ((w : ℕ) → r.con w → Land f q (m.continue_to) w) → ((w : ℕ) → r.ret w → q.ret w) → ((w : ℕ) → r.end w → Land f q (m.past_to) w) → Lead (λ x. f (m.point x)) r v l t → Lead f q v l (apply m t)
-  carry m f q r (at x) hb hc hr he k = record { w = k.w; lands = k.lands; moves = k.moves }
   carry m f q r by_break hb hc hr he k = record { w = k.w; lands = hb (k.w) (k.lands); moves = k.moves }
   carry m f q r by_continue hb hc hr he k = record { w = k.w; lands = hc (k.w) (k.lands); moves = k.moves }
   carry m f q r by_return hb hc hr he k = record { w = k.w; lands = hr (k.w) (k.lands); moves = k.moves }
   carry m f q r past hb hc hr he k = record { w = k.w; lands = he (k.w) (k.lands); moves = k.moves }
-  carry m f q r stopped hb hc hr he k = record { w = k.w; lands = tt; moves = k.moves }
+  carry m f q r t hb hc hr he k = record { w = k.w; lands = k.lands; moves = k.moves }
 
   carry_plain : {P Q : Type 0} (h : P → Q) (f : Q → ℕ) (q : Ways) {v : ℕ} {l : Label} (t : Target P) → Lead (λ x. f (h x)) q v l t → Lead f q v l (apply (plain h) t)
   carry_plain h f q t k = carry (plain h) f q q t (λ w e. e) (λ w e. e) (λ w e. e) (λ w e. e) k

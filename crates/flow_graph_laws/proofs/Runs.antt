@@ -33,18 +33,12 @@ module _ (names : List (List ℕ)) (env : Shapes) (closed : AreClosed env) (many
   abbrev R : Marks → ℕ → List ℕ → List Event → ℕ → List ℕ → List Event → Type 0
   R m = Run env (g env) m
 
-  dyck_at : {a b c : ℕ} {z w : List ℕ} {t : List Event} → a ≡ b → DyckRun M b z t c w → DyckRun M a z t c w
-  dyck_at {c = c} {z = z} {w = w} {t = t} e r = subst (λ a. DyckRun M a z t c w) (sym e) r
-
-  dyck_reading : {a c : ℕ} {z w : List ℕ} {t u : List Event} → t ≡ u → DyckRun M a z u c w → DyckRun M a z t c w
-  dyck_reading {a = a} {c = c} {z = z} {w = w} e r = subst (λ t. DyckRun M a z t c w) (sym e) r
-
   to_dyck : {a c : ℕ} {z w : List ℕ} {t u : List Event} → R brackets a z t c w u → u ≡ [] → DyckRun M a z t c w
-  to_dyck over e = dyck_reading e d_over
+  to_dyck over e = rw e d_over
   to_dyck {a = a} (then {b = b} (along h silent) r) e = d_inside (s_silent (has_silent names env closed many a b h)) (to_dyck r e)
   to_dyck {a = a} (then {b = b} (along h (system {x = x} {q = q} fits)) r) e = d_calls (s_sys (has_sys names env closed many a x q b h)) fits (to_dyck r e)
-  to_dyck {a = a} (then (along h (enter {s = s} {f = f} {b = b} among same)) r) e = dyck_reading same (d_enters (s_enter (has_call names env closed many a s b f h among) (has_function names env closed many f (closed.known s f among))) (to_dyck r e))
-  to_dyck (then (leave {b = b} {c = c} {s = s} {f = f} lt at h among same) r) e = dyck_at at (dyck_reading same (d_leaves (s_leave (has_call names env closed many c s b f h among) (has_function names env closed many f lt)) (to_dyck r e)))
+  to_dyck {a = a} (then (along h (enter {s = s} {f = f} {b = b} among same)) r) e = rw same (d_enters (s_enter (has_call names env closed many a s b f h among) (has_function names env closed many f (closed.known s f among))) (to_dyck r e))
+  to_dyck (then (leave {b = b} {c = c} {s = s} {f = f} lt at h among same) r) e = rw (at, same) (d_leaves (s_leave (has_call names env closed many c s b f h among) (has_function names env closed many f lt)) (to_dyck r e))
 
   run_at : {m : Marks} {a b c : ℕ} {z w : List ℕ} {t u : List Event} → a ≡ b → R m b z t c w u → R m a z t c w u
   run_at {m = m} {c = c} {z = z} {w = w} {t = t} {u = u} e r = subst (λ a. R m a z t c w u) (sym e) r
@@ -56,18 +50,12 @@ module _ (names : List (List ℕ)) (env : Shapes) (closed : AreClosed env) (many
   from_dyck (d_enters (s_enter {a = a} {s = s} {b = b} {f = f} {entry = entry} {exit = exit} h k) r) = let d = call_edge names env closed many a s b f h in then (along (d.has) (enter (d.among) refl)) (run_at (sym ((function names env closed many f entry exit k).begins)) (from_dyck r))
   from_dyck (d_leaves (s_leave {a = a} {s = s} {b = b} {f = f} {entry = entry} {exit = exit} h k) r) = let d = call_edge names env closed many a s b f h in let e = function names env closed many f entry exit k in then (leave (e.below) (e.ends) (d.has) (d.among) refl) (from_dyck r)
 
-  stack_at : {a b c : ℕ} {z w : List ℕ} {t : List Event} → a ≡ b → StackRun M b z t c w → StackRun M a z t c w
-  stack_at {c = c} {z = z} {w = w} {t = t} e r = subst (λ a. StackRun M a z t c w) (sym e) r
-
-  stack_reading : {a c : ℕ} {z w : List ℕ} {t u : List Event} → t ≡ u → StackRun M a z u c w → StackRun M a z t c w
-  stack_reading {a = a} {c = c} {z = z} {w = w} e r = subst (λ t. StackRun M a z t c w) (sym e) r
-
   to_stack : {a c : ℕ} {z w : List ℕ} {t u : List Event} → R no_brackets a z t c w u → u ≡ [] → StackRun M a z t c w
-  to_stack over e = stack_reading e t_over
+  to_stack over e = rw e t_over
   to_stack {a = a} (then {b = b} (along h silent) r) e = t_inside (s_silent (has_silent names env closed many a b h)) (to_stack r e)
   to_stack {a = a} (then {b = b} (along h (system {x = x} {q = q} fits)) r) e = t_calls (s_sys (has_sys names env closed many a x q b h)) fits (to_stack r e)
-  to_stack {a = a} (then (along h (enter {s = s} {f = f} {b = b} among same)) r) e = stack_reading same (t_enters (s_enter (has_call names env closed many a s b f h among) (has_function names env closed many f (closed.known s f among))) (to_stack r e))
-  to_stack (then (leave {b = b} {c = c} {s = s} {f = f} lt at h among same) r) e = stack_at at (stack_reading same (t_leaves (s_leave (has_call names env closed many c s b f h among) (has_function names env closed many f lt)) (to_stack r e)))
+  to_stack {a = a} (then (along h (enter {s = s} {f = f} {b = b} among same)) r) e = rw same (t_enters (s_enter (has_call names env closed many a s b f h among) (has_function names env closed many f (closed.known s f among))) (to_stack r e))
+  to_stack (then (leave {b = b} {c = c} {s = s} {f = f} lt at h among same) r) e = rw (at, same) (t_leaves (s_leave (has_call names env closed many c s b f h among) (has_function names env closed many f lt)) (to_stack r e))
 
   from_stack : {a c : ℕ} {z w : List ℕ} {t : List Event} → StackRun M a z t c w → R no_brackets a z t c w []
   from_stack t_over = over

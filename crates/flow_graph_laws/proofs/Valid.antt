@@ -25,7 +25,7 @@ use Rattle.flow_graph_laws.proofs.Edges.{Lays, LaysParts, skip, sys, exit, call,
 use Rattle.flow_graph_laws.proofs.Owns.{sources}
 use Rattle.flow_graph_laws.proofs.SortedLemmas.{sorted_from}
 use Rattle.flow_graph_laws.proofs.Rising.{all_from, of_all, pairs_cons, pairs_head, pairs_tail, pairs_nil, sorted_rises}
-use Rattle.flow_graph_laws.proofs.Functions.{at, entry_at, one_from}
+use Rattle.flow_graph_laws.proofs.Functions.{One, at, entry_at, one_from}
 use Rattle.flow_graph_laws.proofs.ModelLemmas.{known, Made, made as made_of, call_from, silent_from, sys_from}
 
 -- the node is from lo to below hi
@@ -50,61 +50,37 @@ heads_in : {ps : Parts} {i b : ℕ} → Heads ps i b → In i (i + count ps) b
 heads_in G.this = (omega arith, omega arith)
 heads_in (G.later h) = let k = heads_in h in (omega (arith, k.0), omega (arith, k.1))
 
-mutual
-  targets : {S : Shape} {a n x y : ℕ} {p : Places} {l : Label} → Lays S a n p x l y → (lo hi : ℕ) → lo ≤ n → n + width S ≤ hi → Lead lo hi p → In lo hi y
-  targets skip lo hi l r p = p.to
-  targets sys lo hi l r p = p.to
-  targets exit lo hi l r p = (l, omega (arith, r))
-  targets call lo hi l r p = p.to
-  targets (in_seq {S = S} {ps = ps} {n = n} e) lo hi l r p = targets e lo hi (omega (arith, l)) (omega (arith, r)) (leads_to p (head_in ps n _ l (omega (arith, r)) (p.to)))
-  targets (in_rest {S = S} {ps = ps} {n = n} e) lo hi l r p = part_targets e lo hi l (omega (arith, r)) (omega (arith, l)) (omega (arith, r)) p
-  targets (in_left e) lo hi l r p = targets e lo hi l (omega (arith, r)) p
-  targets (in_right e) lo hi l r p = targets e lo hi (omega (arith, l)) (omega (arith, r)) p
-  targets to_loop lo hi l r p = (l, omega (arith, r))
-  targets loop_ends lo hi l r p = p.to
-  targets (in_test e) lo hi l r p = targets e lo hi (omega (arith, l)) (omega (arith, r)) (leads_to p (omega (arith, l), omega (arith, r)))
-  targets (in_body e) lo hi l r p = targets e lo hi (omega (arith, l)) (omega (arith, r)) (record { to = (omega (arith, l), omega (arith, r)); brk = p.to; con = (omega (arith, l), omega (arith, r)); ret = p.ret })
-  targets (in_step e) lo hi l r p = targets e lo hi (omega (arith, l)) (omega (arith, r)) (leads_to p (l, omega (arith, r)))
-  targets to_do lo hi l r p = (l, omega (arith, r))
-  targets do_again lo hi l r p = (l, omega (arith, r))
-  targets do_ends lo hi l r p = p.to
-  targets (in_do e) lo hi l r p = targets e lo hi (omega (arith, l)) (omega (arith, r)) (record { to = (omega (arith, l), omega (arith, r)); brk = p.to; con = (omega (arith, l), omega (arith, r)); ret = p.ret })
-  targets (in_until e) lo hi l r p = targets e lo hi (omega (arith, l)) (omega (arith, r)) (leads_to p (omega (arith, l), omega (arith, r)))
-  targets break_out lo hi l r p = p.brk
-  targets continue_on lo hi l r p = p.con
-  targets return_now lo hi l r p = p.ret
-  targets (to_case h) lo hi l r p = let k = heads_in h in (omega (arith, l, k.0), omega (arith, r, k.1))
-  targets (in_cases e) lo hi l r p = part_targets e lo hi l (omega (arith, r)) (omega (arith, l)) (omega (arith, r)) (record { to = p.to; brk = p.to; con = p.con; ret = p.ret })
-  targets no_default lo hi l r p = p.to
-
-  part_targets : {ps : Parts} {i n x y : ℕ} {p : Places} {l : Label} → LaysParts ps i n p x l y → (lo hi : ℕ) → lo ≤ i → i + count ps ≤ hi → lo ≤ n → n + widths ps ≤ hi → Lead lo hi p → In lo hi y
-  part_targets (in_part {S = S} {ps = ps} {i = i} e) lo hi a b l r p = targets e lo hi l (omega (arith, r)) (leads_to p (head_in ps (i + 1) _ (omega (arith, a)) (omega (arith, b)) (p.to)))
-  part_targets (in_later e) lo hi a b l r p = part_targets e lo hi (omega (arith, a)) (omega (arith, b)) (omega (arith, l)) (omega (arith, r)) p
-
 -- the pattern of an edge is right
 abbrev Right : Label → Type 0
 Right (System k q) = IsRight k q
 Right l = Unit {0}
 
 mutual
-  right : {S : Shape} {a n x y : ℕ} {p : Places} {l : Label} → Lays S a n p x l y → HasRightCalls S → Right l
-  right sys h = h
-  right exit h = h
-  right (in_seq e) h = right e h.0
-  right (in_rest e) h = right_part e h.1
-  right (in_left e) h = right e h.0
-  right (in_right e) h = right e h.1
-  right (in_test e) h = right e h.0
-  right (in_body e) h = right e h.1
-  right (in_step e) h = right e h.2
-  right (in_do e) h = right e h.0
-  right (in_until e) h = right e h.1
-  right (in_cases e) h = right_part e h
-  right e h = tt
+  targets : {S : Shape} {a n x y : ℕ} {p : Places} {l : Label} → Lays S a n p x l y → (lo hi : ℕ) → lo ≤ n → n + width S ≤ hi → Lead lo hi p → HasRightCalls S → In lo hi y × Right l
+  targets sys lo hi l r p h = (p.to, h)
+  targets exit lo hi l r p h = ((l, omega (arith, r)), h)
+  targets (in_seq {S = S} {ps = ps} {n = n} e) lo hi l r p h = targets e lo hi (omega (arith, l)) (omega (arith, r)) (leads_to p (head_in ps n _ l (omega (arith, r)) (p.to))) h.0
+  targets (in_rest {S = S} {ps = ps} {n = n} e) lo hi l r p h = part_targets e lo hi l (omega (arith, r)) (omega (arith, l)) (omega (arith, r)) p h.1
+  targets (in_left e) lo hi l r p h = targets e lo hi l (omega (arith, r)) p h.0
+  targets (in_right e) lo hi l r p h = targets e lo hi (omega (arith, l)) (omega (arith, r)) p h.1
+  targets to_loop lo hi l r p h = ((l, omega (arith, r)), tt)
+  targets (in_test e) lo hi l r p h = targets e lo hi (omega (arith, l)) (omega (arith, r)) (leads_to p (omega (arith, l), omega (arith, r))) h.0
+  targets (in_body e) lo hi l r p h = targets e lo hi (omega (arith, l)) (omega (arith, r)) (record { to = (omega (arith, l), omega (arith, r)); brk = p.to; con = (omega (arith, l), omega (arith, r)); ret = p.ret }) h.1
+  targets (in_step e) lo hi l r p h = targets e lo hi (omega (arith, l)) (omega (arith, r)) (leads_to p (l, omega (arith, r))) h.2
+  targets to_do lo hi l r p h = ((l, omega (arith, r)), tt)
+  targets do_again lo hi l r p h = ((l, omega (arith, r)), tt)
+  targets (in_do e) lo hi l r p h = targets e lo hi (omega (arith, l)) (omega (arith, r)) (record { to = (omega (arith, l), omega (arith, r)); brk = p.to; con = (omega (arith, l), omega (arith, r)); ret = p.ret }) h.0
+  targets (in_until e) lo hi l r p h = targets e lo hi (omega (arith, l)) (omega (arith, r)) (leads_to p (omega (arith, l), omega (arith, r))) h.1
+  targets break_out lo hi l r p h = (p.brk, tt)
+  targets continue_on lo hi l r p h = (p.con, tt)
+  targets return_now lo hi l r p h = (p.ret, tt)
+  targets (to_case i) lo hi l r p h = let k = heads_in i in ((omega (arith, l, k.0), omega (arith, r, k.1)), tt)
+  targets (in_cases e) lo hi l r p h = part_targets e lo hi l (omega (arith, r)) (omega (arith, l)) (omega (arith, r)) (record { to = p.to; brk = p.to; con = p.con; ret = p.ret }) h
+  targets e lo hi l r p h = (p.to, tt)
 
-  right_part : {ps : Parts} {i n x y : ℕ} {p : Places} {l : Label} → LaysParts ps i n p x l y → HaveRightCalls ps → Right l
-  right_part (in_part e) h = right e h.0
-  right_part (in_later e) h = right_part e h.1
+  part_targets : {ps : Parts} {i n x y : ℕ} {p : Places} {l : Label} → LaysParts ps i n p x l y → (lo hi : ℕ) → lo ≤ i → i + count ps ≤ hi → lo ≤ n → n + widths ps ≤ hi → Lead lo hi p → HaveRightCalls ps → In lo hi y × Right l
+  part_targets (in_part {S = S} {ps = ps} {i = i} e) lo hi a b l r p h = targets e lo hi l (omega (arith, r)) (leads_to p (head_in ps (i + 1) _ (omega (arith, a)) (omega (arith, b)) (p.to))) h.0
+  part_targets (in_later e) lo hi a b l r p h = part_targets e lo hi (omega (arith, a)) (omega (arith, b)) (omega (arith, l)) (omega (arith, r)) p h.1
 
 -- the functions one after another
 up : (fs : List Shape) (n : ℕ) → n ≤ nodes_from n fs
@@ -183,15 +159,16 @@ module _ (texts : List (List ℕ)) (env : Shapes) (closed : AreClosed env) (name
       let ends = k.ends in
       owns_at f (one.exit) one has (omega (arith, ends)) (omega (arith, ends))
 
-  function_of : (f : ℕ) → f < length fs → Made 0 fs made f
-  function_of f lt = made_of 0 texts fs f (named.many) lt
+  -- an edge stays in its function, and its pattern is right
+  within : (x : ℕ) (l : Label) (y : ℕ) (o : One fs 0 x l y) → In (entry_at fs 0 (o.f)) (entry_at fs 0 (o.f) + 2 + width (at fs (o.f))) y × Right l
+  within x l y o = targets (o.here) (entry_at fs 0 (o.f)) (entry_at fs 0 (o.f) + 2 + width (at fs (o.f))) (omega arith) (omega arith) (record { to = (omega arith, omega arith); brk = (omega arith, omega arith); con = (omega arith, omega arith); ret = (omega arith, omega arith) }) (named.patterns (o.f) Skip (o.below))
 
   one_owner : (x : ℕ) (l : Label) (y : ℕ) → Contains es (edge x l y) → HaveOneOwner made nodes x y
   one_owner x l y h =
       let o = one_from fs 0 (edge x l y) h in
-      let r = function_of (o.f) (o.below) in
+      let r = made_of 0 texts fs (o.f) (named.many) (o.below) in
       let i = sources (o.here) in
-      let j = targets (o.here) (entry_at fs 0 (o.f)) (entry_at fs 0 (o.f) + 2 + width (at fs (o.f))) (omega arith) (omega arith) (record { to = (omega arith, omega arith); brk = (omega arith, omega arith); con = (omega arith, omega arith); ret = (omega arith, omega arith) }) in
+      let j = (within x l y o).0 in
       record { owner = o.f; first = owns_at (o.f) x (r.one) (r.has) (omega (arith, i)) (omega (arith, i)); second = owns_at (o.f) y (r.one) (r.has) j.0 j.1 }
 
   entries : HasRightEntries made nodes
@@ -227,7 +204,7 @@ module _ (texts : List (List ℕ)) (env : Shapes) (closed : AreClosed env) (name
   }
 
   right_patterns : HasRightPatterns (graph_of texts env)
-  right_patterns = all_from (λ (e : SysEdge). IsRight e.name e.args) (sorted sys_order (sys_edges es)) (λ e h. let o = one_from fs 0 (edge (e.from) (System (e.name) (e.args)) (e.to)) (sys_from es (e.from) (e.name) (e.args) (e.to) (sorted_from sys_order (sys_edges es) e h)) in right (o.here) (named.patterns (o.f) Skip (o.below)))
+  right_patterns = all_from (λ (e : SysEdge). IsRight e.name e.args) (sorted sys_order (sys_edges es)) (λ e h. (within (e.from) (System (e.name) (e.args)) (e.to) (one_from fs 0 (edge (e.from) (System (e.name) (e.args)) (e.to)) (sys_from es (e.from) (e.name) (e.args) (e.to) (sorted_from sys_order (sys_edges es) e h)))).1)
 
   in_order : IsInOrder (graph_of texts env)
   in_order = record {
