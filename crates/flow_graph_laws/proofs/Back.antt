@@ -29,10 +29,9 @@ module _ (env : Shapes) (g : Graph) (m : Marks) (base : ℕ → ℕ) (from : Lai
   -- the way of each part is a way of the whole
   called : {s f n y : ℕ} {p : Places} {z w : List ℕ} {t u v : List Event} → Contains (env.candidates s) f → t ≡ m.pre s ++ u → To (shape_of env f) (base f) (ends (g.exit f)) (s ∷ z) u v y w → To (Call s) n p z t v y w
   called k e (still i) = still (within k e i)
-  called k e (gone goes_on h) = still (returned k e h tt)
-  called k e (gone returns h) = still (returned k e h tt)
   called {s = s} {f = f} {u = u} {v = v} k e (gone breaks h) = absurd (closed f (from.known s f k) breaks u v h)
   called {s = s} {f = f} {u = u} {v = v} k e (gone continues h) = absurd (closed f (from.known s f k) continues u v h)
+  called k e (gone x h) = still (returned k e h tt)
 
   to_left : {S T : Shape} {n y : ℕ} {p : Places} {z w : List ℕ} {t u : List Event} → To S n p z t u y w → To (Alt S T) n p z t u y w
   to_left (still i) = still (in_left i)
@@ -45,46 +44,36 @@ module _ (env : Shapes) (g : Graph) (m : Marks) (base : ℕ → ℕ) (from : Lai
   to_test : {C B P : Shape} {n y : ℕ} {p : Places} {z w : List ℕ} {t u v : List Event} → IsExpression C → Rounds env m C B P t u → To C (n + 3) (record p { to = n + 1 }) z u v y w → To (Loop C B P) n p z t v y w
   to_test s k (still i) = still (in_test k i)
   to_test s k (gone goes_on h) = still (at_body k h)
-  to_test s k (gone breaks h) = absurd (away s h tt)
-  to_test s k (gone continues h) = absurd (away s h tt)
-  to_test s k (gone returns h) = absurd (away s h tt)
+  to_test s k (gone e h) = absurd (away s h tt)
 
   to_body : {C B P : Shape} {n y : ℕ} {p : Places} {z w : List ℕ} {t u v a : List Event} → Rounds env m C B P t u → W C goes_on u v → To B (n + 3 + width C) (body p (n + 2) (p.to) (n + 2)) z v a y w → To (Loop C B P) n p z t a y w
   to_body k c (still i) = still (in_body k c i)
-  to_body k c (gone goes_on h) = still (at_step k c tt h)
   to_body k c (gone breaks h) = gone goes_on (F.loop_break k c h)
-  to_body k c (gone continues h) = still (at_step k c tt h)
   to_body k c (gone returns h) = gone returns (F.loop_return k c h)
+  to_body k c (gone e h) = still (at_step k c tt h)
 
   to_step : {C B P : Shape} {e : Leave} {n y : ℕ} {p : Places} {z w : List ℕ} {t u v a b : List Event} → IsExpression P → Rounds env m C B P t u → W C goes_on u v → IsNext e → W B e v a → To P (n + 3 + width C + width B) (record p { to = n }) z a b y w → To (Loop C B P) n p z t b y w
   to_step s k c ok h (still i) = still (in_step k c ok h i)
   to_step s k c ok h (gone goes_on q) = still (at_head (F.round k c ok h q))
-  to_step s k c ok h (gone breaks q) = absurd (away s q tt)
-  to_step s k c ok h (gone continues q) = absurd (away s q tt)
-  to_step s k c ok h (gone returns q) = absurd (away s q tt)
+  to_step s k c ok h (gone e q) = absurd (away s q tt)
 
   to_do : {B C : Shape} {n y : ℕ} {p : Places} {z w : List ℕ} {t u v : List Event} → Again env m B C t u → To B (n + 3) (body p (n + 1) (p.to) (n + 1)) z u v y w → To (Do B C) n p z t v y w
   to_do k (still i) = still (in_do k i)
-  to_do k (gone goes_on h) = still (at_until k tt h)
   to_do k (gone breaks h) = gone goes_on (F.do_break k h)
-  to_do k (gone continues h) = still (at_until k tt h)
   to_do k (gone returns h) = gone returns (F.do_return k h)
+  to_do k (gone e h) = still (at_until k tt h)
 
   to_until : {B C : Shape} {e : Leave} {n y : ℕ} {p : Places} {z w : List ℕ} {t u v a : List Event} → IsExpression C → Again env m B C t u → IsNext e → W B e u v → To C (n + 3 + width B) (record p { to = n + 2 }) z v a y w → To (Do B C) n p z t a y w
   to_until s k ok h (still i) = still (in_until k ok h i)
   to_until s k ok h (gone goes_on q) = still (at_choice k ok h q)
-  to_until s k ok h (gone breaks q) = absurd (away s q tt)
-  to_until s k ok h (gone continues q) = absurd (away s q tt)
-  to_until s k ok h (gone returns q) = absurd (away s q tt)
+  to_until s k ok h (gone e q) = absurd (away s q tt)
 
   -- the parts of a switch
   to_part : {S : Shape} {ps : Parts} {i n y : ℕ} {p : Places} {z w : List ℕ} {t u : List Event} → To S n (group p ps (i + 1)) z t u y w → GoesFalls env g base m (Part S ps) i n p z t u y w
   to_part (still h) = still_falls (in_part h)
   to_part {ps = End} (gone goes_on h) = gone_falls goes_on (F.falls_on h F.ended)
   to_part {ps = Part T ps} (gone goes_on h) = still_falls (in_next h at_part)
-  to_part (gone breaks h) = gone_falls breaks (F.falls_away tt h)
-  to_part (gone continues h) = gone_falls continues (F.falls_away tt h)
-  to_part (gone returns h) = gone_falls returns (F.falls_away tt h)
+  to_part (gone e h) = gone_falls e (F.falls_away tt h)
 
   to_next : {S : Shape} {ps : Parts} {i n y : ℕ} {p : Places} {z w : List ℕ} {t u v : List Event} → W S goes_on t u → GoesFalls env g base m ps (i + 1) (n + width S) p z u v y w → GoesFalls env g base m (Part S ps) i n p z t v y w
   to_next h (still_falls i) = still_falls (in_next h i)
@@ -109,9 +98,7 @@ module _ (env : Shapes) (g : Graph) (m : Marks) (base : ℕ → ℕ) (from : Lai
   to_row (still i) = still (in_seq i)
   to_row {ps = End} (gone goes_on h) = gone goes_on (F.in_order (F.falls_on h F.ended))
   to_row {ps = Part T ps} (gone goes_on h) = still (in_rest h at_part)
-  to_row (gone breaks h) = gone breaks (F.in_order (F.falls_away tt h))
-  to_row (gone continues h) = gone continues (F.in_order (F.falls_away tt h))
-  to_row (gone returns h) = gone returns (F.in_order (F.falls_away tt h))
+  to_row (gone e h) = gone e (F.in_order (F.falls_away tt h))
 
   to_rest : {S : Shape} {ps : Parts} {n y : ℕ} {p : Places} {z w : List ℕ} {t u v : List Event} → W S goes_on t u → GoesFalls env g base m ps n (n + count ps + width S) p z u v y w → To (Seq S ps) n p z t v y w
   to_rest h (still_falls i) = still (in_rest h i)

@@ -52,7 +52,7 @@ none_of P z has = absurd (omega (arith, has.1))
 pub either : {X : Type 0} (P : X → Type 0) (xs ys : List X) (z : X) → Contains (xs ++ ys) z → (Contains xs z → P z) → (Contains ys z → P z) → P z
 either P xs ys z has one two = elim (Contains-append_cases xs ys z has) as (λ h. P z) [ inl a ↦ one a | inr b ↦ two b ]
 
-only_one : {X : Type 0} (P : X → Type 0) (x : X) (z : X) → Contains (x ∷ []) z → P x → P z
+pub only_one : {X : Type 0} (P : X → Type 0) (x : X) (z : X) → Contains (x ∷ []) z → P x → P z
 only_one P x z has here = first_or P x [] z has here (λ h. none_of P z h)
 
 -- the ends of an edge, and what is done along it

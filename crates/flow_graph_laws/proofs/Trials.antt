@@ -10,11 +10,12 @@ use Rattle.c_shapes.specs.Shape.{Skip, Sys, Exit, Call, Seq, Alt, Loop, Do, Case
 use Rattle.c_shapes.specs.Bodies.{IsBody}
 use Rattle.flow_graph_laws.specs.GraphOf.{graph_of}
 use Rattle.flow_graph_laws.specs.Premises.{AreClosed, AreNamed, HasRightCalls}
+use Rattle.flow_graph_laws.proofs.Edges.{only_one}
 use Rattle.flow_graph_laws.proofs.SystemNames.{name}
 use Rattle.flow_graph_laws.proofs.Rising.{pairs_cons, pairs_nil}
 
 -- int f(void) { return getpid(); } int main(void) { f(); getuid(); f(); return 0; }
-abbrev two_callers : Shapes
+abbrev pub two_callers : Shapes
 two_callers = record {
   functions =
       Seq (Sys 14 []) (Part Return End)
@@ -35,7 +36,7 @@ two_callers_graph : graph_of (codes "f" ∷ codes "main" ∷ []) two_callers ≡
 two_callers_graph = refl
 
 -- int f(void) { if (g) f(); getpid(); return 0; } int main(void) { f(); return 0; }
-abbrev silent_recursion : Shapes
+abbrev pub silent_recursion : Shapes
 silent_recursion = record {
   functions =
       Seq (Alt (Call 0) Skip) (Part (Sys 14 []) (Part Return End))
@@ -82,7 +83,7 @@ matched_recursion_graph = refl
 
 -- int a(int x) { getpid(); return x; } int b(int x) { return x; } int c(char *s) { getpid(); return 0; }
 -- int (*t[3])(int) = { a, b, close }; int (*u)(char *) = c; int main(void) { return t[1](5); }
-abbrev indirect_call : Shapes
+abbrev pub indirect_call : Shapes
 indirect_call = record {
   functions =
       Seq (Sys 14 []) (Part Return End)
@@ -158,25 +159,11 @@ switch_graph = refl
 -- the shapes of two_callers are closed
 two_callers_closed : AreClosed two_callers
 two_callers_closed = record {
-  once = pairs_cons (λ s r. s ≢ r) 1 (3 ∷ []) (λ z h e. not_three (subst (λ x. Contains {X = ℕ} (3 ∷ []) x) (sym e) h)) (pairs_cons (λ s r. s ≢ r) 3 [] (λ z h e. omega (arith, h.1)) (pairs_nil (λ s r. s ≢ r)));
+  once = pairs_cons (λ s r. s ≢ r) 1 (3 ∷ []) (λ z h. only_one (λ z. 1 ≢ z) 3 z h (λ e. omega (arith, e))) (pairs_cons (λ s r. s ≢ r) 3 [] (λ z h e. omega (arith, h.1)) (pairs_nil (λ s r. s ≢ r)));
   bodies = All-cons IsBody (Seq (Sys 14 []) (Part Return End)) (Seq (Call 1) (Part (Sys 16 []) (Part (Call 3) (Part Return End))) ∷ []) (tt, (tt, tt)) (All-cons IsBody (Seq (Call 1) (Part (Sys 16 []) (Part (Call 3) (Part Return End)))) [] (tt, (tt, (tt, (tt, tt)))) (All-nil IsBody));
-  known = λ s f h. first_alone f h;
+  known = λ s f h. only_one (λ f. f < 2) 0 f h (omega arith);
   main = omega arith;
 }
-  where
-    not_three : Contains {X = ℕ} (3 ∷ []) 1 → ⊥
-    not_three (zero, lt, is) = omega (arith, is)
-    not_three (suc k, lt, is) = omega (arith, lt)
-
-    first_alone : (f : ℕ) → Contains {X = ℕ} (0 ∷ []) f → f < 2
-    first_alone f (zero, lt, is) = omega (arith, is)
-    first_alone f (suc k, lt, is) = absurd (omega (arith, lt))
-
-f_named : IsName (codes "f")
-f_named = name (codes "f") refl
-
-main_named : IsName (codes "main")
-main_named = name (codes "main") refl
 
 none_right : IsRight 14 []
 unfolding table
@@ -189,12 +176,8 @@ none_right_too = record {}
 two_callers_named : AreNamed (codes "f" ∷ codes "main" ∷ []) two_callers
 two_callers_named = record {
   many = refl;
-  names = All-cons IsName (codes "f") (codes "main" ∷ []) f_named (All-cons IsName (codes "main") [] main_named (All-nil IsName));
-  differ = pairs_cons (λ x y. x ≢ y) (codes "f") (codes "main" ∷ []) (λ z h e. absurd (apart z e h)) (pairs_cons (λ x y. x ≢ y) (codes "main") [] (λ z h e. omega (arith, h.1)) (pairs_nil (λ x y. x ≢ y)));
+  names = All-cons IsName (codes "f") (codes "main" ∷ []) (name (codes "f") refl) (All-cons IsName (codes "main") [] (name (codes "main") refl) (All-nil IsName));
+  differ = pairs_cons (λ x y. x ≢ y) (codes "f") (codes "main" ∷ []) (λ z h. only_one (λ z. codes "f" ≢ z) (codes "main") z h (λ e. cc)) (pairs_cons (λ x y. x ≢ y) (codes "main") [] (λ z h e. omega (arith, h.1)) (pairs_nil (λ x y. x ≢ y)));
   patterns = All-cons HasRightCalls (Seq (Sys 14 []) (Part Return End)) (Seq (Call 1) (Part (Sys 16 []) (Part (Call 3) (Part Return End))) ∷ []) (none_right, (tt, tt)) (All-cons HasRightCalls (Seq (Call 1) (Part (Sys 16 []) (Part (Call 3) (Part Return End)))) [] (tt, (none_right_too, (tt, (tt, tt)))) (All-nil HasRightCalls));
   few = omega arith;
 }
-  where
-    apart : (z : List ℕ) → codes "f" ≡ z → Contains (codes "main" ∷ []) z → ⊥
-    apart z e (zero, lt, is) = cc
-    apart z e (suc k, lt, is) = omega (arith, lt)
