@@ -3,21 +3,27 @@ use Rattle.std.proofs.Common.{◌≡◌, ℕ, Bool, ◌+◌, ◌<◌, List, [], 
 use Rattle.dm_base.specs.declared.event.Event.{Event}
 use Rattle.c_shapes.specs.Shape.{Shape, Call, Seq, Alt, Loop, Do, Cases, Parts, End, Part, Shapes, shape_of, Leave, goes_on, breaks, continues, returns, IsDone, IsNext, IsAway}
 use Rattle.c_shapes.specs.Bodies.{IsExpression}
-use Rattle.c_shapes.specs.Words.{Marks, Whole, Rounds, Again, Front}
+use Rattle.c_shapes.specs.Words.{Marks, Whole, Rounds, Again, Falls, Picks, Front}
 use Rattle.c_shapes.specs.Words as F
 use Rattle.c_shapes.specs.Walks.{Label, Site}
 use Rattle.c_shapes.proofs.Leaving.{straight}
 use Rattle.flow_graph_laws.specs.Layout.{Places, ends, body, width, count, group, switch}
-use Rattle.flow_graph_laws.proofs.Laid.{Graph, Step, Run, Via, along, leave, over, then, silent, system, enter, LaidFrom, Only, First, OrSilent, out, into, TwoSilent, to_a, to_b, leads, Laid, LaidParts, one_part, Heads}
+use Rattle.flow_graph_laws.proofs.Laid.{Graph, Step, Run, Via, along, leave, over, then, silent, system, enter, LaidFrom, Only, First, OrSilent, out, into, TwoSilent, to_a, to_b, leads, Laid, LaidParts, no_part, one_part, Heads}
 use Rattle.flow_graph_laws.proofs.Laid as G
-use Rattle.flow_graph_laws.proofs.Positions.{Inside, Goes, at_end, entered, within, returned, in_left, in_right, at_head, in_test, at_body, in_body, at_step, in_step, at_do, in_do, at_until, in_until, at_choice, still, gone, in_cases, in_seq, in_rest, InFalls, InPicks, at_part, in_part, in_next, from_this, from_later, GoesFalls, GoesPicks, still_falls, gone_falls, still_picks, gone_picks}
+use Rattle.flow_graph_laws.proofs.Positions.{Inside, Goes, at_end, entered, within, returned, in_left, in_right, at_head, in_test, at_body, in_body, at_step, in_step, at_do, in_do, at_until, in_until, at_choice, still, gone, in_cases, in_seq, in_rest, InFalls, InPicks, at_part, in_part, in_next, from_this, from_later}
 
 module _ (env : Shapes) (g : Graph) (m : Marks) (base : ℕ → ℕ) (from : LaidFrom env g base) (closed : (f : ℕ) → f < length env.functions → (x : Leave) (t u : List Event) → Whole env m (shape_of env f) x t u → IsDone x) where
   abbrev In : Shape → ℕ → Places → List ℕ → List Event → List Event → ℕ → List ℕ → Type 0
   In = Inside env g base m
 
   abbrev To : Shape → ℕ → Places → List ℕ → List Event → List Event → ℕ → List ℕ → Type 0
-  To = Goes env g base m
+  To S n p = Goes (Inside env g base m S n p) (Whole env m S) p
+
+  abbrev ToFalls : Parts → ℕ → ℕ → Places → List ℕ → List Event → List Event → ℕ → List ℕ → Type 0
+  ToFalls ps i n p = Goes (InFalls env g base m ps i n p) (Falls env m ps) p
+
+  abbrev ToPicks : Parts → ℕ → ℕ → Places → List ℕ → List Event → List Event → ℕ → List ℕ → Type 0
+  ToPicks ps i n p = Goes (InPicks env g base m ps i n p) (Picks env m ps) p
 
   abbrev W : Shape → Leave → List Event → List Event → Type 0
   W = Whole env m
@@ -69,30 +75,30 @@ module _ (env : Shapes) (g : Graph) (m : Marks) (base : ℕ → ℕ) (from : Lai
   to_until s k ok h (gone e q) = absurd (away s q tt)
 
   -- the parts of a switch
-  to_part : {S : Shape} {ps : Parts} {i n y : ℕ} {p : Places} {z w : List ℕ} {t u : List Event} → To S n (group p ps (i + 1)) z t u y w → GoesFalls env g base m (Part S ps) i n p z t u y w
-  to_part (still h) = still_falls (in_part h)
-  to_part {ps = End} (gone goes_on h) = gone_falls goes_on (F.falls_on h F.ended)
-  to_part {ps = Part T ps} (gone goes_on h) = still_falls (in_next h at_part)
-  to_part (gone e h) = gone_falls e (F.falls_away tt h)
+  to_part : {S : Shape} {ps : Parts} {i n y : ℕ} {p : Places} {z w : List ℕ} {t u : List Event} → To S n (group p ps (i + 1)) z t u y w → ToFalls (Part S ps) i n p z t u y w
+  to_part (still h) = still (in_part h)
+  to_part {ps = End} (gone goes_on h) = gone goes_on (F.falls_on h F.ended)
+  to_part {ps = Part T ps} (gone goes_on h) = still (in_next h at_part)
+  to_part (gone e h) = gone e (F.falls_away tt h)
 
-  to_next : {S : Shape} {ps : Parts} {i n y : ℕ} {p : Places} {z w : List ℕ} {t u v : List Event} → W S goes_on t u → GoesFalls env g base m ps (i + 1) (n + width S) p z u v y w → GoesFalls env g base m (Part S ps) i n p z t v y w
-  to_next h (still_falls i) = still_falls (in_next h i)
-  to_next h (gone_falls e k) = gone_falls e (F.falls_on h k)
+  to_next : {S : Shape} {ps : Parts} {i n y : ℕ} {p : Places} {z w : List ℕ} {t u v : List Event} → W S goes_on t u → ToFalls ps (i + 1) (n + width S) p z u v y w → ToFalls (Part S ps) i n p z t v y w
+  to_next h (still i) = still (in_next h i)
+  to_next h (gone e k) = gone e (F.falls_on h k)
 
-  to_this : {ps : Parts} {i n y : ℕ} {p : Places} {z w : List ℕ} {t u : List Event} → GoesFalls env g base m ps i n p z t u y w → GoesPicks env g base m ps i n p z t u y w
-  to_this (still_falls i) = still_picks (from_this i)
-  to_this (gone_falls e k) = gone_picks e (F.this k)
+  to_this : {S : Shape} {ps : Parts} {i n y : ℕ} {p : Places} {z w : List ℕ} {t u : List Event} → ToFalls (Part S ps) i n p z t u y w → ToPicks (Part S ps) i n p z t u y w
+  to_this (still i) = still (from_this i)
+  to_this (gone e k) = gone e (F.this k)
 
-  to_later : {S : Shape} {ps : Parts} {i n y : ℕ} {p : Places} {z w : List ℕ} {t u : List Event} → GoesPicks env g base m ps (i + 1) (n + width S) p z t u y w → GoesPicks env g base m (Part S ps) i n p z t u y w
-  to_later (still_picks i) = still_picks (from_later i)
-  to_later (gone_picks e k) = gone_picks e (F.later k)
+  to_later : {S : Shape} {ps : Parts} {i n y : ℕ} {p : Places} {z w : List ℕ} {t u : List Event} → ToPicks ps (i + 1) (n + width S) p z t u y w → ToPicks (Part S ps) i n p z t u y w
+  to_later (still i) = still (from_later i)
+  to_later (gone e k) = gone e (F.later k)
 
-  to_cases : {ps : Parts} {d : Bool} {n y : ℕ} {p : Places} {z w : List ℕ} {t u : List Event} → GoesPicks env g base m ps n (n + count ps) (switch p) z t u y w → To (Cases ps d) n p z t u y w
-  to_cases (still_picks i) = still (in_cases i)
-  to_cases (gone_picks goes_on k) = gone goes_on (F.cases_end k)
-  to_cases (gone_picks breaks k) = gone goes_on (F.cases_break k)
-  to_cases (gone_picks continues k) = gone continues (F.cases_continue k)
-  to_cases (gone_picks returns k) = gone returns (F.cases_return k)
+  to_cases : {ps : Parts} {d : Bool} {n y : ℕ} {p : Places} {z w : List ℕ} {t u : List Event} → ToPicks ps n (n + count ps) (switch p) z t u y w → To (Cases ps d) n p z t u y w
+  to_cases (still i) = still (in_cases i)
+  to_cases (gone goes_on k) = gone goes_on (F.cases_end k)
+  to_cases (gone breaks k) = gone goes_on (F.cases_break k)
+  to_cases (gone continues k) = gone continues (F.cases_continue k)
+  to_cases (gone returns k) = gone returns (F.cases_return k)
 
   to_row : {S : Shape} {ps : Parts} {n y : ℕ} {p : Places} {z w : List ℕ} {t u : List Event} → To S (n + count ps) (group p ps n) z t u y w → To (Seq S ps) n p z t u y w
   to_row (still i) = still (in_seq i)
@@ -100,9 +106,9 @@ module _ (env : Shapes) (g : Graph) (m : Marks) (base : ℕ → ℕ) (from : Lai
   to_row {ps = Part T ps} (gone goes_on h) = still (in_rest h at_part)
   to_row (gone e h) = gone e (F.in_order (F.falls_away tt h))
 
-  to_rest : {S : Shape} {ps : Parts} {n y : ℕ} {p : Places} {z w : List ℕ} {t u v : List Event} → W S goes_on t u → GoesFalls env g base m ps n (n + count ps + width S) p z u v y w → To (Seq S ps) n p z t v y w
-  to_rest h (still_falls i) = still (in_rest h i)
-  to_rest h (gone_falls e k) = gone e (F.in_order (F.falls_on h k))
+  to_rest : {S : Shape} {ps : Parts} {n y : ℕ} {p : Places} {z w : List ℕ} {t u v : List Event} → W S goes_on t u → ToFalls ps n (n + count ps + width S) p z u v y w → To (Seq S ps) n p z t v y w
+  to_rest h (still i) = still (in_rest h i)
+  to_rest h (gone e k) = gone e (F.in_order (F.falls_on h k))
 
   chosen : {ps : Parts} {i n b : ℕ} {p : Places} {z : List ℕ} {t : List Event} → Heads ps i b → InPicks env g base m ps i n p z t t b z
   chosen G.this = from_this at_part
@@ -170,13 +176,14 @@ module _ (env : Shapes) (g : Graph) (m : Marks) (base : ℕ → ℕ) (from : Lai
     step (in_rest q i) (G.row hs h) s = to_rest q (step_falls i h s)
     step (in_cases i) (G.cases h c e) s = to_cases (step_picks i h s)
 
-    step_falls : {ps : Parts} {i n x y : ℕ} {p : Places} {z r w : List ℕ} {t u v : List Event} → InFalls env g base m ps i n p z t u x r → LaidParts env g ps i n p → Step env g m x r u y w v → GoesFalls env g base m ps i n p z t v y w
+    step_falls : {ps : Parts} {i n x y : ℕ} {p : Places} {z r w : List ℕ} {t u v : List Event} → InFalls env g base m ps i n p z t u x r → LaidParts env g ps i n p → Step env g m x r u y w v → ToFalls ps i n p z t v y w
     step_falls at_part (one_part hs o h) s = let r = only o s in to_part (start r.2 r.3)
     step_falls (in_part k) (one_part hs o h) s = to_part (step k hs s)
     step_falls (in_next q k) (one_part hs o h) s = to_next q (step_falls k h s)
 
-    step_picks : {ps : Parts} {i n x y : ℕ} {p : Places} {z r w : List ℕ} {t u v : List Event} → InPicks env g base m ps i n p z t u x r → LaidParts env g ps i n p → Step env g m x r u y w v → GoesPicks env g base m ps i n p z t v y w
-    step_picks (from_this k) h s = to_this (step_falls k h s)
+    step_picks : {ps : Parts} {i n x y : ℕ} {p : Places} {z r w : List ℕ} {t u v : List Event} → InPicks env g base m ps i n p z t u x r → LaidParts env g ps i n p → Step env g m x r u y w v → ToPicks ps i n p z t v y w
+    step_picks (from_this k) (one_part hs o h) s = to_this (step_falls k (one_part hs o h) s)
+    step_picks (from_this k) no_part s = elim k [ ]
     step_picks (from_later k) (one_part hs o h) s = to_later (step_picks k h s)
 
   -- what has been read up to a position is a front

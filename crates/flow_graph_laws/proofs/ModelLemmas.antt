@@ -83,16 +83,16 @@ made n (name ∷ names) (S ∷ fs) zero e lt = record { one = record { name = na
 made n (name ∷ names) (S ∷ fs) (suc f) e lt = let r = made (n + 2 + width S) names fs f (omega (arith, e)) (omega (arith, lt)) in record { one = r.one; has = r.has; begins = r.begins; ends = r.ends }
 made n names fs f e lt = absurd (omega (arith, e))
 
-pub record Known (n : ℕ) (fs : List Shape) (f : ℕ) (one : ModelFunction) : Type 0 where
+pub record Known (n : ℕ) (fs : List Shape) (f entry exit : ℕ) : Type 0 where
   pub below : f < length fs
-  pub begins : one.entry ≡ entry_at fs n f
-  pub ends : one.exit ≡ entry_at fs n f + 1
+  pub begins : entry ≡ entry_at fs n f
+  pub ends : exit ≡ entry_at fs n f + 1
 
 abbrev KnownOf : ℕ → List Shape → ℕ → Option ModelFunction → Type 0
 KnownOf n fs f None = ⊥
-KnownOf n fs f (Some one) = Known n fs f one
+KnownOf n fs f (Some one) = Known n fs f one.entry one.exit
 
-pub known : (n : ℕ) (names : List (List ℕ)) (fs : List Shape) (f : ℕ) (one : ModelFunction) → slice_get (functions_from n names fs) f ≡ Some one → Known n fs f one
+pub known : (n : ℕ) (names : List (List ℕ)) (fs : List Shape) (f : ℕ) (one : ModelFunction) → slice_get (functions_from n names fs) f ≡ Some one → Known n fs f one.entry one.exit
 known n (name ∷ names) (S ∷ fs) zero one h = subst (λ o. KnownOf n (S ∷ fs) 0 o) h (record { below = omega arith; begins = refl; ends = refl })
 known n (name ∷ names) (S ∷ fs) (suc f) one h = let r = known (n + 2 + width S) names fs f one h in record { below = let k = r.below in omega (arith, k); begins = r.begins; ends = r.ends }
 known n names fs f one h = absurd (cc)
@@ -152,10 +152,5 @@ module _ (names : List (List ℕ)) (env : Shapes) (closed : AreClosed env) (many
   pub has_function : (f : ℕ) → f < length env.functions → HasFunction M f (entry_at env.functions 0 f) (entry_at env.functions 0 f + 1)
   has_function f lt = let r = made 0 names env.functions f many lt in record { one = r.one; has = r.has; begins = r.begins; ends = r.ends }
 
-  pub record Function (f entry exit : ℕ) : Type 0 where
-    pub below : f < length env.functions
-    pub begins : entry ≡ entry_at env.functions 0 f
-    pub ends : exit ≡ entry_at env.functions 0 f + 1
-
-  pub function : (f entry exit : ℕ) → HasFunction M f entry exit → Function f entry exit
+  pub function : (f entry exit : ℕ) → HasFunction M f entry exit → Known 0 env.functions f entry exit
   function f entry exit h = let r = known 0 names env.functions f (h.one) (h.has) in record { below = r.below; begins = sym (h.begins) ∙ r.begins; ends = sym (h.ends) ∙ r.ends }

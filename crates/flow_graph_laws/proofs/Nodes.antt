@@ -319,22 +319,11 @@ module _ (env : Shapes) (closed : AreClosed env) where
   ending continues rest = tt
   ending e rest = rest after end
 
-  silent_on : {f w : ℕ} {x : Point (shape_of env f)} {t : List Event} → f < length fs → TripOf f x Silent w → Rest f w t → Walks env f x t
-  silent_on lt (arrives {y = y} q r) rest = silent_walk lt q (rest y (within r))
-  silent_on lt (gone e q) rest = silent_walk lt q (ending e rest)
-
-  read_on : {f w n : ℕ} {p : List (Option ℤ)} {x : Point (shape_of env f)} {e : Event} {t : List Event} → f < length fs → TripOf f x (System n p) w → Fits n p e → NodeWalk env g w t → Rest f w t → Walks env f x (e ∷ t)
-  read_on lt (arrives {y = y} q r) fit k rest = read_walk lt q fit (rest y (within r))
-  read_on lt (gone e q) fit k rest = read_walk lt q fit (ending e rest)
-  read_on lt (stop q o) fit k rest = read_walk lt q fit (over_there o k)
-
-  enter_on : {f h s w : ℕ} {x : Point (shape_of env f)} {t : List Event} → f < length fs → TripOf f x (Site s) w → Contains (env.candidates s) h → Walks env h before t → Walks env f x t
-  enter_on lt (arrives q r) among a = enter_walk lt q among a
-  enter_on lt (gone e q) among a = enter_walk lt q among a
-
-  leave_on : {f h s w : ℕ} {x : Point (shape_of env f)} {t : List Event} → f < length fs → TripOf f x (Site s) w → Contains (env.candidates s) h → Rest f w t → Walks env h after t
-  leave_on lt (arrives {y = y} q r) among rest = leave_walk lt q among (rest y (within r))
-  leave_on lt (gone e q) among rest = leave_walk lt q among (ending e rest)
+  -- the target of a trip, from which the walk goes on as from w
+  reached : {f w : ℕ} {x : Point (shape_of env f)} {l : Label} {t : List Event} → TripOf f x l w → NodeWalk env g w t → Rest f w t → (T : Target (Point (shape_of env f))) × Path (H f) x l T × Then f T t
+  reached (arrives {y = y} q r) k rest = (at y, q, rest y (within r))
+  reached (gone e q) k rest = (exit_of (at after) e, q, ending e rest)
+  reached (stop q o) k rest = (stopped, q, over_there o k)
 
   left_at : {f h v : ℕ} {x : Point (shape_of env f)} {t : List Event} → f < length fs → h < length fs → Stand f v x → v ≡ g.exit h → Walks env h after t → Walks env f x t
   left_at {f = f} {h = h} lf lh entry e a = absurd ((from.begins f lf).inner h lh e)
@@ -343,10 +332,10 @@ module _ (env : Shapes) (closed : AreClosed env) where
 
   to_points : {v : ℕ} {t : List Event} → NodeWalk env g v t → (f : ℕ) → f < length fs → (x : Point (shape_of env f)) → Stand f v x → Walks env f x t
   to_points G.over f lt x s = W.over
-  to_points (G.silent e k) f lt x s = silent_on lt (trip lt s e) (λ y r. to_points k f lt y r)
-  to_points (G.system e fit k) f lt x s = read_on lt (trip lt s e) fit k (λ y r. to_points k f lt y r)
-  to_points (G.enter {s = c} {f = h} e among k) f lt x s = enter_on lt (trip lt s e) among (to_points k h (from.known c h among) before entry)
-  to_points (G.leave {b = b} {c = c} {s = i} {f = h} lh is e among k) f lt x s = let o = one_from fs 0 (edge c (Site i) b) e in left_at lt lh s is (leave_on (o.below) ((site_trip env g (o.here)).trip) among (λ y r. to_points k (o.f) (o.below) y r))
+  to_points (G.silent e k) f lt x s = let (T, q, a) = reached (trip lt s e) k (λ y r. to_points k f lt y r) in silent_walk lt q a
+  to_points (G.system e fit k) f lt x s = let (T, q, a) = reached (trip lt s e) k (λ y r. to_points k f lt y r) in read_walk lt q fit a
+  to_points (G.enter {s = c} {f = h} e among k) f lt x s = let (T, q, a) = reached (trip lt s e) G.over (λ y r. W.over) in enter_walk lt q among (to_points k h (from.known c h among) before entry)
+  to_points (G.leave {b = b} {c = c} {s = i} {f = h} lh is e among k) f lt x s = let o = one_from fs 0 (edge c (Site i) b) e in let (T, q, a) = reached ((site_trip env g (o.here)).trip) k (λ y r. to_points k (o.f) (o.below) y r) in left_at lt lh s is (leave_walk (o.below) q among a)
 
   pub nodes_to_points : (f : ℕ) → f < length fs → (t : List Event) → NodeWalk env g (g.entry f) t → Walks env f before t
   nodes_to_points f lt t k = to_points k f lt before entry

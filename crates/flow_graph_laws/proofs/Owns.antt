@@ -170,9 +170,6 @@ row_rest : {S : Shape} {ps : Parts} {a n x y : ℕ} {p : Places} {l : Label} →
 row_rest (in_seq e) h at = let s = sources e in absurd (omega (arith, s, h, at))
 row_rest (in_rest e) h at = e
 
-no_default_edge : {ps : Parts} {a n : ℕ} {p : Places} {d : Bool} → d ≡ false → Lays (Cases ps d) a n p a Silent (p.to)
-no_default_edge {ps = ps} {a = a} {n = n} {p = p} e = subst (λ d. Lays (Cases ps d) a n p a Silent (p.to)) (sym e) no_default
-
 cases_edge : {ps : Parts} {a n x y : ℕ} {p : Places} {l : Label} {d : Bool} → Lays (Cases ps d) a n p x l y → a < n → n ≤ x → LaysParts ps n (n + count ps) (switch p) x l y
 cases_edge (in_cases e) h lo = e
 cases_edge e h lo = absurd (omega (arith, h, lo))
@@ -219,7 +216,7 @@ mutual
   laid env g Continue a n p b c s h o = G.continue_on (o.has a Silent (p.con) continue_on)
   laid env g Return a n p b c s h o = G.return_now (o.has a Silent (p.ret) return_now)
   laid env g (Seq S ps) a n p b c s h o = G.row (laid env g S a (n + count ps) (group p ps n) b c s.0 (omega (arith, h)) (part_of o (λ x l y e. in_seq e) (λ x l y e at. row_first e at) (omega arith) (omega arith))) (laid_parts env g ps n (n + count ps + width S) p b c s.1 (omega arith) (record { has = λ x l y e. o.has x l y (in_rest e); only = λ x l y at e. row_rest (o.only x l y (record { low = omega (arith, at); high = omega (arith, at) }) e) h at; inner = λ x at. o.inner x (record { low = omega (arith, at); high = omega (arith, at) }) }))
-  laid env g (Cases ps d) a n p b c s h o = G.cases (laid_parts env g ps n (n + count ps) (switch p) true c s (omega arith) (record { has = λ x l y e. o.has x l y (in_cases e); only = λ x l y at e. cases_edge (o.only x l y (record { low = omega (arith, at); high = omega (arith, at) }) e) h (omega (arith, at)); inner = λ x at. o.inner x (record { low = omega (arith, at); high = omega (arith, at) }) })) (λ y k. o.has a Silent y (to_case k)) (λ e. o.has a Silent (p.to) (no_default_edge e))
+  laid env g (Cases ps d) a n p b c s h o = G.cases (laid_parts env g ps n (n + count ps) (switch p) true c s (omega arith) (record { has = λ x l y e. o.has x l y (in_cases e); only = λ x l y at e. cases_edge (o.only x l y (record { low = omega (arith, at); high = omega (arith, at) }) e) h (omega (arith, at)); inner = λ x at. o.inner x (record { low = omega (arith, at); high = omega (arith, at) }) })) (λ y k. o.has a Silent y (to_case k)) (λ e. o.has a Silent (p.to) (rw e no_default))
 
   laid_parts : (env : Shapes) (g : Graph) (ps : Parts) (i n : ℕ) (p : Places) (b c : Bool) → AreStatements ps b c → i + count ps ≤ n → OwnsParts env g ps i n p → LaidParts env g ps i n p
   laid_parts env g End i n p b c s k o = no_part

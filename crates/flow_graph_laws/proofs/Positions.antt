@@ -41,15 +41,7 @@ mutual
     from_this : {ps : Parts} {i n x : ℕ} {p : Places} {y z : List ℕ} {t u : List Event} → InFalls env g base m ps i n p z t u x y → InPicks env g base m ps i n p z t u x y
     from_later : {S : Shape} {ps : Parts} {i n x : ℕ} {p : Places} {y z : List ℕ} {t u : List Event} → InPicks env g base m ps (i + 1) (n + width S) p z t u x y → InPicks env g base m (Part S ps) i n p z t u x y
 
--- the same, or S is read whole and the run stands where its exit leads, with the open sites as they were
-pub data Goes (env : Shapes) (g : Graph) (base : ℕ → ℕ) (m : Marks) : Shape → ℕ → Places → List ℕ → List Event → List Event → ℕ → List ℕ → Type 0 where
-  still : {S : Shape} {n x : ℕ} {p : Places} {y z : List ℕ} {t u : List Event} → Inside env g base m S n p z t u x y → Goes env g base m S n p z t u x y
-  gone : {S : Shape} {n : ℕ} {p : Places} {z : List ℕ} {t u : List Event} → (e : Leave) → Whole env m S e t u → Goes env g base m S n p z t u (leads p e) z
-
-pub data GoesFalls (env : Shapes) (g : Graph) (base : ℕ → ℕ) (m : Marks) : Parts → ℕ → ℕ → Places → List ℕ → List Event → List Event → ℕ → List ℕ → Type 0 where
-  still_falls : {ps : Parts} {i n x : ℕ} {p : Places} {y z : List ℕ} {t u : List Event} → InFalls env g base m ps i n p z t u x y → GoesFalls env g base m ps i n p z t u x y
-  gone_falls : {S : Shape} {ps : Parts} {i n : ℕ} {p : Places} {z : List ℕ} {t u : List Event} → (e : Leave) → Falls env m (Part S ps) e t u → GoesFalls env g base m (Part S ps) i n p z t u (leads p e) z
-
-pub data GoesPicks (env : Shapes) (g : Graph) (base : ℕ → ℕ) (m : Marks) : Parts → ℕ → ℕ → Places → List ℕ → List Event → List Event → ℕ → List ℕ → Type 0 where
-  still_picks : {ps : Parts} {i n x : ℕ} {p : Places} {y z : List ℕ} {t u : List Event} → InPicks env g base m ps i n p z t u x y → GoesPicks env g base m ps i n p z t u x y
-  gone_picks : {ps : Parts} {i n : ℕ} {p : Places} {z : List ℕ} {t u : List Event} → (e : Leave) → Picks env m ps e t u → GoesPicks env g base m ps i n p z t u (leads p e) z
+-- the same, or the whole is read and the run stands where its exit leads, with the open sites as they were
+pub data Goes (inside : List ℕ → List Event → List Event → ℕ → List ℕ → Type 0) (whole : Leave → List Event → List Event → Type 0) (p : Places) (z : List ℕ) (t u : List Event) : ℕ → List ℕ → Type 0 where
+  still : {x : ℕ} {y : List ℕ} → inside z t u x y → Goes inside whole p z t u x y
+  gone : (e : Leave) → whole e t u → Goes inside whole p z t u (leads p e) z

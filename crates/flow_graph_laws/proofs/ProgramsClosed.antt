@@ -36,12 +36,15 @@ all_map : {X Y : Type 0} (P : Y → Type 0) (f : X → Y) (xs : List X) → ((x 
 all_map P f xs h = all_from P (map f xs) (λ y k. let r = from_map f xs y k in subst P r.2 (h r.0 r.1))
 
 module _ (p : Program) where
-  many : length (shapes_of_functions p) ≡ defined p + length (taken_calls p)
-  many =
-      let k = length-append (map (shape_of_function p) p.functions) (map any_call (taken_calls p)) in
-      let i = length-map p.functions (shape_of_function p) in
-      let j = length-map (taken_calls p) any_call in
+  length_both : {X : Type 0} (f : Function → X) (g : ℕ → X) → length (map f p.functions ++ map g (taken_calls p)) ≡ defined p + length (taken_calls p)
+  length_both f g =
+      let k = length-append (map f p.functions) (map g (taken_calls p)) in
+      let i = length-map p.functions f in
+      let j = length-map (taken_calls p) g in
       omega (arith, k, i, j)
+
+  many : length (shapes_of_functions p) ≡ defined p + length (taken_calls p)
+  many = length_both (shape_of_function p) any_call
 
   -- a function that may be entered: it is defined, or a taken system call
   Entered : ℕ → Type 0
@@ -120,12 +123,7 @@ module _ (p : Program) where
   name_in f = f.name
 
   pub many_names : length (names_of_functions p) ≡ length (shapes_of_functions p)
-  many_names =
-      let k = length-append (map name_in p.functions) (map name_of (taken_calls p)) in
-      let i = length-map p.functions name_in in
-      let j = length-map (taken_calls p) name_of in
-      let m = many in
-      omega (arith, k, i, j, m)
+  many_names = length_both name_in name_of ∙ sym many
 
   pub named : (n : ℕ) → IsProgram p n → nodes_from 0 (shapes_of_functions p) ≤ 200000 → AreNamed (names_of_functions p) (shapes_of p)
   named n h few = record {

@@ -1,5 +1,6 @@
 -- A site stands at most as often in a shape as in its tree.
 use Rattle.std.proofs.Common.{◌≡◌, ◌≢◌, ℕ, zero, suc, ◌+◌, ◌-◌, ◌<◌, ◌≤◌, Bool, true, false, nat_eq, nat_lt, if◌then◌else◌, List, [], ◌∷◌, ◌++◌, map, flat_map, Contains, AllPairs, Option, None, ℤ, inl, inr, sym, ap, ◌∙◌, subst, refl, arith}
+use Rattle.std.proofs.lemmas.Grind.{flat_map-append}
 use Rattle.std.specs.List.{range_with_len}
 use Rattle.std.specs.Cmp.{nat_eq_equiv}
 use Rattle.std.proofs.lemmas.Bool.Decides.{eqb_tells}
@@ -15,6 +16,7 @@ use Rattle.c_shapes.specs.Shape.{Shape, Skip, Sys, Exit, Call, Loop, Cases, Retu
 use Rattle.c_shapes.specs.Mentions.{Direct, Through}
 use Rattle.c_shapes.specs.CallGraph.{is_marked}
 use Rattle.c_shapes.specs.ShapeOf.{before_parts, without_skips, in_turn, seq, seq_two, alt, system_call, marked_call, direct_call, shape, shapes_before, shape_of_maybe, shapes_of_inits, shape_of_stmt, shapes_of_stmts, shapes_of_groups, shape_of_function, any_call, has_default}
+use Rattle.c_shapes.proofs.Members.{other_number}
 use Rattle.flow_graph_laws.specs.Premises.{sites, sites_of_parts}
 use Rattle.flow_graph_laws.proofs.ShapesOfTrees.{Spreads, Stands, if_has, tree_has}
 use Rattle.flow_graph_laws.proofs.Rising.{pairs_cons, pairs_nil}
@@ -100,14 +102,6 @@ module _ (p : Program) (s : ℕ) where
       let i = at_calls xs in
       omega (arith, k, h, i)
 
-flat_append : {X : Type 0} (f : X → List ℕ) (s : ℕ) (xs ys : List X) → often s (flat_map f (xs ++ ys)) ≡ often s (flat_map f xs) + often s (flat_map f ys)
-flat_append f s [] ys = omega arith
-flat_append f s (x ∷ xs) ys =
-    let k = often_append s (f x) (flat_map f (xs ++ ys)) in
-    let i = flat_append f s xs ys in
-    let j = often_append s (f x) (flat_map f xs) in
-    omega (arith, k, i, j)
-
 -- a list in which nothing stands twice
 often_more : (s : ℕ) (xs : List ℕ) → Contains xs s → 1 ≤ often s xs
 often_more s [] h = absurd (omega (arith, h.1))
@@ -118,12 +112,9 @@ pub differ_from_often : (xs : List ℕ) → ((s : ℕ) → often s xs ≤ 1) →
 differ_from_often [] h = pairs_nil (λ s r. s ≢ r)
 differ_from_often (x ∷ xs) h = pairs_cons (λ s r. s ≢ r) x xs (λ z has e. let k : one (nat_eq x x) ≡ 1 = ap one (nat_eq_equiv.refl x) in let i = h x in let j = often_more x xs (subst (λ y. Contains xs y) (sym e) has) in omega (arith, k, i, j)) (differ_from_often xs (λ s. let k = h s in omega (arith, k)))
 
-one_same : (s a : ℕ) → ((s ≡ a) → ⊥) → one (nat_eq s a) ≡ 0
-one_same s a off = elim (eqb_tells s a) as (λ k. one (nat_eq s a) ≡ 0) [ inl k ↦ absurd (off k.1) | inr k ↦ ap one k.0 ]
-
 below_range : (s a n : ℕ) → s < a → often s (range_with_len a n) ≡ 0
 below_range s a zero lt = refl
-below_range s a (suc n) lt = let k = one_same s a (λ e. omega (arith, e, lt)) in let i = below_range s (a + 1) n (omega (arith, lt)) in omega (arith, k, i)
+below_range s a (suc n) lt = let k = ap one (other_number s a (λ e. omega (arith, e, lt))) in let i = below_range s (a + 1) n (omega (arith, lt)) in omega (arith, k, i)
 
 pub once_in_range : (s a n : ℕ) → often s (range_with_len a n) ≤ 1
 once_in_range s a zero = omega arith
@@ -135,7 +126,8 @@ once_in_range s a (suc n) =
 
 pub sites_differ : (p : Program) (n : ℕ) (xs : List ℕ) → sites_of_program p ≡ range_with_len 0 n → AllPairs (λ s r. s ≢ r) (flat_map sites (map (shape_of_function p) p.functions ++ map any_call xs))
 sites_differ p n xs numbered = differ_from_often (flat_map sites (map (shape_of_function p) p.functions ++ map any_call xs)) (λ s.
-    let k = flat_append sites s (map (shape_of_function p) p.functions) (map any_call xs) in
+    let e = flat_map-append sites (map (shape_of_function p) p.functions) (map any_call xs) in
+    let k = ap (often s) e ∙ often_append s (flat_map sites (map (shape_of_function p) p.functions)) (flat_map sites (map any_call xs)) in
     let i = at_functions p s p.functions in
     let j = at_calls p s xs in
     let m : often s (flat_map sites_of_function p.functions) ≡ often s (range_with_len 0 n) = ap (often s) numbered in

@@ -165,19 +165,12 @@ two_callers_closed = record {
   main = omega arith;
 }
 
-none_right : IsRight 14 []
-unfolding table
-none_right = record {}
-
-none_right_too : IsRight 16 []
-unfolding table
-none_right_too = record {}
-
 two_callers_named : AreNamed (codes "f" ∷ codes "main" ∷ []) two_callers
+unfolding table
 two_callers_named = record {
   many = refl;
   names = All-cons IsName (codes "f") (codes "main" ∷ []) (name (codes "f") refl) (All-cons IsName (codes "main") [] (name (codes "main") refl) (All-nil IsName));
   differ = pairs_cons (λ x y. x ≢ y) (codes "f") (codes "main" ∷ []) (λ z h. only_one (λ z. codes "f" ≢ z) (codes "main") z h (λ e. cc)) (pairs_cons (λ x y. x ≢ y) (codes "main") [] (λ z h e. omega (arith, h.1)) (pairs_nil (λ x y. x ≢ y)));
-  patterns = All-cons HasRightCalls (Seq (Sys 14 []) (Part Return End)) (Seq (Call 1) (Part (Sys 16 []) (Part (Call 3) (Part Return End))) ∷ []) (none_right, (tt, tt)) (All-cons HasRightCalls (Seq (Call 1) (Part (Sys 16 []) (Part (Call 3) (Part Return End)))) [] (tt, (none_right_too, (tt, (tt, tt)))) (All-nil HasRightCalls));
+  patterns = All-cons HasRightCalls (Seq (Sys 14 []) (Part Return End)) (Seq (Call 1) (Part (Sys 16 []) (Part (Call 3) (Part Return End))) ∷ []) (record {}, (tt, tt)) (All-cons HasRightCalls (Seq (Call 1) (Part (Sys 16 []) (Part (Call 3) (Part Return End)))) [] (tt, (record {}, (tt, (tt, tt)))) (All-nil HasRightCalls));
   few = omega arith;
 }
