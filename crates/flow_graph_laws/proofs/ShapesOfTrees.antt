@@ -42,6 +42,10 @@ pub record Stands (P : Shape → ℕ → Type 0) (Ps : Parts → ℕ → Type 0)
   pub continues : (n : ℕ) → P Continue n
   pub returns : (n : ℕ) → P Return n
 
+if_has : (P : Shape → Type 0) (b : Bool) (S T : Shape) → (b ≡ true → P S) → (b ≡ false → P T) → P (if b then S else T)
+if_has P true S T h k = h refl
+if_has P false S T h k = k refl
+
 module _ (P : Shape → ℕ → Type 0) (Ps : Parts → ℕ → Type 0) (w : Spreads P Ps) where
   before_has : (S : Shape) (ps : Parts) (m n : ℕ) → P S m → Ps ps n → Ps (before_parts S ps) (m + n)
   before_has Skip ps m n h k = w.parts_more ps n (m + n) k (omega arith)
@@ -73,7 +77,15 @@ module _ (P : Shape → ℕ → Type 0) (Ps : Parts → ℕ → Type 0) (w : Spr
   or_skip S n h = w.more (alt S Skip) (n + 0) n (alt_has S Skip n 0 h (w.skip 0)) (omega arith)
 
   -- the number of a tree is that of its sites
-  module _ (c : List ℕ → ℕ) (joins : (xs ys : List ℕ) → c (xs ++ ys) ≡ c xs + c ys) (p : Program) (direct : (s f : ℕ) (es : Exprs) → P (direct_call p s f es) (c (s ∷ []))) (through : (s : ℕ) (callee : Callee) → P (marked_call p s callee) (c (s ∷ []))) where
+  module _ (c : List ℕ → ℕ) (joins : (xs ys : List ℕ) → c (xs ++ ys) ≡ c xs + c ys) (p : Program) (called : (s : ℕ) → P (Call s) (c (s ∷ []))) (system : (x : ℕ) (es : Exprs) (n : ℕ) → P (system_call x (pattern_of x es)) n) where
+    through : (s : ℕ) (callee : Callee) → P (marked_call p s callee) (c (s ∷ []))
+    through s callee = if_has (λ S. P S (c (s ∷ []))) (is_marked p callee) (Call s) Skip (λ h. called s) (λ h. w.skip (c (s ∷ [])))
+
+    direct : (s f : ℕ) (es : Exprs) → P (direct_call p s f es) (c (s ∷ []))
+    direct s f es =
+        let x = f - defined p in
+        if_has (λ S. P S (c (s ∷ []))) (nat_lt f (defined p)) (marked_call p s (Direct f)) (if nat_lt x 24 then system_call x (pattern_of x es) else Skip) (λ h. through s (Direct f)) (λ h. if_has (λ S. P S (c (s ∷ []))) (nat_lt x 24) (system_call x (pattern_of x es)) Skip (λ k. system x es (c (s ∷ []))) (λ k. w.skip (c (s ∷ []))))
+
     two : (S T : Shape) (xs ys : List ℕ) → P S (c xs) → P T (c ys) → P (seq_two S T) (c (xs ++ ys))
     two S T xs ys h k = subst (λ n. P (seq_two S T) n) (sym (joins xs ys)) (seq_two_has S T (c xs) (c ys) h k)
 
@@ -166,27 +178,14 @@ system_expression : (x : ℕ) (q : List (Option ℤ)) (b : Bool) → IsExpressio
 system_expression x q true = tt
 system_expression x q false = tt
 
-marked_expression : (s : ℕ) (b : Bool) → IsExpression (if b then Call s else Skip)
-marked_expression s true = tt
-marked_expression s false = tt
-
-pub if_has : (P : Shape → Type 0) (b : Bool) (S T : Shape) → (b ≡ true → P S) → (b ≡ false → P T) → P (if b then S else T)
-if_has P true S T h k = h refl
-if_has P false S T h k = k refl
-
-direct_expression : (p : Program) (s f : ℕ) (es : Exprs) → IsExpression (direct_call p s f es)
-direct_expression p s f es =
-    let x = f - defined p in
-    if_has IsExpression (nat_lt f (defined p)) (marked_call p s (Direct f)) (if nat_lt x 24 then system_call x (pattern_of x es) else Skip) (λ h. marked_expression s (is_marked p (Direct f))) (λ h. if_has IsExpression (nat_lt x 24) (system_call x (pattern_of x es)) Skip (λ k. system_expression x (pattern_of x es) (nat_eq x exit_call)) (λ k. tt))
-
 pub expression : (p : Program) (e : Expr) → IsExpression (shape p e)
-expression p e = expression_has (λ S n. IsExpression S) (λ ps n. AreExpressions ps) expressions_spread (λ xs. 0) (λ xs ys. refl) p (direct_expression p) (λ s callee. marked_expression s (is_marked p callee)) e
+expression p e = expression_has (λ S n. IsExpression S) (λ ps n. AreExpressions ps) expressions_spread (λ xs. 0) (λ xs ys. refl) p (λ s. tt) (λ x es n. system_expression x (pattern_of x es) (nat_eq x exit_call)) e
 
 pub expression_of_maybe : (p : Program) (m : Maybe) → IsExpression (shape_of_maybe p m)
-expression_of_maybe p m = maybe_has (λ S n. IsExpression S) (λ ps n. AreExpressions ps) expressions_spread (λ xs. 0) (λ xs ys. refl) p (direct_expression p) (λ s callee. marked_expression s (is_marked p callee)) m
+expression_of_maybe p m = maybe_has (λ S n. IsExpression S) (λ ps n. AreExpressions ps) expressions_spread (λ xs. 0) (λ xs ys. refl) p (λ s. tt) (λ x es n. system_expression x (pattern_of x es) (nat_eq x exit_call)) m
 
 expressions_of_inits : (p : Program) (is : Inits) → AreExpressions (shapes_of_inits p is)
-expressions_of_inits p is = inits_have (λ S n. IsExpression S) (λ ps n. AreExpressions ps) expressions_spread (λ xs. 0) (λ xs ys. refl) p (direct_expression p) (λ s callee. marked_expression s (is_marked p callee)) is
+expressions_of_inits p is = inits_have (λ S n. IsExpression S) (λ ps n. AreExpressions ps) expressions_spread (λ xs. 0) (λ xs ys. refl) p (λ s. tt) (λ x es n. system_expression x (pattern_of x es) (nat_eq x exit_call)) is
 
 -- statements that are well-typed have their breaks and continues in loops and switches
 statements_spread : (b c : Bool) → Spreads (λ S n. IsStatement S b c) (λ ps n. AreStatements ps b c)
@@ -244,20 +243,11 @@ calls_spread = record { skip = λ n. tt; none = λ n. tt; some = λ S ps m n h k
 right_system : (x : ℕ) (q : List (Option ℤ)) → IsRight x q → HasRightCalls (system_call x q)
 right_system x q h = if_has HasRightCalls (nat_eq x exit_call) (Exit q) (Sys x q) (λ e. subst (λ y. IsRight y q) (same_number x exit_call e) h) (λ e. h)
 
-right_marked : (s : ℕ) (b : Bool) → HasRightCalls (if b then Call s else Skip)
-right_marked s true = tt
-right_marked s false = tt
-
-right_direct : (p : Program) (s f : ℕ) (es : Exprs) → HasRightCalls (direct_call p s f es)
-right_direct p s f es =
-    let x = f - defined p in
-    if_has HasRightCalls (nat_lt f (defined p)) (marked_call p s (Direct f)) (if nat_lt x 24 then system_call x (pattern_of x es) else Skip) (λ h. right_marked s (is_marked p (Direct f))) (λ h. if_has HasRightCalls (nat_lt x 24) (system_call x (pattern_of x es)) Skip (λ k. right_system x (pattern_of x es) (patterns_right x es)) (λ k. tt))
-
 calls_stand : Stands (λ S n. HasRightCalls S) (λ ps n. HaveRightCalls ps)
 calls_stand = record { loop = λ C B T l m n h i k. (h, i, k); until = λ B C m n h k. (h, k); cases = λ ps d n h. h; breaks = λ n. tt; continues = λ n. tt; returns = λ n. tt }
 
 pub right_stmt : (p : Program) (s : Stmt) → HasRightCalls (shape_of_stmt p s)
-right_stmt p s = tree_has (λ S n. HasRightCalls S) (λ ps n. HaveRightCalls ps) calls_spread (λ xs. 0) (λ xs ys. refl) p (right_direct p) (λ s callee. right_marked s (is_marked p callee)) calls_stand s
+right_stmt p s = tree_has (λ S n. HasRightCalls S) (λ ps n. HaveRightCalls ps) calls_spread (λ xs. 0) (λ xs ys. refl) p (λ s. tt) (λ x es n. right_system x (pattern_of x es) (patterns_right x es)) calls_stand s
 
 -- a system call as a function
 any_right : (kinds : List ArgKind) → AllZip FitsEntry kinds (map (λ kind. None) kinds)

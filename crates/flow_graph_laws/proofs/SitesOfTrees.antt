@@ -18,7 +18,7 @@ use Rattle.c_shapes.specs.CallGraph.{is_marked}
 use Rattle.c_shapes.specs.ShapeOf.{before_parts, without_skips, in_turn, seq, seq_two, alt, system_call, marked_call, direct_call, shape, shapes_before, shape_of_maybe, shapes_of_inits, shape_of_stmt, shapes_of_stmts, shapes_of_groups, shape_of_function, any_call, has_default}
 use Rattle.c_shapes.proofs.Members.{other_number}
 use Rattle.flow_graph_laws.specs.Premises.{sites, sites_of_parts}
-use Rattle.flow_graph_laws.proofs.ShapesOfTrees.{Spreads, Stands, if_has, tree_has}
+use Rattle.flow_graph_laws.proofs.ShapesOfTrees.{Spreads, Stands, tree_has}
 use Rattle.flow_graph_laws.proofs.Rising.{pairs_cons, pairs_nil}
 
 abbrev one : Bool → ℕ
@@ -44,19 +44,9 @@ at_parts s ps = often s (sites_of_parts ps)
 at_part : (s : ℕ) (S : Shape) (ps : Parts) → at_parts s (Part S ps) ≡ at s S + at_parts s ps
 at_part s S ps = often_append s (sites S) (sites_of_parts ps)
 
-at_if_call : (s r : ℕ) (b : Bool) → at s (if b then Call r else Skip) ≤ one (nat_eq s r)
-at_if_call s r true = omega arith
-at_if_call s r false = omega arith
-
 at_system : (s x : ℕ) (q : List (Option ℤ)) (b : Bool) → at s (if b then Exit q else Sys x q) ≡ 0
 at_system s x q true = refl
 at_system s x q false = refl
-
-at_direct : (p : Program) (s r f : ℕ) (es : Exprs) → at s (direct_call p r f es) ≤ one (nat_eq s r)
-at_direct p s r f es =
-    let x = f - defined p in
-    let sys : at s (system_call x (pattern_of x es)) ≤ one (nat_eq s r) = let k = at_system s x (pattern_of x es) (nat_eq x exit_call) in omega (arith, k) in
-    if_has (λ S. at s S ≤ one (nat_eq s r)) (nat_lt f (defined p)) (if is_marked p (Direct f) then Call r else Skip) (if nat_lt x 24 then system_call x (pattern_of x es) else Skip) (λ h. at_if_call s r (is_marked p (Direct f))) (λ h. if_has (λ S. at s S ≤ one (nat_eq s r)) (nat_lt x 24) (system_call x (pattern_of x es)) Skip (λ k. sys) (λ k. omega arith))
 
 -- that a shape has the site at most so often
 few_spread : (s : ℕ) → Spreads (λ S n. at s S ≤ n) (λ ps n. at_parts s ps ≤ n)
@@ -83,7 +73,7 @@ few_stand s = record {
 
 module _ (p : Program) (s : ℕ) where
   in_stmt : (u : Stmt) → at s (shape_of_stmt p u) ≤ often s (sites_of_stmt u)
-  in_stmt u = tree_has (λ S n. at s S ≤ n) (λ ps n. at_parts s ps ≤ n) (few_spread s) (often s) (often_append s) p (λ r f es. let k = at_direct p s r f es in omega (arith, k)) (λ r callee. let k = at_if_call s r (is_marked p callee) in omega (arith, k)) (few_stand s) u
+  in_stmt u = tree_has (λ S n. at s S ≤ n) (λ ps n. at_parts s ps ≤ n) (few_spread s) (often s) (often_append s) p (λ r. omega arith) (λ x es n. let k = at_system s x (pattern_of x es) (nat_eq x exit_call) in omega (arith, k)) (few_stand s) u
 
   at_functions : (fs : List Function) → often s (flat_map sites (map (shape_of_function p) fs)) ≤ often s (flat_map sites_of_function fs)
   at_functions [] = omega arith
