@@ -1,5 +1,5 @@
 -- The edges of a shape, one rule for each.
-use Rattle.std.proofs.Common.{◌≡◌, ℕ, ℤ, ◌+◌, Bool, true, false, List, [], ◌∷◌, ◌++◌, Option, Contains, inl, inr, zero, suc, subst, sym, refl, arith}
+use Rattle.std.proofs.Common.{ℕ, ℤ, ◌+◌, Bool, true, false, List, [], ◌∷◌, ◌++◌, Option, Contains, inl, inr, zero, suc, subst, refl, arith}
 use Rattle.std.proofs.lemmas.List.Elements.{Contains-append_left, Contains-append_right, Contains-append_cases}
 use Rattle.c_shapes.specs.Shape.{Shape, Skip, Sys, Exit, Call, Seq, Alt, Loop, Do, Cases, Parts, End, Part, Break, Continue, Return, exit_call}
 use Rattle.c_shapes.specs.Walks.{Label, Silent, System, Site}

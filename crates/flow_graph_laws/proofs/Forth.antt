@@ -1,7 +1,7 @@
 -- Each word of a shape is read by a run of the graph that is laid from it.
 use Rattle.std.proofs.Common.{◌≡◌, ℕ, ◌+◌, List, ◌∷◌, sym, subst, refl}
 use Rattle.dm_base.specs.declared.event.Event.{Event}
-use Rattle.c_shapes.specs.Shape.{Shape, Parts, Shapes, Leave, goes_on, breaks, continues, returns, IsDone, IsNext, IsAway}
+use Rattle.c_shapes.specs.Shape.{Shape, Parts, Shapes, Leave, goes_on, breaks, returns, IsDone, IsNext, IsAway}
 use Rattle.c_shapes.specs.Words.{Marks, Whole, Rounds, Again, Falls, Picks, Front, FrontFalls, FrontPicks}
 use Rattle.c_shapes.specs.Words as F
 use Rattle.c_shapes.specs.Walks.{Silent}

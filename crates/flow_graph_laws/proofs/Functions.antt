@@ -1,8 +1,8 @@
 -- The graph of a program's shapes is laid from them.
-use Rattle.std.proofs.Common.{◌≡◌, ◌≢◌, ℕ, zero, suc, Bool, true, false, ◌+◌, ◌<◌, ◌≤◌, List, [], ◌∷◌, ◌++◌, length, Contains, AllPairs, flat_map, slice_index_or, ◌⊎◌, inl, inr, sym, ap, ap₂, ◌∙◌, subst, refl, arith}
+use Rattle.std.proofs.Common.{◌≡◌, ◌≢◌, ℕ, zero, suc, Bool, true, false, ◌+◌, ◌<◌, ◌≤◌, List, [], ◌∷◌, ◌++◌, length, Contains, AllPairs, flat_map, slice_index_or, sym, ap, ap₂, ◌∙◌, subst, refl, arith}
 use Rattle.std.proofs.lemmas.List.Elements.{Contains-append_left, Contains-append_right}
-use Rattle.c_shapes.specs.Shape.{Shape, Skip, Sys, Exit, Call, Seq, Alt, Loop, Do, Cases, Break, Continue, Return, Parts, End, Part, Shapes}
-use Rattle.c_shapes.specs.Walks.{Label, Silent, System, Site}
+use Rattle.c_shapes.specs.Shape.{Shape, Skip, Seq, Alt, Loop, Do, Cases, Parts, End, Part, Shapes}
+use Rattle.c_shapes.specs.Walks.{Label, Site}
 use Rattle.flow_graph_laws.specs.Layout.{Edge, edge, Places, ends, body, switch, group, count, width, edges, edges_of_parts, to_each, past_all}
 use Rattle.flow_graph_laws.specs.GraphOf.{edges_from}
 use Rattle.flow_graph_laws.specs.Premises.{sites, sites_of_parts, AreClosed}

@@ -1,5 +1,5 @@
 -- A walk over nodes is a walk over points.
-use Rattle.std.proofs.Common.{◌≡◌, ℕ, ℤ, Bool, true, false, ◌+◌, ◌<◌, List, [], ◌∷◌, Option, length, Contains, sym, subst, refl}
+use Rattle.std.proofs.Common.{◌≡◌, ℕ, ℤ, Bool, false, ◌+◌, ◌<◌, List, [], ◌∷◌, Option, length, Contains, sym, subst, refl}
 use Rattle.std.proofs.lemmas.Bool.{false≢true}
 use Rattle.dm_base.specs.declared.event.Event.{Event}
 use Rattle.dm_base.specs.Fits.{Fits}

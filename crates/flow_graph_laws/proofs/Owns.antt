@@ -1,5 +1,5 @@
 -- The graph of the layout is laid: each fresh node has the edges of the parts that begin there, and no others.
-use Rattle.std.proofs.Common.{◌≡◌, ◌≢◌, ℕ, ℤ, Bool, true, false, ◌+◌, ◌<◌, ◌≤◌, List, Option, length, ◌⊎◌, inl, inr, sym, subst, refl, arith}
+use Rattle.std.proofs.Common.{◌≡◌, ◌≢◌, ℕ, ℤ, Bool, true, ◌+◌, ◌<◌, ◌≤◌, List, Option, length, ◌⊎◌, inl, inr, refl, arith}
 use Rattle.c_shapes.specs.Shape.{Shape, Skip, Sys, Exit, Call, Seq, Alt, Loop, Do, Cases, Parts, End, Part, Break, Continue, Return, Shapes, exit_call}
 use Rattle.c_shapes.specs.Bodies.{IsExpression, AreExpressions, IsStatement, AreStatements}
 use Rattle.c_shapes.specs.Walks.{Label, Silent, System, Site}

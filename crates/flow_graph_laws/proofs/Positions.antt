@@ -3,7 +3,7 @@ use Rattle.std.specs.Prelude.{◌≡◌, ℕ, ℤ, Bool, ◌+◌, List, ◌∷�
 use Rattle.dm_base.specs.declared.event.Event.{Event}
 use Rattle.dm_base.specs.Fits.{Fits}
 use Rattle.c_shapes.specs.Shape.{Shape, Exit, Call, Seq, Alt, Loop, Do, Cases, Parts, Part, Shapes, shape_of, exit_call, Leave, goes_on, IsDone, IsNext}
-use Rattle.c_shapes.specs.Words.{Marks, Whole, Rounds, Again, Falls, Picks}
+use Rattle.c_shapes.specs.Words.{Marks, Whole, Rounds, Again}
 use Rattle.flow_graph_laws.specs.Layout.{Places, ends, body, width, count, group, switch}
 use Rattle.flow_graph_laws.proofs.Laid.{Graph, leads}
 

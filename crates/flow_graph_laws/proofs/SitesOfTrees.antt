@@ -1,21 +1,16 @@
 -- A site stands at most as often in a shape as in its tree.
-use Rattle.std.proofs.Common.{◌≡◌, ◌≢◌, ℕ, zero, suc, ◌+◌, ◌-◌, ◌<◌, ◌≤◌, Bool, true, false, nat_eq, nat_lt, if◌then◌else◌, List, [], ◌∷◌, ◌++◌, map, flat_map, Contains, AllPairs, Option, None, ℤ, inl, inr, sym, ap, ◌∙◌, subst, refl, arith}
+use Rattle.std.proofs.Common.{◌≡◌, ◌≢◌, ℕ, zero, suc, ◌+◌, ◌<◌, ◌≤◌, Bool, true, false, nat_eq, if◌then◌else◌, List, [], ◌∷◌, ◌++◌, map, flat_map, Contains, AllPairs, Option, None, ℤ, inl, inr, sym, ap, ◌∙◌, subst, refl, arith}
 use Rattle.std.proofs.lemmas.Grind.{flat_map-append}
 use Rattle.std.specs.List.{range_with_len}
 use Rattle.std.specs.Cmp.{nat_eq_equiv}
 use Rattle.std.proofs.lemmas.Bool.Decides.{eqb_tells}
 use Rattle.sys_table.specs.Table.{recorded_of}
-use Rattle.c_shapes.specs.Tree.{Expr, constant, function_name, string_place, variable, dereference, load, address_of, decay, discard, field, unary_operation, conversion, arithmetic, comparison, pointer_add, pointer_diff, and, or, assign, update, conditional, comma, call, call_through, type_of}
-use Rattle.c_shapes.specs.Tree.{Exprs, no_exprs, more_exprs, Maybe, absent, there, Inits, no_inits, more_inits}
-use Rattle.c_shapes.specs.Tree.{Stmt, block, empty, evaluate, declare, if_else, while_loop, do_loop, for_loop, switch_on, break_off, continue_on, return_void, return_value, Stmts, no_stmts, more_stmts, Groups, no_groups, more_groups}
+use Rattle.c_shapes.specs.Tree.{Stmt}
 use Rattle.c_shapes.specs.Tree.{Function, Program}
-use Rattle.c_shapes.specs.Functions.{defined}
 use Rattle.c_shapes.specs.Constants.{pattern_of}
-use Rattle.c_shapes.specs.Sites.{sites_of, sites_of_all, sites_of_maybe, sites_of_inits, sites_of_stmt, sites_of_stmts, sites_of_groups, sites_of_function, sites_of_program}
-use Rattle.c_shapes.specs.Shape.{Shape, Skip, Sys, Exit, Call, Loop, Cases, Return, Parts, End, Part, exit_call}
-use Rattle.c_shapes.specs.Mentions.{Direct, Through}
-use Rattle.c_shapes.specs.CallGraph.{is_marked}
-use Rattle.c_shapes.specs.ShapeOf.{before_parts, without_skips, in_turn, seq, seq_two, alt, system_call, marked_call, direct_call, shape, shapes_before, shape_of_maybe, shapes_of_inits, shape_of_stmt, shapes_of_stmts, shapes_of_groups, shape_of_function, any_call, has_default}
+use Rattle.c_shapes.specs.Sites.{sites_of_stmt, sites_of_function, sites_of_program}
+use Rattle.c_shapes.specs.Shape.{Shape, Sys, Exit, Parts, Part, exit_call}
+use Rattle.c_shapes.specs.ShapeOf.{shape_of_stmt, shape_of_function, any_call}
 use Rattle.c_shapes.proofs.Members.{other_number}
 use Rattle.flow_graph_laws.specs.Premises.{sites, sites_of_parts}
 use Rattle.flow_graph_laws.proofs.ShapesOfTrees.{Spreads, Stands, tree_has}

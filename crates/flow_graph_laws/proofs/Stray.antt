@@ -1,6 +1,6 @@
 -- No break and no continue leads out of a function.
 use Rattle.std.proofs.Common.{◌≡◌, Bool, true}
-use Rattle.c_shapes.specs.Shape.{Shape, Parts, Part}
+use Rattle.c_shapes.specs.Shape.{Shape, Parts}
 use Rattle.c_shapes.specs.Bodies.{IsStatement, AreStatements}
 use Rattle.c_shapes.specs.Walks.{Point, PartPoint, left, right, test, step, do_test, this, later, Target, at, by_break, by_continue, past, stopped, Map, apply, plain, of_body, of_do, of_seq, of_cases, Label, Silent, System, Hop, PartHop}
 use Rattle.c_shapes.specs.Walks as W

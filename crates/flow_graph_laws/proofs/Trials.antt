@@ -1,11 +1,8 @@
 -- Graphs of small shapes, and that shapes meet the premises.
-use Rattle.std.proofs.Common.{◌≡◌, ◌≢◌, ℕ, pos, zero, suc, ◌<◌, Bool, true, false, List, [], ◌∷◌, None, Some, Contains, All, codes, nat_eq, cond, ◌≤◌, ◌⊎◌, ap, ◌∙◌, refl, sym, subst, inl, inr, arith}
+use Rattle.std.proofs.Common.{◌≡◌, ◌≢◌, pos, ◌<◌, false, [], ◌∷◌, None, Some, codes, refl, arith}
 use Rattle.std.proofs.lemmas.List.Elements.{All-cons, All-nil}
-use Rattle.dm_base.specs.Name.{IsName, IsLetter, IsDigit, keywords}
-use Rattle.dm_base.proofs.Names.{IsName-from_parts}
-use Rattle.sys_table.specs.Table.{IsRight, table}
-use Rattle.std.proofs.lemmas.Bool.{false≢true}
-use Rattle.std.specs.Cmp.{nat_eq_equiv}
+use Rattle.dm_base.specs.Name.{IsName}
+use Rattle.sys_table.specs.Table.{table}
 use Rattle.c_shapes.specs.Shape.{Skip, Sys, Exit, Call, Seq, Alt, Loop, Do, Cases, Break, Continue, Return, End, Part, Shapes}
 use Rattle.c_shapes.specs.Bodies.{IsBody}
 use Rattle.flow_graph_laws.specs.GraphOf.{graph_of}

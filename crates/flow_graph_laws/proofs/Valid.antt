@@ -21,12 +21,12 @@ use Rattle.flow_graph_laws.specs.GraphOf.{graph_of, silent_edges, sys_edges, cal
 use Rattle.flow_graph_laws.specs.Premises.{AreClosed, AreNamed, HasRightCalls, HaveRightCalls}
 use Rattle.flow_graph_laws.proofs.Laid.{Heads}
 use Rattle.flow_graph_laws.proofs.Laid as G
-use Rattle.flow_graph_laws.proofs.Edges.{Lays, LaysParts, skip, sys, exit, call, in_left, in_right, to_loop, loop_ends, in_test, in_body, in_step, to_do, do_again, do_ends, in_do, in_until, break_out, continue_on, return_now, in_cases, in_seq, in_rest, to_case, no_default, in_part, in_later}
+use Rattle.flow_graph_laws.proofs.Edges.{Lays, LaysParts, sys, exit, in_left, in_right, to_loop, in_test, in_body, in_step, to_do, do_again, in_do, in_until, break_out, continue_on, return_now, in_cases, in_seq, in_rest, to_case, in_part, in_later}
 use Rattle.flow_graph_laws.proofs.Owns.{sources}
 use Rattle.flow_graph_laws.proofs.SortedLemmas.{sorted_from}
 use Rattle.flow_graph_laws.proofs.Rising.{all_from, of_all, pairs_cons, pairs_head, pairs_tail, pairs_nil, sorted_rises}
 use Rattle.flow_graph_laws.proofs.Functions.{One, at, entry_at, one_from}
-use Rattle.flow_graph_laws.proofs.ModelLemmas.{known, Made, made as made_of, call_from, silent_from, sys_from}
+use Rattle.flow_graph_laws.proofs.ModelLemmas.{known, made as made_of, call_from, silent_from, sys_from}
 
 -- the node is from lo to below hi
 abbrev In : ℕ → ℕ → ℕ → Type 0
