@@ -120,14 +120,10 @@ mutual
   parts_from (Part S ps) i n p e h = either (HaveParts (Part S ps) i n p) (edges S i n (group p ps (i + 1))) (edges_of_parts ps (i + 1) (n + width S) p) e h (λ k. in_part (lays_from S i n (group p ps (i + 1)) e k)) (λ k. in_later (parts_from ps (i + 1) (n + width S) p e k))
 
 in_loop : (C B P : Shape) (a n : ℕ) (p : Places) (e : Edge) → Contains (edges C n (n + 3) (record p { to = n + 1 }) ++ (edges B (n + 1) (n + 3 + width C) (body p (n + 2) (p.to) (n + 2)) ++ edges P (n + 2) (n + 3 + width C + width B) (record p { to = n }))) e → Contains (edges (Loop C B P) a n p) e
-in_loop C B P a n p e h =
-    let rest = edges C n (n + 3) (record p { to = n + 1 }) ++ (edges B (n + 1) (n + 3 + width C) (body p (n + 2) (p.to) (n + 2)) ++ edges P (n + 2) (n + 3 + width C + width B) (record p { to = n })) in
-    is_later (edge a Silent n) (edge (n + 1) Silent (p.to) ∷ rest) e (is_later (edge (n + 1) Silent (p.to)) rest e h)
+in_loop C B P a n p e (k, lt, is) = (suc (suc k), omega (arith, lt), is)
 
 in_do_loop : (B C : Shape) (a n : ℕ) (p : Places) (e : Edge) → Contains (edges B n (n + 3) (body p (n + 1) (p.to) (n + 1)) ++ edges C (n + 1) (n + 3 + width B) (record p { to = n + 2 })) e → Contains (edges (Do B C) a n p) e
-in_do_loop B C a n p e h =
-    let rest = edges B n (n + 3) (body p (n + 1) (p.to) (n + 1)) ++ edges C (n + 1) (n + 3 + width B) (record p { to = n + 2 }) in
-    is_later (edge a Silent n) (edge (n + 2) Silent n ∷ edge (n + 2) Silent (p.to) ∷ rest) e (is_later (edge (n + 2) Silent n) (edge (n + 2) Silent (p.to) ∷ rest) e (is_later (edge (n + 2) Silent (p.to)) rest e h))
+in_do_loop B C a n p e (k, lt, is) = (suc (suc (suc k)), omega (arith, lt), is)
 
 mutual
   pub lays_to : {S : Shape} {a n x y : ℕ} {p : Places} {l : Label} → Lays S a n p x l y → Contains (edges S a n p) (edge x l y)

@@ -42,7 +42,7 @@ pub record Stands (P : Shape → ℕ → Type 0) (Ps : Parts → ℕ → Type 0)
   pub continues : (n : ℕ) → P Continue n
   pub returns : (n : ℕ) → P Return n
 
-if_has : (P : Shape → Type 0) (b : Bool) (S T : Shape) → (b ≡ true → P S) → (b ≡ false → P T) → P (if b then S else T)
+pub if_has : (P : Shape → Type 0) (b : Bool) (S T : Shape) → (b ≡ true → P S) → (b ≡ false → P T) → P (if b then S else T)
 if_has P true S T h k = h refl
 if_has P false S T h k = k refl
 
@@ -175,8 +175,7 @@ expressions_spread : Spreads (λ S n. IsExpression S) (λ ps n. AreExpressions p
 expressions_spread = record { skip = λ n. tt; none = λ n. tt; some = λ S ps m n h k. (h, k); split = λ S ps n h. (0, n, omega arith, h.0, h.1); row = λ S ps n h. h; either = λ S T m n h k. (h, k); more = λ S m n h le. h; parts_more = λ ps m n h le. h }
 
 system_expression : (x : ℕ) (q : List (Option ℤ)) (b : Bool) → IsExpression (if b then Exit q else Sys x q)
-system_expression x q true = tt
-system_expression x q false = tt
+system_expression x q b = if_has IsExpression b (Exit q) (Sys x q) (λ h. tt) (λ h. tt)
 
 pub expression : (p : Program) (e : Expr) → IsExpression (shape p e)
 expression p e = expression_has (λ S n. IsExpression S) (λ ps n. AreExpressions ps) expressions_spread (λ xs. 0) (λ xs ys. refl) p (λ s. tt) (λ x es n. system_expression x (pattern_of x es) (nat_eq x exit_call)) e

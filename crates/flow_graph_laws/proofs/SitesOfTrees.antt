@@ -13,7 +13,7 @@ use Rattle.c_shapes.specs.Shape.{Shape, Sys, Exit, Parts, Part, exit_call}
 use Rattle.c_shapes.specs.ShapeOf.{shape_of_stmt, shape_of_function, any_call}
 use Rattle.c_shapes.proofs.Members.{other_number}
 use Rattle.flow_graph_laws.specs.Premises.{sites, sites_of_parts}
-use Rattle.flow_graph_laws.proofs.ShapesOfTrees.{Spreads, Stands, tree_has}
+use Rattle.flow_graph_laws.proofs.ShapesOfTrees.{Spreads, Stands, if_has, tree_has}
 use Rattle.flow_graph_laws.proofs.Rising.{pairs_cons, pairs_nil}
 
 abbrev one : Bool → ℕ
@@ -40,8 +40,7 @@ at_part : (s : ℕ) (S : Shape) (ps : Parts) → at_parts s (Part S ps) ≡ at s
 at_part s S ps = often_append s (sites S) (sites_of_parts ps)
 
 at_system : (s x : ℕ) (q : List (Option ℤ)) (b : Bool) → at s (if b then Exit q else Sys x q) ≡ 0
-at_system s x q true = refl
-at_system s x q false = refl
+at_system s x q b = if_has (λ S. at s S ≡ 0) b (Exit q) (Sys x q) (λ h. refl) (λ h. refl)
 
 -- that a shape has the site at most so often
 few_spread : (s : ℕ) → Spreads (λ S n. at s S ≤ n) (λ ps n. at_parts s ps ≤ n)
